@@ -1,0 +1,3 @@
+pub mod Logic
+pub mod Below
+pub mod Closure

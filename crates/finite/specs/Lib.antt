@@ -1,3 +1,5 @@
 pub mod Logic
 pub mod Below
 pub mod Closure
+pub mod Lists
+pub mod Walk

@@ -7,7 +7,6 @@ use mathlib.Core.Logic.{_⊎_, inl, inr}
 
 infixl 35 _and_
 infixl 30 _or_
-
 unfoldable pub _and_ : Bool → Bool → Bool
 true and b = b
 false and b = false

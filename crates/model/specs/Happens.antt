@@ -1,0 +1,69 @@
+-- M6 and M7: inter-thread order for each class set, and happens-before.
+use mathlib.Core.Bool.{Bool, true, false, not, cond}
+use Prim.Native.Nat.{ℕ, zero, suc, _*_}
+use lib.Dec.{eqb}
+use Rattle.finite.specs.Logic.{_and_, _or_}
+use Rattle.finite.specs.Below.{anyBelow}
+use Rattle.finite.specs.Closure.{through}
+use Rattle.model.specs.declared.Row.{Row}
+use Rattle.model.specs.Limits.{CLASS-SETS}
+use Rattle.model.specs.Row.{plain, access, holds, meets, classIn, releases, acquires}
+use Rattle.model.specs.Table.{Table}
+use Rattle.model.specs.Moment.{AT, rowIn, part, classesOf, programOrder}
+use Rattle.model.specs.Synchronizes.{synchronizes}
+
+-- ---- of one row
+
+-- moment k is the atomic or barrier r itself, holding all of s
+unfoldable pub holdingOf : ℕ → Row → ℕ → Bool
+holdingOf s r k = eqb k AT and not (plain r) and holds (r .classes) s
+
+-- M6: moment k of r accesses a class in s, or is an atomic or barrier holding all of s
+unfoldable pub concernsOf : ℕ → Row → ℕ → Bool
+concernsOf s r k = cond (eqb k AT) (access r and classIn r s) (meets (classesOf r) s) or holdingOf s r k
+
+-- ---- of a table
+
+unfoldable pub holding : Table → ℕ → ℕ → Bool
+holding t s m = holdingOf s (t .row (rowIn m)) (part m)
+
+unfoldable pub concerns : Table → ℕ → ℕ → Bool
+concerns t s m = concernsOf s (t .row (rowIn m)) (part m)
+
+-- M6, direct case 1: synchronizes-with where both hold all of s
+unfoldable pub bySync : Table → ℕ → ℕ → ℕ → Bool
+bySync t s m n = holding t s m and holding t s n and synchronizes t (rowIn m) (rowIn n)
+
+-- M6, direct case 2: a moment program-ordered before a release row that holds all of s
+unfoldable pub toRelease : Table → ℕ → ℕ → ℕ → Bool
+toRelease t s m n = holding t s n and releases (t .row (rowIn n)) and concerns t s m and programOrder t m n
+
+-- M6, direct case 3: an acquire row that holds all of s program-ordered before a moment
+unfoldable pub fromAcquire : Table → ℕ → ℕ → ℕ → Bool
+fromAcquire t s m n = holding t s m and acquires (t .row (rowIn m)) and concerns t s n and programOrder t m n
+
+-- a direct case by its number
+unfoldable pub direct : Table → ℕ → ℕ → ℕ → ℕ → Bool
+direct t s case m n = (eqb case 1 and bySync t s m n) or (eqb case 2 and toRelease t s m n) or (eqb case 3 and fromAcquire t s m n)
+
+unfoldable pub step : Table → ℕ → ℕ → ℕ → Bool
+step t s m n = bySync t s m n or toRelease t s m n or fromAcquire t s m n
+
+-- M6: inter-thread order for the class set s, the transitive closure of the direct cases
+unfoldable pub interThread : Table → ℕ → ℕ → ℕ → Bool
+interThread t s m n = through (step t s) (3 * t .rows) m n
+
+-- some row holds all of s. No other class set has a direct case, so the closure need not be asked of it (law `happens-is`)
+unfoldable pub holdsAll : Table → ℕ → ℕ → Bool
+holdsAll t s i = holds (t .row i .classes) s
+
+unfoldable pub live : Table → ℕ → Bool
+live t s = anyBelow (t .rows) (holdsAll t s)
+
+-- for class set k + 1
+unfoldable pub interThreadBy : Table → ℕ → ℕ → ℕ → Bool
+interThreadBy t m n k = live t (suc k) and interThread t (suc k) m n
+
+-- M7: happens-before: program order, or inter-thread order for some class set. It isn't closed again
+unfoldable pub happens : Table → ℕ → ℕ → Bool
+happens t m n = programOrder t m n or anyBelow CLASS-SETS (interThreadBy t m n)

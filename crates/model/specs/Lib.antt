@@ -1,0 +1,14 @@
+pub mod Limits
+pub mod Row
+pub mod Table
+pub mod Scope
+pub mod Moment
+pub mod Synchronizes
+pub mod Happens
+pub mod Location
+pub mod Race
+pub mod Edge
+pub mod Refusal
+pub mod Check
+pub mod Fill
+pub mod Runs

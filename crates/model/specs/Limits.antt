@@ -1,0 +1,34 @@
+-- The limits of document 01, and the two sources that are no row's number.
+use Prim.Native.Nat.{ℕ}
+
+abbrev pub AGENTS : ℕ
+AGENTS = 16
+
+abbrev pub ROWS : ℕ
+ROWS = 64
+
+-- 64-bit words of the work area
+abbrev pub WORK : ℕ
+WORK = 2048
+
+-- numbers of the cycle buffer, and the place of the first edge number
+abbrev pub CYCLE : ℕ
+CYCLE = 128
+
+abbrev pub CYCLE-EDGES : ℕ
+CYCLE-EDGES = 64
+
+-- numbers of the source buffer
+abbrev pub SOURCES : ℕ
+SOURCES = 64
+
+-- the initial value, and a blank (document 01's own term: a source that a fill is to find)
+abbrev pub INITIAL : ℕ
+INITIAL = 65535
+
+abbrev pub BLANK : ℕ
+BLANK = 65534
+
+-- M6: the class sets are the numbers 1 to 15
+abbrev pub CLASS-SETS : ℕ
+CLASS-SETS = 15

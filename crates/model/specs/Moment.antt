@@ -1,0 +1,65 @@
+-- M1: the moments of a row (document 01's own term) and program order.
+-- Moment 3 × row + 0, 1 or 2 is the one before, at or after the row.
+use mathlib.Core.Bool.{Bool, true, false, not, cond}
+use Prim.Native.Nat.{ℕ, _+_, _*_, _/_, _%_}
+use lib.Dec.{ltb, eqb}
+use Rattle.finite.specs.Logic.{_and_, _or_}
+use Rattle.model.specs.declared.Row.{Row}
+use Rattle.model.specs.Row.{plain, makesAvailable, makesVisible, single}
+use Rattle.model.specs.Scope.{INVOCATION}
+use Rattle.model.specs.Table.{Table}
+
+abbrev pub BEFORE : ℕ
+BEFORE = 0
+
+abbrev pub AT : ℕ
+AT = 1
+
+abbrev pub AFTER : ℕ
+AFTER = 2
+
+-- a moment's row, and which of the row's three it is
+abbrev pub rowIn : ℕ → ℕ
+rowIn m = m / 3
+
+abbrev pub part : ℕ → ℕ
+part m = m % 3
+
+-- the moment of row x itself
+abbrev pub itself : ℕ → ℕ
+itself x = 3 * x + AT
+
+-- ---- of one row
+
+-- availability comes after a plain write, before an atomic or a barrier; visibility before a plain read, after those
+unfoldable pub availabilityOf : Row → ℕ → Bool
+availabilityOf r k = makesAvailable r and not (eqb (r .scope) INVOCATION) and eqb k (cond (plain r) AFTER BEFORE)
+
+unfoldable pub visibilityOf : Row → ℕ → Bool
+visibilityOf r k = makesVisible r and not (eqb (r .scope) INVOCATION) and eqb k (cond (plain r) BEFORE AFTER)
+
+unfoldable pub momentOf : Row → ℕ → Bool
+momentOf r k = eqb k AT or availabilityOf r k or visibilityOf r k
+
+-- the classes of an availability or visibility moment
+unfoldable pub classesOf : Row → ℕ
+classesOf r = cond (plain r) (single (r .class)) (r .classes)
+
+-- ---- of a table
+
+-- M1: an availability moment, a visibility moment, any moment there is
+unfoldable pub availability : Table → ℕ → Bool
+availability t m = availabilityOf (t .row (rowIn m)) (part m)
+
+unfoldable pub visibility : Table → ℕ → Bool
+visibility t m = visibilityOf (t .row (rowIn m)) (part m)
+
+unfoldable pub moment : Table → ℕ → Bool
+moment t m = ltb (rowIn m) (t .rows) and momentOf (t .row (rowIn m)) (part m)
+
+unfoldable pub sameAgent : Table → ℕ → ℕ → Bool
+sameAgent t x y = eqb (t .row x .agent) (t .row y .agent)
+
+-- M1: program order, between moments of one agent, by row and then moment
+unfoldable pub programOrder : Table → ℕ → ℕ → Bool
+programOrder t m n = ltb m n and sameAgent t (rowIn m) (rowIn n) and moment t m and moment t n

@@ -1,0 +1,154 @@
+-- The refusals 1 to 11, in their order. `blanks` says whether a blank is allowed: in a fill, not in a check.
+use mathlib.Core.Bool.{Bool, true, false, not, cond, Bool·beq}
+use mathlib.Core.List.{List}
+use Prim.Native.Nat.{ℕ, _+_}
+use lib.ListN.{length}
+use lib.Dec.{ltb, leb, eqb}
+use Rattle.finite.specs.Logic.{_and_, _or_}
+use Rattle.finite.specs.Below.{anyBelow, least}
+use Rattle.model.specs.declared.Row.{Row}
+use Rattle.model.specs.declared.Admission.{Admission}
+use Rattle.model.specs.declared.Admission.the-variants.{Admitted, Refused}
+use Rattle.model.specs.Limits.{AGENTS, ROWS, WORK, INITIAL, BLANK}
+use Rattle.model.specs.Row.{BARRIER, ATOMIC-READ, ATOMIC-WRITE, RELAXED, ACQUIRE, RELEASE, BOTH, plain, atomic, access, barrier, plainRead, reads, writes, ranked, acquires, releases, nonPrivate, makesAvailable, makesVisible, covers}
+use Rattle.model.specs.Table.{Table, HEADER, countAt, versionAt, agentsAt, rowsAt, zeroAt, sizeOf, rowBytes, rowOf, sourceOf, placesOf, tableOf, sourcesOf}
+use Rattle.model.specs.Scope.{INVOCATION, DEVICE, mutualRows, mutually}
+
+-- ---- 11: the lent buffers, by their lengths; `needs` is what the second one must hold
+
+unfoldable pub buffersFit : ℕ → ℕ → ℕ → Bool
+buffersFit needs work buffer = leb WORK work and leb needs buffer
+
+-- ---- 1 to 4: the header
+
+abbrev pub VERSION : ℕ
+VERSION = 1
+
+unfoldable pub versionFits : List ℕ → Bool
+versionFits s = eqb (versionAt s) VERSION and eqb (zeroAt s) 0
+
+unfoldable pub limitsFit : List ℕ → Bool
+limitsFit s = leb (agentsAt s) AGENTS and leb (rowsAt s) ROWS
+
+-- the count is of the bytes after its own four
+unfoldable pub lengthFits : List ℕ → Bool
+lengthFits s = eqb (countAt s + 4) (sizeOf (agentsAt s) (rowsAt s)) and eqb (length s) (sizeOf (agentsAt s) (rowsAt s))
+
+-- the number of the refusal, 0 for none
+unfoldable pub headerFault : List ℕ → ℕ
+headerFault s = cond (leb HEADER (length s)) (cond (versionFits s) (cond (limitsFit s) (cond (lengthFits s) 0 4) 3) 2) 1
+
+-- ---- 5 to 7: a row by itself
+
+abbrev pub CLASSES : ℕ
+CLASSES = 15
+
+abbrev pub FLAGS : ℕ
+FLAGS = 7
+
+abbrev pub CLASS : ℕ
+CLASS = 3
+
+-- 5: each code is in range
+unfoldable pub codesFit : ℕ → Row → Bool
+codesFit agents r =
+    leb (r .kind) BARRIER and ltb (r .agent) agents and leb (r .order) BOTH and leb (r .scope) DEVICE and leb (r .classes) CLASSES
+    and leb (r .flags) FLAGS and leb (r .class) CLASS
+
+-- 6, plain rows: a read may not make available, a write may not make visible; either flag needs non-private; without either, scope 0
+unfoldable pub plainFits : Row → Bool
+plainFits r =
+    eqb (r .order) RELAXED and eqb (r .classes) 0 and not (reads r and makesAvailable r) and not (writes r and makesVisible r)
+    and cond (makesAvailable r or makesVisible r) (nonPrivate r) (eqb (r .scope) INVOCATION)
+
+-- 6, atomic rows are non-private, and each kind has its orders
+unfoldable pub atomicFits : Row → Bool
+atomicFits r =
+    nonPrivate r and (not (eqb (r .kind) ATOMIC-READ) or eqb (r .order) RELAXED or eqb (r .order) ACQUIRE)
+    and (not (eqb (r .kind) ATOMIC-WRITE) or eqb (r .order) RELAXED or eqb (r .order) RELEASE)
+
+-- 6, barriers: order 1 to 3, not non-private, bytes 6 to 11 zero
+unfoldable pub barrierFits : Row → Bool
+barrierFits r =
+    not (eqb (r .order) RELAXED) and not (nonPrivate r) and eqb (r .class) 0 and eqb (r .size) 0 and eqb (r .start) 0
+    and eqb (r .reference) 0
+
+-- 6, atomics and barriers: make available needs a release, make visible an acquire; classes are empty exactly when order is 0
+unfoldable pub semanticsFit : Row → Bool
+semanticsFit r =
+    (not (makesAvailable r) or releases r) and (not (makesVisible r) or acquires r)
+    and Bool·beq (eqb (r .classes) 0) (eqb (r .order) RELAXED)
+
+-- 6: kind fit, with the row's source
+unfoldable pub kindFits : Row → ℕ → Bool
+kindFits r source =
+    (not (plain r) or plainFits r) and (not (atomic r) or atomicFits r) and (not (barrier r) or barrierFits r)
+    and (plain r or semanticsFit r) and (reads r or eqb source INITIAL) and (ranked r or eqb (r .rank) 0)
+
+abbrev pub LONGEST : ℕ
+LONGEST = 16
+
+abbrev pub BYTES : ℕ
+BYTES = 65536
+
+-- 7: an access has 1 to 16 bytes, all below 65536
+unfoldable pub extentFits : Row → Bool
+extentFits r = not (access r) or (leb 1 (r .size) and leb (r .size) LONGEST and leb (r .start + r .size) BYTES)
+
+unfoldable pub rowFault : ℕ → Row → ℕ → ℕ
+rowFault agents r source = cond (codesFit agents r) (cond (kindFits r source) (cond (extentFits r) 0 7) 6) 5
+
+-- ---- 8 to 10: a row among the others
+
+-- 8: the earlier access q has r's reference and another class
+unfoldable pub otherClass : Row → Row → Bool
+otherClass r q = access q and eqb (q .reference) (r .reference) and not (eqb (q .class) (r .class))
+
+unfoldable pub otherClassAt : Table → ℕ → ℕ → Bool
+otherClassAt t i j = otherClass (t .row i) (t .row j)
+
+unfoldable pub classTaken : Table → ℕ → Bool
+classTaken t i = access (t .row i) and anyBelow i (otherClassAt t i)
+
+-- 9: row s is another row, a writer, and covers all bytes of row i
+unfoldable pub writerFits : Table → ℕ → ℕ → Bool
+writerFits t i s = ltb s (t .rows) and not (eqb s i) and writes (t .row s) and covers (t .row s) (t .row i)
+
+unfoldable pub sourceFits : Bool → Table → ℕ → ℕ → Bool
+sourceFits blanks t i s = eqb s INITIAL or writerFits t i s or (blanks and plainRead (t .row i) and eqb s BLANK)
+
+unfoldable pub sourceBroken : Bool → Table → (ℕ → ℕ) → ℕ → Bool
+sourceBroken blanks t source i = reads (t .row i) and not (sourceFits blanks t i (source i))
+
+-- 10: the earlier row j is a writer of row i's rank, mutually-ordered with it
+unfoldable pub sameRank : Row → Row → Bool
+sameRank r q = ranked q and eqb (q .rank) (r .rank)
+
+unfoldable pub sameRankAt : Table → ℕ → ℕ → Bool
+sameRankAt t i j = sameRank (t .row i) (t .row j) and mutualRows (t .places) (t .row i) (t .row j)
+
+unfoldable pub rankTaken : Table → ℕ → Bool
+rankTaken t i = ranked (t .row i) and anyBelow i (sameRankAt t i)
+
+unfoldable pub tableFault : Bool → Table → (ℕ → ℕ) → ℕ → ℕ
+tableFault blanks t source i = cond (classTaken t i) 8 (cond (sourceBroken blanks t source i) 9 (cond (rankTaken t i) 10 0))
+
+-- ---- in their order
+
+unfoldable pub faulty : (ℕ → ℕ) → ℕ → Bool
+faulty f i = not (eqb (f i) 0)
+
+-- the first row below n that f gives a number, refused; else what comes next
+unfoldable pub firstFault : (ℕ → ℕ) → ℕ → Admission → Admission
+firstFault f n next = let i = least n (faulty f) in cond (ltb i n) (Refused (f i) i) next
+
+-- the fault of row i by itself
+unfoldable pub rowFaultAt : List ℕ → ℕ → ℕ
+rowFaultAt s i = rowFault (agentsAt s) (rowOf (rowBytes s) i) (sourceOf (rowBytes s) i)
+
+-- refusals 1 to 10: the header's at row 0, then rows ascending through 5 to 7, then rows ascending through 8 to 10
+unfoldable pub admission : Bool → List ℕ → Admission
+admission blanks s =
+    cond (eqb (headerFault s) 0)
+    (firstFault (rowFaultAt s) (rowsAt s) (firstFault (tableFault blanks (tableOf s) (sourcesOf s)) (rowsAt s) (Admitted (agentsAt s) (rowsAt s))))
+    (Refused (headerFault s) 0)

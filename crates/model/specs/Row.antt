@@ -1,0 +1,130 @@
+-- What a row is: its kind, order, flags, classes and bytes. Nothing else tests a kind's number, an order or a flag.
+use mathlib.Core.Bool.{Bool, true, false, not, cond}
+use Prim.Native.Nat.{ℕ, _+_}
+use lib.Dec.{ltb, leb, eqb}
+use lib.Bits.{bitAnd}
+use Rattle.finite.specs.Logic.{_and_, _or_}
+use Rattle.finite.specs.Below.{anyBelow, least}
+use Rattle.model.specs.declared.Row.{Row}
+use Rattle.model.specs.declared.Shared.{Shared}
+use Rattle.model.specs.declared.Shared.the-variants.{At, Nothing}
+
+-- ---- kinds
+
+abbrev pub PLAIN-READ : ℕ
+PLAIN-READ = 0
+
+abbrev pub PLAIN-WRITE : ℕ
+PLAIN-WRITE = 1
+
+abbrev pub ATOMIC-READ : ℕ
+ATOMIC-READ = 2
+
+abbrev pub ATOMIC-WRITE : ℕ
+ATOMIC-WRITE = 3
+
+abbrev pub RMW : ℕ
+RMW = 4
+
+abbrev pub BARRIER : ℕ
+BARRIER = 5
+
+unfoldable pub plain : Row → Bool
+plain r = leb (r .kind) PLAIN-WRITE
+
+unfoldable pub atomic : Row → Bool
+atomic r = leb ATOMIC-READ (r .kind) and leb (r .kind) RMW
+
+unfoldable pub access : Row → Bool
+access r = leb (r .kind) RMW
+
+unfoldable pub barrier : Row → Bool
+barrier r = eqb (r .kind) BARRIER
+
+unfoldable pub plainRead : Row → Bool
+plainRead r = eqb (r .kind) PLAIN-READ
+
+unfoldable pub rmw : Row → Bool
+rmw r = eqb (r .kind) RMW
+
+unfoldable pub reads : Row → Bool
+reads r = eqb (r .kind) PLAIN-READ or eqb (r .kind) ATOMIC-READ or eqb (r .kind) RMW
+
+unfoldable pub writes : Row → Bool
+writes r = eqb (r .kind) PLAIN-WRITE or eqb (r .kind) ATOMIC-WRITE or eqb (r .kind) RMW
+
+-- the writers that have a rank (document 01's own term: a writer's place in its modification order)
+unfoldable pub ranked : Row → Bool
+ranked r = eqb (r .kind) ATOMIC-WRITE or eqb (r .kind) RMW
+
+-- ---- orders
+
+abbrev pub RELAXED : ℕ
+RELAXED = 0
+
+abbrev pub ACQUIRE : ℕ
+ACQUIRE = 1
+
+abbrev pub RELEASE : ℕ
+RELEASE = 2
+
+abbrev pub BOTH : ℕ
+BOTH = 3
+
+unfoldable pub acquires : Row → Bool
+acquires r = eqb (r .order) ACQUIRE or eqb (r .order) BOTH
+
+unfoldable pub releases : Row → Bool
+releases r = eqb (r .order) RELEASE or eqb (r .order) BOTH
+
+-- ---- sets of classes and flags, as bits of a number
+
+-- all of s is in c; some of s is in c
+unfoldable pub holds : ℕ → ℕ → Bool
+holds c s = eqb (bitAnd c s) s
+
+unfoldable pub meets : ℕ → ℕ → Bool
+meets c s = not (eqb (bitAnd c s) 0)
+
+-- the set of one class: 1 Uniform, 2 Workgroup, 4 Image, 8 Output
+unfoldable pub single : ℕ → ℕ
+single c = cond (eqb c 0) 1 (cond (eqb c 1) 2 (cond (eqb c 2) 4 8))
+
+-- r's class is in the set s
+unfoldable pub classIn : Row → ℕ → Bool
+classIn r s = meets s (single (r .class))
+
+unfoldable pub nonPrivate : Row → Bool
+nonPrivate r = meets (r .flags) 1
+
+unfoldable pub makesAvailable : Row → Bool
+makesAvailable r = meets (r .flags) 2
+
+unfoldable pub makesVisible : Row → Bool
+makesVisible r = meets (r .flags) 4
+
+-- ---- bytes
+
+-- b is one of the m bytes from a
+unfoldable pub inside : ℕ → ℕ → ℕ → Bool
+inside a m b = leb a b and ltb b (a + m)
+
+-- b is a byte of r
+unfoldable pub touches : Row → ℕ → Bool
+touches r b = inside (r .start) (r .size) b
+
+-- w's bytes hold all of r's
+unfoldable pub covers : Row → Row → Bool
+covers w r = leb (w .start) (r .start) and leb (r .start + r .size) (w .start + w .size)
+
+-- the lowest of the m bytes from a that is one of the n bytes from b
+unfoldable pub lowestShared : ℕ → ℕ → ℕ → ℕ → Shared
+lowestShared a m b n = let k = least m (λ k. inside b n (a + k)) in cond (ltb k m) (At (a + k)) Nothing
+
+unfoldable pub isShared : Shared → Bool
+isShared (At b) = true
+isShared Nothing = false
+
+-- two rows share a byte
+unfoldable pub overlap : Row → Row → Bool
+overlap r q = isShared (lowestShared (r .start) (r .size) (q .start) (q .size))

@@ -1,0 +1,187 @@
+-- Document 01's starred runs, and its shortcuts that would fool us, computed from the definitions. Assumes nothing.
+use mathlib.Core.Path.{_≡_, refl}
+use mathlib.Core.Bool.{Bool, true, false}
+use mathlib.Core.List.{List, [], _∷_, _++_, map}
+use Prim.Native.Nat.{ℕ, _+_, _*_}
+use lib.ListN.{length, set}
+use Rattle.finite.specs.Logic.{_and_, _or_}
+use Rattle.finite.specs.Below.{anyBelow, allBelow, least}
+use Rattle.finite.specs.Closure.{through}
+use Rattle.finite.specs.Lists.{tabulate}
+use Rattle.finite.specs.Walk.{walk, onCycle, cycleStart, cycleSize, trail, cycle, along}
+use Rattle.model.specs.Row.{plain, atomic, access, barrier, plainRead, rmw, reads, writes, ranked, acquires, releases, holds, meets, single, classIn, nonPrivate, makesAvailable, makesVisible, inside, touches, covers, lowestShared, isShared, overlap}
+use Rattle.model.specs.Table.{pairAt, quadAt, countAt, versionAt, agentsAt, rowsAt, zeroAt, placeAt, placesOf, rowsBegin, sizeOf, rowBytes, byteOf, pairOf, rowOf, sourceOf, atomicSource, decode, tableOf, sourcesOf}
+use Rattle.model.specs.Scope.{agree, shares, together, sameLocation, mutualRows, mutually, later, laterWriter, follows}
+use Rattle.model.specs.Moment.{availabilityOf, visibilityOf, momentOf, classesOf, availability, visibility, moment, sameAgent, programOrder}
+use Rattle.model.specs.Synchronizes.{continues, ends, sequence, takesFrom, leads, trails, syncAtomics, carriesOut, syncFromBarrier, carriesIn, syncToBarrier, carriesOver, syncBarriers, synchronizes}
+use Rattle.model.specs.Happens.{holdingOf, concernsOf, holding, concerns, bySync, toRelease, fromAcquire, step, interThread, holdsAll, live, interThreadBy, happens}
+use Rattle.model.specs.Location.{sameReference, coversOf, pureRead, publicWrite, L1, L2, availableFrom, visibleTo, shareMoment, shown, met, carried, L3, common, before}
+use Rattle.model.specs.Race.{clash, conflict, unordered, unorderedNth, raceNth, races, racesAbove, racePartner, hasRace, raceRow, raceByte}
+use Rattle.model.specs.Edge.{beforeNth, beforeSome, readsFrom, fromReads, edgeNumber, edge, cycleRow, cycleRows, cycleEdges, overwrites, overwritesNth, overNth, overwriting, overWriter, isOverwritten, overReader, overByte, consistent}
+use Rattle.model.specs.Refusal.{buffersFit, versionFits, limitsFit, lengthFits, headerFault, codesFit, plainFits, atomicFits, barrierFits, semanticsFit, kindFits, extentFits, rowFault, otherClass, otherClassAt, classTaken, writerFits, sourceFits, sourceBroken, sameRank, sameRankAt, rankTaken, tableFault, faulty, firstFault, rowFaultAt, admission}
+use Rattle.model.specs.Check.{raceOr, overwrittenOr, cyclicOr, verdict, admitted, check}
+use Rattle.model.specs.Fill.{beforeAt, writtenBy, written, hidesAt, between, candidate, choice, blank, chosen, sourcesFit, filledOr, racingOr, outcome, admittedFill, fill}
+use Rattle.model.specs.Check.{Verdict, refused, cyclic, overwritten, race, raceFree}
+use Rattle.model.specs.Fill.{Outcome, filled}
+use Rattle.model.specs.Limits.{WORK, CYCLE, SOURCES}
+
+-- ---- a run: what is asked of a table, and the answer
+
+pub data Answer : Type 0 where
+  checked : Verdict → Answer
+  filling : Outcome → Answer
+
+pub data Ask : Type 0 where
+  asCheck : Ask
+  asFill : Ask
+
+pub record Run : Type 0 where
+  pub ask : Ask
+  pub table : List ℕ
+  pub gives : Answer
+
+-- with buffers just large enough
+unfoldable pub answer : Ask → List ℕ → Answer
+answer asCheck s = checked (check s WORK CYCLE)
+answer asFill s = filling (fill s WORK SOURCES)
+
+-- ---- tables
+
+abbrev joined : List (List ℕ) → List ℕ
+joined [] = []
+joined (l ∷ ls) = l ++ joined ls
+
+-- a table of places and rows, each as its bytes; its size stands in one byte
+abbrev table : List (List ℕ) → List (List ℕ) → List ℕ
+table p r = 0 ∷ 0 ∷ 0 ∷ (4 + 6 * length p + 16 * length r) ∷ 1 ∷ length p ∷ length r ∷ 0 ∷ (joined p ++ joined r)
+
+-- byte k of row i becomes v, in a table of a agents
+abbrev change : ℕ → ℕ → ℕ → ℕ → List ℕ → List ℕ
+change a i k v s = set s (8 + 6 * a + 16 * i + k) v
+
+-- agents of one workgroup, in subgroups of their own
+abbrev agent₀ : List ℕ
+agent₀ = 0 ∷ 0 ∷ 0 ∷ 0 ∷ 0 ∷ 0 ∷ []
+
+abbrev agent₁ : List ℕ
+agent₁ = 0 ∷ 0 ∷ 0 ∷ 0 ∷ 0 ∷ 1 ∷ []
+
+abbrev agent₂ : List ℕ
+agent₂ = 0 ∷ 0 ∷ 0 ∷ 0 ∷ 0 ∷ 2 ∷ []
+
+-- a write of the data
+abbrev write : List ℕ
+write = 1 ∷ 0 ∷ 0 ∷ 0 ∷ 0 ∷ 1 ∷ 0 ∷ 4 ∷ 0 ∷ 0 ∷ 0 ∷ 1 ∷ 255 ∷ 255 ∷ 0 ∷ 0 ∷ []
+
+-- a release of the flag, which makes available
+abbrev release : List ℕ
+release = 3 ∷ 0 ∷ 2 ∷ 2 ∷ 1 ∷ 3 ∷ 0 ∷ 4 ∷ 0 ∷ 4 ∷ 0 ∷ 2 ∷ 255 ∷ 255 ∷ 0 ∷ 1 ∷ []
+
+-- an acquire of the flag, which makes visible
+abbrev acquire : List ℕ
+acquire = 2 ∷ 1 ∷ 1 ∷ 2 ∷ 1 ∷ 5 ∷ 0 ∷ 4 ∷ 0 ∷ 4 ∷ 0 ∷ 2 ∷ 0 ∷ 1 ∷ 0 ∷ 0 ∷ []
+
+-- a read of the data
+abbrev read : List ℕ
+read = 0 ∷ 1 ∷ 0 ∷ 0 ∷ 0 ∷ 1 ∷ 0 ∷ 4 ∷ 0 ∷ 0 ∷ 0 ∷ 1 ∷ 0 ∷ 0 ∷ 0 ∷ 0 ∷ []
+
+-- a relaxed write of the flag by the releasing agent
+abbrev relaxed : List ℕ
+relaxed = 3 ∷ 0 ∷ 0 ∷ 2 ∷ 0 ∷ 1 ∷ 0 ∷ 4 ∷ 0 ∷ 4 ∷ 0 ∷ 2 ∷ 255 ∷ 255 ∷ 0 ∷ 2 ∷ []
+
+-- a relaxed RMW of the flag by a third agent
+abbrev relaxedRmw : List ℕ
+relaxedRmw = 4 ∷ 2 ∷ 0 ∷ 2 ∷ 0 ∷ 1 ∷ 0 ∷ 4 ∷ 0 ∷ 4 ∷ 0 ∷ 2 ∷ 0 ∷ 1 ∷ 0 ∷ 2 ∷ []
+
+abbrev pub P : List ℕ
+P = table (agent₀ ∷ agent₁ ∷ []) (write ∷ release ∷ acquire ∷ read ∷ [])
+
+abbrev pub Q : List ℕ
+Q = change 2 4 13 0 (change 2 3 13 2 (table (agent₀ ∷ agent₁ ∷ []) (write ∷ release ∷ relaxed ∷ acquire ∷ read ∷ [])))
+
+abbrev pub Q-rmw : List ℕ
+Q-rmw = change 3 3 13 2 (table (agent₀ ∷ agent₁ ∷ agent₂ ∷ []) (write ∷ release ∷ relaxedRmw ∷ acquire ∷ read ∷ []))
+
+-- ---- the starred runs
+
+abbrev pub starred : List Run
+starred =
+    record { ask = asCheck; table = P; gives = checked raceFree }
+    -- row 1 without make available
+    ∷ record { ask = asCheck; table = change 2 1 5 1 P; gives = checked (race 0 3 0) }
+    -- row 2 without make visible
+    ∷ record { ask = asCheck; table = change 2 2 5 1 P; gives = checked (race 0 3 0) }
+    -- row 3 private
+    ∷ record { ask = asCheck; table = change 2 3 5 0 P; gives = checked (race 0 3 0) }
+    -- row 3 reads the initial value
+    ∷ record { ask = asCheck; table = change 2 3 12 255 (change 2 3 13 255 P); gives = checked (cyclic (0 ∷ 3 ∷ []) (1 ∷ 4 ∷ [])) }
+    -- rows 2 and 3 both do
+    ∷ record { ask = asCheck; table = change 2 2 12 255 (change 2 2 13 255 (change 2 3 12 255 (change 2 3 13 255 P))); gives = checked (race 0 3 0) }
+    -- agents in two workgroups
+    ∷ record { ask = asCheck; table = set P 17 1; gives = checked (race 0 3 0) }
+    -- row 3 blank
+    ∷ record { ask = asFill; table = change 2 3 12 255 (change 2 3 13 254 P); gives = filling (filled (65535 ∷ 65535 ∷ 1 ∷ 0 ∷ [])) }
+    ∷ record { ask = asCheck; table = Q; gives = checked raceFree }
+    ∷ record { ask = asCheck; table = Q-rmw; gives = checked raceFree }
+    ∷ record { ask = asCheck; table = table [] []; gives = checked raceFree }
+    ∷ []
+
+pub starred-hold : map (λ r. answer (r .ask) (r .table)) starred ≡ map (λ r. r .gives) starred
+unfolding answer _and_ _or_ anyBelow allBelow least through tabulate walk onCycle cycleStart cycleSize trail cycle along plain atomic access barrier plainRead rmw reads writes ranked acquires releases holds meets single classIn nonPrivate makesAvailable makesVisible inside touches covers lowestShared isShared overlap pairAt quadAt countAt versionAt agentsAt rowsAt zeroAt placeAt placesOf rowsBegin sizeOf rowBytes byteOf pairOf rowOf sourceOf atomicSource decode tableOf sourcesOf agree shares together sameLocation mutualRows mutually later laterWriter follows availabilityOf visibilityOf momentOf classesOf availability visibility moment sameAgent programOrder continues ends sequence takesFrom leads trails syncAtomics carriesOut syncFromBarrier carriesIn syncToBarrier carriesOver syncBarriers synchronizes holdingOf concernsOf holding concerns bySync toRelease fromAcquire step interThread holdsAll live interThreadBy happens sameReference coversOf pureRead publicWrite L1 L2 availableFrom visibleTo shareMoment shown met carried L3 common before clash conflict unordered unorderedNth raceNth races racesAbove racePartner hasRace raceRow raceByte beforeNth beforeSome readsFrom fromReads edgeNumber edge cycleRow cycleRows cycleEdges overwrites overwritesNth overNth overwriting overWriter isOverwritten overReader overByte consistent buffersFit versionFits limitsFit lengthFits headerFault codesFit plainFits atomicFits barrierFits semanticsFit kindFits extentFits rowFault otherClass otherClassAt classTaken writerFits sourceFits sourceBroken sameRank sameRankAt rankTaken tableFault faulty firstFault rowFaultAt admission raceOr overwrittenOr cyclicOr verdict admitted check beforeAt writtenBy written hidesAt between candidate choice blank chosen sourcesFit filledOr racingOr outcome admittedFill fill
+starred-hold = refl
+
+-- ---- shortcuts that would fool us
+
+-- a read of the data, Uniform, by agent 0
+abbrev earlyRead : List ℕ
+earlyRead = 0 ∷ 0 ∷ 0 ∷ 0 ∷ 0 ∷ 1 ∷ 0 ∷ 4 ∷ 0 ∷ 0 ∷ 0 ∷ 1 ∷ 255 ∷ 255 ∷ 0 ∷ 0 ∷ []
+
+-- a write of the same, by agent 1
+abbrev lateWrite : List ℕ
+lateWrite = 1 ∷ 1 ∷ 0 ∷ 0 ∷ 0 ∷ 1 ∷ 0 ∷ 4 ∷ 0 ∷ 0 ∷ 0 ∷ 1 ∷ 255 ∷ 255 ∷ 0 ∷ 0 ∷ []
+
+-- a write of those bytes as Image, by another reference
+abbrev imageWrite : List ℕ
+imageWrite = 1 ∷ 1 ∷ 0 ∷ 0 ∷ 0 ∷ 1 ∷ 2 ∷ 4 ∷ 0 ∷ 0 ∷ 0 ∷ 3 ∷ 255 ∷ 255 ∷ 0 ∷ 0 ∷ []
+
+-- a write of the first two bytes, which makes available
+abbrev shortWrite : List ℕ
+shortWrite = 1 ∷ 0 ∷ 0 ∷ 2 ∷ 0 ∷ 3 ∷ 0 ∷ 2 ∷ 0 ∷ 0 ∷ 0 ∷ 1 ∷ 255 ∷ 255 ∷ 0 ∷ 0 ∷ []
+
+-- a release of a flag; its classes are set below
+abbrev flagOut : List ℕ
+flagOut = 3 ∷ 0 ∷ 2 ∷ 2 ∷ 0 ∷ 1 ∷ 1 ∷ 4 ∷ 0 ∷ 4 ∷ 0 ∷ 2 ∷ 255 ∷ 255 ∷ 0 ∷ 1 ∷ []
+
+-- an acquire of that flag from row 1
+abbrev flagIn : List ℕ
+flagIn = 2 ∷ 1 ∷ 1 ∷ 2 ∷ 0 ∷ 1 ∷ 1 ∷ 4 ∷ 0 ∷ 4 ∷ 0 ∷ 2 ∷ 0 ∷ 1 ∷ 0 ∷ 0 ∷ []
+
+-- an RMW that reads the initial value
+abbrev selfRmw : List ℕ
+selfRmw = 4 ∷ 0 ∷ 0 ∷ 2 ∷ 0 ∷ 1 ∷ 0 ∷ 4 ∷ 0 ∷ 0 ∷ 0 ∷ 1 ∷ 255 ∷ 255 ∷ 0 ∷ 0 ∷ []
+
+-- the data read before and written after a flag that is released and acquired for the classes c; the write is w
+abbrev handed : ℕ → List ℕ → List ℕ
+handed c w = change 2 1 4 c (change 2 2 4 c (table (agent₀ ∷ agent₁ ∷ []) (earlyRead ∷ flagOut ∷ flagIn ∷ w ∷ [])))
+
+-- a four-byte write, a two-byte one that is made available, the flag, a write of all four bytes by agent 1
+abbrev partly : List ℕ
+partly = change 2 2 4 1 (change 2 3 4 1 (change 2 3 13 2 (table (agent₀ ∷ agent₁ ∷ []) (write ∷ shortWrite ∷ flagOut ∷ flagIn ∷ lateWrite ∷ []))))
+
+abbrev pub shortcuts : List Run
+shortcuts =
+    -- closing happens-before over program order: the flag is released for Workgroup only, and then for Uniform
+    record { ask = asCheck; table = handed 2 lateWrite; gives = checked (race 0 3 0) }
+    ∷ record { ask = asCheck; table = handed 1 lateWrite; gives = checked raceFree }
+    -- trying single classes only: the flag is released for Uniform and Image, and then for Uniform
+    ∷ record { ask = asCheck; table = handed 5 imageWrite; gives = checked raceFree }
+    ∷ record { ask = asCheck; table = handed 1 imageWrite; gives = checked (race 0 3 0) }
+    -- one order per pair: only the first two bytes are made available
+    ∷ record { ask = asCheck; table = partly; gives = checked (race 0 4 2) }
+    -- from-reads from an RMW to itself
+    ∷ record { ask = asCheck; table = table (agent₀ ∷ []) (selfRmw ∷ []); gives = checked raceFree }
+    ∷ []
+
+pub shortcuts-hold : map (λ r. answer (r .ask) (r .table)) shortcuts ≡ map (λ r. r .gives) shortcuts
+unfolding answer _and_ _or_ anyBelow allBelow least through tabulate walk onCycle cycleStart cycleSize trail cycle along plain atomic access barrier plainRead rmw reads writes ranked acquires releases holds meets single classIn nonPrivate makesAvailable makesVisible inside touches covers lowestShared isShared overlap pairAt quadAt countAt versionAt agentsAt rowsAt zeroAt placeAt placesOf rowsBegin sizeOf rowBytes byteOf pairOf rowOf sourceOf atomicSource decode tableOf sourcesOf agree shares together sameLocation mutualRows mutually later laterWriter follows availabilityOf visibilityOf momentOf classesOf availability visibility moment sameAgent programOrder continues ends sequence takesFrom leads trails syncAtomics carriesOut syncFromBarrier carriesIn syncToBarrier carriesOver syncBarriers synchronizes holdingOf concernsOf holding concerns bySync toRelease fromAcquire step interThread holdsAll live interThreadBy happens sameReference coversOf pureRead publicWrite L1 L2 availableFrom visibleTo shareMoment shown met carried L3 common before clash conflict unordered unorderedNth raceNth races racesAbove racePartner hasRace raceRow raceByte beforeNth beforeSome readsFrom fromReads edgeNumber edge cycleRow cycleRows cycleEdges overwrites overwritesNth overNth overwriting overWriter isOverwritten overReader overByte consistent buffersFit versionFits limitsFit lengthFits headerFault codesFit plainFits atomicFits barrierFits semanticsFit kindFits extentFits rowFault otherClass otherClassAt classTaken writerFits sourceFits sourceBroken sameRank sameRankAt rankTaken tableFault faulty firstFault rowFaultAt admission raceOr overwrittenOr cyclicOr verdict admitted check beforeAt writtenBy written hidesAt between candidate choice blank chosen sourcesFit filledOr racingOr outcome admittedFill fill
+shortcuts-hold = refl

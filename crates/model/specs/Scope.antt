@@ -1,0 +1,68 @@
+-- M2 and M3: scopes, mutually-ordered atomics, scoped modification order.
+use mathlib.Core.Bool.{Bool, true, false, not}
+use mathlib.Core.List.{List, []}
+use Prim.Native.Nat.{ℕ}
+use lib.ListN.{getD}
+use lib.Dec.{ltb, eqb}
+use Rattle.finite.specs.Logic.{_and_, _or_}
+use Rattle.model.specs.declared.Row.{Row}
+use Rattle.model.specs.Row.{atomic, writes}
+use Rattle.model.specs.Table.{Table}
+
+-- ---- M2
+
+abbrev pub INVOCATION : ℕ
+INVOCATION = 0
+
+abbrev pub SUBGROUP : ℕ
+SUBGROUP = 1
+
+abbrev pub WORKGROUP : ℕ
+WORKGROUP = 2
+
+abbrev pub FAMILY : ℕ
+FAMILY = 3
+
+abbrev pub DEVICE : ℕ
+DEVICE = 4
+
+-- the k-th place number of agents a and b agrees
+unfoldable pub agree : List (List ℕ) → ℕ → ℕ → ℕ → Bool
+agree p k a b = eqb (getD (getD p a []) k 0) (getD (getD p b []) k 0)
+
+-- M2: agents a and b share the scope
+unfoldable pub shares : List (List ℕ) → ℕ → ℕ → ℕ → Bool
+shares p scope a b =
+    eqb scope DEVICE
+    or (eqb scope FAMILY and agree p 0 a b)
+    or (eqb scope WORKGROUP and agree p 0 a b and agree p 1 a b)
+    or (eqb scope SUBGROUP and agree p 0 a b and agree p 1 a b and agree p 2 a b)
+    or (eqb scope INVOCATION and eqb a b)
+
+-- the agents of two rows share both rows' scopes
+unfoldable pub together : List (List ℕ) → Row → Row → Bool
+together p r q = shares p (r .scope) (r .agent) (q .agent) and shares p (q .scope) (r .agent) (q .agent)
+
+-- ---- M3
+
+unfoldable pub sameLocation : Row → Row → Bool
+sameLocation r q = eqb (r .start) (q .start) and eqb (r .size) (q .size) and eqb (r .reference) (q .reference)
+
+-- M3 of two rows that are different
+unfoldable pub mutualRows : List (List ℕ) → Row → Row → Bool
+mutualRows p r q = atomic r and atomic q and sameLocation r q and together p r q
+
+-- M3: two different atomic rows are mutually-ordered
+unfoldable pub mutually : Table → ℕ → ℕ → Bool
+mutually t x y = not (eqb x y) and mutualRows (t .places) (t .row x) (t .row y)
+
+-- of two ranks, a is the later; nothing else compares ranks but for being equal
+unfoldable pub later : ℕ → ℕ → Bool
+later a b = ltb b a
+
+unfoldable pub laterWriter : Row → Row → Bool
+laterWriter q r = writes q and writes r and later (q .rank) (r .rank)
+
+-- M3: y follows x in their scoped modification order
+unfoldable pub follows : Table → ℕ → ℕ → Bool
+follows t x y = mutually t x y and laterWriter (t .row y) (t .row x)

@@ -1,0 +1,116 @@
+-- The table: its bytes, and the rows, places and sources that stand in them. The only page that knows where a byte stands.
+use mathlib.Core.Bool.{Bool, true, false, cond}
+use mathlib.Core.List.{List, [], _∷_}
+use Prim.Native.Nat.{ℕ, _+_, _*_}
+use lib.ListN.{getD, drop}
+use Rattle.finite.specs.Lists.{tabulate}
+use Rattle.model.specs.declared.Row.{Row}
+use Rattle.model.specs.Limits.{AGENTS, INITIAL}
+use Rattle.model.specs.Row.{atomic}
+
+-- What the rules of order read. A plain read's source is not here, so that no order or race can depend on one: `source` is
+-- an atomic row's, and the initial value for every other row.
+pub record Table : Type 0 where
+  -- how many rows there are
+  pub rows : ℕ
+  -- each agent's family, workgroup and subgroup numbers (an agent's place: document 01's own term)
+  pub places : List (List ℕ)
+  pub row : ℕ → Row
+  pub source : ℕ → ℕ
+
+-- ---- numbers in the bytes, big-endian
+
+unfoldable pub pairAt : List ℕ → ℕ → ℕ
+pairAt s k = getD s k 0 * 256 + getD s (k + 1) 0
+
+unfoldable pub quadAt : List ℕ → ℕ → ℕ
+quadAt s k = pairAt s k * 65536 + pairAt s (k + 2)
+
+-- ---- the header, over all bytes of a table
+
+abbrev pub HEADER : ℕ
+HEADER = 8
+
+abbrev pub PLACE-BYTES : ℕ
+PLACE-BYTES = 6
+
+abbrev pub ROW-BYTES : ℕ
+ROW-BYTES = 16
+
+unfoldable pub countAt : List ℕ → ℕ
+countAt s = quadAt s 0
+
+unfoldable pub versionAt : List ℕ → ℕ
+versionAt s = getD s 4 0
+
+unfoldable pub agentsAt : List ℕ → ℕ
+agentsAt s = getD s 5 0
+
+unfoldable pub rowsAt : List ℕ → ℕ
+rowsAt s = getD s 6 0
+
+unfoldable pub zeroAt : List ℕ → ℕ
+zeroAt s = getD s 7 0
+
+-- the three numbers of agent a
+unfoldable pub placeAt : List ℕ → ℕ → List ℕ
+placeAt s a =
+    pairAt s (HEADER + a * PLACE-BYTES + 0) ∷ pairAt s (HEADER + a * PLACE-BYTES + 2) ∷ pairAt s (HEADER + a * PLACE-BYTES + 4) ∷ []
+
+-- a slot for each agent there may be; those past the table's agents are never asked
+unfoldable pub placesOf : List ℕ → List (List ℕ)
+placesOf s = tabulate (placeAt s) AGENTS
+
+-- where the rows begin, and how long a table of so many agents and rows is
+unfoldable pub rowsBegin : ℕ → ℕ
+rowsBegin agents = HEADER + PLACE-BYTES * agents
+
+unfoldable pub sizeOf : ℕ → ℕ → ℕ
+sizeOf agents rows = rowsBegin agents + ROW-BYTES * rows
+
+unfoldable pub rowBytes : List ℕ → List ℕ
+rowBytes s = drop (rowsBegin (agentsAt s)) s
+
+-- ---- the rows, over their bytes alone: byte k of row i is at 16 × i + k
+
+unfoldable pub byteOf : List ℕ → ℕ → ℕ → ℕ
+byteOf b i k = getD b (i * ROW-BYTES + k) 0
+
+unfoldable pub pairOf : List ℕ → ℕ → ℕ → ℕ
+pairOf b i k = pairAt b (i * ROW-BYTES + k)
+
+unfoldable pub rowOf : List ℕ → ℕ → Row
+rowOf b i =
+    record {
+      kind = byteOf b i 0;
+      agent = byteOf b i 1;
+      order = byteOf b i 2;
+      scope = byteOf b i 3;
+      classes = byteOf b i 4;
+      flags = byteOf b i 5;
+      class = byteOf b i 6;
+      size = byteOf b i 7;
+      start = pairOf b i 8;
+      reference = pairOf b i 10;
+      rank = pairOf b i 14;
+    }
+
+-- the source that stands in row i
+unfoldable pub sourceOf : List ℕ → ℕ → ℕ
+sourceOf b i = pairOf b i 12
+
+unfoldable pub atomicSource : List ℕ → ℕ → ℕ
+atomicSource b i = cond (atomic (rowOf b i)) (sourceOf b i) INITIAL
+
+-- ---- decoding
+
+-- the table of n rows in the bytes b, with the places p
+unfoldable pub decode : List ℕ → List (List ℕ) → ℕ → Table
+decode b p n = record { rows = n; places = p; row = rowOf b; source = atomicSource b }
+
+-- the table in all of its bytes, and all of its sources
+unfoldable pub tableOf : List ℕ → Table
+tableOf s = decode (rowBytes s) (placesOf s) (rowsAt s)
+
+unfoldable pub sourcesOf : List ℕ → ℕ → ℕ
+sourcesOf s = sourceOf (rowBytes s)

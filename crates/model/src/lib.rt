@@ -1,0 +1,104 @@
+// What the crates share: the limits, and the types of a row, a source, an admission and the answers.
+ghost use mathlib.Core.Path.{_≡_};
+ghost use lib.Dec.{eqb, ltb};
+ghost use Rattle.model.specs.Limits.{INITIAL, BLANK};
+
+// ---- limits
+
+pub const AGENTS: usize = 16;
+
+pub const ROWS: usize = 64;
+
+// The 64-bit words that a check or a fill works in.
+pub const WORK: usize = 2048;
+
+// The numbers of the cycle buffer: rows from place 0, edges from place CYCLE_EDGES.
+pub const CYCLE: usize = 128;
+
+pub const CYCLE_EDGES: usize = 64;
+
+// The numbers of the source buffer.
+pub const SOURCES: usize = 64;
+
+// ---- a table's parts
+
+// The family, workgroup and subgroup numbers of each agent.
+pub type Places = [[u16; 3]; 16];
+
+// A row without its source: what the order of rows goes by, the sources of atomic rows aside.
+pub struct Row {
+    pub kind: u8,
+    pub agent: u8,
+    pub order: u8,
+    pub scope: u8,
+    pub classes: u8,
+    pub flags: u8,
+    pub class: u8,
+    pub size: u8,
+    pub start: u16,
+    pub reference: u16,
+    pub rank: u16,
+}
+
+// Where a row's bytes come from: a row's number, the initial value, or a blank.
+pub struct Source(pub u16);
+
+impl Source {
+    pub const INITIAL: Source = Source(65535);
+
+    // A blank is the paper's own term: a source that a fill is to find.
+    pub const BLANK: Source = Source(65534);
+
+    pub fn of_row(row: u16) -> Source
+        ensures { λ r. ⌜ r .0 ≡ row ⌝ }
+    {
+        Source(row)
+    }
+
+    pub fn is_initial(self) -> bool
+        ensures { λ r. ⌜ r ≡ eqb (self .0) INITIAL ⌝ }
+    {
+        self.0 == Source::INITIAL.0
+    }
+
+    pub fn is_blank(self) -> bool
+        ensures { λ r. ⌜ r ≡ eqb (self .0) BLANK ⌝ }
+    {
+        self.0 == Source::BLANK.0
+    }
+
+    // Whether it is one of so many rows.
+    pub fn is_row(self, rows: u16) -> bool
+        ensures { λ r. ⌜ r ≡ ltb (self .0) rows ⌝ }
+    {
+        self.0 < rows
+    }
+}
+
+// The lowest byte that two accesses share.
+pub enum Shared {
+    At(u16),
+    Nothing,
+}
+
+// ---- answers
+
+pub enum Admission {
+    Admitted { agents: u8, rows: u8 },
+    Refused { number: u8, row: u16 },
+}
+
+pub enum CheckAnswer {
+    Refused { number: u8, row: u16 },
+    Cycle { rows: u16 },
+    Overwritten { reader: u16, writer: u16, byte: u16 },
+    Race { first: u16, second: u16, byte: u16 },
+    RaceFree,
+}
+
+pub enum FillAnswer {
+    Refused { number: u8, row: u16 },
+    Race { first: u16, second: u16, byte: u16 },
+    None,
+    Filled,
+}

@@ -12,3 +12,6 @@ pub mod Refusal
 pub mod Check
 pub mod Fill
 pub mod Runs
+pub mod Words
+pub mod HappensLaws
+pub mod FillingLaws

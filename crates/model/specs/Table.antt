@@ -3,6 +3,7 @@ use mathlib.Core.Bool.{Bool, true, false, cond}
 use mathlib.Core.List.{List, [], _∷_}
 use Prim.Native.Nat.{ℕ, _+_, _*_}
 use lib.ListN.{getD, drop}
+use lib.Dec.{ltb}
 use Rattle.finite.specs.Lists.{tabulate}
 use Rattle.model.specs.declared.Row.{Row}
 use Rattle.model.specs.Limits.{AGENTS, INITIAL}
@@ -57,9 +58,12 @@ unfoldable pub placeAt : List ℕ → ℕ → List ℕ
 placeAt s a =
     pairAt s (HEADER + a * PLACE-BYTES + 0) ∷ pairAt s (HEADER + a * PLACE-BYTES + 2) ∷ pairAt s (HEADER + a * PLACE-BYTES + 4) ∷ []
 
--- a slot for each agent there may be; those past the table's agents are never asked
+-- a slot for each agent there may be, zeros past the table's agents
+unfoldable pub slotAt : List ℕ → ℕ → List ℕ
+slotAt s a = cond (ltb a (agentsAt s)) (placeAt s a) (0 ∷ 0 ∷ 0 ∷ [])
+
 unfoldable pub placesOf : List ℕ → List (List ℕ)
-placesOf s = tabulate (placeAt s) AGENTS
+placesOf s = tabulate (slotAt s) AGENTS
 
 -- where the rows begin, and how long a table of so many agents and rows is
 unfoldable pub rowsBegin : ℕ → ℕ

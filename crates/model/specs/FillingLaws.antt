@@ -1,0 +1,176 @@
+-- A filling changes no order and no race: what the rules of order read of the filled bytes is what they read of the table with its
+-- blanks. Assumes nothing.
+use mathlib.Core.Path.{_≡_, refl, sym, ap, ap₂, _∙_, subst, fun-ext}
+use mathlib.Core.Bool.{Bool, true, false, cond}
+use mathlib.Core.List.{List, [], _∷_}
+use mathlib.Core.Logic.{_⊎_, inl, inr, ⊎-elim}
+use Prim.Native.Nat.{ℕ, zero, suc, _+_, _*_, _≤_, _<_}
+use native.Mathlib.Omega.{arith}
+use native.Mathlib.Decide.{decLt}
+use lib.ListN.{length, getD, drop}
+use lib.Seq.{getD-drop}
+use lib.Dec.{ltb, leb, eqb}
+use borrow.Author.Tests.{eqb-true, leb-true, le-ltb}
+use Rattle.finite.specs.Logic.{_and_, _or_, split, which, not-both}
+use Rattle.finite.specs.Lists.{tabulate, tabulate-cong}
+use Rattle.model.specs.declared.Row.{Row}
+use Rattle.model.specs.Limits.{AGENTS, INITIAL, BLANK}
+use Rattle.model.specs.Row.{PLAIN-READ, ATOMIC-READ, atomic, plainRead}
+use Rattle.model.specs.Table.{Table, HEADER, PLACE-BYTES, ROW-BYTES, pairAt, agentsAt, rowsAt, placeAt, slotAt, placesOf, rowsBegin, rowBytes, byteOf, pairOf, rowOf, sourceOf, atomicSource, decode, tableOf, sourcesOf}
+use Rattle.model.specs.Location.{before}
+use Rattle.model.specs.Race.{conflict, races, unordered}
+use Rattle.model.specs.Fill.{blank}
+use Rattle.model.specs.Words.{Races, blankAt, sourceBegin, Filling}
+
+-- an atomic row has no blank
+atomic-not-blank : (r : Row) → atomic r ≡ true → plainRead r ≡ true → ⊥
+unfolding atomic plainRead
+atomic-not-blank r a p =
+    let k : r .kind ≡ PLAIN-READ = eqb-true (r .kind) PLAIN-READ p in
+    let l : ATOMIC-READ ≤ r .kind = leb-true ATOMIC-READ (r .kind) (split a .0) in
+    omega arith
+
+module _ {s f : List ℕ} (fl : Filling s f) where
+  -- ---- bytes
+
+  -- a byte before the rows
+  head-kept : (k : ℕ) → k < rowsBegin (agentsAt s) → getD f k 0 ≡ getD s k 0
+  unfolding sourceBegin
+  head-kept k h = fl .kept k (λ i l b. ⊎-elim (λ e. omega arith) (λ e. omega arith))
+
+  -- a byte of row i, other than those of its source
+  field-kept : (i k : ℕ) → k < ROW-BYTES → (k < 12) ⊎ (13 < k) → getD f (rowsBegin (agentsAt s) + (i * ROW-BYTES + k)) 0 ≡ getD s (rowsBegin (agentsAt s) + (i * ROW-BYTES + k)) 0
+  unfolding sourceBegin
+  field-kept i k h o =
+      fl .kept _ (λ j l b. ⊎-elim (λ e. ⊎-elim (λ p. omega arith) (λ p. omega arith) o) (λ e. ⊎-elim (λ p. omega arith) (λ p. omega arith) o))
+
+  -- each byte of a row without a blank
+  whole-kept : (i k : ℕ) → k < ROW-BYTES → blankAt s i ≡ false → getD f (rowsBegin (agentsAt s) + (i * ROW-BYTES + k)) 0 ≡ getD s (rowsBegin (agentsAt s) + (i * ROW-BYTES + k)) 0
+  unfolding sourceBegin
+  whole-kept i k h n = fl .kept _ (λ j l b. ⊎-elim (λ e. other j b (omega arith)) (λ e. other j b (omega arith)))
+    where
+      other : (j : ℕ) → blankAt s j ≡ true → j ≡ i → ⊥
+      other j b e = not-both (rw e at b) n
+
+  -- ---- the header and the places
+
+  pub agents-kept : agentsAt f ≡ agentsAt s
+  unfolding agentsAt rowsBegin
+  agents-kept = head-kept 5 (omega arith)
+
+  pub rows-kept : rowsAt f ≡ rowsAt s
+  unfolding rowsAt rowsBegin
+  rows-kept = head-kept 6 (omega arith)
+
+  pair-head : (k : ℕ) → k + 1 < rowsBegin (agentsAt s) → pairAt f k ≡ pairAt s k
+  unfolding pairAt
+  pair-head k h = rw (head-kept k (omega arith), head-kept (k + 1) h) refl
+
+  place-kept : (a : ℕ) → a < agentsAt s → placeAt f a ≡ placeAt s a
+  unfolding placeAt rowsBegin
+  place-kept a l =
+      rw
+      (pair-head (HEADER + a * PLACE-BYTES + 0) (omega arith), pair-head (HEADER + a * PLACE-BYTES + 2) (omega arith), pair-head (HEADER + a * PLACE-BYTES + 4) (omega arith))
+      refl
+
+  slot-kept : (a : ℕ) → slotAt f a ≡ slotAt s a
+  unfolding slotAt
+  slot-kept a = rw agents-kept (go (decLt a (agentsAt s)))
+    where
+      go : Dec (a < agentsAt s) → cond (ltb a (agentsAt s)) (placeAt f a) (0 ∷ 0 ∷ 0 ∷ []) ≡ cond (ltb a (agentsAt s)) (placeAt s a) (0 ∷ 0 ∷ 0 ∷ [])
+      go (yes l) = rw (place-kept a l) refl
+      go (no l) = simp (le-ltb a (agentsAt s) (omega arith))
+
+  pub places-kept : placesOf f ≡ placesOf s
+  unfolding placesOf
+  places-kept = tabulate-cong (slotAt f) (slotAt s) AGENTS (λ a l. slot-kept a)
+
+  -- ---- the rows
+
+  -- byte k of row i
+  bytes-at : (g : List ℕ) (i k : ℕ) → agentsAt g ≡ agentsAt s → byteOf (rowBytes g) i k ≡ getD g (rowsBegin (agentsAt s) + (i * ROW-BYTES + k)) 0
+  unfolding byteOf rowBytes
+  bytes-at g i k e = rw e (getD-drop (rowsBegin (agentsAt s)) g (i * ROW-BYTES + k) 0)
+
+  byte-kept : (i k : ℕ) → k < ROW-BYTES → (k < 12) ⊎ (13 < k) → byteOf (rowBytes f) i k ≡ byteOf (rowBytes s) i k
+  byte-kept i k h o = bytes-at f i k agents-kept ∙ field-kept i k h o ∙ sym (bytes-at s i k refl)
+
+  byte-whole : (i k : ℕ) → k < ROW-BYTES → blankAt s i ≡ false → byteOf (rowBytes f) i k ≡ byteOf (rowBytes s) i k
+  byte-whole i k h n = bytes-at f i k agents-kept ∙ whole-kept i k h n ∙ sym (bytes-at s i k refl)
+
+  -- a pair is its two bytes
+  pair-is : (b : List ℕ) (i k : ℕ) → pairOf b i k ≡ byteOf b i k * 256 + byteOf b i (k + 1)
+  unfolding pairOf pairAt byteOf
+  pair-is b i k = let e : i * ROW-BYTES + k + 1 ≡ i * ROW-BYTES + (k + 1) = omega arith in rw e refl
+
+  pair-kept : (i k : ℕ) → k + 1 < ROW-BYTES → (k + 1 < 12) ⊎ (13 < k) → pairOf (rowBytes f) i k ≡ pairOf (rowBytes s) i k
+  pair-kept i k h o =
+      pair-is (rowBytes f) i k
+      ∙ ap₂ (λ (x y : ℕ). x * 256 + y) (byte-kept i k (omega arith) (⊎-elim (λ p. inl (omega arith)) (λ p. inr p) o)) (byte-kept i (k + 1) h (⊎-elim (λ p. inl p) (λ p. inr (omega arith)) o))
+      ∙ sym (pair-is (rowBytes s) i k)
+
+  pub row-kept : (i : ℕ) → rowOf (rowBytes f) i ≡ rowOf (rowBytes s) i
+  unfolding rowOf
+  row-kept i =
+      λ d.
+      record {
+        kind = one 0 (omega arith) d;
+        agent = one 1 (omega arith) d;
+        order = one 2 (omega arith) d;
+        scope = one 3 (omega arith) d;
+        classes = one 4 (omega arith) d;
+        flags = one 5 (omega arith) d;
+        class = one 6 (omega arith) d;
+        size = one 7 (omega arith) d;
+        start = pair-kept i 8 (omega arith) (inl (omega arith)) d;
+        reference = pair-kept i 10 (omega arith) (inl (omega arith)) d;
+        rank = pair-kept i 14 (omega arith) (inr (omega arith)) d;
+      }
+    where
+      one : (k : ℕ) → k < 12 → byteOf (rowBytes f) i k ≡ byteOf (rowBytes s) i k
+      one k h = byte-kept i k (omega arith) (inl h)
+
+  -- the source of a row without a blank
+  pub source-kept : (i : ℕ) → blankAt s i ≡ false → sourcesOf f i ≡ sourcesOf s i
+  unfolding sourcesOf sourceOf
+  source-kept i n =
+      pair-is (rowBytes f) i 12 ∙ ap₂ (λ (x y : ℕ). x * 256 + y) (byte-whole i 12 (omega arith) n) (byte-whole i 13 (omega arith) n) ∙ sym (pair-is (rowBytes s) i 12)
+
+  atomic-no-blank : (i : ℕ) → atomic (rowOf (rowBytes s) i) ≡ true → blankAt s i ≡ false
+  unfolding blankAt blank tableOf decode
+  atomic-no-blank i a =
+      ⊎-elim (λ t. absurd (atomic-not-blank (rowOf (rowBytes s) i) a (split t .0))) (λ n. n) (which (plainRead (rowOf (rowBytes s) i) and eqb (sourcesOf s i) BLANK))
+
+  atomic-kept : (i : ℕ) → atomicSource (rowBytes f) i ≡ atomicSource (rowBytes s) i
+  unfolding atomicSource sourcesOf
+  atomic-kept i = rw (row-kept i) (⊎-elim at (λ n. rw n refl) (which (atomic (rowOf (rowBytes s) i))))
+    where
+      at : atomic (rowOf (rowBytes s) i) ≡ true → cond (atomic (rowOf (rowBytes s) i)) (sourceOf (rowBytes f) i) INITIAL ≡ cond (atomic (rowOf (rowBytes s) i)) (sourceOf (rowBytes s) i) INITIAL
+      at a = rw a (source-kept i (atomic-no-blank i a))
+
+  -- ---- what the rules of order read
+
+  -- A FILLING CHANGES NOTHING THAT THE RULES OF ORDER READ
+  pub table-kept : tableOf f ≡ tableOf s
+  unfolding tableOf decode
+  table-kept =
+      λ d.
+      record {
+        rows = rows-kept d;
+        places = places-kept d;
+        row = fun-ext {f = rowOf (rowBytes f)} {g = rowOf (rowBytes s)} row-kept d;
+        source = fun-ext {f = atomicSource (rowBytes f)} {g = atomicSource (rowBytes s)} atomic-kept d;
+      }
+
+  -- so location order, conflicts and races of a filled table are those of the table with its blanks
+  pub before-kept : (x y b : ℕ) → before (tableOf f) x y b ≡ before (tableOf s) x y b
+  before-kept x y b = ap (λ (t : Table). before t x y b) table-kept
+
+  pub conflict-kept : (x y : ℕ) → conflict (tableOf f) x y ≡ conflict (tableOf s) x y
+  conflict-kept x y = ap (λ (t : Table). conflict t x y) table-kept
+
+  pub unordered-kept : (x y b : ℕ) → unordered (tableOf f) x y b ≡ unordered (tableOf s) x y b
+  unordered-kept x y b = ap (λ (t : Table). unordered t x y b) table-kept
+
+  pub races-kept : (x y : ℕ) → races (tableOf f) x y ≡ races (tableOf s) x y
+  races-kept x y = ap (λ (t : Table). races t x y) table-kept

@@ -1,0 +1,59 @@
+-- Happens-before is what M6 and M7 say, for any number of rows: program order, or for some class set the transitive closure of the
+-- direct cases. Assumes nothing.
+use mathlib.Core.Path.{_≡_, refl, sym, ap, _∙_}
+use mathlib.Core.Bool.{Bool, true, false, not}
+use mathlib.Core.Logic.{_⊎_, inl, inr, ⊎-elim, _↔_}
+use Prim.Native.Nat.{ℕ, zero, suc, _+_, _-_, _*_, _/_, _≤_, _<_}
+use native.Mathlib.Omega.{arith}
+use lib.Dec.{eqb}
+use Rattle.finite.specs.Logic.{_and_, _or_, split, and-true, or-cases, or-left, or-right}
+use Rattle.finite.specs.Below.{anyBelow, any-in, any-out}
+use Rattle.finite.specs.Closure.{Reach, one, more, through, through-reach}
+use Rattle.model.specs.Limits.{CLASS-SETS}
+use Rattle.model.specs.Row.{holds}
+use Rattle.model.specs.Table.{Table}
+use Rattle.model.specs.Moment.{rowIn, programOrder}
+use Rattle.model.specs.Happens.{holdingOf, holding, bySync, toRelease, fromAcquire, direct, step, interThread, holdsAll, live, interThreadBy, happens}
+use Rattle.model.specs.Words.{HappensBefore}
+
+-- ---- a direct case needs a row that holds the class set
+
+module _ (t : Table) (s : ℕ) where
+  holding-live : (m : ℕ) → m < 3 * t .rows → holding t s m ≡ true → live t s ≡ true
+  unfolding holding holdingOf live holdsAll
+  holding-live m l h = any-in (λ i. holds (t .row i .classes) s) (t .rows) (m / 3) (omega arith) (split h .1)
+
+  step-live : (m n : ℕ) → m < 3 * t .rows → n < 3 * t .rows → step t s m n ≡ true → live t s ≡ true
+  unfolding step bySync toRelease fromAcquire
+  step-live m n p q e =
+      ⊎-elim
+      (λ a. ⊎-elim (λ b. holding-live m p (split (split b .0) .0)) (λ b. holding-live n q (split (split (split b .0) .0) .0)) (or-cases (bySync t s m n) (toRelease t s m n) a))
+      (λ a. holding-live m p (split (split (split a .0) .0) .0))
+      (or-cases (bySync t s m n or toRelease t s m n) (fromAcquire t s m n) e)
+
+  pub reach-live : {m n : ℕ} → m < 3 * t .rows → n < 3 * t .rows → Reach (step t s) (3 * t .rows) m n → live t s ≡ true
+  reach-live {m} {n} p q (one e) = step-live m n p q e
+  reach-live {m} {n} p q (more {m = k} e l r) = step-live m k p l e
+
+-- M7, for any number of rows
+pub happens-is : (t : Table) (m n : ℕ) → m < 3 * t .rows → n < 3 * t .rows → (happens t m n ≡ true) ↔ HappensBefore t m n
+unfolding happens interThreadBy interThread
+happens-is t m n p q = (forth, back)
+  where
+    by : ℕ → Bool
+    by k = live t (suc k) and through (step t (suc k)) (3 * t .rows) m n
+
+    forth : (programOrder t m n or anyBelow CLASS-SETS by) ≡ true → HappensBefore t m n
+    forth e =
+        ⊎-elim (λ h. inl h)
+        (λ h. let r = any-out by CLASS-SETS h in
+        let l = r .1 in
+        inr (suc (r .0), omega arith, omega arith, through-reach (step t (suc (r .0))) (3 * t .rows) m n .0 (split (r .2) .1)))
+        (or-cases (programOrder t m n) (anyBelow CLASS-SETS by) e)
+
+    some : (s : ℕ) → 1 ≤ s → s ≤ CLASS-SETS → Reach (step t s) (3 * t .rows) m n → anyBelow CLASS-SETS by ≡ true
+    some zero a b r = absurd (omega arith)
+    some (suc k) a b r = any-in by CLASS-SETS k (omega arith) (and-true (reach-live t (suc k) p q r) (through-reach (step t (suc k)) (3 * t .rows) m n .1 r))
+
+    back : HappensBefore t m n → (programOrder t m n or anyBelow CLASS-SETS by) ≡ true
+    back d = ⊎-elim (λ h. or-left _ h) (λ w. or-right (programOrder t m n) (some (w .0) (w .1) (w .2) (w .3))) d

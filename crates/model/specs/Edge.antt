@@ -7,7 +7,7 @@ use lib.Dec.{ltb, eqb}
 use Rattle.finite.specs.Logic.{_and_, _or_}
 use Rattle.finite.specs.Below.{anyBelow, least}
 use Rattle.finite.specs.Walk.{cycleStart, cycle, along}
-use Rattle.model.specs.Limits.{INITIAL}
+use Rattle.model.specs.Limits.{LONGEST, INITIAL}
 use Rattle.model.specs.Row.{reads, writes, overlap}
 use Rattle.model.specs.Table.{Table}
 use Rattle.model.specs.Scope.{follows}
@@ -19,7 +19,7 @@ beforeNth t x y k = before t x y (nth t x k)
 
 -- x is location-ordered before y at some byte
 unfoldable pub beforeSome : Table → ℕ → ℕ → Bool
-beforeSome t x y = anyBelow (t .row x .size) (beforeNth t x y)
+beforeSome t x y = anyBelow LONGEST (beforeNth t x y)
 
 module _ (t : Table) (source : ℕ → ℕ) where
   -- ---- edges
@@ -66,10 +66,10 @@ module _ (t : Table) (source : ℕ → ℕ) where
 
   -- the least reader, writer and byte; the number of rows where B holds
   unfoldable pub overNth : ℕ → ℕ → ℕ
-  overNth y z = least (t .row y .size) (overwritesNth y z)
+  overNth y z = least LONGEST (overwritesNth y z)
 
   unfoldable pub overwriting : ℕ → ℕ → Bool
-  overwriting y z = ltb (overNth y z) (t .row y .size)
+  overwriting y z = ltb (overNth y z) LONGEST
 
   unfoldable pub overWriter : ℕ → ℕ
   overWriter y = least (t .rows) (overwriting y)

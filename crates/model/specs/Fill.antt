@@ -6,15 +6,15 @@ use Prim.Native.Nat.{ℕ, _+_}
 use lib.ListN.{length, drop}
 use lib.Dec.{ltb, eqb}
 use Rattle.finite.specs.Logic.{_and_, _or_}
-use Rattle.finite.specs.Below.{anyBelow, allBelow, least}
+use Rattle.finite.specs.Below.{anyBelow, least}
 use Rattle.finite.specs.Lists.{tabulate}
 use Rattle.model.specs.declared.Admission.{Admission}
 use Rattle.model.specs.declared.Admission.the-variants.{Admitted, Refused}
 use Rattle.model.specs.declared.FillAnswer.{FillAnswer}
 use Rattle.model.specs.declared.FillAnswer.the-variants.{Race, None, Filled}
 use Rattle.model.specs.declared.FillAnswer.the-variants
-use Rattle.model.specs.Limits.{SOURCES, INITIAL, BLANK}
-use Rattle.model.specs.Row.{plainRead, reads, writes}
+use Rattle.model.specs.Limits.{SOURCES, LONGEST, INITIAL, BLANK}
+use Rattle.model.specs.Row.{plainRead, writes, touches}
 use Rattle.model.specs.Table.{Table, tableOf, sourcesOf}
 use Rattle.model.specs.Scope.{follows}
 use Rattle.model.specs.Location.{before}
@@ -26,9 +26,9 @@ use Rattle.model.specs.Check.{wiped}
 -- ---- the source of a blank
 
 module _ (t : Table) where
-  -- s is ordered before y at y's k-th byte
-  unfoldable pub beforeAt : ℕ → ℕ → ℕ → Bool
-  beforeAt y s k = before t s y (nth t y k)
+  -- s is not ordered before y at y's k-th byte
+  unfoldable pub missesAt : ℕ → ℕ → ℕ → Bool
+  missesAt y s k = touches (t .row y) (nth t y k) and not (before t s y (nth t y k))
 
   -- some writer is ordered before y
   unfoldable pub writtenBy : ℕ → ℕ → Bool
@@ -43,11 +43,11 @@ module _ (t : Table) where
 
   -- the writer z comes between s and y: after s in scoped order and before y at some byte, or between the two at a byte
   unfoldable pub between : ℕ → ℕ → ℕ → Bool
-  between y s z = writes (t .row z) and ((follows t s z and beforeSome t z y) or anyBelow (t .row y .size) (hidesAt y s z))
+  between y s z = writes (t .row z) and ((follows t s z and beforeSome t z y) or anyBelow LONGEST (hidesAt y s z))
 
   -- y may have read s: s covers y, comes before y at each byte, and nothing comes between
   unfoldable pub candidate : ℕ → ℕ → Bool
-  candidate y s = writerFits t y s and allBelow (t .row y .size) (beforeAt y s) and not (anyBelow (t .rows) (between y s))
+  candidate y s = writerFits t y s and not (anyBelow LONGEST (missesAt y s)) and not (anyBelow (t .rows) (between y s))
 
   -- the source that the blank y must have: the initial value where no writer comes before it; the number of rows where it can have none
   unfoldable pub choice : ℕ → ℕ

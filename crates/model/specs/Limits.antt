@@ -22,6 +22,13 @@ CYCLE-EDGES = 64
 abbrev pub SOURCES : ℕ
 SOURCES = 64
 
+-- bytes of an access, and of all that a start can reach
+abbrev pub LONGEST : ℕ
+LONGEST = 16
+
+abbrev pub BYTES : ℕ
+BYTES = 65536
+
 -- the initial value, and a blank (document 01's own term: a source that a fill is to find)
 abbrev pub INITIAL : ℕ
 INITIAL = 65535

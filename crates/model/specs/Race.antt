@@ -5,12 +5,13 @@ use lib.Dec.{ltb, eqb}
 use Rattle.finite.specs.Logic.{_and_, _or_}
 use Rattle.finite.specs.Below.{anyBelow, least}
 use Rattle.model.specs.declared.Row.{Row}
+use Rattle.model.specs.Limits.{LONGEST}
 use Rattle.model.specs.Row.{access, writes, overlap}
 use Rattle.model.specs.Table.{Table}
 use Rattle.model.specs.Scope.{mutually}
 use Rattle.model.specs.Location.{common, before}
 
--- the k-th byte of row x
+-- the k-th byte from where row x starts; k goes up to LONGEST, and each test below asks that the byte is one of x's
 abbrev pub nth : Table → ℕ → ℕ → ℕ
 nth t x k = t .row x .start + k
 
@@ -29,13 +30,13 @@ unordered t x y b = common (t .row x) (t .row y) b and not (before t x y b) and 
 unfoldable pub unorderedNth : Table → ℕ → ℕ → ℕ → Bool
 unorderedNth t x y k = unordered t x y (nth t x k)
 
--- which of x's bytes is the lowest unordered one; x's size where none is
+-- which of x's bytes is the lowest unordered one; LONGEST where none is
 unfoldable pub raceNth : Table → ℕ → ℕ → ℕ
-raceNth t x y = least (t .row x .size) (unorderedNth t x y)
+raceNth t x y = least LONGEST (unorderedNth t x y)
 
 -- two rows race
 unfoldable pub races : Table → ℕ → ℕ → Bool
-races t x y = conflict t x y and not (mutually t x y) and ltb (raceNth t x y) (t .row x .size)
+races t x y = conflict t x y and not (mutually t x y) and ltb (raceNth t x y) LONGEST
 
 -- ---- the first race: the lower row, the higher, the byte; the number of rows where there is none
 

@@ -9,7 +9,7 @@ use Rattle.finite.specs.Below.{anyBelow, least}
 use Rattle.model.specs.declared.Row.{Row}
 use Rattle.model.specs.declared.Admission.{Admission}
 use Rattle.model.specs.declared.Admission.the-variants.{Admitted, Refused}
-use Rattle.model.specs.Limits.{AGENTS, ROWS, WORK, INITIAL, BLANK}
+use Rattle.model.specs.Limits.{AGENTS, ROWS, WORK, LONGEST, BYTES, INITIAL, BLANK}
 use Rattle.model.specs.Row.{BARRIER, ATOMIC-READ, ATOMIC-WRITE, RELAXED, ACQUIRE, RELEASE, BOTH, plain, atomic, access, barrier, plainRead, reads, writes, ranked, acquires, releases, nonPrivate, makesAvailable, makesVisible, covers}
 use Rattle.model.specs.Table.{Table, HEADER, countAt, versionAt, agentsAt, rowsAt, zeroAt, sizeOf, rowBytes, rowOf, sourceOf, placesOf, tableOf, sourcesOf}
 use Rattle.model.specs.Scope.{INVOCATION, DEVICE, mutualRows, mutually}
@@ -85,13 +85,7 @@ kindFits r source =
     (not (plain r) or plainFits r) and (not (atomic r) or atomicFits r) and (not (barrier r) or barrierFits r)
     and (plain r or semanticsFit r) and (reads r or eqb source INITIAL) and (ranked r or eqb (r .rank) 0)
 
-abbrev pub LONGEST : ℕ
-LONGEST = 16
-
-abbrev pub BYTES : ℕ
-BYTES = 65536
-
--- 7: an access has 1 to 16 bytes, all below 65536
+-- 7: an access has 1 to LONGEST bytes, all below BYTES
 unfoldable pub extentFits : Row → Bool
 extentFits r = not (access r) or (leb 1 (r .size) and leb (r .size) LONGEST and leb (r .start + r .size) BYTES)
 

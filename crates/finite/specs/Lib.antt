@@ -3,3 +3,4 @@ pub mod Below
 pub mod Closure
 pub mod Lists
 pub mod Walk
+pub mod Cycle

@@ -1,0 +1,36 @@
+-- What the work area holds between the crates of the engine. Assumes nothing.
+use mathlib.Core.List.{List}
+use Prim.Native.Nat.{ℕ, _+_, _*_, _≤_, _<_}
+use native.Mathlib.Omega.{arith}
+use Rattle.bits.specs.Within.{Within}
+use Rattle.bits.specs.Stage.{Holds, holds-kept}
+use Rattle.bits.specs.Cube.{Cube, cube-kept}
+use Rattle.model.specs.Table.{Table}
+use Rattle.model.specs.Scope.{mutually}
+use Rattle.model.specs.Happens.{happens}
+use Rattle.model.specs.Edge.{beforeNth}
+use Rattle.area.specs.Regions.{MUTUAL, HAPPENS, HAPPENS-END, LOCATION, LOCATION-END, GRID, MOMENTS, PAIR, PAIRS}
+
+-- ---- definitions
+
+-- what location order is made from: mutually-ordered rows, and happens-before
+pub record Ordered (t : Table) (n : ℕ) (w : List ℕ) : Type 0 where
+  pub mutuals : Holds MUTUAL GRID n (mutually t) w
+  pub happening : Holds HAPPENS MOMENTS (3 * n) (happens t) w
+
+-- what edges, races and choices are made from: mutually-ordered rows, and location order; bit k of a pair is the first row's k-th byte
+pub record Located (t : Table) (n : ℕ) (w : List ℕ) : Type 0 where
+  pub mutuals : Holds MUTUAL GRID n (mutually t) w
+  pub location : Cube LOCATION PAIRS PAIR n (beforeNth t) w
+
+-- ---- laws: a change in later words keeps each
+
+pub ordered-kept : {t : Table} {n c d : ℕ} {w u : List ℕ} → HAPPENS-END ≤ c → Within c d w u → Ordered t n w → Ordered t n u
+ordered-kept {n = n} l f o =
+    let h : 3 * n ≤ 64 * MOMENTS = o .happening .fits in
+    record { mutuals = holds-kept (λ h. absurd (omega arith)) f (o .mutuals); happening = holds-kept (λ h. absurd (omega arith)) f (o .happening) }
+
+pub located-kept : {t : Table} {n c d : ℕ} {w u : List ℕ} → LOCATION-END ≤ c → Within c d w u → Located t n w → Located t n u
+located-kept {n = n} l f o =
+    let h : n ≤ 64 * GRID = o .mutuals .fits in
+    record { mutuals = holds-kept (λ h. absurd (omega arith)) f (o .mutuals); location = cube-kept (λ h. absurd (omega arith)) f (o .location) }

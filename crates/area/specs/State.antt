@@ -9,7 +9,7 @@ use Rattle.model.specs.Table.{Table}
 use Rattle.model.specs.Scope.{mutually}
 use Rattle.model.specs.Happens.{happens}
 use Rattle.model.specs.Edge.{beforeNth}
-use Rattle.area.specs.Regions.{MUTUAL, HAPPENS, HAPPENS-END, LOCATION, LOCATION-END, GRID, MOMENTS, PAIR, PAIRS}
+use Rattle.area.specs.Regions.{MUTUAL, HAPPENS, HAPPENS-END, STEP-END, LOCATION, LOCATION-END, GRID, MOMENTS, PAIR, PAIRS}
 
 -- ---- definitions
 
@@ -22,6 +22,15 @@ pub record Ordered (t : Table) (n : ℕ) (w : List ℕ) : Type 0 where
 pub record Located (t : Table) (n : ℕ) (w : List ℕ) : Type 0 where
   pub mutuals : Holds MUTUAL GRID n (mutually t) w
   pub location : Cube LOCATION PAIRS PAIR n (beforeNth t) w
+
+-- what a stage that makes each of these says: no word outside the regions that it works in changed
+pub record MadeOrdered (t : Table) (n : ℕ) (w u : List ℕ) : Type 0 where
+  pub ordered : Ordered t n u
+  pub frame : Within MUTUAL STEP-END w u
+
+pub record MadeLocated (t : Table) (n : ℕ) (w u : List ℕ) : Type 0 where
+  pub located : Located t n u
+  pub frame : Within LOCATION LOCATION-END w u
 
 -- ---- laws: a change in later words keeps each
 

@@ -15,3 +15,4 @@ pub mod Runs
 pub mod Words
 pub mod HappensLaws
 pub mod FillingLaws
+pub mod AdmissionLaws

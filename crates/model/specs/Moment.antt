@@ -41,6 +41,14 @@ visibilityOf r k = makesVisible r and not (eqb (r .scope) INVOCATION) and eqb k 
 unfoldable pub momentOf : Row → ℕ → Bool
 momentOf r k = eqb k AT or availabilityOf r k or visibilityOf r k
 
+-- m is a moment of its row r, in a table of n rows
+unfoldable pub momentIn : ℕ → Row → ℕ → Bool
+momentIn n r m = ltb (rowIn m) n and momentOf r (part m)
+
+-- M1: program order of the moments m of r and k of q: of one agent, by row and then moment
+unfoldable pub orderedRows : ℕ → ℕ → ℕ → Row → Row → Bool
+orderedRows n m k r q = ltb m k and eqb (r .agent) (q .agent) and momentIn n r m and momentIn n q k
+
 -- the classes of an availability or visibility moment
 unfoldable pub classesOf : Row → ℕ
 classesOf r = cond (plain r) (single (r .class)) (r .classes)
@@ -55,11 +63,11 @@ unfoldable pub visibility : Table → ℕ → Bool
 visibility t m = visibilityOf (t .row (rowIn m)) (part m)
 
 unfoldable pub moment : Table → ℕ → Bool
-moment t m = ltb (rowIn m) (t .rows) and momentOf (t .row (rowIn m)) (part m)
+moment t m = momentIn (t .rows) (t .row (rowIn m)) m
 
 unfoldable pub sameAgent : Table → ℕ → ℕ → Bool
 sameAgent t x y = eqb (t .row x .agent) (t .row y .agent)
 
--- M1: program order, between moments of one agent, by row and then moment
+-- M1: program order
 unfoldable pub programOrder : Table → ℕ → ℕ → Bool
-programOrder t m n = ltb m n and sameAgent t (rowIn m) (rowIn n) and moment t m and moment t n
+programOrder t m k = orderedRows (t .rows) m k (t .row (rowIn m)) (t .row (rowIn k))

@@ -1,0 +1,170 @@
+-- What a table that is admitted is known to be. Assumes nothing.
+use mathlib.Core.Path.{_≡_, refl, sym, ap, _∙_, subst}
+use mathlib.Core.Bool.{Bool, true, false, not, cond}
+use mathlib.Core.List.{List}
+use mathlib.Core.Logic.{_⊎_, inl, inr, ⊎-elim}
+use Prim.Native.Nat.{ℕ, zero, suc, _+_, _≤_, _<_}
+use native.Mathlib.Omega.{arith}
+use native.Mathlib.Decide.{decLt}
+use lib.ListN.{length}
+use lib.Dec.{ltb, leb, eqb}
+use borrow.Author.Tests.{eqb-true, leb-true, leb-false, ltb-false, eq-eqb, le-ltb}
+use Rattle.finite.specs.Logic.{_and_, _or_, split, which, not-both, not-out, or-cases}
+use Rattle.finite.specs.Below.{least, least-is, least-hit, any-not}
+use Rattle.model.specs.declared.Row.{Row}
+use Rattle.model.specs.declared.Admission.{Admission}
+use Rattle.model.specs.declared.Admission.the-variants.{Admitted, Refused}
+use Rattle.model.specs.Limits.{AGENTS, ROWS, LONGEST, BYTES}
+use Rattle.model.specs.Row.{RMW, BARRIER, access, barrier}
+use Rattle.model.specs.Table.{Table, HEADER, agentsAt, rowsAt, rowBytes, rowOf, sourceOf, tableOf, sourcesOf, decode}
+use Rattle.model.specs.Refusal.{headerFault, versionFits, limitsFit, lengthFits, codesFit, kindFits, barrierFits, extentFits, rowFault, classTaken, sourceBroken, rankTaken, tableFault, faulty, firstFault, rowFaultAt, admission}
+
+-- ---- definitions
+
+-- no refusal from 1 to 10 holds
+pub record Sound (blanks : Bool) (s : List ℕ) : Type 0 where
+  pub header : headerFault s ≡ 0
+  pub row : (i : ℕ) → i < rowsAt s → rowFaultAt s i ≡ 0
+  pub among : (i : ℕ) → i < rowsAt s → tableFault blanks (tableOf s) (sourcesOf s) i ≡ 0
+
+-- ---- an admission and its faults
+
+-- a refusal is no admission
+not-admitted : {A : Type 0} {n i a r : ℕ} → Refused n i ≡ Admitted a r → A
+not-admitted e = let z : _≡_ {A = ℕ} 0 1 = ap which-one e in absurd (omega arith)
+  where
+    which-one : Admission → ℕ
+    which-one (Refused n i) = 0
+    which-one (Admitted a r) = 1
+
+not-false : (b : Bool) → not b ≡ false → b ≡ true
+not-false true q = refl
+not-false false q = not-both refl q
+
+module _ (f : ℕ → ℕ) (n : ℕ) where
+  first-none : (next : Admission) → ((i : ℕ) → i < n → f i ≡ 0) → firstFault f n next ≡ next
+  unfolding firstFault faulty
+  first-none next h = rw stop (simp (le-ltb n n (omega arith)))
+    where
+      p : ℕ → Bool
+      p i = not (eqb (f i) 0)
+
+      go : Dec (least n p < n) → least n p ≡ n
+      go (yes l) = not-both (eq-eqb _ _ (h (least n p) l)) (not-out _ (least-is p n .hit l))
+      go (no l) = let b : least n p ≤ n = least-is p n .bound in omega arith
+
+      stop : least n p ≡ n
+      stop = go (decLt (least n p) n)
+
+  first-admits : (next : Admission) {a r : ℕ} → firstFault f n next ≡ Admitted a r → ((i : ℕ) → i < n → f i ≡ 0) × (next ≡ Admitted a r)
+  unfolding firstFault faulty
+  first-admits next {a} {r} e = go (which (ltb (least n p) n))
+    where
+      p : ℕ → Bool
+      p i = not (eqb (f i) 0)
+
+      clean : ltb (least n p) n ≡ false → (i : ℕ) → i < n → f i ≡ 0
+      clean h i l =
+          let b : n ≤ least n p = ltb-false (least n p) n h in
+          eqb-true (f i) 0 (not-false (eqb (f i) 0) (least-is p n .miss i (omega arith)))
+
+      go : (ltb (least n p) n ≡ true) ⊎ (ltb (least n p) n ≡ false) → ((i : ℕ) → i < n → f i ≡ 0) × (next ≡ Admitted a r)
+      go (inl h) = not-admitted (subst (λ (b : Bool). cond b (Refused (f (least n p)) (least n p)) next ≡ Admitted a r) h e)
+      go (inr h) = (clean h, subst (λ (b : Bool). cond b (Refused (f (least n p)) (least n p)) next ≡ Admitted a r) h e)
+
+-- ---- sound is admitted
+
+pub sound-admitted : (blanks : Bool) (s : List ℕ) → Sound blanks s → admission blanks s ≡ Admitted (agentsAt s) (rowsAt s)
+unfolding admission
+sound-admitted blanks s h =
+    rw (h .header)
+    (first-none (rowFaultAt s) (rowsAt s) _ (h .row) ∙ first-none (tableFault blanks (tableOf s) (sourcesOf s)) (rowsAt s) _ (h .among))
+
+pub admitted-sound : (blanks : Bool) (s : List ℕ) {a r : ℕ} → admission blanks s ≡ Admitted a r → Sound blanks s
+unfolding admission
+admitted-sound blanks s {a} {r} e = go (which (eqb (headerFault s) 0))
+  where
+    next : Admission
+    next = firstFault (tableFault blanks (tableOf s) (sourcesOf s)) (rowsAt s) (Admitted (agentsAt s) (rowsAt s))
+
+    T : Bool → Type 0
+    T b = cond b (firstFault (rowFaultAt s) (rowsAt s) next) (Refused (headerFault s) 0) ≡ Admitted a r
+
+    go : (eqb (headerFault s) 0 ≡ true) ⊎ (eqb (headerFault s) 0 ≡ false) → Sound blanks s
+    go (inl h) =
+        let x = first-admits (rowFaultAt s) (rowsAt s) next (subst T h e) in
+        let y = first-admits (tableFault blanks (tableOf s) (sourcesOf s)) (rowsAt s) (Admitted (agentsAt s) (rowsAt s)) (x .1) in
+        record { header = eqb-true (headerFault s) 0 h; row = x .0; among = y .0 }
+    go (inr h) = not-admitted (subst T h e)
+
+-- ---- a fault number that is 0: every test of its cascade passed
+
+header-passed : (a b c d : Bool) → _≡_ {A = ℕ} (cond a (cond b (cond c (cond d 0 4) 3) 2) 1) 0 → c ≡ true
+header-passed true true true d e = refl
+header-passed true true false d e = absurd (omega arith)
+header-passed true false c d e = absurd (omega arith)
+header-passed false b c d e = absurd (omega arith)
+
+row-passed : (a b c : Bool) → _≡_ {A = ℕ} (cond a (cond b (cond c 0 7) 6) 5) 0 → (a ≡ true) × (b ≡ true) × (c ≡ true)
+row-passed true true true e = (refl, refl, refl)
+row-passed true true false e = absurd (omega arith)
+row-passed true false c e = absurd (omega arith)
+row-passed false b c e = absurd (omega arith)
+
+table-passed : (a b c : Bool) → _≡_ {A = ℕ} (cond a 8 (cond b 9 (cond c 10 0))) 0 → (a ≡ false) × (b ≡ false) × (c ≡ false)
+table-passed true b c e = absurd (omega arith)
+table-passed false true c e = absurd (omega arith)
+table-passed false false true e = absurd (omega arith)
+table-passed false false false e = (refl, refl, refl)
+
+module _ {blanks : Bool} {s : List ℕ} (h : Sound blanks s) where
+  limits : limitsFit s ≡ true
+  unfolding headerFault
+  limits = header-passed (leb HEADER (length s)) (versionFits s) (limitsFit s) (lengthFits s) (h .header)
+
+  pub agents-fit : agentsAt s ≤ AGENTS
+  unfolding limitsFit
+  agents-fit = leb-true (agentsAt s) AGENTS (split limits .0)
+
+  pub rows-fit : rowsAt s ≤ ROWS
+  unfolding limitsFit
+  rows-fit = leb-true (rowsAt s) ROWS (split limits .1)
+
+  module _ (i : ℕ) (l : i < rowsAt s) where
+    abbrev r : Row
+    r = rowOf (rowBytes s) i
+
+    -- 5, 6, 7
+    pub row-right : (codesFit (agentsAt s) r ≡ true) × (kindFits r (sourceOf (rowBytes s) i) ≡ true) × (extentFits r ≡ true)
+    unfolding rowFaultAt rowFault
+    row-right = row-passed (codesFit (agentsAt s) r) (kindFits r (sourceOf (rowBytes s) i)) (extentFits r) (h .row i l)
+
+    -- 8, 9, 10
+    pub among-right : (classTaken (tableOf s) i ≡ false) × (sourceBroken blanks (tableOf s) (sourcesOf s) i ≡ false) × (rankTaken (tableOf s) i ≡ false)
+    unfolding tableFault
+    among-right =
+        table-passed (classTaken (tableOf s) i) (sourceBroken blanks (tableOf s) (sourcesOf s) i) (rankTaken (tableOf s) i) (h .among i l)
+
+    -- an access has 1 to LONGEST bytes; a barrier has none
+    pub access-size : access r ≡ true → (1 ≤ r .size) × (r .size ≤ LONGEST)
+    unfolding extentFits
+    access-size a =
+        ⊎-elim (λ n. not-both a (not-out (access r) n))
+        (λ t. (leb-true 1 (r .size) (split (split t .0) .0), leb-true (r .size) LONGEST (split (split t .0) .1)))
+        (or-cases (not (access r)) (leb 1 (r .size) and leb (r .size) LONGEST and leb (r .start + r .size) BYTES) (row-right .2))
+
+    barrier-size : barrier r ≡ true → r .size ≡ 0
+    unfolding kindFits barrierFits
+    barrier-size b =
+        ⊎-elim (λ n. not-both b (not-out (barrier r) n)) (λ t. eqb-true (r .size) 0 (split (split (split t .0) .0) .1)) (or-cases (not (barrier r)) _ (split (split (split (split (row-right .1) .0) .0) .0) .1))
+
+    -- so no row has more than LONGEST bytes
+    pub size-fits : r .size ≤ LONGEST
+    unfolding codesFit access barrier
+    size-fits = ⊎-elim (λ a. access-size a .1) (λ n. other (leb-false (r .kind) RMW n)) (which (leb (r .kind) RMW))
+      where
+        other : RMW < r .kind → r .size ≤ LONGEST
+        other n =
+            let k : r .kind ≤ BARRIER = leb-true (r .kind) BARRIER (split (split (split (split (split (split (row-right .0) .0) .0) .0) .0) .0) .0) in
+            let e : r .size ≡ 0 = barrier-size (eq-eqb (r .kind) BARRIER (omega arith)) in
+            omega arith

@@ -1,0 +1,78 @@
+// M1: the moments of a row, and program order between moments. Moment 3 × row + 0, 1 or 2 is the one before, at or after the row.
+ghost use mathlib.Core.Path.{_≡_};
+ghost use mathlib.Core.List.{List};
+ghost use mathlib.Core.Bool.{Bool, cond};
+ghost use Prim.Native.Nat.{ℕ, _+_, _*_, _/_, _%_, _<_};
+ghost use Rattle.model.specs.Table.{decode};
+ghost use Rattle.model.specs.Moment.{availabilityOf, visibilityOf, momentOf, momentIn, classesOf, orderedRows, moment, programOrder};
+use model::Row;
+
+pub const BEFORE: u8 = 0;
+
+pub const AT: u8 = 1;
+
+pub const AFTER: u8 = 2;
+
+fn pick(b: bool, x: u8, y: u8) -> u8
+    ensures { λ r. ⌜ r ≡ cond b x y ⌝ }
+{
+    if b { x } else { y }
+}
+
+// Whether moment k of r is an availability moment.
+pub fn availability_of(r: Row, k: u8) -> bool
+    ensures { λ b. ⌜ b ≡ availabilityOf r k ⌝ }
+{
+    let at = pick(rows::kinds::is_plain(r), AFTER, BEFORE);
+    rows::kinds::makes_available(r) & !(r.scope == rows::scopes::INVOCATION) & (k == at)
+}
+
+// Whether moment k of r is a visibility moment.
+pub fn visibility_of(r: Row, k: u8) -> bool
+    ensures { λ b. ⌜ b ≡ visibilityOf r k ⌝ }
+{
+    let at = pick(rows::kinds::is_plain(r), BEFORE, AFTER);
+    rows::kinds::makes_visible(r) & !(r.scope == rows::scopes::INVOCATION) & (k == at)
+}
+
+// Whether r has a moment k.
+pub fn moment_of(r: Row, k: u8) -> bool
+    ensures { λ b. ⌜ b ≡ momentOf r k ⌝ }
+{
+    (k == AT) | availability_of(r, k) | visibility_of(r, k)
+}
+
+// The classes of r's availability and visibility moments.
+pub fn classes_of(r: Row) -> u8
+    ensures { λ c. ⌜ c ≡ classesOf r ⌝ }
+{
+    pick(
+        rows::kinds::is_plain(r),
+        rows::kinds::single(r.class),
+        r.classes,
+    )
+}
+
+// Whether m is a moment of its row r, in a table of n rows.
+pub fn moment_in(n: usize, r: Row, m: usize) -> bool
+    ensures { λ b. ⌜ b ≡ momentIn n r m ⌝ }
+{
+    (m / 3 < n) & moment_of(r, (m % 3) as u8)
+}
+
+// Program order of the moments m of r and k of q.
+pub fn is_ordered(n: usize, m: usize, k: usize, r: Row, q: Row) -> bool
+    ensures { λ b. ⌜ b ≡ orderedRows n m k r q ⌝ }
+{
+    (m < k) & (r.agent == q.agent) & moment_in(n, r, m) & moment_in(n, q, k)
+}
+
+// Program order of two moments of a table.
+pub fn ordered_at(rows: &[u8], n: usize, m: usize, k: usize) -> bool
+    requires { ⌜ (m < 196608) × (k < 196608) ⌝ }
+    ensures { λ b. ⌜ ((p : List (List ℕ)) → b ≡ programOrder (decode (now (rows .entry)) p n) m k) ⌝ }
+{
+    let r = rows::bytes::read_row(rows, (m / 3) as u16);
+    let q = rows::bytes::read_row(rows, (k / 3) as u16);
+    is_ordered(n, m, k, r, q)
+}

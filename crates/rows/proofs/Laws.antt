@@ -1,0 +1,38 @@
+-- Laws that the readers' proofs cite. Assumes nothing.
+use mathlib.Core.Path.{_≡_, refl, sym, _∙_}
+use mathlib.Core.List.{List, [], _∷_}
+use Prim.Native.Nat.{ℕ, _≤_, _<_, _+_}
+use native.Mathlib.Nat.{le-of-eq}
+use native.Mathlib.Numerals.{add-one}
+use native.Mathlib.Omega.{arith}
+use lib.ListN.{length, getD, List·getD-eq-default, take, set}
+use lib.Seq.{take-suc-set, take-all}
+use Rattle.finite.specs.Lists.{tabulate}
+use Rattle.model.specs.Table.{pairAt, quadAt}
+
+-- ---- past the end a number is 0
+
+pub pair-past : (s : List ℕ) (k : ℕ) → length s ≤ k → pairAt s k ≡ 0
+unfolding pairAt
+pair-past s k h =
+    let next : length s ≤ k + 1 = omega arith in
+    rw (List·getD-eq-default s 0 h, List·getD-eq-default s 0 next) refl
+
+pub quad-past : (s : List ℕ) (k : ℕ) → length s ≤ k → quadAt s k ≡ 0
+unfolding quadAt
+quad-past s k h = rw (pair-past s k h, pair-past s (k + 2) (omega arith)) refl
+
+-- ---- a loop that stores f i at i, counting up
+
+module _ {A : Type 0} (f : ℕ → A) where
+  pub tab-none : (l : List A) → take 0 l ≡ tabulate f 0
+  unfolding tabulate
+  tab-none [] = refl
+  tab-none (x ∷ l) = refl
+
+  pub tab-more : (l : List A) (i : ℕ) (v : A) → i < length l → take i l ≡ tabulate f i → v ≡ f i → take (i + 1) (set l i v) ≡ tabulate f (i + 1)
+  unfolding tabulate
+  tab-more l i v h e q = rw add-one (take-suc-set l i v h ∙ cc)
+
+  pub tab-all : (l : List A) (i : ℕ) → length l ≡ i → take i l ≡ tabulate f i → l ≡ tabulate f i
+  tab-all l i h e = sym (take-all i l (le-of-eq h)) ∙ e

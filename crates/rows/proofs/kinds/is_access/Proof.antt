@@ -1,0 +1,14 @@
+use mathlib.Core.Path.{refl}
+use Rattle.model.specs.Row.{access}
+use Rattle.rows.proofs.kinds.is_access.Statement.{statement}
+use Rattle.rows.proofs.kinds.is_access.Tie as tie
+use Rattle.rows.proofs.kinds.is_access.Reads as reads
+use Rattle.rows.proofs.kinds.is_access.Lts as lts
+
+-- src/kinds.rt:32:1
+returns : tie.Need-returns
+unfolding access
+returns c = refl
+
+pub is-access-spec : {M : Type 1} → statement M
+is-access-spec = tie.close (tie.spec returns)

@@ -1,0 +1,15 @@
+use Rattle.finite.specs.Logic.{_and_}
+use mathlib.Core.Path.{refl}
+use Rattle.model.specs.Row.{atomic}
+use Rattle.rows.proofs.kinds.is_atomic.Statement.{statement}
+use Rattle.rows.proofs.kinds.is_atomic.Tie as tie
+use Rattle.rows.proofs.kinds.is_atomic.Reads as reads
+use Rattle.rows.proofs.kinds.is_atomic.Lts as lts
+
+-- src/kinds.rt:26:1
+returns : tie.Need-returns
+unfolding atomic _and_
+returns c = refl
+
+pub is-atomic-spec : {M : Type 1} → statement M
+is-atomic-spec = tie.close (tie.spec returns)

@@ -1,0 +1,14 @@
+use mathlib.Core.Path.{refl}
+use Rattle.model.specs.Row.{barrier}
+use Rattle.rows.proofs.kinds.is_barrier.Statement.{statement}
+use Rattle.rows.proofs.kinds.is_barrier.Tie as tie
+use Rattle.rows.proofs.kinds.is_barrier.Reads as reads
+use Rattle.rows.proofs.kinds.is_barrier.Lts as lts
+
+-- src/kinds.rt:38:1
+returns : tie.Need-returns
+unfolding barrier
+returns c = refl
+
+pub is-barrier-spec : {M : Type 1} → statement M
+is-barrier-spec = tie.close (tie.spec returns)

@@ -1,0 +1,99 @@
+// Numbers, rows and sources out of the bytes of a table. Each reader is total: past the end a byte is 0.
+ghost use mathlib.Core.Path.{_≡_};
+ghost use lib.ListN.{getD};
+ghost use Rattle.model.specs.Table.{pairAt, quadAt, agentsAt, rowsAt, byteOf, pairOf, rowOf, sourceOf, atomicSource};
+use crate::kinds;
+use model::Row;
+use model::Source;
+
+pub const HEADER: usize = 8;
+
+pub const PLACE_BYTES: usize = 6;
+
+pub const ROW_BYTES: usize = 16;
+
+pub fn byte_at(s: &[u8], at: usize) -> u8
+    ensures { λ r. ⌜ r ≡ getD (now (s .entry)) at 0 ⌝ }
+{
+    if at < s.len() { s[at] } else { 0 }
+}
+
+// The two bytes at a place, big-endian. Past the end it asks for no next place, which might not be a number.
+pub fn pair_at(s: &[u8], at: usize) -> u16
+    ensures { λ r. ⌜ r ≡ pairAt (now (s .entry)) at ⌝ }
+{
+    if s.len() <= at {
+        return 0;
+    }
+    (byte_at(s, at) as u16) * 256 + (byte_at(s, at + 1) as u16)
+}
+
+pub fn quad_at(s: &[u8], at: usize) -> u32
+    ensures { λ r. ⌜ r ≡ quadAt (now (s .entry)) at ⌝ }
+{
+    if s.len() <= at {
+        return 0;
+    }
+    (pair_at(s, at) as u32) * 65536 + (pair_at(s, at + 2) as u32)
+}
+
+// How many agents the header tells.
+pub fn agents_at(s: &[u8]) -> u8
+    ensures { λ r. ⌜ r ≡ agentsAt (now (s .entry)) ⌝ }
+{
+    byte_at(s, 5)
+}
+
+pub fn rows_at(s: &[u8]) -> u8
+    ensures { λ r. ⌜ r ≡ rowsAt (now (s .entry)) ⌝ }
+{
+    byte_at(s, 6)
+}
+
+// Byte k of row i, in the bytes of the rows alone.
+pub fn row_byte(rows: &[u8], i: u16, k: u8) -> u8
+    ensures { λ r. ⌜ r ≡ byteOf (now (rows .entry)) i k ⌝ }
+{
+    byte_at(rows, (i as usize) * ROW_BYTES + (k as usize))
+}
+
+pub fn row_pair(rows: &[u8], i: u16, k: u8) -> u16
+    ensures { λ r. ⌜ r ≡ pairOf (now (rows .entry)) i k ⌝ }
+{
+    pair_at(rows, (i as usize) * ROW_BYTES + (k as usize))
+}
+
+pub fn read_row(rows: &[u8], i: u16) -> Row
+    ensures { λ r. ⌜ r ≡ rowOf (now (rows .entry)) i ⌝ }
+{
+    Row {
+        kind: row_byte(rows, i, 0),
+        agent: row_byte(rows, i, 1),
+        order: row_byte(rows, i, 2),
+        scope: row_byte(rows, i, 3),
+        classes: row_byte(rows, i, 4),
+        flags: row_byte(rows, i, 5),
+        class: row_byte(rows, i, 6),
+        size: row_byte(rows, i, 7),
+        start: row_pair(rows, i, 8),
+        reference: row_pair(rows, i, 10),
+        rank: row_pair(rows, i, 14),
+    }
+}
+
+pub fn read_source(rows: &[u8], i: u16) -> Source
+    ensures { λ r. ⌜ r .0 ≡ sourceOf (now (rows .entry)) i ⌝ }
+{
+    Source::of_row(row_pair(rows, i, 12))
+}
+
+// An atomic row's source; the initial value for every other row.
+pub fn atomic_source(rows: &[u8], i: u16) -> Source
+    ensures { λ r. ⌜ r .0 ≡ atomicSource (now (rows .entry)) i ⌝ }
+{
+    let r = read_row(rows, i);
+    if kinds::is_atomic(r) {
+        return read_source(rows, i);
+    }
+    Source::INITIAL
+}

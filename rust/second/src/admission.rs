@@ -1,0 +1,232 @@
+//! The refusals, one function for each, and the order they are tested in.
+
+use crate::state::State;
+use crate::table::*;
+use crate::{MAX_AGENTS, MAX_LENGTH, MAX_ROWS};
+
+/// A refusal's number and the row that it names.
+#[derive(Clone, Copy, Debug, PartialEq, Eq)]
+pub(crate) struct Refusal {
+    pub number: u8,
+    pub row: u16,
+}
+
+/// What the table is wanted for: only a fill allows blanks.
+#[derive(Clone, Copy, PartialEq, Eq)]
+pub(crate) enum Purpose {
+    Check,
+    Fill,
+}
+
+/// A refusal's number and the test whether it holds of the table.
+type DoorTest = (u8, fn(&[u8]) -> bool);
+
+/// Refusals 1 to 4, in order; else the counts of agents and rows.
+pub(crate) fn door(table: &[u8]) -> Result<(usize, usize), Refusal> {
+    let tests: [DoorTest; 4] = [
+        (1, refusal_1),
+        (2, refusal_2),
+        (3, refusal_3),
+        (4, refusal_4),
+    ];
+    for (number, holds) in tests {
+        if holds(table) {
+            return Err(Refusal { number, row: 0 });
+        }
+    }
+    Ok((usize::from(table[5]), usize::from(table[6])))
+}
+
+/// Refusal 11: the work area or the other lent buffer is too short.
+pub(crate) fn refusal_11(
+    work_words: usize,
+    least_words: usize,
+    numbers: usize,
+    least_numbers: usize,
+) -> bool {
+    work_words < least_words || numbers < least_numbers
+}
+
+/// Refusal 1: the table is under 8 bytes.
+fn refusal_1(table: &[u8]) -> bool {
+    table.len() < HEADER_BYTES
+}
+
+/// Refusal 2: the version isn't 1, or byte 7 isn't 0.
+fn refusal_2(table: &[u8]) -> bool {
+    table[4] != 1 || table[7] != 0
+}
+
+/// Refusal 3: agents over 16 or rows over 64.
+fn refusal_3(table: &[u8]) -> bool {
+    usize::from(table[5]) > MAX_AGENTS || usize::from(table[6]) > MAX_ROWS
+}
+
+/// Refusal 4: the count, or the lent table's length, doesn't fit the agents
+/// and rows.
+fn refusal_4(table: &[u8]) -> bool {
+    let agents = usize::from(table[5]);
+    let rows = usize::from(table[6]);
+    let following = 4 + AGENT_BYTES * agents + ROW_BYTES * rows;
+    four_bytes(table, 0) as usize != following || table.len() != following + 4
+}
+
+/// Refusal 5: a code is out of range.
+fn refusal_5(row: Row, agent_count: usize) -> bool {
+    row.kind > BARRIER
+        || usize::from(row.agent) >= agent_count
+        || row.order > BOTH
+        || row.scope > DEVICE
+        || row.classes > 15
+        || row.flags > 7
+        || row.class > 3
+}
+
+/// Refusal 6: the kind fit is broken.
+fn refusal_6(row: Row) -> bool {
+    let fits = fits_source(row)
+        && fits_rank(row)
+        && if row.is_plain() {
+            fits_plain(row)
+        } else {
+            fits_semantics(row) && fits_atomic(row) && fits_barrier(row)
+        };
+    !fits
+}
+
+/// Kind fit: rows that don't read have source 65535.
+fn fits_source(row: Row) -> bool {
+    row.reads() || row.source == INITIAL
+}
+
+/// Kind fit: rows other than atomic writes and RMWs have rank 0.
+fn fits_rank(row: Row) -> bool {
+    row.is_atomic_writer() || row.rank == 0
+}
+
+/// Kind fit of plain rows.
+fn fits_plain(row: Row) -> bool {
+    let either_flag = row.makes_available() || row.makes_visible();
+    row.order == RELAXED
+        && row.classes == 0
+        && !(row.kind == PLAIN_READ && row.makes_available())
+        && !(row.kind == PLAIN_WRITE && row.makes_visible())
+        && (!either_flag || row.is_non_private())
+        && (either_flag || row.scope == INVOCATION)
+}
+
+/// Kind fit of atomics and barriers alike.
+fn fits_semantics(row: Row) -> bool {
+    (!row.makes_available() || row.is_release())
+        && (!row.makes_visible() || row.is_acquire())
+        && (row.classes == 0) == (row.order == RELAXED)
+}
+
+/// Kind fit of atomic rows; any other row fits.
+fn fits_atomic(row: Row) -> bool {
+    match row.kind {
+        ATOMIC_READ => row.is_non_private() && matches!(row.order, RELAXED | ACQUIRE),
+        ATOMIC_WRITE => row.is_non_private() && matches!(row.order, RELAXED | RELEASE),
+        ATOMIC_RMW => row.is_non_private(),
+        _ => true,
+    }
+}
+
+/// Kind fit of barriers, bytes 6 to 11 zero among it; any other row fits.
+fn fits_barrier(row: Row) -> bool {
+    !row.is_barrier()
+        || (row.order != RELAXED
+            && !row.is_non_private()
+            && row.class == 0
+            && row.length == 0
+            && row.start == 0
+            && row.reference == 0)
+}
+
+/// Refusal 7: an access of length 0 or over 16, or past byte 65535.
+fn refusal_7(row: Row) -> bool {
+    row.is_access()
+        && (row.length == 0 || usize::from(row.length) > MAX_LENGTH || row.end_byte() > 65536)
+}
+
+impl State {
+    /// Rows ascending, each through refusals 5, 6 and 7.
+    pub(crate) fn refusal_by_row_alone(&self, agent_count: usize) -> Option<Refusal> {
+        for row in 0..self.row_count {
+            let fields = self.rows[row];
+            let number = if refusal_5(fields, agent_count) {
+                5
+            } else if refusal_6(fields) {
+                6
+            } else if refusal_7(fields) {
+                7
+            } else {
+                continue;
+            };
+            let row = row as u16;
+            return Some(Refusal { number, row });
+        }
+        None
+    }
+
+    /// Rows ascending, each through refusals 8, 9 and 10.
+    pub(crate) fn refusal_among_rows(&self, purpose: Purpose) -> Option<Refusal> {
+        for row in 0..self.row_count {
+            let number = if self.refusal_8(row) {
+                8
+            } else if self.refusal_9(row, purpose) {
+                9
+            } else if self.refusal_10(row) {
+                10
+            } else {
+                continue;
+            };
+            let row = row as u16;
+            return Some(Refusal { number, row });
+        }
+        None
+    }
+
+    /// Refusal 8: the access's reference has another class in an earlier access.
+    fn refusal_8(&self, row: usize) -> bool {
+        let access = self.rows[row];
+        access.is_access()
+            && (0..row).any(|earlier| {
+                let earlier = self.rows[earlier];
+                earlier.is_access()
+                    && earlier.reference == access.reference
+                    && earlier.class != access.class
+            })
+    }
+
+    /// Refusal 9: a reading row's source isn't fit.
+    fn refusal_9(&self, row: usize, purpose: Purpose) -> bool {
+        let reader = self.rows[row];
+        let allowed_blank =
+            reader.source == BLANK && purpose == Purpose::Fill && reader.kind == PLAIN_READ;
+        reader.reads() && !allowed_blank && !self.source_fits(row, reader.source)
+    }
+
+    /// Refusal 9's test of a source that is no blank: the initial value, or
+    /// another, writing row that covers all the reader's bytes.
+    pub(crate) fn source_fits(&self, reader: usize, source: u16) -> bool {
+        let row = usize::from(source);
+        source == INITIAL
+            || (row < self.row_count
+                && row != reader
+                && self.rows[row].writes()
+                && self.rows[row].covers_all_bytes_of(self.rows[reader]))
+    }
+
+    /// Refusal 10: an atomic write or RMW has the rank of an earlier one
+    /// mutually-ordered with it.
+    fn refusal_10(&self, row: usize) -> bool {
+        let writer = self.rows[row];
+        writer.is_atomic_writer()
+            && (0..row).any(|earlier| {
+                self.rows[earlier].is_atomic_writer()
+                    && self.rows[earlier].rank == writer.rank
+                    && self.m3_mutually_ordered(earlier, row)
+            })
+    }
+}

@@ -1,0 +1,50 @@
+//! Second, independent race checker for recorded GPU runs.
+//!
+//! It is written to be ticked off against the rules: every numbered rule has
+//! a function of its own, named in its comment, and nothing is made quicker
+//! at the price of looking different from its rule.
+//!
+//! | rules | module |
+//! |---|---|
+//! | the table, kinds, sources | `table` |
+//! | refusals 1 to 11 | `admission` |
+//! | M1, M2 | `moments` |
+//! | M3, M4, M5 | `synchronization` |
+//! | M6, M7 | `happens_before` |
+//! | L1 to L3, conflicts and races | `location` |
+//! | edges, axioms A and B, canonical cycle | `axioms` |
+//! | fillings | `filling` |
+
+mod admission;
+mod answer;
+mod axioms;
+mod filling;
+mod happens_before;
+mod location;
+mod moments;
+mod state;
+mod synchronization;
+mod table;
+
+pub use answer::{CheckAnswer, FillAnswer, List};
+pub use happens_before::{ACQUIRE_STEP, RELEASE_STEP, SYNCHRONIZES_STEP};
+pub use moments::{AFTER, AT, BEFORE};
+pub use state::State;
+pub use table::{BLANK, INITIAL};
+
+/// Most rows of a table.
+pub const MAX_ROWS: usize = 64;
+/// Most agents of a table.
+pub const MAX_AGENTS: usize = 16;
+/// Most moments: before, at and after for each row.
+pub const MAX_MOMENTS: usize = 3 * MAX_ROWS;
+/// Most bytes of one access.
+pub const MAX_LENGTH: usize = 16;
+/// Least length of the lent work area, in 64-bit words.
+pub const WORK_WORDS: usize = 2048;
+/// Least length of the lent cycle buffer, in 16-bit numbers.
+pub const CYCLE_NUMBERS: usize = 128;
+/// Least length of the lent source buffer, in 16-bit numbers.
+pub const SOURCE_NUMBERS: usize = 64;
+/// Most combinations that a fill tries before it gives up.
+pub const MAX_FILLINGS: usize = 100_000;

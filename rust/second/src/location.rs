@@ -1,0 +1,137 @@
+//! L1 to L3: location order; conflicts and races.
+
+use crate::moments::at;
+use crate::state::{row_pair, State};
+use crate::MAX_LENGTH;
+
+impl State {
+    /// Whether a row of the last admitted table is ordered before another at
+    /// a byte of both.
+    pub fn location_order(&self, first: usize, second: usize, byte: u32) -> bool {
+        first < self.row_count
+            && second < self.row_count
+            && self.rows[first].has_byte(byte)
+            && self.rows[second].has_byte(byte)
+            && self.location_order[self.location_place(first, second, byte)]
+    }
+
+    /// The byte must be one of the first row's.
+    fn location_place(&self, first: usize, second: usize, byte: u32) -> usize {
+        let offset = byte - self.rows[first].first_byte();
+        row_pair(first, second) * MAX_LENGTH + offset as usize
+    }
+
+    pub(crate) fn relate_location_order(&mut self) {
+        for first in 0..self.row_count {
+            for second in 0..self.row_count {
+                for byte in self.rows[first].first_byte()..self.rows[first].end_byte() {
+                    self.location_order[self.location_place(first, second, byte)] =
+                        self.ordered_at(first, second, byte);
+                }
+            }
+        }
+    }
+
+    /// Location order at a byte: L1, L2 or L3 of different accesses that both
+    /// have it.
+    fn ordered_at(&self, x: usize, y: usize, byte: u32) -> bool {
+        x != y
+            && self.rows[x].has_byte(byte)
+            && self.rows[y].has_byte(byte)
+            && (self.l1(x, y) || self.l2(x, y) || self.l3(x, y, byte))
+    }
+
+    /// L1: agent and reference agree, and X happens-before Y.
+    fn l1(&self, x: usize, y: usize) -> bool {
+        self.rows[x].agent == self.rows[y].agent
+            && self.rows[x].reference == self.rows[y].reference
+            && self.happens_before(at(x), at(y))
+    }
+
+    /// L2: X reads and doesn't write, both are non-private, and X
+    /// happens-before Y.
+    fn l2(&self, x: usize, y: usize) -> bool {
+        self.rows[x].reads()
+            && !self.rows[x].writes()
+            && self.rows[x].is_non_private()
+            && self.rows[y].is_non_private()
+            && self.happens_before(at(x), at(y))
+    }
+
+    /// L3: X writes, and an availability moment after it leads to Y, or to a
+    /// visibility moment before Y if Y reads. An RMW writes as X and reads as
+    /// Y, so it is held to the harder rule on each side.
+    fn l3(&self, x: usize, y: usize, byte: u32) -> bool {
+        self.rows[x].writes()
+            && self.rows[x].is_non_private()
+            && self.rows[y].is_non_private()
+            && self.rows[x].reference == self.rows[y].reference
+            && (0..self.moment_count()).any(|available| {
+                self.l3_availability(available, x, y, byte)
+                    && if self.rows[y].reads() {
+                        self.l3_reaches_visibility(available, x, y, byte)
+                    } else {
+                        self.happens_before(available, at(y))
+                    }
+            })
+    }
+
+    /// L3: an availability moment of X's agent, covering X's reference and
+    /// the byte, program-ordered after X, its scope shared by the agents.
+    fn l3_availability(&self, moment: usize, x: usize, y: usize, byte: u32) -> bool {
+        self.is_availability_moment(moment)
+            && self.program_order(at(x), moment)
+            && self.moment_covers(moment, self.rows[x], byte)
+            && self.shares_moments_scope(moment, x, y)
+    }
+
+    /// L3: the availability moment happens-before a visibility moment of Y's
+    /// agent, covering Y's reference and the byte, program-ordered before Y,
+    /// its scope shared by the agents.
+    fn l3_reaches_visibility(&self, available: usize, x: usize, y: usize, byte: u32) -> bool {
+        (0..self.moment_count()).any(|visible| {
+            self.is_visibility_moment(visible)
+                && self.program_order(visible, at(y))
+                && self.moment_covers(visible, self.rows[y], byte)
+                && self.shares_moments_scope(visible, x, y)
+                && self.happens_before(available, visible)
+        })
+    }
+
+    fn shares_moments_scope(&self, moment: usize, x: usize, y: usize) -> bool {
+        let scope = self.row_at(moment).scope;
+        self.m2_share(self.rows[x].agent, self.rows[y].agent, scope)
+    }
+
+    /// Two rows conflict if they share a byte and one writes.
+    pub(crate) fn conflict(&self, first: usize, second: usize) -> bool {
+        let (x, y) = (self.rows[first], self.rows[second]);
+        x.shares_a_byte_with(y) && (x.writes() || y.writes())
+    }
+
+    /// The lowest shared byte at which two conflicting rows race: they aren't
+    /// mutually-ordered, and it has no location order either way.
+    fn race_byte(&self, first: usize, second: usize) -> Option<u32> {
+        if !self.conflict(first, second) || self.mutually_ordered(first, second) {
+            return None;
+        }
+        let row = self.rows[first];
+        (row.first_byte()..row.end_byte()).find(|byte| {
+            self.rows[second].has_byte(*byte)
+                && !self.location_order(first, second, *byte)
+                && !self.location_order(second, first, *byte)
+        })
+    }
+
+    /// The first racing pair, by lower row and then higher, with its byte.
+    pub(crate) fn first_race(&self) -> Option<(u16, u16, u16)> {
+        for first in 0..self.row_count {
+            for second in first + 1..self.row_count {
+                if let Some(byte) = self.race_byte(first, second) {
+                    return Some((first as u16, second as u16, byte as u16));
+                }
+            }
+        }
+        None
+    }
+}

@@ -1,0 +1,174 @@
+//! The table's bytes taken apart into agents and rows.
+
+/// Source number for the initial value.
+pub const INITIAL: u16 = 65535;
+/// Source number for a blank.
+pub const BLANK: u16 = 65534;
+
+pub(crate) const HEADER_BYTES: usize = 8;
+pub(crate) const AGENT_BYTES: usize = 6;
+pub(crate) const ROW_BYTES: usize = 16;
+
+pub(crate) const PLAIN_READ: u8 = 0;
+pub(crate) const PLAIN_WRITE: u8 = 1;
+pub(crate) const ATOMIC_READ: u8 = 2;
+pub(crate) const ATOMIC_WRITE: u8 = 3;
+pub(crate) const ATOMIC_RMW: u8 = 4;
+pub(crate) const BARRIER: u8 = 5;
+
+pub(crate) const RELAXED: u8 = 0;
+pub(crate) const ACQUIRE: u8 = 1;
+pub(crate) const RELEASE: u8 = 2;
+pub(crate) const BOTH: u8 = 3;
+
+pub(crate) const INVOCATION: u8 = 0;
+pub(crate) const SUBGROUP: u8 = 1;
+pub(crate) const WORKGROUP: u8 = 2;
+pub(crate) const FAMILY: u8 = 3;
+pub(crate) const DEVICE: u8 = 4;
+
+const NON_PRIVATE: u8 = 1;
+const MAKE_AVAILABLE: u8 = 2;
+const MAKE_VISIBLE: u8 = 4;
+
+/// One row, field by field in the table's order.
+#[derive(Clone, Copy, Default)]
+pub(crate) struct Row {
+    pub kind: u8,
+    pub agent: u8,
+    pub order: u8,
+    pub scope: u8,
+    pub classes: u8,
+    pub flags: u8,
+    pub class: u8,
+    pub length: u8,
+    pub start: u16,
+    pub reference: u16,
+    pub source: u16,
+    pub rank: u16,
+}
+
+impl Row {
+    pub fn from_bytes(bytes: &[u8]) -> Row {
+        Row {
+            kind: bytes[0],
+            agent: bytes[1],
+            order: bytes[2],
+            scope: bytes[3],
+            classes: bytes[4],
+            flags: bytes[5],
+            class: bytes[6],
+            length: bytes[7],
+            start: two_bytes(bytes, 8),
+            reference: two_bytes(bytes, 10),
+            source: two_bytes(bytes, 12),
+            rank: two_bytes(bytes, 14),
+        }
+    }
+
+    pub fn is_plain(self) -> bool {
+        matches!(self.kind, PLAIN_READ | PLAIN_WRITE)
+    }
+
+    pub fn is_atomic(self) -> bool {
+        matches!(self.kind, ATOMIC_READ | ATOMIC_WRITE | ATOMIC_RMW)
+    }
+
+    pub fn is_barrier(self) -> bool {
+        self.kind == BARRIER
+    }
+
+    pub fn is_access(self) -> bool {
+        self.is_plain() || self.is_atomic()
+    }
+
+    pub fn reads(self) -> bool {
+        matches!(self.kind, PLAIN_READ | ATOMIC_READ | ATOMIC_RMW)
+    }
+
+    pub fn writes(self) -> bool {
+        matches!(self.kind, PLAIN_WRITE | ATOMIC_WRITE | ATOMIC_RMW)
+    }
+
+    pub fn is_atomic_writer(self) -> bool {
+        self.is_atomic() && self.writes()
+    }
+
+    pub fn is_atomic_reader(self) -> bool {
+        self.is_atomic() && self.reads()
+    }
+
+    pub fn is_acquire(self) -> bool {
+        matches!(self.order, ACQUIRE | BOTH)
+    }
+
+    pub fn is_release(self) -> bool {
+        matches!(self.order, RELEASE | BOTH)
+    }
+
+    pub fn is_non_private(self) -> bool {
+        self.flags & NON_PRIVATE != 0
+    }
+
+    pub fn makes_available(self) -> bool {
+        self.flags & MAKE_AVAILABLE != 0
+    }
+
+    pub fn makes_visible(self) -> bool {
+        self.flags & MAKE_VISIBLE != 0
+    }
+
+    /// The accessed class as a set of one.
+    pub fn class_bit(self) -> u8 {
+        1 << self.class
+    }
+
+    /// Whether the semantics classes contain the whole set.
+    pub fn holds_all(self, set: u8) -> bool {
+        self.classes & set == set
+    }
+
+    pub fn first_byte(self) -> u32 {
+        u32::from(self.start)
+    }
+
+    /// The first byte that the row no longer covers.
+    pub fn end_byte(self) -> u32 {
+        u32::from(self.start) + u32::from(self.length)
+    }
+
+    pub fn has_byte(self, byte: u32) -> bool {
+        self.first_byte() <= byte && byte < self.end_byte()
+    }
+
+    pub fn covers_all_bytes_of(self, other: Row) -> bool {
+        self.first_byte() <= other.first_byte() && other.end_byte() <= self.end_byte()
+    }
+
+    pub fn shares_a_byte_with(self, other: Row) -> bool {
+        (self.first_byte()..self.end_byte()).any(|byte| other.has_byte(byte))
+    }
+}
+
+pub(crate) fn two_bytes(bytes: &[u8], at: usize) -> u16 {
+    u16::from_be_bytes([bytes[at], bytes[at + 1]])
+}
+
+pub(crate) fn four_bytes(bytes: &[u8], at: usize) -> u32 {
+    u32::from_be_bytes([bytes[at], bytes[at + 1], bytes[at + 2], bytes[at + 3]])
+}
+
+/// Family, workgroup and subgroup numbers of an agent.
+pub(crate) fn agent_places(table: &[u8], agent: usize) -> [u16; 3] {
+    let at = HEADER_BYTES + AGENT_BYTES * agent;
+    [
+        two_bytes(table, at),
+        two_bytes(table, at + 2),
+        two_bytes(table, at + 4),
+    ]
+}
+
+pub(crate) fn row_of(table: &[u8], agent_count: usize, row: usize) -> Row {
+    let at = HEADER_BYTES + AGENT_BYTES * agent_count + ROW_BYTES * row;
+    Row::from_bytes(&table[at..at + ROW_BYTES])
+}

@@ -1,0 +1,235 @@
+//! Generated tables: what must hold of every answer, and that the generators
+//! reach every kind of answer often enough to be worth running.
+
+mod common;
+
+use second::{CheckAnswer, FillAnswer, State, CYCLE_NUMBERS, SOURCE_NUMBERS, WORK_WORDS};
+use std::collections::{BTreeMap, BTreeSet};
+use tables::builder::kind;
+use tables::{checkable, damaged, fillable, Random, Size, Table, BLANK};
+
+const SMALL: Size = Size { least: 4, most: 12 };
+const MIDDLE: Size = Size {
+    least: 16,
+    most: 24,
+};
+
+fn check(state: &mut State, table: &[u8]) -> CheckAnswer {
+    state.check(table, WORK_WORDS, CYCLE_NUMBERS)
+}
+
+fn fill(state: &mut State, table: &[u8]) -> FillAnswer {
+    state.fill(table, WORK_WORDS, SOURCE_NUMBERS)
+}
+
+/// Counts answers by their first word.
+#[derive(Default)]
+struct Shares {
+    counts: BTreeMap<String, usize>,
+    total: usize,
+}
+
+impl Shares {
+    fn count(&mut self, answer: &str) {
+        let word = answer.split(' ').next().unwrap().to_string();
+        *self.counts.entry(word).or_default() += 1;
+        self.total += 1;
+    }
+
+    fn percent(&self, word: &str) -> usize {
+        100 * self.counts.get(word).copied().unwrap_or(0) / self.total
+    }
+}
+
+#[test]
+fn equal_seeds_give_equal_tables() {
+    let tables = |seed: u64| -> Vec<Table> {
+        let mut random = Random::new(seed);
+        (0..20).map(|_| checkable(&mut random, SMALL)).collect()
+    };
+    assert_eq!(tables(5), tables(5));
+    assert_ne!(tables(5), tables(6));
+}
+
+#[test]
+fn each_verdict_of_a_check_has_a_tenth() {
+    for size in [SMALL, MIDDLE] {
+        let mut random = Random::new(1);
+        let mut state = State::new();
+        let mut shares = Shares::default();
+        for _ in 0..400 {
+            let table = checkable(&mut random, size);
+            assert!((size.least..=size.most).contains(&table.rows.len()));
+            shares.count(&check(&mut state, &table.bytes()).to_string());
+        }
+        for word in ["race-free", "race", "cycle", "overwritten"] {
+            assert!(shares.percent(word) >= 10, "{word} {:?}", shares.counts);
+        }
+        assert_eq!(shares.percent("refused"), 0);
+    }
+}
+
+#[test]
+fn each_answer_of_a_fill_has_a_tenth() {
+    for size in [SMALL, MIDDLE] {
+        let mut random = Random::new(2);
+        let mut state = State::new();
+        let mut shares = Shares::default();
+        for _ in 0..400 {
+            let table = fillable(&mut random, size);
+            shares.count(&fill(&mut state, &table.bytes()).to_string());
+        }
+        for word in ["filled", "none", "race"] {
+            assert!(shares.percent(word) >= 10, "{word} {:?}", shares.counts);
+        }
+        assert_eq!(shares.percent("refused") + shares.percent("error"), 0);
+    }
+}
+
+#[test]
+fn damage_reaches_every_refusal_at_various_rows() {
+    let mut random = Random::new(3);
+    let mut state = State::new();
+    let mut rows: BTreeMap<u8, BTreeSet<u16>> = BTreeMap::new();
+    for _ in 0..3000 {
+        let table = damaged(&mut random, SMALL);
+        if let CheckAnswer::Refused { number, row } = check(&mut state, &table) {
+            rows.entry(number).or_default().insert(row);
+        }
+    }
+    for number in 1..=10 {
+        let distinct = rows.get(&number).map_or(0, BTreeSet::len);
+        let wanted = if number < 5 { 1 } else { 5 };
+        assert!(distinct >= wanted, "refusal {number}: {distinct} rows");
+    }
+}
+
+#[test]
+fn generated_tables_reach_the_rules() {
+    let mut random = Random::new(4);
+    let mut state = State::new();
+    let mut synchronized = BTreeMap::new();
+    let (mut kinds, mut scopes, mut class_sets) =
+        (BTreeSet::new(), BTreeSet::new(), BTreeSet::new());
+    let mut equal_ranks = 0;
+    for _ in 0..600 {
+        let table = checkable(&mut random, MIDDLE);
+        check(&mut state, &table.bytes());
+        for (a, x) in table.rows.iter().enumerate() {
+            kinds.insert((x.kind, x.order, x.flags));
+            scopes.insert((x.kind, x.scope));
+            class_sets.insert(x.classes);
+            for (b, y) in table.rows.iter().enumerate() {
+                if state.synchronizes_with(a, b) {
+                    let barriers = (x.kind == kind::BARRIER, y.kind == kind::BARRIER);
+                    *synchronized.entry(barriers).or_insert(0) += 1;
+                }
+                let same_place =
+                    (x.start, x.length, x.reference) == (y.start, y.length, y.reference);
+                let writers = x.is_atomic_writer() && y.is_atomic_writer();
+                equal_ranks += usize::from(a < b && writers && same_place && x.rank == y.rank);
+            }
+        }
+    }
+    assert!(synchronized.len() == 4 && synchronized.values().all(|count| *count > 50));
+    assert_eq!(class_sets.len(), 16);
+    // Plain rows have 6 sorts, atomic reads and writes 3, RMWs 1 + 2 + 2 + 4,
+    // barriers 2 + 2 + 4.
+    assert_eq!(kinds.len(), 6 + 3 + 3 + 9 + 8);
+    // Every kind in every scope.
+    assert_eq!(scopes.len(), 6 * 5);
+    assert!(equal_ranks > 20);
+}
+
+#[test]
+fn check_and_fill_agree() {
+    let mut random = Random::new(5);
+    let mut state = State::new();
+    for _ in 0..1500 {
+        let mut table = fillable(&mut random, SMALL);
+        let has_blanks = table.rows.iter().any(|row| row.source == BLANK);
+        match fill(&mut state, &table.bytes()) {
+            FillAnswer::Filled(sources) => {
+                assert_eq!(state.fillings_found(), 1);
+                for (row, source) in table.rows.iter_mut().zip(sources.as_slice()) {
+                    assert!(row.source == *source || row.source == BLANK);
+                    row.source = *source;
+                }
+                assert_eq!(check(&mut state, &table.bytes()), CheckAnswer::RaceFree);
+            }
+            FillAnswer::None if !has_blanks => {
+                let answer = check(&mut state, &table.bytes());
+                assert!(matches!(
+                    answer,
+                    CheckAnswer::Cycle { .. } | CheckAnswer::Overwritten { .. }
+                ));
+            }
+            FillAnswer::None => assert_eq!(state.fillings_found(), 0),
+            FillAnswer::Race { .. } => {
+                for row in &mut table.rows {
+                    if row.source == BLANK {
+                        row.source = second::INITIAL;
+                    }
+                }
+                let answer = check(&mut state, &table.bytes());
+                assert!(!matches!(
+                    answer,
+                    CheckAnswer::RaceFree | CheckAnswer::Refused { .. }
+                ));
+            }
+            answer => panic!("{answer:?}"),
+        }
+    }
+}
+
+/// All cycles through a row that visit no lower row, each row at most once.
+fn cycles(state: &State, path: &mut Vec<u16>, found: &mut Vec<Vec<u16>>) {
+    let (first, last) = (path[0], path[path.len() - 1]);
+    if state.edge_number(usize::from(last), usize::from(first)) != 0 {
+        found.push(path.clone());
+    }
+    for next in first + 1..state.row_count() as u16 {
+        let is_step = state.edge_number(usize::from(last), usize::from(next)) != 0;
+        if is_step && !path.contains(&next) {
+            path.push(next);
+            cycles(state, path, found);
+            path.pop();
+        }
+    }
+}
+
+#[test]
+fn cycles_are_canonical() {
+    let mut random = Random::new(6);
+    let mut state = State::new();
+    let size = Size { least: 3, most: 8 };
+    let mut lengths = BTreeSet::new();
+    for _ in 0..3000 {
+        let table = checkable(&mut random, size);
+        let answer = check(&mut state, &table.bytes());
+        // The lowest row on any cycle is on one that visits no lower row.
+        let expected = (0..state.row_count() as u16).find_map(|first| {
+            let mut found = Vec::new();
+            cycles(&state, &mut vec![first], &mut found);
+            found
+                .into_iter()
+                .min_by_key(|rows| (rows.len(), rows.clone()))
+        });
+        let Some(expected) = expected else {
+            assert!(!matches!(answer, CheckAnswer::Cycle { .. }));
+            continue;
+        };
+        let CheckAnswer::Cycle { rows, edges } = answer else {
+            panic!("cycle {expected:?} missed: {answer:?}");
+        };
+        assert_eq!(rows.as_slice(), expected);
+        assert_eq!(edges.as_slice().len(), expected.len());
+        for (place, edge) in edges.as_slice().iter().enumerate() {
+            let next = expected[(place + 1) % expected.len()];
+            let number = state.edge_number(usize::from(expected[place]), usize::from(next));
+            assert_eq!(u16::from(number), *edge);
+        }
+        lengths.insert(expected.len());
+    }
+    assert!(lengths.len() >= 2, "{lengths:?}");
+}

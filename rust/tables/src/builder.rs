@@ -1,0 +1,290 @@
+//! Table builder: rows and agents by name, bytes and hex out of them.
+
+/// Source number for the initial value.
+pub const INITIAL: u16 = 65535;
+/// Source number for a blank.
+pub const BLANK: u16 = 65534;
+
+/// Kinds of rows.
+pub mod kind {
+    pub const PLAIN_READ: u8 = 0;
+    pub const PLAIN_WRITE: u8 = 1;
+    pub const ATOMIC_READ: u8 = 2;
+    pub const ATOMIC_WRITE: u8 = 3;
+    pub const RMW: u8 = 4;
+    pub const BARRIER: u8 = 5;
+}
+
+/// Memory orders.
+pub mod order {
+    pub const RELAXED: u8 = 0;
+    pub const ACQUIRE: u8 = 1;
+    pub const RELEASE: u8 = 2;
+    pub const BOTH: u8 = 3;
+}
+
+/// Scopes.
+pub mod scope {
+    pub const INVOCATION: u8 = 0;
+    pub const SUBGROUP: u8 = 1;
+    pub const WORKGROUP: u8 = 2;
+    pub const FAMILY: u8 = 3;
+    pub const DEVICE: u8 = 4;
+}
+
+/// Sets of semantics classes, to be added up.
+pub mod classes {
+    pub const UNIFORM: u8 = 1;
+    pub const WORKGROUP: u8 = 2;
+    pub const IMAGE: u8 = 4;
+    pub const OUTPUT: u8 = 8;
+}
+
+/// Flags, to be added up.
+pub mod flags {
+    pub const NON_PRIVATE: u8 = 1;
+    pub const MAKE_AVAILABLE: u8 = 2;
+    pub const MAKE_VISIBLE: u8 = 4;
+}
+
+/// One row, field by field in the table's order.
+#[derive(Clone, Copy, Debug, PartialEq, Eq)]
+pub struct Row {
+    pub kind: u8,
+    pub agent: u8,
+    pub order: u8,
+    pub scope: u8,
+    pub classes: u8,
+    pub flags: u8,
+    pub class: u8,
+    pub length: u8,
+    pub start: u16,
+    pub reference: u16,
+    pub source: u16,
+    pub rank: u16,
+}
+
+impl Row {
+    /// An access of four bytes at byte 0 by reference 1 of class Uniform;
+    /// non-private, without order, flags or rank.
+    fn access(kind: u8, agent: u8) -> Row {
+        Row {
+            kind,
+            agent,
+            order: order::RELAXED,
+            scope: scope::INVOCATION,
+            classes: 0,
+            flags: flags::NON_PRIVATE,
+            class: 0,
+            length: 4,
+            start: 0,
+            reference: 1,
+            source: INITIAL,
+            rank: 0,
+        }
+    }
+
+    pub fn read(agent: u8, source: u16) -> Row {
+        Row {
+            source,
+            ..Row::access(kind::PLAIN_READ, agent)
+        }
+    }
+
+    pub fn write(agent: u8) -> Row {
+        Row::access(kind::PLAIN_WRITE, agent)
+    }
+
+    /// A relaxed atomic read in device scope.
+    pub fn atomic_read(agent: u8, source: u16) -> Row {
+        Row {
+            source,
+            scope: scope::DEVICE,
+            ..Row::access(kind::ATOMIC_READ, agent)
+        }
+    }
+
+    /// A relaxed atomic write in device scope.
+    pub fn atomic_write(agent: u8, rank: u16) -> Row {
+        Row {
+            rank,
+            scope: scope::DEVICE,
+            ..Row::access(kind::ATOMIC_WRITE, agent)
+        }
+    }
+
+    /// A relaxed read-modify-write in device scope.
+    pub fn rmw(agent: u8, source: u16, rank: u16) -> Row {
+        Row {
+            source,
+            rank,
+            scope: scope::DEVICE,
+            ..Row::access(kind::RMW, agent)
+        }
+    }
+
+    /// A barrier in device scope.
+    pub fn barrier(agent: u8, order: u8, classes: u8) -> Row {
+        Row {
+            order,
+            classes,
+            scope: scope::DEVICE,
+            flags: 0,
+            length: 0,
+            reference: 0,
+            ..Row::access(kind::BARRIER, agent)
+        }
+    }
+
+    pub fn bytes(self, start: u16, length: u8) -> Row {
+        Row {
+            start,
+            length,
+            ..self
+        }
+    }
+
+    pub fn reference(self, reference: u16) -> Row {
+        Row { reference, ..self }
+    }
+
+    pub fn class(self, class: u8) -> Row {
+        Row { class, ..self }
+    }
+
+    pub fn scope(self, scope: u8) -> Row {
+        Row { scope, ..self }
+    }
+
+    pub fn private(self) -> Row {
+        Row {
+            flags: self.flags & !flags::NON_PRIVATE,
+            ..self
+        }
+    }
+
+    pub fn make_available(self) -> Row {
+        Row {
+            flags: self.flags | flags::MAKE_AVAILABLE,
+            ..self
+        }
+    }
+
+    pub fn make_visible(self) -> Row {
+        Row {
+            flags: self.flags | flags::MAKE_VISIBLE,
+            ..self
+        }
+    }
+
+    pub fn order(self, order: u8, classes: u8) -> Row {
+        Row {
+            order,
+            classes,
+            ..self
+        }
+    }
+
+    pub fn release(self, classes: u8) -> Row {
+        self.order(order::RELEASE, classes)
+    }
+
+    pub fn acquire(self, classes: u8) -> Row {
+        self.order(order::ACQUIRE, classes)
+    }
+
+    pub fn is_access(self) -> bool {
+        self.kind < kind::BARRIER
+    }
+
+    pub fn is_plain(self) -> bool {
+        self.kind < kind::ATOMIC_READ
+    }
+
+    pub fn reads(self) -> bool {
+        matches!(self.kind, kind::PLAIN_READ | kind::ATOMIC_READ | kind::RMW)
+    }
+
+    pub fn writes(self) -> bool {
+        matches!(
+            self.kind,
+            kind::PLAIN_WRITE | kind::ATOMIC_WRITE | kind::RMW
+        )
+    }
+
+    pub fn is_atomic_writer(self) -> bool {
+        matches!(self.kind, kind::ATOMIC_WRITE | kind::RMW)
+    }
+
+    /// The first byte that the row no longer covers.
+    pub fn end(self) -> u32 {
+        u32::from(self.start) + u32::from(self.length)
+    }
+
+    pub fn covers(self, other: Row) -> bool {
+        self.start <= other.start && other.end() <= self.end()
+    }
+
+    pub fn overlaps(self, other: Row) -> bool {
+        u32::from(self.start) < other.end() && u32::from(other.start) < self.end()
+    }
+
+    fn push_bytes(self, bytes: &mut Vec<u8>) {
+        bytes.extend([self.kind, self.agent, self.order, self.scope]);
+        bytes.extend([self.classes, self.flags, self.class, self.length]);
+        for number in [self.start, self.reference, self.source, self.rank] {
+            bytes.extend(number.to_be_bytes());
+        }
+    }
+}
+
+/// A table: the agents' place numbers, then the rows.
+#[derive(Clone, Debug, Default, PartialEq, Eq)]
+pub struct Table {
+    pub agents: Vec<[u16; 3]>,
+    pub rows: Vec<Row>,
+}
+
+impl Table {
+    pub fn new(agents: &[[u16; 3]], rows: &[Row]) -> Table {
+        Table {
+            agents: agents.to_vec(),
+            rows: rows.to_vec(),
+        }
+    }
+
+    /// Agents of one family and workgroup, each in a subgroup of its own.
+    pub fn of_one_workgroup(agent_count: u16, rows: &[Row]) -> Table {
+        let agents: Vec<[u16; 3]> = (0..agent_count).map(|agent| [0, 0, agent]).collect();
+        Table::new(&agents, rows)
+    }
+
+    /// Puts a row in; sources at or past its place move on by one.
+    pub fn insert(&mut self, place: usize, row: Row) {
+        for moved in &mut self.rows {
+            let is_row = usize::from(moved.source) < usize::from(BLANK);
+            if is_row && usize::from(moved.source) >= place {
+                moved.source += 1;
+            }
+        }
+        self.rows.insert(place, row);
+    }
+
+    pub fn bytes(&self) -> Vec<u8> {
+        let following = 4 + 6 * self.agents.len() + 16 * self.rows.len();
+        let mut bytes = (following as u32).to_be_bytes().to_vec();
+        bytes.extend([1, self.agents.len() as u8, self.rows.len() as u8, 0]);
+        for number in self.agents.iter().flatten() {
+            bytes.extend(number.to_be_bytes());
+        }
+        for row in &self.rows {
+            row.push_bytes(&mut bytes);
+        }
+        bytes
+    }
+}
+
+/// Bytes as hex digits.
+pub fn hex(bytes: &[u8]) -> String {
+    bytes.iter().map(|byte| format!("{byte:02X}")).collect()
+}

@@ -1,0 +1,226 @@
+//! Damage to good tables, so that every refusal is reached at various rows.
+
+use crate::builder::{flags, kind, order, Row, Table, BLANK, INITIAL};
+use crate::generator::{checkable, Size};
+use crate::mutation::{in_one_order, rows_that};
+use crate::random::Random;
+
+/// Bytes of a good table with one damage, or with two now and then.
+pub fn damaged(random: &mut Random, size: Size) -> Vec<u8> {
+    let mut table = checkable(random, size);
+    let number = random.between(1, 10);
+    let second = random.between(5, 10);
+    // The higher number first: its damage needs rows that are good so far.
+    if random.percent(25) {
+        damage_table(random, &mut table, number.max(second));
+        damage_table(random, &mut table, number.min(second));
+    } else {
+        damage_table(random, &mut table, number);
+    }
+    let mut bytes = table.bytes();
+    damage_bytes(random, &mut bytes, number);
+    bytes
+}
+
+/// Damage for refusals 1 to 4, and any byte now and then.
+fn damage_bytes(random: &mut Random, bytes: &mut Vec<u8>, number: usize) {
+    match number {
+        1 => bytes.truncate(random.below(8)),
+        2 if random.percent(50) => bytes[4] = random.pick(&[0, 2, 255]),
+        2 => bytes[7] = random.pick(&[1, 128, 255]),
+        3 if random.percent(50) => bytes[5] = random.between(17, 255) as u8,
+        3 => bytes[6] = random.between(65, 255) as u8,
+        4 => damage_length(random, bytes),
+        _ if random.percent(10) => {
+            let place = random.below(bytes.len());
+            bytes[place] ^= 1 << random.below(8);
+        }
+        _ => (),
+    }
+}
+
+fn damage_length(random: &mut Random, bytes: &mut Vec<u8>) {
+    match random.below(5) {
+        0 => bytes[random.below(4)] ^= 1 << random.below(8),
+        1 => bytes.push(0),
+        2 => bytes.truncate((bytes.len() - 1).max(8)),
+        3 => bytes.truncate(random.between(8, bytes.len())),
+        _ => bytes[6] = random.below(65) as u8,
+    }
+}
+
+/// Damage for refusals 5 to 10; a table with no row to damage stays good.
+fn damage_table(random: &mut Random, table: &mut Table, number: usize) {
+    match number {
+        5 => damage_row(random, table, |_| true, damage_code),
+        6 => damage_row(random, table, |_| true, damage_kind_fit),
+        7 => damage_row(random, table, Row::is_access, damage_bytes_of_row),
+        8 => damage_class(random, table),
+        9 => damage_source(random, table),
+        10 => damage_rank(random, table),
+        _ => (),
+    }
+}
+
+fn damage_row(
+    random: &mut Random,
+    table: &mut Table,
+    test: impl Fn(Row) -> bool,
+    damage: impl Fn(&mut Random, &mut Row),
+) {
+    let rows = rows_that(table, test);
+    if !rows.is_empty() {
+        let row = random.pick(&rows);
+        damage(random, &mut table.rows[row]);
+    }
+}
+
+fn damage_code(random: &mut Random, row: &mut Row) {
+    match random.below(7) {
+        0 => row.kind = random.pick(&[6, 7, 255]),
+        1 => row.agent = random.pick(&[16, 17, 255]),
+        2 => row.order = random.pick(&[4, 5, 255]),
+        3 => row.scope = random.pick(&[5, 6, 255]),
+        4 => row.classes = random.pick(&[16, 17, 255]),
+        5 => row.flags = random.pick(&[8, 9, 255]),
+        _ => row.class = random.pick(&[4, 5, 255]),
+    }
+}
+
+fn damage_kind_fit(random: &mut Random, row: &mut Row) {
+    match row.kind {
+        kind::PLAIN_READ | kind::PLAIN_WRITE => damage_plain(random, row),
+        kind::BARRIER => damage_barrier(random, row),
+        _ => damage_atomic(random, row),
+    }
+}
+
+fn damage_plain(random: &mut Random, row: &mut Row) {
+    match random.below(7) {
+        0 => row.order = random.between(1, 3) as u8,
+        1 => row.classes = random.between(1, 15) as u8,
+        2 => row.flags |= flags::MAKE_AVAILABLE | flags::MAKE_VISIBLE,
+        3 => row.flags = random.pick(&[flags::MAKE_AVAILABLE, flags::MAKE_VISIBLE]),
+        4 => {
+            row.flags &= flags::NON_PRIVATE;
+            row.scope = random.between(1, 4) as u8;
+        }
+        5 => row.rank = 1,
+        _ if row.kind == kind::PLAIN_WRITE => row.source = random.pick(&[0, BLANK]),
+        _ => row.rank = 65535,
+    }
+}
+
+fn damage_atomic(random: &mut Random, row: &mut Row) {
+    match random.below(6) {
+        0 => row.flags &= !flags::NON_PRIVATE,
+        1 => (row.order, row.classes) = (order::RELAXED, 1),
+        2 => (row.order, row.classes) = (row.order.max(1), 0),
+        3 if row.kind != kind::RMW => row.order = order::BOTH,
+        4 if row.kind == kind::ATOMIC_READ => row.rank = 1,
+        4 if row.kind == kind::ATOMIC_WRITE => row.source = random.pick(&[0, BLANK]),
+        _ => {
+            (row.order, row.classes) = (order::RELAXED, 0);
+            row.flags |= random.pick(&[flags::MAKE_AVAILABLE, flags::MAKE_VISIBLE]);
+        }
+    }
+}
+
+fn damage_barrier(random: &mut Random, row: &mut Row) {
+    match random.below(9) {
+        0 => row.order = order::RELAXED,
+        1 => row.flags |= flags::NON_PRIVATE,
+        2 => row.class = 1,
+        3 => row.length = 4,
+        4 => row.start = random.pick(&[1, 256]),
+        5 => row.reference = random.pick(&[1, 256]),
+        6 => row.source = random.pick(&[0, BLANK]),
+        7 => row.rank = 1,
+        _ => row.classes = 0,
+    }
+}
+
+fn damage_bytes_of_row(random: &mut Random, row: &mut Row) {
+    match random.below(3) {
+        0 => row.length = 0,
+        1 => row.length = random.pick(&[17, 18, 255]),
+        _ => {
+            row.length = row.length.max(2);
+            row.start = u16::MAX - random.below(usize::from(row.length) - 1) as u16;
+        }
+    }
+}
+
+/// Gives an access another class than its reference had before, if it can.
+fn damage_class(random: &mut Random, table: &mut Table) {
+    let again = rows_with_an_earlier(table, |earlier, row| {
+        earlier.is_access() && row.is_access() && earlier.reference == row.reference
+    });
+    if !again.is_empty() {
+        let (_, row) = random.pick(&again);
+        table.rows[row].class = (table.rows[row].class + random.between(1, 3) as u8) % 4;
+    }
+}
+
+/// Pairs of an earlier and a later row.
+fn rows_with_an_earlier(table: &Table, test: impl Fn(Row, Row) -> bool) -> Vec<(usize, usize)> {
+    let mut pairs = Vec::new();
+    for row in 0..table.rows.len() {
+        for earlier in 0..row {
+            if test(table.rows[earlier], table.rows[row]) {
+                pairs.push((earlier, row));
+            }
+        }
+    }
+    pairs
+}
+
+fn damage_source(random: &mut Random, table: &mut Table) {
+    let readers = rows_that(table, Row::reads);
+    if readers.is_empty() {
+        return;
+    }
+    let reader = random.pick(&readers);
+    let row_count = table.rows.len() as u16;
+    table.rows[reader].source = match random.below(5) {
+        0 => reader as u16,
+        1 => row_count,
+        2 => BLANK,
+        3 => random.pick(&[256, 512, 65533]),
+        _ => random.below(table.rows.len()) as u16,
+    };
+}
+
+/// Gives a writer the rank of an earlier one of its scoped order, if it can;
+/// equal ranks out of scope are good.
+fn damage_rank(random: &mut Random, table: &mut Table) {
+    let mut pairs =
+        rows_with_an_earlier(table, |x, y| x.is_atomic_writer() && y.is_atomic_writer());
+    pairs.retain(|(earlier, row)| in_one_order(table, *earlier, *row));
+    if pairs.is_empty() {
+        add_equal_rank(random, table);
+    } else {
+        let (earlier, row) = random.pick(&pairs);
+        table.rows[row].rank = table.rows[earlier].rank;
+    }
+}
+
+/// Makes a second writer out of the row after one, rank and place alike.
+fn add_equal_rank(random: &mut Random, table: &mut Table) {
+    let writers = rows_that(table, Row::is_atomic_writer);
+    if writers.is_empty() {
+        return;
+    }
+    let place = random.pick(&writers);
+    if place + 1 < table.rows.len() {
+        let copy = table.rows[place];
+        table.rows[place + 1] = Row {
+            kind: kind::ATOMIC_WRITE,
+            order: order::RELAXED,
+            classes: 0,
+            flags: flags::NON_PRIVATE,
+            source: INITIAL,
+            ..copy
+        };
+    }
+}

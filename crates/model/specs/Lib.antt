@@ -16,3 +16,5 @@ pub mod Words
 pub mod HappensLaws
 pub mod FillingLaws
 pub mod AdmissionLaws
+pub mod RaceLaws
+pub mod AxiomLaws

@@ -18,3 +18,4 @@ pub mod FillingLaws
 pub mod AdmissionLaws
 pub mod RaceLaws
 pub mod AxiomLaws
+pub mod PairLaws

@@ -19,3 +19,4 @@ pub mod AdmissionLaws
 pub mod RaceLaws
 pub mod AxiomLaws
 pub mod PairLaws
+pub mod ChoiceLaws

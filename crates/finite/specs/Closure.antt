@@ -118,3 +118,7 @@ through-none r n h zero i j l p q = h i j p q
 through-none r n h (suc k) i j l p q =
     let f : (x y : ℕ) → x < n → y < n → through r k x y ≡ false = λ x y. through-none r n h k x y (omega arith) in
     rw (f i j p q, f i k p (omega arith)) refl
+
+pub reach-cong : (r s : ℕ → ℕ → Bool) (n : ℕ) → ((i j : ℕ) → i < n → j < n → r i j ≡ s i j) → {i j : ℕ} → i < n → j < n → Reach r n i j → Reach s n i j
+reach-cong r s n h {i} {j} p q (one e) = one (sym (h i j p q) ∙ e)
+reach-cong r s n h {i} {j} p q (more {m = m} e l t) = more (sym (h i m p l) ∙ e) l (reach-cong r s n h l q t)

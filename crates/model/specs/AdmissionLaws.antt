@@ -16,7 +16,7 @@ use Rattle.model.specs.declared.Admission.{Admission}
 use Rattle.model.specs.declared.Admission.the-variants.{Admitted, Refused}
 use Rattle.model.specs.Limits.{AGENTS, ROWS, LONGEST, BYTES}
 use Rattle.model.specs.Row.{RMW, BARRIER, access, barrier}
-use Rattle.model.specs.Table.{Table, HEADER, agentsAt, rowsAt, rowBytes, rowOf, sourceOf, tableOf, sourcesOf, decode}
+use Rattle.model.specs.Table.{Table, HEADER, agentsAt, rowsAt, sizeOf, rowBytes, rowOf, sourceOf, tableOf, sourcesOf, decode}
 use Rattle.model.specs.Refusal.{headerFault, versionFits, limitsFit, lengthFits, codesFit, kindFits, barrierFits, extentFits, rowFault, classTaken, sourceBroken, rankTaken, tableFault, faulty, firstFault, rowFaultAt, admission}
 
 -- ---- definitions
@@ -99,8 +99,9 @@ admitted-sound blanks s {a} {r} e = go (which (eqb (headerFault s) 0))
 
 -- ---- a fault number that is 0: every test of its cascade passed
 
-header-passed : (a b c d : Bool) → _≡_ {A = ℕ} (cond a (cond b (cond c (cond d 0 4) 3) 2) 1) 0 → c ≡ true
-header-passed true true true d e = refl
+header-passed : (a b c d : Bool) → _≡_ {A = ℕ} (cond a (cond b (cond c (cond d 0 4) 3) 2) 1) 0 → (c ≡ true) × (d ≡ true)
+header-passed true true true true e = (refl, refl)
+header-passed true true true false e = absurd (omega arith)
 header-passed true true false d e = absurd (omega arith)
 header-passed true false c d e = absurd (omega arith)
 header-passed false b c d e = absurd (omega arith)
@@ -118,17 +119,21 @@ table-passed false false true e = absurd (omega arith)
 table-passed false false false e = (refl, refl, refl)
 
 module _ {blanks : Bool} {s : List ℕ} (h : Sound blanks s) where
-  limits : limitsFit s ≡ true
+  limits : (limitsFit s ≡ true) × (lengthFits s ≡ true)
   unfolding headerFault
   limits = header-passed (leb HEADER (length s)) (versionFits s) (limitsFit s) (lengthFits s) (h .header)
 
   pub agents-fit : agentsAt s ≤ AGENTS
   unfolding limitsFit
-  agents-fit = leb-true (agentsAt s) AGENTS (split limits .0)
+  agents-fit = leb-true (agentsAt s) AGENTS (split (limits .0) .0)
 
   pub rows-fit : rowsAt s ≤ ROWS
   unfolding limitsFit
-  rows-fit = leb-true (rowsAt s) ROWS (split limits .1)
+  rows-fit = leb-true (rowsAt s) ROWS (split (limits .0) .1)
+
+  pub length-is : length s ≡ sizeOf (agentsAt s) (rowsAt s)
+  unfolding lengthFits
+  length-is = eqb-true (length s) (sizeOf (agentsAt s) (rowsAt s)) (split (limits .1) .1)
 
   module _ (i : ℕ) (l : i < rowsAt s) where
     abbrev r : Row

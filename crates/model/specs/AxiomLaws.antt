@@ -9,6 +9,7 @@ use lib.Dec.{ltb, leb, eqb}
 use borrow.Author.Tests.{ltb-true, lt-ltb, eqb-true, eq-eqb}
 use Rattle.finite.specs.Logic.{_and_, split, and-true}
 use Rattle.finite.specs.Below.{least, least-is, least-low}
+use Rattle.finite.specs.Closure.{reach-cong}
 use Rattle.finite.specs.Cycle.{cycle-exists, cycle-none}
 use Rattle.model.specs.declared.Row.{Row}
 use Rattle.model.specs.Limits.{LONGEST}
@@ -16,7 +17,7 @@ use Rattle.model.specs.Row.{reads, writes}
 use Rattle.model.specs.Table.{Table}
 use Rattle.model.specs.Location.{common, before}
 use Rattle.model.specs.Race.{nth}
-use Rattle.model.specs.Edge.{edge, cycleRow, overwrites, overwritesNth, overNth, overwriting, overWriter, isOverwritten, overReader, overByte, consistent}
+use Rattle.model.specs.Edge.{readsFrom, fromReads, edge, cycleRow, overwrites, overwritesNth, overNth, overwriting, overWriter, isOverwritten, overReader, overByte, consistent}
 use Rattle.model.specs.Words.{Cyclic, Overwritten, Consistent}
 use Rattle.model.specs.RaceLaws.{Sized, touched, common-left, common-right}
 
@@ -133,3 +134,20 @@ module _ (t : Table) (source : ℕ → ℕ) where
       where
         none : (Overwritten t source → ⊥) → overReader t source ≡ t .rows
         none f = ⊎-elim (λ e. e) (λ l. absurd (f (overwritten-is .0 l))) (eq-or-lt-of-le reader-bound)
+
+-- ---- the axioms read the sources of the table's own rows alone
+
+module _ (t : Table) (a b : ℕ → ℕ) (same : (i : ℕ) → i < t .rows → a i ≡ b i) where
+  edge-cong : (x y : ℕ) → x < t .rows → y < t .rows → edge t b x y ≡ edge t a x y
+  unfolding edge readsFrom fromReads
+  edge-cong x y l m = rw (same x l, same y m) refl
+
+  overwrites-cong : (y z c : ℕ) → y < t .rows → overwrites t b y z c ≡ overwrites t a y z c
+  unfolding overwrites
+  overwrites-cong y z c l = rw (same y l) refl
+
+  pub consistent-cong : Consistent t a → Consistent t b
+  consistent-cong c = (
+    λ w. c .0 (w .0, w .1, reach-cong (edge t b) (edge t a) (t .rows) edge-cong (w .1) (w .1) (w .2)),
+    λ w. c .1 (w .0, w .1, w .2, w .3, w .4, sym (overwrites-cong (w .0) (w .1) (w .2) (w .3)) ∙ w .5),
+  )

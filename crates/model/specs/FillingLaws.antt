@@ -30,11 +30,21 @@ atomic-not-blank r a p =
     let l : ATOMIC-READ ≤ r .kind = leb-true ATOMIC-READ (r .kind) (split a .0) in
     omega arith
 
+-- byte k of row i, in the bytes of the table
+pub bytes-at : (s g : List ℕ) (i k : ℕ) → agentsAt g ≡ agentsAt s → byteOf (rowBytes g) i k ≡ getD g (rowsBegin (agentsAt s) + (i * ROW-BYTES + k)) 0
+unfolding byteOf rowBytes
+bytes-at s g i k e = rw e (getD-drop (rowsBegin (agentsAt s)) g (i * ROW-BYTES + k) 0)
+
+-- a pair is its two bytes
+pub pair-is : (b : List ℕ) (i k : ℕ) → pairOf b i k ≡ byteOf b i k * 256 + byteOf b i (k + 1)
+unfolding pairOf pairAt byteOf
+pair-is b i k = let e : i * ROW-BYTES + k + 1 ≡ i * ROW-BYTES + (k + 1) = omega arith in rw e refl
+
 module _ {s f : List ℕ} (fl : Filling s f) where
   -- ---- bytes
 
   -- a byte before the rows
-  head-kept : (k : ℕ) → k < rowsBegin (agentsAt s) → getD f k 0 ≡ getD s k 0
+  pub head-kept : (k : ℕ) → k < rowsBegin (agentsAt s) → getD f k 0 ≡ getD s k 0
   unfolding sourceBegin
   head-kept k h = fl .kept k (λ i l b. ⊎-elim (λ e. omega arith) (λ e. omega arith))
 
@@ -45,7 +55,7 @@ module _ {s f : List ℕ} (fl : Filling s f) where
       fl .kept _ (λ j l b. ⊎-elim (λ e. ⊎-elim (λ p. omega arith) (λ p. omega arith) o) (λ e. ⊎-elim (λ p. omega arith) (λ p. omega arith) o))
 
   -- each byte of a row without a blank
-  whole-kept : (i k : ℕ) → k < ROW-BYTES → blankAt s i ≡ false → getD f (rowsBegin (agentsAt s) + (i * ROW-BYTES + k)) 0 ≡ getD s (rowsBegin (agentsAt s) + (i * ROW-BYTES + k)) 0
+  pub whole-kept : (i k : ℕ) → k < ROW-BYTES → blankAt s i ≡ false → getD f (rowsBegin (agentsAt s) + (i * ROW-BYTES + k)) 0 ≡ getD s (rowsBegin (agentsAt s) + (i * ROW-BYTES + k)) 0
   unfolding sourceBegin
   whole-kept i k h n = fl .kept _ (λ j l b. ⊎-elim (λ e. other j b (omega arith)) (λ e. other j b (omega arith)))
     where
@@ -87,21 +97,11 @@ module _ {s f : List ℕ} (fl : Filling s f) where
 
   -- ---- the rows
 
-  -- byte k of row i
-  bytes-at : (g : List ℕ) (i k : ℕ) → agentsAt g ≡ agentsAt s → byteOf (rowBytes g) i k ≡ getD g (rowsBegin (agentsAt s) + (i * ROW-BYTES + k)) 0
-  unfolding byteOf rowBytes
-  bytes-at g i k e = rw e (getD-drop (rowsBegin (agentsAt s)) g (i * ROW-BYTES + k) 0)
-
   byte-kept : (i k : ℕ) → k < ROW-BYTES → (k < 12) ⊎ (13 < k) → byteOf (rowBytes f) i k ≡ byteOf (rowBytes s) i k
-  byte-kept i k h o = bytes-at f i k agents-kept ∙ field-kept i k h o ∙ sym (bytes-at s i k refl)
+  byte-kept i k h o = bytes-at s f i k agents-kept ∙ field-kept i k h o ∙ sym (bytes-at s s i k refl)
 
   byte-whole : (i k : ℕ) → k < ROW-BYTES → blankAt s i ≡ false → byteOf (rowBytes f) i k ≡ byteOf (rowBytes s) i k
-  byte-whole i k h n = bytes-at f i k agents-kept ∙ whole-kept i k h n ∙ sym (bytes-at s i k refl)
-
-  -- a pair is its two bytes
-  pair-is : (b : List ℕ) (i k : ℕ) → pairOf b i k ≡ byteOf b i k * 256 + byteOf b i (k + 1)
-  unfolding pairOf pairAt byteOf
-  pair-is b i k = let e : i * ROW-BYTES + k + 1 ≡ i * ROW-BYTES + (k + 1) = omega arith in rw e refl
+  byte-whole i k h n = bytes-at s f i k agents-kept ∙ whole-kept i k h n ∙ sym (bytes-at s s i k refl)
 
   pair-kept : (i k : ℕ) → k + 1 < ROW-BYTES → (k + 1 < 12) ⊎ (13 < k) → pairOf (rowBytes f) i k ≡ pairOf (rowBytes s) i k
   pair-kept i k h o =

@@ -20,3 +20,4 @@ pub mod RaceLaws
 pub mod AxiomLaws
 pub mod PairLaws
 pub mod ChoiceLaws
+pub mod FilledLaws

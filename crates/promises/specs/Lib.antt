@@ -1,2 +1,4 @@
-pub mod Check
 pub mod Cases
+pub mod Check
+pub mod Outcomes
+pub mod Fill

@@ -1,0 +1,287 @@
+-- The bytes of a filled table: a filling with given sources exists, is the only one with them, and is well formed exactly when its
+-- sources are. Assumes nothing.
+use mathlib.Core.Path.{_≡_, refl, sym, ap, ap₂, _∙_, subst}
+use mathlib.Core.Bool.{Bool, true, false, not, cond}
+use mathlib.Core.List.{List, []}
+use mathlib.Core.Logic.{_⊎_, inl, inr, ⊎-elim, _↔_}
+use Prim.Native.Nat.{ℕ, zero, suc, _+_, _-_, _*_, _/_, _%_, _≤_, _<_}
+use native.Mathlib.Omega.{arith}
+use native.Mathlib.Decide.{decLt, ℕ-discrete}
+use lib.ListN.{length, getD, List·getD-eq-default}
+use lib.Seq.{ext-getD}
+use lib.Dec.{ltb, leb, eqb}
+use borrow.Author.Tests.{eqb-true, eqb-false, eq-eqb, ne-eqb, ltb-true, lt-ltb, le-ltb, leb-true, le-leb}
+use Rattle.finite.specs.Logic.{_and_, _or_, split, and-true, or-cases, or-left, or-right, which, not-both, not-so, not-in, not-out}
+use Rattle.finite.specs.Lists.{tabulate, length-tabulate, getD-tabulate}
+use Rattle.model.specs.declared.Row.{Row}
+use Rattle.model.specs.declared.Admission.the-variants.{Admitted}
+use Rattle.model.specs.Limits.{INITIAL, BLANK, ROWS}
+use Rattle.model.specs.Row.{plainRead, reads}
+use Rattle.model.specs.Table.{Table, HEADER, ROW-BYTES, pairAt, quadAt, countAt, versionAt, zeroAt, agentsAt, rowsAt, rowsBegin, sizeOf, rowBytes, byteOf, pairOf, rowOf, sourceOf, decode, tableOf, sourcesOf}
+use Rattle.model.specs.Refusal.{versionFits, limitsFit, lengthFits, headerFault, kindFits, rowFault, rowFaultAt, sourceBroken, tableFault}
+use Rattle.model.specs.Fill.{blank, chosen}
+use Rattle.model.specs.Words.{blankAt, sourceBegin, Filling}
+use Rattle.model.specs.AdmissionLaws.{Sound, length-is, rows-fit, among-right}
+use Rattle.model.specs.FillingLaws.{head-kept, agents-kept, rows-kept, row-kept, source-kept, table-kept, bytes-at, pair-is}
+
+-- ---- definitions
+
+-- each number of the list is a byte, as those of a lent `&[u8]` are
+abbrev pub Bytes : List ℕ → Type 0
+Bytes s = (k : ℕ) → getD s k 0 < 256
+
+-- byte j of row i, filled from the sources
+unfoldable pub rowByte : List ℕ → (ℕ → ℕ) → ℕ → ℕ → ℕ → ℕ
+rowByte s source i j old = cond (ltb i (rowsAt s) and blankAt s i) (cond (eqb j 12) (source i / 256) (cond (eqb j 13) (source i % 256) old)) old
+
+-- byte k of the table, filled from the sources
+unfoldable pub filledByte : List ℕ → (ℕ → ℕ) → ℕ → ℕ
+filledByte s source k =
+    let b = rowsBegin (agentsAt s) in cond (ltb k b) (getD s k 0) (rowByte s source ((k - b) / ROW-BYTES) ((k - b) % ROW-BYTES) (getD s k 0))
+
+unfoldable pub filledBytes : List ℕ → (ℕ → ℕ) → List ℕ
+filledBytes s source = tabulate (filledByte s source) (length s)
+
+-- ---- two fillings with the same sources are one
+
+-- byte k after the first b bytes is byte (k - b) % ROW-BYTES of row (k - b) / ROW-BYTES
+spot : (b k : ℕ) → b ≤ k → k ≡ b + ((k - b) / ROW-BYTES * ROW-BYTES + (k - b) % ROW-BYTES)
+spot b k l = omega arith
+
+-- a pair of bytes is known by its number
+halves : (a b c d : ℕ) → b < 256 → d < 256 → a * 256 + b ≡ c * 256 + d → (a ≡ c) × (b ≡ d)
+halves a b c d l m e = (omega arith, omega arith)
+
+module _ {s f g : List ℕ} (ff : Filling s f) (fg : Filling s g) (same : (i : ℕ) → i < rowsAt s → sourcesOf f i ≡ sourcesOf g i) where
+  source-bytes : (i : ℕ) → i < rowsAt s → (byteOf (rowBytes f) i 12 ≡ byteOf (rowBytes g) i 12) × (byteOf (rowBytes f) i 13 ≡ byteOf (rowBytes g) i 13)
+  unfolding sourcesOf sourceOf
+  source-bytes i l =
+      halves _ _ _ _
+      (subst (λ (z : ℕ). z < 256) (sym (bytes-at s f i 13 (agents-kept ff))) (ff .bytes _))
+      (subst (λ (z : ℕ). z < 256) (sym (bytes-at s g i 13 (agents-kept fg))) (fg .bytes _))
+      (sym (pair-is (rowBytes f) i 12) ∙ same i l ∙ pair-is (rowBytes g) i 12)
+
+  byte-same : (i j : ℕ) → i < rowsAt s → (j ≡ 12) ⊎ (j ≡ 13)
+      → getD f (rowsBegin (agentsAt s) + (i * ROW-BYTES + j)) 0 ≡ getD g (rowsBegin (agentsAt s) + (i * ROW-BYTES + j)) 0
+  byte-same i j l (inl e) = rw e (sym (bytes-at s f i 12 (agents-kept ff)) ∙ source-bytes i l .0 ∙ bytes-at s g i 12 (agents-kept fg))
+  byte-same i j l (inr e) = rw e (sym (bytes-at s f i 13 (agents-kept ff)) ∙ source-bytes i l .1 ∙ bytes-at s g i 13 (agents-kept fg))
+
+  -- a byte of no blank's source
+  other-same : (k : ℕ) → ((i : ℕ) → i < rowsAt s → blankAt s i ≡ true → (k ≡ sourceBegin s i) ⊎ (k ≡ sourceBegin s i + 1) → ⊥) → getD f k 0 ≡ getD g k 0
+  other-same k h = ff .kept k h ∙ sym (fg .kept k h)
+
+  pub fillings-same : f ≡ g
+  unfolding sourceBegin
+  fillings-same = ext-getD 0 f g (ff .size ∙ sym (fg .size)) (λ k l. at k (decLt k b))
+    where
+      b : ℕ
+      b = rowsBegin (agentsAt s)
+
+      row : ℕ → ℕ
+      row k = (k - b) / ROW-BYTES
+
+      col : ℕ → ℕ
+      col k = (k - b) % ROW-BYTES
+
+      inner : (k : ℕ) → b ≤ k → (row k < rowsAt s → blankAt s (row k) ≡ true → (col k ≡ 12) ⊎ (col k ≡ 13) → ⊥) → getD f k 0 ≡ getD g k 0
+      inner k l n =
+          other-same k
+          (λ i m h. ⊎-elim (λ e. n (r i e m) (subst (λ (z : ℕ). blankAt s z ≡ true) (q i e) h) (inl (omega arith))) (λ e. n (r′ i e m) (subst (λ (z : ℕ). blankAt s z ≡ true) (q′ i e) h) (inr (omega arith))))
+        where
+          q : (i : ℕ) → k ≡ b + (i * ROW-BYTES + 12) → i ≡ row k
+          q i e = omega arith
+
+          r : (i : ℕ) → k ≡ b + (i * ROW-BYTES + 12) → i < rowsAt s → row k < rowsAt s
+          r i e m = omega arith
+
+          q′ : (i : ℕ) → k ≡ b + (i * ROW-BYTES + 12) + 1 → i ≡ row k
+          q′ i e = omega arith
+
+          r′ : (i : ℕ) → k ≡ b + (i * ROW-BYTES + 12) + 1 → i < rowsAt s → row k < rowsAt s
+          r′ i e m = omega arith
+
+      hit : (k : ℕ) → b ≤ k → row k < rowsAt s → (col k ≡ 12) ⊎ (col k ≡ 13) → getD f k 0 ≡ getD g k 0
+      hit k l m c = subst (λ (z : ℕ). getD f z 0 ≡ getD g z 0) (sym (spot b k l)) (byte-same (row k) (col k) m c)
+
+      which-col : (k : ℕ) → b ≤ k → row k < rowsAt s → Dec (col k ≡ 12) → Dec (col k ≡ 13) → getD f k 0 ≡ getD g k 0
+      which-col k l m (yes e) d = hit k l m (inl e)
+      which-col k l m (no e) (yes h) = hit k l m (inr h)
+      which-col k l m (no e) (no h) = inner k l (λ p q c. ⊎-elim e h c)
+
+      at-row : (k : ℕ) → b ≤ k → Dec (row k < rowsAt s) → getD f k 0 ≡ getD g k 0
+      at-row k l (yes m) = which-col k l m (ℕ-discrete (col k) 12) (ℕ-discrete (col k) 13)
+      at-row k l (no m) = inner k l (λ p q c. m p)
+
+      at : (k : ℕ) → Dec (k < b) → getD f k 0 ≡ getD g k 0
+      at k (yes l) = head-kept ff k l ∙ sym (head-kept fg k l)
+      at k (no l) = at-row k (omega arith) (decLt (row k) (rowsAt s))
+
+-- ---- well formed, exactly when the sources are
+
+-- a row that reads may have any source that refusal 9 takes: kind fit does not look at it
+kind-any : (r : Row) (a b : ℕ) → reads r ≡ true → kindFits r a ≡ kindFits r b
+unfolding kindFits _or_
+kind-any r a b e = rw e refl
+
+fault-any : (n : ℕ) (r : Row) (a b : ℕ) → reads r ≡ true → rowFault n r a ≡ rowFault n r b
+unfolding rowFault
+fault-any n r a b e = rw (kind-any r a b e) refl
+
+blank-reads : (s : List ℕ) (i : ℕ) → blankAt s i ≡ true → reads (rowOf (rowBytes s) i) ≡ true
+unfolding blankAt blank tableOf decode plainRead reads
+blank-reads s i e = or-left _ (or-left _ (split e .0))
+
+module _ {s f : List ℕ} (fl : Filling s f) where
+  pair-head : (k : ℕ) → k + 1 < HEADER → pairAt f k ≡ pairAt s k
+  unfolding pairAt rowsBegin
+  pair-head k l = rw (head-kept fl k (omega arith), head-kept fl (k + 1) (omega arith)) refl
+
+  header-kept : headerFault f ≡ headerFault s
+  unfolding headerFault versionFits limitsFit lengthFits versionAt zeroAt countAt quadAt rowsBegin
+  header-kept = rw (fl .size, head-kept fl 4 (omega arith), head-kept fl 7 (omega arith), agents-kept fl, rows-kept fl, pair-head 0 (omega arith), pair-head 2 (omega arith)) refl
+
+  row-fault-kept : (i : ℕ) → rowFaultAt f i ≡ rowFaultAt s i
+  unfolding rowFaultAt sourcesOf
+  row-fault-kept i =
+      rw (agents-kept fl, row-kept fl i)
+      (⊎-elim (λ e. fault-any (agentsAt s) (rowOf (rowBytes s) i) (sourceOf (rowBytes f) i) (sourceOf (rowBytes s) i) (blank-reads s i e)) (λ n. rw (source-kept fl i n) refl) (which (blankAt s i)))
+
+  -- the sources of a filling are those that a check admits
+  abbrev pub Admits : Type 0
+  Admits = (i : ℕ) → i < rowsAt s → sourceBroken false (tableOf s) (sourcesOf f) i ≡ false
+
+  pub filling-sound : Sound true s → Admits → Sound false f
+  unfolding tableFault
+  filling-sound h a =
+      record {
+        header = header-kept ∙ h .header;
+        row = λ i l. row-fault-kept i ∙ h .row i (below l);
+        among = λ i l. rw (table-kept fl) (let c = among-right h i (below l) in rw (c .0, a i (below l), c .2) refl);
+      }
+    where
+      below : {i : ℕ} → i < rowsAt f → i < rowsAt s
+      below {i} l = subst (λ (n : ℕ). i < n) (rows-kept fl) l
+
+  pub sound-filling : Sound false f → Admits
+  sound-filling h i l =
+      subst (λ (t : Table). sourceBroken false t (sourcesOf f) i ≡ false) (table-kept fl) (among-right h i (subst (λ (n : ℕ). i < n) (sym (rows-kept fl)) l) .1)
+
+-- ---- the filled bytes are a filling
+
+module _ (s : List ℕ) (bytes : Bytes s) (h : Sound true s) (source : ℕ → ℕ)
+    (named : (i : ℕ) → i < rowsAt s → blankAt s i ≡ true → (source i ≡ INITIAL) ⊎ (source i < rowsAt s)) where
+  abbrev begin : ℕ
+  begin = rowsBegin (agentsAt s)
+
+  abbrev f : List ℕ
+  f = filledBytes s source
+
+  size : length f ≡ length s
+  unfolding filledBytes
+  size = length-tabulate (filledByte s source) (length s)
+
+  long : length s ≡ begin + ROW-BYTES * rowsAt s
+  unfolding sizeOf
+  long = length-is h
+
+  inside-at : (k : ℕ) → k < length s → getD f k 0 ≡ filledByte s source k
+  unfolding filledBytes
+  inside-at k l = getD-tabulate (filledByte s source) (length s) k 0 l
+
+  -- a byte before the rows
+  head-at : (k : ℕ) → k < begin → getD f k 0 ≡ getD s k 0
+  unfolding filledByte
+  head-at k l = let e = long in inside-at k (omega arith) ∙ simp (lt-ltb k begin l)
+
+  -- a byte of a row
+  row-at : (i j : ℕ) → i < rowsAt s → j < ROW-BYTES → getD f (begin + (i * ROW-BYTES + j)) 0 ≡ rowByte s source i j (getD s (begin + (i * ROW-BYTES + j)) 0)
+  unfolding filledByte
+  row-at i j l m =
+      let e = long in
+      let q : (begin + (i * ROW-BYTES + j) - begin) / ROW-BYTES ≡ i = omega arith in
+      let r : (begin + (i * ROW-BYTES + j) - begin) % ROW-BYTES ≡ j = omega arith in
+      inside-at (begin + (i * ROW-BYTES + j)) (omega arith) ∙ rw (le-ltb (begin + (i * ROW-BYTES + j)) begin (omega arith), q, r) refl
+
+  -- what a byte of a row becomes
+  byte-12 : (i : ℕ) → i < rowsAt s → blankAt s i ≡ true → (old : ℕ) → rowByte s source i 12 old ≡ source i / 256
+  unfolding rowByte
+  byte-12 i l b old = rw (and-true (lt-ltb i (rowsAt s) l) b) refl
+
+  byte-13 : (i : ℕ) → i < rowsAt s → blankAt s i ≡ true → (old : ℕ) → rowByte s source i 13 old ≡ source i % 256
+  unfolding rowByte
+  byte-13 i l b old = rw (and-true (lt-ltb i (rowsAt s) l) b) refl
+
+  byte-other : (i j : ℕ) → ((blankAt s i ≡ true) → (j ≡ 12) ⊎ (j ≡ 13) → ⊥) → (old : ℕ) → rowByte s source i j old ≡ old
+  unfolding rowByte
+  byte-other i j n old = ⊎-elim (λ e. at (split e .1)) (λ e. rw e refl) (which (ltb i (rowsAt s) and blankAt s i))
+    where
+      at : blankAt s i ≡ true → cond (ltb i (rowsAt s) and blankAt s i) (cond (eqb j 12) (source i / 256) (cond (eqb j 13) (source i % 256) old)) old ≡ old
+      at b = inner (ltb i (rowsAt s) and blankAt s i) (rw (ne-eqb j 12 (λ e. n b (inl e)), ne-eqb j 13 (λ e. n b (inr e))) refl)
+        where
+          inner : (c : Bool) {x : ℕ} → x ≡ old → cond c x old ≡ old
+          inner true e = e
+          inner false e = refl
+
+  small : (i : ℕ) → i < rowsAt s → blankAt s i ≡ true → source i < 65536
+  small i l b = let r = rows-fit h in ⊎-elim (λ e. omega arith) (λ m. omega arith) (named i l b)
+
+  -- a byte of a row, whichever it is
+  row-byte : (i j old : ℕ) → i < rowsAt s → old < 256 → rowByte s source i j old < 256
+  row-byte i j old l m = go (which (blankAt s i)) (ℕ-discrete j 12) (ℕ-discrete j 13)
+    where
+      go : (blankAt s i ≡ true) ⊎ (blankAt s i ≡ false) → Dec (j ≡ 12) → Dec (j ≡ 13) → rowByte s source i j old < 256
+      go (inr n) d e = rw (byte-other i j (λ b c. not-both b n) old) m
+      go (inl b) (yes e) d = let q = small i l b in rw (e, byte-12 i l b old) (omega arith)
+      go (inl b) (no n) (yes e) = rw (e, byte-13 i l b old) (omega arith)
+      go (inl b) (no n) (no k) = rw (byte-other i j (λ c d. ⊎-elim n k d) old) m
+
+  -- a byte by its place
+  past-at : (k : ℕ) → length s ≤ k → getD f k 0 ≡ getD s k 0
+  past-at k l = List·getD-eq-default f 0 (subst (λ (n : ℕ). n ≤ k) (sym size) l) ∙ sym (List·getD-eq-default s 0 l)
+
+  place-at : (k : ℕ) → begin ≤ k → k < length s
+      → ((k - begin) / ROW-BYTES < rowsAt s) × (getD f k 0 ≡ rowByte s source ((k - begin) / ROW-BYTES) ((k - begin) % ROW-BYTES) (getD s k 0))
+  place-at k l m =
+      let e = long in
+      let r : (k - begin) / ROW-BYTES < rowsAt s = omega arith in
+      (r, subst (λ (z : ℕ). getD f z 0 ≡ rowByte s source ((k - begin) / ROW-BYTES) ((k - begin) % ROW-BYTES) (getD s z 0)) (sym (spot begin k l)) (row-at ((k - begin) / ROW-BYTES) ((k - begin) % ROW-BYTES) r (omega arith)))
+
+  byte-fits : (k : ℕ) → getD f k 0 < 256
+  byte-fits k = go (decLt k begin) (decLt k (length s))
+    where
+      go : Dec (k < begin) → Dec (k < length s) → getD f k 0 < 256
+      go (yes l) d = rw (head-at k l) (bytes k)
+      go (no l) (yes m) = let p = place-at k (omega arith) m in rw (p .1) (row-byte _ _ _ (p .0) (bytes k))
+      go (no l) (no m) = rw (past-at k (omega arith)) (bytes k)
+
+  byte-kept : (k : ℕ) → ((i : ℕ) → i < rowsAt s → blankAt s i ≡ true → (k ≡ sourceBegin s i) ⊎ (k ≡ sourceBegin s i + 1) → ⊥) → getD f k 0 ≡ getD s k 0
+  unfolding sourceBegin
+  byte-kept k n = go (decLt k begin) (decLt k (length s))
+    where
+      go : Dec (k < begin) → Dec (k < length s) → getD f k 0 ≡ getD s k 0
+      go (yes l) d = head-at k l
+      go (no l) (yes m) =
+          let p = place-at k (omega arith) m in
+          p .1 ∙ byte-other ((k - begin) / ROW-BYTES) ((k - begin) % ROW-BYTES) (λ b c. n ((k - begin) / ROW-BYTES) (p .0) b (⊎-elim (λ e. inl (omega arith)) (λ e. inr (omega arith)) c)) (getD s k 0)
+      go (no l) (no m) = past-at k (omega arith)
+
+  filled-agents : agentsAt f ≡ agentsAt s
+  unfolding agentsAt rowsBegin
+  filled-agents = head-at 5 (omega arith)
+
+  -- a blank gets its source
+  pub filled-source : (i : ℕ) → i < rowsAt s → blankAt s i ≡ true → sourcesOf f i ≡ source i
+  unfolding sourcesOf sourceOf
+  filled-source i l b =
+      pair-is (rowBytes f) i 12
+      ∙ ap₂ (λ (x y : ℕ). x * 256 + y) (bytes-at s f i 12 filled-agents ∙ row-at i 12 l (omega arith) ∙ byte-12 i l b _) (bytes-at s f i 13 filled-agents ∙ row-at i 13 l (omega arith) ∙ byte-13 i l b _)
+      ∙ omega arith
+
+  pub filled-filling : Filling s f
+  filled-filling =
+      record {
+        size = size;
+        bytes = byte-fits;
+        named = λ i l b. ⊎-elim (λ e. inl (filled-source i l b ∙ e)) (λ m. inr (subst (λ (n : ℕ). n < rowsAt s) (sym (filled-source i l b)) m)) (named i l b);
+        kept = byte-kept;
+      }

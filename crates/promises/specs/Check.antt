@@ -11,7 +11,6 @@ use lib.ListN.{length, getD}
 use lib.Dec.{ltb}
 use borrow.Author.Tests.{ltb-true, ltb-false, lt-ltb, le-ltb}
 use Rattle.finite.specs.Logic.{which, not-both, not-so}
-use Rattle.finite.specs.Below.{least, least-is}
 use Rattle.finite.specs.Walk.{along}
 use Rattle.finite.specs.Cycle.{Canonical, cycle-canonical}
 use Rattle.model.specs.declared.Admission.the-variants.{Admitted}
@@ -19,7 +18,7 @@ use Rattle.model.specs.Limits.{CYCLE}
 use Rattle.model.specs.Table.{Table, agentsAt, rowsAt, tableOf, sourcesOf, decode, rowBytes, placesOf}
 use Rattle.model.specs.Scope.{mutually}
 use Rattle.model.specs.Location.{common, before}
-use Rattle.model.specs.Race.{conflict, hasRace, raceRow, racePartner, raceByte}
+use Rattle.model.specs.Race.{conflict, raceRow, racePartner, raceByte}
 use Rattle.model.specs.Edge.{edge, edgeNumber, cycleRow, cycleRows, cycleEdges, overReader, overWriter, overByte}
 use Rattle.model.specs.Refusal.{buffersFit, admission}
 use Rattle.model.specs.Check.{Verdict, cyclic, overwritten, race, raceFree, raceOr, overwrittenOr, cyclicOr, verdict, admitted, check}
@@ -27,6 +26,7 @@ use Rattle.model.specs.Words.{Unordered, Races, Cyclic, Overwritten, Consistent
 use Rattle.model.specs.AdmissionLaws.{admitted-sound, size-fits}
 use Rattle.model.specs.RaceLaws.{Sized, FirstRace, race-shown, race-none}
 use Rattle.model.specs.AxiomLaws.{FirstOverwrite, cyclic-is, overwrite-shown, overwritten-is, consistent-is}
+use Rattle.promises.specs.Searches.{stuck}
 use Rattle.promises.specs.Cases.{Tests, decided, said-cyclic, said-overwritten, said-race, said-free, say-cyclic, say-overwritten, say-race, say-free}
 
 -- ---- words of the page
@@ -62,11 +62,6 @@ module _ (t : Table) where
       ⊎-elim (λ e. not-both e (r .1))
       (λ g. let u = r .2 .1 in ⊎-elim (λ e. not-both e (u .1)) (λ e. not-both e (u .2)) (g (r .2 .0) (u .0)))
       (f x y l m (r .0))
-
--- a search that found nothing below the bound stopped at it
-stuck : (t : Table) → ltb (raceRow t) (t .rows) ≡ false → raceRow t ≡ t .rows
-unfolding raceRow
-stuck t e = let l = ltb-false (least (t .rows) (hasRace t)) (t .rows) e in let m = least-is (hasRace t) (t .rows) .bound in omega arith
 
 -- ---- the theorems
 

@@ -1,67 +1,123 @@
 -- Demand 3, the only filling: of every table that a fill does not refuse, whichever plain reads are blank, with buffers that are long
--- enough, whatever they hold. `fill` is the definition that the contract of the entry point names.
+-- enough, whatever they hold. `fill` is the definition that the contract of the entry point names; `Good s f` says that f is a
+-- filling of s that leaves it well formed and consistent.
 use mathlib.Core.Path.{_≡_, refl, sym, ap, subst, _∙_}
-use mathlib.Core.Bool.{Bool, true, false, not, cond}
+use mathlib.Core.Bool.{Bool, true, false}
 use mathlib.Core.List.{List}
 use mathlib.Core.Logic.{_⊎_, inl, inr, ⊎-elim, _↔_}
 use Prim.Native.Nat.{ℕ, _+_, _≤_, _<_}
 use native.Mathlib.Omega.{arith}
 use lib.ListN.{length, getD}
-use lib.Dec.{ltb, eqb}
-use borrow.Author.Tests.{ltb-true, ltb-false, lt-ltb, le-ltb, eqb-true}
-use Rattle.finite.specs.Logic.{_and_, _or_, split, and-true, or-cases, which, not-both, not-so, not-in, not-out}
-use Rattle.finite.specs.Below.{least, least-is, any-not, any-off}
+use lib.Seq.{ext-getD}
+use lib.Dec.{ltb}
+use borrow.Author.Tests.{ltb-true, lt-ltb, le-ltb}
+use Rattle.finite.specs.Logic.{_and_, split, and-true, which, not-both, not-so}
 use Rattle.finite.specs.Lists.{tabulate, length-tabulate, getD-tabulate}
 use Rattle.model.specs.declared.Admission.the-variants.{Admitted}
-use Rattle.model.specs.Limits.{SOURCES, INITIAL, BLANK}
-use Rattle.model.specs.Row.{plainRead, reads}
-use Rattle.model.specs.Table.{Table, agentsAt, rowsAt, rowBytes, rowOf, tableOf, sourcesOf, decode}
-use Rattle.model.specs.Race.{hasRace, raceRow, racePartner, raceByte}
+use Rattle.model.specs.Limits.{SOURCES}
+use Rattle.model.specs.Table.{Table, agentsAt, rowsAt, decode, tableOf, sourcesOf}
+use Rattle.model.specs.Race.{raceRow, racePartner, raceByte}
 use Rattle.model.specs.Edge.{consistent}
-use Rattle.model.specs.Refusal.{buffersFit, writerFits, sourceFits, sourceBroken, admission}
-use Rattle.model.specs.Fill.{Outcome, race, none, filled, blank, choice, chosen, sourcesFit, filledOr, racingOr, outcome, admittedFill, fill}
-use Rattle.model.specs.Words.{Races, Consistent, WellFormed, ConsistentBytes, blankAt, Filling}
-use Rattle.model.specs.AdmissionLaws.{Sound, sound-admitted, admitted-sound, rows-fit, size-fits, access-size, among-right}
-use Rattle.model.specs.RaceLaws.{Sized, FirstRace, race-shown, race-none}
-use Rattle.model.specs.AxiomLaws.{consistent-is, consistent-cong}
-use Rattle.model.specs.ChoiceLaws.{NoRace, Fair, choice-forced}
-use Rattle.model.specs.FillingLaws.{table-kept, source-kept}
-use Rattle.model.specs.FilledLaws.{Bytes, filledBytes, fillings-same, filling-sound, sound-filling, filled-source, filled-filling}
+use Rattle.model.specs.Refusal.{buffersFit, admission}
+use Rattle.model.specs.Fill.{Outcome, race, none, filled, sourcesFit, filledOr, racingOr, outcome, admittedFill, fill}
+use Rattle.model.specs.Words.{Unordered, Races, blankAt, Filling}
+use Rattle.model.specs.RaceLaws.{FirstRace, race-shown, race-none}
+use Rattle.model.specs.ChoiceLaws.{NoRace}
+use Rattle.model.specs.FillingLaws.{table-kept}
+use Rattle.model.specs.FilledLaws.{Bytes, fillings-same}
+use Rattle.promises.specs.Searches.{stuck, free-of}
 use Rattle.promises.specs.Outcomes.{settled, said-race, said-filled, said-none, say-race, say-filled, say-none}
+use Rattle.promises.specs.FillLaws.{Good, t, source, fair, forced, good-fits, good-consistent, made, made-sources, made-good}
 
--- ---- words of the page
+module _ (s : List ℕ) (bytes : Bytes s) (work buffer : ℕ) (fit : buffersFit SOURCES work buffer ≡ true) (well : admission true s ≡ Admitted (agentsAt s) (rowsAt s)) where
+  abbrev T : Table
+  T = tableOf s
 
--- f is a filling of s that leaves the table well formed and consistent
-abbrev pub Good : List ℕ → List ℕ → Type 0
-Good s f = Filling s f × WellFormed f × ConsistentBytes f
+  abbrev chosen : ℕ → ℕ
+  chosen = source s bytes well
 
--- ---- what is used below
+  abbrev found : Bool
+  found = ltb (raceRow T) (T .rows)
 
-module _ (s : List ℕ) (bytes : Bytes s) (well : admission true s ≡ Admitted (agentsAt s) (rowsAt s)) where
-  abbrev t : Table
-  t = tableOf s
+  abbrev passes : Bool
+  passes = sourcesFit T chosen and consistent T chosen
 
-  abbrev source : ℕ → ℕ
-  source = chosen t (sourcesOf s)
+  abbrev said : Outcome
+  said = settled found passes (raceRow T) (racePartner T (raceRow T)) (raceByte T (raceRow T) (racePartner T (raceRow T))) (tabulate chosen (T .rows))
 
-  sound : Sound true s
-  sound = admitted-sound true s well
+  fill-is : fill s work buffer ≡ said
+  unfolding fill outcome filledOr racingOr admittedFill settled
+  fill-is = rw (fit, well) refl
 
-  fair : Fair t
+  -- ---- a. race exactly when a pair races; what is shown is the first such pair and its lowest byte with no order
+
+  pub shows-race : (x y b : ℕ) → fill s work buffer ≡ race x y b → FirstRace T x y b
+  shows-race x y b e =
+      let p = said-race _ _ _ _ _ _ (sym fill-is ∙ e) in
+      rw (← p .1, ← p .2, ← p .3) (race-shown T (fair s bytes well .sized) (ltb-true _ _ (p .0)))
+
+  pub says-race : ((x : ℕ) × (y : ℕ) × (b : ℕ) × (fill s work buffer ≡ race x y b)) ↔ ((x : ℕ) × (y : ℕ) × (x < y) × (y < T .rows) × Races T x y)
+  says-race = (
+    λ e. let f = shows-race (e .0) (e .1) (e .2) (e .3) in (e .0, e .1, f .below, f .rows, f .racing),
+    λ r. (_, _, _, fill-is ∙ say-race _ _ _ _ _ _ (some r)),
+  )
+    where
+      some : ((x : ℕ) × (y : ℕ) × (x < y) × (y < T .rows) × Races T x y) → found ≡ true
+      some r = ⊎-elim (λ e. e) (λ e. absurd (race-none T (fair s bytes well .sized) .0 (stuck T e) (r .0) (r .1) (r .2) (r .3) (r .4))) (which found)
+
+  -- ---- b. whatever a filling puts in, the same pairs race, with the same unordered bytes
+
+  pub same-races : (f : List ℕ) → Filling s f → (x y : ℕ) → Races (tableOf f) x y ≡ Races T x y
+  same-races f h x y = ap (λ (u : Table). Races u x y) (table-kept h)
+
+  pub same-bytes : (f : List ℕ) → Filling s f → (x y b : ℕ) → Unordered (tableOf f) x y b ≡ Unordered T x y b
+  same-bytes f h x y b = ap (λ (u : Table). Unordered u x y b) (table-kept h)
+
+  -- ---- c. when no pair races: filled exactly when some filling is well formed and consistent, none exactly when there is none
+
+  module _ (free : NoRace T) where
+    calm : found ≡ false
+    calm = le-ltb (raceRow T) (T .rows) (omega (arith, race-none T (fair s bytes well .sized) .1 free))
+
+    pub says-filled : ((l : List ℕ) × (fill s work buffer ≡ filled l)) ↔ ((f : List ℕ) × Good s f)
+    says-filled = (
+      λ e. let p = split (said-filled _ _ _ _ _ _ (sym fill-is ∙ e .1) .1) in (made s bytes well (p .0) (p .1), made-good s bytes well (p .0) (p .1)),
+      λ g. (_, fill-is ∙ say-filled _ _ _ _ _ _ calm (and-true (good-fits s bytes well free (g .0) (g .1)) (good-consistent s bytes well free (g .0) (g .1)))),
+    )
+
+    pub says-none : (fill s work buffer ≡ none) ↔ ((f : List ℕ) → Good s f → ⊥)
+    says-none = (
+      λ e f g. not-both (and-true (good-fits s bytes well free f g) (good-consistent s bytes well free f g)) (said-none _ _ _ _ _ _ (sym fill-is ∙ e) .1),
+      λ n. fill-is ∙ say-none _ _ _ _ _ _ calm (not-so passes (λ p. n _ (made-good s bytes well (split p .0) (split p .1)))),
+    )
+
+  -- ---- d, e. what is handed back is such a filling, its sources row by row, and it is the only one
+
+  pub shows-filled : (l : List ℕ) → fill s work buffer ≡ filled l
+      → (f : List ℕ) × Good s f × (length l ≡ rowsAt s) × ((i : ℕ) → i < rowsAt s → getD l i 0 ≡ sourcesOf f i) × ((g : List ℕ) → Good s g → g ≡ f)
   unfolding tableOf decode
-  fair =
-      record {
-        few = rows-fit sound;
-        sized = λ i l. size-fits sound i l;
-        nonempty = λ i l a. access-size sound i l a .0;
-        ranks = λ i l. among-right sound i l .2;
-      }
+  shows-filled l e =
+      let p = said-filled _ _ _ _ _ _ (sym fill-is ∙ e) in
+      let q = split (p .1) in
+      let free = free-of T (fair s bytes well .sized) (p .0) in
+      let same = made-sources s bytes well (q .0) (q .1) in (
+        made s bytes well (q .0) (q .1),
+        made-good s bytes well (q .0) (q .1),
+        sym (ap length (p .2)) ∙ length-tabulate chosen (rowsAt s),
+        λ i m. sym (ap (λ (v : List ℕ). getD v i 0) (p .2)) ∙ getD-tabulate chosen (rowsAt s) i 0 m ∙ sym (same i m),
+        λ g h. fillings-same (h .0) (made-good s bytes well (q .0) (q .1) .0) (λ i m. forced s bytes well free g h i m ∙ sym (same i m)),
+      )
 
-  -- a source that refusal 9 takes where no blank is allowed is the initial value or a row that fits
-  fit-cases : (i v : ℕ) → reads (t .row i) ≡ true → (reads (t .row i) and not (sourceFits false t i v)) ≡ false → (v ≡ INITIAL) ⊎ (writerFits t i v ≡ true)
-  unfolding sourceFits
-  fit-cases i v r e =
-      ⊎-elim
-      (λ h. ⊎-elim (λ a. ⊎-elim (λ b. inl (eqb-true v INITIAL b)) (λ b. inr b) (or-cases (eqb v INITIAL) (writerFits t i v) a)) (λ a. not-both (split (split a .0) .0) refl) (or-cases (eqb v INITIAL or writerFits t i v) _ h))
-      (λ h. not-both (and-true r (not-in h)) e)
-      (which (eqb v INITIAL or writerFits t i v or (false and plainRead (t .row i) and eqb v BLANK)))
+  -- ---- g. for one table and any buffers that are long enough the outcome is the same
+
+  pub same-outcome : (work′ buffer′ : ℕ) → buffersFit SOURCES work′ buffer′ ≡ true → fill s work′ buffer′ ≡ fill s work buffer
+  unfolding fill
+  same-outcome work′ buffer′ h = rw (fit, h) refl
+
+-- ---- f. a table without blanks is its own one filling
+
+pub own-filling : (s : List ℕ) → Bytes s → ((i : ℕ) → i < rowsAt s → blankAt s i ≡ false) → (f : List ℕ) → Filling s f ↔ (f ≡ s)
+own-filling s bytes n f = (λ h. ext-getD 0 f s (h .size) (λ k l. h .kept k (λ i m b e. not-both b (n i m))), λ e. rw e itself)
+  where
+    itself : Filling s s
+    itself = record { size = refl; bytes = bytes; named = λ i l b. not-both b (n i l); kept = λ k h. refl }

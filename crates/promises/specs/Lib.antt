@@ -1,4 +1,6 @@
-pub mod Cases
 pub mod Check
-pub mod Outcomes
 pub mod Fill
+pub mod Cases
+pub mod Outcomes
+pub mod Searches
+pub mod FillLaws

@@ -1,0 +1,146 @@
+-- What the page on fills rests on: a good filling has the chosen sources, and where those fit they make one. Assumes nothing.
+use mathlib.Core.Path.{_≡_, refl, sym, ap, subst, _∙_}
+use mathlib.Core.Bool.{Bool, true, false, not, cond}
+use mathlib.Core.List.{List}
+use mathlib.Core.Logic.{_⊎_, inl, inr, ⊎-elim, _↔_}
+use Prim.Native.Nat.{ℕ, _+_, _≤_, _<_}
+use native.Mathlib.Omega.{arith}
+use lib.ListN.{length, getD}
+use lib.Dec.{ltb, eqb}
+use borrow.Author.Tests.{ltb-true, ltb-false, lt-ltb, le-ltb, eqb-true}
+use Rattle.finite.specs.Logic.{_and_, _or_, split, and-true, or-cases, which, not-both, not-so, not-in, not-out}
+use Rattle.finite.specs.Below.{least, least-is, any-not, any-off}
+use Rattle.finite.specs.Lists.{tabulate, length-tabulate, getD-tabulate}
+use Rattle.model.specs.declared.Admission.the-variants.{Admitted}
+use Rattle.model.specs.Limits.{SOURCES, INITIAL, BLANK}
+use Rattle.model.specs.Row.{plainRead, reads}
+use Rattle.model.specs.Table.{Table, agentsAt, rowsAt, rowBytes, rowOf, tableOf, sourcesOf, decode}
+use Rattle.model.specs.Race.{hasRace, raceRow, racePartner, raceByte}
+use Rattle.model.specs.Edge.{consistent}
+use Rattle.model.specs.Refusal.{buffersFit, writerFits, sourceFits, sourceBroken, admission}
+use Rattle.model.specs.Fill.{Outcome, race, none, filled, blank, choice, chosen, sourcesFit, filledOr, racingOr, outcome, admittedFill, fill}
+use Rattle.model.specs.Words.{Races, Consistent, WellFormed, ConsistentBytes, blankAt, Filling}
+use Rattle.model.specs.AdmissionLaws.{Sound, sound-admitted, admitted-sound, rows-fit, size-fits, access-size, among-right}
+use Rattle.model.specs.RaceLaws.{Sized, FirstRace, race-shown, race-none}
+use Rattle.model.specs.AxiomLaws.{consistent-is, consistent-cong}
+use Rattle.model.specs.ChoiceLaws.{NoRace, Fair, choice-forced}
+use Rattle.model.specs.FillingLaws.{table-kept, source-kept}
+use Rattle.model.specs.FilledLaws.{Bytes, filledBytes, fillings-same, filling-sound, sound-filling, filled-source, filled-filling}
+use Rattle.promises.specs.Outcomes.{settled, said-race, said-filled, said-none, say-race, say-filled, say-none}
+
+-- ---- definitions
+
+-- f is a filling of s that leaves the table well formed and consistent
+abbrev pub Good : List ℕ → List ℕ → Type 0
+Good s f = Filling s f × WellFormed f × ConsistentBytes f
+
+-- ---- laws
+
+module _ (s : List ℕ) (bytes : Bytes s) (well : admission true s ≡ Admitted (agentsAt s) (rowsAt s)) where
+  abbrev pub t : Table
+  t = tableOf s
+
+  abbrev pub source : ℕ → ℕ
+  source = chosen t (sourcesOf s)
+
+  sound : Sound true s
+  sound = admitted-sound true s well
+
+  pub fair : Fair t
+  unfolding tableOf decode
+  fair =
+      record {
+        few = rows-fit sound;
+        sized = λ i l. size-fits sound i l;
+        nonempty = λ i l a. access-size sound i l a .0;
+        ranks = λ i l. among-right sound i l .2;
+      }
+
+  -- a source that refusal 9 takes where no blank is allowed is the initial value or a row that fits
+  fit-cases : (i v : ℕ) → reads (t .row i) ≡ true → (reads (t .row i) and not (sourceFits false t i v)) ≡ false → (v ≡ INITIAL) ⊎ (writerFits t i v ≡ true)
+  unfolding sourceFits
+  fit-cases i v r e =
+      ⊎-elim
+      (λ h. ⊎-elim (λ a. ⊎-elim (λ b. inl (eqb-true v INITIAL b)) (λ b. inr b) (or-cases (eqb v INITIAL) (writerFits t i v) a)) (λ a. not-both (split (split a .0) .0) refl) (or-cases (eqb v INITIAL or writerFits t i v) _ h))
+      (λ h. not-both (and-true r (not-in h)) e)
+      (which (eqb v INITIAL or writerFits t i v or (false and plainRead (t .row i) and eqb v BLANK)))
+
+  chosen-blank : (i : ℕ) → blankAt s i ≡ true → source i ≡ choice t i
+  unfolding blankAt chosen
+  chosen-blank i e = rw e refl
+
+  chosen-kept : (i : ℕ) → blankAt s i ≡ false → source i ≡ sourcesOf s i
+  unfolding blankAt chosen
+  chosen-kept i e = rw e refl
+
+  blank-plain : (i : ℕ) → blankAt s i ≡ true → plainRead (t .row i) ≡ true
+  unfolding blankAt blank
+  blank-plain i e = split e .0
+
+  blank-reads : (i : ℕ) → blankAt s i ≡ true → reads (t .row i) ≡ true
+  unfolding plainRead reads _or_
+  blank-reads i e = rw (blank-plain i e) refl
+
+  row-of : {i : ℕ} → i < rowsAt s → i < t .rows
+  unfolding tableOf decode
+  row-of l = l
+
+  of-row : {i : ℕ} → i < t .rows → i < rowsAt s
+  unfolding tableOf decode
+  of-row l = l
+
+  -- ---- a good filling has the chosen sources
+
+  module _ (free : NoRace t) (f : List ℕ) (good : Good s f) where
+    kept : Consistent t (sourcesOf f)
+    kept = subst (λ (u : Table). Consistent u (sourcesOf f)) (table-kept (good .0)) (good .2)
+
+    admits : (i : ℕ) → i < rowsAt s → sourceBroken false t (sourcesOf f) i ≡ false
+    admits i l = sound-filling (good .0) (admitted-sound false f (good .1)) i l
+
+    pub forced : (i : ℕ) → i < rowsAt s → sourcesOf f i ≡ source i
+    unfolding sourceBroken
+    forced i l =
+        ⊎-elim
+        (λ e. choice-forced t fair free i (row-of l) (blank-plain i e) (sourcesOf f) kept (fit-cases i (sourcesOf f i) (blank-reads i e) (admits i l)) ∙ sym (chosen-blank i e))
+        (λ e. source-kept (good .0) i e ∙ sym (chosen-kept i e))
+        (which (blankAt s i))
+
+    pub good-fits : sourcesFit t source ≡ true
+    unfolding sourcesFit sourceBroken
+    good-fits =
+        not-in (any-not (λ i. reads (t .row i) and not (sourceFits false t i (source i))) (t .rows)
+        (λ i l. subst (λ (v : ℕ). (reads (t .row i) and not (sourceFits false t i v)) ≡ false) (forced i (of-row l)) (admits i (of-row l))))
+
+    pub good-consistent : consistent t source ≡ true
+    good-consistent = consistent-is t source (fair .sized) .1 (consistent-cong t (sourcesOf f) source (λ i l. forced i (of-row l)) kept)
+
+  -- ---- where the chosen sources fit and are consistent, they make a good filling
+
+  module _ (fits : sourcesFit t source ≡ true) (con : consistent t source ≡ true) where
+    fits-at : (i : ℕ) → i < rowsAt s → sourceBroken false t source i ≡ false
+    unfolding sourcesFit
+    fits-at i l = any-off (sourceBroken false t source) (t .rows) (not-out _ fits) i (row-of l)
+
+    named : (i : ℕ) → i < rowsAt s → blankAt s i ≡ true → (source i ≡ INITIAL) ⊎ (source i < rowsAt s)
+    unfolding sourceBroken writerFits
+    named i l b =
+        ⊎-elim (λ e. inl e) (λ e. inr (of-row (ltb-true (source i) (t .rows) (split (split (split e .0) .0) .0)))) (fit-cases i (source i) (blank-reads i b) (fits-at i l))
+
+    abbrev pub made : List ℕ
+    made = filledBytes s source
+
+    pub made-filling : Filling s made
+    made-filling = filled-filling s bytes sound source named
+
+    pub made-sources : (i : ℕ) → i < rowsAt s → sourcesOf made i ≡ source i
+    made-sources i l =
+        ⊎-elim (λ e. filled-source s bytes sound source named i l e) (λ e. source-kept made-filling i e ∙ sym (chosen-kept i e)) (which (blankAt s i))
+
+    pub made-good : Good s made
+    unfolding sourceBroken
+    made-good = (
+      made-filling,
+      sound-admitted false made (filling-sound made-filling sound (λ i l. subst (λ (v : ℕ). (reads (t .row i) and not (sourceFits false t i v)) ≡ false) (sym (made-sources i l)) (fits-at i l))),
+      subst (λ (u : Table). Consistent u (sourcesOf made)) (sym (table-kept made-filling)) (consistent-cong t source (sourcesOf made) (λ i l. sym (made-sources i (of-row l))) (consistent-is t source (fair .sized) .0 con)),
+    )

@@ -21,3 +21,4 @@ pub mod AxiomLaws
 pub mod PairLaws
 pub mod ChoiceLaws
 pub mod FilledLaws
+pub mod SourceLaws

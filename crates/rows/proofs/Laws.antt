@@ -1,14 +1,14 @@
 -- Laws that the readers' proofs cite. Assumes nothing.
 use mathlib.Core.Path.{_≡_, refl, sym, _∙_}
 use mathlib.Core.List.{List, [], _∷_}
-use Prim.Native.Nat.{ℕ, _≤_, _<_, _+_}
+use Prim.Native.Nat.{ℕ, _≤_, _<_, _+_, _-_}
 use native.Mathlib.Nat.{le-of-eq}
 use native.Mathlib.Numerals.{add-one}
 use native.Mathlib.Omega.{arith}
-use lib.ListN.{length, getD, List·getD-eq-default, take, set}
+use lib.ListN.{length, List·getD-eq-default, take, drop, set, length-drop, drop-of-length-le}
 use lib.Seq.{take-suc-set, take-all}
 use Rattle.finite.specs.Lists.{tabulate}
-use Rattle.model.specs.Table.{pairAt, quadAt}
+use Rattle.model.specs.Table.{pairAt, quadAt, agentsAt, rowsBegin, rowBytes}
 
 -- ---- past the end a number is 0
 
@@ -21,6 +21,16 @@ pair-past s k h =
 pub quad-past : (s : List ℕ) (k : ℕ) → length s ≤ k → quadAt s k ≡ 0
 unfolding quadAt
 quad-past s k h = rw (pair-past s k h, pair-past s (k + 2) (omega arith)) refl
+
+-- ---- the bytes of the rows, from where they begin
+
+pub rows-none : (s : List ℕ) (at : ℕ) → at ≡ rowsBegin (agentsAt s) → length s ≤ at → rowBytes s ≡ []
+unfolding rowBytes
+rows-none s at e h = rw (← e) (drop-of-length-le s h)
+
+pub rows-rest : (s : List ℕ) (at : ℕ) → at ≡ rowsBegin (agentsAt s) → take (length s - at) (drop at s) ≡ rowBytes s
+unfolding rowBytes
+rows-rest s at e = rw (← e) (take-all _ (drop at s) (le-of-eq (length-drop at s)))
 
 -- ---- a loop that stores f i at i, counting up
 

@@ -1,7 +1,8 @@
 // Numbers, rows and sources out of the bytes of a table. Each reader is total: past the end a byte is 0.
 ghost use mathlib.Core.Path.{_≡_};
 ghost use lib.ListN.{getD};
-ghost use Rattle.model.specs.Table.{pairAt, quadAt, agentsAt, rowsAt, byteOf, pairOf, rowOf, sourceOf, atomicSource};
+ghost use Rattle.model.specs.Table.{pairAt, quadAt, agentsAt, rowsAt, rowsBegin, rowBytes};
+ghost use Rattle.model.specs.Table.{byteOf, pairOf, rowOf, sourceOf, atomicSource};
 use crate::kinds;
 use model::Row;
 use model::Source;
@@ -48,6 +49,23 @@ pub fn rows_at(s: &[u8]) -> u8
     ensures { λ r. ⌜ r ≡ rowsAt (now (s .entry)) ⌝ }
 {
     byte_at(s, 6)
+}
+
+pub fn rows_begin(agents: u8) -> usize
+    ensures { λ r. ⌜ r ≡ rowsBegin agents ⌝ }
+{
+    HEADER + PLACE_BYTES * (agents as usize)
+}
+
+// The bytes of the rows alone; none in a table that ends before them.
+pub fn row_bytes(s: &[u8]) -> &[u8]
+    ensures { λ r. ⌜ now r ≡ rowBytes (now (s .entry)) ⌝ }
+{
+    let at = rows_begin(agents_at(s));
+    if s.len() <= at {
+        return &s[..0];
+    }
+    &s[at..]
 }
 
 // Byte k of row i, in the bytes of the rows alone.

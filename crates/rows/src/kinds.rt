@@ -1,6 +1,7 @@
 // What a row is: its kind, order, flags, classes and bytes. Nothing else tests a kind's number, an order or a flag.
 ghost use mathlib.Core.Path.{_≡_};
-ghost use Rattle.model.specs.Row.{plain, atomic, access, barrier, plainRead, rmw, reads, writes, ranked, acquires, releases, holds, meets, single, classIn, nonPrivate, makesAvailable, makesVisible, touches, covers};
+ghost use Rattle.model.specs.Row.{plain, atomic, access, barrier, plainRead, rmw, reads, writes, ranked, acquires, releases};
+ghost use Rattle.model.specs.Row.{holds, meets, single, classIn, nonPrivate, makesAvailable, makesVisible, touches, covers};
 use model::Row;
 
 // ---- kinds
@@ -152,7 +153,7 @@ pub fn makes_visible(r: Row) -> bool
 
 // ---- bytes
 
-// Whether b is a byte of r. A sum of 16-bit numbers may be past 65535, so b is wider.
+// Whether b is a byte of r. The end of r may not fit into 16 bits, so b is wider.
 pub fn touches(r: Row, b: u32) -> bool
     ensures { λ d. ⌜ d ≡ touches r b ⌝ }
 {

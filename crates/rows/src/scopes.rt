@@ -51,7 +51,7 @@ pub fn read_places(s: &[u8]) -> Places
     ensures { λ p. ⌜ p ≡ placesOf (now (s .entry)) ⌝ }
 {
     let none = [0u16; 3];
-    let mut p = [none; 16];
+    let mut p = [none; model::AGENTS];
     for a in 0..model::AGENTS {
         let place = read_place(s, a as u8);
         p[a] = place;
@@ -68,7 +68,7 @@ fn place_number(p: Places, a: u8, k: usize) -> u16
     if i < model::AGENTS { p[i][k] } else { 0 }
 }
 
-fn do_agree(p: Places, k: usize, a: u8, b: u8) -> bool
+fn agree(p: Places, k: usize, a: u8, b: u8) -> bool
     requires { ⌜ k < 3 ⌝ }
     ensures { λ r. ⌜ r ≡ agree p k a b ⌝ }
 {
@@ -80,9 +80,9 @@ fn do_agree(p: Places, k: usize, a: u8, b: u8) -> bool
 pub fn shares_scope(p: Places, scope: u8, a: u8, b: u8) -> bool
     ensures { λ r. ⌜ r ≡ shares p scope a b ⌝ }
 {
-    let family = do_agree(p, 0, a, b);
-    let workgroup = do_agree(p, 1, a, b);
-    let subgroup = do_agree(p, 2, a, b);
+    let family = agree(p, 0, a, b);
+    let workgroup = agree(p, 1, a, b);
+    let subgroup = agree(p, 2, a, b);
     (scope == DEVICE)
         | (scope == FAMILY) & family
         | (scope == WORKGROUP) & family & workgroup

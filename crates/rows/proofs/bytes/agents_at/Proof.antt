@@ -1,5 +1,5 @@
-use Rattle.model.specs.Table.{agentsAt}
 use borrow.Author.Needs.{needs}
+use Rattle.model.specs.Table.{agentsAt}
 use Rattle.rows.proofs.bytes.agents_at.Statement.{statement}
 use Rattle.rows.proofs.bytes.agents_at.Tie as tie
 use Rattle.rows.proofs.bytes.agents_at.Reads as reads

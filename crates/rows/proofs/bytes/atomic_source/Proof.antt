@@ -1,7 +1,7 @@
 use mathlib.Core.Path.{sym, ap, _∙_}
-use Rattle.model.specs.Row.{atomic}
-use Rattle.model.specs.Table.{atomicSource, rowOf}
 use borrow.Author.Needs.{needs}
+use Rattle.model.specs.Row.{atomic}
+use Rattle.model.specs.Table.{atomicSource}
 use Rattle.rows.proofs.bytes.atomic_source.Statement.{statement}
 use Rattle.rows.proofs.bytes.atomic_source.Tie as tie
 use Rattle.rows.proofs.bytes.atomic_source.Reads as reads

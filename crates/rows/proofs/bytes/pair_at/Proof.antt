@@ -1,7 +1,7 @@
-use Rattle.model.specs.Table.{pairAt}
-use Rattle.rows.proofs.Laws.{pair-past}
 use mathlib.Core.Path.{sym}
 use borrow.Author.Needs.{needs}
+use Rattle.model.specs.Table.{pairAt}
+use Rattle.rows.proofs.Laws.{pair-past}
 use Rattle.rows.proofs.bytes.pair_at.Statement.{statement}
 use Rattle.rows.proofs.bytes.pair_at.Tie as tie
 use Rattle.rows.proofs.bytes.pair_at.Reads as reads

@@ -1,7 +1,7 @@
-use Rattle.model.specs.Table.{quadAt}
-use Rattle.rows.proofs.Laws.{quad-past}
 use mathlib.Core.Path.{sym}
 use borrow.Author.Needs.{needs}
+use Rattle.model.specs.Table.{quadAt}
+use Rattle.rows.proofs.Laws.{quad-past}
 use Rattle.rows.proofs.bytes.quad_at.Statement.{statement}
 use Rattle.rows.proofs.bytes.quad_at.Tie as tie
 use Rattle.rows.proofs.bytes.quad_at.Reads as reads

@@ -1,5 +1,5 @@
-use Rattle.model.specs.Table.{rowOf}
 use borrow.Author.Needs.{needs}
+use Rattle.model.specs.Table.{rowOf}
 use Rattle.rows.proofs.bytes.read_row.Statement.{statement}
 use Rattle.rows.proofs.bytes.read_row.Tie as tie
 use Rattle.rows.proofs.bytes.read_row.Reads as reads

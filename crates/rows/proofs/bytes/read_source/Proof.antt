@@ -1,5 +1,5 @@
-use Rattle.model.specs.Table.{sourceOf}
 use borrow.Author.Needs.{needs}
+use Rattle.model.specs.Table.{sourceOf}
 use Rattle.rows.proofs.bytes.read_source.Statement.{statement}
 use Rattle.rows.proofs.bytes.read_source.Tie as tie
 use Rattle.rows.proofs.bytes.read_source.Reads as reads

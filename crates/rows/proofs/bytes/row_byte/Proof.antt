@@ -1,5 +1,5 @@
-use Rattle.model.specs.Table.{byteOf}
 use borrow.Author.Needs.{needs}
+use Rattle.model.specs.Table.{byteOf}
 use Rattle.rows.proofs.bytes.row_byte.Statement.{statement}
 use Rattle.rows.proofs.bytes.row_byte.Tie as tie
 use Rattle.rows.proofs.bytes.row_byte.Reads as reads

@@ -1,5 +1,5 @@
-use Rattle.model.specs.Table.{pairOf}
 use borrow.Author.Needs.{needs}
+use Rattle.model.specs.Table.{pairOf}
 use Rattle.rows.proofs.bytes.row_pair.Statement.{statement}
 use Rattle.rows.proofs.bytes.row_pair.Tie as tie
 use Rattle.rows.proofs.bytes.row_pair.Reads as reads

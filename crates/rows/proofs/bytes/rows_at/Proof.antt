@@ -1,5 +1,5 @@
-use Rattle.model.specs.Table.{rowsAt}
 use borrow.Author.Needs.{needs}
+use Rattle.model.specs.Table.{rowsAt}
 use Rattle.rows.proofs.bytes.rows_at.Statement.{statement}
 use Rattle.rows.proofs.bytes.rows_at.Tie as tie
 use Rattle.rows.proofs.bytes.rows_at.Reads as reads

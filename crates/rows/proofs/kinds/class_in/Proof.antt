@@ -1,5 +1,5 @@
-use Rattle.model.specs.Row.{classIn}
 use borrow.Author.Needs.{needs}
+use Rattle.model.specs.Row.{classIn}
 use Rattle.rows.proofs.kinds.class_in.Statement.{statement}
 use Rattle.rows.proofs.kinds.class_in.Tie as tie
 use Rattle.rows.proofs.kinds.class_in.Reads as reads

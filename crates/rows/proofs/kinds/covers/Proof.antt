@@ -1,7 +1,7 @@
-use Rattle.finite.specs.Logic.{_and_}
 use mathlib.Core.Path.{refl}
-use Rattle.model.specs.Row.{covers}
 use borrow.Author.Needs.{needs}
+use Rattle.finite.specs.Logic.{_and_}
+use Rattle.model.specs.Row.{covers}
 use Rattle.rows.proofs.kinds.covers.Statement.{statement}
 use Rattle.rows.proofs.kinds.covers.Tie as tie
 use Rattle.rows.proofs.kinds.covers.Reads as reads

@@ -1,5 +1,5 @@
-use Rattle.finite.specs.Logic.{_and_}
 use mathlib.Core.Path.{refl}
+use Rattle.finite.specs.Logic.{_and_}
 use Rattle.model.specs.Row.{atomic}
 use Rattle.rows.proofs.kinds.is_atomic.Statement.{statement}
 use Rattle.rows.proofs.kinds.is_atomic.Tie as tie

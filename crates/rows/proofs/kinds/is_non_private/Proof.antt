@@ -1,5 +1,5 @@
-use Rattle.model.specs.Row.{nonPrivate}
 use borrow.Author.Needs.{needs}
+use Rattle.model.specs.Row.{nonPrivate}
 use Rattle.rows.proofs.kinds.is_non_private.Statement.{statement}
 use Rattle.rows.proofs.kinds.is_non_private.Tie as tie
 use Rattle.rows.proofs.kinds.is_non_private.Reads as reads

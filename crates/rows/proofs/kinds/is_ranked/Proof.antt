@@ -1,5 +1,5 @@
-use Rattle.finite.specs.Logic.{_or_}
 use mathlib.Core.Path.{refl}
+use Rattle.finite.specs.Logic.{_or_}
 use Rattle.model.specs.Row.{ranked}
 use Rattle.rows.proofs.kinds.is_ranked.Statement.{statement}
 use Rattle.rows.proofs.kinds.is_ranked.Tie as tie

@@ -1,5 +1,5 @@
-use Rattle.model.specs.Row.{makesAvailable}
 use borrow.Author.Needs.{needs}
+use Rattle.model.specs.Row.{makesAvailable}
 use Rattle.rows.proofs.kinds.makes_available.Statement.{statement}
 use Rattle.rows.proofs.kinds.makes_available.Tie as tie
 use Rattle.rows.proofs.kinds.makes_available.Reads as reads

@@ -1,5 +1,5 @@
-use Rattle.model.specs.Row.{makesVisible}
 use borrow.Author.Needs.{needs}
+use Rattle.model.specs.Row.{makesVisible}
 use Rattle.rows.proofs.kinds.makes_visible.Statement.{statement}
 use Rattle.rows.proofs.kinds.makes_visible.Tie as tie
 use Rattle.rows.proofs.kinds.makes_visible.Reads as reads

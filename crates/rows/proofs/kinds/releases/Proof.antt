@@ -1,5 +1,5 @@
-use Rattle.finite.specs.Logic.{_or_}
 use mathlib.Core.Path.{refl}
+use Rattle.finite.specs.Logic.{_or_}
 use Rattle.model.specs.Row.{releases}
 use Rattle.rows.proofs.kinds.releases.Statement.{statement}
 use Rattle.rows.proofs.kinds.releases.Tie as tie

@@ -1,7 +1,7 @@
 use mathlib.Core.Path.{refl}
+use borrow.Author.Needs.{needs}
 use Rattle.finite.specs.Logic.{_and_}
 use Rattle.model.specs.Row.{touches, inside}
-use borrow.Author.Needs.{needs}
 use Rattle.rows.proofs.kinds.touches.Statement.{statement}
 use Rattle.rows.proofs.kinds.touches.Tie as tie
 use Rattle.rows.proofs.kinds.touches.Reads as reads

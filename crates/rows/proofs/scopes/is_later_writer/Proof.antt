@@ -1,6 +1,6 @@
+use borrow.Author.Needs.{needs}
 use Rattle.finite.specs.Logic.{_and_}
 use Rattle.model.specs.Scope.{laterWriter}
-use borrow.Author.Needs.{needs}
 use Rattle.rows.proofs.scopes.is_later_writer.Statement.{statement}
 use Rattle.rows.proofs.scopes.is_later_writer.Tie as tie
 use Rattle.rows.proofs.scopes.is_later_writer.Reads as reads

@@ -1,6 +1,6 @@
+use borrow.Author.Needs.{needs}
 use Rattle.finite.specs.Logic.{_and_}
 use Rattle.model.specs.Scope.{mutualRows}
-use borrow.Author.Needs.{needs}
 use Rattle.rows.proofs.scopes.is_mutual.Statement.{statement}
 use Rattle.rows.proofs.scopes.is_mutual.Tie as tie
 use Rattle.rows.proofs.scopes.is_mutual.Reads as reads

@@ -1,6 +1,6 @@
 use borrow.Author.Tests.{lt-ltb, le-ltb}
-use Rattle.model.specs.Table.{slotAt, placeAt}
 use borrow.Author.Needs.{needs}
+use Rattle.model.specs.Table.{slotAt, placeAt}
 use Rattle.rows.proofs.scopes.read_place.Statement.{statement}
 use Rattle.rows.proofs.scopes.read_place.Tie as tie
 use Rattle.rows.proofs.scopes.read_place.Reads as reads

@@ -1,13 +1,13 @@
-use Rattle.rows.proofs.Laws.{tab-none, tab-more, tab-all}
-use Rattle.model.specs.Table.{slotAt, placesOf}
-use Rattle.model.specs.Limits.{AGENTS}
-use Rattle.finite.specs.Lists.{tabulate}
 use lib.ListN.{length, take, length-set}
-use mathlib.Core.Path.{_≡_, refl, subst}
+use mathlib.Core.Path.{_≡_, refl}
 use Prim.Native.Nat.{_≤_, _-_}
 use native.Mathlib.Omega.{arith}
 use mathlib.Core.List.{[]}
 use borrow.Author.Needs.{needs}
+use Rattle.finite.specs.Lists.{tabulate}
+use Rattle.model.specs.Table.{slotAt, placesOf}
+use Rattle.model.specs.Limits.{AGENTS}
+use Rattle.rows.proofs.Laws.{tab-none, tab-more, tab-all}
 use Rattle.rows.proofs.scopes.read_places.Statement.{statement}
 use Rattle.rows.proofs.scopes.read_places.Tie as tie
 use Rattle.rows.proofs.scopes.read_places.Reads as reads

@@ -1,23 +1,23 @@
+use borrow.Author.Needs.{needs}
 use Rattle.finite.specs.Logic.{_and_, _or_}
 use Rattle.model.specs.Scope.{shares}
-use borrow.Author.Needs.{needs}
 use Rattle.rows.proofs.scopes.shares_scope.Statement.{statement}
 use Rattle.rows.proofs.scopes.shares_scope.Tie as tie
 use Rattle.rows.proofs.scopes.shares_scope.Reads as reads
 use Rattle.rows.proofs.scopes.shares_scope.Lts as lts
-use Rattle.rows.proofs.scopes.do_agree.Reads as do-agree-reads
+use Rattle.rows.proofs.scopes.agree.Reads as agree-reads
 
 -- src/scopes.rt:67:9
-do-agree-requires : tie.Need-do-agree-requires
-do-agree-requires c κs = search needs
+agree-requires : tie.Need-agree-requires
+agree-requires c κs = search needs
 
 -- src/scopes.rt:68:9
-do-agree-requires-2 : tie.Need-do-agree-requires-2
-do-agree-requires-2 c κs = search needs
+agree-requires-2 : tie.Need-agree-requires-2
+agree-requires-2 c κs = search needs
 
 -- src/scopes.rt:69:9
-do-agree-requires-3 : tie.Need-do-agree-requires-3
-do-agree-requires-3 c κs = search needs
+agree-requires-3 : tie.Need-agree-requires-3
+agree-requires-3 c κs = search needs
 
 -- src/scopes.rt:64:1
 returns : tie.Need-returns
@@ -26,4 +26,4 @@ returns c = cc
 
 pub shares-scope-spec : {M : Type 1} → statement M
 shares-scope-spec =
-    tie.close (tie.spec do-agree-requires do-agree-requires-2 do-agree-requires-3 returns)
+    tie.close (tie.spec agree-requires agree-requires-2 agree-requires-3 returns)

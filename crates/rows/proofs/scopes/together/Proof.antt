@@ -1,6 +1,6 @@
+use borrow.Author.Needs.{needs}
 use Rattle.finite.specs.Logic.{_and_}
 use Rattle.model.specs.Scope.{together}
-use borrow.Author.Needs.{needs}
 use Rattle.rows.proofs.scopes.together.Statement.{statement}
 use Rattle.rows.proofs.scopes.together.Tie as tie
 use Rattle.rows.proofs.scopes.together.Reads as reads

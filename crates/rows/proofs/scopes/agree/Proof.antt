@@ -1,9 +1,9 @@
-use Rattle.model.specs.Scope.{agree}
 use borrow.Author.Needs.{needs}
-use Rattle.rows.proofs.scopes.do_agree.Statement.{statement}
-use Rattle.rows.proofs.scopes.do_agree.Tie as tie
-use Rattle.rows.proofs.scopes.do_agree.Reads as reads
-use Rattle.rows.proofs.scopes.do_agree.Lts as lts
+use Rattle.model.specs.Scope.{agree}
+use Rattle.rows.proofs.scopes.agree.Statement.{statement}
+use Rattle.rows.proofs.scopes.agree.Tie as tie
+use Rattle.rows.proofs.scopes.agree.Reads as reads
+use Rattle.rows.proofs.scopes.agree.Lts as lts
 use Rattle.rows.proofs.scopes.place_number.Reads as place-number-reads
 
 -- src/scopes.rt:59:5
@@ -19,5 +19,5 @@ returns : tie.Need-returns
 unfolding agree
 returns c = cc
 
-pub do-agree-spec : {M : Type 1} → statement M
-do-agree-spec = tie.close (tie.spec place-number-requires place-number-requires-2 returns)
+pub agree-spec : {M : Type 1} → statement M
+agree-spec = tie.close (tie.spec place-number-requires place-number-requires-2 returns)

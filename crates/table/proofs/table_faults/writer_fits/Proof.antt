@@ -1,0 +1,48 @@
+use borrow.Author.Needs.{needs}
+use Rattle.finite.specs.Logic.{_and_}
+use Rattle.model.specs.Table.{decode}
+use Rattle.model.specs.Refusal.{writerFits}
+use Rattle.table.proofs.table_faults.writer_fits.Statement.{statement}
+use Rattle.table.proofs.table_faults.writer_fits.Tie as tie
+use Rattle.table.proofs.table_faults.writer_fits.Reads as reads
+use Rattle.table.proofs.table_faults.writer_fits.Lts as lts
+use Rattle.model.proofs.Source.is_row.Reads as is-row-reads
+use Rattle.rows.proofs.bytes.read_row.Reads as read-row-reads
+use Rattle.rows.proofs.kinds.covers.Reads as covers-reads
+use Rattle.rows.proofs.kinds.writes.Reads as writes-reads
+
+-- src/table_faults.rt:55:9
+read-row-requires : tie.Need-read-row-requires
+read-row-requires c κs = search needs
+
+-- src/table_faults.rt:56:9
+read-row-requires-2 : tie.Need-read-row-requires-2
+read-row-requires-2 c κs = search needs
+
+-- src/table_faults.rt:57:5
+is-row-requires : tie.Need-is-row-requires
+is-row-requires c κs = search needs
+
+-- src/table_faults.rt:57:33
+writes-requires : tie.Need-writes-requires
+writes-requires c κs = search needs
+
+-- src/table_faults.rt:57:52
+covers-requires : tie.Need-covers-requires
+covers-requires c κs = search needs
+
+-- src/table_faults.rt:52:1
+returns : tie.Need-returns
+unfolding writerFits decode _and_
+returns c = cc
+
+pub writer-fits-spec : {M : Type 1} → statement M
+writer-fits-spec =
+    tie.close
+    (tie.spec
+    read-row-requires
+    read-row-requires-2
+    is-row-requires
+    writes-requires
+    covers-requires
+    returns)

@@ -1,0 +1,17 @@
+-- The part of an admission that comes after the header's, over the bytes of the rows alone.
+use mathlib.Core.Bool.{Bool}
+use mathlib.Core.List.{List}
+use Prim.Native.Nat.{ℕ}
+use Rattle.model.specs.declared.Admission.{Admission}
+use Rattle.model.specs.declared.Admission.the-variants.{Admitted}
+use Rattle.model.specs.Table.{rowOf, sourceOf, decode}
+use Rattle.model.specs.Refusal.{rowFault, tableFault, firstFault}
+
+-- the fault of row i by itself, in the bytes b of the rows
+unfoldable pub rowFaultIn : ℕ → List ℕ → ℕ → ℕ
+rowFaultIn agents b i = rowFault agents (rowOf b i) (sourceOf b i)
+
+-- n rows in their bytes b, with the places p: rows ascending through 5 to 7, then rows ascending through 8 to 10
+unfoldable pub rowsAdmission : Bool → ℕ → List ℕ → List (List ℕ) → ℕ → Admission
+rowsAdmission blanks agents b p n =
+    firstFault (rowFaultIn agents b) n (firstFault (tableFault blanks (decode b p n) (sourceOf b)) n (Admitted agents n))

@@ -1,0 +1,75 @@
+// Admission: refusals 1 to 10 of document 01, each a test of its own, in their order.
+ghost use mathlib.Core.Path.{_≡_};
+ghost use mathlib.Core.Bool.{cond};
+ghost use Rattle.model.specs.Refusal.{admission};
+ghost use Rattle.table.specs.Rows.{rowsAdmission};
+use model::Admission;
+use model::Places;
+use rows::bytes;
+use rows::scopes;
+
+pub mod header; // 1 to 4
+pub mod row_faults; // 5 to 7: a row by itself
+pub mod table_faults; // 8 to 10: a row among the others
+
+// ---- the cascades choose by these: all that they choose from is total
+
+pub fn pick(b: bool, x: u8, y: u8) -> u8
+    ensures { λ r. ⌜ r ≡ cond b x y ⌝ }
+{
+    if b { x } else { y }
+}
+
+pub fn choose(b: bool, x: bool, y: bool) -> bool
+    ensures { λ r. ⌜ r ≡ cond b x y ⌝ }
+{
+    if b { x } else { y }
+}
+
+// ---- in their order
+
+// Rows ascending through 5 to 7, then rows ascending through 8 to 10.
+fn admit_rows(rows: &[u8], p: Places, agents: u8, count: u8, blanks: bool) -> Admission
+    ensures { λ r. ⌜ r ≡ rowsAdmission blanks agents (now (rows .entry)) p count ⌝ }
+{
+    let n = count as u16;
+    let i = row_faults::first_row_fault(rows, agents, n);
+    if i < n {
+        let number = row_faults::row_fault_at(rows, agents, i);
+        return Admission::Refused {
+            number: number,
+            row: i,
+        };
+    }
+    let j = table_faults::first_table_fault(rows, p, n, blanks);
+    if j < n {
+        let number = table_faults::table_fault(rows, p, n, blanks, j);
+        return Admission::Refused {
+            number: number,
+            row: j,
+        };
+    }
+    Admission::Admitted {
+        agents: agents,
+        rows: count,
+    }
+}
+
+// What a table is refused for, or its counts. `blanks` says whether a blank is allowed: in a fill, not in a check.
+// Two wrong programs that the contract rules out: one that tries 5 on all rows before 6 on any, so that row 3's refusal 5
+// hides row 1's refusal 6; one that lets a blank pass in a check, or in a fill on an atomic read.
+pub fn admit(s: &[u8], blanks: bool) -> Admission
+    ensures { λ r. ⌜ r ≡ admission blanks (now (s .entry)) ⌝ }
+{
+    let fault = header::header_fault(s);
+    if fault != 0 {
+        return Admission::Refused {
+            number: fault,
+            row: 0,
+        };
+    }
+    let agents = bytes::agents_at(s);
+    let count = bytes::rows_at(s);
+    let p = scopes::read_places(s);
+    admit_rows(bytes::row_bytes(s), p, agents, count, blanks)
+}

@@ -1,0 +1,135 @@
+// Refusals 5 to 7: a row by itself.
+ghost use mathlib.Core.Path.{_≡_};
+ghost use Rattle.finite.specs.Below.{least};
+ghost use Rattle.model.specs.Refusal.{codesFit, plainFits, atomicFits, barrierFits, semanticsFit, kindFits, extentFits};
+ghost use Rattle.model.specs.Refusal.{rowFault, faulty};
+ghost use Rattle.table.specs.Rows.{rowFaultIn};
+use crate::choose;
+use crate::pick;
+use model::Row;
+use model::Source;
+use rows::bytes;
+use rows::kinds;
+use rows::scopes;
+
+pub const CLASSES: u8 = 15;
+
+pub const FLAGS: u8 = 7;
+
+pub const CLASS: u8 = 3;
+
+// 5: each code is in range.
+pub fn codes_fit(agents: u8, r: Row) -> bool
+    ensures { λ b. ⌜ b ≡ codesFit agents r ⌝ }
+{
+    (r.kind <= kinds::BARRIER)
+        & (r.agent < agents)
+        & (r.order <= kinds::BOTH)
+        & (r.scope <= scopes::DEVICE)
+        & (r.classes <= CLASSES)
+        & (r.flags <= FLAGS)
+        & (r.class <= CLASS)
+}
+
+// 6, of a plain row.
+pub fn plain_fits(r: Row) -> bool
+    ensures { λ b. ⌜ b ≡ plainFits r ⌝ }
+{
+    let available = kinds::makes_available(r);
+    let visible = kinds::makes_visible(r);
+    let scoped = choose(
+        available | visible,
+        kinds::is_non_private(r),
+        r.scope == scopes::INVOCATION,
+    );
+    (r.order == kinds::RELAXED)
+        & (r.classes == 0)
+        & !(kinds::reads(r) & available)
+        & !(kinds::writes(r) & visible)
+        & scoped
+}
+
+// 6, of an atomic row: each kind has its orders.
+pub fn atomic_fits(r: Row) -> bool
+    ensures { λ b. ⌜ b ≡ atomicFits r ⌝ }
+{
+    let relaxed = r.order == kinds::RELAXED;
+    kinds::is_non_private(r)
+        & (!(r.kind == kinds::ATOMIC_READ) | relaxed | (r.order == kinds::ACQUIRE))
+        & (!(r.kind == kinds::ATOMIC_WRITE) | relaxed | (r.order == kinds::RELEASE))
+}
+
+// 6, of a barrier: it has no bytes.
+pub fn barrier_fits(r: Row) -> bool
+    ensures { λ b. ⌜ b ≡ barrierFits r ⌝ }
+{
+    !(r.order == kinds::RELAXED)
+        & !kinds::is_non_private(r)
+        & (r.class == 0)
+        & (r.size == 0)
+        & (r.start == 0)
+        & (r.reference == 0)
+}
+
+// 6, of an atomic row or a barrier: its flags and classes go with its order.
+pub fn semantics_fit(r: Row) -> bool
+    ensures { λ b. ⌜ b ≡ semanticsFit r ⌝ }
+{
+    (!kinds::makes_available(r) | kinds::releases(r))
+        & (!kinds::makes_visible(r) | kinds::acquires(r))
+        & ((r.classes == 0) == (r.order == kinds::RELAXED))
+}
+
+// 6: kind fit.
+pub fn kind_fits(r: Row, source: Source) -> bool
+    ensures { λ b. ⌜ b ≡ kindFits r (source .0) ⌝ }
+{
+    let plain = kinds::is_plain(r);
+    (!plain | plain_fits(r))
+        & (!kinds::is_atomic(r) | atomic_fits(r))
+        & (!kinds::is_barrier(r) | barrier_fits(r))
+        & (plain | semantics_fit(r))
+        & (kinds::reads(r) | source.is_initial())
+        & (kinds::is_ranked(r) | (r.rank == 0))
+}
+
+pub const LONGEST: u8 = 16;
+
+pub const BYTES: u32 = 65536;
+
+// 7: an access has 1 to 16 bytes, all below 65536.
+pub fn extent_fits(r: Row) -> bool
+    ensures { λ b. ⌜ b ≡ extentFits r ⌝ }
+{
+    let end = (r.start as u32) + (r.size as u32);
+    !kinds::is_access(r) | (1 <= r.size) & (r.size <= LONGEST) & (end <= BYTES)
+}
+
+// Refusals 5 to 7 of a row, or 0.
+// Ruled out: a barrier of class 4 gets 6, though 5 comes first; an access passes that goes on past the last byte.
+pub fn row_fault(agents: u8, r: Row, source: Source) -> u8
+    ensures { λ n. ⌜ n ≡ rowFault agents r (source .0) ⌝ }
+{
+    let fault = pick(kind_fits(r, source), pick(extent_fits(r), 0, 7), 6);
+    pick(codes_fit(agents, r), fault, 5)
+}
+
+pub fn row_fault_at(rows: &[u8], agents: u8, i: u16) -> u8
+    ensures { λ n. ⌜ n ≡ rowFaultIn agents (now (rows .entry)) i ⌝ }
+{
+    let r = bytes::read_row(rows, i);
+    row_fault(agents, r, bytes::read_source(rows, i))
+}
+
+// The first of n rows that has a refusal 5 to 7; n where none has.
+// Ruled out: a later faulty row than the first; a fault in bytes past the n rows.
+pub fn first_row_fault(rows: &[u8], agents: u8, n: u16) -> u16
+    ensures { λ i. ⌜ i ≡ least n (faulty (rowFaultIn agents (now (rows .entry)))) ⌝ }
+{
+    for i in 0..n {
+        if row_fault_at(rows, agents, i) != 0 {
+            return i;
+        }
+    }
+    n
+}

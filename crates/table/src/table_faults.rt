@@ -1,0 +1,133 @@
+// Refusals 8 to 10: a row among the others.
+// A test that reads no place is stated of a table with none, and one that reads no number of rows of a table of 0: what is
+// left out makes no difference to it.
+ghost use mathlib.Core.Path.{_≡_};
+ghost use mathlib.Core.List.{[]};
+ghost use Rattle.finite.specs.Below.{anyBelow, least};
+ghost use Rattle.model.specs.Table.{decode, sourceOf};
+ghost use Rattle.model.specs.Refusal.{otherClass, otherClassAt, classTaken, writerFits, sourceFits, sourceBroken};
+ghost use Rattle.model.specs.Refusal.{sameRank, sameRankAt, rankTaken, tableFault, faulty};
+use crate::pick;
+use model::Places;
+use model::Row;
+use model::Source;
+use rows::bytes;
+use rows::kinds;
+use rows::scopes;
+
+// ---- 8
+
+// The access q has r's reference and another class.
+pub fn other_class(r: Row, q: Row) -> bool
+    ensures { λ b. ⌜ b ≡ otherClass r q ⌝ }
+{
+    kinds::is_access(q) & (q.reference == r.reference) & !(q.class == r.class)
+}
+
+pub fn other_class_at(rows: &[u8], i: u16, j: u16) -> bool
+    ensures { λ b. ⌜ b ≡ otherClassAt (decode (now (rows .entry)) [] 0) i j ⌝ }
+{
+    other_class(bytes::read_row(rows, i), bytes::read_row(rows, j))
+}
+
+pub fn any_other_class(rows: &[u8], i: u16) -> bool
+    ensures { λ b. ⌜ b ≡ anyBelow i (otherClassAt (decode (now (rows .entry)) [] 0) i) ⌝ }
+{
+    for j in 0..i {
+        if other_class_at(rows, i, j) {
+            return true;
+        }
+    }
+    false
+}
+
+pub fn class_taken(rows: &[u8], i: u16) -> bool
+    ensures { λ b. ⌜ b ≡ classTaken (decode (now (rows .entry)) [] 0) i ⌝ }
+{
+    kinds::is_access(bytes::read_row(rows, i)) & any_other_class(rows, i)
+}
+
+// ---- 9
+
+// Of n rows, s is another row than i, a writer, and covers all bytes of row i.
+pub fn writer_fits(rows: &[u8], n: u16, i: u16, s: Source) -> bool
+    ensures { λ b. ⌜ b ≡ writerFits (decode (now (rows .entry)) [] n) i (s .0) ⌝ }
+{
+    let w = bytes::read_row(rows, s.0);
+    let r = bytes::read_row(rows, i);
+    s.is_row(n) & !(s.0 == i) & kinds::writes(w) & kinds::covers(w, r)
+}
+
+// The source s of row i is the initial value, a writer that fits, or a blank where one is allowed.
+// Ruled out: a writer of only some of the row's bytes passes; a blank passes on an atomic read.
+pub fn source_fits(rows: &[u8], n: u16, blanks: bool, i: u16, s: Source) -> bool
+    ensures { λ b. ⌜ b ≡ sourceFits blanks (decode (now (rows .entry)) [] n) i (s .0) ⌝ }
+{
+    let r = bytes::read_row(rows, i);
+    s.is_initial() | writer_fits(rows, n, i, s) | blanks & kinds::is_plain_read(r) & s.is_blank()
+}
+
+pub fn source_broken(rows: &[u8], n: u16, blanks: bool, i: u16) -> bool
+    ensures { λ b. ⌜ b ≡ sourceBroken blanks (decode (now (rows .entry)) [] n) (sourceOf (now (rows .entry))) i ⌝ }
+{
+    let r = bytes::read_row(rows, i);
+    kinds::reads(r) & !source_fits(rows, n, blanks, i, bytes::read_source(rows, i))
+}
+
+// ---- 10
+
+pub fn same_rank(r: Row, q: Row) -> bool
+    ensures { λ b. ⌜ b ≡ sameRank r q ⌝ }
+{
+    kinds::is_ranked(q) & (q.rank == r.rank)
+}
+
+pub fn same_rank_at(rows: &[u8], p: Places, i: u16, j: u16) -> bool
+    ensures { λ b. ⌜ b ≡ sameRankAt (decode (now (rows .entry)) p 0) i j ⌝ }
+{
+    let r = bytes::read_row(rows, i);
+    let q = bytes::read_row(rows, j);
+    same_rank(r, q) & scopes::is_mutual(p, r, q)
+}
+
+pub fn any_same_rank(rows: &[u8], p: Places, i: u16) -> bool
+    ensures { λ b. ⌜ b ≡ anyBelow i (sameRankAt (decode (now (rows .entry)) p 0) i) ⌝ }
+{
+    for j in 0..i {
+        if same_rank_at(rows, p, i, j) {
+            return true;
+        }
+    }
+    false
+}
+
+pub fn rank_taken(rows: &[u8], p: Places, i: u16) -> bool
+    ensures { λ b. ⌜ b ≡ rankTaken (decode (now (rows .entry)) p 0) i ⌝ }
+{
+    kinds::is_ranked(bytes::read_row(rows, i)) & any_same_rank(rows, p, i)
+}
+
+// ---- in their order
+
+// Refusals 8 to 10 of row i, or 0.
+// Ruled out: of two rows of one rank the earlier is refused; a row passes that reads from itself.
+pub fn table_fault(rows: &[u8], p: Places, n: u16, blanks: bool, i: u16) -> u8
+    ensures { λ r. ⌜ r ≡ tableFault blanks (decode (now (rows .entry)) p n) (sourceOf (now (rows .entry))) i ⌝ }
+{
+    let rank = pick(rank_taken(rows, p, i), 10, 0);
+    let source = pick(source_broken(rows, n, blanks, i), 9, rank);
+    pick(class_taken(rows, i), 8, source)
+}
+
+// The first of n rows that has a refusal 8 to 10; n where none has.
+// Ruled out: row 5's refusal 8 is given before row 2's refusal 10; row 0 is not tried.
+pub fn first_table_fault(rows: &[u8], p: Places, n: u16, blanks: bool) -> u16
+    ensures { λ i. ⌜ i ≡ least n (faulty (tableFault blanks (decode (now (rows .entry)) p n) (sourceOf (now (rows .entry))))) ⌝ }
+{
+    for i in 0..n {
+        if table_fault(rows, p, n, blanks, i) != 0 {
+            return i;
+        }
+    }
+    n
+}

@@ -1,0 +1,78 @@
+-- The direct cases of M6 on rows that are decoded already, and that they are the table's. Assumes nothing.
+use mathlib.Core.Path.{_≡_, refl, sym, _∙_}
+use mathlib.Core.Bool.{Bool, true, false, not}
+use mathlib.Core.List.{List}
+use Prim.Native.Nat.{ℕ}
+use lib.Dec.{eqb}
+use Rattle.finite.specs.Logic.{_and_, _or_, not-out, or-false}
+use Rattle.finite.specs.Below.{anyBelow}
+use Rattle.model.specs.declared.Row.{Row}
+use Rattle.model.specs.Row.{holds, releases, acquires}
+use Rattle.model.specs.Table.{decode, rowOf}
+use Rattle.model.specs.Moment.{AT, rowIn, part, orderedRows, programOrder}
+use Rattle.model.specs.Synchronizes.{synchronizes}
+use Rattle.model.specs.Happens.{holdingOf, concernsOf, holding, concerns, bySync, toRelease, fromAcquire, step, holdsAll, live}
+
+-- ---- definitions
+
+-- M6: a direct case from the moment m of r to the moment k of q; b says that r synchronizes-with q
+unfoldable pub stepRows : ℕ → ℕ → ℕ → ℕ → Row → Row → Bool → Bool
+stepRows n s m k r q b =
+    holdingOf s r (part m) and holdingOf s q (part k) and b
+    or holdingOf s q (part k) and releases q and concernsOf s r (part m) and orderedRows n m k r q
+    or holdingOf s r (part m) and acquires r and concernsOf s q (part k) and orderedRows n m k r q
+
+-- row i holds all of s
+unfoldable pub holdsAt : List ℕ → ℕ → ℕ → Bool
+holdsAt b s i = holds (rowOf b i .classes) s
+
+-- ---- laws: of one row
+
+holding-off : (s : ℕ) (r : Row) (k : ℕ) → eqb k AT ≡ false → holdingOf s r k ≡ false
+unfolding holdingOf _and_
+holding-off s r k e = rw e refl
+
+step-none : (n s m k : ℕ) (r q : Row) (b : Bool) → holdingOf s r (part m) ≡ false → holdingOf s q (part k) ≡ false
+    → false ≡ stepRows n s m k r q b
+unfolding stepRows _and_ _or_
+step-none n s m k r q b x y = rw (x, y) refl
+
+-- neither moment holds all of s: no direct case
+pub step-off : (n s m k : ℕ) (r q : Row) (b h g : Bool) → h ≡ holdingOf s r (part m) → g ≡ holdingOf s q (part k) → not (h or g) ≡ true
+    → false ≡ stepRows n s m k r q b
+step-off n s m k r q b h g x y f =
+    let z = or-false h g (not-out (h or g) f) in
+    step-none n s m k r q b (sym x ∙ z .0) (sym y ∙ z .1)
+
+-- ---- laws: of a table
+
+module _ (b : List ℕ) (p : List (List ℕ)) (n : ℕ) where
+  pub step-is : (s m k : ℕ)
+      → step (decode b p n) s m k ≡ stepRows n s m k (rowOf b (rowIn m)) (rowOf b (rowIn k)) (synchronizes (decode b p n) (rowIn m) (rowIn k))
+  unfolding step bySync toRelease fromAcquire holding concerns programOrder stepRows decode
+  step-is s m k = refl
+
+  -- the test on decoded rows, as code has it
+  pub step-told : (s m k : ℕ) (r q : Row) (v d : Bool) → r ≡ rowOf b (rowIn m) → q ≡ rowOf b (rowIn k)
+      → v ≡ synchronizes (decode b p n) (rowIn m) (rowIn k) → d ≡ stepRows n s m k r q v → d ≡ step (decode b p n) s m k
+  step-told s m k r q v d er eq ev e = rw (step-is s m k, ← er, ← eq, ← ev) e
+
+  -- neither moment is a row's own: no direct case
+  pub step-apart : (s m k : ℕ) (x y : Bool) → x ≡ eqb (part m) AT → y ≡ eqb (part k) AT → not (x or y) ≡ true
+      → false ≡ step (decode b p n) s m k
+  step-apart s m k x y e f g =
+      let z = or-false x y (not-out (x or y) g) in
+      rw (step-is s m k) (step-none n s m k _ _ _ (holding-off s _ _ (sym e ∙ z .0)) (holding-off s _ _ (sym f ∙ z .1)))
+
+  -- places are not asked for
+  pub live-is : (s : ℕ) → live (decode b p n) s ≡ anyBelow n (holdsAt b s)
+  unfolding live holdsAll holdsAt decode
+  live-is s = refl
+
+  pub order-is : (q : List (List ℕ)) (m k : ℕ) → programOrder (decode b q n) m k ≡ programOrder (decode b p n) m k
+  unfolding programOrder decode
+  order-is q m k = refl
+
+pub holds-told : (b : List ℕ) (s i : ℕ) (r : Row) (v : Bool) → r ≡ rowOf b i → v ≡ holds (r .classes) s → holdsAt b s i ≡ v
+unfolding holdsAt
+holds-told b s i r v e f = rw (← e) (sym f)

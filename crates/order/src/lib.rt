@@ -1,0 +1,81 @@
+// M6 and M7: happens-before between the moments of a table, as bits in a lent work area.
+ghost use mathlib.Core.Path.{_≡_};
+ghost use mathlib.Core.List.{List};
+ghost use Prim.Native.Nat.{ℕ, _+_, _*_, _≤_, _<_};
+ghost use lib.ListN.{length};
+ghost use Rattle.bits.specs.Stage.{Made, Added};
+ghost use Rattle.model.specs.Limits.{ROWS, WORK, CLASS-SETS};
+ghost use Rattle.model.specs.Table.{decode};
+ghost use Rattle.model.specs.Moment.{programOrder};
+ghost use Rattle.model.specs.Happens.{live};
+ghost use Rattle.area.specs.Regions.{HAPPENS, HAPPENS-END, STEP-END, MOMENTS};
+ghost use Rattle.area.specs.State.{MadeOrdered};
+ghost use Rattle.sequence.specs.Known.{Synced};
+ghost use Rattle.order.specs.Sets.{interBy};
+use model::Places;
+
+pub mod steps; // M6: the direct cases of inter-thread order
+
+// M6: the class sets are the numbers 1 to 15.
+pub const CLASS_SETS: u8 = 15;
+
+// M1: program order, as the bits that happens-before begins with.
+pub fn fill_order(rows: &[u8], n: usize, w: &mut [u64])
+    requires { ⌜ (n ≤ ROWS) × (WORK ≤ length (now w)) ⌝ }
+    ensures { λ _. ⌜ ((p : List (List ℕ)) → Made HAPPENS HAPPENS-END HAPPENS MOMENTS (3 * n)
+        (programOrder (decode (now (rows .entry)) p n)) (now (w .entry)) (now (w .exit))) ⌝ }
+{
+    bits::clear(w, area::HAPPENS, area::HAPPENS_END);
+    for m in 0..3 * n {
+        for k in 0..3 * n {
+            let b = moments::ordered_at(rows, n, m, k);
+            bits::put_if(w, (area::HAPPENS + m * area::MOMENTS) * 64 + k, b);
+        }
+    }
+}
+
+// M6: whether some row holds all of the class set s. No other set has a direct case.
+pub fn is_live(rows: &[u8], n: usize, s: u8) -> bool
+    requires { ⌜ n ≤ ROWS ⌝ }
+    ensures { λ b. ⌜ ((p : List (List ℕ)) → b ≡ live (decode (now (rows .entry)) p n) s) ⌝ }
+{
+    for i in 0..n {
+        let r = rows::bytes::read_row(rows, i as u16);
+        if rows::kinds::holds(r.classes, s) {
+            return true;
+        }
+    }
+    false
+}
+
+// M6: adds inter-thread order for the class set s + 1, the closure of its direct cases, to happens-before.
+pub fn add_set(rows: &[u8], p: Places, n: usize, s: u8, w: &mut [u64])
+    requires { ⌜ (n ≤ ROWS) × (WORK ≤ length (now w)) × (s < CLASS-SETS) × Synced (decode (now rows) p n) n (now w) ⌝ }
+    ensures { λ _. ⌜ Added HAPPENS STEP-END HAPPENS MOMENTS (3 * n)
+        (interBy (decode (now (rows .entry)) p n) s) (now (w .entry)) (now (w .exit)) ⌝ }
+{
+    if is_live(rows, n, s + 1) {
+        steps::fill_step(rows, p, n, s + 1, w);
+        bits::close(w, area::STEP, 3 * n, area::MOMENTS);
+        bits::join_row(
+            w,
+            area::HAPPENS,
+            area::STEP,
+            area::HAPPENS_END - area::HAPPENS,
+        );
+    }
+}
+
+// M7: happens-before: program order, or inter-thread order for some class set. Also mutually-ordered rows (M3), which later
+// stages read.
+// Ruled out: one that closes program order together with the direct cases; one that leaves a class set out.
+pub fn happens_before(rows: &[u8], p: Places, n: usize, w: &mut [u64])
+    requires { ⌜ (n ≤ ROWS) × (WORK ≤ length (now w)) ⌝ }
+    ensures { λ _. ⌜ MadeOrdered (decode (now (rows .entry)) p n) n (now (w .entry)) (now (w .exit)) ⌝ }
+{
+    sequence::sync::make_synced(rows, p, n, w);
+    fill_order(rows, n, w);
+    for s in 0..CLASS_SETS {
+        add_set(rows, p, n, s, w);
+    }
+}

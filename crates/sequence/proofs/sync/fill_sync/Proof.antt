@@ -1,0 +1,135 @@
+use Rattle.model.specs.Table.{decode}
+use Rattle.model.specs.Synchronizes.{synchronizes}
+use Rattle.area.specs.Regions.{SYNC, SYNC-END}
+use Rattle.sequence.specs.Known.{Known, known-kept}
+use mathlib.Core.Path.{_≡_, refl, ap, _∙_}
+use Prim.Native.Nat.{_+_, _-_, _*_, _≤_}
+use native.Mathlib.Omega.{arith}
+use lib.ListN.{length}
+use Rattle.bits.specs.Within.{within-put, within-cleared}
+use Rattle.bits.specs.Fill.{rowFill, gridFill, rowFill-none, rowFill-put, gridFill-none, gridFill-more, length-rowFill}
+use Rattle.bits.specs.Stage.{made-filled}
+use borrow.Author.Needs.{needs}
+use Rattle.sequence.proofs.sync.fill_sync.Statement.{statement}
+use Rattle.sequence.proofs.sync.fill_sync.Tie as tie
+use Rattle.sequence.proofs.sync.fill_sync.Reads as reads
+use Rattle.sequence.proofs.sync.fill_sync.Lts as lts
+use Rattle.bits.proofs.clear.Reads as clear-reads
+use Rattle.bits.proofs.put_if.Reads as put-if-reads
+use Rattle.sequence.proofs.sync.sync_at.Reads as sync-at-reads
+
+abbrev Inv-loop2 : tie.InvT-loop2
+Inv-loop2 rows p n w₀ a b₀ w b = (b ≤ n) × (length w ≡ length w₀) × Known (decode rows p n) n w × (w ≡ rowFill (synchronizes (decode rows p n) a) w₀ (SYNC * 64 + a * 64) b)
+
+abbrev μ-loop2 : tie.MeasureT-loop2
+μ-loop2 rows p n w₀ a b₀ w b = n - b
+
+abbrev Inv-loop : tie.InvT-loop
+Inv-loop rows p n w₀ a₀ w a = (a ≤ n) × (length w ≡ length w₀) × Known (decode rows p n) n w × (w ≡ gridFill (synchronizes (decode rows p n)) w₀ (SYNC * 64) 64 (n) a)
+
+abbrev μ-loop : tie.MeasureT-loop
+μ-loop rows p n w₀ a₀ w a = n - a
+
+-- src/sync.rt:94:5
+clear-requires : tie.Need-clear-requires Inv-loop2 μ-loop2 Inv-loop μ-loop
+clear-requires c κs = search needs
+
+-- src/sync.rt:95:5
+loop-holds : tie.Need-loop-holds Inv-loop2 μ-loop2 Inv-loop μ-loop
+loop-holds c = (search needs, refl, known-kept (omega arith) (within-cleared SYNC SYNC-END (omega arith) (c .before .before .clear .ensures)) (c .before .before .before .before .before .before .pre .2), gridFill-none _ _ _ _ _)
+
+-- src/sync.rt:96:9
+loop2-holds : tie.Need-loop2-holds Inv-loop2 μ-loop2 Inv-loop μ-loop
+loop2-holds c = (search needs, refl, c .before .loop .inv .2, rowFill-none _ _ _)
+
+-- src/sync.rt:97:17
+sync-at-requires : tie.Need-sync-at-requires Inv-loop2 μ-loop2 Inv-loop μ-loop
+sync-at-requires c κs = search needs
+
+-- src/sync.rt:98:43
+mul-put-if : tie.Need-mul-put-if Inv-loop2 μ-loop2 Inv-loop μ-loop
+mul-put-if c = search needs
+
+-- src/sync.rt:98:30
+add-put-if : tie.Need-add-put-if Inv-loop2 μ-loop2 Inv-loop μ-loop
+add-put-if c = search needs
+
+-- src/sync.rt:98:29
+mul-put-if-2 : tie.Need-mul-put-if-2 Inv-loop2 μ-loop2 Inv-loop μ-loop
+mul-put-if-2 c = search needs
+
+-- src/sync.rt:98:29
+add-put-if-2 : tie.Need-add-put-if-2 Inv-loop2 μ-loop2 Inv-loop μ-loop
+add-put-if-2 c = search needs
+
+-- src/sync.rt:98:13
+put-if-requires : tie.Need-put-if-requires Inv-loop2 μ-loop2 Inv-loop μ-loop
+put-if-requires c κs = search needs
+
+-- src/sync.rt:96:13
+add-b : tie.Need-add-b Inv-loop2 μ-loop2 Inv-loop μ-loop
+add-b c = search needs
+
+-- src/sync.rt:96:9
+loop2-less : tie.Need-loop2-less Inv-loop2 μ-loop2 Inv-loop μ-loop
+loop2-less c = search needs
+
+-- src/sync.rt:96:9
+loop2-again : tie.Need-loop2-again Inv-loop2 μ-loop2 Inv-loop μ-loop
+loop2-again c =
+    let put = c .before .before .put-if in
+    let inv = c .before .before .before .before .before .before .before .loop2 .inv in
+    let e = rowFill-put _ _ _ (put .last .0) _ _ _ _ (inv .3) (c .before .before .before .before .sync-at .ensures) (omega arith) (put .ensures) in
+    (search needs, ap length e ∙ length-rowFill _ _ _ _, known-kept (omega arith) (within-put SYNC SYNC-END _ _ (omega arith) (omega arith) (put .ensures)) (inv .2), e)
+
+-- src/sync.rt:95:9
+add-a : tie.Need-add-a Inv-loop2 μ-loop2 Inv-loop μ-loop
+add-a c = search needs
+
+-- src/sync.rt:95:5
+loop-less : tie.Need-loop-less Inv-loop2 μ-loop2 Inv-loop μ-loop
+loop-less c = search needs
+
+-- src/sync.rt:95:5
+loop-again : tie.Need-loop-again Inv-loop2 μ-loop2 Inv-loop μ-loop
+loop-again c =
+    let inv = c .before .loop2 .inv in
+    let out = c .before .before .before .loop .inv in
+    let e : c .before .loop2 .b ≡ c .before .before .before .before .before .before .before .before .before .before .args .n = omega arith in
+    (search needs, inv .1 ∙ out .1, inv .2, gridFill-more _ _ _ _ _ _ _ _ (out .3) (rw e at (inv .3)))
+
+-- src/sync.rt:90:1
+same-length : tie.Need-same-length Inv-loop2 μ-loop2 Inv-loop μ-loop
+same-length c = search needs
+
+-- src/sync.rt:90:1
+returns : tie.Need-returns Inv-loop2 μ-loop2 Inv-loop μ-loop
+returns c =
+    let e : c .before .loop .a ≡ c .before .before .before .before .before .before .before .before .args .n = omega arith in
+    made-filled SYNC SYNC-END 1 _ _ _ _ _ (omega arith) (omega arith) (omega arith) (c .before .before .before .before .clear .ensures) (rw e at (c .before .loop .inv .3))
+
+pub fill-sync-spec : {M : Type 1} → statement M
+fill-sync-spec =
+    tie.close
+    (tie.spec
+    Inv-loop2
+    μ-loop2
+    Inv-loop
+    μ-loop
+    clear-requires
+    loop-holds
+    loop2-holds
+    sync-at-requires
+    mul-put-if
+    add-put-if
+    mul-put-if-2
+    add-put-if-2
+    put-if-requires
+    add-b
+    loop2-less
+    loop2-again
+    add-a
+    loop-less
+    loop-again
+    same-length
+    returns)

@@ -1,0 +1,116 @@
+// M3 and M4: mutually-ordered rows and release sequences, as bits.
+ghost use mathlib.Core.Path.{_≡_};
+ghost use Prim.Native.Nat.{_+_, _*_, _≤_, _<_};
+ghost use lib.ListN.{length};
+ghost use Rattle.finite.specs.Below.{anyBelow};
+ghost use Rattle.bits.specs.Stage.{Holds, Made};
+ghost use Rattle.model.specs.Limits.{ROWS, WORK};
+ghost use Rattle.model.specs.Table.{decode};
+ghost use Rattle.model.specs.Scope.{mutually, follows};
+ghost use Rattle.model.specs.Synchronizes.{continues, ends, sequence};
+ghost use Rattle.area.specs.Regions.{MUTUAL, MUTUAL-END, SEQUENCE, SEQUENCE-END, GRID};
+ghost use Rattle.sequence.specs.Forms.{endRows};
+use model::Places;
+use model::Row;
+
+// ---- M3
+
+// M3: whether rows i and j are mutually-ordered.
+pub fn mutual_at(rows: &[u8], p: Places, n: usize, i: usize, j: usize) -> bool
+    requires { ⌜ (i < ROWS) × (j < ROWS) ⌝ }
+    ensures { λ b. ⌜ b ≡ mutually (decode (now (rows .entry)) p n) i j ⌝ }
+{
+    let r = rows::bytes::read_row(rows, i as u16);
+    let q = rows::bytes::read_row(rows, j as u16);
+    !(i == j) & rows::scopes::is_mutual(p, r, q)
+}
+
+// M3 for every two rows.
+pub fn fill_mutual(rows: &[u8], p: Places, n: usize, w: &mut [u64])
+    requires { ⌜ (n ≤ ROWS) × (WORK ≤ length (now w)) ⌝ }
+    ensures { λ _. ⌜ Made MUTUAL MUTUAL-END MUTUAL GRID n (mutually (decode (now (rows .entry)) p n)) (now (w .entry)) (now (w .exit)) ⌝ }
+{
+    bits::clear(w, area::MUTUAL, area::MUTUAL_END);
+    for i in 0..n {
+        for j in 0..n {
+            let b = mutual_at(rows, p, n, i, j);
+            bits::put_if(w, (area::MUTUAL + i * area::GRID) * 64 + j, b);
+        }
+    }
+}
+
+// M3: whether row j follows row i in their scoped modification order.
+pub fn follows_at(rows: &[u8], p: Places, n: usize, i: usize, j: usize, w: &[u64]) -> bool
+    requires { ⌜ (n ≤ ROWS) × (i < n) × (j < n) × (WORK ≤ length (now w))
+        × Holds MUTUAL GRID n (mutually (decode (now rows) p n)) (now w) ⌝ }
+    ensures { λ b. ⌜ b ≡ follows (decode (now (rows .entry)) p n) i j ⌝ }
+{
+    let r = rows::bytes::read_row(rows, i as u16);
+    let q = rows::bytes::read_row(rows, j as u16);
+    let b = bits::get(w, (area::MUTUAL + i * area::GRID) * 64 + j);
+    b & rows::scopes::is_later_writer(q, r)
+}
+
+// ---- M4
+
+// M4: whether the writer r continues a sequence that h heads. Nothing else says what does.
+pub fn is_continued(h: Row, r: Row) -> bool
+    ensures { λ b. ⌜ b ≡ continues h r ⌝ }
+{
+    rows::kinds::is_rmw(r) | rows::kinds::is_ranked(r) & (r.agent == h.agent)
+}
+
+// M4: whether q ends the sequence of the head h no later than r; b says that h and q are mutually-ordered.
+fn is_end(b: bool, h: Row, r: Row, q: Row) -> bool
+    ensures { λ d. ⌜ d ≡ endRows b h r q ⌝ }
+{
+    b
+        & rows::scopes::is_later_writer(q, h)
+        & !rows::scopes::is_later(q.rank, r.rank)
+        & !is_continued(h, q)
+}
+
+// M4: whether some row ends the sequence of the head a no later than row x.
+pub fn is_ended(rows: &[u8], p: Places, n: usize, a: usize, x: usize, w: &[u64]) -> bool
+    requires { ⌜ (n ≤ ROWS) × (a < n) × (x < n) × (WORK ≤ length (now w))
+        × Holds MUTUAL GRID n (mutually (decode (now rows) p n)) (now w) ⌝ }
+    ensures { λ b. ⌜ b ≡ anyBelow n (ends (decode (now (rows .entry)) p n) a x) ⌝ }
+{
+    let h = rows::bytes::read_row(rows, a as u16);
+    let r = rows::bytes::read_row(rows, x as u16);
+    for z in 0..n {
+        let b = bits::get(w, (area::MUTUAL + a * area::GRID) * 64 + z);
+        let q = rows::bytes::read_row(rows, z as u16);
+        if is_end(b, h, r, q) {
+            return true;
+        }
+    }
+    false
+}
+
+// M4: whether row x is in the release sequence that row a heads. Only a row that follows a is held against the others.
+pub fn sequence_at(rows: &[u8], p: Places, n: usize, a: usize, x: usize, w: &[u64]) -> bool
+    requires { ⌜ (n ≤ ROWS) × (a < n) × (x < n) × (WORK ≤ length (now w))
+        × Holds MUTUAL GRID n (mutually (decode (now rows) p n)) (now w) ⌝ }
+    ensures { λ b. ⌜ b ≡ sequence (decode (now (rows .entry)) p n) a x ⌝ }
+{
+    if !follows_at(rows, p, n, a, x, w) {
+        return a == x;
+    }
+    (a == x) | !is_ended(rows, p, n, a, x, w)
+}
+
+// M4 for every two rows.
+pub fn fill_sequence(rows: &[u8], p: Places, n: usize, w: &mut [u64])
+    requires { ⌜ (n ≤ ROWS) × (WORK ≤ length (now w)) × Holds MUTUAL GRID n (mutually (decode (now rows) p n)) (now w) ⌝ }
+    ensures { λ _. ⌜ Made SEQUENCE SEQUENCE-END SEQUENCE GRID n
+        (sequence (decode (now (rows .entry)) p n)) (now (w .entry)) (now (w .exit)) ⌝ }
+{
+    bits::clear(w, area::SEQUENCE, area::SEQUENCE_END);
+    for a in 0..n {
+        for x in 0..n {
+            let b = sequence_at(rows, p, n, a, x, w);
+            bits::put_if(w, (area::SEQUENCE + a * area::GRID) * 64 + x, b);
+        }
+    }
+}

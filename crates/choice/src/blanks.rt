@@ -1,0 +1,121 @@
+// The source that each blank plain read must have.
+ghost use mathlib.Core.Path.{_≡_};
+ghost use Prim.Native.Nat.{_≤_, _<_};
+ghost use lib.ListN.{length, getD};
+ghost use Rattle.finite.specs.Below.{anyBelow, least};
+ghost use Rattle.model.specs.Limits.{LONGEST};
+ghost use Rattle.model.specs.Table.{rowOf, decode};
+ghost use Rattle.model.specs.Fill.{missesAt, candidate, choice, chosen};
+ghost use Rattle.race.specs.Bytes.{Known};
+ghost use Rattle.choice.specs.Sources.{Listed};
+ghost use Rattle.choice.specs.Choice.{chosenFrom};
+use crate::writers;
+use model::Places;
+use model::Row;
+use model::Source;
+
+// ---- candidates
+
+// Whether s, which is q, is not ordered before y, which is r, at y's k-th byte.
+fn misses_at(
+    rows: &[u8],
+    p: Places,
+    n: usize,
+    y: usize,
+    s: usize,
+    r: Row,
+    q: Row,
+    k: usize,
+    w: &[u64],
+) -> bool
+    requires { ⌜ (y < n) × (s < n) × (r ≡ rowOf (now rows) y) × (q ≡ rowOf (now rows) s) × (k < LONGEST) × Known (decode (now rows) p n) n (now w) ⌝ }
+    ensures { λ b. ⌜ b ≡ missesAt (decode (now (rows .entry)) p n) y s k ⌝ }
+{
+    let b = (r.start as u32) + (k as u32);
+    rows::kinds::touches(r, b) & !race::before_byte(rows, p, n, s, y, q, b, w)
+}
+
+// Whether s is not ordered before y at some byte of y.
+pub fn some_miss(rows: &[u8], p: Places, n: usize, y: usize, s: usize, w: &[u64]) -> bool
+    requires { ⌜ (y < n) × (s < n) × Known (decode (now rows) p n) n (now w) ⌝ }
+    ensures { λ b. ⌜ b ≡ anyBelow LONGEST (missesAt (decode (now (rows .entry)) p n) y s) ⌝ }
+{
+    let r = rows::bytes::read_row(rows, y as u16);
+    let q = rows::bytes::read_row(rows, s as u16);
+    for k in 0..area::PAIR {
+        if misses_at(rows, p, n, y, s, r, q, k, w) {
+            return true;
+        }
+    }
+    false
+}
+
+// Whether y may have read s: s covers y, comes before y at each byte, and nothing comes between.
+pub fn candidate_at(rows: &[u8], p: Places, n: usize, y: usize, s: usize, w: &[u64]) -> bool
+    requires { ⌜ (y < n) × (s < n) × Known (decode (now rows) p n) n (now w) ⌝ }
+    ensures { λ b. ⌜ b ≡ candidate (decode (now (rows .entry)) p n) y s ⌝ }
+{
+    let from = Source::of_row(s as u16);
+    if !table::table_faults::writer_fits(rows, n as u16, y as u16, from) {
+        return false;
+    }
+    if some_miss(rows, p, n, y, s, w) {
+        return false;
+    }
+    !writers::some_between(rows, p, n, y, s, w)
+}
+
+// The first row that y may have read; n where there is none.
+pub fn first_candidate(rows: &[u8], p: Places, n: usize, y: usize, w: &[u64]) -> usize
+    requires { ⌜ (y < n) × Known (decode (now rows) p n) n (now w) ⌝ }
+    ensures { λ s. ⌜ (s ≡ least n (candidate (decode (now (rows .entry)) p n) y)) × (s ≤ n) ⌝ }
+{
+    for s in 0..n {
+        if candidate_at(rows, p, n, y, s, w) {
+            return s;
+        }
+    }
+    n
+}
+
+// ---- choices
+
+// The source that the blank y must have: the initial value where no writer comes before it; n where it can have none.
+pub fn choice_of(rows: &[u8], p: Places, n: usize, y: usize, w: &[u64]) -> u16
+    requires { ⌜ (y < n) × Known (decode (now rows) p n) n (now w) ⌝ }
+    ensures { λ s. ⌜ s ≡ choice (decode (now (rows .entry)) p n) y ⌝ }
+{
+    if !writers::is_written(rows, p, n, y, w) {
+        return Source::INITIAL.0;
+    }
+    first_candidate(rows, p, n, y, w) as u16
+}
+
+// The source of row i, which has s: its choice where it is a blank, else s.
+fn chosen_at(rows: &[u8], p: Places, n: usize, i: usize, s: u16, w: &[u64]) -> u16
+    requires { ⌜ (i < n) × Known (decode (now rows) p n) n (now w) ⌝ }
+    ensures { λ c. ⌜ c ≡ chosenFrom (decode (now (rows .entry)) p n) i s ⌝ }
+{
+    let r = rows::bytes::read_row(rows, i as u16);
+    let own = Source::of_row(s);
+    if rows::kinds::is_plain_read(r) & own.is_blank() {
+        return choice_of(rows, p, n, i, w);
+    }
+    s
+}
+
+// Each blank's choice, and every other row's own source.
+// Ruled out: one that chooses for a plain read that names its source; one that takes for a blank a writer that was overwritten
+// before it at any byte.
+pub fn choose(rows: &[u8], p: Places, n: usize, src: &[u16], w: &[u64]) -> [u16; 64]
+    requires { ⌜ (n ≤ length (now src)) × Known (decode (now rows) p n) n (now w) ⌝ }
+    ensures { λ r. ⌜ Listed (chosen (decode (now (rows .entry)) p n) (λ i. getD (now (src .entry)) i 0)) n r ⌝ }
+{
+    let mut list = [0u16; 64];
+    for i in 0..n {
+        let s = src[i];
+        let c = chosen_at(rows, p, n, i, s, w);
+        list[i] = c;
+    }
+    list
+}

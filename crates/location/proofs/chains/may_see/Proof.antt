@@ -1,0 +1,83 @@
+use mathlib.Core.Path.{_≡_, sym, _∙_}
+use lib.Dec.{eqb}
+use borrow.Author.Tests.{not-true, not-false}
+use Rattle.finite.specs.Logic.{_and_, _or_, and-false-left}
+use Rattle.location.specs.Chains.{maySee, and-on}
+use borrow.Author.Needs.{needs}
+use Rattle.location.proofs.chains.may_see.Statement.{statement}
+use Rattle.location.proofs.chains.may_see.Tie as tie
+use Rattle.location.proofs.chains.may_see.Reads as reads
+use Rattle.location.proofs.chains.may_see.Lts as lts
+use Rattle.location.proofs.pairs.happens_bit.Reads as happens-bit-reads
+use Rattle.rows.proofs.bytes.row_byte.Reads as row-byte-reads
+use Rattle.rows.proofs.kinds.meets.Reads as meets-reads
+
+-- src/chains.rt:91:35
+mul-happens-bit : tie.Need-mul-happens-bit
+mul-happens-bit c = search needs
+
+-- src/chains.rt:91:10
+happens-bit-requires : tie.Need-happens-bit-requires
+happens-bit-requires c κs = search needs
+
+-- src/chains.rt:91:69
+mul-happens-bit-2 : tie.Need-mul-happens-bit-2
+mul-happens-bit-2 c = search needs
+
+-- src/chains.rt:91:69
+add-happens-bit : tie.Need-add-happens-bit
+add-happens-bit c = search needs
+
+-- src/chains.rt:91:44
+happens-bit-requires-2 : tie.Need-happens-bit-requires-2
+happens-bit-requires-2 c κs = search needs
+
+-- src/chains.rt:92:9
+returns : tie.Need-returns
+unfolding _or_
+returns c = rw (← c .before .before .happens-bit .ensures, ← c .before .happens-bit2 .ensures) (sym (and-false-left (c .before .before .happens-bit .result or c .before .happens-bit2 .result) _ (not-true (c .before .before .happens-bit .result or c .before .happens-bit2 .result) (c .if1 .taken))))
+
+-- src/chains.rt:94:45
+cast-row-byte : tie.Need-cast-row-byte
+cast-row-byte c = search needs
+
+-- src/chains.rt:94:9
+row-byte-requires : tie.Need-row-byte-requires
+row-byte-requires c κs = search needs
+
+-- src/chains.rt:95:45
+cast-row-byte-2 : tie.Need-cast-row-byte-2
+cast-row-byte-2 c = search needs
+
+-- src/chains.rt:95:9
+row-byte-requires-2 : tie.Need-row-byte-requires-2
+row-byte-requires-2 c κs = search needs
+
+-- src/chains.rt:96:26
+meets-requires : tie.Need-meets-requires
+meets-requires c κs = search needs
+
+-- src/chains.rt:87:1
+returns-2 : tie.Need-returns-2
+unfolding maySee _and_ _or_
+returns-2 c =
+    let s = c .before .before .before .before .before .before .before .before .before in
+    let e : maySee (s .args .rows .now) (s .args .q) (s .args .j) ≡ (eqb (c .before .before .before .row-byte .result) (s .args .q .agent) and c .meets .result) = cc in
+    rw (← c .before .before .before .before .before .before .happens-bit .ensures, ← c .before .before .before .before .before .happens-bit2 .ensures) (sym (and-on (c .before .before .before .before .before .before .happens-bit .result or c .before .before .before .before .before .happens-bit2 .result) _ (not-false (c .before .before .before .before .before .before .happens-bit .result or c .before .before .before .before .before .happens-bit2 .result) (c .before .before .before .before .if1 .left)) ∙ e))
+
+pub may-see-spec : {M : Type 1} → statement M
+may-see-spec =
+    tie.close
+    (tie.spec
+    mul-happens-bit
+    happens-bit-requires
+    mul-happens-bit-2
+    add-happens-bit
+    happens-bit-requires-2
+    returns
+    cast-row-byte
+    row-byte-requires
+    cast-row-byte-2
+    row-byte-requires-2
+    meets-requires
+    returns-2)

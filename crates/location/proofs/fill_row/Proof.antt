@@ -1,0 +1,74 @@
+use mathlib.Core.Path.{_≡_, refl, ap, _∙_}
+use Prim.Native.Nat.{_+_, _-_, _*_, _≤_}
+use native.Mathlib.Omega.{arith}
+use lib.ListN.{length}
+use Rattle.bits.specs.Fill.{gridFill, gridFill-none, gridFill-more, length-gridFill}
+use Rattle.model.specs.Table.{decode}
+use Rattle.model.specs.Edge.{beforeNth}
+use Rattle.area.specs.Regions.{LOCATION, LOCATION-END, PAIR, PAIRS}
+use Rattle.area.specs.State.{Ordered, ordered-kept}
+use Rattle.location.specs.Order.{within-row}
+use borrow.Author.Needs.{needs}
+use Rattle.location.proofs.fill_row.Statement.{statement}
+use Rattle.location.proofs.fill_row.Tie as tie
+use Rattle.location.proofs.fill_row.Reads as reads
+use Rattle.location.proofs.fill_row.Lts as lts
+use Rattle.location.proofs.fill_pair.Reads as fill-pair-reads
+
+abbrev Inv-loop : tie.InvT-loop
+Inv-loop rows p n x w₀ y₀ w y = (y ≤ n) × (length w ≡ length w₀) × Ordered (decode rows p n) n w × (w ≡ gridFill (beforeNth (decode rows p n) x) w₀ (LOCATION * 64 + x * PAIRS) PAIR PAIR y)
+
+abbrev μ-loop : tie.MeasureT-loop
+μ-loop rows p n x w₀ y₀ w y = n - y
+
+-- src/lib.rt:71:5
+loop-holds : tie.Need-loop-holds Inv-loop μ-loop
+loop-holds c = (search needs, refl, c .before .before .pre .3, gridFill-none _ _ _ _ _)
+
+-- src/lib.rt:72:9
+fill-pair-requires : tie.Need-fill-pair-requires Inv-loop μ-loop
+fill-pair-requires c κs = search needs
+
+-- src/lib.rt:71:9
+add-y : tie.Need-add-y Inv-loop μ-loop
+add-y c = search needs
+
+-- src/lib.rt:71:5
+loop-less : tie.Need-loop-less Inv-loop μ-loop
+loop-less c = search needs
+
+-- src/lib.rt:71:5
+loop-again : tie.Need-loop-again Inv-loop μ-loop
+loop-again c =
+    let pair = c .before .before .fill-pair in
+    let inv = c .before .before .before .before .before .loop .inv in
+    let e = gridFill-more _ _ _ _ _ _ _ _ (inv .3) (pair .ensures) in (
+      search needs,
+      ap length e ∙ length-gridFill _ _ _ _ _ _,
+      ordered-kept (omega arith) (within-row LOCATION LOCATION-END _ _ _ (omega arith) (omega arith) (pair .ensures)) (inv .2),
+      e,
+    )
+
+-- src/lib.rt:67:1
+same-length : tie.Need-same-length Inv-loop μ-loop
+same-length c = search needs
+
+-- src/lib.rt:67:1
+returns : tie.Need-returns Inv-loop μ-loop
+returns c =
+    let e : c .before .loop .y ≡ c .before .before .before .before .args .n = omega arith in
+    rw e at (c .before .loop .inv .3)
+
+pub fill-row-spec : {M : Type 1} → statement M
+fill-row-spec =
+    tie.close
+    (tie.spec
+    Inv-loop
+    μ-loop
+    loop-holds
+    fill-pair-requires
+    add-y
+    loop-less
+    loop-again
+    same-length
+    returns)

@@ -1,0 +1,86 @@
+// Location order at each byte of each pair of rows, as bits in a lent work area, and the lowest byte that two accesses share.
+ghost use mathlib.Core.Path.{_≡_};
+ghost use Prim.Native.Nat.{_+_, _*_, _≤_, _<_};
+ghost use lib.ListN.{length};
+ghost use Rattle.bits.specs.Fill.{rowFill, gridFill};
+ghost use Rattle.model.specs.Limits.{ROWS, WORK};
+ghost use Rattle.model.specs.Table.{rowOf, decode};
+ghost use Rattle.model.specs.Edge.{beforeNth};
+ghost use Rattle.area.specs.Regions.{LOCATION, PAIR, PAIRS};
+ghost use Rattle.area.specs.State.{Ordered, MadeLocated};
+use model::Places;
+use model::Row;
+
+pub mod shared; // the bytes that two accesses share
+pub mod pairs; // the tests on two rows that location order is made of
+pub mod chains; // L3's chains
+
+// Whether x is location-ordered before y at x's k-th byte: L1, L2 or L3. The rows r and q are x's and y's.
+pub fn before_at(
+    rows: &[u8],
+    p: Places,
+    n: usize,
+    x: usize,
+    y: usize,
+    r: Row,
+    q: Row,
+    k: usize,
+    w: &[u64],
+) -> bool
+    requires { ⌜ (n ≤ ROWS) × (WORK ≤ length (now w)) × (x < n) × (y < n) × (k < PAIR)
+        × (r ≡ rowOf (now rows) x) × (q ≡ rowOf (now rows) y) × Ordered (decode (now rows) p n) n (now w) ⌝ }
+    ensures { λ d. ⌜ d ≡ beforeNth (decode (now (rows .entry)) p n) x y k ⌝ }
+{
+    let start = r.start as u32;
+    let b = start + (k as u32);
+    if !pairs::common_of(x, y, r, q, b) {
+        return false;
+    }
+    let h = pairs::happens_bit(w, 3 * x + 1, 3 * y + 1);
+    if pairs::l1(r, q, h) | pairs::l2(r, q, h) {
+        return true;
+    }
+    chains::l3(rows, p, n, x, y, r, q, b, w)
+}
+
+// The bits of a pair. Rows that share no byte cost one test, and no bit is set.
+fn fill_pair(rows: &[u8], p: Places, n: usize, x: usize, y: usize, w: &mut [u64])
+    requires { ⌜ (n ≤ ROWS) × (WORK ≤ length (now w)) × (x < n) × (y < n) × Ordered (decode (now rows) p n) n (now w) ⌝ }
+    ensures { λ _. ⌜ now (w .exit) ≡ rowFill (beforeNth (decode (now (rows .entry)) p n) x y) (now (w .entry)) (LOCATION * 64 + x * PAIRS + y * PAIR) PAIR ⌝ }
+{
+    let r = rows::bytes::read_row(rows, x as u16);
+    let q = rows::bytes::read_row(rows, y as u16);
+    if !pairs::may_share(x, y, r, q) {
+        return;
+    }
+    for k in 0..area::PAIR {
+        let b = before_at(rows, p, n, x, y, r, q, k, w);
+        bits::put_if(
+            w,
+            area::LOCATION * 64 + x * area::PAIRS + y * area::PAIR + k,
+            b,
+        );
+    }
+}
+
+// The bits of row x's pairs.
+fn fill_row(rows: &[u8], p: Places, n: usize, x: usize, w: &mut [u64])
+    requires { ⌜ (n ≤ ROWS) × (WORK ≤ length (now w)) × (x < n) × Ordered (decode (now rows) p n) n (now w) ⌝ }
+    ensures { λ _. ⌜ now (w .exit) ≡ gridFill (beforeNth (decode (now (rows .entry)) p n) x) (now (w .entry)) (LOCATION * 64 + x * PAIRS) PAIR PAIR n ⌝ }
+{
+    for y in 0..n {
+        fill_pair(rows, p, n, x, y, w);
+    }
+}
+
+// Location order of all pairs of n rows: bit k of a pair tells of the first row's k-th byte.
+// Ruled out: one that counts a pair's bytes from the second row's start; one that leaves a bit of an earlier stage set.
+pub fn fill_location(rows: &[u8], p: Places, n: usize, w: &mut [u64])
+    requires { ⌜ (n ≤ ROWS) × (WORK ≤ length (now w)) × Ordered (decode (now rows) p n) n (now w) ⌝ }
+    ensures { λ _. ⌜ MadeLocated (decode (now (rows .entry)) p n) n (now (w .entry)) (now (w .exit)) ⌝ }
+{
+    bits::clear(w, area::LOCATION, area::LOCATION_END);
+    for x in 0..n {
+        fill_row(rows, p, n, x, w);
+    }
+}

@@ -1,0 +1,88 @@
+-- What races are read from, and what a pair's bits say of each byte. Assumes nothing.
+use mathlib.Core.Path.{_≡_, refl, sym, subst}
+use mathlib.Core.Bool.{Bool, true, false, not}
+use mathlib.Core.List.{List}
+use Prim.Native.Nat.{ℕ, _+_, _-_, _*_, _≤_, _<_}
+use native.Mathlib.Omega.{arith}
+use lib.ListN.{length}
+use Rattle.finite.specs.Logic.{_and_, split, and-true, not-so, not-both}
+use Rattle.bits.specs.Bit.{bit}
+use Rattle.bits.specs.Cube.{cube-bit}
+use Rattle.model.specs.declared.Row.{Row}
+use Rattle.model.specs.declared.Shared.{Shared}
+use Rattle.model.specs.declared.Shared.the-variants.{At, Nothing}
+use Rattle.model.specs.Limits.{ROWS, WORK, BYTES}
+use Rattle.model.specs.Row.{access, touches, lowestShared}
+use Rattle.model.specs.Table.{Table}
+use Rattle.model.specs.Scope.{mutually}
+use Rattle.model.specs.Location.{common, before}
+use Rattle.model.specs.Race.{conflict}
+use Rattle.model.specs.Edge.{beforeNth}
+use Rattle.model.specs.RaceLaws.{Sized, touched, common-left, common-right}
+use Rattle.location.specs.Shared.{inBoth, at-shared, nothing-shared}
+use Rattle.area.specs.Regions.{LOCATION, PAIR, PAIRS}
+use Rattle.area.specs.State.{Located}
+
+-- ---- definitions
+
+-- what races, edges and choices are read from: the area holds location order of the table's n rows, none longer than LONGEST
+abbrev pub Known : Table → ℕ → List ℕ → Type 0
+Known t n w = (n ≤ ROWS) × (WORK ≤ length w) × Sized t × Located t n w
+
+-- the bytes of each access are numbers of 16 bits, as refusal 7 sees to
+abbrev pub Bounded : Table → Type 0
+Bounded t = (i : ℕ) → i < t .rows → access (t .row i) ≡ true → t .row i .start + t .row i .size ≤ BYTES
+
+-- x and y conflict and are not mutually-ordered
+unfoldable pub mayRace : Table → ℕ → ℕ → Bool
+mayRace t x y = conflict t x y and not (mutually t x y)
+
+unfoldable pub byteOr : Shared → ℕ → ℕ
+byteOr (At c) e = c
+byteOr Nothing e = e
+
+-- the lowest byte that r and q share, r's end where there is none
+unfoldable pub lowestByte : Row → Row → ℕ
+lowestByte r q = byteOr (lowestShared (r .start) (r .size) (q .start) (q .size)) (r .start + r .size)
+
+-- ---- laws: the bits of a pair
+
+before-common : (t : Table) (x y b : ℕ) → before t x y b ≡ true → common (t .row x) (t .row y) b ≡ true
+unfolding before
+before-common t x y b e = split (split e .0) .1
+
+before-touched : (t : Table) (x y b : ℕ) → Sized t → x < t .rows → before t x y b ≡ true
+    → (t .row x .start ≤ b) × (b < t .row x .start + PAIR)
+before-touched t x y b s l e = touched (t .row x) b (s x l) (common-left (t .row x) (t .row y) b (before-common t x y b e))
+
+-- no byte before x's start, and none past a pair's bits
+pub before-low : (t : Table) (x y b a : ℕ) → Sized t → x < t .rows → a ≡ t .row x .start → b < a → false ≡ before t x y b
+before-low t x y b a s l e h = sym (not-so (before t x y b) (λ d. let g = before-touched t x y b s l d .0 in omega arith))
+
+pub before-high : (t : Table) (x y b a : ℕ) → Sized t → x < t .rows → a ≡ t .row x .start → PAIR ≤ b - a → false ≡ before t x y b
+before-high t x y b a s l e h = sym (not-so (before t x y b) (λ d. let g = before-touched t x y b s l d .1 in omega arith))
+
+-- bit k of a pair is the byte k after x's start
+pub before-bit : (t : Table) (n : ℕ) (w : List ℕ) (x y b a m : ℕ) → Located t n w → x < n → y < n → a ≡ t .row x .start → a ≤ b → b - a < PAIR
+    → m ≡ LOCATION * 64 + x * PAIRS + y * PAIR + (b - a) → bit w m ≡ before t x y b
+unfolding beforeNth
+before-bit t n w x y b a m h l k e o s q =
+    let g : t .row x .start + (b - a) ≡ b = omega arith in
+    subst (λ (z : ℕ). bit w m ≡ before t x y z) g (cube-bit (h .location) m x y (b - a) q l k s)
+
+-- ---- laws: where the search of a pair starts
+
+module _ (r q : Row) where
+  both-in : (c : ℕ) → common r q c ≡ true → inBoth (r .start) (r .size) (q .start) (q .size) c ≡ true
+  unfolding inBoth touches
+  both-in c e = and-true (common-left r q c e) (common-right r q c e)
+
+  apart : (s : Shared) → lowestShared (r .start) (r .size) (q .start) (q .size) ≡ s → (c : ℕ) → c < byteOr s (r .start + r .size) → common r q c ≡ true → ⊥
+  unfolding byteOr
+  apart (At d) e c l t = not-both (both-in c t) (at-shared (r .start) (r .size) (q .start) (q .size) d e .1 c l)
+  apart Nothing e c l t = not-both (both-in c t) (nothing-shared (r .start) (r .size) (q .start) (q .size) e c)
+
+  -- no byte below it is a byte of both
+  pub lowest-apart : (c : ℕ) → c < lowestByte r q → common r q c ≡ true → ⊥
+  unfolding lowestByte
+  lowest-apart c l t = apart _ refl c l t

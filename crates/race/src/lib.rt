@@ -1,0 +1,144 @@
+// Races: the first pair of rows that races, and its lowest byte with no location order either way. Some code reads none of the
+// rows, places or number of rows that it is given: they say which table its contract is about.
+ghost use mathlib.Core.Path.{_≡_};
+ghost use Prim.Native.Nat.{ℕ, _<_};
+ghost use Rattle.model.specs.Table.{rowOf, decode};
+ghost use Rattle.model.specs.Scope.{mutually};
+ghost use Rattle.model.specs.Location.{before};
+ghost use Rattle.model.specs.Race.{unordered};
+ghost use Rattle.race.specs.Bytes.{Known, Bounded, mayRace, lowestByte};
+ghost use Rattle.race.specs.First.{foundRace};
+use model::Places;
+use model::Row;
+use model::Shared;
+
+// Whether x and y are mutually-ordered, as the work area's bits say.
+// Ruled out: one that says yes of a row and itself; one that reads the bit of x and y + 1.
+pub fn mutual_at(rows: &[u8], p: Places, n: usize, x: usize, y: usize, w: &[u64]) -> bool
+    requires { ⌜ (x < n) × (y < n) × Known (decode (now rows) p n) n (now w) ⌝ }
+    ensures { λ d. ⌜ d ≡ mutually (decode (now (rows .entry)) p n) x y ⌝ }
+{
+    bits::get(w, (area::MUTUAL + x * area::GRID) * 64 + y)
+}
+
+// Whether x, which is r, is location-ordered before y at byte b, for any b: no byte outside the bits of a pair is one of x's.
+// Ruled out: one that counts the bits from y's start; one that reads another pair's bit where b is no byte of x.
+pub fn before_byte(
+    rows: &[u8],
+    p: Places,
+    n: usize,
+    x: usize,
+    y: usize,
+    r: Row,
+    b: u32,
+    w: &[u64],
+) -> bool
+    requires { ⌜ (x < n) × (y < n) × (r ≡ rowOf (now rows) x) × Known (decode (now rows) p n) n (now w) ⌝ }
+    ensures { λ d. ⌜ d ≡ before (decode (now (rows .entry)) p n) x y b ⌝ }
+{
+    let start = r.start as u32;
+    if b < start {
+        return false;
+    }
+    let k = (b - start) as usize;
+    if area::PAIR <= k {
+        return false;
+    }
+    bits::get(
+        w,
+        area::LOCATION * 64 + x * area::PAIRS + y * area::PAIR + k,
+    )
+}
+
+// Whether b is a byte of x and y, which are r and q, with no location order either way.
+// Ruled out: one that asks for order one way only; one that holds of a byte of one row alone.
+pub fn unordered_at(
+    rows: &[u8],
+    p: Places,
+    n: usize,
+    x: usize,
+    y: usize,
+    r: Row,
+    q: Row,
+    b: u32,
+    w: &[u64],
+) -> bool
+    requires { ⌜ (x < n) × (y < n) × (r ≡ rowOf (now rows) x) × (q ≡ rowOf (now rows) y) × Known (decode (now rows) p n) n (now w) ⌝ }
+    ensures { λ d. ⌜ d ≡ unordered (decode (now (rows .entry)) p n) x y b ⌝ }
+{
+    location::pairs::common(r, q, b)
+        & !before_byte(rows, p, n, x, y, r, b, w)
+        & !before_byte(rows, p, n, y, x, q, b, w)
+}
+
+// Whether x and y, which are r and q, conflict and are not mutually-ordered.
+// Ruled out: one that holds of two reads; one that holds of mutually-ordered rows.
+pub fn may_race(
+    rows: &[u8],
+    p: Places,
+    n: usize,
+    x: usize,
+    y: usize,
+    r: Row,
+    q: Row,
+    w: &[u64],
+) -> bool
+    requires { ⌜ (x < n) × (y < n) × (r ≡ rowOf (now rows) x) × (q ≡ rowOf (now rows) y) × Known (decode (now rows) p n) n (now w) ⌝ }
+    ensures { λ d. ⌜ d ≡ mayRace (decode (now (rows .entry)) p n) x y ⌝ }
+{
+    !(x == y) & location::shared::clash(r, q) & !mutual_at(rows, p, n, x, y, w)
+}
+
+// Where the byte search of a pair starts: the lowest byte that r and q share, and r's end where there is none.
+fn lowest_byte(r: Row, q: Row) -> u32
+    ensures { λ b. ⌜ b ≡ lowestByte r q ⌝ }
+{
+    let s = location::shared::lowest_shared(r.start, r.size, q.start, q.size);
+    match s {
+        Shared::At(c) => c as u32,
+        Shared::Nothing => (r.start as u32) + (r.size as u32),
+    }
+}
+
+pub enum Found {
+    At { first: u16, second: u16, byte: u16 },
+    Nothing,
+}
+
+// The first pair in row order that races, then its lowest shared byte with no order: the lower row, the higher, the byte.
+// Ruled out: one that shows the rows exchanged; one that shows the lowest shared byte, ordered or not.
+pub fn first_race(rows: &[u8], p: Places, n: usize, w: &[u64]) -> Found
+    requires { ⌜ Bounded (decode (now rows) p n) × Known (decode (now rows) p n) n (now w) ⌝ }
+    ensures { λ r. ⌜ r ≡ foundRace (decode (now (rows .entry)) p n) ⌝ }
+{
+    let mut answer = Found::Nothing;
+    'pairs: for x in 0..n {
+        let r = rows::bytes::read_row(rows, x as u16);
+        let end = (r.start as u32) + (r.size as u32);
+        for y in x + 1..n {
+            let q = rows::bytes::read_row(rows, y as u16);
+            if !may_race(rows, p, n, x, y, r, q, w) {
+                continue;
+            }
+            let mut b = lowest_byte(r, q);
+            let hit = loop {
+                if end <= b {
+                    break end;
+                }
+                if unordered_at(rows, p, n, x, y, r, q, b, w) {
+                    break b;
+                }
+                b += 1;
+            };
+            if hit < end {
+                answer = Found::At {
+                    first: x as u16,
+                    second: y as u16,
+                    byte: hit as u16,
+                };
+                break 'pairs;
+            }
+        }
+    }
+    answer
+}

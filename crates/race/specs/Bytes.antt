@@ -19,7 +19,7 @@ use Rattle.model.specs.Location.{common, before}
 use Rattle.model.specs.Race.{conflict}
 use Rattle.model.specs.Edge.{beforeNth}
 use Rattle.model.specs.RaceLaws.{Sized, touched, common-left, common-right}
-use Rattle.location.specs.Shared.{inBoth, at-shared, nothing-shared}
+use Rattle.location.specs.Shared.{inBoth, lowest-at, lowest-nothing}
 use Rattle.area.specs.Regions.{LOCATION, PAIR, PAIRS}
 use Rattle.area.specs.State.{Located}
 
@@ -79,8 +79,8 @@ module _ (r q : Row) where
 
   apart : (s : Shared) → lowestShared (r .start) (r .size) (q .start) (q .size) ≡ s → (c : ℕ) → c < byteOr s (r .start + r .size) → common r q c ≡ true → ⊥
   unfolding byteOr
-  apart (At d) e c l t = not-both (both-in c t) (at-shared (r .start) (r .size) (q .start) (q .size) d e .1 c l)
-  apart Nothing e c l t = not-both (both-in c t) (nothing-shared (r .start) (r .size) (q .start) (q .size) e c)
+  apart (At d) e c l t = not-both (both-in c t) (lowest-at (r .start) (r .size) (q .start) (q .size) d .0 e .1 c l)
+  apart Nothing e c l t = not-both (both-in c t) (lowest-nothing (r .start) (r .size) (q .start) (q .size) .0 e c)
 
   -- no byte below it is a byte of both
   pub lowest-apart : (c : ℕ) → c < lowestByte r q → common r q c ≡ true → ⊥

@@ -1,0 +1,44 @@
+// The functions that C and Rust link. Each is the proved function of the same name with its answer packed into one number.
+ghost use mathlib.Core.Path.{_≡_};
+ghost use Prim.Native.Nat.{ℕ, _≤_};
+ghost use lib.ListN.{length};
+ghost use Rattle.model.specs.Check.{check, checkAnswer, cycleAfter, workAfter};
+ghost use Rattle.stramashly.specs.Packed.{packed, packCheck};
+use model::CheckAnswer;
+
+fn pack(code: u8, a: u16, b: u16, c: u16) -> u64
+    ensures { λ r. ⌜ r ≡ packed code a b c ⌝ }
+{
+    (code as u64) * 281474976710656 + (a as u64) * 4294967296 + (b as u64) * 65536 + (c as u64)
+}
+
+fn pack_check(answer: CheckAnswer) -> u64
+    ensures { λ r. ⌜ r ≡ packCheck answer ⌝ }
+{
+    match answer {
+        CheckAnswer::Refused { number, row } => pack(4, number as u16, row, 0),
+        CheckAnswer::Cycle { rows } => pack(3, rows, 0, 0),
+        CheckAnswer::Overwritten {
+            reader,
+            writer,
+            byte,
+        } => pack(2, reader, writer, byte),
+        CheckAnswer::Race {
+            first,
+            second,
+            byte,
+        } => pack(1, first, second, byte),
+        CheckAnswer::RaceFree => pack(0, 0, 0, 0),
+    }
+}
+
+// Judges one recorded run: `verdict::check`, packed.
+// Ruled out: one whose code for a race is that of race-free; one that leaves what a check worked with in the work area.
+#[no_mangle]
+pub extern "C" fn stramashly_check(table: &[u8], work: &mut [u64], cycle: &mut [u16]) -> u64
+    ensures { λ r. ⌜ (r ≡ packCheck (checkAnswer (check (now (table .entry)) (length (now (work .entry))) (length (now (cycle .entry))))))
+        × (now (work .exit) ≡ workAfter (check (now (table .entry)) (length (now (work .entry))) (length (now (cycle .entry)))) (now (work .entry)))
+        × (now (cycle .exit) ≡ cycleAfter (check (now (table .entry)) (length (now (work .entry))) (length (now (cycle .entry)))) (now (cycle .entry))) ⌝ }
+{
+    pack_check(verdict::check::check(table, work, cycle))
+}

@@ -4,7 +4,7 @@ use mathlib.Core.Bool.{Bool, true, false, not}
 use mathlib.Core.List.{List}
 use Prim.Native.Nat.{ℕ}
 use lib.Dec.{eqb}
-use Rattle.finite.specs.Logic.{_and_, _or_, not-out, or-false}
+use Rattle.finite.specs.Logic.{_and_, _or_, split, and-true, not-both, not-so, not-out, or-false}
 use Rattle.finite.specs.Below.{anyBelow}
 use Rattle.model.specs.declared.Row.{Row}
 use Rattle.model.specs.Row.{holds, releases, acquires}
@@ -22,15 +22,19 @@ stepRows n s m k r q b =
     or holdingOf s q (part k) and releases q and concernsOf s r (part m) and orderedRows n m k r q
     or holdingOf s r (part m) and acquires r and concernsOf s q (part k) and orderedRows n m k r q
 
+-- m is the own moment of a row that holds all of s
+unfoldable pub mayHold : List ℕ → ℕ → ℕ → Bool
+mayHold b s m = eqb (part m) AT and holds (rowOf b (rowIn m) .classes) s
+
 -- row i holds all of s
 unfoldable pub holdsAt : List ℕ → ℕ → ℕ → Bool
 holdsAt b s i = holds (rowOf b i .classes) s
 
 -- ---- laws: of one row
 
-holding-off : (s : ℕ) (r : Row) (k : ℕ) → eqb k AT ≡ false → holdingOf s r k ≡ false
-unfolding holdingOf _and_
-holding-off s r k e = rw e refl
+holding-off : (b : List ℕ) (s m : ℕ) → mayHold b s m ≡ false → holdingOf s (rowOf b (rowIn m)) (part m) ≡ false
+unfolding holdingOf mayHold
+holding-off b s m e = not-so _ (λ h. not-both (and-true (split (split h .0) .0) (split h .1)) e)
 
 step-none : (n s m k : ℕ) (r q : Row) (b : Bool) → holdingOf s r (part m) ≡ false → holdingOf s q (part k) ≡ false
     → false ≡ stepRows n s m k r q b
@@ -57,12 +61,11 @@ module _ (b : List ℕ) (p : List (List ℕ)) (n : ℕ) where
       → v ≡ synchronizes (decode b p n) (rowIn m) (rowIn k) → d ≡ stepRows n s m k r q v → d ≡ step (decode b p n) s m k
   step-told s m k r q v d er eq ev e = rw (step-is s m k, ← er, ← eq, ← ev) e
 
-  -- neither moment is a row's own: no direct case
-  pub step-apart : (s m k : ℕ) (x y : Bool) → x ≡ eqb (part m) AT → y ≡ eqb (part k) AT → not (x or y) ≡ true
-      → false ≡ step (decode b p n) s m k
+  -- neither moment may hold s: no direct case
+  pub step-apart : (s m k : ℕ) (x y : Bool) → x ≡ mayHold b s m → y ≡ mayHold b s k → not (x or y) ≡ true → false ≡ step (decode b p n) s m k
   step-apart s m k x y e f g =
       let z = or-false x y (not-out (x or y) g) in
-      rw (step-is s m k) (step-none n s m k _ _ _ (holding-off s _ _ (sym e ∙ z .0)) (holding-off s _ _ (sym f ∙ z .1)))
+      rw (step-is s m k) (step-none n s m k _ _ _ (holding-off b s m (sym e ∙ z .0)) (holding-off b s k (sym f ∙ z .1)))
 
   -- places are not asked for
   pub live-is : (s : ℕ) → live (decode b p n) s ≡ anyBelow n (holdsAt b s)

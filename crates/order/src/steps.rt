@@ -11,7 +11,7 @@ ghost use Rattle.model.specs.Moment.{AT, part};
 ghost use Rattle.model.specs.Happens.{holdingOf, concernsOf, step};
 ghost use Rattle.area.specs.Regions.{STEP, STEP-END, MOMENTS};
 ghost use Rattle.sequence.specs.Known.{Synced};
-ghost use Rattle.order.specs.Cases.{stepRows};
+ghost use Rattle.order.specs.Cases.{mayHold, stepRows};
 use model::Places;
 use model::Row;
 
@@ -59,19 +59,21 @@ fn is_step(n: usize, s: u8, m: usize, k: usize, r: Row, q: Row, b: bool) -> bool
         | h & rows::kinds::acquires(r) & concerns_of(s, q, to) & o
 }
 
-// Whether m is a row's own moment.
-fn is_itself(m: usize) -> bool
-    ensures { λ b. ⌜ b ≡ eqb (part m) AT ⌝ }
+// Whether m is the own moment of a row that holds all of s: each direct case has such a moment.
+fn may_hold(rows: &[u8], s: u8, m: usize) -> bool
+    requires { ⌜ m < 3 * ROWS ⌝ }
+    ensures { λ b. ⌜ b ≡ mayHold (now (rows .entry)) s m ⌝ }
 {
-    m % 3 == moments::AT as usize
+    (m % 3 == moments::AT as usize)
+        & rows::kinds::holds(rows::bytes::read_classes(rows, (m / 3) as u16), s)
 }
 
-// M6: a direct case for the class set s from moment m to moment k. No row is read where neither is a row's own.
+// M6: a direct case for the class set s from moment m to moment k. No whole row is read where neither moment may hold s.
 pub fn step_at(rows: &[u8], p: Places, n: usize, s: u8, m: usize, k: usize, w: &[u64]) -> bool
     requires { ⌜ (n ≤ ROWS) × (m < 3 * n) × (k < 3 * n) × (WORK ≤ length (now w)) × Synced (decode (now rows) p n) n (now w) ⌝ }
     ensures { λ b. ⌜ b ≡ step (decode (now (rows .entry)) p n) s m k ⌝ }
 {
-    if !(is_itself(m) | is_itself(k)) {
+    if !(may_hold(rows, s, m) | may_hold(rows, s, k)) {
         return false;
     }
     let r = rows::bytes::read_row(rows, (m / 3) as u16);

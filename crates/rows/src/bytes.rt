@@ -99,6 +99,13 @@ pub fn read_row(rows: &[u8], i: u16) -> Row
     }
 }
 
+// Row i's semantics classes alone, where the rest of the row is not asked.
+pub fn read_classes(rows: &[u8], i: u16) -> u8
+    ensures { λ r. ⌜ r ≡ rowOf (now (rows .entry)) i .classes ⌝ }
+{
+    row_byte(rows, i, 4)
+}
+
 pub fn read_source(rows: &[u8], i: u16) -> Source
     ensures { λ r. ⌜ r .0 ≡ sourceOf (now (rows .entry)) i ⌝ }
 {

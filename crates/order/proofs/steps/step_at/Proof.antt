@@ -10,64 +10,64 @@ use Rattle.order.proofs.steps.step_at.Tie as tie
 use Rattle.order.proofs.steps.step_at.Reads as reads
 use Rattle.order.proofs.steps.step_at.Lts as lts
 use Rattle.bits.proofs.get.Reads as get-reads
-use Rattle.order.proofs.steps.is_itself.Reads as is-itself-reads
 use Rattle.order.proofs.steps.is_step.Reads as is-step-reads
+use Rattle.order.proofs.steps.may_hold.Reads as may-hold-reads
 use Rattle.rows.proofs.bytes.read_row.Reads as read-row-reads
 
--- src/steps.rt:74:10
-is-itself-requires : tie.Need-is-itself-requires
-is-itself-requires c κs = search needs
+-- src/steps.rt:75:10
+may-hold-requires : tie.Need-may-hold-requires
+may-hold-requires c κs = search needs
 
--- src/steps.rt:74:25
-is-itself-requires-2 : tie.Need-is-itself-requires-2
-is-itself-requires-2 c κs = search needs
+-- src/steps.rt:75:33
+may-hold-requires-2 : tie.Need-may-hold-requires-2
+may-hold-requires-2 c κs = search needs
 
--- src/steps.rt:75:9
+-- src/steps.rt:76:9
 returns : tie.Need-returns
 unfolding _or_
-returns c = step-apart _ _ _ _ _ _ _ _ (c .before .before .is-itself .ensures) (c .before .is-itself2 .ensures) (c .if1 .taken)
+returns c = step-apart _ _ _ _ _ _ _ _ (c .before .before .may-hold .ensures) (c .before .may-hold2 .ensures) (c .if1 .taken)
 
--- src/steps.rt:77:41
+-- src/steps.rt:78:41
 cast-read-row : tie.Need-cast-read-row
 cast-read-row c = search needs
 
--- src/steps.rt:77:9
+-- src/steps.rt:78:9
 read-row-requires : tie.Need-read-row-requires
 read-row-requires c κs = search needs
 
--- src/steps.rt:78:41
+-- src/steps.rt:79:41
 cast-read-row-2 : tie.Need-cast-read-row-2
 cast-read-row-2 c = search needs
 
--- src/steps.rt:78:9
+-- src/steps.rt:79:9
 read-row-requires-2 : tie.Need-read-row-requires-2
 read-row-requires-2 c κs = search needs
 
--- src/steps.rt:79:40
+-- src/steps.rt:80:40
 mul-get : tie.Need-mul-get
 mul-get c = search needs
 
--- src/steps.rt:79:27
+-- src/steps.rt:80:27
 add-get : tie.Need-add-get
 add-get c = search needs
 
--- src/steps.rt:79:26
+-- src/steps.rt:80:26
 mul-get-2 : tie.Need-mul-get-2
 mul-get-2 c = search needs
 
--- src/steps.rt:79:26
+-- src/steps.rt:80:26
 add-get-2 : tie.Need-add-get-2
 add-get-2 c = search needs
 
--- src/steps.rt:79:9
+-- src/steps.rt:80:9
 get-requires : tie.Need-get-requires
 get-requires c κs = search needs
 
--- src/steps.rt:80:5
+-- src/steps.rt:81:5
 is-step-requires : tie.Need-is-step-requires
 is-step-requires c κs = search needs
 
--- src/steps.rt:70:1
+-- src/steps.rt:71:1
 returns-2 : tie.Need-returns-2
 returns-2 c =
     let start = c .before .before .before .before .before .before .before .before .before in
@@ -78,8 +78,8 @@ pub step-at-spec : {M : Type 1} → statement M
 step-at-spec =
     tie.close
     (tie.spec
-    is-itself-requires
-    is-itself-requires-2
+    may-hold-requires
+    may-hold-requires-2
     returns
     cast-read-row
     read-row-requires

@@ -2,6 +2,8 @@
 use Prim.Native.Nat.{ℕ, _+_, _*_}
 use Rattle.model.specs.declared.CheckAnswer.{CheckAnswer}
 use Rattle.model.specs.declared.CheckAnswer.the-variants
+use Rattle.model.specs.declared.FillAnswer.{FillAnswer}
+use Rattle.model.specs.declared.FillAnswer.the-variants as filled
 
 unfoldable pub packed : ℕ → ℕ → ℕ → ℕ → ℕ
 packed code a b c = code * 281474976710656 + a * 4294967296 + b * 65536 + c
@@ -13,3 +15,10 @@ packCheck (the-variants.Cycle l) = packed 3 l 0 0
 packCheck (the-variants.Overwritten y z b) = packed 2 y z b
 packCheck (the-variants.Race x y b) = packed 1 x y b
 packCheck the-variants.RaceFree = packed 0 0 0 0
+
+-- the codes: 1 race, 4 refused, as above; 5 none, 6 filled (a is the number of rows, which the caller hands in)
+unfoldable pub packFill : FillAnswer → ℕ → ℕ
+packFill (filled.Refused n i) rows = packed 4 n i 0
+packFill (filled.Race x y b) rows = packed 1 x y b
+packFill filled.None rows = packed 5 0 0 0
+packFill filled.Filled rows = packed 6 rows 0 0

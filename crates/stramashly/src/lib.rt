@@ -3,8 +3,12 @@ ghost use mathlib.Core.Path.{_≡_};
 ghost use Prim.Native.Nat.{ℕ, _≤_};
 ghost use lib.ListN.{length};
 ghost use Rattle.model.specs.Check.{check, checkAnswer, cycleAfter, workAfter};
-ghost use Rattle.stramashly.specs.Packed.{packed, packCheck};
+ghost use Rattle.model.specs.Fill.{fill, fillAnswer, sourcesAfter};
+ghost use Rattle.model.specs.Fill as Fill;
+ghost use Rattle.model.specs.Table.{rowsAt};
+ghost use Rattle.stramashly.specs.Packed.{packed, packCheck, packFill};
 use model::CheckAnswer;
+use model::FillAnswer;
 
 fn pack(code: u8, a: u16, b: u16, c: u16) -> u64
     ensures { λ r. ⌜ r ≡ packed code a b c ⌝ }
@@ -32,6 +36,21 @@ fn pack_check(answer: CheckAnswer) -> u64
     }
 }
 
+fn pack_fill(answer: FillAnswer, rows: u8) -> u64
+    ensures { λ r. ⌜ r ≡ packFill answer rows ⌝ }
+{
+    match answer {
+        FillAnswer::Refused { number, row } => pack(4, number as u16, row, 0),
+        FillAnswer::Race {
+            first,
+            second,
+            byte,
+        } => pack(1, first, second, byte),
+        FillAnswer::None => pack(5, 0, 0, 0),
+        FillAnswer::Filled => pack(6, rows as u16, 0, 0),
+    }
+}
+
 // Judges one recorded run: `verdict::check`, packed.
 // Ruled out: one whose code for a race is that of race-free; one that leaves what a check worked with in the work area.
 #[no_mangle]
@@ -41,4 +60,16 @@ pub extern "C" fn stramashly_check(table: &[u8], work: &mut [u64], cycle: &mut [
         × (now (cycle .exit) ≡ cycleAfter (check (now (table .entry)) (length (now (work .entry))) (length (now (cycle .entry)))) (now (cycle .entry))) ⌝ }
 {
     pack_check(verdict::check::check(table, work, cycle))
+}
+
+// Fills the blanks of one recorded run: `filling::fill`, packed, with the number of rows where it filled them.
+// Ruled out: one whose code for filled is that of none; one that writes a source where a pair races.
+#[no_mangle]
+pub extern "C" fn stramashly_fill(table: &[u8], work: &mut [u64], sources: &mut [u16]) -> u64
+    ensures { λ r. ⌜ (r ≡ packFill (fillAnswer (fill (now (table .entry)) (length (now (work .entry))) (length (now (sources .entry))))) (rowsAt (now (table .entry))))
+        × (now (work .exit) ≡ Fill.workAfter (fill (now (table .entry)) (length (now (work .entry))) (length (now (sources .entry)))) (now (work .entry)))
+        × (now (sources .exit) ≡ sourcesAfter (fill (now (table .entry)) (length (now (work .entry))) (length (now (sources .entry)))) (now (sources .entry))) ⌝ }
+{
+    let answer = filling::fill(table, work, sources);
+    pack_fill(answer, rows::bytes::rows_at(table))
 }

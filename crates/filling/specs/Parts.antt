@@ -1,0 +1,169 @@
+-- What the calls of a fill come to, over the rows of a table. Assumes nothing.
+use mathlib.Core.Path.{_≡_, refl, sym, ap, ap₂, _∙_}
+use mathlib.Core.Bool.{Bool, true, false, cond}
+use mathlib.Core.List.{List, _++_}
+use Prim.Native.Nat.{ℕ, _+_, _-_, _≤_, _<_}
+use native.Mathlib.Omega.{arith}
+use native.Mathlib.Decide.{decLt, ℕ-discrete}
+use lib.ListN.{length, getD, set, drop, length-set, length-append, length-drop, List·getD-append}
+use lib.Seq.{ext-getD, getD-set-same, getD-set-other, getD-drop, getD-append-add}
+use lib.Dec.{ltb, eqb}
+use borrow.Author.Tests.{eq-eqb, ne-eqb}
+use Rattle.finite.specs.Logic.{_and_, and-false-left}
+use Rattle.finite.specs.Lists.{tabulate, length-tabulate, getD-tabulate}
+use Rattle.finite.specs.Walk.{cycleStart}
+use Rattle.bits.specs.Matrix.{rel}
+use Rattle.bits.specs.Within.{Within, within-refl}
+use Rattle.bits.specs.Stage.{Made}
+use Rattle.model.specs.declared.FillAnswer.{FillAnswer}
+use Rattle.model.specs.declared.FillAnswer.the-variants
+use Rattle.model.specs.Table.{Table}
+use Rattle.model.specs.Race.{raceRow, racePartner, raceByte}
+use Rattle.model.specs.Edge.{edge, cycleRow, overReader, consistent}
+use Rattle.model.specs.Fill.{Outcome, race, none, filled, chosen, sourcesFit, filledOr, racingOr, outcome, fillAnswer, sourcesAfter}
+use Rattle.model.specs.SourceLaws.{consistent-same, fits-same}
+use Rattle.area.specs.Regions.{EDGE, EDGE-END, GRID, LAYERS, LAYERS-END}
+use Rattle.cycle.specs.Layers.{Written}
+use Rattle.race.specs.declared.Found.{Found}
+use Rattle.race.specs.declared.Found.the-variants as found
+use Rattle.race.specs.First.{raceOf, foundRace}
+use Rattle.axioms.specs.Sources.{sourceIn}
+use Rattle.choice.specs.Sources.{Listed}
+use Rattle.verdict.specs.Answers.{edges-held, start-found}
+
+-- ---- definitions
+
+unfoldable pub raceAnswer : Found → FillAnswer
+raceAnswer (found.At x y b) = the-variants.Race x y b
+raceAnswer found.Nothing = the-variants.None
+
+-- ---- laws: consistent, by its two searches
+
+-- the area as the edges are made, and as the search for a cycle leaves it
+module _ (t : Table) (source : ℕ → ℕ) (n x : ℕ) (w v u : List ℕ) (all : n ≡ t .rows) (made : Made EDGE EDGE-END EDGE GRID n (edge t source) w v)
+    (start : x ≡ cycleStart n (rel v EDGE GRID)) (frame : Within LAYERS LAYERS-END v u) where
+  row : x ≡ cycleRow t source
+  row = start-found t source n x w v all made start
+
+  pub cyclic-told : (x ≡ n → ⊥) → (false ≡ consistent t source) × Within EDGE LAYERS-END w u
+  unfolding consistent
+  cyclic-told h = (sym (and-false-left _ _ (ne-eqb (cycleRow t source) (t .rows) (λ e. h (row ∙ e ∙ sym all)))), edges-held made frame .1)
+
+  pub acyclic-told : x ≡ n → (y : ℕ) → y ≡ overReader t source → (eqb y n ≡ consistent t source) × Within EDGE LAYERS-END w u
+  unfolding consistent _and_
+  acyclic-told h y q =
+      (rw (eq-eqb (cycleRow t source) (t .rows) (sym row ∙ h ∙ all)) (ap₂ (λ (a b : ℕ). eqb a b) q all), edges-held made frame .1)
+
+-- ---- laws: the sources that are written
+
+pub written-none : (l c : List ℕ) → Written l 0 c c
+written-none l c = record { len = refl; row = λ i h. absurd (omega arith); rest = λ i h. refl }
+
+pub written-more : (l c d : List ℕ) (n v : ℕ) → n < length c → v ≡ getD l n 0 → Written l n c d → Written l (n + 1) c (set d n v)
+written-more l c d n v b e h =
+    record {
+      len = length-set d n v ∙ h .len;
+      row = λ i m. go i m (ℕ-discrete i n);
+      rest = λ i m. getD-set-other d n i v 0 (λ q. absurd (omega arith)) ∙ h .rest i (omega arith);
+    }
+  where
+    go : (i : ℕ) → i < n + 1 → Dec (i ≡ n) → getD (set d n v) i 0 ≡ getD l i 0
+    go i m (yes q) = let r = h .len in rw q (getD-set-same d n v 0 (omega arith) ∙ e)
+    go i m (no q) = getD-set-other d n i v 0 q ∙ h .row i (omega arith)
+
+-- a list of the sources, written, is what a fill leaves
+pub written-filled : (source : ℕ → ℕ) (l c d : List ℕ) (n : ℕ) → n ≤ length c → Listed source n l → Written l n c d → d ≡ sourcesAfter (filled (tabulate source n)) c
+unfolding sourcesAfter
+written-filled source l c d n room listed h =
+    ext-getD 0 d (first ++ drop (length first) c) (h .len ∙ sym whole) (λ k m. at k (decLt k n))
+  where
+    first : List ℕ
+    first = tabulate source n
+
+    front : length first ≡ n
+    front = length-tabulate source n
+
+    whole : length (first ++ drop (length first) c) ≡ length c
+    whole = length-append first (drop (length first) c) ∙ rw (length-drop (length first) c, front) (omega arith)
+
+    at : (k : ℕ) → Dec (k < n) → getD d k 0 ≡ getD (first ++ drop (length first) c) k 0
+    at k (yes m) = h .row k m ∙ listed .each k m ∙ sym (List·getD-append first (drop (length first) c) 0 k (rw front m) ∙ getD-tabulate source n k 0 m)
+    at k (no m) =
+        let p : length first + (k - length first) ≡ k = rw front (omega arith) in
+        h .rest k (omega arith)
+        ∙ sym (ap (λ (i : ℕ). getD (first ++ drop (length first) c) i 0) (sym p) ∙ getD-append-add first (drop (length first) c) (k - length first) 0 ∙ getD-drop (length first) c (k - length first) 0 ∙ ap (λ (i : ℕ). getD c i 0) p)
+
+-- ---- laws: the chosen sources, tested
+
+-- a list of them, and what its tests said
+module _ (t : Table) (source : ℕ → ℕ) (n : ℕ) (l : List ℕ) (b : Bool) (all : n ≡ t .rows) (listed : Listed source n l)
+    (told : b ≡ (sourcesFit t (sourceIn l) and consistent t (sourceIn l))) where
+  same : (i : ℕ) → i < t .rows → sourceIn l i ≡ source i
+  same i m = listed .each i (omega arith)
+
+  test : b ≡ (sourcesFit t source and consistent t source)
+  test = told ∙ ap₂ _and_ (fits-same t (sourceIn l) source same) (consistent-same t (sourceIn l) source same)
+
+  on : b ≡ true → filledOr none t source ≡ filled (tabulate source (t .rows))
+  unfolding filledOr
+  on h = rw (sym test ∙ h) refl
+
+  off : b ≡ false → filledOr none t source ≡ none
+  unfolding filledOr
+  off h = rw (sym test ∙ h) refl
+
+  pub unfilled : (c w u : List ℕ) → b ≡ false → Within EDGE LAYERS-END w u
+      → (the-variants.None ≡ fillAnswer (filledOr none t source)) × (c ≡ sourcesAfter (filledOr none t source) c) × Within EDGE LAYERS-END w u
+  unfolding fillAnswer sourcesAfter
+  unfilled c w u h f = (rw (off h) refl, rw (off h) refl, f)
+
+  pub all-filled : (c d w u : List ℕ) → b ≡ true → n ≤ length c → Written l n c d → Within EDGE LAYERS-END w u
+      → (the-variants.Filled ≡ fillAnswer (filledOr none t source)) × (d ≡ sourcesAfter (filledOr none t source) c) × Within EDGE LAYERS-END w u
+  unfolding fillAnswer
+  all-filled c d w u h room written f =
+      let e : d ≡ sourcesAfter (filled (tabulate source (t .rows))) c = written-filled source l c d n room listed written ∙ ap (λ (k : ℕ). sourcesAfter (filled (tabulate source k)) c) all in
+      (rw (on h) refl, e ∙ ap (λ (o : Outcome). sourcesAfter o c) (sym (on h)), f)
+
+-- ---- laws: a race, or what comes next
+
+not-nothing : {A : Type 0} {x y b : ℕ} → found.Nothing ≡ found.At x y b → A
+not-nothing e = let z : _≡_ {A = ℕ} 0 1 = ap which-one e in absurd (omega arith)
+  where
+    which-one : Found → ℕ
+    which-one found.Nothing = 0
+    which-one (found.At x y b) = 1
+
+module _ (t : Table) (source : ℕ → ℕ) (f : Found) (e : f ≡ foundRace t) where
+  abbrev x : ℕ
+  x = raceRow t
+
+  abbrev y : ℕ
+  y = racePartner t x
+
+  abbrev pair : Bool → Found
+  pair b = cond b (found.At x y (raceByte t x y)) found.Nothing
+
+  abbrev next : Bool → Outcome
+  next b = cond b (race x y (raceByte t x y)) (filledOr none t (chosen t source))
+
+  pub raced : {i j k : ℕ} (r : FillAnswer) (c w : List ℕ) → f ≡ found.At i j k → r ≡ raceAnswer f
+      → (r ≡ fillAnswer (outcome t source)) × (c ≡ sourcesAfter (outcome t source) c) × Within EDGE LAYERS-END w w
+  unfolding raceAnswer foundRace raceOf outcome racingOr fillAnswer sourcesAfter
+  raced {i} {j} {k} r c w h g = go (ltb x (t .rows)) (sym e ∙ h) (g ∙ ap raceAnswer e)
+    where
+      go : (b : Bool) → pair b ≡ found.At i j k → r ≡ raceAnswer (pair b) → (r ≡ fillAnswer (next b)) × (c ≡ sourcesAfter (next b) c) × Within EDGE LAYERS-END w w
+      go true q p = (p, refl, within-refl EDGE LAYERS-END w)
+      go false q p = not-nothing q
+
+  pub raceless : f ≡ found.Nothing → outcome t source ≡ filledOr none t (chosen t source)
+  unfolding foundRace raceOf outcome racingOr
+  raceless h = go (ltb x (t .rows)) (sym e ∙ h)
+    where
+      go : (b : Bool) → pair b ≡ found.Nothing → next b ≡ filledOr none t (chosen t source)
+      go true q = not-nothing (sym q)
+      go false q = refl
+
+  pub unraced : (r : FillAnswer) (c d w u : List ℕ) → f ≡ found.Nothing
+      → (r ≡ fillAnswer (filledOr none t (chosen t source))) × (d ≡ sourcesAfter (filledOr none t (chosen t source)) c) × Within EDGE LAYERS-END w u
+      → (r ≡ fillAnswer (outcome t source)) × (d ≡ sourcesAfter (outcome t source) c) × Within EDGE LAYERS-END w u
+  unraced r c d w u h a = rw (raceless h) a

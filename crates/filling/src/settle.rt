@@ -1,0 +1,117 @@
+// A fill of a table whose rows are known to be well formed: stages and searches, one after the other.
+ghost use mathlib.Core.Path.{_≡_};
+ghost use Prim.Native.Nat.{_≤_};
+ghost use lib.ListN.{length};
+ghost use Rattle.finite.specs.Logic.{_and_};
+ghost use Rattle.model.specs.Limits.{SOURCES};
+ghost use Rattle.model.specs.Table.{decode};
+ghost use Rattle.model.specs.Edge.{consistent};
+ghost use Rattle.model.specs.Fill.{chosen, sourcesFit, none, filledOr, outcome, fillAnswer, sourcesAfter};
+ghost use Rattle.bits.specs.Within.{Within};
+ghost use Rattle.area.specs.Regions.{EDGE, LAYERS-END};
+ghost use Rattle.cycle.specs.Layers.{Written};
+ghost use Rattle.race.specs.Bytes.{Known, Bounded};
+ghost use Rattle.axioms.specs.Sources.{sourceIn};
+ghost use Rattle.filling.specs.Parts.{raceAnswer};
+use model::FillAnswer;
+use model::Places;
+
+// Whether the edges have no cycle and no read's source is overwritten.
+// Ruled out: one that says yes of a cycle of edges where nothing is overwritten; one that writes over location order.
+pub fn is_consistent(rows: &[u8], p: Places, n: usize, src: &[u16], w: &mut [u64]) -> bool
+    requires { ⌜ (n ≤ length (now src)) × Known (decode (now rows) p n) n (now w) ⌝ }
+    ensures { λ b. ⌜ (b ≡ consistent (decode (now (rows .entry)) p n) (sourceIn (now (src .entry)))) × Within EDGE LAYERS-END (now (w .entry)) (now (w .exit)) ⌝ }
+{
+    axioms::edges::fill_edges(rows, p, n, src, w);
+    let x = cycle::cycle_start(w, n);
+    if x != n {
+        return false;
+    }
+    axioms::overwritten::over_reader(rows, p, n, src, w) == n
+}
+
+// Whether a check admits the sources, and the table with them is consistent.
+fn is_filled(rows: &[u8], p: Places, n: usize, src: &[u16], w: &mut [u64]) -> bool
+    requires { ⌜ (n ≤ length (now src)) × Known (decode (now rows) p n) n (now w) ⌝ }
+    ensures { λ b. ⌜ (b ≡ (sourcesFit (decode (now (rows .entry)) p n) (sourceIn (now (src .entry))) and consistent (decode (now (rows .entry)) p n) (sourceIn (now (src .entry)))))
+        × Within EDGE LAYERS-END (now (w .entry)) (now (w .exit)) ⌝ }
+{
+    if !choice::sources::sources_fit(rows, p, n, src) {
+        return false;
+    }
+    is_consistent(rows, p, n, src, w)
+}
+
+// The first n numbers of out become the list's.
+// Ruled out: one that writes the whole list; one that leaves out the last row's source.
+pub fn write_sources(list: &[u16], n: usize, out: &mut [u16])
+    requires { ⌜ (n ≤ length (now list)) × (n ≤ length (now out)) ⌝ }
+    ensures { λ _. ⌜ Written (now (list .entry)) n (now (out .entry)) (now (out .exit)) ⌝ }
+{
+    for i in 0..n {
+        out[i] = list[i];
+    }
+}
+
+// The answer where there is no race: the chosen sources in out, if they fill the table.
+fn choose_sources(
+    rows: &[u8],
+    p: Places,
+    n: usize,
+    src: &[u16],
+    w: &mut [u64],
+    out: &mut [u16],
+) -> FillAnswer
+    requires { ⌜ (SOURCES ≤ length (now out)) × (n ≤ length (now src)) × Known (decode (now rows) p n) n (now w) ⌝ }
+    ensures { λ r. ⌜ (r ≡ fillAnswer (filledOr none (decode (now (rows .entry)) p n) (chosen (decode (now (rows .entry)) p n) (sourceIn (now (src .entry))))))
+        × (now (out .exit) ≡ sourcesAfter (filledOr none (decode (now (rows .entry)) p n) (chosen (decode (now (rows .entry)) p n) (sourceIn (now (src .entry))))) (now (out .entry)))
+        × Within EDGE LAYERS-END (now (w .entry)) (now (w .exit)) ⌝ }
+{
+    let list = choice::blanks::choose(rows, p, n, src, w);
+    let chosen: &[u16] = &list;
+    if !is_filled(rows, p, n, chosen, w) {
+        return FillAnswer::None;
+    }
+    write_sources(chosen, n, out);
+    FillAnswer::Filled
+}
+
+// What the search for a race found, as an answer; None where there is none.
+fn race_answer(f: race::Found) -> FillAnswer
+    ensures { λ r. ⌜ r ≡ raceAnswer f ⌝ }
+{
+    match f {
+        race::Found::At {
+            first,
+            second,
+            byte,
+        } => FillAnswer::Race {
+            first: first,
+            second: second,
+            byte: byte,
+        },
+        race::Found::Nothing => FillAnswer::None,
+    }
+}
+
+// The answer, from location order and the sources; those that fill the table in out.
+// Ruled out: one that fills a table that has a race; one that writes to out where the answer is no fill.
+pub fn settle(
+    rows: &[u8],
+    p: Places,
+    n: usize,
+    src: &[u16],
+    w: &mut [u64],
+    out: &mut [u16],
+) -> FillAnswer
+    requires { ⌜ (SOURCES ≤ length (now out)) × (n ≤ length (now src)) × Bounded (decode (now rows) p n) × Known (decode (now rows) p n) n (now w) ⌝ }
+    ensures { λ r. ⌜ (r ≡ fillAnswer (outcome (decode (now (rows .entry)) p n) (sourceIn (now (src .entry)))))
+        × (now (out .exit) ≡ sourcesAfter (outcome (decode (now (rows .entry)) p n) (sourceIn (now (src .entry)))) (now (out .entry)))
+        × Within EDGE LAYERS-END (now (w .entry)) (now (w .exit)) ⌝ }
+{
+    let f = race::first_race(rows, p, n, w);
+    let race::Found::Nothing = f else {
+        return race_answer(f);
+    };
+    choose_sources(rows, p, n, src, w, out)
+}

@@ -99,7 +99,14 @@ pub fn read_row(rows: &[u8], i: u16) -> Row
     }
 }
 
-// Row i's semantics classes alone, where the rest of the row is not asked.
+// Row i's agent alone, where the rest of the row is not asked.
+pub fn read_agent(rows: &[u8], i: u16) -> u8
+    ensures { λ r. ⌜ r ≡ rowOf (now (rows .entry)) i .agent ⌝ }
+{
+    row_byte(rows, i, 1)
+}
+
+// Row i's semantics classes alone.
 pub fn read_classes(rows: &[u8], i: u16) -> u8
     ensures { λ r. ⌜ r ≡ rowOf (now (rows .entry)) i .classes ⌝ }
 {

@@ -11,12 +11,13 @@ impl Random {
         let state = seed.wrapping_add(1).wrapping_mul(0x9E37_79B9_7F4A_7C15) | 1;
         let mut random = Random { state };
         for _ in 0..8 {
-            random.next();
+            random.word();
         }
         random
     }
 
-    fn next(&mut self) -> u64 {
+    /// Any 64-bit word.
+    pub fn word(&mut self) -> u64 {
         self.state ^= self.state >> 12;
         self.state ^= self.state << 25;
         self.state ^= self.state >> 27;
@@ -25,7 +26,7 @@ impl Random {
 
     /// A number below the bound, which isn't zero.
     pub fn below(&mut self, bound: usize) -> usize {
-        ((self.next() >> 33) % bound as u64) as usize
+        ((self.word() >> 33) % bound as u64) as usize
     }
 
     /// A number from the least to the most, both among them.

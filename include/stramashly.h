@@ -1,0 +1,94 @@
+/* Stramashly: a race checker for recorded runs of a graphics device.
+ *
+ * Link with libstramashly.a (made by `rt staticlib stramashly`).
+ *
+ * Both functions judge one table of bytes by the rules of docs/RULES.md. The
+ * answer and what the buffers hold afterwards depend on the arguments alone, so
+ * threads may call them at once, each with buffers of its own. A pointer must be
+ * good for its length, which may be any number, and no two buffers may overlap.
+ *
+ * The answer is one number: code * 2^48 + a * 2^32 + b * 2^16 + c.
+ *
+ *   code                     given by      a           b         c
+ *   0  race-free             check
+ *   1  race                  check, fill   lower row   higher    byte
+ *   2  overwritten           check         reader      writer    byte
+ *   3  cycle                 check         its rows' number
+ *   4  refused               check, fill   number      row
+ *   5  none                  fill
+ *   6  filled                fill          rows of the table
+ *
+ * Parts that the table above leaves empty are 0. A byte is its number among
+ * the 65,536 that a table speaks of.
+ *
+ * What the buffers hold afterwards:
+ *
+ *   refused        every buffer is as it was
+ *   otherwise      the first STRAMASHLY_WORK_WORDS words of the work area are
+ *                  zeros, whatever they were before; later words are as they were
+ *   cycle          the first STRAMASHLY_CYCLE_NUMBERS numbers of the cycle buffer
+ *                  are the cycle's rows from place 0 and its edge numbers from
+ *                  place STRAMASHLY_CYCLE_EDGES, other places 0; later numbers
+ *                  are as they were. Any other answer leaves this buffer alone.
+ *   filled         the first a numbers of the source buffer are the rows'
+ *                  sources; later numbers are as they were. Any other answer
+ *                  leaves this buffer alone.
+ *
+ * A work area, cycle buffer or source buffer that is too short is refusal 11.
+ */
+#ifndef STRAMASHLY_H
+#define STRAMASHLY_H
+
+#include <stddef.h>
+#include <stdint.h>
+
+#ifdef __cplusplus
+extern "C" {
+#endif
+
+/* Least lengths of the lent buffers, each in its own numbers. */
+#define STRAMASHLY_WORK_WORDS 2048
+#define STRAMASHLY_CYCLE_NUMBERS 128
+#define STRAMASHLY_SOURCE_NUMBERS 64
+
+/* Where a cycle's edge numbers begin in the cycle buffer. */
+#define STRAMASHLY_CYCLE_EDGES 64
+
+/* Most bytes of a table: a header, 16 agents and 64 rows. */
+#define STRAMASHLY_TABLE_BYTES 1128
+
+/* Sources: the initial value, and a blank for a fill to decide. */
+#define STRAMASHLY_INITIAL 65535
+#define STRAMASHLY_BLANK 65534
+
+enum stramashly_code {
+  STRAMASHLY_RACE_FREE = 0,
+  STRAMASHLY_RACE = 1,
+  STRAMASHLY_OVERWRITTEN = 2,
+  STRAMASHLY_CYCLE = 3,
+  STRAMASHLY_REFUSED = 4,
+  STRAMASHLY_NONE = 5,
+  STRAMASHLY_FILLED = 6
+};
+
+/* The parts of an answer. */
+#define STRAMASHLY_CODE(answer) ((unsigned)((uint64_t)(answer) >> 48))
+#define STRAMASHLY_A(answer) ((unsigned)((uint64_t)(answer) >> 32 & 0xFFFF))
+#define STRAMASHLY_B(answer) ((unsigned)((uint64_t)(answer) >> 16 & 0xFFFF))
+#define STRAMASHLY_C(answer) ((unsigned)((uint64_t)(answer) & 0xFFFF))
+
+/* Checks a table: race-free, race, overwritten, cycle or refused. */
+uint64_t stramashly_check(const uint8_t *table, size_t table_len,
+                          uint64_t *work, size_t work_len,
+                          uint16_t *cycle, size_t cycle_len);
+
+/* Decides the blank sources of a table: filled, none, race or refused. */
+uint64_t stramashly_fill(const uint8_t *table, size_t table_len,
+                         uint64_t *work, size_t work_len,
+                         uint16_t *sources, size_t sources_len);
+
+#ifdef __cplusplus
+}
+#endif
+
+#endif

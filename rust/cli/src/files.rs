@@ -1,0 +1,86 @@
+//! `check` and `fill`: one table a file.
+
+use crate::arguments::Request;
+use crate::hex::{Hex, KEPT_BYTES};
+use crate::judge::judge;
+use crate::output::{complain, Output};
+use crate::Status;
+use std::ffi::OsStr;
+use std::fs::File;
+use std::io::{self, ErrorKind, Read};
+use stramashly::Checker;
+
+/// Judges every file, also after one that can't be read and after nobody
+/// reads the answers any more, so that the status is that of them all.
+pub fn run(request: &Request) -> Status {
+    let mut checker = Checker::new();
+    let mut output = Output::new();
+    let mut highest = Status::Fine;
+    for name in &request.names {
+        let status = match read(name, request.is_hex) {
+            Ok(table) => answer(request, name, &table, &mut checker, &mut output),
+            Err(reason) => {
+                // Keeps answers and messages in order on a terminal.
+                output.flush();
+                complain(&format!("{}: {reason}", name.to_string_lossy()));
+                Status::Trouble
+            }
+        };
+        highest = highest.max(status);
+    }
+    highest.max(output.finish())
+}
+
+fn answer(
+    request: &Request,
+    name: &OsStr,
+    table: &[u8],
+    checker: &mut Checker,
+    output: &mut Output,
+) -> Status {
+    let mut text = String::new();
+    let status = judge(checker, request.purpose, table, &mut text);
+    if request.names.len() > 1 {
+        output.write(name.as_encoded_bytes());
+        output.write(b": ");
+    }
+    output.write(text.as_bytes());
+    status
+}
+
+/// A file's table, cut off where its refusal is sure.
+fn read(name: &OsStr, is_hex: bool) -> Result<Vec<u8>, String> {
+    let text = |error: io::Error| error.to_string();
+    if name == "-" {
+        read_from(io::stdin().lock(), is_hex)
+    } else {
+        read_from(File::open(name).map_err(text)?, is_hex)
+    }
+}
+
+fn read_from(input: impl Read, is_hex: bool) -> Result<Vec<u8>, String> {
+    if is_hex {
+        return read_hex(input);
+    }
+    let mut table = Vec::with_capacity(KEPT_BYTES);
+    let read = input.take(KEPT_BYTES as u64).read_to_end(&mut table);
+    read.map(|_| table).map_err(|error| error.to_string())
+}
+
+/// Reads to the end, so that a letter that is no digit is told wherever it is.
+fn read_hex(mut input: impl Read) -> Result<Vec<u8>, String> {
+    let mut hex = Hex::default();
+    let mut piece = [0; 1 << 14];
+    while !hex.is_bad() {
+        match input.read(&mut piece) {
+            Ok(0) => break,
+            Ok(count) => hex.push(&piece[..count]),
+            Err(error) if error.kind() == ErrorKind::Interrupted => (),
+            Err(error) => return Err(error.to_string()),
+        }
+    }
+    match hex.bytes() {
+        Ok(bytes) => Ok(bytes.to_vec()),
+        Err(bad) => Err(bad.to_string()),
+    }
+}

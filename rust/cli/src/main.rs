@@ -1,0 +1,43 @@
+//! The command line: tables from files or standard input, answers as lines.
+
+mod arguments;
+mod batch;
+mod files;
+mod help;
+mod hex;
+mod judge;
+mod output;
+
+use arguments::Command;
+use output::{complain, Output};
+use std::process::ExitCode;
+
+/// Exit statuses; of several, the highest counts.
+#[derive(Clone, Copy, Debug, PartialEq, Eq, PartialOrd, Ord)]
+enum Status {
+    Fine = 0,
+    Race = 1,
+    Inconsistent = 2,
+    Refused = 3,
+    Trouble = 4,
+}
+
+fn main() -> ExitCode {
+    let status = match arguments::parse(std::env::args_os().skip(1)) {
+        Ok(Command::Help) => print(help::TEXT),
+        Ok(Command::Version) => print(concat!("stramashly ", env!("CARGO_PKG_VERSION"), "\n")),
+        Ok(Command::Files(request)) => files::run(&request),
+        Ok(Command::Batch) => batch::run(),
+        Err(reason) => {
+            complain(&format!("{reason}; try `stramashly --help`"));
+            Status::Trouble
+        }
+    };
+    ExitCode::from(status as u8)
+}
+
+fn print(text: &str) -> Status {
+    let mut output = Output::new();
+    output.write(text.as_bytes());
+    output.finish()
+}

@@ -1,0 +1,154 @@
+//! `batch`: order, bad lines, long lines, waiting and closed pipes.
+
+mod common;
+
+use common::*;
+use second::{State, CYCLE_NUMBERS, SOURCE_NUMBERS, WORK_WORDS};
+use std::io::{BufRead, BufReader, Read, Write};
+use tables::{checkable, damaged, fillable, hex, Random, Size};
+
+#[test]
+fn each_line_has_its_answer() {
+    let digits: String = P.split_whitespace().collect();
+    let initial = p_ending("FFFF0000");
+    let blank = p_ending("FFFE0000");
+    let lines = [
+        (format!("check {digits}"), "race-free"),
+        (format!("check {initial}"), "cycle 2 rows 0 3 edges 1 4"),
+        (format!("fill {blank}"), "filled 65535 65535 1 0"),
+        (format!("fill {initial}"), "none"),
+        (format!("check {blank}"), "refused 9 3"),
+        ("check 00".to_string(), "refused 1 0"),
+        ("check".to_string(), "refused 1 0"),
+        ("check ".to_string(), "refused 1 0"),
+        (format!("check {P}\r"), "race-free"),
+        (
+            format!("fill\t{}", P.to_lowercase()),
+            "filled 65535 65535 1 0",
+        ),
+        (format!("check {digits}"), "race-free"),
+    ];
+    let input: Vec<&str> = lines.iter().map(|(line, _)| line.as_str()).collect();
+    let answers: Vec<&str> = lines.iter().map(|(_, answer)| *answer).collect();
+    // The last line has no end.
+    let answer = stramashly(&["batch"], input.join("\n").as_bytes());
+    assert_eq!(answer.output, answers.join("\n") + "\n");
+    assert_eq!((answer.messages.as_str(), answer.status), ("", Some(0)));
+}
+
+/// The second implementation writes its answers in the same words.
+#[test]
+fn generated_lines_have_the_second_implementation_s_answers() {
+    let mut random = Random::new(401);
+    let mut state = State::new();
+    let (mut input, mut expected) = (String::new(), String::new());
+    for _ in 0..3000 {
+        let size = Size { least: 2, most: 16 };
+        let bytes = match random.below(5) {
+            0 | 1 => checkable(&mut random, size).bytes(),
+            2 | 3 => fillable(&mut random, size).bytes(),
+            _ => damaged(&mut random, size),
+        };
+        let digits = hex(&bytes);
+        let checked = state.check(&bytes, WORK_WORDS, CYCLE_NUMBERS);
+        let filled = state.fill(&bytes, WORK_WORDS, SOURCE_NUMBERS);
+        input += &format!("check {digits}\nfill {digits}\n");
+        expected += &format!("{checked}\n{filled}\n");
+    }
+    let answer = stramashly(&["batch"], input.as_bytes());
+    let lines = answer.output.lines().zip(expected.lines());
+    for ((ours, theirs), line) in lines.zip(input.lines()) {
+        assert_eq!(ours, theirs, "{line}");
+    }
+    assert_eq!(answer.output, expected);
+    assert_eq!(answer.status, Some(0));
+}
+
+#[test]
+fn bad_lines_are_answered_and_the_stream_goes_on() {
+    let digits: String = P.split_whitespace().collect();
+    let input = format!(
+        "guess 00\n\n check 00\nchecks 00\ncheckfill 00\ncheck 0\ncheck 0G\nfill \u{e4}\n\
+         check {digits}\n"
+    );
+    let answers = "error neither check nor fill\nerror neither check nor fill\n\
+         error neither check nor fill\nerror neither check nor fill\n\
+         error neither check nor fill\nerror odd count of hex digits\n\
+         error 'G' at place 2 is no hex digit\nerror byte 0xC3 at place 1 is no hex digit\n\
+         race-free\n";
+    let answer = stramashly(&["batch"], input.as_bytes());
+    assert_eq!(answer.output, answers);
+    assert_eq!((answer.messages.as_str(), answer.status), ("", Some(4)));
+}
+
+#[test]
+fn no_lines_have_no_answers() {
+    let answer = stramashly(&["batch"], b"");
+    assert_eq!((answer.output.as_str(), answer.status), ("", Some(0)));
+}
+
+#[test]
+fn long_lines_have_the_refusal_that_they_deserve() {
+    let mut input = format!("check 0000000401000000{}\n", "00".repeat(200_000)).into_bytes();
+    input.extend(format!("check 0000000402000000{}\n", "00".repeat(200_000)).bytes());
+    input.extend(format!("check {}\n", "0".repeat(300_001)).bytes());
+    input.extend([b'x'; 300_000]);
+    input.extend(b"\nfill 0000000401000000\n");
+    let answer = stramashly(&["batch"], &input);
+    let answers = "refused 4 0\nrefused 2 0\nerror odd count of hex digits\n\
+         error neither check nor fill\nfilled\n";
+    assert_eq!(answer.output, answers);
+}
+
+#[test]
+fn an_answer_comes_before_the_next_line_is_written() {
+    let mut program = program_in(&scratch(), &["batch"]).spawn().unwrap();
+    let mut stdin = program.stdin.take().unwrap();
+    let mut stdout = BufReader::new(program.stdout.take().unwrap());
+    for _ in 0..3 {
+        for (line, expected) in [
+            ("check 0000000401000000\n", "race-free\n"),
+            ("fill 00000004\n", "refused 1 0\n"),
+        ] {
+            // A line may also come in two parts.
+            let (first, second) = line.split_at(9);
+            stdin.write_all(first.as_bytes()).unwrap();
+            stdin.write_all(second.as_bytes()).unwrap();
+            let mut answer = String::new();
+            stdout.read_line(&mut answer).unwrap();
+            assert_eq!(answer, expected);
+        }
+    }
+    drop(stdin);
+    assert_eq!(program.wait().unwrap().code(), Some(0));
+}
+
+#[test]
+fn nothing_is_lost_of_many_lines() {
+    let count = 50_000;
+    let input = "check 0000000401000000\nfill 0000000401000000\n".repeat(count);
+    let answer = stramashly(&["batch"], input.as_bytes());
+    assert_eq!(answer.output, "race-free\nfilled\n".repeat(count));
+    assert_eq!(answer.status, Some(0));
+}
+
+#[test]
+fn a_closed_pipe_ends_it_quietly() {
+    let mut program = program_in(&scratch(), &["batch"]).spawn().unwrap();
+    let mut stdin = program.stdin.take().unwrap();
+    let mut stdout = BufReader::new(program.stdout.take().unwrap());
+    stdin.write_all(b"check 0000000401000000\n").unwrap();
+    let mut answer = String::new();
+    stdout.read_line(&mut answer).unwrap();
+    assert_eq!(answer, "race-free\n");
+    drop(stdout);
+    // The program stops reading, so that writing fails in the end.
+    let lines = "check 0000000401000000\n".repeat(1000);
+    let stopped = (0..10_000).any(|_| stdin.write_all(lines.as_bytes()).is_err());
+    assert!(stopped);
+    let mut messages = String::new();
+    let mut stderr = program.stderr.take().unwrap();
+    stderr.read_to_string(&mut messages).unwrap();
+    assert_eq!(messages, "");
+    assert_eq!(program.wait().unwrap().code(), Some(0));
+}

@@ -1,0 +1,94 @@
+//! Every line of examples/README.md, held to the program.
+
+mod common;
+
+use common::{stramashly_in, Answer};
+use std::collections::BTreeSet;
+use std::fs;
+use std::path::{Path, PathBuf};
+
+/// One line of the page.
+struct Example {
+    words: Vec<String>,
+    answer: String,
+    status: i32,
+}
+
+fn folder() -> PathBuf {
+    Path::new(env!("CARGO_MANIFEST_DIR")).join("../../examples")
+}
+
+fn page() -> Vec<Example> {
+    let text = fs::read_to_string(folder().join("README.md")).unwrap();
+    text.lines()
+        .filter(|line| line.starts_with("| `"))
+        .map(|line| {
+            let cells: Vec<&str> = line.split('|').map(str::trim).collect();
+            assert_eq!(cells.len(), 6, "{line}");
+            let code = |cell: &str| cell.trim_matches('`').to_string();
+            Example {
+                words: code(cells[1]).split(' ').map(str::to_string).collect(),
+                answer: code(cells[2]),
+                status: cells[3].parse().unwrap(),
+            }
+        })
+        .collect()
+}
+
+#[test]
+fn every_line_of_the_page_is_right() {
+    let page = page();
+    assert!(page.len() >= 20, "only {} lines", page.len());
+    for example in &page {
+        let words: Vec<&str> = example.words.iter().map(String::as_str).collect();
+        let expected = Answer {
+            output: format!("{}\n", example.answer),
+            messages: String::new(),
+            status: Some(example.status),
+        };
+        assert_eq!(stramashly_in(&folder(), &words, b""), expected, "{words:?}");
+    }
+}
+
+#[test]
+fn every_table_is_on_the_page() {
+    let named: BTreeSet<String> = page().iter().map(|line| line.words[1].clone()).collect();
+    for file in fs::read_dir(folder()).unwrap() {
+        let name = file.unwrap().file_name().into_string().unwrap();
+        assert!(name == "README.md" || named.contains(&name), "{name}");
+    }
+}
+
+#[test]
+fn every_answer_is_on_the_page() {
+    let first_word = |line: &Example| line.answer.split(' ').next().unwrap().to_string();
+    let words: BTreeSet<String> = page().iter().map(first_word).collect();
+    let all = [
+        "race-free",
+        "race",
+        "overwritten",
+        "cycle",
+        "refused",
+        "none",
+        "filled",
+    ];
+    assert_eq!(words, all.map(str::to_string).into());
+}
+
+/// The commands of README.md, each with the line below it.
+#[test]
+fn the_front_page_is_right() {
+    let root = folder().join("..");
+    let text = fs::read_to_string(root.join("README.md")).unwrap();
+    let lines: Vec<&str> = text.lines().map(str::trim).collect();
+    let mut commands = 0;
+    for pair in lines.windows(2) {
+        if let Some(command) = pair[0].strip_prefix("$ ./stramashly ") {
+            let words: Vec<&str> = command.split(' ').collect();
+            let answer = stramashly_in(&root, &words, b"");
+            assert_eq!(answer.output.trim_end(), pair[1], "{command}");
+            commands += 1;
+        }
+    }
+    assert_eq!(commands, 7);
+}

@@ -1,0 +1,82 @@
+//! A long comparison: `soak SEED COUNT` compares so many generated tables.
+
+use differential::{Comparison, Difference, Tally};
+use std::env;
+use std::io::{self, IsTerminal, Write};
+use std::process::ExitCode;
+use std::time::Instant;
+use tables::{checkable, damaged, fillable, Random, Size};
+
+const USAGE: &str = "usage: soak SEED COUNT";
+
+fn main() -> ExitCode {
+    let words: Vec<String> = env::args().skip(1).collect();
+    let numbers: Vec<u64> = words.iter().flat_map(|word| word.parse().ok()).collect();
+    let (2, &[seed, count]) = (words.len(), numbers.as_slice()) else {
+        eprintln!("{USAGE}");
+        return ExitCode::from(2);
+    };
+    let began = Instant::now();
+    let mut tally = Tally::default();
+    match compare(seed, count, &mut tally) {
+        Ok(()) => {
+            let seconds = began.elapsed().as_secs();
+            print!("{tally}");
+            println!("seed {seed}: {count} tables in {seconds} s, no difference");
+            ExitCode::SUCCESS
+        }
+        Err(Difference(text)) => {
+            println!("seed {seed}: difference: {text}");
+            ExitCode::FAILURE
+        }
+    }
+}
+
+fn compare(seed: u64, count: u64, tally: &mut Tally) -> Result<(), Difference> {
+    let mut random = Random::new(seed);
+    let mut comparison = Comparison::new(seed);
+    let is_shown = io::stderr().is_terminal();
+    for done in 0..count {
+        if is_shown && done % 10_000 == 0 {
+            let _ = write!(io::stderr(), "\r{done} of {count} tables");
+        }
+        compare_one(&mut random, &mut comparison, tally)?;
+    }
+    if is_shown {
+        let _ = writeln!(io::stderr());
+    }
+    Ok(())
+}
+
+/// Half of the tables for a check, a third for a fill, the rest damaged.
+fn compare_one(
+    random: &mut Random,
+    comparison: &mut Comparison,
+    tally: &mut Tally,
+) -> Result<(), Difference> {
+    let size = size(random);
+    match random.below(6) {
+        0..=2 => tally.check(&comparison.check(&checkable(random, size).bytes())?),
+        3 | 4 => tally.fill(&comparison.fill(&fillable(random, size).bytes())?),
+        _ => {
+            let bytes = damaged(random, size);
+            if random.percent(50) {
+                tally.check(&comparison.check(&bytes)?);
+            } else {
+                tally.fill(&comparison.fill(&bytes)?);
+            }
+        }
+    }
+    Ok(())
+}
+
+/// Mostly small tables, since those are quick; some of the largest.
+fn size(random: &mut Random) -> Size {
+    let (least, most) = match random.below(1000) {
+        0..=899 => (2, 10),
+        900..=989 => (11, 24),
+        990..=997 => (25, 48),
+        _ => (49, 64),
+    };
+    Size { least, most }
+}

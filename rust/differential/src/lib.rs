@@ -1,0 +1,144 @@
+//! Compares the proved checker with the second implementation: the answer,
+//! and every number of every lent buffer.
+//!
+//! Every call has random words in its buffers, and its table lies among
+//! random bytes at a random address, so that an answer that depended on any
+//! of them would differ sooner or later.
+
+mod expected;
+mod tally;
+
+pub use tally::Tally;
+
+use second::{CheckAnswer, FillAnswer, State};
+use stramashly::{check_in, fill_in, Packed, CYCLE_NUMBERS, SOURCE_NUMBERS, WORK_WORDS};
+use tables::{hex, Random};
+
+/// Lengths of the work area and of the cycle or source buffer.
+#[derive(Clone, Copy, Debug)]
+pub struct Lengths {
+    pub work: usize,
+    pub numbers: usize,
+}
+
+/// Runs both on one table after the other.
+pub struct Comparison {
+    pub state: State,
+    random: Random,
+    around: Vec<u8>,
+    ours: Lent,
+    expected: Lent,
+}
+
+/// The lent buffers.
+#[derive(Clone, Default, PartialEq, Eq)]
+struct Lent {
+    work: Vec<u64>,
+    numbers: Vec<u16>,
+}
+
+/// Where the two differ.
+#[derive(Debug)]
+pub struct Difference(pub String);
+
+impl Comparison {
+    pub fn new(seed: u64) -> Comparison {
+        Comparison {
+            state: State::new(),
+            random: Random::new(seed),
+            around: Vec::new(),
+            ours: Lent::default(),
+            expected: Lent::default(),
+        }
+    }
+
+    /// A check with buffers that are long enough.
+    pub fn check(&mut self, table: &[u8]) -> Result<CheckAnswer, Difference> {
+        let lengths = self.enough(CYCLE_NUMBERS);
+        self.check_in(table, lengths)
+    }
+
+    /// A fill with buffers that are long enough.
+    pub fn fill(&mut self, table: &[u8]) -> Result<FillAnswer, Difference> {
+        let lengths = self.enough(SOURCE_NUMBERS);
+        self.fill_in(table, lengths)
+    }
+
+    /// The least lengths, or some numbers more.
+    fn enough(&mut self, numbers: usize) -> Lengths {
+        let more = [0, 0, 1, 2, 100];
+        Lengths {
+            work: WORK_WORDS + self.random.pick(&more),
+            numbers: numbers + self.random.pick(&more),
+        }
+    }
+
+    /// A check with buffers of any length.
+    pub fn check_in(&mut self, table: &[u8], lengths: Lengths) -> Result<CheckAnswer, Difference> {
+        let answer = self.state.check(table, lengths.work, lengths.numbers);
+        let at = self.prepare(table, lengths);
+        let expected = expected::of_check(&answer, &mut self.expected);
+        let lent = &self.around[at..at + table.len()];
+        let packed = check_in(lent, &mut self.ours.work, &mut self.ours.numbers);
+        self.compare("check", table, lengths, packed, expected)?;
+        Ok(answer)
+    }
+
+    /// A fill with buffers of any length. A table that the second
+    /// implementation gives up on is not compared.
+    pub fn fill_in(&mut self, table: &[u8], lengths: Lengths) -> Result<FillAnswer, Difference> {
+        let answer = self.state.fill(table, lengths.work, lengths.numbers);
+        let at = self.prepare(table, lengths);
+        if let Some(expected) = expected::of_fill(&answer, &mut self.expected) {
+            let lent = &self.around[at..at + table.len()];
+            let packed = fill_in(lent, &mut self.ours.work, &mut self.ours.numbers);
+            self.compare("fill", table, lengths, packed, expected)?;
+        }
+        Ok(answer)
+    }
+
+    /// Puts random words into the buffers, and the table among random bytes;
+    /// gives the table's place.
+    fn prepare(&mut self, table: &[u8], lengths: Lengths) -> usize {
+        let random = &mut self.random;
+        self.ours.work.clear();
+        self.ours
+            .work
+            .extend((0..lengths.work).map(|_| random.word()));
+        self.ours.numbers.clear();
+        let numbers = (0..lengths.numbers).map(|_| random.word() as u16);
+        self.ours.numbers.extend(numbers);
+        self.expected.clone_from(&self.ours);
+        let at = random.below(8);
+        self.around.clear();
+        self.around.extend((0..at).map(|_| random.word() as u8));
+        self.around.extend(table);
+        self.around.extend((0..32).map(|_| random.word() as u8));
+        at
+    }
+
+    fn compare(
+        &self,
+        word: &str,
+        table: &[u8],
+        lengths: Lengths,
+        packed: Packed,
+        expected: Packed,
+    ) -> Result<(), Difference> {
+        let part = if packed != expected {
+            format!("{packed:?} instead of {expected:?}")
+        } else if let Some(place) = first_difference(&self.ours.work, &self.expected.work) {
+            format!("{packed:?}, but work area differs at {place}")
+        } else if let Some(place) = first_difference(&self.ours.numbers, &self.expected.numbers) {
+            format!("{packed:?}, but buffer differs at {place}")
+        } else {
+            return Ok(());
+        };
+        let digits = hex(table);
+        Err(Difference(format!("{part}: {lengths:?}\n{word} {digits}")))
+    }
+}
+
+fn first_difference<T: PartialEq>(ours: &[T], expected: &[T]) -> Option<usize> {
+    ours.iter().zip(expected).position(|(x, y)| x != y)
+}

@@ -1,0 +1,73 @@
+//! Counts of answers, to see that each was reached often enough.
+
+use second::{CheckAnswer, FillAnswer};
+use std::collections::{BTreeMap, BTreeSet};
+use std::fmt;
+
+/// Answers counted by their word, and the rows that each refusal named.
+#[derive(Default)]
+pub struct Tally {
+    words: BTreeMap<String, usize>,
+    rows: BTreeMap<u8, BTreeSet<u16>>,
+    total: usize,
+}
+
+impl Tally {
+    pub fn check(&mut self, answer: &CheckAnswer) {
+        match *answer {
+            CheckAnswer::RaceFree => self.count("check race-free"),
+            CheckAnswer::Race { .. } => self.count("check race"),
+            CheckAnswer::Overwritten { .. } => self.count("check overwritten"),
+            CheckAnswer::Cycle { .. } => self.count("check cycle"),
+            CheckAnswer::Refused { number, row } => self.refusal("check", number, row),
+        }
+    }
+
+    pub fn fill(&mut self, answer: &FillAnswer) {
+        match *answer {
+            FillAnswer::Filled(_) => self.count("fill filled"),
+            FillAnswer::None => self.count("fill none"),
+            FillAnswer::Race { .. } => self.count("fill race"),
+            FillAnswer::TooMany => self.count("fill not compared"),
+            FillAnswer::Refused { number, row } => self.refusal("fill", number, row),
+        }
+    }
+
+    fn count(&mut self, words: &str) {
+        self.total += 1;
+        match self.words.get_mut(words) {
+            Some(count) => *count += 1,
+            None => {
+                self.words.insert(words.to_string(), 1);
+            }
+        }
+    }
+
+    fn refusal(&mut self, command: &str, number: u8, row: u16) {
+        self.count(&format!("{command} refused {number}"));
+        self.rows.entry(number).or_default().insert(row);
+    }
+
+    pub fn total(&self) -> usize {
+        self.total
+    }
+
+    /// How many answers were these words.
+    pub fn of(&self, words: &str) -> usize {
+        self.words.get(words).copied().unwrap_or(0)
+    }
+
+    /// How many different rows a refusal named.
+    pub fn rows_refused(&self, number: u8) -> usize {
+        self.rows.get(&number).map_or(0, BTreeSet::len)
+    }
+}
+
+impl fmt::Display for Tally {
+    fn fmt(&self, formatter: &mut fmt::Formatter) -> fmt::Result {
+        for (words, count) in &self.words {
+            writeln!(formatter, "{count:>10} {words}")?;
+        }
+        Ok(())
+    }
+}

@@ -1,0 +1,144 @@
+//! Answers: packed as the checker gives them, and taken apart.
+
+use std::fmt;
+
+/// What an answer says; its number is the packed answer's code.
+#[derive(Clone, Copy, Debug, PartialEq, Eq)]
+pub enum Code {
+    RaceFree = 0,
+    Race = 1,
+    Overwritten = 2,
+    Cycle = 3,
+    Refused = 4,
+    None = 5,
+    Filled = 6,
+}
+
+/// A packed answer: code × 2^48 + a × 2^32 + b × 2^16 + c.
+#[derive(Clone, Copy, PartialEq, Eq)]
+pub struct Packed(pub u64);
+
+impl Packed {
+    pub fn new(code: Code, a: u16, b: u16, c: u16) -> Packed {
+        let number = (code as u64) << 48;
+        Packed(number | u64::from(a) << 32 | u64::from(b) << 16 | u64::from(c))
+    }
+
+    /// The code, unless it is a number that no answer has.
+    pub fn code(self) -> Option<Code> {
+        let code = match self.0 >> 48 {
+            0 => Code::RaceFree,
+            1 => Code::Race,
+            2 => Code::Overwritten,
+            3 => Code::Cycle,
+            4 => Code::Refused,
+            5 => Code::None,
+            6 => Code::Filled,
+            _ => return None,
+        };
+        Some(code)
+    }
+
+    pub fn a(self) -> u16 {
+        (self.0 >> 32) as u16
+    }
+
+    pub fn b(self) -> u16 {
+        (self.0 >> 16) as u16
+    }
+
+    pub fn c(self) -> u16 {
+        self.0 as u16
+    }
+}
+
+impl fmt::Debug for Packed {
+    fn fmt(&self, formatter: &mut fmt::Formatter) -> fmt::Result {
+        let code = self.0 >> 48;
+        write!(
+            formatter,
+            "Packed({code}, {}, {}, {})",
+            self.a(),
+            self.b(),
+            self.c()
+        )
+    }
+}
+
+/// What a check answers. The lists lie in the checker's own buffer.
+#[derive(Clone, Copy, Debug, PartialEq, Eq)]
+pub enum CheckAnswer<'a> {
+    /// Every conflicting pair of rows is ordered.
+    RaceFree,
+    /// Two rows conflict and have no order at a byte.
+    Race { first: u16, second: u16, byte: u16 },
+    /// A reader's source was overwritten before it read.
+    Overwritten { reader: u16, writer: u16, byte: u16 },
+    /// Edges lead from a row back to itself; edge k leaves row k.
+    Cycle { rows: &'a [u16], edges: &'a [u16] },
+    /// The table breaks a rule of form.
+    Refused { number: u16, row: u16 },
+}
+
+/// What a fill answers. The list lies in the checker's own buffer.
+#[derive(Clone, Copy, Debug, PartialEq, Eq)]
+pub enum FillAnswer<'a> {
+    /// One source for each row, 65535 where a row doesn't read.
+    Filled(&'a [u16]),
+    /// No filling is consistent.
+    None,
+    /// Two rows conflict and have no order at a byte.
+    Race { first: u16, second: u16, byte: u16 },
+    /// The table breaks a rule of form.
+    Refused { number: u16, row: u16 },
+}
+
+impl fmt::Display for CheckAnswer<'_> {
+    fn fmt(&self, formatter: &mut fmt::Formatter) -> fmt::Result {
+        match self {
+            CheckAnswer::RaceFree => write!(formatter, "race-free"),
+            CheckAnswer::Race {
+                first,
+                second,
+                byte,
+            } => write!(formatter, "race {first} {second} {byte}"),
+            CheckAnswer::Overwritten {
+                reader,
+                writer,
+                byte,
+            } => write!(formatter, "overwritten {reader} {writer} {byte}"),
+            CheckAnswer::Cycle { rows, edges } => {
+                write!(formatter, "cycle {} rows", rows.len())?;
+                write_numbers(formatter, rows)?;
+                write!(formatter, " edges")?;
+                write_numbers(formatter, edges)
+            }
+            CheckAnswer::Refused { number, row } => write!(formatter, "refused {number} {row}"),
+        }
+    }
+}
+
+impl fmt::Display for FillAnswer<'_> {
+    fn fmt(&self, formatter: &mut fmt::Formatter) -> fmt::Result {
+        match self {
+            FillAnswer::Filled(sources) => {
+                write!(formatter, "filled")?;
+                write_numbers(formatter, sources)
+            }
+            FillAnswer::None => write!(formatter, "none"),
+            FillAnswer::Race {
+                first,
+                second,
+                byte,
+            } => write!(formatter, "race {first} {second} {byte}"),
+            FillAnswer::Refused { number, row } => write!(formatter, "refused {number} {row}"),
+        }
+    }
+}
+
+/// The numbers, each with a space before it.
+fn write_numbers(formatter: &mut fmt::Formatter, numbers: &[u16]) -> fmt::Result {
+    numbers
+        .iter()
+        .try_for_each(|number| write!(formatter, " {number}"))
+}

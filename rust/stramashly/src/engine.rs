@@ -1,0 +1,59 @@
+//! The C boundary: the only unsafe code. `include/stramashly.h` says what
+//! the two functions do; nothing compares these declarations with it.
+
+use crate::answer::Packed;
+
+mod linked {
+    unsafe extern "C" {
+        pub fn stramashly_check(
+            table: *const u8,
+            table_len: usize,
+            work: *mut u64,
+            work_len: usize,
+            cycle: *mut u16,
+            cycle_len: usize,
+        ) -> u64;
+
+        pub fn stramashly_fill(
+            table: *const u8,
+            table_len: usize,
+            work: *mut u64,
+            work_len: usize,
+            sources: *mut u16,
+            sources_len: usize,
+        ) -> u64;
+    }
+}
+
+/// Checks a table in lent buffers of any length; too short ones are refusal 11.
+pub fn check_in(table: &[u8], work: &mut [u64], cycle: &mut [u16]) -> Packed {
+    // Sound: each pointer goes with its slice's length, and slices that are
+    // borrowed for writing overlap no other.
+    let answer = unsafe {
+        linked::stramashly_check(
+            table.as_ptr(),
+            table.len(),
+            work.as_mut_ptr(),
+            work.len(),
+            cycle.as_mut_ptr(),
+            cycle.len(),
+        )
+    };
+    Packed(answer)
+}
+
+/// Fills a table in lent buffers of any length; too short ones are refusal 11.
+pub fn fill_in(table: &[u8], work: &mut [u64], sources: &mut [u16]) -> Packed {
+    // Sound as in `check_in`.
+    let answer = unsafe {
+        linked::stramashly_fill(
+            table.as_ptr(),
+            table.len(),
+            work.as_mut_ptr(),
+            work.len(),
+            sources.as_mut_ptr(),
+            sources.len(),
+        )
+    };
+    Packed(answer)
+}

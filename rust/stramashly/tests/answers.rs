@@ -1,0 +1,145 @@
+//! Answers of the checker, taken apart, and the lent buffers.
+
+use std::thread;
+use stramashly::*;
+use tables::examples;
+
+fn example(name: &str) -> Vec<u8> {
+    let found = examples()
+        .into_iter()
+        .find(|example| example.name == name)
+        .map(|example| example.bytes);
+    found.unwrap_or_else(|| panic!("no example is called {name}"))
+}
+
+#[test]
+fn checks_of_each_verdict() {
+    let mut checker = Checker::new();
+    assert_eq!(checker.check(&example("p")), CheckAnswer::RaceFree);
+    assert_eq!(
+        checker.check(&example("leak")),
+        CheckAnswer::Race {
+            first: 0,
+            second: 4,
+            byte: 0
+        }
+    );
+    assert_eq!(
+        checker.check(&example("overwritten")),
+        CheckAnswer::Overwritten {
+            reader: 4,
+            writer: 1,
+            byte: 0
+        }
+    );
+    assert_eq!(
+        checker.check(&example("p-initial")),
+        CheckAnswer::Cycle {
+            rows: &[0, 3],
+            edges: &[1, 4]
+        }
+    );
+    assert_eq!(
+        checker.check(&example("too-long")),
+        CheckAnswer::Refused { number: 7, row: 1 }
+    );
+}
+
+#[test]
+fn fills_of_each_answer() {
+    let mut checker = Checker::new();
+    assert_eq!(
+        checker.fill(&example("fill")),
+        FillAnswer::Filled(&[INITIAL, INITIAL, 1, 0])
+    );
+    assert_eq!(checker.fill(&example("fill-none")), FillAnswer::None);
+    assert_eq!(
+        checker.fill(&example("fill-race")),
+        FillAnswer::Race {
+            first: 0,
+            second: 4,
+            byte: 0
+        }
+    );
+    assert_eq!(
+        checker.fill(&example("wrong-class")),
+        FillAnswer::Refused { number: 8, row: 1 }
+    );
+}
+
+#[test]
+fn answers_don_t_depend_on_earlier_tables() {
+    let mut used = Checker::default();
+    for first in examples() {
+        let _ = used.check(&first.bytes);
+        for second in examples() {
+            let mut fresh = Checker::new();
+            assert_eq!(used.check(&second.bytes), fresh.check(&second.bytes));
+            assert_eq!(used.fill(&second.bytes), fresh.fill(&second.bytes));
+        }
+    }
+}
+
+#[test]
+fn threads_may_check_at_once() {
+    let answers = || {
+        let mut checker = Checker::new();
+        let mut texts = Vec::new();
+        for _ in 0..20 {
+            for example in examples() {
+                texts.push(checker.check(&example.bytes).to_string());
+                texts.push(checker.fill(&example.bytes).to_string());
+            }
+        }
+        texts
+    };
+    let alone = answers();
+    thread::scope(|scope| {
+        let threads: Vec<_> = (0..4).map(|_| scope.spawn(answers)).collect();
+        for thread in threads {
+            assert_eq!(thread.join().unwrap(), alone);
+        }
+    });
+}
+
+#[test]
+fn lent_buffers_hold_what_the_header_says() {
+    let mut work = vec![7; WORK_WORDS + 1];
+    let mut cycle = vec![9; CYCLE_NUMBERS + 1];
+    let packed = check_in(&example("p-initial"), &mut work, &mut cycle);
+    assert_eq!(packed, Packed::new(Code::Cycle, 2, 0, 0));
+    let mut expected = vec![0; CYCLE_NUMBERS + 1];
+    expected[..2].copy_from_slice(&[0, 3]);
+    expected[CYCLE_EDGES..][..2].copy_from_slice(&[1, 4]);
+    expected[CYCLE_NUMBERS] = 9;
+    assert_eq!(cycle, expected);
+    assert!(work[..WORK_WORDS].iter().all(|word| *word == 0));
+    assert_eq!(work[WORK_WORDS], 7);
+
+    let mut sources = vec![9; SOURCE_NUMBERS];
+    let packed = fill_in(&example("fill"), &mut work, &mut sources);
+    assert_eq!(packed, Packed::new(Code::Filled, 4, 0, 0));
+    assert_eq!(sources[..5], [INITIAL, INITIAL, 1, 0, 9]);
+}
+
+#[test]
+fn short_buffers_are_refusal_11() {
+    let refused = Packed::new(Code::Refused, 11, 0, 0);
+    let table = example("p");
+    let (mut work, mut cycle) = (vec![7; WORK_WORDS], vec![9; CYCLE_NUMBERS]);
+    assert_eq!(check_in(&table, &mut work[1..], &mut cycle), refused);
+    assert_eq!(check_in(&table, &mut work, &mut cycle[1..]), refused);
+    assert_eq!(check_in(&table, &mut [], &mut []), refused);
+    assert_eq!(fill_in(&table, &mut work, &mut cycle[..63]), refused);
+    assert!(work.iter().all(|word| *word == 7) && cycle.iter().all(|number| *number == 9));
+}
+
+#[test]
+fn packed_answers_come_apart() {
+    let packed = Packed::new(Code::Race, 1, 2, 65535);
+    assert_eq!(packed.0, 0x0001_0001_0002_FFFF);
+    assert_eq!(packed.code(), Some(Code::Race));
+    assert_eq!((packed.a(), packed.b(), packed.c()), (1, 2, 65535));
+    assert_eq!(Packed(7 << 48).code(), None);
+    assert_eq!(format!("{packed:?}"), "Packed(1, 1, 2, 65535)");
+}

@@ -1,0 +1,236 @@
+//! The tables of the folder `examples`, by name.
+
+use crate::builder::classes::{IMAGE, UNIFORM, WORKGROUP};
+use crate::builder::flags::{MAKE_AVAILABLE, MAKE_VISIBLE};
+use crate::builder::{order, scope, Row, Table, BLANK, INITIAL};
+
+/// A file's name without its ending, and its bytes.
+pub struct Example {
+    pub name: &'static str,
+    pub bytes: Vec<u8>,
+}
+
+/// Every example.
+pub fn examples() -> Vec<Example> {
+    let mut version_2 = Table::default().bytes();
+    version_2[4] = 2;
+    let tables = story()
+        .into_iter()
+        .chain(message_passing())
+        .chain(sequences())
+        .chain(by_class_and_byte())
+        .chain(inconsistent())
+        .chain(fills())
+        .chain(forms());
+    let mut examples: Vec<Example> = tables
+        .map(|(name, table)| Example {
+            name,
+            bytes: table.bytes(),
+        })
+        .collect();
+    examples.push(Example {
+        name: "version-2",
+        bytes: version_2,
+    });
+    examples
+}
+
+type Named = (&'static str, Table);
+
+/// A slot is given to a tenant: one invocation writes the tenant's number and
+/// the slot's data, another one reads both once the flag is up.
+fn slot_given_away() -> Table {
+    let number = |row: Row| row.bytes(0, 4).reference(1);
+    let data = |row: Row| row.bytes(16, 8).reference(2);
+    let flag = |row: Row| row.bytes(64, 4).reference(3).scope(scope::FAMILY);
+    Table::new(
+        &[[0, 0, 0], [0, 1, 0]],
+        &[
+            number(Row::write(0)),
+            data(Row::write(0)),
+            flag(Row::atomic_write(0, 1))
+                .release(UNIFORM)
+                .make_available(),
+            flag(Row::atomic_read(1, 2)).acquire(UNIFORM).make_visible(),
+            number(Row::read(1, 0)),
+            data(Row::read(1, 1)),
+        ],
+    )
+}
+
+fn story() -> Vec<Named> {
+    let mended = slot_given_away();
+    let mut leak = mended.clone();
+    leak.rows[2].flags &= !MAKE_AVAILABLE;
+    vec![("leak", leak), ("leak-mended", mended)]
+}
+
+/// A flag is an atomic place of its own: bytes 4 to 7, reference 2.
+fn flag(row: Row) -> Row {
+    row.bytes(4, 4).reference(2).scope(scope::WORKGROUP)
+}
+
+/// Data written, a flag released, the flag acquired, the data read.
+fn p() -> Table {
+    Table::of_one_workgroup(
+        2,
+        &[
+            Row::write(0),
+            flag(Row::atomic_write(0, 1))
+                .release(UNIFORM)
+                .make_available(),
+            flag(Row::atomic_read(1, 1)).acquire(UNIFORM).make_visible(),
+            Row::read(1, 0),
+        ],
+    )
+}
+
+fn changed(mut table: Table, change: impl Fn(&mut Table)) -> Table {
+    change(&mut table);
+    table
+}
+
+fn message_passing() -> Vec<Named> {
+    vec![
+        ("p", p()),
+        (
+            "p-not-visible",
+            changed(p(), |table| table.rows[2].flags &= !MAKE_VISIBLE),
+        ),
+        (
+            "p-private",
+            changed(p(), |table| table.rows[3] = table.rows[3].private()),
+        ),
+        (
+            "p-two-workgroups",
+            changed(p(), |table| table.agents[1] = [0, 1, 1]),
+        ),
+        ("barriers", barriers()),
+    ]
+}
+
+/// P with barriers in the place of the flag's own order.
+fn barriers() -> Table {
+    let barrier = |agent, order| Row::barrier(agent, order, UNIFORM).scope(scope::WORKGROUP);
+    Table::of_one_workgroup(
+        2,
+        &[
+            Row::write(0),
+            barrier(0, order::RELEASE).make_available(),
+            flag(Row::atomic_write(0, 1)),
+            flag(Row::atomic_read(1, 2)),
+            barrier(1, order::ACQUIRE).make_visible(),
+            Row::read(1, 0),
+        ],
+    )
+}
+
+/// P with a row put in as row 2 that the acquire reads.
+fn p_with(row: Row) -> Table {
+    let mut table = p();
+    table.insert(2, row);
+    table.rows[3].source = 2;
+    table
+}
+
+fn sequences() -> Vec<Named> {
+    let by_third_agent = |row| changed(p_with(row), |table| table.agents.push([0, 0, 2]));
+    vec![
+        ("q", p_with(flag(Row::atomic_write(0, 2)))),
+        ("q-rmw", by_third_agent(flag(Row::rmw(2, 1, 2)))),
+        ("q-cut", by_third_agent(flag(Row::atomic_write(2, 2)))),
+    ]
+}
+
+/// A Uniform read, a flag released and acquired for the classes, a write.
+fn read_then_write(classes: u8, write: Row) -> Table {
+    Table::of_one_workgroup(
+        2,
+        &[
+            Row::read(0, INITIAL),
+            flag(Row::atomic_write(0, 1)).release(classes),
+            flag(Row::atomic_read(1, 1)).acquire(classes),
+            write,
+        ],
+    )
+}
+
+/// Four bytes written, then two of them written and made available, then
+/// another agent's access.
+fn two_of_four_bytes(last: Row) -> Table {
+    let available = Row::write(0)
+        .bytes(0, 2)
+        .make_available()
+        .scope(scope::WORKGROUP);
+    Table::of_one_workgroup(
+        2,
+        &[
+            Row::write(0),
+            available,
+            flag(Row::atomic_write(0, 1)).release(UNIFORM),
+            flag(Row::atomic_read(1, 2)).acquire(UNIFORM).make_visible(),
+            last,
+        ],
+    )
+}
+
+fn by_class_and_byte() -> Vec<Named> {
+    let image_write = Row::write(1).reference(3).class(2);
+    vec![
+        ("other-class", read_then_write(WORKGROUP, Row::write(1))),
+        ("two-classes", read_then_write(UNIFORM | IMAGE, image_write)),
+        ("half-available", two_of_four_bytes(Row::write(1))),
+    ]
+}
+
+fn inconsistent() -> Vec<Named> {
+    let initial = changed(p(), |table| table.rows[3].source = INITIAL);
+    let lost_update = [
+        Row::atomic_write(0, 1),
+        Row::rmw(1, 0, 2),
+        Row::rmw(2, 0, 3),
+    ];
+    let stale = changed(p(), |table| {
+        table.insert(1, Row::write(0));
+        table.rows[4].source = 0;
+    });
+    vec![
+        ("p-initial", initial),
+        ("lost-update", Table::of_one_workgroup(3, &lost_update)),
+        ("overwritten", stale),
+    ]
+}
+
+fn fills() -> Vec<Named> {
+    let leak_blank = changed(slot_given_away(), |table| {
+        table.rows[2].flags &= !MAKE_AVAILABLE;
+        table.rows[4].source = BLANK;
+    });
+    let last_write = changed(p(), |table| {
+        table.insert(1, Row::write(0));
+        table.rows[4].source = BLANK;
+    });
+    let before_any = [Row::read(0, BLANK), Row::write(0), Row::read(0, BLANK)];
+    let two_halves = [
+        Row::write(0).bytes(0, 2),
+        Row::write(0).bytes(2, 2),
+        Row::read(0, BLANK),
+    ];
+    vec![
+        ("fill", changed(p(), |table| table.rows[3].source = BLANK)),
+        ("fill-last-write", last_write),
+        ("fill-initial", Table::of_one_workgroup(1, &before_any)),
+        ("fill-none", Table::of_one_workgroup(1, &two_halves)),
+        ("fill-race", leak_blank),
+    ]
+}
+
+fn forms() -> Vec<Named> {
+    let too_long = [Row::write(0), Row::read(0, INITIAL).bytes(100, 17)];
+    let wrong_class = [Row::write(0), Row::write(0).bytes(8, 4).class(2)];
+    vec![
+        ("empty", Table::default()),
+        ("too-long", Table::of_one_workgroup(1, &too_long)),
+        ("wrong-class", Table::of_one_workgroup(1, &wrong_class)),
+    ]
+}

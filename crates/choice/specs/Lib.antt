@@ -1,3 +1,2 @@
 pub mod Sources
-pub mod Pairs
 pub mod Choice

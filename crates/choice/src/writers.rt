@@ -9,7 +9,6 @@ ghost use Rattle.model.specs.Scope.{follows};
 ghost use Rattle.model.specs.Edge.{beforeSome};
 ghost use Rattle.model.specs.Fill.{writtenBy, written, hidesAt, between};
 ghost use Rattle.race.specs.Bytes.{Known};
-use crate::pairs;
 use model::Places;
 use model::Row;
 
@@ -24,7 +23,7 @@ fn written_by(rows: &[u8], p: Places, n: usize, y: usize, z: usize, w: &[u64]) -
     if !rows::kinds::writes(r) {
         return false;
     }
-    pairs::before_some(rows, p, n, z, y, w)
+    axioms::edges::before_some(rows, p, n, z, y, w)
 }
 
 // Whether some writer is ordered before y.
@@ -95,7 +94,7 @@ fn overtakes(rows: &[u8], p: Places, n: usize, y: usize, s: usize, z: usize, w: 
     if !sequence::heads::follows_at(rows, p, n, s, z, w) {
         return false;
     }
-    pairs::before_some(rows, p, n, z, y, w)
+    axioms::edges::before_some(rows, p, n, z, y, w)
 }
 
 // Whether the writer z comes between s and y: in scoped order, or at a byte.

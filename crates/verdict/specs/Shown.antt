@@ -21,8 +21,6 @@ use Rattle.bits.specs.Matrix.{rel}
 use Rattle.bits.specs.Within.{Within}
 use Rattle.bits.specs.Stage.{Holds, holds-kept}
 use Rattle.area.specs.Regions.{EDGE, GRID, LAYERS, LAYERS-END}
-use Rattle.area.specs.State.{located-kept}
-use Rattle.race.specs.Bytes.{Known}
 use Rattle.cycle.specs.Shown.{shown-below, held-walk, held-length, held-written}
 use Rattle.cycle.specs.Layers.{Written}
 
@@ -208,7 +206,3 @@ module _ (t : Table) (source : ℕ → ℕ) (n x size : ℕ) (w u : List ℕ) (a
           subst (λ (y : ℕ). f ≡ cycleAfter (cyclic (cycleRows t source) (along (edgeNumber t source) y (cycleRows t source))) c) q
               (shown-buffer (cycleRows t source) (along (edgeNumber t source) x (cycleRows t source)) c d e f room (omega arith) (length-along (edgeNumber t source) x (cycleRows t source)) cleared rows-written a),
         )
-
--- what races and edges are read from is kept while the layers are made
-pub known-after : {t : Table} {n : ℕ} {w u : List ℕ} → Known t n w → Within LAYERS LAYERS-END w u → Known t n u
-known-after k f = let e = f .len in let g = k .1 in (k .0, omega arith, k .2, located-kept (omega arith) f (k .3))

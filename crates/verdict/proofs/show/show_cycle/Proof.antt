@@ -2,7 +2,8 @@ use mathlib.Core.Path.{_≡_, refl}
 use Prim.Native.Nat.{ℕ, _≤_, _<_}
 use native.Mathlib.Omega.{arith}
 use Rattle.model.specs.Table.{decode}
-use Rattle.verdict.specs.Shown.{size-asked, rows-below, shown-is, known-after}
+use Rattle.verdict.specs.Shown.{size-asked, rows-below, shown-is}
+use Rattle.verdict.specs.Answers.{known-kept}
 use borrow.Author.Needs.{needs}
 use Rattle.verdict.proofs.show.show_cycle.Statement.{statement}
 use Rattle.verdict.proofs.show.show_cycle.Tie as tie
@@ -49,7 +50,7 @@ write-edges-requires c κs =
       omega (arith, asked .0, pre .3 .0),
       search needs,
       search needs,
-      known-after (pre .3) (fill .1),
+      known-kept (omega arith) (pre .3) (fill .1),
       rows-below _ _ _ _ _ _ _ refl (pre .4) (fill .1) (pre .5) size _ _ rows (pre .0),
     )
 

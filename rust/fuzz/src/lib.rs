@@ -1,0 +1,48 @@
+//! What libFuzzer calls with each of its inputs: a check and a fill of the
+//! same bytes, compared with the second implementation, every lent buffer
+//! included. The counters that guide libFuzzer are those of the second
+//! implementation; the proved library has none.
+
+use differential::{Comparison, Difference, Lengths};
+use std::cell::RefCell;
+use stramashly::{CYCLE_NUMBERS, SOURCE_NUMBERS, WORK_WORDS};
+
+thread_local! {
+    static COMPARISON: RefCell<Comparison> = RefCell::new(Comparison::new(0));
+}
+
+/// # Safety
+///
+/// `data` points to `size` bytes.
+#[no_mangle]
+pub unsafe extern "C" fn LLVMFuzzerTestOneInput(data: *const u8, size: usize) -> i32 {
+    let input: &[u8] = match size {
+        0 => &[],
+        _ => std::slice::from_raw_parts(data, size),
+    };
+    COMPARISON.with_borrow_mut(|comparison| {
+        if let Err(difference) = both(comparison, input) {
+            eprintln!("{}", difference.0);
+            std::process::abort();
+        }
+    });
+    0
+}
+
+/// Where the last byte is 255, the byte before it says how much longer or
+/// shorter than needed the buffers are. The table is the rest.
+fn both(comparison: &mut Comparison, input: &[u8]) -> Result<(), Difference> {
+    if let [table @ .., less, 255] = input {
+        let less = usize::from(*less);
+        let lengths = |numbers| Lengths {
+            work: WORK_WORDS + 8 - less % 16,
+            numbers: numbers + 8 - less / 16,
+        };
+        comparison.check_in(table, lengths(CYCLE_NUMBERS))?;
+        comparison.fill_in(table, lengths(SOURCE_NUMBERS))?;
+    } else {
+        comparison.check(input)?;
+        comparison.fill(input)?;
+    }
+    Ok(())
+}

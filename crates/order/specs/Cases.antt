@@ -2,9 +2,14 @@
 use mathlib.Core.Path.{_≡_, refl, sym, _∙_}
 use mathlib.Core.Bool.{Bool, true, false, not}
 use mathlib.Core.List.{List}
-use Prim.Native.Nat.{ℕ}
+use Prim.Native.Nat.{ℕ, _*_, _/_, _%_, _<_}
+use native.Mathlib.Omega.{arith}
+use Rattle.bits.specs.Matrix.{rel}
+use Rattle.area.specs.Regions.{SYNC, GRID}
+use Rattle.sequence.specs.Known.{Synced}
+use borrow.Author.Tests.{ne-eqb}
 use lib.Dec.{eqb}
-use Rattle.finite.specs.Logic.{_and_, _or_, split, and-true, not-both, not-so, not-out, or-false}
+use Rattle.finite.specs.Logic.{_and_, _or_, split, and-true, and-false-left, not-both, not-so, not-in, not-out, or-none, or-false}
 use Rattle.finite.specs.Below.{anyBelow}
 use Rattle.model.specs.declared.Row.{Row}
 use Rattle.model.specs.Row.{holds, releases, acquires}
@@ -48,6 +53,13 @@ step-off n s m k r q b h g x y f =
     let z = or-false h g (not-out (h or g) f) in
     step-none n s m k r q b (sym x ∙ z .0) (sym y ∙ z .1)
 
+-- neither moment may hold s, by the bytes of the rows
+pub step-bare : (b : List ℕ) (n s m k : ℕ) (v x y : Bool) → x ≡ mayHold b s m → y ≡ mayHold b s k → not (x or y) ≡ true
+    → false ≡ stepRows n s m k (rowOf b (rowIn m)) (rowOf b (rowIn k)) v
+step-bare b n s m k v x y e f g =
+    let z = or-false x y (not-out (x or y) g) in
+    step-none n s m k _ _ _ (holding-off b s m (sym e ∙ z .0)) (holding-off b s k (sym f ∙ z .1))
+
 -- ---- laws: of a table
 
 module _ (b : List ℕ) (p : List (List ℕ)) (n : ℕ) where
@@ -56,16 +68,20 @@ module _ (b : List ℕ) (p : List (List ℕ)) (n : ℕ) where
   unfolding step bySync toRelease fromAcquire holding concerns programOrder stepRows decode
   step-is s m k = refl
 
-  -- the test on decoded rows, as code has it
-  pub step-told : (s m k : ℕ) (r q : Row) (v d : Bool) → r ≡ rowOf b (rowIn m) → q ≡ rowOf b (rowIn k)
-      → v ≡ synchronizes (decode b p n) (rowIn m) (rowIn k) → d ≡ stepRows n s m k r q v → d ≡ step (decode b p n) s m k
-  step-told s m k r q v d er eq ev e = rw (step-is s m k, ← er, ← eq, ← ev) e
+  -- the test on rows, with the bit of the work area
+  pub step-read : (w : List ℕ) (s m k : ℕ) (v d : Bool) → Synced (decode b p n) n w → m < 3 * n → k < 3 * n → v ≡ rel w SYNC GRID (m / 3) (k / 3)
+      → d ≡ stepRows n s m k (rowOf b (m / 3)) (rowOf b (k / 3)) v → d ≡ step (decode b p n) s m k
+  step-read w s m k v d h l o e f = rw (step-is s m k, ← (e ∙ h .syncs .cell (m / 3) (k / 3) (omega arith) (omega arith))) f
 
   -- neither moment may hold s: no direct case
   pub step-apart : (s m k : ℕ) (x y : Bool) → x ≡ mayHold b s m → y ≡ mayHold b s k → not (x or y) ≡ true → false ≡ step (decode b p n) s m k
-  step-apart s m k x y e f g =
-      let z = or-false x y (not-out (x or y) g) in
-      rw (step-is s m k) (step-none n s m k _ _ _ (holding-off b s m (sym e ∙ z .0)) (holding-off b s k (sym f ∙ z .1)))
+  step-apart s m k x y e f g = rw (step-is s m k) (step-bare b n s m k _ x y e f g)
+
+  -- from a moment that may not hold s, a direct case leads to a row's own moment alone
+  pub step-sparse : (s m k : ℕ) → mayHold b s m ≡ false → (k % 3 ≡ AT → ⊥) → step (decode b p n) s m k ≡ false
+  unfolding mayHold
+  step-sparse s m k h g =
+      sym (step-apart s m k false false (sym h) (sym (and-false-left (eqb (part k) AT) (holds (rowOf b (rowIn k) .classes) s) (ne-eqb (k % 3) AT g))) (not-in (or-none refl refl)))
 
   -- places are not asked for
   pub live-is : (s : ℕ) → live (decode b p n) s ≡ anyBelow n (holdsAt b s)

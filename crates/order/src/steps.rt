@@ -1,17 +1,17 @@
 // M6: the direct cases of inter-thread order for a class set, as bits over moments.
 ghost use mathlib.Core.Path.{_≡_};
-ghost use mathlib.Core.Bool.{cond};
-ghost use Prim.Native.Nat.{_+_, _*_, _%_, _≤_, _<_};
-ghost use lib.Dec.{eqb};
+ghost use mathlib.Core.Bool.{cond, false};
+ghost use Prim.Native.Nat.{ℕ, _+_, _*_, _/_, _≤_, _<_};
 ghost use lib.ListN.{length};
 ghost use Rattle.bits.specs.Stage.{Made};
 ghost use Rattle.model.specs.Limits.{ROWS, WORK};
-ghost use Rattle.model.specs.Table.{decode};
-ghost use Rattle.model.specs.Moment.{AT, part};
+ghost use Rattle.model.specs.Table.{decode, rowOf};
 ghost use Rattle.model.specs.Happens.{holdingOf, concernsOf, step};
-ghost use Rattle.area.specs.Regions.{STEP, STEP-END, MOMENTS};
+ghost use Rattle.area.specs.Regions.{SYNC, STEP, STEP-END, GRID, MOMENTS};
+ghost use Rattle.bits.specs.Matrix.{rel};
 ghost use Rattle.sequence.specs.Known.{Synced};
 ghost use Rattle.order.specs.Cases.{mayHold, stepRows};
+ghost use Rattle.order.specs.Sparse.{RowMade};
 use model::Places;
 use model::Row;
 
@@ -68,18 +68,60 @@ fn may_hold(rows: &[u8], s: u8, m: usize) -> bool
         & rows::kinds::holds(rows::bytes::read_classes(rows, (m / 3) as u16), s)
 }
 
-// M6: a direct case for the class set s from moment m to moment k. No whole row is read where neither moment may hold s.
-pub fn step_at(rows: &[u8], p: Places, n: usize, s: u8, m: usize, k: usize, w: &[u64]) -> bool
-    requires { ⌜ (n ≤ ROWS) × (m < 3 * n) × (k < 3 * n) × (WORK ≤ length (now w)) × Synced (decode (now rows) p n) n (now w) ⌝ }
-    ensures { λ b. ⌜ b ≡ step (decode (now (rows .entry)) p n) s m k ⌝ }
+// M6: a direct case for the class set s from moment m to moment k; b says that m's row synchronizes-with k's. No whole row is read
+// where neither moment may hold s.
+fn step_of(rows: &[u8], n: usize, s: u8, m: usize, k: usize, b: bool) -> bool
+    requires { ⌜ (n ≤ ROWS) × (m < 3 * n) × (k < 3 * n) ⌝ }
+    ensures { λ d. ⌜ d ≡ stepRows n s m k (rowOf (now (rows .entry)) (m / 3)) (rowOf (now (rows .entry)) (k / 3)) b ⌝ }
 {
     if !(may_hold(rows, s, m) | may_hold(rows, s, k)) {
         return false;
     }
     let r = rows::bytes::read_row(rows, (m / 3) as u16);
     let q = rows::bytes::read_row(rows, (k / 3) as u16);
-    let b = bits::get(w, (area::SYNC + m / 3 * area::GRID) * 64 + k / 3);
     is_step(n, s, m, k, r, q, b)
+}
+
+// Whether the row of moment m synchronizes-with the row of moment k, as the work area's bits say.
+fn sync_bit(m: usize, k: usize, w: &[u64]) -> bool
+    requires { ⌜ (m < 3 * ROWS) × (k < 3 * ROWS) × (WORK ≤ length (now w)) ⌝ }
+    ensures { λ b. ⌜ b ≡ rel (now (w .entry)) SYNC GRID (m / 3) (k / 3) ⌝ }
+{
+    bits::get(w, (area::SYNC + m / 3 * area::GRID) * 64 + k / 3)
+}
+
+// Row m of the direct cases where m may hold s: any moment may stand at the other end.
+fn fill_dense(rows: &[u8], n: usize, s: u8, m: usize, w: &mut [u64])
+    requires { ⌜ (n ≤ ROWS) × (m < 3 * n) × (WORK ≤ length (now w)) ⌝ }
+    ensures { λ _. ⌜ RowMade (now (rows .entry)) n s m (3 * n) (now (w .entry)) (now (w .exit)) ⌝ }
+{
+    for k in 0..3 * n {
+        let b = step_of(rows, n, s, m, k, sync_bit(m, k, w));
+        bits::put_if(w, (area::STEP + m * area::MOMENTS) * 64 + k, b);
+    }
+}
+
+// Row m of the direct cases where m may not hold s: only a row's own moment may stand at the other end.
+fn fill_sparse(rows: &[u8], n: usize, s: u8, m: usize, w: &mut [u64])
+    requires { ⌜ (n ≤ ROWS) × (m < 3 * n) × (WORK ≤ length (now w)) × (mayHold (now rows) s m ≡ false) ⌝ }
+    ensures { λ _. ⌜ RowMade (now (rows .entry)) n s m (3 * n) (now (w .entry)) (now (w .exit)) ⌝ }
+{
+    for j in 0..n {
+        let b = step_of(rows, n, s, m, 3 * j + 1, sync_bit(m, 3 * j + 1, w));
+        bits::put_if(w, (area::STEP + m * area::MOMENTS) * 64 + (3 * j + 1), b);
+    }
+}
+
+// Row m of the direct cases.
+fn fill_from(rows: &[u8], n: usize, s: u8, m: usize, w: &mut [u64])
+    requires { ⌜ (n ≤ ROWS) × (m < 3 * n) × (WORK ≤ length (now w)) ⌝ }
+    ensures { λ _. ⌜ RowMade (now (rows .entry)) n s m (3 * n) (now (w .entry)) (now (w .exit)) ⌝ }
+{
+    if may_hold(rows, s, m) {
+        fill_dense(rows, n, s, m, w);
+        return;
+    }
+    fill_sparse(rows, n, s, m, w);
 }
 
 // M6: the direct cases for the class set s, for every two moments.
@@ -89,9 +131,6 @@ pub fn fill_step(rows: &[u8], p: Places, n: usize, s: u8, w: &mut [u64])
 {
     bits::clear(w, area::STEP, area::STEP_END);
     for m in 0..3 * n {
-        for k in 0..3 * n {
-            let b = step_at(rows, p, n, s, m, k, w);
-            bits::put_if(w, (area::STEP + m * area::MOMENTS) * 64 + k, b);
-        }
+        fill_from(rows, n, s, m, w);
     }
 }

@@ -1,3 +1,3 @@
 pub mod Cases
 pub mod Sets
-pub mod Sparse
+pub mod Steps

@@ -40,8 +40,7 @@ pub fn is_live(rows: &[u8], n: usize, s: u8) -> bool
     ensures { λ b. ⌜ ((p : List (List ℕ)) → b ≡ live (decode (now (rows .entry)) p n) s) ⌝ }
 {
     for i in 0..n {
-        let r = rows::bytes::read_row(rows, i as u16);
-        if rows::kinds::holds(r.classes, s) {
+        if steps::holds_at(rows, s, i) {
             return true;
         }
     }

@@ -1,17 +1,19 @@
 // M6: the direct cases of inter-thread order for a class set, as bits over moments.
 ghost use mathlib.Core.Path.{_≡_};
-ghost use mathlib.Core.Bool.{cond, false};
-ghost use Prim.Native.Nat.{ℕ, _+_, _*_, _/_, _≤_, _<_};
+ghost use mathlib.Core.Bool.{cond};
+ghost use mathlib.Core.List.{List};
+ghost use Prim.Native.Nat.{ℕ, _+_, _*_, _/_, _%_, _≤_, _<_};
 ghost use lib.ListN.{length};
 ghost use Rattle.bits.specs.Stage.{Made};
+ghost use Rattle.bits.specs.Matrix.{rel};
 ghost use Rattle.model.specs.Limits.{ROWS, WORK};
 ghost use Rattle.model.specs.Table.{decode, rowOf};
+ghost use Rattle.model.specs.Moment.{programOrder};
 ghost use Rattle.model.specs.Happens.{holdingOf, concernsOf, step};
 ghost use Rattle.area.specs.Regions.{SYNC, STEP, STEP-END, GRID, MOMENTS};
-ghost use Rattle.bits.specs.Matrix.{rel};
 ghost use Rattle.sequence.specs.Known.{Synced};
-ghost use Rattle.order.specs.Cases.{mayHold, stepRows};
-ghost use Rattle.order.specs.Sparse.{RowMade};
+ghost use Rattle.order.specs.Cases.{stepRows, holdsAt};
+ghost use Rattle.order.specs.Steps.{CellMade, RowMade};
 use model::Places;
 use model::Row;
 
@@ -39,47 +41,45 @@ pub fn concerns_of(s: u8, r: Row, k: u8) -> bool
     pick(k == moments::AT, access, other) | holding_of(s, r, k)
 }
 
+// Whether row i holds all of s.
+pub fn holds_at(rows: &[u8], s: u8, i: usize) -> bool
+    requires { ⌜ i < ROWS ⌝ }
+    ensures { λ b. ⌜ b ≡ holdsAt (now (rows .entry)) s i ⌝ }
+{
+    rows::kinds::holds(rows::bytes::read_classes(rows, i as u16), s)
+}
+
 // ---- direct cases
 
-// M6: a direct case from the moment m of r to the moment k of q; b says that r synchronizes-with q. Each case needs a moment that
-// holds all of s: that is tested first.
-fn is_step(n: usize, s: u8, m: usize, k: usize, r: Row, q: Row, b: bool) -> bool
-    ensures { λ d. ⌜ d ≡ stepRows n s m k r q b ⌝ }
+// M6: a direct case from the moment `from` of r to the moment `to` of q; b says that r synchronizes-with q, o that the one moment is
+// program-ordered before the other. Each case needs a moment that holds all of s: that is tested first.
+fn is_step(s: u8, from: u8, to: u8, r: Row, q: Row, b: bool, o: bool) -> bool
+    ensures { λ d. ⌜ d ≡ stepRows s from to r q b o ⌝ }
 {
-    let from = (m % 3) as u8;
-    let to = (k % 3) as u8;
     let h = holding_of(s, r, from);
     let g = holding_of(s, q, to);
     if !(h | g) {
         return false;
     }
-    let o = moments::is_ordered(n, m, k, r, q);
     h & g & b
         | g & rows::kinds::releases(q) & concerns_of(s, r, from) & o
         | h & rows::kinds::acquires(r) & concerns_of(s, q, to) & o
 }
 
-// Whether m is the own moment of a row that holds all of s: each direct case has such a moment.
-fn may_hold(rows: &[u8], s: u8, m: usize) -> bool
-    requires { ⌜ m < 3 * ROWS ⌝ }
-    ensures { λ b. ⌜ b ≡ mayHold (now (rows .entry)) s m ⌝ }
-{
-    (m % 3 == moments::AT as usize)
-        & rows::kinds::holds(rows::bytes::read_classes(rows, (m / 3) as u16), s)
-}
-
-// M6: a direct case for the class set s from moment m to moment k; b says that m's row synchronizes-with k's. No whole row is read
-// where neither moment may hold s.
+// M6: a direct case for the class set s from moment m to moment k; b says that m's row synchronizes-with k's. Most pairs have
+// neither that nor program order, and no whole row is read.
 fn step_of(rows: &[u8], n: usize, s: u8, m: usize, k: usize, b: bool) -> bool
     requires { ⌜ (n ≤ ROWS) × (m < 3 * n) × (k < 3 * n) ⌝ }
-    ensures { λ d. ⌜ d ≡ stepRows n s m k (rowOf (now (rows .entry)) (m / 3)) (rowOf (now (rows .entry)) (k / 3)) b ⌝ }
+    ensures { λ d. ⌜ ((p : List (List ℕ)) → d ≡ stepRows s (m % 3) (k % 3) (rowOf (now (rows .entry)) (m / 3)) (rowOf (now (rows .entry)) (k / 3)) b
+        (programOrder (decode (now (rows .entry)) p n) m k)) ⌝ }
 {
-    if !(may_hold(rows, s, m) | may_hold(rows, s, k)) {
+    let o = moments::ordered_at(rows, n, m, k);
+    if !(b | o) {
         return false;
     }
     let r = rows::bytes::read_row(rows, (m / 3) as u16);
     let q = rows::bytes::read_row(rows, (k / 3) as u16);
-    is_step(n, s, m, k, r, q, b)
+    is_step(s, (m % 3) as u8, (k % 3) as u8, r, q, b, o)
 }
 
 // Whether the row of moment m synchronizes-with the row of moment k, as the work area's bits say.
@@ -90,47 +90,37 @@ fn sync_bit(m: usize, k: usize, w: &[u64]) -> bool
     bits::get(w, (area::SYNC + m / 3 * area::GRID) * 64 + k / 3)
 }
 
-// Row m of the direct cases where m may hold s: any moment may stand at the other end.
-fn fill_dense(rows: &[u8], n: usize, s: u8, m: usize, w: &mut [u64])
+// Sets the bit from m to k where there is a direct case.
+fn fill_cell(rows: &[u8], n: usize, s: u8, m: usize, k: usize, w: &mut [u64])
+    requires { ⌜ (n ≤ ROWS) × (m < 3 * n) × (k < 3 * n) × (WORK ≤ length (now w)) ⌝ }
+    ensures { λ _. ⌜ CellMade (now (rows .entry)) n s m k (now (w .entry)) (now (w .exit)) ⌝ }
+{
+    let b = step_of(rows, n, s, m, k, sync_bit(m, k, w));
+    bits::put_if(w, (area::STEP + m * area::MOMENTS) * 64 + k, b);
+}
+
+// Sets the bits of the direct cases from and to the moment m.
+fn fill_at(rows: &[u8], n: usize, s: u8, m: usize, w: &mut [u64])
     requires { ⌜ (n ≤ ROWS) × (m < 3 * n) × (WORK ≤ length (now w)) ⌝ }
     ensures { λ _. ⌜ RowMade (now (rows .entry)) n s m (3 * n) (now (w .entry)) (now (w .exit)) ⌝ }
 {
     for k in 0..3 * n {
-        let b = step_of(rows, n, s, m, k, sync_bit(m, k, w));
-        bits::put_if(w, (area::STEP + m * area::MOMENTS) * 64 + k, b);
+        fill_cell(rows, n, s, m, k, w);
+        fill_cell(rows, n, s, k, m, w);
     }
 }
 
-// Row m of the direct cases where m may not hold s: only a row's own moment may stand at the other end.
-fn fill_sparse(rows: &[u8], n: usize, s: u8, m: usize, w: &mut [u64])
-    requires { ⌜ (n ≤ ROWS) × (m < 3 * n) × (WORK ≤ length (now w)) × (mayHold (now rows) s m ≡ false) ⌝ }
-    ensures { λ _. ⌜ RowMade (now (rows .entry)) n s m (3 * n) (now (w .entry)) (now (w .exit)) ⌝ }
-{
-    for j in 0..n {
-        let b = step_of(rows, n, s, m, 3 * j + 1, sync_bit(m, 3 * j + 1, w));
-        bits::put_if(w, (area::STEP + m * area::MOMENTS) * 64 + (3 * j + 1), b);
-    }
-}
-
-// Row m of the direct cases.
-fn fill_from(rows: &[u8], n: usize, s: u8, m: usize, w: &mut [u64])
-    requires { ⌜ (n ≤ ROWS) × (m < 3 * n) × (WORK ≤ length (now w)) ⌝ }
-    ensures { λ _. ⌜ RowMade (now (rows .entry)) n s m (3 * n) (now (w .entry)) (now (w .exit)) ⌝ }
-{
-    if may_hold(rows, s, m) {
-        fill_dense(rows, n, s, m, w);
-        return;
-    }
-    fill_sparse(rows, n, s, m, w);
-}
-
-// M6: the direct cases for the class set s, for every two moments.
+// M6: the direct cases for the class set s, for every two moments. Each has the own moment of a row that holds all of s at one end,
+// so that only such rows are asked.
+// Ruled out: one that sets the bits from such a moment alone and not those to it; one that asks rows of a class in s instead of all.
 pub fn fill_step(rows: &[u8], p: Places, n: usize, s: u8, w: &mut [u64])
     requires { ⌜ (n ≤ ROWS) × (WORK ≤ length (now w)) × Synced (decode (now rows) p n) n (now w) ⌝ }
     ensures { λ _. ⌜ Made STEP STEP-END STEP MOMENTS (3 * n) (step (decode (now (rows .entry)) p n) s) (now (w .entry)) (now (w .exit)) ⌝ }
 {
     bits::clear(w, area::STEP, area::STEP_END);
-    for m in 0..3 * n {
-        fill_from(rows, n, s, m, w);
+    for j in 0..n {
+        if holds_at(rows, s, j) {
+            fill_at(rows, n, s, 3 * j + 1, w);
+        }
     }
 }

@@ -3,14 +3,13 @@ use mathlib.Core.Bool.{false}
 use Prim.Native.Nat.{_-_, _≤_}
 use native.Mathlib.Omega.{arith}
 use Rattle.finite.specs.Below.{anyBelow, any-none, any-more, any-in}
-use Rattle.order.specs.Cases.{holdsAt, holds-told, live-is}
+use Rattle.order.specs.Cases.{holdsAt, live-is}
 use borrow.Author.Needs.{needs}
 use Rattle.order.proofs.is_live.Statement.{statement}
 use Rattle.order.proofs.is_live.Tie as tie
 use Rattle.order.proofs.is_live.Reads as reads
 use Rattle.order.proofs.is_live.Lts as lts
-use Rattle.rows.proofs.bytes.read_row.Reads as read-row-reads
-use Rattle.rows.proofs.kinds.holds.Reads as holds-reads
+use Rattle.order.proofs.steps.holds_at.Reads as holds-at-reads
 
 abbrev Inv-loop : tie.InvT-loop
 Inv-loop rows n s i₀ i = (i ≤ n) × (anyBelow i (holdsAt rows s) ≡ false)
@@ -22,23 +21,14 @@ abbrev μ-loop : tie.MeasureT-loop
 loop-holds : tie.Need-loop-holds Inv-loop μ-loop
 loop-holds c = (search needs, any-none _)
 
--- src/lib.rt:44:45
-cast-read-row : tie.Need-cast-read-row Inv-loop μ-loop
-cast-read-row c = search needs
-
--- src/lib.rt:44:13
-read-row-requires : tie.Need-read-row-requires Inv-loop μ-loop
-read-row-requires c κs = search needs
-
--- src/lib.rt:45:12
-holds-requires : tie.Need-holds-requires Inv-loop μ-loop
-holds-requires c κs = search needs
+-- src/lib.rt:44:12
+holds-at-requires : tie.Need-holds-at-requires Inv-loop μ-loop
+holds-at-requires c κs = search needs
 
 -- src/lib.rt:46:13
 returns : tie.Need-returns Inv-loop μ-loop
 returns c =
-    let t = holds-told _ _ _ _ _ (c .before .before .read-row .ensures) (c .before .holds .ensures) in
-    λ p. sym (live-is _ p _ _ ∙ any-in _ _ _ (c .before .before .before .loop-test .taken) (t ∙ c .if1 .taken))
+    λ p. sym (live-is _ p _ _ ∙ any-in _ _ _ (c .before .before .loop-test .taken) (sym (c .before .holds-at .ensures) ∙ c .if1 .taken))
 
 -- src/lib.rt:43:9
 add-i : tie.Need-add-i Inv-loop μ-loop
@@ -50,9 +40,7 @@ loop-less c = search needs
 
 -- src/lib.rt:43:5
 loop-again : tie.Need-loop-again Inv-loop μ-loop
-loop-again c =
-    let t = holds-told _ _ _ _ _ (c .before .before .read-row .ensures) (c .before .holds .ensures) in
-    (search needs, any-more _ _ (c .before .before .before .before .loop .inv .1) (t ∙ c .if1 .left))
+loop-again c = (search needs, any-more _ _ (c .before .before .before .loop .inv .1) (sym (c .before .holds-at .ensures) ∙ c .if1 .left))
 
 -- src/lib.rt:39:1
 returns-2 : tie.Need-returns-2 Inv-loop μ-loop
@@ -67,9 +55,7 @@ is-live-spec =
     Inv-loop
     μ-loop
     loop-holds
-    cast-read-row
-    read-row-requires
-    holds-requires
+    holds-at-requires
     returns
     add-i
     loop-less

@@ -1,69 +1,76 @@
-use mathlib.Core.Path.{_≡_, refl}
-use Prim.Native.Nat.{_-_, _*_, _≤_}
+use mathlib.Core.Path.{_≡_, refl, sym, _∙_}
+use mathlib.Core.Logic.{⊎-elim}
+use Prim.Native.Nat.{_-_, _+_, _*_, _≤_}
 use native.Mathlib.Omega.{arith}
 use lib.ListN.{length}
-use Rattle.bits.specs.Within.{within-cleared}
-use Rattle.bits.specs.Stage.{made-filled}
-use Rattle.area.specs.Regions.{STEP, STEP-END}
-use Rattle.sequence.specs.Known.{Synced, synced-kept}
-use Rattle.order.specs.Sparse.{RowsMade, rows-none, rows-more}
+use Rattle.order.specs.Steps.{RowsMade, rows-none, rows-more, rows-skip, steps-made}
 use borrow.Author.Needs.{needs}
 use Rattle.order.proofs.steps.fill_step.Statement.{statement}
 use Rattle.order.proofs.steps.fill_step.Tie as tie
 use Rattle.order.proofs.steps.fill_step.Reads as reads
 use Rattle.order.proofs.steps.fill_step.Lts as lts
 use Rattle.bits.proofs.clear.Reads as clear-reads
-use Rattle.order.proofs.steps.fill_from.Reads as fill-from-reads
+use Rattle.order.proofs.steps.fill_at.Reads as fill-at-reads
+use Rattle.order.proofs.steps.holds_at.Reads as holds-at-reads
 
 abbrev Inv-loop : tie.InvT-loop
-Inv-loop rows n s w₀ m₀ m-end w m = (m ≤ 3 * n) × (length w ≡ length w₀) × RowsMade rows n s m w₀ w
+Inv-loop rows n s w₀ j₀ w j = (j ≤ n) × (length w ≡ length w₀) × RowsMade rows n s j w₀ w
 
 abbrev μ-loop : tie.MeasureT-loop
-μ-loop rows n s w₀ m₀ m-end w m = 3 * n - m
+μ-loop rows n s w₀ j₀ w j = n - j
 
--- src/steps.rt:132:5
+-- src/steps.rt:112:5
 clear-requires : tie.Need-clear-requires Inv-loop μ-loop
 clear-requires c κs = search needs
 
--- src/steps.rt:133:17
-mul-m-end : tie.Need-mul-m-end Inv-loop μ-loop
-mul-m-end c = search needs
-
--- src/steps.rt:133:5
+-- src/steps.rt:113:5
 loop-holds : tie.Need-loop-holds Inv-loop μ-loop
 loop-holds c = (search needs, refl, rows-none _ _ _ _)
 
--- src/steps.rt:134:9
-fill-from-requires : tie.Need-fill-from-requires Inv-loop μ-loop
-fill-from-requires c κs = search needs
+-- src/steps.rt:114:12
+holds-at-requires : tie.Need-holds-at-requires Inv-loop μ-loop
+holds-at-requires c κs = search needs
 
--- src/steps.rt:133:9
-add-m : tie.Need-add-m Inv-loop μ-loop
-add-m c = search needs
+-- src/steps.rt:115:33
+mul-fill-at : tie.Need-mul-fill-at Inv-loop μ-loop
+mul-fill-at c = search needs
 
--- src/steps.rt:133:5
+-- src/steps.rt:115:33
+add-fill-at : tie.Need-add-fill-at Inv-loop μ-loop
+add-fill-at c = search needs
+
+-- src/steps.rt:115:13
+fill-at-requires : tie.Need-fill-at-requires Inv-loop μ-loop
+fill-at-requires c κs = search needs
+
+-- src/steps.rt:113:9
+add-j : tie.Need-add-j Inv-loop μ-loop
+add-j c = search needs
+
+-- src/steps.rt:113:5
 loop-less : tie.Need-loop-less Inv-loop μ-loop
 loop-less c = search needs
 
--- src/steps.rt:133:5
+-- src/steps.rt:113:5
 loop-again : tie.Need-loop-again Inv-loop μ-loop
 loop-again c =
-    let made = rows-more _ _ _ _ _ _ _ (omega arith) (c .before .before .before .before .before .loop .inv .2) (c .before .before .fill-from .ensures) in
-    (search needs, made .frame .len, made)
+    let inv = c .before .before .before .loop .inv in
+    let made = ⊎-elim
+    (λ v. rows-more _ _ _ _ _ _ (c .if1 .w) (omega arith) (inv .2) (rw (v .5) (v .2 .ensures)))
+    (λ v. rows-skip _ _ _ _ _ _ (c .if1 .w) (sym (c .before .holds-at .ensures) ∙ v .0 .left) (inv .2) (v .1))
+    (c .if1 .came) in
+    (search needs, made .grown .frame .len, made)
 
--- src/steps.rt:128:1
+-- src/steps.rt:108:1
 same-length : tie.Need-same-length Inv-loop μ-loop
 same-length c = search needs
 
--- src/steps.rt:128:1
+-- src/steps.rt:108:1
 returns : tie.Need-returns Inv-loop μ-loop
 returns c =
     let start = c .before .before .before .before .before .before .before .before in
-    let cleared = c .before .before .before .before .clear .ensures in
-    let e : c .before .loop .m ≡ 3 * start .args .n = omega arith in
-    let s = synced-kept (omega arith) (within-cleared STEP STEP-END (omega arith) cleared) (start .pre .2) in
-    let made = (rw e at (c .before .loop .inv .2)) .fill (start .args .p) s in
-    made-filled STEP STEP-END 3 _ _ _ _ _ (omega arith) (omega arith) (omega arith) cleared made
+    let e : c .before .loop .j ≡ start .args .n = omega arith in
+    steps-made _ _ _ _ _ _ _ (omega arith) (omega arith) (start .pre .2) (c .before .before .before .before .clear .ensures) (rw e at (c .before .loop .inv .2))
 
 pub fill-step-spec : {M : Type 1} → statement M
 fill-step-spec =
@@ -72,10 +79,12 @@ fill-step-spec =
     Inv-loop
     μ-loop
     clear-requires
-    mul-m-end
     loop-holds
-    fill-from-requires
-    add-m
+    holds-at-requires
+    mul-fill-at
+    add-fill-at
+    fill-at-requires
+    add-j
     loop-less
     loop-again
     same-length

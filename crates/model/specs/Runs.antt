@@ -121,7 +121,7 @@ starred =
     ∷ record { ask = asCheck; table = set P 17 1; gives = checked (race 0 3 0) }
     -- row 3 blank
     ∷ record { ask = asFill; table = change 2 3 12 255 (change 2 3 13 254 P); gives = filling (filled (65535 ∷ 65535 ∷ 1 ∷ 0 ∷ [])) }
-    ∷ record { ask = asCheck; table = Q; gives = checked raceFree }
+    ∷ record { ask = asCheck; table = Q; gives = checked (race 0 4 0) }
     ∷ record { ask = asCheck; table = Q-rmw; gives = checked raceFree }
     ∷ record { ask = asCheck; table = table [] []; gives = checked raceFree }
     ∷ []

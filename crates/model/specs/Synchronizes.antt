@@ -5,20 +5,20 @@ use lib.Dec.{ltb, eqb}
 use Rattle.finite.specs.Logic.{_and_, _or_}
 use Rattle.finite.specs.Below.{anyBelow}
 use Rattle.model.specs.declared.Row.{Row}
-use Rattle.model.specs.Row.{atomic, barrier, rmw, ranked, reads, writes, releases, acquires, classIn}
+use Rattle.model.specs.Row.{atomic, barrier, rmw, reads, writes, releases, acquires, classIn}
 use Rattle.model.specs.Table.{Table}
 use Rattle.model.specs.Scope.{together, mutually, later, follows}
 use Rattle.model.specs.Moment.{sameAgent}
 
 -- ---- M4
 
--- the writer r continues a sequence that h heads
-unfoldable pub continues : Row → Row → Bool
-continues h r = rmw r or (ranked r and eqb (r .agent) (h .agent))
+-- after the head, an RMW by any agent continues a sequence, and nothing else does
+unfoldable pub continues : Row → Bool
+continues r = rmw r
 
 -- z, no later than w in the scoped order of the head a, ends a's sequence
 unfoldable pub ends : Table → ℕ → ℕ → ℕ → Bool
-ends t a w z = follows t a z and not (later (t .row z .rank) (t .row w .rank)) and not (continues (t .row a) (t .row z))
+ends t a w z = follows t a z and not (later (t .row z .rank) (t .row w .rank)) and not (continues (t .row z))
 
 -- M4: w is in the release sequence that a heads
 unfoldable pub sequence : Table → ℕ → ℕ → Bool

@@ -19,7 +19,7 @@ use Rattle.model.specs.Synchronizes.{syncAtomics, syncFromBarrier, syncToBarrie
 
 -- M4: q ends the sequence of the head h no later than r; m says that h and q are mutually-ordered
 unfoldable pub endRows : Bool → Row → Row → Row → Bool
-endRows m h r q = m and laterWriter q h and not (later (q .rank) (r .rank)) and not (continues h q)
+endRows m h r q = m and laterWriter q h and not (later (q .rank) (r .rank)) and not (continues q)
 
 -- M5: row x, which is q, is program-ordered after the barrier a, which is r, and its class is in a's semantics
 unfoldable pub leadRows : ℕ → ℕ → Row → Row → Bool

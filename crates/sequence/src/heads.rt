@@ -53,11 +53,11 @@ pub fn follows_at(rows: &[u8], p: Places, n: usize, i: usize, j: usize, w: &[u64
 
 // ---- M4
 
-// M4: whether the writer r continues a sequence that h heads. Nothing else says what does.
-pub fn is_continued(h: Row, r: Row) -> bool
-    ensures { λ b. ⌜ b ≡ continues h r ⌝ }
+// M4: whether r, after the head, continues a sequence. Nothing else says what does.
+pub fn is_continued(r: Row) -> bool
+    ensures { λ b. ⌜ b ≡ continues r ⌝ }
 {
-    rows::kinds::is_rmw(r) | rows::kinds::is_ranked(r) & (r.agent == h.agent)
+    rows::kinds::is_rmw(r)
 }
 
 // M4: whether q ends the sequence of the head h no later than r; b says that h and q are mutually-ordered.
@@ -67,7 +67,7 @@ fn is_end(b: bool, h: Row, r: Row, q: Row) -> bool
     b
         & rows::scopes::is_later_writer(q, h)
         & !rows::scopes::is_later(q.rank, r.rank)
-        & !is_continued(h, q)
+        & !is_continued(q)
 }
 
 // M4: whether some row ends the sequence of the head a no later than row x.

@@ -1,26 +1,19 @@
 use Rattle.model.specs.Synchronizes.{continues}
-use Rattle.finite.specs.Logic.{_and_}
-use Rattle.finite.specs.Logic.{_or_}
 use borrow.Author.Needs.{needs}
 use Rattle.sequence.proofs.heads.is_continued.Statement.{statement}
 use Rattle.sequence.proofs.heads.is_continued.Tie as tie
 use Rattle.sequence.proofs.heads.is_continued.Reads as reads
 use Rattle.sequence.proofs.heads.is_continued.Lts as lts
-use Rattle.rows.proofs.kinds.is_ranked.Reads as is-ranked-reads
 use Rattle.rows.proofs.kinds.is_rmw.Reads as is-rmw-reads
 
 -- src/heads.rt:60:5
 is-rmw-requires : tie.Need-is-rmw-requires
 is-rmw-requires c κs = search needs
 
--- src/heads.rt:60:30
-is-ranked-requires : tie.Need-is-ranked-requires
-is-ranked-requires c κs = search needs
-
 -- src/heads.rt:57:1
 returns : tie.Need-returns
-unfolding continues _and_ _or_
+unfolding continues
 returns c = cc
 
 pub is-continued-spec : {M : Type 1} → statement M
-is-continued-spec = tie.close (tie.spec is-rmw-requires is-ranked-requires returns)
+is-continued-spec = tie.close (tie.spec is-rmw-requires returns)

@@ -2,7 +2,7 @@
 
 use differential::{Comparison, Tally};
 use std::collections::BTreeSet;
-use tables::builder::kind;
+use tables::builder::{kind, order};
 use tables::{checkable, examples, fillable, Random, Row, Size, Table, BLANK, INITIAL};
 
 const SMALL: Size = Size { least: 2, most: 11 };
@@ -22,6 +22,7 @@ struct Features {
     references_over_the_same_bytes: usize,
     partial_overlaps: usize,
     chained_rmws: usize,
+    ended_by_own_writes: usize,
     equal_ranks: usize,
     class_sets: BTreeSet<u8>,
 }
@@ -41,6 +42,8 @@ impl Features {
                 let is_barrier = x.kind == kind::BARRIER && y.kind == kind::BARRIER;
                 let is_synchronized = is_barrier && comparison.state.synchronizes_with(a, b);
                 self.synchronized_by_barriers += usize::from(is_synchronized);
+                let is_ended = reads_own_write(table, comparison, a, b);
+                self.ended_by_own_writes += usize::from(is_ended);
                 if a < b {
                     self.add_pair(*x, *y);
                 }
@@ -57,6 +60,22 @@ impl Features {
         let writers = x.is_atomic_writer() && y.is_atomic_writer();
         self.equal_ranks += usize::from(writers && same_place && x.rank == y.rank);
     }
+}
+
+/// Whether row b acquires from a later write by the agent of the release a,
+/// which ends a's sequence as any other agent's write does.
+fn reads_own_write(table: &Table, comparison: &Comparison, a: usize, b: usize) -> bool {
+    let (x, y) = (table.rows[a], table.rows[b]);
+    let source = usize::from(y.source);
+    let is_own = table.rows.get(source).is_some_and(|write| {
+        write.kind == kind::ATOMIC_WRITE && write.agent == x.agent && write.rank > x.rank
+    });
+    is_own
+        && x.is_atomic_writer()
+        && [order::RELEASE, order::BOTH].contains(&x.order)
+        && [order::ACQUIRE, order::BOTH].contains(&y.order)
+        && comparison.state.mutually_ordered(a, source)
+        && comparison.state.mutually_ordered(a, b)
 }
 
 /// Checks and fills generated tables; the features are those of the check.
@@ -119,6 +138,7 @@ fn middle_tables_checked() {
     assert!(features.references_over_the_same_bytes > 1000);
     assert!(features.partial_overlaps > 500);
     assert!(features.chained_rmws > 1000);
+    assert!(features.ended_by_own_writes > 100);
     assert!(features.equal_ranks > 100);
 }
 

@@ -68,14 +68,13 @@ impl State {
                 && (0..self.row_count).all(|follower| {
                     !self.m3_modification_order(head, follower)
                         || self.rows[follower].rank > self.rows[member].rank
-                        || self.m4_qualifies(head, follower)
+                        || self.m4_qualifies(follower)
                 }))
     }
 
-    /// M4: an RMW, or an atomic write by the head's own agent, goes on the
-    /// sequence.
-    fn m4_qualifies(&self, head: usize, follower: usize) -> bool {
-        self.rows[follower].kind == ATOMIC_RMW || self.rows[follower].agent == self.rows[head].agent
+    /// M4: after the head only an RMW goes on the sequence, by any agent.
+    fn m4_qualifies(&self, follower: usize) -> bool {
+        self.rows[follower].kind == ATOMIC_RMW
     }
 
     /// The row that a reader reads from; none for the initial value and for

@@ -122,23 +122,28 @@ fn equal_ranks_are_in_a_release_sequence_only_together() {
     let later = equal_ranks(Row::atomic_write(2, 3));
     assert!(checked(&later).synchronizes_with(1, 4));
     assert_eq!(check(&later), "race 2 3 4");
-    // The head's own agent goes on its sequence.
+    // So does a later write by the head's own agent.
     let own = equal_ranks(Row::atomic_write(0, 3));
     assert!(checked(&own).synchronizes_with(1, 4));
     assert_eq!(check(&own), "race-free");
 }
 
 #[test]
-fn release_sequence_ends_before_another_agents_write() {
-    let mut table = table_p();
-    table.agents.push([0, 0, 2]);
-    table.insert(2, flag(Row::atomic_write(2, 2)));
-    table.insert(3, flag(Row::rmw(2, 2, 3)));
-    table.rows[4].source = 3;
-    assert_eq!(check(&table), "race 0 5 0");
-    table.rows[2].kind = RMW;
-    table.rows[2].source = 1;
-    assert_eq!(check(&table), "race-free");
+fn release_sequence_ends_before_any_agents_write() {
+    // By the head's agent, the acquire's and a third one.
+    for agent in 0..3 {
+        let mut table = table_p();
+        table.agents.push([0, 0, 2]);
+        table.insert(2, flag(Row::atomic_write(agent, 2)));
+        table.insert(3, flag(Row::rmw(2, 2, 3)));
+        table.rows[4].source = 3;
+        assert!(!checked(&table).synchronizes_with(1, 4));
+        assert_eq!(check(&table), "race 0 5 0");
+        table.rows[2].kind = RMW;
+        table.rows[2].source = 1;
+        assert!(checked(&table).synchronizes_with(1, 4));
+        assert_eq!(check(&table), "race-free");
+    }
 }
 
 #[test]
@@ -170,7 +175,7 @@ fn rmw_chain_carries_a_release() {
         Table::of_one_workgroup(4, &rows)
     };
     assert_eq!(check(&chain(Row::rmw(1, 3, 40))), "race-free");
-    assert_eq!(check(&chain(Row::atomic_write(0, 40))), "race-free");
+    assert_eq!(check(&chain(Row::atomic_write(0, 40))), "race 0 6 0");
     assert_eq!(check(&chain(Row::atomic_write(1, 40))), "race 0 6 0");
     // Reading past a link breaks atomicity: from-reads against rank order.
     assert_eq!(

@@ -75,8 +75,8 @@ fn table_q(row: Row) -> Table {
 }
 
 #[test]
-fn q_with_a_write_of_the_same_agent_is_race_free() {
-    assert_eq!(check(&table_q(flag(Row::atomic_write(0, 2)))), "race-free");
+fn q_with_a_write_of_the_same_agent_races() {
+    assert_eq!(check(&table_q(flag(Row::atomic_write(0, 2)))), "race 0 4 0");
 }
 
 #[test]

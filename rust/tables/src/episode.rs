@@ -375,11 +375,12 @@ impl<'a> Episode<'a> {
         self.random.between(narrowest, usize::from(scope::DEVICE)) as u8
     }
 
-    /// Goes on the release sequence: RMWs by anyone, writes by its head's agent.
+    /// Goes on the release sequence by RMWs of anyone; now and then a write
+    /// by the head's agent ends it.
     fn carry_on(&mut self, head: u8) {
         for _ in 0..self.random.pick(&[0, 0, 0, 0, 1, 1, 2]) {
             let rank = self.next_rank();
-            let row = if self.random.percent(70) {
+            let row = if self.random.percent(90) {
                 Row::rmw(self.random.pick(&self.agents), self.last_flag_writer, rank)
             } else {
                 Row::atomic_write(head, rank)

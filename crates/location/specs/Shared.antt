@@ -2,12 +2,12 @@
 use mathlib.Core.Path.{_≡_, refl, sym, ap, _∙_}
 use mathlib.Core.Bool.{Bool, true, false}
 use mathlib.Core.Logic.{_↔_}
-use Prim.Native.Nat.{ℕ, zero, suc, _+_, _-_, _≤_, _<_, max}
+use Prim.Native.Nat.{ℕ, _+_, _-_, _≤_, _<_, max, min}
 use native.Mathlib.Omega.{arith}
 use native.Mathlib.Decide.{decLt}
 use borrow.Author.Tests.{lt-ltb, le-ltb, le-leb, leb-true, ltb-true}
 use Rattle.finite.specs.Logic.{_and_, split, and-true, not-both, not-so}
-use Rattle.finite.specs.Below.{least, Least, least-is, least-found, least-unique, least-low}
+use Rattle.finite.specs.Below.{least, Least, least-is, least-unique, least-low}
 use Rattle.model.specs.declared.Shared.{Shared}
 use Rattle.model.specs.declared.Shared.the-variants.{At, Nothing}
 use Rattle.model.specs.Row.{inside, lowestShared, isShared}
@@ -15,7 +15,7 @@ use Rattle.model.specs.Row.{inside, lowestShared, isShared}
 -- ---- definitions
 
 -- byte a + k is one of the n bytes from b
-abbrev pub insideNth : ℕ → ℕ → ℕ → ℕ → Bool
+abbrev insideNth : ℕ → ℕ → ℕ → ℕ → Bool
 insideNth a b n k = inside b n (a + k)
 
 -- c is one of the m bytes from a and one of the n bytes from b
@@ -36,31 +36,16 @@ pub inside-out : (a m c : ℕ) → inside a m c ≡ true → (a ≤ c) × (c < a
 unfolding inside
 inside-out a m c e = (leb-true a c (split e .0), ltb-true c (a + m) (split e .1))
 
--- ---- laws: the loop over k
+-- ---- laws: the least k that is found
 
 module _ (a m b n : ℕ) where
   lowest-is : (k : ℕ) → least m (insideNth a b n) ≡ k → k < m → At (a + k) ≡ lowestShared a m b n
   unfolding lowestShared
   lowest-is k e l = rw (e, lt-ltb k m l) refl
 
-  pub lowest-found : (k : ℕ) → least k (insideNth a b n) ≡ k → insideNth a b n k ≡ true → k < m → At (a + k) ≡ lowestShared a m b n
-  lowest-found k e h l = lowest-is k (least-found (insideNth a b n) k m e h l) l
-
-  pub lowest-none : least m (insideNth a b n) ≡ m → Nothing ≡ lowestShared a m b n
+  lowest-none : least m (insideNth a b n) ≡ m → Nothing ≡ lowestShared a m b n
   unfolding lowestShared
   lowest-none e = rw (e, le-ltb m m (omega arith)) refl
-
-  -- the lowest shared byte is one of the two starts, so it is a 16-bit number
-  pub lowest-start : (k : ℕ) → least k (insideNth a b n) ≡ k → insideNth a b n k ≡ true → a + k ≤ max a b
-  lowest-start zero e h = omega arith
-  lowest-start (suc j) e h = go (decLt (a + j) b)
-    where
-      go : Dec (a + j < b) → a + suc j ≤ max a b
-      go (yes l) = omega arith
-      go (no l) =
-          let c = inside-out b n (a + suc j) h .1 in
-          let q : j < least (suc j) (insideNth a b n) = rw e (omega arith) in
-          not-both (inside-in b n (a + j) (omega arith) (omega arith)) (least-is (insideNth a b n) (suc j) .miss j q)
 
   -- ---- laws: what it says
 
@@ -148,3 +133,24 @@ module _ (a m b n : ℕ) where
   -- nothing is given exactly when no byte is inside both
   pub lowest-nothing : (lowestShared a m b n ≡ Nothing) ↔ ((c : ℕ) → inBoth a m b n c ≡ false)
   lowest-nothing = (nothing-shared, shared-nothing)
+
+  -- ---- laws: what it is, from the starts and the ends
+
+  -- a byte that both cover lies between
+  ends-hold : (c : ℕ) → inBoth a m b n c ≡ true → (max a b ≤ c) × (c < min (a + m) (b + n))
+  unfolding inBoth
+  ends-hold c e =
+      let i = inside-out a m c (split e .0) in
+      let j = inside-out b n c (split e .1) in
+      (omega (arith, i .0, j .0), omega (arith, i .1, j .1))
+
+  -- the higher start, where it lies before the lower end
+  pub start-shared : (s e : ℕ) → s ≡ max a b → e ≡ min (a + m) (b + n) → s < e → At s ≡ lowestShared a m b n
+  unfolding inBoth
+  start-shared s e p q l =
+      let h : inBoth a m b n s ≡ true = and-true (inside-in a m s (omega arith) (omega arith)) (inside-in b n s (omega arith) (omega arith)) in
+      sym (shared-at s h (λ d k. not-so _ (λ t. let g = ends-hold d t .0 in omega arith)))
+
+  -- nothing elsewhere
+  pub ends-apart : (s e : ℕ) → s ≡ max a b → e ≡ min (a + m) (b + n) → e ≤ s → Nothing ≡ lowestShared a m b n
+  ends-apart s e p q l = sym (shared-nothing (λ c. not-so _ (λ t. let g = ends-hold c t in omega (arith, g .0, g .1))))

@@ -1,28 +1,33 @@
 // The bytes that two accesses share.
 ghost use mathlib.Core.Path.{_≡_};
-ghost use Rattle.model.specs.Row.{inside, lowestShared, isShared, overlap};
+ghost use Prim.Native.Nat.{max, min};
+ghost use Rattle.model.specs.Row.{lowestShared, isShared, overlap};
 ghost use Rattle.model.specs.Race.{clash};
 use model::Row;
 use model::Shared;
 
-// Whether c is one of the n bytes from b. A sum of 16-bit numbers may be past 65535, so c is wider.
-fn is_inside(b: u16, n: u8, c: u32) -> bool
-    ensures { λ r. ⌜ r ≡ inside b n c ⌝ }
+fn higher(a: u32, b: u32) -> u32
+    ensures { λ r. ⌜ r ≡ max a b ⌝ }
 {
-    let start = b as u32;
-    (start <= c) & (c < start + (n as u32))
+    if a < b { b } else { a }
 }
 
-// The lowest of the m bytes from a that is one of the n bytes from b, for every start and size, 0 too.
+fn lower(a: u32, b: u32) -> u32
+    ensures { λ r. ⌜ r ≡ min a b ⌝ }
+{
+    if a < b { a } else { b }
+}
+
+// The lowest of the m bytes from a that is one of the n bytes from b, for every start and size, 0 too: the higher start, where
+// it lies before the lower end. An end may be past 65535, so the numbers are wider.
 // Ruled out: one that says byte b where b lies before a; one that says a byte where m or n is 0, or just past the end of one.
 pub fn lowest_shared(a: u16, m: u8, b: u16, n: u8) -> Shared
     ensures { λ r. ⌜ r ≡ lowestShared a m b n ⌝ }
 {
-    for k in 0..m {
-        let c = (a as u32) + (k as u32);
-        if is_inside(b, n, c) {
-            return Shared::At(c as u16);
-        }
+    let start = higher(a as u32, b as u32);
+    let end = lower((a as u32) + (m as u32), (b as u32) + (n as u32));
+    if start < end {
+        return Shared::At(start as u16);
     }
     Shared::Nothing
 }

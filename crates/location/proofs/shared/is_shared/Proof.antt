@@ -5,20 +5,20 @@ use Rattle.location.proofs.shared.is_shared.Tie as tie
 use Rattle.location.proofs.shared.is_shared.Reads as reads
 use Rattle.location.proofs.shared.is_shared.Lts as lts
 
--- src/shared.rt:34:26
+-- src/shared.rt:39:26
 enum-told : tie.Need-enum-told
 enum-told c = search needs
 
--- src/shared.rt:35:28
+-- src/shared.rt:40:28
 enum-told-2 : tie.Need-enum-told-2
 enum-told-2 c = search needs
 
--- src/shared.rt:30:1
+-- src/shared.rt:35:1
 returns : tie.Need-returns
 unfolding isShared
 returns c = simp (c .enum-told .given .1)
 
--- src/shared.rt:30:1
+-- src/shared.rt:35:1
 returns-2 : tie.Need-returns-2
 unfolding isShared
 returns-2 c = simp (c .enum-told2 .given .1)

@@ -7,15 +7,15 @@ use Rattle.location.proofs.shared.overlap.Lts as lts
 use Rattle.location.proofs.shared.is_shared.Reads as is-shared-reads
 use Rattle.location.proofs.shared.lowest_shared.Reads as lowest-shared-reads
 
--- src/shared.rt:43:15
+-- src/shared.rt:48:15
 lowest-shared-requires : tie.Need-lowest-shared-requires
 lowest-shared-requires c κs = search needs
 
--- src/shared.rt:43:5
+-- src/shared.rt:48:5
 is-shared-requires : tie.Need-is-shared-requires
 is-shared-requires c κs = search needs
 
--- src/shared.rt:40:1
+-- src/shared.rt:45:1
 returns : tie.Need-returns
 unfolding overlap
 returns c = cc

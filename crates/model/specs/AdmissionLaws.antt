@@ -156,14 +156,14 @@ module _ {blanks : Bool} {s : List ℕ} (h : Sound blanks s) where
     access-size a =
         ⊎-elim (λ n. not-both a (not-out (access r) n))
         (λ t. (leb-true 1 (r .size) (split (split t .0) .0), leb-true (r .size) LONGEST (split (split t .0) .1)))
-        (or-cases (not (access r)) (leb 1 (r .size) and leb (r .size) LONGEST and leb (r .start + r .size) BYTES) (row-right .2))
+        (or-cases (not (access r)) (leb 1 (r .size) and leb (r .size) LONGEST and leb (r .start + r .size) BYTES) (split (row-right .2) .0))
 
     -- and they end where a byte's number does
     pub access-end : access r ≡ true → r .start + r .size ≤ BYTES
     unfolding extentFits
     access-end a =
         ⊎-elim (λ n. not-both a (not-out (access r) n)) (λ t. leb-true (r .start + r .size) BYTES (split t .1))
-        (or-cases (not (access r)) (leb 1 (r .size) and leb (r .size) LONGEST and leb (r .start + r .size) BYTES) (row-right .2))
+        (or-cases (not (access r)) (leb 1 (r .size) and leb (r .size) LONGEST and leb (r .start + r .size) BYTES) (split (row-right .2) .0))
 
     barrier-size : barrier r ≡ true → r .size ≡ 0
     unfolding kindFits barrierFits

@@ -29,6 +29,13 @@ LONGEST = 16
 abbrev pub BYTES : ℕ
 BYTES = 65536
 
+-- bytes of an atomic: one or the other
+abbrev pub ATOMIC-SHORT : ℕ
+ATOMIC-SHORT = 4
+
+abbrev pub ATOMIC-LONG : ℕ
+ATOMIC-LONG = 8
+
 -- the initial value, and a blank (document 01's own term: a source that a fill is to find)
 abbrev pub INITIAL : ℕ
 INITIAL = 65535

@@ -1,7 +1,7 @@
 -- The refusals 1 to 11, in their order. `blanks` says whether a blank is allowed: in a fill, not in a check.
 use mathlib.Core.Bool.{Bool, true, false, not, cond, Bool·beq}
 use mathlib.Core.List.{List}
-use Prim.Native.Nat.{ℕ, _+_}
+use Prim.Native.Nat.{ℕ, _+_, _%_}
 use lib.ListN.{length}
 use lib.Dec.{ltb, leb, eqb}
 use Rattle.finite.specs.Logic.{_and_, _or_}
@@ -9,7 +9,7 @@ use Rattle.finite.specs.Below.{anyBelow, least}
 use Rattle.model.specs.declared.Row.{Row}
 use Rattle.model.specs.declared.Admission.{Admission}
 use Rattle.model.specs.declared.Admission.the-variants.{Admitted, Refused}
-use Rattle.model.specs.Limits.{AGENTS, ROWS, WORK, LONGEST, BYTES, INITIAL, BLANK}
+use Rattle.model.specs.Limits.{AGENTS, ROWS, WORK, LONGEST, BYTES, ATOMIC-SHORT, ATOMIC-LONG, INITIAL, BLANK}
 use Rattle.model.specs.Row.{BARRIER, ATOMIC-READ, ATOMIC-WRITE, RELAXED, ACQUIRE, RELEASE, BOTH, plain, atomic, access, barrier, plainRead, reads, writes, ranked, acquires, releases, nonPrivate, makesAvailable, makesVisible, covers}
 use Rattle.model.specs.Table.{Table, HEADER, countAt, versionAt, agentsAt, rowsAt, zeroAt, sizeOf, rowBytes, rowOf, sourceOf, placesOf, tableOf, sourcesOf}
 use Rattle.model.specs.Scope.{INVOCATION, DEVICE, mutualRows, mutually}
@@ -85,9 +85,16 @@ kindFits r source =
     (not (plain r) or plainFits r) and (not (atomic r) or atomicFits r) and (not (barrier r) or barrierFits r)
     and (plain r or semanticsFit r) and (reads r or eqb source INITIAL) and (ranked r or eqb (r .rank) 0)
 
--- 7: an access has 1 to LONGEST bytes, all below BYTES
+-- 7, atomic rows: ATOMIC-SHORT or ATOMIC-LONG bytes, whose number divides the start
+unfoldable pub atomicExtentFits : Row → Bool
+atomicExtentFits r =
+    (eqb (r .size) ATOMIC-SHORT and eqb (r .start % ATOMIC-SHORT) 0) or (eqb (r .size) ATOMIC-LONG and eqb (r .start % ATOMIC-LONG) 0)
+
+-- 7: an access has 1 to LONGEST bytes, all below BYTES, and an atomic row those of an atomic
 unfoldable pub extentFits : Row → Bool
-extentFits r = not (access r) or (leb 1 (r .size) and leb (r .size) LONGEST and leb (r .start + r .size) BYTES)
+extentFits r =
+    (not (access r) or (leb 1 (r .size) and leb (r .size) LONGEST and leb (r .start + r .size) BYTES))
+    and (not (atomic r) or atomicExtentFits r)
 
 unfoldable pub rowFault : ℕ → Row → ℕ → ℕ
 rowFault agents r source = cond (codesFit agents r) (cond (kindFits r source) (cond (extentFits r) 0 7) 6) 5

@@ -18,7 +18,7 @@ use Rattle.model.specs.Happens.{holdingOf, concernsOf, holding, concerns
 use Rattle.model.specs.Location.{sameReference, coversOf, pureRead, publicWrite, L1, L2, availableFrom, visibleTo, shareMoment, shown, met, carried, L3, common, before}
 use Rattle.model.specs.Race.{clash, conflict, unordered, unorderedNth, raceNth, races, racesAbove, racePartner, hasRace, raceRow, raceByte}
 use Rattle.model.specs.Edge.{beforeNth, beforeSome, readsFrom, fromReads, edgeNumber, edge, cycleRow, cycleRows, cycleEdges, overwrites, overwritesNth, overNth, overwriting, overWriter, isOverwritten, overReader, overByte, consistent}
-use Rattle.model.specs.Refusal.{buffersFit, versionFits, limitsFit, lengthFits, headerFault, codesFit, plainFits, atomicFits, barrierFits, semanticsFit, kindFits, extentFits, rowFault, otherClass, otherClassAt, classTaken, writerFits, sourceFits, sourceBroken, sameRank, sameRankAt, rankTaken, tableFault, faulty, firstFault, rowFaultAt, admission}
+use Rattle.model.specs.Refusal.{buffersFit, versionFits, limitsFit, lengthFits, headerFault, codesFit, plainFits, atomicFits, barrierFits, semanticsFit, kindFits, atomicExtentFits, extentFits, rowFault, otherClass, otherClassAt, classTaken, writerFits, sourceFits, sourceBroken, sameRank, sameRankAt, rankTaken, tableFault, faulty, firstFault, rowFaultAt, admission}
 use Rattle.model.specs.Check.{raceOr, overwrittenOr, cyclicOr, verdict, admitted, check}
 use Rattle.model.specs.Fill.{missesAt, writtenBy, written, hidesAt, between, candidate, choice, blank, chosen, sourcesFit, filledOr, racingOr, outcome, admittedFill, fill}
 use Rattle.model.specs.Check.{Verdict, refused, cyclic, overwritten, race, raceFree}
@@ -127,7 +127,7 @@ starred =
     ∷ []
 
 pub starred-hold : map (λ r. answer (r .ask) (r .table)) starred ≡ map (λ r. r .gives) starred
-unfolding answer _and_ _or_ anyBelow allBelow least through tabulate walk onCycle cycleStart cycleSize trail cycle along plain atomic access barrier plainRead rmw reads writes ranked acquires releases holds meets single classIn nonPrivate makesAvailable makesVisible inside touches covers lowestShared isShared overlap pairAt quadAt countAt versionAt agentsAt rowsAt zeroAt placeAt slotAt placesOf rowsBegin sizeOf rowBytes byteOf pairOf rowOf sourceOf atomicSource decode tableOf sourcesOf agree shares together sameLocation mutualRows mutually later laterWriter follows availabilityOf visibilityOf momentOf momentIn orderedRows classesOf availability visibility moment sameAgent programOrder continues ends sequence takesFrom leads trails syncAtomics carriesOut syncFromBarrier carriesIn syncToBarrier carriesOver syncBarriers synchronizes holdingOf concernsOf holding concerns bySync toRelease fromAcquire step interThread holdsAll live interThreadBy happens sameReference coversOf pureRead publicWrite L1 L2 availableFrom visibleTo shareMoment shown met carried L3 common before clash conflict unordered unorderedNth raceNth races racesAbove racePartner hasRace raceRow raceByte beforeNth beforeSome readsFrom fromReads edgeNumber edge cycleRow cycleRows cycleEdges overwrites overwritesNth overNth overwriting overWriter isOverwritten overReader overByte consistent buffersFit versionFits limitsFit lengthFits headerFault codesFit plainFits atomicFits barrierFits semanticsFit kindFits extentFits rowFault otherClass otherClassAt classTaken writerFits sourceFits sourceBroken sameRank sameRankAt rankTaken tableFault faulty firstFault rowFaultAt admission raceOr overwrittenOr cyclicOr verdict admitted check missesAt writtenBy written hidesAt between candidate choice blank chosen sourcesFit filledOr racingOr outcome admittedFill fill
+unfolding answer _and_ _or_ anyBelow allBelow least through tabulate walk onCycle cycleStart cycleSize trail cycle along plain atomic access barrier plainRead rmw reads writes ranked acquires releases holds meets single classIn nonPrivate makesAvailable makesVisible inside touches covers lowestShared isShared overlap pairAt quadAt countAt versionAt agentsAt rowsAt zeroAt placeAt slotAt placesOf rowsBegin sizeOf rowBytes byteOf pairOf rowOf sourceOf atomicSource decode tableOf sourcesOf agree shares together sameLocation mutualRows mutually later laterWriter follows availabilityOf visibilityOf momentOf momentIn orderedRows classesOf availability visibility moment sameAgent programOrder continues ends sequence takesFrom leads trails syncAtomics carriesOut syncFromBarrier carriesIn syncToBarrier carriesOver syncBarriers synchronizes holdingOf concernsOf holding concerns bySync toRelease fromAcquire step interThread holdsAll live interThreadBy happens sameReference coversOf pureRead publicWrite L1 L2 availableFrom visibleTo shareMoment shown met carried L3 common before clash conflict unordered unorderedNth raceNth races racesAbove racePartner hasRace raceRow raceByte beforeNth beforeSome readsFrom fromReads edgeNumber edge cycleRow cycleRows cycleEdges overwrites overwritesNth overNth overwriting overWriter isOverwritten overReader overByte consistent buffersFit versionFits limitsFit lengthFits headerFault codesFit plainFits atomicFits barrierFits semanticsFit kindFits atomicExtentFits extentFits rowFault otherClass otherClassAt classTaken writerFits sourceFits sourceBroken sameRank sameRankAt rankTaken tableFault faulty firstFault rowFaultAt admission raceOr overwrittenOr cyclicOr verdict admitted check missesAt writtenBy written hidesAt between candidate choice blank chosen sourcesFit filledOr racingOr outcome admittedFill fill
 starred-hold = refl
 
 -- ---- shortcuts that would fool us
@@ -183,5 +183,5 @@ shortcuts =
     ∷ []
 
 pub shortcuts-hold : map (λ r. answer (r .ask) (r .table)) shortcuts ≡ map (λ r. r .gives) shortcuts
-unfolding answer _and_ _or_ anyBelow allBelow least through tabulate walk onCycle cycleStart cycleSize trail cycle along plain atomic access barrier plainRead rmw reads writes ranked acquires releases holds meets single classIn nonPrivate makesAvailable makesVisible inside touches covers lowestShared isShared overlap pairAt quadAt countAt versionAt agentsAt rowsAt zeroAt placeAt slotAt placesOf rowsBegin sizeOf rowBytes byteOf pairOf rowOf sourceOf atomicSource decode tableOf sourcesOf agree shares together sameLocation mutualRows mutually later laterWriter follows availabilityOf visibilityOf momentOf momentIn orderedRows classesOf availability visibility moment sameAgent programOrder continues ends sequence takesFrom leads trails syncAtomics carriesOut syncFromBarrier carriesIn syncToBarrier carriesOver syncBarriers synchronizes holdingOf concernsOf holding concerns bySync toRelease fromAcquire step interThread holdsAll live interThreadBy happens sameReference coversOf pureRead publicWrite L1 L2 availableFrom visibleTo shareMoment shown met carried L3 common before clash conflict unordered unorderedNth raceNth races racesAbove racePartner hasRace raceRow raceByte beforeNth beforeSome readsFrom fromReads edgeNumber edge cycleRow cycleRows cycleEdges overwrites overwritesNth overNth overwriting overWriter isOverwritten overReader overByte consistent buffersFit versionFits limitsFit lengthFits headerFault codesFit plainFits atomicFits barrierFits semanticsFit kindFits extentFits rowFault otherClass otherClassAt classTaken writerFits sourceFits sourceBroken sameRank sameRankAt rankTaken tableFault faulty firstFault rowFaultAt admission raceOr overwrittenOr cyclicOr verdict admitted check missesAt writtenBy written hidesAt between candidate choice blank chosen sourcesFit filledOr racingOr outcome admittedFill fill
+unfolding answer _and_ _or_ anyBelow allBelow least through tabulate walk onCycle cycleStart cycleSize trail cycle along plain atomic access barrier plainRead rmw reads writes ranked acquires releases holds meets single classIn nonPrivate makesAvailable makesVisible inside touches covers lowestShared isShared overlap pairAt quadAt countAt versionAt agentsAt rowsAt zeroAt placeAt slotAt placesOf rowsBegin sizeOf rowBytes byteOf pairOf rowOf sourceOf atomicSource decode tableOf sourcesOf agree shares together sameLocation mutualRows mutually later laterWriter follows availabilityOf visibilityOf momentOf momentIn orderedRows classesOf availability visibility moment sameAgent programOrder continues ends sequence takesFrom leads trails syncAtomics carriesOut syncFromBarrier carriesIn syncToBarrier carriesOver syncBarriers synchronizes holdingOf concernsOf holding concerns bySync toRelease fromAcquire step interThread holdsAll live interThreadBy happens sameReference coversOf pureRead publicWrite L1 L2 availableFrom visibleTo shareMoment shown met carried L3 common before clash conflict unordered unorderedNth raceNth races racesAbove racePartner hasRace raceRow raceByte beforeNth beforeSome readsFrom fromReads edgeNumber edge cycleRow cycleRows cycleEdges overwrites overwritesNth overNth overwriting overWriter isOverwritten overReader overByte consistent buffersFit versionFits limitsFit lengthFits headerFault codesFit plainFits atomicFits barrierFits semanticsFit kindFits atomicExtentFits extentFits rowFault otherClass otherClassAt classTaken writerFits sourceFits sourceBroken sameRank sameRankAt rankTaken tableFault faulty firstFault rowFaultAt admission raceOr overwrittenOr cyclicOr verdict admitted check missesAt writtenBy written hidesAt between candidate choice blank chosen sourcesFit filledOr racingOr outcome admittedFill fill
 shortcuts-hold = refl

@@ -1,7 +1,7 @@
 // Refusals 5 to 7: a row by itself.
 ghost use mathlib.Core.Path.{_≡_};
 ghost use Rattle.finite.specs.Below.{least};
-ghost use Rattle.model.specs.Refusal.{codesFit, plainFits, atomicFits, barrierFits, semanticsFit, kindFits, extentFits};
+ghost use Rattle.model.specs.Refusal.{codesFit, plainFits, atomicFits, barrierFits, semanticsFit, kindFits, atomicExtentFits, extentFits};
 ghost use Rattle.model.specs.Refusal.{rowFault, faulty};
 ghost use Rattle.table.specs.Rows.{rowFaultIn};
 use crate::choose;
@@ -97,16 +97,31 @@ pub const LONGEST: u8 = 16;
 
 pub const BYTES: u32 = 65536;
 
-// 7: an access has 1 to 16 bytes, all below 65536.
+pub const ATOMIC_SHORT: u16 = 4;
+
+pub const ATOMIC_LONG: u16 = 8;
+
+// 7, of an atomic row: 4 or 8 bytes, whose number divides the start.
+pub fn atomic_extent_fits(r: Row) -> bool
+    ensures { λ b. ⌜ b ≡ atomicExtentFits r ⌝ }
+{
+    let size = r.size as u16;
+    (size == ATOMIC_SHORT) & (r.start % ATOMIC_SHORT == 0)
+        | (size == ATOMIC_LONG) & (r.start % ATOMIC_LONG == 0)
+}
+
+// 7: an access has 1 to 16 bytes, all below 65536, and an atomic row those of an atomic.
 pub fn extent_fits(r: Row) -> bool
     ensures { λ b. ⌜ b ≡ extentFits r ⌝ }
 {
     let end = (r.start as u32) + (r.size as u32);
-    !kinds::is_access(r) | (1 <= r.size) & (r.size <= LONGEST) & (end <= BYTES)
+    (!kinds::is_access(r) | (1 <= r.size) & (r.size <= LONGEST) & (end <= BYTES))
+        & (!kinds::is_atomic(r) | atomic_extent_fits(r))
 }
 
 // Refusals 5 to 7 of a row, or 0.
-// Ruled out: a barrier of class 4 gets 6, though 5 comes first; an access passes that goes on past the last byte.
+// Ruled out: a barrier of class 4 gets 6, though 5 comes first; an access passes that goes on past the last byte, or an
+// atomic of 8 bytes that starts at a multiple of 4.
 pub fn row_fault(agents: u8, r: Row, source: Source) -> u8
     ensures { λ n. ⌜ n ≡ rowFault agents r (source .0) ⌝ }
 {

@@ -212,7 +212,12 @@ fn crowded_row(random: &mut Random) -> Row {
         row.scope(scope)
     };
     let reference = random.pick(&[0, 0, 1]);
-    let row = row.bytes(random.pick(&[0, 0, 0, 2]), random.pick(&[4, 4, 4, 2]));
+    let (start, length) = if row.is_plain() {
+        (random.pick(&[0, 0, 0, 2]), random.pick(&[4, 4, 4, 2]))
+    } else {
+        random.pick(&[(0, 4), (0, 4), (0, 4), (4, 4), (0, 8)])
+    };
+    let row = row.bytes(start, length);
     row.reference(reference).class(reference as u8)
 }
 

@@ -143,10 +143,16 @@ fn fits_barrier(row: Row) -> bool {
             && row.reference == 0)
 }
 
-/// Refusal 7: an access of length 0 or over 16, or past byte 65535.
+/// Refusal 7: an access of length 0 or over 16, or past byte 65535; an atomic
+/// of another length than 4 or 8, or whose length doesn't divide its start.
 fn refusal_7(row: Row) -> bool {
-    row.is_access()
-        && (row.length == 0 || usize::from(row.length) > MAX_LENGTH || row.end_byte() > 65536)
+    let bad_access =
+        row.length == 0 || usize::from(row.length) > MAX_LENGTH || row.end_byte() > 65536;
+    let bad_atomic = match row.length {
+        4 | 8 => row.start % u16::from(row.length) != 0,
+        _ => true,
+    };
+    (row.is_access() && bad_access) || (row.is_atomic() && bad_atomic)
 }
 
 impl State {

@@ -111,6 +111,7 @@ fn generated_tables_reach_the_rules() {
     let mut synchronized = BTreeMap::new();
     let (mut kinds, mut scopes, mut class_sets) =
         (BTreeSet::new(), BTreeSet::new(), BTreeSet::new());
+    let mut atomic_lengths = BTreeSet::new();
     let mut equal_ranks = 0;
     for _ in 0..600 {
         let table = checkable(&mut random, MIDDLE);
@@ -119,6 +120,10 @@ fn generated_tables_reach_the_rules() {
             kinds.insert((x.kind, x.order, x.flags));
             scopes.insert((x.kind, x.scope));
             class_sets.insert(x.classes);
+            if x.is_atomic() {
+                assert!(x.has_atomic_bytes());
+                atomic_lengths.insert((x.kind, x.length));
+            }
             for (b, y) in table.rows.iter().enumerate() {
                 if state.synchronizes_with(a, b) {
                     let barriers = (x.kind == kind::BARRIER, y.kind == kind::BARRIER);
@@ -138,6 +143,8 @@ fn generated_tables_reach_the_rules() {
     assert_eq!(kinds.len(), 6 + 3 + 3 + 9 + 8);
     // Every kind in every scope.
     assert_eq!(scopes.len(), 6 * 5);
+    // Every atomic kind in both lengths.
+    assert_eq!(atomic_lengths.len(), 3 * 2);
     assert!(equal_ranks > 20);
 }
 

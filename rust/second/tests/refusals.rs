@@ -160,8 +160,63 @@ fn refusal_6_barriers() {
 #[test]
 fn refusal_7_bytes() {
     assert_eq!(check_rows(|rows| rows[3].length = 0), "refused 7 3");
-    assert_eq!(check_rows(|rows| rows[2].length = 17), "refused 7 2");
-    assert_eq!(check_rows(|rows| rows[1].start = 65533), "refused 7 1");
+    assert_eq!(check_rows(|rows| rows[3].length = 17), "refused 7 3");
+    assert_eq!(check_rows(|rows| rows[0].start = 65533), "refused 7 0");
+}
+
+/// Checks P with an atomic of each kind added as its fifth row; all three
+/// have one answer.
+fn check_atomics(start: u16, length: u8) -> String {
+    let rows = [
+        Row::atomic_read(1, INITIAL),
+        Row::atomic_write(1, 7),
+        Row::rmw(1, INITIAL, 7),
+    ];
+    let answers = rows.map(|row| check_added(row.bytes(start, length).reference(9)));
+    assert!(answers.iter().all(|answer| *answer == answers[0]));
+    answers[0].clone()
+}
+
+#[test]
+fn refusal_7_bytes_of_atomics() {
+    for length in 0..=255 {
+        let fits = matches!(length, 4 | 8);
+        let answer = if fits { "race-free" } else { "refused 7 4" };
+        assert_eq!(check_atomics(4096, length), answer, "{length} bytes");
+    }
+    for start in 64..100 {
+        for length in [4, 8] {
+            let fits = start % u16::from(length) == 0;
+            let answer = if fits { "race-free" } else { "refused 7 4" };
+            assert_eq!(check_atomics(start, length), answer, "{length} at {start}");
+        }
+    }
+    assert_eq!(check_atomics(65532, 4), "race-free");
+    assert_eq!(check_atomics(65528, 8), "race-free");
+    assert_eq!(check_atomics(65532, 8), "refused 7 4");
+    // A plain row of the same bytes passes.
+    let plain = |length| check_added(Row::write(1).bytes(66, length).reference(9));
+    assert!((1..=16).all(|length| plain(length) == "race-free"));
+}
+
+#[test]
+fn refusal_7_of_an_atomic_comes_in_its_place() {
+    let three_bytes = |row: Row| row.bytes(8, 3);
+    // After its own 6, before a later row's 5 and before any 8.
+    assert_eq!(
+        check_rows(|rows| rows[1] = three_bytes(rows[1]).order(BOTH, 1)),
+        "refused 6 1"
+    );
+    let two = |rows: &mut [Row]| {
+        rows[1] = three_bytes(rows[1]);
+        rows[3].scope = 5;
+    };
+    assert_eq!(check_rows(two), "refused 7 1");
+    let two = |rows: &mut [Row]| {
+        rows[1].class = 1;
+        rows[2] = three_bytes(rows[2]);
+    };
+    assert_eq!(check_rows(two), "refused 7 2");
 }
 
 #[test]

@@ -201,6 +201,15 @@ impl Row {
         self.kind < kind::ATOMIC_READ
     }
 
+    pub fn is_atomic(self) -> bool {
+        self.is_access() && !self.is_plain()
+    }
+
+    /// Whether the row's bytes may be those of an atomic.
+    pub fn has_atomic_bytes(self) -> bool {
+        matches!(self.length, 4 | 8) && self.start % u16::from(self.length) == 0
+    }
+
     pub fn reads(self) -> bool {
         matches!(self.kind, kind::PLAIN_READ | kind::ATOMIC_READ | kind::RMW)
     }

@@ -141,12 +141,27 @@ fn damage_barrier(random: &mut Random, row: &mut Row) {
 }
 
 fn damage_bytes_of_row(random: &mut Random, row: &mut Row) {
+    if row.is_atomic() && random.percent(60) {
+        return damage_atomic_bytes(random, row);
+    }
     match random.below(3) {
         0 => row.length = 0,
         1 => row.length = random.pick(&[17, 18, 255]),
         _ => {
             row.length = row.length.max(2);
             row.start = u16::MAX - random.below(usize::from(row.length) - 1) as u16;
+        }
+    }
+}
+
+/// Gives an atomic a length or a start that only a plain row may have.
+fn damage_atomic_bytes(random: &mut Random, row: &mut Row) {
+    match random.below(3) {
+        0 => row.length = random.pick(&[1, 2, 3, 5, 6, 7, 12, 16]),
+        1 => row.start = row.start - row.start % 4 + random.pick(&[1, 2, 3]),
+        _ => {
+            row.length = 8;
+            row.start = row.start - row.start % 8 + 4;
         }
     }
 }

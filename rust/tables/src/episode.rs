@@ -56,6 +56,18 @@ impl Ground {
         }
     }
 
+    /// Bytes that an atomic may have.
+    fn atomic_place(&mut self, random: &mut Random) -> Place {
+        let length = random.pick(&[4, 4, 4, 8]);
+        self.align(length);
+        self.place(random, length)
+    }
+
+    /// Goes on to a multiple of the length.
+    fn align(&mut self, length: u8) {
+        self.next_start = self.next_start.next_multiple_of(u16::from(length));
+    }
+
     fn place(&mut self, random: &mut Random, length: u8) -> Place {
         let class = random.pick(&[0, 0, 0, 1, 1, 2, 3]);
         // The last bytes that there are go to one place now and then.
@@ -143,8 +155,12 @@ impl<'a> Episode<'a> {
         let narrowest = common_scope(&agents, places);
         let scope = random.between(usize::from(narrowest), usize::from(scope::DEVICE)) as u8;
         let length = random.pick(&[1, 2, 4, 4, 4, 8, 16]);
+        // Data that lies so may be updated by atomics as well.
+        if random.percent(80) {
+            ground.align(length);
+        }
         let data = ground.place(random, length);
-        let flag = ground.place(random, 4);
+        let flag = ground.atomic_place(random);
         let extra = random.pick(&[0, 0, 0, 1, 2, 4, 8, 15]);
         let barrier_share = random.pick(&[0, 30, 30, 50, 100]);
         // Only barriers need the flag's class.
@@ -333,7 +349,7 @@ impl<'a> Episode<'a> {
     /// A hand-over by a flag of its own.
     fn order_by_second_flag(&mut self, ground: &mut Ground, from: u8, to: u8) {
         let first = self.flag;
-        self.flag = ground.place(self.random, 4);
+        self.flag = ground.atomic_place(self.random);
         self.classes |= self.flag.class_bit();
         self.last_flag_writer = INITIAL;
         self.hand_over(from, to);
@@ -484,16 +500,14 @@ impl<'a> Episode<'a> {
     }
 
     /// An atomic write of all the data, or an RMW if its bytes have one
-    /// latest writer.
+    /// latest writer. Bytes that no atomic may have are written plainly.
     fn update_data(&mut self, agent: u8) {
-        if self.by_rows {
+        let row = self.data.of(Row::atomic_write(agent, 0));
+        if self.by_rows || !row.has_atomic_bytes() {
             return self.write_data(agent);
         }
         let rank = self.next_rank();
-        let mut row = self
-            .data
-            .of(Row::atomic_write(agent, rank))
-            .scope(self.scope);
+        let mut row = Row { rank, ..row }.scope(self.scope);
         if let Some(writer) = self.latest_writer(row) {
             if self.rows[writer].covers(row) {
                 row.kind = kind::RMW;

@@ -227,10 +227,12 @@ fn fills() -> Vec<Named> {
 
 fn forms() -> Vec<Named> {
     let too_long = [Row::write(0), Row::read(0, INITIAL).bytes(100, 17)];
+    let odd_atomic = [Row::write(0), Row::atomic_write(0, 1).bytes(100, 3)];
     let wrong_class = [Row::write(0), Row::write(0).bytes(8, 4).class(2)];
     vec![
         ("empty", Table::default()),
         ("too-long", Table::of_one_workgroup(1, &too_long)),
+        ("odd-atomic", Table::of_one_workgroup(1, &odd_atomic)),
         ("wrong-class", Table::of_one_workgroup(1, &wrong_class)),
     ]
 }

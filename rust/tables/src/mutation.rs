@@ -43,11 +43,12 @@ fn change_access(random: &mut Random, row: &mut Row) {
     match random.below(4) {
         0 => row.kind = random.below(5) as u8,
         1 => row.length = random.between(1, 16) as u8,
-        2 => {
+        2 if row.is_plain() => {
             row.start = row
                 .start
                 .wrapping_add(random.pick(&[1, 2, 4, 65535, 65534]))
         }
+        2 => row.start = row.start.wrapping_add(random.pick(&[4, 8, 65532, 65528])),
         _ => row.rank = row.rank.wrapping_add(random.pick(&[1, 2, 65535])),
     }
 }
@@ -299,6 +300,10 @@ fn repair_semantics(random: &mut Random, row: &mut Row) {
 }
 
 fn repair_bytes(row: &mut Row) {
+    if row.is_atomic() {
+        row.length = if row.length < 8 { 4 } else { 8 };
+        row.start -= row.start % u16::from(row.length);
+    }
     if row.is_access() {
         row.start = row.start.min(u16::MAX - u16::from(row.length) + 1);
     }

@@ -18,31 +18,31 @@ Inv-loop rows agents n i₀ i = (i ≤ n) × (least i (faulty (rowFaultIn agents
 abbrev μ-loop : tie.MeasureT-loop
 μ-loop rows agents n i₀ i = n - i
 
--- src/row_faults.rt:126:5
+-- src/row_faults.rt:144:5
 loop-holds : tie.Need-loop-holds Inv-loop μ-loop
 loop-holds c = (search needs, least-none _)
 
--- src/row_faults.rt:127:12
+-- src/row_faults.rt:145:12
 row-fault-at-requires : tie.Need-row-fault-at-requires Inv-loop μ-loop
 row-fault-at-requires c κs = search needs
 
--- src/row_faults.rt:128:13
+-- src/row_faults.rt:146:13
 returns : tie.Need-returns Inv-loop μ-loop
 returns c = sym (least-found _ _ _ (c .before .before .before .loop .inv .1) (fault-here _ _ _ (c .before .row-fault-at .ensures) (c .if1 .taken)) (c .before .before .loop-test .taken))
 
--- src/row_faults.rt:126:9
+-- src/row_faults.rt:144:9
 add-i : tie.Need-add-i Inv-loop μ-loop
 add-i c = search needs
 
--- src/row_faults.rt:126:5
+-- src/row_faults.rt:144:5
 loop-less : tie.Need-loop-less Inv-loop μ-loop
 loop-less c = search needs
 
--- src/row_faults.rt:126:5
+-- src/row_faults.rt:144:5
 loop-again : tie.Need-loop-again Inv-loop μ-loop
 loop-again c = (search needs, least-more _ _ (c .before .before .before .loop .inv .1) (fault-none _ _ _ (c .before .row-fault-at .ensures) (c .if1 .left)))
 
--- src/row_faults.rt:123:1
+-- src/row_faults.rt:141:1
 returns-2 : tie.Need-returns-2 Inv-loop μ-loop
 returns-2 c =
     let done : c .before .loop .i ≡ c .before .before .before .args .n = omega arith in

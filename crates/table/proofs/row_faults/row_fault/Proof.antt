@@ -9,31 +9,31 @@ use Rattle.table.proofs.row_faults.codes_fit.Reads as codes-fit-reads
 use Rattle.table.proofs.row_faults.extent_fits.Reads as extent-fits-reads
 use Rattle.table.proofs.row_faults.kind_fits.Reads as kind-fits-reads
 
--- src/row_faults.rt:111:22
+-- src/row_faults.rt:128:22
 kind-fits-requires : tie.Need-kind-fits-requires
 kind-fits-requires c κs = search needs
 
--- src/row_faults.rt:111:49
+-- src/row_faults.rt:128:49
 extent-fits-requires : tie.Need-extent-fits-requires
 extent-fits-requires c κs = search needs
 
--- src/row_faults.rt:111:44
+-- src/row_faults.rt:128:44
 pick-requires : tie.Need-pick-requires
 pick-requires c κs = search needs
 
--- src/row_faults.rt:111:9
+-- src/row_faults.rt:128:9
 pick-requires-2 : tie.Need-pick-requires-2
 pick-requires-2 c κs = search needs
 
--- src/row_faults.rt:112:10
+-- src/row_faults.rt:129:10
 codes-fit-requires : tie.Need-codes-fit-requires
 codes-fit-requires c κs = search needs
 
--- src/row_faults.rt:112:5
+-- src/row_faults.rt:129:5
 pick-requires-3 : tie.Need-pick-requires-3
 pick-requires-3 c κs = search needs
 
--- src/row_faults.rt:108:1
+-- src/row_faults.rt:125:1
 returns : tie.Need-returns
 returns c =
     let inner = c .before .before in

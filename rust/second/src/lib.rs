@@ -14,17 +14,19 @@
 //! | L1 to L3, conflicts and races | `location` |
 //! | edges, axioms A and B, canonical cycle | `axioms` |
 //! | fillings | `filling` |
+//! | the rules one by one, for those who put an answer into words | `facts` |
 
 mod admission;
 mod answer;
 mod axioms;
+mod facts;
 mod filling;
 mod happens_before;
 mod location;
 mod moments;
 mod state;
 mod synchronization;
-mod table;
+pub mod table;
 
 pub use answer::{CheckAnswer, FillAnswer, List};
 pub use happens_before::{ACQUIRE_STEP, RELEASE_STEP, SYNCHRONIZES_STEP};

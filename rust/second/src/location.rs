@@ -42,7 +42,7 @@ impl State {
     }
 
     /// L1: agent and reference agree, and X happens-before Y.
-    fn l1(&self, x: usize, y: usize) -> bool {
+    pub(crate) fn l1(&self, x: usize, y: usize) -> bool {
         self.rows[x].agent == self.rows[y].agent
             && self.rows[x].reference == self.rows[y].reference
             && self.happens_before(at(x), at(y))
@@ -50,7 +50,7 @@ impl State {
 
     /// L2: X reads and doesn't write, both are non-private, and X
     /// happens-before Y.
-    fn l2(&self, x: usize, y: usize) -> bool {
+    pub(crate) fn l2(&self, x: usize, y: usize) -> bool {
         self.rows[x].reads()
             && !self.rows[x].writes()
             && self.rows[x].is_non_private()
@@ -61,7 +61,7 @@ impl State {
     /// L3: X writes, and an availability moment after it leads to Y, or to a
     /// visibility moment before Y if Y reads. An RMW writes as X and reads as
     /// Y, so it is held to the harder rule on each side.
-    fn l3(&self, x: usize, y: usize, byte: u32) -> bool {
+    pub(crate) fn l3(&self, x: usize, y: usize, byte: u32) -> bool {
         self.rows[x].writes()
             && self.rows[x].is_non_private()
             && self.rows[y].is_non_private()
@@ -78,24 +78,27 @@ impl State {
 
     /// L3: an availability moment of X's agent, covering X's reference and
     /// the byte, program-ordered after X, its scope shared by the agents.
-    fn l3_availability(&self, moment: usize, x: usize, y: usize, byte: u32) -> bool {
+    pub(crate) fn l3_availability(&self, moment: usize, x: usize, y: usize, byte: u32) -> bool {
         self.is_availability_moment(moment)
             && self.program_order(at(x), moment)
             && self.moment_covers(moment, self.rows[x], byte)
             && self.shares_moments_scope(moment, x, y)
     }
 
-    /// L3: the availability moment happens-before a visibility moment of Y's
-    /// agent, covering Y's reference and the byte, program-ordered before Y,
-    /// its scope shared by the agents.
+    /// L3: the availability moment happens-before such a visibility moment.
     fn l3_reaches_visibility(&self, available: usize, x: usize, y: usize, byte: u32) -> bool {
         (0..self.moment_count()).any(|visible| {
-            self.is_visibility_moment(visible)
-                && self.program_order(visible, at(y))
-                && self.moment_covers(visible, self.rows[y], byte)
-                && self.shares_moments_scope(visible, x, y)
-                && self.happens_before(available, visible)
+            self.l3_visibility(visible, x, y, byte) && self.happens_before(available, visible)
         })
+    }
+
+    /// L3: a visibility moment of Y's agent, covering Y's reference and the
+    /// byte, program-ordered before Y, its scope shared by the agents.
+    pub(crate) fn l3_visibility(&self, moment: usize, x: usize, y: usize, byte: u32) -> bool {
+        self.is_visibility_moment(moment)
+            && self.program_order(moment, at(y))
+            && self.moment_covers(moment, self.rows[y], byte)
+            && self.shares_moments_scope(moment, x, y)
     }
 
     fn shares_moments_scope(&self, moment: usize, x: usize, y: usize) -> bool {

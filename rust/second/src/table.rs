@@ -5,35 +5,35 @@ pub const INITIAL: u16 = 65535;
 /// Source number for a blank.
 pub const BLANK: u16 = 65534;
 
-pub(crate) const HEADER_BYTES: usize = 8;
-pub(crate) const AGENT_BYTES: usize = 6;
-pub(crate) const ROW_BYTES: usize = 16;
+pub const HEADER_BYTES: usize = 8;
+pub const AGENT_BYTES: usize = 6;
+pub const ROW_BYTES: usize = 16;
 
-pub(crate) const PLAIN_READ: u8 = 0;
-pub(crate) const PLAIN_WRITE: u8 = 1;
-pub(crate) const ATOMIC_READ: u8 = 2;
-pub(crate) const ATOMIC_WRITE: u8 = 3;
-pub(crate) const ATOMIC_RMW: u8 = 4;
-pub(crate) const BARRIER: u8 = 5;
+pub const PLAIN_READ: u8 = 0;
+pub const PLAIN_WRITE: u8 = 1;
+pub const ATOMIC_READ: u8 = 2;
+pub const ATOMIC_WRITE: u8 = 3;
+pub const ATOMIC_RMW: u8 = 4;
+pub const BARRIER: u8 = 5;
 
-pub(crate) const RELAXED: u8 = 0;
-pub(crate) const ACQUIRE: u8 = 1;
-pub(crate) const RELEASE: u8 = 2;
-pub(crate) const BOTH: u8 = 3;
+pub const RELAXED: u8 = 0;
+pub const ACQUIRE: u8 = 1;
+pub const RELEASE: u8 = 2;
+pub const BOTH: u8 = 3;
 
-pub(crate) const INVOCATION: u8 = 0;
-pub(crate) const SUBGROUP: u8 = 1;
-pub(crate) const WORKGROUP: u8 = 2;
-pub(crate) const FAMILY: u8 = 3;
-pub(crate) const DEVICE: u8 = 4;
+pub const INVOCATION: u8 = 0;
+pub const SUBGROUP: u8 = 1;
+pub const WORKGROUP: u8 = 2;
+pub const FAMILY: u8 = 3;
+pub const DEVICE: u8 = 4;
 
-const NON_PRIVATE: u8 = 1;
-const MAKE_AVAILABLE: u8 = 2;
-const MAKE_VISIBLE: u8 = 4;
+pub const NON_PRIVATE: u8 = 1;
+pub const MAKE_AVAILABLE: u8 = 2;
+pub const MAKE_VISIBLE: u8 = 4;
 
 /// One row, field by field in the table's order.
-#[derive(Clone, Copy, Default)]
-pub(crate) struct Row {
+#[derive(Clone, Copy, Debug, Default, PartialEq, Eq)]
+pub struct Row {
     pub kind: u8,
     pub agent: u8,
     pub order: u8,
@@ -159,7 +159,7 @@ pub(crate) fn four_bytes(bytes: &[u8], at: usize) -> u32 {
 }
 
 /// Family, workgroup and subgroup numbers of an agent.
-pub(crate) fn agent_places(table: &[u8], agent: usize) -> [u16; 3] {
+pub fn agent_places(table: &[u8], agent: usize) -> [u16; 3] {
     let at = HEADER_BYTES + AGENT_BYTES * agent;
     [
         two_bytes(table, at),
@@ -168,7 +168,7 @@ pub(crate) fn agent_places(table: &[u8], agent: usize) -> [u16; 3] {
     ]
 }
 
-pub(crate) fn row_of(table: &[u8], agent_count: usize, row: usize) -> Row {
+pub fn row_of(table: &[u8], agent_count: usize, row: usize) -> Row {
     let at = HEADER_BYTES + AGENT_BYTES * agent_count + ROW_BYTES * row;
     Row::from_bytes(&table[at..at + ROW_BYTES])
 }

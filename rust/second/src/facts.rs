@@ -1,0 +1,79 @@
+//! The rules one by one, for those who put an answer into words. Each is
+//! asked of the last admitted table; a row that it doesn't have has no facts.
+
+use crate::state::State;
+use crate::table::Row;
+
+impl State {
+    /// Rows of the last admitted table, none after a refusal.
+    pub fn rows(&self) -> &[Row] {
+        &self.rows[..self.row_count]
+    }
+
+    fn are_rows(&self, first: usize, second: usize) -> bool {
+        first < self.row_count && second < self.row_count
+    }
+
+    /// M1: program order of two moments.
+    pub fn in_program_order(&self, first: usize, second: usize) -> bool {
+        self.program_order(first, second)
+    }
+
+    /// M2: whether two agents share a scope.
+    pub fn share_scope(&self, first: u8, second: u8, scope: u8) -> bool {
+        self.m2_share(first, second, scope)
+    }
+
+    /// M3: scoped modification order of two rows.
+    pub fn modification_order(&self, first: usize, second: usize) -> bool {
+        self.are_rows(first, second) && self.m3_modification_order(first, second)
+    }
+
+    /// M4: whether a row is in the release sequence that another heads.
+    pub fn in_release_sequence(&self, head: usize, member: usize) -> bool {
+        self.are_rows(head, member) && self.m4_release_sequence(head, member)
+    }
+
+    /// The row that a row reads from; none for the initial value, a blank and
+    /// a row that doesn't read.
+    pub fn read_from(&self, reader: usize) -> Option<usize> {
+        self.rows().get(reader).and(self.source_row(reader))
+    }
+
+    /// Whether two different rows conflict.
+    pub fn conflicting(&self, first: usize, second: usize) -> bool {
+        first != second && self.are_rows(first, second) && self.conflict(first, second)
+    }
+
+    /// Whether two rows race at a byte.
+    pub fn races_at(&self, first: usize, second: usize, byte: u32) -> bool {
+        self.conflicting(first, second)
+            && self.rows[first].has_byte(byte)
+            && self.rows[second].has_byte(byte)
+            && !self.mutually_ordered(first, second)
+            && !self.location_order(first, second, byte)
+            && !self.location_order(second, first, byte)
+    }
+
+    /// Which of L1, L2 and L3 order a row before another at a byte of both.
+    pub fn rules_at(&self, first: usize, second: usize, byte: u32) -> [bool; 3] {
+        if !self.location_order(first, second, byte) {
+            return [false; 3];
+        }
+        [
+            self.l1(first, second),
+            self.l2(first, second),
+            self.l3(first, second, byte),
+        ]
+    }
+
+    /// L3: whether a moment makes the byte of a row available to another's agent.
+    pub fn makes_available(&self, moment: usize, x: usize, y: usize, byte: u32) -> bool {
+        self.are_rows(x, y) && self.l3_availability(moment, x, y, byte)
+    }
+
+    /// L3: whether a moment makes a row's byte visible to another row.
+    pub fn makes_visible(&self, moment: usize, x: usize, y: usize, byte: u32) -> bool {
+        self.are_rows(x, y) && self.l3_visibility(moment, x, y, byte)
+    }
+}

@@ -1,0 +1,295 @@
+//! The search for what would order two racing rows: each change of the
+//! catalogue alone, then two together. A cure is one only if the edited table
+//! is well formed and the rows no longer race at the byte; both are asked of
+//! the second implementation and of the proved checker.
+
+use crate::account::Checked;
+use crate::catalogue::catalogue;
+use crate::change::{Change, Goal};
+use crate::edit::{edited, merged, Edit, Field};
+use crate::reason::Reason;
+use crate::run::Run;
+use second::table::*;
+use second::{CheckAnswer, State, CYCLE_NUMBERS, WORK_WORDS};
+use std::collections::HashSet;
+use stramashly::Checker;
+
+/// One or two changes that order the rows.
+#[derive(Clone, Debug)]
+pub struct Cure {
+    pub changes: Vec<Change>,
+    /// The changes as edits, one for each field.
+    pub edits: Vec<Edit>,
+    /// What orders the rows then.
+    pub order: String,
+    /// What a check answers then.
+    pub answer: String,
+}
+
+/// What the search found.
+#[derive(Clone, Debug, Default)]
+pub struct Search {
+    pub cures: Vec<Cure>,
+    /// How many changes were tried alone.
+    pub tried: usize,
+    /// Whether it ended before every pair of changes was tried.
+    pub is_cut: bool,
+}
+
+/// So many pairs of changes are shown at most; more only tire.
+const ENOUGH_PAIRS: usize = 6;
+
+/// Tries changes until the budget is used up.
+struct Searcher<'a> {
+    table: &'a [u8],
+    goal: Goal,
+    checker: &'a mut Checker,
+    state: State,
+    run: Run,
+    /// Checks that may still be made.
+    budget: usize,
+}
+
+/// Looks for cures of a table's race; `checked` is the table as it is.
+pub fn search(table: &[u8], checked: Checked, goal: Goal, checker: &mut Checker) -> Search {
+    let rows = checked.run.rows.len();
+    let mut searcher = Searcher {
+        table,
+        goal,
+        checker,
+        state: State::new(),
+        run: Run::default(),
+        // A check takes time with the square of the rows, at the least.
+        budget: 2_000_000 / ((rows + 8) * (rows + 8)),
+    };
+    let mut changes = catalogue(checked, goal);
+    changes.sort_by_key(|change| distance(checked.run, goal, change.edits[0].row));
+    let mut cures = searcher.alone(&changes);
+    if cures.is_empty() {
+        cures = searcher.two_together(&changes);
+    }
+    cures.sort_by_key(rank);
+    Search {
+        cures: without_needless(&cures),
+        tried: changes.len(),
+        is_cut: searcher.budget == 0,
+    }
+}
+
+/// How little a row may have to do with a race: rows of the racing agents
+/// come first, those near the racing rows before others.
+fn distance(run: &Run, goal: Goal, row: usize) -> (bool, usize, usize) {
+    let racing = [goal.first, goal.second];
+    let agents = racing.map(|racing| run.rows[racing].agent);
+    let is_others = !agents.contains(&run.rows[row].agent);
+    let steps = racing.map(|racing| racing.abs_diff(row));
+    (is_others, steps[0].min(steps[1]), row)
+}
+
+/// Cures of the program before those of the run, those that leave no other
+/// trouble first, then those of fewest fields.
+fn rank(cure: &Cure) -> (usize, bool, usize) {
+    let trouble = match cure.answer.split(' ').next() {
+        Some("race-free") => 0,
+        Some("race") => 1,
+        _ => 2,
+    };
+    let is_other_run = cure
+        .changes
+        .iter()
+        .any(|change| matches!(change.reason, Reason::OtherSource { .. }));
+    (trouble, is_other_run, cure.edits.len())
+}
+
+/// The cures that do no more than another one and something besides are left out.
+fn without_needless(cures: &[Cure]) -> Vec<Cure> {
+    let is_needless = |cure: &Cure| {
+        cures
+            .iter()
+            .any(|less| less.edits != cure.edits && contains(&cure.edits, &less.edits))
+    };
+    let needed = cures.iter().filter(|cure| !is_needless(cure));
+    needed.cloned().collect()
+}
+
+/// Whether edits do all that others do, or more.
+fn contains(edits: &[Edit], others: &[Edit]) -> bool {
+    let does = |edit: &Edit, other: &Edit| {
+        (edit.row, edit.field) == (other.row, other.field)
+            && match edit.field {
+                Field::Flags | Field::Classes => edit.value & other.value == other.value,
+                Field::Scope => edit.value >= other.value,
+                _ => edit.value == other.value,
+            }
+    };
+    others
+        .iter()
+        .all(|other| edits.iter().any(|edit| does(edit, other)))
+}
+
+impl Searcher<'_> {
+    /// Whether the rows no longer race in the edited table; none if it is
+    /// refused or may not be asked any more.
+    fn mends(&mut self, edits: &[Edit]) -> Option<bool> {
+        self.budget = self.budget.checked_sub(1)?;
+        let table = edited(self.table, edits);
+        let answer = self.state.check(&table, WORK_WORDS, CYCLE_NUMBERS);
+        if let CheckAnswer::Refused { .. } = answer {
+            return None;
+        }
+        let Goal {
+            first,
+            second,
+            byte,
+        } = self.goal;
+        Some(!self.state.races_at(first, second, byte))
+    }
+
+    /// The cure, if these changes are one.
+    fn cure(&mut self, changes: &[&Change], edits: Vec<Edit>) -> Option<Cure> {
+        if self.mends(&edits) != Some(true) {
+            return None;
+        }
+        let table = edited(self.table, &edits);
+        let answer = self.checker.check(&table).to_string();
+        let Goal {
+            first,
+            second,
+            byte,
+        } = self.goal;
+        let is_told = answer == format!("race {first} {second} {byte}");
+        if is_told || answer.starts_with("refused") {
+            return None;
+        }
+        self.run = Run::of(&table);
+        Some(Cure {
+            changes: changes.iter().map(|change| (*change).clone()).collect(),
+            edits,
+            order: self.order_words(),
+            answer,
+        })
+    }
+
+    /// What orders the rows in the table checked last.
+    fn order_words(&self) -> String {
+        let Goal {
+            first,
+            second,
+            byte,
+        } = self.goal;
+        if self.state.mutually_ordered(first, second) {
+            return "they are mutually-ordered".to_string();
+        }
+        let checked = Checked {
+            state: &self.state,
+            run: &self.run,
+        };
+        let forth = checked.ordered(first, second, byte);
+        let back = checked.ordered(second, first, byte);
+        match (forth, back) {
+            (Some(ordered), _) => format!("L{} puts row {first} first", ordered.rule),
+            (None, Some(ordered)) => format!("L{} puts row {second} first", ordered.rule),
+            (None, None) => unreachable!("a cure orders the rows"),
+        }
+    }
+
+    fn alone(&mut self, changes: &[Change]) -> Vec<Cure> {
+        let mut cured = HashSet::new();
+        let mut cures = Vec::new();
+        for change in changes {
+            if !cured.contains(&change.group) {
+                let found = self.cure(&[change], change.edits.clone());
+                cured.extend(found.as_ref().map(|_| change.group));
+                cures.extend(found);
+            }
+        }
+        cures
+    }
+
+    /// Pairs of changes, of the rows that come first in the list first.
+    fn two_together(&mut self, changes: &[Change]) -> Vec<Cure> {
+        let by_row: Vec<&[Change]> = changes
+            .chunk_by(|first, second| first.edits[0].row == second.edits[0].row)
+            .collect();
+        let mut cures = Vec::new();
+        for sum in 0..2 * by_row.len() {
+            for first in sum.saturating_sub(by_row.len() - 1)..=sum / 2 {
+                if self.budget == 0 || cures.len() >= ENOUGH_PAIRS {
+                    return cures;
+                }
+                cures.extend(self.of_two_rows(by_row[first], by_row[sum - first]));
+            }
+        }
+        cures
+    }
+
+    /// Pairs of changes of two rows, or of one.
+    fn of_two_rows(&mut self, firsts: &[Change], seconds: &[Change]) -> Vec<Cure> {
+        let rows = [firsts[0].edits[0].row, seconds[0].edits[0].row];
+        let are_hopeful = self.is_hopeful(&[], &rows);
+        let mut cured = HashSet::new();
+        let mut cures = Vec::new();
+        for first in firsts {
+            for second in seconds {
+                let groups = (first.group, second.group);
+                // One row's pairs come up twice.
+                let is_seen = rows[0] == rows[1] && groups.0 >= groups.1;
+                // Another source or kind isn't among what a row may have.
+                let may_do = are_hopeful || !(first.is_stronger && second.is_stronger);
+                if is_seen || !may_do || cured.contains(&groups) {
+                    continue;
+                }
+                let edits = merged(&first.edits, &second.edits);
+                if let Some(cure) = edits.and_then(|edits| self.cure(&[first, second], edits)) {
+                    cured.insert(groups);
+                    cures.push(cure);
+                }
+            }
+        }
+        cures
+    }
+
+    /// Whether rows would do with all that they may have, in the scopes they
+    /// have or in the widest. A refused table says nothing.
+    fn is_hopeful(&mut self, edits: &[Edit], rows: &[usize]) -> bool {
+        [false, true].into_iter().any(|is_wide| {
+            let run = Run::of(self.table);
+            let strong: Vec<Edit> = rows
+                .iter()
+                .flat_map(|row| strongest(*row, run.rows[*row], is_wide))
+                .collect();
+            match merged(edits, &strong) {
+                Some(edits) => self.mends(&edits).unwrap_or(true),
+                None => true,
+            }
+        })
+    }
+}
+
+/// A row with every flag, class and order that it may have.
+fn strongest(row: usize, fields: Row, is_wide: bool) -> Vec<Edit> {
+    let order = match fields.kind {
+        PLAIN_READ | PLAIN_WRITE => RELAXED,
+        ATOMIC_READ => ACQUIRE,
+        ATOMIC_WRITE => RELEASE,
+        _ => BOTH,
+    };
+    let classes: u8 = if order == RELAXED { 0 } else { 15 };
+    let is_plain = fields.is_plain();
+    let mut flags = if fields.is_barrier() { 0 } else { NON_PRIVATE };
+    if order & RELEASE != 0 || is_plain && fields.writes() {
+        flags |= MAKE_AVAILABLE;
+    }
+    if order & ACQUIRE != 0 || is_plain && fields.reads() {
+        flags |= MAKE_VISIBLE;
+    }
+    let mut edits = vec![
+        Edit::new(row, Field::Order, order),
+        Edit::new(row, Field::Classes, classes),
+        Edit::new(row, Field::Flags, flags),
+    ];
+    if is_wide || is_plain {
+        edits.push(Edit::new(row, Field::Scope, DEVICE));
+    }
+    edits
+}

@@ -1,0 +1,25 @@
+//! `draw`: the picture of a table, with the proved answer on it.
+
+use crate::account::Checked;
+use crate::explain::{shown, Shown};
+use crate::picture::picture;
+use crate::run::Run;
+use second::{State, CYCLE_NUMBERS, WORK_WORDS};
+use stramashly::{CheckAnswer, Checker};
+
+/// The table as an SVG document, or the refusal of a table that has no picture.
+pub fn draw(table: &[u8], checker: &mut Checker) -> Result<String, String> {
+    let answer = checker.check(table);
+    if let CheckAnswer::Refused { .. } = answer {
+        return Err(answer.to_string());
+    }
+    let run = Run::of(table);
+    let mut state = State::new();
+    state.check(table, WORK_WORDS, CYCLE_NUMBERS);
+    let checked = Checked {
+        state: &state,
+        run: &run,
+    };
+    let shown: Shown = shown(checked, answer);
+    Ok(picture(checked, &answer.to_string(), &shown))
+}

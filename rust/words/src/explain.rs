@@ -1,0 +1,158 @@
+//! `explain`: an answer in sentences. The first line is the proved checker's
+//! own; what follows comes from the second implementation.
+
+use crate::account::Checked;
+use crate::change::Goal;
+use crate::cure::{search, Cure};
+use crate::run::Run;
+use crate::{inconsistent, race, race_free, refusal};
+use second::{State, CYCLE_NUMBERS, WORK_WORDS};
+use stramashly::{CheckAnswer, Checker};
+
+/// What an answer shows, to be pointed out in a picture.
+#[derive(Clone, Debug, PartialEq, Eq)]
+pub enum Shown {
+    Nothing,
+    Race(Goal),
+    Overwritten {
+        source: usize,
+        writer: usize,
+        reader: usize,
+        byte: u32,
+    },
+    /// Rows and the edge numbers between them, the last back to the first.
+    Cycle {
+        rows: Vec<usize>,
+        edges: Vec<u16>,
+    },
+    Refused {
+        number: u16,
+        row: usize,
+    },
+}
+
+impl Shown {
+    /// The rows that the answer names.
+    pub fn rows(&self) -> Vec<usize> {
+        match self {
+            Shown::Nothing | Shown::Refused { .. } => Vec::new(),
+            Shown::Race(goal) => vec![goal.first, goal.second],
+            Shown::Overwritten {
+                source,
+                writer,
+                reader,
+                ..
+            } => vec![*source, *writer, *reader],
+            Shown::Cycle { rows, .. } => rows.clone(),
+        }
+    }
+}
+
+/// An answer in words.
+#[derive(Clone, Debug)]
+pub struct Explanation {
+    /// What a check answers.
+    pub answer: String,
+    pub shown: Shown,
+    /// Sentences, those that go into particulars indented.
+    pub lines: Vec<String>,
+    /// What would order a racing pair.
+    pub cures: Vec<Cure>,
+}
+
+impl Explanation {
+    /// The answer and the sentences, a line each.
+    pub fn text(&self) -> String {
+        let mut text = format!("{}\n", self.answer);
+        for line in &self.lines {
+            text += line;
+            text.push('\n');
+        }
+        text
+    }
+}
+
+/// Explains a table's answer, whatever its bytes.
+pub fn explain(table: &[u8], checker: &mut Checker) -> Explanation {
+    let mut state = State::new();
+    let second = state.check(table, WORK_WORDS, CYCLE_NUMBERS).to_string();
+    let run = Run::of(table);
+    let checked = Checked {
+        state: &state,
+        run: &run,
+    };
+    let given = checker.check(table);
+    let mut explanation = Explanation {
+        answer: given.to_string(),
+        shown: shown(checked, given),
+        lines: Vec::new(),
+        cures: Vec::new(),
+    };
+    if second == explanation.answer {
+        tell(table, checked, checker, &mut explanation);
+    } else {
+        // The proved answer stands; there are no words for it.
+        explanation.lines = vec![format!(
+            "No explanation: the unproved second implementation answers `{second}`. Please report this table."
+        )];
+    }
+    explanation
+}
+
+/// Adds the sentences, and the cures of a race.
+fn tell(table: &[u8], checked: Checked, checker: &mut Checker, explanation: &mut Explanation) {
+    explanation.lines = match explanation.shown {
+        Shown::Nothing => race_free::lines(checked),
+        Shown::Refused { number, row } => refusal::lines(table, number, row),
+        Shown::Cycle {
+            ref rows,
+            ref edges,
+        } => inconsistent::cycle_lines(checked, rows, edges),
+        Shown::Overwritten {
+            source,
+            writer,
+            reader,
+            byte,
+        } => inconsistent::overwritten_lines(checked, [source, writer, reader], byte),
+        Shown::Race(goal) => {
+            let found = search(table, checked, goal, checker);
+            let lines = race::lines(checked, goal, &found);
+            explanation.cures = found.cures;
+            lines
+        }
+    };
+}
+
+/// What an answer shows of a table.
+pub fn shown(checked: Checked, answer: CheckAnswer) -> Shown {
+    match answer {
+        CheckAnswer::RaceFree => Shown::Nothing,
+        CheckAnswer::Refused { number, row } => Shown::Refused {
+            number,
+            row: row.into(),
+        },
+        CheckAnswer::Race {
+            first,
+            second,
+            byte,
+        } => Shown::Race(Goal {
+            first: first.into(),
+            second: second.into(),
+            byte: byte.into(),
+        }),
+        CheckAnswer::Overwritten {
+            reader,
+            writer,
+            byte,
+        } => Shown::Overwritten {
+            source: checked.run.rows[usize::from(reader)].source.into(),
+            writer: writer.into(),
+            reader: reader.into(),
+            byte: byte.into(),
+        },
+        CheckAnswer::Cycle { rows, edges } => Shown::Cycle {
+            rows: rows.iter().map(|row| usize::from(*row)).collect(),
+            edges: edges.to_vec(),
+        },
+    }
+}

@@ -1,0 +1,92 @@
+//! Two moments of which the first doesn't happen before the second: where
+//! the chain between them is missing.
+
+use crate::account::Checked;
+use crate::derivation::{at, moment_words};
+use crate::names;
+
+impl Checked<'_> {
+    /// Says why a moment happens before none of some others, if it doesn't.
+    pub fn not_before(&self, x: usize, y: usize, from: usize, ends: &[usize]) -> Option<String> {
+        if ends.iter().any(|to| self.state.happens_before(from, *to)) {
+            return None;
+        }
+        let rows = &self.run.rows;
+        let last = ends.iter().max().copied().unwrap_or(at(y));
+        let own = |agent: u8| (0..rows.len()).filter(move |row| rows[*row].agent == agent);
+        let gap = Gap {
+            none: format!(
+                "nothing leads from {} to {}",
+                moment_words(rows, from),
+                self.end_words(y, ends)
+            ),
+            releases: own(rows[x].agent)
+                .filter(|row| rows[*row].is_release() && at(*row) >= from)
+                .collect(),
+            acquires: own(rows[y].agent)
+                .filter(|row| rows[*row].is_acquire() && at(*row) <= last)
+                .collect(),
+        };
+        Some(self.gap_words(x, y, &gap))
+    }
+
+    fn end_words(&self, y: usize, ends: &[usize]) -> String {
+        match ends {
+            [only] => moment_words(&self.run.rows, *only),
+            _ => format!("a visibility moment for row {y}"),
+        }
+    }
+
+    fn gap_words(&self, x: usize, y: usize, gap: &Gap) -> String {
+        let (agent, other) = (self.run.rows[x].agent, self.run.rows[y].agent);
+        let none = &gap.none;
+        if agent == other {
+            return format!("{none}, which comes no later");
+        }
+        if gap.releases.is_empty() {
+            return format!("{none}: agent {agent} releases nothing from there on");
+        }
+        if gap.acquires.is_empty() {
+            return format!("{none}: agent {other} acquires nothing up to there");
+        }
+        let met = gap.releases.iter().find_map(|release| {
+            let mut acquires = gap.acquires.iter();
+            let met = acquires.find(|acquire| self.state.synchronizes_with(*release, **acquire));
+            Some((*release, *met?))
+        });
+        match met {
+            Some((release, acquire)) => self.not_carried_words(none, [x, y, release, acquire]),
+            None => format!(
+                "{none}: of agent {agent}'s releases ({}) none synchronizes with an acquire of agent {other} ({})",
+                row_list(&gap.releases),
+                row_list(&gap.acquires)
+            ),
+        }
+    }
+
+    fn not_carried_words(&self, none: &str, [x, y, release, acquire]: [usize; 4]) -> String {
+        let rows = &self.run.rows;
+        let classes = |row: usize| names::classes(rows[row].classes);
+        let class = |row: usize| names::class(rows[row].class);
+        format!(
+            "{none}: row {release} synchronizes with row {acquire}, but not for these classes: row {release} names {}, row {acquire} names {}, row {x} is in {}, row {y} in {}",
+            classes(release),
+            classes(acquire),
+            class(x),
+            class(y),
+        )
+    }
+}
+
+/// Where a chain is missing: the rows that could have begun and ended it.
+struct Gap {
+    none: String,
+    releases: Vec<usize>,
+    acquires: Vec<usize>,
+}
+
+fn row_list(rows: &[usize]) -> String {
+    let numbers: Vec<String> = rows.iter().map(usize::to_string).collect();
+    let noun = if rows.len() == 1 { "row" } else { "rows" };
+    format!("{noun} {}", names::listed(&numbers))
+}

@@ -1,0 +1,52 @@
+//! Tables and answers in words and pictures: `show`, `explain` and `draw` of
+//! the command line.
+//!
+//! The answer itself is the proved checker's. Everything said about it, the
+//! decoding of the table and its relations, comes from `second`, which is
+//! not proved; where the two disagree nothing is explained.
+//!
+//! | what | module |
+//! |---|---|
+//! | the words for codes, rows and tables | `names`, `run`, `show` |
+//! | why rows are ordered | `account`, `derivation` |
+//! | why they aren't | `nearest`, `gap` |
+//! | what would order them | `catalogue`, `change`, `edit`, `reason`, `cure` |
+//! | the answers one by one | `race`, `race_free`, `inconsistent`, `refusal` |
+//! | answers in sentences, pictures and pages | `explain`, `draw`, `picture`, `page`, `markup` |
+
+mod account;
+mod catalogue;
+mod change;
+mod cure;
+mod derivation;
+mod draw;
+mod edit;
+mod explain;
+mod gap;
+mod inconsistent;
+mod markup;
+mod names;
+mod nearest;
+mod page;
+mod picture;
+mod race;
+mod race_free;
+mod reason;
+mod refusal;
+mod run;
+mod show;
+
+pub use account::{Checked, Ordered};
+pub use change::{Change, Goal};
+pub use cure::Cure;
+pub use derivation::{at, derivation_lines, derive, moment_words, step_parts, Derivation};
+pub use draw::draw;
+pub use edit::{edited, Edit, Field};
+pub use explain::{explain, Explanation, Shown};
+pub use inconsistent::edge_name;
+pub use nearest::Near;
+pub use page::page;
+pub use reason::Reason;
+pub use refusal::refusal;
+pub use run::Run;
+pub use show::show;

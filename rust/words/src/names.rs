@@ -1,0 +1,110 @@
+//! The words for a table's codes. A code that has none is shown as its
+//! number with a question mark, so that refused tables can be shown too.
+
+use second::table::{Row, MAKE_AVAILABLE, MAKE_VISIBLE, NON_PRIVATE};
+use second::{BLANK, INITIAL};
+
+const KINDS: [&str; 6] = [
+    "plain read",
+    "plain write",
+    "atomic read",
+    "atomic write",
+    "read-modify-write",
+    "barrier",
+];
+const ORDERS: [&str; 4] = ["relaxed", "acquire", "release", "acquire-release"];
+const SCOPES: [&str; 5] = [
+    "invocation",
+    "subgroup",
+    "workgroup",
+    "queue family",
+    "device",
+];
+const CLASSES: [&str; 4] = ["Uniform", "Workgroup", "Image", "Output"];
+const FLAGS: [(u8, &str); 3] = [
+    (NON_PRIVATE, "non-private"),
+    (MAKE_AVAILABLE, "make available"),
+    (MAKE_VISIBLE, "make visible"),
+];
+
+fn named(words: &[&str], code: u8) -> String {
+    match words.get(usize::from(code)) {
+        Some(word) => word.to_string(),
+        None => format!("{code}?"),
+    }
+}
+
+pub fn kind(code: u8) -> String {
+    named(&KINDS, code)
+}
+
+pub fn order(code: u8) -> String {
+    named(&ORDERS, code)
+}
+
+pub fn scope(code: u8) -> String {
+    named(&SCOPES, code)
+}
+
+pub fn class(code: u8) -> String {
+    named(&CLASSES, code)
+}
+
+/// A set of classes, joined by `+`.
+pub fn classes(set: u8) -> String {
+    if set > 15 {
+        return format!("{set}?");
+    }
+    let held = (0..4).filter(|class| set >> class & 1 == 1).map(class);
+    or_dash(held.collect::<Vec<_>>().join("+"))
+}
+
+pub fn flags(set: u8) -> String {
+    if set > 7 {
+        return format!("{set}?");
+    }
+    let held = FLAGS.iter().filter(|(bit, _)| set & bit != 0);
+    or_dash(held.map(|(_, word)| *word).collect::<Vec<_>>().join(", "))
+}
+
+/// A row's source; a dash for a row that doesn't read and says so.
+pub fn source(row: Row) -> String {
+    match row.source {
+        INITIAL if row.reads() => "initial value".to_string(),
+        INITIAL => "-".to_string(),
+        BLANK => "blank".to_string(),
+        number => format!("row {number}"),
+    }
+}
+
+/// The first and the last byte of an access.
+pub fn bytes(row: Row) -> String {
+    match row.length {
+        0 => format!("none at {}", row.start),
+        1 => row.start.to_string(),
+        _ => format!("{} to {}", row.start, row.end_byte() - 1),
+    }
+}
+
+fn or_dash(text: String) -> String {
+    if text.is_empty() {
+        "-".to_string()
+    } else {
+        text
+    }
+}
+
+/// Names in a row: `a`, `a and b`, `a, b and c`.
+pub fn listed(names: &[String]) -> String {
+    match names {
+        [] => String::new(),
+        [only] => only.clone(),
+        [rest @ .., last] => format!("{} and {last}", rest.join(", ")),
+    }
+}
+
+/// A count with its noun, which takes an s unless there is one.
+pub fn counted(count: usize, noun: &str) -> String {
+    let ending = if count == 1 { "" } else { "s" };
+    format!("{count} {noun}{ending}")
+}

@@ -1,0 +1,148 @@
+//! The arrows: reads-from, synchronizes-with, scoped modification order, and
+//! what the answer shows.
+
+use super::curve::Curve;
+use super::layout::Layout;
+use super::legend::text_width;
+use crate::account::Checked;
+use crate::explain::Shown;
+use crate::inconsistent::edge_name;
+use crate::markup::escaped;
+
+/// An arrow from row to row.
+struct Arrow {
+    from: usize,
+    to: usize,
+    sort: &'static str,
+    /// How far from the boxes' middles it starts and ends.
+    shift: i32,
+    label: Option<String>,
+}
+
+/// The arrows, and the labels that go above the boxes.
+pub fn drawn(checked: Checked, layout: &Layout, shown: &Shown) -> (String, String) {
+    let mut arrows = relations(checked);
+    arrows.extend(verdict(shown));
+    let (mut curves, mut labels) = (String::new(), String::new());
+    let mut taken = Vec::new();
+    for arrow in &arrows {
+        let (from, to) = (&layout.rows[arrow.from], &layout.rows[arrow.to]);
+        let curve = Curve::between(from, to, arrow.shift);
+        // A race has no direction.
+        let end = if arrow.sort == "race" {
+            String::new()
+        } else {
+            format!(" marker-end=\"url(#end-{})\"", arrow.sort)
+        };
+        curves += &format!(
+            "<path class=\"arrow {}\" d=\"{}\"{end}><title>{}</title></path>\n",
+            arrow.sort,
+            curve.path(),
+            escaped(&title(arrow))
+        );
+        if let Some(label) = &arrow.label {
+            labels += &label_drawn(label, curve, layout, &mut taken);
+        }
+    }
+    (curves, labels)
+}
+
+fn title(arrow: &Arrow) -> String {
+    let (from, to) = (arrow.from, arrow.to);
+    match (arrow.sort, &arrow.label) {
+        (_, Some(label)) => format!("rows {from} and {to}: {label}"),
+        ("reads", _) => format!("row {to} read row {from}"),
+        ("synchronizes", _) => format!("row {from} synchronizes with row {to}"),
+        _ => format!("row {from} is before row {to} in scoped modification order"),
+    }
+}
+
+/// `taken` are the middles and widths of the labels so far.
+fn label_drawn(
+    label: &str,
+    curve: Curve,
+    layout: &Layout,
+    taken: &mut Vec<(i32, i32, i32)>,
+) -> String {
+    let width = text_width(label) + 12;
+    let (x, y) = curve.label_place(layout, taken, width);
+    taken.push((x, y, width));
+    format!(
+        "<rect class=\"label\" x=\"{}\" y=\"{}\" width=\"{width}\" height=\"18\" rx=\"9\"/><text class=\"label\" x=\"{x}\" y=\"{}\">{}</text>\n",
+        x - width / 2,
+        y - 9,
+        y + 4,
+        escaped(label)
+    )
+}
+
+fn relations(checked: Checked) -> Vec<Arrow> {
+    let state = checked.state;
+    let rows = checked.run.rows.len();
+    let pairs = (0..rows).flat_map(|from| (0..rows).map(move |to| (from, to)));
+    let mut arrows = Vec::new();
+    for (from, to) in pairs {
+        let mut add = |sort, shift| {
+            arrows.push(Arrow {
+                from,
+                to,
+                sort,
+                shift,
+                label: None,
+            });
+        };
+        if state.read_from(to) == Some(from) {
+            add("reads", -7);
+        }
+        if state.synchronizes_with(from, to) {
+            add("synchronizes", 0);
+        }
+        let comes_between =
+            |row| state.modification_order(from, row) && state.modification_order(row, to);
+        // The others follow from these.
+        if state.modification_order(from, to) && !(0..rows).any(comes_between) {
+            add("modification", 7);
+        }
+    }
+    arrows
+}
+
+/// What the answer shows; every second arrow runs a little higher, so that
+/// two between the same rows stand apart.
+fn verdict(shown: &Shown) -> Vec<Arrow> {
+    let (sort, steps): (_, Vec<(usize, usize, String)>) = match shown {
+        Shown::Nothing | Shown::Refused { .. } => return Vec::new(),
+        Shown::Race(goal) => {
+            let label = format!("race at byte {}", goal.byte);
+            ("race", vec![(goal.first, goal.second, label)])
+        }
+        Shown::Overwritten {
+            source,
+            writer,
+            reader,
+            byte,
+        } => {
+            let over = format!("byte {byte} written over");
+            let read = "before the read".to_string();
+            let steps = vec![(*source, *writer, over), (*writer, *reader, read)];
+            ("shown", steps)
+        }
+        Shown::Cycle { rows, edges } => {
+            let nexts = rows.iter().cycle().skip(1);
+            let steps = rows.iter().zip(nexts).zip(edges);
+            let named = steps.map(|((from, to), edge)| {
+                let label = format!("{edge} {}", edge_name(*edge));
+                (*from, *to, label)
+            });
+            ("shown", named.collect())
+        }
+    };
+    let arrow = |(place, (from, to, label)): (usize, (usize, usize, String))| Arrow {
+        from,
+        to,
+        sort,
+        shift: if place % 2 == 0 { 4 } else { -12 },
+        label: Some(label),
+    };
+    steps.into_iter().enumerate().map(arrow).collect()
+}

@@ -1,0 +1,116 @@
+//! The columns, the rows' boxes and their moments.
+
+use super::layout::{Layout, Place, EDGE, LINE, MOMENT, TOP};
+use crate::explain::Shown;
+use crate::markup::escaped;
+use crate::run::Run;
+use crate::show::place_words;
+use second::table::Row;
+
+/// The line on which each agent's rows stand.
+pub fn lanes(layout: &Layout) -> String {
+    let bottom = layout.height - EDGE;
+    let lane = |middle| {
+        format!(
+            "<path class=\"lane\" d=\"M{middle} {} V{bottom}\"/>\n",
+            TOP - 14
+        )
+    };
+    middles(layout).map(|(_, middle)| lane(middle)).collect()
+}
+
+/// Each agent and the middle of its column.
+fn middles(layout: &Layout) -> impl Iterator<Item = (usize, i32)> + '_ {
+    let agents = layout.agents.iter().enumerate();
+    agents.map(|(column, agent)| (*agent, layout.column_x(column) + layout.column / 2))
+}
+
+/// Each agent's name, again and again, and its places.
+pub fn agents(run: &Run, layout: &Layout) -> String {
+    let mut svg = String::new();
+    for (agent, middle) in middles(layout) {
+        for y in &layout.bands {
+            svg +=
+                &format!("<text class=\"agent\" x=\"{middle}\" y=\"{y}\">agent {agent}</text>\n");
+        }
+        svg += &format!(
+            "<text class=\"places\" x=\"{middle}\" y=\"{}\">{}</text>\n",
+            TOP - 26,
+            place_words(run.agents[agent])
+        );
+    }
+    svg
+}
+
+/// The rows' boxes, those that the answer shows set off.
+pub fn rows(run: &Run, layout: &Layout, shown: &Shown) -> String {
+    let pointed = shown.rows();
+    let mut svg = String::new();
+    for (row, place) in layout.rows.iter().enumerate() {
+        let class = class(run.rows[row], pointed.contains(&row));
+        svg += &format!(
+            "<g class=\"{class}\"><title>{}</title>\n",
+            escaped(&run.described(row))
+        );
+        svg += &drawn(row, place);
+        svg += "</g>\n";
+    }
+    svg
+}
+
+fn class(row: Row, is_shown: bool) -> String {
+    let kind = if row.is_plain() {
+        "plain"
+    } else if row.is_atomic() {
+        "atomic"
+    } else {
+        "barrier"
+    };
+    let shown = if is_shown { " pointed" } else { "" };
+    format!("row {kind}{shown}")
+}
+
+fn drawn(row: usize, place: &Place) -> String {
+    let Place {
+        x,
+        y,
+        width,
+        height,
+        ..
+    } = *place;
+    let mut svg = format!(
+        "<text class=\"number\" x=\"{}\" y=\"{}\">{row}</text>\n",
+        EDGE + 20,
+        place.middle() + 4
+    );
+    svg += &format!(
+        "<rect class=\"box\" x=\"{x}\" y=\"{y}\" width=\"{width}\" height=\"{height}\" rx=\"5\"/>\n"
+    );
+    for (number, line) in place.lines.iter().enumerate() {
+        let weight = if number == 0 { "first" } else { "more" };
+        svg += &format!(
+            "<text class=\"{weight}\" x=\"{}\" y=\"{}\">{}</text>\n",
+            x + 10,
+            y + 3 + LINE * (number as i32 + 1),
+            escaped(line)
+        );
+    }
+    svg += &moment(&place.before, place, y - MOMENT);
+    svg += &moment(&place.after, place, y + height);
+    svg
+}
+
+fn moment(name: &Option<String>, place: &Place, y: i32) -> String {
+    let Some(name) = name else {
+        return String::new();
+    };
+    let sort = name.split(',').next().unwrap_or_default();
+    format!(
+        "<rect class=\"moment {sort}\" x=\"{}\" y=\"{y}\" width=\"{}\" height=\"{MOMENT}\" rx=\"3\"/><text class=\"moment\" x=\"{}\" y=\"{}\">{}</text>\n",
+        place.x + 16,
+        place.width - 32,
+        place.x + place.width / 2,
+        y + 12,
+        escaped(name)
+    )
+}

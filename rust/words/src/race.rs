@@ -1,0 +1,84 @@
+//! A race in sentences: the rows, the rule that comes nearest and what it
+//! lacks, and the changes that would order them.
+
+use crate::account::Checked;
+use crate::change::Goal;
+use crate::cure::{Cure, Search};
+use crate::names::counted;
+
+/// So many changes are shown at most.
+const SHOWN_CURES: usize = 8;
+
+/// The race and what the search for cures found.
+pub fn lines(checked: Checked, goal: Goal, found: &Search) -> Vec<String> {
+    let Goal {
+        first,
+        second,
+        byte,
+    } = goal;
+    let mut lines = vec![
+        format!("Rows {first} and {second} conflict, and nothing orders them at byte {byte}:"),
+        format!("  {}", checked.run.described(first)),
+        format!("  {}", checked.run.described(second)),
+    ];
+    lines.extend(checked.not_mutual(first, second));
+    let near = checked.nearest(first, second, byte);
+    let (rule, before, after) = (near.rule, near.before, near.after);
+    lines.push(format!(
+        "L{rule} comes nearest, row {before} before row {after}. It lacks this:"
+    ));
+    lines.extend(near.lacks.iter().map(|lack| format!("  {lack}")));
+    lines.push(cures_title(found));
+    for (place, cure) in found.cures.iter().take(SHOWN_CURES).enumerate() {
+        lines.extend(cure_lines(checked, goal, place + 1, cure));
+    }
+    if found.cures.len() > SHOWN_CURES {
+        let more = counted(found.cures.len() - SHOWN_CURES, "more such change");
+        lines.push(format!("There are {more}."));
+    }
+    lines
+}
+
+fn cures_title(found: &Search) -> String {
+    match found.cures.first() {
+        Some(cure) if cure.changes.len() == 1 => {
+            "Each of these changes alone orders them:".to_string()
+        }
+        Some(_) => "No single change orders them. Each of these pairs does:".to_string(),
+        None => {
+            let tried = counted(found.tried, "small change");
+            let rest = if found.is_cut {
+                "so far as they were tried: with so many rows not every pair was"
+            } else {
+                "nor do any two together: what is lacking takes more than that"
+            };
+            format!("None of {tried} orders them, {rest}.")
+        }
+    }
+}
+
+/// The reasons, the edit, and what comes of it.
+fn cure_lines(checked: Checked, goal: Goal, number: usize, cure: &Cure) -> Vec<String> {
+    let mut lines: Vec<String> = cure
+        .changes
+        .iter()
+        .map(|change| checked.reason_words(change.reason, goal))
+        .enumerate()
+        .map(|(place, reason)| match place {
+            0 => format!("  {number}. {reason}."),
+            _ => format!("     And {reason}."),
+        })
+        .collect();
+    let edits: Vec<String> = cure.edits.iter().map(|edit| edit.to_string()).collect();
+    lines.push(format!("     edit: {}", edits.join("; ")));
+    // A run that read otherwise than the order allows is no longer possible.
+    let because = match cure.answer.split(' ').next() {
+        Some("cycle" | "overwritten") => "the run as recorded can't happen then, so ",
+        _ => "",
+    };
+    lines.push(format!(
+        "     Then {}, and {because}check answers `{}`.",
+        cure.order, cure.answer
+    ));
+    lines
+}

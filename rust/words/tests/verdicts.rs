@@ -1,0 +1,148 @@
+//! `explain` never contradicts the proved answer, whatever the bytes, and
+//! says something of every answer.
+
+mod common;
+
+use common::{elements, example, generated, with_relations};
+use std::collections::BTreeMap;
+use stramashly::Checker;
+use tables::{damaged, fillable, Random, Size};
+use words::{draw, explain, page, refusal, show, Checked};
+
+/// Compares the first line with the check's answer, and gives its first word.
+fn check_first_line(table: &[u8], checker: &mut Checker) -> String {
+    let answer = checker.check(table).to_string();
+    let explanation = explain(table, checker);
+    let text = explanation.text();
+    assert_eq!(text.lines().next(), Some(answer.as_str()));
+    assert!(text.lines().count() > 1, "{text}");
+    assert!(!text.contains("No explanation"), "{text}");
+    answer.split(' ').next().unwrap().to_string()
+}
+
+#[test]
+fn the_first_line_is_the_proved_answer() {
+    let mut checker = Checker::new();
+    let mut random = Random::new(331);
+    let size = Size { least: 2, most: 8 };
+    let mut tables = generated(332, 2000, 2, 8);
+    tables.extend((0..2000).map(|_| damaged(&mut random, size)));
+    tables.extend((0..500).map(|_| fillable(&mut random, size).bytes()));
+    let mut counts = BTreeMap::new();
+    for table in &tables {
+        *counts
+            .entry(check_first_line(table, &mut checker))
+            .or_insert(0) += 1;
+    }
+    for word in ["race-free", "race", "cycle", "overwritten", "refused"] {
+        assert!(counts[word] > 100, "{counts:?}");
+    }
+}
+
+/// Every refusal has its meaning and names what the row holds.
+#[test]
+fn refusals_are_told() {
+    let mut checker = Checker::new();
+    let mut random = Random::new(333);
+    let mut seen = [0; 11];
+    for _ in 0..3000 {
+        let table = damaged(&mut random, Size { least: 2, most: 8 });
+        let explanation = explain(&table, &mut checker);
+        let mut words = explanation.answer.split(' ');
+        if words.next() != Some("refused") {
+            continue;
+        }
+        let number: usize = words.next().unwrap().parse().unwrap();
+        let row = words.next().unwrap();
+        seen[number] += 1;
+        let text = explanation.lines.join("\n");
+        assert!(!text.contains("docs/RULES.md"), "{number}");
+        if number >= 5 {
+            assert!(text.contains(&format!("Row {row} holds: agent ")), "{text}");
+            assert_eq!(explanation.lines.len(), 3, "{text}");
+        }
+        // Blanks are no reason to refuse a table that is only shown.
+        let told = refusal(&table, &mut checker);
+        let filled = checker.fill(&table).to_string();
+        assert_eq!(
+            told.and_then(|text| text.lines().next().map(str::to_string)),
+            filled.starts_with("refused").then_some(filled)
+        );
+    }
+    assert!(seen[1..].iter().all(|count| *count > 20), "{seen:?}");
+}
+
+/// No bytes are too bad for words and pictures.
+#[test]
+fn noise_is_no_panic() {
+    let mut checker = Checker::new();
+    let mut random = Random::new(334);
+    for round in 0..3000 {
+        let mut table = match round % 3 {
+            0 => damaged(&mut random, Size { least: 1, most: 6 }),
+            1 => (0..random.below(80))
+                .map(|_| random.below(256) as u8)
+                .collect(),
+            _ => example("leak"),
+        };
+        if round % 3 == 2 {
+            let place = random.below(table.len());
+            table[place] = random.below(256) as u8;
+            table.truncate(random.between(0, 2 * table.len()));
+        }
+        assert!(!show(&table).is_empty());
+        let explanation = explain(&table, &mut checker);
+        elements(&page(&table, &explanation));
+        let is_refused = explanation.answer.starts_with("refused");
+        assert_eq!(draw(&table, &mut checker).is_err(), is_refused);
+    }
+}
+
+/// Of a race-free table, every conflicting pair is in the account.
+#[test]
+fn every_conflicting_pair_is_accounted_for() {
+    let mut checker = Checker::new();
+    let mut pairs = 0;
+    for table in generated(335, 1500, 2, 10) {
+        let explanation = explain(&table, &mut checker);
+        if explanation.answer == "race-free" {
+            let text = explanation.text();
+            pairs += with_relations(&table, |checked| accounted(checked, &text));
+        }
+    }
+    assert!(pairs > 2000, "{pairs} pairs");
+}
+
+fn accounted(checked: Checked, text: &str) -> usize {
+    let rows = checked.run.rows.len();
+    let pairs = (0..rows).flat_map(|x| (x + 1..rows).map(move |y| (x, y)));
+    let mut count = 0;
+    for (x, y) in pairs.filter(|(x, y)| checked.state.conflicting(*x, *y)) {
+        let grouped = [format!(" {x} and {y},"), format!(" {x} and {y}.")];
+        let alone = [
+            format!("Row {x} before row {y} at byte"),
+            format!("Row {y} before row {x} at byte"),
+        ];
+        let is_told = grouped.iter().chain(&alone).any(|part| text.contains(part));
+        assert!(is_told, "{x} {y}: {text}");
+        count += 1;
+    }
+    count
+}
+
+#[test]
+fn a_table_is_shown_row_by_row() {
+    let text = show(&example("p"));
+    let lines: Vec<&str> = text.lines().collect();
+    assert_eq!(lines[0], "version 1, 2 agents, 4 rows");
+    assert_eq!(lines[2], "agent 1: family 0, workgroup 0, subgroup 1");
+    assert_eq!(lines.len(), 8);
+    let words: Vec<&str> = lines[5].split_whitespace().collect();
+    let expected = "1 0 atomic write release workgroup Uniform non-private, make available \
+        Uniform 4 to 7 2 - 1";
+    assert_eq!(words.join(" "), expected);
+    let blank = show(&example("fill"));
+    assert!(blank.lines().last().unwrap().contains("blank"));
+    assert_eq!(show(b"ab"), "2 bytes: too few for a header\n");
+    assert_eq!(show(&example("version-2")), "version 2, 0 agents, 0 rows\n");
+}

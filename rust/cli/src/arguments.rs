@@ -1,6 +1,7 @@
 //! The words of the command line.
 
 use crate::judge::Purpose;
+use crate::tell::Telling;
 use std::ffi::OsString;
 
 /// What is asked for.
@@ -12,10 +13,17 @@ pub enum Command {
     Batch,
 }
 
-/// Files to check or fill; `-` is standard input.
+/// What is to be done with each file.
+#[derive(Clone, Copy, Debug, PartialEq, Eq)]
+pub enum Task {
+    Judge(Purpose),
+    Tell(Telling),
+}
+
+/// Files and what is to be done with them; `-` is standard input.
 #[derive(Debug, PartialEq, Eq)]
 pub struct Request {
-    pub purpose: Purpose,
+    pub task: Task,
     pub is_hex: bool,
     pub names: Vec<OsString>,
 }
@@ -26,6 +34,7 @@ struct Words {
     is_help: bool,
     is_version: bool,
     is_hex: bool,
+    is_html: bool,
     others: Vec<OsString>,
 }
 
@@ -41,12 +50,17 @@ pub fn parse(words: impl Iterator<Item = OsString>) -> Result<Command, String> {
         return Err("no command given".to_string());
     }
     let name = words.others.remove(0);
-    match name.to_str() {
-        Some("check") => files(Purpose::Check, words),
-        Some("fill") => files(Purpose::Fill, words),
-        Some("batch") => batch(&words),
-        _ => Err(format!("no command is called {name:?}")),
-    }
+    let task = match name.to_str() {
+        Some("check") => Task::Judge(Purpose::Check),
+        Some("fill") => Task::Judge(Purpose::Fill),
+        Some("show") => Task::Tell(Telling::Show),
+        Some("explain") if words.is_html => Task::Tell(Telling::Page),
+        Some("explain") => Task::Tell(Telling::Explain),
+        Some("draw") => Task::Tell(Telling::Draw),
+        Some("batch") => return batch(&words),
+        _ => return Err(format!("no command is called {name:?}")),
+    };
+    files(task, words)
 }
 
 /// Sets the options apart; after `--` there are none.
@@ -64,30 +78,38 @@ fn sort(words: impl Iterator<Item = OsString>) -> Result<Words, String> {
             Some("--help" | "-h") => sorted.is_help = true,
             Some("--version" | "-V") => sorted.is_version = true,
             Some("--hex") => sorted.is_hex = true,
+            Some("--html") => sorted.is_html = true,
             _ => return Err(format!("no option is called {word:?}")),
         }
     }
     Ok(sorted)
 }
 
-fn files(purpose: Purpose, words: Words) -> Result<Command, String> {
+fn files(task: Task, words: Words) -> Result<Command, String> {
     let names = words.others;
+    if words.is_html && task != Task::Tell(Telling::Page) {
+        return Err("only explain takes --html".to_string());
+    }
     if names.is_empty() {
         return Err("no file given".to_string());
+    }
+    // Two documents in a row are none.
+    if matches!(task, Task::Tell(Telling::Draw | Telling::Page)) && names.len() > 1 {
+        return Err("a picture or a page is of one file".to_string());
     }
     // It could only be read once.
     if names.iter().filter(|name| *name == "-").count() > 1 {
         return Err("standard input given twice".to_string());
     }
     Ok(Command::Files(Request {
-        purpose,
+        task,
         is_hex: words.is_hex,
         names,
     }))
 }
 
 fn batch(words: &Words) -> Result<Command, String> {
-    if words.is_hex || !words.others.is_empty() {
+    if words.is_hex || words.is_html || !words.others.is_empty() {
         return Err("batch takes no option and no file".to_string());
     }
     Ok(Command::Batch)
@@ -101,10 +123,10 @@ mod tests {
         parse(line.split_whitespace().map(OsString::from))
     }
 
-    fn request(purpose: Purpose, is_hex: bool, names: &[&str]) -> Result<Command, String> {
+    fn request(task: Task, is_hex: bool, names: &[&str]) -> Result<Command, String> {
         let names = names.iter().map(OsString::from).collect();
         Ok(Command::Files(Request {
-            purpose,
+            task,
             is_hex,
             names,
         }))
@@ -116,16 +138,27 @@ mod tests {
         assert_eq!(parsed("check -h"), Ok(Command::Help));
         assert_eq!(parsed("--version"), Ok(Command::Version));
         assert_eq!(parsed("batch"), Ok(Command::Batch));
-        assert_eq!(
-            parsed("check a -"),
-            request(Purpose::Check, false, &["a", "-"])
-        );
-        assert_eq!(parsed("--hex fill a"), request(Purpose::Fill, true, &["a"]));
-        assert_eq!(parsed("fill a --hex"), request(Purpose::Fill, true, &["a"]));
-        assert_eq!(
-            parsed("check -- --hex"),
-            request(Purpose::Check, false, &["--hex"])
-        );
+        let (check, fill) = (Task::Judge(Purpose::Check), Task::Judge(Purpose::Fill));
+        assert_eq!(parsed("check a -"), request(check, false, &["a", "-"]));
+        assert_eq!(parsed("--hex fill a"), request(fill, true, &["a"]));
+        assert_eq!(parsed("fill a --hex"), request(fill, true, &["a"]));
+        assert_eq!(parsed("check -- --hex"), request(check, false, &["--hex"]));
+    }
+
+    #[test]
+    fn words_and_pictures_are_told_apart() {
+        for (line, telling, is_hex) in [
+            ("show a", Telling::Show, false),
+            ("explain a", Telling::Explain, false),
+            ("explain --html a", Telling::Page, false),
+            ("--html --hex explain a", Telling::Page, true),
+            ("draw --hex a", Telling::Draw, true),
+        ] {
+            let expected = request(Task::Tell(telling), is_hex, &["a"]);
+            assert_eq!(parsed(line), expected, "{line}");
+        }
+        let several = request(Task::Tell(Telling::Show), false, &["a", "b"]);
+        assert_eq!(parsed("show a b"), several);
     }
 
     #[test]
@@ -138,6 +171,12 @@ mod tests {
             ("check - -", "twice"),
             ("batch a", "batch"),
             ("batch --hex", "batch"),
+            ("batch --html", "batch"),
+            ("check --html a", "--html"),
+            ("draw --html a", "--html"),
+            ("draw a b", "one file"),
+            ("explain --html a b", "one file"),
+            ("explain", "no file given"),
         ] {
             let reason = parsed(line).expect_err(line);
             assert!(reason.contains(part), "{line}: {reason}");

@@ -1,9 +1,10 @@
-//! `check` and `fill`: one table a file.
+//! Files, one table each: judged, or told in words and pictures.
 
-use crate::arguments::Request;
+use crate::arguments::{Request, Task};
 use crate::hex::{Hex, KEPT_BYTES};
 use crate::judge::judge;
 use crate::output::{complain, Output};
+use crate::tell::tell;
 use crate::Status;
 use std::ffi::OsStr;
 use std::fs::File;
@@ -17,35 +18,42 @@ pub fn run(request: &Request) -> Status {
     let mut output = Output::new();
     let mut highest = Status::Fine;
     for name in &request.names {
-        let status = match read(name, request.is_hex) {
+        let (status, reason) = match read(name, request.is_hex) {
             Ok(table) => answer(request, name, &table, &mut checker, &mut output),
-            Err(reason) => {
-                // Keeps answers and messages in order on a terminal.
-                output.flush();
-                complain(&format!("{}: {reason}", name.to_string_lossy()));
-                Status::Trouble
-            }
+            Err(reason) => (Status::Trouble, Some(reason)),
         };
+        if let Some(reason) = reason {
+            // Keeps answers and messages in order on a terminal.
+            output.flush();
+            complain(&format!("{}: {reason}", name.to_string_lossy()));
+        }
         highest = highest.max(status);
     }
     highest.max(output.finish())
 }
 
+/// Writes what there is to say of a table; the reason if there is nothing.
 fn answer(
     request: &Request,
     name: &OsStr,
     table: &[u8],
     checker: &mut Checker,
     output: &mut Output,
-) -> Status {
+) -> (Status, Option<String>) {
     let mut text = String::new();
-    let status = judge(checker, request.purpose, table, &mut text);
+    let status = match request.task {
+        Task::Judge(purpose) => judge(checker, purpose, table, &mut text),
+        Task::Tell(telling) => match tell(checker, telling, table, &mut text) {
+            Ok(status) => status,
+            Err(reason) => return (Status::Refused, Some(reason)),
+        },
+    };
     if request.names.len() > 1 {
         output.write(name.as_encoded_bytes());
         output.write(b": ");
     }
     output.write(text.as_bytes());
-    status
+    (status, None)
 }
 
 /// A file's table, cut off where its refusal is sure.

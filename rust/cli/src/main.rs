@@ -7,6 +7,7 @@ mod help;
 mod hex;
 mod judge;
 mod output;
+mod tell;
 
 use arguments::Command;
 use output::{complain, Output};

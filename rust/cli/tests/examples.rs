@@ -75,20 +75,25 @@ fn every_answer_is_on_the_page() {
     assert_eq!(words, all.map(str::to_string).into());
 }
 
-/// The commands of README.md, each with the line below it.
+/// The commands of README.md, each with the lines below it, up to the next
+/// command or an empty line.
 #[test]
 fn the_front_page_is_right() {
     let root = folder().join("..");
     let text = fs::read_to_string(root.join("README.md")).unwrap();
-    let lines: Vec<&str> = text.lines().map(str::trim).collect();
+    let lines: Vec<&str> = text.lines().collect();
     let mut commands = 0;
-    for pair in lines.windows(2) {
-        if let Some(command) = pair[0].strip_prefix("$ ./stramashly ") {
+    for (place, line) in lines.iter().enumerate() {
+        if let Some(command) = line.strip_prefix("    $ ./stramashly ") {
             let words: Vec<&str> = command.split(' ').collect();
             let answer = stramashly_in(&root, &words, b"");
-            assert_eq!(answer.output.trim_end(), pair[1], "{command}");
+            let below = lines[place + 1..]
+                .iter()
+                .take_while(|line| !line.is_empty() && !line.starts_with("    $ "));
+            let shown: String = below.map(|line| format!("{}\n", &line[4..])).collect();
+            assert_eq!(answer.output, shown, "{command}");
             commands += 1;
         }
     }
-    assert_eq!(commands, 7);
+    assert_eq!(commands, 8);
 }

@@ -45,7 +45,6 @@ struct Searcher<'a> {
     goal: Goal,
     checker: &'a mut Checker,
     state: State,
-    run: Run,
     /// Checks that may still be made.
     budget: usize,
 }
@@ -58,7 +57,6 @@ pub fn search(table: &[u8], checked: Checked, goal: Goal, checker: &mut Checker)
         goal,
         checker,
         state: State::new(),
-        run: Run::default(),
         // A check takes time with the square of the rows, at the least.
         budget: 2_000_000 / ((rows + 8) * (rows + 8)),
     };
@@ -86,8 +84,8 @@ fn distance(run: &Run, goal: Goal, row: usize) -> (bool, usize, usize) {
     (is_others, steps[0].min(steps[1]), row)
 }
 
-/// Cures of the program before those of the run, those that leave no other
-/// trouble first, then those of fewest fields.
+/// Cures that leave no other trouble first; of those, cures of the program
+/// before those of the run, then those of fewest fields.
 fn rank(cure: &Cure) -> (usize, bool, usize) {
     let trouble = match cure.answer.split(' ').next() {
         Some("race-free") => 0,
@@ -161,36 +159,35 @@ impl Searcher<'_> {
         if is_told || answer.starts_with("refused") {
             return None;
         }
-        self.run = Run::of(&table);
         Some(Cure {
             changes: changes.iter().map(|change| (*change).clone()).collect(),
             edits,
-            order: self.order_words(),
+            order: self.order_words(&Run::of(&table))?,
             answer,
         })
     }
 
     /// What orders the rows in the table checked last.
-    fn order_words(&self) -> String {
+    fn order_words(&self, run: &Run) -> Option<String> {
         let Goal {
             first,
             second,
             byte,
         } = self.goal;
         if self.state.mutually_ordered(first, second) {
-            return "they are mutually-ordered".to_string();
+            return Some("they are mutually-ordered".to_string());
         }
         let checked = Checked {
             state: &self.state,
-            run: &self.run,
+            run,
         };
         let forth = checked.ordered(first, second, byte);
-        let back = checked.ordered(second, first, byte);
-        match (forth, back) {
-            (Some(ordered), _) => format!("L{} puts row {first} first", ordered.rule),
-            (None, Some(ordered)) => format!("L{} puts row {second} first", ordered.rule),
-            (None, None) => unreachable!("a cure orders the rows"),
-        }
+        let back = || checked.ordered(second, first, byte);
+        let (row, ordered) = match forth {
+            Some(ordered) => (first, ordered),
+            None => (second, back()?),
+        };
+        Some(format!("L{} puts row {row} first", ordered.rule))
     }
 
     fn alone(&mut self, changes: &[Change]) -> Vec<Cure> {
@@ -226,7 +223,7 @@ impl Searcher<'_> {
     /// Pairs of changes of two rows, or of one.
     fn of_two_rows(&mut self, firsts: &[Change], seconds: &[Change]) -> Vec<Cure> {
         let rows = [firsts[0].edits[0].row, seconds[0].edits[0].row];
-        let are_hopeful = self.is_hopeful(&[], &rows);
+        let are_hopeful = self.are_hopeful(&rows);
         let mut cured = HashSet::new();
         let mut cures = Vec::new();
         for first in firsts {
@@ -251,17 +248,11 @@ impl Searcher<'_> {
 
     /// Whether rows would do with all that they may have, in the scopes they
     /// have or in the widest. A refused table says nothing.
-    fn is_hopeful(&mut self, edits: &[Edit], rows: &[usize]) -> bool {
+    fn are_hopeful(&mut self, rows: &[usize; 2]) -> bool {
+        let run = Run::of(self.table);
         [false, true].into_iter().any(|is_wide| {
-            let run = Run::of(self.table);
-            let strong: Vec<Edit> = rows
-                .iter()
-                .flat_map(|row| strongest(*row, run.rows[*row], is_wide))
-                .collect();
-            match merged(edits, &strong) {
-                Some(edits) => self.mends(&edits).unwrap_or(true),
-                None => true,
-            }
+            let strongest = rows.map(|row| strongest(row, run.rows[row], is_wide));
+            self.mends(&strongest.concat()).unwrap_or(true)
         })
     }
 }

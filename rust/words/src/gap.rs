@@ -4,6 +4,8 @@
 use crate::account::Checked;
 use crate::derivation::{at, moment_words};
 use crate::names;
+use crate::run::source_words;
+use second::table::Row;
 
 impl Checked<'_> {
     /// Says why a moment happens before none of some others, if it doesn't.
@@ -57,11 +59,42 @@ impl Checked<'_> {
         match met {
             Some((release, acquire)) => self.not_carried_words(none, [x, y, release, acquire]),
             None => format!(
-                "{none}: of agent {agent}'s releases ({}) none synchronizes with an acquire of agent {other} ({})",
+                "{none}: of agent {agent}'s releases ({}) none synchronizes with an acquire of agent {other} ({}){}",
                 row_list(&gap.releases),
-                row_list(&gap.acquires)
+                row_list(&gap.acquires),
+                self.unmet_words(gap)
             ),
         }
+    }
+
+    /// Why the only release doesn't synchronize with the only acquire.
+    fn unmet_words(&self, gap: &Gap) -> String {
+        let ([release], [acquire]) = (&gap.releases[..], &gap.acquires[..]) else {
+            return String::new();
+        };
+        let rows = &self.run.rows;
+        let (first, second) = (rows[*release], rows[*acquire]);
+        let narrow = [*release, *acquire].into_iter().find(|row| {
+            let scope = rows[*row].scope;
+            !self.state.share_scope(first.agent, second.agent, scope)
+        });
+        if let Some(row) = narrow {
+            return format!(
+                "; row {row} has {} scope only",
+                names::scope(rows[row].scope)
+            );
+        }
+        if !first.is_atomic() || !second.is_atomic() {
+            return "; no atomic that was written after the one and read before the other joins them".to_string();
+        }
+        let place = |row: Row| (row.start, row.length, row.reference);
+        if place(first) != place(second) {
+            return "; they are atomics of different places".to_string();
+        }
+        format!(
+            "; row {acquire} read {}, which isn't in row {release}'s release sequence",
+            source_words(second)
+        )
     }
 
     fn not_carried_words(&self, none: &str, [x, y, release, acquire]: [usize; 4]) -> String {

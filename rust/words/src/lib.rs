@@ -21,6 +21,8 @@ mod cure;
 mod derivation;
 mod draw;
 mod edit;
+#[cfg(test)]
+mod exhaustive;
 mod explain;
 mod gap;
 mod inconsistent;

@@ -8,6 +8,8 @@ use crate::names::counted;
 
 /// So many changes are shown at most.
 const SHOWN_CURES: usize = 8;
+/// So many other races are named at most.
+const SHOWN_RACES: usize = 8;
 
 /// The race and what the search for cures found.
 pub fn lines(checked: Checked, goal: Goal, found: &Search) -> Vec<String> {
@@ -36,7 +38,29 @@ pub fn lines(checked: Checked, goal: Goal, found: &Search) -> Vec<String> {
         let more = counted(found.cures.len() - SHOWN_CURES, "more such change");
         lines.push(format!("There are {more}."));
     }
+    lines.extend(other_races(checked, goal));
     lines
+}
+
+/// The other racing pairs, each with its lowest unordered byte.
+fn other_races(checked: Checked, goal: Goal) -> Option<String> {
+    let rows = checked.run.rows.len();
+    let pairs = (0..rows).flat_map(|x| (x + 1..rows).map(move |y| (x, y)));
+    let races: Vec<String> = pairs
+        .filter(|pair| *pair != (goal.first, goal.second))
+        .filter_map(|(x, y)| {
+            let mut bytes = checked.shared_bytes(x, y).into_iter();
+            let byte = bytes.find(|byte| checked.state.races_at(x, y, *byte))?;
+            Some(format!("{x} and {y} at byte {byte}"))
+        })
+        .collect();
+    let shown = races.len().min(SHOWN_RACES);
+    let more = match races.len() - shown {
+        0 => String::new(),
+        count => format!(", and {}", counted(count, "more pair")),
+    };
+    let named = races[..shown].join(", ");
+    (!races.is_empty()).then(|| format!("Other races: rows {named}{more}."))
 }
 
 fn cures_title(found: &Search) -> String {

@@ -18,6 +18,17 @@ fn with_class<'a>(elements: &'a [Element], name: &str, class: &str) -> Vec<&'a E
     found.collect()
 }
 
+/// Left, top, right and bottom.
+fn sides(rect: &Element) -> [i32; 4] {
+    let [x, y, width, height] =
+        ["x", "y", "width", "height"].map(|name| rect.number(name).unwrap());
+    [x, y, x + width, y + height]
+}
+
+fn overlap(first: [i32; 4], second: [i32; 4]) -> bool {
+    (0..2).all(|side| first[side] < second[side + 2] && second[side] < first[side + 2])
+}
+
 /// How many arrows of each sort the relations ask for.
 fn relations(checked: Checked) -> [usize; 3] {
     let state = checked.state;
@@ -63,16 +74,13 @@ fn nothing_lies_on_another_or_outside() {
         let boxes: Vec<[i32; 4]> = with_class(&elements, "rect", "box")
             .into_iter()
             .chain(with_class(&elements, "rect", "moment"))
-            .map(|rect| ["x", "y", "width", "height"].map(|name| rect.number(name).unwrap()))
+            .map(sides)
             .collect();
-        for (place, [x, y, width, height]) in boxes.iter().enumerate() {
-            assert!(*x >= 0 && *y >= 0 && x + width <= size[0] && y + height <= size[1]);
-            for [other_x, other_y, other_width, other_height] in &boxes[..place] {
-                let is_apart = x + width <= *other_x
-                    || other_x + other_width <= *x
-                    || y + height <= *other_y
-                    || other_y + other_height <= *y;
-                assert!(is_apart, "at {x} {y} and {other_x} {other_y}");
+        for (place, rect) in boxes.iter().enumerate() {
+            let [left, top, right, bottom] = *rect;
+            assert!(left >= 0 && top >= 0 && right <= size[0] && bottom <= size[1]);
+            for other in &boxes[..place] {
+                assert!(!overlap(*rect, *other), "{rect:?} {other:?}");
             }
         }
     }
@@ -97,6 +105,30 @@ fn the_answer_is_pointed_out() {
             labels,
             "{name}"
         );
+    }
+}
+
+/// Labels cover no box and no other label.
+#[test]
+fn labels_stand_free() {
+    for name in [
+        "leak",
+        "half-available",
+        "overwritten",
+        "p-initial",
+        "lost-update",
+    ] {
+        let elements = drawn(&example(name)).unwrap();
+        let labels = with_class(&elements, "rect", "label");
+        assert!(!labels.is_empty(), "{name}");
+        let others = ["box", "moment", "label"].map(|class| with_class(&elements, "rect", class));
+        let rects: Vec<[i32; 4]> = others.into_iter().flatten().map(sides).collect();
+        for label in labels {
+            let label = sides(label);
+            let covered = rects.iter().filter(|rect| overlap(**rect, label));
+            // Itself.
+            assert_eq!(covered.count(), 1, "{name}");
+        }
     }
 }
 

@@ -72,11 +72,14 @@ impl Curve {
                 (x - other_x).abs() < (width + other_width) / 2 && (y - other_y).abs() < 20
             })
         };
-        let is_free = |point: (i32, i32)| !is_box(point) && !is_label(point);
+        let is_inside = |(x, _): (i32, i32)| x + width / 2 < layout.width;
+        let is_free = |point| !is_box(point) && !is_label(point) && is_inside(point);
         let points = (0..=50)
             .flat_map(|away| [50 - away, 50 + away])
             .map(|hundredths| self.point(hundredths));
-        let free = points.clone().find(|point| is_free(*point));
+        // On the curve, else to the right of it.
+        let beside = points.clone().map(|(x, y)| (x + width / 2 + 6, y));
+        let free = points.clone().chain(beside).find(|point| is_free(*point));
         // Rather over a box than over another label.
         free.or_else(|| points.clone().find(|point| !is_label(*point)))
             .unwrap_or(self.point(50))

@@ -14,9 +14,15 @@ use crate::explain::Shown;
 use crate::markup::escaped;
 use layout::{Layout, EDGE, TOP};
 
+/// Room for labels beside arrows of the last column.
+const LABEL_ROOM: i32 = 110;
+
 /// The picture as an SVG document of its own.
 pub fn picture(checked: Checked, answer: &str, shown: &Shown) -> String {
-    let layout = Layout::of(checked);
+    let mut layout = Layout::of(checked);
+    if !shown.rows().is_empty() {
+        layout.width += LABEL_ROOM;
+    }
     let legend = legend::entries(shown);
     let (width, height) = (
         layout.width,

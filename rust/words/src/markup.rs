@@ -17,3 +17,17 @@ pub fn escaped(text: &str) -> String {
     }
     safe
 }
+
+#[cfg(test)]
+mod tests {
+    use super::escaped;
+
+    #[test]
+    fn letters_with_a_meaning_are_written_out() {
+        assert_eq!(
+            escaped("a<b & 'c' > \"d\""),
+            "a&lt;b &amp; &#39;c&#39; &gt; &quot;d&quot;"
+        );
+        assert_eq!(escaped("1\u{7}2\n3"), "1\u{FFFD}2\n3");
+    }
+}

@@ -104,9 +104,10 @@ fn table_part(table: &[u8], run: &Run, explanation: &Explanation) -> String {
     html += "</tr></thead>\n<tbody>\n";
     let pointed = explanation.shown.rows();
     for (row, fields) in run.rows.iter().enumerate() {
-        let class = match pointed.contains(&row) {
-            true => " class=\"pointed\"",
-            false => "",
+        let class = if pointed.contains(&row) {
+            " class=\"pointed\""
+        } else {
+            ""
         };
         let cells = cells(row, *fields).map(|cell| format!("<td>{}</td>", escaped(&cell)));
         html += &format!("<tr{class}>{}</tr>\n", cells.concat());

@@ -22,6 +22,10 @@ fn is_accepted(state: &State, from: usize, to: usize, derivation: &Derivation) -
     hold && moment == to && (1..=191).contains(&steps.len())
 }
 
+fn is_direct(state: &State, from: usize, to: usize) -> bool {
+    (1..=15).any(|set| (1..=3).any(|case| state.direct_step(set, case, from, to)))
+}
+
 /// Derives every pair of moments, and gives how many chains there were.
 fn derive_all(checked: Checked) -> usize {
     let state = checked.state;
@@ -38,6 +42,8 @@ fn derive_all(checked: Checked) -> usize {
         let lines = derivation_lines(&checked.run.rows, from, &derivation);
         if let Derivation::Chain { steps, .. } = &derivation {
             chains += 1;
+            // Where one step is enough, there is one.
+            assert_eq!(steps.len() == 1, is_direct(state, from, to));
             assert_eq!(lines.len(), steps.len());
             for (line, step) in lines.iter().zip(steps) {
                 let (case, next) = step_parts(*step);

@@ -37,7 +37,8 @@ impl Checked<'_> {
             .expect("of conflicting rows one writes, and L3 speaks of it")
     }
 
-    /// Whether no change short of another program lets a rule order rows.
+    /// Whether a rule could order such rows: L1 one agent's, L2 a mere reader
+    /// before another row, L3 a writer.
     fn speaks_of(&self, rule: u8, before: usize, after: usize) -> bool {
         let (x, y) = (self.run.rows[before], self.run.rows[after]);
         match rule {

@@ -27,7 +27,8 @@ pub fn lines(checked: Checked, goal: Goal, found: &Search) -> Vec<String> {
     let near = checked.nearest(first, second, byte);
     let (rule, before, after) = (near.rule, near.before, near.after);
     lines.push(format!(
-        "L{rule} comes nearest, row {before} before row {after}. It lacks this:"
+        "Of the rules of order, L{rule} comes nearest ({}), row {before} before row {after}. It lacks this:",
+        in_short(rule)
     ));
     lines.extend(near.lacks.iter().map(|lack| format!("  {lack}")));
     lines.push(cures_title(found));
@@ -40,6 +41,15 @@ pub fn lines(checked: Checked, goal: Goal, found: &Search) -> Vec<String> {
     }
     lines.extend(other_races(checked, goal));
     lines
+}
+
+/// What a rule of location order is about.
+fn in_short(rule: u8) -> &'static str {
+    match rule {
+        1 => "one agent's own order",
+        2 => "a read that happens before the other access",
+        _ => "a write that is made available, then visible to a read",
+    }
 }
 
 /// The other racing pairs, each with its lowest unordered byte.

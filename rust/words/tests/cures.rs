@@ -60,50 +60,31 @@ fn printed_edits(explanation: &Explanation) -> Vec<Vec<Edit>> {
         .collect()
 }
 
-/// What is said of the rows is so in the table.
-fn check_reason(run: &Run, reason: Reason) -> &'static str {
+/// Whether what is said of the rows is so in the table, and a name for it.
+fn is_so(run: &Run, reason: Reason) -> (bool, &'static str) {
     let rows = &run.rows;
     match reason {
         Reason::Private { row } => {
-            assert!(rows[row].is_plain() && !rows[row].is_non_private());
-            "private"
+            let is_private = rows[row].is_plain() && !rows[row].is_non_private();
+            (is_private, "private")
         }
         Reason::PlainFlag { row, .. } => {
-            assert!(!rows[row].makes_available() && !rows[row].makes_visible());
-            "plain flag"
+            let is_flagged = rows[row].makes_available() || rows[row].makes_visible();
+            (!is_flagged, "plain flag")
         }
-        Reason::NoFlag { row, flag } => {
-            assert_eq!(rows[row].flags & flag, 0);
-            "flag"
-        }
-        Reason::Narrow { row, scope, .. } => {
-            assert!(rows[row].scope < scope);
-            "scope"
-        }
-        Reason::LacksClass { row, class } => {
-            assert_eq!(rows[row].classes >> class & 1, 0);
-            "class"
-        }
-        Reason::LacksOrder { row, order, .. } => {
-            assert_eq!(rows[row].order & order, 0);
-            "order"
-        }
+        Reason::NoFlag { row, flag } => (rows[row].flags & flag == 0, "flag"),
+        Reason::Narrow { row, scope, .. } => (rows[row].scope < scope, "scope"),
+        Reason::LacksClass { row, class } => (rows[row].classes >> class & 1 == 0, "class"),
+        Reason::LacksOrder { row, order, .. } => (rows[row].order & order == 0, "order"),
         Reason::OtherReference { row, other } => {
-            assert_ne!(rows[row].reference, rows[other].reference);
-            "reference"
+            (rows[row].reference != rows[other].reference, "reference")
         }
-        Reason::OtherSource { row, source } => {
-            assert_ne!(usize::from(rows[row].source), source);
-            "source"
-        }
+        Reason::OtherSource { row, source } => (usize::from(rows[row].source) != source, "source"),
         Reason::EndsSequence { row } => {
-            assert!(rows[row].is_atomic() && !rows[row].reads());
-            "sequence"
+            let is_write = rows[row].is_atomic() && !rows[row].reads();
+            (is_write, "sequence")
         }
-        Reason::NotAtomic { row, .. } => {
-            assert!(rows[row].is_plain());
-            "atomic"
-        }
+        Reason::NotAtomic { row, .. } => (rows[row].is_plain(), "atomic"),
     }
 }
 
@@ -135,8 +116,9 @@ fn check_table(table: &[u8], checker: &mut Checker, seen: &mut Seen) {
             _ => seen.pairs += 1,
         }
         for change in &cure.changes {
-            seen.reasons
-                .insert(check_reason(&Run::of(table), change.reason));
+            let (is_so, name) = is_so(&Run::of(table), change.reason);
+            assert!(is_so, "{:?}", change.reason);
+            seen.reasons.insert(name);
         }
     }
 }

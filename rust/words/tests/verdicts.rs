@@ -146,3 +146,22 @@ fn a_table_is_shown_row_by_row() {
     assert_eq!(show(b"ab"), "2 bytes: too few for a header\n");
     assert_eq!(show(&example("version-2")), "version 2, 0 agents, 0 rows\n");
 }
+
+/// A code without a meaning is shown as it is.
+#[test]
+fn codes_out_of_range_are_shown() {
+    let mut table = example("p");
+    // Row 1 of two agents: kind, scope, classes, flags and class.
+    let row = 8 + 2 * 6 + 16;
+    for (place, value) in [(0, 9), (3, 5), (4, 16), (5, 8), (6, 4)] {
+        table[row + place] = value;
+    }
+    let text = show(&table);
+    let line = text.lines().nth(5).unwrap();
+    for word in ["9?", "5?", "16?", "8?", "4?"] {
+        assert!(line.contains(word), "{line}");
+    }
+    let told = refusal(&table, &mut Checker::new()).unwrap();
+    assert!(told.starts_with("refused 5 1\n"), "{told}");
+    assert!(told.contains("kind 9?"), "{told}");
+}

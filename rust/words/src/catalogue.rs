@@ -27,6 +27,9 @@ pub fn catalogue(checked: Checked, goal: Goal) -> Vec<Change> {
         if fields.is_atomic() {
             maker.atomic(row, fields);
         }
+        if let Some(other) = maker.other(row) {
+            maker.reference(row, fields, other);
+        }
     }
     maker.changes
 }
@@ -89,7 +92,6 @@ impl Maker<'_> {
         }
         self.plain_flag(row, fields);
         if let Some(other) = self.other(row) {
-            self.reference(row, fields, other);
             self.not_atomic(row, fields, other);
         }
     }

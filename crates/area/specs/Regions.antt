@@ -37,6 +37,13 @@ STEP = 768
 abbrev pub STEP-END : ℕ
 STEP-END = 1344
 
+-- the layers of the search for a chain of steps, over moments; one more than there are moments
+abbrev pub CHAINS : ℕ
+CHAINS = 1344
+
+abbrev pub CHAINS-END : ℕ
+CHAINS-END = 1923
+
 -- location order: bits for each pair of rows
 abbrev pub LOCATION : ℕ
 LOCATION = 768

@@ -19,6 +19,10 @@ pub const STEP: usize = 768;
 
 pub const STEP_END: usize = 1344;
 
+pub const CHAINS: usize = 1344;
+
+pub const CHAINS_END: usize = 1923;
+
 pub const LOCATION: usize = 768;
 
 pub const LOCATION_END: usize = 1792;

@@ -11,6 +11,7 @@ pub mod Edge
 pub mod Refusal
 pub mod Check
 pub mod Fill
+pub mod Reason
 pub mod Runs
 pub mod Words
 pub mod HappensLaws

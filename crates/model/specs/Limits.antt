@@ -22,6 +22,14 @@ CYCLE-EDGES = 64
 abbrev pub SOURCES : ℕ
 SOURCES = 64
 
+-- steps of a derivation, at most: one fewer than there are moments; numbers of the chain buffer
+abbrev pub CHAIN : ℕ
+CHAIN = 191
+
+-- what a step adds to the moment that it reaches, for each number of its case
+abbrev pub CASE : ℕ
+CASE = 512
+
 -- bytes of an access, and of all that a start can reach
 abbrev pub LONGEST : ℕ
 LONGEST = 16

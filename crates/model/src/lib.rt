@@ -20,6 +20,12 @@ pub const CYCLE_EDGES: usize = 64;
 // The numbers of the source buffer.
 pub const SOURCES: usize = 64;
 
+// The steps of a derivation, at most: one fewer than there are moments. The numbers of the chain buffer.
+pub const CHAIN: usize = 191;
+
+// What a step adds to the moment that it reaches, for each number of its case.
+pub const CASE: u16 = 512;
+
 // ---- a table's parts
 
 // The family, workgroup and subgroup numbers of each agent.
@@ -101,4 +107,23 @@ pub enum FillAnswer {
     Race { first: u16, second: u16, byte: u16 },
     None,
     Filled,
+}
+
+// Why a moment happens before another: program order, or a chain of steps for this class set.
+pub enum Reason {
+    ProgramOrder,
+    Chain(u8),
+}
+
+pub enum AcceptAnswer {
+    Refused { number: u8, row: u16 },
+    Accepted,
+    NotAccepted,
+}
+
+pub enum DeriveAnswer {
+    Refused { number: u8, row: u16 },
+    ProgramOrder,
+    Chain { classes: u8, steps: u16 },
+    NotBefore,
 }

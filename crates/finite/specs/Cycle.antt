@@ -168,7 +168,7 @@ module _ (n : ℕ) (e : ℕ → ℕ → Bool) where
           let v = r .2 in
           ih (r .0) (omega arith) b (r .1) (r .3)
 
-  -- ---- a cycle is there exactly where a number reaches itself
+  -- ---- a walk of at most n steps is there exactly where a number is reached; a cycle, where one reaches itself
 
   way-reach : {x z : ℕ} {l : List ℕ} → 1 ≤ length l → Way n e x z l → Reach e n z x
   way-reach h there = absurd (not-suc-le-zero h)
@@ -179,22 +179,25 @@ module _ (n : ℕ) (e : ℕ → ℕ → Bool) where
   reach-way b (one {i} a) = (i ∷ [], omega arith, onward b a there)
   reach-way b (more {i} a d p) = let r = reach-way b p in (i ∷ r .0, omega arith, onward d a (r .2))
 
-  pub on-cycle-is : (x : ℕ) → x < n → (onCycle n e x ≡ true) ↔ Reach e n x x
-  unfolding onCycle
-  on-cycle-is x b = (out, λ p. into (reach-way b p))
+  pub walk-reach : (x z : ℕ) → x < n → z < n → (anyBelow n (λ k. walk n e x (suc k) z) ≡ true) ↔ Reach e n z x
+  walk-reach x z b d = (out, λ p. into (reach-way b p))
     where
       p : ℕ → Bool
-      p k = walk n e x (suc k) x
+      p k = walk n e x (suc k) z
 
-      out : anyBelow n p ≡ true → Reach e n x x
-      out t = let r = any-out p n t in let w = walk-way x (suc (r .0)) x .0 (r .2) in let q = w .1 in way-reach (omega arith) (w .2)
+      out : anyBelow n p ≡ true → Reach e n z x
+      out t = let r = any-out p n t in let w = walk-way x (suc (r .0)) z .0 (r .2) in let q = w .1 in way-reach (omega arith) (w .2)
 
-      into : (l : List ℕ) × (1 ≤ length l) × Way n e x x l → anyBelow n p ≡ true
-      into w = go (enough (length (w .0)) (omega arith) b (w .1) (w .2))
+      into : (l : List ℕ) × (1 ≤ length l) × Way n e x z l → anyBelow n p ≡ true
+      into w = go (enough (length (w .0)) (omega arith) d (w .1) (w .2))
         where
-          go : (l : List ℕ) × (1 ≤ length l) × (length l ≤ n) × Way n e x x l → anyBelow n p ≡ true
+          go : (l : List ℕ) × (1 ≤ length l) × (length l ≤ n) × Way n e x z l → anyBelow n p ≡ true
           go ([], h, k, q) = absurd (not-suc-le-zero h)
-          go (z ∷ l, h, k, q) = any-in p n (length l) k (way-walk q)
+          go (v ∷ l, h, k, q) = any-in p n (length l) k (way-walk q)
+
+  pub on-cycle-is : (x : ℕ) → x < n → (onCycle n e x ≡ true) ↔ Reach e n x x
+  unfolding onCycle
+  on-cycle-is x b = walk-reach x x b b
 
   pub cycle-exists : (cycleStart n e < n) ↔ ((x : ℕ) × (x < n) × Reach e n x x)
   unfolding cycleStart
@@ -346,3 +349,79 @@ module _ (f : ℕ → ℕ → ℕ) (x : ℕ) where
   along-last (a ∷ []) (suc k) h = absurd (omega arith)
   along-last (a ∷ (b ∷ l)) zero h = absurd (omega arith)
   along-last (a ∷ (b ∷ l)) (suc k) h = along-last (b ∷ l) k (omega arith)
+
+-- ---- between two different numbers fewer than n steps are enough
+
+module _ (n : ℕ) (e : ℕ → ℕ → Bool) where
+  -- a way's numbers, its end after the last
+  passed-below : {x z : ℕ} {l : List ℕ} → Way n e x z l → x < n → z < n → (k : ℕ) → getD l k x < n
+  passed-below there a b zero = a
+  passed-below there a b (suc k) = a
+  passed-below (onward d f p) a b zero = b
+  passed-below (onward d f p) a b (suc k) = passed-below p a d k
+
+  passed-in : (x : ℕ) (l : List ℕ) (k : ℕ) → k < length l → getD l k x ≡ getD l k 0
+  passed-in x [] k h = absurd (not-suc-le-zero h)
+  passed-in x (a ∷ l) zero h = refl
+  passed-in x (a ∷ l) (suc k) h = passed-in x l k (omega arith)
+
+  passed-end : (x : ℕ) (l : List ℕ) → getD l (length l) x ≡ x
+  passed-end x [] = refl
+  passed-end x (a ∷ l) = passed-end x l
+
+  -- a way that passes its end has a shorter one
+  ends : {x z : ℕ} {l : List ℕ} → Way n e x z l → (z ≡ x → ⊥) → (i : ℕ) → i < length l → getD l i 0 ≡ x
+      → (m : List ℕ) × (1 ≤ length m) × (length m < length l) × Way n e x z m
+  ends there apart i s r = absurd (not-suc-le-zero s)
+  ends (onward d f w) apart zero s r = absurd (apart r)
+  ends {x} (onward d f w) apart (suc i) s r =
+      let t = detour n e (onward d f w) (suc i) s [] (subst (λ (v : ℕ). Way n e x v []) (sym r) there) in
+      let u = t .1 in
+      (t .0, omega arith, omega arith, t .2)
+
+  -- and so has one that passes any number twice, its end among them
+  cut : {x z : ℕ} {l : List ℕ} → Way n e x z l → (z ≡ x → ⊥) → (i j : ℕ) → i < j → j ≤ length l → getD l i x ≡ getD l j x
+      → (m : List ℕ) × (1 ≤ length m) × (length m < length l) × Way n e x z m
+  cut {x} {z} {l} p apart i j h k q = go (decLt j (length l))
+    where
+      go : Dec (j < length l) → (m : List ℕ) × (1 ≤ length m) × (length m < length l) × Way n e x z m
+      go (yes s) = shorter n e p i j h s (sym (passed-in x l i (omega arith)) ∙ q ∙ passed-in x l j s)
+      go (no s) =
+          let t : j ≡ length l = omega arith in
+          ends p apart i (omega arith) (sym (passed-in x l i (omega arith)) ∙ q ∙ ap (λ (v : ℕ). getD l v x) t ∙ passed-end x l)
+
+  -- the fewest steps from z to x
+  pub least-apart : (x z : ℕ) → x < n → z < n → (z ≡ x → ⊥) → anyBelow n (λ j. walk n e x (suc j) z) ≡ true
+      → suc (least n (λ j. walk n e x (suc j) z)) < n
+  least-apart x z a b apart t = go (decLt (suc k) n)
+    where
+      p : ℕ → Bool
+      p j = walk n e x (suc j) z
+
+      k : ℕ
+      k = least n p
+
+      hit : (k < n) × (p k ≡ true)
+      hit = least-hit p n t
+
+      l : List ℕ
+      l = trail n e x (suc k) z
+
+      len : length l ≡ suc k
+      len = length-trail n e x (suc k) z
+
+      way : Way n e x z l
+      way = trail-way n e x (suc k) z (hit .1)
+
+      low : (m : List ℕ) → 1 ≤ length m → length m < length l → Way n e x z m → ⊥
+      low [] h s w = not-suc-le-zero h
+      low (v ∷ m) h s w = let d : k ≤ length m = least-low p n (length m) (way-walk n e w) in omega (arith, len)
+
+      go : Dec (suc k < n) → suc k < n
+      go (yes h) = h
+      go (no h) =
+          let f = hit .0 in
+          let s = twice n (λ (i : ℕ). getD l i x) (λ i c. passed-below way a b i) in
+          let u = s .3 in
+          let r = cut way apart (s .0) (s .1) (s .2) (omega (arith, len)) (s .4) in
+          absurd (low (r .0) (r .1) (r .2) (r .3))

@@ -1,5 +1,6 @@
 pub mod Check
 pub mod Fill
+pub mod Reason
 pub mod Cases
 pub mod Outcomes
 pub mod Searches

@@ -1,0 +1,366 @@
+-- Reasons a reviewer can follow: which derivations the reader accepts, that there is one exactly where a moment happens before
+-- another, and what holds of the one that is found. `judge` and `derive` are the definitions that the contracts of the entry
+-- points name.
+use mathlib.Core.Path.{_≡_, refl, sym, ap, subst, _∙_}
+use mathlib.Core.Bool.{Bool, true, false, not, cond}
+use mathlib.Core.List.{List, [], _∷_}
+use mathlib.Core.Logic.{_⊎_, inl, inr, ⊎-elim, _↔_}
+use Prim.Native.Nat.{ℕ, zero, suc, _+_, _-_, _*_, _/_, _%_, _≤_, _<_}
+use native.Mathlib.Omega.{arith}
+use native.Mathlib.Nat.{not-suc-le-zero}
+use native.Mathlib.Decide.{decLt}
+use lib.ListN.{length, getD}
+use lib.Dec.{ltb, leb, eqb}
+use borrow.Author.Tests.{ltb-true, lt-ltb, le-ltb, leb-true, le-leb, eqb-true, eqb-false, eq-eqb, ne-eqb}
+use Rattle.finite.specs.Logic.{_and_, _or_, which, split, and-true, or-cases, or-left, or-right, not-both, not-so, not-in, not-out}
+use Rattle.finite.specs.Below.{anyBelow, least, any-in, any-out, any-off, any-not, Least, least-is, least-hit}
+use Rattle.finite.specs.Closure.{Reach, one, more}
+use Rattle.finite.specs.Walk.{walk, trail, along}
+use Rattle.finite.specs.Cycle.{Way, there, onward, length-trail, length-along, trail-way, walk-reach, least-apart}
+use Rattle.model.specs.declared.Admission.the-variants.{Admitted, Refused}
+use Rattle.model.specs.declared.Reason.{Reason}
+use Rattle.model.specs.declared.Reason.the-variants.{ProgramOrder, Chain}
+use Rattle.model.specs.Limits.{ROWS, CHAIN, CASE, CLASS-SETS}
+use Rattle.model.specs.Table.{Table, rowsAt, tableOf, decode}
+use Rattle.model.specs.Moment.{AT, momentOf, momentIn, moment, orderedRows, programOrder}
+use Rattle.model.specs.Happens.{holding, holdingOf, bySync, toRelease, fromAcquire, direct, step, happens}
+use Rattle.model.specs.HappensLaws.{happens-is}
+use Rattle.model.specs.Words.{HappensBefore}
+use Rattle.model.specs.AdmissionLaws.{admitted-sound, rows-fit}
+use Rattle.model.specs.Refusal.{buffersFit, admission}
+use Rattle.model.specs.Reason.{caseIn, reached, stepTo, stepHolds, stands, broken, chainHolds, accepts, twoMoments, hasChain, chainSize, lowestCase, stepNumber, chain, hasChainBy, chainOr, ours, Judged, accepted, notAccepted, judged, admittedReader, judge, Derived, word, chained, notBefore, derivedOf, admittedDerive, derive, refused}
+
+-- ---- words of the page
+
+module _ (t : Table) where
+  -- the step x leads from moment m to a moment that is there, by the direct case of M6 that it names
+  pub record Holds (s m x : ℕ) : Type 0 where
+    pub there : moment t (reached x) ≡ true
+    pub by : ((caseIn x ≡ 1) × (bySync t s m (reached x) ≡ true))
+        ⊎ (((caseIn x ≡ 2) × (toRelease t s m (reached x) ≡ true)) ⊎ ((caseIn x ≡ 3) × (fromAcquire t s m (reached x) ≡ true)))
+
+  -- steps that hold for the class set s lead from a moment to another
+  pub data Leads (s : ℕ) : ℕ → List ℕ → ℕ → Type 0 where
+    done : {m : ℕ} → Leads s m [] m
+    next : {m x k : ℕ} {l : List ℕ} → Holds s m x → Leads s (reached x) l k → Leads s m (x ∷ l) k
+
+  -- what the reader accepts of moments m and k: the word where program order holds, or a chain of 1 to CHAIN such steps
+  pub data Accepted (m k : ℕ) : Reason → List ℕ → Type 0 where
+    by-word : programOrder t m k ≡ true → Accepted m k ProgramOrder []
+    by-chain : {s : ℕ} {l : List ℕ} → 1 ≤ s → s ≤ CLASS-SETS → 1 ≤ length l → length l ≤ CHAIN → Leads s m l k → Accepted m k (Chain s) l
+
+-- ---- a step
+
+module _ (t : Table) (s m : ℕ) where
+  step-out : (x : ℕ) → stepHolds t s m x ≡ true → Holds t s m x
+  unfolding stepHolds direct
+  step-out x h = record { there = split h .0; by = go (or-cases _ _ (split h .1)) }
+    where
+      k : ℕ
+      k = reached x
+
+      inner : ((eqb (caseIn x) 1 and bySync t s m k) ≡ true) ⊎ ((eqb (caseIn x) 2 and toRelease t s m k) ≡ true)
+          → ((caseIn x ≡ 1) × (bySync t s m k ≡ true)) ⊎ (((caseIn x ≡ 2) × (toRelease t s m k ≡ true)) ⊎ ((caseIn x ≡ 3) × (fromAcquire t s m k ≡ true)))
+      inner (inl e) = inl (eqb-true _ _ (split e .0), split e .1)
+      inner (inr e) = inr (inl (eqb-true _ _ (split e .0), split e .1))
+
+      go : ((eqb (caseIn x) 1 and bySync t s m k or eqb (caseIn x) 2 and toRelease t s m k) ≡ true) ⊎ ((eqb (caseIn x) 3 and fromAcquire t s m k) ≡ true)
+          → ((caseIn x ≡ 1) × (bySync t s m k ≡ true)) ⊎ (((caseIn x ≡ 2) × (toRelease t s m k ≡ true)) ⊎ ((caseIn x ≡ 3) × (fromAcquire t s m k ≡ true)))
+      go (inl e) = inner (or-cases _ _ e)
+      go (inr e) = inr (inr (eqb-true _ _ (split e .0), split e .1))
+
+  step-in : (x : ℕ) → Holds t s m x → stepHolds t s m x ≡ true
+  unfolding stepHolds direct
+  step-in x h =
+      and-true (h .there)
+      (⊎-elim (λ a. or-left _ (or-left _ (and-true (eq-eqb _ _ (a .0)) (a .1))))
+      (λ b. ⊎-elim (λ a. or-left _ (or-right _ (and-true (eq-eqb _ _ (a .0)) (a .1)))) (λ a. or-right _ (and-true (eq-eqb _ _ (a .0)) (a .1))) b)
+      (h .by))
+
+  -- it is one of the steps that inter-thread order is the closure of
+  step-is : (x : ℕ) → Holds t s m x → step t s m (reached x) ≡ true
+  unfolding step
+  step-is x h =
+      ⊎-elim (λ a. or-left _ (or-left _ (a .1))) (λ b. ⊎-elim (λ a. or-left _ (or-right _ (a .1))) (λ a. or-right _ (a .1)) b) (h .by)
+
+  -- a moment that is reached is there
+  own : (k : ℕ) → k < 3 * t .rows → holding t s k ≡ true → moment t k ≡ true
+  unfolding holding holdingOf moment momentIn momentOf
+  own k l e = and-true (lt-ltb (k / 3) (t .rows) (omega arith)) (or-left _ (or-left _ (split (split e .0) .0)))
+
+  ordered : (k : ℕ) → programOrder t m k ≡ true → moment t k ≡ true
+  unfolding programOrder orderedRows moment
+  ordered k e = split e .1
+
+  moment-there : (k : ℕ) → k < 3 * t .rows → step t s m k ≡ true → moment t k ≡ true
+  unfolding step bySync toRelease fromAcquire
+  moment-there k l h = go (or-cases _ _ h)
+    where
+      inner : (bySync t s m k ≡ true) ⊎ (toRelease t s m k ≡ true) → moment t k ≡ true
+      inner (inl e) = own k l (split (split e .0) .1)
+      inner (inr e) = own k l (split (split (split e .0) .0) .0)
+
+      go : ((bySync t s m k or toRelease t s m k) ≡ true) ⊎ (fromAcquire t s m k ≡ true) → moment t k ≡ true
+      go (inl e) = inner (or-cases _ _ e)
+      go (inr e) = ordered k (split e .1)
+
+-- ---- a chain
+
+stands-next : (t : Table) (m x : ℕ) (l : List ℕ) (i : ℕ) → stands t m (x ∷ l) (suc i) ≡ stands t (reached x) l i
+unfolding stands
+stands-next t m x l zero = refl
+stands-next t m x l (suc i) =
+    let a : suc (suc i) - 1 ≡ suc i = omega arith in
+    let b : suc i - 1 ≡ i = omega arith in
+    rw (a, b, ne-eqb (suc (suc i)) 0 (λ q. absurd (omega arith)), ne-eqb (suc i) 0 (λ q. absurd (omega arith))) refl
+
+module _ (t : Table) (s : ℕ) where
+  -- each step holds where it stands
+  abbrev Each : ℕ → List ℕ → Type 0
+  Each m l = (i : ℕ) → i < length l → stepHolds t s (stands t m l i) (getD l i 0) ≡ true
+
+  leads-in : (m k : ℕ) (l : List ℕ) → Each m l → stands t m l (length l) ≡ k → Leads t s m l k
+  unfolding stands
+  leads-in m k [] h e = rw e done
+  leads-in m k (x ∷ l) h e =
+      next (step-out t s m x (h 0 (omega arith)))
+      (leads-in (reached x) k l (λ i b. rw (stands-next t m x l i) at (h (suc i) (omega arith))) (sym (stands-next t m x l (length l)) ∙ e))
+
+  leads-each : {m k : ℕ} {l : List ℕ} → Leads t s m l k → Each m l
+  unfolding stands
+  leads-each done i b = absurd (not-suc-le-zero b)
+  leads-each {m} (next {x = x} {l = l} h p) zero b = step-in t s m x h
+  leads-each {m} (next {x = x} {l = l} h p) (suc i) b = rw (stands-next t m x l i) (leads-each p i (omega arith))
+
+  leads-end : {m k : ℕ} {l : List ℕ} → Leads t s m l k → stands t m l (length l) ≡ k
+  unfolding stands
+  leads-end done = refl
+  leads-end {m} (next {x = x} {l = l} h p) = stands-next t m x l (length l) ∙ leads-end p
+
+  chain-out : (m k : ℕ) (l : List ℕ) → chainHolds t s m k l ≡ true → Accepted t m k (Chain s) l
+  unfolding chainHolds broken
+  chain-out m k l h =
+      let a = split h in
+      let b = split (a .0) in
+      let c = split (b .0) in
+      let d = split (c .0) in
+      let e = split (d .0) in
+      by-chain (ltb-true _ _ (e .0)) (leb-true _ _ (e .1)) (ltb-true _ _ (d .1)) (leb-true _ _ (c .1))
+      (leads-in m k l (λ i q. not-false _ (any-off (broken t s m l) (length l) (not-out _ (a .1)) i q)) (eqb-true _ _ (b .1)))
+    where
+      not-false : (v : Bool) → not v ≡ false → v ≡ true
+      not-false true q = refl
+      not-false false q = not-both refl q
+
+  chain-in : (m k : ℕ) (l : List ℕ) → 1 ≤ s → s ≤ CLASS-SETS → 1 ≤ length l → length l ≤ CHAIN → Leads t s m l k → chainHolds t s m k l ≡ true
+  unfolding chainHolds broken
+  chain-in m k l a b c d p =
+      and-true
+      (and-true (and-true (and-true (and-true (lt-ltb _ _ a) (le-leb _ _ b)) (lt-ltb _ _ c)) (le-leb _ _ d)) (eq-eqb _ _ (leads-end p)))
+      (not-in (any-not (broken t s m l) (length l) (λ i q. ap not (leads-each p i q))))
+
+-- ---- PROMISE: a derivation is accepted exactly if it is the word and program order holds, or its chain leads from the first moment to
+-- the second in 1 to CHAIN steps that hold in the table for its one class set
+
+pub accepts-exactly : (t : Table) (m k : ℕ) (r : Reason) (l : List ℕ) → (accepts t m k r l ≡ true) ↔ Accepted t m k r l
+unfolding accepts
+accepts-exactly t m k ProgramOrder l = (out l, back l)
+  where
+    out : (l : List ℕ) → (eqb (length l) 0 and programOrder t m k) ≡ true → Accepted t m k ProgramOrder l
+    out [] h = by-word (split h .1)
+    out (x ∷ l) h = let e : suc (length l) ≡ 0 = eqb-true _ _ (split h .0) in absurd (omega arith)
+
+    back : (l : List ℕ) → Accepted t m k ProgramOrder l → (eqb (length l) 0 and programOrder t m k) ≡ true
+    back [] (by-word h) = and-true (eq-eqb 0 0 refl) h
+accepts-exactly t m k (Chain s) l = (chain-out t s m k l, back s l)
+  where
+    back : (s : ℕ) (l : List ℕ) → Accepted t m k (Chain s) l → chainHolds t s m k l ≡ true
+    back s l (by-chain a b c d p) = chain-in t s m k l a b c d p
+
+-- ---- a chain is a path of direct cases
+
+module _ (t : Table) (s : ℕ) where
+  below : (k : ℕ) → moment t k ≡ true → k < 3 * t .rows
+  unfolding moment momentIn
+  below k h = let e : k / 3 < t .rows = ltb-true _ _ (split h .0) in omega arith
+
+  leads-reach : {m k : ℕ} {l : List ℕ} → 1 ≤ length l → Leads t s m l k → Reach (step t s) (3 * t .rows) m k
+  leads-reach b done = absurd (not-suc-le-zero b)
+  leads-reach {m} b (next {x = x} h done) = one (step-is t s m x h)
+  leads-reach {m} b (next {x = x} h (next g p)) = more (step-is t s m x h) (below (reached x) (h .there)) (leads-reach (omega arith) (next g p))
+
+  -- the lowest case that leads to a moment is one of M6's
+  lowest-holds : (m k : ℕ) → k < CASE → moment t k ≡ true → step t s m k ≡ true → Holds t s m (stepNumber t s m k)
+  unfolding stepNumber lowestCase step
+  lowest-holds m k b here h = go (which (bySync t s m k)) (which (toRelease t s m k))
+    where
+      to : (case : ℕ) → (caseIn (stepTo case k) ≡ case) × (reached (stepTo case k) ≡ k)
+      to case = (omega arith, omega arith)
+
+      last : bySync t s m k ≡ false → toRelease t s m k ≡ false → fromAcquire t s m k ≡ true
+      last x y = ⊎-elim (λ a. ⊎-elim (λ c. not-both c x) (λ c. not-both c y) (or-cases _ _ a)) (λ a. a) (or-cases _ _ h)
+
+      go : (bySync t s m k ≡ true) ⊎ (bySync t s m k ≡ false) → (toRelease t s m k ≡ true) ⊎ (toRelease t s m k ≡ false)
+          → Holds t s m (stepTo (cond (bySync t s m k) 1 (cond (toRelease t s m k) 2 3)) k)
+      go (inl x) y = rw x (record { there = rw (to 1 .1) here; by = inl (to 1 .0, rw (to 1 .1) x) })
+      go (inr x) (inl y) = rw (x, y) (record { there = rw (to 2 .1) here; by = inr (inl (to 2 .0, rw (to 2 .1) y)) })
+      go (inr x) (inr y) = rw (x, y) (record { there = rw (to 3 .1) here; by = inr (inr (to 3 .0, rw (to 3 .1) (last x y))) })
+
+  hop : (z w : ℕ) {k : ℕ} {l : List ℕ} → t .rows ≤ ROWS → w < 3 * t .rows → step t s z w ≡ true → Leads t s w l k → Leads t s z (stepNumber t s z w ∷ l) k
+  unfolding stepNumber
+  hop z w {k} {l} f d a p =
+      let e : reached (stepTo (lowestCase t s z w) w) ≡ w = omega arith in
+      next {k = k} {l = l} (lowest-holds z w (omega arith) (moment-there t s z w d a) a) (rw e p)
+
+  way-leads : t .rows ≤ ROWS → {k z : ℕ} {l : List ℕ} → Way (3 * t .rows) (step t s) k z l → Leads t s z (along (stepNumber t s) k l) k
+  unfolding along
+  way-leads f there = done
+  way-leads f {k} (onward {z} {w} d a there) = hop z w f d a done
+  way-leads f {k} (onward {z} {w} d a (onward {l = l} g b p)) = hop z w f d a (way-leads f (onward g b p))
+
+  -- where there is a chain, the shortest is accepted: it has fewer steps than there are moments
+  chain-accepted : t .rows ≤ ROWS → 1 ≤ s → s ≤ CLASS-SETS → (m k : ℕ) → twoMoments t m k ≡ true → hasChain t s m k ≡ true → chainHolds t s m k (chain t s m k) ≡ true
+  unfolding chain hasChain chainSize twoMoments
+  chain-accepted f a b m k two h =
+      let d = split two in
+      let c = split (d .0) in
+      let hit = least-hit (λ j. walk (3 * t .rows) (step t s) k (suc j) m) (3 * t .rows) h in
+      let size = least-apart (3 * t .rows) (step t s) k m (below k (c .1)) (below m (c .0)) (eqb-false _ _ (not-out _ (d .1))) h in
+      let l = trail (3 * t .rows) (step t s) k (suc (least (3 * t .rows) (λ j. walk (3 * t .rows) (step t s) k (suc j) m))) m in
+      let e : length (along (stepNumber t s) k l) ≡ suc (least (3 * t .rows) (λ j. walk (3 * t .rows) (step t s) k (suc j) m)) =
+      length-along (stepNumber t s) k l ∙ length-trail (3 * t .rows) (step t s) k _ m
+      in
+      chain-in t s m k (along (stepNumber t s) k l) a b (omega arith) (omega arith) (way-leads f (trail-way (3 * t .rows) (step t s) k _ m (hit .1)))
+
+-- ---- PROMISE: some derivation is accepted exactly where the first moment happens before the second, so none is otherwise
+
+module _ (t : Table) (m k : ℕ) (f : t .rows ≤ ROWS) (two : twoMoments t m k ≡ true) where
+  first-there : moment t m ≡ true
+  unfolding twoMoments
+  first-there = split (split two .0) .0
+
+  second-there : moment t k ≡ true
+  unfolding twoMoments
+  second-there = split (split two .0) .1
+
+  -- a chain for a class set, and a path of its direct cases
+  chain-reach : (s : ℕ) → (hasChain t s m k ≡ true) ↔ Reach (step t s) (3 * t .rows) m k
+  unfolding hasChain
+  chain-reach s = walk-reach (3 * t .rows) (step t s) k m (below t s k second-there) (below t s m first-there)
+
+  pub accepted-before : ((r : Reason) × (l : List ℕ) × (accepts t m k r l ≡ true)) ↔ HappensBefore t m k
+  accepted-before = (λ d. forth (d .0) (d .1) (accepts-exactly t m k (d .0) (d .1) .0 (d .2)), back)
+    where
+      forth : (r : Reason) (l : List ℕ) → Accepted t m k r l → HappensBefore t m k
+      forth ProgramOrder [] (by-word h) = inl h
+      forth (Chain s) l (by-chain a b c d p) = inr (s, a, b, leads-reach t s c p)
+
+      back : HappensBefore t m k → (r : Reason) × (l : List ℕ) × (accepts t m k r l ≡ true)
+      back (inl h) = (ProgramOrder, [], accepts-exactly t m k ProgramOrder [] .1 (by-word h))
+      back (inr (s, a, b, r)) = (Chain s, chain t s m k, taken s a b r)
+        where
+          taken : (s : ℕ) → 1 ≤ s → s ≤ CLASS-SETS → Reach (step t s) (3 * t .rows) m k → accepts t m k (Chain s) (chain t s m k) ≡ true
+          taken s a b r = go (chain-accepted t s f a b m k two (chain-reach s .1 r))
+            where
+              go : chainHolds t s m k (chain t s m k) ≡ true → accepts t m k (Chain s) (chain t s m k) ≡ true
+              go e = accepts-exactly t m k (Chain s) (chain t s m k) .1 (chain-out t s m k (chain t s m k) e)
+
+  -- ---- PROMISE: what is said of the two moments by the derivation that is found holds; which one is found is undecided, and ours
+
+  -- the word and a chain are accepted; not before is said where the first does not happen before the second; nothing is refused
+  abbrev pub Said : Derived → Type 0
+  Said word = accepts t m k ProgramOrder [] ≡ true
+  Said (chained s l) = accepts t m k (Chain s) l ≡ true
+  Said notBefore = HappensBefore t m k → ⊥
+  Said (refused n i) = ⊥
+
+  pub ours-said : Said (ours t m k)
+  unfolding ours chainOr hasChainBy accepts
+  ours-said = go (which (programOrder t m k)) (decLt c CLASS-SETS)
+    where
+      c : ℕ
+      c = least CLASS-SETS (hasChainBy t m k)
+
+      found : Least CLASS-SETS (hasChainBy t m k) c
+      found = least-is (hasChainBy t m k) CLASS-SETS
+
+      none : programOrder t m k ≡ false → c ≡ CLASS-SETS → HappensBefore t m k → ⊥
+      none x e (inl h) = not-both h x
+      none x e (inr (zero, a, b, r)) = omega arith
+      none x e (inr (suc j, a, b, r)) = not-both (chain-reach (suc j) .1 r) (found .miss j (omega arith))
+
+      go : (programOrder t m k ≡ true) ⊎ (programOrder t m k ≡ false) → Dec (c < CLASS-SETS)
+          → Said (cond (programOrder t m k) word (cond (ltb c CLASS-SETS) (chained (suc c) (chain t (suc c) m k)) notBefore))
+      go (inl x) d = rw x (and-true (eq-eqb 0 0 refl) x)
+      go (inr x) (yes d) = rw (x, lt-ltb c CLASS-SETS d) (chain-accepted t (suc c) f (omega arith) d m k two (found .hit d))
+      go (inr x) (no d) = rw (x, le-ltb c CLASS-SETS (omega arith)) (none x (let b = found .bound in omega arith))
+
+  -- NOT BEFORE is said exactly where the first does not happen before the second
+  pub ours-none : (ours t m k ≡ notBefore) ↔ (HappensBefore t m k → ⊥)
+  ours-none = (λ e. subst Said e ours-said, λ n. go (ours t m k) ours-said n)
+    where
+      go : (d : Derived) → Said d → (HappensBefore t m k → ⊥) → d ≡ notBefore
+      go word a n = absurd (n (accepted-before .0 (ProgramOrder, [], a)))
+      go (chained s l) a n = absurd (n (accepted-before .0 (Chain s, l, a)))
+      go notBefore a n = refl
+      go (refused i j) a n = absurd a
+
+-- ---- PROMISES: of any bytes
+
+module _ (s : List ℕ) (m k : ℕ) where
+  -- a fill's refusals come first; then 12, row 0, unless the numbers name two moments
+  pub reads-refused : (r : Reason) (l : List ℕ) (n i : ℕ) → admission true s ≡ Refused n i → judge s m k r l ≡ refused n i
+  unfolding judge admittedReader
+  reads-refused r l n i e = rw e refl
+
+  pub reads-12 : (r : Reason) (l : List ℕ) {a n : ℕ} → admission true s ≡ Admitted a n → twoMoments (tableOf s) m k ≡ false → judge s m k r l ≡ refused 12 0
+  unfolding judge admittedReader judged
+  reads-12 r l e x = rw (e, x) refl
+
+  -- ACCEPTED is said exactly of what the page calls so
+  pub reads-accepted : (r : Reason) (l : List ℕ) {a n : ℕ} → admission true s ≡ Admitted a n → twoMoments (tableOf s) m k ≡ true
+      → (judge s m k r l ≡ accepted) ↔ Accepted (tableOf s) m k r l
+  unfolding judge admittedReader judged
+  reads-accepted r l e two = (λ h. accepts-exactly (tableOf s) m k r l .0 (taken (which (accepts (tableOf s) m k r l)) (rw (e, two) at h)), λ h. rw (e, two, accepts-exactly (tableOf s) m k r l .1 h) refl)
+    where
+      taken : (accepts (tableOf s) m k r l ≡ true) ⊎ (accepts (tableOf s) m k r l ≡ false) → cond (accepts (tableOf s) m k r l) accepted notAccepted ≡ accepted
+          → accepts (tableOf s) m k r l ≡ true
+      taken (inl x) h = x
+      taken (inr x) h = absurd (apart (rw x at h))
+        where
+          apart : notAccepted ≡ accepted → ⊥
+          apart q = subst (λ (j : Judged). is j) q tt
+            where
+              is : Judged → Type 0
+              is notAccepted = Unit
+              is accepted = ⊥
+              is (refused n i) = ⊥
+
+  module _ (work buffer : ℕ) where
+    pub derives-11 : buffersFit CHAIN work buffer ≡ false → derive s m k work buffer ≡ refused 11 0
+    unfolding derive
+    derives-11 x = rw x refl
+
+    module _ (room : buffersFit CHAIN work buffer ≡ true) where
+      pub derives-refused : (n i : ℕ) → admission true s ≡ Refused n i → derive s m k work buffer ≡ refused n i
+      unfolding derive admittedDerive
+      derives-refused n i e = rw (room, e) refl
+
+      pub derives-12 : {a n : ℕ} → admission true s ≡ Admitted a n → twoMoments (tableOf s) m k ≡ false → derive s m k work buffer ≡ refused 12 0
+      unfolding derive admittedDerive derivedOf
+      derives-12 e x = rw (room, e, x) refl
+
+      -- of two moments the answer is ours, so that all of the above holds of it
+      pub derives-ours : {a n : ℕ} → admission true s ≡ Admitted a n → twoMoments (tableOf s) m k ≡ true → derive s m k work buffer ≡ ours (tableOf s) m k
+      unfolding derive admittedDerive derivedOf
+      derives-ours e two = rw (room, e, two) refl
+
+      -- it depends on the table and the two moments alone
+      pub same-derivation : (work′ buffer′ : ℕ) → buffersFit CHAIN work′ buffer′ ≡ true → derive s m k work′ buffer′ ≡ derive s m k work buffer
+      unfolding derive
+      same-derivation work′ buffer′ room′ = rw (room, room′) refl
+
+-- an admitted table is within the limit that the page asks for
+pub rows-within : (s : List ℕ) {a n : ℕ} → admission true s ≡ Admitted a n → tableOf s .rows ≤ ROWS
+unfolding tableOf decode
+rows-within s e = rows-fit (admitted-sound true s e)

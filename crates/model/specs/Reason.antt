@@ -36,16 +36,16 @@ reached x = x % CASE
 abbrev pub stepTo : ℕ → ℕ → ℕ
 stepTo case k = CASE * case + k
 
+-- the moment that step i of a chain from m starts at; after all steps, where the chain ends
+unfoldable pub stands : ℕ → List ℕ → ℕ → ℕ
+stands m steps i = cond (eqb i 0) m (reached (getD steps (i - 1) 0))
+
 -- ---- when a derivation is accepted
 
 module _ (t : Table) where
   -- the step x from moment m holds for the class set s: the moment that it reaches is there, and its case leads to it
   unfoldable pub stepHolds : ℕ → ℕ → ℕ → Bool
   stepHolds s m x = moment t (reached x) and direct t s (caseIn x) m (reached x)
-
-  -- the moment that step i of a chain from m starts at; after all steps, where the chain ends
-  unfoldable pub stands : ℕ → List ℕ → ℕ → ℕ
-  stands m steps i = cond (eqb i 0) m (reached (getD steps (i - 1) 0))
 
   -- step i doesn't hold
   unfoldable pub broken : ℕ → ℕ → List ℕ → ℕ → Bool

@@ -106,10 +106,10 @@ module _ (t : Table) (s m : ℕ) where
 
 -- ---- a chain
 
-stands-next : (t : Table) (m x : ℕ) (l : List ℕ) (i : ℕ) → stands t m (x ∷ l) (suc i) ≡ stands t (reached x) l i
+stands-next : (m x : ℕ) (l : List ℕ) (i : ℕ) → stands m (x ∷ l) (suc i) ≡ stands (reached x) l i
 unfolding stands
-stands-next t m x l zero = refl
-stands-next t m x l (suc i) =
+stands-next m x l zero = refl
+stands-next m x l (suc i) =
     let a : suc (suc i) - 1 ≡ suc i = omega arith in
     let b : suc i - 1 ≡ i = omega arith in
     rw (a, b, ne-eqb (suc (suc i)) 0 (λ q. absurd (omega arith)), ne-eqb (suc i) 0 (λ q. absurd (omega arith))) refl
@@ -117,25 +117,25 @@ stands-next t m x l (suc i) =
 module _ (t : Table) (s : ℕ) where
   -- each step holds where it stands
   abbrev Each : ℕ → List ℕ → Type 0
-  Each m l = (i : ℕ) → i < length l → stepHolds t s (stands t m l i) (getD l i 0) ≡ true
+  Each m l = (i : ℕ) → i < length l → stepHolds t s (stands m l i) (getD l i 0) ≡ true
 
-  leads-in : (m k : ℕ) (l : List ℕ) → Each m l → stands t m l (length l) ≡ k → Leads t s m l k
+  leads-in : (m k : ℕ) (l : List ℕ) → Each m l → stands m l (length l) ≡ k → Leads t s m l k
   unfolding stands
   leads-in m k [] h e = rw e done
   leads-in m k (x ∷ l) h e =
       next (step-out t s m x (h 0 (omega arith)))
-      (leads-in (reached x) k l (λ i b. rw (stands-next t m x l i) at (h (suc i) (omega arith))) (sym (stands-next t m x l (length l)) ∙ e))
+      (leads-in (reached x) k l (λ i b. rw (stands-next m x l i) at (h (suc i) (omega arith))) (sym (stands-next m x l (length l)) ∙ e))
 
   leads-each : {m k : ℕ} {l : List ℕ} → Leads t s m l k → Each m l
   unfolding stands
   leads-each done i b = absurd (not-suc-le-zero b)
   leads-each {m} (next {x = x} {l = l} h p) zero b = step-in t s m x h
-  leads-each {m} (next {x = x} {l = l} h p) (suc i) b = rw (stands-next t m x l i) (leads-each p i (omega arith))
+  leads-each {m} (next {x = x} {l = l} h p) (suc i) b = rw (stands-next m x l i) (leads-each p i (omega arith))
 
-  leads-end : {m k : ℕ} {l : List ℕ} → Leads t s m l k → stands t m l (length l) ≡ k
+  leads-end : {m k : ℕ} {l : List ℕ} → Leads t s m l k → stands m l (length l) ≡ k
   unfolding stands
   leads-end done = refl
-  leads-end {m} (next {x = x} {l = l} h p) = stands-next t m x l (length l) ∙ leads-end p
+  leads-end {m} (next {x = x} {l = l} h p) = stands-next m x l (length l) ∙ leads-end p
 
   chain-out : (m k : ℕ) (l : List ℕ) → chainHolds t s m k l ≡ true → Accepted t m k (Chain s) l
   unfolding chainHolds broken

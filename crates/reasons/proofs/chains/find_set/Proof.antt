@@ -1,0 +1,111 @@
+-- `find_set` meets its contract: no lower class set has a chain. Assumes nothing.
+use mathlib.Core.Path.{_≡_, refl, sym, _∙_}
+use Prim.Native.Nat.{_-_, _≤_}
+use native.Mathlib.Omega.{arith}
+use lib.ListN.{length}
+use Rattle.finite.specs.Below.{least, least-none}
+use Rattle.bits.specs.Within.{Within, within-refl, within-trans}
+use Rattle.model.specs.Limits.{CLASS-SETS}
+use Rattle.model.specs.Table.{decode}
+use Rattle.model.specs.Reason.{hasChainBy}
+use Rattle.area.specs.Regions.{HAPPENS, CHAINS-END}
+use Rattle.sequence.specs.Known.{Synced, synced-kept}
+use Rattle.reasons.specs.Found.{set-found, set-missed}
+use borrow.Author.Needs.{needs}
+use Rattle.reasons.proofs.chains.find_set.Statement.{statement}
+use Rattle.reasons.proofs.chains.find_set.Tie as tie
+use Rattle.reasons.proofs.chains.find_set.Reads as reads
+use Rattle.reasons.proofs.chains.find_set.Lts as lts
+use Rattle.reasons.proofs.layers.layer_of.Reads as layer-of-reads
+use Rattle.reasons.proofs.layers.make_layers.Reads as make-layers-reads
+
+abbrev Inv-loop : tie.InvT-loop
+Inv-loop rows p n first second w₀ c₀ w c = (c ≤ CLASS-SETS) × (length w ≡ length w₀) × (least c (hasChainBy (decode rows p n) first second) ≡ c) × Synced (decode rows p n) n w × Within HAPPENS CHAINS-END w₀ w
+
+abbrev μ-loop : tie.MeasureT-loop
+μ-loop rows p n first second w₀ c₀ w c = CLASS-SETS - c
+
+-- src/chains.rt:42:5
+loop-holds : tie.Need-loop-holds Inv-loop μ-loop
+loop-holds c = (search needs, refl, least-none _, c .before .before .pre .4, within-refl _ _ _)
+
+-- src/chains.rt:43:41
+add-make-layers : tie.Need-add-make-layers Inv-loop μ-loop
+add-make-layers c = search needs
+
+-- src/chains.rt:43:9
+make-layers-requires : tie.Need-make-layers-requires Inv-loop μ-loop
+make-layers-requires c κs = search needs
+
+-- src/chains.rt:44:37
+mul-layer-of : tie.Need-mul-layer-of Inv-loop μ-loop
+mul-layer-of c = search needs
+
+-- src/chains.rt:44:13
+layer-of-requires : tie.Need-layer-of-requires Inv-loop μ-loop
+layer-of-requires c κs = search needs
+
+-- src/chains.rt:45:16
+mul-if1 : tie.Need-mul-if1 Inv-loop μ-loop
+mul-if1 c = search needs
+
+-- src/chains.rt:46:13
+same-length : tie.Need-same-length Inv-loop μ-loop
+same-length c = search needs
+
+-- src/chains.rt:46:13
+returns : tie.Need-returns Inv-loop μ-loop
+unfolding decode
+returns c =
+    let start = c .before .before .before .before .before .before .before .before .before .before .before in
+    let inv = c .before .before .before .before .before .before .before .before .loop .inv in
+    let made = c .before .before .before .before .before .make-layers .ensures in
+    (set-found refl (made .layered) _ _ (start .pre .2) (c .before .layer-of .ensures .0) (inv .2) (c .before .before .before .before .before .before .before .loop-test .taken) (c .if1 .taken), within-trans (inv .4) (made .frame), λ h. made .layered)
+
+-- src/chains.rt:42:9
+add-c : tie.Need-add-c Inv-loop μ-loop
+add-c c = search needs
+
+-- src/chains.rt:42:5
+loop-less : tie.Need-loop-less Inv-loop μ-loop
+loop-less c = search needs
+
+-- src/chains.rt:42:5
+loop-again : tie.Need-loop-again Inv-loop μ-loop
+unfolding decode
+loop-again c =
+    let start = c .before .before .before .before .before .before .before .before .before .before .before in
+    let inv = c .before .before .before .before .before .before .before .before .loop .inv in
+    let made = c .before .before .before .before .before .make-layers .ensures in
+    (search needs, made .frame .len ∙ inv .1, set-missed refl (made .layered) _ _ (start .pre .2) (c .before .layer-of .ensures .0) (inv .2) (c .if1 .left), synced-kept (omega arith) (made .frame) (inv .3), within-trans (inv .4) (made .frame))
+
+-- src/chains.rt:29:1
+same-length-2 : tie.Need-same-length-2 Inv-loop μ-loop
+same-length-2 c = search needs
+
+-- src/chains.rt:29:1
+returns-2 : tie.Need-returns-2 Inv-loop μ-loop
+returns-2 c =
+    let e : c .before .loop .c ≡ CLASS-SETS = omega arith in
+    let inv = c .before .loop .inv in
+    (sym (rw e at (inv .2)), inv .4, λ h. absurd (omega arith))
+
+pub find-set-spec : {M : Type 1} → statement M
+find-set-spec =
+    tie.close
+    (tie.spec
+    Inv-loop
+    μ-loop
+    loop-holds
+    add-make-layers
+    make-layers-requires
+    mul-layer-of
+    layer-of-requires
+    mul-if1
+    same-length
+    returns
+    add-c
+    loop-less
+    loop-again
+    same-length-2
+    returns-2)

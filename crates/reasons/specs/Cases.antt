@@ -1,0 +1,60 @@
+-- The lowest direct case of M6 on rows that are decoded already, and that it is the table's. Assumes nothing.
+use mathlib.Core.Path.{_≡_, refl, sym, ap, _∙_}
+use mathlib.Core.Bool.{Bool, true, false, cond}
+use mathlib.Core.List.{List}
+use Prim.Native.Nat.{ℕ, _+_, _*_, _/_, _%_, _≤_, _<_}
+use native.Mathlib.Omega.{arith}
+use Rattle.finite.specs.Logic.{_and_}
+use Rattle.bits.specs.Bit.{bit}
+use Rattle.bits.specs.Stage.{holds-bit}
+use Rattle.model.specs.declared.Row.{Row}
+use Rattle.model.specs.Limits.{CASE}
+use Rattle.model.specs.Row.{releases}
+use Rattle.model.specs.Table.{decode, rowOf}
+use Rattle.model.specs.Moment.{rowIn, part, programOrder}
+use Rattle.model.specs.Synchronizes.{synchronizes}
+use Rattle.model.specs.Happens.{holdingOf, concernsOf, holding, concerns, bySync, toRelease}
+use Rattle.model.specs.Reason.{lowestCase, stepNumber, stepTo}
+use Rattle.area.specs.Regions.{SYNC, GRID}
+use Rattle.sequence.specs.Known.{Synced}
+
+-- ---- definitions
+
+-- M6: the lowest case that leads from the moment `from` of r to the moment `to` of q; b says that r synchronizes-with q, o that the one
+-- moment is program-ordered before the other
+unfoldable pub caseRows : ℕ → ℕ → ℕ → Row → Row → Bool → Bool → ℕ
+caseRows s from to r q b o =
+    cond (holdingOf s r from and holdingOf s q to and b) 1
+    (cond (holdingOf s q to and releases q and concernsOf s r from and o) 2 3)
+
+-- ---- laws
+
+pub case-small : (s from to : ℕ) (r q : Row) (b o : Bool) → caseRows s from to r q b o ≤ 3
+unfolding caseRows
+case-small s from to r q b o = go (holdingOf s r from and holdingOf s q to and b) (holdingOf s q to and releases q and concernsOf s r from and o)
+  where
+    go : (x y : Bool) → cond {A = ℕ} x 1 (cond y 2 3) ≤ 3
+    go true y = omega arith
+    go false true = omega arith
+    go false false = omega arith
+
+-- on rows and order that were read
+pub case-told : (s from to d : ℕ) (r q x y : Row) (b o v : Bool) → d ≡ caseRows s from to r q b o → r ≡ x → q ≡ y → o ≡ v → d ≡ caseRows s from to x y b v
+case-told s from to d r q x y b o v f e g h = rw (← e, ← g, ← h) f
+
+module _ (b : List ℕ) (p : List (List ℕ)) (n : ℕ) where
+  case-is : (s m k : ℕ)
+      → lowestCase (decode b p n) s m k
+      ≡ caseRows s (part m) (part k) (rowOf b (rowIn m)) (rowOf b (rowIn k)) (synchronizes (decode b p n) (rowIn m) (rowIn k)) (programOrder (decode b p n) m k)
+  unfolding lowestCase bySync toRelease holding concerns caseRows decode
+  case-is s m k = refl
+
+  -- the number of a step, with the bit of the work area
+  pub number-is : (w : List ℕ) (s m k i d : ℕ) (v : Bool) → Synced (decode b p n) n w → m < 3 * n → k < 3 * n
+      → i ≡ (SYNC + m / 3 * GRID) * 64 + k / 3 → v ≡ bit w i
+      → d ≡ caseRows s (m % 3) (k % 3) (rowOf b (m / 3)) (rowOf b (k / 3)) v (programOrder (decode b p n) m k)
+      → CASE * d + k ≡ stepNumber (decode b p n) s m k
+  unfolding stepNumber
+  number-is w s m k i d v h l o at e f =
+      let g : v ≡ synchronizes (decode b p n) (m / 3) (k / 3) = e ∙ holds-bit (h .syncs) i (m / 3) (k / 3) at (omega arith) (omega arith) in
+      rw (case-is s m k, ← g, ← f) refl

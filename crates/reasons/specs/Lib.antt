@@ -1,0 +1,5 @@
+pub mod Cases
+pub mod Found
+pub mod Layers
+pub mod Whole
+pub mod Written

@@ -1,0 +1,135 @@
+// A chain of direct cases of M6: the lowest class set that has one, and its steps as numbers in a lent buffer.
+ghost use mathlib.Core.Path.{_≡_};
+ghost use mathlib.Core.Bool.{true, cond};
+ghost use mathlib.Core.List.{List};
+ghost use Prim.Native.Nat.{ℕ, _+_, _*_, _/_, _%_, _≤_, _<_};
+ghost use lib.ListN.{length};
+ghost use Rattle.finite.specs.Below.{least};
+ghost use Rattle.finite.specs.Walk.{walk, trail, along};
+ghost use Rattle.bits.specs.Matrix.{rel};
+ghost use Rattle.bits.specs.Within.{Within};
+ghost use Rattle.model.specs.Limits.{ROWS, WORK, CHAIN, CLASS-SETS};
+ghost use Rattle.model.specs.Table.{decode, rowOf};
+ghost use Rattle.model.specs.Moment.{programOrder};
+ghost use Rattle.model.specs.Reason.{hasChainBy, stepNumber};
+ghost use Rattle.area.specs.Regions.{HAPPENS, STEP, CHAINS-END, MOMENTS};
+ghost use Rattle.sequence.specs.Known.{Synced};
+ghost use Rattle.reasons.specs.Layers.{MOST, Layers, Layered};
+ghost use Rattle.reasons.specs.Cases.{caseRows};
+ghost use Rattle.reasons.specs.Written.{stepBit, Written};
+use crate::layers;
+use model::Places;
+use model::Row;
+
+// ---- the class set
+
+// The least c for which some chain for the class set c + 1 leads from the first moment to the second; CLASS_SETS where there is none.
+// Where there is one, its steps and their layers are left in the work area.
+// Ruled out: one that gives a higher class set where a lower one has a chain; one that counts a moment as a chain to itself.
+pub fn find_set(rows: &[u8], p: Places, n: usize, first: usize, second: usize, w: &mut [u64]) -> u8
+    requires { ⌜ (n ≤ ROWS) × (WORK ≤ length (now w)) × (first < 3 * n) × (second < 3 * n) × Synced (decode (now rows) p n) n (now w) ⌝ }
+    ensures { λ c. ⌜ (c ≡ least CLASS-SETS (hasChainBy (decode (now (rows .entry)) p n) first second))
+        × Within HAPPENS CHAINS-END (now (w .entry)) (now (w .exit))
+        × (c < CLASS-SETS → Layered (decode (now (rows .entry)) p n) n (c + 1) second (now (w .exit))) ⌝ }
+{
+    for c in 0..order::CLASS_SETS {
+        layers::make_layers(rows, p, n, c + 1, second, w);
+        let j = layers::layer_of(w, 3 * n, first);
+        if j < 3 * n {
+            return c;
+        }
+    }
+    order::CLASS_SETS
+}
+
+// ---- its steps
+
+// Whether a step leads from moment z to moment y, and y is in layer k.
+fn is_step(w: &[u64], k: usize, z: usize, y: usize) -> bool
+    requires { ⌜ (WORK ≤ length (now w)) × (k ≤ MOST) × (z < MOST) × (y < MOST) ⌝ }
+    ensures { λ b. ⌜ b ≡ stepBit (now (w .entry)) k z y ⌝ }
+{
+    layers::has(w, area::STEP, z, y) & layers::has(w, area::CHAINS, k, y)
+}
+
+// The least moment that a step from z leads to and that is in layer k; m where there is none.
+fn next_moment(w: &[u64], m: usize, k: usize, z: usize) -> usize
+    requires { ⌜ (m ≤ MOST) × (WORK ≤ length (now w)) × (k ≤ m) × (z < m) ⌝ }
+    ensures { λ y. ⌜ y ≡ least m (stepBit (now (w .entry)) k z) ⌝ }
+{
+    for y in 0..m {
+        if is_step(w, k, z, y) {
+            return y;
+        }
+    }
+    m
+}
+
+fn pick(b: bool, x: u16, y: u16) -> u16
+    ensures { λ r. ⌜ r ≡ cond b x y ⌝ }
+{
+    if b { x } else { y }
+}
+
+// M6: the lowest case from the moment `from` of r to the moment `to` of q, where there is one; b says that r synchronizes-with q, o that
+// the one moment is program-ordered before the other.
+fn case_of(s: u8, from: u8, to: u8, r: Row, q: Row, b: bool, o: bool) -> u16
+    ensures { λ d. ⌜ d ≡ caseRows s from to r q b o ⌝ }
+{
+    let sync = order::steps::holding_of(s, r, from) & order::steps::holding_of(s, q, to) & b;
+    let release = order::steps::holding_of(s, q, to)
+        & rows::kinds::releases(q)
+        & order::steps::concerns_of(s, r, from)
+        & o;
+    pick(sync, 1, pick(release, 2, 3))
+}
+
+// The same of moments m and k of a table; b says that m's row synchronizes-with k's.
+fn case_at(rows: &[u8], n: usize, s: u8, m: usize, k: usize, b: bool) -> u16
+    requires { ⌜ (n ≤ ROWS) × (m < 3 * n) × (k < 3 * n) ⌝ }
+    ensures { λ d. ⌜ (d ≤ 3) × ((p : List (List ℕ)) → d ≡ caseRows s (m % 3) (k % 3) (rowOf (now (rows .entry)) (m / 3)) (rowOf (now (rows .entry)) (k / 3)) b
+        (programOrder (decode (now (rows .entry)) p n) m k)) ⌝ }
+{
+    let o = moments::ordered_at(rows, n, m, k);
+    let r = rows::bytes::read_row(rows, (m / 3) as u16);
+    let q = rows::bytes::read_row(rows, (k / 3) as u16);
+    case_of(s, (m % 3) as u8, (k % 3) as u8, r, q, b, o)
+}
+
+// The number of the step from moment m to moment k.
+fn step_number(rows: &[u8], n: usize, s: u8, m: usize, k: usize, w: &[u64]) -> u16
+    requires { ⌜ (n ≤ ROWS) × (m < 3 * n) × (k < 3 * n) × (WORK ≤ length (now w)) ⌝ }
+    ensures { λ r. ⌜ ((p : List (List ℕ)) → Synced (decode (now (rows .entry)) p n) n (now (w .entry))
+        → r ≡ stepNumber (decode (now (rows .entry)) p n) s m k) ⌝ }
+{
+    let b = bits::get(w, (area::SYNC + m / 3 * area::GRID) * 64 + k / 3);
+    let d = case_at(rows, n, s, m, k, b);
+    model::CASE * d + (k as u16)
+}
+
+// The numbers of the `size` steps of a chain from the first moment to the second become the first numbers of c: each time the least
+// next moment, by the lowest case.
+// Ruled out: one that writes the moment that a step starts at; one that goes into a layer of chains that are longer than what is left.
+pub fn write_steps(
+    rows: &[u8],
+    n: usize,
+    s: u8,
+    first: usize,
+    second: usize,
+    size: usize,
+    w: &[u64],
+    c: &mut [u16],
+)
+    requires { ⌜ (n ≤ ROWS) × (WORK ≤ length (now w)) × (first < 3 * n) × (size ≤ CHAIN) × (size ≤ 3 * n) × (CHAIN ≤ length (now c))
+        × Layers (3 * n) (rel (now w) STEP MOMENTS) second (now w) × (walk (3 * n) (rel (now w) STEP MOMENTS) second size first ≡ true) ⌝ }
+    ensures { λ _. ⌜ ((p : List (List ℕ)) → Synced (decode (now (rows .entry)) p n) n (now (w .entry))
+        → Written (along (stepNumber (decode (now (rows .entry)) p n) s) second
+        (trail (3 * n) (rel (now (w .entry)) STEP MOMENTS) second size first)) size (now (c .entry)) (now (c .exit))) ⌝ }
+{
+    let mut z = first;
+    for i in 0..size {
+        let y = next_moment(w, 3 * n, size - i - 1, z);
+        c[i] = step_number(rows, n, s, z, y, w);
+        z = y;
+    }
+}

@@ -1,0 +1,125 @@
+// Reasons: a derivation that one moment of a table happens before another, for a reader to accept, or that it does not.
+ghost use mathlib.Core.Path.{_≡_};
+ghost use mathlib.Core.Bool.{true};
+ghost use mathlib.Core.List.{List};
+ghost use Prim.Native.Nat.{ℕ, _*_, _≤_, _<_};
+ghost use lib.ListN.{length};
+ghost use Rattle.bits.specs.Within.{Within};
+ghost use Rattle.model.specs.Limits.{ROWS, WORK, CHAIN};
+ghost use Rattle.model.specs.Table.{rowsAt, decode, tableOf};
+ghost use Rattle.model.specs.Reason.{twoMoments, ours, derivedOf, derive, deriveAnswer, chainAfter, workAfter};
+ghost use Rattle.model.specs.AdmissionLaws.{Sound};
+ghost use Rattle.area.specs.Regions.{MUTUAL, CHAINS-END};
+ghost use Rattle.reasons.specs.Whole.{refusedAnswer};
+use model::Admission;
+use model::DeriveAnswer;
+use model::Places;
+
+pub mod chains; // the class set of a chain, and its steps as numbers
+pub mod layers; // the steps of a class set, and the layers of chains of them
+
+// The answer of a refusal; an admission is not handed to it.
+fn refused(a: Admission) -> DeriveAnswer
+    ensures { λ r. ⌜ r ≡ refusedAnswer a ⌝ }
+{
+    match a {
+        Admission::Refused { number, row } => DeriveAnswer::Refused {
+            number: number,
+            row: row,
+        },
+        Admission::Admitted { agents: _, rows: _ } => DeriveAnswer::NotBefore,
+    }
+}
+
+// Refusal 12: whether each number names a moment of the table, and they are two.
+fn two_moments(rows: &[u8], n: usize, first: u16, second: u16) -> bool
+    ensures { λ b. ⌜ ((p : List (List ℕ)) → b ≡ twoMoments (decode (now (rows .entry)) p n) first second) ⌝ }
+{
+    let r = rows::bytes::read_row(rows, first / 3);
+    let q = rows::bytes::read_row(rows, second / 3);
+    moments::moment_in(n, r, first as usize)
+        & moments::moment_in(n, q, second as usize)
+        & !(first == second)
+}
+
+// The word, or else a chain for the lowest class set that has one, its steps in c.
+fn derive_moments(
+    rows: &[u8],
+    p: Places,
+    n: usize,
+    first: usize,
+    second: usize,
+    w: &mut [u64],
+    c: &mut [u16],
+) -> DeriveAnswer
+    requires { ⌜ (n ≤ ROWS) × (WORK ≤ length (now w)) × (CHAIN ≤ length (now c)) × (first < 3 * n) × (second < 3 * n) × (first ≡ second → ⊥) ⌝ }
+    ensures { λ r. ⌜ (r ≡ deriveAnswer (ours (decode (now (rows .entry)) p n) first second))
+        × (now (c .exit) ≡ chainAfter (ours (decode (now (rows .entry)) p n) first second) (now (c .entry)))
+        × Within MUTUAL CHAINS-END (now (w .entry)) (now (w .exit)) ⌝ }
+{
+    if moments::ordered_at(rows, n, first, second) {
+        return DeriveAnswer::ProgramOrder;
+    }
+    sequence::sync::make_synced(rows, p, n, w);
+    let set = chains::find_set(rows, p, n, first, second, w);
+    if order::CLASS_SETS <= set {
+        return DeriveAnswer::NotBefore;
+    }
+    let size = layers::layer_of(w, 3 * n, first) + 1;
+    chains::write_steps(rows, n, set + 1, first, second, size, w, c);
+    DeriveAnswer::Chain {
+        classes: set + 1,
+        steps: size as u16,
+    }
+}
+
+// The derivation in a table of n rows that is admitted; unless it is refusal 12, the work area's words end as zeros.
+fn derive_table(
+    table: &[u8],
+    n: usize,
+    first: u16,
+    second: u16,
+    work: &mut [u64],
+    chain: &mut [u16],
+) -> DeriveAnswer
+    requires { ⌜ (WORK ≤ length (now work)) × (CHAIN ≤ length (now chain)) × (n ≡ rowsAt (now table)) × Sound true (now table) ⌝ }
+    ensures { λ r. ⌜ (r ≡ deriveAnswer (derivedOf (tableOf (now (table .entry))) first second))
+        × (now (work .exit) ≡ workAfter (derivedOf (tableOf (now (table .entry))) first second) (now (work .entry)))
+        × (now (chain .exit) ≡ chainAfter (derivedOf (tableOf (now (table .entry))) first second) (now (chain .entry))) ⌝ }
+{
+    let rows = rows::bytes::row_bytes(table);
+    if !two_moments(rows, n, first, second) {
+        return DeriveAnswer::Refused { number: 12, row: 0 };
+    }
+    let p = rows::scopes::read_places(table);
+    let r = derive_moments(rows, p, n, first as usize, second as usize, work, chain);
+    bits::clear(work, 0, model::WORK);
+    r
+}
+
+// Derives that the first moment happens before the second, whatever bytes the table has and whatever the numbers are: a refusal, the
+// word program order, a class set with the steps of a chain in the lent buffer, or that it doesn't.
+// Ruled out: one that answers "not before" to every table; one that leaves numbers after a chain's last step in the buffer.
+pub fn derive(
+    table: &[u8],
+    first: u16,
+    second: u16,
+    work: &mut [u64],
+    chain: &mut [u16],
+) -> DeriveAnswer
+    ensures { λ r. ⌜ (r ≡ deriveAnswer (derive (now (table .entry)) first second (length (now (work .entry))) (length (now (chain .entry)))))
+        × (now (work .exit) ≡ workAfter (derive (now (table .entry)) first second (length (now (work .entry))) (length (now (chain .entry)))) (now (work .entry)))
+        × (now (chain .exit) ≡ chainAfter (derive (now (table .entry)) first second (length (now (work .entry))) (length (now (chain .entry)))) (now (chain .entry))) ⌝ }
+{
+    if work.len() < model::WORK {
+        return DeriveAnswer::Refused { number: 11, row: 0 };
+    }
+    if chain.len() < model::CHAIN {
+        return DeriveAnswer::Refused { number: 11, row: 0 };
+    }
+    let a = table::admit(table, true);
+    let Admission::Admitted { agents: _, rows: n } = a else {
+        return refused(a);
+    };
+    derive_table(table, n as usize, first, second, work, chain)
+}

@@ -61,7 +61,8 @@ pub fn is_continued(r: Row) -> bool
 }
 
 // M4: whether q ends the sequence of the head h no later than r; b says that h and q are mutually-ordered.
-fn is_end(b: bool, h: Row, r: Row, q: Row) -> bool
+// Ruled out: one that asks whether r continues the sequence; one that lets a follower later than r end it.
+pub fn is_end(b: bool, h: Row, r: Row, q: Row) -> bool
     ensures { λ d. ⌜ d ≡ endRows b h r q ⌝ }
 {
     b

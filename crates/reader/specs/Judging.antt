@@ -1,0 +1,195 @@
+-- What the reader's calls come to: direct cases by their number, a chain's bounds, and the answer from the bytes of a table. Assumes nothing.
+use mathlib.Core.Path.{_≡_, refl, sym, ap, _∙_}
+use mathlib.Core.Bool.{Bool, true, false, not, cond}
+use mathlib.Core.List.{List}
+use Prim.Native.Nat.{ℕ, _+_, _-_, _*_, _/_, _%_, _≤_, _<_}
+use native.Mathlib.Omega.{arith}
+use lib.ListN.{length, getD}
+use lib.Dec.{ltb, leb, eqb}
+use borrow.Author.Tests.{ltb-true, ne-eqb, not-false}
+use Rattle.finite.specs.Logic.{_and_, _or_, split, and-false-left, and-false-right, not-out, or-off}
+use Rattle.finite.specs.Below.{anyBelow, any-in}
+use Rattle.model.specs.declared.Admission.{Admission}
+use Rattle.model.specs.declared.Admission.the-variants.{Admitted, Refused}
+use Rattle.model.specs.declared.Row.{Row}
+use Rattle.model.specs.declared.Reason.{Reason}
+use Rattle.model.specs.declared.Reason.the-variants as reason
+use Rattle.model.specs.declared.AcceptAnswer.{AcceptAnswer}
+use Rattle.model.specs.declared.AcceptAnswer.the-variants as accept
+use Rattle.model.specs.Limits.{ROWS, CHAIN, CASE, CLASS-SETS}
+use Rattle.model.specs.Row.{releases, acquires}
+use Rattle.model.specs.Table.{Table, rowsAt, rowBytes, placesOf, rowOf, decode, tableOf}
+use Rattle.model.specs.Moment.{moment, momentIn, orderedRows, programOrder}
+use Rattle.model.specs.Synchronizes.{synchronizes}
+use Rattle.model.specs.Happens.{holdingOf, concernsOf, holding, concerns, bySync, toRelease, fromAcquire, direct}
+use Rattle.model.specs.Refusal.{admission}
+use Rattle.model.specs.AdmissionLaws.{Sound, sound-admitted, admitted-sound, rows-fit}
+use Rattle.model.specs.Reason.{stands, stepHolds, broken, chainHolds, accepts, twoMoments, judged, admittedReader, judge, acceptAnswer}
+use Rattle.sequence.specs.Forms.{and-on, and-on-right}
+
+-- ---- definitions
+
+unfoldable pub refusedAnswer : Admission → AcceptAnswer
+refusedAnswer (Refused n i) = accept.Refused n i
+refusedAnswer (Admitted a n) = accept.NotAccepted
+
+-- the steps lead from moment m to moment k, and each holds for the class set s
+unfoldable pub leadsTo : Table → ℕ → ℕ → ℕ → List ℕ → Bool
+leadsTo t s m k steps = eqb (stands m steps (length steps)) k and not (anyBelow (length steps) (broken t s m steps))
+
+-- ---- laws: a direct case by its number
+
+module _ (t : Table) (s case m k : ℕ) where
+  direct-one : case ≡ 1 → bySync t s m k ≡ direct t s case m k
+  unfolding direct _and_ _or_
+  direct-one e = rw e (sym (or-off _ _ refl ∙ or-off _ _ refl))
+
+  direct-two : case ≡ 2 → toRelease t s m k ≡ direct t s case m k
+  unfolding direct _and_ _or_
+  direct-two e = rw e (sym (or-off _ _ refl))
+
+  direct-last : eqb case 1 ≡ false → eqb case 2 ≡ false → (eqb case 3 and fromAcquire t s m k) ≡ direct t s case m k
+  unfolding direct _and_ _or_
+  direct-last e f = rw (e, f) refl
+
+-- the same of two rows that were read
+module _ (b : List ℕ) (p : List (List ℕ)) (n s case m k : ℕ) (r q : Row) (er : r ≡ rowOf b (m / 3)) (eq : q ≡ rowOf b (k / 3)) where
+  pub direct-sync : (h g v : Bool) → case ≡ 1 → h ≡ holdingOf s r (m % 3) → g ≡ holdingOf s q (k % 3) → v ≡ synchronizes (decode b p n) (m / 3) (k / 3)
+      → (h and g and v) ≡ direct (decode b p n) s case m k
+  unfolding bySync holding decode
+  direct-sync h g v e eh eg ev = rw (eh, eg, ev, er, eq) (direct-one (decode b p n) s case m k e)
+
+  pub direct-release : (g x d o : Bool) → case ≡ 2 → g ≡ holdingOf s q (k % 3) → x ≡ releases q → d ≡ concernsOf s r (m % 3) → o ≡ orderedRows n m k r q
+      → (g and x and d and o) ≡ direct (decode b p n) s case m k
+  unfolding toRelease holding concerns programOrder decode
+  direct-release g x d o e eg ex ed eo = rw (eg, ex, ed, eo, er, eq) (direct-two (decode b p n) s case m k e)
+
+  pub direct-acquire : (h x d o : Bool) → (case ≡ 1 → ⊥) → (case ≡ 2 → ⊥) → h ≡ holdingOf s r (m % 3) → x ≡ acquires r → d ≡ concernsOf s q (k % 3)
+      → o ≡ orderedRows n m k r q → (eqb case 3 and (h and x and d and o)) ≡ direct (decode b p n) s case m k
+  unfolding fromAcquire holding concerns programOrder decode
+  direct-acquire h x d o e f eh ex ed eo = rw (eh, ex, ed, eo, er, eq) (direct-last (decode b p n) s case m k (ne-eqb case 1 e) (ne-eqb case 2 f))
+
+-- ---- laws: a chain
+
+module _ (b : List ℕ) (p : List (List ℕ)) (n : ℕ) where
+  -- a moment that is there is one of so many
+  pub moment-low : (m : ℕ) → moment (decode b p n) m ≡ true → m < 3 * n
+  unfolding moment momentIn decode
+  moment-low m e = let l : m / 3 < n = ltb-true (m / 3) n (split e .0) in omega arith
+
+  -- the first of two moments that are there
+  pub first-low : (m k : ℕ) (x y : Bool) → x ≡ moment (decode b p n) m → not (x and y and not (eqb m k)) ≡ false → m < 3 * n
+  first-low m k x y e f = moment-low m (sym e ∙ split (split (not-false (x and y and not (eqb m k)) f) .0) .0)
+
+  module _ (s : ℕ) where
+    pub step-off : (m x : ℕ) → moment (decode b p n) (x % CASE) ≡ false → false ≡ stepHolds (decode b p n) s m x
+    unfolding stepHolds
+    step-off m x e = sym (and-false-left _ _ e)
+
+    pub step-on : (m x : ℕ) (d : Bool) → moment (decode b p n) (x % CASE) ≡ true → d ≡ direct (decode b p n) s (x / CASE) m (x % CASE)
+        → d ≡ stepHolds (decode b p n) s m x
+    unfolding stepHolds
+    step-on m x d e f = f ∙ sym (and-on _ _ e)
+
+    -- a step that holds reaches a moment that is there
+    pub step-low : (m x : ℕ) → stepHolds (decode b p n) s m x ≡ true → x % CASE < 3 * n
+    unfolding stepHolds
+    step-low m x e = moment-low (x % CASE) (split e .0)
+
+    module _ (m : ℕ) (steps : List ℕ) where
+      -- step i, from where the one before it ends, as code tests it
+      pub broken-is : (i a : ℕ) (v : Bool) → a ≡ stands m steps i → v ≡ stepHolds (decode b p n) s a (getD steps i 0)
+          → broken (decode b p n) s m steps i ≡ not v
+      unfolding broken
+      broken-is i a v e f = rw (f, e) refl
+
+      pub leads-broken : (k i : ℕ) → i < length steps → broken (decode b p n) s m steps i ≡ true → false ≡ leadsTo (decode b p n) s m k steps
+      unfolding leadsTo
+      leads-broken k i l e = sym (and-false-right _ _ (ap not (any-in _ _ i l e)))
+
+      pub leads-whole : (k i a : ℕ) → i ≡ length steps → a ≡ stands m steps i → anyBelow i (broken (decode b p n) s m steps) ≡ false
+          → eqb a k ≡ leadsTo (decode b p n) s m k steps
+      unfolding leadsTo
+      leads-whole k i a l e f = rw (← l, ← e, f) (sym (and-on-right _ _ refl))
+
+pub stands-first : (m : ℕ) (steps : List ℕ) → m ≡ stands m steps 0
+unfolding stands
+stands-first m steps = refl
+
+pub stands-next : (m : ℕ) (steps : List ℕ) (i : ℕ) → getD steps i 0 % CASE ≡ stands m steps (i + 1)
+unfolding stands
+stands-next m steps i =
+    let o : eqb (i + 1) 0 ≡ false = ne-eqb (i + 1) 0 (λ z. omega arith) in
+    let j : i + 1 - 1 ≡ i = omega arith in
+    rw (o, j) refl
+
+-- ---- laws: a derivation
+
+module _ (b : List ℕ) (p : List (List ℕ)) (n m k : ℕ) (r : Reason) (steps : List ℕ) where
+  pub word-told : (o : Bool) → r ≡ reason.ProgramOrder → o ≡ programOrder (decode b p n) m k
+      → (eqb (length steps) 0 and o) ≡ accepts (decode b p n) m k r steps
+  unfolding accepts
+  word-told o e f = rw (e, f) refl
+
+  module _ (s : ℕ) (h : r ≡ reason.Chain s) where
+    abbrev fits : Bool
+    fits = ltb 0 s and leb s CLASS-SETS and ltb 0 (length steps) and leb (length steps) CHAIN
+
+    pub chain-off : not fits ≡ true → false ≡ accepts (decode b p n) m k r steps
+    unfolding accepts chainHolds
+    chain-off f = rw h (sym (and-false-left _ _ (and-false-left _ _ (not-out fits f))))
+
+    pub chain-on : (d : Bool) → not fits ≡ false → d ≡ leadsTo (decode b p n) s m k steps → d ≡ accepts (decode b p n) m k r steps
+    unfolding accepts chainHolds leadsTo
+    chain-on d f g = rw h (g ∙ sym (ap (λ (z : Bool). z and not (anyBelow (length steps) (broken (decode b p n) s m steps))) (and-on _ _ (not-false fits f))))
+
+-- ---- laws: a table that is admitted
+
+module _ {s : List ℕ} (h : Sound true s) (b : List ℕ) (p : List (List ℕ)) (n : ℕ) (rows : b ≡ rowBytes s) (places : p ≡ placesOf s) (all : n ≡ rowsAt s) where
+  table-is : decode b p n ≡ tableOf s
+  unfolding tableOf
+  table-is = rw (rows, places, all) refl
+
+  pub few : n ≤ ROWS
+  few = rw all (rows-fit h)
+
+  module _ (m k : ℕ) (r : Reason) (steps : List ℕ) (x y : Bool) (ex : x ≡ moment (decode b p n) m) (ey : y ≡ moment (decode b p n) k) where
+    abbrev two : Bool
+    two = x and y and not (eqb m k)
+
+    pub judged-absent : not two ≡ true → accept.Refused 12 0 ≡ acceptAnswer (judged (tableOf s) m k r steps)
+    unfolding judged twoMoments acceptAnswer
+    judged-absent f = rw (← table-is, ← ex, ← ey, not-out two f) refl
+
+    module _ (f : not two ≡ false) where
+      module _ (d : Bool) (e : d ≡ accepts (decode b p n) m k r steps) where
+        pub judged-accepted : d ≡ true → accept.Accepted ≡ acceptAnswer (judged (tableOf s) m k r steps)
+        unfolding judged twoMoments acceptAnswer
+        judged-accepted g = rw (← table-is, ← ex, ← ey, not-false two f, ← e, g) refl
+
+        pub judged-other : d ≡ false → accept.NotAccepted ≡ acceptAnswer (judged (tableOf s) m k r steps)
+        unfolding judged twoMoments acceptAnswer
+        judged-other g = rw (← table-is, ← ex, ← ey, not-false two f, ← e, g) refl
+
+-- ---- laws: any bytes
+
+-- what an admission says of the number of rows
+abbrev rows-of : Admission → ℕ
+rows-of (Admitted a n) = n
+rows-of (Refused n i) = 0
+
+module _ (s : List ℕ) (a : Admission) (e : a ≡ admission true s) where
+  pub admitted-rows : {c n : ℕ} → a ≡ Admitted c n → (n ≡ rowsAt s) × Sound true s
+  admitted-rows {c} {n} h =
+      let sound : Sound true s = admitted-sound true s (sym e ∙ h) in
+      (ap rows-of (sym h ∙ e ∙ sound-admitted true s sound), sound)
+
+  module _ (m k : ℕ) (r : Reason) (steps : List ℕ) where
+    pub table-refused : {c i : ℕ} (x : AcceptAnswer) → a ≡ Refused c i → x ≡ refusedAnswer a → x ≡ acceptAnswer (judge s m k r steps)
+    unfolding refusedAnswer judge admittedReader acceptAnswer
+    table-refused x h g = g ∙ rw (← e, h) refl
+
+    pub table-judged : {c n : ℕ} (x : AcceptAnswer) → a ≡ Admitted c n → x ≡ acceptAnswer (judged (tableOf s) m k r steps)
+        → x ≡ acceptAnswer (judge s m k r steps)
+    unfolding judge admittedReader
+    table-judged x h g = g ∙ rw (← e, h) refl

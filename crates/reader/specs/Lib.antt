@@ -1,0 +1,2 @@
+pub mod Syncing
+pub mod Judging

@@ -1,0 +1,126 @@
+// The reader of derivations, whoever wrote them: kept apart from the engine, and small, to be read in one sitting.
+ghost use mathlib.Core.Path.{_≡_};
+ghost use mathlib.Core.Bool.{true};
+ghost use Prim.Native.Nat.{_*_, _≤_, _<_};
+ghost use Rattle.model.specs.Limits.{ROWS};
+ghost use Rattle.model.specs.Table.{decode, rowsAt, tableOf};
+ghost use Rattle.model.specs.Moment.{moment};
+ghost use Rattle.model.specs.Happens.{direct};
+ghost use Rattle.model.specs.AdmissionLaws.{Sound};
+ghost use Rattle.model.specs.Reason.{stepHolds, accepts, judged, judge, acceptAnswer};
+ghost use Rattle.reader.specs.Judging.{leadsTo, refusedAnswer};
+use model::AcceptAnswer;
+use model::Admission;
+use model::Places;
+use model::Reason;
+use rows::bytes;
+
+pub mod sync; // M4 and M5, from the rows alone
+
+// Whether the table has a moment m.
+fn is_there(rows: &[u8], p: Places, n: usize, m: u16) -> bool
+    ensures { λ b. ⌜ b ≡ moment (decode (now (rows .entry)) p n) m ⌝ }
+{
+    moments::moment_in(n, bytes::read_row(rows, m / 3), m as usize)
+}
+
+// M6: whether the direct case of this number leads from moment m to moment k for the class set s.
+fn is_direct(rows: &[u8], p: Places, n: usize, s: u8, case: u16, m: u16, k: u16) -> bool
+    requires { ⌜ (n ≤ ROWS) × (m < 3 * n) × (k < 3 * n) ⌝ }
+    ensures { λ b. ⌜ b ≡ direct (decode (now (rows .entry)) p n) s case m k ⌝ }
+{
+    let r = bytes::read_row(rows, m / 3);
+    let q = bytes::read_row(rows, k / 3);
+    let m_holds = order::steps::holding_of(s, r, (m % 3) as u8);
+    let k_holds = order::steps::holding_of(s, q, (k % 3) as u8);
+    if case == 1 {
+        return m_holds & k_holds & sync::sync_at(rows, p, n, (m / 3) as usize, (k / 3) as usize);
+    }
+    let release = rows::kinds::releases(q);
+    let acquire = rows::kinds::acquires(r);
+    let ordered = moments::is_ordered(n, m as usize, k as usize, r, q);
+    if case == 2 {
+        return k_holds & release & order::steps::concerns_of(s, r, (m % 3) as u8) & ordered;
+    }
+    (case == 3) & (m_holds & acquire & order::steps::concerns_of(s, q, (k % 3) as u8) & ordered)
+}
+
+// Whether the step x, CASE × its case + the moment that it reaches, holds from moment m for the class set s.
+fn is_step(rows: &[u8], p: Places, n: usize, s: u8, m: u16, x: u16) -> bool
+    requires { ⌜ (n ≤ ROWS) × (m < 3 * n) ⌝ }
+    ensures { λ b. ⌜ b ≡ stepHolds (decode (now (rows .entry)) p n) s m x ⌝ }
+{
+    let k = x % model::CASE;
+    if !is_there(rows, p, n, k) {
+        return false;
+    }
+    is_direct(rows, p, n, s, x / model::CASE, m, k)
+}
+
+// Whether steps that hold for the class set s, each from where the one before ends, lead from moment `first` to moment `second`.
+fn is_chain(rows: &[u8], p: Places, n: usize, s: u8, first: u16, second: u16, steps: &[u16]) -> bool
+    requires { ⌜ (n ≤ ROWS) × (first < 3 * n) ⌝ }
+    ensures { λ b. ⌜ b ≡ leadsTo (decode (now (rows .entry)) p n) s first second (now (steps .entry)) ⌝ }
+{
+    let mut m = first;
+    for i in 0..steps.len() {
+        if !is_step(rows, p, n, s, m, steps[i]) {
+            return false;
+        }
+        m = steps[i] % model::CASE;
+    }
+    m == second
+}
+
+// Whether the derivation is accepted that moment m happens before moment k.
+fn is_accepted(rows: &[u8], p: Places, n: usize, m: u16, k: u16, why: Reason, steps: &[u16]) -> bool
+    requires { ⌜ (n ≤ ROWS) × (m < 3 * n) ⌝ }
+    ensures { λ b. ⌜ b ≡ accepts (decode (now (rows .entry)) p n) m k why (now (steps .entry)) ⌝ }
+{
+    let count = steps.len();
+    let Reason::Chain(s) = why else {
+        return (count == 0) & moments::ordered_at(rows, n, m as usize, k as usize);
+    };
+    if !((0 < s) & (s <= order::CLASS_SETS) & (0 < count) & (count <= model::CHAIN)) {
+        return false;
+    }
+    is_chain(rows, p, n, s, m, k, steps)
+}
+
+// The answer about a table of n rows that is admitted.
+fn judge_rows(table: &[u8], n: usize, m: u16, k: u16, reason: Reason, steps: &[u16]) -> AcceptAnswer
+    requires { ⌜ (n ≡ rowsAt (now table)) × Sound true (now table) ⌝ }
+    ensures { λ r. ⌜ r ≡ acceptAnswer (judged (tableOf (now (table .entry))) m k reason (now (steps .entry))) ⌝ }
+{
+    let rows = bytes::row_bytes(table);
+    let p = rows::scopes::read_places(table);
+    if !(is_there(rows, p, n, m) & is_there(rows, p, n, k) & !(m == k)) {
+        return AcceptAnswer::Refused { number: 12, row: 0 };
+    }
+    if is_accepted(rows, p, n, m, k, reason, steps) {
+        return AcceptAnswer::Accepted;
+    }
+    AcceptAnswer::NotAccepted
+}
+
+// The answer of a refusal; an admission is not handed to it.
+fn refused(a: Admission) -> AcceptAnswer
+    ensures { λ r. ⌜ r ≡ refusedAnswer a ⌝ }
+{
+    match a {
+        Admission::Refused { number, row } => AcceptAnswer::Refused { number, row },
+        Admission::Admitted { agents: _, rows: _ } => AcceptAnswer::NotAccepted,
+    }
+}
+
+// Judges a derivation that one moment happens before another, of any bytes and any two numbers.
+// Ruled out: one that accepts a chain whose steps hold for different class sets; one that accepts an empty chain.
+pub fn accepts(table: &[u8], first: u16, second: u16, reason: Reason, steps: &[u16]) -> AcceptAnswer
+    ensures { λ r. ⌜ r ≡ acceptAnswer (judge (now (table .entry)) first second reason (now (steps .entry))) ⌝ }
+{
+    let a = table::admit(table, true);
+    let Admission::Admitted { agents: _, rows: n } = a else {
+        return refused(a);
+    };
+    judge_rows(table, n as usize, first, second, reason, steps)
+}

@@ -1,4 +1,4 @@
--- What the reader's calls come to: direct cases by their number, a chain's bounds, and the answer from the bytes of a table. Assumes nothing.
+-- What the reader's calls come to: direct cases by their number, a chain, and the answer from the bytes of a table. Assumes nothing.
 use mathlib.Core.Path.{_≡_, refl, sym, ap, _∙_}
 use mathlib.Core.Bool.{Bool, true, false, not, cond}
 use mathlib.Core.List.{List}
@@ -29,6 +29,7 @@ use Rattle.sequence.specs.Forms.{and-on, and-on-right}
 
 -- ---- definitions
 
+-- the answer of a refusal
 unfoldable pub refusedAnswer : Admission → AcceptAnswer
 refusedAnswer (Refused n i) = accept.Refused n i
 refusedAnswer (Admitted a n) = accept.NotAccepted
@@ -161,15 +162,14 @@ module _ {s : List ℕ} (h : Sound true s) (b : List ℕ) (p : List (List ℕ)) 
     unfolding judged twoMoments acceptAnswer
     judged-absent f = rw (← table-is, ← ex, ← ey, not-out two f) refl
 
-    module _ (f : not two ≡ false) where
-      module _ (d : Bool) (e : d ≡ accepts (decode b p n) m k r steps) where
-        pub judged-accepted : d ≡ true → accept.Accepted ≡ acceptAnswer (judged (tableOf s) m k r steps)
-        unfolding judged twoMoments acceptAnswer
-        judged-accepted g = rw (← table-is, ← ex, ← ey, not-false two f, ← e, g) refl
+    module _ (f : not two ≡ false) (d : Bool) (e : d ≡ accepts (decode b p n) m k r steps) where
+      pub judged-accepted : d ≡ true → accept.Accepted ≡ acceptAnswer (judged (tableOf s) m k r steps)
+      unfolding judged twoMoments acceptAnswer
+      judged-accepted g = rw (← table-is, ← ex, ← ey, not-false two f, ← e, g) refl
 
-        pub judged-other : d ≡ false → accept.NotAccepted ≡ acceptAnswer (judged (tableOf s) m k r steps)
-        unfolding judged twoMoments acceptAnswer
-        judged-other g = rw (← table-is, ← ex, ← ey, not-false two f, ← e, g) refl
+      pub judged-other : d ≡ false → accept.NotAccepted ≡ acceptAnswer (judged (tableOf s) m k r steps)
+      unfolding judged twoMoments acceptAnswer
+      judged-other g = rw (← table-is, ← ex, ← ey, not-false two f, ← e, g) refl
 
 -- ---- laws: any bytes
 

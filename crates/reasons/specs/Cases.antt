@@ -1,5 +1,5 @@
 -- The lowest direct case of M6 on rows that are decoded already, and that it is the table's. Assumes nothing.
-use mathlib.Core.Path.{_≡_, refl, sym, ap, _∙_}
+use mathlib.Core.Path.{_≡_, refl, _∙_}
 use mathlib.Core.Bool.{Bool, true, false, cond}
 use mathlib.Core.List.{List}
 use Prim.Native.Nat.{ℕ, _+_, _*_, _/_, _%_, _≤_, _<_}
@@ -14,7 +14,7 @@ use Rattle.model.specs.Table.{decode, rowOf}
 use Rattle.model.specs.Moment.{rowIn, part, programOrder}
 use Rattle.model.specs.Synchronizes.{synchronizes}
 use Rattle.model.specs.Happens.{holdingOf, concernsOf, holding, concerns, bySync, toRelease}
-use Rattle.model.specs.Reason.{lowestCase, stepNumber, stepTo}
+use Rattle.model.specs.Reason.{lowestCase, stepNumber}
 use Rattle.area.specs.Regions.{SYNC, GRID}
 use Rattle.sequence.specs.Known.{Synced}
 

@@ -1,6 +1,6 @@
 -- What the layers say of a class set: whether some chain for it leads from one moment to another, and how many steps it has.
 -- Assumes nothing.
-use mathlib.Core.Path.{_≡_, refl, sym, ap, subst, _∙_}
+use mathlib.Core.Path.{_≡_, sym, ap, subst, _∙_}
 use mathlib.Core.Bool.{Bool, true, false}
 use mathlib.Core.List.{List}
 use Prim.Native.Nat.{ℕ, suc, _+_, _*_, _≤_, _<_}
@@ -14,8 +14,8 @@ use Rattle.model.specs.Limits.{ROWS, CHAIN, CLASS-SETS}
 use Rattle.model.specs.Table.{Table}
 use Rattle.model.specs.Happens.{step}
 use Rattle.model.specs.Reason.{hasChain, chainSize, hasChainBy}
-use Rattle.area.specs.Regions.{STEP, CHAINS, MOMENTS}
-use Rattle.reasons.specs.Layers.{inLayer, Layers, Layered}
+use Rattle.area.specs.Regions.{STEP, MOMENTS}
+use Rattle.reasons.specs.Layers.{inLayer, Layered}
 
 -- a walk of the class set's steps from z to x, by the number of its steps less one
 abbrev by : (t : Table) (n s x z : ℕ) → ℕ → Bool

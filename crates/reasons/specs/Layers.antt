@@ -3,7 +3,7 @@
 use mathlib.Core.Path.{_≡_, refl, sym, ap, _∙_}
 use mathlib.Core.Bool.{Bool, true, false}
 use mathlib.Core.List.{List}
-use Prim.Native.Nat.{ℕ, suc, _+_, _-_, _*_, _≤_, _<_}
+use Prim.Native.Nat.{ℕ, suc, _+_, _*_, _≤_, _<_}
 use native.Mathlib.Omega.{arith}
 use native.Mathlib.Numerals.{add-one}
 use lib.ListN.{length}
@@ -18,8 +18,7 @@ use Rattle.bits.specs.Stage.{Holds, Made, holds-kept}
 use Rattle.model.specs.Limits.{ROWS, WORK}
 use Rattle.model.specs.Table.{Table}
 use Rattle.model.specs.Happens.{step}
-use Rattle.area.specs.Regions.{HAPPENS, HAPPENS-END, STEP, STEP-END, CHAINS, CHAINS-END, MOMENTS}
-use Rattle.sequence.specs.Known.{Synced, synced-kept}
+use Rattle.area.specs.Regions.{HAPPENS, STEP, STEP-END, CHAINS, CHAINS-END, MOMENTS}
 
 -- ---- definitions
 

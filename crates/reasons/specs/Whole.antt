@@ -30,7 +30,6 @@ use Rattle.model.specs.Check.{wiped}
 use Rattle.model.specs.Reason.{twoMoments, chainSize, stepNumber, chain, hasChainBy, Derived, refused, word, chained, notBefore, chainOr, ours, derivedOf, admittedDerive, derive, deriveAnswer, chainAfter, workAfter}
 use Rattle.model.specs.AdmissionLaws.{Sound, sound-admitted, admitted-sound, rows-fit}
 use Rattle.area.specs.Regions.{MUTUAL, SYNC-END, HAPPENS, STEP, CHAINS-END, MOMENTS}
-use Rattle.sequence.specs.Known.{Synced}
 use Rattle.reasons.specs.Layers.{inLayer, Layered}
 use Rattle.reasons.specs.Found.{size-is, size-fits, set-has}
 use Rattle.reasons.specs.Written.{Written, written-all}

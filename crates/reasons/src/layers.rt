@@ -1,7 +1,7 @@
 // The direct cases of M6 for a class set, and the layers of chains of them to one moment: layer k is the moments from which k steps
 // lead there. Bits of a lent work area.
 ghost use mathlib.Core.Path.{_≡_};
-ghost use Prim.Native.Nat.{ℕ, _+_, _*_, _≤_, _<_};
+ghost use Prim.Native.Nat.{_+_, _*_, _≤_, _<_};
 ghost use lib.ListN.{length};
 ghost use Rattle.finite.specs.Below.{least};
 ghost use Rattle.bits.specs.Matrix.{rel, flipped};

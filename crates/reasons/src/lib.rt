@@ -99,7 +99,7 @@ fn derive_table(
 
 // Derives that the first moment happens before the second, whatever bytes the table has and whatever the numbers are: a refusal, the
 // word program order, a class set with the steps of a chain in the lent buffer, or that it doesn't.
-// Ruled out: one that answers "not before" to every table; one that leaves numbers after a chain's last step in the buffer.
+// Ruled out: one that answers "not before" to every table; one that puts zeros after a chain's last step in the buffer.
 pub fn derive(
     table: &[u8],
     first: u16,

@@ -1,9 +1,17 @@
 -- An answer as one number for C: code × 2^48 + a × 2^32 + b × 2^16 + c.
+use mathlib.Core.Bool.{cond}
 use Prim.Native.Nat.{ℕ, _+_, _*_}
+use lib.Dec.{eqb}
 use Rattle.model.specs.declared.CheckAnswer.{CheckAnswer}
 use Rattle.model.specs.declared.CheckAnswer.the-variants
 use Rattle.model.specs.declared.FillAnswer.{FillAnswer}
 use Rattle.model.specs.declared.FillAnswer.the-variants as filled
+use Rattle.model.specs.declared.Reason.{Reason}
+use Rattle.model.specs.declared.Reason.the-variants.{ProgramOrder, Chain}
+use Rattle.model.specs.declared.DeriveAnswer.{DeriveAnswer}
+use Rattle.model.specs.declared.DeriveAnswer.the-variants as derived
+use Rattle.model.specs.declared.AcceptAnswer.{AcceptAnswer}
+use Rattle.model.specs.declared.AcceptAnswer.the-variants as accept
 
 unfoldable pub packed : ℕ → ℕ → ℕ → ℕ → ℕ
 packed code a b c = code * 281474976710656 + a * 4294967296 + b * 65536 + c
@@ -22,3 +30,23 @@ packFill (filled.Refused n i) rows = packed 4 n i 0
 packFill (filled.Race x y b) rows = packed 1 x y b
 packFill filled.None rows = packed 5 0 0 0
 packFill filled.Filled rows = packed 6 rows 0 0
+
+-- the word program order has a class set's place
+abbrev pub PROGRAM-ORDER : ℕ
+PROGRAM-ORDER = 16
+
+unfoldable pub reasonOf : ℕ → Reason
+reasonOf c = cond (eqb c PROGRAM-ORDER) ProgramOrder (Chain c)
+
+-- the codes: 4 refused, as above; 8 a derivation (a is the class set, b the number of steps), 9 not before
+unfoldable pub packDerive : DeriveAnswer → ℕ
+packDerive (derived.Refused n i) = packed 4 n i 0
+packDerive derived.ProgramOrder = packed 8 PROGRAM-ORDER 0 0
+packDerive (derived.Chain s l) = packed 8 s l 0
+packDerive derived.NotBefore = packed 9 0 0 0
+
+-- the codes: 4 refused, as above; 10 accepted, 11 not accepted
+unfoldable pub packAccept : AcceptAnswer → ℕ
+packAccept (accept.Refused n i) = packed 4 n i 0
+packAccept accept.Accepted = packed 10 0 0 0
+packAccept accept.NotAccepted = packed 11 0 0 0

@@ -5,10 +5,18 @@ ghost use lib.ListN.{length};
 ghost use Rattle.model.specs.Check.{check, checkAnswer, cycleAfter, workAfter};
 ghost use Rattle.model.specs.Fill.{fill, fillAnswer, sourcesAfter};
 ghost use Rattle.model.specs.Fill as Fill;
+ghost use Rattle.model.specs.Reason.{derive, deriveAnswer, chainAfter, judge, acceptAnswer};
+ghost use Rattle.model.specs.Reason as Derivation;
 ghost use Rattle.model.specs.Table.{rowsAt};
-ghost use Rattle.stramashly.specs.Packed.{packed, packCheck, packFill};
+ghost use Rattle.stramashly.specs.Packed.{packed, packCheck, packFill, packDerive, packAccept, reasonOf};
+use model::AcceptAnswer;
 use model::CheckAnswer;
+use model::DeriveAnswer;
 use model::FillAnswer;
+use model::Reason;
+
+// The class set that says program order, where a caller can hand in no enum.
+const PROGRAM_ORDER: u8 = 16;
 
 fn pack(code: u8, a: u16, b: u16, c: u16) -> u64
     ensures { λ r. ⌜ r ≡ packed code a b c ⌝ }
@@ -51,6 +59,36 @@ fn pack_fill(answer: FillAnswer, rows: u8) -> u64
     }
 }
 
+fn pack_derive(answer: DeriveAnswer) -> u64
+    ensures { λ r. ⌜ r ≡ packDerive answer ⌝ }
+{
+    match answer {
+        DeriveAnswer::Refused { number, row } => pack(4, number as u16, row, 0),
+        DeriveAnswer::ProgramOrder => pack(8, PROGRAM_ORDER as u16, 0, 0),
+        DeriveAnswer::Chain { classes, steps } => pack(8, classes as u16, steps, 0),
+        DeriveAnswer::NotBefore => pack(9, 0, 0, 0),
+    }
+}
+
+fn pack_accept(answer: AcceptAnswer) -> u64
+    ensures { λ r. ⌜ r ≡ packAccept answer ⌝ }
+{
+    match answer {
+        AcceptAnswer::Refused { number, row } => pack(4, number as u16, row, 0),
+        AcceptAnswer::Accepted => pack(10, 0, 0, 0),
+        AcceptAnswer::NotAccepted => pack(11, 0, 0, 0),
+    }
+}
+
+fn reason_of(classes: u8) -> Reason
+    ensures { λ r. ⌜ r ≡ reasonOf classes ⌝ }
+{
+    if classes == PROGRAM_ORDER {
+        return Reason::ProgramOrder;
+    }
+    Reason::Chain(classes)
+}
+
 // Judges one recorded run: `verdict::check`, packed.
 // Ruled out: one whose code for a race is that of race-free; one that leaves what a check worked with in the work area.
 #[no_mangle]
@@ -72,4 +110,37 @@ pub extern "C" fn stramashly_fill(table: &[u8], work: &mut [u64], sources: &mut 
 {
     let answer = filling::fill(table, work, sources);
     pack_fill(answer, rows::bytes::rows_at(table))
+}
+
+// Why one moment happens before another: `reasons::derive`, packed; class set 16 is the word program order.
+// Ruled out: one whose code for not before is that of a chain; one that writes to the chain buffer where it says program order.
+#[no_mangle]
+pub extern "C" fn stramashly_derive(
+    table: &[u8],
+    first: u16,
+    second: u16,
+    work: &mut [u64],
+    chain: &mut [u16],
+) -> u64
+    ensures { λ r. ⌜ (r ≡ packDerive (deriveAnswer (derive (now (table .entry)) first second (length (now (work .entry))) (length (now (chain .entry))))))
+        × (now (work .exit) ≡ Derivation.workAfter (derive (now (table .entry)) first second (length (now (work .entry))) (length (now (chain .entry)))) (now (work .entry)))
+        × (now (chain .exit) ≡ chainAfter (derive (now (table .entry)) first second (length (now (work .entry))) (length (now (chain .entry)))) (now (chain .entry))) ⌝ }
+{
+    pack_derive(reasons::derive(table, first, second, work, chain))
+}
+
+// Whether a derivation shows that one moment happens before another: `reader::accepts`, packed; class set 16 is the word program
+// order.
+// Ruled out: one that takes class set 16 for a chain; one whose code for accepted is that of not accepted.
+#[no_mangle]
+pub extern "C" fn stramashly_accepts(
+    table: &[u8],
+    first: u16,
+    second: u16,
+    classes: u8,
+    steps: &[u16],
+) -> u64
+    ensures { λ r. ⌜ r ≡ packAccept (acceptAnswer (judge (now (table .entry)) first second (reasonOf classes) (now (steps .entry)))) ⌝ }
+{
+    pack_accept(reader::accepts(table, first, second, reason_of(classes), steps))
 }

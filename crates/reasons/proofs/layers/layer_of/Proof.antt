@@ -1,8 +1,7 @@
 -- `layer_of` meets its contract: the moment is in no layer so far. Assumes nothing.
-use mathlib.Core.Path.{_≡_, sym, ap, _∙_}
+use mathlib.Core.Path.{_≡_, sym, _∙_}
 use Prim.Native.Nat.{_-_, _≤_}
 use native.Mathlib.Omega.{arith}
-use native.Mathlib.Numerals.{add-one}
 use Rattle.finite.specs.Below.{least, least-none, least-more, least-found}
 use Rattle.reasons.specs.Layers.{inLayer, in-layer-bit}
 use borrow.Author.Needs.{needs}

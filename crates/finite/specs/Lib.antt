@@ -4,3 +4,4 @@ pub mod Closure
 pub mod Lists
 pub mod Walk
 pub mod Cycle
+pub mod Count

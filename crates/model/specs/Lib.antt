@@ -23,3 +23,6 @@ pub mod PairLaws
 pub mod ChoiceLaws
 pub mod FilledLaws
 pub mod SourceLaws
+pub mod Report
+pub mod ShareLaws
+pub mod ReportLaws

@@ -127,3 +127,28 @@ pub enum DeriveAnswer {
     Chain { classes: u8, steps: u16 },
     NotBefore,
 }
+
+// The share of the conflicting pairs that races; a table without a conflicting pair has none.
+pub enum Share {
+    Of(f64),
+    NoPairs,
+}
+
+// How many pairs of rows conflict; how many of these are mutually-ordered, how many aren't but have order at every shared byte, and
+// how many race; and the share of the last in the first.
+pub struct Report {
+    pub conflicting: u16,
+    pub mutuals: u16,
+    pub ordered: u16,
+    pub racing: u16,
+    pub share: f64,
+}
+
+// A check's answer to a table that is refused or inconsistent; else the report, or that no pair conflicts.
+pub enum ReportAnswer {
+    Refused { number: u8, row: u16 },
+    Cycle { rows: u16 },
+    Overwritten { reader: u16, writer: u16, byte: u16 },
+    NoPairs,
+    Report(Report),
+}

@@ -5,3 +5,4 @@ pub mod Cases
 pub mod Outcomes
 pub mod Searches
 pub mod FillLaws
+pub mod Report

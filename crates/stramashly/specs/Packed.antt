@@ -2,6 +2,7 @@
 use mathlib.Core.Bool.{cond}
 use Prim.Native.Nat.{ℕ, _+_, _*_}
 use lib.Dec.{eqb}
+use lib.Ieee.{Float, nan}
 use Rattle.model.specs.declared.CheckAnswer.{CheckAnswer}
 use Rattle.model.specs.declared.CheckAnswer.the-variants
 use Rattle.model.specs.declared.FillAnswer.{FillAnswer}
@@ -12,6 +13,11 @@ use Rattle.model.specs.declared.DeriveAnswer.{DeriveAnswer}
 use Rattle.model.specs.declared.DeriveAnswer.the-variants as derived
 use Rattle.model.specs.declared.AcceptAnswer.{AcceptAnswer}
 use Rattle.model.specs.declared.AcceptAnswer.the-variants as accept
+use Rattle.model.specs.declared.Share.{Share}
+use Rattle.model.specs.declared.Share.the-variants as share
+use Rattle.model.specs.declared.Report.{Report}
+use Rattle.model.specs.declared.ReportAnswer.{ReportAnswer}
+use Rattle.model.specs.declared.ReportAnswer.the-variants as told
 
 unfoldable pub packed : ℕ → ℕ → ℕ → ℕ → ℕ
 packed code a b c = code * 281474976710656 + a * 4294967296 + b * 65536 + c
@@ -50,3 +56,16 @@ unfoldable pub packAccept : AcceptAnswer → ℕ
 packAccept (accept.Refused n i) = packed 4 n i 0
 packAccept accept.Accepted = packed 10 0 0 0
 packAccept accept.NotAccepted = packed 11 0 0 0
+
+-- the codes: 2, 3, 4 as a check's; 7 a report (a is the mutually-ordered pairs, b the ordered, c the racing; with no conflicting pair, none)
+unfoldable pub packReport : ReportAnswer → ℕ
+packReport (told.Refused n i) = packed 4 n i 0
+packReport (told.Cycle l) = packed 3 l 0 0
+packReport (told.Overwritten y z b) = packed 2 y z b
+packReport told.NoPairs = packed 7 0 0 0
+packReport (told.Report r) = packed 7 (r .mutuals) (r .ordered) (r .racing)
+
+-- a share as C has it: not a number where there is none
+unfoldable pub floatOf : Share → Float
+floatOf (share.Of f) = f
+floatOf share.NoPairs = nan

@@ -7,13 +7,16 @@ ghost use Rattle.model.specs.Fill.{fill, fillAnswer, sourcesAfter};
 ghost use Rattle.model.specs.Fill as Fill;
 ghost use Rattle.model.specs.Reason.{derive, deriveAnswer, chainAfter, judge, acceptAnswer};
 ghost use Rattle.model.specs.Reason as Derivation;
+ghost use Rattle.model.specs.Report.{report, shareOf};
 ghost use Rattle.model.specs.Table.{rowsAt};
-ghost use Rattle.stramashly.specs.Packed.{packed, packCheck, packFill, packDerive, packAccept, reasonOf};
+ghost use Rattle.stramashly.specs.Packed.{packed, packCheck, packFill, packDerive, packAccept, packReport, reasonOf, floatOf};
 use model::AcceptAnswer;
 use model::CheckAnswer;
 use model::DeriveAnswer;
 use model::FillAnswer;
 use model::Reason;
+use model::ReportAnswer;
+use model::Share;
 
 // The class set that says program order, where a caller can hand in no enum.
 const PROGRAM_ORDER: u8 = 16;
@@ -80,6 +83,22 @@ fn pack_accept(answer: AcceptAnswer) -> u64
     }
 }
 
+fn pack_report(answer: ReportAnswer) -> u64
+    ensures { λ r. ⌜ r ≡ packReport answer ⌝ }
+{
+    match answer {
+        ReportAnswer::Refused { number, row } => pack(4, number as u16, row, 0),
+        ReportAnswer::Cycle { rows } => pack(3, rows, 0, 0),
+        ReportAnswer::Overwritten {
+            reader,
+            writer,
+            byte,
+        } => pack(2, reader, writer, byte),
+        ReportAnswer::NoPairs => pack(7, 0, 0, 0),
+        ReportAnswer::Report(r) => pack(7, r.mutuals, r.ordered, r.racing),
+    }
+}
+
 fn reason_of(classes: u8) -> Reason
     ensures { λ r. ⌜ r ≡ reasonOf classes ⌝ }
 {
@@ -143,4 +162,29 @@ pub extern "C" fn stramashly_accepts(
     ensures { λ r. ⌜ r ≡ packAccept (acceptAnswer (judge (now (table .entry)) first second (reasonOf classes) (now (steps .entry)))) ⌝ }
 {
     pack_accept(reader::accepts(table, first, second, reason_of(classes), steps))
+}
+
+// How bad a recorded run was: `report::report`, packed, with the pairs that are mutually-ordered, ordered and racing; they add up to the
+// conflicting ones.
+// Ruled out: one that packs the conflicting pairs in place of the racing ones; one whose code is that of race-free.
+#[no_mangle]
+pub extern "C" fn stramashly_report(table: &[u8], work: &mut [u64], cycle: &mut [u16]) -> u64
+    ensures { λ r. ⌜ (r ≡ packReport (report (now (table .entry)) (length (now (work .entry))) (length (now (cycle .entry)))))
+        × (now (work .exit) ≡ workAfter (check (now (table .entry)) (length (now (work .entry))) (length (now (cycle .entry)))) (now (work .entry)))
+        × (now (cycle .exit) ≡ cycleAfter (check (now (table .entry)) (length (now (work .entry))) (length (now (cycle .entry)))) (now (cycle .entry))) ⌝ }
+{
+    pack_report(report::report(table, work, cycle))
+}
+
+// The racing share of the conflicting pairs: `report::counts::share`; where no pair conflicts it is not a number.
+// Ruled out: one that gives 0.0 where no pair conflicts; one that divides the other way round.
+#[no_mangle]
+pub extern "C" fn stramashly_share(racing: u16, conflicting: u16) -> f64
+    ensures { λ r. ⌜ r ≡ floatOf (shareOf racing conflicting) ⌝ }
+{
+    let s = report::counts::share(racing, conflicting);
+    let Share::Of(part) = s else {
+        return 0.0 / 0.0;
+    };
+    part
 }

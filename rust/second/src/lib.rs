@@ -14,11 +14,13 @@
 //! | L1 to L3, conflicts and races | `location` |
 //! | edges, axioms A and B, canonical cycle | `axioms` |
 //! | fillings | `filling` |
+//! | derivations, refusal 12 | `derivation` |
 //! | the rules one by one, for those who put an answer into words | `facts` |
 
 mod admission;
 mod answer;
 mod axioms;
+mod derivation;
 mod facts;
 mod filling;
 mod happens_before;
@@ -29,6 +31,7 @@ mod synchronization;
 pub mod table;
 
 pub use answer::{CheckAnswer, FillAnswer, List};
+pub use derivation::{AcceptsAnswer, Derivation};
 pub use happens_before::{ACQUIRE_STEP, RELEASE_STEP, SYNCHRONIZES_STEP};
 pub use moments::{AFTER, AT, BEFORE};
 pub use state::State;

@@ -127,7 +127,7 @@ impl State {
 
     /// Takes the table in, or says why not. A refused table leaves no rows,
     /// so that every relation is empty after it.
-    fn admit(&mut self, table: &[u8], purpose: Purpose) -> Result<(), Refusal> {
+    pub(crate) fn admit(&mut self, table: &[u8], purpose: Purpose) -> Result<(), Refusal> {
         let (agent_count, row_count) = admission::door(table)?;
         for agent in 0..agent_count {
             self.agents[agent] = agent_places(table, agent);
@@ -148,7 +148,7 @@ impl State {
 
     /// Works out every relation up to location order; none of them reads a
     /// plain source, so they stand for every filling of the table too.
-    fn relate(&mut self) {
+    pub(crate) fn relate(&mut self) {
         self.relate_moments();
         self.relate_mutually_ordered();
         self.relate_synchronizes_with();

@@ -12,6 +12,10 @@ pub enum Code {
     Refused = 4,
     None = 5,
     Filled = 6,
+    Derivation = 8,
+    NotBefore = 9,
+    Accepted = 10,
+    NotAccepted = 11,
 }
 
 /// A packed answer: code × 2^48 + a × 2^32 + b × 2^16 + c.
@@ -34,6 +38,10 @@ impl Packed {
             4 => Code::Refused,
             5 => Code::None,
             6 => Code::Filled,
+            8 => Code::Derivation,
+            9 => Code::NotBefore,
+            10 => Code::Accepted,
+            11 => Code::NotAccepted,
             _ => return None,
         };
         Some(code)
@@ -137,7 +145,7 @@ impl fmt::Display for FillAnswer<'_> {
 }
 
 /// The numbers, each with a space before it.
-fn write_numbers(formatter: &mut fmt::Formatter, numbers: &[u16]) -> fmt::Result {
+pub(crate) fn write_numbers(formatter: &mut fmt::Formatter, numbers: &[u16]) -> fmt::Result {
     numbers
         .iter()
         .try_for_each(|number| write!(formatter, " {number}"))

@@ -1,14 +1,19 @@
 //! A checker with buffers of its own.
 
 use crate::answer::{CheckAnswer, Code, FillAnswer, Packed};
-use crate::engine::{check_in, fill_in};
-use crate::{CYCLE_EDGES, CYCLE_NUMBERS, SOURCE_NUMBERS, WORK_WORDS};
+use crate::derivation::{AcceptsAnswer, Derivation, DeriveAnswer};
+use crate::engine::{accepts_in, check_in, derive_in, fill_in};
+use crate::{CHAIN_NUMBERS, CYCLE_EDGES, CYCLE_NUMBERS, PROGRAM_ORDER, SOURCE_NUMBERS, WORK_WORDS};
 
-/// Checks and fills tables, one after the other, without allocating.
+/// Answers questions about tables, one after the other, without allocating.
+///
+/// Each function panics only where the linked archive isn't the one that the
+/// header describes: its answer has a code that the function doesn't give.
 pub struct Checker {
     work: Box<[u64; WORK_WORDS]>,
     cycle: [u16; CYCLE_NUMBERS],
     sources: [u16; SOURCE_NUMBERS],
+    chain: [u16; CHAIN_NUMBERS],
 }
 
 impl Default for Checker {
@@ -23,13 +28,11 @@ impl Checker {
             work: Box::new([0; WORK_WORDS]),
             cycle: [0; CYCLE_NUMBERS],
             sources: [0; SOURCE_NUMBERS],
+            chain: [0; CHAIN_NUMBERS],
         }
     }
 
     /// Checks a table, whatever its bytes.
-    ///
-    /// Panics only where the linked archive isn't the one that the header
-    /// describes: its answer has a code that no check gives.
     pub fn check(&mut self, table: &[u8]) -> CheckAnswer<'_> {
         let packed = check_in(table, &mut self.work[..], &mut self.cycle);
         let (a, b, c) = (packed.a(), packed.b(), packed.c());
@@ -50,14 +53,11 @@ impl Checker {
                 edges: &self.cycle[CYCLE_EDGES..][..usize::from(a)],
             },
             Some(Code::Refused) => CheckAnswer::Refused { number: a, row: b },
-            Some(Code::None | Code::Filled) | None => foreign(packed),
+            _ => foreign(packed),
         }
     }
 
     /// Fills a table's blanks, whatever its bytes.
-    ///
-    /// Panics only where the linked archive isn't the one that the header
-    /// describes: its answer has a code that no fill gives.
     pub fn fill(&mut self, table: &[u8]) -> FillAnswer<'_> {
         let packed = fill_in(table, &mut self.work[..], &mut self.sources);
         let (a, b, c) = (packed.a(), packed.b(), packed.c());
@@ -70,7 +70,43 @@ impl Checker {
                 byte: c,
             },
             Some(Code::Refused) => FillAnswer::Refused { number: a, row: b },
-            Some(Code::RaceFree | Code::Overwritten | Code::Cycle) | None => foreign(packed),
+            _ => foreign(packed),
+        }
+    }
+
+    /// Why one moment of a table happens before another, whatever the bytes
+    /// and the numbers.
+    pub fn derive(&mut self, table: &[u8], first: u16, second: u16) -> DeriveAnswer<'_> {
+        let packed = derive_in(table, first, second, &mut self.work[..], &mut self.chain);
+        let (a, b) = (packed.a(), packed.b());
+        match packed.code() {
+            Some(Code::Derivation) if a == u16::from(PROGRAM_ORDER) => {
+                DeriveAnswer::Derivation(Derivation::ProgramOrder)
+            }
+            Some(Code::Derivation) => DeriveAnswer::Derivation(Derivation::Chain {
+                classes: a as u8,
+                steps: &self.chain[..usize::from(b)],
+            }),
+            Some(Code::NotBefore) => DeriveAnswer::NotBefore,
+            Some(Code::Refused) => DeriveAnswer::Refused { number: a, row: b },
+            _ => foreign(packed),
+        }
+    }
+
+    /// Whether a derivation, whoever wrote it, leads from one moment of a
+    /// table to another. It needs no buffers, so that a derivation that lies in
+    /// a checker's can be read.
+    pub fn accepts(table: &[u8], first: u16, second: u16, derivation: Derivation) -> AcceptsAnswer {
+        let (classes, steps) = (derivation.classes(), derivation.steps());
+        let packed = accepts_in(table, first, second, classes, steps);
+        match packed.code() {
+            Some(Code::Accepted) => AcceptsAnswer::Accepted,
+            Some(Code::NotAccepted) => AcceptsAnswer::NotAccepted,
+            Some(Code::Refused) => AcceptsAnswer::Refused {
+                number: packed.a(),
+                row: packed.b(),
+            },
+            _ => foreign(packed),
         }
     }
 }

@@ -12,16 +12,36 @@
 //! assert_eq!(checker.check(&[]).to_string(), "refused 1 0");
 //! ```
 //!
-//! [`check_in`] and [`fill_in`] take lent buffers instead, of any length, and
-//! give the packed answer as it comes.
+//! A derivation says why one moment happens before another, and whoever has
+//! one can have it read:
+//!
+//! ```
+//! use stramashly::{AcceptsAnswer, Checker, Derivation, DeriveAnswer};
+//!
+//! // An agent's plain write and its read of that: the rows are moments 1 and 4.
+//! let mut table = vec![0, 0, 0, 42, 1, 1, 2, 0, 0, 0, 0, 0, 0, 0];
+//! table.extend([1, 0, 0, 0, 0, 0, 0, 4, 0, 0, 0, 0, 255, 255, 0, 0]);
+//! table.extend([0, 0, 0, 0, 0, 0, 0, 4, 0, 0, 0, 0, 0, 0, 0, 0]);
+//! let mut checker = Checker::new();
+//! let word = Derivation::ProgramOrder;
+//! assert_eq!(checker.derive(&table, 1, 4), DeriveAnswer::Derivation(word));
+//! assert_eq!(Checker::accepts(&table, 1, 4, word), AcceptsAnswer::Accepted);
+//! assert_eq!(checker.derive(&table, 4, 1).to_string(), "not-before");
+//! ```
+//!
+//! [`check_in`], [`fill_in`] and [`derive_in`] take lent buffers instead, of
+//! any length, and give the packed answer as it comes, and so does
+//! [`accepts_in`], which needs none.
 
 mod answer;
 mod checker;
+mod derivation;
 mod engine;
 
 pub use answer::{CheckAnswer, Code, FillAnswer, Packed};
 pub use checker::Checker;
-pub use engine::{check_in, fill_in};
+pub use derivation::{AcceptsAnswer, Derivation, DeriveAnswer};
+pub use engine::{accepts_in, check_in, derive_in, fill_in};
 
 /// Source number for the initial value.
 pub const INITIAL: u16 = 65535;
@@ -43,3 +63,10 @@ pub const CYCLE_NUMBERS: usize = 128;
 pub const CYCLE_EDGES: usize = 64;
 /// Least length of the lent source buffer, in 16-bit numbers.
 pub const SOURCE_NUMBERS: usize = 64;
+/// Least length of the lent chain buffer, in 16-bit numbers: most steps of a
+/// derivation.
+pub const CHAIN_NUMBERS: usize = 191;
+/// Stands for the word program order in the place of a class set.
+pub const PROGRAM_ORDER: u8 = 16;
+/// A step is so many times its case, plus the moment that it reaches.
+pub const STEP_CASE: u16 = 512;

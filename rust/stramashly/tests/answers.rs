@@ -1,16 +1,11 @@
 //! Answers of the checker, taken apart, and the lent buffers.
 
+mod common;
+
+use common::example;
 use std::thread;
 use stramashly::*;
 use tables::examples;
-
-fn example(name: &str) -> Vec<u8> {
-    let found = examples()
-        .into_iter()
-        .find(|example| example.name == name)
-        .map(|example| example.bytes);
-    found.unwrap_or_else(|| panic!("no example is called {name}"))
-}
 
 #[test]
 fn checks_of_each_verdict() {
@@ -140,6 +135,6 @@ fn packed_answers_come_apart() {
     assert_eq!(packed.0, 0x0001_0001_0002_FFFF);
     assert_eq!(packed.code(), Some(Code::Race));
     assert_eq!((packed.a(), packed.b(), packed.c()), (1, 2, 65535));
-    assert_eq!(Packed(7 << 48).code(), None);
+    assert_eq!(Packed(12 << 48).code(), None);
     assert_eq!(format!("{packed:?}"), "Packed(1, 1, 2, 65535)");
 }

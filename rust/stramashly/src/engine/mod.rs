@@ -1,5 +1,9 @@
 //! The C boundary: the only unsafe code. `include/stramashly.h` says what
-//! the two functions do; nothing compares these declarations with it.
+//! these functions do; nothing compares the declarations here with it.
+
+mod derivation;
+
+pub use derivation::{accepts_in, derive_in};
 
 use crate::answer::Packed;
 

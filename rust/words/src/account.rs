@@ -1,7 +1,7 @@
 //! Why rows are ordered: the rule of location order that holds, the moments
 //! that it goes through, and the derivation between them.
 
-use crate::derivation::{at, derivation_lines, derive};
+use crate::derivation::{at, reason_lines};
 use crate::names;
 use crate::run::Run;
 use second::State;
@@ -17,9 +17,10 @@ pub struct Ordered {
     pub moments: (usize, usize),
 }
 
-/// A checked table: its relations and its rows.
+/// A checked table: its bytes, its relations and its rows.
 #[derive(Clone, Copy)]
 pub struct Checked<'a> {
+    pub table: &'a [u8],
     pub state: &'a State,
     pub run: &'a Run,
 }
@@ -85,12 +86,8 @@ impl Checked<'_> {
     }
 
     /// The steps from one moment to the other, a line each.
-    pub fn steps(&self, (from, to): (usize, usize)) -> Vec<String> {
-        // The one place where derivations come from.
-        match derive(self.state, from, to) {
-            Some(derivation) => derivation_lines(&self.run.rows, from, &derivation),
-            None => Vec::new(),
-        }
+    pub fn steps(&self, moments: (usize, usize)) -> Vec<String> {
+        reason_lines(self.table, &self.run.rows, moments)
     }
 
     /// `row 0 before row 3 by L3: …`, then the steps, indented.

@@ -162,13 +162,13 @@ impl Searcher<'_> {
         Some(Cure {
             changes: changes.iter().map(|change| (*change).clone()).collect(),
             edits,
-            order: self.order_words(&Run::of(&table))?,
+            order: self.order_words(&table)?,
             answer,
         })
     }
 
     /// What orders the rows in the table checked last.
-    fn order_words(&self, run: &Run) -> Option<String> {
+    fn order_words(&self, table: &[u8]) -> Option<String> {
         let Goal {
             first,
             second,
@@ -178,8 +178,9 @@ impl Searcher<'_> {
             return Some("they are mutually-ordered".to_string());
         }
         let checked = Checked {
+            table,
             state: &self.state,
-            run,
+            run: &Run::of(table),
         };
         let forth = checked.ordered(first, second, byte);
         let back = || checked.ordered(second, first, byte);

@@ -17,6 +17,7 @@ pub fn draw(table: &[u8], checker: &mut Checker) -> Result<String, String> {
     let mut state = State::new();
     state.check(table, WORK_WORDS, CYCLE_NUMBERS);
     let checked = Checked {
+        table,
         state: &state,
         run: &run,
     };

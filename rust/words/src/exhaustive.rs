@@ -50,6 +50,7 @@ fn where_nothing_is_found_there_is_nothing() {
         };
         let run = Run::of(&table);
         let checked = Checked {
+            table: &table,
             state: &state,
             run: &run,
         };

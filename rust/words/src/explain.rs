@@ -1,5 +1,5 @@
-//! `explain`: an answer in sentences. The first line is the proved checker's
-//! own; what follows comes from the second implementation.
+//! `explain`: an answer in sentences. The first line and the derivations are
+//! the proved library's own; the rest comes from the second implementation.
 
 use crate::account::Checked;
 use crate::change::Goal;
@@ -78,6 +78,7 @@ pub fn explain(table: &[u8], checker: &mut Checker) -> Explanation {
     let second = state.check(table, WORK_WORDS, CYCLE_NUMBERS).to_string();
     let run = Run::of(table);
     let checked = Checked {
+        table,
         state: &state,
         run: &run,
     };

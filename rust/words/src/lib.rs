@@ -1,9 +1,10 @@
 //! Tables and answers in words and pictures: `show`, `explain` and `draw` of
 //! the command line.
 //!
-//! The answer itself is the proved checker's. Everything said about it, the
-//! decoding of the table and its relations, comes from `second`, which is
-//! not proved; where the two disagree nothing is explained.
+//! The answer itself is the proved checker's, and so is each derivation.
+//! Everything else said about it, the decoding of the table and its relations,
+//! comes from `second`, which is not proved; where the two disagree nothing is
+//! explained.
 //!
 //! | what | module |
 //! |---|---|
@@ -41,7 +42,7 @@ mod show;
 pub use account::{Checked, Ordered};
 pub use change::{Change, Goal};
 pub use cure::Cure;
-pub use derivation::{at, derivation_lines, derive, moment_words, step_parts, Derivation};
+pub use derivation::{at, derivation_lines, moment_words, reason_lines, step_parts};
 pub use draw::draw;
 pub use edit::{edited, Edit, Field};
 pub use explain::{explain, Explanation, Shown};

@@ -82,7 +82,11 @@ fn with_code(text: &str) -> String {
 fn picture_part(table: &[u8], run: &Run, explanation: &Explanation) -> String {
     let mut state = State::new();
     state.check(table, WORK_WORDS, CYCLE_NUMBERS);
-    let checked = Checked { state: &state, run };
+    let checked = Checked {
+        table,
+        state: &state,
+        run,
+    };
     if explanation.answer.starts_with("refused") {
         return String::new();
     }

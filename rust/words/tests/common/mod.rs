@@ -30,6 +30,7 @@ pub fn with_relations<T>(table: &[u8], ask: impl FnOnce(Checked) -> T) -> T {
     state.check(table, WORK_WORDS, CYCLE_NUMBERS);
     let run = Run::of(table);
     ask(Checked {
+        table,
         state: &state,
         run: &run,
     })

@@ -1,8 +1,8 @@
 //! The words of the command line.
 
-use crate::judge::Purpose;
+use crate::question::{Kind, Question};
 use crate::tell::Telling;
-use std::ffi::OsString;
+use std::ffi::{OsStr, OsString};
 
 /// What is asked for.
 #[derive(Debug, PartialEq, Eq)]
@@ -14,9 +14,9 @@ pub enum Command {
 }
 
 /// What is to be done with each file.
-#[derive(Clone, Copy, Debug, PartialEq, Eq)]
+#[derive(Clone, Debug, PartialEq, Eq)]
 pub enum Task {
-    Judge(Purpose),
+    Judge(Question),
     Tell(Telling),
 }
 
@@ -25,6 +25,7 @@ pub enum Task {
 pub struct Request {
     pub task: Task,
     pub is_hex: bool,
+    pub is_json: bool,
     pub names: Vec<OsString>,
 }
 
@@ -35,6 +36,7 @@ struct Words {
     is_version: bool,
     is_hex: bool,
     is_html: bool,
+    is_json: bool,
     others: Vec<OsString>,
 }
 
@@ -50,9 +52,11 @@ pub fn parse(words: impl Iterator<Item = OsString>) -> Result<Command, String> {
         return Err("no command given".to_string());
     }
     let name = words.others.remove(0);
+    if let Some(kind) = Kind::named(name.as_encoded_bytes()) {
+        let question = question(kind, &mut words.others)?;
+        return files(Task::Judge(question), words);
+    }
     let task = match name.to_str() {
-        Some("check") => Task::Judge(Purpose::Check),
-        Some("fill") => Task::Judge(Purpose::Fill),
         Some("show") => Task::Tell(Telling::Show),
         Some("explain") if words.is_html => Task::Tell(Telling::Page),
         Some("explain") => Task::Tell(Telling::Explain),
@@ -61,6 +65,22 @@ pub fn parse(words: impl Iterator<Item = OsString>) -> Result<Command, String> {
         _ => return Err(format!("no command is called {name:?}")),
     };
     files(task, words)
+}
+
+/// The question, from the words after the file of a command that takes one
+/// file and words. They are taken out.
+fn question(kind: Kind, others: &mut Vec<OsString>) -> Result<Question, String> {
+    if !kind.takes_words() {
+        return kind.question(&[]);
+    }
+    let words = others.split_off(others.len().min(1));
+    let words: Result<Vec<&str>, String> = words.iter().map(|word| text(word)).collect();
+    kind.question(&words?)
+}
+
+fn text(word: &OsStr) -> Result<&str, String> {
+    let text = word.to_str();
+    text.ok_or_else(|| format!("{word:?} is neither number nor word"))
 }
 
 /// Sets the options apart; after `--` there are none.
@@ -79,6 +99,7 @@ fn sort(words: impl Iterator<Item = OsString>) -> Result<Words, String> {
             Some("--version" | "-V") => sorted.is_version = true,
             Some("--hex") => sorted.is_hex = true,
             Some("--html") => sorted.is_html = true,
+            Some("--json") => sorted.is_json = true,
             _ => return Err(format!("no option is called {word:?}")),
         }
     }
@@ -89,6 +110,9 @@ fn files(task: Task, words: Words) -> Result<Command, String> {
     let names = words.others;
     if words.is_html && task != Task::Tell(Telling::Page) {
         return Err("only explain takes --html".to_string());
+    }
+    if words.is_json && matches!(task, Task::Tell(_)) {
+        return Err(format!("only {} take --json", Kind::NAMES));
     }
     if names.is_empty() {
         return Err("no file given".to_string());
@@ -104,12 +128,13 @@ fn files(task: Task, words: Words) -> Result<Command, String> {
     Ok(Command::Files(Request {
         task,
         is_hex: words.is_hex,
+        is_json: words.is_json,
         names,
     }))
 }
 
 fn batch(words: &Words) -> Result<Command, String> {
-    if words.is_hex || words.is_html || !words.others.is_empty() {
+    if words.is_hex || words.is_html || words.is_json || !words.others.is_empty() {
         return Err("batch takes no option and no file".to_string());
     }
     Ok(Command::Batch)
@@ -118,6 +143,7 @@ fn batch(words: &Words) -> Result<Command, String> {
 #[cfg(test)]
 mod tests {
     use super::*;
+    use crate::question::Claim;
 
     fn parsed(line: &str) -> Result<Command, String> {
         parse(line.split_whitespace().map(OsString::from))
@@ -128,6 +154,7 @@ mod tests {
         Ok(Command::Files(Request {
             task,
             is_hex,
+            is_json: false,
             names,
         }))
     }
@@ -138,11 +165,47 @@ mod tests {
         assert_eq!(parsed("check -h"), Ok(Command::Help));
         assert_eq!(parsed("--version"), Ok(Command::Version));
         assert_eq!(parsed("batch"), Ok(Command::Batch));
-        let (check, fill) = (Task::Judge(Purpose::Check), Task::Judge(Purpose::Fill));
-        assert_eq!(parsed("check a -"), request(check, false, &["a", "-"]));
-        assert_eq!(parsed("--hex fill a"), request(fill, true, &["a"]));
-        assert_eq!(parsed("fill a --hex"), request(fill, true, &["a"]));
-        assert_eq!(parsed("check -- --hex"), request(check, false, &["--hex"]));
+        let check = || Task::Judge(Question::Check);
+        let fill = || Task::Judge(Question::Fill);
+        assert_eq!(parsed("check a -"), request(check(), false, &["a", "-"]));
+        assert_eq!(parsed("--hex fill a"), request(fill(), true, &["a"]));
+        assert_eq!(parsed("fill a --hex"), request(fill(), true, &["a"]));
+        assert_eq!(
+            parsed("check -- --hex"),
+            request(check(), false, &["--hex"])
+        );
+    }
+
+    #[test]
+    fn questions_about_moments_have_one_file() {
+        let derive = Task::Judge(Question::Derive {
+            first: 3,
+            second: 8,
+        });
+        assert_eq!(parsed("derive a 3 8"), request(derive, false, &["a"]));
+        let claim = Claim::Chain {
+            classes: 1,
+            steps: vec![1028],
+        };
+        let accepts = Task::Judge(Question::Accepts {
+            first: 3,
+            second: 4,
+            claim,
+        });
+        assert_eq!(
+            parsed("accepts --hex - 3 4 1 1028"),
+            request(accepts, true, &["-"])
+        );
+    }
+
+    #[test]
+    fn answers_in_json_are_asked_for() {
+        for line in ["check --json a", "--json derive a 3 8", "fill a b --json"] {
+            let Ok(Command::Files(request)) = parsed(line) else {
+                panic!("{line}");
+            };
+            assert!(request.is_json && !request.is_hex, "{line}");
+        }
     }
 
     #[test]
@@ -177,6 +240,15 @@ mod tests {
             ("draw a b", "one file"),
             ("explain --html a b", "one file"),
             ("explain", "no file given"),
+            ("derive", "two moments"),
+            ("derive a 1", "two moments"),
+            ("derive a b 1 2", "two moments"),
+            ("derive a 1 b", "\"b\""),
+            ("accepts a 1 2", "a derivation"),
+            ("accepts a 1 2 256", "255"),
+            ("show --json a", "--json"),
+            ("explain --html --json a", "--json"),
+            ("batch --json", "batch"),
         ] {
             let reason = parsed(line).expect_err(line);
             assert!(reason.contains(part), "{line}: {reason}");

@@ -1,7 +1,7 @@
 //! `batch`: one table a line.
 
-use crate::hex::Hex;
-use crate::judge::{append_line, judge, Purpose};
+use crate::judge::{append_line, judge, Form};
+use crate::line::Line;
 use crate::output::{complain, Output};
 use crate::Status;
 use std::io::{self, BufRead, BufReader, ErrorKind, IsTerminal, Write};
@@ -77,8 +77,9 @@ impl Batch {
     fn answer_line(&mut self) -> Status {
         self.text.clear();
         let status = match self.line.request() {
-            Ok((purpose, table)) => {
-                judge(&mut self.checker, purpose, table, &mut self.text);
+            Ok((question, table)) => {
+                let form = Form::Plain;
+                judge(&mut self.checker, &question, table, form, &mut self.text);
                 Status::Fine
             }
             Err(reason) => {
@@ -90,53 +91,6 @@ impl Batch {
         self.progress.count();
         self.line.clear();
         status
-    }
-}
-
-/// A line as it comes in: a word, then hex digits.
-#[derive(Default)]
-struct Line {
-    word: Vec<u8>,
-    is_word_over: bool,
-    digits: Hex,
-}
-
-impl Line {
-    /// Longer words than any command's are cut off.
-    const LONGEST_WORD: usize = 6;
-
-    fn push(&mut self, mut piece: &[u8]) {
-        if !self.is_word_over {
-            let end = piece.iter().position(u8::is_ascii_whitespace);
-            let length = end.unwrap_or(piece.len());
-            let room = Line::LONGEST_WORD - self.word.len();
-            self.word.extend(&piece[..length.min(room)]);
-            self.is_word_over = end.is_some();
-            piece = &piece[length..];
-        }
-        self.digits.push(piece);
-    }
-
-    fn is_empty(&self) -> bool {
-        self.word.is_empty() && !self.is_word_over
-    }
-
-    fn clear(&mut self) {
-        self.word.clear();
-        self.is_word_over = false;
-        self.digits.clear();
-    }
-
-    fn request(&self) -> Result<(Purpose, &[u8]), String> {
-        let purpose = match self.word.as_slice() {
-            b"check" => Purpose::Check,
-            b"fill" => Purpose::Fill,
-            _ => return Err("neither check nor fill".to_string()),
-        };
-        match self.digits.bytes() {
-            Ok(table) => Ok((purpose, table)),
-            Err(bad) => Err(bad.to_string()),
-        }
     }
 }
 

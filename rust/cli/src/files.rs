@@ -2,7 +2,7 @@
 
 use crate::arguments::{Request, Task};
 use crate::hex::{Hex, KEPT_BYTES};
-use crate::judge::judge;
+use crate::judge::{judge, Form};
 use crate::output::{complain, Output};
 use crate::tell::tell;
 use crate::Status;
@@ -41,14 +41,23 @@ fn answer(
     output: &mut Output,
 ) -> (Status, Option<String>) {
     let mut text = String::new();
-    let status = match request.task {
-        Task::Judge(purpose) => judge(checker, purpose, table, &mut text),
-        Task::Tell(telling) => match tell(checker, telling, table, &mut text) {
+    let is_one_of_several = request.names.len() > 1;
+    // A name that is no text can't be an object's as it is.
+    let file = name.to_string_lossy();
+    let form = if request.is_json {
+        let file = is_one_of_several.then_some(&*file);
+        Form::Json { file }
+    } else {
+        Form::Plain
+    };
+    let status = match &request.task {
+        Task::Judge(question) => judge(checker, question, table, form, &mut text),
+        Task::Tell(telling) => match tell(checker, *telling, table, &mut text) {
             Ok(status) => status,
             Err(reason) => return (Status::Refused, Some(reason)),
         },
     };
-    if request.names.len() > 1 {
+    if is_one_of_several && !request.is_json {
         output.write(name.as_encoded_bytes());
         output.write(b": ");
     }

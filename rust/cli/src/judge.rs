@@ -1,51 +1,63 @@
 //! One table judged: its answer as text, and the status that goes with it.
 
+use crate::answers::Answer;
+use crate::json::Object;
+use crate::question::Question;
 use crate::Status;
 use std::fmt::{Display, Write};
-use stramashly::{CheckAnswer, Checker, FillAnswer};
+use stramashly::Checker;
 
-/// What a table is wanted for.
-#[derive(Clone, Copy, Debug, PartialEq, Eq)]
-pub enum Purpose {
-    Check,
-    Fill,
+/// How an answer is written.
+#[derive(Clone, Copy)]
+pub enum Form<'a> {
+    Plain,
+    /// As an object, with the file's name if there are several.
+    Json {
+        file: Option<&'a str>,
+    },
 }
 
 /// Appends the answer and a line's end to the text.
-pub fn judge(checker: &mut Checker, purpose: Purpose, table: &[u8], text: &mut String) -> Status {
-    match purpose {
-        Purpose::Check => {
-            let answer = checker.check(table);
-            append_line(text, &answer);
-            check_status(answer)
+pub fn judge(
+    checker: &mut Checker,
+    question: &Question,
+    table: &[u8],
+    form: Form,
+    text: &mut String,
+) -> Status {
+    match question {
+        Question::Check => append(text, form, &checker.check(table)),
+        Question::Fill => append(text, form, &checker.fill(table)),
+        Question::Derive { first, second } => {
+            append(text, form, &checker.derive(table, *first, *second))
         }
-        Purpose::Fill => {
-            let answer = checker.fill(table);
-            append_line(text, &answer);
-            fill_status(answer)
+        Question::Accepts {
+            first,
+            second,
+            claim,
+        } => {
+            let answer = Checker::accepts(table, *first, *second, claim.derivation());
+            append(text, form, &answer)
         }
     }
+}
+
+fn append(text: &mut String, form: Form, answer: &dyn Answer) -> Status {
+    match form {
+        Form::Plain => append_line(text, &answer),
+        Form::Json { file } => {
+            let mut object = Object::default();
+            if let Some(file) = file {
+                object.text("file", file);
+            }
+            answer.put(&mut object);
+            append_line(text, &object);
+        }
+    }
+    answer.status()
 }
 
 pub fn append_line(text: &mut String, shown: &dyn Display) {
     // Writing to a string can't fail.
     let _ = writeln!(text, "{shown}");
-}
-
-fn check_status(answer: CheckAnswer) -> Status {
-    match answer {
-        CheckAnswer::RaceFree => Status::Fine,
-        CheckAnswer::Race { .. } => Status::Race,
-        CheckAnswer::Overwritten { .. } | CheckAnswer::Cycle { .. } => Status::Inconsistent,
-        CheckAnswer::Refused { .. } => Status::Refused,
-    }
-}
-
-fn fill_status(answer: FillAnswer) -> Status {
-    match answer {
-        FillAnswer::Filled(_) => Status::Fine,
-        FillAnswer::Race { .. } => Status::Race,
-        FillAnswer::None => Status::Inconsistent,
-        FillAnswer::Refused { .. } => Status::Refused,
-    }
 }

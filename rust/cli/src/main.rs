@@ -1,12 +1,16 @@
 //! The command line: tables from files or standard input, answers as lines.
 
+mod answers;
 mod arguments;
 mod batch;
 mod files;
 mod help;
 mod hex;
+mod json;
 mod judge;
+mod line;
 mod output;
+mod question;
 mod tell;
 
 use arguments::Command;
@@ -17,7 +21,8 @@ use std::process::ExitCode;
 #[derive(Clone, Copy, Debug, PartialEq, Eq, PartialOrd, Ord)]
 enum Status {
     Fine = 0,
-    Race = 1,
+    /// A race, not before, not accepted.
+    No = 1,
     Inconsistent = 2,
     Refused = 3,
     Trouble = 4,

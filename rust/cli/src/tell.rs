@@ -51,7 +51,7 @@ pub fn tell(
 fn status(explanation: &Explanation) -> Status {
     match explanation.shown {
         Shown::Nothing => Status::Fine,
-        Shown::Race(_) => Status::Race,
+        Shown::Race(_) => Status::No,
         Shown::Overwritten { .. } | Shown::Cycle { .. } => Status::Inconsistent,
         Shown::Refused { .. } => Status::Refused,
     }

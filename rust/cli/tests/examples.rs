@@ -71,6 +71,11 @@ fn every_answer_is_on_the_page() {
         "refused",
         "none",
         "filled",
+        "program-order",
+        "chain",
+        "not-before",
+        "accepted",
+        "not-accepted",
     ];
     assert_eq!(words, all.map(str::to_string).into());
 }

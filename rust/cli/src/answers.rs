@@ -1,0 +1,138 @@
+//! What goes with each answer: its exit status, and its members in JSON, whose
+//! keys are the words of `--help`.
+
+use crate::json::Object;
+use crate::Status;
+use std::fmt::Display;
+use stramashly::{AcceptsAnswer, CheckAnswer, Derivation, DeriveAnswer, FillAnswer};
+
+/// An answer; `Display` is its plain line.
+pub trait Answer: Display {
+    fn status(&self) -> Status;
+    fn put(&self, object: &mut Object);
+}
+
+impl Answer for CheckAnswer<'_> {
+    fn status(&self) -> Status {
+        match self {
+            CheckAnswer::RaceFree => Status::Fine,
+            CheckAnswer::Race { .. } => Status::No,
+            CheckAnswer::Overwritten { .. } | CheckAnswer::Cycle { .. } => Status::Inconsistent,
+            CheckAnswer::Refused { .. } => Status::Refused,
+        }
+    }
+
+    fn put(&self, object: &mut Object) {
+        match *self {
+            CheckAnswer::RaceFree => put_verdict(object, "race-free"),
+            CheckAnswer::Race {
+                first,
+                second,
+                byte,
+            } => put_race(object, first, second, byte),
+            CheckAnswer::Overwritten {
+                reader,
+                writer,
+                byte,
+            } => {
+                put_verdict(object, "overwritten");
+                object.number("reader", reader);
+                object.number("writer", writer);
+                object.number("byte", byte);
+            }
+            CheckAnswer::Cycle { rows, edges } => {
+                put_verdict(object, "cycle");
+                object.numbers("rows", rows);
+                object.numbers("edges", edges);
+            }
+            CheckAnswer::Refused { number, row } => put_refusal(object, number, row),
+        }
+    }
+}
+
+impl Answer for FillAnswer<'_> {
+    fn status(&self) -> Status {
+        match self {
+            FillAnswer::Filled(_) => Status::Fine,
+            FillAnswer::Race { .. } => Status::No,
+            FillAnswer::None => Status::Inconsistent,
+            FillAnswer::Refused { .. } => Status::Refused,
+        }
+    }
+
+    fn put(&self, object: &mut Object) {
+        match *self {
+            FillAnswer::Filled(sources) => {
+                put_verdict(object, "filled");
+                object.numbers("sources", sources);
+            }
+            FillAnswer::None => put_verdict(object, "none"),
+            FillAnswer::Race {
+                first,
+                second,
+                byte,
+            } => put_race(object, first, second, byte),
+            FillAnswer::Refused { number, row } => put_refusal(object, number, row),
+        }
+    }
+}
+
+impl Answer for DeriveAnswer<'_> {
+    fn status(&self) -> Status {
+        match self {
+            DeriveAnswer::Derivation(_) => Status::Fine,
+            DeriveAnswer::NotBefore => Status::No,
+            DeriveAnswer::Refused { .. } => Status::Refused,
+        }
+    }
+
+    fn put(&self, object: &mut Object) {
+        match *self {
+            DeriveAnswer::Derivation(Derivation::ProgramOrder) => {
+                put_verdict(object, "program-order");
+            }
+            DeriveAnswer::Derivation(Derivation::Chain { classes, steps }) => {
+                put_verdict(object, "chain");
+                object.number("classes", classes.into());
+                object.numbers("steps", steps);
+            }
+            DeriveAnswer::NotBefore => put_verdict(object, "not-before"),
+            DeriveAnswer::Refused { number, row } => put_refusal(object, number, row),
+        }
+    }
+}
+
+impl Answer for AcceptsAnswer {
+    fn status(&self) -> Status {
+        match self {
+            AcceptsAnswer::Accepted => Status::Fine,
+            AcceptsAnswer::NotAccepted => Status::No,
+            AcceptsAnswer::Refused { .. } => Status::Refused,
+        }
+    }
+
+    fn put(&self, object: &mut Object) {
+        match *self {
+            AcceptsAnswer::Accepted => put_verdict(object, "accepted"),
+            AcceptsAnswer::NotAccepted => put_verdict(object, "not-accepted"),
+            AcceptsAnswer::Refused { number, row } => put_refusal(object, number, row),
+        }
+    }
+}
+
+fn put_verdict(object: &mut Object, word: &str) {
+    object.text("verdict", word);
+}
+
+fn put_race(object: &mut Object, first: u16, second: u16, byte: u16) {
+    put_verdict(object, "race");
+    object.number("first", first);
+    object.number("second", second);
+    object.number("byte", byte);
+}
+
+fn put_refusal(object: &mut Object, number: u16, row: u16) {
+    put_verdict(object, "refused");
+    object.number("number", number);
+    object.number("row", row);
+}

@@ -1,0 +1,196 @@
+//! A line of `batch` as it comes in, piece by piece and in bounded memory.
+
+use crate::hex::Hex;
+use crate::question::{is_number, Kind, Question};
+use stramashly::CHAIN_NUMBERS;
+
+/// A command, a table's hex digits and, for some commands, further words.
+/// These need the digits without white space; else it is ignored.
+#[derive(Default)]
+pub struct Line {
+    command: Vec<u8>,
+    is_command_over: bool,
+    digits: Hex,
+    has_digits: bool,
+    are_digits_over: bool,
+    words: Words,
+}
+
+impl Line {
+    /// Longer words than any command's are cut off.
+    const LONGEST_COMMAND: usize = 8;
+
+    pub fn push(&mut self, piece: &[u8]) {
+        let piece = self.push_command(piece);
+        if Kind::named(&self.command).is_some_and(Kind::takes_words) {
+            let piece = self.push_digits(piece);
+            self.words.push(piece);
+        } else {
+            self.digits.push(piece);
+        }
+    }
+
+    /// Takes what belongs to the command, and gives the rest.
+    fn push_command<'a>(&mut self, piece: &'a [u8]) -> &'a [u8] {
+        if self.is_command_over {
+            return piece;
+        }
+        let end = piece.iter().position(u8::is_ascii_whitespace);
+        let (command, rest) = piece.split_at(end.unwrap_or(piece.len()));
+        let room = Line::LONGEST_COMMAND - self.command.len();
+        self.command.extend(&command[..command.len().min(room)]);
+        self.is_command_over = end.is_some();
+        rest
+    }
+
+    /// Takes the first word and the white space before it, and gives the rest.
+    fn push_digits<'a>(&mut self, piece: &'a [u8]) -> &'a [u8] {
+        if self.are_digits_over {
+            return piece;
+        }
+        let is_letter = |letter: &u8| !letter.is_ascii_whitespace();
+        let begin = if self.has_digits {
+            0
+        } else {
+            piece.iter().position(is_letter).unwrap_or(piece.len())
+        };
+        let length = piece[begin..].iter().position(u8::is_ascii_whitespace);
+        self.has_digits |= begin < piece.len();
+        self.are_digits_over = length.is_some();
+        let end = length.map_or(piece.len(), |length| begin + length);
+        self.digits.push(&piece[..end]);
+        &piece[end..]
+    }
+
+    pub fn is_empty(&self) -> bool {
+        self.command.is_empty() && !self.is_command_over
+    }
+
+    pub fn clear(&mut self) {
+        self.command.clear();
+        self.is_command_over = false;
+        self.digits.clear();
+        self.has_digits = false;
+        self.are_digits_over = false;
+        self.words.clear();
+    }
+
+    /// What the whole line asks of which table.
+    pub fn request(&mut self) -> Result<(Question, &[u8]), String> {
+        let Some(kind) = Kind::named(&self.command) else {
+            return Err(format!("none of {}", Kind::NAMES));
+        };
+        let table = self.digits.bytes().map_err(|bad| bad.to_string())?;
+        self.words.close();
+        let words: Vec<&str> = self.words.kept.iter().map(String::as_str).collect();
+        Ok((kind.question(&words)?, table))
+    }
+}
+
+/// The words after the digits, of which only so many are kept that the
+/// answer is sure.
+#[derive(Default)]
+struct Words {
+    kept: Vec<String>,
+    last: Vec<u8>,
+}
+
+impl Words {
+    /// Two moments, a class set, and one step more than any derivation has.
+    const KEPT: usize = 3 + CHAIN_NUMBERS + 1;
+    /// One letter more than any good word has.
+    const LETTERS: usize = "program-order".len() + 1;
+
+    fn push(&mut self, piece: &[u8]) {
+        for letter in piece {
+            if letter.is_ascii_whitespace() {
+                self.close();
+            } else if self.last.len() < Words::LETTERS {
+                self.last.push(*letter);
+            }
+        }
+    }
+
+    /// Ends the last word. Of those that are too many, one that is no number
+    /// takes the place of the last kept one, so that it is told.
+    fn close(&mut self) {
+        if self.last.is_empty() {
+            return;
+        }
+        let is_room = self.kept.len() < Words::KEPT;
+        if is_room || !is_number(&self.last) {
+            self.kept.truncate(Words::KEPT - 1);
+            let word = String::from_utf8_lossy(&self.last);
+            self.kept.push(word.into_owned());
+        }
+        self.last.clear();
+    }
+
+    fn clear(&mut self) {
+        self.kept.clear();
+        self.last.clear();
+    }
+}
+
+#[cfg(test)]
+mod tests {
+    use super::*;
+    use crate::question::Claim;
+
+    /// The request of a line that comes in these pieces.
+    fn asked(pieces: &[&str]) -> Result<(Question, Vec<u8>), String> {
+        let mut line = Line::default();
+        pieces.iter().for_each(|piece| line.push(piece.as_bytes()));
+        let request = line.request();
+        request.map(|(question, table)| (question, table.to_vec()))
+    }
+
+    #[test]
+    fn a_line_may_be_cut_anywhere() {
+        let line = "derive\t  0aFF 3 \t 8\r";
+        let derive = Question::Derive {
+            first: 3,
+            second: 8,
+        };
+        let expected = Ok((derive, vec![0x0A, 0xFF]));
+        for end in 0..line.len() {
+            let (first, second) = line.split_at(end);
+            assert_eq!(asked(&[first, second]), expected, "{end}");
+            assert_eq!(asked(&[first, "", second]), expected, "{end}");
+        }
+        let letters: Vec<&str> = line.split("").collect();
+        assert_eq!(asked(&letters), expected);
+    }
+
+    #[test]
+    fn white_space_among_digits_is_for_commands_without_words() {
+        assert_eq!(
+            asked(&["check 01 0", "2"]),
+            Ok((Question::Check, vec![1, 2]))
+        );
+        let reason = asked(&["derive 01 02 3 4"]).unwrap_err();
+        assert!(reason.contains("two moments"), "{reason}");
+        assert!(asked(&["derive"]).is_err());
+        assert!(asked(&["derives 00 1 2"]).is_err());
+    }
+
+    #[test]
+    fn long_lines_are_bounded_and_told() {
+        let steps = " 5".repeat(300_000);
+        let (question, _) = asked(&["accepts 00 1 2 3", &steps]).unwrap();
+        let claim = Claim::Chain {
+            classes: 3,
+            steps: vec![5; CHAIN_NUMBERS + 1],
+        };
+        let accepts = Question::Accepts {
+            first: 1,
+            second: 2,
+            claim,
+        };
+        assert_eq!(question, accepts);
+        let reason = asked(&["accepts 00 1 2 3", &steps, " x", &steps]).unwrap_err();
+        assert!(reason.contains("\"x\""), "{reason}");
+        let reason = asked(&["accepts 00 1 2 3 ", &"1".repeat(300_000)]).unwrap_err();
+        assert!(reason.contains("\"11111111111111\""), "{reason}");
+    }
+}

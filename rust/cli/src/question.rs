@@ -1,0 +1,185 @@
+//! What is asked of a table, from the words of a command or of a batch line.
+
+use stramashly::Derivation;
+
+/// The commands that have one line for an answer.
+#[derive(Clone, Copy, Debug, PartialEq, Eq)]
+pub enum Kind {
+    Check,
+    Fill,
+    Derive,
+    Accepts,
+}
+
+/// A command with all that it needs besides a table.
+#[derive(Clone, Debug, PartialEq, Eq)]
+pub enum Question {
+    Check,
+    Fill,
+    Derive {
+        first: u16,
+        second: u16,
+    },
+    Accepts {
+        first: u16,
+        second: u16,
+        claim: Claim,
+    },
+}
+
+/// A derivation as somebody wrote it.
+#[derive(Clone, Debug, PartialEq, Eq)]
+pub enum Claim {
+    ProgramOrder,
+    Chain { classes: u8, steps: Vec<u16> },
+}
+
+impl Claim {
+    pub fn derivation(&self) -> Derivation<'_> {
+        match self {
+            Claim::ProgramOrder => Derivation::ProgramOrder,
+            Claim::Chain { classes, steps } => Derivation::Chain {
+                classes: *classes,
+                steps,
+            },
+        }
+    }
+
+    /// The word, or a class set and steps, of which there may be none.
+    fn of(words: &[&str]) -> Result<Claim, String> {
+        match words {
+            [] => Err("accepts takes a derivation after the moments".to_string()),
+            ["program-order"] => Ok(Claim::ProgramOrder),
+            ["program-order", ..] => Err("program-order has no steps beside it".to_string()),
+            [classes, steps @ ..] => Ok(Claim::Chain {
+                classes: number(classes, u8::MAX)?,
+                steps: numbers(steps)?,
+            }),
+        }
+    }
+}
+
+impl Kind {
+    /// What there is to choose from.
+    pub const NAMES: &str = "check, fill, derive and accepts";
+
+    pub fn named(name: &[u8]) -> Option<Kind> {
+        match name {
+            b"check" => Some(Kind::Check),
+            b"fill" => Some(Kind::Fill),
+            b"derive" => Some(Kind::Derive),
+            b"accepts" => Some(Kind::Accepts),
+            _ => None,
+        }
+    }
+
+    /// Whether there are words after a single table.
+    pub fn takes_words(self) -> bool {
+        matches!(self, Kind::Derive | Kind::Accepts)
+    }
+
+    /// The question, from the words after the table.
+    pub fn question(self, words: &[&str]) -> Result<Question, String> {
+        match self {
+            Kind::Check => Ok(Question::Check),
+            Kind::Fill => Ok(Question::Fill),
+            Kind::Derive => match words {
+                [first, second] => Ok(Question::Derive {
+                    first: number(first, u16::MAX)?,
+                    second: number(second, u16::MAX)?,
+                }),
+                _ => Err("derive takes one table and two moments".to_string()),
+            },
+            Kind::Accepts => match words {
+                [first, second, claim @ ..] => Ok(Question::Accepts {
+                    first: number(first, u16::MAX)?,
+                    second: number(second, u16::MAX)?,
+                    claim: Claim::of(claim)?,
+                }),
+                _ => Err("accepts takes one table, two moments and a derivation".to_string()),
+            },
+        }
+    }
+}
+
+/// Digits only, and so few that none can be cut off unseen.
+pub fn is_number(word: &[u8]) -> bool {
+    (1..=5).contains(&word.len()) && word.iter().all(u8::is_ascii_digit)
+}
+
+/// A word as a number up to the most that its type holds.
+fn number<T: TryFrom<u32> + Into<u32> + Copy>(word: &str, most: T) -> Result<T, String> {
+    let value = if is_number(word.as_bytes()) {
+        word.parse::<u32>().ok()
+    } else {
+        None
+    };
+    let value = value.and_then(|value| T::try_from(value).ok());
+    let most: u32 = most.into();
+    value.ok_or_else(|| format!("{word:?} is no number from 0 to {most}"))
+}
+
+fn numbers(words: &[&str]) -> Result<Vec<u16>, String> {
+    words.iter().map(|word| number(word, u16::MAX)).collect()
+}
+
+#[cfg(test)]
+mod tests {
+    use super::*;
+
+    fn asked(kind: Kind, line: &str) -> Result<Question, String> {
+        let words: Vec<&str> = line.split(' ').filter(|word| !word.is_empty()).collect();
+        kind.question(&words)
+    }
+
+    fn accepts(first: u16, second: u16, claim: Claim) -> Result<Question, String> {
+        Ok(Question::Accepts {
+            first,
+            second,
+            claim,
+        })
+    }
+
+    #[test]
+    fn moments_and_derivations_are_read() {
+        let derive = Question::Derive {
+            first: 0,
+            second: 65535,
+        };
+        assert_eq!(asked(Kind::Derive, "0 65535"), Ok(derive));
+        assert_eq!(
+            asked(Kind::Accepts, "1 4 program-order"),
+            accepts(1, 4, Claim::ProgramOrder)
+        );
+        for (line, classes, steps) in [
+            ("3 8 1 1028 519 1544", 1, vec![1028, 519, 1544]),
+            ("3 8 255", 255, vec![]),
+            ("3 8 00016 0", 16, vec![0]),
+        ] {
+            let chain = Claim::Chain { classes, steps };
+            assert_eq!(asked(Kind::Accepts, line), accepts(3, 8, chain), "{line}");
+        }
+    }
+
+    #[test]
+    fn bad_words_are_told() {
+        for (kind, line, part) in [
+            (Kind::Derive, "", "two moments"),
+            (Kind::Derive, "1", "two moments"),
+            (Kind::Derive, "1 2 3", "two moments"),
+            (Kind::Derive, "1 65536", "\"65536\""),
+            (Kind::Derive, "x 2", "\"x\""),
+            (Kind::Derive, "+1 2", "\"+1\""),
+            (Kind::Derive, "1 000002", "\"000002\""),
+            (Kind::Accepts, "1", "two moments"),
+            (Kind::Accepts, "1 2", "a derivation"),
+            (Kind::Accepts, "1 2 256 3", "0 to 255"),
+            (Kind::Accepts, "1 2 3 65536", "0 to 65535"),
+            (Kind::Accepts, "1 2 program-order 3", "no steps"),
+            (Kind::Accepts, "1 2 3 program-order", "program-order"),
+        ] {
+            let reason = asked(kind, line).expect_err(line);
+            assert!(reason.contains(part), "{line}: {reason}");
+        }
+    }
+}

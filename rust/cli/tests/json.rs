@@ -1,0 +1,114 @@
+//! `--json`: one object a line, with the members of the plain line.
+
+mod common;
+
+use common::*;
+use std::fs;
+use std::path::{Path, PathBuf};
+
+fn examples() -> PathBuf {
+    Path::new(env!("CARGO_MANIFEST_DIR")).join("../../examples")
+}
+
+#[test]
+fn each_answer_is_an_object() {
+    for (words, object, status) in [
+        ("check p.table", r#"{"verdict":"race-free"}"#, 0),
+        (
+            "check leak.table",
+            r#"{"verdict":"race","first":0,"second":4,"byte":0}"#,
+            1,
+        ),
+        (
+            "check overwritten.table",
+            r#"{"verdict":"overwritten","reader":4,"writer":1,"byte":0}"#,
+            2,
+        ),
+        (
+            "check p-initial.table",
+            r#"{"verdict":"cycle","rows":[0,3],"edges":[1,4]}"#,
+            2,
+        ),
+        (
+            "check too-long.table",
+            r#"{"verdict":"refused","number":7,"row":1}"#,
+            3,
+        ),
+        (
+            "fill fill.table",
+            r#"{"verdict":"filled","sources":[65535,65535,1,0]}"#,
+            0,
+        ),
+        (
+            "fill empty.table",
+            r#"{"verdict":"filled","sources":[]}"#,
+            0,
+        ),
+        ("fill fill-none.table", r#"{"verdict":"none"}"#, 2),
+        (
+            "fill fill-race.table",
+            r#"{"verdict":"race","first":0,"second":4,"byte":0}"#,
+            1,
+        ),
+        ("derive p.table 1 4", r#"{"verdict":"program-order"}"#, 0),
+        (
+            "derive p.table 3 8",
+            r#"{"verdict":"chain","classes":1,"steps":[1028,519,1544]}"#,
+            0,
+        ),
+        ("derive p.table 8 3", r#"{"verdict":"not-before"}"#, 1),
+        (
+            "derive p.table 8 8",
+            r#"{"verdict":"refused","number":12,"row":0}"#,
+            3,
+        ),
+        (
+            "accepts p.table 1 4 program-order",
+            r#"{"verdict":"accepted"}"#,
+            0,
+        ),
+        ("accepts p.table 1 4 1", r#"{"verdict":"not-accepted"}"#, 1),
+    ] {
+        let mut words: Vec<&str> = words.split(' ').collect();
+        words.push("--json");
+        let answer = stramashly_in(&examples(), &words, b"");
+        assert_eq!(answer.output, format!("{object}\n"), "{words:?}");
+        let rest = (answer.messages.as_str(), answer.status);
+        assert_eq!(rest, ("", Some(status)), "{words:?}");
+    }
+}
+
+#[test]
+fn several_files_have_their_names() {
+    // A name that JSON needs escapes for.
+    let odd = scratch().join("json \"odd\\\n\u{1}\u{e4}.table");
+    fs::copy(examples().join("p.table"), &odd).unwrap();
+    let name = odd.file_name().unwrap().to_str().unwrap();
+    let plain = scratch().join("json-plain.table");
+    fs::copy(examples().join("leak.table"), plain).unwrap();
+    let words = ["--json", "check", name, "no-such-file", "json-plain.table"];
+    let answer = stramashly(&words, b"");
+    let expected = [
+        r#"{"file":"json \"odd\\\u000a\u0001ä.table","verdict":"race-free"}"#,
+        r#"{"file":"json-plain.table","verdict":"race","first":0,"second":4,"byte":0}"#,
+    ];
+    let lines: Vec<&str> = answer.output.lines().collect();
+    assert_eq!(lines, expected);
+    // What can't be read is told as ever.
+    assert_eq!(answer.status, Some(4));
+    assert!(answer.messages.contains("no-such-file"));
+}
+
+#[test]
+fn bad_usage_is_told() {
+    for words in [
+        ["show", "--json", "a"].as_slice(),
+        &["explain", "--json", "a"],
+        &["draw", "--json", "a"],
+        &["batch", "--json"],
+    ] {
+        let answer = stramashly(words, b"");
+        assert_eq!((answer.output.as_str(), answer.status), ("", Some(4)));
+        assert!(answer.messages.contains("--help"), "{}", answer.messages);
+    }
+}

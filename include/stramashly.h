@@ -2,7 +2,7 @@
  *
  * Link with libstramashly.a (made by `rt staticlib stramashly`).
  *
- * Both functions judge one table of bytes by the rules of docs/RULES.md. The
+ * Each function judges one table of bytes by the rules of docs/RULES.md. The
  * answer and what the buffers hold afterwards depend on the arguments alone, so
  * threads may call them at once, each with buffers of its own. A pointer must be
  * good for its length, which may be any number, and no two buffers may overlap.
@@ -14,9 +14,13 @@
  *   1  race                  check, fill   lower row   higher    byte
  *   2  overwritten           check         reader      writer    byte
  *   3  cycle                 check         its rows' number
- *   4  refused               check, fill   number      row
+ *   4  refused               each          number      row
  *   5  none                  fill
  *   6  filled                fill          rows of the table
+ *   8  a derivation          derive        class set   steps
+ *   9  not before            derive
+ *  10  accepted              accepts
+ *  11  not accepted          accepts
  *
  * Parts that the table above leaves empty are 0. A byte is its number among
  * the 65,536 that a table speaks of.
@@ -33,8 +37,22 @@
  *   filled         the first a numbers of the source buffer are the rows'
  *                  sources; later numbers are as they were. Any other answer
  *                  leaves this buffer alone.
+ *   a derivation   the first b numbers of the chain buffer are the steps; later
+ *                  numbers are as they were. Any other answer leaves this
+ *                  buffer alone.
  *
- * A work area, cycle buffer or source buffer that is too short is refusal 11.
+ * A work area or another lent buffer that is too short is refusal 11, which
+ * comes before any other.
+ *
+ * A derivation says why one moment of a table happens before another. A moment
+ * is 3 * its row + 0, 1 or 2 for before the row, the row itself, after it. Either
+ * program order is the reason: then STRAMASHLY_PROGRAM_ORDER stands in the place
+ * of the class set, and there are no steps. Or a chain of 1 to 191 steps leads
+ * from the first moment to the second for one class set, 1 to 15: the sum of 1
+ * Uniform, 2 Workgroup, 4 Image, 8 Output. A step is STRAMASHLY_STEP_CASE * its
+ * case (1 synchronizes-with, 2 to a release, 3 from an acquire) + the moment that
+ * it reaches. Numbers that aren't those of two different moments of the table
+ * are refusal 12; a fill's refusals come before it.
  */
 #ifndef STRAMASHLY_H
 #define STRAMASHLY_H
@@ -50,6 +68,7 @@ extern "C" {
 #define STRAMASHLY_WORK_WORDS 2048
 #define STRAMASHLY_CYCLE_NUMBERS 128
 #define STRAMASHLY_SOURCE_NUMBERS 64
+#define STRAMASHLY_CHAIN_NUMBERS 191
 
 /* Where a cycle's edge numbers begin in the cycle buffer. */
 #define STRAMASHLY_CYCLE_EDGES 64
@@ -61,6 +80,11 @@ extern "C" {
 #define STRAMASHLY_INITIAL 65535
 #define STRAMASHLY_BLANK 65534
 
+/* Derivations: the word program order in the place of a class set, and what a
+ * step's case is multiplied by. */
+#define STRAMASHLY_PROGRAM_ORDER 16
+#define STRAMASHLY_STEP_CASE 512
+
 enum stramashly_code {
   STRAMASHLY_RACE_FREE = 0,
   STRAMASHLY_RACE = 1,
@@ -68,7 +92,11 @@ enum stramashly_code {
   STRAMASHLY_CYCLE = 3,
   STRAMASHLY_REFUSED = 4,
   STRAMASHLY_NONE = 5,
-  STRAMASHLY_FILLED = 6
+  STRAMASHLY_FILLED = 6,
+  STRAMASHLY_DERIVATION = 8,
+  STRAMASHLY_NOT_BEFORE = 9,
+  STRAMASHLY_ACCEPTED = 10,
+  STRAMASHLY_NOT_ACCEPTED = 11
 };
 
 /* The parts of an answer. */
@@ -86,6 +114,21 @@ uint64_t stramashly_check(const uint8_t *table, size_t table_len,
 uint64_t stramashly_fill(const uint8_t *table, size_t table_len,
                          uint64_t *work, size_t work_len,
                          uint16_t *sources, size_t sources_len);
+
+/* Why the first moment happens before the second: a derivation, not before or
+ * refused. The derivation depends on the table and the moments alone, and
+ * stramashly_accepts accepts it. */
+uint64_t stramashly_derive(const uint8_t *table, size_t table_len,
+                           uint16_t first, uint16_t second,
+                           uint64_t *work, size_t work_len,
+                           uint16_t *chain, size_t chain_len);
+
+/* Whether a derivation, whoever wrote it, leads from the first moment to the
+ * second: accepted, not accepted or refused. There are no steps beside
+ * STRAMASHLY_PROGRAM_ORDER. Nothing is written. */
+uint64_t stramashly_accepts(const uint8_t *table, size_t table_len,
+                            uint16_t first, uint16_t second, uint8_t classes,
+                            const uint16_t *steps, size_t steps_len);
 
 #ifdef __cplusplus
 }

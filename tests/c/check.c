@@ -1,52 +1,5 @@
-/* Calls the library from C: answers, and what the lent buffers hold. */
-#include "stramashly.h"
-
-#include <stdio.h>
-#include <string.h>
-
-/* Longer than needed by one, so that a number too many would be seen. */
-static uint64_t work[STRAMASHLY_WORK_WORDS + 1];
-static uint16_t cycle[STRAMASHLY_CYCLE_NUMBERS + 1];
-static uint16_t sources[STRAMASHLY_SOURCE_NUMBERS + 1];
-
-static int passed, failed;
-
-/* Where rows begin in table P, and the fields that the tests change. */
-enum { ROWS_AT = 20, ROW_BYTES = 16, FLAGS = 5, SOURCE = 12 };
-enum { ORIGINAL = 0x7777 };
-
-/* Table P: data written, a flag released and acquired, the data read. */
-static const uint8_t table_p[] = {
-    0, 0, 0, 0x50, 1, 2, 4, 0,
-    0, 0, 0, 0, 0, 0, 0, 0, 0, 0, 0, 1,
-    1, 0, 0, 0, 0, 1, 0, 4, 0, 0, 0, 1, 0xFF, 0xFF, 0, 0,
-    3, 0, 2, 2, 1, 3, 0, 4, 0, 4, 0, 2, 0xFF, 0xFF, 0, 1,
-    2, 1, 1, 2, 1, 5, 0, 4, 0, 4, 0, 2, 0, 1, 0, 0,
-    0, 1, 0, 0, 0, 1, 0, 4, 0, 0, 0, 1, 0, 0, 0, 0};
-
-static uint8_t table[sizeof table_p];
-
-static void expect(int holds, const char *what) {
-  if (holds) {
-    passed++;
-  } else {
-    failed++;
-    printf("failed: %s\n", what);
-  }
-}
-
-static uint64_t packed(unsigned code, unsigned a, unsigned b, unsigned c) {
-  return (uint64_t)code << 48 | (uint64_t)a << 32 | (uint64_t)b << 16 | c;
-}
-
-/* P as it was, and buffers that hold something else than zeros. */
-static void prepare(void) {
-  size_t place;
-  memcpy(table, table_p, sizeof table);
-  for (place = 0; place < STRAMASHLY_WORK_WORDS + 1; place++) work[place] = ORIGINAL;
-  for (place = 0; place < STRAMASHLY_CYCLE_NUMBERS + 1; place++) cycle[place] = ORIGINAL;
-  for (place = 0; place < STRAMASHLY_SOURCE_NUMBERS + 1; place++) sources[place] = ORIGINAL;
-}
+/* Checks and fills. */
+#include "common.h"
 
 static uint64_t check(void) {
   return stramashly_check(table, sizeof table, work, STRAMASHLY_WORK_WORDS + 1, cycle,
@@ -56,37 +9,6 @@ static uint64_t check(void) {
 static uint64_t fill(void) {
   return stramashly_fill(table, sizeof table, work, STRAMASHLY_WORK_WORDS + 1, sources,
                          STRAMASHLY_SOURCE_NUMBERS + 1);
-}
-
-static void set_source(int row, unsigned source) {
-  table[ROWS_AT + row * ROW_BYTES + SOURCE] = (uint8_t)(source >> 8);
-  table[ROWS_AT + row * ROW_BYTES + SOURCE + 1] = (uint8_t)source;
-}
-
-static int all_words(size_t from, size_t to, uint64_t word) {
-  for (; from < to; from++)
-    if (work[from] != word) return 0;
-  return 1;
-}
-
-static int all_numbers(const uint16_t *numbers, size_t from, size_t to, uint16_t number) {
-  for (; from < to; from++)
-    if (numbers[from] != number) return 0;
-  return 1;
-}
-
-static int is_work_cleared(void) {
-  return all_words(0, STRAMASHLY_WORK_WORDS, 0) && work[STRAMASHLY_WORK_WORDS] == ORIGINAL;
-}
-
-static int is_work_kept(void) { return all_words(0, STRAMASHLY_WORK_WORDS + 1, ORIGINAL); }
-
-static int is_cycle_kept(void) {
-  return all_numbers(cycle, 0, STRAMASHLY_CYCLE_NUMBERS + 1, ORIGINAL);
-}
-
-static int are_sources_kept(void) {
-  return all_numbers(sources, 0, STRAMASHLY_SOURCE_NUMBERS + 1, ORIGINAL);
 }
 
 static void test_race_free(void) {
@@ -182,7 +104,7 @@ static void test_short_buffers(void) {
   expect(is_work_kept() && is_cycle_kept() && are_sources_kept(), "refusal 11 keeps every buffer");
 }
 
-int main(void) {
+void test_check_and_fill(void) {
   test_race_free();
   test_race();
   test_cycle();
@@ -190,6 +112,4 @@ int main(void) {
   test_fill();
   test_refusals();
   test_short_buffers();
-  printf("%d passed, %d failed\n", passed, failed);
-  return failed != 0;
 }

@@ -5,9 +5,13 @@
 //! random bytes at a random address, so that an answer that depended on any
 //! of them would differ sooner or later.
 
+mod claim;
 mod expected;
+mod reasons;
 mod tally;
 
+pub use claim::Claim;
+pub use reasons::{Derived, Moments, Probed};
 pub use tally::Tally;
 
 use second::{CheckAnswer, FillAnswer, State};
@@ -80,7 +84,8 @@ impl Comparison {
         let expected = expected::of_check(&answer, &mut self.expected);
         let lent = &self.around[at..at + table.len()];
         let packed = check_in(lent, &mut self.ours.work, &mut self.ours.numbers);
-        self.compare("check", table, lengths, packed, expected)?;
+        let words = || format!("check {}", hex(table));
+        self.compare(words, lengths, packed, expected)?;
         Ok(answer)
     }
 
@@ -92,7 +97,8 @@ impl Comparison {
         if let Some(expected) = expected::of_fill(&answer, &mut self.expected) {
             let lent = &self.around[at..at + table.len()];
             let packed = fill_in(lent, &mut self.ours.work, &mut self.ours.numbers);
-            self.compare("fill", table, lengths, packed, expected)?;
+            let words = || format!("fill {}", hex(table));
+            self.compare(words, lengths, packed, expected)?;
         }
         Ok(answer)
     }
@@ -119,8 +125,7 @@ impl Comparison {
 
     fn compare(
         &self,
-        word: &str,
-        table: &[u8],
+        words: impl Fn() -> String,
         lengths: Lengths,
         packed: Packed,
         expected: Packed,
@@ -134,8 +139,7 @@ impl Comparison {
         } else {
             return Ok(());
         };
-        let digits = hex(table);
-        Err(Difference(format!("{part}: {lengths:?}\n{word} {digits}")))
+        Err(Difference(format!("{part}: {lengths:?}\n{}", words())))
     }
 }
 

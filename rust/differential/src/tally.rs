@@ -1,8 +1,10 @@
 //! Counts of answers, to see that each was reached often enough.
 
-use second::{CheckAnswer, FillAnswer};
+use crate::{Derived, Probed};
+use second::{AcceptsAnswer, CheckAnswer, FillAnswer};
 use std::collections::{BTreeMap, BTreeSet};
 use std::fmt;
+use stramashly::PROGRAM_ORDER;
 
 /// Answers counted by their word, and the rows that each refusal named.
 #[derive(Default)]
@@ -30,6 +32,24 @@ impl Tally {
             FillAnswer::Race { .. } => self.count("fill race"),
             FillAnswer::TooMany => self.count("fill not compared"),
             FillAnswer::Refused { number, row } => self.refusal("fill", number, row),
+        }
+    }
+
+    pub fn probe(&mut self, probed: &Probed) {
+        match probed.derived {
+            Derived::Found(ref claim) if claim.classes == PROGRAM_ORDER => {
+                self.count("derive program order");
+            }
+            Derived::Found(_) => self.count("derive chain"),
+            Derived::NotBefore => self.count("derive not before"),
+            Derived::Refused { number, row } => self.refusal("derive", number, row),
+        }
+        for (_, answer) in &probed.read {
+            match *answer {
+                AcceptsAnswer::Accepted => self.count("accepts accepted"),
+                AcceptsAnswer::NotAccepted => self.count("accepts not accepted"),
+                AcceptsAnswer::Refused { number, row } => self.refusal("accepts", number, row),
+            }
         }
     }
 

@@ -1,6 +1,6 @@
 //! What libFuzzer calls with each of its inputs: a check and a fill of the
-//! same bytes, compared with the second implementation, every lent buffer
-//! included. The counters that guide libFuzzer are those of the second
+//! same bytes and derivations of some of its moments, compared with the second
+//! implementation, every lent buffer included. The counters that guide libFuzzer are those of the second
 //! implementation; the proved library has none.
 
 use differential::{Comparison, Difference, Lengths};
@@ -43,6 +43,22 @@ fn both(comparison: &mut Comparison, input: &[u8]) -> Result<(), Difference> {
     } else {
         comparison.check(input)?;
         comparison.fill(input)?;
+    }
+    moments(comparison, input)
+}
+
+/// The first and the last pair that only a chain can order, and a pair that
+/// the first bytes name.
+fn moments(comparison: &mut Comparison, table: &[u8]) -> Result<(), Difference> {
+    let mut moments = comparison.moments_of(table);
+    let chained = moments.chained();
+    let named = match table {
+        [first, second, ..] => (u16::from(*first), u16::from(*second)),
+        _ => (1, 4),
+    };
+    let pairs = chained.first().into_iter().chain(chained.last());
+    for (first, second) in pairs.copied().chain([named]) {
+        moments.probe(first, second)?;
     }
     Ok(())
 }

@@ -48,24 +48,43 @@ fn compare(seed: u64, count: u64, tally: &mut Tally) -> Result<(), Difference> {
     Ok(())
 }
 
-/// Half of the tables for a check, a third for a fill, the rest damaged.
+/// Half of the tables for a check, a third for a fill, the rest damaged; two
+/// pairs of moments of each.
 fn compare_one(
     random: &mut Random,
     comparison: &mut Comparison,
     tally: &mut Tally,
 ) -> Result<(), Difference> {
     let size = size(random);
-    match random.below(6) {
-        0..=2 => tally.check(&comparison.check(&checkable(random, size).bytes())?),
-        3 | 4 => tally.fill(&comparison.fill(&fillable(random, size).bytes())?),
-        _ => {
-            let bytes = damaged(random, size);
-            if random.percent(50) {
-                tally.check(&comparison.check(&bytes)?);
-            } else {
-                tally.fill(&comparison.fill(&bytes)?);
-            }
-        }
+    let (bytes, is_check) = match random.below(6) {
+        0..=2 => (checkable(random, size).bytes(), true),
+        3 | 4 => (fillable(random, size).bytes(), false),
+        _ => (damaged(random, size), random.percent(50)),
+    };
+    if is_check {
+        tally.check(&comparison.check(&bytes)?);
+    } else {
+        tally.fill(&comparison.fill(&bytes)?);
+    }
+    compare_moments(random, comparison, tally, &bytes)
+}
+
+/// Any pair, and one that only a chain can order.
+fn compare_moments(
+    random: &mut Random,
+    comparison: &mut Comparison,
+    tally: &mut Tally,
+    table: &[u8],
+) -> Result<(), Difference> {
+    let mut moments = comparison.moments_of(table);
+    // Every row has its own moment; few have one before or after it.
+    let rows = moments.count() / 3;
+    let mut number = || (3 * random.below(rows + 1) + random.pick(&[0, 1, 1, 1, 2])) as u16;
+    let any = (number(), number());
+    let chained = moments.chained();
+    let pick = (!chained.is_empty()).then(|| random.pick(&chained));
+    for (first, second) in [any].into_iter().chain(pick) {
+        tally.probe(&moments.probe(first, second)?);
     }
     Ok(())
 }

@@ -100,5 +100,5 @@ fn the_front_page_is_right() {
             commands += 1;
         }
     }
-    assert_eq!(commands, 8);
+    assert_eq!(commands, 14);
 }

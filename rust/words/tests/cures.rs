@@ -127,7 +127,7 @@ fn check_table(table: &[u8], checker: &mut Checker, seen: &mut Seen) {
 fn every_named_change_ends_the_race() {
     let mut checker = Checker::new();
     let mut seen = Seen::default();
-    for table in generated(301, 4000, 2, 8) {
+    for table in generated(301, 5000, 2, 8) {
         check_table(&table, &mut checker, &mut seen);
     }
     for table in generated(302, 400, 9, 14) {

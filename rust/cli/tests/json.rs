@@ -10,65 +10,68 @@ fn examples() -> PathBuf {
     Path::new(env!("CARGO_MANIFEST_DIR")).join("../../examples")
 }
 
+/// A command, its object and its status.
+const OBJECTS: [(&str, &str, i32); 15] = [
+    ("check p.table", r#"{"verdict":"race-free"}"#, 0),
+    (
+        "check leak.table",
+        r#"{"verdict":"race","first":0,"second":4,"byte":0}"#,
+        1,
+    ),
+    (
+        "check overwritten.table",
+        r#"{"verdict":"overwritten","reader":4,"writer":1,"byte":0}"#,
+        2,
+    ),
+    (
+        "check p-initial.table",
+        r#"{"verdict":"cycle","rows":[0,3],"edges":[1,4]}"#,
+        2,
+    ),
+    (
+        "check too-long.table",
+        r#"{"verdict":"refused","number":7,"row":1}"#,
+        3,
+    ),
+    (
+        "fill fill.table",
+        r#"{"verdict":"filled","sources":[65535,65535,1,0]}"#,
+        0,
+    ),
+    (
+        "fill empty.table",
+        r#"{"verdict":"filled","sources":[]}"#,
+        0,
+    ),
+    ("fill fill-none.table", r#"{"verdict":"none"}"#, 2),
+    (
+        "fill fill-race.table",
+        r#"{"verdict":"race","first":0,"second":4,"byte":0}"#,
+        1,
+    ),
+    ("derive p.table 1 4", r#"{"verdict":"program-order"}"#, 0),
+    (
+        "derive p.table 3 8",
+        r#"{"verdict":"chain","classes":1,"steps":[1028,519,1544]}"#,
+        0,
+    ),
+    ("derive p.table 8 3", r#"{"verdict":"not-before"}"#, 1),
+    (
+        "derive p.table 8 8",
+        r#"{"verdict":"refused","number":12,"row":0}"#,
+        3,
+    ),
+    (
+        "accepts p.table 1 4 program-order",
+        r#"{"verdict":"accepted"}"#,
+        0,
+    ),
+    ("accepts p.table 1 4 1", r#"{"verdict":"not-accepted"}"#, 1),
+];
+
 #[test]
 fn each_answer_is_an_object() {
-    for (words, object, status) in [
-        ("check p.table", r#"{"verdict":"race-free"}"#, 0),
-        (
-            "check leak.table",
-            r#"{"verdict":"race","first":0,"second":4,"byte":0}"#,
-            1,
-        ),
-        (
-            "check overwritten.table",
-            r#"{"verdict":"overwritten","reader":4,"writer":1,"byte":0}"#,
-            2,
-        ),
-        (
-            "check p-initial.table",
-            r#"{"verdict":"cycle","rows":[0,3],"edges":[1,4]}"#,
-            2,
-        ),
-        (
-            "check too-long.table",
-            r#"{"verdict":"refused","number":7,"row":1}"#,
-            3,
-        ),
-        (
-            "fill fill.table",
-            r#"{"verdict":"filled","sources":[65535,65535,1,0]}"#,
-            0,
-        ),
-        (
-            "fill empty.table",
-            r#"{"verdict":"filled","sources":[]}"#,
-            0,
-        ),
-        ("fill fill-none.table", r#"{"verdict":"none"}"#, 2),
-        (
-            "fill fill-race.table",
-            r#"{"verdict":"race","first":0,"second":4,"byte":0}"#,
-            1,
-        ),
-        ("derive p.table 1 4", r#"{"verdict":"program-order"}"#, 0),
-        (
-            "derive p.table 3 8",
-            r#"{"verdict":"chain","classes":1,"steps":[1028,519,1544]}"#,
-            0,
-        ),
-        ("derive p.table 8 3", r#"{"verdict":"not-before"}"#, 1),
-        (
-            "derive p.table 8 8",
-            r#"{"verdict":"refused","number":12,"row":0}"#,
-            3,
-        ),
-        (
-            "accepts p.table 1 4 program-order",
-            r#"{"verdict":"accepted"}"#,
-            0,
-        ),
-        ("accepts p.table 1 4 1", r#"{"verdict":"not-accepted"}"#, 1),
-    ] {
+    for (words, object, status) in OBJECTS {
         let mut words: Vec<&str> = words.split(' ').collect();
         words.push("--json");
         let answer = stramashly_in(&examples(), &words, b"");

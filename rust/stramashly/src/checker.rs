@@ -84,7 +84,7 @@ impl Checker {
                 DeriveAnswer::Derivation(Derivation::ProgramOrder)
             }
             Some(Code::Derivation) => DeriveAnswer::Derivation(Derivation::Chain {
-                classes: a as u8,
+                classes: a.try_into().unwrap_or_else(|_| foreign(packed)),
                 steps: &self.chain[..usize::from(b)],
             }),
             Some(Code::NotBefore) => DeriveAnswer::NotBefore,

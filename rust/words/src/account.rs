@@ -1,7 +1,7 @@
 //! Why rows are ordered: the rule of location order that holds, the moments
 //! that it goes through, and the derivation between them.
 
-use crate::derivation::{at, reason_lines};
+use crate::derivation::{at, derived_lines};
 use crate::names;
 use crate::run::Run;
 use second::State;
@@ -87,7 +87,7 @@ impl Checked<'_> {
 
     /// The steps from one moment to the other, a line each.
     pub fn steps(&self, moments: (usize, usize)) -> Vec<String> {
-        reason_lines(self.table, &self.run.rows, moments)
+        derived_lines(self.table, &self.run.rows, moments)
     }
 
     /// `row 0 before row 3 by L3: …`, then the steps, indented.

@@ -13,7 +13,7 @@ pub fn step_parts(step: u16) -> (u16, usize) {
 
 /// Why a moment happens before another, a line for each step: the proved
 /// finder's derivation, which the proved reader has accepted.
-pub fn reason_lines(table: &[u8], rows: &[Row], (from, to): (usize, usize)) -> Vec<String> {
+pub fn derived_lines(table: &[u8], rows: &[Row], (from, to): (usize, usize)) -> Vec<String> {
     let mut checker = Checker::new();
     // Moments are below 192.
     let (first, second) = (from as u16, to as u16);

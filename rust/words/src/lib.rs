@@ -42,7 +42,7 @@ mod show;
 pub use account::{Checked, Ordered};
 pub use change::{Change, Goal};
 pub use cure::Cure;
-pub use derivation::{at, derivation_lines, moment_words, reason_lines, step_parts};
+pub use derivation::{at, derivation_lines, derived_lines, moment_words, step_parts};
 pub use draw::draw;
 pub use edit::{edited, Edit, Field};
 pub use explain::{explain, Explanation, Shown};

@@ -5,7 +5,7 @@ mod common;
 use common::{example, generated, with_relations};
 use second::State;
 use stramashly::{Checker, Derivation, DeriveAnswer};
-use words::{at, derivation_lines, moment_words, reason_lines, step_parts, Checked};
+use words::{at, derivation_lines, derived_lines, moment_words, step_parts, Checked};
 
 /// Whether each step of a chain holds by the second implementation, and the
 /// last reaches the second moment.
@@ -30,7 +30,7 @@ fn tell_all(checked: Checked) -> usize {
         if !state.happens_before(from, to) || from == to {
             continue;
         }
-        let lines = reason_lines(checked.table, rows, (from, to));
+        let lines = derived_lines(checked.table, rows, (from, to));
         let answer = checker.derive(checked.table, from as u16, to as u16);
         let DeriveAnswer::Derivation(derivation) = answer else {
             panic!("{from} {to}: {answer}");
@@ -77,7 +77,7 @@ fn table_p_is_told_step_by_step() {
             checker.derive(&table, 3, 8),
             DeriveAnswer::Derivation(chain)
         );
-        let lines = reason_lines(&table, rows, (3, 8));
+        let lines = derived_lines(&table, rows, (3, 8));
         assert_eq!(
             lines,
             [
@@ -86,12 +86,12 @@ fn table_p_is_told_step_by_step() {
                 "row 2, an acquire for Uniform, comes before row 2's visibility moment (M6, case 3)",
             ]
         );
-        let lines = reason_lines(&table, rows, (at(0), at(1)));
+        let lines = derived_lines(&table, rows, (at(0), at(1)));
         assert_eq!(
             lines,
             ["program order, M1: one agent's rows in their order"]
         );
-        let lines = reason_lines(&table, rows, (at(3), at(0)));
+        let lines = derived_lines(&table, rows, (at(3), at(0)));
         assert!(lines[0].starts_with("no derivation"), "{lines:?}");
     });
 }

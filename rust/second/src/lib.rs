@@ -15,6 +15,7 @@
 //! | edges, axioms A and B, canonical cycle | `axioms` |
 //! | fillings | `filling` |
 //! | derivations, refusal 12 | `derivation` |
+//! | counts of conflicting pairs | `report` |
 //! | the rules one by one, for those who put an answer into words | `facts` |
 
 mod admission;
@@ -26,6 +27,7 @@ mod filling;
 mod happens_before;
 mod location;
 mod moments;
+mod report;
 mod state;
 mod synchronization;
 pub mod table;
@@ -34,6 +36,7 @@ pub use answer::{CheckAnswer, FillAnswer, List};
 pub use derivation::{AcceptsAnswer, Derivation};
 pub use happens_before::{ACQUIRE_STEP, RELEASE_STEP, SYNCHRONIZES_STEP};
 pub use moments::{AFTER, AT, BEFORE};
+pub use report::{Counts, ReportAnswer};
 pub use state::State;
 pub use table::{BLANK, INITIAL};
 

@@ -2,7 +2,8 @@
 
 use crate::answer::{CheckAnswer, Code, FillAnswer, Packed};
 use crate::derivation::{AcceptsAnswer, Derivation, DeriveAnswer};
-use crate::engine::{accepts_in, check_in, derive_in, fill_in};
+use crate::engine::{accepts_in, check_in, derive_in, fill_in, report_in, share_of};
+use crate::report::{Report, ReportAnswer, Share};
 use crate::{CHAIN_NUMBERS, CYCLE_EDGES, CYCLE_NUMBERS, PROGRAM_ORDER, SOURCE_NUMBERS, WORK_WORDS};
 
 /// Answers questions about tables, one after the other, without allocating.
@@ -35,6 +36,23 @@ impl Checker {
     /// Checks a table, whatever its bytes.
     pub fn check(&mut self, table: &[u8]) -> CheckAnswer<'_> {
         let packed = check_in(table, &mut self.work[..], &mut self.cycle);
+        self.checked(packed)
+    }
+
+    /// Counts a table's conflicting pairs, whatever its bytes.
+    pub fn report(&mut self, table: &[u8]) -> ReportAnswer<'_> {
+        let packed = report_in(table, &mut self.work[..], &mut self.cycle);
+        match packed.code() {
+            Some(Code::Report) => ReportAnswer::Report(reported(packed)),
+            Some(Code::Overwritten | Code::Cycle | Code::Refused) => {
+                ReportAnswer::Check(self.checked(packed))
+            }
+            _ => foreign(packed),
+        }
+    }
+
+    /// A check's answer, taken apart; a cycle lies in the buffer.
+    fn checked(&self, packed: Packed) -> CheckAnswer<'_> {
         let (a, b, c) = (packed.a(), packed.b(), packed.c());
         match packed.code() {
             Some(Code::RaceFree) => CheckAnswer::RaceFree,
@@ -108,6 +126,23 @@ impl Checker {
             },
             _ => foreign(packed),
         }
+    }
+}
+
+/// A report's counts; the first is the sum of the others.
+fn reported(packed: Packed) -> Report {
+    let (mutual, ordered, racing) = (packed.a(), packed.b(), packed.c());
+    let conflicting = mutual + ordered + racing;
+    let share = match conflicting {
+        0 => Share::NoPairs,
+        _ => Share::Of(share_of(racing, conflicting)),
+    };
+    Report {
+        conflicting,
+        mutual,
+        ordered,
+        racing,
+        share,
     }
 }
 

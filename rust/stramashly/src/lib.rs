@@ -29,19 +29,32 @@
 //! assert_eq!(checker.derive(&table, 4, 1).to_string(), "not-before");
 //! ```
 //!
-//! [`check_in`], [`fill_in`] and [`derive_in`] take lent buffers instead, of
-//! any length, and give the packed answer as it comes, and so does
+//! A report counts the conflicting pairs of rows and says how many of them
+//! race; of a table without any there is no share:
+//!
+//! ```
+//! use stramashly::Checker;
+//!
+//! let empty_table = [0, 0, 0, 4, 1, 0, 0, 0];
+//! let mut checker = Checker::new();
+//! assert_eq!(checker.report(&empty_table).to_string(), "report 0 0 0 0 no-share");
+//! ```
+//!
+//! [`check_in`], [`fill_in`], [`derive_in`] and [`report_in`] take lent buffers
+//! instead, of any length, and give the packed answer as it comes, and so does
 //! [`accepts_in`], which needs none.
 
 mod answer;
 mod checker;
 mod derivation;
 mod engine;
+mod report;
 
 pub use answer::{CheckAnswer, Code, FillAnswer, Packed};
 pub use checker::Checker;
 pub use derivation::{AcceptsAnswer, Derivation, DeriveAnswer};
-pub use engine::{accepts_in, check_in, derive_in, fill_in};
+pub use engine::{accepts_in, check_in, derive_in, fill_in, report_in, share_of};
+pub use report::{Report, ReportAnswer, Share};
 
 /// Source number for the initial value.
 pub const INITIAL: u16 = 65535;

@@ -2,8 +2,10 @@
 //! these functions do; nothing compares the declarations here with it.
 
 mod derivation;
+mod report;
 
 pub use derivation::{accepts_in, derive_in};
+pub use report::{report_in, share_of};
 
 use crate::answer::Packed;
 

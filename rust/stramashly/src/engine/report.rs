@@ -1,0 +1,41 @@
+//! The C boundary: reports.
+
+use crate::answer::Packed;
+
+mod linked {
+    unsafe extern "C" {
+        pub fn stramashly_report(
+            table: *const u8,
+            table_len: usize,
+            work: *mut u64,
+            work_len: usize,
+            cycle: *mut u16,
+            cycle_len: usize,
+        ) -> u64;
+
+        pub fn stramashly_share(racing: u16, conflicting: u16) -> f64;
+    }
+}
+
+/// Counts a table's conflicting pairs in lent buffers of any length; too
+/// short ones are refusal 11.
+pub fn report_in(table: &[u8], work: &mut [u64], cycle: &mut [u16]) -> Packed {
+    // Sound as in `check_in`.
+    let answer = unsafe {
+        linked::stramashly_report(
+            table.as_ptr(),
+            table.len(),
+            work.as_mut_ptr(),
+            work.len(),
+            cycle.as_mut_ptr(),
+            cycle.len(),
+        )
+    };
+    Packed(answer)
+}
+
+/// The one division, rounded once; not a number where nothing conflicts.
+pub fn share_of(racing: u16, conflicting: u16) -> f64 {
+    // Sound: it takes numbers and gives one.
+    unsafe { linked::stramashly_share(racing, conflicting) }
+}

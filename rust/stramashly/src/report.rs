@@ -1,0 +1,68 @@
+//! Reports: how many pairs conflict, and what comes of them.
+
+use crate::answer::CheckAnswer;
+use std::fmt;
+
+/// What a report answers.
+#[derive(Clone, Copy, Debug, PartialEq)]
+pub enum ReportAnswer<'a> {
+    Report(Report),
+    /// A refused or inconsistent table has check's answer and no report.
+    Check(CheckAnswer<'a>),
+}
+
+/// The conflicting pairs of a consistent table, counted.
+#[derive(Clone, Copy, Debug, PartialEq)]
+pub struct Report {
+    /// All of them: the sum of the three others.
+    pub conflicting: u16,
+    /// The mutually-ordered.
+    pub mutual: u16,
+    /// Those that aren't, but are ordered at every shared byte.
+    pub ordered: u16,
+    pub racing: u16,
+    pub share: Share,
+}
+
+/// The racing pairs' part of the conflicting ones.
+#[derive(Clone, Copy, Debug, PartialEq)]
+pub enum Share {
+    Of(f64),
+    /// No pair conflicts, which isn't the same as none that races.
+    NoPairs,
+}
+
+impl fmt::Display for ReportAnswer<'_> {
+    fn fmt(&self, formatter: &mut fmt::Formatter) -> fmt::Result {
+        match self {
+            ReportAnswer::Report(report) => write!(formatter, "{report}"),
+            ReportAnswer::Check(answer) => write!(formatter, "{answer}"),
+        }
+    }
+}
+
+impl fmt::Display for Report {
+    fn fmt(&self, formatter: &mut fmt::Formatter) -> fmt::Result {
+        let Report {
+            conflicting,
+            mutual,
+            ordered,
+            racing,
+            share,
+        } = self;
+        write!(
+            formatter,
+            "report {conflicting} {mutual} {ordered} {racing} {share}"
+        )
+    }
+}
+
+impl fmt::Display for Share {
+    /// The fewest digits that read back as the same number.
+    fn fmt(&self, formatter: &mut fmt::Formatter) -> fmt::Result {
+        match self {
+            Share::Of(share) => write!(formatter, "{share:?}"),
+            Share::NoPairs => write!(formatter, "no-share"),
+        }
+    }
+}

@@ -4,7 +4,7 @@
 use crate::json::Object;
 use crate::Status;
 use std::fmt::Display;
-use stramashly::{AcceptsAnswer, CheckAnswer, Derivation, DeriveAnswer, FillAnswer};
+use stramashly::{AcceptsAnswer, CheckAnswer, Derivation, DeriveAnswer, FillAnswer, ReportAnswer};
 
 /// An answer; `Display` is its plain line.
 pub trait Answer: Display {
@@ -116,6 +116,30 @@ impl Answer for AcceptsAnswer {
             AcceptsAnswer::Accepted => put_verdict(object, "accepted"),
             AcceptsAnswer::NotAccepted => put_verdict(object, "not-accepted"),
             AcceptsAnswer::Refused { number, row } => put_refusal(object, number, row),
+        }
+    }
+}
+
+impl Answer for ReportAnswer<'_> {
+    fn status(&self) -> Status {
+        match self {
+            ReportAnswer::Report(report) if report.racing > 0 => Status::No,
+            ReportAnswer::Report(_) => Status::Fine,
+            ReportAnswer::Check(answer) => answer.status(),
+        }
+    }
+
+    fn put(&self, object: &mut Object) {
+        match self {
+            ReportAnswer::Report(report) => {
+                put_verdict(object, "report");
+                object.number("conflicting", report.conflicting);
+                object.number("mutual", report.mutual);
+                object.number("ordered", report.ordered);
+                object.number("racing", report.racing);
+                object.share("share", report.share);
+            }
+            ReportAnswer::Check(answer) => answer.put(object),
         }
     }
 }

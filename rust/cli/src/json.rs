@@ -1,6 +1,7 @@
 //! One object a line, in JSON.
 
 use std::fmt::{self, Display, Write};
+use stramashly::Share;
 
 /// An object, member by member.
 #[derive(Default)]
@@ -11,6 +12,14 @@ pub struct Object {
 impl Object {
     pub fn number(&mut self, key: &str, number: u16) {
         self.member(key, &number);
+    }
+
+    /// In the digits that the plain line has.
+    pub fn share(&mut self, key: &str, share: Share) {
+        match share {
+            Share::Of(_) => self.member(key, &share),
+            Share::NoPairs => self.member(key, &"null"),
+        }
     }
 
     pub fn numbers(&mut self, key: &str, numbers: &[u16]) {
@@ -67,6 +76,20 @@ mod tests {
         object.numbers("edges", &[]);
         let expected = r#"{"verdict":"cycle","length":2,"rows":[0,65535],"edges":[]}"#;
         assert_eq!(object.to_string(), expected);
+    }
+
+    #[test]
+    fn shares_are_numbers_or_null() {
+        for (share, expected) in [
+            (Share::Of(0.0), r#"{"share":0.0}"#),
+            (Share::Of(1.0), r#"{"share":1.0}"#),
+            (Share::Of(1.0 / 3.0), r#"{"share":0.3333333333333333}"#),
+            (Share::NoPairs, r#"{"share":null}"#),
+        ] {
+            let mut object = Object::default();
+            object.share("share", share);
+            assert_eq!(object.to_string(), expected);
+        }
     }
 
     #[test]

@@ -28,6 +28,7 @@ pub fn judge(
     match question {
         Question::Check => append(text, form, &checker.check(table)),
         Question::Fill => append(text, form, &checker.fill(table)),
+        Question::Report => append(text, form, &checker.report(table)),
         Question::Derive { first, second } => {
             append(text, form, &checker.derive(table, *first, *second))
         }

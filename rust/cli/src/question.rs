@@ -7,6 +7,7 @@ use stramashly::Derivation;
 pub enum Kind {
     Check,
     Fill,
+    Report,
     Derive,
     Accepts,
 }
@@ -16,6 +17,7 @@ pub enum Kind {
 pub enum Question {
     Check,
     Fill,
+    Report,
     Derive {
         first: u16,
         second: u16,
@@ -61,12 +63,13 @@ impl Claim {
 
 impl Kind {
     /// What there is to choose from.
-    pub const NAMES: &str = "check, fill, derive and accepts";
+    pub const NAMES: &str = "check, fill, report, derive and accepts";
 
     pub fn named(name: &[u8]) -> Option<Kind> {
         match name {
             b"check" => Some(Kind::Check),
             b"fill" => Some(Kind::Fill),
+            b"report" => Some(Kind::Report),
             b"derive" => Some(Kind::Derive),
             b"accepts" => Some(Kind::Accepts),
             _ => None,
@@ -83,6 +86,7 @@ impl Kind {
         match self {
             Kind::Check => Ok(Question::Check),
             Kind::Fill => Ok(Question::Fill),
+            Kind::Report => Ok(Question::Report),
             Kind::Derive => match words {
                 [first, second] => Ok(Question::Derive {
                     first: number(first, u16::MAX)?,

@@ -71,9 +71,9 @@ fn bad_lines_are_answered_and_the_stream_goes_on() {
         "guess 00\n\n check 00\nchecks 00\ncheckfill 00\ncheck 0\ncheck 0G\nfill \u{e4}\n\
          check {digits}\n"
     );
-    let answers = "error none of check, fill, derive and accepts\nerror none of check, fill, derive and accepts\n\
-         error none of check, fill, derive and accepts\nerror none of check, fill, derive and accepts\n\
-         error none of check, fill, derive and accepts\nerror odd count of hex digits\n\
+    let answers = "error none of check, fill, report, derive and accepts\nerror none of check, fill, report, derive and accepts\n\
+         error none of check, fill, report, derive and accepts\nerror none of check, fill, report, derive and accepts\n\
+         error none of check, fill, report, derive and accepts\nerror odd count of hex digits\n\
          error 'G' at place 2 is no hex digit\nerror byte 0xC3 at place 1 is no hex digit\n\
          race-free\n";
     let answer = stramashly(&["batch"], input.as_bytes());
@@ -96,7 +96,7 @@ fn long_lines_have_the_refusal_that_they_deserve() {
     input.extend(b"\nfill 0000000401000000\n");
     let answer = stramashly(&["batch"], &input);
     let answers = "refused 4 0\nrefused 2 0\nerror odd count of hex digits\n\
-         error none of check, fill, derive and accepts\nfilled\n";
+         error none of check, fill, report, derive and accepts\nfilled\n";
     assert_eq!(answer.output, answers);
 }
 

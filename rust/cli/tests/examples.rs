@@ -71,6 +71,7 @@ fn every_answer_is_on_the_page() {
         "refused",
         "none",
         "filled",
+        "report",
         "program-order",
         "chain",
         "not-before",
@@ -100,5 +101,5 @@ fn the_front_page_is_right() {
             commands += 1;
         }
     }
-    assert_eq!(commands, 14);
+    assert_eq!(commands, 17);
 }

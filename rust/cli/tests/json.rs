@@ -11,7 +11,7 @@ fn examples() -> PathBuf {
 }
 
 /// A command, its object and its status.
-const OBJECTS: [(&str, &str, i32); 15] = [
+const OBJECTS: [(&str, &str, i32); 19] = [
     ("check p.table", r#"{"verdict":"race-free"}"#, 0),
     (
         "check leak.table",
@@ -48,6 +48,26 @@ const OBJECTS: [(&str, &str, i32); 15] = [
         "fill fill-race.table",
         r#"{"verdict":"race","first":0,"second":4,"byte":0}"#,
         1,
+    ),
+    (
+        "report leak.table",
+        r#"{"verdict":"report","conflicting":3,"mutual":1,"ordered":0,"racing":2,"share":0.6666666666666666}"#,
+        1,
+    ),
+    (
+        "report p.table",
+        r#"{"verdict":"report","conflicting":2,"mutual":1,"ordered":1,"racing":0,"share":0.0}"#,
+        0,
+    ),
+    (
+        "report empty.table",
+        r#"{"verdict":"report","conflicting":0,"mutual":0,"ordered":0,"racing":0,"share":null}"#,
+        0,
+    ),
+    (
+        "report p-initial.table",
+        r#"{"verdict":"cycle","rows":[0,3],"edges":[1,4]}"#,
+        2,
     ),
     ("derive p.table 1 4", r#"{"verdict":"program-order"}"#, 0),
     (

@@ -12,11 +12,12 @@
  *   code                     given by      a           b         c
  *   0  race-free             check
  *   1  race                  check, fill   lower row   higher    byte
- *   2  overwritten           check         reader      writer    byte
- *   3  cycle                 check         its rows' number
+ *   2  overwritten           check, report reader      writer    byte
+ *   3  cycle                 check, report its rows' number
  *   4  refused               each          number      row
  *   5  none                  fill
  *   6  filled                fill          rows of the table
+ *   7  report                report        mutual      ordered   racing
  *   8  a derivation          derive        class set   steps
  *   9  not before            derive
  *  10  accepted              accepts
@@ -93,6 +94,7 @@ enum stramashly_code {
   STRAMASHLY_REFUSED = 4,
   STRAMASHLY_NONE = 5,
   STRAMASHLY_FILLED = 6,
+  STRAMASHLY_REPORT = 7,
   STRAMASHLY_DERIVATION = 8,
   STRAMASHLY_NOT_BEFORE = 9,
   STRAMASHLY_ACCEPTED = 10,
@@ -104,6 +106,12 @@ enum stramashly_code {
 #define STRAMASHLY_A(answer) ((unsigned)((uint64_t)(answer) >> 32 & 0xFFFF))
 #define STRAMASHLY_B(answer) ((unsigned)((uint64_t)(answer) >> 16 & 0xFFFF))
 #define STRAMASHLY_C(answer) ((unsigned)((uint64_t)(answer) & 0xFFFF))
+
+/* Of a report: all conflicting pairs. Parts a, b and c are those that are
+ * mutually-ordered, those that aren't but have order at every shared byte, and
+ * those that race. */
+#define STRAMASHLY_CONFLICTING(answer) \
+  (STRAMASHLY_A(answer) + STRAMASHLY_B(answer) + STRAMASHLY_C(answer))
 
 /* Checks a table: race-free, race, overwritten, cycle or refused. */
 uint64_t stramashly_check(const uint8_t *table, size_t table_len,
@@ -129,6 +137,17 @@ uint64_t stramashly_derive(const uint8_t *table, size_t table_len,
 uint64_t stramashly_accepts(const uint8_t *table, size_t table_len,
                             uint16_t first, uint16_t second, uint8_t classes,
                             const uint16_t *steps, size_t steps_len);
+
+/* Counts the conflicting pairs of a table: report, or check's answer to a
+ * refused or inconsistent table, in the same buffers. */
+uint64_t stramashly_report(const uint8_t *table, size_t table_len,
+                           uint64_t *work, size_t work_len,
+                           uint16_t *cycle, size_t cycle_len);
+
+/* The racing share: the one division, rounded once. It is 0.0 exactly when
+ * nothing races and 1.0 exactly when every conflicting pair does. Where nothing
+ * conflicts there is no share: then it is not a number. */
+double stramashly_share(uint16_t racing, uint16_t conflicting);
 
 #ifdef __cplusplus
 }

@@ -37,5 +37,6 @@ int is_chain_kept(void);
 /* The tests, one function a file. */
 void test_check_and_fill(void);
 void test_derivations(void);
+void test_reports(void);
 
 #endif

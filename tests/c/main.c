@@ -83,6 +83,7 @@ int is_chain_kept(void) { return all_numbers(chain, 0, STRAMASHLY_CHAIN_NUMBERS 
 int main(void) {
   test_check_and_fill();
   test_derivations();
+  test_reports();
   printf("%d passed, %d failed\n", passed, failed);
   return failed != 0;
 }

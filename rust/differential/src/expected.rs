@@ -2,7 +2,7 @@
 //! the buffers.
 
 use crate::Lent;
-use second::{CheckAnswer, FillAnswer};
+use second::{CheckAnswer, FillAnswer, ReportAnswer};
 use stramashly::{Code, Packed, CYCLE_EDGES, CYCLE_NUMBERS, WORK_WORDS};
 
 /// The packed answer; the buffers become what they must hold after it.
@@ -49,6 +49,17 @@ pub(crate) fn of_fill(answer: &FillAnswer, lent: &mut Lent) -> Option<Packed> {
     };
     lent.work[..WORK_WORDS].fill(0);
     Some(packed)
+}
+
+/// The packed answer; the buffers become what they must hold after it.
+pub(crate) fn of_report(answer: &ReportAnswer, lent: &mut Lent) -> Packed {
+    match answer {
+        ReportAnswer::Check(answer) => of_check(answer, lent),
+        ReportAnswer::Counts(counts) => {
+            lent.work[..WORK_WORDS].fill(0);
+            Packed::new(Code::Report, counts.mutual, counts.ordered, counts.racing)
+        }
+    }
 }
 
 /// A refusal changes no buffer.

@@ -8,6 +8,7 @@
 mod claim;
 mod expected;
 mod reasons;
+mod reports;
 mod tally;
 
 pub use claim::Claim;

@@ -1,7 +1,7 @@
 //! Counts of answers, to see that each was reached often enough.
 
 use crate::{Derived, Probed};
-use second::{AcceptsAnswer, CheckAnswer, FillAnswer};
+use second::{AcceptsAnswer, CheckAnswer, FillAnswer, ReportAnswer};
 use std::collections::{BTreeMap, BTreeSet};
 use std::fmt;
 use stramashly::PROGRAM_ORDER;
@@ -32,6 +32,23 @@ impl Tally {
             FillAnswer::Race { .. } => self.count("fill race"),
             FillAnswer::TooMany => self.count("fill not compared"),
             FillAnswer::Refused { number, row } => self.refusal("fill", number, row),
+        }
+    }
+
+    pub fn report(&mut self, answer: &ReportAnswer) {
+        match answer {
+            ReportAnswer::Counts(counts) if counts.conflicting == 0 => {
+                self.count("report without a share");
+            }
+            ReportAnswer::Counts(counts) if counts.racing == 0 => self.count("report 0.0"),
+            ReportAnswer::Counts(counts) if counts.racing == counts.conflicting => {
+                self.count("report 1.0");
+            }
+            ReportAnswer::Counts(_) => self.count("report between"),
+            ReportAnswer::Check(CheckAnswer::Refused { number, row }) => {
+                self.refusal("report", *number, *row);
+            }
+            ReportAnswer::Check(_) => self.count("report inconsistent"),
         }
     }
 

@@ -1,6 +1,6 @@
-//! What libFuzzer calls with each of its inputs: a check and a fill of the
-//! same bytes and derivations of some of its moments, compared with the second
-//! implementation, every lent buffer included. The counters that guide libFuzzer are those of the second
+//! What libFuzzer calls with each of its inputs: a check, a fill and a report
+//! of the same bytes and derivations of some of its moments, compared with the
+//! second implementation, every lent buffer included. The counters that guide libFuzzer are those of the second
 //! implementation; the proved library has none.
 
 use differential::{Comparison, Difference, Lengths};
@@ -40,9 +40,11 @@ fn both(comparison: &mut Comparison, input: &[u8]) -> Result<(), Difference> {
         };
         comparison.check_in(table, lengths(CYCLE_NUMBERS))?;
         comparison.fill_in(table, lengths(SOURCE_NUMBERS))?;
+        comparison.report_in(table, lengths(CYCLE_NUMBERS))?;
     } else {
         comparison.check(input)?;
         comparison.fill(input)?;
+        comparison.report(input)?;
     }
     moments(comparison, input)
 }

@@ -48,7 +48,7 @@ fn compare(seed: u64, count: u64, tally: &mut Tally) -> Result<(), Difference> {
     Ok(())
 }
 
-/// Half of the tables for a check, a third for a fill, the rest damaged; two
+/// Half of the tables for a check and a report, a third for a fill, the rest damaged; two
 /// pairs of moments of each.
 fn compare_one(
     random: &mut Random,
@@ -63,6 +63,7 @@ fn compare_one(
     };
     if is_check {
         tally.check(&comparison.check(&bytes)?);
+        tally.report(&comparison.report(&bytes)?);
     } else {
         tally.fill(&comparison.fill(&bytes)?);
     }

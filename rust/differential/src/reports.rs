@@ -1,0 +1,48 @@
+//! Compares reports: the counts, every number of the lent buffers, and the
+//! share.
+
+use crate::{expected, Comparison, Difference, Lengths};
+use second::{Counts, ReportAnswer};
+use stramashly::{report_in, share_of, CYCLE_NUMBERS};
+use tables::hex;
+
+impl Comparison {
+    /// A report with buffers that are long enough.
+    pub fn report(&mut self, table: &[u8]) -> Result<ReportAnswer, Difference> {
+        let lengths = self.enough(CYCLE_NUMBERS);
+        self.report_in(table, lengths)
+    }
+
+    /// A report with buffers of any length.
+    pub fn report_in(
+        &mut self,
+        table: &[u8],
+        lengths: Lengths,
+    ) -> Result<ReportAnswer, Difference> {
+        let answer = self.state.report(table, lengths.work, lengths.numbers);
+        let at = self.prepare(table, lengths);
+        let expected = expected::of_report(&answer, &mut self.expected);
+        let lent = &self.around[at..at + table.len()];
+        let packed = report_in(lent, &mut self.ours.work, &mut self.ours.numbers);
+        let words = || format!("report {}", hex(table));
+        self.compare(words, lengths, packed, expected)?;
+        match answer {
+            ReportAnswer::Counts(counts) => compare_share(counts)?,
+            ReportAnswer::Check(_) => (),
+        }
+        Ok(answer)
+    }
+}
+
+/// The counts are the same by now; of no pairs the share is no number.
+fn compare_share(counts: Counts) -> Result<(), Difference> {
+    let share = share_of(counts.racing, counts.conflicting);
+    let is_same = match counts.share() {
+        Some(expected) => share.to_bits() == expected.to_bits(),
+        None => share.is_nan(),
+    };
+    if is_same {
+        return Ok(());
+    }
+    Err(Difference(format!("share {share} of {counts:?}")))
+}

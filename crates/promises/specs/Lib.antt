@@ -6,3 +6,4 @@ pub mod Outcomes
 pub mod Searches
 pub mod FillLaws
 pub mod Report
+pub mod ReportRuns

@@ -2,7 +2,7 @@ use mathlib.Core.List.{[]}
 use Rattle.bits.specs.Stage.{made-cong}
 use Rattle.model.specs.Table.{decode}
 use Rattle.model.specs.Moment.{programOrder}
-use Rattle.area.specs.Regions.{HAPPENS, HAPPENS-END}
+use Rattle.area.specs.Regions.{HAPPENS, HAPPENS-END, MOMENTS}
 use Rattle.order.specs.Cases.{order-is}
 use mathlib.Core.Path.{_≡_, refl, ap, _∙_}
 use Prim.Native.Nat.{_+_, _-_, _*_, _≤_}
@@ -20,13 +20,13 @@ use Rattle.bits.proofs.put_if.Reads as put-if-reads
 use Rattle.moments.proofs.ordered_at.Reads as ordered-at-reads
 
 abbrev Inv-loop2 : tie.InvT-loop2
-Inv-loop2 rows n w₀ m k₀ m-end k-end w k = (k ≤ 3 * n) × (length w ≡ length w₀) × (w ≡ rowFill (programOrder (decode rows [] n) m) w₀ (HAPPENS * 64 + m * 192) k)
+Inv-loop2 rows n w₀ m k₀ m-end k-end w k = (k ≤ 3 * n) × (length w ≡ length w₀) × (w ≡ rowFill (programOrder (decode rows [] n) m) w₀ (HAPPENS * 64 + m * (MOMENTS * 64)) k)
 
 abbrev μ-loop2 : tie.MeasureT-loop2
 μ-loop2 rows n w₀ m k₀ m-end k-end w k = 3 * n - k
 
 abbrev Inv-loop : tie.InvT-loop
-Inv-loop rows n w₀ m₀ m-end w m = (m ≤ 3 * n) × (length w ≡ length w₀) × (w ≡ gridFill (programOrder (decode rows [] n)) w₀ (HAPPENS * 64) 192 (3 * n) m)
+Inv-loop rows n w₀ m₀ m-end w m = (m ≤ 3 * n) × (length w ≡ length w₀) × (w ≡ gridFill (programOrder (decode rows [] n)) w₀ (HAPPENS * 64) (MOMENTS * 64) (3 * n) m)
 
 abbrev μ-loop : tie.MeasureT-loop
 μ-loop rows n w₀ m₀ m-end w m = 3 * n - m
@@ -115,7 +115,7 @@ same-length c = search needs
 returns : tie.Need-returns Inv-loop2 μ-loop2 Inv-loop μ-loop
 returns c p =
     let e : c .before .loop .m ≡ 3 * c .before .before .before .before .before .before .before .before .args .n = omega arith in
-    made-cong (λ m k l h. order-is _ _ _ _ m k) (made-filled HAPPENS HAPPENS-END 3 _ _ _ _ _ (omega arith) (omega arith) (omega arith) (c .before .before .before .before .clear .ensures) (rw e at (c .before .loop .inv .2)))
+    made-cong (λ m k l h. order-is _ _ _ _ m k) (made-filled HAPPENS HAPPENS-END MOMENTS _ _ _ _ _ (omega arith) (omega arith) (omega arith) (c .before .before .before .before .clear .ensures) (rw e at (c .before .loop .inv .2)))
 
 pub fill-order-spec : {M : Type 1} → statement M
 fill-order-spec =

@@ -194,7 +194,7 @@ module _ (t : Table) (fair : Fair t) (free : NoRace t) where
     between-follow s z b l w f e = and-true w (or-left _ (and-true f (some-before t z y b (fair .sized z l) e)))
 
     -- two candidates are one
-    candidates-same : (s z : ℕ) → candidate t y s ≡ true → candidate t y z ≡ true → s ≡ z
+    pub candidates-same : (s z : ℕ) → candidate t y s ≡ true → candidate t y z ≡ true → s ≡ z
     candidates-same s z a b = go (ℕ-discrete s z)
       where
         cs : Candidate t y s

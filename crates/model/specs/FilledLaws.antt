@@ -57,14 +57,14 @@ module _ {s f g : List ℕ} (ff : Filling s f) (fg : Filling s g) (same : (i : �
   unfolding sourcesOf sourceOf
   source-bytes i l =
       halves _ _ _ _
-      (subst (λ (z : ℕ). z < 256) (sym (bytes-at s f i 13 (agents-kept ff))) (ff .bytes _))
-      (subst (λ (z : ℕ). z < 256) (sym (bytes-at s g i 13 (agents-kept fg))) (fg .bytes _))
+      (subst (λ (z : ℕ). z < 256) (sym (bytes-at s f i 13 (agents-kept ff) (rows-kept ff) l (omega arith))) (ff .bytes _))
+      (subst (λ (z : ℕ). z < 256) (sym (bytes-at s g i 13 (agents-kept fg) (rows-kept fg) l (omega arith))) (fg .bytes _))
       (sym (pair-is (rowBytes f) i 12) ∙ same i l ∙ pair-is (rowBytes g) i 12)
 
   byte-same : (i j : ℕ) → i < rowsAt s → (j ≡ 12) ⊎ (j ≡ 13)
       → getD f (rowsBegin (agentsAt s) + (i * ROW-BYTES + j)) 0 ≡ getD g (rowsBegin (agentsAt s) + (i * ROW-BYTES + j)) 0
-  byte-same i j l (inl e) = rw e (sym (bytes-at s f i 12 (agents-kept ff)) ∙ source-bytes i l .0 ∙ bytes-at s g i 12 (agents-kept fg))
-  byte-same i j l (inr e) = rw e (sym (bytes-at s f i 13 (agents-kept ff)) ∙ source-bytes i l .1 ∙ bytes-at s g i 13 (agents-kept fg))
+  byte-same i j l (inl e) = rw e (sym (bytes-at s f i 12 (agents-kept ff) (rows-kept ff) l (omega arith)) ∙ source-bytes i l .0 ∙ bytes-at s g i 12 (agents-kept fg) (rows-kept fg) l (omega arith))
+  byte-same i j l (inr e) = rw e (sym (bytes-at s f i 13 (agents-kept ff) (rows-kept ff) l (omega arith)) ∙ source-bytes i l .1 ∙ bytes-at s g i 13 (agents-kept fg) (rows-kept fg) l (omega arith))
 
   -- a byte of no blank's source
   other-same : (k : ℕ) → ((i : ℕ) → i < rowsAt s → blankAt s i ≡ true → (k ≡ sourceBegin s i) ⊎ (k ≡ sourceBegin s i + 1) → ⊥) → getD f k 0 ≡ getD g k 0
@@ -269,12 +269,16 @@ module _ (s : List ℕ) (bytes : Bytes s) (h : Sound true s) (source : ℕ → �
   unfolding agentsAt rowsBegin
   filled-agents = head-at 5 (omega arith)
 
+  filled-rows : rowsAt f ≡ rowsAt s
+  unfolding rowsAt rowsBegin
+  filled-rows = head-at 6 (omega arith)
+
   -- a blank gets its source
   pub filled-source : (i : ℕ) → i < rowsAt s → blankAt s i ≡ true → sourcesOf f i ≡ source i
   unfolding sourcesOf sourceOf
   filled-source i l b =
       pair-is (rowBytes f) i 12
-      ∙ ap₂ (λ (x y : ℕ). x * 256 + y) (bytes-at s f i 12 filled-agents ∙ row-at i 12 l (omega arith) ∙ byte-12 i l b _) (bytes-at s f i 13 filled-agents ∙ row-at i 13 l (omega arith) ∙ byte-13 i l b _)
+      ∙ ap₂ (λ (x y : ℕ). x * 256 + y) (bytes-at s f i 12 filled-agents filled-rows l (omega arith) ∙ row-at i 12 l (omega arith) ∙ byte-12 i l b _) (bytes-at s f i 13 filled-agents filled-rows l (omega arith) ∙ row-at i 13 l (omega arith) ∙ byte-13 i l b _)
       ∙ omega arith
 
   pub filled-filling : Filling s f

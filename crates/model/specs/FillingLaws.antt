@@ -7,8 +7,8 @@ use mathlib.Core.Logic.{_⊎_, inl, inr, ⊎-elim}
 use Prim.Native.Nat.{ℕ, zero, suc, _+_, _*_, _≤_, _<_}
 use native.Mathlib.Omega.{arith}
 use native.Mathlib.Decide.{decLt}
-use lib.ListN.{length, getD, drop}
-use lib.Seq.{getD-drop}
+use lib.ListN.{length, getD, take, drop, length-take, List·getD-eq-default}
+use lib.Seq.{getD-drop, getD-take}
 use lib.Dec.{ltb, leb, eqb}
 use borrow.Author.Tests.{eqb-true, leb-true, le-ltb}
 use Rattle.finite.specs.Logic.{_and_, _or_, split, which, not-both}
@@ -30,10 +30,29 @@ atomic-not-blank r a p =
     let l : ATOMIC-READ ≤ r .kind = leb-true ATOMIC-READ (r .kind) (split a .0) in
     omega arith
 
--- byte k of row i, in the bytes of the table
-pub bytes-at : (s g : List ℕ) (i k : ℕ) → agentsAt g ≡ agentsAt s → byteOf (rowBytes g) i k ≡ getD g (rowsBegin (agentsAt s) + (i * ROW-BYTES + k)) 0
+-- byte k of row i, in the bytes of the table; past the rows there is none
+pub bytes-past : (g : List ℕ) (i k : ℕ) → rowsAt g ≤ i → byteOf (rowBytes g) i k ≡ 0
 unfolding byteOf rowBytes
-bytes-at s g i k e = rw e (getD-drop (rowsBegin (agentsAt s)) g (i * ROW-BYTES + k) 0)
+bytes-past g i k l =
+    let n = length-take (ROW-BYTES * rowsAt g) (drop (rowsBegin (agentsAt g)) g) in
+    List·getD-eq-default (take (ROW-BYTES * rowsAt g) (drop (rowsBegin (agentsAt g)) g)) 0 (omega arith)
+
+pub bytes-at : (s g : List ℕ) (i k : ℕ) → agentsAt g ≡ agentsAt s → rowsAt g ≡ rowsAt s → i < rowsAt s → k < ROW-BYTES
+    → byteOf (rowBytes g) i k ≡ getD g (rowsBegin (agentsAt s) + (i * ROW-BYTES + k)) 0
+unfolding byteOf rowBytes
+bytes-at s g i k e r l m =
+    rw (e, r)
+    (getD-take (ROW-BYTES * rowsAt s) (drop (rowsBegin (agentsAt s)) g) (i * ROW-BYTES + k) 0 (omega arith)
+    ∙ getD-drop (rowsBegin (agentsAt s)) g (i * ROW-BYTES + k) 0)
+
+-- where each row's byte k stays, it stays past the rows too
+pub bytes-kept : (s g : List ℕ) (i k : ℕ) → agentsAt g ≡ agentsAt s → rowsAt g ≡ rowsAt s → k < ROW-BYTES
+    → getD g (rowsBegin (agentsAt s) + (i * ROW-BYTES + k)) 0 ≡ getD s (rowsBegin (agentsAt s) + (i * ROW-BYTES + k)) 0 → byteOf (rowBytes g) i k ≡ byteOf (rowBytes s) i k
+bytes-kept s g i k e r m q = go (decLt i (rowsAt s))
+  where
+    go : Dec (i < rowsAt s) → byteOf (rowBytes g) i k ≡ byteOf (rowBytes s) i k
+    go (yes l) = bytes-at s g i k e r l m ∙ q ∙ sym (bytes-at s s i k refl refl l m)
+    go (no l) = bytes-past g i k (omega arith) ∙ sym (bytes-past s i k (omega arith))
 
 -- a pair is its two bytes
 pub pair-is : (b : List ℕ) (i k : ℕ) → pairOf b i k ≡ byteOf b i k * 256 + byteOf b i (k + 1)
@@ -98,10 +117,10 @@ module _ {s f : List ℕ} (fl : Filling s f) where
   -- ---- the rows
 
   byte-kept : (i k : ℕ) → k < ROW-BYTES → (k < 12) ⊎ (13 < k) → byteOf (rowBytes f) i k ≡ byteOf (rowBytes s) i k
-  byte-kept i k h o = bytes-at s f i k agents-kept ∙ field-kept i k h o ∙ sym (bytes-at s s i k refl)
+  byte-kept i k h o = bytes-kept s f i k agents-kept rows-kept h (field-kept i k h o)
 
   byte-whole : (i k : ℕ) → k < ROW-BYTES → blankAt s i ≡ false → byteOf (rowBytes f) i k ≡ byteOf (rowBytes s) i k
-  byte-whole i k h n = bytes-at s f i k agents-kept ∙ whole-kept i k h n ∙ sym (bytes-at s s i k refl)
+  byte-whole i k h n = bytes-kept s f i k agents-kept rows-kept h (whole-kept i k h n)
 
   pair-kept : (i k : ℕ) → k + 1 < ROW-BYTES → (k + 1 < 12) ⊎ (13 < k) → pairOf (rowBytes f) i k ≡ pairOf (rowBytes s) i k
   pair-kept i k h o =

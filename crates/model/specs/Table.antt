@@ -2,7 +2,7 @@
 use mathlib.Core.Bool.{Bool, true, false, cond}
 use mathlib.Core.List.{List, [], _∷_}
 use Prim.Native.Nat.{ℕ, _+_, _*_}
-use lib.ListN.{getD, drop}
+use lib.ListN.{getD, take, drop}
 use lib.Dec.{ltb}
 use Rattle.finite.specs.Lists.{tabulate}
 use Rattle.model.specs.declared.Row.{Row}
@@ -73,7 +73,7 @@ unfoldable pub sizeOf : ℕ → ℕ → ℕ
 sizeOf agents rows = rowsBegin agents + ROW-BYTES * rows
 
 unfoldable pub rowBytes : List ℕ → List ℕ
-rowBytes s = drop (rowsBegin (agentsAt s)) s
+rowBytes s = take (ROW-BYTES * rowsAt s) (drop (rowsBegin (agentsAt s)) s)
 
 -- ---- the rows, over their bytes alone: byte k of row i is at 16 × i + k
 

@@ -1,14 +1,14 @@
 -- Laws that the readers' proofs cite. Assumes nothing.
 use mathlib.Core.Path.{_≡_, refl, sym, _∙_}
 use mathlib.Core.List.{List, [], _∷_}
-use Prim.Native.Nat.{ℕ, _≤_, _<_, _+_, _-_}
+use Prim.Native.Nat.{ℕ, zero, suc, _≤_, _<_, _+_, _-_, _*_}
 use native.Mathlib.Nat.{le-of-eq}
 use native.Mathlib.Numerals.{add-one}
 use native.Mathlib.Omega.{arith}
 use lib.ListN.{length, List·getD-eq-default, take, drop, set, length-drop, drop-of-length-le}
 use lib.Seq.{take-suc-set, take-all}
 use Rattle.finite.specs.Lists.{tabulate}
-use Rattle.model.specs.Table.{pairAt, quadAt, agentsAt, rowsBegin, rowBytes}
+use Rattle.model.specs.Table.{ROW-BYTES, pairAt, quadAt, agentsAt, rowsAt, rowsBegin, rowBytes}
 
 -- ---- past the end a number is 0
 
@@ -24,13 +24,24 @@ quad-past s k h = rw (pair-past s k h, pair-past s (k + 2) (omega arith)) refl
 
 -- ---- the bytes of the rows, from where they begin
 
+take-none : (n : ℕ) → take {A = ℕ} n [] ≡ []
+take-none zero = refl
+take-none (suc n) = refl
+
 pub rows-none : (s : List ℕ) (at : ℕ) → at ≡ rowsBegin (agentsAt s) → length s ≤ at → rowBytes s ≡ []
 unfolding rowBytes
-rows-none s at e h = rw (← e) (drop-of-length-le s h)
+rows-none s at e h = rw (← e, drop-of-length-le s h) (take-none (ROW-BYTES * rowsAt s))
 
-pub rows-rest : (s : List ℕ) (at : ℕ) → at ≡ rowsBegin (agentsAt s) → take (length s - at) (drop at s) ≡ rowBytes s
+-- fewer bytes than the rows have
+pub rows-rest : (s : List ℕ) (at size : ℕ) → at ≡ rowsBegin (agentsAt s) → size ≡ ROW-BYTES * rowsAt s → length s ≤ at + size → take (length s - at) (drop at s) ≡ rowBytes s
 unfolding rowBytes
-rows-rest s at e = rw (← e) (take-all _ (drop at s) (le-of-eq (length-drop at s)))
+rows-rest s at size e f h =
+    let n = length-drop at s in
+    rw (← e, ← f) (take-all _ (drop at s) (le-of-eq n) ∙ sym (take-all size (drop at s) (omega arith)))
+
+pub rows-part : (s : List ℕ) (at size : ℕ) → at ≡ rowsBegin (agentsAt s) → size ≡ ROW-BYTES * rowsAt s → take (at + size - at) (drop at s) ≡ rowBytes s
+unfolding rowBytes
+rows-part s at size e f = let n : at + size - at ≡ size = omega arith in rw (n, ← e, ← f) refl
 
 -- ---- a loop that stores f i at i, counting up
 

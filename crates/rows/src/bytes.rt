@@ -62,10 +62,14 @@ pub fn row_bytes(s: &[u8]) -> &[u8]
     ensures { λ r. ⌜ now r ≡ rowBytes (now (s .entry)) ⌝ }
 {
     let at = rows_begin(agents_at(s));
+    let size = ROW_BYTES * (rows_at(s) as usize);
     if s.len() <= at {
         return &s[..0];
     }
-    &s[at..]
+    if s.len() <= at + size {
+        return &s[at..];
+    }
+    &s[at..at + size]
 }
 
 // Byte k of row i, in the bytes of the rows alone.

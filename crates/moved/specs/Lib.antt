@@ -1,0 +1,13 @@
+pub mod Renumber
+pub mod Alike
+pub mod OrderAlike
+pub mod LocationAlike
+pub mod RaceAlike
+pub mod AxiomAlike
+pub mod FillAlike
+pub mod Moved
+pub mod MovedAlike
+pub mod VerdictAlike
+pub mod Page
+pub mod Tried
+pub mod MovedRuns

@@ -1,0 +1,173 @@
+-- A table whose bytes are moved is alike: the only page of the proof that knows where a byte stands. Assumes nothing.
+use mathlib.Core.Path.{_≡_, refl, sym, ap₂, _∙_}
+use mathlib.Core.Bool.{Bool, true, false, cond}
+use mathlib.Core.List.{List, [], _∷_}
+use mathlib.Core.Logic.{_⊎_, inl, inr, ⊎-elim}
+use Prim.Native.Nat.{ℕ, _+_, _*_, _≤_, _<_}
+use native.Mathlib.Omega.{arith}
+use native.Mathlib.Decide.{decLt}
+use lib.Dec.{ltb}
+use borrow.Author.Tests.{le-ltb}
+use Rattle.finite.specs.Logic.{_and_}
+use Rattle.finite.specs.Lists.{tabulate-cong}
+use Rattle.model.specs.Limits.{AGENTS, INITIAL, ROWS}
+use Rattle.model.specs.Row.{atomic}
+use Rattle.model.specs.Table.{HEADER, PLACE-BYTES, ROW-BYTES, pairAt, agentsAt, rowsAt, placeAt, slotAt, placesOf, rowsBegin, rowBytes, byteOf, pairOf, rowOf, sourceOf, atomicSource, decode, tableOf, sourcesOf}
+use Rattle.model.specs.AdmissionLaws.{Sound, rows-fit, size-fits, access-size, among-right}
+use Rattle.model.specs.FillingLaws.{bytes-at, bytes-past, pair-is}
+use Rattle.model.specs.ChoiceLaws.{Fair}
+use Rattle.moved.specs.Renumber.{Renumbering, to-below}
+use Rattle.moved.specs.Moved.{Moved}
+use Rattle.moved.specs.Alike.{Alike}
+
+-- ---- a table that is admitted
+
+pub rows-is : (s : List ℕ) → tableOf s .rows ≡ rowsAt s
+unfolding tableOf decode
+rows-is s = refl
+
+pub of-rows : (s : List ℕ) {i : ℕ} → i < tableOf s .rows → i < rowsAt s
+unfolding tableOf decode
+of-rows s l = l
+
+pub to-rows : (s : List ℕ) {i : ℕ} → i < rowsAt s → i < tableOf s .rows
+unfolding tableOf decode
+to-rows s l = l
+
+pub past-rows : (s : List ℕ) {i : ℕ} → tableOf s .rows ≤ i → rowsAt s ≤ i
+unfolding tableOf decode
+past-rows s l = l
+
+pub fair-of : {blanks : Bool} {s : List ℕ} → Sound blanks s → Fair (tableOf s)
+unfolding tableOf decode
+fair-of h =
+    record {
+      few = rows-fit h;
+      sized = λ i l. size-fits h i l;
+      nonempty = λ i l a. access-size h i l a .0;
+      ranks = λ i l. among-right h i l .2;
+    }
+
+-- a renumbering of the rows in the bytes is one of the table's rows
+abbrev pub of-table : (s : List ℕ) → Renumbering (rowsAt s) → Renumbering (tableOf s .rows)
+of-table s π = record { to = π .to; back = π .back; back-to = π .back-to; to-back = π .to-back; others = λ k l. π .others k (past-rows s l) }
+
+-- ---- a moved table
+
+module _ {blanks : Bool} {s s′ : List ℕ} {π : Renumbering (rowsAt s)} (m : Moved s s′ π) (h : Sound blanks s) (h′ : Sound blanks s′) where
+  -- ---- the header and the places
+
+  agents-same : agentsAt s′ ≡ agentsAt s
+  unfolding agentsAt rowsBegin
+  agents-same = m .head 5 (omega arith)
+
+  pub rows-same : rowsAt s′ ≡ rowsAt s
+  unfolding rowsAt rowsBegin
+  rows-same = m .head 6 (omega arith)
+
+  pair-head : (k : ℕ) → k + 1 < rowsBegin (agentsAt s) → pairAt s′ k ≡ pairAt s k
+  unfolding pairAt
+  pair-head k l = rw (m .head k (omega arith), m .head (k + 1) l) refl
+
+  place-same : (a : ℕ) → a < agentsAt s → placeAt s′ a ≡ placeAt s a
+  unfolding placeAt rowsBegin
+  place-same a l =
+      rw
+      (pair-head (HEADER + a * PLACE-BYTES + 0) (omega arith), pair-head (HEADER + a * PLACE-BYTES + 2) (omega arith), pair-head (HEADER + a * PLACE-BYTES + 4) (omega arith))
+      refl
+
+  slot-same : (a : ℕ) → slotAt s′ a ≡ slotAt s a
+  unfolding slotAt
+  slot-same a = rw agents-same (go (decLt a (agentsAt s)))
+    where
+      go : Dec (a < agentsAt s) → cond (ltb a (agentsAt s)) (placeAt s′ a) (0 ∷ 0 ∷ 0 ∷ []) ≡ cond (ltb a (agentsAt s)) (placeAt s a) (0 ∷ 0 ∷ 0 ∷ [])
+      go (yes l) = rw (place-same a l) refl
+      go (no l) = simp (le-ltb a (agentsAt s) (omega arith))
+
+  places-same : placesOf s′ ≡ placesOf s
+  unfolding placesOf
+  places-same = tabulate-cong (slotAt s′) (slotAt s) AGENTS (λ a l. slot-same a)
+
+  -- ---- the rows
+
+  past-same : (i k : ℕ) → rowsAt s ≤ i → byteOf (rowBytes s′) (π .to i) k ≡ byteOf (rowBytes s) i k
+  past-same i k l =
+      let e : rowsAt s′ ≡ rowsAt s = rows-same in
+      bytes-past s′ (π .to i) k (let q = π .others i l in omega arith) ∙ sym (bytes-past s i k l)
+
+  byte-same : (i k : ℕ) → k < ROW-BYTES → (k < 12) ⊎ (13 < k) → byteOf (rowBytes s′) (π .to i) k ≡ byteOf (rowBytes s) i k
+  byte-same i k l o = go (decLt i (rowsAt s))
+    where
+      go : Dec (i < rowsAt s) → byteOf (rowBytes s′) (π .to i) k ≡ byteOf (rowBytes s) i k
+      go (yes p) = bytes-at s s′ (π .to i) k agents-same rows-same (to-below π i p) l ∙ m .fields i k p l o ∙ sym (bytes-at s s i k refl refl p l)
+      go (no p) = past-same i k (omega arith)
+
+  pair-same : (i k : ℕ) → k + 1 < ROW-BYTES → (k + 1 < 12) ⊎ (13 < k) → pairOf (rowBytes s′) (π .to i) k ≡ pairOf (rowBytes s) i k
+  pair-same i k l o =
+      pair-is (rowBytes s′) (π .to i) k
+      ∙ ap₂ (λ (x y : ℕ). x * 256 + y) (byte-same i k (omega arith) (⊎-elim (λ p. inl (omega arith)) (λ p. inr p) o)) (byte-same i (k + 1) l (⊎-elim (λ p. inl p) (λ p. inr (omega arith)) o))
+      ∙ sym (pair-is (rowBytes s) i k)
+
+  row-same : (i : ℕ) → rowOf (rowBytes s′) (π .to i) ≡ rowOf (rowBytes s) i
+  unfolding rowOf
+  row-same i =
+      λ d.
+      record {
+        kind = one 0 (omega arith) d;
+        agent = one 1 (omega arith) d;
+        order = one 2 (omega arith) d;
+        scope = one 3 (omega arith) d;
+        classes = one 4 (omega arith) d;
+        flags = one 5 (omega arith) d;
+        class = one 6 (omega arith) d;
+        size = one 7 (omega arith) d;
+        start = pair-same i 8 (omega arith) (inl (omega arith)) d;
+        reference = pair-same i 10 (omega arith) (inl (omega arith)) d;
+        rank = pair-same i 14 (omega arith) (inr (omega arith)) d;
+      }
+    where
+      one : (k : ℕ) → k < 12 → byteOf (rowBytes s′) (π .to i) k ≡ byteOf (rowBytes s) i k
+      one k l = byte-same i k (omega arith) (inl l)
+
+  -- ---- the sources of atomic rows
+
+  -- past its rows a table has none
+  past-plain : (i : ℕ) → rowsAt s ≤ i → atomic (rowOf (rowBytes s) i) ≡ false
+  unfolding atomic rowOf _and_
+  past-plain i l = rw (bytes-past s i 0 l) refl
+
+  stays : π .to INITIAL ≡ INITIAL
+  stays = let n : rowsAt s ≤ ROWS = rows-fit h in π .others INITIAL (omega arith)
+
+  source-same : (i : ℕ) → atomicSource (rowBytes s′) (π .to i) ≡ π .to (atomicSource (rowBytes s) i)
+  unfolding atomicSource sourcesOf
+  source-same i = rw (row-same i) (go (decLt i (rowsAt s)))
+    where
+      at : (b : Bool) → sourceOf (rowBytes s′) (π .to i) ≡ π .to (sourceOf (rowBytes s) i)
+          → cond b (sourceOf (rowBytes s′) (π .to i)) INITIAL ≡ π .to (cond b (sourceOf (rowBytes s) i) INITIAL)
+      at true e = e
+      at false e = sym stays
+
+      go : Dec (i < rowsAt s)
+          → cond (atomic (rowOf (rowBytes s) i)) (sourceOf (rowBytes s′) (π .to i)) INITIAL ≡ π .to (cond (atomic (rowOf (rowBytes s) i)) (sourceOf (rowBytes s) i) INITIAL)
+      go (yes l) = at (atomic (rowOf (rowBytes s) i)) (m .sources i l)
+      go (no l) = rw (past-plain i (omega arith)) (sym stays)
+
+  -- ---- the order of an agent's rows
+
+  order-same : (i j : ℕ) → i < j → rowOf (rowBytes s) i .agent ≡ rowOf (rowBytes s) j .agent → π .to i < π .to j
+  order-same i j l q = go (decLt j (rowsAt s)) (decLt i (rowsAt s))
+    where
+      go : Dec (j < rowsAt s) → Dec (i < rowsAt s) → π .to i < π .to j
+      go (yes p) d = m .order i j l p q
+      go (no p) (yes d) = let e = π .others j (omega arith) in let f = to-below π i d in omega arith
+      go (no p) (no d) = let e = π .others j (omega arith) in let f = π .others i (omega arith) in omega arith
+
+  -- A MOVED TABLE IS ALIKE
+  pub moved-alike : Alike (tableOf s) (tableOf s′) (of-table s π)
+  unfolding tableOf decode
+  moved-alike = record { rows = rows-same; places = places-same; row = row-same; source = source-same; kept = order-same }
+
+  -- the sources of all rows
+  pub sources-moved : (i : ℕ) → i < tableOf s .rows → sourcesOf s′ (π .to i) ≡ π .to (sourcesOf s i)
+  sources-moved i l = m .sources i (of-rows s l)

@@ -1,0 +1,122 @@
+-- Tables of document 01 with their rows moved, computed from the definitions. Assumes nothing.
+use mathlib.Core.Path.{_≡_, refl}
+use mathlib.Core.Bool.{Bool, true, false}
+use mathlib.Core.List.{List, [], _∷_, _++_, map}
+use Prim.Native.Nat.{ℕ, _+_, _*_}
+use lib.ListN.{length, set}
+use Rattle.finite.specs.Logic.{_and_, _or_}
+use Rattle.finite.specs.Below.{anyBelow, allBelow, least}
+use Rattle.finite.specs.Closure.{through}
+use Rattle.finite.specs.Lists.{tabulate}
+use Rattle.finite.specs.Walk.{walk, onCycle, cycleStart, cycleSize, trail, cycle, along}
+use Rattle.model.specs.Row.{plain, atomic, access, barrier, plainRead, rmw, reads, writes, ranked, acquires, releases, holds, meets, single, classIn, nonPrivate, makesAvailable, makesVisible, inside, touches, covers, lowestShared, isShared, overlap}
+use Rattle.model.specs.Table.{pairAt, quadAt, countAt, versionAt, agentsAt, rowsAt, zeroAt, placeAt, slotAt, placesOf, rowsBegin, sizeOf, rowBytes, byteOf, pairOf, rowOf, sourceOf, atomicSource, decode, tableOf, sourcesOf}
+use Rattle.model.specs.Scope.{agree, shares, together, sameLocation, mutualRows, mutually, later, laterWriter, follows}
+use Rattle.model.specs.Moment.{availabilityOf, visibilityOf, momentOf, momentIn, orderedRows, classesOf, availability, visibility, moment, sameAgent, programOrder}
+use Rattle.model.specs.Synchronizes.{continues, ends, sequence, takesFrom, leads, trails, syncAtomics, carriesOut, syncFromBarrier, carriesIn, syncToBarrier, carriesOver, syncBarriers, synchronizes}
+use Rattle.model.specs.Happens.{holdingOf, concernsOf, holding, concerns, bySync, toRelease, fromAcquire, step, interThread, holdsAll, live, interThreadBy, happens}
+use Rattle.model.specs.Location.{sameReference, coversOf, pureRead, publicWrite, L1, L2, availableFrom, visibleTo, shareMoment, shown, met, carried, L3, common, before}
+use Rattle.model.specs.Race.{clash, conflict, unordered, unorderedNth, raceNth, races, racesAbove, racePartner, hasRace, raceRow, raceByte}
+use Rattle.model.specs.Edge.{beforeNth, beforeSome, readsFrom, fromReads, edgeNumber, edge, cycleRow, cycleRows, cycleEdges, overwrites, overwritesNth, overNth, overwriting, overWriter, isOverwritten, overReader, overByte, consistent}
+use Rattle.model.specs.Refusal.{buffersFit, versionFits, limitsFit, lengthFits, headerFault, codesFit, plainFits, atomicFits, barrierFits, semanticsFit, kindFits, atomicExtentFits, extentFits, rowFault, otherClass, otherClassAt, classTaken, writerFits, sourceFits, sourceBroken, sameRank, sameRankAt, rankTaken, tableFault, faulty, firstFault, rowFaultAt, admission}
+use Rattle.model.specs.Check.{raceOr, overwrittenOr, cyclicOr, verdict, admitted, check}
+use Rattle.model.specs.Fill.{missesAt, writtenBy, written, hidesAt, between, candidate, choice, blank, chosen, sourcesFit, filledOr, racingOr, outcome, admittedFill, fill}
+use Rattle.model.specs.Check.{cyclic, race, raceFree}
+use Rattle.model.specs.Fill.{filled}
+use Rattle.model.specs.Limits.{WORK, CYCLE, SOURCES}
+use Rattle.moved.specs.Renumber.{Renumbering}
+use Rattle.moved.specs.Moved.{Moved}
+use Rattle.moved.specs.Tried.{undoes, by-list, listed, sameHead, sameByte, sameRow, inOrder, ordered, isMoved, moved-by-test}
+
+-- ---- tables: as the model's runs have them
+
+abbrev joined : List (List ℕ) → List ℕ
+joined [] = []
+joined (l ∷ ls) = l ++ joined ls
+
+abbrev table : List (List ℕ) → List (List ℕ) → List ℕ
+table p r = 0 ∷ 0 ∷ 0 ∷ (4 + 6 * length p + 16 * length r) ∷ 1 ∷ length p ∷ length r ∷ 0 ∷ (joined p ++ joined r)
+
+abbrev change : ℕ → ℕ → ℕ → List ℕ → List ℕ
+change i k v s = set s (20 + 16 * i + k) v
+
+abbrev agents : List (List ℕ)
+agents = (0 ∷ 0 ∷ 0 ∷ 0 ∷ 0 ∷ 0 ∷ []) ∷ (0 ∷ 0 ∷ 0 ∷ 0 ∷ 0 ∷ 1 ∷ []) ∷ []
+
+abbrev write : List ℕ
+write = 1 ∷ 0 ∷ 0 ∷ 0 ∷ 0 ∷ 1 ∷ 0 ∷ 4 ∷ 0 ∷ 0 ∷ 0 ∷ 1 ∷ 255 ∷ 255 ∷ 0 ∷ 0 ∷ []
+
+abbrev release : List ℕ
+release = 3 ∷ 0 ∷ 2 ∷ 2 ∷ 1 ∷ 3 ∷ 0 ∷ 4 ∷ 0 ∷ 4 ∷ 0 ∷ 2 ∷ 255 ∷ 255 ∷ 0 ∷ 1 ∷ []
+
+abbrev acquire : ℕ → List ℕ
+acquire source = 2 ∷ 1 ∷ 1 ∷ 2 ∷ 1 ∷ 5 ∷ 0 ∷ 4 ∷ 0 ∷ 4 ∷ 0 ∷ 2 ∷ 0 ∷ source ∷ 0 ∷ 0 ∷ []
+
+abbrev read : ℕ → List ℕ
+read source = 0 ∷ 1 ∷ 0 ∷ 0 ∷ 0 ∷ 1 ∷ 0 ∷ 4 ∷ 0 ∷ 0 ∷ 0 ∷ 1 ∷ 0 ∷ source ∷ 0 ∷ 0 ∷ []
+
+-- run P, and the same with agent 1's acquire on top: rows 0, 1, 2, 3 are rows 1, 2, 0, 3
+abbrev P : List ℕ
+P = table agents (write ∷ release ∷ acquire 1 ∷ read 0 ∷ [])
+
+abbrev P′ : List ℕ
+P′ = table agents (acquire 2 ∷ write ∷ release ∷ read 1 ∷ [])
+
+abbrev there : List ℕ
+there = 1 ∷ 2 ∷ 0 ∷ 3 ∷ []
+
+abbrev here : List ℕ
+here = 2 ∷ 0 ∷ 1 ∷ 3 ∷ []
+
+-- row 1 without make available; row 3 with the initial value; row 3 blank
+abbrev hidden : List ℕ
+hidden = change 1 5 1 P
+
+abbrev hidden′ : List ℕ
+hidden′ = change 2 5 1 P′
+
+abbrev early : List ℕ
+early = change 3 12 255 (change 3 13 255 P)
+
+abbrev early′ : List ℕ
+early′ = change 3 12 255 (change 3 13 255 P′)
+
+abbrev blanked : List ℕ
+blanked = change 3 12 255 (change 3 13 254 P)
+
+abbrev blanked′ : List ℕ
+blanked′ = change 3 12 255 (change 3 13 254 P′)
+
+-- ---- they are moved
+
+abbrev tests : List ℕ → List ℕ → Bool
+tests s s′ = undoes (rowsAt s) there here and undoes (rowsAt s) here there and isMoved s s′ (by-list (rowsAt s) there)
+
+pub moved-hold : map (λ (p : List ℕ × List ℕ). tests (p .0) (p .1)) ((P, P′) ∷ (hidden, hidden′) ∷ (early, early′) ∷ (blanked, blanked′) ∷ []) ≡ true ∷ true ∷ true ∷ true ∷ []
+unfolding _and_ _or_ allBelow undoes by-list isMoved sameHead sameByte sameRow inOrder ordered pairAt agentsAt rowsAt rowsBegin rowBytes byteOf pairOf rowOf sourceOf sourcesOf
+moved-hold = refl
+
+-- a source that is not renumbered, and an agent's rows out of their order, are told
+pub not-moved : tests P (table agents (acquire 2 ∷ write ∷ release ∷ read 0 ∷ [])) ≡ false
+unfolding _and_ _or_ allBelow undoes by-list isMoved sameHead sameByte sameRow inOrder ordered pairAt agentsAt rowsAt rowsBegin rowBytes byteOf pairOf rowOf sourceOf sourcesOf
+not-moved = refl
+
+-- so Page.antt speaks of them
+pub cycled : Renumbering (rowsAt P)
+unfolding _and_ _or_ allBelow undoes by-list isMoved sameHead sameByte sameRow inOrder ordered pairAt agentsAt rowsAt rowsBegin rowBytes byteOf pairOf rowOf sourceOf sourcesOf
+cycled = listed (rowsAt P) there here refl refl
+
+pub P-moved : Moved P P′ cycled
+unfolding _and_ _or_ allBelow undoes by-list isMoved sameHead sameByte sameRow inOrder ordered pairAt agentsAt rowsAt rowsBegin rowBytes byteOf pairOf rowOf sourceOf sourcesOf cycled
+P-moved = moved-by-test P P′ cycled refl
+
+-- ---- and are answered alike; the shown pair and cycle differ
+
+pub answers : map (λ s. check s WORK CYCLE) (P ∷ P′ ∷ hidden ∷ hidden′ ∷ early ∷ early′ ∷ [])
+    ≡ raceFree ∷ raceFree ∷ race 0 3 0 ∷ race 1 3 0 ∷ cyclic (0 ∷ 3 ∷ []) (1 ∷ 4 ∷ []) ∷ cyclic (1 ∷ 3 ∷ []) (1 ∷ 4 ∷ []) ∷ []
+unfolding _and_ _or_ anyBelow allBelow least through tabulate walk onCycle cycleStart cycleSize trail cycle along plain atomic access barrier plainRead rmw reads writes ranked acquires releases holds meets single classIn nonPrivate makesAvailable makesVisible inside touches covers lowestShared isShared overlap pairAt quadAt countAt versionAt agentsAt rowsAt zeroAt placeAt slotAt placesOf rowsBegin sizeOf rowBytes byteOf pairOf rowOf sourceOf atomicSource decode tableOf sourcesOf agree shares together sameLocation mutualRows mutually later laterWriter follows availabilityOf visibilityOf momentOf momentIn orderedRows classesOf availability visibility moment sameAgent programOrder continues ends sequence takesFrom leads trails syncAtomics carriesOut syncFromBarrier carriesIn syncToBarrier carriesOver syncBarriers synchronizes holdingOf concernsOf holding concerns bySync toRelease fromAcquire step interThread holdsAll live interThreadBy happens sameReference coversOf pureRead publicWrite L1 L2 availableFrom visibleTo shareMoment shown met carried L3 common before clash conflict unordered unorderedNth raceNth races racesAbove racePartner hasRace raceRow raceByte beforeNth beforeSome readsFrom fromReads edgeNumber edge cycleRow cycleRows cycleEdges overwrites overwritesNth overNth overwriting overWriter isOverwritten overReader overByte consistent buffersFit versionFits limitsFit lengthFits headerFault codesFit plainFits atomicFits barrierFits semanticsFit kindFits atomicExtentFits extentFits rowFault otherClass otherClassAt classTaken writerFits sourceFits sourceBroken sameRank sameRankAt rankTaken tableFault faulty firstFault rowFaultAt admission raceOr overwrittenOr cyclicOr verdict admitted check missesAt writtenBy written hidesAt between candidate choice blank chosen sourcesFit filledOr racingOr outcome admittedFill fill
+answers = refl
+
+pub fills : map (λ s. fill s WORK SOURCES) (blanked ∷ blanked′ ∷ []) ≡ filled (65535 ∷ 65535 ∷ 1 ∷ 0 ∷ []) ∷ filled (2 ∷ 65535 ∷ 65535 ∷ 1 ∷ []) ∷ []
+unfolding _and_ _or_ anyBelow allBelow least through tabulate walk onCycle cycleStart cycleSize trail cycle along plain atomic access barrier plainRead rmw reads writes ranked acquires releases holds meets single classIn nonPrivate makesAvailable makesVisible inside touches covers lowestShared isShared overlap pairAt quadAt countAt versionAt agentsAt rowsAt zeroAt placeAt slotAt placesOf rowsBegin sizeOf rowBytes byteOf pairOf rowOf sourceOf atomicSource decode tableOf sourcesOf agree shares together sameLocation mutualRows mutually later laterWriter follows availabilityOf visibilityOf momentOf momentIn orderedRows classesOf availability visibility moment sameAgent programOrder continues ends sequence takesFrom leads trails syncAtomics carriesOut syncFromBarrier carriesIn syncToBarrier carriesOver syncBarriers synchronizes holdingOf concernsOf holding concerns bySync toRelease fromAcquire step interThread holdsAll live interThreadBy happens sameReference coversOf pureRead publicWrite L1 L2 availableFrom visibleTo shareMoment shown met carried L3 common before clash conflict unordered unorderedNth raceNth races racesAbove racePartner hasRace raceRow raceByte beforeNth beforeSome readsFrom fromReads edgeNumber edge cycleRow cycleRows cycleEdges overwrites overwritesNth overNth overwriting overWriter isOverwritten overReader overByte consistent buffersFit versionFits limitsFit lengthFits headerFault codesFit plainFits atomicFits barrierFits semanticsFit kindFits atomicExtentFits extentFits rowFault otherClass otherClassAt classTaken writerFits sourceFits sourceBroken sameRank sameRankAt rankTaken tableFault faulty firstFault rowFaultAt admission raceOr overwrittenOr cyclicOr verdict admitted check missesAt writtenBy written hidesAt between candidate choice blank chosen sourcesFit filledOr racingOr outcome admittedFill fill
+fills = refl

@@ -1,0 +1,119 @@
+-- The order of the page: of two tables that are both accepted, the second the first with its rows moved, the same is
+-- said, whatever buffers that are long enough hold. `check` and `fill` are the definitions that the entry points' contracts name.
+use mathlib.Core.Path.{_≡_, refl, sym, ap, _∙_, subst}
+use mathlib.Core.Bool.{Bool, true, false, cond}
+use mathlib.Core.List.{List}
+use mathlib.Core.Logic.{_⊎_, inl, inr}
+use Prim.Native.Nat.{ℕ, _<_}
+use native.Mathlib.Omega.{arith}
+use lib.ListN.{length, getD, drop, List·getD-append}
+use Rattle.finite.specs.Logic.{which}
+use Rattle.finite.specs.Lists.{tabulate, length-tabulate, getD-tabulate}
+use Rattle.model.specs.declared.Admission.the-variants.{Admitted}
+use Rattle.model.specs.Limits.{CYCLE, SOURCES}
+use Rattle.model.specs.Table.{Table, agentsAt, rowsAt, tableOf, sourcesOf}
+use Rattle.model.specs.Race.{raceRow, racePartner, raceByte}
+use Rattle.model.specs.Refusal.{buffersFit, admission}
+use Rattle.model.specs.Check.{admitted, check}
+use Rattle.model.specs.Fill.{Outcome, chosen, admittedFill, fill, sourcesAfter}
+use Rattle.model.specs.Fill as Fill
+use Rattle.model.specs.Words.{WellFormed}
+use Rattle.model.specs.AdmissionLaws.{Sound, admitted-sound}
+use Rattle.model.specs.ChoiceLaws.{NoRace}
+use Rattle.promises.specs.Searches.{free-of}
+use Rattle.promises.specs.Outcomes.{settled, said-filled, say-filled}
+use Rattle.moved.specs.Renumber.{Renumbering, to-below}
+use Rattle.moved.specs.Moved.{Moved}
+use Rattle.moved.specs.Alike.{Alike}
+use Rattle.moved.specs.RaceAlike.{race-alike}
+use Rattle.moved.specs.MovedAlike.{rows-is, rows-same, to-rows, fair-of, of-table, moved-alike, sources-moved}
+use Rattle.moved.specs.VerdictAlike.{checkWord, fillWord, verdict-alike, chosen-moved, passes-alike, racing, passing, outcome-is, settled-word, race, none, filled}
+
+-- ---- the theorems
+
+module _ (s s′ : List ℕ) (π : Renumbering (rowsAt s)) (moved : Moved s s′ π) (work buffer work′ buffer′ : ℕ) where
+  -- CHECK, WHERE NOTHING IS BLANK, SAYS RACE-FREE, RACE OR INCONSISTENT OF BOTH ALIKE
+  pub check-alike : buffersFit CYCLE work buffer ≡ true → buffersFit CYCLE work′ buffer′ ≡ true → WellFormed s → WellFormed s′
+      → checkWord (check s′ work′ buffer′) ≡ checkWord (check s work buffer)
+  unfolding check admitted
+  check-alike fit fit′ well well′ =
+      let h = admitted-sound false s well in
+      let h′ = admitted-sound false s′ well′ in
+      rw (fit, fit′, well, well′) (verdict-alike (moved-alike moved h h′) (fair-of h) (fair-of h′) (sourcesOf s) (sourcesOf s′) (sources-moved moved h h′))
+
+  module _ (fit : buffersFit SOURCES work buffer ≡ true) (fit′ : buffersFit SOURCES work′ buffer′ ≡ true)
+      (well : admission true s ≡ Admitted (agentsAt s) (rowsAt s)) (well′ : admission true s′ ≡ Admitted (agentsAt s′) (rowsAt s′)) where
+    h : Sound true s
+    h = admitted-sound true s well
+
+    h′ : Sound true s′
+    h′ = admitted-sound true s′ well′
+
+    abbrev said : Bool → Bool → Table → (ℕ → ℕ) → Outcome
+    said p q t a = settled p q (raceRow t) (racePartner t (raceRow t)) (raceByte t (raceRow t) (racePartner t (raceRow t))) (tabulate (chosen t a) (t .rows))
+
+    fill-is : fill s work buffer ≡ said (racing (tableOf s)) (passing (tableOf s) (sourcesOf s)) (tableOf s) (sourcesOf s)
+    unfolding fill admittedFill
+    fill-is = rw (fit, well) (outcome-is (tableOf s) (sourcesOf s))
+
+    fill-is′ : fill s′ work′ buffer′ ≡ said (racing (tableOf s′)) (passing (tableOf s′) (sourcesOf s′)) (tableOf s′) (sourcesOf s′)
+    unfolding fill admittedFill
+    fill-is′ = rw (fit′, well′) (outcome-is (tableOf s′) (sourcesOf s′))
+
+    alike : Alike (tableOf s) (tableOf s′) (of-table s π)
+    alike = moved-alike moved h h′
+
+    races-alike : racing (tableOf s′) ≡ racing (tableOf s)
+    races-alike = race-alike alike (fair-of h .sized) (fair-of h′ .sized)
+
+    calm : racing (tableOf s) ≡ false → NoRace (tableOf s)
+    calm e = free-of (tableOf s) (fair-of h .sized) e
+
+    passing-alike : racing (tableOf s) ≡ false → passing (tableOf s′) (sourcesOf s′) ≡ passing (tableOf s) (sourcesOf s)
+    passing-alike e = passes-alike alike (fair-of h) (fair-of h′) (sourcesOf s) (sourcesOf s′) (sources-moved moved h h′) (calm e)
+
+    -- FILL SAYS RACE, NONE OR FILLED OF BOTH ALIKE
+    pub fill-alike : fillWord (fill s′ work′ buffer′) ≡ fillWord (fill s work buffer)
+    fill-alike =
+        ap fillWord fill-is′ ∙ settled-word _ _ _ _ _ _ ∙ go (which (racing (tableOf s))) ∙ sym (settled-word _ _ _ _ _ _) ∙ ap fillWord (sym fill-is)
+      where
+        go : (racing (tableOf s) ≡ true) ⊎ (racing (tableOf s) ≡ false)
+            → cond (racing (tableOf s′)) race (cond (passing (tableOf s′) (sourcesOf s′)) filled none) ≡ cond (racing (tableOf s)) race (cond (passing (tableOf s) (sourcesOf s)) filled none)
+        go (inl e) = rw (races-alike, e) refl
+        go (inr e) = rw (races-alike, passing-alike e) refl
+
+    -- AND THE SOURCES THAT IT WRITES FOR ONE ARE THE OTHER'S, MOVED AND RENUMBERED
+    pub fill-sources : (l : List ℕ) → fill s work buffer ≡ Fill.filled l
+        → (l′ : List ℕ) × (fill s′ work′ buffer′ ≡ Fill.filled l′) × (length l ≡ rowsAt s) × (length l′ ≡ rowsAt s) × ((i : ℕ) → i < rowsAt s → getD l′ (π .to i) 0 ≡ π .to (getD l i 0))
+    fill-sources l e =
+        let p = said-filled _ _ _ _ _ _ (sym fill-is ∙ e) in (
+          tabulate (chosen (tableOf s′) (sourcesOf s′)) (tableOf s′ .rows),
+          fill-is′ ∙ say-filled _ _ _ _ _ _ (races-alike ∙ p .0) (passing-alike (p .0) ∙ p .1),
+          sym (ap length (p .2)) ∙ length-tabulate (chosen (tableOf s) (sourcesOf s)) (tableOf s .rows) ∙ rows-is s,
+          length-tabulate (chosen (tableOf s′) (sourcesOf s′)) (tableOf s′ .rows) ∙ rows-is s′ ∙ rows-same moved h h′,
+          λ i m. at i m (p .0) (p .2),
+        )
+      where
+        at : (i : ℕ) → i < rowsAt s → racing (tableOf s) ≡ false → tabulate (chosen (tableOf s) (sourcesOf s)) (tableOf s .rows) ≡ l
+            → getD (tabulate (chosen (tableOf s′) (sourcesOf s′)) (tableOf s′ .rows)) (π .to i) 0 ≡ π .to (getD l i 0)
+        at i m e q =
+            getD-tabulate (chosen (tableOf s′) (sourcesOf s′)) (tableOf s′ .rows) (π .to i) 0 (to-rows s′ (subst (λ (n : ℕ). π .to i < n) (sym (rows-same moved h h′)) (to-below π i m)))
+            ∙ chosen-moved alike (fair-of h) (fair-of h′) (sourcesOf s) (sourcesOf s′) (sources-moved moved h h′) (calm e) i (to-rows s m)
+            ∙ ap (π .to) (sym (getD-tabulate (chosen (tableOf s) (sourcesOf s)) (tableOf s .rows) i 0 (to-rows s m)) ∙ ap (λ (v : List ℕ). getD v i 0) q)
+
+    -- as they stand in the lent source buffers afterwards
+    pub fill-written : (c c′ l : List ℕ) → fill s work buffer ≡ Fill.filled l
+        → (i : ℕ) → i < rowsAt s → getD (sourcesAfter (fill s′ work′ buffer′) c′) (π .to i) 0 ≡ π .to (getD (sourcesAfter (fill s work buffer) c) i 0)
+    unfolding sourcesAfter
+    fill-written c c′ l e i m =
+        let f = fill-sources l e in
+        let n = f .2 in
+        let n′ = f .3 in
+        let w = to-below π i m in
+        ap (λ (o : Outcome). getD (sourcesAfter o c′) (π .to i) 0) (f .1)
+        ∙ written (f .0) c′ (π .to i) (omega arith)
+        ∙ f .4 i m
+        ∙ ap (π .to) (sym (ap (λ (o : Outcome). getD (sourcesAfter o c) i 0) e ∙ written l c i (omega arith)))
+      where
+        written : (l c : List ℕ) (i : ℕ) → i < length l → getD (sourcesAfter (Fill.filled l) c) i 0 ≡ getD l i 0
+        written l c i m = List·getD-append l (drop (length l) c) 0 i m

@@ -48,7 +48,7 @@
  * A derivation says why one moment of a table happens before another. A moment
  * is 3 * its row + 0, 1 or 2 for before the row, the row itself, after it. Either
  * program order is the reason: then STRAMASHLY_PROGRAM_ORDER stands in the place
- * of the class set, and there are no steps. Or a chain of 1 to 191 steps leads
+ * of the class set, and there are no steps. Or a chain of 1 to 383 steps leads
  * from the first moment to the second for one class set, 1 to 15: the sum of 1
  * Uniform, 2 Workgroup, 4 Image, 8 Output. A step is STRAMASHLY_STEP_CASE * its
  * case (1 synchronizes-with, 2 to a release, 3 from an acquire) + the moment that
@@ -66,16 +66,16 @@ extern "C" {
 #endif
 
 /* Least lengths of the lent buffers, each in its own numbers. */
-#define STRAMASHLY_WORK_WORDS 2048
-#define STRAMASHLY_CYCLE_NUMBERS 128
-#define STRAMASHLY_SOURCE_NUMBERS 64
-#define STRAMASHLY_CHAIN_NUMBERS 191
+#define STRAMASHLY_WORK_WORDS 8192
+#define STRAMASHLY_CYCLE_NUMBERS 256
+#define STRAMASHLY_SOURCE_NUMBERS 128
+#define STRAMASHLY_CHAIN_NUMBERS 383
 
 /* Where a cycle's edge numbers begin in the cycle buffer. */
-#define STRAMASHLY_CYCLE_EDGES 64
+#define STRAMASHLY_CYCLE_EDGES 128
 
-/* Most bytes of a table: a header, 16 agents and 64 rows. */
-#define STRAMASHLY_TABLE_BYTES 1128
+/* Most bytes of a table: a header, 32 agents and 128 rows. */
+#define STRAMASHLY_TABLE_BYTES 2248
 
 /* Sources: the initial value, and a blank for a fill to decide. */
 #define STRAMASHLY_INITIAL 65535

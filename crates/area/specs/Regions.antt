@@ -7,74 +7,74 @@ abbrev pub MUTUAL : ℕ
 MUTUAL = 0
 
 abbrev pub MUTUAL-END : ℕ
-MUTUAL-END = 64
+MUTUAL-END = 256
 
 -- release sequences
 abbrev pub SEQUENCE : ℕ
-SEQUENCE = 64
+SEQUENCE = 256
 
 abbrev pub SEQUENCE-END : ℕ
-SEQUENCE-END = 128
+SEQUENCE-END = 512
 
 -- synchronizes-with
 abbrev pub SYNC : ℕ
-SYNC = 128
+SYNC = 512
 
 abbrev pub SYNC-END : ℕ
-SYNC-END = 192
+SYNC-END = 768
 
 -- happens-before, over moments
 abbrev pub HAPPENS : ℕ
-HAPPENS = 192
+HAPPENS = 768
 
 abbrev pub HAPPENS-END : ℕ
-HAPPENS-END = 768
+HAPPENS-END = 3072
 
 -- the direct cases of one class set, and their closure, over moments
 abbrev pub STEP : ℕ
-STEP = 768
+STEP = 3072
 
 abbrev pub STEP-END : ℕ
-STEP-END = 1344
+STEP-END = 5376
 
 -- the layers of the search for a chain of steps, over moments; one more than there are moments
 abbrev pub CHAINS : ℕ
-CHAINS = 1344
+CHAINS = 5376
 
 abbrev pub CHAINS-END : ℕ
-CHAINS-END = 1923
+CHAINS-END = 7686
 
 -- location order: bits for each pair of rows
 abbrev pub LOCATION : ℕ
-LOCATION = 768
+LOCATION = 3072
 
 abbrev pub LOCATION-END : ℕ
-LOCATION-END = 1792
+LOCATION-END = 7168
 
 -- edges
 abbrev pub EDGE : ℕ
-EDGE = 1792
+EDGE = 7168
 
 abbrev pub EDGE-END : ℕ
-EDGE-END = 1856
+EDGE-END = 7424
 
 -- the layers of the search for a cycle
 abbrev pub LAYERS : ℕ
-LAYERS = 1856
+LAYERS = 7424
 
 abbrev pub LAYERS-END : ℕ
-LAYERS-END = 1921
+LAYERS-END = 7682
 
 -- words in a row of a grid over rows, and over moments
 abbrev pub GRID : ℕ
-GRID = 1
+GRID = 2
 
 abbrev pub MOMENTS : ℕ
-MOMENTS = 3
+MOMENTS = 6
 
 -- bits of a pair of rows, one for each byte of the first, and of a row of pairs
 abbrev pub PAIR : ℕ
 PAIR = 16
 
 abbrev pub PAIRS : ℕ
-PAIRS = 1024
+PAIRS = 2048

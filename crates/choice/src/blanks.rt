@@ -107,11 +107,11 @@ fn chosen_at(rows: &[u8], p: Places, n: usize, i: usize, s: u16, w: &[u64]) -> u
 // Each blank's choice, and every other row's own source.
 // Ruled out: one that chooses for a plain read that names its source; one that takes for a blank a writer that was overwritten
 // before it at any byte.
-pub fn choose(rows: &[u8], p: Places, n: usize, src: &[u16], w: &[u64]) -> [u16; 64]
+pub fn choose(rows: &[u8], p: Places, n: usize, src: &[u16], w: &[u64]) -> [u16; 128]
     requires { ⌜ (n ≤ length (now src)) × Known (decode (now rows) p n) n (now w) ⌝ }
     ensures { λ r. ⌜ Listed (chosen (decode (now (rows .entry)) p n) (λ i. getD (now (src .entry)) i 0)) n r ⌝ }
 {
-    let mut list = [0u16; 64];
+    let mut list = [0u16; 128];
     for i in 0..n {
         let s = src[i];
         let c = chosen_at(rows, p, n, i, s, w);

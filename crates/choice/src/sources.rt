@@ -11,11 +11,11 @@ use model::Places;
 use model::Source;
 
 // The sources that stand in n rows.
-pub fn read_sources(rows: &[u8], n: usize) -> [u16; 64]
+pub fn read_sources(rows: &[u8], n: usize) -> [u16; 128]
     requires { ⌜ n ≤ ROWS ⌝ }
     ensures { λ r. ⌜ Listed (sourceOf (now (rows .entry))) n r ⌝ }
 {
-    let mut list = [0u16; 64];
+    let mut list = [0u16; 128];
     for i in 0..n {
         let s = rows::bytes::read_source(rows, i as u16);
         list[i] = s.0;

@@ -2,29 +2,29 @@
 use Prim.Native.Nat.{ℕ}
 
 abbrev pub AGENTS : ℕ
-AGENTS = 16
+AGENTS = 32
 
 abbrev pub ROWS : ℕ
-ROWS = 64
+ROWS = 128
 
 -- 64-bit words of the work area
 abbrev pub WORK : ℕ
-WORK = 2048
+WORK = 8192
 
 -- numbers of the cycle buffer, and the place of the first edge number
 abbrev pub CYCLE : ℕ
-CYCLE = 128
+CYCLE = 256
 
 abbrev pub CYCLE-EDGES : ℕ
-CYCLE-EDGES = 64
+CYCLE-EDGES = 128
 
 -- numbers of the source buffer
 abbrev pub SOURCES : ℕ
-SOURCES = 64
+SOURCES = 128
 
 -- steps of a derivation, at most: one fewer than there are moments; numbers of the chain buffer
 abbrev pub CHAIN : ℕ
-CHAIN = 191
+CHAIN = 383
 
 -- what a step adds to the moment that it reaches, for each number of its case
 abbrev pub CASE : ℕ

@@ -5,23 +5,23 @@ ghost use Rattle.model.specs.Limits.{INITIAL, BLANK};
 
 // ---- limits
 
-pub const AGENTS: usize = 16;
+pub const AGENTS: usize = 32;
 
-pub const ROWS: usize = 64;
+pub const ROWS: usize = 128;
 
 // The 64-bit words that a check or a fill works in.
-pub const WORK: usize = 2048;
+pub const WORK: usize = 8192;
 
 // The numbers of the cycle buffer: rows from place 0, edges from place CYCLE_EDGES.
-pub const CYCLE: usize = 128;
+pub const CYCLE: usize = 256;
 
-pub const CYCLE_EDGES: usize = 64;
+pub const CYCLE_EDGES: usize = 128;
 
 // The numbers of the source buffer.
-pub const SOURCES: usize = 64;
+pub const SOURCES: usize = 128;
 
 // The steps of a derivation, at most: one fewer than there are moments. The numbers of the chain buffer.
-pub const CHAIN: usize = 191;
+pub const CHAIN: usize = 383;
 
 // What a step adds to the moment that it reaches, for each number of its case.
 pub const CASE: u16 = 512;
@@ -29,7 +29,7 @@ pub const CASE: u16 = 512;
 // ---- a table's parts
 
 // The family, workgroup and subgroup numbers of each agent.
-pub type Places = [[u16; 3]; 16];
+pub type Places = [[u16; 3]; 32];
 
 // A row without its source: what the order of rows goes by, the sources of atomic rows aside.
 pub struct Row {

@@ -26,8 +26,8 @@ fn rows_of(table: &[u8]) -> u8 {
 }
 
 pub fn answer(table: &[u8]) {
-    let mut work = [crate::checks::DIRT; 2048];
-    let mut sources = [0u16; 64];
+    let mut work = [crate::checks::DIRT; 8192];
+    let mut sources = [0u16; 128];
     let a = filling::fill(table, &mut work, &mut sources);
     print_answer(a, rows_of(table), &sources);
 }

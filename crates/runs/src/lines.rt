@@ -1,7 +1,7 @@
 // A line of the input: a word and the hex digits of a table. The bytes of the digits are put into a lent table as they come.
 
 // The longest table has 1128 bytes. Digits past the end of the lent bytes are dropped: what is left is still too long.
-const MOST_DIGITS: u16 = 4096;
+const MOST_DIGITS: u16 = 8192;
 
 const NO_DIGIT: u8 = 16;
 
@@ -39,7 +39,7 @@ fn joined(b: u8, d: u8) -> u8 {
     (b << 4) | d
 }
 
-fn take_digit(line: Line, d: u8, table: &mut [u8; 2048]) -> Line {
+fn take_digit(line: Line, d: u8, table: &mut [u8; 4096]) -> Line {
     let digits = line.digits;
     if d == NO_DIGIT {
         return line;
@@ -69,7 +69,7 @@ fn answer(line: Line, table: &[u8]) {
 }
 
 // The line after one more byte.
-pub fn take_byte(line: Line, b: u8, table: &mut [u8; 2048]) -> Line {
+pub fn take_byte(line: Line, b: u8, table: &mut [u8; 4096]) -> Line {
     if b == b'\n' {
         answer(line, table);
         return empty();

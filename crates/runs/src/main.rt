@@ -8,7 +8,7 @@ mod print;
 use lines::Line;
 
 // The line after a part of the input.
-fn take_bytes(line: Line, bytes: &[u8], table: &mut [u8; 2048]) -> Line {
+fn take_bytes(line: Line, bytes: &[u8], table: &mut [u8; 4096]) -> Line {
     let mut now = line;
     for i in 0..bytes.len() {
         now = lines::take_byte(now, bytes[i], table);
@@ -17,7 +17,7 @@ fn take_bytes(line: Line, bytes: &[u8], table: &mut [u8; 2048]) -> Line {
 }
 
 // Reads once, and takes what came. A read that gives nothing ends the input, and with it the last line.
-fn read_some(line: Line, table: &mut [u8; 2048]) -> Line {
+fn read_some(line: Line, table: &mut [u8; 4096]) -> Line {
     let mut buffer = io::large_buffer();
     let got = libc::read(0, &mut buffer);
     let n = io::count(got, &buffer);
@@ -28,7 +28,7 @@ fn read_some(line: Line, table: &mut [u8; 2048]) -> Line {
 }
 
 // A proved loop has to end, and nothing says that the input does. So the turns are counted down, from a number that no run uses up.
-fn read_all(table: &mut [u8; 2048]) {
+fn read_all(table: &mut [u8; 4096]) {
     let mut line = lines::empty();
     let mut turns = u64::MAX;
     while turns > 0 && !line.is_last {
@@ -38,6 +38,6 @@ fn read_all(table: &mut [u8; 2048]) {
 }
 
 fn main() {
-    let mut table = [0u8; 2048];
+    let mut table = [0u8; 4096];
     read_all(&mut table);
 }

@@ -7,7 +7,7 @@ use std::fmt;
 use std::ops::RangeInclusive;
 
 /// How many steps a chain has.
-const STEPS: RangeInclusive<usize> = 1..=191;
+const STEPS: RangeInclusive<usize> = 1..=383;
 /// The sets of classes, none of them empty.
 const CLASS_SETS: RangeInclusive<u8> = 1..=15;
 /// A step is so many times its case, plus the moment that it reaches.
@@ -76,7 +76,7 @@ impl State {
         !self.moment_exists(first) || !self.moment_exists(second) || first == second
     }
 
-    /// The word where program order holds, or a chain of 1 to 191 steps that
+    /// The word where program order holds, or a chain of 1 to 383 steps that
     /// hold for its one class set and lead from the first moment to the second.
     fn derivation_holds(&self, first: usize, second: usize, derivation: Derivation) -> bool {
         match derivation {

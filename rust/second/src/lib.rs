@@ -41,18 +41,18 @@ pub use state::State;
 pub use table::{BLANK, INITIAL};
 
 /// Most rows of a table.
-pub const MAX_ROWS: usize = 64;
+pub const MAX_ROWS: usize = 128;
 /// Most agents of a table.
-pub const MAX_AGENTS: usize = 16;
+pub const MAX_AGENTS: usize = 32;
 /// Most moments: before, at and after for each row.
 pub const MAX_MOMENTS: usize = 3 * MAX_ROWS;
 /// Most bytes of one access.
 pub const MAX_LENGTH: usize = 16;
 /// Least length of the lent work area, in 64-bit words.
-pub const WORK_WORDS: usize = 2048;
+pub const WORK_WORDS: usize = 8192;
 /// Least length of the lent cycle buffer, in 16-bit numbers.
-pub const CYCLE_NUMBERS: usize = 128;
+pub const CYCLE_NUMBERS: usize = 256;
 /// Least length of the lent source buffer, in 16-bit numbers.
-pub const SOURCE_NUMBERS: usize = 64;
+pub const SOURCE_NUMBERS: usize = 128;
 /// Most combinations that a fill tries before it gives up.
 pub const MAX_FILLINGS: usize = 100_000;

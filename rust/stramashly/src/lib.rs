@@ -62,23 +62,23 @@ pub const INITIAL: u16 = 65535;
 pub const BLANK: u16 = 65534;
 
 /// Most rows of a table.
-pub const MAX_ROWS: usize = 64;
+pub const MAX_ROWS: usize = 128;
 /// Most agents of a table.
-pub const MAX_AGENTS: usize = 16;
+pub const MAX_AGENTS: usize = 32;
 /// Most bytes of a table: its header, agents and rows.
 pub const MAX_TABLE_BYTES: usize = 8 + 6 * MAX_AGENTS + 16 * MAX_ROWS;
 
 /// Least length of the lent work area, in 64-bit words.
-pub const WORK_WORDS: usize = 2048;
+pub const WORK_WORDS: usize = 8192;
 /// Least length of the lent cycle buffer, in 16-bit numbers.
-pub const CYCLE_NUMBERS: usize = 128;
+pub const CYCLE_NUMBERS: usize = 256;
 /// Where a cycle's edge numbers begin in the cycle buffer.
-pub const CYCLE_EDGES: usize = 64;
+pub const CYCLE_EDGES: usize = 128;
 /// Least length of the lent source buffer, in 16-bit numbers.
-pub const SOURCE_NUMBERS: usize = 64;
+pub const SOURCE_NUMBERS: usize = 128;
 /// Least length of the lent chain buffer, in 16-bit numbers: most steps of a
 /// derivation.
-pub const CHAIN_NUMBERS: usize = 191;
+pub const CHAIN_NUMBERS: usize = 383;
 /// Stands for the word program order in the place of a class set.
 pub const PROGRAM_ORDER: u8 = 16;
 /// A step is so many times its case, plus the moment that it reaches.

@@ -54,7 +54,7 @@ fn parse(words: &[String]) -> Option<Request> {
         Some("damaged") => Sort::Damaged,
         Some(_) => return None,
     };
-    let fits = size.least <= size.most && size.most <= 64;
+    let fits = size.least <= size.most && size.most <= 128;
     fits.then_some(Request {
         seed: words[0].parse().ok()?,
         count: words[1].parse().ok()?,

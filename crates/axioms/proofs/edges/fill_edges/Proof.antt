@@ -20,13 +20,13 @@ use Rattle.bits.proofs.clear.Reads as clear-reads
 use Rattle.bits.proofs.put_if.Reads as put-if-reads
 
 abbrev Inv-loop2 : tie.InvT-loop2
-Inv-loop2 rows p n src w₀ x y₀ w y = (y ≤ n) × (length w ≡ length w₀) × Located (decode rows p n) n w × (w ≡ rowFill (edge (decode rows p n) (sourceIn src) x) w₀ (EDGE * 64 + x * 64) y)
+Inv-loop2 rows p n src w₀ x y₀ w y = (y ≤ n) × (length w ≡ length w₀) × Located (decode rows p n) n w × (w ≡ rowFill (edge (decode rows p n) (sourceIn src) x) w₀ (EDGE * 64 + x * (GRID * 64)) y)
 
 abbrev μ-loop2 : tie.MeasureT-loop2
 μ-loop2 rows p n src w₀ x y₀ w y = n - y
 
 abbrev Inv-loop : tie.InvT-loop
-Inv-loop rows p n src w₀ x₀ w x = (x ≤ n) × (length w ≡ length w₀) × Located (decode rows p n) n w × (w ≡ gridFill (edge (decode rows p n) (sourceIn src)) w₀ (EDGE * 64) 64 (n) x)
+Inv-loop rows p n src w₀ x₀ w x = (x ≤ n) × (length w ≡ length w₀) × Located (decode rows p n) n w × (w ≡ gridFill (edge (decode rows p n) (sourceIn src)) w₀ (EDGE * 64) (GRID * 64) (n) x)
 
 abbrev μ-loop : tie.MeasureT-loop
 μ-loop rows p n src w₀ x₀ w x = n - x

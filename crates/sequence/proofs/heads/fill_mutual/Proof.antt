@@ -1,6 +1,6 @@
 use Rattle.model.specs.Table.{decode}
 use Rattle.model.specs.Scope.{mutually}
-use Rattle.area.specs.Regions.{MUTUAL, MUTUAL-END}
+use Rattle.area.specs.Regions.{MUTUAL, MUTUAL-END, GRID}
 use mathlib.Core.Path.{_≡_, refl, ap, _∙_}
 use Prim.Native.Nat.{_+_, _-_, _*_, _≤_}
 use native.Mathlib.Omega.{arith}
@@ -17,13 +17,13 @@ use Rattle.bits.proofs.put_if.Reads as put-if-reads
 use Rattle.sequence.proofs.heads.mutual_at.Reads as mutual-at-reads
 
 abbrev Inv-loop2 : tie.InvT-loop2
-Inv-loop2 rows p n w₀ i j₀ w j = (j ≤ n) × (length w ≡ length w₀) × (w ≡ rowFill (mutually (decode rows p n) i) w₀ (MUTUAL * 64 + i * 64) j)
+Inv-loop2 rows p n w₀ i j₀ w j = (j ≤ n) × (length w ≡ length w₀) × (w ≡ rowFill (mutually (decode rows p n) i) w₀ (MUTUAL * 64 + i * (GRID * 64)) j)
 
 abbrev μ-loop2 : tie.MeasureT-loop2
 μ-loop2 rows p n w₀ i j₀ w j = n - j
 
 abbrev Inv-loop : tie.InvT-loop
-Inv-loop rows p n w₀ i₀ w i = (i ≤ n) × (length w ≡ length w₀) × (w ≡ gridFill (mutually (decode rows p n)) w₀ (MUTUAL * 64) 64 (n) i)
+Inv-loop rows p n w₀ i₀ w i = (i ≤ n) × (length w ≡ length w₀) × (w ≡ gridFill (mutually (decode rows p n)) w₀ (MUTUAL * 64) (GRID * 64) (n) i)
 
 abbrev μ-loop : tie.MeasureT-loop
 μ-loop rows p n w₀ i₀ w i = n - i
@@ -104,7 +104,7 @@ same-length c = search needs
 returns : tie.Need-returns Inv-loop2 μ-loop2 Inv-loop μ-loop
 returns c =
     let e : c .before .loop .i ≡ c .before .before .before .before .before .before .before .before .args .n = omega arith in
-    made-filled MUTUAL MUTUAL-END 1 _ _ _ _ _ (omega arith) (omega arith) (omega arith) (c .before .before .before .before .clear .ensures) (rw e at (c .before .loop .inv .2))
+    made-filled MUTUAL MUTUAL-END GRID _ _ _ _ _ (omega arith) (omega arith) (omega arith) (c .before .before .before .before .clear .ensures) (rw e at (c .before .loop .inv .2))
 
 pub fill-mutual-spec : {M : Type 1} → statement M
 fill-mutual-spec =

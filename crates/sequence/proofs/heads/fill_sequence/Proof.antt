@@ -19,13 +19,13 @@ use Rattle.bits.proofs.put_if.Reads as put-if-reads
 use Rattle.sequence.proofs.heads.sequence_at.Reads as sequence-at-reads
 
 abbrev Inv-loop2 : tie.InvT-loop2
-Inv-loop2 rows p n w₀ a x₀ w x = (x ≤ n) × (length w ≡ length w₀) × Holds MUTUAL GRID n (mutually (decode rows p n)) w × (w ≡ rowFill (sequence (decode rows p n) a) w₀ (SEQUENCE * 64 + a * 64) x)
+Inv-loop2 rows p n w₀ a x₀ w x = (x ≤ n) × (length w ≡ length w₀) × Holds MUTUAL GRID n (mutually (decode rows p n)) w × (w ≡ rowFill (sequence (decode rows p n) a) w₀ (SEQUENCE * 64 + a * (GRID * 64)) x)
 
 abbrev μ-loop2 : tie.MeasureT-loop2
 μ-loop2 rows p n w₀ a x₀ w x = n - x
 
 abbrev Inv-loop : tie.InvT-loop
-Inv-loop rows p n w₀ a₀ w a = (a ≤ n) × (length w ≡ length w₀) × Holds MUTUAL GRID n (mutually (decode rows p n)) w × (w ≡ gridFill (sequence (decode rows p n)) w₀ (SEQUENCE * 64) 64 (n) a)
+Inv-loop rows p n w₀ a₀ w a = (a ≤ n) × (length w ≡ length w₀) × Holds MUTUAL GRID n (mutually (decode rows p n)) w × (w ≡ gridFill (sequence (decode rows p n)) w₀ (SEQUENCE * 64) (GRID * 64) (n) a)
 
 abbrev μ-loop : tie.MeasureT-loop
 μ-loop rows p n w₀ a₀ w a = n - a
@@ -106,7 +106,7 @@ same-length c = search needs
 returns : tie.Need-returns Inv-loop2 μ-loop2 Inv-loop μ-loop
 returns c =
     let e : c .before .loop .a ≡ c .before .before .before .before .before .before .before .before .args .n = omega arith in
-    made-filled SEQUENCE SEQUENCE-END 1 _ _ _ _ _ (omega arith) (omega arith) (omega arith) (c .before .before .before .before .clear .ensures) (rw e at (c .before .loop .inv .3))
+    made-filled SEQUENCE SEQUENCE-END GRID _ _ _ _ _ (omega arith) (omega arith) (omega arith) (c .before .before .before .before .clear .ensures) (rw e at (c .before .loop .inv .3))
 
 pub fill-sequence-spec : {M : Type 1} → statement M
 fill-sequence-spec =

@@ -1,6 +1,6 @@
 use Rattle.model.specs.Table.{decode}
 use Rattle.model.specs.Synchronizes.{synchronizes}
-use Rattle.area.specs.Regions.{SYNC, SYNC-END}
+use Rattle.area.specs.Regions.{SYNC, SYNC-END, GRID}
 use Rattle.sequence.specs.Known.{Known, known-kept}
 use mathlib.Core.Path.{_≡_, refl, ap, _∙_}
 use Prim.Native.Nat.{_+_, _-_, _*_, _≤_}
@@ -19,13 +19,13 @@ use Rattle.bits.proofs.put_if.Reads as put-if-reads
 use Rattle.sequence.proofs.sync.sync_at.Reads as sync-at-reads
 
 abbrev Inv-loop2 : tie.InvT-loop2
-Inv-loop2 rows p n w₀ a b₀ w b = (b ≤ n) × (length w ≡ length w₀) × Known (decode rows p n) n w × (w ≡ rowFill (synchronizes (decode rows p n) a) w₀ (SYNC * 64 + a * 64) b)
+Inv-loop2 rows p n w₀ a b₀ w b = (b ≤ n) × (length w ≡ length w₀) × Known (decode rows p n) n w × (w ≡ rowFill (synchronizes (decode rows p n) a) w₀ (SYNC * 64 + a * (GRID * 64)) b)
 
 abbrev μ-loop2 : tie.MeasureT-loop2
 μ-loop2 rows p n w₀ a b₀ w b = n - b
 
 abbrev Inv-loop : tie.InvT-loop
-Inv-loop rows p n w₀ a₀ w a = (a ≤ n) × (length w ≡ length w₀) × Known (decode rows p n) n w × (w ≡ gridFill (synchronizes (decode rows p n)) w₀ (SYNC * 64) 64 (n) a)
+Inv-loop rows p n w₀ a₀ w a = (a ≤ n) × (length w ≡ length w₀) × Known (decode rows p n) n w × (w ≡ gridFill (synchronizes (decode rows p n)) w₀ (SYNC * 64) (GRID * 64) (n) a)
 
 abbrev μ-loop : tie.MeasureT-loop
 μ-loop rows p n w₀ a₀ w a = n - a
@@ -106,7 +106,7 @@ same-length c = search needs
 returns : tie.Need-returns Inv-loop2 μ-loop2 Inv-loop μ-loop
 returns c =
     let e : c .before .loop .a ≡ c .before .before .before .before .before .before .before .before .args .n = omega arith in
-    made-filled SYNC SYNC-END 1 _ _ _ _ _ (omega arith) (omega arith) (omega arith) (c .before .before .before .before .clear .ensures) (rw e at (c .before .loop .inv .3))
+    made-filled SYNC SYNC-END GRID _ _ _ _ _ (omega arith) (omega arith) (omega arith) (c .before .before .before .before .clear .ensures) (rw e at (c .before .loop .inv .3))
 
 pub fill-sync-spec : {M : Type 1} → statement M
 fill-sync-spec =

@@ -5,23 +5,23 @@ use mathlib.Core.List.{List}
 use mathlib.Core.Logic.{_⊎_, inl, inr, ⊎-elim}
 use Prim.Native.Nat.{ℕ, zero, suc, _+_, _≤_, _<_}
 use native.Mathlib.Omega.{arith}
-use native.Mathlib.Decide.{decLt}
+use native.Mathlib.Decide.{decLt, ℕ-discrete}
 use lib.ListN.{length}
 use lib.Dec.{ltb, leb, eqb}
 use borrow.Author.Tests.{eqb-true, leb-true, leb-false, ltb-false, eq-eqb, le-ltb}
-use Rattle.finite.specs.Logic.{_and_, _or_, split, which, not-both, not-out, or-cases}
+use Rattle.finite.specs.Logic.{_and_, _or_, split, which, not-both, not-out, or-cases, or-left, or-right}
 use Rattle.finite.specs.Below.{least, least-is, least-hit, any-not}
 use Rattle.model.specs.declared.Row.{Row}
 use Rattle.model.specs.declared.Admission.{Admission}
 use Rattle.model.specs.declared.Admission.the-variants.{Admitted, Refused}
 use Rattle.model.specs.Limits.{AGENTS, ROWS, LONGEST, BYTES}
-use Rattle.model.specs.Row.{RMW, BARRIER, access, barrier}
+use Rattle.model.specs.Row.{RMW, BARRIER, CONTROL, access, barrier}
 use Rattle.model.specs.Table.{Table, HEADER, agentsAt, rowsAt, sizeOf, rowBytes, rowOf, sourceOf, tableOf, sourcesOf, decode}
-use Rattle.model.specs.Refusal.{headerFault, versionFits, limitsFit, lengthFits, codesFit, kindFits, barrierFits, extentFits, rowFault, classTaken, sourceBroken, rankTaken, tableFault, faulty, firstFault, rowFaultAt, admission}
+use Rattle.model.specs.Refusal.{headerFault, versionFits, limitsFit, lengthFits, codesFit, kindFits, barrierFits, extentFits, rowFault, classTaken, sourceBroken, rankTaken, instanceBroken, tableFault, faulty, firstFault, rowFaultAt, admission}
 
 -- ---- definitions
 
--- no refusal from 1 to 10 holds
+-- no refusal from 1 to 10, nor 14, holds
 pub record Sound (blanks : Bool) (s : List ℕ) : Type 0 where
   pub header : headerFault s ≡ 0
   pub row : (i : ℕ) → i < rowsAt s → rowFaultAt s i ≡ 0
@@ -112,11 +112,13 @@ row-passed true true false e = absurd (omega arith)
 row-passed true false c e = absurd (omega arith)
 row-passed false b c e = absurd (omega arith)
 
-table-passed : (a b c : Bool) → _≡_ {A = ℕ} (cond a 8 (cond b 9 (cond c 10 0))) 0 → (a ≡ false) × (b ≡ false) × (c ≡ false)
-table-passed true b c e = absurd (omega arith)
-table-passed false true c e = absurd (omega arith)
-table-passed false false true e = absurd (omega arith)
-table-passed false false false e = (refl, refl, refl)
+table-passed : (a b c d : Bool) → _≡_ {A = ℕ} (cond a 8 (cond b 9 (cond c 10 (cond d 14 0)))) 0
+    → (a ≡ false) × (b ≡ false) × (c ≡ false) × (d ≡ false)
+table-passed true b c d e = absurd (omega arith)
+table-passed false true c d e = absurd (omega arith)
+table-passed false false true d e = absurd (omega arith)
+table-passed false false false true e = absurd (omega arith)
+table-passed false false false false e = (refl, refl, refl, refl)
 
 module _ {blanks : Bool} {s : List ℕ} (h : Sound blanks s) where
   limits : (limitsFit s ≡ true) × (lengthFits s ≡ true)
@@ -144,11 +146,13 @@ module _ {blanks : Bool} {s : List ℕ} (h : Sound blanks s) where
     unfolding rowFaultAt rowFault
     row-right = row-passed (codesFit (agentsAt s) r) (kindFits r (sourceOf (rowBytes s) i)) (extentFits r) (h .row i l)
 
-    -- 8, 9, 10
+    -- 8, 9, 10, 14
     pub among-right : (classTaken (tableOf s) i ≡ false) × (sourceBroken blanks (tableOf s) (sourcesOf s) i ≡ false) × (rankTaken (tableOf s) i ≡ false)
+        × (instanceBroken (tableOf s) i ≡ false)
     unfolding tableFault
     among-right =
-        table-passed (classTaken (tableOf s) i) (sourceBroken blanks (tableOf s) (sourcesOf s) i) (rankTaken (tableOf s) i) (h .among i l)
+        table-passed (classTaken (tableOf s) i) (sourceBroken blanks (tableOf s) (sourcesOf s) i) (rankTaken (tableOf s) i) (instanceBroken (tableOf s) i)
+        (h .among i l)
 
     -- an access has 1 to LONGEST bytes; a barrier has none
     pub access-size : access r ≡ true → (1 ≤ r .size) × (r .size ≤ LONGEST)
@@ -168,15 +172,19 @@ module _ {blanks : Bool} {s : List ℕ} (h : Sound blanks s) where
     barrier-size : barrier r ≡ true → r .size ≡ 0
     unfolding kindFits barrierFits
     barrier-size b =
-        ⊎-elim (λ n. not-both b (not-out (barrier r) n)) (λ t. eqb-true (r .size) 0 (split (split (split t .0) .0) .1)) (or-cases (not (barrier r)) _ (split (split (split (split (row-right .1) .0) .0) .0) .1))
+        ⊎-elim (λ n. not-both b (not-out (barrier r) n)) (λ t. eqb-true (r .size) 0 (split (split t .0) .1)) (or-cases (not (barrier r)) _ (split (split (split (split (row-right .1) .0) .0) .0) .1))
 
     -- so no row has more than LONGEST bytes
     pub size-fits : r .size ≤ LONGEST
     unfolding codesFit access barrier
     size-fits = ⊎-elim (λ a. access-size a .1) (λ n. other (leb-false (r .kind) RMW n)) (which (leb (r .kind) RMW))
       where
+        kinds : r .kind ≤ CONTROL → RMW < r .kind → Dec (r .kind ≡ BARRIER) → (eqb (r .kind) BARRIER or eqb (r .kind) CONTROL) ≡ true
+        kinds k n (yes e) = or-left _ (eq-eqb (r .kind) BARRIER e)
+        kinds k n (no e) = or-right _ (eq-eqb (r .kind) CONTROL (omega arith))
+
         other : RMW < r .kind → r .size ≤ LONGEST
         other n =
-            let k : r .kind ≤ BARRIER = leb-true (r .kind) BARRIER (split (split (split (split (split (split (row-right .0) .0) .0) .0) .0) .0) .0) in
-            let e : r .size ≡ 0 = barrier-size (eq-eqb (r .kind) BARRIER (omega arith)) in
+            let k : r .kind ≤ CONTROL = leb-true (r .kind) CONTROL (split (split (split (split (split (split (row-right .0) .0) .0) .0) .0) .0) .0) in
+            let e : r .size ≡ 0 = barrier-size (kinds k n (ℕ-discrete (r .kind) BARRIER)) in
             omega arith

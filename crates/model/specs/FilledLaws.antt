@@ -156,7 +156,7 @@ module _ {s f : List ℕ} (fl : Filling s f) where
       record {
         header = header-kept ∙ h .header;
         row = λ i l. row-fault-kept i ∙ h .row i (below l);
-        among = λ i l. rw (table-kept fl) (let c = among-right h i (below l) in rw (c .0, a i (below l), c .2) refl);
+        among = λ i l. rw (table-kept fl) (let c = among-right h i (below l) in rw (c .0, a i (below l), c .2, c .3) refl);
       }
     where
       below : {i : ℕ} → i < rowsAt f → i < rowsAt s

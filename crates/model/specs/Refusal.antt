@@ -1,4 +1,4 @@
--- The refusals 1 to 11, in their order. `blanks` says whether a blank is allowed: in a fill, not in a check.
+-- The refusals 1 to 11 and 14, in their order. `blanks` says whether a blank is allowed: in a fill, not in a check.
 use mathlib.Core.Bool.{Bool, true, false, not, cond, Bool·beq}
 use mathlib.Core.List.{List}
 use Prim.Native.Nat.{ℕ, _+_, _%_}
@@ -10,9 +10,9 @@ use Rattle.model.specs.declared.Row.{Row}
 use Rattle.model.specs.declared.Admission.{Admission}
 use Rattle.model.specs.declared.Admission.the-variants.{Admitted, Refused}
 use Rattle.model.specs.Limits.{AGENTS, ROWS, WORK, LONGEST, BYTES, ATOMIC-SHORT, ATOMIC-LONG, INITIAL, BLANK}
-use Rattle.model.specs.Row.{BARRIER, ATOMIC-READ, ATOMIC-WRITE, RELAXED, ACQUIRE, RELEASE, BOTH, plain, atomic, access, barrier, plainRead, reads, writes, ranked, acquires, releases, nonPrivate, makesAvailable, makesVisible, covers}
+use Rattle.model.specs.Row.{CONTROL, ATOMIC-READ, ATOMIC-WRITE, RELAXED, ACQUIRE, RELEASE, BOTH, plain, atomic, access, barrier, control, executionOf, sameInstance, plainRead, reads, writes, ranked, acquires, releases, nonPrivate, makesAvailable, makesVisible, covers}
 use Rattle.model.specs.Table.{Table, HEADER, countAt, versionAt, agentsAt, rowsAt, zeroAt, sizeOf, rowBytes, rowOf, sourceOf, placesOf, tableOf, sourcesOf}
-use Rattle.model.specs.Scope.{INVOCATION, DEVICE, mutualRows, mutually}
+use Rattle.model.specs.Scope.{INVOCATION, DEVICE, shares, mutualRows, mutually}
 
 -- ---- 11: the lent buffers, by their lengths; `needs` is what the second one must hold
 
@@ -49,11 +49,11 @@ FLAGS = 7
 abbrev pub CLASS : ℕ
 CLASS = 3
 
--- 5: each code is in range
+-- 5: each code is in range; a control barrier has a scope in the place of its class
 unfoldable pub codesFit : ℕ → Row → Bool
 codesFit agents r =
-    leb (r .kind) BARRIER and ltb (r .agent) agents and leb (r .order) BOTH and leb (r .scope) DEVICE and leb (r .classes) CLASSES
-    and leb (r .flags) FLAGS and leb (r .class) CLASS
+    leb (r .kind) CONTROL and ltb (r .agent) agents and leb (r .order) BOTH and leb (r .scope) DEVICE and leb (r .classes) CLASSES
+    and leb (r .flags) FLAGS and leb (r .class) (cond (control r) DEVICE CLASS)
 
 -- 6, plain rows: a read may not make available, a write may not make visible; either flag needs non-private; without either, scope 0
 unfoldable pub plainFits : Row → Bool
@@ -67,10 +67,10 @@ atomicFits r =
     nonPrivate r and (not (eqb (r .kind) ATOMIC-READ) or eqb (r .order) RELAXED or eqb (r .order) ACQUIRE)
     and (not (eqb (r .kind) ATOMIC-WRITE) or eqb (r .order) RELAXED or eqb (r .order) RELEASE)
 
--- 6, barriers: order 1 to 3, not non-private, bytes 6 to 11 zero
+-- 6, barriers: order 1 to 3, not non-private, bytes 6 to 11 zero; a control barrier may have order 0, a scope in byte 6, and a start
 unfoldable pub barrierFits : Row → Bool
 barrierFits r =
-    not (eqb (r .order) RELAXED) and not (nonPrivate r) and eqb (r .class) 0 and eqb (r .size) 0 and eqb (r .start) 0
+    (control r or (not (eqb (r .order) RELAXED) and eqb (r .class) 0 and eqb (r .start) 0)) and not (nonPrivate r) and eqb (r .size) 0
     and eqb (r .reference) 0
 
 -- 6, atomics and barriers: make available needs a release, make visible an acquire; classes are empty exactly when order is 0
@@ -99,7 +99,7 @@ extentFits r =
 unfoldable pub rowFault : ℕ → Row → ℕ → ℕ
 rowFault agents r source = cond (codesFit agents r) (cond (kindFits r source) (cond (extentFits r) 0 7) 6) 5
 
--- ---- 8 to 10: a row among the others
+-- ---- 8 to 10 and 14: a row among the others
 
 -- 8: the earlier access q has r's reference and another class
 unfoldable pub otherClass : Row → Row → Bool
@@ -131,8 +131,21 @@ sameRankAt t i j = sameRank (t .row i) (t .row j) and mutualRows (t .places) (t 
 unfoldable pub rankTaken : Table → ℕ → Bool
 rankTaken t i = ranked (t .row i) and anyBelow i (sameRankAt t i)
 
+-- 14: the earlier row q is of r's instance, and the two differ in execution scope, have one agent, or don't share that scope
+unfoldable pub apart : List (List ℕ) → Row → Row → Bool
+apart p r q =
+    sameInstance r q
+    and not (eqb (executionOf r) (executionOf q) and not (eqb (r .agent) (q .agent)) and shares p (executionOf r) (r .agent) (q .agent))
+
+unfoldable pub apartAt : Table → ℕ → ℕ → Bool
+apartAt t i j = apart (t .places) (t .row i) (t .row j)
+
+unfoldable pub instanceBroken : Table → ℕ → Bool
+instanceBroken t i = anyBelow i (apartAt t i)
+
 unfoldable pub tableFault : Bool → Table → (ℕ → ℕ) → ℕ → ℕ
-tableFault blanks t source i = cond (classTaken t i) 8 (cond (sourceBroken blanks t source i) 9 (cond (rankTaken t i) 10 0))
+tableFault blanks t source i =
+    cond (classTaken t i) 8 (cond (sourceBroken blanks t source i) 9 (cond (rankTaken t i) 10 (cond (instanceBroken t i) 14 0)))
 
 -- ---- in their order
 
@@ -147,7 +160,7 @@ firstFault f n next = let i = least n (faulty f) in cond (ltb i n) (Refused (f i
 unfoldable pub rowFaultAt : List ℕ → ℕ → ℕ
 rowFaultAt s i = rowFault (agentsAt s) (rowOf (rowBytes s) i) (sourceOf (rowBytes s) i)
 
--- refusals 1 to 10: the header's at row 0, then rows ascending through 5 to 7, then rows ascending through 8 to 10
+-- refusals 1 to 10 and 14: the header's at row 0, then rows ascending through 5 to 7, then rows ascending through 8 to 10 and 14
 unfoldable pub admission : Bool → List ℕ → Admission
 admission blanks s =
     cond (eqb (headerFault s) 0)

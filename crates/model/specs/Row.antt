@@ -29,6 +29,9 @@ RMW = 4
 abbrev pub BARRIER : ℕ
 BARRIER = 5
 
+abbrev pub CONTROL : ℕ
+CONTROL = 6
+
 unfoldable pub plain : Row → Bool
 plain r = leb (r .kind) PLAIN-WRITE
 
@@ -38,8 +41,12 @@ atomic r = leb ATOMIC-READ (r .kind) and leb (r .kind) RMW
 unfoldable pub access : Row → Bool
 access r = leb (r .kind) RMW
 
+-- a memory barrier; a control barrier is one too
 unfoldable pub barrier : Row → Bool
-barrier r = eqb (r .kind) BARRIER
+barrier r = eqb (r .kind) BARRIER or eqb (r .kind) CONTROL
+
+unfoldable pub control : Row → Bool
+control r = eqb (r .kind) CONTROL
 
 unfoldable pub plainRead : Row → Bool
 plainRead r = eqb (r .kind) PLAIN-READ
@@ -76,6 +83,18 @@ acquires r = eqb (r .order) ACQUIRE or eqb (r .order) BOTH
 
 unfoldable pub releases : Row → Bool
 releases r = eqb (r .order) RELEASE or eqb (r .order) BOTH
+
+-- ---- control barriers
+
+-- a control barrier's instance number stands in the place of a start, its execution scope in that of a class
+abbrev pub instanceOf : Row → ℕ
+instanceOf r = r .start
+
+abbrev pub executionOf : Row → ℕ
+executionOf r = r .class
+
+unfoldable pub sameInstance : Row → Row → Bool
+sameInstance r q = control r and control q and eqb (instanceOf r) (instanceOf q)
 
 -- ---- sets of classes and flags, as bits of a number
 

@@ -9,16 +9,16 @@ use Rattle.finite.specs.Below.{anyBelow, allBelow, least}
 use Rattle.finite.specs.Closure.{through}
 use Rattle.finite.specs.Lists.{tabulate}
 use Rattle.finite.specs.Walk.{walk, onCycle, cycleStart, cycleSize, trail, cycle, along}
-use Rattle.model.specs.Row.{plain, atomic, access, barrier, plainRead, rmw, reads, writes, ranked, acquires, releases, holds, meets, single, classIn, nonPrivate, makesAvailable, makesVisible, inside, touches, covers, lowestShared, isShared, overlap}
+use Rattle.model.specs.Row.{plain, atomic, access, barrier, control, sameInstance, plainRead, rmw, reads, writes, ranked, acquires, releases, holds, meets, single, classIn, nonPrivate, makesAvailable, makesVisible, inside, touches, covers, lowestShared, isShared, overlap}
 use Rattle.model.specs.Table.{pairAt, quadAt, countAt, versionAt, agentsAt, rowsAt, zeroAt, placeAt, slotAt, placesOf, rowsBegin, sizeOf, rowBytes, byteOf, pairOf, rowOf, sourceOf, atomicSource, decode, tableOf, sourcesOf}
 use Rattle.model.specs.Scope.{agree, shares, together, sameLocation, mutualRows, mutually, later, laterWriter, follows}
 use Rattle.model.specs.Moment.{availabilityOf, visibilityOf, momentOf, momentIn, orderedRows, classesOf, availability, visibility, moment, sameAgent, programOrder}
-use Rattle.model.specs.Synchronizes.{continues, ends, sequence, takesFrom, leads, trails, syncAtomics, carriesOut, syncFromBarrier, carriesIn, syncToBarrier, carriesOver, syncBarriers, synchronizes}
+use Rattle.model.specs.Synchronizes.{continues, ends, sequence, takesFrom, leads, trails, syncAtomics, carriesOut, syncFromBarrier, carriesIn, syncToBarrier, carriesOver, syncBarriers, upTo, joins, arrives, passes, syncControl, synchronizes}
 use Rattle.model.specs.Happens.{holdingOf, concernsOf, holding, concerns, bySync, toRelease, fromAcquire, step, interThread, holdsAll, live, interThreadBy, happens}
 use Rattle.model.specs.Location.{sameReference, coversOf, pureRead, publicWrite, L1, L2, availableFrom, visibleTo, shareMoment, shown, met, carried, L3, common, before}
 use Rattle.model.specs.Race.{clash, conflict, unordered, unorderedNth, raceNth, races, racesAbove, racePartner, hasRace, raceRow, raceByte}
 use Rattle.model.specs.Edge.{beforeNth, beforeSome, readsFrom, fromReads, edgeNumber, edge, cycleRow, cycleRows, cycleEdges, overwrites, overwritesNth, overNth, overwriting, overWriter, isOverwritten, overReader, overByte, consistent}
-use Rattle.model.specs.Refusal.{buffersFit, versionFits, limitsFit, lengthFits, headerFault, codesFit, plainFits, atomicFits, barrierFits, semanticsFit, kindFits, atomicExtentFits, extentFits, rowFault, otherClass, otherClassAt, classTaken, writerFits, sourceFits, sourceBroken, sameRank, sameRankAt, rankTaken, tableFault, faulty, firstFault, rowFaultAt, admission}
+use Rattle.model.specs.Refusal.{buffersFit, versionFits, limitsFit, lengthFits, headerFault, codesFit, plainFits, atomicFits, barrierFits, semanticsFit, kindFits, atomicExtentFits, extentFits, rowFault, otherClass, otherClassAt, classTaken, writerFits, sourceFits, sourceBroken, sameRank, sameRankAt, rankTaken, apart, apartAt, instanceBroken, tableFault, faulty, firstFault, rowFaultAt, admission}
 use Rattle.model.specs.Check.{raceOr, overwrittenOr, cyclicOr, verdict, admitted, check}
 use Rattle.model.specs.Fill.{missesAt, writtenBy, written, hidesAt, between, candidate, choice, blank, chosen, sourcesFit, filledOr, racingOr, outcome, admittedFill, fill}
 use Rattle.model.specs.Check.{Verdict, refused, cyclic, overwritten, race, raceFree}
@@ -127,7 +127,7 @@ starred =
     ∷ []
 
 pub starred-hold : map (λ r. answer (r .ask) (r .table)) starred ≡ map (λ r. r .gives) starred
-unfolding answer _and_ _or_ anyBelow allBelow least through tabulate walk onCycle cycleStart cycleSize trail cycle along plain atomic access barrier plainRead rmw reads writes ranked acquires releases holds meets single classIn nonPrivate makesAvailable makesVisible inside touches covers lowestShared isShared overlap pairAt quadAt countAt versionAt agentsAt rowsAt zeroAt placeAt slotAt placesOf rowsBegin sizeOf rowBytes byteOf pairOf rowOf sourceOf atomicSource decode tableOf sourcesOf agree shares together sameLocation mutualRows mutually later laterWriter follows availabilityOf visibilityOf momentOf momentIn orderedRows classesOf availability visibility moment sameAgent programOrder continues ends sequence takesFrom leads trails syncAtomics carriesOut syncFromBarrier carriesIn syncToBarrier carriesOver syncBarriers synchronizes holdingOf concernsOf holding concerns bySync toRelease fromAcquire step interThread holdsAll live interThreadBy happens sameReference coversOf pureRead publicWrite L1 L2 availableFrom visibleTo shareMoment shown met carried L3 common before clash conflict unordered unorderedNth raceNth races racesAbove racePartner hasRace raceRow raceByte beforeNth beforeSome readsFrom fromReads edgeNumber edge cycleRow cycleRows cycleEdges overwrites overwritesNth overNth overwriting overWriter isOverwritten overReader overByte consistent buffersFit versionFits limitsFit lengthFits headerFault codesFit plainFits atomicFits barrierFits semanticsFit kindFits atomicExtentFits extentFits rowFault otherClass otherClassAt classTaken writerFits sourceFits sourceBroken sameRank sameRankAt rankTaken tableFault faulty firstFault rowFaultAt admission raceOr overwrittenOr cyclicOr verdict admitted check missesAt writtenBy written hidesAt between candidate choice blank chosen sourcesFit filledOr racingOr outcome admittedFill fill
+unfolding answer _and_ _or_ anyBelow allBelow least through tabulate walk onCycle cycleStart cycleSize trail cycle along plain atomic access barrier control sameInstance plainRead rmw reads writes ranked acquires releases holds meets single classIn nonPrivate makesAvailable makesVisible inside touches covers lowestShared isShared overlap pairAt quadAt countAt versionAt agentsAt rowsAt zeroAt placeAt slotAt placesOf rowsBegin sizeOf rowBytes byteOf pairOf rowOf sourceOf atomicSource decode tableOf sourcesOf agree shares together sameLocation mutualRows mutually later laterWriter follows availabilityOf visibilityOf momentOf momentIn orderedRows classesOf availability visibility moment sameAgent programOrder continues ends sequence takesFrom leads trails syncAtomics carriesOut syncFromBarrier carriesIn syncToBarrier carriesOver syncBarriers upTo joins arrives passes syncControl synchronizes holdingOf concernsOf holding concerns bySync toRelease fromAcquire step interThread holdsAll live interThreadBy happens sameReference coversOf pureRead publicWrite L1 L2 availableFrom visibleTo shareMoment shown met carried L3 common before clash conflict unordered unorderedNth raceNth races racesAbove racePartner hasRace raceRow raceByte beforeNth beforeSome readsFrom fromReads edgeNumber edge cycleRow cycleRows cycleEdges overwrites overwritesNth overNth overwriting overWriter isOverwritten overReader overByte consistent buffersFit versionFits limitsFit lengthFits headerFault codesFit plainFits atomicFits barrierFits semanticsFit kindFits atomicExtentFits extentFits rowFault otherClass otherClassAt classTaken writerFits sourceFits sourceBroken sameRank sameRankAt rankTaken apart apartAt instanceBroken tableFault faulty firstFault rowFaultAt admission raceOr overwrittenOr cyclicOr verdict admitted check missesAt writtenBy written hidesAt between candidate choice blank chosen sourcesFit filledOr racingOr outcome admittedFill fill
 starred-hold = refl
 
 -- ---- shortcuts that would fool us
@@ -183,5 +183,56 @@ shortcuts =
     ∷ []
 
 pub shortcuts-hold : map (λ r. answer (r .ask) (r .table)) shortcuts ≡ map (λ r. r .gives) shortcuts
-unfolding answer _and_ _or_ anyBelow allBelow least through tabulate walk onCycle cycleStart cycleSize trail cycle along plain atomic access barrier plainRead rmw reads writes ranked acquires releases holds meets single classIn nonPrivate makesAvailable makesVisible inside touches covers lowestShared isShared overlap pairAt quadAt countAt versionAt agentsAt rowsAt zeroAt placeAt slotAt placesOf rowsBegin sizeOf rowBytes byteOf pairOf rowOf sourceOf atomicSource decode tableOf sourcesOf agree shares together sameLocation mutualRows mutually later laterWriter follows availabilityOf visibilityOf momentOf momentIn orderedRows classesOf availability visibility moment sameAgent programOrder continues ends sequence takesFrom leads trails syncAtomics carriesOut syncFromBarrier carriesIn syncToBarrier carriesOver syncBarriers synchronizes holdingOf concernsOf holding concerns bySync toRelease fromAcquire step interThread holdsAll live interThreadBy happens sameReference coversOf pureRead publicWrite L1 L2 availableFrom visibleTo shareMoment shown met carried L3 common before clash conflict unordered unorderedNth raceNth races racesAbove racePartner hasRace raceRow raceByte beforeNth beforeSome readsFrom fromReads edgeNumber edge cycleRow cycleRows cycleEdges overwrites overwritesNth overNth overwriting overWriter isOverwritten overReader overByte consistent buffersFit versionFits limitsFit lengthFits headerFault codesFit plainFits atomicFits barrierFits semanticsFit kindFits atomicExtentFits extentFits rowFault otherClass otherClassAt classTaken writerFits sourceFits sourceBroken sameRank sameRankAt rankTaken tableFault faulty firstFault rowFaultAt admission raceOr overwrittenOr cyclicOr verdict admitted check missesAt writtenBy written hidesAt between candidate choice blank chosen sourcesFit filledOr racingOr outcome admittedFill fill
+unfolding answer _and_ _or_ anyBelow allBelow least through tabulate walk onCycle cycleStart cycleSize trail cycle along plain atomic access barrier control sameInstance plainRead rmw reads writes ranked acquires releases holds meets single classIn nonPrivate makesAvailable makesVisible inside touches covers lowestShared isShared overlap pairAt quadAt countAt versionAt agentsAt rowsAt zeroAt placeAt slotAt placesOf rowsBegin sizeOf rowBytes byteOf pairOf rowOf sourceOf atomicSource decode tableOf sourcesOf agree shares together sameLocation mutualRows mutually later laterWriter follows availabilityOf visibilityOf momentOf momentIn orderedRows classesOf availability visibility moment sameAgent programOrder continues ends sequence takesFrom leads trails syncAtomics carriesOut syncFromBarrier carriesIn syncToBarrier carriesOver syncBarriers upTo joins arrives passes syncControl synchronizes holdingOf concernsOf holding concerns bySync toRelease fromAcquire step interThread holdsAll live interThreadBy happens sameReference coversOf pureRead publicWrite L1 L2 availableFrom visibleTo shareMoment shown met carried L3 common before clash conflict unordered unorderedNth raceNth races racesAbove racePartner hasRace raceRow raceByte beforeNth beforeSome readsFrom fromReads edgeNumber edge cycleRow cycleRows cycleEdges overwrites overwritesNth overNth overwriting overWriter isOverwritten overReader overByte consistent buffersFit versionFits limitsFit lengthFits headerFault codesFit plainFits atomicFits barrierFits semanticsFit kindFits atomicExtentFits extentFits rowFault otherClass otherClassAt classTaken writerFits sourceFits sourceBroken sameRank sameRankAt rankTaken apart apartAt instanceBroken tableFault faulty firstFault rowFaultAt admission raceOr overwrittenOr cyclicOr verdict admitted check missesAt writtenBy written hidesAt between candidate choice blank chosen sourcesFit filledOr racingOr outcome admittedFill fill
 shortcuts-hold = refl
+
+-- ---- control barriers
+
+-- a control barrier of instance 7, workgroup execution scope, release and acquire for Uniform, which makes available and visible
+abbrev meet : ℕ → List ℕ
+meet a = 6 ∷ a ∷ 3 ∷ 2 ∷ 1 ∷ 6 ∷ 2 ∷ 0 ∷ 0 ∷ 7 ∷ 0 ∷ 0 ∷ 255 ∷ 255 ∷ 0 ∷ 0 ∷ []
+
+-- one without memory semantics
+abbrev bare : ℕ → List ℕ
+bare a = 6 ∷ a ∷ 0 ∷ 2 ∷ 0 ∷ 0 ∷ 2 ∷ 0 ∷ 0 ∷ 7 ∷ 0 ∷ 0 ∷ 255 ∷ 255 ∷ 0 ∷ 0 ∷ []
+
+-- a release barrier that makes available, an acquire barrier that makes visible
+abbrev out : ℕ → List ℕ
+out a = 5 ∷ a ∷ 2 ∷ 2 ∷ 1 ∷ 2 ∷ 0 ∷ 0 ∷ 0 ∷ 0 ∷ 0 ∷ 0 ∷ 255 ∷ 255 ∷ 0 ∷ 0 ∷ []
+
+abbrev into : ℕ → List ℕ
+into a = 5 ∷ a ∷ 1 ∷ 2 ∷ 1 ∷ 4 ∷ 0 ∷ 0 ∷ 0 ∷ 0 ∷ 0 ∷ 0 ∷ 255 ∷ 255 ∷ 0 ∷ 0 ∷ []
+
+abbrev two : List (List ℕ) → List ℕ
+two r = table (agent₀ ∷ agent₁ ∷ []) r
+
+abbrev M : List ℕ
+M = two (write ∷ meet 0 ∷ meet 1 ∷ read ∷ [])
+
+abbrev pub controls : List Run
+controls =
+    -- both barriers are the control barrier
+    record { ask = asCheck; table = M; gives = checked raceFree }
+    -- the other way round in the table
+    ∷ record { ask = asCheck; table = two (write ∷ meet 1 ∷ meet 0 ∷ read ∷ []); gives = checked raceFree }
+    -- neither is, or one of them
+    ∷ record { ask = asCheck; table = two (write ∷ out 0 ∷ bare 0 ∷ bare 1 ∷ into 1 ∷ read ∷ []); gives = checked raceFree }
+    ∷ record { ask = asCheck; table = two (write ∷ out 0 ∷ bare 0 ∷ meet 1 ∷ read ∷ []); gives = checked raceFree }
+    ∷ record { ask = asCheck; table = two (write ∷ meet 0 ∷ bare 1 ∷ into 1 ∷ read ∷ []); gives = checked raceFree }
+    -- no memory semantics; another instance; the acquire before the control barrier
+    ∷ record { ask = asCheck; table = two (write ∷ bare 0 ∷ bare 1 ∷ read ∷ []); gives = checked (race 0 3 0) }
+    ∷ record { ask = asCheck; table = change 2 2 9 8 M; gives = checked (race 0 3 0) }
+    ∷ record { ask = asCheck; table = two (write ∷ out 0 ∷ bare 0 ∷ into 1 ∷ bare 1 ∷ read ∷ []); gives = checked (race 0 5 0) }
+    -- one agent twice, another execution scope, agents in two workgroups: 14 at the later row
+    ∷ record { ask = asCheck; table = two (write ∷ meet 0 ∷ meet 0 ∷ read ∷ []); gives = checked (refused 14 2) }
+    ∷ record { ask = asCheck; table = change 2 2 6 3 M; gives = checked (refused 14 2) }
+    ∷ record { ask = asCheck; table = set M 17 1; gives = checked (refused 14 2) }
+    -- an execution scope over 4, a kind over 6: 5; a length: 6
+    ∷ record { ask = asCheck; table = change 2 1 6 5 M; gives = checked (refused 5 1) }
+    ∷ record { ask = asCheck; table = change 2 1 0 7 M; gives = checked (refused 5 1) }
+    ∷ record { ask = asCheck; table = change 2 1 7 4 M; gives = checked (refused 6 1) }
+    ∷ []
+
+pub controls-hold : map (λ r. answer (r .ask) (r .table)) controls ≡ map (λ r. r .gives) controls
+unfolding answer _and_ _or_ anyBelow allBelow least through tabulate walk onCycle cycleStart cycleSize trail cycle along plain atomic access barrier control sameInstance plainRead rmw reads writes ranked acquires releases holds meets single classIn nonPrivate makesAvailable makesVisible inside touches covers lowestShared isShared overlap pairAt quadAt countAt versionAt agentsAt rowsAt zeroAt placeAt slotAt placesOf rowsBegin sizeOf rowBytes byteOf pairOf rowOf sourceOf atomicSource decode tableOf sourcesOf agree shares together sameLocation mutualRows mutually later laterWriter follows availabilityOf visibilityOf momentOf momentIn orderedRows classesOf availability visibility moment sameAgent programOrder continues ends sequence takesFrom leads trails syncAtomics carriesOut syncFromBarrier carriesIn syncToBarrier carriesOver syncBarriers upTo joins arrives passes syncControl synchronizes holdingOf concernsOf holding concerns bySync toRelease fromAcquire step interThread holdsAll live interThreadBy happens sameReference coversOf pureRead publicWrite L1 L2 availableFrom visibleTo shareMoment shown met carried L3 common before clash conflict unordered unorderedNth raceNth races racesAbove racePartner hasRace raceRow raceByte beforeNth beforeSome readsFrom fromReads edgeNumber edge cycleRow cycleRows cycleEdges overwrites overwritesNth overNth overwriting overWriter isOverwritten overReader overByte consistent buffersFit versionFits limitsFit lengthFits headerFault codesFit plainFits atomicFits barrierFits semanticsFit kindFits atomicExtentFits extentFits rowFault otherClass otherClassAt classTaken writerFits sourceFits sourceBroken sameRank sameRankAt rankTaken apart apartAt instanceBroken tableFault faulty firstFault rowFaultAt admission raceOr overwrittenOr cyclicOr verdict admitted check missesAt writtenBy written hidesAt between candidate choice blank chosen sourcesFit filledOr racingOr outcome admittedFill fill
+controls-hold = refl

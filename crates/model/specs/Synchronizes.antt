@@ -1,13 +1,13 @@
 -- M4 and M5: release sequences and synchronizes-with.
 use mathlib.Core.Bool.{Bool, true, false, not}
 use Prim.Native.Nat.{ℕ}
-use lib.Dec.{ltb, eqb}
+use lib.Dec.{ltb, leb, eqb}
 use Rattle.finite.specs.Logic.{_and_, _or_}
 use Rattle.finite.specs.Below.{anyBelow}
 use Rattle.model.specs.declared.Row.{Row}
-use Rattle.model.specs.Row.{atomic, barrier, rmw, reads, writes, releases, acquires, classIn}
+use Rattle.model.specs.Row.{atomic, barrier, rmw, reads, writes, releases, acquires, executionOf, sameInstance, classIn}
 use Rattle.model.specs.Table.{Table}
-use Rattle.model.specs.Scope.{together, mutually, later, follows}
+use Rattle.model.specs.Scope.{shares, together, mutually, later, follows}
 use Rattle.model.specs.Moment.{sameAgent}
 
 -- ---- M4
@@ -68,8 +68,28 @@ syncBarriers t a b =
     not (eqb a b) and barrier (t .row a) and barrier (t .row b) and together (t .places) (t .row a) (t .row b)
     and anyBelow (t .rows) (carriesOver t a b)
 
+-- row a is program-ordered before row c, or is c
+unfoldable pub upTo : Table → ℕ → ℕ → Bool
+upTo t a c = leb a c and sameAgent t a c
+
+-- the control barrier of the appendix's rule is met by two rows of one instance: c, and d of an agent that shares its execution scope
+unfoldable pub joins : Table → ℕ → ℕ → Bool
+joins t c d = sameInstance (t .row c) (t .row d) and shares (t .places) (executionOf (t .row c)) (t .row c .agent) (t .row d .agent)
+
+unfoldable pub arrives : Table → ℕ → ℕ → ℕ → Bool
+arrives t b c d = upTo t d b and joins t c d
+
+unfoldable pub passes : Table → ℕ → ℕ → ℕ → Bool
+passes t a b c = upTo t a c and anyBelow (t .rows) (arrives t b c)
+
+-- M5: two barriers, by a control barrier that a comes before or is, and that comes before b or is b
+unfoldable pub syncControl : Table → ℕ → ℕ → Bool
+syncControl t a b =
+    not (eqb a b) and barrier (t .row a) and barrier (t .row b) and together (t .places) (t .row a) (t .row b)
+    and anyBelow (t .rows) (passes t a b)
+
 -- M5: the release row a synchronizes-with the acquire row b
 unfoldable pub synchronizes : Table → ℕ → ℕ → Bool
 synchronizes t a b =
     releases (t .row a) and acquires (t .row b)
-    and (syncAtomics t a b or syncFromBarrier t a b or syncToBarrier t a b or syncBarriers t a b)
+    and (syncAtomics t a b or syncFromBarrier t a b or syncToBarrier t a b or syncBarriers t a b or syncControl t a b)

@@ -2,11 +2,11 @@
 -- nothing else: a rule that reads more needs another field.
 use mathlib.Core.Path.{_≡_, refl, sym, ap, _∙_}
 use mathlib.Core.Bool.{Bool, true, false}
-use Prim.Native.Nat.{ℕ, _+_, _*_, _/_, _%_, _<_}
+use Prim.Native.Nat.{ℕ, _+_, _*_, _/_, _%_, _≤_, _<_}
 use native.Mathlib.Omega.{arith}
 use native.Mathlib.Decide.{decLt, ℕ-discrete}
-use lib.Dec.{ltb, eqb}
-use borrow.Author.Tests.{ltb-true, lt-ltb}
+use lib.Dec.{ltb, leb, eqb}
+use borrow.Author.Tests.{ltb-true, leb-true, lt-ltb, le-leb}
 use Rattle.finite.specs.Logic.{_and_, bool-ext}
 use Rattle.finite.specs.Below.{anyBelow}
 use Rattle.finite.specs.Closure.{through}
@@ -51,6 +51,25 @@ module _ {t u : Table} {π : Renumbering (t .rows)} (M : Alike t u π) where
   ltb-kept x y q =
       bool-ext (ltb (π .to x) (π .to y)) (ltb x y) (λ e. lt-ltb x y (kept-back x y q (ltb-true (π .to x) (π .to y) e)))
       (λ e. lt-ltb (π .to x) (π .to y) (M .kept x y (ltb-true x y e) q))
+
+  le-kept : (x y : ℕ) → t .row x .agent ≡ t .row y .agent → x ≤ y → π .to x ≤ π .to y
+  le-kept x y q l = go (decLt (π .to y) (π .to x))
+    where
+      go : Dec (π .to y < π .to x) → π .to x ≤ π .to y
+      go (yes h) = let p = kept-back y x (sym q) h in absurd (omega arith)
+      go (no h) = omega arith
+
+  le-kept-back : (x y : ℕ) → t .row x .agent ≡ t .row y .agent → π .to x ≤ π .to y → x ≤ y
+  le-kept-back x y q h = go (decLt y x)
+    where
+      go : Dec (y < x) → x ≤ y
+      go (yes l) = let p = M .kept y x l (sym q) in absurd (omega arith)
+      go (no l) = omega arith
+
+  pub leb-kept : (x y : ℕ) → t .row x .agent ≡ t .row y .agent → leb (π .to x) (π .to y) ≡ leb x y
+  leb-kept x y q =
+      bool-ext (leb (π .to x) (π .to y)) (leb x y) (λ e. le-leb x y (le-kept-back x y q (leb-true (π .to x) (π .to y) e)))
+      (λ e. le-leb (π .to x) (π .to y) (le-kept x y q (leb-true x y e)))
 
   -- ---- moments
 

@@ -11,10 +11,10 @@ use Rattle.model.specs.Limits.{CLASS-SETS}
 use Rattle.model.specs.Table.{Table}
 use Rattle.model.specs.Scope.{mutually, follows}
 use Rattle.model.specs.Moment.{momentIn, orderedRows, availability, visibility, sameAgent, programOrder}
-use Rattle.model.specs.Synchronizes.{ends, sequence, takesFrom, leads, trails, syncAtomics, carriesOut, syncFromBarrier, carriesIn, syncToBarrier, carriesOver, syncBarriers, synchronizes}
+use Rattle.model.specs.Synchronizes.{ends, sequence, takesFrom, leads, trails, syncAtomics, carriesOut, syncFromBarrier, carriesIn, syncToBarrier, carriesOver, syncBarriers, upTo, joins, arrives, passes, syncControl, synchronizes}
 use Rattle.model.specs.Happens.{holding, concerns, bySync, toRelease, fromAcquire, step, interThread, holdsAll, live, interThreadBy, happens}
 use Rattle.moved.specs.Renumber.{Renumbering, row-of, part-of, eqb-to, ltb-to}
-use Rattle.moved.specs.Alike.{Alike, and-left-so, ltb-kept, mo, row-at, ltb-moment, some-row, moment-path}
+use Rattle.moved.specs.Alike.{Alike, and-left-so, ltb-kept, leb-kept, mo, row-at, ltb-moment, some-row, moment-path}
 
 module _ {t u : Table} {π : Renumbering (t .rows)} (M : Alike t u π) where
   -- ---- M3
@@ -84,9 +84,30 @@ module _ {t u : Table} {π : Renumbering (t .rows)} (M : Alike t u π) where
   unfolding syncBarriers
   barriers-alike a b = rw (eqb-to π a b, M .row a, M .row b, some-row M (carriesOver t a b) (carriesOver u (π .to a) (π .to b)) (over-alike a b), M .places) refl
 
+  -- x is program-ordered before y, or is y
+  upto-alike : (x y : ℕ) → upTo u (π .to x) (π .to y) ≡ upTo t x y
+  unfolding upTo sameAgent
+  upto-alike x y = rw (M .row x, M .row y) (and-left-so _ _ _ (λ e. leb-kept M x y (eqb-true _ _ e)))
+
+  joins-alike : (c d : ℕ) → joins u (π .to c) (π .to d) ≡ joins t c d
+  unfolding joins
+  joins-alike c d = rw (M .row c, M .row d, M .places) refl
+
+  arrives-alike : (b c d : ℕ) → arrives u (π .to b) (π .to c) (π .to d) ≡ arrives t b c d
+  unfolding arrives
+  arrives-alike b c d = rw (upto-alike d b, joins-alike c d) refl
+
+  passes-alike : (a b c : ℕ) → passes u (π .to a) (π .to b) (π .to c) ≡ passes t a b c
+  unfolding passes
+  passes-alike a b c = rw (upto-alike a c, some-row M (arrives t b c) (arrives u (π .to b) (π .to c)) (arrives-alike b c)) refl
+
+  control-alike : (a b : ℕ) → syncControl u (π .to a) (π .to b) ≡ syncControl t a b
+  unfolding syncControl
+  control-alike a b = rw (eqb-to π a b, M .row a, M .row b, some-row M (passes t a b) (passes u (π .to a) (π .to b)) (passes-alike a b), M .places) refl
+
   synchronizes-alike : (a b : ℕ) → synchronizes u (π .to a) (π .to b) ≡ synchronizes t a b
   unfolding synchronizes
-  synchronizes-alike a b = rw (M .row a, M .row b, atomics-alike a b, from-barrier-alike a b, to-barrier-alike a b, barriers-alike a b) refl
+  synchronizes-alike a b = rw (M .row a, M .row b, atomics-alike a b, from-barrier-alike a b, to-barrier-alike a b, barriers-alike a b, control-alike a b) refl
 
   -- ---- M1
 

@@ -9,6 +9,7 @@ use model::Places;
 use rows::bytes;
 use rows::kinds;
 use sequence::carriers;
+use sequence::control;
 use sequence::heads;
 
 // M4: whether some row ends the sequence that row a heads no later than row x.
@@ -120,5 +121,6 @@ pub fn sync_at(rows: &[u8], p: Places, n: usize, a: usize, b: usize) -> bool
     if from & into {
         return near & is_carried_in(rows, p, n, a, b);
     }
-    !(a == b) & out & into & near & is_carried_over(rows, p, n, a, b)
+    let apart = !(a == b) & out & into & near;
+    apart & is_carried_over(rows, p, n, a, b) | apart & control::is_passed(rows, p, n, a, b)
 }

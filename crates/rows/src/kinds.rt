@@ -1,6 +1,6 @@
 // What a row is: its kind, order, flags, classes and bytes. Nothing else tests a kind's number, an order or a flag.
 ghost use mathlib.Core.Path.{_≡_};
-ghost use Rattle.model.specs.Row.{plain, atomic, access, barrier, plainRead, rmw, reads, writes, ranked, acquires, releases};
+ghost use Rattle.model.specs.Row.{plain, atomic, access, barrier, control, sameInstance, plainRead, rmw, reads, writes, ranked, acquires, releases};
 ghost use Rattle.model.specs.Row.{holds, meets, single, classIn, nonPrivate, makesAvailable, makesVisible, touches, covers};
 use model::Row;
 
@@ -17,6 +17,8 @@ pub const ATOMIC_WRITE: u8 = 3;
 pub const RMW: u8 = 4;
 
 pub const BARRIER: u8 = 5;
+
+pub const CONTROL: u8 = 6;
 
 pub fn is_plain(r: Row) -> bool
     ensures { λ b. ⌜ b ≡ plain r ⌝ }
@@ -36,10 +38,24 @@ pub fn is_access(r: Row) -> bool
     r.kind <= RMW
 }
 
+// A control barrier is a memory barrier too.
 pub fn is_barrier(r: Row) -> bool
     ensures { λ b. ⌜ b ≡ barrier r ⌝ }
 {
-    r.kind == BARRIER
+    (r.kind == BARRIER) | (r.kind == CONTROL)
+}
+
+pub fn is_control(r: Row) -> bool
+    ensures { λ b. ⌜ b ≡ control r ⌝ }
+{
+    r.kind == CONTROL
+}
+
+// Whether two rows are control barriers of one instance, whose number stands in the place of a start.
+pub fn same_instance(r: Row, q: Row) -> bool
+    ensures { λ b. ⌜ b ≡ sameInstance r q ⌝ }
+{
+    is_control(r) & is_control(q) & (r.start == q.start)
 }
 
 pub fn is_plain_read(r: Row) -> bool

@@ -13,7 +13,7 @@ use Rattle.model.specs.Table.{decode, rowOf, atomicSource}
 use Rattle.model.specs.Scope.{together, mutually, later, laterWriter, follows}
 use Rattle.model.specs.Moment.{sameAgent}
 use Rattle.model.specs.Synchronizes.{continues, ends, sequence, takesFrom, leads, trails, carriesOut, carriesIn, carriesOver}
-use Rattle.model.specs.Synchronizes.{syncAtomics, syncFromBarrier, syncToBarrier, syncBarriers, synchronizes}
+use Rattle.model.specs.Synchronizes.{passes, syncAtomics, syncFromBarrier, syncToBarrier, syncBarriers, syncControl, synchronizes}
 
 -- ---- definitions
 
@@ -129,15 +129,29 @@ module _ (b : List ℕ) (p : List (List ℕ)) (n : ℕ) where
   over-on a c r q x y z v er eq ex ey ez f h =
       h ∙ sym (and-on _ _ (rw (← er, ← eq, ← ex, ← ey, ← ez) (not-false (not (eqb a c) and x and y and z) f)))
 
+  pub control-off : (a c : ℕ) (r q : Row) (x y z : Bool) → r ≡ rowOf b a → q ≡ rowOf b c
+      → x ≡ barrier r → y ≡ barrier q → z ≡ together p r q → not (not (eqb a c) and x and y and z) ≡ true
+      → false ≡ syncControl (decode b p n) a c
+  unfolding syncControl decode
+  control-off a c r q x y z er eq ex ey ez f =
+      sym (and-false-left _ _ (rw (← er, ← eq, ← ex, ← ey, ← ez) (not-out (not (eqb a c) and x and y and z) f)))
+
+  pub control-on : (a c : ℕ) (r q : Row) (x y z v : Bool) → r ≡ rowOf b a → q ≡ rowOf b c
+      → x ≡ barrier r → y ≡ barrier q → z ≡ together p r q → not (not (eqb a c) and x and y and z) ≡ false
+      → v ≡ anyBelow n (passes (decode b p n) a c) → v ≡ syncControl (decode b p n) a c
+  unfolding syncControl decode
+  control-on a c r q x y z v er eq ex ey ez f h =
+      h ∙ sym (and-on _ _ (rw (← er, ← eq, ← ex, ← ey, ← ez) (not-false (not (eqb a c) and x and y and z) f)))
+
   pub sync-off : (a c : ℕ) (r q : Row) (x y : Bool) → r ≡ rowOf b a → q ≡ rowOf b c → x ≡ releases r → y ≡ acquires q
       → not (x and y) ≡ true → false ≡ synchronizes (decode b p n) a c
   unfolding synchronizes decode
   sync-off a c r q x y er eq ex ey f = sym (and-false-left _ _ (rw (← er, ← eq, ← ex, ← ey) (not-out (x and y) f)))
 
-  pub sync-on : (a c : ℕ) (r q : Row) (x y v₁ v₂ v₃ v₄ : Bool) → r ≡ rowOf b a → q ≡ rowOf b c → x ≡ releases r → y ≡ acquires q
+  pub sync-on : (a c : ℕ) (r q : Row) (x y v₁ v₂ v₃ v₄ v₅ : Bool) → r ≡ rowOf b a → q ≡ rowOf b c → x ≡ releases r → y ≡ acquires q
       → not (x and y) ≡ false → v₁ ≡ syncAtomics (decode b p n) a c → v₂ ≡ syncFromBarrier (decode b p n) a c
-      → v₃ ≡ syncToBarrier (decode b p n) a c → v₄ ≡ syncBarriers (decode b p n) a c
-      → (v₁ or v₂ or v₃ or v₄) ≡ synchronizes (decode b p n) a c
+      → v₃ ≡ syncToBarrier (decode b p n) a c → v₄ ≡ syncBarriers (decode b p n) a c → v₅ ≡ syncControl (decode b p n) a c
+      → (v₁ or v₂ or v₃ or v₄ or v₅) ≡ synchronizes (decode b p n) a c
   unfolding synchronizes decode
-  sync-on a c r q x y v₁ v₂ v₃ v₄ er eq ex ey f h₁ h₂ h₃ h₄ =
-      rw (h₁, h₂, h₃, h₄) (sym (and-on _ _ (rw (← er, ← eq, ← ex, ← ey) (not-false (x and y) f))))
+  sync-on a c r q x y v₁ v₂ v₃ v₄ v₅ er eq ex ey f h₁ h₂ h₃ h₄ h₅ =
+      rw (h₁, h₂, h₃, h₄, h₅) (sym (and-on _ _ (rw (← er, ← eq, ← ex, ← ey) (not-false (x and y) f))))

@@ -5,10 +5,11 @@ ghost use lib.ListN.{length};
 ghost use Rattle.bits.specs.Stage.{Made};
 ghost use Rattle.model.specs.Limits.{ROWS, WORK};
 ghost use Rattle.model.specs.Table.{decode};
-ghost use Rattle.model.specs.Synchronizes.{syncAtomics, syncFromBarrier, syncToBarrier, syncBarriers, synchronizes};
+ghost use Rattle.model.specs.Synchronizes.{syncAtomics, syncFromBarrier, syncToBarrier, syncBarriers, syncControl, synchronizes};
 ghost use Rattle.area.specs.Regions.{SYNC, SYNC-END, GRID};
 ghost use Rattle.sequence.specs.Known.{Known, MadeSynced};
 use crate::carriers;
+use crate::control;
 use crate::heads;
 use model::Places;
 
@@ -68,6 +69,22 @@ fn sync_barriers(rows: &[u8], p: Places, n: usize, a: usize, b: usize, w: &[u64]
     carriers::is_carried_over(rows, p, n, a, b, w)
 }
 
+// M5: a release barrier a, an acquire barrier b, and a control barrier, which either of them may be.
+fn sync_control(rows: &[u8], p: Places, n: usize, a: usize, b: usize) -> bool
+    requires { ⌜ (n ≤ ROWS) × (a < n) × (b < n) ⌝ }
+    ensures { λ d. ⌜ d ≡ syncControl (decode (now (rows .entry)) p n) a b ⌝ }
+{
+    let r = rows::bytes::read_row(rows, a as u16);
+    let q = rows::bytes::read_row(rows, b as u16);
+    if !(!(a == b)
+        & rows::kinds::is_barrier(r)
+        & rows::kinds::is_barrier(q)
+        & rows::scopes::together(p, r, q)) {
+        return false;
+    }
+    control::is_passed(rows, p, n, a, b)
+}
+
 // M5: whether the release row a synchronizes-with the acquire row b. Most rows are neither, so their orders are tested first.
 pub fn sync_at(rows: &[u8], p: Places, n: usize, a: usize, b: usize, w: &[u64]) -> bool
     requires { ⌜ (n ≤ ROWS) × (a < n) × (b < n) × (WORK ≤ length (now w)) × Known (decode (now rows) p n) n (now w) ⌝ }
@@ -82,6 +99,7 @@ pub fn sync_at(rows: &[u8], p: Places, n: usize, a: usize, b: usize, w: &[u64]) 
         | sync_from_barrier(rows, p, n, a, b, w)
         | sync_to_barrier(rows, p, n, a, b, w)
         | sync_barriers(rows, p, n, a, b, w)
+        | sync_control(rows, p, n, a, b)
 }
 
 // ---- stages

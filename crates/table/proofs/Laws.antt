@@ -9,7 +9,7 @@ use Rattle.model.specs.declared.Row.{Row}
 use Rattle.model.specs.declared.Admission.{Admission}
 use Rattle.model.specs.declared.Admission.the-variants.{Admitted, Refused}
 use Rattle.model.specs.Table.{decode, sourceOf, agentsAt, rowsAt, rowBytes, placesOf, tableOf, sourcesOf}
-use Rattle.model.specs.Refusal.{otherClassAt, classTaken, writerFits, sourceFits, sourceBroken, sameRankAt, rankTaken}
+use Rattle.model.specs.Refusal.{otherClassAt, classTaken, writerFits, sourceFits, sourceBroken, sameRankAt, rankTaken, apartAt, instanceBroken}
 use Rattle.model.specs.Refusal.{codesFit, kindFits, extentFits, rowFault, tableFault, faulty, firstFault, rowFaultAt}
 use Rattle.model.specs.Refusal.{headerFault, admission}
 use Rattle.table.specs.Rows.{rowFaultIn, rowsAdmission}
@@ -29,6 +29,10 @@ module _ (b : List ℕ) (p : List (List ℕ)) (n : ℕ) where
   pub rank-any : (i : ℕ) → rankTaken (decode b p 0) i ≡ rankTaken (decode b p n) i
   unfolding rankTaken sameRankAt decode
   rank-any i = refl
+
+  pub instance-any : (i : ℕ) → instanceBroken (decode b p 0) i ≡ instanceBroken (decode b p n) i
+  unfolding instanceBroken apartAt decode
+  instance-any i = refl
 
 -- ---- the cascade of 5 to 7, from the inside
 

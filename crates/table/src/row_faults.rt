@@ -18,17 +18,17 @@ pub const FLAGS: u8 = 7;
 
 pub const CLASS: u8 = 3;
 
-// 5: each code is in range.
+// 5: each code is in range; a control barrier has a scope in the place of its class.
 pub fn codes_fit(agents: u8, r: Row) -> bool
     ensures { λ b. ⌜ b ≡ codesFit agents r ⌝ }
 {
-    (r.kind <= kinds::BARRIER)
+    (r.kind <= kinds::CONTROL)
         & (r.agent < agents)
         & (r.order <= kinds::BOTH)
         & (r.scope <= scopes::DEVICE)
         & (r.classes <= CLASSES)
         & (r.flags <= FLAGS)
-        & (r.class <= CLASS)
+        & (r.class <= pick(kinds::is_control(r), scopes::DEVICE, CLASS))
 }
 
 // 6, of a plain row.
@@ -59,15 +59,13 @@ pub fn atomic_fits(r: Row) -> bool
         & (!(r.kind == kinds::ATOMIC_WRITE) | relaxed | (r.order == kinds::RELEASE))
 }
 
-// 6, of a barrier: it has no bytes.
+// 6, of a barrier: it has no bytes. A control barrier may have order 0, a scope in byte 6, and a start.
 pub fn barrier_fits(r: Row) -> bool
     ensures { λ b. ⌜ b ≡ barrierFits r ⌝ }
 {
-    !(r.order == kinds::RELAXED)
+    (kinds::is_control(r) | !(r.order == kinds::RELAXED) & (r.class == 0) & (r.start == 0))
         & !kinds::is_non_private(r)
-        & (r.class == 0)
         & (r.size == 0)
-        & (r.start == 0)
         & (r.reference == 0)
 }
 

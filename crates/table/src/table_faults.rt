@@ -1,4 +1,4 @@
-// Refusals 8 to 10: a row among the others.
+// Refusals 8 to 10 and 14: a row among the others.
 // A test that reads no place is stated of a table with none, and one that reads no number of rows of a table of 0: what is
 // left out makes no difference to it.
 ghost use mathlib.Core.Path.{_≡_};
@@ -6,7 +6,7 @@ ghost use mathlib.Core.List.{[]};
 ghost use Rattle.finite.specs.Below.{anyBelow, least};
 ghost use Rattle.model.specs.Table.{decode, sourceOf};
 ghost use Rattle.model.specs.Refusal.{otherClass, otherClassAt, classTaken, writerFits, sourceFits, sourceBroken};
-ghost use Rattle.model.specs.Refusal.{sameRank, sameRankAt, rankTaken, tableFault, faulty};
+ghost use Rattle.model.specs.Refusal.{sameRank, sameRankAt, rankTaken, apart, apartAt, instanceBroken, tableFault, faulty};
 use crate::pick;
 use model::Places;
 use model::Row;
@@ -107,19 +107,51 @@ pub fn rank_taken(rows: &[u8], p: Places, i: u16) -> bool
     kinds::is_ranked(bytes::read_row(rows, i)) & any_same_rank(rows, p, i)
 }
 
+// ---- 14
+
+// q is of r's instance, and the two differ in execution scope, have one agent, or don't share that scope.
+pub fn is_apart(p: Places, r: Row, q: Row) -> bool
+    ensures { λ b. ⌜ b ≡ apart p r q ⌝ }
+{
+    kinds::same_instance(r, q)
+        & !((r.class == q.class)
+            & !(r.agent == q.agent)
+            & scopes::shares_scope(p, r.class, r.agent, q.agent))
+}
+
+pub fn apart_at(rows: &[u8], p: Places, i: u16, j: u16) -> bool
+    ensures { λ b. ⌜ b ≡ apartAt (decode (now (rows .entry)) p 0) i j ⌝ }
+{
+    let r = bytes::read_row(rows, i);
+    let q = bytes::read_row(rows, j);
+    is_apart(p, r, q)
+}
+
+pub fn instance_broken(rows: &[u8], p: Places, i: u16) -> bool
+    ensures { λ b. ⌜ b ≡ instanceBroken (decode (now (rows .entry)) p 0) i ⌝ }
+{
+    for j in 0..i {
+        if apart_at(rows, p, i, j) {
+            return true;
+        }
+    }
+    false
+}
+
 // ---- in their order
 
-// Refusals 8 to 10 of row i, or 0.
+// Refusals 8 to 10 and 14 of row i, or 0.
 // Ruled out: of two rows of one rank the earlier is refused; a row passes that reads from itself.
 pub fn table_fault(rows: &[u8], p: Places, n: u16, blanks: bool, i: u16) -> u8
     ensures { λ r. ⌜ r ≡ tableFault blanks (decode (now (rows .entry)) p n) (sourceOf (now (rows .entry))) i ⌝ }
 {
-    let rank = pick(rank_taken(rows, p, i), 10, 0);
+    let instance = pick(instance_broken(rows, p, i), 14, 0);
+    let rank = pick(rank_taken(rows, p, i), 10, instance);
     let source = pick(source_broken(rows, n, blanks, i), 9, rank);
     pick(class_taken(rows, i), 8, source)
 }
 
-// The first of n rows that has a refusal 8 to 10; n where none has.
+// The first of n rows that has a refusal 8 to 10 or 14; n where none has.
 // Ruled out: row 5's refusal 8 is given before row 2's refusal 10; row 0 is not tried.
 pub fn first_table_fault(rows: &[u8], p: Places, n: u16, blanks: bool) -> u16
     ensures { λ i. ⌜ i ≡ least n (faulty (tableFault blanks (decode (now (rows .entry)) p n) (sourceOf (now (rows .entry))))) ⌝ }

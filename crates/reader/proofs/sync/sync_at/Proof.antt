@@ -1,5 +1,5 @@
 use mathlib.Core.Path.{refl}
-use Rattle.finite.specs.Logic.{_and_}
+use Rattle.finite.specs.Logic.{_and_, _or_}
 use Rattle.sequence.specs.Forms.{sync-off}
 use Rattle.reader.specs.Syncing.{sync-atomics, sync-from, sync-to, sync-over}
 use borrow.Author.Needs.{needs}
@@ -17,6 +17,7 @@ use Rattle.rows.proofs.kinds.is_atomic.Reads as is-atomic-reads
 use Rattle.rows.proofs.kinds.is_barrier.Reads as is-barrier-reads
 use Rattle.rows.proofs.kinds.releases.Reads as releases-reads
 use Rattle.rows.proofs.scopes.together.Reads as together-reads
+use Rattle.sequence.proofs.control.is_passed.Reads as is-passed-reads
 
 -- src/sync.rt:105:35
 cast-read-row : tie.Need-cast-read-row
@@ -114,15 +115,19 @@ returns-4 c =
 is-carried-over-requires : tie.Need-is-carried-over-requires
 is-carried-over-requires c κs = search needs
 
+-- src/sync.rt:126:57
+is-passed-requires : tie.Need-is-passed-requires
+is-passed-requires c κs = search needs
+
 -- src/sync.rt:101:1
 returns-5 : tie.Need-returns-5
-unfolding _and_
+unfolding _and_ _or_
 returns-5 c =
-    let near = c .before .before .before in
+    let near = c .before .before .before .before in
     let told = near .before .before .before .before in
     let tested = told .before .before in
     let read = tested .before .before .before in
-    sync-over _ _ _ _ _ _ _ (read .before .read-row .ensures) (read .read-row2 .ensures) _ _ _ _ _ _ _ (tested .before .before .releases .ensures) (tested .before .acquires .ensures) (told .before .is-atomic .ensures) (told .is-atomic2 .ensures) (near .before .before .is-barrier .ensures) (near .before .is-barrier2 .ensures) (near .together .ensures) (tested .if1 .left) _ (near .before .before .before .if2 .left) (c .before .before .if3 .left) (c .before .if4 .left) (c .is-carried-over .ensures)
+    sync-over _ _ _ _ _ _ _ (read .before .read-row .ensures) (read .read-row2 .ensures) _ _ _ _ _ _ _ (tested .before .before .releases .ensures) (tested .before .acquires .ensures) (told .before .is-atomic .ensures) (told .is-atomic2 .ensures) (near .before .before .is-barrier .ensures) (near .before .is-barrier2 .ensures) (near .together .ensures) (tested .if1 .left) _ _ (near .before .before .before .if2 .left) (c .before .before .before .if3 .left) (c .before .before .if4 .left) (c .before .is-carried-over .ensures) (c .is-passed .ensures)
 
 pub sync-at-spec : {M : Type 1} → statement M
 sync-at-spec =
@@ -147,4 +152,5 @@ sync-at-spec =
     is-carried-in-requires
     returns-4
     is-carried-over-requires
+    is-passed-requires
     returns-5)

@@ -1,4 +1,5 @@
 use mathlib.Core.Path.{refl}
+use Rattle.finite.specs.Logic.{_or_}
 use Rattle.model.specs.Row.{barrier}
 use Rattle.rows.proofs.kinds.is_barrier.Statement.{statement}
 use Rattle.rows.proofs.kinds.is_barrier.Tie as tie
@@ -7,7 +8,7 @@ use Rattle.rows.proofs.kinds.is_barrier.Lts as lts
 
 -- src/kinds.rt:38:1
 returns : tie.Need-returns
-unfolding barrier
+unfolding barrier _or_
 returns c = refl
 
 pub is-barrier-spec : {M : Type 1} → statement M

@@ -10,6 +10,7 @@ use Rattle.rows.proofs.kinds.acquires.Reads as acquires-reads
 use Rattle.rows.proofs.kinds.releases.Reads as releases-reads
 use Rattle.sequence.proofs.sync.sync_atomics.Reads as sync-atomics-reads
 use Rattle.sequence.proofs.sync.sync_barriers.Reads as sync-barriers-reads
+use Rattle.sequence.proofs.sync.sync_control.Reads as sync-control-reads
 use Rattle.sequence.proofs.sync.sync_from_barrier.Reads as sync-from-barrier-reads
 use Rattle.sequence.proofs.sync.sync_to_barrier.Reads as sync-to-barrier-reads
 
@@ -60,13 +61,17 @@ sync-to-barrier-requires c κs = search needs
 sync-barriers-requires : tie.Need-sync-barriers-requires
 sync-barriers-requires c κs = search needs
 
+-- src/sync.rt:103:11
+sync-control-requires : tie.Need-sync-control-requires
+sync-control-requires c κs = search needs
+
 -- src/sync.rt:72:1
 returns-2 : tie.Need-returns-2
 unfolding _and_ _or_
 returns-2 c =
-    let tested = c .before .before .before .before in
+    let tested = c .before .before .before .before .before in
     let read = tested .before .before .before in
-    sync-on _ _ _ _ _ _ _ _ _ _ _ _ _ (read .before .read-row .ensures) (read .read-row2 .ensures) (tested .before .before .releases .ensures) (tested .before .acquires .ensures) (tested .if1 .left) (c .before .before .before .sync-atomics .ensures) (c .before .before .sync-from-barrier .ensures) (c .before .sync-to-barrier .ensures) (c .sync-barriers .ensures)
+    sync-on _ _ _ _ _ _ _ _ _ _ _ _ _ _ (read .before .read-row .ensures) (read .read-row2 .ensures) (tested .before .before .releases .ensures) (tested .before .acquires .ensures) (tested .if1 .left) (c .before .before .before .before .sync-atomics .ensures) (c .before .before .before .sync-from-barrier .ensures) (c .before .before .sync-to-barrier .ensures) (c .before .sync-barriers .ensures) (c .sync-control .ensures)
 
 pub sync-at-spec : {M : Type 1} → statement M
 sync-at-spec =
@@ -83,4 +88,5 @@ sync-at-spec =
     sync-from-barrier-requires
     sync-to-barrier-requires
     sync-barriers-requires
+    sync-control-requires
     returns-2)

@@ -17,11 +17,11 @@ use Rattle.model.specs.declared.Admission.the-variants.{Admitted, Refuse
 use Rattle.model.specs.Limits.{AGENTS, ROWS, LONGEST, BYTES}
 use Rattle.model.specs.Row.{RMW, BARRIER, CONTROL, access, barrier}
 use Rattle.model.specs.Table.{Table, HEADER, agentsAt, rowsAt, sizeOf, rowBytes, rowOf, sourceOf, tableOf, sourcesOf, decode}
-use Rattle.model.specs.Refusal.{headerFault, versionFits, limitsFit, lengthFits, codesFit, kindFits, barrierFits, extentFits, rowFault, classTaken, sourceBroken, rankTaken, instanceBroken, tableFault, faulty, firstFault, rowFaultAt, admission}
+use Rattle.model.specs.Refusal.{headerFault, versionFits, limitsFit, lengthFits, codesFit, kindFits, barrierFits, extentFits, rowFault, classTaken, sourceBroken, rankTaken, instanceBroken, unfit, tableFault, faulty, firstFault, rowFaultAt, admission}
 
 -- ---- definitions
 
--- no refusal from 1 to 10, nor 14, holds
+-- no refusal from 1 to 10, nor 14 or 15, holds
 pub record Sound (blanks : Bool) (s : List ℕ) : Type 0 where
   pub header : headerFault s ≡ 0
   pub row : (i : ℕ) → i < rowsAt s → rowFaultAt s i ≡ 0
@@ -112,13 +112,14 @@ row-passed true true false e = absurd (omega arith)
 row-passed true false c e = absurd (omega arith)
 row-passed false b c e = absurd (omega arith)
 
-table-passed : (a b c d : Bool) → _≡_ {A = ℕ} (cond a 8 (cond b 9 (cond c 10 (cond d 14 0)))) 0
-    → (a ≡ false) × (b ≡ false) × (c ≡ false) × (d ≡ false)
-table-passed true b c d e = absurd (omega arith)
-table-passed false true c d e = absurd (omega arith)
-table-passed false false true d e = absurd (omega arith)
-table-passed false false false true e = absurd (omega arith)
-table-passed false false false false e = (refl, refl, refl, refl)
+table-passed : (a b c d e : Bool) → _≡_ {A = ℕ} (cond a 8 (cond b 9 (cond c 10 (cond d 14 (cond e 15 0))))) 0
+    → (a ≡ false) × (b ≡ false) × (c ≡ false) × (d ≡ false) × (e ≡ false)
+table-passed true b c d e q = absurd (omega arith)
+table-passed false true c d e q = absurd (omega arith)
+table-passed false false true d e q = absurd (omega arith)
+table-passed false false false true e q = absurd (omega arith)
+table-passed false false false false true q = absurd (omega arith)
+table-passed false false false false false q = (refl, refl, refl, refl, refl)
 
 module _ {blanks : Bool} {s : List ℕ} (h : Sound blanks s) where
   limits : (limitsFit s ≡ true) × (lengthFits s ≡ true)
@@ -146,13 +147,13 @@ module _ {blanks : Bool} {s : List ℕ} (h : Sound blanks s) where
     unfolding rowFaultAt rowFault
     row-right = row-passed (codesFit (agentsAt s) r) (kindFits r (sourceOf (rowBytes s) i)) (extentFits r) (h .row i l)
 
-    -- 8, 9, 10, 14
+    -- 8, 9, 10, 14, 15
     pub among-right : (classTaken (tableOf s) i ≡ false) × (sourceBroken blanks (tableOf s) (sourcesOf s) i ≡ false) × (rankTaken (tableOf s) i ≡ false)
-        × (instanceBroken (tableOf s) i ≡ false)
+        × (instanceBroken (tableOf s) i ≡ false) × (unfit (tableOf s) i ≡ false)
     unfolding tableFault
     among-right =
         table-passed (classTaken (tableOf s) i) (sourceBroken blanks (tableOf s) (sourcesOf s) i) (rankTaken (tableOf s) i) (instanceBroken (tableOf s) i)
-        (h .among i l)
+        (unfit (tableOf s) i) (h .among i l)
 
     -- an access has 1 to LONGEST bytes; a barrier has none
     pub access-size : access r ≡ true → (1 ≤ r .size) × (r .size ≤ LONGEST)

@@ -20,6 +20,7 @@ use Rattle.model.specs.Scope.{mutualRows, mutually, later, laterWriter, 
 use Rattle.model.specs.Location.{common, before}
 use Rattle.model.specs.Race.{nth}
 use Rattle.model.specs.Edge.{beforeNth, beforeSome, readsFrom, fromReads, edge, overwrites}
+use Rattle.model.specs.WriterLaws.{Rivals, Ordered}
 use Rattle.model.specs.Refusal.{writerFits, sameRank, sameRankAt, rankTaken}
 use Rattle.model.specs.Fill.{missesAt, writtenBy, written, hidesAt, between, candidate, choice}
 use Rattle.model.specs.Words.{Races, Cyclic, Overwritten, Consistent}
@@ -38,6 +39,7 @@ pub record Fair (t : Table) : Type 0 where
   pub sized : Sized t
   pub nonempty : (i : ℕ) → i < t .rows → access (t .row i) ≡ true → 1 ≤ t .row i .size
   pub ranks : (i : ℕ) → i < t .rows → rankTaken t i ≡ false
+  pub order : Ordered t
 
 -- ---- kinds
 
@@ -159,23 +161,31 @@ module _ (t : Table) (fair : Fair t) (free : NoRace t) where
   unfolding mutually
   mutually-ne x y u = eqb-false x y (not-out _ (split u .0))
 
-  follows-in : (x y : ℕ) → mutually t x y ≡ true → writes (t .row x) ≡ true → writes (t .row y) ≡ true → t .row x .rank < t .row y .rank → follows t x y ≡ true
-  unfolding follows laterWriter later
-  follows-in x y m wx wy l = and-true m (and-true (and-true wy wx) (lt-ltb _ _ l))
+  follows-in : (x y : ℕ) → mutually t x y ≡ true → writes (t .row x) ≡ true → writes (t .row y) ≡ true → later (t .counted) (t .row y .rank) (t .row x .rank) ≡ true → follows t x y ≡ true
+  unfolding follows laterWriter
+  follows-in x y m wx wy l = and-true m (and-true (and-true wy wx) l)
+
+  rivals : (x y : ℕ) → x < t .rows → y < t .rows → mutually t x y ≡ true → writes (t .row x) ≡ true → writes (t .row y) ≡ true → Rivals t x y
+  unfolding mutually mutualRows
+  rivals x y l m u wx wy =
+      let q = split (split (split u .1) .0) in
+      let c = split (q .0) in
+      (l, m, atomic-ranked (t .row x) (c .0) wx, atomic-ranked (t .row y) (c .1) wy, q .1)
 
   pub follows-total : (x y : ℕ) → x < t .rows → y < t .rows → mutually t x y ≡ true → writes (t .row x) ≡ true → writes (t .row y) ≡ true
       → (follows t x y ≡ true) ⊎ (follows t y x ≡ true)
-  follows-total x y l m u wx wy = go (decLt (t .row x .rank) (t .row y .rank)) (decLt (t .row y .rank) (t .row x .rank))
+  follows-total x y l m u wx wy = go (ℕ-discrete (t .row x .rank) (t .row y .rank))
     where
       apart : t .row x .rank ≡ t .row y .rank → Dec (x < y) → Dec (y < x) → ⊥
       apart e (yes a) d = ranked-apart x y a m u wx wy e
       apart e (no a) (yes b) = ranked-apart y x b l (mutually-sym t x y u) wy wx (sym e)
       apart e (no a) (no b) = mutually-ne x y u (omega arith)
 
-      go : Dec (t .row x .rank < t .row y .rank) → Dec (t .row y .rank < t .row x .rank) → (follows t x y ≡ true) ⊎ (follows t y x ≡ true)
-      go (yes a) d = inl (follows-in x y u wx wy a)
-      go (no a) (yes b) = inr (follows-in y x (mutually-sym t x y u) wy wx b)
-      go (no a) (no b) = absurd (apart (omega arith) (decLt x y) (decLt y x))
+      go : Dec (t .row x .rank ≡ t .row y .rank) → (follows t x y ≡ true) ⊎ (follows t y x ≡ true)
+      go (yes e) = absurd (apart e (decLt x y) (decLt y x))
+      go (no n) =
+          ⊎-elim (λ h. inl (follows-in x y u wx wy (h .0))) (λ h. inr (follows-in y x (mutually-sym t x y u) wy wx (h .1)))
+          (fair .order .one x y (rivals x y l m u wx wy) n)
 
   -- ---- a blank y
 

@@ -22,7 +22,7 @@ use Rattle.model.specs.Refusal.{versionFits, limitsFit, lengthFits, head
 use Rattle.model.specs.Fill.{blank, chosen}
 use Rattle.model.specs.Words.{blankAt, sourceBegin, Filling}
 use Rattle.model.specs.AdmissionLaws.{Sound, length-is, rows-fit, among-right}
-use Rattle.model.specs.FillingLaws.{head-kept, agents-kept, rows-kept, row-kept, source-kept, table-kept, bytes-at, pair-is}
+use Rattle.model.specs.FillingLaws.{head-kept, agents-kept, rows-kept, row-kept, source-kept, table-kept, bytes-at, bytes-past, pair-is}
 
 -- ---- definitions
 
@@ -41,6 +41,22 @@ filledByte s source k =
 
 unfoldable pub filledBytes : List ℕ → (ℕ → ℕ) → List ℕ
 filledBytes s source = tabulate (filledByte s source) (length s)
+
+-- ---- ranks are numbers of 16 bits
+
+pub rank-small : (s : List ℕ) → Bytes s → (i : ℕ) → rowOf (rowBytes s) i .rank < 65536
+unfolding rowOf
+rank-small s bytes i =
+    let a : byteOf (rowBytes s) i 14 < 256 = small 14 (omega arith) in
+    let b : byteOf (rowBytes s) i 15 < 256 = small 15 (omega arith) in
+    subst (λ (z : ℕ). z < 65536) (sym (pair-is (rowBytes s) i 14)) (omega arith)
+  where
+    small : (k : ℕ) → k < ROW-BYTES → byteOf (rowBytes s) i k < 256
+    small k h = go (decLt i (rowsAt s))
+      where
+        go : Dec (i < rowsAt s) → byteOf (rowBytes s) i k < 256
+        go (yes l) = subst (λ (z : ℕ). z < 256) (sym (bytes-at s s i k refl refl l h)) (bytes _)
+        go (no l) = let e = bytes-past s i k (omega arith) in omega arith
 
 -- ---- two fillings with the same sources are one
 
@@ -156,7 +172,7 @@ module _ {s f : List ℕ} (fl : Filling s f) where
       record {
         header = header-kept ∙ h .header;
         row = λ i l. row-fault-kept i ∙ h .row i (below l);
-        among = λ i l. rw (table-kept fl) (let c = among-right h i (below l) in rw (c .0, a i (below l), c .2, c .3) refl);
+        among = λ i l. rw (table-kept fl) (let c = among-right h i (below l) in rw (c .0, a i (below l), c .2, c .3, c .4) refl);
       }
     where
       below : {i : ℕ} → i < rowsAt f → i < rowsAt s

@@ -16,7 +16,7 @@ use Rattle.finite.specs.Lists.{tabulate, tabulate-cong}
 use Rattle.model.specs.declared.Row.{Row}
 use Rattle.model.specs.Limits.{AGENTS, INITIAL, BLANK}
 use Rattle.model.specs.Row.{PLAIN-READ, ATOMIC-READ, atomic, plainRead}
-use Rattle.model.specs.Table.{Table, HEADER, PLACE-BYTES, ROW-BYTES, pairAt, agentsAt, rowsAt, placeAt, slotAt, placesOf, rowsBegin, rowBytes, byteOf, pairOf, rowOf, sourceOf, atomicSource, decode, tableOf, sourcesOf}
+use Rattle.model.specs.Table.{Table, HEADER, PLACE-BYTES, ROW-BYTES, pairAt, agentsAt, rowsAt, placeAt, slotAt, placesOf, COUNTED, versionAt, modeOf, rowsBegin, rowBytes, byteOf, pairOf, rowOf, sourceOf, atomicSource, decode, tableOf, sourcesOf}
 use Rattle.model.specs.Location.{before}
 use Rattle.model.specs.Race.{conflict, races, unordered}
 use Rattle.model.specs.Fill.{blank}
@@ -110,6 +110,13 @@ module _ {s f : List ℕ} (fl : Filling s f) where
       go (yes l) = rw (place-kept a l) refl
       go (no l) = simp (le-ltb a (agentsAt s) (omega arith))
 
+  version-kept : versionAt f ≡ versionAt s
+  unfolding versionAt rowsBegin
+  version-kept = head-kept 4 (omega arith)
+
+  counted-kept : leb COUNTED (versionAt f) ≡ leb COUNTED (versionAt s)
+  counted-kept = ap (λ (v : ℕ). leb COUNTED v) version-kept
+
   pub places-kept : placesOf f ≡ placesOf s
   unfolding placesOf
   places-kept = tabulate-cong (slotAt f) (slotAt s) AGENTS (λ a l. slot-kept a)
@@ -171,12 +178,14 @@ module _ {s f : List ℕ} (fl : Filling s f) where
 
   -- A FILLING CHANGES NOTHING THAT THE RULES OF ORDER READ
   pub table-kept : tableOf f ≡ tableOf s
-  unfolding tableOf decode
+  unfolding tableOf decode modeOf
   table-kept =
       λ d.
       record {
         rows = rows-kept d;
         places = places-kept d;
+        counted = counted-kept d;
+        chains = false;
         row = fun-ext {f = rowOf (rowBytes f)} {g = rowOf (rowBytes s)} row-kept d;
         source = fun-ext {f = atomicSource (rowBytes f)} {g = atomicSource (rowBytes s)} atomic-kept d;
       }

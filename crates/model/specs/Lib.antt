@@ -20,6 +20,9 @@ pub mod AdmissionLaws
 pub mod RaceLaws
 pub mod AxiomLaws
 pub mod PairLaws
+pub mod RankLaws
+pub mod RunLaws
+pub mod WriterLaws
 pub mod ChoiceLaws
 pub mod FilledLaws
 pub mod SourceLaws

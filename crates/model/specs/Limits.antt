@@ -44,6 +44,13 @@ ATOMIC-SHORT = 4
 abbrev pub ATOMIC-LONG : ℕ
 ATOMIC-LONG = 8
 
+-- ranks are counts of 16 bits; a run of consecutive counts has half of them
+abbrev pub COUNTS : ℕ
+COUNTS = 65536
+
+abbrev pub RUN : ℕ
+RUN = 32768
+
 -- the initial value, and a blank (document 01's own term: a source that a fill is to find)
 abbrev pub INITIAL : ℕ
 INITIAL = 65535

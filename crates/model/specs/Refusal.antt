@@ -1,4 +1,4 @@
--- The refusals 1 to 11 and 14, in their order. `blanks` says whether a blank is allowed: in a fill, not in a check.
+-- The refusals 1 to 11, 14 and 15, in their order. `blanks` says whether a blank is allowed: in a fill, not in a check.
 use mathlib.Core.Bool.{Bool, true, false, not, cond, Bool·beq}
 use mathlib.Core.List.{List}
 use Prim.Native.Nat.{ℕ, _+_, _%_}
@@ -9,10 +9,10 @@ use Rattle.finite.specs.Below.{anyBelow, least}
 use Rattle.model.specs.declared.Row.{Row}
 use Rattle.model.specs.declared.Admission.{Admission}
 use Rattle.model.specs.declared.Admission.the-variants.{Admitted, Refused}
-use Rattle.model.specs.Limits.{AGENTS, ROWS, WORK, LONGEST, BYTES, ATOMIC-SHORT, ATOMIC-LONG, INITIAL, BLANK}
+use Rattle.model.specs.Limits.{AGENTS, ROWS, WORK, LONGEST, BYTES, ATOMIC-SHORT, ATOMIC-LONG, RUN, INITIAL, BLANK}
 use Rattle.model.specs.Row.{CONTROL, ATOMIC-READ, ATOMIC-WRITE, RELAXED, ACQUIRE, RELEASE, BOTH, plain, atomic, access, barrier, control, executionOf, sameInstance, plainRead, reads, writes, ranked, acquires, releases, nonPrivate, makesAvailable, makesVisible, covers}
-use Rattle.model.specs.Table.{Table, HEADER, countAt, versionAt, agentsAt, rowsAt, zeroAt, sizeOf, rowBytes, rowOf, sourceOf, placesOf, tableOf, sourcesOf}
-use Rattle.model.specs.Scope.{INVOCATION, DEVICE, shares, mutualRows, mutually}
+use Rattle.model.specs.Table.{Table, HEADER, FIRST, COUNTED, countAt, versionAt, agentsAt, rowsAt, zeroAt, sizeOf, rowBytes, rowOf, sourceOf, placesOf, tableOf, sourcesOf}
+use Rattle.model.specs.Scope.{INVOCATION, DEVICE, shares, sameLocation, mutualRows, mutually, age}
 
 -- ---- 11: the lent buffers, by their lengths; `needs` is what the second one must hold
 
@@ -21,11 +21,9 @@ buffersFit needs work buffer = leb WORK work and leb needs buffer
 
 -- ---- 1 to 4: the header
 
-abbrev pub VERSION : ℕ
-VERSION = 1
-
+-- versions FIRST to COUNTED
 unfoldable pub versionFits : List ℕ → Bool
-versionFits s = eqb (versionAt s) VERSION and eqb (zeroAt s) 0
+versionFits s = leb FIRST (versionAt s) and leb (versionAt s) COUNTED and eqb (zeroAt s) 0
 
 unfoldable pub limitsFit : List ℕ → Bool
 limitsFit s = leb (agentsAt s) AGENTS and leb (rowsAt s) ROWS
@@ -99,7 +97,7 @@ extentFits r =
 unfoldable pub rowFault : ℕ → Row → ℕ → ℕ
 rowFault agents r source = cond (codesFit agents r) (cond (kindFits r source) (cond (extentFits r) 0 7) 6) 5
 
--- ---- 8 to 10 and 14: a row among the others
+-- ---- 8 to 10, 14 and 15: a row among the others
 
 -- 8: the earlier access q has r's reference and another class
 unfoldable pub otherClass : Row → Row → Bool
@@ -143,9 +141,28 @@ apartAt t i j = apart (t .places) (t .row i) (t .row j)
 unfoldable pub instanceBroken : Table → ℕ → Bool
 instanceBroken t i = anyBelow i (apartAt t i)
 
+-- 15: q is a writer of r's location that has a rank
+unfoldable pub rival : Row → Row → Bool
+rival r q = ranked q and sameLocation r q
+
+-- row j is a rival of row i, and no count of the run that begins with row m's
+unfoldable pub outside : Row → Row → Row → Bool
+outside r m q = rival r q and not (ltb (age (q .rank) (m .rank)) RUN)
+
+unfoldable pub outsideAt : Table → ℕ → ℕ → ℕ → Bool
+outsideAt t i m j = outside (t .row i) (t .row m) (t .row j)
+
+-- row m is a rival of row i, and the run that begins with it has all those up to row i
+unfoldable pub begins : Table → ℕ → ℕ → Bool
+begins t i m = rival (t .row i) (t .row m) and not (anyBelow i (outsideAt t i m) or outsideAt t i m i)
+
+-- no run of consecutive counts has all of them: none that begins with one of them does (law `unfit-is`)
+unfoldable pub unfit : Table → ℕ → Bool
+unfit t i = t .counted and ranked (t .row i) and not (anyBelow i (begins t i) or begins t i i)
+
 unfoldable pub tableFault : Bool → Table → (ℕ → ℕ) → ℕ → ℕ
 tableFault blanks t source i =
-    cond (classTaken t i) 8 (cond (sourceBroken blanks t source i) 9 (cond (rankTaken t i) 10 (cond (instanceBroken t i) 14 0)))
+    cond (classTaken t i) 8 (cond (sourceBroken blanks t source i) 9 (cond (rankTaken t i) 10 (cond (instanceBroken t i) 14 (cond (unfit t i) 15 0))))
 
 -- ---- in their order
 
@@ -160,7 +177,7 @@ firstFault f n next = let i = least n (faulty f) in cond (ltb i n) (Refused (f i
 unfoldable pub rowFaultAt : List ℕ → ℕ → ℕ
 rowFaultAt s i = rowFault (agentsAt s) (rowOf (rowBytes s) i) (sourceOf (rowBytes s) i)
 
--- refusals 1 to 10 and 14: the header's at row 0, then rows ascending through 5 to 7, then rows ascending through 8 to 10 and 14
+-- refusals 1 to 10, 14 and 15: the header's at row 0, then rows ascending through 5 to 7, then rows ascending through 8 to 10, 14 and 15
 unfoldable pub admission : Bool → List ℕ → Admission
 admission blanks s =
     cond (eqb (headerFault s) 0)

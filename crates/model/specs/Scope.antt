@@ -1,11 +1,12 @@
 -- M2 and M3: scopes, mutually-ordered atomics, scoped modification order.
-use mathlib.Core.Bool.{Bool, true, false, not}
+use mathlib.Core.Bool.{Bool, true, false, not, cond}
 use mathlib.Core.List.{List, []}
-use Prim.Native.Nat.{ℕ}
+use Prim.Native.Nat.{ℕ, _+_, _-_, _%_}
 use lib.ListN.{getD}
-use lib.Dec.{ltb, eqb}
+use lib.Dec.{ltb, leb, eqb}
 use Rattle.finite.specs.Logic.{_and_, _or_}
 use Rattle.model.specs.declared.Row.{Row}
+use Rattle.model.specs.Limits.{COUNTS, RUN}
 use Rattle.model.specs.Row.{atomic, writes}
 use Rattle.model.specs.Table.{Table}
 
@@ -56,13 +57,18 @@ mutualRows p r q = atomic r and atomic q and sameLocation r q and together p r q
 unfoldable pub mutually : Table → ℕ → ℕ → Bool
 mutually t x y = not (eqb x y) and mutualRows (t .places) (t .row x) (t .row y)
 
--- of two ranks, a is the later; nothing else compares ranks but for being equal
-unfoldable pub later : ℕ → ℕ → Bool
-later a b = ltb b a
+-- how many counts rank a lies after rank b, wrapping
+unfoldable pub age : ℕ → ℕ → ℕ
+age a b = (a + COUNTS - b) % COUNTS
 
-unfoldable pub laterWriter : Row → Row → Bool
-laterWriter q r = writes q and writes r and later (q .rank) (r .rank)
+-- of two ranks, a is the later: as numbers, or, where ranks are counted, by an age of 1 to 32767. Nothing else compares ranks, but
+-- for being equal and for fitting in a run
+unfoldable pub later : Bool → ℕ → ℕ → Bool
+later counted a b = cond counted (leb 1 (age a b) and ltb (age a b) RUN) (ltb b a)
+
+unfoldable pub laterWriter : Bool → Row → Row → Bool
+laterWriter counted q r = writes q and writes r and later counted (q .rank) (r .rank)
 
 -- M3: y follows x in their scoped modification order
 unfoldable pub follows : Table → ℕ → ℕ → Bool
-follows t x y = mutually t x y and laterWriter (t .row y) (t .row x)
+follows t x y = mutually t x y and laterWriter (t .counted) (t .row y) (t .row x)

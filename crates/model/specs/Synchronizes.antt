@@ -18,7 +18,7 @@ continues r = rmw r
 
 -- z, no later than w in the scoped order of the head a, ends a's sequence
 unfoldable pub ends : Table → ℕ → ℕ → ℕ → Bool
-ends t a w z = follows t a z and not (later (t .row z .rank) (t .row w .rank)) and not (continues (t .row z))
+ends t a w z = follows t a z and not (later (t .counted) (t .row z .rank) (t .row w .rank)) and not (continues (t .row z))
 
 -- M4: w is in the release sequence that a heads
 unfoldable pub sequence : Table → ℕ → ℕ → Bool

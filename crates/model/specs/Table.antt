@@ -3,9 +3,10 @@ use mathlib.Core.Bool.{Bool, true, false, cond}
 use mathlib.Core.List.{List, [], _∷_}
 use Prim.Native.Nat.{ℕ, _+_, _*_}
 use lib.ListN.{getD, take, drop}
-use lib.Dec.{ltb}
+use lib.Dec.{ltb, leb}
 use Rattle.finite.specs.Lists.{tabulate}
 use Rattle.model.specs.declared.Row.{Row}
+use Rattle.model.specs.declared.Mode.{Mode}
 use Rattle.model.specs.Limits.{AGENTS, INITIAL}
 use Rattle.model.specs.Row.{atomic}
 
@@ -16,6 +17,10 @@ pub record Table : Type 0 where
   pub rows : ℕ
   -- each agent's family, workgroup and subgroup numbers (an agent's place: document 01's own term)
   pub places : List (List ℕ)
+  -- ranks are counted: see `later` in Scope.antt
+  pub counted : Bool
+  -- the device reports vulkanMemoryModelAvailabilityVisibilityChains
+  pub chains : Bool
   pub row : ℕ → Row
   pub source : ℕ → ℕ
 
@@ -31,6 +36,13 @@ quadAt s k = pairAt s k * 65536 + pairAt s (k + 2)
 
 abbrev pub HEADER : ℕ
 HEADER = 8
+
+-- the first version, and the first with counted ranks
+abbrev pub FIRST : ℕ
+FIRST = 1
+
+abbrev pub COUNTED : ℕ
+COUNTED = 2
 
 abbrev pub PLACE-BYTES : ℕ
 PLACE-BYTES = 6
@@ -64,6 +76,10 @@ slotAt s a = cond (ltb a (agentsAt s)) (placeAt s a) (0 ∷ 0 ∷ 0 ∷ [])
 
 unfoldable pub placesOf : List ℕ → List (List ℕ)
 placesOf s = tabulate (slotAt s) AGENTS
+
+-- what the rules of order go by beside rows and places; `chains` is an input like the table
+unfoldable pub modeOf : Bool → List ℕ → Mode
+modeOf chains s = record { counted = leb COUNTED (versionAt s); chains = chains }
 
 -- where the rows begin, and how long a table of so many agents and rows is
 unfoldable pub rowsBegin : ℕ → ℕ
@@ -108,13 +124,13 @@ atomicSource b i = cond (atomic (rowOf b i)) (sourceOf b i) INITIAL
 
 -- ---- decoding
 
--- the table of n rows in the bytes b, with the places p
-unfoldable pub decode : List ℕ → List (List ℕ) → ℕ → Table
-decode b p n = record { rows = n; places = p; row = rowOf b; source = atomicSource b }
+-- the table of n rows in the bytes b, with the places p, in the mode g
+unfoldable pub decode : List ℕ → List (List ℕ) → Mode → ℕ → Table
+decode b p g n = record { rows = n; places = p; counted = g .counted; chains = g .chains; row = rowOf b; source = atomicSource b }
 
 -- the table in all of its bytes, and all of its sources
 unfoldable pub tableOf : List ℕ → Table
-tableOf s = decode (rowBytes s) (placesOf s) (rowsAt s)
+tableOf s = decode (rowBytes s) (placesOf s) (modeOf false s) (rowsAt s)
 
 unfoldable pub sourcesOf : List ℕ → ℕ → ℕ
 sourcesOf s = sourceOf (rowBytes s)

@@ -31,6 +31,13 @@ pub const CASE: u16 = 512;
 // The family, workgroup and subgroup numbers of each agent.
 pub type Places = [[u16; 3]; 32];
 
+// What the rules of order go by beside rows and places: whether ranks are counted, and whether the device reports the feature
+// vulkanMemoryModelAvailabilityVisibilityChains.
+pub struct Mode {
+    pub counted: bool,
+    pub chains: bool,
+}
+
 // A row without its source: what the order of rows goes by, the sources of atomic rows aside.
 pub struct Row {
     pub kind: u8,

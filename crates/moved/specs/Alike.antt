@@ -17,6 +17,7 @@ use Rattle.moved.specs.Renumber.{Renumbering, moment-to, opened, row-of,
 pub record Alike (t u : Table) (π : Renumbering (t .rows)) : Type 0 where
   pub rows : u .rows ≡ t .rows
   pub places : u .places ≡ t .places
+  pub counted : u .counted ≡ t .counted
   pub row : (x : ℕ) → u .row (π .to x) ≡ t .row x
   pub source : (x : ℕ) → u .source (π .to x) ≡ π .to (t .source x)
   pub kept : (x y : ℕ) → x < y → t .row x .agent ≡ t .row y .agent → π .to x < π .to y

@@ -1,20 +1,23 @@
 -- A table whose bytes are moved is alike: the only page of the proof that knows where a byte stands. Assumes nothing.
-use mathlib.Core.Path.{_≡_, refl, sym, ap₂, _∙_}
+use mathlib.Core.Path.{_≡_, refl, sym, ap, ap₂, _∙_}
 use mathlib.Core.Bool.{Bool, true, false, cond}
 use mathlib.Core.List.{List, [], _∷_}
 use mathlib.Core.Logic.{_⊎_, inl, inr, ⊎-elim}
 use Prim.Native.Nat.{ℕ, _+_, _*_, _≤_, _<_}
 use native.Mathlib.Omega.{arith}
 use native.Mathlib.Decide.{decLt}
-use lib.Dec.{ltb}
+use lib.Dec.{ltb, leb}
 use borrow.Author.Tests.{le-ltb}
 use Rattle.finite.specs.Logic.{_and_}
 use Rattle.finite.specs.Lists.{tabulate-cong}
 use Rattle.model.specs.Limits.{AGENTS, INITIAL, ROWS}
 use Rattle.model.specs.Row.{atomic}
-use Rattle.model.specs.Table.{HEADER, PLACE-BYTES, ROW-BYTES, pairAt, agentsAt, rowsAt, placeAt, slotAt, placesOf, rowsBegin, rowBytes, byteOf, pairOf, rowOf, sourceOf, atomicSource, decode, tableOf, sourcesOf}
+use Rattle.model.specs.Table.{HEADER, PLACE-BYTES, ROW-BYTES, COUNTED, pairAt, versionAt, agentsAt, rowsAt, placeAt, slotAt, placesOf, modeOf, rowsBegin, rowBytes, byteOf, pairOf, rowOf, sourceOf, atomicSource, decode, tableOf, sourcesOf}
 use Rattle.model.specs.AdmissionLaws.{Sound, rows-fit, size-fits, access-size, among-right}
 use Rattle.model.specs.FillingLaws.{bytes-at, bytes-past, pair-is}
+use Rattle.model.specs.FilledLaws.{Bytes, rank-small}
+use Rattle.model.specs.RaceLaws.{Sized}
+use Rattle.model.specs.WriterLaws.{writers-ordered}
 use Rattle.model.specs.ChoiceLaws.{Fair}
 use Rattle.moved.specs.Renumber.{Renumbering, to-below}
 use Rattle.moved.specs.Moved.{Moved}
@@ -38,14 +41,23 @@ pub past-rows : (s : List ℕ) {i : ℕ} → tableOf s .rows ≤ i → rowsAt s 
 unfolding tableOf decode
 past-rows s l = l
 
-pub fair-of : {blanks : Bool} {s : List ℕ} → Sound blanks s → Fair (tableOf s)
+pub few-of : {blanks : Bool} {s : List ℕ} → Sound blanks s → tableOf s .rows ≤ ROWS
 unfolding tableOf decode
-fair-of h =
+few-of h = rows-fit h
+
+pub sized-of : {blanks : Bool} {s : List ℕ} → Sound blanks s → Sized (tableOf s)
+unfolding tableOf decode
+sized-of h = λ i l. size-fits h i l
+
+pub fair-of : {blanks : Bool} {s : List ℕ} → Bytes s → Sound blanks s → Fair (tableOf s)
+unfolding tableOf decode
+fair-of {s = s} bytes h =
     record {
       few = rows-fit h;
       sized = λ i l. size-fits h i l;
       nonempty = λ i l a. access-size h i l a .0;
       ranks = λ i l. among-right h i l .2;
+      order = writers-ordered (tableOf s) (λ i l. rank-small s bytes i) (λ i l. among-right h i l .4);
     }
 
 -- a renumbering of the rows in the bytes is one of the table's rows
@@ -64,6 +76,10 @@ module _ {blanks : Bool} {s s′ : List ℕ} {π : Renumbering (rowsAt s)} (m : 
   pub rows-same : rowsAt s′ ≡ rowsAt s
   unfolding rowsAt rowsBegin
   rows-same = m .head 6 (omega arith)
+
+  counted-same : leb COUNTED (versionAt s′) ≡ leb COUNTED (versionAt s)
+  unfolding versionAt rowsBegin
+  counted-same = ap (λ (v : ℕ). leb COUNTED v) (m .head 4 (omega arith))
 
   pair-head : (k : ℕ) → k + 1 < rowsBegin (agentsAt s) → pairAt s′ k ≡ pairAt s k
   unfolding pairAt
@@ -165,8 +181,8 @@ module _ {blanks : Bool} {s s′ : List ℕ} {π : Renumbering (rowsAt s)} (m : 
 
   -- A MOVED TABLE IS ALIKE
   pub moved-alike : Alike (tableOf s) (tableOf s′) (of-table s π)
-  unfolding tableOf decode
-  moved-alike = record { rows = rows-same; places = places-same; row = row-same; source = source-same; kept = order-same }
+  unfolding tableOf decode modeOf
+  moved-alike = record { rows = rows-same; places = places-same; counted = counted-same; row = row-same; source = source-same; kept = order-same }
 
   -- the sources of all rows
   pub sources-moved : (i : ℕ) → i < tableOf s .rows → sourcesOf s′ (π .to i) ≡ π .to (sourcesOf s i)

@@ -25,13 +25,13 @@ module _ {t u : Table} {π : Renumbering (t .rows)} (M : Alike t u π) where
 
   pub follows-alike : (x y : ℕ) → follows u (π .to x) (π .to y) ≡ follows t x y
   unfolding follows
-  follows-alike x y = rw (mutually-alike x y, M .row x, M .row y) refl
+  follows-alike x y = rw (mutually-alike x y, M .row x, M .row y, M .counted) refl
 
   -- ---- M4
 
   ends-alike : (a w z : ℕ) → ends u (π .to a) (π .to w) (π .to z) ≡ ends t a w z
   unfolding ends
-  ends-alike a w z = rw (follows-alike a z, M .row z, M .row w) refl
+  ends-alike a w z = rw (follows-alike a z, M .row z, M .row w, M .counted) refl
 
   sequence-alike : (a w : ℕ) → sequence u (π .to a) (π .to w) ≡ sequence t a w
   unfolding sequence

@@ -19,6 +19,7 @@ use Rattle.model.specs.Fill.{Outcome, chosen, admittedFill, fill, sourcesAfter}
 use Rattle.model.specs.Fill as Fill
 use Rattle.model.specs.Words.{WellFormed}
 use Rattle.model.specs.AdmissionLaws.{Sound, admitted-sound}
+use Rattle.model.specs.FilledLaws.{Bytes}
 use Rattle.model.specs.ChoiceLaws.{NoRace}
 use Rattle.promises.specs.Searches.{free-of}
 use Rattle.promises.specs.Outcomes.{settled, said-filled, say-filled}
@@ -26,7 +27,7 @@ use Rattle.moved.specs.Renumber.{Renumbering, to-below}
 use Rattle.moved.specs.Moved.{Moved}
 use Rattle.moved.specs.Alike.{Alike}
 use Rattle.moved.specs.RaceAlike.{race-alike}
-use Rattle.moved.specs.MovedAlike.{rows-is, rows-same, to-rows, fair-of, of-table, moved-alike, sources-moved}
+use Rattle.moved.specs.MovedAlike.{rows-is, rows-same, to-rows, few-of, sized-of, fair-of, of-table, moved-alike, sources-moved}
 use Rattle.moved.specs.VerdictAlike.{checkWord, fillWord, verdict-alike, chosen-moved, passes-alike, racing, passing, outcome-is, settled-word, race, none, filled}
 
 -- ---- the theorems
@@ -39,9 +40,9 @@ module _ (s s′ : List ℕ) (π : Renumbering (rowsAt s)) (moved : Moved s s′
   check-alike fit fit′ well well′ =
       let h = admitted-sound false s well in
       let h′ = admitted-sound false s′ well′ in
-      rw (fit, fit′, well, well′) (verdict-alike (moved-alike moved h h′) (fair-of h) (fair-of h′) (sourcesOf s) (sourcesOf s′) (sources-moved moved h h′))
+      rw (fit, fit′, well, well′) (verdict-alike (moved-alike moved h h′) (few-of h) (sized-of h) (sized-of h′) (sourcesOf s) (sourcesOf s′) (sources-moved moved h h′))
 
-  module _ (fit : buffersFit SOURCES work buffer ≡ true) (fit′ : buffersFit SOURCES work′ buffer′ ≡ true)
+  module _ (bytes : Bytes s) (fit : buffersFit SOURCES work buffer ≡ true) (fit′ : buffersFit SOURCES work′ buffer′ ≡ true)
       (well : admission true s ≡ Admitted (agentsAt s) (rowsAt s)) (well′ : admission true s′ ≡ Admitted (agentsAt s′) (rowsAt s′)) where
     h : Sound true s
     h = admitted-sound true s well
@@ -64,13 +65,13 @@ module _ (s s′ : List ℕ) (π : Renumbering (rowsAt s)) (moved : Moved s s′
     alike = moved-alike moved h h′
 
     races-alike : racing (tableOf s′) ≡ racing (tableOf s)
-    races-alike = race-alike alike (fair-of h .sized) (fair-of h′ .sized)
+    races-alike = race-alike alike (sized-of h) (sized-of h′)
 
     calm : racing (tableOf s) ≡ false → NoRace (tableOf s)
-    calm e = free-of (tableOf s) (fair-of h .sized) e
+    calm e = free-of (tableOf s) (sized-of h) e
 
     passing-alike : racing (tableOf s) ≡ false → passing (tableOf s′) (sourcesOf s′) ≡ passing (tableOf s) (sourcesOf s)
-    passing-alike e = passes-alike alike (fair-of h) (fair-of h′) (sourcesOf s) (sourcesOf s′) (sources-moved moved h h′) (calm e)
+    passing-alike e = passes-alike alike (few-of h) (sized-of h) (sized-of h′) (sourcesOf s) (sourcesOf s′) (sources-moved moved h h′) (fair-of bytes h) (calm e)
 
     -- FILL SAYS RACE, NONE OR FILLED OF BOTH ALIKE
     pub fill-alike : fillWord (fill s′ work′ buffer′) ≡ fillWord (fill s work buffer)
@@ -98,7 +99,7 @@ module _ (s s′ : List ℕ) (π : Renumbering (rowsAt s)) (moved : Moved s s′
             → getD (tabulate (chosen (tableOf s′) (sourcesOf s′)) (tableOf s′ .rows)) (π .to i) 0 ≡ π .to (getD l i 0)
         at i m e q =
             getD-tabulate (chosen (tableOf s′) (sourcesOf s′)) (tableOf s′ .rows) (π .to i) 0 (to-rows s′ (subst (λ (n : ℕ). π .to i < n) (sym (rows-same moved h h′)) (to-below π i m)))
-            ∙ chosen-moved alike (fair-of h) (fair-of h′) (sourcesOf s) (sourcesOf s′) (sources-moved moved h h′) (calm e) i (to-rows s m)
+            ∙ chosen-moved alike (few-of h) (sized-of h) (sized-of h′) (sourcesOf s) (sourcesOf s′) (sources-moved moved h h′) (fair-of bytes h) (calm e) i (to-rows s m)
             ∙ ap (π .to) (sym (getD-tabulate (chosen (tableOf s) (sourcesOf s)) (tableOf s .rows) i 0 (to-rows s m)) ∙ ap (λ (v : List ℕ). getD v i 0) q)
 
     -- as they stand in the lent source buffers afterwards

@@ -23,9 +23,10 @@ use Rattle.model.specs.Words.{Races, Consistent, WellFormed, ConsistentBytes, b
 use Rattle.model.specs.AdmissionLaws.{Sound, sound-admitted, admitted-sound, rows-fit, size-fits, access-size, among-right}
 use Rattle.model.specs.RaceLaws.{Sized, FirstRace, race-shown, race-none}
 use Rattle.model.specs.AxiomLaws.{consistent-is, consistent-cong}
+use Rattle.model.specs.WriterLaws.{writers-ordered}
 use Rattle.model.specs.ChoiceLaws.{NoRace, Fair, choice-forced}
 use Rattle.model.specs.FillingLaws.{table-kept, source-kept}
-use Rattle.model.specs.FilledLaws.{Bytes, filledBytes, fillings-same, filling-sound, sound-filling, filled-source, filled-filling}
+use Rattle.model.specs.FilledLaws.{Bytes, rank-small, filledBytes, fillings-same, filling-sound, sound-filling, filled-source, filled-filling}
 use Rattle.promises.specs.Outcomes.{settled, said-race, said-filled, said-none, say-race, say-filled, say-none}
 
 -- ---- definitions
@@ -54,6 +55,7 @@ module _ (s : List ℕ) (bytes : Bytes s) (well : admission true s ≡ Admitted 
         sized = λ i l. size-fits sound i l;
         nonempty = λ i l a. access-size sound i l a .0;
         ranks = λ i l. among-right sound i l .2;
+        order = writers-ordered t (λ i l. rank-small s bytes i) (λ i l. among-right sound i l .4);
       }
 
   -- a source that refusal 9 takes where no blank is allowed is the initial value or a row that fits

@@ -81,6 +81,10 @@ placesOf s = tabulate (slotAt s) AGENTS
 unfoldable pub modeOf : Bool → List ℕ → Mode
 modeOf chains s = record { counted = leb COUNTED (versionAt s); chains = chains }
 
+-- neither, for what reads no mode
+abbrev pub OFF : Mode
+OFF = record { counted = false; chains = false }
+
 -- where the rows begin, and how long a table of so many agents and rows is
 unfoldable pub rowsBegin : ℕ → ℕ
 rowsBegin agents = HEADER + PLACE-BYTES * agents

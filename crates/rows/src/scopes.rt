@@ -3,10 +3,11 @@ ghost use mathlib.Core.Path.{_≡_};
 ghost use mathlib.Core.List.{[]};
 ghost use Prim.Native.Nat.{_+_, _*_, _<_};
 ghost use lib.ListN.{getD};
-ghost use Rattle.model.specs.Table.{HEADER, PLACE-BYTES, pairAt, slotAt, placesOf};
-ghost use Rattle.model.specs.Scope.{agree, shares, together, sameLocation, mutualRows, later, laterWriter};
+ghost use Rattle.model.specs.Table.{HEADER, PLACE-BYTES, pairAt, slotAt, placesOf, modeOf};
+ghost use Rattle.model.specs.Scope.{agree, shares, together, sameLocation, mutualRows, age, later, laterWriter};
 use crate::bytes;
 use crate::kinds;
+use model::Mode;
 use model::Places;
 use model::Row;
 
@@ -57,6 +58,22 @@ pub fn read_places(s: &[u8]) -> Places
         p[a] = place;
     }
     p
+}
+
+// The first version, and the first with counted ranks.
+pub const FIRST: u8 = 1;
+
+pub const COUNTED: u8 = 2;
+
+// What the rules of order go by beside rows and places.
+pub fn read_mode(s: &[u8], chains: bool) -> Mode
+    ensures { λ g. ⌜ g ≡ modeOf chains (now (s .entry)) ⌝ }
+{
+    let version = bytes::byte_at(s, 4);
+    Mode {
+        counted: COUNTED <= version,
+        chains: chains,
+    }
 }
 
 // Number k of agent a's place, and 0 for an agent that there is no slot for.
@@ -112,15 +129,28 @@ pub fn is_mutual(p: Places, r: Row, q: Row) -> bool
     kinds::is_atomic(r) & kinds::is_atomic(q) & same_location(r, q) & together(p, r, q)
 }
 
-// Whether rank a is later than rank b. Nothing else compares ranks, but for being equal.
-pub fn is_later(a: u16, b: u16) -> bool
-    ensures { λ r. ⌜ r ≡ later a b ⌝ }
+// Half of the counts of 16 bits: as many as a run of consecutive ones has.
+pub const RUN: u16 = 32768;
+
+// How many counts rank a lies after rank b, wrapping.
+pub fn age(a: u16, b: u16) -> u16
+    ensures { λ r. ⌜ r ≡ age a b ⌝ }
 {
-    b < a
+    std::num::wrapping_sub_u16(a, b)
 }
 
-pub fn is_later_writer(q: Row, r: Row) -> bool
-    ensures { λ b. ⌜ b ≡ laterWriter q r ⌝ }
+// Whether rank a is later than rank b: as numbers, or, where ranks are counted, by an age of 1 to 32767. Nothing else compares
+// ranks, but for being equal and for fitting in a run.
+// Ruled out: one that takes 0 as earlier than 65535 where ranks are counted; one that takes a rank as later than itself.
+pub fn is_later(counted: bool, a: u16, b: u16) -> bool
+    ensures { λ r. ⌜ r ≡ later counted a b ⌝ }
 {
-    kinds::writes(q) & kinds::writes(r) & is_later(q.rank, r.rank)
+    let d = age(a, b);
+    if counted { (1 <= d) & (d < RUN) } else { b < a }
+}
+
+pub fn is_later_writer(counted: bool, q: Row, r: Row) -> bool
+    ensures { λ b. ⌜ b ≡ laterWriter counted q r ⌝ }
+{
+    kinds::writes(q) & kinds::writes(r) & is_later(counted, q.rank, r.rank)
 }

@@ -1,38 +1,57 @@
 -- Laws that the proofs of admission cite. Assumes nothing.
 use mathlib.Core.Path.{_≡_, refl, _∙_}
-use mathlib.Core.Bool.{Bool, true, false, cond}
+use mathlib.Core.Bool.{Bool, true, false, not, cond}
 use mathlib.Core.List.{List, []}
 use Prim.Native.Nat.{ℕ, _<_, _≤_}
 use borrow.Author.Tests.{eq-eqb, ne-eqb, lt-ltb, le-ltb}
-use Rattle.finite.specs.Below.{least}
+use Rattle.finite.specs.Logic.{_and_, _or_}
+use Rattle.finite.specs.Below.{anyBelow, least}
+use Rattle.model.specs.declared.Mode.{Mode}
 use Rattle.model.specs.declared.Row.{Row}
 use Rattle.model.specs.declared.Admission.{Admission}
 use Rattle.model.specs.declared.Admission.the-variants.{Admitted, Refused}
-use Rattle.model.specs.Table.{decode, sourceOf, agentsAt, rowsAt, rowBytes, placesOf, tableOf, sourcesOf}
-use Rattle.model.specs.Refusal.{otherClassAt, classTaken, writerFits, sourceFits, sourceBroken, sameRankAt, rankTaken, apartAt, instanceBroken}
+use Rattle.model.specs.Row.{ranked}
+use Rattle.model.specs.Table.{OFF, rowOf, modeOf, decode, sourceOf, agentsAt, rowsAt, rowBytes, placesOf, tableOf, sourcesOf}
+use Rattle.model.specs.Refusal.{otherClassAt, classTaken, writerFits, sourceFits, sourceBroken, sameRankAt, rankTaken, apartAt, instanceBroken, outsideAt, begins, unfit}
 use Rattle.model.specs.Refusal.{codesFit, kindFits, extentFits, rowFault, tableFault, faulty, firstFault, rowFaultAt}
 use Rattle.model.specs.Refusal.{headerFault, admission}
 use Rattle.table.specs.Rows.{rowFaultIn, rowsAdmission}
 
 -- ---- what a test does not read makes no difference to it
 
-module _ (b : List ℕ) (p : List (List ℕ)) (n : ℕ) where
-  pub class-any : (i : ℕ) → classTaken (decode b [] 0) i ≡ classTaken (decode b p n) i
+module _ (b : List ℕ) (p : List (List ℕ)) (mode : Mode) (n : ℕ) where
+  pub class-any : (i : ℕ) → classTaken (decode b [] OFF 0) i ≡ classTaken (decode b p mode n) i
   unfolding classTaken otherClassAt decode
   class-any i = refl
 
   pub source-any : (blanks : Bool) (i : ℕ) →
-      sourceBroken blanks (decode b [] n) (sourceOf b) i ≡ sourceBroken blanks (decode b p n) (sourceOf b) i
+      sourceBroken blanks (decode b [] OFF n) (sourceOf b) i ≡ sourceBroken blanks (decode b p mode n) (sourceOf b) i
   unfolding sourceBroken sourceFits writerFits decode
   source-any blanks i = refl
 
-  pub rank-any : (i : ℕ) → rankTaken (decode b p 0) i ≡ rankTaken (decode b p n) i
+  pub rank-any : (i : ℕ) → rankTaken (decode b p OFF 0) i ≡ rankTaken (decode b p mode n) i
   unfolding rankTaken sameRankAt decode
   rank-any i = refl
 
-  pub instance-any : (i : ℕ) → instanceBroken (decode b p 0) i ≡ instanceBroken (decode b p n) i
+  pub instance-any : (i : ℕ) → instanceBroken (decode b p OFF 0) i ≡ instanceBroken (decode b p mode n) i
   unfolding instanceBroken apartAt decode
   instance-any i = refl
+
+  pub unfit-any : (i : ℕ) → unfit (decode b [] mode 0) i ≡ unfit (decode b p mode n) i
+  unfolding unfit begins outsideAt decode
+  unfit-any i = refl
+
+-- ---- 15, where ranks are plain, and where they are counted
+
+module _ (b : List ℕ) (mode : Mode) (i : ℕ) where
+  pub unfit-off : mode .counted ≡ false → false ≡ unfit (decode b [] mode 0) i
+  unfolding unfit decode _and_
+  unfit-off e = rw e refl
+
+  pub unfit-on : (r : Row) (x y z : Bool) → mode .counted ≡ true → r ≡ rowOf b i → x ≡ ranked r → y ≡ anyBelow i (begins (decode b [] OFF 0) i)
+      → z ≡ begins (decode b [] OFF 0) i i → (x and not (y or z)) ≡ unfit (decode b [] mode 0) i
+  unfolding unfit begins outsideAt decode _and_
+  unfit-on r x y z e er ex ey ez = rw (e, ex, er, ey, ez) refl
 
 -- ---- the cascade of 5 to 7, from the inside
 
@@ -67,20 +86,20 @@ module _ (f : ℕ → ℕ) (n : ℕ) (next : Admission) (i : ℕ) (e : i ≡ lea
 
 -- ---- the rows' admission: i is the first row that is faulty by itself, j the first among the others
 
-module _ (blanks : Bool) (agents : ℕ) (b : List ℕ) (p : List (List ℕ)) (n i : ℕ) (e : i ≡ least n (faulty (rowFaultIn agents b))) where
+module _ (blanks : Bool) (agents : ℕ) (b : List ℕ) (p : List (List ℕ)) (mode : Mode) (n i : ℕ) (e : i ≡ least n (faulty (rowFaultIn agents b))) where
   abbrev among : ℕ → ℕ
-  among = tableFault blanks (decode b p n) (sourceOf b)
+  among = tableFault blanks (decode b p mode n) (sourceOf b)
 
-  pub rows-early : (r : ℕ) → i < n → r ≡ rowFaultIn agents b i → rowsAdmission blanks agents b p n ≡ Refused r i
+  pub rows-early : (r : ℕ) → i < n → r ≡ rowFaultIn agents b i → rowsAdmission blanks agents b p mode n ≡ Refused r i
   unfolding rowsAdmission
   rows-early r h q = first-hit _ n _ i e r h q
 
   module _ (j : ℕ) (h : n ≤ i) (f : j ≡ least n (faulty among)) where
-    pub rows-late : (r : ℕ) → j < n → r ≡ among j → rowsAdmission blanks agents b p n ≡ Refused r j
+    pub rows-late : (r : ℕ) → j < n → r ≡ among j → rowsAdmission blanks agents b p mode n ≡ Refused r j
     unfolding rowsAdmission
     rows-late r l q = first-miss _ n _ i e h ∙ first-hit _ n _ j f r l q
 
-    pub rows-pass : n ≤ j → rowsAdmission blanks agents b p n ≡ Admitted agents n
+    pub rows-pass : n ≤ j → rowsAdmission blanks agents b p mode n ≡ Admitted agents n
     unfolding rowsAdmission
     rows-pass l = first-miss _ n _ i e h ∙ first-miss _ n _ j f l
 
@@ -91,6 +110,6 @@ module _ (blanks : Bool) (s : List ℕ) (h : ℕ) (e : h ≡ headerFault s) wher
   unfolding admission
   header-refused f = rw (← e, ne-eqb h 0 f) refl
 
-  pub header-passed : h ≡ 0 → admission blanks s ≡ rowsAdmission blanks (agentsAt s) (rowBytes s) (placesOf s) (rowsAt s)
+  pub header-passed : h ≡ 0 → admission blanks s ≡ rowsAdmission blanks (agentsAt s) (rowBytes s) (placesOf s) (modeOf false s) (rowsAt s)
   unfolding admission tableOf sourcesOf rowFaultAt rowsAdmission rowFaultIn
   header-passed f = rw (← e, eq-eqb h 0 f) refl

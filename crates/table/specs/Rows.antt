@@ -2,6 +2,7 @@
 use mathlib.Core.Bool.{Bool}
 use mathlib.Core.List.{List}
 use Prim.Native.Nat.{ℕ}
+use Rattle.model.specs.declared.Mode.{Mode}
 use Rattle.model.specs.declared.Admission.{Admission}
 use Rattle.model.specs.declared.Admission.the-variants.{Admitted}
 use Rattle.model.specs.Table.{rowOf, sourceOf, decode}
@@ -12,6 +13,6 @@ unfoldable pub rowFaultIn : ℕ → List ℕ → ℕ → ℕ
 rowFaultIn agents b i = rowFault agents (rowOf b i) (sourceOf b i)
 
 -- n rows in their bytes b, with the places p: rows ascending through 5 to 7, then rows ascending through 8 to 10
-unfoldable pub rowsAdmission : Bool → ℕ → List ℕ → List (List ℕ) → ℕ → Admission
-rowsAdmission blanks agents b p n =
-    firstFault (rowFaultIn agents b) n (firstFault (tableFault blanks (decode b p n) (sourceOf b)) n (Admitted agents n))
+unfoldable pub rowsAdmission : Bool → ℕ → List ℕ → List (List ℕ) → Mode → ℕ → Admission
+rowsAdmission blanks agents b p mode n =
+    firstFault (rowFaultIn agents b) n (firstFault (tableFault blanks (decode b p mode n) (sourceOf b)) n (Admitted agents n))

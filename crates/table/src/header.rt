@@ -4,13 +4,13 @@ ghost use Rattle.model.specs.Table.{sizeOf};
 ghost use Rattle.model.specs.Refusal.{versionFits, limitsFit, lengthFits, headerFault};
 use crate::pick;
 use rows::bytes;
-
-pub const VERSION: u8 = 1;
+use rows::scopes;
 
 pub fn version_fits(s: &[u8]) -> bool
     ensures { λ b. ⌜ b ≡ versionFits (now (s .entry)) ⌝ }
 {
-    (bytes::byte_at(s, 4) == VERSION) & (bytes::byte_at(s, 7) == 0)
+    let version = bytes::byte_at(s, 4);
+    (scopes::FIRST <= version) & (version <= scopes::COUNTED) & (bytes::byte_at(s, 7) == 0)
 }
 
 pub fn limits_fit(s: &[u8]) -> bool

@@ -1,16 +1,17 @@
-// Admission: refusals 1 to 10 of document 01, each a test of its own, in their order.
+// Admission: refusals 1 to 10 of document 01, 14 and 15 of document 02, each a test of its own, in their order.
 ghost use mathlib.Core.Path.{_≡_};
 ghost use mathlib.Core.Bool.{cond};
 ghost use Rattle.model.specs.Refusal.{admission};
 ghost use Rattle.table.specs.Rows.{rowsAdmission};
 use model::Admission;
+use model::Mode;
 use model::Places;
 use rows::bytes;
 use rows::scopes;
 
 pub mod header; // 1 to 4
 pub mod row_faults; // 5 to 7: a row by itself
-pub mod table_faults; // 8 to 10: a row among the others
+pub mod table_faults; // 8 to 10, 14, 15: a row among the others
 
 // ---- the cascades choose by these: all that they choose from is total
 
@@ -28,9 +29,9 @@ pub fn choose(b: bool, x: bool, y: bool) -> bool
 
 // ---- in their order
 
-// Rows ascending through 5 to 7, then rows ascending through 8 to 10.
-fn admit_rows(rows: &[u8], p: Places, agents: u8, count: u8, blanks: bool) -> Admission
-    ensures { λ r. ⌜ r ≡ rowsAdmission blanks agents (now (rows .entry)) p count ⌝ }
+// Rows ascending through 5 to 7, then rows ascending through 8 to 10, 14 and 15.
+fn admit_rows(rows: &[u8], p: Places, mode: Mode, agents: u8, count: u8, blanks: bool) -> Admission
+    ensures { λ r. ⌜ r ≡ rowsAdmission blanks agents (now (rows .entry)) p mode count ⌝ }
 {
     let n = count as u16;
     let i = row_faults::first_row_fault(rows, agents, n);
@@ -41,9 +42,9 @@ fn admit_rows(rows: &[u8], p: Places, agents: u8, count: u8, blanks: bool) -> Ad
             row: i,
         };
     }
-    let j = table_faults::first_table_fault(rows, p, n, blanks);
+    let j = table_faults::first_table_fault(rows, p, mode, n, blanks);
     if j < n {
-        let number = table_faults::table_fault(rows, p, n, blanks, j);
+        let number = table_faults::table_fault(rows, p, mode, n, blanks, j);
         return Admission::Refused {
             number: number,
             row: j,
@@ -71,5 +72,6 @@ pub fn admit(s: &[u8], blanks: bool) -> Admission
     let agents = bytes::agents_at(s);
     let count = bytes::rows_at(s);
     let p = scopes::read_places(s);
-    admit_rows(bytes::row_bytes(s), p, agents, count, blanks)
+    let mode = scopes::read_mode(s, false);
+    admit_rows(bytes::row_bytes(s), p, mode, agents, count, blanks)
 }

@@ -1,13 +1,15 @@
-// Refusals 8 to 10 and 14: a row among the others.
-// A test that reads no place is stated of a table with none, and one that reads no number of rows of a table of 0: what is
-// left out makes no difference to it.
+// Refusals 8 to 10, 14 and 15: a row among the others.
+// A test that reads no place is stated of a table with none, one that reads no mode of one that is OFF, and one that reads no
+// number of rows of a table of 0: what is left out makes no difference to it.
 ghost use mathlib.Core.Path.{_≡_};
 ghost use mathlib.Core.List.{[]};
 ghost use Rattle.finite.specs.Below.{anyBelow, least};
-ghost use Rattle.model.specs.Table.{decode, sourceOf};
+ghost use Rattle.model.specs.Table.{OFF, decode, sourceOf};
 ghost use Rattle.model.specs.Refusal.{otherClass, otherClassAt, classTaken, writerFits, sourceFits, sourceBroken};
-ghost use Rattle.model.specs.Refusal.{sameRank, sameRankAt, rankTaken, apart, apartAt, instanceBroken, tableFault, faulty};
+ghost use Rattle.model.specs.Refusal.{sameRank, sameRankAt, rankTaken, apart, apartAt, instanceBroken};
+ghost use Rattle.model.specs.Refusal.{rival, outside, outsideAt, begins, unfit, tableFault, faulty};
 use crate::pick;
+use model::Mode;
 use model::Places;
 use model::Row;
 use model::Source;
@@ -25,13 +27,13 @@ pub fn other_class(r: Row, q: Row) -> bool
 }
 
 pub fn other_class_at(rows: &[u8], i: u16, j: u16) -> bool
-    ensures { λ b. ⌜ b ≡ otherClassAt (decode (now (rows .entry)) [] 0) i j ⌝ }
+    ensures { λ b. ⌜ b ≡ otherClassAt (decode (now (rows .entry)) [] OFF 0) i j ⌝ }
 {
     other_class(bytes::read_row(rows, i), bytes::read_row(rows, j))
 }
 
 pub fn any_other_class(rows: &[u8], i: u16) -> bool
-    ensures { λ b. ⌜ b ≡ anyBelow i (otherClassAt (decode (now (rows .entry)) [] 0) i) ⌝ }
+    ensures { λ b. ⌜ b ≡ anyBelow i (otherClassAt (decode (now (rows .entry)) [] OFF 0) i) ⌝ }
 {
     for j in 0..i {
         if other_class_at(rows, i, j) {
@@ -42,7 +44,7 @@ pub fn any_other_class(rows: &[u8], i: u16) -> bool
 }
 
 pub fn class_taken(rows: &[u8], i: u16) -> bool
-    ensures { λ b. ⌜ b ≡ classTaken (decode (now (rows .entry)) [] 0) i ⌝ }
+    ensures { λ b. ⌜ b ≡ classTaken (decode (now (rows .entry)) [] OFF 0) i ⌝ }
 {
     kinds::is_access(bytes::read_row(rows, i)) & any_other_class(rows, i)
 }
@@ -51,7 +53,7 @@ pub fn class_taken(rows: &[u8], i: u16) -> bool
 
 // Of n rows, s is another row than i, a writer, and covers all bytes of row i.
 pub fn writer_fits(rows: &[u8], n: u16, i: u16, s: Source) -> bool
-    ensures { λ b. ⌜ b ≡ writerFits (decode (now (rows .entry)) [] n) i (s .0) ⌝ }
+    ensures { λ b. ⌜ b ≡ writerFits (decode (now (rows .entry)) [] OFF n) i (s .0) ⌝ }
 {
     let w = bytes::read_row(rows, s.0);
     let r = bytes::read_row(rows, i);
@@ -61,14 +63,14 @@ pub fn writer_fits(rows: &[u8], n: u16, i: u16, s: Source) -> bool
 // The source s of row i is the initial value, a writer that fits, or a blank where one is allowed.
 // Ruled out: a writer of only some of the row's bytes passes; a blank passes on an atomic read.
 pub fn source_fits(rows: &[u8], n: u16, blanks: bool, i: u16, s: Source) -> bool
-    ensures { λ b. ⌜ b ≡ sourceFits blanks (decode (now (rows .entry)) [] n) i (s .0) ⌝ }
+    ensures { λ b. ⌜ b ≡ sourceFits blanks (decode (now (rows .entry)) [] OFF n) i (s .0) ⌝ }
 {
     let r = bytes::read_row(rows, i);
     s.is_initial() | writer_fits(rows, n, i, s) | blanks & kinds::is_plain_read(r) & s.is_blank()
 }
 
 pub fn source_broken(rows: &[u8], n: u16, blanks: bool, i: u16) -> bool
-    ensures { λ b. ⌜ b ≡ sourceBroken blanks (decode (now (rows .entry)) [] n) (sourceOf (now (rows .entry))) i ⌝ }
+    ensures { λ b. ⌜ b ≡ sourceBroken blanks (decode (now (rows .entry)) [] OFF n) (sourceOf (now (rows .entry))) i ⌝ }
 {
     let r = bytes::read_row(rows, i);
     kinds::reads(r) & !source_fits(rows, n, blanks, i, bytes::read_source(rows, i))
@@ -83,7 +85,7 @@ pub fn same_rank(r: Row, q: Row) -> bool
 }
 
 pub fn same_rank_at(rows: &[u8], p: Places, i: u16, j: u16) -> bool
-    ensures { λ b. ⌜ b ≡ sameRankAt (decode (now (rows .entry)) p 0) i j ⌝ }
+    ensures { λ b. ⌜ b ≡ sameRankAt (decode (now (rows .entry)) p OFF 0) i j ⌝ }
 {
     let r = bytes::read_row(rows, i);
     let q = bytes::read_row(rows, j);
@@ -91,7 +93,7 @@ pub fn same_rank_at(rows: &[u8], p: Places, i: u16, j: u16) -> bool
 }
 
 pub fn any_same_rank(rows: &[u8], p: Places, i: u16) -> bool
-    ensures { λ b. ⌜ b ≡ anyBelow i (sameRankAt (decode (now (rows .entry)) p 0) i) ⌝ }
+    ensures { λ b. ⌜ b ≡ anyBelow i (sameRankAt (decode (now (rows .entry)) p OFF 0) i) ⌝ }
 {
     for j in 0..i {
         if same_rank_at(rows, p, i, j) {
@@ -102,7 +104,7 @@ pub fn any_same_rank(rows: &[u8], p: Places, i: u16) -> bool
 }
 
 pub fn rank_taken(rows: &[u8], p: Places, i: u16) -> bool
-    ensures { λ b. ⌜ b ≡ rankTaken (decode (now (rows .entry)) p 0) i ⌝ }
+    ensures { λ b. ⌜ b ≡ rankTaken (decode (now (rows .entry)) p OFF 0) i ⌝ }
 {
     kinds::is_ranked(bytes::read_row(rows, i)) & any_same_rank(rows, p, i)
 }
@@ -120,7 +122,7 @@ pub fn is_apart(p: Places, r: Row, q: Row) -> bool
 }
 
 pub fn apart_at(rows: &[u8], p: Places, i: u16, j: u16) -> bool
-    ensures { λ b. ⌜ b ≡ apartAt (decode (now (rows .entry)) p 0) i j ⌝ }
+    ensures { λ b. ⌜ b ≡ apartAt (decode (now (rows .entry)) p OFF 0) i j ⌝ }
 {
     let r = bytes::read_row(rows, i);
     let q = bytes::read_row(rows, j);
@@ -128,7 +130,7 @@ pub fn apart_at(rows: &[u8], p: Places, i: u16, j: u16) -> bool
 }
 
 pub fn instance_broken(rows: &[u8], p: Places, i: u16) -> bool
-    ensures { λ b. ⌜ b ≡ instanceBroken (decode (now (rows .entry)) p 0) i ⌝ }
+    ensures { λ b. ⌜ b ≡ instanceBroken (decode (now (rows .entry)) p OFF 0) i ⌝ }
 {
     for j in 0..i {
         if apart_at(rows, p, i, j) {
@@ -138,26 +140,94 @@ pub fn instance_broken(rows: &[u8], p: Places, i: u16) -> bool
     false
 }
 
+// ---- 15
+
+// q is a writer of r's location that has a rank.
+pub fn is_rival(r: Row, q: Row) -> bool
+    ensures { λ b. ⌜ b ≡ rival r q ⌝ }
+{
+    kinds::is_ranked(q) & scopes::same_location(r, q)
+}
+
+// q is a rival of r, and no count of the run that begins with m's.
+pub fn is_outside(r: Row, m: Row, q: Row) -> bool
+    ensures { λ b. ⌜ b ≡ outside r m q ⌝ }
+{
+    is_rival(r, q) & !(scopes::age(q.rank, m.rank) < scopes::RUN)
+}
+
+pub fn outside_at(rows: &[u8], i: u16, m: u16, j: u16) -> bool
+    ensures { λ b. ⌜ b ≡ outsideAt (decode (now (rows .entry)) [] OFF 0) i m j ⌝ }
+{
+    let r = bytes::read_row(rows, i);
+    let f = bytes::read_row(rows, m);
+    let q = bytes::read_row(rows, j);
+    is_outside(r, f, q)
+}
+
+pub fn any_outside(rows: &[u8], i: u16, m: u16) -> bool
+    ensures { λ b. ⌜ b ≡ anyBelow i (outsideAt (decode (now (rows .entry)) [] OFF 0) i m) ⌝ }
+{
+    for j in 0..i {
+        if outside_at(rows, i, m, j) {
+            return true;
+        }
+    }
+    false
+}
+
+// Row m is a rival of row i, and the run that begins with it has all those up to row i.
+pub fn begins_at(rows: &[u8], i: u16, m: u16) -> bool
+    ensures { λ b. ⌜ b ≡ begins (decode (now (rows .entry)) [] OFF 0) i m ⌝ }
+{
+    let r = bytes::read_row(rows, i);
+    let f = bytes::read_row(rows, m);
+    is_rival(r, f) & !(any_outside(rows, i, m) | outside_at(rows, i, m, i))
+}
+
+pub fn any_begins(rows: &[u8], i: u16) -> bool
+    ensures { λ b. ⌜ b ≡ anyBelow i (begins (decode (now (rows .entry)) [] OFF 0) i) ⌝ }
+{
+    for m in 0..i {
+        if begins_at(rows, i, m) {
+            return true;
+        }
+    }
+    false
+}
+
+// Counted ranks of row i's location fit in no run.
+// Ruled out: one that refuses ranks 0 and 32767; one that passes 0, 20000 and 45000, of which any two fit.
+pub fn is_unfit(rows: &[u8], mode: Mode, i: u16) -> bool
+    ensures { λ b. ⌜ b ≡ unfit (decode (now (rows .entry)) [] mode 0) i ⌝ }
+{
+    if !mode.counted {
+        return false;
+    }
+    kinds::is_ranked(bytes::read_row(rows, i)) & !(any_begins(rows, i) | begins_at(rows, i, i))
+}
+
 // ---- in their order
 
-// Refusals 8 to 10 and 14 of row i, or 0.
+// Refusals 8 to 10, 14 and 15 of row i, or 0.
 // Ruled out: of two rows of one rank the earlier is refused; a row passes that reads from itself.
-pub fn table_fault(rows: &[u8], p: Places, n: u16, blanks: bool, i: u16) -> u8
-    ensures { λ r. ⌜ r ≡ tableFault blanks (decode (now (rows .entry)) p n) (sourceOf (now (rows .entry))) i ⌝ }
+pub fn table_fault(rows: &[u8], p: Places, mode: Mode, n: u16, blanks: bool, i: u16) -> u8
+    ensures { λ r. ⌜ r ≡ tableFault blanks (decode (now (rows .entry)) p mode n) (sourceOf (now (rows .entry))) i ⌝ }
 {
-    let instance = pick(instance_broken(rows, p, i), 14, 0);
+    let run = pick(is_unfit(rows, mode, i), 15, 0);
+    let instance = pick(instance_broken(rows, p, i), 14, run);
     let rank = pick(rank_taken(rows, p, i), 10, instance);
     let source = pick(source_broken(rows, n, blanks, i), 9, rank);
     pick(class_taken(rows, i), 8, source)
 }
 
-// The first of n rows that has a refusal 8 to 10 or 14; n where none has.
+// The first of n rows that has a refusal 8 to 10, 14 or 15; n where none has.
 // Ruled out: row 5's refusal 8 is given before row 2's refusal 10; row 0 is not tried.
-pub fn first_table_fault(rows: &[u8], p: Places, n: u16, blanks: bool) -> u16
-    ensures { λ i. ⌜ i ≡ least n (faulty (tableFault blanks (decode (now (rows .entry)) p n) (sourceOf (now (rows .entry))))) ⌝ }
+pub fn first_table_fault(rows: &[u8], p: Places, mode: Mode, n: u16, blanks: bool) -> u16
+    ensures { λ i. ⌜ i ≡ least n (faulty (tableFault blanks (decode (now (rows .entry)) p mode n) (sourceOf (now (rows .entry))))) ⌝ }
 {
     for i in 0..n {
-        if table_fault(rows, p, n, blanks, i) != 0 {
+        if table_fault(rows, p, mode, n, blanks, i) != 0 {
             return i;
         }
     }

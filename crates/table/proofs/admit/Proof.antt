@@ -8,6 +8,7 @@ use Rattle.table.proofs.admit.Lts as lts
 use Rattle.rows.proofs.bytes.agents_at.Reads as agents-at-reads
 use Rattle.rows.proofs.bytes.row_bytes.Reads as row-bytes-reads
 use Rattle.rows.proofs.bytes.rows_at.Reads as rows-at-reads
+use Rattle.rows.proofs.scopes.read_mode.Reads as read-mode-reads
 use Rattle.rows.proofs.scopes.read_places.Reads as read-places-reads
 use Rattle.table.proofs.admit_rows.Reads as admit-rows-reads
 use Rattle.table.proofs.header.header_fault.Reads as header-fault-reads
@@ -33,6 +34,10 @@ read-places-requires : tie.Need-read-places-requires
 read-places-requires c κs = search needs
 
 -- src/lib.rt:63:16
+read-mode-requires : tie.Need-read-mode-requires
+read-mode-requires c κs = search needs
+
+-- src/lib.rt:63:16
 row-bytes-requires : tie.Need-row-bytes-requires
 row-bytes-requires c κs = search needs
 
@@ -43,13 +48,14 @@ admit-rows-requires c κs = search needs
 -- src/lib.rt:53:1
 returns-2 : tie.Need-returns-2
 returns-2 c =
-    let at-counts = c .before .before .before in
+    let at-counts = c .before .before .before .before in
     let at-header = at-counts .before .before in
     rw (
       header-passed _ _ _ (at-header .before .header-fault .ensures) (at-header .if1 .left),
       ← at-counts .before .agents-at .ensures,
       ← at-counts .rows-at .ensures,
-      ← c .before .before .read-places .ensures,
+      ← c .before .before .before .read-places .ensures,
+      ← c .before .before .read-mode .ensures,
       ← c .before .row-bytes .ensures,
     )
     (c .admit-rows .ensures)
@@ -63,6 +69,7 @@ admit-spec =
     agents-at-requires
     rows-at-requires
     read-places-requires
+    read-mode-requires
     row-bytes-requires
     admit-rows-requires
     returns-2)

@@ -6,7 +6,7 @@ use native.Mathlib.Omega.{arith}
 use borrow.Author.Needs.{needs}
 use Rattle.finite.specs.Below.{anyBelow, any-none, any-more, any-in}
 use Rattle.model.specs.Refusal.{otherClassAt}
-use Rattle.model.specs.Table.{decode}
+use Rattle.model.specs.Table.{OFF, decode}
 use Rattle.table.proofs.table_faults.any_other_class.Statement.{statement}
 use Rattle.table.proofs.table_faults.any_other_class.Tie as tie
 use Rattle.table.proofs.table_faults.any_other_class.Reads as reads
@@ -14,7 +14,7 @@ use Rattle.table.proofs.table_faults.any_other_class.Lts as lts
 use Rattle.table.proofs.table_faults.other_class_at.Reads as other-class-at-reads
 
 abbrev Inv-loop : tie.InvT-loop
-Inv-loop rows i j₀ j = (j ≤ i) × (anyBelow j (otherClassAt (decode rows [] 0) i) ≡ false)
+Inv-loop rows i j₀ j = (j ≤ i) × (anyBelow j (otherClassAt (decode rows [] OFF 0) i) ≡ false)
 
 abbrev μ-loop : tie.MeasureT-loop
 μ-loop rows i j₀ j = i - j

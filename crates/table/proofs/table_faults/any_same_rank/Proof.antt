@@ -5,7 +5,7 @@ use native.Mathlib.Omega.{arith}
 use borrow.Author.Needs.{needs}
 use Rattle.finite.specs.Below.{anyBelow, any-none, any-more, any-in}
 use Rattle.model.specs.Refusal.{sameRankAt}
-use Rattle.model.specs.Table.{decode}
+use Rattle.model.specs.Table.{OFF, decode}
 use Rattle.table.proofs.table_faults.any_same_rank.Statement.{statement}
 use Rattle.table.proofs.table_faults.any_same_rank.Tie as tie
 use Rattle.table.proofs.table_faults.any_same_rank.Reads as reads
@@ -13,7 +13,7 @@ use Rattle.table.proofs.table_faults.any_same_rank.Lts as lts
 use Rattle.table.proofs.table_faults.same_rank_at.Reads as same-rank-at-reads
 
 abbrev Inv-loop : tie.InvT-loop
-Inv-loop rows p i j₀ j = (j ≤ i) × (anyBelow j (sameRankAt (decode rows p 0) i) ≡ false)
+Inv-loop rows p i j₀ j = (j ≤ i) × (anyBelow j (sameRankAt (decode rows p OFF 0) i) ≡ false)
 
 abbrev μ-loop : tie.MeasureT-loop
 μ-loop rows p i j₀ j = i - j

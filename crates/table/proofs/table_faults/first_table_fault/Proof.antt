@@ -13,10 +13,10 @@ use Rattle.table.proofs.table_faults.first_table_fault.Lts as lts
 use Rattle.table.proofs.table_faults.table_fault.Reads as table-fault-reads
 
 abbrev Inv-loop : tie.InvT-loop
-Inv-loop rows p n blanks i₀ i = (i ≤ n) × (least i (faulty (tableFault blanks (decode rows p n) (sourceOf rows))) ≡ i)
+Inv-loop rows p mode n blanks i₀ i = (i ≤ n) × (least i (faulty (tableFault blanks (decode rows p mode n) (sourceOf rows))) ≡ i)
 
 abbrev μ-loop : tie.MeasureT-loop
-μ-loop rows p n blanks i₀ i = n - i
+μ-loop rows p mode n blanks i₀ i = n - i
 
 -- src/table_faults.rt:123:5
 loop-holds : tie.Need-loop-holds Inv-loop μ-loop

@@ -5,7 +5,7 @@ use native.Mathlib.Omega.{arith}
 use borrow.Author.Needs.{needs}
 use Rattle.finite.specs.Below.{anyBelow, any-none, any-more, any-in}
 use Rattle.model.specs.Refusal.{apartAt, instanceBroken}
-use Rattle.model.specs.Table.{decode}
+use Rattle.model.specs.Table.{OFF, decode}
 use Rattle.table.proofs.table_faults.instance_broken.Statement.{statement}
 use Rattle.table.proofs.table_faults.instance_broken.Tie as tie
 use Rattle.table.proofs.table_faults.instance_broken.Reads as reads
@@ -13,7 +13,7 @@ use Rattle.table.proofs.table_faults.instance_broken.Lts as lts
 use Rattle.table.proofs.table_faults.apart_at.Reads as apart-at-reads
 
 abbrev Inv-loop : tie.InvT-loop
-Inv-loop rows p i j₀ j = (j ≤ i) × (anyBelow j (apartAt (decode rows p 0) i) ≡ false)
+Inv-loop rows p i j₀ j = (j ≤ i) × (anyBelow j (apartAt (decode rows p OFF 0) i) ≡ false)
 
 abbrev μ-loop : tie.MeasureT-loop
 μ-loop rows p i j₀ j = i - j

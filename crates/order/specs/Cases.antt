@@ -11,6 +11,7 @@ use Rattle.sequence.specs.Known.{Synced}
 use borrow.Author.Tests.{eqb-true}
 use Rattle.finite.specs.Logic.{_and_, _or_, split, and-false-right, not-out, or-cases, or-none, or-false}
 use Rattle.finite.specs.Below.{anyBelow}
+use Rattle.model.specs.declared.Mode.{Mode}
 use Rattle.model.specs.declared.Row.{Row}
 use Rattle.model.specs.Row.{holds, releases, acquires}
 use Rattle.model.specs.Table.{decode, rowOf}
@@ -55,44 +56,44 @@ step-told s from to r q x y b o v d f e g h = rw (← e, ← g, ← h) f
 
 -- ---- laws: of a table
 
-module _ (b : List ℕ) (p : List (List ℕ)) (n : ℕ) where
+module _ (b : List ℕ) (p : List (List ℕ)) (mode : Mode) (n : ℕ) where
   pub step-is : (s m k : ℕ)
-      → step (decode b p n) s m k
-      ≡ stepRows s (part m) (part k) (rowOf b (rowIn m)) (rowOf b (rowIn k)) (synchronizes (decode b p n) (rowIn m) (rowIn k)) (programOrder (decode b p n) m k)
+      → step (decode b p mode n) s m k
+      ≡ stepRows s (part m) (part k) (rowOf b (rowIn m)) (rowOf b (rowIn k)) (synchronizes (decode b p mode n) (rowIn m) (rowIn k)) (programOrder (decode b p mode n) m k)
   unfolding step bySync toRelease fromAcquire holding concerns stepRows decode
   step-is s m k = refl
 
   -- the test on rows, with the bit of the work area
-  pub step-read : (w : List ℕ) (s m k : ℕ) (v d : Bool) → Synced (decode b p n) n w → m < 3 * n → k < 3 * n → v ≡ rel w SYNC GRID (m / 3) (k / 3)
-      → d ≡ stepRows s (m % 3) (k % 3) (rowOf b (m / 3)) (rowOf b (k / 3)) v (programOrder (decode b p n) m k) → d ≡ step (decode b p n) s m k
+  pub step-read : (w : List ℕ) (s m k : ℕ) (v d : Bool) → Synced (decode b p mode n) n w → m < 3 * n → k < 3 * n → v ≡ rel w SYNC GRID (m / 3) (k / 3)
+      → d ≡ stepRows s (m % 3) (k % 3) (rowOf b (m / 3)) (rowOf b (k / 3)) v (programOrder (decode b p mode n) m k) → d ≡ step (decode b p mode n) s m k
   step-read w s m k v d h l o e f = rw (step-is s m k, ← (e ∙ h .syncs .cell (m / 3) (k / 3) (omega arith) (omega arith))) f
 
   -- a moment that holds all of s is the own moment of a row that does
-  own : (s m : ℕ) → holding (decode b p n) s m ≡ true → (m % 3 ≡ AT) × (holdsAt b s (m / 3) ≡ true)
+  own : (s m : ℕ) → holding (decode b p mode n) s m ≡ true → (m % 3 ≡ AT) × (holdsAt b s (m / 3) ≡ true)
   unfolding holding holdingOf holdsAt decode
   own s m h = (eqb-true _ _ (split (split h .0) .0), split h .1)
 
   -- each direct case has such a moment at one end
-  pub step-ends : (s m k : ℕ) → step (decode b p n) s m k ≡ true
+  pub step-ends : (s m k : ℕ) → step (decode b p mode n) s m k ≡ true
       → ((m % 3 ≡ AT) × (holdsAt b s (m / 3) ≡ true)) ⊎ ((k % 3 ≡ AT) × (holdsAt b s (k / 3) ≡ true))
   unfolding step bySync toRelease fromAcquire
   step-ends s m k h = go (or-cases _ _ h)
     where
-      inner : (bySync (decode b p n) s m k ≡ true) ⊎ (toRelease (decode b p n) s m k ≡ true)
+      inner : (bySync (decode b p mode n) s m k ≡ true) ⊎ (toRelease (decode b p mode n) s m k ≡ true)
           → ((m % 3 ≡ AT) × (holdsAt b s (m / 3) ≡ true)) ⊎ ((k % 3 ≡ AT) × (holdsAt b s (k / 3) ≡ true))
       inner (inl e) = inl (own s m (split (split e .0) .0))
       inner (inr e) = inr (own s k (split (split (split e .0) .0) .0))
 
-      go : ((bySync (decode b p n) s m k or toRelease (decode b p n) s m k) ≡ true) ⊎ (fromAcquire (decode b p n) s m k ≡ true)
+      go : ((bySync (decode b p mode n) s m k or toRelease (decode b p mode n) s m k) ≡ true) ⊎ (fromAcquire (decode b p mode n) s m k ≡ true)
           → ((m % 3 ≡ AT) × (holdsAt b s (m / 3) ≡ true)) ⊎ ((k % 3 ≡ AT) × (holdsAt b s (k / 3) ≡ true))
       go (inl e) = inner (or-cases _ _ e)
       go (inr e) = inl (own s m (split (split (split e .0) .0) .0))
 
   -- places are not asked for
-  pub live-is : (s : ℕ) → live (decode b p n) s ≡ anyBelow n (holdsAt b s)
+  pub live-is : (s : ℕ) → live (decode b p mode n) s ≡ anyBelow n (holdsAt b s)
   unfolding live holdsAll holdsAt decode
   live-is s = refl
 
-  pub order-is : (q : List (List ℕ)) (m k : ℕ) → programOrder (decode b q n) m k ≡ programOrder (decode b p n) m k
+  pub order-is : (q : List (List ℕ)) (other : Mode) (m k : ℕ) → programOrder (decode b q other n) m k ≡ programOrder (decode b p mode n) m k
   unfolding programOrder decode
-  order-is q m k = refl
+  order-is q other m k = refl

@@ -13,6 +13,7 @@ use Rattle.bits.specs.Bit.{joinRow}
 use Rattle.bits.specs.Within.{Within, within-trans, within-widen}
 use Rattle.bits.specs.Matrix.{Closed}
 use Rattle.bits.specs.Stage.{Holds, Made, Added, holds-cong, added-chain, added-none}
+use Rattle.model.specs.declared.Mode.{Mode}
 use Rattle.model.specs.Limits.{ROWS, WORK, CLASS-SETS}
 use Rattle.model.specs.Table.{Table, decode}
 use Rattle.model.specs.Moment.{programOrder}
@@ -46,24 +47,24 @@ pub upTo-all : (t : Table) (m k : ℕ) → upTo t CLASS-SETS m k ≡ happens t m
 unfolding upTo happens
 upTo-all t m k = refl
 
-module _ (b : List ℕ) (p : List (List ℕ)) (n : ℕ) where
+module _ (b : List ℕ) (p : List (List ℕ)) (mode : Mode) (n : ℕ) where
   -- a class set that is asked, and one that is not
-  inter-on : (s m k : ℕ) → live (decode b p n) (s + 1) ≡ true
-      → through (step (decode b p n) (s + 1)) (3 * n) m k ≡ interBy (decode b p n) s m k
+  inter-on : (s m k : ℕ) → live (decode b p mode n) (s + 1) ≡ true
+      → through (step (decode b p mode n) (s + 1)) (3 * n) m k ≡ interBy (decode b p mode n) s m k
   unfolding interBy interThreadBy interThread decode
   inter-on s m k l = rw add-one (sym (and-on _ _ (rw add-one at l)))
 
-  inter-off : (s m k : ℕ) → live (decode b p n) (s + 1) ≡ false → interBy (decode b p n) s m k ≡ false
+  inter-off : (s m k : ℕ) → live (decode b p mode n) (s + 1) ≡ false → interBy (decode b p mode n) s m k ≡ false
   unfolding interBy interThreadBy
   inter-off s m k l = and-false-left _ _ (rw add-one at l)
 
   -- ---- laws: stages
 
   -- the steps of a class set are made, closed, and joined to happens-before
-  pub added-set : (s : ℕ) (w v x u : List ℕ) → n ≤ ROWS → WORK ≤ length w → live (decode b p n) (s + 1) ≡ true
-      → Made STEP STEP-END STEP MOMENTS (3 * n) (step (decode b p n) (s + 1)) w v → Closed v x STEP (3 * n) MOMENTS
+  pub added-set : (s : ℕ) (w v x u : List ℕ) → n ≤ ROWS → WORK ≤ length w → live (decode b p mode n) (s + 1) ≡ true
+      → Made STEP STEP-END STEP MOMENTS (3 * n) (step (decode b p mode n) (s + 1)) w v → Closed v x STEP (3 * n) MOMENTS
       → u ≡ joinRow x HAPPENS STEP (HAPPENS-END - HAPPENS)
-      → Added HAPPENS STEP-END HAPPENS MOMENTS (3 * n) (interBy (decode b p n) s) w u
+      → Added HAPPENS STEP-END HAPPENS MOMENTS (3 * n) (interBy (decode b p mode n) s) w u
   added-set s w v x u small room l made closed joined =
       let a = added-chain HAPPENS STEP-END STEP HAPPENS (HAPPENS-END - HAPPENS) MOMENTS (3 * n) _ w v x u (omega arith) (λ h. omega arith) (omega arith)
       (omega arith, omega arith, omega arith, omega arith) made closed joined
@@ -71,8 +72,8 @@ module _ (b : List ℕ) (p : List (List ℕ)) (n : ℕ) where
       record { cell = λ i j q r. rw (← inter-on s i j l) (a .cell i j q r); frame = a .frame }
 
   -- no row holds all of the class set: nothing is to be added
-  pub added-not : (s : ℕ) (w : List ℕ) → live (decode b p n) (s + 1) ≡ false
-      → Added HAPPENS STEP-END HAPPENS MOMENTS (3 * n) (interBy (decode b p n) s) w w
+  pub added-not : (s : ℕ) (w : List ℕ) → live (decode b p mode n) (s + 1) ≡ false
+      → Added HAPPENS STEP-END HAPPENS MOMENTS (3 * n) (interBy (decode b p mode n) s) w w
   added-not s w l = added-none HAPPENS STEP-END w (λ i j q r. inter-off s i j l)
 
 -- all stages in order, the class sets from x on

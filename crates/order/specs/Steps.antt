@@ -13,6 +13,7 @@ use Rattle.bits.specs.Bit.{setBitIf, setBitIf-same, setBitIf-other, zeros, bit-
 use Rattle.bits.specs.Matrix.{rel}
 use Rattle.bits.specs.Within.{Within, within-refl, within-trans, within-put, within-cleared}
 use Rattle.bits.specs.Stage.{Made}
+use Rattle.model.specs.declared.Mode.{Mode}
 use Rattle.model.specs.Limits.{ROWS, WORK}
 use Rattle.model.specs.Table.{rowOf, decode}
 use Rattle.model.specs.Moment.{AT, programOrder}
@@ -27,48 +28,48 @@ use Rattle.order.specs.Cases.{stepRows, holdsAt, step-read, step-ends}
 pub record Grown (b : List ℕ) (n s : ℕ) (w u : List ℕ) : Type 0 where
   pub frame : Within STEP STEP-END w u
   pub kept : (i j : ℕ) → i < 3 * n → j < 3 * n → rel w STEP MOMENTS i j ≡ true → rel u STEP MOMENTS i j ≡ true
-  pub sound : (p : List (List ℕ)) → Synced (decode b p n) n w → (i j : ℕ) → i < 3 * n → j < 3 * n → rel u STEP MOMENTS i j ≡ true
-      → (rel w STEP MOMENTS i j or step (decode b p n) s i j) ≡ true
+  pub sound : (p : List (List ℕ)) (mode : Mode) → Synced (decode b p mode n) n w → (i j : ℕ) → i < 3 * n → j < 3 * n → rel u STEP MOMENTS i j ≡ true
+      → (rel w STEP MOMENTS i j or step (decode b p mode n) s i j) ≡ true
 
 -- among them the one from m to k
 pub record CellMade (b : List ℕ) (n s m k : ℕ) (w u : List ℕ) : Type 0 where
   pub grown : Grown b n s w u
-  pub set : (p : List (List ℕ)) → Synced (decode b p n) n w → step (decode b p n) s m k ≡ true → rel u STEP MOMENTS m k ≡ true
+  pub set : (p : List (List ℕ)) (mode : Mode) → Synced (decode b p mode n) n w → step (decode b p mode n) s m k ≡ true → rel u STEP MOMENTS m k ≡ true
 
 -- among them those from m to the first k moments and from these to m
 pub record RowMade (b : List ℕ) (n s m k : ℕ) (w u : List ℕ) : Type 0 where
   pub grown : Grown b n s w u
-  pub from : (p : List (List ℕ)) → Synced (decode b p n) n w → (j : ℕ) → j < k → step (decode b p n) s m j ≡ true → rel u STEP MOMENTS m j ≡ true
-  pub to : (p : List (List ℕ)) → Synced (decode b p n) n w → (j : ℕ) → j < k → step (decode b p n) s j m ≡ true → rel u STEP MOMENTS j m ≡ true
+  pub from : (p : List (List ℕ)) (mode : Mode) → Synced (decode b p mode n) n w → (j : ℕ) → j < k → step (decode b p mode n) s m j ≡ true → rel u STEP MOMENTS m j ≡ true
+  pub to : (p : List (List ℕ)) (mode : Mode) → Synced (decode b p mode n) n w → (j : ℕ) → j < k → step (decode b p mode n) s j m ≡ true → rel u STEP MOMENTS j m ≡ true
 
 -- among them those from and to the own moments of the first j rows that hold all of s
 pub record RowsMade (b : List ℕ) (n s j : ℕ) (w u : List ℕ) : Type 0 where
   pub grown : Grown b n s w u
-  pub from : (p : List (List ℕ)) → Synced (decode b p n) n w → (i k : ℕ) → i < j → k < 3 * n → holdsAt b s i ≡ true
-      → step (decode b p n) s (3 * i + 1) k ≡ true → rel u STEP MOMENTS (3 * i + 1) k ≡ true
-  pub to : (p : List (List ℕ)) → Synced (decode b p n) n w → (i k : ℕ) → i < j → k < 3 * n → holdsAt b s i ≡ true
-      → step (decode b p n) s k (3 * i + 1) ≡ true → rel u STEP MOMENTS k (3 * i + 1) ≡ true
+  pub from : (p : List (List ℕ)) (mode : Mode) → Synced (decode b p mode n) n w → (i k : ℕ) → i < j → k < 3 * n → holdsAt b s i ≡ true
+      → step (decode b p mode n) s (3 * i + 1) k ≡ true → rel u STEP MOMENTS (3 * i + 1) k ≡ true
+  pub to : (p : List (List ℕ)) (mode : Mode) → Synced (decode b p mode n) n w → (i k : ℕ) → i < j → k < 3 * n → holdsAt b s i ≡ true
+      → step (decode b p mode n) s k (3 * i + 1) ≡ true → rel u STEP MOMENTS k (3 * i + 1) ≡ true
 
 -- ---- laws: bits that were added
 
 pub grown-none : (b : List ℕ) (n s : ℕ) (w : List ℕ) → Grown b n s w w
-grown-none b n s w = record { frame = within-refl STEP STEP-END w; kept = λ i j p q h. h; sound = λ p y i j l o h. or-left _ h }
+grown-none b n s w = record { frame = within-refl STEP STEP-END w; kept = λ i j p q h. h; sound = λ p mode y i j l o h. or-left _ h }
 
-synced-on : {b : List ℕ} {n s : ℕ} {w u : List ℕ} (p : List (List ℕ)) → Grown b n s w u → Synced (decode b p n) n w → Synced (decode b p n) n u
-synced-on p g y = synced-kept (omega arith) (g .frame) y
+synced-on : {b : List ℕ} {n s : ℕ} {w u : List ℕ} (p : List (List ℕ)) (mode : Mode) → Grown b n s w u → Synced (decode b p mode n) n w → Synced (decode b p mode n) n u
+synced-on p mode g y = synced-kept (omega arith) (g .frame) y
 
 pub grown-more : {b : List ℕ} {n s : ℕ} {w v u : List ℕ} → Grown b n s w v → Grown b n s v u → Grown b n s w u
 grown-more {b} {n} {s} {w} {v} {u} g h =
     record {
       frame = within-trans (g .frame) (h .frame);
       kept = λ i j l o e. h .kept i j l o (g .kept i j l o e);
-      sound = λ p y i j l o e. go p y i j l o (or-cases _ _ (h .sound p (synced-on p g y) i j l o e));
+      sound = λ p mode y i j l o e. go p mode y i j l o (or-cases _ _ (h .sound p mode (synced-on p mode g y) i j l o e));
     }
   where
-    go : (p : List (List ℕ)) → Synced (decode b p n) n w → (i j : ℕ) → i < 3 * n → j < 3 * n
-        → (rel v STEP MOMENTS i j ≡ true) ⊎ (step (decode b p n) s i j ≡ true) → (rel w STEP MOMENTS i j or step (decode b p n) s i j) ≡ true
-    go p y i j l o (inl e) = g .sound p y i j l o e
-    go p y i j l o (inr e) = or-right _ e
+    go : (p : List (List ℕ)) (mode : Mode) → Synced (decode b p mode n) n w → (i j : ℕ) → i < 3 * n → j < 3 * n
+        → (rel v STEP MOMENTS i j ≡ true) ⊎ (step (decode b p mode n) s i j ≡ true) → (rel w STEP MOMENTS i j or step (decode b p mode n) s i j) ≡ true
+    go p mode y i j l o (inl e) = g .sound p mode y i j l o e
+    go p mode y i j l o (inr e) = or-right _ e
 
 -- ---- laws: one bit
 
@@ -85,16 +86,16 @@ module _ (n m k i : ℕ) (d : Bool) (w u : List ℕ) (few : n ≤ ROWS) (room : 
 
 pub cell-made : (b : List ℕ) (n s m k i : ℕ) (c d : Bool) (w u : List ℕ) → n ≤ ROWS → WORK ≤ length w → m < 3 * n → k < 3 * n
     → c ≡ rel w SYNC GRID (m / 3) (k / 3)
-    → ((p : List (List ℕ)) → d ≡ stepRows s (m % 3) (k % 3) (rowOf b (m / 3)) (rowOf b (k / 3)) c (programOrder (decode b p n) m k))
+    → ((p : List (List ℕ)) (mode : Mode) → d ≡ stepRows s (m % 3) (k % 3) (rowOf b (m / 3)) (rowOf b (k / 3)) c (programOrder (decode b p mode n) m k))
     → i ≡ (STEP + m * MOMENTS) * 64 + k → u ≡ setBitIf d w i → CellMade b n s m k w u
 cell-made b n s m k i c d w u few room l o e f at put =
     record {
       grown = record {
         frame = within-put STEP STEP-END i d (omega arith) (omega arith) put;
         kept = λ x y p q h. kept x y p q h (ℕ-discrete x m) (ℕ-discrete y k);
-        sound = λ p z x y q r h. sound p z x y q r h (ℕ-discrete x m) (ℕ-discrete y k);
+        sound = λ p mode z x y q r h. sound p mode z x y q r h (ℕ-discrete x m) (ℕ-discrete y k);
       };
-      set = λ p y h. set p y h;
+      set = λ p mode y h. set p mode y h;
     }
   where
     one : rel u STEP MOMENTS m k ≡ (rel w STEP MOMENTS m k or d)
@@ -103,80 +104,80 @@ cell-made b n s m k i c d w u few room l o e f at put =
     rest : (x y : ℕ) → x < 3 * n → y < 3 * n → ((x ≡ m) × (y ≡ k) → ⊥) → rel u STEP MOMENTS x y ≡ rel w STEP MOMENTS x y
     rest = other n m k i d w u few room l o at put
 
-    is : (p : List (List ℕ)) → Synced (decode b p n) n w → d ≡ step (decode b p n) s m k
-    is p y = step-read b p n w s m k c d y l o e (f p)
+    is : (p : List (List ℕ)) (mode : Mode) → Synced (decode b p mode n) n w → d ≡ step (decode b p mode n) s m k
+    is p mode y = step-read b p _ n w s m k c d y l o e (f p mode)
 
-    set : (p : List (List ℕ)) → Synced (decode b p n) n w → step (decode b p n) s m k ≡ true → rel u STEP MOMENTS m k ≡ true
-    set p y h = one ∙ or-right _ (is p y ∙ h)
+    set : (p : List (List ℕ)) (mode : Mode) → Synced (decode b p mode n) n w → step (decode b p mode n) s m k ≡ true → rel u STEP MOMENTS m k ≡ true
+    set p mode y h = one ∙ or-right _ (is p mode y ∙ h)
 
     kept : (x y : ℕ) → x < 3 * n → y < 3 * n → rel w STEP MOMENTS x y ≡ true → Dec (x ≡ m) → Dec (y ≡ k) → rel u STEP MOMENTS x y ≡ true
     kept x y p q h (yes a) (yes z) = rw (a, z) (one ∙ or-left d (rw (a, z) at h))
     kept x y p q h (yes a) (no z) = rest x y p q (λ t. z (t .1)) ∙ h
     kept x y p q h (no a) z = rest x y p q (λ t. a (t .0)) ∙ h
 
-    sound : (p : List (List ℕ)) → Synced (decode b p n) n w → (x y : ℕ) → x < 3 * n → y < 3 * n → rel u STEP MOMENTS x y ≡ true → Dec (x ≡ m) → Dec (y ≡ k)
-        → (rel w STEP MOMENTS x y or step (decode b p n) s x y) ≡ true
-    sound p t x y q r h (yes a) (yes z) = rw (a, z, ← is p t, ← one) (rw (a, z) at h)
-    sound p t x y q r h (yes a) (no z) = or-left _ (sym (rest x y q r (λ v. z (v .1))) ∙ h)
-    sound p t x y q r h (no a) z = or-left _ (sym (rest x y q r (λ v. a (v .0))) ∙ h)
+    sound : (p : List (List ℕ)) (mode : Mode) → Synced (decode b p mode n) n w → (x y : ℕ) → x < 3 * n → y < 3 * n → rel u STEP MOMENTS x y ≡ true → Dec (x ≡ m) → Dec (y ≡ k)
+        → (rel w STEP MOMENTS x y or step (decode b p mode n) s x y) ≡ true
+    sound p mode t x y q r h (yes a) (yes z) = rw (a, z, ← is p mode t, ← one) (rw (a, z) at h)
+    sound p mode t x y q r h (yes a) (no z) = or-left _ (sym (rest x y q r (λ v. z (v .1))) ∙ h)
+    sound p mode t x y q r h (no a) z = or-left _ (sym (rest x y q r (λ v. a (v .0))) ∙ h)
 
 -- ---- laws: the moments at the other end
 
 pub row-none : (b : List ℕ) (n s m : ℕ) (w : List ℕ) → RowMade b n s m 0 w w
-row-none b n s m w = record { grown = grown-none b n s w; from = λ p y j l. absurd (omega arith); to = λ p y j l. absurd (omega arith) }
+row-none b n s m w = record { grown = grown-none b n s w; from = λ p mode y j l. absurd (omega arith); to = λ p mode y j l. absurd (omega arith) }
 
 pub row-more : (b : List ℕ) (n s m k : ℕ) (w v x u : List ℕ) → m < 3 * n → k < 3 * n → RowMade b n s m k w v → CellMade b n s m k v x → CellMade b n s k m x u
     → RowMade b n s m (k + 1) w u
 row-more b n s m k w v x u l o h c d =
     record {
       grown = grown-more (h .grown) both;
-      from = λ p y j q e. from p y j q e (ℕ-discrete j k);
-      to = λ p y j q e. to p y j q e (ℕ-discrete j k);
+      from = λ p mode y j q e. from p mode y j q e (ℕ-discrete j k);
+      to = λ p mode y j q e. to p mode y j q e (ℕ-discrete j k);
     }
   where
     both : Grown b n s v u
     both = grown-more (c .grown) (d .grown)
 
-    from : (p : List (List ℕ)) → Synced (decode b p n) n w → (j : ℕ) → j < k + 1 → step (decode b p n) s m j ≡ true → Dec (j ≡ k)
+    from : (p : List (List ℕ)) (mode : Mode) → Synced (decode b p mode n) n w → (j : ℕ) → j < k + 1 → step (decode b p mode n) s m j ≡ true → Dec (j ≡ k)
         → rel u STEP MOMENTS m j ≡ true
-    from p y j q e (yes a) = rw a (d .grown .kept m k l o (c .set p (synced-on p (h .grown) y) (rw a at e)))
-    from p y j q e (no a) = both .kept m j l (omega arith) (h .from p y j (omega arith) e)
+    from p mode y j q e (yes a) = rw a (d .grown .kept m k l o (c .set p mode (synced-on p mode (h .grown) y) (rw a at e)))
+    from p mode y j q e (no a) = both .kept m j l (omega arith) (h .from p mode y j (omega arith) e)
 
-    to : (p : List (List ℕ)) → Synced (decode b p n) n w → (j : ℕ) → j < k + 1 → step (decode b p n) s j m ≡ true → Dec (j ≡ k)
+    to : (p : List (List ℕ)) (mode : Mode) → Synced (decode b p mode n) n w → (j : ℕ) → j < k + 1 → step (decode b p mode n) s j m ≡ true → Dec (j ≡ k)
         → rel u STEP MOMENTS j m ≡ true
-    to p y j q e (yes a) = rw a (d .set p (synced-on p (grown-more (h .grown) (c .grown)) y) (rw a at e))
-    to p y j q e (no a) = both .kept j m (omega arith) l (h .to p y j (omega arith) e)
+    to p mode y j q e (yes a) = rw a (d .set p mode (synced-on p mode (grown-more (h .grown) (c .grown)) y) (rw a at e))
+    to p mode y j q e (no a) = both .kept j m (omega arith) l (h .to p mode y j (omega arith) e)
 
 -- ---- laws: the rows that hold all of the set
 
 pub rows-none : (b : List ℕ) (n s : ℕ) (w : List ℕ) → RowsMade b n s 0 w w
-rows-none b n s w = record { grown = grown-none b n s w; from = λ p y i k l. absurd (omega arith); to = λ p y i k l. absurd (omega arith) }
+rows-none b n s w = record { grown = grown-none b n s w; from = λ p mode y i k l. absurd (omega arith); to = λ p mode y i k l. absurd (omega arith) }
 
 pub rows-more : (b : List ℕ) (n s j : ℕ) (w v u : List ℕ) → j < n → RowsMade b n s j w v → RowMade b n s (3 * j + 1) (3 * n) v u → RowsMade b n s (j + 1) w u
 rows-more b n s j w v u o h r =
     record {
       grown = grown-more (h .grown) (r .grown);
-      from = λ p y i k l q a e. from p y i k l q a e (ℕ-discrete i j);
-      to = λ p y i k l q a e. to p y i k l q a e (ℕ-discrete i j);
+      from = λ p mode y i k l q a e. from p mode y i k l q a e (ℕ-discrete i j);
+      to = λ p mode y i k l q a e. to p mode y i k l q a e (ℕ-discrete i j);
     }
   where
-    from : (p : List (List ℕ)) → Synced (decode b p n) n w → (i k : ℕ) → i < j + 1 → k < 3 * n → holdsAt b s i ≡ true
-        → step (decode b p n) s (3 * i + 1) k ≡ true → Dec (i ≡ j) → rel u STEP MOMENTS (3 * i + 1) k ≡ true
-    from p y i k l q a e (yes z) = rw z (r .from p (synced-on p (h .grown) y) k q (rw z at e))
-    from p y i k l q a e (no z) = r .grown .kept (3 * i + 1) k (omega arith) q (h .from p y i k (omega arith) q a e)
+    from : (p : List (List ℕ)) (mode : Mode) → Synced (decode b p mode n) n w → (i k : ℕ) → i < j + 1 → k < 3 * n → holdsAt b s i ≡ true
+        → step (decode b p mode n) s (3 * i + 1) k ≡ true → Dec (i ≡ j) → rel u STEP MOMENTS (3 * i + 1) k ≡ true
+    from p mode y i k l q a e (yes z) = rw z (r .from p mode (synced-on p mode (h .grown) y) k q (rw z at e))
+    from p mode y i k l q a e (no z) = r .grown .kept (3 * i + 1) k (omega arith) q (h .from p mode y i k (omega arith) q a e)
 
-    to : (p : List (List ℕ)) → Synced (decode b p n) n w → (i k : ℕ) → i < j + 1 → k < 3 * n → holdsAt b s i ≡ true
-        → step (decode b p n) s k (3 * i + 1) ≡ true → Dec (i ≡ j) → rel u STEP MOMENTS k (3 * i + 1) ≡ true
-    to p y i k l q a e (yes z) = rw z (r .to p (synced-on p (h .grown) y) k q (rw z at e))
-    to p y i k l q a e (no z) = r .grown .kept k (3 * i + 1) q (omega arith) (h .to p y i k (omega arith) q a e)
+    to : (p : List (List ℕ)) (mode : Mode) → Synced (decode b p mode n) n w → (i k : ℕ) → i < j + 1 → k < 3 * n → holdsAt b s i ≡ true
+        → step (decode b p mode n) s k (3 * i + 1) ≡ true → Dec (i ≡ j) → rel u STEP MOMENTS k (3 * i + 1) ≡ true
+    to p mode y i k l q a e (yes z) = rw z (r .to p mode (synced-on p mode (h .grown) y) k q (rw z at e))
+    to p mode y i k l q a e (no z) = r .grown .kept k (3 * i + 1) q (omega arith) (h .to p mode y i k (omega arith) q a e)
 
 -- a row that does not hold all of s
 pub rows-skip : (b : List ℕ) (n s j : ℕ) (w v u : List ℕ) → holdsAt b s j ≡ false → RowsMade b n s j w v → u ≡ v → RowsMade b n s (j + 1) w u
 rows-skip b n s j w v u off h same =
     rw same (record {
       grown = h .grown;
-      from = λ p y i k l q a e. h .from p y i k (below i l a (ℕ-discrete i j)) q a e;
-      to = λ p y i k l q a e. h .to p y i k (below i l a (ℕ-discrete i j)) q a e;
+      from = λ p mode y i k l q a e. h .from p mode y i k (below i l a (ℕ-discrete i j)) q a e;
+      to = λ p mode y i k l q a e. h .to p mode y i k (below i l a (ℕ-discrete i j)) q a e;
     })
   where
     below : (i : ℕ) → i < j + 1 → holdsAt b s i ≡ true → Dec (i ≡ j) → i < j
@@ -184,33 +185,33 @@ rows-skip b n s j w v u off h same =
     below i l a (no z) = omega arith
 
 -- all rows: the region holds the direct cases
-pub steps-made : (b : List ℕ) (p : List (List ℕ)) (n s : ℕ) (w v u : List ℕ) → n ≤ ROWS → WORK ≤ length w → Synced (decode b p n) n w
-    → v ≡ zeros w STEP (STEP-END - STEP) → RowsMade b n s n v u → Made STEP STEP-END STEP MOMENTS (3 * n) (step (decode b p n) s) w u
+pub steps-made : (b : List ℕ) (p : List (List ℕ)) (mode : Mode) (n s : ℕ) (w v u : List ℕ) → n ≤ ROWS → WORK ≤ length w → Synced (decode b p mode n) n w
+    → v ≡ zeros w STEP (STEP-END - STEP) → RowsMade b n s n v u → Made STEP STEP-END STEP MOMENTS (3 * n) (step (decode b p mode n) s) w u
 unfolding rel
-steps-made b p n s w v u few room y cleared h =
+steps-made b p mode n s w v u few room y cleared h =
     record {
-      holds = record { fits = omega arith; cell = λ i j l o. bool-ext _ _ (λ e. clean i j l o (or-cases _ _ (h .grown .sound p z i j l o e))) (λ e. full i j l o e (step-ends b p n s i j e)) };
+      holds = record { fits = omega arith; cell = λ i j l o. bool-ext _ _ (λ e. clean i j l o (or-cases _ _ (h .grown .sound p mode z i j l o e))) (λ e. full i j l o e (step-ends b p _ n s i j e)) };
       frame = within-trans wiped (h .grown .frame);
     }
   where
     wiped : Within STEP STEP-END w v
     wiped = within-cleared STEP STEP-END (omega arith) cleared
 
-    z : Synced (decode b p n) n v
+    z : Synced (decode b p mode n) n v
     z = synced-kept (omega arith) wiped y
 
     fresh : (i j : ℕ) → i < 3 * n → j < 3 * n → rel v STEP MOMENTS i j ≡ false
     fresh i j l o = rw cleared (bit-zeros-in w STEP (STEP-END - STEP) ((STEP + i * MOMENTS) * 64 + j) (omega arith) (omega arith) (omega arith))
 
-    clean : (i j : ℕ) → i < 3 * n → j < 3 * n → (rel v STEP MOMENTS i j ≡ true) ⊎ (step (decode b p n) s i j ≡ true) → step (decode b p n) s i j ≡ true
+    clean : (i j : ℕ) → i < 3 * n → j < 3 * n → (rel v STEP MOMENTS i j ≡ true) ⊎ (step (decode b p mode n) s i j ≡ true) → step (decode b p mode n) s i j ≡ true
     clean i j l o (inl e) = not-both e (fresh i j l o)
     clean i j l o (inr e) = e
 
-    full : (i j : ℕ) → i < 3 * n → j < 3 * n → step (decode b p n) s i j ≡ true
+    full : (i j : ℕ) → i < 3 * n → j < 3 * n → step (decode b p mode n) s i j ≡ true
         → ((i % 3 ≡ AT) × (holdsAt b s (i / 3) ≡ true)) ⊎ ((j % 3 ≡ AT) × (holdsAt b s (j / 3) ≡ true)) → rel u STEP MOMENTS i j ≡ true
     full i j l o e (inl a) =
         let q : 3 * (i / 3) + 1 ≡ i = let c : i % 3 ≡ 1 = a .0 in omega arith in
-        rw q at (h .from p z (i / 3) j (omega arith) o (a .1) (rw q e))
+        rw q at (h .from p mode z (i / 3) j (omega arith) o (a .1) (rw q e))
     full i j l o e (inr a) =
         let q : 3 * (j / 3) + 1 ≡ j = let c : j % 3 ≡ 1 = a .0 in omega arith in
-        rw q at (h .to p z (j / 3) i (omega arith) l (a .1) (rw q e))
+        rw q at (h .to p mode z (j / 3) i (omega arith) l (a .1) (rw q e))

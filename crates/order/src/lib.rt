@@ -4,6 +4,7 @@ ghost use mathlib.Core.List.{List};
 ghost use Prim.Native.Nat.{ℕ, _+_, _*_, _≤_, _<_};
 ghost use lib.ListN.{length};
 ghost use Rattle.bits.specs.Stage.{Made, Added};
+ghost use Rattle.model.specs.declared.Mode.{Mode};
 ghost use Rattle.model.specs.Limits.{ROWS, WORK, CLASS-SETS};
 ghost use Rattle.model.specs.Table.{decode};
 ghost use Rattle.model.specs.Moment.{programOrder};
@@ -12,6 +13,7 @@ ghost use Rattle.area.specs.Regions.{HAPPENS, HAPPENS-END, STEP-END, MOMENTS};
 ghost use Rattle.area.specs.State.{MadeOrdered};
 ghost use Rattle.sequence.specs.Known.{Synced};
 ghost use Rattle.order.specs.Sets.{interBy};
+use model::Mode;
 use model::Places;
 
 pub mod steps; // M6: the direct cases of inter-thread order
@@ -22,8 +24,8 @@ pub const CLASS_SETS: u8 = 15;
 // M1: program order, as the bits that happens-before begins with.
 pub fn fill_order(rows: &[u8], n: usize, w: &mut [u64])
     requires { ⌜ (n ≤ ROWS) × (WORK ≤ length (now w)) ⌝ }
-    ensures { λ _. ⌜ ((p : List (List ℕ)) → Made HAPPENS HAPPENS-END HAPPENS MOMENTS (3 * n)
-        (programOrder (decode (now (rows .entry)) p n)) (now (w .entry)) (now (w .exit))) ⌝ }
+    ensures { λ _. ⌜ ((p : List (List ℕ)) (mode : Mode) → Made HAPPENS HAPPENS-END HAPPENS MOMENTS (3 * n)
+        (programOrder (decode (now (rows .entry)) p mode n)) (now (w .entry)) (now (w .exit))) ⌝ }
 {
     bits::clear(w, area::HAPPENS, area::HAPPENS_END);
     for m in 0..3 * n {
@@ -37,7 +39,7 @@ pub fn fill_order(rows: &[u8], n: usize, w: &mut [u64])
 // M6: whether some row holds all of the class set s. No other set has a direct case.
 pub fn is_live(rows: &[u8], n: usize, s: u8) -> bool
     requires { ⌜ n ≤ ROWS ⌝ }
-    ensures { λ b. ⌜ ((p : List (List ℕ)) → b ≡ live (decode (now (rows .entry)) p n) s) ⌝ }
+    ensures { λ b. ⌜ ((p : List (List ℕ)) (mode : Mode) → b ≡ live (decode (now (rows .entry)) p mode n) s) ⌝ }
 {
     for i in 0..n {
         if steps::holds_at(rows, s, i) {
@@ -48,13 +50,13 @@ pub fn is_live(rows: &[u8], n: usize, s: u8) -> bool
 }
 
 // M6: adds inter-thread order for the class set s + 1, the closure of its direct cases, to happens-before.
-pub fn add_set(rows: &[u8], p: Places, n: usize, s: u8, w: &mut [u64])
-    requires { ⌜ (n ≤ ROWS) × (WORK ≤ length (now w)) × (s < CLASS-SETS) × Synced (decode (now rows) p n) n (now w) ⌝ }
+pub fn add_set(rows: &[u8], p: Places, mode: Mode, n: usize, s: u8, w: &mut [u64])
+    requires { ⌜ (n ≤ ROWS) × (WORK ≤ length (now w)) × (s < CLASS-SETS) × Synced (decode (now rows) p mode n) n (now w) ⌝ }
     ensures { λ _. ⌜ Added HAPPENS STEP-END HAPPENS MOMENTS (3 * n)
-        (interBy (decode (now (rows .entry)) p n) s) (now (w .entry)) (now (w .exit)) ⌝ }
+        (interBy (decode (now (rows .entry)) p mode n) s) (now (w .entry)) (now (w .exit)) ⌝ }
 {
     if is_live(rows, n, s + 1) {
-        steps::fill_step(rows, p, n, s + 1, w);
+        steps::fill_step(rows, p, mode, n, s + 1, w);
         bits::close(w, area::STEP, 3 * n, area::MOMENTS);
         bits::join_row(
             w,
@@ -68,13 +70,13 @@ pub fn add_set(rows: &[u8], p: Places, n: usize, s: u8, w: &mut [u64])
 // M7: happens-before: program order, or inter-thread order for some class set. Also mutually-ordered rows (M3), which later
 // stages read.
 // Ruled out: one that closes program order together with the direct cases; one that leaves a class set out.
-pub fn happens_before(rows: &[u8], p: Places, n: usize, w: &mut [u64])
+pub fn happens_before(rows: &[u8], p: Places, mode: Mode, n: usize, w: &mut [u64])
     requires { ⌜ (n ≤ ROWS) × (WORK ≤ length (now w)) ⌝ }
-    ensures { λ _. ⌜ MadeOrdered (decode (now (rows .entry)) p n) n (now (w .entry)) (now (w .exit)) ⌝ }
+    ensures { λ _. ⌜ MadeOrdered (decode (now (rows .entry)) p mode n) n (now (w .entry)) (now (w .exit)) ⌝ }
 {
-    sequence::sync::make_synced(rows, p, n, w);
+    sequence::sync::make_synced(rows, p, mode, n, w);
     fill_order(rows, n, w);
     for s in 0..CLASS_SETS {
-        add_set(rows, p, n, s, w);
+        add_set(rows, p, mode, n, s, w);
     }
 }

@@ -6,6 +6,7 @@ ghost use Prim.Native.Nat.{ℕ, _+_, _*_, _/_, _%_, _≤_, _<_};
 ghost use lib.ListN.{length};
 ghost use Rattle.bits.specs.Stage.{Made};
 ghost use Rattle.bits.specs.Matrix.{rel};
+ghost use Rattle.model.specs.declared.Mode.{Mode};
 ghost use Rattle.model.specs.Limits.{ROWS, WORK};
 ghost use Rattle.model.specs.Table.{decode, rowOf};
 ghost use Rattle.model.specs.Moment.{programOrder};
@@ -14,6 +15,7 @@ ghost use Rattle.area.specs.Regions.{SYNC, STEP, STEP-END, GRID, MOMENTS};
 ghost use Rattle.sequence.specs.Known.{Synced};
 ghost use Rattle.order.specs.Cases.{stepRows, holdsAt};
 ghost use Rattle.order.specs.Steps.{CellMade, RowMade};
+use model::Mode;
 use model::Places;
 use model::Row;
 
@@ -70,8 +72,8 @@ fn is_step(s: u8, from: u8, to: u8, r: Row, q: Row, b: bool, o: bool) -> bool
 // neither that nor program order, and no whole row is read.
 fn step_of(rows: &[u8], n: usize, s: u8, m: usize, k: usize, b: bool) -> bool
     requires { ⌜ (n ≤ ROWS) × (m < 3 * n) × (k < 3 * n) ⌝ }
-    ensures { λ d. ⌜ ((p : List (List ℕ)) → d ≡ stepRows s (m % 3) (k % 3) (rowOf (now (rows .entry)) (m / 3)) (rowOf (now (rows .entry)) (k / 3)) b
-        (programOrder (decode (now (rows .entry)) p n) m k)) ⌝ }
+    ensures { λ d. ⌜ ((p : List (List ℕ)) (mode : Mode) → d ≡ stepRows s (m % 3) (k % 3) (rowOf (now (rows .entry)) (m / 3)) (rowOf (now (rows .entry)) (k / 3)) b
+        (programOrder (decode (now (rows .entry)) p mode n) m k)) ⌝ }
 {
     let o = moments::ordered_at(rows, n, m, k);
     if !(b | o) {
@@ -113,9 +115,9 @@ fn fill_at(rows: &[u8], n: usize, s: u8, m: usize, w: &mut [u64])
 // M6: the direct cases for the class set s, for every two moments. Each has the own moment of a row that holds all of s at one end,
 // so that only such rows are asked.
 // Ruled out: one that sets the bits from such a moment alone and not those to it; one that asks rows of a class in s instead of all.
-pub fn fill_step(rows: &[u8], p: Places, n: usize, s: u8, w: &mut [u64])
-    requires { ⌜ (n ≤ ROWS) × (WORK ≤ length (now w)) × Synced (decode (now rows) p n) n (now w) ⌝ }
-    ensures { λ _. ⌜ Made STEP STEP-END STEP MOMENTS (3 * n) (step (decode (now (rows .entry)) p n) s) (now (w .entry)) (now (w .exit)) ⌝ }
+pub fn fill_step(rows: &[u8], p: Places, mode: Mode, n: usize, s: u8, w: &mut [u64])
+    requires { ⌜ (n ≤ ROWS) × (WORK ≤ length (now w)) × Synced (decode (now rows) p mode n) n (now w) ⌝ }
+    ensures { λ _. ⌜ Made STEP STEP-END STEP MOMENTS (3 * n) (step (decode (now (rows .entry)) p mode n) s) (now (w .entry)) (now (w .exit)) ⌝ }
 {
     bits::clear(w, area::STEP, area::STEP_END);
     for j in 0..n {

@@ -9,6 +9,7 @@ use lib.Dec.{ltb, leb, eqb}
 use borrow.Author.Tests.{ltb-true, ne-eqb, not-false}
 use Rattle.finite.specs.Logic.{_and_, _or_, split, and-false-left, and-false-right, not-out, or-off}
 use Rattle.finite.specs.Below.{anyBelow, any-in}
+use Rattle.model.specs.declared.Mode.{Mode}
 use Rattle.model.specs.declared.Admission.{Admission}
 use Rattle.model.specs.declared.Admission.the-variants.{Admitted, Refused}
 use Rattle.model.specs.declared.Row.{Row}
@@ -18,7 +19,7 @@ use Rattle.model.specs.declared.AcceptAnswer.{AcceptAnswer}
 use Rattle.model.specs.declared.AcceptAnswer.the-variants as accept
 use Rattle.model.specs.Limits.{ROWS, CHAIN, CASE, CLASS-SETS}
 use Rattle.model.specs.Row.{releases, acquires}
-use Rattle.model.specs.Table.{Table, rowsAt, rowBytes, placesOf, rowOf, decode, tableOf}
+use Rattle.model.specs.Table.{modeOf, Table, rowsAt, rowBytes, placesOf, rowOf, decode, tableOf}
 use Rattle.model.specs.Moment.{moment, momentIn, orderedRows, programOrder}
 use Rattle.model.specs.Synchronizes.{synchronizes}
 use Rattle.model.specs.Happens.{holdingOf, concernsOf, holding, concerns, bySync, toRelease, fromAcquire, direct}
@@ -54,62 +55,62 @@ module _ (t : Table) (s case m k : ℕ) where
   direct-last e f = rw (e, f) refl
 
 -- the same of two rows that were read
-module _ (b : List ℕ) (p : List (List ℕ)) (n s case m k : ℕ) (r q : Row) (er : r ≡ rowOf b (m / 3)) (eq : q ≡ rowOf b (k / 3)) where
-  pub direct-sync : (h g v : Bool) → case ≡ 1 → h ≡ holdingOf s r (m % 3) → g ≡ holdingOf s q (k % 3) → v ≡ synchronizes (decode b p n) (m / 3) (k / 3)
-      → (h and g and v) ≡ direct (decode b p n) s case m k
+module _ (b : List ℕ) (p : List (List ℕ)) (mode : Mode) (n s case m k : ℕ) (r q : Row) (er : r ≡ rowOf b (m / 3)) (eq : q ≡ rowOf b (k / 3)) where
+  pub direct-sync : (h g v : Bool) → case ≡ 1 → h ≡ holdingOf s r (m % 3) → g ≡ holdingOf s q (k % 3) → v ≡ synchronizes (decode b p mode n) (m / 3) (k / 3)
+      → (h and g and v) ≡ direct (decode b p mode n) s case m k
   unfolding bySync holding decode
-  direct-sync h g v e eh eg ev = rw (eh, eg, ev, er, eq) (direct-one (decode b p n) s case m k e)
+  direct-sync h g v e eh eg ev = rw (eh, eg, ev, er, eq) (direct-one (decode b p mode n) s case m k e)
 
   pub direct-release : (g x d o : Bool) → case ≡ 2 → g ≡ holdingOf s q (k % 3) → x ≡ releases q → d ≡ concernsOf s r (m % 3) → o ≡ orderedRows n m k r q
-      → (g and x and d and o) ≡ direct (decode b p n) s case m k
+      → (g and x and d and o) ≡ direct (decode b p mode n) s case m k
   unfolding toRelease holding concerns programOrder decode
-  direct-release g x d o e eg ex ed eo = rw (eg, ex, ed, eo, er, eq) (direct-two (decode b p n) s case m k e)
+  direct-release g x d o e eg ex ed eo = rw (eg, ex, ed, eo, er, eq) (direct-two (decode b p mode n) s case m k e)
 
   pub direct-acquire : (h x d o : Bool) → (case ≡ 1 → ⊥) → (case ≡ 2 → ⊥) → h ≡ holdingOf s r (m % 3) → x ≡ acquires r → d ≡ concernsOf s q (k % 3)
-      → o ≡ orderedRows n m k r q → (eqb case 3 and (h and x and d and o)) ≡ direct (decode b p n) s case m k
+      → o ≡ orderedRows n m k r q → (eqb case 3 and (h and x and d and o)) ≡ direct (decode b p mode n) s case m k
   unfolding fromAcquire holding concerns programOrder decode
-  direct-acquire h x d o e f eh ex ed eo = rw (eh, ex, ed, eo, er, eq) (direct-last (decode b p n) s case m k (ne-eqb case 1 e) (ne-eqb case 2 f))
+  direct-acquire h x d o e f eh ex ed eo = rw (eh, ex, ed, eo, er, eq) (direct-last (decode b p mode n) s case m k (ne-eqb case 1 e) (ne-eqb case 2 f))
 
 -- ---- laws: a chain
 
-module _ (b : List ℕ) (p : List (List ℕ)) (n : ℕ) where
+module _ (b : List ℕ) (p : List (List ℕ)) (mode : Mode) (n : ℕ) where
   -- a moment that is there is one of so many
-  pub moment-low : (m : ℕ) → moment (decode b p n) m ≡ true → m < 3 * n
+  pub moment-low : (m : ℕ) → moment (decode b p mode n) m ≡ true → m < 3 * n
   unfolding moment momentIn decode
   moment-low m e = let l : m / 3 < n = ltb-true (m / 3) n (split e .0) in omega arith
 
   -- the first of two moments that are there
-  pub first-low : (m k : ℕ) (x y : Bool) → x ≡ moment (decode b p n) m → not (x and y and not (eqb m k)) ≡ false → m < 3 * n
+  pub first-low : (m k : ℕ) (x y : Bool) → x ≡ moment (decode b p mode n) m → not (x and y and not (eqb m k)) ≡ false → m < 3 * n
   first-low m k x y e f = moment-low m (sym e ∙ split (split (not-false (x and y and not (eqb m k)) f) .0) .0)
 
   module _ (s : ℕ) where
-    pub step-off : (m x : ℕ) → moment (decode b p n) (x % CASE) ≡ false → false ≡ stepHolds (decode b p n) s m x
+    pub step-off : (m x : ℕ) → moment (decode b p mode n) (x % CASE) ≡ false → false ≡ stepHolds (decode b p mode n) s m x
     unfolding stepHolds
     step-off m x e = sym (and-false-left _ _ e)
 
-    pub step-on : (m x : ℕ) (d : Bool) → moment (decode b p n) (x % CASE) ≡ true → d ≡ direct (decode b p n) s (x / CASE) m (x % CASE)
-        → d ≡ stepHolds (decode b p n) s m x
+    pub step-on : (m x : ℕ) (d : Bool) → moment (decode b p mode n) (x % CASE) ≡ true → d ≡ direct (decode b p mode n) s (x / CASE) m (x % CASE)
+        → d ≡ stepHolds (decode b p mode n) s m x
     unfolding stepHolds
     step-on m x d e f = f ∙ sym (and-on _ _ e)
 
     -- a step that holds reaches a moment that is there
-    pub step-low : (m x : ℕ) → stepHolds (decode b p n) s m x ≡ true → x % CASE < 3 * n
+    pub step-low : (m x : ℕ) → stepHolds (decode b p mode n) s m x ≡ true → x % CASE < 3 * n
     unfolding stepHolds
     step-low m x e = moment-low (x % CASE) (split e .0)
 
     module _ (m : ℕ) (steps : List ℕ) where
       -- step i, from where the one before it ends, as code tests it
-      pub broken-is : (i a : ℕ) (v : Bool) → a ≡ stands m steps i → v ≡ stepHolds (decode b p n) s a (getD steps i 0)
-          → broken (decode b p n) s m steps i ≡ not v
+      pub broken-is : (i a : ℕ) (v : Bool) → a ≡ stands m steps i → v ≡ stepHolds (decode b p mode n) s a (getD steps i 0)
+          → broken (decode b p mode n) s m steps i ≡ not v
       unfolding broken
       broken-is i a v e f = rw (f, e) refl
 
-      pub leads-broken : (k i : ℕ) → i < length steps → broken (decode b p n) s m steps i ≡ true → false ≡ leadsTo (decode b p n) s m k steps
+      pub leads-broken : (k i : ℕ) → i < length steps → broken (decode b p mode n) s m steps i ≡ true → false ≡ leadsTo (decode b p mode n) s m k steps
       unfolding leadsTo
       leads-broken k i l e = sym (and-false-right _ _ (ap not (any-in _ _ i l e)))
 
-      pub leads-whole : (k i a : ℕ) → i ≡ length steps → a ≡ stands m steps i → anyBelow i (broken (decode b p n) s m steps) ≡ false
-          → eqb a k ≡ leadsTo (decode b p n) s m k steps
+      pub leads-whole : (k i a : ℕ) → i ≡ length steps → a ≡ stands m steps i → anyBelow i (broken (decode b p mode n) s m steps) ≡ false
+          → eqb a k ≡ leadsTo (decode b p mode n) s m k steps
       unfolding leadsTo
       leads-whole k i a l e f = rw (← l, ← e, f) (sym (and-on-right _ _ refl))
 
@@ -126,9 +127,9 @@ stands-next m steps i =
 
 -- ---- laws: a derivation
 
-module _ (b : List ℕ) (p : List (List ℕ)) (n m k : ℕ) (r : Reason) (steps : List ℕ) where
-  pub word-told : (o : Bool) → r ≡ reason.ProgramOrder → o ≡ programOrder (decode b p n) m k
-      → (eqb (length steps) 0 and o) ≡ accepts (decode b p n) m k r steps
+module _ (b : List ℕ) (p : List (List ℕ)) (mode : Mode) (n m k : ℕ) (r : Reason) (steps : List ℕ) where
+  pub word-told : (o : Bool) → r ≡ reason.ProgramOrder → o ≡ programOrder (decode b p mode n) m k
+      → (eqb (length steps) 0 and o) ≡ accepts (decode b p mode n) m k r steps
   unfolding accepts
   word-told o e f = rw (e, f) refl
 
@@ -136,25 +137,25 @@ module _ (b : List ℕ) (p : List (List ℕ)) (n m k : ℕ) (r : Reason) (steps 
     abbrev fits : Bool
     fits = ltb 0 s and leb s CLASS-SETS and ltb 0 (length steps) and leb (length steps) CHAIN
 
-    pub chain-off : not fits ≡ true → false ≡ accepts (decode b p n) m k r steps
+    pub chain-off : not fits ≡ true → false ≡ accepts (decode b p mode n) m k r steps
     unfolding accepts chainHolds
     chain-off f = rw h (sym (and-false-left _ _ (and-false-left _ _ (not-out fits f))))
 
-    pub chain-on : (d : Bool) → not fits ≡ false → d ≡ leadsTo (decode b p n) s m k steps → d ≡ accepts (decode b p n) m k r steps
+    pub chain-on : (d : Bool) → not fits ≡ false → d ≡ leadsTo (decode b p mode n) s m k steps → d ≡ accepts (decode b p mode n) m k r steps
     unfolding accepts chainHolds leadsTo
-    chain-on d f g = rw h (g ∙ sym (ap (λ (z : Bool). z and not (anyBelow (length steps) (broken (decode b p n) s m steps))) (and-on _ _ (not-false fits f))))
+    chain-on d f g = rw h (g ∙ sym (ap (λ (z : Bool). z and not (anyBelow (length steps) (broken (decode b p mode n) s m steps))) (and-on _ _ (not-false fits f))))
 
 -- ---- laws: a table that is admitted
 
-module _ {s : List ℕ} (h : Sound true s) (b : List ℕ) (p : List (List ℕ)) (n : ℕ) (rows : b ≡ rowBytes s) (places : p ≡ placesOf s) (all : n ≡ rowsAt s) where
-  table-is : decode b p n ≡ tableOf s
+module _ {s : List ℕ} (h : Sound true s) (b : List ℕ) (p : List (List ℕ)) (mode : Mode) (n : ℕ) (rows : b ≡ rowBytes s) (places : p ≡ placesOf s) (modes : mode ≡ modeOf false s) (all : n ≡ rowsAt s) where
+  table-is : decode b p mode n ≡ tableOf s
   unfolding tableOf
-  table-is = rw (rows, places, all) refl
+  table-is = rw (rows, places, modes, all) refl
 
   pub few : n ≤ ROWS
   few = rw all (rows-fit h)
 
-  module _ (m k : ℕ) (r : Reason) (steps : List ℕ) (x y : Bool) (ex : x ≡ moment (decode b p n) m) (ey : y ≡ moment (decode b p n) k) where
+  module _ (m k : ℕ) (r : Reason) (steps : List ℕ) (x y : Bool) (ex : x ≡ moment (decode b p mode n) m) (ey : y ≡ moment (decode b p mode n) k) where
     abbrev two : Bool
     two = x and y and not (eqb m k)
 
@@ -162,7 +163,7 @@ module _ {s : List ℕ} (h : Sound true s) (b : List ℕ) (p : List (List ℕ)) 
     unfolding judged twoMoments acceptAnswer
     judged-absent f = rw (← table-is, ← ex, ← ey, not-out two f) refl
 
-    module _ (f : not two ≡ false) (d : Bool) (e : d ≡ accepts (decode b p n) m k r steps) where
+    module _ (f : not two ≡ false) (d : Bool) (e : d ≡ accepts (decode b p mode n) m k r steps) where
       pub judged-accepted : d ≡ true → accept.Accepted ≡ acceptAnswer (judged (tableOf s) m k r steps)
       unfolding judged twoMoments acceptAnswer
       judged-accepted g = rw (← table-is, ← ex, ← ey, not-false two f, ← e, g) refl

@@ -8,6 +8,7 @@ use lib.Dec.{eqb}
 use borrow.Author.Tests.{leb-true, ne-eqb, not-false}
 use Rattle.finite.specs.Logic.{_and_, _or_, not-both, not-so, or-none, split}
 use Rattle.finite.specs.Below.{anyBelow}
+use Rattle.model.specs.declared.Mode.{Mode}
 use Rattle.model.specs.declared.Row.{Row}
 use Rattle.model.specs.Row.{BARRIER, CONTROL, RMW, atomic, barrier, releases, acquires}
 use Rattle.model.specs.Table.{decode, rowOf}
@@ -62,26 +63,26 @@ unfolding atomic barrier
 lone r e = let l : r .kind ≤ RMW = leb-true (r .kind) RMW (split e .1) in or-none (ne-eqb (r .kind) BARRIER (λ h. omega arith)) (ne-eqb (r .kind) CONTROL (λ h. omega arith))
 
 -- the tests of two rows that were read, b's rows a and c
-module _ (b : List ℕ) (p : List (List ℕ)) (n a c : ℕ) (r q : Row) (er : r ≡ rowOf b a) (eq : q ≡ rowOf b c)
+module _ (b : List ℕ) (p : List (List ℕ)) (mode : Mode) (n a c : ℕ) (r q : Row) (er : r ≡ rowOf b a) (eq : q ≡ rowOf b c)
     (g h x y u v near : Bool) (eg : g ≡ releases r) (eh : h ≡ acquires q) (ex : x ≡ atomic r) (ey : y ≡ atomic q) (eu : u ≡ barrier r) (ev : v ≡ barrier q)
     (en : near ≡ together p r q) (f : not (g and h) ≡ false) where
   abbrev t : Bool
-  t = takesFrom (decode b p n) a c
+  t = takesFrom (decode b p mode n) a c
 
   abbrev o : Bool
-  o = anyBelow n (carriesOut (decode b p n) a c)
+  o = anyBelow n (carriesOut (decode b p mode n) a c)
 
   abbrev i : Bool
-  i = anyBelow n (carriesIn (decode b p n) a c)
+  i = anyBelow n (carriesIn (decode b p mode n) a c)
 
   abbrev w : Bool
-  w = anyBelow n (carriesOver (decode b p n) a c)
+  w = anyBelow n (carriesOver (decode b p mode n) a c)
 
   abbrev k : Bool
-  k = anyBelow n (passes (decode b p n) a c)
+  k = anyBelow n (passes (decode b p mode n) a c)
 
   -- a release and an acquire: one of the five cases
-  cases : some x y u v near (eqb a c) t o i w k ≡ synchronizes (decode b p n) a c
+  cases : some x y u v near (eqb a c) t o i w k ≡ synchronizes (decode b p mode n) a c
   unfolding synchronizes syncAtomics syncFromBarrier syncToBarrier syncBarriers syncControl decode
   cases = rw (← er, ← eq, ← eg, ← eh, ← ex, ← ey, ← eu, ← ev, ← en) (sym (and-on (g and h) _ (not-false (g and h) f)))
 
@@ -97,26 +98,26 @@ module _ (b : List ℕ) (p : List (List ℕ)) (n a c : ℕ) (r q : Row) (er : r 
   no-atomic-q : v ≡ true → y ≡ false
   no-atomic-q e = not-so y (λ k. not-both e (no-barrier-q k))
 
-  pub sync-atomics : (d : Bool) → (x and y) ≡ true → d ≡ t → d ≡ synchronizes (decode b p n) a c
+  pub sync-atomics : (d : Bool) → (x and y) ≡ true → d ≡ t → d ≡ synchronizes (decode b p mode n) a c
   sync-atomics d g₁ e =
       let z = split g₁ in
       let m : t ≡ some x y u v near (eqb a c) t o i w k = rw (z .0, z .1, no-barrier-r (z .0), no-barrier-q (z .1)) (some-atomics near (eqb a c) t o i w k) in
       e ∙ m ∙ cases
 
-  pub sync-from : (d : Bool) → (u and y) ≡ true → d ≡ o → (near and d) ≡ synchronizes (decode b p n) a c
+  pub sync-from : (d : Bool) → (u and y) ≡ true → d ≡ o → (near and d) ≡ synchronizes (decode b p mode n) a c
   sync-from d g₁ e =
       let z = split g₁ in
       let m : (near and o) ≡ some x y u v near (eqb a c) t o i w k = rw (z .0, z .1, no-atomic-r (z .0), no-barrier-q (z .1)) (some-from near (eqb a c) t o i w k) in
       ap (λ (s : Bool). near and s) e ∙ m ∙ cases
 
-  pub sync-to : (d : Bool) → (x and v) ≡ true → d ≡ i → (near and d) ≡ synchronizes (decode b p n) a c
+  pub sync-to : (d : Bool) → (x and v) ≡ true → d ≡ i → (near and d) ≡ synchronizes (decode b p mode n) a c
   sync-to d g₁ e =
       let z = split g₁ in
       let m : (near and i) ≡ some x y u v near (eqb a c) t o i w k = rw (z .0, z .1, no-barrier-r (z .0), no-atomic-q (z .1)) (some-to near (eqb a c) t o i w k) in
       ap (λ (s : Bool). near and s) e ∙ m ∙ cases
 
   pub sync-over : (d z : Bool) → (x and y) ≡ false → (u and y) ≡ false → (x and v) ≡ false → d ≡ w → z ≡ k
-      → ((not (eqb a c) and u and v and near and d) or (not (eqb a c) and u and v and near and z)) ≡ synchronizes (decode b p n) a c
+      → ((not (eqb a c) and u and v and near and d) or (not (eqb a c) and u and v and near and z)) ≡ synchronizes (decode b p mode n) a c
   sync-over d z f₁ f₂ f₃ e g₁ =
       ap₂ (λ (s m : Bool). (not (eqb a c) and u and v and near and s) or (not (eqb a c) and u and v and near and m)) e g₁
       ∙ some-last x y u v near (eqb a c) t o i w k f₁ f₂ f₃ ∙ cases

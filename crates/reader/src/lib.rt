@@ -11,6 +11,7 @@ ghost use Rattle.model.specs.Reason.{stepHolds, accepts, judged, judge, acceptA
 ghost use Rattle.reader.specs.Judging.{leadsTo, refusedAnswer};
 use model::AcceptAnswer;
 use model::Admission;
+use model::Mode;
 use model::Places;
 use model::Reason;
 use rows::bytes;
@@ -18,23 +19,25 @@ use rows::bytes;
 pub mod sync; // M4 and M5, from the rows alone
 
 // Whether the table has a moment m.
-fn is_there(rows: &[u8], p: Places, n: usize, m: u16) -> bool
-    ensures { λ b. ⌜ b ≡ moment (decode (now (rows .entry)) p n) m ⌝ }
+fn is_there(rows: &[u8], p: Places, mode: Mode, n: usize, m: u16) -> bool
+    ensures { λ b. ⌜ b ≡ moment (decode (now (rows .entry)) p mode n) m ⌝ }
 {
     moments::moment_in(n, bytes::read_row(rows, m / 3), m as usize)
 }
 
 // M6: whether the direct case of this number leads from moment m to moment k for the class set s.
-fn is_direct(rows: &[u8], p: Places, n: usize, s: u8, case: u16, m: u16, k: u16) -> bool
+fn is_direct(rows: &[u8], p: Places, mode: Mode, n: usize, s: u8, case: u16, m: u16, k: u16) -> bool
     requires { ⌜ (n ≤ ROWS) × (m < 3 * n) × (k < 3 * n) ⌝ }
-    ensures { λ b. ⌜ b ≡ direct (decode (now (rows .entry)) p n) s case m k ⌝ }
+    ensures { λ b. ⌜ b ≡ direct (decode (now (rows .entry)) p mode n) s case m k ⌝ }
 {
     let r = bytes::read_row(rows, m / 3);
     let q = bytes::read_row(rows, k / 3);
     let m_holds = order::steps::holding_of(s, r, (m % 3) as u8);
     let k_holds = order::steps::holding_of(s, q, (k % 3) as u8);
     if case == 1 {
-        return m_holds & k_holds & sync::sync_at(rows, p, n, (m / 3) as usize, (k / 3) as usize);
+        return m_holds
+            & k_holds
+            & sync::sync_at(rows, p, mode, n, (m / 3) as usize, (k / 3) as usize);
     }
     let release = rows::kinds::releases(q);
     let acquire = rows::kinds::acquires(r);
@@ -46,25 +49,34 @@ fn is_direct(rows: &[u8], p: Places, n: usize, s: u8, case: u16, m: u16, k: u16)
 }
 
 // Whether the step x, CASE × its case + the moment that it reaches, holds from moment m for the class set s.
-fn is_step(rows: &[u8], p: Places, n: usize, s: u8, m: u16, x: u16) -> bool
+fn is_step(rows: &[u8], p: Places, mode: Mode, n: usize, s: u8, m: u16, x: u16) -> bool
     requires { ⌜ (n ≤ ROWS) × (m < 3 * n) ⌝ }
-    ensures { λ b. ⌜ b ≡ stepHolds (decode (now (rows .entry)) p n) s m x ⌝ }
+    ensures { λ b. ⌜ b ≡ stepHolds (decode (now (rows .entry)) p mode n) s m x ⌝ }
 {
     let k = x % model::CASE;
-    if !is_there(rows, p, n, k) {
+    if !is_there(rows, p, mode, n, k) {
         return false;
     }
-    is_direct(rows, p, n, s, x / model::CASE, m, k)
+    is_direct(rows, p, mode, n, s, x / model::CASE, m, k)
 }
 
 // Whether steps that hold for the class set s, each from where the one before ends, lead from moment `first` to moment `second`.
-fn is_chain(rows: &[u8], p: Places, n: usize, s: u8, first: u16, second: u16, steps: &[u16]) -> bool
+fn is_chain(
+    rows: &[u8],
+    p: Places,
+    mode: Mode,
+    n: usize,
+    s: u8,
+    first: u16,
+    second: u16,
+    steps: &[u16],
+) -> bool
     requires { ⌜ (n ≤ ROWS) × (first < 3 * n) ⌝ }
-    ensures { λ b. ⌜ b ≡ leadsTo (decode (now (rows .entry)) p n) s first second (now (steps .entry)) ⌝ }
+    ensures { λ b. ⌜ b ≡ leadsTo (decode (now (rows .entry)) p mode n) s first second (now (steps .entry)) ⌝ }
 {
     let mut m = first;
     for i in 0..steps.len() {
-        if !is_step(rows, p, n, s, m, steps[i]) {
+        if !is_step(rows, p, mode, n, s, m, steps[i]) {
             return false;
         }
         m = steps[i] % model::CASE;
@@ -73,9 +85,18 @@ fn is_chain(rows: &[u8], p: Places, n: usize, s: u8, first: u16, second: u16, st
 }
 
 // Whether the derivation is accepted that moment m happens before moment k.
-fn is_accepted(rows: &[u8], p: Places, n: usize, m: u16, k: u16, why: Reason, steps: &[u16]) -> bool
+fn is_accepted(
+    rows: &[u8],
+    p: Places,
+    mode: Mode,
+    n: usize,
+    m: u16,
+    k: u16,
+    why: Reason,
+    steps: &[u16],
+) -> bool
     requires { ⌜ (n ≤ ROWS) × (m < 3 * n) ⌝ }
-    ensures { λ b. ⌜ b ≡ accepts (decode (now (rows .entry)) p n) m k why (now (steps .entry)) ⌝ }
+    ensures { λ b. ⌜ b ≡ accepts (decode (now (rows .entry)) p mode n) m k why (now (steps .entry)) ⌝ }
 {
     let count = steps.len();
     let Reason::Chain(s) = why else {
@@ -84,7 +105,7 @@ fn is_accepted(rows: &[u8], p: Places, n: usize, m: u16, k: u16, why: Reason, st
     if !((0 < s) & (s <= order::CLASS_SETS) & (0 < count) & (count <= model::CHAIN)) {
         return false;
     }
-    is_chain(rows, p, n, s, m, k, steps)
+    is_chain(rows, p, mode, n, s, m, k, steps)
 }
 
 // The answer about a table of n rows that is admitted.
@@ -92,12 +113,13 @@ fn judge_rows(table: &[u8], n: usize, m: u16, k: u16, reason: Reason, steps: &[u
     requires { ⌜ (n ≡ rowsAt (now table)) × Sound true (now table) ⌝ }
     ensures { λ r. ⌜ r ≡ acceptAnswer (judged (tableOf (now (table .entry))) m k reason (now (steps .entry))) ⌝ }
 {
+    let mode = rows::scopes::read_mode(table, false);
     let rows = bytes::row_bytes(table);
     let p = rows::scopes::read_places(table);
-    if !(is_there(rows, p, n, m) & is_there(rows, p, n, k) & !(m == k)) {
+    if !(is_there(rows, p, mode, n, m) & is_there(rows, p, mode, n, k) & !(m == k)) {
         return AcceptAnswer::Refused { number: 12, row: 0 };
     }
-    if is_accepted(rows, p, n, m, k, reason, steps) {
+    if is_accepted(rows, p, mode, n, m, k, reason, steps) {
         return AcceptAnswer::Accepted;
     }
     AcceptAnswer::NotAccepted

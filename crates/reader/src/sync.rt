@@ -5,6 +5,7 @@ ghost use Rattle.finite.specs.Below.{anyBelow};
 ghost use Rattle.model.specs.Limits.{ROWS};
 ghost use Rattle.model.specs.Table.{decode};
 ghost use Rattle.model.specs.Synchronizes.{ends, sequence, takesFrom, carriesOut, carriesIn, carriesOver, synchronizes};
+use model::Mode;
 use model::Places;
 use rows::bytes;
 use rows::kinds;
@@ -13,16 +14,16 @@ use sequence::control;
 use sequence::heads;
 
 // M4: whether some row ends the sequence that row a heads no later than row x.
-fn is_ended(rows: &[u8], p: Places, n: usize, a: usize, x: usize) -> bool
+fn is_ended(rows: &[u8], p: Places, mode: Mode, n: usize, a: usize, x: usize) -> bool
     requires { ⌜ (n ≤ ROWS) × (a < n) × (x < n) ⌝ }
-    ensures { λ b. ⌜ b ≡ anyBelow n (ends (decode (now (rows .entry)) p n) a x) ⌝ }
+    ensures { λ b. ⌜ b ≡ anyBelow n (ends (decode (now (rows .entry)) p mode n) a x) ⌝ }
 {
     let h = bytes::read_row(rows, a as u16);
     let r = bytes::read_row(rows, x as u16);
     for z in 0..n {
-        let b = heads::mutual_at(rows, p, n, a, z);
+        let b = heads::mutual_at(rows, p, mode, n, a, z);
         let q = bytes::read_row(rows, z as u16);
-        if heads::is_end(b, h, r, q) {
+        if heads::is_end(mode.counted, b, h, r, q) {
             return true;
         }
     }
@@ -30,22 +31,23 @@ fn is_ended(rows: &[u8], p: Places, n: usize, a: usize, x: usize) -> bool
 }
 
 // M4: whether row x is in the release sequence that row a heads.
-fn sequence_at(rows: &[u8], p: Places, n: usize, a: usize, x: usize) -> bool
+fn sequence_at(rows: &[u8], p: Places, mode: Mode, n: usize, a: usize, x: usize) -> bool
     requires { ⌜ (n ≤ ROWS) × (a < n) × (x < n) ⌝ }
-    ensures { λ b. ⌜ b ≡ sequence (decode (now (rows .entry)) p n) a x ⌝ }
+    ensures { λ b. ⌜ b ≡ sequence (decode (now (rows .entry)) p mode n) a x ⌝ }
 {
     let h = bytes::read_row(rows, a as u16);
     let r = bytes::read_row(rows, x as u16);
-    let follows = heads::mutual_at(rows, p, n, a, x) & rows::scopes::is_later_writer(r, h);
-    (a == x) | follows & !is_ended(rows, p, n, a, x)
+    let follows = heads::mutual_at(rows, p, mode, n, a, x)
+        & rows::scopes::is_later_writer(mode.counted, r, h);
+    (a == x) | follows & !is_ended(rows, p, mode, n, a, x)
 }
 
 // M5: whether row y reads from the sequence that the writer x heads, the two being mutually-ordered.
-fn takes_from(rows: &[u8], p: Places, n: usize, x: usize, y: usize) -> bool
+fn takes_from(rows: &[u8], p: Places, mode: Mode, n: usize, x: usize, y: usize) -> bool
     requires { ⌜ (n ≤ ROWS) × (x < n) × (y < n) ⌝ }
-    ensures { λ b. ⌜ b ≡ takesFrom (decode (now (rows .entry)) p n) x y ⌝ }
+    ensures { λ b. ⌜ b ≡ takesFrom (decode (now (rows .entry)) p mode n) x y ⌝ }
 {
-    if !heads::mutual_at(rows, p, n, x, y) {
+    if !heads::mutual_at(rows, p, mode, n, x, y) {
         return false;
     }
     let k = bytes::atomic_source(rows, y as u16).0 as usize;
@@ -54,16 +56,16 @@ fn takes_from(rows: &[u8], p: Places, n: usize, x: usize, y: usize) -> bool
     }
     let r = bytes::read_row(rows, x as u16);
     let q = bytes::read_row(rows, y as u16);
-    kinds::writes(r) & kinds::reads(q) & sequence_at(rows, p, n, x, k)
+    kinds::writes(r) & kinds::reads(q) & sequence_at(rows, p, mode, n, x, k)
 }
 
 // M5: whether some writer after the barrier a carries its release to the atomic b.
-fn is_carried_out(rows: &[u8], p: Places, n: usize, a: usize, b: usize) -> bool
+fn is_carried_out(rows: &[u8], p: Places, mode: Mode, n: usize, a: usize, b: usize) -> bool
     requires { ⌜ (n ≤ ROWS) × (a < n) × (b < n) ⌝ }
-    ensures { λ d. ⌜ d ≡ anyBelow n (carriesOut (decode (now (rows .entry)) p n) a b) ⌝ }
+    ensures { λ d. ⌜ d ≡ anyBelow n (carriesOut (decode (now (rows .entry)) p mode n) a b) ⌝ }
 {
     for x in 0..n {
-        if carriers::leads_at(rows, a, x) & takes_from(rows, p, n, x, b) {
+        if carriers::leads_at(rows, a, x) & takes_from(rows, p, mode, n, x, b) {
             return true;
         }
     }
@@ -71,12 +73,12 @@ fn is_carried_out(rows: &[u8], p: Places, n: usize, a: usize, b: usize) -> bool
 }
 
 // M5: whether some reader before the barrier b carries the release of row a to it.
-fn is_carried_in(rows: &[u8], p: Places, n: usize, a: usize, b: usize) -> bool
+fn is_carried_in(rows: &[u8], p: Places, mode: Mode, n: usize, a: usize, b: usize) -> bool
     requires { ⌜ (n ≤ ROWS) × (a < n) × (b < n) ⌝ }
-    ensures { λ d. ⌜ d ≡ anyBelow n (carriesIn (decode (now (rows .entry)) p n) a b) ⌝ }
+    ensures { λ d. ⌜ d ≡ anyBelow n (carriesIn (decode (now (rows .entry)) p mode n) a b) ⌝ }
 {
     for y in 0..n {
-        if carriers::trails_at(rows, b, y) & takes_from(rows, p, n, a, y) {
+        if carriers::trails_at(rows, b, y) & takes_from(rows, p, mode, n, a, y) {
             return true;
         }
     }
@@ -84,12 +86,12 @@ fn is_carried_in(rows: &[u8], p: Places, n: usize, a: usize, b: usize) -> bool
 }
 
 // M5: whether a writer after the barrier a and a reader before the barrier b carry the release of the one to the other.
-fn is_carried_over(rows: &[u8], p: Places, n: usize, a: usize, b: usize) -> bool
+fn is_carried_over(rows: &[u8], p: Places, mode: Mode, n: usize, a: usize, b: usize) -> bool
     requires { ⌜ (n ≤ ROWS) × (a < n) × (b < n) ⌝ }
-    ensures { λ d. ⌜ d ≡ anyBelow n (carriesOver (decode (now (rows .entry)) p n) a b) ⌝ }
+    ensures { λ d. ⌜ d ≡ anyBelow n (carriesOver (decode (now (rows .entry)) p mode n) a b) ⌝ }
 {
     for x in 0..n {
-        if carriers::leads_at(rows, a, x) & is_carried_in(rows, p, n, x, b) {
+        if carriers::leads_at(rows, a, x) & is_carried_in(rows, p, mode, n, x, b) {
             return true;
         }
     }
@@ -98,9 +100,9 @@ fn is_carried_over(rows: &[u8], p: Places, n: usize, a: usize, b: usize) -> bool
 
 // M5: whether the release row a synchronizes-with the acquire row b.
 // Ruled out: one that lets a barrier synchronize with itself; one that asks the scope of one row alone.
-pub fn sync_at(rows: &[u8], p: Places, n: usize, a: usize, b: usize) -> bool
+pub fn sync_at(rows: &[u8], p: Places, mode: Mode, n: usize, a: usize, b: usize) -> bool
     requires { ⌜ (n ≤ ROWS) × (a < n) × (b < n) ⌝ }
-    ensures { λ d. ⌜ d ≡ synchronizes (decode (now (rows .entry)) p n) a b ⌝ }
+    ensures { λ d. ⌜ d ≡ synchronizes (decode (now (rows .entry)) p mode n) a b ⌝ }
 {
     let r = bytes::read_row(rows, a as u16);
     let q = bytes::read_row(rows, b as u16);
@@ -110,17 +112,18 @@ pub fn sync_at(rows: &[u8], p: Places, n: usize, a: usize, b: usize) -> bool
     let from = kinds::is_atomic(r);
     let to = kinds::is_atomic(q);
     if from & to {
-        return takes_from(rows, p, n, a, b);
+        return takes_from(rows, p, mode, n, a, b);
     }
     let out = kinds::is_barrier(r);
     let into = kinds::is_barrier(q);
     let near = rows::scopes::together(p, r, q);
     if out & to {
-        return near & is_carried_out(rows, p, n, a, b);
+        return near & is_carried_out(rows, p, mode, n, a, b);
     }
     if from & into {
-        return near & is_carried_in(rows, p, n, a, b);
+        return near & is_carried_in(rows, p, mode, n, a, b);
     }
     let apart = !(a == b) & out & into & near;
-    apart & is_carried_over(rows, p, n, a, b) | apart & control::is_passed(rows, p, n, a, b)
+    apart & is_carried_over(rows, p, mode, n, a, b)
+        | apart & control::is_passed(rows, p, mode, n, a, b)
 }

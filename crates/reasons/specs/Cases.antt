@@ -7,6 +7,7 @@ use native.Mathlib.Omega.{arith}
 use Rattle.finite.specs.Logic.{_and_}
 use Rattle.bits.specs.Bit.{bit}
 use Rattle.bits.specs.Stage.{holds-bit}
+use Rattle.model.specs.declared.Mode.{Mode}
 use Rattle.model.specs.declared.Row.{Row}
 use Rattle.model.specs.Limits.{CASE}
 use Rattle.model.specs.Row.{releases}
@@ -42,19 +43,19 @@ case-small s from to r q b o = go (holdingOf s r from and holdingOf s q to and b
 pub case-told : (s from to d : ℕ) (r q x y : Row) (b o v : Bool) → d ≡ caseRows s from to r q b o → r ≡ x → q ≡ y → o ≡ v → d ≡ caseRows s from to x y b v
 case-told s from to d r q x y b o v f e g h = rw (← e, ← g, ← h) f
 
-module _ (b : List ℕ) (p : List (List ℕ)) (n : ℕ) where
+module _ (b : List ℕ) (p : List (List ℕ)) (mode : Mode) (n : ℕ) where
   case-is : (s m k : ℕ)
-      → lowestCase (decode b p n) s m k
-      ≡ caseRows s (part m) (part k) (rowOf b (rowIn m)) (rowOf b (rowIn k)) (synchronizes (decode b p n) (rowIn m) (rowIn k)) (programOrder (decode b p n) m k)
+      → lowestCase (decode b p mode n) s m k
+      ≡ caseRows s (part m) (part k) (rowOf b (rowIn m)) (rowOf b (rowIn k)) (synchronizes (decode b p mode n) (rowIn m) (rowIn k)) (programOrder (decode b p mode n) m k)
   unfolding lowestCase bySync toRelease holding concerns caseRows decode
   case-is s m k = refl
 
   -- the number of a step, with the bit of the work area
-  pub number-is : (w : List ℕ) (s m k i d : ℕ) (v : Bool) → Synced (decode b p n) n w → m < 3 * n → k < 3 * n
+  pub number-is : (w : List ℕ) (s m k i d : ℕ) (v : Bool) → Synced (decode b p mode n) n w → m < 3 * n → k < 3 * n
       → i ≡ (SYNC + m / 3 * GRID) * 64 + k / 3 → v ≡ bit w i
-      → d ≡ caseRows s (m % 3) (k % 3) (rowOf b (m / 3)) (rowOf b (k / 3)) v (programOrder (decode b p n) m k)
-      → CASE * d + k ≡ stepNumber (decode b p n) s m k
+      → d ≡ caseRows s (m % 3) (k % 3) (rowOf b (m / 3)) (rowOf b (k / 3)) v (programOrder (decode b p mode n) m k)
+      → CASE * d + k ≡ stepNumber (decode b p mode n) s m k
   unfolding stepNumber
   number-is w s m k i d v h l o at e f =
-      let g : v ≡ synchronizes (decode b p n) (m / 3) (k / 3) = e ∙ holds-bit (h .syncs) i (m / 3) (k / 3) at (omega arith) (omega arith) in
+      let g : v ≡ synchronizes (decode b p mode n) (m / 3) (k / 3) = e ∙ holds-bit (h .syncs) i (m / 3) (k / 3) at (omega arith) (omega arith) in
       rw (case-is s m k, ← g, ← f) refl

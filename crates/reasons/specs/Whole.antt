@@ -17,12 +17,13 @@ use Rattle.finite.specs.Cycle.{length-trail, length-along, trail-cong}
 use Rattle.bits.specs.Bit.{zeros, length-zeros, zeros-in, zeros-out}
 use Rattle.bits.specs.Matrix.{rel}
 use Rattle.bits.specs.Within.{Within, within-refl, within-trans, within-widen, zeros-within}
+use Rattle.model.specs.declared.Mode.{Mode}
 use Rattle.model.specs.declared.Admission.{Admission}
 use Rattle.model.specs.declared.Admission.the-variants.{Admitted, Refused}
 use Rattle.model.specs.declared.DeriveAnswer.{DeriveAnswer}
 use Rattle.model.specs.declared.DeriveAnswer.the-variants
 use Rattle.model.specs.Limits.{ROWS, WORK, CHAIN, CLASS-SETS}
-use Rattle.model.specs.Table.{Table, rowsAt, rowBytes, placesOf, rowOf, decode, tableOf}
+use Rattle.model.specs.Table.{modeOf, Table, rowsAt, rowBytes, placesOf, rowOf, decode, tableOf}
 use Rattle.model.specs.Moment.{momentIn, moment, programOrder}
 use Rattle.model.specs.Happens.{step}
 use Rattle.model.specs.Refusal.{buffersFit, admission}
@@ -116,13 +117,13 @@ module _ {t : Table} {n m k i : ℕ} {u : List ℕ} (all : n ≡ t .rows) (few :
 
 -- ---- laws: two numbers
 
-module _ (b : List ℕ) (p : List (List ℕ)) (n m k : ℕ) where
-  pub two-is : twoMoments (decode b p n) m k ≡ (momentIn n (rowOf b (m / 3)) m and momentIn n (rowOf b (k / 3)) k and not (eqb m k))
+module _ (b : List ℕ) (p : List (List ℕ)) (mode : Mode) (n m k : ℕ) where
+  pub two-is : twoMoments (decode b p mode n) m k ≡ (momentIn n (rowOf b (m / 3)) m and momentIn n (rowOf b (k / 3)) k and not (eqb m k))
   unfolding twoMoments moment decode
   two-is = refl
 
   -- they are below the moments of the rows, and differ
-  pub two-known : twoMoments (decode b p n) m k ≡ true → (m < 3 * n) × (k < 3 * n) × (m ≡ k → ⊥)
+  pub two-known : twoMoments (decode b p mode n) m k ≡ true → (m < 3 * n) × (k < 3 * n) × (m ≡ k → ⊥)
   unfolding twoMoments moment momentIn decode
   two-known e =
       let a : m / 3 < n = ltb-true _ _ (split (split (split e .0) .0) .0) in
@@ -181,30 +182,30 @@ unfolding derivedOf
 two-told t m k e = rw e refl
 
 module _ {s : List ℕ} (h : Sound true s) (b : List ℕ) (n m k : ℕ) (rows : b ≡ rowBytes s) (all : n ≡ rowsAt s) where
-  table-is : (p : List (List ℕ)) → p ≡ placesOf s → decode b p n ≡ tableOf s
+  table-is : (p : List (List ℕ)) (mode : Mode) → p ≡ placesOf s → mode ≡ modeOf false s → decode b p mode n ≡ tableOf s
   unfolding tableOf
-  table-is p places = rw (rows, places, all) refl
+  table-is p mode places modes = rw (rows, places, modes, all) refl
 
   -- not two moments: nothing is touched
-  pub table-12 : (w c : List ℕ) → twoMoments (decode b (placesOf s) n) m k ≡ false → Left (derivedOf (tableOf s) m k) (the-variants.Refused 12 0) w w c c
+  pub table-12 : (w c : List ℕ) → twoMoments (decode b (placesOf s) (modeOf false s) n) m k ≡ false → Left (derivedOf (tableOf s) m k) (the-variants.Refused 12 0) w w c c
   unfolding derivedOf deriveAnswer workAfter chainAfter
   table-12 w c e =
-      let f : twoMoments (tableOf s) m k ≡ false = subst (λ (t : Table). twoMoments t m k ≡ false) (table-is (placesOf s) refl) e in
+      let f : twoMoments (tableOf s) m k ≡ false = subst (λ (t : Table). twoMoments t m k ≡ false) (table-is (placesOf s) (modeOf false s) refl refl) e in
       (rw f refl, rw f refl, rw f refl)
 
   -- derived, wiped
-  pub table-derived : (p : List (List ℕ)) (r : DeriveAnswer) (w v u c d : List ℕ) → p ≡ placesOf s → WORK ≤ length w → twoMoments (decode b p n) m k ≡ true
-      → (r ≡ deriveAnswer (ours (decode b p n) m k)) × (d ≡ chainAfter (ours (decode b p n) m k) c) × Within MUTUAL CHAINS-END w v
+  pub table-derived : (p : List (List ℕ)) (mode : Mode) (r : DeriveAnswer) (w v u c d : List ℕ) → p ≡ placesOf s → mode ≡ modeOf false s → WORK ≤ length w → twoMoments (decode b p mode n) m k ≡ true
+      → (r ≡ deriveAnswer (ours (decode b p mode n) m k)) × (d ≡ chainAfter (ours (decode b p mode n) m k) c) × Within MUTUAL CHAINS-END w v
       → u ≡ zeros v 0 WORK → Left (derivedOf (tableOf s) m k) r w u c d
-  table-derived p r w v u c d places room e a z =
-      let t : ours (decode b p n) m k ≡ derivedOf (tableOf s) m k = ap (λ (t : Table). ours t m k) (table-is p places) ∙ sym (two-told (tableOf s) m k two) in (
+  table-derived p mode r w v u c d places modes room e a z =
+      let t : ours (decode b p mode n) m k ≡ derivedOf (tableOf s) m k = ap (λ (t : Table). ours t m k) (table-is p mode places modes) ∙ sym (two-told (tableOf s) m k two) in (
         a .0 ∙ ap deriveAnswer t,
-        z ∙ zeros-within 0 WORK w v (omega arith) (within-widen 0 WORK (omega arith) (omega arith) (a .2)) ∙ zeros-wiped w room ∙ sym (ours-wiped (decode b p n) m k w) ∙ ap (λ (o : Derived). workAfter o w) t,
+        z ∙ zeros-within 0 WORK w v (omega arith) (within-widen 0 WORK (omega arith) (omega arith) (a .2)) ∙ zeros-wiped w room ∙ sym (ours-wiped (decode b p mode n) m k w) ∙ ap (λ (o : Derived). workAfter o w) t,
         a .1 ∙ ap (λ (o : Derived). chainAfter o c) t,
       )
     where
       two : twoMoments (tableOf s) m k ≡ true
-      two = subst (λ (t : Table). twoMoments t m k ≡ true) (table-is p places) e
+      two = subst (λ (t : Table). twoMoments t m k ≡ true) (table-is p mode places modes) e
 
 -- ---- laws: any bytes
 

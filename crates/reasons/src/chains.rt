@@ -8,6 +8,7 @@ ghost use Rattle.finite.specs.Below.{least};
 ghost use Rattle.finite.specs.Walk.{walk, trail, along};
 ghost use Rattle.bits.specs.Matrix.{rel};
 ghost use Rattle.bits.specs.Within.{Within};
+ghost use Rattle.model.specs.declared.Mode.{Mode};
 ghost use Rattle.model.specs.Limits.{ROWS, WORK, CHAIN, CLASS-SETS};
 ghost use Rattle.model.specs.Table.{decode, rowOf};
 ghost use Rattle.model.specs.Moment.{programOrder};
@@ -18,6 +19,7 @@ ghost use Rattle.reasons.specs.Layers.{MOST, Layers, Layered};
 ghost use Rattle.reasons.specs.Cases.{caseRows};
 ghost use Rattle.reasons.specs.Written.{stepBit, Written};
 use crate::layers;
+use model::Mode;
 use model::Places;
 use model::Row;
 
@@ -26,14 +28,22 @@ use model::Row;
 // The least c for which some chain for the class set c + 1 leads from the first moment to the second; CLASS_SETS where there is none.
 // Where there is one, its steps and their layers are left in the work area.
 // Ruled out: one that gives a higher class set where a lower one has a chain; one that counts a moment as a chain to itself.
-pub fn find_set(rows: &[u8], p: Places, n: usize, first: usize, second: usize, w: &mut [u64]) -> u8
-    requires { ⌜ (n ≤ ROWS) × (WORK ≤ length (now w)) × (first < 3 * n) × (second < 3 * n) × Synced (decode (now rows) p n) n (now w) ⌝ }
-    ensures { λ c. ⌜ (c ≡ least CLASS-SETS (hasChainBy (decode (now (rows .entry)) p n) first second))
+pub fn find_set(
+    rows: &[u8],
+    p: Places,
+    mode: Mode,
+    n: usize,
+    first: usize,
+    second: usize,
+    w: &mut [u64],
+) -> u8
+    requires { ⌜ (n ≤ ROWS) × (WORK ≤ length (now w)) × (first < 3 * n) × (second < 3 * n) × Synced (decode (now rows) p mode n) n (now w) ⌝ }
+    ensures { λ c. ⌜ (c ≡ least CLASS-SETS (hasChainBy (decode (now (rows .entry)) p mode n) first second))
         × Within HAPPENS CHAINS-END (now (w .entry)) (now (w .exit))
-        × (c < CLASS-SETS → Layered (decode (now (rows .entry)) p n) n (c + 1) second (now (w .exit))) ⌝ }
+        × (c < CLASS-SETS → Layered (decode (now (rows .entry)) p mode n) n (c + 1) second (now (w .exit))) ⌝ }
 {
     for c in 0..order::CLASS_SETS {
-        layers::make_layers(rows, p, n, c + 1, second, w);
+        layers::make_layers(rows, p, mode, n, c + 1, second, w);
         let j = layers::layer_of(w, 3 * n, first);
         if j < 3 * n {
             return c;
@@ -87,8 +97,8 @@ fn case_of(s: u8, from: u8, to: u8, r: Row, q: Row, b: bool, o: bool) -> u16
 // The same of moments m and k of a table; b says that m's row synchronizes-with k's.
 fn case_at(rows: &[u8], n: usize, s: u8, m: usize, k: usize, b: bool) -> u16
     requires { ⌜ (n ≤ ROWS) × (m < 3 * n) × (k < 3 * n) ⌝ }
-    ensures { λ d. ⌜ (d ≤ 3) × ((p : List (List ℕ)) → d ≡ caseRows s (m % 3) (k % 3) (rowOf (now (rows .entry)) (m / 3)) (rowOf (now (rows .entry)) (k / 3)) b
-        (programOrder (decode (now (rows .entry)) p n) m k)) ⌝ }
+    ensures { λ d. ⌜ (d ≤ 3) × ((p : List (List ℕ)) (mode : Mode) → d ≡ caseRows s (m % 3) (k % 3) (rowOf (now (rows .entry)) (m / 3)) (rowOf (now (rows .entry)) (k / 3)) b
+        (programOrder (decode (now (rows .entry)) p mode n) m k)) ⌝ }
 {
     let o = moments::ordered_at(rows, n, m, k);
     let r = rows::bytes::read_row(rows, (m / 3) as u16);
@@ -99,8 +109,8 @@ fn case_at(rows: &[u8], n: usize, s: u8, m: usize, k: usize, b: bool) -> u16
 // The number of the step from moment m to moment k.
 fn step_number(rows: &[u8], n: usize, s: u8, m: usize, k: usize, w: &[u64]) -> u16
     requires { ⌜ (n ≤ ROWS) × (m < 3 * n) × (k < 3 * n) × (WORK ≤ length (now w)) ⌝ }
-    ensures { λ r. ⌜ ((p : List (List ℕ)) → Synced (decode (now (rows .entry)) p n) n (now (w .entry))
-        → r ≡ stepNumber (decode (now (rows .entry)) p n) s m k) ⌝ }
+    ensures { λ r. ⌜ ((p : List (List ℕ)) (mode : Mode) → Synced (decode (now (rows .entry)) p mode n) n (now (w .entry))
+        → r ≡ stepNumber (decode (now (rows .entry)) p mode n) s m k) ⌝ }
 {
     let b = bits::get(w, (area::SYNC + m / 3 * area::GRID) * 64 + k / 3);
     let d = case_at(rows, n, s, m, k, b);
@@ -122,8 +132,8 @@ pub fn write_steps(
 )
     requires { ⌜ (n ≤ ROWS) × (WORK ≤ length (now w)) × (first < 3 * n) × (size ≤ CHAIN) × (size ≤ 3 * n) × (CHAIN ≤ length (now c))
         × Layers (3 * n) (rel (now w) STEP MOMENTS) second (now w) × (walk (3 * n) (rel (now w) STEP MOMENTS) second size first ≡ true) ⌝ }
-    ensures { λ _. ⌜ ((p : List (List ℕ)) → Synced (decode (now (rows .entry)) p n) n (now (w .entry))
-        → Written (along (stepNumber (decode (now (rows .entry)) p n) s) second
+    ensures { λ _. ⌜ ((p : List (List ℕ)) (mode : Mode) → Synced (decode (now (rows .entry)) p mode n) n (now (w .entry))
+        → Written (along (stepNumber (decode (now (rows .entry)) p mode n) s) second
         (trail (3 * n) (rel (now (w .entry)) STEP MOMENTS) second size first)) size (now (c .entry)) (now (c .exit))) ⌝ }
 {
     let mut z = first;

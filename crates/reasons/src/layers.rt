@@ -11,6 +11,7 @@ ghost use Rattle.model.specs.Table.{decode};
 ghost use Rattle.area.specs.Regions.{HAPPENS, CHAINS, CHAINS-END, MOMENTS};
 ghost use Rattle.sequence.specs.Known.{Synced};
 ghost use Rattle.reasons.specs.Layers.{MOST, inLayer, Layers, Spread, MadeLayered};
+use model::Mode;
 use model::Places;
 
 // Bit (i, j) of the grid over moments at base.
@@ -70,11 +71,11 @@ pub fn layer_of(w: &[u64], m: usize, z: usize) -> usize
 // M6: the direct cases for the class set s, and the layers of chains of them to moment x.
 // Ruled out: one that makes the layers from the steps of another class set; one that takes them from the steps as they stand, not
 // transposed, and so follows chains that lead from x.
-pub fn make_layers(rows: &[u8], p: Places, n: usize, s: u8, x: usize, w: &mut [u64])
-    requires { ⌜ (n ≤ ROWS) × (WORK ≤ length (now w)) × (x < 3 * n) × Synced (decode (now rows) p n) n (now w) ⌝ }
-    ensures { λ _. ⌜ MadeLayered (decode (now (rows .entry)) p n) n s x (now (w .entry)) (now (w .exit)) ⌝ }
+pub fn make_layers(rows: &[u8], p: Places, mode: Mode, n: usize, s: u8, x: usize, w: &mut [u64])
+    requires { ⌜ (n ≤ ROWS) × (WORK ≤ length (now w)) × (x < 3 * n) × Synced (decode (now rows) p mode n) n (now w) ⌝ }
+    ensures { λ _. ⌜ MadeLayered (decode (now (rows .entry)) p mode n) n s x (now (w .entry)) (now (w .exit)) ⌝ }
 {
-    order::steps::fill_step(rows, p, n, s, w);
+    order::steps::fill_step(rows, p, mode, n, s, w);
     bits::transpose(w, area::STEP, area::HAPPENS, 3 * n, area::MOMENTS);
     fill_layers(w, 3 * n, x);
 }

@@ -5,6 +5,7 @@ ghost use mathlib.Core.List.{List};
 ghost use Prim.Native.Nat.{ℕ, _*_, _≤_, _<_};
 ghost use lib.ListN.{length};
 ghost use Rattle.bits.specs.Within.{Within};
+ghost use Rattle.model.specs.declared.Mode.{Mode};
 ghost use Rattle.model.specs.Limits.{ROWS, WORK, CHAIN};
 ghost use Rattle.model.specs.Table.{rowsAt, decode, tableOf};
 ghost use Rattle.model.specs.Reason.{twoMoments, ours, derivedOf, derive, deriveAnswer, chainAfter, workAfter};
@@ -13,6 +14,7 @@ ghost use Rattle.area.specs.Regions.{MUTUAL, CHAINS-END};
 ghost use Rattle.reasons.specs.Whole.{refusedAnswer};
 use model::Admission;
 use model::DeriveAnswer;
+use model::Mode;
 use model::Places;
 
 pub mod chains; // the class set of a chain, and its steps as numbers
@@ -33,7 +35,7 @@ fn refused(a: Admission) -> DeriveAnswer
 
 // Refusal 12: whether each number names a moment of the table, and they are two.
 fn two_moments(rows: &[u8], n: usize, first: u16, second: u16) -> bool
-    ensures { λ b. ⌜ ((p : List (List ℕ)) → b ≡ twoMoments (decode (now (rows .entry)) p n) first second) ⌝ }
+    ensures { λ b. ⌜ ((p : List (List ℕ)) (mode : Mode) → b ≡ twoMoments (decode (now (rows .entry)) p mode n) first second) ⌝ }
 {
     let r = rows::bytes::read_row(rows, first / 3);
     let q = rows::bytes::read_row(rows, second / 3);
@@ -46,6 +48,7 @@ fn two_moments(rows: &[u8], n: usize, first: u16, second: u16) -> bool
 fn derive_moments(
     rows: &[u8],
     p: Places,
+    mode: Mode,
     n: usize,
     first: usize,
     second: usize,
@@ -53,15 +56,15 @@ fn derive_moments(
     c: &mut [u16],
 ) -> DeriveAnswer
     requires { ⌜ (n ≤ ROWS) × (WORK ≤ length (now w)) × (CHAIN ≤ length (now c)) × (first < 3 * n) × (second < 3 * n) × (first ≡ second → ⊥) ⌝ }
-    ensures { λ r. ⌜ (r ≡ deriveAnswer (ours (decode (now (rows .entry)) p n) first second))
-        × (now (c .exit) ≡ chainAfter (ours (decode (now (rows .entry)) p n) first second) (now (c .entry)))
+    ensures { λ r. ⌜ (r ≡ deriveAnswer (ours (decode (now (rows .entry)) p mode n) first second))
+        × (now (c .exit) ≡ chainAfter (ours (decode (now (rows .entry)) p mode n) first second) (now (c .entry)))
         × Within MUTUAL CHAINS-END (now (w .entry)) (now (w .exit)) ⌝ }
 {
     if moments::ordered_at(rows, n, first, second) {
         return DeriveAnswer::ProgramOrder;
     }
-    sequence::sync::make_synced(rows, p, n, w);
-    let set = chains::find_set(rows, p, n, first, second, w);
+    sequence::sync::make_synced(rows, p, mode, n, w);
+    let set = chains::find_set(rows, p, mode, n, first, second, w);
     if order::CLASS_SETS <= set {
         return DeriveAnswer::NotBefore;
     }
@@ -87,12 +90,22 @@ fn derive_table(
         × (now (work .exit) ≡ workAfter (derivedOf (tableOf (now (table .entry))) first second) (now (work .entry)))
         × (now (chain .exit) ≡ chainAfter (derivedOf (tableOf (now (table .entry))) first second) (now (chain .entry))) ⌝ }
 {
+    let mode = rows::scopes::read_mode(table, false);
     let rows = rows::bytes::row_bytes(table);
     if !two_moments(rows, n, first, second) {
         return DeriveAnswer::Refused { number: 12, row: 0 };
     }
     let p = rows::scopes::read_places(table);
-    let r = derive_moments(rows, p, n, first as usize, second as usize, work, chain);
+    let r = derive_moments(
+        rows,
+        p,
+        mode,
+        n,
+        first as usize,
+        second as usize,
+        work,
+        chain,
+    );
     bits::clear(work, 0, model::WORK);
     r
 }

@@ -7,6 +7,7 @@ use lib.Dec.{ltb, eqb}
 use borrow.Author.Tests.{lt-ltb, le-ltb, not-false}
 use Rattle.finite.specs.Logic.{_and_, _or_, or-off, and-false-left, and-false-right, not-out}
 use Rattle.finite.specs.Below.{anyBelow}
+use Rattle.model.specs.declared.Mode.{Mode}
 use Rattle.model.specs.declared.Row.{Row}
 use Rattle.model.specs.Row.{atomic, barrier, reads, writes, releases, acquires, classIn}
 use Rattle.model.specs.Table.{decode, rowOf, atomicSource}
@@ -18,8 +19,8 @@ use Rattle.model.specs.Synchronizes.{passes, syncAtomics, syncFromBarrier, sync
 -- ---- definitions
 
 -- M4: q ends the sequence of the head h no later than r; m says that h and q are mutually-ordered
-unfoldable pub endRows : Bool → Row → Row → Row → Bool
-endRows m h r q = m and laterWriter q h and not (later (q .rank) (r .rank)) and not (continues q)
+unfoldable pub endRows : Bool → Bool → Row → Row → Row → Bool
+endRows counted m h r q = m and laterWriter counted q h and not (later counted (q .rank) (r .rank)) and not (continues q)
 
 -- M5: row x, which is q, is program-ordered after the barrier a, which is r, and its class is in a's semantics
 unfoldable pub leadRows : ℕ → ℕ → Row → Row → Bool
@@ -48,110 +49,110 @@ with-true true true c = refl
 with-true true false c = refl
 with-true false b c = refl
 
-module _ (b : List ℕ) (p : List (List ℕ)) (n : ℕ) where
-  pub ends-is : (a x z : ℕ) → ends (decode b p n) a x z ≡ endRows (mutually (decode b p n) a z) (rowOf b a) (rowOf b x) (rowOf b z)
+module _ (b : List ℕ) (p : List (List ℕ)) (mode : Mode) (n : ℕ) where
+  pub ends-is : (a x z : ℕ) → ends (decode b p mode n) a x z ≡ endRows (mode .counted) (mutually (decode b p mode n) a z) (rowOf b a) (rowOf b x) (rowOf b z)
   unfolding ends follows endRows decode
   ends-is a x z = refl
 
-  pub leads-is : (a x : ℕ) → leads (decode b p n) a x ≡ leadRows a x (rowOf b a) (rowOf b x)
+  pub leads-is : (a x : ℕ) → leads (decode b p mode n) a x ≡ leadRows a x (rowOf b a) (rowOf b x)
   unfolding leads sameAgent leadRows decode
   leads-is a x = refl
 
-  pub trails-is : (c y : ℕ) → trails (decode b p n) c y ≡ trailRows c y (rowOf b c) (rowOf b y)
+  pub trails-is : (c y : ℕ) → trails (decode b p mode n) c y ≡ trailRows c y (rowOf b c) (rowOf b y)
   unfolding trails sameAgent trailRows decode
   trails-is c y = refl
 
   -- the test on decoded rows, as code has it
-  pub ends-told : (a x z : ℕ) (m : Bool) (h r q : Row) (v : Bool) → m ≡ mutually (decode b p n) a z → h ≡ rowOf b a → r ≡ rowOf b x
-      → q ≡ rowOf b z → v ≡ endRows m h r q → ends (decode b p n) a x z ≡ v
+  pub ends-told : (a x z : ℕ) (m : Bool) (h r q : Row) (v : Bool) → m ≡ mutually (decode b p mode n) a z → h ≡ rowOf b a → r ≡ rowOf b x
+      → q ≡ rowOf b z → v ≡ endRows (mode .counted) m h r q → ends (decode b p mode n) a x z ≡ v
   ends-told a x z m h r q v em eh er eq e = rw (ends-is a x z) cc
 
   -- M4, where the cheap test fails, and where it passes
-  pub sequence-off : (a x : ℕ) → follows (decode b p n) a x ≡ false → eqb a x ≡ sequence (decode b p n) a x
+  pub sequence-off : (a x : ℕ) → follows (decode b p mode n) a x ≡ false → eqb a x ≡ sequence (decode b p mode n) a x
   unfolding sequence _and_
   sequence-off a x e = rw e (sym (or-off _ _ refl))
 
-  pub sequence-on : (a x : ℕ) (d : Bool) → follows (decode b p n) a x ≡ true → d ≡ anyBelow n (ends (decode b p n) a x)
-      → (eqb a x or not d) ≡ sequence (decode b p n) a x
+  pub sequence-on : (a x : ℕ) (d : Bool) → follows (decode b p mode n) a x ≡ true → d ≡ anyBelow n (ends (decode b p mode n) a x)
+      → (eqb a x or not d) ≡ sequence (decode b p mode n) a x
   unfolding sequence decode _and_
   sequence-on a x d e f = rw (e, f) refl
 
   -- reading from a sequence: not mutually-ordered, no row's source, and else
-  pub takes-apart : (x y : ℕ) → mutually (decode b p n) x y ≡ false → false ≡ takesFrom (decode b p n) x y
+  pub takes-apart : (x y : ℕ) → mutually (decode b p mode n) x y ≡ false → false ≡ takesFrom (decode b p mode n) x y
   unfolding takesFrom _and_
   takes-apart x y e = rw e refl
 
-  pub takes-none : (x y s : ℕ) → s ≡ atomicSource b y → n ≤ s → false ≡ takesFrom (decode b p n) x y
+  pub takes-none : (x y s : ℕ) → s ≡ atomicSource b y → n ≤ s → false ≡ takesFrom (decode b p mode n) x y
   unfolding takesFrom decode
   takes-none x y s e l = sym (and-false-left _ _ (and-false-right _ _ (rw (← e) (le-ltb s n l))))
 
-  pub takes-on : (x y s : ℕ) (r q : Row) (v : Bool) → mutually (decode b p n) x y ≡ true → s ≡ atomicSource b y → s < n → r ≡ rowOf b x
-      → q ≡ rowOf b y → v ≡ sequence (decode b p n) x s → (writes r and reads q and v) ≡ takesFrom (decode b p n) x y
+  pub takes-on : (x y s : ℕ) (r q : Row) (v : Bool) → mutually (decode b p mode n) x y ≡ true → s ≡ atomicSource b y → s < n → r ≡ rowOf b x
+      → q ≡ rowOf b y → v ≡ sequence (decode b p mode n) x s → (writes r and reads q and v) ≡ takesFrom (decode b p mode n) x y
   unfolding takesFrom decode
   takes-on x y s r q v m e l er eq ev = rw (m, ← e, lt-ltb s n l, ← er, ← eq, ← ev) (with-true (writes r) (reads q) v)
 
   -- M5: where the cheap tests on the rows fail, and where they pass
   pub from-off : (a c : ℕ) (r q : Row) (x y z : Bool) → r ≡ rowOf b a → q ≡ rowOf b c
       → x ≡ barrier r → y ≡ atomic q → z ≡ together p r q → not (x and y and z) ≡ true
-      → false ≡ syncFromBarrier (decode b p n) a c
+      → false ≡ syncFromBarrier (decode b p mode n) a c
   unfolding syncFromBarrier decode
   from-off a c r q x y z er eq ex ey ez f = sym (and-false-left _ _ (rw (← er, ← eq, ← ex, ← ey, ← ez) (not-out (x and y and z) f)))
 
   pub from-on : (a c : ℕ) (r q : Row) (x y z v : Bool) → r ≡ rowOf b a → q ≡ rowOf b c
       → x ≡ barrier r → y ≡ atomic q → z ≡ together p r q → not (x and y and z) ≡ false
-      → v ≡ anyBelow n (carriesOut (decode b p n) a c) → v ≡ syncFromBarrier (decode b p n) a c
+      → v ≡ anyBelow n (carriesOut (decode b p mode n) a c) → v ≡ syncFromBarrier (decode b p mode n) a c
   unfolding syncFromBarrier decode
   from-on a c r q x y z v er eq ex ey ez f h = h ∙ sym (and-on _ _ (rw (← er, ← eq, ← ex, ← ey, ← ez) (not-false (x and y and z) f)))
 
   pub to-off : (a c : ℕ) (r q : Row) (x y z : Bool) → r ≡ rowOf b a → q ≡ rowOf b c
       → x ≡ atomic r → y ≡ barrier q → z ≡ together p r q → not (x and y and z) ≡ true
-      → false ≡ syncToBarrier (decode b p n) a c
+      → false ≡ syncToBarrier (decode b p mode n) a c
   unfolding syncToBarrier decode
   to-off a c r q x y z er eq ex ey ez f = sym (and-false-left _ _ (rw (← er, ← eq, ← ex, ← ey, ← ez) (not-out (x and y and z) f)))
 
   pub to-on : (a c : ℕ) (r q : Row) (x y z v : Bool) → r ≡ rowOf b a → q ≡ rowOf b c
       → x ≡ atomic r → y ≡ barrier q → z ≡ together p r q → not (x and y and z) ≡ false
-      → v ≡ anyBelow n (carriesIn (decode b p n) a c) → v ≡ syncToBarrier (decode b p n) a c
+      → v ≡ anyBelow n (carriesIn (decode b p mode n) a c) → v ≡ syncToBarrier (decode b p mode n) a c
   unfolding syncToBarrier decode
   to-on a c r q x y z v er eq ex ey ez f h = h ∙ sym (and-on _ _ (rw (← er, ← eq, ← ex, ← ey, ← ez) (not-false (x and y and z) f)))
 
   pub over-off : (a c : ℕ) (r q : Row) (x y z : Bool) → r ≡ rowOf b a → q ≡ rowOf b c
       → x ≡ barrier r → y ≡ barrier q → z ≡ together p r q → not (not (eqb a c) and x and y and z) ≡ true
-      → false ≡ syncBarriers (decode b p n) a c
+      → false ≡ syncBarriers (decode b p mode n) a c
   unfolding syncBarriers decode
   over-off a c r q x y z er eq ex ey ez f =
       sym (and-false-left _ _ (rw (← er, ← eq, ← ex, ← ey, ← ez) (not-out (not (eqb a c) and x and y and z) f)))
 
   pub over-on : (a c : ℕ) (r q : Row) (x y z v : Bool) → r ≡ rowOf b a → q ≡ rowOf b c
       → x ≡ barrier r → y ≡ barrier q → z ≡ together p r q → not (not (eqb a c) and x and y and z) ≡ false
-      → v ≡ anyBelow n (carriesOver (decode b p n) a c) → v ≡ syncBarriers (decode b p n) a c
+      → v ≡ anyBelow n (carriesOver (decode b p mode n) a c) → v ≡ syncBarriers (decode b p mode n) a c
   unfolding syncBarriers decode
   over-on a c r q x y z v er eq ex ey ez f h =
       h ∙ sym (and-on _ _ (rw (← er, ← eq, ← ex, ← ey, ← ez) (not-false (not (eqb a c) and x and y and z) f)))
 
   pub control-off : (a c : ℕ) (r q : Row) (x y z : Bool) → r ≡ rowOf b a → q ≡ rowOf b c
       → x ≡ barrier r → y ≡ barrier q → z ≡ together p r q → not (not (eqb a c) and x and y and z) ≡ true
-      → false ≡ syncControl (decode b p n) a c
+      → false ≡ syncControl (decode b p mode n) a c
   unfolding syncControl decode
   control-off a c r q x y z er eq ex ey ez f =
       sym (and-false-left _ _ (rw (← er, ← eq, ← ex, ← ey, ← ez) (not-out (not (eqb a c) and x and y and z) f)))
 
   pub control-on : (a c : ℕ) (r q : Row) (x y z v : Bool) → r ≡ rowOf b a → q ≡ rowOf b c
       → x ≡ barrier r → y ≡ barrier q → z ≡ together p r q → not (not (eqb a c) and x and y and z) ≡ false
-      → v ≡ anyBelow n (passes (decode b p n) a c) → v ≡ syncControl (decode b p n) a c
+      → v ≡ anyBelow n (passes (decode b p mode n) a c) → v ≡ syncControl (decode b p mode n) a c
   unfolding syncControl decode
   control-on a c r q x y z v er eq ex ey ez f h =
       h ∙ sym (and-on _ _ (rw (← er, ← eq, ← ex, ← ey, ← ez) (not-false (not (eqb a c) and x and y and z) f)))
 
   pub sync-off : (a c : ℕ) (r q : Row) (x y : Bool) → r ≡ rowOf b a → q ≡ rowOf b c → x ≡ releases r → y ≡ acquires q
-      → not (x and y) ≡ true → false ≡ synchronizes (decode b p n) a c
+      → not (x and y) ≡ true → false ≡ synchronizes (decode b p mode n) a c
   unfolding synchronizes decode
   sync-off a c r q x y er eq ex ey f = sym (and-false-left _ _ (rw (← er, ← eq, ← ex, ← ey) (not-out (x and y) f)))
 
   pub sync-on : (a c : ℕ) (r q : Row) (x y v₁ v₂ v₃ v₄ v₅ : Bool) → r ≡ rowOf b a → q ≡ rowOf b c → x ≡ releases r → y ≡ acquires q
-      → not (x and y) ≡ false → v₁ ≡ syncAtomics (decode b p n) a c → v₂ ≡ syncFromBarrier (decode b p n) a c
-      → v₃ ≡ syncToBarrier (decode b p n) a c → v₄ ≡ syncBarriers (decode b p n) a c → v₅ ≡ syncControl (decode b p n) a c
-      → (v₁ or v₂ or v₃ or v₄ or v₅) ≡ synchronizes (decode b p n) a c
+      → not (x and y) ≡ false → v₁ ≡ syncAtomics (decode b p mode n) a c → v₂ ≡ syncFromBarrier (decode b p mode n) a c
+      → v₃ ≡ syncToBarrier (decode b p mode n) a c → v₄ ≡ syncBarriers (decode b p mode n) a c → v₅ ≡ syncControl (decode b p mode n) a c
+      → (v₁ or v₂ or v₃ or v₄ or v₅) ≡ synchronizes (decode b p mode n) a c
   unfolding synchronizes decode
   sync-on a c r q x y v₁ v₂ v₃ v₄ v₅ er eq ex ey f h₁ h₂ h₃ h₄ h₅ =
       rw (h₁, h₂, h₃, h₄, h₅) (sym (and-on _ _ (rw (← er, ← eq, ← ex, ← ey) (not-false (x and y) f))))

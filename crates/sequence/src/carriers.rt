@@ -4,19 +4,29 @@ ghost use mathlib.Core.List.{List};
 ghost use Prim.Native.Nat.{ℕ, _≤_, _<_};
 ghost use lib.ListN.{length};
 ghost use Rattle.finite.specs.Below.{anyBelow};
+ghost use Rattle.model.specs.declared.Mode.{Mode};
 ghost use Rattle.model.specs.Limits.{ROWS, WORK};
 ghost use Rattle.model.specs.Table.{decode};
 ghost use Rattle.model.specs.Synchronizes.{takesFrom, leads, trails, carriesOut, carriesIn, carriesOver};
 ghost use Rattle.sequence.specs.Forms.{leadRows, trailRows};
 ghost use Rattle.sequence.specs.Known.{Known};
+use model::Mode;
 use model::Places;
 use model::Row;
 
 // M5: whether row y reads from the sequence that the writer x heads, the two being mutually-ordered. Few rows are, so their bit
 // is read first.
-pub fn takes_from_at(rows: &[u8], p: Places, n: usize, x: usize, y: usize, w: &[u64]) -> bool
-    requires { ⌜ (n ≤ ROWS) × (x < n) × (y < n) × (WORK ≤ length (now w)) × Known (decode (now rows) p n) n (now w) ⌝ }
-    ensures { λ d. ⌜ d ≡ takesFrom (decode (now (rows .entry)) p n) x y ⌝ }
+pub fn takes_from_at(
+    rows: &[u8],
+    p: Places,
+    mode: Mode,
+    n: usize,
+    x: usize,
+    y: usize,
+    w: &[u64],
+) -> bool
+    requires { ⌜ (n ≤ ROWS) × (x < n) × (y < n) × (WORK ≤ length (now w)) × Known (decode (now rows) p mode n) n (now w) ⌝ }
+    ensures { λ d. ⌜ d ≡ takesFrom (decode (now (rows .entry)) p mode n) x y ⌝ }
 {
     if !bits::get(w, (area::MUTUAL + x * area::GRID) * 64 + y) {
         return false;
@@ -44,7 +54,7 @@ fn is_leading(a: usize, x: usize, r: Row, q: Row) -> bool
 // M5: the same of two rows of a table.
 pub fn leads_at(rows: &[u8], a: usize, x: usize) -> bool
     requires { ⌜ (a < ROWS) × (x < ROWS) ⌝ }
-    ensures { λ d. ⌜ ((p : List (List ℕ)) (n : ℕ) → d ≡ leads (decode (now (rows .entry)) p n) a x) ⌝ }
+    ensures { λ d. ⌜ ((p : List (List ℕ)) (mode : Mode) (n : ℕ) → d ≡ leads (decode (now (rows .entry)) p mode n) a x) ⌝ }
 {
     let r = rows::bytes::read_row(rows, a as u16);
     let q = rows::bytes::read_row(rows, x as u16);
@@ -61,7 +71,7 @@ fn is_trailing(b: usize, y: usize, r: Row, q: Row) -> bool
 // M5: the same of two rows of a table.
 pub fn trails_at(rows: &[u8], b: usize, y: usize) -> bool
     requires { ⌜ (b < ROWS) × (y < ROWS) ⌝ }
-    ensures { λ d. ⌜ ((p : List (List ℕ)) (n : ℕ) → d ≡ trails (decode (now (rows .entry)) p n) b y) ⌝ }
+    ensures { λ d. ⌜ ((p : List (List ℕ)) (mode : Mode) (n : ℕ) → d ≡ trails (decode (now (rows .entry)) p mode n) b y) ⌝ }
 {
     let r = rows::bytes::read_row(rows, b as u16);
     let q = rows::bytes::read_row(rows, y as u16);
@@ -71,23 +81,40 @@ pub fn trails_at(rows: &[u8], b: usize, y: usize) -> bool
 // ---- carriers
 
 // M5: whether x carries the release of the barrier a to the atomic b.
-fn carries_out_at(rows: &[u8], p: Places, n: usize, a: usize, b: usize, x: usize, w: &[u64]) -> bool
-    requires { ⌜ (n ≤ ROWS) × (a < n) × (b < n) × (x < n) × (WORK ≤ length (now w)) × Known (decode (now rows) p n) n (now w) ⌝ }
-    ensures { λ d. ⌜ d ≡ carriesOut (decode (now (rows .entry)) p n) a b x ⌝ }
+fn carries_out_at(
+    rows: &[u8],
+    p: Places,
+    mode: Mode,
+    n: usize,
+    a: usize,
+    b: usize,
+    x: usize,
+    w: &[u64],
+) -> bool
+    requires { ⌜ (n ≤ ROWS) × (a < n) × (b < n) × (x < n) × (WORK ≤ length (now w)) × Known (decode (now rows) p mode n) n (now w) ⌝ }
+    ensures { λ d. ⌜ d ≡ carriesOut (decode (now (rows .entry)) p mode n) a b x ⌝ }
 {
-    if !takes_from_at(rows, p, n, x, b, w) {
+    if !takes_from_at(rows, p, mode, n, x, b, w) {
         return false;
     }
     leads_at(rows, a, x)
 }
 
 // M5: whether some row does.
-pub fn is_carried_out(rows: &[u8], p: Places, n: usize, a: usize, b: usize, w: &[u64]) -> bool
-    requires { ⌜ (n ≤ ROWS) × (a < n) × (b < n) × (WORK ≤ length (now w)) × Known (decode (now rows) p n) n (now w) ⌝ }
-    ensures { λ d. ⌜ d ≡ anyBelow n (carriesOut (decode (now (rows .entry)) p n) a b) ⌝ }
+pub fn is_carried_out(
+    rows: &[u8],
+    p: Places,
+    mode: Mode,
+    n: usize,
+    a: usize,
+    b: usize,
+    w: &[u64],
+) -> bool
+    requires { ⌜ (n ≤ ROWS) × (a < n) × (b < n) × (WORK ≤ length (now w)) × Known (decode (now rows) p mode n) n (now w) ⌝ }
+    ensures { λ d. ⌜ d ≡ anyBelow n (carriesOut (decode (now (rows .entry)) p mode n) a b) ⌝ }
 {
     for x in 0..n {
-        if carries_out_at(rows, p, n, a, b, x, w) {
+        if carries_out_at(rows, p, mode, n, a, b, x, w) {
             return true;
         }
     }
@@ -95,23 +122,40 @@ pub fn is_carried_out(rows: &[u8], p: Places, n: usize, a: usize, b: usize, w: &
 }
 
 // M5: whether y carries the release of the atomic a to the barrier b.
-fn carries_in_at(rows: &[u8], p: Places, n: usize, a: usize, b: usize, y: usize, w: &[u64]) -> bool
-    requires { ⌜ (n ≤ ROWS) × (a < n) × (b < n) × (y < n) × (WORK ≤ length (now w)) × Known (decode (now rows) p n) n (now w) ⌝ }
-    ensures { λ d. ⌜ d ≡ carriesIn (decode (now (rows .entry)) p n) a b y ⌝ }
+fn carries_in_at(
+    rows: &[u8],
+    p: Places,
+    mode: Mode,
+    n: usize,
+    a: usize,
+    b: usize,
+    y: usize,
+    w: &[u64],
+) -> bool
+    requires { ⌜ (n ≤ ROWS) × (a < n) × (b < n) × (y < n) × (WORK ≤ length (now w)) × Known (decode (now rows) p mode n) n (now w) ⌝ }
+    ensures { λ d. ⌜ d ≡ carriesIn (decode (now (rows .entry)) p mode n) a b y ⌝ }
 {
-    if !takes_from_at(rows, p, n, a, y, w) {
+    if !takes_from_at(rows, p, mode, n, a, y, w) {
         return false;
     }
     trails_at(rows, b, y)
 }
 
 // M5: whether some row does.
-pub fn is_carried_in(rows: &[u8], p: Places, n: usize, a: usize, b: usize, w: &[u64]) -> bool
-    requires { ⌜ (n ≤ ROWS) × (a < n) × (b < n) × (WORK ≤ length (now w)) × Known (decode (now rows) p n) n (now w) ⌝ }
-    ensures { λ d. ⌜ d ≡ anyBelow n (carriesIn (decode (now (rows .entry)) p n) a b) ⌝ }
+pub fn is_carried_in(
+    rows: &[u8],
+    p: Places,
+    mode: Mode,
+    n: usize,
+    a: usize,
+    b: usize,
+    w: &[u64],
+) -> bool
+    requires { ⌜ (n ≤ ROWS) × (a < n) × (b < n) × (WORK ≤ length (now w)) × Known (decode (now rows) p mode n) n (now w) ⌝ }
+    ensures { λ d. ⌜ d ≡ anyBelow n (carriesIn (decode (now (rows .entry)) p mode n) a b) ⌝ }
 {
     for y in 0..n {
-        if carries_in_at(rows, p, n, a, b, y, w) {
+        if carries_in_at(rows, p, mode, n, a, b, y, w) {
             return true;
         }
     }
@@ -122,28 +166,37 @@ pub fn is_carried_in(rows: &[u8], p: Places, n: usize, a: usize, b: usize, w: &[
 fn carries_over_at(
     rows: &[u8],
     p: Places,
+    mode: Mode,
     n: usize,
     a: usize,
     b: usize,
     x: usize,
     w: &[u64],
 ) -> bool
-    requires { ⌜ (n ≤ ROWS) × (a < n) × (b < n) × (x < n) × (WORK ≤ length (now w)) × Known (decode (now rows) p n) n (now w) ⌝ }
-    ensures { λ d. ⌜ d ≡ carriesOver (decode (now (rows .entry)) p n) a b x ⌝ }
+    requires { ⌜ (n ≤ ROWS) × (a < n) × (b < n) × (x < n) × (WORK ≤ length (now w)) × Known (decode (now rows) p mode n) n (now w) ⌝ }
+    ensures { λ d. ⌜ d ≡ carriesOver (decode (now (rows .entry)) p mode n) a b x ⌝ }
 {
     if !leads_at(rows, a, x) {
         return false;
     }
-    is_carried_in(rows, p, n, x, b, w)
+    is_carried_in(rows, p, mode, n, x, b, w)
 }
 
 // M5: whether some row does.
-pub fn is_carried_over(rows: &[u8], p: Places, n: usize, a: usize, b: usize, w: &[u64]) -> bool
-    requires { ⌜ (n ≤ ROWS) × (a < n) × (b < n) × (WORK ≤ length (now w)) × Known (decode (now rows) p n) n (now w) ⌝ }
-    ensures { λ d. ⌜ d ≡ anyBelow n (carriesOver (decode (now (rows .entry)) p n) a b) ⌝ }
+pub fn is_carried_over(
+    rows: &[u8],
+    p: Places,
+    mode: Mode,
+    n: usize,
+    a: usize,
+    b: usize,
+    w: &[u64],
+) -> bool
+    requires { ⌜ (n ≤ ROWS) × (a < n) × (b < n) × (WORK ≤ length (now w)) × Known (decode (now rows) p mode n) n (now w) ⌝ }
+    ensures { λ d. ⌜ d ≡ anyBelow n (carriesOver (decode (now (rows .entry)) p mode n) a b) ⌝ }
 {
     for x in 0..n {
-        if carries_over_at(rows, p, n, a, b, x, w) {
+        if carries_over_at(rows, p, mode, n, a, b, x, w) {
             return true;
         }
     }

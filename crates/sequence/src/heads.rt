@@ -10,15 +10,16 @@ ghost use Rattle.model.specs.Scope.{mutually, follows};
 ghost use Rattle.model.specs.Synchronizes.{continues, ends, sequence};
 ghost use Rattle.area.specs.Regions.{MUTUAL, MUTUAL-END, SEQUENCE, SEQUENCE-END, GRID};
 ghost use Rattle.sequence.specs.Forms.{endRows};
+use model::Mode;
 use model::Places;
 use model::Row;
 
 // ---- M3
 
 // M3: whether rows i and j are mutually-ordered.
-pub fn mutual_at(rows: &[u8], p: Places, n: usize, i: usize, j: usize) -> bool
+pub fn mutual_at(rows: &[u8], p: Places, mode: Mode, n: usize, i: usize, j: usize) -> bool
     requires { ⌜ (i < ROWS) × (j < ROWS) ⌝ }
-    ensures { λ b. ⌜ b ≡ mutually (decode (now (rows .entry)) p n) i j ⌝ }
+    ensures { λ b. ⌜ b ≡ mutually (decode (now (rows .entry)) p mode n) i j ⌝ }
 {
     let r = rows::bytes::read_row(rows, i as u16);
     let q = rows::bytes::read_row(rows, j as u16);
@@ -26,29 +27,37 @@ pub fn mutual_at(rows: &[u8], p: Places, n: usize, i: usize, j: usize) -> bool
 }
 
 // M3 for every two rows.
-pub fn fill_mutual(rows: &[u8], p: Places, n: usize, w: &mut [u64])
+pub fn fill_mutual(rows: &[u8], p: Places, mode: Mode, n: usize, w: &mut [u64])
     requires { ⌜ (n ≤ ROWS) × (WORK ≤ length (now w)) ⌝ }
-    ensures { λ _. ⌜ Made MUTUAL MUTUAL-END MUTUAL GRID n (mutually (decode (now (rows .entry)) p n)) (now (w .entry)) (now (w .exit)) ⌝ }
+    ensures { λ _. ⌜ Made MUTUAL MUTUAL-END MUTUAL GRID n (mutually (decode (now (rows .entry)) p mode n)) (now (w .entry)) (now (w .exit)) ⌝ }
 {
     bits::clear(w, area::MUTUAL, area::MUTUAL_END);
     for i in 0..n {
         for j in 0..n {
-            let b = mutual_at(rows, p, n, i, j);
+            let b = mutual_at(rows, p, mode, n, i, j);
             bits::put_if(w, (area::MUTUAL + i * area::GRID) * 64 + j, b);
         }
     }
 }
 
 // M3: whether row j follows row i in their scoped modification order.
-pub fn follows_at(rows: &[u8], p: Places, n: usize, i: usize, j: usize, w: &[u64]) -> bool
+pub fn follows_at(
+    rows: &[u8],
+    p: Places,
+    mode: Mode,
+    n: usize,
+    i: usize,
+    j: usize,
+    w: &[u64],
+) -> bool
     requires { ⌜ (n ≤ ROWS) × (i < n) × (j < n) × (WORK ≤ length (now w))
-        × Holds MUTUAL GRID n (mutually (decode (now rows) p n)) (now w) ⌝ }
-    ensures { λ b. ⌜ b ≡ follows (decode (now (rows .entry)) p n) i j ⌝ }
+        × Holds MUTUAL GRID n (mutually (decode (now rows) p mode n)) (now w) ⌝ }
+    ensures { λ b. ⌜ b ≡ follows (decode (now (rows .entry)) p mode n) i j ⌝ }
 {
     let r = rows::bytes::read_row(rows, i as u16);
     let q = rows::bytes::read_row(rows, j as u16);
     let b = bits::get(w, (area::MUTUAL + i * area::GRID) * 64 + j);
-    b & rows::scopes::is_later_writer(q, r)
+    b & rows::scopes::is_later_writer(mode.counted, q, r)
 }
 
 // ---- M4
@@ -62,27 +71,27 @@ pub fn is_continued(r: Row) -> bool
 
 // M4: whether q ends the sequence of the head h no later than r; b says that h and q are mutually-ordered.
 // Ruled out: one that asks whether r continues the sequence; one that lets a follower later than r end it.
-pub fn is_end(b: bool, h: Row, r: Row, q: Row) -> bool
-    ensures { λ d. ⌜ d ≡ endRows b h r q ⌝ }
+pub fn is_end(counted: bool, b: bool, h: Row, r: Row, q: Row) -> bool
+    ensures { λ d. ⌜ d ≡ endRows counted b h r q ⌝ }
 {
     b
-        & rows::scopes::is_later_writer(q, h)
-        & !rows::scopes::is_later(q.rank, r.rank)
+        & rows::scopes::is_later_writer(counted, q, h)
+        & !rows::scopes::is_later(counted, q.rank, r.rank)
         & !is_continued(q)
 }
 
 // M4: whether some row ends the sequence of the head a no later than row x.
-pub fn is_ended(rows: &[u8], p: Places, n: usize, a: usize, x: usize, w: &[u64]) -> bool
+pub fn is_ended(rows: &[u8], p: Places, mode: Mode, n: usize, a: usize, x: usize, w: &[u64]) -> bool
     requires { ⌜ (n ≤ ROWS) × (a < n) × (x < n) × (WORK ≤ length (now w))
-        × Holds MUTUAL GRID n (mutually (decode (now rows) p n)) (now w) ⌝ }
-    ensures { λ b. ⌜ b ≡ anyBelow n (ends (decode (now (rows .entry)) p n) a x) ⌝ }
+        × Holds MUTUAL GRID n (mutually (decode (now rows) p mode n)) (now w) ⌝ }
+    ensures { λ b. ⌜ b ≡ anyBelow n (ends (decode (now (rows .entry)) p mode n) a x) ⌝ }
 {
     let h = rows::bytes::read_row(rows, a as u16);
     let r = rows::bytes::read_row(rows, x as u16);
     for z in 0..n {
         let b = bits::get(w, (area::MUTUAL + a * area::GRID) * 64 + z);
         let q = rows::bytes::read_row(rows, z as u16);
-        if is_end(b, h, r, q) {
+        if is_end(mode.counted, b, h, r, q) {
             return true;
         }
     }
@@ -90,27 +99,35 @@ pub fn is_ended(rows: &[u8], p: Places, n: usize, a: usize, x: usize, w: &[u64])
 }
 
 // M4: whether row x is in the release sequence that row a heads. Only a row that follows a is held against the others.
-pub fn sequence_at(rows: &[u8], p: Places, n: usize, a: usize, x: usize, w: &[u64]) -> bool
+pub fn sequence_at(
+    rows: &[u8],
+    p: Places,
+    mode: Mode,
+    n: usize,
+    a: usize,
+    x: usize,
+    w: &[u64],
+) -> bool
     requires { ⌜ (n ≤ ROWS) × (a < n) × (x < n) × (WORK ≤ length (now w))
-        × Holds MUTUAL GRID n (mutually (decode (now rows) p n)) (now w) ⌝ }
-    ensures { λ b. ⌜ b ≡ sequence (decode (now (rows .entry)) p n) a x ⌝ }
+        × Holds MUTUAL GRID n (mutually (decode (now rows) p mode n)) (now w) ⌝ }
+    ensures { λ b. ⌜ b ≡ sequence (decode (now (rows .entry)) p mode n) a x ⌝ }
 {
-    if !follows_at(rows, p, n, a, x, w) {
+    if !follows_at(rows, p, mode, n, a, x, w) {
         return a == x;
     }
-    (a == x) | !is_ended(rows, p, n, a, x, w)
+    (a == x) | !is_ended(rows, p, mode, n, a, x, w)
 }
 
 // M4 for every two rows.
-pub fn fill_sequence(rows: &[u8], p: Places, n: usize, w: &mut [u64])
-    requires { ⌜ (n ≤ ROWS) × (WORK ≤ length (now w)) × Holds MUTUAL GRID n (mutually (decode (now rows) p n)) (now w) ⌝ }
+pub fn fill_sequence(rows: &[u8], p: Places, mode: Mode, n: usize, w: &mut [u64])
+    requires { ⌜ (n ≤ ROWS) × (WORK ≤ length (now w)) × Holds MUTUAL GRID n (mutually (decode (now rows) p mode n)) (now w) ⌝ }
     ensures { λ _. ⌜ Made SEQUENCE SEQUENCE-END SEQUENCE GRID n
-        (sequence (decode (now (rows .entry)) p n)) (now (w .entry)) (now (w .exit)) ⌝ }
+        (sequence (decode (now (rows .entry)) p mode n)) (now (w .entry)) (now (w .exit)) ⌝ }
 {
     bits::clear(w, area::SEQUENCE, area::SEQUENCE_END);
     for a in 0..n {
         for x in 0..n {
-            let b = sequence_at(rows, p, n, a, x, w);
+            let b = sequence_at(rows, p, mode, n, a, x, w);
             bits::put_if(w, (area::SEQUENCE + a * area::GRID) * 64 + x, b);
         }
     }

@@ -12,7 +12,7 @@ use Rattle.rows.proofs.bytes.read_row.Reads as read-row-reads
 
 -- src/lib.rt:76:9
 returns : tie.Need-returns
-returns c p = not-earlier _ p _ _ _ (c .if1 .taken)
+returns c p mode = not-earlier _ p _ _ _ _ (c .if1 .taken)
 
 -- src/lib.rt:78:43
 cast-read-agent : tie.Need-cast-read-agent
@@ -32,7 +32,7 @@ read-agent-requires-2 c κs = search needs
 
 -- src/lib.rt:81:9
 returns-2 : tie.Need-returns-2
-returns-2 c p = other-agent _ p _ _ _ _ _ (c .before .before .read-agent .ensures) (c .before .read-agent2 .ensures) (c .if2 .taken)
+returns-2 c p mode = other-agent _ p _ _ _ _ _ _ (c .before .before .read-agent .ensures) (c .before .read-agent2 .ensures) (c .if2 .taken)
 
 -- src/lib.rt:83:41
 cast-read-row : tie.Need-cast-read-row
@@ -57,7 +57,7 @@ is-ordered-requires c κs = search needs
 -- src/lib.rt:71:1
 returns-3 : tie.Need-returns-3
 unfolding programOrder decode
-returns-3 c p = cc
+returns-3 c p mode = cc
 
 pub ordered-at-spec : {M : Type 1} → statement M
 ordered-at-spec =

@@ -19,10 +19,10 @@ use Rattle.order.proofs.fill_order.Reads as fill-order-reads
 use Rattle.sequence.proofs.sync.make_synced.Reads as make-synced-reads
 
 abbrev Inv-loop : tie.InvT-loop
-Inv-loop rows p n w₀ s₀ w s = (s ≤ CLASS-SETS) × (length w ≡ length w₀) × Synced (decode rows p n) n w × Holds HAPPENS MOMENTS (3 * n) (upTo (decode rows p n) s) w × Within HAPPENS STEP-END w₀ w
+Inv-loop rows p mode n w₀ s₀ w s = (s ≤ CLASS-SETS) × (length w ≡ length w₀) × Synced (decode rows p mode n) n w × Holds HAPPENS MOMENTS (3 * n) (upTo (decode rows p mode n) s) w × Within HAPPENS STEP-END w₀ w
 
 abbrev μ-loop : tie.MeasureT-loop
-μ-loop rows p n w₀ s₀ w s = CLASS-SETS - s
+μ-loop rows p mode n w₀ s₀ w s = CLASS-SETS - s
 
 -- src/lib.rt:77:5
 make-synced-requires : tie.Need-make-synced-requires Inv-loop μ-loop
@@ -37,7 +37,7 @@ loop-holds : tie.Need-loop-holds Inv-loop μ-loop
 loop-holds c =
     let at-synced = c .before .before .before .before .before .before in
     let synced = at-synced .make-synced .ensures in
-    let order = c .before .before .fill-order .ensures (at-synced .before .before .before .before .args .p) in
+    let order = c .before .before .fill-order .ensures (at-synced .before .before .before .before .args .p) (at-synced .before .before .before .before .args .mode) in
     (search needs, refl, synced-kept (omega arith) (order .frame) (synced .synced), holds-cong (λ m k l h. upTo-none _ m k) (order .holds), within-refl _ _ _)
 
 -- src/lib.rt:80:9
@@ -70,7 +70,7 @@ returns c =
     let inv = c .before .loop .inv in
     let at-order = c .before .before .before .before in
     let at-synced = at-order .before .before .before .before in
-    ordered-made (at-synced .make-synced .ensures) (at-order .fill-order .ensures _) (inv .2) (rw e at (inv .3)) (inv .4)
+    ordered-made (at-synced .make-synced .ensures) (at-order .fill-order .ensures _ _) (inv .2) (rw e at (inv .3)) (inv .4)
 
 pub happens-before-spec : {M : Type 1} → statement M
 happens-before-spec =

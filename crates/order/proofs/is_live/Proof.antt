@@ -28,7 +28,7 @@ holds-at-requires c κs = search needs
 -- src/lib.rt:46:13
 returns : tie.Need-returns Inv-loop μ-loop
 returns c =
-    λ p. sym (live-is _ p _ _ ∙ any-in _ _ _ (c .before .before .loop-test .taken) (sym (c .before .holds-at .ensures) ∙ c .if1 .taken))
+    λ p mode. sym (live-is _ p _ _ _ ∙ any-in _ _ _ (c .before .before .loop-test .taken) (sym (c .before .holds-at .ensures) ∙ c .if1 .taken))
 
 -- src/lib.rt:43:9
 add-i : tie.Need-add-i Inv-loop μ-loop
@@ -46,7 +46,7 @@ loop-again c = (search needs, any-more _ _ (c .before .before .before .loop .inv
 returns-2 : tie.Need-returns-2 Inv-loop μ-loop
 returns-2 c =
     let e : c .before .loop .i ≡ c .before .before .before .args .n = omega arith in
-    λ p. sym (live-is _ p _ _ ∙ rw e at (c .before .loop .inv .1))
+    λ p mode. sym (live-is _ p _ _ _ ∙ rw e at (c .before .loop .inv .1))
 
 pub is-live-spec : {M : Type 1} → statement M
 is-live-spec =

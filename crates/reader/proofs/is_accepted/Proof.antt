@@ -23,12 +23,12 @@ ordered-at-requires c κs = search needs
 -- src/lib.rt:81:9
 returns : tie.Need-returns
 unfolding _and_
-returns c = word-told _ _ _ _ _ _ _ _ (c .before .enum-told .given .1) (c .ordered-at .ensures _)
+returns c = word-told _ _ _ _ _ _ _ _ _ (c .before .enum-told .given .1) (c .ordered-at .ensures _ _)
 
 -- src/lib.rt:84:9
 returns-2 : tie.Need-returns-2
 unfolding _and_
-returns-2 c = chain-off _ _ _ _ _ _ _ _ (c .before .before .why .given .1) (c .if1 .taken)
+returns-2 c = chain-off _ _ _ _ _ _ _ _ _ (c .before .before .why .given .1) (c .if1 .taken)
 
 -- src/lib.rt:86:5
 is-chain-requires : tie.Need-is-chain-requires
@@ -37,7 +37,7 @@ is-chain-requires c κs = search needs
 -- src/lib.rt:75:1
 returns-3 : tie.Need-returns-3
 unfolding _and_
-returns-3 c = chain-on _ _ _ _ _ _ _ _ (c .before .before .before .why .given .1) _ (c .before .if1 .left) (c .is-chain .ensures)
+returns-3 c = chain-on _ _ _ _ _ _ _ _ _ (c .before .before .before .why .given .1) _ (c .before .if1 .left) (c .is-chain .ensures)
 
 pub is-accepted-spec : {M : Type 1} → statement M
 is-accepted-spec =

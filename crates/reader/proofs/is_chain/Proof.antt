@@ -16,10 +16,10 @@ use Rattle.reader.proofs.is_chain.Lts as lts
 use Rattle.reader.proofs.is_step.Reads as is-step-reads
 
 abbrev Inv-loop : tie.InvT-loop
-Inv-loop rows p n s first second steps m₀ i₀ i-end m i = (i ≤ length steps) × (m ≡ stands first steps i) × (m < 3 * n) × (anyBelow i (broken (decode rows p n) s first steps) ≡ false)
+Inv-loop rows p mode n s first second steps m₀ i₀ i-end m i = (i ≤ length steps) × (m ≡ stands first steps i) × (m < 3 * n) × (anyBelow i (broken (decode rows p mode n) s first steps) ≡ false)
 
 abbrev μ-loop : tie.MeasureT-loop
-μ-loop rows p n s first second steps m₀ i₀ i-end m i = length steps - i
+μ-loop rows p mode n s first second steps m₀ i₀ i-end m i = length steps - i
 
 -- src/lib.rt:65:5
 loop-holds : tie.Need-loop-holds Inv-loop μ-loop
@@ -41,7 +41,7 @@ is-step-requires c κs = search needs
 returns : tie.Need-returns Inv-loop μ-loop
 returns c =
     let inv = c .before .before .before .before .loop .inv in
-    leads-broken _ _ _ _ _ _ _ _ (c .before .before .before .loop-test .taken) (broken-is _ _ _ _ _ _ _ _ _ (inv .1) (c .before .is-step .ensures) ∙ c .if1 .taken)
+    leads-broken _ _ _ _ _ _ _ _ _ (c .before .before .before .loop-test .taken) (broken-is _ _ _ _ _ _ _ _ _ _ (inv .1) (c .before .is-step .ensures) ∙ c .if1 .taken)
 
 -- src/lib.rt:69:13
 mul-m : tie.Need-mul-m Inv-loop μ-loop
@@ -65,15 +65,15 @@ loop-again c =
     let inv = c .before .before .before .before .before .loop .inv in (
       search needs,
       stands-next _ _ _,
-      step-low _ _ _ _ _ _ (sym (c .before .before .is-step .ensures) ∙ not-false _ (c .before .if1 .left)),
-      any-more _ _ (inv .3) (broken-is _ _ _ _ _ _ _ _ _ (inv .1) (c .before .before .is-step .ensures) ∙ c .before .if1 .left),
+      step-low _ _ _ _ _ _ _ (sym (c .before .before .is-step .ensures) ∙ not-false _ (c .before .if1 .left)),
+      any-more _ _ (inv .3) (broken-is _ _ _ _ _ _ _ _ _ _ (inv .1) (c .before .before .is-step .ensures) ∙ c .before .if1 .left),
     )
 
 -- src/lib.rt:60:1
 returns-2 : tie.Need-returns-2 Inv-loop μ-loop
 returns-2 c =
     let e : c .before .loop .i ≡ length (c .before .before .before .before .args .steps .now) = omega arith in
-    leads-whole _ _ _ _ _ _ _ _ _ e (c .before .loop .inv .1) (c .before .loop .inv .3)
+    leads-whole _ _ _ _ _ _ _ _ _ _ e (c .before .loop .inv .1) (c .before .loop .inv .3)
 
 pub is-chain-spec : {M : Type 1} → statement M
 is-chain-spec =

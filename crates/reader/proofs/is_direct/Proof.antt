@@ -54,7 +54,7 @@ returns : tie.Need-returns
 unfolding _and_
 returns c =
     let held = c .before .before in
-    direct-sync _ _ _ _ _ _ _ _ _ (held .before .before .before .read-row .ensures) (held .before .before .read-row2 .ensures) _ _ _ (c .before .if1 .taken) (held .before .holding-of .ensures) (held .holding-of2 .ensures) (c .sync-at .ensures)
+    direct-sync _ _ _ _ _ _ _ _ _ _ (held .before .before .before .read-row .ensures) (held .before .before .read-row2 .ensures) _ _ _ (c .before .if1 .taken) (held .before .holding-of .ensures) (held .holding-of2 .ensures) (c .sync-at .ensures)
 
 -- src/lib.rt:39:9
 releases-requires : tie.Need-releases-requires
@@ -82,7 +82,7 @@ unfolding _and_
 returns-2 c =
     let told = c .before .before in
     let held = told .before .before .before .before in
-    direct-release _ _ _ _ _ _ _ _ _ (held .before .before .before .read-row .ensures) (held .before .before .read-row2 .ensures) _ _ _ _ (c .before .if2 .taken) (held .holding-of2 .ensures) (told .before .before .releases .ensures) (c .concerns-of .ensures) (told .is-ordered .ensures)
+    direct-release _ _ _ _ _ _ _ _ _ _ (held .before .before .before .read-row .ensures) (held .before .before .read-row2 .ensures) _ _ _ _ (c .before .if2 .taken) (held .holding-of2 .ensures) (told .before .before .releases .ensures) (c .concerns-of .ensures) (told .is-ordered .ensures)
 
 -- src/lib.rt:45:66
 cast-concerns-of-2 : tie.Need-cast-concerns-of-2
@@ -98,7 +98,7 @@ unfolding _and_
 returns-3 c =
     let told = c .before .before in
     let held = told .before .before .before .before in
-    direct-acquire _ _ _ _ _ _ _ _ _ (held .before .before .before .read-row .ensures) (held .before .before .read-row2 .ensures) _ _ _ _ (told .before .before .before .if1 .left) (c .before .if2 .left) (held .before .holding-of .ensures) (told .before .acquires .ensures) (c .concerns-of2 .ensures) (told .is-ordered .ensures)
+    direct-acquire _ _ _ _ _ _ _ _ _ _ (held .before .before .before .read-row .ensures) (held .before .before .read-row2 .ensures) _ _ _ _ (told .before .before .before .if1 .left) (c .before .if2 .left) (held .before .holding-of .ensures) (told .before .acquires .ensures) (c .concerns-of2 .ensures) (told .is-ordered .ensures)
 
 pub is-direct-spec : {M : Type 1} → statement M
 is-direct-spec =

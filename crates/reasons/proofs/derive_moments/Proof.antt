@@ -21,7 +21,7 @@ ordered-at-requires c κs = search needs
 
 -- src/lib.rt:61:9
 returns : tie.Need-returns
-returns c = told-word _ _ _ _ _ (sym (c .before .ordered-at .ensures _) ∙ c .if1 .taken)
+returns c = told-word _ _ _ _ _ (sym (c .before .ordered-at .ensures _ _) ∙ c .if1 .taken)
 
 -- src/lib.rt:63:5
 make-synced-requires : tie.Need-make-synced-requires
@@ -39,7 +39,7 @@ same-length c = search needs
 returns-2 : tie.Need-returns-2
 returns-2 c =
     let set = c .before .before .before .find-set .ensures in
-    told-none _ _ _ (sym (c .before .before .before .before .before .before .before .before .before .before .ordered-at .ensures _) ∙ c .before .before .before .before .before .before .before .before .before .if1 .left) _ (set .0) _ (c .if2 .taken) (c .before .before .before .before .before .before .before .make-synced .ensures .frame) (set .1)
+    told-none _ _ _ (sym (c .before .before .before .before .before .before .before .before .before .before .ordered-at .ensures _ _) ∙ c .before .before .before .before .before .before .before .before .before .if1 .left) _ (set .0) _ (c .if2 .taken) (c .before .before .before .before .before .before .before .make-synced .ensures .frame) (set .1)
 
 -- src/lib.rt:68:36
 mul-layer-of : tie.Need-mul-layer-of
@@ -71,12 +71,12 @@ write-steps-requires c κs =
     (pre .0, search needs, pre .3, omega arith, omega arith, pre .2, held .layers, asked .2)
 
 -- src/lib.rt:71:18
-add-t21 : tie.Need-add-t21
-add-t21 c = search needs
+add-t22 : tie.Need-add-t22
+add-t22 c = search needs
 
 -- src/lib.rt:72:16
-cast-t26 : tie.Need-cast-t26
-cast-t26 c = search needs
+cast-t27 : tie.Need-cast-t27
+cast-t27 c = search needs
 
 -- src/lib.rt:46:1
 same-length-2 : tie.Need-same-length-2
@@ -94,8 +94,8 @@ returns-3 c =
     let set = c .before .before .before .before .before .before .before .before .before .before .find-set .ensures in
     let less = c .before .before .before .before .before .before .before .if2 .left in
     let made = c .before .before .before .before .before .before .before .before .before .before .before .before .before .before .make-synced .ensures in
-    let written = c .before .before .write-steps .ensures _ (synced-kept (omega arith) (set .1) (made .synced)) in
-    told-chain refl (pre .0) (pre .3) (pre .4) (pre .5) (set .0) less (set .2 less) _ (c .before .before .before .before .before .layer-of .ensures .0) (sym (c .before .before .before .before .before .before .before .before .before .before .before .before .before .before .before .before .before .ordered-at .ensures _) ∙ c .before .before .before .before .before .before .before .before .before .before .before .before .before .before .before .before .if1 .left) (pre .2) (made .frame) (set .1) written
+    let written = c .before .before .write-steps .ensures _ _ (synced-kept (omega arith) (set .1) (made .synced)) in
+    told-chain refl (pre .0) (pre .3) (pre .4) (pre .5) (set .0) less (set .2 less) _ (c .before .before .before .before .before .layer-of .ensures .0) (sym (c .before .before .before .before .before .before .before .before .before .before .before .before .before .before .before .before .before .ordered-at .ensures _ _) ∙ c .before .before .before .before .before .before .before .before .before .before .before .before .before .before .before .before .if1 .left) (pre .2) (made .frame) (set .1) written
 
 pub derive-moments-spec : {M : Type 1} → statement M
 derive-moments-spec =
@@ -112,8 +112,8 @@ derive-moments-spec =
     add-size
     add-write-steps
     write-steps-requires
-    add-t21
-    cast-t26
+    add-t22
+    cast-t27
     same-length-2
     same-length-3
     returns-3)

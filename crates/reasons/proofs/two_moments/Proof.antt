@@ -28,7 +28,7 @@ moment-in-requires-2 c κs = search needs
 -- src/lib.rt:35:1
 returns : tie.Need-returns
 unfolding _and_
-returns c = λ p. rw (two-is _ p _ _ _) cc
+returns c = λ p mode. rw (two-is _ p _ _ _ _) cc
 
 pub two-moments-spec : {M : Type 1} → statement M
 two-moments-spec =

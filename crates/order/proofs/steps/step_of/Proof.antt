@@ -16,7 +16,7 @@ ordered-at-requires c κs = search needs
 -- src/steps.rt:70:9
 returns : tie.Need-returns
 unfolding _or_
-returns c = λ p. step-apart _ _ _ _ _ _ _ _ (c .before .ordered-at .ensures p) (c .if1 .taken)
+returns c = λ p mode. step-apart _ _ _ _ _ _ _ _ (c .before .ordered-at .ensures p mode) (c .if1 .taken)
 
 -- src/steps.rt:72:41
 cast-read-row : tie.Need-cast-read-row
@@ -48,8 +48,8 @@ is-step-requires c κs = search needs
 
 -- src/steps.rt:63:1
 returns-2 : tie.Need-returns-2
-returns-2 c = λ p. step-told _ _ _ _ _ _ _ _ _ _ _ (c .is-step .ensures) (c .before .before .read-row .ensures) (c .before .read-row2 .ensures)
-    (c .before .before .before .before .ordered-at .ensures p)
+returns-2 c = λ p mode. step-told _ _ _ _ _ _ _ _ _ _ _ (c .is-step .ensures) (c .before .before .read-row .ensures) (c .before .read-row2 .ensures)
+    (c .before .before .before .before .ordered-at .ensures p mode)
 
 pub step-of-spec : {M : Type 1} → statement M
 step-of-spec =

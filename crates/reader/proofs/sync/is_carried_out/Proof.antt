@@ -16,10 +16,10 @@ use Rattle.reader.proofs.sync.takes_from.Reads as takes-from-reads
 use Rattle.sequence.proofs.carriers.leads_at.Reads as leads-at-reads
 
 abbrev Inv-loop : tie.InvT-loop
-Inv-loop rows p n a b x₀ x = (x ≤ n) × (anyBelow x (carriesOut (decode rows p n) a b) ≡ false)
+Inv-loop rows p mode n a b x₀ x = (x ≤ n) × (anyBelow x (carriesOut (decode rows p mode n) a b) ≡ false)
 
 abbrev μ-loop : tie.MeasureT-loop
-μ-loop rows p n a b x₀ x = n - x
+μ-loop rows p mode n a b x₀ x = n - x
 
 -- src/sync.rt:66:5
 loop-holds : tie.Need-loop-holds Inv-loop μ-loop
@@ -36,7 +36,7 @@ takes-from-requires c κs = search needs
 -- src/sync.rt:68:13
 returns : tie.Need-returns Inv-loop μ-loop
 unfolding carriesOut _and_
-returns c = sym (any-in _ _ _ (c .before .before .before .loop-test .taken) (both (c .before .before .leads-at .ensures _ _) (c .before .takes-from .ensures) (c .if1 .taken)))
+returns c = sym (any-in _ _ _ (c .before .before .before .loop-test .taken) (both (c .before .before .leads-at .ensures _ _ _) (c .before .takes-from .ensures) (c .if1 .taken)))
 
 -- src/sync.rt:66:9
 add-x : tie.Need-add-x Inv-loop μ-loop
@@ -49,7 +49,7 @@ loop-less c = search needs
 -- src/sync.rt:66:5
 loop-again : tie.Need-loop-again Inv-loop μ-loop
 unfolding carriesOut _and_
-loop-again c = (search needs, any-more _ _ (c .before .before .before .before .loop .inv .1) (both (c .before .before .leads-at .ensures _ _) (c .before .takes-from .ensures) (c .if1 .left)))
+loop-again c = (search needs, any-more _ _ (c .before .before .before .before .loop .inv .1) (both (c .before .before .leads-at .ensures _ _ _) (c .before .takes-from .ensures) (c .if1 .left)))
 
 -- src/sync.rt:62:1
 returns-2 : tie.Need-returns-2 Inv-loop μ-loop

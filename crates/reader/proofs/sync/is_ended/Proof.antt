@@ -16,10 +16,10 @@ use Rattle.sequence.proofs.heads.is_end.Reads as is-end-reads
 use Rattle.sequence.proofs.heads.mutual_at.Reads as mutual-at-reads
 
 abbrev Inv-loop : tie.InvT-loop
-Inv-loop rows p n a x h r z₀ z = (z ≤ n) × (anyBelow z (ends (decode rows p n) a x) ≡ false)
+Inv-loop rows p mode n a x h r z₀ z = (z ≤ n) × (anyBelow z (ends (decode rows p mode n) a x) ≡ false)
 
 abbrev μ-loop : tie.MeasureT-loop
-μ-loop rows p n a x h r z₀ z = n - z
+μ-loop rows p mode n a x h r z₀ z = n - z
 
 -- src/sync.rt:20:35
 cast-read-row : tie.Need-cast-read-row Inv-loop μ-loop
@@ -60,7 +60,7 @@ is-end-requires c κs = search needs
 -- src/sync.rt:26:13
 returns : tie.Need-returns Inv-loop μ-loop
 returns c =
-    let t = ends-told _ _ _ _ _ _ _ _ _ _ _ (c .before .before .before .mutual-at .ensures) (c .before .before .before .before .before .before .before .read-row .ensures) (c .before .before .before .before .before .before .read-row2 .ensures) (c .before .before .read-row3 .ensures) (c .before .is-end .ensures) in
+    let t = ends-told _ _ _ _ _ _ _ _ _ _ _ _ (c .before .before .before .mutual-at .ensures) (c .before .before .before .before .before .before .before .read-row .ensures) (c .before .before .before .before .before .before .read-row2 .ensures) (c .before .before .read-row3 .ensures) (c .before .is-end .ensures) in
     sym (any-in _ _ _ (c .before .before .before .before .loop-test .taken) (t ∙ c .if1 .taken))
 
 -- src/sync.rt:22:9
@@ -74,7 +74,7 @@ loop-less c = search needs
 -- src/sync.rt:22:5
 loop-again : tie.Need-loop-again Inv-loop μ-loop
 loop-again c =
-    let t = ends-told _ _ _ _ _ _ _ _ _ _ _ (c .before .before .before .mutual-at .ensures) (c .before .before .before .before .before .before .before .read-row .ensures) (c .before .before .before .before .before .before .read-row2 .ensures) (c .before .before .read-row3 .ensures) (c .before .is-end .ensures) in
+    let t = ends-told _ _ _ _ _ _ _ _ _ _ _ _ (c .before .before .before .mutual-at .ensures) (c .before .before .before .before .before .before .before .read-row .ensures) (c .before .before .before .before .before .before .read-row2 .ensures) (c .before .before .read-row3 .ensures) (c .before .is-end .ensures) in
     (search needs, any-more _ _ (c .before .before .before .before .before .loop .inv .1) (t ∙ c .if1 .left))
 
 -- src/sync.rt:16:1

@@ -20,7 +20,7 @@ mutual-at-requires c κs = search needs
 
 -- src/sync.rt:49:9
 returns : tie.Need-returns
-returns c = takes-apart _ _ _ _ _ (sym (c .before .mutual-at .ensures) ∙ not-true _ (c .if1 .taken))
+returns c = takes-apart _ _ _ _ _ _ (sym (c .before .mutual-at .ensures) ∙ not-true _ (c .if1 .taken))
 
 -- src/sync.rt:51:40
 cast-atomic-source : tie.Need-cast-atomic-source
@@ -36,7 +36,7 @@ cast-k c = search needs
 
 -- src/sync.rt:53:9
 returns-2 : tie.Need-returns-2
-returns-2 c = takes-none _ _ _ _ _ _ (c .before .before .atomic-source .ensures) (c .if2 .taken)
+returns-2 c = takes-none _ _ _ _ _ _ _ (c .before .before .atomic-source .ensures) (c .if2 .taken)
 
 -- src/sync.rt:55:35
 cast-read-row : tie.Need-cast-read-row
@@ -73,7 +73,7 @@ returns-3 c =
     let read = c .before .before .before in
     let tested = read .before .before in
     let first = tested .before .before .before in
-    rw (c .before .before .writes .ensures, c .before .reads .ensures) (takes-on _ _ _ _ _ _ _ _ _ (sym (first .before .mutual-at .ensures) ∙ not-false _ (first .if1 .left)) (tested .before .before .atomic-source .ensures) (tested .if2 .left) (read .before .read-row .ensures) (read .read-row2 .ensures) (c .sequence-at .ensures))
+    rw (c .before .before .writes .ensures, c .before .reads .ensures) (takes-on _ _ _ _ _ _ _ _ _ _ (sym (first .before .mutual-at .ensures) ∙ not-false _ (first .if1 .left)) (tested .before .before .atomic-source .ensures) (tested .if2 .left) (read .before .read-row .ensures) (read .read-row2 .ensures) (c .sequence-at .ensures))
 
 pub takes-from-spec : {M : Type 1} → statement M
 takes-from-spec =

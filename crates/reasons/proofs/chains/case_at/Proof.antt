@@ -45,7 +45,7 @@ case-of-requires c κs = search needs
 returns : tie.Need-returns
 returns c =
     let e = c .case-of .ensures in
-    (rw e (case-small _ _ _ _ _ _ _), λ p. case-told _ _ _ _ _ _ _ _ _ _ _ e (c .before .before .read-row .ensures) (c .before .read-row2 .ensures) (c .before .before .before .ordered-at .ensures p))
+    (rw e (case-small _ _ _ _ _ _ _), λ p mode. case-told _ _ _ _ _ _ _ _ _ _ _ e (c .before .before .read-row .ensures) (c .before .read-row2 .ensures) (c .before .before .before .ordered-at .ensures p mode))
 
 pub case-at-spec : {M : Type 1} → statement M
 case-at-spec =

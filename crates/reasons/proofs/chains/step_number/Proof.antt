@@ -49,7 +49,7 @@ add-result c = search needs
 returns : tie.Need-returns
 returns c =
     let start = c .before .before .before .before in
-    λ p h. number-is _ p _ _ _ _ _ _ _ _ h (start .pre .1) (start .pre .2) (omega arith) (c .before .get .ensures) (c .case-at .ensures .1 p)
+    λ p mode h. number-is _ p _ _ _ _ _ _ _ _ _ h (start .pre .1) (start .pre .2) (omega arith) (c .before .get .ensures) (c .case-at .ensures .1 p mode)
 
 pub step-number-spec : {M : Type 1} → statement M
 step-number-spec =

@@ -6,6 +6,7 @@ use native.Mathlib.Omega.{arith}
 use lib.ListN.{length, length-set}
 use Rattle.finite.specs.Walk.{trail, along}
 use Rattle.bits.specs.Matrix.{rel}
+use Rattle.model.specs.declared.Mode.{Mode}
 use Rattle.model.specs.Table.{decode}
 use Rattle.model.specs.Reason.{stepNumber}
 use Rattle.area.specs.Regions.{STEP, MOMENTS}
@@ -20,7 +21,7 @@ use Rattle.reasons.proofs.chains.next_moment.Reads as next-moment-reads
 use Rattle.reasons.proofs.chains.step_number.Reads as step-number-reads
 
 abbrev Inv-loop : tie.InvT-loop
-Inv-loop rows n s first second size w c₀ z₀ i₀ c z i = (i ≤ size) × (z < 3 * n) × (length c ≡ length c₀) × Left (3 * n) (rel w STEP MOMENTS) second size first i (size - i) z × ((p : List (List ℕ)) → Synced (decode rows p n) n w → Written (along (stepNumber (decode rows p n) s) second (trail (3 * n) (rel w STEP MOMENTS) second size first)) i c₀ c)
+Inv-loop rows n s first second size w c₀ z₀ i₀ c z i = (i ≤ size) × (z < 3 * n) × (length c ≡ length c₀) × Left (3 * n) (rel w STEP MOMENTS) second size first i (size - i) z × ((p : List (List ℕ)) (mode : Mode) → Synced (decode rows p mode n) n w → Written (along (stepNumber (decode rows p mode n) s) second (trail (3 * n) (rel w STEP MOMENTS) second size first)) i c₀ c)
 
 abbrev μ-loop : tie.MeasureT-loop
 μ-loop rows n s first second size w c₀ z₀ i₀ c z i = size - i
@@ -29,7 +30,7 @@ abbrev μ-loop : tie.MeasureT-loop
 loop-holds : tie.Need-loop-holds Inv-loop μ-loop
 loop-holds c =
     let start = c .before .before .before in
-    (search needs, start .pre .2, refl, left-none _ _ _ _ _ (start .pre .7), λ p h. written-none _ _)
+    (search needs, start .pre .2, refl, left-none _ _ _ _ _ (start .pre .7), λ p mode h. written-none _ _)
 
 -- src/chains.rt:138:32
 mul-next-moment : tie.Need-mul-next-moment Inv-loop μ-loop
@@ -77,7 +78,7 @@ loop-again c =
     let start = c .before .before .before .before .before .before .before in
     let inv = c .before .before .before .loop .inv in
     let more = left-more _ _ _ _ _ _ _ _ (c .before .before .loop-test .taken) (inv .3) (next-is (start .pre .6) _ _ _ (omega arith) (c .before .next-moment .ensures)) in
-    (search needs, more .0, simp length-set (inv .2), more .2, λ p h. written-more _ _ (omega arith) (more .1 _ ∙ sym (c .step-number .ensures p h)) (inv .4 p h))
+    (search needs, more .0, simp length-set (inv .2), more .2, λ p mode h. written-more _ _ (omega arith) (more .1 _ ∙ sym (c .step-number .ensures p mode h)) (inv .4 p mode h))
 
 -- src/chains.rt:120:1
 same-length : tie.Need-same-length Inv-loop μ-loop
@@ -87,7 +88,7 @@ same-length c = search needs
 returns : tie.Need-returns Inv-loop μ-loop
 returns c =
     let e : c .before .loop .i ≡ c .before .before .before .before .before .args .size = omega arith in
-    λ p h. rw e at (c .before .loop .inv .4 p h)
+    λ p mode h. rw e at (c .before .loop .inv .4 p mode h)
 
 pub write-steps-spec : {M : Type 1} → statement M
 write-steps-spec =

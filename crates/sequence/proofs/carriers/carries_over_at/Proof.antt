@@ -19,7 +19,7 @@ leads-at-requires c κs = search needs
 -- src/carriers.rt:135:9
 returns : tie.Need-returns
 unfolding carriesOver
-returns c = sym (and-false-left _ _ (sym (c .before .leads-at .ensures _ _) ∙ not-true _ (c .if1 .taken)))
+returns c = sym (and-false-left _ _ (sym (c .before .leads-at .ensures _ _ _) ∙ not-true _ (c .if1 .taken)))
 
 -- src/carriers.rt:137:5
 is-carried-in-requires : tie.Need-is-carried-in-requires
@@ -28,7 +28,7 @@ is-carried-in-requires c κs = search needs
 -- src/carriers.rt:122:1
 returns-2 : tie.Need-returns-2
 unfolding carriesOver decode
-returns-2 c = c .is-carried-in .ensures ∙ sym (and-on _ _ (sym (c .before .before .leads-at .ensures _ _) ∙ not-false _ (c .before .if1 .left)))
+returns-2 c = c .is-carried-in .ensures ∙ sym (and-on _ _ (sym (c .before .before .leads-at .ensures _ _ _) ∙ not-false _ (c .before .if1 .left)))
 
 pub carries-over-at-spec : {M : Type 1} → statement M
 carries-over-at-spec =

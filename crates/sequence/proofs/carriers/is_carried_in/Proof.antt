@@ -13,10 +13,10 @@ use Rattle.sequence.proofs.carriers.is_carried_in.Lts as lts
 use Rattle.sequence.proofs.carriers.carries_in_at.Reads as carries-in-at-reads
 
 abbrev Inv-loop : tie.InvT-loop
-Inv-loop rows p n a b w y₀ y = (y ≤ n) × (anyBelow y (carriesIn (decode rows p n) a b) ≡ false)
+Inv-loop rows p mode n a b w y₀ y = (y ≤ n) × (anyBelow y (carriesIn (decode rows p mode n) a b) ≡ false)
 
 abbrev μ-loop : tie.MeasureT-loop
-μ-loop rows p n a b w y₀ y = n - y
+μ-loop rows p mode n a b w y₀ y = n - y
 
 -- src/carriers.rt:113:5
 loop-holds : tie.Need-loop-holds Inv-loop μ-loop

@@ -13,10 +13,10 @@ use Rattle.sequence.proofs.carriers.is_carried_out.Lts as lts
 use Rattle.sequence.proofs.carriers.carries_out_at.Reads as carries-out-at-reads
 
 abbrev Inv-loop : tie.InvT-loop
-Inv-loop rows p n a b w x₀ x = (x ≤ n) × (anyBelow x (carriesOut (decode rows p n) a b) ≡ false)
+Inv-loop rows p mode n a b w x₀ x = (x ≤ n) × (anyBelow x (carriesOut (decode rows p mode n) a b) ≡ false)
 
 abbrev μ-loop : tie.MeasureT-loop
-μ-loop rows p n a b w x₀ x = n - x
+μ-loop rows p mode n a b w x₀ x = n - x
 
 -- src/carriers.rt:89:5
 loop-holds : tie.Need-loop-holds Inv-loop μ-loop

@@ -29,7 +29,7 @@ is-leading-requires c κs = search needs
 
 -- src/carriers.rt:45:1
 returns : tie.Need-returns
-returns c p n = rw (leads-is _ _ _ _ _) cc
+returns c p mode n = rw (leads-is _ _ _ _ _ _) cc
 
 pub leads-at-spec : {M : Type 1} → statement M
 leads-at-spec =

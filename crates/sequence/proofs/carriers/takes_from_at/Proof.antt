@@ -39,7 +39,7 @@ get-requires c κs = search needs
 returns : tie.Need-returns
 returns c =
     let start = c .before .before .before .before in
-    takes-apart _ _ _ _ _ (sym (holds-bit (start .pre .4 .mutuals) _ (start .args .x) (start .args .y) (omega arith) (omega arith) (omega arith)) ∙ sym (c .before .get .ensures) ∙ not-true _ (c .if1 .taken))
+    takes-apart _ _ _ _ _ _ (sym (holds-bit (start .pre .4 .mutuals) _ (start .args .x) (start .args .y) (omega arith) (omega arith) (omega arith)) ∙ sym (c .before .get .ensures) ∙ not-true _ (c .if1 .taken))
 
 -- src/carriers.rt:24:46
 cast-atomic-source : tie.Need-cast-atomic-source
@@ -55,7 +55,7 @@ cast-k c = search needs
 
 -- src/carriers.rt:27:9
 returns-2 : tie.Need-returns-2
-returns-2 c = takes-none _ _ _ _ _ _ (c .before .before .atomic-source .ensures) (c .if2 .taken)
+returns-2 c = takes-none _ _ _ _ _ _ _ (c .before .before .atomic-source .ensures) (c .if2 .taken)
 
 -- src/carriers.rt:29:41
 cast-read-row : tie.Need-cast-read-row
@@ -112,7 +112,7 @@ returns-3 c =
     let start = got .before .before .before in
     let m = sym (holds-bit (start .pre .4 .mutuals) _ (start .args .x) (start .args .y) (omega arith) (omega arith) (omega arith)) ∙ sym (got .get .ensures) ∙ not-false _ (got-if .if1 .left) in
     let v = c .before .before .get2 .ensures ∙ holds-bit (start .pre .4 .sequences) _ (start .args .x) _ (omega arith) (omega arith) (tested .if2 .left) in
-    rw (c .before .writes .ensures, c .reads .ensures) (takes-on _ _ _ _ _ _ _ _ _ m (tested .before .before .atomic-source .ensures) (tested .if2 .left) (read .before .read-row .ensures) (read .read-row2 .ensures) v)
+    rw (c .before .writes .ensures, c .reads .ensures) (takes-on _ _ _ _ _ _ _ _ _ _ m (tested .before .before .atomic-source .ensures) (tested .if2 .left) (read .before .read-row .ensures) (read .read-row2 .ensures) v)
 
 pub takes-from-at-spec : {M : Type 1} → statement M
 takes-from-at-spec =

@@ -29,7 +29,7 @@ is-trailing-requires c κs = search needs
 
 -- src/carriers.rt:62:1
 returns : tie.Need-returns
-returns c p n = rw (trails-is _ _ _ _ _) cc
+returns c p mode n = rw (trails-is _ _ _ _ _ _) cc
 
 pub trails-at-spec : {M : Type 1} → statement M
 trails-at-spec =

@@ -13,10 +13,10 @@ use Rattle.sequence.proofs.control.is_arrived.Lts as lts
 use Rattle.sequence.proofs.control.arrives_at.Reads as arrives-at-reads
 
 abbrev Inv-loop : tie.InvT-loop
-Inv-loop rows p n b c d₀ d = (d ≤ n) × (anyBelow d (arrives (decode rows p n) b c) ≡ false)
+Inv-loop rows p mode n b c d₀ d = (d ≤ n) × (anyBelow d (arrives (decode rows p mode n) b c) ≡ false)
 
 abbrev μ-loop : tie.MeasureT-loop
-μ-loop rows p n b c d₀ d = n - d
+μ-loop rows p mode n b c d₀ d = n - d
 
 -- src/carriers.rt:145:5
 loop-holds : tie.Need-loop-holds Inv-loop μ-loop

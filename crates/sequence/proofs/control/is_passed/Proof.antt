@@ -13,10 +13,10 @@ use Rattle.sequence.proofs.control.is_passed.Lts as lts
 use Rattle.sequence.proofs.control.passes_at.Reads as passes-at-reads
 
 abbrev Inv-loop : tie.InvT-loop
-Inv-loop rows p n a b c₀ c = (c ≤ n) × (anyBelow c (passes (decode rows p n) a b) ≡ false)
+Inv-loop rows p mode n a b c₀ c = (c ≤ n) × (anyBelow c (passes (decode rows p mode n) a b) ≡ false)
 
 abbrev μ-loop : tie.MeasureT-loop
-μ-loop rows p n a b c₀ c = n - c
+μ-loop rows p mode n a b c₀ c = n - c
 
 -- src/carriers.rt:145:5
 loop-holds : tie.Need-loop-holds Inv-loop μ-loop

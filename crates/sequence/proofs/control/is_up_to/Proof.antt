@@ -28,7 +28,7 @@ read-agent-requires-2 c κs = search needs
 -- src/control.rt:14:1
 returns : tie.Need-returns
 unfolding upTo sameAgent decode _and_
-returns c p n = cc
+returns c p mode n = cc
 
 pub is-up-to-spec : {M : Type 1} → statement M
 is-up-to-spec =

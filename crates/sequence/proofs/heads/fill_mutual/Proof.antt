@@ -17,16 +17,16 @@ use Rattle.bits.proofs.put_if.Reads as put-if-reads
 use Rattle.sequence.proofs.heads.mutual_at.Reads as mutual-at-reads
 
 abbrev Inv-loop2 : tie.InvT-loop2
-Inv-loop2 rows p n w₀ i j₀ w j = (j ≤ n) × (length w ≡ length w₀) × (w ≡ rowFill (mutually (decode rows p n) i) w₀ (MUTUAL * 64 + i * (GRID * 64)) j)
+Inv-loop2 rows p mode n w₀ i j₀ w j = (j ≤ n) × (length w ≡ length w₀) × (w ≡ rowFill (mutually (decode rows p mode n) i) w₀ (MUTUAL * 64 + i * (GRID * 64)) j)
 
 abbrev μ-loop2 : tie.MeasureT-loop2
-μ-loop2 rows p n w₀ i j₀ w j = n - j
+μ-loop2 rows p mode n w₀ i j₀ w j = n - j
 
 abbrev Inv-loop : tie.InvT-loop
-Inv-loop rows p n w₀ i₀ w i = (i ≤ n) × (length w ≡ length w₀) × (w ≡ gridFill (mutually (decode rows p n)) w₀ (MUTUAL * 64) (GRID * 64) (n) i)
+Inv-loop rows p mode n w₀ i₀ w i = (i ≤ n) × (length w ≡ length w₀) × (w ≡ gridFill (mutually (decode rows p mode n)) w₀ (MUTUAL * 64) (GRID * 64) (n) i)
 
 abbrev μ-loop : tie.MeasureT-loop
-μ-loop rows p n w₀ i₀ w i = n - i
+μ-loop rows p mode n w₀ i₀ w i = n - i
 
 -- src/heads.rt:33:5
 clear-requires : tie.Need-clear-requires Inv-loop2 μ-loop2 Inv-loop μ-loop

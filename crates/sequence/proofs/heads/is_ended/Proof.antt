@@ -20,10 +20,10 @@ use Rattle.rows.proofs.bytes.read_row.Reads as read-row-reads
 use Rattle.sequence.proofs.heads.is_end.Reads as is-end-reads
 
 abbrev Inv-loop : tie.InvT-loop
-Inv-loop rows n a x w h r z₀ z = (z ≤ n) × ((p : List (List ℕ)) → Holds MUTUAL GRID n (mutually (decode rows p n)) w → anyBelow z (ends (decode rows p n) a x) ≡ false)
+Inv-loop rows mode n a x w h r z₀ z = (z ≤ n) × ((p : List (List ℕ)) → Holds MUTUAL GRID n (mutually (decode rows p mode n)) w → anyBelow z (ends (decode rows p mode n) a x) ≡ false)
 
 abbrev μ-loop : tie.MeasureT-loop
-μ-loop rows n a x w h r z₀ z = n - z
+μ-loop rows mode n a x w h r z₀ z = n - z
 
 -- src/heads.rt:79:41
 cast-read-row : tie.Need-cast-read-row Inv-loop μ-loop
@@ -83,7 +83,7 @@ returns c =
     let start = c .before .before .before .before .before .before .before .before .before .before in
     let z = c .before .before .before .before .before .loop .z in
     let f = c .before .before .before .get .ensures ∙ holds-bit (start .pre .4) _ (start .args .a) z (omega arith) (omega arith) (omega arith) in
-    let t = ends-told _ _ _ _ _ _ _ _ _ _ _ f (c .before .before .before .before .before .before .before .read-row .ensures) (c .before .before .before .before .before .before .read-row2 .ensures) (c .before .before .read-row3 .ensures) (c .before .is-end .ensures) in
+    let t = ends-told _ _ _ _ _ _ _ _ _ _ _ _ f (c .before .before .before .before .before .before .before .read-row .ensures) (c .before .before .before .before .before .before .read-row2 .ensures) (c .before .before .read-row3 .ensures) (c .before .is-end .ensures) in
     sym (any-in _ _ z (c .before .before .before .before .loop-test .taken) (t ∙ c .if1 .taken))
 
 -- src/heads.rt:81:9
@@ -102,7 +102,7 @@ loop-again c =
       search needs,
       λ p k.
           let f = c .before .before .before .get .ensures ∙ holds-bit k _ (start .args .a) z (omega arith) (omega arith) (omega arith) in
-          let t = ends-told _ _ _ _ _ _ _ _ _ _ _ f (c .before .before .before .before .before .before .before .read-row .ensures) (c .before .before .before .before .before .before .read-row2 .ensures) (c .before .before .read-row3 .ensures) (c .before .is-end .ensures) in
+          let t = ends-told _ _ _ _ _ _ _ _ _ _ _ _ f (c .before .before .before .before .before .before .before .read-row .ensures) (c .before .before .before .before .before .before .read-row2 .ensures) (c .before .before .read-row3 .ensures) (c .before .is-end .ensures) in
           any-more _ _ (c .before .before .before .before .before .loop .inv .1 p k) (t ∙ c .if1 .left),
     )
 

@@ -16,7 +16,7 @@ follows-at-requires c κs = search needs
 
 -- src/heads.rt:98:9
 returns : tie.Need-returns
-returns c = sequence-off _ _ _ _ _ (sym (c .before .follows-at .ensures) ∙ not-true _ (c .if1 .taken))
+returns c = sequence-off _ _ _ _ _ _ (sym (c .before .follows-at .ensures) ∙ not-true _ (c .if1 .taken))
 
 -- src/heads.rt:100:17
 is-ended-requires : tie.Need-is-ended-requires
@@ -25,7 +25,7 @@ is-ended-requires c κs = search needs
 -- src/heads.rt:92:1
 returns-2 : tie.Need-returns-2
 unfolding _or_
-returns-2 c = sequence-on _ _ _ _ _ _ (sym (c .before .before .follows-at .ensures) ∙ not-false _ (c .before .if1 .left)) (c .is-ended .ensures)
+returns-2 c = sequence-on _ _ _ _ _ _ _ (sym (c .before .before .follows-at .ensures) ∙ not-false _ (c .before .if1 .left)) (c .is-ended .ensures)
 
 pub sequence-at-spec : {M : Type 1} → statement M
 sequence-at-spec = tie.close (tie.spec follows-at-requires returns is-ended-requires returns-2)

@@ -11,6 +11,7 @@ ghost use Rattle.model.specs.Edge.{beforeSome, readsFrom, fromReads, edgeNumber
 ghost use Rattle.area.specs.Regions.{EDGE, EDGE-END, GRID};
 ghost use Rattle.race.specs.Bytes.{Known};
 ghost use Rattle.axioms.specs.Sources.{sourceIn};
+use model::Mode;
 use model::Places;
 use model::Row;
 
@@ -22,9 +23,17 @@ fn pick(b: bool, x: u16, y: u16) -> u16
 
 // Edge 1: whether x is location-ordered before y at some byte.
 // Ruled out: one that asks for each byte; one that leaves out x's last byte.
-pub fn before_some(rows: &[u8], p: Places, n: usize, x: usize, y: usize, w: &[u64]) -> bool
-    requires { ⌜ (x < n) × (y < n) × Known (decode (now rows) p n) n (now w) ⌝ }
-    ensures { λ d. ⌜ d ≡ beforeSome (decode (now (rows .entry)) p n) x y ⌝ }
+pub fn before_some(
+    rows: &[u8],
+    p: Places,
+    mode: Mode,
+    n: usize,
+    x: usize,
+    y: usize,
+    w: &[u64],
+) -> bool
+    requires { ⌜ (x < n) × (y < n) × Known (decode (now rows) p mode n) n (now w) ⌝ }
+    ensures { λ d. ⌜ d ≡ beforeSome (decode (now (rows .entry)) p mode n) x y ⌝ }
 {
     for k in 0..area::PAIR {
         if bits::get(
@@ -42,6 +51,7 @@ pub fn before_some(rows: &[u8], p: Places, n: usize, x: usize, y: usize, w: &[u6
 pub fn follows_at(
     rows: &[u8],
     p: Places,
+    mode: Mode,
     n: usize,
     x: usize,
     y: usize,
@@ -49,19 +59,21 @@ pub fn follows_at(
     q: Row,
     w: &[u64],
 ) -> bool
-    requires { ⌜ (x < n) × (y < n) × (r ≡ rowOf (now rows) x) × (q ≡ rowOf (now rows) y) × Known (decode (now rows) p n) n (now w) ⌝ }
-    ensures { λ d. ⌜ d ≡ follows (decode (now (rows .entry)) p n) x y ⌝ }
+    requires { ⌜ (x < n) × (y < n) × (r ≡ rowOf (now rows) x) × (q ≡ rowOf (now rows) y) × Known (decode (now rows) p mode n) n (now w) ⌝ }
+    ensures { λ d. ⌜ d ≡ follows (decode (now (rows .entry)) p mode n) x y ⌝ }
 {
-    race::mutual_at(rows, p, n, x, y, w) & rows::scopes::is_later_writer(q, r)
+    race::mutual_at(rows, p, mode, n, x, y, w) & rows::scopes::is_later_writer(mode.counted, q, r)
 }
 
 // The same where x is a source, which may be no row: so the work area is not asked.
-fn follows_source(rows: &[u8], p: Places, n: usize, x: u16, y: usize, q: Row) -> bool
+fn follows_source(rows: &[u8], p: Places, mode: Mode, n: usize, x: u16, y: usize, q: Row) -> bool
     requires { ⌜ q ≡ rowOf (now rows) y ⌝ }
-    ensures { λ d. ⌜ d ≡ follows (decode (now (rows .entry)) p n) x y ⌝ }
+    ensures { λ d. ⌜ d ≡ follows (decode (now (rows .entry)) p mode n) x y ⌝ }
 {
     let r = rows::bytes::read_row(rows, x);
-    !(x as usize == y) & rows::scopes::is_mutual(p, r, q) & rows::scopes::is_later_writer(q, r)
+    !(x as usize == y)
+        & rows::scopes::is_mutual(p, r, q)
+        & rows::scopes::is_later_writer(mode.counted, q, r)
 }
 
 // Edge 3: whether x is the source of the reader y, which is q.
@@ -69,6 +81,7 @@ fn follows_source(rows: &[u8], p: Places, n: usize, x: u16, y: usize, q: Row) ->
 pub fn reads_from_at(
     rows: &[u8],
     p: Places,
+    mode: Mode,
     n: usize,
     src: &[u16],
     x: usize,
@@ -76,7 +89,7 @@ pub fn reads_from_at(
     q: Row,
 ) -> bool
     requires { ⌜ (y < n) × (n ≤ length (now src)) × (q ≡ rowOf (now rows) y) ⌝ }
-    ensures { λ d. ⌜ d ≡ readsFrom (decode (now (rows .entry)) p n) (sourceIn (now (src .entry))) x y ⌝ }
+    ensures { λ d. ⌜ d ≡ readsFrom (decode (now (rows .entry)) p mode n) (sourceIn (now (src .entry))) x y ⌝ }
 {
     let s = crate::source_at(src, y);
     rows::kinds::reads(q) & (s.0 as usize == x)
@@ -88,6 +101,7 @@ pub fn reads_from_at(
 pub fn from_reads_at(
     rows: &[u8],
     p: Places,
+    mode: Mode,
     n: usize,
     src: &[u16],
     y: usize,
@@ -96,14 +110,14 @@ pub fn from_reads_at(
     q: Row,
 ) -> bool
     requires { ⌜ (y < n) × (n ≤ length (now src)) × (r ≡ rowOf (now rows) y) × (q ≡ rowOf (now rows) z) ⌝ }
-    ensures { λ d. ⌜ d ≡ fromReads (decode (now (rows .entry)) p n) (sourceIn (now (src .entry))) y z ⌝ }
+    ensures { λ d. ⌜ d ≡ fromReads (decode (now (rows .entry)) p mode n) (sourceIn (now (src .entry))) y z ⌝ }
 {
     let s = crate::source_at(src, y);
     let apart = !(y == z) & rows::kinds::reads(r);
     if s.is_initial() {
         return apart & (rows::kinds::writes(q) & location::shared::overlap(r, q));
     }
-    apart & follows_source(rows, p, n, s.0, z, q)
+    apart & follows_source(rows, p, mode, n, s.0, z, q)
 }
 
 // The lowest number of an edge from x to y, and 0 where there is none.
@@ -111,21 +125,22 @@ pub fn from_reads_at(
 pub fn edge_number(
     rows: &[u8],
     p: Places,
+    mode: Mode,
     n: usize,
     src: &[u16],
     x: usize,
     y: usize,
     w: &[u64],
 ) -> u16
-    requires { ⌜ (x < n) × (y < n) × (n ≤ length (now src)) × Known (decode (now rows) p n) n (now w) ⌝ }
-    ensures { λ e. ⌜ e ≡ edgeNumber (decode (now (rows .entry)) p n) (sourceIn (now (src .entry))) x y ⌝ }
+    requires { ⌜ (x < n) × (y < n) × (n ≤ length (now src)) × Known (decode (now rows) p mode n) n (now w) ⌝ }
+    ensures { λ e. ⌜ e ≡ edgeNumber (decode (now (rows .entry)) p mode n) (sourceIn (now (src .entry))) x y ⌝ }
 {
     let r = rows::bytes::read_row(rows, x as u16);
     let q = rows::bytes::read_row(rows, y as u16);
-    let location = before_some(rows, p, n, x, y, w);
-    let order = follows_at(rows, p, n, x, y, r, q, w);
-    let source = reads_from_at(rows, p, n, src, x, y, q);
-    let reader = from_reads_at(rows, p, n, src, x, y, r, q);
+    let location = before_some(rows, p, mode, n, x, y, w);
+    let order = follows_at(rows, p, mode, n, x, y, r, q, w);
+    let source = reads_from_at(rows, p, mode, n, src, x, y, q);
+    let reader = from_reads_at(rows, p, mode, n, src, x, y, r, q);
     pick(
         location,
         1,
@@ -135,23 +150,32 @@ pub fn edge_number(
 
 // Whether there is an edge from x to y.
 // Ruled out: one that leaves out edge 4; one that holds of an edge from y to x.
-pub fn edge_at(rows: &[u8], p: Places, n: usize, src: &[u16], x: usize, y: usize, w: &[u64]) -> bool
-    requires { ⌜ (x < n) × (y < n) × (n ≤ length (now src)) × Known (decode (now rows) p n) n (now w) ⌝ }
-    ensures { λ d. ⌜ d ≡ edge (decode (now (rows .entry)) p n) (sourceIn (now (src .entry))) x y ⌝ }
+pub fn edge_at(
+    rows: &[u8],
+    p: Places,
+    mode: Mode,
+    n: usize,
+    src: &[u16],
+    x: usize,
+    y: usize,
+    w: &[u64],
+) -> bool
+    requires { ⌜ (x < n) × (y < n) × (n ≤ length (now src)) × Known (decode (now rows) p mode n) n (now w) ⌝ }
+    ensures { λ d. ⌜ d ≡ edge (decode (now (rows .entry)) p mode n) (sourceIn (now (src .entry))) x y ⌝ }
 {
-    !(edge_number(rows, p, n, src, x, y, w) == 0)
+    !(edge_number(rows, p, mode, n, src, x, y, w) == 0)
 }
 
 // The edges between n rows.
 // Ruled out: one that leaves a bit of an earlier stage set; one that writes a word outside the edges' region.
-pub fn fill_edges(rows: &[u8], p: Places, n: usize, src: &[u16], w: &mut [u64])
-    requires { ⌜ (n ≤ length (now src)) × Known (decode (now rows) p n) n (now w) ⌝ }
-    ensures { λ _. ⌜ Made EDGE EDGE-END EDGE GRID n (edge (decode (now (rows .entry)) p n) (sourceIn (now (src .entry)))) (now (w .entry)) (now (w .exit)) ⌝ }
+pub fn fill_edges(rows: &[u8], p: Places, mode: Mode, n: usize, src: &[u16], w: &mut [u64])
+    requires { ⌜ (n ≤ length (now src)) × Known (decode (now rows) p mode n) n (now w) ⌝ }
+    ensures { λ _. ⌜ Made EDGE EDGE-END EDGE GRID n (edge (decode (now (rows .entry)) p mode n) (sourceIn (now (src .entry)))) (now (w .entry)) (now (w .exit)) ⌝ }
 {
     bits::clear(w, area::EDGE, area::EDGE_END);
     for x in 0..n {
         for y in 0..n {
-            let b = edge_at(rows, p, n, src, x, y, w);
+            let b = edge_at(rows, p, mode, n, src, x, y, w);
             bits::put_if(w, (area::EDGE + x * area::GRID) * 64 + y, b);
         }
     }

@@ -10,13 +10,22 @@ ghost use Rattle.area.specs.Regions.{PAIR};
 ghost use Rattle.race.specs.Bytes.{Known, Bounded};
 ghost use Rattle.axioms.specs.Sources.{sourceIn};
 ghost use Rattle.axioms.specs.Overwritten.{mayOverwrite, foundOverwrite};
+use model::Mode;
 use model::Places;
 use model::Row;
 
 // Whether y reads, z writes, and y's source is a row.
-fn may_overwrite(rows: &[u8], p: Places, n: usize, src: &[u16], y: usize, z: usize) -> bool
+fn may_overwrite(
+    rows: &[u8],
+    p: Places,
+    mode: Mode,
+    n: usize,
+    src: &[u16],
+    y: usize,
+    z: usize,
+) -> bool
     requires { ⌜ (n ≤ ROWS) × (y < n) × (z < n) × (n ≤ length (now src)) ⌝ }
-    ensures { λ d. ⌜ d ≡ mayOverwrite (decode (now (rows .entry)) p n) (sourceIn (now (src .entry))) y z ⌝ }
+    ensures { λ d. ⌜ d ≡ mayOverwrite (decode (now (rows .entry)) p mode n) (sourceIn (now (src .entry))) y z ⌝ }
 {
     let r = rows::bytes::read_row(rows, y as u16);
     let q = rows::bytes::read_row(rows, z as u16);
@@ -29,6 +38,7 @@ fn may_overwrite(rows: &[u8], p: Places, n: usize, src: &[u16], y: usize, z: usi
 pub fn overwrites_at(
     rows: &[u8],
     p: Places,
+    mode: Mode,
     n: usize,
     src: &[u16],
     y: usize,
@@ -41,12 +51,13 @@ pub fn overwrites_at(
     w: &[u64],
 ) -> bool
     requires { ⌜ (y < n) × (z < n) × (k < PAIR) × (s ≡ sourceIn (now src) y)
-        × (mayOverwrite (decode (now rows) p n) (sourceIn (now src)) y z ≡ true)
-        × (o ≡ rowOf (now rows) s) × (r ≡ rowOf (now rows) y) × (q ≡ rowOf (now rows) z) × Known (decode (now rows) p n) n (now w) ⌝ }
-    ensures { λ d. ⌜ d ≡ overwritesNth (decode (now (rows .entry)) p n) (sourceIn (now (src .entry))) y z k ⌝ }
+        × (mayOverwrite (decode (now rows) p mode n) (sourceIn (now src)) y z ≡ true)
+        × (o ≡ rowOf (now rows) s) × (r ≡ rowOf (now rows) y) × (q ≡ rowOf (now rows) z) × Known (decode (now rows) p mode n) n (now w) ⌝ }
+    ensures { λ d. ⌜ d ≡ overwritesNth (decode (now (rows .entry)) p mode n) (sourceIn (now (src .entry))) y z k ⌝ }
 {
     let b = (r.start as u32) + (k as u32);
-    race::before_byte(rows, p, n, s, z, o, b, w) & race::before_byte(rows, p, n, z, y, q, b, w)
+    race::before_byte(rows, p, mode, n, s, z, o, b, w)
+        & race::before_byte(rows, p, mode, n, z, y, q, b, w)
 }
 
 // Axiom B: which of y's bytes is the lowest that z overwrites, and PAIR where none is.
@@ -54,16 +65,17 @@ pub fn overwrites_at(
 pub fn over_nth(
     rows: &[u8],
     p: Places,
+    mode: Mode,
     n: usize,
     src: &[u16],
     y: usize,
     z: usize,
     w: &[u64],
 ) -> usize
-    requires { ⌜ (y < n) × (z < n) × (n ≤ length (now src)) × Known (decode (now rows) p n) n (now w) ⌝ }
-    ensures { λ k. ⌜ k ≡ overNth (decode (now (rows .entry)) p n) (sourceIn (now (src .entry))) y z ⌝ }
+    requires { ⌜ (y < n) × (z < n) × (n ≤ length (now src)) × Known (decode (now rows) p mode n) n (now w) ⌝ }
+    ensures { λ k. ⌜ k ≡ overNth (decode (now (rows .entry)) p mode n) (sourceIn (now (src .entry))) y z ⌝ }
 {
-    if !may_overwrite(rows, p, n, src, y, z) {
+    if !may_overwrite(rows, p, mode, n, src, y, z) {
         return area::PAIR;
     }
     let s = crate::source_at(src, y);
@@ -71,7 +83,7 @@ pub fn over_nth(
     let r = rows::bytes::read_row(rows, y as u16);
     let q = rows::bytes::read_row(rows, z as u16);
     for k in 0..area::PAIR {
-        if overwrites_at(rows, p, n, src, y, z, s.0 as usize, o, r, q, k, w) {
+        if overwrites_at(rows, p, mode, n, src, y, z, s.0 as usize, o, r, q, k, w) {
             return k;
         }
     }
@@ -80,12 +92,20 @@ pub fn over_nth(
 
 // Axiom B: the first writer that overwrites y's source before y, and n where none does.
 // Ruled out: one that gives a later writer with a lower byte; one that says 0 where none does.
-pub fn over_writer(rows: &[u8], p: Places, n: usize, src: &[u16], y: usize, w: &[u64]) -> usize
-    requires { ⌜ (y < n) × (n ≤ length (now src)) × Known (decode (now rows) p n) n (now w) ⌝ }
-    ensures { λ z. ⌜ z ≡ overWriter (decode (now (rows .entry)) p n) (sourceIn (now (src .entry))) y ⌝ }
+pub fn over_writer(
+    rows: &[u8],
+    p: Places,
+    mode: Mode,
+    n: usize,
+    src: &[u16],
+    y: usize,
+    w: &[u64],
+) -> usize
+    requires { ⌜ (y < n) × (n ≤ length (now src)) × Known (decode (now rows) p mode n) n (now w) ⌝ }
+    ensures { λ z. ⌜ z ≡ overWriter (decode (now (rows .entry)) p mode n) (sourceIn (now (src .entry))) y ⌝ }
 {
     for z in 0..n {
-        if over_nth(rows, p, n, src, y, z, w) < area::PAIR {
+        if over_nth(rows, p, mode, n, src, y, z, w) < area::PAIR {
             return z;
         }
     }
@@ -94,12 +114,12 @@ pub fn over_writer(rows: &[u8], p: Places, n: usize, src: &[u16], y: usize, w: &
 
 // Axiom B: the first reader whose source is overwritten, and n where B holds.
 // Ruled out: one that gives the reader of the first writer; one that passes over the last row.
-pub fn over_reader(rows: &[u8], p: Places, n: usize, src: &[u16], w: &[u64]) -> usize
-    requires { ⌜ (n ≤ length (now src)) × Known (decode (now rows) p n) n (now w) ⌝ }
-    ensures { λ y. ⌜ y ≡ overReader (decode (now (rows .entry)) p n) (sourceIn (now (src .entry))) ⌝ }
+pub fn over_reader(rows: &[u8], p: Places, mode: Mode, n: usize, src: &[u16], w: &[u64]) -> usize
+    requires { ⌜ (n ≤ length (now src)) × Known (decode (now rows) p mode n) n (now w) ⌝ }
+    ensures { λ y. ⌜ y ≡ overReader (decode (now (rows .entry)) p mode n) (sourceIn (now (src .entry))) ⌝ }
 {
     for y in 0..n {
-        if over_writer(rows, p, n, src, y, w) < n {
+        if over_writer(rows, p, mode, n, src, y, w) < n {
             return y;
         }
     }
@@ -113,16 +133,23 @@ pub enum Overwrite {
 
 // Axiom B: the reader, writer and byte that break it, least in that order.
 // Ruled out: one that shows the source where the writer must stand; one that shows the byte as counted from the reader's start.
-pub fn first_overwrite(rows: &[u8], p: Places, n: usize, src: &[u16], w: &[u64]) -> Overwrite
-    requires { ⌜ (n ≤ length (now src)) × Bounded (decode (now rows) p n) × Known (decode (now rows) p n) n (now w) ⌝ }
-    ensures { λ r. ⌜ r ≡ foundOverwrite (decode (now (rows .entry)) p n) (sourceIn (now (src .entry))) ⌝ }
+pub fn first_overwrite(
+    rows: &[u8],
+    p: Places,
+    mode: Mode,
+    n: usize,
+    src: &[u16],
+    w: &[u64],
+) -> Overwrite
+    requires { ⌜ (n ≤ length (now src)) × Bounded (decode (now rows) p mode n) × Known (decode (now rows) p mode n) n (now w) ⌝ }
+    ensures { λ r. ⌜ r ≡ foundOverwrite (decode (now (rows .entry)) p mode n) (sourceIn (now (src .entry))) ⌝ }
 {
-    let y = over_reader(rows, p, n, src, w);
+    let y = over_reader(rows, p, mode, n, src, w);
     if n <= y {
         return Overwrite::Nothing;
     }
-    let z = over_writer(rows, p, n, src, y, w);
-    let k = over_nth(rows, p, n, src, y, z, w);
+    let z = over_writer(rows, p, mode, n, src, y, w);
+    let k = over_nth(rows, p, mode, n, src, y, z, w);
     let r = rows::bytes::read_row(rows, y as u16);
     Overwrite::At {
         reader: y as u16,

@@ -6,10 +6,11 @@ use Prim.Native.Nat.{ℕ}
 use lib.Dec.{eqb}
 use Rattle.finite.specs.Logic.{_and_, _or_, and-false-left, and-false-right}
 use Rattle.finite.specs.Below.{anyBelow, least}
+use Rattle.model.specs.declared.Mode.{Mode}
 use Rattle.model.specs.declared.Row.{Row}
 use Rattle.model.specs.Limits.{LONGEST, INITIAL, BLANK}
 use Rattle.model.specs.Row.{plainRead, writes}
-use Rattle.model.specs.Table.{Table, decode}
+use Rattle.model.specs.Table.{OFF, Table, decode}
 use Rattle.model.specs.Scope.{follows}
 use Rattle.model.specs.Edge.{beforeSome}
 use Rattle.model.specs.Refusal.{writerFits}
@@ -40,9 +41,9 @@ writer-told t y s z f g h d e p q = and-go _ _ f _ d e (rw (p, q) refl)
 -- ---- laws: candidates
 
 -- the test of a writer reads no place
-pub fit-told : (b : List ℕ) (p : List (List ℕ)) (n i s v : ℕ) (f : Bool) → v ≡ s → f ≡ writerFits (decode b [] n) i v → f ≡ writerFits (decode b p n) i s
+pub fit-told : (b : List ℕ) (p : List (List ℕ)) (mode : Mode) (n i s v : ℕ) (f : Bool) → v ≡ s → f ≡ writerFits (decode b [] OFF n) i v → f ≡ writerFits (decode b p mode n) i s
 unfolding writerFits decode
-fit-told b p n i s v f e h = rw (← e, h) refl
+fit-told b p mode n i s v f e h = rw (← e, h) refl
 
 module _ (t : Table) (y s : ℕ) (f : Bool) (d : f ≡ writerFits t y s) where
   pub unfit : f ≡ false → false ≡ candidate t y s

@@ -9,9 +9,10 @@ use lib.ListN.{length, getD, set, length-set}
 use lib.Seq.{getD-set-same, getD-set-other}
 use Rattle.finite.specs.Logic.{_and_}
 use Rattle.finite.specs.Below.{anyBelow}
+use Rattle.model.specs.declared.Mode.{Mode}
 use Rattle.model.specs.Limits.{SOURCES}
 use Rattle.model.specs.Row.{reads}
-use Rattle.model.specs.Table.{Table, decode}
+use Rattle.model.specs.Table.{OFF, Table, decode}
 use Rattle.model.specs.Refusal.{writerFits, sourceFits, sourceBroken}
 use Rattle.model.specs.Fill.{sourcesFit}
 
@@ -47,13 +48,13 @@ listed-more source n v l b e h = record { room = length-set l n v ∙ h .room; e
 
 -- ---- laws: a loop that tests it; the test reads no place, so none makes a difference
 
-module _ (b : List ℕ) (p : List (List ℕ)) (n : ℕ) (l : List ℕ) where
-  fit-is : not (anyBelow n (brokenIn (decode b [] n) l)) ≡ sourcesFit (decode b p n) (at l)
+module _ (b : List ℕ) (p : List (List ℕ)) (mode : Mode) (n : ℕ) (l : List ℕ) where
+  fit-is : not (anyBelow n (brokenIn (decode b [] OFF n) l)) ≡ sourcesFit (decode b p mode n) (at l)
   unfolding brokenIn brokenBy sourcesFit sourceBroken sourceFits writerFits decode
   fit-is = refl
 
-  pub broken-some : anyBelow n (brokenIn (decode b [] n) l) ≡ true → false ≡ sourcesFit (decode b p n) (at l)
+  pub broken-some : anyBelow n (brokenIn (decode b [] OFF n) l) ≡ true → false ≡ sourcesFit (decode b p mode n) (at l)
   broken-some e = sym (ap not e) ∙ fit-is
 
-  pub broken-none : anyBelow n (brokenIn (decode b [] n) l) ≡ false → true ≡ sourcesFit (decode b p n) (at l)
+  pub broken-none : anyBelow n (brokenIn (decode b [] OFF n) l) ≡ false → true ≡ sourcesFit (decode b p mode n) (at l)
   broken-none e = sym (ap not e) ∙ fit-is

@@ -10,6 +10,7 @@ ghost use Rattle.race.specs.Bytes.{Known};
 ghost use Rattle.choice.specs.Sources.{Listed};
 ghost use Rattle.choice.specs.Choice.{chosenFrom};
 use crate::writers;
+use model::Mode;
 use model::Places;
 use model::Row;
 use model::Source;
@@ -20,6 +21,7 @@ use model::Source;
 fn misses_at(
     rows: &[u8],
     p: Places,
+    mode: Mode,
     n: usize,
     y: usize,
     s: usize,
@@ -28,22 +30,30 @@ fn misses_at(
     k: usize,
     w: &[u64],
 ) -> bool
-    requires { ⌜ (y < n) × (s < n) × (r ≡ rowOf (now rows) y) × (q ≡ rowOf (now rows) s) × (k < LONGEST) × Known (decode (now rows) p n) n (now w) ⌝ }
-    ensures { λ b. ⌜ b ≡ missesAt (decode (now (rows .entry)) p n) y s k ⌝ }
+    requires { ⌜ (y < n) × (s < n) × (r ≡ rowOf (now rows) y) × (q ≡ rowOf (now rows) s) × (k < LONGEST) × Known (decode (now rows) p mode n) n (now w) ⌝ }
+    ensures { λ b. ⌜ b ≡ missesAt (decode (now (rows .entry)) p mode n) y s k ⌝ }
 {
     let b = (r.start as u32) + (k as u32);
-    rows::kinds::touches(r, b) & !race::before_byte(rows, p, n, s, y, q, b, w)
+    rows::kinds::touches(r, b) & !race::before_byte(rows, p, mode, n, s, y, q, b, w)
 }
 
 // Whether s is not ordered before y at some byte of y.
-pub fn some_miss(rows: &[u8], p: Places, n: usize, y: usize, s: usize, w: &[u64]) -> bool
-    requires { ⌜ (y < n) × (s < n) × Known (decode (now rows) p n) n (now w) ⌝ }
-    ensures { λ b. ⌜ b ≡ anyBelow LONGEST (missesAt (decode (now (rows .entry)) p n) y s) ⌝ }
+pub fn some_miss(
+    rows: &[u8],
+    p: Places,
+    mode: Mode,
+    n: usize,
+    y: usize,
+    s: usize,
+    w: &[u64],
+) -> bool
+    requires { ⌜ (y < n) × (s < n) × Known (decode (now rows) p mode n) n (now w) ⌝ }
+    ensures { λ b. ⌜ b ≡ anyBelow LONGEST (missesAt (decode (now (rows .entry)) p mode n) y s) ⌝ }
 {
     let r = rows::bytes::read_row(rows, y as u16);
     let q = rows::bytes::read_row(rows, s as u16);
     for k in 0..area::PAIR {
-        if misses_at(rows, p, n, y, s, r, q, k, w) {
+        if misses_at(rows, p, mode, n, y, s, r, q, k, w) {
             return true;
         }
     }
@@ -51,27 +61,35 @@ pub fn some_miss(rows: &[u8], p: Places, n: usize, y: usize, s: usize, w: &[u64]
 }
 
 // Whether y may have read s: s covers y, comes before y at each byte, and nothing comes between.
-pub fn candidate_at(rows: &[u8], p: Places, n: usize, y: usize, s: usize, w: &[u64]) -> bool
-    requires { ⌜ (y < n) × (s < n) × Known (decode (now rows) p n) n (now w) ⌝ }
-    ensures { λ b. ⌜ b ≡ candidate (decode (now (rows .entry)) p n) y s ⌝ }
+pub fn candidate_at(
+    rows: &[u8],
+    p: Places,
+    mode: Mode,
+    n: usize,
+    y: usize,
+    s: usize,
+    w: &[u64],
+) -> bool
+    requires { ⌜ (y < n) × (s < n) × Known (decode (now rows) p mode n) n (now w) ⌝ }
+    ensures { λ b. ⌜ b ≡ candidate (decode (now (rows .entry)) p mode n) y s ⌝ }
 {
     let from = Source::of_row(s as u16);
     if !table::table_faults::writer_fits(rows, n as u16, y as u16, from) {
         return false;
     }
-    if some_miss(rows, p, n, y, s, w) {
+    if some_miss(rows, p, mode, n, y, s, w) {
         return false;
     }
-    !writers::some_between(rows, p, n, y, s, w)
+    !writers::some_between(rows, p, mode, n, y, s, w)
 }
 
 // The first row that y may have read; n where there is none.
-pub fn first_candidate(rows: &[u8], p: Places, n: usize, y: usize, w: &[u64]) -> usize
-    requires { ⌜ (y < n) × Known (decode (now rows) p n) n (now w) ⌝ }
-    ensures { λ s. ⌜ (s ≡ least n (candidate (decode (now (rows .entry)) p n) y)) × (s ≤ n) ⌝ }
+pub fn first_candidate(rows: &[u8], p: Places, mode: Mode, n: usize, y: usize, w: &[u64]) -> usize
+    requires { ⌜ (y < n) × Known (decode (now rows) p mode n) n (now w) ⌝ }
+    ensures { λ s. ⌜ (s ≡ least n (candidate (decode (now (rows .entry)) p mode n) y)) × (s ≤ n) ⌝ }
 {
     for s in 0..n {
-        if candidate_at(rows, p, n, y, s, w) {
+        if candidate_at(rows, p, mode, n, y, s, w) {
             return s;
         }
     }
@@ -81,25 +99,25 @@ pub fn first_candidate(rows: &[u8], p: Places, n: usize, y: usize, w: &[u64]) ->
 // ---- choices
 
 // The source that the blank y must have: the initial value where no writer comes before it; n where it can have none.
-pub fn choice_of(rows: &[u8], p: Places, n: usize, y: usize, w: &[u64]) -> u16
-    requires { ⌜ (y < n) × Known (decode (now rows) p n) n (now w) ⌝ }
-    ensures { λ s. ⌜ s ≡ choice (decode (now (rows .entry)) p n) y ⌝ }
+pub fn choice_of(rows: &[u8], p: Places, mode: Mode, n: usize, y: usize, w: &[u64]) -> u16
+    requires { ⌜ (y < n) × Known (decode (now rows) p mode n) n (now w) ⌝ }
+    ensures { λ s. ⌜ s ≡ choice (decode (now (rows .entry)) p mode n) y ⌝ }
 {
-    if !writers::is_written(rows, p, n, y, w) {
+    if !writers::is_written(rows, p, mode, n, y, w) {
         return Source::INITIAL.0;
     }
-    first_candidate(rows, p, n, y, w) as u16
+    first_candidate(rows, p, mode, n, y, w) as u16
 }
 
 // The source of row i, which has s: its choice where it is a blank, else s.
-fn chosen_at(rows: &[u8], p: Places, n: usize, i: usize, s: u16, w: &[u64]) -> u16
-    requires { ⌜ (i < n) × Known (decode (now rows) p n) n (now w) ⌝ }
-    ensures { λ c. ⌜ c ≡ chosenFrom (decode (now (rows .entry)) p n) i s ⌝ }
+fn chosen_at(rows: &[u8], p: Places, mode: Mode, n: usize, i: usize, s: u16, w: &[u64]) -> u16
+    requires { ⌜ (i < n) × Known (decode (now rows) p mode n) n (now w) ⌝ }
+    ensures { λ c. ⌜ c ≡ chosenFrom (decode (now (rows .entry)) p mode n) i s ⌝ }
 {
     let r = rows::bytes::read_row(rows, i as u16);
     let own = Source::of_row(s);
     if rows::kinds::is_plain_read(r) & own.is_blank() {
-        return choice_of(rows, p, n, i, w);
+        return choice_of(rows, p, mode, n, i, w);
     }
     s
 }
@@ -107,14 +125,14 @@ fn chosen_at(rows: &[u8], p: Places, n: usize, i: usize, s: u16, w: &[u64]) -> u
 // Each blank's choice, and every other row's own source.
 // Ruled out: one that chooses for a plain read that names its source; one that takes for a blank a writer that was overwritten
 // before it at any byte.
-pub fn choose(rows: &[u8], p: Places, n: usize, src: &[u16], w: &[u64]) -> [u16; 128]
-    requires { ⌜ (n ≤ length (now src)) × Known (decode (now rows) p n) n (now w) ⌝ }
-    ensures { λ r. ⌜ Listed (chosen (decode (now (rows .entry)) p n) (λ i. getD (now (src .entry)) i 0)) n r ⌝ }
+pub fn choose(rows: &[u8], p: Places, mode: Mode, n: usize, src: &[u16], w: &[u64]) -> [u16; 128]
+    requires { ⌜ (n ≤ length (now src)) × Known (decode (now rows) p mode n) n (now w) ⌝ }
+    ensures { λ r. ⌜ Listed (chosen (decode (now (rows .entry)) p mode n) (λ i. getD (now (src .entry)) i 0)) n r ⌝ }
 {
     let mut list = [0u16; 128];
     for i in 0..n {
         let s = src[i];
-        let c = chosen_at(rows, p, n, i, s, w);
+        let c = chosen_at(rows, p, mode, n, i, s, w);
         list[i] = c;
     }
     list

@@ -4,9 +4,10 @@ ghost use mathlib.Core.List.{[]};
 ghost use Prim.Native.Nat.{_≤_, _<_};
 ghost use lib.ListN.{length, getD};
 ghost use Rattle.model.specs.Limits.{ROWS};
-ghost use Rattle.model.specs.Table.{sourceOf, decode};
+ghost use Rattle.model.specs.Table.{OFF, sourceOf, decode};
 ghost use Rattle.model.specs.Fill.{sourcesFit};
 ghost use Rattle.choice.specs.Sources.{Listed, brokenBy};
+use model::Mode;
 use model::Places;
 use model::Source;
 
@@ -26,7 +27,7 @@ pub fn read_sources(rows: &[u8], n: usize) -> [u16; 128]
 // Whether row i is a reader, and a check refuses s as its source.
 fn is_broken(rows: &[u8], n: usize, i: usize, s: u16) -> bool
     requires { ⌜ (n ≤ ROWS) × (i < n) ⌝ }
-    ensures { λ b. ⌜ b ≡ brokenBy (decode (now (rows .entry)) [] n) i s ⌝ }
+    ensures { λ b. ⌜ b ≡ brokenBy (decode (now (rows .entry)) [] OFF n) i s ⌝ }
 {
     let r = rows::bytes::read_row(rows, i as u16);
     let own = Source::of_row(s);
@@ -35,9 +36,9 @@ fn is_broken(rows: &[u8], n: usize, i: usize, s: u16) -> bool
 
 // Whether each row's source is one that a check admits.
 // Ruled out: one that admits a blank that was left; one that admits the number n, which says that a blank can have no source.
-pub fn sources_fit(rows: &[u8], p: Places, n: usize, src: &[u16]) -> bool
+pub fn sources_fit(rows: &[u8], p: Places, mode: Mode, n: usize, src: &[u16]) -> bool
     requires { ⌜ (n ≤ ROWS) × (n ≤ length (now src)) ⌝ }
-    ensures { λ b. ⌜ b ≡ sourcesFit (decode (now (rows .entry)) p n) (λ i. getD (now (src .entry)) i 0) ⌝ }
+    ensures { λ b. ⌜ b ≡ sourcesFit (decode (now (rows .entry)) p mode n) (λ i. getD (now (src .entry)) i 0) ⌝ }
 {
     for i in 0..n {
         if is_broken(rows, n, i, src[i]) {

@@ -10,12 +10,13 @@ use Rattle.finite.specs.Logic.{_and_, and-true, and-false-left, and-false-right
 use Rattle.finite.specs.Lists.{tabulate}
 use Rattle.bits.specs.Bit.{zeros}
 use Rattle.bits.specs.Within.{Within}
+use Rattle.model.specs.declared.Mode.{Mode}
 use Rattle.model.specs.declared.Admission.{Admission}
 use Rattle.model.specs.declared.Admission.the-variants.{Admitted, Refused}
 use Rattle.model.specs.declared.FillAnswer.{FillAnswer}
 use Rattle.model.specs.declared.FillAnswer.the-variants
 use Rattle.model.specs.Limits.{WORK, SOURCES}
-use Rattle.model.specs.Table.{Table, rowsAt, rowBytes, placesOf, sourceOf, decode, tableOf, sourcesOf}
+use Rattle.model.specs.Table.{modeOf, Table, rowsAt, rowBytes, placesOf, sourceOf, decode, tableOf, sourcesOf}
 use Rattle.model.specs.Race.{raceRow, racePartner, raceByte}
 use Rattle.model.specs.Edge.{consistent}
 use Rattle.model.specs.Refusal.{buffersFit, admission}
@@ -44,17 +45,17 @@ outcome-same : (t : Table) (a b : ℕ → ℕ) → ((i : ℕ) → i < t .rows �
 unfolding outcome
 outcome-same t a b same = ap (λ (o : Outcome). racingOr o t) (filled-same t (chosen t a) (chosen t b) (λ i l. chosen-same t a b i (same i l)) none)
 
-module _ {s : List ℕ} (h : Sound true s) (b : List ℕ) (p : List (List ℕ)) (n : ℕ) (rows : b ≡ rowBytes s) (places : p ≡ placesOf s) (all : n ≡ rowsAt s)
+module _ {s : List ℕ} (h : Sound true s) (b : List ℕ) (p : List (List ℕ)) (mode : Mode) (n : ℕ) (rows : b ≡ rowBytes s) (places : p ≡ placesOf s) (modes : mode ≡ modeOf false s) (all : n ≡ rowsAt s)
     (src : List ℕ) (listed : Listed (sourceOf b) n src) where
-  outcome-is : outcome (decode b p n) (sourceIn src) ≡ outcome (tableOf s) (sourcesOf s)
+  outcome-is : outcome (decode b p mode n) (sourceIn src) ≡ outcome (tableOf s) (sourcesOf s)
   unfolding sourcesOf decode
   outcome-is =
-      outcome-same (decode b p n) (sourceIn src) (sourceOf (rowBytes s)) (λ i m. listed .each i m ∙ ap (λ (v : List ℕ). sourceOf v i) rows)
-      ∙ ap (λ (t : Table). outcome t (sourceOf (rowBytes s))) (table-is h b p n rows places all)
+      outcome-same (decode b p mode n) (sourceIn src) (sourceOf (rowBytes s)) (λ i m. listed .each i m ∙ ap (λ (v : List ℕ). sourceOf v i) rows)
+      ∙ ap (λ (t : Table). outcome t (sourceOf (rowBytes s))) (table-is h b p _ n rows places modes all)
 
   -- located, settled, wiped
   pub table-filled : (r : FillAnswer) (w v u z c d : List ℕ) → WORK ≤ length w → Within MUTUAL LOCATION-END w v
-      → (r ≡ fillAnswer (outcome (decode b p n) (sourceIn src))) × (d ≡ sourcesAfter (outcome (decode b p n) (sourceIn src)) c) × Within EDGE LAYERS-END v u
+      → (r ≡ fillAnswer (outcome (decode b p mode n) (sourceIn src))) × (d ≡ sourcesAfter (outcome (decode b p mode n) (sourceIn src)) c) × Within EDGE LAYERS-END v u
       → z ≡ zeros u 0 WORK
       → (r ≡ fillAnswer (outcome (tableOf s) (sourcesOf s))) × (z ≡ wiped w) × (d ≡ sourcesAfter (outcome (tableOf s) (sourcesOf s)) c)
   table-filled r w v u z c d room f a e =

@@ -34,11 +34,12 @@ fn fill_table(table: &[u8], n: usize, work: &mut [u64], sources: &mut [u16]) -> 
         × (now (work .exit) ≡ wiped (now (work .entry)))
         × (now (sources .exit) ≡ sourcesAfter (outcome (tableOf (now (table .entry))) (sourcesOf (now (table .entry)))) (now (sources .entry))) ⌝ }
 {
+    let mode = rows::scopes::read_mode(table, false);
     let rows = rows::bytes::row_bytes(table);
     let p = rows::scopes::read_places(table);
     let src = choice::sources::read_sources(rows, n);
-    verdict::judge::locate(rows, p, n, work);
-    let r = settle::settle(rows, p, n, &src, work, sources);
+    verdict::judge::locate(rows, p, mode, n, work);
+    let r = settle::settle(rows, p, mode, n, &src, work, sources);
     bits::clear(work, 0, model::WORK);
     r
 }

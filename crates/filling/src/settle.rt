@@ -14,32 +14,40 @@ ghost use Rattle.race.specs.Bytes.{Known, Bounded};
 ghost use Rattle.axioms.specs.Sources.{sourceIn};
 ghost use Rattle.filling.specs.Parts.{raceAnswer};
 use model::FillAnswer;
+use model::Mode;
 use model::Places;
 
 // Whether the edges have no cycle and no read's source is overwritten.
 // Ruled out: one that says yes of a cycle of edges where nothing is overwritten; one that writes over location order.
-pub fn is_consistent(rows: &[u8], p: Places, n: usize, src: &[u16], w: &mut [u64]) -> bool
-    requires { ⌜ (n ≤ length (now src)) × Known (decode (now rows) p n) n (now w) ⌝ }
-    ensures { λ b. ⌜ (b ≡ consistent (decode (now (rows .entry)) p n) (sourceIn (now (src .entry)))) × Within EDGE LAYERS-END (now (w .entry)) (now (w .exit)) ⌝ }
+pub fn is_consistent(
+    rows: &[u8],
+    p: Places,
+    mode: Mode,
+    n: usize,
+    src: &[u16],
+    w: &mut [u64],
+) -> bool
+    requires { ⌜ (n ≤ length (now src)) × Known (decode (now rows) p mode n) n (now w) ⌝ }
+    ensures { λ b. ⌜ (b ≡ consistent (decode (now (rows .entry)) p mode n) (sourceIn (now (src .entry)))) × Within EDGE LAYERS-END (now (w .entry)) (now (w .exit)) ⌝ }
 {
-    axioms::edges::fill_edges(rows, p, n, src, w);
+    axioms::edges::fill_edges(rows, p, mode, n, src, w);
     let x = cycle::cycle_start(w, n);
     if x != n {
         return false;
     }
-    axioms::overwritten::over_reader(rows, p, n, src, w) == n
+    axioms::overwritten::over_reader(rows, p, mode, n, src, w) == n
 }
 
 // Whether a check admits the sources, and the table with them is consistent.
-fn is_filled(rows: &[u8], p: Places, n: usize, src: &[u16], w: &mut [u64]) -> bool
-    requires { ⌜ (n ≤ length (now src)) × Known (decode (now rows) p n) n (now w) ⌝ }
-    ensures { λ b. ⌜ (b ≡ (sourcesFit (decode (now (rows .entry)) p n) (sourceIn (now (src .entry))) and consistent (decode (now (rows .entry)) p n) (sourceIn (now (src .entry)))))
+fn is_filled(rows: &[u8], p: Places, mode: Mode, n: usize, src: &[u16], w: &mut [u64]) -> bool
+    requires { ⌜ (n ≤ length (now src)) × Known (decode (now rows) p mode n) n (now w) ⌝ }
+    ensures { λ b. ⌜ (b ≡ (sourcesFit (decode (now (rows .entry)) p mode n) (sourceIn (now (src .entry))) and consistent (decode (now (rows .entry)) p mode n) (sourceIn (now (src .entry)))))
         × Within EDGE LAYERS-END (now (w .entry)) (now (w .exit)) ⌝ }
 {
-    if !choice::sources::sources_fit(rows, p, n, src) {
+    if !choice::sources::sources_fit(rows, p, mode, n, src) {
         return false;
     }
-    is_consistent(rows, p, n, src, w)
+    is_consistent(rows, p, mode, n, src, w)
 }
 
 // The first n numbers of out become the list's.
@@ -57,19 +65,20 @@ pub fn write_sources(list: &[u16], n: usize, out: &mut [u16])
 fn choose_sources(
     rows: &[u8],
     p: Places,
+    mode: Mode,
     n: usize,
     src: &[u16],
     w: &mut [u64],
     out: &mut [u16],
 ) -> FillAnswer
-    requires { ⌜ (SOURCES ≤ length (now out)) × (n ≤ length (now src)) × Known (decode (now rows) p n) n (now w) ⌝ }
-    ensures { λ r. ⌜ (r ≡ fillAnswer (filledOr none (decode (now (rows .entry)) p n) (chosen (decode (now (rows .entry)) p n) (sourceIn (now (src .entry))))))
-        × (now (out .exit) ≡ sourcesAfter (filledOr none (decode (now (rows .entry)) p n) (chosen (decode (now (rows .entry)) p n) (sourceIn (now (src .entry))))) (now (out .entry)))
+    requires { ⌜ (SOURCES ≤ length (now out)) × (n ≤ length (now src)) × Known (decode (now rows) p mode n) n (now w) ⌝ }
+    ensures { λ r. ⌜ (r ≡ fillAnswer (filledOr none (decode (now (rows .entry)) p mode n) (chosen (decode (now (rows .entry)) p mode n) (sourceIn (now (src .entry))))))
+        × (now (out .exit) ≡ sourcesAfter (filledOr none (decode (now (rows .entry)) p mode n) (chosen (decode (now (rows .entry)) p mode n) (sourceIn (now (src .entry))))) (now (out .entry)))
         × Within EDGE LAYERS-END (now (w .entry)) (now (w .exit)) ⌝ }
 {
-    let list = choice::blanks::choose(rows, p, n, src, w);
+    let list = choice::blanks::choose(rows, p, mode, n, src, w);
     let chosen: &[u16] = &list;
-    if !is_filled(rows, p, n, chosen, w) {
+    if !is_filled(rows, p, mode, n, chosen, w) {
         return FillAnswer::None;
     }
     write_sources(chosen, n, out);
@@ -99,19 +108,20 @@ fn race_answer(f: race::Found) -> FillAnswer
 pub fn settle(
     rows: &[u8],
     p: Places,
+    mode: Mode,
     n: usize,
     src: &[u16],
     w: &mut [u64],
     out: &mut [u16],
 ) -> FillAnswer
-    requires { ⌜ (SOURCES ≤ length (now out)) × (n ≤ length (now src)) × Bounded (decode (now rows) p n) × Known (decode (now rows) p n) n (now w) ⌝ }
-    ensures { λ r. ⌜ (r ≡ fillAnswer (outcome (decode (now (rows .entry)) p n) (sourceIn (now (src .entry)))))
-        × (now (out .exit) ≡ sourcesAfter (outcome (decode (now (rows .entry)) p n) (sourceIn (now (src .entry)))) (now (out .entry)))
+    requires { ⌜ (SOURCES ≤ length (now out)) × (n ≤ length (now src)) × Bounded (decode (now rows) p mode n) × Known (decode (now rows) p mode n) n (now w) ⌝ }
+    ensures { λ r. ⌜ (r ≡ fillAnswer (outcome (decode (now (rows .entry)) p mode n) (sourceIn (now (src .entry)))))
+        × (now (out .exit) ≡ sourcesAfter (outcome (decode (now (rows .entry)) p mode n) (sourceIn (now (src .entry)))) (now (out .entry)))
         × Within EDGE LAYERS-END (now (w .entry)) (now (w .exit)) ⌝ }
 {
-    let f = race::first_race(rows, p, n, w);
+    let f = race::first_race(rows, p, mode, n, w);
     let race::Found::Nothing = f else {
         return race_answer(f);
     };
-    choose_sources(rows, p, n, src, w, out)
+    choose_sources(rows, p, mode, n, src, w, out)
 }

@@ -10,6 +10,7 @@ use lib.Dec.{eqb}
 use borrow.Author.Tests.{eqb-true, ltb-true}
 use Rattle.finite.specs.Logic.{_and_, _or_, split, and-true, not-both, not-so, bool-ext, which, or-left, or-right}
 use Rattle.finite.specs.Below.{anyBelow, any-in, any-out, any-off, any-not}
+use Rattle.model.specs.declared.Mode.{Mode}
 use Rattle.model.specs.declared.Row.{Row}
 use Rattle.model.specs.Row.{plain, reads, meets, makesAvailable, makesVisible}
 use Rattle.model.specs.Table.{Table, byteOf, rowOf, decode}
@@ -91,27 +92,27 @@ module _ (p : ℕ → Bool) where
 
 -- ---- laws: a table's rows
 
-module _ (t : List ℕ) (p : List (List ℕ)) (n x y b : ℕ) where
-  available-is : (c : ℕ) → availableFrom (decode t p n) x b c ≡ availableRows n x (rowOf t x) c (rowOf t (rowIn c)) b
+module _ (t : List ℕ) (p : List (List ℕ)) (mode : Mode) (n x y b : ℕ) where
+  available-is : (c : ℕ) → availableFrom (decode t p mode n) x b c ≡ availableRows n x (rowOf t x) c (rowOf t (rowIn c)) b
   unfolding decode availableFrom availability programOrder availableRows
   available-is c =
       let e : (3 * x + 1) / 3 ≡ x = omega arith in
       ap (λ (z : ℕ). availabilityOf (rowOf t (rowIn c)) (part c) and orderedRows n (itself x) c (rowOf t z) (rowOf t (rowIn c)) and coversOf (rowOf t (rowIn c)) (rowOf t x) b) e
 
-  visible-is : (v : ℕ) → visibleTo (decode t p n) y b v ≡ visibleRows n y (rowOf t y) v (rowOf t (rowIn v)) b
+  visible-is : (v : ℕ) → visibleTo (decode t p mode n) y b v ≡ visibleRows n y (rowOf t y) v (rowOf t (rowIn v)) b
   unfolding decode visibleTo visibility programOrder visibleRows
   visible-is v =
       let e : (3 * y + 1) / 3 ≡ y = omega arith in
       ap (λ (z : ℕ). visibilityOf (rowOf t (rowIn v)) (part v) and orderedRows n v (itself y) (rowOf t (rowIn v)) (rowOf t z) and coversOf (rowOf t (rowIn v)) (rowOf t y) b) e
 
-  share-is : (m : ℕ) → shareMoment (decode t p n) x y m ≡ shares p (rowOf t (rowIn m) .scope) (rowOf t x .agent) (rowOf t y .agent)
+  share-is : (m : ℕ) → shareMoment (decode t p mode n) x y m ≡ shares p (rowOf t (rowIn m) .scope) (rowOf t x .agent) (rowOf t y .agent)
   unfolding decode shareMoment
   share-is m = refl
 
   -- ---- laws: what y meets
 
-  shown-tells : (c v : ℕ) → shown (decode t p n) x y b c v ≡ true
-      → (maySee t (rowOf t y) (rowIn v) ≡ true) × (part v ≡ visiblePart (rowOf t (rowIn v))) × (v < itself y) × (happens (decode t p n) c v ≡ true)
+  shown-tells : (c v : ℕ) → shown (decode t p mode n) x y b c v ≡ true
+      → (maySee t (rowOf t y) (rowIn v) ≡ true) × (part v ≡ visiblePart (rowOf t (rowIn v))) × (v < itself y) × (happens (decode t p mode n) c v ≡ true)
   unfolding shown visibleRows visibilityOf orderedRows makesVisible maySee visiblePart rowOf
   shown-tells c v e =
       let f = split e in
@@ -122,52 +123,52 @@ module _ (t : List ℕ) (p : List (List ℕ)) (n x y b : ℕ) where
       (and-true (o .1) (split (s .0) .0), eqb-true _ _ (s .1), ltb-true _ _ (o .0), f .1)
 
   -- a row that two bytes and two bits rule out
-  pub shown-off : (c j : ℕ) (q : Row) (a d : Bool) → q ≡ rowOf t y → a ≡ happens (decode t p n) c (3 * j) → d ≡ happens (decode t p n) c (3 * j + 2)
-      → ((a or d) and maySee t q j) ≡ false → ofRow (shown (decode t p n) x y b c) j ≡ false
+  pub shown-off : (c j : ℕ) (q : Row) (a d : Bool) → q ≡ rowOf t y → a ≡ happens (decode t p mode n) c (3 * j) → d ≡ happens (decode t p mode n) c (3 * j + 2)
+      → ((a or d) and maySee t q j) ≡ false → ofRow (shown (decode t p mode n) x y b c) j ≡ false
   unfolding visiblePart
   shown-off c j q a d eq ea ed off = row-none _ j (λ m e u. go m e (shown-tells c m u) (which (plain (rowOf t j))))
     where
       go : (m : ℕ) → rowIn m ≡ j
-          → (maySee t (rowOf t y) (rowIn m) ≡ true) × (part m ≡ visiblePart (rowOf t (rowIn m))) × (m < itself y) × (happens (decode t p n) c m ≡ true)
+          → (maySee t (rowOf t y) (rowIn m) ≡ true) × (part m ≡ visiblePart (rowOf t (rowIn m))) × (m < itself y) × (happens (decode t p mode n) c m ≡ true)
           → (plain (rowOf t j) ≡ true) ⊎ (plain (rowOf t j) ≡ false) → ⊥
       go m e f (inl g) =
           let k : m % 3 ≡ 0 = rw (e, g) at (f .1) in
           let l : m ≡ 3 * j = omega arith in
-          let h : happens (decode t p n) c (3 * j) ≡ true = rw (← l) (f .3) in
+          let h : happens (decode t p mode n) c (3 * j) ≡ true = rw (← l) (f .3) in
           not-both (and-true (or-left d (ea ∙ h)) (rw (eq, ← e) (f .0))) off
       go m e f (inr g) =
           let k : m % 3 ≡ 2 = rw (e, g) at (f .1) in
           let l : m ≡ 3 * j + 2 = omega arith in
-          let h : happens (decode t p n) c (3 * j + 2) ≡ true = rw (← l) (f .3) in
+          let h : happens (decode t p mode n) c (3 * j + 2) ≡ true = rw (← l) (f .3) in
           not-both (and-true (or-right a (ed ∙ h)) (rw (eq, ← e) (f .0))) off
 
   -- a row by its one moment
   pub shown-row : (c j k : ℕ) (r q s : Row) (a d h : Bool) → r ≡ rowOf t x → q ≡ rowOf t y → s ≡ rowOf t j → k ≡ visiblePart s → k < 3
-      → a ≡ visibleRows n y q (3 * j + k) s b → d ≡ shares p (s .scope) (r .agent) (q .agent) → h ≡ happens (decode t p n) c (3 * j + k)
-      → (a and d and h) ≡ ofRow (shown (decode t p n) x y b c) j
+      → a ≡ visibleRows n y q (3 * j + k) s b → d ≡ shares p (s .scope) (r .agent) (q .agent) → h ≡ happens (decode t p mode n) c (3 * j + k)
+      → (a and d and h) ≡ ofRow (shown (decode t p mode n) x y b c) j
   unfolding shown
-  shown-row c j k r q s a d h er eq es ek l ea ed eh = told ∙ row-one (shown (decode t p n) x y b c) j k l one
+  shown-row c j k r q s a d h er eq es ek l ea ed eh = told ∙ row-one (shown (decode t p mode n) x y b c) j k l one
     where
       e : (3 * j + k) / 3 ≡ j
       e = omega arith
 
-      one : (m : ℕ) → rowIn m ≡ j → shown (decode t p n) x y b c m ≡ true → part m ≡ k
+      one : (m : ℕ) → rowIn m ≡ j → shown (decode t p mode n) x y b c m ≡ true → part m ≡ k
       one m i u = rw (ek, es, ← i) (shown-tells c m u .1)
 
-      told : (a and d and h) ≡ shown (decode t p n) x y b c (3 * j + k)
+      told : (a and d and h) ≡ shown (decode t p mode n) x y b c (3 * j + k)
       told = rw (visible-is (3 * j + k), share-is (3 * j + k), e, ← es, ← er, ← eq, ← ea, ← ed, ← eh) refl
 
   -- no row after y
-  pub shown-none : (c : ℕ) → anyBelow (y + 1) (ofRow (shown (decode t p n) x y b c)) ≡ false → anyBelow (3 * n) (shown (decode t p n) x y b c) ≡ false
-  shown-none c e = any-rows (shown (decode t p n) x y b c) n ∙ any-not _ n (λ j l. go j (decLt j (y + 1)))
+  pub shown-none : (c : ℕ) → anyBelow (y + 1) (ofRow (shown (decode t p mode n) x y b c)) ≡ false → anyBelow (3 * n) (shown (decode t p mode n) x y b c) ≡ false
+  shown-none c e = any-rows (shown (decode t p mode n) x y b c) n ∙ any-not _ n (λ j l. go j (decLt j (y + 1)))
     where
-      go : (j : ℕ) → Dec (j < y + 1) → ofRow (shown (decode t p n) x y b c) j ≡ false
+      go : (j : ℕ) → Dec (j < y + 1) → ofRow (shown (decode t p mode n) x y b c) j ≡ false
       go j (yes l) = any-off _ (y + 1) e j l
       go j (no l) = row-none _ j (λ m i u. let h = shown-tells c m u .2 in omega arith)
 
   -- ---- laws: what x makes available
 
-  carried-tells : (c : ℕ) → carried (decode t p n) x y b c ≡ true
+  carried-tells : (c : ℕ) → carried (decode t p mode n) x y b c ≡ true
       → (mayAvail t (rowOf t x) (rowIn c) ≡ true) × (part c ≡ availablePart (rowOf t (rowIn c))) × (itself x < c)
   unfolding carried availableRows availabilityOf orderedRows makesAvailable mayAvail availablePart rowOf
   carried-tells c e =
@@ -178,27 +179,27 @@ module _ (t : List ℕ) (p : List (List ℕ)) (n x y b : ℕ) where
       (and-true (o .1) (split (s .0) .0), eqb-true _ _ (s .1), ltb-true _ _ (o .0))
 
   -- a row that two bytes rule out
-  pub carried-off : (i : ℕ) (r : Row) → r ≡ rowOf t x → mayAvail t r i ≡ false → ofRow (carried (decode t p n) x y b) i ≡ false
+  pub carried-off : (i : ℕ) (r : Row) → r ≡ rowOf t x → mayAvail t r i ≡ false → ofRow (carried (decode t p mode n) x y b) i ≡ false
   carried-off i r er off = row-none _ i (λ m e u. not-both (rw (er, ← e) (carried-tells m u .0)) off)
 
   -- a row by its one moment
   pub carried-row : (i k : ℕ) (r q s : Row) (a d : Bool) → r ≡ rowOf t x → q ≡ rowOf t y → s ≡ rowOf t i → k ≡ availablePart s → k < 3
       → a ≡ availableRows n x r (3 * i + k) s b → d ≡ shares p (s .scope) (r .agent) (q .agent)
-      → ofRow (carried (decode t p n) x y b) i ≡ (a and d and met (decode t p n) x y b (3 * i + k))
+      → ofRow (carried (decode t p mode n) x y b) i ≡ (a and d and met (decode t p mode n) x y b (3 * i + k))
   unfolding carried
-  carried-row i k r q s a d er eq es ek l ea ed = sym (told ∙ row-one (carried (decode t p n) x y b) i k l one)
+  carried-row i k r q s a d er eq es ek l ea ed = sym (told ∙ row-one (carried (decode t p mode n) x y b) i k l one)
     where
       e : (3 * i + k) / 3 ≡ i
       e = omega arith
 
-      one : (m : ℕ) → rowIn m ≡ i → carried (decode t p n) x y b m ≡ true → part m ≡ k
+      one : (m : ℕ) → rowIn m ≡ i → carried (decode t p mode n) x y b m ≡ true → part m ≡ k
       one m h u = rw (ek, es, ← h) (carried-tells m u .1)
 
-      told : (a and d and met (decode t p n) x y b (3 * i + k)) ≡ carried (decode t p n) x y b (3 * i + k)
+      told : (a and d and met (decode t p mode n) x y b (3 * i + k)) ≡ carried (decode t p mode n) x y b (3 * i + k)
       told = rw (available-is (3 * i + k), share-is (3 * i + k), e, ← es, ← er, ← eq, ← ea, ← ed) refl
 
   -- no row before x
-  pub carried-low : anyBelow x (ofRow (carried (decode t p n) x y b)) ≡ false
+  pub carried-low : anyBelow x (ofRow (carried (decode t p mode n) x y b)) ≡ false
   carried-low = any-not _ x (λ i l. row-none _ i (λ m e u. let h = carried-tells m u .2 in omega arith))
 
 -- ---- laws: a test that is not asked, and the rest where it is true

@@ -14,6 +14,7 @@ ghost use Rattle.area.specs.Regions.{HAPPENS, MOMENTS};
 ghost use Rattle.area.specs.State.{Ordered};
 ghost use Rattle.location.specs.Chains.{ofRow, availablePart, visiblePart, mayAvail, maySee, availableRows, visibleRows};
 use crate::pairs;
+use model::Mode;
 use model::Places;
 use model::Row;
 
@@ -100,6 +101,7 @@ fn may_see(rows: &[u8], q: Row, c: usize, j: usize, w: &[u64]) -> bool
 fn shown_in(
     rows: &[u8],
     p: Places,
+    mode: Mode,
     n: usize,
     x: usize,
     y: usize,
@@ -111,8 +113,8 @@ fn shown_in(
     w: &[u64],
 ) -> bool
     requires { ⌜ (n ≤ ROWS) × (WORK ≤ length (now w)) × (x < n) × (y < n) × (c < 3 * n) × (j < n)
-        × (r ≡ rowOf (now rows) x) × (q ≡ rowOf (now rows) y) × Ordered (decode (now rows) p n) n (now w) ⌝ }
-    ensures { λ d. ⌜ d ≡ ofRow (shown (decode (now (rows .entry)) p n) x y b c) j ⌝ }
+        × (r ≡ rowOf (now rows) x) × (q ≡ rowOf (now rows) y) × Ordered (decode (now rows) p mode n) n (now w) ⌝ }
+    ensures { λ d. ⌜ d ≡ ofRow (shown (decode (now (rows .entry)) p mode n) x y b c) j ⌝ }
 {
     if !may_see(rows, q, c, j, w) {
         return false;
@@ -126,6 +128,7 @@ fn shown_in(
 fn some_shown(
     rows: &[u8],
     p: Places,
+    mode: Mode,
     n: usize,
     x: usize,
     y: usize,
@@ -136,11 +139,11 @@ fn some_shown(
     w: &[u64],
 ) -> bool
     requires { ⌜ (n ≤ ROWS) × (WORK ≤ length (now w)) × (x < n) × (y < n) × (c < 3 * n)
-        × (r ≡ rowOf (now rows) x) × (q ≡ rowOf (now rows) y) × Ordered (decode (now rows) p n) n (now w) ⌝ }
-    ensures { λ d. ⌜ d ≡ anyBelow (3 * n) (shown (decode (now (rows .entry)) p n) x y b c) ⌝ }
+        × (r ≡ rowOf (now rows) x) × (q ≡ rowOf (now rows) y) × Ordered (decode (now rows) p mode n) n (now w) ⌝ }
+    ensures { λ d. ⌜ d ≡ anyBelow (3 * n) (shown (decode (now (rows .entry)) p mode n) x y b c) ⌝ }
 {
     for j in 0..y + 1 {
-        if shown_in(rows, p, n, x, y, r, q, b, c, j, w) {
+        if shown_in(rows, p, mode, n, x, y, r, q, b, c, j, w) {
             return true;
         }
     }
@@ -151,6 +154,7 @@ fn some_shown(
 fn met_at(
     rows: &[u8],
     p: Places,
+    mode: Mode,
     n: usize,
     x: usize,
     y: usize,
@@ -161,11 +165,11 @@ fn met_at(
     w: &[u64],
 ) -> bool
     requires { ⌜ (n ≤ ROWS) × (WORK ≤ length (now w)) × (x < n) × (y < n) × (c < 3 * n)
-        × (r ≡ rowOf (now rows) x) × (q ≡ rowOf (now rows) y) × Ordered (decode (now rows) p n) n (now w) ⌝ }
-    ensures { λ d. ⌜ d ≡ met (decode (now (rows .entry)) p n) x y b c ⌝ }
+        × (r ≡ rowOf (now rows) x) × (q ≡ rowOf (now rows) y) × Ordered (decode (now rows) p mode n) n (now w) ⌝ }
+    ensures { λ d. ⌜ d ≡ met (decode (now (rows .entry)) p mode n) x y b c ⌝ }
 {
     if rows::kinds::reads(q) {
-        return some_shown(rows, p, n, x, y, r, q, b, c, w);
+        return some_shown(rows, p, mode, n, x, y, r, q, b, c, w);
     }
     pairs::happens_bit(w, c, 3 * y + 1)
 }
@@ -186,6 +190,7 @@ fn may_avail(rows: &[u8], r: Row, i: usize) -> bool
 fn carried_in(
     rows: &[u8],
     p: Places,
+    mode: Mode,
     n: usize,
     x: usize,
     y: usize,
@@ -196,8 +201,8 @@ fn carried_in(
     w: &[u64],
 ) -> bool
     requires { ⌜ (n ≤ ROWS) × (WORK ≤ length (now w)) × (x < n) × (y < n) × (i < n)
-        × (r ≡ rowOf (now rows) x) × (q ≡ rowOf (now rows) y) × Ordered (decode (now rows) p n) n (now w) ⌝ }
-    ensures { λ d. ⌜ d ≡ ofRow (carried (decode (now (rows .entry)) p n) x y b) i ⌝ }
+        × (r ≡ rowOf (now rows) x) × (q ≡ rowOf (now rows) y) × Ordered (decode (now rows) p mode n) n (now w) ⌝ }
+    ensures { λ d. ⌜ d ≡ ofRow (carried (decode (now (rows .entry)) p mode n) x y b) i ⌝ }
 {
     if !may_avail(rows, r, i) {
         return false;
@@ -207,13 +212,14 @@ fn carried_in(
     if !(available_at(n, x, r, c, s, b) & share_moment(p, s, r, q)) {
         return false;
     }
-    met_at(rows, p, n, x, y, r, q, b, c, w)
+    met_at(rows, p, mode, n, x, y, r, q, b, c, w)
 }
 
 // L3: x is available at some moment, and y meets it. No row before x has one.
 fn some_carried(
     rows: &[u8],
     p: Places,
+    mode: Mode,
     n: usize,
     x: usize,
     y: usize,
@@ -223,11 +229,11 @@ fn some_carried(
     w: &[u64],
 ) -> bool
     requires { ⌜ (n ≤ ROWS) × (WORK ≤ length (now w)) × (x < n) × (y < n)
-        × (r ≡ rowOf (now rows) x) × (q ≡ rowOf (now rows) y) × Ordered (decode (now rows) p n) n (now w) ⌝ }
-    ensures { λ d. ⌜ d ≡ anyBelow (3 * n) (carried (decode (now (rows .entry)) p n) x y b) ⌝ }
+        × (r ≡ rowOf (now rows) x) × (q ≡ rowOf (now rows) y) × Ordered (decode (now rows) p mode n) n (now w) ⌝ }
+    ensures { λ d. ⌜ d ≡ anyBelow (3 * n) (carried (decode (now (rows .entry)) p mode n) x y b) ⌝ }
 {
     for i in x..n {
-        if carried_in(rows, p, n, x, y, r, q, b, i, w) {
+        if carried_in(rows, p, mode, n, x, y, r, q, b, i, w) {
             return true;
         }
     }
@@ -238,6 +244,7 @@ fn some_carried(
 pub fn l3(
     rows: &[u8],
     p: Places,
+    mode: Mode,
     n: usize,
     x: usize,
     y: usize,
@@ -247,11 +254,11 @@ pub fn l3(
     w: &[u64],
 ) -> bool
     requires { ⌜ (n ≤ ROWS) × (WORK ≤ length (now w)) × (x < n) × (y < n)
-        × (r ≡ rowOf (now rows) x) × (q ≡ rowOf (now rows) y) × Ordered (decode (now rows) p n) n (now w) ⌝ }
-    ensures { λ d. ⌜ d ≡ L3 (decode (now (rows .entry)) p n) x y b ⌝ }
+        × (r ≡ rowOf (now rows) x) × (q ≡ rowOf (now rows) y) × Ordered (decode (now rows) p mode n) n (now w) ⌝ }
+    ensures { λ d. ⌜ d ≡ L3 (decode (now (rows .entry)) p mode n) x y b ⌝ }
 {
     if !pairs::public_write(r, q) {
         return false;
     }
-    some_carried(rows, p, n, x, y, r, q, b, w)
+    some_carried(rows, p, mode, n, x, y, r, q, b, w)
 }

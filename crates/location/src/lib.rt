@@ -8,6 +8,7 @@ ghost use Rattle.model.specs.Table.{rowOf, decode};
 ghost use Rattle.model.specs.Edge.{beforeNth};
 ghost use Rattle.area.specs.Regions.{LOCATION, PAIR, PAIRS};
 ghost use Rattle.area.specs.State.{Ordered, MadeLocated};
+use model::Mode;
 use model::Places;
 use model::Row;
 
@@ -19,6 +20,7 @@ pub mod chains; // L3's chains
 pub fn before_at(
     rows: &[u8],
     p: Places,
+    mode: Mode,
     n: usize,
     x: usize,
     y: usize,
@@ -28,8 +30,8 @@ pub fn before_at(
     w: &[u64],
 ) -> bool
     requires { ⌜ (n ≤ ROWS) × (WORK ≤ length (now w)) × (x < n) × (y < n) × (k < PAIR)
-        × (r ≡ rowOf (now rows) x) × (q ≡ rowOf (now rows) y) × Ordered (decode (now rows) p n) n (now w) ⌝ }
-    ensures { λ d. ⌜ d ≡ beforeNth (decode (now (rows .entry)) p n) x y k ⌝ }
+        × (r ≡ rowOf (now rows) x) × (q ≡ rowOf (now rows) y) × Ordered (decode (now rows) p mode n) n (now w) ⌝ }
+    ensures { λ d. ⌜ d ≡ beforeNth (decode (now (rows .entry)) p mode n) x y k ⌝ }
 {
     let start = r.start as u32;
     let b = start + (k as u32);
@@ -40,13 +42,13 @@ pub fn before_at(
     if pairs::l1(r, q, h) | pairs::l2(r, q, h) {
         return true;
     }
-    chains::l3(rows, p, n, x, y, r, q, b, w)
+    chains::l3(rows, p, mode, n, x, y, r, q, b, w)
 }
 
 // The bits of a pair. Rows that share no byte cost one test, and no bit is set.
-fn fill_pair(rows: &[u8], p: Places, n: usize, x: usize, y: usize, w: &mut [u64])
-    requires { ⌜ (n ≤ ROWS) × (WORK ≤ length (now w)) × (x < n) × (y < n) × Ordered (decode (now rows) p n) n (now w) ⌝ }
-    ensures { λ _. ⌜ now (w .exit) ≡ rowFill (beforeNth (decode (now (rows .entry)) p n) x y) (now (w .entry)) (LOCATION * 64 + x * PAIRS + y * PAIR) PAIR ⌝ }
+fn fill_pair(rows: &[u8], p: Places, mode: Mode, n: usize, x: usize, y: usize, w: &mut [u64])
+    requires { ⌜ (n ≤ ROWS) × (WORK ≤ length (now w)) × (x < n) × (y < n) × Ordered (decode (now rows) p mode n) n (now w) ⌝ }
+    ensures { λ _. ⌜ now (w .exit) ≡ rowFill (beforeNth (decode (now (rows .entry)) p mode n) x y) (now (w .entry)) (LOCATION * 64 + x * PAIRS + y * PAIR) PAIR ⌝ }
 {
     let r = rows::bytes::read_row(rows, x as u16);
     let q = rows::bytes::read_row(rows, y as u16);
@@ -54,7 +56,7 @@ fn fill_pair(rows: &[u8], p: Places, n: usize, x: usize, y: usize, w: &mut [u64]
         return;
     }
     for k in 0..area::PAIR {
-        let b = before_at(rows, p, n, x, y, r, q, k, w);
+        let b = before_at(rows, p, mode, n, x, y, r, q, k, w);
         bits::put_if(
             w,
             area::LOCATION * 64 + x * area::PAIRS + y * area::PAIR + k,
@@ -64,23 +66,23 @@ fn fill_pair(rows: &[u8], p: Places, n: usize, x: usize, y: usize, w: &mut [u64]
 }
 
 // The bits of row x's pairs.
-fn fill_row(rows: &[u8], p: Places, n: usize, x: usize, w: &mut [u64])
-    requires { ⌜ (n ≤ ROWS) × (WORK ≤ length (now w)) × (x < n) × Ordered (decode (now rows) p n) n (now w) ⌝ }
-    ensures { λ _. ⌜ now (w .exit) ≡ gridFill (beforeNth (decode (now (rows .entry)) p n) x) (now (w .entry)) (LOCATION * 64 + x * PAIRS) PAIR PAIR n ⌝ }
+fn fill_row(rows: &[u8], p: Places, mode: Mode, n: usize, x: usize, w: &mut [u64])
+    requires { ⌜ (n ≤ ROWS) × (WORK ≤ length (now w)) × (x < n) × Ordered (decode (now rows) p mode n) n (now w) ⌝ }
+    ensures { λ _. ⌜ now (w .exit) ≡ gridFill (beforeNth (decode (now (rows .entry)) p mode n) x) (now (w .entry)) (LOCATION * 64 + x * PAIRS) PAIR PAIR n ⌝ }
 {
     for y in 0..n {
-        fill_pair(rows, p, n, x, y, w);
+        fill_pair(rows, p, mode, n, x, y, w);
     }
 }
 
 // Location order of all pairs of n rows: bit k of a pair tells of the first row's k-th byte.
 // Ruled out: one that counts a pair's bytes from the second row's start; one that leaves a bit of an earlier stage set.
-pub fn fill_location(rows: &[u8], p: Places, n: usize, w: &mut [u64])
-    requires { ⌜ (n ≤ ROWS) × (WORK ≤ length (now w)) × Ordered (decode (now rows) p n) n (now w) ⌝ }
-    ensures { λ _. ⌜ MadeLocated (decode (now (rows .entry)) p n) n (now (w .entry)) (now (w .exit)) ⌝ }
+pub fn fill_location(rows: &[u8], p: Places, mode: Mode, n: usize, w: &mut [u64])
+    requires { ⌜ (n ≤ ROWS) × (WORK ≤ length (now w)) × Ordered (decode (now rows) p mode n) n (now w) ⌝ }
+    ensures { λ _. ⌜ MadeLocated (decode (now (rows .entry)) p mode n) n (now (w .entry)) (now (w .exit)) ⌝ }
 {
     bits::clear(w, area::LOCATION, area::LOCATION_END);
     for x in 0..n {
-        fill_row(rows, p, n, x, w);
+        fill_row(rows, p, mode, n, x, w);
     }
 }

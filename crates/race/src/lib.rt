@@ -8,15 +8,24 @@ ghost use Rattle.model.specs.Location.{before};
 ghost use Rattle.model.specs.Race.{unordered};
 ghost use Rattle.race.specs.Bytes.{Known, Bounded, mayRace, lowestByte};
 ghost use Rattle.race.specs.First.{foundRace};
+use model::Mode;
 use model::Places;
 use model::Row;
 use model::Shared;
 
 // Whether x and y are mutually-ordered, as the work area's bits say.
 // Ruled out: one that says yes of a row and itself; one that reads the bit of x and y + 1.
-pub fn mutual_at(rows: &[u8], p: Places, n: usize, x: usize, y: usize, w: &[u64]) -> bool
-    requires { ⌜ (x < n) × (y < n) × Known (decode (now rows) p n) n (now w) ⌝ }
-    ensures { λ d. ⌜ d ≡ mutually (decode (now (rows .entry)) p n) x y ⌝ }
+pub fn mutual_at(
+    rows: &[u8],
+    p: Places,
+    mode: Mode,
+    n: usize,
+    x: usize,
+    y: usize,
+    w: &[u64],
+) -> bool
+    requires { ⌜ (x < n) × (y < n) × Known (decode (now rows) p mode n) n (now w) ⌝ }
+    ensures { λ d. ⌜ d ≡ mutually (decode (now (rows .entry)) p mode n) x y ⌝ }
 {
     bits::get(w, (area::MUTUAL + x * area::GRID) * 64 + y)
 }
@@ -26,6 +35,7 @@ pub fn mutual_at(rows: &[u8], p: Places, n: usize, x: usize, y: usize, w: &[u64]
 pub fn before_byte(
     rows: &[u8],
     p: Places,
+    mode: Mode,
     n: usize,
     x: usize,
     y: usize,
@@ -33,8 +43,8 @@ pub fn before_byte(
     b: u32,
     w: &[u64],
 ) -> bool
-    requires { ⌜ (x < n) × (y < n) × (r ≡ rowOf (now rows) x) × Known (decode (now rows) p n) n (now w) ⌝ }
-    ensures { λ d. ⌜ d ≡ before (decode (now (rows .entry)) p n) x y b ⌝ }
+    requires { ⌜ (x < n) × (y < n) × (r ≡ rowOf (now rows) x) × Known (decode (now rows) p mode n) n (now w) ⌝ }
+    ensures { λ d. ⌜ d ≡ before (decode (now (rows .entry)) p mode n) x y b ⌝ }
 {
     let start = r.start as u32;
     if b < start {
@@ -55,6 +65,7 @@ pub fn before_byte(
 pub fn unordered_at(
     rows: &[u8],
     p: Places,
+    mode: Mode,
     n: usize,
     x: usize,
     y: usize,
@@ -63,12 +74,12 @@ pub fn unordered_at(
     b: u32,
     w: &[u64],
 ) -> bool
-    requires { ⌜ (x < n) × (y < n) × (r ≡ rowOf (now rows) x) × (q ≡ rowOf (now rows) y) × Known (decode (now rows) p n) n (now w) ⌝ }
-    ensures { λ d. ⌜ d ≡ unordered (decode (now (rows .entry)) p n) x y b ⌝ }
+    requires { ⌜ (x < n) × (y < n) × (r ≡ rowOf (now rows) x) × (q ≡ rowOf (now rows) y) × Known (decode (now rows) p mode n) n (now w) ⌝ }
+    ensures { λ d. ⌜ d ≡ unordered (decode (now (rows .entry)) p mode n) x y b ⌝ }
 {
     location::pairs::common(r, q, b)
-        & !before_byte(rows, p, n, x, y, r, b, w)
-        & !before_byte(rows, p, n, y, x, q, b, w)
+        & !before_byte(rows, p, mode, n, x, y, r, b, w)
+        & !before_byte(rows, p, mode, n, y, x, q, b, w)
 }
 
 // Whether x and y, which are r and q, conflict and are not mutually-ordered.
@@ -76,6 +87,7 @@ pub fn unordered_at(
 pub fn may_race(
     rows: &[u8],
     p: Places,
+    mode: Mode,
     n: usize,
     x: usize,
     y: usize,
@@ -83,10 +95,10 @@ pub fn may_race(
     q: Row,
     w: &[u64],
 ) -> bool
-    requires { ⌜ (x < n) × (y < n) × (r ≡ rowOf (now rows) x) × (q ≡ rowOf (now rows) y) × Known (decode (now rows) p n) n (now w) ⌝ }
-    ensures { λ d. ⌜ d ≡ mayRace (decode (now (rows .entry)) p n) x y ⌝ }
+    requires { ⌜ (x < n) × (y < n) × (r ≡ rowOf (now rows) x) × (q ≡ rowOf (now rows) y) × Known (decode (now rows) p mode n) n (now w) ⌝ }
+    ensures { λ d. ⌜ d ≡ mayRace (decode (now (rows .entry)) p mode n) x y ⌝ }
 {
-    !(x == y) & location::shared::clash(r, q) & !mutual_at(rows, p, n, x, y, w)
+    !(x == y) & location::shared::clash(r, q) & !mutual_at(rows, p, mode, n, x, y, w)
 }
 
 // Where the byte search of a pair starts: the lowest byte that r and q share, and r's end where there is none.
@@ -107,9 +119,9 @@ pub enum Found {
 
 // The first pair in row order that races, then its lowest shared byte with no order: the lower row, the higher, the byte.
 // Ruled out: one that shows the rows exchanged; one that shows the lowest shared byte, ordered or not.
-pub fn first_race(rows: &[u8], p: Places, n: usize, w: &[u64]) -> Found
-    requires { ⌜ Bounded (decode (now rows) p n) × Known (decode (now rows) p n) n (now w) ⌝ }
-    ensures { λ r. ⌜ r ≡ foundRace (decode (now (rows .entry)) p n) ⌝ }
+pub fn first_race(rows: &[u8], p: Places, mode: Mode, n: usize, w: &[u64]) -> Found
+    requires { ⌜ Bounded (decode (now rows) p mode n) × Known (decode (now rows) p mode n) n (now w) ⌝ }
+    ensures { λ r. ⌜ r ≡ foundRace (decode (now (rows .entry)) p mode n) ⌝ }
 {
     let mut answer = Found::Nothing;
     'pairs: for x in 0..n {
@@ -117,7 +129,7 @@ pub fn first_race(rows: &[u8], p: Places, n: usize, w: &[u64]) -> Found
         let end = (r.start as u32) + (r.size as u32);
         for y in x + 1..n {
             let q = rows::bytes::read_row(rows, y as u16);
-            if !may_race(rows, p, n, x, y, r, q, w) {
+            if !may_race(rows, p, mode, n, x, y, r, q, w) {
                 continue;
             }
             let mut b = lowest_byte(r, q);
@@ -125,7 +137,7 @@ pub fn first_race(rows: &[u8], p: Places, n: usize, w: &[u64]) -> Found
                 if end <= b {
                     break end;
                 }
-                if unordered_at(rows, p, n, x, y, r, q, b, w) {
+                if unordered_at(rows, p, mode, n, x, y, r, q, b, w) {
                     break b;
                 }
                 b += 1;

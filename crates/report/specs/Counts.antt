@@ -8,17 +8,19 @@ use lib.Dec.{ltb}
 use lib.IntN.{pos}
 use lib.Ieee.{Float, binary64, div, ofInt}
 use borrow.Author.Tests.{lt-ltb, le-ltb, ne-eqb}
-use Rattle.finite.specs.Logic.{_and_, and-true, and-false-left, not-so, not-both}
+use Rattle.finite.specs.Logic.{_and_, _or_, and-true, and-false-left, not-so, not-both}
 use Rattle.finite.specs.Below.{allBelow, all-out, least, least-found}
 use Rattle.finite.specs.Count.{one, countBelow, countPairs, under, count-more, pairs-more}
+use Rattle.model.specs.declared.Row.{Row}
 use Rattle.model.specs.declared.Share.{Share}
 use Rattle.model.specs.declared.Share.the-variants.{Of, NoPairs}
 use Rattle.model.specs.declared.ReportAnswer.the-variants as told
 use Rattle.model.specs.Limits.{LONGEST}
 use Rattle.model.specs.Table.{Table}
 use Rattle.model.specs.Scope.{mutually}
+use Rattle.model.specs.Location.{common, before}
 use Rattle.model.specs.Race.{conflict, unorderedNth, raceNth, races}
-use Rattle.model.specs.Report.{orderedNth, conflictMutual, conflictOrdered, conflicting, mutuals, ordered, racing, shareOf, reportOf, withShare, counted}
+use Rattle.model.specs.Report.{orderedAt, orderedNth, conflictMutual, conflictOrdered, conflicting, mutuals, ordered, racing, shareOf, reportOf, withShare, counted}
 use Rattle.model.specs.ShareLaws.{MOST, divided}
 use Rattle.race.specs.Bytes.{mayRace}
 use Rattle.report.specs.declared.pairs.Count.{Count}
@@ -132,3 +134,10 @@ module _ (t : Table) (n c m o r : ℕ) (s : Share) (all : n ≡ t .rows) (cs : c
   pub counted-some : (f : Float) → s ≡ Of f → told.Report (record { conflicting = c; mutuals = m; ordered = o; racing = r; share = f }) ≡ counted t
   unfolding withShare reportOf
   counted-some f e = rw (conflicting-is, mutuals-is, ordered-is, racing-is) refl ∙ (ap (λ (z : Share). withShare z t) (sym e) ∙ shared)
+
+-- ---- law: the order of a pair at a byte, of rows that are decoded already
+
+pub ordered-told : (t : Table) (x y k b : ℕ) (r q : Row) (d e f : Bool) → r ≡ t .row x → q ≡ t .row y → b ≡ r .start + k → d ≡ common r q b
+    → e ≡ before t x y b → f ≡ before t y x b → (not d or e or f) ≡ orderedNth t x y k
+unfolding orderedNth orderedAt
+ordered-told t x y k b r q d e f er eq eb ed ee ef = rw (ed, ee, ef, eb, er, eq) refl

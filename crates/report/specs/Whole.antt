@@ -7,6 +7,7 @@ use Prim.Native.Nat.{ℕ, _≤_, _<_}
 use lib.ListN.{length}
 use Rattle.bits.specs.Bit.{zeros}
 use Rattle.bits.specs.Within.{Within}
+use Rattle.model.specs.declared.Mode.{Mode}
 use Rattle.model.specs.declared.Admission.{Admission}
 use Rattle.model.specs.declared.Admission.the-variants.{Admitted, Refused}
 use Rattle.model.specs.declared.CheckAnswer.{CheckAnswer}
@@ -14,7 +15,7 @@ use Rattle.model.specs.declared.CheckAnswer.the-variants as said
 use Rattle.model.specs.declared.ReportAnswer.{ReportAnswer}
 use Rattle.model.specs.declared.ReportAnswer.the-variants as told
 use Rattle.model.specs.Limits.{WORK, CYCLE}
-use Rattle.model.specs.Table.{Table, rowsAt, rowBytes, placesOf, sourceOf, decode, tableOf, sourcesOf}
+use Rattle.model.specs.Table.{modeOf, Table, rowsAt, rowBytes, placesOf, sourceOf, decode, tableOf, sourcesOf}
 use Rattle.model.specs.Refusal.{admission}
 use Rattle.model.specs.Words.{WellFormed}
 use Rattle.model.specs.Check.{raceFree, verdict, admitted, check, checkAnswer, cycleAfter, workAfter, wiped}
@@ -75,11 +76,11 @@ module _ (s w c : List ℕ) (room : WORK ≤ length w) (long : CYCLE ≤ length 
 -- ---- laws: an admitted table
 
 -- located, judged, answered, wiped
-pub table-reported : (s b : List ℕ) (p : List (List ℕ)) (n : ℕ) (src w v u z c d : List ℕ) (a : CheckAnswer) (r : ReportAnswer) → WellFormed s → b ≡ rowBytes s → p ≡ placesOf s → n ≡ rowsAt s
+pub table-reported : (s b : List ℕ) (p : List (List ℕ)) (mode : Mode) (n : ℕ) (src w v u z c d : List ℕ) (a : CheckAnswer) (r : ReportAnswer) → WellFormed s → b ≡ rowBytes s → p ≡ placesOf s → mode ≡ modeOf false s → n ≡ rowsAt s
     → Listed (sourceOf b) n src → WORK ≤ length w → Within MUTUAL LOCATION-END w v
-    → (a ≡ checkAnswer (verdict (decode b p n) (sourceIn src))) × (d ≡ cycleAfter (verdict (decode b p n) (sourceIn src)) c) × Within EDGE LAYERS-END v u
-    → r ≡ reportAnswer a (decode b p n) → z ≡ zeros u 0 WORK
+    → (a ≡ checkAnswer (verdict (decode b p mode n) (sourceIn src))) × (d ≡ cycleAfter (verdict (decode b p mode n) (sourceIn src)) c) × Within EDGE LAYERS-END v u
+    → r ≡ reportAnswer a (decode b p mode n) → z ≡ zeros u 0 WORK
     → (r ≡ reportAnswer (checkAnswer (verdict (tableOf s) (sourcesOf s))) (tableOf s)) × (z ≡ wiped w) × (d ≡ cycleAfter (verdict (tableOf s) (sourcesOf s)) c)
-table-reported s b p n src w v u z c d a r well rows places all list room f j q e =
-    let k = judged s b p n src w v u z c d a well rows places all list room f j e in
-    (q ∙ ap₂ reportAnswer (k .0) (table-is (admitted-sound false s well) b p n rows places all), k .1, k .2)
+table-reported s b p mode n src w v u z c d a r well rows places modes all list room f j q e =
+    let k = judged s b p _ n src w v u z c d a well rows places modes all list room f j e in
+    (q ∙ ap₂ reportAnswer (k .0) (table-is (admitted-sound false s well) b p _ n rows places modes all), k .1, k .2)

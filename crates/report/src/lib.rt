@@ -11,6 +11,7 @@ ghost use Rattle.race.specs.Bytes.{Known};
 ghost use Rattle.report.specs.Whole.{refusedAnswer};
 use model::Admission;
 use model::CheckAnswer;
+use model::Mode;
 use model::Places;
 use model::ReportAnswer;
 
@@ -31,9 +32,9 @@ fn refused(a: Admission) -> ReportAnswer
 }
 
 // A check's answer c as a report's: itself where the table is inconsistent, else the counts.
-fn answer(c: CheckAnswer, rows: &[u8], p: Places, n: usize, w: &[u64]) -> ReportAnswer
-    requires { ⌜ Known (decode (now rows) p n) n (now w) ⌝ }
-    ensures { λ r. ⌜ r ≡ reportAnswer c (decode (now (rows .entry)) p n) ⌝ }
+fn answer(c: CheckAnswer, rows: &[u8], p: Places, mode: Mode, n: usize, w: &[u64]) -> ReportAnswer
+    requires { ⌜ Known (decode (now rows) p mode n) n (now w) ⌝ }
+    ensures { λ r. ⌜ r ≡ reportAnswer c (decode (now (rows .entry)) p mode n) ⌝ }
 {
     match c {
         CheckAnswer::Refused { number, row } => ReportAnswer::Refused {
@@ -54,8 +55,8 @@ fn answer(c: CheckAnswer, rows: &[u8], p: Places, n: usize, w: &[u64]) -> Report
             first: _,
             second: _,
             byte: _,
-        } => counts::report_of(rows, p, n, w),
-        CheckAnswer::RaceFree => counts::report_of(rows, p, n, w),
+        } => counts::report_of(rows, p, mode, n, w),
+        CheckAnswer::RaceFree => counts::report_of(rows, p, mode, n, w),
     }
 }
 
@@ -66,12 +67,13 @@ fn report_table(table: &[u8], n: usize, work: &mut [u64], cycle: &mut [u16]) -> 
         × (now (work .exit) ≡ wiped (now (work .entry)))
         × (now (cycle .exit) ≡ cycleAfter (verdict (tableOf (now (table .entry))) (sourcesOf (now (table .entry)))) (now (cycle .entry))) ⌝ }
 {
+    let mode = rows::scopes::read_mode(table, false);
     let rows = rows::bytes::row_bytes(table);
     let p = rows::scopes::read_places(table);
     let src = choice::sources::read_sources(rows, n);
-    verdict::judge::locate(rows, p, n, work);
-    let c = verdict::judge::judge(rows, p, n, &src, work, cycle);
-    let r = answer(c, rows, p, n, work);
+    verdict::judge::locate(rows, p, mode, n, work);
+    let c = verdict::judge::judge(rows, p, mode, n, &src, work, cycle);
+    let r = answer(c, rows, p, mode, n, work);
     bits::clear(work, 0, model::WORK);
     r
 }

@@ -9,6 +9,7 @@ ghost use Rattle.model.specs.Race.{conflict, unorderedNth, raceNth, races};
 ghost use Rattle.model.specs.Report.{orderedNth, conflictMutual, conflictOrdered};
 ghost use Rattle.race.specs.Bytes.{Known};
 ghost use Rattle.report.specs.Counts.{counts};
+use model::Mode;
 use model::Places;
 use model::Row;
 
@@ -24,6 +25,7 @@ pub enum Count {
 fn ordered_nth(
     rows: &[u8],
     p: Places,
+    mode: Mode,
     n: usize,
     x: usize,
     y: usize,
@@ -32,19 +34,20 @@ fn ordered_nth(
     k: usize,
     w: &[u64],
 ) -> bool
-    requires { ⌜ (x < n) × (y < n) × (k < LONGEST) × (r ≡ rowOf (now rows) x) × (q ≡ rowOf (now rows) y) × Known (decode (now rows) p n) n (now w) ⌝ }
-    ensures { λ d. ⌜ d ≡ orderedNth (decode (now (rows .entry)) p n) x y k ⌝ }
+    requires { ⌜ (x < n) × (y < n) × (k < LONGEST) × (r ≡ rowOf (now rows) x) × (q ≡ rowOf (now rows) y) × Known (decode (now rows) p mode n) n (now w) ⌝ }
+    ensures { λ d. ⌜ d ≡ orderedNth (decode (now (rows .entry)) p mode n) x y k ⌝ }
 {
     let b = (r.start as u32) + (k as u32);
     !location::pairs::common(r, q, b)
-        | race::before_byte(rows, p, n, x, y, r, b, w)
-        | race::before_byte(rows, p, n, y, x, q, b, w)
+        | race::before_byte(rows, p, mode, n, x, y, r, b, w)
+        | race::before_byte(rows, p, mode, n, y, x, q, b, w)
 }
 
 // Whether every byte that x and y share has order.
 fn all_ordered(
     rows: &[u8],
     p: Places,
+    mode: Mode,
     n: usize,
     x: usize,
     y: usize,
@@ -52,11 +55,11 @@ fn all_ordered(
     q: Row,
     w: &[u64],
 ) -> bool
-    requires { ⌜ (x < n) × (y < n) × (r ≡ rowOf (now rows) x) × (q ≡ rowOf (now rows) y) × Known (decode (now rows) p n) n (now w) ⌝ }
-    ensures { λ d. ⌜ d ≡ allBelow LONGEST (orderedNth (decode (now (rows .entry)) p n) x y) ⌝ }
+    requires { ⌜ (x < n) × (y < n) × (r ≡ rowOf (now rows) x) × (q ≡ rowOf (now rows) y) × Known (decode (now rows) p mode n) n (now w) ⌝ }
+    ensures { λ d. ⌜ d ≡ allBelow LONGEST (orderedNth (decode (now (rows .entry)) p mode n) x y) ⌝ }
 {
     for k in 0..area::PAIR {
-        if !ordered_nth(rows, p, n, x, y, r, q, k, w) {
+        if !ordered_nth(rows, p, mode, n, x, y, r, q, k, w) {
             return false;
         }
     }
@@ -67,6 +70,7 @@ fn all_ordered(
 fn open_nth(
     rows: &[u8],
     p: Places,
+    mode: Mode,
     n: usize,
     x: usize,
     y: usize,
@@ -75,17 +79,18 @@ fn open_nth(
     k: usize,
     w: &[u64],
 ) -> bool
-    requires { ⌜ (x < n) × (y < n) × (k < LONGEST) × (r ≡ rowOf (now rows) x) × (q ≡ rowOf (now rows) y) × Known (decode (now rows) p n) n (now w) ⌝ }
-    ensures { λ d. ⌜ d ≡ unorderedNth (decode (now (rows .entry)) p n) x y k ⌝ }
+    requires { ⌜ (x < n) × (y < n) × (k < LONGEST) × (r ≡ rowOf (now rows) x) × (q ≡ rowOf (now rows) y) × Known (decode (now rows) p mode n) n (now w) ⌝ }
+    ensures { λ d. ⌜ d ≡ unorderedNth (decode (now (rows .entry)) p mode n) x y k ⌝ }
 {
     let b = (r.start as u32) + (k as u32);
-    race::unordered_at(rows, p, n, x, y, r, q, b, w)
+    race::unordered_at(rows, p, mode, n, x, y, r, q, b, w)
 }
 
 // Whether some byte that x and y share has no order.
 fn some_open(
     rows: &[u8],
     p: Places,
+    mode: Mode,
     n: usize,
     x: usize,
     y: usize,
@@ -93,11 +98,11 @@ fn some_open(
     q: Row,
     w: &[u64],
 ) -> bool
-    requires { ⌜ (x < n) × (y < n) × (r ≡ rowOf (now rows) x) × (q ≡ rowOf (now rows) y) × Known (decode (now rows) p n) n (now w) ⌝ }
-    ensures { λ d. ⌜ d ≡ ltb (raceNth (decode (now (rows .entry)) p n) x y) LONGEST ⌝ }
+    requires { ⌜ (x < n) × (y < n) × (r ≡ rowOf (now rows) x) × (q ≡ rowOf (now rows) y) × Known (decode (now rows) p mode n) n (now w) ⌝ }
+    ensures { λ d. ⌜ d ≡ ltb (raceNth (decode (now (rows .entry)) p mode n) x y) LONGEST ⌝ }
 {
     for k in 0..area::PAIR {
-        if open_nth(rows, p, n, x, y, r, q, k, w) {
+        if open_nth(rows, p, mode, n, x, y, r, q, k, w) {
             return true;
         }
     }
@@ -105,9 +110,18 @@ fn some_open(
 }
 
 // Whether x and y conflict.
-fn is_conflict(rows: &[u8], p: Places, n: usize, x: usize, y: usize, r: Row, q: Row) -> bool
+fn is_conflict(
+    rows: &[u8],
+    p: Places,
+    mode: Mode,
+    n: usize,
+    x: usize,
+    y: usize,
+    r: Row,
+    q: Row,
+) -> bool
     requires { ⌜ (r ≡ rowOf (now rows) x) × (q ≡ rowOf (now rows) y) ⌝ }
-    ensures { λ d. ⌜ d ≡ conflict (decode (now (rows .entry)) p n) x y ⌝ }
+    ensures { λ d. ⌜ d ≡ conflict (decode (now (rows .entry)) p mode n) x y ⌝ }
 {
     !(x == y) & location::shared::clash(r, q)
 }
@@ -116,6 +130,7 @@ fn is_conflict(rows: &[u8], p: Places, n: usize, x: usize, y: usize, r: Row, q: 
 fn is_mutual(
     rows: &[u8],
     p: Places,
+    mode: Mode,
     n: usize,
     x: usize,
     y: usize,
@@ -123,16 +138,17 @@ fn is_mutual(
     q: Row,
     w: &[u64],
 ) -> bool
-    requires { ⌜ (x < n) × (y < n) × (r ≡ rowOf (now rows) x) × (q ≡ rowOf (now rows) y) × Known (decode (now rows) p n) n (now w) ⌝ }
-    ensures { λ d. ⌜ d ≡ conflictMutual (decode (now (rows .entry)) p n) x y ⌝ }
+    requires { ⌜ (x < n) × (y < n) × (r ≡ rowOf (now rows) x) × (q ≡ rowOf (now rows) y) × Known (decode (now rows) p mode n) n (now w) ⌝ }
+    ensures { λ d. ⌜ d ≡ conflictMutual (decode (now (rows .entry)) p mode n) x y ⌝ }
 {
-    is_conflict(rows, p, n, x, y, r, q) & race::mutual_at(rows, p, n, x, y, w)
+    is_conflict(rows, p, mode, n, x, y, r, q) & race::mutual_at(rows, p, mode, n, x, y, w)
 }
 
 // Whether x and y conflict and aren't mutually-ordered, but have order at every shared byte.
 fn is_ordered(
     rows: &[u8],
     p: Places,
+    mode: Mode,
     n: usize,
     x: usize,
     y: usize,
@@ -140,19 +156,20 @@ fn is_ordered(
     q: Row,
     w: &[u64],
 ) -> bool
-    requires { ⌜ (x < n) × (y < n) × (r ≡ rowOf (now rows) x) × (q ≡ rowOf (now rows) y) × Known (decode (now rows) p n) n (now w) ⌝ }
-    ensures { λ d. ⌜ d ≡ conflictOrdered (decode (now (rows .entry)) p n) x y ⌝ }
+    requires { ⌜ (x < n) × (y < n) × (r ≡ rowOf (now rows) x) × (q ≡ rowOf (now rows) y) × Known (decode (now rows) p mode n) n (now w) ⌝ }
+    ensures { λ d. ⌜ d ≡ conflictOrdered (decode (now (rows .entry)) p mode n) x y ⌝ }
 {
-    if !race::may_race(rows, p, n, x, y, r, q, w) {
+    if !race::may_race(rows, p, mode, n, x, y, r, q, w) {
         return false;
     }
-    all_ordered(rows, p, n, x, y, r, q, w)
+    all_ordered(rows, p, mode, n, x, y, r, q, w)
 }
 
 // Whether x and y race.
 fn is_racing(
     rows: &[u8],
     p: Places,
+    mode: Mode,
     n: usize,
     x: usize,
     y: usize,
@@ -160,13 +177,13 @@ fn is_racing(
     q: Row,
     w: &[u64],
 ) -> bool
-    requires { ⌜ (x < n) × (y < n) × (r ≡ rowOf (now rows) x) × (q ≡ rowOf (now rows) y) × Known (decode (now rows) p n) n (now w) ⌝ }
-    ensures { λ d. ⌜ d ≡ races (decode (now (rows .entry)) p n) x y ⌝ }
+    requires { ⌜ (x < n) × (y < n) × (r ≡ rowOf (now rows) x) × (q ≡ rowOf (now rows) y) × Known (decode (now rows) p mode n) n (now w) ⌝ }
+    ensures { λ d. ⌜ d ≡ races (decode (now (rows .entry)) p mode n) x y ⌝ }
 {
-    if !race::may_race(rows, p, n, x, y, r, q, w) {
+    if !race::may_race(rows, p, mode, n, x, y, r, q, w) {
         return false;
     }
-    some_open(rows, p, n, x, y, r, q, w)
+    some_open(rows, p, mode, n, x, y, r, q, w)
 }
 
 // Whether the pair x, y is one that c counts; r and q are its rows.
@@ -175,6 +192,7 @@ pub fn is_counted(
     c: Count,
     rows: &[u8],
     p: Places,
+    mode: Mode,
     n: usize,
     x: usize,
     y: usize,
@@ -182,13 +200,13 @@ pub fn is_counted(
     q: Row,
     w: &[u64],
 ) -> bool
-    requires { ⌜ (x < n) × (y < n) × (r ≡ rowOf (now rows) x) × (q ≡ rowOf (now rows) y) × Known (decode (now rows) p n) n (now w) ⌝ }
-    ensures { λ d. ⌜ d ≡ counts c (decode (now (rows .entry)) p n) x y ⌝ }
+    requires { ⌜ (x < n) × (y < n) × (r ≡ rowOf (now rows) x) × (q ≡ rowOf (now rows) y) × Known (decode (now rows) p mode n) n (now w) ⌝ }
+    ensures { λ d. ⌜ d ≡ counts c (decode (now (rows .entry)) p mode n) x y ⌝ }
 {
     match c {
-        Count::Conflicting => is_conflict(rows, p, n, x, y, r, q),
-        Count::Mutuals => is_mutual(rows, p, n, x, y, r, q, w),
-        Count::Ordered => is_ordered(rows, p, n, x, y, r, q, w),
-        Count::Racing => is_racing(rows, p, n, x, y, r, q, w),
+        Count::Conflicting => is_conflict(rows, p, mode, n, x, y, r, q),
+        Count::Mutuals => is_mutual(rows, p, mode, n, x, y, r, q, w),
+        Count::Ordered => is_ordered(rows, p, mode, n, x, y, r, q, w),
+        Count::Racing => is_racing(rows, p, mode, n, x, y, r, q, w),
     }
 }

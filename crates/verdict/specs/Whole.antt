@@ -11,9 +11,10 @@ use lib.Dec.{ltb, leb}
 use borrow.Author.Tests.{leb-true, le-leb}
 use Rattle.bits.specs.Bit.{zeros, length-zeros, zeros-in, zeros-out}
 use Rattle.bits.specs.Within.{Within, within-trans, within-widen, zeros-within}
+use Rattle.model.specs.declared.Mode.{Mode}
 use Rattle.model.specs.Limits.{ROWS, WORK, LONGEST, BYTES}
 use Rattle.model.specs.Row.{access}
-use Rattle.model.specs.Table.{Table, agentsAt, rowsAt, rowBytes, placesOf, rowOf, sourceOf, decode, tableOf, sourcesOf}
+use Rattle.model.specs.Table.{modeOf, Table, agentsAt, rowsAt, rowBytes, placesOf, rowOf, sourceOf, decode, tableOf, sourcesOf}
 use Rattle.finite.specs.Logic.{_and_, and-true, and-false-right, not-so}
 use Rattle.model.specs.declared.Admission.{Admission}
 use Rattle.model.specs.declared.Admission.the-variants.{Admitted, Refused}
@@ -69,30 +70,30 @@ wiped-after w v u z room a b e =
 
 -- ---- a table that is admitted, read row by row
 
-module _ {blanks : Bool} {s : List ℕ} (h : Sound blanks s) (b : List ℕ) (p : List (List ℕ)) (n : ℕ) (rows : b ≡ rowBytes s) (places : p ≡ placesOf s) (all : n ≡ rowsAt s) where
-  pub table-is : decode b p n ≡ tableOf s
+module _ {blanks : Bool} {s : List ℕ} (h : Sound blanks s) (b : List ℕ) (p : List (List ℕ)) (mode : Mode) (n : ℕ) (rows : b ≡ rowBytes s) (places : p ≡ placesOf s) (modes : mode ≡ modeOf false s) (all : n ≡ rowsAt s) where
+  pub table-is : decode b p mode n ≡ tableOf s
   unfolding tableOf
-  table-is = rw (rows, places, all) refl
+  table-is = rw (rows, places, modes, all) refl
 
   pub few : n ≤ ROWS
   few = rw all (rows-fit h)
 
-  pub bounded : Bounded (decode b p n)
+  pub bounded : Bounded (decode b p mode n)
   unfolding decode
   bounded i l a = rw rows (access-end h i (rw (← all) l) (rw (← rows) a))
 
   sized : (i : ℕ) → i < n → rowOf b i .size ≤ LONGEST
   sized i l = rw rows (size-fits h i (rw (← all) l))
 
-  pub known : {w v : List ℕ} → WORK ≤ length w → Within MUTUAL LOCATION-END w v → Located (decode b p n) n v → Known (decode b p n) n v
+  pub known : {w v : List ℕ} → WORK ≤ length w → Within MUTUAL LOCATION-END w v → Located (decode b p mode n) n v → Known (decode b p mode n) n v
   unfolding decode
   known {w} {v} room f l = let e = f .len in (few, omega arith, sized, l)
 
   -- the verdict over a list of the sources
-  pub verdict-is : (src : List ℕ) → Listed (sourceOf b) n src → verdict (decode b p n) (sourceIn src) ≡ verdict (tableOf s) (sourcesOf s)
+  pub verdict-is : (src : List ℕ) → Listed (sourceOf b) n src → verdict (decode b p mode n) (sourceIn src) ≡ verdict (tableOf s) (sourcesOf s)
   unfolding sourcesOf decode
   verdict-is src l =
-      verdict-same (decode b p n) (sourceIn src) (sourceOf (rowBytes s)) (λ i m. l .each i m ∙ ap (λ (v : List ℕ). sourceOf v i) rows)
+      verdict-same (decode b p mode n) (sourceIn src) (sourceOf (rowBytes s)) (λ i m. l .each i m ∙ ap (λ (v : List ℕ). sourceOf v i) rows)
       ∙ ap (λ (t : Table). verdict t (sourceOf (rowBytes s))) table-is
 
 -- ---- the entry point
@@ -162,10 +163,10 @@ module _ (s w c : List ℕ) (room : WORK ≤ length w) (long : CYCLE ≤ length 
       )
 
 -- the calls of a verdict on an admitted table, one after the other
-pub judged : (s b : List ℕ) (p : List (List ℕ)) (n : ℕ) (src w v u z c d : List ℕ) (r : CheckAnswer) → WellFormed s → b ≡ rowBytes s → p ≡ placesOf s → n ≡ rowsAt s
+pub judged : (s b : List ℕ) (p : List (List ℕ)) (mode : Mode) (n : ℕ) (src w v u z c d : List ℕ) (r : CheckAnswer) → WellFormed s → b ≡ rowBytes s → p ≡ placesOf s → mode ≡ modeOf false s → n ≡ rowsAt s
     → Listed (sourceOf b) n src → WORK ≤ length w → Within MUTUAL LOCATION-END w v
-    → (r ≡ checkAnswer (verdict (decode b p n) (sourceIn src))) × (d ≡ cycleAfter (verdict (decode b p n) (sourceIn src)) c) × Within EDGE LAYERS-END v u → z ≡ zeros u 0 WORK
+    → (r ≡ checkAnswer (verdict (decode b p mode n) (sourceIn src))) × (d ≡ cycleAfter (verdict (decode b p mode n) (sourceIn src)) c) × Within EDGE LAYERS-END v u → z ≡ zeros u 0 WORK
     → (r ≡ checkAnswer (verdict (tableOf s) (sourcesOf s))) × (z ≡ wiped w) × (d ≡ cycleAfter (verdict (tableOf s) (sourcesOf s)) c)
-judged s b p n src w v u z c d r well rows places all list room f j e =
-    let q = verdict-is (admitted-sound false s well) b p n rows places all src list in
+judged s b p mode n src w v u z c d r well rows places modes all list room f j e =
+    let q = verdict-is (admitted-sound false s well) b p _ n rows places modes all src list in
     (j .0 ∙ ap checkAnswer q, wiped-after w v u z room f (j .2) e, j .1 ∙ ap (λ (y : Verdict). cycleAfter y c) q)

@@ -30,11 +30,12 @@ fn judge_table(table: &[u8], n: usize, work: &mut [u64], cycle: &mut [u16]) -> C
         × (now (work .exit) ≡ wiped (now (work .entry)))
         × (now (cycle .exit) ≡ cycleAfter (verdict (tableOf (now (table .entry))) (sourcesOf (now (table .entry)))) (now (cycle .entry))) ⌝ }
 {
+    let mode = rows::scopes::read_mode(table, false);
     let rows = rows::bytes::row_bytes(table);
     let p = rows::scopes::read_places(table);
     let src = choice::sources::read_sources(rows, n);
-    crate::judge::locate(rows, p, n, work);
-    let r = crate::judge::judge(rows, p, n, &src, work, cycle);
+    crate::judge::locate(rows, p, mode, n, work);
+    let r = crate::judge::judge(rows, p, mode, n, &src, work, cycle);
     bits::clear(work, 0, model::WORK);
     r
 }

@@ -12,15 +12,16 @@ ghost use Rattle.race.specs.Bytes.{Known, Bounded};
 ghost use Rattle.axioms.specs.Sources.{sourceIn};
 ghost use Rattle.verdict.specs.Answers.{raceAnswer, overwriteAnswer};
 use model::CheckAnswer;
+use model::Mode;
 use model::Places;
 
 // Location order of n rows.
-pub fn locate(rows: &[u8], p: Places, n: usize, w: &mut [u64])
+pub fn locate(rows: &[u8], p: Places, mode: Mode, n: usize, w: &mut [u64])
     requires { ⌜ (n ≤ ROWS) × (WORK ≤ length (now w)) ⌝ }
-    ensures { λ _. ⌜ Located (decode (now (rows .entry)) p n) n (now (w .exit)) × Within MUTUAL LOCATION-END (now (w .entry)) (now (w .exit)) ⌝ }
+    ensures { λ _. ⌜ Located (decode (now (rows .entry)) p mode n) n (now (w .exit)) × Within MUTUAL LOCATION-END (now (w .entry)) (now (w .exit)) ⌝ }
 {
-    order::happens_before(rows, p, n, w);
-    location::fill_location(rows, p, n, w);
+    order::happens_before(rows, p, mode, n, w);
+    location::fill_location(rows, p, mode, n, w);
 }
 
 fn race_answer(f: race::Found) -> CheckAnswer
@@ -58,36 +59,37 @@ fn overwrite_answer(o: axioms::overwritten::Overwrite) -> CheckAnswer
 }
 
 // The verdict where no edges make a cycle: overwritten, else a race, else race-free.
-fn settle(rows: &[u8], p: Places, n: usize, src: &[u16], w: &[u64]) -> CheckAnswer
-    requires { ⌜ (n ≤ length (now src)) × Bounded (decode (now rows) p n) × Known (decode (now rows) p n) n (now w) ⌝ }
-    ensures { λ r. ⌜ r ≡ checkAnswer (overwrittenOr (raceOr raceFree (decode (now (rows .entry)) p n)) (decode (now (rows .entry)) p n) (sourceIn (now (src .entry)))) ⌝ }
+fn settle(rows: &[u8], p: Places, mode: Mode, n: usize, src: &[u16], w: &[u64]) -> CheckAnswer
+    requires { ⌜ (n ≤ length (now src)) × Bounded (decode (now rows) p mode n) × Known (decode (now rows) p mode n) n (now w) ⌝ }
+    ensures { λ r. ⌜ r ≡ checkAnswer (overwrittenOr (raceOr raceFree (decode (now (rows .entry)) p mode n)) (decode (now (rows .entry)) p mode n) (sourceIn (now (src .entry)))) ⌝ }
 {
-    let o = axioms::overwritten::first_overwrite(rows, p, n, src, w);
+    let o = axioms::overwritten::first_overwrite(rows, p, mode, n, src, w);
     let axioms::overwritten::Overwrite::Nothing = o else {
         return overwrite_answer(o);
     };
-    race_answer(race::first_race(rows, p, n, w))
+    race_answer(race::first_race(rows, p, mode, n, w))
 }
 
 // The verdict, from location order and the sources; a cycle's numbers in c.
 pub fn judge(
     rows: &[u8],
     p: Places,
+    mode: Mode,
     n: usize,
     src: &[u16],
     w: &mut [u64],
     c: &mut [u16],
 ) -> CheckAnswer
-    requires { ⌜ (CYCLE ≤ length (now c)) × (n ≤ length (now src)) × Bounded (decode (now rows) p n) × Known (decode (now rows) p n) n (now w) ⌝ }
-    ensures { λ r. ⌜ (r ≡ checkAnswer (verdict (decode (now (rows .entry)) p n) (sourceIn (now (src .entry)))))
-        × (now (c .exit) ≡ cycleAfter (verdict (decode (now (rows .entry)) p n) (sourceIn (now (src .entry)))) (now (c .entry)))
+    requires { ⌜ (CYCLE ≤ length (now c)) × (n ≤ length (now src)) × Bounded (decode (now rows) p mode n) × Known (decode (now rows) p mode n) n (now w) ⌝ }
+    ensures { λ r. ⌜ (r ≡ checkAnswer (verdict (decode (now (rows .entry)) p mode n) (sourceIn (now (src .entry)))))
+        × (now (c .exit) ≡ cycleAfter (verdict (decode (now (rows .entry)) p mode n) (sourceIn (now (src .entry)))) (now (c .entry)))
         × Within EDGE LAYERS-END (now (w .entry)) (now (w .exit)) ⌝ }
 {
-    axioms::edges::fill_edges(rows, p, n, src, w);
+    axioms::edges::fill_edges(rows, p, mode, n, src, w);
     let x = cycle::cycle_start(w, n);
     if x < n {
-        let size = crate::show::show_cycle(rows, p, n, src, x, w, c);
+        let size = crate::show::show_cycle(rows, p, mode, n, src, x, w, c);
         return CheckAnswer::Cycle { rows: size as u16 };
     }
-    settle(rows, p, n, src, w)
+    settle(rows, p, mode, n, src, w)
 }

@@ -16,6 +16,7 @@ ghost use Rattle.area.specs.Regions.{EDGE, GRID, LAYERS, LAYERS-END};
 ghost use Rattle.race.specs.Bytes.{Known};
 ghost use Rattle.axioms.specs.Sources.{sourceIn};
 ghost use Rattle.verdict.specs.Shown.{Numbered, stepNumber};
+use model::Mode;
 use model::Places;
 
 // The numbers that a cycle is shown in become 0.
@@ -46,6 +47,7 @@ fn next_of(c: &[u16], i: usize, size: usize, x: usize) -> usize
 fn write_edges(
     rows: &[u8],
     p: Places,
+    mode: Mode,
     n: usize,
     src: &[u16],
     x: usize,
@@ -53,14 +55,14 @@ fn write_edges(
     w: &[u64],
     c: &mut [u16],
 )
-    requires { ⌜ (x < n) × (size ≤ CYCLE-EDGES) × (CYCLE ≤ length (now c)) × (n ≤ length (now src)) × Known (decode (now rows) p n) n (now w)
+    requires { ⌜ (x < n) × (size ≤ CYCLE-EDGES) × (CYCLE ≤ length (now c)) × (n ≤ length (now src)) × Known (decode (now rows) p mode n) n (now w)
         × ((i : ℕ) → i < size → getD (now c) i 0 < n) ⌝ }
-    ensures { λ _. ⌜ Numbered (stepNumber (decode (now (rows .entry)) p n) (sourceIn (now (src .entry))) x size (now (c .entry))) size (now (c .entry)) (now (c .exit)) ⌝ }
+    ensures { λ _. ⌜ Numbered (stepNumber (decode (now (rows .entry)) p mode n) (sourceIn (now (src .entry))) x size (now (c .entry))) size (now (c .entry)) (now (c .exit)) ⌝ }
 {
     for i in 0..size {
         let a = wide(c[i]);
         let b = next_of(c, i, size, x);
-        let e = axioms::edges::edge_number(rows, p, n, src, a, b, w);
+        let e = axioms::edges::edge_number(rows, p, mode, n, src, a, b, w);
         c[model::CYCLE_EDGES + i] = e;
     }
 }
@@ -70,23 +72,24 @@ fn write_edges(
 pub fn show_cycle(
     rows: &[u8],
     p: Places,
+    mode: Mode,
     n: usize,
     src: &[u16],
     x: usize,
     w: &mut [u64],
     c: &mut [u16],
 ) -> usize
-    requires { ⌜ (x < n) × (CYCLE ≤ length (now c)) × (n ≤ length (now src)) × Known (decode (now rows) p n) n (now w)
-        × Holds EDGE GRID n (edge (decode (now rows) p n) (sourceIn (now src))) (now w)
-        × (x ≡ cycleRow (decode (now rows) p n) (sourceIn (now src))) ⌝ }
-    ensures { λ r. ⌜ (r ≡ length (cycleRows (decode (now (rows .entry)) p n) (sourceIn (now (src .entry)))))
-        × (now (c .exit) ≡ cycleAfter (cyclic (cycleRows (decode (now (rows .entry)) p n) (sourceIn (now (src .entry)))) (cycleEdges (decode (now (rows .entry)) p n) (sourceIn (now (src .entry))))) (now (c .entry)))
+    requires { ⌜ (x < n) × (CYCLE ≤ length (now c)) × (n ≤ length (now src)) × Known (decode (now rows) p mode n) n (now w)
+        × Holds EDGE GRID n (edge (decode (now rows) p mode n) (sourceIn (now src))) (now w)
+        × (x ≡ cycleRow (decode (now rows) p mode n) (sourceIn (now src))) ⌝ }
+    ensures { λ r. ⌜ (r ≡ length (cycleRows (decode (now (rows .entry)) p mode n) (sourceIn (now (src .entry)))))
+        × (now (c .exit) ≡ cycleAfter (cyclic (cycleRows (decode (now (rows .entry)) p mode n) (sourceIn (now (src .entry)))) (cycleEdges (decode (now (rows .entry)) p mode n) (sourceIn (now (src .entry))))) (now (c .entry)))
         × Within LAYERS LAYERS-END (now (w .entry)) (now (w .exit)) ⌝ }
 {
     cycle::fill_layers(w, n, x);
     let size = cycle::cycle_size(w, n, x);
     clear_numbers(c);
     cycle::write_rows(w, n, x, size, c);
-    write_edges(rows, p, n, src, x, size, w, c);
+    write_edges(rows, p, mode, n, src, x, size, w, c);
     size
 }

@@ -18,10 +18,10 @@ use Rattle.bits.proofs.clear.Reads as clear-reads
 use Rattle.location.proofs.fill_row.Reads as fill-row-reads
 
 abbrev Inv-loop : tie.InvT-loop
-Inv-loop rows p n w₀ x₀ w x = (x ≤ n) × (length w ≡ length w₀) × Ordered (decode rows p n) n w × (w ≡ cubeFill (beforeNth (decode rows p n)) w₀ (LOCATION * 64) PAIRS PAIR n x)
+Inv-loop rows p mode n w₀ x₀ w x = (x ≤ n) × (length w ≡ length w₀) × Ordered (decode rows p mode n) n w × (w ≡ cubeFill (beforeNth (decode rows p mode n)) w₀ (LOCATION * 64) PAIRS PAIR n x)
 
 abbrev μ-loop : tie.MeasureT-loop
-μ-loop rows p n w₀ x₀ w x = n - x
+μ-loop rows p mode n w₀ x₀ w x = n - x
 
 -- src/lib.rt:82:5
 clear-requires : tie.Need-clear-requires Inv-loop μ-loop

@@ -16,10 +16,10 @@ use Rattle.location.proofs.fill_row.Lts as lts
 use Rattle.location.proofs.fill_pair.Reads as fill-pair-reads
 
 abbrev Inv-loop : tie.InvT-loop
-Inv-loop rows p n x w₀ y₀ w y = (y ≤ n) × (length w ≡ length w₀) × Ordered (decode rows p n) n w × (w ≡ gridFill (beforeNth (decode rows p n) x) w₀ (LOCATION * 64 + x * PAIRS) PAIR PAIR y)
+Inv-loop rows p mode n x w₀ y₀ w y = (y ≤ n) × (length w ≡ length w₀) × Ordered (decode rows p mode n) n w × (w ≡ gridFill (beforeNth (decode rows p mode n) x) w₀ (LOCATION * 64 + x * PAIRS) PAIR PAIR y)
 
 abbrev μ-loop : tie.MeasureT-loop
-μ-loop rows p n x w₀ y₀ w y = n - y
+μ-loop rows p mode n x w₀ y₀ w y = n - y
 
 -- src/lib.rt:71:5
 loop-holds : tie.Need-loop-holds Inv-loop μ-loop

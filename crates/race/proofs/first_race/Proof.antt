@@ -20,22 +20,22 @@ use Rattle.race.proofs.unordered_at.Reads as unordered-at-reads
 use Rattle.rows.proofs.bytes.read_row.Reads as read-row-reads
 
 abbrev Inv-loop2 : tie.InvT-loop2
-Inv-loop2 rows p n w answer x r end y q b₀ b = NoneBelow (decode rows p n) x y b
+Inv-loop2 rows p mode n w answer x r end y q b₀ b = NoneBelow (decode rows p mode n) x y b
 
 abbrev μ-loop2 : tie.MeasureT-loop2
-μ-loop2 rows p n w answer x r end y q b₀ b = end - b
+μ-loop2 rows p mode n w answer x r end y q b₀ b = end - b
 
 abbrev Inv-loop : tie.InvT-loop
-Inv-loop rows p n w answer₀ x r end y₀ answer y = (x < y) × (y ≤ n) × (answer ≡ Nothing) × (least y (racesAbove (decode rows p n) x) ≡ y) × (end ≤ 2 * BYTES)
+Inv-loop rows p mode n w answer₀ x r end y₀ answer y = (x < y) × (y ≤ n) × (answer ≡ Nothing) × (least y (racesAbove (decode rows p mode n) x) ≡ y) × (end ≤ 2 * BYTES)
 
 abbrev μ-loop : tie.MeasureT-loop
-μ-loop rows p n w answer₀ x r end y₀ answer y = n - y
+μ-loop rows p mode n w answer₀ x r end y₀ answer y = n - y
 
 abbrev Inv-pairs : tie.InvT-pairs
-Inv-pairs rows p n w answer₀ x₀ answer x = (x ≤ n) × (answer ≡ Nothing) × (least x (hasRace (decode rows p n)) ≡ x)
+Inv-pairs rows p mode n w answer₀ x₀ answer x = (x ≤ n) × (answer ≡ Nothing) × (least x (hasRace (decode rows p mode n)) ≡ x)
 
 abbrev μ-pairs : tie.MeasureT-pairs
-μ-pairs rows p n w answer₀ x₀ answer x = n - x
+μ-pairs rows p mode n w answer₀ x₀ answer x = n - x
 
 -- src/lib.rt:115:5
 pairs-holds : tie.Need-pairs-holds Inv-loop2 μ-loop2 Inv-loop μ-loop Inv-pairs μ-pairs
@@ -125,17 +125,17 @@ loop2-again : tie.Need-loop2-again Inv-loop2 μ-loop2 Inv-loop μ-loop Inv-pairs
 loop2-again c = none-more _ _ _ _ (c .before .before .before .loop2 .inv) (sym (c .before .unordered-at .ensures) ∙ c .if3 .left)
 
 -- src/lib.rt:135:28
-cast-t23 : tie.Need-cast-t23 Inv-loop2 μ-loop2 Inv-loop μ-loop Inv-pairs μ-pairs
-cast-t23 c = let l = c .before .before .before .before .before .before .before .before .before .before .before .before .pairs-test .taken in let k = c .before .before .before .before .before .before .before .loop-test .taken in let m = c .before .before .before .before .before .before .before .before .before .before .before .before .before .before .before .before .pre .1 .0 in search needs
-
--- src/lib.rt:136:29
 cast-t24 : tie.Need-cast-t24 Inv-loop2 μ-loop2 Inv-loop μ-loop Inv-pairs μ-pairs
 cast-t24 c = let l = c .before .before .before .before .before .before .before .before .before .before .before .before .pairs-test .taken in let k = c .before .before .before .before .before .before .before .loop-test .taken in let m = c .before .before .before .before .before .before .before .before .before .before .before .before .before .before .before .before .pre .1 .0 in search needs
 
--- src/lib.rt:137:27
+-- src/lib.rt:136:29
 cast-t25 : tie.Need-cast-t25 Inv-loop2 μ-loop2 Inv-loop μ-loop Inv-pairs μ-pairs
+cast-t25 c = let l = c .before .before .before .before .before .before .before .before .before .before .before .before .pairs-test .taken in let k = c .before .before .before .before .before .before .before .loop-test .taken in let m = c .before .before .before .before .before .before .before .before .before .before .before .before .before .before .before .before .pre .1 .0 in search needs
+
+-- src/lib.rt:137:27
+cast-t26 : tie.Need-cast-t26 Inv-loop2 μ-loop2 Inv-loop μ-loop Inv-pairs μ-pairs
 unfolding decode
-cast-t25 c =
+cast-t26 c =
     let may = sym (c .before .before .before .before .before .before .may-race .ensures) ∙ not-false _ (c .before .before .before .before .before .if1 .left) in
     let f = race-ends _ _ _ (c .before .before .before .before .before .before .before .before .before .before .before .before .before .before .before .before .before .pre .0) _ (c .before .before .before .before .before .before .before .before .before .before .before .before .read-row .ensures) (c .before .before .before .before .before .before .before .before .before .before .before .before .before .pairs-test .taken) may in
     let l = c .before .if4 .taken in
@@ -233,9 +233,9 @@ first-race-spec =
     add-b
     loop2-less
     loop2-again
-    cast-t23
     cast-t24
     cast-t25
+    cast-t26
     add-y-3
     loop-less-2
     loop-again-2

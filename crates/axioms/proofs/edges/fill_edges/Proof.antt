@@ -20,16 +20,16 @@ use Rattle.bits.proofs.clear.Reads as clear-reads
 use Rattle.bits.proofs.put_if.Reads as put-if-reads
 
 abbrev Inv-loop2 : tie.InvT-loop2
-Inv-loop2 rows p n src w₀ x y₀ w y = (y ≤ n) × (length w ≡ length w₀) × Located (decode rows p n) n w × (w ≡ rowFill (edge (decode rows p n) (sourceIn src) x) w₀ (EDGE * 64 + x * (GRID * 64)) y)
+Inv-loop2 rows p mode n src w₀ x y₀ w y = (y ≤ n) × (length w ≡ length w₀) × Located (decode rows p mode n) n w × (w ≡ rowFill (edge (decode rows p mode n) (sourceIn src) x) w₀ (EDGE * 64 + x * (GRID * 64)) y)
 
 abbrev μ-loop2 : tie.MeasureT-loop2
-μ-loop2 rows p n src w₀ x y₀ w y = n - y
+μ-loop2 rows p mode n src w₀ x y₀ w y = n - y
 
 abbrev Inv-loop : tie.InvT-loop
-Inv-loop rows p n src w₀ x₀ w x = (x ≤ n) × (length w ≡ length w₀) × Located (decode rows p n) n w × (w ≡ gridFill (edge (decode rows p n) (sourceIn src)) w₀ (EDGE * 64) (GRID * 64) (n) x)
+Inv-loop rows p mode n src w₀ x₀ w x = (x ≤ n) × (length w ≡ length w₀) × Located (decode rows p mode n) n w × (w ≡ gridFill (edge (decode rows p mode n) (sourceIn src)) w₀ (EDGE * 64) (GRID * 64) (n) x)
 
 abbrev μ-loop : tie.MeasureT-loop
-μ-loop rows p n src w₀ x₀ w x = n - x
+μ-loop rows p mode n src w₀ x₀ w x = n - x
 
 -- src/edges.rt:150:5
 clear-requires : tie.Need-clear-requires Inv-loop2 μ-loop2 Inv-loop μ-loop

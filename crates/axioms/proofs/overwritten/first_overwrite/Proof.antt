@@ -42,23 +42,23 @@ read-row-requires : tie.Need-read-row-requires
 read-row-requires c κs = search needs
 
 -- src/overwritten.rt:138:17
-cast-t11 : tie.Need-cast-t11
-unfolding decode
-cast-t11 c =
-    let l = writer-below _ _ _ _ _ refl (c .before .before .before .before .over-reader .ensures) (c .before .before .over-writer .ensures) (c .before .before .before .if1 .left) in
-    search needs
-
--- src/overwritten.rt:139:17
 cast-t12 : tie.Need-cast-t12
 unfolding decode
 cast-t12 c =
     let l = writer-below _ _ _ _ _ refl (c .before .before .before .before .over-reader .ensures) (c .before .before .over-writer .ensures) (c .before .before .before .if1 .left) in
     search needs
 
--- src/overwritten.rt:140:26
+-- src/overwritten.rt:139:17
 cast-t13 : tie.Need-cast-t13
 unfolding decode
 cast-t13 c =
+    let l = writer-below _ _ _ _ _ refl (c .before .before .before .before .over-reader .ensures) (c .before .before .over-writer .ensures) (c .before .before .before .if1 .left) in
+    search needs
+
+-- src/overwritten.rt:140:26
+cast-t14 : tie.Need-cast-t14
+unfolding decode
+cast-t14 c =
     let s = c .before .before .before .before .before .before .before .before in
     let at = c .before in
     let d = byte-below _ _ (s .pre .1) _ _ _ _ refl (at .before .before .before .over-reader .ensures) (at .before .over-writer .ensures) (at .over-nth .ensures) (at .before .before .if1 .left) in
@@ -66,9 +66,9 @@ cast-t13 c =
     search needs
 
 -- src/overwritten.rt:140:15
-add-t14 : tie.Need-add-t14
+add-t15 : tie.Need-add-t15
 unfolding decode
-add-t14 c =
+add-t15 c =
     let s = c .before .before .before .before .before .before .before .before .before in
     let at = c .before .before in
     let d = byte-below _ _ (s .pre .1) _ _ _ _ refl (at .before .before .before .over-reader .ensures) (at .before .over-writer .ensures) (at .over-nth .ensures) (at .before .before .if1 .left) in
@@ -93,8 +93,8 @@ first-overwrite-spec =
     over-nth-requires
     cast-read-row
     read-row-requires
-    cast-t11
     cast-t12
     cast-t13
-    add-t14
+    cast-t14
+    add-t15
     returns-2)

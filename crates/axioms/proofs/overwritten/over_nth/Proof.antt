@@ -19,10 +19,10 @@ use Rattle.axioms.proofs.source_at.Reads as source-at-reads
 use Rattle.rows.proofs.bytes.read_row.Reads as read-row-reads
 
 abbrev Inv-loop : tie.InvT-loop
-Inv-loop rows p n src y z w s o r q k₀ k = (k ≤ PAIR) × (least k (overwritesNth (decode rows p n) (sourceIn src) y z) ≡ k)
+Inv-loop rows p mode n src y z w s o r q k₀ k = (k ≤ PAIR) × (least k (overwritesNth (decode rows p mode n) (sourceIn src) y z) ≡ k)
 
 abbrev μ-loop : tie.MeasureT-loop
-μ-loop rows p n src y z w s o r q k₀ k = PAIR - k
+μ-loop rows p mode n src y z w s o r q k₀ k = PAIR - k
 
 -- src/overwritten.rt:65:9
 may-overwrite-requires : tie.Need-may-overwrite-requires Inv-loop μ-loop

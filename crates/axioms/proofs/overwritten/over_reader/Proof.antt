@@ -14,10 +14,10 @@ use Rattle.axioms.proofs.overwritten.over_reader.Lts as lts
 use Rattle.axioms.proofs.overwritten.over_writer.Reads as over-writer-reads
 
 abbrev Inv-loop : tie.InvT-loop
-Inv-loop rows p n src w y₀ y = (y ≤ n) × (least y (isOverwritten (decode rows p n) (sourceIn src)) ≡ y)
+Inv-loop rows p mode n src w y₀ y = (y ≤ n) × (least y (isOverwritten (decode rows p mode n) (sourceIn src)) ≡ y)
 
 abbrev μ-loop : tie.MeasureT-loop
-μ-loop rows p n src w y₀ y = n - y
+μ-loop rows p mode n src w y₀ y = n - y
 
 -- src/overwritten.rt:111:5
 loop-holds : tie.Need-loop-holds Inv-loop μ-loop

@@ -14,10 +14,10 @@ use Rattle.axioms.proofs.overwritten.over_writer.Lts as lts
 use Rattle.axioms.proofs.overwritten.over_nth.Reads as over-nth-reads
 
 abbrev Inv-loop : tie.InvT-loop
-Inv-loop rows p n src y w z₀ z = (z ≤ n) × (least z (overwriting (decode rows p n) (sourceIn src) y) ≡ z)
+Inv-loop rows p mode n src y w z₀ z = (z ≤ n) × (least z (overwriting (decode rows p mode n) (sourceIn src) y) ≡ z)
 
 abbrev μ-loop : tie.MeasureT-loop
-μ-loop rows p n src y w z₀ z = n - z
+μ-loop rows p mode n src y w z₀ z = n - z
 
 -- src/overwritten.rt:98:5
 loop-holds : tie.Need-loop-holds Inv-loop μ-loop

@@ -33,7 +33,7 @@ writer-fits-requires c κs = search needs
 
 -- src/blanks.rt:60:9
 returns : tie.Need-returns
-returns c = unfit _ _ _ _ (fit-told _ _ _ _ _ _ _ (c .before .before .of-row .ensures) (c .before .writer-fits .ensures)) (not-true _ (c .if1 .taken))
+returns c = unfit _ _ _ _ (fit-told _ _ _ _ _ _ _ _ (c .before .before .of-row .ensures) (c .before .writer-fits .ensures)) (not-true _ (c .if1 .taken))
 
 -- src/blanks.rt:62:8
 some-miss-requires : tie.Need-some-miss-requires
@@ -43,7 +43,7 @@ some-miss-requires c κs = search needs
 returns-2 : tie.Need-returns-2
 returns-2 c =
     let at-fit = c .before .before .before in
-    let d = fit-told _ _ _ _ _ _ _ (at-fit .before .of-row .ensures) (at-fit .writer-fits .ensures) in
+    let d = fit-told _ _ _ _ _ _ _ _ (at-fit .before .of-row .ensures) (at-fit .writer-fits .ensures) in
     missed _ _ _ _ d _ (c .before .some-miss .ensures) (c .if2 .taken)
 
 -- src/blanks.rt:65:6
@@ -55,7 +55,7 @@ returns-3 : tie.Need-returns-3
 unfolding decode
 returns-3 c =
     let at-fit = c .before .before .before .before in
-    let d = fit-told _ _ _ _ _ _ _ (at-fit .before .of-row .ensures) (at-fit .writer-fits .ensures) in
+    let d = fit-told _ _ _ _ _ _ _ _ (at-fit .before .of-row .ensures) (at-fit .writer-fits .ensures) in
     fitting _ _ _ _ d _ (c .before .before .some-miss .ensures) (not-false _ (c .before .before .before .if1 .left)) (c .before .if2 .left) _ (c .some-between .ensures)
 
 pub candidate-at-spec : {M : Type 1} → statement M

@@ -15,10 +15,10 @@ use Rattle.choice.proofs.blanks.choose.Lts as lts
 use Rattle.choice.proofs.blanks.chosen_at.Reads as chosen-at-reads
 
 abbrev Inv-loop : tie.InvT-loop
-Inv-loop rows p n src w list₀ i₀ list i = (i ≤ n) × (length list ≡ SOURCES) × Listed (chosen (decode rows p n) (at src)) i list
+Inv-loop rows p mode n src w list₀ i₀ list i = (i ≤ n) × (length list ≡ SOURCES) × Listed (chosen (decode rows p mode n) (at src)) i list
 
 abbrev μ-loop : tie.MeasureT-loop
-μ-loop rows p n src w list₀ i₀ list i = n - i
+μ-loop rows p mode n src w list₀ i₀ list i = n - i
 
 -- src/blanks.rt:115:5
 loop-holds : tie.Need-loop-holds Inv-loop μ-loop

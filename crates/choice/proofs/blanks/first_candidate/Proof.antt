@@ -12,10 +12,10 @@ use Rattle.choice.proofs.blanks.first_candidate.Lts as lts
 use Rattle.choice.proofs.blanks.candidate_at.Reads as candidate-at-reads
 
 abbrev Inv-loop : tie.InvT-loop
-Inv-loop rows p n y w s₀ s = (s ≤ n) × (least s (candidate (decode rows p n) y) ≡ s)
+Inv-loop rows p mode n y w s₀ s = (s ≤ n) × (least s (candidate (decode rows p mode n) y) ≡ s)
 
 abbrev μ-loop : tie.MeasureT-loop
-μ-loop rows p n y w s₀ s = n - s
+μ-loop rows p mode n y w s₀ s = n - s
 
 -- src/blanks.rt:73:5
 loop-holds : tie.Need-loop-holds Inv-loop μ-loop

@@ -15,10 +15,10 @@ use Rattle.choice.proofs.blanks.misses_at.Reads as misses-at-reads
 use Rattle.rows.proofs.bytes.read_row.Reads as read-row-reads
 
 abbrev Inv-loop : tie.InvT-loop
-Inv-loop rows p n y s w r q k₀ k = (k ≤ LONGEST) × (anyBelow k (missesAt (decode rows p n) y s) ≡ false)
+Inv-loop rows p mode n y s w r q k₀ k = (k ≤ LONGEST) × (anyBelow k (missesAt (decode rows p mode n) y s) ≡ false)
 
 abbrev μ-loop : tie.MeasureT-loop
-μ-loop rows p n y s w r q k₀ k = LONGEST - k
+μ-loop rows p mode n y s w r q k₀ k = LONGEST - k
 
 -- src/blanks.rt:43:41
 cast-read-row : tie.Need-cast-read-row Inv-loop μ-loop

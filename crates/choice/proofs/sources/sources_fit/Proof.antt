@@ -4,7 +4,7 @@ use native.Mathlib.Omega.{arith}
 use mathlib.Core.Bool.{false}
 use mathlib.Core.List.{[]}
 use Rattle.finite.specs.Below.{anyBelow, any-none, any-in, any-more}
-use Rattle.model.specs.Table.{decode}
+use Rattle.model.specs.Table.{OFF, decode}
 use Rattle.choice.specs.Sources.{brokenIn, broken-some, broken-none}
 use borrow.Author.Needs.{needs}
 use Rattle.choice.proofs.sources.sources_fit.Statement.{statement}
@@ -14,7 +14,7 @@ use Rattle.choice.proofs.sources.sources_fit.Lts as lts
 use Rattle.choice.proofs.sources.is_broken.Reads as is-broken-reads
 
 abbrev Inv-loop : tie.InvT-loop
-Inv-loop rows n src i₀ i = (i ≤ n) × (anyBelow i (brokenIn (decode rows [] n) src) ≡ false)
+Inv-loop rows n src i₀ i = (i ≤ n) × (anyBelow i (brokenIn (decode rows [] OFF n) src) ≡ false)
 
 abbrev μ-loop : tie.MeasureT-loop
 μ-loop rows n src i₀ i = n - i
@@ -40,7 +40,7 @@ returns : tie.Need-returns Inv-loop μ-loop
 unfolding brokenIn
 returns c =
     let start = c .before .before .before .before .before .before .before in
-    broken-some _ _ _ (start .args .src .now) (any-in _ _ _ (c .before .before .before .loop-test .taken) (sym (c .before .is-broken .ensures) ∙ c .if1 .taken))
+    broken-some _ _ _ _ (start .args .src .now) (any-in _ _ _ (c .before .before .before .loop-test .taken) (sym (c .before .is-broken .ensures) ∙ c .if1 .taken))
 
 -- src/sources.rt:42:9
 add-i : tie.Need-add-i Inv-loop μ-loop
@@ -59,7 +59,7 @@ loop-again c = (search needs, any-more _ _ (c .before .before .before .before .l
 returns-2 : tie.Need-returns-2 Inv-loop μ-loop
 returns-2 c =
     let e : c .before .loop .i ≡ c .before .before .before .before .args .n = omega arith in
-    broken-none _ _ _ _ (rw e at (c .before .loop .inv .1))
+    broken-none _ _ _ _ _ (rw e at (c .before .loop .inv .1))
 
 pub sources-fit-spec : {M : Type 1} → statement M
 sources-fit-spec =

@@ -13,10 +13,10 @@ use Rattle.choice.proofs.writers.is_written.Lts as lts
 use Rattle.choice.proofs.writers.written_by.Reads as written-by-reads
 
 abbrev Inv-loop : tie.InvT-loop
-Inv-loop rows p n y w z₀ z = (z ≤ n) × (anyBelow z (writtenBy (decode rows p n) y) ≡ false)
+Inv-loop rows p mode n y w z₀ z = (z ≤ n) × (anyBelow z (writtenBy (decode rows p mode n) y) ≡ false)
 
 abbrev μ-loop : tie.MeasureT-loop
-μ-loop rows p n y w z₀ z = n - z
+μ-loop rows p mode n y w z₀ z = n - z
 
 -- src/writers.rt:35:5
 loop-holds : tie.Need-loop-holds Inv-loop μ-loop

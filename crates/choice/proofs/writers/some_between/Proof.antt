@@ -13,10 +13,10 @@ use Rattle.choice.proofs.writers.some_between.Lts as lts
 use Rattle.choice.proofs.writers.between_at.Reads as between-at-reads
 
 abbrev Inv-loop : tie.InvT-loop
-Inv-loop rows p n y s w z₀ z = (z ≤ n) × (anyBelow z (between (decode rows p n) y s) ≡ false)
+Inv-loop rows p mode n y s w z₀ z = (z ≤ n) × (anyBelow z (between (decode rows p mode n) y s) ≡ false)
 
 abbrev μ-loop : tie.MeasureT-loop
-μ-loop rows p n y s w z₀ z = n - z
+μ-loop rows p mode n y s w z₀ z = n - z
 
 -- src/writers.rt:118:5
 loop-holds : tie.Need-loop-holds Inv-loop μ-loop

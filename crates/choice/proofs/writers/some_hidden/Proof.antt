@@ -15,10 +15,10 @@ use Rattle.choice.proofs.writers.hides_at.Reads as hides-at-reads
 use Rattle.rows.proofs.bytes.read_row.Reads as read-row-reads
 
 abbrev Inv-loop : tie.InvT-loop
-Inv-loop rows p n y s z w r q v k₀ k = (k ≤ LONGEST) × (anyBelow k (hidesAt (decode rows p n) y s z) ≡ false)
+Inv-loop rows p mode n y s z w r q v k₀ k = (k ≤ LONGEST) × (anyBelow k (hidesAt (decode rows p mode n) y s z) ≡ false)
 
 abbrev μ-loop : tie.MeasureT-loop
-μ-loop rows p n y s z w r q v k₀ k = LONGEST - k
+μ-loop rows p mode n y s z w r q v k₀ k = LONGEST - k
 
 -- src/writers.rt:79:41
 cast-read-row : tie.Need-cast-read-row Inv-loop μ-loop

@@ -21,7 +21,7 @@ may-avail-requires c κs = search needs
 
 -- src/chains.rt:203:9
 returns : tie.Need-returns
-returns c = sym (carried-off _ _ _ _ _ _ _ _ (c .before .before .before .before .pre .5) (sym (c .before .may-avail .ensures) ∙ not-true _ (c .if1 .taken)))
+returns c = sym (carried-off _ _ _ _ _ _ _ _ _ (c .before .before .before .before .pre .5) (sym (c .before .may-avail .ensures) ∙ not-true _ (c .if1 .taken)))
 
 -- src/chains.rt:205:41
 cast-read-row : tie.Need-cast-read-row
@@ -57,7 +57,7 @@ unfolding _and_
 returns-2 c =
     let s = c .before .before .before .before .before .before .before .before .before in
     let k = c .before .before .before .available-part .ensures in
-    let e = carried-row _ _ _ _ _ _ _ _ _ _ _ _ _ (s .pre .5) (s .pre .6) (c .before .before .before .before .read-row .ensures) (k .0) (k .1) (c .before .before .available-at .ensures) (c .before .share-moment .ensures) in
+    let e = carried-row _ _ _ _ _ _ _ _ _ _ _ _ _ _ (s .pre .5) (s .pre .6) (c .before .before .before .before .read-row .ensures) (k .0) (k .1) (c .before .before .available-at .ensures) (c .before .share-moment .ensures) in
     sym (e ∙ and-false-left (c .before .before .available-at .result and c .before .share-moment .result) _ (not-true (c .before .before .available-at .result and c .before .share-moment .result) (c .if2 .taken)))
 
 -- src/chains.rt:210:5
@@ -72,7 +72,7 @@ unfolding _and_
 returns-3 c =
     let s = c .before .before .before .before .before .before .before .before .before .before in
     let k = c .before .before .before .before .available-part .ensures in
-    let e = carried-row _ _ _ _ _ _ _ _ _ _ _ _ _ (s .pre .5) (s .pre .6) (c .before .before .before .before .before .read-row .ensures) (k .0) (k .1) (c .before .before .before .available-at .ensures) (c .before .before .share-moment .ensures) in
+    let e = carried-row _ _ _ _ _ _ _ _ _ _ _ _ _ _ (s .pre .5) (s .pre .6) (c .before .before .before .before .before .read-row .ensures) (k .0) (k .1) (c .before .before .before .available-at .ensures) (c .before .before .share-moment .ensures) in
     c .met-at .ensures ∙ sym (e ∙ and-on (c .before .before .before .available-at .result and c .before .before .share-moment .result) _ (not-false (c .before .before .before .available-at .result and c .before .before .share-moment .result) (c .before .if2 .left)))
 
 pub carried-in-spec : {M : Type 1} → statement M

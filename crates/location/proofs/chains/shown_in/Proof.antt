@@ -25,7 +25,7 @@ returns c =
     let s = c .before .before .before .before in
     let h = s .pre .8 .happening .cell in
     sym
-    (shown-off _ _ _ _ _ _ _ _ _ _ _ (s .pre .7) (h _ _ (s .pre .4) (omega arith)) (h _ _ (s .pre .4) (omega arith))
+    (shown-off _ _ _ _ _ _ _ _ _ _ _ _ (s .pre .7) (h _ _ (s .pre .4) (omega arith)) (h _ _ (s .pre .4) (omega arith))
     (sym (c .before .may-see .ensures) ∙ not-true _ (c .if1 .taken)))
 
 -- src/chains.rt:120:41
@@ -67,7 +67,7 @@ returns-2 c =
     let s = c .before .before .before .before .before .before .before .before .before in
     let k = c .before .before .before .visible-part .ensures in
     let h = c .happens-bit .ensures ∙ s .pre .8 .happening .cell _ _ (s .pre .4) (omega arith) in
-    shown-row _ _ _ _ _ _ _ _ _ _ _ _ _ _ _ (s .pre .6) (s .pre .7) (c .before .before .before .before .read-row .ensures) (k .0) (k .1) (c .before .before .visible-at .ensures) (c .before .share-moment .ensures) h
+    shown-row _ _ _ _ _ _ _ _ _ _ _ _ _ _ _ _ (s .pre .6) (s .pre .7) (c .before .before .before .before .read-row .ensures) (k .0) (k .1) (c .before .before .visible-at .ensures) (c .before .share-moment .ensures) h
 
 pub shown-in-spec : {M : Type 1} → statement M
 shown-in-spec =

@@ -14,14 +14,14 @@ use Rattle.location.proofs.chains.some_carried.Lts as lts
 use Rattle.location.proofs.chains.carried_in.Reads as carried-in-reads
 
 abbrev Inv-loop : tie.InvT-loop
-Inv-loop rows p n x y r q b w i₀ i = (i ≤ n) × (anyBelow i (ofRow (carried (decode rows p n) x y b)) ≡ false)
+Inv-loop rows p mode n x y r q b w i₀ i = (i ≤ n) × (anyBelow i (ofRow (carried (decode rows p mode n) x y b)) ≡ false)
 
 abbrev μ-loop : tie.MeasureT-loop
-μ-loop rows p n x y r q b w i₀ i = n - i
+μ-loop rows p mode n x y r q b w i₀ i = n - i
 
 -- src/chains.rt:229:5
 loop-holds : tie.Need-loop-holds Inv-loop μ-loop
-loop-holds c = (search needs, carried-low _ _ _ _ _ _)
+loop-holds c = (search needs, carried-low _ _ _ _ _ _ _)
 
 -- src/chains.rt:230:12
 carried-in-requires : tie.Need-carried-in-requires Inv-loop μ-loop

@@ -14,10 +14,10 @@ use Rattle.location.proofs.chains.some_shown.Lts as lts
 use Rattle.location.proofs.chains.shown_in.Reads as shown-in-reads
 
 abbrev Inv-loop : tie.InvT-loop
-Inv-loop rows p n x y r q b c w j₀ j-end j = (j ≤ y + 1) × (anyBelow j (ofRow (shown (decode rows p n) x y b c)) ≡ false)
+Inv-loop rows p mode n x y r q b c w j₀ j-end j = (j ≤ y + 1) × (anyBelow j (ofRow (shown (decode rows p mode n) x y b c)) ≡ false)
 
 abbrev μ-loop : tie.MeasureT-loop
-μ-loop rows p n x y r q b c w j₀ j-end j = y + 1 - j
+μ-loop rows p mode n x y r q b c w j₀ j-end j = y + 1 - j
 
 -- src/chains.rt:142:17
 add-j-end : tie.Need-add-j-end Inv-loop μ-loop
@@ -51,7 +51,7 @@ loop-again c = (search needs, any-more _ _ (c .before .before .before .loop .inv
 returns-2 : tie.Need-returns-2 Inv-loop μ-loop
 returns-2 c =
     let e : c .before .loop .j ≡ c .before .before .before .before .args .y + 1 = omega arith in
-    sym (shown-none _ _ _ _ _ _ _ (rw e at (c .before .loop .inv .1)))
+    sym (shown-none _ _ _ _ _ _ _ _ (rw e at (c .before .loop .inv .1)))
 
 pub some-shown-spec : {M : Type 1} → statement M
 some-shown-spec =

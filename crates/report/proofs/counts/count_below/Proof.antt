@@ -14,10 +14,10 @@ use Rattle.report.proofs.pairs.is_counted.Reads as is-counted-reads
 use Rattle.rows.proofs.bytes.read_row.Reads as read-row-reads
 
 abbrev Inv-loop : tie.InvT-loop
-Inv-loop c rows p n y w q count₀ x₀ count x = (x ≤ y) × (count ≤ x) × (count ≡ countBelow x (under (counts c (decode rows p n)) y))
+Inv-loop c rows p mode n y w q count₀ x₀ count x = (x ≤ y) × (count ≤ x) × (count ≡ countBelow x (under (counts c (decode rows p mode n)) y))
 
 abbrev μ-loop : tie.MeasureT-loop
-μ-loop c rows p n y w q count₀ x₀ count x = y - x
+μ-loop c rows p mode n y w q count₀ x₀ count x = y - x
 
 -- src/counts.rt:27:41
 cast-read-row : tie.Need-cast-read-row Inv-loop μ-loop

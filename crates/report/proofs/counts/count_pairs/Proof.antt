@@ -13,10 +13,10 @@ use Rattle.report.proofs.counts.count_pairs.Lts as lts
 use Rattle.report.proofs.counts.count_below.Reads as count-below-reads
 
 abbrev Inv-loop : tie.InvT-loop
-Inv-loop c rows p n w sum₀ y₀ sum y = (y ≤ n) × (sum ≤ y * ROWS) × (sum ≡ countPairs y (counts c (decode rows p n)))
+Inv-loop c rows p mode n w sum₀ y₀ sum y = (y ≤ n) × (sum ≤ y * ROWS) × (sum ≡ countPairs y (counts c (decode rows p mode n)))
 
 abbrev μ-loop : tie.MeasureT-loop
-μ-loop c rows p n w sum₀ y₀ sum y = n - y
+μ-loop c rows p mode n w sum₀ y₀ sum y = n - y
 
 -- src/counts.rt:43:5
 loop-holds : tie.Need-loop-holds Inv-loop μ-loop

@@ -16,10 +16,10 @@ use Rattle.report.proofs.pairs.all_ordered.Lts as lts
 use Rattle.report.proofs.pairs.ordered_nth.Reads as ordered-nth-reads
 
 abbrev Inv-loop : tie.InvT-loop
-Inv-loop rows p n x y r q w k₀ k = (k ≤ LONGEST) × (allBelow k (orderedNth (decode rows p n) x y) ≡ true)
+Inv-loop rows p mode n x y r q w k₀ k = (k ≤ LONGEST) × (allBelow k (orderedNth (decode rows p mode n) x y) ≡ true)
 
 abbrev μ-loop : tie.MeasureT-loop
-μ-loop rows p n x y r q w k₀ k = LONGEST - k
+μ-loop rows p mode n x y r q w k₀ k = LONGEST - k
 
 -- src/pairs.rt:58:5
 loop-holds : tie.Need-loop-holds Inv-loop μ-loop

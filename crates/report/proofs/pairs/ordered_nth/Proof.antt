@@ -1,7 +1,8 @@
-use Rattle.model.specs.Report.{orderedAt, orderedNth}
+use mathlib.Core.Path.{refl}
 use Rattle.model.specs.Table.{decode}
 use Rattle.finite.specs.Logic.{_or_}
 use borrow.Author.Needs.{needs}
+use Rattle.report.specs.Counts.{ordered-told}
 use Rattle.report.proofs.pairs.ordered_nth.Statement.{statement}
 use Rattle.report.proofs.pairs.ordered_nth.Tie as tie
 use Rattle.report.proofs.pairs.ordered_nth.Reads as reads
@@ -35,8 +36,10 @@ before-byte-requires-2 c κs = search needs
 
 -- src/pairs.rt:24:1
 returns : tie.Need-returns
-unfolding orderedNth orderedAt decode _or_
-returns c = cc
+unfolding decode _or_
+returns c =
+    let pre = c .before .before .before .before .before .before .pre in
+    ordered-told _ _ _ _ _ _ _ _ _ _ (pre .3) (pre .4) refl (c .before .before .common .ensures) (c .before .before-byte .ensures) (c .before-byte2 .ensures)
 
 pub ordered-nth-spec : {M : Type 1} → statement M
 ordered-nth-spec =

@@ -14,10 +14,10 @@ use Rattle.report.proofs.pairs.some_open.Lts as lts
 use Rattle.report.proofs.pairs.open_nth.Reads as open-nth-reads
 
 abbrev Inv-loop : tie.InvT-loop
-Inv-loop rows p n x y r q w k₀ k = (k ≤ LONGEST) × (least k (unorderedNth (decode rows p n) x y) ≡ k)
+Inv-loop rows p mode n x y r q w k₀ k = (k ≤ LONGEST) × (least k (unorderedNth (decode rows p mode n) x y) ≡ k)
 
 abbrev μ-loop : tie.MeasureT-loop
-μ-loop rows p n x y r q w k₀ k = LONGEST - k
+μ-loop rows p mode n x y r q w k₀ k = LONGEST - k
 
 -- src/pairs.rt:99:5
 loop-holds : tie.Need-loop-holds Inv-loop μ-loop

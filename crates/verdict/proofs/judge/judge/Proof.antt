@@ -29,9 +29,9 @@ show-cycle-requires c κs =
     (asked .0, pre .0, pre .1, asked .1, asked .2, asked .3)
 
 -- src/judge.rt:90:43
-cast-t19 : tie.Need-cast-t19
+cast-t20 : tie.Need-cast-t20
 unfolding decode
-cast-t19 c =
+cast-t20 c =
     let few = rows-few _ _ _ _ refl (start-found _ _ _ _ _ _ refl (c .before .before .before .before .before .before .before .before .before .before .before .before .before .before .fill-edges .ensures) (c .before .before .before .before .before .before .before .before .before .before .cycle-start .ensures .0)) (c .before .before .before .before .before .before .before .if1 .taken) in
     omega (arith, few, c .before .before .before .before .show-cycle .ensures .0, c .before .before .before .before .before .before .before .before .before .before .before .before .before .before .before .before .before .before .before .before .pre .3 .0)
 
@@ -75,7 +75,7 @@ judge-spec =
     fill-edges-requires
     cycle-start-requires
     show-cycle-requires
-    cast-t19
+    cast-t20
     same-length
     same-length-2
     returns

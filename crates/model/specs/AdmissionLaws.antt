@@ -15,13 +15,14 @@ use Rattle.model.specs.declared.Row.{Row}
 use Rattle.model.specs.declared.Admission.{Admission}
 use Rattle.model.specs.declared.Admission.the-variants.{Admitted, Refused}
 use Rattle.model.specs.Limits.{AGENTS, ROWS, LONGEST, BYTES}
-use Rattle.model.specs.Row.{RMW, BARRIER, CONTROL, access, barrier}
-use Rattle.model.specs.Table.{Table, HEADER, agentsAt, rowsAt, sizeOf, rowBytes, rowOf, sourceOf, tableOf, sourcesOf, decode}
-use Rattle.model.specs.Refusal.{headerFault, versionFits, limitsFit, lengthFits, codesFit, kindFits, barrierFits, extentFits, rowFault, classTaken, sourceBroken, rankTaken, instanceBroken, unfit, tableFault, faulty, firstFault, rowFaultAt, admission}
+use Rattle.model.specs.Row.{RMW, BARRIER, CONTROL, AVAILABLE-HOST, access, barrier, operation}
+use Rattle.model.specs.Scope.{agentKind}
+use Rattle.model.specs.Table.{Table, HEADER, agentsAt, rowsAt, hasHosts, sizeOf, rowBytes, rowOf, sourceOf, placesOf, tableOf, sourcesOf, decode}
+use Rattle.model.specs.Refusal.{headerFault, versionFits, limitsFit, lengthFits, agentsKnown, dependenciesFew, dependenciesNamed, hostsFault, agentFits, operationFits, formFault, codesFit, kindFits, barrierFits, extentFits, rowFault, classTaken, sourceBroken, rankTaken, instanceBroken, unfit, tableFault, faulty, firstFault, rowFaultAt, admission}
 
 -- ---- definitions
 
--- no refusal from 1 to 10, nor 14 or 15, holds
+-- no refusal from 1 to 10, nor from 14 to 20, holds
 pub record Sound (blanks : Bool) (s : List ℕ) : Type 0 where
   pub header : headerFault s ≡ 0
   pub row : (i : ℕ) → i < rowsAt s → rowFaultAt s i ≡ 0
@@ -99,18 +100,51 @@ admitted-sound blanks s {a} {r} e = go (which (eqb (headerFault s) 0))
 
 -- ---- a fault number that is 0: every test of its cascade passed
 
-header-passed : (a b c d : Bool) → _≡_ {A = ℕ} (cond a (cond b (cond c (cond d 0 4) 3) 2) 1) 0 → (c ≡ true) × (d ≡ true)
-header-passed true true true true e = (refl, refl)
-header-passed true true true false e = absurd (omega arith)
-header-passed true true false d e = absurd (omega arith)
-header-passed true false c d e = absurd (omega arith)
-header-passed false b c d e = absurd (omega arith)
+header-passed : (a b c d : Bool) (n : ℕ) → _≡_ {A = ℕ} (cond a (cond b (cond c (cond d n 4) 3) 2) 1) 0 → (b ≡ true) × (c ≡ true) × (d ≡ true) × (n ≡ 0)
+header-passed true true true true n e = (refl, refl, refl, e)
+header-passed true true true false n e = absurd (omega arith)
+header-passed true true false d n e = absurd (omega arith)
+header-passed true false c d n e = absurd (omega arith)
+header-passed false b c d n e = absurd (omega arith)
 
-row-passed : (a b c : Bool) → _≡_ {A = ℕ} (cond a (cond b (cond c 0 7) 6) 5) 0 → (a ≡ true) × (b ≡ true) × (c ≡ true)
-row-passed true true true e = (refl, refl, refl)
-row-passed true true false e = absurd (omega arith)
-row-passed true false c e = absurd (omega arith)
-row-passed false b c e = absurd (omega arith)
+hosts-passed : (a b c : Bool) → _≡_ {A = ℕ} (cond a (cond b (cond c 0 18) 17) 16) 0 → (a ≡ true) × (b ≡ true) × (c ≡ true)
+hosts-passed true true true e = (refl, refl, refl)
+hosts-passed true true false e = absurd (omega arith)
+hosts-passed true false c e = absurd (omega arith)
+hosts-passed false b c e = absurd (omega arith)
+
+row-passed : (a b : Bool) (n : ℕ) → _≡_ {A = ℕ} (cond a (cond b n 19) 5) 0 → (a ≡ true) × (b ≡ true) × (n ≡ 0)
+row-passed true true n e = (refl, refl, e)
+row-passed true false n e = absurd (omega arith)
+row-passed false b n e = absurd (omega arith)
+
+form-passed : (a b c d : Bool) → _≡_ {A = ℕ} (cond a (cond b 0 20) (cond c (cond d 0 7) 6)) 0 → ((a ≡ true) × (b ≡ true)) ⊎ ((a ≡ false) × (c ≡ true) × (d ≡ true))
+form-passed true true c d e = inl (refl, refl)
+form-passed true false c d e = absurd (omega arith)
+form-passed false b true true e = inr (refl, refl, refl)
+form-passed false b true false e = absurd (omega arith)
+form-passed false b false d e = absurd (omega arith)
+
+-- an operation is no access and no barrier
+operation-kind : (r : Row) → operation r ≡ true → AVAILABLE-HOST ≤ r .kind
+unfolding operation
+operation-kind r e = leb-true AVAILABLE-HOST (r .kind) (split e .0)
+
+access-kind : (r : Row) → access r ≡ true → r .kind ≤ RMW
+unfolding access
+access-kind r e = leb-true (r .kind) RMW e
+
+barrier-kind : (r : Row) → barrier r ≡ true → r .kind ≤ CONTROL
+unfolding barrier
+barrier-kind r e =
+    ⊎-elim (λ a. let k = eqb-true (r .kind) BARRIER a in omega arith) (λ a. let k = eqb-true (r .kind) CONTROL a in omega arith)
+    (or-cases (eqb (r .kind) BARRIER) (eqb (r .kind) CONTROL) e)
+
+pub access-no-operation : (r : Row) → access r ≡ true → operation r ≡ true → ⊥
+access-no-operation r a o = let k = access-kind r a in let m = operation-kind r o in omega arith
+
+barrier-no-operation : (r : Row) → barrier r ≡ true → operation r ≡ true → ⊥
+barrier-no-operation r a o = let k = barrier-kind r a in let m = operation-kind r o in omega arith
 
 table-passed : (a b c d e : Bool) → _≡_ {A = ℕ} (cond a 8 (cond b 9 (cond c 10 (cond d 14 (cond e 15 0))))) 0
     → (a ≡ false) × (b ≡ false) × (c ≡ false) × (d ≡ false) × (e ≡ false)
@@ -122,9 +156,17 @@ table-passed false false false false true q = absurd (omega arith)
 table-passed false false false false false q = (refl, refl, refl, refl, refl)
 
 module _ {blanks : Bool} {s : List ℕ} (h : Sound blanks s) where
-  limits : (limitsFit s ≡ true) × (lengthFits s ≡ true)
+  header-right : (versionFits s ≡ true) × (limitsFit s ≡ true) × (lengthFits s ≡ true) × (hostsFault s ≡ 0)
   unfolding headerFault
-  limits = header-passed (leb HEADER (length s)) (versionFits s) (limitsFit s) (lengthFits s) (h .header)
+  header-right = header-passed (leb HEADER (length s)) (versionFits s) (limitsFit s) (lengthFits s) (hostsFault s) (h .header)
+
+  limits : (limitsFit s ≡ true) × (lengthFits s ≡ true)
+  limits = (header-right .1, header-right .2)
+
+  -- 16, 17, 18
+  pub hosts-right : (agentsKnown s ≡ true) × (dependenciesFew s ≡ true) × (dependenciesNamed s ≡ true)
+  unfolding hostsFault
+  hosts-right = hosts-passed (agentsKnown s) (dependenciesFew s) (dependenciesNamed s) (header-right .3)
 
   pub agents-fit : agentsAt s ≤ AGENTS
   unfolding limitsFit
@@ -134,18 +176,33 @@ module _ {blanks : Bool} {s : List ℕ} (h : Sound blanks s) where
   unfolding limitsFit
   rows-fit = leb-true (rowsAt s) ROWS (split (limits .0) .1)
 
-  pub length-is : length s ≡ sizeOf (agentsAt s) (rowsAt s)
+  pub length-is : length s ≡ sizeOf s
   unfolding lengthFits
-  length-is = eqb-true (length s) (sizeOf (agentsAt s) (rowsAt s)) (split (limits .1) .1)
+  length-is = eqb-true (length s) (sizeOf s) (split (limits .1) .1)
 
   module _ (i : ℕ) (l : i < rowsAt s) where
     abbrev r : Row
     r = rowOf (rowBytes s) i
 
-    -- 5, 6, 7
-    pub row-right : (codesFit (agentsAt s) r ≡ true) × (kindFits r (sourceOf (rowBytes s) i) ≡ true) × (extentFits r ≡ true)
+    -- 5, 19
+    pub row-right : (codesFit (hasHosts s) (agentsAt s) r ≡ true) × (agentFits (agentKind (placesOf s) (r .agent)) r ≡ true) × (formFault r (sourceOf (rowBytes s) i) ≡ 0)
     unfolding rowFaultAt rowFault
-    row-right = row-passed (codesFit (agentsAt s) r) (kindFits r (sourceOf (rowBytes s) i)) (extentFits r) (h .row i l)
+    row-right = row-passed (codesFit (hasHosts s) (agentsAt s) r) (agentFits (agentKind (placesOf s) (r .agent)) r) (formFault r (sourceOf (rowBytes s) i)) (h .row i l)
+
+    -- 20; or 6 and 7
+    pub form-right : ((operation r ≡ true) × (operationFits r (sourceOf (rowBytes s) i) ≡ true))
+        ⊎ ((operation r ≡ false) × (kindFits r (sourceOf (rowBytes s) i) ≡ true) × (extentFits r ≡ true))
+    unfolding formFault
+    form-right = form-passed (operation r) (operationFits r (sourceOf (rowBytes s) i)) (kindFits r (sourceOf (rowBytes s) i)) (extentFits r) (row-right .2)
+
+    -- 6, 7 of a row that is no operation
+    pub kind-right : (operation r ≡ true → ⊥) → (kindFits r (sourceOf (rowBytes s) i) ≡ true) × (extentFits r ≡ true)
+    kind-right n = ⊎-elim (λ o. absurd (n (o .0))) (λ k. (k .1, k .2)) form-right
+
+    -- an operation has no bytes
+    operation-size : operation r ≡ true → r .size ≡ 0
+    unfolding operationFits
+    operation-size o = ⊎-elim (λ f. eqb-true (r .size) 0 (split (split (split (split (split (f .1) .0) .0) .0) .0) .1)) (λ k. not-both o (k .0)) form-right
 
     -- 8, 9, 10, 14, 15
     pub among-right : (classTaken (tableOf s) i ≡ false) × (sourceBroken blanks (tableOf s) (sourcesOf s) i ≡ false) × (rankTaken (tableOf s) i ≡ false)
@@ -161,31 +218,36 @@ module _ {blanks : Bool} {s : List ℕ} (h : Sound blanks s) where
     access-size a =
         ⊎-elim (λ n. not-both a (not-out (access r) n))
         (λ t. (leb-true 1 (r .size) (split (split t .0) .0), leb-true (r .size) LONGEST (split (split t .0) .1)))
-        (or-cases (not (access r)) (leb 1 (r .size) and leb (r .size) LONGEST and leb (r .start + r .size) BYTES) (split (row-right .2) .0))
+        (or-cases (not (access r)) (leb 1 (r .size) and leb (r .size) LONGEST and leb (r .start + r .size) BYTES) (split (kind-right (access-no-operation r a) .1) .0))
 
     -- and they end where a byte's number does
     pub access-end : access r ≡ true → r .start + r .size ≤ BYTES
     unfolding extentFits
     access-end a =
         ⊎-elim (λ n. not-both a (not-out (access r) n)) (λ t. leb-true (r .start + r .size) BYTES (split t .1))
-        (or-cases (not (access r)) (leb 1 (r .size) and leb (r .size) LONGEST and leb (r .start + r .size) BYTES) (split (row-right .2) .0))
+        (or-cases (not (access r)) (leb 1 (r .size) and leb (r .size) LONGEST and leb (r .start + r .size) BYTES) (split (kind-right (access-no-operation r a) .1) .0))
 
     barrier-size : barrier r ≡ true → r .size ≡ 0
     unfolding kindFits barrierFits
     barrier-size b =
-        ⊎-elim (λ n. not-both b (not-out (barrier r) n)) (λ t. eqb-true (r .size) 0 (split (split t .0) .1)) (or-cases (not (barrier r)) _ (split (split (split (split (row-right .1) .0) .0) .0) .1))
+        ⊎-elim (λ n. not-both b (not-out (barrier r) n)) (λ t. eqb-true (r .size) 0 (split (split t .0) .1)) (or-cases (not (barrier r)) _ (split (split (split (split (kind-right (barrier-no-operation r b) .0) .0) .0) .0) .1))
 
     -- so no row has more than LONGEST bytes
     pub size-fits : r .size ≤ LONGEST
     unfolding codesFit access barrier
     size-fits = ⊎-elim (λ a. access-size a .1) (λ n. other (leb-false (r .kind) RMW n)) (which (leb (r .kind) RMW))
       where
+        none : r .size ≡ 0 → r .size ≤ LONGEST
+        none e = omega arith
+
         kinds : r .kind ≤ CONTROL → RMW < r .kind → Dec (r .kind ≡ BARRIER) → (eqb (r .kind) BARRIER or eqb (r .kind) CONTROL) ≡ true
         kinds k n (yes e) = or-left _ (eq-eqb (r .kind) BARRIER e)
         kinds k n (no e) = or-right _ (eq-eqb (r .kind) CONTROL (omega arith))
 
+        old : RMW < r .kind → leb (r .kind) CONTROL ≡ true → r .size ≤ LONGEST
+        old n k = none (barrier-size (kinds (leb-true (r .kind) CONTROL k) n (ℕ-discrete (r .kind) BARRIER)))
+
         other : RMW < r .kind → r .size ≤ LONGEST
         other n =
-            let k : r .kind ≤ CONTROL = leb-true (r .kind) CONTROL (split (split (split (split (split (split (row-right .0) .0) .0) .0) .0) .0) .0) in
-            let e : r .size ≡ 0 = barrier-size (kinds k n (ℕ-discrete (r .kind) BARRIER)) in
-            omega arith
+            ⊎-elim (old n) (λ o. none (operation-size (split o .1)))
+            (or-cases (leb (r .kind) CONTROL) (hasHosts s and operation r) (split (split (split (split (split (split (row-right .0) .0) .0) .0) .0) .0) .0))

@@ -12,17 +12,18 @@ use lib.Seq.{ext-getD}
 use lib.Dec.{ltb, leb, eqb}
 use borrow.Author.Tests.{eqb-true, eqb-false, eq-eqb, ne-eqb, ltb-true, lt-ltb, le-ltb, leb-true, le-leb}
 use Rattle.finite.specs.Logic.{_and_, _or_, split, and-true, or-cases, or-left, or-right, which, not-both, not-so, not-in, not-out}
+use Rattle.finite.specs.Below.{any-cong}
 use Rattle.finite.specs.Lists.{tabulate, length-tabulate, getD-tabulate}
 use Rattle.model.specs.declared.Row.{Row}
 use Rattle.model.specs.declared.Admission.the-variants.{Admitted}
 use Rattle.model.specs.Limits.{INITIAL, BLANK, ROWS}
-use Rattle.model.specs.Row.{plainRead, reads}
-use Rattle.model.specs.Table.{Table, HEADER, ROW-BYTES, pairAt, quadAt, countAt, versionAt, zeroAt, agentsAt, rowsAt, rowsBegin, sizeOf, rowBytes, byteOf, pairOf, rowOf, sourceOf, decode, tableOf, sourcesOf}
-use Rattle.model.specs.Refusal.{versionFits, limitsFit, lengthFits, headerFault, kindFits, rowFault, rowFaultAt, sourceBroken, tableFault}
+use Rattle.model.specs.Row.{PLAIN-READ, ATOMIC-READ, RMW, access, plainRead, reads, operation}
+use Rattle.model.specs.Table.{Table, HEADER, ROW-BYTES, pairAt, quadAt, countAt, versionAt, zeroAt, agentsAt, rowsAt, hasHosts, placesOf, rowsBegin, rowsEnd, sizeOf, rowBytes, byteOf, pairOf, rowOf, sourceOf, decode, tableOf, sourcesOf}
+use Rattle.model.specs.Refusal.{versionFits, limitsFit, lengthFits, kindOver, agentsKnown, dependenciesFew, namesNone, dependenciesNamed, hostsFault, headerFault, kindFits, formFault, rowFault, rowFaultAt, sourceBroken, tableFault}
 use Rattle.model.specs.Fill.{blank, chosen}
 use Rattle.model.specs.Words.{blankAt, sourceBegin, Filling}
-use Rattle.model.specs.AdmissionLaws.{Sound, length-is, rows-fit, among-right}
-use Rattle.model.specs.FillingLaws.{head-kept, agents-kept, rows-kept, row-kept, source-kept, table-kept, bytes-at, bytes-past, pair-is}
+use Rattle.model.specs.AdmissionLaws.{Sound, length-is, rows-fit, among-right, access-no-operation}
+use Rattle.model.specs.FillingLaws.{begin-header, head-kept, version-kept, hosts-kept, agents-kept, rows-kept, begin-kept, places-kept, row-kept, end-kept, rows-end-kept, count-kept, from-kept, to-kept, source-kept, table-kept, bytes-at, bytes-past, pair-is}
 
 -- ---- definitions
 
@@ -37,7 +38,7 @@ rowByte s source i j old = cond (ltb i (rowsAt s) and blankAt s i) (cond (eqb j 
 -- byte k of the table, filled from the sources
 unfoldable pub filledByte : List ℕ → (ℕ → ℕ) → ℕ → ℕ
 filledByte s source k =
-    let b = rowsBegin (agentsAt s) in cond (ltb k b) (getD s k 0) (rowByte s source ((k - b) / ROW-BYTES) ((k - b) % ROW-BYTES) (getD s k 0))
+    let b = rowsBegin s in cond (ltb k b) (getD s k 0) (rowByte s source ((k - b) / ROW-BYTES) ((k - b) % ROW-BYTES) (getD s k 0))
 
 unfoldable pub filledBytes : List ℕ → (ℕ → ℕ) → List ℕ
 filledBytes s source = tabulate (filledByte s source) (length s)
@@ -73,14 +74,14 @@ module _ {s f g : List ℕ} (ff : Filling s f) (fg : Filling s g) (same : (i : �
   unfolding sourcesOf sourceOf
   source-bytes i l =
       halves _ _ _ _
-      (subst (λ (z : ℕ). z < 256) (sym (bytes-at s f i 13 (agents-kept ff) (rows-kept ff) l (omega arith))) (ff .bytes _))
-      (subst (λ (z : ℕ). z < 256) (sym (bytes-at s g i 13 (agents-kept fg) (rows-kept fg) l (omega arith))) (fg .bytes _))
+      (subst (λ (z : ℕ). z < 256) (sym (bytes-at s f i 13 (begin-kept ff) (rows-kept ff) l (omega arith))) (ff .bytes _))
+      (subst (λ (z : ℕ). z < 256) (sym (bytes-at s g i 13 (begin-kept fg) (rows-kept fg) l (omega arith))) (fg .bytes _))
       (sym (pair-is (rowBytes f) i 12) ∙ same i l ∙ pair-is (rowBytes g) i 12)
 
   byte-same : (i j : ℕ) → i < rowsAt s → (j ≡ 12) ⊎ (j ≡ 13)
-      → getD f (rowsBegin (agentsAt s) + (i * ROW-BYTES + j)) 0 ≡ getD g (rowsBegin (agentsAt s) + (i * ROW-BYTES + j)) 0
-  byte-same i j l (inl e) = rw e (sym (bytes-at s f i 12 (agents-kept ff) (rows-kept ff) l (omega arith)) ∙ source-bytes i l .0 ∙ bytes-at s g i 12 (agents-kept fg) (rows-kept fg) l (omega arith))
-  byte-same i j l (inr e) = rw e (sym (bytes-at s f i 13 (agents-kept ff) (rows-kept ff) l (omega arith)) ∙ source-bytes i l .1 ∙ bytes-at s g i 13 (agents-kept fg) (rows-kept fg) l (omega arith))
+      → getD f (rowsBegin s + (i * ROW-BYTES + j)) 0 ≡ getD g (rowsBegin s + (i * ROW-BYTES + j)) 0
+  byte-same i j l (inl e) = rw e (sym (bytes-at s f i 12 (begin-kept ff) (rows-kept ff) l (omega arith)) ∙ source-bytes i l .0 ∙ bytes-at s g i 12 (begin-kept fg) (rows-kept fg) l (omega arith))
+  byte-same i j l (inr e) = rw e (sym (bytes-at s f i 13 (begin-kept ff) (rows-kept ff) l (omega arith)) ∙ source-bytes i l .1 ∙ bytes-at s g i 13 (begin-kept fg) (rows-kept fg) l (omega arith))
 
   -- a byte of no blank's source
   other-same : (k : ℕ) → ((i : ℕ) → i < rowsAt s → blankAt s i ≡ true → (k ≡ sourceBegin s i) ⊎ (k ≡ sourceBegin s i + 1) → ⊥) → getD f k 0 ≡ getD g k 0
@@ -91,7 +92,7 @@ module _ {s f g : List ℕ} (ff : Filling s f) (fg : Filling s g) (same : (i : �
   fillings-same = ext-getD 0 f g (ff .size ∙ sym (fg .size)) (λ k l. at k (decLt k b))
     where
       b : ℕ
-      b = rowsBegin (agentsAt s)
+      b = rowsBegin s
 
       row : ℕ → ℕ
       row k = (k - b) / ROW-BYTES
@@ -139,9 +140,20 @@ kind-any : (r : Row) (a b : ℕ) → reads r ≡ true → kindFits r a ≡ kindF
 unfolding kindFits _or_
 kind-any r a b e = rw e refl
 
-fault-any : (n : ℕ) (r : Row) (a b : ℕ) → reads r ≡ true → rowFault n r a ≡ rowFault n r b
+reads-accesses : (r : Row) → reads r ≡ true → access r ≡ true
+unfolding reads access
+reads-accesses r e =
+    ⊎-elim (λ f. ⊎-elim (λ g. let k = eqb-true (r .kind) PLAIN-READ g in le-leb (r .kind) RMW (omega arith)) (λ g. let k = eqb-true (r .kind) ATOMIC-READ g in le-leb (r .kind) RMW (omega arith)) (or-cases (eqb (r .kind) PLAIN-READ) (eqb (r .kind) ATOMIC-READ) f))
+    (λ f. let k = eqb-true (r .kind) RMW f in le-leb (r .kind) RMW (omega arith))
+    (or-cases (eqb (r .kind) PLAIN-READ or eqb (r .kind) ATOMIC-READ) (eqb (r .kind) RMW) e)
+
+form-any : (r : Row) (a b : ℕ) → reads r ≡ true → formFault r a ≡ formFault r b
+unfolding formFault
+form-any r a b e = rw (not-so (operation r) (access-no-operation r (reads-accesses r e)), kind-any r a b e) refl
+
+fault-any : (hosts : Bool) (p : List (List ℕ)) (n : ℕ) (r : Row) (a b : ℕ) → reads r ≡ true → rowFault hosts p n r a ≡ rowFault hosts p n r b
 unfolding rowFault
-fault-any n r a b e = rw (kind-any r a b e) refl
+fault-any hosts p n r a b e = rw (form-any r a b e) refl
 
 blank-reads : (s : List ℕ) (i : ℕ) → blankAt s i ≡ true → reads (rowOf (rowBytes s) i) ≡ true
 unfolding blankAt blank tableOf decode plainRead reads
@@ -149,18 +161,68 @@ blank-reads s i e = or-left _ (or-left _ (split e .0))
 
 module _ {s f : List ℕ} (fl : Filling s f) where
   pair-head : (k : ℕ) → k + 1 < HEADER → pairAt f k ≡ pairAt s k
-  unfolding pairAt rowsBegin
-  pair-head k l = rw (head-kept fl k (omega arith), head-kept fl (k + 1) (omega arith)) refl
+  unfolding pairAt
+  pair-head k l = let b = begin-header s in rw (head-kept fl k (omega arith), head-kept fl (k + 1) (omega arith)) refl
+
+  -- 2, 3, 4
+  version-fits-kept : versionFits f ≡ versionFits s
+  unfolding versionFits zeroAt
+  version-fits-kept = let b = begin-header s in rw (version-kept fl, head-kept fl 7 (omega arith)) refl
+
+  limits-kept : limitsFit f ≡ limitsFit s
+  unfolding limitsFit
+  limits-kept = rw (agents-kept fl, rows-kept fl) refl
+
+  end-pair-kept : pairAt f (rowsEnd s) ≡ pairAt s (rowsEnd s)
+  unfolding pairAt
+  end-pair-kept = rw (end-kept fl (rowsEnd s) (omega arith), end-kept fl (rowsEnd s + 1) (omega arith)) refl
+
+  size-kept : sizeOf f ≡ sizeOf s
+  unfolding sizeOf
+  size-kept = rw (hosts-kept fl, rows-end-kept fl, end-pair-kept) refl
+
+  count-at-kept : countAt f ≡ countAt s
+  unfolding countAt quadAt
+  count-at-kept = rw (pair-head 0 (omega arith), pair-head 2 (omega arith)) refl
+
+  length-kept : lengthFits f ≡ lengthFits s
+  unfolding lengthFits
+  length-kept = rw (count-at-kept, fl .size, size-kept) refl
+
+  -- 16, 17, 18
+  over-kept : (a : ℕ) → kindOver f a ≡ kindOver s a
+  unfolding kindOver
+  over-kept a = rw (places-kept fl) refl
+
+  known-kept : agentsKnown f ≡ agentsKnown s
+  unfolding agentsKnown
+  known-kept = rw (agents-kept fl) (ap not (any-cong (kindOver f) (kindOver s) (agentsAt s) (λ a l. over-kept a)))
+
+  few-kept : dependenciesFew f ≡ dependenciesFew s
+  unfolding dependenciesFew
+  few-kept = rw (count-kept fl) refl
+
+  none-kept : (k : ℕ) → namesNone f k ≡ namesNone s k
+  unfolding namesNone
+  none-kept k = rw (rows-kept fl, from-kept fl k, to-kept fl k) refl
+
+  named-kept : dependenciesNamed f ≡ dependenciesNamed s
+  unfolding dependenciesNamed
+  named-kept = rw (count-kept fl) (ap not (any-cong (namesNone f) (namesNone s) _ (λ k l. none-kept k)))
+
+  hosts-fault-kept : hostsFault f ≡ hostsFault s
+  unfolding hostsFault
+  hosts-fault-kept = rw (known-kept, few-kept, named-kept) refl
 
   header-kept : headerFault f ≡ headerFault s
-  unfolding headerFault versionFits limitsFit lengthFits versionAt zeroAt countAt quadAt rowsBegin
-  header-kept = rw (fl .size, head-kept fl 4 (omega arith), head-kept fl 7 (omega arith), agents-kept fl, rows-kept fl, pair-head 0 (omega arith), pair-head 2 (omega arith)) refl
+  unfolding headerFault
+  header-kept = rw (fl .size, version-fits-kept, limits-kept, length-kept, hosts-fault-kept) refl
 
   row-fault-kept : (i : ℕ) → rowFaultAt f i ≡ rowFaultAt s i
   unfolding rowFaultAt sourcesOf
   row-fault-kept i =
-      rw (agents-kept fl, row-kept fl i)
-      (⊎-elim (λ e. fault-any (agentsAt s) (rowOf (rowBytes s) i) (sourceOf (rowBytes f) i) (sourceOf (rowBytes s) i) (blank-reads s i e)) (λ n. rw (source-kept fl i n) refl) (which (blankAt s i)))
+      rw (hosts-kept fl, places-kept fl, agents-kept fl, row-kept fl i)
+      (⊎-elim (λ e. fault-any (hasHosts s) (placesOf s) (agentsAt s) (rowOf (rowBytes s) i) (sourceOf (rowBytes f) i) (sourceOf (rowBytes s) i) (blank-reads s i e)) (λ n. rw (source-kept fl i n) refl) (which (blankAt s i)))
 
   -- the sources of a filling are those that a check admits
   abbrev pub Admits : Type 0
@@ -187,7 +249,7 @@ module _ {s f : List ℕ} (fl : Filling s f) where
 module _ (s : List ℕ) (bytes : Bytes s) (h : Sound true s) (source : ℕ → ℕ)
     (named : (i : ℕ) → i < rowsAt s → blankAt s i ≡ true → (source i ≡ INITIAL) ⊎ (source i < rowsAt s)) where
   abbrev begin : ℕ
-  begin = rowsBegin (agentsAt s)
+  begin = rowsBegin s
 
   abbrev f : List ℕ
   f = filledBytes s source
@@ -196,9 +258,18 @@ module _ (s : List ℕ) (bytes : Bytes s) (h : Sound true s) (source : ℕ → �
   unfolding filledBytes
   size = length-tabulate (filledByte s source) (length s)
 
-  long : length s ≡ begin + ROW-BYTES * rowsAt s
-  unfolding sizeOf
-  long = length-is h
+  long : begin + ROW-BYTES * rowsAt s ≤ length s
+  unfolding sizeOf rowsEnd
+  long = let e = length-is h in ⊎-elim (at-hosts e) (at-plain e) (which (hasHosts s))
+    where
+      n : ℕ
+      n = begin + ROW-BYTES * rowsAt s
+
+      at-hosts : length s ≡ cond (hasHosts s) (n + 2 + 4 * pairAt s n) n → hasHosts s ≡ true → n ≤ length s
+      at-hosts e b = let g : length s ≡ n + 2 + 4 * pairAt s n = rw b at e in omega arith
+
+      at-plain : length s ≡ cond (hasHosts s) (n + 2 + 4 * pairAt s n) n → hasHosts s ≡ false → n ≤ length s
+      at-plain e b = let g : length s ≡ n = rw b at e in omega arith
 
   inside-at : (k : ℕ) → k < length s → getD f k 0 ≡ filledByte s source k
   unfolding filledBytes
@@ -227,12 +298,12 @@ module _ (s : List ℕ) (bytes : Bytes s) (h : Sound true s) (source : ℕ → �
   unfolding rowByte
   byte-13 i l b old = rw (and-true (lt-ltb i (rowsAt s) l) b) refl
 
-  byte-other : (i j : ℕ) → ((blankAt s i ≡ true) → (j ≡ 12) ⊎ (j ≡ 13) → ⊥) → (old : ℕ) → rowByte s source i j old ≡ old
+  byte-other : (i j : ℕ) → (i < rowsAt s → blankAt s i ≡ true → (j ≡ 12) ⊎ (j ≡ 13) → ⊥) → (old : ℕ) → rowByte s source i j old ≡ old
   unfolding rowByte
-  byte-other i j n old = ⊎-elim (λ e. at (split e .1)) (λ e. rw e refl) (which (ltb i (rowsAt s) and blankAt s i))
+  byte-other i j n old = ⊎-elim (λ e. at (ltb-true i (rowsAt s) (split e .0)) (split e .1)) (λ e. rw e refl) (which (ltb i (rowsAt s) and blankAt s i))
     where
-      at : blankAt s i ≡ true → cond (ltb i (rowsAt s) and blankAt s i) (cond (eqb j 12) (source i / 256) (cond (eqb j 13) (source i % 256) old)) old ≡ old
-      at b = inner (ltb i (rowsAt s) and blankAt s i) (rw (ne-eqb j 12 (λ e. n b (inl e)), ne-eqb j 13 (λ e. n b (inr e))) refl)
+      at : i < rowsAt s → blankAt s i ≡ true → cond (ltb i (rowsAt s) and blankAt s i) (cond (eqb j 12) (source i / 256) (cond (eqb j 13) (source i % 256) old)) old ≡ old
+      at l b = inner (ltb i (rowsAt s) and blankAt s i) (rw (ne-eqb j 12 (λ e. n l b (inl e)), ne-eqb j 13 (λ e. n l b (inr e))) refl)
         where
           inner : (c : Bool) {x : ℕ} → x ≡ old → cond c x old ≡ old
           inner true e = e
@@ -241,33 +312,32 @@ module _ (s : List ℕ) (bytes : Bytes s) (h : Sound true s) (source : ℕ → �
   small : (i : ℕ) → i < rowsAt s → blankAt s i ≡ true → source i < 65536
   small i l b = let r = rows-fit h in ⊎-elim (λ e. omega arith) (λ m. omega arith) (named i l b)
 
-  -- a byte of a row, whichever it is
-  row-byte : (i j old : ℕ) → i < rowsAt s → old < 256 → rowByte s source i j old < 256
-  row-byte i j old l m = go (which (blankAt s i)) (ℕ-discrete j 12) (ℕ-discrete j 13)
+  -- a byte of a row or after the rows, whichever it is
+  row-byte : (i j old : ℕ) → old < 256 → rowByte s source i j old < 256
+  row-byte i j old m = go (decLt i (rowsAt s)) (which (blankAt s i)) (ℕ-discrete j 12) (ℕ-discrete j 13)
     where
-      go : (blankAt s i ≡ true) ⊎ (blankAt s i ≡ false) → Dec (j ≡ 12) → Dec (j ≡ 13) → rowByte s source i j old < 256
-      go (inr n) d e = rw (byte-other i j (λ b c. not-both b n) old) m
-      go (inl b) (yes e) d = let q = small i l b in rw (e, byte-12 i l b old) (omega arith)
-      go (inl b) (no n) (yes e) = rw (e, byte-13 i l b old) (omega arith)
-      go (inl b) (no n) (no k) = rw (byte-other i j (λ c d. ⊎-elim n k d) old) m
+      go : Dec (i < rowsAt s) → (blankAt s i ≡ true) ⊎ (blankAt s i ≡ false) → Dec (j ≡ 12) → Dec (j ≡ 13) → rowByte s source i j old < 256
+      go (no o) b d e = rw (byte-other i j (λ l b c. o l) old) m
+      go (yes l) (inr n) d e = rw (byte-other i j (λ l b c. not-both b n) old) m
+      go (yes l) (inl b) (yes e) d = let q = small i l b in rw (e, byte-12 i l b old) (omega arith)
+      go (yes l) (inl b) (no n) (yes e) = rw (e, byte-13 i l b old) (omega arith)
+      go (yes l) (inl b) (no n) (no k) = rw (byte-other i j (λ l c d. ⊎-elim n k d) old) m
 
   -- a byte by its place
   past-at : (k : ℕ) → length s ≤ k → getD f k 0 ≡ getD s k 0
   past-at k l = List·getD-eq-default f 0 (subst (λ (n : ℕ). n ≤ k) (sym size) l) ∙ sym (List·getD-eq-default s 0 l)
 
   place-at : (k : ℕ) → begin ≤ k → k < length s
-      → ((k - begin) / ROW-BYTES < rowsAt s) × (getD f k 0 ≡ rowByte s source ((k - begin) / ROW-BYTES) ((k - begin) % ROW-BYTES) (getD s k 0))
-  place-at k l m =
-      let e = long in
-      let r : (k - begin) / ROW-BYTES < rowsAt s = omega arith in
-      (r, subst (λ (z : ℕ). getD f z 0 ≡ rowByte s source ((k - begin) / ROW-BYTES) ((k - begin) % ROW-BYTES) (getD s z 0)) (sym (spot begin k l)) (row-at ((k - begin) / ROW-BYTES) ((k - begin) % ROW-BYTES) r (omega arith)))
+      → getD f k 0 ≡ rowByte s source ((k - begin) / ROW-BYTES) ((k - begin) % ROW-BYTES) (getD s k 0)
+  unfolding filledByte
+  place-at k l m = inside-at k m ∙ simp (le-ltb k begin l)
 
   byte-fits : (k : ℕ) → getD f k 0 < 256
   byte-fits k = go (decLt k begin) (decLt k (length s))
     where
       go : Dec (k < begin) → Dec (k < length s) → getD f k 0 < 256
       go (yes l) d = rw (head-at k l) (bytes k)
-      go (no l) (yes m) = let p = place-at k (omega arith) m in rw (p .1) (row-byte _ _ _ (p .0) (bytes k))
+      go (no l) (yes m) = rw (place-at k (omega arith) m) (row-byte _ _ _ (bytes k))
       go (no l) (no m) = rw (past-at k (omega arith)) (bytes k)
 
   byte-kept : (k : ℕ) → ((i : ℕ) → i < rowsAt s → blankAt s i ≡ true → (k ≡ sourceBegin s i) ⊎ (k ≡ sourceBegin s i + 1) → ⊥) → getD f k 0 ≡ getD s k 0
@@ -277,24 +347,24 @@ module _ (s : List ℕ) (bytes : Bytes s) (h : Sound true s) (source : ℕ → �
       go : Dec (k < begin) → Dec (k < length s) → getD f k 0 ≡ getD s k 0
       go (yes l) d = head-at k l
       go (no l) (yes m) =
-          let p = place-at k (omega arith) m in
-          p .1 ∙ byte-other ((k - begin) / ROW-BYTES) ((k - begin) % ROW-BYTES) (λ b c. n ((k - begin) / ROW-BYTES) (p .0) b (⊎-elim (λ e. inl (omega arith)) (λ e. inr (omega arith)) c)) (getD s k 0)
+          place-at k (omega arith) m
+          ∙ byte-other ((k - begin) / ROW-BYTES) ((k - begin) % ROW-BYTES) (λ r b c. n ((k - begin) / ROW-BYTES) r b (⊎-elim (λ e. inl (omega arith)) (λ e. inr (omega arith)) c)) (getD s k 0)
       go (no l) (no m) = past-at k (omega arith)
 
-  filled-agents : agentsAt f ≡ agentsAt s
-  unfolding agentsAt rowsBegin
-  filled-agents = head-at 5 (omega arith)
+  filled-begin : rowsBegin f ≡ rowsBegin s
+  unfolding rowsBegin hasHosts versionAt agentsAt
+  filled-begin = let b = begin-header s in rw (head-at 4 (omega arith), head-at 5 (omega arith)) refl
 
   filled-rows : rowsAt f ≡ rowsAt s
-  unfolding rowsAt rowsBegin
-  filled-rows = head-at 6 (omega arith)
+  unfolding rowsAt
+  filled-rows = let b = begin-header s in head-at 6 (omega arith)
 
   -- a blank gets its source
   pub filled-source : (i : ℕ) → i < rowsAt s → blankAt s i ≡ true → sourcesOf f i ≡ source i
   unfolding sourcesOf sourceOf
   filled-source i l b =
       pair-is (rowBytes f) i 12
-      ∙ ap₂ (λ (x y : ℕ). x * 256 + y) (bytes-at s f i 12 filled-agents filled-rows l (omega arith) ∙ row-at i 12 l (omega arith) ∙ byte-12 i l b _) (bytes-at s f i 13 filled-agents filled-rows l (omega arith) ∙ row-at i 13 l (omega arith) ∙ byte-13 i l b _)
+      ∙ ap₂ (λ (x y : ℕ). x * 256 + y) (bytes-at s f i 12 filled-begin filled-rows l (omega arith) ∙ row-at i 12 l (omega arith) ∙ byte-12 i l b _) (bytes-at s f i 13 filled-begin filled-rows l (omega arith) ∙ row-at i 13 l (omega arith) ∙ byte-13 i l b _)
       ∙ omega arith
 
   pub filled-filling : Filling s f

@@ -12,11 +12,12 @@ use lib.Seq.{getD-drop, getD-take}
 use lib.Dec.{ltb, leb, eqb}
 use borrow.Author.Tests.{eqb-true, leb-true, le-ltb}
 use Rattle.finite.specs.Logic.{_and_, _or_, split, which, not-both}
+use Rattle.finite.specs.Below.{any-cong}
 use Rattle.finite.specs.Lists.{tabulate, tabulate-cong}
 use Rattle.model.specs.declared.Row.{Row}
 use Rattle.model.specs.Limits.{AGENTS, INITIAL, BLANK}
 use Rattle.model.specs.Row.{PLAIN-READ, ATOMIC-READ, atomic, plainRead}
-use Rattle.model.specs.Table.{Table, HEADER, PLACE-BYTES, ROW-BYTES, pairAt, agentsAt, rowsAt, placeAt, slotAt, placesOf, COUNTED, versionAt, modeOf, rowsBegin, rowBytes, byteOf, pairOf, rowOf, sourceOf, atomicSource, decode, tableOf, sourcesOf}
+use Rattle.model.specs.Table.{Table, HEADER, PLACE-BYTES, HOSTS-PLACE-BYTES, DEPENDENCY-BYTES, ROW-BYTES, pairAt, versionAt, agentsAt, rowsAt, hasHosts, threeAt, fourAt, placeAt, slotAt, placesOf, rowsBegin, rowsEnd, rowBytes, dependencyBytes, byteOf, pairOf, rowOf, sourceOf, atomicSource, dependencyCount, dependencyFrom, dependencyTo, dependency, dependsOf, decode, tableOf, sourcesOf, modeOf, COUNTED}
 use Rattle.model.specs.Location.{before}
 use Rattle.model.specs.Race.{conflict, races, unordered}
 use Rattle.model.specs.Fill.{blank}
@@ -30,24 +31,36 @@ atomic-not-blank r a p =
     let l : ATOMIC-READ ≤ r .kind = leb-true ATOMIC-READ (r .kind) (split a .0) in
     omega arith
 
+-- where the rows begin
+pub begin-hosts : (s : List ℕ) → hasHosts s ≡ true → rowsBegin s ≡ HEADER + HOSTS-PLACE-BYTES * agentsAt s
+unfolding rowsBegin
+begin-hosts s e = rw e refl
+
+pub begin-plain : (s : List ℕ) → hasHosts s ≡ false → rowsBegin s ≡ HEADER + PLACE-BYTES * agentsAt s
+unfolding rowsBegin
+begin-plain s e = rw e refl
+
+pub begin-header : (s : List ℕ) → HEADER ≤ rowsBegin s
+begin-header s = ⊎-elim (λ e. let b = begin-hosts s e in omega arith) (λ e. let b = begin-plain s e in omega arith) (which (hasHosts s))
+
 -- byte k of row i, in the bytes of the table; past the rows there is none
 pub bytes-past : (g : List ℕ) (i k : ℕ) → rowsAt g ≤ i → byteOf (rowBytes g) i k ≡ 0
 unfolding byteOf rowBytes
 bytes-past g i k l =
-    let n = length-take (ROW-BYTES * rowsAt g) (drop (rowsBegin (agentsAt g)) g) in
-    List·getD-eq-default (take (ROW-BYTES * rowsAt g) (drop (rowsBegin (agentsAt g)) g)) 0 (omega arith)
+    let n = length-take (ROW-BYTES * rowsAt g) (drop (rowsBegin g) g) in
+    List·getD-eq-default (take (ROW-BYTES * rowsAt g) (drop (rowsBegin g) g)) 0 (omega arith)
 
-pub bytes-at : (s g : List ℕ) (i k : ℕ) → agentsAt g ≡ agentsAt s → rowsAt g ≡ rowsAt s → i < rowsAt s → k < ROW-BYTES
-    → byteOf (rowBytes g) i k ≡ getD g (rowsBegin (agentsAt s) + (i * ROW-BYTES + k)) 0
+pub bytes-at : (s g : List ℕ) (i k : ℕ) → rowsBegin g ≡ rowsBegin s → rowsAt g ≡ rowsAt s → i < rowsAt s → k < ROW-BYTES
+    → byteOf (rowBytes g) i k ≡ getD g (rowsBegin s + (i * ROW-BYTES + k)) 0
 unfolding byteOf rowBytes
 bytes-at s g i k e r l m =
     rw (e, r)
-    (getD-take (ROW-BYTES * rowsAt s) (drop (rowsBegin (agentsAt s)) g) (i * ROW-BYTES + k) 0 (omega arith)
-    ∙ getD-drop (rowsBegin (agentsAt s)) g (i * ROW-BYTES + k) 0)
+    (getD-take (ROW-BYTES * rowsAt s) (drop (rowsBegin s) g) (i * ROW-BYTES + k) 0 (omega arith)
+    ∙ getD-drop (rowsBegin s) g (i * ROW-BYTES + k) 0)
 
 -- where each row's byte k stays, it stays past the rows too
-pub bytes-kept : (s g : List ℕ) (i k : ℕ) → agentsAt g ≡ agentsAt s → rowsAt g ≡ rowsAt s → k < ROW-BYTES
-    → getD g (rowsBegin (agentsAt s) + (i * ROW-BYTES + k)) 0 ≡ getD s (rowsBegin (agentsAt s) + (i * ROW-BYTES + k)) 0 → byteOf (rowBytes g) i k ≡ byteOf (rowBytes s) i k
+pub bytes-kept : (s g : List ℕ) (i k : ℕ) → rowsBegin g ≡ rowsBegin s → rowsAt g ≡ rowsAt s → k < ROW-BYTES
+    → getD g (rowsBegin s + (i * ROW-BYTES + k)) 0 ≡ getD s (rowsBegin s + (i * ROW-BYTES + k)) 0 → byteOf (rowBytes g) i k ≡ byteOf (rowBytes s) i k
 bytes-kept s g i k e r m q = go (decLt i (rowsAt s))
   where
     go : Dec (i < rowsAt s) → byteOf (rowBytes g) i k ≡ byteOf (rowBytes s) i k
@@ -63,18 +76,18 @@ module _ {s f : List ℕ} (fl : Filling s f) where
   -- ---- bytes
 
   -- a byte before the rows
-  pub head-kept : (k : ℕ) → k < rowsBegin (agentsAt s) → getD f k 0 ≡ getD s k 0
+  pub head-kept : (k : ℕ) → k < rowsBegin s → getD f k 0 ≡ getD s k 0
   unfolding sourceBegin
   head-kept k h = fl .kept k (λ i l b. ⊎-elim (λ e. omega arith) (λ e. omega arith))
 
   -- a byte of row i, other than those of its source
-  field-kept : (i k : ℕ) → k < ROW-BYTES → (k < 12) ⊎ (13 < k) → getD f (rowsBegin (agentsAt s) + (i * ROW-BYTES + k)) 0 ≡ getD s (rowsBegin (agentsAt s) + (i * ROW-BYTES + k)) 0
+  field-kept : (i k : ℕ) → k < ROW-BYTES → (k < 12) ⊎ (13 < k) → getD f (rowsBegin s + (i * ROW-BYTES + k)) 0 ≡ getD s (rowsBegin s + (i * ROW-BYTES + k)) 0
   unfolding sourceBegin
   field-kept i k h o =
       fl .kept _ (λ j l b. ⊎-elim (λ e. ⊎-elim (λ p. omega arith) (λ p. omega arith) o) (λ e. ⊎-elim (λ p. omega arith) (λ p. omega arith) o))
 
   -- each byte of a row without a blank
-  pub whole-kept : (i k : ℕ) → k < ROW-BYTES → blankAt s i ≡ false → getD f (rowsBegin (agentsAt s) + (i * ROW-BYTES + k)) 0 ≡ getD s (rowsBegin (agentsAt s) + (i * ROW-BYTES + k)) 0
+  pub whole-kept : (i k : ℕ) → k < ROW-BYTES → blankAt s i ≡ false → getD f (rowsBegin s + (i * ROW-BYTES + k)) 0 ≡ getD s (rowsBegin s + (i * ROW-BYTES + k)) 0
   unfolding sourceBegin
   whole-kept i k h n = fl .kept _ (λ j l b. ⊎-elim (λ e. other j b (omega arith)) (λ e. other j b (omega arith)))
     where
@@ -83,51 +96,81 @@ module _ {s f : List ℕ} (fl : Filling s f) where
 
   -- ---- the header and the places
 
+  header-byte : (k : ℕ) → k < HEADER → getD f k 0 ≡ getD s k 0
+  header-byte k l = let b = begin-header s in head-kept k (omega arith)
+
+  pub version-kept : versionAt f ≡ versionAt s
+  unfolding versionAt
+  version-kept = header-byte 4 (omega arith)
+
+  pub hosts-kept : hasHosts f ≡ hasHosts s
+  unfolding hasHosts
+  hosts-kept = rw version-kept refl
+
   pub agents-kept : agentsAt f ≡ agentsAt s
-  unfolding agentsAt rowsBegin
-  agents-kept = head-kept 5 (omega arith)
+  unfolding agentsAt
+  agents-kept = header-byte 5 (omega arith)
 
   pub rows-kept : rowsAt f ≡ rowsAt s
-  unfolding rowsAt rowsBegin
-  rows-kept = head-kept 6 (omega arith)
+  unfolding rowsAt
+  rows-kept = header-byte 6 (omega arith)
 
-  pair-head : (k : ℕ) → k + 1 < rowsBegin (agentsAt s) → pairAt f k ≡ pairAt s k
+  pub begin-kept : rowsBegin f ≡ rowsBegin s
+  unfolding rowsBegin
+  begin-kept = rw (hosts-kept, agents-kept) refl
+
+  pair-head : (k : ℕ) → k + 1 < rowsBegin s → pairAt f k ≡ pairAt s k
   unfolding pairAt
   pair-head k h = rw (head-kept k (omega arith), head-kept (k + 1) h) refl
 
-  place-kept : (a : ℕ) → a < agentsAt s → placeAt f a ≡ placeAt s a
-  unfolding placeAt rowsBegin
-  place-kept a l =
+  three-kept : (a : ℕ) → a < agentsAt s → hasHosts s ≡ false → threeAt f a ≡ threeAt s a
+  unfolding threeAt
+  three-kept a l e =
+      let b = begin-plain s e in
       rw
       (pair-head (HEADER + a * PLACE-BYTES + 0) (omega arith), pair-head (HEADER + a * PLACE-BYTES + 2) (omega arith), pair-head (HEADER + a * PLACE-BYTES + 4) (omega arith))
       refl
+
+  four-kept : (a : ℕ) → a < agentsAt s → hasHosts s ≡ true → fourAt f a ≡ fourAt s a
+  unfolding fourAt
+  four-kept a l e =
+      let b = begin-hosts s e in
+      rw
+      (pair-head (HEADER + a * HOSTS-PLACE-BYTES + 0) (omega arith), pair-head (HEADER + a * HOSTS-PLACE-BYTES + 2) (omega arith), pair-head (HEADER + a * HOSTS-PLACE-BYTES + 4) (omega arith), pair-head (HEADER + a * HOSTS-PLACE-BYTES + 6) (omega arith))
+      refl
+
+  place-kept : (a : ℕ) → a < agentsAt s → placeAt f a ≡ placeAt s a
+  unfolding placeAt
+  place-kept a l = rw hosts-kept (⊎-elim at-hosts at-plain (which (hasHosts s)))
+    where
+      at-hosts : hasHosts s ≡ true → cond (hasHosts s) (fourAt f a) (threeAt f a) ≡ cond (hasHosts s) (fourAt s a) (threeAt s a)
+      at-hosts e = rw e (four-kept a l e)
+
+      at-plain : hasHosts s ≡ false → cond (hasHosts s) (fourAt f a) (threeAt f a) ≡ cond (hasHosts s) (fourAt s a) (threeAt s a)
+      at-plain e = rw e (three-kept a l e)
 
   slot-kept : (a : ℕ) → slotAt f a ≡ slotAt s a
   unfolding slotAt
   slot-kept a = rw agents-kept (go (decLt a (agentsAt s)))
     where
-      go : Dec (a < agentsAt s) → cond (ltb a (agentsAt s)) (placeAt f a) (0 ∷ 0 ∷ 0 ∷ []) ≡ cond (ltb a (agentsAt s)) (placeAt s a) (0 ∷ 0 ∷ 0 ∷ [])
+      go : Dec (a < agentsAt s) → cond (ltb a (agentsAt s)) (placeAt f a) (0 ∷ 0 ∷ 0 ∷ 0 ∷ []) ≡ cond (ltb a (agentsAt s)) (placeAt s a) (0 ∷ 0 ∷ 0 ∷ 0 ∷ [])
       go (yes l) = rw (place-kept a l) refl
       go (no l) = simp (le-ltb a (agentsAt s) (omega arith))
-
-  version-kept : versionAt f ≡ versionAt s
-  unfolding versionAt rowsBegin
-  version-kept = head-kept 4 (omega arith)
-
-  counted-kept : leb COUNTED (versionAt f) ≡ leb COUNTED (versionAt s)
-  counted-kept = ap (λ (v : ℕ). leb COUNTED v) version-kept
 
   pub places-kept : placesOf f ≡ placesOf s
   unfolding placesOf
   places-kept = tabulate-cong (slotAt f) (slotAt s) AGENTS (λ a l. slot-kept a)
 
+  counted-kept : leb COUNTED (versionAt f) ≡ leb COUNTED (versionAt s)
+  counted-kept = rw version-kept refl
+
   -- ---- the rows
 
   byte-kept : (i k : ℕ) → k < ROW-BYTES → (k < 12) ⊎ (13 < k) → byteOf (rowBytes f) i k ≡ byteOf (rowBytes s) i k
-  byte-kept i k h o = bytes-kept s f i k agents-kept rows-kept h (field-kept i k h o)
+  byte-kept i k h o = bytes-kept s f i k begin-kept rows-kept h (field-kept i k h o)
 
   byte-whole : (i k : ℕ) → k < ROW-BYTES → blankAt s i ≡ false → byteOf (rowBytes f) i k ≡ byteOf (rowBytes s) i k
-  byte-whole i k h n = bytes-kept s f i k agents-kept rows-kept h (whole-kept i k h n)
+  byte-whole i k h n = bytes-kept s f i k begin-kept rows-kept h (whole-kept i k h n)
 
   pair-kept : (i k : ℕ) → k + 1 < ROW-BYTES → (k + 1 < 12) ⊎ (13 < k) → pairOf (rowBytes f) i k ≡ pairOf (rowBytes s) i k
   pair-kept i k h o =
@@ -174,6 +217,43 @@ module _ {s f : List ℕ} (fl : Filling s f) where
       at : atomic (rowOf (rowBytes s) i) ≡ true → cond (atomic (rowOf (rowBytes s) i)) (sourceOf (rowBytes f) i) INITIAL ≡ cond (atomic (rowOf (rowBytes s) i)) (sourceOf (rowBytes s) i) INITIAL
       at a = rw a (source-kept i (atomic-no-blank i a))
 
+  -- ---- the dependencies
+
+  -- a byte after the rows
+  pub end-kept : (k : ℕ) → rowsEnd s ≤ k → getD f k 0 ≡ getD s k 0
+  unfolding sourceBegin rowsEnd
+  end-kept k h = fl .kept k (λ i l b. ⊎-elim (λ e. omega arith) (λ e. omega arith))
+
+  pub rows-end-kept : rowsEnd f ≡ rowsEnd s
+  unfolding rowsEnd
+  rows-end-kept = rw (begin-kept, rows-kept) refl
+
+  after-kept : (k : ℕ) → getD (dependencyBytes f) k 0 ≡ getD (dependencyBytes s) k 0
+  unfolding dependencyBytes
+  after-kept k = rw rows-end-kept (getD-drop (rowsEnd s) f k 0 ∙ end-kept (rowsEnd s + k) (omega arith) ∙ sym (getD-drop (rowsEnd s) s k 0))
+
+  pair-after : (k : ℕ) → pairAt (dependencyBytes f) k ≡ pairAt (dependencyBytes s) k
+  unfolding pairAt
+  pair-after k = rw (after-kept k, after-kept (k + 1)) refl
+
+  pub count-kept : dependencyCount (dependencyBytes f) ≡ dependencyCount (dependencyBytes s)
+  unfolding dependencyCount
+  count-kept = pair-after 0
+
+  pub from-kept : (k : ℕ) → dependencyFrom (dependencyBytes f) k ≡ dependencyFrom (dependencyBytes s) k
+  unfolding dependencyFrom
+  from-kept k = pair-after (2 + k * DEPENDENCY-BYTES)
+
+  pub to-kept : (k : ℕ) → dependencyTo (dependencyBytes f) k ≡ dependencyTo (dependencyBytes s) k
+  unfolding dependencyTo
+  to-kept k = pair-after (4 + k * DEPENDENCY-BYTES)
+
+  depends-kept : (x y : ℕ) → dependsOf (dependencyBytes f) x y ≡ dependsOf (dependencyBytes s) x y
+  unfolding dependsOf dependency
+  depends-kept x y =
+      rw count-kept
+      (any-cong (λ k. eqb (dependencyFrom (dependencyBytes f) k) x and eqb (dependencyTo (dependencyBytes f) k) y) (λ k. eqb (dependencyFrom (dependencyBytes s) k) x and eqb (dependencyTo (dependencyBytes s) k) y) _ (λ k l. rw (from-kept k, to-kept k) refl))
+
   -- ---- what the rules of order read
 
   -- A FILLING CHANGES NOTHING THAT THE RULES OF ORDER READ
@@ -188,6 +268,7 @@ module _ {s f : List ℕ} (fl : Filling s f) where
         chains = false;
         row = fun-ext {f = rowOf (rowBytes f)} {g = rowOf (rowBytes s)} row-kept d;
         source = fun-ext {f = atomicSource (rowBytes f)} {g = atomicSource (rowBytes s)} atomic-kept d;
+        depends = fun-ext {f = dependsOf (dependencyBytes f)} {g = dependsOf (dependencyBytes s)} (λ x. fun-ext {f = dependsOf (dependencyBytes f) x} {g = dependsOf (dependencyBytes s) x} (depends-kept x)) d;
       }
 
   -- so location order, conflicts and races of a filled table are those of the table with its blanks

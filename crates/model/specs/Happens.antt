@@ -42,23 +42,30 @@ toRelease t s m n = holding t s n and releases (t .row (rowIn n)) and concerns t
 unfoldable pub fromAcquire : Table → ℕ → ℕ → ℕ → Bool
 fromAcquire t s m n = holding t s m and acquires (t .row (rowIn m)) and concerns t s n and programOrder t m n
 
+-- 003's first case, direct case 4 here: the row m system-synchronizes-with the row n, which includes all classes
+unfoldable pub bySystem : Table → ℕ → ℕ → Bool
+bySystem t m n = eqb (part m) AT and eqb (part n) AT and t .depends (rowIn m) (rowIn n)
+
 -- a direct case by its number
 unfoldable pub direct : Table → ℕ → ℕ → ℕ → ℕ → Bool
-direct t s case m n = (eqb case 1 and bySync t s m n) or (eqb case 2 and toRelease t s m n) or (eqb case 3 and fromAcquire t s m n)
+direct t s case m n =
+    (eqb case 1 and bySync t s m n) or (eqb case 2 and toRelease t s m n) or (eqb case 3 and fromAcquire t s m n)
+    or (eqb case 4 and bySystem t m n)
 
 unfoldable pub step : Table → ℕ → ℕ → ℕ → Bool
-step t s m n = bySync t s m n or toRelease t s m n or fromAcquire t s m n
+step t s m n = bySync t s m n or toRelease t s m n or fromAcquire t s m n or bySystem t m n
 
 -- M6: inter-thread order for the class set s, the transitive closure of the direct cases
 unfoldable pub interThread : Table → ℕ → ℕ → ℕ → Bool
 interThread t s m n = through (step t s) (3 * t .rows) m n
 
--- some row holds all of s. No other class set has a direct case, so the closure need not be asked of it (law `happens-is`)
+-- some row holds all of s, or s is the first class set. Another class set has no direct case but the fourth, which the first one
+-- has too, so the closure need not be asked of it (law `happens-is`)
 unfoldable pub holdsAll : Table → ℕ → ℕ → Bool
 holdsAll t s i = holds (t .row i .classes) s
 
 unfoldable pub live : Table → ℕ → Bool
-live t s = anyBelow (t .rows) (holdsAll t s)
+live t s = eqb s 1 or anyBelow (t .rows) (holdsAll t s)
 
 -- for class set k + 1
 unfoldable pub interThreadBy : Table → ℕ → ℕ → ℕ → Bool

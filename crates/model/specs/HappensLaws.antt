@@ -6,34 +6,50 @@ use mathlib.Core.Logic.{_⊎_, inl, inr, ⊎-elim, _↔_}
 use Prim.Native.Nat.{ℕ, zero, suc, _+_, _-_, _*_, _/_, _≤_, _<_}
 use native.Mathlib.Omega.{arith}
 use lib.Dec.{eqb}
-use Rattle.finite.specs.Logic.{_and_, _or_, split, and-true, or-cases, or-left, or-right}
+use Rattle.finite.specs.Logic.{_and_, _or_, split, and-true, or-cases, or-left, or-right, which, not-both}
 use Rattle.finite.specs.Below.{anyBelow, any-in, any-out}
 use Rattle.finite.specs.Closure.{Reach, one, more, through, through-reach}
 use Rattle.model.specs.Limits.{CLASS-SETS}
 use Rattle.model.specs.Row.{holds}
 use Rattle.model.specs.Table.{Table}
 use Rattle.model.specs.Moment.{rowIn, programOrder}
-use Rattle.model.specs.Happens.{holdingOf, holding, bySync, toRelease, fromAcquire, direct, step, interThread, holdsAll, live, interThreadBy, happens}
+use Rattle.model.specs.Happens.{holdingOf, holding, bySync, toRelease, fromAcquire, bySystem, direct, step, interThread, holdsAll, live, interThreadBy, happens}
 use Rattle.model.specs.Words.{HappensBefore}
 
--- ---- a direct case needs a row that holds the class set
+-- ---- a direct case needs a row that holds the class set, unless it is the fourth, which the first class set has too
 
 module _ (t : Table) (s : ℕ) where
   holding-live : (m : ℕ) → m < 3 * t .rows → holding t s m ≡ true → live t s ≡ true
   unfolding holding holdingOf live holdsAll
-  holding-live m l h = any-in (λ i. holds (t .row i .classes) s) (t .rows) (m / 3) (omega arith) (split h .1)
+  holding-live m l h = or-right (eqb s 1) (any-in (λ i. holds (t .row i .classes) s) (t .rows) (m / 3) (omega arith) (split h .1))
 
-  step-live : (m n : ℕ) → m < 3 * t .rows → n < 3 * t .rows → step t s m n ≡ true → live t s ≡ true
+  step-live : (m n : ℕ) → m < 3 * t .rows → n < 3 * t .rows → step t s m n ≡ true → (live t s ≡ true) ⊎ (bySystem t m n ≡ true)
   unfolding step bySync toRelease fromAcquire
   step-live m n p q e =
       ⊎-elim
+      (λ d. inl (⊎-elim
       (λ a. ⊎-elim (λ b. holding-live m p (split (split b .0) .0)) (λ b. holding-live n q (split (split (split b .0) .0) .0)) (or-cases (bySync t s m n) (toRelease t s m n) a))
       (λ a. holding-live m p (split (split (split a .0) .0) .0))
-      (or-cases (bySync t s m n or toRelease t s m n) (fromAcquire t s m n) e)
+      (or-cases (bySync t s m n or toRelease t s m n) (fromAcquire t s m n) d)))
+      (λ d. inr d)
+      (or-cases (bySync t s m n or toRelease t s m n or fromAcquire t s m n) (bySystem t m n) e)
 
-  pub reach-live : {m n : ℕ} → m < 3 * t .rows → n < 3 * t .rows → Reach (step t s) (3 * t .rows) m n → live t s ≡ true
-  reach-live {m} {n} p q (one e) = step-live m n p q e
-  reach-live {m} {n} p q (more {m = k} e l r) = step-live m k p l e
+  system-step : (m n : ℕ) → bySystem t m n ≡ true → step t 1 m n ≡ true
+  unfolding step
+  system-step m n e = or-right _ e
+
+  -- a class set that isn't live reaches no more than the first one
+  module _ (off : live t s ≡ false) where
+    first-step : (m n : ℕ) → m < 3 * t .rows → n < 3 * t .rows → step t s m n ≡ true → step t 1 m n ≡ true
+    first-step m n p q e = ⊎-elim (λ a. not-both a off) (λ b. system-step m n b) (step-live m n p q e)
+
+    reach-first : {m n : ℕ} → m < 3 * t .rows → n < 3 * t .rows → Reach (step t s) (3 * t .rows) m n → Reach (step t 1) (3 * t .rows) m n
+    reach-first {m} {n} p q (one e) = one (first-step m n p q e)
+    reach-first {m} {n} p q (more {m = k} e l r) = more (first-step m k p l e) l (reach-first l q r)
+
+first-live : (t : Table) → live t 1 ≡ true
+unfolding live
+first-live t = or-left _ refl
 
 -- M7, for any number of rows
 pub happens-is : (t : Table) (m n : ℕ) → m < 3 * t .rows → n < 3 * t .rows → (happens t m n ≡ true) ↔ HappensBefore t m n
@@ -53,7 +69,10 @@ happens-is t m n p q = (forth, back)
 
     some : (s : ℕ) → 1 ≤ s → s ≤ CLASS-SETS → Reach (step t s) (3 * t .rows) m n → anyBelow CLASS-SETS by ≡ true
     some zero a b r = absurd (omega arith)
-    some (suc k) a b r = any-in by CLASS-SETS k (omega arith) (and-true (reach-live t (suc k) p q r) (through-reach (step t (suc k)) (3 * t .rows) m n .1 r))
+    some (suc k) a b r = ⊎-elim
+        (λ e. any-in by CLASS-SETS k (omega arith) (and-true e (through-reach (step t (suc k)) (3 * t .rows) m n .1 r)))
+        (λ e. any-in by CLASS-SETS 0 (omega arith) (and-true (first-live t) (through-reach (step t 1) (3 * t .rows) m n .1 (reach-first t (suc k) e p q r))))
+        (which (live t (suc k)))
 
     back : HappensBefore t m n → (programOrder t m n or anyBelow CLASS-SETS by) ≡ true
     back d = ⊎-elim (λ h. or-left _ h) (λ w. or-right (programOrder t m n) (some (w .0) (w .1) (w .2) (w .3))) d

@@ -13,6 +13,7 @@ pub mod Check
 pub mod Fill
 pub mod Reason
 pub mod Runs
+pub mod LaterRuns
 pub mod Words
 pub mod HappensLaws
 pub mod FillingLaws
@@ -20,6 +21,7 @@ pub mod AdmissionLaws
 pub mod RaceLaws
 pub mod AxiomLaws
 pub mod PairLaws
+pub mod HostLaws
 pub mod RankLaws
 pub mod RunLaws
 pub mod WriterLaws

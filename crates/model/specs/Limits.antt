@@ -30,6 +30,10 @@ CHAIN = 383
 abbrev pub CASE : ℕ
 CASE = 512
 
+-- dependencies of a table, at most
+abbrev pub DEPENDENCIES : ℕ
+DEPENDENCIES = 64
+
 -- bytes of an access, and of all that a start can reach
 abbrev pub LONGEST : ℕ
 LONGEST = 16

@@ -16,7 +16,7 @@ use Rattle.model.specs.declared.Shared.{Shared}
 use Rattle.model.specs.declared.Shared.the-variants.{At, Nothing}
 use Rattle.model.specs.Row.{access, atomic, writes, inside, touches, lowestShared, isShared, overlap}
 use Rattle.model.specs.Table.{Table}
-use Rattle.model.specs.Scope.{DEVICE, FAMILY, WORKGROUP, SUBGROUP, INVOCATION, agree, shares, together, sameLocation, mutualRows, mutually}
+use Rattle.model.specs.Scope.{DEVICE, FAMILY, WORKGROUP, SUBGROUP, INVOCATION, shader, agree, oneInstance, shares, together, sameLocation, mutualRows, mutually}
 use Rattle.model.specs.Location.{common, before}
 use Rattle.model.specs.Race.{clash, conflict}
 use Rattle.model.specs.Words.{Unordered, Races}
@@ -98,9 +98,16 @@ agree-sym : (p : List (List ℕ)) (k a b : ℕ) → agree p k a b ≡ agree p k 
 unfolding agree
 agree-sym p k a b = eqb-swap (getD (getD p a []) k 0) (getD (getD p b []) k 0)
 
+instance-sym : (p : List (List ℕ)) (scope a b : ℕ) → oneInstance p scope a b ≡ oneInstance p scope b a
+unfolding oneInstance
+instance-sym p scope a b = rw (agree-sym p 0 a b, agree-sym p 1 a b, agree-sym p 2 a b, eqb-swap a b) refl
+
 shares-sym : (p : List (List ℕ)) (scope a b : ℕ) → shares p scope a b ≡ shares p scope b a
 unfolding shares
-shares-sym p scope a b = rw (agree-sym p 0 a b, agree-sym p 1 a b, agree-sym p 2 a b, eqb-swap a b) refl
+shares-sym p scope a b = rw (instance-sym p scope a b) (and-swap (shader p a) (shader p b) (oneInstance p scope b a))
+  where
+    and-swap : (x y z : Bool) → (x and y and z) ≡ (y and x and z)
+    and-swap x y z = bool-ext (x and y and z) (y and x and z) (λ e. and-true (and-true (split (split e .0) .1) (split (split e .0) .0)) (split e .1)) (λ e. and-true (and-true (split (split e .0) .1) (split (split e .0) .0)) (split e .1))
 
 together-sym : (p : List (List ℕ)) (r q : Row) → together p r q ≡ true → together p q r ≡ true
 unfolding together

@@ -20,11 +20,11 @@ use Rattle.model.specs.declared.DeriveAnswer.the-variants as derived
 use Rattle.model.specs.Limits.{CHAIN, CASE, CLASS-SETS}
 use Rattle.model.specs.Table.{Table, tableOf}
 use Rattle.model.specs.Moment.{moment, programOrder}
-use Rattle.model.specs.Happens.{bySync, toRelease, direct, step}
+use Rattle.model.specs.Happens.{bySync, toRelease, fromAcquire, direct, step}
 use Rattle.model.specs.Refusal.{buffersFit, admission}
 use Rattle.model.specs.Check.{wiped}
 
--- ---- a step is one number: CASE × its case, 1 to 3 in M6's order, + the moment that it reaches
+-- ---- a step is one number: CASE × its case, 1 to 3 in M6's order, 4 for system synchronization, + the moment that it reaches
 
 abbrev pub caseIn : ℕ → ℕ
 caseIn x = x / CASE
@@ -104,7 +104,7 @@ module _ (t : Table) where
 
   -- the lowest case that leads from moment m to moment k
   unfoldable pub lowestCase : ℕ → ℕ → ℕ → ℕ
-  lowestCase s m k = cond (bySync t s m k) 1 (cond (toRelease t s m k) 2 3)
+  lowestCase s m k = cond (bySync t s m k) 1 (cond (toRelease t s m k) 2 (cond (fromAcquire t s m k) 3 4))
 
   unfoldable pub stepNumber : ℕ → ℕ → ℕ → ℕ
   stepNumber s m k = stepTo (lowestCase s m k) k

@@ -1,4 +1,4 @@
--- The refusals 1 to 11, 14 and 15, in their order. `blanks` says whether a blank is allowed: in a fill, not in a check.
+-- The refusals 1 to 11, 14 and 15, and with host agents 16 to 20, in their order. `blanks` says whether a blank is allowed: in a fill, not in a check.
 use mathlib.Core.Bool.{Bool, true, false, not, cond, Bool·beq}
 use mathlib.Core.List.{List}
 use Prim.Native.Nat.{ℕ, _+_, _%_}
@@ -9,10 +9,10 @@ use Rattle.finite.specs.Below.{anyBelow, least}
 use Rattle.model.specs.declared.Row.{Row}
 use Rattle.model.specs.declared.Admission.{Admission}
 use Rattle.model.specs.declared.Admission.the-variants.{Admitted, Refused}
-use Rattle.model.specs.Limits.{AGENTS, ROWS, WORK, LONGEST, BYTES, ATOMIC-SHORT, ATOMIC-LONG, RUN, INITIAL, BLANK}
-use Rattle.model.specs.Row.{CONTROL, ATOMIC-READ, ATOMIC-WRITE, RELAXED, ACQUIRE, RELEASE, BOTH, plain, atomic, access, barrier, control, executionOf, sameInstance, plainRead, reads, writes, ranked, acquires, releases, nonPrivate, makesAvailable, makesVisible, covers}
-use Rattle.model.specs.Table.{Table, HEADER, FIRST, COUNTED, countAt, versionAt, agentsAt, rowsAt, zeroAt, sizeOf, rowBytes, rowOf, sourceOf, placesOf, tableOf, sourcesOf}
-use Rattle.model.specs.Scope.{INVOCATION, DEVICE, shares, sameLocation, mutualRows, mutually, age}
+use Rattle.model.specs.Limits.{AGENTS, ROWS, WORK, DEPENDENCIES, LONGEST, BYTES, ATOMIC-SHORT, ATOMIC-LONG, RUN, INITIAL, BLANK}
+use Rattle.model.specs.Row.{CONTROL, ATOMIC-READ, ATOMIC-WRITE, RELAXED, ACQUIRE, RELEASE, BOTH, plain, atomic, access, barrier, control, executionOf, sameInstance, operation, plainRead, reads, writes, ranked, acquires, releases, nonPrivate, makesAvailable, makesVisible, covers}
+use Rattle.model.specs.Table.{Table, HEADER, FIRST, HOSTS, countAt, versionAt, agentsAt, rowsAt, zeroAt, hasHosts, sizeOf, rowBytes, dependencyBytes, rowOf, sourceOf, placesOf, dependencyCount, dependencyFrom, dependencyTo, tableOf, sourcesOf}
+use Rattle.model.specs.Scope.{INVOCATION, DEVICE, HOST, QUEUE, agentKind, shares, sameLocation, mutualRows, mutually, age}
 
 -- ---- 11: the lent buffers, by their lengths; `needs` is what the second one must hold
 
@@ -21,22 +21,45 @@ buffersFit needs work buffer = leb WORK work and leb needs buffer
 
 -- ---- 1 to 4: the header
 
--- versions FIRST to COUNTED
+-- versions FIRST to HOSTS
 unfoldable pub versionFits : List ℕ → Bool
-versionFits s = leb FIRST (versionAt s) and leb (versionAt s) COUNTED and eqb (zeroAt s) 0
+versionFits s = leb FIRST (versionAt s) and leb (versionAt s) HOSTS and eqb (zeroAt s) 0
 
 unfoldable pub limitsFit : List ℕ → Bool
 limitsFit s = leb (agentsAt s) AGENTS and leb (rowsAt s) ROWS
 
--- the count is of the bytes after its own four
+-- the count is of the bytes after its own four. A count of dependencies that isn't there is read as 0, and the length doesn't fit
 unfoldable pub lengthFits : List ℕ → Bool
-lengthFits s = eqb (countAt s + 4) (sizeOf (agentsAt s) (rowsAt s)) and eqb (length s) (sizeOf (agentsAt s) (rowsAt s))
+lengthFits s = eqb (countAt s + 4) (sizeOf s) and eqb (length s) (sizeOf s)
+
+-- ---- 16 to 18: agents and dependencies, after 4 and before the rows
+
+-- 16: an agent is a shader, host or queue agent
+unfoldable pub kindOver : List ℕ → ℕ → Bool
+kindOver s a = ltb QUEUE (agentKind (placesOf s) a)
+
+unfoldable pub agentsKnown : List ℕ → Bool
+agentsKnown s = not (anyBelow (agentsAt s) (kindOver s))
+
+-- 17: there are not too many dependencies
+unfoldable pub dependenciesFew : List ℕ → Bool
+dependenciesFew s = leb (dependencyCount (dependencyBytes s)) DEPENDENCIES
+
+-- 18: each names two rows
+unfoldable pub namesNone : List ℕ → ℕ → Bool
+namesNone s k = not (ltb (dependencyFrom (dependencyBytes s) k) (rowsAt s) and ltb (dependencyTo (dependencyBytes s) k) (rowsAt s))
+
+unfoldable pub dependenciesNamed : List ℕ → Bool
+dependenciesNamed s = not (anyBelow (dependencyCount (dependencyBytes s)) (namesNone s))
+
+unfoldable pub hostsFault : List ℕ → ℕ
+hostsFault s = cond (agentsKnown s) (cond (dependenciesFew s) (cond (dependenciesNamed s) 0 18) 17) 16
 
 -- the number of the refusal, 0 for none
 unfoldable pub headerFault : List ℕ → ℕ
-headerFault s = cond (leb HEADER (length s)) (cond (versionFits s) (cond (limitsFit s) (cond (lengthFits s) 0 4) 3) 2) 1
+headerFault s = cond (leb HEADER (length s)) (cond (versionFits s) (cond (limitsFit s) (cond (lengthFits s) (hostsFault s) 4) 3) 2) 1
 
--- ---- 5 to 7: a row by itself
+-- ---- 5, 19, 6 or 20, 7: a row by itself
 
 abbrev pub CLASSES : ℕ
 CLASSES = 15
@@ -47,11 +70,21 @@ FLAGS = 7
 abbrev pub CLASS : ℕ
 CLASS = 3
 
--- 5: each code is in range; a control barrier has a scope in the place of its class
-unfoldable pub codesFit : ℕ → Row → Bool
-codesFit agents r =
-    leb (r .kind) CONTROL and ltb (r .agent) agents and leb (r .order) BOTH and leb (r .scope) DEVICE and leb (r .classes) CLASSES
+-- 5: each code is in range; `hosts` says whether there are kinds of queue agents. A control barrier has a scope in the place of its class
+unfoldable pub codesFit : Bool → ℕ → Row → Bool
+codesFit hosts agents r =
+    (leb (r .kind) CONTROL or (hosts and operation r)) and ltb (r .agent) agents and leb (r .order) BOTH and leb (r .scope) DEVICE and leb (r .classes) CLASSES
     and leb (r .flags) FLAGS and leb (r .class) (cond (control r) DEVICE CLASS)
+
+-- 19: a host agent has plain rows, a queue agent operations, a shader agent the rest
+unfoldable pub agentFits : ℕ → Row → Bool
+agentFits kind r = cond (eqb kind HOST) (plain r) (cond (eqb kind QUEUE) (operation r) (not (operation r)))
+
+-- 20: an operation has zeros in bytes 2 to 11 and as its rank, and source 65535
+unfoldable pub operationFits : Row → ℕ → Bool
+operationFits r source =
+    eqb (r .order) 0 and eqb (r .scope) 0 and eqb (r .classes) 0 and eqb (r .flags) 0 and eqb (r .class) 0 and eqb (r .size) 0
+    and eqb (r .start) 0 and eqb (r .reference) 0 and eqb (r .rank) 0 and eqb source INITIAL
 
 -- 6, plain rows: a read may not make available, a write may not make visible; either flag needs non-private; without either, scope 0
 unfoldable pub plainFits : Row → Bool
@@ -94,8 +127,12 @@ extentFits r =
     (not (access r) or (leb 1 (r .size) and leb (r .size) LONGEST and leb (r .start + r .size) BYTES))
     and (not (atomic r) or atomicExtentFits r)
 
-unfoldable pub rowFault : ℕ → Row → ℕ → ℕ
-rowFault agents r source = cond (codesFit agents r) (cond (kindFits r source) (cond (extentFits r) 0 7) 6) 5
+-- 20 for an operation, in place of 6 for any other row
+unfoldable pub formFault : Row → ℕ → ℕ
+formFault r source = cond (operation r) (cond (operationFits r source) 0 20) (cond (kindFits r source) (cond (extentFits r) 0 7) 6)
+
+unfoldable pub rowFault : Bool → List (List ℕ) → ℕ → Row → ℕ → ℕ
+rowFault hosts p agents r source = cond (codesFit hosts agents r) (cond (agentFits (agentKind p (r .agent)) r) (formFault r source) 19) 5
 
 -- ---- 8 to 10, 14 and 15: a row among the others
 
@@ -175,9 +212,9 @@ firstFault f n next = let i = least n (faulty f) in cond (ltb i n) (Refused (f i
 
 -- the fault of row i by itself
 unfoldable pub rowFaultAt : List ℕ → ℕ → ℕ
-rowFaultAt s i = rowFault (agentsAt s) (rowOf (rowBytes s) i) (sourceOf (rowBytes s) i)
+rowFaultAt s i = rowFault (hasHosts s) (placesOf s) (agentsAt s) (rowOf (rowBytes s) i) (sourceOf (rowBytes s) i)
 
--- refusals 1 to 10, 14 and 15: the header's at row 0, then rows ascending through 5 to 7, then rows ascending through 8 to 10, 14 and 15
+-- refusals 1 to 10 and 14 to 20: the header's at row 0, then rows ascending through 5 to 7, 19 and 20, then rows ascending through 8 to 10, 14 and 15
 unfoldable pub admission : Bool → List ℕ → Admission
 admission blanks s =
     cond (eqb (headerFault s) 0)

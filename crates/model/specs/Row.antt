@@ -32,6 +32,26 @@ BARRIER = 5
 abbrev pub CONTROL : ℕ
 CONTROL = 6
 
+-- operations on the memory domains of the host and of the device, which queue agents alone perform: 7 and 8 make available to them,
+-- 9 and 10 make visible from them, 11 and 12 carry from the one to the other
+abbrev pub AVAILABLE-HOST : ℕ
+AVAILABLE-HOST = 7
+
+abbrev pub AVAILABLE-DEVICE : ℕ
+AVAILABLE-DEVICE = 8
+
+abbrev pub VISIBLE-HOST : ℕ
+VISIBLE-HOST = 9
+
+abbrev pub VISIBLE-DEVICE : ℕ
+VISIBLE-DEVICE = 10
+
+abbrev pub HOST-TO-DEVICE : ℕ
+HOST-TO-DEVICE = 11
+
+abbrev pub DEVICE-TO-HOST : ℕ
+DEVICE-TO-HOST = 12
+
 unfoldable pub plain : Row → Bool
 plain r = leb (r .kind) PLAIN-WRITE
 
@@ -47,6 +67,9 @@ barrier r = eqb (r .kind) BARRIER or eqb (r .kind) CONTROL
 
 unfoldable pub control : Row → Bool
 control r = eqb (r .kind) CONTROL
+
+unfoldable pub operation : Row → Bool
+operation r = leb AVAILABLE-HOST (r .kind) and leb (r .kind) DEVICE-TO-HOST
 
 unfoldable pub plainRead : Row → Bool
 plainRead r = eqb (r .kind) PLAIN-READ

@@ -10,6 +10,26 @@ use Rattle.model.specs.Limits.{COUNTS, RUN}
 use Rattle.model.specs.Row.{atomic, writes}
 use Rattle.model.specs.Table.{Table}
 
+-- ---- what an agent is, by the fourth number of its place
+
+abbrev pub SHADER : ℕ
+SHADER = 0
+
+abbrev pub HOST : ℕ
+HOST = 1
+
+abbrev pub QUEUE : ℕ
+QUEUE = 2
+
+unfoldable pub agentKind : List (List ℕ) → ℕ → ℕ
+agentKind p a = getD (getD p a []) 3 0
+
+unfoldable pub shader : List (List ℕ) → ℕ → Bool
+shader p a = eqb (agentKind p a) SHADER
+
+unfoldable pub host : List (List ℕ) → ℕ → Bool
+host p a = eqb (agentKind p a) HOST
+
 -- ---- M2
 
 abbrev pub INVOCATION : ℕ
@@ -31,14 +51,18 @@ DEVICE = 4
 unfoldable pub agree : List (List ℕ) → ℕ → ℕ → ℕ → Bool
 agree p k a b = eqb (getD (getD p a []) k 0) (getD (getD p b []) k 0)
 
--- M2: agents a and b share the scope
-unfoldable pub shares : List (List ℕ) → ℕ → ℕ → ℕ → Bool
-shares p scope a b =
+-- M2: one instance of the scope holds the agents a and b, by their places
+unfoldable pub oneInstance : List (List ℕ) → ℕ → ℕ → ℕ → Bool
+oneInstance p scope a b =
     eqb scope DEVICE
     or (eqb scope FAMILY and agree p 0 a b)
     or (eqb scope WORKGROUP and agree p 0 a b and agree p 1 a b)
     or (eqb scope SUBGROUP and agree p 0 a b and agree p 1 a b and agree p 2 a b)
     or (eqb scope INVOCATION and eqb a b)
+
+-- M2: agents a and b share the scope: scopes hold between shader agents only
+unfoldable pub shares : List (List ℕ) → ℕ → ℕ → ℕ → Bool
+shares p scope a b = shader p a and shader p b and oneInstance p scope a b
 
 -- the agents of two rows share both rows' scopes
 unfoldable pub together : List (List ℕ) → Row → Row → Bool

@@ -3,7 +3,9 @@ use mathlib.Core.Bool.{Bool, true, false, cond}
 use mathlib.Core.List.{List, [], _∷_}
 use Prim.Native.Nat.{ℕ, _+_, _*_}
 use lib.ListN.{getD, take, drop}
-use lib.Dec.{ltb, leb}
+use lib.Dec.{ltb, leb, eqb}
+use Rattle.finite.specs.Logic.{_and_}
+use Rattle.finite.specs.Below.{anyBelow}
 use Rattle.finite.specs.Lists.{tabulate}
 use Rattle.model.specs.declared.Row.{Row}
 use Rattle.model.specs.declared.Mode.{Mode}
@@ -15,7 +17,7 @@ use Rattle.model.specs.Row.{atomic}
 pub record Table : Type 0 where
   -- how many rows there are
   pub rows : ℕ
-  -- each agent's family, workgroup and subgroup numbers (an agent's place: document 01's own term)
+  -- each agent's family, workgroup and subgroup numbers (an agent's place: document 01's own term), and what it is: see Scope.antt
   pub places : List (List ℕ)
   -- ranks are counted: see `later` in Scope.antt
   pub counted : Bool
@@ -23,6 +25,8 @@ pub record Table : Type 0 where
   pub chains : Bool
   pub row : ℕ → Row
   pub source : ℕ → ℕ
+  -- a dependency: the first row system-synchronizes-with the second
+  pub depends : ℕ → ℕ → Bool
 
 -- ---- numbers in the bytes, big-endian
 
@@ -44,8 +48,18 @@ FIRST = 1
 abbrev pub COUNTED : ℕ
 COUNTED = 2
 
+-- the version that has host agents, and with them the bytes of a place
+abbrev pub HOSTS : ℕ
+HOSTS = 3
+
 abbrev pub PLACE-BYTES : ℕ
 PLACE-BYTES = 6
+
+abbrev pub HOSTS-PLACE-BYTES : ℕ
+HOSTS-PLACE-BYTES = 8
+
+abbrev pub DEPENDENCY-BYTES : ℕ
+DEPENDENCY-BYTES = 4
 
 abbrev pub ROW-BYTES : ℕ
 ROW-BYTES = 16
@@ -65,14 +79,26 @@ rowsAt s = getD s 6 0
 unfoldable pub zeroAt : List ℕ → ℕ
 zeroAt s = getD s 7 0
 
--- the three numbers of agent a
+-- the table has host agents
+unfoldable pub hasHosts : List ℕ → Bool
+hasHosts s = eqb (versionAt s) HOSTS
+
+-- the four numbers of agent a; without host agents the fourth is 0, a shader agent's
+unfoldable pub threeAt : List ℕ → ℕ → List ℕ
+threeAt s a =
+    pairAt s (HEADER + a * PLACE-BYTES + 0) ∷ pairAt s (HEADER + a * PLACE-BYTES + 2) ∷ pairAt s (HEADER + a * PLACE-BYTES + 4) ∷ 0 ∷ []
+
+unfoldable pub fourAt : List ℕ → ℕ → List ℕ
+fourAt s a =
+    pairAt s (HEADER + a * HOSTS-PLACE-BYTES + 0) ∷ pairAt s (HEADER + a * HOSTS-PLACE-BYTES + 2)
+    ∷ pairAt s (HEADER + a * HOSTS-PLACE-BYTES + 4) ∷ pairAt s (HEADER + a * HOSTS-PLACE-BYTES + 6) ∷ []
+
 unfoldable pub placeAt : List ℕ → ℕ → List ℕ
-placeAt s a =
-    pairAt s (HEADER + a * PLACE-BYTES + 0) ∷ pairAt s (HEADER + a * PLACE-BYTES + 2) ∷ pairAt s (HEADER + a * PLACE-BYTES + 4) ∷ []
+placeAt s a = cond (hasHosts s) (fourAt s a) (threeAt s a)
 
 -- a slot for each agent there may be, zeros past the table's agents
 unfoldable pub slotAt : List ℕ → ℕ → List ℕ
-slotAt s a = cond (ltb a (agentsAt s)) (placeAt s a) (0 ∷ 0 ∷ 0 ∷ [])
+slotAt s a = cond (ltb a (agentsAt s)) (placeAt s a) (0 ∷ 0 ∷ 0 ∷ 0 ∷ [])
 
 unfoldable pub placesOf : List ℕ → List (List ℕ)
 placesOf s = tabulate (slotAt s) AGENTS
@@ -85,15 +111,24 @@ modeOf chains s = record { counted = leb COUNTED (versionAt s); chains = chains 
 abbrev pub OFF : Mode
 OFF = record { counted = false; chains = false }
 
--- where the rows begin, and how long a table of so many agents and rows is
-unfoldable pub rowsBegin : ℕ → ℕ
-rowsBegin agents = HEADER + PLACE-BYTES * agents
+-- where the rows begin, and end
+unfoldable pub rowsBegin : List ℕ → ℕ
+rowsBegin s = cond (hasHosts s) (HEADER + HOSTS-PLACE-BYTES * agentsAt s) (HEADER + PLACE-BYTES * agentsAt s)
 
-unfoldable pub sizeOf : ℕ → ℕ → ℕ
-sizeOf agents rows = rowsBegin agents + ROW-BYTES * rows
+unfoldable pub rowsEnd : List ℕ → ℕ
+rowsEnd s = rowsBegin s + ROW-BYTES * rowsAt s
 
+-- how long the table is: with host agents, a count of dependencies and these come after the rows
+unfoldable pub sizeOf : List ℕ → ℕ
+sizeOf s = cond (hasHosts s) (rowsEnd s + 2 + DEPENDENCY-BYTES * pairAt s (rowsEnd s)) (rowsEnd s)
+
+-- the bytes of the rows
 unfoldable pub rowBytes : List ℕ → List ℕ
-rowBytes s = take (ROW-BYTES * rowsAt s) (drop (rowsBegin (agentsAt s)) s)
+rowBytes s = take (ROW-BYTES * rowsAt s) (drop (rowsBegin s) s)
+
+-- the bytes after them: the dependencies'. Without host agents there are none, and a count there reads as 0
+unfoldable pub dependencyBytes : List ℕ → List ℕ
+dependencyBytes s = drop (rowsEnd s) s
 
 -- ---- the rows, over their bytes alone: byte k of row i is at 16 × i + k
 
@@ -126,15 +161,42 @@ sourceOf b i = pairOf b i 12
 unfoldable pub atomicSource : List ℕ → ℕ → ℕ
 atomicSource b i = cond (atomic (rowOf b i)) (sourceOf b i) INITIAL
 
+-- ---- the dependencies, over their bytes alone: a count and so many pairs of rows
+
+unfoldable pub dependencyCount : List ℕ → ℕ
+dependencyCount d = pairAt d 0
+
+unfoldable pub dependencyFrom : List ℕ → ℕ → ℕ
+dependencyFrom d k = pairAt d (2 + k * DEPENDENCY-BYTES)
+
+unfoldable pub dependencyTo : List ℕ → ℕ → ℕ
+dependencyTo d k = pairAt d (4 + k * DEPENDENCY-BYTES)
+
+-- the k-th dependency is of x and y
+unfoldable pub dependency : List ℕ → ℕ → ℕ → ℕ → Bool
+dependency d x y k = eqb (dependencyFrom d k) x and eqb (dependencyTo d k) y
+
+unfoldable pub dependsOf : List ℕ → ℕ → ℕ → Bool
+dependsOf d x y = anyBelow (dependencyCount d) (dependency d x y)
+
 -- ---- decoding
 
--- the table of n rows in the bytes b, with the places p, in the mode g
-unfoldable pub decode : List ℕ → List (List ℕ) → Mode → ℕ → Table
-decode b p g n = record { rows = n; places = p; counted = g .counted; chains = g .chains; row = rowOf b; source = atomicSource b }
+-- the table of n rows in the bytes b, with the places p, in the mode g, with the dependencies in the bytes d
+unfoldable pub decode : List ℕ → List (List ℕ) → Mode → List ℕ → ℕ → Table
+decode b p g d n =
+    record {
+      rows = n;
+      places = p;
+      counted = g .counted;
+      chains = g .chains;
+      row = rowOf b;
+      source = atomicSource b;
+      depends = dependsOf d;
+    }
 
 -- the table in all of its bytes, and all of its sources
 unfoldable pub tableOf : List ℕ → Table
-tableOf s = decode (rowBytes s) (placesOf s) (modeOf false s) (rowsAt s)
+tableOf s = decode (rowBytes s) (placesOf s) (modeOf false s) (dependencyBytes s) (rowsAt s)
 
 unfoldable pub sourcesOf : List ℕ → ℕ → ℕ
 sourcesOf s = sourceOf (rowBytes s)

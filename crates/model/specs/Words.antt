@@ -60,7 +60,7 @@ blankAt s i = blank (tableOf s) (sourcesOf s) i
 
 -- the first of the two bytes of row i's source
 unfoldable pub sourceBegin : List ℕ → ℕ → ℕ
-sourceBegin s i = rowsBegin (agentsAt s) + (i * ROW-BYTES + 12)
+sourceBegin s i = rowsBegin s + (i * ROW-BYTES + 12)
 
 -- f is a filling of s (document 01's own term): 65535 or the number of a row in the place of each blank, and nothing else changed
 pub record Filling (s f : List ℕ) : Type 0 where

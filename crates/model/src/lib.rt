@@ -28,8 +28,8 @@ pub const CASE: u16 = 512;
 
 // ---- a table's parts
 
-// The family, workgroup and subgroup numbers of each agent.
-pub type Places = [[u16; 3]; 32];
+// The family, workgroup and subgroup numbers of each agent, and what it is: 0 shader, 1 host, 2 queue.
+pub type Places = [[u16; 4]; 32];
 
 // What the rules of order go by beside rows and places: whether ranks are counted, and whether the device reports the feature
 // vulkanMemoryModelAvailabilityVisibilityChains.

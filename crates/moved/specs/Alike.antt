@@ -13,13 +13,14 @@ use Rattle.finite.specs.Closure.{through}
 use Rattle.model.specs.Table.{Table}
 use Rattle.moved.specs.Renumber.{Renumbering, moment-to, opened, row-of, eqb-to, any-to, thrice, through-to}
 
--- row x of t is row `to x` of u, its atomic source renumbered, and each agent's rows keep their order
+-- row x of t is row `to x` of u, its atomic source and its dependencies renumbered, and each agent's rows keep their order
 pub record Alike (t u : Table) (π : Renumbering (t .rows)) : Type 0 where
   pub rows : u .rows ≡ t .rows
   pub places : u .places ≡ t .places
   pub counted : u .counted ≡ t .counted
   pub row : (x : ℕ) → u .row (π .to x) ≡ t .row x
   pub source : (x : ℕ) → u .source (π .to x) ≡ π .to (t .source x)
+  pub depends : (x y : ℕ) → u .depends (π .to x) (π .to y) ≡ t .depends x y
   pub kept : (x y : ℕ) → x < y → t .row x .agent ≡ t .row y .agent → π .to x < π .to y
 
 -- ---- a conjunct that is only asked where another holds

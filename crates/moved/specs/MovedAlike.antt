@@ -1,25 +1,27 @@
 -- A table whose bytes are moved is alike: the only page of the proof that knows where a byte stands. Assumes nothing.
-use mathlib.Core.Path.{_≡_, refl, sym, ap, ap₂, _∙_}
+use mathlib.Core.Path.{_≡_, refl, sym, ap₂, _∙_}
 use mathlib.Core.Bool.{Bool, true, false, cond}
 use mathlib.Core.List.{List, [], _∷_}
 use mathlib.Core.Logic.{_⊎_, inl, inr, ⊎-elim}
 use Prim.Native.Nat.{ℕ, _+_, _*_, _≤_, _<_}
 use native.Mathlib.Omega.{arith}
 use native.Mathlib.Decide.{decLt}
-use lib.Dec.{ltb, leb}
+use lib.ListN.{getD}
+use lib.Dec.{ltb, leb, eqb}
 use borrow.Author.Tests.{le-ltb}
-use Rattle.finite.specs.Logic.{_and_}
+use Rattle.finite.specs.Logic.{_and_, which}
+use Rattle.finite.specs.Below.{any-cong}
 use Rattle.finite.specs.Lists.{tabulate-cong}
 use Rattle.model.specs.Limits.{AGENTS, INITIAL, ROWS}
 use Rattle.model.specs.Row.{atomic}
-use Rattle.model.specs.Table.{HEADER, PLACE-BYTES, ROW-BYTES, COUNTED, pairAt, versionAt, agentsAt, rowsAt, placeAt, slotAt, placesOf, modeOf, rowsBegin, rowBytes, byteOf, pairOf, rowOf, sourceOf, atomicSource, decode, tableOf, sourcesOf}
+use Rattle.model.specs.Table.{HEADER, PLACE-BYTES, ROW-BYTES, COUNTED, HOSTS-PLACE-BYTES, pairAt, versionAt, agentsAt, rowsAt, hasHosts, threeAt, fourAt, placeAt, slotAt, placesOf, modeOf, rowsBegin, rowBytes, dependencyBytes, byteOf, pairOf, rowOf, sourceOf, atomicSource, dependencyCount, dependencyFrom, dependencyTo, dependency, dependsOf, decode, tableOf, sourcesOf}
 use Rattle.model.specs.AdmissionLaws.{Sound, rows-fit, size-fits, access-size, among-right}
-use Rattle.model.specs.FillingLaws.{bytes-at, bytes-past, pair-is}
+use Rattle.model.specs.FillingLaws.{begin-hosts, begin-plain, begin-header, bytes-at, bytes-past, pair-is}
 use Rattle.model.specs.FilledLaws.{Bytes, rank-small}
 use Rattle.model.specs.RaceLaws.{Sized}
 use Rattle.model.specs.WriterLaws.{writers-ordered}
 use Rattle.model.specs.ChoiceLaws.{Fair}
-use Rattle.moved.specs.Renumber.{Renumbering, to-below}
+use Rattle.moved.specs.Renumber.{Renumbering, to-below, eqb-to}
 use Rattle.moved.specs.Moved.{Moved}
 use Rattle.moved.specs.Alike.{Alike}
 
@@ -69,34 +71,67 @@ of-table s π = record { to = π .to; back = π .back; back-to = π .back-to; to
 module _ {blanks : Bool} {s s′ : List ℕ} {π : Renumbering (rowsAt s)} (m : Moved s s′ π) (h : Sound blanks s) (h′ : Sound blanks s′) where
   -- ---- the header and the places
 
-  agents-same : agentsAt s′ ≡ agentsAt s
-  unfolding agentsAt rowsBegin
-  agents-same = m .head 5 (omega arith)
+  header-same : (k : ℕ) → k < HEADER → getD s′ k 0 ≡ getD s k 0
+  header-same k l = let b = begin-header s in m .head k (omega arith)
 
-  pub rows-same : rowsAt s′ ≡ rowsAt s
-  unfolding rowsAt rowsBegin
-  rows-same = m .head 6 (omega arith)
+  version-same : versionAt s′ ≡ versionAt s
+  unfolding versionAt
+  version-same = header-same 4 (omega arith)
+
+  hosts-same : hasHosts s′ ≡ hasHosts s
+  unfolding hasHosts
+  hosts-same = rw version-same refl
 
   counted-same : leb COUNTED (versionAt s′) ≡ leb COUNTED (versionAt s)
-  unfolding versionAt rowsBegin
-  counted-same = ap (λ (v : ℕ). leb COUNTED v) (m .head 4 (omega arith))
+  counted-same = rw version-same refl
 
-  pair-head : (k : ℕ) → k + 1 < rowsBegin (agentsAt s) → pairAt s′ k ≡ pairAt s k
+  agents-same : agentsAt s′ ≡ agentsAt s
+  unfolding agentsAt
+  agents-same = header-same 5 (omega arith)
+
+  pub rows-same : rowsAt s′ ≡ rowsAt s
+  unfolding rowsAt
+  rows-same = header-same 6 (omega arith)
+
+  begin-same : rowsBegin s′ ≡ rowsBegin s
+  unfolding rowsBegin
+  begin-same = rw (hosts-same, agents-same) refl
+
+  pair-head : (k : ℕ) → k + 1 < rowsBegin s → pairAt s′ k ≡ pairAt s k
   unfolding pairAt
   pair-head k l = rw (m .head k (omega arith), m .head (k + 1) l) refl
 
-  place-same : (a : ℕ) → a < agentsAt s → placeAt s′ a ≡ placeAt s a
-  unfolding placeAt rowsBegin
-  place-same a l =
+  three-same : (a : ℕ) → a < agentsAt s → hasHosts s ≡ false → threeAt s′ a ≡ threeAt s a
+  unfolding threeAt
+  three-same a l e =
+      let b = begin-plain s e in
       rw
       (pair-head (HEADER + a * PLACE-BYTES + 0) (omega arith), pair-head (HEADER + a * PLACE-BYTES + 2) (omega arith), pair-head (HEADER + a * PLACE-BYTES + 4) (omega arith))
       refl
+
+  four-same : (a : ℕ) → a < agentsAt s → hasHosts s ≡ true → fourAt s′ a ≡ fourAt s a
+  unfolding fourAt
+  four-same a l e =
+      let b = begin-hosts s e in
+      rw
+      (pair-head (HEADER + a * HOSTS-PLACE-BYTES + 0) (omega arith), pair-head (HEADER + a * HOSTS-PLACE-BYTES + 2) (omega arith), pair-head (HEADER + a * HOSTS-PLACE-BYTES + 4) (omega arith), pair-head (HEADER + a * HOSTS-PLACE-BYTES + 6) (omega arith))
+      refl
+
+  place-same : (a : ℕ) → a < agentsAt s → placeAt s′ a ≡ placeAt s a
+  unfolding placeAt
+  place-same a l = rw hosts-same (⊎-elim at-hosts at-plain (which (hasHosts s)))
+    where
+      at-hosts : hasHosts s ≡ true → cond (hasHosts s) (fourAt s′ a) (threeAt s′ a) ≡ cond (hasHosts s) (fourAt s a) (threeAt s a)
+      at-hosts e = rw e (four-same a l e)
+
+      at-plain : hasHosts s ≡ false → cond (hasHosts s) (fourAt s′ a) (threeAt s′ a) ≡ cond (hasHosts s) (fourAt s a) (threeAt s a)
+      at-plain e = rw e (three-same a l e)
 
   slot-same : (a : ℕ) → slotAt s′ a ≡ slotAt s a
   unfolding slotAt
   slot-same a = rw agents-same (go (decLt a (agentsAt s)))
     where
-      go : Dec (a < agentsAt s) → cond (ltb a (agentsAt s)) (placeAt s′ a) (0 ∷ 0 ∷ 0 ∷ []) ≡ cond (ltb a (agentsAt s)) (placeAt s a) (0 ∷ 0 ∷ 0 ∷ [])
+      go : Dec (a < agentsAt s) → cond (ltb a (agentsAt s)) (placeAt s′ a) (0 ∷ 0 ∷ 0 ∷ 0 ∷ []) ≡ cond (ltb a (agentsAt s)) (placeAt s a) (0 ∷ 0 ∷ 0 ∷ 0 ∷ [])
       go (yes l) = rw (place-same a l) refl
       go (no l) = simp (le-ltb a (agentsAt s) (omega arith))
 
@@ -115,7 +150,7 @@ module _ {blanks : Bool} {s s′ : List ℕ} {π : Renumbering (rowsAt s)} (m : 
   byte-same i k l o = go (decLt i (rowsAt s))
     where
       go : Dec (i < rowsAt s) → byteOf (rowBytes s′) (π .to i) k ≡ byteOf (rowBytes s) i k
-      go (yes p) = bytes-at s s′ (π .to i) k agents-same rows-same (to-below π i p) l ∙ m .fields i k p l o ∙ sym (bytes-at s s i k refl refl p l)
+      go (yes p) = bytes-at s s′ (π .to i) k begin-same rows-same (to-below π i p) l ∙ m .fields i k p l o ∙ sym (bytes-at s s i k refl refl p l)
       go (no p) = past-same i k (omega arith)
 
   pair-same : (i k : ℕ) → k + 1 < ROW-BYTES → (k + 1 < 12) ⊎ (13 < k) → pairOf (rowBytes s′) (π .to i) k ≡ pairOf (rowBytes s) i k
@@ -169,6 +204,16 @@ module _ {blanks : Bool} {s s′ : List ℕ} {π : Renumbering (rowsAt s)} (m : 
       go (yes l) = at (atomic (rowOf (rowBytes s) i)) (m .sources i l)
       go (no l) = rw (past-plain i (omega arith)) (sym stays)
 
+  -- ---- the dependencies
+
+  depends-same : (x y : ℕ) → dependsOf (dependencyBytes s′) (π .to x) (π .to y) ≡ dependsOf (dependencyBytes s) x y
+  unfolding dependsOf dependency
+  depends-same x y =
+      rw (m .count)
+      (any-cong (λ k. eqb (dependencyFrom (dependencyBytes s′) k) (π .to x) and eqb (dependencyTo (dependencyBytes s′) k) (π .to y))
+      (λ k. eqb (dependencyFrom (dependencyBytes s) k) x and eqb (dependencyTo (dependencyBytes s) k) y) (dependencyCount (dependencyBytes s))
+      (λ k l. rw (m .first k l, m .second k l, eqb-to π (dependencyFrom (dependencyBytes s) k) x, eqb-to π (dependencyTo (dependencyBytes s) k) y) refl))
+
   -- ---- the order of an agent's rows
 
   order-same : (i j : ℕ) → i < j → rowOf (rowBytes s) i .agent ≡ rowOf (rowBytes s) j .agent → π .to i < π .to j
@@ -182,7 +227,7 @@ module _ {blanks : Bool} {s s′ : List ℕ} {π : Renumbering (rowsAt s)} (m : 
   -- A MOVED TABLE IS ALIKE
   pub moved-alike : Alike (tableOf s) (tableOf s′) (of-table s π)
   unfolding tableOf decode modeOf
-  moved-alike = record { rows = rows-same; places = places-same; counted = counted-same; row = row-same; source = source-same; kept = order-same }
+  moved-alike = record { rows = rows-same; places = places-same; counted = counted-same; row = row-same; source = source-same; depends = depends-same; kept = order-same }
 
   -- the sources of all rows
   pub sources-moved : (i : ℕ) → i < tableOf s .rows → sourcesOf s′ (π .to i) ≡ π .to (sourcesOf s i)

@@ -12,7 +12,7 @@ use Rattle.model.specs.Table.{Table}
 use Rattle.model.specs.Scope.{mutually, follows}
 use Rattle.model.specs.Moment.{momentIn, orderedRows, availability, visibility, sameAgent, programOrder}
 use Rattle.model.specs.Synchronizes.{ends, sequence, takesFrom, leads, trails, syncAtomics, carriesOut, syncFromBarrier, carriesIn, syncToBarrier, carriesOver, syncBarriers, upTo, joins, arrives, passes, syncControl, synchronizes}
-use Rattle.model.specs.Happens.{holding, concerns, bySync, toRelease, fromAcquire, step, interThread, holdsAll, live, interThreadBy, happens}
+use Rattle.model.specs.Happens.{holding, concerns, bySync, toRelease, fromAcquire, bySystem, step, interThread, holdsAll, live, interThreadBy, happens}
 use Rattle.moved.specs.Renumber.{Renumbering, row-of, part-of, eqb-to, ltb-to}
 use Rattle.moved.specs.Alike.{Alike, and-left-so, ltb-kept, leb-kept, mo, row-at, ltb-moment, some-row, moment-path}
 
@@ -153,9 +153,13 @@ module _ {t u : Table} {π : Renumbering (t .rows)} (M : Alike t u π) where
   unfolding fromAcquire
   acquire-alike s m k = rw (holding-alike s m, row-at M m, concerns-alike s k, order-alike m k) refl
 
+  system-alike : (m k : ℕ) → bySystem u (mo M m) (mo M k) ≡ bySystem t m k
+  unfolding bySystem
+  system-alike m k = rw (part-of (π .to) m, part-of (π .to) k, row-of (π .to) m, row-of (π .to) k, M .depends (m / 3) (k / 3)) refl
+
   step-alike : (s m k : ℕ) → step u s (mo M m) (mo M k) ≡ step t s m k
   unfolding step
-  step-alike s m k = rw (sync-alike s m k, release-alike s m k, acquire-alike s m k) refl
+  step-alike s m k = rw (sync-alike s m k, release-alike s m k, acquire-alike s m k, system-alike m k) refl
 
   inter-alike : (s m k : ℕ) → interThread u s (mo M m) (mo M k) ≡ interThread t s m k
   unfolding interThread
@@ -167,7 +171,7 @@ module _ {t u : Table} {π : Renumbering (t .rows)} (M : Alike t u π) where
 
   live-alike : (s : ℕ) → live u s ≡ live t s
   unfolding live
-  live-alike s = some-row M (holdsAll t s) (holdsAll u s) (holds-alike s)
+  live-alike s = rw (some-row M (holdsAll t s) (holdsAll u s) (holds-alike s)) refl
 
   by-alike : (m k c : ℕ) → interThreadBy u (mo M m) (mo M k) c ≡ interThreadBy t m k c
   unfolding interThreadBy

@@ -12,7 +12,7 @@ use lib.Dec.{ltb, leb, eqb}
 use borrow.Author.Tests.{ltb-true, lt-ltb, le-ltb, leb-true, eqb-true, eq-eqb}
 use Rattle.finite.specs.Logic.{_and_, _or_, split, or-cases, not-both, not-out}
 use Rattle.finite.specs.Below.{allBelow, all-out}
-use Rattle.model.specs.Table.{ROW-BYTES, agentsAt, rowsAt, rowsBegin, rowBytes, rowOf, sourcesOf}
+use Rattle.model.specs.Table.{ROW-BYTES, rowsAt, rowsBegin, rowBytes, dependencyBytes, rowOf, dependencyCount, dependencyFrom, dependencyTo, sourcesOf}
 use Rattle.moved.specs.Renumber.{Renumbering}
 use Rattle.moved.specs.Moved.{Moved}
 
@@ -52,7 +52,7 @@ module _ (s s′ : List ℕ) (to : ℕ → ℕ) where
   unfoldable pub sameByte : ℕ → ℕ → Bool
   sameByte i k =
       (leb 12 k and leb k 13)
-      or eqb (getD s′ (rowsBegin (agentsAt s) + (to i * ROW-BYTES + k)) 0) (getD s (rowsBegin (agentsAt s) + (i * ROW-BYTES + k)) 0)
+      or eqb (getD s′ (rowsBegin s + (to i * ROW-BYTES + k)) 0) (getD s (rowsBegin s + (i * ROW-BYTES + k)) 0)
 
   unfoldable pub sameRow : ℕ → Bool
   sameRow i = allBelow ROW-BYTES (sameByte i) and eqb (sourcesOf s′ (to i)) (to (sourcesOf s i))
@@ -63,25 +63,49 @@ module _ (s s′ : List ℕ) (to : ℕ → ℕ) where
   unfoldable pub ordered : ℕ → Bool
   ordered j = allBelow j (inOrder j)
 
+  unfoldable pub sameDependency : ℕ → Bool
+  sameDependency k =
+      eqb (dependencyFrom (dependencyBytes s′) k) (to (dependencyFrom (dependencyBytes s) k))
+      and eqb (dependencyTo (dependencyBytes s′) k) (to (dependencyTo (dependencyBytes s) k))
+
+  unfoldable pub sameDependencies : Bool
+  sameDependencies =
+      eqb (dependencyCount (dependencyBytes s′)) (dependencyCount (dependencyBytes s)) and allBelow (dependencyCount (dependencyBytes s)) sameDependency
+
   unfoldable pub isMoved : Bool
-  isMoved = allBelow (rowsBegin (agentsAt s)) sameHead and allBelow (rowsAt s) sameRow and allBelow (rowsAt s) ordered
+  isMoved = sameDependencies and (allBelow (rowsBegin s) sameHead and allBelow (rowsAt s) sameRow and allBelow (rowsAt s) ordered)
 
 module _ (s s′ : List ℕ) (π : Renumbering (rowsAt s)) where
   pub moved-by-test : isMoved s s′ (π .to) ≡ true → Moved s s′ π
-  unfolding isMoved sameHead sameRow sameByte ordered inOrder
-  moved-by-test e = record { head = head; fields = fields; sources = λ i l. eqb-true _ _ (split (rows i l) .1); order = order }
+  unfolding isMoved sameHead sameRow sameByte ordered inOrder sameDependencies sameDependency
+  moved-by-test e =
+      record {
+        head = head;
+        fields = fields;
+        sources = λ i l. eqb-true _ _ (split (rows i l) .1);
+        count = eqb-true _ _ (split d .0);
+        first = λ k l. eqb-true _ _ (split (each k l) .0);
+        second = λ k l. eqb-true _ _ (split (each k l) .1);
+        order = order;
+      }
     where
-      a : ((allBelow (rowsBegin (agentsAt s)) (sameHead s s′ (π .to)) and allBelow (rowsAt s) (sameRow s s′ (π .to))) ≡ true) × (allBelow (rowsAt s) (ordered s s′ (π .to)) ≡ true)
-      a = split e
+      a : ((allBelow (rowsBegin s) (sameHead s s′ (π .to)) and allBelow (rowsAt s) (sameRow s s′ (π .to))) ≡ true) × (allBelow (rowsAt s) (ordered s s′ (π .to)) ≡ true)
+      a = split (split e .1)
+
+      d : sameDependencies s s′ (π .to) ≡ true
+      d = split e .0
+
+      each : (k : ℕ) → k < dependencyCount (dependencyBytes s) → sameDependency s s′ (π .to) k ≡ true
+      each k l = all-out (sameDependency s s′ (π .to)) (dependencyCount (dependencyBytes s)) (split d .1) k l
 
       rows : (i : ℕ) → i < rowsAt s → (allBelow ROW-BYTES (sameByte s s′ (π .to) i) and eqb (sourcesOf s′ (π .to i)) (π .to (sourcesOf s i))) ≡ true
       rows i l = all-out (sameRow s s′ (π .to)) (rowsAt s) (split (a .0) .1) i l
 
-      head : (k : ℕ) → k < rowsBegin (agentsAt s) → getD s′ k 0 ≡ getD s k 0
-      head k l = eqb-true _ _ (all-out (sameHead s s′ (π .to)) (rowsBegin (agentsAt s)) (split (a .0) .0) k l)
+      head : (k : ℕ) → k < rowsBegin s → getD s′ k 0 ≡ getD s k 0
+      head k l = eqb-true _ _ (all-out (sameHead s s′ (π .to)) (rowsBegin s) (split (a .0) .0) k l)
 
       fields : (i k : ℕ) → i < rowsAt s → k < ROW-BYTES → (k < 12) ⊎ (13 < k)
-          → getD s′ (rowsBegin (agentsAt s) + (π .to i * ROW-BYTES + k)) 0 ≡ getD s (rowsBegin (agentsAt s) + (i * ROW-BYTES + k)) 0
+          → getD s′ (rowsBegin s + (π .to i * ROW-BYTES + k)) 0 ≡ getD s (rowsBegin s + (i * ROW-BYTES + k)) 0
       fields i k l m o =
           ⊎-elim (λ h. let p = leb-true 12 k (split h .0) in let q = leb-true k 13 (split h .1) in absurd (⊎-elim (λ v. omega arith) (λ v. omega arith) o)) (λ h. eqb-true _ _ h)
           (or-cases (leb 12 k and leb k 13) _ (all-out (sameByte s s′ (π .to) i) ROW-BYTES (split (rows i l) .0) k m))

@@ -22,8 +22,8 @@ use Rattle.model.specs.declared.Reason.{Reason}
 use Rattle.model.specs.declared.Reason.the-variants.{ProgramOrder, Chain}
 use Rattle.model.specs.Limits.{ROWS, CHAIN, CASE, CLASS-SETS}
 use Rattle.model.specs.Table.{Table, rowsAt, tableOf, decode}
-use Rattle.model.specs.Moment.{AT, momentOf, momentIn, moment, orderedRows, programOrder}
-use Rattle.model.specs.Happens.{holding, holdingOf, bySync, toRelease, fromAcquire, direct, step, happens}
+use Rattle.model.specs.Moment.{AT, part, momentOf, momentIn, moment, orderedRows, programOrder}
+use Rattle.model.specs.Happens.{holding, holdingOf, bySync, toRelease, fromAcquire, bySystem, direct, step, happens}
 use Rattle.model.specs.HappensLaws.{happens-is}
 use Rattle.model.specs.Words.{HappensBefore}
 use Rattle.model.specs.AdmissionLaws.{admitted-sound, rows-fit}
@@ -37,7 +37,7 @@ module _ (t : Table) where
   pub record Holds (s m x : ℕ) : Type 0 where
     pub there : moment t (reached x) ≡ true
     pub by : ((caseIn x ≡ 1) × (bySync t s m (reached x) ≡ true))
-        ⊎ (((caseIn x ≡ 2) × (toRelease t s m (reached x) ≡ true)) ⊎ ((caseIn x ≡ 3) × (fromAcquire t s m (reached x) ≡ true)))
+        ⊎ (((caseIn x ≡ 2) × (toRelease t s m (reached x) ≡ true)) ⊎ (((caseIn x ≡ 3) × (fromAcquire t s m (reached x) ≡ true)) ⊎ ((caseIn x ≡ 4) × (bySystem t m (reached x) ≡ true))))
 
   -- steps that hold for the class set s lead from a moment to another
   pub data Leads (s : ℕ) : ℕ → List ℕ → ℕ → Type 0 where
@@ -60,41 +60,50 @@ module _ (t : Table) (s m : ℕ) where
       k = reached x
 
       inner : ((eqb (caseIn x) 1 and bySync t s m k) ≡ true) ⊎ ((eqb (caseIn x) 2 and toRelease t s m k) ≡ true)
-          → ((caseIn x ≡ 1) × (bySync t s m k ≡ true)) ⊎ (((caseIn x ≡ 2) × (toRelease t s m k ≡ true)) ⊎ ((caseIn x ≡ 3) × (fromAcquire t s m k ≡ true)))
+          → ((caseIn x ≡ 1) × (bySync t s m k ≡ true)) ⊎ (((caseIn x ≡ 2) × (toRelease t s m k ≡ true)) ⊎ (((caseIn x ≡ 3) × (fromAcquire t s m k ≡ true)) ⊎ ((caseIn x ≡ 4) × (bySystem t m k ≡ true))))
       inner (inl e) = inl (eqb-true _ _ (split e .0), split e .1)
       inner (inr e) = inr (inl (eqb-true _ _ (split e .0), split e .1))
 
-      go : ((eqb (caseIn x) 1 and bySync t s m k or eqb (caseIn x) 2 and toRelease t s m k) ≡ true) ⊎ ((eqb (caseIn x) 3 and fromAcquire t s m k) ≡ true)
-          → ((caseIn x ≡ 1) × (bySync t s m k ≡ true)) ⊎ (((caseIn x ≡ 2) × (toRelease t s m k ≡ true)) ⊎ ((caseIn x ≡ 3) × (fromAcquire t s m k ≡ true)))
-      go (inl e) = inner (or-cases _ _ e)
-      go (inr e) = inr (inr (eqb-true _ _ (split e .0), split e .1))
+      outer : ((eqb (caseIn x) 1 and bySync t s m k or eqb (caseIn x) 2 and toRelease t s m k) ≡ true) ⊎ ((eqb (caseIn x) 3 and fromAcquire t s m k) ≡ true)
+          → ((caseIn x ≡ 1) × (bySync t s m k ≡ true)) ⊎ (((caseIn x ≡ 2) × (toRelease t s m k ≡ true)) ⊎ (((caseIn x ≡ 3) × (fromAcquire t s m k ≡ true)) ⊎ ((caseIn x ≡ 4) × (bySystem t m k ≡ true))))
+      outer (inl e) = inner (or-cases _ _ e)
+      outer (inr e) = inr (inr (inl (eqb-true _ _ (split e .0), split e .1)))
+
+      go : ((eqb (caseIn x) 1 and bySync t s m k or eqb (caseIn x) 2 and toRelease t s m k or eqb (caseIn x) 3 and fromAcquire t s m k) ≡ true) ⊎ ((eqb (caseIn x) 4 and bySystem t m k) ≡ true)
+          → ((caseIn x ≡ 1) × (bySync t s m k ≡ true)) ⊎ (((caseIn x ≡ 2) × (toRelease t s m k ≡ true)) ⊎ (((caseIn x ≡ 3) × (fromAcquire t s m k ≡ true)) ⊎ ((caseIn x ≡ 4) × (bySystem t m k ≡ true))))
+      go (inl e) = outer (or-cases _ _ e)
+      go (inr e) = inr (inr (inr (eqb-true _ _ (split e .0), split e .1)))
 
   step-in : (x : ℕ) → Holds t s m x → stepHolds t s m x ≡ true
   unfolding stepHolds direct
   step-in x h =
       and-true (h .there)
-      (⊎-elim (λ a. or-left _ (or-left _ (and-true (eq-eqb _ _ (a .0)) (a .1))))
-      (λ b. ⊎-elim (λ a. or-left _ (or-right _ (and-true (eq-eqb _ _ (a .0)) (a .1)))) (λ a. or-right _ (and-true (eq-eqb _ _ (a .0)) (a .1))) b)
+      (⊎-elim (λ a. or-left _ (or-left _ (or-left _ (and-true (eq-eqb _ _ (a .0)) (a .1)))))
+      (λ b. ⊎-elim (λ a. or-left _ (or-left _ (or-right _ (and-true (eq-eqb _ _ (a .0)) (a .1))))) (λ c. ⊎-elim (λ a. or-left _ (or-right _ (and-true (eq-eqb _ _ (a .0)) (a .1)))) (λ a. or-right _ (and-true (eq-eqb _ _ (a .0)) (a .1))) c) b)
       (h .by))
 
   -- it is one of the steps that inter-thread order is the closure of
   step-is : (x : ℕ) → Holds t s m x → step t s m (reached x) ≡ true
   unfolding step
   step-is x h =
-      ⊎-elim (λ a. or-left _ (or-left _ (a .1))) (λ b. ⊎-elim (λ a. or-left _ (or-right _ (a .1))) (λ a. or-right _ (a .1)) b) (h .by)
+      ⊎-elim (λ a. or-left _ (or-left _ (or-left _ (a .1)))) (λ b. ⊎-elim (λ a. or-left _ (or-left _ (or-right _ (a .1)))) (λ c. ⊎-elim (λ a. or-left _ (or-right _ (a .1))) (λ a. or-right _ (a .1)) c) b) (h .by)
 
   -- a moment that is reached is there
   own : (k : ℕ) → k < 3 * t .rows → holding t s k ≡ true → moment t k ≡ true
   unfolding holding holdingOf moment momentIn momentOf
   own k l e = and-true (lt-ltb (k / 3) (t .rows) (omega arith)) (or-left _ (or-left _ (split (split e .0) .0)))
 
+  row-there : (k : ℕ) → k < 3 * t .rows → eqb (part k) AT ≡ true → moment t k ≡ true
+  unfolding moment momentIn momentOf
+  row-there k l e = and-true (lt-ltb (k / 3) (t .rows) (omega arith)) (or-left _ (or-left _ e))
+
   ordered : (k : ℕ) → programOrder t m k ≡ true → moment t k ≡ true
   unfolding programOrder orderedRows moment
   ordered k e = split e .1
 
   moment-there : (k : ℕ) → k < 3 * t .rows → step t s m k ≡ true → moment t k ≡ true
-  unfolding step bySync toRelease fromAcquire
-  moment-there k l h = go (or-cases _ _ h)
+  unfolding step bySync toRelease fromAcquire bySystem
+  moment-there k l h = last (or-cases (bySync t s m k or toRelease t s m k or fromAcquire t s m k) (bySystem t m k) h)
     where
       inner : (bySync t s m k ≡ true) ⊎ (toRelease t s m k ≡ true) → moment t k ≡ true
       inner (inl e) = own k l (split (split e .0) .1)
@@ -103,6 +112,10 @@ module _ (t : Table) (s m : ℕ) where
       go : ((bySync t s m k or toRelease t s m k) ≡ true) ⊎ (fromAcquire t s m k ≡ true) → moment t k ≡ true
       go (inl e) = inner (or-cases _ _ e)
       go (inr e) = ordered k (split e .1)
+
+      last : ((bySync t s m k or toRelease t s m k or fromAcquire t s m k) ≡ true) ⊎ (bySystem t m k ≡ true) → moment t k ≡ true
+      last (inl e) = go (or-cases _ _ e)
+      last (inr e) = row-there k l (split (split e .0) .1)
 
 -- ---- a chain
 
@@ -192,19 +205,24 @@ module _ (t : Table) (s : ℕ) where
   -- the lowest case that leads to a moment is one of M6's
   lowest-holds : (m k : ℕ) → k < CASE → moment t k ≡ true → step t s m k ≡ true → Holds t s m (stepNumber t s m k)
   unfolding stepNumber lowestCase step
-  lowest-holds m k b here h = go (which (bySync t s m k)) (which (toRelease t s m k))
+  lowest-holds m k b here h = go (which (bySync t s m k)) (which (toRelease t s m k)) (which (fromAcquire t s m k))
     where
       to : (case : ℕ) → (caseIn (stepTo case k) ≡ case) × (reached (stepTo case k) ≡ k)
       to case = (omega arith, omega arith)
 
-      last : bySync t s m k ≡ false → toRelease t s m k ≡ false → fromAcquire t s m k ≡ true
-      last x y = ⊎-elim (λ a. ⊎-elim (λ c. not-both c x) (λ c. not-both c y) (or-cases _ _ a)) (λ a. a) (or-cases _ _ h)
+      last : bySync t s m k ≡ false → toRelease t s m k ≡ false → fromAcquire t s m k ≡ false → bySystem t m k ≡ true
+      last x y z =
+          ⊎-elim
+          (λ d. ⊎-elim (λ a. ⊎-elim (λ c. not-both c x) (λ c. not-both c y) (or-cases (bySync t s m k) (toRelease t s m k) a)) (λ a. not-both a z) (or-cases (bySync t s m k or toRelease t s m k) (fromAcquire t s m k) d))
+          (λ d. d)
+          (or-cases (bySync t s m k or toRelease t s m k or fromAcquire t s m k) (bySystem t m k) h)
 
-      go : (bySync t s m k ≡ true) ⊎ (bySync t s m k ≡ false) → (toRelease t s m k ≡ true) ⊎ (toRelease t s m k ≡ false)
-          → Holds t s m (stepTo (cond (bySync t s m k) 1 (cond (toRelease t s m k) 2 3)) k)
-      go (inl x) y = rw x (record { there = rw (to 1 .1) here; by = inl (to 1 .0, rw (to 1 .1) x) })
-      go (inr x) (inl y) = rw (x, y) (record { there = rw (to 2 .1) here; by = inr (inl (to 2 .0, rw (to 2 .1) y)) })
-      go (inr x) (inr y) = rw (x, y) (record { there = rw (to 3 .1) here; by = inr (inr (to 3 .0, rw (to 3 .1) (last x y))) })
+      go : (bySync t s m k ≡ true) ⊎ (bySync t s m k ≡ false) → (toRelease t s m k ≡ true) ⊎ (toRelease t s m k ≡ false) → (fromAcquire t s m k ≡ true) ⊎ (fromAcquire t s m k ≡ false)
+          → Holds t s m (stepTo (cond (bySync t s m k) 1 (cond (toRelease t s m k) 2 (cond (fromAcquire t s m k) 3 4))) k)
+      go (inl x) y z = rw x (record { there = rw (to 1 .1) here; by = inl (to 1 .0, rw (to 1 .1) x) })
+      go (inr x) (inl y) z = rw (x, y) (record { there = rw (to 2 .1) here; by = inr (inl (to 2 .0, rw (to 2 .1) y)) })
+      go (inr x) (inr y) (inl z) = rw (x, y, z) (record { there = rw (to 3 .1) here; by = inr (inr (inl (to 3 .0, rw (to 3 .1) z))) })
+      go (inr x) (inr y) (inr z) = rw (x, y, z) (record { there = rw (to 4 .1) here; by = inr (inr (inr (to 4 .0, rw (to 4 .1) (last x y z)))) })
 
   hop : (z w : ℕ) {k : ℕ} {l : List ℕ} → t .rows ≤ ROWS → w < 3 * t .rows → step t s z w ≡ true → Leads t s w l k → Leads t s z (stepNumber t s z w ∷ l) k
   unfolding stepNumber

@@ -1,0 +1,131 @@
+-- Document 02's run of host agents, and what would fool us there, computed from the definitions. Assumes nothing.
+use mathlib.Core.Path.{_≡_, refl}
+use mathlib.Core.Bool.{Bool, true, false}
+use mathlib.Core.List.{List, [], _∷_, _++_, map}
+use Prim.Native.Nat.{ℕ, _+_, _*_}
+use lib.ListN.{length, set}
+use Rattle.finite.specs.Logic.{_and_, _or_}
+use Rattle.finite.specs.Below.{anyBelow, allBelow, least}
+use Rattle.finite.specs.Closure.{through}
+use Rattle.finite.specs.Lists.{tabulate}
+use Rattle.finite.specs.Walk.{walk, onCycle, cycleStart, cycleSize, trail, cycle, along}
+use Rattle.model.specs.Row.{plain, atomic, access, barrier, control, sameInstance, operation, plainRead, rmw, reads, writes, ranked, acquires, releases, holds, meets, single, classIn, nonPrivate, makesAvailable, makesVisible, inside, touches, covers, lowestShared, isShared, overlap}
+use Rattle.model.specs.Table.{pairAt, quadAt, countAt, versionAt, agentsAt, rowsAt, zeroAt, hasHosts, threeAt, fourAt, placeAt, slotAt, placesOf, modeOf, rowsBegin, rowsEnd, sizeOf, rowBytes, dependencyBytes, byteOf, pairOf, rowOf, sourceOf, atomicSource, dependencyCount, dependencyFrom, dependencyTo, dependency, dependsOf, decode, tableOf, sourcesOf}
+use Rattle.model.specs.Scope.{agentKind, shader, host, agree, oneInstance, shares, together, sameLocation, mutualRows, mutually, age, later, laterWriter, follows}
+use Rattle.model.specs.Moment.{availabilityOf, visibilityOf, momentOf, momentIn, orderedRows, classesOf, availability, visibility, moment, sameAgent, programOrder}
+use Rattle.model.specs.Synchronizes.{continues, ends, sequence, takesFrom, leads, trails, syncAtomics, carriesOut, syncFromBarrier, carriesIn, syncToBarrier, carriesOver, syncBarriers, upTo, joins, arrives, passes, syncControl, synchronizes}
+use Rattle.model.specs.Happens.{holdingOf, concernsOf, holding, concerns, bySync, toRelease, fromAcquire, bySystem, step, interThread, holdsAll, live, interThreadBy, happens}
+use Rattle.model.specs.Location.{sameReference, coversOf, pureRead, publicWrite, L1, L2, availableFrom, visibleTo, shareMoment, shown, met, carried, L3, systemBefore, L4, thence, onHost, availableKind, visibleKind, domainKind, seenBy, metFrom, carriedBy, reachesBy, L5, common, before}
+use Rattle.model.specs.Race.{clash, conflict, unordered, unorderedNth, raceNth, races, racesAbove, racePartner, hasRace, raceRow, raceByte}
+use Rattle.model.specs.Edge.{beforeNth, beforeSome, readsFrom, fromReads, edgeNumber, edge, cycleRow, cycleRows, cycleEdges, overwrites, overwritesNth, overNth, overwriting, overWriter, isOverwritten, overReader, overByte, consistent}
+use Rattle.model.specs.Refusal.{buffersFit, versionFits, limitsFit, lengthFits, kindOver, agentsKnown, dependenciesFew, namesNone, dependenciesNamed, hostsFault, headerFault, codesFit, agentFits, operationFits, plainFits, atomicFits, barrierFits, semanticsFit, kindFits, atomicExtentFits, extentFits, formFault, rowFault, otherClass, otherClassAt, classTaken, writerFits, sourceFits, sourceBroken, sameRank, sameRankAt, rankTaken, apart, apartAt, instanceBroken, rival, outside, outsideAt, begins, unfit, tableFault, faulty, firstFault, rowFaultAt, admission}
+use Rattle.model.specs.Check.{raceOr, overwrittenOr, cyclicOr, verdict, admitted, check}
+use Rattle.model.specs.Fill.{missesAt, writtenBy, written, hidesAt, between, candidate, choice, blank, chosen, sourcesFit, filledOr, racingOr, outcome, admittedFill, fill}
+use Rattle.model.specs.Check.{Verdict, refused, race, raceFree}
+use Rattle.model.specs.Fill.{Outcome, filled}
+use Rattle.model.specs.Limits.{WORK, CYCLE, SOURCES}
+use Rattle.model.specs.Runs.{joined}
+
+-- ---- a run: a table, and what a check or a fill of it gives
+
+pub data Answer : Type 0 where
+  checked : Verdict → Answer
+  filling : Outcome → Answer
+
+pub record Run : Type 0 where
+  pub fills : Bool
+  pub table : List ℕ
+  pub gives : Answer
+
+unfoldable pub answer : Bool → List ℕ → Answer
+answer true s = filling (fill s WORK SOURCES)
+answer false s = checked (check s WORK CYCLE)
+
+-- ---- tables
+
+-- places, rows and dependencies
+abbrev hosted : List (List ℕ) → List (List ℕ) → List (List ℕ) → List ℕ
+hosted p r d =
+    0 ∷ 0 ∷ 0 ∷ (6 + 8 * length p + 16 * length r + 4 * length d) ∷ 3 ∷ length p ∷ length r ∷ 0
+    ∷ (joined p ++ (joined r ++ (0 ∷ length d ∷ joined d)))
+
+-- a place, with what the agent is
+abbrev agent : ℕ → ℕ → List ℕ
+agent family kind = 0 ∷ family ∷ 0 ∷ 0 ∷ 0 ∷ 0 ∷ 0 ∷ kind ∷ []
+
+-- a private write and read of four bytes
+abbrev write : ℕ → ℕ → ℕ → List ℕ
+write a start reference = 1 ∷ a ∷ 0 ∷ 0 ∷ 0 ∷ 0 ∷ 0 ∷ 4 ∷ 0 ∷ start ∷ 0 ∷ reference ∷ 255 ∷ 255 ∷ 0 ∷ 0 ∷ []
+
+abbrev read : ℕ → ℕ → ℕ → ℕ → List ℕ
+read a reference high low = 0 ∷ a ∷ 0 ∷ 0 ∷ 0 ∷ 0 ∷ 0 ∷ 4 ∷ 0 ∷ 0 ∷ 0 ∷ reference ∷ high ∷ low ∷ 0 ∷ 0 ∷ []
+
+-- a non-private write and read of them, and a control barrier between: see Runs.antt
+abbrev publish : List ℕ
+publish = 1 ∷ 0 ∷ 0 ∷ 0 ∷ 0 ∷ 1 ∷ 0 ∷ 4 ∷ 0 ∷ 0 ∷ 0 ∷ 1 ∷ 255 ∷ 255 ∷ 0 ∷ 0 ∷ []
+
+abbrev observe : List ℕ
+observe = 0 ∷ 1 ∷ 0 ∷ 0 ∷ 0 ∷ 1 ∷ 0 ∷ 4 ∷ 0 ∷ 0 ∷ 0 ∷ 1 ∷ 0 ∷ 0 ∷ 0 ∷ 0 ∷ []
+
+abbrev meet : ℕ → List ℕ
+meet a = 6 ∷ a ∷ 3 ∷ 2 ∷ 1 ∷ 6 ∷ 2 ∷ 0 ∷ 0 ∷ 7 ∷ 0 ∷ 0 ∷ 255 ∷ 255 ∷ 0 ∷ 0 ∷ []
+
+-- an operation on a domain, by agent 1
+abbrev perform : ℕ → List ℕ
+perform kind = kind ∷ 1 ∷ 0 ∷ 0 ∷ 0 ∷ 0 ∷ 0 ∷ 0 ∷ 0 ∷ 0 ∷ 0 ∷ 0 ∷ 255 ∷ 255 ∷ 0 ∷ 0 ∷ []
+
+abbrev dependency₁ : ℕ → ℕ → List ℕ
+dependency₁ a b = 0 ∷ a ∷ 0 ∷ b ∷ []
+
+-- each of the rows 0 to 4 on the one before
+abbrev each : List (List ℕ)
+each = dependency₁ 0 1 ∷ dependency₁ 1 2 ∷ dependency₁ 2 3 ∷ dependency₁ 3 4 ∷ []
+
+-- a host, a queue and a shader agent
+abbrev three : List (List ℕ)
+three = agent 0 1 ∷ agent 0 2 ∷ agent 0 0 ∷ []
+
+-- ---- host agents
+
+-- document 02's run: a host write, made available to the host domain, carried to the device domain, made visible from it, read by a shader
+abbrev pub upload : List ℕ
+upload = hosted three (write 0 0 1 ∷ perform 7 ∷ perform 11 ∷ perform 10 ∷ read 2 7 0 0 ∷ []) each
+
+abbrev pub hosts : List Run
+hosts =
+    record { fills = false; table = upload; gives = checked raceFree }
+    -- the read blank
+    ∷ record { fills = true; table = hosted three (write 0 0 1 ∷ perform 7 ∷ perform 11 ∷ perform 10 ∷ read 2 7 255 254 ∷ []) each; gives = filling (filled (65535 ∷ 65535 ∷ 65535 ∷ 65535 ∷ 0 ∷ [])) }
+    -- without the domain operation
+    ∷ record { fills = false; table = hosted three (write 0 0 1 ∷ perform 7 ∷ perform 10 ∷ read 2 7 0 0 ∷ []) (dependency₁ 0 1 ∷ dependency₁ 1 2 ∷ dependency₁ 2 3 ∷ []); gives = checked (race 0 3 0) }
+    -- with the other domain operation
+    ∷ record { fills = false; table = hosted three (write 0 0 1 ∷ perform 7 ∷ perform 12 ∷ perform 10 ∷ read 2 7 0 0 ∷ []) each; gives = checked (race 0 4 0) }
+    -- program order between the queue agent's own rows serves as well
+    ∷ record { fills = false; table = hosted three (write 0 0 1 ∷ perform 7 ∷ perform 11 ∷ perform 10 ∷ read 2 7 0 0 ∷ []) (dependency₁ 0 1 ∷ dependency₁ 3 4 ∷ []); gives = checked raceFree }
+    -- closing happens-before over program order: the dependency is of the host's next row
+    ∷ record { fills = false; table = hosted three (write 0 0 1 ∷ write 0 8 1 ∷ perform 7 ∷ perform 11 ∷ perform 10 ∷ read 2 7 0 0 ∷ []) (dependency₁ 1 2 ∷ dependency₁ 2 3 ∷ dependency₁ 3 4 ∷ dependency₁ 4 5 ∷ []); gives = checked (race 0 5 0) }
+    -- from the device to the host
+    ∷ record { fills = false; table = hosted three (write 2 0 1 ∷ perform 8 ∷ perform 12 ∷ perform 9 ∷ read 0 7 0 0 ∷ []) each; gives = checked raceFree }
+    -- a private host read, and a shader's write after it
+    ∷ record { fills = false; table = hosted three (read 0 1 255 255 ∷ perform 10 ∷ write 2 0 7 ∷ []) (dependency₁ 0 1 ∷ dependency₁ 1 2 ∷ []); gives = checked raceFree }
+    -- a write after a write needs no visibility operation
+    ∷ record { fills = false; table = hosted three (write 0 0 1 ∷ perform 7 ∷ perform 11 ∷ write 2 0 7 ∷ []) (dependency₁ 0 1 ∷ dependency₁ 1 2 ∷ dependency₁ 2 3 ∷ []); gives = checked raceFree }
+    -- between two shader agents nothing needs to be carried
+    ∷ record { fills = false; table = hosted (agent 0 0 ∷ agent 0 2 ∷ agent 5 0 ∷ []) (write 0 0 1 ∷ perform 8 ∷ perform 10 ∷ read 2 7 0 0 ∷ []) (dependency₁ 0 1 ∷ dependency₁ 1 2 ∷ dependency₁ 2 3 ∷ []); gives = checked raceFree }
+    -- refusals: a fourth number over 2; a dependency that names no row; a host agent's operation; a field outside an operation's layout
+    ∷ record { fills = false; table = hosted (agent 0 3 ∷ []) (write 0 0 1 ∷ []) []; gives = checked (refused 16 0) }
+    ∷ record { fills = false; table = hosted three (write 0 0 1 ∷ []) (dependency₁ 0 1 ∷ []); gives = checked (refused 18 0) }
+    ∷ record { fills = false; table = hosted (agent 0 0 ∷ agent 0 1 ∷ []) (write 0 0 1 ∷ perform 7 ∷ []) []; gives = checked (refused 19 1) }
+    ∷ record { fills = false; table = set (hosted three (write 0 0 1 ∷ perform 7 ∷ []) []) 52 1; gives = checked (refused 20 1) }
+    -- a control barrier of two shader agents beside a host agent; a host agent has none
+    ∷ record { fills = false; table = hosted (agent 0 0 ∷ agent 0 0 ∷ agent 0 1 ∷ []) (publish ∷ meet 0 ∷ meet 1 ∷ observe ∷ []) []; gives = checked raceFree }
+    ∷ record { fills = false; table = hosted (agent 0 1 ∷ []) (meet 0 ∷ []) []; gives = checked (refused 19 0) }
+    -- a missing count; an empty table of version 3; version 4
+    ∷ record { fills = false; table = 0 ∷ 0 ∷ 0 ∷ 4 ∷ 3 ∷ 0 ∷ 0 ∷ 0 ∷ []; gives = checked (refused 4 0) }
+    ∷ record { fills = false; table = hosted [] [] []; gives = checked raceFree }
+    ∷ record { fills = false; table = 0 ∷ 0 ∷ 0 ∷ 4 ∷ 4 ∷ 0 ∷ 0 ∷ 0 ∷ []; gives = checked (refused 2 0) }
+    ∷ []
+
+pub hosts-hold : map (λ r. answer (r .fills) (r .table)) hosts ≡ map (λ r. r .gives) hosts
+unfolding answer _and_ _or_ anyBelow allBelow least through tabulate walk onCycle cycleStart cycleSize trail cycle along plain atomic access barrier control sameInstance operation plainRead rmw reads writes ranked acquires releases holds meets single classIn nonPrivate makesAvailable makesVisible inside touches covers lowestShared isShared overlap pairAt quadAt countAt versionAt agentsAt rowsAt zeroAt hasHosts threeAt fourAt placeAt slotAt placesOf modeOf rowsBegin rowsEnd sizeOf rowBytes dependencyBytes byteOf pairOf rowOf sourceOf atomicSource dependencyCount dependencyFrom dependencyTo dependency dependsOf decode tableOf sourcesOf agentKind shader host agree oneInstance shares together sameLocation mutualRows mutually age later laterWriter follows availabilityOf visibilityOf momentOf momentIn orderedRows classesOf availability visibility moment sameAgent programOrder continues ends sequence takesFrom leads trails syncAtomics carriesOut syncFromBarrier carriesIn syncToBarrier carriesOver syncBarriers upTo joins arrives passes syncControl synchronizes holdingOf concernsOf holding concerns bySync toRelease fromAcquire bySystem step interThread holdsAll live interThreadBy happens sameReference coversOf pureRead publicWrite L1 L2 availableFrom visibleTo shareMoment shown met carried L3 systemBefore L4 thence onHost availableKind visibleKind domainKind seenBy metFrom carriedBy reachesBy L5 common before clash conflict unordered unorderedNth raceNth races racesAbove racePartner hasRace raceRow raceByte beforeNth beforeSome readsFrom fromReads edgeNumber edge cycleRow cycleRows cycleEdges overwrites overwritesNth overNth overwriting overWriter isOverwritten overReader overByte consistent buffersFit versionFits limitsFit lengthFits kindOver agentsKnown dependenciesFew namesNone dependenciesNamed hostsFault headerFault codesFit agentFits operationFits plainFits atomicFits barrierFits semanticsFit kindFits atomicExtentFits extentFits formFault rowFault otherClass otherClassAt classTaken writerFits sourceFits sourceBroken sameRank sameRankAt rankTaken apart apartAt instanceBroken rival outside outsideAt begins unfit tableFault faulty firstFault rowFaultAt admission raceOr overwrittenOr cyclicOr verdict admitted check missesAt writtenBy written hidesAt between candidate choice blank chosen sourcesFit filledOr racingOr outcome admittedFill fill
+hosts-hold = refl

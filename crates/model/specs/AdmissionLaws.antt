@@ -14,10 +14,10 @@ use Rattle.finite.specs.Below.{least, least-is, least-hit, any-not}
 use Rattle.model.specs.declared.Row.{Row}
 use Rattle.model.specs.declared.Admission.{Admission}
 use Rattle.model.specs.declared.Admission.the-variants.{Admitted, Refused}
-use Rattle.model.specs.Limits.{AGENTS, ROWS, LONGEST, BYTES}
+use Rattle.model.specs.Limits.{AGENTS, ROWS, DEPENDENCIES, LONGEST, BYTES}
 use Rattle.model.specs.Row.{RMW, BARRIER, CONTROL, AVAILABLE-HOST, access, barrier, operation}
 use Rattle.model.specs.Scope.{agentKind}
-use Rattle.model.specs.Table.{Table, HEADER, agentsAt, rowsAt, hasHosts, sizeOf, rowBytes, rowOf, sourceOf, placesOf, tableOf, sourcesOf, decode}
+use Rattle.model.specs.Table.{Table, HEADER, agentsAt, rowsAt, hasHosts, sizeOf, rowBytes, dependencyBytes, rowOf, sourceOf, dependencyCount, placesOf, tableOf, sourcesOf, decode}
 use Rattle.model.specs.Refusal.{headerFault, versionFits, limitsFit, lengthFits, agentsKnown, dependenciesFew, dependenciesNamed, hostsFault, agentFits, operationFits, formFault, codesFit, kindFits, barrierFits, extentFits, rowFault, classTaken, sourceBroken, rankTaken, instanceBroken, unfit, tableFault, faulty, firstFault, rowFaultAt, admission}
 
 -- ---- definitions
@@ -171,6 +171,10 @@ module _ {blanks : Bool} {s : List ℕ} (h : Sound blanks s) where
   pub agents-fit : agentsAt s ≤ AGENTS
   unfolding limitsFit
   agents-fit = leb-true (agentsAt s) AGENTS (split (limits .0) .0)
+
+  pub dependencies-fit : dependencyCount (dependencyBytes s) ≤ DEPENDENCIES
+  unfolding dependenciesFew
+  dependencies-fit = leb-true (dependencyCount (dependencyBytes s)) DEPENDENCIES (hosts-right .1)
 
   pub rows-fit : rowsAt s ≤ ROWS
   unfolding limitsFit

@@ -15,9 +15,10 @@ use Rattle.finite.specs.Logic.{_and_, _or_, split, which, not-both}
 use Rattle.finite.specs.Below.{any-cong}
 use Rattle.finite.specs.Lists.{tabulate, tabulate-cong}
 use Rattle.model.specs.declared.Row.{Row}
-use Rattle.model.specs.Limits.{AGENTS, INITIAL, BLANK}
+use Rattle.model.specs.declared.Mode.{Mode}
+use Rattle.model.specs.Limits.{AGENTS, DEPENDENCIES, INITIAL, BLANK}
 use Rattle.model.specs.Row.{PLAIN-READ, ATOMIC-READ, atomic, plainRead}
-use Rattle.model.specs.Table.{Table, HEADER, PLACE-BYTES, HOSTS-PLACE-BYTES, DEPENDENCY-BYTES, ROW-BYTES, pairAt, versionAt, agentsAt, rowsAt, hasHosts, threeAt, fourAt, placeAt, slotAt, placesOf, rowsBegin, rowsEnd, rowBytes, dependencyBytes, byteOf, pairOf, rowOf, sourceOf, atomicSource, dependencyCount, dependencyFrom, dependencyTo, dependency, dependsOf, decode, tableOf, sourcesOf, modeOf, COUNTED}
+use Rattle.model.specs.Table.{Table, HEADER, PLACE-BYTES, HOSTS-PLACE-BYTES, DEPENDENCY-BYTES, ROW-BYTES, pairAt, versionAt, agentsAt, rowsAt, hasHosts, threeAt, fourAt, placeAt, slotAt, placesOf, rowsBegin, rowsEnd, rowBytes, dependencyBytes, byteOf, pairOf, rowOf, sourceOf, atomicSource, dependencyCount, dependencyFrom, dependencyTo, dependsOf, decode, tableOf, sourcesOf, modeOf, COUNTED}
 use Rattle.model.specs.Location.{before}
 use Rattle.model.specs.Race.{conflict, races, unordered}
 use Rattle.model.specs.Fill.{blank}
@@ -248,27 +249,33 @@ module _ {s f : List ℕ} (fl : Filling s f) where
   unfolding dependencyTo
   to-kept k = pair-after (4 + k * DEPENDENCY-BYTES)
 
-  depends-kept : (x y : ℕ) → dependsOf (dependencyBytes f) x y ≡ dependsOf (dependencyBytes s) x y
-  unfolding dependsOf dependency
-  depends-kept x y =
-      rw count-kept
-      (any-cong (λ k. eqb (dependencyFrom (dependencyBytes f) k) x and eqb (dependencyTo (dependencyBytes f) k) y) (λ k. eqb (dependencyFrom (dependencyBytes s) k) x and eqb (dependencyTo (dependencyBytes s) k) y) _ (λ k l. rw (from-kept k, to-kept k) refl))
+  mode-kept : (chains : Bool) → modeOf chains f ≡ modeOf chains s
+  unfolding modeOf
+  mode-kept chains =
+      λ d.
+      record {
+        counted = counted-kept d;
+        chains = chains;
+        dependencies = count-kept d;
+        first = tabulate-cong (dependencyFrom (dependencyBytes f)) (dependencyFrom (dependencyBytes s)) DEPENDENCIES (λ k l. from-kept k) d;
+        second = tabulate-cong (dependencyTo (dependencyBytes f)) (dependencyTo (dependencyBytes s)) DEPENDENCIES (λ k l. to-kept k) d;
+      }
 
   -- ---- what the rules of order read
 
   -- A FILLING CHANGES NOTHING THAT THE RULES OF ORDER READ
   pub table-kept : tableOf f ≡ tableOf s
-  unfolding tableOf decode modeOf
+  unfolding tableOf decode
   table-kept =
       λ d.
       record {
         rows = rows-kept d;
         places = places-kept d;
-        counted = counted-kept d;
-        chains = false;
+        counted = mode-kept false d .counted;
+        chains = mode-kept false d .chains;
         row = fun-ext {f = rowOf (rowBytes f)} {g = rowOf (rowBytes s)} row-kept d;
         source = fun-ext {f = atomicSource (rowBytes f)} {g = atomicSource (rowBytes s)} atomic-kept d;
-        depends = fun-ext {f = dependsOf (dependencyBytes f)} {g = dependsOf (dependencyBytes s)} (λ x. fun-ext {f = dependsOf (dependencyBytes f) x} {g = dependsOf (dependencyBytes s) x} (depends-kept x)) d;
+        depends = dependsOf (mode-kept false d);
       }
 
   -- so location order, conflicts and races of a filled table are those of the table with its blanks

@@ -118,8 +118,8 @@ module _ {blanks : Bool} {s : List ℕ} (h : Sound blanks s) (old : hasHosts s �
   unfolding dependencyCount pairAt
   no-count = rw (byte-past 0, byte-past 1) refl
 
-  no-depends : (x y : ℕ) → dependsOf (dependencyBytes s) x y ≡ false
-  unfolding dependsOf anyBelow
+  no-depends : (x y : ℕ) → dependsOf (modeOf false s) x y ≡ false
+  unfolding dependsOf modeOf anyBelow
   no-depends x y = rw no-count refl
 
   no-operation : (i : ℕ) → i < rowsAt s → operation (rowOf (rowBytes s) i) ≡ false
@@ -147,5 +147,5 @@ module _ {blanks : Bool} {s : List ℕ} (h : Sound blanks s) (old : hasHosts s �
 
   -- VERSIONS 1 AND 2 ARE AS BEFORE
   pub no-hosts : NoHosts (tableOf s)
-  unfolding tableOf decode modeOf
+  unfolding tableOf decode
   no-hosts = record { alone = no-depends; rows = no-operation; agents = no-kind }

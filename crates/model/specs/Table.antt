@@ -9,7 +9,7 @@ use Rattle.finite.specs.Below.{anyBelow}
 use Rattle.finite.specs.Lists.{tabulate}
 use Rattle.model.specs.declared.Row.{Row}
 use Rattle.model.specs.declared.Mode.{Mode}
-use Rattle.model.specs.Limits.{AGENTS, INITIAL}
+use Rattle.model.specs.Limits.{AGENTS, DEPENDENCIES, INITIAL}
 use Rattle.model.specs.Row.{atomic}
 
 -- What the rules of order read. A plain read's source is not here, so that no order or race can depend on one: `source` is
@@ -103,14 +103,6 @@ slotAt s a = cond (ltb a (agentsAt s)) (placeAt s a) (0 ∷ 0 ∷ 0 ∷ 0 ∷ []
 unfoldable pub placesOf : List ℕ → List (List ℕ)
 placesOf s = tabulate (slotAt s) AGENTS
 
--- what the rules of order go by beside rows and places; `chains` is an input like the table
-unfoldable pub modeOf : Bool → List ℕ → Mode
-modeOf chains s = record { counted = leb COUNTED (versionAt s); chains = chains }
-
--- neither, for what reads no mode
-abbrev pub OFF : Mode
-OFF = record { counted = false; chains = false }
-
 -- where the rows begin, and end
 unfoldable pub rowsBegin : List ℕ → ℕ
 rowsBegin s = cond (hasHosts s) (HEADER + HOSTS-PLACE-BYTES * agentsAt s) (HEADER + PLACE-BYTES * agentsAt s)
@@ -172,18 +164,35 @@ dependencyFrom d k = pairAt d (2 + k * DEPENDENCY-BYTES)
 unfoldable pub dependencyTo : List ℕ → ℕ → ℕ
 dependencyTo d k = pairAt d (4 + k * DEPENDENCY-BYTES)
 
--- the k-th dependency is of x and y
-unfoldable pub dependency : List ℕ → ℕ → ℕ → ℕ → Bool
-dependency d x y k = eqb (dependencyFrom d k) x and eqb (dependencyTo d k) y
+-- ---- what the rules of order go by beside rows and places
 
-unfoldable pub dependsOf : List ℕ → ℕ → ℕ → Bool
-dependsOf d x y = anyBelow (dependencyCount d) (dependency d x y)
+-- `chains` is an input like the table; of the dependencies there are as many as a table may have
+unfoldable pub modeOf : Bool → List ℕ → Mode
+modeOf chains s =
+    record {
+      counted = leb COUNTED (versionAt s);
+      chains = chains;
+      dependencies = dependencyCount (dependencyBytes s);
+      first = tabulate (dependencyFrom (dependencyBytes s)) DEPENDENCIES;
+      second = tabulate (dependencyTo (dependencyBytes s)) DEPENDENCIES;
+    }
+
+-- none of it, for what reads no mode
+abbrev pub OFF : Mode
+OFF = record { counted = false; chains = false; dependencies = 0; first = []; second = [] }
+
+-- the k-th dependency is of x and y
+unfoldable pub dependency : Mode → ℕ → ℕ → ℕ → Bool
+dependency g x y k = eqb (getD (g .first) k 0) x and eqb (getD (g .second) k 0) y
+
+unfoldable pub dependsOf : Mode → ℕ → ℕ → Bool
+dependsOf g x y = anyBelow (g .dependencies) (dependency g x y)
 
 -- ---- decoding
 
--- the table of n rows in the bytes b, with the places p, in the mode g, with the dependencies in the bytes d
-unfoldable pub decode : List ℕ → List (List ℕ) → Mode → List ℕ → ℕ → Table
-decode b p g d n =
+-- the table of n rows in the bytes b, with the places p, in the mode g
+unfoldable pub decode : List ℕ → List (List ℕ) → Mode → ℕ → Table
+decode b p g n =
     record {
       rows = n;
       places = p;
@@ -191,12 +200,12 @@ decode b p g d n =
       chains = g .chains;
       row = rowOf b;
       source = atomicSource b;
-      depends = dependsOf d;
+      depends = dependsOf g;
     }
 
 -- the table in all of its bytes, and all of its sources
 unfoldable pub tableOf : List ℕ → Table
-tableOf s = decode (rowBytes s) (placesOf s) (modeOf false s) (dependencyBytes s) (rowsAt s)
+tableOf s = decode (rowBytes s) (placesOf s) (modeOf false s) (rowsAt s)
 
 unfoldable pub sourcesOf : List ℕ → ℕ → ℕ
 sourcesOf s = sourceOf (rowBytes s)

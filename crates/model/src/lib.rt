@@ -23,6 +23,9 @@ pub const SOURCES: usize = 128;
 // The steps of a derivation, at most: one fewer than there are moments. The numbers of the chain buffer.
 pub const CHAIN: usize = 383;
 
+// The dependencies of a table, at most.
+pub const DEPENDENCIES: usize = 64;
+
 // What a step adds to the moment that it reaches, for each number of its case.
 pub const CASE: u16 = 512;
 
@@ -31,11 +34,14 @@ pub const CASE: u16 = 512;
 // The family, workgroup and subgroup numbers of each agent, and what it is: 0 shader, 1 host, 2 queue.
 pub type Places = [[u16; 4]; 32];
 
-// What the rules of order go by beside rows and places: whether ranks are counted, and whether the device reports the feature
-// vulkanMemoryModelAvailabilityVisibilityChains.
+// What the rules of order go by beside rows and places: whether ranks are counted, whether the device reports the feature
+// vulkanMemoryModelAvailabilityVisibilityChains, and the dependencies: how many there are, and the two rows of each.
 pub struct Mode {
     pub counted: bool,
     pub chains: bool,
+    pub dependencies: u16,
+    pub first: [u16; 64],
+    pub second: [u16; 64],
 }
 
 // A row without its source: what the order of rows goes by, the sources of atomic rows aside.

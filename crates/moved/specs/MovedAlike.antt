@@ -11,11 +11,11 @@ use lib.Dec.{ltb, leb, eqb}
 use borrow.Author.Tests.{le-ltb}
 use Rattle.finite.specs.Logic.{_and_, which}
 use Rattle.finite.specs.Below.{any-cong}
-use Rattle.finite.specs.Lists.{tabulate-cong}
-use Rattle.model.specs.Limits.{AGENTS, INITIAL, ROWS}
+use Rattle.finite.specs.Lists.{tabulate, tabulate-cong, getD-tabulate}
+use Rattle.model.specs.Limits.{AGENTS, DEPENDENCIES, INITIAL, ROWS}
 use Rattle.model.specs.Row.{atomic}
 use Rattle.model.specs.Table.{HEADER, PLACE-BYTES, ROW-BYTES, COUNTED, HOSTS-PLACE-BYTES, pairAt, versionAt, agentsAt, rowsAt, hasHosts, threeAt, fourAt, placeAt, slotAt, placesOf, modeOf, rowsBegin, rowBytes, dependencyBytes, byteOf, pairOf, rowOf, sourceOf, atomicSource, dependencyCount, dependencyFrom, dependencyTo, dependency, dependsOf, decode, tableOf, sourcesOf}
-use Rattle.model.specs.AdmissionLaws.{Sound, rows-fit, size-fits, access-size, among-right}
+use Rattle.model.specs.AdmissionLaws.{Sound, dependencies-fit, rows-fit, size-fits, access-size, among-right}
 use Rattle.model.specs.FillingLaws.{begin-hosts, begin-plain, begin-header, bytes-at, bytes-past, pair-is}
 use Rattle.model.specs.FilledLaws.{Bytes, rank-small}
 use Rattle.model.specs.RaceLaws.{Sized}
@@ -206,13 +206,17 @@ module _ {blanks : Bool} {s s′ : List ℕ} {π : Renumbering (rowsAt s)} (m : 
 
   -- ---- the dependencies
 
-  depends-same : (x y : ℕ) → dependsOf (dependencyBytes s′) (π .to x) (π .to y) ≡ dependsOf (dependencyBytes s) x y
-  unfolding dependsOf dependency
-  depends-same x y =
-      rw (m .count)
-      (any-cong (λ k. eqb (dependencyFrom (dependencyBytes s′) k) (π .to x) and eqb (dependencyTo (dependencyBytes s′) k) (π .to y))
-      (λ k. eqb (dependencyFrom (dependencyBytes s) k) x and eqb (dependencyTo (dependencyBytes s) k) y) (dependencyCount (dependencyBytes s))
-      (λ k l. rw (m .first k l, m .second k l, eqb-to π (dependencyFrom (dependencyBytes s) k) x, eqb-to π (dependencyTo (dependencyBytes s) k) y) refl))
+  -- number k of a list of them, in so many places as a table may have
+  listed : (f : ℕ → ℕ) (k : ℕ) → k < dependencyCount (dependencyBytes s) → getD (tabulate f DEPENDENCIES) k 0 ≡ f k
+  listed f k l = let n : dependencyCount (dependencyBytes s) ≤ DEPENDENCIES = dependencies-fit h in getD-tabulate f DEPENDENCIES k 0 (omega arith)
+
+  depends-same : (x y : ℕ) → dependsOf (modeOf false s′) (π .to x) (π .to y) ≡ dependsOf (modeOf false s) x y
+  unfolding dependsOf dependency modeOf
+  depends-same x y = rw (m .count) (any-cong (dependency (modeOf false s′) (π .to x) (π .to y)) (dependency (modeOf false s) x y) (dependencyCount (dependencyBytes s)) same)
+    where
+      same : (k : ℕ) → k < dependencyCount (dependencyBytes s) → dependency (modeOf false s′) (π .to x) (π .to y) k ≡ dependency (modeOf false s) x y k
+      same k l =
+          rw (listed (dependencyFrom (dependencyBytes s′)) k l, listed (dependencyTo (dependencyBytes s′)) k l, listed (dependencyFrom (dependencyBytes s)) k l, listed (dependencyTo (dependencyBytes s)) k l, m .first k l, m .second k l, eqb-to π (dependencyFrom (dependencyBytes s) k) x, eqb-to π (dependencyTo (dependencyBytes s) k) y) refl
 
   -- ---- the order of an agent's rows
 

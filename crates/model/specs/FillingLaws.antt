@@ -18,7 +18,7 @@ use Rattle.model.specs.declared.Row.{Row}
 use Rattle.model.specs.declared.Mode.{Mode}
 use Rattle.model.specs.Limits.{AGENTS, DEPENDENCIES, INITIAL, BLANK}
 use Rattle.model.specs.Row.{PLAIN-READ, ATOMIC-READ, atomic, plainRead}
-use Rattle.model.specs.Table.{Table, HEADER, PLACE-BYTES, HOSTS-PLACE-BYTES, DEPENDENCY-BYTES, ROW-BYTES, pairAt, versionAt, agentsAt, rowsAt, hasHosts, threeAt, fourAt, placeAt, slotAt, placesOf, rowsBegin, rowsEnd, rowBytes, dependencyBytes, byteOf, pairOf, rowOf, sourceOf, atomicSource, dependencyCount, dependencyFrom, dependencyTo, dependsOf, decode, tableOf, sourcesOf, modeOf, COUNTED}
+use Rattle.model.specs.Table.{Table, HEADER, PLACE-BYTES, HOSTS-PLACE-BYTES, DEPENDENCY-BYTES, ROW-BYTES, pairAt, versionAt, agentsAt, rowsAt, hasHosts, threeAt, fourAt, placeAt, slotAt, placesOf, rowsBegin, rowsEnd, rowBytes, dependencyBytes, byteOf, pairOf, rowOf, sourceOf, atomicSource, dependencyCount, dependencyEnd, dependencyFrom, dependencyTo, dependsOf, decode, tableOf, sourcesOf, modeOf, COUNTED}
 use Rattle.model.specs.Location.{before}
 use Rattle.model.specs.Race.{conflict, races, unordered}
 use Rattle.model.specs.Fill.{blank}
@@ -242,11 +242,11 @@ module _ {s f : List ℕ} (fl : Filling s f) where
   count-kept = pair-after 0
 
   pub from-kept : (k : ℕ) → dependencyFrom (dependencyBytes f) k ≡ dependencyFrom (dependencyBytes s) k
-  unfolding dependencyFrom
+  unfolding dependencyFrom dependencyEnd
   from-kept k = pair-after (2 + k * DEPENDENCY-BYTES)
 
   pub to-kept : (k : ℕ) → dependencyTo (dependencyBytes f) k ≡ dependencyTo (dependencyBytes s) k
-  unfolding dependencyTo
+  unfolding dependencyTo dependencyEnd
   to-kept k = pair-after (4 + k * DEPENDENCY-BYTES)
 
   mode-kept : (chains : Bool) → modeOf chains f ≡ modeOf chains s

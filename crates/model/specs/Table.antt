@@ -158,11 +158,15 @@ atomicSource b i = cond (atomic (rowOf b i)) (sourceOf b i) INITIAL
 unfoldable pub dependencyCount : List ℕ → ℕ
 dependencyCount d = pairAt d 0
 
+-- the row that stands at byte `at` of the first of them, in the k-th
+unfoldable pub dependencyEnd : List ℕ → ℕ → ℕ → ℕ
+dependencyEnd d at k = pairAt d (at + k * DEPENDENCY-BYTES)
+
 unfoldable pub dependencyFrom : List ℕ → ℕ → ℕ
-dependencyFrom d k = pairAt d (2 + k * DEPENDENCY-BYTES)
+dependencyFrom d k = dependencyEnd d 2 k
 
 unfoldable pub dependencyTo : List ℕ → ℕ → ℕ
-dependencyTo d k = pairAt d (4 + k * DEPENDENCY-BYTES)
+dependencyTo d k = dependencyEnd d 4 k
 
 -- ---- what the rules of order go by beside rows and places
 

@@ -1,5 +1,6 @@
 -- Laws that the readers' proofs cite. Assumes nothing.
 use mathlib.Core.Path.{_≡_, refl, sym, _∙_}
+use mathlib.Core.Bool.{Bool, true, false, cond}
 use mathlib.Core.List.{List, [], _∷_}
 use Prim.Native.Nat.{ℕ, zero, suc, _≤_, _<_, _+_, _-_, _*_}
 use native.Mathlib.Nat.{le-of-eq}
@@ -8,7 +9,7 @@ use native.Mathlib.Omega.{arith}
 use lib.ListN.{length, List·getD-eq-default, take, drop, set, length-drop, drop-of-length-le}
 use lib.Seq.{take-suc-set, take-all}
 use Rattle.finite.specs.Lists.{tabulate}
-use Rattle.model.specs.Table.{ROW-BYTES, pairAt, quadAt, agentsAt, rowsAt, rowsBegin, rowBytes}
+use Rattle.model.specs.Table.{HEADER, PLACE-BYTES, HOSTS-PLACE-BYTES, ROW-BYTES, pairAt, agentsAt, hasHosts, dependencyBytes, rowsEnd, quadAt, rowsAt, rowsBegin, rowBytes}
 
 -- ---- past the end a number is 0
 
@@ -28,20 +29,40 @@ take-none : (n : ℕ) → take {A = ℕ} n [] ≡ []
 take-none zero = refl
 take-none (suc n) = refl
 
-pub rows-none : (s : List ℕ) (at : ℕ) → at ≡ rowsBegin (agentsAt s) → length s ≤ at → rowBytes s ≡ []
+pub rows-none : (s : List ℕ) (at : ℕ) → at ≡ rowsBegin s → length s ≤ at → rowBytes s ≡ []
 unfolding rowBytes
 rows-none s at e h = rw (← e, drop-of-length-le s h) (take-none (ROW-BYTES * rowsAt s))
 
 -- fewer bytes than the rows have
-pub rows-rest : (s : List ℕ) (at size : ℕ) → at ≡ rowsBegin (agentsAt s) → size ≡ ROW-BYTES * rowsAt s → length s ≤ at + size → take (length s - at) (drop at s) ≡ rowBytes s
+pub rows-rest : (s : List ℕ) (at size : ℕ) → at ≡ rowsBegin s → size ≡ ROW-BYTES * rowsAt s → length s ≤ at + size → take (length s - at) (drop at s) ≡ rowBytes s
 unfolding rowBytes
 rows-rest s at size e f h =
     let n = length-drop at s in
     rw (← e, ← f) (take-all _ (drop at s) (le-of-eq n) ∙ sym (take-all size (drop at s) (omega arith)))
 
-pub rows-part : (s : List ℕ) (at size : ℕ) → at ≡ rowsBegin (agentsAt s) → size ≡ ROW-BYTES * rowsAt s → take (at + size - at) (drop at s) ≡ rowBytes s
+pub rows-part : (s : List ℕ) (at size : ℕ) → at ≡ rowsBegin s → size ≡ ROW-BYTES * rowsAt s → take (at + size - at) (drop at s) ≡ rowBytes s
 unfolding rowBytes
 rows-part s at size e f = let n : at + size - at ≡ size = omega arith in rw (n, ← e, ← f) refl
+
+-- ---- where the rows begin, with host agents and without
+
+pub begin-with : (s : List ℕ) (n : ℕ) → hasHosts s ≡ true → n ≡ agentsAt s → HEADER + HOSTS-PLACE-BYTES * n ≡ rowsBegin s
+unfolding rowsBegin
+begin-with s n t q = rw (t, ← q) refl
+
+pub begin-without : (s : List ℕ) (n : ℕ) → hasHosts s ≡ false → n ≡ agentsAt s → HEADER + PLACE-BYTES * n ≡ rowsBegin s
+unfolding rowsBegin
+begin-without s n t q = rw (t, ← q) refl
+
+-- ---- the bytes after the rows
+
+pub after-none : (s : List ℕ) (at : ℕ) → at ≡ rowsEnd s → length s ≤ at → dependencyBytes s ≡ []
+unfolding dependencyBytes
+after-none s at e h = rw (← e) (drop-of-length-le s h)
+
+pub after-rest : (s : List ℕ) (at : ℕ) → at ≡ rowsEnd s → take (length s - at) (drop at s) ≡ dependencyBytes s
+unfolding dependencyBytes
+after-rest s at e = let n = length-drop at s in rw (← e) (take-all _ (drop at s) (le-of-eq n))
 
 -- ---- a loop that stores f i at i, counting up
 

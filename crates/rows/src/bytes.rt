@@ -1,7 +1,10 @@
 // Numbers, rows and sources out of the bytes of a table. Each reader is total: past the end a byte is 0.
 ghost use mathlib.Core.Path.{_≡_};
+ghost use Prim.Native.Nat.{_≤_};
 ghost use lib.ListN.{getD};
-ghost use Rattle.model.specs.Table.{pairAt, quadAt, agentsAt, rowsAt, rowsBegin, rowBytes};
+ghost use Rattle.finite.specs.Lists.{tabulate};
+ghost use Rattle.model.specs.Limits.{DEPENDENCIES};
+ghost use Rattle.model.specs.Table.{pairAt, quadAt, agentsAt, rowsAt, hasHosts, rowsBegin, rowsEnd, rowBytes, dependencyBytes, dependencyEnd};
 ghost use Rattle.model.specs.Table.{byteOf, pairOf, rowOf, sourceOf, atomicSource};
 use crate::kinds;
 use model::Row;
@@ -9,7 +12,14 @@ use model::Source;
 
 pub const HEADER: usize = 8;
 
+// The version that has host agents.
+pub const HOSTS: u8 = 3;
+
 pub const PLACE_BYTES: usize = 6;
+
+pub const HOSTS_PLACE_BYTES: usize = 8;
+
+pub const DEPENDENCY_BYTES: usize = 4;
 
 pub const ROW_BYTES: usize = 16;
 
@@ -51,17 +61,35 @@ pub fn rows_at(s: &[u8]) -> u8
     byte_at(s, 6)
 }
 
-pub fn rows_begin(agents: u8) -> usize
-    ensures { λ r. ⌜ r ≡ rowsBegin agents ⌝ }
+// Whether the table has host agents.
+pub fn has_hosts(s: &[u8]) -> bool
+    ensures { λ b. ⌜ b ≡ hasHosts (now (s .entry)) ⌝ }
 {
-    HEADER + PLACE_BYTES * (agents as usize)
+    byte_at(s, 4) == HOSTS
+}
+
+pub fn rows_begin(s: &[u8]) -> usize
+    ensures { λ r. ⌜ (r ≡ rowsBegin (now (s .entry))) × (r ≤ 2048) ⌝ }
+{
+    let agents = agents_at(s) as usize;
+    if has_hosts(s) {
+        HEADER + HOSTS_PLACE_BYTES * agents
+    } else {
+        HEADER + PLACE_BYTES * agents
+    }
+}
+
+pub fn rows_end(s: &[u8]) -> usize
+    ensures { λ r. ⌜ (r ≡ rowsEnd (now (s .entry))) × (r ≤ 6128) ⌝ }
+{
+    rows_begin(s) + ROW_BYTES * (rows_at(s) as usize)
 }
 
 // The bytes of the rows alone; none in a table that ends before them.
 pub fn row_bytes(s: &[u8]) -> &[u8]
     ensures { λ r. ⌜ now r ≡ rowBytes (now (s .entry)) ⌝ }
 {
-    let at = rows_begin(agents_at(s));
+    let at = rows_begin(s);
     let size = ROW_BYTES * (rows_at(s) as usize);
     if s.len() <= at {
         return &s[..0];
@@ -70,6 +98,28 @@ pub fn row_bytes(s: &[u8]) -> &[u8]
         return &s[at..];
     }
     &s[at..at + size]
+}
+
+// The bytes after the rows: those of the dependencies.
+pub fn dependency_bytes(s: &[u8]) -> &[u8]
+    ensures { λ r. ⌜ now r ≡ dependencyBytes (now (s .entry)) ⌝ }
+{
+    let at = rows_end(s);
+    if s.len() <= at {
+        return &s[..0];
+    }
+    &s[at..]
+}
+
+// One of the two rows of each dependency, as many as a table may have; byte `at` of their bytes has the first.
+pub fn read_ends(d: &[u8], at: u8) -> [u16; 64]
+    ensures { λ r. ⌜ r ≡ tabulate (dependencyEnd (now (d .entry)) at) DEPENDENCIES ⌝ }
+{
+    let mut ends = [0u16; model::DEPENDENCIES];
+    for k in 0..model::DEPENDENCIES {
+        ends[k] = pair_at(d, (at as usize) + k * DEPENDENCY_BYTES);
+    }
+    ends
 }
 
 // Byte k of row i, in the bytes of the rows alone.

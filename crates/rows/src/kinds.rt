@@ -1,6 +1,6 @@
 // What a row is: its kind, order, flags, classes and bytes. Nothing else tests a kind's number, an order or a flag.
 ghost use mathlib.Core.Path.{_≡_};
-ghost use Rattle.model.specs.Row.{plain, atomic, access, barrier, control, sameInstance, plainRead, rmw, reads, writes, ranked, acquires, releases};
+ghost use Rattle.model.specs.Row.{plain, atomic, access, barrier, control, sameInstance, operation, plainRead, rmw, reads, writes, ranked, acquires, releases};
 ghost use Rattle.model.specs.Row.{holds, meets, single, classIn, nonPrivate, makesAvailable, makesVisible, touches, covers};
 use model::Row;
 
@@ -19,6 +19,20 @@ pub const RMW: u8 = 4;
 pub const BARRIER: u8 = 5;
 
 pub const CONTROL: u8 = 6;
+
+// Operations on the memory domains of the host and of the device: 7 and 8 make available to them, 9 and 10 make visible from them,
+// 11 and 12 carry from the one to the other.
+pub const AVAILABLE_HOST: u8 = 7;
+
+pub const AVAILABLE_DEVICE: u8 = 8;
+
+pub const VISIBLE_HOST: u8 = 9;
+
+pub const VISIBLE_DEVICE: u8 = 10;
+
+pub const HOST_TO_DEVICE: u8 = 11;
+
+pub const DEVICE_TO_HOST: u8 = 12;
 
 pub fn is_plain(r: Row) -> bool
     ensures { λ b. ⌜ b ≡ plain r ⌝ }
@@ -49,6 +63,13 @@ pub fn is_control(r: Row) -> bool
     ensures { λ b. ⌜ b ≡ control r ⌝ }
 {
     r.kind == CONTROL
+}
+
+// What queue agents alone perform.
+pub fn is_operation(r: Row) -> bool
+    ensures { λ b. ⌜ b ≡ operation r ⌝ }
+{
+    (AVAILABLE_HOST <= r.kind) & (r.kind <= DEVICE_TO_HOST)
 }
 
 // Whether two rows are control barriers of one instance, whose number stands in the place of a start.

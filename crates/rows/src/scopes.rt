@@ -3,13 +3,20 @@ ghost use mathlib.Core.Path.{_≡_};
 ghost use mathlib.Core.List.{[]};
 ghost use Prim.Native.Nat.{_+_, _*_, _<_};
 ghost use lib.ListN.{getD};
-ghost use Rattle.model.specs.Table.{HEADER, PLACE-BYTES, pairAt, slotAt, placesOf, modeOf};
-ghost use Rattle.model.specs.Scope.{agree, shares, together, sameLocation, mutualRows, age, later, laterWriter};
+ghost use Rattle.model.specs.Table.{threeAt, fourAt, slotAt, placesOf, modeOf};
+ghost use Rattle.model.specs.Scope.{agentKind, shader, host, agree, oneInstance, shares, together, sameLocation, mutualRows, age, later, laterWriter};
 use crate::bytes;
 use crate::kinds;
 use model::Mode;
 use model::Places;
 use model::Row;
+
+// What an agent is, by the fourth number of its place.
+pub const SHADER: u16 = 0;
+
+pub const HOST: u16 = 1;
+
+pub const QUEUE: u16 = 2;
 
 pub const INVOCATION: u8 = 0;
 
@@ -23,35 +30,50 @@ pub const DEVICE: u8 = 4;
 
 // ---- places
 
-// The two bytes from byte k of agent a's place.
-pub fn place_pair(s: &[u8], a: u8, k: u8) -> u16
-    ensures { λ r. ⌜ r ≡ pairAt (now (s .entry)) (HEADER + a * PLACE-BYTES + k) ⌝ }
+// The numbers of agent a in a table without host agents.
+fn read_three(s: &[u8], a: u8) -> [u16; 4]
+    ensures { λ r. ⌜ r ≡ threeAt (now (s .entry)) a ⌝ }
 {
-    bytes::pair_at(
-        s,
-        bytes::HEADER + (a as usize) * bytes::PLACE_BYTES + (k as usize),
-    )
+    let at = bytes::HEADER + (a as usize) * bytes::PLACE_BYTES;
+    [
+        bytes::pair_at(s, at + 0),
+        bytes::pair_at(s, at + 2),
+        bytes::pair_at(s, at + 4),
+        0,
+    ]
 }
 
-// The three numbers of agent a, zeros past the table's agents.
-pub fn read_place(s: &[u8], a: u8) -> [u16; 3]
+// The numbers of agent a in a table with host agents.
+fn read_four(s: &[u8], a: u8) -> [u16; 4]
+    ensures { λ r. ⌜ r ≡ fourAt (now (s .entry)) a ⌝ }
+{
+    let at = bytes::HEADER + (a as usize) * bytes::HOSTS_PLACE_BYTES;
+    [
+        bytes::pair_at(s, at + 0),
+        bytes::pair_at(s, at + 2),
+        bytes::pair_at(s, at + 4),
+        bytes::pair_at(s, at + 6),
+    ]
+}
+
+// The four numbers of agent a, zeros past the table's agents.
+pub fn read_place(s: &[u8], a: u8) -> [u16; 4]
     ensures { λ r. ⌜ r ≡ slotAt (now (s .entry)) a ⌝ }
 {
     if bytes::agents_at(s) <= a {
-        return [0; 3];
+        return [0; 4];
     }
-    [
-        place_pair(s, a, 0),
-        place_pair(s, a, 2),
-        place_pair(s, a, 4),
-    ]
+    if bytes::has_hosts(s) {
+        return read_four(s, a);
+    }
+    read_three(s, a)
 }
 
 // A slot for each agent that there may be.
 pub fn read_places(s: &[u8]) -> Places
     ensures { λ p. ⌜ p ≡ placesOf (now (s .entry)) ⌝ }
 {
-    let none = [0u16; 3];
+    let none = [0u16; 4];
     let mut p = [none; model::AGENTS];
     for a in 0..model::AGENTS {
         let place = read_place(s, a as u8);
@@ -70,15 +92,19 @@ pub fn read_mode(s: &[u8], chains: bool) -> Mode
     ensures { λ g. ⌜ g ≡ modeOf chains (now (s .entry)) ⌝ }
 {
     let version = bytes::byte_at(s, 4);
+    let d = bytes::dependency_bytes(s);
     Mode {
         counted: COUNTED <= version,
         chains: chains,
+        dependencies: bytes::pair_at(d, 0),
+        first: bytes::read_ends(d, 2),
+        second: bytes::read_ends(d, 4),
     }
 }
 
 // Number k of agent a's place, and 0 for an agent that there is no slot for.
 fn place_number(p: Places, a: u8, k: usize) -> u16
-    requires { ⌜ k < 3 ⌝ }
+    requires { ⌜ k < 4 ⌝ }
     ensures { λ r. ⌜ r ≡ getD (getD p a []) k 0 ⌝ }
 {
     let i = a as usize;
@@ -86,7 +112,7 @@ fn place_number(p: Places, a: u8, k: usize) -> u16
 }
 
 fn agree(p: Places, k: usize, a: u8, b: u8) -> bool
-    requires { ⌜ k < 3 ⌝ }
+    requires { ⌜ k < 4 ⌝ }
     ensures { λ r. ⌜ r ≡ agree p k a b ⌝ }
 {
     place_number(p, a, k) == place_number(p, b, k)
@@ -94,8 +120,28 @@ fn agree(p: Places, k: usize, a: u8, b: u8) -> bool
 
 // ---- scopes
 
-pub fn shares_scope(p: Places, scope: u8, a: u8, b: u8) -> bool
-    ensures { λ r. ⌜ r ≡ shares p scope a b ⌝ }
+// What agent a is.
+pub fn agent_kind(p: Places, a: u8) -> u16
+    ensures { λ r. ⌜ r ≡ agentKind p a ⌝ }
+{
+    place_number(p, a, 3)
+}
+
+pub fn is_shader(p: Places, a: u8) -> bool
+    ensures { λ r. ⌜ r ≡ shader p a ⌝ }
+{
+    agent_kind(p, a) == SHADER
+}
+
+pub fn is_host(p: Places, a: u8) -> bool
+    ensures { λ r. ⌜ r ≡ host p a ⌝ }
+{
+    agent_kind(p, a) == HOST
+}
+
+// Whether one instance of the scope holds two agents, by their places.
+fn one_instance(p: Places, scope: u8, a: u8, b: u8) -> bool
+    ensures { λ r. ⌜ r ≡ oneInstance p scope a b ⌝ }
 {
     let family = agree(p, 0, a, b);
     let workgroup = agree(p, 1, a, b);
@@ -105,6 +151,13 @@ pub fn shares_scope(p: Places, scope: u8, a: u8, b: u8) -> bool
         | (scope == WORKGROUP) & family & workgroup
         | (scope == SUBGROUP) & family & workgroup & subgroup
         | (scope == INVOCATION) & (a == b)
+}
+
+// Whether two agents share the scope: scopes hold between shader agents only.
+pub fn shares_scope(p: Places, scope: u8, a: u8, b: u8) -> bool
+    ensures { λ r. ⌜ r ≡ shares p scope a b ⌝ }
+{
+    is_shader(p, a) & is_shader(p, b) & one_instance(p, scope, a, b)
 }
 
 // Whether the agents of two rows share both rows' scopes.

@@ -1,19 +1,14 @@
-use mathlib.Core.Path.{sym, ap, _∙_}
+use mathlib.Core.Path.{sym, ap}
 use Prim.Native.Nat.{ℕ, _*_}
 use borrow.Author.Needs.{needs}
-use Rattle.model.specs.Table.{ROW-BYTES, rowsBegin}
+use Rattle.model.specs.Table.{ROW-BYTES}
 use Rattle.rows.proofs.Laws.{rows-none, rows-rest, rows-part}
 use Rattle.rows.proofs.bytes.row_bytes.Statement.{statement}
 use Rattle.rows.proofs.bytes.row_bytes.Tie as tie
 use Rattle.rows.proofs.bytes.row_bytes.Reads as reads
 use Rattle.rows.proofs.bytes.row_bytes.Lts as lts
-use Rattle.rows.proofs.bytes.agents_at.Reads as agents-at-reads
 use Rattle.rows.proofs.bytes.rows_at.Reads as rows-at-reads
 use Rattle.rows.proofs.bytes.rows_begin.Reads as rows-begin-reads
-
--- src/bytes.rt:64:25
-agents-at-requires : tie.Need-agents-at-requires
-agents-at-requires c κs = search needs
 
 -- src/bytes.rt:64:9
 rows-begin-requires : tie.Need-rows-begin-requires
@@ -39,7 +34,7 @@ slice-aggregate-result c = search needs
 returns : tie.Need-returns
 returns c =
     let at = c .before .before .before in
-    sym (rows-none _ _ (at .rows-begin .ensures ∙ ap rowsBegin (at .before .agents-at .ensures)) (c .before .if1 .taken))
+    sym (rows-none _ _ (at .rows-begin .ensures .0) (c .before .if1 .taken))
 
 -- src/bytes.rt:69:19
 add-if2 : tie.Need-add-if2
@@ -61,7 +56,7 @@ part-result-end c = search needs
 returns-2 : tie.Need-returns-2
 returns-2 c =
     let at = c .before .before .before .before in
-    rows-rest _ _ _ (at .rows-begin .ensures ∙ ap rowsBegin (at .before .agents-at .ensures)) (ap (λ (n : ℕ). ROW-BYTES * n) (c .before .before .before .rows-at .ensures)) (c .before .if2 .taken)
+    rows-rest _ _ _ (at .rows-begin .ensures .0) (ap (λ (n : ℕ). ROW-BYTES * n) (c .before .before .before .rows-at .ensures)) (c .before .if2 .taken)
 
 -- src/bytes.rt:72:12
 add-result : tie.Need-add-result
@@ -83,13 +78,12 @@ part-result-end-2 c = search needs
 returns-3 : tie.Need-returns-3
 returns-3 c =
     let at = c .before .before .before .before in
-    rows-part _ _ _ (at .rows-begin .ensures ∙ ap rowsBegin (at .before .agents-at .ensures)) (ap (λ (n : ℕ). ROW-BYTES * n) (c .before .before .before .rows-at .ensures))
+    rows-part _ _ _ (at .rows-begin .ensures .0) (ap (λ (n : ℕ). ROW-BYTES * n) (c .before .before .before .rows-at .ensures))
 
 pub row-bytes-spec : {M : Type 1} → statement M
 row-bytes-spec =
     tie.close
     (tie.spec
-    agents-at-requires
     rows-begin-requires
     rows-at-requires
     cast-size

@@ -1,0 +1,15 @@
+use mathlib.Core.Path.{refl}
+use Rattle.finite.specs.Logic.{_and_}
+use Rattle.model.specs.Row.{operation}
+use Rattle.rows.proofs.kinds.is_operation.Statement.{statement}
+use Rattle.rows.proofs.kinds.is_operation.Tie as tie
+use Rattle.rows.proofs.kinds.is_operation.Reads as reads
+use Rattle.rows.proofs.kinds.is_operation.Lts as lts
+
+-- src/kinds.rt:50:1
+returns : tie.Need-returns
+unfolding operation _and_
+returns c = refl
+
+pub is-operation-spec : {M : Type 1} → statement M
+is-operation-spec = tie.close (tie.spec returns)

@@ -1,69 +1,8 @@
 -- The map of the work area, in words. Regions stand in the order in which they are made, so that a stage keeps all that lies
--- below its own; location order takes the place of the steps, which happens-before no longer needs.
-use Prim.Native.Nat.{ℕ}
-
--- mutually-ordered rows
-abbrev pub MUTUAL : ℕ
-MUTUAL = 0
-
-abbrev pub MUTUAL-END : ℕ
-MUTUAL-END = 256
-
--- release sequences
-abbrev pub SEQUENCE : ℕ
-SEQUENCE = 256
-
-abbrev pub SEQUENCE-END : ℕ
-SEQUENCE-END = 512
-
--- synchronizes-with
-abbrev pub SYNC : ℕ
-SYNC = 512
-
-abbrev pub SYNC-END : ℕ
-SYNC-END = 768
-
--- happens-before, over moments
-abbrev pub HAPPENS : ℕ
-HAPPENS = 768
-
-abbrev pub HAPPENS-END : ℕ
-HAPPENS-END = 3072
-
--- the direct cases of one class set, and their closure, over moments
-abbrev pub STEP : ℕ
-STEP = 3072
-
-abbrev pub STEP-END : ℕ
-STEP-END = 5376
-
--- the layers of the search for a chain of steps, over moments; one more than there are moments
-abbrev pub CHAINS : ℕ
-CHAINS = 5376
-
-abbrev pub CHAINS-END : ℕ
-CHAINS-END = 7686
-
--- location order: bits for each pair of rows
-abbrev pub LOCATION : ℕ
-LOCATION = 3072
-
-abbrev pub LOCATION-END : ℕ
-LOCATION-END = 7168
-
--- edges
-abbrev pub EDGE : ℕ
-EDGE = 7168
-
-abbrev pub EDGE-END : ℕ
-EDGE-END = 7424
-
--- the layers of the search for a cycle
-abbrev pub LAYERS : ℕ
-LAYERS = 7424
-
-abbrev pub LAYERS-END : ℕ
-LAYERS-END = 7682
+-- below its own; location order takes the place of the steps, which happens-before no longer needs, and edges and layers that of
+-- what location order was made by.
+use Prim.Native.Nat.{ℕ, _+_, _*_}
+use Rattle.model.specs.Limits.{ROWS}
 
 -- words in a row of a grid over rows, and over moments
 abbrev pub GRID : ℕ
@@ -77,4 +16,105 @@ abbrev pub PAIR : ℕ
 PAIR = 16
 
 abbrev pub PAIRS : ℕ
-PAIRS = 2048
+PAIRS = ROWS * PAIR
+
+-- words of a grid over rows, over moments, and of the bits of all pairs
+abbrev pub ROWS-GRID : ℕ
+ROWS-GRID = ROWS * GRID
+
+abbrev pub MOMENTS-GRID : ℕ
+MOMENTS-GRID = 3 * ROWS * MOMENTS
+
+abbrev pub PAIRS-GRID : ℕ
+PAIRS-GRID = ROWS * PAIR * GRID
+
+-- mutually-ordered rows
+abbrev pub MUTUAL : ℕ
+MUTUAL = 0
+
+abbrev pub MUTUAL-END : ℕ
+MUTUAL-END = MUTUAL + ROWS-GRID
+
+-- release sequences
+abbrev pub SEQUENCE : ℕ
+SEQUENCE = MUTUAL-END
+
+abbrev pub SEQUENCE-END : ℕ
+SEQUENCE-END = SEQUENCE + ROWS-GRID
+
+-- synchronizes-with
+abbrev pub SYNC : ℕ
+SYNC = SEQUENCE-END
+
+abbrev pub SYNC-END : ℕ
+SYNC-END = SYNC + ROWS-GRID
+
+-- happens-before, over moments
+abbrev pub HAPPENS : ℕ
+HAPPENS = SYNC-END
+
+abbrev pub HAPPENS-END : ℕ
+HAPPENS-END = HAPPENS + MOMENTS-GRID
+
+-- the direct cases of one class set, and their closure, over moments
+abbrev pub STEP : ℕ
+STEP = HAPPENS-END
+
+abbrev pub STEP-END : ℕ
+STEP-END = STEP + MOMENTS-GRID
+
+-- the layers of the search for a chain of steps, over moments; one more than there are moments
+abbrev pub CHAINS : ℕ
+CHAINS = STEP-END
+
+abbrev pub CHAINS-END : ℕ
+CHAINS-END = CHAINS + MOMENTS-GRID + MOMENTS
+
+-- location order: bits for each pair of rows
+abbrev pub LOCATION : ℕ
+LOCATION = HAPPENS-END
+
+abbrev pub LOCATION-END : ℕ
+LOCATION-END = LOCATION + PAIRS-GRID
+
+-- while location order is made: the pairs that system synchronization or the host's and the device's domains order
+abbrev pub HOSTED : ℕ
+HOSTED = LOCATION-END
+
+abbrev pub HOSTED-END : ℕ
+HOSTED-END = HOSTED + ROWS-GRID
+
+-- the closure of the dependencies
+abbrev pub SYSTEM : ℕ
+SYSTEM = HOSTED-END
+
+abbrev pub SYSTEM-END : ℕ
+SYSTEM-END = SYSTEM + ROWS-GRID
+
+-- what each row meets of what an operation leaves in its domain
+abbrev pub MET : ℕ
+MET = SYSTEM-END
+
+abbrev pub MET-END : ℕ
+MET-END = MET + ROWS-GRID
+
+-- what each row meets of what an operation makes available
+abbrev pub REACHED : ℕ
+REACHED = MET-END
+
+abbrev pub REACHED-END : ℕ
+REACHED-END = REACHED + ROWS-GRID
+
+-- edges
+abbrev pub EDGE : ℕ
+EDGE = LOCATION-END
+
+abbrev pub EDGE-END : ℕ
+EDGE-END = EDGE + ROWS-GRID
+
+-- the layers of the search for a cycle; one more than there are rows
+abbrev pub LAYERS : ℕ
+LAYERS = EDGE-END
+
+abbrev pub LAYERS-END : ℕ
+LAYERS-END = LAYERS + ROWS-GRID + GRID

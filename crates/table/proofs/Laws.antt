@@ -13,7 +13,7 @@ use Rattle.model.specs.declared.Admission.the-variants.{Admitted, Refused}
 use Rattle.model.specs.Limits.{DEPENDENCIES}
 use Rattle.model.specs.Row.{ranked, operation}
 use Rattle.model.specs.Scope.{agentKind}
-use Rattle.model.specs.Table.{OFF, rowOf, modeOf, decode, sourceOf, agentsAt, rowsAt, hasHosts, rowBytes, dependencyBytes, dependencyCount, placesOf, tableOf, sourcesOf}
+use Rattle.model.specs.Table.{OFF, rowOf, modeOf, decode, sourceOf, agentsAt, rowsAt, hasHosts, rowBytes, dependencyBytes, pairAt, dependencyCount, placesOf, tableOf, sourcesOf}
 use Rattle.model.specs.Refusal.{otherClassAt, classTaken, writerFits, sourceFits, sourceBroken, sameRankAt, rankTaken, apartAt, instanceBroken, outsideAt, begins, unfit}
 use Rattle.model.specs.Refusal.{kindOver, agentsKnown, dependenciesFew, namesNone, dependenciesNamed, hostsFault, codesFit, agentFits, operationFits, kindFits, extentFits, formFault, rowFault, tableFault, faulty, firstFault, rowFaultAt}
 use Rattle.model.specs.Refusal.{headerFault, admission}
@@ -73,30 +73,40 @@ module _ (hosts : Bool) (p : List (List ℕ)) (agents : ℕ) (r : Row) (source :
 
 -- ---- the cascade of 16 to 18
 
-module _ (s : List ℕ) (over many none : Bool) (a : over ≡ anyBelow (agentsAt s) (kindOver (placesOf s))) where
-  pub hosts-known : over ≡ true → 16 ≡ hostsFault s
-  unfolding hostsFault agentsKnown
-  hosts-known h = rw (← a, h) refl
+module _ (s : List ℕ) where
+  pub known-is : (p : List (List ℕ)) (n : ℕ) (over : Bool) → p ≡ placesOf s → n ≡ agentsAt s → over ≡ anyBelow n (kindOver p) → agentsKnown s ≡ not over
+  unfolding agentsKnown
+  known-is p n over ep en e = rw (← ep, ← en, ← e) refl
 
-  pub hosts-few : over ≡ false → dependenciesFew s ≡ false → 17 ≡ hostsFault s
-  unfolding hostsFault agentsKnown
-  hosts-few h q = rw (← a, h, q) refl
+  pub few-over : (d : List ℕ) (n : ℕ) → d ≡ dependencyBytes s → n ≡ pairAt d 0 → DEPENDENCIES < n → dependenciesFew s ≡ false
+  unfolding dependenciesFew dependencyCount
+  few-over d n ed e l = rw (← ed, ← e) (lt-leb n DEPENDENCIES l)
 
-  pub hosts-named : over ≡ false → dependenciesFew s ≡ true → none ≡ anyBelow (dependencyCount (dependencyBytes s)) (namesNone (dependencyBytes s) (rowsAt s)) → none ≡ true → 18 ≡ hostsFault s
-  unfolding hostsFault agentsKnown dependenciesNamed
-  hosts-named h q e n = rw (← a, h, q, ← e, n) refl
+  pub few-in : (d : List ℕ) (n : ℕ) → d ≡ dependencyBytes s → n ≡ pairAt d 0 → n ≤ DEPENDENCIES → dependenciesFew s ≡ true
+  unfolding dependenciesFew dependencyCount
+  few-in d n ed e l = rw (← ed, ← e) (le-leb n DEPENDENCIES l)
 
-  pub hosts-pass : over ≡ false → dependenciesFew s ≡ true → none ≡ anyBelow (dependencyCount (dependencyBytes s)) (namesNone (dependencyBytes s) (rowsAt s)) → none ≡ false → 0 ≡ hostsFault s
-  unfolding hostsFault agentsKnown dependenciesNamed
-  hosts-pass h q e n = rw (← a, h, q, ← e, n) refl
+  pub named-is : (d : List ℕ) (n : ℕ) (none : Bool) → d ≡ dependencyBytes s → n ≡ rowsAt s → none ≡ anyBelow (dependencyCount d) (namesNone d n)
+      → dependenciesNamed s ≡ not none
+  unfolding dependenciesNamed
+  named-is d n none ed en e = rw (← ed, ← en, ← e) refl
 
-pub few-over : (s : List ℕ) (n : ℕ) → n ≡ dependencyCount (dependencyBytes s) → DEPENDENCIES < n → dependenciesFew s ≡ false
-unfolding dependenciesFew
-few-over s n e l = rw (← e) (lt-leb DEPENDENCIES n l)
+  pub hosts-16 : (over : Bool) → agentsKnown s ≡ not over → over ≡ true → 16 ≡ hostsFault s
+  unfolding hostsFault
+  hosts-16 over a h = rw (a, h) refl
 
-pub few-in : (s : List ℕ) (n : ℕ) → n ≡ dependencyCount (dependencyBytes s) → n ≤ DEPENDENCIES → dependenciesFew s ≡ true
-unfolding dependenciesFew
-few-in s n e l = rw (← e) (le-leb n DEPENDENCIES l)
+  module _ (over : Bool) (a : agentsKnown s ≡ not over) (h : over ≡ false) where
+    pub hosts-17 : dependenciesFew s ≡ false → 17 ≡ hostsFault s
+    unfolding hostsFault
+    hosts-17 q = rw (a, h, q) refl
+
+    pub hosts-18 : dependenciesFew s ≡ true → (none : Bool) → dependenciesNamed s ≡ not none → none ≡ true → 18 ≡ hostsFault s
+    unfolding hostsFault
+    hosts-18 q none e n = rw (a, h, q, e, n) refl
+
+    pub hosts-pass : dependenciesFew s ≡ true → (none : Bool) → dependenciesNamed s ≡ not none → none ≡ false → 0 ≡ hostsFault s
+    unfolding hostsFault
+    hosts-pass q none e n = rw (a, h, q, e, n) refl
 
 -- ---- the number r of row i says whether it has a fault
 

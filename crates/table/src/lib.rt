@@ -30,7 +30,15 @@ pub fn choose(b: bool, x: bool, y: bool) -> bool
 // ---- in their order
 
 // Rows ascending through 5, 19, 6 or 20, 7; then rows ascending through 8 to 10, 14 and 15.
-fn admit_rows(rows: &[u8], hosts: bool, p: Places, mode: Mode, agents: u8, count: u8, blanks: bool) -> Admission
+fn admit_rows(
+    rows: &[u8],
+    hosts: bool,
+    p: Places,
+    mode: Mode,
+    agents: u8,
+    count: u8,
+    blanks: bool,
+) -> Admission
     ensures { λ r. ⌜ r ≡ rowsAdmission blanks hosts agents (now (rows .entry)) p mode count ⌝ }
 {
     let n = count as u16;

@@ -11,7 +11,7 @@ use Rattle.model.specs.declared.CheckAnswer.{CheckAnswer}
 use Rattle.model.specs.declared.CheckAnswer.the-variants.{Cycle, Overwritten, Race, RaceFree}
 use Rattle.model.specs.declared.CheckAnswer.the-variants
 use Rattle.model.specs.Limits.{WORK, CYCLE, CYCLE-EDGES}
-use Rattle.model.specs.Table.{Table, tableOf, sourcesOf}
+use Rattle.model.specs.Table.{Table, tableUnder, sourcesOf}
 use Rattle.model.specs.Race.{raceRow, racePartner, raceByte}
 use Rattle.model.specs.Edge.{cycleRow, cycleRows, cycleEdges, overReader, overWriter, overByte}
 use Rattle.model.specs.Refusal.{buffersFit, admission}
@@ -55,10 +55,10 @@ unfoldable pub admitted : Admission → Verdict → Verdict
 admitted (Refused n i) v = refused n i
 admitted (Admitted a n) v = v
 
--- of any bytes, with a work area and a cycle buffer of such lengths
-unfoldable pub check : List ℕ → ℕ → ℕ → Verdict
-check s work buffer =
-    cond (buffersFit CYCLE work buffer) (admitted (admission false s) (verdict (tableOf s) (sourcesOf s))) (refused 11 0)
+-- of any bytes, on a device with or without chains, with a work area and a cycle buffer of such lengths
+unfoldable pub check : Bool → List ℕ → ℕ → ℕ → Verdict
+check chains s work buffer =
+    cond (buffersFit CYCLE work buffer) (admitted (admission false s) (verdict (tableUnder chains s) (sourcesOf s))) (refused 11 0)
 
 -- ---- what comes back
 

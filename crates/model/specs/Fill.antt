@@ -15,7 +15,7 @@ use Rattle.model.specs.declared.FillAnswer.the-variants.{Race, None, Fil
 use Rattle.model.specs.declared.FillAnswer.the-variants
 use Rattle.model.specs.Limits.{SOURCES, LONGEST, INITIAL, BLANK}
 use Rattle.model.specs.Row.{plainRead, writes, touches}
-use Rattle.model.specs.Table.{Table, tableOf, sourcesOf}
+use Rattle.model.specs.Table.{Table, tableUnder, sourcesOf}
 use Rattle.model.specs.Scope.{follows}
 use Rattle.model.specs.Location.{before}
 use Rattle.model.specs.Race.{nth, raceRow, racePartner, raceByte}
@@ -94,10 +94,10 @@ unfoldable pub admittedFill : Admission → Outcome → Outcome
 admittedFill (Refused n i) o = refused n i
 admittedFill (Admitted a n) o = o
 
--- of any bytes, with a work area and a source buffer of such lengths
-unfoldable pub fill : List ℕ → ℕ → ℕ → Outcome
-fill s work buffer =
-    cond (buffersFit SOURCES work buffer) (admittedFill (admission true s) (outcome (tableOf s) (sourcesOf s))) (refused 11 0)
+-- of any bytes, on a device with or without chains, with a work area and a source buffer of such lengths
+unfoldable pub fill : Bool → List ℕ → ℕ → ℕ → Outcome
+fill chains s work buffer =
+    cond (buffersFit SOURCES work buffer) (admittedFill (admission true s) (outcome (tableUnder chains s) (sourcesOf s))) (refused 11 0)
 
 -- ---- what comes back
 

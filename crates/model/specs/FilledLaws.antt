@@ -18,7 +18,7 @@ use Rattle.model.specs.declared.Row.{Row}
 use Rattle.model.specs.declared.Admission.the-variants.{Admitted}
 use Rattle.model.specs.Limits.{INITIAL, BLANK, ROWS}
 use Rattle.model.specs.Row.{PLAIN-READ, ATOMIC-READ, RMW, access, plainRead, reads, operation}
-use Rattle.model.specs.Table.{Table, HEADER, ROW-BYTES, pairAt, quadAt, countAt, versionAt, zeroAt, agentsAt, rowsAt, hasHosts, placesOf, rowsBegin, rowsEnd, sizeOf, rowBytes, byteOf, pairOf, rowOf, sourceOf, decode, tableOf, sourcesOf, dependencyBytes}
+use Rattle.model.specs.Table.{Table, HEADER, ROW-BYTES, pairAt, quadAt, countAt, versionAt, zeroAt, agentsAt, rowsAt, hasHosts, placesOf, rowsBegin, rowsEnd, sizeOf, rowBytes, byteOf, pairOf, rowOf, sourceOf, decode, tableUnder, tableOf, sourcesOf, dependencyBytes}
 use Rattle.model.specs.Refusal.{versionFits, limitsFit, lengthFits, agentsKnown, dependenciesFew, namesNone, dependenciesNamed, hostsFault, headerFault, kindFits, formFault, rowFault, rowFaultAt, sourceBroken, tableFault}
 use Rattle.model.specs.Fill.{blank, chosen}
 use Rattle.model.specs.Words.{blankAt, sourceBegin, Filling}
@@ -156,7 +156,7 @@ unfolding rowFault
 fault-any hosts p n r a b e = rw (form-any r a b e) refl
 
 blank-reads : (s : List ℕ) (i : ℕ) → blankAt s i ≡ true → reads (rowOf (rowBytes s) i) ≡ true
-unfolding blankAt blank tableOf decode plainRead reads
+unfolding blankAt blank tableOf tableUnder decode plainRead reads
 blank-reads s i e = or-left _ (or-left _ (split e .0))
 
 module _ {s f : List ℕ} (fl : Filling s f) where

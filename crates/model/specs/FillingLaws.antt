@@ -18,7 +18,7 @@ use Rattle.model.specs.declared.Row.{Row}
 use Rattle.model.specs.declared.Mode.{Mode}
 use Rattle.model.specs.Limits.{AGENTS, DEPENDENCIES, INITIAL, BLANK}
 use Rattle.model.specs.Row.{PLAIN-READ, ATOMIC-READ, atomic, plainRead}
-use Rattle.model.specs.Table.{Table, HEADER, PLACE-BYTES, HOSTS-PLACE-BYTES, DEPENDENCY-BYTES, ROW-BYTES, pairAt, versionAt, agentsAt, rowsAt, hasHosts, threeAt, fourAt, placeAt, slotAt, placesOf, rowsBegin, rowsEnd, rowBytes, dependencyBytes, byteOf, pairOf, rowOf, sourceOf, atomicSource, dependencyCount, dependencyEnd, dependencyFrom, dependencyTo, dependsOf, decode, tableOf, sourcesOf, modeOf, COUNTED}
+use Rattle.model.specs.Table.{Table, HEADER, PLACE-BYTES, HOSTS-PLACE-BYTES, DEPENDENCY-BYTES, ROW-BYTES, pairAt, versionAt, agentsAt, rowsAt, hasHosts, threeAt, fourAt, placeAt, slotAt, placesOf, rowsBegin, rowsEnd, rowBytes, dependencyBytes, byteOf, pairOf, rowOf, sourceOf, atomicSource, dependencyCount, dependencyEnd, dependencyFrom, dependencyTo, dependsOf, decode, tableUnder, tableOf, sourcesOf, modeOf, COUNTED}
 use Rattle.model.specs.Location.{before}
 use Rattle.model.specs.Race.{conflict, races, unordered}
 use Rattle.model.specs.Fill.{blank}
@@ -207,7 +207,7 @@ module _ {s f : List ℕ} (fl : Filling s f) where
       pair-is (rowBytes f) i 12 ∙ ap₂ (λ (x y : ℕ). x * 256 + y) (byte-whole i 12 (omega arith) n) (byte-whole i 13 (omega arith) n) ∙ sym (pair-is (rowBytes s) i 12)
 
   atomic-no-blank : (i : ℕ) → atomic (rowOf (rowBytes s) i) ≡ true → blankAt s i ≡ false
-  unfolding blankAt blank tableOf decode
+  unfolding blankAt blank tableOf tableUnder decode
   atomic-no-blank i a =
       ⊎-elim (λ t. absurd (atomic-not-blank (rowOf (rowBytes s) i) a (split t .0))) (λ n. n) (which (plainRead (rowOf (rowBytes s) i) and eqb (sourcesOf s i) BLANK))
 
@@ -264,29 +264,34 @@ module _ {s f : List ℕ} (fl : Filling s f) where
   -- ---- what the rules of order read
 
   -- A FILLING CHANGES NOTHING THAT THE RULES OF ORDER READ
-  pub table-kept : tableOf f ≡ tableOf s
-  unfolding tableOf decode
-  table-kept =
+  pub under-kept : (chains : Bool) → tableUnder chains f ≡ tableUnder chains s
+  unfolding tableUnder decode
+  under-kept chains =
       λ d.
       record {
         rows = rows-kept d;
         places = places-kept d;
-        counted = mode-kept false d .counted;
-        chains = mode-kept false d .chains;
+        counted = mode-kept chains d .counted;
+        chains = mode-kept chains d .chains;
         row = fun-ext {f = rowOf (rowBytes f)} {g = rowOf (rowBytes s)} row-kept d;
         source = fun-ext {f = atomicSource (rowBytes f)} {g = atomicSource (rowBytes s)} atomic-kept d;
-        depends = dependsOf (mode-kept false d);
+        depends = dependsOf (mode-kept chains d);
       }
 
+  pub table-kept : tableOf f ≡ tableOf s
+  unfolding tableOf
+  table-kept = under-kept false
+
   -- so location order, conflicts and races of a filled table are those of the table with its blanks
-  pub before-kept : (x y b : ℕ) → before (tableOf f) x y b ≡ before (tableOf s) x y b
-  before-kept x y b = ap (λ (t : Table). before t x y b) table-kept
+  module _ (chains : Bool) where
+    pub before-kept : (x y b : ℕ) → before (tableUnder chains f) x y b ≡ before (tableUnder chains s) x y b
+    before-kept x y b = ap (λ (t : Table). before t x y b) (under-kept chains)
 
-  pub conflict-kept : (x y : ℕ) → conflict (tableOf f) x y ≡ conflict (tableOf s) x y
-  conflict-kept x y = ap (λ (t : Table). conflict t x y) table-kept
+    pub conflict-kept : (x y : ℕ) → conflict (tableUnder chains f) x y ≡ conflict (tableUnder chains s) x y
+    conflict-kept x y = ap (λ (t : Table). conflict t x y) (under-kept chains)
 
-  pub unordered-kept : (x y b : ℕ) → unordered (tableOf f) x y b ≡ unordered (tableOf s) x y b
-  unordered-kept x y b = ap (λ (t : Table). unordered t x y b) table-kept
+    pub unordered-kept : (x y b : ℕ) → unordered (tableUnder chains f) x y b ≡ unordered (tableUnder chains s) x y b
+    unordered-kept x y b = ap (λ (t : Table). unordered t x y b) (under-kept chains)
 
-  pub races-kept : (x y : ℕ) → races (tableOf f) x y ≡ races (tableOf s) x y
-  races-kept x y = ap (λ (t : Table). races t x y) table-kept
+    pub races-kept : (x y : ℕ) → races (tableUnder chains f) x y ≡ races (tableUnder chains s) x y
+    races-kept x y = ap (λ (t : Table). races t x y) (under-kept chains)

@@ -18,7 +18,7 @@ use Rattle.finite.specs.Lists.{tabulate, length-tabulate, getD-tabulate}
 use Rattle.model.specs.declared.Row.{Row}
 use Rattle.model.specs.Limits.{AGENTS, CLASS-SETS}
 use Rattle.model.specs.Row.{CONTROL, AVAILABLE-HOST, AVAILABLE-DEVICE, DEVICE-TO-HOST, operation}
-use Rattle.model.specs.Table.{Table, pairAt, agentsAt, rowsAt, hasHosts, threeAt, placeAt, slotAt, placesOf, rowsEnd, sizeOf, rowBytes, dependencyBytes, rowOf, dependencyCount, dependsOf, decode, modeOf, tableOf}
+use Rattle.model.specs.Table.{Table, pairAt, agentsAt, rowsAt, hasHosts, threeAt, placeAt, slotAt, placesOf, rowsEnd, sizeOf, rowBytes, dependencyBytes, rowOf, dependencyCount, dependsOf, decode, modeOf, tableUnder}
 use Rattle.model.specs.Scope.{SHADER, agentKind, shader, oneInstance, shares}
 use Rattle.model.specs.Moment.{rowIn, programOrder}
 use Rattle.model.specs.Happens.{bySync, toRelease, fromAcquire, bySystem, step, happens}
@@ -118,9 +118,9 @@ module _ {blanks : Bool} {s : List ℕ} (h : Sound blanks s) (old : hasHosts s �
   unfolding dependencyCount pairAt
   no-count = rw (byte-past 0, byte-past 1) refl
 
-  no-depends : (x y : ℕ) → dependsOf (modeOf false s) x y ≡ false
+  no-depends : (chains : Bool) (x y : ℕ) → dependsOf (modeOf chains s) x y ≡ false
   unfolding dependsOf modeOf anyBelow
-  no-depends x y = rw no-count refl
+  no-depends chains x y = rw no-count refl
 
   no-operation : (i : ℕ) → i < rowsAt s → operation (rowOf (rowBytes s) i) ≡ false
   unfolding codesFit operation
@@ -146,6 +146,6 @@ module _ {blanks : Bool} {s : List ℕ} (h : Sound blanks s) (old : hasHosts s �
       go (no l) = ap (λ (p : List ℕ). getD p 3 0) (List·getD-eq-default (tabulate (slotAt s) AGENTS) [] (subst (λ (n : ℕ). n ≤ a) (sym (length-tabulate (slotAt s) AGENTS)) (omega arith)))
 
   -- VERSIONS 1 AND 2 ARE AS BEFORE
-  pub no-hosts : NoHosts (tableOf s)
-  unfolding tableOf decode
-  no-hosts = record { alone = no-depends; rows = no-operation; agents = no-kind }
+  pub no-hosts : (chains : Bool) → NoHosts (tableUnder chains s)
+  unfolding tableUnder decode
+  no-hosts chains = record { alone = no-depends chains; rows = no-operation; agents = no-kind }

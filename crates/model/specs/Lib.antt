@@ -22,6 +22,7 @@ pub mod RaceLaws
 pub mod AxiomLaws
 pub mod PairLaws
 pub mod HostLaws
+pub mod ChainLaws
 pub mod RankLaws
 pub mod RunLaws
 pub mod WriterLaws

@@ -15,7 +15,7 @@ use Rattle.model.specs.declared.Report.{Report}
 use Rattle.model.specs.declared.ReportAnswer.{ReportAnswer}
 use Rattle.model.specs.declared.ReportAnswer.the-variants as told
 use Rattle.model.specs.Limits.{LONGEST}
-use Rattle.model.specs.Table.{Table, tableOf}
+use Rattle.model.specs.Table.{Table, tableUnder}
 use Rattle.model.specs.Scope.{mutually}
 use Rattle.model.specs.Location.{common, before}
 use Rattle.model.specs.Race.{nth, conflict, races}
@@ -84,6 +84,7 @@ reportAnswer (said.Overwritten y z b) t = told.Overwritten y z b
 reportAnswer (said.Race x y b) t = counted t
 reportAnswer said.RaceFree t = counted t
 
--- of any bytes, with a work area and a cycle buffer of such lengths; both are left as a check leaves them
-unfoldable pub report : List ℕ → ℕ → ℕ → ReportAnswer
-report s work buffer = reportAnswer (checkAnswer (check s work buffer)) (tableOf s)
+-- of any bytes, on a device with or without chains, with a work area and a cycle buffer of such lengths; both are left as a check
+-- leaves them
+unfoldable pub report : Bool → List ℕ → ℕ → ℕ → ReportAnswer
+report chains s work buffer = reportAnswer (checkAnswer (check chains s work buffer)) (tableUnder chains s)

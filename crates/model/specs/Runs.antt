@@ -10,12 +10,12 @@ use Rattle.finite.specs.Closure.{through}
 use Rattle.finite.specs.Lists.{tabulate}
 use Rattle.finite.specs.Walk.{walk, onCycle, cycleStart, cycleSize, trail, cycle, along}
 use Rattle.model.specs.Row.{plain, atomic, access, barrier, control, sameInstance, operation, plainRead, rmw, reads, writes, ranked, acquires, releases, holds, meets, single, classIn, nonPrivate, makesAvailable, makesVisible, inside, touches, covers, lowestShared, isShared, overlap}
-use Rattle.model.specs.Table.{pairAt, quadAt, countAt, versionAt, agentsAt, rowsAt, zeroAt, hasHosts, threeAt, fourAt, placeAt, slotAt, placesOf, modeOf, rowsBegin, rowsEnd, sizeOf, rowBytes, dependencyBytes, byteOf, pairOf, rowOf, sourceOf, atomicSource, dependencyCount, dependencyEnd, dependencyFrom, dependencyTo, dependency, dependsOf, decode, tableOf, sourcesOf}
+use Rattle.model.specs.Table.{pairAt, quadAt, countAt, versionAt, agentsAt, rowsAt, zeroAt, hasHosts, threeAt, fourAt, placeAt, slotAt, placesOf, modeOf, rowsBegin, rowsEnd, sizeOf, rowBytes, dependencyBytes, byteOf, pairOf, rowOf, sourceOf, atomicSource, dependencyCount, dependencyEnd, dependencyFrom, dependencyTo, dependency, dependsOf, decode, tableUnder, tableOf, sourcesOf}
 use Rattle.model.specs.Scope.{agree, agentKind, shader, host, oneInstance, shares, together, sameLocation, mutualRows, mutually, age, later, laterWriter, follows}
 use Rattle.model.specs.Moment.{availabilityOf, visibilityOf, momentOf, momentIn, orderedRows, classesOf, availability, visibility, moment, sameAgent, programOrder}
 use Rattle.model.specs.Synchronizes.{continues, ends, sequence, takesFrom, leads, trails, syncAtomics, carriesOut, syncFromBarrier, carriesIn, syncToBarrier, carriesOver, syncBarriers, upTo, joins, arrives, passes, syncControl, synchronizes}
 use Rattle.model.specs.Happens.{holdingOf, concernsOf, holding, concerns, bySync, toRelease, fromAcquire, bySystem, step, interThread, holdsAll, live, interThreadBy, happens}
-use Rattle.model.specs.Location.{sameReference, coversOf, pureRead, publicWrite, L1, L2, availableFrom, visibleTo, shareMoment, shown, met, carried, L3, systemBefore, L4, thence, onHost, availableKind, visibleKind, domainKind, seenBy, metFrom, carriedBy, reachesBy, L5, common, before}
+use Rattle.model.specs.Location.{sameReference, coversOf, pureRead, publicWrite, L1, L2, availableAt, visibleAt, firstAvailable, lastVisible, broader, broadens, narrows, availabilityChain, visibilityChain, availableBy, availableFrom, visibleBy, visibleTo, inDomain, shown, met, carried, byDomain, L3, systemBefore, L4, thence, onHost, availableKind, visibleKind, domainKind, seenBy, metFrom, carriedBy, reachesBy, L5, common, before}
 use Rattle.model.specs.Race.{clash, conflict, unordered, unorderedNth, raceNth, races, racesAbove, racePartner, hasRace, raceRow, raceByte}
 use Rattle.model.specs.Edge.{beforeNth, beforeSome, readsFrom, fromReads, edgeNumber, edge, cycleRow, cycleRows, cycleEdges, overwrites, overwritesNth, overNth, overwriting, overWriter, isOverwritten, overReader, overByte, consistent}
 use Rattle.model.specs.Refusal.{buffersFit, versionFits, limitsFit, lengthFits, kindOver, agentsKnown, dependenciesFew, namesNone, dependenciesNamed, hostsFault, headerFault, codesFit, agentFits, operationFits, plainFits, atomicFits, barrierFits, semanticsFit, kindFits, atomicExtentFits, extentFits, formFault, rowFault, otherClass, otherClassAt, classTaken, writerFits, sourceFits, sourceBroken, sameRank, sameRankAt, rankTaken, apart, apartAt, instanceBroken, rival, outside, outsideAt, begins, unfit, tableFault, faulty, firstFault, rowFaultAt, admission}
@@ -42,8 +42,8 @@ pub record Run : Type 0 where
 
 -- with buffers just large enough
 unfoldable pub answer : Ask → List ℕ → Answer
-answer asCheck s = checked (check s WORK CYCLE)
-answer asFill s = filling (fill s WORK SOURCES)
+answer asCheck s = checked (check false s WORK CYCLE)
+answer asFill s = filling (fill false s WORK SOURCES)
 
 -- ---- tables
 
@@ -127,7 +127,7 @@ starred =
     ∷ []
 
 pub starred-hold : map (λ r. answer (r .ask) (r .table)) starred ≡ map (λ r. r .gives) starred
-unfolding answer _and_ _or_ anyBelow allBelow least through tabulate walk onCycle cycleStart cycleSize trail cycle along plain atomic access barrier control sameInstance operation plainRead rmw reads writes ranked acquires releases holds meets single classIn nonPrivate makesAvailable makesVisible inside touches covers lowestShared isShared overlap pairAt quadAt countAt versionAt agentsAt rowsAt zeroAt hasHosts threeAt fourAt placeAt slotAt placesOf modeOf rowsBegin rowsEnd sizeOf rowBytes dependencyBytes byteOf pairOf rowOf sourceOf atomicSource dependencyCount dependencyEnd dependencyFrom dependencyTo dependency dependsOf decode tableOf sourcesOf agree agentKind shader host oneInstance shares together sameLocation mutualRows mutually age later laterWriter follows availabilityOf visibilityOf momentOf momentIn orderedRows classesOf availability visibility moment sameAgent programOrder continues ends sequence takesFrom leads trails syncAtomics carriesOut syncFromBarrier carriesIn syncToBarrier carriesOver syncBarriers upTo joins arrives passes syncControl synchronizes holdingOf concernsOf holding concerns bySync toRelease fromAcquire bySystem step interThread holdsAll live interThreadBy happens sameReference coversOf pureRead publicWrite L1 L2 availableFrom visibleTo shareMoment shown met carried L3 systemBefore L4 thence onHost availableKind visibleKind domainKind seenBy metFrom carriedBy reachesBy L5 common before clash conflict unordered unorderedNth raceNth races racesAbove racePartner hasRace raceRow raceByte beforeNth beforeSome readsFrom fromReads edgeNumber edge cycleRow cycleRows cycleEdges overwrites overwritesNth overNth overwriting overWriter isOverwritten overReader overByte consistent buffersFit versionFits limitsFit lengthFits kindOver agentsKnown dependenciesFew namesNone dependenciesNamed hostsFault headerFault codesFit agentFits operationFits plainFits atomicFits barrierFits semanticsFit kindFits atomicExtentFits extentFits formFault rowFault otherClass otherClassAt classTaken writerFits sourceFits sourceBroken sameRank sameRankAt rankTaken apart apartAt instanceBroken rival outside outsideAt begins unfit tableFault faulty firstFault rowFaultAt admission raceOr overwrittenOr cyclicOr verdict admitted check missesAt writtenBy written hidesAt between candidate choice blank chosen sourcesFit filledOr racingOr outcome admittedFill fill
+unfolding answer _and_ _or_ anyBelow allBelow least through tabulate walk onCycle cycleStart cycleSize trail cycle along plain atomic access barrier control sameInstance operation plainRead rmw reads writes ranked acquires releases holds meets single classIn nonPrivate makesAvailable makesVisible inside touches covers lowestShared isShared overlap pairAt quadAt countAt versionAt agentsAt rowsAt zeroAt hasHosts threeAt fourAt placeAt slotAt placesOf modeOf rowsBegin rowsEnd sizeOf rowBytes dependencyBytes byteOf pairOf rowOf sourceOf atomicSource dependencyCount dependencyEnd dependencyFrom dependencyTo dependency dependsOf decode tableUnder tableOf sourcesOf agree agentKind shader host oneInstance shares together sameLocation mutualRows mutually age later laterWriter follows availabilityOf visibilityOf momentOf momentIn orderedRows classesOf availability visibility moment sameAgent programOrder continues ends sequence takesFrom leads trails syncAtomics carriesOut syncFromBarrier carriesIn syncToBarrier carriesOver syncBarriers upTo joins arrives passes syncControl synchronizes holdingOf concernsOf holding concerns bySync toRelease fromAcquire bySystem step interThread holdsAll live interThreadBy happens sameReference coversOf pureRead publicWrite L1 L2 availableAt visibleAt firstAvailable lastVisible broader broadens narrows availabilityChain visibilityChain availableBy availableFrom visibleBy visibleTo inDomain shown met carried byDomain L3 systemBefore L4 thence onHost availableKind visibleKind domainKind seenBy metFrom carriedBy reachesBy L5 common before clash conflict unordered unorderedNth raceNth races racesAbove racePartner hasRace raceRow raceByte beforeNth beforeSome readsFrom fromReads edgeNumber edge cycleRow cycleRows cycleEdges overwrites overwritesNth overNth overwriting overWriter isOverwritten overReader overByte consistent buffersFit versionFits limitsFit lengthFits kindOver agentsKnown dependenciesFew namesNone dependenciesNamed hostsFault headerFault codesFit agentFits operationFits plainFits atomicFits barrierFits semanticsFit kindFits atomicExtentFits extentFits formFault rowFault otherClass otherClassAt classTaken writerFits sourceFits sourceBroken sameRank sameRankAt rankTaken apart apartAt instanceBroken rival outside outsideAt begins unfit tableFault faulty firstFault rowFaultAt admission raceOr overwrittenOr cyclicOr verdict admitted check missesAt writtenBy written hidesAt between candidate choice blank chosen sourcesFit filledOr racingOr outcome admittedFill fill
 starred-hold = refl
 
 -- ---- shortcuts that would fool us
@@ -183,7 +183,7 @@ shortcuts =
     ∷ []
 
 pub shortcuts-hold : map (λ r. answer (r .ask) (r .table)) shortcuts ≡ map (λ r. r .gives) shortcuts
-unfolding answer _and_ _or_ anyBelow allBelow least through tabulate walk onCycle cycleStart cycleSize trail cycle along plain atomic access barrier control sameInstance operation plainRead rmw reads writes ranked acquires releases holds meets single classIn nonPrivate makesAvailable makesVisible inside touches covers lowestShared isShared overlap pairAt quadAt countAt versionAt agentsAt rowsAt zeroAt hasHosts threeAt fourAt placeAt slotAt placesOf modeOf rowsBegin rowsEnd sizeOf rowBytes dependencyBytes byteOf pairOf rowOf sourceOf atomicSource dependencyCount dependencyEnd dependencyFrom dependencyTo dependency dependsOf decode tableOf sourcesOf agree agentKind shader host oneInstance shares together sameLocation mutualRows mutually age later laterWriter follows availabilityOf visibilityOf momentOf momentIn orderedRows classesOf availability visibility moment sameAgent programOrder continues ends sequence takesFrom leads trails syncAtomics carriesOut syncFromBarrier carriesIn syncToBarrier carriesOver syncBarriers upTo joins arrives passes syncControl synchronizes holdingOf concernsOf holding concerns bySync toRelease fromAcquire bySystem step interThread holdsAll live interThreadBy happens sameReference coversOf pureRead publicWrite L1 L2 availableFrom visibleTo shareMoment shown met carried L3 systemBefore L4 thence onHost availableKind visibleKind domainKind seenBy metFrom carriedBy reachesBy L5 common before clash conflict unordered unorderedNth raceNth races racesAbove racePartner hasRace raceRow raceByte beforeNth beforeSome readsFrom fromReads edgeNumber edge cycleRow cycleRows cycleEdges overwrites overwritesNth overNth overwriting overWriter isOverwritten overReader overByte consistent buffersFit versionFits limitsFit lengthFits kindOver agentsKnown dependenciesFew namesNone dependenciesNamed hostsFault headerFault codesFit agentFits operationFits plainFits atomicFits barrierFits semanticsFit kindFits atomicExtentFits extentFits formFault rowFault otherClass otherClassAt classTaken writerFits sourceFits sourceBroken sameRank sameRankAt rankTaken apart apartAt instanceBroken rival outside outsideAt begins unfit tableFault faulty firstFault rowFaultAt admission raceOr overwrittenOr cyclicOr verdict admitted check missesAt writtenBy written hidesAt between candidate choice blank chosen sourcesFit filledOr racingOr outcome admittedFill fill
+unfolding answer _and_ _or_ anyBelow allBelow least through tabulate walk onCycle cycleStart cycleSize trail cycle along plain atomic access barrier control sameInstance operation plainRead rmw reads writes ranked acquires releases holds meets single classIn nonPrivate makesAvailable makesVisible inside touches covers lowestShared isShared overlap pairAt quadAt countAt versionAt agentsAt rowsAt zeroAt hasHosts threeAt fourAt placeAt slotAt placesOf modeOf rowsBegin rowsEnd sizeOf rowBytes dependencyBytes byteOf pairOf rowOf sourceOf atomicSource dependencyCount dependencyEnd dependencyFrom dependencyTo dependency dependsOf decode tableUnder tableOf sourcesOf agree agentKind shader host oneInstance shares together sameLocation mutualRows mutually age later laterWriter follows availabilityOf visibilityOf momentOf momentIn orderedRows classesOf availability visibility moment sameAgent programOrder continues ends sequence takesFrom leads trails syncAtomics carriesOut syncFromBarrier carriesIn syncToBarrier carriesOver syncBarriers upTo joins arrives passes syncControl synchronizes holdingOf concernsOf holding concerns bySync toRelease fromAcquire bySystem step interThread holdsAll live interThreadBy happens sameReference coversOf pureRead publicWrite L1 L2 availableAt visibleAt firstAvailable lastVisible broader broadens narrows availabilityChain visibilityChain availableBy availableFrom visibleBy visibleTo inDomain shown met carried byDomain L3 systemBefore L4 thence onHost availableKind visibleKind domainKind seenBy metFrom carriedBy reachesBy L5 common before clash conflict unordered unorderedNth raceNth races racesAbove racePartner hasRace raceRow raceByte beforeNth beforeSome readsFrom fromReads edgeNumber edge cycleRow cycleRows cycleEdges overwrites overwritesNth overNth overwriting overWriter isOverwritten overReader overByte consistent buffersFit versionFits limitsFit lengthFits kindOver agentsKnown dependenciesFew namesNone dependenciesNamed hostsFault headerFault codesFit agentFits operationFits plainFits atomicFits barrierFits semanticsFit kindFits atomicExtentFits extentFits formFault rowFault otherClass otherClassAt classTaken writerFits sourceFits sourceBroken sameRank sameRankAt rankTaken apart apartAt instanceBroken rival outside outsideAt begins unfit tableFault faulty firstFault rowFaultAt admission raceOr overwrittenOr cyclicOr verdict admitted check missesAt writtenBy written hidesAt between candidate choice blank chosen sourcesFit filledOr racingOr outcome admittedFill fill
 shortcuts-hold = refl
 
 -- ---- control barriers
@@ -234,7 +234,7 @@ controls =
     ∷ []
 
 pub controls-hold : map (λ r. answer (r .ask) (r .table)) controls ≡ map (λ r. r .gives) controls
-unfolding answer _and_ _or_ anyBelow allBelow least through tabulate walk onCycle cycleStart cycleSize trail cycle along plain atomic access barrier control sameInstance operation plainRead rmw reads writes ranked acquires releases holds meets single classIn nonPrivate makesAvailable makesVisible inside touches covers lowestShared isShared overlap pairAt quadAt countAt versionAt agentsAt rowsAt zeroAt hasHosts threeAt fourAt placeAt slotAt placesOf modeOf rowsBegin rowsEnd sizeOf rowBytes dependencyBytes byteOf pairOf rowOf sourceOf atomicSource dependencyCount dependencyEnd dependencyFrom dependencyTo dependency dependsOf decode tableOf sourcesOf agree agentKind shader host oneInstance shares together sameLocation mutualRows mutually age later laterWriter follows availabilityOf visibilityOf momentOf momentIn orderedRows classesOf availability visibility moment sameAgent programOrder continues ends sequence takesFrom leads trails syncAtomics carriesOut syncFromBarrier carriesIn syncToBarrier carriesOver syncBarriers upTo joins arrives passes syncControl synchronizes holdingOf concernsOf holding concerns bySync toRelease fromAcquire bySystem step interThread holdsAll live interThreadBy happens sameReference coversOf pureRead publicWrite L1 L2 availableFrom visibleTo shareMoment shown met carried L3 systemBefore L4 thence onHost availableKind visibleKind domainKind seenBy metFrom carriedBy reachesBy L5 common before clash conflict unordered unorderedNth raceNth races racesAbove racePartner hasRace raceRow raceByte beforeNth beforeSome readsFrom fromReads edgeNumber edge cycleRow cycleRows cycleEdges overwrites overwritesNth overNth overwriting overWriter isOverwritten overReader overByte consistent buffersFit versionFits limitsFit lengthFits kindOver agentsKnown dependenciesFew namesNone dependenciesNamed hostsFault headerFault codesFit agentFits operationFits plainFits atomicFits barrierFits semanticsFit kindFits atomicExtentFits extentFits formFault rowFault otherClass otherClassAt classTaken writerFits sourceFits sourceBroken sameRank sameRankAt rankTaken apart apartAt instanceBroken rival outside outsideAt begins unfit tableFault faulty firstFault rowFaultAt admission raceOr overwrittenOr cyclicOr verdict admitted check missesAt writtenBy written hidesAt between candidate choice blank chosen sourcesFit filledOr racingOr outcome admittedFill fill
+unfolding answer _and_ _or_ anyBelow allBelow least through tabulate walk onCycle cycleStart cycleSize trail cycle along plain atomic access barrier control sameInstance operation plainRead rmw reads writes ranked acquires releases holds meets single classIn nonPrivate makesAvailable makesVisible inside touches covers lowestShared isShared overlap pairAt quadAt countAt versionAt agentsAt rowsAt zeroAt hasHosts threeAt fourAt placeAt slotAt placesOf modeOf rowsBegin rowsEnd sizeOf rowBytes dependencyBytes byteOf pairOf rowOf sourceOf atomicSource dependencyCount dependencyEnd dependencyFrom dependencyTo dependency dependsOf decode tableUnder tableOf sourcesOf agree agentKind shader host oneInstance shares together sameLocation mutualRows mutually age later laterWriter follows availabilityOf visibilityOf momentOf momentIn orderedRows classesOf availability visibility moment sameAgent programOrder continues ends sequence takesFrom leads trails syncAtomics carriesOut syncFromBarrier carriesIn syncToBarrier carriesOver syncBarriers upTo joins arrives passes syncControl synchronizes holdingOf concernsOf holding concerns bySync toRelease fromAcquire bySystem step interThread holdsAll live interThreadBy happens sameReference coversOf pureRead publicWrite L1 L2 availableAt visibleAt firstAvailable lastVisible broader broadens narrows availabilityChain visibilityChain availableBy availableFrom visibleBy visibleTo inDomain shown met carried byDomain L3 systemBefore L4 thence onHost availableKind visibleKind domainKind seenBy metFrom carriedBy reachesBy L5 common before clash conflict unordered unorderedNth raceNth races racesAbove racePartner hasRace raceRow raceByte beforeNth beforeSome readsFrom fromReads edgeNumber edge cycleRow cycleRows cycleEdges overwrites overwritesNth overNth overwriting overWriter isOverwritten overReader overByte consistent buffersFit versionFits limitsFit lengthFits kindOver agentsKnown dependenciesFew namesNone dependenciesNamed hostsFault headerFault codesFit agentFits operationFits plainFits atomicFits barrierFits semanticsFit kindFits atomicExtentFits extentFits formFault rowFault otherClass otherClassAt classTaken writerFits sourceFits sourceBroken sameRank sameRankAt rankTaken apart apartAt instanceBroken rival outside outsideAt begins unfit tableFault faulty firstFault rowFaultAt admission raceOr overwrittenOr cyclicOr verdict admitted check missesAt writtenBy written hidesAt between candidate choice blank chosen sourcesFit filledOr racingOr outcome admittedFill fill
 controls-hold = refl
 
 -- ---- counted ranks
@@ -265,5 +265,5 @@ counts =
     ∷ []
 
 pub counts-hold : map (λ r. answer (r .ask) (r .table)) counts ≡ map (λ r. r .gives) counts
-unfolding answer _and_ _or_ anyBelow allBelow least through tabulate walk onCycle cycleStart cycleSize trail cycle along plain atomic access barrier control sameInstance operation plainRead rmw reads writes ranked acquires releases holds meets single classIn nonPrivate makesAvailable makesVisible inside touches covers lowestShared isShared overlap pairAt quadAt countAt versionAt agentsAt rowsAt zeroAt hasHosts threeAt fourAt placeAt slotAt placesOf modeOf rowsBegin rowsEnd sizeOf rowBytes dependencyBytes byteOf pairOf rowOf sourceOf atomicSource dependencyCount dependencyEnd dependencyFrom dependencyTo dependency dependsOf decode tableOf sourcesOf agree agentKind shader host oneInstance shares together sameLocation mutualRows mutually age later laterWriter follows availabilityOf visibilityOf momentOf momentIn orderedRows classesOf availability visibility moment sameAgent programOrder continues ends sequence takesFrom leads trails syncAtomics carriesOut syncFromBarrier carriesIn syncToBarrier carriesOver syncBarriers upTo joins arrives passes syncControl synchronizes holdingOf concernsOf holding concerns bySync toRelease fromAcquire bySystem step interThread holdsAll live interThreadBy happens sameReference coversOf pureRead publicWrite L1 L2 availableFrom visibleTo shareMoment shown met carried L3 systemBefore L4 thence onHost availableKind visibleKind domainKind seenBy metFrom carriedBy reachesBy L5 common before clash conflict unordered unorderedNth raceNth races racesAbove racePartner hasRace raceRow raceByte beforeNth beforeSome readsFrom fromReads edgeNumber edge cycleRow cycleRows cycleEdges overwrites overwritesNth overNth overwriting overWriter isOverwritten overReader overByte consistent buffersFit versionFits limitsFit lengthFits kindOver agentsKnown dependenciesFew namesNone dependenciesNamed hostsFault headerFault codesFit agentFits operationFits plainFits atomicFits barrierFits semanticsFit kindFits atomicExtentFits extentFits formFault rowFault otherClass otherClassAt classTaken writerFits sourceFits sourceBroken sameRank sameRankAt rankTaken apart apartAt instanceBroken rival outside outsideAt begins unfit tableFault faulty firstFault rowFaultAt admission raceOr overwrittenOr cyclicOr verdict admitted check missesAt writtenBy written hidesAt between candidate choice blank chosen sourcesFit filledOr racingOr outcome admittedFill fill
+unfolding answer _and_ _or_ anyBelow allBelow least through tabulate walk onCycle cycleStart cycleSize trail cycle along plain atomic access barrier control sameInstance operation plainRead rmw reads writes ranked acquires releases holds meets single classIn nonPrivate makesAvailable makesVisible inside touches covers lowestShared isShared overlap pairAt quadAt countAt versionAt agentsAt rowsAt zeroAt hasHosts threeAt fourAt placeAt slotAt placesOf modeOf rowsBegin rowsEnd sizeOf rowBytes dependencyBytes byteOf pairOf rowOf sourceOf atomicSource dependencyCount dependencyEnd dependencyFrom dependencyTo dependency dependsOf decode tableUnder tableOf sourcesOf agree agentKind shader host oneInstance shares together sameLocation mutualRows mutually age later laterWriter follows availabilityOf visibilityOf momentOf momentIn orderedRows classesOf availability visibility moment sameAgent programOrder continues ends sequence takesFrom leads trails syncAtomics carriesOut syncFromBarrier carriesIn syncToBarrier carriesOver syncBarriers upTo joins arrives passes syncControl synchronizes holdingOf concernsOf holding concerns bySync toRelease fromAcquire bySystem step interThread holdsAll live interThreadBy happens sameReference coversOf pureRead publicWrite L1 L2 availableAt visibleAt firstAvailable lastVisible broader broadens narrows availabilityChain visibilityChain availableBy availableFrom visibleBy visibleTo inDomain shown met carried byDomain L3 systemBefore L4 thence onHost availableKind visibleKind domainKind seenBy metFrom carriedBy reachesBy L5 common before clash conflict unordered unorderedNth raceNth races racesAbove racePartner hasRace raceRow raceByte beforeNth beforeSome readsFrom fromReads edgeNumber edge cycleRow cycleRows cycleEdges overwrites overwritesNth overNth overwriting overWriter isOverwritten overReader overByte consistent buffersFit versionFits limitsFit lengthFits kindOver agentsKnown dependenciesFew namesNone dependenciesNamed hostsFault headerFault codesFit agentFits operationFits plainFits atomicFits barrierFits semanticsFit kindFits atomicExtentFits extentFits formFault rowFault otherClass otherClassAt classTaken writerFits sourceFits sourceBroken sameRank sameRankAt rankTaken apart apartAt instanceBroken rival outside outsideAt begins unfit tableFault faulty firstFault rowFaultAt admission raceOr overwrittenOr cyclicOr verdict admitted check missesAt writtenBy written hidesAt between candidate choice blank chosen sourcesFit filledOr racingOr outcome admittedFill fill
 counts-hold = refl

@@ -21,7 +21,7 @@ pub record Table : Type 0 where
   pub places : List (List ℕ)
   -- ranks are counted: see `later` in Scope.antt
   pub counted : Bool
-  -- the device reports vulkanMemoryModelAvailabilityVisibilityChains
+  -- the device reports vulkanMemoryModelAvailabilityVisibilityChains: see L3 in Location.antt
   pub chains : Bool
   pub row : ℕ → Row
   pub source : ℕ → ℕ
@@ -207,9 +207,13 @@ decode b p g n =
       depends = dependsOf g;
     }
 
--- the table in all of its bytes, and all of its sources
+-- the table in all of its bytes, on a device with or without chains, and all of its sources
+unfoldable pub tableUnder : Bool → List ℕ → Table
+tableUnder chains s = decode (rowBytes s) (placesOf s) (modeOf chains s) (rowsAt s)
+
+-- the same where chains don't matter: nothing but L3 reads them
 unfoldable pub tableOf : List ℕ → Table
-tableOf s = decode (rowBytes s) (placesOf s) (modeOf false s) (rowsAt s)
+tableOf s = tableUnder false s
 
 unfoldable pub sourcesOf : List ℕ → ℕ → ℕ
 sourcesOf s = sourceOf (rowBytes s)

@@ -9,7 +9,7 @@ use lib.ListN.{length, getD}
 use Rattle.finite.specs.Closure.{Reach}
 use Rattle.model.specs.declared.Admission.the-variants.{Admitted}
 use Rattle.model.specs.Limits.{INITIAL, CLASS-SETS}
-use Rattle.model.specs.Table.{Table, ROW-BYTES, agentsAt, rowsAt, rowsBegin, tableOf, sourcesOf}
+use Rattle.model.specs.Table.{Table, ROW-BYTES, agentsAt, rowsAt, rowsBegin, tableUnder, tableOf, sourcesOf}
 use Rattle.model.specs.Scope.{mutually}
 use Rattle.model.specs.Moment.{programOrder}
 use Rattle.model.specs.Happens.{step}
@@ -51,8 +51,9 @@ Consistent t source = (Cyclic t source → ⊥) × (Overwritten t source → ⊥
 abbrev pub WellFormed : List ℕ → Type 0
 WellFormed s = admission false s ≡ Admitted (agentsAt s) (rowsAt s)
 
-abbrev pub ConsistentBytes : List ℕ → Type 0
-ConsistentBytes s = Consistent (tableOf s) (sourcesOf s)
+-- on a device with or without chains
+abbrev pub ConsistentBytes : Bool → List ℕ → Type 0
+ConsistentBytes chains s = Consistent (tableUnder chains s) (sourcesOf s)
 
 -- row i has a blank
 unfoldable pub blankAt : List ℕ → ℕ → Bool

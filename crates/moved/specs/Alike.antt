@@ -18,6 +18,7 @@ pub record Alike (t u : Table) (π : Renumbering (t .rows)) : Type 0 where
   pub rows : u .rows ≡ t .rows
   pub places : u .places ≡ t .places
   pub counted : u .counted ≡ t .counted
+  pub chains : u .chains ≡ t .chains
   pub row : (x : ℕ) → u .row (π .to x) ≡ t .row x
   pub source : (x : ℕ) → u .source (π .to x) ≡ π .to (t .source x)
   pub depends : (x y : ℕ) → u .depends (π .to x) (π .to y) ≡ t .depends x y

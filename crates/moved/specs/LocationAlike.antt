@@ -1,13 +1,18 @@
 -- L1 to L5 of two tables that are alike: each rule, once. Assumes nothing.
 use mathlib.Core.Path.{_≡_, refl, sym, ap₂, _∙_}
-use Prim.Native.Nat.{ℕ}
+use mathlib.Core.Bool.{Bool, true, false, cond}
+use Prim.Native.Nat.{ℕ, suc, _+_, _*_}
+use native.Mathlib.Omega.{arith}
 use Rattle.finite.specs.Logic.{_or_}
+use Rattle.finite.specs.Below.{any-cong}
+use Rattle.model.specs.Row.{plain}
 use Rattle.model.specs.Table.{Table}
-use Rattle.model.specs.Moment.{itself, sameAgent}
+use Rattle.model.specs.Scope.{DEVICE}
+use Rattle.model.specs.Moment.{BEFORE, AFTER, itself, sameAgent}
 use Rattle.model.specs.Happens.{happens}
-use Rattle.model.specs.Location.{L1, L2, L3, availableFrom, visibleTo, shareMoment, shown, met, carried, systemBefore, L4, thence, onHost, availableKind, visibleKind, domainKind, seenBy, metFrom, carriedBy, reachesBy, L5, before}
-use Rattle.moved.specs.Renumber.{Renumbering, moment-at, eqb-to}
-use Rattle.moved.specs.Alike.{Alike, mo, row-at, some-row, some-moment, row-path}
+use Rattle.model.specs.Location.{L1, L2, availableAt, visibleAt, firstAvailable, lastVisible, broader, broadens, narrows, availabilityChain, visibilityChain, availableBy, availableFrom, visibleBy, visibleTo, inDomain, shown, met, carried, byDomain, L3, systemBefore, L4, thence, onHost, availableKind, visibleKind, domainKind, seenBy, metFrom, carriedBy, reachesBy, L5, before}
+use Rattle.moved.specs.Renumber.{Renumbering, moment-at, moment-part, eqb-to}
+use Rattle.moved.specs.Alike.{Alike, mo, some-row, row-path}
 use Rattle.moved.specs.OrderAlike.{availability-alike, visibility-alike, order-alike, happens-alike}
 
 module _ {t u : Table} {π : Renumbering (t .rows)} (M : Alike t u π) where
@@ -25,34 +30,100 @@ module _ {t u : Table} {π : Renumbering (t .rows)} (M : Alike t u π) where
   unfolding L2
   L2-alike x y = rw (M .row x, M .row y, itself-alike x y) refl
 
-  pub from-alike : (x b c : ℕ) → availableFrom u (π .to x) b (mo M c) ≡ availableFrom t x b c
+  -- ---- L3: the elements of chains
+
+  available-at : (i : ℕ) → availableAt u (π .to i) ≡ mo M (availableAt t i)
+  unfolding availableAt
+  available-at i = rw (M .row i) (go (plain (t .row i)))
+    where
+      go : (c : Bool) → 3 * π .to i + cond c AFTER BEFORE ≡ mo M (3 * i + cond c AFTER BEFORE)
+      go true = sym (moment-part (π .to) i AFTER (omega arith))
+      go false = sym (moment-part (π .to) i BEFORE (omega arith))
+
+  visible-at : (i : ℕ) → visibleAt u (π .to i) ≡ mo M (visibleAt t i)
+  unfolding visibleAt
+  visible-at i = rw (M .row i) (go (plain (t .row i)))
+    where
+      go : (c : Bool) → 3 * π .to i + cond c BEFORE AFTER ≡ mo M (3 * i + cond c BEFORE AFTER)
+      go true = sym (moment-part (π .to) i BEFORE (omega arith))
+      go false = sym (moment-part (π .to) i AFTER (omega arith))
+
+  first-alike : (x b a : ℕ) → firstAvailable u (π .to x) b (π .to a) ≡ firstAvailable t x b a
+  unfolding firstAvailable
+  first-alike x b a =
+      rw (available-at a, at x, availability-alike M (availableAt t a), order-alike M (itself x) (availableAt t a), M .row a, M .row x) refl
+
+  last-alike : (y b v : ℕ) → lastVisible u (π .to y) b (π .to v) ≡ lastVisible t y b v
+  unfolding lastVisible
+  last-alike y b v = rw (visible-at v, at y, visibility-alike M (visibleAt t v), order-alike M (visibleAt t v) (itself y), M .row v, M .row y) refl
+
+  broader-alike : (i j : ℕ) → broader u (π .to i) (π .to j) ≡ broader t i j
+  unfolding broader
+  broader-alike i j = rw (M .row i, M .row j, M .places) refl
+
+  broadens-alike : (a c : ℕ) → broadens u (π .to a) (π .to c) ≡ broadens t a c
+  unfolding broadens
+  broadens-alike a c =
+      rw (available-at a, available-at c, availability-alike M (availableAt t c), happens-alike M (availableAt t a) (availableAt t c), broader-alike a c) refl
+
+  narrows-alike : (w v : ℕ) → narrows u (π .to w) (π .to v) ≡ narrows t w v
+  unfolding narrows
+  narrows-alike w v =
+      rw (visible-at w, visible-at v, visibility-alike M (visibleAt t w), happens-alike M (visibleAt t w) (visibleAt t v), broader-alike v w) refl
+
+  -- ---- L3: chains
+
+  available-chain-alike : (a c : ℕ) → availabilityChain u (π .to a) (π .to c) ≡ availabilityChain t a c
+  unfolding availabilityChain
+  available-chain-alike a c = rw (eqb-to π a c, row-path M (broadens t) (broadens u) broadens-alike a c, M .chains) refl
+
+  visible-chain-alike : (w v : ℕ) → visibilityChain u (π .to w) (π .to v) ≡ visibilityChain t w v
+  unfolding visibilityChain
+  visible-chain-alike w v = rw (eqb-to π w v, row-path M (narrows t) (narrows u) narrows-alike w v, M .chains) refl
+
+  available-by-alike : (x b c a : ℕ) → availableBy u (π .to x) b (π .to c) (π .to a) ≡ availableBy t x b c a
+  unfolding availableBy
+  available-by-alike x b c a = rw (first-alike x b a, available-chain-alike a c) refl
+
+  from-alike : (x b c : ℕ) → availableFrom u (π .to x) b (π .to c) ≡ availableFrom t x b c
   unfolding availableFrom
-  from-alike x b c = rw (availability-alike M c, at x, order-alike M (itself x) c, row-at M c, M .row x) refl
+  from-alike x b c = some-row M (availableBy t x b c) (availableBy u (π .to x) b (π .to c)) (available-by-alike x b c)
 
-  to-alike : (y b v : ℕ) → visibleTo u (π .to y) b (mo M v) ≡ visibleTo t y b v
+  visible-by-alike : (y b w v : ℕ) → visibleBy u (π .to y) b (π .to w) (π .to v) ≡ visibleBy t y b w v
+  unfolding visibleBy
+  visible-by-alike y b w v = rw (last-alike y b v, visible-chain-alike w v) refl
+
+  to-alike : (y b w : ℕ) → visibleTo u (π .to y) b (π .to w) ≡ visibleTo t y b w
   unfolding visibleTo
-  to-alike y b v = rw (visibility-alike M v, at y, order-alike M v (itself y), row-at M v, M .row y) refl
+  to-alike y b w = some-row M (visibleBy t y b w) (visibleBy u (π .to y) b (π .to w)) (visible-by-alike y b w)
 
-  pub share-alike : (x y m : ℕ) → shareMoment u (π .to x) (π .to y) (mo M m) ≡ shareMoment t x y m
-  unfolding shareMoment
-  share-alike x y m = rw (M .places, row-at M m, M .row x, M .row y) refl
+  -- ---- L3: where they meet
 
-  shown-alike : (x y b c v : ℕ) → shown u (π .to x) (π .to y) b (mo M c) (mo M v) ≡ shown t x y b c v
+  in-domain-alike : (d x i : ℕ) → inDomain u d (π .to x) (π .to i) ≡ inDomain t d x i
+  unfolding inDomain
+  in-domain-alike d x i = rw (M .row x, M .row i, M .places) refl
+
+  shown-alike : (d y b c w : ℕ) → shown u d (π .to y) b (π .to c) (π .to w) ≡ shown t d y b c w
   unfolding shown
-  shown-alike x y b c v = rw (to-alike y b v, share-alike x y v, happens-alike M c v) refl
+  shown-alike d y b c w = rw (in-domain-alike d y w, available-at c, visible-at w, happens-alike M (availableAt t c) (visibleAt t w), to-alike y b w) refl
 
-  pub met-alike : (x y b c : ℕ) → met u (π .to x) (π .to y) b (mo M c) ≡ met t x y b c
+  met-alike : (d y b c : ℕ) → met u d (π .to y) b (π .to c) ≡ met t d y b c
   unfolding met
-  met-alike x y b c =
-      rw (M .row y, some-moment M (shown t x y b c) (shown u (π .to x) (π .to y) b (mo M c)) (shown-alike x y b c), at y, happens-alike M c (itself y)) refl
+  met-alike d y b c =
+      rw (M .row y, some-row M (shown t d y b c) (shown u d (π .to y) b (π .to c)) (shown-alike d y b c), available-at c, at y, happens-alike M (availableAt t c) (itself y)) refl
 
-  carried-alike : (x y b c : ℕ) → carried u (π .to x) (π .to y) b (mo M c) ≡ carried t x y b c
+  by-domain-alike : (x y b c k : ℕ) → byDomain u (π .to x) (π .to y) b (π .to c) k ≡ byDomain t x y b c k
+  unfolding byDomain
+  by-domain-alike x y b c k = rw (M .row x, M .row y, in-domain-alike (suc k) x c, met-alike (suc k) y b c, M .places) refl
+
+  carried-alike : (x y b c : ℕ) → carried u (π .to x) (π .to y) b (π .to c) ≡ carried t x y b c
   unfolding carried
-  carried-alike x y b c = rw (from-alike x b c, share-alike x y c, met-alike x y b c) refl
+  carried-alike x y b c =
+      rw (from-alike x b c, any-cong (byDomain u (π .to x) (π .to y) b (π .to c)) (byDomain t x y b c) DEVICE (λ k l. by-domain-alike x y b c k)) refl
 
   L3-alike : (x y b : ℕ) → L3 u (π .to x) (π .to y) b ≡ L3 t x y b
   unfolding L3
-  L3-alike x y b = rw (M .row x, M .row y, some-moment M (carried t x y b) (carried u (π .to x) (π .to y) b) (carried-alike x y b)) refl
+  L3-alike x y b = rw (M .row x, M .row y, some-row M (carried t x y b) (carried u (π .to x) (π .to y) b) (carried-alike x y b)) refl
 
   -- ---- L4
 

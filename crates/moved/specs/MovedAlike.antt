@@ -14,57 +14,44 @@ use Rattle.finite.specs.Below.{any-cong}
 use Rattle.finite.specs.Lists.{tabulate, tabulate-cong, getD-tabulate}
 use Rattle.model.specs.Limits.{AGENTS, DEPENDENCIES, INITIAL, ROWS}
 use Rattle.model.specs.Row.{atomic}
-use Rattle.model.specs.Table.{HEADER, PLACE-BYTES, ROW-BYTES, COUNTED, HOSTS-PLACE-BYTES, pairAt, versionAt, agentsAt, rowsAt, hasHosts, threeAt, fourAt, placeAt, slotAt, placesOf, modeOf, rowsBegin, rowBytes, dependencyBytes, byteOf, pairOf, rowOf, sourceOf, atomicSource, dependencyCount, dependencyFrom, dependencyTo, dependency, dependsOf, decode, tableOf, sourcesOf}
-use Rattle.model.specs.AdmissionLaws.{Sound, dependencies-fit, rows-fit, size-fits, access-size, among-right}
+use Rattle.model.specs.Table.{HEADER, PLACE-BYTES, ROW-BYTES, COUNTED, HOSTS-PLACE-BYTES, pairAt, versionAt, agentsAt, rowsAt, hasHosts, threeAt, fourAt, placeAt, slotAt, placesOf, modeOf, rowsBegin, rowBytes, dependencyBytes, byteOf, pairOf, rowOf, sourceOf, atomicSource, dependencyCount, dependencyFrom, dependencyTo, dependency, dependsOf, decode, tableUnder, sourcesOf}
+use Rattle.model.specs.AdmissionLaws.{Sound, dependencies-fit, rows-fit, size-fits}
 use Rattle.model.specs.FillingLaws.{begin-hosts, begin-plain, begin-header, bytes-at, bytes-past, pair-is}
-use Rattle.model.specs.FilledLaws.{Bytes, rank-small}
 use Rattle.model.specs.RaceLaws.{Sized}
-use Rattle.model.specs.WriterLaws.{writers-ordered}
-use Rattle.model.specs.ChoiceLaws.{Fair}
 use Rattle.moved.specs.Renumber.{Renumbering, to-below, eqb-to}
 use Rattle.moved.specs.Moved.{Moved}
 use Rattle.moved.specs.Alike.{Alike}
 
 -- ---- a table that is admitted
 
-pub rows-is : (s : List ℕ) → tableOf s .rows ≡ rowsAt s
-unfolding tableOf decode
-rows-is s = refl
+pub rows-is : (chains : Bool) (s : List ℕ) → tableUnder chains s .rows ≡ rowsAt s
+unfolding tableUnder decode
+rows-is chains s = refl
 
-pub of-rows : (s : List ℕ) {i : ℕ} → i < tableOf s .rows → i < rowsAt s
-unfolding tableOf decode
-of-rows s l = l
+pub of-rows : (chains : Bool) (s : List ℕ) {i : ℕ} → i < tableUnder chains s .rows → i < rowsAt s
+unfolding tableUnder decode
+of-rows chains s l = l
 
-pub to-rows : (s : List ℕ) {i : ℕ} → i < rowsAt s → i < tableOf s .rows
-unfolding tableOf decode
-to-rows s l = l
+pub to-rows : (chains : Bool) (s : List ℕ) {i : ℕ} → i < rowsAt s → i < tableUnder chains s .rows
+unfolding tableUnder decode
+to-rows chains s l = l
 
-pub past-rows : (s : List ℕ) {i : ℕ} → tableOf s .rows ≤ i → rowsAt s ≤ i
-unfolding tableOf decode
-past-rows s l = l
+pub past-rows : (chains : Bool) (s : List ℕ) {i : ℕ} → tableUnder chains s .rows ≤ i → rowsAt s ≤ i
+unfolding tableUnder decode
+past-rows chains s l = l
 
-pub few-of : {blanks : Bool} {s : List ℕ} → Sound blanks s → tableOf s .rows ≤ ROWS
-unfolding tableOf decode
-few-of h = rows-fit h
+pub few-of : (chains : Bool) {blanks : Bool} {s : List ℕ} → Sound blanks s → tableUnder chains s .rows ≤ ROWS
+unfolding tableUnder decode
+few-of chains h = rows-fit h
 
-pub sized-of : {blanks : Bool} {s : List ℕ} → Sound blanks s → Sized (tableOf s)
-unfolding tableOf decode
-sized-of h = λ i l. size-fits h i l
-
-pub fair-of : {blanks : Bool} {s : List ℕ} → Bytes s → Sound blanks s → Fair (tableOf s)
-unfolding tableOf decode
-fair-of {s = s} bytes h =
-    record {
-      few = rows-fit h;
-      sized = λ i l. size-fits h i l;
-      nonempty = λ i l a. access-size h i l a .0;
-      ranks = λ i l. among-right h i l .2;
-      order = writers-ordered (tableOf s) (λ i l. rank-small s bytes i) (λ i l. among-right h i l .4);
-    }
+pub sized-of : (chains : Bool) {blanks : Bool} {s : List ℕ} → Sound blanks s → Sized (tableUnder chains s)
+unfolding tableUnder decode
+sized-of chains h = λ i l. size-fits h i l
 
 -- a renumbering of the rows in the bytes is one of the table's rows
-abbrev pub of-table : (s : List ℕ) → Renumbering (rowsAt s) → Renumbering (tableOf s .rows)
-of-table s π = record { to = π .to; back = π .back; back-to = π .back-to; to-back = π .to-back; others = λ k l. π .others k (past-rows s l) }
+abbrev pub of-table : (chains : Bool) (s : List ℕ) → Renumbering (rowsAt s) → Renumbering (tableUnder chains s .rows)
+of-table chains s π =
+    record { to = π .to; back = π .back; back-to = π .back-to; to-back = π .to-back; others = λ k l. π .others k (past-rows chains s l) }
 
 -- ---- a moved table
 
@@ -210,11 +197,11 @@ module _ {blanks : Bool} {s s′ : List ℕ} {π : Renumbering (rowsAt s)} (m : 
   listed : (f : ℕ → ℕ) (k : ℕ) → k < dependencyCount (dependencyBytes s) → getD (tabulate f DEPENDENCIES) k 0 ≡ f k
   listed f k l = let n : dependencyCount (dependencyBytes s) ≤ DEPENDENCIES = dependencies-fit h in getD-tabulate f DEPENDENCIES k 0 (omega arith)
 
-  depends-same : (x y : ℕ) → dependsOf (modeOf false s′) (π .to x) (π .to y) ≡ dependsOf (modeOf false s) x y
+  depends-same : (chains : Bool) (x y : ℕ) → dependsOf (modeOf chains s′) (π .to x) (π .to y) ≡ dependsOf (modeOf chains s) x y
   unfolding dependsOf dependency modeOf
-  depends-same x y = rw (m .count) (any-cong (dependency (modeOf false s′) (π .to x) (π .to y)) (dependency (modeOf false s) x y) (dependencyCount (dependencyBytes s)) same)
+  depends-same chains x y = rw (m .count) (any-cong (dependency (modeOf chains s′) (π .to x) (π .to y)) (dependency (modeOf chains s) x y) (dependencyCount (dependencyBytes s)) same)
     where
-      same : (k : ℕ) → k < dependencyCount (dependencyBytes s) → dependency (modeOf false s′) (π .to x) (π .to y) k ≡ dependency (modeOf false s) x y k
+      same : (k : ℕ) → k < dependencyCount (dependencyBytes s) → dependency (modeOf chains s′) (π .to x) (π .to y) k ≡ dependency (modeOf chains s) x y k
       same k l =
           rw (listed (dependencyFrom (dependencyBytes s′)) k l, listed (dependencyTo (dependencyBytes s′)) k l, listed (dependencyFrom (dependencyBytes s)) k l, listed (dependencyTo (dependencyBytes s)) k l, m .first k l, m .second k l, eqb-to π (dependencyFrom (dependencyBytes s) k) x, eqb-to π (dependencyTo (dependencyBytes s) k) y) refl
 
@@ -228,11 +215,21 @@ module _ {blanks : Bool} {s s′ : List ℕ} {π : Renumbering (rowsAt s)} (m : 
       go (no p) (yes d) = let e = π .others j (omega arith) in let f = to-below π i d in omega arith
       go (no p) (no d) = let e = π .others j (omega arith) in let f = π .others i (omega arith) in omega arith
 
-  -- A MOVED TABLE IS ALIKE
-  pub moved-alike : Alike (tableOf s) (tableOf s′) (of-table s π)
-  unfolding tableOf decode modeOf
-  moved-alike = record { rows = rows-same; places = places-same; counted = counted-same; row = row-same; source = source-same; depends = depends-same; kept = order-same }
+  -- A MOVED TABLE IS ALIKE, WITH CHAINS AND WITHOUT
+  pub moved-alike : (chains : Bool) → Alike (tableUnder chains s) (tableUnder chains s′) (of-table chains s π)
+  unfolding tableUnder decode modeOf
+  moved-alike chains =
+      record {
+        rows = rows-same;
+        places = places-same;
+        counted = counted-same;
+        chains = refl;
+        row = row-same;
+        source = source-same;
+        depends = depends-same chains;
+        kept = order-same;
+      }
 
   -- the sources of all rows
-  pub sources-moved : (i : ℕ) → i < tableOf s .rows → sourcesOf s′ (π .to i) ≡ π .to (sourcesOf s i)
-  sources-moved i l = m .sources i (of-rows s l)
+  pub sources-moved : (chains : Bool) (i : ℕ) → i < tableUnder chains s .rows → sourcesOf s′ (π .to i) ≡ π .to (sourcesOf s i)
+  sources-moved chains i l = m .sources i (of-rows chains s l)

@@ -1,5 +1,5 @@
 -- The order of the page: of two tables that are both accepted, the second the first with its rows moved, the same is
--- said, whatever buffers that are long enough hold. `check` and `fill` are the definitions that the entry points' contracts name.
+-- said, with chains and without, whatever buffers that are long enough hold. `check` and `fill` are the definitions that the entry points' contracts name.
 use mathlib.Core.Path.{_≡_, refl, sym, ap, _∙_, subst}
 use mathlib.Core.Bool.{Bool, true, false, cond}
 use mathlib.Core.List.{List}
@@ -11,7 +11,7 @@ use Rattle.finite.specs.Logic.{which}
 use Rattle.finite.specs.Lists.{tabulate, length-tabulate, getD-tabulate}
 use Rattle.model.specs.declared.Admission.the-variants.{Admitted}
 use Rattle.model.specs.Limits.{CYCLE, SOURCES}
-use Rattle.model.specs.Table.{Table, agentsAt, rowsAt, tableOf, sourcesOf}
+use Rattle.model.specs.Table.{Table, agentsAt, rowsAt, tableUnder, sourcesOf}
 use Rattle.model.specs.Race.{raceRow, racePartner, raceByte}
 use Rattle.model.specs.Refusal.{buffersFit, admission}
 use Rattle.model.specs.Check.{admitted, check}
@@ -22,25 +22,26 @@ use Rattle.model.specs.AdmissionLaws.{Sound, admitted-sound}
 use Rattle.model.specs.FilledLaws.{Bytes}
 use Rattle.model.specs.ChoiceLaws.{NoRace}
 use Rattle.promises.specs.Searches.{free-of}
+use Rattle.promises.specs.FillLaws.{fair}
 use Rattle.promises.specs.Outcomes.{settled, said-filled, say-filled}
 use Rattle.moved.specs.Renumber.{Renumbering, to-below}
 use Rattle.moved.specs.Moved.{Moved}
 use Rattle.moved.specs.Alike.{Alike}
 use Rattle.moved.specs.RaceAlike.{race-alike}
-use Rattle.moved.specs.MovedAlike.{rows-is, rows-same, to-rows, few-of, sized-of, fair-of, of-table, moved-alike, sources-moved}
+use Rattle.moved.specs.MovedAlike.{rows-is, rows-same, to-rows, few-of, sized-of, of-table, moved-alike, sources-moved}
 use Rattle.moved.specs.VerdictAlike.{checkWord, fillWord, verdict-alike, chosen-moved, passes-alike, racing, passing, outcome-is, settled-word, race, none, filled}
 
 -- ---- the theorems
 
-module _ (s s′ : List ℕ) (π : Renumbering (rowsAt s)) (moved : Moved s s′ π) (work buffer work′ buffer′ : ℕ) where
+module _ (chains : Bool) (s s′ : List ℕ) (π : Renumbering (rowsAt s)) (moved : Moved s s′ π) (work buffer work′ buffer′ : ℕ) where
   -- CHECK, WHERE NOTHING IS BLANK, SAYS RACE-FREE, RACE OR INCONSISTENT OF BOTH ALIKE
   pub check-alike : buffersFit CYCLE work buffer ≡ true → buffersFit CYCLE work′ buffer′ ≡ true → WellFormed s → WellFormed s′
-      → checkWord (check s′ work′ buffer′) ≡ checkWord (check s work buffer)
+      → checkWord (check chains s′ work′ buffer′) ≡ checkWord (check chains s work buffer)
   unfolding check admitted
   check-alike fit fit′ well well′ =
       let h = admitted-sound false s well in
       let h′ = admitted-sound false s′ well′ in
-      rw (fit, fit′, well, well′) (verdict-alike (moved-alike moved h h′) (few-of h) (sized-of h) (sized-of h′) (sourcesOf s) (sourcesOf s′) (sources-moved moved h h′))
+      rw (fit, fit′, well, well′) (verdict-alike (moved-alike moved h h′ chains) (few-of chains h) (sized-of chains h) (sized-of chains h′) (sourcesOf s) (sourcesOf s′) (sources-moved moved h h′ chains))
 
   module _ (bytes : Bytes s) (fit : buffersFit SOURCES work buffer ≡ true) (fit′ : buffersFit SOURCES work′ buffer′ ≡ true)
       (well : admission true s ≡ Admitted (agentsAt s) (rowsAt s)) (well′ : admission true s′ ≡ Admitted (agentsAt s′) (rowsAt s′)) where
@@ -53,58 +54,58 @@ module _ (s s′ : List ℕ) (π : Renumbering (rowsAt s)) (moved : Moved s s′
     abbrev said : Bool → Bool → Table → (ℕ → ℕ) → Outcome
     said p q t a = settled p q (raceRow t) (racePartner t (raceRow t)) (raceByte t (raceRow t) (racePartner t (raceRow t))) (tabulate (chosen t a) (t .rows))
 
-    fill-is : fill s work buffer ≡ said (racing (tableOf s)) (passing (tableOf s) (sourcesOf s)) (tableOf s) (sourcesOf s)
+    fill-is : fill chains s work buffer ≡ said (racing (tableUnder chains s)) (passing (tableUnder chains s) (sourcesOf s)) (tableUnder chains s) (sourcesOf s)
     unfolding fill admittedFill
-    fill-is = rw (fit, well) (outcome-is (tableOf s) (sourcesOf s))
+    fill-is = rw (fit, well) (outcome-is (tableUnder chains s) (sourcesOf s))
 
-    fill-is′ : fill s′ work′ buffer′ ≡ said (racing (tableOf s′)) (passing (tableOf s′) (sourcesOf s′)) (tableOf s′) (sourcesOf s′)
+    fill-is′ : fill chains s′ work′ buffer′ ≡ said (racing (tableUnder chains s′)) (passing (tableUnder chains s′) (sourcesOf s′)) (tableUnder chains s′) (sourcesOf s′)
     unfolding fill admittedFill
-    fill-is′ = rw (fit′, well′) (outcome-is (tableOf s′) (sourcesOf s′))
+    fill-is′ = rw (fit′, well′) (outcome-is (tableUnder chains s′) (sourcesOf s′))
 
-    alike : Alike (tableOf s) (tableOf s′) (of-table s π)
-    alike = moved-alike moved h h′
+    alike : Alike (tableUnder chains s) (tableUnder chains s′) (of-table chains s π)
+    alike = moved-alike moved h h′ chains
 
-    races-alike : racing (tableOf s′) ≡ racing (tableOf s)
-    races-alike = race-alike alike (sized-of h) (sized-of h′)
+    races-alike : racing (tableUnder chains s′) ≡ racing (tableUnder chains s)
+    races-alike = race-alike alike (sized-of chains h) (sized-of chains h′)
 
-    calm : racing (tableOf s) ≡ false → NoRace (tableOf s)
-    calm e = free-of (tableOf s) (sized-of h) e
+    calm : racing (tableUnder chains s) ≡ false → NoRace (tableUnder chains s)
+    calm e = free-of (tableUnder chains s) (sized-of chains h) e
 
-    passing-alike : racing (tableOf s) ≡ false → passing (tableOf s′) (sourcesOf s′) ≡ passing (tableOf s) (sourcesOf s)
-    passing-alike e = passes-alike alike (few-of h) (sized-of h) (sized-of h′) (sourcesOf s) (sourcesOf s′) (sources-moved moved h h′) (fair-of bytes h) (calm e)
+    passing-alike : racing (tableUnder chains s) ≡ false → passing (tableUnder chains s′) (sourcesOf s′) ≡ passing (tableUnder chains s) (sourcesOf s)
+    passing-alike e = passes-alike alike (few-of chains h) (sized-of chains h) (sized-of chains h′) (sourcesOf s) (sourcesOf s′) (sources-moved moved h h′ chains) (fair chains s bytes well) (calm e)
 
     -- FILL SAYS RACE, NONE OR FILLED OF BOTH ALIKE
-    pub fill-alike : fillWord (fill s′ work′ buffer′) ≡ fillWord (fill s work buffer)
+    pub fill-alike : fillWord (fill chains s′ work′ buffer′) ≡ fillWord (fill chains s work buffer)
     fill-alike =
-        ap fillWord fill-is′ ∙ settled-word _ _ _ _ _ _ ∙ go (which (racing (tableOf s))) ∙ sym (settled-word _ _ _ _ _ _) ∙ ap fillWord (sym fill-is)
+        ap fillWord fill-is′ ∙ settled-word _ _ _ _ _ _ ∙ go (which (racing (tableUnder chains s))) ∙ sym (settled-word _ _ _ _ _ _) ∙ ap fillWord (sym fill-is)
       where
-        go : (racing (tableOf s) ≡ true) ⊎ (racing (tableOf s) ≡ false)
-            → cond (racing (tableOf s′)) race (cond (passing (tableOf s′) (sourcesOf s′)) filled none) ≡ cond (racing (tableOf s)) race (cond (passing (tableOf s) (sourcesOf s)) filled none)
+        go : (racing (tableUnder chains s) ≡ true) ⊎ (racing (tableUnder chains s) ≡ false)
+            → cond (racing (tableUnder chains s′)) race (cond (passing (tableUnder chains s′) (sourcesOf s′)) filled none) ≡ cond (racing (tableUnder chains s)) race (cond (passing (tableUnder chains s) (sourcesOf s)) filled none)
         go (inl e) = rw (races-alike, e) refl
         go (inr e) = rw (races-alike, passing-alike e) refl
 
     -- AND THE SOURCES THAT IT WRITES FOR ONE ARE THE OTHER'S, MOVED AND RENUMBERED
-    pub fill-sources : (l : List ℕ) → fill s work buffer ≡ Fill.filled l
-        → (l′ : List ℕ) × (fill s′ work′ buffer′ ≡ Fill.filled l′) × (length l ≡ rowsAt s) × (length l′ ≡ rowsAt s) × ((i : ℕ) → i < rowsAt s → getD l′ (π .to i) 0 ≡ π .to (getD l i 0))
+    pub fill-sources : (l : List ℕ) → fill chains s work buffer ≡ Fill.filled l
+        → (l′ : List ℕ) × (fill chains s′ work′ buffer′ ≡ Fill.filled l′) × (length l ≡ rowsAt s) × (length l′ ≡ rowsAt s) × ((i : ℕ) → i < rowsAt s → getD l′ (π .to i) 0 ≡ π .to (getD l i 0))
     fill-sources l e =
         let p = said-filled _ _ _ _ _ _ (sym fill-is ∙ e) in (
-          tabulate (chosen (tableOf s′) (sourcesOf s′)) (tableOf s′ .rows),
+          tabulate (chosen (tableUnder chains s′) (sourcesOf s′)) (tableUnder chains s′ .rows),
           fill-is′ ∙ say-filled _ _ _ _ _ _ (races-alike ∙ p .0) (passing-alike (p .0) ∙ p .1),
-          sym (ap length (p .2)) ∙ length-tabulate (chosen (tableOf s) (sourcesOf s)) (tableOf s .rows) ∙ rows-is s,
-          length-tabulate (chosen (tableOf s′) (sourcesOf s′)) (tableOf s′ .rows) ∙ rows-is s′ ∙ rows-same moved h h′,
+          sym (ap length (p .2)) ∙ length-tabulate (chosen (tableUnder chains s) (sourcesOf s)) (tableUnder chains s .rows) ∙ rows-is chains s,
+          length-tabulate (chosen (tableUnder chains s′) (sourcesOf s′)) (tableUnder chains s′ .rows) ∙ rows-is chains s′ ∙ rows-same moved h h′,
           λ i m. at i m (p .0) (p .2),
         )
       where
-        at : (i : ℕ) → i < rowsAt s → racing (tableOf s) ≡ false → tabulate (chosen (tableOf s) (sourcesOf s)) (tableOf s .rows) ≡ l
-            → getD (tabulate (chosen (tableOf s′) (sourcesOf s′)) (tableOf s′ .rows)) (π .to i) 0 ≡ π .to (getD l i 0)
+        at : (i : ℕ) → i < rowsAt s → racing (tableUnder chains s) ≡ false → tabulate (chosen (tableUnder chains s) (sourcesOf s)) (tableUnder chains s .rows) ≡ l
+            → getD (tabulate (chosen (tableUnder chains s′) (sourcesOf s′)) (tableUnder chains s′ .rows)) (π .to i) 0 ≡ π .to (getD l i 0)
         at i m e q =
-            getD-tabulate (chosen (tableOf s′) (sourcesOf s′)) (tableOf s′ .rows) (π .to i) 0 (to-rows s′ (subst (λ (n : ℕ). π .to i < n) (sym (rows-same moved h h′)) (to-below π i m)))
-            ∙ chosen-moved alike (few-of h) (sized-of h) (sized-of h′) (sourcesOf s) (sourcesOf s′) (sources-moved moved h h′) (fair-of bytes h) (calm e) i (to-rows s m)
-            ∙ ap (π .to) (sym (getD-tabulate (chosen (tableOf s) (sourcesOf s)) (tableOf s .rows) i 0 (to-rows s m)) ∙ ap (λ (v : List ℕ). getD v i 0) q)
+            getD-tabulate (chosen (tableUnder chains s′) (sourcesOf s′)) (tableUnder chains s′ .rows) (π .to i) 0 (to-rows chains s′ (subst (λ (n : ℕ). π .to i < n) (sym (rows-same moved h h′)) (to-below π i m)))
+            ∙ chosen-moved alike (few-of chains h) (sized-of chains h) (sized-of chains h′) (sourcesOf s) (sourcesOf s′) (sources-moved moved h h′ chains) (fair chains s bytes well) (calm e) i (to-rows chains s m)
+            ∙ ap (π .to) (sym (getD-tabulate (chosen (tableUnder chains s) (sourcesOf s)) (tableUnder chains s .rows) i 0 (to-rows chains s m)) ∙ ap (λ (v : List ℕ). getD v i 0) q)
 
     -- as they stand in the lent source buffers afterwards
-    pub fill-written : (c c′ l : List ℕ) → fill s work buffer ≡ Fill.filled l
-        → (i : ℕ) → i < rowsAt s → getD (sourcesAfter (fill s′ work′ buffer′) c′) (π .to i) 0 ≡ π .to (getD (sourcesAfter (fill s work buffer) c) i 0)
+    pub fill-written : (c c′ l : List ℕ) → fill chains s work buffer ≡ Fill.filled l
+        → (i : ℕ) → i < rowsAt s → getD (sourcesAfter (fill chains s′ work′ buffer′) c′) (π .to i) 0 ≡ π .to (getD (sourcesAfter (fill chains s work buffer) c) i 0)
     unfolding sourcesAfter
     fill-written c c′ l e i m =
         let f = fill-sources l e in

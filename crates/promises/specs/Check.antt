@@ -1,4 +1,4 @@
--- Demand 2, the exact verdict: of every well-formed table, with buffers that are long enough, whatever they hold.
+-- Demand 2, the exact verdict: of every well-formed table, on a device with or without chains, with buffers that are long enough, whatever they hold.
 -- `check` is the definition that the contract of the entry point names.
 use mathlib.Core.Path.{_≡_, refl, sym, ap, subst, _∙_}
 use mathlib.Core.Bool.{Bool, true, false, not}
@@ -15,7 +15,7 @@ use Rattle.finite.specs.Walk.{along}
 use Rattle.finite.specs.Cycle.{Canonical, cycle-canonical}
 use Rattle.model.specs.declared.Admission.the-variants.{Admitted}
 use Rattle.model.specs.Limits.{CYCLE}
-use Rattle.model.specs.Table.{Table, agentsAt, rowsAt, tableOf, sourcesOf, decode, rowBytes, placesOf}
+use Rattle.model.specs.Table.{Table, agentsAt, rowsAt, tableUnder, sourcesOf, decode, rowBytes, placesOf}
 use Rattle.model.specs.Scope.{mutually}
 use Rattle.model.specs.Location.{common, before}
 use Rattle.model.specs.Race.{conflict, raceRow, racePartner, raceByte}
@@ -65,15 +65,15 @@ module _ (t : Table) where
 
 -- ---- the theorems
 
-module _ (s : List ℕ) (work buffer : ℕ) (fit : buffersFit CYCLE work buffer ≡ true) (well : WellFormed s) where
+module _ (chains : Bool) (s : List ℕ) (work buffer : ℕ) (fit : buffersFit CYCLE work buffer ≡ true) (well : WellFormed s) where
   abbrev t : Table
-  t = tableOf s
+  t = tableUnder chains s
 
   abbrev source : ℕ → ℕ
   source = sourcesOf s
 
   sized : Sized t
-  unfolding tableOf decode
+  unfolding tableUnder decode
   sized i l = size-fits (admitted-sound false s well) i l
 
   abbrev found : Tests
@@ -96,7 +96,7 @@ module _ (s : List ℕ) (work buffer : ℕ) (fit : buffersFit CYCLE work buffer 
         raceAt = raceByte t x v;
       }
 
-  check-is : check s work buffer ≡ decided found
+  check-is : check chains s work buffer ≡ decided found
   unfolding check verdict cyclicOr overwrittenOr raceOr admitted decided
   check-is = rw (fit, well) refl
 
@@ -109,14 +109,14 @@ module _ (s : List ℕ) (work buffer : ℕ) (fit : buffersFit CYCLE work buffer 
   -- ---- inconsistent exactly when an axiom is broken
 
   -- a cycle is said exactly when A is broken
-  pub says-cycle : ((rows : List ℕ) × (edges : List ℕ) × (check s work buffer ≡ cyclic rows edges)) ↔ Cyclic t source
+  pub says-cycle : ((rows : List ℕ) × (edges : List ℕ) × (check chains s work buffer ≡ cyclic rows edges)) ↔ Cyclic t source
   says-cycle = (
     λ c. cyclic-is t source .0 (ltb-true _ _ (said-cyclic found (sym check-is ∙ c .2) .0)),
     λ c. (_, _, check-is ∙ say-cyclic found (lt-ltb _ _ (cyclic-is t source .1 c))),
   )
 
   -- overwritten is said exactly when A holds and B is broken
-  pub says-overwritten : ((y : ℕ) × (z : ℕ) × (b : ℕ) × (check s work buffer ≡ overwritten y z b)) ↔ ((Cyclic t source → ⊥) × Overwritten t source)
+  pub says-overwritten : ((y : ℕ) × (z : ℕ) × (b : ℕ) × (check chains s work buffer ≡ overwritten y z b)) ↔ ((Cyclic t source → ⊥) × Overwritten t source)
   says-overwritten = (
     λ c.
         let p = said-overwritten found (sym check-is ∙ c .3) in
@@ -125,7 +125,7 @@ module _ (s : List ℕ) (work buffer : ℕ) (fit : buffersFit CYCLE work buffer 
   )
 
   -- what is shown is the canonical cycle, with the lowest edge numbers
-  pub shows-cycle : (rows edges : List ℕ) → check s work buffer ≡ cyclic rows edges → ShownCycle t source rows edges
+  pub shows-cycle : (rows edges : List ℕ) → check chains s work buffer ≡ cyclic rows edges → ShownCycle t source rows edges
   unfolding cycleRow cycleRows cycleEdges
   shows-cycle rows edges e =
       let p = said-cyclic found (sym check-is ∙ e) in
@@ -135,7 +135,7 @@ module _ (s : List ℕ) (work buffer : ℕ) (fit : buffersFit CYCLE work buffer 
       }
 
   -- what is shown are the least Y, Z, b that break B
-  pub shows-overwritten : (y z b : ℕ) → check s work buffer ≡ overwritten y z b → FirstOverwrite t source y z b
+  pub shows-overwritten : (y z b : ℕ) → check chains s work buffer ≡ overwritten y z b → FirstOverwrite t source y z b
   shows-overwritten y z b e =
       let p = said-overwritten found (sym check-is ∙ e) in
       rw (← p .2, ← p .3, ← p .4) (overwrite-shown t source sized (ltb-true _ _ (p .1)))
@@ -143,14 +143,14 @@ module _ (s : List ℕ) (work buffer : ℕ) (fit : buffersFit CYCLE work buffer 
   -- ---- of a consistent table
 
   -- what is shown is the first racing pair, and its lowest byte with no order
-  pub shows-race : (x y b : ℕ) → check s work buffer ≡ race x y b → FirstRace t x y b
+  pub shows-race : (x y b : ℕ) → check chains s work buffer ≡ race x y b → FirstRace t x y b
   shows-race x y b e =
       let p = said-race found (sym check-is ∙ e) in
       rw (← p .3, ← p .4, ← p .5) (race-shown t sized (ltb-true _ _ (p .2)))
 
   -- a race is said exactly when some pair races
   pub says-race : Consistent t source
-      → ((x : ℕ) × (y : ℕ) × (b : ℕ) × (check s work buffer ≡ race x y b)) ↔ ((x : ℕ) × (y : ℕ) × (x < y) × (y < t .rows) × Races t x y)
+      → ((x : ℕ) × (y : ℕ) × (b : ℕ) × (check chains s work buffer ≡ race x y b)) ↔ ((x : ℕ) × (y : ℕ) × (x < y) × (y < t .rows) × Races t x y)
   says-race c = (
     λ e.
         let f = shows-race (e .0) (e .1) (e .2) (e .3) in
@@ -162,7 +162,7 @@ module _ (s : List ℕ) (work buffer : ℕ) (fit : buffersFit CYCLE work buffer 
       some r = ⊎-elim (λ e. e) (λ e. absurd (race-none t sized .0 (stuck t e) (r .0) (r .1) (r .2) (r .3) (r .4))) (which (ltb (raceRow t) (t .rows)))
 
   -- race-free is said exactly when every conflicting pair is mutually-ordered or ordered at every shared byte
-  pub says-free : Consistent t source → (check s work buffer ≡ raceFree) ↔ RaceFree t
+  pub says-free : Consistent t source → (check chains s work buffer ≡ raceFree) ↔ RaceFree t
   says-free c = (
     λ e. settled t (race-none t sized .0 (stuck t (said-free found (sym check-is ∙ e) .2))),
     λ f. check-is ∙ say-free found (acyclic (c .0)) (unbroken (c .1)) (le-ltb (raceRow t) (t .rows) (omega (arith, race-none t sized .1 (unsettled t f)))),
@@ -170,6 +170,6 @@ module _ (s : List ℕ) (work buffer : ℕ) (fit : buffersFit CYCLE work buffer 
 
   -- ---- for one table and any buffers that are long enough the verdict is the same
 
-  pub same-verdict : (work′ buffer′ : ℕ) → buffersFit CYCLE work′ buffer′ ≡ true → check s work′ buffer′ ≡ check s work buffer
+  pub same-verdict : (work′ buffer′ : ℕ) → buffersFit CYCLE work′ buffer′ ≡ true → check chains s work′ buffer′ ≡ check chains s work buffer
   unfolding check
   same-verdict work′ buffer′ h = rw (fit, h) refl

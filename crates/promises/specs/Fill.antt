@@ -1,5 +1,5 @@
--- Demand 3, the only filling: of every table that a fill does not refuse, whichever plain reads are blank, with buffers that are long
--- enough, whatever they hold. `fill` is the definition that the contract of the entry point names; `Good s f` says that f is a
+-- Demand 3, the only filling, on a device with or without chains: of every table that a fill does not refuse, whichever plain reads are blank, with buffers that are long
+-- enough, whatever they hold. `fill` is the definition that the contract of the entry point names; `Good chains s f` says that f is a
 -- filling of s that leaves it well formed and consistent.
 use mathlib.Core.Path.{_≡_, refl, sym, ap, subst, _∙_}
 use mathlib.Core.Bool.{Bool, true, false}
@@ -15,7 +15,7 @@ use Rattle.finite.specs.Logic.{_and_, split, and-true, which, not-both, not-so}
 use Rattle.finite.specs.Lists.{tabulate, length-tabulate, getD-tabulate}
 use Rattle.model.specs.declared.Admission.the-variants.{Admitted}
 use Rattle.model.specs.Limits.{SOURCES}
-use Rattle.model.specs.Table.{Table, agentsAt, rowsAt, decode, tableOf, sourcesOf}
+use Rattle.model.specs.Table.{Table, agentsAt, rowsAt, decode, tableUnder, sourcesOf}
 use Rattle.model.specs.Race.{raceRow, racePartner, raceByte}
 use Rattle.model.specs.Edge.{consistent}
 use Rattle.model.specs.Refusal.{buffersFit, admission}
@@ -23,18 +23,18 @@ use Rattle.model.specs.Fill.{Outcome, race, none, filled, sourcesFit, filledOr,
 use Rattle.model.specs.Words.{Unordered, Races, blankAt, Filling}
 use Rattle.model.specs.RaceLaws.{FirstRace, race-shown, race-none}
 use Rattle.model.specs.ChoiceLaws.{NoRace}
-use Rattle.model.specs.FillingLaws.{table-kept}
+use Rattle.model.specs.FillingLaws.{under-kept}
 use Rattle.model.specs.FilledLaws.{Bytes, fillings-same}
 use Rattle.promises.specs.Searches.{stuck, free-of}
 use Rattle.promises.specs.Outcomes.{settled, said-race, said-filled, said-none, say-race, say-filled, say-none}
 use Rattle.promises.specs.FillLaws.{Good, t, source, fair, forced, good-fits, good-consistent, made, made-sources, made-good}
 
-module _ (s : List ℕ) (bytes : Bytes s) (work buffer : ℕ) (fit : buffersFit SOURCES work buffer ≡ true) (well : admission true s ≡ Admitted (agentsAt s) (rowsAt s)) where
+module _ (chains : Bool) (s : List ℕ) (bytes : Bytes s) (work buffer : ℕ) (fit : buffersFit SOURCES work buffer ≡ true) (well : admission true s ≡ Admitted (agentsAt s) (rowsAt s)) where
   abbrev T : Table
-  T = tableOf s
+  T = tableUnder chains s
 
   abbrev chosen : ℕ → ℕ
-  chosen = source s bytes well
+  chosen = source chains s bytes well
 
   abbrev found : Bool
   found = ltb (raceRow T) (T .rows)
@@ -45,72 +45,72 @@ module _ (s : List ℕ) (bytes : Bytes s) (work buffer : ℕ) (fit : buffersFit 
   abbrev said : Outcome
   said = settled found passes (raceRow T) (racePartner T (raceRow T)) (raceByte T (raceRow T) (racePartner T (raceRow T))) (tabulate chosen (T .rows))
 
-  fill-is : fill s work buffer ≡ said
+  fill-is : fill chains s work buffer ≡ said
   unfolding fill outcome filledOr racingOr admittedFill settled
   fill-is = rw (fit, well) refl
 
   -- ---- a. race exactly when a pair races; what is shown is the first such pair and its lowest byte with no order
 
-  pub shows-race : (x y b : ℕ) → fill s work buffer ≡ race x y b → FirstRace T x y b
+  pub shows-race : (x y b : ℕ) → fill chains s work buffer ≡ race x y b → FirstRace T x y b
   shows-race x y b e =
       let p = said-race _ _ _ _ _ _ (sym fill-is ∙ e) in
-      rw (← p .1, ← p .2, ← p .3) (race-shown T (fair s bytes well .sized) (ltb-true _ _ (p .0)))
+      rw (← p .1, ← p .2, ← p .3) (race-shown T (fair chains s bytes well .sized) (ltb-true _ _ (p .0)))
 
-  pub says-race : ((x : ℕ) × (y : ℕ) × (b : ℕ) × (fill s work buffer ≡ race x y b)) ↔ ((x : ℕ) × (y : ℕ) × (x < y) × (y < T .rows) × Races T x y)
+  pub says-race : ((x : ℕ) × (y : ℕ) × (b : ℕ) × (fill chains s work buffer ≡ race x y b)) ↔ ((x : ℕ) × (y : ℕ) × (x < y) × (y < T .rows) × Races T x y)
   says-race = (
     λ e. let f = shows-race (e .0) (e .1) (e .2) (e .3) in (e .0, e .1, f .below, f .rows, f .racing),
     λ r. (_, _, _, fill-is ∙ say-race _ _ _ _ _ _ (some r)),
   )
     where
       some : ((x : ℕ) × (y : ℕ) × (x < y) × (y < T .rows) × Races T x y) → found ≡ true
-      some r = ⊎-elim (λ e. e) (λ e. absurd (race-none T (fair s bytes well .sized) .0 (stuck T e) (r .0) (r .1) (r .2) (r .3) (r .4))) (which found)
+      some r = ⊎-elim (λ e. e) (λ e. absurd (race-none T (fair chains s bytes well .sized) .0 (stuck T e) (r .0) (r .1) (r .2) (r .3) (r .4))) (which found)
 
   -- ---- b. whatever a filling puts in, the same pairs race, with the same unordered bytes
 
-  pub same-races : (f : List ℕ) → Filling s f → (x y : ℕ) → Races (tableOf f) x y ≡ Races T x y
-  same-races f h x y = ap (λ (u : Table). Races u x y) (table-kept h)
+  pub same-races : (f : List ℕ) → Filling s f → (x y : ℕ) → Races (tableUnder chains f) x y ≡ Races T x y
+  same-races f h x y = ap (λ (u : Table). Races u x y) (under-kept h chains)
 
-  pub same-bytes : (f : List ℕ) → Filling s f → (x y b : ℕ) → Unordered (tableOf f) x y b ≡ Unordered T x y b
-  same-bytes f h x y b = ap (λ (u : Table). Unordered u x y b) (table-kept h)
+  pub same-bytes : (f : List ℕ) → Filling s f → (x y b : ℕ) → Unordered (tableUnder chains f) x y b ≡ Unordered T x y b
+  same-bytes f h x y b = ap (λ (u : Table). Unordered u x y b) (under-kept h chains)
 
   -- ---- c. when no pair races: filled exactly when some filling is well formed and consistent, none exactly when there is none
 
   module _ (free : NoRace T) where
     calm : found ≡ false
-    calm = le-ltb (raceRow T) (T .rows) (omega (arith, race-none T (fair s bytes well .sized) .1 free))
+    calm = le-ltb (raceRow T) (T .rows) (omega (arith, race-none T (fair chains s bytes well .sized) .1 free))
 
-    pub says-filled : ((l : List ℕ) × (fill s work buffer ≡ filled l)) ↔ ((f : List ℕ) × Good s f)
+    pub says-filled : ((l : List ℕ) × (fill chains s work buffer ≡ filled l)) ↔ ((f : List ℕ) × Good chains s f)
     says-filled = (
-      λ e. let p = split (said-filled _ _ _ _ _ _ (sym fill-is ∙ e .1) .1) in (made s bytes well (p .0) (p .1), made-good s bytes well (p .0) (p .1)),
-      λ g. (_, fill-is ∙ say-filled _ _ _ _ _ _ calm (and-true (good-fits s bytes well free (g .0) (g .1)) (good-consistent s bytes well free (g .0) (g .1)))),
+      λ e. let p = split (said-filled _ _ _ _ _ _ (sym fill-is ∙ e .1) .1) in (made chains s bytes well (p .0) (p .1), made-good chains s bytes well (p .0) (p .1)),
+      λ g. (_, fill-is ∙ say-filled _ _ _ _ _ _ calm (and-true (good-fits chains s bytes well free (g .0) (g .1)) (good-consistent chains s bytes well free (g .0) (g .1)))),
     )
 
-    pub says-none : (fill s work buffer ≡ none) ↔ ((f : List ℕ) → Good s f → ⊥)
+    pub says-none : (fill chains s work buffer ≡ none) ↔ ((f : List ℕ) → Good chains s f → ⊥)
     says-none = (
-      λ e f g. not-both (and-true (good-fits s bytes well free f g) (good-consistent s bytes well free f g)) (said-none _ _ _ _ _ _ (sym fill-is ∙ e) .1),
-      λ n. fill-is ∙ say-none _ _ _ _ _ _ calm (not-so passes (λ p. n _ (made-good s bytes well (split p .0) (split p .1)))),
+      λ e f g. not-both (and-true (good-fits chains s bytes well free f g) (good-consistent chains s bytes well free f g)) (said-none _ _ _ _ _ _ (sym fill-is ∙ e) .1),
+      λ n. fill-is ∙ say-none _ _ _ _ _ _ calm (not-so passes (λ p. n _ (made-good chains s bytes well (split p .0) (split p .1)))),
     )
 
   -- ---- d, e. what is handed back is such a filling, its sources row by row, and it is the only one
 
-  pub shows-filled : (l : List ℕ) → fill s work buffer ≡ filled l
-      → (f : List ℕ) × Good s f × (length l ≡ rowsAt s) × ((i : ℕ) → i < rowsAt s → getD l i 0 ≡ sourcesOf f i) × ((g : List ℕ) → Good s g → g ≡ f)
-  unfolding tableOf decode
+  pub shows-filled : (l : List ℕ) → fill chains s work buffer ≡ filled l
+      → (f : List ℕ) × Good chains s f × (length l ≡ rowsAt s) × ((i : ℕ) → i < rowsAt s → getD l i 0 ≡ sourcesOf f i) × ((g : List ℕ) → Good chains s g → g ≡ f)
+  unfolding tableUnder decode
   shows-filled l e =
       let p = said-filled _ _ _ _ _ _ (sym fill-is ∙ e) in
       let q = split (p .1) in
-      let free = free-of T (fair s bytes well .sized) (p .0) in
-      let same = made-sources s bytes well (q .0) (q .1) in (
-        made s bytes well (q .0) (q .1),
-        made-good s bytes well (q .0) (q .1),
+      let free = free-of T (fair chains s bytes well .sized) (p .0) in
+      let same = made-sources chains s bytes well (q .0) (q .1) in (
+        made chains s bytes well (q .0) (q .1),
+        made-good chains s bytes well (q .0) (q .1),
         sym (ap length (p .2)) ∙ length-tabulate chosen (rowsAt s),
         λ i m. sym (ap (λ (v : List ℕ). getD v i 0) (p .2)) ∙ getD-tabulate chosen (rowsAt s) i 0 m ∙ sym (same i m),
-        λ g h. fillings-same (h .0) (made-good s bytes well (q .0) (q .1) .0) (λ i m. forced s bytes well free g h i m ∙ sym (same i m)),
+        λ g h. fillings-same (h .0) (made-good chains s bytes well (q .0) (q .1) .0) (λ i m. forced chains s bytes well free g h i m ∙ sym (same i m)),
       )
 
   -- ---- g. for one table and any buffers that are long enough the outcome is the same
 
-  pub same-outcome : (work′ buffer′ : ℕ) → buffersFit SOURCES work′ buffer′ ≡ true → fill s work′ buffer′ ≡ fill s work buffer
+  pub same-outcome : (work′ buffer′ : ℕ) → buffersFit SOURCES work′ buffer′ ≡ true → fill chains s work′ buffer′ ≡ fill chains s work buffer
   unfolding fill
   same-outcome work′ buffer′ h = rw (fit, h) refl
 

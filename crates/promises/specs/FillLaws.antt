@@ -14,10 +14,10 @@ use Rattle.finite.specs.Lists.{tabulate, length-tabulate, getD-tabulate}
 use Rattle.model.specs.declared.Admission.the-variants.{Admitted}
 use Rattle.model.specs.Limits.{SOURCES, INITIAL, BLANK}
 use Rattle.model.specs.Row.{plainRead, reads}
-use Rattle.model.specs.Table.{Table, agentsAt, rowsAt, rowBytes, rowOf, tableOf, sourcesOf, decode}
+use Rattle.model.specs.Table.{Table, agentsAt, rowsAt, rowBytes, rowOf, modeOf, tableUnder, tableOf, sourcesOf, decode}
 use Rattle.model.specs.Race.{hasRace, raceRow, racePartner, raceByte}
 use Rattle.model.specs.Edge.{consistent}
-use Rattle.model.specs.Refusal.{buffersFit, writerFits, sourceFits, sourceBroken, admission}
+use Rattle.model.specs.Refusal.{buffersFit, writerFits, sourceFits, sourceBroken, sameRankAt, rankTaken, outsideAt, begins, unfit, admission}
 use Rattle.model.specs.Fill.{Outcome, race, none, filled, blank, choice, chosen, sourcesFit, filledOr, racingOr, outcome, admittedFill, fill}
 use Rattle.model.specs.Words.{Races, Consistent, WellFormed, ConsistentBytes, blankAt, Filling}
 use Rattle.model.specs.AdmissionLaws.{Sound, sound-admitted, admitted-sound, rows-fit, size-fits, access-size, among-right}
@@ -25,21 +25,21 @@ use Rattle.model.specs.RaceLaws.{Sized, FirstRace, race-shown, race-none}
 use Rattle.model.specs.AxiomLaws.{consistent-is, consistent-cong}
 use Rattle.model.specs.WriterLaws.{writers-ordered}
 use Rattle.model.specs.ChoiceLaws.{NoRace, Fair, choice-forced}
-use Rattle.model.specs.FillingLaws.{table-kept, source-kept}
+use Rattle.model.specs.FillingLaws.{under-kept, source-kept}
 use Rattle.model.specs.FilledLaws.{Bytes, rank-small, filledBytes, fillings-same, filling-sound, sound-filling, filled-source, filled-filling}
 use Rattle.promises.specs.Outcomes.{settled, said-race, said-filled, said-none, say-race, say-filled, say-none}
 
 -- ---- definitions
 
 -- f is a filling of s that leaves the table well formed and consistent
-abbrev pub Good : List ℕ → List ℕ → Type 0
-Good s f = Filling s f × WellFormed f × ConsistentBytes f
+abbrev pub Good : Bool → List ℕ → List ℕ → Type 0
+Good chains s f = Filling s f × WellFormed f × ConsistentBytes chains f
 
 -- ---- laws
 
-module _ (s : List ℕ) (bytes : Bytes s) (well : admission true s ≡ Admitted (agentsAt s) (rowsAt s)) where
+module _ (chains : Bool) (s : List ℕ) (bytes : Bytes s) (well : admission true s ≡ Admitted (agentsAt s) (rowsAt s)) where
   abbrev pub t : Table
-  t = tableOf s
+  t = tableUnder chains s
 
   abbrev pub source : ℕ → ℕ
   source = chosen t (sourcesOf s)
@@ -47,15 +47,28 @@ module _ (s : List ℕ) (bytes : Bytes s) (well : admission true s ≡ Admitted 
   sound : Sound true s
   sound = admitted-sound true s well
 
+  -- what admission reads, it reads with chains or without
+  ranks-under : (i : ℕ) → rankTaken t i ≡ rankTaken (tableOf s) i
+  unfolding rankTaken sameRankAt tableOf tableUnder decode modeOf
+  ranks-under i = refl
+
+  fit-under : (i : ℕ) → unfit t i ≡ unfit (tableOf s) i
+  unfolding unfit begins outsideAt tableOf tableUnder decode modeOf
+  fit-under i = refl
+
+  broken-under : (blanks : Bool) (f : ℕ → ℕ) (i : ℕ) → sourceBroken blanks t f i ≡ sourceBroken blanks (tableOf s) f i
+  unfolding sourceBroken sourceFits writerFits tableOf tableUnder decode modeOf
+  broken-under blanks f i = refl
+
   pub fair : Fair t
-  unfolding tableOf decode
+  unfolding tableUnder decode
   fair =
       record {
         few = rows-fit sound;
         sized = λ i l. size-fits sound i l;
         nonempty = λ i l a. access-size sound i l a .0;
-        ranks = λ i l. among-right sound i l .2;
-        order = writers-ordered t (λ i l. rank-small s bytes i) (λ i l. among-right sound i l .4);
+        ranks = λ i l. ranks-under i ∙ among-right sound i l .2;
+        order = writers-ordered t (λ i l. rank-small s bytes i) (λ i l. fit-under i ∙ among-right sound i l .4);
       }
 
   -- a source that refusal 9 takes where no blank is allowed is the initial value or a row that fits
@@ -68,15 +81,15 @@ module _ (s : List ℕ) (bytes : Bytes s) (well : admission true s ≡ Admitted 
       (which (eqb v INITIAL or writerFits t i v or (false and plainRead (t .row i) and eqb v BLANK)))
 
   chosen-blank : (i : ℕ) → blankAt s i ≡ true → source i ≡ choice t i
-  unfolding blankAt chosen
+  unfolding blankAt chosen blank tableOf tableUnder decode modeOf
   chosen-blank i e = rw e refl
 
   chosen-kept : (i : ℕ) → blankAt s i ≡ false → source i ≡ sourcesOf s i
-  unfolding blankAt chosen
+  unfolding blankAt chosen blank tableOf tableUnder decode modeOf
   chosen-kept i e = rw e refl
 
   blank-plain : (i : ℕ) → blankAt s i ≡ true → plainRead (t .row i) ≡ true
-  unfolding blankAt blank
+  unfolding blankAt blank tableOf tableUnder decode modeOf
   blank-plain i e = split e .0
 
   blank-reads : (i : ℕ) → blankAt s i ≡ true → reads (t .row i) ≡ true
@@ -84,21 +97,21 @@ module _ (s : List ℕ) (bytes : Bytes s) (well : admission true s ≡ Admitted 
   blank-reads i e = rw (blank-plain i e) refl
 
   row-of : {i : ℕ} → i < rowsAt s → i < t .rows
-  unfolding tableOf decode
+  unfolding tableUnder decode
   row-of l = l
 
   of-row : {i : ℕ} → i < t .rows → i < rowsAt s
-  unfolding tableOf decode
+  unfolding tableUnder decode
   of-row l = l
 
   -- ---- a good filling has the chosen sources
 
-  module _ (free : NoRace t) (f : List ℕ) (good : Good s f) where
+  module _ (free : NoRace t) (f : List ℕ) (good : Good chains s f) where
     kept : Consistent t (sourcesOf f)
-    kept = subst (λ (u : Table). Consistent u (sourcesOf f)) (table-kept (good .0)) (good .2)
+    kept = subst (λ (u : Table). Consistent u (sourcesOf f)) (under-kept (good .0) chains) (good .2)
 
     admits : (i : ℕ) → i < rowsAt s → sourceBroken false t (sourcesOf f) i ≡ false
-    admits i l = sound-filling (good .0) (admitted-sound false f (good .1)) i l
+    admits i l = broken-under false (sourcesOf f) i ∙ sound-filling (good .0) (admitted-sound false f (good .1)) i l
 
     pub forced : (i : ℕ) → i < rowsAt s → sourcesOf f i ≡ source i
     unfolding sourceBroken
@@ -139,10 +152,10 @@ module _ (s : List ℕ) (bytes : Bytes s) (well : admission true s ≡ Admitted 
     made-sources i l =
         ⊎-elim (λ e. filled-source s bytes sound source named i l e) (λ e. source-kept made-filling i e ∙ sym (chosen-kept i e)) (which (blankAt s i))
 
-    pub made-good : Good s made
+    pub made-good : Good chains s made
     unfolding sourceBroken
     made-good = (
       made-filling,
-      sound-admitted false made (filling-sound made-filling sound (λ i l. subst (λ (v : ℕ). (reads (t .row i) and not (sourceFits false t i v)) ≡ false) (sym (made-sources i l)) (fits-at i l))),
-      subst (λ (u : Table). Consistent u (sourcesOf made)) (sym (table-kept made-filling)) (consistent-cong t source (sourcesOf made) (λ i l. sym (made-sources i (of-row l))) (consistent-is t source (fair .sized) .0 con)),
+      sound-admitted false made (filling-sound made-filling sound (λ i l. sym (broken-under false (sourcesOf made) i) ∙ subst (λ (v : ℕ). (reads (t .row i) and not (sourceFits false t i v)) ≡ false) (sym (made-sources i l)) (fits-at i l))),
+      subst (λ (u : Table). Consistent u (sourcesOf made)) (sym (under-kept made-filling chains)) (consistent-cong t source (sourcesOf made) (λ i l. sym (made-sources i (of-row l))) (consistent-is t source (fair .sized) .0 con)),
     )

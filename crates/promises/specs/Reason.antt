@@ -21,7 +21,7 @@ use Rattle.model.specs.declared.Admission.the-variants.{Admitted, Refused}
 use Rattle.model.specs.declared.Reason.{Reason}
 use Rattle.model.specs.declared.Reason.the-variants.{ProgramOrder, Chain}
 use Rattle.model.specs.Limits.{ROWS, CHAIN, CASE, CLASS-SETS}
-use Rattle.model.specs.Table.{Table, rowsAt, tableOf, decode}
+use Rattle.model.specs.Table.{Table, rowsAt, tableUnder, tableOf, decode}
 use Rattle.model.specs.Moment.{AT, part, momentOf, momentIn, moment, orderedRows, programOrder}
 use Rattle.model.specs.Happens.{holding, holdingOf, bySync, toRelease, fromAcquire, bySystem, direct, step, happens}
 use Rattle.model.specs.HappensLaws.{happens-is}
@@ -380,5 +380,5 @@ module _ (s : List ℕ) (m k : ℕ) where
 
 -- an admitted table is within the limit that the page asks for
 pub rows-within : (s : List ℕ) {a n : ℕ} → admission true s ≡ Admitted a n → tableOf s .rows ≤ ROWS
-unfolding tableOf decode
+unfolding tableOf tableUnder decode
 rows-within s e = rows-fit (admitted-sound true s e)

@@ -18,7 +18,7 @@ use Rattle.model.specs.declared.Report.{Report}
 use Rattle.model.specs.declared.ReportAnswer.{ReportAnswer}
 use Rattle.model.specs.declared.ReportAnswer.the-variants as told
 use Rattle.model.specs.Limits.{CYCLE, ROWS}
-use Rattle.model.specs.Table.{Table, tableOf, sourcesOf, decode}
+use Rattle.model.specs.Table.{Table, tableUnder, sourcesOf, decode}
 use Rattle.model.specs.Scope.{mutually}
 use Rattle.model.specs.Race.{conflict, races, raceRow, racePartner, raceByte}
 use Rattle.model.specs.Edge.{cycleRow, overReader}
@@ -93,66 +93,66 @@ counted-tag t = go (shareOf (racing t) (conflicting t))
 
 -- ---- the theorems: check's answer and no report
 
-module _ (s : List ℕ) (work buffer : ℕ) where
+module _ (chains : Bool) (s : List ℕ) (work buffer : ℕ) where
   -- whatever the table and the buffers: refused with a number and row exactly where a check refuses with them
-  pub says-refused : (n i : ℕ) → (report s work buffer ≡ told.Refused n i) ↔ (check s work buffer ≡ refused n i)
+  pub says-refused : (n i : ℕ) → (report chains s work buffer ≡ told.Refused n i) ↔ (check chains s work buffer ≡ refused n i)
   unfolding report reportAnswer checkAnswer
-  says-refused n i = (λ e. forth (check s work buffer) e, λ e. rw e refl)
+  says-refused n i = (λ e. forth (check chains s work buffer) e, λ e. rw e refl)
     where
-      forth : (v : Verdict) → reportAnswer (checkAnswer v) (tableOf s) ≡ told.Refused n i → v ≡ refused n i
+      forth : (v : Verdict) → reportAnswer (checkAnswer v) (tableUnder chains s) ≡ told.Refused n i → v ≡ refused n i
       forth (refused m j) e = rw (ap first e, ap second e) refl
       forth (cyclic r d) e = absurd (let z : _≡_ {A = ℕ} 1 0 = ap tag e in omega arith)
       forth (overwritten y z b) e = absurd (let z : _≡_ {A = ℕ} 2 0 = ap tag e in omega arith)
-      forth (race x y b) e = absurd (let z : tag (counted (tableOf s)) ≡ 0 = ap tag e in omega (arith, counted-tag (tableOf s)))
-      forth raceFree e = absurd (let z : tag (counted (tableOf s)) ≡ 0 = ap tag e in omega (arith, counted-tag (tableOf s)))
+      forth (race x y b) e = absurd (let z : tag (counted (tableUnder chains s)) ≡ 0 = ap tag e in omega (arith, counted-tag (tableUnder chains s)))
+      forth raceFree e = absurd (let z : tag (counted (tableUnder chains s)) ≡ 0 = ap tag e in omega (arith, counted-tag (tableUnder chains s)))
 
   -- a cycle of so many rows exactly where a check shows one; its numbers are left where a check leaves them
-  pub says-cycle : (k : ℕ) → (report s work buffer ≡ told.Cycle k) ↔ ((rows : List ℕ) × (edges : List ℕ) × (check s work buffer ≡ cyclic rows edges) × (length rows ≡ k))
+  pub says-cycle : (k : ℕ) → (report chains s work buffer ≡ told.Cycle k) ↔ ((rows : List ℕ) × (edges : List ℕ) × (check chains s work buffer ≡ cyclic rows edges) × (length rows ≡ k))
   unfolding report reportAnswer checkAnswer
-  says-cycle k = (λ e. forth (check s work buffer) e, λ e. let l = e .3 in rw (e .2, l) refl)
+  says-cycle k = (λ e. forth (check chains s work buffer) e, λ e. let l = e .3 in rw (e .2, l) refl)
     where
-      forth : (v : Verdict) → reportAnswer (checkAnswer v) (tableOf s) ≡ told.Cycle k → (rows : List ℕ) × (edges : List ℕ) × (v ≡ cyclic rows edges) × (length rows ≡ k)
+      forth : (v : Verdict) → reportAnswer (checkAnswer v) (tableUnder chains s) ≡ told.Cycle k → (rows : List ℕ) × (edges : List ℕ) × (v ≡ cyclic rows edges) × (length rows ≡ k)
       forth (refused m j) e = absurd (let z : _≡_ {A = ℕ} 0 1 = ap tag e in omega arith)
       forth (cyclic r d) e = (r, d, refl, ap first e)
       forth (overwritten y z b) e = absurd (let z : _≡_ {A = ℕ} 2 1 = ap tag e in omega arith)
-      forth (race x y b) e = absurd (let z : tag (counted (tableOf s)) ≡ 1 = ap tag e in omega (arith, counted-tag (tableOf s)))
-      forth raceFree e = absurd (let z : tag (counted (tableOf s)) ≡ 1 = ap tag e in omega (arith, counted-tag (tableOf s)))
+      forth (race x y b) e = absurd (let z : tag (counted (tableUnder chains s)) ≡ 1 = ap tag e in omega (arith, counted-tag (tableUnder chains s)))
+      forth raceFree e = absurd (let z : tag (counted (tableUnder chains s)) ≡ 1 = ap tag e in omega (arith, counted-tag (tableUnder chains s)))
 
-  pub says-overwritten : (y z b : ℕ) → (report s work buffer ≡ told.Overwritten y z b) ↔ (check s work buffer ≡ overwritten y z b)
+  pub says-overwritten : (y z b : ℕ) → (report chains s work buffer ≡ told.Overwritten y z b) ↔ (check chains s work buffer ≡ overwritten y z b)
   unfolding report reportAnswer checkAnswer
-  says-overwritten y z b = (λ e. forth (check s work buffer) e, λ e. rw e refl)
+  says-overwritten y z b = (λ e. forth (check chains s work buffer) e, λ e. rw e refl)
     where
-      forth : (v : Verdict) → reportAnswer (checkAnswer v) (tableOf s) ≡ told.Overwritten y z b → v ≡ overwritten y z b
+      forth : (v : Verdict) → reportAnswer (checkAnswer v) (tableUnder chains s) ≡ told.Overwritten y z b → v ≡ overwritten y z b
       forth (refused m j) e = absurd (let z : _≡_ {A = ℕ} 0 2 = ap tag e in omega arith)
       forth (cyclic r d) e = absurd (let z : _≡_ {A = ℕ} 1 2 = ap tag e in omega arith)
       forth (overwritten u v c) e = rw (ap first e, ap second e, ap third e) refl
-      forth (race u v c) e = absurd (let z : tag (counted (tableOf s)) ≡ 2 = ap tag e in omega (arith, counted-tag (tableOf s)))
-      forth raceFree e = absurd (let z : tag (counted (tableOf s)) ≡ 2 = ap tag e in omega (arith, counted-tag (tableOf s)))
+      forth (race u v c) e = absurd (let z : tag (counted (tableUnder chains s)) ≡ 2 = ap tag e in omega (arith, counted-tag (tableUnder chains s)))
+      forth raceFree e = absurd (let z : tag (counted (tableUnder chains s)) ≡ 2 = ap tag e in omega (arith, counted-tag (tableUnder chains s)))
 
 -- ---- the theorems: of a consistent table
 
-module _ (s : List ℕ) (work buffer : ℕ) (fit : buffersFit CYCLE work buffer ≡ true) (well : WellFormed s) where
+module _ (chains : Bool) (s : List ℕ) (work buffer : ℕ) (fit : buffersFit CYCLE work buffer ≡ true) (well : WellFormed s) where
   abbrev t : Table
-  t = tableOf s
+  t = tableUnder chains s
 
   abbrev source : ℕ → ℕ
   source = sourcesOf s
 
   -- for one table and any buffers that are long enough the answer is the same
-  pub same-report : (work′ buffer′ : ℕ) → buffersFit CYCLE work′ buffer′ ≡ true → report s work′ buffer′ ≡ report s work buffer
+  pub same-report : (work′ buffer′ : ℕ) → buffersFit CYCLE work′ buffer′ ≡ true → report chains s work′ buffer′ ≡ report chains s work buffer
   unfolding report
-  same-report work′ buffer′ h = ap (λ (v : Verdict). reportAnswer (checkAnswer v) t) (same-verdict s work buffer fit well work′ buffer′ h)
+  same-report work′ buffer′ h = ap (λ (v : Verdict). reportAnswer (checkAnswer v) t) (same-verdict chains s work buffer fit well work′ buffer′ h)
 
   sized : Sized t
-  unfolding tableOf decode
+  unfolding tableUnder decode
   sized i l = size-fits (admitted-sound false s well) i l
 
   few : t .rows ≤ ROWS
-  unfolding tableOf decode
+  unfolding tableUnder decode
   few = rows-fit (admitted-sound false s well)
 
   module _ (c : Consistent t source) where
-    checked : check s work buffer ≡ raceOr raceFree t
+    checked : check chains s work buffer ≡ raceOr raceFree t
     unfolding check admitted verdict cyclicOr overwrittenOr
     checked = rw (fit, well, acyclic, unbroken) refl
       where
@@ -162,7 +162,7 @@ module _ (s : List ℕ) (work buffer : ℕ) (fit : buffersFit CYCLE work buffer 
         unbroken : ltb (overReader t source) (t .rows) ≡ false
         unbroken = not-so _ (λ e. c .1 (overwritten-is t source sized .0 (ltb-true _ _ e)))
 
-    reported : report s work buffer ≡ counted t
+    reported : report chains s work buffer ≡ counted t
     unfolding report raceOr reportAnswer checkAnswer
     reported = rw checked (go (ltb (raceRow t) (t .rows)))
       where
@@ -170,27 +170,27 @@ module _ (s : List ℕ) (work buffer : ℕ) (fit : buffersFit CYCLE work buffer 
         go true = refl
         go false = refl
 
-    none-told : conflicting t ≡ 0 → report s work buffer ≡ told.NoPairs
+    none-told : conflicting t ≡ 0 → report chains s work buffer ≡ told.NoPairs
     unfolding counted shareOf withShare
     none-told e = reported ∙ rw (eq-eqb (conflicting t) 0 e) refl
 
-    some-told : (conflicting t ≡ 0 → ⊥) → report s work buffer ≡ told.Report (reportOf t (quotient (racing t) (conflicting t)))
+    some-told : (conflicting t ≡ 0 → ⊥) → report chains s work buffer ≡ told.Report (reportOf t (quotient (racing t) (conflicting t)))
     unfolding counted shareOf withShare
     some-told f = reported ∙ rw (ne-eqb (conflicting t) 0 f) refl
 
     -- no pairs is said exactly when no pair conflicts; it is another answer than any report
-    pub says-none : (report s work buffer ≡ told.NoPairs) ↔ ((x y : ℕ) → x < y → y < t .rows → conflict t x y ≡ false)
+    pub says-none : (report chains s work buffer ≡ told.NoPairs) ↔ ((x y : ℕ) → x < y → y < t .rows → conflict t x y ≡ false)
     says-none = (λ e. conflicting-none t .0 (none e (which (eqb (conflicting t) 0))), λ f. none-told (conflicting-none t .1 f))
       where
-        none : report s work buffer ≡ told.NoPairs → (eqb (conflicting t) 0 ≡ true) ⊎ (eqb (conflicting t) 0 ≡ false) → conflicting t ≡ 0
+        none : report chains s work buffer ≡ told.NoPairs → (eqb (conflicting t) 0 ≡ true) ⊎ (eqb (conflicting t) 0 ≡ false) → conflicting t ≡ 0
         none e (inl h) = eqb-true (conflicting t) 0 h
         none e (inr h) = absurd (let z : _≡_ {A = ℕ} 4 3 = ap tag (sym (some-told (eqb-false (conflicting t) 0 h)) ∙ e) in omega arith)
 
     -- some pair conflicts: there is a report
-    pub says-report : ((x : ℕ) × (y : ℕ) × (x < y) × (y < t .rows) × (conflict t x y ≡ true)) → (r : Report) × (report s work buffer ≡ told.Report r)
+    pub says-report : ((x : ℕ) × (y : ℕ) × (x < y) × (y < t .rows) × (conflict t x y ≡ true)) → (r : Report) × (report chains s work buffer ≡ told.Report r)
     says-report p = (_, some-told (λ e. not-both (p .4) (conflicting-none t .0 e (p .0) (p .1) (p .2) (p .3))))
 
-    module _ (r : Report) (said : report s work buffer ≡ told.Report r) where
+    module _ (r : Report) (said : report chains s work buffer ≡ told.Report r) where
       some : conflicting t ≡ 0 → ⊥
       some e = let z : _≡_ {A = ℕ} 3 4 = ap tag (sym (none-told e) ∙ said) in omega arith
 
@@ -284,7 +284,7 @@ module _ (s : List ℕ) (work buffer : ℕ) (fit : buffersFit CYCLE work buffer 
           q = one-is (racing t) (conflicting t) fits (positive (conflicting t) some) (omega (arith, adds-up t))
 
       -- none races exactly when a check says race-free
-      pub racing-free : (r .racing ≡ 0) ↔ (check s work buffer ≡ raceFree)
+      pub racing-free : (r .racing ≡ 0) ↔ (check chains s work buffer ≡ raceFree)
       unfolding raceOr
       racing-free = (λ e. checked ∙ free (racing-is ∙ e), λ e. sym racing-is ∙ none (ltb (raceRow t) (t .rows)) refl (sym checked ∙ e))
         where

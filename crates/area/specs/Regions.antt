@@ -105,6 +105,20 @@ REACHED = MET-END
 abbrev pub REACHED-END : ℕ
 REACHED-END = REACHED + ROWS-GRID
 
+-- the reach of availability chains, from their first elements to their last, and of visibility chains, in the place of what the
+-- pairs of hosts were made by
+abbrev pub REACH-OUT : ℕ
+REACH-OUT = HOSTED-END
+
+abbrev pub REACH-OUT-END : ℕ
+REACH-OUT-END = REACH-OUT + ROWS-GRID
+
+abbrev pub REACH-IN : ℕ
+REACH-IN = REACH-OUT-END
+
+abbrev pub REACH-IN-END : ℕ
+REACH-IN-END = REACH-IN + ROWS-GRID
+
 -- edges
 abbrev pub EDGE : ℕ
 EDGE = LOCATION-END

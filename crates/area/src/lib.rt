@@ -61,6 +61,14 @@ pub const REACHED: usize = MET_END;
 
 pub const REACHED_END: usize = REACHED + ROWS_GRID;
 
+pub const REACH_OUT: usize = HOSTED_END;
+
+pub const REACH_OUT_END: usize = REACH_OUT + ROWS_GRID;
+
+pub const REACH_IN: usize = REACH_OUT_END;
+
+pub const REACH_IN_END: usize = REACH_IN + ROWS_GRID;
+
 pub const EDGE: usize = LOCATION_END;
 
 pub const EDGE_END: usize = EDGE + ROWS_GRID;

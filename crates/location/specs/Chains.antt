@@ -1,32 +1,27 @@
--- L3's tests of a moment, over its row, and L3's moments counted by rows. Assumes nothing.
+-- L3 by the first elements of its chains, as the functions ask it, and the one domain that need be asked of. Assumes nothing.
 use mathlib.Core.Path.{_≡_, refl, sym, ap, _∙_}
 use mathlib.Core.Bool.{Bool, true, false, cond}
-use mathlib.Core.Logic.{_⊎_, inl, inr}
+use mathlib.Core.Logic.{_⊎_, inl, inr, ⊎-elim}
 use mathlib.Core.List.{List}
-use Prim.Native.Nat.{ℕ, _+_, _*_, _/_, _%_, _<_}
+use Prim.Native.Nat.{ℕ, zero, suc, _+_, _-_, _*_, _/_, _%_, _≤_, _<_, min}
 use native.Mathlib.Omega.{arith}
 use native.Mathlib.Decide.{decLt}
-use lib.Dec.{eqb}
-use borrow.Author.Tests.{eqb-true, ltb-true}
-use Rattle.finite.specs.Logic.{_and_, _or_, split, and-true, not-both, not-so, bool-ext, which, or-left, or-right}
+use lib.Dec.{leb, eqb}
+use borrow.Author.Tests.{eqb-true, eq-eqb, ltb-true, leb-true, le-leb}
+use Rattle.finite.specs.Logic.{_and_, _or_, split, and-true, not-both, not-so, bool-ext, which, or-left, or-right, or-cases}
 use Rattle.finite.specs.Below.{anyBelow, any-in, any-out, any-off, any-not}
+use Rattle.finite.specs.Closure.{through}
 use Rattle.model.specs.declared.Mode.{Mode}
 use Rattle.model.specs.declared.Row.{Row}
 use Rattle.model.specs.Row.{plain, reads, meets, makesAvailable, makesVisible}
 use Rattle.model.specs.Table.{Table, byteOf, rowOf, decode}
-use Rattle.model.specs.Scope.{shares}
+use Rattle.model.specs.Scope.{DEVICE, shares}
 use Rattle.model.specs.Moment.{BEFORE, AFTER, rowIn, part, itself, availabilityOf, visibilityOf, orderedRows, availability, visibility, programOrder}
 use Rattle.model.specs.Happens.{happens}
-use Rattle.model.specs.Location.{coversOf, publicWrite, availableFrom, visibleTo, shareMoment, shown, met, carried, L3}
+use Rattle.model.specs.Location.{coversOf, publicWrite, availableAt, visibleAt, firstAvailable, lastVisible, broadens, narrows, availabilityChain, visibilityChain, availableBy, availableFrom, visibleBy, visibleTo, inDomain, shown, met, byDomain, carried, L3}
+use Rattle.model.specs.ChainLaws.{shares-wider, shares-right}
 
 -- ---- definitions
-
--- some moment of row i passes
-abbrev pub nthOf : (ℕ → Bool) → ℕ → ℕ → Bool
-nthOf p i k = p (3 * i + k)
-
-unfoldable pub ofRow : (ℕ → Bool) → ℕ → Bool
-ofRow p i = anyBelow 3 (nthOf p i)
 
 -- which moment of a row its availability and visibility moments are, if it has them
 unfoldable pub availablePart : Row → ℕ
@@ -42,185 +37,305 @@ mayAvail b r i = eqb (r .agent) (byteOf b i 1) and meets (byteOf b i 5) 2
 unfoldable pub maySee : List ℕ → Row → ℕ → Bool
 maySee b q j = eqb (byteOf b j 1) (q .agent) and meets (byteOf b j 5) 4
 
--- moment c of s ends an availability chain of x, which is r, at b
+-- moment c of s is a first element of availability of x, which is r, at b
 unfoldable pub availableRows : ℕ → ℕ → Row → ℕ → Row → ℕ → Bool
 availableRows n x r c s b = availabilityOf s (part c) and orderedRows n (itself x) c r s and coversOf s r b
 
--- moment v of s starts a visibility chain of y, which is q, at b
+-- moment v of s is a last element of visibility of y, which is q, at b
 unfoldable pub visibleRows : ℕ → ℕ → Row → ℕ → Row → ℕ → Bool
 visibleRows n y q v s b = visibilityOf s (part v) and orderedRows n v (itself y) s q and coversOf s q b
 
--- ---- laws: moments by rows
+-- the broadest scope that is no broader than either: scopes are nested, so that no smaller domain need be asked of
+unfoldable pub widest : ℕ → ℕ → ℕ
+widest s u = min (min s u) DEVICE
 
-module _ (p : ℕ → Bool) where
-  pub any-rows : (n : ℕ) → anyBelow (3 * n) p ≡ anyBelow n (ofRow p)
-  unfolding ofRow
-  any-rows n = bool-ext (anyBelow (3 * n) p) (anyBelow n (ofRow p)) there back
-    where
-      there : anyBelow (3 * n) p ≡ true → anyBelow n (ofRow p) ≡ true
-      there e =
-          let r = any-out p (3 * n) e in
-          let l = r .1 in
-          let q : 3 * (r .0 / 3) + r .0 % 3 ≡ r .0 = omega arith in
-          let h : p (3 * (r .0 / 3) + r .0 % 3) ≡ true = rw q (r .2) in
-          any-in (ofRow p) n (r .0 / 3) (omega arith) (any-in (nthOf p (r .0 / 3)) 3 (r .0 % 3) (omega arith) h)
+-- one domain of scope d holds the agents of r and q, that of s beside the one, that of u beside the other
+unfoldable pub meetIn : List (List ℕ) → ℕ → Row → Row → Row → Row → Bool
+meetIn p d r q s u =
+    leb 1 d and shares p d (r .agent) (q .agent) and shares p d (r .agent) (s .agent) and shares p d (q .agent) (u .agent)
 
-      back : anyBelow n (ofRow p) ≡ true → anyBelow (3 * n) p ≡ true
-      back e =
-          let r = any-out (ofRow p) n e in
-          let l = r .1 in
-          let k = any-out (nthOf p (r .0)) 3 (r .2) in
-          let h = k .1 in
-          any-in p (3 * n) (3 * r .0 + k .0) (omega arith) (k .2)
+module _ (t : Table) (x y : ℕ) where
+  -- what c makes available, w makes visible
+  unfoldable pub seen : ℕ → ℕ → Bool
+  seen c w =
+      happens t (availableAt t c) (visibleAt t w)
+      and meetIn (t .places) (widest (t .row c .scope) (t .row w .scope)) (t .row x) (t .row y) (t .row c) (t .row w)
 
-  -- no moment of the row passes; one does and no other can
-  pub row-none : (i : ℕ) → ((m : ℕ) → rowIn m ≡ i → p m ≡ true → ⊥) → ofRow p i ≡ false
-  unfolding ofRow
-  row-none i f = any-not (nthOf p i) 3 (λ k l. not-so _ (λ t. f (3 * i + k) (omega arith) t))
+  -- y meets at once what c makes available
+  unfoldable pub metAtOnce : ℕ → Bool
+  metAtOnce c =
+      happens t (availableAt t c) (itself y)
+      and meetIn (t .places) (widest (t .row c .scope) DEVICE) (t .row x) (t .row y) (t .row c) (t .row y)
 
-  pub row-one : (i k : ℕ) → k < 3 → ((m : ℕ) → rowIn m ≡ i → p m ≡ true → part m ≡ k) → p (3 * i + k) ≡ ofRow p i
-  unfolding ofRow
-  row-one i k l f = bool-ext (p (3 * i + k)) (ofRow p i) (any-in (nthOf p i) 3 k l) back
-    where
-      back : anyBelow 3 (nthOf p i) ≡ true → p (3 * i + k) ≡ true
-      back e =
-          let r = any-out (nthOf p i) 3 e in
-          let h = r .1 in
-          let m : (3 * i + r .0) % 3 ≡ k = f (3 * i + r .0) (omega arith) (r .2) in
-          let q : r .0 ≡ k = omega arith in
-          rw q at (r .2)
+  -- a visibility chain from w to v shows what c makes available
+  unfoldable pub startsWith : ℕ → ℕ → ℕ → Bool
+  startsWith c v w = through (narrows t) (t .rows) w v and seen c w
 
--- ---- laws: a table's rows
+  module _ (b : ℕ) where
+    -- y sees by way of the last element v what c makes available
+    unfoldable pub shownBy : ℕ → ℕ → Bool
+    shownBy c v = lastVisible t y b v and (seen c v or (t .chains and anyBelow (t .rows) (startsWith c v)))
 
-module _ (t : List ℕ) (p : List (List ℕ)) (mode : Mode) (n x y b : ℕ) where
-  available-is : (c : ℕ) → availableFrom (decode t p mode n) x b c ≡ availableRows n x (rowOf t x) c (rowOf t (rowIn c)) b
-  unfolding decode availableFrom availability programOrder availableRows
-  available-is c =
-      let e : (3 * x + 1) / 3 ≡ x = omega arith in
-      ap (λ (z : ℕ). availabilityOf (rowOf t (rowIn c)) (part c) and orderedRows n (itself x) c (rowOf t z) (rowOf t (rowIn c)) and coversOf (rowOf t (rowIn c)) (rowOf t x) b) e
+    -- y meets what c makes available
+    unfoldable pub endsAt : ℕ → Bool
+    endsAt c = cond (reads (t .row y)) (anyBelow (t .rows) (shownBy c)) (metAtOnce c)
 
-  visible-is : (v : ℕ) → visibleTo (decode t p mode n) y b v ≡ visibleRows n y (rowOf t y) v (rowOf t (rowIn v)) b
-  unfolding decode visibleTo visibility programOrder visibleRows
-  visible-is v =
-      let e : (3 * y + 1) / 3 ≡ y = omega arith in
-      ap (λ (z : ℕ). visibilityOf (rowOf t (rowIn v)) (part v) and orderedRows n v (itself y) (rowOf t (rowIn v)) (rowOf t z) and coversOf (rowOf t (rowIn v)) (rowOf t y) b) e
+    -- an availability chain from a to c makes available what y meets
+    unfoldable pub endsWith : ℕ → ℕ → Bool
+    endsWith a c = through (broadens t) (t .rows) a c and endsAt c
 
-  share-is : (m : ℕ) → shareMoment (decode t p mode n) x y m ≡ shares p (rowOf t (rowIn m) .scope) (rowOf t x .agent) (rowOf t y .agent)
-  unfolding decode shareMoment
-  share-is m = refl
+    -- y meets what a chain from the first element a makes available
+    unfoldable pub carriedBy : ℕ → Bool
+    carriedBy a = firstAvailable t x b a and (endsAt a or (t .chains and anyBelow (t .rows) (endsWith a)))
 
-  -- ---- laws: what y meets
+-- ---- laws: the one domain
 
-  shown-tells : (c v : ℕ) → shown (decode t p mode n) x y b c v ≡ true
-      → (maySee t (rowOf t y) (rowIn v) ≡ true) × (part v ≡ visiblePart (rowOf t (rowIn v))) × (v < itself y) × (happens (decode t p mode n) c v ≡ true)
-  unfolding shown visibleRows visibilityOf orderedRows makesVisible maySee visiblePart rowOf
-  shown-tells c v e =
+module _ (p : List (List ℕ)) (r q s u : Row) where
+  meet-in : (m n k : ℕ) → k < DEVICE → suc k ≤ m → suc k ≤ n → shares p (suc k) (r .agent) (q .agent) ≡ true → shares p (suc k) (r .agent) (s .agent) ≡ true
+      → shares p (suc k) (q .agent) (u .agent) ≡ true → meetIn p (widest m n) r q s u ≡ true
+  unfolding meetIn widest
+  meet-in m n k l e f a c d =
+      and-true (and-true (and-true (le-leb 1 (min (min m n) DEVICE) (omega arith))
+      (shares-wider p (suc k) (min (min m n) DEVICE) (r .agent) (q .agent) (omega arith) (omega arith) (omega arith) a))
+      (shares-wider p (suc k) (min (min m n) DEVICE) (r .agent) (s .agent) (omega arith) (omega arith) (omega arith) c))
+      (shares-wider p (suc k) (min (min m n) DEVICE) (q .agent) (u .agent) (omega arith) (omega arith) (omega arith) d)
+
+  -- the domain that is found, by the number that byDomain counts it by
+  meet-out : (m n : ℕ) → meetIn p (widest m n) r q s u ≡ true
+      → (k : ℕ) × (k < DEVICE) × (suc k ≤ m) × (suc k ≤ n) × (shares p (suc k) (r .agent) (q .agent) ≡ true) × (shares p (suc k) (r .agent) (s .agent) ≡ true) × (shares p (suc k) (q .agent) (u .agent) ≡ true)
+  unfolding meetIn widest
+  meet-out m n e =
       let f = split e in
-      let a = split (sym (visible-is v) ∙ split (f .0) .0) in
-      let h = split (a .0) in
-      let o = split (split (split (h .1) .0) .0) in
-      let s = split (h .0) in
-      (and-true (o .1) (split (s .0) .0), eqb-true _ _ (s .1), ltb-true _ _ (o .0), f .1)
+      let g = split (f .0) in
+      let h = split (g .0) in
+      let l : 1 ≤ min (min m n) DEVICE = leb-true 1 (min (min m n) DEVICE) (h .0) in
+      let k : suc (min (min m n) DEVICE - 1) ≡ min (min m n) DEVICE = omega arith in
+      (min (min m n) DEVICE - 1, omega arith, omega arith, omega arith, rw k (h .1), rw k (g .1), rw k (f .1))
 
-  -- a row that two bytes and two bits rule out
-  pub shown-off : (c j : ℕ) (q : Row) (a d : Bool) → q ≡ rowOf t y → a ≡ happens (decode t p mode n) c (3 * j) → d ≡ happens (decode t p mode n) c (3 * j + 2)
-      → ((a or d) and maySee t q j) ≡ false → ofRow (shown (decode t p mode n) x y b c) j ≡ false
-  unfolding visiblePart
-  shown-off c j q a d eq ea ed off = row-none _ j (λ m e u. go m e (shown-tells c m u) (which (plain (rowOf t j))))
-    where
-      go : (m : ℕ) → rowIn m ≡ j
-          → (maySee t (rowOf t y) (rowIn m) ≡ true) × (part m ≡ visiblePart (rowOf t (rowIn m))) × (m < itself y) × (happens (decode t p mode n) c m ≡ true)
-          → (plain (rowOf t j) ≡ true) ⊎ (plain (rowOf t j) ≡ false) → ⊥
-      go m e f (inl g) =
-          let k : m % 3 ≡ 0 = rw (e, g) at (f .1) in
-          let l : m ≡ 3 * j = omega arith in
-          let h : happens (decode t p mode n) c (3 * j) ≡ true = rw (← l) (f .3) in
-          not-both (and-true (or-left d (ea ∙ h)) (rw (eq, ← e) (f .0))) off
-      go m e f (inr g) =
-          let k : m % 3 ≡ 2 = rw (e, g) at (f .1) in
-          let l : m ≡ 3 * j + 2 = omega arith in
-          let h : happens (decode t p mode n) c (3 * j + 2) ≡ true = rw (← l) (f .3) in
-          not-both (and-true (or-right a (ed ∙ h)) (rw (eq, ← e) (f .0))) off
+-- ---- laws: L3 by first elements
 
-  -- a row by its one moment
-  pub shown-row : (c j k : ℕ) (r q s : Row) (a d h : Bool) → r ≡ rowOf t x → q ≡ rowOf t y → s ≡ rowOf t j → k ≡ visiblePart s → k < 3
-      → a ≡ visibleRows n y q (3 * j + k) s b → d ≡ shares p (s .scope) (r .agent) (q .agent) → h ≡ happens (decode t p mode n) c (3 * j + k)
-      → (a and d and h) ≡ ofRow (shown (decode t p mode n) x y b c) j
-  unfolding shown
-  shown-row c j k r q s a d h er eq es ek l ea ed eh = told ∙ row-one (shown (decode t p mode n) x y b c) j k l one
-    where
-      e : (3 * j + k) / 3 ≡ j
-      e = omega arith
+module _ (t : Table) (x y b c : ℕ) where
+  -- a domain that byDomain finds, for a reader: w begins a chain that y sees by
+  domain-shown : (w : ℕ) → w < t .rows → reads (t .row y) ≡ true → seen t x y c w ≡ true → visibleTo t y b w ≡ true → anyBelow DEVICE (byDomain t x y b c) ≡ true
+  unfolding seen byDomain inDomain met shown
+  domain-shown w l r e v =
+      let f = split e in
+      let k = meet-out (t .places) (t .row x) (t .row y) (t .row c) (t .row w) (t .row c .scope) (t .row w .scope) (f .1) in
+      any-in (byDomain t x y b c) DEVICE (k .0) (k .1)
+      (and-true (and-true (k .4) (and-true (le-leb (suc (k .0)) (t .row c .scope) (k .2)) (k .5)))
+      (rw r (any-in (shown t (suc (k .0)) y b c) (t .rows) w l (and-true (and-true (and-true (le-leb (suc (k .0)) (t .row w .scope) (k .3)) (k .6)) (f .0)) v))))
 
-      one : (m : ℕ) → rowIn m ≡ j → shown (decode t p mode n) x y b c m ≡ true → part m ≡ k
-      one m i u = rw (ek, es, ← i) (shown-tells c m u .1)
+  ends-reader-there : reads (t .row y) ≡ true → anyBelow (t .rows) (shownBy t x y b c) ≡ true → anyBelow DEVICE (byDomain t x y b c) ≡ true
+  unfolding shownBy startsWith visibleTo visibleBy visibilityChain
+  ends-reader-there r e =
+      let v = any-out (shownBy t x y b c) (t .rows) e in
+      let f = split (v .2) in
+      ⊎-elim
+      (λ h. domain-shown (v .0) (v .1) r h (any-in (visibleBy t y b (v .0)) (t .rows) (v .0) (v .1) (and-true (f .0) (or-left _ (eq-eqb (v .0) (v .0) refl)))))
+      (λ h.
+        let w = any-out (startsWith t x y c (v .0)) (t .rows) (split h .1) in
+        let g = split (w .2) in
+        domain-shown (w .0) (w .1) r (g .1) (any-in (visibleBy t y b (w .0)) (t .rows) (v .0) (v .1) (and-true (f .0) (or-right (eqb (w .0) (v .0)) (and-true (split h .0) (g .0))))))
+      (or-cases (seen t x y c (v .0)) (t .chains and anyBelow (t .rows) (startsWith t x y c (v .0))) (f .1))
 
-      told : (a and d and h) ≡ shown (decode t p mode n) x y b c (3 * j + k)
-      told = rw (visible-is (3 * j + k), share-is (3 * j + k), e, ← es, ← er, ← eq, ← ea, ← ed, ← eh) refl
+  seen-of : (k w : ℕ) → k < DEVICE → shares (t .places) (suc k) (t .row x .agent) (t .row y .agent) ≡ true → inDomain t (suc k) x c ≡ true
+      → inDomain t (suc k) y w ≡ true → happens t (availableAt t c) (visibleAt t w) ≡ true → seen t x y c w ≡ true
+  unfolding seen inDomain
+  seen-of k w l a d e h =
+      and-true h
+      (meet-in (t .places) (t .row x) (t .row y) (t .row c) (t .row w) (t .row c .scope) (t .row w .scope) k l (leb-true (suc k) (t .row c .scope) (split d .0))
+      (leb-true (suc k) (t .row w .scope) (split e .0)) a (split d .1) (split e .1))
 
-  -- no row after y
-  pub shown-none : (c : ℕ) → anyBelow (y + 1) (ofRow (shown (decode t p mode n) x y b c)) ≡ false → anyBelow (3 * n) (shown (decode t p mode n) x y b c) ≡ false
-  shown-none c e = any-rows (shown (decode t p mode n) x y b c) n ∙ any-not _ n (λ j l. go j (decLt j (y + 1)))
-    where
-      go : (j : ℕ) → Dec (j < y + 1) → ofRow (shown (decode t p mode n) x y b c) j ≡ false
-      go j (yes l) = any-off _ (y + 1) e j l
-      go j (no l) = row-none _ j (λ m i u. let h = shown-tells c m u .2 in omega arith)
+  ends-reader-back : reads (t .row y) ≡ true → anyBelow DEVICE (byDomain t x y b c) ≡ true → anyBelow (t .rows) (shownBy t x y b c) ≡ true
+  unfolding byDomain met shown visibleTo visibleBy visibilityChain shownBy startsWith
+  ends-reader-back r e =
+      let k = any-out (byDomain t x y b c) DEVICE e in
+      let f = split (k .2) in
+      let m : anyBelow (t .rows) (shown t (suc (k .0)) y b c) ≡ true = rw r at (f .1) in
+      let w = any-out (shown t (suc (k .0)) y b c) (t .rows) m in
+      let g = split (w .2) in
+      let h = split (g .0) in
+      let v = any-out (visibleBy t y b (w .0)) (t .rows) (g .1) in
+      let i = split (v .2) in
+      let j : seen t x y c (w .0) ≡ true = seen-of (k .0) (w .0) (k .1) (split (f .0) .0) (split (f .0) .1) (h .0) (h .1) in
+      any-in (shownBy t x y b c) (t .rows) (v .0) (v .1)
+      (and-true (i .0)
+      (⊎-elim
+      (λ q. let o : w .0 ≡ v .0 = eqb-true (w .0) (v .0) q in or-left _ (rw o at j))
+      (λ q. or-right (seen t x y c (v .0)) (and-true (split q .0) (any-in (startsWith t x y c (v .0)) (t .rows) (w .0) (w .1) (and-true (split q .1) j))))
+      (or-cases (eqb (w .0) (v .0)) (t .chains and through (narrows t) (t .rows) (w .0) (v .0)) (i .1))))
 
-  -- ---- laws: what x makes available
+  -- any other row
+  ends-other-there : reads (t .row y) ≡ false → metAtOnce t x y c ≡ true → anyBelow DEVICE (byDomain t x y b c) ≡ true
+  unfolding metAtOnce byDomain inDomain met
+  ends-other-there r e =
+      let f = split e in
+      let k = meet-out (t .places) (t .row x) (t .row y) (t .row c) (t .row y) (t .row c .scope) DEVICE (f .1) in
+      any-in (byDomain t x y b c) DEVICE (k .0) (k .1)
+      (and-true (and-true (k .4) (and-true (le-leb (suc (k .0)) (t .row c .scope) (k .2)) (k .5))) (rw r (f .0)))
 
-  carried-tells : (c : ℕ) → carried (decode t p mode n) x y b c ≡ true
-      → (mayAvail t (rowOf t x) (rowIn c) ≡ true) × (part c ≡ availablePart (rowOf t (rowIn c))) × (itself x < c)
-  unfolding carried availableRows availabilityOf orderedRows makesAvailable mayAvail availablePart rowOf
-  carried-tells c e =
-      let a = split (sym (available-is c) ∙ split (split e .0) .0) in
-      let h = split (a .0) in
-      let o = split (split (split (h .1) .0) .0) in
-      let s = split (h .0) in
-      (and-true (o .1) (split (s .0) .0), eqb-true _ _ (s .1), ltb-true _ _ (o .0))
+  ends-other-back : reads (t .row y) ≡ false → anyBelow DEVICE (byDomain t x y b c) ≡ true → metAtOnce t x y c ≡ true
+  unfolding metAtOnce byDomain inDomain met
+  ends-other-back r e =
+      let k = any-out (byDomain t x y b c) DEVICE e in
+      let l : k .0 < DEVICE = k .1 in
+      let f = split (k .2) in
+      let h : happens t (availableAt t c) (itself y) ≡ true = rw r at (f .1) in
+      let g = split (f .0) in
+      and-true h
+      (meet-in (t .places) (t .row x) (t .row y) (t .row c) (t .row y) (t .row c .scope) DEVICE (k .0) l (leb-true (suc (k .0)) (t .row c .scope) (split (g .1) .0)) (omega arith) (g .0)
+      (split (g .1) .1) (shares-right (t .places) (suc (k .0)) (t .row x .agent) (t .row y .agent) (omega arith) (omega arith) (g .0)))
 
-  -- a row that two bytes rule out
-  pub carried-off : (i : ℕ) (r : Row) → r ≡ rowOf t x → mayAvail t r i ≡ false → ofRow (carried (decode t p mode n) x y b) i ≡ false
-  carried-off i r er off = row-none _ i (λ m e u. not-both (rw (er, ← e) (carried-tells m u .0)) off)
-
-  -- a row by its one moment
-  pub carried-row : (i k : ℕ) (r q s : Row) (a d : Bool) → r ≡ rowOf t x → q ≡ rowOf t y → s ≡ rowOf t i → k ≡ availablePart s → k < 3
-      → a ≡ availableRows n x r (3 * i + k) s b → d ≡ shares p (s .scope) (r .agent) (q .agent)
-      → ofRow (carried (decode t p mode n) x y b) i ≡ (a and d and met (decode t p mode n) x y b (3 * i + k))
-  unfolding carried
-  carried-row i k r q s a d er eq es ek l ea ed = sym (told ∙ row-one (carried (decode t p mode n) x y b) i k l one)
-    where
-      e : (3 * i + k) / 3 ≡ i
-      e = omega arith
-
-      one : (m : ℕ) → rowIn m ≡ i → carried (decode t p mode n) x y b m ≡ true → part m ≡ k
-      one m h u = rw (ek, es, ← h) (carried-tells m u .1)
-
-      told : (a and d and met (decode t p mode n) x y b (3 * i + k)) ≡ carried (decode t p mode n) x y b (3 * i + k)
-      told = rw (available-is (3 * i + k), share-is (3 * i + k), e, ← es, ← er, ← eq, ← ea, ← ed) refl
-
-  -- no row before x
-  pub carried-low : anyBelow x (ofRow (carried (decode t p mode n) x y b)) ≡ false
-  carried-low = any-not _ x (λ i l. row-none _ i (λ m e u. let h = carried-tells m u .2 in omega arith))
-
--- ---- laws: a test that is not asked, and the rest where it is true
-
-pub and-on : (a b : Bool) → a ≡ true → (a and b) ≡ b
-unfolding _and_
-and-on a b e = rw e refl
+  pub ends-is : endsAt t x y b c ≡ anyBelow DEVICE (byDomain t x y b c)
+  unfolding endsAt
+  ends-is =
+      ⊎-elim
+      (λ r. rw r (bool-ext (anyBelow (t .rows) (shownBy t x y b c)) (anyBelow DEVICE (byDomain t x y b c)) (ends-reader-there r) (ends-reader-back r)))
+      (λ r. rw r (bool-ext (metAtOnce t x y c) (anyBelow DEVICE (byDomain t x y b c)) (ends-other-there r) (ends-other-back r)))
+      (which (reads (t .row y)))
 
 module _ (t : Table) (x y b : ℕ) where
-  pub met-reader : (c : ℕ) (q : Row) (d : Bool) → q ≡ t .row y → reads q ≡ true → d ≡ anyBelow (3 * t .rows) (shown t x y b c) → d ≡ met t x y b c
-  unfolding met
-  met-reader c q d g e f = rw (← g, e) f
+  firsts-there : anyBelow (t .rows) (carriedBy t x y b) ≡ true → anyBelow (t .rows) (carried t x y b) ≡ true
+  unfolding carriedBy endsWith carried availableFrom availableBy availabilityChain
+  firsts-there e =
+      let a = any-out (carriedBy t x y b) (t .rows) e in
+      let f = split (a .2) in
+      ⊎-elim
+      (λ h.
+        any-in (carried t x y b) (t .rows) (a .0) (a .1)
+        (and-true (any-in (availableBy t x b (a .0)) (t .rows) (a .0) (a .1) (and-true (f .0) (or-left _ (eq-eqb (a .0) (a .0) refl)))) (sym (ends-is t x y b (a .0)) ∙ h)))
+      (λ h.
+        let c = any-out (endsWith t x y b (a .0)) (t .rows) (split h .1) in
+        let g = split (c .2) in
+        any-in (carried t x y b) (t .rows) (c .0) (c .1)
+        (and-true (any-in (availableBy t x b (c .0)) (t .rows) (a .0) (a .1) (and-true (f .0) (or-right (eqb (a .0) (c .0)) (and-true (split h .0) (g .0))))) (sym (ends-is t x y b (c .0)) ∙ g .1)))
+      (or-cases (endsAt t x y b (a .0)) (t .chains and anyBelow (t .rows) (endsWith t x y b (a .0))) (f .1))
 
-  pub met-other : (c : ℕ) (q : Row) (d : Bool) → q ≡ t .row y → reads q ≡ false → d ≡ happens t c (itself y) → d ≡ met t x y b c
-  unfolding met
-  met-other c q d g e f = rw (← g, e) f
+  firsts-back : anyBelow (t .rows) (carried t x y b) ≡ true → anyBelow (t .rows) (carriedBy t x y b) ≡ true
+  unfolding carriedBy endsWith carried availableFrom availableBy availabilityChain
+  firsts-back e =
+      let c = any-out (carried t x y b) (t .rows) e in
+      let f = split (c .2) in
+      let a = any-out (availableBy t x b (c .0)) (t .rows) (f .0) in
+      let g = split (a .2) in
+      let h : endsAt t x y b (c .0) ≡ true = ends-is t x y b (c .0) ∙ f .1 in
+      any-in (carriedBy t x y b) (t .rows) (a .0) (a .1)
+      (and-true (g .0)
+      (⊎-elim
+      (λ q. let o : a .0 ≡ c .0 = eqb-true (a .0) (c .0) q in or-left _ (rw o h))
+      (λ q. or-right (endsAt t x y b (a .0)) (and-true (split q .0) (any-in (endsWith t x y b (a .0)) (t .rows) (c .0) (c .1) (and-true (split q .1) h))))
+      (or-cases (eqb (a .0) (c .0)) (t .chains and through (broadens t) (t .rows) (a .0) (c .0)) (g .1))))
+
+  pub firsts-is : anyBelow (t .rows) (carriedBy t x y b) ≡ anyBelow (t .rows) (carried t x y b)
+  firsts-is = bool-ext (anyBelow (t .rows) (carriedBy t x y b)) (anyBelow (t .rows) (carried t x y b)) firsts-there firsts-back
 
   pub L3-off : (r q : Row) → r ≡ t .row x → q ≡ t .row y → publicWrite r q ≡ false → L3 t x y b ≡ false
   unfolding L3 _and_
   L3-off r q g h e = rw (← g, ← h, e) refl
 
-  pub L3-on : (r q : Row) (d : Bool) → r ≡ t .row x → q ≡ t .row y → publicWrite r q ≡ true → d ≡ anyBelow (3 * t .rows) (carried t x y b) → d ≡ L3 t x y b
+  pub L3-on : (r q : Row) (d : Bool) → r ≡ t .row x → q ≡ t .row y → publicWrite r q ≡ true → d ≡ anyBelow (t .rows) (carriedBy t x y b) → d ≡ L3 t x y b
   unfolding L3 _and_
-  L3-on r q d g h e f = rw (← g, ← h, e) f
+  L3-on r q d g h e f = rw (← g, ← h, e) (f ∙ firsts-is)
+
+  pub ends-reader : (c : ℕ) (q : Row) (d : Bool) → q ≡ t .row y → reads q ≡ true → d ≡ anyBelow (t .rows) (shownBy t x y b c) → d ≡ endsAt t x y b c
+  unfolding endsAt
+  ends-reader c q d g e f = rw (← g, e) f
+
+  pub ends-other : (c : ℕ) (q : Row) (d : Bool) → q ≡ t .row y → reads q ≡ false → d ≡ metAtOnce t x y c → d ≡ endsAt t x y b c
+  unfolding endsAt
+  ends-other c q d g e f = rw (← g, e) f
+
+-- ---- laws: a table's rows
+
+pub available-small : (s : Row) → availablePart s < 3
+unfolding availablePart
+available-small s = ⊎-elim (λ e. rw e (omega arith)) (λ e. rw e (omega arith)) (which (plain s))
+
+pub visible-small : (s : Row) → visiblePart s < 3
+unfolding visiblePart
+visible-small s = ⊎-elim (λ e. rw e (omega arith)) (λ e. rw e (omega arith)) (which (plain s))
+
+module _ (t : List ℕ) (p : List (List ℕ)) (mode : Mode) (n x y b : ℕ) where
+  chains-of : decode t p mode n .chains ≡ true → mode .chains ≡ true
+  unfolding decode
+  chains-of e = e
+
+  -- a first element, by the row's one moment
+  pub first-row : (a k : ℕ) (r s : Row) → r ≡ rowOf t x → s ≡ rowOf t a → k ≡ availablePart s → k < 3
+      → availableRows n x r (3 * a + k) s b ≡ firstAvailable (decode t p mode n) x b a
+  unfolding decode firstAvailable availability programOrder availableRows availableAt availablePart
+  first-row a k r s er es ek l =
+      let e : (3 * x + 1) / 3 ≡ x = omega arith in
+      let f : (3 * a + k) / 3 ≡ a = omega arith in
+      let q : k ≡ cond (plain (rowOf t a)) AFTER BEFORE = ek ∙ ap availablePart es in
+      rw (er, es, ← q, e, f) refl
+
+  pub last-row : (v k : ℕ) (q s : Row) → q ≡ rowOf t y → s ≡ rowOf t v → k ≡ visiblePart s → k < 3
+      → visibleRows n y q (3 * v + k) s b ≡ lastVisible (decode t p mode n) y b v
+  unfolding decode lastVisible visibility programOrder visibleRows visibleAt visiblePart
+  last-row v k q s eq es ek l =
+      let e : (3 * y + 1) / 3 ≡ y = omega arith in
+      let f : (3 * v + k) / 3 ≡ v = omega arith in
+      let o : k ≡ cond (plain (rowOf t v)) BEFORE AFTER = ek ∙ ap visiblePart es in
+      rw (eq, es, ← o, e, f) refl
+
+  -- a row that two bytes rule out, and no row before x
+  first-tells : (a : ℕ) → firstAvailable (decode t p mode n) x b a ≡ true → (mayAvail t (rowOf t x) a ≡ true) × (x ≤ a)
+  unfolding availableRows availabilityOf orderedRows makesAvailable mayAvail rowOf
+  first-tells a e =
+      let k = available-small (rowOf t a) in
+      let f = split (first-row a (availablePart (rowOf t a)) (rowOf t x) (rowOf t a) refl refl refl k ∙ e) in
+      let h = split (f .0) in
+      let o = split (split (split (h .1) .0) .0) in
+      let l : 3 * x + 1 < 3 * a + availablePart (rowOf t a) = ltb-true _ _ (o .0) in
+      (and-true (o .1) (split (split (h .0) .0) .0), omega arith)
+
+  pub carried-off : (a : ℕ) (r : Row) → r ≡ rowOf t x → mayAvail t r a ≡ false → carriedBy (decode t p mode n) x y b a ≡ false
+  unfolding carriedBy
+  carried-off a r er off = not-so _ (λ e. not-both (rw er (first-tells a (split e .0) .0)) off)
+
+  pub carried-low : anyBelow x (carriedBy (decode t p mode n) x y b) ≡ false
+  unfolding carriedBy
+  carried-low = any-not _ x (λ a l. not-so _ (λ e. let h = first-tells a (split e .0) .1 in omega arith))
+
+  last-tells : (v : ℕ) → lastVisible (decode t p mode n) y b v ≡ true → (maySee t (rowOf t y) v ≡ true) × (v ≤ y)
+  unfolding visibleRows visibilityOf orderedRows makesVisible maySee rowOf
+  last-tells v e =
+      let k = visible-small (rowOf t v) in
+      let f = split (last-row v (visiblePart (rowOf t v)) (rowOf t y) (rowOf t v) refl refl refl k ∙ e) in
+      let h = split (f .0) in
+      let o = split (split (split (h .1) .0) .0) in
+      let l : 3 * v + visiblePart (rowOf t v) < 3 * y + 1 = ltb-true _ _ (o .0) in
+      (and-true (o .1) (split (split (h .0) .0) .0), omega arith)
+
+  -- a row that two bytes, or without chains two bits, rule out; no row after y
+  seen-bits : (c v : ℕ) (h k : Bool) → h ≡ happens (decode t p mode n) (availableAt (decode t p mode n) c) (3 * v)
+      → k ≡ happens (decode t p mode n) (availableAt (decode t p mode n) c) (3 * v + 2) → seen (decode t p mode n) x y c v ≡ true → (h ≡ true) ⊎ (k ≡ true)
+  unfolding seen visibleAt
+  seen-bits c v h k eh ek g = ⊎-elim (λ l. inl (eh ∙ at-zero l)) (λ l. inr (ek ∙ at-two l)) (which (plain (decode t p mode n .row v)))
+    where
+      at-zero : plain (decode t p mode n .row v) ≡ true → happens (decode t p mode n) (availableAt (decode t p mode n) c) (3 * v) ≡ true
+      at-zero l = let e : 3 * v + 0 ≡ 3 * v = omega arith in rw (l, e) at (split g .0)
+
+      at-two : plain (decode t p mode n .row v) ≡ false → happens (decode t p mode n) (availableAt (decode t p mode n) c) (3 * v + 2) ≡ true
+      at-two l = rw l at (split g .0)
+
+  pub shown-off : (c v : ℕ) (q : Row) (h k : Bool) → q ≡ rowOf t y → h ≡ happens (decode t p mode n) (availableAt (decode t p mode n) c) (3 * v)
+      → k ≡ happens (decode t p mode n) (availableAt (decode t p mode n) c) (3 * v + 2) → ((mode .chains or h or k) and maySee t q v) ≡ false
+      → shownBy (decode t p mode n) x y b c v ≡ false
+  unfolding shownBy
+  shown-off c v q h k eq eh ek off = not-so _ told
+    where
+      some : (seen (decode t p mode n) x y c v or (decode t p mode n .chains and anyBelow (decode t p mode n .rows) (startsWith (decode t p mode n) x y c v))) ≡ true → (mode .chains or h or k) ≡ true
+      some e = ⊎-elim (λ g. ⊎-elim (λ f. or-left k (or-right (mode .chains) f)) (λ f. or-right (mode .chains or h) f) (seen-bits c v h k eh ek g)) (λ g. or-left k (or-left h (chains-of (split g .0)))) (or-cases _ _ e)
+
+      told : shownBy (decode t p mode n) x y b c v ≡ true → ⊥
+      told e = not-both (and-true (some (split e .1)) (rw eq (last-tells v (split e .0) .0))) off
+
+  pub shown-none : (c : ℕ) → anyBelow (y + 1) (shownBy (decode t p mode n) x y b c) ≡ false → anyBelow n (shownBy (decode t p mode n) x y b c) ≡ false
+  unfolding shownBy
+  shown-none c e = any-not _ n (λ v l. go v (decLt v (y + 1)))
+    where
+      go : (v : ℕ) → Dec (v < y + 1) → shownBy (decode t p mode n) x y b c v ≡ false
+      go v (yes l) = any-off _ (y + 1) e v l
+      go v (no l) = not-so _ (λ u. let h = last-tells v (split u .0) .1 in omega arith)

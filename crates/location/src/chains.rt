@@ -1,18 +1,21 @@
-// L3: what a write makes available, and what a read makes visible, at a byte. The rows r and q are x's and y's, read once by the
-// caller. Loops go over rows, since a row has at most one moment of either sort, and first ask what a few bytes and bits tell.
+// L3: what a write makes available, and what a read makes visible, at a byte, by chains of availability and of visibility operations.
+// The rows r and q are x's and y's, read once by the caller; an element of a chain is named by its row, since a row has at most one
+// moment of either sort. Loops first ask what a few bytes and bits tell. Chains of more than one element are looked at on a device
+// that has them, and cost nothing elsewhere.
 ghost use mathlib.Core.Path.{_≡_};
-ghost use Prim.Native.Nat.{_+_, _*_, _≤_, _<_};
+ghost use mathlib.Core.Bool.{true};
+ghost use Prim.Native.Nat.{_+_, _*_, _≤_, _<_, min};
 ghost use lib.ListN.{length};
 ghost use Rattle.finite.specs.Logic.{_and_, _or_};
 ghost use Rattle.finite.specs.Below.{anyBelow};
 ghost use Rattle.bits.specs.Matrix.{rel};
 ghost use Rattle.model.specs.Limits.{ROWS, WORK};
 ghost use Rattle.model.specs.Table.{rowOf, decode};
-ghost use Rattle.model.specs.Scope.{shares};
-ghost use Rattle.model.specs.Location.{shown, met, carried, L3};
-ghost use Rattle.area.specs.Regions.{HAPPENS, MOMENTS};
-ghost use Rattle.area.specs.State.{Ordered};
-ghost use Rattle.location.specs.Chains.{ofRow, availablePart, visiblePart, mayAvail, maySee, availableRows, visibleRows};
+ghost use Rattle.model.specs.Location.{L3};
+ghost use Rattle.area.specs.Regions.{HAPPENS, MOMENTS, GRID};
+ghost use Rattle.location.specs.Chains.{availablePart, visiblePart, mayAvail, maySee, availableRows, visibleRows, widest, meetIn};
+ghost use Rattle.location.specs.Chains.{seen, startsWith, shownBy, endsAt, endsWith, carriedBy};
+ghost use Rattle.location.specs.Reach.{Reaching};
 use crate::pairs;
 use model::Mode;
 use model::Places;
@@ -32,10 +35,10 @@ const AVAILABLE: u8 = 2;
 
 const VISIBLE: u8 = 4;
 
-// ---- a moment
+// ---- an element
 
 // Which moment of s is its availability moment, if it has one.
-fn available_part(s: Row) -> usize
+pub fn available_part(s: Row) -> usize
     ensures { λ k. ⌜ (k ≡ availablePart s) × (k < 3) ⌝ }
 {
     if rows::kinds::is_plain(s) {
@@ -45,7 +48,7 @@ fn available_part(s: Row) -> usize
     }
 }
 
-fn visible_part(s: Row) -> usize
+pub fn visible_part(s: Row) -> usize
     ensures { λ k. ⌜ (k ≡ visiblePart s) × (k < 3) ⌝ }
 {
     if rows::kinds::is_plain(s) {
@@ -55,7 +58,7 @@ fn visible_part(s: Row) -> usize
     }
 }
 
-// L3: moment c of the row s ends an availability chain of x at b.
+// L3: moment c of the row s is a first element of availability of x at b.
 fn available_at(n: usize, x: usize, r: Row, c: usize, s: Row, b: u32) -> bool
     requires { ⌜ x < ROWS ⌝ }
     ensures { λ d. ⌜ d ≡ availableRows n x r c s b ⌝ }
@@ -65,7 +68,7 @@ fn available_at(n: usize, x: usize, r: Row, c: usize, s: Row, b: u32) -> bool
         & pairs::covers_of(s, r, b)
 }
 
-// L3: moment v of the row s starts a visibility chain of y at b.
+// L3: moment v of the row s is a last element of visibility of y at b.
 fn visible_at(n: usize, y: usize, q: Row, v: usize, s: Row, b: u32) -> bool
     requires { ⌜ y < ROWS ⌝ }
     ensures { λ d. ⌜ d ≡ visibleRows n y q v s b ⌝ }
@@ -75,29 +78,154 @@ fn visible_at(n: usize, y: usize, q: Row, v: usize, s: Row, b: u32) -> bool
         & pairs::covers_of(s, q, b)
 }
 
-// L3: the agents of r and q share the scope of a moment of s.
-fn share_moment(p: Places, s: Row, r: Row, q: Row) -> bool
-    ensures { λ d. ⌜ d ≡ shares p (s .scope) (r .agent) (q .agent) ⌝ }
+// ---- where two elements meet
+
+fn lower(a: u8, b: u8) -> u8
+    ensures { λ r. ⌜ r ≡ min a b ⌝ }
 {
-    rows::scopes::shares_scope(p, s.scope, r.agent, q.agent)
+    if a < b { a } else { b }
+}
+
+// The broadest scope that is no broader than either.
+fn widest(s: u8, u: u8) -> u8
+    ensures { λ r. ⌜ r ≡ widest s u ⌝ }
+{
+    lower(lower(s, u), rows::scopes::DEVICE)
+}
+
+// Whether one domain of scope d holds the agents of r and q, that of s beside the one, that of u beside the other.
+fn meet_in(p: Places, d: u8, r: Row, q: Row, s: Row, u: Row) -> bool
+    ensures { λ b. ⌜ b ≡ meetIn p d r q s u ⌝ }
+{
+    (1 <= d)
+        & rows::scopes::shares_scope(p, d, r.agent, q.agent)
+        & rows::scopes::shares_scope(p, d, r.agent, s.agent)
+        & rows::scopes::shares_scope(p, d, q.agent, u.agent)
+}
+
+// What row i, which is s, makes available, row j makes visible.
+fn seen_at(
+    rows: &[u8],
+    p: Places,
+    mode: Mode,
+    n: usize,
+    x: usize,
+    y: usize,
+    r: Row,
+    q: Row,
+    i: usize,
+    s: Row,
+    j: usize,
+    w: &[u64],
+) -> bool
+    requires { ⌜ (n ≤ ROWS) × (WORK ≤ length (now w)) × (x < n) × (y < n)
+        × (r ≡ rowOf (now rows) x) × (q ≡ rowOf (now rows) y) × Reaching (decode (now rows) p mode n) n (now w) × (i < n) × (j < n) × (s ≡ rowOf (now rows) i) ⌝ }
+    ensures { λ d. ⌜ d ≡ seen (decode (now (rows .entry)) p mode n) x y i j ⌝ }
+{
+    let u = rows::bytes::read_row(rows, j as u16);
+    if !pairs::happens_bit(w, 3 * i + available_part(s), 3 * j + visible_part(u)) {
+        return false;
+    }
+    meet_in(p, widest(s.scope, u.scope), r, q, s, u)
 }
 
 // ---- what y meets
 
-// Whether row j may make visible to q what moment c makes available: c happens before it, and it has q's agent and the flag.
-fn may_see(rows: &[u8], q: Row, c: usize, j: usize, w: &[u64]) -> bool
-    requires { ⌜ (c < 3 * ROWS) × (j < ROWS) × (WORK ≤ length (now w)) ⌝ }
-    ensures { λ d. ⌜ d ≡ ((rel (now (w .entry)) HAPPENS MOMENTS c (3 * j) or rel (now (w .entry)) HAPPENS MOMENTS c (3 * j + 2)) and maySee (now (rows .entry)) q j) ⌝ }
+// Whether row v may be a last element for what row i, which is s, makes available to q: it has q's agent and the flag and, without
+// chains, row i's moment happens before one of its own.
+fn may_show(rows: &[u8], mode: Mode, q: Row, c: usize, v: usize, w: &[u64]) -> bool
+    requires { ⌜ (c < 3 * ROWS) × (v < ROWS) × (WORK ≤ length (now w)) ⌝ }
+    ensures { λ d. ⌜ d ≡ ((mode .chains or rel (now (w .entry)) HAPPENS MOMENTS c (3 * v) or rel (now (w .entry)) HAPPENS MOMENTS c (3 * v + 2)) and maySee (now (rows .entry)) q v) ⌝ }
 {
-    if !(pairs::happens_bit(w, c, 3 * j) | pairs::happens_bit(w, c, 3 * j + AFTER)) {
+    if !(mode.chains | pairs::happens_bit(w, c, 3 * v) | pairs::happens_bit(w, c, 3 * v + AFTER)) {
         return false;
     }
-    let agent = rows::bytes::row_byte(rows, j as u16, AGENT);
-    let flags = rows::bytes::row_byte(rows, j as u16, FLAGS);
+    let agent = rows::bytes::row_byte(rows, v as u16, AGENT);
+    let flags = rows::bytes::row_byte(rows, v as u16, FLAGS);
     (agent == q.agent) & rows::kinds::meets(flags, VISIBLE)
 }
 
-// L3: y sees at a moment of row j what c makes available.
+// A visibility chain of more than one element from row j to row v shows what row i makes available.
+fn starts_with(
+    rows: &[u8],
+    p: Places,
+    mode: Mode,
+    n: usize,
+    x: usize,
+    y: usize,
+    r: Row,
+    q: Row,
+    i: usize,
+    s: Row,
+    v: usize,
+    j: usize,
+    w: &[u64],
+) -> bool
+    requires { ⌜ (n ≤ ROWS) × (WORK ≤ length (now w)) × (x < n) × (y < n)
+        × (r ≡ rowOf (now rows) x) × (q ≡ rowOf (now rows) y) × Reaching (decode (now rows) p mode n) n (now w) × (i < n) × (v < n) × (j < n) × (s ≡ rowOf (now rows) i) × (mode .chains ≡ true) ⌝ }
+    ensures { λ d. ⌜ d ≡ startsWith (decode (now (rows .entry)) p mode n) x y i v j ⌝ }
+{
+    if !bits::get(w, (area::REACH_IN + j * area::GRID) * 64 + v) {
+        return false;
+    }
+    seen_at(rows, p, mode, n, x, y, r, q, i, s, j, w)
+}
+
+fn some_start(
+    rows: &[u8],
+    p: Places,
+    mode: Mode,
+    n: usize,
+    x: usize,
+    y: usize,
+    r: Row,
+    q: Row,
+    i: usize,
+    s: Row,
+    v: usize,
+    w: &[u64],
+) -> bool
+    requires { ⌜ (n ≤ ROWS) × (WORK ≤ length (now w)) × (x < n) × (y < n)
+        × (r ≡ rowOf (now rows) x) × (q ≡ rowOf (now rows) y) × Reaching (decode (now rows) p mode n) n (now w) × (i < n) × (v < n) × (s ≡ rowOf (now rows) i) × (mode .chains ≡ true) ⌝ }
+    ensures { λ d. ⌜ d ≡ anyBelow n (startsWith (decode (now (rows .entry)) p mode n) x y i v) ⌝ }
+{
+    for j in 0..n {
+        if starts_with(rows, p, mode, n, x, y, r, q, i, s, v, j, w) {
+            return true;
+        }
+    }
+    false
+}
+
+// Some visibility chain that ends with row v shows what row i makes available.
+fn starts_at(
+    rows: &[u8],
+    p: Places,
+    mode: Mode,
+    n: usize,
+    x: usize,
+    y: usize,
+    r: Row,
+    q: Row,
+    i: usize,
+    s: Row,
+    v: usize,
+    w: &[u64],
+) -> bool
+    requires { ⌜ (n ≤ ROWS) × (WORK ≤ length (now w)) × (x < n) × (y < n)
+        × (r ≡ rowOf (now rows) x) × (q ≡ rowOf (now rows) y) × Reaching (decode (now rows) p mode n) n (now w) × (i < n) × (v < n) × (s ≡ rowOf (now rows) i) ⌝ }
+    ensures { λ d. ⌜ d ≡ (seen (decode (now (rows .entry)) p mode n) x y i v or (mode .chains and anyBelow n (startsWith (decode (now (rows .entry)) p mode n) x y i v))) ⌝ }
+{
+    if seen_at(rows, p, mode, n, x, y, r, q, i, s, v, w) {
+        return true;
+    }
+    if !mode.chains {
+        return false;
+    }
+    some_start(rows, p, mode, n, x, y, r, q, i, s, v, w)
+}
+
+// L3: y sees by way of row v what row i makes available.
 fn shown_in(
     rows: &[u8],
     p: Places,
@@ -108,23 +236,26 @@ fn shown_in(
     r: Row,
     q: Row,
     b: u32,
-    c: usize,
-    j: usize,
+    i: usize,
+    s: Row,
+    v: usize,
     w: &[u64],
 ) -> bool
-    requires { ⌜ (n ≤ ROWS) × (WORK ≤ length (now w)) × (x < n) × (y < n) × (c < 3 * n) × (j < n)
-        × (r ≡ rowOf (now rows) x) × (q ≡ rowOf (now rows) y) × Ordered (decode (now rows) p mode n) n (now w) ⌝ }
-    ensures { λ d. ⌜ d ≡ ofRow (shown (decode (now (rows .entry)) p mode n) x y b c) j ⌝ }
+    requires { ⌜ (n ≤ ROWS) × (WORK ≤ length (now w)) × (x < n) × (y < n)
+        × (r ≡ rowOf (now rows) x) × (q ≡ rowOf (now rows) y) × Reaching (decode (now rows) p mode n) n (now w) × (i < n) × (v < n) × (s ≡ rowOf (now rows) i) ⌝ }
+    ensures { λ d. ⌜ d ≡ shownBy (decode (now (rows .entry)) p mode n) x y b i v ⌝ }
 {
-    if !may_see(rows, q, c, j, w) {
+    if !may_show(rows, mode, q, 3 * i + available_part(s), v, w) {
         return false;
     }
-    let s = rows::bytes::read_row(rows, j as u16);
-    let v = 3 * j + visible_part(s);
-    visible_at(n, y, q, v, s, b) & share_moment(p, s, r, q) & pairs::happens_bit(w, c, v)
+    let u = rows::bytes::read_row(rows, v as u16);
+    if !visible_at(n, y, q, 3 * v + visible_part(u), u, b) {
+        return false;
+    }
+    starts_at(rows, p, mode, n, x, y, r, q, i, s, v, w)
 }
 
-// L3: y sees at some moment what c makes available. No row after y has one.
+// No row after y is a last element.
 fn some_shown(
     rows: &[u8],
     p: Places,
@@ -135,23 +266,24 @@ fn some_shown(
     r: Row,
     q: Row,
     b: u32,
-    c: usize,
+    i: usize,
+    s: Row,
     w: &[u64],
 ) -> bool
-    requires { ⌜ (n ≤ ROWS) × (WORK ≤ length (now w)) × (x < n) × (y < n) × (c < 3 * n)
-        × (r ≡ rowOf (now rows) x) × (q ≡ rowOf (now rows) y) × Ordered (decode (now rows) p mode n) n (now w) ⌝ }
-    ensures { λ d. ⌜ d ≡ anyBelow (3 * n) (shown (decode (now (rows .entry)) p mode n) x y b c) ⌝ }
+    requires { ⌜ (n ≤ ROWS) × (WORK ≤ length (now w)) × (x < n) × (y < n)
+        × (r ≡ rowOf (now rows) x) × (q ≡ rowOf (now rows) y) × Reaching (decode (now rows) p mode n) n (now w) × (i < n) × (s ≡ rowOf (now rows) i) ⌝ }
+    ensures { λ d. ⌜ d ≡ anyBelow n (shownBy (decode (now (rows .entry)) p mode n) x y b i) ⌝ }
 {
-    for j in 0..y + 1 {
-        if shown_in(rows, p, mode, n, x, y, r, q, b, c, j, w) {
+    for v in 0..y + 1 {
+        if shown_in(rows, p, mode, n, x, y, r, q, b, i, s, v, w) {
             return true;
         }
     }
     false
 }
 
-// L3: y meets what c makes available; a reader by way of a visibility moment, any other at once.
-fn met_at(
+// L3: y meets what row i makes available: a reader by way of a visibility chain, any other at once.
+fn ends_at(
     rows: &[u8],
     p: Places,
     mode: Mode,
@@ -161,17 +293,19 @@ fn met_at(
     r: Row,
     q: Row,
     b: u32,
-    c: usize,
+    i: usize,
+    s: Row,
     w: &[u64],
 ) -> bool
-    requires { ⌜ (n ≤ ROWS) × (WORK ≤ length (now w)) × (x < n) × (y < n) × (c < 3 * n)
-        × (r ≡ rowOf (now rows) x) × (q ≡ rowOf (now rows) y) × Ordered (decode (now rows) p mode n) n (now w) ⌝ }
-    ensures { λ d. ⌜ d ≡ met (decode (now (rows .entry)) p mode n) x y b c ⌝ }
+    requires { ⌜ (n ≤ ROWS) × (WORK ≤ length (now w)) × (x < n) × (y < n)
+        × (r ≡ rowOf (now rows) x) × (q ≡ rowOf (now rows) y) × Reaching (decode (now rows) p mode n) n (now w) × (i < n) × (s ≡ rowOf (now rows) i) ⌝ }
+    ensures { λ d. ⌜ d ≡ endsAt (decode (now (rows .entry)) p mode n) x y b i ⌝ }
 {
     if rows::kinds::reads(q) {
-        return some_shown(rows, p, mode, n, x, y, r, q, b, c, w);
+        return some_shown(rows, p, mode, n, x, y, r, q, b, i, s, w);
     }
-    pairs::happens_bit(w, c, 3 * y + 1)
+    let h = pairs::happens_bit(w, 3 * i + available_part(s), 3 * y + 1);
+    h & meet_in(p, widest(s.scope, rows::scopes::DEVICE), r, q, s, q)
 }
 
 // ---- what x makes available
@@ -186,7 +320,86 @@ fn may_avail(rows: &[u8], r: Row, i: usize) -> bool
     (r.agent == agent) & rows::kinds::meets(flags, AVAILABLE)
 }
 
-// L3: x is available at a moment of row i, and y meets it.
+// An availability chain of more than one element from row a to row c makes available what y meets.
+fn ends_with(
+    rows: &[u8],
+    p: Places,
+    mode: Mode,
+    n: usize,
+    x: usize,
+    y: usize,
+    r: Row,
+    q: Row,
+    b: u32,
+    a: usize,
+    c: usize,
+    w: &[u64],
+) -> bool
+    requires { ⌜ (n ≤ ROWS) × (WORK ≤ length (now w)) × (x < n) × (y < n)
+        × (r ≡ rowOf (now rows) x) × (q ≡ rowOf (now rows) y) × Reaching (decode (now rows) p mode n) n (now w) × (a < n) × (c < n) × (mode .chains ≡ true) ⌝ }
+    ensures { λ d. ⌜ d ≡ endsWith (decode (now (rows .entry)) p mode n) x y b a c ⌝ }
+{
+    if !bits::get(w, (area::REACH_OUT + a * area::GRID) * 64 + c) {
+        return false;
+    }
+    let s = rows::bytes::read_row(rows, c as u16);
+    ends_at(rows, p, mode, n, x, y, r, q, b, c, s, w)
+}
+
+fn some_end(
+    rows: &[u8],
+    p: Places,
+    mode: Mode,
+    n: usize,
+    x: usize,
+    y: usize,
+    r: Row,
+    q: Row,
+    b: u32,
+    a: usize,
+    w: &[u64],
+) -> bool
+    requires { ⌜ (n ≤ ROWS) × (WORK ≤ length (now w)) × (x < n) × (y < n)
+        × (r ≡ rowOf (now rows) x) × (q ≡ rowOf (now rows) y) × Reaching (decode (now rows) p mode n) n (now w) × (a < n) × (mode .chains ≡ true) ⌝ }
+    ensures { λ d. ⌜ d ≡ anyBelow n (endsWith (decode (now (rows .entry)) p mode n) x y b a) ⌝ }
+{
+    for c in 0..n {
+        if ends_with(rows, p, mode, n, x, y, r, q, b, a, c, w) {
+            return true;
+        }
+    }
+    false
+}
+
+// Some availability chain that begins with row a, which is s, makes available what y meets.
+fn ends_from(
+    rows: &[u8],
+    p: Places,
+    mode: Mode,
+    n: usize,
+    x: usize,
+    y: usize,
+    r: Row,
+    q: Row,
+    b: u32,
+    a: usize,
+    s: Row,
+    w: &[u64],
+) -> bool
+    requires { ⌜ (n ≤ ROWS) × (WORK ≤ length (now w)) × (x < n) × (y < n)
+        × (r ≡ rowOf (now rows) x) × (q ≡ rowOf (now rows) y) × Reaching (decode (now rows) p mode n) n (now w) × (a < n) × (s ≡ rowOf (now rows) a) ⌝ }
+    ensures { λ d. ⌜ d ≡ (endsAt (decode (now (rows .entry)) p mode n) x y b a or (mode .chains and anyBelow n (endsWith (decode (now (rows .entry)) p mode n) x y b a))) ⌝ }
+{
+    if ends_at(rows, p, mode, n, x, y, r, q, b, a, s, w) {
+        return true;
+    }
+    if !mode.chains {
+        return false;
+    }
+    some_end(rows, p, mode, n, x, y, r, q, b, a, w)
+}
+
+// L3: y meets what a chain from the first element a makes available.
 fn carried_in(
     rows: &[u8],
     p: Places,
@@ -197,25 +410,24 @@ fn carried_in(
     r: Row,
     q: Row,
     b: u32,
-    i: usize,
+    a: usize,
     w: &[u64],
 ) -> bool
-    requires { ⌜ (n ≤ ROWS) × (WORK ≤ length (now w)) × (x < n) × (y < n) × (i < n)
-        × (r ≡ rowOf (now rows) x) × (q ≡ rowOf (now rows) y) × Ordered (decode (now rows) p mode n) n (now w) ⌝ }
-    ensures { λ d. ⌜ d ≡ ofRow (carried (decode (now (rows .entry)) p mode n) x y b) i ⌝ }
+    requires { ⌜ (n ≤ ROWS) × (WORK ≤ length (now w)) × (x < n) × (y < n)
+        × (r ≡ rowOf (now rows) x) × (q ≡ rowOf (now rows) y) × Reaching (decode (now rows) p mode n) n (now w) × (a < n) ⌝ }
+    ensures { λ d. ⌜ d ≡ carriedBy (decode (now (rows .entry)) p mode n) x y b a ⌝ }
 {
-    if !may_avail(rows, r, i) {
+    if !may_avail(rows, r, a) {
         return false;
     }
-    let s = rows::bytes::read_row(rows, i as u16);
-    let c = 3 * i + available_part(s);
-    if !(available_at(n, x, r, c, s, b) & share_moment(p, s, r, q)) {
+    let s = rows::bytes::read_row(rows, a as u16);
+    if !available_at(n, x, r, 3 * a + available_part(s), s, b) {
         return false;
     }
-    met_at(rows, p, mode, n, x, y, r, q, b, c, w)
+    ends_from(rows, p, mode, n, x, y, r, q, b, a, s, w)
 }
 
-// L3: x is available at some moment, and y meets it. No row before x has one.
+// No row before x is a first element.
 fn some_carried(
     rows: &[u8],
     p: Places,
@@ -229,11 +441,11 @@ fn some_carried(
     w: &[u64],
 ) -> bool
     requires { ⌜ (n ≤ ROWS) × (WORK ≤ length (now w)) × (x < n) × (y < n)
-        × (r ≡ rowOf (now rows) x) × (q ≡ rowOf (now rows) y) × Ordered (decode (now rows) p mode n) n (now w) ⌝ }
-    ensures { λ d. ⌜ d ≡ anyBelow (3 * n) (carried (decode (now (rows .entry)) p mode n) x y b) ⌝ }
+        × (r ≡ rowOf (now rows) x) × (q ≡ rowOf (now rows) y) × Reaching (decode (now rows) p mode n) n (now w) ⌝ }
+    ensures { λ d. ⌜ d ≡ anyBelow n (carriedBy (decode (now (rows .entry)) p mode n) x y b) ⌝ }
 {
-    for i in x..n {
-        if carried_in(rows, p, mode, n, x, y, r, q, b, i, w) {
+    for a in x..n {
+        if carried_in(rows, p, mode, n, x, y, r, q, b, a, w) {
             return true;
         }
     }
@@ -254,7 +466,7 @@ pub fn l3(
     w: &[u64],
 ) -> bool
     requires { ⌜ (n ≤ ROWS) × (WORK ≤ length (now w)) × (x < n) × (y < n)
-        × (r ≡ rowOf (now rows) x) × (q ≡ rowOf (now rows) y) × Ordered (decode (now rows) p mode n) n (now w) ⌝ }
+        × (r ≡ rowOf (now rows) x) × (q ≡ rowOf (now rows) y) × Reaching (decode (now rows) p mode n) n (now w) ⌝ }
     ensures { λ d. ⌜ d ≡ L3 (decode (now (rows .entry)) p mode n) x y b ⌝ }
 {
     if !pairs::public_write(r, q) {

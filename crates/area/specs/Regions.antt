@@ -105,6 +105,10 @@ REACHED = MET-END
 abbrev pub REACHED-END : ℕ
 REACHED-END = REACHED + ROWS-GRID
 
+-- where all that location order is made in ends
+abbrev pub LOCATED-END : ℕ
+LOCATED-END = REACHED-END
+
 -- edges
 abbrev pub EDGE : ℕ
 EDGE = LOCATION-END

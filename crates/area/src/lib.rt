@@ -61,6 +61,9 @@ pub const REACHED: usize = MET_END;
 
 pub const REACHED_END: usize = REACHED + ROWS_GRID;
 
+// Where all that location order is made in ends.
+pub const LOCATED_END: usize = REACHED_END;
+
 pub const EDGE: usize = LOCATION_END;
 
 pub const EDGE_END: usize = EDGE + ROWS_GRID;

@@ -1,3 +1,4 @@
 pub mod Shared
 pub mod Chains
 pub mod Order
+pub mod Domains

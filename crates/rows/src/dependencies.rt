@@ -9,7 +9,11 @@ fn number_at(numbers: [u16; 64], k: u16) -> u16
     ensures { λ r. ⌜ r ≡ getD numbers k 0 ⌝ }
 {
     let i = k as usize;
-    if i < model::DEPENDENCIES { numbers[i] } else { 0 }
+    if i < model::DEPENDENCIES {
+        numbers[i]
+    } else {
+        0
+    }
 }
 
 // The first row of dependency k, and 0 for one that there is no slot for.

@@ -18,8 +18,8 @@ use Rattle.model.specs.declared.Row.{Row}
 use Rattle.model.specs.declared.Admission.the-variants.{Admitted}
 use Rattle.model.specs.Limits.{INITIAL, BLANK, ROWS}
 use Rattle.model.specs.Row.{PLAIN-READ, ATOMIC-READ, RMW, access, plainRead, reads, operation}
-use Rattle.model.specs.Table.{Table, HEADER, ROW-BYTES, pairAt, quadAt, countAt, versionAt, zeroAt, agentsAt, rowsAt, hasHosts, placesOf, rowsBegin, rowsEnd, sizeOf, rowBytes, byteOf, pairOf, rowOf, sourceOf, decode, tableOf, sourcesOf}
-use Rattle.model.specs.Refusal.{versionFits, limitsFit, lengthFits, kindOver, agentsKnown, dependenciesFew, namesNone, dependenciesNamed, hostsFault, headerFault, kindFits, formFault, rowFault, rowFaultAt, sourceBroken, tableFault}
+use Rattle.model.specs.Table.{Table, HEADER, ROW-BYTES, pairAt, quadAt, countAt, versionAt, zeroAt, agentsAt, rowsAt, hasHosts, placesOf, rowsBegin, rowsEnd, sizeOf, rowBytes, byteOf, pairOf, rowOf, sourceOf, decode, tableOf, sourcesOf, dependencyBytes}
+use Rattle.model.specs.Refusal.{versionFits, limitsFit, lengthFits, agentsKnown, dependenciesFew, namesNone, dependenciesNamed, hostsFault, headerFault, kindFits, formFault, rowFault, rowFaultAt, sourceBroken, tableFault}
 use Rattle.model.specs.Fill.{blank, chosen}
 use Rattle.model.specs.Words.{blankAt, sourceBegin, Filling}
 use Rattle.model.specs.AdmissionLaws.{Sound, length-is, rows-fit, among-right, access-no-operation}
@@ -190,25 +190,21 @@ module _ {s f : List ℕ} (fl : Filling s f) where
   length-kept = rw (count-at-kept, fl .size, size-kept) refl
 
   -- 16, 17, 18
-  over-kept : (a : ℕ) → kindOver f a ≡ kindOver s a
-  unfolding kindOver
-  over-kept a = rw (places-kept fl) refl
-
   known-kept : agentsKnown f ≡ agentsKnown s
   unfolding agentsKnown
-  known-kept = rw (agents-kept fl) (ap not (any-cong (kindOver f) (kindOver s) (agentsAt s) (λ a l. over-kept a)))
+  known-kept = rw (agents-kept fl, places-kept fl) refl
 
   few-kept : dependenciesFew f ≡ dependenciesFew s
   unfolding dependenciesFew
   few-kept = rw (count-kept fl) refl
 
-  none-kept : (k : ℕ) → namesNone f k ≡ namesNone s k
+  none-kept : (k : ℕ) → namesNone (dependencyBytes f) (rowsAt f) k ≡ namesNone (dependencyBytes s) (rowsAt s) k
   unfolding namesNone
   none-kept k = rw (rows-kept fl, from-kept fl k, to-kept fl k) refl
 
   named-kept : dependenciesNamed f ≡ dependenciesNamed s
   unfolding dependenciesNamed
-  named-kept = rw (count-kept fl) (ap not (any-cong (namesNone f) (namesNone s) _ (λ k l. none-kept k)))
+  named-kept = rw (count-kept fl) (ap not (any-cong (namesNone (dependencyBytes f) (rowsAt f)) (namesNone (dependencyBytes s) (rowsAt s)) _ (λ k l. none-kept k)))
 
   hosts-fault-kept : hostsFault f ≡ hostsFault s
   unfolding hostsFault

@@ -35,22 +35,22 @@ lengthFits s = eqb (countAt s + 4) (sizeOf s) and eqb (length s) (sizeOf s)
 -- ---- 16 to 18: agents and dependencies, after 4 and before the rows
 
 -- 16: an agent is a shader, host or queue agent
-unfoldable pub kindOver : List ℕ → ℕ → Bool
-kindOver s a = ltb QUEUE (agentKind (placesOf s) a)
+unfoldable pub kindOver : List (List ℕ) → ℕ → Bool
+kindOver p a = ltb QUEUE (agentKind p a)
 
 unfoldable pub agentsKnown : List ℕ → Bool
-agentsKnown s = not (anyBelow (agentsAt s) (kindOver s))
+agentsKnown s = not (anyBelow (agentsAt s) (kindOver (placesOf s)))
 
 -- 17: there are not too many dependencies
 unfoldable pub dependenciesFew : List ℕ → Bool
 dependenciesFew s = leb (dependencyCount (dependencyBytes s)) DEPENDENCIES
 
--- 18: each names two rows
-unfoldable pub namesNone : List ℕ → ℕ → Bool
-namesNone s k = not (ltb (dependencyFrom (dependencyBytes s) k) (rowsAt s) and ltb (dependencyTo (dependencyBytes s) k) (rowsAt s))
+-- 18: each names two rows, of n
+unfoldable pub namesNone : List ℕ → ℕ → ℕ → Bool
+namesNone d n k = not (ltb (dependencyFrom d k) n and ltb (dependencyTo d k) n)
 
 unfoldable pub dependenciesNamed : List ℕ → Bool
-dependenciesNamed s = not (anyBelow (dependencyCount (dependencyBytes s)) (namesNone s))
+dependenciesNamed s = not (anyBelow (dependencyCount (dependencyBytes s)) (namesNone (dependencyBytes s) (rowsAt s)))
 
 unfoldable pub hostsFault : List ℕ → ℕ
 hostsFault s = cond (agentsKnown s) (cond (dependenciesFew s) (cond (dependenciesNamed s) 0 18) 17) 16

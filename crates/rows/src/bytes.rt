@@ -4,7 +4,7 @@ ghost use Prim.Native.Nat.{_≤_};
 ghost use lib.ListN.{getD};
 ghost use Rattle.finite.specs.Lists.{tabulate};
 ghost use Rattle.model.specs.Limits.{DEPENDENCIES};
-ghost use Rattle.model.specs.Table.{pairAt, quadAt, agentsAt, rowsAt, hasHosts, rowsBegin, rowsEnd, rowBytes, dependencyBytes, dependencyEnd};
+ghost use Rattle.model.specs.Table.{pairAt, quadAt, agentsAt, rowsAt, hasHosts, rowsBegin, rowsEnd, rowBytes, dependencyBytes, dependencyEnd, dependencyFrom, dependencyTo};
 ghost use Rattle.model.specs.Table.{byteOf, pairOf, rowOf, sourceOf, atomicSource};
 use crate::kinds;
 use model::Row;
@@ -109,6 +109,19 @@ pub fn dependency_bytes(s: &[u8]) -> &[u8]
         return &s[..0];
     }
     &s[at..]
+}
+
+// The two rows of the k-th dependency, in the bytes of the dependencies alone.
+pub fn dependency_from(d: &[u8], k: u16) -> u16
+    ensures { λ r. ⌜ r ≡ dependencyFrom (now (d .entry)) k ⌝ }
+{
+    pair_at(d, 2 + (k as usize) * DEPENDENCY_BYTES)
+}
+
+pub fn dependency_to(d: &[u8], k: u16) -> u16
+    ensures { λ r. ⌜ r ≡ dependencyTo (now (d .entry)) k ⌝ }
+{
+    pair_at(d, 4 + (k as usize) * DEPENDENCY_BYTES)
 }
 
 // One of the two rows of each dependency, as many as a table may have; byte `at` of their bytes has the first.

@@ -3,17 +3,19 @@ use mathlib.Core.Path.{_≡_, refl, _∙_}
 use mathlib.Core.Bool.{Bool, true, false, not, cond}
 use mathlib.Core.List.{List, []}
 use Prim.Native.Nat.{ℕ, _<_, _≤_}
-use borrow.Author.Tests.{eq-eqb, ne-eqb, lt-ltb, le-ltb}
+use borrow.Author.Tests.{eq-eqb, ne-eqb, lt-ltb, le-ltb, le-leb, lt-leb}
 use Rattle.finite.specs.Logic.{_and_, _or_}
 use Rattle.finite.specs.Below.{anyBelow, least}
 use Rattle.model.specs.declared.Mode.{Mode}
 use Rattle.model.specs.declared.Row.{Row}
 use Rattle.model.specs.declared.Admission.{Admission}
 use Rattle.model.specs.declared.Admission.the-variants.{Admitted, Refused}
-use Rattle.model.specs.Row.{ranked}
-use Rattle.model.specs.Table.{OFF, rowOf, modeOf, decode, sourceOf, agentsAt, rowsAt, rowBytes, placesOf, tableOf, sourcesOf}
+use Rattle.model.specs.Limits.{DEPENDENCIES}
+use Rattle.model.specs.Row.{ranked, operation}
+use Rattle.model.specs.Scope.{agentKind}
+use Rattle.model.specs.Table.{OFF, rowOf, modeOf, decode, sourceOf, agentsAt, rowsAt, hasHosts, rowBytes, dependencyBytes, pairAt, dependencyCount, placesOf, tableOf, sourcesOf}
 use Rattle.model.specs.Refusal.{otherClassAt, classTaken, writerFits, sourceFits, sourceBroken, sameRankAt, rankTaken, apartAt, instanceBroken, outsideAt, begins, unfit}
-use Rattle.model.specs.Refusal.{codesFit, kindFits, extentFits, rowFault, tableFault, faulty, firstFault, rowFaultAt}
+use Rattle.model.specs.Refusal.{kindOver, agentsKnown, dependenciesFew, namesNone, dependenciesNamed, hostsFault, codesFit, agentFits, operationFits, kindFits, extentFits, formFault, rowFault, tableFault, faulty, firstFault, rowFaultAt}
 use Rattle.model.specs.Refusal.{headerFault, admission}
 use Rattle.table.specs.Rows.{rowFaultIn, rowsAdmission}
 
@@ -53,14 +55,58 @@ module _ (b : List ℕ) (mode : Mode) (i : ℕ) where
   unfolding unfit begins outsideAt decode _and_
   unfit-on r x y z e er ex ey ez = rw (e, ex, er, ey, ez) refl
 
--- ---- the cascade of 5 to 7, from the inside
+-- ---- the cascades of 5 to 7, 19 and 20, from the inside
 
-module _ (agents : ℕ) (r : Row) (source : ℕ) (codes kind extent : Bool) (x y z : ℕ) where
+module _ (r : Row) (source : ℕ) (operating fits kind extent : Bool) (v x y z : ℕ) where
+  pub form-numbers :
+      operating ≡ operation r → fits ≡ operationFits r source → kind ≡ kindFits r source → extent ≡ extentFits r
+      → v ≡ cond fits 0 20 → x ≡ cond extent 0 7 → y ≡ cond kind x 6 → z ≡ cond operating v y → z ≡ formFault r source
+  unfolding formFault
+  form-numbers a b c d e f g h = rw (h, g, f, e, a, b, c, d) refl
+
+module _ (hosts : Bool) (p : List (List ℕ)) (agents : ℕ) (r : Row) (source : ℕ) (codes fits : Bool) (kind x y z : ℕ) where
   pub row-numbers :
-      codes ≡ codesFit agents r → kind ≡ kindFits r source → extent ≡ extentFits r
-      → x ≡ cond extent 0 7 → y ≡ cond kind x 6 → z ≡ cond codes y 5 → z ≡ rowFault agents r source
+      codes ≡ codesFit hosts agents r → kind ≡ agentKind p (r .agent) → fits ≡ agentFits kind r → x ≡ formFault r source
+      → y ≡ cond fits x 19 → z ≡ cond codes y 5 → z ≡ rowFault hosts p agents r source
   unfolding rowFault
-  row-numbers a b c d e f = rw (f, e, d, a, b, c) refl
+  row-numbers a b c d e f = rw (f, e, a, c, b, d) refl
+
+-- ---- the cascade of 16 to 18
+
+module _ (s : List ℕ) where
+  pub known-is : (p : List (List ℕ)) (n : ℕ) (over : Bool) → p ≡ placesOf s → n ≡ agentsAt s → over ≡ anyBelow n (kindOver p) → agentsKnown s ≡ not over
+  unfolding agentsKnown
+  known-is p n over ep en e = rw (← ep, ← en, ← e) refl
+
+  pub few-over : (d : List ℕ) (n : ℕ) → d ≡ dependencyBytes s → n ≡ pairAt d 0 → DEPENDENCIES < n → dependenciesFew s ≡ false
+  unfolding dependenciesFew dependencyCount
+  few-over d n ed e l = rw (← ed, ← e) (lt-leb n DEPENDENCIES l)
+
+  pub few-in : (d : List ℕ) (n : ℕ) → d ≡ dependencyBytes s → n ≡ pairAt d 0 → n ≤ DEPENDENCIES → dependenciesFew s ≡ true
+  unfolding dependenciesFew dependencyCount
+  few-in d n ed e l = rw (← ed, ← e) (le-leb n DEPENDENCIES l)
+
+  pub named-is : (d : List ℕ) (n : ℕ) (none : Bool) → d ≡ dependencyBytes s → n ≡ rowsAt s → none ≡ anyBelow (dependencyCount d) (namesNone d n)
+      → dependenciesNamed s ≡ not none
+  unfolding dependenciesNamed
+  named-is d n none ed en e = rw (← ed, ← en, ← e) refl
+
+  pub hosts-16 : (over : Bool) → agentsKnown s ≡ not over → over ≡ true → 16 ≡ hostsFault s
+  unfolding hostsFault
+  hosts-16 over a h = rw (a, h) refl
+
+  module _ (over : Bool) (a : agentsKnown s ≡ not over) (h : over ≡ false) where
+    pub hosts-17 : dependenciesFew s ≡ false → 17 ≡ hostsFault s
+    unfolding hostsFault
+    hosts-17 q = rw (a, h, q) refl
+
+    pub hosts-18 : dependenciesFew s ≡ true → (none : Bool) → dependenciesNamed s ≡ not none → none ≡ true → 18 ≡ hostsFault s
+    unfolding hostsFault
+    hosts-18 q none e n = rw (a, h, q, e, n) refl
+
+    pub hosts-pass : dependenciesFew s ≡ true → (none : Bool) → dependenciesNamed s ≡ not none → none ≡ false → 0 ≡ hostsFault s
+    unfolding hostsFault
+    hosts-pass q none e n = rw (a, h, q, e, n) refl
 
 -- ---- the number r of row i says whether it has a fault
 
@@ -86,20 +132,20 @@ module _ (f : ℕ → ℕ) (n : ℕ) (next : Admission) (i : ℕ) (e : i ≡ lea
 
 -- ---- the rows' admission: i is the first row that is faulty by itself, j the first among the others
 
-module _ (blanks : Bool) (agents : ℕ) (b : List ℕ) (p : List (List ℕ)) (mode : Mode) (n i : ℕ) (e : i ≡ least n (faulty (rowFaultIn agents b))) where
+module _ (blanks hosts : Bool) (agents : ℕ) (b : List ℕ) (p : List (List ℕ)) (mode : Mode) (n i : ℕ) (e : i ≡ least n (faulty (rowFaultIn hosts p agents b))) where
   abbrev among : ℕ → ℕ
   among = tableFault blanks (decode b p mode n) (sourceOf b)
 
-  pub rows-early : (r : ℕ) → i < n → r ≡ rowFaultIn agents b i → rowsAdmission blanks agents b p mode n ≡ Refused r i
+  pub rows-early : (r : ℕ) → i < n → r ≡ rowFaultIn hosts p agents b i → rowsAdmission blanks hosts agents b p mode n ≡ Refused r i
   unfolding rowsAdmission
   rows-early r h q = first-hit _ n _ i e r h q
 
   module _ (j : ℕ) (h : n ≤ i) (f : j ≡ least n (faulty among)) where
-    pub rows-late : (r : ℕ) → j < n → r ≡ among j → rowsAdmission blanks agents b p mode n ≡ Refused r j
+    pub rows-late : (r : ℕ) → j < n → r ≡ among j → rowsAdmission blanks hosts agents b p mode n ≡ Refused r j
     unfolding rowsAdmission
     rows-late r l q = first-miss _ n _ i e h ∙ first-hit _ n _ j f r l q
 
-    pub rows-pass : n ≤ j → rowsAdmission blanks agents b p mode n ≡ Admitted agents n
+    pub rows-pass : n ≤ j → rowsAdmission blanks hosts agents b p mode n ≡ Admitted agents n
     unfolding rowsAdmission
     rows-pass l = first-miss _ n _ i e h ∙ first-miss _ n _ j f l
 
@@ -110,6 +156,6 @@ module _ (blanks : Bool) (s : List ℕ) (h : ℕ) (e : h ≡ headerFault s) wher
   unfolding admission
   header-refused f = rw (← e, ne-eqb h 0 f) refl
 
-  pub header-passed : h ≡ 0 → admission blanks s ≡ rowsAdmission blanks (agentsAt s) (rowBytes s) (placesOf s) (modeOf false s) (rowsAt s)
+  pub header-passed : h ≡ 0 → admission blanks s ≡ rowsAdmission blanks (hasHosts s) (agentsAt s) (rowBytes s) (placesOf s) (modeOf false s) (rowsAt s)
   unfolding admission tableOf sourcesOf rowFaultAt rowsAdmission rowFaultIn
   header-passed f = rw (← e, eq-eqb h 0 f) refl

@@ -9,10 +9,10 @@ use Rattle.model.specs.Table.{rowOf, sourceOf, decode}
 use Rattle.model.specs.Refusal.{rowFault, tableFault, firstFault}
 
 -- the fault of row i by itself, in the bytes b of the rows
-unfoldable pub rowFaultIn : ℕ → List ℕ → ℕ → ℕ
-rowFaultIn agents b i = rowFault agents (rowOf b i) (sourceOf b i)
+unfoldable pub rowFaultIn : Bool → List (List ℕ) → ℕ → List ℕ → ℕ → ℕ
+rowFaultIn hosts p agents b i = rowFault hosts p agents (rowOf b i) (sourceOf b i)
 
--- n rows in their bytes b, with the places p: rows ascending through 5 to 7, then rows ascending through 8 to 10
-unfoldable pub rowsAdmission : Bool → ℕ → List ℕ → List (List ℕ) → Mode → ℕ → Admission
-rowsAdmission blanks agents b p mode n =
-    firstFault (rowFaultIn agents b) n (firstFault (tableFault blanks (decode b p mode n) (sourceOf b)) n (Admitted agents n))
+-- n rows in their bytes b, with the places p: rows ascending through 5 to 7, 19 and 20, then rows ascending through 8 to 10, 14 and 15
+unfoldable pub rowsAdmission : Bool → Bool → ℕ → List ℕ → List (List ℕ) → Mode → ℕ → Admission
+rowsAdmission blanks hosts agents b p mode n =
+    firstFault (rowFaultIn hosts p agents b) n (firstFault (tableFault blanks (decode b p mode n) (sourceOf b)) n (Admitted agents n))

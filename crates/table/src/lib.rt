@@ -1,4 +1,4 @@
-// Admission: refusals 1 to 10 of document 01, 14 and 15 of document 02, each a test of its own, in their order.
+// Admission: refusals 1 to 10, and 14 to 20, each a test of its own, in their order.
 ghost use mathlib.Core.Path.{_≡_};
 ghost use mathlib.Core.Bool.{cond};
 ghost use Rattle.model.specs.Refusal.{admission};
@@ -9,8 +9,8 @@ use model::Places;
 use rows::bytes;
 use rows::scopes;
 
-pub mod header; // 1 to 4
-pub mod row_faults; // 5 to 7: a row by itself
+pub mod header; // 1 to 4, 16 to 18
+pub mod row_faults; // 5 to 7, 19, 20: a row by itself
 pub mod table_faults; // 8 to 10, 14, 15: a row among the others
 
 // ---- the cascades choose by these: all that they choose from is total
@@ -29,14 +29,22 @@ pub fn choose(b: bool, x: bool, y: bool) -> bool
 
 // ---- in their order
 
-// Rows ascending through 5 to 7, then rows ascending through 8 to 10, 14 and 15.
-fn admit_rows(rows: &[u8], p: Places, mode: Mode, agents: u8, count: u8, blanks: bool) -> Admission
-    ensures { λ r. ⌜ r ≡ rowsAdmission blanks agents (now (rows .entry)) p mode count ⌝ }
+// Rows ascending through 5, 19, 6 or 20, 7; then rows ascending through 8 to 10, 14 and 15.
+fn admit_rows(
+    rows: &[u8],
+    hosts: bool,
+    p: Places,
+    mode: Mode,
+    agents: u8,
+    count: u8,
+    blanks: bool,
+) -> Admission
+    ensures { λ r. ⌜ r ≡ rowsAdmission blanks hosts agents (now (rows .entry)) p mode count ⌝ }
 {
     let n = count as u16;
-    let i = row_faults::first_row_fault(rows, agents, n);
+    let i = row_faults::first_row_fault(rows, hosts, p, agents, n);
     if i < n {
-        let number = row_faults::row_fault_at(rows, agents, i);
+        let number = row_faults::row_fault_at(rows, hosts, p, agents, i);
         return Admission::Refused {
             number: number,
             row: i,
@@ -69,9 +77,10 @@ pub fn admit(s: &[u8], blanks: bool) -> Admission
             row: 0,
         };
     }
+    let hosts = bytes::has_hosts(s);
     let agents = bytes::agents_at(s);
     let count = bytes::rows_at(s);
     let p = scopes::read_places(s);
     let mode = scopes::read_mode(s, false);
-    admit_rows(bytes::row_bytes(s), p, mode, agents, count, blanks)
+    admit_rows(bytes::row_bytes(s), hosts, p, mode, agents, count, blanks)
 }

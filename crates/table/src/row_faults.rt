@@ -1,11 +1,12 @@
-// Refusals 5 to 7: a row by itself.
+// Refusals 5 to 7, 19 and 20: a row by itself.
 ghost use mathlib.Core.Path.{_≡_};
 ghost use Rattle.finite.specs.Below.{least};
 ghost use Rattle.model.specs.Refusal.{codesFit, plainFits, atomicFits, barrierFits, semanticsFit, kindFits, atomicExtentFits, extentFits};
-ghost use Rattle.model.specs.Refusal.{rowFault, faulty};
+ghost use Rattle.model.specs.Refusal.{agentFits, operationFits, formFault, rowFault, faulty};
 ghost use Rattle.table.specs.Rows.{rowFaultIn};
 use crate::choose;
 use crate::pick;
+use model::Places;
 use model::Row;
 use model::Source;
 use rows::bytes;
@@ -18,17 +19,42 @@ pub const FLAGS: u8 = 7;
 
 pub const CLASS: u8 = 3;
 
-// 5: each code is in range; a control barrier has a scope in the place of its class.
-pub fn codes_fit(agents: u8, r: Row) -> bool
-    ensures { λ b. ⌜ b ≡ codesFit agents r ⌝ }
+// 5: each code is in range; `hosts` says whether there are kinds of queue agents. A control barrier has a scope in the place of its class.
+pub fn codes_fit(hosts: bool, agents: u8, r: Row) -> bool
+    ensures { λ b. ⌜ b ≡ codesFit hosts agents r ⌝ }
 {
-    (r.kind <= kinds::CONTROL)
+    ((r.kind <= kinds::CONTROL) | hosts & kinds::is_operation(r))
         & (r.agent < agents)
         & (r.order <= kinds::BOTH)
         & (r.scope <= scopes::DEVICE)
         & (r.classes <= CLASSES)
         & (r.flags <= FLAGS)
         & (r.class <= pick(kinds::is_control(r), scopes::DEVICE, CLASS))
+}
+
+// 19: a host agent has plain rows, a queue agent operations, a shader agent the rest.
+pub fn agent_fits(kind: u16, r: Row) -> bool
+    ensures { λ b. ⌜ b ≡ agentFits kind r ⌝ }
+{
+    let operation = kinds::is_operation(r);
+    let other = choose(kind == scopes::QUEUE, operation, !operation);
+    choose(kind == scopes::HOST, kinds::is_plain(r), other)
+}
+
+// 20: an operation has zeros in bytes 2 to 11 and as its rank, and no source.
+pub fn operation_fits(r: Row, source: Source) -> bool
+    ensures { λ b. ⌜ b ≡ operationFits r (source .0) ⌝ }
+{
+    (r.order == 0)
+        & (r.scope == 0)
+        & (r.classes == 0)
+        & (r.flags == 0)
+        & (r.class == 0)
+        & (r.size == 0)
+        & (r.start == 0)
+        & (r.reference == 0)
+        & (r.rank == 0)
+        & source.is_initial()
 }
 
 // 6, of a plain row.
@@ -117,30 +143,40 @@ pub fn extent_fits(r: Row) -> bool
         & (!kinds::is_atomic(r) | atomic_extent_fits(r))
 }
 
-// Refusals 5 to 7 of a row, or 0.
+// 20 of an operation, 6 and 7 of any other row, or 0.
+pub fn form_fault(r: Row, source: Source) -> u8
+    ensures { λ n. ⌜ n ≡ formFault r (source .0) ⌝ }
+{
+    let operation = pick(operation_fits(r, source), 0, 20);
+    let other = pick(kind_fits(r, source), pick(extent_fits(r), 0, 7), 6);
+    pick(kinds::is_operation(r), operation, other)
+}
+
+// Refusals 5, 19, 6 or 20, 7 of a row, or 0.
 // Ruled out: a barrier of class 4 gets 6, though 5 comes first; an access passes that goes on past the last byte, or an
 // atomic of 8 bytes that starts at a multiple of 4.
-pub fn row_fault(agents: u8, r: Row, source: Source) -> u8
-    ensures { λ n. ⌜ n ≡ rowFault agents r (source .0) ⌝ }
+pub fn row_fault(hosts: bool, p: Places, agents: u8, r: Row, source: Source) -> u8
+    ensures { λ n. ⌜ n ≡ rowFault hosts p agents r (source .0) ⌝ }
 {
-    let fault = pick(kind_fits(r, source), pick(extent_fits(r), 0, 7), 6);
-    pick(codes_fit(agents, r), fault, 5)
+    let fits = agent_fits(scopes::agent_kind(p, r.agent), r);
+    let fault = pick(fits, form_fault(r, source), 19);
+    pick(codes_fit(hosts, agents, r), fault, 5)
 }
 
-pub fn row_fault_at(rows: &[u8], agents: u8, i: u16) -> u8
-    ensures { λ n. ⌜ n ≡ rowFaultIn agents (now (rows .entry)) i ⌝ }
+pub fn row_fault_at(rows: &[u8], hosts: bool, p: Places, agents: u8, i: u16) -> u8
+    ensures { λ n. ⌜ n ≡ rowFaultIn hosts p agents (now (rows .entry)) i ⌝ }
 {
     let r = bytes::read_row(rows, i);
-    row_fault(agents, r, bytes::read_source(rows, i))
+    row_fault(hosts, p, agents, r, bytes::read_source(rows, i))
 }
 
-// The first of n rows that has a refusal 5 to 7; n where none has.
+// The first of n rows that has a refusal of its own; n where none has.
 // Ruled out: a later faulty row than the first; a fault in bytes past the n rows.
-pub fn first_row_fault(rows: &[u8], agents: u8, n: u16) -> u16
-    ensures { λ i. ⌜ i ≡ least n (faulty (rowFaultIn agents (now (rows .entry)))) ⌝ }
+pub fn first_row_fault(rows: &[u8], hosts: bool, p: Places, agents: u8, n: u16) -> u16
+    ensures { λ i. ⌜ i ≡ least n (faulty (rowFaultIn hosts p agents (now (rows .entry)))) ⌝ }
 {
     for i in 0..n {
-        if row_fault_at(rows, agents, i) != 0 {
+        if row_fault_at(rows, hosts, p, agents, i) != 0 {
             return i;
         }
     }

@@ -6,6 +6,7 @@ use Rattle.table.proofs.admit.Tie as tie
 use Rattle.table.proofs.admit.Reads as reads
 use Rattle.table.proofs.admit.Lts as lts
 use Rattle.rows.proofs.bytes.agents_at.Reads as agents-at-reads
+use Rattle.rows.proofs.bytes.has_hosts.Reads as has-hosts-reads
 use Rattle.rows.proofs.bytes.row_bytes.Reads as row-bytes-reads
 use Rattle.rows.proofs.bytes.rows_at.Reads as rows-at-reads
 use Rattle.rows.proofs.scopes.read_mode.Reads as read-mode-reads
@@ -20,6 +21,10 @@ header-fault-requires c κs = search needs
 -- src/lib.rt:58:9
 returns : tie.Need-returns
 returns c = sym (header-refused _ _ _ (c .before .header-fault .ensures) (c .if1 .taken))
+
+-- src/lib.rt:60:9
+has-hosts-requires : tie.Need-has-hosts-requires
+has-hosts-requires c κs = search needs
 
 -- src/lib.rt:60:9
 agents-at-requires : tie.Need-agents-at-requires
@@ -49,9 +54,10 @@ admit-rows-requires c κs = search needs
 returns-2 : tie.Need-returns-2
 returns-2 c =
     let at-counts = c .before .before .before .before in
-    let at-header = at-counts .before .before in
+    let at-header = at-counts .before .before .before in
     rw (
       header-passed _ _ _ (at-header .before .header-fault .ensures) (at-header .if1 .left),
+      ← at-counts .before .before .has-hosts .ensures,
       ← at-counts .before .agents-at .ensures,
       ← at-counts .rows-at .ensures,
       ← c .before .before .before .read-places .ensures,
@@ -66,6 +72,7 @@ admit-spec =
     (tie.spec
     header-fault-requires
     returns
+    has-hosts-requires
     agents-at-requires
     rows-at-requires
     read-places-requires

@@ -20,7 +20,7 @@ row-fault-at-requires c κs = search needs
 
 -- src/lib.rt:42:9
 returns : tie.Need-returns
-returns c = sym (rows-early _ _ _ _ _ _ _ (c .before .before .first-row-fault .ensures) _ (c .before .if1 .taken) (c .row-fault-at .ensures))
+returns c = sym (rows-early _ _ _ _ _ _ _ _ (c .before .before .first-row-fault .ensures) _ (c .before .if1 .taken) (c .row-fault-at .ensures))
 
 -- src/lib.rt:44:9
 first-table-fault-requires : tie.Need-first-table-fault-requires
@@ -34,13 +34,13 @@ table-fault-requires c κs = search needs
 returns-2 : tie.Need-returns-2
 returns-2 c =
     let early = c .before .before .before in
-    sym (rows-late _ _ _ _ _ _ _ (early .before .first-row-fault .ensures) _ (early .if1 .left) (c .before .before .first-table-fault .ensures) _ (c .before .if2 .taken) (c .table-fault .ensures))
+    sym (rows-late _ _ _ _ _ _ _ _ (early .before .first-row-fault .ensures) _ (early .if1 .left) (c .before .before .first-table-fault .ensures) _ (c .before .if2 .taken) (c .table-fault .ensures))
 
 -- src/lib.rt:35:1
 returns-3 : tie.Need-returns-3
 returns-3 c =
     let early = c .before .before in
-    sym (rows-pass _ _ _ _ _ _ _ (early .before .first-row-fault .ensures) _ (early .if1 .left) (c .before .first-table-fault .ensures) (c .if2 .left))
+    sym (rows-pass _ _ _ _ _ _ _ _ (early .before .first-row-fault .ensures) _ (early .if1 .left) (c .before .first-table-fault .ensures) (c .if2 .left))
 
 pub admit-rows-spec : {M : Type 1} → statement M
 admit-rows-spec =

@@ -13,10 +13,10 @@ use Rattle.table.proofs.row_faults.first_row_fault.Lts as lts
 use Rattle.table.proofs.row_faults.row_fault_at.Reads as row-fault-at-reads
 
 abbrev Inv-loop : tie.InvT-loop
-Inv-loop rows agents n i₀ i = (i ≤ n) × (least i (faulty (rowFaultIn agents rows)) ≡ i)
+Inv-loop rows hosts p agents n i₀ i = (i ≤ n) × (least i (faulty (rowFaultIn hosts p agents rows)) ≡ i)
 
 abbrev μ-loop : tie.MeasureT-loop
-μ-loop rows agents n i₀ i = n - i
+μ-loop rows hosts p agents n i₀ i = n - i
 
 -- src/row_faults.rt:144:5
 loop-holds : tie.Need-loop-holds Inv-loop μ-loop

@@ -119,6 +119,10 @@ REACH-IN = REACH-OUT-END
 abbrev pub REACH-IN-END : ℕ
 REACH-IN-END = REACH-IN + ROWS-GRID
 
+-- where all that location order is made in ends
+abbrev pub LOCATED-END : ℕ
+LOCATED-END = REACHED-END
+
 -- edges
 abbrev pub EDGE : ℕ
 EDGE = LOCATION-END

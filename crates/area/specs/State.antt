@@ -9,7 +9,7 @@ use Rattle.model.specs.Table.{Table}
 use Rattle.model.specs.Scope.{mutually}
 use Rattle.model.specs.Happens.{happens}
 use Rattle.model.specs.Edge.{beforeNth}
-use Rattle.area.specs.Regions.{MUTUAL, HAPPENS, HAPPENS-END, STEP-END, LOCATION, LOCATION-END, GRID, MOMENTS, PAIR, PAIRS}
+use Rattle.area.specs.Regions.{MUTUAL, HAPPENS, HAPPENS-END, STEP-END, LOCATION, LOCATION-END, LOCATED-END, GRID, MOMENTS, PAIR, PAIRS}
 
 -- ---- definitions
 
@@ -30,7 +30,7 @@ pub record MadeOrdered (t : Table) (n : ℕ) (w u : List ℕ) : Type 0 where
 
 pub record MadeLocated (t : Table) (n : ℕ) (w u : List ℕ) : Type 0 where
   pub located : Located t n u
-  pub frame : Within LOCATION LOCATION-END w u
+  pub frame : Within LOCATION LOCATED-END w u
 
 -- ---- laws: a change in later words keeps each
 

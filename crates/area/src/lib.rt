@@ -69,6 +69,9 @@ pub const REACH_IN: usize = REACH_OUT_END;
 
 pub const REACH_IN_END: usize = REACH_IN + ROWS_GRID;
 
+// Where all that location order is made in ends.
+pub const LOCATED_END: usize = REACHED_END;
+
 pub const EDGE: usize = LOCATION_END;
 
 pub const EDGE_END: usize = EDGE + ROWS_GRID;

@@ -24,7 +24,7 @@ use Rattle.model.specs.Check.{wiped}
 use Rattle.model.specs.Fill.{Outcome, refused, race, none, filled, blank, chosen, sourcesFit, filledOr, racingOr, outcome, admittedFill, fill, fillAnswer, sourcesAfter, workAfter}
 use Rattle.model.specs.AdmissionLaws.{Sound, sound-admitted, admitted-sound}
 use Rattle.model.specs.SourceLaws.{filled-same}
-use Rattle.area.specs.Regions.{MUTUAL, LOCATION-END, EDGE, LAYERS-END}
+use Rattle.area.specs.Regions.{MUTUAL, LOCATED-END, EDGE, LAYERS-END}
 use Rattle.axioms.specs.Sources.{sourceIn}
 use Rattle.choice.specs.Sources.{Listed}
 use Rattle.verdict.specs.Whole.{table-is, wiped-after}
@@ -54,7 +54,7 @@ module _ {s : List ℕ} (h : Sound true s) (b : List ℕ) (p : List (List ℕ)) 
       ∙ ap (λ (t : Table). outcome t (sourceOf (rowBytes s))) (table-is h b p _ n rows places modes all)
 
   -- located, settled, wiped
-  pub table-filled : (r : FillAnswer) (w v u z c d : List ℕ) → WORK ≤ length w → Within MUTUAL LOCATION-END w v
+  pub table-filled : (r : FillAnswer) (w v u z c d : List ℕ) → WORK ≤ length w → Within MUTUAL LOCATED-END w v
       → (r ≡ fillAnswer (outcome (decode b p mode n) (sourceIn src))) × (d ≡ sourcesAfter (outcome (decode b p mode n) (sourceIn src)) c) × Within EDGE LAYERS-END v u
       → z ≡ zeros u 0 WORK
       → (r ≡ fillAnswer (outcome (tableOf s) (sourcesOf s))) × (z ≡ wiped w) × (d ≡ sourcesAfter (outcome (tableOf s) (sourcesOf s)) c)

@@ -133,9 +133,9 @@ module _ (t : Table) (x y b c : ℕ) where
       ⊎-elim
       (λ h. domain-shown (v .0) (v .1) r h (any-in (visibleBy t y b (v .0)) (t .rows) (v .0) (v .1) (and-true (f .0) (or-left _ (eq-eqb (v .0) (v .0) refl)))))
       (λ h.
-        let w = any-out (startsWith t x y c (v .0)) (t .rows) (split h .1) in
-        let g = split (w .2) in
-        domain-shown (w .0) (w .1) r (g .1) (any-in (visibleBy t y b (w .0)) (t .rows) (v .0) (v .1) (and-true (f .0) (or-right (eqb (w .0) (v .0)) (and-true (split h .0) (g .0))))))
+      let w = any-out (startsWith t x y c (v .0)) (t .rows) (split h .1) in
+      let g = split (w .2) in
+      domain-shown (w .0) (w .1) r (g .1) (any-in (visibleBy t y b (w .0)) (t .rows) (v .0) (v .1) (and-true (f .0) (or-right (eqb (w .0) (v .0)) (and-true (split h .0) (g .0))))))
       (or-cases (seen t x y c (v .0)) (t .chains and anyBelow (t .rows) (startsWith t x y c (v .0))) (f .1))
 
   seen-of : (k w : ℕ) → k < DEVICE → shares (t .places) (suc k) (t .row x .agent) (t .row y .agent) ≡ true → inDomain t (suc k) x c ≡ true
@@ -202,13 +202,13 @@ module _ (t : Table) (x y b : ℕ) where
       let f = split (a .2) in
       ⊎-elim
       (λ h.
-        any-in (carried t x y b) (t .rows) (a .0) (a .1)
-        (and-true (any-in (availableBy t x b (a .0)) (t .rows) (a .0) (a .1) (and-true (f .0) (or-left _ (eq-eqb (a .0) (a .0) refl)))) (sym (ends-is t x y b (a .0)) ∙ h)))
+      any-in (carried t x y b) (t .rows) (a .0) (a .1)
+      (and-true (any-in (availableBy t x b (a .0)) (t .rows) (a .0) (a .1) (and-true (f .0) (or-left _ (eq-eqb (a .0) (a .0) refl)))) (sym (ends-is t x y b (a .0)) ∙ h)))
       (λ h.
-        let c = any-out (endsWith t x y b (a .0)) (t .rows) (split h .1) in
-        let g = split (c .2) in
-        any-in (carried t x y b) (t .rows) (c .0) (c .1)
-        (and-true (any-in (availableBy t x b (c .0)) (t .rows) (a .0) (a .1) (and-true (f .0) (or-right (eqb (a .0) (c .0)) (and-true (split h .0) (g .0))))) (sym (ends-is t x y b (c .0)) ∙ g .1)))
+      let c = any-out (endsWith t x y b (a .0)) (t .rows) (split h .1) in
+      let g = split (c .2) in
+      any-in (carried t x y b) (t .rows) (c .0) (c .1)
+      (and-true (any-in (availableBy t x b (c .0)) (t .rows) (a .0) (a .1) (and-true (f .0) (or-right (eqb (a .0) (c .0)) (and-true (split h .0) (g .0))))) (sym (ends-is t x y b (c .0)) ∙ g .1)))
       (or-cases (endsAt t x y b (a .0)) (t .chains and anyBelow (t .rows) (endsWith t x y b (a .0))) (f .1))
 
   firsts-back : anyBelow (t .rows) (carried t x y b) ≡ true → anyBelow (t .rows) (carriedBy t x y b) ≡ true

@@ -1,24 +1,25 @@
 -- Location order of a pair of rows, over the rows; the pairs that no byte need be asked of. Assumes nothing.
-use mathlib.Core.Path.{_≡_, refl}
+use mathlib.Core.Path.{_≡_, refl, sym, _∙_}
 use mathlib.Core.Bool.{Bool, true, false, not}
 use mathlib.Core.List.{List}
 use Prim.Native.Nat.{ℕ, zero, suc, _+_, _*_, _≤_}
 use native.Mathlib.Omega.{arith}
 use lib.Dec.{ltb, eqb}
 use borrow.Author.Tests.{lt-ltb}
-use Rattle.finite.specs.Logic.{_and_, _or_, split, and-true, not-both, not-so, and-false-left}
+use Rattle.finite.specs.Logic.{_and_, _or_, split, and-true, not-both, not-so, and-false-left, or-left, or-assoc}
 use Rattle.bits.specs.Bit.{setBitIf}
-use Rattle.bits.specs.Within.{Within}
-use Rattle.bits.specs.Fill.{rowFill, within-rowFill, gridFill, within-gridFill}
+use Rattle.bits.specs.Within.{Within, within-trans, within-widen}
+use Rattle.bits.specs.Fill.{or-fresh, rowFill, within-rowFill, gridFill, within-gridFill}
+use Rattle.bits.specs.Stage.{Holds, Made, holds-kept}
 use Rattle.bits.specs.Cube.{MadeCube}
 use Rattle.model.specs.declared.Row.{Row}
 use Rattle.model.specs.Row.{touches}
 use Rattle.model.specs.Table.{Table}
 use Rattle.model.specs.Moment.{itself, sameAgent}
 use Rattle.model.specs.Happens.{happens}
-use Rattle.model.specs.Location.{sameReference, pureRead, common, L1, L2, L3, before}
+use Rattle.model.specs.Location.{sameReference, pureRead, common, L1, L2, L3, L4, L5, before}
 use Rattle.model.specs.Edge.{beforeNth}
-use Rattle.area.specs.Regions.{LOCATION, LOCATION-END, PAIR, PAIRS}
+use Rattle.area.specs.Regions.{LOCATION, LOCATION-END, HOSTED, REACHED-END, LOCATED-END, GRID, PAIR, PAIRS}
 use Rattle.area.specs.State.{Ordered, ordered-kept, MadeLocated}
 use Rattle.location.specs.Shared.{inside-out}
 
@@ -27,6 +28,15 @@ use Rattle.location.specs.Shared.{inside-out}
 -- different rows, each of which starts before the other ends
 unfoldable pub mayShare : ℕ → ℕ → Row → Row → Bool
 mayShare x y r q = not (eqb x y) and ltb (r .start) (q .start + q .size) and ltb (q .start) (r .start + r .size)
+
+-- what L4 and L5 tell of a pair, whatever the byte; pairs that share none are not asked
+unfoldable pub hosted : Table → ℕ → ℕ → Bool
+hosted t x y = mayShare x y (t .row x) (t .row y) and (L4 t x y or L5 t x y)
+
+-- what the bits of a pair are made from
+pub record Prepared (t : Table) (n : ℕ) (w : List ℕ) : Type 0 where
+  pub ordered : Ordered t n w
+  pub hosting : Holds HOSTED GRID n (hosted t) w
 
 -- ---- laws: pairs that no byte need be asked of
 
@@ -43,22 +53,48 @@ share-common x y r q b e =
     let o = k .1 in
     and-true (and-true (f .0) (lt-ltb (r .start) (q .start + q .size) (omega arith))) (lt-ltb (q .start) (r .start + r .size) (omega arith))
 
+-- the last two of three exchanged
+or-last : (a b c : Bool) → (a or b or c) ≡ (a or c or b)
+unfolding _or_
+or-last true b c = refl
+or-last false true true = refl
+or-last false true false = refl
+or-last false false true = refl
+or-last false false false = refl
+
 module _ (t : Table) (x y : ℕ) (r q : Row) (er : r ≡ t .row x) (eq : q ≡ t .row y) where
   pub before-off : (k : ℕ) → (not (eqb x y) and common r q (r .start + k)) ≡ false → beforeNth t x y k ≡ false
   unfolding beforeNth before
   before-off k e = rw (← er, ← eq) (and-false-left _ _ e)
 
-  -- a, c and d are what L1, L2 and L3 tell
-  module _ (k : ℕ) (h a c : Bool) (apart : (not (eqb x y) and common r q (r .start + k)) ≡ true) (happening : h ≡ happens t (itself x) (itself y)) where
-    pub before-first : a ≡ (eqb (r .agent) (q .agent) and sameReference r q and h) → c ≡ (pureRead r q and h) → (a or c) ≡ true
-        → true ≡ beforeNth t x y k
-    unfolding beforeNth before L1 L2 sameAgent _and_ _or_
-    before-first f g o = let i = rw (f, g, happening) at o in rw (← er, ← eq, apart, i) refl
+  -- rows that share a byte are asked of L4 and L5
+  hosted-is : (k : ℕ) → (not (eqb x y) and common r q (r .start + k)) ≡ true → hosted t x y ≡ (L4 t x y or L5 t x y)
+  unfolding hosted _and_
+  hosted-is k e = rw (← er, ← eq, share-common x y r q (r .start + k) e) refl
 
-    pub before-third : (d : Bool) → a ≡ (eqb (r .agent) (q .agent) and sameReference r q and h) → c ≡ (pureRead r q and h) → (a or c) ≡ false
+  -- a, c, g and d are what L1, L2, L4 with L5, and L3 tell
+  module _ (k : ℕ) (h a c g : Bool) (apart : (not (eqb x y) and common r q (r .start + k)) ≡ true) (happening : h ≡ happens t (itself x) (itself y)) (hosting : g ≡ hosted t x y) where
+    first-is : a ≡ (eqb (r .agent) (q .agent) and sameReference r q and h) → a ≡ L1 t x y
+    unfolding L1 sameAgent
+    first-is f = rw (← er, ← eq, ← happening) f
+
+    second-is : c ≡ (pureRead r q and h) → c ≡ L2 t x y
+    unfolding L2
+    second-is f = rw (← er, ← eq, ← happening) f
+
+    told : (d : Bool) → a ≡ (eqb (r .agent) (q .agent) and sameReference r q and h) → c ≡ (pureRead r q and h) → d ≡ L3 t x y (r .start + k)
+        → (a or c or g or d) ≡ beforeNth t x y k
+    unfolding beforeNth before _and_
+    told d e f l =
+        rw (← er, ← eq, apart, ← first-is e, ← second-is f, ← l, or-assoc (a or c or d) (L4 t x y) (L5 t x y), ← hosted-is k apart, ← hosting) (or-last (a or c) g d)
+
+    pub before-first : a ≡ (eqb (r .agent) (q .agent) and sameReference r q and h) → c ≡ (pureRead r q and h) → (a or c or g) ≡ true
+        → true ≡ beforeNth t x y k
+    before-first e f o = sym (or-left _ o) ∙ told (L3 t x y (r .start + k)) e f refl
+
+    pub before-third : (d : Bool) → a ≡ (eqb (r .agent) (q .agent) and sameReference r q and h) → c ≡ (pureRead r q and h) → (a or c or g) ≡ false
         → d ≡ L3 t x y (r .start + k) → d ≡ beforeNth t x y k
-    unfolding beforeNth before L1 L2 sameAgent _and_ _or_
-    before-third d f g o l = let i = rw (f, g, happening) at o in rw (← er, ← eq, apart, i) l
+    before-third d e f o l = sym (or-fresh (a or c or g) d o) ∙ told d e f l
 
   pub pair-off : mayShare x y r q ≡ false → (k : ℕ) → beforeNth t x y k ≡ false
   pair-off e k = before-off k (not-so _ (λ c. not-both (share-common x y r q (r .start + k) c) e))
@@ -76,8 +112,18 @@ within-row {w} c d p at n l h e = rw e (within-rowFill c d p w at n l h)
 pub within-grid : {w u : List ℕ} (c d : ℕ) (p : ℕ → ℕ → Bool) (at m n : ℕ) → 64 * c ≤ at → at + n * m ≤ 64 * d → u ≡ gridFill p w at m m n → Within c d w u
 within-grid {w} c d p at m n l h e = rw e (within-gridFill c d p w at m m n (omega arith) l h)
 
--- the cube was made, and what lies before it is kept
-pub made-located : {t : Table} {n : ℕ} {w u : List ℕ} → Ordered t n w → MadeCube LOCATION LOCATION-END LOCATION PAIRS PAIR n (beforeNth t) w u
-    → MadeLocated t n w u
-made-located o m =
-    record { located = record { mutuals = ordered-kept (omega arith) (m .frame) o .mutuals; location = m .cube }; frame = m .frame }
+-- a change in the bits of pairs keeps what they are made from
+pub prepared-kept : {t : Table} {n : ℕ} {w u : List ℕ} → Within LOCATION LOCATION-END w u → Prepared t n w → Prepared t n u
+prepared-kept f o = record { ordered = ordered-kept (omega arith) f (o .ordered); hosting = holds-kept (λ h. omega arith) f (o .hosting) }
+
+-- L4 and L5 were told, then the cube was made; what lies before is kept
+pub made-prepared : {t : Table} {n : ℕ} {w u : List ℕ} → Ordered t n w → Made HOSTED REACHED-END HOSTED GRID n (hosted t) w u → Prepared t n u
+made-prepared o m = record { ordered = ordered-kept (omega arith) (m .frame) o; hosting = m .holds }
+
+pub made-located : {t : Table} {n : ℕ} {w v u : List ℕ} → Ordered t n w → Made HOSTED REACHED-END HOSTED GRID n (hosted t) w v
+    → MadeCube LOCATION LOCATION-END LOCATION PAIRS PAIR n (beforeNth t) v u → MadeLocated t n w u
+made-located o h m =
+    record {
+      located = record { mutuals = ordered-kept (omega arith) (m .frame) (made-prepared o h .ordered) .mutuals; location = m .cube };
+      frame = within-trans (within-widen LOCATION LOCATED-END (omega arith) (omega arith) (h .frame)) (within-widen LOCATION LOCATED-END (omega arith) (omega arith) (m .frame));
+    }

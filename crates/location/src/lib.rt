@@ -8,6 +8,7 @@ ghost use Rattle.model.specs.Table.{rowOf, decode};
 ghost use Rattle.model.specs.Edge.{beforeNth};
 ghost use Rattle.area.specs.Regions.{LOCATION, PAIR, PAIRS};
 ghost use Rattle.area.specs.State.{Ordered, MadeLocated};
+ghost use Rattle.location.specs.Order.{Prepared};
 use model::Mode;
 use model::Places;
 use model::Row;
@@ -15,8 +16,10 @@ use model::Row;
 pub mod shared; // the bytes that two accesses share
 pub mod pairs; // the tests on two rows that location order is made of
 pub mod chains; // L3's chains
+pub mod domains; // L5's operations
+pub mod hosted; // L4 and L5
 
-// Whether x is location-ordered before y at x's k-th byte: L1, L2 or L3. The rows r and q are x's and y's.
+// Whether x is location-ordered before y at x's k-th byte: L1 to L5. The rows r and q are x's and y's.
 pub fn before_at(
     rows: &[u8],
     p: Places,
@@ -30,7 +33,7 @@ pub fn before_at(
     w: &[u64],
 ) -> bool
     requires { ⌜ (n ≤ ROWS) × (WORK ≤ length (now w)) × (x < n) × (y < n) × (k < PAIR)
-        × (r ≡ rowOf (now rows) x) × (q ≡ rowOf (now rows) y) × Ordered (decode (now rows) p mode n) n (now w) ⌝ }
+        × (r ≡ rowOf (now rows) x) × (q ≡ rowOf (now rows) y) × Prepared (decode (now rows) p mode n) n (now w) ⌝ }
     ensures { λ d. ⌜ d ≡ beforeNth (decode (now (rows .entry)) p mode n) x y k ⌝ }
 {
     let start = r.start as u32;
@@ -39,7 +42,8 @@ pub fn before_at(
         return false;
     }
     let h = pairs::happens_bit(w, 3 * x + 1, 3 * y + 1);
-    if pairs::l1(r, q, h) | pairs::l2(r, q, h) {
+    let g = domains::grid_bit(w, area::HOSTED, x, y);
+    if pairs::l1(r, q, h) | pairs::l2(r, q, h) | g {
         return true;
     }
     chains::l3(rows, p, mode, n, x, y, r, q, b, w)
@@ -47,7 +51,7 @@ pub fn before_at(
 
 // The bits of a pair. Rows that share no byte cost one test, and no bit is set.
 fn fill_pair(rows: &[u8], p: Places, mode: Mode, n: usize, x: usize, y: usize, w: &mut [u64])
-    requires { ⌜ (n ≤ ROWS) × (WORK ≤ length (now w)) × (x < n) × (y < n) × Ordered (decode (now rows) p mode n) n (now w) ⌝ }
+    requires { ⌜ (n ≤ ROWS) × (WORK ≤ length (now w)) × (x < n) × (y < n) × Prepared (decode (now rows) p mode n) n (now w) ⌝ }
     ensures { λ _. ⌜ now (w .exit) ≡ rowFill (beforeNth (decode (now (rows .entry)) p mode n) x y) (now (w .entry)) (LOCATION * 64 + x * PAIRS + y * PAIR) PAIR ⌝ }
 {
     let r = rows::bytes::read_row(rows, x as u16);
@@ -67,7 +71,7 @@ fn fill_pair(rows: &[u8], p: Places, mode: Mode, n: usize, x: usize, y: usize, w
 
 // The bits of row x's pairs.
 fn fill_row(rows: &[u8], p: Places, mode: Mode, n: usize, x: usize, w: &mut [u64])
-    requires { ⌜ (n ≤ ROWS) × (WORK ≤ length (now w)) × (x < n) × Ordered (decode (now rows) p mode n) n (now w) ⌝ }
+    requires { ⌜ (n ≤ ROWS) × (WORK ≤ length (now w)) × (x < n) × Prepared (decode (now rows) p mode n) n (now w) ⌝ }
     ensures { λ _. ⌜ now (w .exit) ≡ gridFill (beforeNth (decode (now (rows .entry)) p mode n) x) (now (w .entry)) (LOCATION * 64 + x * PAIRS) PAIR PAIR n ⌝ }
 {
     for y in 0..n {
@@ -81,6 +85,7 @@ pub fn fill_location(rows: &[u8], p: Places, mode: Mode, n: usize, w: &mut [u64]
     requires { ⌜ (n ≤ ROWS) × (WORK ≤ length (now w)) × Ordered (decode (now rows) p mode n) n (now w) ⌝ }
     ensures { λ _. ⌜ MadeLocated (decode (now (rows .entry)) p mode n) n (now (w .entry)) (now (w .exit)) ⌝ }
 {
+    hosted::make_hosted(rows, p, mode, n, w);
     bits::clear(w, area::LOCATION, area::LOCATION_END);
     for x in 0..n {
         fill_row(rows, p, mode, n, x, w);

@@ -1,4 +1,4 @@
--- The direct cases of M6 on rows that are decoded already, and that they are the table's. Assumes nothing.
+-- The three direct cases of M6 that go by rows, on rows that are decoded already, and that they are the table's. Assumes nothing.
 use mathlib.Core.Path.{_≡_, refl, sym, _∙_}
 use mathlib.Core.Bool.{Bool, true, false, not}
 use mathlib.Core.Logic.{_⊎_, inl, inr}
@@ -8,8 +8,8 @@ use native.Mathlib.Omega.{arith}
 use Rattle.bits.specs.Matrix.{rel}
 use Rattle.area.specs.Regions.{SYNC, GRID}
 use Rattle.sequence.specs.Known.{Synced}
-use borrow.Author.Tests.{eqb-true}
-use Rattle.finite.specs.Logic.{_and_, _or_, split, and-false-right, not-out, or-cases, or-none, or-false}
+use borrow.Author.Tests.{eqb-true, eq-eqb, ne-eqb}
+use Rattle.finite.specs.Logic.{_and_, _or_, split, and-false-right, not-out, or-cases, or-left, or-none, or-false}
 use Rattle.finite.specs.Below.{anyBelow}
 use Rattle.model.specs.declared.Mode.{Mode}
 use Rattle.model.specs.declared.Row.{Row}
@@ -17,11 +17,12 @@ use Rattle.model.specs.Row.{holds, releases, acquires}
 use Rattle.model.specs.Table.{decode, rowOf}
 use Rattle.model.specs.Moment.{AT, rowIn, part, programOrder}
 use Rattle.model.specs.Synchronizes.{synchronizes}
-use Rattle.model.specs.Happens.{holdingOf, concernsOf, holding, concerns, bySync, toRelease, fromAcquire, step, holdsAll, live}
+use Rattle.model.specs.Happens.{holdingOf, concernsOf, holding, concerns, bySync, toRelease, fromAcquire, holdsAll, live}
+use Rattle.model.specs.HostLaws.{step₁}
 
 -- ---- definitions
 
--- M6: a direct case from the moment `from` of r to the moment `to` of q; b says that r synchronizes-with q, o that the one moment is
+-- M6: one of these from the moment `from` of r to the moment `to` of q; b says that r synchronizes-with q, o that the one moment is
 -- program-ordered before the other
 unfoldable pub stepRows : ℕ → ℕ → ℕ → Row → Row → Bool → Bool → Bool
 stepRows s from to r q b o =
@@ -35,7 +36,7 @@ holdsAt b s i = holds (rowOf b i .classes) s
 
 -- ---- laws: of two rows
 
--- neither moment holds all of s: no direct case
+-- neither moment holds all of s: none of them
 pub step-off : (s from to : ℕ) (r q : Row) (b o h g : Bool) → h ≡ holdingOf s r from → g ≡ holdingOf s q to → not (h or g) ≡ true
     → false ≡ stepRows s from to r q b o
 unfolding stepRows _and_ _or_
@@ -43,7 +44,7 @@ step-off s from to r q b o h g x y f =
     let z = or-false h g (not-out (h or g) f) in
     rw (sym x ∙ z .0, sym y ∙ z .1) refl
 
--- neither synchronizes-with nor program order: no direct case
+-- neither synchronizes-with nor program order: none of them
 pub step-apart : (s from to : ℕ) (r q : Row) (b o v : Bool) → o ≡ v → not (b or o) ≡ true → false ≡ stepRows s from to r q b v
 unfolding stepRows
 step-apart s from to r q b o v e f =
@@ -58,14 +59,14 @@ step-told s from to r q x y b o v d f e g h = rw (← e, ← g, ← h) f
 
 module _ (b : List ℕ) (p : List (List ℕ)) (mode : Mode) (n : ℕ) where
   pub step-is : (s m k : ℕ)
-      → step (decode b p mode n) s m k
+      → step₁ (decode b p mode n) s m k
       ≡ stepRows s (part m) (part k) (rowOf b (rowIn m)) (rowOf b (rowIn k)) (synchronizes (decode b p mode n) (rowIn m) (rowIn k)) (programOrder (decode b p mode n) m k)
-  unfolding step bySync toRelease fromAcquire holding concerns stepRows decode
+  unfolding step₁ bySync toRelease fromAcquire holding concerns stepRows decode
   step-is s m k = refl
 
   -- the test on rows, with the bit of the work area
   pub step-read : (w : List ℕ) (s m k : ℕ) (v d : Bool) → Synced (decode b p mode n) n w → m < 3 * n → k < 3 * n → v ≡ rel w SYNC GRID (m / 3) (k / 3)
-      → d ≡ stepRows s (m % 3) (k % 3) (rowOf b (m / 3)) (rowOf b (k / 3)) v (programOrder (decode b p mode n) m k) → d ≡ step (decode b p mode n) s m k
+      → d ≡ stepRows s (m % 3) (k % 3) (rowOf b (m / 3)) (rowOf b (k / 3)) v (programOrder (decode b p mode n) m k) → d ≡ step₁ (decode b p mode n) s m k
   step-read w s m k v d h l o e f = rw (step-is s m k, ← (e ∙ h .syncs .cell (m / 3) (k / 3) (omega arith) (omega arith))) f
 
   -- a moment that holds all of s is the own moment of a row that does
@@ -73,10 +74,10 @@ module _ (b : List ℕ) (p : List (List ℕ)) (mode : Mode) (n : ℕ) where
   unfolding holding holdingOf holdsAt decode
   own s m h = (eqb-true _ _ (split (split h .0) .0), split h .1)
 
-  -- each direct case has such a moment at one end
-  pub step-ends : (s m k : ℕ) → step (decode b p mode n) s m k ≡ true
+  -- each of the three has such a moment at one end
+  pub step-ends : (s m k : ℕ) → step₁ (decode b p mode n) s m k ≡ true
       → ((m % 3 ≡ AT) × (holdsAt b s (m / 3) ≡ true)) ⊎ ((k % 3 ≡ AT) × (holdsAt b s (k / 3) ≡ true))
-  unfolding step bySync toRelease fromAcquire
+  unfolding step₁ bySync toRelease fromAcquire
   step-ends s m k h = go (or-cases _ _ h)
     where
       inner : (bySync (decode b p mode n) s m k ≡ true) ⊎ (toRelease (decode b p mode n) s m k ≡ true)
@@ -89,10 +90,14 @@ module _ (b : List ℕ) (p : List (List ℕ)) (mode : Mode) (n : ℕ) where
       go (inl e) = inner (or-cases _ _ e)
       go (inr e) = inl (own s m (split (split (split e .0) .0) .0))
 
-  -- places are not asked for
-  pub live-is : (s : ℕ) → live (decode b p mode n) s ≡ anyBelow n (holdsAt b s)
-  unfolding live holdsAll holdsAt decode
-  live-is s = refl
+  -- the first class set is asked always, another one if some row holds all of it; places are not asked for
+  pub live-first : (s : ℕ) → s ≡ 1 → live (decode b p mode n) s ≡ true
+  unfolding live
+  live-first s e = or-left _ (eq-eqb s 1 e)
+
+  pub live-other : (s : ℕ) → (s ≡ 1 → ⊥) → live (decode b p mode n) s ≡ anyBelow n (holdsAt b s)
+  unfolding live holdsAll holdsAt decode _or_
+  live-other s e = rw (ne-eqb s 1 e) refl
 
   pub order-is : (q : List (List ℕ)) (other : Mode) (m k : ℕ) → programOrder (decode b q other n) m k ≡ programOrder (decode b p mode n) m k
   unfolding programOrder decode

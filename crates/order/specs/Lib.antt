@@ -1,3 +1,4 @@
 pub mod Cases
 pub mod Sets
 pub mod Steps
+pub mod System

@@ -1,5 +1,5 @@
--- The direct cases of a class set, set bit by bit in a cleared region: those from and to each row that holds all of the set. That a
--- bit set is a direct case is said apart from which are set, so that a bit may be set twice. Assumes nothing.
+-- The three direct cases that go by rows, of a class set, set bit by bit in a cleared region: those from and to each row that holds
+-- all of the set. That a bit set is such a case is said apart from which are set, so that a bit may be set twice. Assumes nothing.
 use mathlib.Core.Path.{_≡_, refl, sym, _∙_}
 use mathlib.Core.Bool.{Bool, true, false}
 use mathlib.Core.Logic.{_⊎_, inl, inr}
@@ -17,38 +17,38 @@ use Rattle.model.specs.declared.Mode.{Mode}
 use Rattle.model.specs.Limits.{ROWS, WORK}
 use Rattle.model.specs.Table.{rowOf, decode}
 use Rattle.model.specs.Moment.{AT, programOrder}
-use Rattle.model.specs.Happens.{step}
+use Rattle.model.specs.HostLaws.{step₁}
 use Rattle.area.specs.Regions.{SYNC, STEP, STEP-END, GRID, MOMENTS}
 use Rattle.sequence.specs.Known.{Synced, synced-kept}
 use Rattle.order.specs.Cases.{stepRows, holdsAt, step-read, step-ends}
 
 -- ---- definitions
 
--- bits were added from w to u, direct cases for s alone, whatever the places are; no other word than the region's changed
+-- bits were added from w to u, such cases for s alone, whatever the places are; no other word than the region's changed
 pub record Grown (b : List ℕ) (n s : ℕ) (w u : List ℕ) : Type 0 where
   pub frame : Within STEP STEP-END w u
   pub kept : (i j : ℕ) → i < 3 * n → j < 3 * n → rel w STEP MOMENTS i j ≡ true → rel u STEP MOMENTS i j ≡ true
   pub sound : (p : List (List ℕ)) (mode : Mode) → Synced (decode b p mode n) n w → (i j : ℕ) → i < 3 * n → j < 3 * n → rel u STEP MOMENTS i j ≡ true
-      → (rel w STEP MOMENTS i j or step (decode b p mode n) s i j) ≡ true
+      → (rel w STEP MOMENTS i j or step₁ (decode b p mode n) s i j) ≡ true
 
 -- among them the one from m to k
 pub record CellMade (b : List ℕ) (n s m k : ℕ) (w u : List ℕ) : Type 0 where
   pub grown : Grown b n s w u
-  pub set : (p : List (List ℕ)) (mode : Mode) → Synced (decode b p mode n) n w → step (decode b p mode n) s m k ≡ true → rel u STEP MOMENTS m k ≡ true
+  pub set : (p : List (List ℕ)) (mode : Mode) → Synced (decode b p mode n) n w → step₁ (decode b p mode n) s m k ≡ true → rel u STEP MOMENTS m k ≡ true
 
 -- among them those from m to the first k moments and from these to m
 pub record RowMade (b : List ℕ) (n s m k : ℕ) (w u : List ℕ) : Type 0 where
   pub grown : Grown b n s w u
-  pub from : (p : List (List ℕ)) (mode : Mode) → Synced (decode b p mode n) n w → (j : ℕ) → j < k → step (decode b p mode n) s m j ≡ true → rel u STEP MOMENTS m j ≡ true
-  pub to : (p : List (List ℕ)) (mode : Mode) → Synced (decode b p mode n) n w → (j : ℕ) → j < k → step (decode b p mode n) s j m ≡ true → rel u STEP MOMENTS j m ≡ true
+  pub from : (p : List (List ℕ)) (mode : Mode) → Synced (decode b p mode n) n w → (j : ℕ) → j < k → step₁ (decode b p mode n) s m j ≡ true → rel u STEP MOMENTS m j ≡ true
+  pub to : (p : List (List ℕ)) (mode : Mode) → Synced (decode b p mode n) n w → (j : ℕ) → j < k → step₁ (decode b p mode n) s j m ≡ true → rel u STEP MOMENTS j m ≡ true
 
 -- among them those from and to the own moments of the first j rows that hold all of s
 pub record RowsMade (b : List ℕ) (n s j : ℕ) (w u : List ℕ) : Type 0 where
   pub grown : Grown b n s w u
   pub from : (p : List (List ℕ)) (mode : Mode) → Synced (decode b p mode n) n w → (i k : ℕ) → i < j → k < 3 * n → holdsAt b s i ≡ true
-      → step (decode b p mode n) s (3 * i + 1) k ≡ true → rel u STEP MOMENTS (3 * i + 1) k ≡ true
+      → step₁ (decode b p mode n) s (3 * i + 1) k ≡ true → rel u STEP MOMENTS (3 * i + 1) k ≡ true
   pub to : (p : List (List ℕ)) (mode : Mode) → Synced (decode b p mode n) n w → (i k : ℕ) → i < j → k < 3 * n → holdsAt b s i ≡ true
-      → step (decode b p mode n) s k (3 * i + 1) ≡ true → rel u STEP MOMENTS k (3 * i + 1) ≡ true
+      → step₁ (decode b p mode n) s k (3 * i + 1) ≡ true → rel u STEP MOMENTS k (3 * i + 1) ≡ true
 
 -- ---- laws: bits that were added
 
@@ -67,7 +67,7 @@ grown-more {b} {n} {s} {w} {v} {u} g h =
     }
   where
     go : (p : List (List ℕ)) (mode : Mode) → Synced (decode b p mode n) n w → (i j : ℕ) → i < 3 * n → j < 3 * n
-        → (rel v STEP MOMENTS i j ≡ true) ⊎ (step (decode b p mode n) s i j ≡ true) → (rel w STEP MOMENTS i j or step (decode b p mode n) s i j) ≡ true
+        → (rel v STEP MOMENTS i j ≡ true) ⊎ (step₁ (decode b p mode n) s i j ≡ true) → (rel w STEP MOMENTS i j or step₁ (decode b p mode n) s i j) ≡ true
     go p mode y i j l o (inl e) = g .sound p mode y i j l o e
     go p mode y i j l o (inr e) = or-right _ e
 
@@ -104,10 +104,10 @@ cell-made b n s m k i c d w u few room l o e f at put =
     rest : (x y : ℕ) → x < 3 * n → y < 3 * n → ((x ≡ m) × (y ≡ k) → ⊥) → rel u STEP MOMENTS x y ≡ rel w STEP MOMENTS x y
     rest = other n m k i d w u few room l o at put
 
-    is : (p : List (List ℕ)) (mode : Mode) → Synced (decode b p mode n) n w → d ≡ step (decode b p mode n) s m k
+    is : (p : List (List ℕ)) (mode : Mode) → Synced (decode b p mode n) n w → d ≡ step₁ (decode b p mode n) s m k
     is p mode y = step-read b p _ n w s m k c d y l o e (f p mode)
 
-    set : (p : List (List ℕ)) (mode : Mode) → Synced (decode b p mode n) n w → step (decode b p mode n) s m k ≡ true → rel u STEP MOMENTS m k ≡ true
+    set : (p : List (List ℕ)) (mode : Mode) → Synced (decode b p mode n) n w → step₁ (decode b p mode n) s m k ≡ true → rel u STEP MOMENTS m k ≡ true
     set p mode y h = one ∙ or-right _ (is p mode y ∙ h)
 
     kept : (x y : ℕ) → x < 3 * n → y < 3 * n → rel w STEP MOMENTS x y ≡ true → Dec (x ≡ m) → Dec (y ≡ k) → rel u STEP MOMENTS x y ≡ true
@@ -116,7 +116,7 @@ cell-made b n s m k i c d w u few room l o e f at put =
     kept x y p q h (no a) z = rest x y p q (λ t. a (t .0)) ∙ h
 
     sound : (p : List (List ℕ)) (mode : Mode) → Synced (decode b p mode n) n w → (x y : ℕ) → x < 3 * n → y < 3 * n → rel u STEP MOMENTS x y ≡ true → Dec (x ≡ m) → Dec (y ≡ k)
-        → (rel w STEP MOMENTS x y or step (decode b p mode n) s x y) ≡ true
+        → (rel w STEP MOMENTS x y or step₁ (decode b p mode n) s x y) ≡ true
     sound p mode t x y q r h (yes a) (yes z) = rw (a, z, ← is p mode t, ← one) (rw (a, z) at h)
     sound p mode t x y q r h (yes a) (no z) = or-left _ (sym (rest x y q r (λ v. z (v .1))) ∙ h)
     sound p mode t x y q r h (no a) z = or-left _ (sym (rest x y q r (λ v. a (v .0))) ∙ h)
@@ -138,12 +138,12 @@ row-more b n s m k w v x u l o h c d =
     both : Grown b n s v u
     both = grown-more (c .grown) (d .grown)
 
-    from : (p : List (List ℕ)) (mode : Mode) → Synced (decode b p mode n) n w → (j : ℕ) → j < k + 1 → step (decode b p mode n) s m j ≡ true → Dec (j ≡ k)
+    from : (p : List (List ℕ)) (mode : Mode) → Synced (decode b p mode n) n w → (j : ℕ) → j < k + 1 → step₁ (decode b p mode n) s m j ≡ true → Dec (j ≡ k)
         → rel u STEP MOMENTS m j ≡ true
     from p mode y j q e (yes a) = rw a (d .grown .kept m k l o (c .set p mode (synced-on p mode (h .grown) y) (rw a at e)))
     from p mode y j q e (no a) = both .kept m j l (omega arith) (h .from p mode y j (omega arith) e)
 
-    to : (p : List (List ℕ)) (mode : Mode) → Synced (decode b p mode n) n w → (j : ℕ) → j < k + 1 → step (decode b p mode n) s j m ≡ true → Dec (j ≡ k)
+    to : (p : List (List ℕ)) (mode : Mode) → Synced (decode b p mode n) n w → (j : ℕ) → j < k + 1 → step₁ (decode b p mode n) s j m ≡ true → Dec (j ≡ k)
         → rel u STEP MOMENTS j m ≡ true
     to p mode y j q e (yes a) = rw a (d .set p mode (synced-on p mode (grown-more (h .grown) (c .grown)) y) (rw a at e))
     to p mode y j q e (no a) = both .kept j m (omega arith) l (h .to p mode y j (omega arith) e)
@@ -162,12 +162,12 @@ rows-more b n s j w v u o h r =
     }
   where
     from : (p : List (List ℕ)) (mode : Mode) → Synced (decode b p mode n) n w → (i k : ℕ) → i < j + 1 → k < 3 * n → holdsAt b s i ≡ true
-        → step (decode b p mode n) s (3 * i + 1) k ≡ true → Dec (i ≡ j) → rel u STEP MOMENTS (3 * i + 1) k ≡ true
+        → step₁ (decode b p mode n) s (3 * i + 1) k ≡ true → Dec (i ≡ j) → rel u STEP MOMENTS (3 * i + 1) k ≡ true
     from p mode y i k l q a e (yes z) = rw z (r .from p mode (synced-on p mode (h .grown) y) k q (rw z at e))
     from p mode y i k l q a e (no z) = r .grown .kept (3 * i + 1) k (omega arith) q (h .from p mode y i k (omega arith) q a e)
 
     to : (p : List (List ℕ)) (mode : Mode) → Synced (decode b p mode n) n w → (i k : ℕ) → i < j + 1 → k < 3 * n → holdsAt b s i ≡ true
-        → step (decode b p mode n) s k (3 * i + 1) ≡ true → Dec (i ≡ j) → rel u STEP MOMENTS k (3 * i + 1) ≡ true
+        → step₁ (decode b p mode n) s k (3 * i + 1) ≡ true → Dec (i ≡ j) → rel u STEP MOMENTS k (3 * i + 1) ≡ true
     to p mode y i k l q a e (yes z) = rw z (r .to p mode (synced-on p mode (h .grown) y) k q (rw z at e))
     to p mode y i k l q a e (no z) = r .grown .kept k (3 * i + 1) q (omega arith) (h .to p mode y i k (omega arith) q a e)
 
@@ -184,9 +184,9 @@ rows-skip b n s j w v u off h same =
     below i l a (yes z) = not-both (rw z at a) off
     below i l a (no z) = omega arith
 
--- all rows: the region holds the direct cases
+-- all rows: the region holds the three direct cases
 pub steps-made : (b : List ℕ) (p : List (List ℕ)) (mode : Mode) (n s : ℕ) (w v u : List ℕ) → n ≤ ROWS → WORK ≤ length w → Synced (decode b p mode n) n w
-    → v ≡ zeros w STEP (STEP-END - STEP) → RowsMade b n s n v u → Made STEP STEP-END STEP MOMENTS (3 * n) (step (decode b p mode n) s) w u
+    → v ≡ zeros w STEP (STEP-END - STEP) → RowsMade b n s n v u → Made STEP STEP-END STEP MOMENTS (3 * n) (step₁ (decode b p mode n) s) w u
 unfolding rel
 steps-made b p mode n s w v u few room y cleared h =
     record {
@@ -203,11 +203,11 @@ steps-made b p mode n s w v u few room y cleared h =
     fresh : (i j : ℕ) → i < 3 * n → j < 3 * n → rel v STEP MOMENTS i j ≡ false
     fresh i j l o = rw cleared (bit-zeros-in w STEP (STEP-END - STEP) ((STEP + i * MOMENTS) * 64 + j) (omega arith) (omega arith) (omega arith))
 
-    clean : (i j : ℕ) → i < 3 * n → j < 3 * n → (rel v STEP MOMENTS i j ≡ true) ⊎ (step (decode b p mode n) s i j ≡ true) → step (decode b p mode n) s i j ≡ true
+    clean : (i j : ℕ) → i < 3 * n → j < 3 * n → (rel v STEP MOMENTS i j ≡ true) ⊎ (step₁ (decode b p mode n) s i j ≡ true) → step₁ (decode b p mode n) s i j ≡ true
     clean i j l o (inl e) = not-both e (fresh i j l o)
     clean i j l o (inr e) = e
 
-    full : (i j : ℕ) → i < 3 * n → j < 3 * n → step (decode b p mode n) s i j ≡ true
+    full : (i j : ℕ) → i < 3 * n → j < 3 * n → step₁ (decode b p mode n) s i j ≡ true
         → ((i % 3 ≡ AT) × (holdsAt b s (i / 3) ≡ true)) ⊎ ((j % 3 ≡ AT) × (holdsAt b s (j / 3) ≡ true)) → rel u STEP MOMENTS i j ≡ true
     full i j l o e (inl a) =
         let q : 3 * (i / 3) + 1 ≡ i = let c : i % 3 ≡ 1 = a .0 in omega arith in

@@ -36,11 +36,15 @@ pub fn fill_order(rows: &[u8], n: usize, w: &mut [u64])
     }
 }
 
-// M6: whether some row holds all of the class set s. No other set has a direct case.
+// M6: whether some row holds all of the class set s, or it is the first. Another set has no direct case but a dependency, which the
+// first has too.
 pub fn is_live(rows: &[u8], n: usize, s: u8) -> bool
     requires { ⌜ n ≤ ROWS ⌝ }
     ensures { λ b. ⌜ ((p : List (List ℕ)) (mode : Mode) → b ≡ live (decode (now (rows .entry)) p mode n) s) ⌝ }
 {
+    if s == 1 {
+        return true;
+    }
     for i in 0..n {
         if steps::holds_at(rows, s, i) {
             return true;

@@ -4,17 +4,19 @@ ghost use mathlib.Core.Bool.{cond};
 ghost use mathlib.Core.List.{List};
 ghost use Prim.Native.Nat.{ℕ, _+_, _*_, _/_, _%_, _≤_, _<_};
 ghost use lib.ListN.{length};
-ghost use Rattle.bits.specs.Stage.{Made};
+ghost use Rattle.bits.specs.Stage.{Made, Added};
 ghost use Rattle.bits.specs.Matrix.{rel};
 ghost use Rattle.model.specs.declared.Mode.{Mode};
 ghost use Rattle.model.specs.Limits.{ROWS, WORK};
 ghost use Rattle.model.specs.Table.{decode, rowOf};
 ghost use Rattle.model.specs.Moment.{programOrder};
 ghost use Rattle.model.specs.Happens.{holdingOf, concernsOf, step};
+ghost use Rattle.model.specs.HostLaws.{step₁};
 ghost use Rattle.area.specs.Regions.{SYNC, STEP, STEP-END, GRID, MOMENTS};
 ghost use Rattle.sequence.specs.Known.{Synced};
 ghost use Rattle.order.specs.Cases.{stepRows, holdsAt};
 ghost use Rattle.order.specs.Steps.{CellMade, RowMade};
+ghost use Rattle.order.specs.System.{systemBy, systemTo};
 use model::Mode;
 use model::Places;
 use model::Row;
@@ -51,9 +53,9 @@ pub fn holds_at(rows: &[u8], s: u8, i: usize) -> bool
     rows::kinds::holds(rows::bytes::read_classes(rows, i as u16), s)
 }
 
-// ---- direct cases
+// ---- direct cases that go by rows
 
-// M6: a direct case from the moment `from` of r to the moment `to` of q; b says that r synchronizes-with q, o that the one moment is
+// M6: one of them from the moment `from` of r to the moment `to` of q; b says that r synchronizes-with q, o that the one moment is
 // program-ordered before the other. Each case needs a moment that holds all of s: that is tested first.
 fn is_step(s: u8, from: u8, to: u8, r: Row, q: Row, b: bool, o: bool) -> bool
     ensures { λ d. ⌜ d ≡ stepRows s from to r q b o ⌝ }
@@ -68,7 +70,7 @@ fn is_step(s: u8, from: u8, to: u8, r: Row, q: Row, b: bool, o: bool) -> bool
         | h & rows::kinds::acquires(r) & concerns_of(s, q, to) & o
 }
 
-// M6: a direct case for the class set s from moment m to moment k; b says that m's row synchronizes-with k's. Most pairs have
+// M6: one of them for the class set s from moment m to moment k; b says that m's row synchronizes-with k's. Most pairs have
 // neither that nor program order, and no whole row is read.
 fn step_of(rows: &[u8], n: usize, s: u8, m: usize, k: usize, b: bool) -> bool
     requires { ⌜ (n ≤ ROWS) × (m < 3 * n) × (k < 3 * n) ⌝ }
@@ -92,7 +94,7 @@ fn sync_bit(m: usize, k: usize, w: &[u64]) -> bool
     bits::get(w, (area::SYNC + m / 3 * area::GRID) * 64 + k / 3)
 }
 
-// Sets the bit from m to k where there is a direct case.
+// Sets the bit from m to k where there is one.
 fn fill_cell(rows: &[u8], n: usize, s: u8, m: usize, k: usize, w: &mut [u64])
     requires { ⌜ (n ≤ ROWS) × (m < 3 * n) × (k < 3 * n) × (WORK ≤ length (now w)) ⌝ }
     ensures { λ _. ⌜ CellMade (now (rows .entry)) n s m k (now (w .entry)) (now (w .exit)) ⌝ }
@@ -101,7 +103,7 @@ fn fill_cell(rows: &[u8], n: usize, s: u8, m: usize, k: usize, w: &mut [u64])
     bits::put_if(w, (area::STEP + m * area::MOMENTS) * 64 + k, b);
 }
 
-// Sets the bits of the direct cases from and to the moment m.
+// Sets the bits of those from and to the moment m.
 fn fill_at(rows: &[u8], n: usize, s: u8, m: usize, w: &mut [u64])
     requires { ⌜ (n ≤ ROWS) × (m < 3 * n) × (WORK ≤ length (now w)) ⌝ }
     ensures { λ _. ⌜ RowMade (now (rows .entry)) n s m (3 * n) (now (w .entry)) (now (w .exit)) ⌝ }
@@ -112,12 +114,11 @@ fn fill_at(rows: &[u8], n: usize, s: u8, m: usize, w: &mut [u64])
     }
 }
 
-// M6: the direct cases for the class set s, for every two moments. Each has the own moment of a row that holds all of s at one end,
-// so that only such rows are asked.
-// Ruled out: one that sets the bits from such a moment alone and not those to it; one that asks rows of a class in s instead of all.
-pub fn fill_step(rows: &[u8], p: Places, mode: Mode, n: usize, s: u8, w: &mut [u64])
+// M6: the direct cases that go by rows, for the class set s and every two moments. Each has the own moment of a row that holds all of
+// s at one end, so that only such rows are asked.
+fn fill_cases(rows: &[u8], p: Places, mode: Mode, n: usize, s: u8, w: &mut [u64])
     requires { ⌜ (n ≤ ROWS) × (WORK ≤ length (now w)) × Synced (decode (now rows) p mode n) n (now w) ⌝ }
-    ensures { λ _. ⌜ Made STEP STEP-END STEP MOMENTS (3 * n) (step (decode (now (rows .entry)) p mode n) s) (now (w .entry)) (now (w .exit)) ⌝ }
+    ensures { λ _. ⌜ Made STEP STEP-END STEP MOMENTS (3 * n) (step₁ (decode (now (rows .entry)) p mode n) s) (now (w .entry)) (now (w .exit)) ⌝ }
 {
     bits::clear(w, area::STEP, area::STEP_END);
     for j in 0..n {
@@ -125,4 +126,45 @@ pub fn fill_step(rows: &[u8], p: Places, mode: Mode, n: usize, s: u8, w: &mut [u
             fill_at(rows, n, s, 3 * j + 1, w);
         }
     }
+}
+
+// ---- dependencies
+
+// Sets the bit of dependency c, between the own moments of its two rows, where the table has both.
+fn put_dependency(mode: Mode, n: usize, c: u16, w: &mut [u64])
+    requires { ⌜ (n ≤ ROWS) × (WORK ≤ length (now w)) ⌝ }
+    ensures { λ _. ⌜ Added STEP STEP-END STEP MOMENTS (3 * n) (systemBy mode c) (now (w .entry)) (now (w .exit)) ⌝ }
+{
+    let x = rows::dependencies::first_at(mode, c) as usize;
+    let y = rows::dependencies::second_at(mode, c) as usize;
+    if n <= x {
+        return;
+    }
+    if n <= y {
+        return;
+    }
+    bits::put(
+        w,
+        (area::STEP + (3 * x + 1) * area::MOMENTS) * 64 + (3 * y + 1),
+    );
+}
+
+// Adds the direct case that goes by dependencies: a bit for each of them, instead of a test of all at every two moments.
+fn add_dependencies(mode: Mode, n: usize, w: &mut [u64])
+    requires { ⌜ (n ≤ ROWS) × (WORK ≤ length (now w)) ⌝ }
+    ensures { λ _. ⌜ Added STEP STEP-END STEP MOMENTS (3 * n) (systemTo mode (mode .dependencies)) (now (w .entry)) (now (w .exit)) ⌝ }
+{
+    for c in 0..mode.dependencies {
+        put_dependency(mode, n, c, w);
+    }
+}
+
+// M6: the direct cases for the class set s, for every two moments.
+// Ruled out: one that asks rows of a class in s instead of all of s; one that lets a dependency begin before its first row's own moment.
+pub fn fill_step(rows: &[u8], p: Places, mode: Mode, n: usize, s: u8, w: &mut [u64])
+    requires { ⌜ (n ≤ ROWS) × (WORK ≤ length (now w)) × Synced (decode (now rows) p mode n) n (now w) ⌝ }
+    ensures { λ _. ⌜ Made STEP STEP-END STEP MOMENTS (3 * n) (step (decode (now (rows .entry)) p mode n) s) (now (w .entry)) (now (w .exit)) ⌝ }
+{
+    fill_cases(rows, p, mode, n, s, w);
+    add_dependencies(mode, n, w);
 }

@@ -21,7 +21,7 @@ use Rattle.model.specs.Words.{WellFormed}
 use Rattle.model.specs.Check.{raceFree, verdict, admitted, check, checkAnswer, cycleAfter, workAfter, wiped}
 use Rattle.model.specs.Report.{reportAnswer, report}
 use Rattle.model.specs.AdmissionLaws.{admitted-sound}
-use Rattle.area.specs.Regions.{MUTUAL, LOCATION-END, EDGE, LAYERS-END}
+use Rattle.area.specs.Regions.{MUTUAL, LOCATED-END, EDGE, LAYERS-END}
 use Rattle.axioms.specs.Sources.{sourceIn}
 use Rattle.choice.specs.Sources.{Listed}
 use Rattle.verdict.specs.Whole.{Said, table-is, judged, short-work, short-cycle, said-refused, said-verdict}
@@ -77,7 +77,7 @@ module _ (s w c : List ℕ) (room : WORK ≤ length w) (long : CYCLE ≤ length 
 
 -- located, judged, answered, wiped
 pub table-reported : (s b : List ℕ) (p : List (List ℕ)) (mode : Mode) (n : ℕ) (src w v u z c d : List ℕ) (a : CheckAnswer) (r : ReportAnswer) → WellFormed s → b ≡ rowBytes s → p ≡ placesOf s → mode ≡ modeOf false s → n ≡ rowsAt s
-    → Listed (sourceOf b) n src → WORK ≤ length w → Within MUTUAL LOCATION-END w v
+    → Listed (sourceOf b) n src → WORK ≤ length w → Within MUTUAL LOCATED-END w v
     → (a ≡ checkAnswer (verdict (decode b p mode n) (sourceIn src))) × (d ≡ cycleAfter (verdict (decode b p mode n) (sourceIn src)) c) × Within EDGE LAYERS-END v u
     → r ≡ reportAnswer a (decode b p mode n) → z ≡ zeros u 0 WORK
     → (r ≡ reportAnswer (checkAnswer (verdict (tableOf s) (sourcesOf s))) (tableOf s)) × (z ≡ wiped w) × (d ≡ cycleAfter (verdict (tableOf s) (sourcesOf s)) c)

@@ -20,7 +20,7 @@ use Rattle.finite.specs.Cycle.{cycle-canonical}
 use Rattle.bits.specs.Matrix.{rel}
 use Rattle.bits.specs.Within.{Within, within-trans, within-widen}
 use Rattle.bits.specs.Stage.{Holds, Made, holds-kept}
-use Rattle.area.specs.Regions.{MUTUAL, LOCATION-END, EDGE, EDGE-END, GRID, LAYERS, LAYERS-END}
+use Rattle.area.specs.Regions.{MUTUAL, LOCATION-END, LOCATED-END, EDGE, EDGE-END, GRID, LAYERS, LAYERS-END}
 use Rattle.area.specs.State.{Located, MadeOrdered, MadeLocated, located-kept}
 use Rattle.cycle.specs.Shown.{held-start}
 use Rattle.race.specs.Bytes.{Known}
@@ -124,9 +124,9 @@ cyclic-answered v l m size e s = rw (e, s) refl
 
 -- ---- laws: the stages
 
-pub located-made : {t : Table} {n : ℕ} {w v u : List ℕ} → MadeOrdered t n w v → MadeLocated t n v u → Located t n u × Within MUTUAL LOCATION-END w u
+pub located-made : {t : Table} {n : ℕ} {w v u : List ℕ} → MadeOrdered t n w v → MadeLocated t n v u → Located t n u × Within MUTUAL LOCATED-END w u
 located-made o l =
-    (l .located, within-trans (within-widen MUTUAL LOCATION-END (omega arith) (omega arith) (o .frame)) (within-widen MUTUAL LOCATION-END (omega arith) (omega arith) (l .frame)))
+    (l .located, within-trans (within-widen MUTUAL LOCATED-END (omega arith) (omega arith) (o .frame)) (within-widen MUTUAL LOCATED-END (omega arith) (omega arith) (l .frame)))
 
 -- what edges are read from is kept by every later stage
 pub known-kept : {t : Table} {n c d : ℕ} {w u : List ℕ} → LOCATION-END ≤ c → Known t n w → Within c d w u → Known t n u

@@ -28,7 +28,7 @@ use Rattle.model.specs.Words.{WellFormed}
 use Rattle.model.specs.Check.{Verdict, refused, cyclic, overwritten, race, raceFree, raceOr, overwrittenOr, cyclicOr, verdict, admitted, check, checkAnswer, cycleAfter, workAfter, wiped}
 use Rattle.model.specs.AdmissionLaws.{Sound, sound-admitted, admitted-sound, rows-fit, size-fits, access-end}
 use Rattle.model.specs.SourceLaws.{verdict-same}
-use Rattle.area.specs.Regions.{MUTUAL, LOCATION-END, EDGE, LAYERS-END}
+use Rattle.area.specs.Regions.{MUTUAL, LOCATED-END, EDGE, LAYERS-END}
 use Rattle.area.specs.State.{Located}
 use Rattle.race.specs.Bytes.{Known, Bounded}
 use Rattle.axioms.specs.Sources.{sourceIn}
@@ -64,7 +64,7 @@ zeros-wiped w room = ext-getD 0 (zeros w 0 WORK) (replicate WORK 0 ++ drop WORK 
         ∙ sym (ap (λ (i : ℕ). getD (blank ++ drop WORK w) i 0) (sym p) ∙ getD-append-add blank (drop WORK w) (k - WORK) 0 ∙ getD-drop WORK w (k - WORK) 0 ∙ ap (λ (i : ℕ). getD w i 0) q)
 
 -- stages that stay inside the area's own part, and the part cleared after them
-pub wiped-after : (w v u z : List ℕ) → WORK ≤ length w → Within MUTUAL LOCATION-END w v → Within EDGE LAYERS-END v u → z ≡ zeros u 0 WORK → z ≡ wiped w
+pub wiped-after : (w v u z : List ℕ) → WORK ≤ length w → Within MUTUAL LOCATED-END w v → Within EDGE LAYERS-END v u → z ≡ zeros u 0 WORK → z ≡ wiped w
 wiped-after w v u z room a b e =
     e ∙ zeros-within 0 WORK w u (omega arith) (within-trans (within-widen 0 WORK (omega arith) (omega arith) a) (within-widen 0 WORK (omega arith) (omega arith) b)) ∙ zeros-wiped w room
 
@@ -85,7 +85,7 @@ module _ {blanks : Bool} {s : List ℕ} (h : Sound blanks s) (b : List ℕ) (p :
   sized : (i : ℕ) → i < n → rowOf b i .size ≤ LONGEST
   sized i l = rw rows (size-fits h i (rw (← all) l))
 
-  pub known : {w v : List ℕ} → WORK ≤ length w → Within MUTUAL LOCATION-END w v → Located (decode b p mode n) n v → Known (decode b p mode n) n v
+  pub known : {w v : List ℕ} → WORK ≤ length w → Within MUTUAL LOCATED-END w v → Located (decode b p mode n) n v → Known (decode b p mode n) n v
   unfolding decode
   known {w} {v} room f l = let e = f .len in (few, omega arith, sized, l)
 
@@ -164,7 +164,7 @@ module _ (s w c : List ℕ) (room : WORK ≤ length w) (long : CYCLE ≤ length 
 
 -- the calls of a verdict on an admitted table, one after the other
 pub judged : (s b : List ℕ) (p : List (List ℕ)) (mode : Mode) (n : ℕ) (src w v u z c d : List ℕ) (r : CheckAnswer) → WellFormed s → b ≡ rowBytes s → p ≡ placesOf s → mode ≡ modeOf false s → n ≡ rowsAt s
-    → Listed (sourceOf b) n src → WORK ≤ length w → Within MUTUAL LOCATION-END w v
+    → Listed (sourceOf b) n src → WORK ≤ length w → Within MUTUAL LOCATED-END w v
     → (r ≡ checkAnswer (verdict (decode b p mode n) (sourceIn src))) × (d ≡ cycleAfter (verdict (decode b p mode n) (sourceIn src)) c) × Within EDGE LAYERS-END v u → z ≡ zeros u 0 WORK
     → (r ≡ checkAnswer (verdict (tableOf s) (sourcesOf s))) × (z ≡ wiped w) × (d ≡ cycleAfter (verdict (tableOf s) (sourcesOf s)) c)
 judged s b p mode n src w v u z c d r well rows places modes all list room f j e =

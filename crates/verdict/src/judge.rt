@@ -6,7 +6,7 @@ ghost use Rattle.model.specs.Limits.{ROWS, WORK, CYCLE};
 ghost use Rattle.model.specs.Table.{decode};
 ghost use Rattle.model.specs.Check.{verdict, raceFree, raceOr, overwrittenOr, checkAnswer, cycleAfter};
 ghost use Rattle.bits.specs.Within.{Within};
-ghost use Rattle.area.specs.Regions.{MUTUAL, LOCATION-END, EDGE, LAYERS-END};
+ghost use Rattle.area.specs.Regions.{MUTUAL, LOCATED-END, EDGE, LAYERS-END};
 ghost use Rattle.area.specs.State.{Located};
 ghost use Rattle.race.specs.Bytes.{Known, Bounded};
 ghost use Rattle.axioms.specs.Sources.{sourceIn};
@@ -18,7 +18,7 @@ use model::Places;
 // Location order of n rows.
 pub fn locate(rows: &[u8], p: Places, mode: Mode, n: usize, w: &mut [u64])
     requires { ⌜ (n ≤ ROWS) × (WORK ≤ length (now w)) ⌝ }
-    ensures { λ _. ⌜ Located (decode (now (rows .entry)) p mode n) n (now (w .exit)) × Within MUTUAL LOCATION-END (now (w .entry)) (now (w .exit)) ⌝ }
+    ensures { λ _. ⌜ Located (decode (now (rows .entry)) p mode n) n (now (w .exit)) × Within MUTUAL LOCATED-END (now (w .entry)) (now (w .exit)) ⌝ }
 {
     order::happens_before(rows, p, mode, n, w);
     location::fill_location(rows, p, mode, n, w);

@@ -8,8 +8,7 @@ use Rattle.bits.specs.Fill.{rowFill, rowFill-none, rowFill-put, length-rowFill}
 use Rattle.bits.specs.Within.{within-put}
 use Rattle.model.specs.Edge.{beforeNth}
 use Rattle.area.specs.Regions.{LOCATION, LOCATION-END, PAIR, PAIRS}
-use Rattle.area.specs.State.{Ordered, ordered-kept}
-use Rattle.location.specs.Order.{pair-off, row-off}
+use Rattle.location.specs.Order.{Prepared, prepared-kept, pair-off, row-off}
 use borrow.Author.Needs.{needs}
 use Rattle.location.proofs.fill_pair.Statement.{statement}
 use Rattle.location.proofs.fill_pair.Tie as tie
@@ -21,7 +20,7 @@ use Rattle.location.proofs.pairs.may_share.Reads as may-share-reads
 use Rattle.rows.proofs.bytes.read_row.Reads as read-row-reads
 
 abbrev Inv-loop : tie.InvT-loop
-Inv-loop rows p mode n x y w₀ r q k₀ w k = (k ≤ PAIR) × (length w ≡ length w₀) × Ordered (decode rows p mode n) n w × (w ≡ rowFill (beforeNth (decode rows p mode n) x y) w₀ (LOCATION * 64 + x * PAIRS + y * PAIR) k)
+Inv-loop rows p mode n x y w₀ r q k₀ w k = (k ≤ PAIR) × (length w ≡ length w₀) × Prepared (decode rows p mode n) n w × (w ≡ rowFill (beforeNth (decode rows p mode n) x y) w₀ (LOCATION * 64 + x * PAIRS + y * PAIR) k)
 
 abbrev μ-loop : tie.MeasureT-loop
 μ-loop rows p mode n x y w₀ r q k₀ w k = PAIR - k
@@ -105,7 +104,7 @@ loop-again c =
     let e = rowFill-put _ _ _ (put .last .0) _ _ _ _ (inv .3) (c .before .before .before .before .before-at .ensures) refl (put .ensures) in (
       search needs,
       ap length e ∙ length-rowFill _ _ _ _,
-      ordered-kept (omega arith) (within-put LOCATION LOCATION-END _ _ (omega arith) (omega arith) (put .ensures)) (inv .2),
+      prepared-kept (within-put LOCATION LOCATION-END _ _ (omega arith) (omega arith) (put .ensures)) (inv .2),
       e,
     )
 

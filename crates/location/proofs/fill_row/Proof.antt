@@ -6,8 +6,7 @@ use Rattle.bits.specs.Fill.{gridFill, gridFill-none, gridFill-more, length-grid
 use Rattle.model.specs.Table.{decode}
 use Rattle.model.specs.Edge.{beforeNth}
 use Rattle.area.specs.Regions.{LOCATION, LOCATION-END, PAIR, PAIRS}
-use Rattle.area.specs.State.{Ordered, ordered-kept}
-use Rattle.location.specs.Order.{within-row}
+use Rattle.location.specs.Order.{Prepared, prepared-kept, within-row}
 use borrow.Author.Needs.{needs}
 use Rattle.location.proofs.fill_row.Statement.{statement}
 use Rattle.location.proofs.fill_row.Tie as tie
@@ -16,7 +15,7 @@ use Rattle.location.proofs.fill_row.Lts as lts
 use Rattle.location.proofs.fill_pair.Reads as fill-pair-reads
 
 abbrev Inv-loop : tie.InvT-loop
-Inv-loop rows p mode n x w₀ y₀ w y = (y ≤ n) × (length w ≡ length w₀) × Ordered (decode rows p mode n) n w × (w ≡ gridFill (beforeNth (decode rows p mode n) x) w₀ (LOCATION * 64 + x * PAIRS) PAIR PAIR y)
+Inv-loop rows p mode n x w₀ y₀ w y = (y ≤ n) × (length w ≡ length w₀) × Prepared (decode rows p mode n) n w × (w ≡ gridFill (beforeNth (decode rows p mode n) x) w₀ (LOCATION * 64 + x * PAIRS) PAIR PAIR y)
 
 abbrev μ-loop : tie.MeasureT-loop
 μ-loop rows p mode n x w₀ y₀ w y = n - y
@@ -45,7 +44,7 @@ loop-again c =
     let e = gridFill-more _ _ _ _ _ _ _ _ (inv .3) (pair .ensures) in (
       search needs,
       ap length e ∙ length-gridFill _ _ _ _ _ _,
-      ordered-kept (omega arith) (within-row LOCATION LOCATION-END _ _ _ (omega arith) (omega arith) (pair .ensures)) (inv .2),
+      prepared-kept (within-row LOCATION LOCATION-END _ _ _ (omega arith) (omega arith) (pair .ensures)) (inv .2),
       e,
     )
 

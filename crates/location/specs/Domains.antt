@@ -1,0 +1,420 @@
+-- L4 and L5 over the bytes of the rows and the bits of the work area: what each stage's grid holds, and that together they tell
+-- L4 and L5. Assumes nothing.
+use mathlib.Core.Path.{_≡_, refl, sym, ap, _∙_}
+use mathlib.Core.Bool.{Bool, true, false, not, cond, Bool·beq}
+use mathlib.Core.List.{List}
+use Prim.Native.Nat.{ℕ, _+_, _-_, _*_, _≤_, _<_}
+use native.Mathlib.Omega.{arith}
+use native.Mathlib.Decide.{ℕ-discrete}
+use native.Mathlib.Numerals.{add-one}
+use lib.ListN.{length, getD}
+use lib.Dec.{eqb}
+use borrow.Author.Tests.{eq-eqb, ne-eqb, eqb-true, le-leb}
+use Rattle.finite.specs.Logic.{_and_, _or_, split, and-true, and-false-left, and-false-right, or-right, or-none, or-off, not-both, not-so, not-out, bool-ext}
+use Rattle.finite.specs.Below.{anyBelow, any-none, any-off, any-not, any-cong}
+use Rattle.finite.specs.Closure.{through, through-none}
+use Rattle.bits.specs.Bit.{bit, setBit, setBit-same, setBit-other, zeros, bit-zeros-in}
+use Rattle.bits.specs.Within.{Within, within-refl, within-trans, within-widen, within-setBit, within-cleared}
+use Rattle.bits.specs.Matrix.{rel, Closed}
+use Rattle.bits.specs.Stage.{Holds, Made, Added, holds-kept, holds-cong, holds-closed, within-closed}
+use Rattle.model.specs.declared.Mode.{Mode}
+use Rattle.model.specs.declared.Row.{Row}
+use Rattle.model.specs.Limits.{ROWS, WORK}
+use Rattle.model.specs.Row.{AVAILABLE-HOST, AVAILABLE-DEVICE, VISIBLE-HOST, VISIBLE-DEVICE, HOST-TO-DEVICE, DEVICE-TO-HOST, operation, reads, writes}
+use Rattle.model.specs.Table.{Table, byteOf, rowOf, dependency, dependsOf, decode}
+use Rattle.model.specs.Scope.{host}
+use Rattle.model.specs.Moment.{itself}
+use Rattle.model.specs.Happens.{happens}
+use Rattle.model.specs.Location.{systemBefore, L4, thence, onHost, availableKind, visibleKind, domainKind, seenBy, metFrom, carriedBy, reachesBy, L5}
+use Rattle.area.specs.Regions.{HAPPENS, MOMENTS, GRID, HOSTED, HOSTED-END, SYSTEM, SYSTEM-END, MET, MET-END, REACHED, REACHED-END}
+use Rattle.area.specs.State.{Ordered, ordered-kept}
+use Rattle.location.specs.Chains.{and-on}
+use Rattle.location.specs.Order.{mayShare, hosted}
+
+-- ---- definitions: tests over bytes and bits
+
+-- row i is the operation of this kind, and row x happens before it
+unfoldable pub thenceBits : List ℕ → List ℕ → ℕ → ℕ → ℕ → Bool
+thenceBits b w kind x i = eqb (byteOf b i 0) kind and rel w HAPPENS MOMENTS (itself x) (itself i)
+
+-- and it happens before row y
+unfoldable pub seenBits : List ℕ → List ℕ → ℕ → ℕ → ℕ → ℕ → Bool
+seenBits b w kind m y i = thenceBits b w kind m i and rel w HAPPENS MOMENTS (itself i) (itself y)
+
+-- and the grid at base has it with row y
+unfoldable pub onwardBits : List ℕ → List ℕ → ℕ → ℕ → ℕ → ℕ → ℕ → Bool
+onwardBits b w base kind x y i = thenceBits b w kind x i and rel w base GRID i y
+
+unfoldable pub operationAt : List ℕ → ℕ → Bool
+operationAt b i = operation (rowOf b i)
+
+-- no dependency, and no operation
+unfoldable pub unhosted : Mode → List ℕ → ℕ → Bool
+unhosted mode b n = eqb (mode .dependencies) 0 and not (anyBelow n (operationAt b))
+
+-- ---- definitions: an agent's and an operation's domain
+
+-- what makes available to agent a's domain, and visible from it
+unfoldable pub availableOf : List (List ℕ) → ℕ → ℕ
+availableOf p a = cond (host p a) AVAILABLE-HOST AVAILABLE-DEVICE
+
+unfoldable pub visibleOf : List (List ℕ) → ℕ → ℕ
+visibleOf p a = cond (host p a) VISIBLE-HOST VISIBLE-DEVICE
+
+-- an operation of this kind makes available to a domain
+unfoldable pub isAvailable : ℕ → Bool
+isAvailable kind = eqb kind AVAILABLE-HOST or eqb kind AVAILABLE-DEVICE
+
+-- what carries out of that domain
+unfoldable pub outOf : ℕ → ℕ
+outOf kind = cond (eqb kind AVAILABLE-HOST) HOST-TO-DEVICE DEVICE-TO-HOST
+
+-- ---- definitions: what the grids hold
+
+-- the first k dependencies, and the one after them
+unfoldable pub depends : Mode → ℕ → ℕ → ℕ → Bool
+depends mode k i j = anyBelow k (dependency mode i j)
+
+unfoldable pub nthDepends : Mode → ℕ → ℕ → ℕ → Bool
+nthDepends mode k i j = dependency mode i j k
+
+-- y meets what the operation m leaves in y's domain
+unfoldable pub metBy : Table → ℕ → ℕ → Bool
+metBy t m y = operation (t .row m) and metFrom t y m
+
+-- y meets what d, of this kind, carries of what a makes available
+unfoldable pub overBy : Table → ℕ → ℕ → ℕ → ℕ → Bool
+overBy t kind a y d = thence t kind a d and metBy t d y
+
+-- y meets what the operation a makes available; where a's domain is y's, nothing needs to be carried
+unfoldable pub reached : Table → ℕ → ℕ → Bool
+reached t a y =
+    isAvailable (t .row a .kind)
+    and cond (Bool·beq (eqb (t .row a .kind) AVAILABLE-HOST) (onHost t y)) (metBy t a y) (anyBelow (t .rows) (overBy t (outOf (t .row a .kind)) a y))
+
+-- what `reached` is told from
+pub record Meeting (t : Table) (n : ℕ) (w : List ℕ) : Type 0 where
+  pub ordered : Ordered t n w
+  pub meeting : Holds MET GRID n (metBy t) w
+
+-- what L4 and L5 are told from
+pub record Sources (t : Table) (n : ℕ) (w : List ℕ) : Type 0 where
+  pub ordered : Ordered t n w
+  pub system : Holds SYSTEM GRID n (systemBefore t) w
+  pub reaching : Holds REACHED GRID n (reached t) w
+
+-- ---- laws: tests
+
+and-when : (a b c : Bool) → (a ≡ true → b ≡ c) → (a and b) ≡ (a and c)
+unfolding _and_
+and-when true b c f = f refl
+and-when false b c f = refl
+
+operation-kind : (r : Row) (k : ℕ) → AVAILABLE-HOST ≤ k → k ≤ DEVICE-TO-HOST → eqb (r .kind) k ≡ true → operation r ≡ true
+unfolding operation
+operation-kind r k l m h =
+    let q = eqb-true (r .kind) k h in
+    and-true (le-leb AVAILABLE-HOST (r .kind) (omega arith)) (le-leb (r .kind) DEVICE-TO-HOST (omega arith))
+
+-- the operation that makes available to a domain, from whether the domain is the host's
+available-kinds : (c : Bool) (k : ℕ) → eqb k (cond c AVAILABLE-HOST AVAILABLE-DEVICE) ≡ true
+    → (isAvailable k ≡ true) × (eqb k AVAILABLE-HOST ≡ c) × (outOf k ≡ cond c HOST-TO-DEVICE DEVICE-TO-HOST) × (AVAILABLE-HOST ≤ k) × (k ≤ DEVICE-TO-HOST)
+unfolding isAvailable outOf _or_
+available-kinds true k e = let q : k ≡ AVAILABLE-HOST = eqb-true k AVAILABLE-HOST e in (rw q refl, rw q refl, rw q refl, omega arith, omega arith)
+available-kinds false k e = let q : k ≡ AVAILABLE-DEVICE = eqb-true k AVAILABLE-DEVICE e in (rw q refl, rw q refl, rw q refl, omega arith, omega arith)
+
+domain-kinds : (c : Bool) → (AVAILABLE-HOST ≤ cond c HOST-TO-DEVICE DEVICE-TO-HOST) × (cond c HOST-TO-DEVICE DEVICE-TO-HOST ≤ DEVICE-TO-HOST)
+domain-kinds true = (omega arith, omega arith)
+domain-kinds false = (omega arith, omega arith)
+
+-- ---- laws: dependencies
+
+-- the bit of a dependency was set, or there is none to set
+place-apart : (i j x y : ℕ) → j < ROWS → y < ROWS → (SYSTEM + x * GRID) * 64 + y ≡ (SYSTEM + i * GRID) * 64 + j → (i ≡ x) × (j ≡ y)
+place-apart i j x y p q e = (omega arith, omega arith)
+
+module _ (mode : Mode) (n k : ℕ) (i j : ℕ) (ei : i ≡ getD (mode .first) k 0) (ej : j ≡ getD (mode .second) k 0) where
+  dependency-is : (x y : ℕ) → nthDepends mode k x y ≡ (eqb i x and eqb j y)
+  unfolding nthDepends dependency
+  dependency-is x y = rw (ei, ej) refl
+
+  pub added-depends : (w u : List ℕ) → n ≤ ROWS → WORK ≤ length w → i < n → j < n → u ≡ setBit w ((SYSTEM + i * GRID) * 64 + j)
+      → Added SYSTEM SYSTEM-END SYSTEM GRID n (nthDepends mode k) w u
+  unfolding rel
+  added-depends w u small room li lj e =
+      record {
+        cell = λ x y p q. rw (e, dependency-is x y) (go x y p q (ℕ-discrete i x) (ℕ-discrete j y));
+        frame = rw e (within-setBit SYSTEM SYSTEM-END w ((SYSTEM + i * GRID) * 64 + j) (omega arith) (omega arith));
+      }
+    where
+      go : (x y : ℕ) → x < n → y < n → Dec (i ≡ x) → Dec (j ≡ y)
+          → bit (setBit w ((SYSTEM + i * GRID) * 64 + j)) ((SYSTEM + x * GRID) * 64 + y) ≡ (bit w ((SYSTEM + x * GRID) * 64 + y) or (eqb i x and eqb j y))
+      go x y p q (yes a) (yes c) =
+          rw (← a, ← c) (setBit-same w ((SYSTEM + i * GRID) * 64 + j) (omega arith) ∙ sym (or-right _ (and-true (eq-eqb i i refl) (eq-eqb j j refl))))
+      go x y p q (yes a) (no c) =
+          setBit-other w _ _ (λ h. c (place-apart i j x y (omega arith) (omega arith) h .1)) ∙ sym (or-off _ _ (and-false-right _ _ (ne-eqb j y c)))
+      go x y p q (no a) d =
+          setBit-other w _ _ (λ h. a (place-apart i j x y (omega arith) (omega arith) h .0)) ∙ sym (or-off _ _ (and-false-left _ _ (ne-eqb i x a)))
+
+  pub added-nothing : (w : List ℕ) → (i < n → n ≤ j) → Added SYSTEM SYSTEM-END SYSTEM GRID n (nthDepends mode k) w w
+  added-nothing w off =
+      record {
+        cell = λ x y p q. sym (or-off _ _ (dependency-is x y ∙ not-so _ (λ e. out x y p q (eqb-true i x (split e .0)) (eqb-true j y (split e .1)))));
+        frame = within-refl SYSTEM SYSTEM-END w;
+      }
+    where
+      out : (x y : ℕ) → x < n → y < n → i ≡ x → j ≡ y → ⊥
+      out x y p q a c = let g : n ≤ j = off (omega arith) in omega arith
+
+-- one dependency more
+pub depends-none : {n : ℕ} {v : List ℕ} (mode : Mode) (w : List ℕ) → n ≤ ROWS → WORK ≤ length w → v ≡ zeros w SYSTEM (SYSTEM-END - SYSTEM)
+    → Holds SYSTEM GRID n (depends mode 0) v
+unfolding rel depends
+depends-none {n} mode w small room e =
+    record {
+      fits = omega arith;
+      cell = λ i j p q. rw e (bit-zeros-in w SYSTEM (SYSTEM-END - SYSTEM) ((SYSTEM + i * GRID) * 64 + j) (omega arith) (omega arith) (omega arith) ∙ sym (any-none _));
+    }
+
+pub depends-more : (mode : Mode) (k i j : ℕ) → (depends mode k i j or nthDepends mode k i j) ≡ depends mode (k + 1) i j
+unfolding depends nthDepends anyBelow
+depends-more mode k i j = rw add-one refl
+
+pub made-system : {n k : ℕ} {w v u : List ℕ} (mode : Mode) → n ≤ ROWS → k ≡ mode .dependencies → Within SYSTEM SYSTEM-END w v
+    → Holds SYSTEM GRID n (depends mode k) v
+    → Closed v u SYSTEM n GRID → Made SYSTEM SYSTEM-END SYSTEM GRID n (through (dependsOf mode) n) w u
+unfolding depends dependsOf
+made-system mode small e f h c =
+    record { holds = holds-closed (rw e at h) c; frame = within-trans f (within-closed (omega arith) c) }
+
+-- ---- laws: what y meets, and what reaches it
+
+module _ (b : List ℕ) (p : List (List ℕ)) (mode : Mode) (n : ℕ) (w : List ℕ) (o : Ordered (decode b p mode n) n w) where
+  thence-is : (kind x i : ℕ) → x < n → i < n → thenceBits b w kind x i ≡ thence (decode b p mode n) kind x i
+  unfolding thenceBits thence decode rowOf
+  thence-is kind x i l m = ap (λ (c : Bool). eqb (byteOf b i 0) kind and c) (o .happening .cell (itself x) (itself i) (omega arith) (omega arith))
+
+  seen-is : (m y i : ℕ) → m < n → y < n → i < n
+      → seenBits b w (visibleKind (decode b p mode n) y) m y i ≡ seenBy (decode b p mode n) y m i
+  unfolding seenBits seenBy
+  seen-is m y i k l h =
+      rw (thence-is (visibleKind (decode b p mode n) y) m i k h, o .happening .cell (itself i) (itself y) (omega arith) (omega arith)) refl
+
+  visible-is : (y : ℕ) → visibleKind (decode b p mode n) y ≡ visibleOf p (rowOf b y .agent)
+  unfolding visibleKind visibleOf onHost decode
+  visible-is y = refl
+
+  some-seen : (m y kind : ℕ) (q : Row) → m < n → y < n → q ≡ rowOf b y → kind ≡ visibleOf p (q .agent)
+      → anyBelow n (seenBits b w kind m y) ≡ anyBelow n (seenBy (decode b p mode n) y m)
+  some-seen m y kind q l k eq ek = rw (ek, eq, ← visible-is y) (any-cong _ _ n (λ i h. seen-is m y i l k h))
+
+  -- m is no operation; it is one and y reads; it is one and y doesn't
+  pub met-off : (m y : ℕ) → operation (rowOf b m) ≡ false → false ≡ metBy (decode b p mode n) m y
+  unfolding metBy decode
+  met-off m y e = sym (and-false-left _ _ e)
+
+  pub met-read : (m y kind : ℕ) (q : Row) (d : Bool) → m < n → y < n → operation (rowOf b m) ≡ true → q ≡ rowOf b y → reads q ≡ true
+      → kind ≡ visibleOf p (q .agent)
+      → d ≡ anyBelow n (seenBits b w kind m y) → d ≡ metBy (decode b p mode n) m y
+  unfolding metBy metFrom decode _and_
+  met-read m y kind q d l k e eq er ek ed = rw (e, ← eq, er) (ed ∙ some-seen m y kind q l k eq ek)
+
+  pub met-other : (m y : ℕ) (q : Row) (d : Bool) → m < n → y < n → operation (rowOf b m) ≡ true → q ≡ rowOf b y → reads q ≡ false
+      → d ≡ rel w HAPPENS MOMENTS (itself m) (itself y) → d ≡ metBy (decode b p mode n) m y
+  unfolding metBy metFrom decode _and_
+  met-other m y q d l k e eq er ed = rw (e, ← eq, er) (ed ∙ o .happening .cell (itself m) (itself y) (omega arith) (omega arith))
+
+  -- a makes nothing available; it does so to y's domain; it does so to the other
+  pub reached-off : (a y kind : ℕ) → kind ≡ byteOf b a 0 → isAvailable kind ≡ false → false ≡ reached (decode b p mode n) a y
+  unfolding reached decode rowOf
+  reached-off a y kind ek e = sym (and-false-left _ _ (rw (← ek) e))
+
+  module _ (meets : Holds MET GRID n (metBy (decode b p mode n)) w) where
+    over-is : (kind a y d : ℕ) → a < n → y < n → d < n → onwardBits b w MET kind a y d ≡ overBy (decode b p mode n) kind a y d
+    unfolding onwardBits overBy
+    over-is kind a y d l k h = rw (thence-is kind a d l h, meets .cell d y h k) refl
+
+    some-over : (kind out a y : ℕ) → a < n → y < n → out ≡ outOf kind
+        → anyBelow n (onwardBits b w MET out a y) ≡ anyBelow n (overBy (decode b p mode n) (outOf kind) a y)
+    some-over kind out a y l k e = rw e (any-cong _ _ n (λ d h. over-is (outOf kind) a y d l k h))
+
+    pub reached-here : (a y kind g : ℕ) (h d : Bool) → a < n → y < n → kind ≡ byteOf b a 0 → isAvailable kind ≡ true → g ≡ byteOf b y 1
+        → h ≡ host p g → Bool·beq (eqb kind AVAILABLE-HOST) h ≡ true → d ≡ rel w MET GRID a y → d ≡ reached (decode b p mode n) a y
+    unfolding reached onHost decode rowOf _and_
+    reached-here a y kind g h d l k ek e eg eh f ed = rw (← ek, e, ← eg, ← eh, f) (ed ∙ meets .cell a y l k)
+
+    pub reached-over : (a y kind g out : ℕ) (h d : Bool) → a < n → y < n → kind ≡ byteOf b a 0 → isAvailable kind ≡ true → g ≡ byteOf b y 1
+        → h ≡ host p g → Bool·beq (eqb kind AVAILABLE-HOST) h ≡ false → out ≡ outOf kind → d ≡ anyBelow n (onwardBits b w MET out a y)
+        → d ≡ reached (decode b p mode n) a y
+    unfolding reached onHost decode rowOf _and_
+    reached-over a y kind g out h d l k ek e eg eh f eo ed = rw (← ek, e, ← eg, ← eh, f) (ed ∙ some-over kind out a y l k eo)
+
+-- ---- laws: L5 by what reaches y
+
+module _ (t : Table) (x y : ℕ) where
+  -- what carries is an operation
+  carried-is : (a d : ℕ) → overBy t (domainKind t x) a y d ≡ carriedBy t x y a d
+  unfolding overBy carriedBy metBy thence domainKind
+  carried-is a d =
+      let k = domain-kinds (onHost t x) in
+      bool-ext _ _
+      (λ e. let s = split e in and-true (s .0) (split (s .1) .1))
+      (λ e. let s = split e in and-true (s .0) (and-true (operation-kind (t .row d) _ (k .0) (k .1) (split (s .0) .0)) (s .1)))
+
+  domain-is : cond (onHost t x) HOST-TO-DEVICE DEVICE-TO-HOST ≡ domainKind t x
+  unfolding domainKind
+  domain-is = refl
+
+  met-is : (a : ℕ) → operation (t .row a) ≡ true → metBy t a y ≡ metFrom t y a
+  unfolding metBy
+  met-is a e = and-on _ _ e
+
+  thence-kind : (kind a : ℕ) → thence t kind x a ≡ true → eqb (t .row a .kind) kind ≡ true
+  unfolding thence
+  thence-kind kind a e = split e .0
+
+  -- an operation that makes available to x's domain
+  reached-is : (a : ℕ) → eqb (t .row a .kind) (availableKind t x) ≡ true
+      → reached t a y ≡ cond (Bool·beq (onHost t x) (onHost t y)) (metFrom t y a) (anyBelow (t .rows) (carriedBy t x y a))
+  unfolding reached availableKind _and_
+  reached-is a e =
+      let k = available-kinds (onHost t x) (t .row a .kind) e in
+      let f : outOf (t .row a .kind) ≡ domainKind t x = k .2 ∙ domain-is in
+      let m = met-is a (operation-kind (t .row a) _ (k .3) (k .4) (eq-eqb (t .row a .kind) _ refl)) in
+      rw (k .0, k .1, f, m, any-cong _ _ (t .rows) (λ d h. carried-is a d)) refl
+
+  sent-is : (a : ℕ) → (thence t (availableKind t x) x a and reached t a y) ≡ reachesBy t x y a
+  unfolding reachesBy
+  sent-is a = and-when _ _ _ (λ e. reached-is a (thence-kind _ a e))
+
+module _ (b : List ℕ) (p : List (List ℕ)) (mode : Mode) (n : ℕ) (w : List ℕ) (s : Sources (decode b p mode n) n w) where
+  available-is : (x : ℕ) → availableKind (decode b p mode n) x ≡ availableOf p (rowOf b x .agent)
+  unfolding availableKind availableOf onHost decode
+  available-is x = refl
+
+  onward-is : (x y a : ℕ) → x < n → y < n → a < n
+      → onwardBits b w REACHED (availableKind (decode b p mode n) x) x y a ≡ reachesBy (decode b p mode n) x y a
+  unfolding onwardBits
+  onward-is x y a l k h =
+      rw (thence-is b p mode n w (s .ordered) (availableKind (decode b p mode n) x) x a l h, s .reaching .cell a y h k) (sent-is (decode b p mode n) x y a)
+
+  some-onward : (x y kind : ℕ) (r : Row) → x < n → y < n → r ≡ rowOf b x → kind ≡ availableOf p (r .agent)
+      → anyBelow n (onwardBits b w REACHED kind x y) ≡ anyBelow n (reachesBy (decode b p mode n) x y)
+  some-onward x y kind r l k er ek = rw (ek, er, ← available-is x) (any-cong _ _ n (λ a h. onward-is x y a l k h))
+
+  -- L5, for a row that writes
+  fifth-is : (x y kind : ℕ) (r : Row) → x < n → y < n → r ≡ rowOf b x → kind ≡ availableOf p (r .agent)
+      → (writes r and anyBelow n (onwardBits b w REACHED kind x y)) ≡ L5 (decode b p mode n) x y
+  unfolding L5 decode
+  fifth-is x y kind r l k er ek = rw (some-onward x y kind r l k er ek, er) refl
+
+  fourth-is : (x y : ℕ) (r : Row) (g : Bool) → x < n → y < n → r ≡ rowOf b x → g ≡ rel w SYSTEM GRID x y
+      → (reads r and not (writes r) and g) ≡ L4 (decode b p mode n) x y
+  unfolding L4 decode
+  fourth-is x y r g l k er eg = rw (eg ∙ s .system .cell x y l k, er) refl
+
+  -- a pair that shares no byte; one that does
+  pub hosted-off : (x y : ℕ) (r q : Row) → r ≡ rowOf b x → q ≡ rowOf b y → mayShare x y r q ≡ false → false ≡ hosted (decode b p mode n) x y
+  unfolding hosted decode
+  hosted-off x y r q er eq e = sym (and-false-left _ _ (rw (← er, ← eq) e))
+
+  module _ (x y : ℕ) (l : x < n) (k : y < n) (r q : Row) (g c : Bool) (er : r ≡ rowOf b x) (eq : q ≡ rowOf b y) (shares : mayShare x y r q ≡ true)
+      (eg : g ≡ rel w SYSTEM GRID x y)
+      (ec : c ≡ (reads r and not (writes r) and g)) where
+    shared-is : mayShare x y (decode b p mode n .row x) (decode b p mode n .row y) ≡ true
+    unfolding decode
+    shared-is = rw (← er, ← eq) shares
+
+    on-is : hosted (decode b p mode n) x y ≡ (c or L5 (decode b p mode n) x y)
+    unfolding hosted
+    on-is = and-on _ _ shared-is ∙ ap (λ (a : Bool). a or L5 (decode b p mode n) x y) (sym (ec ∙ fourth-is x y r g l k er eg))
+
+    pub hosted-fourth : c ≡ true → true ≡ hosted (decode b p mode n) x y
+    unfolding _or_
+    hosted-fourth e = rw (on-is, e) refl
+
+    pub hosted-fifth : (kind : ℕ) (d : Bool) → c ≡ false → kind ≡ availableOf p (r .agent)
+        → d ≡ (writes r and anyBelow n (onwardBits b w REACHED kind x y)) → d ≡ hosted (decode b p mode n) x y
+    unfolding _or_
+    hosted-fifth kind d e ek ed = rw (on-is, e) (ed ∙ fifth-is x y kind r l k er ek)
+
+-- ---- laws: without dependencies and operations there is neither L4 nor L5
+
+module _ (b : List ℕ) (p : List (List ℕ)) (mode : Mode) (n : ℕ) (none : unhosted mode b n ≡ true) where
+  no-depends : (x y : ℕ) → dependsOf mode x y ≡ false
+  unfolding dependsOf unhosted
+  no-depends x y = rw (eqb-true (mode .dependencies) 0 (split none .0)) (any-none _)
+
+  no-fourth : (x y : ℕ) → x < n → y < n → L4 (decode b p mode n) x y ≡ false
+  unfolding L4 systemBefore decode
+  no-fourth x y l k = and-false-right _ _ (through-none (dependsOf mode) n (λ i j h g. no-depends i j) n x y (omega arith) l k)
+
+  no-operation : (a : ℕ) → a < n → operation (rowOf b a) ≡ false
+  unfolding unhosted operationAt
+  no-operation a l = any-off _ n (not-out _ (split none .1)) a l
+
+  no-way : (x y a : ℕ) → a < n → reachesBy (decode b p mode n) x y a ≡ false
+  unfolding reachesBy thence availableKind decode
+  no-way x y a l =
+      and-false-left _ _ (and-false-left _ _ (not-so _ (λ e. let k = available-kinds (onHost (decode b p mode n) x) (rowOf b a .kind) e in not-both (operation-kind (rowOf b a) _ (k .3) (k .4) (eq-eqb (rowOf b a .kind) _ refl)) (no-operation a l))))
+
+  no-fifth : (x y : ℕ) → L5 (decode b p mode n) x y ≡ false
+  unfolding L5 decode
+  no-fifth x y = and-false-right _ _ (any-not _ n (λ a l. no-way x y a l))
+
+  no-hosted : (x y : ℕ) → x < n → y < n → hosted (decode b p mode n) x y ≡ false
+  unfolding hosted
+  no-hosted x y l k = and-false-right _ _ (or-none (no-fourth x y l k) (no-fifth x y))
+
+  pub made-unhosted : (w v : List ℕ) → n ≤ ROWS → WORK ≤ length w → v ≡ zeros w HOSTED (HOSTED-END - HOSTED)
+      → Made HOSTED REACHED-END HOSTED GRID n (hosted (decode b p mode n)) w v
+  unfolding rel
+  made-unhosted w v small room e =
+      record {
+        holds = record {
+          fits = omega arith;
+          cell = λ i j h g. rw e (bit-zeros-in w HOSTED (HOSTED-END - HOSTED) ((HOSTED + i * GRID) * 64 + j) (omega arith) (omega arith) (omega arith) ∙ sym (no-hosted i j h g));
+        };
+        frame = within-widen HOSTED REACHED-END (omega arith) (omega arith) (within-cleared HOSTED HOSTED-END (omega arith) e);
+      }
+
+-- ---- laws: the stages, one after the other
+
+pub system-is : (b : List ℕ) (p : List (List ℕ)) (mode : Mode) (n : ℕ) {w u : List ℕ}
+    → Made SYSTEM SYSTEM-END SYSTEM GRID n (through (dependsOf mode) n) w u → Holds SYSTEM GRID n (systemBefore (decode b p mode n)) u
+unfolding systemBefore decode
+system-is b p mode n m = holds-cong (λ i j h g. refl) (m .holds)
+
+pub meeting-made : {t : Table} {n : ℕ} {w u : List ℕ} → Ordered t n w → Made MET MET-END MET GRID n (metBy t) w u → Meeting t n u
+meeting-made o m = record { ordered = ordered-kept (omega arith) (m .frame) o; meeting = m .holds }
+
+pub meeting-kept : {t : Table} {n : ℕ} {w u : List ℕ} → Within REACHED REACHED-END w u → Meeting t n w → Meeting t n u
+meeting-kept f s = record { ordered = ordered-kept (omega arith) f (s .ordered); meeting = holds-kept (λ h. omega arith) f (s .meeting) }
+
+pub sources-made : (t : Table) (n : ℕ) {w u : List ℕ} → Ordered t n w → Holds SYSTEM GRID n (systemBefore t) w
+    → Made REACHED REACHED-END REACHED GRID n (reached t) w u → Sources t n u
+sources-made t n o h m =
+    record {
+      ordered = ordered-kept (omega arith) (m .frame) o;
+      system = holds-kept (λ h. omega arith) (m .frame) h;
+      reaching = m .holds;
+    }
+
+pub sources-kept : {t : Table} {n : ℕ} {w u : List ℕ} → Within HOSTED HOSTED-END w u → Sources t n w → Sources t n u
+sources-kept f s =
+    record {
+      ordered = ordered-kept (omega arith) f (s .ordered);
+      system = holds-kept (λ h. omega arith) f (s .system);
+      reaching = holds-kept (λ h. omega arith) f (s .reaching);
+    }
+
+pub made-hosted : {n : ℕ} {r : ℕ → ℕ → Bool} {w v x z u : List ℕ} → Within SYSTEM SYSTEM-END w v → Within MET MET-END v x → Within REACHED REACHED-END x z
+    → Made HOSTED HOSTED-END HOSTED GRID n r z u
+    → Made HOSTED REACHED-END HOSTED GRID n r w u
+made-hosted f g h m =
+    record {
+      holds = m .holds;
+      frame = within-trans
+          (within-trans (within-widen HOSTED REACHED-END (omega arith) (omega arith) f) (within-widen HOSTED REACHED-END (omega arith) (omega arith) g))
+          (within-trans (within-widen HOSTED REACHED-END (omega arith) (omega arith) h) (within-widen HOSTED REACHED-END (omega arith) (omega arith) (m .frame)));
+    }

@@ -65,6 +65,12 @@ module _ (t : Table) where
 
 -- ---- the theorems
 
+-- for one table, refused or not, and any buffers that are long enough the verdict is the same
+pub same-verdict : (chains : Bool) (s : List ℕ) (work buffer work′ buffer′ : ℕ) → buffersFit CYCLE work buffer ≡ true → buffersFit CYCLE work′ buffer′ ≡ true
+    → check chains s work′ buffer′ ≡ check chains s work buffer
+unfolding check
+same-verdict chains s work buffer work′ buffer′ h k = rw (h, k) refl
+
 module _ (chains : Bool) (s : List ℕ) (work buffer : ℕ) (fit : buffersFit CYCLE work buffer ≡ true) (well : WellFormed s) where
   abbrev t : Table
   t = tableUnder chains s
@@ -167,9 +173,3 @@ module _ (chains : Bool) (s : List ℕ) (work buffer : ℕ) (fit : buffersFit CY
     λ e. settled t (race-none t sized .0 (stuck t (said-free found (sym check-is ∙ e) .2))),
     λ f. check-is ∙ say-free found (acyclic (c .0)) (unbroken (c .1)) (le-ltb (raceRow t) (t .rows) (omega (arith, race-none t sized .1 (unsettled t f)))),
   )
-
-  -- ---- for one table and any buffers that are long enough the verdict is the same
-
-  pub same-verdict : (work′ buffer′ : ℕ) → buffersFit CYCLE work′ buffer′ ≡ true → check chains s work′ buffer′ ≡ check chains s work buffer
-  unfolding check
-  same-verdict work′ buffer′ h = rw (fit, h) refl

@@ -19,42 +19,47 @@ use Rattle.model.specs.Table.{Table, agentsAt, rowsAt, decode, tableUnder, sour
 use Rattle.model.specs.Race.{raceRow, racePartner, raceByte}
 use Rattle.model.specs.Edge.{consistent}
 use Rattle.model.specs.Refusal.{buffersFit, admission}
-use Rattle.model.specs.Fill.{Outcome, race, none, filled, sourcesFit, filledOr, racingOr, outcome, admittedFill, fill}
+use Rattle.model.specs.Fill.{Outcome, race, none, filled, chosen, sourcesFit, filledOr, racingOr, outcome, admittedFill, fill}
 use Rattle.model.specs.Words.{Unordered, Races, blankAt, Filling}
-use Rattle.model.specs.RaceLaws.{FirstRace, race-shown, race-none}
+use Rattle.model.specs.AdmissionLaws.{admitted-sound, size-fits}
+use Rattle.model.specs.RaceLaws.{Sized, FirstRace, race-shown, race-none}
 use Rattle.model.specs.ChoiceLaws.{NoRace}
 use Rattle.model.specs.FillingLaws.{under-kept}
 use Rattle.model.specs.FilledLaws.{Bytes, fillings-same}
 use Rattle.promises.specs.Searches.{stuck, free-of}
 use Rattle.promises.specs.Outcomes.{settled, said-race, said-filled, said-none, say-race, say-filled, say-none}
-use Rattle.promises.specs.FillLaws.{Good, t, source, fair, forced, good-fits, good-consistent, made, made-sources, made-good}
+use Rattle.promises.specs.FillLaws.{Good, forced, good-fits, good-consistent, made, made-sources, made-good}
 
-module _ (chains : Bool) (s : List ℕ) (bytes : Bytes s) (work buffer : ℕ) (fit : buffersFit SOURCES work buffer ≡ true) (well : admission true s ≡ Admitted (agentsAt s) (rowsAt s)) where
+module _ (chains : Bool) (s : List ℕ) (work buffer : ℕ) (fit : buffersFit SOURCES work buffer ≡ true) (well : admission true s ≡ Admitted (agentsAt s) (rowsAt s)) where
   abbrev T : Table
   T = tableUnder chains s
 
-  abbrev chosen : ℕ → ℕ
-  chosen = source chains s bytes well
+  abbrev sources : ℕ → ℕ
+  sources = chosen T (sourcesOf s)
 
   abbrev found : Bool
   found = ltb (raceRow T) (T .rows)
 
   abbrev passes : Bool
-  passes = sourcesFit T chosen and consistent T chosen
+  passes = sourcesFit T sources and consistent T sources
 
   abbrev said : Outcome
-  said = settled found passes (raceRow T) (racePartner T (raceRow T)) (raceByte T (raceRow T) (racePartner T (raceRow T))) (tabulate chosen (T .rows))
+  said = settled found passes (raceRow T) (racePartner T (raceRow T)) (raceByte T (raceRow T) (racePartner T (raceRow T))) (tabulate sources (T .rows))
 
   fill-is : fill chains s work buffer ≡ said
   unfolding fill outcome filledOr racingOr admittedFill settled
   fill-is = rw (fit, well) refl
+
+  sized : Sized T
+  unfolding tableUnder decode
+  sized i l = size-fits (admitted-sound true s well) i l
 
   -- ---- a. race exactly when a pair races; what is shown is the first such pair and its lowest byte with no order
 
   pub shows-race : (x y b : ℕ) → fill chains s work buffer ≡ race x y b → FirstRace T x y b
   shows-race x y b e =
       let p = said-race _ _ _ _ _ _ (sym fill-is ∙ e) in
-      rw (← p .1, ← p .2, ← p .3) (race-shown T (fair chains s bytes well .sized) (ltb-true _ _ (p .0)))
+      rw (← p .1, ← p .2, ← p .3) (race-shown T (sized) (ltb-true _ _ (p .0)))
 
   pub says-race : ((x : ℕ) × (y : ℕ) × (b : ℕ) × (fill chains s work buffer ≡ race x y b)) ↔ ((x : ℕ) × (y : ℕ) × (x < y) × (y < T .rows) × Races T x y)
   says-race = (
@@ -63,56 +68,59 @@ module _ (chains : Bool) (s : List ℕ) (bytes : Bytes s) (work buffer : ℕ) (f
   )
     where
       some : ((x : ℕ) × (y : ℕ) × (x < y) × (y < T .rows) × Races T x y) → found ≡ true
-      some r = ⊎-elim (λ e. e) (λ e. absurd (race-none T (fair chains s bytes well .sized) .0 (stuck T e) (r .0) (r .1) (r .2) (r .3) (r .4))) (which found)
+      some r = ⊎-elim (λ e. e) (λ e. absurd (race-none T (sized) .0 (stuck T e) (r .0) (r .1) (r .2) (r .3) (r .4))) (which found)
 
-  -- ---- b. whatever a filling puts in, the same pairs race, with the same unordered bytes
+  module _ (bytes : Bytes s) where
+    -- ---- c. when no pair races: filled exactly when some filling is well formed and consistent, none exactly when there is none
 
-  pub same-races : (f : List ℕ) → Filling s f → (x y : ℕ) → Races (tableUnder chains f) x y ≡ Races T x y
-  same-races f h x y = ap (λ (u : Table). Races u x y) (under-kept h chains)
+    module _ (free : NoRace T) where
+      calm : found ≡ false
+      calm = le-ltb (raceRow T) (T .rows) (omega (arith, race-none T (sized) .1 free))
 
-  pub same-bytes : (f : List ℕ) → Filling s f → (x y b : ℕ) → Unordered (tableUnder chains f) x y b ≡ Unordered T x y b
-  same-bytes f h x y b = ap (λ (u : Table). Unordered u x y b) (under-kept h chains)
-
-  -- ---- c. when no pair races: filled exactly when some filling is well formed and consistent, none exactly when there is none
-
-  module _ (free : NoRace T) where
-    calm : found ≡ false
-    calm = le-ltb (raceRow T) (T .rows) (omega (arith, race-none T (fair chains s bytes well .sized) .1 free))
-
-    pub says-filled : ((l : List ℕ) × (fill chains s work buffer ≡ filled l)) ↔ ((f : List ℕ) × Good chains s f)
-    says-filled = (
-      λ e. let p = split (said-filled _ _ _ _ _ _ (sym fill-is ∙ e .1) .1) in (made chains s bytes well (p .0) (p .1), made-good chains s bytes well (p .0) (p .1)),
-      λ g. (_, fill-is ∙ say-filled _ _ _ _ _ _ calm (and-true (good-fits chains s bytes well free (g .0) (g .1)) (good-consistent chains s bytes well free (g .0) (g .1)))),
-    )
-
-    pub says-none : (fill chains s work buffer ≡ none) ↔ ((f : List ℕ) → Good chains s f → ⊥)
-    says-none = (
-      λ e f g. not-both (and-true (good-fits chains s bytes well free f g) (good-consistent chains s bytes well free f g)) (said-none _ _ _ _ _ _ (sym fill-is ∙ e) .1),
-      λ n. fill-is ∙ say-none _ _ _ _ _ _ calm (not-so passes (λ p. n _ (made-good chains s bytes well (split p .0) (split p .1)))),
-    )
-
-  -- ---- d, e. what is handed back is such a filling, its sources row by row, and it is the only one
-
-  pub shows-filled : (l : List ℕ) → fill chains s work buffer ≡ filled l
-      → (f : List ℕ) × Good chains s f × (length l ≡ rowsAt s) × ((i : ℕ) → i < rowsAt s → getD l i 0 ≡ sourcesOf f i) × ((g : List ℕ) → Good chains s g → g ≡ f)
-  unfolding tableUnder decode
-  shows-filled l e =
-      let p = said-filled _ _ _ _ _ _ (sym fill-is ∙ e) in
-      let q = split (p .1) in
-      let free = free-of T (fair chains s bytes well .sized) (p .0) in
-      let same = made-sources chains s bytes well (q .0) (q .1) in (
-        made chains s bytes well (q .0) (q .1),
-        made-good chains s bytes well (q .0) (q .1),
-        sym (ap length (p .2)) ∙ length-tabulate chosen (rowsAt s),
-        λ i m. sym (ap (λ (v : List ℕ). getD v i 0) (p .2)) ∙ getD-tabulate chosen (rowsAt s) i 0 m ∙ sym (same i m),
-        λ g h. fillings-same (h .0) (made-good chains s bytes well (q .0) (q .1) .0) (λ i m. forced chains s bytes well free g h i m ∙ sym (same i m)),
+      pub says-filled : ((l : List ℕ) × (fill chains s work buffer ≡ filled l)) ↔ ((f : List ℕ) × Good chains s f)
+      says-filled = (
+        λ e. let p = split (said-filled _ _ _ _ _ _ (sym fill-is ∙ e .1) .1) in (made chains s bytes well (p .0) (p .1), made-good chains s bytes well (p .0) (p .1)),
+        λ g. (_, fill-is ∙ say-filled _ _ _ _ _ _ calm (and-true (good-fits chains s bytes well free (g .0) (g .1)) (good-consistent chains s bytes well free (g .0) (g .1)))),
       )
 
-  -- ---- g. for one table and any buffers that are long enough the outcome is the same
+      pub says-none : (fill chains s work buffer ≡ none) ↔ ((f : List ℕ) → Good chains s f → ⊥)
+      says-none = (
+        λ e f g. not-both (and-true (good-fits chains s bytes well free f g) (good-consistent chains s bytes well free f g)) (said-none _ _ _ _ _ _ (sym fill-is ∙ e) .1),
+        λ n. fill-is ∙ say-none _ _ _ _ _ _ calm (not-so passes (λ p. n _ (made-good chains s bytes well (split p .0) (split p .1)))),
+      )
 
-  pub same-outcome : (work′ buffer′ : ℕ) → buffersFit SOURCES work′ buffer′ ≡ true → fill chains s work′ buffer′ ≡ fill chains s work buffer
-  unfolding fill
-  same-outcome work′ buffer′ h = rw (fit, h) refl
+    -- ---- d, e. what is handed back is such a filling, its sources row by row, and it is the only one
+
+    pub shows-filled : (l : List ℕ) → fill chains s work buffer ≡ filled l
+        → (f : List ℕ) × Good chains s f × (length l ≡ rowsAt s) × ((i : ℕ) → i < rowsAt s → getD l i 0 ≡ sourcesOf f i) × ((g : List ℕ) → Good chains s g → g ≡ f)
+    unfolding tableUnder decode
+    shows-filled l e =
+        let p = said-filled _ _ _ _ _ _ (sym fill-is ∙ e) in
+        let q = split (p .1) in
+        let free = free-of T (sized) (p .0) in
+        let same = made-sources chains s bytes well (q .0) (q .1) in (
+          made chains s bytes well (q .0) (q .1),
+          made-good chains s bytes well (q .0) (q .1),
+          sym (ap length (p .2)) ∙ length-tabulate sources (rowsAt s),
+          λ i m. sym (ap (λ (v : List ℕ). getD v i 0) (p .2)) ∙ getD-tabulate sources (rowsAt s) i 0 m ∙ sym (same i m),
+          λ g h. fillings-same (h .0) (made-good chains s bytes well (q .0) (q .1) .0) (λ i m. forced chains s bytes well free g h i m ∙ sym (same i m)),
+        )
+
+-- ---- b. whatever a filling puts in, the same pairs race, with the same unordered bytes
+
+module _ (chains : Bool) (s f : List ℕ) (h : Filling s f) where
+  pub same-races : (x y : ℕ) → Races (tableUnder chains f) x y ≡ Races (tableUnder chains s) x y
+  same-races x y = ap (λ (u : Table). Races u x y) (under-kept h chains)
+
+  pub same-bytes : (x y b : ℕ) → Unordered (tableUnder chains f) x y b ≡ Unordered (tableUnder chains s) x y b
+  same-bytes x y b = ap (λ (u : Table). Unordered u x y b) (under-kept h chains)
+
+-- ---- g. for one table, refused or not, and any buffers that are long enough the outcome is the same
+
+pub same-outcome : (chains : Bool) (s : List ℕ) (work buffer work′ buffer′ : ℕ) → buffersFit SOURCES work buffer ≡ true → buffersFit SOURCES work′ buffer′ ≡ true
+    → fill chains s work′ buffer′ ≡ fill chains s work buffer
+unfolding fill
+same-outcome chains s work buffer work′ buffer′ h k = rw (h, k) refl
 
 -- ---- f. a table without blanks is its own one filling
 

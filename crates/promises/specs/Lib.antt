@@ -1,6 +1,7 @@
 pub mod Check
 pub mod Fill
 pub mod Reason
+pub mod Answers
 pub mod Cases
 pub mod Outcomes
 pub mod Searches

@@ -93,6 +93,13 @@ counted-tag t = go (shareOf (racing t) (conflicting t))
 
 -- ---- the theorems: check's answer and no report
 
+-- for one table, refused or not, and any buffers that are long enough the answer is the same
+pub same-report : (chains : Bool) (s : List ℕ) (work buffer work′ buffer′ : ℕ) → buffersFit CYCLE work buffer ≡ true → buffersFit CYCLE work′ buffer′ ≡ true
+    → report chains s work′ buffer′ ≡ report chains s work buffer
+unfolding report
+same-report chains s work buffer work′ buffer′ h k =
+    ap (λ (v : Verdict). reportAnswer (checkAnswer v) (tableUnder chains s)) (same-verdict chains s work buffer work′ buffer′ h k)
+
 module _ (chains : Bool) (s : List ℕ) (work buffer : ℕ) where
   -- whatever the table and the buffers: refused with a number and row exactly where a check refuses with them
   pub says-refused : (n i : ℕ) → (report chains s work buffer ≡ told.Refused n i) ↔ (check chains s work buffer ≡ refused n i)
@@ -137,11 +144,6 @@ module _ (chains : Bool) (s : List ℕ) (work buffer : ℕ) (fit : buffersFit CY
 
   abbrev source : ℕ → ℕ
   source = sourcesOf s
-
-  -- for one table and any buffers that are long enough the answer is the same
-  pub same-report : (work′ buffer′ : ℕ) → buffersFit CYCLE work′ buffer′ ≡ true → report chains s work′ buffer′ ≡ report chains s work buffer
-  unfolding report
-  same-report work′ buffer′ h = ap (λ (v : Verdict). reportAnswer (checkAnswer v) t) (same-verdict chains s work buffer fit well work′ buffer′ h)
 
   sized : Sized t
   unfolding tableUnder decode

@@ -19,6 +19,9 @@ use Rattle.model.specs.Location.{sameReference, coversOf, pureRead, publ
 use Rattle.model.specs.Race.{clash, conflict, unordered, unorderedNth, raceNth, races, racesAbove, racePartner, hasRace, raceRow, raceByte}
 use Rattle.model.specs.Edge.{beforeNth, beforeSome, readsFrom, fromReads, edgeNumber, edge, cycleRow, cycleRows, cycleEdges, overwrites, overwritesNth, overNth, overwriting, overWriter, isOverwritten, overReader, overByte, consistent}
 use Rattle.model.specs.Refusal.{buffersFit, versionFits, limitsFit, lengthFits, kindOver, agentsKnown, dependenciesFew, namesNone, dependenciesNamed, hostsFault, headerFault, codesFit, agentFits, operationFits, plainFits, atomicFits, barrierFits, semanticsFit, kindFits, atomicExtentFits, extentFits, formFault, rowFault, otherClass, otherClassAt, classTaken, writerFits, sourceFits, sourceBroken, sameRank, sameRankAt, rankTaken, apart, apartAt, instanceBroken, rival, outside, outsideAt, begins, unfit, tableFault, faulty, firstFault, rowFaultAt, admission}
+use Rattle.model.specs.declared.Reason.the-variants.{ProgramOrder}
+use Rattle.model.specs.Reason as reason
+use Rattle.model.specs.Reason.{Judged, judge, admittedReader, judged, twoMoments, accepts}
 use Rattle.model.specs.Check.{raceOr, overwrittenOr, cyclicOr, verdict, admitted, check}
 use Rattle.model.specs.Fill.{missesAt, writtenBy, written, hidesAt, between, candidate, choice, blank, chosen, sourcesFit, filledOr, racingOr, outcome, admittedFill, fill}
 use Rattle.model.specs.Check.{Verdict, refused, cyclic, overwritten, race, raceFree}
@@ -30,10 +33,13 @@ use Rattle.model.specs.Limits.{WORK, CYCLE, SOURCES}
 pub data Answer : Type 0 where
   checked : Verdict → Answer
   filling : Outcome → Answer
+  reasoned : Judged → Answer
 
 pub data Ask : Type 0 where
   asCheck : Ask
   asFill : Ask
+  -- whether program order leads from the one moment to the other
+  asOrder : ℕ → ℕ → Ask
 
 pub record Run : Type 0 where
   pub ask : Ask
@@ -44,6 +50,7 @@ pub record Run : Type 0 where
 unfoldable pub answer : Ask → List ℕ → Answer
 answer asCheck s = checked (check false s WORK CYCLE)
 answer asFill s = filling (fill false s WORK SOURCES)
+answer (asOrder m k) s = reasoned (judge s m k ProgramOrder [])
 
 -- ---- tables
 
@@ -168,6 +175,10 @@ handed c w = change 2 1 4 c (change 2 2 4 c (table (agent₀ ∷ agent₁ ∷ []
 abbrev partly : List ℕ
 partly = change 2 2 4 1 (change 2 3 4 1 (change 2 3 13 2 (table (agent₀ ∷ agent₁ ∷ []) (write ∷ shortWrite ∷ flagOut ∷ flagIn ∷ lateWrite ∷ []))))
 
+-- a write that makes itself available in this scope, and a read of the same agent that makes visible in it
+abbrev alone : ℕ → List ℕ
+alone scope = change 1 0 3 scope (change 1 1 3 scope (change 1 0 5 3 (change 1 1 5 5 (table (agent₀ ∷ []) (write ∷ earlyRead ∷ [])))))
+
 abbrev pub shortcuts : List Run
 shortcuts =
     -- closing happens-before over program order: the flag is released for Workgroup only, and then for Uniform
@@ -180,10 +191,15 @@ shortcuts =
     ∷ record { ask = asCheck; table = partly; gives = checked (race 0 4 2) }
     -- from-reads from an RMW to itself
     ∷ record { ask = asCheck; table = table (agent₀ ∷ []) (selfRmw ∷ []); gives = checked raceFree }
+    -- scope 0 gives no moment of availability, nor of visibility; subgroup scope gives both
+    ∷ record { ask = asOrder 2 4; table = alone 0; gives = reasoned (reason.refused 12 0) }
+    ∷ record { ask = asOrder 1 3; table = alone 0; gives = reasoned (reason.refused 12 0) }
+    ∷ record { ask = asOrder 2 4; table = alone 1; gives = reasoned reason.accepted }
+    ∷ record { ask = asOrder 1 3; table = alone 1; gives = reasoned reason.accepted }
     ∷ []
 
 pub shortcuts-hold : map (λ r. answer (r .ask) (r .table)) shortcuts ≡ map (λ r. r .gives) shortcuts
-unfolding answer _and_ _or_ anyBelow allBelow least through tabulate walk onCycle cycleStart cycleSize trail cycle along plain atomic access barrier control sameInstance operation plainRead rmw reads writes ranked acquires releases holds meets single classIn nonPrivate makesAvailable makesVisible inside touches covers lowestShared isShared overlap pairAt quadAt countAt versionAt agentsAt rowsAt zeroAt hasHosts threeAt fourAt placeAt slotAt placesOf modeOf rowsBegin rowsEnd sizeOf rowBytes dependencyBytes byteOf pairOf rowOf sourceOf atomicSource dependencyCount dependencyEnd dependencyFrom dependencyTo dependency dependsOf decode tableUnder tableOf sourcesOf agree agentKind shader host oneInstance shares together sameLocation mutualRows mutually age later laterWriter follows availabilityOf visibilityOf momentOf momentIn orderedRows classesOf availability visibility moment sameAgent programOrder continues ends sequence takesFrom leads trails syncAtomics carriesOut syncFromBarrier carriesIn syncToBarrier carriesOver syncBarriers upTo joins arrives passes syncControl synchronizes holdingOf concernsOf holding concerns bySync toRelease fromAcquire bySystem step interThread holdsAll live interThreadBy happens sameReference coversOf pureRead publicWrite L1 L2 availableAt visibleAt firstAvailable lastVisible broader broadens narrows availabilityChain visibilityChain availableBy availableFrom visibleBy visibleTo inDomain shown met carried byDomain L3 systemBefore L4 thence onHost availableKind visibleKind domainKind seenBy metFrom carriedBy reachesBy L5 common before clash conflict unordered unorderedNth raceNth races racesAbove racePartner hasRace raceRow raceByte beforeNth beforeSome readsFrom fromReads edgeNumber edge cycleRow cycleRows cycleEdges overwrites overwritesNth overNth overwriting overWriter isOverwritten overReader overByte consistent buffersFit versionFits limitsFit lengthFits kindOver agentsKnown dependenciesFew namesNone dependenciesNamed hostsFault headerFault codesFit agentFits operationFits plainFits atomicFits barrierFits semanticsFit kindFits atomicExtentFits extentFits formFault rowFault otherClass otherClassAt classTaken writerFits sourceFits sourceBroken sameRank sameRankAt rankTaken apart apartAt instanceBroken rival outside outsideAt begins unfit tableFault faulty firstFault rowFaultAt admission raceOr overwrittenOr cyclicOr verdict admitted check missesAt writtenBy written hidesAt between candidate choice blank chosen sourcesFit filledOr racingOr outcome admittedFill fill
+unfolding answer _and_ _or_ anyBelow allBelow least through tabulate walk onCycle cycleStart cycleSize trail cycle along plain atomic access barrier control sameInstance operation plainRead rmw reads writes ranked acquires releases holds meets single classIn nonPrivate makesAvailable makesVisible inside touches covers lowestShared isShared overlap pairAt quadAt countAt versionAt agentsAt rowsAt zeroAt hasHosts threeAt fourAt placeAt slotAt placesOf modeOf rowsBegin rowsEnd sizeOf rowBytes dependencyBytes byteOf pairOf rowOf sourceOf atomicSource dependencyCount dependencyEnd dependencyFrom dependencyTo dependency dependsOf decode tableUnder tableOf sourcesOf agree agentKind shader host oneInstance shares together sameLocation mutualRows mutually age later laterWriter follows availabilityOf visibilityOf momentOf momentIn orderedRows classesOf availability visibility moment sameAgent programOrder continues ends sequence takesFrom leads trails syncAtomics carriesOut syncFromBarrier carriesIn syncToBarrier carriesOver syncBarriers upTo joins arrives passes syncControl synchronizes holdingOf concernsOf holding concerns bySync toRelease fromAcquire bySystem step interThread holdsAll live interThreadBy happens sameReference coversOf pureRead publicWrite L1 L2 availableAt visibleAt firstAvailable lastVisible broader broadens narrows availabilityChain visibilityChain availableBy availableFrom visibleBy visibleTo inDomain shown met carried byDomain L3 systemBefore L4 thence onHost availableKind visibleKind domainKind seenBy metFrom carriedBy reachesBy L5 common before clash conflict unordered unorderedNth raceNth races racesAbove racePartner hasRace raceRow raceByte beforeNth beforeSome readsFrom fromReads edgeNumber edge cycleRow cycleRows cycleEdges overwrites overwritesNth overNth overwriting overWriter isOverwritten overReader overByte consistent buffersFit versionFits limitsFit lengthFits kindOver agentsKnown dependenciesFew namesNone dependenciesNamed hostsFault headerFault codesFit agentFits operationFits plainFits atomicFits barrierFits semanticsFit kindFits atomicExtentFits extentFits formFault rowFault otherClass otherClassAt classTaken writerFits sourceFits sourceBroken sameRank sameRankAt rankTaken apart apartAt instanceBroken rival outside outsideAt begins unfit tableFault faulty firstFault rowFaultAt admission raceOr overwrittenOr cyclicOr verdict admitted check missesAt writtenBy written hidesAt between candidate choice blank chosen sourcesFit filledOr racingOr outcome admittedFill fill judge admittedReader judged twoMoments accepts
 shortcuts-hold = refl
 
 -- ---- control barriers

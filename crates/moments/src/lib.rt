@@ -4,6 +4,7 @@ ghost use mathlib.Core.List.{List};
 ghost use mathlib.Core.Bool.{Bool, cond};
 ghost use Prim.Native.Nat.{ℕ, _+_, _*_, _/_, _%_, _<_};
 ghost use Rattle.model.specs.declared.Mode.{Mode};
+ghost use Rattle.model.specs.Limits.{ROWS};
 ghost use Rattle.model.specs.Table.{decode};
 ghost use Rattle.model.specs.Moment.{availabilityOf, visibilityOf, momentOf, momentIn, classesOf, orderedRows, moment, programOrder};
 use model::Row;
@@ -70,7 +71,7 @@ pub fn is_ordered(n: usize, m: usize, k: usize, r: Row, q: Row) -> bool
 
 // Program order of two moments of a table. Most pairs are told apart by their numbers or agents, and no whole row is read.
 pub fn ordered_at(rows: &[u8], n: usize, m: usize, k: usize) -> bool
-    requires { ⌜ (m < 196608) × (k < 196608) ⌝ }
+    requires { ⌜ (m < 3 * ROWS) × (k < 3 * ROWS) ⌝ }
     ensures { λ b. ⌜ ((p : List (List ℕ)) (mode : Mode) → b ≡ programOrder (decode (now (rows .entry)) p mode n) m k) ⌝ }
 {
     if k <= m {

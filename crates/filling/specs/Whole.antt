@@ -16,7 +16,7 @@ use Rattle.model.specs.declared.Admission.the-variants.{Admitted, Refused}
 use Rattle.model.specs.declared.FillAnswer.{FillAnswer}
 use Rattle.model.specs.declared.FillAnswer.the-variants
 use Rattle.model.specs.Limits.{WORK, SOURCES}
-use Rattle.model.specs.Table.{modeOf, Table, rowsAt, rowBytes, placesOf, sourceOf, decode, tableOf, sourcesOf}
+use Rattle.model.specs.Table.{modeOf, Table, rowsAt, rowBytes, placesOf, sourceOf, decode, tableUnder, sourcesOf}
 use Rattle.model.specs.Race.{raceRow, racePartner, raceByte}
 use Rattle.model.specs.Edge.{consistent}
 use Rattle.model.specs.Refusal.{buffersFit, admission}
@@ -45,19 +45,19 @@ outcome-same : (t : Table) (a b : ℕ → ℕ) → ((i : ℕ) → i < t .rows �
 unfolding outcome
 outcome-same t a b same = ap (λ (o : Outcome). racingOr o t) (filled-same t (chosen t a) (chosen t b) (λ i l. chosen-same t a b i (same i l)) none)
 
-module _ {s : List ℕ} (h : Sound true s) (b : List ℕ) (p : List (List ℕ)) (mode : Mode) (n : ℕ) (rows : b ≡ rowBytes s) (places : p ≡ placesOf s) (modes : mode ≡ modeOf false s) (all : n ≡ rowsAt s)
+module _ {s : List ℕ} (h : Sound true s) (chains : Bool) (b : List ℕ) (p : List (List ℕ)) (mode : Mode) (n : ℕ) (rows : b ≡ rowBytes s) (places : p ≡ placesOf s) (modes : mode ≡ modeOf chains s) (all : n ≡ rowsAt s)
     (src : List ℕ) (listed : Listed (sourceOf b) n src) where
-  outcome-is : outcome (decode b p mode n) (sourceIn src) ≡ outcome (tableOf s) (sourcesOf s)
+  outcome-is : outcome (decode b p mode n) (sourceIn src) ≡ outcome (tableUnder chains s) (sourcesOf s)
   unfolding sourcesOf decode
   outcome-is =
       outcome-same (decode b p mode n) (sourceIn src) (sourceOf (rowBytes s)) (λ i m. listed .each i m ∙ ap (λ (v : List ℕ). sourceOf v i) rows)
-      ∙ ap (λ (t : Table). outcome t (sourceOf (rowBytes s))) (table-is h b p _ n rows places modes all)
+      ∙ ap (λ (t : Table). outcome t (sourceOf (rowBytes s))) (table-is h chains b p _ n rows places modes all)
 
   -- located, settled, wiped
   pub table-filled : (r : FillAnswer) (w v u z c d : List ℕ) → WORK ≤ length w → Within MUTUAL LOCATED-END w v
       → (r ≡ fillAnswer (outcome (decode b p mode n) (sourceIn src))) × (d ≡ sourcesAfter (outcome (decode b p mode n) (sourceIn src)) c) × Within EDGE LAYERS-END v u
       → z ≡ zeros u 0 WORK
-      → (r ≡ fillAnswer (outcome (tableOf s) (sourcesOf s))) × (z ≡ wiped w) × (d ≡ sourcesAfter (outcome (tableOf s) (sourcesOf s)) c)
+      → (r ≡ fillAnswer (outcome (tableUnder chains s) (sourcesOf s))) × (z ≡ wiped w) × (d ≡ sourcesAfter (outcome (tableUnder chains s) (sourcesOf s)) c)
   table-filled r w v u z c d room f a e =
       (a .0 ∙ ap fillAnswer outcome-is, wiped-after w v u z room f (a .2) e, a .1 ∙ ap (λ (o : Outcome). sourcesAfter o c) outcome-is)
 
@@ -99,40 +99,40 @@ refused-left : (o : Outcome) (k i : ℕ) (w c : List ℕ) → o ≡ refused k i 
 unfolding fillAnswer workAfter sourcesAfter
 refused-left o k i w c e = (rw e refl, rw e refl, rw e refl)
 
-short : (s : List ℕ) (work buffer : ℕ) → buffersFit SOURCES work buffer ≡ false → fill s work buffer ≡ refused 11 0
+short : (chains : Bool) (s : List ℕ) (work buffer : ℕ) → buffersFit SOURCES work buffer ≡ false → fill chains s work buffer ≡ refused 11 0
 unfolding fill
-short s work buffer e = rw e refl
+short chains s work buffer e = rw e refl
 
-module _ (s w c : List ℕ) where
+module _ (chains : Bool) (s w c : List ℕ) where
   abbrev pub told : Outcome
-  told = fill s (length w) (length c)
+  told = fill chains s (length w) (length c)
 
   pub work-short : length w < WORK → Left told (the-variants.Refused 11 0) w w c c
   unfolding buffersFit
-  work-short l = refused-left told 11 0 w c (short s (length w) (length c) (and-false-left _ _ (lt-leb WORK (length w) l)))
+  work-short l = refused-left told 11 0 w c (short chains s (length w) (length c) (and-false-left _ _ (lt-leb WORK (length w) l)))
 
   pub buffer-short : length c < SOURCES → Left told (the-variants.Refused 11 0) w w c c
   unfolding buffersFit
-  buffer-short l = refused-left told 11 0 w c (short s (length w) (length c) (and-false-right _ _ (lt-leb SOURCES (length c) l)))
+  buffer-short l = refused-left told 11 0 w c (short chains s (length w) (length c) (and-false-right _ _ (lt-leb SOURCES (length c) l)))
 
   module _ (room : WORK ≤ length w) (space : SOURCES ≤ length c) (a : Admission) (e : a ≡ admission true s) where
-    fitting : told ≡ admittedFill a (outcome (tableOf s) (sourcesOf s))
+    fitting : told ≡ admittedFill a (outcome (tableUnder chains s) (sourcesOf s))
     unfolding fill buffersFit
     fitting = rw (and-true (le-leb WORK (length w) room) (le-leb SOURCES (length c) space), e) refl
 
     pub table-refused : {k i : ℕ} (r : FillAnswer) → a ≡ Refused k i → r ≡ refusedAnswer a → Left told r w w c c
     unfolding refusedAnswer admittedFill
     table-refused {k} {i} r h g =
-        let o : told ≡ refused k i = fitting ∙ ap (λ (x : Admission). admittedFill x (outcome (tableOf s) (sourcesOf s))) h in
+        let o : told ≡ refused k i = fitting ∙ ap (λ (x : Admission). admittedFill x (outcome (tableUnder chains s) (sourcesOf s))) h in
         rw (g ∙ ap refusedAnswer h) (refused-left told k i w c o)
 
     pub table-told : {k n : ℕ} (r : FillAnswer) (u d : List ℕ) → a ≡ Admitted k n
-        → (r ≡ fillAnswer (outcome (tableOf s) (sourcesOf s))) × (u ≡ wiped w) × (d ≡ sourcesAfter (outcome (tableOf s) (sourcesOf s)) c)
+        → (r ≡ fillAnswer (outcome (tableUnder chains s) (sourcesOf s))) × (u ≡ wiped w) × (d ≡ sourcesAfter (outcome (tableUnder chains s) (sourcesOf s)) c)
         → Left told r w u c d
     unfolding admittedFill
     table-told {k} {n} r u d h x =
-        let o : told ≡ outcome (tableOf s) (sourcesOf s) = fitting ∙ ap (λ (z : Admission). admittedFill z (outcome (tableOf s) (sourcesOf s))) h in (
+        let o : told ≡ outcome (tableUnder chains s) (sourcesOf s) = fitting ∙ ap (λ (z : Admission). admittedFill z (outcome (tableUnder chains s) (sourcesOf s))) h in (
           x .0 ∙ ap fillAnswer (sym o),
-          x .1 ∙ sym (outcome-wiped (tableOf s) (sourcesOf s) w) ∙ ap (λ (z : Outcome). workAfter z w) (sym o),
+          x .1 ∙ sym (outcome-wiped (tableUnder chains s) (sourcesOf s) w) ∙ ap (λ (z : Outcome). workAfter z w) (sym o),
           x .2 ∙ ap (λ (z : Outcome). sourcesAfter z c) (sym o),
         )

@@ -4,7 +4,7 @@ ghost use mathlib.Core.Bool.{true};
 ghost use Prim.Native.Nat.{_≤_};
 ghost use lib.ListN.{length};
 ghost use Rattle.model.specs.Limits.{WORK, SOURCES};
-ghost use Rattle.model.specs.Table.{rowsAt, tableOf, sourcesOf};
+ghost use Rattle.model.specs.Table.{rowsAt, tableUnder, sourcesOf};
 ghost use Rattle.model.specs.Check.{wiped};
 ghost use Rattle.model.specs.AdmissionLaws.{Sound};
 ghost use Rattle.model.specs.Fill.{fill, outcome, fillAnswer, sourcesAfter, workAfter};
@@ -28,13 +28,19 @@ fn refused(a: Admission) -> FillAnswer
 }
 
 // Fills a table of n rows that is admitted; the work area's words end as zeros.
-fn fill_table(table: &[u8], n: usize, work: &mut [u64], sources: &mut [u16]) -> FillAnswer
+fn fill_table(
+    table: &[u8],
+    chains: bool,
+    n: usize,
+    work: &mut [u64],
+    sources: &mut [u16],
+) -> FillAnswer
     requires { ⌜ (WORK ≤ length (now work)) × (SOURCES ≤ length (now sources)) × (n ≡ rowsAt (now table)) × Sound true (now table) ⌝ }
-    ensures { λ r. ⌜ (r ≡ fillAnswer (outcome (tableOf (now (table .entry))) (sourcesOf (now (table .entry)))))
+    ensures { λ r. ⌜ (r ≡ fillAnswer (outcome (tableUnder chains (now (table .entry))) (sourcesOf (now (table .entry)))))
         × (now (work .exit) ≡ wiped (now (work .entry)))
-        × (now (sources .exit) ≡ sourcesAfter (outcome (tableOf (now (table .entry))) (sourcesOf (now (table .entry)))) (now (sources .entry))) ⌝ }
+        × (now (sources .exit) ≡ sourcesAfter (outcome (tableUnder chains (now (table .entry))) (sourcesOf (now (table .entry)))) (now (sources .entry))) ⌝ }
 {
-    let mode = rows::scopes::read_mode(table, false);
+    let mode = rows::scopes::read_mode(table, chains);
     let rows = rows::bytes::row_bytes(table);
     let p = rows::scopes::read_places(table);
     let src = choice::sources::read_sources(rows, n);
@@ -44,13 +50,13 @@ fn fill_table(table: &[u8], n: usize, work: &mut [u64], sources: &mut [u16]) -> 
     r
 }
 
-// Fills the blanks of a table, whatever bytes it has: a refusal, a race, none, or the sources in the lent buffer.
+// Fills the blanks of a table, whatever bytes it has, on a device with chains or without: a refusal, a race, none, or the sources in the lent buffer.
 // Two wrong programs that the contract rules out: one that leaves a choice in the source buffer where the filled table is not
 // consistent; one that names a race and leaves its bits in the work area.
-pub fn fill(table: &[u8], work: &mut [u64], sources: &mut [u16]) -> FillAnswer
-    ensures { λ r. ⌜ (r ≡ fillAnswer (fill (now (table .entry)) (length (now (work .entry))) (length (now (sources .entry)))))
-        × (now (work .exit) ≡ workAfter (fill (now (table .entry)) (length (now (work .entry))) (length (now (sources .entry)))) (now (work .entry)))
-        × (now (sources .exit) ≡ sourcesAfter (fill (now (table .entry)) (length (now (work .entry))) (length (now (sources .entry)))) (now (sources .entry))) ⌝ }
+pub fn fill(table: &[u8], chains: bool, work: &mut [u64], sources: &mut [u16]) -> FillAnswer
+    ensures { λ r. ⌜ (r ≡ fillAnswer (fill chains (now (table .entry)) (length (now (work .entry))) (length (now (sources .entry)))))
+        × (now (work .exit) ≡ workAfter (fill chains (now (table .entry)) (length (now (work .entry))) (length (now (sources .entry)))) (now (work .entry)))
+        × (now (sources .exit) ≡ sourcesAfter (fill chains (now (table .entry)) (length (now (work .entry))) (length (now (sources .entry)))) (now (sources .entry))) ⌝ }
 {
     if work.len() < model::WORK {
         return FillAnswer::Refused { number: 11, row: 0 };
@@ -62,5 +68,5 @@ pub fn fill(table: &[u8], work: &mut [u64], sources: &mut [u16]) -> FillAnswer
     let Admission::Admitted { agents: _, rows: n } = a else {
         return refused(a);
     };
-    fill_table(table, n as usize, work, sources)
+    fill_table(table, chains, n as usize, work, sources)
 }

@@ -19,7 +19,7 @@ use Rattle.model.specs.declared.AcceptAnswer.{AcceptAnswer}
 use Rattle.model.specs.declared.AcceptAnswer.the-variants as accept
 use Rattle.model.specs.Limits.{ROWS, CHAIN, CASE, CLASS-SETS}
 use Rattle.model.specs.Row.{releases, acquires}
-use Rattle.model.specs.Table.{modeOf, Table, rowsAt, rowBytes, placesOf, rowOf, decode, tableOf}
+use Rattle.model.specs.Table.{modeOf, Table, rowsAt, rowBytes, placesOf, rowOf, decode, tableUnder, tableOf}
 use Rattle.model.specs.Moment.{moment, momentIn, orderedRows, programOrder}
 use Rattle.model.specs.Synchronizes.{synchronizes}
 use Rattle.model.specs.Happens.{holdingOf, concernsOf, holding, concerns, bySync, toRelease, fromAcquire, direct}
@@ -149,7 +149,7 @@ module _ (b : List ℕ) (p : List (List ℕ)) (mode : Mode) (n m k : ℕ) (r : R
 
 module _ {s : List ℕ} (h : Sound true s) (b : List ℕ) (p : List (List ℕ)) (mode : Mode) (n : ℕ) (rows : b ≡ rowBytes s) (places : p ≡ placesOf s) (modes : mode ≡ modeOf false s) (all : n ≡ rowsAt s) where
   table-is : decode b p mode n ≡ tableOf s
-  unfolding tableOf
+  unfolding tableOf tableUnder
   table-is = rw (rows, places, modes, all) refl
 
   pub few : n ≤ ROWS

@@ -23,7 +23,7 @@ use Rattle.model.specs.declared.Admission.the-variants.{Admitted, Refused}
 use Rattle.model.specs.declared.DeriveAnswer.{DeriveAnswer}
 use Rattle.model.specs.declared.DeriveAnswer.the-variants
 use Rattle.model.specs.Limits.{ROWS, WORK, CHAIN, CLASS-SETS}
-use Rattle.model.specs.Table.{modeOf, Table, rowsAt, rowBytes, placesOf, rowOf, decode, tableOf}
+use Rattle.model.specs.Table.{modeOf, Table, rowsAt, rowBytes, placesOf, rowOf, decode, tableUnder, tableOf}
 use Rattle.model.specs.Moment.{momentIn, moment, programOrder}
 use Rattle.model.specs.Happens.{step}
 use Rattle.model.specs.Refusal.{buffersFit, admission}
@@ -183,7 +183,7 @@ two-told t m k e = rw e refl
 
 module _ {s : List ℕ} (h : Sound true s) (b : List ℕ) (n m k : ℕ) (rows : b ≡ rowBytes s) (all : n ≡ rowsAt s) where
   table-is : (p : List (List ℕ)) (mode : Mode) → p ≡ placesOf s → mode ≡ modeOf false s → decode b p mode n ≡ tableOf s
-  unfolding tableOf
+  unfolding tableOf tableUnder
   table-is p mode places modes = rw (rows, places, modes, all) refl
 
   -- not two moments: nothing is touched

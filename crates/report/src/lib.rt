@@ -3,7 +3,7 @@ ghost use mathlib.Core.Path.{_≡_};
 ghost use Prim.Native.Nat.{_≤_, _<_};
 ghost use lib.ListN.{length};
 ghost use Rattle.model.specs.Limits.{WORK, CYCLE};
-ghost use Rattle.model.specs.Table.{rowsAt, decode, tableOf, sourcesOf};
+ghost use Rattle.model.specs.Table.{rowsAt, decode, tableUnder, sourcesOf};
 ghost use Rattle.model.specs.Words.{WellFormed};
 ghost use Rattle.model.specs.Check.{verdict, check, checkAnswer, cycleAfter, workAfter, wiped};
 ghost use Rattle.model.specs.Report.{reportAnswer, report};
@@ -61,13 +61,19 @@ fn answer(c: CheckAnswer, rows: &[u8], p: Places, mode: Mode, n: usize, w: &[u64
 }
 
 // The report of a table of n rows that is admitted.
-fn report_table(table: &[u8], n: usize, work: &mut [u64], cycle: &mut [u16]) -> ReportAnswer
+fn report_table(
+    table: &[u8],
+    chains: bool,
+    n: usize,
+    work: &mut [u64],
+    cycle: &mut [u16],
+) -> ReportAnswer
     requires { ⌜ (WORK ≤ length (now work)) × (CYCLE ≤ length (now cycle)) × (n ≡ rowsAt (now table)) × WellFormed (now table) ⌝ }
-    ensures { λ r. ⌜ (r ≡ reportAnswer (checkAnswer (verdict (tableOf (now (table .entry))) (sourcesOf (now (table .entry))))) (tableOf (now (table .entry))))
+    ensures { λ r. ⌜ (r ≡ reportAnswer (checkAnswer (verdict (tableUnder chains (now (table .entry))) (sourcesOf (now (table .entry))))) (tableUnder chains (now (table .entry))))
         × (now (work .exit) ≡ wiped (now (work .entry)))
-        × (now (cycle .exit) ≡ cycleAfter (verdict (tableOf (now (table .entry))) (sourcesOf (now (table .entry)))) (now (cycle .entry))) ⌝ }
+        × (now (cycle .exit) ≡ cycleAfter (verdict (tableUnder chains (now (table .entry))) (sourcesOf (now (table .entry)))) (now (cycle .entry))) ⌝ }
 {
-    let mode = rows::scopes::read_mode(table, false);
+    let mode = rows::scopes::read_mode(table, chains);
     let rows = rows::bytes::row_bytes(table);
     let p = rows::scopes::read_places(table);
     let src = choice::sources::read_sources(rows, n);
@@ -78,13 +84,13 @@ fn report_table(table: &[u8], n: usize, work: &mut [u64], cycle: &mut [u16]) -> 
     r
 }
 
-// Reports on one recorded run. A table that a check refuses or finds inconsistent gets the check's answer; else the pairs that
+// Reports on one recorded run, of a device with chains or without. A table that a check refuses or finds inconsistent gets the check's answer; else the pairs that
 // conflict are counted. Both buffers are left as a check leaves them.
 // Ruled out: one that reports a share of 0.0 where no pair conflicts; one that reports on an inconsistent table.
-pub fn report(table: &[u8], work: &mut [u64], cycle: &mut [u16]) -> ReportAnswer
-    ensures { λ r. ⌜ (r ≡ report (now (table .entry)) (length (now (work .entry))) (length (now (cycle .entry))))
-        × (now (work .exit) ≡ workAfter (check (now (table .entry)) (length (now (work .entry))) (length (now (cycle .entry)))) (now (work .entry)))
-        × (now (cycle .exit) ≡ cycleAfter (check (now (table .entry)) (length (now (work .entry))) (length (now (cycle .entry)))) (now (cycle .entry))) ⌝ }
+pub fn report(table: &[u8], chains: bool, work: &mut [u64], cycle: &mut [u16]) -> ReportAnswer
+    ensures { λ r. ⌜ (r ≡ report chains (now (table .entry)) (length (now (work .entry))) (length (now (cycle .entry))))
+        × (now (work .exit) ≡ workAfter (check chains (now (table .entry)) (length (now (work .entry))) (length (now (cycle .entry)))) (now (work .entry)))
+        × (now (cycle .exit) ≡ cycleAfter (check chains (now (table .entry)) (length (now (work .entry))) (length (now (cycle .entry)))) (now (cycle .entry))) ⌝ }
 {
     if work.len() < model::WORK {
         return ReportAnswer::Refused { number: 11, row: 0 };
@@ -96,5 +102,5 @@ pub fn report(table: &[u8], work: &mut [u64], cycle: &mut [u16]) -> ReportAnswer
     let Admission::Admitted { agents: _, rows: n } = a else {
         return refused(a);
     };
-    report_table(table, n as usize, work, cycle)
+    report_table(table, chains, n as usize, work, cycle)
 }

@@ -1,5 +1,5 @@
 -- An answer as one number for C: code × 2^48 + a × 2^32 + b × 2^16 + c.
-use mathlib.Core.Bool.{cond}
+use mathlib.Core.Bool.{Bool, not, cond}
 use Prim.Native.Nat.{ℕ, _+_, _*_}
 use lib.Dec.{eqb}
 use lib.Ieee.{Float, nan}
@@ -69,3 +69,7 @@ packReport (told.Report r) = packed 7 (r .mutuals) (r .ordered) (r .racing)
 unfoldable pub floatOf : Share → Float
 floatOf (share.Of f) = f
 floatOf share.NoPairs = nan
+
+-- a switch, where a caller can hand in any number
+abbrev pub isOn : ℕ → Bool
+isOn switch = not (eqb switch 0)

@@ -9,7 +9,7 @@ ghost use Rattle.model.specs.Reason.{derive, deriveAnswer, chainAfter, judge, a
 ghost use Rattle.model.specs.Reason as Derivation;
 ghost use Rattle.model.specs.Report.{report, shareOf};
 ghost use Rattle.model.specs.Table.{rowsAt};
-ghost use Rattle.stramashly.specs.Packed.{packed, packCheck, packFill, packDerive, packAccept, packReport, reasonOf, floatOf};
+ghost use Rattle.stramashly.specs.Packed.{packed, packCheck, packFill, packDerive, packAccept, packReport, reasonOf, isOn, floatOf};
 use model::AcceptAnswer;
 use model::CheckAnswer;
 use model::DeriveAnswer;
@@ -108,26 +108,36 @@ fn reason_of(classes: u8) -> Reason
     Reason::Chain(classes)
 }
 
-// Judges one recorded run: `verdict::check`, packed.
+// Judges one recorded run, of a device with chains where the switch is on: `verdict::check`, packed.
 // Ruled out: one whose code for a race is that of race-free; one that leaves what a check worked with in the work area.
 #[no_mangle]
-pub extern "C" fn stramashly_check(table: &[u8], work: &mut [u64], cycle: &mut [u16]) -> u64
-    ensures { λ r. ⌜ (r ≡ packCheck (checkAnswer (check (now (table .entry)) (length (now (work .entry))) (length (now (cycle .entry))))))
-        × (now (work .exit) ≡ workAfter (check (now (table .entry)) (length (now (work .entry))) (length (now (cycle .entry)))) (now (work .entry)))
-        × (now (cycle .exit) ≡ cycleAfter (check (now (table .entry)) (length (now (work .entry))) (length (now (cycle .entry)))) (now (cycle .entry))) ⌝ }
+pub extern "C" fn stramashly_check(
+    table: &[u8],
+    chains: u8,
+    work: &mut [u64],
+    cycle: &mut [u16],
+) -> u64
+    ensures { λ r. ⌜ (r ≡ packCheck (checkAnswer (check (isOn chains) (now (table .entry)) (length (now (work .entry))) (length (now (cycle .entry))))))
+        × (now (work .exit) ≡ workAfter (check (isOn chains) (now (table .entry)) (length (now (work .entry))) (length (now (cycle .entry)))) (now (work .entry)))
+        × (now (cycle .exit) ≡ cycleAfter (check (isOn chains) (now (table .entry)) (length (now (work .entry))) (length (now (cycle .entry)))) (now (cycle .entry))) ⌝ }
 {
-    pack_check(verdict::check::check(table, work, cycle))
+    pack_check(verdict::check::check(table, !(chains == 0), work, cycle))
 }
 
 // Fills the blanks of one recorded run: `filling::fill`, packed, with the number of rows where it filled them.
 // Ruled out: one whose code for filled is that of none; one that writes a source where a pair races.
 #[no_mangle]
-pub extern "C" fn stramashly_fill(table: &[u8], work: &mut [u64], sources: &mut [u16]) -> u64
-    ensures { λ r. ⌜ (r ≡ packFill (fillAnswer (fill (now (table .entry)) (length (now (work .entry))) (length (now (sources .entry))))) (rowsAt (now (table .entry))))
-        × (now (work .exit) ≡ Fill.workAfter (fill (now (table .entry)) (length (now (work .entry))) (length (now (sources .entry)))) (now (work .entry)))
-        × (now (sources .exit) ≡ sourcesAfter (fill (now (table .entry)) (length (now (work .entry))) (length (now (sources .entry)))) (now (sources .entry))) ⌝ }
+pub extern "C" fn stramashly_fill(
+    table: &[u8],
+    chains: u8,
+    work: &mut [u64],
+    sources: &mut [u16],
+) -> u64
+    ensures { λ r. ⌜ (r ≡ packFill (fillAnswer (fill (isOn chains) (now (table .entry)) (length (now (work .entry))) (length (now (sources .entry))))) (rowsAt (now (table .entry))))
+        × (now (work .exit) ≡ Fill.workAfter (fill (isOn chains) (now (table .entry)) (length (now (work .entry))) (length (now (sources .entry)))) (now (work .entry)))
+        × (now (sources .exit) ≡ sourcesAfter (fill (isOn chains) (now (table .entry)) (length (now (work .entry))) (length (now (sources .entry)))) (now (sources .entry))) ⌝ }
 {
-    let answer = filling::fill(table, work, sources);
+    let answer = filling::fill(table, !(chains == 0), work, sources);
     pack_fill(answer, rows::bytes::rows_at(table))
 }
 
@@ -168,12 +178,17 @@ pub extern "C" fn stramashly_accepts(
 // conflicting ones.
 // Ruled out: one that packs the conflicting pairs in place of the racing ones; one whose code is that of race-free.
 #[no_mangle]
-pub extern "C" fn stramashly_report(table: &[u8], work: &mut [u64], cycle: &mut [u16]) -> u64
-    ensures { λ r. ⌜ (r ≡ packReport (report (now (table .entry)) (length (now (work .entry))) (length (now (cycle .entry)))))
-        × (now (work .exit) ≡ workAfter (check (now (table .entry)) (length (now (work .entry))) (length (now (cycle .entry)))) (now (work .entry)))
-        × (now (cycle .exit) ≡ cycleAfter (check (now (table .entry)) (length (now (work .entry))) (length (now (cycle .entry)))) (now (cycle .entry))) ⌝ }
+pub extern "C" fn stramashly_report(
+    table: &[u8],
+    chains: u8,
+    work: &mut [u64],
+    cycle: &mut [u16],
+) -> u64
+    ensures { λ r. ⌜ (r ≡ packReport (report (isOn chains) (now (table .entry)) (length (now (work .entry))) (length (now (cycle .entry)))))
+        × (now (work .exit) ≡ workAfter (check (isOn chains) (now (table .entry)) (length (now (work .entry))) (length (now (cycle .entry)))) (now (work .entry)))
+        × (now (cycle .exit) ≡ cycleAfter (check (isOn chains) (now (table .entry)) (length (now (work .entry))) (length (now (cycle .entry)))) (now (cycle .entry))) ⌝ }
 {
-    pack_report(report::report(table, work, cycle))
+    pack_report(report::report(table, !(chains == 0), work, cycle))
 }
 
 // The racing share of the conflicting pairs: `report::counts::share`; where no pair conflicts it is not a number.

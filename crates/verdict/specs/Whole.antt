@@ -14,7 +14,7 @@ use Rattle.bits.specs.Within.{Within, within-trans, within-widen, zeros-within}
 use Rattle.model.specs.declared.Mode.{Mode}
 use Rattle.model.specs.Limits.{ROWS, WORK, LONGEST, BYTES}
 use Rattle.model.specs.Row.{access}
-use Rattle.model.specs.Table.{modeOf, Table, agentsAt, rowsAt, rowBytes, placesOf, rowOf, sourceOf, decode, tableOf, sourcesOf}
+use Rattle.model.specs.Table.{modeOf, Table, agentsAt, rowsAt, rowBytes, placesOf, rowOf, sourceOf, decode, tableUnder, sourcesOf}
 use Rattle.finite.specs.Logic.{_and_, and-true, and-false-right, not-so}
 use Rattle.model.specs.declared.Admission.{Admission}
 use Rattle.model.specs.declared.Admission.the-variants.{Admitted, Refused}
@@ -70,9 +70,9 @@ wiped-after w v u z room a b e =
 
 -- ---- a table that is admitted, read row by row
 
-module _ {blanks : Bool} {s : List ℕ} (h : Sound blanks s) (b : List ℕ) (p : List (List ℕ)) (mode : Mode) (n : ℕ) (rows : b ≡ rowBytes s) (places : p ≡ placesOf s) (modes : mode ≡ modeOf false s) (all : n ≡ rowsAt s) where
-  pub table-is : decode b p mode n ≡ tableOf s
-  unfolding tableOf
+module _ {blanks : Bool} {s : List ℕ} (h : Sound blanks s) (chains : Bool) (b : List ℕ) (p : List (List ℕ)) (mode : Mode) (n : ℕ) (rows : b ≡ rowBytes s) (places : p ≡ placesOf s) (modes : mode ≡ modeOf chains s) (all : n ≡ rowsAt s) where
+  pub table-is : decode b p mode n ≡ tableUnder chains s
+  unfolding tableUnder
   table-is = rw (rows, places, modes, all) refl
 
   pub few : n ≤ ROWS
@@ -90,7 +90,7 @@ module _ {blanks : Bool} {s : List ℕ} (h : Sound blanks s) (b : List ℕ) (p :
   known {w} {v} room f l = let e = f .len in (few, omega arith, sized, l)
 
   -- the verdict over a list of the sources
-  pub verdict-is : (src : List ℕ) → Listed (sourceOf b) n src → verdict (decode b p mode n) (sourceIn src) ≡ verdict (tableOf s) (sourcesOf s)
+  pub verdict-is : (src : List ℕ) → Listed (sourceOf b) n src → verdict (decode b p mode n) (sourceIn src) ≡ verdict (tableUnder chains s) (sourcesOf s)
   unfolding sourcesOf decode
   verdict-is src l =
       verdict-same (decode b p mode n) (sourceIn src) (sourceOf (rowBytes s)) (λ i m. l .each i m ∙ ap (λ (v : List ℕ). sourceOf v i) rows)
@@ -122,13 +122,13 @@ refuses : (v : Verdict) (n i : ℕ) (w c : List ℕ) → v ≡ refused n i → S
 unfolding checkAnswer workAfter cycleAfter
 refuses v n i w c e = (rw e refl, rw e refl, rw e refl)
 
-pub short-work : (s w c : List ℕ) → length w < WORK → Said (check s (length w) (length c)) (the-variants.Refused 11 0) w w c c
+pub short-work : (chains : Bool) (s w c : List ℕ) → length w < WORK → Said (check chains s (length w) (length c)) (the-variants.Refused 11 0) w w c c
 unfolding check buffersFit _and_
-short-work s w c l = refuses (check s (length w) (length c)) 11 0 w c (rw (lt-not-leb (length w) WORK l) refl)
+short-work chains s w c l = refuses (check chains s (length w) (length c)) 11 0 w c (rw (lt-not-leb (length w) WORK l) refl)
 
-pub short-cycle : (s w c : List ℕ) → length c < CYCLE → Said (check s (length w) (length c)) (the-variants.Refused 11 0) w w c c
+pub short-cycle : (chains : Bool) (s w c : List ℕ) → length c < CYCLE → Said (check chains s (length w) (length c)) (the-variants.Refused 11 0) w w c c
 unfolding check buffersFit
-short-cycle s w c l = refuses (check s (length w) (length c)) 11 0 w c (rw (and-false-right (leb WORK (length w)) (leb CYCLE (length c)) (lt-not-leb (length c) CYCLE l)) refl)
+short-cycle chains s w c l = refuses (check chains s (length w) (length c)) 11 0 w c (rw (and-false-right (leb WORK (length w)) (leb CYCLE (length c)) (lt-not-leb (length c) CYCLE l)) refl)
 
 pub admitted-known : (blanks : Bool) (s : List ℕ) (a : Admission) (g n : ℕ) → a ≡ admission blanks s → a ≡ Admitted g n → (n ≡ rowsAt s) × (admission blanks s ≡ Admitted (agentsAt s) (rowsAt s))
 admitted-known blanks s a g n e f =
@@ -139,34 +139,34 @@ admitted-known blanks s a g n e f =
     rows-in (Admitted x y) = y
     rows-in (Refused x y) = 0
 
-module _ (s w c : List ℕ) (room : WORK ≤ length w) (long : CYCLE ≤ length c) (a : Admission) (e : a ≡ admission false s) where
-  checked : check s (length w) (length c) ≡ admitted a (verdict (tableOf s) (sourcesOf s))
+module _ (chains : Bool) (s w c : List ℕ) (room : WORK ≤ length w) (long : CYCLE ≤ length c) (a : Admission) (e : a ≡ admission false s) where
+  checked : check chains s (length w) (length c) ≡ admitted a (verdict (tableUnder chains s) (sourcesOf s))
   unfolding check buffersFit
   checked = rw (and-true (le-leb WORK (length w) room) (le-leb CYCLE (length c) long), e) refl
 
-  pub said-refused : (n i : ℕ) (r : CheckAnswer) → a ≡ Refused n i → r ≡ checkAnswer (admitted a raceFree) → Said (check s (length w) (length c)) r w w c c
+  pub said-refused : (n i : ℕ) (r : CheckAnswer) → a ≡ Refused n i → r ≡ checkAnswer (admitted a raceFree) → Said (check chains s (length w) (length c)) r w w c c
   unfolding admitted checkAnswer
   said-refused n i r f g =
-      let q : admitted a (verdict (tableOf s) (sourcesOf s)) ≡ refused n i = rw f refl in
+      let q : admitted a (verdict (tableUnder chains s) (sourcesOf s)) ≡ refused n i = rw f refl in
       let h : r ≡ the-variants.Refused n i = g ∙ rw f refl in
-      let z = refuses (check s (length w) (length c)) n i w c (checked ∙ q) in
+      let z = refuses (check chains s (length w) (length c)) n i w c (checked ∙ q) in
       (h ∙ z .0, z .1, z .2)
 
-  pub said-verdict : (g n : ℕ) (r : CheckAnswer) (x d : List ℕ) → a ≡ Admitted g n → r ≡ checkAnswer (verdict (tableOf s) (sourcesOf s)) → x ≡ wiped w
-      → d ≡ cycleAfter (verdict (tableOf s) (sourcesOf s)) c → Said (check s (length w) (length c)) r w x c d
+  pub said-verdict : (g n : ℕ) (r : CheckAnswer) (x d : List ℕ) → a ≡ Admitted g n → r ≡ checkAnswer (verdict (tableUnder chains s) (sourcesOf s)) → x ≡ wiped w
+      → d ≡ cycleAfter (verdict (tableUnder chains s) (sourcesOf s)) c → Said (check chains s (length w) (length c)) r w x c d
   unfolding admitted
   said-verdict g n r x d f p q k =
-      let v : check s (length w) (length c) ≡ verdict (tableOf s) (sourcesOf s) = checked ∙ rw f refl in (
+      let v : check chains s (length w) (length c) ≡ verdict (tableUnder chains s) (sourcesOf s) = checked ∙ rw f refl in (
         p ∙ ap checkAnswer (sym v),
-        q ∙ sym (verdict-wipes (tableOf s) (sourcesOf s) w) ∙ ap (λ (y : Verdict). workAfter y w) (sym v),
+        q ∙ sym (verdict-wipes (tableUnder chains s) (sourcesOf s) w) ∙ ap (λ (y : Verdict). workAfter y w) (sym v),
         k ∙ ap (λ (y : Verdict). cycleAfter y c) (sym v),
       )
 
 -- the calls of a verdict on an admitted table, one after the other
-pub judged : (s b : List ℕ) (p : List (List ℕ)) (mode : Mode) (n : ℕ) (src w v u z c d : List ℕ) (r : CheckAnswer) → WellFormed s → b ≡ rowBytes s → p ≡ placesOf s → mode ≡ modeOf false s → n ≡ rowsAt s
+pub judged : (chains : Bool) (s b : List ℕ) (p : List (List ℕ)) (mode : Mode) (n : ℕ) (src w v u z c d : List ℕ) (r : CheckAnswer) → WellFormed s → b ≡ rowBytes s → p ≡ placesOf s → mode ≡ modeOf chains s → n ≡ rowsAt s
     → Listed (sourceOf b) n src → WORK ≤ length w → Within MUTUAL LOCATED-END w v
     → (r ≡ checkAnswer (verdict (decode b p mode n) (sourceIn src))) × (d ≡ cycleAfter (verdict (decode b p mode n) (sourceIn src)) c) × Within EDGE LAYERS-END v u → z ≡ zeros u 0 WORK
-    → (r ≡ checkAnswer (verdict (tableOf s) (sourcesOf s))) × (z ≡ wiped w) × (d ≡ cycleAfter (verdict (tableOf s) (sourcesOf s)) c)
-judged s b p mode n src w v u z c d r well rows places modes all list room f j e =
-    let q = verdict-is (admitted-sound false s well) b p _ n rows places modes all src list in
+    → (r ≡ checkAnswer (verdict (tableUnder chains s) (sourcesOf s))) × (z ≡ wiped w) × (d ≡ cycleAfter (verdict (tableUnder chains s) (sourcesOf s)) c)
+judged chains s b p mode n src w v u z c d r well rows places modes all list room f j e =
+    let q = verdict-is (admitted-sound false s well) chains b p _ n rows places modes all src list in
     (j .0 ∙ ap checkAnswer q, wiped-after w v u z room f (j .2) e, j .1 ∙ ap (λ (y : Verdict). cycleAfter y c) q)

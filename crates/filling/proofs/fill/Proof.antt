@@ -10,11 +10,11 @@ use Rattle.table.proofs.admit.Reads as admit-reads
 
 -- src/lib.rt:55:9
 returns : tie.Need-returns
-returns c = work-short _ _ _ (c .if1 .taken)
+returns c = work-short _ _ _ _ (c .if1 .taken)
 
 -- src/lib.rt:58:9
 returns-2 : tie.Need-returns-2
-returns-2 c = buffer-short _ _ _ (c .if2 .taken)
+returns-2 c = buffer-short _ _ _ _ (c .if2 .taken)
 
 -- src/lib.rt:60:9
 admit-requires : tie.Need-admit-requires
@@ -34,7 +34,7 @@ refused-requires c κs = search needs
 
 -- src/lib.rt:62:9
 returns-3 : tie.Need-returns-3
-returns-3 c = table-refused _ _ _ (c .before .before .before .before .before .if1 .left) (c .before .before .before .before .if2 .left) _ (c .before .before .before .admit .ensures) _ (c .before .enum-told .given .1) (c .refused .ensures)
+returns-3 c = table-refused _ _ _ _ (c .before .before .before .before .before .if1 .left) (c .before .before .before .before .if2 .left) _ (c .before .before .before .admit .ensures) _ (c .before .enum-told .given .1) (c .refused .ensures)
 
 -- src/lib.rt:64:23
 cast-fill-table : tie.Need-cast-fill-table
@@ -59,7 +59,7 @@ returns-4 : tie.Need-returns-4
 returns-4 c =
     let at-a = c .before .before .before .before .before .before .before .before in
     let at-admit = at-a .before .before in
-    table-told _ _ _ (at-admit .before .before .if1 .left) (at-admit .before .if2 .left) _ (at-admit .admit .ensures) _ _ _ (at-a .a .given .1) (c .before .before .before .before .fill-table .ensures)
+    table-told _ _ _ _ (at-admit .before .before .if1 .left) (at-admit .before .if2 .left) _ (at-admit .admit .ensures) _ _ _ (at-a .a .given .1) (c .before .before .before .before .fill-table .ensures)
 
 pub fill-spec : {M : Type 1} → statement M
 fill-spec =

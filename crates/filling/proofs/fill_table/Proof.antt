@@ -30,13 +30,13 @@ read-places-requires c κs = search needs
 read-sources-requires : tie.Need-read-sources-requires
 read-sources-requires c κs =
     let pre = c .before .before .before .before .before .before .pre in
-    few (pre .3) _ _ _ _ (c .before .row-bytes .ensures) (c .read-places .ensures) (c .before .before .read-mode .ensures) (pre .2)
+    few (pre .3) _ _ _ _ _ (c .before .row-bytes .ensures) (c .read-places .ensures) (c .before .before .read-mode .ensures) (pre .2)
 
 -- src/lib.rt:40:5
 locate-requires : tie.Need-locate-requires
 locate-requires c κs =
     let pre = c .before .before .before .before .before .before .before .before .pre in
-    (few (pre .3) _ _ _ _ (c .before .before .before .row-bytes .ensures) (c .before .before .read-places .ensures) (c .before .before .before .before .read-mode .ensures) (pre .2), pre .0)
+    (few (pre .3) _ _ _ _ _ (c .before .before .before .row-bytes .ensures) (c .before .before .read-places .ensures) (c .before .before .before .before .read-mode .ensures) (pre .2), pre .0)
 
 -- src/lib.rt:41:40
 slice-aggregate-settle : tie.Need-slice-aggregate-settle
@@ -52,8 +52,8 @@ settle-requires c κs =
     let listed = c .before .before .before .before .before .before .before .read-sources .ensures in
     let located = c .before .before .before .before .before .locate .ensures in
     let room = listed .room in
-    let rest = few (pre .3) _ _ _ _ rows places modes (pre .2) in
-    (pre .1, omega arith, bounded (pre .3) _ _ _ _ rows places modes (pre .2), known (pre .3) _ _ _ _ rows places modes (pre .2) (pre .0) (located .1) (located .0))
+    let rest = few (pre .3) _ _ _ _ _ rows places modes (pre .2) in
+    (pre .1, omega arith, bounded (pre .3) _ _ _ _ _ rows places modes (pre .2), known (pre .3) _ _ _ _ _ rows places modes (pre .2) (pre .0) (located .1) (located .0))
 
 -- src/lib.rt:42:5
 clear-requires : tie.Need-clear-requires
@@ -77,7 +77,7 @@ returns c =
     let listed = at-locate .before .before .read-sources .ensures in
     let places = at-locate .before .before .before .read-places .ensures in
     let modes = at-locate .before .before .before .before .before .read-mode .ensures in
-    table-filled (pre .3) _ _ _ _ (at-rows .row-bytes .ensures) places modes (pre .2) _ listed _ _ _ _ _ _ _ (pre .0) (at-locate .locate .ensures .1) (at-settle .settle .ensures) (c .before .before .clear .ensures)
+    table-filled (pre .3) _ _ _ _ _ (at-rows .row-bytes .ensures) places modes (pre .2) _ listed _ _ _ _ _ _ _ (pre .0) (at-locate .locate .ensures .1) (at-settle .settle .ensures) (c .before .before .clear .ensures)
 
 pub fill-table-spec : {M : Type 1} → statement M
 fill-table-spec =

@@ -11,11 +11,11 @@ use Rattle.table.proofs.admit.Reads as admit-reads
 
 -- src/lib.rt:88:9
 returns : tie.Need-returns
-returns c = work-short _ _ _ (c .if1 .taken)
+returns c = work-short _ _ _ _ (c .if1 .taken)
 
 -- src/lib.rt:91:9
 returns-2 : tie.Need-returns-2
-returns-2 c = cycle-short _ _ _ (c .if2 .taken)
+returns-2 c = cycle-short _ _ _ _ (c .if2 .taken)
 
 -- src/lib.rt:93:9
 admit-requires : tie.Need-admit-requires
@@ -35,7 +35,7 @@ refused-requires c κs = search needs
 
 -- src/lib.rt:95:9
 returns-3 : tie.Need-returns-3
-returns-3 c = reported-refused _ _ _ (c .before .before .before .before .before .if1 .left) (c .before .before .before .before .if2 .left) _ (c .before .before .before .admit .ensures) _ _ _ (c .before .enum-told .given .1) (c .refused .ensures)
+returns-3 c = reported-refused _ _ _ _ (c .before .before .before .before .before .if1 .left) (c .before .before .before .before .if2 .left) _ (c .before .before .before .admit .ensures) _ _ _ (c .before .enum-told .given .1) (c .refused .ensures)
 
 -- src/lib.rt:97:25
 cast-report-table : tie.Need-cast-report-table
@@ -57,7 +57,7 @@ same-length-2 c = search needs
 
 -- src/lib.rt:82:1
 returns-4 : tie.Need-returns-4
-returns-4 c = reported-table _ _ _ (c .before .before .before .before .before .before .before .before .before .before .before .before .if1 .left) (c .before .before .before .before .before .before .before .before .before .before .before .if2 .left) _ (c .before .before .before .before .before .before .before .before .before .before .admit .ensures) _ _ _ _ _ (c .before .before .before .before .before .before .before .before .a .given .1) (c .before .before .before .before .report-table .ensures)
+returns-4 c = reported-table _ _ _ _ (c .before .before .before .before .before .before .before .before .before .before .before .before .if1 .left) (c .before .before .before .before .before .before .before .before .before .before .before .if2 .left) _ (c .before .before .before .before .before .before .before .before .before .before .admit .ensures) _ _ _ _ _ (c .before .before .before .before .before .before .before .before .a .given .1) (c .before .before .before .before .report-table .ensures)
 
 pub report-spec : {M : Type 1} → statement M
 report-spec =

@@ -11,11 +11,11 @@ use Rattle.verdict.proofs.check.refused.Reads as refused-reads
 
 -- src/check.rt:51:9
 returns : tie.Need-returns
-returns c = short-work _ _ _ (c .if1 .taken)
+returns c = short-work _ _ _ _ (c .if1 .taken)
 
 -- src/check.rt:54:9
 returns-2 : tie.Need-returns-2
-returns-2 c = short-cycle _ _ _ (c .if2 .taken)
+returns-2 c = short-cycle _ _ _ _ (c .if2 .taken)
 
 -- src/check.rt:56:9
 admit-requires : tie.Need-admit-requires
@@ -37,7 +37,7 @@ refused-requires c κs = search needs
 returns-3 : tie.Need-returns-3
 returns-3 c =
     let told = c .before .enum-told .given .1 in
-    said-refused _ _ _ (c .before .before .before .before .before .if1 .left) (c .before .before .before .before .if2 .left) _ (c .before .before .before .admit .ensures) _ _ _ told (c .refused .ensures)
+    said-refused _ _ _ _ (c .before .before .before .before .before .if1 .left) (c .before .before .before .before .if2 .left) _ (c .before .before .before .admit .ensures) _ _ _ told (c .refused .ensures)
 
 -- src/check.rt:60:24
 cast-judge-table : tie.Need-cast-judge-table
@@ -61,7 +61,7 @@ same-length-2 c = search needs
 returns-4 : tie.Need-returns-4
 returns-4 c =
     let judged = c .before .before .before .before .judge-table .ensures in
-    said-verdict _ _ _ (c .before .before .before .before .before .before .before .before .before .before .before .before .if1 .left) (c .before .before .before .before .before .before .before .before .before .before .before .if2 .left) _ (c .before .before .before .before .before .before .before .before .before .before .admit .ensures) _ _ _ _ _ (c .before .before .before .before .before .before .before .before .a .given .1) (judged .0) (judged .1) (judged .2)
+    said-verdict _ _ _ _ (c .before .before .before .before .before .before .before .before .before .before .before .before .if1 .left) (c .before .before .before .before .before .before .before .before .before .before .before .if2 .left) _ (c .before .before .before .before .before .before .before .before .before .before .admit .ensures) _ _ _ _ _ (c .before .before .before .before .before .before .before .before .a .given .1) (judged .0) (judged .1) (judged .2)
 
 pub check-spec : {M : Type 1} → statement M
 check-spec =

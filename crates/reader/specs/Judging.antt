@@ -22,7 +22,7 @@ use Rattle.model.specs.Row.{releases, acquires}
 use Rattle.model.specs.Table.{modeOf, Table, rowsAt, rowBytes, placesOf, rowOf, decode, tableUnder, tableOf}
 use Rattle.model.specs.Moment.{moment, momentIn, orderedRows, programOrder}
 use Rattle.model.specs.Synchronizes.{synchronizes}
-use Rattle.model.specs.Happens.{holdingOf, concernsOf, holding, concerns, bySync, toRelease, fromAcquire, direct}
+use Rattle.model.specs.Happens.{holdingOf, concernsOf, holding, concerns, bySync, toRelease, fromAcquire, bySystem, direct}
 use Rattle.model.specs.Refusal.{admission}
 use Rattle.model.specs.AdmissionLaws.{Sound, sound-admitted, admitted-sound, rows-fit}
 use Rattle.model.specs.Reason.{stands, stepHolds, broken, chainHolds, accepts, twoMoments, judged, admittedReader, judge, acceptAnswer}
@@ -44,15 +44,19 @@ leadsTo t s m k steps = eqb (stands m steps (length steps)) k and not (anyBelow 
 module _ (t : Table) (s case m k : ℕ) where
   direct-one : case ≡ 1 → bySync t s m k ≡ direct t s case m k
   unfolding direct _and_ _or_
-  direct-one e = rw e (sym (or-off _ _ refl ∙ or-off _ _ refl))
+  direct-one e = rw e (sym (or-off _ _ refl ∙ or-off _ _ refl ∙ or-off _ _ refl))
 
   direct-two : case ≡ 2 → toRelease t s m k ≡ direct t s case m k
   unfolding direct _and_ _or_
-  direct-two e = rw e (sym (or-off _ _ refl))
+  direct-two e = rw e (sym (or-off _ _ refl ∙ or-off _ _ refl))
 
-  direct-last : eqb case 1 ≡ false → eqb case 2 ≡ false → (eqb case 3 and fromAcquire t s m k) ≡ direct t s case m k
+  direct-three : case ≡ 3 → fromAcquire t s m k ≡ direct t s case m k
   unfolding direct _and_ _or_
-  direct-last e f = rw (e, f) refl
+  direct-three e = rw e (sym (or-off _ _ refl))
+
+  pub direct-system : (d : Bool) → (case ≡ 1 → ⊥) → (case ≡ 2 → ⊥) → (case ≡ 3 → ⊥) → d ≡ bySystem t m k → (eqb case 4 and d) ≡ direct t s case m k
+  unfolding direct _and_ _or_
+  direct-system d e f g h = rw (h, ne-eqb case 1 e, ne-eqb case 2 f, ne-eqb case 3 g) refl
 
 -- the same of two rows that were read
 module _ (b : List ℕ) (p : List (List ℕ)) (mode : Mode) (n s case m k : ℕ) (r q : Row) (er : r ≡ rowOf b (m / 3)) (eq : q ≡ rowOf b (k / 3)) where
@@ -66,10 +70,10 @@ module _ (b : List ℕ) (p : List (List ℕ)) (mode : Mode) (n s case m k : ℕ)
   unfolding toRelease holding concerns programOrder decode
   direct-release g x d o e eg ex ed eo = rw (eg, ex, ed, eo, er, eq) (direct-two (decode b p mode n) s case m k e)
 
-  pub direct-acquire : (h x d o : Bool) → (case ≡ 1 → ⊥) → (case ≡ 2 → ⊥) → h ≡ holdingOf s r (m % 3) → x ≡ acquires r → d ≡ concernsOf s q (k % 3)
-      → o ≡ orderedRows n m k r q → (eqb case 3 and (h and x and d and o)) ≡ direct (decode b p mode n) s case m k
+  pub direct-acquire : (h x d o : Bool) → case ≡ 3 → h ≡ holdingOf s r (m % 3) → x ≡ acquires r → d ≡ concernsOf s q (k % 3) → o ≡ orderedRows n m k r q
+      → (h and x and d and o) ≡ direct (decode b p mode n) s case m k
   unfolding fromAcquire holding concerns programOrder decode
-  direct-acquire h x d o e f eh ex ed eo = rw (eh, ex, ed, eo, er, eq) (direct-last (decode b p mode n) s case m k (ne-eqb case 1 e) (ne-eqb case 2 f))
+  direct-acquire h x d o e eh ex ed eo = rw (eh, ex, ed, eo, er, eq) (direct-three (decode b p mode n) s case m k e)
 
 -- ---- laws: a chain
 

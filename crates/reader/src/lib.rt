@@ -1,11 +1,12 @@
 // The reader of derivations, whoever wrote them: kept apart from the engine, and small, to be read in one sitting.
 ghost use mathlib.Core.Path.{_≡_};
 ghost use mathlib.Core.Bool.{true};
-ghost use Prim.Native.Nat.{_*_, _≤_, _<_};
+ghost use mathlib.Core.List.{List};
+ghost use Prim.Native.Nat.{ℕ, _*_, _≤_, _<_};
 ghost use Rattle.model.specs.Limits.{ROWS};
 ghost use Rattle.model.specs.Table.{decode, rowsAt, tableOf};
 ghost use Rattle.model.specs.Moment.{moment};
-ghost use Rattle.model.specs.Happens.{direct};
+ghost use Rattle.model.specs.Happens.{bySystem, direct};
 ghost use Rattle.model.specs.AdmissionLaws.{Sound};
 ghost use Rattle.model.specs.Reason.{stepHolds, accepts, judged, judge, acceptAnswer};
 ghost use Rattle.reader.specs.Judging.{leadsTo, refusedAnswer};
@@ -23,6 +24,15 @@ fn is_there(rows: &[u8], p: Places, mode: Mode, n: usize, m: u16) -> bool
     ensures { λ b. ⌜ b ≡ moment (decode (now (rows .entry)) p mode n) m ⌝ }
 {
     moments::moment_in(n, bytes::read_row(rows, m / 3), m as usize)
+}
+
+// Direct case 4: whether m and k are the own moments of two rows of which the first system-synchronizes-with the second.
+fn is_system(mode: Mode, m: u16, k: u16) -> bool
+    ensures { λ b. ⌜ ((rows : List ℕ) (p : List (List ℕ)) (n : ℕ) → b ≡ bySystem (decode rows p mode n) m k) ⌝ }
+{
+    ((m % 3) as u8 == moments::AT)
+        & ((k % 3) as u8 == moments::AT)
+        & rows::dependencies::depends(mode, m / 3, k / 3)
 }
 
 // M6: whether the direct case of this number leads from moment m to moment k for the class set s.
@@ -45,7 +55,10 @@ fn is_direct(rows: &[u8], p: Places, mode: Mode, n: usize, s: u8, case: u16, m: 
     if case == 2 {
         return k_holds & release & order::steps::concerns_of(s, r, (m % 3) as u8) & ordered;
     }
-    (case == 3) & (m_holds & acquire & order::steps::concerns_of(s, q, (k % 3) as u8) & ordered)
+    if case == 3 {
+        return m_holds & acquire & order::steps::concerns_of(s, q, (k % 3) as u8) & ordered;
+    }
+    (case == 4) & is_system(mode, m, k)
 }
 
 // Whether the step x, CASE × its case + the moment that it reaches, holds from moment m for the class set s.

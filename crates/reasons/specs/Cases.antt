@@ -1,4 +1,4 @@
--- The lowest direct case of M6 on rows that are decoded already, and that it is the table's. Assumes nothing.
+-- The lowest direct case on rows that are decoded already, and that it is the table's. Assumes nothing.
 use mathlib.Core.Path.{_≡_, refl, _∙_}
 use mathlib.Core.Bool.{Bool, true, false, cond}
 use mathlib.Core.List.{List}
@@ -10,34 +10,38 @@ use Rattle.bits.specs.Stage.{holds-bit}
 use Rattle.model.specs.declared.Mode.{Mode}
 use Rattle.model.specs.declared.Row.{Row}
 use Rattle.model.specs.Limits.{CASE}
-use Rattle.model.specs.Row.{releases}
+use Rattle.model.specs.Row.{releases, acquires}
 use Rattle.model.specs.Table.{decode, rowOf}
 use Rattle.model.specs.Moment.{rowIn, part, programOrder}
 use Rattle.model.specs.Synchronizes.{synchronizes}
-use Rattle.model.specs.Happens.{holdingOf, concernsOf, holding, concerns, bySync, toRelease}
+use Rattle.model.specs.Happens.{holdingOf, concernsOf, holding, concerns, bySync, toRelease, fromAcquire}
 use Rattle.model.specs.Reason.{lowestCase, stepNumber}
 use Rattle.area.specs.Regions.{SYNC, GRID}
 use Rattle.sequence.specs.Known.{Synced}
 
 -- ---- definitions
 
--- M6: the lowest case that leads from the moment `from` of r to the moment `to` of q; b says that r synchronizes-with q, o that the one
--- moment is program-ordered before the other
+-- M6: the lowest case that leads from the moment `from` of r to the moment `to` of q, 4 if none of the three that go by rows does; b
+-- says that r synchronizes-with q, o that the one moment is program-ordered before the other
 unfoldable pub caseRows : ℕ → ℕ → ℕ → Row → Row → Bool → Bool → ℕ
 caseRows s from to r q b o =
     cond (holdingOf s r from and holdingOf s q to and b) 1
-    (cond (holdingOf s q to and releases q and concernsOf s r from and o) 2 3)
+    (cond (holdingOf s q to and releases q and concernsOf s r from and o) 2
+    (cond (holdingOf s r from and acquires r and concernsOf s q to and o) 3 4))
 
 -- ---- laws
 
-pub case-small : (s from to : ℕ) (r q : Row) (b o : Bool) → caseRows s from to r q b o ≤ 3
+pub case-small : (s from to : ℕ) (r q : Row) (b o : Bool) → caseRows s from to r q b o ≤ 4
 unfolding caseRows
-case-small s from to r q b o = go (holdingOf s r from and holdingOf s q to and b) (holdingOf s q to and releases q and concernsOf s r from and o)
+case-small s from to r q b o =
+    go (holdingOf s r from and holdingOf s q to and b) (holdingOf s q to and releases q and concernsOf s r from and o)
+    (holdingOf s r from and acquires r and concernsOf s q to and o)
   where
-    go : (x y : Bool) → cond {A = ℕ} x 1 (cond y 2 3) ≤ 3
-    go true y = omega arith
-    go false true = omega arith
-    go false false = omega arith
+    go : (x y z : Bool) → cond {A = ℕ} x 1 (cond y 2 (cond z 3 4)) ≤ 4
+    go true y z = omega arith
+    go false true z = omega arith
+    go false false true = omega arith
+    go false false false = omega arith
 
 -- on rows and order that were read
 pub case-told : (s from to d : ℕ) (r q x y : Row) (b o v : Bool) → d ≡ caseRows s from to r q b o → r ≡ x → q ≡ y → o ≡ v → d ≡ caseRows s from to x y b v
@@ -47,7 +51,7 @@ module _ (b : List ℕ) (p : List (List ℕ)) (mode : Mode) (n : ℕ) where
   case-is : (s m k : ℕ)
       → lowestCase (decode b p mode n) s m k
       ≡ caseRows s (part m) (part k) (rowOf b (rowIn m)) (rowOf b (rowIn k)) (synchronizes (decode b p mode n) (rowIn m) (rowIn k)) (programOrder (decode b p mode n) m k)
-  unfolding lowestCase bySync toRelease holding concerns caseRows decode
+  unfolding lowestCase bySync toRelease fromAcquire holding concerns caseRows decode
   case-is s m k = refl
 
   -- the number of a step, with the bit of the work area

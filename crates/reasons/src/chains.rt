@@ -81,23 +81,22 @@ fn pick(b: bool, x: u16, y: u16) -> u16
     if b { x } else { y }
 }
 
-// M6: the lowest case from the moment `from` of r to the moment `to` of q, where there is one; b says that r synchronizes-with q, o that
-// the one moment is program-ordered before the other.
+// M6: the lowest case from the moment `from` of r to the moment `to` of q, where there is one: a dependency if it is none of the three
+// that go by rows. b says that r synchronizes-with q, o that the one moment is program-ordered before the other.
 fn case_of(s: u8, from: u8, to: u8, r: Row, q: Row, b: bool, o: bool) -> u16
     ensures { λ d. ⌜ d ≡ caseRows s from to r q b o ⌝ }
 {
-    let sync = order::steps::holding_of(s, r, from) & order::steps::holding_of(s, q, to) & b;
-    let release = order::steps::holding_of(s, q, to)
-        & rows::kinds::releases(q)
-        & order::steps::concerns_of(s, r, from)
-        & o;
-    pick(sync, 1, pick(release, 2, 3))
+    let h = order::steps::holding_of(s, r, from);
+    let g = order::steps::holding_of(s, q, to);
+    let release = g & rows::kinds::releases(q) & order::steps::concerns_of(s, r, from) & o;
+    let acquire = h & rows::kinds::acquires(r) & order::steps::concerns_of(s, q, to) & o;
+    pick(h & g & b, 1, pick(release, 2, pick(acquire, 3, 4)))
 }
 
 // The same of moments m and k of a table; b says that m's row synchronizes-with k's.
 fn case_at(rows: &[u8], n: usize, s: u8, m: usize, k: usize, b: bool) -> u16
     requires { ⌜ (n ≤ ROWS) × (m < 3 * n) × (k < 3 * n) ⌝ }
-    ensures { λ d. ⌜ (d ≤ 3) × ((p : List (List ℕ)) (mode : Mode) → d ≡ caseRows s (m % 3) (k % 3) (rowOf (now (rows .entry)) (m / 3)) (rowOf (now (rows .entry)) (k / 3)) b
+    ensures { λ d. ⌜ (d ≤ 4) × ((p : List (List ℕ)) (mode : Mode) → d ≡ caseRows s (m % 3) (k % 3) (rowOf (now (rows .entry)) (m / 3)) (rowOf (now (rows .entry)) (k / 3)) b
         (programOrder (decode (now (rows .entry)) p mode n) m k)) ⌝ }
 {
     let o = moments::ordered_at(rows, n, m, k);

@@ -1,5 +1,5 @@
 use Rattle.finite.specs.Logic.{_and_}
-use Rattle.reader.specs.Judging.{direct-sync, direct-release, direct-acquire}
+use Rattle.reader.specs.Judging.{direct-sync, direct-release, direct-acquire, direct-system}
 use borrow.Author.Needs.{needs}
 use Rattle.reader.proofs.is_direct.Statement.{statement}
 use Rattle.reader.proofs.is_direct.Tie as tie
@@ -8,6 +8,7 @@ use Rattle.reader.proofs.is_direct.Lts as lts
 use Rattle.moments.proofs.is_ordered.Reads as is-ordered-reads
 use Rattle.order.proofs.steps.concerns_of.Reads as concerns-of-reads
 use Rattle.order.proofs.steps.holding_of.Reads as holding-of-reads
+use Rattle.reader.proofs.is_system.Reads as is-system-reads
 use Rattle.reader.proofs.sync.sync_at.Reads as sync-at-reads
 use Rattle.rows.proofs.bytes.read_row.Reads as read-row-reads
 use Rattle.rows.proofs.kinds.acquires.Reads as acquires-reads
@@ -84,21 +85,32 @@ returns-2 c =
     let held = told .before .before .before .before in
     direct-release _ _ _ _ _ _ _ _ _ _ (held .before .before .before .read-row .ensures) (held .before .before .read-row2 .ensures) _ _ _ _ (c .before .if2 .taken) (held .holding-of2 .ensures) (told .before .before .releases .ensures) (c .concerns-of .ensures) (told .is-ordered .ensures)
 
--- src/lib.rt:45:66
+-- src/lib.rt:59:68
 cast-concerns-of-2 : tie.Need-cast-concerns-of-2
 cast-concerns-of-2 c = search needs
 
--- src/lib.rt:45:34
+-- src/lib.rt:59:36
 concerns-of-requires-2 : tie.Need-concerns-of-requires-2
 concerns-of-requires-2 c κs = search needs
 
--- src/lib.rt:28:1
+-- src/lib.rt:59:9
 returns-3 : tie.Need-returns-3
 unfolding _and_
 returns-3 c =
-    let told = c .before .before in
+    let told = c .before .before .before in
     let held = told .before .before .before .before in
-    direct-acquire _ _ _ _ _ _ _ _ _ _ (held .before .before .before .read-row .ensures) (held .before .before .read-row2 .ensures) _ _ _ _ (told .before .before .before .if1 .left) (c .before .if2 .left) (held .before .holding-of .ensures) (told .before .acquires .ensures) (c .concerns-of2 .ensures) (told .is-ordered .ensures)
+    direct-acquire _ _ _ _ _ _ _ _ _ _ (held .before .before .before .read-row .ensures) (held .before .before .read-row2 .ensures) _ _ _ _ (c .before .if3 .taken) (held .before .holding-of .ensures) (told .before .acquires .ensures) (c .concerns-of2 .ensures) (told .is-ordered .ensures)
+
+-- src/lib.rt:61:19
+is-system-requires : tie.Need-is-system-requires
+is-system-requires c κs = search needs
+
+-- src/lib.rt:39:1
+returns-4 : tie.Need-returns-4
+unfolding _and_
+returns-4 c =
+    let told = c .before .before .before in
+    direct-system _ _ _ _ _ _ (told .before .before .before .if1 .left) (c .before .before .if2 .left) (c .before .if3 .left) (c .is-system .ensures _ _ _)
 
 pub is-direct-spec : {M : Type 1} → statement M
 is-direct-spec =
@@ -122,4 +134,6 @@ is-direct-spec =
     returns-2
     cast-concerns-of-2
     concerns-of-requires-2
-    returns-3)
+    returns-3
+    is-system-requires
+    returns-4)

@@ -11,8 +11,8 @@ const MIDDLE: Size = Size {
     most: 24,
 };
 const LARGEST: Size = Size {
-    least: 64,
-    most: 64,
+    least: 128,
+    most: 128,
 };
 
 /// What a set of tables has in it that the rules treat apart.

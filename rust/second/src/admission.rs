@@ -57,7 +57,7 @@ fn refusal_2(table: &[u8]) -> bool {
     table[4] != 1 || table[7] != 0
 }
 
-/// Refusal 3: agents over 16 or rows over 64.
+/// Refusal 3: agents over 32 or rows over 128.
 fn refusal_3(table: &[u8]) -> bool {
     usize::from(table[5]) > MAX_AGENTS || usize::from(table[6]) > MAX_ROWS
 }
@@ -149,7 +149,7 @@ fn refusal_7(row: Row) -> bool {
     let bad_access =
         row.length == 0 || usize::from(row.length) > MAX_LENGTH || row.end_byte() > 65536;
     let bad_atomic = match row.length {
-        4 | 8 => row.start % u16::from(row.length) != 0,
+        4 | 8 => !row.start.is_multiple_of(u16::from(row.length)),
         _ => true,
     };
     (row.is_access() && bad_access) || (row.is_atomic() && bad_atomic)

@@ -56,10 +56,10 @@ fn refusal_2_version_and_zero_byte() {
 
 #[test]
 fn refusal_3_too_many() {
-    assert_eq!(check_changed(|bytes| bytes[5] = 17), "refused 3 0");
-    assert_eq!(check_changed(|bytes| bytes[6] = 65), "refused 3 0");
-    assert_eq!(check_changed(|bytes| bytes[5] = 16), "refused 4 0");
-    assert_eq!(check_changed(|bytes| bytes[6] = 64), "refused 4 0");
+    assert_eq!(check_changed(|bytes| bytes[5] = 33), "refused 3 0");
+    assert_eq!(check_changed(|bytes| bytes[6] = 129), "refused 3 0");
+    assert_eq!(check_changed(|bytes| bytes[5] = 32), "refused 4 0");
+    assert_eq!(check_changed(|bytes| bytes[6] = 128), "refused 4 0");
 }
 
 #[test]

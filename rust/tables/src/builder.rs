@@ -5,6 +5,11 @@ pub const INITIAL: u16 = 65535;
 /// Source number for a blank.
 pub const BLANK: u16 = 65534;
 
+/// Most rows of a table.
+pub const MAX_ROWS: usize = 128;
+/// Most agents of a table.
+pub const MAX_AGENTS: usize = 32;
+
 /// Kinds of rows.
 pub mod kind {
     pub const PLAIN_READ: u8 = 0;
@@ -207,7 +212,7 @@ impl Row {
 
     /// Whether the row's bytes may be those of an atomic.
     pub fn has_atomic_bytes(self) -> bool {
-        matches!(self.length, 4 | 8) && self.start % u16::from(self.length) == 0
+        matches!(self.length, 4 | 8) && self.start.is_multiple_of(u16::from(self.length))
     }
 
     pub fn reads(self) -> bool {

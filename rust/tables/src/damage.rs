@@ -1,6 +1,6 @@
 //! Damage to good tables, so that every refusal is reached at various rows.
 
-use crate::builder::{flags, kind, order, Row, Table, BLANK, INITIAL};
+use crate::builder::{flags, kind, order, Row, Table, BLANK, INITIAL, MAX_AGENTS, MAX_ROWS};
 use crate::generator::{checkable, Size};
 use crate::mutation::{in_one_order, rows_that};
 use crate::random::Random;
@@ -28,8 +28,8 @@ fn damage_bytes(random: &mut Random, bytes: &mut Vec<u8>, number: usize) {
         1 => bytes.truncate(random.below(8)),
         2 if random.percent(50) => bytes[4] = random.pick(&[0, 2, 255]),
         2 => bytes[7] = random.pick(&[1, 128, 255]),
-        3 if random.percent(50) => bytes[5] = random.between(17, 255) as u8,
-        3 => bytes[6] = random.between(65, 255) as u8,
+        3 if random.percent(50) => bytes[5] = random.between(MAX_AGENTS + 1, 255) as u8,
+        3 => bytes[6] = random.between(MAX_ROWS + 1, 255) as u8,
         4 => damage_length(random, bytes),
         _ if random.percent(10) => {
             let place = random.below(bytes.len());
@@ -45,7 +45,7 @@ fn damage_length(random: &mut Random, bytes: &mut Vec<u8>) {
         1 => bytes.push(0),
         2 => bytes.truncate((bytes.len() - 1).max(8)),
         3 => bytes.truncate(random.between(8, bytes.len())),
-        _ => bytes[6] = random.below(65) as u8,
+        _ => bytes[6] = random.below(MAX_ROWS + 1) as u8,
     }
 }
 
@@ -78,7 +78,7 @@ fn damage_row(
 fn damage_code(random: &mut Random, row: &mut Row) {
     match random.below(7) {
         0 => row.kind = random.pick(&[6, 7, 255]),
-        1 => row.agent = random.pick(&[16, 17, 255]),
+        1 => row.agent = random.pick(&[32, 33, 255]),
         2 => row.order = random.pick(&[4, 5, 255]),
         3 => row.scope = random.pick(&[5, 6, 255]),
         4 => row.classes = random.pick(&[16, 17, 255]),

@@ -5,11 +5,13 @@ mod damage;
 mod episode;
 mod examples;
 mod generator;
+mod moved;
 mod mutation;
 mod random;
 
-pub use builder::{hex, Row, Table, BLANK, INITIAL};
+pub use builder::{hex, Row, Table, BLANK, INITIAL, MAX_AGENTS, MAX_ROWS};
 pub use damage::damaged;
 pub use examples::{examples, Example};
 pub use generator::{checkable, fillable, Size};
+pub use moved::{moved, Moved};
 pub use random::Random;

@@ -16,7 +16,7 @@ fn compare(seed: u64, count: usize, size: Size) -> Tally {
 }
 
 fn assert_every_refusal(tally: &Tally, rows: usize) {
-    for number in 1..=10 {
+    for number in (1..=10).chain([14]) {
         for command in ["check", "fill"] {
             let count = tally.of(&format!("{command} refused {number}"));
             assert!(50 * count >= tally.total() / 2, "{number}:\n{tally}");

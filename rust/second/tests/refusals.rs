@@ -72,7 +72,7 @@ fn refusal_4_lengths() {
 
 #[test]
 fn refusal_5_codes() {
-    assert_eq!(check_rows(|rows| rows[1].kind = 6), "refused 5 1");
+    assert_eq!(check_rows(|rows| rows[1].kind = 7), "refused 5 1");
     assert_eq!(check_rows(|rows| rows[2].agent = 2), "refused 5 2");
     assert_eq!(check_rows(|rows| rows[3].order = 4), "refused 5 3");
     assert_eq!(check_rows(|rows| rows[3].scope = 5), "refused 5 3");

@@ -18,6 +18,7 @@ pub mod kind {
     pub const ATOMIC_WRITE: u8 = 3;
     pub const RMW: u8 = 4;
     pub const BARRIER: u8 = 5;
+    pub const CONTROL_BARRIER: u8 = 6;
 }
 
 /// Memory orders.
@@ -141,6 +142,17 @@ impl Row {
         }
     }
 
+    /// A control barrier in device scope, without memory semantics. Its
+    /// execution scope stands in the class's place, its instance in the start's.
+    pub fn control_barrier(agent: u8, execution_scope: u8, instance: u16) -> Row {
+        Row {
+            kind: kind::CONTROL_BARRIER,
+            class: execution_scope,
+            start: instance,
+            ..Row::barrier(agent, order::RELAXED, 0)
+        }
+    }
+
     pub fn bytes(self, start: u16, length: u8) -> Row {
         Row {
             start,
@@ -202,6 +214,15 @@ impl Row {
         self.kind < kind::BARRIER
     }
 
+    pub fn is_control_barrier(self) -> bool {
+        self.kind == kind::CONTROL_BARRIER
+    }
+
+    /// Whether two rows are control barriers of one instance.
+    pub fn meets(self, other: Row) -> bool {
+        self.is_control_barrier() && other.is_control_barrier() && self.start == other.start
+    }
+
     pub fn is_plain(self) -> bool {
         self.kind < kind::ATOMIC_READ
     }
@@ -240,7 +261,10 @@ impl Row {
     }
 
     pub fn overlaps(self, other: Row) -> bool {
-        u32::from(self.start) < other.end() && u32::from(other.start) < self.end()
+        self.is_access()
+            && other.is_access()
+            && u32::from(self.start) < other.end()
+            && u32::from(other.start) < self.end()
     }
 
     fn push_bytes(self, bytes: &mut Vec<u8>) {

@@ -42,6 +42,13 @@ pub fn checkable(random: &mut Random, size: Size) -> Table {
     table
 }
 
+/// A table for a check that is race-free and consistent, with few exceptions.
+pub fn clean(random: &mut Random, size: Size) -> Table {
+    let mut table = planned(random, size, Plan::Clean);
+    shuffle_agents(random, &mut table);
+    table
+}
+
 /// A table for a fill: like one for a check, with blanks in most of them.
 pub fn fillable(random: &mut Random, size: Size) -> Table {
     let plan = match random.below(100) {

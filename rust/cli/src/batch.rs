@@ -1,5 +1,6 @@
 //! `batch`: one table a line.
 
+use crate::input;
 use crate::judge::{append_line, judge, Form};
 use crate::line::Line;
 use crate::output::{complain, Output};
@@ -9,6 +10,10 @@ use std::time::{Duration, Instant};
 use stramashly::Checker;
 
 pub fn run() -> Status {
+    if let Err(reason) = input::trouble() {
+        complain(&reason);
+        return Status::Trouble;
+    }
     let mut batch = Batch::new();
     let status = batch.answer_lines();
     batch.progress.finish();

@@ -2,6 +2,7 @@
 
 use crate::arguments::{Request, Task};
 use crate::hex::{Hex, KEPT_BYTES};
+use crate::input;
 use crate::judge::{judge, Form};
 use crate::output::{complain, Output};
 use crate::tell::tell;
@@ -69,6 +70,7 @@ fn answer(
 fn read(name: &OsStr, is_hex: bool) -> Result<Vec<u8>, String> {
     let text = |error: io::Error| error.to_string();
     if name == "-" {
+        input::trouble()?;
         read_from(io::stdin().lock(), is_hex)
     } else {
         read_from(File::open(name).map_err(text)?, is_hex)

@@ -13,7 +13,8 @@ usage:
                                       whether that is a reason why M happens before N
   stramashly show [--hex] FILE...     each table in words, a line for each row
   stramashly explain [--hex] FILE...  each table's answer in sentences: what is missing, what to change
-  stramashly explain --html FILE      the same as a page, with the table and the picture
+  stramashly explain --html [--hex] FILE
+                                      the same as a page, with the table and the picture
   stramashly draw [--hex] FILE        the run as a picture (SVG)
   stramashly batch                    lines on standard input: `check HEX`, `fill HEX`,
                                       `report HEX`, `derive HEX M N`, `accepts HEX M N ...`

@@ -6,6 +6,7 @@ mod batch;
 mod files;
 mod help;
 mod hex;
+mod input;
 mod json;
 mod judge;
 mod line;

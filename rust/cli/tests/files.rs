@@ -5,7 +5,7 @@ mod common;
 use common::*;
 use std::fs::{self, File, OpenOptions};
 use std::io::Read;
-use std::process::Stdio;
+use std::process::{Command, Stdio};
 use tables::{hex, Random, Row, Table};
 
 fn good(output: &str, status: i32) -> Answer {
@@ -150,8 +150,8 @@ fn help_and_version() {
 /// between refusals 2, 3 and 4, however long the file.
 #[test]
 fn a_longer_file_has_the_refusal_that_it_deserves() {
-    let agents: Vec<[u16; 3]> = (0..16).map(|agent| [0, 0, agent]).collect();
-    let rows = [Row::write(0); 64];
+    let agents: Vec<[u16; 3]> = (0..32).map(|agent| [0, 0, agent]).collect();
+    let rows = [Row::write(0); 128];
     let largest = Table::new(&agents, &rows).bytes();
     assert_eq!(
         stramashly(&["check", "-"], &largest),
@@ -163,10 +163,10 @@ fn a_longer_file_has_the_refusal_that_it_deserves() {
         let digits = hex(&longer);
         for (place, byte, answer) in [
             (0, 0, "refused 4 0\n"),
-            (4, 2, "refused 2 0\n"),
+            (4, 3, "refused 2 0\n"),
             (7, 1, "refused 2 0\n"),
-            (5, 17, "refused 3 0\n"),
-            (6, 65, "refused 3 0\n"),
+            (5, 33, "refused 3 0\n"),
+            (6, 129, "refused 3 0\n"),
         ] {
             let mut changed = longer.clone();
             changed[place] = byte;
@@ -266,4 +266,33 @@ fn closed_standard_error_is_no_panic() {
         .output()
         .unwrap();
     assert_eq!(output.status.code(), Some(4));
+}
+
+/// Nothing is judged where there is nothing to read from, which isn't the
+/// same as an empty file.
+#[test]
+fn closed_standard_input_is_told() {
+    for words in [
+        "check -",
+        "check --hex -",
+        "fill -",
+        "explain -",
+        "draw -",
+        "batch",
+    ] {
+        let script = format!("\"$0\" {words} <&-");
+        let output = Command::new("sh")
+            .args(["-c", &script, env!("CARGO_BIN_EXE_stramashly")])
+            .output()
+            .unwrap();
+        assert_eq!(output.status.code(), Some(4), "{words}");
+        assert_eq!(output.stdout, b"", "{words}");
+        let messages = String::from_utf8(output.stderr).unwrap();
+        assert!(messages.contains("standard input is closed"), "{messages}");
+    }
+    let output = program_in(&scratch(), &["check", "-"])
+        .stdin(Stdio::null())
+        .output()
+        .unwrap();
+    assert_eq!(output.stdout, b"refused 1 0\n");
 }

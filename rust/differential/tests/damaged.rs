@@ -16,7 +16,7 @@ fn compare(seed: u64, count: usize, size: Size) -> Tally {
 }
 
 fn assert_every_refusal(tally: &Tally, rows: usize) {
-    for number in 1..=10 {
+    for number in (1..=10).chain([14]) {
         for command in ["check", "fill"] {
             let count = tally.of(&format!("{command} refused {number}"));
             assert!(50 * count >= tally.total() / 2, "{number}:\n{tally}");
@@ -44,8 +44,8 @@ fn middle_tables() {
 #[test]
 fn largest_tables() {
     let size = Size {
-        least: 64,
-        most: 64,
+        least: 128,
+        most: 128,
     };
     assert_every_refusal(&compare(203, 400, size), 8);
 }
@@ -80,8 +80,8 @@ fn every_length_cut_off_or_added() {
     let mut comparison = Comparison::new(205);
     let mut tally = Tally::default();
     let size = Size {
-        least: 64,
-        most: 64,
+        least: 128,
+        most: 128,
     };
     let mut bytes = checkable(&mut random, size).bytes();
     let whole = bytes.len();

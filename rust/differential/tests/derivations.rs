@@ -15,8 +15,8 @@ const MIDDLE: Size = Size {
     most: 24,
 };
 const LARGEST: Size = Size {
-    least: 64,
-    most: 64,
+    least: 128,
+    most: 128,
 };
 
 /// How often each answer was given, and what the derivations were like.
@@ -79,7 +79,7 @@ fn try_pair(moments: &mut Moments, random: &mut Random, pair: (u16, u16), seen: 
 
 /// Every number of a moment of so many, and some that name none.
 fn numbers(count: usize) -> impl Iterator<Item = u16> + Clone {
-    let none = [count as u16, 191, 192, 511, 512, 32768, 65535];
+    let none = [count as u16, 383, 384, 511, 512, 32768, 65535];
     (0..count as u16).chain(none)
 }
 
@@ -220,12 +220,12 @@ fn round() -> Table {
 }
 
 #[test]
-fn chains_of_1_to_191_steps() {
+fn chains_of_1_to_383_steps() {
     let mut comparison = Comparison::new(507);
     let table = round().bytes();
     let mut moments = comparison.moments_of(&table);
     // From the moment before row 0 to that row, then to and fro.
-    let steps: Vec<u16> = (0..300)
+    let steps: Vec<u16> = (0..400)
         .map(|place| match place {
             0 => 1025,
             _ => [513, 516][place % 2],
@@ -236,6 +236,6 @@ fn chains_of_1_to_191_steps() {
         let claim = Claim::chain(1, &steps[..count]);
         let answer = moments.read(0, second, &claim).unwrap();
         let is_accepted = answer == AcceptsAnswer::Accepted;
-        assert_eq!(is_accepted, (1..=191).contains(&count), "{count}");
+        assert_eq!(is_accepted, (1..=383).contains(&count), "{count}");
     }
 }

@@ -11,14 +11,15 @@ const MIDDLE: Size = Size {
     most: 24,
 };
 const LARGEST: Size = Size {
-    least: 64,
-    most: 64,
+    least: 128,
+    most: 128,
 };
 
 /// What a set of tables has in it that the rules treat apart.
 #[derive(Default)]
 struct Features {
     synchronized_by_barriers: usize,
+    synchronized_by_control: usize,
     references_over_the_same_bytes: usize,
     partial_overlaps: usize,
     chained_rmws: usize,
@@ -42,6 +43,8 @@ impl Features {
                 let is_barrier = x.kind == kind::BARRIER && y.kind == kind::BARRIER;
                 let is_synchronized = is_barrier && comparison.state.synchronizes_with(a, b);
                 self.synchronized_by_barriers += usize::from(is_synchronized);
+                let by_control = comparison.state.control_barrier(a, b).is_some();
+                self.synchronized_by_control += usize::from(by_control);
                 let is_ended = reads_own_write(table, comparison, a, b);
                 self.ended_by_own_writes += usize::from(is_ended);
                 if a < b {
@@ -135,6 +138,7 @@ fn middle_tables_checked() {
     assert_a_tenth(&tally, &VERDICTS);
     assert_eq!(features.class_sets, (0..16).collect());
     assert!(features.synchronized_by_barriers > 1000);
+    assert!(features.synchronized_by_control > 1000);
     assert!(features.references_over_the_same_bytes > 1000);
     assert!(features.partial_overlaps > 500);
     assert!(features.chained_rmws > 1000);

@@ -5,6 +5,11 @@ pub const INITIAL: u16 = 65535;
 /// Source number for a blank.
 pub const BLANK: u16 = 65534;
 
+/// Most rows of a table.
+pub const MAX_ROWS: usize = 128;
+/// Most agents of a table.
+pub const MAX_AGENTS: usize = 32;
+
 /// Kinds of rows.
 pub mod kind {
     pub const PLAIN_READ: u8 = 0;
@@ -13,6 +18,7 @@ pub mod kind {
     pub const ATOMIC_WRITE: u8 = 3;
     pub const RMW: u8 = 4;
     pub const BARRIER: u8 = 5;
+    pub const CONTROL_BARRIER: u8 = 6;
 }
 
 /// Memory orders.
@@ -136,6 +142,17 @@ impl Row {
         }
     }
 
+    /// A control barrier in device scope, without memory semantics. Its
+    /// execution scope stands in the class's place, its instance in the start's.
+    pub fn control_barrier(agent: u8, execution_scope: u8, instance: u16) -> Row {
+        Row {
+            kind: kind::CONTROL_BARRIER,
+            class: execution_scope,
+            start: instance,
+            ..Row::barrier(agent, order::RELAXED, 0)
+        }
+    }
+
     pub fn bytes(self, start: u16, length: u8) -> Row {
         Row {
             start,
@@ -197,6 +214,15 @@ impl Row {
         self.kind < kind::BARRIER
     }
 
+    pub fn is_control_barrier(self) -> bool {
+        self.kind == kind::CONTROL_BARRIER
+    }
+
+    /// Whether two rows are control barriers of one instance.
+    pub fn meets(self, other: Row) -> bool {
+        self.is_control_barrier() && other.is_control_barrier() && self.start == other.start
+    }
+
     pub fn is_plain(self) -> bool {
         self.kind < kind::ATOMIC_READ
     }
@@ -207,7 +233,7 @@ impl Row {
 
     /// Whether the row's bytes may be those of an atomic.
     pub fn has_atomic_bytes(self) -> bool {
-        matches!(self.length, 4 | 8) && self.start % u16::from(self.length) == 0
+        matches!(self.length, 4 | 8) && self.start.is_multiple_of(u16::from(self.length))
     }
 
     pub fn reads(self) -> bool {
@@ -235,7 +261,10 @@ impl Row {
     }
 
     pub fn overlaps(self, other: Row) -> bool {
-        u32::from(self.start) < other.end() && u32::from(other.start) < self.end()
+        self.is_access()
+            && other.is_access()
+            && u32::from(self.start) < other.end()
+            && u32::from(other.start) < self.end()
     }
 
     fn push_bytes(self, bytes: &mut Vec<u8>) {

@@ -17,6 +17,7 @@ pub fn examples() -> Vec<Example> {
     let tables = story()
         .into_iter()
         .chain(message_passing())
+        .chain(control_barriers())
         .chain(sequences())
         .chain(by_class_and_byte())
         .chain(inconsistent())
@@ -123,6 +124,43 @@ fn barriers() -> Table {
             Row::read(1, 0),
         ],
     )
+}
+
+/// A write, a control barrier of two agents with the rows around it, a read.
+fn around_control(order: u8, classes: u8, before: Option<Row>, after: Option<Row>) -> Table {
+    let control = |agent| {
+        let row = Row::control_barrier(agent, scope::WORKGROUP, 1).scope(scope::WORKGROUP);
+        let row = row.order(order, classes);
+        if order == order::BOTH {
+            row.make_available().make_visible()
+        } else {
+            row
+        }
+    };
+    let mut rows = vec![Row::write(0)];
+    rows.extend(before);
+    rows.extend([control(0), control(1)]);
+    rows.extend(after);
+    rows.push(Row::read(1, 0));
+    Table::of_one_workgroup(2, &rows)
+}
+
+fn control_barriers() -> Vec<Named> {
+    let fence = |agent, order| Row::barrier(agent, order, UNIFORM).scope(scope::WORKGROUP);
+    let before = fence(0, order::RELEASE).make_available();
+    let after = fence(1, order::ACQUIRE).make_visible();
+    let full = around_control(order::BOTH, UNIFORM, None, None);
+    let fenced = around_control(order::RELAXED, 0, Some(before), Some(after));
+    let astray = changed(full.clone(), |table| table.agents[1] = [0, 1, 1]);
+    vec![
+        ("control", full),
+        (
+            "control-execution",
+            around_control(order::RELAXED, 0, None, None),
+        ),
+        ("control-fences", fenced),
+        ("control-two-workgroups", astray),
+    ]
 }
 
 /// P with a row put in as row 2 that the acquire reads.

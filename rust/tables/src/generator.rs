@@ -1,6 +1,6 @@
 //! Whole tables: episodes put together, reordered and mutated.
 
-use crate::builder::{kind, Row, Table, BLANK, INITIAL};
+use crate::builder::{kind, Row, Table, BLANK, INITIAL, MAX_AGENTS};
 use crate::episode::{episode, Ground};
 use crate::mutation::{make_cyclic, make_stale, mutate, reorder, repair, rows_that, weaken};
 use crate::random::Random;
@@ -27,15 +27,24 @@ enum Plan {
 /// A table for a check: race-free, racing or inconsistent, nearly always
 /// admissible.
 pub fn checkable(random: &mut Random, size: Size) -> Table {
-    let plan = match random.below(100) {
-        0..=9 => Plan::Clean,
-        10..=39 => Plan::Stale,
-        40..=51 => Plan::Cyclic,
-        52..=74 => Plan::Weak,
-        75..=94 => Plan::Mutated,
+    // Of many rows, few changes leave a run race-free.
+    let clean = if size.most > 64 { 25 } else { 10 };
+    let plan = match random.below(90) {
+        _ if random.percent(clean) => Plan::Clean,
+        0..=29 => Plan::Stale,
+        30..=41 => Plan::Cyclic,
+        42..=64 => Plan::Weak,
+        65..=84 => Plan::Mutated,
         _ => Plan::Scrambled,
     };
     let mut table = planned(random, size, plan);
+    shuffle_agents(random, &mut table);
+    table
+}
+
+/// A table for a check that is race-free and consistent, with few exceptions.
+pub fn clean(random: &mut Random, size: Size) -> Table {
+    let mut table = planned(random, size, Plan::Clean);
     shuffle_agents(random, &mut table);
     table
 }
@@ -114,7 +123,7 @@ fn run(random: &mut Random, size: Size) -> Table {
 
 /// Few agents near to each other, or more of them farther apart.
 fn agents(random: &mut Random) -> Vec<[u16; 3]> {
-    let count = random.pick(&[2, 2, 3, 3, 4, 5, 8, 16]);
+    let count = random.pick(&[2, 2, 3, 3, 4, 5, 8, 16, MAX_AGENTS]);
     let ranges = random.pick(&[[1, 1, 2], [1, 1, 1], [1, 2, 2], [2, 2, 2], [1, 1, 3]]);
     let agent = |random: &mut Random| ranges.map(|range| random.below(range) as u16);
     (0..count).map(|_| agent(random)).collect()

@@ -2,8 +2,9 @@
 //! reason why it might be what is missing.
 
 use crate::account::Checked;
-use crate::change::{Change, Goal};
+use crate::change::Change;
 use crate::edit::{Edit, Field};
+use crate::goal::Goal;
 use crate::reason::Reason;
 use second::table::*;
 use second::INITIAL;

@@ -15,7 +15,7 @@ pub fn step_parts(step: u16) -> (u16, usize) {
 /// finder's derivation, which the proved reader has accepted.
 pub fn derived_lines(table: &[u8], rows: &[Row], (from, to): (usize, usize)) -> Vec<String> {
     let mut checker = Checker::new();
-    // Moments are below 192.
+    // Three moments for each of 128 rows.
     let (first, second) = (from as u16, to as u16);
     if let DeriveAnswer::Derivation(derivation) = checker.derive(table, first, second) {
         let answer = Checker::accepts(table, first, second, derivation);
@@ -47,7 +47,8 @@ fn step_words(rows: &[Row], classes: u8, case: u16, from: usize, to: usize) -> S
     let classes = names::classes(classes);
     match u8::try_from(case) {
         Ok(SYNCHRONIZES_STEP) => {
-            format!("{start} synchronizes with {end}, both for {classes} (M6, case 1)")
+            let meeting = meeting_words(rows, from / 3, to / 3);
+            format!("{start} synchronizes with {end}{meeting}, both for {classes} (M6, case 1)")
         }
         Ok(RELEASE_STEP) => {
             format!("{start} comes before {end}, a release for {classes} (M6, case 2)")
@@ -57,6 +58,40 @@ fn step_words(rows: &[Row], classes: u8, case: u16, from: usize, to: usize) -> S
         }
         _ => format!("{start} leads to {end} for {classes} (M6, case {case})"),
     }
+}
+
+/// The meeting by which two barriers synchronize, if there is one.
+fn meeting_words(rows: &[Row], release: usize, acquire: usize) -> String {
+    let is_barrier = |row: usize| rows.get(row).is_some_and(|row| row.is_barrier());
+    if !is_barrier(release) || !is_barrier(acquire) {
+        return String::new();
+    }
+    match meeting(rows, release, acquire) {
+        None => String::new(),
+        Some((one, other)) if (one, other) == (release, acquire) => {
+            format!(", both of control barrier {}", rows[one].instance())
+        }
+        Some((one, other)) => format!(
+            ", with rows {one} and {other} of control barrier {} between them",
+            rows[one].instance()
+        ),
+    }
+}
+
+/// The first two rows of one control barrier's instance of which the one is a
+/// row or after it, the other another agent's row or before it.
+pub fn meeting(rows: &[Row], from: usize, to: usize) -> Option<(usize, usize)> {
+    let (agent, other) = (rows[from].agent, rows[to].agent);
+    let ours = (from..rows.len()).filter(|row| rows[*row].agent == agent);
+    let mut pairs = ours.flat_map(|one| (0..=to).map(move |two| (one, two)));
+    pairs.find(|(one, two)| {
+        let (first, second) = (rows[*one], rows[*two]);
+        one != two
+            && second.agent == other
+            && first.is_control_barrier()
+            && second.is_control_barrier()
+            && first.instance() == second.instance()
+    })
 }
 
 /// A moment in words: the row itself, or what the row does before or after.

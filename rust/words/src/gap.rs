@@ -2,7 +2,7 @@
 //! the chain between them is missing.
 
 use crate::account::Checked;
-use crate::derivation::{at, moment_words};
+use crate::derivation::{at, meeting, moment_words};
 use crate::names;
 use crate::run::source_words;
 use second::table::Row;
@@ -45,11 +45,12 @@ impl Checked<'_> {
         if agent == other {
             return format!("{none}, which comes no later");
         }
+        let unfit = self.meeting_lacks(x, y, gap);
         if gap.releases.is_empty() {
-            return format!("{none}: agent {agent} releases nothing from there on");
+            return format!("{none}: agent {agent} releases nothing from there on{unfit}");
         }
         if gap.acquires.is_empty() {
-            return format!("{none}: agent {other} acquires nothing up to there");
+            return format!("{none}: agent {other} acquires nothing up to there{unfit}");
         }
         let met = gap.releases.iter().find_map(|release| {
             let mut acquires = gap.acquires.iter();
@@ -62,9 +63,52 @@ impl Checked<'_> {
                 "{none}: of agent {agent}'s releases ({}) none synchronizes with an acquire of agent {other} ({}){}",
                 row_list(&gap.releases),
                 row_list(&gap.acquires),
-                self.unmet_words(gap)
+                match unfit.is_empty() {
+                    true => self.unmet_words(gap),
+                    false => unfit,
+                }
             ),
         }
+    }
+
+    /// What a control barrier that both agents meet in lacks, if there is one
+    /// between the rows.
+    fn meeting_lacks(&self, x: usize, y: usize, gap: &Gap) -> String {
+        let rows = &self.run.rows;
+        let Some((ours, theirs)) = meeting(rows, x, y) else {
+            return String::new();
+        };
+        let releases = gap.releases.iter().rfind(|row| {
+            let is_barrier = rows[**row].is_barrier();
+            is_barrier && **row <= ours
+        });
+        let acquires = gap.acquires.iter().find(|row| {
+            let is_barrier = rows[**row].is_barrier();
+            is_barrier && **row >= theirs
+        });
+        let mut lacks = Vec::new();
+        if releases.is_none() {
+            lacks.push(format!("row {ours} doesn't release"));
+        }
+        if acquires.is_none() {
+            lacks.push(format!("row {theirs} doesn't acquire"));
+        }
+        let agents = (rows[x].agent, rows[y].agent);
+        for row in releases.into_iter().chain(acquires) {
+            let scope = rows[*row].scope;
+            if !self.state.share_scope(agents.0, agents.1, scope) {
+                let scope = names::scope(scope);
+                lacks.push(format!("row {row} has {scope} memory scope only"));
+            }
+        }
+        if lacks.is_empty() {
+            return String::new();
+        }
+        format!(
+            "; rows {ours} and {theirs} meet in control barrier {}, but {}",
+            rows[ours].instance(),
+            names::listed(&lacks)
+        )
     }
 
     /// Why the only release doesn't synchronize with the only acquire.
@@ -85,7 +129,11 @@ impl Checked<'_> {
             );
         }
         if !first.is_atomic() || !second.is_atomic() {
-            return "; no atomic that was written after the one and read before the other joins them".to_string();
+            let meet = match first.is_barrier() && second.is_barrier() {
+                true => ", and no control barrier is met between them",
+                false => "",
+            };
+            return format!("; no atomic that was written after the one and read before the other joins them{meet}");
         }
         let place = |row: Row| (row.start, row.length, row.reference);
         if place(first) != place(second) {

@@ -12,10 +12,13 @@
 //! | why rows are ordered | `account`, `derivation` |
 //! | why they aren't | `nearest`, `gap` |
 //! | what would order them | `catalogue`, `change`, `edit`, `reason`, `cure` |
+//! | new rows that would, and their words for a shader | `insertion`, `remedy`, `shader` |
 //! | the answers one by one | `race`, `race_free`, `inconsistent`, `refusal` |
+//! | what is wrong with a refused table, and with its blanks | `fault`, `unfit`, `blank` |
 //! | answers in sentences, pictures and pages | `explain`, `draw`, `picture`, `page`, `markup` |
 
 mod account;
+mod blank;
 mod catalogue;
 mod change;
 mod cure;
@@ -25,8 +28,11 @@ mod edit;
 #[cfg(test)]
 mod exhaustive;
 mod explain;
+mod fault;
 mod gap;
+mod goal;
 mod inconsistent;
+mod insertion;
 mod markup;
 mod names;
 mod nearest;
@@ -36,20 +42,28 @@ mod race;
 mod race_free;
 mod reason;
 mod refusal;
+mod remedy;
 mod run;
+mod shader;
 mod show;
+mod unfit;
 
 pub use account::{Checked, Ordered};
-pub use change::{Change, Goal};
+pub use change::Change;
 pub use cure::Cure;
 pub use derivation::{at, derivation_lines, derived_lines, moment_words, step_parts};
 pub use draw::draw;
 pub use edit::{edited, Edit, Field};
 pub use explain::{explain, Explanation, Shown};
+pub use fault::{faults, Fault};
+pub use goal::Goal;
 pub use inconsistent::edge_name;
+pub use insertion::{stepped, Insertion, Step};
 pub use nearest::Near;
 pub use page::page;
 pub use reason::Reason;
 pub use refusal::refusal;
 pub use run::Run;
+pub use shader::{glsl, spirv};
 pub use show::show;
+pub use unfit::{unfit, Unfit};

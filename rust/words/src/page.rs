@@ -48,7 +48,7 @@ pub fn page(table: &[u8], explanation: &Explanation) -> String {
     let run = Run::of(table);
     html += &picture_part(table, &run, explanation);
     html += &table_part(table, &run, explanation);
-    html += "<footer><p>The first line is the answer of the proved checker. The words, the table and the picture come from a second implementation, which is tested and not proved.</p></footer>\n";
+    html += "<footer><p>The first line is the answer of the proved checker, and the steps from moment to moment are derivations that the proved library found and accepted. All else, the words, the table and the picture, comes from a second implementation, which is tested and not proved.</p></footer>\n";
     html + "</main>\n</body>\n</html>\n"
 }
 

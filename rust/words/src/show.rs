@@ -65,6 +65,7 @@ pub fn cells(number: usize, row: Row) -> [String; 12] {
         }
     };
     let is_flagged = row.makes_available() || row.makes_visible();
+    let is_meeting = row.is_control_barrier();
     let is_place_unused = row.is_barrier() && row.length == 0 && row.start == 0;
     [
         number.to_string(),
@@ -77,8 +78,14 @@ pub fn cells(number: usize, row: Row) -> [String; 12] {
         ),
         names::classes(row.classes),
         names::flags(row.flags),
-        unless(row.is_barrier() && row.class == 0, names::class(row.class)),
-        unless(is_place_unused, names::bytes(row)),
+        match is_meeting {
+            true => format!("execution {}", names::scope(row.class)),
+            false => unless(row.is_barrier() && row.class == 0, names::class(row.class)),
+        },
+        match is_meeting && row.length == 0 {
+            true => format!("instance {}", row.start),
+            false => unless(is_place_unused, names::bytes(row)),
+        },
         unless(
             row.is_barrier() && row.reference == 0,
             row.reference.to_string(),

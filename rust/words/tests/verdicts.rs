@@ -7,7 +7,7 @@ use common::{elements, example, generated, with_relations};
 use std::collections::BTreeMap;
 use stramashly::Checker;
 use tables::{damaged, fillable, Random, Size};
-use words::{draw, explain, page, refusal, show, Checked};
+use words::{draw, edited, explain, page, refusal, show, Checked};
 
 /// Compares the first line with the check's answer, and gives its first word.
 fn check_first_line(table: &[u8], checker: &mut Checker) -> String {
@@ -44,7 +44,7 @@ fn the_first_line_is_the_proved_answer() {
 fn refusals_are_told() {
     let mut checker = Checker::new();
     let mut random = Random::new(333);
-    let mut seen = [0; 11];
+    let mut seen = [0; 16];
     for _ in 0..3000 {
         let table = damaged(&mut random, Size { least: 2, most: 8 });
         let explanation = explain(&table, &mut checker);
@@ -56,10 +56,10 @@ fn refusals_are_told() {
         let row = words.next().unwrap();
         seen[number] += 1;
         let text = explanation.lines.join("\n");
-        assert!(!text.contains("docs/RULES.md"), "{number}");
+        assert!(!text.contains("isn't known here"), "{number}");
         if number >= 5 {
             assert!(text.contains(&format!("Row {row} holds: agent ")), "{text}");
-            assert_eq!(explanation.lines.len(), 3, "{text}");
+            assert!(explanation.lines.len() >= 3, "{text}");
         }
         // Blanks are no reason to refuse a table that is only shown.
         let told = refusal(&table, &mut checker);
@@ -69,7 +69,7 @@ fn refusals_are_told() {
             filled.starts_with("refused").then_some(filled)
         );
     }
-    assert!(seen[1..].iter().all(|count| *count > 20), "{seen:?}");
+    assert!(seen[1..=10].iter().all(|count| *count > 20), "{seen:?}");
 }
 
 /// No bytes are too bad for words and pictures.
@@ -164,4 +164,33 @@ fn codes_out_of_range_are_shown() {
     let told = refusal(&table, &mut Checker::new()).unwrap();
     assert!(told.starts_with("refused 5 1\n"), "{told}");
     assert!(told.contains("kind 9?"), "{told}");
+}
+
+/// What an impossible run may mean is said of recorder, driver and device,
+/// and the sources that are named make it possible.
+#[test]
+fn impossible_runs_have_their_causes() {
+    let mut checker = Checker::new();
+    let (mut runs, mut sources) = (0, 0);
+    for table in generated(336, 1500, 2, 9) {
+        let explanation = explain(&table, &mut checker);
+        let is_impossible = ["cycle", "overwritten"]
+            .iter()
+            .any(|word| explanation.answer.starts_with(word));
+        let text = explanation.text();
+        for name in ["  the recorder, if", "  the driver, if", "  the device, if"] {
+            assert_eq!(text.contains(name), is_impossible, "{text}");
+        }
+        runs += usize::from(is_impossible);
+        for line in text.lines().filter(|line| line.starts_with("  if row ")) {
+            let (_, edit) = line.split_once("(edit: ").unwrap();
+            let (edit, answer) = edit.split_once("), check answers `").unwrap();
+            let edited = edited(&table, &[edit.parse().unwrap()]);
+            let expected = checker.check(&edited).to_string();
+            assert_eq!(answer, format!("{expected}`"));
+            assert!(expected.starts_with("race"), "{expected}");
+            sources += 1;
+        }
+    }
+    assert!(runs > 200 && sources > 100, "{runs} {sources}");
 }

@@ -76,6 +76,12 @@ fn label_drawn(
     )
 }
 
+/// Whether two rows are control barriers of one instance.
+pub fn are_of_one_instance(checked: Checked, from: usize, to: usize) -> bool {
+    let (from, to) = (checked.run.rows[from], checked.run.rows[to]);
+    from.is_control_barrier() && to.is_control_barrier() && from.instance() == to.instance()
+}
+
 fn relations(checked: Checked) -> Vec<Arrow> {
     let state = checked.state;
     let rows = checked.run.rows.len();
@@ -94,7 +100,8 @@ fn relations(checked: Checked) -> Vec<Arrow> {
         if state.read_from(to) == Some(from) {
             add("reads", -7);
         }
-        if state.synchronizes_with(from, to) {
+        // The band of an instance says it of its rows.
+        if state.synchronizes_with(from, to) && !are_of_one_instance(checked, from, to) {
             add("synchronizes", 0);
         }
         let comes_between =

@@ -3,7 +3,7 @@
 use crate::account::Checked;
 use crate::names;
 use crate::run::Run;
-use second::table::Row;
+use second::table::{Row, RELAXED};
 use second::{AFTER, BEFORE};
 
 /// Space around the picture.
@@ -144,17 +144,25 @@ fn lines(number: usize, row: Row) -> Vec<String> {
     let kind = names::kind(row.kind);
     let mut lines = vec![if row.is_plain() {
         format!("{number}  {kind}")
+    } else if row.is_control_barrier() && row.order == RELAXED {
+        format!("{number}  {kind}")
     } else {
         format!("{number}  {kind}, {}", names::order(row.order))
     }];
     if row.is_access() {
-        let bytes = names::bytes(row).replace(" to ", "\u{2013}");
+        let bytes = names::byte_words(row).replace(" to ", "\u{2013}");
         let class = names::class(row.class);
-        lines.push(format!("bytes {bytes}, ref {}, {class}", row.reference));
+        lines.push(format!("{bytes}, ref {}, {class}", row.reference));
     }
     let scope = names::scope(row.scope);
+    if row.is_control_barrier() {
+        let execution = names::scope(row.execution_scope());
+        lines.push(format!("instance {}, {execution}", row.instance()));
+    }
     if row.is_plain() && !row.is_non_private() {
         lines.push("private".to_string());
+    } else if row.is_control_barrier() && row.order == RELAXED {
+        lines.push("execution only".to_string());
     } else if !row.is_plain() && row.classes == 0 {
         lines.push(format!("{scope} scope"));
     } else if !row.is_plain() {

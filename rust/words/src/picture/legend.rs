@@ -14,6 +14,8 @@ enum Sample {
     Arrow(&'static str),
     /// A box of this class inside rows of a kind.
     Box(&'static str, &'static str),
+    /// A band across agents.
+    Band,
 }
 
 const HEIGHT: i32 = 26;
@@ -24,7 +26,7 @@ pub fn text_width(text: &str) -> i32 {
     text.chars().count() as i32 * 7
 }
 
-pub fn entries(shown: &Shown) -> Vec<Entry> {
+pub fn entries(shown: &Shown, has_bands: bool) -> Vec<Entry> {
     let arrow = |sort, words| Entry {
         sample: Sample::Arrow(sort),
         words,
@@ -43,6 +45,12 @@ pub fn entries(shown: &Shown) -> Vec<Entry> {
         sample_box("row", "moment available", "availability moment"),
         sample_box("row", "moment visible", "visibility moment"),
     ];
+    if has_bands {
+        entries.push(Entry {
+            sample: Sample::Band,
+            words: "agents meet in a control barrier",
+        });
+    }
     match shown {
         Shown::Race(_) => entries.push(arrow("race", "race: no order either way")),
         Shown::Overwritten { .. } => entries.push(arrow("shown", "overwritten: location order")),
@@ -89,6 +97,11 @@ pub fn drawn(entries: &[Entry], layout: &Layout) -> String {
                     SAMPLE - 10
                 )
             }
+            Sample::Band => format!(
+                "<path class=\"band\" d=\"M{x} {} h{}\"/>",
+                y + 8,
+                SAMPLE - 10
+            ),
             Sample::Box(row, class) => format!(
                 "<g class=\"{row}\"><rect class=\"{class}\" x=\"{x}\" y=\"{y}\" width=\"{}\" height=\"16\" rx=\"3\"/></g>",
                 SAMPLE - 10

@@ -3,6 +3,7 @@
 //! or came after what.
 
 mod arrows;
+mod bands;
 mod boxes;
 mod curve;
 mod layout;
@@ -23,7 +24,7 @@ pub fn picture(checked: Checked, answer: &str, shown: &Shown) -> String {
     if !shown.rows().is_empty() {
         layout.width += LABEL_ROOM;
     }
-    let legend = legend::entries(shown);
+    let legend = legend::entries(shown, !bands::instances(checked.run).is_empty());
     let (width, height) = (
         layout.width,
         layout.height + legend::height(&legend, layout.width),
@@ -41,6 +42,7 @@ pub fn picture(checked: Checked, answer: &str, shown: &Shown) -> String {
         escaped(answer)
     );
     svg += &boxes::lanes(&layout);
+    svg += &bands::drawn(checked.run, &layout);
     let (below, labels) = arrows::drawn(checked, &layout, shown);
     svg += &below;
     svg += &boxes::agents(checked.run, &layout);

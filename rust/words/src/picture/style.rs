@@ -14,6 +14,7 @@ pub const SHEET: &str = "\
 .run .box { fill: #f2f3f5; stroke: #8a929c; stroke-width: 1; }
 .run .atomic .box { fill: #e3eefc; }
 .run .barrier .box { fill: #fbf0d4; }
+.run .band { fill: none; stroke: #f0d080; stroke-width: 14; stroke-linejoin: round; }
 .run .first { font-weight: bold; }
 .run .moment { font-size: 11px; text-anchor: middle; }
 .run rect.moment { stroke: #8a929c; }
@@ -41,6 +42,7 @@ pub const SHEET: &str = "\
 .run .box { fill: #23272e; stroke: #79828e; }
 .run .atomic .box { fill: #1b2d47; }
 .run .barrier .box { fill: #3d3214; }
+.run .band { stroke: #6b5518; }
 .run rect.moment { stroke: #79828e; }
 .run rect.available { fill: #173d21; }
 .run rect.visible { fill: #37265a; }

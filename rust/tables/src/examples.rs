@@ -20,6 +20,7 @@ pub fn examples() -> Vec<Example> {
         .chain(control_barriers())
         .chain(sequences())
         .chain(by_class_and_byte())
+        .chain(atomic_payload())
         .chain(inconsistent())
         .chain(fills())
         .chain(forms());
@@ -218,6 +219,31 @@ fn by_class_and_byte() -> Vec<Named> {
         ("other-class", read_then_write(WORKGROUP, Row::write(1))),
         ("two-classes", read_then_write(UNIFORM | IMAGE, image_write)),
         ("half-available", two_of_four_bytes(Row::write(1))),
+    ]
+}
+
+/// Atomics that carry the data and not only the flag: the appendix has them
+/// make their own bytes available and visible, these rules don't.
+fn atomic_payload() -> Vec<Named> {
+    let wide = |row: Row| row.scope(scope::DEVICE);
+    let flag = |row: Row| wide(flag(row));
+    let race = [
+        wide(Row::atomic_write(0, 1)),
+        flag(Row::atomic_write(0, 1)).release(UNIFORM),
+        flag(Row::atomic_read(1, 1)).acquire(UNIFORM),
+        wide(Row::read(1, 0).make_visible()),
+    ];
+    let older = [
+        wide(Row::atomic_write(2, 1)),
+        wide(Row::atomic_write(0, 2)),
+        flag(Row::atomic_write(0, 1)).release(UNIFORM),
+        flag(Row::atomic_read(1, 2)).acquire(UNIFORM),
+        wide(Row::atomic_read(1, 0)),
+    ];
+    let places = [[0, 0, 0], [0, 1, 0], [0, 2, 0]];
+    vec![
+        ("atomic-payload-race", Table::new(&places[..2], &race)),
+        ("atomic-payload-older", Table::new(&places, &older)),
     ]
 }
 

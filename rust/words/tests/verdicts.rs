@@ -144,7 +144,7 @@ fn a_table_is_shown_row_by_row() {
     let blank = show(&example("fill"));
     assert!(blank.lines().last().unwrap().contains("blank"));
     assert_eq!(show(b"ab"), "2 bytes: too few for a header\n");
-    assert_eq!(show(&example("version-2")), "version 2, 0 agents, 0 rows\n");
+    assert_eq!(show(&example("version-4")), "version 4, 0 agents, 0 rows\n");
 }
 
 /// A code without a meaning is shown as it is.

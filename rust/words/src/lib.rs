@@ -11,7 +11,7 @@
 //! | the words for codes, rows and tables | `names`, `run`, `show` |
 //! | why rows are ordered | `account`, `derivation` |
 //! | why they aren't | `nearest`, `gap` |
-//! | what would order them | `catalogue`, `change`, `edit`, `reason`, `cure` |
+//! | what would order them | `catalogue`, `change`, `edit`, `reason`, `reduction`, `cure` |
 //! | new rows that would, and their words for a shader | `insertion`, `remedy`, `shader` |
 //! | the answers one by one | `race`, `race_free`, `inconsistent`, `refusal` |
 //! | what is wrong with a refused table, and with its blanks | `fault`, `unfit`, `blank` |
@@ -41,6 +41,7 @@ mod picture;
 mod race;
 mod race_free;
 mod reason;
+mod reduction;
 mod refusal;
 mod remedy;
 mod run;

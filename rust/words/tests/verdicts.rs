@@ -144,7 +144,12 @@ fn a_table_is_shown_row_by_row() {
     let blank = show(&example("fill"));
     assert!(blank.lines().last().unwrap().contains("blank"));
     assert_eq!(show(b"ab"), "2 bytes: too few for a header\n");
-    assert_eq!(show(&example("version-2")), "version 2, 0 agents, 0 rows\n");
+    let mut counted = example("empty");
+    counted[4] = 2;
+    assert_eq!(
+        show(&counted),
+        "version 2, counted ranks, 0 agents, 0 rows\n"
+    );
 }
 
 /// A code without a meaning is shown as it is.

@@ -142,9 +142,8 @@ fn column_width(run: &Run) -> i32 {
 /// What stands in a row's box.
 fn lines(number: usize, row: Row) -> Vec<String> {
     let kind = names::kind(row.kind);
-    let mut lines = vec![if row.is_plain() {
-        format!("{number}  {kind}")
-    } else if row.is_control_barrier() && row.order == RELAXED {
+    let has_no_order = row.is_plain() || row.is_control_barrier() && row.order == RELAXED;
+    let mut lines = vec![if has_no_order {
         format!("{number}  {kind}")
     } else {
         format!("{number}  {kind}, {}", names::order(row.order))

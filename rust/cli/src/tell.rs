@@ -1,8 +1,8 @@
 //! One table told in words or as a picture, and the status that goes with it.
 
 use crate::Status;
-use stramashly::Checker;
-use words::{draw, explain, page, refusal, show, Explanation, Shown};
+use stramashly::{Checker, DeriveAnswer};
+use words::{draw, explain, page, refusal, show, why, Explanation, Shown};
 
 /// How a table is told.
 #[derive(Clone, Copy, Debug, PartialEq, Eq)]
@@ -12,6 +12,11 @@ pub enum Telling {
     /// An explanation as a page.
     Page,
     Draw,
+    /// Why one moment happens before another.
+    Why {
+        first: u16,
+        second: u16,
+    },
 }
 
 /// Appends the words or the picture to the text; the reason if a refused
@@ -38,6 +43,14 @@ pub fn tell(
             let explanation = explain(table, checker);
             *text += &page(table, &explanation);
             Ok(status(&explanation))
+        }
+        Telling::Why { first, second } => {
+            *text += &why(table, first, second, checker);
+            Ok(match checker.derive(table, first, second) {
+                DeriveAnswer::Derivation(_) => Status::Fine,
+                DeriveAnswer::NotBefore => Status::No,
+                DeriveAnswer::Refused { .. } => Status::Refused,
+            })
         }
         Telling::Draw => {
             let picture = draw(table, checker);

@@ -9,7 +9,7 @@
 //! | what | module |
 //! |---|---|
 //! | the words for codes, rows and tables | `names`, `run`, `show` |
-//! | why rows are ordered | `account`, `derivation` |
+//! | why rows are ordered | `account`, `derivation`, `why` |
 //! | why they aren't | `nearest`, `gap` |
 //! | what would order them | `catalogue`, `change`, `edit`, `reason`, `reduction`, `cure` |
 //! | new rows that would, and their words for a shader | `insertion`, `remedy`, `shader` |
@@ -48,6 +48,7 @@ mod run;
 mod shader;
 mod show;
 mod unfit;
+mod why;
 
 pub use account::{Checked, Ordered};
 pub use change::Change;
@@ -68,3 +69,4 @@ pub use run::Run;
 pub use shader::{glsl, spirv};
 pub use show::show;
 pub use unfit::{unfit, Unfit};
+pub use why::why;

@@ -14,7 +14,7 @@ const NAMES: [&str; 8] = [
     "fill",
     "fill-none",
     "empty",
-    "version-2",
+    "version-4",
 ];
 
 fn tables() -> Vec<Vec<u8>> {

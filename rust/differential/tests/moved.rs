@@ -99,7 +99,7 @@ fn middle_tables() {
         least: 12,
         most: 40,
     };
-    compare_many(702, 1500, size, 4);
+    compare_many(702, 600, size, 4);
 }
 
 #[test]
@@ -108,5 +108,5 @@ fn largest_tables() {
         least: 128,
         most: 128,
     };
-    compare_many(703, 120, size, 3);
+    compare_many(703, 50, size, 2);
 }

@@ -99,7 +99,7 @@ fn without_a_report_there_is_the_check() {
         }
     }
     assert!(tally.of("report inconsistent") > 300, "{tally}");
-    for number in (1..=10).chain([14]) {
+    for number in (1..=10).chain([14, 15]) {
         let words = format!("report refused {number}");
         assert!(tally.of(&words) > 50, "{words}:\n{tally}");
     }

@@ -18,6 +18,8 @@ pub(crate) enum Purpose {
     Fill,
 }
 
+/// How many consecutive counts the ranks of one place must fit in.
+const RUN: u16 = 32768;
 /// The highest number of a class.
 const HIGHEST_CLASS: u8 = 3;
 
@@ -55,9 +57,9 @@ fn refusal_1(table: &[u8]) -> bool {
     table.len() < HEADER_BYTES
 }
 
-/// Refusal 2: the version isn't 1, or byte 7 isn't 0.
+/// Refusal 2: the version is neither 1 nor 2, or byte 7 isn't 0.
 fn refusal_2(table: &[u8]) -> bool {
-    table[4] != 1 || table[7] != 0
+    !(PLAIN_RANKS..=COUNTED_RANKS).contains(&table[4]) || table[7] != 0
 }
 
 /// Refusal 3: agents over 32 or rows over 128.
@@ -184,7 +186,7 @@ impl State {
         None
     }
 
-    /// Rows ascending, each through refusals 8, 9, 10 and 14.
+    /// Rows ascending, each through refusals 8, 9, 10, 14 and 15.
     pub(crate) fn refusal_among_rows(&self, purpose: Purpose) -> Option<Refusal> {
         for row in 0..self.row_count {
             let number = if self.refusal_8(row) {
@@ -195,6 +197,8 @@ impl State {
                 10
             } else if self.refusal_14(row) {
                 14
+            } else if self.refusal_15(row) {
+                15
             } else {
                 continue;
             };
@@ -259,5 +263,24 @@ impl State {
                     || other.agent == barrier.agent
                     || !self.m2_share(other.agent, barrier.agent, barrier.execution_scope()))
         })
+    }
+
+    /// Refusal 15: where ranks are counted, an atomic writer and the earlier
+    /// ones of its start, length and reference fit in no run of 32,768
+    /// consecutive counts, wrapping allowed.
+    fn refusal_15(&self, row: usize) -> bool {
+        let writer = self.rows[row];
+        let is_one = |other: &Row| {
+            other.is_atomic_writer()
+                && other.start == writer.start
+                && other.length == writer.length
+                && other.reference == writer.reference
+        };
+        let members = || self.rows[..=row].iter().filter(|other| is_one(other));
+        // A run that fits still does if it begins at the first count taken.
+        let fits_from = |first: u16| members().all(|row| row.rank.wrapping_sub(first) < RUN);
+        self.version >= COUNTED_RANKS
+            && writer.is_atomic_writer()
+            && !members().any(|first| fits_from(first.rank))
     }
 }

@@ -2,7 +2,7 @@
 
 use crate::moments::at;
 use crate::state::{row_pair, State};
-use crate::table::ATOMIC_RMW;
+use crate::table::{ATOMIC_RMW, PLAIN_RANKS};
 
 impl State {
     /// Whether two rows of the last admitted table are mutually-ordered.
@@ -53,11 +53,24 @@ impl State {
     /// M3: scoped modification order, mutually-ordered writers by rank.
     pub(crate) fn m3_modification_order(&self, first: usize, second: usize) -> bool {
         let (x, y) = (self.rows[first], self.rows[second]);
-        self.mutually_ordered(first, second) && x.writes() && y.writes() && x.rank < y.rank
+        self.mutually_ordered(first, second)
+            && x.writes()
+            && y.writes()
+            && self.m3_later(y.rank, x.rank)
+    }
+
+    /// M3: whether a rank is later than another: greater in version 1; where
+    /// ranks are counted, 1 to 32,767 counts further on, modulo 65,536.
+    pub(crate) fn m3_later(&self, rank: u16, other: u16) -> bool {
+        if self.version == PLAIN_RANKS {
+            rank > other
+        } else {
+            (1..=32767).contains(&rank.wrapping_sub(other))
+        }
     }
 
     /// M4: whether a row is in the release sequence headed by `head`. A
-    /// follower is in only if every follower of its rank or a lower one
+    /// follower is in only if every follower of its rank or an earlier one
     /// qualifies.
     pub(crate) fn m4_release_sequence(&self, head: usize, member: usize) -> bool {
         if !self.rows[head].is_atomic_writer() {
@@ -67,7 +80,7 @@ impl State {
             || (self.m3_modification_order(head, member)
                 && (0..self.row_count).all(|follower| {
                     !self.m3_modification_order(head, follower)
-                        || self.rows[follower].rank > self.rows[member].rank
+                        || self.m3_later(self.rows[follower].rank, self.rows[member].rank)
                         || self.m4_qualifies(follower)
                 }))
     }

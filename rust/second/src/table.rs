@@ -5,6 +5,11 @@ pub const INITIAL: u16 = 65535;
 /// Source number for a blank.
 pub const BLANK: u16 = 65534;
 
+/// The version whose ranks are compared as they stand.
+pub const PLAIN_RANKS: u8 = 1;
+/// The version whose ranks are counts that may have run out and begun again.
+pub const COUNTED_RANKS: u8 = 2;
+
 pub const HEADER_BYTES: usize = 8;
 pub const AGENT_BYTES: usize = 6;
 pub const ROW_BYTES: usize = 16;

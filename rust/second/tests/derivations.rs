@@ -109,7 +109,7 @@ fn a_fill_s_refusals_come_first() {
     assert_eq!(accepts(&table), "refused 12 0");
     table[source..source + 2].copy_from_slice(&[0, 3]);
     assert_eq!(accepts(&table), "refused 9 3");
-    table[4] = 2;
+    table[4] = 4;
     assert_eq!(accepts(&table), "refused 2 0");
     assert_eq!(accepts(&[]), "refused 1 0");
 }

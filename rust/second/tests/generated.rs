@@ -115,7 +115,7 @@ fn damage_reaches_every_refusal_at_various_rows() {
             rows.entry(number).or_default().insert(row);
         }
     }
-    for number in (1..=10).chain([14]) {
+    for number in (1..=10).chain([14, 15]) {
         let distinct = rows.get(&number).map_or(0, BTreeSet::len);
         let wanted = if number < 5 { 1 } else { 5 };
         assert!(distinct >= wanted, "refusal {number}: {distinct} rows");

@@ -92,8 +92,10 @@ fn empty_table_is_race_free() {
 }
 
 #[test]
-fn version_2_is_refused() {
-    assert_eq!(check_bytes(&from_hex("0000000402000000")), "refused 2 0");
+fn versions_1_and_2_pass() {
+    assert_eq!(check_bytes(&from_hex("0000000402000000")), "race-free");
+    assert_eq!(check_bytes(&from_hex("0000000403000000")), "refused 2 0");
+    assert_eq!(check_bytes(&from_hex("0000000400000000")), "refused 2 0");
 }
 
 #[test]

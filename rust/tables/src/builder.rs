@@ -251,6 +251,14 @@ impl Row {
         matches!(self.kind, kind::ATOMIC_WRITE | kind::RMW)
     }
 
+    /// Whether two rows are atomic writers of one place.
+    pub fn ranks_with(self, other: Row) -> bool {
+        self.is_atomic_writer()
+            && other.is_atomic_writer()
+            && (self.start, self.length, self.reference)
+                == (other.start, other.length, other.reference)
+    }
+
     /// The first byte that the row no longer covers.
     pub fn end(self) -> u32 {
         u32::from(self.start) + u32::from(self.length)
@@ -276,16 +284,25 @@ impl Row {
     }
 }
 
-/// A table: the agents' place numbers, then the rows.
-#[derive(Clone, Debug, Default, PartialEq, Eq)]
+/// A table: its version, the agents' place numbers, then the rows.
+#[derive(Clone, Debug, PartialEq, Eq)]
 pub struct Table {
+    pub version: u8,
     pub agents: Vec<[u16; 3]>,
     pub rows: Vec<Row>,
 }
 
+impl Default for Table {
+    fn default() -> Table {
+        Table::new(&[], &[])
+    }
+}
+
 impl Table {
+    /// A table of version 1.
     pub fn new(agents: &[[u16; 3]], rows: &[Row]) -> Table {
         Table {
+            version: 1,
             agents: agents.to_vec(),
             rows: rows.to_vec(),
         }
@@ -295,6 +312,11 @@ impl Table {
     pub fn of_one_workgroup(agent_count: u16, rows: &[Row]) -> Table {
         let agents: Vec<[u16; 3]> = (0..agent_count).map(|agent| [0, 0, agent]).collect();
         Table::new(&agents, rows)
+    }
+
+    /// The same rows in a version whose ranks are counted.
+    pub fn counted(self) -> Table {
+        Table { version: 2, ..self }
     }
 
     /// Puts a row in; sources at or past its place move on by one.
@@ -311,7 +333,12 @@ impl Table {
     pub fn bytes(&self) -> Vec<u8> {
         let following = 4 + 6 * self.agents.len() + 16 * self.rows.len();
         let mut bytes = (following as u32).to_be_bytes().to_vec();
-        bytes.extend([1, self.agents.len() as u8, self.rows.len() as u8, 0]);
+        bytes.extend([
+            self.version,
+            self.agents.len() as u8,
+            self.rows.len() as u8,
+            0,
+        ]);
         for number in self.agents.iter().flatten() {
             bytes.extend(number.to_be_bytes());
         }

@@ -6,7 +6,7 @@ use crate::mutation::{in_one_order, rows_that};
 use crate::random::Random;
 
 /// The refusals that a table's bytes can meet.
-const NUMBERS: [usize; 11] = [1, 2, 3, 4, 5, 6, 7, 8, 9, 10, 14];
+const NUMBERS: [usize; 12] = [1, 2, 3, 4, 5, 6, 7, 8, 9, 10, 14, 15];
 
 /// Bytes of a good table with one damage, or with two now and then.
 pub fn damaged(random: &mut Random, size: Size) -> Vec<u8> {
@@ -29,7 +29,7 @@ pub fn damaged(random: &mut Random, size: Size) -> Vec<u8> {
 fn damage_bytes(random: &mut Random, bytes: &mut Vec<u8>, number: usize) {
     match number {
         1 => bytes.truncate(random.below(8)),
-        2 if random.percent(50) => bytes[4] = random.pick(&[0, 2, 255]),
+        2 if random.percent(50) => bytes[4] = random.pick(&[0, 3, 4, 255]),
         2 => bytes[7] = random.pick(&[1, 128, 255]),
         3 if random.percent(50) => bytes[5] = random.between(MAX_AGENTS + 1, 255) as u8,
         3 => bytes[6] = random.between(MAX_ROWS + 1, 255) as u8,
@@ -62,6 +62,7 @@ fn damage_table(random: &mut Random, table: &mut Table, number: usize) {
         9 => damage_source(random, table),
         10 => damage_rank(random, table),
         14 => damage_instance(random, table),
+        15 => damage_run(random, table),
         _ => (),
     }
 }
@@ -244,6 +245,12 @@ fn damage_rank(random: &mut Random, table: &mut Table) {
 
 /// Makes a second writer out of the row after one, rank and place alike.
 fn add_equal_rank(random: &mut Random, table: &mut Table) {
+    add_writer(random, table, 0);
+}
+
+/// Makes a second writer of one place out of the row after one, its rank so
+/// many counts further on.
+fn add_writer(random: &mut Random, table: &mut Table, further: u16) {
     let writers = rows_that(table, Row::is_atomic_writer);
     if writers.is_empty() {
         return;
@@ -257,8 +264,33 @@ fn add_equal_rank(random: &mut Random, table: &mut Table) {
             classes: 0,
             flags: flags::NON_PRIVATE,
             source: INITIAL,
+            rank: copy.rank.wrapping_add(further),
             ..copy
         };
+    }
+}
+
+/// Gives a writer of counted rank one that with an earlier writer of its place
+/// makes a run of 32,769 counts or more; now and then of just 32,768, which
+/// fits.
+fn damage_run(random: &mut Random, table: &mut Table) {
+    table.version = 2;
+    let further = random.pick(&[32767, 32768, 32768, 32768, 32769, 40000]);
+    let pairs = rows_with_an_earlier(table, Row::ranks_with);
+    if pairs.is_empty() {
+        add_first_writer(random, table);
+        return add_writer(random, table, further);
+    }
+    let (earlier, row) = random.pick(&pairs);
+    table.rows[row].rank = table.rows[earlier].rank.wrapping_add(further);
+}
+
+/// Makes a row an atomic write where there is no atomic writer.
+fn add_first_writer(random: &mut Random, table: &mut Table) {
+    if !table.rows.iter().any(|row| row.is_atomic_writer()) && !table.rows.is_empty() {
+        let place = random.below(table.rows.len().max(2) - 1);
+        let rank = random.word() as u16;
+        table.rows[place] = Row::atomic_write(table.rows[place].agent, rank).reference(999);
     }
 }
 

@@ -117,14 +117,22 @@ struct Episode<'a> {
     control_share: usize,
     ground: &'a mut Ground,
     places: &'a [[u16; 3]],
+    /// Nothing is done that may leave the episode racing.
+    is_careful: bool,
     last_flag_writer: u16,
     rank: u16,
 }
 
 /// An episode of one of several shapes.
-pub(crate) fn episode(random: &mut Random, ground: &mut Ground, places: &[[u16; 3]]) -> Vec<Row> {
+pub(crate) fn episode(
+    random: &mut Random,
+    ground: &mut Ground,
+    places: &[[u16; 3]],
+    is_careful: bool,
+) -> Vec<Row> {
     let shape = random.below(100);
     let mut episode = Episode::new(random, ground, places);
+    episode.is_careful = is_careful;
     match shape {
         0..=50 => episode.pass_data(),
         51..=62 => episode.read_then_write(),
@@ -132,7 +140,7 @@ pub(crate) fn episode(random: &mut Random, ground: &mut Ground, places: &[[u16; 
         71..=77 => episode.stay_with_one_agent(),
         78..=82 => episode.split(),
         83..=85 => episode.lend(),
-        86..=92 => episode.fork(),
+        86..=92 if !is_careful => episode.fork(),
         _ => episode.meet(),
     }
     episode.rows
@@ -201,6 +209,7 @@ impl<'a> Episode<'a> {
             control_share,
             ground,
             places,
+            is_careful: false,
             last_flag_writer: INITIAL,
             rank: 0,
         }
@@ -273,7 +282,7 @@ impl<'a> Episode<'a> {
         self.by_rows = false;
         self.is_relay = true;
         self.push(self.data.of(Row::write(from)));
-        let lender = if self.random.percent(15) {
+        let lender = if self.random.percent(15) && !self.is_careful {
             other
         } else {
             self.data
@@ -424,7 +433,7 @@ impl<'a> Episode<'a> {
     fn carry_on(&mut self, head: u8) {
         for _ in 0..self.random.pick(&[0, 0, 0, 0, 1, 1, 2]) {
             let rank = self.next_rank();
-            let row = if self.random.percent(90) {
+            let row = if self.random.percent(90) || self.is_careful {
                 Row::rmw(self.random.pick(&self.agents), self.last_flag_writer, rank)
             } else {
                 Row::atomic_write(head, rank)

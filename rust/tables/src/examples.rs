@@ -12,13 +12,14 @@ pub struct Example {
 
 /// Every example.
 pub fn examples() -> Vec<Example> {
-    let mut version_2 = Table::default().bytes();
-    version_2[4] = 2;
+    let mut version_4 = Table::default().bytes();
+    version_4[4] = 4;
     let tables = story()
         .into_iter()
         .chain(message_passing())
         .chain(control_barriers())
         .chain(sequences())
+        .chain(counted_ranks())
         .chain(by_class_and_byte())
         .chain(inconsistent())
         .chain(fills())
@@ -30,8 +31,8 @@ pub fn examples() -> Vec<Example> {
         })
         .collect();
     examples.push(Example {
-        name: "version-2",
-        bytes: version_2,
+        name: "version-4",
+        bytes: version_4,
     });
     examples
 }
@@ -177,6 +178,22 @@ fn sequences() -> Vec<Named> {
         ("q", p_with(flag(Row::atomic_write(0, 2)))),
         ("q-rmw", by_third_agent(flag(Row::rmw(2, 1, 2)))),
         ("q-cut", by_third_agent(flag(Row::atomic_write(2, 2)))),
+    ]
+}
+
+/// Q with a third agent's read-modify-write, the counter running out between
+/// the release and it.
+fn counted_ranks() -> Vec<Named> {
+    let with_ranks = |first, second| {
+        changed(p_with(flag(Row::rmw(2, 1, second))), |table| {
+            table.agents.push([0, 0, 2]);
+            table.rows[1].rank = first;
+        })
+    };
+    vec![
+        ("counted", with_ranks(65535, 0).counted()),
+        ("counted-plain", with_ranks(65535, 0)),
+        ("counted-too-far", with_ranks(65535, 32767).counted()),
     ]
 }
 

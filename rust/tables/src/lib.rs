@@ -1,6 +1,7 @@
 //! Tables for tests: a builder, and seeded generators of many tables.
 
 pub mod builder;
+mod counted;
 mod damage;
 mod episode;
 mod examples;

@@ -15,7 +15,11 @@ pub fn litmus() -> Vec<Litmus> {
         bytes: from_hex(digits),
         answer,
     };
-    CONTROL_BARRIERS.iter().map(named).collect()
+    CONTROL_BARRIERS
+        .iter()
+        .chain(&COUNTED_RANKS)
+        .map(named)
+        .collect()
 }
 
 type Case = (&'static str, &'static str, &'static str);
@@ -48,6 +52,23 @@ const CONTROL_BARRIERS: [Case; 4] = [
         "00000030010202000000000000000000 00000001 060003020100010000090000ffff0000 \
          060103020100010000090000ffff0000",
         "refused 14 1",
+    ),
+];
+
+const COUNTED_RANKS: [Case; 2] = [
+    (
+        "a release sequence over the end of the counter",
+        "00000066020305000000000000000000 00000001 000000000002 \
+         010000000001000400000001ffff0000 030002020103000400040002ffffffff \
+         04020002000100040004000200010000 02010102010500040004000200020000 \
+         00010000000100040000000100000000",
+        "race-free",
+    ),
+    (
+        "one count too many",
+        "0000003a020103000000000000000300 00020001000400040002ffff0000 \
+         030000020001000400040002ffff7fff 030000020001000400040002ffff8000",
+        "refused 15 2",
     ),
 ];
 

@@ -1,6 +1,7 @@
 //! Mutations of a table, and the repair that keeps a mutated table admissible.
 
 use crate::builder::{flags, kind, order, scope, Row, Table, BLANK, INITIAL};
+use crate::counted::repair_run;
 use crate::random::Random;
 
 /// Changes one thing at random, then repairs what no longer fits.
@@ -274,6 +275,7 @@ pub(crate) fn repair(random: &mut Random, table: &mut Table) {
     for place in 0..table.rows.len() {
         repair_class(table, place);
         repair_source(random, table, place);
+        repair_run(table, place);
         repair_rank(table, place);
         repair_instance(table, place);
     }

@@ -185,10 +185,10 @@ fn answer(
             Err(reason) => (Status::Refused, Vec::new(), Some(reason)),
         },
         Task::Make(making) => match make(checker, making, table) {
-            Ok((made, status, told)) if request.is_hex => {
-                (status, hex_line(&made).into_bytes(), told)
+            Ok(made) if request.is_hex => {
+                (made.status, hex_line(&made.table).into_bytes(), made.told)
             }
-            Ok((made, status, told)) => (status, made, told),
+            Ok(made) => (made.status, made.table, made.told),
             Err((status, reason)) => (status, Vec::new(), Some(reason)),
         },
     }

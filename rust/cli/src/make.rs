@@ -13,26 +13,37 @@ pub enum Making {
     Edited(Vec<Step>),
 }
 
-/// The new table, and what is to be told of it; the status and the reason if
-/// there is none.
+/// A new table, and what is to be told of it.
+pub struct Made {
+    pub table: Vec<u8>,
+    pub status: Status,
+    pub told: Option<String>,
+}
+
+/// The new table; the status and the reason if there is none.
 pub fn make(
     checker: &mut Checker,
     making: &Making,
     table: &[u8],
-) -> Result<(Vec<u8>, Status, Option<String>), (Status, String)> {
+) -> Result<Made, (Status, String)> {
+    let made = |table, status, told| Made {
+        table,
+        status,
+        told,
+    };
     match making {
-        Making::Filled => filled(checker, table).map(|table| (table, Status::Fine, None)),
+        Making::Filled => filled(checker, table).map(|table| made(table, Status::Fine, None)),
         Making::Edited(steps) => {
-            let made = stepped(table, steps);
-            let table = made.map_err(|reason| (Status::Trouble, reason))?;
+            let stepped = stepped(table, steps);
+            let table = stepped.map_err(|reason| (Status::Trouble, reason))?;
             // What isn't well formed is handed out all the same: more steps may follow.
             let answer = checker.fill(&table);
             match answer {
                 FillAnswer::Refused { .. } => {
                     let told = format!("made; it is {answer}");
-                    Ok((table, Status::Refused, Some(told)))
+                    Ok(made(table, Status::Refused, Some(told)))
                 }
-                _ => Ok((table, Status::Fine, None)),
+                _ => Ok(made(table, Status::Fine, None)),
             }
         }
     }

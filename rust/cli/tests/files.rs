@@ -173,11 +173,13 @@ fn an_empty_file_is_refused() {
 }
 
 #[test]
-fn a_directory_is_told() {
-    let folder = scratch();
+fn a_directory_without_tables_is_told() {
+    let folder = scratch().join("directory-without-tables");
+    fs::create_dir_all(&folder).unwrap();
     for words in [
         ["check", folder.to_str().unwrap()].as_slice(),
         &["check", "--hex", folder.to_str().unwrap()],
+        &["derive", folder.to_str().unwrap(), "0", "1"],
     ] {
         let answer = stramashly(words, b"");
         assert_eq!((answer.output.as_str(), answer.status), ("", Some(4)));

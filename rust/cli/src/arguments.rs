@@ -46,7 +46,7 @@ impl Request {
         let is_of_one = matches!(
             self.task,
             Task::Judge(Question::Derive { .. } | Question::Accepts { .. })
-                | Task::Tell(Telling::Draw | Telling::Page | Telling::Why { .. })
+                | Task::Tell(Telling::Draw { .. } | Telling::Page { .. } | Telling::Why { .. })
                 | Task::Make(_)
         );
         !is_of_one
@@ -69,6 +69,7 @@ struct Words {
     is_version: bool,
     is_hex: bool,
     is_html: bool,
+    is_all: bool,
     is_json: bool,
     is_quiet: bool,
     is_table: bool,
@@ -98,9 +99,13 @@ pub fn parse(words: impl Iterator<Item = OsString>) -> Result<Command, String> {
         Some("fill") if words.is_table => Task::Make(Making::Filled),
         Some("edit") => Task::Make(Making::Edited(edit(&mut words.others)?)),
         Some("show") => Task::Tell(Telling::Show),
-        Some("explain") if words.is_html => Task::Tell(Telling::Page),
+        Some("explain") if words.is_html => Task::Tell(Telling::Page {
+            is_all: words.is_all,
+        }),
         Some("explain") => Task::Tell(Telling::Explain),
-        Some("draw") => Task::Tell(Telling::Draw),
+        Some("draw") => Task::Tell(Telling::Draw {
+            is_all: words.is_all,
+        }),
         _ => {
             let kind = Kind::named(name.as_encoded_bytes());
             let kind = kind.ok_or_else(|| format!("no command is called {name:?}"))?;
@@ -155,6 +160,7 @@ fn sort(words: impl Iterator<Item = OsString>) -> Result<Words, String> {
             Some("--version" | "-V") => sorted.is_version = true,
             Some("--hex") => sorted.is_hex = true,
             Some("--html") => sorted.is_html = true,
+            Some("--all") => sorted.is_all = true,
             Some("--json") => sorted.is_json = true,
             Some("--quiet" | "-q") => sorted.is_quiet = true,
             Some("--table") => sorted.is_table = true,
@@ -192,8 +198,13 @@ fn help(words: &Words) -> Result<Command, String> {
 
 /// What goes with which command.
 fn check_options(task: &Task, words: &Words) -> Result<(), String> {
-    if words.is_html && *task != Task::Tell(Telling::Page) {
+    let is_page = matches!(task, Task::Tell(Telling::Page { .. }));
+    if words.is_html && !is_page {
         return Err("only explain takes --html".to_string());
+    }
+    let is_drawn = is_page || matches!(task, Task::Tell(Telling::Draw { .. }));
+    if words.is_all && !is_drawn {
+        return Err("only draw and explain --html take --all".to_string());
     }
     if words.is_json && !matches!(task, Task::Judge(_)) {
         return Err(format!("only {} and batch take --json", Kind::NAMES));
@@ -239,6 +250,7 @@ fn batch(words: &Words) -> Result<Command, String> {
     let others = [
         words.is_hex,
         words.is_html,
+        words.is_all,
         words.is_quiet,
         words.is_table,
         words.is_words,
@@ -371,12 +383,15 @@ mod tests {
 
     #[test]
     fn words_and_pictures_are_told_apart() {
+        let page = |is_all| Telling::Page { is_all };
+        let draw = |is_all| Telling::Draw { is_all };
         for (line, telling, is_hex) in [
             ("show a", Telling::Show, false),
             ("explain a", Telling::Explain, false),
-            ("explain --html a", Telling::Page, false),
-            ("--html --hex explain a", Telling::Page, true),
-            ("draw --hex a", Telling::Draw, true),
+            ("explain --html a", page(false), false),
+            ("--html --hex explain a --all", page(true), true),
+            ("draw --hex a", draw(false), true),
+            ("draw --all a", draw(true), false),
         ] {
             let expected = request(Task::Tell(telling), is_hex, &["a"]);
             assert_eq!(parsed(line), expected, "{line}");
@@ -410,6 +425,9 @@ mod tests {
             ("show --json a", "--json"),
             ("explain --html --json a", "--json"),
             ("batch --quiet", "batch"),
+            ("batch --all", "batch"),
+            ("explain --all a", "--all"),
+            ("check --all a", "--all"),
             ("help guess", "guess"),
             ("help fill check", "one command"),
             ("check -j 0 a", "from 1 to 256"),

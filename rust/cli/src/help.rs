@@ -37,9 +37,11 @@ usage:
                                       whether that is a reason why M happens before N
   stramashly show [--hex] FILE...     each table in words, a line for each row
   stramashly explain [--hex] FILE...  each table's answer in sentences: what is missing, what to change
-  stramashly explain --html [--hex] FILE
+  stramashly explain --html [--all] [--hex] FILE
                                       the same as a page, with the table and the picture
-  stramashly draw [--hex] FILE        the run as a picture (SVG)
+  stramashly draw [--all] [--hex] FILE
+                                      the run as a picture (SVG); of a large run the rows that
+                                      matter, or --all
   stramashly edit [--hex] FILE EDIT...
                                       the table with changes made, as explain names them
   stramashly batch [--json] [-j N]    lines on standard input: `check HEX`, `fill HEX`,

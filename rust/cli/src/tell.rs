@@ -10,8 +10,14 @@ pub enum Telling {
     Show,
     Explain,
     /// An explanation as a page.
-    Page,
-    Draw,
+    Page {
+        is_all: bool,
+    },
+    /// A picture; of a large run it has the rows that matter, unless all are
+    /// wanted.
+    Draw {
+        is_all: bool,
+    },
     /// Why one moment happens before another.
     Why {
         first: u16,
@@ -39,9 +45,9 @@ pub fn tell(
             *text += &explanation.text();
             Ok(status(&explanation))
         }
-        Telling::Page => {
+        Telling::Page { is_all } => {
             let explanation = explain(table, checker);
-            *text += &page(table, &explanation);
+            *text += &page(table, &explanation, is_all);
             Ok(status(&explanation))
         }
         Telling::Why { first, second } => {
@@ -52,8 +58,8 @@ pub fn tell(
                 DeriveAnswer::Refused { .. } => Status::Refused,
             })
         }
-        Telling::Draw => {
-            let picture = draw(table, checker);
+        Telling::Draw { is_all } => {
+            let picture = draw(table, checker, is_all);
             *text += &picture.map_err(|answer| format!("{answer}; there is no picture"))?;
             Ok(Status::Fine)
         }

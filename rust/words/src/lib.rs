@@ -15,7 +15,7 @@
 //! | new rows that would, and their words for a shader | `insertion`, `remedy`, `shader` |
 //! | the answers one by one | `race`, `race_free`, `inconsistent`, `refusal` |
 //! | what is wrong with a refused table, and with its blanks | `fault`, `unfit`, `blank` |
-//! | answers in sentences, pictures and pages | `explain`, `draw`, `picture`, `page`, `markup` |
+//! | answers in sentences, pictures and pages | `explain`, `headline`, `draw`, `picture`, `page`, `markup` |
 
 mod account;
 mod blank;
@@ -31,6 +31,7 @@ mod explain;
 mod fault;
 mod gap;
 mod goal;
+mod headline;
 mod inconsistent;
 mod insertion;
 mod markup;
@@ -59,6 +60,7 @@ pub use edit::{edited, Edit, Field};
 pub use explain::{explain, Explanation, Shown};
 pub use fault::{faults, Fault};
 pub use goal::Goal;
+pub use headline::headline;
 pub use inconsistent::edge_name;
 pub use insertion::{stepped, Insertion, Step};
 pub use nearest::Near;

@@ -173,7 +173,7 @@ fn every_instance_has_its_band() {
     let mut bands = 0;
     let example = example("control");
     for table in generated(382, 300, 6, 16).into_iter().chain([example]) {
-        let elements = elements(&draw(&table, &mut checker).unwrap());
+        let elements = elements(&draw(&table, &mut checker, true).unwrap());
         let drawn = elements.iter().filter(|tag| tag.has_class("band")).count();
         let expected = with_relations(&table, instances);
         // One more stands in the legend.

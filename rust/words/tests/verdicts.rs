@@ -92,9 +92,9 @@ fn noise_is_no_panic() {
         }
         assert!(!show(&table).is_empty());
         let explanation = explain(&table, &mut checker);
-        elements(&page(&table, &explanation));
+        elements(&page(&table, &explanation, false));
         let is_refused = explanation.answer.starts_with("refused");
-        assert_eq!(draw(&table, &mut checker).is_err(), is_refused);
+        assert_eq!(draw(&table, &mut checker, false).is_err(), is_refused);
     }
 }
 
@@ -209,7 +209,7 @@ fn counted_ranks_are_told() {
     assert!(show(&example("counted")).starts_with("version 2, counted ranks, 3 agents"));
     let far = explain(&example("counted-too-far"), &mut checker).text();
     assert!(far.starts_with("refused 15 2\n"), "{far}");
-    let fault = "rows 1 and 2 write this place with ranks 32767 and 65535, which no 32768 counts in a row hold";
+    let fault = "rows 1 and 2 write this place with ranks 65535 and 32767, which no 32768 counts in a row hold";
     assert!(far.contains(fault), "{far}");
     // Two relaxed writers, each of which saw the other's write, past the counter's end.
     let rows = [

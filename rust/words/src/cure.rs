@@ -1,7 +1,8 @@
 //! The search for what would order two racing rows: each change of the
 //! catalogue alone, then two together, then new rows. A cure is one only if
-//! the edited table is well formed and the rows no longer race at the byte;
-//! both are asked of the second implementation and of the proved checker.
+//! the edited table is well formed, by the proved checker, and the rows no
+//! longer race at the byte, by it and by the second implementation; the latter
+//! and the search itself go by the rows that the race depends on.
 
 use crate::account::Checked;
 use crate::catalogue::catalogue;
@@ -10,13 +11,14 @@ use crate::edit::{edited, merged, Edit, Field};
 use crate::goal::Goal;
 use crate::insertion::{stepped, Insertion, Step};
 use crate::reason::Reason;
+use crate::reduction::Reduction;
 use crate::remedy::{remedies, Remedy};
 use crate::run::Run;
 use second::table::*;
 use second::{State, CYCLE_NUMBERS, WORK_WORDS};
 use std::cmp::Ordering;
 use std::collections::HashSet;
-use stramashly::{CheckAnswer, Checker};
+use stramashly::{CheckAnswer, Checker, FillAnswer};
 
 /// Changes that order the rows: one or two of rows that are there, or new
 /// rows and what the racing rows need besides.
@@ -71,20 +73,24 @@ struct Searcher<'a> {
     goal: Goal,
     checker: &'a mut Checker,
     state: State,
-    /// Checks that may still be made.
+    /// What the race depends on.
+    reduction: Reduction,
+    /// Questions that may still be asked.
     budget: usize,
 }
 
 /// Looks for cures of a table's race; `checked` is the table as it is.
 pub fn search(table: &[u8], checked: Checked, goal: Goal, checker: &mut Checker) -> Search {
-    let rows = checked.run.rows.len();
+    let reduction = Reduction::of(table, goal);
+    let rows = Run::of(reduction.table()).rows.len();
     let mut searcher = Searcher {
         table,
         goal,
         checker,
         state: State::new(),
+        reduction,
         // A check takes time with the square of the rows, at the least.
-        budget: 2_000_000 / ((rows + 8) * (rows + 8)),
+        budget: 800_000 / ((rows + 8) * (rows + 8)),
     };
     let mut changes = catalogue(checked, goal);
     changes.sort_by_key(|change| distance(checked.run, goal, change.edits[0].row));
@@ -167,14 +173,22 @@ fn contains(edits: &[Edit], others: &[Edit]) -> bool {
 }
 
 impl Searcher<'_> {
-    /// Whether rows don't race in a table, which differs from the searched
-    /// one in some edits; none if it is refused or may not be asked any more.
-    fn mends(&mut self, table: &[u8], goal: Goal) -> Option<bool> {
+    /// Whether the goal's rows don't race with these edits; none if the table
+    /// is refused then or may not be asked any more.
+    fn mends(&mut self, edits: &[Edit]) -> Option<bool> {
         self.budget = self.budget.checked_sub(1)?;
-        match self.checker.check(table) {
-            CheckAnswer::Refused { .. } => return None,
-            CheckAnswer::RaceFree => return Some(true),
-            CheckAnswer::Race {
+        let table = self.reduction.edited(edits);
+        let goal = self.reduction.goal(self.goal);
+        self.is_ordered(&table, goal)
+    }
+
+    /// Whether rows don't race in a table; none if it is refused. A fill is
+    /// asked, since that looks for races before anything else.
+    fn is_ordered(&mut self, table: &[u8], goal: Goal) -> Option<bool> {
+        match self.checker.fill(table) {
+            FillAnswer::Refused { .. } => return None,
+            FillAnswer::Filled(_) | FillAnswer::None => return Some(true),
+            FillAnswer::Race {
                 first,
                 second,
                 byte,
@@ -189,15 +203,9 @@ impl Searcher<'_> {
                     _ => (),
                 }
             }
-            _ => (),
         }
         self.state.check(table, WORK_WORDS, CYCLE_NUMBERS);
-        let Goal {
-            first,
-            second,
-            byte,
-        } = goal;
-        Some(!self.state.races_at(first, second, byte))
+        Some(!self.state.races_at(goal.first, goal.second, goal.byte))
     }
 
     /// The cure, if these changes and new rows are one.
@@ -219,26 +227,27 @@ impl Searcher<'_> {
             order: String::new(),
             answer: String::new(),
         };
+        if cure.insertions.is_empty() && self.mends(&cure.edits) != Some(true) {
+            return None;
+        }
         let table = stepped(self.table, &cure.steps()).ok()?;
-        if self.mends(&table, goal) != Some(true) {
+        cure.answer = match self.checker.check(&table) {
+            CheckAnswer::Refused { .. } => return None,
+            answer => answer.to_string(),
+        };
+        let reduction = Reduction::of(&table, goal);
+        self.state
+            .check(reduction.table(), WORK_WORDS, CYCLE_NUMBERS);
+        let goal = reduction.goal(goal);
+        if self.state.races_at(goal.first, goal.second, goal.byte) {
             return None;
         }
-        let told = self.state.check(&table, WORK_WORDS, CYCLE_NUMBERS);
-        cure.answer = self.checker.check(&table).to_string();
-        let Goal {
-            first,
-            second,
-            byte,
-        } = goal;
-        if told.to_string() != cure.answer || self.state.races_at(first, second, byte) {
-            return None;
-        }
-        cure.order = self.order_words(&table, goal)?;
+        cure.order = self.order_words(reduction.table(), goal)?;
         Some(cure)
     }
 
-    /// What orders the rows in the table checked last, by the numbers that
-    /// they have in the searched one.
+    /// What orders the rows in the table whose relations are there, by the
+    /// numbers that they have in the searched one.
     fn order_words(&self, table: &[u8], goal: Goal) -> Option<String> {
         let Goal {
             first,
@@ -265,8 +274,6 @@ impl Searcher<'_> {
     /// Cures with new rows: those that leave least trouble.
     fn with_new_rows(&mut self, checked: Checked) -> Vec<Cure> {
         let remedies = remedies(checked, self.goal);
-        // A search among many rows may have used up all.
-        self.budget = self.budget.max(2 * remedies.len());
         let mut cures: Vec<Cure> = remedies
             .into_iter()
             .filter_map(|remedy| {
@@ -300,7 +307,9 @@ impl Searcher<'_> {
             second: first.moved(self.goal.second),
             ..self.goal
         };
-        self.mends(&table, goal) != Some(true)
+        let reduction = Reduction::of(&table, goal);
+        let goal = reduction.goal(goal);
+        self.is_ordered(reduction.table(), goal) != Some(true)
     }
 
     fn alone(&mut self, changes: &[Change]) -> Vec<Cure> {
@@ -366,8 +375,7 @@ impl Searcher<'_> {
         let run = Run::of(self.table);
         [false, true].into_iter().any(|is_wide| {
             let strongest = rows.map(|row| strongest(row, run.rows[row], is_wide));
-            let table = edited(self.table, &strongest.concat());
-            self.mends(&table, self.goal).unwrap_or(true)
+            self.mends(&strongest.concat()).unwrap_or(true)
         })
     }
 }

@@ -66,7 +66,8 @@ fn meeting_words(rows: &[Row], release: usize, acquire: usize) -> String {
     if !is_barrier(release) || !is_barrier(acquire) {
         return String::new();
     }
-    match meeting(rows, release, acquire) {
+    let agent = |row: usize| rows[row].agent;
+    match meeting(rows, (agent(release), release), (agent(acquire), acquire)) {
         None => String::new(),
         Some((one, other)) if (one, other) == (release, acquire) => {
             format!(", both of control barrier {}", rows[one].instance())
@@ -78,20 +79,18 @@ fn meeting_words(rows: &[Row], release: usize, acquire: usize) -> String {
     }
 }
 
-/// The first two rows of one control barrier's instance of which the one is a
-/// row or after it, the other another agent's row or before it.
-pub fn meeting(rows: &[Row], from: usize, to: usize) -> Option<(usize, usize)> {
-    let (agent, other) = (rows[from].agent, rows[to].agent);
-    let ours = (from..rows.len()).filter(|row| rows[*row].agent == agent);
-    let mut pairs = ours.flat_map(|one| (0..=to).map(move |two| (one, two)));
-    pairs.find(|(one, two)| {
-        let (first, second) = (rows[*one], rows[*two]);
-        one != two
-            && second.agent == other
-            && first.is_control_barrier()
-            && second.is_control_barrier()
-            && first.instance() == second.instance()
-    })
+/// The first two rows of one control barrier's instance, the one an agent's
+/// from a row on, the other another agent's up to a row.
+pub fn meeting(
+    rows: &[Row],
+    (agent, from): (u8, usize),
+    (other, to): (u8, usize),
+) -> Option<(usize, usize)> {
+    let is_met = |row: usize, agent: u8| rows[row].is_control_barrier() && rows[row].agent == agent;
+    let ours = (from..rows.len()).filter(|row| is_met(*row, agent));
+    let theirs: Vec<usize> = (0..=to).filter(|row| is_met(*row, other)).collect();
+    let mut pairs = ours.flat_map(|one| theirs.iter().map(move |two| (one, *two)));
+    pairs.find(|(one, two)| one != two && rows[*one].instance() == rows[*two].instance())
 }
 
 /// A moment in words: the row itself, or what the row does before or after.

@@ -35,6 +35,7 @@ impl Shown {
     /// The rows that the answer names.
     pub fn rows(&self) -> Vec<usize> {
         match self {
+            Shown::Refused { number, row } if refusal::is_of_a_row(*number) => vec![*row],
             Shown::Nothing | Shown::Refused { .. } => Vec::new(),
             Shown::Race(goal) => vec![goal.first, goal.second],
             Shown::Overwritten {

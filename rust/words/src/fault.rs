@@ -460,10 +460,7 @@ pub fn length_words(bytes: usize) -> String {
 
 fn rank_words(writers: &[usize], ranks: &[u16]) -> String {
     let numbers: Vec<String> = writers.iter().map(usize::to_string).collect();
-    let mut values = ranks.to_vec();
-    values.sort_unstable();
-    values.dedup();
-    let values: Vec<String> = values.iter().map(u16::to_string).collect();
+    let values: Vec<String> = ranks.iter().map(u16::to_string).collect();
     format!(
         "rows {} write this place with ranks {}, which no 32768 counts in a row hold",
         names::listed(&numbers),

@@ -22,6 +22,8 @@ impl Checked<'_> {
                 moment_words(rows, from),
                 self.end_words(y, ends)
             ),
+            from,
+            last,
             releases: own(rows[x].agent)
                 .filter(|row| rows[*row].is_release() && at(*row) >= from)
                 .collect(),
@@ -45,7 +47,7 @@ impl Checked<'_> {
         if agent == other {
             return format!("{none}, which comes no later");
         }
-        let unfit = self.meeting_lacks(x, y, gap);
+        let unfit = self.meeting_lacks((agent, other), gap).unwrap_or_default();
         if gap.releases.is_empty() {
             return format!("{none}: agent {agent} releases nothing from there on{unfit}");
         }
@@ -72,12 +74,12 @@ impl Checked<'_> {
     }
 
     /// What a control barrier that both agents meet in lacks, if there is one
-    /// between the rows.
-    fn meeting_lacks(&self, x: usize, y: usize, gap: &Gap) -> String {
+    /// where a chain could go through it.
+    fn meeting_lacks(&self, (agent, other): (u8, u8), gap: &Gap) -> Option<String> {
         let rows = &self.run.rows;
-        let Some((ours, theirs)) = meeting(rows, x, y) else {
-            return String::new();
-        };
+        // The rows whose own moments are no earlier, or no later.
+        let (first, last) = ((gap.from + 1) / 3, gap.last.div_ceil(3).checked_sub(1)?);
+        let (ours, theirs) = meeting(rows, (agent, first), (other, last))?;
         let releases = gap.releases.iter().rfind(|row| {
             let is_barrier = rows[**row].is_barrier();
             is_barrier && **row <= ours
@@ -93,22 +95,18 @@ impl Checked<'_> {
         if acquires.is_none() {
             lacks.push(format!("row {theirs} doesn't acquire"));
         }
-        let agents = (rows[x].agent, rows[y].agent);
         for row in releases.into_iter().chain(acquires) {
             let scope = rows[*row].scope;
-            if !self.state.share_scope(agents.0, agents.1, scope) {
+            if !self.state.share_scope(agent, other, scope) {
                 let scope = names::scope(scope);
                 lacks.push(format!("row {row} has {scope} memory scope only"));
             }
         }
-        if lacks.is_empty() {
-            return String::new();
-        }
-        format!(
-            "; rows {ours} and {theirs} meet in control barrier {}, but {}",
-            rows[ours].instance(),
-            names::listed(&lacks)
-        )
+        let instance = rows[ours].instance();
+        let lacks = names::listed(&lacks);
+        (!lacks.is_empty()).then(|| {
+            format!("; rows {ours} and {theirs} meet in control barrier {instance}, but {lacks}")
+        })
     }
 
     /// Why the only release doesn't synchronize with the only acquire.
@@ -159,9 +157,12 @@ impl Checked<'_> {
     }
 }
 
-/// Where a chain is missing: the rows that could have begun and ended it.
+/// Where a chain is missing: from which moment to which, and the rows that
+/// could have begun and ended it.
 struct Gap {
     none: String,
+    from: usize,
+    last: usize,
     releases: Vec<usize>,
     acquires: Vec<usize>,
 }

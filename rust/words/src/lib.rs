@@ -9,13 +9,13 @@
 //! | what | module |
 //! |---|---|
 //! | the words for codes, rows and tables | `names`, `run`, `show` |
-//! | why rows are ordered | `account`, `derivation` |
+//! | why rows are ordered | `account`, `derivation`, `why` |
 //! | why they aren't | `nearest`, `gap` |
-//! | what would order them | `catalogue`, `change`, `edit`, `reason`, `cure` |
+//! | what would order them | `catalogue`, `change`, `edit`, `reason`, `reduction`, `cure` |
 //! | new rows that would, and their words for a shader | `insertion`, `remedy`, `shader` |
 //! | the answers one by one | `race`, `race_free`, `inconsistent`, `refusal` |
 //! | what is wrong with a refused table, and with its blanks | `fault`, `unfit`, `blank` |
-//! | answers in sentences, pictures and pages | `explain`, `draw`, `picture`, `page`, `markup` |
+//! | answers in sentences, pictures and pages | `explain`, `headline`, `draw`, `picture`, `page`, `markup` |
 
 mod account;
 mod blank;
@@ -31,6 +31,7 @@ mod explain;
 mod fault;
 mod gap;
 mod goal;
+mod headline;
 mod inconsistent;
 mod insertion;
 mod markup;
@@ -41,12 +42,14 @@ mod picture;
 mod race;
 mod race_free;
 mod reason;
+mod reduction;
 mod refusal;
 mod remedy;
 mod run;
 mod shader;
 mod show;
 mod unfit;
+mod why;
 
 pub use account::{Checked, Ordered};
 pub use change::Change;
@@ -57,6 +60,7 @@ pub use edit::{edited, Edit, Field};
 pub use explain::{explain, Explanation, Shown};
 pub use fault::{faults, Fault};
 pub use goal::Goal;
+pub use headline::headline;
 pub use inconsistent::edge_name;
 pub use insertion::{stepped, Insertion, Step};
 pub use nearest::Near;
@@ -67,3 +71,4 @@ pub use run::Run;
 pub use shader::{glsl, spirv};
 pub use show::show;
 pub use unfit::{unfit, Unfit};
+pub use why::why;

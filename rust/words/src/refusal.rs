@@ -46,7 +46,7 @@ pub fn lines(table: &[u8], number: u16, row: usize) -> Vec<String> {
 }
 
 /// Refusals of the header name row 0, which says nothing of that row.
-fn is_of_a_row(number: u16) -> bool {
+pub fn is_of_a_row(number: u16) -> bool {
     matches!(number, 5..=10 | 14 | 15)
 }
 

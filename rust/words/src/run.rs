@@ -38,8 +38,13 @@ impl Run {
             rows: (0..whole_rows)
                 .map(|row| row_of(table, agent_count, row))
                 .collect(),
-            is_counted: version >= COUNTED,
+            is_counted: Run::is_counted_in(version),
         }
+    }
+
+    /// Whether a version that is known has counted ranks.
+    pub fn is_counted_in(version: u8) -> bool {
+        (COUNTED..=LAST_VERSION).contains(&version)
     }
 
     /// M2: whether two agents share a scope; nobody shares one with an agent

@@ -39,14 +39,19 @@ pub fn show(table: &[u8]) -> String {
     text
 }
 
-/// `version 1, 2 agents, 4 rows`.
+/// `version 1, 2 agents, 4 rows`, or `version 2, counted ranks, 2 agents, …`.
 pub fn header(table: &[u8]) -> Option<String> {
     let [_, _, _, _, version, agents, rows, _, ..] = *table else {
         return None;
     };
     let agents = names::counted(usize::from(agents), "agent");
     let rows = names::counted(usize::from(rows), "row");
-    Some(format!("version {version}, {agents}, {rows}"))
+    let ranks = if Run::is_counted_in(version) {
+        ", counted ranks"
+    } else {
+        ""
+    };
+    Some(format!("version {version}{ranks}, {agents}, {rows}"))
 }
 
 /// `family 0, workgroup 1, subgroup 0`.

@@ -206,10 +206,10 @@ fn every_named_change_ends_the_race() {
 fn large_tables_are_explained() {
     let mut checker = Checker::new();
     let mut seen = Seen::default();
-    for table in generated(303, 6, 64, 64) {
+    for table in generated(305, 10, 64, 64) {
         check_table(&table, &mut checker, &mut seen);
     }
-    for table in generated(304, 3, 120, 128) {
+    for table in generated(306, 6, 120, 128) {
         check_table(&table, &mut checker, &mut seen);
     }
     assert!(seen.races > 0);

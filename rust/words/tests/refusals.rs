@@ -176,7 +176,7 @@ fn the_named_faults_are_the_real_ones() {
         }
     }
     assert!(seen[1..=10].iter().all(|count| *count > 20), "{seen:?}");
-    assert!(seen[14] > 20, "{seen:?}");
+    assert!(seen[14] > 20 && seen[15] > 20, "{seen:?}");
 }
 
 /// One row of one agent, as a table.

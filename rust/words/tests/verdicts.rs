@@ -6,7 +6,7 @@ mod common;
 use common::{elements, example, generated, with_relations};
 use std::collections::BTreeMap;
 use stramashly::Checker;
-use tables::{damaged, fillable, Random, Size};
+use tables::{damaged, fillable, Random, Row, Size, Table};
 use words::{draw, edited, explain, page, refusal, show, Checked};
 
 /// Compares the first line with the check's answer, and gives its first word.
@@ -92,9 +92,9 @@ fn noise_is_no_panic() {
         }
         assert!(!show(&table).is_empty());
         let explanation = explain(&table, &mut checker);
-        elements(&page(&table, &explanation));
+        elements(&page(&table, &explanation, false));
         let is_refused = explanation.answer.starts_with("refused");
-        assert_eq!(draw(&table, &mut checker).is_err(), is_refused);
+        assert_eq!(draw(&table, &mut checker, false).is_err(), is_refused);
     }
 }
 
@@ -144,7 +144,12 @@ fn a_table_is_shown_row_by_row() {
     let blank = show(&example("fill"));
     assert!(blank.lines().last().unwrap().contains("blank"));
     assert_eq!(show(b"ab"), "2 bytes: too few for a header\n");
-    assert_eq!(show(&example("version-4")), "version 4, 0 agents, 0 rows\n");
+    let mut counted = example("empty");
+    counted[4] = 2;
+    assert_eq!(
+        show(&counted),
+        "version 2, counted ranks, 0 agents, 0 rows\n"
+    );
 }
 
 /// A code without a meaning is shown as it is.
@@ -193,4 +198,27 @@ fn impossible_runs_have_their_causes() {
         }
     }
     assert!(runs > 200 && sources > 100, "{runs} {sources}");
+}
+
+/// Counted ranks are told as such, and compared as such.
+#[test]
+fn counted_ranks_are_told() {
+    let mut checker = Checker::new();
+    let told = explain(&example("counted"), &mut checker).text();
+    assert!(told.starts_with("race-free\n"), "{told}");
+    assert!(show(&example("counted")).starts_with("version 2, counted ranks, 3 agents"));
+    let far = explain(&example("counted-too-far"), &mut checker).text();
+    assert!(far.starts_with("refused 15 2\n"), "{far}");
+    let fault = "rows 1 and 2 write this place with ranks 65535 and 32767, which no 32768 counts in a row hold";
+    assert!(far.contains(fault), "{far}");
+    // Two relaxed writers, each of which saw the other's write, past the counter's end.
+    let rows = [
+        Row::atomic_write(0, 65535),
+        Row::atomic_write(1, 3),
+        Row::atomic_read(2, 1),
+        Row::atomic_read(2, 0),
+    ];
+    let table = Table::of_one_workgroup(3, &rows).counted().bytes();
+    let cycle = explain(&table, &mut checker).text();
+    assert!(cycle.starts_with("cycle "), "{cycle}");
 }

@@ -5,12 +5,13 @@ use crate::names;
 use crate::run::Run;
 use std::collections::BTreeMap;
 
-/// The rows of each instance that more than one agent meets in.
-pub fn instances(run: &Run) -> BTreeMap<u16, Vec<usize>> {
+/// The drawn rows of each instance that more than one agent meets in.
+fn instances(run: &Run, layout: &Layout) -> BTreeMap<u16, Vec<usize>> {
     let mut instances: BTreeMap<u16, Vec<usize>> = BTreeMap::new();
-    for (number, row) in run.rows.iter().enumerate() {
+    for number in layout.rows.keys() {
+        let row = run.rows[*number];
         if row.is_control_barrier() {
-            instances.entry(row.instance()).or_default().push(number);
+            instances.entry(row.instance()).or_default().push(*number);
         }
     }
     instances.retain(|_, rows| rows.len() > 1);
@@ -20,12 +21,12 @@ pub fn instances(run: &Run) -> BTreeMap<u16, Vec<usize>> {
 /// The bands, below the boxes: from column to column through the rows.
 pub fn drawn(run: &Run, layout: &Layout) -> String {
     let mut svg = String::new();
-    for (instance, mut rows) in instances(run) {
-        rows.sort_by_key(|row| layout.rows[*row].x);
+    for (instance, mut rows) in instances(run, layout) {
+        rows.sort_by_key(|row| layout.rows[row].x);
         let points: Vec<String> = rows
             .iter()
             .map(|row| {
-                let place = &layout.rows[*row];
+                let place = &layout.rows[row];
                 format!(
                     "{} {} L{} {}",
                     place.x,

@@ -26,26 +26,42 @@ pub fn text_width(text: &str) -> i32 {
     text.chars().count() as i32 * 7
 }
 
-pub fn entries(shown: &Shown, has_bands: bool) -> Vec<Entry> {
+/// The entries for what occurs among the drawn things.
+pub fn entries(drawn: &str, shown: &Shown) -> Vec<Entry> {
+    let arrows = [
+        ("reads", "read from"),
+        ("synchronizes", "synchronizes with"),
+        ("modification", "scoped modification order"),
+        ("race too", "races too"),
+    ];
+    let boxes = [
+        ("row plain", "box", "plain"),
+        ("row atomic", "box", "atomic"),
+        ("row barrier", "box", "barrier"),
+        ("row", "moment available", "availability moment"),
+        ("row", "moment visible", "visibility moment"),
+    ];
+    let has = |class: &str| drawn.contains(&format!("class=\"{class}"));
     let arrow = |sort, words| Entry {
         sample: Sample::Arrow(sort),
         words,
     };
-    let sample_box = |row, class, words| Entry {
-        sample: Sample::Box(row, class),
-        words,
-    };
-    let mut entries = vec![
-        arrow("reads", "read from"),
-        arrow("synchronizes", "synchronizes with"),
-        arrow("modification", "scoped modification order"),
-        sample_box("row plain", "box", "plain"),
-        sample_box("row atomic", "box", "atomic"),
-        sample_box("row barrier", "box", "barrier"),
-        sample_box("row", "moment available", "availability moment"),
-        sample_box("row", "moment visible", "visibility moment"),
-    ];
-    if has_bands {
+    let mut entries = Vec::new();
+    for (sort, words) in arrows {
+        if has(&format!("arrow {sort}\"")) {
+            entries.push(arrow(sort, words));
+        }
+    }
+    for (row, class, words) in boxes {
+        let sought = if class == "box" { row } else { class };
+        if has(sought) {
+            entries.push(Entry {
+                sample: Sample::Box(row, class),
+                words,
+            });
+        }
+    }
+    if has("band") {
         entries.push(Entry {
             sample: Sample::Band,
             words: "agents meet in a control barrier",
@@ -86,7 +102,7 @@ pub fn drawn(entries: &[Entry], layout: &Layout) -> String {
         let y = y + layout.height;
         svg += &match entry.sample {
             Sample::Arrow(sort) => {
-                let end = if sort == "race" {
+                let end = if sort.starts_with("race") {
                     String::new()
                 } else {
                     format!(" marker-end=\"url(#end-{sort})\"")

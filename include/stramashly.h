@@ -2,10 +2,11 @@
  *
  * Link with libstramashly.a (made by `rt staticlib stramashly`).
  *
- * Each function judges one table of bytes by the rules of docs/RULES.md. The
- * answer and what the buffers hold afterwards depend on the arguments alone, so
- * threads may call them at once, each with buffers of its own. A pointer must be
- * good for its length, which may be any number, and no two buffers may overlap.
+ * Each function judges one table of bytes, laid out as docs/FORMAT.md says, by
+ * the rules of docs/RULES.md. The answer and what the buffers hold afterwards
+ * depend on the arguments alone, so threads may call them at once, each with
+ * buffers of its own. A pointer must be good for its length, which may be any
+ * number, and no two buffers may overlap.
  *
  * The answer is one number: code * 2^48 + a * 2^32 + b * 2^16 + c.
  *
@@ -14,7 +15,7 @@
  *   1  race                  check, fill   lower row   higher    byte
  *   2  overwritten           check, report reader      writer    byte
  *   3  cycle                 check, report its rows' number
- *   4  refused               each          number      row
+ *   4  refused               each          number      row      enum stramashly_refusal
  *   5  none                  fill
  *   6  filled                fill          rows of the table
  *   7  report                report        mutual      ordered   racing
@@ -42,8 +43,8 @@
  *                  numbers are as they were. Any other answer leaves this
  *                  buffer alone.
  *
- * A work area or another lent buffer that is too short is refusal 11, which
- * comes before any other.
+ * A work area or another lent buffer that is too short is refused before
+ * anything else is looked at.
  *
  * A derivation says why one moment of a table happens before another. A moment
  * is 3 * its row + 0, 1 or 2 for before the row, the row itself, after it. Either
@@ -53,7 +54,7 @@
  * Uniform, 2 Workgroup, 4 Image, 8 Output. A step is STRAMASHLY_STEP_CASE * its
  * case (1 synchronizes-with, 2 to a release, 3 from an acquire) + the moment that
  * it reaches. Numbers that aren't those of two different moments of the table
- * are refusal 12; a fill's refusals come before it.
+ * are refused (12), after all that a fill refuses.
  */
 #ifndef STRAMASHLY_H
 #define STRAMASHLY_H
@@ -74,7 +75,10 @@ extern "C" {
 /* Where a cycle's edge numbers begin in the cycle buffer. */
 #define STRAMASHLY_CYCLE_EDGES 128
 
-/* Most bytes of a table: a header, 32 agents and 128 rows. */
+/* Most agents and rows of a table, and its most bytes: a header of 8, 6 for each
+ * agent, 16 for each row. */
+#define STRAMASHLY_AGENTS 32
+#define STRAMASHLY_ROWS 128
 #define STRAMASHLY_TABLE_BYTES 2248
 
 /* Sources: the initial value, and a blank for a fill to decide. */
@@ -99,6 +103,27 @@ enum stramashly_code {
   STRAMASHLY_NOT_BEFORE = 9,
   STRAMASHLY_ACCEPTED = 10,
   STRAMASHLY_NOT_ACCEPTED = 11
+};
+
+/* Part a of a refusal: which rule of form is broken. Part b is the row that
+ * breaks it, 0 where it is no row's. Tested in this order: BUFFER; SHORT,
+ * VERSION, LIMITS, LENGTH; row by row CODE, KIND_FIT, EXTENT; row by row CLASS,
+ * SOURCE, RANK, INSTANCE, RUN; MOMENTS. */
+enum stramashly_refusal {
+  STRAMASHLY_REFUSAL_SHORT = 1,     /* a table of fewer than 8 bytes */
+  STRAMASHLY_REFUSAL_VERSION = 2,   /* a version other than 1 and 2, or byte 7 not 0 */
+  STRAMASHLY_REFUSAL_LIMITS = 3,    /* more agents or rows than there may be */
+  STRAMASHLY_REFUSAL_LENGTH = 4,    /* not as many bytes as the header says */
+  STRAMASHLY_REFUSAL_CODE = 5,      /* a row's code out of range */
+  STRAMASHLY_REFUSAL_KIND_FIT = 6,  /* fields that the row's kind may not have */
+  STRAMASHLY_REFUSAL_EXTENT = 7,    /* a length or start that the access may not have */
+  STRAMASHLY_REFUSAL_CLASS = 8,     /* its reference has another class in an earlier row */
+  STRAMASHLY_REFUSAL_SOURCE = 9,    /* no row that it can have read, or a blank */
+  STRAMASHLY_REFUSAL_RANK = 10,     /* the rank of an earlier, mutually-ordered writer */
+  STRAMASHLY_REFUSAL_BUFFER = 11,   /* a lent buffer that is too short */
+  STRAMASHLY_REFUSAL_MOMENTS = 12,  /* not two different moments of the table */
+  STRAMASHLY_REFUSAL_INSTANCE = 14, /* a control barrier that doesn't fit its instance */
+  STRAMASHLY_REFUSAL_RUN = 15       /* version 2: ranks further apart than a run of counts */
 };
 
 /* The parts of an answer. */

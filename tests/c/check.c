@@ -76,30 +76,59 @@ static void test_fill(void) {
 static void test_refusals(void) {
   prepare();
   set_source(3, STRAMASHLY_BLANK);
-  expect(check() == packed(STRAMASHLY_REFUSED, 9, 3, 0), "a check takes no blank");
-  table[4] = 2;
-  expect(check() == packed(STRAMASHLY_REFUSED, 2, 0, 0), "version 2 is refused");
-  expect(fill() == packed(STRAMASHLY_REFUSED, 2, 0, 0), "by a fill too");
-  expect(stramashly_check(table, 0, work, STRAMASHLY_WORK_WORDS, cycle,
-                          STRAMASHLY_CYCLE_NUMBERS) == packed(STRAMASHLY_REFUSED, 1, 0, 0),
+  expect(check() == refused(STRAMASHLY_REFUSAL_SOURCE, 3), "a check takes no blank");
+  table[4] = 3;
+  expect(check() == refused(STRAMASHLY_REFUSAL_VERSION, 0), "version 3 is refused");
+  expect(fill() == refused(STRAMASHLY_REFUSAL_VERSION, 0), "by a fill too");
+  expect(stramashly_check(table, 0, work, STRAMASHLY_WORK_WORDS, cycle, STRAMASHLY_CYCLE_NUMBERS) ==
+             refused(STRAMASHLY_REFUSAL_SHORT, 0),
          "a table of no bytes is refused");
   expect(is_work_kept() && is_cycle_kept() && are_sources_kept(), "refusals keep every buffer");
 }
 
+/* P with one byte changed, as docs/FORMAT.md has it. */
+static void test_damaged(void) {
+  static const struct {
+    unsigned place, byte, number, row;
+    const char *what;
+  } changes[] = {
+      {4, 0, STRAMASHLY_REFUSAL_VERSION, 0, "version 0"},
+      {7, 1, STRAMASHLY_REFUSAL_VERSION, 0, "byte 7 not 0"},
+      {5, 33, STRAMASHLY_REFUSAL_LIMITS, 0, "33 agents"},
+      {6, 129, STRAMASHLY_REFUSAL_LIMITS, 0, "129 rows"},
+      {6, 5, STRAMASHLY_REFUSAL_LENGTH, 0, "a row too many"},
+      {21, 2, STRAMASHLY_REFUSAL_CODE, 0, "no such agent"},
+      {20, 7, STRAMASHLY_REFUSAL_CODE, 0, "no such kind"},
+      {41, 7, STRAMASHLY_REFUSAL_KIND_FIT, 1, "a release that makes visible"},
+      {27, 17, STRAMASHLY_REFUSAL_EXTENT, 0, "17 bytes"},
+      {61, 2, STRAMASHLY_REFUSAL_EXTENT, 2, "an atomic that isn't aligned"},
+      {74, 2, STRAMASHLY_REFUSAL_CLASS, 3, "a reference of two classes"},
+      {81, 2, STRAMASHLY_REFUSAL_SOURCE, 3, "a source that writes nothing"},
+  };
+  size_t at;
+  for (at = 0; at < sizeof changes / sizeof changes[0]; at++) {
+    prepare();
+    table[changes[at].place] = (uint8_t)changes[at].byte;
+    expect(check() == refused(changes[at].number, changes[at].row),
+           changes[at].what);
+    expect(is_work_kept() && is_cycle_kept(), "and every buffer is kept");
+  }
+}
+
 static void test_short_buffers(void) {
-  const uint64_t refused = packed(STRAMASHLY_REFUSED, 11, 0, 0);
+  const uint64_t too_short = refused(STRAMASHLY_REFUSAL_BUFFER, 0);
   prepare();
   expect(stramashly_check(table, sizeof table, work, STRAMASHLY_WORK_WORDS - 1, cycle,
-                          STRAMASHLY_CYCLE_NUMBERS) == refused,
+                          STRAMASHLY_CYCLE_NUMBERS) == too_short,
          "a short work area");
   expect(stramashly_check(table, sizeof table, work, STRAMASHLY_WORK_WORDS, cycle,
-                          STRAMASHLY_CYCLE_NUMBERS - 1) == refused,
+                          STRAMASHLY_CYCLE_NUMBERS - 1) == too_short,
          "a short cycle buffer");
   expect(stramashly_fill(table, sizeof table, work, STRAMASHLY_WORK_WORDS - 1, sources,
-                         STRAMASHLY_SOURCE_NUMBERS) == refused,
+                         STRAMASHLY_SOURCE_NUMBERS) == too_short,
          "a short work area of a fill");
   expect(stramashly_fill(table, sizeof table, work, STRAMASHLY_WORK_WORDS, sources,
-                         STRAMASHLY_SOURCE_NUMBERS - 1) == refused,
+                         STRAMASHLY_SOURCE_NUMBERS - 1) == too_short,
          "a short source buffer");
   expect(is_work_kept() && is_cycle_kept() && are_sources_kept(), "refusal 11 keeps every buffer");
 }
@@ -111,5 +140,6 @@ void test_check_and_fill(void) {
   test_overwritten();
   test_fill();
   test_refusals();
+  test_damaged();
   test_short_buffers();
 }

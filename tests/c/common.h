@@ -26,6 +26,7 @@ void set_source(int row, unsigned source);
 /* Counts a test. */
 void expect(int holds, const char *what);
 uint64_t packed(unsigned code, unsigned a, unsigned b, unsigned c);
+uint64_t refused(unsigned number, unsigned row);
 
 int all_numbers(const uint16_t *numbers, size_t from, size_t to, uint16_t number);
 int is_work_cleared(void);
@@ -38,5 +39,7 @@ int is_chain_kept(void);
 void test_check_and_fill(void);
 void test_derivations(void);
 void test_reports(void);
+void test_limits(void);
+void test_versions(void);
 
 #endif

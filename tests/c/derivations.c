@@ -47,15 +47,15 @@ static void test_reader(void) {
   expect(accepts(WRITE, RELEASE, STRAMASHLY_PROGRAM_ORDER, 0) == accepted, "the word is accepted");
   expect(accepts(AVAILABLE, VISIBLE, STRAMASHLY_PROGRAM_ORDER, 0) == not_accepted,
          "not between agents");
-  expect(accepts(AVAILABLE, AVAILABLE, 1, 3) == packed(STRAMASHLY_REFUSED, 12, 0, 0),
+  expect(accepts(AVAILABLE, AVAILABLE, 1, 3) == refused(STRAMASHLY_REFUSAL_MOMENTS, 0),
          "a moment given twice");
 }
 
 static void test_refused_derivations(void) {
-  const uint64_t short_buffer = packed(STRAMASHLY_REFUSED, 11, 0, 0);
+  const uint64_t short_buffer = refused(STRAMASHLY_REFUSAL_BUFFER, 0);
   prepare();
-  expect(derive(AVAILABLE, 0) == packed(STRAMASHLY_REFUSED, 12, 0, 0), "an absent moment");
-  expect(derive(65535, AVAILABLE) == packed(STRAMASHLY_REFUSED, 12, 0, 0), "no moment at all");
+  expect(derive(AVAILABLE, 0) == refused(STRAMASHLY_REFUSAL_MOMENTS, 0), "an absent moment");
+  expect(derive(65535, AVAILABLE) == refused(STRAMASHLY_REFUSAL_MOMENTS, 0), "no moment at all");
   expect(stramashly_derive(table, sizeof table, AVAILABLE, VISIBLE, work,
                            STRAMASHLY_WORK_WORDS - 1, chain,
                            STRAMASHLY_CHAIN_NUMBERS) == short_buffer,
@@ -63,9 +63,12 @@ static void test_refused_derivations(void) {
   expect(stramashly_derive(table, 0, AVAILABLE, 0, work, STRAMASHLY_WORK_WORDS, chain,
                            STRAMASHLY_CHAIN_NUMBERS - 1) == short_buffer,
          "a short chain buffer");
-  table[4] = 2;
-  expect(derive(AVAILABLE, 0) == packed(STRAMASHLY_REFUSED, 2, 0, 0), "a fill's refusals first");
-  expect(accepts(AVAILABLE, 0, 1, 3) == packed(STRAMASHLY_REFUSED, 2, 0, 0), "by the reader too");
+  table[4] = 3;
+  expect(derive(AVAILABLE, 0) == refused(STRAMASHLY_REFUSAL_VERSION, 0),
+         "a fill's refusals first");
+  expect(accepts(AVAILABLE, 0, 1, 3) ==
+             refused(STRAMASHLY_REFUSAL_VERSION, 0),
+         "by the reader too");
   expect(is_work_kept() && is_chain_kept(), "refused derivations keep every buffer");
 }
 

@@ -35,6 +35,10 @@ uint64_t packed(unsigned code, unsigned a, unsigned b, unsigned c) {
   return (uint64_t)code << 48 | (uint64_t)a << 32 | (uint64_t)b << 16 | c;
 }
 
+uint64_t refused(unsigned number, unsigned row) {
+  return packed(STRAMASHLY_REFUSED, number, row, 0);
+}
+
 static void fill_numbers(uint16_t *numbers, size_t count) {
   size_t place;
   for (place = 0; place < count; place++) numbers[place] = ORIGINAL;
@@ -84,6 +88,8 @@ int main(void) {
   test_check_and_fill();
   test_derivations();
   test_reports();
+  test_limits();
+  test_versions();
   printf("%d passed, %d failed\n", passed, failed);
   return failed != 0;
 }

@@ -23,7 +23,7 @@ static void test_shares(void) {
   expect(stramashly_share(0, 2) == 0.0, "nothing races");
   expect(stramashly_share(1, 2) == 0.5, "half of them race");
   expect(stramashly_share(1, 3) == 1.0 / 3.0, "rounded once");
-  expect(stramashly_share(2016, 2016) == 1.0, "every pair races");
+  expect(stramashly_share(8128, 8128) == 1.0, "every pair races");
   expect(none != none, "of nothing there is no share");
 }
 
@@ -34,9 +34,9 @@ static void test_check_s_answers(void) {
   expect(cycle[0] == 0 && cycle[1] == 3 && cycle[STRAMASHLY_CYCLE_EDGES] == 1, "in the buffer");
   prepare();
   set_source(3, STRAMASHLY_BLANK);
-  expect(report() == packed(STRAMASHLY_REFUSED, 9, 3, 0), "a report takes no blank");
+  expect(report() == refused(STRAMASHLY_REFUSAL_SOURCE, 3), "a report takes no blank");
   expect(stramashly_report(table, sizeof table, work, STRAMASHLY_WORK_WORDS - 1, cycle,
-                           STRAMASHLY_CYCLE_NUMBERS) == packed(STRAMASHLY_REFUSED, 11, 0, 0),
+                           STRAMASHLY_CYCLE_NUMBERS) == refused(STRAMASHLY_REFUSAL_BUFFER, 0),
          "a short work area of a report");
   expect(is_work_kept() && is_cycle_kept(), "a refused report keeps every buffer");
 }

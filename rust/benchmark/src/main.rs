@@ -1,5 +1,5 @@
-//! Times both implementations on 1,000 tables of 64 rows, in one process and
-//! one thread, and prints a page of Markdown.
+//! Times both implementations on 1,000 tables of 128 rows, or of so many as it
+//! is told, in one process and one thread, and prints a page of Markdown.
 
 mod memory;
 mod times;
@@ -7,22 +7,26 @@ mod work;
 
 use std::env;
 use std::process::ExitCode;
+use tables::MAX_ROWS;
 use times::Times;
 use work::{Verdict, Work};
 
-const USAGE: &str = "usage: benchmark [REPETITIONS]";
+const USAGE: &str = "usage: benchmark [REPETITIONS [ROWS]]";
 const SEED: u64 = 64;
 const REPETITIONS: usize = 5;
+/// Fewer rows don't have every verdict.
+const LEAST_ROWS: usize = 8;
 
 fn main() -> ExitCode {
     let words: Vec<String> = env::args().skip(1).collect();
     let words: Vec<&str> = words.iter().map(String::as_str).collect();
     let result = match words.as_slice() {
-        [] => run(REPETITIONS),
+        [] => run(REPETITIONS, MAX_ROWS),
         [memory::WORD, implementation] => memory::measure(implementation),
-        [number] => match number.parse() {
-            Ok(repetitions) if repetitions > 0 => run(repetitions),
-            _ => Err(USAGE.to_string()),
+        [repetitions] => asked(repetitions, MAX_ROWS),
+        [repetitions, rows] => match rows.parse() {
+            Ok(rows) => asked(repetitions, rows),
+            Err(_) => Err(USAGE.to_string()),
         },
         _ => Err(USAGE.to_string()),
     };
@@ -35,17 +39,26 @@ fn main() -> ExitCode {
     }
 }
 
-fn run(repetitions: usize) -> Result<(), String> {
-    let work = Work::generate(SEED);
+fn asked(repetitions: &str, rows: usize) -> Result<(), String> {
+    match repetitions.parse() {
+        Ok(repetitions) if repetitions > 0 && (LEAST_ROWS..=MAX_ROWS).contains(&rows) => {
+            run(repetitions, rows)
+        }
+        _ => Err(USAGE.to_string()),
+    }
+}
+
+fn run(repetitions: usize, rows: usize) -> Result<(), String> {
+    let work = Work::generate(SEED, rows);
     work.agree()?;
     let times = Times::take(&work, repetitions);
-    print_times(&work, &times, repetitions);
+    print_times(&work, &times, repetitions, rows);
     print_memory(&work)
 }
 
-fn print_times(work: &Work, times: &Times, repetitions: usize) {
+fn print_times(work: &Work, times: &Times, repetitions: usize, rows: usize) {
     let count = work.total();
-    println!("Checks of {count} generated tables of 64 rows (seed {SEED}), release build,");
+    println!("Checks of {count} generated tables of {rows} rows (seed {SEED}), release build,");
     println!("one thread; microseconds a table, median of {repetitions} repetitions.");
     println!();
     println!("| verdict | tables | ours | second | second ÷ ours |");

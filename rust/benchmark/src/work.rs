@@ -50,10 +50,10 @@ pub struct Work {
 
 impl Work {
     /// Generates tables until there are enough of each verdict.
-    pub fn generate(seed: u64) -> Work {
+    pub fn generate(seed: u64, rows: usize) -> Work {
         let size = Size {
-            least: 64,
-            most: 64,
+            least: rows,
+            most: rows,
         };
         let mut random = Random::new(seed);
         let mut state = State::new();

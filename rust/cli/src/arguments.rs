@@ -1,16 +1,24 @@
 //! The words of the command line.
 
+use crate::help;
+use crate::make::{steps, Making};
 use crate::question::{Kind, Question};
 use crate::tell::Telling;
 use std::ffi::{OsStr, OsString};
+use words::Step;
 
 /// What is asked for.
 #[derive(Debug, PartialEq, Eq)]
 pub enum Command {
     Help,
+    /// The lines of one command.
+    HelpOf(String),
     Version,
     Files(Request),
-    Batch,
+    Batch {
+        is_json: bool,
+        jobs: usize,
+    },
 }
 
 /// What is to be done with each file.
@@ -18,6 +26,7 @@ pub enum Command {
 pub enum Task {
     Judge(Question),
     Tell(Telling),
+    Make(Making),
 }
 
 /// Files and what is to be done with them; `-` is standard input.
@@ -26,7 +35,31 @@ pub struct Request {
     pub task: Task,
     pub is_hex: bool,
     pub is_json: bool,
+    pub is_quiet: bool,
+    pub jobs: usize,
     pub names: Vec<OsString>,
+}
+
+impl Request {
+    /// Whether a directory may stand for the tables in it.
+    pub fn takes_directories(&self) -> bool {
+        let is_of_one = matches!(
+            self.task,
+            Task::Judge(Question::Derive { .. } | Question::Accepts { .. })
+                | Task::Tell(Telling::Draw { .. } | Telling::Page { .. } | Telling::Why { .. })
+                | Task::Make(_)
+        );
+        !is_of_one
+    }
+
+    /// Whether the first word of what is written is an answer.
+    pub fn may_be_coloured(&self) -> bool {
+        let is_answer = matches!(
+            self.task,
+            Task::Judge(_) | Task::Tell(Telling::Explain | Telling::Why { .. })
+        );
+        is_answer && !self.is_json
+    }
 }
 
 /// Options, and the words that are none, in order.
@@ -36,9 +69,17 @@ struct Words {
     is_version: bool,
     is_hex: bool,
     is_html: bool,
+    is_all: bool,
     is_json: bool,
+    is_quiet: bool,
+    is_table: bool,
+    is_words: bool,
+    jobs: Option<usize>,
     others: Vec<OsString>,
 }
+
+/// The most threads that may be asked for.
+const MOST_JOBS: usize = 256;
 
 pub fn parse(words: impl Iterator<Item = OsString>) -> Result<Command, String> {
     let mut words = sort(words)?;
@@ -52,17 +93,29 @@ pub fn parse(words: impl Iterator<Item = OsString>) -> Result<Command, String> {
         return Err("no command given".to_string());
     }
     let name = words.others.remove(0);
-    if let Some(kind) = Kind::named(name.as_encoded_bytes()) {
-        let question = question(kind, &mut words.others)?;
-        return files(Task::Judge(question), words);
-    }
     let task = match name.to_str() {
-        Some("show") => Task::Tell(Telling::Show),
-        Some("explain") if words.is_html => Task::Tell(Telling::Page),
-        Some("explain") => Task::Tell(Telling::Explain),
-        Some("draw") => Task::Tell(Telling::Draw),
+        Some("help") => return help(&words),
         Some("batch") => return batch(&words),
-        _ => return Err(format!("no command is called {name:?}")),
+        Some("fill") if words.is_table => Task::Make(Making::Filled),
+        Some("edit") => Task::Make(Making::Edited(edit(&mut words.others)?)),
+        Some("show") => Task::Tell(Telling::Show),
+        Some("explain") if words.is_html => Task::Tell(Telling::Page {
+            is_all: words.is_all,
+        }),
+        Some("explain") => Task::Tell(Telling::Explain),
+        Some("draw") => Task::Tell(Telling::Draw {
+            is_all: words.is_all,
+        }),
+        _ => {
+            let kind = Kind::named(name.as_encoded_bytes());
+            let kind = kind.ok_or_else(|| format!("no command is called {name:?}"))?;
+            match question(kind, &mut words.others)? {
+                Question::Derive { first, second } if words.is_words => {
+                    Task::Tell(Telling::Why { first, second })
+                }
+                question => Task::Judge(question),
+            }
+        }
     };
     files(task, words)
 }
@@ -78,6 +131,13 @@ fn question(kind: Kind, others: &mut Vec<OsString>) -> Result<Question, String> 
     kind.question(&words?)
 }
 
+/// The steps of an edit, from the words after its file. They are taken out.
+fn edit(others: &mut Vec<OsString>) -> Result<Vec<Step>, String> {
+    let words = others.split_off(others.len().min(1));
+    let words: Result<Vec<&str>, String> = words.iter().map(|word| text(word)).collect();
+    steps(&words?)
+}
+
 fn text(word: &OsStr) -> Result<&str, String> {
     let text = word.to_str();
     text.ok_or_else(|| format!("{word:?} is neither number nor word"))
@@ -87,7 +147,8 @@ fn text(word: &OsStr) -> Result<&str, String> {
 fn sort(words: impl Iterator<Item = OsString>) -> Result<Words, String> {
     let mut sorted = Words::default();
     let mut are_options_over = false;
-    for word in words {
+    let mut words = words;
+    while let Some(word) = words.next() {
         let is_option = word.as_encoded_bytes().starts_with(b"-") && word != "-";
         if are_options_over || !is_option {
             sorted.others.push(word);
@@ -99,45 +160,108 @@ fn sort(words: impl Iterator<Item = OsString>) -> Result<Words, String> {
             Some("--version" | "-V") => sorted.is_version = true,
             Some("--hex") => sorted.is_hex = true,
             Some("--html") => sorted.is_html = true,
+            Some("--all") => sorted.is_all = true,
             Some("--json") => sorted.is_json = true,
+            Some("--quiet" | "-q") => sorted.is_quiet = true,
+            Some("--table") => sorted.is_table = true,
+            Some("--words") => sorted.is_words = true,
+            Some("-j" | "--jobs") => {
+                let count = words.next();
+                let count = count.as_ref().and_then(|count| count.to_str());
+                sorted.jobs = Some(jobs(count.unwrap_or_default())?);
+            }
+            Some(word) if word.starts_with("-j") => sorted.jobs = Some(jobs(&word[2..])?),
+            Some(word) if word.starts_with("--jobs=") => sorted.jobs = Some(jobs(&word[7..])?),
             _ => return Err(format!("no option is called {word:?}")),
         }
     }
     Ok(sorted)
 }
 
-fn files(task: Task, words: Words) -> Result<Command, String> {
-    let names = words.others;
-    if words.is_html && task != Task::Tell(Telling::Page) {
+fn jobs(word: &str) -> Result<usize, String> {
+    let are_digits = word.bytes().all(|letter| letter.is_ascii_digit());
+    let count = word.parse().ok().filter(|_| are_digits);
+    let count = count.filter(|count| (1..=MOST_JOBS).contains(count));
+    count.ok_or_else(|| format!("-j takes a number from 1 to {MOST_JOBS}, not {word:?}"))
+}
+
+fn help(words: &Words) -> Result<Command, String> {
+    match &words.others[..] {
+        [] => Ok(Command::Help),
+        [name] => match name.to_str().filter(|name| help::of(name).is_some()) {
+            Some(name) => Ok(Command::HelpOf(name.to_string())),
+            None => Err(format!("no command is called {name:?}")),
+        },
+        _ => Err("help takes one command".to_string()),
+    }
+}
+
+/// What goes with which command.
+fn check_options(task: &Task, words: &Words) -> Result<(), String> {
+    let is_page = matches!(task, Task::Tell(Telling::Page { .. }));
+    if words.is_html && !is_page {
         return Err("only explain takes --html".to_string());
     }
-    if words.is_json && matches!(task, Task::Tell(_)) {
-        return Err(format!("only {} take --json", Kind::NAMES));
+    let is_drawn = is_page || matches!(task, Task::Tell(Telling::Draw { .. }));
+    if words.is_all && !is_drawn {
+        return Err("only draw and explain --html take --all".to_string());
     }
+    if words.is_json && !matches!(task, Task::Judge(_)) {
+        return Err(format!("only {} and batch take --json", Kind::NAMES));
+    }
+    if words.is_table && *task != Task::Make(Making::Filled) {
+        return Err("only fill takes --table".to_string());
+    }
+    if words.is_words && !matches!(task, Task::Tell(Telling::Why { .. })) {
+        return Err("only derive takes --words".to_string());
+    }
+    if words.is_quiet && !matches!(task, Task::Judge(_)) {
+        return Err(format!("only {} take --quiet", Kind::NAMES));
+    }
+    Ok(())
+}
+
+fn files(task: Task, words: Words) -> Result<Command, String> {
+    check_options(&task, &words)?;
+    let request = Request {
+        task,
+        is_hex: words.is_hex,
+        is_json: words.is_json,
+        is_quiet: words.is_quiet,
+        jobs: words.jobs.unwrap_or(1),
+        names: words.others,
+    };
+    let names = &request.names;
     if names.is_empty() {
         return Err("no file given".to_string());
     }
     // Two documents in a row are none.
-    if matches!(task, Task::Tell(Telling::Draw | Telling::Page)) && names.len() > 1 {
-        return Err("a picture or a page is of one file".to_string());
+    if !request.takes_directories() && names.len() > 1 {
+        return Err("a picture, a page or a new table is of one file".to_string());
     }
     // It could only be read once.
     if names.iter().filter(|name| *name == "-").count() > 1 {
         return Err("standard input given twice".to_string());
     }
-    Ok(Command::Files(Request {
-        task,
-        is_hex: words.is_hex,
-        is_json: words.is_json,
-        names,
-    }))
+    Ok(Command::Files(request))
 }
 
 fn batch(words: &Words) -> Result<Command, String> {
-    if words.is_hex || words.is_html || words.is_json || !words.others.is_empty() {
-        return Err("batch takes no option and no file".to_string());
+    let others = [
+        words.is_hex,
+        words.is_html,
+        words.is_all,
+        words.is_quiet,
+        words.is_table,
+        words.is_words,
+    ];
+    if others.contains(&true) || !words.others.is_empty() {
+        return Err("batch takes no file, and no option but --json and -j".to_string());
     }
-    Ok(Command::Batch)
+    Ok(Command::Batch {
+        is_json: words.is_json,
+        jobs: words.jobs.unwrap_or(1),
+    })
 }
 
 #[cfg(test)]
@@ -155,6 +279,8 @@ mod tests {
             task,
             is_hex,
             is_json: false,
+            is_quiet: false,
+            jobs: 1,
             names,
         }))
     }
@@ -164,7 +290,11 @@ mod tests {
         assert_eq!(parsed("--help"), Ok(Command::Help));
         assert_eq!(parsed("check -h"), Ok(Command::Help));
         assert_eq!(parsed("--version"), Ok(Command::Version));
-        assert_eq!(parsed("batch"), Ok(Command::Batch));
+        let batch = |is_json, jobs| Ok(Command::Batch { is_json, jobs });
+        assert_eq!(parsed("batch"), batch(false, 1));
+        assert_eq!(parsed("batch --json -j 3"), batch(true, 3));
+        assert_eq!(parsed("help"), Ok(Command::Help));
+        assert_eq!(parsed("help fill"), Ok(Command::HelpOf("fill".into())));
         let check = || Task::Judge(Question::Check);
         let fill = || Task::Judge(Question::Fill);
         assert_eq!(parsed("check a -"), request(check(), false, &["a", "-"]));
@@ -209,13 +339,59 @@ mod tests {
     }
 
     #[test]
+    fn threads_and_quiet_are_asked_for() {
+        for line in [
+            "check -j 4 -q a",
+            "check a -j4 --quiet",
+            "--jobs=4 -q check a",
+        ] {
+            let Ok(Command::Files(request)) = parsed(line) else {
+                panic!("{line}");
+            };
+            assert_eq!((request.jobs, request.is_quiet), (4, true), "{line}");
+        }
+    }
+
+    #[test]
+    fn tables_are_made_of_one_file() {
+        let filled = request(Task::Make(Making::Filled), false, &["a"]);
+        assert_eq!(parsed("fill --table a"), filled);
+        let words = [
+            "edit",
+            "a",
+            "row 2 flags 3; row 0 scope 1",
+            "insert 0 kind 1 agent 0",
+        ];
+        let Ok(Command::Files(request)) = parse(words.into_iter().map(OsString::from)) else {
+            panic!();
+        };
+        let Task::Make(Making::Edited(steps)) = request.task else {
+            panic!();
+        };
+        let steps: Vec<String> = steps.iter().map(Step::to_string).collect();
+        let expected = ["row 2 flags 3", "row 0 scope 1", "insert 0 kind 1 agent 0"];
+        assert_eq!(steps, expected);
+        let why = Telling::Why {
+            first: 3,
+            second: 8,
+        };
+        assert_eq!(
+            parsed("derive --words a 1.before 2.after"),
+            self::request(Task::Tell(why), false, &["a"])
+        );
+    }
+
+    #[test]
     fn words_and_pictures_are_told_apart() {
+        let page = |is_all| Telling::Page { is_all };
+        let draw = |is_all| Telling::Draw { is_all };
         for (line, telling, is_hex) in [
             ("show a", Telling::Show, false),
             ("explain a", Telling::Explain, false),
-            ("explain --html a", Telling::Page, false),
-            ("--html --hex explain a", Telling::Page, true),
-            ("draw --hex a", Telling::Draw, true),
+            ("explain --html a", page(false), false),
+            ("--html --hex explain a --all", page(true), true),
+            ("draw --hex a", draw(false), true),
+            ("draw --all a", draw(true), false),
         ] {
             let expected = request(Task::Tell(telling), is_hex, &["a"]);
             assert_eq!(parsed(line), expected, "{line}");
@@ -248,7 +424,27 @@ mod tests {
             ("accepts a 1 2 256", "255"),
             ("show --json a", "--json"),
             ("explain --html --json a", "--json"),
-            ("batch --json", "batch"),
+            ("batch --quiet", "batch"),
+            ("batch --all", "batch"),
+            ("explain --all a", "--all"),
+            ("check --all a", "--all"),
+            ("help guess", "guess"),
+            ("help fill check", "one command"),
+            ("check -j 0 a", "from 1 to 256"),
+            ("check -j 257 a", "from 1 to 256"),
+            ("check a -j", "from 1 to 256"),
+            ("check -jx a", "\"x\""),
+            ("check --jobs=+1 a", "\"+1\""),
+            ("check --table a", "--table"),
+            ("check --words a", "--words"),
+            ("accepts --words a 1 2 3", "--words"),
+            ("explain --quiet a", "--quiet"),
+            ("fill --table a b", "one file"),
+            ("fill --table --json a", "--json"),
+            ("edit a", "row 2 flags 3"),
+            ("edit", "row 2 flags 3"),
+            ("edit a row", "no edit"),
+            ("derive a 1.during 2", "1.before"),
         ] {
             let reason = parsed(line).expect_err(line);
             assert!(reason.contains(part), "{line}: {reason}");

@@ -1,96 +1,215 @@
 //! `batch`: one table a line.
 
-use crate::judge::{append_line, judge, Form};
+use crate::input;
+use crate::judge::{append_trouble, judge, Form};
 use crate::line::Line;
 use crate::output::{complain, Output};
+use crate::parallel::{in_order, Giver, Taker};
+use crate::question::Question;
 use crate::Status;
-use std::io::{self, BufRead, BufReader, ErrorKind, IsTerminal, Write};
+use std::io::{self, BufRead, BufReader, ErrorKind, IsTerminal, StdinLock, Write};
+use std::sync::atomic::{AtomicBool, Ordering};
 use std::time::{Duration, Instant};
 use stramashly::Checker;
 
-pub fn run() -> Status {
-    let mut batch = Batch::new();
-    let status = batch.answer_lines();
-    batch.progress.finish();
-    status.max(batch.output.finish())
+/// So many lines go to a thread at once.
+const PIECE: usize = 64;
+
+pub fn run(is_json: bool, jobs: usize) -> Status {
+    if let Err(reason) = input::trouble() {
+        complain(&reason);
+        return Status::Trouble;
+    }
+    let form = if is_json {
+        Form::Json { file: None }
+    } else {
+        Form::Plain
+    };
+    if jobs == 1 {
+        one_by_one(form)
+    } else {
+        spread(form, jobs)
+    }
 }
 
-struct Batch {
-    checker: Checker,
-    output: Output,
-    progress: Progress,
+/// Answers each line before the next is read.
+fn one_by_one(form: Form) -> Status {
+    let mut checker = Checker::new();
+    let mut writer = Writer::new();
+    let mut lines = Lines::new();
+    let mut highest = Status::Fine;
+    loop {
+        // Whoever waits for an answer before the next line gets it.
+        match lines.next(|| writer.pause()) {
+            Ok(true) => (),
+            Ok(false) => break,
+            Err(status) => {
+                highest = status;
+                break;
+            }
+        }
+        let mut text = String::new();
+        let status = answer(&mut checker, form, lines.line.request(), &mut text);
+        highest = highest.max(status);
+        if !writer.take(vec![(text, status)]) {
+            break;
+        }
+    }
+    highest.max(writer.finish())
+}
+
+/// Answers lines in several threads, in order.
+fn spread(form: Form, jobs: usize) -> Status {
+    let (read, written) = in_order(
+        jobs,
+        read_pieces,
+        |checker, asked: Result<(Question, Vec<u8>), String>| {
+            let mut text = String::new();
+            let asked = match &asked {
+                Ok((question, table)) => Ok((question.clone(), &table[..])),
+                Err(reason) => Err(reason.clone()),
+            };
+            let status = answer(checker, form, asked, &mut text);
+            (text, status)
+        },
+        Writer::new,
+        Writer::finish,
+    );
+    read.max(written)
+}
+
+type Asked = Result<(Question, Vec<u8>), String>;
+
+/// Gives lines in pieces, and what there is before waiting for more.
+fn read_pieces(giver: &mut Giver<Asked>, is_enough: &AtomicBool) -> Status {
+    let mut lines = Lines::new();
+    let mut piece = Vec::with_capacity(PIECE);
+    while !is_enough.load(Ordering::Relaxed) {
+        match lines.next(|| giver.give(std::mem::take(&mut piece))) {
+            Ok(true) => (),
+            Ok(false) => break,
+            Err(status) => {
+                giver.give(piece);
+                return status;
+            }
+        }
+        let asked = lines.line.request();
+        piece.push(asked.map(|(question, table)| (question, table.to_vec())));
+        if piece.len() == PIECE {
+            giver.give(std::mem::take(&mut piece));
+        }
+    }
+    giver.give(piece);
+    Status::Fine
+}
+
+/// Only a bad line counts for the status, whatever the others' answers.
+fn answer(
+    checker: &mut Checker,
+    form: Form,
+    asked: Result<(Question, &[u8]), String>,
+    text: &mut String,
+) -> Status {
+    match asked {
+        Ok((question, table)) => {
+            judge(checker, &question, table, form, text);
+            Status::Fine
+        }
+        Err(reason) => {
+            append_trouble(text, form, &reason);
+            Status::Trouble
+        }
+    }
+}
+
+/// Standard input line by line.
+struct Lines {
+    input: BufReader<StdinLock<'static>>,
     line: Line,
-    text: String,
+    is_over: bool,
 }
 
-impl Batch {
-    fn new() -> Batch {
-        Batch {
-            checker: Checker::new(),
-            output: Output::new(),
-            progress: Progress::new(),
+impl Lines {
+    fn new() -> Lines {
+        Lines {
+            input: BufReader::with_capacity(1 << 16, io::stdin().lock()),
             line: Line::default(),
-            text: String::new(),
+            is_over: false,
         }
     }
 
-    /// Answers every line until the input ends or nobody reads the answers.
-    fn answer_lines(&mut self) -> Status {
-        let mut input = BufReader::with_capacity(1 << 16, io::stdin().lock());
-        let mut highest = Status::Fine;
-        while !self.output.is_closed() {
-            // Whoever waits for an answer before the next line gets it.
-            if input.buffer().is_empty() {
-                self.output.flush();
+    /// Reads the next line that asks something; false at the end. Before it
+    /// may have to wait, it says so.
+    fn next(&mut self, mut before_wait: impl FnMut()) -> Result<bool, Status> {
+        self.line.clear();
+        while !self.is_over {
+            if self.input.buffer().is_empty() {
+                before_wait();
             }
-            match input.fill_buf() {
-                Ok([]) => return highest.max(self.answer_last_line()),
+            let is_whole = match self.input.fill_buf() {
+                // The last line needs no end.
+                Ok([]) => {
+                    self.is_over = true;
+                    true
+                }
                 Ok(piece) => {
                     let end = piece.iter().position(|letter| *letter == b'\n');
                     let length = end.unwrap_or(piece.len());
                     self.line.push(&piece[..length]);
-                    input.consume(length + usize::from(end.is_some()));
-                    if end.is_some() {
-                        highest = highest.max(self.answer_line());
-                    }
+                    self.input.consume(length + usize::from(end.is_some()));
+                    end.is_some()
                 }
-                Err(error) if error.kind() == ErrorKind::Interrupted => (),
+                Err(error) if error.kind() == ErrorKind::Interrupted => false,
                 Err(error) => {
                     complain(&format!("can't read standard input: {error}"));
-                    return Status::Trouble;
+                    return Err(Status::Trouble);
                 }
+            };
+            if is_whole && !self.line.is_idle() {
+                return Ok(true);
+            }
+            if is_whole {
+                self.line.clear();
             }
         }
-        highest
+        Ok(false)
     }
+}
 
-    /// The last line needs no end.
-    fn answer_last_line(&mut self) -> Status {
-        if self.line.is_empty() {
-            Status::Fine
-        } else {
-            self.answer_line()
+/// Writes answers as they come, and counts them.
+struct Writer {
+    output: Output,
+    progress: Progress,
+    highest: Status,
+}
+
+impl Writer {
+    fn new() -> Writer {
+        Writer {
+            output: Output::new(),
+            progress: Progress::new(),
+            highest: Status::Fine,
         }
     }
 
-    /// Only a bad line counts for the status, whatever the others' answers.
-    fn answer_line(&mut self) -> Status {
-        self.text.clear();
-        let status = match self.line.request() {
-            Ok((question, table)) => {
-                let form = Form::Plain;
-                judge(&mut self.checker, &question, table, form, &mut self.text);
-                Status::Fine
-            }
-            Err(reason) => {
-                append_line(&mut self.text, &format_args!("error {reason}"));
-                Status::Trouble
-            }
-        };
-        self.output.write(self.text.as_bytes());
-        self.progress.count();
-        self.line.clear();
-        status
+    fn finish(self) -> Status {
+        self.progress.finish();
+        self.highest.max(self.output.finish())
+    }
+}
+
+impl Taker<(String, Status)> for Writer {
+    fn take(&mut self, answers: Vec<(String, Status)>) -> bool {
+        for (text, status) in answers {
+            self.output.write(text.as_bytes());
+            self.progress.count();
+            self.highest = self.highest.max(status);
+        }
+        !self.output.is_closed()
+    }
+
+    fn pause(&mut self) {
+        self.output.flush();
     }
 }
 

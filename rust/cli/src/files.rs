@@ -1,74 +1,204 @@
-//! Files, one table each: judged, or told in words and pictures.
+//! Files, one table each: judged, told in words and pictures, or made into
+//! another table.
 
 use crate::arguments::{Request, Task};
+use crate::colour;
+use crate::folder;
 use crate::hex::{Hex, KEPT_BYTES};
-use crate::judge::{judge, Form};
+use crate::input;
+use crate::judge::{append_trouble, judge, Form};
+use crate::make::{hex_line, make};
 use crate::output::{complain, Output};
+use crate::parallel::{in_order, Giver, Taker};
+use crate::summary::{Summary, UNREAD};
 use crate::tell::tell;
 use crate::Status;
-use std::ffi::OsStr;
+use std::ffi::{OsStr, OsString};
 use std::fs::File;
 use std::io::{self, ErrorKind, Read};
+use std::sync::atomic::AtomicBool;
 use stramashly::Checker;
+
+/// So many files go to a thread at once.
+const PIECE: usize = 8;
+
+/// A file's name, or the reason why a directory has none.
+type Named = Result<OsString, (OsString, String)>;
+
+/// What came of a file.
+struct Outcome {
+    name: OsString,
+    status: Status,
+    /// For standard output.
+    bytes: Vec<u8>,
+    /// For standard error.
+    reason: Option<String>,
+}
 
 /// Judges every file, also after one that can't be read and after nobody
 /// reads the answers any more, so that the status is that of them all.
 pub fn run(request: &Request) -> Status {
-    let mut checker = Checker::new();
-    let mut output = Output::new();
-    let mut highest = Status::Fine;
-    for name in &request.names {
-        let (status, reason) = match read(name, request.is_hex) {
-            Ok(table) => answer(request, name, &table, &mut checker, &mut output),
-            Err(reason) => (Status::Trouble, Some(reason)),
-        };
-        if let Some(reason) = reason {
-            // Keeps answers and messages in order on a terminal.
-            output.flush();
-            complain(&format!("{}: {reason}", name.to_string_lossy()));
+    let is_many = request.takes_directories();
+    let names: Vec<Named> = if is_many {
+        folder::expanded(&request.names, request.is_hex)
+    } else {
+        request.names.iter().cloned().map(Ok).collect()
+    };
+    let are_named = request.names.len() > 1 || is_many && folder::has_directory(&request.names);
+    let writer = || Writer::new(request, are_named);
+    if request.jobs == 1 {
+        let mut checker = Checker::new();
+        let mut writer = writer();
+        for name in names {
+            writer.write(outcome(request, are_named, &mut checker, name));
         }
-        highest = highest.max(status);
+        return writer.finish();
     }
-    highest.max(output.finish())
+    let give = |giver: &mut Giver<Named>, _: &AtomicBool| {
+        let mut names = names.into_iter().peekable();
+        while names.peek().is_some() {
+            giver.give(names.by_ref().take(PIECE).collect());
+        }
+    };
+    let work = |checker: &mut Checker, name| outcome(request, are_named, checker, name);
+    in_order(request.jobs, give, work, writer, Writer::finish).1
 }
 
-/// Writes what there is to say of a table; the reason if there is nothing.
+/// Writes outcomes in order, and sums them up.
+struct Writer<'a> {
+    request: &'a Request,
+    are_named: bool,
+    is_coloured: bool,
+    output: Output,
+    summary: Summary,
+    highest: Status,
+}
+
+impl Writer<'_> {
+    fn new(request: &Request, are_named: bool) -> Writer<'_> {
+        Writer {
+            request,
+            are_named,
+            is_coloured: request.may_be_coloured() && colour::is_wanted(),
+            output: Output::new(),
+            summary: Summary::default(),
+            highest: Status::Fine,
+        }
+    }
+
+    fn write(&mut self, outcome: Outcome) {
+        self.highest = self.highest.max(outcome.status);
+        let is_plain = !self.request.is_json;
+        let text = std::str::from_utf8(&outcome.bytes).unwrap_or_default();
+        self.summary
+            .count(if text.is_empty() { UNREAD } else { text });
+        if !outcome.bytes.is_empty() && !self.request.is_quiet {
+            if self.are_named && is_plain {
+                self.output.write(outcome.name.as_encoded_bytes());
+                self.output.write(b": ");
+            }
+            if self.is_coloured {
+                self.output.write(colour::painted(text).as_bytes());
+            } else {
+                self.output.write(&outcome.bytes);
+            }
+        }
+        if let Some(reason) = outcome.reason {
+            // Keeps answers and messages in order on a terminal.
+            self.output.flush();
+            complain(&format!("{}: {reason}", outcome.name.to_string_lossy()));
+        }
+    }
+
+    fn finish(mut self) -> Status {
+        let is_judged = matches!(self.request.task, Task::Judge(_));
+        let is_plain = !self.request.is_json && !self.request.is_quiet;
+        if self.are_named && is_judged && is_plain {
+            self.output.flush();
+            complain(&self.summary.text());
+        }
+        self.highest.max(self.output.finish())
+    }
+}
+
+impl Taker<Outcome> for Writer<'_> {
+    fn take(&mut self, outcomes: Vec<Outcome>) -> bool {
+        outcomes.into_iter().for_each(|outcome| self.write(outcome));
+        true
+    }
+
+    fn pause(&mut self) {
+        self.output.flush();
+    }
+}
+
+/// What there is to say of a file.
+fn outcome(request: &Request, are_named: bool, checker: &mut Checker, name: Named) -> Outcome {
+    let (name, table) = match name {
+        Ok(name) => {
+            let table = read(&name, request.is_hex);
+            (name, table)
+        }
+        Err((name, reason)) => (name, Err(reason)),
+    };
+    // A name that is no text can't be an object's as it is.
+    let file = name.to_string_lossy().into_owned();
+    let form = match request.is_json {
+        true => Form::Json {
+            file: are_named.then_some(&*file),
+        },
+        false => Form::Plain,
+    };
+    let (status, bytes, reason) = match table {
+        Ok(table) => answer(request, form, &table, checker),
+        Err(reason) => {
+            let mut text = String::new();
+            if request.is_json {
+                append_trouble(&mut text, form, &reason);
+            }
+            (Status::Trouble, text.into_bytes(), Some(reason))
+        }
+    };
+    Outcome {
+        name,
+        status,
+        bytes,
+        reason,
+    }
+}
+
+/// The answer, and what is told besides.
 fn answer(
     request: &Request,
-    name: &OsStr,
+    form: Form,
     table: &[u8],
     checker: &mut Checker,
-    output: &mut Output,
-) -> (Status, Option<String>) {
+) -> (Status, Vec<u8>, Option<String>) {
     let mut text = String::new();
-    let is_one_of_several = request.names.len() > 1;
-    // A name that is no text can't be an object's as it is.
-    let file = name.to_string_lossy();
-    let form = if request.is_json {
-        let file = is_one_of_several.then_some(&*file);
-        Form::Json { file }
-    } else {
-        Form::Plain
-    };
-    let status = match &request.task {
-        Task::Judge(question) => judge(checker, question, table, form, &mut text),
+    match &request.task {
+        Task::Judge(question) => {
+            let status = judge(checker, question, table, form, &mut text);
+            (status, text.into_bytes(), None)
+        }
         Task::Tell(telling) => match tell(checker, *telling, table, &mut text) {
-            Ok(status) => status,
-            Err(reason) => return (Status::Refused, Some(reason)),
+            Ok(status) => (status, text.into_bytes(), None),
+            Err(reason) => (Status::Refused, Vec::new(), Some(reason)),
         },
-    };
-    if is_one_of_several && !request.is_json {
-        output.write(name.as_encoded_bytes());
-        output.write(b": ");
+        Task::Make(making) => match make(checker, making, table) {
+            Ok(made) if request.is_hex => {
+                (made.status, hex_line(&made.table).into_bytes(), made.told)
+            }
+            Ok(made) => (made.status, made.table, made.told),
+            Err((status, reason)) => (status, Vec::new(), Some(reason)),
+        },
     }
-    output.write(text.as_bytes());
-    (status, None)
 }
 
 /// A file's table, cut off where its refusal is sure.
 fn read(name: &OsStr, is_hex: bool) -> Result<Vec<u8>, String> {
     let text = |error: io::Error| error.to_string();
     if name == "-" {
+        input::trouble()?;
         read_from(io::stdin().lock(), is_hex)
     } else {
         read_from(File::open(name).map_err(text)?, is_hex)

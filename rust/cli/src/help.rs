@@ -1,30 +1,68 @@
 //! What `--help` prints.
 
+/// The lines of a command, if there is one of that name.
+pub fn of(name: &str) -> Option<String> {
+    let (_, usage) = TEXT.split_once("usage:\n")?;
+    let (usage, _) = usage.split_once("\n\n")?;
+    let begin = format!("  stramashly {name} ");
+    let mut text = String::new();
+    let mut is_ours = false;
+    for line in usage.lines() {
+        // A command's further lines are further in.
+        if !line.starts_with("      ") {
+            is_ours = line.starts_with(&begin);
+        }
+        if is_ours {
+            text += line;
+            text.push('\n');
+        }
+    }
+    (!text.is_empty()).then_some(text)
+}
+
 pub const TEXT: &str = "\
 stramashly: a race checker for recorded runs of a graphics device
 
 usage:
   stramashly check [--hex] FILE...    judge each table
   stramashly fill [--hex] FILE...     decide the blank sources of each table
+  stramashly fill --table [--hex] FILE
+                                      the table with its blanks filled
   stramashly report [--hex] FILE...   count each table's conflicting pairs of rows
   stramashly derive [--hex] FILE M N  why moment M happens before moment N
+  stramashly derive --words [--hex] FILE M N
+                                      the same in sentences, or what is missing
   stramashly accepts [--hex] FILE M N program-order
   stramashly accepts [--hex] FILE M N S STEP...
                                       whether that is a reason why M happens before N
   stramashly show [--hex] FILE...     each table in words, a line for each row
   stramashly explain [--hex] FILE...  each table's answer in sentences: what is missing, what to change
-  stramashly explain --html FILE      the same as a page, with the table and the picture
-  stramashly draw [--hex] FILE        the run as a picture (SVG)
-  stramashly batch                    lines on standard input: `check HEX`, `fill HEX`,
+  stramashly explain --html [--all] [--hex] FILE
+                                      the same as a page, with the table and the picture
+  stramashly draw [--all] [--hex] FILE
+                                      the run as a picture (SVG); of a large run the rows that
+                                      matter, or --all
+  stramashly edit [--hex] FILE EDIT...
+                                      the table with changes made, as explain names them
+  stramashly batch [--json] [-j N]    lines on standard input: `check HEX`, `fill HEX`,
                                       `report HEX`, `derive HEX M N`, `accepts HEX M N ...`
+  stramashly help [COMMAND]           this text, or a command's lines
   stramashly --help | --version
 
-FILE `-` is standard input. With --hex a file holds hex digits; white space is ignored.
-`--` ends the options, for names that begin with a dash. With --json each answer of check,
-fill, report, derive and accepts is an object.
+FILE `-` is standard input; a directory stands for the files in it and below it that end in
+.table, or in .hex with --hex. With --hex a file holds hex digits, and a new table is written
+in them; white space is ignored. `--` ends the options, for names that begin with a dash. With
+--json each answer of check, fill, report, derive, accepts and batch is an object. With --quiet
+these print no answers: the exit status has it. -j N works in N threads, answers in order. An
+answer is coloured on a terminal unless NO_COLOR is set. Of several files a last line on
+standard error says how many had which answer.
 
-A moment is 3 times its row, plus 0, 1 or 2: before it, the row itself, after it. S is a class
-set, 1 to 15: the sum of 1 Uniform, 2 Workgroup, 4 Image, 8 Output. A STEP is 512 times its
+An EDIT is `row R FIELD VALUE` or `insert R FIELD VALUE ...`, several with `;` between them:
+kind, agent, order, scope, classes, flags, class, length, start, reference, source, rank. A new
+row has place R, and the rows from there on move on by one, sources with them.
+
+A moment is 3 times its row, plus 0, 1 or 2: before it, the row itself, after it; or R.before,
+R.at, R.after. S is a class set, 1 to 15: the sum of 1 Uniform, 2 Workgroup, 4 Image, 8 Output. A STEP is 512 times its
 case, 1 to 3, plus the moment that it reaches: 1 synchronizes-with, 2 to a release, 3 from an
 acquire. Where M and N aren't two moments of the table, the answer is `refused 12 0`.
 
@@ -58,6 +96,7 @@ as objects, in the same order:
   {\"verdict\":\"not-before\"}
   {\"verdict\":\"accepted\"}
   {\"verdict\":\"not-accepted\"}
+  {\"verdict\":\"error\",\"reason\":REASON}, of a file that can't be read and of a bad line
 If there are several files, \"file\" comes first, the file's name.
 
 exit status, of several files the highest:
@@ -68,8 +107,12 @@ exit status, of several files the highest:
 explain begins with the line of check and has its exit status. show and draw have 0, or 3
 for a refused table: show then tells what can be read, draw has no picture.
 
-batch answers every line, in order. A bad line is answered `error` and a reason; the next
-line is read all the same. Its exit status is 0, or 4 if a line was bad.
+edit has 0, or 3 if the new table is refused, and fill --table has fill's statuses: where there
+is nothing to write, the answer is told on standard error.
+
+batch answers every line, in order; blank lines and those that begin with # have no answer. A
+bad line is answered `error` and a reason; the next line is read all the same. Its exit status
+is 0, or 4 if a line was bad.
 
 examples:
   stramashly check examples/leak.table
@@ -77,7 +120,9 @@ examples:
   stramashly report examples/leak.table
   stramashly derive examples/p.table 3 8
   stramashly accepts examples/p.table 3 8 1 1028 519 1544
+  stramashly derive --words examples/p.table 1.before 2.after
   stramashly explain examples/leak.table
+  stramashly edit examples/leak.table 'row 2 flags 3' | stramashly check -
   stramashly draw examples/leak.table > run.svg
   xxd -p examples/leak.table | stramashly check --hex -
   echo 'check 0000000401000000' | stramashly batch

@@ -45,7 +45,8 @@ pub struct Hex {
 #[derive(Clone, Copy, Debug, PartialEq, Eq)]
 pub enum Bad {
     OddDigits,
-    /// A letter that is no digit, and how many letters came before it.
+    /// A letter that is no digit, and how many letters of the file, or of the
+    /// line, came before it.
     Letter(u8, u64),
 }
 
@@ -55,6 +56,11 @@ impl Hex {
         self.half = None;
         self.letters = 0;
         self.bad = None;
+    }
+
+    /// Counts letters that stand before the digits and aren't looked at.
+    pub fn skip(&mut self, letters: usize) {
+        self.letters += letters as u64;
     }
 
     pub fn push(&mut self, letters: &[u8]) {

@@ -43,6 +43,22 @@ pub fn judge(
     }
 }
 
+/// Appends why there is no answer.
+pub fn append_trouble(text: &mut String, form: Form, reason: &str) {
+    match form {
+        Form::Plain => append_line(text, &format_args!("error {reason}")),
+        Form::Json { file } => {
+            let mut object = Object::default();
+            if let Some(file) = file {
+                object.text("file", file);
+            }
+            object.text("verdict", "error");
+            object.text("reason", reason);
+            append_line(text, &object);
+        }
+    }
+}
+
 fn append(text: &mut String, form: Form, answer: &dyn Answer) -> Status {
     match form {
         Form::Plain => append_line(text, &answer),
@@ -58,7 +74,7 @@ fn append(text: &mut String, form: Form, answer: &dyn Answer) -> Status {
     answer.status()
 }
 
-pub fn append_line(text: &mut String, shown: &dyn Display) {
+fn append_line(text: &mut String, shown: &dyn Display) {
     // Writing to a string can't fail.
     let _ = writeln!(text, "{shown}");
 }

@@ -5,9 +5,12 @@ use crate::question::{is_number, Kind, Question};
 use stramashly::CHAIN_NUMBERS;
 
 /// A command, a table's hex digits and, for some commands, further words.
-/// These need the digits without white space; else it is ignored.
+/// These need the digits without white space; else it is ignored. A line of
+/// white space and one that begins with `#` ask nothing.
 #[derive(Default)]
 pub struct Line {
+    has_letters: bool,
+    is_comment: bool,
     command: Vec<u8>,
     is_command_over: bool,
     digits: Hex,
@@ -21,6 +24,10 @@ impl Line {
     const LONGEST_COMMAND: usize = 8;
 
     pub fn push(&mut self, piece: &[u8]) {
+        let piece = self.push_margin(piece);
+        if self.is_comment {
+            return;
+        }
         let piece = self.push_command(piece);
         if Kind::named(&self.command).is_some_and(Kind::takes_words) {
             let piece = self.push_digits(piece);
@@ -30,9 +37,23 @@ impl Line {
         }
     }
 
+    /// Takes the white space before the first letter, and gives the rest.
+    fn push_margin<'a>(&mut self, piece: &'a [u8]) -> &'a [u8] {
+        if self.has_letters {
+            return piece;
+        }
+        let is_letter = |letter: &u8| !letter.is_ascii_whitespace();
+        let begin = piece.iter().position(is_letter);
+        self.digits.skip(begin.unwrap_or(piece.len()));
+        let rest = &piece[begin.unwrap_or(piece.len())..];
+        self.has_letters = begin.is_some();
+        self.is_comment = rest.first() == Some(&b'#');
+        rest
+    }
+
     /// Takes what belongs to the command, and gives the rest.
     fn push_command<'a>(&mut self, piece: &'a [u8]) -> &'a [u8] {
-        if self.is_command_over {
+        if self.is_command_over || piece.is_empty() {
             return piece;
         }
         let end = piece.iter().position(u8::is_ascii_whitespace);
@@ -40,6 +61,7 @@ impl Line {
         let room = Line::LONGEST_COMMAND - self.command.len();
         self.command.extend(&command[..command.len().min(room)]);
         self.is_command_over = end.is_some();
+        self.digits.skip(command.len());
         rest
     }
 
@@ -62,11 +84,14 @@ impl Line {
         &piece[end..]
     }
 
-    pub fn is_empty(&self) -> bool {
-        self.command.is_empty() && !self.is_command_over
+    /// Whether nothing is asked.
+    pub fn is_idle(&self) -> bool {
+        self.is_comment || !self.has_letters
     }
 
     pub fn clear(&mut self) {
+        self.has_letters = false;
+        self.is_comment = false;
         self.command.clear();
         self.is_command_over = false;
         self.digits.clear();
@@ -160,6 +185,40 @@ mod tests {
         }
         let letters: Vec<&str> = line.split("").collect();
         assert_eq!(asked(&letters), expected);
+    }
+
+    #[test]
+    fn blank_lines_and_comments_ask_nothing() {
+        for pieces in [
+            &[""][..],
+            &[" \t", "\r"],
+            &["# check 00"],
+            &["  ", "#", " x"],
+            &["#"],
+        ] {
+            let mut line = Line::default();
+            pieces.iter().for_each(|piece| line.push(piece.as_bytes()));
+            assert!(line.is_idle(), "{pieces:?}");
+            line.clear();
+            line.push(b" check 00");
+            assert!(!line.is_idle());
+            assert!(line.request().is_ok());
+        }
+    }
+
+    #[test]
+    fn places_are_those_of_the_line() {
+        for (pieces, place) in [
+            (&["check 0G"][..], 7),
+            (&["  ch", "eck", " 0", "G"], 9),
+            (&["derive 0G 1 2"], 8),
+        ] {
+            let reason = asked(pieces).unwrap_err();
+            assert!(
+                reason.contains(&format!("'G' at place {place} ")),
+                "{reason}"
+            );
+        }
     }
 
     #[test]

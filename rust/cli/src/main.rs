@@ -3,14 +3,20 @@
 mod answers;
 mod arguments;
 mod batch;
+mod colour;
 mod files;
+mod folder;
 mod help;
 mod hex;
+mod input;
 mod json;
 mod judge;
 mod line;
+mod make;
 mod output;
+mod parallel;
 mod question;
+mod summary;
 mod tell;
 
 use arguments::Command;
@@ -33,7 +39,8 @@ fn main() -> ExitCode {
         Ok(Command::Help) => print(help::TEXT),
         Ok(Command::Version) => print(concat!("stramashly ", env!("CARGO_PKG_VERSION"), "\n")),
         Ok(Command::Files(request)) => files::run(&request),
-        Ok(Command::Batch) => batch::run(),
+        Ok(Command::HelpOf(name)) => print(&help::of(&name).unwrap_or_default()),
+        Ok(Command::Batch { is_json, jobs }) => batch::run(is_json, jobs),
         Err(reason) => {
             complain(&format!("{reason}; try `stramashly --help`"));
             Status::Trouble

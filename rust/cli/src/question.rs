@@ -89,21 +89,35 @@ impl Kind {
             Kind::Report => Ok(Question::Report),
             Kind::Derive => match words {
                 [first, second] => Ok(Question::Derive {
-                    first: number(first, u16::MAX)?,
-                    second: number(second, u16::MAX)?,
+                    first: moment(first)?,
+                    second: moment(second)?,
                 }),
                 _ => Err("derive takes one table and two moments".to_string()),
             },
             Kind::Accepts => match words {
                 [first, second, claim @ ..] => Ok(Question::Accepts {
-                    first: number(first, u16::MAX)?,
-                    second: number(second, u16::MAX)?,
+                    first: moment(first)?,
+                    second: moment(second)?,
                     claim: Claim::of(claim)?,
                 }),
                 _ => Err("accepts takes one table, two moments and a derivation".to_string()),
             },
         }
     }
+}
+
+/// A moment as its number, or as its row and `before`, `at` or `after`.
+fn moment(word: &str) -> Result<u16, String> {
+    let Some((row, place)) = word.split_once('.') else {
+        return number(word, u16::MAX);
+    };
+    let places = ["before", "at", "after"];
+    let place = places.iter().position(|other| *other == place);
+    let place =
+        place.ok_or_else(|| format!("{word:?} is no moment like 1.before, 1.at or 1.after"))?;
+    let row: u16 = number(row, u16::MAX)?;
+    let moment = u32::from(row) * 3 + place as u32;
+    u16::try_from(moment).map_err(|_| format!("{word:?} is a moment of no row"))
 }
 
 /// Digits only, and so few that none can be cut off unseen.
@@ -151,6 +165,15 @@ mod tests {
             second: 65535,
         };
         assert_eq!(asked(Kind::Derive, "0 65535"), Ok(derive));
+        let named = Question::Derive {
+            first: 3,
+            second: 8,
+        };
+        assert_eq!(asked(Kind::Derive, "1.before 2.after"), Ok(named));
+        assert_eq!(
+            asked(Kind::Accepts, "0.at 1.at program-order"),
+            accepts(1, 4, Claim::ProgramOrder)
+        );
         assert_eq!(
             asked(Kind::Accepts, "1 4 program-order"),
             accepts(1, 4, Claim::ProgramOrder)
@@ -174,6 +197,9 @@ mod tests {
             (Kind::Derive, "1 65536", "\"65536\""),
             (Kind::Derive, "x 2", "\"x\""),
             (Kind::Derive, "+1 2", "\"+1\""),
+            (Kind::Derive, "1.during 2", "1.before"),
+            (Kind::Derive, ".at 2", "\"\""),
+            (Kind::Derive, "1 21845.at", "no row"),
             (Kind::Derive, "1 000002", "\"000002\""),
             (Kind::Accepts, "1", "two moments"),
             (Kind::Accepts, "1 2", "a derivation"),

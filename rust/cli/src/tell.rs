@@ -1,8 +1,8 @@
 //! One table told in words or as a picture, and the status that goes with it.
 
 use crate::Status;
-use stramashly::Checker;
-use words::{draw, explain, page, refusal, show, Explanation, Shown};
+use stramashly::{Checker, DeriveAnswer};
+use words::{draw, explain, page, refusal, show, why, Explanation, Shown};
 
 /// How a table is told.
 #[derive(Clone, Copy, Debug, PartialEq, Eq)]
@@ -10,8 +10,19 @@ pub enum Telling {
     Show,
     Explain,
     /// An explanation as a page.
-    Page,
-    Draw,
+    Page {
+        is_all: bool,
+    },
+    /// A picture; of a large run it has the rows that matter, unless all are
+    /// wanted.
+    Draw {
+        is_all: bool,
+    },
+    /// Why one moment happens before another.
+    Why {
+        first: u16,
+        second: u16,
+    },
 }
 
 /// Appends the words or the picture to the text; the reason if a refused
@@ -34,13 +45,21 @@ pub fn tell(
             *text += &explanation.text();
             Ok(status(&explanation))
         }
-        Telling::Page => {
+        Telling::Page { is_all } => {
             let explanation = explain(table, checker);
-            *text += &page(table, &explanation);
+            *text += &page(table, &explanation, is_all);
             Ok(status(&explanation))
         }
-        Telling::Draw => {
-            let picture = draw(table, checker);
+        Telling::Why { first, second } => {
+            *text += &why(table, first, second, checker);
+            Ok(match checker.derive(table, first, second) {
+                DeriveAnswer::Derivation(_) => Status::Fine,
+                DeriveAnswer::NotBefore => Status::No,
+                DeriveAnswer::Refused { .. } => Status::Refused,
+            })
+        }
+        Telling::Draw { is_all } => {
+            let picture = draw(table, checker, is_all);
             *text += &picture.map_err(|answer| format!("{answer}; there is no picture"))?;
             Ok(Status::Fine)
         }

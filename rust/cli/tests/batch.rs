@@ -68,17 +68,60 @@ fn generated_lines_have_the_second_implementation_s_answers() {
 fn bad_lines_are_answered_and_the_stream_goes_on() {
     let digits: String = P.split_whitespace().collect();
     let input = format!(
-        "guess 00\n\n check 00\nchecks 00\ncheckfill 00\ncheck 0\ncheck 0G\nfill \u{e4}\n\
-         check {digits}\n"
+        "guess 00\nchecks 00\ncheckfill 00\ncheck 0\ncheck 0G\nfill \u{e4}\n check {digits}\n"
     );
-    let answers = "error none of check, fill, report, derive and accepts\nerror none of check, fill, report, derive and accepts\n\
-         error none of check, fill, report, derive and accepts\nerror none of check, fill, report, derive and accepts\n\
+    let answers = "error none of check, fill, report, derive and accepts\n\
+         error none of check, fill, report, derive and accepts\n\
          error none of check, fill, report, derive and accepts\nerror odd count of hex digits\n\
-         error 'G' at place 2 is no hex digit\nerror byte 0xC3 at place 1 is no hex digit\n\
+         error 'G' at place 7 is no hex digit\nerror byte 0xC3 at place 5 is no hex digit\n\
          race-free\n";
-    let answer = stramashly(&["batch"], input.as_bytes());
-    assert_eq!(answer.output, answers);
-    assert_eq!((answer.messages.as_str(), answer.status), ("", Some(4)));
+    for words in [&["batch"][..], &["batch", "-j", "2"]] {
+        let answer = stramashly(words, input.as_bytes());
+        assert_eq!(answer.output, answers);
+        assert_eq!((answer.messages.as_str(), answer.status), ("", Some(4)));
+    }
+    // The same as objects.
+    let answer = stramashly(&["batch", "--json"], input.as_bytes());
+    let objects: String = answers
+        .lines()
+        .map(|line| match line.strip_prefix("error ") {
+            Some(reason) => format!("{{\"verdict\":\"error\",\"reason\":\"{reason}\"}}\n"),
+            None => format!("{{\"verdict\":\"{line}\"}}\n"),
+        })
+        .collect();
+    assert_eq!((answer.output, answer.status), (objects, Some(4)));
+}
+
+#[test]
+fn blank_lines_and_comments_have_no_answers() {
+    let input = "\n# a comment\n  \t\r\n  # check 00\ncheck 00\n\n#\nfill 00\n#";
+    for words in [&["batch"][..], &["batch", "-j3"]] {
+        let answer = stramashly(words, input.as_bytes());
+        assert_eq!(answer.output, "refused 1 0\nrefused 1 0\n");
+        assert_eq!((answer.messages.as_str(), answer.status), ("", Some(0)));
+    }
+}
+
+/// Many threads give the answers of one, in the same order.
+#[test]
+fn threads_keep_the_order() {
+    let mut random = Random::new(402);
+    let mut input = String::new();
+    for _ in 0..1500 {
+        let size = Size { least: 2, most: 20 };
+        let digits = hex(&checkable(&mut random, size).bytes());
+        input += &format!("check {digits}\nreport {digits}\nnonsense\n");
+    }
+    for form in [None, Some("--json")] {
+        let mut words = vec!["batch"];
+        words.extend(form);
+        let one = stramashly(&words, input.as_bytes());
+        words.extend(["-j", "4"]);
+        let four = stramashly(&words, input.as_bytes());
+        assert_eq!(one.output.lines().count(), 4500);
+        assert!(one == four);
+        assert_eq!(one.status, Some(4));
+    }
 }
 
 #[test]
@@ -90,7 +133,7 @@ fn no_lines_have_no_answers() {
 #[test]
 fn long_lines_have_the_refusal_that_they_deserve() {
     let mut input = format!("check 0000000401000000{}\n", "00".repeat(200_000)).into_bytes();
-    input.extend(format!("check 0000000402000000{}\n", "00".repeat(200_000)).bytes());
+    input.extend(format!("check 0000000403000000{}\n", "00".repeat(200_000)).bytes());
     input.extend(format!("check {}\n", "0".repeat(300_001)).bytes());
     input.extend([b'x'; 300_000]);
     input.extend(b"\nfill 0000000401000000\n");
@@ -102,7 +145,12 @@ fn long_lines_have_the_refusal_that_they_deserve() {
 
 #[test]
 fn an_answer_comes_before_the_next_line_is_written() {
-    let mut program = program_in(&scratch(), &["batch"]).spawn().unwrap();
+    ask_one_by_one(&["batch"]);
+    ask_one_by_one(&["batch", "-j", "2"]);
+}
+
+fn ask_one_by_one(words: &[&str]) {
+    let mut program = program_in(&scratch(), words).spawn().unwrap();
     let mut stdin = program.stdin.take().unwrap();
     let mut stdout = BufReader::new(program.stdout.take().unwrap());
     for _ in 0..3 {
@@ -134,7 +182,12 @@ fn nothing_is_lost_of_many_lines() {
 
 #[test]
 fn a_closed_pipe_ends_it_quietly() {
-    let mut program = program_in(&scratch(), &["batch"]).spawn().unwrap();
+    close_early(&["batch"]);
+    close_early(&["batch", "-j", "2"]);
+}
+
+fn close_early(words: &[&str]) {
+    let mut program = program_in(&scratch(), words).spawn().unwrap();
     let mut stdin = program.stdin.take().unwrap();
     let mut stdout = BufReader::new(program.stdout.take().unwrap());
     stdin.write_all(b"check 0000000401000000\n").unwrap();

@@ -41,7 +41,7 @@ fn each_answer_has_its_status() {
 
 #[test]
 fn over_long_derivations_are_read() {
-    for (count, status) in [(191, 1), (192, 1), (5000, 1)] {
+    for (count, status) in [(383, 1), (384, 1), (5000, 1)] {
         let steps = vec!["519"; count].join(" ");
         let line = format!("accepts 3 8 1 {steps}");
         assert_eq!(of_p(&line), ("not-accepted\n".to_string(), Some(status)));
@@ -140,6 +140,8 @@ fn what_is_derived_is_accepted() {
         let moments = 3 * state.row_count() as u16;
         let pairs: Vec<(u16, u16)> = (0..moments)
             .flat_map(|first| (0..moments).map(move |second| (first, second)))
+            // Who meets in a control barrier comes before itself, which nobody asks for.
+            .filter(|(first, second)| first != second)
             .filter(|(first, second)| state.happens_before((*first).into(), (*second).into()))
             .collect();
         let asked = |(first, second): &(u16, u16)| format!("derive {digits} {first} {second}\n");

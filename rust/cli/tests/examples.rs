@@ -97,9 +97,25 @@ fn the_front_page_is_right() {
                 .iter()
                 .take_while(|line| !line.is_empty() && !line.starts_with("    $ "));
             let shown: String = below.map(|line| format!("{}\n", &line[4..])).collect();
-            assert_eq!(answer.output, shown, "{command}");
+            let output = if shown.contains(SHADERS[0]) {
+                answer.output
+            } else {
+                without_shaders(&answer.output)
+            };
+            assert_eq!(output, shown, "{command}");
             commands += 1;
         }
     }
-    assert_eq!(commands, 17);
+    assert!(commands >= 17, "{commands}");
+}
+
+/// How the lines begin that put a change into a shader's words; the front
+/// page may leave them out.
+const SHADERS: [&str; 2] = ["     GLSL: ", "     SPIR-V: "];
+
+fn without_shaders(output: &str) -> String {
+    let lines = output.split_inclusive('\n');
+    lines
+        .filter(|line| !SHADERS.iter().any(|begin| line.starts_with(begin)))
+        .collect()
 }

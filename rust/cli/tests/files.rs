@@ -5,7 +5,7 @@ mod common;
 use common::*;
 use std::fs::{self, File, OpenOptions};
 use std::io::Read;
-use std::process::Stdio;
+use std::process::{Command, Stdio};
 use tables::{hex, Random, Row, Table};
 
 fn good(output: &str, status: i32) -> Answer {
@@ -66,21 +66,98 @@ fn several_files_have_their_names_and_the_highest_status() {
     let missing = scratch().join("several-missing");
     let missing = missing.to_str().unwrap();
     let lines = format!("{clean}: race-free\n{cyclic}: cycle 2 rows 0 3 edges 1 4\n");
+    let summed = |output: &str, status, summary: &str| Answer {
+        messages: format!("stramashly: {summary}\n"),
+        ..good(output, status)
+    };
     assert_eq!(
         stramashly(&["check", &clean, &cyclic], b""),
-        good(&lines, 2)
+        summed(&lines, 2, "2 files: 1 race-free, 1 cycle")
     );
     let with_input = format!("-: refused 1 0\n{lines}");
     assert_eq!(
         stramashly(&["check", "-", &clean, &cyclic], b"short"),
-        good(&with_input, 3)
+        summed(&with_input, 3, "3 files: 1 race-free, 1 cycle, 1 refused")
+    );
+    // Quiet: the status alone.
+    let quiet = stramashly(&["check", "--quiet", "-", &clean, &cyclic], b"short");
+    assert_eq!(quiet, good("", 3));
+    // In several threads the same, in order.
+    let mut words = vec!["check", "-j", "3"];
+    words.extend([clean.as_str(), cyclic.as_str()].repeat(40));
+    let answer = stramashly(&words, b"");
+    assert_eq!(answer.output, lines.repeat(40));
+    let summary = "stramashly: 80 files: 40 race-free, 40 cycle\n";
+    assert_eq!(
+        (answer.messages.as_str(), answer.status),
+        (summary, Some(2))
     );
     // A file that is gone costs the others nothing.
     let answer = stramashly(&["check", &clean, missing, &cyclic], b"");
     assert_eq!(answer.output, lines);
     assert_eq!(answer.status, Some(4));
     assert!(answer.messages.contains(missing), "{}", answer.messages);
+    let summary = "3 files: 1 race-free, 1 cycle, 1 can't be read";
+    let lines: Vec<&str> = answer.messages.lines().collect();
+    assert_eq!(lines[1..], [format!("stramashly: {summary}")]);
+}
+
+/// A directory stands for its tables, by name, those below it too.
+#[test]
+fn a_directory_stands_for_its_tables() {
+    let folder = scratch().join("tables-of-a-directory");
+    let _ = fs::remove_dir_all(&folder);
+    fs::create_dir_all(folder.join("below")).unwrap();
+    fs::create_dir_all(folder.join(".hidden")).unwrap();
+    for (name, bytes) in [
+        ("b.table", from_hex(P)),
+        ("a.table", from_hex(&p_ending("FFFF0000"))),
+        ("below/c.table", b"short".to_vec()),
+        ("below/d.hex", P.as_bytes().to_vec()),
+        (".hidden/e.table", from_hex(P)),
+        ("notes.txt", b"no table".to_vec()),
+    ] {
+        fs::write(folder.join(name), bytes).unwrap();
+    }
+    for jobs in ["1", "4"] {
+        let words = ["check", "-j", jobs, "tables-of-a-directory"];
+        let answer = stramashly(&words, b"");
+        assert_eq!(
+            answer.output,
+            "tables-of-a-directory/a.table: cycle 2 rows 0 3 edges 1 4\n\
+             tables-of-a-directory/b.table: race-free\n\
+             tables-of-a-directory/below/c.table: refused 1 0\n"
+        );
+        assert_eq!(answer.status, Some(3));
+    }
+    // Names are told although there is only one.
+    let answer = stramashly(&["check", "--hex", "--json", "tables-of-a-directory"], b"");
+    let object = r#"{"file":"tables-of-a-directory/below/d.hex","verdict":"race-free"}"#;
+    assert_eq!(answer.output, format!("{object}\n"));
+    let answer = stramashly(&["draw", "tables-of-a-directory"], b"");
+    assert_eq!((answer.output.as_str(), answer.status), ("", Some(4)));
+    assert!(answer.messages.contains("directory"), "{}", answer.messages);
+}
+
+/// In objects a file that can't be read has its own.
+#[test]
+fn an_unreadable_file_has_an_object() {
+    let clean = file("object-clean", &from_hex(P));
+    let answer = stramashly(&["check", "--json", &clean, "no-such-file"], b"");
+    let lines: Vec<&str> = answer.output.lines().collect();
+    assert_eq!(lines.len(), 2);
+    let begin = r#"{"file":"no-such-file","verdict":"error","reason":"No such file"#;
+    assert!(lines[1].starts_with(begin), "{}", lines[1]);
+    assert_eq!(answer.status, Some(4));
     assert_eq!(answer.messages.lines().count(), 1);
+}
+
+/// What goes to a file or a pipe has no colour.
+#[test]
+fn there_is_no_colour_in_a_pipe() {
+    let clean = file("plain-clean", &from_hex(P));
+    let answer = stramashly(&["check", &clean], b"");
+    assert_eq!(answer.output, "race-free\n");
 }
 
 #[test]
@@ -96,11 +173,13 @@ fn an_empty_file_is_refused() {
 }
 
 #[test]
-fn a_directory_is_told() {
-    let folder = scratch();
+fn a_directory_without_tables_is_told() {
+    let folder = scratch().join("directory-without-tables");
+    fs::create_dir_all(&folder).unwrap();
     for words in [
         ["check", folder.to_str().unwrap()].as_slice(),
         &["check", "--hex", folder.to_str().unwrap()],
+        &["derive", folder.to_str().unwrap(), "0", "1"],
     ] {
         let answer = stramashly(words, b"");
         assert_eq!((answer.output.as_str(), answer.status), ("", Some(4)));
@@ -142,6 +221,21 @@ fn help_and_version() {
     assert_eq!((help.messages.as_str(), help.status), ("", Some(0)));
     assert!(help.output.contains("stramashly check examples/leak.table"));
     assert_eq!(stramashly(&["check", "--help"], b""), help);
+    assert_eq!(stramashly(&["help"], b""), help);
+    let fill = stramashly(&["help", "fill"], b"");
+    assert_eq!(fill.output.lines().count(), 3, "{}", fill.output);
+    assert!(fill.output.contains("stramashly fill --table"));
+    // Every command has its lines.
+    for name in [
+        "check", "fill", "report", "derive", "accepts", "show", "explain", "draw", "edit", "batch",
+        "help",
+    ] {
+        let of_name = stramashly(&["help", name], b"");
+        assert!(
+            of_name.output.contains(name) && of_name.status == Some(0),
+            "{name}"
+        );
+    }
     let version = format!("stramashly {}\n", env!("CARGO_PKG_VERSION"));
     assert_eq!(stramashly(&["--version"], b""), good(&version, 0));
 }
@@ -150,8 +244,8 @@ fn help_and_version() {
 /// between refusals 2, 3 and 4, however long the file.
 #[test]
 fn a_longer_file_has_the_refusal_that_it_deserves() {
-    let agents: Vec<[u16; 3]> = (0..16).map(|agent| [0, 0, agent]).collect();
-    let rows = [Row::write(0); 64];
+    let agents: Vec<[u16; 3]> = (0..32).map(|agent| [0, 0, agent]).collect();
+    let rows = [Row::write(0); 128];
     let largest = Table::new(&agents, &rows).bytes();
     assert_eq!(
         stramashly(&["check", "-"], &largest),
@@ -163,10 +257,10 @@ fn a_longer_file_has_the_refusal_that_it_deserves() {
         let digits = hex(&longer);
         for (place, byte, answer) in [
             (0, 0, "refused 4 0\n"),
-            (4, 2, "refused 2 0\n"),
+            (4, 3, "refused 2 0\n"),
             (7, 1, "refused 2 0\n"),
-            (5, 17, "refused 3 0\n"),
-            (6, 65, "refused 3 0\n"),
+            (5, 33, "refused 3 0\n"),
+            (6, 129, "refused 3 0\n"),
         ] {
             let mut changed = longer.clone();
             changed[place] = byte;
@@ -240,7 +334,10 @@ fn a_closed_pipe_is_quiet_and_keeps_the_status() {
     let mut messages = String::new();
     let mut stderr = program.stderr.take().unwrap();
     stderr.read_to_string(&mut messages).unwrap();
-    assert_eq!(messages, "");
+    assert_eq!(
+        messages,
+        "stramashly: 2001 files: 2000 race-free, 1 cycle\n"
+    );
     assert_eq!(program.wait().unwrap().code(), Some(2));
 }
 
@@ -266,4 +363,33 @@ fn closed_standard_error_is_no_panic() {
         .output()
         .unwrap();
     assert_eq!(output.status.code(), Some(4));
+}
+
+/// Nothing is judged where there is nothing to read from, which isn't the
+/// same as an empty file.
+#[test]
+fn closed_standard_input_is_told() {
+    for words in [
+        "check -",
+        "check --hex -",
+        "fill -",
+        "explain -",
+        "draw -",
+        "batch",
+    ] {
+        let script = format!("\"$0\" {words} <&-");
+        let output = Command::new("sh")
+            .args(["-c", &script, env!("CARGO_BIN_EXE_stramashly")])
+            .output()
+            .unwrap();
+        assert_eq!(output.status.code(), Some(4), "{words}");
+        assert_eq!(output.stdout, b"", "{words}");
+        let messages = String::from_utf8(output.stderr).unwrap();
+        assert!(messages.contains("standard input is closed"), "{messages}");
+    }
+    let output = program_in(&scratch(), &["check", "-"])
+        .stdin(Stdio::null())
+        .output()
+        .unwrap();
+    assert_eq!(output.stdout, b"refused 1 0\n");
 }

@@ -113,11 +113,12 @@ fn several_files_have_their_names() {
     let answer = stramashly(&words, b"");
     let expected = [
         r#"{"file":"json \"odd\\\u000a\u0001ä.table","verdict":"race-free"}"#,
+        r#"{"file":"no-such-file","verdict":"error","reason":"No such file or directory (os error 2)"}"#,
         r#"{"file":"json-plain.table","verdict":"race","first":0,"second":4,"byte":0}"#,
     ];
     let lines: Vec<&str> = answer.output.lines().collect();
     assert_eq!(lines, expected);
-    // What can't be read is told as ever.
+    // What can't be read is told on standard error too.
     assert_eq!(answer.status, Some(4));
     assert!(answer.messages.contains("no-such-file"));
 }
@@ -128,7 +129,7 @@ fn bad_usage_is_told() {
         ["show", "--json", "a"].as_slice(),
         &["explain", "--json", "a"],
         &["draw", "--json", "a"],
-        &["batch", "--json"],
+        &["fill", "--table", "--json", "a"],
     ] {
         let answer = stramashly(words, b"");
         assert_eq!((answer.output.as_str(), answer.status), ("", Some(4)));

@@ -77,7 +77,8 @@ fn standard_input_and_hex_go_with_each() {
     let show = stramashly(&["show", "--hex", "-"], P.as_bytes());
     assert!(show.output.starts_with("version 1, 2 agents, 4 rows\n"));
     let draw = stramashly(&["draw", "--hex", "-"], P.as_bytes());
-    assert!(draw.output.contains("<title>race-free</title>"));
+    let title = ">Race-free: every conflicting pair of rows is ordered</title>";
+    assert!(draw.output.contains(title));
 }
 
 #[test]

@@ -41,7 +41,7 @@ impl Claim {
 
     /// Any steps, now and then such as could be those of so many moments.
     pub fn random(random: &mut Random, moments: usize) -> Claim {
-        let count = random.pick(&[0, 1, 1, 2, 3, 4, 191, 192, 300]);
+        let count = random.pick(&[0, 1, 1, 2, 3, 4, CHAIN_NUMBERS, CHAIN_NUMBERS + 1, 600]);
         Claim {
             classes: any_classes(random),
             steps: (0..count).map(|_| any_step(random, moments)).collect(),

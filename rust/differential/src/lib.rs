@@ -12,7 +12,7 @@ mod reports;
 mod tally;
 
 pub use claim::Claim;
-pub use reasons::{Derived, Moments, Probed};
+pub use reasons::{Derived, Moments, Probed, LIBRARY_MEETS_ALONE};
 pub use tally::Tally;
 
 use second::{CheckAnswer, FillAnswer, State};

@@ -14,7 +14,7 @@ const NAMES: [&str; 8] = [
     "fill",
     "fill-none",
     "empty",
-    "version-2",
+    "version-4",
 ];
 
 fn tables() -> Vec<Vec<u8>> {
@@ -38,11 +38,20 @@ fn fill_is_11(comparison: &mut Comparison, table: &[u8], lengths: Lengths) -> bo
     answer == FillAnswer::Refused { number: 11, row: 0 }
 }
 
+/// Every length near the limit, and some others.
+fn work_lengths() -> impl Iterator<Item = usize> {
+    let near = WORK_WORDS - 70..=WORK_WORDS + 70;
+    (0..70)
+        .chain((70..WORK_WORDS).step_by(97))
+        .chain(near)
+        .chain([16_384])
+}
+
 #[test]
-fn work_areas_of_every_length() {
+fn work_areas_of_many_lengths() {
     let mut comparison = Comparison::new(301);
     for table in tables() {
-        for work in (0..=WORK_WORDS + 70).chain([4096, 10_000]) {
+        for work in work_lengths() {
             let is_short = work < WORK_WORDS;
             for numbers in [CYCLE_NUMBERS, CYCLE_NUMBERS + 1] {
                 let lengths = Lengths { work, numbers };

@@ -16,7 +16,7 @@ fn compare(seed: u64, count: usize, size: Size) -> Tally {
 }
 
 fn assert_every_refusal(tally: &Tally, rows: usize) {
-    for number in 1..=10 {
+    for number in (1..=10).chain([14, 15]) {
         for command in ["check", "fill"] {
             let count = tally.of(&format!("{command} refused {number}"));
             assert!(50 * count >= tally.total() / 2, "{number}:\n{tally}");
@@ -44,8 +44,8 @@ fn middle_tables() {
 #[test]
 fn largest_tables() {
     let size = Size {
-        least: 64,
-        most: 64,
+        least: 128,
+        most: 128,
     };
     assert_every_refusal(&compare(203, 400, size), 8);
 }
@@ -80,8 +80,8 @@ fn every_length_cut_off_or_added() {
     let mut comparison = Comparison::new(205);
     let mut tally = Tally::default();
     let size = Size {
-        least: 64,
-        most: 64,
+        least: 128,
+        most: 128,
     };
     let mut bytes = checkable(&mut random, size).bytes();
     let whole = bytes.len();
@@ -105,7 +105,7 @@ fn noise() {
         // Half of it has a header that may be good.
         if length >= 8 && random.percent(50) {
             (bytes[4], bytes[7]) = (1, 0);
-            (bytes[5], bytes[6]) = (random.below(20) as u8, random.below(70) as u8);
+            (bytes[5], bytes[6]) = (random.below(40) as u8, random.below(140) as u8);
             let following = 4 + 6 * usize::from(bytes[5]) + 16 * usize::from(bytes[6]);
             bytes[..4].copy_from_slice(&(following as u32).to_be_bytes());
             bytes.resize(following + 4, 0);

@@ -50,26 +50,26 @@ fn middle_tables() {
 #[test]
 fn largest_tables() {
     let size = Size {
-        least: 64,
-        most: 64,
+        least: 128,
+        most: 128,
     };
     let (tally, most) = compare(603, 100, size);
     assert!(tally.of("report between") > 10, "{tally}");
     assert!(most > 100, "{most}");
 }
 
-/// All pairs of 64 rows, which is the most that there can be.
+/// All pairs of 128 rows, which is the most that there can be.
 #[test]
 fn every_pair_conflicts() {
     let mut comparison = Comparison::new(604);
-    for agents in 1..=16 {
-        let rows: Vec<Row> = (0..64).map(|row| Row::write(row % agents)).collect();
+    for agents in 1..=32 {
+        let rows: Vec<Row> = (0..128).map(|row| Row::write(row % agents)).collect();
         let table = Table::of_one_workgroup(agents.into(), &rows);
         let answer = comparison.report(&table.bytes()).unwrap();
         let ReportAnswer::Counts(counts) = answer else {
             panic!("{answer}");
         };
-        assert_eq!(counts.conflicting, 2016);
+        assert_eq!(counts.conflicting, 8128);
         assert_eq!(counts.racing == 0, agents == 1);
     }
 }
@@ -99,7 +99,7 @@ fn without_a_report_there_is_the_check() {
         }
     }
     assert!(tally.of("report inconsistent") > 300, "{tally}");
-    for number in 1..=10 {
+    for number in (1..=10).chain([14, 15]) {
         let words = format!("report refused {number}");
         assert!(tally.of(&words) > 50, "{words}:\n{tally}");
     }

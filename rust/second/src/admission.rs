@@ -18,6 +18,11 @@ pub(crate) enum Purpose {
     Fill,
 }
 
+/// How many consecutive counts the ranks of one place must fit in.
+const RUN: u16 = 32768;
+/// The highest number of a class.
+const HIGHEST_CLASS: u8 = 3;
+
 /// A refusal's number and the test whether it holds of the table.
 type DoorTest = (u8, fn(&[u8]) -> bool);
 
@@ -52,12 +57,12 @@ fn refusal_1(table: &[u8]) -> bool {
     table.len() < HEADER_BYTES
 }
 
-/// Refusal 2: the version isn't 1, or byte 7 isn't 0.
+/// Refusal 2: the version is neither 1 nor 2, or byte 7 isn't 0.
 fn refusal_2(table: &[u8]) -> bool {
-    table[4] != 1 || table[7] != 0
+    !(PLAIN_RANKS..=COUNTED_RANKS).contains(&table[4]) || table[7] != 0
 }
 
-/// Refusal 3: agents over 16 or rows over 64.
+/// Refusal 3: agents over 32 or rows over 128.
 fn refusal_3(table: &[u8]) -> bool {
     usize::from(table[5]) > MAX_AGENTS || usize::from(table[6]) > MAX_ROWS
 }
@@ -71,15 +76,21 @@ fn refusal_4(table: &[u8]) -> bool {
     four_bytes(table, 0) as usize != following || table.len() != following + 4
 }
 
-/// Refusal 5: a code is out of range.
+/// Refusal 5: a code is out of range. Byte 6 of a control barrier is an
+/// execution scope.
 fn refusal_5(row: Row, agent_count: usize) -> bool {
-    row.kind > BARRIER
+    let highest = if row.is_control_barrier() {
+        DEVICE
+    } else {
+        HIGHEST_CLASS
+    };
+    row.kind > CONTROL_BARRIER
         || usize::from(row.agent) >= agent_count
         || row.order > BOTH
         || row.scope > DEVICE
         || row.classes > 15
         || row.flags > 7
-        || row.class > 3
+        || row.class > highest
 }
 
 /// Refusal 6: the kind fit is broken.
@@ -132,15 +143,15 @@ fn fits_atomic(row: Row) -> bool {
     }
 }
 
-/// Kind fit of barriers, bytes 6 to 11 zero among it; any other row fits.
+/// Kind fit of barriers; any other row fits. A control barrier may be relaxed,
+/// and has an execution scope and an instance where other barriers have zeros.
 fn fits_barrier(row: Row) -> bool {
-    !row.is_barrier()
-        || (row.order != RELAXED
-            && !row.is_non_private()
-            && row.class == 0
-            && row.length == 0
-            && row.start == 0
-            && row.reference == 0)
+    let is_fit = !row.is_non_private() && row.length == 0 && row.reference == 0;
+    match row.kind {
+        BARRIER => is_fit && row.order != RELAXED && row.class == 0 && row.start == 0,
+        CONTROL_BARRIER => is_fit,
+        _ => true,
+    }
 }
 
 /// Refusal 7: an access of length 0 or over 16, or past byte 65535; an atomic
@@ -149,7 +160,7 @@ fn refusal_7(row: Row) -> bool {
     let bad_access =
         row.length == 0 || usize::from(row.length) > MAX_LENGTH || row.end_byte() > 65536;
     let bad_atomic = match row.length {
-        4 | 8 => row.start % u16::from(row.length) != 0,
+        4 | 8 => !row.start.is_multiple_of(u16::from(row.length)),
         _ => true,
     };
     (row.is_access() && bad_access) || (row.is_atomic() && bad_atomic)
@@ -175,7 +186,7 @@ impl State {
         None
     }
 
-    /// Rows ascending, each through refusals 8, 9 and 10.
+    /// Rows ascending, each through refusals 8, 9, 10, 14 and 15.
     pub(crate) fn refusal_among_rows(&self, purpose: Purpose) -> Option<Refusal> {
         for row in 0..self.row_count {
             let number = if self.refusal_8(row) {
@@ -184,6 +195,10 @@ impl State {
                 9
             } else if self.refusal_10(row) {
                 10
+            } else if self.refusal_14(row) {
+                14
+            } else if self.refusal_15(row) {
+                15
             } else {
                 continue;
             };
@@ -234,5 +249,38 @@ impl State {
                     && self.rows[earlier].rank == writer.rank
                     && self.m3_mutually_ordered(earlier, row)
             })
+    }
+
+    /// Refusal 14: a control barrier and an earlier one of its instance have
+    /// different execution scopes or one agent, or their agents don't share
+    /// that scope.
+    fn refusal_14(&self, row: usize) -> bool {
+        let barrier = self.rows[row];
+        (0..row).any(|earlier| {
+            let other = self.rows[earlier];
+            self.of_one_instance(earlier, row)
+                && (other.execution_scope() != barrier.execution_scope()
+                    || other.agent == barrier.agent
+                    || !self.m2_share(other.agent, barrier.agent, barrier.execution_scope()))
+        })
+    }
+
+    /// Refusal 15: where ranks are counted, an atomic writer and the earlier
+    /// ones of its start, length and reference fit in no run of 32,768
+    /// consecutive counts, wrapping allowed.
+    fn refusal_15(&self, row: usize) -> bool {
+        let writer = self.rows[row];
+        let is_one = |other: &Row| {
+            other.is_atomic_writer()
+                && other.start == writer.start
+                && other.length == writer.length
+                && other.reference == writer.reference
+        };
+        let members = || self.rows[..=row].iter().filter(|other| is_one(other));
+        // A run that fits still does if it begins at the first count taken.
+        let fits_from = |first: u16| members().all(|row| row.rank.wrapping_sub(first) < RUN);
+        self.version >= COUNTED_RANKS
+            && writer.is_atomic_writer()
+            && !members().any(|first| fits_from(first.rank))
     }
 }

@@ -34,6 +34,19 @@ impl State {
         self.are_rows(head, member) && self.m4_release_sequence(head, member)
     }
 
+    /// M5: the two rows of one instance by which a release barrier and an
+    /// acquire barrier synchronize, the first at the release or after it, the
+    /// second at the acquire or before it.
+    pub fn control_barrier(&self, release: usize, acquire: usize) -> Option<(usize, usize)> {
+        if !self.synchronizes_with(release, acquire) {
+            return None;
+        }
+        let barriers = self.rows[release].is_barrier() && self.rows[acquire].is_barrier();
+        barriers
+            .then(|| self.control_barrier_between(release, acquire))
+            .flatten()
+    }
+
     /// The row that a row reads from; none for the initial value, a blank and
     /// a row that doesn't read.
     pub fn read_from(&self, reader: usize) -> Option<usize> {

@@ -7,7 +7,7 @@
 //! | rules | module |
 //! |---|---|
 //! | the table, kinds, sources | `table` |
-//! | refusals 1 to 11 | `admission` |
+//! | refusals 1 to 11, 14 and 15 | `admission` |
 //! | M1, M2 | `moments` |
 //! | M3, M4, M5 | `synchronization` |
 //! | M6, M7 | `happens_before` |

@@ -13,6 +13,7 @@ const MOMENT_PAIRS: usize = MAX_MOMENTS * MAX_MOMENTS;
 /// The admitted table and the relations worked out from it. Its arrays are
 /// made once and serve every table after that.
 pub struct State {
+    pub(crate) version: u8,
     pub(crate) row_count: usize,
     pub(crate) agents: [[u16; 3]; MAX_AGENTS],
     pub(crate) rows: [Row; MAX_ROWS],
@@ -43,6 +44,7 @@ impl Default for State {
 impl State {
     pub fn new() -> State {
         State {
+            version: 1,
             row_count: 0,
             agents: [[0; 3]; MAX_AGENTS],
             rows: [Row::default(); MAX_ROWS],
@@ -129,6 +131,7 @@ impl State {
     /// so that every relation is empty after it.
     pub(crate) fn admit(&mut self, table: &[u8], purpose: Purpose) -> Result<(), Refusal> {
         let (agent_count, row_count) = admission::door(table)?;
+        self.version = table[4];
         for agent in 0..agent_count {
             self.agents[agent] = agent_places(table, agent);
         }

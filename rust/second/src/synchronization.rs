@@ -2,7 +2,7 @@
 
 use crate::moments::at;
 use crate::state::{row_pair, State};
-use crate::table::ATOMIC_RMW;
+use crate::table::{ATOMIC_RMW, PLAIN_RANKS};
 
 impl State {
     /// Whether two rows of the last admitted table are mutually-ordered.
@@ -53,11 +53,24 @@ impl State {
     /// M3: scoped modification order, mutually-ordered writers by rank.
     pub(crate) fn m3_modification_order(&self, first: usize, second: usize) -> bool {
         let (x, y) = (self.rows[first], self.rows[second]);
-        self.mutually_ordered(first, second) && x.writes() && y.writes() && x.rank < y.rank
+        self.mutually_ordered(first, second)
+            && x.writes()
+            && y.writes()
+            && self.m3_later(y.rank, x.rank)
+    }
+
+    /// M3: whether a rank is later than another: greater in version 1; where
+    /// ranks are counted, 1 to 32,767 counts further on, modulo 65,536.
+    pub(crate) fn m3_later(&self, rank: u16, other: u16) -> bool {
+        if self.version == PLAIN_RANKS {
+            rank > other
+        } else {
+            (1..=32767).contains(&rank.wrapping_sub(other))
+        }
     }
 
     /// M4: whether a row is in the release sequence headed by `head`. A
-    /// follower is in only if every follower of its rank or a lower one
+    /// follower is in only if every follower of its rank or an earlier one
     /// qualifies.
     pub(crate) fn m4_release_sequence(&self, head: usize, member: usize) -> bool {
         if !self.rows[head].is_atomic_writer() {
@@ -67,7 +80,7 @@ impl State {
             || (self.m3_modification_order(head, member)
                 && (0..self.row_count).all(|follower| {
                     !self.m3_modification_order(head, follower)
-                        || self.rows[follower].rank > self.rows[member].rank
+                        || self.m3_later(self.rows[follower].rank, self.rows[member].rank)
                         || self.m4_qualifies(follower)
                 }))
     }
@@ -89,7 +102,7 @@ impl State {
             .is_some_and(|source| self.m4_release_sequence(head, source))
     }
 
-    /// M5: a release row synchronizes with an acquire row by one of four cases.
+    /// M5: a release row synchronizes with an acquire row by one of five cases.
     fn m5_synchronizes_with(&self, a: usize, b: usize) -> bool {
         if a == b || !self.rows[a].is_release() || !self.rows[b].is_acquire() {
             return false;
@@ -98,7 +111,7 @@ impl State {
             (false, false) => self.m5_two_atomics(a, b),
             (true, false) => self.m5_barrier_and_atomic(a, b),
             (false, true) => self.m5_atomic_and_barrier(a, b),
-            (true, true) => self.m5_two_barriers(a, b),
+            (true, true) => self.m5_two_barriers(a, b) || self.m5_control_barrier(a, b),
         }
     }
 
@@ -139,6 +152,36 @@ impl State {
                             && self.reads_from_sequence(y, x)
                     })
             })
+    }
+
+    /// M5, two barriers and a control barrier C. Two rows of one instance are
+    /// C for their agents, and A and B may be those rows themselves.
+    fn m5_control_barrier(&self, a: usize, b: usize) -> bool {
+        self.share_both_scopes(a, b) && self.control_barrier_between(a, b).is_some()
+    }
+
+    /// Two rows of one instance, the first at A or after it, the second at B
+    /// or before it, whose execution scope the agents of A and B share.
+    pub(crate) fn control_barrier_between(&self, a: usize, b: usize) -> Option<(usize, usize)> {
+        let is_after_a = |c: usize| c == a || self.program_order(at(a), at(c));
+        let is_before_b = |d: usize| d == b || self.program_order(at(d), at(b));
+        let (from, to) = (self.rows[a].agent, self.rows[b].agent);
+        let firsts = (0..self.row_count).filter(|c| is_after_a(*c));
+        let mut pairs = firsts.flat_map(|c| (0..self.row_count).map(move |d| (c, d)));
+        pairs.find(|(c, d)| {
+            c != d
+                && self.of_one_instance(*c, *d)
+                && is_before_b(*d)
+                && self.m2_share(from, to, self.rows[*c].execution_scope())
+        })
+    }
+
+    /// Whether two rows are control barriers of one instance.
+    pub(crate) fn of_one_instance(&self, first: usize, second: usize) -> bool {
+        let (first, second) = (self.rows[first], self.rows[second]);
+        first.is_control_barrier()
+            && second.is_control_barrier()
+            && first.instance() == second.instance()
     }
 
     /// M5: X is an atomic writer program-ordered after barrier A, its class

@@ -5,6 +5,11 @@ pub const INITIAL: u16 = 65535;
 /// Source number for a blank.
 pub const BLANK: u16 = 65534;
 
+/// The version whose ranks are compared as they stand.
+pub const PLAIN_RANKS: u8 = 1;
+/// The version whose ranks are counts that may have run out and begun again.
+pub const COUNTED_RANKS: u8 = 2;
+
 pub const HEADER_BYTES: usize = 8;
 pub const AGENT_BYTES: usize = 6;
 pub const ROW_BYTES: usize = 16;
@@ -15,6 +20,7 @@ pub const ATOMIC_READ: u8 = 2;
 pub const ATOMIC_WRITE: u8 = 3;
 pub const ATOMIC_RMW: u8 = 4;
 pub const BARRIER: u8 = 5;
+pub const CONTROL_BARRIER: u8 = 6;
 
 pub const RELAXED: u8 = 0;
 pub const ACQUIRE: u8 = 1;
@@ -31,7 +37,9 @@ pub const NON_PRIVATE: u8 = 1;
 pub const MAKE_AVAILABLE: u8 = 2;
 pub const MAKE_VISIBLE: u8 = 4;
 
-/// One row, field by field in the table's order.
+/// One row, field by field in the table's order. A control barrier has its
+/// execution scope in the place of the class, and its instance in that of the
+/// start.
 #[derive(Clone, Copy, Debug, Default, PartialEq, Eq)]
 pub struct Row {
     pub kind: u8,
@@ -74,8 +82,23 @@ impl Row {
         matches!(self.kind, ATOMIC_READ | ATOMIC_WRITE | ATOMIC_RMW)
     }
 
+    /// Whether the row is a memory barrier; a control barrier is one as well.
     pub fn is_barrier(self) -> bool {
-        self.kind == BARRIER
+        matches!(self.kind, BARRIER | CONTROL_BARRIER)
+    }
+
+    pub fn is_control_barrier(self) -> bool {
+        self.kind == CONTROL_BARRIER
+    }
+
+    /// A control barrier's execution scope.
+    pub fn execution_scope(self) -> u8 {
+        self.class
+    }
+
+    /// A control barrier's instance number.
+    pub fn instance(self) -> u16 {
+        self.start
     }
 
     pub fn is_access(self) -> bool {

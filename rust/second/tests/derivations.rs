@@ -50,7 +50,7 @@ fn a_class_set_is_one_of_fifteen_and_held_by_all() {
 }
 
 #[test]
-fn a_chain_has_1_to_191_steps() {
+fn a_chain_has_1_to_383_steps() {
     assert_eq!(of_p(3, 4, 1, &[]), "not-accepted");
     // Two read-modify-writes that read each other: their steps go round. That
     // such a run is impossible is no matter of a derivation.
@@ -59,7 +59,7 @@ fn a_chain_has_1_to_191_steps() {
         (table.rows[row].kind, table.rows[row].order) = (kind::RMW, order::BOTH);
         (table.rows[row].rank, table.rows[row].source) = (row as u16, 3 - row as u16);
     }
-    let steps: Vec<u16> = (0..200)
+    let steps: Vec<u16> = (0..400)
         .map(|place| {
             if place == 0 {
                 STEPS[0]
@@ -69,12 +69,12 @@ fn a_chain_has_1_to_191_steps() {
         })
         .collect();
     let mut state = State::new();
-    for count in [1, 2, 190, 191, 192, 193, 199] {
+    for count in [1, 2, 191, 192, 382, 383, 384, 385, 399] {
         let second = [7, 4][count % 2];
         let steps = &steps[..count];
         let chain = Derivation::Chain { classes: 1, steps };
         let answer = state.accepts(&table.bytes(), 3, second, chain);
-        assert_eq!(answer == AcceptsAnswer::Accepted, count <= 191, "{count}");
+        assert_eq!(answer == AcceptsAnswer::Accepted, count <= 383, "{count}");
     }
 }
 
@@ -109,7 +109,7 @@ fn a_fill_s_refusals_come_first() {
     assert_eq!(accepts(&table), "refused 12 0");
     table[source..source + 2].copy_from_slice(&[0, 3]);
     assert_eq!(accepts(&table), "refused 9 3");
-    table[4] = 2;
+    table[4] = 4;
     assert_eq!(accepts(&table), "refused 2 0");
     assert_eq!(accepts(&[]), "refused 1 0");
 }

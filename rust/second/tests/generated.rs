@@ -6,7 +6,7 @@ mod common;
 use second::{CheckAnswer, FillAnswer, State, CYCLE_NUMBERS, SOURCE_NUMBERS, WORK_WORDS};
 use std::collections::{BTreeMap, BTreeSet};
 use tables::builder::kind;
-use tables::{checkable, damaged, fillable, Random, Size, Table, BLANK};
+use tables::{checkable, clean, damaged, fillable, Random, Row, Size, Table, BLANK};
 
 const SMALL: Size = Size { least: 4, most: 12 };
 const MIDDLE: Size = Size {
@@ -70,6 +70,24 @@ fn each_verdict_of_a_check_has_a_tenth() {
 }
 
 #[test]
+fn clean_tables_are_race_free() {
+    let mut random = Random::new(7);
+    let mut state = State::new();
+    let (mut all, mut met) = (Shares::default(), Shares::default());
+    for _ in 0..600 {
+        let table = clean(&mut random, MIDDLE);
+        let answer = check(&mut state, &table.bytes()).to_string();
+        all.count(&answer);
+        if table.rows.iter().any(|row| row.is_control_barrier()) {
+            met.count(&answer);
+        }
+    }
+    assert!(all.percent("race-free") >= 80, "{:?}", all.counts);
+    assert!(met.percent("race-free") >= 80, "{:?}", met.counts);
+    assert!(met.total >= 200);
+}
+
+#[test]
 fn each_answer_of_a_fill_has_a_tenth() {
     for size in [SMALL, MIDDLE] {
         let mut random = Random::new(2);
@@ -97,10 +115,18 @@ fn damage_reaches_every_refusal_at_various_rows() {
             rows.entry(number).or_default().insert(row);
         }
     }
-    for number in 1..=10 {
+    for number in (1..=10).chain([14, 15]) {
         let distinct = rows.get(&number).map_or(0, BTreeSet::len);
         let wanted = if number < 5 { 1 } else { 5 };
         assert!(distinct >= wanted, "refusal {number}: {distinct} rows");
+    }
+}
+
+fn sort(row: &Row) -> &'static str {
+    match row.kind {
+        kind::BARRIER => "barrier",
+        kind::CONTROL_BARRIER => "control",
+        _ => "atomic",
     }
 }
 
@@ -112,22 +138,26 @@ fn generated_tables_reach_the_rules() {
     let (mut kinds, mut scopes, mut class_sets) =
         (BTreeSet::new(), BTreeSet::new(), BTreeSet::new());
     let mut atomic_lengths = BTreeSet::new();
+    let (mut execution_scopes, mut meetings) = (BTreeSet::new(), BTreeSet::new());
     let mut equal_ranks = 0;
-    for _ in 0..600 {
+    for _ in 0..1200 {
         let table = checkable(&mut random, MIDDLE);
         check(&mut state, &table.bytes());
         for (a, x) in table.rows.iter().enumerate() {
             kinds.insert((x.kind, x.order, x.flags));
             scopes.insert((x.kind, x.scope));
             class_sets.insert(x.classes);
+            if x.is_control_barrier() {
+                execution_scopes.insert(x.class);
+                meetings.insert(table.rows.iter().filter(|y| x.meets(**y)).count());
+            }
             if x.is_atomic() {
                 assert!(x.has_atomic_bytes());
                 atomic_lengths.insert((x.kind, x.length));
             }
             for (b, y) in table.rows.iter().enumerate() {
                 if state.synchronizes_with(a, b) {
-                    let barriers = (x.kind == kind::BARRIER, y.kind == kind::BARRIER);
-                    *synchronized.entry(barriers).or_insert(0) += 1;
+                    *synchronized.entry([sort(x), sort(y)]).or_insert(0) += 1;
                 }
                 let same_place =
                     (x.start, x.length, x.reference) == (y.start, y.length, y.reference);
@@ -136,13 +166,23 @@ fn generated_tables_reach_the_rules() {
             }
         }
     }
-    assert!(synchronized.len() == 4 && synchronized.values().all(|count| *count > 50));
+    // Atomics, barriers and control barriers with each other.
+    assert_eq!(synchronized.len(), 9, "{synchronized:?}");
+    for (sorts, count) in &synchronized {
+        let wanted = if sorts.contains(&"control") { 5 } else { 50 };
+        assert!(*count > wanted, "{sorts:?} {count}");
+    }
+    let controls = synchronized[&["control", "control"]];
+    assert!(controls > 200, "{controls}");
     assert_eq!(class_sets.len(), 16);
     // Plain rows have 6 sorts, atomic reads and writes 3, RMWs 1 + 2 + 2 + 4,
-    // barriers 2 + 2 + 4.
-    assert_eq!(kinds.len(), 6 + 3 + 3 + 9 + 8);
+    // barriers 2 + 2 + 4, control barriers one more.
+    assert_eq!(kinds.len(), 6 + 3 + 3 + 9 + 8 + 9);
     // Every kind in every scope.
-    assert_eq!(scopes.len(), 6 * 5);
+    assert_eq!(scopes.len(), 7 * 5);
+    // Every execution scope, and instances of two to many rows.
+    assert_eq!(execution_scopes.len(), 5);
+    assert!(meetings.contains(&2) && meetings.iter().max() > Some(&5));
     // Every atomic kind in both lengths.
     assert_eq!(atomic_lengths.len(), 3 * 2);
     assert!(equal_ranks > 20);

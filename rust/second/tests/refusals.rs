@@ -56,10 +56,10 @@ fn refusal_2_version_and_zero_byte() {
 
 #[test]
 fn refusal_3_too_many() {
-    assert_eq!(check_changed(|bytes| bytes[5] = 17), "refused 3 0");
-    assert_eq!(check_changed(|bytes| bytes[6] = 65), "refused 3 0");
-    assert_eq!(check_changed(|bytes| bytes[5] = 16), "refused 4 0");
-    assert_eq!(check_changed(|bytes| bytes[6] = 64), "refused 4 0");
+    assert_eq!(check_changed(|bytes| bytes[5] = 33), "refused 3 0");
+    assert_eq!(check_changed(|bytes| bytes[6] = 129), "refused 3 0");
+    assert_eq!(check_changed(|bytes| bytes[5] = 32), "refused 4 0");
+    assert_eq!(check_changed(|bytes| bytes[6] = 128), "refused 4 0");
 }
 
 #[test]
@@ -72,7 +72,7 @@ fn refusal_4_lengths() {
 
 #[test]
 fn refusal_5_codes() {
-    assert_eq!(check_rows(|rows| rows[1].kind = 6), "refused 5 1");
+    assert_eq!(check_rows(|rows| rows[1].kind = 7), "refused 5 1");
     assert_eq!(check_rows(|rows| rows[2].agent = 2), "refused 5 2");
     assert_eq!(check_rows(|rows| rows[3].order = 4), "refused 5 3");
     assert_eq!(check_rows(|rows| rows[3].scope = 5), "refused 5 3");

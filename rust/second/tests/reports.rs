@@ -57,7 +57,7 @@ fn refused_and_inconsistent_tables_have_check_s_answer() {
     table.rows[3].source = INITIAL;
     assert_eq!(report(&table), "cycle 2 rows 0 3 edges 1 4");
     let mut bytes = from_hex(TABLE_P);
-    bytes[4] = 2;
+    bytes[4] = 4;
     assert_eq!(report_bytes(&bytes).to_string(), "refused 2 0");
     let short = State::new().report(&bytes, WORK_WORDS - 1, CYCLE_NUMBERS);
     assert_eq!(short.to_string(), "refused 11 0");

@@ -92,16 +92,37 @@ fn empty_table_is_race_free() {
 }
 
 #[test]
-fn version_2_is_refused() {
-    assert_eq!(check_bytes(&from_hex("0000000402000000")), "refused 2 0");
+fn versions_1_and_2_pass() {
+    assert_eq!(check_bytes(&from_hex("0000000402000000")), "race-free");
+    assert_eq!(check_bytes(&from_hex("0000000403000000")), "refused 2 0");
+    assert_eq!(check_bytes(&from_hex("0000000400000000")), "refused 2 0");
 }
 
 #[test]
-fn rows_up_to_64_pass() {
-    let mut table = Table::of_one_workgroup(1, &[Row::read(0, INITIAL); 64]);
+fn rows_up_to_128_pass() {
+    let mut table = Table::of_one_workgroup(1, &[Row::read(0, INITIAL); 128]);
     assert_eq!(check(&table), "race-free");
     table.rows.push(Row::read(0, INITIAL));
     assert_eq!(check(&table), "refused 3 0");
+}
+
+#[test]
+fn agents_up_to_32_pass() {
+    let rows: Vec<Row> = (0..32).map(|agent| Row::read(agent, INITIAL)).collect();
+    assert_eq!(check(&Table::of_one_workgroup(32, &rows)), "race-free");
+    assert_eq!(check(&Table::of_one_workgroup(33, &rows)), "refused 3 0");
+    let last = Row::read(32, INITIAL);
+    assert_eq!(check(&Table::of_one_workgroup(32, &[last])), "refused 5 0");
+}
+
+#[test]
+fn the_largest_table_passes() {
+    let rows: Vec<Row> = (0..128).map(|row| Row::read(row % 32, INITIAL)).collect();
+    let table = Table::of_one_workgroup(32, &rows);
+    assert_eq!(table.bytes().len(), 2248);
+    assert_eq!(check(&table), "race-free");
+    let answer = fill(&table);
+    assert_eq!(answer, format!("filled{}", " 65535".repeat(128)));
 }
 
 #[test]

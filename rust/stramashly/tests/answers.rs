@@ -125,7 +125,10 @@ fn short_buffers_are_refusal_11() {
     assert_eq!(check_in(&table, &mut work[1..], &mut cycle), refused);
     assert_eq!(check_in(&table, &mut work, &mut cycle[1..]), refused);
     assert_eq!(check_in(&table, &mut [], &mut []), refused);
-    assert_eq!(fill_in(&table, &mut work, &mut cycle[..63]), refused);
+    assert_eq!(
+        fill_in(&table, &mut work, &mut cycle[..SOURCE_NUMBERS - 1]),
+        refused
+    );
     assert!(work.iter().all(|word| *word == 7) && cycle.iter().all(|number| *number == 9));
 }
 

@@ -70,7 +70,7 @@ fn reading_has_each_answer() {
     assert_eq!(accepts(1, 4, Derivation::ProgramOrder), "accepted");
     assert_eq!(accepts(3, 8, Derivation::ProgramOrder), "not-accepted");
     assert_eq!(accepts(3, 65535, CHAIN), "refused 12 0");
-    let refused = Checker::accepts(&example("version-2"), 3, 3, CHAIN);
+    let refused = Checker::accepts(&example("version-4"), 3, 3, CHAIN);
     assert_eq!(refused.to_string(), "refused 2 0");
     // A blank is a fill's business, and no obstacle here.
     let blank = Checker::accepts(&example("fill"), 3, 8, CHAIN);

@@ -30,7 +30,7 @@ fn reports_of_each_answer() {
         "lost-update",
         "overwritten",
         "fill",
-        "version-2",
+        "version-4",
     ] {
         let table = example(name);
         let checked = checker.check(&table).to_string();

@@ -5,6 +5,11 @@ pub const INITIAL: u16 = 65535;
 /// Source number for a blank.
 pub const BLANK: u16 = 65534;
 
+/// Most rows of a table.
+pub const MAX_ROWS: usize = 128;
+/// Most agents of a table.
+pub const MAX_AGENTS: usize = 32;
+
 /// Kinds of rows.
 pub mod kind {
     pub const PLAIN_READ: u8 = 0;
@@ -13,6 +18,7 @@ pub mod kind {
     pub const ATOMIC_WRITE: u8 = 3;
     pub const RMW: u8 = 4;
     pub const BARRIER: u8 = 5;
+    pub const CONTROL_BARRIER: u8 = 6;
 }
 
 /// Memory orders.
@@ -136,6 +142,17 @@ impl Row {
         }
     }
 
+    /// A control barrier in device scope, without memory semantics. Its
+    /// execution scope stands in the class's place, its instance in the start's.
+    pub fn control_barrier(agent: u8, execution_scope: u8, instance: u16) -> Row {
+        Row {
+            kind: kind::CONTROL_BARRIER,
+            class: execution_scope,
+            start: instance,
+            ..Row::barrier(agent, order::RELAXED, 0)
+        }
+    }
+
     pub fn bytes(self, start: u16, length: u8) -> Row {
         Row {
             start,
@@ -197,6 +214,15 @@ impl Row {
         self.kind < kind::BARRIER
     }
 
+    pub fn is_control_barrier(self) -> bool {
+        self.kind == kind::CONTROL_BARRIER
+    }
+
+    /// Whether two rows are control barriers of one instance.
+    pub fn meets(self, other: Row) -> bool {
+        self.is_control_barrier() && other.is_control_barrier() && self.start == other.start
+    }
+
     pub fn is_plain(self) -> bool {
         self.kind < kind::ATOMIC_READ
     }
@@ -207,7 +233,7 @@ impl Row {
 
     /// Whether the row's bytes may be those of an atomic.
     pub fn has_atomic_bytes(self) -> bool {
-        matches!(self.length, 4 | 8) && self.start % u16::from(self.length) == 0
+        matches!(self.length, 4 | 8) && self.start.is_multiple_of(u16::from(self.length))
     }
 
     pub fn reads(self) -> bool {
@@ -225,6 +251,14 @@ impl Row {
         matches!(self.kind, kind::ATOMIC_WRITE | kind::RMW)
     }
 
+    /// Whether two rows are atomic writers of one place.
+    pub fn ranks_with(self, other: Row) -> bool {
+        self.is_atomic_writer()
+            && other.is_atomic_writer()
+            && (self.start, self.length, self.reference)
+                == (other.start, other.length, other.reference)
+    }
+
     /// The first byte that the row no longer covers.
     pub fn end(self) -> u32 {
         u32::from(self.start) + u32::from(self.length)
@@ -235,7 +269,10 @@ impl Row {
     }
 
     pub fn overlaps(self, other: Row) -> bool {
-        u32::from(self.start) < other.end() && u32::from(other.start) < self.end()
+        self.is_access()
+            && other.is_access()
+            && u32::from(self.start) < other.end()
+            && u32::from(other.start) < self.end()
     }
 
     fn push_bytes(self, bytes: &mut Vec<u8>) {
@@ -247,16 +284,25 @@ impl Row {
     }
 }
 
-/// A table: the agents' place numbers, then the rows.
-#[derive(Clone, Debug, Default, PartialEq, Eq)]
+/// A table: its version, the agents' place numbers, then the rows.
+#[derive(Clone, Debug, PartialEq, Eq)]
 pub struct Table {
+    pub version: u8,
     pub agents: Vec<[u16; 3]>,
     pub rows: Vec<Row>,
 }
 
+impl Default for Table {
+    fn default() -> Table {
+        Table::new(&[], &[])
+    }
+}
+
 impl Table {
+    /// A table of version 1.
     pub fn new(agents: &[[u16; 3]], rows: &[Row]) -> Table {
         Table {
+            version: 1,
             agents: agents.to_vec(),
             rows: rows.to_vec(),
         }
@@ -266,6 +312,11 @@ impl Table {
     pub fn of_one_workgroup(agent_count: u16, rows: &[Row]) -> Table {
         let agents: Vec<[u16; 3]> = (0..agent_count).map(|agent| [0, 0, agent]).collect();
         Table::new(&agents, rows)
+    }
+
+    /// The same rows in a version whose ranks are counted.
+    pub fn counted(self) -> Table {
+        Table { version: 2, ..self }
     }
 
     /// Puts a row in; sources at or past its place move on by one.
@@ -282,7 +333,12 @@ impl Table {
     pub fn bytes(&self) -> Vec<u8> {
         let following = 4 + 6 * self.agents.len() + 16 * self.rows.len();
         let mut bytes = (following as u32).to_be_bytes().to_vec();
-        bytes.extend([1, self.agents.len() as u8, self.rows.len() as u8, 0]);
+        bytes.extend([
+            self.version,
+            self.agents.len() as u8,
+            self.rows.len() as u8,
+            0,
+        ]);
         for number in self.agents.iter().flatten() {
             bytes.extend(number.to_be_bytes());
         }

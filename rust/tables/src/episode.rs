@@ -3,6 +3,8 @@
 //! An episode's rows are listed as they ran, every read reading the latest
 //! write, so that its sources name earlier rows of the episode.
 
+mod control;
+
 use crate::builder::{kind, order, scope, Row, INITIAL};
 use crate::random::Random;
 
@@ -46,6 +48,7 @@ impl Place {
 pub(crate) struct Ground {
     next_start: u16,
     next_reference: u16,
+    next_instance: u16,
 }
 
 impl Ground {
@@ -53,7 +56,14 @@ impl Ground {
         Ground {
             next_start: random.pick(&[0, 0, 0, 7, 250, 32760]),
             next_reference: random.pick(&[0, 1, 1, 500, 64000]),
+            next_instance: random.pick(&[0, 0, 1, 7, 65000]),
         }
+    }
+
+    /// An instance of a control barrier that there was not before.
+    fn instance(&mut self) -> u16 {
+        self.next_instance += 1;
+        self.next_instance - 1
     }
 
     /// Bytes that an atomic may have.
@@ -103,22 +113,35 @@ struct Episode<'a> {
     is_relay: bool,
     /// How many hand-overs in a hundred go by a barrier, on each side.
     barrier_share: usize,
+    /// How many hand-overs in a hundred go by a control barrier instead.
+    control_share: usize,
+    ground: &'a mut Ground,
+    places: &'a [[u16; 3]],
+    /// Nothing is done that may leave the episode racing.
+    is_careful: bool,
     last_flag_writer: u16,
     rank: u16,
 }
 
 /// An episode of one of several shapes.
-pub(crate) fn episode(random: &mut Random, ground: &mut Ground, places: &[[u16; 3]]) -> Vec<Row> {
+pub(crate) fn episode(
+    random: &mut Random,
+    ground: &mut Ground,
+    places: &[[u16; 3]],
+    is_careful: bool,
+) -> Vec<Row> {
     let shape = random.below(100);
     let mut episode = Episode::new(random, ground, places);
+    episode.is_careful = is_careful;
     match shape {
-        0..=57 => episode.pass_data(),
-        58..=69 => episode.read_then_write(ground),
-        70..=77 => episode.count(),
-        78..=84 => episode.stay_with_one_agent(),
-        85..=89 => episode.split(),
-        90..=92 => episode.lend(ground),
-        _ => episode.fork(ground, places),
+        0..=50 => episode.pass_data(),
+        51..=62 => episode.read_then_write(),
+        63..=70 => episode.count(),
+        71..=77 => episode.stay_with_one_agent(),
+        78..=82 => episode.split(),
+        83..=85 => episode.lend(),
+        86..=92 if !is_careful => episode.fork(),
+        _ => episode.meet(),
     }
     episode.rows
 }
@@ -147,7 +170,7 @@ fn neighbours(agent: u8, scope: u8, places: &[[u16; 3]]) -> Vec<u8> {
 }
 
 impl<'a> Episode<'a> {
-    fn new(random: &'a mut Random, ground: &mut Ground, places: &[[u16; 3]]) -> Episode<'a> {
+    fn new(random: &'a mut Random, ground: &'a mut Ground, places: &'a [[u16; 3]]) -> Episode<'a> {
         let count = random.pick(&[2, 2, 2, 3, 4]);
         let agents: Vec<u8> = (0..count)
             .map(|_| random.below(places.len()) as u8)
@@ -171,6 +194,7 @@ impl<'a> Episode<'a> {
         };
         let classes = data.class_bit() | flag_classes | extra;
         let by_rows = random.percent(25);
+        let control_share = random.pick(&[0, 0, 0, 30, 100]);
         Episode {
             random,
             rows: Vec::new(),
@@ -182,6 +206,10 @@ impl<'a> Episode<'a> {
             by_rows,
             is_relay: by_rows,
             barrier_share,
+            control_share,
+            ground,
+            places,
+            is_careful: false,
             last_flag_writer: INITIAL,
             rank: 0,
         }
@@ -211,11 +239,9 @@ impl<'a> Episode<'a> {
         for turn in 1..self.agents.len() {
             let (from, to) = (self.agents[turn - 1], self.agents[turn]);
             let is_last = turn == self.agents.len() - 1;
-            self.release(from);
-            self.carry_on(from);
             // An agent that only hands on needs nothing visible or available.
-            self.is_relay = self.by_rows || (relays && !is_last);
-            self.acquire(to);
+            let is_relay = self.by_rows || (relays && !is_last);
+            self.hand_over_to(from, to, is_relay);
             if !relays || is_last {
                 for _ in 0..self.random.pick(&[1, 1, 2, 3]) {
                     self.use_data(to);
@@ -249,14 +275,14 @@ impl<'a> Episode<'a> {
 
     /// A write and a read lend their availability and visibility to their
     /// neighbours, as far as their bytes and references go.
-    fn lend(&mut self, ground: &mut Ground) {
+    fn lend(&mut self) {
         let (from, to) = (self.agents[0], self.agents[1]);
-        let mut other = ground.place(self.random, self.data.length);
+        let mut other = self.ground.place(self.random, self.data.length);
         other.start = self.data.start;
         self.by_rows = false;
         self.is_relay = true;
         self.push(self.data.of(Row::write(from)));
-        let lender = if self.random.percent(15) {
+        let lender = if self.random.percent(15) && !self.is_careful {
             other
         } else {
             self.data
@@ -272,8 +298,8 @@ impl<'a> Episode<'a> {
     }
 
     /// A read that a write by another reference and class comes after.
-    fn read_then_write(&mut self, ground: &mut Ground) {
-        let mut other = ground.place(self.random, self.data.length);
+    fn read_then_write(&mut self) {
+        let mut other = self.ground.place(self.random, self.data.length);
         other.start = self.data.start;
         self.classes |= other.class_bit();
         for _ in 0..self.random.pick(&[1, 1, 2]) {
@@ -316,8 +342,9 @@ impl<'a> Episode<'a> {
 
     /// A release whose sequence forks: two followers of equal rank that
     /// aren't mutually-ordered, since the first one's scope is narrow.
-    fn fork(&mut self, ground: &mut Ground, places: &[[u16; 3]]) {
+    fn fork(&mut self) {
         let near = self.agents[0];
+        let places = self.places;
         let far = (usize::from(near) + self.random.between(1, places.len() - 1)) % places.len();
         let far = far as u8;
         self.scope = scope::DEVICE;
@@ -331,7 +358,7 @@ impl<'a> Episode<'a> {
         let follower = self.flag.of(Row::rmw(near, head, rank)).scope(narrow);
         let follower = self.push(follower);
         if self.random.percent(60) {
-            self.order_by_second_flag(ground, near, far);
+            self.order_by_second_flag(near, far);
         }
         let second = if self.random.percent(60) {
             Row::rmw(far, follower, rank)
@@ -347,19 +374,29 @@ impl<'a> Episode<'a> {
     }
 
     /// A hand-over by a flag of its own.
-    fn order_by_second_flag(&mut self, ground: &mut Ground, from: u8, to: u8) {
+    fn order_by_second_flag(&mut self, from: u8, to: u8) {
         let first = self.flag;
-        self.flag = ground.atomic_place(self.random);
+        self.flag = self.ground.atomic_place(self.random);
         self.classes |= self.flag.class_bit();
         self.last_flag_writer = INITIAL;
         self.hand_over(from, to);
         self.flag = first;
     }
 
-    /// A release, maybe a chain after it, and an acquire.
     fn hand_over(&mut self, from: u8, to: u8) {
+        self.hand_over_to(from, to, self.is_relay);
+    }
+
+    /// A release, maybe a chain after it, and an acquire; or a control barrier.
+    /// From the acquire on, it says whether there is availability and
+    /// visibility.
+    fn hand_over_to(&mut self, from: u8, to: u8, is_relay: bool) {
+        if from != to && self.random.percent(self.control_share) {
+            return self.hand_over_by_control(from, to, is_relay);
+        }
         self.release(from);
         self.carry_on(from);
+        self.is_relay = is_relay;
         self.acquire(to);
     }
 
@@ -396,7 +433,7 @@ impl<'a> Episode<'a> {
     fn carry_on(&mut self, head: u8) {
         for _ in 0..self.random.pick(&[0, 0, 0, 0, 1, 1, 2]) {
             let rank = self.next_rank();
-            let row = if self.random.percent(90) {
+            let row = if self.random.percent(90) || self.is_careful {
                 Row::rmw(self.random.pick(&self.agents), self.last_flag_writer, rank)
             } else {
                 Row::atomic_write(head, rank)

@@ -12,13 +12,16 @@ pub struct Example {
 
 /// Every example.
 pub fn examples() -> Vec<Example> {
-    let mut version_2 = Table::default().bytes();
-    version_2[4] = 2;
+    let mut version_4 = Table::default().bytes();
+    version_4[4] = 4;
     let tables = story()
         .into_iter()
         .chain(message_passing())
+        .chain(control_barriers())
         .chain(sequences())
+        .chain(counted_ranks())
         .chain(by_class_and_byte())
+        .chain(atomic_payload())
         .chain(inconsistent())
         .chain(fills())
         .chain(forms());
@@ -29,8 +32,8 @@ pub fn examples() -> Vec<Example> {
         })
         .collect();
     examples.push(Example {
-        name: "version-2",
-        bytes: version_2,
+        name: "version-4",
+        bytes: version_4,
     });
     examples
 }
@@ -125,6 +128,43 @@ fn barriers() -> Table {
     )
 }
 
+/// A write, a control barrier of two agents with the rows around it, a read.
+fn around_control(order: u8, classes: u8, before: Option<Row>, after: Option<Row>) -> Table {
+    let control = |agent| {
+        let row = Row::control_barrier(agent, scope::WORKGROUP, 1).scope(scope::WORKGROUP);
+        let row = row.order(order, classes);
+        if order == order::BOTH {
+            row.make_available().make_visible()
+        } else {
+            row
+        }
+    };
+    let mut rows = vec![Row::write(0)];
+    rows.extend(before);
+    rows.extend([control(0), control(1)]);
+    rows.extend(after);
+    rows.push(Row::read(1, 0));
+    Table::of_one_workgroup(2, &rows)
+}
+
+fn control_barriers() -> Vec<Named> {
+    let fence = |agent, order| Row::barrier(agent, order, UNIFORM).scope(scope::WORKGROUP);
+    let before = fence(0, order::RELEASE).make_available();
+    let after = fence(1, order::ACQUIRE).make_visible();
+    let full = around_control(order::BOTH, UNIFORM, None, None);
+    let fenced = around_control(order::RELAXED, 0, Some(before), Some(after));
+    let astray = changed(full.clone(), |table| table.agents[1] = [0, 1, 1]);
+    vec![
+        ("control", full),
+        (
+            "control-execution",
+            around_control(order::RELAXED, 0, None, None),
+        ),
+        ("control-fences", fenced),
+        ("control-two-workgroups", astray),
+    ]
+}
+
 /// P with a row put in as row 2 that the acquire reads.
 fn p_with(row: Row) -> Table {
     let mut table = p();
@@ -139,6 +179,22 @@ fn sequences() -> Vec<Named> {
         ("q", p_with(flag(Row::atomic_write(0, 2)))),
         ("q-rmw", by_third_agent(flag(Row::rmw(2, 1, 2)))),
         ("q-cut", by_third_agent(flag(Row::atomic_write(2, 2)))),
+    ]
+}
+
+/// Q with a third agent's read-modify-write, the counter running out between
+/// the release and it.
+fn counted_ranks() -> Vec<Named> {
+    let with_ranks = |first, second| {
+        changed(p_with(flag(Row::rmw(2, 1, second))), |table| {
+            table.agents.push([0, 0, 2]);
+            table.rows[1].rank = first;
+        })
+    };
+    vec![
+        ("counted", with_ranks(65535, 0).counted()),
+        ("counted-plain", with_ranks(65535, 0)),
+        ("counted-too-far", with_ranks(65535, 32767).counted()),
     ]
 }
 
@@ -180,6 +236,31 @@ fn by_class_and_byte() -> Vec<Named> {
         ("other-class", read_then_write(WORKGROUP, Row::write(1))),
         ("two-classes", read_then_write(UNIFORM | IMAGE, image_write)),
         ("half-available", two_of_four_bytes(Row::write(1))),
+    ]
+}
+
+/// Atomics that carry the data and not only the flag: the appendix has them
+/// make their own bytes available and visible, these rules don't.
+fn atomic_payload() -> Vec<Named> {
+    let wide = |row: Row| row.scope(scope::DEVICE);
+    let flag = |row: Row| wide(flag(row));
+    let race = [
+        wide(Row::atomic_write(0, 1)),
+        flag(Row::atomic_write(0, 1)).release(UNIFORM),
+        flag(Row::atomic_read(1, 1)).acquire(UNIFORM),
+        wide(Row::read(1, 0).make_visible()),
+    ];
+    let older = [
+        wide(Row::atomic_write(2, 1)),
+        wide(Row::atomic_write(0, 2)),
+        flag(Row::atomic_write(0, 1)).release(UNIFORM),
+        flag(Row::atomic_read(1, 2)).acquire(UNIFORM),
+        wide(Row::atomic_read(1, 0)),
+    ];
+    let places = [[0, 0, 0], [0, 1, 0], [0, 2, 0]];
+    vec![
+        ("atomic-payload-race", Table::new(&places[..2], &race)),
+        ("atomic-payload-older", Table::new(&places, &older)),
     ]
 }
 

@@ -1,6 +1,7 @@
 //! Whole tables: episodes put together, reordered and mutated.
 
-use crate::builder::{kind, Row, Table, BLANK, INITIAL};
+use crate::builder::{kind, Row, Table, BLANK, INITIAL, MAX_AGENTS};
+use crate::counted::count_ranks;
 use crate::episode::{episode, Ground};
 use crate::mutation::{make_cyclic, make_stale, mutate, reorder, repair, rows_that, weaken};
 use crate::random::Random;
@@ -27,28 +28,40 @@ enum Plan {
 /// A table for a check: race-free, racing or inconsistent, nearly always
 /// admissible.
 pub fn checkable(random: &mut Random, size: Size) -> Table {
-    let plan = match random.below(100) {
-        0..=9 => Plan::Clean,
-        10..=39 => Plan::Stale,
-        40..=51 => Plan::Cyclic,
-        52..=74 => Plan::Weak,
-        75..=94 => Plan::Mutated,
+    // Of many rows, few changes leave a run race-free.
+    let clean = if size.most > 64 { 25 } else { 10 };
+    let plan = match random.below(90) {
+        _ if random.percent(clean) => Plan::Clean,
+        0..=29 => Plan::Stale,
+        30..=41 => Plan::Cyclic,
+        42..=64 => Plan::Weak,
+        65..=84 => Plan::Mutated,
         _ => Plan::Scrambled,
     };
     let mut table = planned(random, size, plan);
+    count_some(random, &mut table);
+    shuffle_agents(random, &mut table);
+    table
+}
+
+/// A table for a check that is race-free and consistent, with few exceptions.
+pub fn clean(random: &mut Random, size: Size) -> Table {
+    let mut table = planned(random, size, Plan::Clean);
+    count_some(random, &mut table);
     shuffle_agents(random, &mut table);
     table
 }
 
 /// A table for a fill: like one for a check, with blanks in most of them.
 pub fn fillable(random: &mut Random, size: Size) -> Table {
-    let plan = match random.below(100) {
-        0..=24 => Plan::Clean,
-        25..=39 => Plan::Cyclic,
-        40..=54 => Plan::Stale,
-        55..=69 => Plan::Wide,
-        70..=79 => Plan::Weak,
-        80..=96 => Plan::Mutated,
+    let clean = if size.most > 64 { 35 } else { 25 };
+    let plan = match random.below(75) {
+        _ if random.percent(clean) => Plan::Clean,
+        0..=14 => Plan::Cyclic,
+        15..=29 => Plan::Stale,
+        30..=44 => Plan::Wide,
+        45..=54 => Plan::Weak,
+        55..=71 => Plan::Mutated,
         _ => Plan::Scrambled,
     };
     let mut table = planned(random, size, plan);
@@ -58,8 +71,16 @@ pub fn fillable(random: &mut Random, size: Size) -> Table {
             row.source = BLANK;
         }
     }
+    count_some(random, &mut table);
     shuffle_agents(random, &mut table);
     table
+}
+
+/// Has every third table's ranks counted.
+fn count_some(random: &mut Random, table: &mut Table) {
+    if random.percent(33) {
+        count_ranks(random, table);
+    }
 }
 
 fn planned(random: &mut Random, size: Size, plan: Plan) -> Table {
@@ -89,21 +110,20 @@ fn planned(random: &mut Random, size: Size, plan: Plan) -> Table {
 fn run(random: &mut Random, size: Size) -> Table {
     let agents = agents(random);
     let mut ground = Ground::new(random);
-    let mut table = Table {
-        agents,
-        rows: Vec::new(),
-    };
+    let mut table = Table::new(&agents, &[]);
     let row_count = random.between(size.least, size.most);
+    // Of many episodes one would race nearly always.
+    let is_careful = size.most > 48 && random.percent(80);
     for _ in 0..10 * row_count {
         let mut rest = ground;
-        let rows = episode(random, &mut rest, &table.agents);
+        let rows = episode(random, &mut rest, &table.agents, is_careful);
         if table.rows.len() + rows.len() <= row_count {
             append(random, &mut table, rows);
             ground = rest;
         }
     }
     while table.rows.len() < size.least {
-        let rows = episode(random, &mut ground, &table.agents);
+        let rows = episode(random, &mut ground, &table.agents, is_careful);
         append(random, &mut table, rows);
         // Sources name earlier rows here, so every first part stands alone.
         table.rows.truncate(row_count);
@@ -114,7 +134,7 @@ fn run(random: &mut Random, size: Size) -> Table {
 
 /// Few agents near to each other, or more of them farther apart.
 fn agents(random: &mut Random) -> Vec<[u16; 3]> {
-    let count = random.pick(&[2, 2, 3, 3, 4, 5, 8, 16]);
+    let count = random.pick(&[2, 2, 3, 3, 4, 5, 8, 16, MAX_AGENTS]);
     let ranges = random.pick(&[[1, 1, 2], [1, 1, 1], [1, 2, 2], [2, 2, 2], [1, 1, 3]]);
     let agent = |random: &mut Random| ranges.map(|range| random.below(range) as u16);
     (0..count).map(|_| agent(random)).collect()

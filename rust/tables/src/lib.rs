@@ -1,15 +1,20 @@
 //! Tables for tests: a builder, and seeded generators of many tables.
 
 pub mod builder;
+mod counted;
 mod damage;
 mod episode;
 mod examples;
 mod generator;
+mod litmus;
+mod moved;
 mod mutation;
 mod random;
 
-pub use builder::{hex, Row, Table, BLANK, INITIAL};
+pub use builder::{hex, Row, Table, BLANK, INITIAL, MAX_AGENTS, MAX_ROWS};
 pub use damage::damaged;
 pub use examples::{examples, Example};
-pub use generator::{checkable, fillable, Size};
+pub use generator::{checkable, clean, fillable, Size};
+pub use litmus::{litmus, Litmus};
+pub use moved::{moved, Moved};
 pub use random::Random;

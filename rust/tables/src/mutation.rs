@@ -1,6 +1,7 @@
 //! Mutations of a table, and the repair that keeps a mutated table admissible.
 
 use crate::builder::{flags, kind, order, scope, Row, Table, BLANK, INITIAL};
+use crate::counted::repair_run;
 use crate::random::Random;
 
 /// Changes one thing at random, then repairs what no longer fits.
@@ -8,12 +9,13 @@ pub(crate) fn mutate(random: &mut Random, table: &mut Table) {
     if table.rows.is_empty() {
         return;
     }
-    match random.below(20) {
+    match random.below(21) {
         0 => change_place_numbers(random, table),
         1 => swap_neighbours(random, table),
         2 => swap_ranks(random, table),
         3 | 4 => change_source(random, table),
         5 => change_reference(random, table),
+        6 => change_instance(random, table),
         _ => {
             let place = random.below(table.rows.len());
             let agent_count = table.agents.len();
@@ -56,6 +58,28 @@ fn change_access(random: &mut Random, row: &mut Row) {
 fn change_place_numbers(random: &mut Random, table: &mut Table) {
     let agent = random.below(table.agents.len());
     table.agents[agent][random.below(3)] = random.below(3) as u16;
+}
+
+/// Moves a control barrier to another instance, or changes the execution
+/// scope of all rows of its instance.
+fn change_instance(random: &mut Random, table: &mut Table) {
+    let barriers = rows_that(table, Row::is_control_barrier);
+    if barriers.is_empty() {
+        return;
+    }
+    let (row, other) = (random.pick(&barriers), random.pick(&barriers));
+    if random.percent(50) {
+        table.rows[row].start = table.rows[other].start;
+        table.rows[row].class = table.rows[other].class;
+        return;
+    }
+    let barrier = table.rows[row];
+    let scope = random.below(5) as u8;
+    for other in &mut table.rows {
+        if other.meets(barrier) {
+            other.class = scope;
+        }
+    }
 }
 
 fn change_reference(random: &mut Random, table: &mut Table) {
@@ -145,6 +169,11 @@ fn write_again(random: &mut Random, table: &mut Table) -> bool {
 /// Takes away one thing that rows of different agents may be ordered by.
 pub(crate) fn weaken(random: &mut Random, table: &mut Table) {
     let rows = rows_that(table, |row| row.order != order::RELAXED || row.flags > 1);
+    let barriers = rows_that(table, Row::is_control_barrier);
+    if !barriers.is_empty() && random.percent(20) {
+        leave_instance(random, table, &barriers);
+        return repair(random, table);
+    }
     if rows.is_empty() {
         return move_to_another_agent(random, table);
     }
@@ -158,6 +187,24 @@ pub(crate) fn weaken(random: &mut Random, table: &mut Table) {
         _ => make_one_private(random, table),
     }
     repair(random, table);
+}
+
+/// Moves a control barrier, or another row of its instance, to an instance of
+/// its own.
+fn leave_instance(random: &mut Random, table: &mut Table, barriers: &[usize]) {
+    let row = random.pick(barriers);
+    table.rows[row].start = free_instance(table);
+}
+
+/// An instance number that no control barrier has.
+fn free_instance(table: &Table) -> u16 {
+    let is_taken = |instance: &u16| {
+        let barriers = table.rows.iter().filter(|row| row.is_control_barrier());
+        barriers.into_iter().any(|row| row.start == *instance)
+    };
+    (100..=u16::MAX)
+        .find(|instance| !is_taken(instance))
+        .expect("there are more numbers than rows")
 }
 
 fn move_to_another_agent(random: &mut Random, table: &mut Table) {
@@ -228,7 +275,9 @@ pub(crate) fn repair(random: &mut Random, table: &mut Table) {
     for place in 0..table.rows.len() {
         repair_class(table, place);
         repair_source(random, table, place);
+        repair_run(table, place);
         repair_rank(table, place);
+        repair_instance(table, place);
     }
 }
 
@@ -236,6 +285,7 @@ fn repair_kind_fit(random: &mut Random, row: &mut Row) {
     match row.kind {
         kind::PLAIN_READ | kind::PLAIN_WRITE => repair_plain(row),
         kind::BARRIER => repair_barrier(row),
+        kind::CONTROL_BARRIER => row.flags &= !flags::NON_PRIVATE,
         _ => repair_atomic(row),
     }
     if !row.is_plain() {
@@ -341,6 +391,21 @@ fn repair_rank(table: &mut Table, place: usize) {
         })
     {
         table.rows[place].rank = table.rows[place].rank.wrapping_add(1);
+    }
+}
+
+/// Gives a control barrier that doesn't fit in its instance one of its own.
+fn repair_instance(table: &mut Table, place: usize) {
+    let row = table.rows[place];
+    let fits = (0..place).all(|earlier| {
+        let other = table.rows[earlier];
+        !other.meets(row)
+            || (other.class == row.class
+                && other.agent != row.agent
+                && share(table, other.agent, row.agent, row.class))
+    });
+    if !fits {
+        table.rows[place].start = free_instance(table);
     }
 }
 

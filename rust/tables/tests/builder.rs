@@ -46,7 +46,7 @@ fn generate(words: &[&str]) -> Output {
 #[test]
 fn generator_writes_as_many_lines_as_asked() {
     let all_start_with = |sort: &str, words: &[&str]| {
-        let output = generate(&["7", "50", "0", "64", sort]);
+        let output = generate(&["7", "50", "0", "128", sort]);
         assert!(output.status.success());
         let text = String::from_utf8(output.stdout).unwrap();
         assert_eq!(text.lines().count(), 50);
@@ -67,7 +67,7 @@ fn generator_refuses_bad_words() {
     for words in [
         &["1", "2", "3"] as &[&str],
         &["1", "2", "9", "3"],
-        &["1", "2", "3", "65"],
+        &["1", "2", "3", "129"],
         &["1", "2", "3", "4", "guess"],
         &["x", "2", "3", "4"],
     ] {

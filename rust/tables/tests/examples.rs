@@ -37,13 +37,15 @@ fn the_folder_holds_just_these_tables() {
 #[test]
 fn the_program_writes_them() {
     let folder = PathBuf::from(env!("CARGO_TARGET_TMPDIR")).join("examples");
+    // Another day's tables may lie there.
+    let _ = fs::remove_dir_all(&folder);
     fs::create_dir_all(&folder).unwrap();
     let status = Command::new(env!("CARGO_BIN_EXE_write-examples"))
         .arg(&folder)
         .status()
         .unwrap();
     assert!(status.success());
-    assert_eq!(tables_in(&folder), described());
+    assert!(tables_in(&folder) == described());
     let status = Command::new(env!("CARGO_BIN_EXE_write-examples"))
         .status()
         .unwrap();

@@ -70,15 +70,21 @@ impl Checked<'_> {
 
     fn l3_words(&self, x: usize, y: usize, from: usize, to: usize) -> String {
         let scope = |moment: usize| names::scope(self.run.rows[moment / 3].scope);
+        let object = |row: usize, other: usize| match row == other {
+            true => "itself".to_string(),
+            false => format!("row {other}"),
+        };
         let mut words = format!(
-            "row {} makes row {x} available in {} scope",
+            "row {} makes {} available in {} scope",
             from / 3,
+            object(from / 3, x),
             scope(from)
         );
         if self.run.rows[y].reads() {
             words += &format!(
-                ", row {} makes it visible to row {y} in {} scope",
+                ", row {} makes it visible to {} in {} scope",
                 to / 3,
+                object(to / 3, y),
                 scope(to)
             );
         }

@@ -2,14 +2,16 @@
 //! reason why it might be what is missing.
 
 use crate::account::Checked;
-use crate::change::{Change, Goal};
+use crate::change::Change;
 use crate::edit::{Edit, Field};
+use crate::goal::Goal;
 use crate::reason::Reason;
+use crate::reduction::relevant;
 use second::table::*;
 use second::INITIAL;
 
-/// The changes of every row, those of one group next to each other, the
-/// least first.
+/// The changes of every row that the race depends on, those of one group next
+/// to each other, the least first.
 pub fn catalogue(checked: Checked, goal: Goal) -> Vec<Change> {
     let mut maker = Maker {
         checked,
@@ -17,7 +19,7 @@ pub fn catalogue(checked: Checked, goal: Goal) -> Vec<Change> {
         changes: Vec::new(),
         group: 0,
     };
-    for row in 0..checked.run.rows.len() {
+    for row in relevant(checked.run, goal) {
         let fields = checked.run.rows[row];
         if fields.is_plain() {
             maker.plain(row, fields);
@@ -78,12 +80,6 @@ impl Maker<'_> {
     }
 
     fn plain(&mut self, row: usize, fields: Row) {
-        let rows = &self.checked.run.rows;
-        let agents = [rows[self.goal.first].agent, rows[self.goal.second].agent];
-        // Others' plain rows order nothing for these two.
-        if !agents.contains(&fields.agent) {
-            return;
-        }
         if !fields.is_non_private() {
             self.group += 1;
             let flags = fields.flags | NON_PRIVATE;
@@ -161,11 +157,31 @@ impl Maker<'_> {
         self.add(Reason::NotAtomic { row, scope }, edits);
     }
 
-    /// A rank above those of all atomic writers; racing rows get different ones.
+    /// A rank after those of all atomic writers, or of the place's where they
+    /// are counted; racing rows get different ones.
     fn free_rank(&self, row: usize) -> u16 {
-        let ranks = self.checked.run.rows.iter().map(|fields| fields.rank);
-        let top = ranks.max().unwrap_or(0);
-        top.saturating_add(if row == self.goal.first { 1 } else { 2 })
+        let run = self.checked.run;
+        let more = if row == self.goal.first { 1 } else { 2 };
+        if run.is_counted {
+            let last = self.last(self.writers_of_place(row));
+            return last.map_or(more, |last| run.rows[last].rank.wrapping_add(more));
+        }
+        let ranks = run.rows.iter().map(|fields| fields.rank);
+        ranks.max().unwrap_or(0).saturating_add(more)
+    }
+
+    /// The writer of the latest rank.
+    fn last(&self, writers: Vec<usize>) -> Option<usize> {
+        let run = self.checked.run;
+        let later = |one: usize, other: usize| {
+            let is_later = run.is_later(run.rows[other].rank, run.rows[one].rank);
+            if is_later {
+                other
+            } else {
+                one
+            }
+        };
+        writers.into_iter().reduce(later)
     }
 
     /// Whether another writer of the place has the row's rank, which a wider
@@ -260,7 +276,7 @@ impl Maker<'_> {
 
     /// Another source, and a write as a read-modify-write.
     fn atomic(&mut self, row: usize, fields: Row) {
-        let rows = &self.checked.run.rows;
+        let run = self.checked.run;
         let writers = self.writers_of_place(row);
         if fields.reads() {
             for source in writers.iter().filter(|row| **row as u16 != fields.source) {
@@ -276,9 +292,10 @@ impl Maker<'_> {
             }
         }
         if fields.kind == ATOMIC_WRITE {
-            let before = writers.iter().filter(|row| rows[**row].rank < fields.rank);
-            let source = before.max_by_key(|row| rows[**row].rank);
-            let source = source.map_or(INITIAL, |row| *row as u16);
+            let before = writers.into_iter();
+            let before = before.filter(|row| run.is_later(fields.rank, run.rows[*row].rank));
+            let source = self.last(before.collect());
+            let source = source.map_or(INITIAL, |row| row as u16);
             self.group += 1;
             let edits = vec![
                 Edit::new(row, Field::Kind, ATOMIC_RMW),

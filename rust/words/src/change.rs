@@ -1,15 +1,7 @@
-//! A race, and a change that might end it.
+//! A change that might end a race.
 
 use crate::edit::Edit;
 use crate::reason::Reason;
-
-/// The race to be mended: two rows and a byte.
-#[derive(Clone, Copy, Debug, PartialEq, Eq)]
-pub struct Goal {
-    pub first: usize,
-    pub second: usize,
-    pub byte: u32,
-}
 
 /// Edits of one row that go together.
 #[derive(Clone, Debug, PartialEq, Eq)]

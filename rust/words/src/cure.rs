@@ -1,29 +1,55 @@
 //! The search for what would order two racing rows: each change of the
-//! catalogue alone, then two together. A cure is one only if the edited table
-//! is well formed and the rows no longer race at the byte; both are asked of
-//! the second implementation and of the proved checker.
+//! catalogue alone, then two together, then new rows. A cure is one only if
+//! the edited table is well formed, by the proved checker, and the rows no
+//! longer race at the byte, by it and by the second implementation; the latter
+//! and the search itself go by the rows that the race depends on.
 
 use crate::account::Checked;
 use crate::catalogue::catalogue;
-use crate::change::{Change, Goal};
+use crate::change::Change;
 use crate::edit::{edited, merged, Edit, Field};
+use crate::goal::Goal;
+use crate::insertion::{stepped, Insertion, Step};
 use crate::reason::Reason;
+use crate::reduction::Reduction;
+use crate::remedy::{remedies, Remedy};
 use crate::run::Run;
 use second::table::*;
-use second::{CheckAnswer, State, CYCLE_NUMBERS, WORK_WORDS};
+use second::{State, CYCLE_NUMBERS, WORK_WORDS};
+use std::cmp::Ordering;
 use std::collections::HashSet;
-use stramashly::Checker;
+use stramashly::{CheckAnswer, Checker, FillAnswer};
 
-/// One or two changes that order the rows.
+/// Changes that order the rows: one or two of rows that are there, or new
+/// rows and what the racing rows need besides.
 #[derive(Clone, Debug)]
 pub struct Cure {
     pub changes: Vec<Change>,
     /// The changes as edits, one for each field.
     pub edits: Vec<Edit>,
+    /// The new rows, put in one after the other when the edits are made.
+    pub insertions: Vec<Insertion>,
     /// What orders the rows then.
     pub order: String,
     /// What a check answers then.
     pub answer: String,
+}
+
+impl Cure {
+    /// All that is to be done, in order.
+    pub fn steps(&self) -> Vec<Step> {
+        let edits = self.edits.iter().map(|edit| Step::Edit(*edit));
+        let insertions = self.insertions.iter();
+        edits
+            .chain(insertions.map(|insertion| Step::Insert(*insertion)))
+            .collect()
+    }
+
+    /// Whether rows that are there get all that is wanted, and it asks no
+    /// other run and no other access.
+    fn is_stronger(&self) -> bool {
+        self.insertions.is_empty() && self.changes.iter().all(|change| change.is_stronger)
+    }
 }
 
 /// What the search found.
@@ -38,6 +64,8 @@ pub struct Search {
 
 /// So many pairs of changes are shown at most; more only tire.
 const ENOUGH_PAIRS: usize = 6;
+/// So many cures with new rows.
+const ENOUGH_REMEDIES: usize = 3;
 
 /// Tries changes until the budget is used up.
 struct Searcher<'a> {
@@ -45,26 +73,37 @@ struct Searcher<'a> {
     goal: Goal,
     checker: &'a mut Checker,
     state: State,
-    /// Checks that may still be made.
+    /// What the race depends on.
+    reduction: Reduction,
+    /// Questions that may still be asked.
     budget: usize,
 }
 
 /// Looks for cures of a table's race; `checked` is the table as it is.
 pub fn search(table: &[u8], checked: Checked, goal: Goal, checker: &mut Checker) -> Search {
-    let rows = checked.run.rows.len();
+    let reduction = Reduction::of(table, goal);
+    let rows = Run::of(reduction.table()).rows.len();
     let mut searcher = Searcher {
         table,
         goal,
         checker,
         state: State::new(),
+        reduction,
         // A check takes time with the square of the rows, at the least.
-        budget: 2_000_000 / ((rows + 8) * (rows + 8)),
+        budget: 800_000 / ((rows + 8) * (rows + 8)),
     };
     let mut changes = catalogue(checked, goal);
     changes.sort_by_key(|change| distance(checked.run, goal, change.edits[0].row));
     let mut cures = searcher.alone(&changes);
     if cures.is_empty() {
         cures = searcher.two_together(&changes);
+    }
+    // New rows are for where the rows that are there don't do.
+    if !cures
+        .iter()
+        .any(|cure| cure.is_stronger() && rank(cure).0 < 2)
+    {
+        cures.extend(searcher.with_new_rows(checked));
     }
     cures.sort_by_key(rank);
     Search {
@@ -84,27 +123,35 @@ fn distance(run: &Run, goal: Goal, row: usize) -> (bool, usize, usize) {
     (is_others, steps[0].min(steps[1]), row)
 }
 
+/// The trouble of a run that can't happen then.
+const IMPOSSIBLE: usize = 2;
+
 /// Cures that leave no other trouble first; of those, cures of the program
 /// before those of the run, then those of fewest fields.
 fn rank(cure: &Cure) -> (usize, bool, usize) {
     let trouble = match cure.answer.split(' ').next() {
         Some("race-free") => 0,
         Some("race") => 1,
-        _ => 2,
+        _ => IMPOSSIBLE,
     };
     let is_other_run = cure
         .changes
         .iter()
         .any(|change| matches!(change.reason, Reason::OtherSource { .. }));
-    (trouble, is_other_run, cure.edits.len())
+    (
+        trouble,
+        is_other_run,
+        cure.edits.len() + cure.insertions.len(),
+    )
 }
 
-/// The cures that do no more than another one and something besides are left out.
+/// The cures that do no more than another one and something besides are left
+/// out; new rows are something else.
 fn without_needless(cures: &[Cure]) -> Vec<Cure> {
     let is_needless = |cure: &Cure| {
-        cures
-            .iter()
-            .any(|less| less.edits != cure.edits && contains(&cure.edits, &less.edits))
+        let others = cures.iter().filter(|other| other.insertions.is_empty());
+        let mut others = others.filter(|other| other.edits != cure.edits);
+        cure.insertions.is_empty() && others.any(|less| contains(&cure.edits, &less.edits))
     };
     let needed = cures.iter().filter(|cure| !is_needless(cure));
     needed.cloned().collect()
@@ -126,54 +173,87 @@ fn contains(edits: &[Edit], others: &[Edit]) -> bool {
 }
 
 impl Searcher<'_> {
-    /// Whether the rows no longer race in the edited table; none if it is
-    /// refused or may not be asked any more.
+    /// Whether the goal's rows don't race with these edits; none if the table
+    /// is refused then or may not be asked any more.
     fn mends(&mut self, edits: &[Edit]) -> Option<bool> {
         self.budget = self.budget.checked_sub(1)?;
-        let table = edited(self.table, edits);
-        let answer = self.state.check(&table, WORK_WORDS, CYCLE_NUMBERS);
-        if let CheckAnswer::Refused { .. } = answer {
-            return None;
-        }
-        let Goal {
-            first,
-            second,
-            byte,
-        } = self.goal;
-        Some(!self.state.races_at(first, second, byte))
+        let table = self.reduction.edited(edits);
+        let goal = self.reduction.goal(self.goal);
+        self.is_ordered(&table, goal)
     }
 
-    /// The cure, if these changes are one.
-    fn cure(&mut self, changes: &[&Change], edits: Vec<Edit>) -> Option<Cure> {
-        if self.mends(&edits) != Some(true) {
-            return None;
+    /// Whether rows don't race in a table; none if it is refused. A fill is
+    /// asked, since that looks for races before anything else.
+    fn is_ordered(&mut self, table: &[u8], goal: Goal) -> Option<bool> {
+        match self.checker.fill(table) {
+            FillAnswer::Refused { .. } => return None,
+            FillAnswer::Filled(_) | FillAnswer::None => return Some(true),
+            FillAnswer::Race {
+                first,
+                second,
+                byte,
+            } => {
+                let pair = (usize::from(first), usize::from(second));
+                match pair.cmp(&(goal.first, goal.second)) {
+                    // Pairs that come before the first racing one don't race.
+                    Ordering::Greater => return Some(true),
+                    Ordering::Equal if u32::from(byte) >= goal.byte => {
+                        return Some(u32::from(byte) > goal.byte)
+                    }
+                    _ => (),
+                }
+            }
         }
-        let table = edited(self.table, &edits);
-        let answer = self.checker.check(&table).to_string();
-        let Goal {
-            first,
-            second,
-            byte,
-        } = self.goal;
-        let is_told = answer == format!("race {first} {second} {byte}");
-        if is_told || answer.starts_with("refused") {
-            return None;
+        self.state.check(table, WORK_WORDS, CYCLE_NUMBERS);
+        Some(!self.state.races_at(goal.first, goal.second, goal.byte))
+    }
+
+    /// The cure, if these changes and new rows are one.
+    fn cure(
+        &mut self,
+        changes: &[&Change],
+        edits: Vec<Edit>,
+        insertions: Vec<Insertion>,
+    ) -> Option<Cure> {
+        let mut goal = self.goal;
+        for insertion in &insertions {
+            goal.first = insertion.moved(goal.first);
+            goal.second = insertion.moved(goal.second);
         }
-        Some(Cure {
+        let mut cure = Cure {
             changes: changes.iter().map(|change| (*change).clone()).collect(),
             edits,
-            order: self.order_words(&table)?,
-            answer,
-        })
+            insertions,
+            order: String::new(),
+            answer: String::new(),
+        };
+        if cure.insertions.is_empty() && self.mends(&cure.edits) != Some(true) {
+            return None;
+        }
+        let table = stepped(self.table, &cure.steps()).ok()?;
+        cure.answer = match self.checker.check(&table) {
+            CheckAnswer::Refused { .. } => return None,
+            answer => answer.to_string(),
+        };
+        let reduction = Reduction::of(&table, goal);
+        self.state
+            .check(reduction.table(), WORK_WORDS, CYCLE_NUMBERS);
+        let goal = reduction.goal(goal);
+        if self.state.races_at(goal.first, goal.second, goal.byte) {
+            return None;
+        }
+        cure.order = self.order_words(reduction.table(), goal)?;
+        Some(cure)
     }
 
-    /// What orders the rows in the table checked last.
-    fn order_words(&self, table: &[u8]) -> Option<String> {
+    /// What orders the rows in the table whose relations are there, by the
+    /// numbers that they have in the searched one.
+    fn order_words(&self, table: &[u8], goal: Goal) -> Option<String> {
         let Goal {
             first,
             second,
             byte,
-        } = self.goal;
+        } = goal;
         if self.state.mutually_ordered(first, second) {
             return Some("they are mutually-ordered".to_string());
         }
@@ -185,10 +265,51 @@ impl Searcher<'_> {
         let forth = checked.ordered(first, second, byte);
         let back = || checked.ordered(second, first, byte);
         let (row, ordered) = match forth {
-            Some(ordered) => (first, ordered),
-            None => (second, back()?),
+            Some(ordered) => (self.goal.first, ordered),
+            None => (self.goal.second, back()?),
         };
         Some(format!("L{} puts row {row} first", ordered.rule))
+    }
+
+    /// Cures with new rows: those that leave least trouble.
+    fn with_new_rows(&mut self, checked: Checked) -> Vec<Cure> {
+        let remedies = remedies(checked, self.goal);
+        let mut cures: Vec<Cure> = remedies
+            .into_iter()
+            .filter_map(|remedy| {
+                let Remedy {
+                    changes,
+                    edits,
+                    insertions,
+                } = remedy;
+                let changes: Vec<&Change> = changes.iter().collect();
+                self.both_needed(&edits, &insertions)
+                    .then(|| self.cure(&changes, edits, insertions))
+                    .flatten()
+            })
+            .collect();
+        let least = cures.iter().map(|cure| rank(cure).0).min();
+        cures.retain(|cure| Some(rank(cure).0) == least);
+        cures.truncate(ENOUGH_REMEDIES);
+        cures
+    }
+
+    /// Whether the rows still race with the first of the new rows alone: else
+    /// less would do.
+    fn both_needed(&mut self, edits: &[Edit], insertions: &[Insertion]) -> bool {
+        let mut table = edited(self.table, edits);
+        let first = insertions[0];
+        if first.apply(&mut table).is_err() {
+            return false;
+        }
+        let goal = Goal {
+            first: first.moved(self.goal.first),
+            second: first.moved(self.goal.second),
+            ..self.goal
+        };
+        let reduction = Reduction::of(&table, goal);
+        let goal = reduction.goal(goal);
+        self.is_ordered(reduction.table(), goal) != Some(true)
     }
 
     fn alone(&mut self, changes: &[Change]) -> Vec<Cure> {
@@ -196,7 +317,7 @@ impl Searcher<'_> {
         let mut cures = Vec::new();
         for change in changes {
             if !cured.contains(&change.group) {
-                let found = self.cure(&[change], change.edits.clone());
+                let found = self.cure(&[change], change.edits.clone(), Vec::new());
                 cured.extend(found.as_ref().map(|_| change.group));
                 cures.extend(found);
             }
@@ -238,7 +359,8 @@ impl Searcher<'_> {
                     continue;
                 }
                 let edits = merged(&first.edits, &second.edits);
-                if let Some(cure) = edits.and_then(|edits| self.cure(&[first, second], edits)) {
+                let cure = |edits| self.cure(&[first, second], edits, Vec::new());
+                if let Some(cure) = edits.and_then(cure) {
                     cured.insert(groups);
                     cures.push(cure);
                 }

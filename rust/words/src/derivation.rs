@@ -15,7 +15,7 @@ pub fn step_parts(step: u16) -> (u16, usize) {
 /// finder's derivation, which the proved reader has accepted.
 pub fn derived_lines(table: &[u8], rows: &[Row], (from, to): (usize, usize)) -> Vec<String> {
     let mut checker = Checker::new();
-    // Moments are below 192.
+    // Three moments for each of 128 rows.
     let (first, second) = (from as u16, to as u16);
     if let DeriveAnswer::Derivation(derivation) = checker.derive(table, first, second) {
         let answer = Checker::accepts(table, first, second, derivation);
@@ -47,7 +47,8 @@ fn step_words(rows: &[Row], classes: u8, case: u16, from: usize, to: usize) -> S
     let classes = names::classes(classes);
     match u8::try_from(case) {
         Ok(SYNCHRONIZES_STEP) => {
-            format!("{start} synchronizes with {end}, both for {classes} (M6, case 1)")
+            let meeting = meeting_words(rows, from / 3, to / 3);
+            format!("{start} synchronizes with {end}{meeting}, both for {classes} (M6, case 1)")
         }
         Ok(RELEASE_STEP) => {
             format!("{start} comes before {end}, a release for {classes} (M6, case 2)")
@@ -57,6 +58,39 @@ fn step_words(rows: &[Row], classes: u8, case: u16, from: usize, to: usize) -> S
         }
         _ => format!("{start} leads to {end} for {classes} (M6, case {case})"),
     }
+}
+
+/// The meeting by which two barriers synchronize, if there is one.
+fn meeting_words(rows: &[Row], release: usize, acquire: usize) -> String {
+    let is_barrier = |row: usize| rows.get(row).is_some_and(|row| row.is_barrier());
+    if !is_barrier(release) || !is_barrier(acquire) {
+        return String::new();
+    }
+    let agent = |row: usize| rows[row].agent;
+    match meeting(rows, (agent(release), release), (agent(acquire), acquire)) {
+        None => String::new(),
+        Some((one, other)) if (one, other) == (release, acquire) => {
+            format!(", both of control barrier {}", rows[one].instance())
+        }
+        Some((one, other)) => format!(
+            ", with rows {one} and {other} of control barrier {} between them",
+            rows[one].instance()
+        ),
+    }
+}
+
+/// The first two rows of one control barrier's instance, the one an agent's
+/// from a row on, the other another agent's up to a row.
+pub fn meeting(
+    rows: &[Row],
+    (agent, from): (u8, usize),
+    (other, to): (u8, usize),
+) -> Option<(usize, usize)> {
+    let is_met = |row: usize, agent: u8| rows[row].is_control_barrier() && rows[row].agent == agent;
+    let ours = (from..rows.len()).filter(|row| is_met(*row, agent));
+    let theirs: Vec<usize> = (0..=to).filter(|row| is_met(*row, other)).collect();
+    let mut pairs = ours.flat_map(|one| theirs.iter().map(move |two| (one, *two)));
+    pairs.find(|(one, two)| one != two && rows[*one].instance() == rows[*two].instance())
 }
 
 /// A moment in words: the row itself, or what the row does before or after.

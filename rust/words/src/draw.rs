@@ -8,7 +8,8 @@ use second::{State, CYCLE_NUMBERS, WORK_WORDS};
 use stramashly::{CheckAnswer, Checker};
 
 /// The table as an SVG document, or the refusal of a table that has no picture.
-pub fn draw(table: &[u8], checker: &mut Checker) -> Result<String, String> {
+/// Of a large run only the rows that matter are drawn, unless all are wanted.
+pub fn draw(table: &[u8], checker: &mut Checker, is_all: bool) -> Result<String, String> {
     let answer = checker.check(table);
     if let CheckAnswer::Refused { .. } = answer {
         return Err(answer.to_string());
@@ -22,5 +23,5 @@ pub fn draw(table: &[u8], checker: &mut Checker) -> Result<String, String> {
         run: &run,
     };
     let shown: Shown = shown(checked, answer);
-    Ok(picture(checked, &answer.to_string(), &shown))
+    Ok(picture(checked, &answer.to_string(), &shown, is_all))
 }

@@ -8,24 +8,32 @@ use std::str::FromStr;
 #[derive(Clone, Copy, Debug, PartialEq, Eq, PartialOrd, Ord)]
 pub enum Field {
     Kind,
+    Agent,
     Order,
     Scope,
     Classes,
     Flags,
+    /// Of a control barrier the execution scope.
     Class,
+    Length,
+    /// Of a control barrier the instance.
+    Start,
     Reference,
     Source,
     Rank,
 }
 
 /// Each field's name, its place in the row and its bytes.
-const FIELDS: [(Field, &str, usize, usize); 9] = [
+pub const FIELDS: [(Field, &str, usize, usize); 12] = [
     (Field::Kind, "kind", 0, 1),
+    (Field::Agent, "agent", 1, 1),
     (Field::Order, "order", 2, 1),
     (Field::Scope, "scope", 3, 1),
     (Field::Classes, "classes", 4, 1),
     (Field::Flags, "flags", 5, 1),
     (Field::Class, "class", 6, 1),
+    (Field::Length, "length", 7, 1),
+    (Field::Start, "start", 8, 2),
     (Field::Reference, "reference", 10, 2),
     (Field::Source, "source", 12, 2),
     (Field::Rank, "rank", 14, 2),
@@ -70,11 +78,14 @@ impl Field {
     pub fn of(self, row: Row) -> u16 {
         match self {
             Field::Kind => row.kind.into(),
+            Field::Agent => row.agent.into(),
             Field::Order => row.order.into(),
             Field::Scope => row.scope.into(),
             Field::Classes => row.classes.into(),
             Field::Flags => row.flags.into(),
             Field::Class => row.class.into(),
+            Field::Length => row.length.into(),
+            Field::Start => row.start,
             Field::Reference => row.reference,
             Field::Source => row.source,
             Field::Rank => row.rank,
@@ -86,6 +97,40 @@ impl Field {
             .iter()
             .find(|(field, ..)| *field == self)
             .expect("every field has an entry")
+    }
+
+    /// Whether the program says it: rank and source come about in the run,
+    /// and which reference is which is no instruction's own.
+    pub fn is_of_program(self) -> bool {
+        !matches!(self, Field::Reference | Field::Source | Field::Rank)
+    }
+
+    /// The field of a name.
+    pub fn named(name: &str) -> Option<Field> {
+        let entry = FIELDS.iter().find(|(_, other, ..)| *other == name);
+        entry.map(|(field, ..)| *field)
+    }
+
+    /// As it is written in an edit.
+    pub fn name(self) -> &'static str {
+        self.entry().1
+    }
+
+    /// The most that its bytes hold.
+    pub fn most(self) -> u16 {
+        if self.entry().3 == 1 {
+            255
+        } else {
+            u16::MAX
+        }
+    }
+
+    /// Gives a row another value.
+    pub fn set(self, row: Row, value: u16) -> Row {
+        let mut bytes = row_bytes(row);
+        let (_, _, place, size) = self.entry();
+        bytes[place..place + size].copy_from_slice(&value.to_be_bytes()[2 - size..]);
+        Row::from_bytes(&bytes)
     }
 }
 
@@ -105,16 +150,30 @@ impl FromStr for Edit {
         let ["row", row, name, value] = words[..] else {
             return Err(bad());
         };
-        let (field, ..) = FIELDS
-            .iter()
-            .find(|(_, other, ..)| *other == name)
-            .ok_or_else(bad)?;
+        let field = Field::named(name).ok_or_else(bad)?;
         Ok(Edit {
-            row: row.parse().map_err(|_| bad())?,
-            field: *field,
-            value: value.parse().map_err(|_| bad())?,
+            row: whole_number(row, usize::MAX).ok_or_else(bad)?,
+            field,
+            value: whole_number(value, field.most()).ok_or_else(bad)?,
         })
     }
+}
+
+/// A number in digits only, up to the most that it may be.
+pub fn whole_number<T: FromStr + PartialOrd>(text: &str, most: T) -> Option<T> {
+    let are_digits = text.bytes().all(|letter| letter.is_ascii_digit());
+    let number = text.parse().ok().filter(|number| *number <= most);
+    number.filter(|_| are_digits)
+}
+
+/// A row's bytes, as they stand in a table.
+pub fn row_bytes(row: Row) -> [u8; ROW_BYTES] {
+    let mut bytes = [0; ROW_BYTES];
+    for (field, _, place, size) in FIELDS {
+        let value = field.of(row).to_be_bytes();
+        bytes[place..place + size].copy_from_slice(&value[2 - size..]);
+    }
+    bytes
 }
 
 /// The table with these edits made.

@@ -2,8 +2,8 @@
 //! the proved library's own; the rest comes from the second implementation.
 
 use crate::account::Checked;
-use crate::change::Goal;
 use crate::cure::{search, Cure};
+use crate::goal::Goal;
 use crate::run::Run;
 use crate::{inconsistent, race, race_free, refusal};
 use second::{State, CYCLE_NUMBERS, WORK_WORDS};
@@ -35,6 +35,7 @@ impl Shown {
     /// The rows that the answer names.
     pub fn rows(&self) -> Vec<usize> {
         match self {
+            Shown::Refused { number, row } if refusal::is_of_a_row(*number) => vec![*row],
             Shown::Nothing | Shown::Refused { .. } => Vec::new(),
             Shown::Race(goal) => vec![goal.first, goal.second],
             Shown::Overwritten {
@@ -104,17 +105,13 @@ pub fn explain(table: &[u8], checker: &mut Checker) -> Explanation {
 fn tell(table: &[u8], checked: Checked, checker: &mut Checker, explanation: &mut Explanation) {
     explanation.lines = match explanation.shown {
         Shown::Nothing => race_free::lines(checked),
-        Shown::Refused { number, row } => refusal::lines(table, number, row),
-        Shown::Cycle {
-            ref rows,
-            ref edges,
-        } => inconsistent::cycle_lines(checked, rows, edges),
-        Shown::Overwritten {
-            source,
-            writer,
-            reader,
-            byte,
-        } => inconsistent::overwritten_lines(checked, [source, writer, reader], byte),
+        Shown::Refused { number, row } => refusal::check_lines(table, number, row, checker),
+        ref shown @ (Shown::Cycle { .. } | Shown::Overwritten { .. }) => {
+            let mut lines = inconsistent::lines(checked, shown);
+            lines.extend(inconsistent::causes(shown));
+            lines.extend(inconsistent::other_sources(checked, shown, checker));
+            lines
+        }
         Shown::Race(goal) => {
             let found = search(table, checked, goal, checker);
             let lines = race::lines(checked, goal, &found);

@@ -2,7 +2,7 @@
 //! the chain between them is missing.
 
 use crate::account::Checked;
-use crate::derivation::{at, moment_words};
+use crate::derivation::{at, meeting, moment_words};
 use crate::names;
 use crate::run::source_words;
 use second::table::Row;
@@ -22,6 +22,8 @@ impl Checked<'_> {
                 moment_words(rows, from),
                 self.end_words(y, ends)
             ),
+            from,
+            last,
             releases: own(rows[x].agent)
                 .filter(|row| rows[*row].is_release() && at(*row) >= from)
                 .collect(),
@@ -45,11 +47,12 @@ impl Checked<'_> {
         if agent == other {
             return format!("{none}, which comes no later");
         }
+        let unfit = self.meeting_lacks((agent, other), gap).unwrap_or_default();
         if gap.releases.is_empty() {
-            return format!("{none}: agent {agent} releases nothing from there on");
+            return format!("{none}: agent {agent} releases nothing from there on{unfit}");
         }
         if gap.acquires.is_empty() {
-            return format!("{none}: agent {other} acquires nothing up to there");
+            return format!("{none}: agent {other} acquires nothing up to there{unfit}");
         }
         let met = gap.releases.iter().find_map(|release| {
             let mut acquires = gap.acquires.iter();
@@ -62,9 +65,48 @@ impl Checked<'_> {
                 "{none}: of agent {agent}'s releases ({}) none synchronizes with an acquire of agent {other} ({}){}",
                 row_list(&gap.releases),
                 row_list(&gap.acquires),
-                self.unmet_words(gap)
+                match unfit.is_empty() {
+                    true => self.unmet_words(gap),
+                    false => unfit,
+                }
             ),
         }
+    }
+
+    /// What a control barrier that both agents meet in lacks, if there is one
+    /// where a chain could go through it.
+    fn meeting_lacks(&self, (agent, other): (u8, u8), gap: &Gap) -> Option<String> {
+        let rows = &self.run.rows;
+        // The rows whose own moments are no earlier, or no later.
+        let (first, last) = ((gap.from + 1) / 3, gap.last.div_ceil(3).checked_sub(1)?);
+        let (ours, theirs) = meeting(rows, (agent, first), (other, last))?;
+        let releases = gap.releases.iter().rfind(|row| {
+            let is_barrier = rows[**row].is_barrier();
+            is_barrier && **row <= ours
+        });
+        let acquires = gap.acquires.iter().find(|row| {
+            let is_barrier = rows[**row].is_barrier();
+            is_barrier && **row >= theirs
+        });
+        let mut lacks = Vec::new();
+        if releases.is_none() {
+            lacks.push(format!("row {ours} doesn't release"));
+        }
+        if acquires.is_none() {
+            lacks.push(format!("row {theirs} doesn't acquire"));
+        }
+        for row in releases.into_iter().chain(acquires) {
+            let scope = rows[*row].scope;
+            if !self.state.share_scope(agent, other, scope) {
+                let scope = names::scope(scope);
+                lacks.push(format!("row {row} has {scope} memory scope only"));
+            }
+        }
+        let instance = rows[ours].instance();
+        let lacks = names::listed(&lacks);
+        (!lacks.is_empty()).then(|| {
+            format!("; rows {ours} and {theirs} meet in control barrier {instance}, but {lacks}")
+        })
     }
 
     /// Why the only release doesn't synchronize with the only acquire.
@@ -85,7 +127,11 @@ impl Checked<'_> {
             );
         }
         if !first.is_atomic() || !second.is_atomic() {
-            return "; no atomic that was written after the one and read before the other joins them".to_string();
+            let meet = match first.is_barrier() && second.is_barrier() {
+                true => ", and no control barrier is met between them",
+                false => "",
+            };
+            return format!("; no atomic that was written after the one and read before the other joins them{meet}");
         }
         let place = |row: Row| (row.start, row.length, row.reference);
         if place(first) != place(second) {
@@ -111,9 +157,12 @@ impl Checked<'_> {
     }
 }
 
-/// Where a chain is missing: the rows that could have begun and ended it.
+/// Where a chain is missing: from which moment to which, and the rows that
+/// could have begun and ended it.
 struct Gap {
     none: String,
+    from: usize,
+    last: usize,
     releases: Vec<usize>,
     acquires: Vec<usize>,
 }

@@ -1,6 +1,12 @@
-//! Runs that can't have happened, in sentences: cycles and overwritten reads.
+//! Runs that can't have happened, in sentences: cycles and overwritten reads,
+//! and what such a run may mean.
 
 use crate::account::Checked;
+use crate::edit::{edited, Edit, Field};
+use crate::explain::Shown;
+use crate::names;
+use second::INITIAL;
+use stramashly::{CheckAnswer, Checker};
 
 /// Edges between rows, by their numbers.
 const EDGES: [&str; 4] = [
@@ -16,8 +22,22 @@ pub fn edge_name(number: u16) -> &'static str {
     EDGES.get(place).copied().unwrap_or("edge")
 }
 
+/// What shows that the run can't have happened; nothing of other answers.
+pub fn lines(checked: Checked, shown: &Shown) -> Vec<String> {
+    match shown {
+        Shown::Cycle { rows, edges } => cycle_lines(checked, rows, edges),
+        Shown::Overwritten {
+            source,
+            writer,
+            reader,
+            byte,
+        } => overwritten_lines(checked, [*source, *writer, *reader], *byte),
+        _ => Vec::new(),
+    }
+}
+
 /// The rows of a cycle, and why each comes before the next.
-pub fn cycle_lines(checked: Checked, rows: &[usize], edges: &[u16]) -> Vec<String> {
+fn cycle_lines(checked: Checked, rows: &[usize], edges: &[u16]) -> Vec<String> {
     let mut lines = vec!["Each of these rows comes before the next, and the last before the first, so the run can't have happened:".to_string()];
     lines.extend(
         rows.iter()
@@ -36,8 +56,10 @@ fn edge_lines(checked: Checked, x: usize, y: usize, edge: u16) -> Vec<String> {
     let why = match edge {
         1 => String::new(),
         2 => format!(
-            ": mutually-ordered writers, rank {} before rank {}",
-            rows[x].rank, rows[y].rank
+            ": mutually-ordered writers, {} {} before {}",
+            checked.run.rank_word(),
+            rows[x].rank,
+            rows[y].rank
         ),
         3 => format!(": row {y} read row {x}"),
         _ => match checked.state.read_from(x) {
@@ -64,7 +86,7 @@ fn edge_lines(checked: Checked, x: usize, y: usize, edge: u16) -> Vec<String> {
 }
 
 /// A source, the row that wrote over it, the reader, and their order.
-pub fn overwritten_lines(
+fn overwritten_lines(
     checked: Checked,
     [source, writer, reader]: [usize; 3],
     byte: u32,
@@ -81,4 +103,126 @@ pub fn overwritten_lines(
         lines.extend(order.iter().map(|line| format!("  {line}")));
     }
     lines
+}
+
+/// The reading rows whose source the answer rests on, and whether ranks or
+/// location order carry it too.
+struct Grounds {
+    readers: Vec<usize>,
+    ranked: Vec<usize>,
+    is_ordered: bool,
+}
+
+impl Grounds {
+    fn of(shown: &Shown) -> Grounds {
+        let mut grounds = Grounds {
+            readers: Vec::new(),
+            ranked: Vec::new(),
+            is_ordered: false,
+        };
+        match shown {
+            Shown::Overwritten { reader, .. } => {
+                grounds.readers.push(*reader);
+                grounds.is_ordered = true;
+            }
+            Shown::Cycle { rows, edges } => {
+                for (place, edge) in edges.iter().enumerate() {
+                    let (row, next) = (rows[place], rows[(place + 1) % rows.len()]);
+                    match edge {
+                        1 => grounds.is_ordered = true,
+                        2 => grounds.ranked.extend([row, next]),
+                        3 => grounds.readers.push(next),
+                        _ => grounds.readers.push(row),
+                    }
+                }
+            }
+            _ => (),
+        }
+        for rows in [&mut grounds.readers, &mut grounds.ranked] {
+            rows.sort_unstable();
+            rows.dedup();
+        }
+        grounds
+    }
+}
+
+/// What an impossible run may mean for recorder, driver and device, a
+/// sentence each.
+pub fn causes(shown: &Shown) -> Vec<String> {
+    let grounds = Grounds::of(shown);
+    let mut noted = Vec::new();
+    if !grounds.readers.is_empty() {
+        noted.push(format!("the source of {}", rows_words(&grounds.readers)));
+    }
+    if !grounds.ranked.is_empty() {
+        noted.push(format!("the ranks of {}", rows_words(&grounds.ranked)));
+    }
+    if grounds.is_ordered {
+        noted.push("the order of an agent's rows".to_string());
+    }
+    let noted = match noted.split_last() {
+        Some((last, [])) => last.clone(),
+        Some((last, rest)) => format!("{} or {last}", rest.join(", ")),
+        None => return Vec::new(),
+    };
+    let readers = match grounds.readers.is_empty() {
+        true => "these writes".to_string(),
+        false => format!("the read in {}", rows_words(&grounds.readers)),
+    };
+    let device = if grounds.is_ordered {
+        format!("{readers} got an old value although availability and visibility had been carried that far: a cache wasn't written back or wasn't emptied")
+    } else {
+        format!("{readers} went by an order of the atomics that isn't one: they weren't carried out in one place after another")
+    };
+    vec![
+        "One of three is wrong:".to_string(),
+        format!("  the recorder, if it noted {noted} otherwise than it was"),
+        format!("  the driver, if its compiler moved {readers} across a release or an acquire, or left one of those out"),
+        format!("  the device, if {device}"),
+    ]
+}
+
+fn rows_words(rows: &[usize]) -> String {
+    let numbers: Vec<String> = rows.iter().map(usize::to_string).collect();
+    let noun = if rows.len() == 1 { "row" } else { "rows" };
+    format!("{noun} {}", names::listed(&numbers))
+}
+
+/// So many other sources are tried, and so many named.
+const TRIED_SOURCES: usize = 200;
+const NAMED_SOURCES: usize = 4;
+
+/// The other sources with which the run would be possible, each checked: what
+/// the recorder may have meant.
+pub fn other_sources(checked: Checked, shown: &Shown, checker: &mut Checker) -> Vec<String> {
+    let rows = &checked.run.rows;
+    let edits = Grounds::of(shown).readers.into_iter().flat_map(|reader| {
+        let writers = (0..rows.len()).filter(move |writer| {
+            *writer != reader
+                && rows[*writer].writes()
+                && rows[*writer].covers_all_bytes_of(rows[reader])
+        });
+        let sources = writers.map(|writer| writer as u16).chain([INITIAL]);
+        sources
+            .filter(move |source| *source != rows[reader].source)
+            .map(move |source| Edit::new(reader, Field::Source, source))
+    });
+    let possible = edits.take(TRIED_SOURCES).filter_map(|edit| {
+        let answer = checker.check(&edited(checked.table, &[edit]));
+        let is_possible = matches!(answer, CheckAnswer::RaceFree | CheckAnswer::Race { .. });
+        is_possible.then(|| {
+            let source = match edit.value {
+                INITIAL => "the initial value".to_string(),
+                row => format!("row {row}"),
+            };
+            let reader = edit.row;
+            format!("  if row {reader} read {source} (edit: {edit}), check answers `{answer}`")
+        })
+    });
+    let lines: Vec<String> = possible.take(NAMED_SOURCES).collect();
+    if lines.is_empty() {
+        return lines;
+    }
+    let title = "The run is possible with another source:".to_string();
+    std::iter::once(title).chain(lines).collect()
 }

@@ -9,13 +9,16 @@
 //! | what | module |
 //! |---|---|
 //! | the words for codes, rows and tables | `names`, `run`, `show` |
-//! | why rows are ordered | `account`, `derivation` |
+//! | why rows are ordered | `account`, `derivation`, `why` |
 //! | why they aren't | `nearest`, `gap` |
-//! | what would order them | `catalogue`, `change`, `edit`, `reason`, `cure` |
+//! | what would order them | `catalogue`, `change`, `edit`, `reason`, `reduction`, `cure` |
+//! | new rows that would, and their words for a shader | `insertion`, `remedy`, `shader` |
 //! | the answers one by one | `race`, `race_free`, `inconsistent`, `refusal` |
-//! | answers in sentences, pictures and pages | `explain`, `draw`, `picture`, `page`, `markup` |
+//! | what is wrong with a refused table, and with its blanks | `fault`, `unfit`, `blank` |
+//! | answers in sentences, pictures and pages | `explain`, `headline`, `draw`, `picture`, `page`, `markup` |
 
 mod account;
+mod blank;
 mod catalogue;
 mod change;
 mod cure;
@@ -25,8 +28,12 @@ mod edit;
 #[cfg(test)]
 mod exhaustive;
 mod explain;
+mod fault;
 mod gap;
+mod goal;
+mod headline;
 mod inconsistent;
+mod insertion;
 mod markup;
 mod names;
 mod nearest;
@@ -35,21 +42,33 @@ mod picture;
 mod race;
 mod race_free;
 mod reason;
+mod reduction;
 mod refusal;
+mod remedy;
 mod run;
+mod shader;
 mod show;
+mod unfit;
+mod why;
 
 pub use account::{Checked, Ordered};
-pub use change::{Change, Goal};
+pub use change::Change;
 pub use cure::Cure;
 pub use derivation::{at, derivation_lines, derived_lines, moment_words, step_parts};
 pub use draw::draw;
 pub use edit::{edited, Edit, Field};
 pub use explain::{explain, Explanation, Shown};
+pub use fault::{faults, Fault};
+pub use goal::Goal;
+pub use headline::headline;
 pub use inconsistent::edge_name;
+pub use insertion::{stepped, Insertion, Step};
 pub use nearest::Near;
 pub use page::page;
 pub use reason::Reason;
 pub use refusal::refusal;
 pub use run::Run;
+pub use shader::{glsl, spirv};
 pub use show::show;
+pub use unfit::{unfit, Unfit};
+pub use why::why;

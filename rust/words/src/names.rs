@@ -4,14 +4,18 @@
 use second::table::{Row, MAKE_AVAILABLE, MAKE_VISIBLE, NON_PRIVATE};
 use second::{BLANK, INITIAL};
 
-const KINDS: [&str; 6] = [
+const KINDS: [&str; 7] = [
     "plain read",
     "plain write",
     "atomic read",
     "atomic write",
     "read-modify-write",
     "barrier",
+    "control barrier",
 ];
+/// The last kind and the last class that have a meaning.
+pub const LAST_KIND: u8 = KINDS.len() as u8 - 1;
+pub const LAST_CLASS: u8 = CLASSES.len() as u8 - 1;
 const ORDERS: [&str; 4] = ["relaxed", "acquire", "release", "acquire-release"];
 const SCOPES: [&str; 5] = [
     "invocation",
@@ -84,6 +88,12 @@ pub fn bytes(row: Row) -> String {
         1 => row.start.to_string(),
         _ => format!("{} to {}", row.start, row.end_byte() - 1),
     }
+}
+
+/// `byte 3`, `bytes 0 to 3`.
+pub fn byte_words(row: Row) -> String {
+    let noun = if row.length == 1 { "byte" } else { "bytes" };
+    format!("{noun} {}", bytes(row))
 }
 
 fn or_dash(text: String) -> String {

@@ -3,6 +3,7 @@
 
 use crate::account::Checked;
 use crate::explain::Explanation;
+use crate::headline::headline;
 use crate::markup::escaped;
 use crate::picture::picture;
 use crate::run::Run;
@@ -23,7 +24,10 @@ code { padding: 0 0.25em; border-radius: 3px; background: #eef0f2; }
 .wide { overflow-x: auto; border: 1px solid #c3c9d1; border-radius: 6px; }
 table { border-collapse: collapse; font-size: 14px; white-space: nowrap; }
 th, td { padding: 0.25rem 0.7rem; text-align: left; border-bottom: 1px solid #dfe3e8; }
-tr.pointed td { background: #fde8e6; }
+tr.pointed td, tr.pointed th, tr:target td, tr:target th { background: #fde8e6; }
+caption { padding: 0.25rem 0.7rem; text-align: left; color: #57606a; }
+tbody th { font-weight: normal; }
+a { color: inherit; }
 footer { margin-top: 2rem; color: #57606a; font-size: 14px; }
 svg { display: block; }
 @media (prefers-color-scheme: dark) {
@@ -31,30 +35,37 @@ body { color: #e6e9ed; background: #12151a; }
 code { background: #2a2f37; }
 .wide { border-color: #454c56; }
 th, td { border-color: #333a43; }
-tr.pointed td { background: #4a1f1c; }
-footer { color: #a3acb8; }
+tr.pointed td, tr.pointed th, tr:target td, tr:target th { background: #4a1f1c; }
+caption, footer { color: #a3acb8; }
+}
+@media print {
+main { max-width: none; padding: 0; }
+.wide { overflow: visible; border: 0; }
+svg { max-width: 100%; height: auto; }
 }
 ";
 
-/// The page of a table and its explanation.
-pub fn page(table: &[u8], explanation: &Explanation) -> String {
+/// The page of a table and its explanation; of a large run the picture has the
+/// rows that matter, unless all are wanted.
+pub fn page(table: &[u8], explanation: &Explanation, is_all: bool) -> String {
     let answer = escaped(&explanation.answer);
+    let headline = escaped(&headline(&explanation.shown));
     let mut html = format!(
-        "<!DOCTYPE html>\n<html lang=\"en\" xmlns=\"http://www.w3.org/1999/xhtml\">\n<head>\n<meta charset=\"utf-8\"/>\n<meta name=\"viewport\" content=\"width=device-width, initial-scale=1\"/>\n<title>{answer}</title>\n<style>\n{SHEET}</style>\n</head>\n<body>\n<main>\n<h1>{answer}</h1>\n"
+        "<!DOCTYPE html>\n<html lang=\"en\" xmlns=\"http://www.w3.org/1999/xhtml\">\n<head>\n<meta charset=\"utf-8\"/>\n<meta name=\"viewport\" content=\"width=device-width, initial-scale=1\"/>\n<title>{headline}</title>\n<style>\n{SHEET}</style>\n</head>\n<body>\n<main>\n<h1>{headline}</h1>\n<p><code>{answer}</code></p>\n"
     );
-    for line in &explanation.lines {
-        html += &paragraph(line);
-    }
     let run = Run::of(table);
-    html += &picture_part(table, &run, explanation);
+    for line in &explanation.lines {
+        html += &paragraph(line, run.rows.len());
+    }
+    html += &picture_part(table, &run, explanation, is_all);
     html += &table_part(table, &run, explanation);
-    html += "<footer><p>The first line is the answer of the proved checker. The words, the table and the picture come from a second implementation, which is tested and not proved.</p></footer>\n";
+    html += "<footer><p>The first line is the answer of the proved checker, and the steps from moment to moment are derivations that the proved library found and accepted. All else, the words, the table and the picture, comes from a second implementation, which is tested and not proved.</p></footer>\n";
     html + "</main>\n</body>\n</html>\n"
 }
 
 /// A line as a paragraph, as far in as the line is; what stands between
-/// backticks, and an edit, is code.
-fn paragraph(line: &str) -> String {
+/// backticks, and an edit, is code, and so many rows are linked to the table.
+fn paragraph(line: &str, rows: usize) -> String {
     let text = line.trim_start();
     let depth = (line.len() - text.len()).div_ceil(2).min(3);
     let class = match depth {
@@ -63,23 +74,52 @@ fn paragraph(line: &str) -> String {
     };
     let text = match text.split_once("edit: ") {
         Some(("", edits)) => format!("edit: <code>{}</code>", escaped(edits)),
-        _ => with_code(text),
+        _ => with_code(text, rows),
     };
     format!("<p{class}>{text}</p>\n")
 }
 
-fn with_code(text: &str) -> String {
+fn with_code(text: &str, rows: usize) -> String {
     let parts = text.split('`').enumerate();
     parts
         .map(|(place, part)| match place % 2 {
-            0 => escaped(part),
+            0 => linked(part, rows),
             _ => format!("<code>{}</code>", escaped(part)),
         })
         .collect()
 }
 
+/// The text with the numbers after `row` and `rows` linked to the table's
+/// rows. New rows aren't in the table.
+fn linked(text: &str, rows: usize) -> String {
+    let mut html = String::new();
+    // Whether a number here is a row's, and whether more may follow.
+    let (mut is_row, mut is_list, mut is_new) = (false, false, false);
+    for word in text.split_inclusive(' ') {
+        let bare = word.trim_end_matches(' ');
+        let digits = bare.find(|letter: char| !letter.is_ascii_digit());
+        let digits = &bare[..digits.unwrap_or(bare.len())];
+        let number = digits.parse::<usize>().ok().filter(|row| *row < rows);
+        match number {
+            Some(row) if is_row => {
+                let rest = escaped(&word[digits.len()..]);
+                html += &format!("<a href=\"#row-{row}\">{digits}</a>{rest}");
+                is_row = is_list && (bare.ends_with(',') || bare == digits);
+            }
+            _ => {
+                html += &escaped(word);
+                let is_name = matches!(bare, "row" | "Row" | "rows" | "Rows");
+                is_list = bare.ends_with('s') && is_name || is_list && bare == "and";
+                is_row = is_name && !is_new || is_list && is_row;
+            }
+        }
+        is_new = bare == "new";
+    }
+    html
+}
+
 /// The picture, unless the table is refused.
-fn picture_part(table: &[u8], run: &Run, explanation: &Explanation) -> String {
+fn picture_part(table: &[u8], run: &Run, explanation: &Explanation, is_all: bool) -> String {
     let mut state = State::new();
     state.check(table, WORK_WORDS, CYCLE_NUMBERS);
     let checked = Checked {
@@ -90,21 +130,32 @@ fn picture_part(table: &[u8], run: &Run, explanation: &Explanation) -> String {
     if explanation.answer.starts_with("refused") {
         return String::new();
     }
-    let svg = picture(checked, &explanation.answer, &explanation.shown);
-    format!("<h2>The run</h2>\n<div class=\"wide\">\n{svg}</div>\n")
+    let svg = picture(checked, &explanation.answer, &explanation.shown, is_all);
+    let area = scroll_area("The run as a picture");
+    format!("<h2>The run</h2>\n{area}{svg}</div>\n")
+}
+
+/// A part of the page that may be wider than it, and can be moved by keys.
+fn scroll_area(name: &str) -> String {
+    format!("<div class=\"wide\" tabindex=\"0\" role=\"region\" aria-label=\"{name}\">\n")
 }
 
 fn table_part(table: &[u8], run: &Run, explanation: &Explanation) -> String {
     let mut html = "<h2>The table</h2>\n".to_string();
-    html += &paragraph(&header(table).unwrap_or("There is no header.".to_string()));
+    let header = header(table).unwrap_or("There is no header.".to_string());
+    html += &paragraph(&header, 0);
     for (agent, places) in run.agents.iter().enumerate() {
-        html += &paragraph(&format!("agent {agent}: {}", place_words(*places)));
+        html += &paragraph(&format!("agent {agent}: {}", place_words(*places)), 0);
     }
     if run.rows.is_empty() {
         return html;
     }
-    html += "<div class=\"wide\">\n<table>\n<thead><tr>";
-    html += &COLUMNS.map(|name| format!("<th>{name}</th>")).concat();
+    html += &scroll_area("The table");
+    html +=
+        "<table>\n<caption>The rows, those that the answer names set off</caption>\n<thead><tr>";
+    html += &COLUMNS
+        .map(|name| format!("<th scope=\"col\">{name}</th>"))
+        .concat();
     html += "</tr></thead>\n<tbody>\n";
     let pointed = explanation.shown.rows();
     for (row, fields) in run.rows.iter().enumerate() {
@@ -114,7 +165,8 @@ fn table_part(table: &[u8], run: &Run, explanation: &Explanation) -> String {
             ""
         };
         let cells = cells(row, *fields).map(|cell| format!("<td>{}</td>", escaped(&cell)));
-        html += &format!("<tr{class}>{}</tr>\n", cells.concat());
+        let cells = cells[1..].concat();
+        html += &format!("<tr id=\"row-{row}\"{class}><th scope=\"row\">{row}</th>{cells}</tr>\n");
     }
     html + "</tbody>\n</table>\n</div>\n"
 }

@@ -2,9 +2,11 @@
 //! lacks, and the changes that would order them.
 
 use crate::account::Checked;
-use crate::change::Goal;
 use crate::cure::{Cure, Search};
+use crate::goal::Goal;
 use crate::names::counted;
+use crate::shader::{glsl, spirv};
+use second::table::Row;
 
 /// So many changes are shown at most.
 const SHOWN_CURES: usize = 8;
@@ -28,7 +30,7 @@ pub fn lines(checked: Checked, goal: Goal, found: &Search) -> Vec<String> {
     let (rule, before, after) = (near.rule, near.before, near.after);
     lines.push(format!(
         "Of the rules of order, L{rule} comes nearest ({}), row {before} before row {after}. It lacks this:",
-        in_short(rule)
+        in_short(rule, checked.run.rows[after])
     ));
     lines.extend(near.lacks.iter().map(|lack| format!("  {lack}")));
     lines.push(cures_title(found));
@@ -43,12 +45,14 @@ pub fn lines(checked: Checked, goal: Goal, found: &Search) -> Vec<String> {
     lines
 }
 
-/// What a rule of location order is about.
-fn in_short(rule: u8) -> &'static str {
-    match rule {
-        1 => "one agent's own order",
-        2 => "a read that happens before the other access",
-        _ => "a write that is made available, then visible to a read",
+/// What a rule of location order asks before such a row.
+fn in_short(rule: u8, after: Row) -> &'static str {
+    match (rule, after.reads(), after.writes()) {
+        (1, ..) => "one agent's own order",
+        (2, ..) => "a read that happens before the other access",
+        (_, true, false) => "a write that is made available, then visible to a read",
+        (_, true, true) => "a write that is made available, then visible to a read-modify-write",
+        (_, false, _) => "a write that is made available before the other write",
     }
 }
 
@@ -74,7 +78,9 @@ fn other_races(checked: Checked, goal: Goal) -> Option<String> {
 }
 
 fn cures_title(found: &Search) -> String {
+    let has_new_rows = found.cures.iter().any(|cure| !cure.insertions.is_empty());
     match found.cures.first() {
+        Some(_) if has_new_rows => "Each of these orders them:".to_string(),
         Some(cure) if cure.changes.len() == 1 => {
             "Each of these changes alone orders them:".to_string()
         }
@@ -84,7 +90,7 @@ fn cures_title(found: &Search) -> String {
             let rest = if found.is_cut {
                 "so far as they were tried: with so many rows not every pair was"
             } else {
-                "nor do any two together: what is lacking takes more than that"
+                "nor do any two together, nor a release and an acquire between them"
             };
             format!("None of {tried} orders them, {rest}.")
         }
@@ -103,16 +109,50 @@ fn cure_lines(checked: Checked, goal: Goal, number: usize, cure: &Cure) -> Vec<S
             _ => format!("     And {reason}."),
         })
         .collect();
-    let edits: Vec<String> = cure.edits.iter().map(|edit| edit.to_string()).collect();
-    lines.push(format!("     edit: {}", edits.join("; ")));
+    let steps: Vec<String> = cure.steps().iter().map(|step| step.to_string()).collect();
+    lines.push(format!("     edit: {}", steps.join("; ")));
+    lines.extend(shader_lines(checked, cure));
     // A run that read otherwise than the order allows is no longer possible.
     let because = match cure.answer.split(' ').next() {
         Some("cycle" | "overwritten") => "the run as recorded can't happen then, so ",
         _ => "",
     };
+    let counted = match (cure.insertions.is_empty(), cure.answer.as_str()) {
+        (true, _) | (_, "race-free") => "",
+        _ => ", the new rows counted",
+    };
     lines.push(format!(
-        "     Then {}, and {because}check answers `{}`.",
+        "     Then {}, and {because}check answers `{}`{counted}.",
         cure.order, cure.answer
     ));
     lines
+}
+
+/// The rows that the program would have instead, in GLSL and SPIR-V.
+fn shader_lines(checked: Checked, cure: &Cure) -> Vec<String> {
+    let mut changed: Vec<(String, Row)> = Vec::new();
+    for (number, row) in checked.run.rows.iter().enumerate() {
+        let edits = cure.edits.iter().filter(|edit| edit.row == number);
+        let edits = edits.filter(|edit| edit.field.is_of_program());
+        let edited = edits.fold(*row, |row, edit| edit.field.set(row, edit.value));
+        if edited != *row {
+            changed.push((format!("row {number}"), edited));
+        }
+    }
+    for insertion in &cure.insertions {
+        changed.push((format!("new row {}", insertion.place), insertion.row));
+    }
+    let told = |words: fn(Row) -> String| {
+        let told = changed
+            .iter()
+            .map(|(name, row)| format!("{name} {}", words(*row)));
+        told.collect::<Vec<_>>().join("; ")
+    };
+    if changed.is_empty() {
+        return Vec::new();
+    }
+    vec![
+        format!("     GLSL: {}", told(glsl)),
+        format!("     SPIR-V: {}", told(spirv)),
+    ]
 }

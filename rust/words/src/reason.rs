@@ -1,7 +1,7 @@
 //! Why a change might be what is missing, said of the table as it is.
 
 use crate::account::Checked;
-use crate::change::Goal;
+use crate::goal::Goal;
 use crate::names;
 use crate::run::source_words;
 use second::table::{Row, MAKE_AVAILABLE, RELEASE};
@@ -37,6 +37,20 @@ pub enum Reason {
     EndsSequence { row: usize },
     /// A racing row is plain.
     NotAtomic { row: usize, scope: u8 },
+    /// No release and acquire of a flag stand between the rows.
+    NoHandshake {
+        before: usize,
+        after: usize,
+        scope: u8,
+        classes: u8,
+    },
+    /// The agents don't meet between the rows.
+    NoMeeting {
+        before: usize,
+        after: usize,
+        scope: u8,
+        classes: u8,
+    },
 }
 
 impl Checked<'_> {
@@ -74,6 +88,28 @@ impl Checked<'_> {
             Reason::NotAtomic { row, scope } => format!(
                 "row {row} is a {}; make it a relaxed atomic in {} scope",
                 names::kind(rows[row].kind),
+                names::scope(scope)
+            ),
+            Reason::NoHandshake {
+                before,
+                after,
+                scope,
+                classes,
+            } => format!(
+                "put in a release after row {before}, an atomic write of a flag that makes available, and an acquire before row {after}, an atomic read that waits for that and makes visible, both for {} in {} scope",
+                names::classes(classes),
+                names::scope(scope)
+            ),
+            Reason::NoMeeting {
+                before,
+                after,
+                scope,
+                classes,
+            } => format!(
+                "let agents {} and {} meet in a control barrier after row {before} and before row {after} that makes available and visible, for {} in {} scope",
+                rows[before].agent,
+                rows[after].agent,
+                names::classes(classes),
                 names::scope(scope)
             ),
         }

@@ -1,9 +1,10 @@
-//! What a refusal means, and what stands in the row that it names.
+//! What a refusal means, what stands in the row that it names, and what is
+//! wrong with it.
 
-use crate::names;
+use crate::blank;
+use crate::fault::{faults, length_words, Fault};
 use crate::run::Run;
 use crate::show::{cells, header, COLUMNS};
-use second::table::*;
 use stramashly::{Checker, FillAnswer};
 
 /// Why not even a fill takes a table, if that is so.
@@ -20,45 +21,52 @@ pub fn refusal(table: &[u8], checker: &mut Checker) -> Option<String> {
     Some(text)
 }
 
-/// The refusal's meaning, then what the table holds there.
+/// A check's refusal: a fill is asked about blanks.
+pub fn check_lines(table: &[u8], number: u16, row: usize, checker: &mut Checker) -> Vec<String> {
+    let mut lines = lines(table, number, row);
+    if faults(table, number, row).contains(&Fault::Blank { is_plain: true }) {
+        lines.extend(blank::lines(table, checker));
+    }
+    lines
+}
+
+/// The refusal's meaning, what the table holds there, then each fault.
 pub fn lines(table: &[u8], number: u16, row: usize) -> Vec<String> {
     let run = Run::of(table);
     let mut lines = vec![meaning(number).to_string()];
     if is_of_a_row(number) && row < run.rows.len() {
         lines.push(format!("Row {row} holds: {}.", held(&run, row)));
-        lines.extend(particulars(&run, number, row));
-    } else {
-        lines.push(match header(table) {
-            Some(words) => format!(
-                "The header says {words}; the count is {}; the file has {}.",
-                u32::from_be_bytes([table[0], table[1], table[2], table[3]]),
-                names::counted(table.len(), "byte")
-            ),
-            None => format!("There are {}.", names::counted(table.len(), "byte")),
-        });
+    } else if let Some(words) = header(table) {
+        let bytes = length_words(table.len());
+        lines.push(format!("The header says {words}; the table has {bytes}."));
     }
+    let faults = faults(table, number, row);
+    lines.extend(faults.iter().map(|fault| format!("  {fault}")));
     lines
 }
 
 /// Refusals of the header name row 0, which says nothing of that row.
-fn is_of_a_row(number: u16) -> bool {
-    (5..=10).contains(&number)
+pub fn is_of_a_row(number: u16) -> bool {
+    matches!(number, 5..=10 | 14 | 15)
 }
 
 fn meaning(number: u16) -> &'static str {
     match number {
         1 => "A table has at least 8 bytes.",
-        2 => "The version (byte 4) is none that is known, or byte 7 isn't 0.",
+        2 => "The version (byte 4) must be known, and byte 7 must be 0.",
         3 => "There are more agents or rows than a table may have.",
         4 => "The count in bytes 0 to 3, or the length, doesn't fit the agents and rows.",
-        5 => "A code is out of range: kind, agent, order, scope, classes, flags or class.",
+        5 => "A code has no meaning: kind, agent, order, scope, classes, flags or class.",
         6 => "The fields don't fit the row's kind.",
-        7 => "An access has a length that it may not have, or goes past the last byte, 65535.",
+        7 => "An access has 1 to 16 bytes up to byte 65535; an atomic has 4 or 8, and its start is a multiple of that.",
         8 => "A reference has one class, and an earlier access has given it another.",
         9 => "A read's source is the initial value or another row that writes all its bytes; only a fill takes a blank, on a plain read.",
         10 => "Atomic writers that are mutually-ordered have different ranks.",
         11 => "A lent buffer is too short.",
-        _ => "docs/RULES.md has this refusal.",
+        12 => "The two numbers aren't two different moments of the table.",
+        14 => "Rows of one control barrier's instance have one execution scope, different agents, and all these in one instance of that scope.",
+        15 => "Counted ranks of one place's writers fit in some 32768 counts in a row, past 65535 and on from 0 if need be.",
+        _ => "This number isn't known here.",
     }
 }
 
@@ -71,81 +79,4 @@ fn held(run: &Run, row: usize) -> String {
         .map(|(name, cell)| format!("{name} {cell}"))
         .collect::<Vec<_>>()
         .join("; ")
-}
-
-fn particulars(run: &Run, number: u16, row: usize) -> Option<String> {
-    let fields = run.rows[row];
-    match number {
-        5 => Some(format!(
-            "The codes with a question mark have no meaning; agents go up to {}.",
-            run.agents.len().saturating_sub(1)
-        )),
-        6 => Some(kind_fit(fields.kind).to_string()),
-        7 => Some(format!(
-            "It has {} from byte {} on.",
-            names::counted(usize::from(fields.length), "byte"),
-            fields.start
-        )),
-        8 => earlier(run, row, |other| {
-            other.is_access() && other.reference == fields.reference && other.class != fields.class
-        })
-        .map(|(place, other)| {
-            let class = names::class(other.class);
-            format!(
-                "Reference {} has class {class} in row {place}.",
-                fields.reference
-            )
-        }),
-        9 => Some(source_trouble(run, row)),
-        10 => earlier(run, row, |other| {
-            other.is_atomic_writer()
-                && other.rank == fields.rank
-                && (other.start, other.length, other.reference)
-                    == (fields.start, fields.length, fields.reference)
-        })
-        .map(|(place, _)| {
-            format!(
-                "Row {place} writes the same place with rank {}.",
-                fields.rank
-            )
-        }),
-        _ => None,
-    }
-}
-
-fn earlier(run: &Run, row: usize, test: impl Fn(Row) -> bool) -> Option<(usize, Row)> {
-    let rows = run.rows[..row].iter().copied().enumerate();
-    rows.into_iter().find(|(_, other)| test(*other))
-}
-
-fn source_trouble(run: &Run, row: usize) -> String {
-    let fields = run.rows[row];
-    let source = usize::from(fields.source);
-    if fields.source == second::BLANK {
-        return "It is blank: try `stramashly fill`.".to_string();
-    }
-    match run.rows.get(source) {
-        None => format!("There is no row {source}."),
-        Some(_) if source == row => "It names itself.".to_string(),
-        Some(other) if !other.writes() => {
-            format!("Row {source} is a {}.", names::kind(other.kind))
-        }
-        Some(other) => format!(
-            "Row {source} writes bytes {}, row {row} reads bytes {}.",
-            names::bytes(*other),
-            names::bytes(fields)
-        ),
-    }
-}
-
-/// What a row of a kind may hold.
-fn kind_fit(kind: u8) -> &'static str {
-    match kind {
-        PLAIN_READ => "A plain read is relaxed, has no semantics and no rank, doesn't make available; to make visible it must be non-private, and without that it has invocation scope.",
-        PLAIN_WRITE => "A plain write is relaxed, has no semantics, no source and no rank, doesn't make visible; to make available it must be non-private, and without that it has invocation scope.",
-        ATOMIC_READ => "An atomic read is non-private, relaxed or acquire, has semantics exactly if it is acquire, has no rank; only an acquire makes visible.",
-        ATOMIC_WRITE => "An atomic write is non-private, relaxed or release, has semantics exactly if it is release, has no source; only a release makes available.",
-        ATOMIC_RMW => "A read-modify-write is non-private, has semantics exactly if it isn't relaxed; only a release makes available, only an acquire makes visible.",
-        _ => "A barrier isn't relaxed, has semantics, isn't non-private, has no bytes, reference, source or rank; only a release makes available, only an acquire makes visible.",
-    }
 }

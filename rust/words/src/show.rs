@@ -39,14 +39,19 @@ pub fn show(table: &[u8]) -> String {
     text
 }
 
-/// `version 1, 2 agents, 4 rows`.
+/// `version 1, 2 agents, 4 rows`, or `version 2, counted ranks, 2 agents, …`.
 pub fn header(table: &[u8]) -> Option<String> {
     let [_, _, _, _, version, agents, rows, _, ..] = *table else {
         return None;
     };
     let agents = names::counted(usize::from(agents), "agent");
     let rows = names::counted(usize::from(rows), "row");
-    Some(format!("version {version}, {agents}, {rows}"))
+    let ranks = if Run::is_counted_in(version) {
+        ", counted ranks"
+    } else {
+        ""
+    };
+    Some(format!("version {version}{ranks}, {agents}, {rows}"))
 }
 
 /// `family 0, workgroup 1, subgroup 0`.
@@ -65,6 +70,7 @@ pub fn cells(number: usize, row: Row) -> [String; 12] {
         }
     };
     let is_flagged = row.makes_available() || row.makes_visible();
+    let is_meeting = row.is_control_barrier();
     let is_place_unused = row.is_barrier() && row.length == 0 && row.start == 0;
     [
         number.to_string(),
@@ -77,8 +83,14 @@ pub fn cells(number: usize, row: Row) -> [String; 12] {
         ),
         names::classes(row.classes),
         names::flags(row.flags),
-        unless(row.is_barrier() && row.class == 0, names::class(row.class)),
-        unless(is_place_unused, names::bytes(row)),
+        match is_meeting {
+            true => format!("execution {}", names::scope(row.class)),
+            false => unless(row.is_barrier() && row.class == 0, names::class(row.class)),
+        },
+        match is_meeting && row.length == 0 {
+            true => format!("instance {}", row.start),
+            false => unless(is_place_unused, names::bytes(row)),
+        },
         unless(
             row.is_barrier() && row.reference == 0,
             row.reference.to_string(),

@@ -6,7 +6,8 @@ mod common;
 use common::{generated, with_relations};
 use std::collections::BTreeSet;
 use stramashly::Checker;
-use words::{edited, explain, Cure, Edit, Explanation, Goal, Reason, Run, Shown};
+use tables::{Row, Table, INITIAL};
+use words::{edited, explain, stepped, Cure, Edit, Explanation, Goal, Reason, Run, Shown, Step};
 
 /// The race of a racing table.
 fn race(explanation: &Explanation) -> Option<Goal> {
@@ -16,46 +17,76 @@ fn race(explanation: &Explanation) -> Option<Goal> {
     }
 }
 
-/// The cure's edits, made in the table, end the race: by the proved checker
+/// Whether the rows of a goal race in a table, by the second implementation.
+fn is_race(table: &[u8], goal: Goal) -> bool {
+    with_relations(table, |checked| {
+        let state = checked.state;
+        assert!(state.conflicting(goal.first, goal.second));
+        state.races_at(goal.first, goal.second, goal.byte)
+    })
+}
+
+/// The goal's rows after a cure's new rows are put in.
+fn moved(goal: Goal, cure: &Cure) -> Goal {
+    cure.insertions.iter().fold(goal, |goal, insertion| Goal {
+        first: insertion.moved(goal.first),
+        second: insertion.moved(goal.second),
+        ..goal
+    })
+}
+
+/// The cure's steps, made in the table, end the race: by the proved checker
 /// and by the second implementation.
 fn check_cure(table: &[u8], goal: Goal, cure: &Cure, checker: &mut Checker) {
-    let changed = edited(table, &cure.edits);
+    let changed = stepped(table, &cure.steps()).unwrap();
+    let after = moved(goal, cure);
     let answer = checker.check(&changed).to_string();
     assert_eq!(answer, cure.answer);
     assert!(!answer.starts_with("refused"), "{answer}");
-    let told = format!("race {} {} {}", goal.first, goal.second, goal.byte);
+    let told = format!("race {} {} {}", after.first, after.second, after.byte);
     assert_ne!(answer, told);
-    let is_race = |table: &[u8]| {
-        with_relations(table, |checked| {
-            let state = checked.state;
-            assert!(state.conflicting(goal.first, goal.second));
-            state.races_at(goal.first, goal.second, goal.byte)
-        })
-    };
-    assert!(is_race(table) && !is_race(&changed), "{:?}", cure.edits);
+    assert!(is_race(table, goal) && !is_race(&changed, after));
     // No edit is idle, and no edit of several is needless.
     for edit in &cure.edits {
         assert_ne!(edited(table, &[*edit]), table, "{edit}");
     }
-    if let [first, second] = &cure.changes[..] {
+    if let ([first, second], true) = (&cure.changes[..], cure.insertions.is_empty()) {
         for alone in [first, second] {
             let changed = edited(table, &alone.edits);
             let answer = checker.check(&changed).to_string();
-            assert!(answer.starts_with("refused") || is_race(&changed));
+            assert!(answer.starts_with("refused") || is_race(&changed, goal));
         }
     }
+    check_new_rows(table, goal, cure, checker);
 }
 
-/// The edits that stand in the text, in order.
-fn printed_edits(explanation: &Explanation) -> Vec<Vec<Edit>> {
+/// Neither new row does without the other, and nothing else is needless.
+fn check_new_rows(table: &[u8], goal: Goal, cure: &Cure, checker: &mut Checker) {
+    let steps = cure.steps();
+    if cure.insertions.is_empty() {
+        return;
+    }
+    assert_eq!(cure.insertions.len(), 2);
+    let without_last = stepped(table, &steps[..steps.len() - 1]).unwrap();
+    let first = cure.insertions[0];
+    let goal = Goal {
+        first: first.moved(goal.first),
+        second: first.moved(goal.second),
+        ..goal
+    };
+    let answer = checker.check(&without_last).to_string();
+    let is_needed = answer.starts_with("refused") || is_race(&without_last, goal);
+    assert!(is_needed, "{} {:?}", tables::hex(table), steps);
+}
+
+/// The steps that stand in the text, in order.
+fn printed_steps(explanation: &Explanation) -> Vec<Vec<Step>> {
     let lines = explanation.lines.iter();
     lines
         .filter_map(|line| line.trim_start().strip_prefix("edit: "))
-        .map(|edits| {
-            edits
-                .split("; ")
-                .map(|edit| edit.parse().unwrap())
-                .collect()
+        .map(|steps| {
+            let steps = steps.split("; ");
+            steps.map(|step| step.parse().unwrap()).collect()
         })
         .collect()
 }
@@ -85,6 +116,12 @@ fn is_so(run: &Run, reason: Reason) -> (bool, &'static str) {
             (is_write, "sequence")
         }
         Reason::NotAtomic { row, .. } => (rows[row].is_plain(), "atomic"),
+        Reason::NoHandshake { before, after, .. } => {
+            (rows[before].agent != rows[after].agent, "handshake")
+        }
+        Reason::NoMeeting { before, after, .. } => {
+            (rows[before].agent != rows[after].agent, "meeting")
+        }
     }
 }
 
@@ -92,6 +129,8 @@ fn is_so(run: &Run, reason: Reason) -> (bool, &'static str) {
 #[derive(Default)]
 struct Seen {
     races: usize,
+    uncured: usize,
+    inserted: usize,
     alone: usize,
     pairs: usize,
     reasons: BTreeSet<&'static str>,
@@ -104,16 +143,18 @@ fn check_table(table: &[u8], checker: &mut Checker, seen: &mut Seen) {
         return;
     };
     seen.races += 1;
-    let printed = printed_edits(&explanation);
+    seen.uncured += usize::from(explanation.cures.is_empty());
+    let printed = printed_steps(&explanation);
     assert_eq!(printed.len(), explanation.cures.len().min(8));
     for (place, cure) in explanation.cures.iter().enumerate() {
         check_cure(table, goal, cure, checker);
-        if let Some(edits) = printed.get(place) {
-            assert_eq!(*edits, cure.edits);
+        if let Some(steps) = printed.get(place) {
+            assert_eq!(*steps, cure.steps());
         }
-        match cure.changes.len() {
-            1 => seen.alone += 1,
-            _ => seen.pairs += 1,
+        match (cure.insertions.len(), cure.changes.len()) {
+            (0, 1) => seen.alone += 1,
+            (0, _) => seen.pairs += 1,
+            _ => seen.inserted += 1,
         }
         for change in &cure.changes {
             let (is_so, name) = is_so(&Run::of(table), change.reason);
@@ -135,11 +176,20 @@ fn every_named_change_ends_the_race() {
     }
     assert!(seen.races > 700, "{} races", seen.races);
     assert!(seen.alone > 500, "{} alone", seen.alone);
-    assert!(seen.pairs > 100, "{} pairs", seen.pairs);
+    assert!(seen.pairs > 60, "{} pairs", seen.pairs);
+    assert!(seen.inserted > 100, "{} with new rows", seen.inserted);
+    // Fewer than 5 of 250.
+    let (uncured, races) = (seen.uncured, seen.races);
+    assert!(
+        50 * uncured < races,
+        "{uncured} of {races} without a change"
+    );
     let all = [
         "atomic",
         "class",
         "flag",
+        "handshake",
+        "meeting",
         "order",
         "plain flag",
         "private",
@@ -156,17 +206,96 @@ fn every_named_change_ends_the_race() {
 fn large_tables_are_explained() {
     let mut checker = Checker::new();
     let mut seen = Seen::default();
-    for table in generated(303, 12, 64, 64) {
+    for table in generated(305, 10, 64, 64) {
+        check_table(&table, &mut checker, &mut seen);
+    }
+    for table in generated(306, 6, 120, 128) {
         check_table(&table, &mut checker, &mut seen);
     }
     assert!(seen.races > 0);
 }
 
+/// A write and a read of it with nothing between them, of 16 bytes, which no
+/// atomic has, and of 4: a release and an acquire are put in.
+#[test]
+fn the_plainest_race_has_its_remedy() {
+    let mut checker = Checker::new();
+    let write = Row::write(0);
+    for (length, workgroups) in [(16, [0, 0]), (4, [0, 0]), (16, [0, 1]), (4, [0, 1])] {
+        let agents = [[0, workgroups[0], 0], [0, workgroups[1], 1]];
+        let rows = [write.bytes(0, length), Row::read(1, 0).bytes(0, length)];
+        for rows in [rows, rows.map(Row::private)] {
+            let table = Table::new(&agents, &rows).bytes();
+            let explanation = explain(&table, &mut checker);
+            assert_eq!(explanation.answer, "race 0 1 0");
+            let cure = explanation.cures.iter().find(|cure| {
+                let reason = cure.changes.last().unwrap().reason;
+                matches!(reason, Reason::NoHandshake { .. })
+            });
+            assert_eq!(cure.unwrap().answer, "race-free");
+            let text = explanation.text();
+            assert!(text.contains("put in a release after row 0"), "{text}");
+            for name in [
+                "atomicStore(",
+                "atomicLoad(",
+                "OpAtomicStore",
+                "OpAtomicLoad",
+            ] {
+                assert!(text.contains(name), "{text}");
+            }
+        }
+    }
+}
+
+/// A read of the initial value comes before the write: the other way round
+/// the run would be impossible.
+#[test]
+fn new_rows_go_with_what_was_read() {
+    let rows = [
+        Row::write(0).bytes(0, 16),
+        Row::read(1, INITIAL).bytes(0, 16),
+    ];
+    let table = Table::of_one_workgroup(2, &rows).bytes();
+    let explanation = explain(&table, &mut Checker::new());
+    let cure = &explanation.cures[0];
+    assert_eq!(cure.answer, "race-free");
+    assert_eq!(cure.order, "L2 puts row 1 first");
+    let steps: Vec<String> = cure.steps().iter().map(Step::to_string).collect();
+    assert_eq!(
+        steps,
+        [
+            "insert 2 kind 3 agent 1 order 2 scope 2 classes 1 flags 3 length 4 start 16 rank 1",
+            "insert 0 kind 2 agent 0 order 1 scope 2 classes 1 flags 5 length 4 start 16 source 3",
+        ]
+    );
+}
+
 #[test]
 fn edits_are_read_as_they_are_written() {
-    for text in ["row 2 flags 3", "row 63 source 65535", "row 0 kind 4"] {
+    for text in ["row 2 flags 3", "row 127 source 65535", "row 0 kind 4"] {
         let edit: Edit = text.parse().unwrap();
         assert_eq!(edit.to_string(), text);
+    }
+    for text in [
+        "insert 0 kind 0 agent 0",
+        "insert 128 kind 5 agent 31 order 3 scope 4 classes 15 flags 6",
+        "insert 3 kind 4 agent 1 length 8 start 65528 reference 9 source 2 rank 65535",
+        "row 2 agent 1",
+    ] {
+        let step: Step = text.parse().unwrap();
+        assert_eq!(step.to_string(), text);
+    }
+    for text in [
+        "insert",
+        "insert 1",
+        "insert 1 kind 5",
+        "insert 129 kind 5 agent 0",
+        "insert 1 kind 5 agent 0 kind 5",
+        "insert 1 kind 5 agent 256",
+        "insert 1 kind 5 agent",
+        "insert 1 kind 5 agent 0 colour 3",
+    ] {
+        assert!(text.parse::<Step>().is_err(), "{text}");
     }
     for text in [
         "",
@@ -174,7 +303,26 @@ fn edits_are_read_as_they_are_written() {
         "row 2 colour 3",
         "row x flags 3",
         "row 2 flags 65536",
+        "row 2 flags 256",
+        "row 2 flags +3",
     ] {
         assert!(text.parse::<Edit>().is_err(), "{text}");
+    }
+}
+
+/// Steps that a table has no row, place or room for are told, not made.
+#[test]
+fn steps_that_cant_be_made_are_told() {
+    let full = Table::of_one_workgroup(1, &[Row::write(0); 128]).bytes();
+    let small = Table::of_one_workgroup(1, &[Row::write(0)]).bytes();
+    for (table, text, part) in [
+        (&small, "row 1 flags 0", "no row 1"),
+        (&small, "insert 2 kind 1 agent 0", "no place 2"),
+        (&full, "insert 2 kind 1 agent 0", "at most 128"),
+        (&small[..9].to_vec(), "row 0 flags 0", "header"),
+        (&vec![], "insert 0 kind 1 agent 0", "header"),
+    ] {
+        let reason = stepped(table, &[text.parse().unwrap()]).unwrap_err();
+        assert!(reason.contains(part) && reason.contains(text), "{reason}");
     }
 }

@@ -4,10 +4,12 @@ mod common;
 
 use common::{elements, example, generated, with_relations, Element};
 use stramashly::Checker;
-use words::{draw, explain, page, Checked};
+use tables::{Row, Table};
+use words::{draw, explain, headline, page, Checked};
 
+/// The whole picture.
 fn drawn(table: &[u8]) -> Option<Vec<Element>> {
-    let svg = draw(table, &mut Checker::new()).ok()?;
+    let svg = draw(table, &mut Checker::new(), true).ok()?;
     Some(elements(&svg))
 }
 
@@ -36,7 +38,9 @@ fn relations(checked: Checked) -> [usize; 3] {
     let mut counts = [0; 3];
     for (x, y) in (0..rows).flat_map(|x| (0..rows).map(move |y| (x, y))) {
         counts[0] += usize::from(state.read_from(y) == Some(x));
-        counts[1] += usize::from(state.synchronizes_with(x, y));
+        // The band of an instance says it of its rows.
+        let is_met = state.control_barrier(x, y) == Some((x, y));
+        counts[1] += usize::from(state.synchronizes_with(x, y) && !is_met);
         let is_between = |row| state.modification_order(x, row) && state.modification_order(row, y);
         let is_next = state.modification_order(x, y) && !(0..rows).any(is_between);
         counts[2] += usize::from(is_next);
@@ -44,31 +48,126 @@ fn relations(checked: Checked) -> [usize; 3] {
     counts
 }
 
+fn has_kind(checked: Checked, kind: &str) -> bool {
+    checked.run.rows.iter().any(|row| match kind {
+        "plain" => row.is_plain(),
+        "atomic" => row.is_atomic(),
+        _ => row.is_barrier(),
+    })
+}
+
+/// Every racing pair has its line, the one that the answer names a label too.
+#[test]
+fn every_race_is_marked() {
+    let mut races = 0;
+    for table in generated(344, 400, 2, 10) {
+        let elements = drawn(&table).unwrap();
+        let expected = with_relations(&table, |checked| {
+            let rows = checked.run.rows.len();
+            let pairs = (0..rows).flat_map(|x| (x + 1..rows).map(move |y| (x, y)));
+            let is_race = |(x, y): &(usize, usize)| {
+                let mut bytes = checked.shared_bytes(*x, *y).into_iter();
+                bytes.any(|byte| checked.state.races_at(*x, *y, byte))
+            };
+            pairs.filter(is_race).count()
+        });
+        let answer = Checker::new().check(&table).to_string();
+        if answer.starts_with("race ") {
+            // The legend has the named one and, if there are others, those.
+            let in_legend = 1 + usize::from(expected > 1);
+            let drawn = with_class(&elements, "path", "race").len();
+            assert_eq!(drawn, expected + in_legend);
+            races += expected;
+        }
+    }
+    assert!(races > 80, "{races} races");
+}
+
+/// The rows that an answer names.
+fn named_rows(answer: &str) -> Vec<usize> {
+    let words: Vec<&str> = answer.split(' ').collect();
+    let named = match words[..] {
+        ["race" | "overwritten", first, second, _] => vec![first, second],
+        ["cycle", length, "rows", ref rest @ ..] => rest[..length.parse().unwrap()].to_vec(),
+        _ => Vec::new(),
+    };
+    named.iter().map(|row| row.parse().unwrap()).collect()
+}
+
+/// Of a large run the rows that the answer names are drawn, and not all; all
+/// are, if they are wanted.
+#[test]
+fn a_large_run_shows_what_matters() {
+    let mut checker = Checker::new();
+    let mut reduced = 0;
+    let tables = generated(345, 24, 40, 64).into_iter();
+    for table in tables.chain(generated(346, 4, 128, 128)) {
+        let answer = checker.check(&table).to_string();
+        let svg = draw(&table, &mut checker, false).unwrap();
+        let ids: Vec<String> = elements(&svg)
+            .iter()
+            .filter_map(|tag| tag.get("id"))
+            .filter(|id| id.starts_with("box-"))
+            .map(str::to_string)
+            .collect();
+        for row in named_rows(&answer) {
+            assert!(ids.contains(&format!("box-{row}")), "{row} {ids:?}");
+        }
+        let rows = usize::from(table[6]);
+        if ids.len() < rows {
+            let note = format!("{} of {rows} rows are drawn", ids.len());
+            assert!(svg.contains(&note), "{note}");
+            assert_ne!(answer, "race-free");
+            reduced += 1;
+        }
+        let all = draw(&table, &mut checker, true).unwrap();
+        assert_eq!(all.matches("id=\"box-").count(), rows);
+    }
+    assert!(reduced > 10, "{reduced}");
+}
+
+/// Many agents have narrow columns.
+#[test]
+fn many_agents_have_narrow_columns() {
+    let rows: Vec<Row> = (0..32).map(Row::write).collect();
+    let width = |agents: u16| {
+        let rows = &rows[..usize::from(agents)];
+        let table = Table::of_one_workgroup(agents, rows).bytes();
+        let elements = drawn(&table).unwrap();
+        elements[0].number("width").unwrap()
+    };
+    assert!(width(32) < 32 * 240, "{}", width(32));
+    assert!(width(6) < width(5) + 100);
+}
+
 #[test]
 fn every_row_and_every_arrow_is_there() {
     for table in generated(341, 300, 2, 16) {
         let elements = drawn(&table).unwrap();
         let rows = usize::from(table[6]);
+        let kinds = ["plain", "atomic", "barrier"]
+            .into_iter()
+            .filter(|kind| with_relations(&table, |checked| has_kind(checked, kind)));
         assert_eq!(
             with_class(&elements, "rect", "box").len(),
-            rows + 3,
-            "the rows and the legend's three"
+            rows + kinds.count(),
+            "the rows, and the legend's, one of each kind"
         );
         let expected = with_relations(&table, relations);
         let sorts = ["reads", "synchronizes", "modification"];
         for (sort, count) in sorts.into_iter().zip(expected) {
             let arrows = with_class(&elements, "path", sort);
-            // One more stands in the legend.
-            assert_eq!(arrows.len(), count + 1, "{sort}");
+            // One more stands in the legend, if there is any.
+            assert_eq!(arrows.len(), count + usize::from(count > 0), "{sort}");
         }
     }
 }
 
-/// Boxes don't overlap, and everything lies inside the picture, at 64 rows too.
+/// Boxes don't overlap, and everything lies inside the picture, at 128 rows too.
 #[test]
 fn nothing_lies_on_another_or_outside() {
     let small = generated(342, 200, 2, 16);
-    for table in small.into_iter().chain(generated(343, 10, 64, 64)) {
+    for table in small.into_iter().chain(generated(343, 5, 128, 128)) {
         let elements = drawn(&table).unwrap();
         let size = ["width", "height"].map(|name| elements[0].number(name).unwrap());
         let boxes: Vec<[i32; 4]> = with_class(&elements, "rect", "box")
@@ -135,7 +234,7 @@ fn labels_stand_free() {
 /// Every colour of the light sheet has its dark one.
 #[test]
 fn the_picture_is_light_and_dark() {
-    let svg = draw(&example("leak"), &mut Checker::new()).unwrap();
+    let svg = draw(&example("leak"), &mut Checker::new(), false).unwrap();
     let (light, dark) = svg
         .split_once("@media (prefers-color-scheme: dark) {")
         .unwrap();
@@ -167,16 +266,40 @@ fn a_page_has_the_sentences_the_picture_and_the_table() {
     ] {
         let table = example(name);
         let explanation = explain(&table, &mut checker);
-        let html = page(&table, &explanation);
+        let html = page(&table, &explanation, false);
         let elements = elements(&html);
         let count = |name: &str| elements.iter().filter(|tag| tag.name == name).count();
         assert_eq!(count("svg"), pictures, "{name}");
-        assert_eq!(count("td"), 12 * rows, "{name}");
+        assert_eq!(count("td"), 11 * rows, "{name}");
         assert!(count("p") > explanation.lines.len(), "{name}");
-        assert!(html.contains(&format!("<h1>{}</h1>", explanation.answer)));
-        // Nothing is fetched from elsewhere.
-        let sources =
-            ["src", "href"].map(|name| elements.iter().any(|tag| tag.get(name).is_some()));
-        assert_eq!(sources, [false, false]);
+        let headline = headline(&explanation.shown);
+        assert!(html.contains(&format!("<h1>{headline}</h1>")));
+        assert!(html.contains(&format!("<title>{headline}</title>")));
+        assert!(html.contains(&format!("<code>{}</code>", explanation.answer)));
+        // Nothing is fetched from elsewhere; every link leads to a row.
+        assert!(elements.iter().all(|tag| tag.get("src").is_none()));
+        let ids: Vec<&str> = elements.iter().filter_map(|tag| tag.get("id")).collect();
+        let links: Vec<&str> = elements.iter().filter_map(|tag| tag.get("href")).collect();
+        for link in &links {
+            assert!(ids.contains(&link.strip_prefix('#').unwrap()), "{link}");
+        }
+        assert_eq!(links.is_empty(), name == "empty", "{name}");
+        // What is wide can be reached by keys.
+        let areas = elements.iter().filter(|tag| tag.has_class("wide"));
+        assert!(areas
+            .into_iter()
+            .all(|tag| tag.get("tabindex") == Some("0")));
     }
+}
+
+/// The row that a refusal names is set off in the page's table.
+#[test]
+fn a_refused_row_is_pointed_out() {
+    let table = example("too-long");
+    let explanation = explain(&table, &mut Checker::new());
+    let html = page(&table, &explanation, false);
+    let elements = elements(&html);
+    let pointed = with_class(&elements, "tr", "pointed");
+    let ids: Vec<Option<&str>> = pointed.iter().map(|tag| tag.get("id")).collect();
+    assert_eq!(ids, [Some("row-1")]);
 }

@@ -6,8 +6,8 @@ mod common;
 use common::{elements, example, generated, with_relations};
 use std::collections::BTreeMap;
 use stramashly::Checker;
-use tables::{damaged, fillable, Random, Size};
-use words::{draw, explain, page, refusal, show, Checked};
+use tables::{damaged, fillable, Random, Row, Size, Table};
+use words::{draw, edited, explain, page, refusal, show, Checked};
 
 /// Compares the first line with the check's answer, and gives its first word.
 fn check_first_line(table: &[u8], checker: &mut Checker) -> String {
@@ -44,7 +44,7 @@ fn the_first_line_is_the_proved_answer() {
 fn refusals_are_told() {
     let mut checker = Checker::new();
     let mut random = Random::new(333);
-    let mut seen = [0; 11];
+    let mut seen = [0; 16];
     for _ in 0..3000 {
         let table = damaged(&mut random, Size { least: 2, most: 8 });
         let explanation = explain(&table, &mut checker);
@@ -56,10 +56,10 @@ fn refusals_are_told() {
         let row = words.next().unwrap();
         seen[number] += 1;
         let text = explanation.lines.join("\n");
-        assert!(!text.contains("docs/RULES.md"), "{number}");
+        assert!(!text.contains("isn't known here"), "{number}");
         if number >= 5 {
             assert!(text.contains(&format!("Row {row} holds: agent ")), "{text}");
-            assert_eq!(explanation.lines.len(), 3, "{text}");
+            assert!(explanation.lines.len() >= 3, "{text}");
         }
         // Blanks are no reason to refuse a table that is only shown.
         let told = refusal(&table, &mut checker);
@@ -69,7 +69,7 @@ fn refusals_are_told() {
             filled.starts_with("refused").then_some(filled)
         );
     }
-    assert!(seen[1..].iter().all(|count| *count > 20), "{seen:?}");
+    assert!(seen[1..=10].iter().all(|count| *count > 20), "{seen:?}");
 }
 
 /// No bytes are too bad for words and pictures.
@@ -92,9 +92,9 @@ fn noise_is_no_panic() {
         }
         assert!(!show(&table).is_empty());
         let explanation = explain(&table, &mut checker);
-        elements(&page(&table, &explanation));
+        elements(&page(&table, &explanation, false));
         let is_refused = explanation.answer.starts_with("refused");
-        assert_eq!(draw(&table, &mut checker).is_err(), is_refused);
+        assert_eq!(draw(&table, &mut checker, false).is_err(), is_refused);
     }
 }
 
@@ -144,7 +144,12 @@ fn a_table_is_shown_row_by_row() {
     let blank = show(&example("fill"));
     assert!(blank.lines().last().unwrap().contains("blank"));
     assert_eq!(show(b"ab"), "2 bytes: too few for a header\n");
-    assert_eq!(show(&example("version-2")), "version 2, 0 agents, 0 rows\n");
+    let mut counted = example("empty");
+    counted[4] = 2;
+    assert_eq!(
+        show(&counted),
+        "version 2, counted ranks, 0 agents, 0 rows\n"
+    );
 }
 
 /// A code without a meaning is shown as it is.
@@ -164,4 +169,56 @@ fn codes_out_of_range_are_shown() {
     let told = refusal(&table, &mut Checker::new()).unwrap();
     assert!(told.starts_with("refused 5 1\n"), "{told}");
     assert!(told.contains("kind 9?"), "{told}");
+}
+
+/// What an impossible run may mean is said of recorder, driver and device,
+/// and the sources that are named make it possible.
+#[test]
+fn impossible_runs_have_their_causes() {
+    let mut checker = Checker::new();
+    let (mut runs, mut sources) = (0, 0);
+    for table in generated(336, 1500, 2, 9) {
+        let explanation = explain(&table, &mut checker);
+        let is_impossible = ["cycle", "overwritten"]
+            .iter()
+            .any(|word| explanation.answer.starts_with(word));
+        let text = explanation.text();
+        for name in ["  the recorder, if", "  the driver, if", "  the device, if"] {
+            assert_eq!(text.contains(name), is_impossible, "{text}");
+        }
+        runs += usize::from(is_impossible);
+        for line in text.lines().filter(|line| line.starts_with("  if row ")) {
+            let (_, edit) = line.split_once("(edit: ").unwrap();
+            let (edit, answer) = edit.split_once("), check answers `").unwrap();
+            let edited = edited(&table, &[edit.parse().unwrap()]);
+            let expected = checker.check(&edited).to_string();
+            assert_eq!(answer, format!("{expected}`"));
+            assert!(expected.starts_with("race"), "{expected}");
+            sources += 1;
+        }
+    }
+    assert!(runs > 200 && sources > 100, "{runs} {sources}");
+}
+
+/// Counted ranks are told as such, and compared as such.
+#[test]
+fn counted_ranks_are_told() {
+    let mut checker = Checker::new();
+    let told = explain(&example("counted"), &mut checker).text();
+    assert!(told.starts_with("race-free\n"), "{told}");
+    assert!(show(&example("counted")).starts_with("version 2, counted ranks, 3 agents"));
+    let far = explain(&example("counted-too-far"), &mut checker).text();
+    assert!(far.starts_with("refused 15 2\n"), "{far}");
+    let fault = "rows 1 and 2 write this place with ranks 65535 and 32767, which no 32768 counts in a row hold";
+    assert!(far.contains(fault), "{far}");
+    // Two relaxed writers, each of which saw the other's write, past the counter's end.
+    let rows = [
+        Row::atomic_write(0, 65535),
+        Row::atomic_write(1, 3),
+        Row::atomic_read(2, 1),
+        Row::atomic_read(2, 0),
+    ];
+    let table = Table::of_one_workgroup(3, &rows).counted().bytes();
+    let cycle = explain(&table, &mut checker).text();
+    assert!(cycle.starts_with("cycle "), "{cycle}");
 }

@@ -5,7 +5,7 @@ use std::env;
 use std::io::{self, IsTerminal, Write};
 use std::process::ExitCode;
 use std::time::Instant;
-use tables::{checkable, damaged, fillable, Random, Size};
+use tables::{checkable, damaged, fillable, Random, Size, MAX_ROWS};
 
 const USAGE: &str = "usage: soak SEED COUNT";
 
@@ -95,8 +95,9 @@ fn size(random: &mut Random) -> Size {
     let (least, most) = match random.below(1000) {
         0..=899 => (2, 10),
         900..=989 => (11, 24),
-        990..=997 => (25, 48),
-        _ => (49, 64),
+        990..=995 => (25, 48),
+        996..=998 => (49, 64),
+        _ => (65, MAX_ROWS),
     };
     Size { least, most }
 }

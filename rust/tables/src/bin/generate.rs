@@ -3,7 +3,7 @@
 use std::env;
 use std::io::{self, BufWriter, Write};
 use std::process::ExitCode;
-use tables::{checkable, damaged, fillable, hex, Random, Size};
+use tables::{checkable, damaged, fillable, hex, Random, Size, MAX_ROWS};
 
 const USAGE: &str = "usage: generate SEED COUNT MINROWS MAXROWS [check|fill|mix|damaged]";
 
@@ -54,7 +54,7 @@ fn parse(words: &[String]) -> Option<Request> {
         Some("damaged") => Sort::Damaged,
         Some(_) => return None,
     };
-    let fits = size.least <= size.most && size.most <= 128;
+    let fits = size.least <= size.most && size.most <= MAX_ROWS;
     fits.then_some(Request {
         seed: words[0].parse().ok()?,
         count: words[1].parse().ok()?,

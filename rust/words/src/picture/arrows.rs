@@ -21,15 +21,19 @@ struct Arrow {
 
 /// The arrows, and the labels that go above the boxes.
 pub fn drawn(checked: Checked, layout: &Layout, shown: &Shown) -> (String, String) {
-    let mut arrows = relations(checked);
+    let mut arrows = relations(checked, layout);
+    arrows.extend(other_races(checked, layout, shown));
     arrows.extend(verdict(shown));
     let (mut curves, mut labels) = (String::new(), String::new());
     let mut taken = Vec::new();
     for arrow in &arrows {
-        let (from, to) = (&layout.rows[arrow.from], &layout.rows[arrow.to]);
-        let curve = Curve::between(from, to, arrow.shift);
+        let places = (layout.rows.get(&arrow.from), layout.rows.get(&arrow.to));
+        let (Some(from), Some(to)) = places else {
+            continue;
+        };
+        let curve = Curve::between(from, to, arrow.shift, layout.gap);
         // A race has no direction.
-        let end = if arrow.sort == "race" {
+        let end = if arrow.sort.starts_with("race") {
             String::new()
         } else {
             format!(" marker-end=\"url(#end-{})\"", arrow.sort)
@@ -53,6 +57,7 @@ fn title(arrow: &Arrow) -> String {
         (_, Some(label)) => format!("rows {from} and {to}: {label}"),
         ("reads", _) => format!("row {to} read row {from}"),
         ("synchronizes", _) => format!("row {from} synchronizes with row {to}"),
+        (RACE_TOO, _) => format!("rows {from} and {to} race too"),
         _ => format!("row {from} is before row {to} in scoped modification order"),
     }
 }
@@ -76,10 +81,44 @@ fn label_drawn(
     )
 }
 
-fn relations(checked: Checked) -> Vec<Arrow> {
+/// Whether two rows are control barriers of one instance.
+pub fn are_of_one_instance(checked: Checked, from: usize, to: usize) -> bool {
+    let (from, to) = (checked.run.rows[from], checked.run.rows[to]);
+    from.is_control_barrier() && to.is_control_barrier() && from.instance() == to.instance()
+}
+
+/// The sort of the races that the answer doesn't name; so many are drawn.
+const RACE_TOO: &str = "race too";
+const MOST_RACES: usize = 60;
+
+/// The racing pairs that the answer doesn't name.
+fn other_races(checked: Checked, layout: &Layout, shown: &Shown) -> Vec<Arrow> {
+    let Shown::Race(goal) = shown else {
+        return Vec::new();
+    };
+    let rows: Vec<usize> = layout.rows.keys().copied().collect();
+    let firsts = rows.iter().enumerate();
+    let pairs = firsts.flat_map(|(place, from)| rows[place + 1..].iter().map(|to| (*from, *to)));
+    let races = pairs.filter(|(from, to)| {
+        let is_named = (*from, *to) == (goal.first, goal.second);
+        let mut bytes = checked.shared_bytes(*from, *to).into_iter();
+        !is_named && bytes.any(|byte| checked.state.races_at(*from, *to, byte))
+    });
+    let arrow = |(from, to)| Arrow {
+        from,
+        to,
+        sort: RACE_TOO,
+        shift: 9,
+        label: None,
+    };
+    races.take(MOST_RACES).map(arrow).collect()
+}
+
+fn relations(checked: Checked, layout: &Layout) -> Vec<Arrow> {
     let state = checked.state;
     let rows = checked.run.rows.len();
-    let pairs = (0..rows).flat_map(|from| (0..rows).map(move |to| (from, to)));
+    let drawn = || layout.rows.keys().copied();
+    let pairs = drawn().flat_map(|from| drawn().map(move |to| (from, to)));
     let mut arrows = Vec::new();
     for (from, to) in pairs {
         let mut add = |sort, shift| {
@@ -94,7 +133,8 @@ fn relations(checked: Checked) -> Vec<Arrow> {
         if state.read_from(to) == Some(from) {
             add("reads", -7);
         }
-        if state.synchronizes_with(from, to) {
+        // The band of an instance says it of its rows.
+        if state.synchronizes_with(from, to) && !are_of_one_instance(checked, from, to) {
             add("synchronizes", 0);
         }
         let comes_between =

@@ -36,7 +36,11 @@ pub fn agents(run: &Run, layout: &Layout) -> String {
         svg += &format!(
             "<text class=\"places\" x=\"{middle}\" y=\"{}\">{}</text>\n",
             TOP - 26,
-            place_words(run.agents[agent])
+            if layout.is_narrow {
+                run.agents[agent].map(|number| number.to_string()).join(".")
+            } else {
+                place_words(run.agents[agent])
+            }
         );
     }
     svg
@@ -46,13 +50,13 @@ pub fn agents(run: &Run, layout: &Layout) -> String {
 pub fn rows(run: &Run, layout: &Layout, shown: &Shown) -> String {
     let pointed = shown.rows();
     let mut svg = String::new();
-    for (row, place) in layout.rows.iter().enumerate() {
-        let class = class(run.rows[row], pointed.contains(&row));
+    for (row, place) in &layout.rows {
+        let class = class(run.rows[*row], pointed.contains(row));
         svg += &format!(
-            "<g class=\"{class}\"><title>{}</title>\n",
-            escaped(&run.described(row))
+            "<g class=\"{class}\" id=\"box-{row}\"><title>{}</title>\n",
+            escaped(&run.described(*row))
         );
-        svg += &drawn(row, place);
+        svg += &drawn(*row, place);
         svg += "</g>\n";
     }
     svg
@@ -107,8 +111,8 @@ fn moment(name: &Option<String>, place: &Place, y: i32) -> String {
     let sort = name.split(',').next().unwrap_or_default();
     format!(
         "<rect class=\"moment {sort}\" x=\"{}\" y=\"{y}\" width=\"{}\" height=\"{MOMENT}\" rx=\"3\"/><text class=\"moment\" x=\"{}\" y=\"{}\">{}</text>\n",
-        place.x + 16,
-        place.width - 32,
+        place.x + 4,
+        place.width - 8,
         place.x + place.width / 2,
         y + 12,
         escaped(name)

@@ -1,6 +1,6 @@
 //! Curves between boxes.
 
-use super::layout::{Layout, Place, GAP};
+use super::layout::{Layout, Place};
 
 /// A cubic curve: start, two controls, end.
 #[derive(Clone, Copy, Debug)]
@@ -9,11 +9,11 @@ pub struct Curve(pub [(i32, i32); 4]);
 impl Curve {
     /// From one box to another, a little lower or higher than their middles
     /// so that arrows of several sorts stand apart.
-    pub fn between(from: &Place, to: &Place, shift: i32) -> Curve {
+    pub fn between(from: &Place, to: &Place, shift: i32, gap: i32) -> Curve {
         let (start, end) = (from.middle() + shift, to.middle() + shift);
         if from.x == to.x {
             // Farther out the farther they are apart.
-            let reach = (24 + (end - start).abs() / 12).min(GAP - 12) + shift;
+            let reach = (24 + (end - start).abs() / 12).min(gap - 12) + shift;
             let x = from.right();
             return Curve([(x, start), (x + reach, start), (x + reach, end), (x, end)]);
         }
@@ -66,7 +66,7 @@ impl Curve {
         width: i32,
     ) -> (i32, i32) {
         let room = (width / 2, 10);
-        let is_box = |(x, y)| layout.rows.iter().any(|place| place.contains(x, y, room));
+        let is_box = |(x, y)| layout.rows.values().any(|place| place.contains(x, y, room));
         let is_label = |(x, y): (i32, i32)| {
             taken.iter().any(|(other_x, other_y, other_width)| {
                 (x - other_x).abs() < (width + other_width) / 2 && (y - other_y).abs() < 20

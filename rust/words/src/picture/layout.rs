@@ -3,15 +3,17 @@
 use crate::account::Checked;
 use crate::names;
 use crate::run::Run;
-use second::table::Row;
+use second::table::{Row, RELAXED};
 use second::{AFTER, BEFORE};
+use std::collections::BTreeMap;
 
 /// Space around the picture.
 pub const EDGE: i32 = 24;
 /// Where the first row may begin.
 pub const TOP: i32 = 104;
-/// Space between columns, for arrows.
-pub const GAP: i32 = 120;
+/// Space between columns, for arrows, and where there are many columns.
+const GAP: i32 = 120;
+const NARROW_GAP: i32 = 56;
 pub const LINE: i32 = 15;
 /// Height of an availability or visibility moment.
 pub const MOMENT: i32 = 16;
@@ -19,6 +21,9 @@ const PADDING: i32 = 6;
 const BETWEEN: i32 = 14;
 const LEAST_WIDTH: i32 = 640;
 const LEAST_COLUMN: i32 = 200;
+const NARROW_COLUMN: i32 = 150;
+/// More columns than this are narrow.
+const WIDE_COLUMNS: usize = 5;
 /// After so many rows the agents' names are written again.
 const BAND_ROWS: usize = 16;
 const BAND: i32 = 30;
@@ -58,13 +63,17 @@ impl Place {
     }
 }
 
-/// The places of all rows, and the size of it all without the legend.
+/// The places of the rows that are drawn, and the size of it all without the
+/// legend.
 pub struct Layout {
-    pub rows: Vec<Place>,
+    pub rows: BTreeMap<usize, Place>,
     /// The agents that have a column: those with rows.
     pub agents: Vec<usize>,
-    /// Width of a column.
+    /// Whether columns and texts are narrow.
+    pub is_narrow: bool,
+    /// Width of a column, and the space between two.
     pub column: i32,
+    pub gap: i32,
     /// Where the agents' names stand.
     pub bands: Vec<i32>,
     pub width: i32,
@@ -72,22 +81,28 @@ pub struct Layout {
 }
 
 impl Layout {
-    pub fn of(checked: Checked) -> Layout {
+    pub fn of(checked: Checked, rows: &[usize]) -> Layout {
         let run = checked.run;
-        let has_rows = |agent: &usize| run.rows.iter().any(|row| usize::from(row.agent) == *agent);
+        let has_rows = |agent: &usize| {
+            let mut rows = rows.iter();
+            rows.any(|row| usize::from(run.rows[*row].agent) == *agent)
+        };
         let agents: Vec<usize> = (0..run.agents.len()).filter(has_rows).collect();
+        let is_narrow = agents.len() > WIDE_COLUMNS;
         let mut layout = Layout {
-            column: column_width(run),
+            column: column_width(run, rows, is_narrow),
+            gap: if is_narrow { NARROW_GAP } else { GAP },
+            is_narrow,
             width: 0,
             height: TOP,
-            rows: Vec::new(),
+            rows: BTreeMap::new(),
             bands: vec![TOP - 42],
             agents,
         };
         let past_last = layout.column_x(layout.agents.len());
         layout.width = LEAST_WIDTH.max(past_last + EDGE);
-        for number in 0..run.rows.len() {
-            layout.push(checked, number);
+        for number in rows {
+            layout.push(checked, *number);
         }
         layout.height += EDGE;
         layout
@@ -95,7 +110,8 @@ impl Layout {
 
     fn push(&mut self, checked: Checked, number: usize) {
         let row = checked.run.rows[number];
-        if number > 0 && number.is_multiple_of(BAND_ROWS) {
+        let count = self.rows.len();
+        if count > 0 && count.is_multiple_of(BAND_ROWS) {
             self.bands.push(self.height + BAND / 2);
             self.height += BAND;
         }
@@ -103,7 +119,7 @@ impl Layout {
         let column = agents
             .take_while(|agent| **agent < usize::from(row.agent))
             .count();
-        let lines = lines(number, row);
+        let lines = lines(number, row, self.is_narrow);
         let before = moment(checked, number, BEFORE);
         let after = moment(checked, number, AFTER);
         let place = Place {
@@ -116,45 +132,67 @@ impl Layout {
             after,
         };
         self.height = place.outer().1 + BETWEEN;
-        self.rows.push(place);
+        self.rows.insert(number, place);
     }
 
     /// The left side of a column; row numbers stand to the left of all.
     pub fn column_x(&self, column: usize) -> i32 {
-        EDGE + 36 + column as i32 * (self.column + GAP)
+        EDGE + 36 + column as i32 * (self.column + self.gap)
     }
 }
 
 /// Wide enough for every box's text, whose first line is bold.
-fn column_width(run: &Run) -> i32 {
-    let rows = run.rows.iter().enumerate();
-    let widths = rows.flat_map(|(number, row)| {
-        let lines = lines(number, *row).into_iter().enumerate();
+fn column_width(run: &Run, rows: &[usize], is_narrow: bool) -> i32 {
+    let widths = rows.iter().flat_map(|number| {
+        let lines = lines(*number, run.rows[*number], is_narrow);
+        let lines = lines.into_iter().enumerate();
         lines.map(|(place, line)| {
             let letters = line.chars().count() as i32;
             let tenths = if place == 0 { 76 } else { 69 };
             letters * tenths / 10 + 24
         })
     });
-    widths.max().unwrap_or(0).max(LEAST_COLUMN)
+    let least = if is_narrow {
+        NARROW_COLUMN
+    } else {
+        LEAST_COLUMN
+    };
+    widths.max().unwrap_or(0).max(least)
+}
+
+/// What stands in a row's box, in short lines where columns are narrow.
+fn lines(number: usize, row: Row, is_narrow: bool) -> Vec<String> {
+    let lines = wide_lines(number, row);
+    if !is_narrow {
+        return lines;
+    }
+    let parts = lines.iter().flat_map(|line| line.split(", "));
+    parts.map(str::to_string).collect()
 }
 
 /// What stands in a row's box.
-fn lines(number: usize, row: Row) -> Vec<String> {
+fn wide_lines(number: usize, row: Row) -> Vec<String> {
     let kind = names::kind(row.kind);
-    let mut lines = vec![if row.is_plain() {
+    let has_no_order = row.is_plain() || row.is_control_barrier() && row.order == RELAXED;
+    let mut lines = vec![if has_no_order {
         format!("{number}  {kind}")
     } else {
         format!("{number}  {kind}, {}", names::order(row.order))
     }];
     if row.is_access() {
-        let bytes = names::bytes(row).replace(" to ", "\u{2013}");
+        let bytes = names::byte_words(row).replace(" to ", "\u{2013}");
         let class = names::class(row.class);
-        lines.push(format!("bytes {bytes}, ref {}, {class}", row.reference));
+        lines.push(format!("{bytes}, ref {}, {class}", row.reference));
     }
     let scope = names::scope(row.scope);
+    if row.is_control_barrier() {
+        let execution = names::scope(row.execution_scope());
+        lines.push(format!("instance {}, {execution}", row.instance()));
+    }
     if row.is_plain() && !row.is_non_private() {
         lines.push("private".to_string());
+    } else if row.is_control_barrier() && row.order == RELAXED {
+        lines.push("execution only".to_string());
     } else if !row.is_plain() && row.classes == 0 {
         lines.push(format!("{scope} scope"));
     } else if !row.is_plain() {

@@ -14,6 +14,8 @@ enum Sample {
     Arrow(&'static str),
     /// A box of this class inside rows of a kind.
     Box(&'static str, &'static str),
+    /// A band across agents.
+    Band,
 }
 
 const HEIGHT: i32 = 26;
@@ -24,25 +26,47 @@ pub fn text_width(text: &str) -> i32 {
     text.chars().count() as i32 * 7
 }
 
-pub fn entries(shown: &Shown) -> Vec<Entry> {
+/// The entries for what occurs among the drawn things.
+pub fn entries(drawn: &str, shown: &Shown) -> Vec<Entry> {
+    let arrows = [
+        ("reads", "read from"),
+        ("synchronizes", "synchronizes with"),
+        ("modification", "scoped modification order"),
+        ("race too", "races too"),
+    ];
+    let boxes = [
+        ("row plain", "box", "plain"),
+        ("row atomic", "box", "atomic"),
+        ("row barrier", "box", "barrier"),
+        ("row", "moment available", "availability moment"),
+        ("row", "moment visible", "visibility moment"),
+    ];
+    let has = |class: &str| drawn.contains(&format!("class=\"{class}"));
     let arrow = |sort, words| Entry {
         sample: Sample::Arrow(sort),
         words,
     };
-    let sample_box = |row, class, words| Entry {
-        sample: Sample::Box(row, class),
-        words,
-    };
-    let mut entries = vec![
-        arrow("reads", "read from"),
-        arrow("synchronizes", "synchronizes with"),
-        arrow("modification", "scoped modification order"),
-        sample_box("row plain", "box", "plain"),
-        sample_box("row atomic", "box", "atomic"),
-        sample_box("row barrier", "box", "barrier"),
-        sample_box("row", "moment available", "availability moment"),
-        sample_box("row", "moment visible", "visibility moment"),
-    ];
+    let mut entries = Vec::new();
+    for (sort, words) in arrows {
+        if has(&format!("arrow {sort}\"")) {
+            entries.push(arrow(sort, words));
+        }
+    }
+    for (row, class, words) in boxes {
+        let sought = if class == "box" { row } else { class };
+        if has(sought) {
+            entries.push(Entry {
+                sample: Sample::Box(row, class),
+                words,
+            });
+        }
+    }
+    if has("band") {
+        entries.push(Entry {
+            sample: Sample::Band,
+            words: "agents meet in a control barrier",
+        });
+    }
     match shown {
         Shown::Race(_) => entries.push(arrow("race", "race: no order either way")),
         Shown::Overwritten { .. } => entries.push(arrow("shown", "overwritten: location order")),
@@ -78,7 +102,7 @@ pub fn drawn(entries: &[Entry], layout: &Layout) -> String {
         let y = y + layout.height;
         svg += &match entry.sample {
             Sample::Arrow(sort) => {
-                let end = if sort == "race" {
+                let end = if sort.starts_with("race") {
                     String::new()
                 } else {
                     format!(" marker-end=\"url(#end-{sort})\"")
@@ -89,6 +113,11 @@ pub fn drawn(entries: &[Entry], layout: &Layout) -> String {
                     SAMPLE - 10
                 )
             }
+            Sample::Band => format!(
+                "<path class=\"band\" d=\"M{x} {} h{}\"/>",
+                y + 8,
+                SAMPLE - 10
+            ),
             Sample::Box(row, class) => format!(
                 "<g class=\"{row}\"><rect class=\"{class}\" x=\"{x}\" y=\"{y}\" width=\"{}\" height=\"16\" rx=\"3\"/></g>",
                 SAMPLE - 10

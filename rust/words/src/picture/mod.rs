@@ -3,49 +3,88 @@
 //! or came after what.
 
 mod arrows;
+mod bands;
 mod boxes;
 mod curve;
 mod layout;
 mod legend;
+mod matter;
 mod style;
 
 use crate::account::Checked;
 use crate::explain::Shown;
+use crate::headline::headline;
 use crate::markup::escaped;
+use crate::names;
 use layout::{Layout, EDGE, TOP};
 
 /// Room for labels beside arrows of the last column.
 const LABEL_ROOM: i32 = 110;
 
-/// The picture as an SVG document of its own.
-pub fn picture(checked: Checked, answer: &str, shown: &Shown) -> String {
-    let mut layout = Layout::of(checked);
+/// The picture as an SVG document of its own: of a large run the rows that
+/// matter, unless all are wanted.
+pub fn picture(checked: Checked, answer: &str, shown: &Shown, is_all: bool) -> String {
+    let rows = matter::rows(checked, shown, is_all);
+    let mut layout = Layout::of(checked, &rows);
     if !shown.rows().is_empty() {
         layout.width += LABEL_ROOM;
     }
-    let legend = legend::entries(shown);
+    let headline = headline(shown);
+    layout.width = layout
+        .width
+        .max(2 * EDGE + headline.chars().count() as i32 * 11);
+    let drawn = drawn(checked, &layout, shown);
+    let legend = legend::entries(&drawn, shown);
     let (width, height) = (
         layout.width,
         layout.height + legend::height(&legend, layout.width),
     );
     let mut svg = format!(
-        "<svg xmlns=\"http://www.w3.org/2000/svg\" class=\"run\" role=\"img\" width=\"{width}\" height=\"{height}\" viewBox=\"0 0 {width} {height}\">\n"
+        "<svg xmlns=\"http://www.w3.org/2000/svg\" class=\"run\" role=\"graphics-document\" aria-labelledby=\"run-title run-desc\" width=\"{width}\" height=\"{height}\" viewBox=\"0 0 {width} {height}\">\n"
     );
-    svg += &format!("<title>{}</title>\n", escaped(answer));
+    svg += &format!("<title id=\"run-title\">{}</title>\n", escaped(&headline));
+    let count = counted(checked, &rows);
+    svg += &format!(
+        "<desc id=\"run-desc\">Agents are columns, rows stand below each other in the table&#39;s order, arrows go from row to row. {}. The answer: {}.</desc>\n",
+        escaped(&count),
+        escaped(answer)
+    );
     svg += &format!("<style>\n{}</style>\n", style::SHEET);
     svg += &style::markers();
     svg += &format!("<rect class=\"ground\" width=\"{width}\" height=\"{height}\"/>\n");
     svg += &format!(
-        "<text class=\"verdict\" x=\"{EDGE}\" y=\"{}\">{}</text>\n",
-        TOP - 70,
-        escaped(answer)
+        "<text class=\"verdict\" x=\"{EDGE}\" y=\"{}\">{}</text>\n<text class=\"answer\" x=\"{EDGE}\" y=\"{}\">{}. {}.</text>\n",
+        TOP - 80,
+        escaped(&headline),
+        TOP - 62,
+        escaped(answer),
+        escaped(&count)
     );
-    svg += &boxes::lanes(&layout);
-    let (below, labels) = arrows::drawn(checked, &layout, shown);
-    svg += &below;
-    svg += &boxes::agents(checked.run, &layout);
-    svg += &boxes::rows(checked.run, &layout, shown);
-    svg += &labels;
+    svg += &drawn;
     svg += &legend::drawn(&legend, &layout);
     svg + "</svg>\n"
+}
+
+/// How many rows there are, and how many of them are drawn.
+fn counted(checked: Checked, rows: &[usize]) -> String {
+    let all = checked.run.rows.len();
+    let agents = names::counted(checked.run.agents.len(), "agent");
+    if rows.len() == all {
+        return format!("{agents}, {}", names::counted(all, "row"));
+    }
+    format!(
+        "{agents}; {} of {all} rows are drawn, the others with --all",
+        rows.len()
+    )
+}
+
+/// All but the frame, the headline and the legend.
+fn drawn(checked: Checked, layout: &Layout, shown: &Shown) -> String {
+    let mut svg = boxes::lanes(layout);
+    svg += &bands::drawn(checked.run, layout);
+    let (below, labels) = arrows::drawn(checked, layout, shown);
+    svg += &below;
+    svg += &boxes::agents(checked.run, layout);
+    svg += &boxes::rows(checked.run, layout, shown);
+    svg + &labels
 }

@@ -7,6 +7,7 @@ pub const SHEET: &str = "\
 .run text { font-family: system-ui, 'Segoe UI', 'DejaVu Sans', sans-serif; font-size: 12px; fill: #1b1f24; }
 .run .ground { fill: #ffffff; }
 .run .verdict { font-size: 20px; font-weight: bold; }
+.run .answer { font-size: 13px; fill: #57606a; }
 .run .agent { font-size: 14px; font-weight: bold; text-anchor: middle; paint-order: stroke; stroke: #ffffff; stroke-width: 6px; }
 .run .places { font-size: 11px; fill: #57606a; text-anchor: middle; }
 .run .lane { stroke: #c3c9d1; stroke-width: 2; stroke-dasharray: 2 5; fill: none; }
@@ -14,6 +15,7 @@ pub const SHEET: &str = "\
 .run .box { fill: #f2f3f5; stroke: #8a929c; stroke-width: 1; }
 .run .atomic .box { fill: #e3eefc; }
 .run .barrier .box { fill: #fbf0d4; }
+.run .band { fill: none; stroke: #f0d080; stroke-width: 14; stroke-linejoin: round; }
 .run .first { font-weight: bold; }
 .run .moment { font-size: 11px; text-anchor: middle; }
 .run rect.moment { stroke: #8a929c; }
@@ -24,6 +26,7 @@ pub const SHEET: &str = "\
 .run .synchronizes { stroke: #14742f; stroke-width: 3; }
 .run .modification { stroke: #8536c9; stroke-dasharray: 7 4; }
 .run .race { stroke: #cc1f1a; stroke-width: 4; stroke-dasharray: 3 4; }
+.run .too { stroke-width: 1.6; }
 .run .shown { stroke: #cc1f1a; stroke-width: 3; }
 .run .pointed .box { stroke: #cc1f1a; stroke-width: 3; }
 .run rect.label { fill: #cc1f1a; }
@@ -36,11 +39,12 @@ pub const SHEET: &str = "\
 .run text { fill: #e6e9ed; }
 .run .ground { fill: #12151a; }
 .run .agent { stroke: #12151a; }
-.run .places, .run .number { fill: #a3acb8; }
+.run .places, .run .number, .run .answer { fill: #a3acb8; }
 .run .lane { stroke: #454c56; }
 .run .box { fill: #23272e; stroke: #79828e; }
 .run .atomic .box { fill: #1b2d47; }
 .run .barrier .box { fill: #3d3214; }
+.run .band { stroke: #6b5518; }
 .run rect.moment { stroke: #79828e; }
 .run rect.available { fill: #173d21; }
 .run rect.visible { fill: #37265a; }

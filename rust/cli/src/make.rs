@@ -1,0 +1,84 @@
+//! A table made of another: its blanks filled, or steps made in it.
+
+use crate::Status;
+use stramashly::{Checker, FillAnswer, BLANK};
+use words::{edited, stepped, Edit, Field, Run, Step};
+
+/// How a table is made.
+#[derive(Clone, Debug, PartialEq, Eq)]
+pub enum Making {
+    /// Each blank has its source.
+    Filled,
+    /// Steps are made one after the other.
+    Edited(Vec<Step>),
+}
+
+/// A new table, and what is to be told of it.
+pub struct Made {
+    pub table: Vec<u8>,
+    pub status: Status,
+    pub told: Option<String>,
+}
+
+/// The new table; the status and the reason if there is none.
+pub fn make(
+    checker: &mut Checker,
+    making: &Making,
+    table: &[u8],
+) -> Result<Made, (Status, String)> {
+    let made = |table, status, told| Made {
+        table,
+        status,
+        told,
+    };
+    match making {
+        Making::Filled => filled(checker, table).map(|table| made(table, Status::Fine, None)),
+        Making::Edited(steps) => {
+            let stepped = stepped(table, steps);
+            let table = stepped.map_err(|reason| (Status::Trouble, reason))?;
+            // What isn't well formed is handed out all the same: more steps may follow.
+            let answer = checker.fill(&table);
+            match answer {
+                FillAnswer::Refused { .. } => {
+                    let told = format!("made; it is {answer}");
+                    Ok(made(table, Status::Refused, Some(told)))
+                }
+                _ => Ok(made(table, Status::Fine, None)),
+            }
+        }
+    }
+}
+
+fn filled(checker: &mut Checker, table: &[u8]) -> Result<Vec<u8>, (Status, String)> {
+    let answer = checker.fill(table);
+    let status = match answer {
+        FillAnswer::Filled(sources) => {
+            let rows = Run::of(table).rows;
+            let blanks = (0..rows.len()).filter(|row| rows[*row].source == BLANK);
+            let edits = blanks.map(|row| Edit::new(row, Field::Source, sources[row]));
+            return Ok(edited(table, &edits.collect::<Vec<_>>()));
+        }
+        FillAnswer::Race { .. } => Status::No,
+        FillAnswer::None => Status::Inconsistent,
+        FillAnswer::Refused { .. } => Status::Refused,
+    };
+    Err((status, format!("{answer}; there is no filled table")))
+}
+
+/// The steps of an edit: words like `row 2 flags 3`, several with semicolons
+/// between them.
+pub fn steps(words: &[&str]) -> Result<Vec<Step>, String> {
+    let parts = words.iter().flat_map(|word| word.split(';'));
+    let parts = parts.map(str::trim).filter(|part| !part.is_empty());
+    let steps: Vec<Step> = parts.map(str::parse).collect::<Result<_, _>>()?;
+    if steps.is_empty() {
+        return Err("edit takes one table and what is to be changed, like 'row 2 flags 3'".into());
+    }
+    Ok(steps)
+}
+
+/// Bytes as hex digits and a line's end.
+pub fn hex_line(bytes: &[u8]) -> String {
+    let digits: String = bytes.iter().map(|byte| format!("{byte:02X}")).collect();
+    digits + "\n"
+}

@@ -1,0 +1,81 @@
+//! Small tables made by hand, with the answers that the rules give them.
+
+/// A table whose answer was worked out by hand.
+pub struct Litmus {
+    pub name: &'static str,
+    pub bytes: Vec<u8>,
+    /// What a check answers.
+    pub answer: &'static str,
+}
+
+/// Every case.
+pub fn litmus() -> Vec<Litmus> {
+    let named = |(name, digits, answer): &(&'static str, &str, &'static str)| Litmus {
+        name,
+        bytes: from_hex(digits),
+        answer,
+    };
+    CONTROL_BARRIERS
+        .iter()
+        .chain(&COUNTED_RANKS)
+        .map(named)
+        .collect()
+}
+
+type Case = (&'static str, &'static str, &'static str);
+
+const CONTROL_BARRIERS: [Case; 4] = [
+    (
+        "two rows of one instance release and acquire",
+        "00000050010204000000000000000000 00000001 010000000001000400000001ffff0000 \
+         060003020106020000090000ffff0000 060103020106020000090000ffff0000 \
+         00010000000100040000000100000000",
+        "race-free",
+    ),
+    (
+        "execution only, between two fences",
+        "00000070010206000000000000000000 00000001 010000000001000400000001ffff0000 \
+         050002020102000000000000ffff0000 060000000000020000090000ffff0000 \
+         060100000000020000090000ffff0000 050101020104000000000000ffff0000 \
+         00010000000100040000000100000000",
+        "race-free",
+    ),
+    (
+        "a memory scope that the agents don't share",
+        "00000050010204000000000000000000 00000001 010000020003000400000001ffff0000 \
+         060003010100020000090000ffff0000 060103020104020000090000ffff0000 \
+         00010000000100040000000100000000",
+        "race 0 3 0",
+    ),
+    (
+        "an execution scope that the agents don't share",
+        "00000030010202000000000000000000 00000001 060003020100010000090000ffff0000 \
+         060103020100010000090000ffff0000",
+        "refused 14 1",
+    ),
+];
+
+const COUNTED_RANKS: [Case; 2] = [
+    (
+        "a release sequence over the end of the counter",
+        "00000066020305000000000000000000 00000001 000000000002 \
+         010000000001000400000001ffff0000 030002020103000400040002ffffffff \
+         04020002000100040004000200010000 02010102010500040004000200020000 \
+         00010000000100040000000100000000",
+        "race-free",
+    ),
+    (
+        "one count too many",
+        "0000003a020103000000000000000300 00020001000400040002ffff0000 \
+         030000020001000400040002ffff7fff 030000020001000400040002ffff8000",
+        "refused 15 2",
+    ),
+];
+
+fn from_hex(digits: &str) -> Vec<u8> {
+    let digits: String = digits.split_whitespace().collect();
+    (0..digits.len())
+        .step_by(2)
+        .map(|at| u8::from_str_radix(&digits[at..at + 2], 16).expect("two hex digits"))
+        .collect()
+}

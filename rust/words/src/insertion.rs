@@ -1,0 +1,170 @@
+//! Rows put into a table, and the steps that make one table of another.
+
+use crate::edit::{row_bytes, whole_number, Edit, Field, FIELDS};
+use second::table::{Row, AGENT_BYTES, HEADER_BYTES, ROW_BYTES};
+use second::{BLANK, INITIAL, MAX_ROWS};
+use std::fmt;
+use std::str::FromStr;
+
+/// A row put in at a place, written `insert 1 kind 5 agent 0 order 2`: the
+/// fields that aren't zero, and the source if there is one. Rows from there on
+/// move on by one, and sources with them; its own source counts the rows as
+/// they are afterwards.
+#[derive(Clone, Copy, Debug, PartialEq, Eq)]
+pub struct Insertion {
+    pub place: usize,
+    pub row: Row,
+}
+
+impl Insertion {
+    /// Where a row is afterwards.
+    pub fn moved(self, row: usize) -> usize {
+        row + usize::from(row >= self.place)
+    }
+
+    /// Puts the row in; the reason if the table has no such place or no room.
+    pub fn apply(self, table: &mut Vec<u8>) -> Result<(), String> {
+        let rows = row_count(table)?;
+        if self.place > rows {
+            return Err(format!("{rows} rows have no place {}", self.place));
+        }
+        if rows >= MAX_ROWS {
+            return Err(format!("a table has at most {MAX_ROWS} rows"));
+        }
+        let first = first_row(table);
+        for row in 0..rows {
+            let at = first + ROW_BYTES * row + SOURCE;
+            let source = u16::from_be_bytes([table[at], table[at + 1]]);
+            // The initial value and a blank are no rows.
+            if source < BLANK && usize::from(source) >= self.place {
+                table[at..at + 2].copy_from_slice(&(source + 1).to_be_bytes());
+            }
+        }
+        let at = first + ROW_BYTES * self.place;
+        table.splice(at..at, row_bytes(self.row));
+        table[6] += 1;
+        let count = u32::from_be_bytes([table[0], table[1], table[2], table[3]]);
+        let count = count.wrapping_add(ROW_BYTES as u32);
+        table[..4].copy_from_slice(&count.to_be_bytes());
+        Ok(())
+    }
+}
+
+/// Where a row's source stands.
+const SOURCE: usize = 12;
+
+fn first_row(table: &[u8]) -> usize {
+    HEADER_BYTES + AGENT_BYTES * usize::from(table[5])
+}
+
+/// The rows of a table whose header, agents and rows are all there.
+fn row_count(table: &[u8]) -> Result<usize, String> {
+    let is_known = table.len() >= HEADER_BYTES && (1..=2).contains(&table[4]);
+    if !is_known || table.len() != first_row(table) + ROW_BYTES * usize::from(table[6]) {
+        return Err("the header doesn't fit the table's bytes".to_string());
+    }
+    Ok(usize::from(table[6]))
+}
+
+impl fmt::Display for Insertion {
+    fn fmt(&self, formatter: &mut fmt::Formatter) -> fmt::Result {
+        write!(formatter, "insert {}", self.place)?;
+        for (field, name, ..) in FIELDS {
+            let value = field.of(self.row);
+            let unsaid = if field == Field::Source { INITIAL } else { 0 };
+            // A row's kind is said, whatever it is.
+            if value != unsaid || field == Field::Kind || field == Field::Agent {
+                write!(formatter, " {name} {value}")?;
+            }
+        }
+        Ok(())
+    }
+}
+
+impl FromStr for Insertion {
+    type Err = String;
+
+    fn from_str(text: &str) -> Result<Insertion, String> {
+        let words: Vec<&str> = text.split_whitespace().collect();
+        let ["insert", place, fields @ ..] = &words[..] else {
+            return Err(format!("no insertion: {text:?}"));
+        };
+        let place = whole_number(place, MAX_ROWS);
+        let place = place.ok_or(format!("no place for a row: {text:?}"))?;
+        let mut row = Row {
+            source: INITIAL,
+            ..Row::default()
+        };
+        let mut named = Vec::new();
+        for pair in fields.chunks(2) {
+            let field = Field::named(pair[0]).ok_or(format!("no field {:?}", pair[0]))?;
+            let value = pair
+                .get(1)
+                .and_then(|value| whole_number(value, field.most()));
+            let value = value.ok_or(format!("{} has no number up to {}", pair[0], field.most()))?;
+            if named.contains(&field) {
+                return Err(format!("{} is given twice", pair[0]));
+            }
+            named.push(field);
+            row = field.set(row, value);
+        }
+        if !named.contains(&Field::Kind) || !named.contains(&Field::Agent) {
+            return Err(format!("a new row has a kind and an agent: {text:?}"));
+        }
+        Ok(Insertion { place, row })
+    }
+}
+
+/// One step from a table to another; several are made one after the other.
+#[derive(Clone, Copy, Debug, PartialEq, Eq)]
+pub enum Step {
+    Edit(Edit),
+    Insert(Insertion),
+}
+
+impl Step {
+    /// Makes the step; the reason if the table has no such row or place.
+    pub fn apply(self, table: &mut Vec<u8>) -> Result<(), String> {
+        match self {
+            Step::Insert(insertion) => insertion.apply(table),
+            Step::Edit(edit) => {
+                let rows = row_count(table)?;
+                if edit.row >= rows {
+                    return Err(format!("there is no row {}", edit.row));
+                }
+                edit.apply(table);
+                Ok(())
+            }
+        }
+    }
+}
+
+impl fmt::Display for Step {
+    fn fmt(&self, formatter: &mut fmt::Formatter) -> fmt::Result {
+        match self {
+            Step::Edit(edit) => edit.fmt(formatter),
+            Step::Insert(insertion) => insertion.fmt(formatter),
+        }
+    }
+}
+
+impl FromStr for Step {
+    type Err = String;
+
+    fn from_str(text: &str) -> Result<Step, String> {
+        if text.split_whitespace().next() == Some("insert") {
+            return text.parse().map(Step::Insert);
+        }
+        text.parse().map(Step::Edit)
+    }
+}
+
+/// The table after these steps, or the reason why one can't be made.
+pub fn stepped(table: &[u8], steps: &[Step]) -> Result<Vec<u8>, String> {
+    let mut changed = table.to_vec();
+    for step in steps {
+        let made = step.apply(&mut changed);
+        made.map_err(|reason| format!("`{step}`: {reason}"))?;
+    }
+    Ok(changed)
+}

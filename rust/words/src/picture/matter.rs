@@ -1,0 +1,124 @@
+//! The rows of a large run that an answer is about: those that it names, and
+//! what synchronizes near them.
+
+use crate::account::Checked;
+use crate::derivation::{meeting, step_parts};
+use crate::explain::Shown;
+use crate::goal::Goal;
+use std::collections::BTreeSet;
+use stramashly::{Checker, Derivation, DeriveAnswer};
+
+/// A run of so many rows is drawn whole.
+const WHOLE: usize = 32;
+/// So many rows of a sort are taken in.
+const NEAR: usize = 2;
+
+/// The rows to draw.
+pub fn rows(checked: Checked, shown: &Shown, is_all: bool) -> Vec<usize> {
+    let count = checked.run.rows.len();
+    if is_all || count <= WHOLE {
+        return (0..count).collect();
+    }
+    let mut matter = Matter {
+        checked,
+        rows: shown.rows().into_iter().collect(),
+    };
+    match shown {
+        Shown::Nothing | Shown::Refused { .. } => return (0..count).collect(),
+        Shown::Race(goal) => matter.race(*goal),
+        Shown::Overwritten {
+            source,
+            writer,
+            reader,
+            ..
+        } => {
+            matter.order(*source, *writer);
+            matter.order(*writer, *reader);
+        }
+        Shown::Cycle { rows, .. } => {
+            for (place, row) in rows.iter().enumerate() {
+                matter.order(*row, rows[(place + 1) % rows.len()]);
+            }
+        }
+    }
+    matter.sources();
+    matter.rows.into_iter().collect()
+}
+
+struct Matter<'a> {
+    checked: Checked<'a>,
+    rows: BTreeSet<usize>,
+}
+
+impl Matter<'_> {
+    /// The chain by which a row is ordered before another, if it is.
+    fn order(&mut self, before: usize, after: usize) {
+        let mut bytes = self.checked.shared_bytes(before, after).into_iter();
+        let ordered = bytes.find_map(|byte| self.checked.ordered(before, after, byte));
+        let Some(ordered) = ordered else {
+            return;
+        };
+        let (from, to) = ordered.moments;
+        self.rows.extend([from / 3, to / 3]);
+        let mut checker = Checker::new();
+        let answer = checker.derive(self.checked.table, from as u16, to as u16);
+        if let DeriveAnswer::Derivation(Derivation::Chain { steps, .. }) = answer {
+            let reached = steps.iter().map(|step| step_parts(*step).1 / 3);
+            self.rows.extend(reached);
+        }
+    }
+
+    /// What might have ordered a racing pair, either way.
+    fn race(&mut self, goal: Goal) {
+        self.between(goal.first, goal.second);
+        self.between(goal.second, goal.first);
+    }
+
+    fn between(&mut self, before: usize, after: usize) {
+        let rows = &self.checked.run.rows;
+        let (agent, other) = (rows[before].agent, rows[after].agent);
+        let releases = (before + 1..rows.len())
+            .filter(|row| rows[*row].agent == agent && rows[*row].is_release())
+            .take(NEAR);
+        let acquires = (0..after)
+            .rev()
+            .filter(|row| rows[*row].agent == other && rows[*row].is_acquire())
+            .take(NEAR);
+        let (releases, acquires): (Vec<usize>, Vec<usize>) =
+            (releases.collect(), acquires.collect());
+        let state = self.checked.state;
+        for release in &releases {
+            let met = (0..rows.len()).filter(|row| state.synchronizes_with(*release, *row));
+            self.rows.extend(met.take(NEAR));
+            // The flag that a fence goes with.
+            let flag = (*release..rows.len())
+                .find(|row| rows[*row].agent == agent && rows[*row].is_atomic_writer());
+            self.rows.extend(flag);
+        }
+        for acquire in &acquires {
+            let met = (0..rows.len()).filter(|row| state.synchronizes_with(*row, *acquire));
+            self.rows.extend(met.take(NEAR));
+            let flag = (0..=*acquire)
+                .rfind(|row| rows[*row].agent == other && rows[*row].is_atomic_reader());
+            self.rows.extend(flag);
+        }
+        self.rows.extend(releases);
+        self.rows.extend(acquires);
+        if agent != other {
+            let met = meeting(rows, (agent, before), (other, after));
+            self.rows.extend(met.map(|(ours, _)| ours));
+            self.rows.extend(met.map(|(_, theirs)| theirs));
+        }
+    }
+
+    /// What the rows read.
+    fn sources(&mut self) {
+        let state = self.checked.state;
+        let sources: Vec<usize> = self
+            .rows
+            .iter()
+            .filter_map(|row| state.read_from(*row))
+            .collect();
+        self.rows.extend(sources);
+    }
+}

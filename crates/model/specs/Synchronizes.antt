@@ -72,9 +72,10 @@ syncBarriers t a b =
 unfoldable pub upTo : Table → ℕ → ℕ → Bool
 upTo t a c = leb a c and sameAgent t a c
 
--- the control barrier of the appendix's rule is met by two rows of one instance: c, and d of an agent that shares its execution scope
+-- the control barrier of the appendix's rule is met by two different rows of one instance: c, and d of an agent that shares its execution scope
 unfoldable pub joins : Table → ℕ → ℕ → Bool
-joins t c d = sameInstance (t .row c) (t .row d) and shares (t .places) (executionOf (t .row c)) (t .row c .agent) (t .row d .agent)
+joins t c d =
+    not (eqb c d) and sameInstance (t .row c) (t .row d) and shares (t .places) (executionOf (t .row c)) (t .row c .agent) (t .row d .agent)
 
 unfoldable pub arrives : Table → ℕ → ℕ → ℕ → Bool
 arrives t b c d = upTo t d b and joins t c d

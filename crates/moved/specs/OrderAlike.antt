@@ -91,7 +91,7 @@ module _ {t u : Table} {π : Renumbering (t .rows)} (M : Alike t u π) where
 
   joins-alike : (c d : ℕ) → joins u (π .to c) (π .to d) ≡ joins t c d
   unfolding joins
-  joins-alike c d = rw (M .row c, M .row d, M .places) refl
+  joins-alike c d = rw (eqb-to π c d, M .row c, M .row d, M .places) refl
 
   arrives-alike : (b c d : ℕ) → arrives u (π .to b) (π .to c) (π .to d) ≡ arrives t b c d
   unfolding arrives

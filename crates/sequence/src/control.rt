@@ -6,7 +6,8 @@ ghost use Prim.Native.Nat.{ℕ};
 ghost use Rattle.finite.specs.Below.{anyBelow};
 ghost use Rattle.model.specs.declared.Mode.{Mode};
 ghost use Rattle.model.specs.Limits.{ROWS};
-ghost use Rattle.model.specs.Table.{decode};
+ghost use Rattle.model.specs.Row.{control};
+ghost use Rattle.model.specs.Table.{rowOf, decode};
 ghost use Rattle.model.specs.Synchronizes.{upTo, joins, arrives, passes};
 use model::Mode;
 use model::Places;
@@ -21,14 +22,16 @@ fn is_up_to(rows: &[u8], a: usize, c: usize) -> bool
     (a <= c) & (r == q)
 }
 
-// M5: whether the rows c and d meet: they are of one instance, and their agents share its execution scope.
+// M5: whether the rows c and d meet: two different rows of one instance, whose agents share its execution scope.
 fn joins_at(rows: &[u8], p: Places, mode: Mode, n: usize, c: usize, d: usize) -> bool
     requires { ⌜ (c < ROWS) × (d < ROWS) ⌝ }
     ensures { λ b. ⌜ b ≡ joins (decode (now (rows .entry)) p mode n) c d ⌝ }
 {
     let r = rows::bytes::read_row(rows, c as u16);
     let q = rows::bytes::read_row(rows, d as u16);
-    rows::kinds::same_instance(r, q) & rows::scopes::shares_scope(p, r.class, r.agent, q.agent)
+    !(c == d)
+        & rows::kinds::same_instance(r, q)
+        & rows::scopes::shares_scope(p, r.class, r.agent, q.agent)
 }
 
 // M5: whether row d meets row c, and comes before row b or is b.
@@ -55,11 +58,23 @@ fn is_arrived(rows: &[u8], p: Places, mode: Mode, n: usize, b: usize, c: usize) 
     false
 }
 
-// M5: whether row a comes before row c or is c, and c is met by a row that comes before row b or is b.
+// Whether row c is a control barrier, by its first byte.
+fn is_control_at(rows: &[u8], c: usize) -> bool
+    requires { ⌜ c < ROWS ⌝ }
+    ensures { λ b. ⌜ b ≡ control (rowOf (now (rows .entry)) c) ⌝ }
+{
+    rows::bytes::row_byte(rows, c as u16, 0) == rows::kinds::CONTROL
+}
+
+// M5: whether row a comes before row c or is c, and c is met by a row that comes before row b or is b. Only a control barrier is
+// met: any other row costs a byte, and no walk over the rows.
 fn passes_at(rows: &[u8], p: Places, mode: Mode, n: usize, a: usize, b: usize, c: usize) -> bool
     requires { ⌜ (n ≤ ROWS) × (a < n) × (b < n) × (c < n) ⌝ }
     ensures { λ d. ⌜ d ≡ passes (decode (now (rows .entry)) p mode n) a b c ⌝ }
 {
+    if !is_control_at(rows, c) {
+        return false;
+    }
     if !is_up_to(rows, a, c) {
         return false;
     }

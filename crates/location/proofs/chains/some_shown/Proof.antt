@@ -28,7 +28,9 @@ loop-holds c = (search needs, any-none _)
 
 -- src/chains.rt:278:12
 shown-in-requires : tie.Need-shown-in-requires Inv-loop μ-loop
-shown-in-requires c κs = search needs
+shown-in-requires c κs =
+    let s = c .before .before .before .before in
+    (s .pre .0, s .pre .1, s .pre .2, s .pre .3, s .pre .4, s .pre .5, s .pre .6, s .pre .7, omega (arith, s .pre .3, c .loop-test .taken), s .pre .8)
 
 -- src/chains.rt:279:13
 returns : tie.Need-returns Inv-loop μ-loop

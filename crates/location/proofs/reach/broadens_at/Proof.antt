@@ -1,3 +1,8 @@
+use mathlib.Core.Path.{sym, _∙_}
+use native.Mathlib.Omega.{arith}
+use borrow.Author.Tests.{not-true}
+use Rattle.finite.specs.Logic.{_and_}
+use Rattle.location.specs.Reach.{broadens-row, broadens-off}
 use borrow.Author.Needs.{needs}
 use Rattle.location.proofs.reach.broadens_at.Statement.{statement}
 use Rattle.location.proofs.reach.broadens_at.Tie as tie
@@ -16,7 +21,7 @@ has-flag-requires c κs = search needs
 
 -- src/reach.rt:50:9
 returns : tie.Need-returns
-returns c = ?
+returns c = sym (broadens-off _ _ _ _ _ _ (sym (c .before .has-flag .ensures) ∙ not-true _ (c .if1 .taken)))
 
 -- src/reach.rt:52:41
 cast-read-row : tie.Need-cast-read-row
@@ -76,7 +81,13 @@ happens-bit-requires c κs = search needs
 
 -- src/reach.rt:45:1
 returns-2 : tie.Need-returns-2
-returns-2 c = ?
+unfolding _and_
+returns-2 c =
+    let s = c .before .before .before .before .before .before .before .before .before .before .before in
+    let k = c .before .before .before .before .available-part .ensures in
+    let m = c .before .before .before .available-part2 .ensures in
+    let h = c .happens-bit .ensures ∙ s .pre .4 .happening .cell _ _ (omega (arith, k .1)) (omega (arith, m .1)) in
+    sym (broadens-row _ _ _ _ _ _ _ _ _ _ _ _ _ (c .before .before .before .before .before .before .read-row .ensures) (c .before .before .before .before .before .read-row2 .ensures) (k .0) (m .0) (m .1) (c .before .before .availability-of .ensures) (c .before .is-broader .ensures) h)
 
 pub broadens-at-spec : {M : Type 1} → statement M
 broadens-at-spec =

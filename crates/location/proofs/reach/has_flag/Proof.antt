@@ -20,7 +20,7 @@ meets-requires c κs = search needs
 
 -- src/reach.rt:30:1
 returns : tie.Need-returns
-returns c = ?
+returns c = cc
 
 pub has-flag-spec : {M : Type 1} → statement M
 has-flag-spec = tie.close (tie.spec cast-row-byte row-byte-requires meets-requires returns)

@@ -1,3 +1,5 @@
+use Rattle.finite.specs.Logic.{_and_}
+use Rattle.location.specs.Reach.{broaderRows}
 use borrow.Author.Needs.{needs}
 use Rattle.location.proofs.reach.is_broader.Statement.{statement}
 use Rattle.location.proofs.reach.is_broader.Tie as tie
@@ -11,7 +13,8 @@ shares-scope-requires c κs = search needs
 
 -- src/reach.rt:38:1
 returns : tie.Need-returns
-returns c = ?
+unfolding broaderRows _and_
+returns c = cc
 
 pub is-broader-spec : {M : Type 1} → statement M
 is-broader-spec = tie.close (tie.spec shares-scope-requires returns)

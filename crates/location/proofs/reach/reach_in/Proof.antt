@@ -1,3 +1,6 @@
+use native.Mathlib.Omega.{arith}
+use Rattle.area.specs.Regions.{REACH-IN, REACH-IN-END}
+use Rattle.location.specs.Reach.{made-closed}
 use borrow.Author.Needs.{needs}
 use Rattle.location.proofs.reach.reach_in.Statement.{statement}
 use Rattle.location.proofs.reach.reach_in.Tie as tie
@@ -20,7 +23,7 @@ same-length c = search needs
 
 -- src/reach.rt:116:1
 returns : tie.Need-returns
-returns c = ?
+returns c = made-closed REACH-IN REACH-IN-END (omega (arith, c .before .before .before .before .before .before .before .before .before .before .pre .0)) (c .before .before .before .before .before .before .fill-in .ensures) (c .before .before .close .ensures)
 
 pub reach-in-spec : {M : Type 1} → statement M
 reach-in-spec = tie.close (tie.spec fill-in-requires close-requires same-length returns)

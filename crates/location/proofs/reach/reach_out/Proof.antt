@@ -1,3 +1,6 @@
+use native.Mathlib.Omega.{arith}
+use Rattle.area.specs.Regions.{REACH-OUT, REACH-OUT-END}
+use Rattle.location.specs.Reach.{made-closed}
 use borrow.Author.Needs.{needs}
 use Rattle.location.proofs.reach.reach_out.Statement.{statement}
 use Rattle.location.proofs.reach.reach_out.Tie as tie
@@ -20,7 +23,7 @@ same-length c = search needs
 
 -- src/reach.rt:108:1
 returns : tie.Need-returns
-returns c = ?
+returns c = made-closed REACH-OUT REACH-OUT-END (omega (arith, c .before .before .before .before .before .before .before .before .before .before .pre .0)) (c .before .before .before .before .before .before .fill-out .ensures) (c .before .before .close .ensures)
 
 pub reach-out-spec : {M : Type 1} → statement M
 reach-out-spec = tie.close (tie.spec fill-out-requires close-requires same-length returns)

@@ -247,6 +247,23 @@ module _ (t : Table) (x y b : ℕ) where
 
 -- ---- laws: a table's rows
 
+pub and-on : (a b : Bool) → a ≡ true → (a and b) ≡ b
+unfolding _and_
+and-on a b e = rw e refl
+
+pub or-on : (a b : Bool) → a ≡ true → true ≡ (a or b)
+unfolding _or_
+or-on a b e = rw e refl
+
+-- neither the one nor, without chains, the other
+pub or-neither : (a c b : Bool) → a ≡ false → c ≡ false → false ≡ (a or (c and b))
+unfolding _or_ _and_
+or-neither a c b e f = rw (e, f) refl
+
+pub or-other : (a c b d : Bool) → a ≡ false → c ≡ true → d ≡ b → d ≡ (a or (c and b))
+unfolding _or_ _and_
+or-other a c b d e f g = rw (e, f) g
+
 pub available-small : (s : Row) → availablePart s < 3
 unfolding availablePart
 available-small s = ⊎-elim (λ e. rw e (omega arith)) (λ e. rw e (omega arith)) (which (plain s))
@@ -320,7 +337,7 @@ module _ (t : List ℕ) (p : List (List ℕ)) (mode : Mode) (n x y b : ℕ) wher
       at-two : plain (decode t p mode n .row v) ≡ false → happens (decode t p mode n) (availableAt (decode t p mode n) c) (3 * v + 2) ≡ true
       at-two l = rw l at (split g .0)
 
-  pub shown-off : (c v : ℕ) (q : Row) (h k : Bool) → q ≡ rowOf t y → h ≡ happens (decode t p mode n) (availableAt (decode t p mode n) c) (3 * v)
+  shown-off : (c v : ℕ) (q : Row) (h k : Bool) → q ≡ rowOf t y → h ≡ happens (decode t p mode n) (availableAt (decode t p mode n) c) (3 * v)
       → k ≡ happens (decode t p mode n) (availableAt (decode t p mode n) c) (3 * v + 2) → ((mode .chains or h or k) and maySee t q v) ≡ false
       → shownBy (decode t p mode n) x y b c v ≡ false
   unfolding shownBy
@@ -332,6 +349,17 @@ module _ (t : List ℕ) (p : List (List ℕ)) (mode : Mode) (n x y b : ℕ) wher
       told : shownBy (decode t p mode n) x y b c v ≡ true → ⊥
       told e = not-both (and-true (some (split e .1)) (rw eq (last-tells v (split e .0) .0))) off
 
+  available-of : (i k : ℕ) (s : Row) → s ≡ rowOf t i → k ≡ availablePart s → 3 * i + k ≡ availableAt (decode t p mode n) i
+  unfolding decode availableAt availablePart
+  available-of i k s es ek = rw (ek, es) refl
+
+  pub shown-out : (i v k : ℕ) (q s : Row) (h g : Bool) → q ≡ rowOf t y → s ≡ rowOf t i → k ≡ availablePart s → h ≡ happens (decode t p mode n) (3 * i + k) (3 * v)
+      → g ≡ happens (decode t p mode n) (3 * i + k) (3 * v + 2) → ((mode .chains or h or g) and maySee t q v) ≡ false
+      → shownBy (decode t p mode n) x y b i v ≡ false
+  shown-out i v k q s h g eq es ek eh eg off =
+      let e = available-of i k s es ek in
+      shown-off i v q h g eq (eh ∙ ap (λ (m : ℕ). happens (decode t p mode n) m (3 * v)) e) (eg ∙ ap (λ (m : ℕ). happens (decode t p mode n) m (3 * v + 2)) e) off
+
   pub shown-none : (c : ℕ) → anyBelow (y + 1) (shownBy (decode t p mode n) x y b c) ≡ false → anyBelow n (shownBy (decode t p mode n) x y b c) ≡ false
   unfolding shownBy
   shown-none c e = any-not _ n (λ v l. go v (decLt v (y + 1)))
@@ -339,3 +367,49 @@ module _ (t : List ℕ) (p : List (List ℕ)) (mode : Mode) (n x y b : ℕ) wher
       go : (v : ℕ) → Dec (v < y + 1) → shownBy (decode t p mode n) x y b c v ≡ false
       go v (yes l) = any-off _ (y + 1) e v l
       go v (no l) = not-so _ (λ u. let h = last-tells v (split u .0) .1 in omega arith)
+
+  pub ends-row : (a c : ℕ) (h : Bool) → h ≡ through (broadens (decode t p mode n)) n a c
+      → endsWith (decode t p mode n) x y b a c ≡ (h and endsAt (decode t p mode n) x y b c)
+  unfolding endsWith decode
+  ends-row a c h e = rw e refl
+
+  pub shown-row : (c v k : ℕ) (q u : Row) (h : Bool) → q ≡ rowOf t y → u ≡ rowOf t v → k ≡ visiblePart u → k < 3 → h ≡ visibleRows n y q (3 * v + k) u b
+      → shownBy (decode t p mode n) x y b c v
+      ≡ (h and (seen (decode t p mode n) x y c v or (mode .chains and anyBelow n (startsWith (decode t p mode n) x y c v))))
+  unfolding shownBy decode
+  shown-row c v k q u h eq eu ek l e =
+      let o : h ≡ lastVisible (decode t p mode n) y b v = e ∙ last-row v k q u eq eu ek l in
+      rw o refl
+
+  pub carried-row : (a k : ℕ) (r s : Row) (h : Bool) → r ≡ rowOf t x → s ≡ rowOf t a → k ≡ availablePart s → k < 3 → h ≡ availableRows n x r (3 * a + k) s b
+      → carriedBy (decode t p mode n) x y b a
+      ≡ (h and (endsAt (decode t p mode n) x y b a or (mode .chains and anyBelow n (endsWith (decode t p mode n) x y b a))))
+  unfolding carriedBy decode
+  carried-row a k r s h er es ek l e =
+      let o : h ≡ firstAvailable (decode t p mode n) x b a = e ∙ first-row a k r s er es ek l in
+      rw o refl
+
+-- ---- laws: two elements over the rows
+
+module _ (t : List ℕ) (p : List (List ℕ)) (mode : Mode) (n x y : ℕ) where
+  pub seen-row : (i j k m g : ℕ) (r q s u : Row) (h d : Bool) → r ≡ rowOf t x → q ≡ rowOf t y → s ≡ rowOf t i → u ≡ rowOf t j → k ≡ availablePart s → m ≡ visiblePart u
+      → h ≡ happens (decode t p mode n) (3 * i + k) (3 * j + m) → g ≡ widest (s .scope) (u .scope) → d ≡ meetIn p g r q s u
+      → seen (decode t p mode n) x y i j ≡ (h and d)
+  unfolding seen decode availableAt visibleAt availablePart visiblePart
+  seen-row i j k m g r q s u h d er eq es eu ek em eh eg ed =
+      let a : k ≡ cond (plain (rowOf t i)) AFTER BEFORE = ek ∙ ap availablePart es in
+      let c : m ≡ cond (plain (rowOf t j)) BEFORE AFTER = em ∙ ap visiblePart eu in
+      rw (ed, eg, er, eq, es, eu, eh, a, c) refl
+
+  pub met-row : (i k g : ℕ) (r q s : Row) (h d : Bool) → r ≡ rowOf t x → q ≡ rowOf t y → s ≡ rowOf t i → k ≡ availablePart s
+      → h ≡ happens (decode t p mode n) (3 * i + k) (3 * y + 1) → g ≡ widest (s .scope) DEVICE → d ≡ meetIn p g r q s q
+      → (h and d) ≡ metAtOnce (decode t p mode n) x y i
+  unfolding metAtOnce decode availableAt availablePart
+  met-row i k g r q s h d er eq es ek eh eg ed =
+      let a : k ≡ cond (plain (rowOf t i)) AFTER BEFORE = ek ∙ ap availablePart es in
+      rw (ed, eg, er, eq, es, eh, a) refl
+
+  pub starts-row : (c v j : ℕ) (h : Bool) → h ≡ through (narrows (decode t p mode n)) n j v
+      → startsWith (decode t p mode n) x y c v j ≡ (h and seen (decode t p mode n) x y c j)
+  unfolding startsWith decode
+  starts-row c v j h e = rw e refl

@@ -1,5 +1,5 @@
 pub mod Shared
 pub mod Chains
-pub mod Order
 pub mod Reach
+pub mod Order
 pub mod Domains

@@ -20,8 +20,9 @@ use Rattle.model.specs.Happens.{happens}
 use Rattle.model.specs.Location.{sameReference, pureRead, common, L1, L2, L3, L4, L5, before}
 use Rattle.model.specs.Edge.{beforeNth}
 use Rattle.area.specs.Regions.{LOCATION, LOCATION-END, HOSTED, REACHED-END, LOCATED-END, GRID, PAIR, PAIRS}
-use Rattle.area.specs.State.{Ordered, ordered-kept, MadeLocated}
+use Rattle.area.specs.State.{ordered-kept, MadeLocated}
 use Rattle.location.specs.Shared.{inside-out}
+use Rattle.location.specs.Reach.{Reaching, MadeReach, reaching-kept}
 
 -- ---- definitions
 
@@ -35,7 +36,7 @@ hosted t x y = mayShare x y (t .row x) (t .row y) and (L4 t x y or L5 t x y)
 
 -- what the bits of a pair are made from
 pub record Prepared (t : Table) (n : ℕ) (w : List ℕ) : Type 0 where
-  pub ordered : Ordered t n w
+  pub reaching : Reaching t n w
   pub hosting : Holds HOSTED GRID n (hosted t) w
 
 -- ---- laws: pairs that no byte need be asked of
@@ -114,16 +115,21 @@ within-grid {w} c d p at m n l h e = rw e (within-gridFill c d p w at m m n (ome
 
 -- a change in the bits of pairs keeps what they are made from
 pub prepared-kept : {t : Table} {n : ℕ} {w u : List ℕ} → Within LOCATION LOCATION-END w u → Prepared t n w → Prepared t n u
-prepared-kept f o = record { ordered = ordered-kept (omega arith) f (o .ordered); hosting = holds-kept (λ h. omega arith) f (o .hosting) }
+prepared-kept f o = record { reaching = reaching-kept f (o .reaching); hosting = holds-kept (λ h. omega arith) f (o .hosting) }
 
--- L4 and L5 were told, then the cube was made; what lies before is kept
-pub made-prepared : {t : Table} {n : ℕ} {w u : List ℕ} → Ordered t n w → Made HOSTED REACHED-END HOSTED GRID n (hosted t) w u → Prepared t n u
-made-prepared o m = record { ordered = ordered-kept (omega arith) (m .frame) o; hosting = m .holds }
+-- L4 and L5 were told, then the reach of chains, then the cube was made; what lies before is kept
+pub made-prepared : {t : Table} {n : ℕ} {w u : List ℕ} → Holds HOSTED GRID n (hosted t) w → MadeReach t n w u → Prepared t n u
+made-prepared {n = n} h m =
+    let l : n ≤ 64 * GRID = h .fits in
+    record { reaching = m .reaching; hosting = holds-kept (λ h. omega arith) (m .frame) h }
 
-pub made-located : {t : Table} {n : ℕ} {w v u : List ℕ} → Ordered t n w → Made HOSTED REACHED-END HOSTED GRID n (hosted t) w v
+pub made-located : {t : Table} {n : ℕ} {w x v u : List ℕ} → Made HOSTED REACHED-END HOSTED GRID n (hosted t) w x → MadeReach t n x v
     → MadeCube LOCATION LOCATION-END LOCATION PAIRS PAIR n (beforeNth t) v u → MadeLocated t n w u
-made-located o h m =
+made-located h r m =
     record {
-      located = record { mutuals = ordered-kept (omega arith) (m .frame) (made-prepared o h .ordered) .mutuals; location = m .cube };
-      frame = within-trans (within-widen LOCATION LOCATED-END (omega arith) (omega arith) (h .frame)) (within-widen LOCATION LOCATED-END (omega arith) (omega arith) (m .frame));
+      located = record { mutuals = ordered-kept (omega arith) (m .frame) (r .reaching .ordered) .mutuals; location = m .cube };
+      frame =
+          within-trans
+          (within-trans (within-widen LOCATION LOCATED-END (omega arith) (omega arith) (h .frame)) (within-widen LOCATION LOCATED-END (omega arith) (omega arith) (r .frame)))
+          (within-widen LOCATION LOCATED-END (omega arith) (omega arith) (m .frame));
     }

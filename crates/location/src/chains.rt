@@ -131,8 +131,8 @@ fn seen_at(
 
 // ---- what y meets
 
-// Whether row v may be a last element for what row i, which is s, makes available to q: it has q's agent and the flag and, without
-// chains, row i's moment happens before one of its own.
+// Whether row v may be a last element for what moment c makes available to q: it has q's agent and the flag and, without chains,
+// moment c happens before one of its own.
 fn may_show(rows: &[u8], mode: Mode, q: Row, c: usize, v: usize, w: &[u64]) -> bool
     requires { ⌜ (c < 3 * ROWS) × (v < ROWS) × (WORK ≤ length (now w)) ⌝ }
     ensures { λ d. ⌜ d ≡ ((mode .chains or rel (now (w .entry)) HAPPENS MOMENTS c (3 * v) or rel (now (w .entry)) HAPPENS MOMENTS c (3 * v + 2)) and maySee (now (rows .entry)) q v) ⌝ }

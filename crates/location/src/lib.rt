@@ -16,6 +16,7 @@ use model::Row;
 pub mod shared; // the bytes that two accesses share
 pub mod pairs; // the tests on two rows that location order is made of
 pub mod chains; // L3's chains
+pub mod reach; // the reach of chains
 pub mod domains; // L5's operations
 pub mod hosted; // L4 and L5
 
@@ -86,6 +87,7 @@ pub fn fill_location(rows: &[u8], p: Places, mode: Mode, n: usize, w: &mut [u64]
     ensures { λ _. ⌜ MadeLocated (decode (now (rows .entry)) p mode n) n (now (w .entry)) (now (w .exit)) ⌝ }
 {
     hosted::make_hosted(rows, p, mode, n, w);
+    reach::make_reach(rows, p, mode, n, w);
     bits::clear(w, area::LOCATION, area::LOCATION_END);
     for x in 0..n {
         fill_row(rows, p, mode, n, x, w);

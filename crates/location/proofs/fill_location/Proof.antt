@@ -1,4 +1,5 @@
 use Rattle.location.specs.Order.{Prepared, prepared-kept, made-prepared, within-grid, made-located}
+use Rattle.area.specs.State.{ordered-kept}
 use Rattle.area.specs.Regions.{LOCATION, LOCATION-END, PAIR, PAIRS}
 use Rattle.model.specs.Edge.{beforeNth}
 use Rattle.model.specs.Table.{decode}
@@ -16,6 +17,7 @@ use Rattle.location.proofs.fill_location.Lts as lts
 use Rattle.bits.proofs.clear.Reads as clear-reads
 use Rattle.location.proofs.fill_row.Reads as fill-row-reads
 use Rattle.location.proofs.hosted.make_hosted.Reads as make-hosted-reads
+use Rattle.location.proofs.reach.make_reach.Reads as make-reach-reads
 
 abbrev Inv-loop : tie.InvT-loop
 Inv-loop rows p mode n w₀ x₀ w x = (x ≤ n) × (length w ≡ length w₀) × Prepared (decode rows p mode n) n w × (w ≡ cubeFill (beforeNth (decode rows p mode n)) w₀ (LOCATION * 64) PAIRS PAIR n x)
@@ -27,6 +29,13 @@ abbrev μ-loop : tie.MeasureT-loop
 make-hosted-requires : tie.Need-make-hosted-requires Inv-loop μ-loop
 make-hosted-requires c κs = search needs
 
+-- src/lib.rt:91:5
+make-reach-requires : tie.Need-make-reach-requires Inv-loop μ-loop
+make-reach-requires c κs =
+    let s = c .before .before .before .before .before .before .before in
+    let f = c .before .before .before .make-hosted .ensures .frame in
+    (s .pre .0, omega (arith, f .len, s .pre .1), ordered-kept (omega arith) f (s .pre .2))
+
 -- src/lib.rt:89:5
 clear-requires : tie.Need-clear-requires Inv-loop μ-loop
 clear-requires c κs = search needs
@@ -36,7 +45,7 @@ loop-holds : tie.Need-loop-holds Inv-loop μ-loop
 loop-holds c = (
   search needs,
   refl,
-  prepared-kept (within-cleared LOCATION LOCATION-END (omega arith) (c .before .before .clear .ensures)) (made-prepared (c .before .before .before .before .before .before .before .before .before .before .pre .2) (c .before .before .before .before .before .before .make-hosted .ensures)),
+  prepared-kept (within-cleared LOCATION LOCATION-END (omega arith) (c .before .before .clear .ensures)) (made-prepared (c .before .before .before .before .before .before .before .before .before .before .make-hosted .ensures .holds) (c .before .before .before .before .before .before .make-reach .ensures)),
   cubeFill-none _ _ _ _ _ _,
 )
 
@@ -71,11 +80,12 @@ same-length c = search needs
 -- src/lib.rt:84:1
 returns : tie.Need-returns Inv-loop μ-loop
 returns c =
-    let s = c .before .before .before .before .before .before .before .before .before .before .before .before in
-    let h = c .before .before .before .before .before .before .before .before .make-hosted .ensures in
+    let s = c .before .before .before .before .before .before .before .before .before .before .before .before .before .before .before .before in
+    let h = c .before .before .before .before .before .before .before .before .before .before .before .before .make-hosted .ensures in
+    let r = c .before .before .before .before .before .before .before .before .make-reach .ensures in
     let e : c .before .loop .x ≡ s .args .n = omega arith in
-    made-located (s .pre .2) h
-    (made-cube LOCATION LOCATION-END PAIRS PAIR _ _ _ _ _ (omega arith) (omega arith) (omega arith) (omega (arith, h .frame .len, s .pre .1)) (c .before .before .before .before .clear .ensures)
+    made-located h r
+    (made-cube LOCATION LOCATION-END PAIRS PAIR _ _ _ _ _ (omega arith) (omega arith) (omega arith) (omega (arith, h .frame .len, r .frame .len, s .pre .1)) (c .before .before .before .before .clear .ensures)
     (rw e at (c .before .loop .inv .3)))
 
 pub fill-location-spec : {M : Type 1} → statement M
@@ -85,6 +95,7 @@ fill-location-spec =
     Inv-loop
     μ-loop
     make-hosted-requires
+    make-reach-requires
     clear-requires
     loop-holds
     fill-row-requires

@@ -1,3 +1,8 @@
+use mathlib.Core.Path.{_≡_, sym, _∙_}
+use lib.Dec.{eqb}
+use borrow.Author.Tests.{not-true, not-false}
+use Rattle.finite.specs.Logic.{_and_, _or_, and-false-left}
+use Rattle.location.specs.Chains.{maySee, and-on}
 use borrow.Author.Needs.{needs}
 use Rattle.location.proofs.chains.may_show.Statement.{statement}
 use Rattle.location.proofs.chains.may_show.Tie as tie
@@ -29,7 +34,8 @@ happens-bit-requires-2 c κs = search needs
 
 -- src/chains.rt:141:9
 returns : tie.Need-returns
-returns c = ?
+unfolding _or_
+returns c = rw (← c .before .before .before .happens-bit .ensures, ← c .before .happens-bit2 .ensures) (sym (and-false-left (c .before .before .before .before .before .before .args .mode .chains or c .before .before .before .happens-bit .result or c .before .happens-bit2 .result) _ (not-true (c .before .before .before .before .before .before .args .mode .chains or c .before .before .before .happens-bit .result or c .before .happens-bit2 .result) (c .if1 .taken))))
 
 -- src/chains.rt:143:45
 cast-row-byte : tie.Need-cast-row-byte
@@ -53,7 +59,11 @@ meets-requires c κs = search needs
 
 -- src/chains.rt:136:1
 returns-2 : tie.Need-returns-2
-returns-2 c = ?
+unfolding maySee _and_ _or_
+returns-2 c =
+    let s = c .before .before .before .before .before .before .before .before .before .before in
+    let e : maySee (s .args .rows .now) (s .args .q) (s .args .v) ≡ (eqb (c .before .before .before .row-byte .result) (s .args .q .agent) and c .meets .result) = cc in
+    rw (← c .before .before .before .before .before .before .before .happens-bit .ensures, ← c .before .before .before .before .before .happens-bit2 .ensures) (sym (and-on (s .args .mode .chains or c .before .before .before .before .before .before .before .happens-bit .result or c .before .before .before .before .before .happens-bit2 .result) _ (not-false (s .args .mode .chains or c .before .before .before .before .before .before .before .happens-bit .result or c .before .before .before .before .before .happens-bit2 .result) (c .before .before .before .before .if1 .left)) ∙ e))
 
 pub may-show-spec : {M : Type 1} → statement M
 may-show-spec =

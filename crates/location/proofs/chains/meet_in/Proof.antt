@@ -1,3 +1,5 @@
+use Rattle.finite.specs.Logic.{_and_}
+use Rattle.location.specs.Chains.{meetIn}
 use borrow.Author.Needs.{needs}
 use Rattle.location.proofs.chains.meet_in.Statement.{statement}
 use Rattle.location.proofs.chains.meet_in.Tie as tie
@@ -19,7 +21,8 @@ shares-scope-requires-3 c κs = search needs
 
 -- src/chains.rt:97:1
 returns : tie.Need-returns
-returns c = ?
+unfolding meetIn _and_
+returns c = cc
 
 pub meet-in-spec : {M : Type 1} → statement M
 meet-in-spec =

@@ -1,3 +1,10 @@
+use mathlib.Core.Path.{sym, _∙_}
+use native.Mathlib.Omega.{arith}
+use borrow.Author.Tests.{not-true, not-false}
+use Rattle.finite.specs.Logic.{and-false-left}
+use Rattle.bits.specs.Stage.{holds-bit}
+use Rattle.location.specs.Reach.{reach-in}
+use Rattle.location.specs.Chains.{starts-row, and-on}
 use borrow.Author.Needs.{needs}
 use Rattle.location.proofs.chains.starts_with.Statement.{statement}
 use Rattle.location.proofs.chains.starts_with.Tie as tie
@@ -28,7 +35,10 @@ get-requires c κs = search needs
 
 -- src/chains.rt:169:9
 returns : tie.Need-returns
-returns c = ?
+returns c =
+    let s = c .before .before .before .before in
+    let h = c .before .get .ensures ∙ holds-bit (reach-in _ _ _ _ _ (s .pre .6) (s .pre .11)) _ _ _ (omega arith) (s .pre .9) (s .pre .8) in
+    sym (starts-row _ _ _ _ _ _ _ _ _ _ h ∙ and-false-left _ _ (not-true _ (c .if1 .taken)))
 
 -- src/chains.rt:171:5
 seen-at-requires : tie.Need-seen-at-requires
@@ -36,7 +46,10 @@ seen-at-requires c κs = search needs
 
 -- src/chains.rt:149:1
 returns-2 : tie.Need-returns-2
-returns-2 c = ?
+returns-2 c =
+    let s = c .before .before .before .before .before in
+    let h = c .before .before .get .ensures ∙ holds-bit (reach-in _ _ _ _ _ (s .pre .6) (s .pre .11)) _ _ _ (omega arith) (s .pre .9) (s .pre .8) in
+    c .seen-at .ensures ∙ sym (starts-row _ _ _ _ _ _ _ _ _ _ h ∙ and-on _ _ (not-false _ (c .before .if1 .left)))
 
 pub starts-with-spec : {M : Type 1} → statement M
 starts-with-spec =

@@ -1,3 +1,4 @@
+use Rattle.location.specs.Chains.{widest}
 use borrow.Author.Needs.{needs}
 use Rattle.location.proofs.chains.widest.Statement.{statement}
 use Rattle.location.proofs.chains.widest.Tie as tie
@@ -15,7 +16,8 @@ lower-requires-2 c κs = search needs
 
 -- src/chains.rt:90:1
 returns : tie.Need-returns
-returns c = ?
+unfolding widest
+returns c = cc
 
 pub widest-spec : {M : Type 1} → statement M
 widest-spec = tie.close (tie.spec lower-requires lower-requires-2 returns)

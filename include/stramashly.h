@@ -52,9 +52,14 @@
  * of the class set, and there are no steps. Or a chain of 1 to 383 steps leads
  * from the first moment to the second for one class set, 1 to 15: the sum of 1
  * Uniform, 2 Workgroup, 4 Image, 8 Output. A step is STRAMASHLY_STEP_CASE * its
- * case (1 synchronizes-with, 2 to a release, 3 from an acquire) + the moment that
- * it reaches. Numbers that aren't those of two different moments of the table
- * are refused (12), after all that a fill refuses.
+ * case (1 synchronizes-with, 2 to a release, 3 from an acquire, 4 a dependency) +
+ * the moment that it reaches. Numbers that aren't those of two different moments
+ * of the table are refused (12), after all that a fill refuses.
+ *
+ * The switch `chains` says whether the device reports the feature
+ * vulkanMemoryModelAvailabilityVisibilityChains: 0, or STRAMASHLY_CHAINS; any
+ * other number than 0 counts as on. Whatever is ordered with it off is ordered
+ * with it on. Refusals and derivations don't depend on it.
  */
 #ifndef STRAMASHLY_H
 #define STRAMASHLY_H
@@ -75,11 +80,16 @@ extern "C" {
 /* Where a cycle's edge numbers begin in the cycle buffer. */
 #define STRAMASHLY_CYCLE_EDGES 128
 
-/* Most agents and rows of a table, and its most bytes: a header of 8, 6 for each
- * agent, 16 for each row. */
+/* Most agents, rows and dependencies of a table, and its most bytes, those of
+ * version 3: a header of 8, 8 for each agent, 16 for each row, a count of 2, 4 for
+ * each dependency. Versions 1 and 2 have 6 for each agent and no dependencies. */
 #define STRAMASHLY_AGENTS 32
 #define STRAMASHLY_ROWS 128
-#define STRAMASHLY_TABLE_BYTES 2248
+#define STRAMASHLY_DEPENDENCIES 64
+#define STRAMASHLY_TABLE_BYTES 2570
+
+/* The switch of check, fill and report, on: the device has chains. */
+#define STRAMASHLY_CHAINS 1
 
 /* Sources: the initial value, and a blank for a fill to decide. */
 #define STRAMASHLY_INITIAL 65535
@@ -107,11 +117,12 @@ enum stramashly_code {
 
 /* Part a of a refusal: which rule of form is broken. Part b is the row that
  * breaks it, 0 where it is no row's. Tested in this order: BUFFER; SHORT,
- * VERSION, LIMITS, LENGTH; row by row CODE, KIND_FIT, EXTENT; row by row CLASS,
- * SOURCE, RANK, INSTANCE, RUN; MOMENTS. */
+ * VERSION, LIMITS, LENGTH, AGENT_KIND, DEPENDENCIES, DEPENDENCY; row by row CODE,
+ * AGENT_ROW, then KIND_FIT and EXTENT or OPERATION_FIT; row by row CLASS, SOURCE,
+ * RANK, INSTANCE, RUN; MOMENTS. */
 enum stramashly_refusal {
   STRAMASHLY_REFUSAL_SHORT = 1,     /* a table of fewer than 8 bytes */
-  STRAMASHLY_REFUSAL_VERSION = 2,   /* a version other than 1 and 2, or byte 7 not 0 */
+  STRAMASHLY_REFUSAL_VERSION = 2,   /* a version other than 1 to 3, or byte 7 not 0 */
   STRAMASHLY_REFUSAL_LIMITS = 3,    /* more agents or rows than there may be */
   STRAMASHLY_REFUSAL_LENGTH = 4,    /* not as many bytes as the header says */
   STRAMASHLY_REFUSAL_CODE = 5,      /* a row's code out of range */
@@ -123,7 +134,12 @@ enum stramashly_refusal {
   STRAMASHLY_REFUSAL_BUFFER = 11,   /* a lent buffer that is too short */
   STRAMASHLY_REFUSAL_MOMENTS = 12,  /* not two different moments of the table */
   STRAMASHLY_REFUSAL_INSTANCE = 14, /* a control barrier that doesn't fit its instance */
-  STRAMASHLY_REFUSAL_RUN = 15       /* version 2: ranks further apart than a run of counts */
+  STRAMASHLY_REFUSAL_RUN = 15,      /* versions 2, 3: ranks further apart than a run of counts */
+  STRAMASHLY_REFUSAL_AGENT_KIND = 16,   /* an agent that is no shader, host or queue agent */
+  STRAMASHLY_REFUSAL_DEPENDENCIES = 17, /* more dependencies than there may be */
+  STRAMASHLY_REFUSAL_DEPENDENCY = 18,   /* a dependency of a row that isn't there */
+  STRAMASHLY_REFUSAL_AGENT_ROW = 19,    /* a kind that the row's agent may not have */
+  STRAMASHLY_REFUSAL_OPERATION_FIT = 20 /* fields that a queue agent's row may not have */
 };
 
 /* The parts of an answer. */
@@ -139,12 +155,12 @@ enum stramashly_refusal {
   (STRAMASHLY_A(answer) + STRAMASHLY_B(answer) + STRAMASHLY_C(answer))
 
 /* Checks a table: race-free, race, overwritten, cycle or refused. */
-uint64_t stramashly_check(const uint8_t *table, size_t table_len,
+uint64_t stramashly_check(const uint8_t *table, size_t table_len, uint8_t chains,
                           uint64_t *work, size_t work_len,
                           uint16_t *cycle, size_t cycle_len);
 
 /* Decides the blank sources of a table: filled, none, race or refused. */
-uint64_t stramashly_fill(const uint8_t *table, size_t table_len,
+uint64_t stramashly_fill(const uint8_t *table, size_t table_len, uint8_t chains,
                          uint64_t *work, size_t work_len,
                          uint16_t *sources, size_t sources_len);
 
@@ -165,7 +181,7 @@ uint64_t stramashly_accepts(const uint8_t *table, size_t table_len,
 
 /* Counts the conflicting pairs of a table: report, or check's answer to a
  * refused or inconsistent table, in the same buffers. */
-uint64_t stramashly_report(const uint8_t *table, size_t table_len,
+uint64_t stramashly_report(const uint8_t *table, size_t table_len, uint8_t chains,
                            uint64_t *work, size_t work_len,
                            uint16_t *cycle, size_t cycle_len);
 

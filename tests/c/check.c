@@ -2,12 +2,12 @@
 #include "common.h"
 
 static uint64_t check(void) {
-  return stramashly_check(table, sizeof table, work, STRAMASHLY_WORK_WORDS + 1, cycle,
+  return stramashly_check(table, sizeof table, 0, work, STRAMASHLY_WORK_WORDS + 1, cycle,
                           STRAMASHLY_CYCLE_NUMBERS + 1);
 }
 
 static uint64_t fill(void) {
-  return stramashly_fill(table, sizeof table, work, STRAMASHLY_WORK_WORDS + 1, sources,
+  return stramashly_fill(table, sizeof table, 0, work, STRAMASHLY_WORK_WORDS + 1, sources,
                          STRAMASHLY_SOURCE_NUMBERS + 1);
 }
 
@@ -53,7 +53,7 @@ static void test_overwritten(void) {
       0, 0, 0, 0, 0, 0, 0, 4, 0, 8, 0, 1, 0, 0, 0, 0};
   uint64_t answer;
   prepare();
-  answer = stramashly_check(stale, sizeof stale, work, STRAMASHLY_WORK_WORDS, cycle,
+  answer = stramashly_check(stale, sizeof stale, 0, work, STRAMASHLY_WORK_WORDS, cycle,
                             STRAMASHLY_CYCLE_NUMBERS);
   expect(STRAMASHLY_CODE(answer) == STRAMASHLY_OVERWRITTEN, "an overwritten read");
   expect(STRAMASHLY_A(answer) == 2, "its reader");
@@ -77,11 +77,11 @@ static void test_refusals(void) {
   prepare();
   set_source(3, STRAMASHLY_BLANK);
   expect(check() == refused(STRAMASHLY_REFUSAL_SOURCE, 3), "a check takes no blank");
-  table[4] = 3;
-  expect(check() == refused(STRAMASHLY_REFUSAL_VERSION, 0), "version 3 is refused");
+  table[4] = 4;
+  expect(check() == refused(STRAMASHLY_REFUSAL_VERSION, 0), "version 4 is refused");
   expect(fill() == refused(STRAMASHLY_REFUSAL_VERSION, 0), "by a fill too");
-  expect(stramashly_check(table, 0, work, STRAMASHLY_WORK_WORDS, cycle, STRAMASHLY_CYCLE_NUMBERS) ==
-             refused(STRAMASHLY_REFUSAL_SHORT, 0),
+  expect(stramashly_check(table, 0, 0, work, STRAMASHLY_WORK_WORDS, cycle,
+                          STRAMASHLY_CYCLE_NUMBERS) == refused(STRAMASHLY_REFUSAL_SHORT, 0),
          "a table of no bytes is refused");
   expect(is_work_kept() && is_cycle_kept() && are_sources_kept(), "refusals keep every buffer");
 }
@@ -118,16 +118,16 @@ static void test_damaged(void) {
 static void test_short_buffers(void) {
   const uint64_t too_short = refused(STRAMASHLY_REFUSAL_BUFFER, 0);
   prepare();
-  expect(stramashly_check(table, sizeof table, work, STRAMASHLY_WORK_WORDS - 1, cycle,
+  expect(stramashly_check(table, sizeof table, 0, work, STRAMASHLY_WORK_WORDS - 1, cycle,
                           STRAMASHLY_CYCLE_NUMBERS) == too_short,
          "a short work area");
-  expect(stramashly_check(table, sizeof table, work, STRAMASHLY_WORK_WORDS, cycle,
+  expect(stramashly_check(table, sizeof table, 0, work, STRAMASHLY_WORK_WORDS, cycle,
                           STRAMASHLY_CYCLE_NUMBERS - 1) == too_short,
          "a short cycle buffer");
-  expect(stramashly_fill(table, sizeof table, work, STRAMASHLY_WORK_WORDS - 1, sources,
+  expect(stramashly_fill(table, sizeof table, 0, work, STRAMASHLY_WORK_WORDS - 1, sources,
                          STRAMASHLY_SOURCE_NUMBERS) == too_short,
          "a short work area of a fill");
-  expect(stramashly_fill(table, sizeof table, work, STRAMASHLY_WORK_WORDS, sources,
+  expect(stramashly_fill(table, sizeof table, 0, work, STRAMASHLY_WORK_WORDS, sources,
                          STRAMASHLY_SOURCE_NUMBERS - 1) == too_short,
          "a short source buffer");
   expect(is_work_kept() && is_cycle_kept() && are_sources_kept(), "refusal 11 keeps every buffer");

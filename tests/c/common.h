@@ -23,6 +23,9 @@ extern uint8_t table[TABLE_BYTES];
 void prepare(void);
 void set_source(int row, unsigned source);
 
+/* Puts the bytes that hex digits say; how many there are. */
+size_t put_hex(uint8_t *bytes, const char *hex);
+
 /* Counts a test. */
 void expect(int holds, const char *what);
 uint64_t packed(unsigned code, unsigned a, unsigned b, unsigned c);
@@ -41,5 +44,7 @@ void test_derivations(void);
 void test_reports(void);
 void test_limits(void);
 void test_versions(void);
+void test_hosts(void);
+void test_chains(void);
 
 #endif

@@ -63,7 +63,7 @@ static void test_refused_derivations(void) {
   expect(stramashly_derive(table, 0, AVAILABLE, 0, work, STRAMASHLY_WORK_WORDS, chain,
                            STRAMASHLY_CHAIN_NUMBERS - 1) == short_buffer,
          "a short chain buffer");
-  table[4] = 3;
+  table[4] = 4;
   expect(derive(AVAILABLE, 0) == refused(STRAMASHLY_REFUSAL_VERSION, 0),
          "a fill's refusals first");
   expect(accepts(AVAILABLE, 0, 1, 3) ==

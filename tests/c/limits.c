@@ -1,9 +1,9 @@
-/* Tables at the limits: most agents, most rows, the longest cycle. */
+/* Tables at the limits: most agents, rows and dependencies, the longest cycle. */
 #include "common.h"
 
 #include <string.h>
 
-enum { HEADER = 8, PLACE_BYTES = 6 };
+enum { HEADER = 8, PLACE_BYTES = 6, HOST_PLACE_BYTES = 8, DEPENDENCY_BYTES = 4 };
 
 /* Room for one agent and one row more than there may be. */
 static uint8_t large[STRAMASHLY_TABLE_BYTES + PLACE_BYTES + ROW_BYTES];
@@ -44,6 +44,23 @@ static size_t reads(unsigned agents, unsigned rows) {
   return size;
 }
 
+/* The longest table of versions 1 and 2 in version 3's form: every agent a shader
+ * agent, and so many dependencies of row 0 on itself, which order nothing. */
+static size_t hosted(unsigned dependencies) {
+  size_t size = reads(STRAMASHLY_AGENTS, STRAMASHLY_ROWS);
+  uint8_t *places = large + HEADER;
+  uint8_t *end = places + HOST_PLACE_BYTES * STRAMASHLY_AGENTS + ROW_BYTES * STRAMASHLY_ROWS;
+  memmove(end - ROW_BYTES * STRAMASHLY_ROWS, large + size - ROW_BYTES * STRAMASHLY_ROWS,
+          ROW_BYTES * STRAMASHLY_ROWS);
+  memset(places, 0, HOST_PLACE_BYTES * STRAMASHLY_AGENTS);
+  memset(end, 0, (size_t)(large + sizeof large - end));
+  put_number(end, dependencies);
+  size = (size_t)(end - large) + 2 + DEPENDENCY_BYTES * dependencies;
+  put_number(large + 2, (unsigned)size - 4);
+  large[4] = 3;
+  return size;
+}
+
 /* Each row is an RMW by a reference of its own that read the row before, the
  * first row the last: sources are the only edges. */
 static size_t circle(unsigned rows) {
@@ -62,24 +79,22 @@ static size_t circle(unsigned rows) {
 }
 
 static uint64_t check(size_t size) {
-  return stramashly_check(large, size, work, STRAMASHLY_WORK_WORDS + 1, cycle,
+  return stramashly_check(large, size, 0, work, STRAMASHLY_WORK_WORDS + 1, cycle,
                           STRAMASHLY_CYCLE_NUMBERS + 1);
 }
 
 static uint64_t fill(size_t size) {
-  return stramashly_fill(large, size, work, STRAMASHLY_WORK_WORDS + 1, sources,
+  return stramashly_fill(large, size, 0, work, STRAMASHLY_WORK_WORDS + 1, sources,
                          STRAMASHLY_SOURCE_NUMBERS + 1);
 }
 
 static void test_most(void) {
   const uint64_t too_many = refused(STRAMASHLY_REFUSAL_LIMITS, 0);
+  size_t size = reads(STRAMASHLY_AGENTS, STRAMASHLY_ROWS);
   prepare();
-  expect(reads(STRAMASHLY_AGENTS, STRAMASHLY_ROWS) == STRAMASHLY_TABLE_BYTES, "the longest table");
-  expect(check(STRAMASHLY_TABLE_BYTES) == packed(STRAMASHLY_RACE_FREE, 0, 0, 0),
-         "128 rows of 32 agents pass");
+  expect(check(size) == packed(STRAMASHLY_RACE_FREE, 0, 0, 0), "128 rows of 32 agents pass");
   expect(is_work_cleared() && is_cycle_kept(), "and leave the buffers as any table does");
-  expect(fill(STRAMASHLY_TABLE_BYTES) == packed(STRAMASHLY_FILLED, STRAMASHLY_ROWS, 0, 0),
-         "128 rows are filled");
+  expect(fill(size) == packed(STRAMASHLY_FILLED, STRAMASHLY_ROWS, 0, 0), "128 rows are filled");
   expect(all_numbers(sources, 0, STRAMASHLY_ROWS, STRAMASHLY_INITIAL), "all of the source buffer");
   expect(sources[STRAMASHLY_SOURCE_NUMBERS] == ORIGINAL, "and no more");
   prepare();
@@ -87,6 +102,18 @@ static void test_most(void) {
   expect(check(reads(STRAMASHLY_AGENTS + 1, STRAMASHLY_ROWS)) == too_many, "nor 33 agents");
   expect(fill(reads(STRAMASHLY_AGENTS + 1, 1)) == too_many, "of a fill neither");
   expect(is_work_kept() && is_cycle_kept() && are_sources_kept(), "every buffer is kept");
+}
+
+static void test_most_dependencies(void) {
+  size_t size = hosted(STRAMASHLY_DEPENDENCIES);
+  prepare();
+  expect(size == STRAMASHLY_TABLE_BYTES, "the longest table");
+  expect(check(size) == packed(STRAMASHLY_RACE_FREE, 0, 0, 0), "64 dependencies pass");
+  prepare();
+  size = hosted(STRAMASHLY_DEPENDENCIES + 1);
+  expect(check(size) == refused(STRAMASHLY_REFUSAL_DEPENDENCIES, 0), "65 don't");
+  expect(check(size - 1) == refused(STRAMASHLY_REFUSAL_LENGTH, 0), "their length comes first");
+  expect(is_work_kept() && is_cycle_kept(), "every buffer is kept again");
 }
 
 static void test_longest_cycle(void) {
@@ -102,5 +129,6 @@ static void test_longest_cycle(void) {
 
 void test_limits(void) {
   test_most();
+  test_most_dependencies();
   test_longest_cycle();
 }

@@ -58,6 +58,17 @@ void set_source(int row, unsigned source) {
   table[ROWS_AT + row * ROW_BYTES + SOURCE + 1] = (uint8_t)source;
 }
 
+static unsigned digit(char letter) {
+  return (unsigned)(letter <= '9' ? letter - '0' : letter - 'a' + 10);
+}
+
+size_t put_hex(uint8_t *bytes, const char *hex) {
+  size_t count = strlen(hex) / 2, place;
+  for (place = 0; place < count; place++)
+    bytes[place] = (uint8_t)(digit(hex[2 * place]) << 4 | digit(hex[2 * place + 1]));
+  return count;
+}
+
 static int all_words(size_t from, size_t to, uint64_t word) {
   for (; from < to; from++)
     if (work[from] != word) return 0;
@@ -90,6 +101,8 @@ int main(void) {
   test_reports();
   test_limits();
   test_versions();
+  test_hosts();
+  test_chains();
   printf("%d passed, %d failed\n", passed, failed);
   return failed != 0;
 }

@@ -2,7 +2,7 @@
 #include "common.h"
 
 static uint64_t report(void) {
-  return stramashly_report(table, sizeof table, work, STRAMASHLY_WORK_WORDS + 1, cycle,
+  return stramashly_report(table, sizeof table, 0, work, STRAMASHLY_WORK_WORDS + 1, cycle,
                            STRAMASHLY_CYCLE_NUMBERS + 1);
 }
 
@@ -35,7 +35,7 @@ static void test_check_s_answers(void) {
   prepare();
   set_source(3, STRAMASHLY_BLANK);
   expect(report() == refused(STRAMASHLY_REFUSAL_SOURCE, 3), "a report takes no blank");
-  expect(stramashly_report(table, sizeof table, work, STRAMASHLY_WORK_WORDS - 1, cycle,
+  expect(stramashly_report(table, sizeof table, 0, work, STRAMASHLY_WORK_WORDS - 1, cycle,
                            STRAMASHLY_CYCLE_NUMBERS) == refused(STRAMASHLY_REFUSAL_BUFFER, 0),
          "a short work area of a report");
   expect(is_work_kept() && is_cycle_kept(), "a refused report keeps every buffer");

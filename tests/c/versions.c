@@ -26,7 +26,7 @@ static const uint8_t wrapped[] = {
 static uint8_t tried[TABLE_BYTES];
 
 static uint64_t check(size_t size) {
-  return stramashly_check(tried, size, work, STRAMASHLY_WORK_WORDS, cycle,
+  return stramashly_check(tried, size, 0, work, STRAMASHLY_WORK_WORDS, cycle,
                           STRAMASHLY_CYCLE_NUMBERS);
 }
 

@@ -77,7 +77,7 @@ pub fn fillable(random: &mut Random, size: Size) -> Table {
 }
 
 /// Has every third table's ranks counted.
-fn count_some(random: &mut Random, table: &mut Table) {
+pub(crate) fn count_some(random: &mut Random, table: &mut Table) {
     if random.percent(33) {
         count_ranks(random, table);
     }
@@ -109,21 +109,33 @@ fn planned(random: &mut Random, size: Size, plan: Plan) -> Table {
 /// A race-free and consistent run of the wanted size, with few exceptions.
 fn run(random: &mut Random, size: Size) -> Table {
     let agents = agents(random);
+    // Of many episodes one would race nearly always.
+    let is_careful = size.most > 48 && random.percent(80);
+    run_of(random, size, agents, |random, ground, places| {
+        episode(random, ground, places, is_careful)
+    })
+}
+
+/// A run of the wanted size put together from episodes.
+pub(crate) fn run_of(
+    random: &mut Random,
+    size: Size,
+    agents: Vec<[u16; 3]>,
+    episode: impl Fn(&mut Random, &mut Ground, &[[u16; 3]]) -> Vec<Row>,
+) -> Table {
     let mut ground = Ground::new(random);
     let mut table = Table::new(&agents, &[]);
     let row_count = random.between(size.least, size.most);
-    // Of many episodes one would race nearly always.
-    let is_careful = size.most > 48 && random.percent(80);
     for _ in 0..10 * row_count {
         let mut rest = ground;
-        let rows = episode(random, &mut rest, &table.agents, is_careful);
+        let rows = episode(random, &mut rest, &table.agents);
         if table.rows.len() + rows.len() <= row_count {
             append(random, &mut table, rows);
             ground = rest;
         }
     }
     while table.rows.len() < size.least {
-        let rows = episode(random, &mut ground, &table.agents, is_careful);
+        let rows = episode(random, &mut ground, &table.agents);
         append(random, &mut table, rows);
         // Sources name earlier rows here, so every first part stands alone.
         table.rows.truncate(row_count);
@@ -133,14 +145,14 @@ fn run(random: &mut Random, size: Size) -> Table {
 }
 
 /// Few agents near to each other, or more of them farther apart.
-fn agents(random: &mut Random) -> Vec<[u16; 3]> {
+pub(crate) fn agents(random: &mut Random) -> Vec<[u16; 3]> {
     let count = random.pick(&[2, 2, 3, 3, 4, 5, 8, 16, MAX_AGENTS]);
     let ranges = random.pick(&[[1, 1, 2], [1, 1, 1], [1, 2, 2], [2, 2, 2], [1, 1, 3]]);
     let agent = |random: &mut Random| ranges.map(|range| random.below(range) as u16);
     (0..count).map(|_| agent(random)).collect()
 }
 
-fn append(random: &mut Random, table: &mut Table, rows: Vec<Row>) {
+pub(crate) fn append(random: &mut Random, table: &mut Table, rows: Vec<Row>) {
     let first = table.rows.len() as u16;
     for mut row in rows {
         if row.source != INITIAL {
@@ -172,7 +184,7 @@ fn interleave(random: &mut Random, table: &mut Table) {
 
 /// Lists rows of different agents in any order: only program order counts,
 /// so sources may name later rows.
-fn shuffle_agents(random: &mut Random, table: &mut Table) {
+pub(crate) fn shuffle_agents(random: &mut Random, table: &mut Table) {
     if table.rows.len() < 2 || random.percent(50) {
         return;
     }
@@ -186,7 +198,7 @@ fn shuffle_agents(random: &mut Random, table: &mut Table) {
     reorder(table, &order);
 }
 
-fn mutate_some(random: &mut Random, table: &mut Table) {
+pub(crate) fn mutate_some(random: &mut Random, table: &mut Table) {
     for _ in 0..random.pick(&[1, 1, 1, 2, 2, 3, 5]) {
         mutate(random, table);
     }

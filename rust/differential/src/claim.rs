@@ -81,7 +81,7 @@ fn any_classes(random: &mut Random) -> u8 {
 }
 
 fn any_case(random: &mut Random) -> u16 {
-    random.pick(&[0, 1, 1, 2, 2, 3, 3, 4, 127])
+    random.pick(&[0, 1, 1, 2, 2, 3, 3, 4, 4, 5, 127])
 }
 
 /// Mostly a number below so many, else any that a step has room for.

@@ -15,9 +15,17 @@ pub use claim::Claim;
 pub use reasons::{Derived, Moments, Probed, LIBRARY_MEETS_ALONE};
 pub use tally::Tally;
 
+use second::table::WITH_HOSTS;
 use second::{CheckAnswer, FillAnswer, State};
 use stramashly::{check_in, fill_in, Packed, CYCLE_NUMBERS, SOURCE_NUMBERS, WORK_WORDS};
+pub use tables::LIBRARY_HAS_HOSTS;
 use tables::{hex, Random};
+
+/// Until the library knows version 3, its answers to such tables aren't
+/// compared.
+fn is_compared(table: &[u8]) -> bool {
+    LIBRARY_HAS_HOSTS || table.get(4) != Some(&WITH_HOSTS)
+}
 
 /// Lengths of the work area and of the cycle or source buffer.
 #[derive(Clone, Copy, Debug)]
@@ -81,6 +89,9 @@ impl Comparison {
     /// A check with buffers of any length.
     pub fn check_in(&mut self, table: &[u8], lengths: Lengths) -> Result<CheckAnswer, Difference> {
         let answer = self.state.check(table, lengths.work, lengths.numbers);
+        if !is_compared(table) {
+            return Ok(answer);
+        }
         let at = self.prepare(table, lengths);
         let expected = expected::of_check(&answer, &mut self.expected);
         let lent = &self.around[at..at + table.len()];
@@ -95,7 +106,8 @@ impl Comparison {
     pub fn fill_in(&mut self, table: &[u8], lengths: Lengths) -> Result<FillAnswer, Difference> {
         let answer = self.state.fill(table, lengths.work, lengths.numbers);
         let at = self.prepare(table, lengths);
-        if let Some(expected) = expected::of_fill(&answer, &mut self.expected) {
+        let expected = expected::of_fill(&answer, &mut self.expected);
+        if let Some(expected) = expected.filter(|_| is_compared(table)) {
             let lent = &self.around[at..at + table.len()];
             let packed = fill_in(lent, &mut self.ours.work, &mut self.ours.numbers);
             let words = || format!("fill {}", hex(table));

@@ -3,7 +3,7 @@
 //! that anybody wrote are read by both.
 
 use crate::claim::Claim;
-use crate::{Comparison, Difference, Lengths};
+use crate::{is_compared, Comparison, Difference, Lengths};
 use second::{AcceptsAnswer, SYNCHRONIZES_STEP};
 use stramashly::{
     accepts_in, derive_in, Code, Packed, CHAIN_NUMBERS, PROGRAM_ORDER, STEP_CASE, WORK_WORDS,
@@ -32,9 +32,14 @@ pub struct Probed {
 /// What was found of two moments; both agree.
 #[derive(Clone, Debug, PartialEq, Eq)]
 pub enum Derived {
-    Refused { number: u8, row: u16 },
+    Refused {
+        number: u8,
+        row: u16,
+    },
     NotBefore,
     Found(Claim),
+    /// The library doesn't know such tables.
+    NotCompared,
 }
 
 impl Comparison {
@@ -99,6 +104,9 @@ impl Moments<'_> {
         second: u16,
         lengths: Lengths,
     ) -> Result<Derived, Difference> {
+        if !is_compared(self.table) {
+            return Ok(Derived::NotCompared);
+        }
         let at = self.comparison.prepare(self.table, lengths);
         let Comparison { around, ours, .. } = self.comparison;
         let lent = &around[at..at + self.table.len()];
@@ -184,6 +192,9 @@ impl Moments<'_> {
             AcceptsAnswer::Accepted => Packed::new(Code::Accepted, 0, 0, 0),
             AcceptsAnswer::NotAccepted => Packed::new(Code::NotAccepted, 0, 0, 0),
         };
+        if !is_compared(self.table) {
+            return Ok(answer);
+        }
         let packed = self.read_by_the_library(first, second, claim);
         if packed == expected || (LIBRARY_MEETS_ALONE && self.is_met_alone(first, claim)) {
             return Ok(answer);

@@ -37,6 +37,7 @@ impl Seen {
             Derived::Refused { number: 12, .. } => "refused 12",
             Derived::Refused { .. } => "refused",
             Derived::NotBefore => "not before",
+            Derived::NotCompared => "not compared",
             Derived::Found(claim) if claim.classes == PROGRAM_ORDER => "program order",
             Derived::Found(claim) => {
                 self.found_sets.insert(claim.classes);

@@ -2,7 +2,7 @@
 
 use crate::state::State;
 use crate::table::*;
-use crate::{MAX_AGENTS, MAX_LENGTH, MAX_ROWS};
+use crate::{MAX_AGENTS, MAX_DEPENDENCIES, MAX_LENGTH, MAX_ROWS};
 
 /// A refusal's number and the row that it names.
 #[derive(Clone, Copy, Debug, PartialEq, Eq)]
@@ -57,9 +57,9 @@ fn refusal_1(table: &[u8]) -> bool {
     table.len() < HEADER_BYTES
 }
 
-/// Refusal 2: the version is neither 1 nor 2, or byte 7 isn't 0.
+/// Refusal 2: the version isn't 1, 2 or 3, or byte 7 isn't 0.
 fn refusal_2(table: &[u8]) -> bool {
-    !(PLAIN_RANKS..=COUNTED_RANKS).contains(&table[4]) || table[7] != 0
+    !(PLAIN_RANKS..=WITH_HOSTS).contains(&table[4]) || table[7] != 0
 }
 
 /// Refusal 3: agents over 32 or rows over 128.
@@ -67,24 +67,42 @@ fn refusal_3(table: &[u8]) -> bool {
     usize::from(table[5]) > MAX_AGENTS || usize::from(table[6]) > MAX_ROWS
 }
 
-/// Refusal 4: the count, or the lent table's length, doesn't fit the agents
-/// and rows.
+/// Refusal 4: the count, or the lent table's length, doesn't fit the agents,
+/// rows and dependencies; or the count of dependencies is missing.
 fn refusal_4(table: &[u8]) -> bool {
     let agents = usize::from(table[5]);
     let rows = usize::from(table[6]);
-    let following = 4 + AGENT_BYTES * agents + ROW_BYTES * rows;
+    let mut following = 4 + agent_bytes(table[4]) * agents + ROW_BYTES * rows;
+    if table[4] == WITH_HOSTS {
+        let Some(count) = dependency_count(table) else {
+            return true;
+        };
+        following += COUNT_BYTES + DEPENDENCY_BYTES * count;
+    }
     four_bytes(table, 0) as usize != following || table.len() != following + 4
+}
+
+/// The count of dependencies of a table that has one.
+fn dependency_count(table: &[u8]) -> Option<usize> {
+    let at = dependencies_at(usize::from(table[5]), usize::from(table[6]));
+    let is_there = table[4] == WITH_HOSTS && table.len() >= at + COUNT_BYTES;
+    is_there.then(|| usize::from(two_bytes(table, at)))
 }
 
 /// Refusal 5: a code is out of range. Byte 6 of a control barrier is an
 /// execution scope.
-fn refusal_5(row: Row, agent_count: usize) -> bool {
+fn refusal_5(row: Row, version: u8, agent_count: usize) -> bool {
+    let last_kind = if version == WITH_HOSTS {
+        DEVICE_TO_HOST
+    } else {
+        CONTROL_BARRIER
+    };
     let highest = if row.is_control_barrier() {
         DEVICE
     } else {
         HIGHEST_CLASS
     };
-    row.kind > CONTROL_BARRIER
+    row.kind > last_kind
         || usize::from(row.agent) >= agent_count
         || row.order > BOTH
         || row.scope > DEVICE
@@ -93,8 +111,32 @@ fn refusal_5(row: Row, agent_count: usize) -> bool {
         || row.class > highest
 }
 
-/// Refusal 6: the kind fit is broken.
+/// Refusal 19: a kind that an agent of this sort may not have.
+fn refusal_19(row: Row, sort: u16) -> bool {
+    match sort {
+        HOST => !row.is_plain(),
+        QUEUE => !row.is_queue_operation(),
+        _ => row.is_queue_operation(),
+    }
+}
+
+/// Refusal 20: a queue operation has something in bytes 2 to 11 or a rank, or
+/// a source that isn't 65535.
+fn refusal_20(row: Row) -> bool {
+    let empty = Row {
+        kind: row.kind,
+        agent: row.agent,
+        source: INITIAL,
+        ..Row::default()
+    };
+    row.is_queue_operation() && row != empty
+}
+
+/// Refusal 6: the kind fit is broken; of a queue operation it is 20.
 fn refusal_6(row: Row) -> bool {
+    if row.is_queue_operation() {
+        return false;
+    }
     let fits = fits_source(row)
         && fits_rank(row)
         && if row.is_plain() {
@@ -167,14 +209,45 @@ fn refusal_7(row: Row) -> bool {
 }
 
 impl State {
-    /// Rows ascending, each through refusals 5, 6 and 7.
+    /// Takes the dependencies in, or gives refusal 16, 17 or 18.
+    pub(crate) fn take_dependencies_in(
+        &mut self,
+        table: &[u8],
+        agent_count: usize,
+    ) -> Option<Refusal> {
+        self.dependencies.clear();
+        let count = dependency_count(table).unwrap_or(0);
+        let at = dependencies_at(agent_count, self.row_count);
+        // Refusal 16: an agent's fourth number is over 2.
+        if self.sorts[..agent_count].iter().any(|sort| *sort > QUEUE) {
+            return Some(Refusal { number: 16, row: 0 });
+        }
+        // Refusal 17: more than 64 dependencies.
+        if count > MAX_DEPENDENCIES {
+            return Some(Refusal { number: 17, row: 0 });
+        }
+        let all = (0..count).map(|number| dependency_of(table, at, number));
+        self.dependencies.extend(all);
+        // Refusal 18: a dependency that names no row.
+        let names_no_row = |row: &u16| usize::from(*row) >= self.row_count;
+        if self.dependencies.iter().flatten().any(names_no_row) {
+            return Some(Refusal { number: 18, row: 0 });
+        }
+        None
+    }
+
+    /// Rows ascending, each through refusals 5, 19, 6 or 20, and 7.
     pub(crate) fn refusal_by_row_alone(&self, agent_count: usize) -> Option<Refusal> {
         for row in 0..self.row_count {
             let fields = self.rows[row];
-            let number = if refusal_5(fields, agent_count) {
+            let number = if refusal_5(fields, self.version, agent_count) {
                 5
+            } else if refusal_19(fields, self.sorts[usize::from(fields.agent)]) {
+                19
             } else if refusal_6(fields) {
                 6
+            } else if refusal_20(fields) {
+                20
             } else if refusal_7(fields) {
                 7
             } else {

@@ -1,7 +1,8 @@
 //! The rules one by one, for those who put an answer into words. Each is
 //! asked of the last admitted table; a row that it doesn't have has no facts.
 
-use crate::state::State;
+use crate::state::{row_pair, State};
+use crate::system::DomainSteps;
 use crate::table::Row;
 
 impl State {
@@ -78,6 +79,44 @@ impl State {
             self.l2(first, second),
             self.l3(first, second, byte),
         ]
+    }
+
+    /// Whether the read case of system synchronization, and the steps through
+    /// the domains, order a row before another that shares a byte with it.
+    pub fn system_rules(&self, first: usize, second: usize) -> [bool; 2] {
+        if first == second || !self.are_rows(first, second) {
+            return [false; 2];
+        }
+        let share = self.rows[first].shares_a_byte_with(self.rows[second]);
+        [
+            share && self.read_system_synchronizes(first, second),
+            share && self.through_domains(first, second).is_some(),
+        ]
+    }
+
+    /// The availability, domain and visibility operations by which a write
+    /// is ordered before a row through the domains.
+    pub fn domain_steps(&self, first: usize, second: usize) -> Option<DomainSteps> {
+        let [_, holds] = self.system_rules(first, second);
+        holds.then(|| self.through_domains(first, second)).flatten()
+    }
+
+    /// Whether a dependency joins two rows.
+    pub fn depends(&self, first: usize, second: usize) -> bool {
+        self.are_rows(first, second) && self.depends[row_pair(first, second)]
+    }
+
+    /// An agent's sort: shader, host or queue.
+    pub fn agent_sort(&self, agent: u8) -> u16 {
+        self.sort_of(agent)
+    }
+
+    /// The dependencies of the last admitted table.
+    pub fn dependencies(&self) -> &[[u16; 2]] {
+        if self.row_count == 0 {
+            return &[];
+        }
+        &self.dependencies
     }
 
     /// L3: whether a moment makes the byte of a row available to another's agent.

@@ -10,7 +10,10 @@ pub const RELEASE_STEP: u8 = 2;
 /// M6's direct step from an acquire row to a moment.
 pub const ACQUIRE_STEP: u8 = 3;
 
-const STEPS: [u8; 3] = [SYNCHRONIZES_STEP, RELEASE_STEP, ACQUIRE_STEP];
+/// M6's direct step by system-synchronizes-with.
+pub const SYSTEM_STEP: u8 = 4;
+
+const STEPS: [u8; 4] = [SYNCHRONIZES_STEP, RELEASE_STEP, ACQUIRE_STEP, SYSTEM_STEP];
 
 impl State {
     /// Whether a moment of the last admitted table happens before another.
@@ -20,7 +23,7 @@ impl State {
             && self.happens_before[moment_pair(first, second)]
     }
 
-    /// M6: whether one of the three direct steps leads from a moment to a
+    /// M6: whether one of the four direct steps leads from a moment to a
     /// moment for a class set.
     pub fn direct_step(&self, set: u8, step: u8, first: usize, second: usize) -> bool {
         if !self.moment_exists(first) || !self.moment_exists(second) {
@@ -30,6 +33,7 @@ impl State {
             SYNCHRONIZES_STEP => self.m6_synchronizes(set, first, second),
             RELEASE_STEP => self.m6_before_release(set, first, second),
             ACQUIRE_STEP => self.m6_after_acquire(set, first, second),
+            SYSTEM_STEP => self.m6_system_synchronizes(first, second),
             _ => false,
         }
     }

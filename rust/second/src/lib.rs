@@ -7,9 +7,10 @@
 //! | rules | module |
 //! |---|---|
 //! | the table, kinds, sources | `table` |
-//! | refusals 1 to 11, 14 and 15 | `admission` |
+//! | refusals 1 to 11 and 14 to 20 | `admission` |
 //! | M1, M2 | `moments` |
 //! | M3, M4, M5 | `synchronization` |
+//! | dependencies, domains, the orders that go through them | `system` |
 //! | M6, M7 | `happens_before` |
 //! | L1 to L3, conflicts and races | `location` |
 //! | edges, axioms A and B, canonical cycle | `axioms` |
@@ -30,20 +31,24 @@ mod moments;
 mod report;
 mod state;
 mod synchronization;
+mod system;
 pub mod table;
 
 pub use answer::{CheckAnswer, FillAnswer, List};
 pub use derivation::{AcceptsAnswer, Derivation};
-pub use happens_before::{ACQUIRE_STEP, RELEASE_STEP, SYNCHRONIZES_STEP};
+pub use happens_before::{ACQUIRE_STEP, RELEASE_STEP, SYNCHRONIZES_STEP, SYSTEM_STEP};
 pub use moments::{AFTER, AT, BEFORE};
 pub use report::{Counts, ReportAnswer};
 pub use state::State;
+pub use system::DomainSteps;
 pub use table::{BLANK, INITIAL};
 
 /// Most rows of a table.
 pub const MAX_ROWS: usize = 128;
 /// Most agents of a table.
 pub const MAX_AGENTS: usize = 32;
+/// Most dependencies of a table.
+pub const MAX_DEPENDENCIES: usize = 64;
 /// Most moments: before, at and after for each row.
 pub const MAX_MOMENTS: usize = 3 * MAX_ROWS;
 /// Most bytes of one access.

@@ -24,21 +24,32 @@ impl State {
     pub(crate) fn relate_location_order(&mut self) {
         for first in 0..self.row_count {
             for second in 0..self.row_count {
+                let everywhere = self.ordered_everywhere_by_rule(first, second);
                 for byte in self.rows[first].first_byte()..self.rows[first].end_byte() {
                     self.location_order[self.location_place(first, second, byte)] =
-                        self.ordered_at(first, second, byte);
+                        self.ordered_at(first, second, byte, everywhere);
                 }
             }
         }
     }
 
-    /// Location order at a byte: L1, L2 or L3 of different accesses that both
-    /// have it.
-    fn ordered_at(&self, x: usize, y: usize, byte: u32) -> bool {
+    /// The rules that ask no byte: L1, L2, and the two that go by system
+    /// synchronization.
+    fn ordered_everywhere_by_rule(&self, x: usize, y: usize) -> bool {
+        self.rows[x].shares_a_byte_with(self.rows[y])
+            && (self.l1(x, y)
+                || self.l2(x, y)
+                || self.read_system_synchronizes(x, y)
+                || self.through_domains(x, y).is_some())
+    }
+
+    /// Location order at a byte, of different accesses that both have it: by
+    /// L3, or by a rule that asks no byte.
+    fn ordered_at(&self, x: usize, y: usize, byte: u32, everywhere: bool) -> bool {
         x != y
             && self.rows[x].has_byte(byte)
             && self.rows[y].has_byte(byte)
-            && (self.l1(x, y) || self.l2(x, y) || self.l3(x, y, byte))
+            && (everywhere || self.l3(x, y, byte))
     }
 
     /// L1: agent and reference agree, and X happens-before Y.

@@ -113,8 +113,12 @@ impl State {
         }
     }
 
-    /// M2: whether two agents share a scope.
+    /// M2: whether two agents share a scope. Scopes hold between shader agents
+    /// only.
     pub(crate) fn m2_share(&self, first: u8, second: u8, scope: u8) -> bool {
+        if self.sort_of(first) != SHADER || self.sort_of(second) != SHADER {
+            return false;
+        }
         let [family, workgroup, subgroup] = self.agents[usize::from(first)];
         let [other_family, other_workgroup, other_subgroup] = self.agents[usize::from(second)];
         match scope {
@@ -126,6 +130,10 @@ impl State {
             FAMILY => family == other_family,
             _ => true,
         }
+    }
+
+    pub(crate) fn sort_of(&self, agent: u8) -> u16 {
+        self.sorts[usize::from(agent)]
     }
 
     /// Whether the agents of two rows share the scopes of both.

@@ -2,9 +2,10 @@
 
 use crate::admission::{self, Purpose, Refusal};
 use crate::answer::{CheckAnswer, FillAnswer};
-use crate::table::{agent_places, row_of, Row};
+use crate::table::{agent_places, agent_sort, row_of, Row, SHADER};
 use crate::{
-    CYCLE_NUMBERS, MAX_AGENTS, MAX_LENGTH, MAX_MOMENTS, MAX_ROWS, SOURCE_NUMBERS, WORK_WORDS,
+    CYCLE_NUMBERS, MAX_AGENTS, MAX_DEPENDENCIES, MAX_LENGTH, MAX_MOMENTS, MAX_ROWS, SOURCE_NUMBERS,
+    WORK_WORDS,
 };
 
 const ROW_PAIRS: usize = MAX_ROWS * MAX_ROWS;
@@ -16,10 +17,18 @@ pub struct State {
     pub(crate) version: u8,
     pub(crate) row_count: usize,
     pub(crate) agents: [[u16; 3]; MAX_AGENTS],
+    /// Each agent's sort.
+    pub(crate) sorts: [u16; MAX_AGENTS],
+    /// Pairs of rows of which the first system-synchronizes-with the second.
+    pub(crate) dependencies: Vec<[u16; 2]>,
     pub(crate) rows: [Row; MAX_ROWS],
     pub(crate) moment_exists: [bool; MAX_MOMENTS],
     pub(crate) mutually_ordered: Box<[bool; ROW_PAIRS]>,
     pub(crate) synchronizes_with: Box<[bool; ROW_PAIRS]>,
+    /// Whether a dependency joins two rows.
+    pub(crate) depends: Box<[bool; ROW_PAIRS]>,
+    /// Whether one or more dependencies lead from a row to a row.
+    pub(crate) system_synchronizes: Box<[bool; ROW_PAIRS]>,
     /// Inter-thread order of the class set at hand.
     pub(crate) inter_thread: Box<[bool; MOMENT_PAIRS]>,
     pub(crate) happens_before: Box<[bool; MOMENT_PAIRS]>,
@@ -47,10 +56,14 @@ impl State {
             version: 1,
             row_count: 0,
             agents: [[0; 3]; MAX_AGENTS],
+            sorts: [SHADER; MAX_AGENTS],
+            dependencies: Vec::with_capacity(MAX_DEPENDENCIES),
             rows: [Row::default(); MAX_ROWS],
             moment_exists: [false; MAX_MOMENTS],
             mutually_ordered: Box::new([false; ROW_PAIRS]),
             synchronizes_with: Box::new([false; ROW_PAIRS]),
+            depends: Box::new([false; ROW_PAIRS]),
+            system_synchronizes: Box::new([false; ROW_PAIRS]),
             inter_thread: Box::new([false; MOMENT_PAIRS]),
             happens_before: Box::new([false; MOMENT_PAIRS]),
             location_order: Box::new([false; ROW_PAIRS * MAX_LENGTH]),
@@ -134,13 +147,15 @@ impl State {
         self.version = table[4];
         for agent in 0..agent_count {
             self.agents[agent] = agent_places(table, agent);
+            self.sorts[agent] = agent_sort(table, agent);
         }
         for row in 0..row_count {
             self.rows[row] = row_of(table, agent_count, row);
         }
         self.row_count = row_count;
         let refusal = self
-            .refusal_by_row_alone(agent_count)
+            .take_dependencies_in(table, agent_count)
+            .or_else(|| self.refusal_by_row_alone(agent_count))
             .or_else(|| self.refusal_among_rows(purpose));
         if let Some(refusal) = refusal {
             self.row_count = 0;
@@ -155,6 +170,7 @@ impl State {
         self.relate_moments();
         self.relate_mutually_ordered();
         self.relate_synchronizes_with();
+        self.relate_system_synchronizes();
         self.relate_happens_before();
         self.relate_location_order();
     }

@@ -7,12 +7,26 @@ pub const BLANK: u16 = 65534;
 
 /// The version whose ranks are compared as they stand.
 pub const PLAIN_RANKS: u8 = 1;
-/// The version whose ranks are counts that may have run out and begun again.
+/// The version from which on ranks are counts that may have run out and begun
+/// again.
 pub const COUNTED_RANKS: u8 = 2;
+/// The version that has host and queue agents, and dependencies.
+pub const WITH_HOSTS: u8 = 3;
 
 pub const HEADER_BYTES: usize = 8;
+/// Bytes of an agent in versions 1 and 2.
 pub const AGENT_BYTES: usize = 6;
+/// Bytes of an agent whose sort is told.
+pub const SORTED_AGENT_BYTES: usize = 8;
 pub const ROW_BYTES: usize = 16;
+/// Bytes of the count of dependencies.
+pub const COUNT_BYTES: usize = 2;
+pub const DEPENDENCY_BYTES: usize = 4;
+
+/// Sorts of agents.
+pub const SHADER: u16 = 0;
+pub const HOST: u16 = 1;
+pub const QUEUE: u16 = 2;
 
 pub const PLAIN_READ: u8 = 0;
 pub const PLAIN_WRITE: u8 = 1;
@@ -21,6 +35,12 @@ pub const ATOMIC_WRITE: u8 = 3;
 pub const ATOMIC_RMW: u8 = 4;
 pub const BARRIER: u8 = 5;
 pub const CONTROL_BARRIER: u8 = 6;
+pub const AVAILABLE_TO_HOST: u8 = 7;
+pub const AVAILABLE_TO_DEVICE: u8 = 8;
+pub const VISIBLE_FROM_HOST: u8 = 9;
+pub const VISIBLE_FROM_DEVICE: u8 = 10;
+pub const HOST_TO_DEVICE: u8 = 11;
+pub const DEVICE_TO_HOST: u8 = 12;
 
 pub const RELAXED: u8 = 0;
 pub const ACQUIRE: u8 = 1;
@@ -89,6 +109,11 @@ impl Row {
 
     pub fn is_control_barrier(self) -> bool {
         self.kind == CONTROL_BARRIER
+    }
+
+    /// Whether the row is an operation of a queue agent.
+    pub fn is_queue_operation(self) -> bool {
+        (AVAILABLE_TO_HOST..=DEVICE_TO_HOST).contains(&self.kind)
     }
 
     /// A control barrier's execution scope.
@@ -181,9 +206,18 @@ pub(crate) fn four_bytes(bytes: &[u8], at: usize) -> u32 {
     u32::from_be_bytes([bytes[at], bytes[at + 1], bytes[at + 2], bytes[at + 3]])
 }
 
+/// Bytes of one agent in a version.
+pub fn agent_bytes(version: u8) -> usize {
+    if version >= WITH_HOSTS {
+        SORTED_AGENT_BYTES
+    } else {
+        AGENT_BYTES
+    }
+}
+
 /// Family, workgroup and subgroup numbers of an agent.
 pub fn agent_places(table: &[u8], agent: usize) -> [u16; 3] {
-    let at = HEADER_BYTES + AGENT_BYTES * agent;
+    let at = HEADER_BYTES + agent_bytes(table[4]) * agent;
     [
         two_bytes(table, at),
         two_bytes(table, at + 2),
@@ -191,7 +225,26 @@ pub fn agent_places(table: &[u8], agent: usize) -> [u16; 3] {
     ]
 }
 
+/// An agent's sort: its fourth number, and a shader where it has none.
+pub fn agent_sort(table: &[u8], agent: usize) -> u16 {
+    if table[4] < WITH_HOSTS {
+        return SHADER;
+    }
+    two_bytes(table, HEADER_BYTES + SORTED_AGENT_BYTES * agent + 6)
+}
+
 pub fn row_of(table: &[u8], agent_count: usize, row: usize) -> Row {
-    let at = HEADER_BYTES + AGENT_BYTES * agent_count + ROW_BYTES * row;
+    let at = HEADER_BYTES + agent_bytes(table[4]) * agent_count + ROW_BYTES * row;
     Row::from_bytes(&table[at..at + ROW_BYTES])
+}
+
+/// Where the count of dependencies stands, in the version that has them.
+pub fn dependencies_at(agent_count: usize, row_count: usize) -> usize {
+    HEADER_BYTES + SORTED_AGENT_BYTES * agent_count + ROW_BYTES * row_count
+}
+
+/// The numbered dependency of a table whose count stands at a place.
+pub fn dependency_of(table: &[u8], count_at: usize, number: usize) -> [u16; 2] {
+    let at = count_at + COUNT_BYTES + DEPENDENCY_BYTES * number;
+    [two_bytes(table, at), two_bytes(table, at + 2)]
 }

@@ -6,7 +6,10 @@ mod common;
 use second::{CheckAnswer, FillAnswer, State, CYCLE_NUMBERS, SOURCE_NUMBERS, WORK_WORDS};
 use std::collections::{BTreeMap, BTreeSet};
 use tables::builder::kind;
-use tables::{checkable, clean, damaged, fillable, Random, Row, Size, Table, BLANK};
+use tables::{
+    checkable, clean, damaged, damaged_hosted, fillable, hosted, hosted_fillable, Random, Row,
+    Size, Table, BLANK,
+};
 
 const SMALL: Size = Size { least: 4, most: 12 };
 const MIDDLE: Size = Size {
@@ -106,18 +109,28 @@ fn each_answer_of_a_fill_has_a_tenth() {
 
 #[test]
 fn damage_reaches_every_refusal_at_various_rows() {
+    damage_reaches(damaged, &[1, 2, 3, 4, 5, 6, 7, 8, 9, 10, 14, 15]);
+}
+
+#[test]
+fn damage_of_hosted_tables_reaches_their_refusals() {
+    damage_reaches(damaged_hosted, &[4, 5, 6, 7, 8, 9, 16, 17, 18, 19, 20]);
+}
+
+fn damage_reaches(damage: fn(&mut Random, Size) -> Vec<u8>, numbers: &[u8]) {
     let mut random = Random::new(3);
     let mut state = State::new();
     let mut rows: BTreeMap<u8, BTreeSet<u16>> = BTreeMap::new();
     for _ in 0..3000 {
-        let table = damaged(&mut random, SMALL);
+        let table = damage(&mut random, SMALL);
         if let CheckAnswer::Refused { number, row } = check(&mut state, &table) {
             rows.entry(number).or_default().insert(row);
         }
     }
-    for number in (1..=10).chain([14, 15]) {
-        let distinct = rows.get(&number).map_or(0, BTreeSet::len);
-        let wanted = if number < 5 { 1 } else { 5 };
+    for number in numbers {
+        let distinct = rows.get(number).map_or(0, BTreeSet::len);
+        let of_table = *number < 5 || (16..=18).contains(number);
+        let wanted = if of_table { 1 } else { 5 };
         assert!(distinct >= wanted, "refusal {number}: {distinct} rows");
     }
 }
@@ -189,11 +202,36 @@ fn generated_tables_reach_the_rules() {
 }
 
 #[test]
+fn each_verdict_of_hosted_tables_has_its_share() {
+    let mut random = Random::new(8);
+    let mut state = State::new();
+    let mut shares = Shares::default();
+    for _ in 0..1000 {
+        let table = hosted(&mut random, MIDDLE);
+        assert!((MIDDLE.least..=MIDDLE.most).contains(&table.rows.len()));
+        shares.count(&check(&mut state, &table.bytes()).to_string());
+    }
+    for word in ["race-free", "race", "cycle", "overwritten"] {
+        assert!(shares.percent(word) >= 5, "{word} {:?}", shares.counts);
+    }
+    assert_eq!(shares.percent("refused"), 0);
+}
+
+#[test]
 fn check_and_fill_agree() {
+    check_and_fill_agree_on(fillable);
+}
+
+#[test]
+fn check_and_fill_agree_on_hosted_tables() {
+    check_and_fill_agree_on(hosted_fillable);
+}
+
+fn check_and_fill_agree_on(generator: fn(&mut Random, Size) -> Table) {
     let mut random = Random::new(5);
     let mut state = State::new();
     for _ in 0..1500 {
-        let mut table = fillable(&mut random, SMALL);
+        let mut table = generator(&mut random, SMALL);
         let has_blanks = table.rows.iter().any(|row| row.source == BLANK);
         match fill(&mut state, &table.bytes()) {
             FillAnswer::Filled(sources) => {

@@ -92,9 +92,11 @@ fn empty_table_is_race_free() {
 }
 
 #[test]
-fn versions_1_and_2_pass() {
+fn versions_1_to_3_pass() {
     assert_eq!(check_bytes(&from_hex("0000000402000000")), "race-free");
-    assert_eq!(check_bytes(&from_hex("0000000403000000")), "refused 2 0");
+    assert_eq!(check_bytes(&from_hex("00000006030000000000")), "race-free");
+    assert_eq!(check_bytes(&from_hex("0000000403000000")), "refused 4 0");
+    assert_eq!(check_bytes(&from_hex("0000000404000000")), "refused 2 0");
     assert_eq!(check_bytes(&from_hex("0000000400000000")), "refused 2 0");
 }
 

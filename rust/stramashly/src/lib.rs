@@ -65,8 +65,10 @@ pub const BLANK: u16 = 65534;
 pub const MAX_ROWS: usize = 128;
 /// Most agents of a table.
 pub const MAX_AGENTS: usize = 32;
-/// Most bytes of a table: its header, agents and rows.
-pub const MAX_TABLE_BYTES: usize = 8 + 6 * MAX_AGENTS + 16 * MAX_ROWS;
+/// Most dependencies of a table of version 3.
+pub const MAX_DEPENDENCIES: usize = 64;
+/// Most bytes of a table: its header, agents, rows and dependencies.
+pub const MAX_TABLE_BYTES: usize = 8 + 8 * MAX_AGENTS + 16 * MAX_ROWS + 2 + 4 * MAX_DEPENDENCIES;
 
 /// Least length of the lent work area, in 64-bit words.
 pub const WORK_WORDS: usize = 8192;

@@ -9,6 +9,8 @@ pub const BLANK: u16 = 65534;
 pub const MAX_ROWS: usize = 128;
 /// Most agents of a table.
 pub const MAX_AGENTS: usize = 32;
+/// Most dependencies of a table.
+pub const MAX_DEPENDENCIES: usize = 64;
 
 /// Kinds of rows.
 pub mod kind {
@@ -19,6 +21,19 @@ pub mod kind {
     pub const RMW: u8 = 4;
     pub const BARRIER: u8 = 5;
     pub const CONTROL_BARRIER: u8 = 6;
+    pub const AVAILABLE_TO_HOST: u8 = 7;
+    pub const AVAILABLE_TO_DEVICE: u8 = 8;
+    pub const VISIBLE_FROM_HOST: u8 = 9;
+    pub const VISIBLE_FROM_DEVICE: u8 = 10;
+    pub const HOST_TO_DEVICE: u8 = 11;
+    pub const DEVICE_TO_HOST: u8 = 12;
+}
+
+/// Sorts of agents.
+pub mod sort {
+    pub const SHADER: u16 = 0;
+    pub const HOST: u16 = 1;
+    pub const QUEUE: u16 = 2;
 }
 
 /// Memory orders.
@@ -153,6 +168,14 @@ impl Row {
         }
     }
 
+    /// An operation of a queue agent, which has nothing but its kind.
+    pub fn queue(agent: u8, kind: u8) -> Row {
+        Row {
+            kind,
+            ..Row::barrier(agent, order::RELAXED, 0).scope(scope::INVOCATION)
+        }
+    }
+
     pub fn bytes(self, start: u16, length: u8) -> Row {
         Row {
             start,
@@ -216,6 +239,10 @@ impl Row {
 
     pub fn is_control_barrier(self) -> bool {
         self.kind == kind::CONTROL_BARRIER
+    }
+
+    pub fn is_queue_operation(self) -> bool {
+        (kind::AVAILABLE_TO_HOST..=kind::DEVICE_TO_HOST).contains(&self.kind)
     }
 
     /// Whether two rows are control barriers of one instance.
@@ -284,12 +311,17 @@ impl Row {
     }
 }
 
-/// A table: its version, the agents' place numbers, then the rows.
+/// A table: its version, the agents' place numbers, then the rows. Only
+/// version 3 has sorts of agents and dependencies.
 #[derive(Clone, Debug, PartialEq, Eq)]
 pub struct Table {
     pub version: u8,
     pub agents: Vec<[u16; 3]>,
+    /// Each agent's sort; where there is none it is a shader.
+    pub sorts: Vec<u16>,
     pub rows: Vec<Row>,
+    /// Pairs of rows of which the first system-synchronizes-with the second.
+    pub dependencies: Vec<[u16; 2]>,
 }
 
 impl Default for Table {
@@ -304,7 +336,9 @@ impl Table {
         Table {
             version: 1,
             agents: agents.to_vec(),
+            sorts: Vec::new(),
             rows: rows.to_vec(),
+            dependencies: Vec::new(),
         }
     }
 
@@ -319,7 +353,24 @@ impl Table {
         Table { version: 2, ..self }
     }
 
-    /// Puts a row in; sources at or past its place move on by one.
+    /// A table of version 3, its agents' places all alike.
+    pub fn with_sorts(sorts: &[u16], rows: &[Row], dependencies: &[[u16; 2]]) -> Table {
+        Table {
+            version: 3,
+            sorts: sorts.to_vec(),
+            dependencies: dependencies.to_vec(),
+            ..Table::new(&vec![[0, 0, 0]; sorts.len()], rows)
+        }
+    }
+
+    /// An agent's sort.
+    pub fn sort(&self, agent: u8) -> u16 {
+        let sort = self.sorts.get(usize::from(agent));
+        sort.copied().unwrap_or(sort::SHADER)
+    }
+
+    /// Puts a row in; sources and dependencies at or past its place move on by
+    /// one.
     pub fn insert(&mut self, place: usize, row: Row) {
         for moved in &mut self.rows {
             let is_row = usize::from(moved.source) < usize::from(BLANK);
@@ -327,26 +378,41 @@ impl Table {
                 moved.source += 1;
             }
         }
+        for row in self.dependencies.iter_mut().flatten() {
+            *row += u16::from(usize::from(*row) >= place);
+        }
         self.rows.insert(place, row);
     }
 
     pub fn bytes(&self) -> Vec<u8> {
-        let following = 4 + 6 * self.agents.len() + 16 * self.rows.len();
-        let mut bytes = (following as u32).to_be_bytes().to_vec();
+        let has_hosts = self.version == 3;
+        let mut bytes = vec![0; 4];
         bytes.extend([
             self.version,
             self.agents.len() as u8,
             self.rows.len() as u8,
             0,
         ]);
-        for number in self.agents.iter().flatten() {
-            bytes.extend(number.to_be_bytes());
+        for (agent, places) in self.agents.iter().enumerate() {
+            let sort = has_hosts.then(|| self.sort(agent as u8));
+            push_numbers(&mut bytes, places.iter().copied().chain(sort));
         }
         for row in &self.rows {
             row.push_bytes(&mut bytes);
         }
+        if has_hosts {
+            let count = self.dependencies.len() as u16;
+            let rows = self.dependencies.iter().flatten().copied();
+            push_numbers(&mut bytes, std::iter::once(count).chain(rows));
+        }
+        let following = bytes.len() as u32 - 4;
+        bytes[..4].copy_from_slice(&following.to_be_bytes());
         bytes
     }
+}
+
+fn push_numbers(bytes: &mut Vec<u8>, numbers: impl Iterator<Item = u16>) {
+    numbers.for_each(|number| bytes.extend(number.to_be_bytes()));
 }
 
 /// Bytes as hex digits.

@@ -26,10 +26,10 @@ pub fn damaged(random: &mut Random, size: Size) -> Vec<u8> {
 }
 
 /// Damage for refusals 1 to 4, and any byte now and then.
-fn damage_bytes(random: &mut Random, bytes: &mut Vec<u8>, number: usize) {
+pub(crate) fn damage_bytes(random: &mut Random, bytes: &mut Vec<u8>, number: usize) {
     match number {
         1 => bytes.truncate(random.below(8)),
-        2 if random.percent(50) => bytes[4] = random.pick(&[0, 3, 4, 255]),
+        2 if random.percent(50) => bytes[4] = random.pick(&[0, 4, 5, 255]),
         2 => bytes[7] = random.pick(&[1, 128, 255]),
         3 if random.percent(50) => bytes[5] = random.between(MAX_AGENTS + 1, 255) as u8,
         3 => bytes[6] = random.between(MAX_ROWS + 1, 255) as u8,
@@ -53,7 +53,7 @@ fn damage_length(random: &mut Random, bytes: &mut Vec<u8>) {
 }
 
 /// Damage for refusals 5 and on; a table with no row to damage stays good.
-fn damage_table(random: &mut Random, table: &mut Table, number: usize) {
+pub(crate) fn damage_table(random: &mut Random, table: &mut Table, number: usize) {
     match number {
         5 => damage_row(random, table, |_| true, damage_code),
         6 => damage_row(random, table, |_| true, damage_kind_fit),
@@ -67,7 +67,7 @@ fn damage_table(random: &mut Random, table: &mut Table, number: usize) {
     }
 }
 
-fn damage_row(
+pub(crate) fn damage_row(
     random: &mut Random,
     table: &mut Table,
     test: impl Fn(Row) -> bool,
@@ -274,7 +274,7 @@ fn add_writer(random: &mut Random, table: &mut Table, further: u16) {
 /// makes a run of 32,769 counts or more; now and then of just 32,768, which
 /// fits.
 fn damage_run(random: &mut Random, table: &mut Table) {
-    table.version = 2;
+    table.version = table.version.max(2);
     let further = random.pick(&[32767, 32768, 32768, 32768, 32769, 40000]);
     let pairs = rows_with_an_earlier(table, Row::ranks_with);
     if pairs.is_empty() {

@@ -4,6 +4,9 @@
 //! write, so that its sources name earlier rows of the episode.
 
 mod control;
+mod hosted;
+
+pub(crate) use hosted::{hosted_episode, Cast};
 
 use crate::builder::{kind, order, scope, Row, INITIAL};
 use crate::random::Random;

@@ -2,7 +2,8 @@
 
 use crate::builder::classes::{IMAGE, UNIFORM, WORKGROUP};
 use crate::builder::flags::{MAKE_AVAILABLE, MAKE_VISIBLE};
-use crate::builder::{order, scope, Row, Table, BLANK, INITIAL};
+use crate::builder::{kind, order, scope, sort, Row, Table, BLANK, INITIAL};
+use crate::LIBRARY_HAS_HOSTS;
 
 /// A file's name without its ending, and its bytes.
 pub struct Example {
@@ -23,7 +24,8 @@ pub fn examples() -> Vec<Example> {
         .chain(by_class_and_byte())
         .chain(inconsistent())
         .chain(fills())
-        .chain(forms());
+        .chain(forms())
+        .chain(hosts().into_iter().filter(|_| LIBRARY_HAS_HOSTS));
     let mut examples: Vec<Example> = tables
         .map(|(name, table)| Example {
             name,
@@ -277,6 +279,53 @@ fn fills() -> Vec<Named> {
         ("fill-initial", Table::of_one_workgroup(1, &before_any)),
         ("fill-none", Table::of_one_workgroup(1, &two_halves)),
         ("fill-race", leak_blank),
+    ]
+}
+
+/// A host's write that a shader reads: made available to the host's domain,
+/// carried to the device's, made visible from there, each step depending on
+/// the one before.
+fn hosts() -> Vec<Named> {
+    let sorts = [sort::HOST, sort::QUEUE, sort::SHADER];
+    let in_line = |rows: &[Row]| {
+        let dependencies = (1..rows.len() as u16).map(|row| [row - 1, row]);
+        Table::with_sorts(&sorts, rows, &dependencies.collect::<Vec<_>>())
+    };
+    let queue = |kind| Row::queue(1, kind);
+    let upload = [
+        Row::write(0).private(),
+        queue(kind::AVAILABLE_TO_HOST),
+        queue(kind::HOST_TO_DEVICE),
+        queue(kind::VISIBLE_FROM_DEVICE),
+        Row::read(2, 0).private().reference(2),
+    ];
+    let read_back = [
+        Row::write(2).private().reference(2),
+        queue(kind::AVAILABLE_TO_DEVICE),
+        queue(kind::DEVICE_TO_HOST),
+        queue(kind::VISIBLE_FROM_HOST),
+        Row::read(0, 0).private(),
+    ];
+    let no_domain = changed(in_line(&upload), |table| {
+        table.rows.remove(2);
+        table.dependencies.truncate(3);
+    });
+    let other_row = changed(in_line(&upload), |table| {
+        table.insert(1, Row::write(0).private().bytes(8, 4));
+        table.dependencies[0][0] = 1;
+    });
+    let read_first = in_line(&[
+        Row::read(0, INITIAL).private(),
+        Row::write(2).private().reference(2),
+    ]);
+    let host_atomic = in_line(&[Row::write(0).private(), Row::atomic_write(0, 1)]);
+    vec![
+        ("upload", in_line(&upload)),
+        ("upload-no-domain", no_domain),
+        ("upload-other-row", other_row),
+        ("read-back", in_line(&read_back)),
+        ("host-read", read_first),
+        ("host-atomic", host_atomic),
     ]
 }
 

@@ -133,14 +133,14 @@ fn run(random: &mut Random, size: Size) -> Table {
 }
 
 /// Few agents near to each other, or more of them farther apart.
-fn agents(random: &mut Random) -> Vec<[u16; 3]> {
+pub(crate) fn agents(random: &mut Random) -> Vec<[u16; 3]> {
     let count = random.pick(&[2, 2, 3, 3, 4, 5, 8, 16, MAX_AGENTS]);
     let ranges = random.pick(&[[1, 1, 2], [1, 1, 1], [1, 2, 2], [2, 2, 2], [1, 1, 3]]);
     let agent = |random: &mut Random| ranges.map(|range| random.below(range) as u16);
     (0..count).map(|_| agent(random)).collect()
 }
 
-fn append(random: &mut Random, table: &mut Table, rows: Vec<Row>) {
+pub(crate) fn append(random: &mut Random, table: &mut Table, rows: Vec<Row>) {
     let first = table.rows.len() as u16;
     for mut row in rows {
         if row.source != INITIAL {
@@ -172,7 +172,7 @@ fn interleave(random: &mut Random, table: &mut Table) {
 
 /// Lists rows of different agents in any order: only program order counts,
 /// so sources may name later rows.
-fn shuffle_agents(random: &mut Random, table: &mut Table) {
+pub(crate) fn shuffle_agents(random: &mut Random, table: &mut Table) {
     if table.rows.len() < 2 || random.percent(50) {
         return;
     }

@@ -6,15 +6,23 @@ mod damage;
 mod episode;
 mod examples;
 mod generator;
+mod hosted;
+mod hosted_damage;
 mod litmus;
 mod moved;
 mod mutation;
 mod random;
 
-pub use builder::{hex, Row, Table, BLANK, INITIAL, MAX_AGENTS, MAX_ROWS};
+pub use builder::{hex, Row, Table, BLANK, INITIAL, MAX_AGENTS, MAX_DEPENDENCIES, MAX_ROWS};
 pub use damage::damaged;
 pub use examples::{examples, Example};
 pub use generator::{checkable, clean, fillable, Size};
+pub use hosted::{hosted, hosted_fillable};
+pub use hosted_damage::damaged_hosted;
 pub use litmus::{litmus, Litmus};
 pub use moved::{moved, Moved};
 pub use random::Random;
+
+/// Whether the proved library knows version 3. Until it does, there are no
+/// examples of that version, and nobody compares them.
+pub const LIBRARY_HAS_HOSTS: bool = false;

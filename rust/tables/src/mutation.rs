@@ -1,6 +1,8 @@
 //! Mutations of a table, and the repair that keeps a mutated table admissible.
 
-use crate::builder::{flags, kind, order, scope, Row, Table, BLANK, INITIAL};
+use crate::builder::{
+    flags, kind, order, scope, sort, Row, Table, BLANK, INITIAL, MAX_DEPENDENCIES,
+};
 use crate::counted::repair_run;
 use crate::random::Random;
 
@@ -109,7 +111,8 @@ fn swap_neighbours(random: &mut Random, table: &mut Table) {
     }
 }
 
-/// Lists the rows in another order; sources go with their rows.
+/// Lists the rows in another order; sources and dependencies go with their
+/// rows.
 pub(crate) fn reorder(table: &mut Table, order: &[usize]) {
     let mut new_places = vec![0; order.len()];
     for (place, old) in order.iter().enumerate() {
@@ -123,6 +126,11 @@ pub(crate) fn reorder(table: &mut Table, order: &[usize]) {
         row
     });
     table.rows = rows.collect();
+    for row in table.dependencies.iter_mut().flatten() {
+        if let Some(place) = new_places.get(usize::from(*row)) {
+            *row = *place;
+        }
+    }
 }
 
 /// Gives a reader another source that fits, if there is one.
@@ -162,8 +170,21 @@ fn write_again(random: &mut Random, table: &mut Table) -> bool {
     if !readers.is_empty() {
         let source = usize::from(table.rows[random.pick(&readers)].source);
         table.insert(source + 1, table.rows[source]);
+        depend_alike(table, source as u16, source as u16 + 1);
     }
     !readers.is_empty()
+}
+
+/// Gives a row the dependencies that another has, as far as there is room.
+fn depend_alike(table: &mut Table, row: u16, other: u16) {
+    let alike = |from: u16| if from == row { other } else { from };
+    let all = table.dependencies.iter();
+    let added: Vec<[u16; 2]> = all
+        .filter(|pair| pair.contains(&row))
+        .map(|pair| pair.map(alike))
+        .collect();
+    table.dependencies.extend(added);
+    table.dependencies.truncate(MAX_DEPENDENCIES);
 }
 
 /// Takes away one thing that rows of different agents may be ordered by.
@@ -268,6 +289,9 @@ fn fitting_sources(table: &Table, reader: usize) -> Vec<u16> {
 
 /// Makes every row admissible again, changing as little as it can.
 pub(crate) fn repair(random: &mut Random, table: &mut Table) {
+    for place in 0..table.rows.len() {
+        repair_agent(random, table, place);
+    }
     for row in &mut table.rows {
         repair_kind_fit(random, row);
         repair_bytes(row);
@@ -281,7 +305,33 @@ pub(crate) fn repair(random: &mut Random, table: &mut Table) {
     }
 }
 
+/// Gives a row to an agent that may have it, if there is one, and makes it
+/// what its agent may have otherwise.
+fn repair_agent(random: &mut Random, table: &mut Table, place: usize) {
+    let row = table.rows[place];
+    let fits = |agent: u8| match table.sort(agent) {
+        sort::HOST => row.is_plain(),
+        sort::QUEUE => row.is_queue_operation(),
+        _ => !row.is_queue_operation(),
+    };
+    if fits(row.agent) {
+        return;
+    }
+    let fitting: Vec<u8> = (0..table.agents.len() as u8).filter(|x| fits(*x)).collect();
+    if !fitting.is_empty() {
+        table.rows[place].agent = random.pick(&fitting);
+    } else if table.sort(row.agent) == sort::QUEUE {
+        table.rows[place] = Row::queue(row.agent, random.between(7, 12) as u8);
+    } else {
+        table.rows[place] = Row::read(row.agent, INITIAL).bytes(0, 1).reference(9999);
+    }
+}
+
 fn repair_kind_fit(random: &mut Random, row: &mut Row) {
+    if row.is_queue_operation() {
+        *row = Row::queue(row.agent, row.kind);
+        return;
+    }
     match row.kind {
         kind::PLAIN_READ | kind::PLAIN_WRITE => repair_plain(row),
         kind::BARRIER => repair_barrier(row),
@@ -418,6 +468,12 @@ pub(crate) fn in_one_order(table: &Table, first: usize, second: usize) -> bool {
 }
 
 fn share(table: &Table, first: u8, second: u8, scope: u8) -> bool {
+    if [first, second]
+        .iter()
+        .any(|agent| table.sort(*agent) != sort::SHADER)
+    {
+        return false;
+    }
     let (x, y) = (usize::from(first), usize::from(second));
     match scope {
         scope::INVOCATION => x == y,

@@ -1,11 +1,13 @@
 //! A long comparison: `soak SEED COUNT` compares so many generated tables.
 
-use differential::{Comparison, Difference, Tally};
+use differential::{Comparison, Difference, Tally, LIBRARY_HAS_HOSTS};
 use std::env;
 use std::io::{self, IsTerminal, Write};
 use std::process::ExitCode;
 use std::time::Instant;
-use tables::{checkable, damaged, fillable, Random, Size, MAX_ROWS};
+use tables::{
+    checkable, damaged, damaged_hosted, fillable, hosted, hosted_fillable, Random, Size, MAX_ROWS,
+};
 
 const USAGE: &str = "usage: soak SEED COUNT";
 
@@ -57,6 +59,7 @@ fn compare_one(
 ) -> Result<(), Difference> {
     let size = size(random);
     let (bytes, is_check) = match random.below(6) {
+        _ if LIBRARY_HAS_HOSTS && random.percent(30) => hosted_table(random, size),
         0..=2 => (checkable(random, size).bytes(), true),
         3 | 4 => (fillable(random, size).bytes(), false),
         _ => (damaged(random, size), random.percent(50)),
@@ -68,6 +71,14 @@ fn compare_one(
         tally.fill(&comparison.fill(&bytes)?);
     }
     compare_moments(random, comparison, tally, &bytes)
+}
+
+fn hosted_table(random: &mut Random, size: Size) -> (Vec<u8>, bool) {
+    match random.below(6) {
+        0..=2 => (hosted(random, size).bytes(), true),
+        3 | 4 => (hosted_fillable(random, size).bytes(), false),
+        _ => (damaged_hosted(random, size), random.percent(50)),
+    }
 }
 
 /// Any pair, and one that only a chain can order.

@@ -3,9 +3,13 @@
 use std::env;
 use std::io::{self, BufWriter, Write};
 use std::process::ExitCode;
-use tables::{checkable, damaged, fillable, hex, Random, Size, MAX_ROWS};
+use tables::{
+    checkable, damaged, damaged_hosted, fillable, hex, hosted, hosted_fillable, Random, Size,
+    MAX_ROWS,
+};
 
-const USAGE: &str = "usage: generate SEED COUNT MINROWS MAXROWS [check|fill|mix|damaged]";
+const USAGE: &str =
+    "usage: generate SEED COUNT MINROWS MAXROWS [check|fill|mix|damaged|hosted|hosted-fill|hosted-damaged]";
 
 #[derive(Clone, Copy)]
 enum Sort {
@@ -13,6 +17,9 @@ enum Sort {
     Fill,
     Mix,
     Damaged,
+    Hosted,
+    HostedFill,
+    HostedDamaged,
 }
 
 struct Request {
@@ -52,6 +59,9 @@ fn parse(words: &[String]) -> Option<Request> {
         Some("fill") => Sort::Fill,
         Some("mix") => Sort::Mix,
         Some("damaged") => Sort::Damaged,
+        Some("hosted") => Sort::Hosted,
+        Some("hosted-fill") => Sort::HostedFill,
+        Some("hosted-damaged") => Sort::HostedDamaged,
         Some(_) => return None,
     };
     let fits = size.least <= size.most && size.most <= MAX_ROWS;
@@ -75,12 +85,15 @@ fn write_lines(request: &Request) -> io::Result<()> {
 
 fn table(random: &mut Random, request: &Request) -> (&'static str, Vec<u8>) {
     let is_fill = match request.sort {
-        Sort::Check => false,
-        Sort::Fill => true,
-        Sort::Mix | Sort::Damaged => random.percent(50),
+        Sort::Check | Sort::Hosted => false,
+        Sort::Fill | Sort::HostedFill => true,
+        Sort::Mix | Sort::Damaged | Sort::HostedDamaged => random.percent(50),
     };
     let bytes = match (request.sort, is_fill) {
         (Sort::Damaged, _) => damaged(random, request.size),
+        (Sort::HostedDamaged, _) => damaged_hosted(random, request.size),
+        (Sort::Hosted, _) => hosted(random, request.size).bytes(),
+        (Sort::HostedFill, _) => hosted_fillable(random, request.size).bytes(),
         (_, true) => fillable(random, request.size).bytes(),
         (_, false) => checkable(random, request.size).bytes(),
     };

@@ -1,0 +1,189 @@
+//! Tables of version 3, checked, filled, reported and derived by both once the
+//! library knows them; until then the second implementation answers alone,
+//! and what the tables reach is seen all the same.
+
+use differential::{Comparison, Derived, Tally, LIBRARY_HAS_HOSTS};
+use stramashly::Checker;
+use tables::{damaged_hosted, hosted, hosted_fillable, moved, Random, Size};
+
+const SMALL: Size = Size { least: 2, most: 11 };
+const MIDDLE: Size = Size {
+    least: 12,
+    most: 24,
+};
+const LARGEST: Size = Size {
+    least: 128,
+    most: 128,
+};
+
+/// How often the orders that only this version has were met.
+#[derive(Default)]
+struct Ways {
+    read_case: usize,
+    domain_operations: usize,
+    one_domain: usize,
+    to_a_write: usize,
+}
+
+impl Ways {
+    fn add(&mut self, comparison: &Comparison) {
+        let state = &comparison.state;
+        for x in 0..state.row_count() {
+            for y in 0..state.row_count() {
+                self.read_case += usize::from(state.system_rules(x, y)[0]);
+                if let Some(steps) = state.domain_steps(x, y) {
+                    self.domain_operations += usize::from(steps.domain_operation.is_some());
+                    self.one_domain += usize::from(steps.domain_operation.is_none());
+                    self.to_a_write += usize::from(steps.visibility.is_none());
+                }
+            }
+        }
+    }
+}
+
+fn compare(seed: u64, count: usize, size: Size) -> (Tally, Ways) {
+    let mut random = Random::new(seed);
+    let mut comparison = Comparison::new(seed);
+    let (mut tally, mut ways) = (Tally::default(), Ways::default());
+    for _ in 0..count {
+        let bytes = hosted(&mut random, size).bytes();
+        tally.check(&comparison.check(&bytes).unwrap());
+        ways.add(&comparison);
+        comparison.report(&bytes).unwrap();
+        let bytes = hosted_fillable(&mut random, size).bytes();
+        tally.fill(&comparison.fill(&bytes).unwrap());
+    }
+    assert_eq!(tally.of("fill not compared"), 0);
+    (tally, ways)
+}
+
+fn assert_one_in(tally: &Tally, parts: usize) {
+    for words in [
+        "check race-free",
+        "check race",
+        "check overwritten",
+        "check cycle",
+        "fill filled",
+        "fill none",
+        "fill race",
+    ] {
+        assert!(
+            parts * tally.of(words) >= tally.total(),
+            "{words}:\n{tally}"
+        );
+    }
+}
+
+#[test]
+fn small_tables() {
+    let (tally, _) = compare(901, 4000, SMALL);
+    assert_one_in(&tally, 40);
+}
+
+#[test]
+fn middle_tables() {
+    let (tally, ways) = compare(902, 1500, MIDDLE);
+    assert_one_in(&tally, 40);
+    assert!(ways.read_case > 500, "{}", ways.read_case);
+    assert!(ways.domain_operations > 500, "{}", ways.domain_operations);
+    assert!(ways.one_domain > 500, "{}", ways.one_domain);
+    assert!(ways.to_a_write > 300, "{}", ways.to_a_write);
+}
+
+#[test]
+fn largest_tables() {
+    let (tally, _) = compare(903, 25, LARGEST);
+    assert!(tally.of("check race-free") > 0 && tally.of("fill filled") > 0);
+}
+
+#[test]
+fn damaged_tables() {
+    let mut random = Random::new(904);
+    let mut comparison = Comparison::new(904);
+    let mut tally = Tally::default();
+    for _ in 0..10_000 {
+        let bytes = damaged_hosted(&mut random, Size { least: 1, most: 10 });
+        tally.check(&comparison.check(&bytes).unwrap());
+        tally.fill(&comparison.fill(&bytes).unwrap());
+    }
+    for number in (1..=10).chain(14..=20) {
+        for command in ["check", "fill"] {
+            let count = tally.of(&format!("{command} refused {number}"));
+            assert!(200 * count >= tally.total() / 2, "{number}:\n{tally}");
+        }
+        let of_table = number < 5 || (16..=18).contains(&number);
+        let wanted = if of_table { 1 } else { 5 };
+        assert!(tally.rows_refused(number) >= wanted, "refusal {number}");
+    }
+}
+
+/// Every byte of some tables, changed in every way that changes one bit, and
+/// to the extremes.
+#[test]
+fn every_byte_changed() {
+    let mut random = Random::new(905);
+    let mut comparison = Comparison::new(905);
+    let mut tally = Tally::default();
+    for _ in 0..8 {
+        let bytes = hosted(&mut random, Size { least: 3, most: 6 }).bytes();
+        for place in 0..bytes.len() {
+            let changes = (0..8).map(|bit| bytes[place] ^ 1 << bit);
+            for byte in changes.chain([0, 255]) {
+                let mut changed = bytes.clone();
+                changed[place] = byte;
+                tally.check(&comparison.check(&changed).unwrap());
+            }
+        }
+    }
+    for number in [2, 3, 4, 5, 16, 18, 19] {
+        assert!(tally.rows_refused(number) > 0, "refusal {number}");
+    }
+}
+
+#[test]
+fn every_pair_of_moments_of_small_tables() {
+    let mut random = Random::new(906);
+    let mut comparison = Comparison::new(906);
+    let mut by_system = 0;
+    for _ in 0..60 {
+        let table = hosted_fillable(&mut random, Size { least: 3, most: 9 }).bytes();
+        let mut moments = comparison.moments_of(&table);
+        let count = moments.count() as u16;
+        for first in 0..count {
+            for second in 0..count {
+                let probed = moments.probe(first, second).unwrap();
+                if let Derived::Found(claim) = probed.derived {
+                    let has_case_4 = claim.steps.iter().any(|step| step / 512 == 4);
+                    by_system += usize::from(has_case_4);
+                }
+            }
+        }
+    }
+    assert!(!LIBRARY_HAS_HOSTS || by_system > 300, "{by_system}");
+}
+
+/// Dependencies go with their rows.
+#[test]
+fn moved_tables() {
+    let mut random = Random::new(907);
+    let mut checker = Checker::new();
+    let word = |answer: &str| answer.split(' ').next().unwrap().to_string();
+    for _ in 0..1500 {
+        let table = hosted_fillable(&mut random, Size { least: 3, most: 20 });
+        let moved = moved(&mut random, &table);
+        let (bytes, other) = (table.bytes(), moved.table.bytes());
+        let checked = word(&checker.check(&bytes).to_string());
+        assert_eq!(word(&checker.check(&other).to_string()), checked);
+        let filled = match checker.fill(&bytes) {
+            stramashly::FillAnswer::Filled(sources) => Some(moved.sources(sources)),
+            _ => None,
+        };
+        let answer = checker.fill(&bytes).to_string();
+        match checker.fill(&other) {
+            stramashly::FillAnswer::Filled(sources) => {
+                assert_eq!(Some(sources.to_vec()), filled);
+            }
+            other => assert_eq!(word(&other.to_string()), word(&answer)),
+        }
+    }
+}

@@ -14,6 +14,9 @@ pub fn draw(table: &[u8], checker: &mut Checker, is_all: bool) -> Result<String,
     if let CheckAnswer::Refused { .. } = answer {
         return Err(answer.to_string());
     }
+    if !Run::is_known(table) {
+        return Err(format!("{answer} of version {}", table[4]));
+    }
     let run = Run::of(table);
     let mut state = State::new();
     state.check(table, WORK_WORDS, CYCLE_NUMBERS);

@@ -90,7 +90,12 @@ pub fn explain(table: &[u8], checker: &mut Checker) -> Explanation {
         lines: Vec::new(),
         cures: Vec::new(),
     };
-    if second == explanation.answer {
+    if second == explanation.answer && !Run::is_known(table) && !second.starts_with("refused") {
+        explanation.lines = vec![format!(
+            "No explanation: there are no words for version {}.",
+            table[4]
+        )];
+    } else if second == explanation.answer {
         tell(table, checked, checker, &mut explanation);
     } else {
         // The proved answer stands; there are no words for it.
@@ -143,7 +148,8 @@ pub fn shown(checked: Checked, answer: CheckAnswer) -> Shown {
             writer,
             byte,
         } => Shown::Overwritten {
-            source: checked.run.rows[usize::from(reader)].source.into(),
+            // Only a row that is read from can be written over.
+            source: checked.state.read_from(reader.into()).unwrap_or(0),
             writer: writer.into(),
             reader: reader.into(),
             byte: byte.into(),

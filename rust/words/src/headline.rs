@@ -4,6 +4,9 @@ use crate::explain::Shown;
 use crate::names;
 use crate::refusal::is_of_a_row;
 
+/// So many rows of a cycle are named.
+const MOST_ROWS: usize = 6;
+
 /// What a check's answer says.
 pub fn headline(shown: &Shown) -> String {
     match shown {
@@ -23,6 +26,11 @@ pub fn headline(shown: &Shown) -> String {
         Shown::Cycle { rows, .. } if rows.len() == 1 => {
             format!("Impossible: row {} comes before itself", rows[0])
         }
+        Shown::Cycle { rows, .. } if rows.len() > MOST_ROWS => format!(
+            "Impossible: {} rows, row {} the first, come before each other in a circle",
+            rows.len(),
+            rows[0]
+        ),
         Shown::Cycle { rows, .. } => {
             let rows: Vec<String> = rows.iter().map(usize::to_string).collect();
             let rows = names::listed(&rows);
@@ -34,5 +42,30 @@ pub fn headline(shown: &Shown) -> String {
         Shown::Refused { number, .. } => {
             format!("Refused: the header breaks rule of form {number}")
         }
+    }
+}
+
+#[cfg(test)]
+mod tests {
+    use super::*;
+
+    fn cycle(length: usize) -> String {
+        headline(&Shown::Cycle {
+            rows: (2..length + 2).collect(),
+            edges: vec![1; length],
+        })
+    }
+
+    #[test]
+    fn long_cycles_are_counted() {
+        assert_eq!(cycle(1), "Impossible: row 2 comes before itself");
+        assert_eq!(
+            cycle(3),
+            "Impossible: rows 2, 3 and 4 come before each other in a circle"
+        );
+        assert_eq!(
+            cycle(7),
+            "Impossible: 7 rows, row 2 the first, come before each other in a circle"
+        );
     }
 }

@@ -118,7 +118,7 @@ fn linked(text: &str, rows: usize) -> String {
     html
 }
 
-/// The picture, unless the table is refused.
+/// The picture, unless the table is refused or of a version without one.
 fn picture_part(table: &[u8], run: &Run, explanation: &Explanation, is_all: bool) -> String {
     let mut state = State::new();
     state.check(table, WORK_WORDS, CYCLE_NUMBERS);
@@ -127,7 +127,7 @@ fn picture_part(table: &[u8], run: &Run, explanation: &Explanation, is_all: bool
         state: &state,
         run,
     };
-    if explanation.answer.starts_with("refused") {
+    if explanation.answer.starts_with("refused") || !Run::is_known(table) {
         return String::new();
     }
     let svg = picture(checked, &explanation.answer, &explanation.shown, is_all);

@@ -3,8 +3,10 @@
 
 use crate::account::Checked;
 use crate::cure::{Cure, Search};
+use crate::edit::Field;
 use crate::goal::Goal;
 use crate::names::counted;
+use crate::reason::Reason;
 use crate::shader::{glsl, spirv};
 use second::table::Row;
 
@@ -128,31 +130,41 @@ fn cure_lines(checked: Checked, goal: Goal, number: usize, cure: &Cure) -> Vec<S
     lines
 }
 
-/// The rows that the program would have instead, in GLSL and SPIR-V.
+/// What the program would have instead, in GLSL and SPIR-V.
 fn shader_lines(checked: Checked, cure: &Cure) -> Vec<String> {
+    let (mut in_glsl, mut in_spirv) = (Vec::new(), Vec::new());
+    for (name, row) in changed_rows(checked, cure) {
+        in_glsl.push(format!("{name} {}", glsl(row)));
+        in_spirv.push(format!("{name} {}", spirv(row)));
+    }
+    for change in &cure.changes {
+        if let Reason::OtherReference { row, other } = change.reason {
+            in_glsl.push(format!("row {row} by the variable of row {other}"));
+            in_spirv.push(format!("row {row} by the pointer of row {other}"));
+        }
+    }
+    if in_glsl.is_empty() {
+        return Vec::new();
+    }
+    vec![
+        format!("     GLSL: {}", in_glsl.join("; ")),
+        format!("     SPIR-V: {}", in_spirv.join("; ")),
+    ]
+}
+
+/// The rows whose instructions are others then, and the new ones.
+fn changed_rows(checked: Checked, cure: &Cure) -> Vec<(String, Row)> {
     let mut changed: Vec<(String, Row)> = Vec::new();
     for (number, row) in checked.run.rows.iter().enumerate() {
         let edits = cure.edits.iter().filter(|edit| edit.row == number);
-        let edits = edits.filter(|edit| edit.field.is_of_program());
+        // A class goes with a reference, and is no instruction's own.
+        let edits = edits.filter(|edit| edit.field.is_of_program() && edit.field != Field::Class);
         let edited = edits.fold(*row, |row, edit| edit.field.set(row, edit.value));
         if edited != *row {
             changed.push((format!("row {number}"), edited));
         }
     }
-    for insertion in &cure.insertions {
-        changed.push((format!("new row {}", insertion.place), insertion.row));
-    }
-    let told = |words: fn(Row) -> String| {
-        let told = changed
-            .iter()
-            .map(|(name, row)| format!("{name} {}", words(*row)));
-        told.collect::<Vec<_>>().join("; ")
-    };
-    if changed.is_empty() {
-        return Vec::new();
-    }
-    vec![
-        format!("     GLSL: {}", told(glsl)),
-        format!("     SPIR-V: {}", told(spirv)),
-    ]
+    let new = cure.insertions.iter();
+    changed.extend(new.map(|insertion| (format!("new row {}", insertion.place), insertion.row)));
+    changed
 }

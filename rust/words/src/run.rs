@@ -42,6 +42,11 @@ impl Run {
         }
     }
 
+    /// Whether a table's version is one whose layout is known here.
+    pub fn is_known(table: &[u8]) -> bool {
+        matches!(table.get(4), Some(1..=LAST_VERSION))
+    }
+
     /// Whether a version that is known has counted ranks.
     pub fn is_counted_in(version: u8) -> bool {
         (COUNTED..=LAST_VERSION).contains(&version)

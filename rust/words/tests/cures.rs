@@ -247,6 +247,23 @@ fn the_plainest_race_has_its_remedy() {
     }
 }
 
+/// Of two references for one place, the shader's words say which to take.
+#[test]
+fn another_reference_is_another_variable() {
+    let rows = [Row::read(0, INITIAL), Row::write(0).reference(2)];
+    let rows = rows.map(Row::private);
+    let table = Table::of_one_workgroup(1, &rows).bytes();
+    let text = explain(&table, &mut Checker::new()).text();
+    assert!(text.starts_with("race 0 1 0\n"), "{text}");
+    for part in [
+        "edit: row 0 reference 2",
+        "GLSL: row 0 by the variable of row 1",
+        "SPIR-V: row 0 by the pointer of row 1",
+    ] {
+        assert!(text.contains(part), "{text}");
+    }
+}
+
 /// A read of the initial value comes before the write: the other way round
 /// the run would be impossible.
 #[test]

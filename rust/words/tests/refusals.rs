@@ -309,12 +309,16 @@ fn a_length_past_what_is_read_is_told_as_such() {
     let mut long = example("p");
     long.resize(MAX_TABLE_BYTES + 1, 0);
     let text = told(&long, "refused 4 0");
-    assert!(text.contains("more than 2248 bytes"), "{text}");
-    assert!(!text.contains("2249"), "{text}");
+    let more = format!("more than {MAX_TABLE_BYTES} bytes");
+    assert!(text.contains(&more), "{text}");
+    let counted = (MAX_TABLE_BYTES + 1).to_string();
+    assert!(!text.contains(&counted), "{text}");
     long.truncate(MAX_TABLE_BYTES);
     let text = told(&long, "refused 4 0");
     assert!(
-        text.contains("the table has 2248 bytes; agents and rows ask for 84"),
+        text.contains(&format!(
+            "the table has {MAX_TABLE_BYTES} bytes; agents and rows ask for 84"
+        )),
         "{text}"
     );
 }

@@ -22,6 +22,7 @@ const BETWEEN: i32 = 14;
 const LEAST_WIDTH: i32 = 640;
 const LEAST_COLUMN: i32 = 200;
 const NARROW_COLUMN: i32 = 150;
+const NARROW_LETTERS: usize = 20;
 /// More columns than this are narrow.
 const WIDE_COLUMNS: usize = 5;
 /// After so many rows the agents' names are written again.
@@ -166,8 +167,22 @@ fn lines(number: usize, row: Row, is_narrow: bool) -> Vec<String> {
     if !is_narrow {
         return lines;
     }
-    let parts = lines.iter().flat_map(|line| line.split(", "));
-    parts.map(str::to_string).collect()
+    lines.iter().flat_map(|line| broken(line)).collect()
+}
+
+/// A line broken at its commas where it would be too long.
+fn broken(line: &str) -> Vec<String> {
+    let mut lines: Vec<String> = Vec::new();
+    for part in line.split(", ") {
+        match lines.last_mut() {
+            Some(last) if last.chars().count() + part.chars().count() < NARROW_LETTERS => {
+                *last += ", ";
+                *last += part;
+            }
+            _ => lines.push(part.to_string()),
+        }
+    }
+    lines
 }
 
 /// What stands in a row's box.

@@ -68,10 +68,19 @@ impl Matter<'_> {
         }
     }
 
-    /// What might have ordered a racing pair, either way.
+    /// What might have ordered a racing pair, the way that comes nearest.
     fn race(&mut self, goal: Goal) {
-        self.between(goal.first, goal.second);
-        self.between(goal.second, goal.first);
+        let near = self.checked.nearest(goal.first, goal.second, goal.byte);
+        self.between(near.before, near.after);
+    }
+
+    /// A row that a release or an acquire synchronizes with, rather one of
+    /// the racing agents'.
+    fn partner(&self, agents: [u8; 2], test: impl Fn(usize) -> bool) -> Option<usize> {
+        let rows = &self.checked.run.rows;
+        let partners = || (0..rows.len()).filter(|row| test(*row));
+        let near = partners().find(|row| agents.contains(&rows[*row].agent));
+        near.or_else(|| partners().next())
     }
 
     fn between(&mut self, before: usize, after: usize) {
@@ -88,16 +97,16 @@ impl Matter<'_> {
             (releases.collect(), acquires.collect());
         let state = self.checked.state;
         for release in &releases {
-            let met = (0..rows.len()).filter(|row| state.synchronizes_with(*release, *row));
-            self.rows.extend(met.take(NEAR));
+            let met = |row| state.synchronizes_with(*release, row);
+            self.rows.extend(self.partner([agent, other], met));
             // The flag that a fence goes with.
             let flag = (*release..rows.len())
                 .find(|row| rows[*row].agent == agent && rows[*row].is_atomic_writer());
             self.rows.extend(flag);
         }
         for acquire in &acquires {
-            let met = (0..rows.len()).filter(|row| state.synchronizes_with(*row, *acquire));
-            self.rows.extend(met.take(NEAR));
+            let met = |row| state.synchronizes_with(row, *acquire);
+            self.rows.extend(self.partner([agent, other], met));
             let flag = (0..=*acquire)
                 .rfind(|row| rows[*row].agent == other && rows[*row].is_atomic_reader());
             self.rows.extend(flag);

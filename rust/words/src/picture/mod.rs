@@ -39,30 +39,31 @@ pub fn picture(checked: Checked, answer: &str, shown: &Shown, is_all: bool) -> S
         layout.width,
         layout.height + legend::height(&legend, layout.width),
     );
+    let mut svg = head(&headline, answer, &counted(checked, &rows), (width, height));
+    svg += &drawn;
+    svg += &legend::drawn(&legend, &layout);
+    svg + "</svg>\n"
+}
+
+/// The document's beginning: what it is, its colours and the headline.
+fn head(headline: &str, answer: &str, count: &str, (width, height): (i32, i32)) -> String {
+    let [headline, answer, count] = [headline, answer, count].map(escaped);
     let mut svg = format!(
         "<svg xmlns=\"http://www.w3.org/2000/svg\" class=\"run\" role=\"graphics-document\" aria-labelledby=\"run-title run-desc\" width=\"{width}\" height=\"{height}\" viewBox=\"0 0 {width} {height}\">\n"
     );
-    svg += &format!("<title id=\"run-title\">{}</title>\n", escaped(&headline));
-    let count = counted(checked, &rows);
+    svg += &format!("<title id=\"run-title\">{headline}</title>\n");
     svg += &format!(
-        "<desc id=\"run-desc\">Agents are columns, rows stand below each other in the table&#39;s order, arrows go from row to row. {}. The answer: {}.</desc>\n",
-        escaped(&count),
-        escaped(answer)
+        "<desc id=\"run-desc\">Agents are columns, rows stand below each other in the table&#39;s order, arrows go from row to row. {count}. The answer: {answer}.</desc>\n"
     );
     svg += &format!("<style>\n{}</style>\n", style::SHEET);
     svg += &style::markers();
     svg += &format!("<rect class=\"ground\" width=\"{width}\" height=\"{height}\"/>\n");
     svg += &format!(
-        "<text class=\"verdict\" x=\"{EDGE}\" y=\"{}\">{}</text>\n<text class=\"answer\" x=\"{EDGE}\" y=\"{}\">{}. {}.</text>\n",
+        "<text class=\"verdict\" x=\"{EDGE}\" y=\"{}\">{headline}</text>\n<text class=\"answer\" x=\"{EDGE}\" y=\"{}\">{answer}. {count}.</text>\n",
         TOP - 80,
-        escaped(&headline),
-        TOP - 62,
-        escaped(answer),
-        escaped(&count)
+        TOP - 62
     );
-    svg += &drawn;
-    svg += &legend::drawn(&legend, &layout);
-    svg + "</svg>\n"
+    svg
 }
 
 /// How many rows there are, and how many of them are drawn.

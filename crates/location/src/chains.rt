@@ -29,11 +29,11 @@ const AFTER: usize = 2;
 // Places of a row's agent and flags, and the flags that make available and visible.
 const AGENT: u8 = 1;
 
-const FLAGS: u8 = 5;
+pub const FLAGS: u8 = 5;
 
-const AVAILABLE: u8 = 2;
+pub const AVAILABLE: u8 = 2;
 
-const VISIBLE: u8 = 4;
+pub const VISIBLE: u8 = 4;
 
 // ---- an element
 
@@ -171,6 +171,7 @@ fn starts_with(
     seen_at(rows, p, mode, n, x, y, r, q, i, s, j, w)
 }
 
+// Some visibility chain of more than one element that ends with row v shows it.
 fn some_start(
     rows: &[u8],
     p: Places,
@@ -346,6 +347,7 @@ fn ends_with(
     ends_at(rows, p, mode, n, x, y, r, q, b, c, s, w)
 }
 
+// Some availability chain of more than one element that begins with row a makes available what y meets.
 fn some_end(
     rows: &[u8],
     p: Places,

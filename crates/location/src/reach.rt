@@ -17,13 +17,6 @@ use model::Mode;
 use model::Places;
 use model::Row;
 
-// The place of a row's flags, and the flags that make available and visible.
-const FLAGS: u8 = 5;
-
-const AVAILABLE: u8 = 2;
-
-const VISIBLE: u8 = 4;
-
 // ---- one step
 
 // Whether row i has a flag of these.
@@ -31,7 +24,7 @@ fn has_flag(rows: &[u8], i: usize, flags: u8) -> bool
     requires { ⌜ i < ROWS ⌝ }
     ensures { λ d. ⌜ d ≡ meets (byteOf (now (rows .entry)) i 5) flags ⌝ }
 {
-    rows::kinds::meets(rows::bytes::row_byte(rows, i as u16, FLAGS), flags)
+    rows::kinds::meets(rows::bytes::row_byte(rows, i as u16, chains::FLAGS), flags)
 }
 
 // Whether u has a broader scope than s, and is performed in the instance of s's scope.
@@ -46,7 +39,7 @@ fn broadens_at(rows: &[u8], p: Places, mode: Mode, n: usize, a: usize, c: usize,
     requires { ⌜ (n ≤ ROWS) × (a < n) × (c < n) × (WORK ≤ length (now w)) × Ordered (decode (now rows) p mode n) n (now w) ⌝ }
     ensures { λ d. ⌜ d ≡ broadens (decode (now (rows .entry)) p mode n) a c ⌝ }
 {
-    if !has_flag(rows, c, AVAILABLE) {
+    if !has_flag(rows, c, chains::AVAILABLE) {
         return false;
     }
     let s = rows::bytes::read_row(rows, a as u16);
@@ -63,7 +56,7 @@ fn narrows_at(rows: &[u8], p: Places, mode: Mode, n: usize, j: usize, v: usize, 
     requires { ⌜ (n ≤ ROWS) × (j < n) × (v < n) × (WORK ≤ length (now w)) × Ordered (decode (now rows) p mode n) n (now w) ⌝ }
     ensures { λ d. ⌜ d ≡ narrows (decode (now (rows .entry)) p mode n) j v ⌝ }
 {
-    if !has_flag(rows, j, VISIBLE) {
+    if !has_flag(rows, j, chains::VISIBLE) {
         return false;
     }
     let u = rows::bytes::read_row(rows, j as u16);
@@ -77,6 +70,7 @@ fn narrows_at(rows: &[u8], p: Places, mode: Mode, n: usize, j: usize, v: usize, 
 
 // ---- all steps
 
+// The steps of availability chains, from an element to the next.
 fn fill_out(rows: &[u8], p: Places, mode: Mode, n: usize, w: &mut [u64])
     requires { ⌜ (n ≤ ROWS) × (WORK ≤ length (now w)) × Ordered (decode (now rows) p mode n) n (now w) ⌝ }
     ensures { λ _. ⌜ Made REACH-OUT REACH-OUT-END REACH-OUT GRID n (broadens (decode (now (rows .entry)) p mode n)) (now (w .entry)) (now (w .exit)) ⌝ }
@@ -90,6 +84,7 @@ fn fill_out(rows: &[u8], p: Places, mode: Mode, n: usize, w: &mut [u64])
     }
 }
 
+// The steps of visibility chains.
 fn fill_in(rows: &[u8], p: Places, mode: Mode, n: usize, w: &mut [u64])
     requires { ⌜ (n ≤ ROWS) × (WORK ≤ length (now w)) × Ordered (decode (now rows) p mode n) n (now w) ⌝ }
     ensures { λ _. ⌜ Made REACH-IN REACH-IN-END REACH-IN GRID n (narrows (decode (now (rows .entry)) p mode n)) (now (w .entry)) (now (w .exit)) ⌝ }
@@ -105,6 +100,7 @@ fn fill_in(rows: &[u8], p: Places, mode: Mode, n: usize, w: &mut [u64])
 
 // ---- chains of steps
 
+// From the first element of an availability chain to its last.
 fn reach_out(rows: &[u8], p: Places, mode: Mode, n: usize, w: &mut [u64])
     requires { ⌜ (n ≤ ROWS) × (WORK ≤ length (now w)) × Ordered (decode (now rows) p mode n) n (now w) ⌝ }
     ensures { λ _. ⌜ Made REACH-OUT REACH-OUT-END REACH-OUT GRID n (through (broadens (decode (now (rows .entry)) p mode n)) n) (now (w .entry)) (now (w .exit)) ⌝ }
@@ -113,6 +109,7 @@ fn reach_out(rows: &[u8], p: Places, mode: Mode, n: usize, w: &mut [u64])
     bits::close(w, area::REACH_OUT, n, area::GRID);
 }
 
+// From the first element of a visibility chain to its last.
 fn reach_in(rows: &[u8], p: Places, mode: Mode, n: usize, w: &mut [u64])
     requires { ⌜ (n ≤ ROWS) × (WORK ≤ length (now w)) × Ordered (decode (now rows) p mode n) n (now w) ⌝ }
     ensures { λ _. ⌜ Made REACH-IN REACH-IN-END REACH-IN GRID n (through (narrows (decode (now (rows .entry)) p mode n)) n) (now (w .entry)) (now (w .exit)) ⌝ }

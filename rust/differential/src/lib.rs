@@ -17,7 +17,7 @@ pub use tally::Tally;
 
 use second::table::WITH_HOSTS;
 use second::{Chains, CheckAnswer, FillAnswer, State};
-use stramashly::{check_in, fill_in, Packed, CYCLE_NUMBERS, SOURCE_NUMBERS, WORK_WORDS};
+use stramashly::{check_with, fill_with, Packed, CYCLE_NUMBERS, SOURCE_NUMBERS, WORK_WORDS};
 use tables::{hex, Random};
 pub use tables::{LIBRARY_HAS_CHAINS, LIBRARY_HAS_HOSTS};
 
@@ -112,7 +112,12 @@ impl Comparison {
         let at = self.prepare(table, lengths);
         let expected = expected::of_check(&answer, &mut self.expected);
         let lent = &self.around[at..at + table.len()];
-        let packed = check_in(lent, &mut self.ours.work, &mut self.ours.numbers);
+        let packed = check_with(
+            chains == Chains::On,
+            lent,
+            &mut self.ours.work,
+            &mut self.ours.numbers,
+        );
         let words = || format!("check {} {chains:?}", hex(table));
         self.compare(words, lengths, packed, expected)?;
         Ok(answer)
@@ -132,7 +137,12 @@ impl Comparison {
         let expected = expected::of_fill(&answer, &mut self.expected);
         if let Some(expected) = expected.filter(|_| is_compared(chains, table)) {
             let lent = &self.around[at..at + table.len()];
-            let packed = fill_in(lent, &mut self.ours.work, &mut self.ours.numbers);
+            let packed = fill_with(
+                chains == Chains::On,
+                lent,
+                &mut self.ours.work,
+                &mut self.ours.numbers,
+            );
             let words = || format!("fill {} {chains:?}", hex(table));
             self.compare(words, lengths, packed, expected)?;
         }

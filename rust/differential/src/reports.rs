@@ -3,7 +3,7 @@
 
 use crate::{expected, is_compared, Comparison, Difference, Lengths};
 use second::{Chains, Counts, ReportAnswer};
-use stramashly::{report_in, share_of, CYCLE_NUMBERS};
+use stramashly::{report_with, share_of, CYCLE_NUMBERS};
 use tables::hex;
 
 impl Comparison {
@@ -37,7 +37,12 @@ impl Comparison {
         let at = self.prepare(table, lengths);
         let expected = expected::of_report(&answer, &mut self.expected);
         let lent = &self.around[at..at + table.len()];
-        let packed = report_in(lent, &mut self.ours.work, &mut self.ours.numbers);
+        let packed = report_with(
+            chains == Chains::On,
+            lent,
+            &mut self.ours.work,
+            &mut self.ours.numbers,
+        );
         let words = || format!("report {} {chains:?}", hex(table));
         self.compare(words, lengths, packed, expected)?;
         match answer {

@@ -2,7 +2,7 @@
 
 use crate::answer::{CheckAnswer, Code, FillAnswer, Packed};
 use crate::derivation::{AcceptsAnswer, Derivation, DeriveAnswer};
-use crate::engine::{accepts_in, check_in, derive_in, fill_in, report_in, share_of};
+use crate::engine::{accepts_in, check_with, derive_in, fill_with, report_with, share_of};
 use crate::report::{Report, ReportAnswer, Share};
 use crate::{CHAIN_NUMBERS, CYCLE_EDGES, CYCLE_NUMBERS, PROGRAM_ORDER, SOURCE_NUMBERS, WORK_WORDS};
 
@@ -11,6 +11,7 @@ use crate::{CHAIN_NUMBERS, CYCLE_EDGES, CYCLE_NUMBERS, PROGRAM_ORDER, SOURCE_NUM
 /// Each function panics only where the linked archive isn't the one that the
 /// header describes: its answer has a code that the function doesn't give.
 pub struct Checker {
+    chains: bool,
     work: Box<[u64; WORK_WORDS]>,
     cycle: [u16; CYCLE_NUMBERS],
     sources: [u16; SOURCE_NUMBERS],
@@ -24,8 +25,10 @@ impl Default for Checker {
 }
 
 impl Checker {
+    /// A checker for devices without chains.
     pub fn new() -> Checker {
         Checker {
+            chains: false,
             work: Box::new([0; WORK_WORDS]),
             cycle: [0; CYCLE_NUMBERS],
             sources: [0; SOURCE_NUMBERS],
@@ -33,15 +36,22 @@ impl Checker {
         }
     }
 
+    /// The same checker for devices that report the feature
+    /// vulkanMemoryModelAvailabilityVisibilityChains, or for those that don't.
+    /// Derivations don't depend on it.
+    pub fn with_chains(self, chains: bool) -> Checker {
+        Checker { chains, ..self }
+    }
+
     /// Checks a table, whatever its bytes.
     pub fn check(&mut self, table: &[u8]) -> CheckAnswer<'_> {
-        let packed = check_in(table, &mut self.work[..], &mut self.cycle);
+        let packed = check_with(self.chains, table, &mut self.work[..], &mut self.cycle);
         self.checked(packed)
     }
 
     /// Counts a table's conflicting pairs, whatever its bytes.
     pub fn report(&mut self, table: &[u8]) -> ReportAnswer<'_> {
-        let packed = report_in(table, &mut self.work[..], &mut self.cycle);
+        let packed = report_with(self.chains, table, &mut self.work[..], &mut self.cycle);
         match packed.code() {
             Some(Code::Report) => ReportAnswer::Report(reported(packed)),
             Some(Code::Overwritten | Code::Cycle | Code::Refused) => {
@@ -77,7 +87,7 @@ impl Checker {
 
     /// Fills a table's blanks, whatever its bytes.
     pub fn fill(&mut self, table: &[u8]) -> FillAnswer<'_> {
-        let packed = fill_in(table, &mut self.work[..], &mut self.sources);
+        let packed = fill_with(self.chains, table, &mut self.work[..], &mut self.sources);
         let (a, b, c) = (packed.a(), packed.b(), packed.c());
         match packed.code() {
             Some(Code::Filled) => FillAnswer::Filled(&self.sources[..usize::from(a)]),

@@ -40,6 +40,9 @@
 //! assert_eq!(checker.report(&empty_table).to_string(), "report 0 0 0 0 no-share");
 //! ```
 //!
+//! On a device that reports the feature
+//! vulkanMemoryModelAvailabilityVisibilityChains, `Checker::new().with_chains(true)`.
+//!
 //! [`check_in`], [`fill_in`], [`derive_in`] and [`report_in`] take lent buffers
 //! instead, of any length, and give the packed answer as it comes, and so does
 //! [`accepts_in`], which needs none.
@@ -53,7 +56,10 @@ mod report;
 pub use answer::{CheckAnswer, Code, FillAnswer, Packed};
 pub use checker::Checker;
 pub use derivation::{AcceptsAnswer, Derivation, DeriveAnswer};
-pub use engine::{accepts_in, check_in, derive_in, fill_in, report_in, share_of};
+pub use engine::{
+    accepts_in, check_in, check_with, derive_in, fill_in, fill_with, report_in, report_with,
+    share_of,
+};
 pub use report::{Report, ReportAnswer, Share};
 
 /// Source number for the initial value.

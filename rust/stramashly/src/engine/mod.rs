@@ -5,7 +5,7 @@ mod derivation;
 mod report;
 
 pub use derivation::{accepts_in, derive_in};
-pub use report::{report_in, share_of};
+pub use report::{report_in, report_with, share_of};
 
 use crate::answer::Packed;
 
@@ -14,6 +14,7 @@ mod linked {
         pub fn stramashly_check(
             table: *const u8,
             table_len: usize,
+            chains: u8,
             work: *mut u64,
             work_len: usize,
             cycle: *mut u16,
@@ -23,6 +24,7 @@ mod linked {
         pub fn stramashly_fill(
             table: *const u8,
             table_len: usize,
+            chains: u8,
             work: *mut u64,
             work_len: usize,
             sources: *mut u16,
@@ -31,14 +33,21 @@ mod linked {
     }
 }
 
-/// Checks a table in lent buffers of any length; too short ones are refusal 11.
+/// Checks a table in lent buffers of any length, without chains; too short
+/// ones are refusal 11.
 pub fn check_in(table: &[u8], work: &mut [u64], cycle: &mut [u16]) -> Packed {
+    check_with(false, table, work, cycle)
+}
+
+/// Checks a table of a device that has chains or not, in lent buffers.
+pub fn check_with(chains: bool, table: &[u8], work: &mut [u64], cycle: &mut [u16]) -> Packed {
     // Sound: each pointer goes with its slice's length, and slices that are
     // borrowed for writing overlap no other.
     let answer = unsafe {
         linked::stramashly_check(
             table.as_ptr(),
             table.len(),
+            u8::from(chains),
             work.as_mut_ptr(),
             work.len(),
             cycle.as_mut_ptr(),
@@ -48,13 +57,20 @@ pub fn check_in(table: &[u8], work: &mut [u64], cycle: &mut [u16]) -> Packed {
     Packed(answer)
 }
 
-/// Fills a table in lent buffers of any length; too short ones are refusal 11.
+/// Fills a table in lent buffers of any length, without chains; too short
+/// ones are refusal 11.
 pub fn fill_in(table: &[u8], work: &mut [u64], sources: &mut [u16]) -> Packed {
+    fill_with(false, table, work, sources)
+}
+
+/// Fills a table of a device that has chains or not, in lent buffers.
+pub fn fill_with(chains: bool, table: &[u8], work: &mut [u64], sources: &mut [u16]) -> Packed {
     // Sound as in `check_in`.
     let answer = unsafe {
         linked::stramashly_fill(
             table.as_ptr(),
             table.len(),
+            u8::from(chains),
             work.as_mut_ptr(),
             work.len(),
             sources.as_mut_ptr(),

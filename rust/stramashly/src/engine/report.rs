@@ -7,6 +7,7 @@ mod linked {
         pub fn stramashly_report(
             table: *const u8,
             table_len: usize,
+            chains: u8,
             work: *mut u64,
             work_len: usize,
             cycle: *mut u16,
@@ -17,14 +18,20 @@ mod linked {
     }
 }
 
-/// Counts a table's conflicting pairs in lent buffers of any length; too
-/// short ones are refusal 11.
+/// Counts a table's conflicting pairs in lent buffers of any length, without
+/// chains; too short ones are refusal 11.
 pub fn report_in(table: &[u8], work: &mut [u64], cycle: &mut [u16]) -> Packed {
+    report_with(false, table, work, cycle)
+}
+
+/// Counts the conflicting pairs of a table of a device that has chains or not.
+pub fn report_with(chains: bool, table: &[u8], work: &mut [u64], cycle: &mut [u16]) -> Packed {
     // Sound as in `check_in`.
     let answer = unsafe {
         linked::stramashly_report(
             table.as_ptr(),
             table.len(),
+            u8::from(chains),
             work.as_mut_ptr(),
             work.len(),
             cycle.as_mut_ptr(),

@@ -1,6 +1,6 @@
 // A line of the input: a word and the hex digits of a table. The bytes of the digits are put into a lent table as they come.
 
-// The longest table has 1128 bytes. Digits past the end of the lent bytes are dropped: what is left is still too long.
+// The longest table has 2570 bytes. Digits past the end of the lent bytes are dropped: what is left is still too long.
 const MOST_DIGITS: u16 = 8192;
 
 const NO_DIGIT: u8 = 16;

@@ -13,7 +13,7 @@ use Rattle.model.specs.declared.Admission.the-variants.{Admitted, Refused}
 use Rattle.model.specs.Limits.{DEPENDENCIES}
 use Rattle.model.specs.Row.{ranked, operation}
 use Rattle.model.specs.Scope.{agentKind}
-use Rattle.model.specs.Table.{OFF, rowOf, modeOf, decode, sourceOf, agentsAt, rowsAt, hasHosts, rowBytes, dependencyBytes, pairAt, dependencyCount, placesOf, tableOf, sourcesOf}
+use Rattle.model.specs.Table.{OFF, rowOf, modeOf, decode, sourceOf, agentsAt, rowsAt, hasHosts, rowBytes, dependencyBytes, pairAt, dependencyCount, placesOf, tableUnder, tableOf, sourcesOf}
 use Rattle.model.specs.Refusal.{otherClassAt, classTaken, writerFits, sourceFits, sourceBroken, sameRankAt, rankTaken, apartAt, instanceBroken, outsideAt, begins, unfit}
 use Rattle.model.specs.Refusal.{kindOver, agentsKnown, dependenciesFew, namesNone, dependenciesNamed, hostsFault, codesFit, agentFits, operationFits, kindFits, extentFits, formFault, rowFault, tableFault, faulty, firstFault, rowFaultAt}
 use Rattle.model.specs.Refusal.{headerFault, admission}
@@ -157,5 +157,5 @@ module _ (blanks : Bool) (s : List ℕ) (h : ℕ) (e : h ≡ headerFault s) wher
   header-refused f = rw (← e, ne-eqb h 0 f) refl
 
   pub header-passed : h ≡ 0 → admission blanks s ≡ rowsAdmission blanks (hasHosts s) (agentsAt s) (rowBytes s) (placesOf s) (modeOf false s) (rowsAt s)
-  unfolding admission tableOf sourcesOf rowFaultAt rowsAdmission rowFaultIn
+  unfolding admission tableOf tableUnder sourcesOf rowFaultAt rowsAdmission rowFaultIn
   header-passed f = rw (← e, eq-eqb h 0 f) refl

@@ -12,21 +12,12 @@ mod reports;
 mod tally;
 
 pub use claim::Claim;
-pub use reasons::{Derived, Moments, Probed, LIBRARY_MEETS_ALONE};
+pub use reasons::{Derived, Moments, Probed};
 pub use tally::Tally;
 
-use second::table::WITH_HOSTS;
 use second::{Chains, CheckAnswer, FillAnswer, State};
 use stramashly::{check_with, fill_with, Packed, CYCLE_NUMBERS, SOURCE_NUMBERS, WORK_WORDS};
 use tables::{hex, Random};
-pub use tables::{LIBRARY_HAS_CHAINS, LIBRARY_HAS_HOSTS};
-
-/// Until the library knows version 3, its answers to such tables aren't
-/// compared; and until it takes the switch for chains, no answers with it on.
-fn is_compared(chains: Chains, table: &[u8]) -> bool {
-    (LIBRARY_HAS_HOSTS || table.get(4) != Some(&WITH_HOSTS))
-        && (LIBRARY_HAS_CHAINS || chains == Chains::Off)
-}
 
 /// Lengths of the work area and of the cycle or source buffer.
 #[derive(Clone, Copy, Debug)]
@@ -106,9 +97,6 @@ impl Comparison {
     ) -> Result<CheckAnswer, Difference> {
         let Lengths { work, numbers } = lengths;
         let answer = self.state.check_with(chains, table, work, numbers);
-        if !is_compared(chains, table) {
-            return Ok(answer);
-        }
         let at = self.prepare(table, lengths);
         let expected = expected::of_check(&answer, &mut self.expected);
         let lent = &self.around[at..at + table.len()];
@@ -135,7 +123,7 @@ impl Comparison {
         let answer = self.state.fill_with(chains, table, work, numbers);
         let at = self.prepare(table, lengths);
         let expected = expected::of_fill(&answer, &mut self.expected);
-        if let Some(expected) = expected.filter(|_| is_compared(chains, table)) {
+        if let Some(expected) = expected {
             let lent = &self.around[at..at + table.len()];
             let packed = fill_with(
                 chains == Chains::On,

@@ -3,17 +3,10 @@
 //! that anybody wrote are read by both.
 
 use crate::claim::Claim;
-use crate::{is_compared, Comparison, Difference, Lengths};
-use second::{AcceptsAnswer, Chains, SYNCHRONIZES_STEP};
-use stramashly::{
-    accepts_in, derive_in, Code, Packed, CHAIN_NUMBERS, PROGRAM_ORDER, STEP_CASE, WORK_WORDS,
-};
+use crate::{Comparison, Difference, Lengths};
+use second::AcceptsAnswer;
+use stramashly::{accepts_in, derive_in, Code, Packed, CHAIN_NUMBERS, PROGRAM_ORDER, WORK_WORDS};
 use tables::hex;
-
-/// The library takes one row of a control barrier for both of the two that
-/// meet, where the barriers around it are of one agent. Only the steps of a
-/// derivation depend on it: program order holds there already.
-pub const LIBRARY_MEETS_ALONE: bool = true;
 
 /// One table whose moments are asked about.
 pub struct Moments<'a> {
@@ -32,14 +25,9 @@ pub struct Probed {
 /// What was found of two moments; both agree.
 #[derive(Clone, Debug, PartialEq, Eq)]
 pub enum Derived {
-    Refused {
-        number: u8,
-        row: u16,
-    },
+    Refused { number: u8, row: u16 },
     NotBefore,
     Found(Claim),
-    /// The library doesn't know such tables.
-    NotCompared,
 }
 
 impl Comparison {
@@ -104,9 +92,6 @@ impl Moments<'_> {
         second: u16,
         lengths: Lengths,
     ) -> Result<Derived, Difference> {
-        if !is_compared(Chains::Off, self.table) {
-            return Ok(Derived::NotCompared);
-        }
         let at = self.comparison.prepare(self.table, lengths);
         let Comparison { around, ours, .. } = self.comparison;
         let lent = &around[at..at + self.table.len()];
@@ -117,8 +102,7 @@ impl Moments<'_> {
         self.comparison.compare(words, lengths, packed, expected)?;
         if let Derived::Found(claim) = &derived {
             let answer = self.read(first, second, claim)?;
-            let is_alone = LIBRARY_MEETS_ALONE && self.is_met_alone(first, claim);
-            if answer != AcceptsAnswer::Accepted && !is_alone {
+            if answer != AcceptsAnswer::Accepted {
                 return Err(Difference(format!("{claim:?}: {answer}\n{}", words())));
             }
         }
@@ -192,37 +176,14 @@ impl Moments<'_> {
             AcceptsAnswer::Accepted => Packed::new(Code::Accepted, 0, 0, 0),
             AcceptsAnswer::NotAccepted => Packed::new(Code::NotAccepted, 0, 0, 0),
         };
-        if !is_compared(Chains::Off, self.table) {
-            return Ok(answer);
-        }
         let packed = self.read_by_the_library(first, second, claim);
-        if packed == expected || (LIBRARY_MEETS_ALONE && self.is_met_alone(first, claim)) {
+        if packed == expected {
             return Ok(answer);
         }
         let digits = hex(self.table);
         Err(Difference(format!(
             "{packed:?} instead of {expected:?}\naccepts {digits} {first} {second} {claim:?}"
         )))
-    }
-
-    /// Whether a chain has a step by synchronizes-with between barriers of one
-    /// agent with nothing but a control barrier of that agent between them.
-    fn is_met_alone(&self, first: u16, claim: &Claim) -> bool {
-        let state = &self.comparison.state;
-        let rows = state.rows();
-        let row_of = |number: u16| usize::from(number % STEP_CASE / 3);
-        let froms = std::iter::once(first).chain(claim.steps.iter().copied());
-        froms.zip(&claim.steps).any(|(from, to)| {
-            let (a, b) = (row_of(from), row_of(*to));
-            let Some(between) = rows.get(a..=b) else {
-                return false;
-            };
-            to / STEP_CASE == u16::from(SYNCHRONIZES_STEP)
-                && rows[a].agent == rows[b].agent
-                && between
-                    .iter()
-                    .any(|row| row.is_control_barrier() && row.agent == rows[a].agent)
-        })
     }
 
     /// Table and steps lie among random bytes and numbers.

@@ -1,7 +1,7 @@
 //! Compares reports: the counts, every number of the lent buffers, and the
 //! share.
 
-use crate::{expected, is_compared, Comparison, Difference, Lengths};
+use crate::{expected, Comparison, Difference, Lengths};
 use second::{Chains, Counts, ReportAnswer};
 use stramashly::{report_with, share_of, CYCLE_NUMBERS};
 use tables::hex;
@@ -31,9 +31,6 @@ impl Comparison {
     ) -> Result<ReportAnswer, Difference> {
         let Lengths { work, numbers } = lengths;
         let answer = self.state.report_with(chains, table, work, numbers);
-        if !is_compared(chains, table) {
-            return Ok(answer);
-        }
         let at = self.prepare(table, lengths);
         let expected = expected::of_report(&answer, &mut self.expected);
         let lent = &self.around[at..at + table.len()];

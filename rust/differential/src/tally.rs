@@ -59,7 +59,6 @@ impl Tally {
             }
             Derived::Found(_) => self.count("derive chain"),
             Derived::NotBefore => self.count("derive not before"),
-            Derived::NotCompared => self.count("derive not compared"),
             Derived::Refused { number, row } => self.refusal("derive", number, row),
         }
         for (_, answer) in &probed.read {

@@ -2,7 +2,7 @@
 //! library knows them; until then the second implementation answers alone,
 //! and what the tables reach is seen all the same.
 
-use differential::{Comparison, Derived, Tally, LIBRARY_HAS_HOSTS};
+use differential::{Comparison, Derived, Tally};
 use stramashly::Checker;
 use tables::{damaged_hosted, hosted, hosted_fillable, moved, Random, Size};
 
@@ -159,7 +159,7 @@ fn every_pair_of_moments_of_small_tables() {
             }
         }
     }
-    assert!(!LIBRARY_HAS_HOSTS || by_system > 300, "{by_system}");
+    assert!(by_system > 300, "{by_system}");
 }
 
 /// Dependencies go with their rows.

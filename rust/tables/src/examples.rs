@@ -3,7 +3,6 @@
 use crate::builder::classes::{IMAGE, UNIFORM, WORKGROUP};
 use crate::builder::flags::{MAKE_AVAILABLE, MAKE_VISIBLE};
 use crate::builder::{kind, order, scope, sort, Row, Table, BLANK, INITIAL};
-use crate::LIBRARY_HAS_HOSTS;
 
 /// A file's name without its ending, and its bytes.
 pub struct Example {
@@ -27,7 +26,7 @@ pub fn examples() -> Vec<Example> {
         .chain(inconsistent())
         .chain(fills())
         .chain(forms())
-        .chain(hosts().into_iter().filter(|_| LIBRARY_HAS_HOSTS));
+        .chain(hosts());
     let mut examples: Vec<Example> = tables
         .map(|(name, table)| Example {
             name,

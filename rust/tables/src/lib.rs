@@ -24,10 +24,3 @@ pub use hosted_damage::damaged_hosted;
 pub use litmus::{litmus, Litmus};
 pub use moved::{moved, Moved};
 pub use random::Random;
-
-/// Whether the proved library knows version 3. Until it does, there are no
-/// examples of that version, and nobody compares them.
-pub const LIBRARY_HAS_HOSTS: bool = true;
-/// Whether the proved library takes the switch for chains. Until it does, its
-/// answers with chains on aren't compared.
-pub const LIBRARY_HAS_CHAINS: bool = true;

@@ -1,6 +1,6 @@
 //! A long comparison: `soak SEED COUNT` compares so many generated tables.
 
-use differential::{Comparison, Difference, Tally, LIBRARY_HAS_CHAINS, LIBRARY_HAS_HOSTS};
+use differential::{Comparison, Difference, Tally};
 use second::Chains;
 use std::env;
 use std::io::{self, IsTerminal, Write};
@@ -61,14 +61,14 @@ fn compare_one(
 ) -> Result<(), Difference> {
     let size = size(random);
     let (bytes, is_check) = match random.below(6) {
-        _ if LIBRARY_HAS_HOSTS && random.percent(30) => hosted_table(random, size),
+        _ if random.percent(30) => hosted_table(random, size),
         0..=2 if random.percent(15) => (chained(random, size).bytes(), true),
         0..=2 => (checkable(random, size).bytes(), true),
         3 | 4 if random.percent(15) => (chained_fillable(random, size).bytes(), false),
         3 | 4 => (fillable(random, size).bytes(), false),
         _ => (damaged(random, size), random.percent(50)),
     };
-    let chains = if LIBRARY_HAS_CHAINS && random.percent(40) {
+    let chains = if random.percent(40) {
         Chains::On
     } else {
         Chains::Off

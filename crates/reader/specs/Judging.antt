@@ -83,9 +83,12 @@ module _ (b : List ℕ) (p : List (List ℕ)) (mode : Mode) (n : ℕ) where
   unfolding moment momentIn decode
   moment-low m e = let l : m / 3 < n = ltb-true (m / 3) n (split e .0) in omega arith
 
-  -- the first of two moments that are there
+  -- the first of two moments that are there, and the second
   pub first-low : (m k : ℕ) (x y : Bool) → x ≡ moment (decode b p mode n) m → not (x and y and not (eqb m k)) ≡ false → m < 3 * n
   first-low m k x y e f = moment-low m (sym e ∙ split (split (not-false (x and y and not (eqb m k)) f) .0) .0)
+
+  pub second-low : (m k : ℕ) (x y : Bool) → y ≡ moment (decode b p mode n) k → not (x and y and not (eqb m k)) ≡ false → k < 3 * n
+  second-low m k x y e f = moment-low k (sym e ∙ split (split (not-false (x and y and not (eqb m k)) f) .0) .1)
 
   module _ (s : ℕ) where
     pub step-off : (m x : ℕ) → moment (decode b p mode n) (x % CASE) ≡ false → false ≡ stepHolds (decode b p mode n) s m x

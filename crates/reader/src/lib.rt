@@ -108,7 +108,7 @@ fn is_accepted(
     why: Reason,
     steps: &[u16],
 ) -> bool
-    requires { ⌜ (n ≤ ROWS) × (m < 3 * n) ⌝ }
+    requires { ⌜ (n ≤ ROWS) × (m < 3 * n) × (k < 3 * n) ⌝ }
     ensures { λ b. ⌜ b ≡ accepts (decode (now (rows .entry)) p mode n) m k why (now (steps .entry)) ⌝ }
 {
     let count = steps.len();

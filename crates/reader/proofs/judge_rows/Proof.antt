@@ -1,5 +1,5 @@
 use Rattle.finite.specs.Logic.{_and_}
-use Rattle.reader.specs.Judging.{few, first-low, judged-absent, judged-accepted, judged-other}
+use Rattle.reader.specs.Judging.{few, first-low, second-low, judged-absent, judged-accepted, judged-other}
 use borrow.Author.Needs.{needs}
 use Rattle.reader.proofs.judge_rows.Statement.{statement}
 use Rattle.reader.proofs.judge_rows.Tie as tie
@@ -46,8 +46,9 @@ unfolding _and_
 is-accepted-requires c κs =
     let there = c .before in
     let read = there .before .before in
-    let pre = read .before .before .before .before .before .pre in
-    (few (pre .1) _ _ _ _ (read .before .row-bytes .ensures) (read .read-places .ensures) (read .before .before .read-mode .ensures) (pre .0), first-low _ _ _ _ _ _ _ _ (there .before .is-there .ensures) (c .if1 .left))
+    let start = read .before .before .before .before .before in
+    let pre = start .pre in
+    (few (pre .1) _ _ _ _ (read .before .row-bytes .ensures) (read .read-places .ensures) (read .before .before .read-mode .ensures) (pre .0), first-low _ _ _ _ _ _ _ _ (there .before .is-there .ensures) (c .if1 .left), second-low _ _ _ _ (start .args .m) _ (there .before .is-there .result) _ (there .is-there2 .ensures) (c .if1 .left))
 
 -- src/lib.rt:100:9
 returns-2 : tie.Need-returns-2

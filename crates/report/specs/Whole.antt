@@ -1,7 +1,7 @@
 -- What the calls of a report come to, from the bytes of a table: its answer goes with a check's, and both buffers end as a check leaves
 -- them. Assumes nothing.
 use mathlib.Core.Path.{_≡_, refl, sym, ap, ap₂, _∙_}
-use mathlib.Core.Bool.{false}
+use mathlib.Core.Bool.{Bool, false}
 use mathlib.Core.List.{List}
 use Prim.Native.Nat.{ℕ, _≤_, _<_}
 use lib.ListN.{length}

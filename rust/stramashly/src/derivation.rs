@@ -5,8 +5,8 @@ use crate::PROGRAM_ORDER;
 use std::fmt;
 
 /// Why a moment happens before another. A moment is 3 × its row + 0, 1 or 2
-/// for before, at or after; a step is 512 × its case (1 to 3 in M6's order) +
-/// the moment that it reaches.
+/// for before, at or after; a step is 512 × its case (1 to 3 in M6's order, 4
+/// for a dependency) + the moment that it reaches.
 #[derive(Clone, Copy, Debug, PartialEq, Eq)]
 pub enum Derivation<'a> {
     /// The word program order.

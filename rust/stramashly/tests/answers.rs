@@ -41,6 +41,23 @@ fn checks_of_each_verdict() {
 }
 
 #[test]
+fn chains_are_off_unless_asked_for() {
+    let table = example("chain-available");
+    let race = CheckAnswer::Race {
+        first: 0,
+        second: 5,
+        byte: 0,
+    };
+    assert_eq!(Checker::new().check(&table), race);
+    let mut on = Checker::new().with_chains(true);
+    assert_eq!(on.check(&table), CheckAnswer::RaceFree);
+    assert!(matches!(on.fill(&table), FillAnswer::Filled(_)));
+    assert_eq!(on.report(&table).to_string(), "report 3 2 1 0 0.0");
+    assert_eq!(on.check(&example("chain-apart")).to_string(), "race 0 5 0");
+    assert_eq!(on.with_chains(false).check(&table), race);
+}
+
+#[test]
 fn fills_of_each_answer() {
     let mut checker = Checker::new();
     assert_eq!(

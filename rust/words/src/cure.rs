@@ -10,6 +10,7 @@ use crate::change::Change;
 use crate::edit::{edited, merged, Edit, Field};
 use crate::goal::Goal;
 use crate::insertion::{stepped, Insertion, Step};
+use crate::judge::Judge;
 use crate::reason::Reason;
 use crate::reduction::Reduction;
 use crate::remedy::{remedies, Remedy};
@@ -18,7 +19,7 @@ use second::table::*;
 use second::{State, CYCLE_NUMBERS, WORK_WORDS};
 use std::cmp::Ordering;
 use std::collections::HashSet;
-use stramashly::{CheckAnswer, Checker, FillAnswer};
+use stramashly::{CheckAnswer, FillAnswer};
 
 /// Changes that order the rows: one or two of rows that are there, or new
 /// rows and what the racing rows need besides.
@@ -71,7 +72,7 @@ const ENOUGH_REMEDIES: usize = 3;
 struct Searcher<'a> {
     table: &'a [u8],
     goal: Goal,
-    checker: &'a mut Checker,
+    checker: &'a mut dyn Judge,
     state: State,
     /// What the race depends on.
     reduction: Reduction,
@@ -80,7 +81,7 @@ struct Searcher<'a> {
 }
 
 /// Looks for cures of a table's race; `checked` is the table as it is.
-pub fn search(table: &[u8], checked: Checked, goal: Goal, checker: &mut Checker) -> Search {
+pub fn search(table: &[u8], checked: Checked, goal: Goal, checker: &mut dyn Judge) -> Search {
     let reduction = Reduction::of(table, goal);
     let rows = Run::of(reduction.table()).rows.len();
     let mut searcher = Searcher {

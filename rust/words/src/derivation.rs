@@ -3,7 +3,7 @@
 
 use crate::names;
 use second::table::Row;
-use second::{ACQUIRE_STEP, AFTER, AT, BEFORE, RELEASE_STEP, SYNCHRONIZES_STEP};
+use second::{ACQUIRE_STEP, AFTER, AT, BEFORE, RELEASE_STEP, SYNCHRONIZES_STEP, SYSTEM_STEP};
 use stramashly::{AcceptsAnswer, Checker, Derivation, DeriveAnswer, STEP_CASE};
 
 /// A step's case and the moment that it reaches.
@@ -55,6 +55,9 @@ fn step_words(rows: &[Row], classes: u8, case: u16, from: usize, to: usize) -> S
         }
         Ok(ACQUIRE_STEP) => {
             format!("{start}, an acquire for {classes}, comes before {end} (M6, case 3)")
+        }
+        Ok(SYSTEM_STEP) => {
+            format!("{end} depends on {start}: system synchronization, for {classes} as for all (M6, case 4)")
         }
         _ => format!("{start} leads to {end} for {classes} (M6, case {case})"),
     }

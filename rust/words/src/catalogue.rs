@@ -21,7 +21,13 @@ pub fn catalogue(checked: Checked, goal: Goal) -> Vec<Change> {
     };
     for row in relevant(checked.run, goal) {
         let fields = checked.run.rows[row];
-        if fields.is_plain() {
+        let sort = checked.run.sort(fields.agent);
+        if sort == QUEUE {
+            continue;
+        }
+        if sort == HOST {
+            maker.private(row, fields);
+        } else if fields.is_plain() {
             maker.plain(row, fields);
         } else {
             maker.semantics(row, fields);
@@ -79,13 +85,17 @@ impl Maker<'_> {
         rows[self.goal.first].class_bit() | rows[self.goal.second].class_bit()
     }
 
-    fn plain(&mut self, row: usize, fields: Row) {
+    fn private(&mut self, row: usize, fields: Row) {
         if !fields.is_non_private() {
             self.group += 1;
             let flags = fields.flags | NON_PRIVATE;
             let edits = vec![Edit::new(row, Field::Flags, flags)];
             self.add(Reason::Private { row }, edits);
         }
+    }
+
+    fn plain(&mut self, row: usize, fields: Row) {
+        self.private(row, fields);
         self.plain_flag(row, fields);
         if let Some(other) = self.other(row) {
             self.not_atomic(row, fields, other);

@@ -7,6 +7,7 @@
 use crate::account::Checked;
 use crate::catalogue::catalogue;
 use crate::change::Change;
+use crate::dependency::Dependency;
 use crate::edit::{edited, merged, Edit, Field};
 use crate::goal::Goal;
 use crate::insertion::{stepped, Insertion, Step};
@@ -30,6 +31,8 @@ pub struct Cure {
     pub edits: Vec<Edit>,
     /// The new rows, put in one after the other when the edits are made.
     pub insertions: Vec<Insertion>,
+    /// New dependencies, of the rows as they are numbered then.
+    pub dependencies: Vec<Dependency>,
     /// What orders the rows then.
     pub order: String,
     /// What a check answers then.
@@ -41,15 +44,22 @@ impl Cure {
     pub fn steps(&self) -> Vec<Step> {
         let edits = self.edits.iter().map(|edit| Step::Edit(*edit));
         let insertions = self.insertions.iter();
+        let dependencies = self.dependencies.iter();
         edits
             .chain(insertions.map(|insertion| Step::Insert(*insertion)))
+            .chain(dependencies.map(|dependency| Step::Depend(*dependency)))
             .collect()
+    }
+
+    /// Whether something is put in, rather than changed.
+    pub fn is_new(&self) -> bool {
+        !self.insertions.is_empty() || !self.dependencies.is_empty()
     }
 
     /// Whether rows that are there get all that is wanted, and it asks no
     /// other run and no other access.
     fn is_stronger(&self) -> bool {
-        self.insertions.is_empty() && self.changes.iter().all(|change| change.is_stronger)
+        !self.is_new() && self.changes.iter().all(|change| change.is_stronger)
     }
 }
 
@@ -142,7 +152,7 @@ fn rank(cure: &Cure) -> (usize, bool, usize) {
     (
         trouble,
         is_other_run,
-        cure.edits.len() + cure.insertions.len(),
+        cure.edits.len() + cure.insertions.len() + cure.dependencies.len(),
     )
 }
 
@@ -150,9 +160,9 @@ fn rank(cure: &Cure) -> (usize, bool, usize) {
 /// out; new rows are something else.
 fn without_needless(cures: &[Cure]) -> Vec<Cure> {
     let is_needless = |cure: &Cure| {
-        let others = cures.iter().filter(|other| other.insertions.is_empty());
+        let others = cures.iter().filter(|other| !other.is_new());
         let mut others = others.filter(|other| other.edits != cure.edits);
-        cure.insertions.is_empty() && others.any(|less| contains(&cure.edits, &less.edits))
+        !cure.is_new() && others.any(|less| contains(&cure.edits, &less.edits))
     };
     let needed = cures.iter().filter(|cure| !is_needless(cure));
     needed.cloned().collect()
@@ -214,7 +224,7 @@ impl Searcher<'_> {
         &mut self,
         changes: &[&Change],
         edits: Vec<Edit>,
-        insertions: Vec<Insertion>,
+        (insertions, dependencies): (Vec<Insertion>, Vec<Dependency>),
     ) -> Option<Cure> {
         let mut goal = self.goal;
         for insertion in &insertions {
@@ -225,10 +235,11 @@ impl Searcher<'_> {
             changes: changes.iter().map(|change| (*change).clone()).collect(),
             edits,
             insertions,
+            dependencies,
             order: String::new(),
             answer: String::new(),
         };
-        if cure.insertions.is_empty() && self.mends(&cure.edits) != Some(true) {
+        if !cure.is_new() && self.mends(&cure.edits) != Some(true) {
             return None;
         }
         let table = stepped(self.table, &cure.steps()).ok()?;
@@ -282,10 +293,12 @@ impl Searcher<'_> {
                     changes,
                     edits,
                     insertions,
+                    dependencies,
+                    is_least,
                 } = remedy;
                 let changes: Vec<&Change> = changes.iter().collect();
-                self.both_needed(&edits, &insertions)
-                    .then(|| self.cure(&changes, edits, insertions))
+                (is_least || self.both_needed(&edits, &insertions))
+                    .then(|| self.cure(&changes, edits, (insertions, dependencies)))
                     .flatten()
             })
             .collect();
@@ -318,7 +331,7 @@ impl Searcher<'_> {
         let mut cures = Vec::new();
         for change in changes {
             if !cured.contains(&change.group) {
-                let found = self.cure(&[change], change.edits.clone(), Vec::new());
+                let found = self.cure(&[change], change.edits.clone(), Default::default());
                 cured.extend(found.as_ref().map(|_| change.group));
                 cures.extend(found);
             }
@@ -360,7 +373,7 @@ impl Searcher<'_> {
                     continue;
                 }
                 let edits = merged(&first.edits, &second.edits);
-                let cure = |edits| self.cure(&[first, second], edits, Vec::new());
+                let cure = |edits| self.cure(&[first, second], edits, Default::default());
                 if let Some(cure) = edits.and_then(cure) {
                     cured.insert(groups);
                     cures.push(cure);

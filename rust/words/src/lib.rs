@@ -10,20 +10,22 @@
 //! |---|---|
 //! | the words for codes, rows and tables | `names`, `run`, `show` |
 //! | why rows are ordered | `account`, `derivation`, `why` |
-//! | why they aren't | `nearest`, `gap` |
+//! | why they aren't | `nearest`, `gap`, `carriage` |
 //! | what would order them | `catalogue`, `change`, `edit`, `reason`, `reduction`, `cure` |
-//! | new rows that would, and their words for a shader | `insertion`, `remedy`, `shader` |
+//! | new rows and dependencies that would, and their words for a shader | `insertion`, `dependency`, `remedy`, `domains`, `shader` |
 //! | the answers one by one | `race`, `race_free`, `inconsistent`, `refusal` |
 //! | what is wrong with a refused table, and with its blanks | `fault`, `unfit`, `blank` |
 //! | answers in sentences, pictures and pages | `explain`, `headline`, `draw`, `picture`, `page`, `markup` |
 
 mod account;
 mod blank;
+mod carriage;
 mod catalogue;
 mod change;
 mod cure;
 mod dependency;
 mod derivation;
+mod domains;
 mod draw;
 mod edit;
 #[cfg(test)]

@@ -16,15 +16,16 @@ pub use reasons::{Derived, Moments, Probed, LIBRARY_MEETS_ALONE};
 pub use tally::Tally;
 
 use second::table::WITH_HOSTS;
-use second::{CheckAnswer, FillAnswer, State};
+use second::{Chains, CheckAnswer, FillAnswer, State};
 use stramashly::{check_in, fill_in, Packed, CYCLE_NUMBERS, SOURCE_NUMBERS, WORK_WORDS};
-pub use tables::LIBRARY_HAS_HOSTS;
 use tables::{hex, Random};
+pub use tables::{LIBRARY_HAS_CHAINS, LIBRARY_HAS_HOSTS};
 
 /// Until the library knows version 3, its answers to such tables aren't
-/// compared.
-fn is_compared(table: &[u8]) -> bool {
-    LIBRARY_HAS_HOSTS || table.get(4) != Some(&WITH_HOSTS)
+/// compared; and until it takes the switch for chains, no answers with it on.
+fn is_compared(chains: Chains, table: &[u8]) -> bool {
+    (LIBRARY_HAS_HOSTS || table.get(4) != Some(&WITH_HOSTS))
+        && (LIBRARY_HAS_CHAINS || chains == Chains::Off)
 }
 
 /// Lengths of the work area and of the cycle or source buffer.
@@ -65,16 +66,26 @@ impl Comparison {
         }
     }
 
-    /// A check with buffers that are long enough.
+    /// A check with buffers that are long enough, chains off.
     pub fn check(&mut self, table: &[u8]) -> Result<CheckAnswer, Difference> {
+        self.check_with(Chains::Off, table)
+    }
+
+    /// A check with buffers that are long enough.
+    pub fn check_with(&mut self, chains: Chains, table: &[u8]) -> Result<CheckAnswer, Difference> {
         let lengths = self.enough(CYCLE_NUMBERS);
-        self.check_in(table, lengths)
+        self.check_in(chains, table, lengths)
+    }
+
+    /// A fill with buffers that are long enough, chains off.
+    pub fn fill(&mut self, table: &[u8]) -> Result<FillAnswer, Difference> {
+        self.fill_with(Chains::Off, table)
     }
 
     /// A fill with buffers that are long enough.
-    pub fn fill(&mut self, table: &[u8]) -> Result<FillAnswer, Difference> {
+    pub fn fill_with(&mut self, chains: Chains, table: &[u8]) -> Result<FillAnswer, Difference> {
         let lengths = self.enough(SOURCE_NUMBERS);
-        self.fill_in(table, lengths)
+        self.fill_in(chains, table, lengths)
     }
 
     /// The least lengths, or some numbers more.
@@ -87,30 +98,42 @@ impl Comparison {
     }
 
     /// A check with buffers of any length.
-    pub fn check_in(&mut self, table: &[u8], lengths: Lengths) -> Result<CheckAnswer, Difference> {
-        let answer = self.state.check(table, lengths.work, lengths.numbers);
-        if !is_compared(table) {
+    pub fn check_in(
+        &mut self,
+        chains: Chains,
+        table: &[u8],
+        lengths: Lengths,
+    ) -> Result<CheckAnswer, Difference> {
+        let Lengths { work, numbers } = lengths;
+        let answer = self.state.check_with(chains, table, work, numbers);
+        if !is_compared(chains, table) {
             return Ok(answer);
         }
         let at = self.prepare(table, lengths);
         let expected = expected::of_check(&answer, &mut self.expected);
         let lent = &self.around[at..at + table.len()];
         let packed = check_in(lent, &mut self.ours.work, &mut self.ours.numbers);
-        let words = || format!("check {}", hex(table));
+        let words = || format!("check {} {chains:?}", hex(table));
         self.compare(words, lengths, packed, expected)?;
         Ok(answer)
     }
 
     /// A fill with buffers of any length. A table that the second
     /// implementation gives up on is not compared.
-    pub fn fill_in(&mut self, table: &[u8], lengths: Lengths) -> Result<FillAnswer, Difference> {
-        let answer = self.state.fill(table, lengths.work, lengths.numbers);
+    pub fn fill_in(
+        &mut self,
+        chains: Chains,
+        table: &[u8],
+        lengths: Lengths,
+    ) -> Result<FillAnswer, Difference> {
+        let Lengths { work, numbers } = lengths;
+        let answer = self.state.fill_with(chains, table, work, numbers);
         let at = self.prepare(table, lengths);
         let expected = expected::of_fill(&answer, &mut self.expected);
-        if let Some(expected) = expected.filter(|_| is_compared(table)) {
+        if let Some(expected) = expected.filter(|_| is_compared(chains, table)) {
             let lent = &self.around[at..at + table.len()];
             let packed = fill_in(lent, &mut self.ours.work, &mut self.ours.numbers);
-            let words = || format!("fill {}", hex(table));
+            let words = || format!("fill {} {chains:?}", hex(table));
             self.compare(words, lengths, packed, expected)?;
         }
         Ok(answer)

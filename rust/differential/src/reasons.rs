@@ -4,7 +4,7 @@
 
 use crate::claim::Claim;
 use crate::{is_compared, Comparison, Difference, Lengths};
-use second::{AcceptsAnswer, SYNCHRONIZES_STEP};
+use second::{AcceptsAnswer, Chains, SYNCHRONIZES_STEP};
 use stramashly::{
     accepts_in, derive_in, Code, Packed, CHAIN_NUMBERS, PROGRAM_ORDER, STEP_CASE, WORK_WORDS,
 };
@@ -104,7 +104,7 @@ impl Moments<'_> {
         second: u16,
         lengths: Lengths,
     ) -> Result<Derived, Difference> {
-        if !is_compared(self.table) {
+        if !is_compared(Chains::Off, self.table) {
             return Ok(Derived::NotCompared);
         }
         let at = self.comparison.prepare(self.table, lengths);
@@ -192,7 +192,7 @@ impl Moments<'_> {
             AcceptsAnswer::Accepted => Packed::new(Code::Accepted, 0, 0, 0),
             AcceptsAnswer::NotAccepted => Packed::new(Code::NotAccepted, 0, 0, 0),
         };
-        if !is_compared(self.table) {
+        if !is_compared(Chains::Off, self.table) {
             return Ok(answer);
         }
         let packed = self.read_by_the_library(first, second, claim);

@@ -1,7 +1,7 @@
 //! Lent buffers of every length around the limits.
 
 use differential::{Comparison, Lengths};
-use second::{CheckAnswer, FillAnswer};
+use second::{Chains, CheckAnswer, FillAnswer};
 use stramashly::{CYCLE_NUMBERS, SOURCE_NUMBERS, WORK_WORDS};
 use tables::examples;
 
@@ -29,12 +29,12 @@ fn tables() -> Vec<Vec<u8>> {
 }
 
 fn check_is_11(comparison: &mut Comparison, table: &[u8], lengths: Lengths) -> bool {
-    let answer = comparison.check_in(table, lengths).unwrap();
+    let answer = comparison.check_in(Chains::Off, table, lengths).unwrap();
     answer == CheckAnswer::Refused { number: 11, row: 0 }
 }
 
 fn fill_is_11(comparison: &mut Comparison, table: &[u8], lengths: Lengths) -> bool {
-    let answer = comparison.fill_in(table, lengths).unwrap();
+    let answer = comparison.fill_in(Chains::Off, table, lengths).unwrap();
     answer == FillAnswer::Refused { number: 11, row: 0 }
 }
 

@@ -1,7 +1,7 @@
 //! Reports: the counts of conflicting pairs and the racing share, compared.
 
 use differential::{Comparison, Lengths, Tally};
-use second::{CheckAnswer, ReportAnswer};
+use second::{Chains, CheckAnswer, ReportAnswer};
 use stramashly::{CYCLE_NUMBERS, WORK_WORDS};
 use tables::{checkable, damaged, examples, fillable, Random, Row, Size, Table};
 
@@ -114,7 +114,9 @@ fn buffers_of_every_length() {
         let cycles = (0..=CYCLE_NUMBERS + 3).map(|numbers| (WORK_WORDS, numbers));
         for (work, numbers) in works.chain(cycles).chain([(0, 0)]) {
             let lengths = Lengths { work, numbers };
-            let answer = comparison.report_in(&example.bytes, lengths).unwrap();
+            let answer = comparison
+                .report_in(Chains::Off, &example.bytes, lengths)
+                .unwrap();
             let is_short = work < WORK_WORDS || numbers < CYCLE_NUMBERS;
             assert_eq!(answer == short, is_short, "{lengths:?}");
         }

@@ -1,9 +1,11 @@
 //! What libFuzzer calls with each of its inputs: a check, a fill and a report
-//! of the same bytes and derivations of some of its moments, compared with the
-//! second implementation, every lent buffer included. The counters that guide libFuzzer are those of the second
+//! of the same bytes, chains off and on, and derivations of some of its
+//! moments, compared with the second implementation, every lent buffer
+//! included. The counters that guide libFuzzer are those of the second
 //! implementation; the proved library has none.
 
 use differential::{Comparison, Difference, Lengths};
+use second::Chains;
 use std::cell::RefCell;
 use stramashly::{CYCLE_NUMBERS, SOURCE_NUMBERS, WORK_WORDS};
 
@@ -38,13 +40,17 @@ fn both(comparison: &mut Comparison, input: &[u8]) -> Result<(), Difference> {
             work: WORK_WORDS + 8 - less % 16,
             numbers: numbers + 8 - less / 16,
         };
-        comparison.check_in(table, lengths(CYCLE_NUMBERS))?;
-        comparison.fill_in(table, lengths(SOURCE_NUMBERS))?;
-        comparison.report_in(table, lengths(CYCLE_NUMBERS))?;
+        for chains in [Chains::Off, Chains::On] {
+            comparison.check_in(chains, table, lengths(CYCLE_NUMBERS))?;
+            comparison.fill_in(chains, table, lengths(SOURCE_NUMBERS))?;
+            comparison.report_in(chains, table, lengths(CYCLE_NUMBERS))?;
+        }
     } else {
-        comparison.check(input)?;
-        comparison.fill(input)?;
-        comparison.report(input)?;
+        for chains in [Chains::Off, Chains::On] {
+            comparison.check_with(chains, input)?;
+            comparison.fill_with(chains, input)?;
+            comparison.report_with(chains, input)?;
+        }
     }
     moments(comparison, input)
 }

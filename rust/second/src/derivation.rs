@@ -2,6 +2,7 @@
 //! Nothing here looks for a derivation.
 
 use crate::admission::{Purpose, Refusal};
+use crate::chains::Chains;
 use crate::state::State;
 use std::fmt;
 use std::ops::RangeInclusive;
@@ -45,8 +46,15 @@ impl State {
     }
 
     /// Takes a table in for questions about its moments, or gives the number
-    /// and the row of a fill's refusal.
+    /// and the row of a fill's refusal. Whether chains are on is nothing to
+    /// moments; they are off.
     pub fn take_in(&mut self, table: &[u8]) -> Result<(), (u8, u16)> {
+        self.take_in_with(Chains::Off, table)
+    }
+
+    /// Takes a table in for questions about its location order as well.
+    pub fn take_in_with(&mut self, chains: Chains, table: &[u8]) -> Result<(), (u8, u16)> {
+        self.chains = chains;
         self.row_count = 0;
         let refused = |Refusal { number, row }| (number, row);
         self.admit(table, Purpose::Fill).map_err(refused)?;

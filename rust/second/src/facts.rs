@@ -119,6 +119,16 @@ impl State {
         &self.dependencies
     }
 
+    /// L3: whether a moment may begin an availability chain for a row's byte.
+    pub fn begins_availability(&self, moment: usize, x: usize, byte: u32) -> bool {
+        x < self.row_count && self.l3_first_availability(moment, x, byte)
+    }
+
+    /// L3: whether a moment may end a visibility chain for a row's byte.
+    pub fn ends_visibility(&self, moment: usize, y: usize, byte: u32) -> bool {
+        y < self.row_count && self.l3_last_visibility(moment, y, byte)
+    }
+
     /// L3: whether a moment makes the byte of a row available to another's agent.
     pub fn makes_available(&self, moment: usize, x: usize, y: usize, byte: u32) -> bool {
         self.are_rows(x, y) && self.l3_availability(moment, x, y, byte)

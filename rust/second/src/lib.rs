@@ -13,6 +13,7 @@
 //! | dependencies, domains, the orders that go through them | `system` |
 //! | M6, M7 | `happens_before` |
 //! | L1 to L3, conflicts and races | `location` |
+//! | availability and visibility chains | `chains` |
 //! | edges, axioms A and B, canonical cycle | `axioms` |
 //! | fillings | `filling` |
 //! | derivations, refusal 12 | `derivation` |
@@ -22,6 +23,7 @@
 mod admission;
 mod answer;
 mod axioms;
+mod chains;
 mod derivation;
 mod facts;
 mod filling;
@@ -35,6 +37,7 @@ mod system;
 pub mod table;
 
 pub use answer::{CheckAnswer, FillAnswer, List};
+pub use chains::Chains;
 pub use derivation::{AcceptsAnswer, Derivation};
 pub use happens_before::{ACQUIRE_STEP, RELEASE_STEP, SYNCHRONIZES_STEP, SYSTEM_STEP};
 pub use moments::{AFTER, AT, BEFORE};

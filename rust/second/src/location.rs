@@ -69,47 +69,71 @@ impl State {
             && self.happens_before(at(x), at(y))
     }
 
-    /// L3: X writes, and an availability moment after it leads to Y, or to a
-    /// visibility moment before Y if Y reads. An RMW writes as X and reads as
-    /// Y, so it is held to the harder rule on each side.
+    /// L3: X writes, and an availability chain that begins after it leads to Y,
+    /// or, if Y reads, to a visibility chain that ends before Y. An RMW writes
+    /// as X and reads as Y, so it is held to the harder rule on each side.
     pub(crate) fn l3(&self, x: usize, y: usize, byte: u32) -> bool {
         self.rows[x].writes()
             && self.rows[x].is_non_private()
             && self.rows[y].is_non_private()
             && self.rows[x].reference == self.rows[y].reference
-            && (0..self.moment_count()).any(|available| {
-                self.l3_availability(available, x, y, byte)
-                    && if self.rows[y].reads() {
-                        self.l3_reaches_visibility(available, x, y, byte)
-                    } else {
-                        self.happens_before(available, at(y))
-                    }
+            && (0..self.moment_count()).any(|first| {
+                self.l3_first_availability(first, x, byte)
+                    && (0..self.moment_count()).any(|last| {
+                        self.availability_chain(first, last)
+                            && if self.rows[y].reads() {
+                                self.l3_reaches_visibility(last, x, y, byte)
+                            } else {
+                                self.l3_reaches_write(last, x, y)
+                            }
+                    })
             })
     }
 
     /// L3: an availability moment of X's agent, covering X's reference and
-    /// the byte, program-ordered after X, its scope shared by the agents.
-    pub(crate) fn l3_availability(&self, moment: usize, x: usize, y: usize, byte: u32) -> bool {
+    /// the byte, program-ordered after X.
+    pub(crate) fn l3_first_availability(&self, moment: usize, x: usize, byte: u32) -> bool {
         self.is_availability_moment(moment)
             && self.program_order(at(x), moment)
             && self.moment_covers(moment, self.rows[x], byte)
-            && self.shares_moments_scope(moment, x, y)
-    }
-
-    /// L3: the availability moment happens-before such a visibility moment.
-    fn l3_reaches_visibility(&self, available: usize, x: usize, y: usize, byte: u32) -> bool {
-        (0..self.moment_count()).any(|visible| {
-            self.l3_visibility(visible, x, y, byte) && self.happens_before(available, visible)
-        })
     }
 
     /// L3: a visibility moment of Y's agent, covering Y's reference and the
-    /// byte, program-ordered before Y, its scope shared by the agents.
-    pub(crate) fn l3_visibility(&self, moment: usize, x: usize, y: usize, byte: u32) -> bool {
+    /// byte, program-ordered before Y.
+    pub(crate) fn l3_last_visibility(&self, moment: usize, y: usize, byte: u32) -> bool {
         self.is_visibility_moment(moment)
             && self.program_order(moment, at(y))
             && self.moment_covers(moment, self.rows[y], byte)
-            && self.shares_moments_scope(moment, x, y)
+    }
+
+    /// L3: the last element of an availability chain happens-before Y, which
+    /// doesn't read, and makes available to a domain that both agents use.
+    fn l3_reaches_write(&self, available: usize, x: usize, y: usize) -> bool {
+        self.happens_before(available, at(y)) && self.common_domain(x, y, &[available])
+    }
+
+    /// L3: the last element of an availability chain happens-before the first
+    /// of a visibility chain that ends before Y, and both reach a domain that
+    /// both agents use.
+    fn l3_reaches_visibility(&self, available: usize, x: usize, y: usize, byte: u32) -> bool {
+        (0..self.moment_count()).any(|last| {
+            self.l3_last_visibility(last, y, byte)
+                && (0..self.moment_count()).any(|first| {
+                    self.visibility_chain(first, last)
+                        && self.happens_before(available, first)
+                        && self.common_domain(x, y, &[available, first])
+                })
+        })
+    }
+
+    /// L3: a single availability moment for X, its scope shared by the agents.
+    pub(crate) fn l3_availability(&self, moment: usize, x: usize, y: usize, byte: u32) -> bool {
+        self.l3_first_availability(moment, x, byte) && self.shares_moments_scope(moment, x, y)
+    }
+
+    /// L3: a single visibility moment for Y, its scope shared by the agents.
+    pub(crate) fn l3_visibility(&self, moment: usize, x: usize, y: usize, byte: u32) -> bool {
+        self.l3_last_visibility(moment, y, byte) && self.shares_moments_scope(moment, x, y)
     }
 
     fn shares_moments_scope(&self, moment: usize, x: usize, y: usize) -> bool {

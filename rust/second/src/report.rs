@@ -2,6 +2,7 @@
 //! orders them, each count by its own definition.
 
 use crate::answer::CheckAnswer;
+use crate::chains::Chains;
 use crate::state::State;
 use std::fmt;
 
@@ -33,15 +34,26 @@ impl Counts {
 }
 
 impl State {
-    /// Counts the conflicting pairs of a table. The lent buffers are given by
-    /// their lengths only.
+    /// Counts the conflicting pairs of a table with chains off. The lent
+    /// buffers are given by their lengths only.
     pub fn report(
         &mut self,
         table: &[u8],
         work_words: usize,
         cycle_numbers: usize,
     ) -> ReportAnswer {
-        match self.check(table, work_words, cycle_numbers) {
+        self.report_with(Chains::Off, table, work_words, cycle_numbers)
+    }
+
+    /// Counts the conflicting pairs of a table.
+    pub fn report_with(
+        &mut self,
+        chains: Chains,
+        table: &[u8],
+        work_words: usize,
+        cycle_numbers: usize,
+    ) -> ReportAnswer {
+        match self.check_with(chains, table, work_words, cycle_numbers) {
             CheckAnswer::RaceFree | CheckAnswer::Race { .. } => ReportAnswer::Counts(self.counts()),
             answer => ReportAnswer::Check(answer),
         }

@@ -2,6 +2,7 @@
 
 use crate::admission::{self, Purpose, Refusal};
 use crate::answer::{CheckAnswer, FillAnswer};
+use crate::chains::Chains;
 use crate::table::{agent_places, agent_sort, row_of, Row, SHADER};
 use crate::{
     CYCLE_NUMBERS, MAX_AGENTS, MAX_DEPENDENCIES, MAX_LENGTH, MAX_MOMENTS, MAX_ROWS, SOURCE_NUMBERS,
@@ -14,6 +15,7 @@ const MOMENT_PAIRS: usize = MAX_MOMENTS * MAX_MOMENTS;
 /// The admitted table and the relations worked out from it. Its arrays are
 /// made once and serve every table after that.
 pub struct State {
+    pub(crate) chains: Chains,
     pub(crate) version: u8,
     pub(crate) row_count: usize,
     pub(crate) agents: [[u16; 3]; MAX_AGENTS],
@@ -32,6 +34,10 @@ pub struct State {
     /// Inter-thread order of the class set at hand.
     pub(crate) inter_thread: Box<[bool; MOMENT_PAIRS]>,
     pub(crate) happens_before: Box<[bool; MOMENT_PAIRS]>,
+    /// Whether an availability chain leads from a moment to a moment, and
+    /// whether a visibility chain does.
+    pub(crate) availability_chains: Box<[bool; MOMENT_PAIRS]>,
+    pub(crate) visibility_chains: Box<[bool; MOMENT_PAIRS]>,
     /// By pair of rows, then by the byte's distance from the first row's start.
     pub(crate) location_order: Box<[bool; ROW_PAIRS * MAX_LENGTH]>,
     /// Lowest edge number from a row to a row, 0 where there is no edge.
@@ -53,6 +59,7 @@ impl Default for State {
 impl State {
     pub fn new() -> State {
         State {
+            chains: Chains::Off,
             version: 1,
             row_count: 0,
             agents: [[0; 3]; MAX_AGENTS],
@@ -66,6 +73,8 @@ impl State {
             system_synchronizes: Box::new([false; ROW_PAIRS]),
             inter_thread: Box::new([false; MOMENT_PAIRS]),
             happens_before: Box::new([false; MOMENT_PAIRS]),
+            availability_chains: Box::new([false; MOMENT_PAIRS]),
+            visibility_chains: Box::new([false; MOMENT_PAIRS]),
             location_order: Box::new([false; ROW_PAIRS * MAX_LENGTH]),
             edges: Box::new([0; ROW_PAIRS]),
             reaches: Box::new([false; ROW_PAIRS]),
@@ -75,8 +84,21 @@ impl State {
         }
     }
 
-    /// Checks a table. The lent buffers are given by their lengths only.
+    /// Checks a table with chains off. The lent buffers are given by their
+    /// lengths only.
     pub fn check(&mut self, table: &[u8], work_words: usize, cycle_numbers: usize) -> CheckAnswer {
+        self.check_with(Chains::Off, table, work_words, cycle_numbers)
+    }
+
+    /// Checks a table.
+    pub fn check_with(
+        &mut self,
+        chains: Chains,
+        table: &[u8],
+        work_words: usize,
+        cycle_numbers: usize,
+    ) -> CheckAnswer {
+        self.chains = chains;
         self.row_count = 0;
         if admission::refusal_11(work_words, WORK_WORDS, cycle_numbers, CYCLE_NUMBERS) {
             return CheckAnswer::Refused { number: 11, row: 0 };
@@ -105,8 +127,21 @@ impl State {
         CheckAnswer::RaceFree
     }
 
-    /// Fills a table's blanks. The lent buffers are given by their lengths only.
+    /// Fills a table's blanks with chains off. The lent buffers are given by
+    /// their lengths only.
     pub fn fill(&mut self, table: &[u8], work_words: usize, source_numbers: usize) -> FillAnswer {
+        self.fill_with(Chains::Off, table, work_words, source_numbers)
+    }
+
+    /// Fills a table's blanks.
+    pub fn fill_with(
+        &mut self,
+        chains: Chains,
+        table: &[u8],
+        work_words: usize,
+        source_numbers: usize,
+    ) -> FillAnswer {
+        self.chains = chains;
         self.row_count = 0;
         self.fillings_found = 0;
         if admission::refusal_11(work_words, WORK_WORDS, source_numbers, SOURCE_NUMBERS) {
@@ -172,6 +207,7 @@ impl State {
         self.relate_synchronizes_with();
         self.relate_system_synchronizes();
         self.relate_happens_before();
+        self.relate_chains();
         self.relate_location_order();
     }
 }

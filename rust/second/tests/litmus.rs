@@ -2,12 +2,15 @@
 
 mod common;
 
-use common::check_bytes;
+use common::check_bytes_with;
+use second::Chains;
 use tables::litmus;
 
 #[test]
 fn answers_made_by_hand() {
     for case in litmus() {
-        assert_eq!(check_bytes(&case.bytes), case.answer, "{}", case.name);
+        let chains = if case.chains { Chains::On } else { Chains::Off };
+        let answer = check_bytes_with(chains, &case.bytes);
+        assert_eq!(answer, case.answer, "{}", case.name);
     }
 }

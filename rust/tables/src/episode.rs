@@ -3,6 +3,7 @@
 //! An episode's rows are listed as they ran, every read reading the latest
 //! write, so that its sources name earlier rows of the episode.
 
+mod chain;
 mod control;
 mod hosted;
 
@@ -124,6 +125,19 @@ struct Episode<'a> {
     is_careful: bool,
     last_flag_writer: u16,
     rank: u16,
+}
+
+/// An episode whose data goes by chains.
+pub(crate) fn chain_episode(
+    random: &mut Random,
+    ground: &mut Ground,
+    places: &[[u16; 3]],
+) -> Vec<Row> {
+    let mut episode = Episode::new(random, ground, places);
+    episode.is_careful = true;
+    episode.classes |= 15 * u8::from(episode.random.percent(50));
+    episode.chain();
+    episode.rows
 }
 
 /// An episode of one of several shapes.

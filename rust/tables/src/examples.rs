@@ -21,6 +21,7 @@ pub fn examples() -> Vec<Example> {
         .chain(control_barriers())
         .chain(sequences())
         .chain(counted_ranks())
+        .chain(chains())
         .chain(by_class_and_byte())
         .chain(inconsistent())
         .chain(fills())
@@ -196,6 +197,45 @@ fn counted_ranks() -> Vec<Named> {
         ("counted", with_ranks(65535, 0).counted()),
         ("counted-plain", with_ranks(65535, 0)),
         ("counted-too-far", with_ranks(65535, 32767).counted()),
+    ]
+}
+
+/// A write that goes by two agents: the writer releases a flag in one scope,
+/// another agent acquires it and releases a second flag in another scope, and
+/// a third acquires that and reads.
+fn by_two_agents(agents: [[u16; 3]; 3], first: u8, second: u8) -> Table {
+    let second_flag = |row: Row| row.bytes(8, 4).reference(3).scope(second);
+    let release = |row: Row| row.release(UNIFORM).make_available();
+    let acquire = |row: Row| row.acquire(UNIFORM).make_visible();
+    let first_flag = |row: Row| flag(row).scope(first);
+    Table::new(
+        &agents,
+        &[
+            Row::write(0),
+            release(first_flag(Row::atomic_write(0, 1))),
+            acquire(first_flag(Row::atomic_read(1, 1))),
+            release(second_flag(Row::atomic_write(1, 1))),
+            acquire(second_flag(Row::atomic_read(2, 3))),
+            Row::read(2, 0),
+        ],
+    )
+}
+
+fn chains() -> Vec<Named> {
+    let with_writer = [[0, 0, 0], [0, 0, 1], [0, 1, 0]];
+    let with_reader = [[0, 1, 0], [0, 0, 1], [0, 0, 0]];
+    let (near, far) = (scope::WORKGROUP, scope::DEVICE);
+    let apart = changed(by_two_agents(with_writer, near, far), |table| {
+        table.agents[1] = [0, 1, 1];
+        table.rows[1].scope = far;
+        table.rows[2].scope = far;
+        table.rows[0] = table.rows[0].make_available().scope(near);
+        table.rows[1].flags &= !MAKE_AVAILABLE;
+    });
+    vec![
+        ("chain-available", by_two_agents(with_writer, near, far)),
+        ("chain-visible", by_two_agents(with_reader, far, near)),
+        ("chain-apart", apart),
     ]
 }
 

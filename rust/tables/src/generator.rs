@@ -77,7 +77,7 @@ pub fn fillable(random: &mut Random, size: Size) -> Table {
 }
 
 /// Has every third table's ranks counted.
-fn count_some(random: &mut Random, table: &mut Table) {
+pub(crate) fn count_some(random: &mut Random, table: &mut Table) {
     if random.percent(33) {
         count_ranks(random, table);
     }
@@ -109,21 +109,33 @@ fn planned(random: &mut Random, size: Size, plan: Plan) -> Table {
 /// A race-free and consistent run of the wanted size, with few exceptions.
 fn run(random: &mut Random, size: Size) -> Table {
     let agents = agents(random);
+    // Of many episodes one would race nearly always.
+    let is_careful = size.most > 48 && random.percent(80);
+    run_of(random, size, agents, |random, ground, places| {
+        episode(random, ground, places, is_careful)
+    })
+}
+
+/// A run of the wanted size put together from episodes.
+pub(crate) fn run_of(
+    random: &mut Random,
+    size: Size,
+    agents: Vec<[u16; 3]>,
+    episode: impl Fn(&mut Random, &mut Ground, &[[u16; 3]]) -> Vec<Row>,
+) -> Table {
     let mut ground = Ground::new(random);
     let mut table = Table::new(&agents, &[]);
     let row_count = random.between(size.least, size.most);
-    // Of many episodes one would race nearly always.
-    let is_careful = size.most > 48 && random.percent(80);
     for _ in 0..10 * row_count {
         let mut rest = ground;
-        let rows = episode(random, &mut rest, &table.agents, is_careful);
+        let rows = episode(random, &mut rest, &table.agents);
         if table.rows.len() + rows.len() <= row_count {
             append(random, &mut table, rows);
             ground = rest;
         }
     }
     while table.rows.len() < size.least {
-        let rows = episode(random, &mut ground, &table.agents, is_careful);
+        let rows = episode(random, &mut ground, &table.agents);
         append(random, &mut table, rows);
         // Sources name earlier rows here, so every first part stands alone.
         table.rows.truncate(row_count);
@@ -186,7 +198,7 @@ pub(crate) fn shuffle_agents(random: &mut Random, table: &mut Table) {
     reorder(table, &order);
 }
 
-fn mutate_some(random: &mut Random, table: &mut Table) {
+pub(crate) fn mutate_some(random: &mut Random, table: &mut Table) {
     for _ in 0..random.pick(&[1, 1, 1, 2, 2, 3, 5]) {
         mutate(random, table);
     }

@@ -1,6 +1,7 @@
 //! Tables for tests: a builder, and seeded generators of many tables.
 
 pub mod builder;
+mod chained;
 mod counted;
 mod damage;
 mod episode;
@@ -14,6 +15,7 @@ mod mutation;
 mod random;
 
 pub use builder::{hex, Row, Table, BLANK, INITIAL, MAX_AGENTS, MAX_DEPENDENCIES, MAX_ROWS};
+pub use chained::{chained, chained_fillable};
 pub use damage::damaged;
 pub use examples::{examples, Example};
 pub use generator::{checkable, clean, fillable, Size};
@@ -26,3 +28,6 @@ pub use random::Random;
 /// Whether the proved library knows version 3. Until it does, there are no
 /// examples of that version, and nobody compares them.
 pub const LIBRARY_HAS_HOSTS: bool = false;
+/// Whether the proved library takes the switch for chains. Until it does, its
+/// answers with chains on aren't compared.
+pub const LIBRARY_HAS_CHAINS: bool = false;

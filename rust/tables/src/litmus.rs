@@ -4,22 +4,31 @@
 pub struct Litmus {
     pub name: &'static str,
     pub bytes: Vec<u8>,
+    /// Whether chains are on.
+    pub chains: bool,
     /// What a check answers.
     pub answer: &'static str,
 }
 
 /// Every case.
 pub fn litmus() -> Vec<Litmus> {
-    let named = |(name, digits, answer): &(&'static str, &str, &'static str)| Litmus {
+    let named = |(name, digits, answer): &Case| Litmus {
         name,
         bytes: from_hex(digits),
+        chains: false,
         answer,
     };
+    let with_chains = CHAINS.iter().map(|case| Litmus {
+        chains: true,
+        ..named(case)
+    });
     CONTROL_BARRIERS
         .iter()
         .chain(&COUNTED_RANKS)
         .chain(&HOSTS)
+        .chain(&NO_CHAINS)
         .map(named)
+        .chain(with_chains)
         .collect()
 }
 
@@ -115,6 +124,35 @@ const HOSTS: [Case; 5] = [
         "race-free",
     ),
 ];
+
+const NO_CHAINS: [Case; 1] = [(
+    "available to the writer's workgroup only, and read in another",
+    AVAILABLE_BY_TWO,
+    "race 0 5 0",
+)];
+
+const CHAINS: [Case; 2] = [
+    (
+        "available to the workgroup, then to the device by another of it",
+        AVAILABLE_BY_TWO,
+        "race-free",
+    ),
+    (
+        "visible from the device to one of the workgroup, then to another",
+        "00000076010306000000000100000000 00000001 000000000000 \
+         010000000001000400000001ffff0000 030002040103000400040002ffff0001 \
+         02010104010500040004000200010000 030102020103000400080003ffff0001 \
+         02020102010500040008000300030000 00020000000100040000000100000000",
+        "race-free",
+    ),
+];
+
+/// A write released to a workgroup; one of the workgroup releases it to the
+/// device; one of another workgroup reads it.
+const AVAILABLE_BY_TWO: &str = "00000076010306000000000000000000 00000001 000000010000 \
+    010000000001000400000001ffff0000 030002020103000400040002ffff0001 \
+    02010102010500040004000200010000 030102040103000400080003ffff0001 \
+    02020104010500040008000300030000 00020000000100040000000100000000";
 
 fn from_hex(digits: &str) -> Vec<u8> {
     let digits: String = digits.split_whitespace().collect();

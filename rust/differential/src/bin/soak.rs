@@ -1,12 +1,14 @@
 //! A long comparison: `soak SEED COUNT` compares so many generated tables.
 
-use differential::{Comparison, Difference, Tally, LIBRARY_HAS_HOSTS};
+use differential::{Comparison, Difference, Tally, LIBRARY_HAS_CHAINS, LIBRARY_HAS_HOSTS};
+use second::Chains;
 use std::env;
 use std::io::{self, IsTerminal, Write};
 use std::process::ExitCode;
 use std::time::Instant;
 use tables::{
-    checkable, damaged, damaged_hosted, fillable, hosted, hosted_fillable, Random, Size, MAX_ROWS,
+    chained, chained_fillable, checkable, damaged, damaged_hosted, fillable, hosted,
+    hosted_fillable, Random, Size, MAX_ROWS,
 };
 
 const USAGE: &str = "usage: soak SEED COUNT";
@@ -60,15 +62,22 @@ fn compare_one(
     let size = size(random);
     let (bytes, is_check) = match random.below(6) {
         _ if LIBRARY_HAS_HOSTS && random.percent(30) => hosted_table(random, size),
+        0..=2 if random.percent(15) => (chained(random, size).bytes(), true),
         0..=2 => (checkable(random, size).bytes(), true),
+        3 | 4 if random.percent(15) => (chained_fillable(random, size).bytes(), false),
         3 | 4 => (fillable(random, size).bytes(), false),
         _ => (damaged(random, size), random.percent(50)),
     };
-    if is_check {
-        tally.check(&comparison.check(&bytes)?);
-        tally.report(&comparison.report(&bytes)?);
+    let chains = if LIBRARY_HAS_CHAINS && random.percent(40) {
+        Chains::On
     } else {
-        tally.fill(&comparison.fill(&bytes)?);
+        Chains::Off
+    };
+    if is_check {
+        tally.check(&comparison.check_with(chains, &bytes)?);
+        tally.report(&comparison.report_with(chains, &bytes)?);
+    } else {
+        tally.fill(&comparison.fill_with(chains, &bytes)?);
     }
     compare_moments(random, comparison, tally, &bytes)
 }

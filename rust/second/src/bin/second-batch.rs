@@ -1,9 +1,16 @@
-//! Answers lines `check HEX` and `fill HEX`, one line each.
+//! Answers lines `check HEX` and `fill HEX`, one line each; with `--chains`,
+//! chains are on.
 
-use second::{State, CYCLE_NUMBERS, SOURCE_NUMBERS, WORK_WORDS};
+use second::{Chains, State, CYCLE_NUMBERS, SOURCE_NUMBERS, WORK_WORDS};
+use std::env;
 use std::io::{self, BufRead, BufWriter, Write};
 
 fn main() -> io::Result<()> {
+    let chains = if env::args().nth(1).as_deref() == Some("--chains") {
+        Chains::On
+    } else {
+        Chains::Off
+    };
     let mut state = State::new();
     let mut table = Vec::new();
     let mut line = Vec::new();
@@ -15,12 +22,16 @@ fn main() -> io::Result<()> {
             return output.flush();
         }
         let text = String::from_utf8_lossy(&line);
-        writeln!(output, "{}", answer(&mut state, &mut table, text.trim()))?;
+        writeln!(
+            output,
+            "{}",
+            answer(&mut state, chains, &mut table, text.trim())
+        )?;
     }
 }
 
 /// The answer to one line; `table` is only reused.
-fn answer(state: &mut State, table: &mut Vec<u8>, line: &str) -> String {
+fn answer(state: &mut State, chains: Chains, table: &mut Vec<u8>, line: &str) -> String {
     // A table of no bytes has no digits, and then the space may be missing.
     let (word, digits) = line.split_once(' ').unwrap_or((line, ""));
     if word != "check" && word != "fill" {
@@ -30,9 +41,11 @@ fn answer(state: &mut State, table: &mut Vec<u8>, line: &str) -> String {
         return format!("error {reason}");
     }
     if word == "check" {
-        state.check(table, WORK_WORDS, CYCLE_NUMBERS).to_string()
+        let answer = state.check_with(chains, table, WORK_WORDS, CYCLE_NUMBERS);
+        answer.to_string()
     } else {
-        state.fill(table, WORK_WORDS, SOURCE_NUMBERS).to_string()
+        let answer = state.fill_with(chains, table, WORK_WORDS, SOURCE_NUMBERS);
+        answer.to_string()
     }
 }
 

@@ -2,7 +2,7 @@
 
 #![allow(dead_code)]
 
-use second::{State, CYCLE_NUMBERS, SOURCE_NUMBERS, WORK_WORDS};
+use second::{Chains, State, CYCLE_NUMBERS, SOURCE_NUMBERS, WORK_WORDS};
 use tables::builder::classes::UNIFORM;
 use tables::{Row, Table};
 
@@ -23,6 +23,12 @@ pub fn from_hex(digits: &str) -> Vec<u8> {
 pub fn check_bytes(table: &[u8]) -> String {
     State::new()
         .check(table, WORK_WORDS, CYCLE_NUMBERS)
+        .to_string()
+}
+
+pub fn check_bytes_with(chains: Chains, table: &[u8]) -> String {
+    State::new()
+        .check_with(chains, table, WORK_WORDS, CYCLE_NUMBERS)
         .to_string()
 }
 

@@ -4,12 +4,12 @@ use std::env;
 use std::io::{self, BufWriter, Write};
 use std::process::ExitCode;
 use tables::{
-    checkable, damaged, damaged_hosted, fillable, hex, hosted, hosted_fillable, Random, Size,
-    MAX_ROWS,
+    chained, chained_fillable, checkable, damaged, damaged_hosted, fillable, hex, hosted,
+    hosted_fillable, Random, Size, MAX_ROWS,
 };
 
 const USAGE: &str =
-    "usage: generate SEED COUNT MINROWS MAXROWS [check|fill|mix|damaged|hosted|hosted-fill|hosted-damaged]";
+    "usage: generate SEED COUNT MINROWS MAXROWS [check|fill|mix|damaged|hosted|hosted-fill|hosted-damaged|chained|chained-fill]";
 
 #[derive(Clone, Copy)]
 enum Sort {
@@ -20,6 +20,8 @@ enum Sort {
     Hosted,
     HostedFill,
     HostedDamaged,
+    Chained,
+    ChainedFill,
 }
 
 struct Request {
@@ -61,6 +63,8 @@ fn parse(words: &[String]) -> Option<Request> {
         Some("damaged") => Sort::Damaged,
         Some("hosted") => Sort::Hosted,
         Some("hosted-fill") => Sort::HostedFill,
+        Some("chained") => Sort::Chained,
+        Some("chained-fill") => Sort::ChainedFill,
         Some("hosted-damaged") => Sort::HostedDamaged,
         Some(_) => return None,
     };
@@ -85,13 +89,15 @@ fn write_lines(request: &Request) -> io::Result<()> {
 
 fn table(random: &mut Random, request: &Request) -> (&'static str, Vec<u8>) {
     let is_fill = match request.sort {
-        Sort::Check | Sort::Hosted => false,
-        Sort::Fill | Sort::HostedFill => true,
+        Sort::Check | Sort::Hosted | Sort::Chained => false,
+        Sort::Fill | Sort::HostedFill | Sort::ChainedFill => true,
         Sort::Mix | Sort::Damaged | Sort::HostedDamaged => random.percent(50),
     };
     let bytes = match (request.sort, is_fill) {
         (Sort::Damaged, _) => damaged(random, request.size),
         (Sort::HostedDamaged, _) => damaged_hosted(random, request.size),
+        (Sort::Chained, _) => chained(random, request.size).bytes(),
+        (Sort::ChainedFill, _) => chained_fillable(random, request.size).bytes(),
         (Sort::Hosted, _) => hosted(random, request.size).bytes(),
         (Sort::HostedFill, _) => hosted_fillable(random, request.size).bytes(),
         (_, true) => fillable(random, request.size).bytes(),

@@ -1,0 +1,111 @@
+//! Tables whose data goes by chains, with the switch off and, once the library
+//! takes it, on; until then the second implementation answers alone.
+
+use differential::{Comparison, Tally};
+use second::{Chains, CheckAnswer};
+use tables::{chained, chained_fillable, checkable, hosted, moved, Random, Size};
+
+const SMALL: Size = Size { least: 6, most: 14 };
+const MIDDLE: Size = Size {
+    least: 15,
+    most: 32,
+};
+const LARGEST: Size = Size {
+    least: 128,
+    most: 128,
+};
+
+/// Compares generated tables under both settings; gives what was answered with
+/// chains on, and how often only chains kept a table from racing.
+fn compare(seed: u64, count: usize, size: Size) -> (Tally, usize) {
+    let mut random = Random::new(seed);
+    let mut comparison = Comparison::new(seed);
+    let mut tally = Tally::default();
+    let mut saved = 0;
+    for _ in 0..count {
+        let bytes = chained(&mut random, size).bytes();
+        let off = comparison.check(&bytes).unwrap();
+        let on = comparison.check_with(Chains::On, &bytes).unwrap();
+        tally.check(&on);
+        let is_race = matches!(off, CheckAnswer::Race { .. });
+        saved += usize::from(is_race && on == CheckAnswer::RaceFree);
+        let bytes = chained_fillable(&mut random, size).bytes();
+        comparison.fill(&bytes).unwrap();
+        tally.fill(&comparison.fill_with(Chains::On, &bytes).unwrap());
+        comparison.report(&bytes).unwrap();
+        comparison.report_with(Chains::On, &bytes).unwrap();
+    }
+    (tally, saved)
+}
+
+fn assert_one_in(tally: &Tally, parts: usize) {
+    for words in [
+        "check race-free",
+        "check race",
+        "check overwritten",
+        "check cycle",
+        "fill filled",
+        "fill none",
+        "fill race",
+    ] {
+        assert!(
+            parts * tally.of(words) >= tally.total(),
+            "{words}:\n{tally}"
+        );
+    }
+    assert_eq!(tally.of("fill not compared"), 0);
+}
+
+#[test]
+fn small_tables() {
+    let (tally, _) = compare(1001, 2500, SMALL);
+    assert_one_in(&tally, 50);
+}
+
+#[test]
+fn middle_tables() {
+    let (tally, saved) = compare(1002, 800, MIDDLE);
+    assert_one_in(&tally, 50);
+    assert!(saved > 80, "{saved}");
+}
+
+#[test]
+fn largest_tables() {
+    let (tally, _) = compare(1003, 20, LARGEST);
+    assert!(tally.of("check race") > 0 && tally.of("fill race") > 0);
+}
+
+/// Tables made for other purposes, with chains on.
+#[test]
+fn other_tables() {
+    let mut random = Random::new(1004);
+    let mut comparison = Comparison::new(1004);
+    let mut tally = Tally::default();
+    for round in 0..1500 {
+        let size = Size { least: 4, most: 20 };
+        let bytes = match round % 3 {
+            0 => hosted(&mut random, size).bytes(),
+            _ => checkable(&mut random, size).bytes(),
+        };
+        tally.check(&comparison.check_with(Chains::On, &bytes).unwrap());
+    }
+    for words in ["check race-free", "check race", "check cycle"] {
+        assert!(tally.of(words) > 100, "{words}:\n{tally}");
+    }
+}
+
+/// The order of the page doesn't matter with chains on either.
+#[test]
+fn moved_tables() {
+    let mut random = Random::new(1005);
+    let mut comparison = Comparison::new(1005);
+    let mut word = |table: &[u8]| {
+        let answer = comparison.check_with(Chains::On, table).unwrap();
+        answer.to_string().split(' ').next().unwrap().to_string()
+    };
+    for _ in 0..600 {
+        let table = chained(&mut random, MIDDLE);
+        let moved = moved(&mut random, &table);
+        assert_eq!(word(&table.bytes()), word(&moved.table.bytes()));
+    }
+}

@@ -88,7 +88,7 @@ impl Checked<'_> {
                 });
             }
         }
-        None
+        self.ordered_by_chains(x, y, byte)
     }
 
     fn l3_words(&self, x: usize, y: usize, from: usize, to: usize) -> String {

@@ -73,7 +73,7 @@ fn none_lines(table: &[u8], blanks: &[usize], checker: &mut dyn Judge) -> Vec<St
     // Location order reads no plain source.
     let initial = filled(table, blanks, &vec![INITIAL; blanks.len()]);
     let mut state = State::new();
-    state.check(&initial, WORK_WORDS, CYCLE_NUMBERS);
+    state.check_with(checker.chains(), &initial, WORK_WORDS, CYCLE_NUMBERS);
     let run = Run::of(&initial);
     let checked = Checked {
         table: &initial,
@@ -129,7 +129,7 @@ fn contradiction(
         .map(|(row, source)| format!("row {row} {}", source_words(*source)))
         .collect();
     let mut state = State::new();
-    state.check(&table, WORK_WORDS, CYCLE_NUMBERS);
+    state.check_with(checker.chains(), &table, WORK_WORDS, CYCLE_NUMBERS);
     let run = Run::of(&table);
     let checked = Checked {
         table: &table,

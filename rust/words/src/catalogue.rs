@@ -8,18 +8,18 @@ use crate::goal::Goal;
 use crate::reason::Reason;
 use crate::reduction::relevant;
 use second::table::*;
-use second::INITIAL;
+use second::{Chains, INITIAL};
 
 /// The changes of every row that the race depends on, those of one group next
 /// to each other, the least first.
-pub fn catalogue(checked: Checked, goal: Goal) -> Vec<Change> {
+pub fn catalogue(checked: Checked, goal: Goal, chains: Chains) -> Vec<Change> {
     let mut maker = Maker {
         checked,
         goal,
         changes: Vec::new(),
         group: 0,
     };
-    for row in relevant(checked.run, goal) {
+    for row in relevant(checked.run, goal, chains) {
         let fields = checked.run.rows[row];
         let sort = checked.run.sort(fields.agent);
         if sort == QUEUE {

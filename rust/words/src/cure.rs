@@ -92,7 +92,7 @@ struct Searcher<'a> {
 
 /// Looks for cures of a table's race; `checked` is the table as it is.
 pub fn search(table: &[u8], checked: Checked, goal: Goal, checker: &mut dyn Judge) -> Search {
-    let reduction = Reduction::of(table, goal);
+    let reduction = Reduction::of(table, goal, checker.chains());
     let rows = Run::of(reduction.table()).rows.len();
     let mut searcher = Searcher {
         table,
@@ -103,7 +103,7 @@ pub fn search(table: &[u8], checked: Checked, goal: Goal, checker: &mut dyn Judg
         // A check takes time with the square of the rows, at the least.
         budget: 800_000 / ((rows + 8) * (rows + 8)),
     };
-    let mut changes = catalogue(checked, goal);
+    let mut changes = catalogue(checked, goal, searcher.checker.chains());
     changes.sort_by_key(|change| distance(checked.run, goal, change.edits[0].row));
     let mut cures = searcher.alone(&changes);
     if cures.is_empty() {
@@ -215,7 +215,9 @@ impl Searcher<'_> {
                 }
             }
         }
-        self.state.check(table, WORK_WORDS, CYCLE_NUMBERS);
+        let chains = self.checker.chains();
+        self.state
+            .check_with(chains, table, WORK_WORDS, CYCLE_NUMBERS);
         Some(!self.state.races_at(goal.first, goal.second, goal.byte))
     }
 
@@ -247,9 +249,10 @@ impl Searcher<'_> {
             CheckAnswer::Refused { .. } => return None,
             answer => answer.to_string(),
         };
-        let reduction = Reduction::of(&table, goal);
+        let reduction = Reduction::of(&table, goal, self.checker.chains());
+        let chains = self.checker.chains();
         self.state
-            .check(reduction.table(), WORK_WORDS, CYCLE_NUMBERS);
+            .check_with(chains, reduction.table(), WORK_WORDS, CYCLE_NUMBERS);
         let goal = reduction.goal(goal);
         if self.state.races_at(goal.first, goal.second, goal.byte) {
             return None;
@@ -321,7 +324,7 @@ impl Searcher<'_> {
             second: first.moved(self.goal.second),
             ..self.goal
         };
-        let reduction = Reduction::of(&table, goal);
+        let reduction = Reduction::of(&table, goal, self.checker.chains());
         let goal = reduction.goal(goal);
         self.is_ordered(reduction.table(), goal) != Some(true)
     }

@@ -11,6 +11,7 @@ use stramashly::CheckAnswer;
 /// The table as an SVG document, or the refusal of a table that has no picture.
 /// Of a large run only the rows that matter are drawn, unless all are wanted.
 pub fn draw(table: &[u8], checker: &mut dyn Judge, is_all: bool) -> Result<String, String> {
+    let chains = checker.chains();
     let answer = checker.check(table);
     if let CheckAnswer::Refused { .. } = answer {
         return Err(answer.to_string());
@@ -20,7 +21,7 @@ pub fn draw(table: &[u8], checker: &mut dyn Judge, is_all: bool) -> Result<Strin
     }
     let run = Run::of(table);
     let mut state = State::new();
-    state.check(table, WORK_WORDS, CYCLE_NUMBERS);
+    state.check_with(chains, table, WORK_WORDS, CYCLE_NUMBERS);
     let checked = Checked {
         table,
         state: &state,

@@ -7,7 +7,7 @@ use crate::goal::Goal;
 use crate::judge::Judge;
 use crate::run::Run;
 use crate::{inconsistent, race, race_free, refusal};
-use second::{State, CYCLE_NUMBERS, WORK_WORDS};
+use second::{Chains, State, CYCLE_NUMBERS, WORK_WORDS};
 use stramashly::CheckAnswer;
 
 /// What an answer shows, to be pointed out in a picture.
@@ -60,6 +60,8 @@ pub struct Explanation {
     pub lines: Vec<String>,
     /// What would order a racing pair.
     pub cures: Vec<Cure>,
+    /// Whether it was asked with chains.
+    pub chains: Chains,
 }
 
 impl Explanation {
@@ -77,7 +79,9 @@ impl Explanation {
 /// Explains a table's answer, whatever its bytes.
 pub fn explain(table: &[u8], checker: &mut dyn Judge) -> Explanation {
     let mut state = State::new();
-    let second = state.check(table, WORK_WORDS, CYCLE_NUMBERS).to_string();
+    let chains = checker.chains();
+    let second = state.check_with(chains, table, WORK_WORDS, CYCLE_NUMBERS);
+    let second = second.to_string();
     let run = Run::of(table);
     let checked = Checked {
         table,
@@ -90,6 +94,7 @@ pub fn explain(table: &[u8], checker: &mut dyn Judge) -> Explanation {
         shown: shown(checked, given),
         lines: Vec::new(),
         cures: Vec::new(),
+        chains,
     };
     if second == explanation.answer && !Run::is_known(table) && !second.starts_with("refused") {
         explanation.lines = vec![format!(

@@ -1,6 +1,7 @@
 //! Who answers. On the command line that is the proved library; the words
 //! themselves ask for no more than this.
 
+use second::Chains;
 use stramashly::{CheckAnswer, Checker, DeriveAnswer, FillAnswer};
 
 /// Answers questions about tables, whatever their bytes.
@@ -8,6 +9,11 @@ pub trait Judge {
     fn check(&mut self, table: &[u8]) -> CheckAnswer<'_>;
     fn fill(&mut self, table: &[u8]) -> FillAnswer<'_>;
     fn derive(&mut self, table: &[u8], first: u16, second: u16) -> DeriveAnswer<'_>;
+
+    /// Whether checks and fills are asked with chains.
+    fn chains(&self) -> Chains {
+        Chains::Off
+    }
 }
 
 impl Judge for Checker {

@@ -9,7 +9,7 @@
 //! | what | module |
 //! |---|---|
 //! | the words for codes, rows and tables | `names`, `run`, `show` |
-//! | why rows are ordered | `account`, `derivation`, `why` |
+//! | why rows are ordered | `account`, `chain`, `derivation`, `why` |
 //! | why they aren't | `nearest`, `gap`, `carriage` |
 //! | what would order them | `catalogue`, `change`, `edit`, `reason`, `reduction`, `cure` |
 //! | new rows and dependencies that would, and their words for a shader | `insertion`, `dependency`, `remedy`, `domains`, `shader` |
@@ -21,6 +21,7 @@ mod account;
 mod blank;
 mod carriage;
 mod catalogue;
+mod chain;
 mod change;
 mod cure;
 mod dependency;

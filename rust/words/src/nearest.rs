@@ -135,6 +135,10 @@ impl Checked<'_> {
         let state = self.state;
         let moments = 0..3 * self.run.rows.len();
         let mut lacks = Vec::new();
+        // What follows speaks of single elements, and a chain may do as well.
+        if state.rules_at(x, y, byte)[2] {
+            return lacks;
+        }
         if !self.run.rows[x].writes() {
             lacks.push(format!("row {x} doesn't write"));
         }

@@ -121,7 +121,7 @@ fn linked(text: &str, rows: usize) -> String {
 /// The picture, unless the table is refused or of a version without one.
 fn picture_part(table: &[u8], run: &Run, explanation: &Explanation, is_all: bool) -> String {
     let mut state = State::new();
-    state.check(table, WORK_WORDS, CYCLE_NUMBERS);
+    state.check_with(explanation.chains, table, WORK_WORDS, CYCLE_NUMBERS);
     let checked = Checked {
         table,
         state: &state,

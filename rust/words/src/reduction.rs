@@ -5,7 +5,7 @@ use crate::edit::{edited, row_bytes, Edit, Field};
 use crate::goal::Goal;
 use crate::run::{first_row, Run};
 use second::table::{Row, ROW_BYTES};
-use second::{BLANK, INITIAL};
+use second::{Chains, BLANK, INITIAL};
 
 /// A table of fewer rows in which the goal's rows race exactly if they do in
 /// the whole one.
@@ -16,9 +16,9 @@ pub struct Reduction {
 }
 
 impl Reduction {
-    pub fn of(table: &[u8], goal: Goal) -> Reduction {
+    pub fn of(table: &[u8], goal: Goal, chains: Chains) -> Reduction {
         let run = Run::of(table);
-        let kept = relevant(&run, goal);
+        let kept = relevant(&run, goal, chains);
         let first_row = first_row(table);
         let mut reduced = table[..first_row].to_vec();
         for row in &kept {
@@ -88,7 +88,7 @@ impl Reduction {
 /// The rows that the order of two rows at a byte depends on: themselves, what
 /// synchronizes, their agents' plain rows by one of their references that
 /// could make the byte available or visible, and rows that dependencies join.
-pub fn relevant(run: &Run, goal: Goal) -> Vec<usize> {
+pub fn relevant(run: &Run, goal: Goal, chains: Chains) -> Vec<usize> {
     let racing = [goal.first, goal.second];
     let is_near = |row: Row| {
         let mut rows = racing.iter().map(|racing| run.rows[*racing]);
@@ -101,8 +101,14 @@ pub fn relevant(run: &Run, goal: Goal) -> Vec<usize> {
         let mut named = run.dependencies.iter().flatten();
         named.any(|named| usize::from(*named) == row)
     };
+    // A chain's middle may be any row that makes available or visible.
+    let is_element = |row: Row| {
+        let is_flagged = row.makes_available() || row.makes_visible();
+        chains == Chains::On && is_flagged
+    };
     let kept = rows.filter(|(number, row)| {
-        racing.contains(number) || !row.is_plain() || is_near(**row) || joins(*number)
+        let is_needed = racing.contains(number) || !row.is_plain() || joins(*number);
+        is_needed || is_near(**row) || is_element(**row)
     });
     kept.map(|(number, _)| number).collect()
 }

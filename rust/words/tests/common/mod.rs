@@ -2,7 +2,7 @@
 
 #![allow(dead_code)]
 
-use second::{State, CYCLE_NUMBERS, SOURCE_NUMBERS, WORK_WORDS};
+use second::{Chains, State, CYCLE_NUMBERS, SOURCE_NUMBERS, WORK_WORDS};
 use std::collections::BTreeSet;
 use stramashly::{CheckAnswer, DeriveAnswer, FillAnswer};
 use tables::{checkable, Random, Size};
@@ -27,8 +27,13 @@ pub fn example(name: &str) -> Vec<u8> {
 
 /// The relations of a table, whatever the second implementation answers.
 pub fn with_relations<T>(table: &[u8], ask: impl FnOnce(Checked) -> T) -> T {
+    with_chains(Chains::Off, table, ask)
+}
+
+/// The relations with chains off or on.
+pub fn with_chains<T>(chains: Chains, table: &[u8], ask: impl FnOnce(Checked) -> T) -> T {
     let mut state = State::new();
-    state.check(table, WORK_WORDS, CYCLE_NUMBERS);
+    state.check_with(chains, table, WORK_WORDS, CYCLE_NUMBERS);
     let run = Run::of(table);
     ask(Checked {
         table,
@@ -41,14 +46,20 @@ pub fn with_relations<T>(table: &[u8], ask: impl FnOnce(Checked) -> T) -> T {
 /// linked one may not take. It finds no derivations.
 pub struct Second {
     state: State,
+    chains: Chains,
     rows: Vec<u16>,
     edges: Vec<u16>,
 }
 
 impl Second {
     pub fn new() -> Second {
+        Second::with(Chains::Off)
+    }
+
+    pub fn with(chains: Chains) -> Second {
         Second {
             state: State::new(),
+            chains,
             rows: Vec::new(),
             edges: Vec::new(),
         }
@@ -57,7 +68,10 @@ impl Second {
 
 impl Judge for Second {
     fn check(&mut self, table: &[u8]) -> CheckAnswer<'_> {
-        match self.state.check(table, WORK_WORDS, CYCLE_NUMBERS) {
+        match self
+            .state
+            .check_with(self.chains, table, WORK_WORDS, CYCLE_NUMBERS)
+        {
             second::CheckAnswer::RaceFree => CheckAnswer::RaceFree,
             second::CheckAnswer::Race {
                 first,
@@ -93,7 +107,10 @@ impl Judge for Second {
     }
 
     fn fill(&mut self, table: &[u8]) -> FillAnswer<'_> {
-        match self.state.fill(table, WORK_WORDS, SOURCE_NUMBERS) {
+        match self
+            .state
+            .fill_with(self.chains, table, WORK_WORDS, SOURCE_NUMBERS)
+        {
             second::FillAnswer::TooMany => panic!("too many fillings for a test"),
             second::FillAnswer::None => FillAnswer::None,
             second::FillAnswer::Race {
@@ -118,6 +135,10 @@ impl Judge for Second {
 
     fn derive(&mut self, _: &[u8], _: u16, _: u16) -> DeriveAnswer<'_> {
         DeriveAnswer::NotBefore
+    }
+
+    fn chains(&self) -> Chains {
+        self.chains
     }
 }
 

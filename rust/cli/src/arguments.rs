@@ -1,5 +1,6 @@
 //! The words of the command line.
 
+use crate::checker::HAS_CHAINS;
 use crate::help;
 use crate::make::{steps, Making};
 use crate::question::{Kind, Question};
@@ -17,6 +18,7 @@ pub enum Command {
     Files(Request),
     Batch {
         is_json: bool,
+        has_chains: bool,
         jobs: usize,
     },
 }
@@ -36,6 +38,8 @@ pub struct Request {
     pub is_hex: bool,
     pub is_json: bool,
     pub is_quiet: bool,
+    /// Whether the device has availability and visibility chains.
+    pub has_chains: bool,
     pub jobs: usize,
     pub names: Vec<OsString>,
 }
@@ -74,6 +78,7 @@ struct Words {
     is_quiet: bool,
     is_table: bool,
     is_words: bool,
+    has_chains: bool,
     jobs: Option<usize>,
     others: Vec<OsString>,
 }
@@ -165,6 +170,8 @@ fn sort(words: impl Iterator<Item = OsString>) -> Result<Words, String> {
             Some("--quiet" | "-q") => sorted.is_quiet = true,
             Some("--table") => sorted.is_table = true,
             Some("--words") => sorted.is_words = true,
+            Some("--chains") if HAS_CHAINS => sorted.has_chains = true,
+            Some("--chains") => return Err("the linked library takes no --chains".to_string()),
             Some("-j" | "--jobs") => {
                 let count = words.next();
                 let count = count.as_ref().and_then(|count| count.to_str());
@@ -215,10 +222,23 @@ fn check_options(task: &Task, words: &Words) -> Result<(), String> {
     if words.is_words && !matches!(task, Task::Tell(Telling::Why { .. })) {
         return Err("only derive takes --words".to_string());
     }
+    if words.has_chains && !takes_chains(task) {
+        return Err("only check, fill, report, explain, draw and batch take --chains".to_string());
+    }
     if words.is_quiet && !matches!(task, Task::Judge(_)) {
         return Err(format!("only {} take --quiet", Kind::NAMES));
     }
     Ok(())
+}
+
+/// Whether chains play a part: derivations and forms don't depend on them.
+fn takes_chains(task: &Task) -> bool {
+    matches!(
+        task,
+        Task::Judge(Question::Check | Question::Fill | Question::Report)
+            | Task::Tell(Telling::Explain | Telling::Page { .. } | Telling::Draw { .. })
+            | Task::Make(Making::Filled)
+    )
 }
 
 fn files(task: Task, words: Words) -> Result<Command, String> {
@@ -228,6 +248,7 @@ fn files(task: Task, words: Words) -> Result<Command, String> {
         is_hex: words.is_hex,
         is_json: words.is_json,
         is_quiet: words.is_quiet,
+        has_chains: words.has_chains,
         jobs: words.jobs.unwrap_or(1),
         names: words.others,
     };
@@ -260,6 +281,7 @@ fn batch(words: &Words) -> Result<Command, String> {
     }
     Ok(Command::Batch {
         is_json: words.is_json,
+        has_chains: words.has_chains,
         jobs: words.jobs.unwrap_or(1),
     })
 }
@@ -280,6 +302,7 @@ mod tests {
             is_hex,
             is_json: false,
             is_quiet: false,
+            has_chains: false,
             jobs: 1,
             names,
         }))
@@ -290,7 +313,13 @@ mod tests {
         assert_eq!(parsed("--help"), Ok(Command::Help));
         assert_eq!(parsed("check -h"), Ok(Command::Help));
         assert_eq!(parsed("--version"), Ok(Command::Version));
-        let batch = |is_json, jobs| Ok(Command::Batch { is_json, jobs });
+        let batch = |is_json, jobs| {
+            Ok(Command::Batch {
+                is_json,
+                has_chains: false,
+                jobs,
+            })
+        };
         assert_eq!(parsed("batch"), batch(false, 1));
         assert_eq!(parsed("batch --json -j 3"), batch(true, 3));
         assert_eq!(parsed("help"), Ok(Command::Help));
@@ -335,6 +364,42 @@ mod tests {
                 panic!("{line}");
             };
             assert!(request.is_json && !request.is_hex, "{line}");
+        }
+    }
+
+    /// Chains go where they play a part; where the library takes none, the
+    /// option isn't passed over.
+    #[test]
+    fn chains_are_asked_for_or_told() {
+        for line in [
+            "check --chains a",
+            "fill --table --chains a",
+            "report a --chains",
+            "--chains explain a",
+            "explain --html --chains a",
+            "draw --chains a",
+        ] {
+            match parsed(line) {
+                Ok(Command::Files(request)) => assert!(HAS_CHAINS && request.has_chains, "{line}"),
+                Err(reason) => assert!(!HAS_CHAINS && reason.contains("--chains"), "{line}"),
+                other => panic!("{line}: {other:?}"),
+            }
+        }
+        assert_eq!(parsed("batch --chains").is_ok(), HAS_CHAINS);
+        for line in [
+            "show --chains a",
+            "derive --chains a 3 8",
+            "edit --chains a",
+        ] {
+            assert!(parsed(line).is_err(), "{line}");
+        }
+        for (task, expected) in [
+            (Task::Judge(Question::Check), true),
+            (Task::Tell(Telling::Draw { is_all: false }), true),
+            (Task::Tell(Telling::Show), false),
+            (Task::Make(Making::Edited(Vec::new())), false),
+        ] {
+            assert_eq!(takes_chains(&task), expected, "{task:?}");
         }
     }
 

@@ -1,5 +1,6 @@
 //! `batch`: one table a line.
 
+use crate::checker::checker;
 use crate::input;
 use crate::judge::{append_trouble, judge, Form};
 use crate::line::Line;
@@ -15,7 +16,7 @@ use stramashly::Checker;
 /// So many lines go to a thread at once.
 const PIECE: usize = 64;
 
-pub fn run(is_json: bool, jobs: usize) -> Status {
+pub fn run(is_json: bool, has_chains: bool, jobs: usize) -> Status {
     if let Err(reason) = input::trouble() {
         complain(&reason);
         return Status::Trouble;
@@ -26,15 +27,15 @@ pub fn run(is_json: bool, jobs: usize) -> Status {
         Form::Plain
     };
     if jobs == 1 {
-        one_by_one(form)
+        one_by_one(form, has_chains)
     } else {
-        spread(form, jobs)
+        spread(form, has_chains, jobs)
     }
 }
 
 /// Answers each line before the next is read.
-fn one_by_one(form: Form) -> Status {
-    let mut checker = Checker::new();
+fn one_by_one(form: Form, has_chains: bool) -> Status {
+    let mut checker = checker(has_chains);
     let mut writer = Writer::new();
     let mut lines = Lines::new();
     let mut highest = Status::Fine;
@@ -59,9 +60,9 @@ fn one_by_one(form: Form) -> Status {
 }
 
 /// Answers lines in several threads, in order.
-fn spread(form: Form, jobs: usize) -> Status {
+fn spread(form: Form, has_chains: bool, jobs: usize) -> Status {
     let (read, written) = in_order(
-        jobs,
+        (jobs, || checker(has_chains)),
         read_pieces,
         |checker, asked: Result<(Question, Vec<u8>), String>| {
             let mut text = String::new();

@@ -2,6 +2,7 @@
 //! another table.
 
 use crate::arguments::{Request, Task};
+use crate::checker::checker;
 use crate::colour;
 use crate::folder;
 use crate::hex::{Hex, KEPT_BYTES};
@@ -47,7 +48,7 @@ pub fn run(request: &Request) -> Status {
     let are_named = request.names.len() > 1 || is_many && folder::has_directory(&request.names);
     let writer = || Writer::new(request, are_named);
     if request.jobs == 1 {
-        let mut checker = Checker::new();
+        let mut checker = checker(request.has_chains);
         let mut writer = writer();
         for name in names {
             writer.write(outcome(request, are_named, &mut checker, name));
@@ -61,7 +62,8 @@ pub fn run(request: &Request) -> Status {
         }
     };
     let work = |checker: &mut Checker, name| outcome(request, are_named, checker, name);
-    in_order(request.jobs, give, work, writer, Writer::finish).1
+    let threads = (request.jobs, || checker(request.has_chains));
+    in_order(threads, give, work, writer, Writer::finish).1
 }
 
 /// Writes outcomes in order, and sums them up.

@@ -57,9 +57,10 @@ these print no answers: the exit status has it. -j N works in N threads, answers
 answer is coloured on a terminal unless NO_COLOR is set. Of several files a last line on
 standard error says how many had which answer.
 
-An EDIT is `row R FIELD VALUE` or `insert R FIELD VALUE ...`, several with `;` between them:
-kind, agent, order, scope, classes, flags, class, length, start, reference, source, rank. A new
-row has place R, and the rows from there on move on by one, sources with them.
+An EDIT is `row R FIELD VALUE`, `insert R FIELD VALUE ...` or `depend R S`, several with `;`
+between them: kind, agent, order, scope, classes, flags, class, length, start, reference, source,
+rank. A new row has place R, and the rows from there on move on by one, sources and dependencies
+with them. With depend, in a table of version 3, row S depends on row R.
 
 A moment is 3 times its row, plus 0, 1 or 2: before it, the row itself, after it; or R.before,
 R.at, R.after. S is a class set, 1 to 15: the sum of 1 Uniform, 2 Workgroup, 4 Image, 8 Output. A STEP is 512 times its

@@ -3,6 +3,7 @@
 mod answers;
 mod arguments;
 mod batch;
+mod checker;
 mod colour;
 mod files;
 mod folder;
@@ -40,7 +41,11 @@ fn main() -> ExitCode {
         Ok(Command::Version) => print(concat!("stramashly ", env!("CARGO_PKG_VERSION"), "\n")),
         Ok(Command::Files(request)) => files::run(&request),
         Ok(Command::HelpOf(name)) => print(&help::of(&name).unwrap_or_default()),
-        Ok(Command::Batch { is_json, jobs }) => batch::run(is_json, jobs),
+        Ok(Command::Batch {
+            is_json,
+            has_chains,
+            jobs,
+        }) => batch::run(is_json, has_chains, jobs),
         Err(reason) => {
             complain(&format!("{reason}; try `stramashly --help`"));
             Status::Trouble

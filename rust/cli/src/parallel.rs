@@ -37,9 +37,9 @@ pub trait Taker<R> {
 
 /// Runs `read` here, which gives pieces of work until it ends or is told to
 /// stop; the work in so many threads; and a taker in another. Gives back what
-/// `read` and the taker's `finish` gave.
+/// `read` and the taker's `finish` gave. Each thread has a checker of its own.
 pub fn in_order<T: Send, R: Send, A, B: Send, K: Taker<R>>(
-    jobs: usize,
+    (jobs, checker): (usize, impl Fn() -> Checker + Sync),
     read: impl FnOnce(&mut Giver<T>, &AtomicBool) -> A,
     work: impl Fn(&mut Checker, T) -> R + Sync,
     taker: impl FnOnce() -> K + Send,
@@ -52,8 +52,8 @@ pub fn in_order<T: Send, R: Send, A, B: Send, K: Taker<R>>(
     thread::scope(|scope| {
         for _ in 0..jobs {
             let done = done.clone();
-            let (waiting, work) = (&waiting, &work);
-            scope.spawn(move || work_off(waiting, &done, work));
+            let (waiting, work, checker) = (&waiting, &work, &checker);
+            scope.spawn(move || work_off(waiting, &done, checker(), work));
         }
         drop(done);
         let is_enough = &is_enough;
@@ -73,9 +73,9 @@ pub fn in_order<T: Send, R: Send, A, B: Send, K: Taker<R>>(
 fn work_off<T, R>(
     waiting: &Mutex<Receiver<Numbered<T>>>,
     done: &SyncSender<Numbered<R>>,
+    mut checker: Checker,
     work: &impl Fn(&mut Checker, T) -> R,
 ) {
-    let mut checker = Checker::new();
     loop {
         let next = waiting.lock().expect("nobody panics with it").recv();
         let Ok((number, piece)) = next else {
@@ -133,7 +133,7 @@ mod tests {
 
     fn doubled(jobs: usize, enough: usize) -> (u64, Vec<u64>) {
         in_order(
-            jobs,
+            (jobs, Checker::new),
             |giver, is_enough| {
                 let mut given = 0;
                 while given < 1000 && !is_enough.load(Ordering::Relaxed) {

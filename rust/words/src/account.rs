@@ -9,12 +9,12 @@ use second::State;
 /// One reason why a row is ordered before another at a byte.
 #[derive(Clone, Debug, PartialEq, Eq)]
 pub struct Ordered {
-    /// 1 to 3, for L1 to L3.
+    /// 1 to 5, for L1 to L5.
     pub rule: u8,
     /// What the rule asks besides happens-before, in words.
     pub because: String,
-    /// The moments of which the first happens before the second.
-    pub moments: (usize, usize),
+    /// The moments of which each happens before the next.
+    pub path: Vec<usize>,
 }
 
 /// A checked table: its bytes, its relations and its rows.
@@ -28,21 +28,44 @@ pub struct Checked<'a> {
 impl Checked<'_> {
     /// The lowest rule by which X comes before Y at a byte.
     pub fn ordered(&self, x: usize, y: usize, byte: u32) -> Option<Ordered> {
-        let rules = self.state.rules_at(x, y, byte);
+        let [l1, l2, l3] = self.state.rules_at(x, y, byte);
+        let [l4, l5] = self.state.system_rules(x, y);
+        let rules = [l1, l2, l3, l4, l5];
         let rule = rules.iter().position(|holds| *holds)?;
         match rule {
             0 => Some(Ordered {
                 rule: 1,
                 because: "one agent, one reference".to_string(),
-                moments: (at(x), at(y)),
+                path: vec![at(x), at(y)],
             }),
             1 => Some(Ordered {
                 rule: 2,
                 because: format!("row {x} only reads, both are non-private"),
-                moments: (at(x), at(y)),
+                path: vec![at(x), at(y)],
             }),
-            _ => self.ordered_by_l3(x, y, byte),
+            2 => self.ordered_by_l3(x, y, byte),
+            3 => Some(Ordered {
+                rule: 4,
+                because: format!("row {x} only reads, and dependencies lead to row {y}"),
+                path: vec![at(x), at(y)],
+            }),
+            _ => self.ordered_by_l5(x, y),
         }
+    }
+
+    fn ordered_by_l5(&self, x: usize, y: usize) -> Option<Ordered> {
+        let steps = self.state.domain_steps(x, y)?;
+        let first = [Some(steps.availability)];
+        let stops = first
+            .into_iter()
+            .chain([steps.domain_operation, steps.visibility]);
+        let stops: Vec<usize> = stops.flatten().collect();
+        let moments = stops.iter().map(|row| at(*row));
+        Some(Ordered {
+            rule: 5,
+            because: self.l5_words(x, &stops),
+            path: [at(x)].into_iter().chain(moments).chain([at(y)]).collect(),
+        })
     }
 
     fn ordered_by_l3(&self, x: usize, y: usize, byte: u32) -> Option<Ordered> {
@@ -61,11 +84,11 @@ impl Checked<'_> {
                 return Some(Ordered {
                     rule: 3,
                     because: self.l3_words(x, y, from, to),
-                    moments: (from, to),
+                    path: vec![from, to],
                 });
             }
         }
-        None
+        self.ordered_by_chains(x, y, byte)
     }
 
     fn l3_words(&self, x: usize, y: usize, from: usize, to: usize) -> String {
@@ -91,9 +114,12 @@ impl Checked<'_> {
         words
     }
 
-    /// The steps from one moment to the other, a line each.
-    pub fn steps(&self, moments: (usize, usize)) -> Vec<String> {
-        derived_lines(self.table, &self.run.rows, moments)
+    /// The steps from moment to moment, a line each.
+    pub fn steps(&self, path: &[usize]) -> Vec<String> {
+        let arrows = path.windows(2);
+        arrows
+            .flat_map(|arrow| derived_lines(self.table, &self.run.rows, (arrow[0], arrow[1])))
+            .collect()
     }
 
     /// `row 0 before row 3 by L3: …`, then the steps, indented.
@@ -103,7 +129,7 @@ impl Checked<'_> {
         };
         let (rule, because) = (ordered.rule, &ordered.because);
         let mut lines = vec![format!("row {x} before row {y} by L{rule}: {because}")];
-        let steps = self.steps(ordered.moments);
+        let steps = self.steps(&ordered.path);
         lines.extend(steps.iter().map(|step| format!("  {step}")));
         lines
     }

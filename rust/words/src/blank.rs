@@ -5,14 +5,15 @@ use crate::account::Checked;
 use crate::edit::{edited, Edit, Field};
 use crate::explain::shown;
 use crate::inconsistent;
+use crate::judge::Judge;
 use crate::names;
 use crate::refusal;
 use crate::run::Run;
 use second::{State, BLANK, CYCLE_NUMBERS, INITIAL, WORK_WORDS};
-use stramashly::{Checker, FillAnswer};
+use stramashly::FillAnswer;
 
 /// What `fill` answers of a table with blanks, in sentences.
-pub fn lines(table: &[u8], checker: &mut Checker) -> Vec<String> {
+pub fn lines(table: &[u8], checker: &mut dyn Judge) -> Vec<String> {
     let blanks = blanks(&Run::of(table));
     let answer = checker.fill(table);
     let told = format!("`stramashly fill` answers `{answer}`");
@@ -68,11 +69,11 @@ fn filled(table: &[u8], blanks: &[usize], sources: &[u16]) -> Vec<u8> {
 
 /// The blanks that nothing can stand in, with the reason for each source; if
 /// every blank alone could have one, what these contradict.
-fn none_lines(table: &[u8], blanks: &[usize], checker: &mut Checker) -> Vec<String> {
+fn none_lines(table: &[u8], blanks: &[usize], checker: &mut dyn Judge) -> Vec<String> {
     // Location order reads no plain source.
     let initial = filled(table, blanks, &vec![INITIAL; blanks.len()]);
     let mut state = State::new();
-    state.check(&initial, WORK_WORDS, CYCLE_NUMBERS);
+    state.check_with(checker.chains(), &initial, WORK_WORDS, CYCLE_NUMBERS);
     let run = Run::of(&initial);
     let checked = Checked {
         table: &initial,
@@ -119,7 +120,7 @@ fn contradiction(
     table: &[u8],
     blanks: &[usize],
     chosen: &[u16],
-    checker: &mut Checker,
+    checker: &mut dyn Judge,
 ) -> Vec<String> {
     let table = filled(table, blanks, chosen);
     let named: Vec<String> = blanks
@@ -128,7 +129,7 @@ fn contradiction(
         .map(|(row, source)| format!("row {row} {}", source_words(*source)))
         .collect();
     let mut state = State::new();
-    state.check(&table, WORK_WORDS, CYCLE_NUMBERS);
+    state.check_with(checker.chains(), &table, WORK_WORDS, CYCLE_NUMBERS);
     let run = Run::of(&table);
     let checked = Checked {
         table: &table,

@@ -8,20 +8,26 @@ use crate::goal::Goal;
 use crate::reason::Reason;
 use crate::reduction::relevant;
 use second::table::*;
-use second::INITIAL;
+use second::{Chains, INITIAL};
 
 /// The changes of every row that the race depends on, those of one group next
 /// to each other, the least first.
-pub fn catalogue(checked: Checked, goal: Goal) -> Vec<Change> {
+pub fn catalogue(checked: Checked, goal: Goal, chains: Chains) -> Vec<Change> {
     let mut maker = Maker {
         checked,
         goal,
         changes: Vec::new(),
         group: 0,
     };
-    for row in relevant(checked.run, goal) {
+    for row in relevant(checked.run, goal, chains) {
         let fields = checked.run.rows[row];
-        if fields.is_plain() {
+        let sort = checked.run.sort(fields.agent);
+        if sort == QUEUE {
+            continue;
+        }
+        if sort == HOST {
+            maker.private(row, fields);
+        } else if fields.is_plain() {
             maker.plain(row, fields);
         } else {
             maker.semantics(row, fields);
@@ -79,13 +85,17 @@ impl Maker<'_> {
         rows[self.goal.first].class_bit() | rows[self.goal.second].class_bit()
     }
 
-    fn plain(&mut self, row: usize, fields: Row) {
+    fn private(&mut self, row: usize, fields: Row) {
         if !fields.is_non_private() {
             self.group += 1;
             let flags = fields.flags | NON_PRIVATE;
             let edits = vec![Edit::new(row, Field::Flags, flags)];
             self.add(Reason::Private { row }, edits);
         }
+    }
+
+    fn plain(&mut self, row: usize, fields: Row) {
+        self.private(row, fields);
         self.plain_flag(row, fields);
         if let Some(other) = self.other(row) {
             self.not_atomic(row, fields, other);

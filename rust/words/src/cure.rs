@@ -7,9 +7,11 @@
 use crate::account::Checked;
 use crate::catalogue::catalogue;
 use crate::change::Change;
+use crate::dependency::Dependency;
 use crate::edit::{edited, merged, Edit, Field};
 use crate::goal::Goal;
 use crate::insertion::{stepped, Insertion, Step};
+use crate::judge::Judge;
 use crate::reason::Reason;
 use crate::reduction::Reduction;
 use crate::remedy::{remedies, Remedy};
@@ -18,7 +20,7 @@ use second::table::*;
 use second::{State, CYCLE_NUMBERS, WORK_WORDS};
 use std::cmp::Ordering;
 use std::collections::HashSet;
-use stramashly::{CheckAnswer, Checker, FillAnswer};
+use stramashly::{CheckAnswer, FillAnswer};
 
 /// Changes that order the rows: one or two of rows that are there, or new
 /// rows and what the racing rows need besides.
@@ -29,6 +31,8 @@ pub struct Cure {
     pub edits: Vec<Edit>,
     /// The new rows, put in one after the other when the edits are made.
     pub insertions: Vec<Insertion>,
+    /// New dependencies, of the rows as they are numbered then.
+    pub dependencies: Vec<Dependency>,
     /// What orders the rows then.
     pub order: String,
     /// What a check answers then.
@@ -40,15 +44,22 @@ impl Cure {
     pub fn steps(&self) -> Vec<Step> {
         let edits = self.edits.iter().map(|edit| Step::Edit(*edit));
         let insertions = self.insertions.iter();
+        let dependencies = self.dependencies.iter();
         edits
             .chain(insertions.map(|insertion| Step::Insert(*insertion)))
+            .chain(dependencies.map(|dependency| Step::Depend(*dependency)))
             .collect()
+    }
+
+    /// Whether something is put in, rather than changed.
+    pub fn is_new(&self) -> bool {
+        !self.insertions.is_empty() || !self.dependencies.is_empty()
     }
 
     /// Whether rows that are there get all that is wanted, and it asks no
     /// other run and no other access.
     fn is_stronger(&self) -> bool {
-        self.insertions.is_empty() && self.changes.iter().all(|change| change.is_stronger)
+        !self.is_new() && self.changes.iter().all(|change| change.is_stronger)
     }
 }
 
@@ -71,7 +82,7 @@ const ENOUGH_REMEDIES: usize = 3;
 struct Searcher<'a> {
     table: &'a [u8],
     goal: Goal,
-    checker: &'a mut Checker,
+    checker: &'a mut dyn Judge,
     state: State,
     /// What the race depends on.
     reduction: Reduction,
@@ -80,8 +91,8 @@ struct Searcher<'a> {
 }
 
 /// Looks for cures of a table's race; `checked` is the table as it is.
-pub fn search(table: &[u8], checked: Checked, goal: Goal, checker: &mut Checker) -> Search {
-    let reduction = Reduction::of(table, goal);
+pub fn search(table: &[u8], checked: Checked, goal: Goal, checker: &mut dyn Judge) -> Search {
+    let reduction = Reduction::of(table, goal, checker.chains());
     let rows = Run::of(reduction.table()).rows.len();
     let mut searcher = Searcher {
         table,
@@ -92,7 +103,7 @@ pub fn search(table: &[u8], checked: Checked, goal: Goal, checker: &mut Checker)
         // A check takes time with the square of the rows, at the least.
         budget: 800_000 / ((rows + 8) * (rows + 8)),
     };
-    let mut changes = catalogue(checked, goal);
+    let mut changes = catalogue(checked, goal, searcher.checker.chains());
     changes.sort_by_key(|change| distance(checked.run, goal, change.edits[0].row));
     let mut cures = searcher.alone(&changes);
     if cures.is_empty() {
@@ -141,7 +152,7 @@ fn rank(cure: &Cure) -> (usize, bool, usize) {
     (
         trouble,
         is_other_run,
-        cure.edits.len() + cure.insertions.len(),
+        cure.edits.len() + cure.insertions.len() + cure.dependencies.len(),
     )
 }
 
@@ -149,9 +160,9 @@ fn rank(cure: &Cure) -> (usize, bool, usize) {
 /// out; new rows are something else.
 fn without_needless(cures: &[Cure]) -> Vec<Cure> {
     let is_needless = |cure: &Cure| {
-        let others = cures.iter().filter(|other| other.insertions.is_empty());
+        let others = cures.iter().filter(|other| !other.is_new());
         let mut others = others.filter(|other| other.edits != cure.edits);
-        cure.insertions.is_empty() && others.any(|less| contains(&cure.edits, &less.edits))
+        !cure.is_new() && others.any(|less| contains(&cure.edits, &less.edits))
     };
     let needed = cures.iter().filter(|cure| !is_needless(cure));
     needed.cloned().collect()
@@ -204,7 +215,9 @@ impl Searcher<'_> {
                 }
             }
         }
-        self.state.check(table, WORK_WORDS, CYCLE_NUMBERS);
+        let chains = self.checker.chains();
+        self.state
+            .check_with(chains, table, WORK_WORDS, CYCLE_NUMBERS);
         Some(!self.state.races_at(goal.first, goal.second, goal.byte))
     }
 
@@ -213,7 +226,7 @@ impl Searcher<'_> {
         &mut self,
         changes: &[&Change],
         edits: Vec<Edit>,
-        insertions: Vec<Insertion>,
+        (insertions, dependencies): (Vec<Insertion>, Vec<Dependency>),
     ) -> Option<Cure> {
         let mut goal = self.goal;
         for insertion in &insertions {
@@ -224,10 +237,11 @@ impl Searcher<'_> {
             changes: changes.iter().map(|change| (*change).clone()).collect(),
             edits,
             insertions,
+            dependencies,
             order: String::new(),
             answer: String::new(),
         };
-        if cure.insertions.is_empty() && self.mends(&cure.edits) != Some(true) {
+        if !cure.is_new() && self.mends(&cure.edits) != Some(true) {
             return None;
         }
         let table = stepped(self.table, &cure.steps()).ok()?;
@@ -235,9 +249,10 @@ impl Searcher<'_> {
             CheckAnswer::Refused { .. } => return None,
             answer => answer.to_string(),
         };
-        let reduction = Reduction::of(&table, goal);
+        let reduction = Reduction::of(&table, goal, self.checker.chains());
+        let chains = self.checker.chains();
         self.state
-            .check(reduction.table(), WORK_WORDS, CYCLE_NUMBERS);
+            .check_with(chains, reduction.table(), WORK_WORDS, CYCLE_NUMBERS);
         let goal = reduction.goal(goal);
         if self.state.races_at(goal.first, goal.second, goal.byte) {
             return None;
@@ -281,10 +296,12 @@ impl Searcher<'_> {
                     changes,
                     edits,
                     insertions,
+                    dependencies,
+                    is_least,
                 } = remedy;
                 let changes: Vec<&Change> = changes.iter().collect();
-                self.both_needed(&edits, &insertions)
-                    .then(|| self.cure(&changes, edits, insertions))
+                (is_least || self.both_needed(&edits, &insertions))
+                    .then(|| self.cure(&changes, edits, (insertions, dependencies)))
                     .flatten()
             })
             .collect();
@@ -307,7 +324,7 @@ impl Searcher<'_> {
             second: first.moved(self.goal.second),
             ..self.goal
         };
-        let reduction = Reduction::of(&table, goal);
+        let reduction = Reduction::of(&table, goal, self.checker.chains());
         let goal = reduction.goal(goal);
         self.is_ordered(reduction.table(), goal) != Some(true)
     }
@@ -317,7 +334,7 @@ impl Searcher<'_> {
         let mut cures = Vec::new();
         for change in changes {
             if !cured.contains(&change.group) {
-                let found = self.cure(&[change], change.edits.clone(), Vec::new());
+                let found = self.cure(&[change], change.edits.clone(), Default::default());
                 cured.extend(found.as_ref().map(|_| change.group));
                 cures.extend(found);
             }
@@ -359,7 +376,7 @@ impl Searcher<'_> {
                     continue;
                 }
                 let edits = merged(&first.edits, &second.edits);
-                let cure = |edits| self.cure(&[first, second], edits, Vec::new());
+                let cure = |edits| self.cure(&[first, second], edits, Default::default());
                 if let Some(cure) = edits.and_then(cure) {
                     cured.insert(groups);
                     cures.push(cure);

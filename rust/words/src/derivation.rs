@@ -3,7 +3,7 @@
 
 use crate::names;
 use second::table::Row;
-use second::{ACQUIRE_STEP, AFTER, AT, BEFORE, RELEASE_STEP, SYNCHRONIZES_STEP};
+use second::{ACQUIRE_STEP, AFTER, AT, BEFORE, RELEASE_STEP, SYNCHRONIZES_STEP, SYSTEM_STEP};
 use stramashly::{AcceptsAnswer, Checker, Derivation, DeriveAnswer, STEP_CASE};
 
 /// A step's case and the moment that it reaches.
@@ -17,11 +17,16 @@ pub fn derived_lines(table: &[u8], rows: &[Row], (from, to): (usize, usize)) -> 
     let mut checker = Checker::new();
     // Three moments for each of 128 rows.
     let (first, second) = (from as u16, to as u16);
-    if let DeriveAnswer::Derivation(derivation) = checker.derive(table, first, second) {
-        let answer = Checker::accepts(table, first, second, derivation);
-        if answer == AcceptsAnswer::Accepted {
-            return derivation_lines(rows, from, derivation);
+    match checker.derive(table, first, second) {
+        DeriveAnswer::Derivation(derivation) => {
+            let answer = Checker::accepts(table, first, second, derivation);
+            if answer == AcceptsAnswer::Accepted {
+                return derivation_lines(rows, from, derivation);
+            }
         }
+        // A checker that doesn't take the table has nothing to say of it.
+        DeriveAnswer::Refused { number: 2, .. } => return Vec::new(),
+        _ => (),
     }
     vec!["no derivation of this is accepted; please report this table".to_string()]
 }
@@ -55,6 +60,9 @@ fn step_words(rows: &[Row], classes: u8, case: u16, from: usize, to: usize) -> S
         }
         Ok(ACQUIRE_STEP) => {
             format!("{start}, an acquire for {classes}, comes before {end} (M6, case 3)")
+        }
+        Ok(SYSTEM_STEP) => {
+            format!("{end} depends on {start}: system synchronization, for {classes} as for all (M6, case 4)")
         }
         _ => format!("{start} leads to {end} for {classes} (M6, case {case})"),
     }

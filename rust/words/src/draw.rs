@@ -2,14 +2,16 @@
 
 use crate::account::Checked;
 use crate::explain::{shown, Shown};
+use crate::judge::Judge;
 use crate::picture::picture;
 use crate::run::Run;
 use second::{State, CYCLE_NUMBERS, WORK_WORDS};
-use stramashly::{CheckAnswer, Checker};
+use stramashly::CheckAnswer;
 
 /// The table as an SVG document, or the refusal of a table that has no picture.
 /// Of a large run only the rows that matter are drawn, unless all are wanted.
-pub fn draw(table: &[u8], checker: &mut Checker, is_all: bool) -> Result<String, String> {
+pub fn draw(table: &[u8], checker: &mut dyn Judge, is_all: bool) -> Result<String, String> {
+    let chains = checker.chains();
     let answer = checker.check(table);
     if let CheckAnswer::Refused { .. } = answer {
         return Err(answer.to_string());
@@ -19,7 +21,7 @@ pub fn draw(table: &[u8], checker: &mut Checker, is_all: bool) -> Result<String,
     }
     let run = Run::of(table);
     let mut state = State::new();
-    state.check(table, WORK_WORDS, CYCLE_NUMBERS);
+    state.check_with(chains, table, WORK_WORDS, CYCLE_NUMBERS);
     let checked = Checked {
         table,
         state: &state,

@@ -1,6 +1,7 @@
 //! Edits of a table: one field of one row gets another value.
 
-use second::table::{Row, AGENT_BYTES, HEADER_BYTES, ROW_BYTES};
+use crate::run::first_row;
+use second::table::{Row, ROW_BYTES};
 use std::fmt;
 use std::str::FromStr;
 
@@ -56,7 +57,7 @@ impl Edit {
     /// Changes a table that has the row.
     pub fn apply(self, table: &mut [u8]) {
         let (_, _, place, size) = self.field.entry();
-        let at = HEADER_BYTES + AGENT_BYTES * usize::from(table[5]) + ROW_BYTES * self.row + place;
+        let at = first_row(table) + ROW_BYTES * self.row + place;
         let bytes = self.value.to_be_bytes();
         table[at..at + size].copy_from_slice(&bytes[2 - size..]);
     }

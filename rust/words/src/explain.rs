@@ -4,10 +4,11 @@
 use crate::account::Checked;
 use crate::cure::{search, Cure};
 use crate::goal::Goal;
+use crate::judge::Judge;
 use crate::run::Run;
 use crate::{inconsistent, race, race_free, refusal};
-use second::{State, CYCLE_NUMBERS, WORK_WORDS};
-use stramashly::{CheckAnswer, Checker};
+use second::{Chains, State, CYCLE_NUMBERS, WORK_WORDS};
+use stramashly::CheckAnswer;
 
 /// What an answer shows, to be pointed out in a picture.
 #[derive(Clone, Debug, PartialEq, Eq)]
@@ -59,6 +60,8 @@ pub struct Explanation {
     pub lines: Vec<String>,
     /// What would order a racing pair.
     pub cures: Vec<Cure>,
+    /// Whether it was asked with chains.
+    pub chains: Chains,
 }
 
 impl Explanation {
@@ -74,9 +77,11 @@ impl Explanation {
 }
 
 /// Explains a table's answer, whatever its bytes.
-pub fn explain(table: &[u8], checker: &mut Checker) -> Explanation {
+pub fn explain(table: &[u8], checker: &mut dyn Judge) -> Explanation {
     let mut state = State::new();
-    let second = state.check(table, WORK_WORDS, CYCLE_NUMBERS).to_string();
+    let chains = checker.chains();
+    let second = state.check_with(chains, table, WORK_WORDS, CYCLE_NUMBERS);
+    let second = second.to_string();
     let run = Run::of(table);
     let checked = Checked {
         table,
@@ -89,13 +94,14 @@ pub fn explain(table: &[u8], checker: &mut Checker) -> Explanation {
         shown: shown(checked, given),
         lines: Vec::new(),
         cures: Vec::new(),
+        chains,
     };
     if second == explanation.answer && !Run::is_known(table) && !second.starts_with("refused") {
         explanation.lines = vec![format!(
             "No explanation: there are no words for version {}.",
             table[4]
         )];
-    } else if second == explanation.answer {
+    } else if second == explanation.answer || is_of_later_version(table, &explanation.shown) {
         tell(table, checked, checker, &mut explanation);
     } else {
         // The proved answer stands; there are no words for it.
@@ -106,8 +112,14 @@ pub fn explain(table: &[u8], checker: &mut Checker) -> Explanation {
     explanation
 }
 
+/// Whether the version is refused, though there are words for it: the linked
+/// checker may be an older one.
+fn is_of_later_version(table: &[u8], shown: &Shown) -> bool {
+    matches!(shown, Shown::Refused { number: 2, .. }) && Run::is_known(table)
+}
+
 /// Adds the sentences, and the cures of a race.
-fn tell(table: &[u8], checked: Checked, checker: &mut Checker, explanation: &mut Explanation) {
+fn tell(table: &[u8], checked: Checked, checker: &mut dyn Judge, explanation: &mut Explanation) {
     explanation.lines = match explanation.shown {
         Shown::Nothing => race_free::lines(checked),
         Shown::Refused { number, row } => refusal::check_lines(table, number, row, checker),

@@ -3,10 +3,10 @@
 
 use crate::edit::Field;
 use crate::names;
-use crate::run::{Run, LAST_VERSION};
+use crate::run::{dependency_count, past_rows, Run, LAST_VERSION};
 use crate::unfit::{unfit, Unfit};
 use second::table::*;
-use second::{BLANK, INITIAL, MAX_AGENTS, MAX_LENGTH, MAX_ROWS};
+use second::{BLANK, INITIAL, MAX_AGENTS, MAX_DEPENDENCIES, MAX_LENGTH, MAX_ROWS};
 use std::fmt;
 use stramashly::MAX_TABLE_BYTES;
 
@@ -79,6 +79,20 @@ pub enum Fault {
         scope: u8,
         instance: u16,
     },
+    /// 16: an agent is neither shader nor host nor queue.
+    AgentSort { agent: usize, sort: u16 },
+    /// 17: too many dependencies.
+    Dependencies { count: usize },
+    /// 18: a dependency names a row that there isn't.
+    Dependency {
+        number: usize,
+        row: u16,
+        rows: usize,
+    },
+    /// 19: a kind that the row's agent may not have.
+    AgentRow { kind: u8, sort: u16 },
+    /// 4: a table of version 3 ends before its count of dependencies.
+    NoCount { bytes: usize, least: usize },
     /// 15: counted ranks that no run of counts holds.
     Ranks {
         writers: Vec<usize>,
@@ -92,18 +106,22 @@ pub fn faults(table: &[u8], number: u16, row: usize) -> Vec<Fault> {
         return of_header(table, number);
     }
     let run = Run::of(table);
+    if (16..=18).contains(&number) {
+        return of_agents(table, &run, number);
+    }
     let Some(fields) = run.rows.get(row).copied() else {
         return Vec::new();
     };
     match number {
-        5 => codes(fields, run.agents.len()),
-        6 => unfit(fields).into_iter().map(Fault::Unfit).collect(),
+        5 => codes(fields, &run),
+        6 | 20 => unfit(fields).into_iter().map(Fault::Unfit).collect(),
         7 if fields.is_access() => bytes(fields),
         8 if fields.is_access() => other_class(&run, row).into_iter().collect(),
         9 if fields.reads() => source(&run, row).into_iter().collect(),
         10 if fields.is_atomic_writer() => same_rank(&run, row).into_iter().collect(),
         14 if fields.is_control_barrier() => instance(&run, row),
         15 if fields.is_atomic_writer() => ranks(&run, row).into_iter().collect(),
+        19 => agent_row(&run, fields).into_iter().collect(),
         _ => Vec::new(),
     }
 }
@@ -114,8 +132,16 @@ fn of_header(table: &[u8], number: u16) -> Vec<Fault> {
         return vec![Fault::Short { bytes }];
     };
     let count = u32::from_be_bytes([a, b, c, d]);
-    let wanted = 4 + AGENT_BYTES * usize::from(agents) + ROW_BYTES * usize::from(rows);
+    let has_hosts = version == WITH_HOSTS;
     let bytes = table.len();
+    let count_at = past_rows(table);
+    if number == 4 && has_hosts && dependency_count(table).is_none() {
+        let least = count_at + COUNT_BYTES;
+        return vec![Fault::NoCount { bytes, least }];
+    }
+    let dependencies =
+        dependency_count(table).map_or(0, |count| COUNT_BYTES + DEPENDENCY_BYTES * count);
+    let wanted = count_at - 4 + dependencies;
     let faults = match number {
         2 => [
             (!(1..=LAST_VERSION).contains(&version)).then_some(Fault::Version { version }),
@@ -137,15 +163,48 @@ fn of_header(table: &[u8], number: u16) -> Vec<Fault> {
     faults.into_iter().flatten().collect()
 }
 
+/// Refusals 16 to 18: what version 3 says beside the rows.
+fn of_agents(table: &[u8], run: &Run, number: u16) -> Vec<Fault> {
+    let rows = run.rows.len();
+    let sorts = run.sorts.iter().copied().enumerate();
+    let count = dependency_count(table).unwrap_or(0);
+    let dependencies = run.dependencies.iter().enumerate();
+    match number {
+        16 => sorts
+            .filter(|(_, sort)| *sort > names::LAST_SORT)
+            .map(|(agent, sort)| Fault::AgentSort { agent, sort })
+            .collect(),
+        17 if count > MAX_DEPENDENCIES => vec![Fault::Dependencies { count }],
+        18 => dependencies
+            .flat_map(|(number, pair)| pair.map(|row| (number, row)))
+            .filter(|(_, row)| usize::from(*row) >= rows)
+            .map(|(number, row)| Fault::Dependency { number, row, rows })
+            .collect(),
+        _ => Vec::new(),
+    }
+}
+
+/// A host has plain rows only, a queue its operations, and nobody else these.
+fn agent_row(run: &Run, row: Row) -> Option<Fault> {
+    let (kind, sort) = (row.kind, run.sort(row.agent));
+    let may_have = match sort {
+        HOST => row.is_plain(),
+        QUEUE => row.is_queue_operation(),
+        _ => !row.is_queue_operation(),
+    };
+    (!may_have).then_some(Fault::AgentRow { kind, sort })
+}
+
 /// The last code of each field that has a meaning.
-fn codes(row: Row, agents: usize) -> Vec<Fault> {
+fn codes(row: Row, run: &Run) -> Vec<Fault> {
+    let agents = run.agents.len();
     let class = if row.is_control_barrier() {
         DEVICE
     } else {
         names::LAST_CLASS
     };
     let limits = [
-        (Field::Kind, names::LAST_KIND),
+        (Field::Kind, run.last_kind()),
         (Field::Order, BOTH),
         (Field::Scope, DEVICE),
         (Field::Classes, 15),
@@ -298,7 +357,12 @@ impl Fault {
             | Fault::Agents { .. }
             | Fault::Rows { .. }
             | Fault::Count { .. }
+            | Fault::NoCount { .. }
             | Fault::Length { .. } => self.header_words(),
+            Fault::AgentSort { .. }
+            | Fault::Dependencies { .. }
+            | Fault::Dependency { .. }
+            | Fault::AgentRow { .. } => self.host_words(),
             Fault::Code { .. } | Fault::NoAgent { .. } => self.code_words(),
             Fault::Unfit(unfit) => unfit.words.clone(),
             Fault::Blank { .. }
@@ -340,13 +404,43 @@ impl Fault {
             }
             Fault::Count { count, wanted } => {
                 format!(
-                    "bytes 0 to 3 count {count} bytes after them; agents and rows ask for {wanted}"
+                    "bytes 0 to 3 count {count} bytes after them; its counts ask for {wanted}"
                 )
             }
-            Fault::Length { bytes, wanted } => format!(
-                "the table has {}; agents and rows ask for {wanted}",
+            Fault::NoCount { bytes, least } => format!(
+                "the table has {} and ends before the count of dependencies; agents, rows and that count take {least}",
                 length_words(*bytes)
             ),
+            Fault::Length { bytes, wanted } => format!(
+                "the table has {}; its counts ask for {wanted}",
+                length_words(*bytes)
+            ),
+            _ => String::new(),
+        }
+    }
+
+    fn host_words(&self) -> String {
+        match self {
+            Fault::AgentSort { agent, sort } => format!(
+                "agent {agent}'s fourth number is {sort}; 0 is a shader, 1 a host, 2 a queue"
+            ),
+            Fault::Dependencies { count } => {
+                format!("{count} dependencies are counted; a table has at most {MAX_DEPENDENCIES}")
+            }
+            Fault::Dependency { number, row, rows } => format!(
+                "dependency {number} names row {row}, and there are {}",
+                names::counted(*rows, "row")
+            ),
+            Fault::AgentRow { kind, sort } => {
+                let may_have = match *sort {
+                    HOST => "has plain reads and writes only",
+                    QUEUE => "has availability, visibility and domain operations only",
+                    _ => "has no operation of a queue",
+                };
+                let (kind, sort) = (names::kind(*kind), names::sort(*sort));
+                let a = names::article(&kind);
+                format!("its agent is a {sort}, which {may_have}, and this is {a} {kind}")
+            }
             _ => String::new(),
         }
     }
@@ -410,10 +504,11 @@ impl Fault {
                 names::counted(*rows, "row")
             ),
             Fault::Itself => "its source is the row itself".to_string(),
-            Fault::NoWriter { source, kind } => format!(
-                "its source is row {source}, a {}, which writes nothing",
-                names::kind(*kind)
-            ),
+            Fault::NoWriter { source, kind } => {
+                let kind = names::kind(*kind);
+                let a = names::article(&kind);
+                format!("its source is row {source}, {a} {kind}, which writes nothing")
+            }
             Fault::Uncovered {
                 source,
                 written,

@@ -4,9 +4,10 @@
 use crate::account::Checked;
 use crate::edit::{edited, Edit, Field};
 use crate::explain::Shown;
+use crate::judge::Judge;
 use crate::names;
 use second::INITIAL;
-use stramashly::{CheckAnswer, Checker};
+use stramashly::CheckAnswer;
 
 /// Edges between rows, by their numbers.
 const EDGES: [&str; 4] = [
@@ -194,7 +195,7 @@ const NAMED_SOURCES: usize = 4;
 
 /// The other sources with which the run would be possible, each checked: what
 /// the recorder may have meant.
-pub fn other_sources(checked: Checked, shown: &Shown, checker: &mut Checker) -> Vec<String> {
+pub fn other_sources(checked: Checked, shown: &Shown, checker: &mut dyn Judge) -> Vec<String> {
     let rows = &checked.run.rows;
     let edits = Grounds::of(shown).readers.into_iter().flat_map(|reader| {
         let writers = (0..rows.len()).filter(move |writer| {

@@ -1,14 +1,16 @@
 //! Rows put into a table, and the steps that make one table of another.
 
+use crate::dependency::{count_changed, Dependency};
 use crate::edit::{row_bytes, whole_number, Edit, Field, FIELDS};
-use second::table::{Row, AGENT_BYTES, HEADER_BYTES, ROW_BYTES};
+use crate::run::{dependency_count, first_row, past_rows, Run};
+use second::table::{Row, COUNT_BYTES, DEPENDENCY_BYTES, HEADER_BYTES, ROW_BYTES, WITH_HOSTS};
 use second::{BLANK, INITIAL, MAX_ROWS};
 use std::fmt;
 use std::str::FromStr;
 
 /// A row put in at a place, written `insert 1 kind 5 agent 0 order 2`: the
 /// fields that aren't zero, and the source if there is one. Rows from there on
-/// move on by one, and sources with them; its own source counts the rows as
+/// move on by one, and sources and dependencies with them; its own source counts the rows as
 /// they are afterwards.
 #[derive(Clone, Copy, Debug, PartialEq, Eq)]
 pub struct Insertion {
@@ -40,12 +42,17 @@ impl Insertion {
                 table[at..at + 2].copy_from_slice(&(source + 1).to_be_bytes());
             }
         }
+        for at in dependency_places(table) {
+            let row = u16::from_be_bytes([table[at], table[at + 1]]);
+            if usize::from(row) >= self.place {
+                let row = row.saturating_add(1);
+                table[at..at + 2].copy_from_slice(&row.to_be_bytes());
+            }
+        }
         let at = first + ROW_BYTES * self.place;
         table.splice(at..at, row_bytes(self.row));
         table[6] += 1;
-        let count = u32::from_be_bytes([table[0], table[1], table[2], table[3]]);
-        let count = count.wrapping_add(ROW_BYTES as u32);
-        table[..4].copy_from_slice(&count.to_be_bytes());
+        count_changed(table, ROW_BYTES);
         Ok(())
     }
 }
@@ -53,15 +60,27 @@ impl Insertion {
 /// Where a row's source stands.
 const SOURCE: usize = 12;
 
-fn first_row(table: &[u8]) -> usize {
-    HEADER_BYTES + AGENT_BYTES * usize::from(table[5])
+/// Where the rows' numbers stand in the dependencies of a whole table.
+fn dependency_places(table: &[u8]) -> impl Iterator<Item = usize> {
+    let first = past_rows(table) + COUNT_BYTES;
+    let numbers = 2 * dependency_count(table).unwrap_or(0);
+    (0..numbers).map(move |number| first + 2 * number)
 }
 
-/// The rows of a table whose header, agents and rows are all there.
-fn row_count(table: &[u8]) -> Result<usize, String> {
-    let is_known = table.len() >= HEADER_BYTES && (1..=2).contains(&table[4]);
-    if !is_known || table.len() != first_row(table) + ROW_BYTES * usize::from(table[6]) {
-        return Err("the header doesn't fit the table's bytes".to_string());
+/// The rows of a table whose header, agents, rows and dependencies are all
+/// there.
+pub fn row_count(table: &[u8]) -> Result<usize, String> {
+    let bad = "the header doesn't fit the table's bytes".to_string();
+    if table.len() < HEADER_BYTES || !Run::is_known(table) {
+        return Err(bad);
+    }
+    let dependencies = match dependency_count(table) {
+        Some(count) => COUNT_BYTES + DEPENDENCY_BYTES * count,
+        None if table[4] == WITH_HOSTS => return Err(bad),
+        None => 0,
+    };
+    if table.len() != past_rows(table) + dependencies {
+        return Err(bad);
     }
     Ok(usize::from(table[6]))
 }
@@ -120,6 +139,7 @@ impl FromStr for Insertion {
 pub enum Step {
     Edit(Edit),
     Insert(Insertion),
+    Depend(Dependency),
 }
 
 impl Step {
@@ -127,6 +147,7 @@ impl Step {
     pub fn apply(self, table: &mut Vec<u8>) -> Result<(), String> {
         match self {
             Step::Insert(insertion) => insertion.apply(table),
+            Step::Depend(dependency) => dependency.apply(table),
             Step::Edit(edit) => {
                 let rows = row_count(table)?;
                 if edit.row >= rows {
@@ -144,6 +165,7 @@ impl fmt::Display for Step {
         match self {
             Step::Edit(edit) => edit.fmt(formatter),
             Step::Insert(insertion) => insertion.fmt(formatter),
+            Step::Depend(dependency) => dependency.fmt(formatter),
         }
     }
 }
@@ -152,10 +174,11 @@ impl FromStr for Step {
     type Err = String;
 
     fn from_str(text: &str) -> Result<Step, String> {
-        if text.split_whitespace().next() == Some("insert") {
-            return text.parse().map(Step::Insert);
+        match text.split_whitespace().next() {
+            Some("insert") => text.parse().map(Step::Insert),
+            Some("depend") => text.parse().map(Step::Depend),
+            _ => text.parse().map(Step::Edit),
         }
-        text.parse().map(Step::Edit)
     }
 }
 

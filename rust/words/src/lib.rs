@@ -9,20 +9,24 @@
 //! | what | module |
 //! |---|---|
 //! | the words for codes, rows and tables | `names`, `run`, `show` |
-//! | why rows are ordered | `account`, `derivation`, `why` |
-//! | why they aren't | `nearest`, `gap` |
+//! | why rows are ordered | `account`, `chain`, `derivation`, `why` |
+//! | why they aren't | `nearest`, `gap`, `carriage` |
 //! | what would order them | `catalogue`, `change`, `edit`, `reason`, `reduction`, `cure` |
-//! | new rows that would, and their words for a shader | `insertion`, `remedy`, `shader` |
+//! | new rows and dependencies that would, and their words for a shader | `insertion`, `dependency`, `remedy`, `domains`, `shader` |
 //! | the answers one by one | `race`, `race_free`, `inconsistent`, `refusal` |
 //! | what is wrong with a refused table, and with its blanks | `fault`, `unfit`, `blank` |
 //! | answers in sentences, pictures and pages | `explain`, `headline`, `draw`, `picture`, `page`, `markup` |
 
 mod account;
 mod blank;
+mod carriage;
 mod catalogue;
+mod chain;
 mod change;
 mod cure;
+mod dependency;
 mod derivation;
+mod domains;
 mod draw;
 mod edit;
 #[cfg(test)]
@@ -34,6 +38,7 @@ mod goal;
 mod headline;
 mod inconsistent;
 mod insertion;
+mod judge;
 mod markup;
 mod names;
 mod nearest;
@@ -54,6 +59,7 @@ mod why;
 pub use account::{Checked, Ordered};
 pub use change::Change;
 pub use cure::Cure;
+pub use dependency::Dependency;
 pub use derivation::{at, derivation_lines, derived_lines, moment_words, step_parts};
 pub use draw::draw;
 pub use edit::{edited, Edit, Field};
@@ -63,6 +69,7 @@ pub use goal::Goal;
 pub use headline::headline;
 pub use inconsistent::edge_name;
 pub use insertion::{stepped, Insertion, Step};
+pub use judge::Judge;
 pub use nearest::Near;
 pub use page::page;
 pub use reason::Reason;

@@ -4,7 +4,7 @@
 use second::table::{Row, MAKE_AVAILABLE, MAKE_VISIBLE, NON_PRIVATE};
 use second::{BLANK, INITIAL};
 
-const KINDS: [&str; 7] = [
+const KINDS: [&str; 13] = [
     "plain read",
     "plain write",
     "atomic read",
@@ -12,9 +12,16 @@ const KINDS: [&str; 7] = [
     "read-modify-write",
     "barrier",
     "control barrier",
+    "availability to host",
+    "availability to device",
+    "visibility from host",
+    "visibility from device",
+    "domain operation from host to device",
+    "domain operation from device to host",
 ];
-/// The last kind and the last class that have a meaning.
-pub const LAST_KIND: u8 = KINDS.len() as u8 - 1;
+const SORTS: [&str; 3] = ["shader", "host", "queue"];
+/// The last sort of an agent and the last class that have a meaning.
+pub const LAST_SORT: u16 = SORTS.len() as u16 - 1;
 pub const LAST_CLASS: u8 = CLASSES.len() as u8 - 1;
 const ORDERS: [&str; 4] = ["relaxed", "acquire", "release", "acquire-release"];
 const SCOPES: [&str; 5] = [
@@ -40,6 +47,23 @@ fn named(words: &[&str], code: u8) -> String {
 
 pub fn kind(code: u8) -> String {
     named(&KINDS, code)
+}
+
+/// `a` or `an`, whichever goes before the words.
+pub fn article(words: &str) -> &'static str {
+    if words.starts_with(['a', 'e', 'i', 'o', 'u']) {
+        "an"
+    } else {
+        "a"
+    }
+}
+
+/// What an agent is.
+pub fn sort(code: u16) -> String {
+    match SORTS.get(usize::from(code)) {
+        Some(word) => word.to_string(),
+        None => format!("{code}?"),
+    }
 }
 
 pub fn order(code: u8) -> String {

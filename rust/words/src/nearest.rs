@@ -1,16 +1,16 @@
-//! Two unordered rows: which of L1 to L3 comes nearest, and what it lacks.
+//! Two unordered rows: which of L1 to L5 comes nearest, and what it lacks.
 //! Every statement is read off the table's relations; a rule lacks nothing
 //! exactly when it holds.
 
 use crate::account::Checked;
 use crate::derivation::at;
 use crate::names;
-use second::table::Row;
+use second::table::{Row, HOST};
 
 /// A rule that might have ordered a row before another.
 #[derive(Clone, Debug, PartialEq, Eq)]
 pub struct Near {
-    /// 1 to 3, for L1 to L3.
+    /// 1 to 5, for L1 to L5.
     pub rule: u8,
     pub before: usize,
     pub after: usize,
@@ -24,7 +24,7 @@ impl Checked<'_> {
         let nears = [(first, second), (second, first)]
             .into_iter()
             .flat_map(|(before, after)| {
-                [3, 2, 1].into_iter().filter_map(move |rule| {
+                [3, 2, 1, 5, 4].into_iter().filter_map(move |rule| {
                     let is_apt = self.speaks_of(rule, before, after);
                     is_apt.then(|| self.near(rule, before, after, byte))
                 })
@@ -34,18 +34,30 @@ impl Checked<'_> {
                 let is_against = self.state.read_from(near.before) == Some(near.after);
                 (is_against, near.lacks.len())
             })
-            .expect("of conflicting rows one writes, and L3 speaks of it")
+            .expect("of conflicting rows one writes, and L3 or L5 speaks of it")
     }
 
     /// Whether a rule could order such rows: L1 one agent's, L2 a mere reader
-    /// before another row, L3 a writer.
+    /// before another row, L3 a writer among shaders, L4 a mere reader and L5
+    /// a writer where hosts or queues have a part in it.
     fn speaks_of(&self, rule: u8, before: usize, after: usize) -> bool {
         let (x, y) = (self.run.rows[before], self.run.rows[after]);
         match rule {
             1 => x.agent == y.agent,
             2 => x.reads() && !x.writes(),
-            _ => x.writes(),
+            3 => x.writes() && !self.has_host(before, after),
+            4 => x.reads() && !x.writes() && self.run.has_hosts,
+            _ => {
+                let has_operations = || self.run.rows.iter().any(|row| row.is_queue_operation());
+                x.writes() && (self.has_host(before, after) || has_operations())
+            }
         }
+    }
+
+    /// Whether one of two rows is a host's.
+    pub fn has_host(&self, first: usize, second: usize) -> bool {
+        let is_host = |row: usize| self.run.sort(self.run.rows[row].agent) == HOST;
+        is_host(first) || is_host(second)
     }
 
     fn near(&self, rule: u8, before: usize, after: usize, byte: u32) -> Near {
@@ -87,7 +99,9 @@ impl Checked<'_> {
         match rule {
             1 => self.l1_lacks(x, y),
             2 => self.l2_lacks(x, y),
-            _ => self.l3_lacks(x, y, byte),
+            3 => self.l3_lacks(x, y, byte),
+            4 => self.l4_lacks(x, y),
+            _ => self.l5_lacks(x, y),
         }
     }
 
@@ -121,6 +135,10 @@ impl Checked<'_> {
         let state = self.state;
         let moments = 0..3 * self.run.rows.len();
         let mut lacks = Vec::new();
+        // What follows speaks of single elements, and a chain may do as well.
+        if state.rules_at(x, y, byte)[2] {
+            return lacks;
+        }
         if !self.run.rows[x].writes() {
             lacks.push(format!("row {x} doesn't write"));
         }

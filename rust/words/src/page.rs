@@ -7,7 +7,7 @@ use crate::headline::headline;
 use crate::markup::escaped;
 use crate::picture::picture;
 use crate::run::Run;
-use crate::show::{cells, header, place_words, COLUMNS};
+use crate::show::{agent_lines, cells, dependency_lines, header, COLUMNS};
 use second::{State, CYCLE_NUMBERS, WORK_WORDS};
 
 const SHEET: &str = "\
@@ -121,7 +121,7 @@ fn linked(text: &str, rows: usize) -> String {
 /// The picture, unless the table is refused or of a version without one.
 fn picture_part(table: &[u8], run: &Run, explanation: &Explanation, is_all: bool) -> String {
     let mut state = State::new();
-    state.check(table, WORK_WORDS, CYCLE_NUMBERS);
+    state.check_with(explanation.chains, table, WORK_WORDS, CYCLE_NUMBERS);
     let checked = Checked {
         table,
         state: &state,
@@ -144,8 +144,8 @@ fn table_part(table: &[u8], run: &Run, explanation: &Explanation) -> String {
     let mut html = "<h2>The table</h2>\n".to_string();
     let header = header(table).unwrap_or("There is no header.".to_string());
     html += &paragraph(&header, 0);
-    for (agent, places) in run.agents.iter().enumerate() {
-        html += &paragraph(&format!("agent {agent}: {}", place_words(*places)), 0);
+    for line in agent_lines(run) {
+        html += &paragraph(&line, 0);
     }
     if run.rows.is_empty() {
         return html;
@@ -158,15 +158,19 @@ fn table_part(table: &[u8], run: &Run, explanation: &Explanation) -> String {
         .concat();
     html += "</tr></thead>\n<tbody>\n";
     let pointed = explanation.shown.rows();
-    for (row, fields) in run.rows.iter().enumerate() {
+    for row in 0..run.rows.len() {
         let class = if pointed.contains(&row) {
             " class=\"pointed\""
         } else {
             ""
         };
-        let cells = cells(row, *fields).map(|cell| format!("<td>{}</td>", escaped(&cell)));
+        let cells = cells(run, row).map(|cell| format!("<td>{}</td>", escaped(&cell)));
         let cells = cells[1..].concat();
         html += &format!("<tr id=\"row-{row}\"{class}><th scope=\"row\">{row}</th>{cells}</tr>\n");
     }
-    html + "</tbody>\n</table>\n</div>\n"
+    html += "</tbody>\n</table>\n</div>\n";
+    for line in dependency_lines(run) {
+        html += &paragraph(&line, run.rows.len());
+    }
+    html
 }

@@ -8,7 +8,7 @@ use crate::goal::Goal;
 use crate::names::counted;
 use crate::reason::Reason;
 use crate::shader::{glsl, spirv};
-use second::table::Row;
+use second::table::{Row, QUEUE};
 
 /// So many changes are shown at most.
 const SHOWN_CURES: usize = 8;
@@ -35,7 +35,7 @@ pub fn lines(checked: Checked, goal: Goal, found: &Search) -> Vec<String> {
         in_short(rule, checked.run.rows[after])
     ));
     lines.extend(near.lacks.iter().map(|lack| format!("  {lack}")));
-    lines.push(cures_title(found));
+    lines.push(cures_title(checked, goal, found));
     for (place, cure) in found.cures.iter().take(SHOWN_CURES).enumerate() {
         lines.extend(cure_lines(checked, goal, place + 1, cure));
     }
@@ -52,6 +52,8 @@ fn in_short(rule: u8, after: Row) -> &'static str {
     match (rule, after.reads(), after.writes()) {
         (1, ..) => "one agent's own order",
         (2, ..) => "a read that happens before the other access",
+        (4, ..) => "a read from which dependencies lead to the other access",
+        (5, ..) => "a write that operations of queues carry to the other access",
         (_, true, false) => "a write that is made available, then visible to a read",
         (_, true, true) => "a write that is made available, then visible to a read-modify-write",
         (_, false, _) => "a write that is made available before the other write",
@@ -79,8 +81,8 @@ fn other_races(checked: Checked, goal: Goal) -> Option<String> {
     (!races.is_empty()).then(|| format!("Other races: rows {named}{more}."))
 }
 
-fn cures_title(found: &Search) -> String {
-    let has_new_rows = found.cures.iter().any(|cure| !cure.insertions.is_empty());
+fn cures_title(checked: Checked, goal: Goal, found: &Search) -> String {
+    let has_new_rows = found.cures.iter().any(Cure::is_new);
     match found.cures.first() {
         Some(_) if has_new_rows => "Each of these orders them:".to_string(),
         Some(cure) if cure.changes.len() == 1 => {
@@ -91,6 +93,11 @@ fn cures_title(found: &Search) -> String {
             let tried = counted(found.tried, "small change");
             let rest = if found.is_cut {
                 "so far as they were tried: with so many rows not every pair was"
+            } else if checked.has_host(goal.first, goal.second) {
+                match checked.run.sorts.contains(&QUEUE) {
+                    true => "nor do any two together, nor operations and dependencies put in",
+                    false => "nor do any two together, and there is no queue agent for operations",
+                }
             } else {
                 "nor do any two together, nor a release and an acquire between them"
             };
@@ -165,6 +172,7 @@ fn changed_rows(checked: Checked, cure: &Cure) -> Vec<(String, Row)> {
         }
     }
     let new = cure.insertions.iter();
+    let new = new.filter(|insertion| !insertion.row.is_queue_operation());
     changed.extend(new.map(|insertion| (format!("new row {}", insertion.place), insertion.row)));
     changed
 }

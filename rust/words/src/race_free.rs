@@ -62,7 +62,7 @@ fn together(title: &str, pairs: &[(usize, usize)]) -> Option<String> {
 }
 
 fn one_by_one(checked: Checked, pairs: &[(usize, usize)]) -> Vec<String> {
-    let mut told: HashMap<(usize, usize), String> = HashMap::new();
+    let mut told: HashMap<Vec<usize>, String> = HashMap::new();
     let mut lines = Vec::new();
     for (x, y) in pairs {
         for stretch in stretches(checked, *x, *y) {
@@ -99,7 +99,7 @@ fn stretches(checked: Checked, x: usize, y: usize) -> Vec<Stretch> {
 fn stretch_lines(
     checked: Checked,
     stretch: &Stretch,
-    told: &mut HashMap<(usize, usize), String>,
+    told: &mut HashMap<Vec<usize>, String>,
 ) -> Vec<String> {
     let (before, after) = (stretch.before, stretch.after);
     let (rule, because) = (stretch.ordered.rule, &stretch.ordered.because);
@@ -111,13 +111,13 @@ fn stretch_lines(
     let mut lines = vec![format!(
         "Row {before} before row {after} at {bytes} by L{rule}: {because}."
     )];
-    match told.get(&stretch.ordered.moments) {
+    match told.get(&stretch.ordered.path) {
         Some(pair) => lines.push(format!("  the steps are those of {pair}")),
         None => {
-            let steps = checked.steps(stretch.ordered.moments);
+            let steps = checked.steps(&stretch.ordered.path);
             lines.extend(steps.iter().map(|step| format!("  {step}")));
             let pair = format!("rows {before} and {after}");
-            told.insert(stretch.ordered.moments, pair);
+            told.insert(stretch.ordered.path.clone(), pair);
         }
     }
     lines

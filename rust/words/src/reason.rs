@@ -1,6 +1,7 @@
 //! Why a change might be what is missing, said of the table as it is.
 
 use crate::account::Checked;
+use crate::dependency::Dependency;
 use crate::goal::Goal;
 use crate::names;
 use crate::run::source_words;
@@ -51,7 +52,19 @@ pub enum Reason {
         scope: u8,
         classes: u8,
     },
+    /// Operations of a queue, or dependencies, are missing: their kinds, and
+    /// the rows that they join, numbered with the new ones put in.
+    NotCarried {
+        before: usize,
+        after: usize,
+        operations: [Option<u8>; MOST_OPERATIONS],
+        joined: [Option<Dependency>; MOST_ARROWS],
+    },
 }
+
+/// L5 asks for so many operations at most, and for one arrow more.
+pub const MOST_OPERATIONS: usize = 3;
+pub const MOST_ARROWS: usize = MOST_OPERATIONS + 1;
 
 impl Checked<'_> {
     /// The reason as a sentence about the table as it is, and what would be
@@ -112,7 +125,51 @@ impl Checked<'_> {
                 names::classes(classes),
                 names::scope(scope)
             ),
+            Reason::NotCarried {
+                before,
+                after,
+                operations,
+                joined,
+            } => self.carried_words((before, after), &operations, &joined),
         }
+    }
+
+    /// What is to be put in so that a row's bytes reach another row.
+    fn carried_words(
+        &self,
+        (before, after): (usize, usize),
+        operations: &[Option<u8>],
+        joined: &[Option<Dependency>],
+    ) -> String {
+        let operations: Vec<String> = operations
+            .iter()
+            .flatten()
+            .map(|kind| {
+                let kind = names::kind(*kind);
+                format!("{} {kind}", names::article(&kind))
+            })
+            .collect();
+        let joined: Vec<String> = joined
+            .iter()
+            .flatten()
+            .map(|join| format!("row {} depend on row {}", join.second, join.first))
+            .collect();
+        let mut wanted = Vec::new();
+        if !operations.is_empty() {
+            wanted.push(format!("put in {}", names::listed(&operations)));
+        }
+        if !joined.is_empty() {
+            let counted = match operations.is_empty() {
+                true => "",
+                false => ", the new rows counted",
+            };
+            wanted.push(format!("let {}{counted}", names::listed(&joined)));
+        }
+        let what = match self.run.rows[before].writes() {
+            true => format!("what row {before} wrote isn't carried to row {after}"),
+            false => format!("no dependencies lead from row {before}, which reads, to row {after}"),
+        };
+        format!("{what}; {}", wanted.join(", and "))
     }
 
     /// `agent 0's write in row 0 is never made available to agent 1: ` where

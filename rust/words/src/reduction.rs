@@ -3,9 +3,9 @@
 
 use crate::edit::{edited, row_bytes, Edit, Field};
 use crate::goal::Goal;
-use crate::run::Run;
-use second::table::{Row, AGENT_BYTES, HEADER_BYTES, ROW_BYTES};
-use second::{BLANK, INITIAL};
+use crate::run::{first_row, Run};
+use second::table::{Row, ROW_BYTES};
+use second::{Chains, BLANK, INITIAL};
 
 /// A table of fewer rows in which the goal's rows race exactly if they do in
 /// the whole one.
@@ -16,17 +16,24 @@ pub struct Reduction {
 }
 
 impl Reduction {
-    pub fn of(table: &[u8], goal: Goal) -> Reduction {
+    pub fn of(table: &[u8], goal: Goal, chains: Chains) -> Reduction {
         let run = Run::of(table);
-        let kept = relevant(&run, goal);
-        let first_row = HEADER_BYTES + AGENT_BYTES * run.agents.len();
+        let kept = relevant(&run, goal, chains);
+        let first_row = first_row(table);
         let mut reduced = table[..first_row].to_vec();
         for row in &kept {
             let mut row = run.rows[*row];
             row.source = source(row, &kept);
             reduced.extend(row_bytes(row));
         }
-        let count = (first_row - 4 + ROW_BYTES * kept.len()) as u32;
+        debug_assert_eq!(reduced.len(), first_row + ROW_BYTES * kept.len());
+        if run.has_hosts {
+            let dependencies = dependencies(&run, &kept);
+            reduced.extend((dependencies.len() as u16).to_be_bytes());
+            let rows = dependencies.iter().flatten();
+            reduced.extend(rows.flat_map(|row| row.to_be_bytes()));
+        }
+        let count = reduced.len() as u32 - 4;
         reduced[..4].copy_from_slice(&count.to_be_bytes());
         reduced[6] = kept.len() as u8;
         Reduction {
@@ -79,9 +86,9 @@ impl Reduction {
 }
 
 /// The rows that the order of two rows at a byte depends on: themselves, what
-/// synchronizes, and their agents' plain rows by one of their references that
-/// could make the byte available or visible.
-pub fn relevant(run: &Run, goal: Goal) -> Vec<usize> {
+/// synchronizes, their agents' plain rows by one of their references that
+/// could make the byte available or visible, and rows that dependencies join.
+pub fn relevant(run: &Run, goal: Goal, chains: Chains) -> Vec<usize> {
     let racing = [goal.first, goal.second];
     let is_near = |row: Row| {
         let mut rows = racing.iter().map(|racing| run.rows[*racing]);
@@ -90,9 +97,30 @@ pub fn relevant(run: &Run, goal: Goal) -> Vec<usize> {
         is_agent && is_reference && row.has_byte(goal.byte)
     };
     let rows = run.rows.iter().enumerate();
-    let kept =
-        rows.filter(|(number, row)| racing.contains(number) || !row.is_plain() || is_near(**row));
+    let joins = |row: usize| {
+        let mut named = run.dependencies.iter().flatten();
+        named.any(|named| usize::from(*named) == row)
+    };
+    // A chain's middle may be any row that makes available or visible.
+    let is_element = |row: Row| {
+        let is_flagged = row.makes_available() || row.makes_visible();
+        chains == Chains::On && is_flagged
+    };
+    let kept = rows.filter(|(number, row)| {
+        let is_needed = racing.contains(number) || !row.is_plain() || joins(*number);
+        is_needed || is_near(**row) || is_element(**row)
+    });
     kept.map(|(number, _)| number).collect()
+}
+
+/// The dependencies by the numbers of the kept rows, which all of them join.
+fn dependencies(run: &Run, kept: &[usize]) -> Vec<[u16; 2]> {
+    let place = |row: u16| kept.binary_search(&usize::from(row)).ok();
+    let joined = run.dependencies.iter().filter_map(|[first, second]| {
+        let (first, second) = (place(*first)?, place(*second)?);
+        Some([first as u16, second as u16])
+    });
+    joined.collect()
 }
 
 /// A kept row's source by the numbers of the kept rows. What isn't kept is a

@@ -3,12 +3,13 @@
 
 use crate::blank;
 use crate::fault::{faults, length_words, Fault};
+use crate::judge::Judge;
 use crate::run::Run;
 use crate::show::{cells, header, COLUMNS};
-use stramashly::{Checker, FillAnswer};
+use stramashly::FillAnswer;
 
 /// Why not even a fill takes a table, if that is so.
-pub fn refusal(table: &[u8], checker: &mut Checker) -> Option<String> {
+pub fn refusal(table: &[u8], checker: &mut dyn Judge) -> Option<String> {
     let answer = checker.fill(table);
     let FillAnswer::Refused { number, row } = answer else {
         return None;
@@ -22,7 +23,7 @@ pub fn refusal(table: &[u8], checker: &mut Checker) -> Option<String> {
 }
 
 /// A check's refusal: a fill is asked about blanks.
-pub fn check_lines(table: &[u8], number: u16, row: usize, checker: &mut Checker) -> Vec<String> {
+pub fn check_lines(table: &[u8], number: u16, row: usize, checker: &mut dyn Judge) -> Vec<String> {
     let mut lines = lines(table, number, row);
     if faults(table, number, row).contains(&Fault::Blank { is_plain: true }) {
         lines.extend(blank::lines(table, checker));
@@ -42,12 +43,18 @@ pub fn lines(table: &[u8], number: u16, row: usize) -> Vec<String> {
     }
     let faults = faults(table, number, row);
     lines.extend(faults.iter().map(|fault| format!("  {fault}")));
+    if number == 2 && faults.is_empty() {
+        let version = table.get(4).copied().unwrap_or_default();
+        lines.push(format!(
+            "  byte 4, the version, is {version}, which the linked checker doesn't take"
+        ));
+    }
     lines
 }
 
 /// Refusals of the header name row 0, which says nothing of that row.
 pub fn is_of_a_row(number: u16) -> bool {
-    matches!(number, 5..=10 | 14 | 15)
+    matches!(number, 5..=10 | 14 | 15 | 19 | 20)
 }
 
 fn meaning(number: u16) -> &'static str {
@@ -55,7 +62,7 @@ fn meaning(number: u16) -> &'static str {
         1 => "A table has at least 8 bytes.",
         2 => "The version (byte 4) must be known, and byte 7 must be 0.",
         3 => "There are more agents or rows than a table may have.",
-        4 => "The count in bytes 0 to 3, or the length, doesn't fit the agents and rows.",
+        4 => "The count in bytes 0 to 3, or the length, doesn't fit the agents and rows, and in version 3 the dependencies.",
         5 => "A code has no meaning: kind, agent, order, scope, classes, flags or class.",
         6 => "The fields don't fit the row's kind.",
         7 => "An access has 1 to 16 bytes up to byte 65535; an atomic has 4 or 8, and its start is a multiple of that.",
@@ -66,6 +73,11 @@ fn meaning(number: u16) -> &'static str {
         12 => "The two numbers aren't two different moments of the table.",
         14 => "Rows of one control barrier's instance have one execution scope, different agents, and all these in one instance of that scope.",
         15 => "Counted ranks of one place's writers fit in some 32768 counts in a row, past 65535 and on from 0 if need be.",
+        16 => "An agent is a shader, a host or a queue.",
+        17 => "There are more dependencies than a table may have.",
+        18 => "A dependency joins two rows of the table.",
+        19 => "A host has plain rows only; a queue has availability, visibility and domain operations only, and nobody else has these.",
+        20 => "An operation of a queue has a kind and an agent; its other fields are 0 and its source is 65535.",
         _ => "This number isn't known here.",
     }
 }
@@ -73,7 +85,7 @@ fn meaning(number: u16) -> &'static str {
 /// A row's fields that say something; a question mark follows a code that
 /// has no meaning.
 fn held(run: &Run, row: usize) -> String {
-    let cells = cells(row, run.rows[row]);
+    let cells = cells(run, row);
     let said = COLUMNS.iter().zip(&cells).skip(1);
     said.filter(|(_, cell)| *cell != "-")
         .map(|(name, cell)| format!("{name} {cell}"))

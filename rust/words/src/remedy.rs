@@ -3,6 +3,8 @@
 
 use crate::account::Checked;
 use crate::change::Change;
+use crate::dependency::Dependency;
+use crate::domains::domain_remedies;
 use crate::edit::{edited, merged, Edit, Field};
 use crate::goal::Goal;
 use crate::insertion::Insertion;
@@ -17,17 +19,22 @@ pub struct Remedy {
     pub changes: Vec<Change>,
     pub edits: Vec<Edit>,
     pub insertions: Vec<Insertion>,
+    pub dependencies: Vec<Dependency>,
+    /// Whether it is known that less doesn't do.
+    pub is_least: bool,
 }
 
 /// The remedies worth a try, those that order the rows as they stand first.
 pub fn remedies(checked: Checked, goal: Goal) -> Vec<Remedy> {
     let rows = &checked.run.rows;
     let (first, second) = (rows[goal.first], rows[goal.second]);
-    if first.agent == second.agent || rows.len() + 2 > MAX_ROWS {
-        return Vec::new();
+    let mut remedies = domain_remedies(checked, goal);
+    let is_full = rows.len() + 2 > MAX_ROWS;
+    // Hosts neither release nor acquire.
+    if first.agent == second.agent || is_full || checked.has_host(goal.first, goal.second) {
+        return remedies;
     }
     let ways = [(goal.first, goal.second), (goal.second, goal.first)];
-    let mut remedies = Vec::new();
     for (before, after) in ways {
         for changes in needed(checked, before, after) {
             let edits = changes.iter().map(|change| change.edits.clone());
@@ -42,6 +49,8 @@ pub fn remedies(checked: Checked, goal: Goal) -> Vec<Remedy> {
                     changes,
                     edits: edits.clone(),
                     insertions,
+                    dependencies: Vec::new(),
+                    is_least: false,
                 });
             }
         }

@@ -2,8 +2,10 @@
 //! few words.
 
 use crate::names;
-use second::table::{agent_places, row_of, Row, AGENT_BYTES, HEADER_BYTES, ROW_BYTES};
-use second::table::{FAMILY, INVOCATION, SUBGROUP, WORKGROUP};
+use second::table::{agent_bytes, agent_places, agent_sort, dependency_of, row_of};
+use second::table::{Row, COUNT_BYTES, DEPENDENCY_BYTES, HEADER_BYTES, ROW_BYTES};
+use second::table::{CONTROL_BARRIER, DEVICE_TO_HOST, HOST, QUEUE, SHADER};
+use second::table::{COUNTED_RANKS, FAMILY, INVOCATION, SUBGROUP, WITH_HOSTS, WORKGROUP};
 
 /// Agents and rows as they stand in the bytes, whether they are allowed or not.
 #[derive(Clone, Debug, Default, PartialEq, Eq)]
@@ -12,12 +14,34 @@ pub struct Run {
     pub rows: Vec<Row>,
     /// Whether ranks are counted: past 65535 they start again.
     pub is_counted: bool,
+    /// What each agent is: shader, host or queue.
+    pub sorts: Vec<u16>,
+    /// Pairs of rows of which the second depends on the first.
+    pub dependencies: Vec<[u16; 2]>,
+    /// Whether there may be agents that are no shaders.
+    pub has_hosts: bool,
 }
 
 /// Versions from 1 to this one are known.
-pub const LAST_VERSION: u8 = 2;
-/// From this version on ranks are counted.
-const COUNTED: u8 = 2;
+pub const LAST_VERSION: u8 = WITH_HOSTS;
+
+/// Where the first row of a table stands that has a header.
+pub fn first_row(table: &[u8]) -> usize {
+    HEADER_BYTES + agent_bytes(table[4]) * usize::from(table[5])
+}
+
+/// Where the count of dependencies stands in a table that has a header.
+pub fn past_rows(table: &[u8]) -> usize {
+    first_row(table) + ROW_BYTES * usize::from(table[6])
+}
+
+/// How many dependencies a table counts, none if it has no such count.
+pub fn dependency_count(table: &[u8]) -> Option<usize> {
+    let has_header = table.len() >= HEADER_BYTES && table[4] == WITH_HOSTS;
+    let at = has_header.then(|| past_rows(table))?;
+    let count = table.get(at..at + COUNT_BYTES)?;
+    Some(usize::from(u16::from_be_bytes([count[0], count[1]])))
+}
 
 impl Run {
     /// The agents and rows that are whole in a table whose header counts
@@ -28,8 +52,8 @@ impl Run {
         };
         let (agent_count, row_count) = (usize::from(agent_count), usize::from(row_count));
         let after_header = table.len() - HEADER_BYTES;
-        let whole_agents = agent_count.min(after_header / AGENT_BYTES);
-        let after_agents = after_header.saturating_sub(AGENT_BYTES * agent_count);
+        let whole_agents = agent_count.min(after_header / agent_bytes(version));
+        let after_agents = table.len().saturating_sub(first_row(table));
         let whole_rows = row_count.min(after_agents / ROW_BYTES);
         Run {
             agents: (0..whole_agents)
@@ -39,6 +63,43 @@ impl Run {
                 .map(|row| row_of(table, agent_count, row))
                 .collect(),
             is_counted: Run::is_counted_in(version),
+            sorts: (0..whole_agents)
+                .map(|agent| agent_sort(table, agent))
+                .collect(),
+            dependencies: whole_dependencies(table),
+            has_hosts: version >= WITH_HOSTS,
+        }
+    }
+
+    /// What an agent is; one that there isn't is taken for a shader.
+    pub fn sort(&self, agent: u8) -> u16 {
+        let sort = self.sorts.get(usize::from(agent));
+        sort.copied().unwrap_or(SHADER)
+    }
+
+    /// The last kind of row that the version has.
+    pub fn last_kind(&self) -> u8 {
+        if self.has_hosts {
+            DEVICE_TO_HOST
+        } else {
+            CONTROL_BARRIER
+        }
+    }
+
+    /// The row's kind, its number if the version has no such kind.
+    pub fn kind_name(&self, row: Row) -> String {
+        if row.kind > self.last_kind() {
+            return format!("{}?", row.kind);
+        }
+        names::kind(row.kind)
+    }
+
+    /// `agent 1`, `host agent 0`, `queue agent 2`.
+    pub fn agent_name(&self, agent: u8) -> String {
+        match self.sort(agent) {
+            HOST => format!("host agent {agent}"),
+            QUEUE => format!("queue agent {agent}"),
+            _ => format!("agent {agent}"),
         }
     }
 
@@ -49,16 +110,19 @@ impl Run {
 
     /// Whether a version that is known has counted ranks.
     pub fn is_counted_in(version: u8) -> bool {
-        (COUNTED..=LAST_VERSION).contains(&version)
+        (COUNTED_RANKS..=LAST_VERSION).contains(&version)
     }
 
     /// M2: whether two agents share a scope; nobody shares one with an agent
-    /// that there isn't.
+    /// that there isn't, or that is no shader.
     pub fn share_scope(&self, first: u8, second: u8, scope: u8) -> bool {
         let places = |agent: u8| self.agents.get(usize::from(agent));
         let (Some(one), Some(other)) = (places(first), places(second)) else {
             return false;
         };
+        if self.sort(first) != SHADER || self.sort(second) != SHADER {
+            return false;
+        }
         match scope {
             INVOCATION => first == second,
             SUBGROUP => one == other,
@@ -103,7 +167,8 @@ impl Run {
     pub fn named(&self, row: usize) -> String {
         let fields = self.rows[row];
         let kind = names::kind(fields.kind);
-        format!("row {row}, agent {}'s {kind}", fields.agent)
+        let agent = self.agent_name(fields.agent);
+        format!("row {row}, {agent}'s {kind}")
     }
 
     /// A row in a sentence's worth of words.
@@ -126,6 +191,18 @@ impl Run {
         }
         parts.join(", ")
     }
+}
+
+/// The dependencies that are whole, of as many as are counted.
+fn whole_dependencies(table: &[u8]) -> Vec<[u16; 2]> {
+    let Some(count) = dependency_count(table) else {
+        return Vec::new();
+    };
+    let at = past_rows(table);
+    let whole = count.min((table.len() - at - COUNT_BYTES) / DEPENDENCY_BYTES);
+    (0..whole)
+        .map(|number| dependency_of(table, at, number))
+        .collect()
 }
 
 fn instance_words(row: Row) -> String {
@@ -151,7 +228,7 @@ pub fn source_words(row: Row) -> String {
 }
 
 fn semantics_words(row: Row) -> Option<String> {
-    if row.is_plain() {
+    if row.is_plain() || row.is_queue_operation() {
         return None;
     }
     let scope = names::scope(row.scope);

@@ -3,14 +3,15 @@
 use crate::account::Checked;
 use crate::derivation::derivation_lines;
 use crate::edit::{edited, Edit, Field};
+use crate::judge::Judge;
 use crate::refusal;
 use crate::run::Run;
 use second::{State, BLANK, CYCLE_NUMBERS, INITIAL, WORK_WORDS};
-use stramashly::{Checker, DeriveAnswer};
+use stramashly::DeriveAnswer;
 
 /// The answer of `derive`, then its steps in words, or where a chain is
 /// missing, or what the refusal means.
-pub fn why(table: &[u8], first: u16, second: u16, checker: &mut Checker) -> String {
+pub fn why(table: &[u8], first: u16, second: u16, checker: &mut dyn Judge) -> String {
     let answer = checker.derive(table, first, second);
     let (from, to) = (usize::from(first), usize::from(second));
     let lines = match answer {

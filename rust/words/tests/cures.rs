@@ -122,6 +122,8 @@ fn is_so(run: &Run, reason: Reason) -> (bool, &'static str) {
         Reason::NoMeeting { before, after, .. } => {
             (rows[before].agent != rows[after].agent, "meeting")
         }
+        // These tables have neither hosts nor queues.
+        Reason::NotCarried { .. } => (run.has_hosts, "carried"),
     }
 }
 

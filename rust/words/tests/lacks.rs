@@ -3,6 +3,7 @@
 mod common;
 
 use common::{example, generated, with_relations};
+use tables::{hosted, Random, Size};
 use words::Checked;
 
 /// Compares all rules of all pairs at all shared bytes, and gives how many
@@ -13,8 +14,10 @@ fn compare(checked: Checked) -> [usize; 2] {
     let pairs = (0..rows).flat_map(|x| (0..rows).map(move |y| (x, y)));
     for (x, y) in pairs.filter(|(x, y)| x != y) {
         for byte in checked.shared_bytes(x, y) {
-            let rules = checked.state.rules_at(x, y, byte);
-            for rule in 1..=3 {
+            let [l1, l2, l3] = checked.state.rules_at(x, y, byte);
+            let [l4, l5] = checked.state.system_rules(x, y);
+            let rules = [l1, l2, l3, l4, l5];
+            for rule in 1..=5 {
                 let lacks = checked.lacks(rule, x, y, byte);
                 let holds = rules[usize::from(rule) - 1];
                 assert_eq!(lacks.is_empty(), holds, "L{rule} {x} {y} {byte}: {lacks:?}");
@@ -40,6 +43,29 @@ fn a_rule_lacks_nothing_exactly_where_it_holds() {
         sum = [sum[0] + counts[0], sum[1] + counts[1]];
     }
     assert!(sum[0] > 10_000 && sum[1] > 5_000, "{sum:?}");
+}
+
+/// The same with hosts and queues, where L4 and L5 hold too.
+#[test]
+fn a_rule_of_hosts_lacks_nothing_exactly_where_it_holds() {
+    let mut random = Random::new(313);
+    let mut sum = [0, 0];
+    let mut by_system = [0, 0];
+    for _ in 0..1200 {
+        let table = hosted(&mut random, Size { least: 3, most: 14 }).bytes();
+        let counts = with_relations(&table, |checked| {
+            let rows = checked.run.rows.len();
+            for pair in 0..rows * rows {
+                let held = checked.state.system_rules(pair / rows, pair % rows);
+                by_system[0] += usize::from(held[0]);
+                by_system[1] += usize::from(held[1]);
+            }
+            compare(checked)
+        });
+        sum = [sum[0] + counts[0], sum[1] + counts[1]];
+    }
+    assert!(sum[0] > 10_000 && sum[1] > 1_000, "{sum:?}");
+    assert!(by_system.iter().all(|count| *count > 50), "{by_system:?}");
 }
 
 fn nearest(name: &str, first: usize, second: usize, byte: u32) -> (u8, Vec<String>) {

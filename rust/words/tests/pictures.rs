@@ -2,9 +2,9 @@
 
 mod common;
 
-use common::{elements, example, generated, with_relations, Element};
+use common::{elements, example, generated, with_relations, Element, Second};
 use stramashly::Checker;
-use tables::{Row, Table};
+use tables::{hosted, Random, Row, Size, Table};
 use words::{draw, explain, headline, page, Checked};
 
 /// The whole picture.
@@ -167,8 +167,14 @@ fn every_row_and_every_arrow_is_there() {
 #[test]
 fn nothing_lies_on_another_or_outside() {
     let small = generated(342, 200, 2, 16);
-    for table in small.into_iter().chain(generated(343, 5, 128, 128)) {
-        let elements = drawn(&table).unwrap();
+    let mut random = Random::new(347);
+    let size = Size { least: 3, most: 16 };
+    let hosts = (0..100).map(|_| hosted(&mut random, size).bytes());
+    let large = generated(343, 5, 128, 128);
+    for table in small.into_iter().chain(large).chain(hosts) {
+        // The linked library may not take hosts.
+        let svg = draw(&table, &mut Second::new(), true).unwrap();
+        let elements = elements(&svg);
         let size = ["width", "height"].map(|name| elements[0].number(name).unwrap());
         let boxes: Vec<[i32; 4]> = with_class(&elements, "rect", "box")
             .into_iter()

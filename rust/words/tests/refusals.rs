@@ -3,15 +3,16 @@
 
 mod common;
 
-use common::{example, generated};
+use common::{example, generated, Second};
 use std::collections::BTreeSet;
 use stramashly::{CheckAnswer, Checker, MAX_TABLE_BYTES};
 use tables::builder::{kind, order, scope};
-use tables::{damaged, Random, Row, Size, Table, BLANK, INITIAL};
-use words::{edited, explain, faults, refusal, unfit, Edit, Fault, Field, Run};
+use tables::{damaged, damaged_hosted, hosted, LIBRARY_HAS_HOSTS};
+use tables::{Random, Row, Size, Table, BLANK, INITIAL};
+use words::{edited, explain, faults, refusal, unfit, Edit, Fault, Field, Judge, Run};
 
 /// The refusal's number and row, if a check refuses the table.
-fn refused(table: &[u8], checker: &mut Checker) -> Option<(u16, usize)> {
+fn refused(table: &[u8], checker: &mut dyn Judge) -> Option<(u16, usize)> {
     match checker.check(table) {
         CheckAnswer::Refused { number, row } => Some((number, row.into())),
         _ => None,
@@ -42,6 +43,9 @@ fn mend(run: &Run, row: usize, fault: &Fault) -> Vec<Edit> {
             set(Field::Start, 54321)
         }
         Fault::Ranks { ranks, .. } => set(Field::Rank, ranks[0]),
+        Fault::AgentRow { sort, .. } => set(Field::Kind, if *sort == 2 { 7 } else { 0 }),
+        Fault::Unfit(unfit) if unfit.field == Field::Source => set(Field::Source, INITIAL),
+        Fault::Unfit(unfit) => set(unfit.field, 0),
         _ => Vec::new(),
     }
 }
@@ -49,20 +53,50 @@ fn mend(run: &Run, row: usize, fault: &Fault) -> Vec<Edit> {
 /// Whether a fault is so, read off the bytes.
 fn is_so(table: &[u8], row: usize, fault: &Fault) -> bool {
     let run = Run::of(table);
-    let at = |row: usize| 8 + 6 * usize::from(table[5]) + 16 * row;
+    let agent_bytes = if table.get(4) == Some(&3) { 8 } else { 6 };
+    let at = |row: usize| 8 + agent_bytes * usize::from(table[5]) + 16 * row;
+    let two = |at: usize| u16::from_be_bytes([table[at], table[at + 1]]);
     let fields = || run.rows[row];
     match fault {
         Fault::Short { bytes } => *bytes == table.len() && *bytes < 8,
-        Fault::Version { version } => table[4] == *version && !(1..=2).contains(version),
+        Fault::Version { version } => table[4] == *version && !(1..=3).contains(version),
         Fault::Byte7 { value } => table[7] == *value && *value != 0,
         Fault::Agents { agents } => table[5] == *agents && *agents > 32,
         Fault::Rows { rows } => table[6] == *rows && *rows > 128,
         Fault::Count { count, wanted } => {
             table[..4] == count.to_be_bytes()
-                && *wanted == 4 + 6 * usize::from(table[5]) + 16 * usize::from(table[6])
+                && *wanted == wanted_bytes(table)
                 && *count as usize != *wanted
         }
-        Fault::Length { bytes, wanted } => table.len() == *bytes && bytes != wanted,
+        Fault::Length { bytes, wanted } => {
+            table.len() == *bytes && bytes != wanted && *wanted == wanted_bytes(table) + 4
+        }
+        Fault::NoCount { bytes, least } => {
+            let end = at(usize::from(table[6])) + 2;
+            table[4] == 3 && table.len() == *bytes && bytes < least && *least == end
+        }
+        Fault::AgentSort { agent, sort } => two(8 + 8 * agent + 6) == *sort && *sort > 2,
+        Fault::Dependencies { count } => {
+            usize::from(two(at(usize::from(table[6])))) == *count && *count > 64
+        }
+        Fault::Dependency {
+            number,
+            row: named,
+            rows,
+        } => {
+            let place = at(usize::from(table[6])) + 2 + 4 * number;
+            let pair = [two(place), two(place + 2)];
+            pair.contains(named) && *rows == usize::from(table[6]) && usize::from(*named) >= *rows
+        }
+        Fault::AgentRow { kind, sort } => {
+            let held = two(8 + 8 * usize::from(fields().agent) + 6);
+            let is_allowed = match sort {
+                1 => *kind < 2,
+                2 => *kind > 6,
+                _ => *kind < 7,
+            };
+            fields().kind == *kind && held == *sort && !is_allowed
+        }
         Fault::Code { field, value, most } => {
             field.of(fields()) == *value && value > most && *most >= 3
         }
@@ -137,14 +171,25 @@ fn is_so(table: &[u8], row: usize, fault: &Fault) -> bool {
                 let place = |row: second::table::Row| (row.start, row.length, row.reference);
                 other.rank == *rank && place(other) == place(fields()) && *writer <= row
             });
-            of_place && !(0..=65535).any(fit) && table[4] == 2
+            of_place && !(0..=65535).any(fit) && table[4] >= 2
         }
     }
 }
 
+/// What bytes 0 to 3 would have to count.
+fn wanted_bytes(table: &[u8]) -> usize {
+    let (agents, rows) = (usize::from(table[5]), usize::from(table[6]));
+    if table[4] != 3 {
+        return 4 + 6 * agents + 16 * rows;
+    }
+    let at = 8 + 8 * agents + 16 * rows;
+    let count = usize::from(u16::from_be_bytes([table[at], table[at + 1]]));
+    at - 4 + 2 + 4 * count
+}
+
 /// Every fault is so; with all of them mended the table is not refused by
 /// this number at this row any more, and each stands in the text.
-fn check_faults(table: &[u8], checker: &mut Checker) -> Option<u16> {
+fn check_faults(table: &[u8], checker: &mut dyn Judge) -> Option<u16> {
     let (number, row) = refused(table, checker)?;
     let named = faults(table, number, row);
     assert!(!named.is_empty(), "{number} {row}");
@@ -154,7 +199,7 @@ fn check_faults(table: &[u8], checker: &mut Checker) -> Option<u16> {
         assert!(text.contains(&format!("\n  {fault}\n")), "{text}");
     }
     // Kind fit is held to its own test.
-    if matches!(number, 5 | 7..=10 | 14 | 15) {
+    if matches!(number, 5 | 7..=10 | 14 | 15 | 19 | 20) {
         let run = Run::of(table);
         let edits = named.iter().flat_map(|fault| mend(&run, row, fault));
         let mended = edited(table, &edits.collect::<Vec<_>>());
@@ -171,12 +216,42 @@ fn the_named_faults_are_the_real_ones() {
     let mut seen = [0; 16];
     for _ in 0..6000 {
         let table = damaged(&mut random, Size { least: 2, most: 9 });
+        if table.get(4) == Some(&3) && !LIBRARY_HAS_HOSTS {
+            continue;
+        }
         if let Some(number) = check_faults(&table, &mut checker) {
             seen[usize::from(number)] += 1;
         }
     }
     assert!(seen[1..=10].iter().all(|count| *count > 20), "{seen:?}");
     assert!(seen[14] > 20 && seen[15] > 20, "{seen:?}");
+}
+
+/// The same of tables with hosts, queues and dependencies.
+#[test]
+fn the_named_faults_of_hosts_are_the_real_ones() {
+    let mut second = Second::new();
+    let mut random = Random::new(365);
+    let mut seen = [0; 21];
+    for _ in 0..4000 {
+        let table = damaged_hosted(&mut random, Size { least: 2, most: 9 });
+        if let Some(number) = check_faults(&table, &mut second) {
+            seen[usize::from(number)] += 1;
+        }
+    }
+    assert!(seen[16..=20].iter().all(|count| *count > 20), "{seen:?}");
+    assert!(seen[4] > 20 && seen[5] > 20, "{seen:?}");
+}
+
+/// A checker that takes versions 1 and 2 only refuses version 3, and that is
+/// what is told.
+#[test]
+fn a_version_that_only_the_checker_refuses_is_named() {
+    let table = hosted(&mut Random::new(366), Size { least: 3, most: 6 }).bytes();
+    let text = explain(&table, &mut Checker::new()).text();
+    let told = text.contains("the version, is 3, which the linked checker doesn't take");
+    assert_eq!(text.starts_with("refused 2 0\n"), !LIBRARY_HAS_HOSTS);
+    assert_eq!(told, !LIBRARY_HAS_HOSTS, "{text}");
 }
 
 /// One row of one agent, as a table.
@@ -317,7 +392,7 @@ fn a_length_past_what_is_read_is_told_as_such() {
     let text = told(&long, "refused 4 0");
     assert!(
         text.contains(&format!(
-            "the table has {MAX_TABLE_BYTES} bytes; agents and rows ask for 84"
+            "the table has {MAX_TABLE_BYTES} bytes; its counts ask for 84"
         )),
         "{text}"
     );
@@ -408,8 +483,11 @@ fn show_tells_the_same_faults() {
 /// No table that is taken has a fault of any number.
 #[test]
 fn a_good_table_has_no_faults() {
-    for table in generated(364, 300, 2, 10) {
-        for number in [2, 3, 4, 5, 6, 7, 8, 9, 10, 14, 15] {
+    let mut random = Random::new(367);
+    let size = Size { least: 2, most: 10 };
+    let hosts = (0..300).map(|_| hosted(&mut random, size).bytes());
+    for table in generated(364, 300, 2, 10).into_iter().chain(hosts) {
+        for number in [2, 3, 4, 5, 6, 7, 8, 9, 10, 14, 15, 16, 17, 18, 19, 20] {
             for row in 0..usize::from(table[6]) {
                 let named = faults(&table, number, row);
                 assert!(named.is_empty(), "{number} {row} {named:?}");

@@ -1,5 +1,5 @@
-//! The arrows: reads-from, synchronizes-with, scoped modification order, and
-//! what the answer shows.
+//! The arrows: reads-from, synchronizes-with, scoped modification order,
+//! dependencies, and what the answer shows.
 
 use super::curve::Curve;
 use super::layout::Layout;
@@ -57,6 +57,7 @@ fn title(arrow: &Arrow) -> String {
         (_, Some(label)) => format!("rows {from} and {to}: {label}"),
         ("reads", _) => format!("row {to} read row {from}"),
         ("synchronizes", _) => format!("row {from} synchronizes with row {to}"),
+        ("depends", _) => format!("row {to} depends on row {from}"),
         (RACE_TOO, _) => format!("rows {from} and {to} race too"),
         _ => format!("row {from} is before row {to} in scoped modification order"),
     }
@@ -142,6 +143,10 @@ fn relations(checked: Checked, layout: &Layout) -> Vec<Arrow> {
         // The others follow from these.
         if state.modification_order(from, to) && !(0..rows).any(comes_between) {
             add("modification", 7);
+        }
+        // A row that depends on itself is ordered before nothing by it.
+        if state.depends(from, to) && from != to {
+            add("depends", 3);
         }
     }
     arrows

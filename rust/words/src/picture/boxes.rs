@@ -29,9 +29,9 @@ fn middles(layout: &Layout) -> impl Iterator<Item = (usize, i32)> + '_ {
 pub fn agents(run: &Run, layout: &Layout) -> String {
     let mut svg = String::new();
     for (agent, middle) in middles(layout) {
+        let name = run.agent_name(agent as u8);
         for y in &layout.bands {
-            svg +=
-                &format!("<text class=\"agent\" x=\"{middle}\" y=\"{y}\">agent {agent}</text>\n");
+            svg += &format!("<text class=\"agent\" x=\"{middle}\" y=\"{y}\">{name}</text>\n");
         }
         svg += &format!(
             "<text class=\"places\" x=\"{middle}\" y=\"{}\">{}</text>\n",
@@ -67,6 +67,8 @@ fn class(row: Row, is_shown: bool) -> String {
         "plain"
     } else if row.is_atomic() {
         "atomic"
+    } else if row.is_queue_operation() {
+        "operation"
     } else {
         "barrier"
     };

@@ -188,6 +188,9 @@ fn broken(line: &str) -> Vec<String> {
 /// What stands in a row's box.
 fn wide_lines(number: usize, row: Row) -> Vec<String> {
     let kind = names::kind(row.kind);
+    if row.is_queue_operation() {
+        return operation_lines(number, &kind);
+    }
     let has_no_order = row.is_plain() || row.is_control_barrier() && row.order == RELAXED;
     let mut lines = vec![if has_no_order {
         format!("{number}  {kind}")
@@ -221,6 +224,17 @@ fn wide_lines(number: usize, row: Row) -> Vec<String> {
         }
     }
     lines
+}
+
+/// A queue's operation is its kind, in two lines where it is long.
+fn operation_lines(number: usize, kind: &str) -> Vec<String> {
+    match kind.split_once("operation from ") {
+        Some((what, between)) => vec![
+            format!("{number}  {what}operation"),
+            format!("from {between}"),
+        ],
+        None => vec![format!("{number}  {kind}")],
+    }
 }
 
 /// What a row's moment before or after it is called, if it has one.

@@ -32,12 +32,14 @@ pub fn entries(drawn: &str, shown: &Shown) -> Vec<Entry> {
         ("reads", "read from"),
         ("synchronizes", "synchronizes with"),
         ("modification", "scoped modification order"),
+        ("depends", "dependency"),
         ("race too", "races too"),
     ];
     let boxes = [
         ("row plain", "box", "plain"),
         ("row atomic", "box", "atomic"),
         ("row barrier", "box", "barrier"),
+        ("row operation", "box", "operation of a queue"),
         ("row", "moment available", "availability moment"),
         ("row", "moment visible", "visibility moment"),
     ];

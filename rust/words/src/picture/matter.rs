@@ -2,6 +2,7 @@
 //! what synchronizes near them.
 
 use crate::account::Checked;
+use crate::carriage::Stop;
 use crate::derivation::{meeting, step_parts};
 use crate::explain::Shown;
 use crate::goal::Goal;
@@ -58,13 +59,16 @@ impl Matter<'_> {
         let Some(ordered) = ordered else {
             return;
         };
-        let (from, to) = ordered.moments;
-        self.rows.extend([from / 3, to / 3]);
+        self.rows
+            .extend(ordered.path.iter().map(|moment| moment / 3));
         let mut checker = Checker::new();
-        let answer = checker.derive(self.checked.table, from as u16, to as u16);
-        if let DeriveAnswer::Derivation(Derivation::Chain { steps, .. }) = answer {
-            let reached = steps.iter().map(|step| step_parts(*step).1 / 3);
-            self.rows.extend(reached);
+        for arrow in ordered.path.windows(2) {
+            let (from, to) = (arrow[0] as u16, arrow[1] as u16);
+            let answer = checker.derive(self.checked.table, from, to);
+            if let DeriveAnswer::Derivation(Derivation::Chain { steps, .. }) = answer {
+                let reached = steps.iter().map(|step| step_parts(*step).1 / 3);
+                self.rows.extend(reached);
+            }
         }
     }
 
@@ -85,6 +89,13 @@ impl Matter<'_> {
 
     fn between(&mut self, before: usize, after: usize) {
         let rows = &self.checked.run.rows;
+        if rows[before].writes() && self.checked.run.has_hosts {
+            let way = self.checked.way(before, after);
+            self.rows.extend(way.iter().filter_map(|stop| match stop {
+                Stop::Row(row) => Some(*row),
+                Stop::Missing(_) => None,
+            }));
+        }
         let (agent, other) = (rows[before].agent, rows[after].agent);
         let releases = (before + 1..rows.len())
             .filter(|row| rows[*row].agent == agent && rows[*row].is_release())

@@ -1,7 +1,7 @@
 //! Colours and lines, light and dark.
 
 /// Sorts of arrows, each with a head of its own colour.
-const SORTS: [&str; 4] = ["reads", "synchronizes", "modification", "shown"];
+const SORTS: [&str; 5] = ["reads", "synchronizes", "modification", "depends", "shown"];
 
 pub const SHEET: &str = "\
 .run text { font-family: system-ui, 'Segoe UI', 'DejaVu Sans', sans-serif; font-size: 12px; fill: #1b1f24; }
@@ -15,6 +15,7 @@ pub const SHEET: &str = "\
 .run .box { fill: #f2f3f5; stroke: #8a929c; stroke-width: 1; }
 .run .atomic .box { fill: #e3eefc; }
 .run .barrier .box { fill: #fbf0d4; }
+.run .operation .box { fill: #d9f0ee; }
 .run .band { fill: none; stroke: #f0d080; stroke-width: 14; stroke-linejoin: round; }
 .run .first { font-weight: bold; }
 .run .moment { font-size: 11px; text-anchor: middle; }
@@ -25,6 +26,7 @@ pub const SHEET: &str = "\
 .run .reads { stroke: #1f5fd0; }
 .run .synchronizes { stroke: #14742f; stroke-width: 3; }
 .run .modification { stroke: #8536c9; stroke-dasharray: 7 4; }
+.run .depends { stroke: #0b6b78; stroke-width: 2.4; stroke-dasharray: 9 3 2 3; }
 .run .race { stroke: #cc1f1a; stroke-width: 4; stroke-dasharray: 3 4; }
 .run .too { stroke-width: 1.6; }
 .run .shown { stroke: #cc1f1a; stroke-width: 3; }
@@ -34,6 +36,7 @@ pub const SHEET: &str = "\
 .run .head-reads { fill: #1f5fd0; }
 .run .head-synchronizes { fill: #14742f; }
 .run .head-modification { fill: #8536c9; }
+.run .head-depends { fill: #0b6b78; }
 .run .head-shown { fill: #cc1f1a; }
 @media (prefers-color-scheme: dark) {
 .run text { fill: #e6e9ed; }
@@ -44,6 +47,7 @@ pub const SHEET: &str = "\
 .run .box { fill: #23272e; stroke: #79828e; }
 .run .atomic .box { fill: #1b2d47; }
 .run .barrier .box { fill: #3d3214; }
+.run .operation .box { fill: #123c3a; }
 .run .band { stroke: #6b5518; }
 .run rect.moment { stroke: #79828e; }
 .run rect.available { fill: #173d21; }
@@ -51,12 +55,14 @@ pub const SHEET: &str = "\
 .run .reads { stroke: #79a8ff; }
 .run .synchronizes { stroke: #4fc870; }
 .run .modification { stroke: #c594ff; }
+.run .depends { stroke: #56c8d6; }
 .run .race, .run .shown, .run .pointed .box { stroke: #ff6f66; }
 .run rect.label { fill: #ff6f66; }
 .run text.label { fill: #12151a; }
 .run .head-reads { fill: #79a8ff; }
 .run .head-synchronizes { fill: #4fc870; }
 .run .head-modification { fill: #c594ff; }
+.run .head-depends { fill: #56c8d6; }
 .run .head-shown { fill: #ff6f66; }
 }
 ";

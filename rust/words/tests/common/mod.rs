@@ -2,10 +2,11 @@
 
 #![allow(dead_code)]
 
-use second::{State, CYCLE_NUMBERS, WORK_WORDS};
+use second::{Chains, State, CYCLE_NUMBERS, SOURCE_NUMBERS, WORK_WORDS};
 use std::collections::BTreeSet;
+use stramashly::{CheckAnswer, DeriveAnswer, FillAnswer};
 use tables::{checkable, Random, Size};
-use words::{Checked, Run};
+use words::{Checked, Judge, Run};
 
 /// Generated tables of so many rows, as bytes.
 pub fn generated(seed: u64, count: usize, least: usize, most: usize) -> Vec<Vec<u8>> {
@@ -26,14 +27,119 @@ pub fn example(name: &str) -> Vec<u8> {
 
 /// The relations of a table, whatever the second implementation answers.
 pub fn with_relations<T>(table: &[u8], ask: impl FnOnce(Checked) -> T) -> T {
+    with_chains(Chains::Off, table, ask)
+}
+
+/// The relations with chains off or on.
+pub fn with_chains<T>(chains: Chains, table: &[u8], ask: impl FnOnce(Checked) -> T) -> T {
     let mut state = State::new();
-    state.check(table, WORK_WORDS, CYCLE_NUMBERS);
+    state.check_with(chains, table, WORK_WORDS, CYCLE_NUMBERS);
     let run = Run::of(table);
     ask(Checked {
         table,
         state: &state,
         run: &run,
     })
+}
+
+/// The second implementation in the library's place, for versions that the
+/// linked one may not take. It finds no derivations.
+pub struct Second {
+    state: State,
+    chains: Chains,
+    rows: Vec<u16>,
+    edges: Vec<u16>,
+}
+
+impl Second {
+    pub fn new() -> Second {
+        Second::with(Chains::Off)
+    }
+
+    pub fn with(chains: Chains) -> Second {
+        Second {
+            state: State::new(),
+            chains,
+            rows: Vec::new(),
+            edges: Vec::new(),
+        }
+    }
+}
+
+impl Judge for Second {
+    fn check(&mut self, table: &[u8]) -> CheckAnswer<'_> {
+        match self
+            .state
+            .check_with(self.chains, table, WORK_WORDS, CYCLE_NUMBERS)
+        {
+            second::CheckAnswer::RaceFree => CheckAnswer::RaceFree,
+            second::CheckAnswer::Race {
+                first,
+                second,
+                byte,
+            } => CheckAnswer::Race {
+                first,
+                second,
+                byte,
+            },
+            second::CheckAnswer::Overwritten {
+                reader,
+                writer,
+                byte,
+            } => CheckAnswer::Overwritten {
+                reader,
+                writer,
+                byte,
+            },
+            second::CheckAnswer::Cycle { rows, edges } => {
+                self.rows = rows.as_slice().to_vec();
+                self.edges = edges.as_slice().to_vec();
+                CheckAnswer::Cycle {
+                    rows: &self.rows,
+                    edges: &self.edges,
+                }
+            }
+            second::CheckAnswer::Refused { number, row } => CheckAnswer::Refused {
+                number: number.into(),
+                row,
+            },
+        }
+    }
+
+    fn fill(&mut self, table: &[u8]) -> FillAnswer<'_> {
+        match self
+            .state
+            .fill_with(self.chains, table, WORK_WORDS, SOURCE_NUMBERS)
+        {
+            second::FillAnswer::TooMany => panic!("too many fillings for a test"),
+            second::FillAnswer::None => FillAnswer::None,
+            second::FillAnswer::Race {
+                first,
+                second,
+                byte,
+            } => FillAnswer::Race {
+                first,
+                second,
+                byte,
+            },
+            second::FillAnswer::Filled(sources) => {
+                self.rows = sources.as_slice().to_vec();
+                FillAnswer::Filled(&self.rows)
+            }
+            second::FillAnswer::Refused { number, row } => FillAnswer::Refused {
+                number: number.into(),
+                row,
+            },
+        }
+    }
+
+    fn derive(&mut self, _: &[u8], _: u16, _: u16) -> DeriveAnswer<'_> {
+        DeriveAnswer::NotBefore
+    }
+
+    fn chains(&self) -> Chains {
+        self.chains
+    }
 }
 
 /// The elements of a document in order, each with its attributes. Panics

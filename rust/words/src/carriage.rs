@@ -1,0 +1,170 @@
+//! L5 step by step: the way of a write through the domains of host and
+//! device, as far as a table has it, and what is missing of it.
+
+use crate::account::Checked;
+use crate::derivation::at;
+use crate::names;
+use crate::run::Run;
+use second::table::*;
+
+/// A station of the way.
+#[derive(Clone, Copy, Debug, PartialEq, Eq)]
+pub enum Stop {
+    Row(usize),
+    /// No row serves: an operation of this kind is missing.
+    Missing(u8),
+}
+
+/// A missing row is worse than a missing dependency, of which a new row may
+/// need two.
+const ROW_COST: usize = 2;
+
+/// The kinds of operations that L5 asks for between two accesses, in order.
+pub fn kinds(run: &Run, x: usize, y: usize) -> Vec<u8> {
+    let is_host = |row: usize| run.sort(run.rows[row].agent) == HOST;
+    let (from, to) = (is_host(x), is_host(y));
+    let mut kinds = vec![if from {
+        AVAILABLE_TO_HOST
+    } else {
+        AVAILABLE_TO_DEVICE
+    }];
+    match (from, to) {
+        (true, false) => kinds.push(HOST_TO_DEVICE),
+        (false, true) => kinds.push(DEVICE_TO_HOST),
+        _ => (),
+    }
+    if run.rows[y].reads() {
+        kinds.push(if to {
+            VISIBLE_FROM_HOST
+        } else {
+            VISIBLE_FROM_DEVICE
+        });
+    }
+    kinds
+}
+
+impl Checked<'_> {
+    /// The way from X to Y on which least is missing, both ends included.
+    pub fn way(&self, x: usize, y: usize) -> Vec<Stop> {
+        let mut ways = vec![(0, vec![Stop::Row(x)])];
+        for kind in kinds(self.run, x, y) {
+            let rows = 0..self.run.rows.len();
+            let rows = rows.filter(|row| self.run.rows[*row].kind == kind);
+            let stops = rows.map(Stop::Row).chain([Stop::Missing(kind)]);
+            ways = stops.map(|stop| self.onward(&ways, stop)).collect();
+        }
+        self.onward(&ways, Stop::Row(y)).1
+    }
+
+    /// The best of some ways, with one more stop.
+    fn onward(&self, ways: &[(usize, Vec<Stop>)], stop: Stop) -> (usize, Vec<Stop>) {
+        let own = match stop {
+            Stop::Row(_) => 0,
+            Stop::Missing(_) => ROW_COST,
+        };
+        let longer = ways.iter().filter_map(|(cost, way)| {
+            let step = usize::from(self.is_gap(*way.last()?, stop));
+            Some((cost + step + own, way))
+        });
+        let least = longer.min_by_key(|(cost, _)| *cost);
+        let (cost, way) = least.expect("a way begins somewhere");
+        (cost, [&way[..], &[stop]].concat())
+    }
+
+    /// Whether two rows follow each other on the way without happening before
+    /// each other.
+    fn is_gap(&self, from: Stop, to: Stop) -> bool {
+        match (from, to) {
+            (Stop::Row(from), Stop::Row(to)) => !self.state.happens_before(at(from), at(to)),
+            _ => false,
+        }
+    }
+
+    /// What L5 lacks to order X before Y.
+    pub fn l5_lacks(&self, x: usize, y: usize) -> Vec<String> {
+        if !self.run.rows[x].writes() {
+            return vec![format!("row {x} doesn't write")];
+        }
+        let way = self.way(x, y);
+        let mut lacks = Vec::new();
+        for (place, stop) in way.iter().enumerate().skip(1) {
+            match *stop {
+                Stop::Missing(kind) => lacks.push(missing_words(&way, place, kind)),
+                Stop::Row(row) if self.is_gap(way[place - 1], *stop) => {
+                    let Stop::Row(from) = way[place - 1] else {
+                        continue;
+                    };
+                    lacks.push(self.gap_of_rows(from, row));
+                }
+                Stop::Row(_) => (),
+            }
+        }
+        lacks
+    }
+
+    /// What L4 lacks to order X before Y, rows that share a byte.
+    pub fn l4_lacks(&self, x: usize, y: usize) -> Vec<String> {
+        let row = self.run.rows[x];
+        let mut lacks = Vec::new();
+        if !row.reads() {
+            lacks.push(format!("row {x} doesn't read"));
+        } else if row.writes() {
+            lacks.push(format!("row {x} writes"));
+        } else if !self.state.system_rules(x, y)[0] {
+            lacks.push(format!(
+                "no dependencies lead from row {x} to row {y}, and nothing else serves"
+            ));
+        }
+        lacks
+    }
+
+    /// Two stops that are there: the first doesn't happen before the second.
+    fn gap_of_rows(&self, from: usize, to: usize) -> String {
+        let rows = &self.run.rows;
+        let name = |row: usize| match rows[row].is_queue_operation() {
+            true => format!("row {row}, the {}", names::kind(rows[row].kind)),
+            false => format!("row {row}"),
+        };
+        let mut words = format!("{} doesn't happen before {}", name(from), name(to));
+        let later = (from + 1..rows.len()).find(|row| {
+            rows[*row].agent == rows[from].agent && self.state.happens_before(at(*row), at(to))
+        });
+        if let Some(row) = later {
+            words += &format!(
+                ": row {row} does, but that doesn't carry what comes before it in program order"
+            );
+        }
+        words
+    }
+
+    /// Why L5 orders X before Y: the operations that it goes by.
+    pub fn l5_words(&self, x: usize, stops: &[usize]) -> String {
+        let words = stops.iter().map(|row| {
+            let kind = self.run.rows[*row].kind;
+            let does = match kind {
+                AVAILABLE_TO_HOST => "makes it available to the host domain",
+                AVAILABLE_TO_DEVICE => "makes it available to the device domain",
+                VISIBLE_FROM_HOST => "makes it visible from the host domain",
+                VISIBLE_FROM_DEVICE => "makes it visible from the device domain",
+                HOST_TO_DEVICE => "carries it from host to device",
+                _ => "carries it from device to host",
+            };
+            format!("row {row} {does}")
+        });
+        let words: Vec<String> = words.collect();
+        format!("row {x} writes, {}", names::listed(&words))
+    }
+}
+
+/// An operation that is missing, between the nearest rows that there are.
+fn missing_words(way: &[Stop], place: usize, kind: u8) -> String {
+    let row = |stop: &Stop| match stop {
+        Stop::Row(row) => Some(*row),
+        Stop::Missing(_) => None,
+    };
+    let before = way[..place].iter().rev().find_map(row);
+    let after = way[place..].iter().find_map(row);
+    let (before, after) = (before.unwrap_or(0), after.unwrap_or(0));
+    let kind = names::kind(kind);
+    format!("no {kind} leads from row {before} on to row {after}")
+}

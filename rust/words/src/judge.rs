@@ -1,0 +1,31 @@
+//! Who answers. On the command line that is the proved library; the words
+//! themselves ask for no more than this.
+
+use second::Chains;
+use stramashly::{CheckAnswer, Checker, DeriveAnswer, FillAnswer};
+
+/// Answers questions about tables, whatever their bytes.
+pub trait Judge {
+    fn check(&mut self, table: &[u8]) -> CheckAnswer<'_>;
+    fn fill(&mut self, table: &[u8]) -> FillAnswer<'_>;
+    fn derive(&mut self, table: &[u8], first: u16, second: u16) -> DeriveAnswer<'_>;
+
+    /// Whether checks and fills are asked with chains.
+    fn chains(&self) -> Chains {
+        Chains::Off
+    }
+}
+
+impl Judge for Checker {
+    fn check(&mut self, table: &[u8]) -> CheckAnswer<'_> {
+        Checker::check(self, table)
+    }
+
+    fn fill(&mut self, table: &[u8]) -> FillAnswer<'_> {
+        Checker::fill(self, table)
+    }
+
+    fn derive(&mut self, table: &[u8], first: u16, second: u16) -> DeriveAnswer<'_> {
+        Checker::derive(self, table, first, second)
+    }
+}

@@ -131,7 +131,11 @@ fn tell(table: &[u8], checked: Checked, checker: &mut dyn Judge, explanation: &m
         }
         Shown::Race(goal) => {
             let found = search(table, checked, goal, checker);
-            let lines = race::lines(checked, goal, &found);
+            let mut lines = race::lines(checked, goal, &found);
+            // What a rule lacks is said of single operations.
+            if explanation.chains == Chains::On {
+                lines.push("Chains are on: none of several availability or visibility operations orders them either.".to_string());
+            }
             explanation.cures = found.cures;
             lines
         }

@@ -73,6 +73,9 @@ fn cures_with_chains_are_cures() {
         let Shown::Race(goal) = told.shown else {
             continue;
         };
+        let is_told = |told: &str| told.contains("\nChains are on: none of several");
+        assert!(is_told(&told.text()));
+        assert!(!is_told(&explain(&table, &mut Second::new()).text()));
         for cure in &told.cures {
             let changed = stepped(&table, &cure.steps()).unwrap();
             assert_eq!(second.check(&changed).to_string(), cure.answer);

@@ -1,6 +1,5 @@
 //! The words of the command line.
 
-use crate::checker::HAS_CHAINS;
 use crate::help;
 use crate::make::{steps, Making};
 use crate::question::{Kind, Question};
@@ -170,8 +169,7 @@ fn sort(words: impl Iterator<Item = OsString>) -> Result<Words, String> {
             Some("--quiet" | "-q") => sorted.is_quiet = true,
             Some("--table") => sorted.is_table = true,
             Some("--words") => sorted.is_words = true,
-            Some("--chains") if HAS_CHAINS => sorted.has_chains = true,
-            Some("--chains") => return Err("the linked library takes no --chains".to_string()),
+            Some("--chains") => sorted.has_chains = true,
             Some("-j" | "--jobs") => {
                 let count = words.next();
                 let count = count.as_ref().and_then(|count| count.to_str());
@@ -380,12 +378,11 @@ mod tests {
             "draw --chains a",
         ] {
             match parsed(line) {
-                Ok(Command::Files(request)) => assert!(HAS_CHAINS && request.has_chains, "{line}"),
-                Err(reason) => assert!(!HAS_CHAINS && reason.contains("--chains"), "{line}"),
+                Ok(Command::Files(request)) => assert!(request.has_chains, "{line}"),
                 other => panic!("{line}: {other:?}"),
             }
         }
-        assert_eq!(parsed("batch --chains").is_ok(), HAS_CHAINS);
+        assert!(parsed("batch --chains").is_ok());
         for line in [
             "show --chains a",
             "derive --chains a 3 8",

@@ -1,12 +1,12 @@
 //! Hex digits to a table's bytes, piece by piece and in bounded memory.
 
 use std::fmt;
-use stramashly::MAX_TABLE_BYTES;
+use stramashly::{MAX_DEPENDENCIES, MAX_TABLE_BYTES};
 
-/// How many bytes of a table are kept. One more than a table can have is
-/// enough for the right refusal: the header's refusals come first, and then
-/// the length fits no header, however many bytes follow.
-pub const KEPT_BYTES: usize = MAX_TABLE_BYTES + 1;
+/// How many bytes of a table are kept: one more than those of any count of
+/// dependencies, which the length must fit before the count is refused. More
+/// bytes fit no header, however many follow.
+pub const KEPT_BYTES: usize = MAX_TABLE_BYTES + 4 * (65535 - MAX_DEPENDENCIES) + 1;
 
 const SPACE: u8 = 254;
 const NO_DIGIT: u8 = 255;

@@ -24,8 +24,6 @@ pub fn derived_lines(table: &[u8], rows: &[Row], (from, to): (usize, usize)) -> 
                 return derivation_lines(rows, from, derivation);
             }
         }
-        // A checker that doesn't take the table has nothing to say of it.
-        DeriveAnswer::Refused { number: 2, .. } => return Vec::new(),
         _ => (),
     }
     vec!["no derivation of this is accepted; please report this table".to_string()]

@@ -43,12 +43,6 @@ pub fn lines(table: &[u8], number: u16, row: usize) -> Vec<String> {
     }
     let faults = faults(table, number, row);
     lines.extend(faults.iter().map(|fault| format!("  {fault}")));
-    if number == 2 && faults.is_empty() {
-        let version = table.get(4).copied().unwrap_or_default();
-        lines.push(format!(
-            "  byte 4, the version, is {version}, which the linked checker doesn't take"
-        ));
-    }
     lines
 }
 

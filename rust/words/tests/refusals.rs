@@ -7,7 +7,7 @@ use common::{example, generated, Second};
 use std::collections::BTreeSet;
 use stramashly::{CheckAnswer, Checker, MAX_TABLE_BYTES};
 use tables::builder::{kind, order, scope};
-use tables::{damaged, damaged_hosted, hosted, LIBRARY_HAS_HOSTS};
+use tables::{damaged, damaged_hosted, hosted};
 use tables::{Random, Row, Size, Table, BLANK, INITIAL};
 use words::{edited, explain, faults, refusal, unfit, Edit, Fault, Field, Judge, Run};
 
@@ -213,12 +213,9 @@ fn check_faults(table: &[u8], checker: &mut dyn Judge) -> Option<u16> {
 fn the_named_faults_are_the_real_ones() {
     let mut checker = Checker::new();
     let mut random = Random::new(361);
-    let mut seen = [0; 16];
+    let mut seen = [0; 21];
     for _ in 0..6000 {
         let table = damaged(&mut random, Size { least: 2, most: 9 });
-        if table.get(4) == Some(&3) && !LIBRARY_HAS_HOSTS {
-            continue;
-        }
         if let Some(number) = check_faults(&table, &mut checker) {
             seen[usize::from(number)] += 1;
         }
@@ -241,17 +238,6 @@ fn the_named_faults_of_hosts_are_the_real_ones() {
     }
     assert!(seen[16..=20].iter().all(|count| *count > 20), "{seen:?}");
     assert!(seen[4] > 20 && seen[5] > 20, "{seen:?}");
-}
-
-/// A checker that takes versions 1 and 2 only refuses version 3, and that is
-/// what is told.
-#[test]
-fn a_version_that_only_the_checker_refuses_is_named() {
-    let table = hosted(&mut Random::new(366), Size { least: 3, most: 6 }).bytes();
-    let text = explain(&table, &mut Checker::new()).text();
-    let told = text.contains("the version, is 3, which the linked checker doesn't take");
-    assert_eq!(text.starts_with("refused 2 0\n"), !LIBRARY_HAS_HOSTS);
-    assert_eq!(told, !LIBRARY_HAS_HOSTS, "{text}");
 }
 
 /// One row of one agent, as a table.

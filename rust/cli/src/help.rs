@@ -53,7 +53,9 @@ FILE `-` is standard input; a directory stands for the files in it and below it 
 .table, or in .hex with --hex. With --hex a file holds hex digits, and a new table is written
 in them; white space is ignored. `--` ends the options, for names that begin with a dash. With
 --json each answer of check, fill, report, derive, accepts and batch is an object. With --quiet
-these print no answers: the exit status has it. -j N works in N threads, answers in order. An
+these print no answers: the exit status has it. With --chains, check, fill, report, explain, draw
+and batch answer for a device that reports vulkanMemoryModelAvailabilityVisibilityChains. -j N
+works in N threads, answers in order. An
 answer is coloured on a terminal unless NO_COLOR is set. Of several files a last line on
 standard error says how many had which answer.
 
@@ -64,8 +66,8 @@ with them. With depend, in a table of version 3, row S depends on row R.
 
 A moment is 3 times its row, plus 0, 1 or 2: before it, the row itself, after it; or R.before,
 R.at, R.after. S is a class set, 1 to 15: the sum of 1 Uniform, 2 Workgroup, 4 Image, 8 Output. A STEP is 512 times its
-case, 1 to 3, plus the moment that it reaches: 1 synchronizes-with, 2 to a release, 3 from an
-acquire. Where M and N aren't two moments of the table, the answer is `refused 12 0`.
+case, 1 to 4, plus the moment that it reaches: 1 synchronizes-with, 2 to a release, 3 from an
+acquire, 4 a dependency. Where M and N aren't two moments of the table, the answer is `refused 12 0`.
 
 answers, one line each, with the file's name before it if there are several:
   race-free                           every conflicting pair of rows is ordered

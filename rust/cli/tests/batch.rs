@@ -133,7 +133,7 @@ fn no_lines_have_no_answers() {
 #[test]
 fn long_lines_have_the_refusal_that_they_deserve() {
     let mut input = format!("check 0000000401000000{}\n", "00".repeat(200_000)).into_bytes();
-    input.extend(format!("check 0000000403000000{}\n", "00".repeat(200_000)).bytes());
+    input.extend(format!("check 0000000404000000{}\n", "00".repeat(200_000)).bytes());
     input.extend(format!("check {}\n", "0".repeat(300_001)).bytes());
     input.extend([b'x'; 300_000]);
     input.extend(b"\nfill 0000000401000000\n");

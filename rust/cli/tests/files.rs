@@ -257,7 +257,7 @@ fn a_longer_file_has_the_refusal_that_it_deserves() {
         let digits = hex(&longer);
         for (place, byte, answer) in [
             (0, 0, "refused 4 0\n"),
-            (4, 3, "refused 2 0\n"),
+            (4, 4, "refused 2 0\n"),
             (7, 1, "refused 2 0\n"),
             (5, 33, "refused 3 0\n"),
             (6, 129, "refused 3 0\n"),

@@ -159,7 +159,7 @@ fn every_pair_of_moments_of_small_tables() {
             }
         }
     }
-    assert!(by_system > 300, "{by_system}");
+    assert!(by_system > 150, "{by_system}");
 }
 
 /// Dependencies go with their rows.

@@ -43,6 +43,11 @@ impl Checker {
         Checker { chains, ..self }
     }
 
+    /// Whether it answers for devices with chains.
+    pub fn has_chains(&self) -> bool {
+        self.chains
+    }
+
     /// Checks a table, whatever its bytes.
     pub fn check(&mut self, table: &[u8]) -> CheckAnswer<'_> {
         let packed = check_with(self.chains, table, &mut self.work[..], &mut self.cycle);

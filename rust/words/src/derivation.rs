@@ -17,14 +17,11 @@ pub fn derived_lines(table: &[u8], rows: &[Row], (from, to): (usize, usize)) -> 
     let mut checker = Checker::new();
     // Three moments for each of 128 rows.
     let (first, second) = (from as u16, to as u16);
-    match checker.derive(table, first, second) {
-        DeriveAnswer::Derivation(derivation) => {
-            let answer = Checker::accepts(table, first, second, derivation);
-            if answer == AcceptsAnswer::Accepted {
-                return derivation_lines(rows, from, derivation);
-            }
+    if let DeriveAnswer::Derivation(derivation) = checker.derive(table, first, second) {
+        let answer = Checker::accepts(table, first, second, derivation);
+        if answer == AcceptsAnswer::Accepted {
+            return derivation_lines(rows, from, derivation);
         }
-        _ => (),
     }
     vec!["no derivation of this is accepted; please report this table".to_string()]
 }

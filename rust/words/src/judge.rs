@@ -28,4 +28,12 @@ impl Judge for Checker {
     fn derive(&mut self, table: &[u8], first: u16, second: u16) -> DeriveAnswer<'_> {
         Checker::derive(self, table, first, second)
     }
+
+    fn chains(&self) -> Chains {
+        if self.has_chains() {
+            Chains::On
+        } else {
+            Chains::Off
+        }
+    }
 }

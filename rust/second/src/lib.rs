@@ -28,6 +28,7 @@ mod derivation;
 mod facts;
 mod filling;
 mod happens_before;
+mod judge;
 mod location;
 mod moments;
 mod report;

@@ -1,13 +1,8 @@
-//! The reusable state of the checker, and the two entry points.
+//! The reusable state of the checker.
 
-use crate::admission::{self, Purpose, Refusal};
-use crate::answer::{CheckAnswer, FillAnswer};
 use crate::chains::Chains;
-use crate::table::{agent_places, agent_sort, row_of, Row, SHADER};
-use crate::{
-    CYCLE_NUMBERS, MAX_AGENTS, MAX_DEPENDENCIES, MAX_LENGTH, MAX_MOMENTS, MAX_ROWS, SOURCE_NUMBERS,
-    WORK_WORDS,
-};
+use crate::table::{Row, SHADER};
+use crate::{MAX_AGENTS, MAX_DEPENDENCIES, MAX_LENGTH, MAX_MOMENTS, MAX_ROWS};
 
 const ROW_PAIRS: usize = MAX_ROWS * MAX_ROWS;
 const MOMENT_PAIRS: usize = MAX_MOMENTS * MAX_MOMENTS;
@@ -84,83 +79,6 @@ impl State {
         }
     }
 
-    /// Checks a table with chains off. The lent buffers are given by their
-    /// lengths only.
-    pub fn check(&mut self, table: &[u8], work_words: usize, cycle_numbers: usize) -> CheckAnswer {
-        self.check_with(Chains::Off, table, work_words, cycle_numbers)
-    }
-
-    /// Checks a table.
-    pub fn check_with(
-        &mut self,
-        chains: Chains,
-        table: &[u8],
-        work_words: usize,
-        cycle_numbers: usize,
-    ) -> CheckAnswer {
-        self.chains = chains;
-        self.row_count = 0;
-        if admission::refusal_11(work_words, WORK_WORDS, cycle_numbers, CYCLE_NUMBERS) {
-            return CheckAnswer::Refused { number: 11, row: 0 };
-        }
-        if let Err(Refusal { number, row }) = self.admit(table, Purpose::Check) {
-            return CheckAnswer::Refused { number, row };
-        }
-        self.relate();
-        if let Some((rows, edges)) = self.axiom_a_broken_by() {
-            return CheckAnswer::Cycle { rows, edges };
-        }
-        if let Some((reader, writer, byte)) = self.axiom_b_broken_by() {
-            return CheckAnswer::Overwritten {
-                reader,
-                writer,
-                byte,
-            };
-        }
-        if let Some((first, second, byte)) = self.first_race() {
-            return CheckAnswer::Race {
-                first,
-                second,
-                byte,
-            };
-        }
-        CheckAnswer::RaceFree
-    }
-
-    /// Fills a table's blanks with chains off. The lent buffers are given by
-    /// their lengths only.
-    pub fn fill(&mut self, table: &[u8], work_words: usize, source_numbers: usize) -> FillAnswer {
-        self.fill_with(Chains::Off, table, work_words, source_numbers)
-    }
-
-    /// Fills a table's blanks.
-    pub fn fill_with(
-        &mut self,
-        chains: Chains,
-        table: &[u8],
-        work_words: usize,
-        source_numbers: usize,
-    ) -> FillAnswer {
-        self.chains = chains;
-        self.row_count = 0;
-        self.fillings_found = 0;
-        if admission::refusal_11(work_words, WORK_WORDS, source_numbers, SOURCE_NUMBERS) {
-            return FillAnswer::Refused { number: 11, row: 0 };
-        }
-        if let Err(Refusal { number, row }) = self.admit(table, Purpose::Fill) {
-            return FillAnswer::Refused { number, row };
-        }
-        self.relate();
-        if let Some((first, second, byte)) = self.first_race() {
-            return FillAnswer::Race {
-                first,
-                second,
-                byte,
-            };
-        }
-        self.try_fillings()
-    }
-
     /// How many consistent fillings the last fill found: never more than one.
     pub fn fillings_found(&self) -> usize {
         self.fillings_found
@@ -173,42 +91,6 @@ impl State {
 
     pub(crate) fn moment_count(&self) -> usize {
         3 * self.row_count
-    }
-
-    /// Takes the table in, or says why not. A refused table leaves no rows,
-    /// so that every relation is empty after it.
-    pub(crate) fn admit(&mut self, table: &[u8], purpose: Purpose) -> Result<(), Refusal> {
-        let (agent_count, row_count) = admission::door(table)?;
-        self.version = table[4];
-        for agent in 0..agent_count {
-            self.agents[agent] = agent_places(table, agent);
-            self.sorts[agent] = agent_sort(table, agent);
-        }
-        for row in 0..row_count {
-            self.rows[row] = row_of(table, agent_count, row);
-        }
-        self.row_count = row_count;
-        let refusal = self
-            .take_dependencies_in(table, agent_count)
-            .or_else(|| self.refusal_by_row_alone(agent_count))
-            .or_else(|| self.refusal_among_rows(purpose));
-        if let Some(refusal) = refusal {
-            self.row_count = 0;
-            return Err(refusal);
-        }
-        Ok(())
-    }
-
-    /// Works out every relation up to location order; none of them reads a
-    /// plain source, so they stand for every filling of the table too.
-    pub(crate) fn relate(&mut self) {
-        self.relate_moments();
-        self.relate_mutually_ordered();
-        self.relate_synchronizes_with();
-        self.relate_system_synchronizes();
-        self.relate_happens_before();
-        self.relate_chains();
-        self.relate_location_order();
     }
 }
 

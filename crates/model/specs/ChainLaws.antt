@@ -1,4 +1,4 @@
--- Chains: without them L3 is document 01's, and whatever is ordered without them is ordered with them. Assumes nothing.
+-- Chains: without them L3 is the rule of single elements, and whatever is ordered without them is ordered with them. Assumes nothing.
 use mathlib.Core.Path.{_≡_, refl, sym, ap, _∙_, subst}
 use mathlib.Core.Bool.{Bool, true, false, cond}
 use mathlib.Core.List.{List, []}
@@ -24,7 +24,7 @@ use Rattle.model.specs.Location.{coversOf, publicWrite, L1, L2, availabl
 
 -- ---- definitions
 
--- L3 in document 01's words: over moments, and with single elements
+-- L3 in the words of docs/RULES.md: over moments, and with single elements
 unfoldable pub singleAvailable : Table → ℕ → ℕ → ℕ → Bool
 singleAvailable t x b c = availability t c and programOrder t (itself x) c and coversOf (t .row (rowIn c)) (t .row x) b
 
@@ -196,7 +196,7 @@ module _ (t : Table) where
   itself-row : (x : ℕ) → rowIn (itself x) ≡ x
   itself-row x = omega arith
 
--- ---- without chains, L3 is document 01's
+-- ---- without chains, L3 is the rule of single elements
 
 module _ (t : Table) (scoped : Scoped t) (off : t .chains ≡ false) where
   one-available : (a c : ℕ) → availabilityChain t a c ≡ true → a ≡ c
@@ -527,7 +527,7 @@ switched : (c : Bool) (s : List ℕ) → tableUnder c s .chains ≡ c
 unfolding tableUnder decode modeOf
 switched c s = refl
 
--- with the switch off, L3 of a table that is admitted is document 01's
+-- with the switch off, L3 of a table that is admitted is the rule of single elements
 pub single-elements : {blanks : Bool} {s : List ℕ} → Sound blanks s → (x y b : ℕ) → L3 (tableUnder false s) x y b ≡ Single (tableUnder false s) x y b
 single-elements {blanks} {s} h x y b = off-is (tableUnder false s) (scoped-of h false) (switched false s) x y b
 

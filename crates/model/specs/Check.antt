@@ -16,7 +16,7 @@ use Rattle.model.specs.Race.{raceRow, racePartner, raceByte}
 use Rattle.model.specs.Edge.{cycleRow, cycleRows, cycleEdges, overReader, overWriter, overByte}
 use Rattle.model.specs.Refusal.{buffersFit, admission}
 
--- ---- the verdict, in document 01's words and with all that is shown
+-- ---- the verdict, in the words of docs/RULES.md and with all that is shown
 
 pub data Verdict : Type 0 where
   -- number and row
@@ -62,7 +62,7 @@ check chains s work buffer =
 
 -- ---- what comes back
 
--- each case of the enum, with document 01's number and values
+-- each case of the enum, with the number and values of docs/RULES.md
 unfoldable pub checkAnswer : Verdict → CheckAnswer
 checkAnswer (refused n i) = the-variants.Refused n i
 checkAnswer (cyclic rows edges) = Cycle (length rows)

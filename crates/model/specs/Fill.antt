@@ -65,7 +65,7 @@ module _ (t : Table) where
   unfoldable pub sourcesFit : (ℕ → ℕ) → Bool
   sourcesFit source = not (anyBelow (t .rows) (sourceBroken false t source))
 
--- ---- the outcome, in document 01's words and with all that is shown
+-- ---- the outcome, in the words of docs/RULES.md and with all that is shown
 
 pub data Outcome : Type 0 where
   -- number and row
@@ -101,7 +101,7 @@ fill chains s work buffer =
 
 -- ---- what comes back
 
--- each case of the enum, with document 01's number and values
+-- each case of the enum, with the number and values of docs/RULES.md
 unfoldable pub fillAnswer : Outcome → FillAnswer
 fillAnswer (refused n i) = the-variants.Refused n i
 fillAnswer (race x y b) = Race x y b

@@ -48,7 +48,7 @@ pub record NoHosts (t : Table) : Type 0 where
   pub rows : (i : ℕ) → i < t .rows → operation (t .row i) ≡ false
   pub agents : (a : ℕ) → agentKind (t .places) a ≡ SHADER
 
--- ---- such a table has the order of document 01
+-- ---- such a table has the order of versions 1 and 2
 
 module _ (t : Table) (none : NoHosts t) where
   no-system : (m n : ℕ) → bySystem t m n ≡ false

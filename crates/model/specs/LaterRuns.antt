@@ -94,7 +94,7 @@ three = agent 0 1 ∷ agent 0 2 ∷ agent 0 0 ∷ []
 
 -- ---- host agents
 
--- document 02's run: a host write, made available to the host domain, carried to the device domain, made visible from it, read by a shader
+-- the upload of docs/RULES.md: a host write, made available to the host domain, carried to the device domain, made visible from it, read by a shader
 abbrev pub upload : List ℕ
 upload = hosted three (write 0 0 1 ∷ perform 7 ∷ perform 11 ∷ perform 10 ∷ read 2 7 0 0 ∷ []) each
 

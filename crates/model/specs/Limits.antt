@@ -1,4 +1,4 @@
--- The limits of document 01, and the two sources that are no row's number.
+-- The limits (docs/FORMAT.md), and the two sources that are no row's number.
 use Prim.Native.Nat.{ℕ}
 
 abbrev pub AGENTS : ℕ
@@ -55,7 +55,7 @@ COUNTS = 65536
 abbrev pub RUN : ℕ
 RUN = 32768
 
--- the initial value, and a blank (document 01's own term: a source that a fill is to find)
+-- the initial value, and a blank (a term of our own: a source that a fill is to find)
 abbrev pub INITIAL : ℕ
 INITIAL = 65535
 

@@ -1,4 +1,4 @@
--- M1: the moments of a row (document 01's own term) and program order.
+-- M1: the moments of a row (a term of our own) and program order.
 -- Moment 3 × row + 0, 1 or 2 is the one before, at or after the row.
 use mathlib.Core.Bool.{Bool, true, false, not, cond}
 use Prim.Native.Nat.{ℕ, _+_, _*_, _/_, _%_}

@@ -91,7 +91,7 @@ acceptAnswer (refused n i) = accept.Refused n i
 acceptAnswer accepted = accept.Accepted
 acceptAnswer notAccepted = accept.NotAccepted
 
--- ---- the derivation that is found: undecided by document 02, so this is ours
+-- ---- the derivation that is found: docs/RULES.md leaves it open, so this is ours
 
 module _ (t : Table) where
   -- some chain for the class set s leads from moment m to moment k

@@ -17,7 +17,7 @@ use Rattle.model.specs.Row.{atomic}
 pub record Table : Type 0 where
   -- how many rows there are
   pub rows : ℕ
-  -- each agent's family, workgroup and subgroup numbers (an agent's place: document 01's own term), and what it is: see Scope.antt
+  -- each agent's family, workgroup and subgroup numbers (an agent's place: a term of our own), and what it is: see Scope.antt
   pub places : List (List ℕ)
   -- ranks are counted: see `later` in Scope.antt
   pub counted : Bool

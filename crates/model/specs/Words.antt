@@ -63,7 +63,7 @@ blankAt s i = blank (tableOf s) (sourcesOf s) i
 unfoldable pub sourceBegin : List ℕ → ℕ → ℕ
 sourceBegin s i = rowsBegin s + (i * ROW-BYTES + 12)
 
--- f is a filling of s (document 01's own term): 65535 or the number of a row in the place of each blank, and nothing else changed
+-- f is a filling of s (a term of our own): 65535 or the number of a row in the place of each blank, and nothing else changed
 pub record Filling (s f : List ℕ) : Type 0 where
   pub size : length f ≡ length s
   pub bytes : (k : ℕ) → getD f k 0 < 256

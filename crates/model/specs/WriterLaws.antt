@@ -174,7 +174,7 @@ module _ (t : Table) where
               chain = λ x y z p q a b. rw e (plain .chain _ _ _ (small z (q .1)) (small y (p .1)) (small x (p .0)) (rw e at b) (rw e at a));
             }
 
-  -- refusal 15 is as document 02 says it: counted ranks of row i's location, up to row i, fit in no run of consecutive counts
+  -- refusal 15 is as docs/FORMAT.md says it: counted ranks of row i's location, up to row i, fit in no run of consecutive counts
   module _ (small : (i : ℕ) → i < t .rows → t .row i .rank < COUNTS) (i : ℕ) (l : i < t .rows) where
     abbrev rivalOf : ℕ → Bool
     rivalOf j = rival (t .row i) (t .row j)

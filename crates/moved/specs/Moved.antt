@@ -1,4 +1,4 @@
--- What document 02 calls a table whose rows are moved, over its bytes.
+-- What docs/RULES.md calls a table whose rows are moved, over its bytes.
 use mathlib.Core.Path.{_≡_}
 use mathlib.Core.List.{List}
 use mathlib.Core.Logic.{_⊎_}

@@ -1,4 +1,4 @@
--- Tables of document 01 with their rows moved, computed from the definitions. Assumes nothing.
+-- Tables of Runs with their rows moved, computed from the definitions. Assumes nothing.
 use mathlib.Core.Path.{_≡_, refl}
 use mathlib.Core.Bool.{Bool, true, false}
 use mathlib.Core.List.{List, [], _∷_, _++_, map}

@@ -1,4 +1,4 @@
--- Runs of the weekly report, computed from the definitions: document 01's tables, with buffers just large enough. Assumes nothing.
+-- Runs of the weekly report, computed from the definitions: the tables of Runs, with buffers just large enough. Assumes nothing.
 use mathlib.Core.Path.{_≡_, refl}
 use mathlib.Core.Bool.{false}
 use mathlib.Core.List.{List, [], _∷_, map}

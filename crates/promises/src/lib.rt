@@ -1,1 +1,1 @@
-// What the answers are promised to mean: specs only. Each page states a demand's theorems in document 01's words.
+// What the answers are promised to mean: specs only. Each page states a demand's theorems in the words of docs/RULES.md.

@@ -1,4 +1,4 @@
-// Agents' places (document 01's own term), the scopes that two agents share, and mutually-ordered rows.
+// Agents' places (a term of our own), the scopes that two agents share, and mutually-ordered rows.
 ghost use mathlib.Core.Path.{_≡_};
 ghost use mathlib.Core.List.{[]};
 ghost use Prim.Native.Nat.{_+_, _*_, _<_};

@@ -173,6 +173,27 @@ pub fn read_agent(rows: &[u8], i: u16) -> u8
     row_byte(rows, i, 1)
 }
 
+// Row i's kind alone.
+pub fn read_kind(rows: &[u8], i: u16) -> u8
+    ensures { λ r. ⌜ r ≡ rowOf (now (rows .entry)) i .kind ⌝ }
+{
+    row_byte(rows, i, 0)
+}
+
+// Row i's reference alone.
+pub fn read_reference(rows: &[u8], i: u16) -> u16
+    ensures { λ r. ⌜ r ≡ rowOf (now (rows .entry)) i .reference ⌝ }
+{
+    row_pair(rows, i, 10)
+}
+
+// Row i's rank alone.
+pub fn read_rank(rows: &[u8], i: u16) -> u16
+    ensures { λ r. ⌜ r ≡ rowOf (now (rows .entry)) i .rank ⌝ }
+{
+    row_pair(rows, i, 14)
+}
+
 // Row i's semantics classes alone.
 pub fn read_classes(rows: &[u8], i: u16) -> u8
     ensures { λ r. ⌜ r ≡ rowOf (now (rows .entry)) i .classes ⌝ }

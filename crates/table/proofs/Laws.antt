@@ -1,20 +1,21 @@
 -- Laws that the proofs of admission cite. Assumes nothing.
-use mathlib.Core.Path.{_≡_, refl, _∙_}
+use mathlib.Core.Path.{_≡_, refl, sym, ap, _∙_}
 use mathlib.Core.Bool.{Bool, true, false, not, cond}
 use mathlib.Core.List.{List, []}
 use Prim.Native.Nat.{ℕ, _<_, _≤_}
 use borrow.Author.Tests.{eq-eqb, ne-eqb, lt-ltb, le-ltb, le-leb, lt-leb}
-use Rattle.finite.specs.Logic.{_and_, _or_}
-use Rattle.finite.specs.Below.{anyBelow, least}
+use Rattle.finite.specs.Logic.{_and_, _or_, and-false-left, and-false-right}
+use Rattle.finite.specs.Below.{anyBelow, any-not, least}
 use Rattle.model.specs.declared.Mode.{Mode}
 use Rattle.model.specs.declared.Row.{Row}
 use Rattle.model.specs.declared.Admission.{Admission}
 use Rattle.model.specs.declared.Admission.the-variants.{Admitted, Refused}
 use Rattle.model.specs.Limits.{DEPENDENCIES}
-use Rattle.model.specs.Row.{ranked, operation}
-use Rattle.model.specs.Scope.{agentKind}
+use Rattle.model.specs.Row.{CONTROL, access, control, ranked, operation, sameInstance}
+use Rattle.model.specs.Scope.{agentKind, sameLocation}
 use Rattle.model.specs.Table.{OFF, rowOf, modeOf, decode, sourceOf, agentsAt, rowsAt, hasHosts, rowBytes, dependencyBytes, pairAt, dependencyCount, placesOf, tableUnder, tableOf, sourcesOf}
-use Rattle.model.specs.Refusal.{otherClassAt, classTaken, writerFits, sourceFits, sourceBroken, sameRankAt, rankTaken, apartAt, instanceBroken, outsideAt, begins, unfit}
+use Rattle.model.specs.Refusal.{otherClass, otherClassAt, classTaken, writerFits, sourceFits, sourceBroken, sameRank, sameRankAt, rankTaken}
+use Rattle.model.specs.Refusal.{apart, apartAt, instanceBroken, rival, outside, outsideAt, begins, unfit}
 use Rattle.model.specs.Refusal.{kindOver, agentsKnown, dependenciesFew, namesNone, dependenciesNamed, hostsFault, codesFit, agentFits, operationFits, kindFits, extentFits, formFault, rowFault, tableFault, faulty, firstFault, rowFaultAt}
 use Rattle.model.specs.Refusal.{headerFault, admission}
 use Rattle.table.specs.Rows.{rowFaultIn, rowsAdmission}
@@ -43,6 +44,63 @@ module _ (b : List ℕ) (p : List (List ℕ)) (mode : Mode) (n : ℕ) where
   unfolding unfit begins outsideAt decode
   unfit-any i = refl
 
+-- ---- what a guard leaves out: a test that is asked first, of a few bytes, and says no
+
+module _ (b : List ℕ) where
+  pub class-off : (i j : ℕ) → (rowOf b j .reference ≡ rowOf b i .reference → ⊥) → false ≡ otherClassAt (decode b [] OFF 0) i j
+  unfolding otherClassAt otherClass decode
+  class-off i j h = sym (and-false-left _ _ (and-false-right _ _ (ne-eqb (rowOf b j .reference) (rowOf b i .reference) h)))
+
+  pub class-none : (i : ℕ) (r : Row) (x : Bool) → r ≡ rowOf b i → x ≡ access r → x ≡ false → false ≡ classTaken (decode b [] OFF 0) i
+  unfolding classTaken decode _and_
+  class-none i r x er ex h = rw (← er, ← ex, h) refl
+
+  pub class-some : (i : ℕ) (r : Row) (x y : Bool) → r ≡ rowOf b i → x ≡ access r → x ≡ true → y ≡ anyBelow i (otherClassAt (decode b [] OFF 0) i)
+      → y ≡ classTaken (decode b [] OFF 0) i
+  unfolding classTaken decode _and_
+  class-some i r x y er ex h ey = ey ∙ rw (← er, ← ex, h) refl
+
+  pub outside-off : (i m j : ℕ) → (rowOf b j .reference ≡ rowOf b i .reference → ⊥) → false ≡ outsideAt (decode b [] OFF 0) i m j
+  unfolding outsideAt outside rival sameLocation decode
+  outside-off i m j h =
+      sym (and-false-left _ _ (and-false-right _ _ (and-false-right _ _ (ne-eqb (rowOf b i .reference) (rowOf b j .reference) (λ e. h (sym e))))))
+
+  pub begins-none : (i m : ℕ) (r f : Row) (x : Bool) → r ≡ rowOf b i → f ≡ rowOf b m → x ≡ rival r f → x ≡ false → false ≡ begins (decode b [] OFF 0) i m
+  unfolding begins decode _and_
+  begins-none i m r f x er ef ex h = rw (← er, ← ef, ← ex, h) refl
+
+  pub begins-some : (i m : ℕ) (r f : Row) (x y z : Bool) → r ≡ rowOf b i → f ≡ rowOf b m → x ≡ rival r f → x ≡ true
+      → y ≡ anyBelow i (outsideAt (decode b [] OFF 0) i m) → z ≡ outsideAt (decode b [] OFF 0) i m i → not (y or z) ≡ begins (decode b [] OFF 0) i m
+  unfolding begins decode _and_
+  begins-some i m r f x y z er ef ex h ey ez = rw (ey, ez, ← er, ← ef, ← ex, h) refl
+
+module _ (b : List ℕ) (p : List (List ℕ)) where
+  pub rank-off : (i j : ℕ) → (rowOf b j .rank ≡ rowOf b i .rank → ⊥) → false ≡ sameRankAt (decode b p OFF 0) i j
+  unfolding sameRankAt sameRank decode
+  rank-off i j h = sym (and-false-left _ _ (and-false-right _ _ (ne-eqb (rowOf b j .rank) (rowOf b i .rank) h)))
+
+  pub rank-none : (i : ℕ) (r : Row) (x : Bool) → r ≡ rowOf b i → x ≡ ranked r → x ≡ false → false ≡ rankTaken (decode b p OFF 0) i
+  unfolding rankTaken decode _and_
+  rank-none i r x er ex h = rw (← er, ← ex, h) refl
+
+  pub rank-some : (i : ℕ) (r : Row) (x y : Bool) → r ≡ rowOf b i → x ≡ ranked r → x ≡ true → y ≡ anyBelow i (sameRankAt (decode b p OFF 0) i)
+      → y ≡ rankTaken (decode b p OFF 0) i
+  unfolding rankTaken decode _and_
+  rank-some i r x y er ex h ey = ey ∙ rw (← er, ← ex, h) refl
+
+  pub apart-off : (i j : ℕ) → (rowOf b j .kind ≡ CONTROL → ⊥) → false ≡ apartAt (decode b p OFF 0) i j
+  unfolding apartAt apart sameInstance control decode
+  apart-off i j h = sym (and-false-left _ _ (and-false-left _ _ (and-false-right _ _ (ne-eqb (rowOf b j .kind) CONTROL h))))
+
+  none-at : (i j : ℕ) → (rowOf b i .kind ≡ CONTROL → ⊥) → false ≡ apartAt (decode b p OFF 0) i j
+  unfolding apartAt apart sameInstance control decode
+  none-at i j h = sym (and-false-left _ _ (and-false-left _ _ (and-false-left _ _ (ne-eqb (rowOf b i .kind) CONTROL h))))
+
+  -- a row that is no control barrier has no instance
+  pub instance-none : (i : ℕ) → (rowOf b i .kind ≡ CONTROL → ⊥) → false ≡ instanceBroken (decode b p OFF 0) i
+  unfolding instanceBroken
+  instance-none i h = sym (any-not (apartAt (decode b p OFF 0) i) i (λ j l. sym (none-at i j h)))
+
 -- ---- 15, where ranks are plain, and where they are counted
 
 module _ (b : List ℕ) (mode : Mode) (i : ℕ) where
@@ -50,10 +108,16 @@ module _ (b : List ℕ) (mode : Mode) (i : ℕ) where
   unfolding unfit decode _and_
   unfit-off e = rw e refl
 
-  pub unfit-on : (r : Row) (x y z : Bool) → mode .counted ≡ true → r ≡ rowOf b i → x ≡ ranked r → y ≡ anyBelow i (begins (decode b [] OFF 0) i)
-      → z ≡ begins (decode b [] OFF 0) i i → (x and not (y or z)) ≡ unfit (decode b [] mode 0) i
+  pub unfit-none : (r : Row) (x : Bool) → mode .counted ≡ true → r ≡ rowOf b i → x ≡ ranked r → x ≡ false → false ≡ unfit (decode b [] mode 0) i
+  unfolding unfit decode _and_
+  unfit-none r x e er ex h = rw (e, ← er, ← ex, h) refl
+
+  pub unfit-on : (r : Row) (x y z : Bool) → mode .counted ≡ true → r ≡ rowOf b i → x ≡ ranked r → x ≡ true → y ≡ anyBelow i (begins (decode b [] OFF 0) i)
+      → z ≡ begins (decode b [] OFF 0) i i → not (y or z) ≡ unfit (decode b [] mode 0) i
   unfolding unfit begins outsideAt decode _and_
-  unfit-on r x y z e er ex ey ez = rw (e, ex, er, ey, ez) refl
+  unfit-on r x y z e er ex h ey ez =
+      let q : ranked (rowOf b i) ≡ true = sym (ex ∙ ap ranked er) ∙ h in
+      rw (e, q, ey, ez) refl
 
 -- ---- the cascades of 5 to 7, 19 and 20, from the inside
 

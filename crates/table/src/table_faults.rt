@@ -26,9 +26,13 @@ pub fn other_class(r: Row, q: Row) -> bool
     kinds::is_access(q) & (q.reference == r.reference) & !(q.class == r.class)
 }
 
+// Most rows have another reference, and no whole row is read.
 pub fn other_class_at(rows: &[u8], i: u16, j: u16) -> bool
     ensures { λ b. ⌜ b ≡ otherClassAt (decode (now (rows .entry)) [] OFF 0) i j ⌝ }
 {
+    if bytes::read_reference(rows, j) != bytes::read_reference(rows, i) {
+        return false;
+    }
     other_class(bytes::read_row(rows, i), bytes::read_row(rows, j))
 }
 
@@ -46,7 +50,10 @@ pub fn any_other_class(rows: &[u8], i: u16) -> bool
 pub fn class_taken(rows: &[u8], i: u16) -> bool
     ensures { λ b. ⌜ b ≡ classTaken (decode (now (rows .entry)) [] OFF 0) i ⌝ }
 {
-    kinds::is_access(bytes::read_row(rows, i)) & any_other_class(rows, i)
+    if !kinds::is_access(bytes::read_row(rows, i)) {
+        return false;
+    }
+    any_other_class(rows, i)
 }
 
 // ---- 9
@@ -84,9 +91,13 @@ pub fn same_rank(r: Row, q: Row) -> bool
     kinds::is_ranked(q) & (q.rank == r.rank)
 }
 
+// Few rows have one rank, and no place is asked of the others.
 pub fn same_rank_at(rows: &[u8], p: Places, i: u16, j: u16) -> bool
     ensures { λ b. ⌜ b ≡ sameRankAt (decode (now (rows .entry)) p OFF 0) i j ⌝ }
 {
+    if bytes::read_rank(rows, j) != bytes::read_rank(rows, i) {
+        return false;
+    }
     let r = bytes::read_row(rows, i);
     let q = bytes::read_row(rows, j);
     same_rank(r, q) & scopes::is_mutual(p, r, q)
@@ -106,7 +117,10 @@ pub fn any_same_rank(rows: &[u8], p: Places, i: u16) -> bool
 pub fn rank_taken(rows: &[u8], p: Places, i: u16) -> bool
     ensures { λ b. ⌜ b ≡ rankTaken (decode (now (rows .entry)) p OFF 0) i ⌝ }
 {
-    kinds::is_ranked(bytes::read_row(rows, i)) & any_same_rank(rows, p, i)
+    if !kinds::is_ranked(bytes::read_row(rows, i)) {
+        return false;
+    }
+    any_same_rank(rows, p, i)
 }
 
 // ---- 14
@@ -121,9 +135,13 @@ pub fn is_apart(p: Places, r: Row, q: Row) -> bool
             & scopes::shares_scope(p, r.class, r.agent, q.agent))
 }
 
+// Only control barriers have an instance.
 pub fn apart_at(rows: &[u8], p: Places, i: u16, j: u16) -> bool
     ensures { λ b. ⌜ b ≡ apartAt (decode (now (rows .entry)) p OFF 0) i j ⌝ }
 {
+    if bytes::read_kind(rows, j) != kinds::CONTROL {
+        return false;
+    }
     let r = bytes::read_row(rows, i);
     let q = bytes::read_row(rows, j);
     is_apart(p, r, q)
@@ -132,6 +150,9 @@ pub fn apart_at(rows: &[u8], p: Places, i: u16, j: u16) -> bool
 pub fn instance_broken(rows: &[u8], p: Places, i: u16) -> bool
     ensures { λ b. ⌜ b ≡ instanceBroken (decode (now (rows .entry)) p OFF 0) i ⌝ }
 {
+    if bytes::read_kind(rows, i) != kinds::CONTROL {
+        return false;
+    }
     for j in 0..i {
         if apart_at(rows, p, i, j) {
             return true;
@@ -159,6 +180,9 @@ pub fn is_outside(r: Row, m: Row, q: Row) -> bool
 pub fn outside_at(rows: &[u8], i: u16, m: u16, j: u16) -> bool
     ensures { λ b. ⌜ b ≡ outsideAt (decode (now (rows .entry)) [] OFF 0) i m j ⌝ }
 {
+    if bytes::read_reference(rows, j) != bytes::read_reference(rows, i) {
+        return false;
+    }
     let r = bytes::read_row(rows, i);
     let f = bytes::read_row(rows, m);
     let q = bytes::read_row(rows, j);
@@ -182,7 +206,10 @@ pub fn begins_at(rows: &[u8], i: u16, m: u16) -> bool
 {
     let r = bytes::read_row(rows, i);
     let f = bytes::read_row(rows, m);
-    is_rival(r, f) & !(any_outside(rows, i, m) | outside_at(rows, i, m, i))
+    if !is_rival(r, f) {
+        return false;
+    }
+    !(any_outside(rows, i, m) | outside_at(rows, i, m, i))
 }
 
 pub fn any_begins(rows: &[u8], i: u16) -> bool
@@ -204,7 +231,10 @@ pub fn is_unfit(rows: &[u8], mode: Mode, i: u16) -> bool
     if !mode.counted {
         return false;
     }
-    kinds::is_ranked(bytes::read_row(rows, i)) & !(any_begins(rows, i) | begins_at(rows, i, i))
+    if !kinds::is_ranked(bytes::read_row(rows, i)) {
+        return false;
+    }
+    !(any_begins(rows, i) | begins_at(rows, i, i))
 }
 
 // ---- in their order

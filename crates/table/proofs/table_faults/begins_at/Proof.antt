@@ -1,7 +1,7 @@
-use borrow.Author.Needs.{needs}
 use Rattle.finite.specs.Logic.{_and_, _or_}
-use Rattle.model.specs.Table.{decode}
-use Rattle.model.specs.Refusal.{begins}
+use Rattle.table.proofs.Laws.{begins-none, begins-some}
+use borrow.Author.Tests.{not-true, not-false}
+use borrow.Author.Needs.{needs}
 use Rattle.table.proofs.table_faults.begins_at.Statement.{statement}
 use Rattle.table.proofs.table_faults.begins_at.Tie as tie
 use Rattle.table.proofs.table_faults.begins_at.Reads as reads
@@ -11,30 +11,34 @@ use Rattle.table.proofs.table_faults.any_outside.Reads as any-outside-r
 use Rattle.table.proofs.table_faults.is_rival.Reads as is-rival-reads
 use Rattle.table.proofs.table_faults.outside_at.Reads as outside-at-reads
 
--- src
+-- src/table_faults.rt:207:9
 read-row-requires : tie.Need-read-row-requires
 read-row-requires c κs = search needs
 
--- src
+-- src/table_faults.rt:208:9
 read-row-requires-2 : tie.Need-read-row-requires-2
 read-row-requires-2 c κs = search needs
 
--- src
+-- src/table_faults.rt:209:9
 is-rival-requires : tie.Need-is-rival-requires
 is-rival-requires c κs = search needs
 
--- src
+-- src/table_faults.rt:210:9
+returns : tie.Need-returns
+returns c = begins-none _ _ _ _ _ _ (c .before .before .before .read-row .ensures) (c .before .before .read-row2 .ensures) (c .before .is-rival .ensures) (not-true _ (c .if1 .taken))
+
+-- src/table_faults.rt:212:7
 any-outside-requires : tie.Need-any-outside-requires
 any-outside-requires c κs = search needs
 
--- src
+-- src/table_faults.rt:212:33
 outside-at-requires : tie.Need-outside-at-requires
 outside-at-requires c κs = search needs
 
--- src
-returns : tie.Need-returns
-unfolding begins decode _and_ _or_
-returns c = cc
+-- src/table_faults.rt:204:1
+returns-2 : tie.Need-returns-2
+unfolding _or_
+returns-2 c = begins-some _ _ _ _ _ _ _ _ (c .before .before .before .before .before .read-row .ensures) (c .before .before .before .before .read-row2 .ensures) (c .before .before .before .is-rival .ensures) (not-false _ (c .before .before .if1 .left)) (c .before .any-outside .ensures) (c .outside-at .ensures)
 
 pub begins-at-spec : {M : Type 1} → statement M
 begins-at-spec =
@@ -43,6 +47,7 @@ begins-at-spec =
     read-row-requires
     read-row-requires-2
     is-rival-requires
+    returns
     any-outside-requires
     outside-at-requires
-    returns)
+    returns-2)

@@ -1,7 +1,6 @@
+use Rattle.table.proofs.Laws.{class-none, class-some}
+use borrow.Author.Tests.{not-true, not-false}
 use borrow.Author.Needs.{needs}
-use Rattle.finite.specs.Logic.{_and_}
-use Rattle.model.specs.Table.{decode}
-use Rattle.model.specs.Refusal.{classTaken}
 use Rattle.table.proofs.table_faults.class_taken.Statement.{statement}
 use Rattle.table.proofs.table_faults.class_taken.Tie as tie
 use Rattle.table.proofs.table_faults.class_taken.Reads as reads
@@ -10,23 +9,27 @@ use Rattle.rows.proofs.bytes.read_row.Reads as read-row-reads
 use Rattle.rows.proofs.kinds.is_access.Reads as is-access-reads
 use Rattle.table.proofs.table_faults.any_other_class.Reads as any-other-class-reads
 
--- src/table_faults.rt:46:22
+-- src/table_faults.rt:53:26
 read-row-requires : tie.Need-read-row-requires
 read-row-requires c κs = search needs
 
--- src/table_faults.rt:46:5
+-- src/table_faults.rt:53:9
 is-access-requires : tie.Need-is-access-requires
 is-access-requires c κs = search needs
 
--- src/table_faults.rt:46:50
+-- src/table_faults.rt:54:9
+returns : tie.Need-returns
+returns c = class-none _ _ _ _ (c .before .before .read-row .ensures) (c .before .is-access .ensures) (not-true _ (c .if1 .taken))
+
+-- src/table_faults.rt:56:5
 any-other-class-requires : tie.Need-any-other-class-requires
 any-other-class-requires c κs = search needs
 
--- src/table_faults.rt:43:1
-returns : tie.Need-returns
-unfolding classTaken decode _and_
-returns c = cc
+-- src/table_faults.rt:50:1
+returns-2 : tie.Need-returns-2
+returns-2 c = class-some _ _ _ _ _ (c .before .before .before .read-row .ensures) (c .before .before .is-access .ensures) (not-false _ (c .before .if1 .left)) (c .any-other-class .ensures)
 
 pub class-taken-spec : {M : Type 1} → statement M
 class-taken-spec =
-    tie.close (tie.spec read-row-requires is-access-requires any-other-class-requires returns)
+    tie.close
+    (tie.spec read-row-requires is-access-requires returns any-other-class-requires returns-2)

@@ -1,30 +1,53 @@
-use borrow.Author.Needs.{needs}
-use Rattle.model.specs.Table.{decode}
+use Rattle.model.specs.Table.{OFF, decode}
 use Rattle.model.specs.Refusal.{otherClassAt}
+use Rattle.table.proofs.Laws.{class-off}
+use mathlib.Core.Path.{_≡_, sym, _∙_}
+use borrow.Author.Needs.{needs}
 use Rattle.table.proofs.table_faults.other_class_at.Statement.{statement}
 use Rattle.table.proofs.table_faults.other_class_at.Tie as tie
 use Rattle.table.proofs.table_faults.other_class_at.Reads as reads
 use Rattle.table.proofs.table_faults.other_class_at.Lts as lts
+use Rattle.rows.proofs.bytes.read_reference.Reads as read-reference-reads
 use Rattle.rows.proofs.bytes.read_row.Reads as read-row-reads
 use Rattle.table.proofs.table_faults.other_class.Reads as other-class-reads
 
--- src/table_faults.rt:29:17
+-- src/table_faults.rt:33:8
+read-reference-requires : tie.Need-read-reference-requires
+read-reference-requires c κs = search needs
+
+-- src/table_faults.rt:33:42
+read-reference-requires-2 : tie.Need-read-reference-requires-2
+read-reference-requires-2 c κs = search needs
+
+-- src/table_faults.rt:34:9
+returns : tie.Need-returns
+returns c = class-off _ _ _ (λ e. c .if1 .taken (c .before .before .read-reference .ensures ∙ e ∙ sym (c .before .read-reference2 .ensures)))
+
+-- src/table_faults.rt:36:17
 read-row-requires : tie.Need-read-row-requires
 read-row-requires c κs = search needs
 
--- src/table_faults.rt:29:43
+-- src/table_faults.rt:36:43
 read-row-requires-2 : tie.Need-read-row-requires-2
 read-row-requires-2 c κs = search needs
 
--- src/table_faults.rt:29:5
+-- src/table_faults.rt:36:5
 other-class-requires : tie.Need-other-class-requires
 other-class-requires c κs = search needs
 
--- src/table_faults.rt:26:1
-returns : tie.Need-returns
+-- src/table_faults.rt:30:1
+returns-2 : tie.Need-returns-2
 unfolding otherClassAt decode
-returns c = cc
+returns-2 c = cc
 
 pub other-class-at-spec : {M : Type 1} → statement M
 other-class-at-spec =
-    tie.close (tie.spec read-row-requires read-row-requires-2 other-class-requires returns)
+    tie.close
+    (tie.spec
+    read-reference-requires
+    read-reference-requires-2
+    returns
+    read-row-requires
+    read-row-requires-2
+    other-class-requires
+    returns-2)

@@ -1,7 +1,6 @@
+use Rattle.table.proofs.Laws.{rank-none, rank-some}
+use borrow.Author.Tests.{not-true, not-false}
 use borrow.Author.Needs.{needs}
-use Rattle.finite.specs.Logic.{_and_}
-use Rattle.model.specs.Table.{decode}
-use Rattle.model.specs.Refusal.{rankTaken}
 use Rattle.table.proofs.table_faults.rank_taken.Statement.{statement}
 use Rattle.table.proofs.table_faults.rank_taken.Tie as tie
 use Rattle.table.proofs.table_faults.rank_taken.Reads as reads
@@ -10,23 +9,27 @@ use Rattle.rows.proofs.bytes.read_row.Reads as read-row-reads
 use Rattle.rows.proofs.kinds.is_ranked.Reads as is-ranked-reads
 use Rattle.table.proofs.table_faults.any_same_rank.Reads as any-same-rank-reads
 
--- src/table_faults.rt:105:22
+-- src/table_faults.rt:120:26
 read-row-requires : tie.Need-read-row-requires
 read-row-requires c κs = search needs
 
--- src/table_faults.rt:105:5
+-- src/table_faults.rt:120:9
 is-ranked-requires : tie.Need-is-ranked-requires
 is-ranked-requires c κs = search needs
 
--- src/table_faults.rt:105:50
+-- src/table_faults.rt:121:9
+returns : tie.Need-returns
+returns c = rank-none _ _ _ _ _ (c .before .before .read-row .ensures) (c .before .is-ranked .ensures) (not-true _ (c .if1 .taken))
+
+-- src/table_faults.rt:123:5
 any-same-rank-requires : tie.Need-any-same-rank-requires
 any-same-rank-requires c κs = search needs
 
--- src/table_faults.rt:102:1
-returns : tie.Need-returns
-unfolding rankTaken decode _and_
-returns c = cc
+-- src/table_faults.rt:117:1
+returns-2 : tie.Need-returns-2
+returns-2 c = rank-some _ _ _ _ _ _ (c .before .before .before .read-row .ensures) (c .before .before .is-ranked .ensures) (not-false _ (c .before .if1 .left)) (c .any-same-rank .ensures)
 
 pub rank-taken-spec : {M : Type 1} → statement M
 rank-taken-spec =
-    tie.close (tie.spec read-row-requires is-ranked-requires any-same-rank-requires returns)
+    tie.close
+    (tie.spec read-row-requires is-ranked-requires returns any-same-rank-requires returns-2)

@@ -1,0 +1,213 @@
+-- The product of two relations, and what multiplying two grids of bits says of words. Assumes nothing.
+use mathlib.Core.Path.{_≡_, refl, sym, ap, ap₂, _∙_}
+use mathlib.Core.Bool.{Bool, true, false}
+use mathlib.Core.List.{List}
+use Prim.Native.Nat.{ℕ, _+_, _-_, _*_, _/_, _%_, _≤_, _<_}
+use native.Mathlib.Omega.{arith}
+use native.Mathlib.Numerals.{add-one}
+use native.Mathlib.Decide.{decLt, ℕ-discrete}
+use lib.ListN.{length, getD}
+use lib.Dec.{ltb, eqb}
+use borrow.Author.Tests.{lt-ltb, le-ltb, eqb-true}
+use Rattle.finite.specs.Logic.{_and_, _or_, or-off, or-assoc, and-false-left, split}
+use Rattle.finite.specs.Below.{anyBelow, any-cong, any-not}
+use Rattle.bits.specs.Bit.{bit, bitOf, bitOf-zero, zeros, bit-zeros-in, length-zeros, joinRow, length-joinRow, bit-joinRow}
+use Rattle.bits.specs.Within.{Within, within-refl, within-trans, within-widen, within-bit, within-joinRow, within-cleared}
+use Rattle.bits.specs.Matrix.{rel}
+use Rattle.bits.specs.Stage.{Holds, Made, made-cong}
+use Rattle.area.specs.Regions.{GRID, ROWS-GRID}
+use Rattle.model.specs.Limits.{ROWS}
+
+-- ---- definitions
+
+-- from i by the first relation to j, and by the second on to k
+unfoldable pub byWay : (ℕ → ℕ → Bool) → (ℕ → ℕ → Bool) → ℕ → ℕ → ℕ → Bool
+byWay r s i k j = r i j and s j k
+
+-- the same by way of some j below n
+unfoldable pub times : ℕ → (ℕ → ℕ → Bool) → (ℕ → ℕ → Bool) → ℕ → ℕ → Bool
+times n r s i k = anyBelow n (byWay r s i k)
+
+-- the bits of a grid
+abbrev pub grid : List ℕ → ℕ → ℕ → ℕ → Bool
+grid w a = rel w a GRID
+
+-- the row at a word has no bit
+unfoldable pub emptyAt : List ℕ → ℕ → Bool
+emptyAt w at = eqb (getD w at 0) 0 and eqb (getD w (at + 1) 0) 0
+
+-- j numbers were gone by: row i of the grid at c has what it had, and their rows of the grid at b where row i of the one at a has
+-- them; no other word changed
+pub record RowTimes (w u : List ℕ) (c a b i j : ℕ) : Type 0 where
+  pub cell : (k : ℕ) → k < 64 * GRID → grid u c i k ≡ (grid w c i k or times j (grid w a) (grid w b) i k)
+  pub frame : Within (c + i * GRID) (c + i * GRID + GRID) w u
+
+-- i rows were made: the grid at c, which was empty, has in them the product of the other two
+pub record RowsTimes (w u : List ℕ) (c a b n i : ℕ) : Type 0 where
+  pub cell : (x k : ℕ) → x < n → k < 64 * GRID → grid u c x k ≡ (ltb x i and times n (grid w a) (grid w b) x k)
+  pub frame : Within c (c + ROWS-GRID) w u
+
+-- ---- laws: a row
+
+-- grids that lie apart
+abbrev pub Apart : ℕ → ℕ → Type 0
+Apart c a = a < c + ROWS-GRID → a + ROWS-GRID ≤ c
+
+-- a bit of a grid that lies apart from the words that changed
+pub grid-kept : {x y c : ℕ} {w u : List ℕ} (a : ℕ) → Within x y w u → c ≤ x → y ≤ c + ROWS-GRID → Apart c a → (i j : ℕ) → i < ROWS → j < 64 * GRID
+    → grid u a i j ≡ grid w a i j
+unfolding rel
+grid-kept {x} {y} {c} a f l m off i j p q = within-bit f ((a + i * GRID) * 64 + j) (λ h. out h)
+  where
+    out : 64 * x ≤ (a + i * GRID) * 64 + j → 64 * y ≤ (a + i * GRID) * 64 + j
+    out h = go (decLt a (c + ROWS-GRID))
+      where
+        go : Dec (a < c + ROWS-GRID) → 64 * y ≤ (a + i * GRID) * 64 + j
+        go (yes e) = let g : a + ROWS-GRID ≤ c = off e in absurd (omega arith)
+        go (no e) = omega arith
+
+pub row-none : (w : List ℕ) (c a b i : ℕ) → RowTimes w w c a b i 0
+unfolding times anyBelow
+row-none w c a b i = record { cell = λ k l. sym (or-off _ _ refl); frame = within-refl _ _ w }
+
+-- a bit that is read on the way
+pub row-get : {w u : List ℕ} {c a b i j : ℕ} (at : ℕ) → RowTimes w u c a b i j → Apart c a → i < ROWS → j < ROWS → at ≡ a + i * GRID → bit u (at * 64 + j) ≡ grid w a i j
+unfolding rel
+row-get {w} {u} {c} {a} {b} {i} {j} at h off p q e = rw e (grid-kept a (h .frame) (omega arith) (omega arith) off i j p (omega arith))
+
+-- a number whose row is not taken
+pub row-skip : {w v u : List ℕ} {c a b i j : ℕ} → grid w a i j ≡ false → RowTimes w v c a b i j → u ≡ v → RowTimes w u c a b i (j + 1)
+unfolding times byWay anyBelow
+row-skip {w} {v} {u} {c} {a} {b} {i} {j} e h q =
+    record {
+      cell = λ k l. ap (λ (x : List ℕ). grid x c i k) q ∙ h .cell k l ∙ ap (λ (z : Bool). grid w c i k or z) (rw (add-one j) (sym (or-off _ _ (and-false-left _ (grid w b j k) e))));
+      frame = rw q (h .frame);
+    }
+
+-- or from the left: the last comes last
+turn : (x y z : Bool) (g v : Bool) → g ≡ true → v ≡ z → ((x or y) or v) ≡ (x or (y or (g and z)))
+unfolding _and_
+turn x y z g v e f = rw (e, f) (or-assoc x y z)
+
+-- a number whose row is taken
+pub row-join : {w v u : List ℕ} {c a b i j : ℕ} → i < ROWS → j < ROWS → c + ROWS-GRID ≤ length w → Apart c b → grid w a i j ≡ true → RowTimes w v c a b i j
+    → u ≡ joinRow v (c + i * GRID) (b + j * GRID) GRID → RowTimes w u c a b i (j + 1)
+unfolding times byWay anyBelow rel
+row-join {w} {v} {u} {c} {a} {b} {i} {j} p q room off e h s =
+    record {
+      cell = cell;
+      frame = within-trans (h .frame) (rw s (within-joinRow v (c + i * GRID) (b + j * GRID) GRID));
+    }
+  where
+    long : length v ≡ length w
+    long = h .frame .len
+
+    kept : (k : ℕ) → k < 64 * GRID → grid v b j k ≡ grid w b j k
+    kept k l = grid-kept b (h .frame) (omega arith) (omega arith) off j k q l
+
+    cell : (k : ℕ) → k < 64 * GRID → bit u ((c + i * GRID) * 64 + k)
+        ≡ (bit w ((c + i * GRID) * 64 + k) or anyBelow (j + 1) (λ m. bit w ((a + i * GRID) * 64 + m) and bit w ((b + m * GRID) * 64 + k)))
+    cell k l =
+        rw (s, add-one j)
+        (bit-joinRow v (c + i * GRID) (b + j * GRID) GRID k (omega arith) l
+        ∙ ap (λ (z : Bool). z or bit v ((b + j * GRID) * 64 + k)) (h .cell k l)
+        ∙ turn (bit w ((c + i * GRID) * 64 + k)) (anyBelow j (λ m. bit w ((a + i * GRID) * 64 + m) and bit w ((b + m * GRID) * 64 + k)))
+        (bit w ((b + j * GRID) * 64 + k)) (bit w ((a + i * GRID) * 64 + j)) (bit v ((b + j * GRID) * 64 + k)) e (kept k l))
+
+-- a row of no bits, told by its two words
+row-empty : (w : List ℕ) (c a b i n : ℕ) → n ≤ ROWS → getD w (a + i * GRID) 0 ≡ 0 → getD w (a + i * GRID + 1) 0 ≡ 0 → RowTimes w w c a b i n
+unfolding times byWay rel bit
+row-empty w c a b i n few e f =
+    record {
+      cell = λ k l. sym (or-off _ _ (any-not _ n (λ j m. and-false-left _ _ (none j (omega arith)))));
+      frame = within-refl _ _ w;
+    }
+  where
+    none : (j : ℕ) → j < 64 * GRID → bitOf (getD w (((a + i * GRID) * 64 + j) / 64) 0) (((a + i * GRID) * 64 + j) % 64) ≡ false
+    none j l = go (decLt j 64)
+      where
+        go : Dec (j < 64) → bitOf (getD w (((a + i * GRID) * 64 + j) / 64) 0) (((a + i * GRID) * 64 + j) % 64) ≡ false
+        go (yes h) =
+            let q : ((a + i * GRID) * 64 + j) / 64 ≡ a + i * GRID = omega arith in
+            rw (q, e) (bitOf-zero (((a + i * GRID) * 64 + j) % 64))
+        go (no h) =
+            let q : ((a + i * GRID) * 64 + j) / 64 ≡ a + i * GRID + 1 = omega arith in
+            rw (q, f) (bitOf-zero (((a + i * GRID) * 64 + j) % 64))
+
+pub row-none-there : (w : List ℕ) (c a b i n at : ℕ) → n ≤ ROWS → at ≡ a + i * GRID → emptyAt w at ≡ true → RowTimes w w c a b i n
+unfolding emptyAt
+row-none-there w c a b i n at few q e =
+    let s = split e in
+    row-empty w c a b i n few (ap (λ (x : ℕ). getD w x 0) (sym q) ∙ eqb-true (getD w at 0) 0 (s .0)) (ap (λ (x : ℕ). getD w (x + 1) 0) (sym q) ∙ eqb-true (getD w (at + 1) 0) 0 (s .1))
+
+-- ---- laws: all rows
+
+-- relations that agree on the numbers gone by
+times-cong : (n : ℕ) (r s q o : ℕ → ℕ → Bool) (i k : ℕ) → ((j : ℕ) → j < n → r i j ≡ q i j) → ((j : ℕ) → j < n → s j k ≡ o j k) → times n r s i k ≡ times n q o i k
+unfolding times byWay
+times-cong n r s q o i k e f = any-cong _ _ n (λ j l. rw (e j l, f j l) refl)
+
+pub rows-none : (w : List ℕ) {v : List ℕ} {c a b n : ℕ} → n ≤ ROWS → c + ROWS-GRID ≤ length w → v ≡ zeros w c (c + ROWS-GRID - c) → RowsTimes v v c a b n 0
+unfolding rel
+rows-none w {v} {c} {a} {b} {n} few room e =
+    record {
+      cell = λ x k p q. rw e (bit-zeros-in w c (c + ROWS-GRID - c) ((c + x * GRID) * 64 + k) (omega arith) (omega arith) (omega arith)) ∙ sym (and-false-left _ _ (le-ltb x 0 (omega arith)));
+      frame = within-refl c (c + ROWS-GRID) v;
+    }
+
+pub rows-more : {w v u : List ℕ} {c a b n i : ℕ} → n ≤ ROWS → i < n → Apart c a → Apart c b → RowsTimes w v c a b n i → RowTimes v u c a b i n → RowsTimes w u c a b n (i + 1)
+unfolding rel _or_ _and_
+rows-more {w} {v} {u} {c} {a} {b} {n} {i} few l offa offb h r =
+    record {
+      cell = λ x k p q. cell x k p q (ℕ-discrete x i);
+      frame = within-trans (h .frame) (within-widen c (c + ROWS-GRID) (omega arith) (omega arith) (r .frame));
+    }
+  where
+    kept : (g : ℕ) → Apart c g → (x j : ℕ) → x < ROWS → j < 64 * GRID → grid v g x j ≡ grid w g x j
+    kept g off x j p q = grid-kept g (h .frame) (omega arith) (omega arith) off x j p q
+
+    same : (k : ℕ) → k < 64 * GRID → times n (grid v a) (grid v b) i k ≡ times n (grid w a) (grid w b) i k
+    same k q =
+        times-cong n (grid v a) (grid v b) (grid w a) (grid w b) i k (λ j m. kept a offa i j (omega arith) (omega arith)) (λ j m. kept b offb j k (omega arith) q)
+
+    other : (x k : ℕ) → x < n → k < 64 * GRID → (x ≡ i → ⊥) → grid u c x k ≡ grid v c x k
+    other x k p q d = within-bit (r .frame) ((c + x * GRID) * 64 + k) (λ m. omega arith)
+
+    cell : (x k : ℕ) → x < n → k < 64 * GRID → Dec (x ≡ i) → grid u c x k ≡ (ltb x (i + 1) and times n (grid w a) (grid w b) x k)
+    cell x k p q (yes e) =
+        rw (e, lt-ltb i (i + 1) (omega arith))
+        (r .cell k q ∙ ap₂ _or_ (h .cell i k l q ∙ and-false-left _ _ (le-ltb i i (omega arith))) (same k q) ∙ start (times n (grid w a) (grid w b) i k))
+      where
+        start : (z : Bool) → (false or z) ≡ (true and z)
+        start z = refl
+    cell x k p q (no d) = other x k p q d ∙ h .cell x k p q ∙ ap (λ (z : Bool). z and times n (grid w a) (grid w b) x k) (later (decLt x i))
+      where
+        later : Dec (x < i) → ltb x i ≡ ltb x (i + 1)
+        later (yes m) = lt-ltb x i m ∙ sym (lt-ltb x (i + 1) (omega arith))
+        later (no m) = le-ltb x i (omega arith) ∙ sym (le-ltb x (i + 1) (omega arith))
+
+-- the product, made
+pub made-times : {w v u : List ℕ} {c a b n : ℕ} → n ≤ ROWS → c + ROWS-GRID ≤ length w → v ≡ zeros w c (c + ROWS-GRID - c) → Apart c a → Apart c b
+    → RowsTimes v u c a b n n → Made c (c + ROWS-GRID) c GRID n (times n (grid w a) (grid w b)) w u
+unfolding rel _and_
+made-times {w} {v} {u} {c} {a} {b} {n} few room e offa offb h =
+    record {
+      holds = record { fits = omega arith; cell = λ i k p q. h .cell i k p (omega arith) ∙ ap (λ (z : Bool). z and times n (grid v a) (grid v b) i k) (lt-ltb i n p) ∙ same i k p q };
+      frame = within-trans cleared (h .frame);
+    }
+  where
+    cleared : Within c (c + ROWS-GRID) w v
+    cleared = within-cleared c (c + ROWS-GRID) (omega arith) e
+
+    kept : (g : ℕ) → Apart c g → (x j : ℕ) → x < ROWS → j < 64 * GRID → grid v g x j ≡ grid w g x j
+    kept g off x j p q = grid-kept g cleared (omega arith) (omega arith) off x j p q
+
+    same : (i k : ℕ) → i < n → k < n → times n (grid v a) (grid v b) i k ≡ times n (grid w a) (grid w b) i k
+    same i k p q =
+        times-cong n (grid v a) (grid v b) (grid w a) (grid w b) i k (λ j m. kept a offa i j (omega arith) (omega arith)) (λ j m. kept b offb j k (omega arith) (omega arith))
+
+-- of what two grids hold
+pub times-held : {w u : List ℕ} {x y c a b n : ℕ} {r s : ℕ → ℕ → Bool} → Holds a GRID n r w → Holds b GRID n s w
+    → Made x y c GRID n (times n (grid w a) (grid w b)) w u → Made x y c GRID n (times n r s) w u
+times-held {w} {u} {x} {y} {c} {a} {b} {n} {r} {s} ha hb =
+    made-cong (λ i k p q. times-cong n (grid w a) (grid w b) r s i k (λ j m. ha .cell i j p m) (λ j m. hb .cell j k m q))

@@ -1,3 +1,5 @@
 pub mod Regions
 pub mod Product
 pub mod Links
+pub mod Rows
+pub mod State

@@ -1,0 +1,222 @@
+-- What a row tells of its row of a grid: where a test on the row itself, or on a few bytes, says no, there is no bit; and what the
+-- whole test comes to where it says yes. Assumes nothing.
+use mathlib.Core.Path.{_≡_, refl, sym, ap, _∙_}
+use mathlib.Core.Bool.{Bool, true, false, not}
+use mathlib.Core.Logic.{⊎-elim}
+use mathlib.Core.List.{List}
+use Prim.Native.Nat.{ℕ, zero, suc, _+_, _*_, _≤_, _<_}
+use native.Mathlib.Omega.{arith}
+use native.Mathlib.Decide.{ℕ-discrete, decLt}
+use lib.Dec.{eqb, ltb, leb}
+use borrow.Author.Tests.{ne-eqb, eq-eqb, eqb-true, not-false}
+use Rattle.finite.specs.Logic.{_and_, _or_, bool-ext, not-both, not-so, not-in, not-out, split, and-true, and-false-left, and-false-right, or-off, or-none, or-false}
+use Rattle.finite.specs.Below.{anyBelow, any-in, any-out, any-off, any-not}
+use Rattle.bits.specs.Bit.{setBit, setBitIf}
+use Rattle.bits.specs.Fill.{rowFill}
+use Rattle.model.specs.declared.Mode.{Mode}
+use Rattle.model.specs.declared.Row.{Row}
+use Rattle.model.specs.Row.{atomic, barrier, control, sameInstance, executionOf, releases, acquires, classIn}
+use Rattle.model.specs.Table.{Table, decode, rowOf}
+use Rattle.model.specs.Scope.{shares, sameLocation, together, mutualRows, mutually, later, laterWriter, follows}
+use Rattle.model.specs.Moment.{sameAgent}
+use Rattle.model.specs.Synchronizes.{continues, ends, sequence, takesFrom, leads, trails, upTo, joins, synchronizes}
+use Rattle.quick_sync.specs.Product.{byWay, times}
+use Rattle.quick_sync.specs.Links.{heads, gets, released, gotten, led, metBy, passed, syncBy, sync-is}
+
+-- ---- definitions
+
+-- M4: z follows the head a, and doesn't continue its sequence
+unfoldable pub breaks : Table → ℕ → ℕ → Bool
+breaks t a z = follows t a z and not (continues (t .row z))
+
+unfoldable pub controlAt : Table → ℕ → Bool
+controlAt t c = control (t .row c)
+
+-- ---- laws: a row of bits that is filled from a test
+
+-- one that says no each time
+pub row-off : (q : ℕ → Bool) (w : List ℕ) (at n : ℕ) → ((m : ℕ) → m < n → q m ≡ false) → w ≡ rowFill q w at n
+unfolding rowFill setBitIf
+row-off q w at zero h = refl
+row-off q w at (suc n) h = rw (h n (omega arith)) (row-off q w at n (λ m l. h m (omega arith)))
+
+-- one that says yes of a single number
+pub row-one : (q : ℕ → Bool) (w : List ℕ) (at n a k : ℕ) → a < n → k ≡ at + a → ((m : ℕ) → m < n → q m ≡ eqb a m) → setBit w k ≡ rowFill q w at n
+unfolding rowFill setBitIf
+row-one q w at zero a k l e h = absurd (omega arith)
+row-one q w at (suc n) a k l e h = go (ℕ-discrete a n) (λ d. row-one q w at n a k d e (λ m o. h m (omega arith)))
+  where
+    go : Dec (a ≡ n) → (a < n → setBit w k ≡ rowFill q w at n) → setBit w k ≡ setBitIf (q n) (rowFill q w at n) (at + n)
+    go (yes d) ih =
+        let y : q n ≡ true = h n (omega arith) ∙ eq-eqb a n d in
+        let f : w ≡ rowFill q w at n = row-off q w at n (λ m o. h m (omega arith) ∙ ne-eqb a m (λ z. absurd (omega arith))) in
+        let g : k ≡ at + n = omega arith in
+        rw (y, ← f, g) refl
+    go (no d) ih = rw (h n (omega arith), ne-eqb a n d) (ih (omega arith))
+
+-- ---- laws: M3
+
+and-on : (a b : Bool) → a ≡ true → (a and b) ≡ b
+unfolding _and_
+and-on a b e = rw e refl
+
+module _ (b : List ℕ) (p : List (List ℕ)) (mode : Mode) (n : ℕ) where
+  pub mutual-reference : (i j : ℕ) (r : Row) → r ≡ rowOf b i → (rowOf b j .reference ≡ r .reference → ⊥) → false ≡ mutually (decode b p mode n) i j
+  unfolding mutually mutualRows sameLocation decode
+  mutual-reference i j r er h =
+      sym (and-false-right _ _ (and-false-left _ _ (and-false-right _ _ (and-false-right _ _ (ne-eqb (rowOf b i .reference) (rowOf b j .reference) (λ e. h (sym e ∙ ap (λ (z : Row). z .reference) (sym er))))))))
+
+  pub mutual-location : (i j : ℕ) (r q : Row) (x : Bool) → r ≡ rowOf b i → q ≡ rowOf b j → x ≡ sameLocation r q → not x ≡ true → false ≡ mutually (decode b p mode n) i j
+  unfolding mutually mutualRows decode
+  mutual-location i j r q x er eq ex h = sym (and-false-right _ _ (and-false-left _ _ (and-false-right _ _ (rw (← er, ← eq, ← ex) (not-out x h)))))
+
+  -- a row that isn't atomic
+  pub mutual-none : (i : ℕ) (r : Row) (x : Bool) → r ≡ rowOf b i → x ≡ atomic r → not x ≡ true → (j : ℕ) → mutually (decode b p mode n) i j ≡ false
+  unfolding mutually mutualRows decode
+  mutual-none i r x er ex h j = and-false-right _ _ (and-false-left _ _ (and-false-left _ _ (and-false-left _ _ (rw (← er, ← ex) (not-out x h)))))
+
+  -- ---- laws: M4
+
+  pub breaks-apart : (a z : ℕ) → mutually (decode b p mode n) a z ≡ false → false ≡ breaks (decode b p mode n) a z
+  unfolding breaks follows
+  breaks-apart a z e = sym (and-false-left _ _ (and-false-left _ _ e))
+
+  pub breaks-on : (a z : ℕ) (h q : Row) (x y : Bool) → mutually (decode b p mode n) a z ≡ true → h ≡ rowOf b a → q ≡ rowOf b z → x ≡ laterWriter (mode .counted) q h
+      → y ≡ continues q → (x and not y) ≡ breaks (decode b p mode n) a z
+  unfolding breaks follows decode
+  breaks-on a z h q x y m eh eq ex ey = rw (ex, ey, eh, eq) (ap (λ (u : Bool). u and not (continues (rowOf b z))) (sym (and-on _ _ m)))
+
+  -- an end is a break
+  ends-is : (a x z : ℕ) → ends (decode b p mode n) a x z ≡ (breaks (decode b p mode n) a z and not (later (mode .counted) (rowOf b z .rank) (rowOf b x .rank)))
+  unfolding ends breaks decode
+  ends-is a x z = swap (follows (decode b p mode n) a z) (not (later (mode .counted) (rowOf b z .rank) (rowOf b x .rank))) (not (continues (rowOf b z)))
+    where
+      swap : (u v w : Bool) → (u and v and w) ≡ (u and w and v)
+      swap u v w = bool-ext _ _ (λ e. let s = split e in let o = split (s .0) in and-true (and-true (o .0) (s .1)) (o .1)) (λ e. let s = split e in let o = split (s .0) in and-true (and-true (o .0) (s .1)) (o .1))
+
+  pub ends-off : (a x z : ℕ) → breaks (decode b p mode n) a z ≡ false → false ≡ ends (decode b p mode n) a x z
+  ends-off a x z e = sym (ends-is a x z ∙ and-false-left _ _ e)
+
+  pub ends-on : (a x z : ℕ) (r q : Row) (y : Bool) → breaks (decode b p mode n) a z ≡ true → r ≡ rowOf b x → q ≡ rowOf b z → y ≡ later (mode .counted) (q .rank) (r .rank)
+      → not y ≡ ends (decode b p mode n) a x z
+  ends-on a x z r q y e er eq ey = rw (ey, er, eq) (sym (ends-is a x z ∙ and-on _ _ e))
+
+  -- where nothing breaks a sequence nothing ends it
+  pub ends-none : (a x : ℕ) → anyBelow n (breaks (decode b p mode n) a) ≡ false → anyBelow n (ends (decode b p mode n) a x) ≡ false
+  ends-none a x e = any-not _ n (λ z l. sym (ends-off a x z (any-off _ n e z l)))
+
+  pub sequence-apart : (a x : ℕ) → mutually (decode b p mode n) a x ≡ false → eqb a x ≡ sequence (decode b p mode n) a x
+  unfolding sequence follows
+  sequence-apart a x e = sym (or-off _ _ (and-false-left _ _ (and-false-left _ _ e)))
+
+  pub sequence-earlier : (a x : ℕ) (h r : Row) (y : Bool) → h ≡ rowOf b a → r ≡ rowOf b x → y ≡ laterWriter (mode .counted) r h → not y ≡ true → eqb a x ≡ sequence (decode b p mode n) a x
+  unfolding sequence follows decode
+  sequence-earlier a x h r y eh er ey f = sym (or-off _ _ (and-false-left _ _ (and-false-right _ _ (rw (← eh, ← er, ← ey) (not-out y f)))))
+
+  module _ (a x : ℕ) (h r : Row) (y : Bool) (m : mutually (decode b p mode n) a x ≡ true) (eh : h ≡ rowOf b a) (er : r ≡ rowOf b x) (ey : y ≡ laterWriter (mode .counted) r h) (f : not y ≡ false) where
+    following : follows (decode b p mode n) a x ≡ true
+    unfolding follows decode
+    following = and-true m (rw (← eh, ← er, ← ey) (not-false y f))
+
+    or-on : (u v : Bool) → v ≡ true → true ≡ (u or v)
+    unfolding _or_
+    or-on true v e = refl
+    or-on false v e = sym e
+
+    pub sequence-whole : anyBelow n (breaks (decode b p mode n) a) ≡ false → true ≡ sequence (decode b p mode n) a x
+    unfolding sequence decode
+    sequence-whole e = or-on (eqb a x) _ (and-true following (not-in (ends-none a x e)))
+
+    pub sequence-held : (d : Bool) → d ≡ anyBelow n (ends (decode b p mode n) a x) → (eqb a x or not d) ≡ sequence (decode b p mode n) a x
+    unfolding sequence decode
+    sequence-held d e = rw e (ap (λ (u : Bool). eqb a x or u) (sym (and-on _ _ following)))
+
+  -- a row that isn't atomic has itself alone
+  pub sequence-alone : (a : ℕ) (r : Row) (x : Bool) → r ≡ rowOf b a → x ≡ atomic r → not x ≡ true → (m : ℕ) → sequence (decode b p mode n) a m ≡ eqb a m
+  sequence-alone a r x er ex h m = sym (sequence-apart a m (mutual-none a r x er ex h m))
+
+  -- ---- laws: M5
+
+  pub takes-none : (x : ℕ) (r : Row) (u : Bool) → r ≡ rowOf b x → u ≡ atomic r → not u ≡ true → (y : ℕ) → takesFrom (decode b p mode n) x y ≡ false
+  unfolding takesFrom
+  takes-none x r u er eu h y = and-false-left _ _ (and-false-left _ _ (and-false-left _ _ (and-false-left _ _ (mutual-none x r u er eu h y))))
+
+  -- rows of two agents
+  pub heads-apart : (a x : ℕ) (r : Row) → r ≡ rowOf b a → (rowOf b x .agent ≡ r .agent → ⊥) → false ≡ heads (decode b p mode n) a x
+  unfolding heads leads sameAgent decode
+  heads-apart a x r er h =
+      sym (or-none (and-false-right _ _ (ne-eqb a x (λ e. h (ap (λ (i : ℕ). rowOf b i .agent) (sym e) ∙ ap (λ (z : Row). z .agent) (sym er)))))
+      (and-false-right _ _ (and-false-left _ _ (and-false-right _ _ (ne-eqb (rowOf b a .agent) (rowOf b x .agent) (λ e. h (sym e ∙ ap (λ (z : Row). z .agent) (sym er))))))))
+
+  pub gets-apart : (c y : ℕ) (q : Row) → q ≡ rowOf b y → (rowOf b c .agent ≡ q .agent → ⊥) → false ≡ gets (decode b p mode n) c y
+  unfolding gets trails sameAgent decode
+  gets-apart c y q eq h =
+      sym (or-none (and-false-right _ _ (ne-eqb c y (λ e. h (ap (λ (i : ℕ). rowOf b i .agent) e ∙ ap (λ (z : Row). z .agent) (sym eq)))))
+      (and-false-right _ _ (and-false-left _ _ (and-false-right _ _ (ne-eqb (rowOf b y .agent) (rowOf b c .agent) (λ e. h (sym e ∙ ap (λ (z : Row). z .agent) (sym eq))))))))
+
+  pub released-none : (a : ℕ) (r : Row) (u : Bool) → r ≡ rowOf b a → u ≡ releases r → not u ≡ true → (x : ℕ) → released (decode b p mode n) a x ≡ false
+  unfolding released decode
+  released-none a r u er eu h x = and-false-left _ _ (rw (← er, ← eu) (not-out u h))
+
+  pub released-on : (a x : ℕ) (r : Row) (u v : Bool) → r ≡ rowOf b a → u ≡ releases r → not u ≡ false → v ≡ heads (decode b p mode n) a x → v ≡ released (decode b p mode n) a x
+  unfolding released decode
+  released-on a x r u v er eu h ev = ev ∙ sym (and-on _ _ (sym (ap releases er) ∙ sym eu ∙ not-false u h))
+
+  pub gotten-none : (y : ℕ) (r : Row) (u : Bool) → r ≡ rowOf b y → u ≡ atomic r → not u ≡ true → (c : ℕ) → gotten (decode b p mode n) y c ≡ false
+  unfolding gotten decode
+  gotten-none y r u er eu h c = and-false-left _ _ (rw (← er, ← eu) (not-out u h))
+
+  pub gotten-on : (y c : ℕ) (r : Row) (u v : Bool) → r ≡ rowOf b y → u ≡ atomic r → not u ≡ false → v ≡ gets (decode b p mode n) c y → v ≡ gotten (decode b p mode n) y c
+  unfolding gotten decode
+  gotten-on y c r u v er eu h ev = ev ∙ sym (and-on _ _ (sym (ap atomic er) ∙ sym eu ∙ not-false u h))
+
+  -- ---- laws: control barriers
+
+  pub joins-off : (c d : ℕ) (r q : Row) (u : Bool) → r ≡ rowOf b c → q ≡ rowOf b d → u ≡ sameInstance r q → not u ≡ true → false ≡ joins (decode b p mode n) c d
+  unfolding joins decode
+  joins-off c d r q u er eq eu h = sym (and-false-left _ _ (and-false-right _ _ (rw (← er, ← eq, ← eu) (not-out u h))))
+
+  joins-control : (c d : ℕ) → control (rowOf b c) ≡ false → joins (decode b p mode n) c d ≡ false
+  unfolding joins sameInstance decode
+  joins-control c d e = and-false-left _ _ (and-false-right _ _ (and-false-left _ _ (and-false-left _ _ e)))
+
+  pub joins-none : (c : ℕ) (r : Row) (u : Bool) → r ≡ rowOf b c → u ≡ control r → not u ≡ true → (d : ℕ) → joins (decode b p mode n) c d ≡ false
+  joins-none c r u er eu h d = joins-control c d (sym (ap control er) ∙ sym eu ∙ not-out u h)
+
+  -- without control barriers no row passes to another
+  pub passed-none : anyBelow n (controlAt (decode b p mode n)) ≡ false → (a c : ℕ) → passed (decode b p mode n) a c ≡ false
+  unfolding passed metBy times byWay controlAt decode
+  passed-none e a c =
+      any-not _ n (λ x l. and-false-right _ _ (any-not _ n (λ d k. and-false-left _ _ (joins-control x d (any-off _ n e x l)))))
+
+  -- ---- laws: M5, from the bits
+
+  module _ (a c : ℕ) (r : Row) (v w : Bool) (er : r ≡ rowOf b a) (ev : v ≡ led (decode b p mode n) a c) (ew : w ≡ passed (decode b p mode n) a c) where
+    pub sync-unlinked : not (v or w) ≡ true → false ≡ syncBy (decode b p mode n) a c
+    unfolding syncBy decode
+    sync-unlinked h =
+        sym (and-false-left _ _ (and-false-left _ _ (and-false-right _ _ (or-none (sym ev ∙ none .0) (and-false-right _ _ (sym ew ∙ none .1))))))
+      where
+        none : (v ≡ false) × (w ≡ false)
+        none = or-false v w (not-out (v or w) h)
+
+    pub sync-relaxed : (q : Row) (u : Bool) → q ≡ rowOf b c → u ≡ acquires q → not u ≡ true → false ≡ syncBy (decode b p mode n) a c
+    unfolding syncBy decode
+    sync-relaxed q u eq eu h = sym (and-false-left _ _ (and-false-left _ _ (and-false-left _ _ (rw (← eq, ← eu) (not-out u h)))))
+
+    pub sync-linked : (q : Row) (u x y z : Bool) → q ≡ rowOf b c → u ≡ acquires q → not u ≡ false → x ≡ barrier r → y ≡ barrier q → z ≡ together p r q
+        → ((v or (x and y and w)) and not (eqb a c) and z) ≡ syncBy (decode b p mode n) a c
+    unfolding syncBy decode
+    sync-linked q u x y z eq eu h ex ey ez =
+        rw (ex, ey, ez, er, eq, ev, ew)
+        (ap (λ (k : Bool). k and not (eqb a c) and together p (rowOf b a) (rowOf b c)) (sym (and-on _ _ (sym (ap acquires eq) ∙ sym eu ∙ not-false u h))))
+
+  -- a row that doesn't release, and one that does
+  pub sync-none : (a : ℕ) (r : Row) (u : Bool) → r ≡ rowOf b a → u ≡ releases r → not u ≡ true → (c : ℕ) → synchronizes (decode b p mode n) a c ≡ false
+  unfolding synchronizes decode
+  sync-none a r u er eu h c = and-false-left _ _ (and-false-left _ _ (rw (← er, ← eu) (not-out u h)))
+
+  pub sync-on : (a c : ℕ) (r : Row) (u v : Bool) → a < n → c < n → r ≡ rowOf b a → u ≡ releases r → not u ≡ false → v ≡ syncBy (decode b p mode n) a c
+      → v ≡ synchronizes (decode b p mode n) a c
+  unfolding decode
+  sync-on a c r u v la lc er eu h ev = ev ∙ sym (sync-is (decode b p mode n) a c la lc ∙ and-on _ _ (sym (ap releases er) ∙ sym eu ∙ not-false u h))

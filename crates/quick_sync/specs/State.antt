@@ -1,0 +1,103 @@
+-- What the work area holds between the stages of this crate, and after them. Assumes nothing.
+use mathlib.Core.Path.{_≡_}
+use mathlib.Core.Bool.{Bool, false}
+use mathlib.Core.List.{List}
+use Prim.Native.Nat.{ℕ, _+_, _-_, _*_, _≤_, _<_}
+use native.Mathlib.Omega.{arith}
+use lib.ListN.{length}
+use Rattle.bits.specs.Bit.{zeros, bit-zeros-in}
+use Rattle.bits.specs.Within.{Within, within-trans, within-widen, within-cleared}
+use Rattle.bits.specs.Matrix.{rel}
+use Rattle.bits.specs.Stage.{Holds, Made, holds-kept}
+use Rattle.model.specs.declared.Mode.{Mode}
+use Rattle.model.specs.Limits.{ROWS, WORK}
+use Rattle.model.specs.Table.{Table, decode}
+use Rattle.model.specs.Scope.{mutually}
+use Rattle.model.specs.Synchronizes.{takesFrom, upTo, joins, sequence, synchronizes}
+use Rattle.area.specs.Regions.{MUTUAL, MUTUAL-END, SEQUENCE, SEQUENCE-END, SYNC, SYNC-END, HAPPENS, HAPPENS-END, GRID, ROWS-GRID}
+use Rattle.sequence.specs.Known.{Known, Synced, known-made, known-kept}
+use Rattle.quick_sync.specs.Regions.{HEADS, TAKES, GETS, HANDS, LINKS, UP-TO, JOINS, MEETS, PASSED, PASSED-END}
+use Rattle.quick_sync.specs.Product.{grid, times, times-held}
+use Rattle.quick_sync.specs.Links.{released, gotten, handed, led, metBy, passed}
+
+-- ---- definitions
+
+-- what synchronizes-with is made from: the acquires that each release is linked to, the rows that each row passes to
+pub record Linked (t : Table) (n : ℕ) (w : List ℕ) : Type 0 where
+  pub links : Holds LINKS GRID n (led t) w
+  pub passing : Holds PASSED GRID n (passed t) w
+
+pub record MadeLinked (t : Table) (n : ℕ) (w u : List ℕ) : Type 0 where
+  pub linked : Linked t n u
+  pub frame : Within HAPPENS HAPPENS-END w u
+
+-- ---- laws
+
+-- a change in earlier words keeps it
+pub linked-kept : {t : Table} {n c d : ℕ} {w u : List ℕ} → d ≤ HAPPENS → Within c d w u → Linked t n w → Linked t n u
+linked-kept l f k = record { links = holds-kept (λ h. omega arith) f (k .links); passing = holds-kept (λ h. omega arith) f (k .passing) }
+
+-- the stages in order
+module _ (b : List ℕ) (p : List (List ℕ)) (mode : Mode) (n : ℕ) where
+  -- without control barriers: the grid is empty
+  pub passed-cleared : {w u : List ℕ} → n ≤ ROWS → WORK ≤ length w → u ≡ zeros w PASSED (PASSED-END - PASSED) → ((a c : ℕ) → passed (decode b p mode n) a c ≡ false)
+      → Made UP-TO PASSED-END PASSED GRID n (passed (decode b p mode n)) w u
+  unfolding rel
+  passed-cleared {w} {u} few room e none =
+      record {
+        holds = record {
+          fits = omega arith;
+          cell = λ i j l m. rw (e, none i j) (bit-zeros-in w PASSED (PASSED-END - PASSED) ((PASSED + i * GRID) * 64 + j) (omega arith) (omega arith) (omega arith));
+        };
+        frame = within-widen UP-TO PASSED-END (omega arith) (omega arith) (within-cleared PASSED PASSED-END (omega arith) e);
+      }
+
+  pub passed-made : {w v x y u : List ℕ} → Made UP-TO JOINS UP-TO GRID n (upTo (decode b p mode n)) w v → Made JOINS MEETS JOINS GRID n (joins (decode b p mode n)) v x
+      → Made MEETS (MEETS + ROWS-GRID) MEETS GRID n (times n (grid x JOINS) (grid x UP-TO)) x y
+      → Made PASSED (PASSED + ROWS-GRID) PASSED GRID n (times n (grid y UP-TO) (grid y MEETS)) y u → Made UP-TO PASSED-END PASSED GRID n (passed (decode b p mode n)) w u
+  unfolding passed metBy decode
+  passed-made {w} {v} {x} {y} {u} a g c d =
+      let few : n ≤ 64 * GRID = a .holds .fits in
+      let ax = holds-kept (λ h. absurd (omega arith)) (g .frame) (a .holds) in
+      let m = times-held (g .holds) ax c in
+      let ay = holds-kept (λ h. absurd (omega arith)) (c .frame) ax in
+      let q = times-held ay (m .holds) d in
+      record {
+        holds = q .holds;
+        frame = within-trans (within-widen UP-TO PASSED-END (omega arith) (omega arith) (a .frame))
+            (within-trans (within-widen UP-TO PASSED-END (omega arith) (omega arith) (g .frame))
+            (within-trans (within-widen UP-TO PASSED-END (omega arith) (omega arith) (c .frame)) (within-widen UP-TO PASSED-END (omega arith) (omega arith) (d .frame))));
+      }
+
+  pub linked-made : {w v x y z o u : List ℕ} → Made HEADS TAKES HEADS GRID n (released (decode b p mode n)) w v → Made TAKES GETS TAKES GRID n (takesFrom (decode b p mode n)) v x
+      → Made GETS HANDS GETS GRID n (gotten (decode b p mode n)) x y → Made HANDS (HANDS + ROWS-GRID) HANDS GRID n (times n (grid y TAKES) (grid y GETS)) y z
+      → Made LINKS (LINKS + ROWS-GRID) LINKS GRID n (times n (grid z HEADS) (grid z HANDS)) z o → Made UP-TO PASSED-END PASSED GRID n (passed (decode b p mode n)) o u → MadeLinked (decode b p mode n) n w u
+  unfolding led handed decode
+  linked-made {w} {v} {x} {y} {z} {o} {u} a g c d e f =
+      let few : n ≤ 64 * GRID = a .holds .fits in
+      let by = holds-kept (λ h. absurd (omega arith)) (c .frame) (g .holds) in
+      let hz = times-held by (c .holds) d in
+      let ax = holds-kept (λ h. absurd (omega arith)) (g .frame) (a .holds) in
+      let ay = holds-kept (λ h. absurd (omega arith)) (c .frame) ax in
+      let az = holds-kept (λ h. absurd (omega arith)) (d .frame) ay in
+      let l = times-held az (hz .holds) e in
+      let lu = holds-kept (λ h. absurd (omega arith)) (f .frame) (l .holds) in
+      record {
+        linked = record { links = lu; passing = f .holds };
+        frame = within-trans (within-widen HAPPENS HAPPENS-END (omega arith) (omega arith) (a .frame))
+            (within-trans (within-widen HAPPENS HAPPENS-END (omega arith) (omega arith) (g .frame))
+            (within-trans (within-widen HAPPENS HAPPENS-END (omega arith) (omega arith) (c .frame))
+            (within-trans (within-widen HAPPENS HAPPENS-END (omega arith) (omega arith) (d .frame))
+            (within-trans (within-widen HAPPENS HAPPENS-END (omega arith) (omega arith) (e .frame)) (within-widen HAPPENS HAPPENS-END (omega arith) (omega arith) (f .frame))))));
+      }
+
+pub synced-made : {t : Table} {n : ℕ} {w v x y u : List ℕ} → Made MUTUAL MUTUAL-END MUTUAL GRID n (mutually t) w v
+    → Made SEQUENCE SEQUENCE-END SEQUENCE GRID n (sequence t) v x → MadeLinked t n x y → Made SYNC SYNC-END SYNC GRID n (synchronizes t) y u
+    → Synced t n u × Within MUTUAL HAPPENS-END w u
+synced-made m s l y =
+    let k = known-kept (omega arith) (y .frame) (known-kept (omega arith) (l .frame) (known-made m s)) in (
+      record { mutuals = k .mutuals; syncs = y .holds },
+      within-trans (within-widen MUTUAL HAPPENS-END (omega arith) (omega arith) (m .frame))
+      (within-trans (within-widen MUTUAL HAPPENS-END (omega arith) (omega arith) (s .frame))
+      (within-trans (within-widen MUTUAL HAPPENS-END (omega arith) (omega arith) (l .frame)) (within-widen MUTUAL HAPPENS-END (omega arith) (omega arith) (y .frame)))),
+    )

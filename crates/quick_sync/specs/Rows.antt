@@ -12,10 +12,11 @@ use borrow.Author.Tests.{ne-eqb, eq-eqb, eqb-true, not-false}
 use Rattle.finite.specs.Logic.{_and_, _or_, bool-ext, not-both, not-so, not-in, not-out, split, and-true, and-false-left, and-false-right, or-off, or-none, or-false}
 use Rattle.finite.specs.Below.{anyBelow, any-in, any-out, any-off, any-not}
 use Rattle.bits.specs.Bit.{setBit, setBitIf}
-use Rattle.bits.specs.Fill.{rowFill}
+use Rattle.bits.specs.Fill.{rowFill, within-rowFill}
+use Rattle.bits.specs.Within.{Within}
 use Rattle.model.specs.declared.Mode.{Mode}
 use Rattle.model.specs.declared.Row.{Row}
-use Rattle.model.specs.Row.{atomic, barrier, control, sameInstance, executionOf, releases, acquires, classIn}
+use Rattle.model.specs.Row.{CONTROL, atomic, barrier, control, sameInstance, executionOf, releases, acquires, classIn}
 use Rattle.model.specs.Table.{Table, decode, rowOf}
 use Rattle.model.specs.Scope.{shares, sameLocation, together, mutualRows, mutually, later, laterWriter, follows}
 use Rattle.model.specs.Moment.{sameAgent}
@@ -29,8 +30,9 @@ use Rattle.quick_sync.specs.Links.{heads, gets, released, gotten, led, m
 unfoldable pub breaks : Table → ℕ → ℕ → Bool
 breaks t a z = follows t a z and not (continues (t .row z))
 
-unfoldable pub controlAt : Table → ℕ → Bool
-controlAt t c = control (t .row c)
+-- row c is a control barrier
+unfoldable pub controlOf : List ℕ → ℕ → Bool
+controlOf b c = control (rowOf b c)
 
 -- ---- laws: a row of bits that is filled from a test
 
@@ -54,11 +56,23 @@ row-one q w at (suc n) a k l e h = go (ℕ-discrete a n) (λ d. row-one q w at n
         rw (y, ← f, g) refl
     go (no d) ih = rw (h n (omega arith), ne-eqb a n d) (ih (omega arith))
 
+-- it stays within the words of its bits
+pub within-row : {w u : List ℕ} (a b : ℕ) (q : ℕ → Bool) (at n : ℕ) → 64 * a ≤ at → at + n ≤ 64 * b → u ≡ rowFill q w at n → Within a b w u
+within-row {w} a b q at n l m e = rw e (within-rowFill a b q w at n l m)
+
 -- ---- laws: M3
 
 and-on : (a b : Bool) → a ≡ true → (a and b) ≡ b
 unfolding _and_
 and-on a b e = rw e refl
+
+pub control-yes : (b : List ℕ) (c k : ℕ) → k ≡ rowOf b c .kind → k ≡ CONTROL → controlOf b c ≡ true
+unfolding controlOf control
+control-yes b c k e h = eq-eqb (rowOf b c .kind) CONTROL (sym e ∙ h)
+
+pub control-no : (b : List ℕ) (c k : ℕ) → k ≡ rowOf b c .kind → (k ≡ CONTROL → ⊥) → controlOf b c ≡ false
+unfolding controlOf control
+control-no b c k e h = ne-eqb (rowOf b c .kind) CONTROL (λ q. h (e ∙ q))
 
 module _ (b : List ℕ) (p : List (List ℕ)) (mode : Mode) (n : ℕ) where
   pub mutual-reference : (i j : ℕ) (r : Row) → r ≡ rowOf b i → (rowOf b j .reference ≡ r .reference → ⊥) → false ≡ mutually (decode b p mode n) i j
@@ -184,8 +198,8 @@ module _ (b : List ℕ) (p : List (List ℕ)) (mode : Mode) (n : ℕ) where
   joins-none c r u er eu h d = joins-control c d (sym (ap control er) ∙ sym eu ∙ not-out u h)
 
   -- without control barriers no row passes to another
-  pub passed-none : anyBelow n (controlAt (decode b p mode n)) ≡ false → (a c : ℕ) → passed (decode b p mode n) a c ≡ false
-  unfolding passed metBy times byWay controlAt decode
+  pub passed-none : anyBelow n (controlOf b) ≡ false → (a c : ℕ) → passed (decode b p mode n) a c ≡ false
+  unfolding passed metBy times byWay controlOf decode
   passed-none e a c =
       any-not _ n (λ x l. and-false-right _ _ (any-not _ n (λ d k. and-false-left _ _ (joins-control x d (any-off _ n e x l)))))
 

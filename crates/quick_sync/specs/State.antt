@@ -98,6 +98,6 @@ synced-made m s l y =
     let k = known-kept (omega arith) (y .frame) (known-kept (omega arith) (l .frame) (known-made m s)) in (
       record { mutuals = k .mutuals; syncs = y .holds },
       within-trans (within-widen MUTUAL HAPPENS-END (omega arith) (omega arith) (m .frame))
-      (within-trans (within-widen MUTUAL HAPPENS-END (omega arith) (omega arith) (s .frame))
-      (within-trans (within-widen MUTUAL HAPPENS-END (omega arith) (omega arith) (l .frame)) (within-widen MUTUAL HAPPENS-END (omega arith) (omega arith) (y .frame)))),
+          (within-trans (within-widen MUTUAL HAPPENS-END (omega arith) (omega arith) (s .frame))
+          (within-trans (within-widen MUTUAL HAPPENS-END (omega arith) (omega arith) (l .frame)) (within-widen MUTUAL HAPPENS-END (omega arith) (omega arith) (y .frame)))),
     )

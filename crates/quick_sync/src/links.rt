@@ -1,0 +1,135 @@
+// M5 but for control barriers: which writers carry what a release has behind it, who reads from their sequences, which acquires get
+// what was read; and these one after the other.
+ghost use mathlib.Core.Path.{_≡_};
+ghost use Prim.Native.Nat.{_+_, _*_, _≤_, _<_};
+ghost use lib.ListN.{length};
+ghost use Rattle.bits.specs.Fill.{rowFill};
+ghost use Rattle.bits.specs.Stage.{Made};
+ghost use Rattle.model.specs.Limits.{ROWS, WORK};
+ghost use Rattle.model.specs.Table.{rowOf, decode};
+ghost use Rattle.model.specs.Synchronizes.{takesFrom};
+ghost use Rattle.area.specs.Regions.{GRID};
+ghost use Rattle.sequence.specs.Known.{Known};
+ghost use Rattle.quick_sync.specs.Regions.{HEADS, TAKES, GETS, HANDS};
+ghost use Rattle.quick_sync.specs.Links.{heads, gets, released, gotten};
+use crate::product::ROWS_GRID;
+use model::Mode;
+use model::Places;
+use model::Row;
+use rows::bytes;
+use rows::kinds;
+
+// The map of the grids; specs/Regions.antt says the same.
+pub const HEADS: usize = area::HAPPENS;
+
+pub const TAKES: usize = HEADS + ROWS_GRID;
+
+pub const GETS: usize = TAKES + ROWS_GRID;
+
+pub const HANDS: usize = GETS + ROWS_GRID;
+
+pub const LINKS: usize = HANDS + ROWS_GRID;
+
+// ---- from a release to the writers
+
+// M5: whether the release a, which is r, heads what row x carries. Most rows have another agent.
+fn heads_of(rows: &[u8], p: Places, mode: Mode, n: usize, a: usize, r: Row, x: usize) -> bool
+    requires { ⌜ (x < ROWS) × (r ≡ rowOf (now rows) a) ⌝ }
+    ensures { λ b. ⌜ b ≡ heads (decode (now (rows .entry)) p mode n) a x ⌝ }
+{
+    if bytes::read_agent(rows, x as u16) != r.agent {
+        return false;
+    }
+    let q = bytes::read_row(rows, x as u16);
+    kinds::is_atomic(r) & (a == x)
+        | kinds::is_barrier(r) & ((a < x) & (r.agent == q.agent) & kinds::class_in(q, r.classes))
+}
+
+fn heads_row(rows: &[u8], p: Places, mode: Mode, n: usize, a: usize, w: &mut [u64])
+    requires { ⌜ (n ≤ ROWS) × (a < n) × (WORK ≤ length (now w)) ⌝ }
+    ensures { λ _. ⌜ now (w .exit) ≡ rowFill (released (decode (now (rows .entry)) p mode n) a) (now (w .entry)) (HEADS * 64 + a * (GRID * 64)) n ⌝ }
+{
+    let r = bytes::read_row(rows, a as u16);
+    if !kinds::releases(r) {
+        return;
+    }
+    for x in 0..n {
+        let b = heads_of(rows, p, mode, n, a, r, x);
+        bits::put_if(w, (HEADS + a * area::GRID) * 64 + x, b);
+    }
+}
+
+pub fn fill_heads(rows: &[u8], p: Places, mode: Mode, n: usize, w: &mut [u64])
+    requires { ⌜ (n ≤ ROWS) × (WORK ≤ length (now w)) ⌝ }
+    ensures { λ _. ⌜ Made HEADS TAKES HEADS GRID n (released (decode (now (rows .entry)) p mode n)) (now (w .entry)) (now (w .exit)) ⌝ }
+{
+    bits::clear(w, HEADS, TAKES);
+    for a in 0..n {
+        heads_row(rows, p, mode, n, a, w);
+    }
+}
+
+// ---- from a writer to its readers
+
+fn takes_row(rows: &[u8], p: Places, mode: Mode, n: usize, x: usize, w: &mut [u64])
+    requires { ⌜ (n ≤ ROWS) × (x < n) × (WORK ≤ length (now w)) × Known (decode (now rows) p mode n) n (now w) ⌝ }
+    ensures { λ _. ⌜ now (w .exit) ≡ rowFill (takesFrom (decode (now (rows .entry)) p mode n) x) (now (w .entry)) (TAKES * 64 + x * (GRID * 64)) n ⌝ }
+{
+    let r = bytes::read_row(rows, x as u16);
+    if !kinds::is_atomic(r) {
+        return;
+    }
+    for y in 0..n {
+        let b = sequence::carriers::takes_from_at(rows, p, mode, n, x, y, w);
+        bits::put_if(w, (TAKES + x * area::GRID) * 64 + y, b);
+    }
+}
+
+pub fn fill_takes(rows: &[u8], p: Places, mode: Mode, n: usize, w: &mut [u64])
+    requires { ⌜ (n ≤ ROWS) × (WORK ≤ length (now w)) × Known (decode (now rows) p mode n) n (now w) ⌝ }
+    ensures { λ _. ⌜ Made TAKES GETS TAKES GRID n (takesFrom (decode (now (rows .entry)) p mode n)) (now (w .entry)) (now (w .exit)) ⌝ }
+{
+    bits::clear(w, TAKES, GETS);
+    for x in 0..n {
+        takes_row(rows, p, mode, n, x, w);
+    }
+}
+
+// ---- from a reader to the acquires
+
+// M5: whether the acquire b gets what row y, which is q, has read. Most rows have another agent.
+fn gets_of(rows: &[u8], p: Places, mode: Mode, n: usize, y: usize, q: Row, b: usize) -> bool
+    requires { ⌜ (b < ROWS) × (q ≡ rowOf (now rows) y) ⌝ }
+    ensures { λ d. ⌜ d ≡ gets (decode (now (rows .entry)) p mode n) b y ⌝ }
+{
+    if bytes::read_agent(rows, b as u16) != q.agent {
+        return false;
+    }
+    let r = bytes::read_row(rows, b as u16);
+    kinds::is_atomic(r) & (b == y)
+        | kinds::is_barrier(r) & ((y < b) & (q.agent == r.agent) & kinds::class_in(q, r.classes))
+}
+
+fn gets_row(rows: &[u8], p: Places, mode: Mode, n: usize, y: usize, w: &mut [u64])
+    requires { ⌜ (n ≤ ROWS) × (y < n) × (WORK ≤ length (now w)) ⌝ }
+    ensures { λ _. ⌜ now (w .exit) ≡ rowFill (gotten (decode (now (rows .entry)) p mode n) y) (now (w .entry)) (GETS * 64 + y * (GRID * 64)) n ⌝ }
+{
+    let q = bytes::read_row(rows, y as u16);
+    if !kinds::is_atomic(q) {
+        return;
+    }
+    for b in 0..n {
+        let d = gets_of(rows, p, mode, n, y, q, b);
+        bits::put_if(w, (GETS + y * area::GRID) * 64 + b, d);
+    }
+}
+
+pub fn fill_gets(rows: &[u8], p: Places, mode: Mode, n: usize, w: &mut [u64])
+    requires { ⌜ (n ≤ ROWS) × (WORK ≤ length (now w)) ⌝ }
+    ensures { λ _. ⌜ Made GETS HANDS GETS GRID n (gotten (decode (now (rows .entry)) p mode n)) (now (w .entry)) (now (w .exit)) ⌝ }
+{
+    bits::clear(w, GETS, HANDS);
+    for y in 0..n {
+        gets_row(rows, p, mode, n, y, w);
+    }
+}

@@ -8,16 +8,16 @@ use native.Mathlib.Omega.{arith}
 use native.Mathlib.Numerals.{add-one}
 use native.Mathlib.Decide.{decLt, ℕ-discrete}
 use lib.ListN.{length}
-use Rattle.finite.specs.Logic.{_and_, _or_, or-off, and-false-left, and-false-right, and-true, not-so, not-both}
+use Rattle.finite.specs.Logic.{_and_, _or_, or-off, and-false-left, and-false-right}
 use Rattle.finite.specs.Below.{Least}
-use Rattle.bits.specs.Bit.{bit, joinRow, bit-joinRow}
+use Rattle.bits.specs.Bit.{joinRow, bit-joinRow}
 use Rattle.bits.specs.Within.{Within, within-refl, within-trans, within-widen, within-bit, within-joinRow}
 use Rattle.bits.specs.Matrix.{rel}
 use Rattle.model.specs.Limits.{ROWS}
 use Rattle.model.specs.Moment.{itself}
 use Rattle.area.specs.Regions.{MOMENTS}
 use Rattle.hubs.specs.Hubs.{throughOwn}
-use Rattle.sets.specs.Meet.{both}
+use Rattle.sets.specs.Meet.{both, least-empty}
 
 -- ---- definitions
 
@@ -135,15 +135,12 @@ rounds-more w₀ w u base n k kn few r p =
 -- a row that is empty: its round changes nothing
 pub rounds-skip : (w₀ w : List ℕ) (base n k x : ℕ) → k < n → n ≤ ROWS → Rounds w₀ w base n k
     → Least (64 * MOMENTS) (both w (base + k * MOMENTS) (base + k * MOMENTS)) x → 64 * MOMENTS ≤ x → Rounds w₀ w base n (k + 1)
-unfolding throughOwn rel both
+unfolding throughOwn rel
 rounds-skip w₀ w base n k x kn few r least far =
     record {
-      cells = λ i j h b. rw add-one (r .cells i j h b ∙ sym (or-off _ _ (and-false-right _ _ (sym (r .cells k j kn b) ∙ empty j b))));
+      cells = λ i j h b. rw add-one (r .cells i j h b ∙ sym (or-off _ _ (and-false-right _ _ (sym (r .cells k j kn b) ∙ least-empty w (base + k * MOMENTS) MOMENTS x least far j b))));
       frame = r .frame;
     }
-  where
-    empty : (j : ℕ) → j < 64 * MOMENTS → bit w ((base + k * MOMENTS) * 64 + j) ≡ false
-    empty j b = not-so _ (λ h. not-both (and-true h h) (least .miss j (omega arith)))
 
 pub rounds-all : {w₀ w : List ℕ} {base n : ℕ} → Rounds w₀ w base n n → ClosedOwn w₀ w base n
 rounds-all r = record { cells = r .cells; frame = r .frame }

@@ -5,9 +5,10 @@ use mathlib.Core.Bool.{Bool, true, false}
 use mathlib.Core.List.{List}
 use Prim.Native.Nat.{ℕ, _+_, _-_, _*_, _/_, _%_, _≤_, _<_}
 use native.Mathlib.Omega.{arith}
-use lib.Dec.{eqb}
+use native.Mathlib.Decide.{decLt}
+use lib.Dec.{ltb, eqb}
 use lib.ListN.{length}
-use borrow.Author.Tests.{eqb-true}
+use borrow.Author.Tests.{eqb-true, lt-ltb, le-ltb}
 use Rattle.finite.specs.Logic.{_and_, _or_, not-both, not-so, split, and-true, and-false-left, and-false-right}
 use Rattle.finite.specs.Below.{anyBelow, any-in, any-off, any-not, Least}
 use Rattle.bits.specs.Bit.{bit, setBitIf, zeros, length-zeros, bit-zeros-in}
@@ -170,15 +171,20 @@ quiet-is t n s w same few joined hold none m k l o = not-so _ (λ h. go h)
 
 -- ---- laws: the code
 
-pub joins-is : (w : List ℕ) (x k : ℕ) (h : Bool) → h ≡ bit w (HOLD * 64 + (3 * x + 1)) → h ≡ true → Least (64 * MOMENTS) (both w (JOINED + x * MOMENTS) HOLD) k
-    → k < 64 * MOMENTS → joinsHolder w x ≡ true
+pub joins-on : (w : List ℕ) (x k : ℕ) → bit w (HOLD * 64 + (3 * x + 1)) ≡ true → Least (64 * MOMENTS) (both w (JOINED + x * MOMENTS) HOLD) k
+    → ltb k (64 * MOMENTS) ≡ joinsHolder w x
 unfolding joinsHolder
-joins-is w x k h e f least l = and-true (sym e ∙ f) (any-in _ (64 * MOMENTS) k l (least .hit l))
+joins-on w x k h least = go (decLt k (64 * MOMENTS))
+  where
+    go : Dec (k < 64 * MOMENTS) → ltb k (64 * MOMENTS) ≡ (bit w (HOLD * 64 + (3 * x + 1)) and anyBelow (64 * MOMENTS) (both w (JOINED + x * MOMENTS) HOLD))
+    go (yes l) = lt-ltb k (64 * MOMENTS) l ∙ sym (and-true h (any-in _ (64 * MOMENTS) k l (least .hit l)))
+    go (no l) = le-ltb k (64 * MOMENTS) (omega arith) ∙ sym (and-false-right _ _ (any-not _ (64 * MOMENTS) (λ j o. least .miss j (omega arith))))
 
-pub joins-not : (w : List ℕ) (x k : ℕ) → Least (64 * MOMENTS) (both w (JOINED + x * MOMENTS) HOLD) k → 64 * MOMENTS ≤ k → joinsHolder w x ≡ false
+pub joins-off : (w : List ℕ) (x : ℕ) → bit w (HOLD * 64 + (3 * x + 1)) ≡ false → false ≡ joinsHolder w x
 unfolding joinsHolder
-joins-not w x k least l = and-false-right _ _ (any-not _ (64 * MOMENTS) (λ j o. least .miss j (omega arith)))
+joins-off w x h = sym (and-false-left _ _ h)
 
-pub joins-off : (w : List ℕ) (x : ℕ) (h : Bool) → h ≡ bit w (HOLD * 64 + (3 * x + 1)) → h ≡ false → joinsHolder w x ≡ false
-unfolding joinsHolder
-joins-off w x h e f = and-false-left _ _ (sym e ∙ f)
+pub concern-made : (r q : Row) (s x : ℕ) (d e f : Bool) (w v z u : List ℕ) → r ≡ q → d ≡ concernsOf s r 0 → v ≡ setBitIf d w (CONCERN * 64 + 3 * x)
+    → e ≡ concernsOf s r 1 → z ≡ setBitIf e v (CONCERN * 64 + (3 * x + 1)) → f ≡ concernsOf s r 2 → u ≡ setBitIf f z (CONCERN * 64 + (3 * x + 2)) → u ≡ concernWords q s x w
+unfolding concernWords
+concern-made r q s x d e f w v z u same a b c g h i = rw (← same, ← a, ← c, ← h, ← b, ← g) i

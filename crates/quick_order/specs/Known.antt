@@ -1,23 +1,25 @@
 -- What the work area holds between the stages of this crate: sets of moments, one for each of some rows or one alone. Assumes nothing.
 use mathlib.Core.Path.{_≡_, _∙_}
-use mathlib.Core.Bool.{Bool}
+use mathlib.Core.Bool.{Bool, true}
 use mathlib.Core.List.{List}
 use Prim.Native.Nat.{ℕ, _+_, _*_, _≤_, _<_}
 use native.Mathlib.Omega.{arith}
 use lib.Dec.{eqb}
+use lib.ListN.{length}
 use Rattle.finite.specs.Logic.{_and_}
 use Rattle.bits.specs.Bit.{bit}
 use Rattle.bits.specs.Within.{Within, within-bit}
 use Rattle.bits.specs.Matrix.{rel}
 use Rattle.bits.specs.Stage.{Holds, holds-kept}
-use Rattle.model.specs.Table.{Table}
+use Rattle.model.specs.Limits.{ROWS, WORK}
+use Rattle.model.specs.Table.{Table, rowOf}
 use Rattle.model.specs.Scope.{mutually}
 use Rattle.model.specs.Moment.{AT, rowIn, part, programOrder}
 use Rattle.model.specs.Synchronizes.{synchronizes}
 use Rattle.model.specs.Happens.{holding, concerns}
-use Rattle.area.specs.Regions.{MUTUAL, SYNC-END, GRID, MOMENTS}
+use Rattle.area.specs.Regions.{MUTUAL, HAPPENS, HAPPENS-END, SYNC-END, GRID, MOMENTS}
 use Rattle.hubs.specs.Rows.{releaseAt}
-use Rattle.quick_order.specs.Regions.{ORDER, JOINED, DEPENDS, HOLD, RELEASE, CONCERN}
+use Rattle.quick_order.specs.Regions.{ORDER, ORDER-END, HOPS, HOPS-END, JOINED, DEPENDS, HOLD, RELEASE, CONCERN}
 
 -- ---- definitions
 
@@ -51,6 +53,17 @@ pub record Ready (t : Table) (n s : ℕ) (w : List ℕ) : Type 0 where
   pub release : Set RELEASE (3 * n) (releaseAt t s) w
   pub concern : Set CONCERN (3 * n) (concerns t s) w
 
+-- all that the closure of the class set s reads, of a table whose rows stand in the bytes bs; where `dep` is false, it has no
+-- dependencies
+pub record Setup (bs : List ℕ) (t : Table) (n s : ℕ) (dep : Bool) (w : List ℕ) : Type 0 where
+  pub few : n ≤ ROWS
+  pub room : WORK ≤ length w
+  pub same : t .rows ≡ n
+  pub row : (x : ℕ) → t .row x ≡ rowOf bs x
+  pub told : (a b : ℕ) → t .depends a b ≡ true → dep ≡ true
+  pub based : Based t n w
+  pub ready : Ready t n s w
+
 -- ---- laws: a change elsewhere
 
 pub rows-kept : {a n m c d : ℕ} {r : ℕ → ℕ → Bool} {w u : List ℕ} → (c < a + n * MOMENTS → d ≤ a) → Within c d w u → Rows a n m r w → Rows a n m r u
@@ -72,3 +85,63 @@ set-kept {a} {m} {c} {d} off f h = record { fits = h .fits; cell = λ j l. withi
         let t : m ≤ 64 * MOMENTS = h .fits in
         let g : d ≤ a = off (omega arith) in
         omega arith
+
+-- in a class set's own words, in its hops or in happens-before
+pub based-kept : {t : Table} {n c d : ℕ} {w u : List ℕ} → n ≤ ROWS → HOLD ≤ c → Within c d w u → Based t n w → Based t n u
+based-kept few l f b =
+    record {
+      mutuals = holds-kept (λ h. absurd (omega arith)) f (b .mutuals);
+      order = rows-kept (λ h. absurd (omega arith)) f (b .order);
+      joined = rows-kept (λ h. absurd (omega arith)) f (b .joined);
+      depends = rows-kept (λ h. absurd (omega arith)) f (b .depends);
+    }
+
+based-hops : {t : Table} {n : ℕ} {w u : List ℕ} → n ≤ ROWS → Within HOPS HOPS-END w u → Based t n w → Based t n u
+based-hops few f b =
+    record {
+      mutuals = holds-kept (λ h. absurd (omega arith)) f (b .mutuals);
+      order = rows-kept (λ h. absurd (omega arith)) f (b .order);
+      joined = rows-kept (λ h. omega arith) f (b .joined);
+      depends = rows-kept (λ h. omega arith) f (b .depends);
+    }
+
+based-happens : {t : Table} {n : ℕ} {w u : List ℕ} → n ≤ ROWS → Within HAPPENS HAPPENS-END w u → Based t n w → Based t n u
+based-happens few f b =
+    record {
+      mutuals = holds-kept (λ h. absurd (omega arith)) f (b .mutuals);
+      order = rows-kept (λ h. omega arith) f (b .order);
+      joined = rows-kept (λ h. omega arith) f (b .joined);
+      depends = rows-kept (λ h. omega arith) f (b .depends);
+    }
+
+ready-kept : {t : Table} {n s c d : ℕ} {w u : List ℕ} → d ≤ HOLD → Within c d w u → Ready t n s w → Ready t n s u
+ready-kept l f r =
+    record {
+      hold = set-kept (λ h. omega arith) f (r .hold);
+      release = set-kept (λ h. omega arith) f (r .release);
+      concern = set-kept (λ h. omega arith) f (r .concern);
+    }
+
+pub setup-hops : {bs : List ℕ} {t : Table} {n s : ℕ} {dep : Bool} {w u : List ℕ} → Within HOPS HOPS-END w u → Setup bs t n s dep w → Setup bs t n s dep u
+setup-hops f p =
+    record {
+      few = p .few;
+      room = omega (arith, p .room, f .len);
+      same = p .same;
+      row = p .row;
+      told = p .told;
+      based = based-hops (p .few) f (p .based);
+      ready = ready-kept (omega arith) f (p .ready);
+    }
+
+pub setup-happens : {bs : List ℕ} {t : Table} {n s : ℕ} {dep : Bool} {w u : List ℕ} → Within HAPPENS HAPPENS-END w u → Setup bs t n s dep w → Setup bs t n s dep u
+setup-happens f p =
+    record {
+      few = p .few;
+      room = omega (arith, p .room, f .len);
+      same = p .same;
+      row = p .row;
+      told = p .told;
+      based = based-happens (p .few) f (p .based);
+      ready = ready-kept (omega arith) f (p .ready);
+    }

@@ -3,3 +3,4 @@ pub mod Known
 pub mod Program
 pub mod Joined
 pub mod Classes
+pub mod Hops

@@ -1,6 +1,7 @@
 // M6 and M7: happens-before between the moments of a table, in words: sets of moments at a time.
 
 pub mod classes; // the sets of a class set
+pub mod hops; // the direct cases from hubs
 pub mod joined; // synchronizes-with and dependencies, from rows to moments
 pub mod program; // M1: program order
 

@@ -1,3 +1,10 @@
+use Rattle.quick_order.specs.Classes.{concerningAt, concern-turn, set-made}
+use Rattle.quick_order.specs.Regions.{CONCERN}
+use Rattle.bits.specs.Fill.{rowFill, rowFill-none, length-rowFill}
+use lib.ListN.{length}
+use native.Mathlib.Omega.{arith}
+use Prim.Native.Nat.{_-_, _*_, _≤_}
+use mathlib.Core.Path.{_≡_, refl, ap, _∙_}
 use borrow.Author.Needs.{needs}
 use Rattle.quick_order.proofs.classes.fill_concern.Statement.{statement}
 use Rattle.quick_order.proofs.classes.fill_concern.Tie as tie
@@ -7,10 +14,10 @@ use Rattle.bits.proofs.clear.Reads as clear-reads
 use Rattle.quick_order.proofs.classes.put_concern.Reads as put-concern-reads
 
 abbrev Inv-loop : tie.InvT-loop
-Inv-loop w₀ rows n s x₀ w x = ?
+Inv-loop w₀ rows n s x₀ w x = (x ≤ n) × (length w ≡ length w₀) × (w ≡ rowFill (concerningAt rows s) w₀ (CONCERN * 64) (3 * x))
 
 abbrev μ-loop : tie.MeasureT-loop
-μ-loop w₀ rows n s x₀ w x = ?
+μ-loop w₀ rows n s x₀ w x = n - x
 
 -- src/classes.rt:70:36
 add-clear : tie.Need-add-clear Inv-loop μ-loop
@@ -22,7 +29,7 @@ clear-requires c κs = search needs
 
 -- src/classes.rt:71:5
 loop-holds : tie.Need-loop-holds Inv-loop μ-loop
-loop-holds c = ?
+loop-holds c = (search needs, refl, rowFill-none _ _ _)
 
 -- src/classes.rt:72:9
 put-concern-requires : tie.Need-put-concern-requires Inv-loop μ-loop
@@ -38,7 +45,11 @@ loop-less c = search needs
 
 -- src/classes.rt:71:5
 loop-again : tie.Need-loop-again Inv-loop μ-loop
-loop-again c = ?
+loop-again c =
+    let at-loop = c .before .before .before .before .before in
+    let inv = at-loop .loop .inv in
+    let e = concern-turn _ _ _ _ _ _ (inv .2) (c .before .before .put-concern .ensures) in
+    (search needs, ap length e ∙ length-rowFill _ _ _ _, e)
 
 -- src/classes.rt:66:1
 same-length : tie.Need-same-length Inv-loop μ-loop
@@ -46,7 +57,11 @@ same-length c = search needs
 
 -- src/classes.rt:66:1
 returns : tie.Need-returns Inv-loop μ-loop
-returns c = ?
+returns c =
+    let at-loop = c .before in
+    let start = c .before .before .before .before .before .before .before .before in
+    let e : at-loop .loop .x ≡ start .args .n = omega arith in
+    set-made CONCERN _ _ (start .args .w .now) _ _ (search needs) (search needs) (at-loop .before .before .before .clear .ensures) (rw e at (at-loop .loop .inv .2))
 
 pub fill-concern-spec : {M : Type 1} → statement M
 fill-concern-spec =

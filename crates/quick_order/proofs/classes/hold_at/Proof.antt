@@ -1,3 +1,4 @@
+use Rattle.quick_order.specs.Classes.{holding-at}
 use borrow.Author.Needs.{needs}
 use Rattle.quick_order.proofs.classes.hold_at.Statement.{statement}
 use Rattle.quick_order.proofs.classes.hold_at.Tie as tie
@@ -20,7 +21,7 @@ holding-of-requires c κs = search needs
 
 -- src/classes.rt:12:1
 returns : tie.Need-returns
-returns c = ?
+returns c = holding-at _ _ _ _ _ (c .before .read-row .ensures) (c .holding-of .ensures)
 
 pub hold-at-spec : {M : Type 1} → statement M
 hold-at-spec = tie.close (tie.spec cast-read-row read-row-requires holding-of-requires returns)

@@ -1,3 +1,6 @@
+use Rattle.quick_order.specs.Classes.{joins-on, joins-off}
+use borrow.Author.Tests.{not-true, not-false}
+use mathlib.Core.Path.{sym, _∙_}
 use borrow.Author.Needs.{needs}
 use Rattle.quick_order.proofs.classes.joins_holder.Statement.{statement}
 use Rattle.quick_order.proofs.classes.joins_holder.Tie as tie
@@ -28,7 +31,7 @@ get-requires c κs = search needs
 
 -- src/classes.rt:82:9
 returns : tie.Need-returns
-returns c = ?
+returns c = joins-off _ _ (sym (c .before .get .ensures) ∙ not-true _ (c .if1 .taken))
 
 -- src/classes.rt:86:25
 mul-first-both : tie.Need-mul-first-both
@@ -48,7 +51,7 @@ mul-result c = search needs
 
 -- src/classes.rt:77:1
 returns-2 : tie.Need-returns-2
-returns-2 c = ?
+returns-2 c = joins-on _ _ _ (sym (c .before .before .get .ensures) ∙ not-false _ (c .before .if1 .left)) (c .first-both .ensures)
 
 pub joins-holder-spec : {M : Type 1} → statement M
 joins-holder-spec =

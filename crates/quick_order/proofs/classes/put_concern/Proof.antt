@@ -1,3 +1,4 @@
+use Rattle.quick_order.specs.Classes.{concern-made}
 use borrow.Author.Needs.{needs}
 use Rattle.quick_order.proofs.classes.put_concern.Statement.{statement}
 use Rattle.quick_order.proofs.classes.put_concern.Tie as tie
@@ -81,7 +82,12 @@ same-length c = search needs
 
 -- src/classes.rt:54:1
 returns : tie.Need-returns
-returns c = ?
+returns c =
+    let at-3 = c .before .before in
+    let at-2 = at-3 .before .before .before .before .before in
+    let at-1 = at-2 .before .before .before .before .before in
+    let row = at-1 .before .before .before .read-row .ensures in
+    concern-made _ _ _ _ _ _ _ _ _ _ _ row (at-1 .before .concerns-of .ensures) (at-1 .put-if .ensures) (at-2 .before .concerns-of2 .ensures) (at-2 .put-if2 .ensures) (at-3 .before .concerns-of3 .ensures) (at-3 .put-if3 .ensures)
 
 pub put-concern-spec : {M : Type 1} → statement M
 put-concern-spec =

@@ -1,3 +1,6 @@
+use Rattle.quick_order.specs.Classes.{releasing-at}
+use Rattle.finite.specs.Logic.{_and_}
+use mathlib.Core.Path.{_∙_}
 use borrow.Author.Needs.{needs}
 use Rattle.quick_order.proofs.classes.release_at.Statement.{statement}
 use Rattle.quick_order.proofs.classes.release_at.Tie as tie
@@ -25,7 +28,8 @@ releases-requires c κs = search needs
 
 -- src/classes.rt:21:1
 returns : tie.Need-returns
-returns c = ?
+unfolding _and_
+returns c = releasing-at _ _ _ _ _ _ (c .before .before .read-row .ensures) (c .before .holding-of .ensures) (c .releases .ensures)
 
 pub release-at-spec : {M : Type 1} → statement M
 release-at-spec =

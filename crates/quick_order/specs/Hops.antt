@@ -290,3 +290,7 @@ hops-turn bs t n s x dep h k q w v u p l m held on acq made =
     let e : (h || dep && k) ≡ (h or dep and k) = or-both h (dep && k) ∙ ap (λ (z : Bool). h or z) (and-both dep k) in
     hops-more bs t n s x dep h k q w v u p l m held on acq
     (made ∙ ap (λ (z : Bool). hopWords x h z (h && q) dep v) e ∙ ap (λ (z : Bool). hopWords x h (h or dep and k) z dep v) (and-both h q))
+
+pub hops-frame : (x : ℕ) (h k a d : Bool) (w v u : List ℕ) → x < ROWS → WORK ≤ length v → Within HOPS HOPS-END w v → u ≡ hopWords x h k a d v → Within HOPS HOPS-END w u
+hops-frame x h k a d w v u l room f made =
+    within-trans f (within-widen HOPS HOPS-END (omega arith) (omega arith) (hop-bits x h k a d v u l room made 0 (omega arith) .1))

@@ -3,9 +3,11 @@
 ghost use mathlib.Core.Path.{_≡_};
 ghost use Prim.Native.Nat.{ℕ, _+_, _*_, _≤_, _<_};
 ghost use lib.ListN.{length};
+ghost use Rattle.bits.specs.Within.{Within};
 ghost use Rattle.model.specs.Limits.{ROWS, WORK};
 ghost use Rattle.model.specs.Row.{acquires};
 ghost use Rattle.model.specs.Table.{Table, rowOf};
+ghost use Rattle.quick_order.specs.Regions.{HOPS, HOPS-END};
 ghost use Rattle.quick_order.specs.Known.{Setup};
 ghost use Rattle.quick_order.specs.Hops.{hopWords, HopsMade};
 
@@ -36,8 +38,8 @@ fn hop_row(w: &mut [u64], x: usize, h: bool, k: bool, a: bool, d: bool)
 // The hops of all rows, of the class set whose sets the work area holds; `dep` says that there are dependencies.
 pub fn fill_hops(w: &mut [u64], rows: &[u8], n: usize, dep: bool)
     requires { ⌜ (n ≤ ROWS) × (WORK ≤ length (now w)) ⌝ }
-    ensures { λ _. ⌜ ((t : Table) (s : ℕ) → Setup (now (rows .entry)) t n s dep (now (w .entry)) → HopsMade t dep s n n (now (w .entry)) (now (w .exit)))
-        × (length (now (w .exit)) ≡ length (now (w .entry))) ⌝ }
+    ensures { λ _. ⌜ Within HOPS HOPS-END (now (w .entry)) (now (w .exit))
+        × ((t : Table) (s : ℕ) → Setup (now (rows .entry)) t n s dep (now (w .entry)) → HopsMade t dep s n n (now (w .entry)) (now (w .exit))) ⌝ }
 {
     for x in 0..n {
         let h = bits::get(w, crate::HOLD * 64 + (3 * x + 1));

@@ -20,7 +20,7 @@ acquires-requires c κs = search needs
 
 -- src/hops.rt:13:1
 returns : tie.Need-returns
-returns c = ?
+returns c = cc
 
 pub acquires-at-spec : {M : Type 1} → statement M
 acquires-at-spec = tie.close (tie.spec cast-read-row read-row-requires acquires-requires returns)

@@ -1,3 +1,11 @@
+use Rattle.quick_order.specs.Hops.{HopsMade, hops-none, hops-turn, hops-frame}
+use Rattle.quick_order.specs.Known.{Setup}
+use Rattle.quick_order.specs.Regions.{HOPS, HOPS-END}
+use Rattle.model.specs.Table.{Table}
+use Rattle.bits.specs.Within.{Within, within-refl}
+use native.Mathlib.Omega.{arith}
+use Prim.Native.Nat.{ℕ, _-_, _≤_}
+use mathlib.Core.Path.{_≡_, refl, _∙_}
 use borrow.Author.Needs.{needs}
 use Rattle.quick_order.proofs.hops.fill_hops.Statement.{statement}
 use Rattle.quick_order.proofs.hops.fill_hops.Tie as tie
@@ -8,14 +16,14 @@ use Rattle.quick_order.proofs.hops.acquires_at.Reads as acquires-at-rea
 use Rattle.quick_order.proofs.hops.hop_row.Reads as hop-row-reads
 
 abbrev Inv-loop : tie.InvT-loop
-Inv-loop w₀ rows n dep x₀ w x = ?
+Inv-loop w₀ rows n dep x₀ w x = (x ≤ n) × Within HOPS HOPS-END w₀ w × ((t : Table) (s : ℕ) → Setup rows t n s dep w₀ → HopsMade t dep s n x w₀ w)
 
 abbrev μ-loop : tie.MeasureT-loop
-μ-loop w₀ rows n dep x₀ w x = ?
+μ-loop w₀ rows n dep x₀ w x = n - x
 
 -- src/hops.rt:42:5
 loop-holds : tie.Need-loop-holds Inv-loop μ-loop
-loop-holds c = ?
+loop-holds c = (search needs, within-refl _ _ _, λ t s p. hops-none t _ s _ _ (p .few))
 
 -- src/hops.rt:43:30
 mul-get : tie.Need-mul-get Inv-loop μ-loop
@@ -75,7 +83,14 @@ loop-less c = search needs
 
 -- src/hops.rt:42:5
 loop-again : tie.Need-loop-again Inv-loop μ-loop
-loop-again c = ?
+loop-again c =
+    let at-call = c .before .before in
+    let at-read = at-call .before .before in
+    let at-loop = at-read .before .before .before .before .before .before in
+    let inv = at-loop .loop .inv in
+    let len = inv .1 .len in
+    let made = at-call .hop-row .ensures in
+    (search needs, hops-frame _ _ _ _ _ _ _ _ (search needs) (omega (arith, len)) (inv .1) made, λ t s p. hops-turn _ t _ s _ _ _ _ _ _ _ _ p (search needs) (inv .2 t s p) (at-read .before .before .before .get .ensures) (at-read .before .get2 .ensures) (at-read .acquires-at .ensures) made)
 
 -- src/hops.rt:37:1
 same-length : tie.Need-same-length Inv-loop μ-loop
@@ -83,7 +98,10 @@ same-length c = search needs
 
 -- src/hops.rt:37:1
 returns : tie.Need-returns Inv-loop μ-loop
-returns c = ?
+returns c =
+    let e : c .before .loop .x ≡ c .before .before .before .before .args .n = omega arith in
+    let inv = c .before .loop .inv in
+    (inv .1, rw e at (inv .2))
 
 pub fill-hops-spec : {M : Type 1} → statement M
 fill-hops-spec =

@@ -1,3 +1,4 @@
+use Rattle.quick_order.specs.Hops.{hop-made}
 use borrow.Author.Needs.{needs}
 use Rattle.quick_order.proofs.hops.hop_row.Statement.{statement}
 use Rattle.quick_order.proofs.hops.hop_row.Tie as tie
@@ -76,7 +77,13 @@ same-length c = search needs
 
 -- src/hops.rt:21:1
 returns : tie.Need-returns
-returns c = ?
+returns c =
+    let at-4 = c .before .before in
+    let at-3 = at-4 .before .before .before .before in
+    let at-2 = at-3 .before .before .before .before in
+    let at-1 = at-2 .before .before .before .before in
+    let at-0 = at-1 .before .before .before .before in
+    hop-made _ _ _ _ _ _ _ _ _ _ _ (at-0 .clear .ensures) (at-1 .meet-if .ensures) (at-2 .meet-if2 .ensures) (at-3 .meet-if3 .ensures) (at-4 .meet-if4 .ensures)
 
 pub hop-row-spec : {M : Type 1} → statement M
 hop-row-spec =

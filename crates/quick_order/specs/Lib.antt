@@ -4,3 +4,4 @@ pub mod Program
 pub mod Joined
 pub mod Classes
 pub mod Hops
+pub mod Sources

@@ -3,6 +3,7 @@
 pub mod classes; // the sets of a class set
 pub mod hops; // the direct cases from hubs
 pub mod joined; // synchronizes-with and dependencies, from rows to moments
+pub mod sources; // from hops to happens-before
 pub mod program; // M1: program order
 
 // The map of the work area; specs/Regions.antt says the same.

@@ -15,11 +15,10 @@ use Rattle.bits.specs.Bit.{bit, setBitIf, zeros, length-zeros, bit-zeros-in}
 use Rattle.bits.specs.Within.{Within, within-trans, within-cleared}
 use Rattle.bits.specs.Fill.{rowFill, rowFill-in, rowFill-put, rowFill-skip, within-rowFill, or-fresh}
 use Rattle.bits.specs.Matrix.{rel}
-use Rattle.model.specs.declared.Mode.{Mode}
 use Rattle.model.specs.declared.Row.{Row}
 use Rattle.model.specs.Limits.{ROWS, WORK}
 use Rattle.model.specs.Row.{releases}
-use Rattle.model.specs.Table.{Table, rowOf, decode}
+use Rattle.model.specs.Table.{Table, rowOf}
 use Rattle.model.specs.Moment.{AT, rowIn, part, itself}
 use Rattle.model.specs.Synchronizes.{synchronizes}
 use Rattle.model.specs.Happens.{holdingOf, concernsOf, holding, concerns, bySync}
@@ -129,19 +128,18 @@ releasing-only bs s m h = holding-only bs s m (split h .0)
 
 -- ---- laws: the table's sets
 
-pub hold-is : (b : List ℕ) (p : List (List ℕ)) (mode : Mode) (n s : ℕ) {w : List ℕ} → Set HOLD (3 * n) (holdingAt b s) w → Set HOLD (3 * n) (holding (decode b p mode n) s) w
-unfolding holdingAt holding decode
-hold-is b p mode n s h = h
+module _ (bs : List ℕ) (t : Table) (n s : ℕ) (w : List ℕ) (row : (x : ℕ) → t .row x ≡ rowOf bs x) where
+  pub hold-is : Set HOLD (3 * n) (holdingAt bs s) w → Set HOLD (3 * n) (holding t s) w
+  unfolding holdingAt holding
+  hold-is h = record { fits = h .fits; cell = λ m l. h .cell m l ∙ ap (λ (r : Row). holdingOf s r (m % 3)) (sym (row (m / 3))) }
 
-pub release-is : (b : List ℕ) (p : List (List ℕ)) (mode : Mode) (n s : ℕ) {w : List ℕ} → Set RELEASE (3 * n) (releasingAt b s) w
-    → Set RELEASE (3 * n) (releaseAt (decode b p mode n) s) w
-unfolding holdingAt releasingAt holding releaseAt decode
-release-is b p mode n s h = h
+  pub release-is : Set RELEASE (3 * n) (releasingAt bs s) w → Set RELEASE (3 * n) (releaseAt t s) w
+  unfolding holdingAt releasingAt holding releaseAt
+  release-is h = record { fits = h .fits; cell = λ m l. h .cell m l ∙ ap (λ (r : Row). holdingOf s r (m % 3) and releases r) (sym (row (m / 3))) }
 
-pub concern-is : (b : List ℕ) (p : List (List ℕ)) (mode : Mode) (n s : ℕ) {w : List ℕ} → Set CONCERN (3 * n) (concerningAt b s) w
-    → Set CONCERN (3 * n) (concerns (decode b p mode n) s) w
-unfolding concerningAt concerns decode
-concern-is b p mode n s h = h
+  pub concern-is : Set CONCERN (3 * n) (concerningAt bs s) w → Set CONCERN (3 * n) (concerns t s) w
+  unfolding concerningAt concerns
+  concern-is h = record { fits = h .fits; cell = λ m l. h .cell m l ∙ ap (λ (r : Row). concernsOf s r (m % 3)) (sym (row (m / 3))) }
 
 -- ---- laws: no two of its rows synchronize
 

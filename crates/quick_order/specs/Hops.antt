@@ -144,11 +144,12 @@ module _ (x : ℕ) (h k a d : Bool) (w u : List ℕ) (l : x < ROWS) (room : WORK
       let b₁ = meet-bit x (JOINED + x * MOMENTS) HOLD j h w v₀ v₁ l room o (λ z. omega arith) (λ z. omega arith) f₀ refl in
       let b₂ = meet-bit x (ORDER + (3 * x + 1) * MOMENTS) RELEASE j k w v₁ v₂ l room o (λ z. absurd (omega arith)) (λ z. omega arith) f₁ refl in
       let b₃ = meet-bit x (ORDER + (3 * x + 1) * MOMENTS) CONCERN j a w v₂ v₃ l room o (λ z. absurd (omega arith)) (λ z. omega arith) f₂ refl in
-      let b₄ = meet-bit x (DEPENDS + x * MOMENTS) (DEPENDS + x * MOMENTS) j d w v₃ u l room o (λ z. omega arith) (λ z. omega arith) f₃ made in
-      (b₄ ∙ ap (λ (z : Bool). z or (d and both w (DEPENDS + x * MOMENTS) (DEPENDS + x * MOMENTS) j))
-      (b₃ ∙ ap (λ (z : Bool). z or (a and both w (ORDER + (3 * x + 1) * MOMENTS) CONCERN j))
-      (b₂ ∙ ap (λ (z : Bool). z or (k and both w (ORDER + (3 * x + 1) * MOMENTS) RELEASE j)) (b₁ ∙ fresh j o _))),
-      subst (λ (z : List ℕ). Within (HOPS + x * MOMENTS) (HOPS + x * MOMENTS + MOMENTS) w z) (sym made) f₄)
+      let b₄ = meet-bit x (DEPENDS + x * MOMENTS) (DEPENDS + x * MOMENTS) j d w v₃ u l room o (λ z. omega arith) (λ z. omega arith) f₃ made in (
+        b₄ ∙ ap (λ (z : Bool). z or (d and both w (DEPENDS + x * MOMENTS) (DEPENDS + x * MOMENTS) j))
+            (b₃ ∙ ap (λ (z : Bool). z or (a and both w (ORDER + (3 * x + 1) * MOMENTS) CONCERN j))
+            (b₂ ∙ ap (λ (z : Bool). z or (k and both w (ORDER + (3 * x + 1) * MOMENTS) RELEASE j)) (b₁ ∙ fresh j o _))),
+        subst (λ (z : List ℕ). Within (HOPS + x * MOMENTS) (HOPS + x * MOMENTS + MOMENTS) w z) (sym made) f₄,
+      )
     where
       fresh : (j : ℕ) → j < 64 * MOMENTS → (b : Bool) → (rel (zeros w (HOPS + x * MOMENTS) MOMENTS) HOPS MOMENTS x j or b) ≡ b
       fresh j o b = or-fresh _ b (zero-bit w x j room l o)

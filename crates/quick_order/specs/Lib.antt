@@ -5,3 +5,4 @@ pub mod Joined
 pub mod Classes
 pub mod Hops
 pub mod Sources
+pub mod Whole

@@ -57,9 +57,21 @@ fn put_concern(w: &mut [u64], rows: &[u8], s: u8, x: usize)
 {
     let r = rows::bytes::read_row(rows, x as u16);
     let at = crate::CONCERN * 64;
-    bits::put_if(w, at + 3 * x, order::steps::concerns_of(s, r, moments::BEFORE));
-    bits::put_if(w, at + (3 * x + 1), order::steps::concerns_of(s, r, moments::AT));
-    bits::put_if(w, at + (3 * x + 2), order::steps::concerns_of(s, r, moments::AFTER));
+    bits::put_if(
+        w,
+        at + 3 * x,
+        order::steps::concerns_of(s, r, moments::BEFORE),
+    );
+    bits::put_if(
+        w,
+        at + (3 * x + 1),
+        order::steps::concerns_of(s, r, moments::AT),
+    );
+    bits::put_if(
+        w,
+        at + (3 * x + 2),
+        order::steps::concerns_of(s, r, moments::AFTER),
+    );
 }
 
 // M6: the moments that concern s.
@@ -86,7 +98,8 @@ fn joins_holder(w: &[u64], x: usize) -> bool
         crate::JOINED + x * area::MOMENTS,
         crate::HOLD,
         area::MOMENTS,
-    ) < 64 * area::MOMENTS
+    )
+        < 64 * area::MOMENTS
 }
 
 // Whether some row does.

@@ -15,11 +15,7 @@ fn spread_bits(w: &mut [u64], n: usize, x: usize)
 {
     for y in 0..n {
         let b = bits::get(w, (area::SYNC + x * area::GRID) * 64 + y);
-        bits::put_if(
-            w,
-            (crate::JOINED + x * area::MOMENTS) * 64 + (3 * y + 1),
-            b,
-        );
+        bits::put_if(w, (crate::JOINED + x * area::MOMENTS) * 64 + (3 * y + 1), b);
     }
 }
 
@@ -60,10 +56,7 @@ fn put_dependency(w: &mut [u64], mode: Mode, n: usize, c: u16)
     if n <= y {
         return;
     }
-    bits::put(
-        w,
-        (crate::DEPENDS + x * area::MOMENTS) * 64 + (3 * y + 1),
-    );
+    bits::put(w, (crate::DEPENDS + x * area::MOMENTS) * 64 + (3 * y + 1));
 }
 
 // The own moments of the rows that each row system-synchronizes-with.

@@ -16,12 +16,7 @@ fn pass_moment(w: &mut [u64], a: u8, m: usize, b: bool)
 {
     if b {
         let passed = crate::AGENTS + (a as usize) * area::MOMENTS;
-        bits::join_row(
-            w,
-            crate::ORDER + m * area::MOMENTS,
-            passed,
-            area::MOMENTS,
-        );
+        bits::join_row(w, crate::ORDER + m * area::MOMENTS, passed, area::MOMENTS);
         bits::put(w, passed * 64 + m);
     }
 }

@@ -25,8 +25,8 @@ use Rattle.sets.specs.Meet.{meetIf, both, within-meetIf, bit-meetIf}
 use Rattle.sets.specs.Own.{ClosedOwn}
 use Rattle.hubs.specs.Hubs.{throughOwn, own-cong}
 use Rattle.hubs.specs.Rows.{hubRow, hopRow, releaseAt, holding-own, holding-concerns}
-use Rattle.quick_order.specs.Regions.{ORDER, HOPS, HOPS-END, JOINED, DEPENDS, HOLD, RELEASE, CONCERN}
-use Rattle.quick_order.specs.Known.{Rows, Set, syncsTo, dependsTo, Based, Ready, Setup, setup-hops}
+use Rattle.moment_sets.specs.Regions.{ORDER, HOPS, HOPS-END, JOINED, DEPENDS, HOLD, RELEASE, CONCERN}
+use Rattle.moment_sets.specs.Known.{Rows, Set, syncsTo, dependsTo, Based, Ready, Setup, setup-hops}
 
 -- ---- definitions
 

@@ -1,8 +1,3 @@
-pub mod Regions
-pub mod Known
-pub mod Program
-pub mod Joined
-pub mod Classes
 pub mod Hops
 pub mod Sources
 pub mod Whole

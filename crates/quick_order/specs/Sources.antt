@@ -23,8 +23,8 @@ use Rattle.area.specs.Regions.{HAPPENS, HAPPENS-END, MOMENTS}
 use Rattle.sets.specs.Meet.{both}
 use Rattle.hubs.specs.Hubs.{throughOwn}
 use Rattle.hubs.specs.Rows.{hubRow, hubMoment, hopRow, releaseAt, behind, order-ends, inter-hub, inter-none, inter-first}
-use Rattle.quick_order.specs.Regions.{ORDER, HOPS, HOLD, RELEASE, CONCERN}
-use Rattle.quick_order.specs.Known.{Rows, Setup, rows-kept, setup-happens}
+use Rattle.moment_sets.specs.Regions.{ORDER, HOPS, HOLD, RELEASE, CONCERN}
+use Rattle.moment_sets.specs.Known.{Rows, Setup, rows-kept, setup-happens}
 
 -- ---- definitions
 

@@ -26,11 +26,11 @@ use Rattle.sequence.specs.Known.{Synced, MadeSynced, synced-kept}
 use Rattle.order.specs.Sets.{interBy, upTo, upTo-none, upTo-more, upTo-all}
 use Rattle.sets.specs.Own.{ClosedOwn}
 use Rattle.hubs.specs.Quiet.{inter-order}
-use Rattle.quick_order.specs.Regions.{HOPS, HOPS-END, HOLD, RELEASE, CONCERN, CONCERN-END, AGENTS-END}
-use Rattle.quick_order.specs.Known.{Rows, Set, Based, Ready, Setup, rows-kept, set-kept, based-kept, setup-hops, setup-happens}
-use Rattle.quick_order.specs.Program.{Begun, decode-rows}
-use Rattle.quick_order.specs.Joined.{MadeJoined, MadeDepends, joined-is, depends-is}
-use Rattle.quick_order.specs.Classes.{holdingAt, releasingAt, concerningAt, MadeSet, joinsHolder, hold-is, release-is, concern-is, quiet-is}
+use Rattle.moment_sets.specs.Regions.{HOPS, HOPS-END, HOLD, RELEASE, CONCERN, CONCERN-END, AGENTS-END}
+use Rattle.moment_sets.specs.Known.{Rows, Set, Based, Ready, Setup, rows-kept, set-kept, based-kept, setup-hops, setup-happens}
+use Rattle.moment_sets.specs.Program.{Begun, decode-rows}
+use Rattle.moment_sets.specs.Joined.{MadeJoined, MadeDepends, joined-is, depends-is}
+use Rattle.moment_sets.specs.Classes.{holdingAt, releasingAt, concerningAt, MadeSet, joinsHolder, hold-is, release-is, concern-is, quiet-is}
 use Rattle.quick_order.specs.Hops.{HopsMade, hops-closed}
 use Rattle.quick_order.specs.Sources.{Closed}
 

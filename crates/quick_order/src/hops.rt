@@ -7,8 +7,8 @@ ghost use Rattle.bits.specs.Within.{Within};
 ghost use Rattle.model.specs.Limits.{ROWS, WORK};
 ghost use Rattle.model.specs.Row.{acquires};
 ghost use Rattle.model.specs.Table.{Table, rowOf};
-ghost use Rattle.quick_order.specs.Regions.{HOPS, HOPS-END};
-ghost use Rattle.quick_order.specs.Known.{Setup};
+ghost use Rattle.moment_sets.specs.Regions.{HOPS, HOPS-END};
+ghost use Rattle.moment_sets.specs.Known.{Setup};
 ghost use Rattle.quick_order.specs.Hops.{hopWords, HopsMade};
 
 // Whether row x acquires.
@@ -24,14 +24,14 @@ fn hop_row(w: &mut [u64], x: usize, h: bool, k: bool, a: bool, d: bool)
     requires { ⌜ (x < ROWS) × (WORK ≤ length (now w)) ⌝ }
     ensures { λ _. ⌜ now (w .exit) ≡ hopWords x h k a d (now (w .entry)) ⌝ }
 {
-    let hops = crate::HOPS + x * area::MOMENTS;
-    let order = crate::ORDER + (3 * x + 1) * area::MOMENTS;
-    let joined = crate::JOINED + x * area::MOMENTS;
-    let depends = crate::DEPENDS + x * area::MOMENTS;
+    let hops = moment_sets::HOPS + x * area::MOMENTS;
+    let order = moment_sets::ORDER + (3 * x + 1) * area::MOMENTS;
+    let joined = moment_sets::JOINED + x * area::MOMENTS;
+    let depends = moment_sets::DEPENDS + x * area::MOMENTS;
     bits::clear(w, hops, hops + area::MOMENTS);
-    sets::meet_if(w, h, hops, joined, crate::HOLD, area::MOMENTS);
-    sets::meet_if(w, k, hops, order, crate::RELEASE, area::MOMENTS);
-    sets::meet_if(w, a, hops, order, crate::CONCERN, area::MOMENTS);
+    sets::meet_if(w, h, hops, joined, moment_sets::HOLD, area::MOMENTS);
+    sets::meet_if(w, k, hops, order, moment_sets::RELEASE, area::MOMENTS);
+    sets::meet_if(w, a, hops, order, moment_sets::CONCERN, area::MOMENTS);
     sets::meet_if(w, d, hops, depends, depends, area::MOMENTS);
 }
 
@@ -42,8 +42,8 @@ pub fn fill_hops(w: &mut [u64], rows: &[u8], n: usize, dep: bool)
         × ((t : Table) (s : ℕ) → Setup (now (rows .entry)) t n s dep (now (w .entry)) → HopsMade t dep s n n (now (w .entry)) (now (w .exit))) ⌝ }
 {
     for x in 0..n {
-        let h = bits::get(w, crate::HOLD * 64 + (3 * x + 1));
-        let k = bits::get(w, crate::CONCERN * 64 + (3 * x + 1));
+        let h = bits::get(w, moment_sets::HOLD * 64 + (3 * x + 1));
+        let k = bits::get(w, moment_sets::CONCERN * 64 + (3 * x + 1));
         let q = acquires_at(rows, x);
         hop_row(w, x, h, h | dep & k, h & q, dep);
     }

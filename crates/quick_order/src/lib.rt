@@ -11,49 +11,13 @@ ghost use Rattle.model.specs.Limits.{ROWS, WORK, CLASS-SETS};
 ghost use Rattle.model.specs.Table.{Table, decode};
 ghost use Rattle.area.specs.Regions.{MUTUAL, HAPPENS, LOCATED-END};
 ghost use Rattle.area.specs.State.{Ordered};
-ghost use Rattle.quick_order.specs.Regions.{CONCERN-END};
+ghost use Rattle.moment_sets.specs.Regions.{CONCERN-END};
 ghost use Rattle.quick_order.specs.Whole.{Started, Held, Grown, Reached};
 use model::Mode;
 use model::Places;
 
-pub mod classes; // the sets of a class set
 pub mod hops; // the direct cases from hubs
-pub mod joined; // synchronizes-with and dependencies, from rows to moments
 pub mod sources; // from hops to happens-before
-pub mod program; // M1: program order
-
-// The map of the work area; specs/Regions.antt says the same.
-const SETS: usize = 768;
-
-const NUMBERS: usize = 256;
-
-pub const ORDER: usize = area::HAPPENS_END;
-
-pub const ORDER_END: usize = ORDER + 2304;
-
-pub const HOPS: usize = ORDER_END;
-
-pub const HOPS_END: usize = HOPS + SETS;
-
-pub const JOINED: usize = HOPS_END;
-
-pub const JOINED_END: usize = JOINED + SETS;
-
-pub const DEPENDS: usize = JOINED_END;
-
-pub const DEPENDS_END: usize = DEPENDS + SETS;
-
-pub const HOLD: usize = DEPENDS_END;
-
-pub const RELEASE: usize = HOLD + area::MOMENTS;
-
-pub const CONCERN: usize = RELEASE + area::MOMENTS;
-
-pub const CONCERN_END: usize = CONCERN + area::MOMENTS;
-
-pub const AGENTS: usize = HOPS;
-
-pub const AGENTS_END: usize = AGENTS + NUMBERS * area::MOMENTS;
 
 // ---- a class set
 
@@ -63,10 +27,10 @@ fn close_set(w: &mut [u64], rows: &[u8], n: usize, s: u8, dep: bool)
     ensures { λ _. ⌜ Within HAPPENS CONCERN-END (now (w .entry)) (now (w .exit))
         × ((t : Table) → Held (now (rows .entry)) t n s dep (now (w .entry)) → Grown t n s (now (w .entry)) (now (w .exit))) ⌝ }
 {
-    classes::fill_release(w, rows, n, s);
-    classes::fill_concern(w, rows, n, s);
+    moment_sets::classes::fill_release(w, rows, n, s);
+    moment_sets::classes::fill_concern(w, rows, n, s);
     hops::fill_hops(w, rows, n, dep);
-    sets::close_own(w, HOPS, n);
+    sets::close_own(w, moment_sets::HOPS, n);
     sources::add_sources(w, n, dep);
 }
 
@@ -80,12 +44,12 @@ fn add_set(w: &mut [u64], rows: &[u8], n: usize, s: u8, dep: bool)
     if !order::is_live(rows, n, s + 1) {
         return;
     }
-    classes::fill_hold(w, rows, n, s + 1);
+    moment_sets::classes::fill_hold(w, rows, n, s + 1);
     if dep {
         close_set(w, rows, n, s + 1, dep);
         return;
     }
-    if classes::some_joins(w, n) {
+    if moment_sets::classes::some_joins(w, n) {
         close_set(w, rows, n, s + 1, dep);
     }
 }
@@ -98,9 +62,9 @@ fn start(rows: &[u8], p: Places, mode: Mode, n: usize, w: &mut [u64])
     ensures { λ _. ⌜ Started (decode (now (rows .entry)) p mode n) n (now (w .entry)) (now (w .exit)) ⌝ }
 {
     sequence::sync::make_synced(rows, p, mode, n, w);
-    program::fill_order(rows, n, w);
-    joined::fill_joined(w, n);
-    joined::fill_depends(w, mode, n);
+    moment_sets::program::fill_order(rows, n, w);
+    moment_sets::joined::fill_joined(w, n);
+    moment_sets::joined::fill_depends(w, mode, n);
 }
 
 // M7: happens-before: program order, or inter-thread order for some class set. Also mutually-ordered rows (M3), which later

@@ -10,7 +10,7 @@ ghost use Rattle.model.specs.Limits.{ROWS, WORK};
 ghost use Rattle.model.specs.Table.{Table};
 ghost use Rattle.model.specs.Happens.{interThread};
 ghost use Rattle.area.specs.Regions.{HAPPENS, HAPPENS-END, MOMENTS};
-ghost use Rattle.quick_order.specs.Known.{Setup};
+ghost use Rattle.moment_sets.specs.Known.{Setup};
 ghost use Rattle.quick_order.specs.Sources.{hubBit, Source, Sourced, Closed};
 
 // No moment's number.
@@ -21,7 +21,7 @@ fn is_hub(w: &[u64], m: usize, dep: bool) -> bool
     requires { ⌜ (m < 3 * ROWS) × (WORK ≤ length (now w)) ⌝ }
     ensures { λ h. ⌜ h ≡ hubBit (now (w .entry)) dep m ⌝ }
 {
-    let b = bits::get(w, crate::HOLD * 64 + m);
+    let b = bits::get(w, moment_sets::HOLD * 64 + m);
     (m % 3 == 1) & (b | dep)
 }
 
@@ -33,13 +33,13 @@ fn source_of(w: &[u64], m: usize, h: bool) -> usize
     if h {
         return m;
     }
-    if !bits::get(w, crate::CONCERN * 64 + m) {
+    if !bits::get(w, moment_sets::CONCERN * 64 + m) {
         return NONE;
     }
     sets::first_both(
         w,
-        crate::ORDER + m * area::MOMENTS,
-        crate::RELEASE,
+        moment_sets::ORDER + m * area::MOMENTS,
+        moment_sets::RELEASE,
         area::MOMENTS,
     )
 }
@@ -55,7 +55,7 @@ fn add_source(w: &mut [u64], m: usize, dep: bool)
         bits::join_row(
             w,
             area::HAPPENS + m * area::MOMENTS,
-            crate::HOPS + j / 3 * area::MOMENTS,
+            moment_sets::HOPS + j / 3 * area::MOMENTS,
             area::MOMENTS,
         );
         bits::put_if(w, (area::HAPPENS + m * area::MOMENTS) * 64 + j, !h);

@@ -1,5 +1,5 @@
 use Rattle.quick_order.specs.Whole.{reached-off, held-made, reached-quiet, reached-grown}
-use Rattle.quick_order.specs.Regions.{CONCERN-END}
+use Rattle.moment_sets.specs.Regions.{CONCERN-END}
 use Rattle.area.specs.Regions.{HAPPENS}
 use native.Mathlib.Omega.{arith}
 use Rattle.bits.specs.Within.{within-refl, within-trans, within-widen}
@@ -11,8 +11,8 @@ use Rattle.quick_order.proofs.add_set.Tie as tie
 use Rattle.quick_order.proofs.add_set.Reads as reads
 use Rattle.quick_order.proofs.add_set.Lts as lts
 use Rattle.order.proofs.is_live.Reads as is-live-reads
-use Rattle.quick_order.proofs.classes.fill_hold.Reads as fill-hold-reads
-use Rattle.quick_order.proofs.classes.some_joins.Reads as some-joins-reads
+use Rattle.moment_sets.proofs.classes.fill_hold.Reads as fill-hold-reads
+use Rattle.moment_sets.proofs.classes.some_joins.Reads as some-joins-reads
 use Rattle.quick_order.proofs.close_set.Reads as close-set-reads
 
 -- src/lib.rt:80:33

@@ -4,8 +4,8 @@ use Rattle.quick_order.proofs.close_set.Statement.{statement}
 use Rattle.quick_order.proofs.close_set.Tie as tie
 use Rattle.quick_order.proofs.close_set.Reads as reads
 use Rattle.quick_order.proofs.close_set.Lts as lts
-use Rattle.quick_order.proofs.classes.fill_concern.Reads as fill-concern-reads
-use Rattle.quick_order.proofs.classes.fill_release.Reads as fill-release-reads
+use Rattle.moment_sets.proofs.classes.fill_concern.Reads as fill-concern-reads
+use Rattle.moment_sets.proofs.classes.fill_release.Reads as fill-release-reads
 use Rattle.quick_order.proofs.hops.fill_hops.Reads as fill-hops-reads
 use Rattle.quick_order.proofs.sources.add_sources.Reads as add-sources-reads
 use Rattle.sets.proofs.close_own.Reads as close-own-reads

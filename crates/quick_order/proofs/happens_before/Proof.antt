@@ -1,5 +1,5 @@
 use Rattle.quick_order.specs.Whole.{Reached, reached-start, ordered-made}
-use Rattle.quick_order.specs.Regions.{CONCERN-END}
+use Rattle.moment_sets.specs.Regions.{CONCERN-END}
 use Rattle.area.specs.Regions.{MUTUAL, HAPPENS, LOCATED-END}
 use Rattle.model.specs.Table.{decode}
 use Rattle.model.specs.Limits.{CLASS-SETS}

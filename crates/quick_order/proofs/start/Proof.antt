@@ -4,9 +4,9 @@ use Rattle.quick_order.proofs.start.Statement.{statement}
 use Rattle.quick_order.proofs.start.Tie as tie
 use Rattle.quick_order.proofs.start.Reads as reads
 use Rattle.quick_order.proofs.start.Lts as lts
-use Rattle.quick_order.proofs.joined.fill_depends.Reads as fill-depends-reads
-use Rattle.quick_order.proofs.joined.fill_joined.Reads as fill-joined-reads
-use Rattle.quick_order.proofs.program.fill_order.Reads as fill-order-reads
+use Rattle.moment_sets.proofs.joined.fill_depends.Reads as fill-depends-reads
+use Rattle.moment_sets.proofs.joined.fill_joined.Reads as fill-joined-reads
+use Rattle.moment_sets.proofs.program.fill_order.Reads as fill-order-reads
 use Rattle.sequence.proofs.sync.make_synced.Reads as make-synced-reads
 
 -- src/lib.rt:100:5

@@ -1,6 +1,6 @@
 use Rattle.quick_order.specs.Hops.{HopsMade, hops-none, hops-turn, hops-frame}
-use Rattle.quick_order.specs.Known.{Setup}
-use Rattle.quick_order.specs.Regions.{HOPS, HOPS-END}
+use Rattle.moment_sets.specs.Known.{Setup}
+use Rattle.moment_sets.specs.Regions.{HOPS, HOPS-END}
 use Rattle.model.specs.Table.{Table}
 use Rattle.bits.specs.Within.{Within, within-refl}
 use native.Mathlib.Omega.{arith}

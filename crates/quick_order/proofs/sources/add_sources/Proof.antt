@@ -1,5 +1,5 @@
 use Rattle.quick_order.specs.Sources.{Closed, SourcesAdded, sources-none, sources-more, sources-frame, sources-all}
-use Rattle.quick_order.specs.Known.{Setup}
+use Rattle.moment_sets.specs.Known.{Setup}
 use Rattle.area.specs.Regions.{HAPPENS, HAPPENS-END}
 use Rattle.model.specs.Table.{Table}
 use Rattle.bits.specs.Within.{Within, within-refl}

@@ -1,0 +1,181 @@
+-- The transitive closure by way of hubs: where every inner number of a path that is no hub can be left out, the closure can be
+-- taken over the hubs alone, which are numbered apart. For any relation, any hubs and any bounds. Assumes nothing.
+use mathlib.Core.Path.{_≡_, refl, sym, ap, subst, _∙_}
+use mathlib.Core.Bool.{Bool, true, false}
+use mathlib.Core.Logic.{_⊎_, inl, inr, ⊎-elim, _↔_}
+use Prim.Native.Nat.{ℕ, zero, suc, _+_, _≤_, _<_}
+use native.Mathlib.Omega.{arith}
+use lib.Dec.{eqb}
+use borrow.Author.Tests.{eqb-true, eq-eqb}
+use Rattle.finite.specs.Logic.{_and_, _or_, which, bool-ext, not-both, split, and-true, and-false-left, or-cases, or-left, or-right}
+use Rattle.finite.specs.Below.{anyBelow, any-in, any-out}
+use Rattle.finite.specs.Closure.{Reach, one, more, through, through-reach, reach-trans}
+
+-- ---- definitions
+
+-- Of a relation r on numbers below bound: n numbers x that may be hubs, each of which stands at number `at x` of r; a number that a
+-- path goes by can be left out, or is a hub's.
+pub record Hubs (r : ℕ → ℕ → Bool) (bound : ℕ) (hub : ℕ → Bool) (at : ℕ → ℕ) (n : ℕ) : Type 0 where
+  pub inside : (x : ℕ) → x < n → at x < bound
+  pub skip : (i m j : ℕ) → m < bound → r i m ≡ true → r m j ≡ true
+      → (r i j ≡ true) ⊎ ((x : ℕ) × (x < n) × (hub x ≡ true) × (at x ≡ m))
+
+-- a direct step from the hub x to number `at c`, c a hub or any other number that `at` gives a place
+unfoldable pub hop : (ℕ → ℕ → Bool) → (ℕ → Bool) → (ℕ → ℕ) → ℕ → ℕ → Bool
+hop r hub at x c = hub x and r (at x) (at c)
+
+-- Warshall's recursion for a relation that leads from n rows to other numbers, where row k stands at number `own k`: by way of rows
+-- below k. Its columns are those other numbers, so that a row of bits need not be numbered anew
+unfoldable pub throughOwn : (ℕ → ℕ → Bool) → (ℕ → ℕ) → ℕ → ℕ → ℕ → Bool
+throughOwn r own zero x m = r x m
+throughOwn r own (suc k) x m = throughOwn r own k x m or (throughOwn r own k x (own k) and throughOwn r own k k m)
+
+-- by way of the hub x, in one step to it and one or more from it
+unfoldable pub byHub : (ℕ → ℕ → Bool) → (ℕ → Bool) → (ℕ → ℕ) → ℕ → ℕ → ℕ → ℕ → Bool
+byHub r hub at n i c x = hub x and r i (at x) and through (hop r hub at) n x c
+
+-- ---- laws
+
+module _ (r : ℕ → ℕ → Bool) (bound : ℕ) (hub : ℕ → Bool) (at : ℕ → ℕ) (n : ℕ) (h : Hubs r bound hub at n) where
+  hops : ℕ → ℕ → Bool
+  hops = hop r hub at
+
+  hop-in : (x c : ℕ) → hub x ≡ true → r (at x) (at c) ≡ true → hop r hub at x c ≡ true
+  unfolding hop
+  hop-in x c e f = and-true e f
+
+  hop-out : (x c : ℕ) → hop r hub at x c ≡ true → (hub x ≡ true) × (r (at x) (at c) ≡ true)
+  unfolding hop
+  hop-out x c e = split e
+
+  -- paths of hops are paths
+  hops-reach : {x c : ℕ} → Reach (hop r hub at) n x c → Reach r bound (at x) (at c)
+  hops-reach {x} {c} (one e) = one (hop-out x c e .1)
+  hops-reach {x} {c} (more {m = y} e l q) = more (hop-out x y e .1) (h .inside y l) (hops-reach q)
+
+  hops-hub : {x c : ℕ} → Reach (hop r hub at) n x c → hub x ≡ true
+  hops-hub {x} {c} (one e) = hop-out x c e .0
+  hops-hub {x} {c} (more {m = y} e l q) = hop-out x y e .0
+
+  -- a path from a hub, by way of m first, is one of hops
+  reach-hops : (x m c : ℕ) → hub x ≡ true → m < bound → r (at x) m ≡ true → Reach r bound m (at c) → Reach (hop r hub at) n x c
+  reach-hops x m c e l f (one g) = go (h .skip (at x) m (at c) l f g)
+    where
+      go : (r (at x) (at c) ≡ true) ⊎ ((y : ℕ) × (y < n) × (hub y ≡ true) × (at y ≡ m)) → Reach (hop r hub at) n x c
+      go (inl d) = one (hop-in x c e d)
+      go (inr (y, k, u, v)) = more (hop-in x y e (rw v f)) k (one (hop-in y c u (rw v g)))
+  reach-hops x m c e l f (more {m = a} g k q) = go (h .skip (at x) m a l f g) (λ d. reach-hops x a c e k d q) (λ y u d. reach-hops y a c u k d q)
+    where
+      go : (r (at x) a ≡ true) ⊎ ((y : ℕ) × (y < n) × (hub y ≡ true) × (at y ≡ m)) → (r (at x) a ≡ true → Reach (hop r hub at) n x c)
+          → ((y : ℕ) → hub y ≡ true → r (at y) a ≡ true → Reach (hop r hub at) n y c) → Reach (hop r hub at) n x c
+      go (inl d) s t = s d
+      go (inr (y, k, u, v)) s t = more (hop-in x y e (rw v f)) k (t y u (rw v g))
+
+  from-hub : (x c : ℕ) → hub x ≡ true → Reach r bound (at x) (at c) → Reach (hop r hub at) n x c
+  from-hub x c e (one f) = one (hop-in x c e f)
+  from-hub x c e (more {m = m} f l q) = reach-hops x m c e l f q
+
+  -- THE HUB FACT: from a hub, the closure of the relation is the closure of the hops
+  pub through-hops : (x c : ℕ) → through (hop r hub at) n x c ≡ (hub x and through r bound (at x) (at c))
+  through-hops x c =
+      bool-ext _ _
+      (λ e. let q = through-reach (hop r hub at) n x c .0 e in and-true (hops-hub q) (through-reach r bound (at x) (at c) .1 (hops-reach q)))
+      (λ e. let s = split e in through-reach (hop r hub at) n x c .1 (from-hub x c (s .0) (through-reach r bound (at x) (at c) .0 (s .1))))
+
+  -- ---- from any number
+
+  by-hub : (i c x : ℕ) → hub x ≡ true → r i (at x) ≡ true → Reach (hop r hub at) n x c → byHub r hub at n i c x ≡ true
+  unfolding byHub
+  by-hub i c x e f q = and-true (and-true e f) (through-reach (hop r hub at) n x c .1 q)
+
+  hub-by : (i c x : ℕ) → byHub r hub at n i c x ≡ true → (r i (at x) ≡ true) × Reach (hop r hub at) n x c
+  unfolding byHub
+  hub-by i c x e = let s = split e in (split (s .0) .1, through-reach (hop r hub at) n x c .0 (s .1))
+
+  reach-by : (i m c : ℕ) → m < bound → r i m ≡ true → Reach r bound m (at c) → (r i (at c) ≡ true) ⊎ ((x : ℕ) × (x < n) × (byHub r hub at n i c x ≡ true))
+  reach-by i m c l f (one g) = go (h .skip i m (at c) l f g)
+    where
+      go : (r i (at c) ≡ true) ⊎ ((y : ℕ) × (y < n) × (hub y ≡ true) × (at y ≡ m)) → (r i (at c) ≡ true) ⊎ ((x : ℕ) × (x < n) × (byHub r hub at n i c x ≡ true))
+      go (inl d) = inl d
+      go (inr (y, k, u, v)) = inr (y, k, by-hub i c y u (rw v f) (one (hop-in y c u (rw v g))))
+  reach-by i m c l f (more {m = a} g k q) = go (h .skip i m a l f g) (λ d. reach-by i a c k d q)
+    where
+      go : (r i a ≡ true) ⊎ ((y : ℕ) × (y < n) × (hub y ≡ true) × (at y ≡ m))
+          → (r i a ≡ true → (r i (at c) ≡ true) ⊎ ((x : ℕ) × (x < n) × (byHub r hub at n i c x ≡ true)))
+          → (r i (at c) ≡ true) ⊎ ((x : ℕ) × (x < n) × (byHub r hub at n i c x ≡ true))
+      go (inl d) s = s d
+      go (inr (y, o, u, v)) s = inr (y, o, by-hub i c y u (rw v f) (reach-hops y a c u k (rw v g) q))
+
+  any-reach : (i c : ℕ) → Reach r bound i (at c) → (r i (at c) ≡ true) ⊎ ((x : ℕ) × (x < n) × (byHub r hub at n i c x ≡ true))
+  any-reach i c (one e) = inl e
+  any-reach i c (more {m = m} e l q) = reach-by i m c l e q
+
+  -- from any number: a direct step, or one to a hub and hops from there
+  pub through-from : (i c : ℕ) → through r bound i (at c) ≡ (r i (at c) or anyBelow n (byHub r hub at n i c))
+  through-from i c = bool-ext _ _ forth back
+    where
+      forth : through r bound i (at c) ≡ true → (r i (at c) or anyBelow n (byHub r hub at n i c)) ≡ true
+      forth e =
+          ⊎-elim (λ d. or-left _ d) (λ d. or-right (r i (at c)) (any-in (byHub r hub at n i c) n (d .0) (d .1) (d .2)))
+          (any-reach i c (through-reach r bound i (at c) .0 e))
+
+      some : (x : ℕ) × (x < n) × (byHub r hub at n i c x ≡ true) → through r bound i (at c) ≡ true
+      some (x, l, e) = let s = hub-by i c x e in through-reach r bound i (at c) .1 (more (s .0) (h .inside x l) (hops-reach (s .1)))
+
+      back : (r i (at c) or anyBelow n (byHub r hub at n i c)) ≡ true → through r bound i (at c) ≡ true
+      back e =
+          ⊎-elim (λ d. through-reach r bound i (at c) .1 (one d)) (λ d. some (any-out (byHub r hub at n i c) n d))
+          (or-cases (r i (at c)) (anyBelow n (byHub r hub at n i c)) e)
+
+  -- ---- from a number with a first hub
+
+  -- i leads to the hub x in one step; it leads to hubs alone, and x leads to each other of them in one step
+  module _ (i x : ℕ) (here : x < n) (is : hub x ≡ true) (to : r i (at x) ≡ true)
+      (rest : (j : ℕ) → r i j ≡ true → (at x ≡ j) ⊎ (((y : ℕ) × (y < n) × (hub y ≡ true) × (at y ≡ j)) × (r (at x) j ≡ true))) where
+    first-reach : (c : ℕ) → Reach r bound i (at c) → (at x ≡ at c) ⊎ Reach r bound (at x) (at c)
+    first-reach c (one e) = go (rest (at c) e)
+      where
+        go : (at x ≡ at c) ⊎ (((y : ℕ) × (y < n) × (hub y ≡ true) × (at y ≡ at c)) × (r (at x) (at c) ≡ true)) → (at x ≡ at c) ⊎ Reach r bound (at x) (at c)
+        go (inl d) = inl d
+        go (inr d) = inr (one (d .1))
+    first-reach c (more {m = m} e l q) = go (rest m e)
+      where
+        go : (at x ≡ m) ⊎ (((y : ℕ) × (y < n) × (hub y ≡ true) × (at y ≡ m)) × (r (at x) m ≡ true)) → (at x ≡ at c) ⊎ Reach r bound (at x) (at c)
+        go (inl d) = inr (rw d q)
+        go (inr d) = inr (more (d .1) l q)
+
+    -- what i leads to is the first hub and what the first hub leads to
+    pub through-first : (c : ℕ) → through r bound i (at c) ≡ (eqb (at x) (at c) or through (hop r hub at) n x c)
+    through-first c = bool-ext _ _ forth back
+      where
+        forth : through r bound i (at c) ≡ true → (eqb (at x) (at c) or through (hop r hub at) n x c) ≡ true
+        forth e =
+            ⊎-elim (λ d. or-left _ (eq-eqb _ _ d))
+            (λ d. or-right (eqb (at x) (at c)) (through-reach (hop r hub at) n x c .1 (from-hub x c is d)))
+            (first-reach c (through-reach r bound i (at c) .0 e))
+
+        back : (eqb (at x) (at c) or through (hop r hub at) n x c) ≡ true → through r bound i (at c) ≡ true
+        back e =
+            ⊎-elim (λ d. through-reach r bound i (at c) .1 (one (subst (λ (j : ℕ). r i j ≡ true) (eqb-true (at x) (at c) d) to)))
+            (λ d. through-reach r bound i (at c) .1 (more to (h .inside x here) (hops-reach (through-reach (hop r hub at) n x c .0 d))))
+            (or-cases (eqb (at x) (at c)) (through (hop r hub at) n x c) e)
+
+-- ---- laws: rows that stand at numbers of their own
+
+-- where `at` gives row k its own number, the two recursions are one
+pub through-own : (r s : ℕ → ℕ → Bool) (own at : ℕ → ℕ) (n : ℕ) → ((k : ℕ) → k < n → at k ≡ own k) → ((x c : ℕ) → x < n → r x c ≡ s x (at c))
+    → (k x c : ℕ) → k ≤ n → x < n → through r k x c ≡ throughOwn s own k x (at c)
+unfolding through throughOwn
+through-own r s own at n e h zero x c l o = h x c o
+through-own r s own at n e h (suc k) x c l o =
+    let f : (y d : ℕ) → y < n → through r k y d ≡ throughOwn s own k y (at d) = λ y d. through-own r s own at n e h k y d (omega arith) in
+    rw (f x c o, f x k o, f k c (omega arith), e k (omega arith)) refl
+
+-- relations that agree below a bound that every row's own number is below
+pub own-cong : (r s : ℕ → ℕ → Bool) (own : ℕ → ℕ) (n bound : ℕ) → ((k : ℕ) → k < n → own k < bound) → ((x m : ℕ) → x < n → m < bound → r x m ≡ s x m)
+    → (k x m : ℕ) → k ≤ n → x < n → m < bound → throughOwn r own k x m ≡ throughOwn s own k x m
+unfolding throughOwn
+own-cong r s own n bound e h zero x m l o q = h x m o q
+own-cong r s own n bound e h (suc k) x m l o q =
+    let f : (y j : ℕ) → y < n → j < bound → throughOwn r own k y j ≡ throughOwn s own k y j = λ y j. own-cong r s own n bound e h k y j (omega arith) in
+    rw (f x m o q, f x (own k) o (e k (omega arith)), f k m (omega arith) q) refl

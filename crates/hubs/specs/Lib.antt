@@ -1,0 +1,3 @@
+pub mod Hubs
+pub mod Rows
+pub mod Quiet

@@ -1,0 +1,27 @@
+use Rattle.moment_sets.specs.Classes.{holding-at}
+use borrow.Author.Needs.{needs}
+use Rattle.moment_sets.proofs.classes.hold_at.Statement.{statement}
+use Rattle.moment_sets.proofs.classes.hold_at.Tie as tie
+use Rattle.moment_sets.proofs.classes.hold_at.Reads as reads
+use Rattle.moment_sets.proofs.classes.hold_at.Lts as lts
+use Rattle.order.proofs.steps.holding_of.Reads as holding-of-reads
+use Rattle.rows.proofs.bytes.read_row.Reads as read-row-reads
+
+-- src/classes.rt:16:41
+cast-read-row : tie.Need-cast-read-row
+cast-read-row c = search needs
+
+-- src/classes.rt:16:9
+read-row-requires : tie.Need-read-row-requires
+read-row-requires c κs = search needs
+
+-- src/classes.rt:17:5
+holding-of-requires : tie.Need-holding-of-requires
+holding-of-requires c κs = search needs
+
+-- src/classes.rt:12:1
+returns : tie.Need-returns
+returns c = holding-at _ _ _ _ _ (c .before .read-row .ensures) (c .holding-of .ensures)
+
+pub hold-at-spec : {M : Type 1} → statement M
+hold-at-spec = tie.close (tie.spec cast-read-row read-row-requires holding-of-requires returns)

@@ -1,0 +1,5 @@
+pub mod Regions
+pub mod Known
+pub mod Program
+pub mod Joined
+pub mod Classes

@@ -1,0 +1,77 @@
+use Rattle.quick_order.specs.Sources.{Closed, SourcesAdded, sources-none, sources-more, sources-frame, sources-all}
+use Rattle.moment_sets.specs.Known.{Setup}
+use Rattle.area.specs.Regions.{HAPPENS, HAPPENS-END}
+use Rattle.model.specs.Table.{Table}
+use Rattle.bits.specs.Within.{Within, within-refl}
+use native.Mathlib.Omega.{arith}
+use Prim.Native.Nat.{ℕ, _-_, _*_, _≤_}
+use mathlib.Core.List.{List}
+use mathlib.Core.Path.{_≡_, refl, _∙_}
+use borrow.Author.Needs.{needs}
+use Rattle.quick_order.proofs.sources.add_sources.Statement.{statement}
+use Rattle.quick_order.proofs.sources.add_sources.Tie as tie
+use Rattle.quick_order.proofs.sources.add_sources.Reads as reads
+use Rattle.quick_order.proofs.sources.add_sources.Lts as lts
+use Rattle.quick_order.proofs.sources.add_source.Reads as add-source-reads
+
+abbrev Inv-loop : tie.InvT-loop
+Inv-loop w₀ n dep m₀ m-end w m = (m ≤ 3 * n) × Within HAPPENS HAPPENS-END w₀ w × ((bs : List ℕ) (t : Table) (s : ℕ) → Setup bs t n s dep w₀ → Closed t dep s n w₀ → SourcesAdded t s n m w₀ w)
+
+abbrev μ-loop : tie.MeasureT-loop
+μ-loop w₀ n dep m₀ m-end w m = 3 * n - m
+
+-- src/sources.rt:73:17
+mul-m-end : tie.Need-mul-m-end Inv-loop μ-loop
+mul-m-end c = search needs
+
+-- src/sources.rt:73:5
+loop-holds : tie.Need-loop-holds Inv-loop μ-loop
+loop-holds c = (search needs, within-refl _ _ _, λ bs t s p q. sources-none t s _ _)
+
+-- src/sources.rt:74:9
+add-source-requires : tie.Need-add-source-requires Inv-loop μ-loop
+add-source-requires c κs = search needs
+
+-- src/sources.rt:73:9
+add-m : tie.Need-add-m Inv-loop μ-loop
+add-m c = search needs
+
+-- src/sources.rt:73:5
+loop-less : tie.Need-loop-less Inv-loop μ-loop
+loop-less c = search needs
+
+-- src/sources.rt:73:5
+loop-again : tie.Need-loop-again Inv-loop μ-loop
+loop-again c =
+    let at-call = c .before .before in
+    let at-loop = at-call .before .before .before in
+    let inv = at-loop .loop .inv in
+    let len = inv .1 .len in
+    let made = at-call .add-source .ensures in
+    (search needs, sources-frame _ _ _ _ _ (search needs) (omega (arith, len)) (inv .1) made, λ bs t s p q. sources-more bs t _ s _ _ _ _ _ p q (search needs) (inv .1) (inv .2 bs t s p q) made)
+
+-- src/sources.rt:67:1
+same-length : tie.Need-same-length Inv-loop μ-loop
+same-length c = search needs
+
+-- src/sources.rt:67:1
+returns : tie.Need-returns Inv-loop μ-loop
+returns c =
+    let e : c .before .loop .m ≡ 3 * c .before .before .before .args .n = omega arith in
+    let inv = c .before .loop .inv in
+    (inv .1, λ bs t s p q. sources-all e (inv .1) (inv .2 bs t s p q))
+
+pub add-sources-spec : {M : Type 1} → statement M
+add-sources-spec =
+    tie.close
+    (tie.spec
+    Inv-loop
+    μ-loop
+    mul-m-end
+    loop-holds
+    add-source-requires
+    add-m
+    loop-less
+    loop-again
+    same-length
+    returns)

@@ -1,0 +1,297 @@
+-- The hops of a class set in words: what a row of them holds, all rows, and their closure. Assumes nothing.
+use mathlib.Core.Path.{_≡_, refl, sym, ap, subst, _∙_}
+use mathlib.Core.Bool.{Bool, true, false, _&&_, _||_}
+use mathlib.Core.List.{List}
+use Prim.Native.Nat.{ℕ, _+_, _-_, _*_, _/_, _%_, _≤_, _<_}
+use native.Mathlib.Omega.{arith}
+use native.Mathlib.Decide.{ℕ-discrete}
+use lib.Dec.{eqb, ltb}
+use lib.ListN.{length}
+use borrow.Author.Tests.{eq-eqb}
+use Rattle.finite.specs.Logic.{_and_, _or_, bool-ext, not-both, not-so, split, and-true}
+use Rattle.bits.specs.Fill.{or-fresh}
+use Rattle.bits.specs.Bit.{bit, zeros, bit-zeros-in}
+use Rattle.bits.specs.Within.{Within, within-refl, within-bit, within-trans, within-widen, within-zeros}
+use Rattle.bits.specs.Matrix.{rel}
+use Rattle.model.specs.declared.Mode.{Mode}
+use Rattle.model.specs.Limits.{ROWS, WORK}
+use Rattle.model.specs.Row.{releases, acquires}
+use Rattle.model.specs.Table.{Table, rowOf, decode}
+use Rattle.model.specs.Moment.{AT, rowIn, part, itself, programOrder}
+use Rattle.model.specs.Synchronizes.{synchronizes}
+use Rattle.model.specs.Happens.{holding, concerns, bySync, toRelease, fromAcquire, bySystem, step}
+use Rattle.area.specs.Regions.{MOMENTS}
+use Rattle.sets.specs.Meet.{meetIf, both, within-meetIf, bit-meetIf}
+use Rattle.sets.specs.Own.{ClosedOwn}
+use Rattle.hubs.specs.Hubs.{throughOwn, own-cong}
+use Rattle.hubs.specs.Rows.{hubRow, hopRow, releaseAt, holding-own, holding-concerns}
+use Rattle.moment_sets.specs.Regions.{ORDER, HOPS, HOPS-END, JOINED, DEPENDS, HOLD, RELEASE, CONCERN}
+use Rattle.moment_sets.specs.Known.{Rows, Set, syncsTo, dependsTo, Based, Ready, Setup, setup-hops}
+
+-- ---- definitions
+
+-- the hops of row x in words: h says that it holds all of the class set, k that it is a hub and concerns it, a that it holds all of it
+-- and acquires, d that there are dependencies
+unfoldable pub hopWords : ℕ → Bool → Bool → Bool → Bool → List ℕ → List ℕ
+hopWords x h k a d w =
+    meetIf d
+    (meetIf a
+    (meetIf k
+    (meetIf h (zeros w (HOPS + x * MOMENTS) MOMENTS) (HOPS + x * MOMENTS) (JOINED + x * MOMENTS) HOLD MOMENTS)
+    (HOPS + x * MOMENTS) (ORDER + (3 * x + 1) * MOMENTS) RELEASE MOMENTS)
+    (HOPS + x * MOMENTS) (ORDER + (3 * x + 1) * MOMENTS) CONCERN MOMENTS)
+    (HOPS + x * MOMENTS) (DEPENDS + x * MOMENTS) (DEPENDS + x * MOMENTS) MOMENTS
+
+-- the first x rows hold the hops of s
+pub record HopsMade (t : Table) (dep : Bool) (s n x : ℕ) (w u : List ℕ) : Type 0 where
+  pub hops : Rows HOPS x (3 * n) (hopRow t dep s) u
+  pub frame : Within HOPS HOPS-END w u
+
+-- ---- laws: connectives
+
+and-swap : (a b : Bool) → (a and b) ≡ (b and a)
+unfolding _and_
+and-swap true true = refl
+and-swap true false = refl
+and-swap false true = refl
+and-swap false false = refl
+
+and-same : (a : Bool) → (a and a) ≡ a
+unfolding _and_
+and-same true = refl
+and-same false = refl
+
+and-mid : (k a b : Bool) → (k and (a and b)) ≡ (a and k and b)
+unfolding _and_
+and-mid true true b = refl
+and-mid true false b = refl
+and-mid false true b = refl
+and-mid false false b = refl
+
+and-flat : (k a b : Bool) → (k and (a and b)) ≡ (k and a and b)
+unfolding _and_
+and-flat true a b = refl
+and-flat false a b = refl
+
+and-known : (a b : Bool) → (b ≡ true → a ≡ true) → (a and b) ≡ b
+unfolding _and_
+and-known a true f = rw (f refl) refl
+and-known true false f = refl
+and-known false false f = refl
+
+-- a hub that holds all of the class set, or one that there is because of dependencies
+from-hub : (h dep k R P A B D : Bool) → (h ≡ true → k ≡ true) → (D ≡ true → dep ≡ true) → (A ≡ true → h ≡ true) → (B ≡ true → h ≡ true)
+    → (A or (h or dep and k) and (P and R) or B or D) ≡ ((h or dep) and (A or R and k and P or B or D))
+unfolding _and_ _or_
+from-hub true dep k R P A B D f g a b = rw (f refl, and-swap P R ∙ and-mid true R P) refl
+from-hub false true k R P A B D f g a b = rw (and-swap P R, and-mid k R P) refl
+from-hub false false k R P A B D f g a b =
+    rw (not-so A (λ e. not-both (a e) refl), not-so B (λ e. not-both (b e) refl), not-so D (λ e. not-both (g e) refl)) refl
+
+-- what the four meetings of words say is the four direct cases from a hub
+share : (h dep k q S H R C P D : Bool) → (h ≡ true → k ≡ true) → (D ≡ true → dep ≡ true)
+    → (h and (S and H) or (h or dep and k) and (P and R) or (h and q) and (P and C) or dep and (D and D))
+    ≡ ((h or dep) and (h and H and S or R and k and P or h and q and C and P or D))
+share h dep k q S H R C P D f g =
+    let e : (h and (S and H)) ≡ (h and H and S) = ap (λ (z : Bool). h and z) (and-swap S H) ∙ and-flat h H S in
+    let i : ((h and q) and (P and C)) ≡ (h and q and C and P) = ap (λ (z : Bool). (h and q) and z) (and-swap P C) ∙ and-flat (h and q) C P in
+    let o : (dep and (D and D)) ≡ D = ap (λ (z : Bool). dep and z) (and-same D) ∙ and-known dep D g in
+    rw (e, i, o) (from-hub h dep k R P (h and H and S) (h and q and C and P) D f g (λ z. split (split z .0) .0) (λ z. split (split (split z .0) .0) .0))
+
+-- ---- laws: a row
+
+both-kept : {c d : ℕ} {w u : List ℕ} → Within c d w u → (a b j : ℕ) → (64 * c ≤ a * 64 + j → 64 * d ≤ a * 64 + j) → (64 * c ≤ b * 64 + j → 64 * d ≤ b * 64 + j)
+    → both u a b j ≡ both w a b j
+unfolding both
+both-kept f a b j p q = rw (within-bit f (a * 64 + j) p, within-bit f (b * 64 + j) q) refl
+
+-- one meeting: what it reads lies outside the hops
+meet-bit : (x a b j : ℕ) (q : Bool) (w v u : List ℕ) → x < ROWS → WORK ≤ length w → j < 64 * MOMENTS
+    → (HOPS < a + MOMENTS → HOPS-END ≤ a) → (HOPS < b + MOMENTS → HOPS-END ≤ b)
+    → Within (HOPS + x * MOMENTS) (HOPS + x * MOMENTS + MOMENTS) w v → u ≡ meetIf q v (HOPS + x * MOMENTS) a b MOMENTS
+    → rel u HOPS MOMENTS x j ≡ (rel v HOPS MOMENTS x j or (q and both w a b j))
+unfolding rel
+meet-bit x a b j q w v u l room o p r f e =
+    let len : length v ≡ length w = f .len in
+    ap (λ (z : List ℕ). bit z ((HOPS + x * MOMENTS) * 64 + j)) e ∙ bit-meetIf q v (HOPS + x * MOMENTS) a b MOMENTS j (omega arith) o
+    ∙ ap (λ (z : Bool). bit v ((HOPS + x * MOMENTS) * 64 + j) or (q and z)) (both-kept f a b j (λ h. off a p h) (λ h. off b r h))
+  where
+    off : (c : ℕ) → (HOPS < c + MOMENTS → HOPS-END ≤ c) → 64 * (HOPS + x * MOMENTS) ≤ c * 64 + j → 64 * (HOPS + x * MOMENTS + MOMENTS) ≤ c * 64 + j
+    off c g h = let z : HOPS-END ≤ c = g (omega arith) in omega arith
+
+zero-bit : (w : List ℕ) (x j : ℕ) → WORK ≤ length w → x < ROWS → j < 64 * MOMENTS → rel (zeros w (HOPS + x * MOMENTS) MOMENTS) HOPS MOMENTS x j ≡ false
+unfolding rel
+zero-bit w x j room l o = bit-zeros-in w (HOPS + x * MOMENTS) MOMENTS ((HOPS + x * MOMENTS) * 64 + j) (omega arith) (omega arith) (omega arith)
+
+module _ (x : ℕ) (h k a d : Bool) (w u : List ℕ) (l : x < ROWS) (room : WORK ≤ length w) (made : u ≡ hopWords x h k a d w) where
+  -- the words, bit by bit
+  pub hop-bits : (j : ℕ) → j < 64 * MOMENTS
+      → (rel u HOPS MOMENTS x j
+      ≡ (h and both w (JOINED + x * MOMENTS) HOLD j or k and both w (ORDER + (3 * x + 1) * MOMENTS) RELEASE j
+      or a and both w (ORDER + (3 * x + 1) * MOMENTS) CONCERN j or d and both w (DEPENDS + x * MOMENTS) (DEPENDS + x * MOMENTS) j))
+      × Within (HOPS + x * MOMENTS) (HOPS + x * MOMENTS + MOMENTS) w u
+  unfolding hopWords
+  hop-bits j o =
+      let v₀ = zeros w (HOPS + x * MOMENTS) MOMENTS in
+      let v₁ = meetIf h v₀ (HOPS + x * MOMENTS) (JOINED + x * MOMENTS) HOLD MOMENTS in
+      let v₂ = meetIf k v₁ (HOPS + x * MOMENTS) (ORDER + (3 * x + 1) * MOMENTS) RELEASE MOMENTS in
+      let v₃ = meetIf a v₂ (HOPS + x * MOMENTS) (ORDER + (3 * x + 1) * MOMENTS) CONCERN MOMENTS in
+      let f₀ = within-zeros w (HOPS + x * MOMENTS) MOMENTS in
+      let f₁ = within-trans f₀ (within-meetIf h v₀ (HOPS + x * MOMENTS) (JOINED + x * MOMENTS) HOLD MOMENTS) in
+      let f₂ = within-trans f₁ (within-meetIf k v₁ (HOPS + x * MOMENTS) (ORDER + (3 * x + 1) * MOMENTS) RELEASE MOMENTS) in
+      let f₃ = within-trans f₂ (within-meetIf a v₂ (HOPS + x * MOMENTS) (ORDER + (3 * x + 1) * MOMENTS) CONCERN MOMENTS) in
+      let f₄ = within-trans f₃ (within-meetIf d v₃ (HOPS + x * MOMENTS) (DEPENDS + x * MOMENTS) (DEPENDS + x * MOMENTS) MOMENTS) in
+      let b₁ = meet-bit x (JOINED + x * MOMENTS) HOLD j h w v₀ v₁ l room o (λ z. omega arith) (λ z. omega arith) f₀ refl in
+      let b₂ = meet-bit x (ORDER + (3 * x + 1) * MOMENTS) RELEASE j k w v₁ v₂ l room o (λ z. absurd (omega arith)) (λ z. omega arith) f₁ refl in
+      let b₃ = meet-bit x (ORDER + (3 * x + 1) * MOMENTS) CONCERN j a w v₂ v₃ l room o (λ z. absurd (omega arith)) (λ z. omega arith) f₂ refl in
+      let b₄ = meet-bit x (DEPENDS + x * MOMENTS) (DEPENDS + x * MOMENTS) j d w v₃ u l room o (λ z. omega arith) (λ z. omega arith) f₃ made in (
+        b₄ ∙ ap (λ (z : Bool). z or (d and both w (DEPENDS + x * MOMENTS) (DEPENDS + x * MOMENTS) j))
+            (b₃ ∙ ap (λ (z : Bool). z or (a and both w (ORDER + (3 * x + 1) * MOMENTS) CONCERN j))
+            (b₂ ∙ ap (λ (z : Bool). z or (k and both w (ORDER + (3 * x + 1) * MOMENTS) RELEASE j)) (b₁ ∙ fresh j o _))),
+        subst (λ (z : List ℕ). Within (HOPS + x * MOMENTS) (HOPS + x * MOMENTS + MOMENTS) w z) (sym made) f₄,
+      )
+    where
+      fresh : (j : ℕ) → j < 64 * MOMENTS → (b : Bool) → (rel (zeros w (HOPS + x * MOMENTS) MOMENTS) HOPS MOMENTS x j or b) ≡ b
+      fresh j o b = or-fresh _ b (zero-bit w x j room l o)
+
+-- ---- laws: a row's bits are its hops
+
+-- the direct cases from the row x itself
+step-is : (t : Table) (s x m : ℕ)
+    → step t s (itself x) m
+    ≡ (holding t s (itself x) and holding t s m and synchronizes t x (rowIn m) or releaseAt t s m and concerns t s (itself x) and programOrder t (itself x) m
+    or holding t s (itself x) and acquires (t .row x) and concerns t s m and programOrder t (itself x) m or dependsTo t x m)
+unfolding step bySync toRelease fromAcquire bySystem releaseAt dependsTo _and_
+step-is t s x m =
+    let e : (3 * x + 1) / 3 ≡ x = omega arith in
+    let f : eqb ((3 * x + 1) % 3) 1 ≡ true = eq-eqb ((3 * x + 1) % 3) 1 (omega arith) in
+    rw (e, f) refl
+
+depends-out : (t : Table) (x m : ℕ) → dependsTo t x m ≡ true → t .depends x (rowIn m) ≡ true
+unfolding dependsTo
+depends-out t x m e = split e .1
+
+-- a moment that holds all of s is a row's own
+syncs-held : (t : Table) (s x m : ℕ) → (syncsTo t x m and holding t s m) ≡ (synchronizes t x (rowIn m) and holding t s m)
+unfolding syncsTo
+syncs-held t s x m =
+    bool-ext _ _ (λ h. let a = split h in and-true (split (a .0) .1) (a .1))
+    (λ h. let a = split h in and-true (and-true (eq-eqb (m % 3) 1 (holding-own t s m (a .1))) (a .0)) (a .1))
+
+module _ (bs : List ℕ) (t : Table) (n s x : ℕ) (dep h k q : Bool) (w u : List ℕ) (p : Setup bs t n s dep w) (l : x < n)
+    (held : h ≡ bit w (HOLD * 64 + (3 * x + 1))) (on : k ≡ bit w (CONCERN * 64 + (3 * x + 1))) (acq : q ≡ acquires (rowOf bs x))
+    (made : u ≡ hopWords x h (h or dep and k) (h and q) dep w) where
+  few : n ≤ ROWS
+  few = p .few
+
+  sync-is : (m : ℕ) → m < 3 * n → both w (JOINED + x * MOMENTS) HOLD m ≡ (synchronizes t x (rowIn m) and holding t s m)
+  unfolding both rel
+  sync-is m o =
+      ap (λ (z : Bool). z and bit w (HOLD * 64 + m)) (p .based .joined .cell x m l o) ∙ ap (λ (z : Bool). syncsTo t x m and z) (p .ready .hold .cell m o) ∙ syncs-held t s x m
+
+  release-is : (m : ℕ) → m < 3 * n → both w (ORDER + (3 * x + 1) * MOMENTS) RELEASE m ≡ (programOrder t (itself x) m and releaseAt t s m)
+  unfolding both rel
+  release-is m o =
+      ap (λ (z : Bool). z and bit w (RELEASE * 64 + m)) (p .based .order .cell (3 * x + 1) m (omega arith) (omega arith))
+      ∙ ap (λ (z : Bool). programOrder t (itself x) m and z) (p .ready .release .cell m o)
+
+  concern-is : (m : ℕ) → m < 3 * n → both w (ORDER + (3 * x + 1) * MOMENTS) CONCERN m ≡ (programOrder t (itself x) m and concerns t s m)
+  unfolding both rel
+  concern-is m o =
+      ap (λ (z : Bool). z and bit w (CONCERN * 64 + m)) (p .based .order .cell (3 * x + 1) m (omega arith) (omega arith))
+      ∙ ap (λ (z : Bool). programOrder t (itself x) m and z) (p .ready .concern .cell m o)
+
+  depend-is : (m : ℕ) → m < 3 * n → both w (DEPENDS + x * MOMENTS) (DEPENDS + x * MOMENTS) m ≡ (dependsTo t x m and dependsTo t x m)
+  unfolding both rel
+  depend-is m o = let e = p .based .depends .cell x m l o in rw e refl
+
+  hold-is : h ≡ holding t s (itself x)
+  hold-is = held ∙ p .ready .hold .cell (3 * x + 1) (omega arith)
+
+  on-is : k ≡ concerns t s (itself x)
+  on-is = on ∙ p .ready .concern .cell (3 * x + 1) (omega arith)
+
+  acq-is : q ≡ acquires (t .row x)
+  acq-is = acq ∙ ap acquires (sym (p .row x))
+
+  pub hop-cell : (m : ℕ) → m < 3 * n → rel u HOPS MOMENTS x m ≡ hopRow t dep s x m
+  unfolding hopRow hubRow
+  hop-cell m o =
+      hop-bits x h (h or dep and k) (h and q) dep w u (omega arith) (p .room) made m (omega arith) .0
+      ∙ rw (sync-is m o, release-is m o, concern-is m o, depend-is m o, step-is t s x m, hold-is, on-is, acq-is)
+      (share (holding t s (itself x)) dep (concerns t s (itself x)) (acquires (t .row x)) (synchronizes t x (rowIn m)) (holding t s m) (releaseAt t s m) (concerns t s m)
+      (programOrder t (itself x) m) (dependsTo t x m) (holding-concerns t s (itself x)) (λ e. p .told x (rowIn m) (depends-out t x m e)))
+
+-- ---- laws: all rows
+
+pub hops-none : (t : Table) (dep : Bool) (s n : ℕ) (w : List ℕ) → n ≤ ROWS → HopsMade t dep s n 0 w w
+hops-none t dep s n w few = record { hops = record { fits = omega arith; cell = λ x m l o. absurd (omega arith) }; frame = within-refl HOPS HOPS-END w }
+
+pub hops-more : (bs : List ℕ) (t : Table) (n s x : ℕ) (dep h k q : Bool) (w v u : List ℕ) → Setup bs t n s dep w → x < n → HopsMade t dep s n x w v
+    → h ≡ bit v (HOLD * 64 + (3 * x + 1)) → k ≡ bit v (CONCERN * 64 + (3 * x + 1)) → q ≡ acquires (rowOf bs x)
+    → u ≡ hopWords x h (h or dep and k) (h and q) dep v → HopsMade t dep s n (x + 1) w u
+unfolding rel
+hops-more bs t n s x dep h k q w v u p l m held on acq made =
+    record {
+      hops = record { fits = m .hops .fits; cell = λ i j o r. go i j o r (ℕ-discrete i x) };
+      frame = within-trans (m .frame) (within-widen HOPS HOPS-END (omega arith) (omega arith) f);
+    }
+  where
+    now : Setup bs t n s dep v
+    now = setup-hops (m .frame) p
+
+    few : n ≤ ROWS
+    few = p .few
+
+    f : Within (HOPS + x * MOMENTS) (HOPS + x * MOMENTS + MOMENTS) v u
+    f = hop-bits x h (h or dep and k) (h and q) dep v u (omega arith) (now .room) made 0 (omega arith) .1
+
+    go : (i j : ℕ) → i < x + 1 → j < 3 * n → Dec (i ≡ x) → bit u ((HOPS + i * MOMENTS) * 64 + j) ≡ hopRow t dep s i j
+    go i j o r (yes e) = rw e (hop-cell bs t n s x dep h k q v u now l held on acq made j r)
+    go i j o r (no e) = within-bit f ((HOPS + i * MOMENTS) * 64 + j) (λ z. omega arith) ∙ m .hops .cell i j (omega arith) r
+
+-- ---- laws: closed
+
+pub hops-closed : {t : Table} {dep : Bool} {s n : ℕ} {w v u : List ℕ} → n ≤ ROWS → HopsMade t dep s n n w v → ClosedOwn v u HOPS n
+    → Rows HOPS n (3 * n) (throughOwn (hopRow t dep s) itself n) u
+hops-closed {t} {dep} {s} {n} {w} {v} few m c =
+    record {
+      fits = omega arith;
+      cell = λ x j l o. c .cells x j l (omega arith)
+          ∙ own-cong (rel v HOPS MOMENTS) (hopRow t dep s) itself n (3 * n) (λ k q. omega arith) (λ i r q z. m .hops .cell i r q z) n x j (omega arith) l o;
+    }
+
+-- ---- laws: the code
+
+and-both : (a b : Bool) → (a && b) ≡ (a and b)
+unfolding _and_
+and-both true b = refl
+and-both false b = refl
+
+or-both : (a b : Bool) → (a || b) ≡ (a or b)
+unfolding _or_
+or-both true b = refl
+or-both false b = refl
+
+pub hop-made : (x : ℕ) (h k a d : Bool) (w v₀ v₁ v₂ v₃ u : List ℕ) → v₀ ≡ zeros w (HOPS + x * MOMENTS) (HOPS + x * MOMENTS + MOMENTS - (HOPS + x * MOMENTS))
+    → v₁ ≡ meetIf h v₀ (HOPS + x * MOMENTS) (JOINED + x * MOMENTS) HOLD MOMENTS → v₂ ≡ meetIf k v₁ (HOPS + x * MOMENTS) (ORDER + (3 * x + 1) * MOMENTS) RELEASE MOMENTS
+    → v₃ ≡ meetIf a v₂ (HOPS + x * MOMENTS) (ORDER + (3 * x + 1) * MOMENTS) CONCERN MOMENTS
+    → u ≡ meetIf d v₃ (HOPS + x * MOMENTS) (DEPENDS + x * MOMENTS) (DEPENDS + x * MOMENTS) MOMENTS → u ≡ hopWords x h k a d w
+unfolding hopWords
+hop-made x h k a d w v₀ v₁ v₂ v₃ u e₀ e₁ e₂ e₃ e₄ =
+    let z : HOPS + x * MOMENTS + MOMENTS - (HOPS + x * MOMENTS) ≡ MOMENTS = omega arith in
+    let f₀ : v₀ ≡ zeros w (HOPS + x * MOMENTS) MOMENTS = e₀ ∙ ap (λ (c : ℕ). zeros w (HOPS + x * MOMENTS) c) z in
+    rw (← f₀, ← e₁, ← e₂, ← e₃) e₄
+
+-- a turn of the loop over the rows
+pub hops-turn : (bs : List ℕ) (t : Table) (n s x : ℕ) (dep h k q : Bool) (w v u : List ℕ) → Setup bs t n s dep w → x < n → HopsMade t dep s n x w v
+    → h ≡ bit v (HOLD * 64 + (3 * x + 1)) → k ≡ bit v (CONCERN * 64 + (3 * x + 1)) → q ≡ acquires (rowOf bs x)
+    → u ≡ hopWords x h (h || dep && k) (h && q) dep v → HopsMade t dep s n (x + 1) w u
+hops-turn bs t n s x dep h k q w v u p l m held on acq made =
+    let e : (h || dep && k) ≡ (h or dep and k) = or-both h (dep && k) ∙ ap (λ (z : Bool). h or z) (and-both dep k) in
+    hops-more bs t n s x dep h k q w v u p l m held on acq
+    (made ∙ ap (λ (z : Bool). hopWords x h z (h && q) dep v) e ∙ ap (λ (z : Bool). hopWords x h (h or dep and k) z dep v) (and-both h q))
+
+pub hops-frame : (x : ℕ) (h k a d : Bool) (w v u : List ℕ) → x < ROWS → WORK ≤ length v → Within HOPS HOPS-END w v → u ≡ hopWords x h k a d v → Within HOPS HOPS-END w u
+hops-frame x h k a d w v u l room f made =
+    within-trans f (within-widen HOPS HOPS-END (omega arith) (omega arith) (hop-bits x h k a d v u l room made 0 (omega arith) .1))

@@ -1,0 +1,250 @@
+-- The stages in order: what every class set is made from, a class set, all of them. Assumes nothing.
+use mathlib.Core.Path.{_≡_, refl, sym, ap, subst, _∙_}
+use mathlib.Core.Bool.{Bool, true, false}
+use mathlib.Core.Logic.{⊎-elim}
+use mathlib.Core.List.{List}
+use Prim.Native.Nat.{ℕ, _+_, _*_, _≤_, _<_}
+use native.Mathlib.Omega.{arith}
+use native.Mathlib.Numerals.{add-one}
+use lib.Dec.{ltb}
+use lib.ListN.{length}
+use borrow.Author.Tests.{lt-ltb, ltb-true, ltb-false}
+use Rattle.finite.specs.Logic.{_and_, _or_, which, bool-ext, not-both, not-so, or-cases, or-left, or-off, and-false-left, split}
+use Rattle.finite.specs.Below.{anyBelow, any-out, any-not}
+use Rattle.bits.specs.Within.{Within, within-refl, within-trans, within-widen}
+use Rattle.bits.specs.Matrix.{rel}
+use Rattle.bits.specs.Stage.{Holds, Added, holds-cong, holds-kept, holds-added}
+use Rattle.model.specs.declared.Mode.{Mode}
+use Rattle.model.specs.Limits.{ROWS, WORK, CLASS-SETS}
+use Rattle.model.specs.Table.{Table, rowOf, dependency, dependsOf, decode}
+use Rattle.model.specs.Moment.{programOrder}
+use Rattle.model.specs.Happens.{holding, interThread, live, interThreadBy}
+use Rattle.area.specs.Regions.{MUTUAL, SYNC, HAPPENS, HAPPENS-END, GRID, MOMENTS, LOCATED-END}
+use Rattle.area.specs.State.{Ordered}
+use Rattle.sequence.specs.Forms.{and-on}
+use Rattle.sequence.specs.Known.{Synced, MadeSynced, synced-kept}
+use Rattle.order.specs.Sets.{interBy, upTo, upTo-none, upTo-more, upTo-all}
+use Rattle.sets.specs.Own.{ClosedOwn}
+use Rattle.hubs.specs.Quiet.{inter-order}
+use Rattle.moment_sets.specs.Regions.{HOPS, HOPS-END, HOLD, RELEASE, CONCERN, CONCERN-END, AGENTS-END}
+use Rattle.moment_sets.specs.Known.{Rows, Set, Based, Ready, Setup, rows-kept, set-kept, based-kept, setup-hops, setup-happens}
+use Rattle.moment_sets.specs.Program.{Begun, decode-rows}
+use Rattle.moment_sets.specs.Joined.{MadeJoined, MadeDepends, joined-is, depends-is}
+use Rattle.moment_sets.specs.Classes.{holdingAt, releasingAt, concerningAt, MadeSet, joinsHolder, hold-is, release-is, concern-is, quiet-is}
+use Rattle.quick_order.specs.Hops.{HopsMade, hops-closed}
+use Rattle.quick_order.specs.Sources.{Closed}
+
+-- ---- definitions
+
+-- what every class set is made from was made, and what happens-before begins with
+pub record Started (t : Table) (n : ℕ) (w u : List ℕ) : Type 0 where
+  pub based : Based t n u
+  pub happens : Holds HAPPENS MOMENTS (3 * n) (upTo t 0) u
+  pub frame : Within MUTUAL LOCATED-END w u
+
+-- of a table whose rows stand in the bytes bs: what a class set is made from, and which moments hold all of it
+pub record Held (bs : List ℕ) (t : Table) (n s : ℕ) (dep : Bool) (w : List ℕ) : Type 0 where
+  pub same : t .rows ≡ n
+  pub row : (x : ℕ) → t .row x ≡ rowOf bs x
+  pub told : (a b : ℕ) → t .depends a b ≡ true → dep ≡ true
+  pub based : Based t n w
+  pub hold : Set HOLD (3 * n) (holding t s) w
+
+-- inter-thread order for s was added
+pub record Grown (t : Table) (n s : ℕ) (w u : List ℕ) : Type 0 where
+  pub based : Based t n u
+  pub cell : (i j : ℕ) → i < 3 * n → j < 3 * n → rel u HAPPENS MOMENTS i j ≡ (rel w HAPPENS MOMENTS i j or interThread t s i j)
+
+-- the first s class sets are in
+pub record Reached (t : Table) (n s : ℕ) (w : List ℕ) : Type 0 where
+  pub based : Based t n w
+  pub happens : Holds HAPPENS MOMENTS (3 * n) (upTo t s) w
+
+-- ---- laws: the beginning
+
+pub started-made : (b : List ℕ) (p : List (List ℕ)) (mode : Mode) (n : ℕ) (w v x y u : List ℕ) → n ≤ ROWS → MadeSynced (decode b p mode n) n w v
+    → Begun (decode b p mode n) n v x → MadeJoined n x y → MadeDepends mode n (mode .dependencies) y u → Started (decode b p mode n) n w u
+started-made b p mode n w v x y u few synced begun joined depends =
+    record {
+      based =
+          record {
+            mutuals = holds-kept (λ h. absurd (omega arith)) (depends .frame) (holds-kept (λ h. absurd (omega arith)) (joined .frame) (now .mutuals));
+            order = rows-kept (λ h. absurd (omega arith)) (depends .frame) (rows-kept (λ h. absurd (omega arith)) (joined .frame) (begun .order));
+            joined = rows-kept (λ h. absurd (omega arith)) (depends .frame) (joined-is (decode b p mode n) n x y (now .syncs) (joined .joined));
+            depends = depends-is b p mode n u (depends .depends);
+          };
+      happens = holds-cong (λ i j l o. upTo-none (decode b p mode n) i j)
+          (holds-kept (λ h. absurd (omega arith)) (depends .frame) (holds-kept (λ h. absurd (omega arith)) (joined .frame) (begun .happens)));
+      frame = within-trans (within-widen MUTUAL LOCATED-END (omega arith) (omega arith) (synced .frame))
+          (within-trans (within-widen MUTUAL LOCATED-END (omega arith) (omega arith) (begun .frame))
+          (within-trans (within-widen MUTUAL LOCATED-END (omega arith) (omega arith) (joined .frame)) (within-widen MUTUAL LOCATED-END (omega arith) (omega arith) (depends .frame))));
+    }
+  where
+    now : Synced (decode b p mode n) n x
+    now = synced-kept (omega arith) (begun .frame) (synced .synced)
+
+-- ---- laws: the closure of a class set
+
+module _ (bs : List ℕ) (t : Table) (n s : ℕ) (dep : Bool) (w v x : List ℕ) (few : n ≤ ROWS) (room : WORK ≤ length w) (h : Held bs t n s dep w)
+    (release : MadeSet RELEASE n (releasingAt bs s) w v) (concern : MadeSet CONCERN n (concerningAt bs s) v x) where
+  -- the sets are there
+  pub setup-made : Setup bs t n s dep x
+  setup-made =
+      let r : length v ≡ length w = release .frame .len in
+      let c : length x ≡ length v = concern .frame .len in
+      record {
+        few = few;
+        room = omega arith;
+        same = h .same;
+        row = h .row;
+        told = h .told;
+        based = based-kept few (omega arith) (concern .frame) (based-kept few (omega arith) (release .frame) (h .based));
+        ready =
+            record {
+              hold = set-kept (λ q. absurd (omega arith)) (concern .frame) (set-kept (λ q. absurd (omega arith)) (release .frame) (h .hold));
+              release = set-kept (λ q. absurd (omega arith)) (concern .frame) (release-is bs t n s v (h .row) (release .set));
+              concern = concern-is bs t n s x (h .row) (concern .set);
+            };
+      }
+
+  pub grown-made : (y z u : List ℕ) → HopsMade t dep s n n x y → ClosedOwn y z HOPS n
+      → ((bs : List ℕ) (t : Table) (s : ℕ) → Setup bs t n s dep z → Closed t dep s n z → Added HAPPENS HAPPENS-END HAPPENS MOMENTS (3 * n) (interThread t s) z u)
+      → Within HAPPENS HAPPENS-END z u → Grown t n s w u
+  grown-made y z u hops closed add frame =
+      record {
+        based = setup-happens frame ready .based;
+        cell = λ i j l o. added .cell i j l o ∙ ap (λ (b : Bool). b or interThread t s i j) (before i j l o);
+      }
+    where
+      g : Within HOPS HOPS-END y z
+      g = within-widen HOPS HOPS-END (omega arith) (omega arith) (closed .frame)
+
+      ready : Setup bs t n s dep z
+      ready = setup-hops g (setup-hops (hops .frame) setup-made)
+
+      added : Added HAPPENS HAPPENS-END HAPPENS MOMENTS (3 * n) (interThread t s) z u
+      added = add bs t s ready (hops-closed few hops closed)
+
+      kept : Holds HAPPENS MOMENTS (3 * n) (rel w HAPPENS MOMENTS) z
+      kept =
+          holds-kept (λ q. absurd (omega arith)) g (holds-kept (λ q. absurd (omega arith)) (hops .frame)
+          (holds-kept (λ q. absurd (omega arith)) (concern .frame) (holds-kept (λ q. absurd (omega arith)) (release .frame)
+          (record { fits = omega arith; cell = λ i j l o. refl }))))
+
+      before : (i j : ℕ) → i < 3 * n → j < 3 * n → rel z HAPPENS MOMENTS i j ≡ rel w HAPPENS MOMENTS i j
+      before i j l o = kept .cell i j l o
+
+-- no word outside happens-before and the regions behind it changed
+pub closed-frame : (n : ℕ) (p q : ℕ → Bool) (w v x y z u : List ℕ) → n ≤ ROWS → MadeSet RELEASE n p w v → MadeSet CONCERN n q v x → Within HOPS HOPS-END x y
+    → ClosedOwn y z HOPS n → Within HAPPENS HAPPENS-END z u → Within HAPPENS CONCERN-END w u
+closed-frame n p q w v x y z u few a b c d e =
+    within-trans (within-widen HAPPENS CONCERN-END (omega arith) (omega arith) (a .frame))
+    (within-trans (within-widen HAPPENS CONCERN-END (omega arith) (omega arith) (b .frame))
+    (within-trans (within-widen HAPPENS CONCERN-END (omega arith) (omega arith) c)
+    (within-trans (within-widen HAPPENS CONCERN-END (omega arith) (omega arith) (d .frame)) (within-widen HAPPENS CONCERN-END (omega arith) (omega arith) e))))
+
+-- ---- laws: dependencies
+
+told-is : (b : List ℕ) (p : List (List ℕ)) (mode : Mode) (n x y : ℕ) (dep : Bool) → dep ≡ ltb 0 (mode .dependencies) → decode b p mode n .depends x y ≡ true → dep ≡ true
+unfolding decode dependsOf
+told-is b p mode n x y dep e h =
+    let k = any-out (dependency mode x y) (mode .dependencies) h in
+    let l = k .1 in
+    e ∙ lt-ltb 0 (mode .dependencies) (omega arith)
+
+free-is : (b : List ℕ) (p : List (List ℕ)) (mode : Mode) (n : ℕ) (dep : Bool) → dep ≡ ltb 0 (mode .dependencies) → dep ≡ false → (x y : ℕ) → decode b p mode n .depends x y ≡ false
+free-is b p mode n dep e f x y = not-so _ (λ h. not-both (told-is b p mode n x y dep e h) f)
+
+row-is : (b : List ℕ) (p : List (List ℕ)) (mode : Mode) (n x : ℕ) → decode b p mode n .row x ≡ rowOf b x
+unfolding decode
+row-is b p mode n x = refl
+
+-- ---- laws: a class set
+
+-- live sets: what is added
+inter-on : (t : Table) (s i j : ℕ) → live t (s + 1) ≡ true → interThread t (s + 1) i j ≡ interBy t s i j
+unfolding interBy interThreadBy
+inter-on t s i j l = rw add-one (sym (and-on _ _ (rw add-one at l)))
+
+inter-off : (t : Table) (s i j : ℕ) → live t (s + 1) ≡ false → interBy t s i j ≡ false
+unfolding interBy interThreadBy
+inter-off t s i j l = and-false-left _ _ (rw add-one at l)
+
+inter-out : (t : Table) (s i j : ℕ) → interBy t s i j ≡ true → interThread t (s + 1) i j ≡ true
+unfolding interBy interThreadBy
+inter-out t s i j e = rw add-one (split e .1)
+
+order-in : (t : Table) (s i j : ℕ) → programOrder t i j ≡ true → upTo t s i j ≡ true
+unfolding upTo
+order-in t s i j e = or-left _ e
+
+-- nothing is to be added
+reached-more : (t : Table) (n s : ℕ) (w : List ℕ) → ((i j : ℕ) → i < 3 * n → j < 3 * n → interBy t s i j ≡ true → upTo t s i j ≡ true)
+    → Holds HAPPENS MOMENTS (3 * n) (upTo t s) w → Holds HAPPENS MOMENTS (3 * n) (upTo t (s + 1)) w
+reached-more t n s w f h =
+    holds-cong
+    (λ i j l o. bool-ext _ _ (λ e. sym (upTo-more t s i j) ∙ or-left _ e)
+    (λ e. ⊎-elim (λ a. a) (λ a. f i j l o a) (or-cases (upTo t s i j) (interBy t s i j) (upTo-more t s i j ∙ e)))) h
+
+module _ (b : List ℕ) (n s : ℕ) (dep : Bool) (w : List ℕ) (few : n ≤ ROWS) (p : List (List ℕ)) (mode : Mode) (h : Reached (decode b p mode n) n s w) where
+  -- no row holds all of it
+  pub reached-off : live (decode b p mode n) (s + 1) ≡ false → Reached (decode b p mode n) n (s + 1) w
+  reached-off l =
+      record { based = h .based; happens = reached-more (decode b p mode n) n s w (λ i j o q e. not-both e (inter-off (decode b p mode n) s i j l)) (h .happens) }
+
+  module _ (d : dep ≡ ltb 0 (mode .dependencies)) (v : List ℕ) (held : MadeSet HOLD n (holdingAt b (s + 1)) w v) where
+    kept : Based (decode b p mode n) n v
+    kept = based-kept few (omega arith) (held .frame) (h .based)
+
+    still : Holds HAPPENS MOMENTS (3 * n) (upTo (decode b p mode n) s) v
+    still = holds-kept (λ q. absurd (omega arith)) (held .frame) (h .happens)
+
+    hold : Set HOLD (3 * n) (holding (decode b p mode n) (s + 1)) v
+    hold = hold-is b (decode b p mode n) n (s + 1) v (row-is b p mode n) (held .set)
+
+    pub held-made : Held b (decode b p mode n) n (s + 1) dep v
+    held-made =
+        record {
+          same = decode-rows b p mode n;
+          row = row-is b p mode n;
+          told = λ x y e. told-is b p mode n x y dep d e;
+          based = kept;
+          hold = hold;
+        }
+
+    -- no two of its rows synchronize
+    pub reached-quiet : dep ≡ false → anyBelow n (joinsHolder v) ≡ false → Reached (decode b p mode n) n (s + 1) v
+    reached-quiet off none =
+        let r : decode b p mode n .rows ≡ n = decode-rows b p mode n in
+        record {
+          based = kept;
+          happens = reached-more (decode b p mode n) n s v
+              (λ i j l o e. order-in (decode b p mode n) s i j
+              (inter-order (decode b p mode n) (s + 1) (quiet-is (decode b p mode n) n (s + 1) v r few (kept .joined) hold none) (free-is b p mode n dep d off) i j
+              (omega (arith, r)) (omega (arith, r)) (inter-out (decode b p mode n) s i j e))) still;
+        }
+
+    -- its closure was added
+    pub reached-grown : (u : List ℕ) → live (decode b p mode n) (s + 1) ≡ true → Grown (decode b p mode n) n (s + 1) v u → Reached (decode b p mode n) n (s + 1) u
+    reached-grown u l g =
+        record {
+          based = g .based;
+          happens =
+              record {
+                fits = h .happens .fits;
+                cell = λ i j o q. g .cell i j o q ∙ ap (λ (z : Bool). z or interThread (decode b p mode n) (s + 1) i j) (still .cell i j o q)
+                    ∙ ap (λ (z : Bool). upTo (decode b p mode n) s i j or z) (inter-on (decode b p mode n) s i j l) ∙ upTo-more (decode b p mode n) s i j;
+              };
+        }
+
+-- ---- laws: all of them
+
+pub reached-start : {t : Table} {n : ℕ} {w u : List ℕ} → Started t n w u → Reached t n 0 u
+reached-start s = record { based = s .based; happens = s .happens }
+
+pub ordered-made : {t : Table} {n s : ℕ} {u : List ℕ} → s ≡ CLASS-SETS → Reached t n s u → Ordered t n u
+ordered-made {t} {n} {s} {u} e h =
+    record {
+      mutuals = h .based .mutuals;
+      happening = holds-cong (λ i j l o. ap (λ (z : ℕ). upTo t z i j) e ∙ upTo-all t i j) (h .happens);
+    }

@@ -1,0 +1,50 @@
+// The hops of a class set: from each hub, the moments that it leads to in one direct case. A hub is a row that holds all of the set;
+// in a table with dependencies, any row.
+ghost use mathlib.Core.Path.{_≡_};
+ghost use Prim.Native.Nat.{ℕ, _+_, _*_, _≤_, _<_};
+ghost use lib.ListN.{length};
+ghost use Rattle.bits.specs.Within.{Within};
+ghost use Rattle.model.specs.Limits.{ROWS, WORK};
+ghost use Rattle.model.specs.Row.{acquires};
+ghost use Rattle.model.specs.Table.{Table, rowOf};
+ghost use Rattle.moment_sets.specs.Regions.{HOPS, HOPS-END};
+ghost use Rattle.moment_sets.specs.Known.{Setup};
+ghost use Rattle.quick_order.specs.Hops.{hopWords, HopsMade};
+
+// Whether row x acquires.
+fn acquires_at(rows: &[u8], x: usize) -> bool
+    requires { ⌜ x < ROWS ⌝ }
+    ensures { λ b. ⌜ b ≡ acquires (rowOf (now (rows .entry)) x) ⌝ }
+{
+    rows::kinds::acquires(rows::bytes::read_row(rows, x as u16))
+}
+
+// The hops of row x: case 1 where h, case 2 where k, case 3 where a, case 4 where d.
+fn hop_row(w: &mut [u64], x: usize, h: bool, k: bool, a: bool, d: bool)
+    requires { ⌜ (x < ROWS) × (WORK ≤ length (now w)) ⌝ }
+    ensures { λ _. ⌜ now (w .exit) ≡ hopWords x h k a d (now (w .entry)) ⌝ }
+{
+    let hops = moment_sets::HOPS + x * area::MOMENTS;
+    let order = moment_sets::ORDER + (3 * x + 1) * area::MOMENTS;
+    let joined = moment_sets::JOINED + x * area::MOMENTS;
+    let depends = moment_sets::DEPENDS + x * area::MOMENTS;
+    bits::clear(w, hops, hops + area::MOMENTS);
+    sets::meet_if(w, h, hops, joined, moment_sets::HOLD, area::MOMENTS);
+    sets::meet_if(w, k, hops, order, moment_sets::RELEASE, area::MOMENTS);
+    sets::meet_if(w, a, hops, order, moment_sets::CONCERN, area::MOMENTS);
+    sets::meet_if(w, d, hops, depends, depends, area::MOMENTS);
+}
+
+// The hops of all rows, of the class set whose sets the work area holds; `dep` says that there are dependencies.
+pub fn fill_hops(w: &mut [u64], rows: &[u8], n: usize, dep: bool)
+    requires { ⌜ (n ≤ ROWS) × (WORK ≤ length (now w)) ⌝ }
+    ensures { λ _. ⌜ Within HOPS HOPS-END (now (w .entry)) (now (w .exit))
+        × ((t : Table) (s : ℕ) → Setup (now (rows .entry)) t n s dep (now (w .entry)) → HopsMade t dep s n n (now (w .entry)) (now (w .exit))) ⌝ }
+{
+    for x in 0..n {
+        let h = bits::get(w, moment_sets::HOLD * 64 + (3 * x + 1));
+        let k = bits::get(w, moment_sets::CONCERN * 64 + (3 * x + 1));
+        let q = acquires_at(rows, x);
+        hop_row(w, x, h, h | dep & k, h & q, dep);
+    }
+}

@@ -1,0 +1,76 @@
+// From the closed hops of a class set to happens-before: what each moment leads to is its row's hops, where the row is a hub, or those
+// of the first release row behind it.
+ghost use mathlib.Core.Path.{_≡_};
+ghost use mathlib.Core.List.{List};
+ghost use Prim.Native.Nat.{ℕ, _+_, _*_, _≤_, _<_};
+ghost use lib.ListN.{length};
+ghost use Rattle.bits.specs.Within.{Within};
+ghost use Rattle.bits.specs.Stage.{Added};
+ghost use Rattle.model.specs.Limits.{ROWS, WORK};
+ghost use Rattle.model.specs.Table.{Table};
+ghost use Rattle.model.specs.Happens.{interThread};
+ghost use Rattle.area.specs.Regions.{HAPPENS, HAPPENS-END, MOMENTS};
+ghost use Rattle.moment_sets.specs.Known.{Setup};
+ghost use Rattle.quick_order.specs.Sources.{hubBit, Source, Sourced, Closed};
+
+// No moment's number.
+const NONE: usize = 384;
+
+// Whether moment m is a hub's own.
+fn is_hub(w: &[u64], m: usize, dep: bool) -> bool
+    requires { ⌜ (m < 3 * ROWS) × (WORK ≤ length (now w)) ⌝ }
+    ensures { λ h. ⌜ h ≡ hubBit (now (w .entry)) dep m ⌝ }
+{
+    let b = bits::get(w, moment_sets::HOLD * 64 + m);
+    (m % 3 == 1) & (b | dep)
+}
+
+// The moment whose row's hops m leads to; h says that it is a hub's own.
+fn source_of(w: &[u64], m: usize, h: bool) -> usize
+    requires { ⌜ (m < 3 * ROWS) × (WORK ≤ length (now w)) ⌝ }
+    ensures { λ j. ⌜ Source (now (w .entry)) m h j ⌝ }
+{
+    if h {
+        return m;
+    }
+    if !bits::get(w, moment_sets::CONCERN * 64 + m) {
+        return NONE;
+    }
+    sets::first_both(
+        w,
+        moment_sets::ORDER + m * area::MOMENTS,
+        moment_sets::RELEASE,
+        area::MOMENTS,
+    )
+}
+
+// Adds to m's row of happens-before what the class set orders after it.
+fn add_source(w: &mut [u64], m: usize, dep: bool)
+    requires { ⌜ (m < 3 * ROWS) × (WORK ≤ length (now w)) ⌝ }
+    ensures { λ _. ⌜ Sourced m dep (now (w .entry)) (now (w .exit)) ⌝ }
+{
+    let h = is_hub(w, m, dep);
+    let j = source_of(w, m, h);
+    if j < NONE {
+        bits::join_row(
+            w,
+            area::HAPPENS + m * area::MOMENTS,
+            moment_sets::HOPS + j / 3 * area::MOMENTS,
+            area::MOMENTS,
+        );
+        bits::put_if(w, (area::HAPPENS + m * area::MOMENTS) * 64 + j, !h);
+    }
+}
+
+// Adds inter-thread order for the class set whose sets and closed hops the work area holds.
+// Ruled out: one that takes a later release row than the first; one that leaves the release row itself out.
+pub fn add_sources(w: &mut [u64], n: usize, dep: bool)
+    requires { ⌜ (n ≤ ROWS) × (WORK ≤ length (now w)) ⌝ }
+    ensures { λ _. ⌜ Within HAPPENS HAPPENS-END (now (w .entry)) (now (w .exit))
+        × ((bs : List ℕ) (t : Table) (s : ℕ) → Setup bs t n s dep (now (w .entry)) → Closed t dep s n (now (w .entry))
+        → Added HAPPENS HAPPENS-END HAPPENS MOMENTS (3 * n) (interThread t s) (now (w .entry)) (now (w .exit))) ⌝ }
+{
+    for m in 0..3 * n {
+        add_source(w, m, dep);
+    }
+}

@@ -1,19 +1,26 @@
 -- Edge 1 in a pair's bits, and laws of the edges that the stages cite. Assumes nothing.
-use mathlib.Core.Path.{_≡_, refl, subst}
+use mathlib.Core.Path.{_≡_, refl, sym, ap, subst, _∙_}
 use mathlib.Core.Bool.{Bool, true, false, not, cond}
 use mathlib.Core.List.{List}
-use Prim.Native.Nat.{ℕ, _+_, _*_, _<_}
+use Prim.Native.Nat.{ℕ, zero, suc, _+_, _*_, _/_, _%_, _^_, _≤_, _<_}
+use native.Mathlib.Omega.{arith}
+use native.Mathlib.Nat.{div-div-eq-div-mul}
+use lib.Pow.{pow-add}
+use lib.ListN.{getD}
+use borrow.Author.Tests.{eqb-true, eq-eqb, ne-eqb, not-false}
 use lib.Dec.{eqb}
-use Rattle.finite.specs.Logic.{_and_, _or_}
-use Rattle.bits.specs.Bit.{bit}
-use Rattle.finite.specs.Below.{anyBelow, any-cong}
+use Rattle.finite.specs.Logic.{_and_, _or_, or-left, or-right, and-true, and-false-left, and-false-right, not-in, not-out}
+use Rattle.bits.specs.Bit.{bit, bitOf}
+use Rattle.bits.specs.Within.{Within}
+use Rattle.bits.specs.Fill.{rowFill, within-rowFill}
+use Rattle.finite.specs.Below.{anyBelow, any-cong, any-not}
 use Rattle.model.specs.declared.Row.{Row}
 use Rattle.model.specs.Limits.{INITIAL}
 use Rattle.model.specs.Row.{reads, writes, overlap}
 use Rattle.model.specs.Table.{Table}
-use Rattle.model.specs.Scope.{follows}
+use Rattle.model.specs.Scope.{mutually, laterWriter, follows}
 use Rattle.model.specs.Edge.{beforeNth, beforeSome, readsFrom, fromReads, edgeNumber, edge}
-use Rattle.area.specs.Regions.{LOCATION, PAIR, PAIRS}
+use Rattle.area.specs.Regions.{LOCATION, PAIR, PAIRS, EDGE, EDGE-END}
 use Rattle.area.specs.State.{Located}
 
 -- ---- definitions
@@ -22,25 +29,56 @@ use Rattle.area.specs.State.{Located}
 unfoldable pub orderBit : List ℕ → ℕ → ℕ → ℕ → Bool
 orderBit w x y k = bit w (LOCATION * 64 + x * PAIRS + y * PAIR + k)
 
+-- none of the bits of the pair that begins at bit `at` is set, by the word that they stand in
+unfoldable pub unsetAt : List ℕ → ℕ → Bool
+unsetAt w at = eqb (getD w (at / 64) 0 / 2 ^ (at % 64) % 65536) 0
+
 -- ---- laws
+
+-- sixteen bits of a number that is a multiple of 65536
+even : (y k : ℕ) → y % 65536 ≡ 0 → k < 16 → y / 2 ^ k % 2 ≡ 0
+even y zero e l = omega arith
+even y (suc zero) e l = omega arith
+even y (suc (suc zero)) e l = omega arith
+even y (suc (suc (suc zero))) e l = omega arith
+even y (suc (suc (suc (suc zero)))) e l = omega arith
+even y (suc (suc (suc (suc (suc zero))))) e l = omega arith
+even y (suc (suc (suc (suc (suc (suc zero)))))) e l = omega arith
+even y (suc (suc (suc (suc (suc (suc (suc zero))))))) e l = omega arith
+even y (suc (suc (suc (suc (suc (suc (suc (suc zero)))))))) e l = omega arith
+even y (suc (suc (suc (suc (suc (suc (suc (suc (suc zero))))))))) e l = omega arith
+even y (suc (suc (suc (suc (suc (suc (suc (suc (suc (suc zero)))))))))) e l = omega arith
+even y (suc (suc (suc (suc (suc (suc (suc (suc (suc (suc (suc zero))))))))))) e l = omega arith
+even y (suc (suc (suc (suc (suc (suc (suc (suc (suc (suc (suc (suc zero)))))))))))) e l = omega arith
+even y (suc (suc (suc (suc (suc (suc (suc (suc (suc (suc (suc (suc (suc zero))))))))))))) e l = omega arith
+even y (suc (suc (suc (suc (suc (suc (suc (suc (suc (suc (suc (suc (suc (suc zero)))))))))))))) e l = omega arith
+even y (suc (suc (suc (suc (suc (suc (suc (suc (suc (suc (suc (suc (suc (suc (suc zero))))))))))))))) e l = omega arith
+even y (suc (suc (suc (suc (suc (suc (suc (suc (suc (suc (suc (suc (suc (suc (suc (suc k)))))))))))))))) e l = absurd (omega arith)
+
+unset-bit : (w : List ℕ) (at k : ℕ) → at % 16 ≡ 0 → k < PAIR → unsetAt w at ≡ true → bit w (at + k) ≡ false
+unfolding unsetAt bit bitOf
+unset-bit w at k a l e =
+    let q : (at + k) / 64 ≡ at / 64 = omega arith in
+    let r : (at + k) % 64 ≡ at % 64 + k = omega arith in
+    let z : getD w (at / 64) 0 / 2 ^ (at % 64) % 65536 ≡ 0 = eqb-true _ 0 e in
+    let y : getD w (at / 64) 0 / 2 ^ (at % 64 + k) % 2 ≡ 0 =
+    ap (λ (m : ℕ). getD w (at / 64) 0 / m % 2) (pow-add 2 (at % 64) k) ∙ ap (λ (m : ℕ). m % 2) (sym (div-div-eq-div-mul (getD w (at / 64) 0) (2 ^ (at % 64)) (2 ^ k)))
+    ∙ even (getD w (at / 64) 0 / 2 ^ (at % 64)) k z l in
+    rw (q, r, y) refl
 
 -- edge 1 is what a pair's bits say
 pub some-bits : (t : Table) (n : ℕ) (w : List ℕ) (x y : ℕ) → Located t n w → x < n → y < n → anyBelow PAIR (orderBit w x y) ≡ beforeSome t x y
 unfolding beforeSome orderBit
 some-bits t n w x y h l m = any-cong (λ k. bit w (LOCATION * 64 + x * PAIRS + y * PAIR + k)) (beforeNth t x y) PAIR (λ k o. h .location .cell x y k l m o)
 
--- an edge is there where it has a number
-numbered : (a b c d : Bool) → not (eqb (cond {A = ℕ} a 1 (cond b 2 (cond c 3 (cond d 4 0)))) 0) ≡ (a or b or c or d)
-unfolding _or_
-numbered true b c d = refl
-numbered false true c d = refl
-numbered false false true d = refl
-numbered false false false true = refl
-numbered false false false false = refl
+and-on : (a b : Bool) → a ≡ true → (a and b) ≡ b
+unfolding _and_
+and-on a b e = rw e refl
 
-pub edge-numbered : (t : Table) (source : ℕ → ℕ) (x y e : ℕ) → e ≡ edgeNumber t source x y → not (eqb e 0) ≡ edge t source x y
-unfolding edgeNumber edge
-edge-numbered t source x y e q = rw q (numbered (beforeSome t x y) (follows t x y) (readsFrom t source x y) (fromReads t source x y))
+and-on-right : (a b : Bool) → b ≡ true → (a and b) ≡ a
+unfolding _and_
+and-on-right true b e = e
+and-on-right false b e = refl
 
 -- the lowest number, chosen one after the other
 pub number-is : (t : Table) (source : ℕ → ℕ) (x y e f g h : ℕ) (a b c d : Bool) → a ≡ beforeSome t x y → b ≡ follows t x y → c ≡ readsFrom t source x y
@@ -62,3 +100,79 @@ module _ (t : Table) (source : ℕ → ℕ) (y z s : ℕ) (r q : Row) (e : s ≡
   from-source a b i l m =
       let j : eqb (source y) INITIAL ≡ false = subst (λ (v : ℕ). eqb v INITIAL ≡ false) e i in
       rw (j, l, m, f, e) refl
+
+-- a pair of which no bit is set
+pub some-unset : (t : Table) (n : ℕ) (w : List ℕ) (x y at : ℕ) → Located t n w → x < n → y < n → at ≡ LOCATION * 64 + x * PAIRS + y * PAIR
+    → unsetAt w at ≡ true → false ≡ beforeSome t x y
+unfolding orderBit
+some-unset t n w x y at h l m q e = sym (any-not (orderBit w x y) PAIR none) ∙ some-bits t n w x y h l m
+  where
+    none : (k : ℕ) → k < PAIR → orderBit w x y k ≡ false
+    none k o = subst (λ (z : ℕ). bit w (z + k) ≡ false) q (unset-bit w at k (omega arith) o e)
+
+-- ---- laws: one edge after the other
+
+module _ (t : Table) (source : ℕ → ℕ) (x y : ℕ) where
+  pub edge-location : (a : Bool) → a ≡ beforeSome t x y → a ≡ true → true ≡ edge t source x y
+  unfolding edge
+  edge-location a e h = sym (or-left _ (or-left _ (or-left _ (sym e ∙ h))))
+
+  pub edge-scoped : (a : Bool) → a ≡ follows t x y → a ≡ true → true ≡ edge t source x y
+  unfolding edge
+  edge-scoped a e h = sym (or-left _ (or-left _ (or-right _ (sym e ∙ h))))
+
+  pub edge-source : (a : Bool) → a ≡ readsFrom t source x y → a ≡ true → true ≡ edge t source x y
+  unfolding edge
+  edge-source a e h = sym (or-left _ (or-right _ (sym e ∙ h)))
+
+  pub edge-last : (a b c d : Bool) → a ≡ beforeSome t x y → a ≡ false → c ≡ readsFrom t source x y → c ≡ false → b ≡ follows t x y → b ≡ false → d ≡ fromReads t source x y
+      → d ≡ edge t source x y
+  unfolding edge _or_
+  edge-last a b c d ea ha ec hc eb hb ed = ed ∙ rw (← ea, ha, ← eb, hb, ← ec, hc) refl
+
+  -- edge 2, of rows that aren't mutually-ordered, and of rows that are
+  pub follows-apart : (a : Bool) → a ≡ mutually t x y → not a ≡ true → false ≡ follows t x y
+  unfolding follows
+  follows-apart a e h = sym (and-false-left _ _ (sym e ∙ not-out a h))
+
+  pub follows-on : (a b : Bool) (r q : Row) → a ≡ mutually t x y → not a ≡ false → r ≡ t .row x → q ≡ t .row y → b ≡ laterWriter (t .counted) q r → b ≡ follows t x y
+  unfolding follows
+  follows-on a b r q e h er eq eb = rw (eb, er, eq) (sym (and-on _ _ (sym e ∙ not-false a h)))
+
+  -- edge 3, of a row that has another source
+  pub source-other : (s : ℕ) → s ≡ source y → (s ≡ x → ⊥) → false ≡ readsFrom t source x y
+  unfolding readsFrom
+  source-other s e h = sym (and-false-right _ _ (ne-eqb (source y) x (λ q. h (e ∙ q))))
+
+  pub source-this : (s : ℕ) (q : Row) (a : Bool) → s ≡ source y → s ≡ x → q ≡ t .row y → a ≡ reads q → a ≡ readsFrom t source x y
+  unfolding readsFrom
+  source-this s q a e h f g = g ∙ ap reads f ∙ sym (and-on-right (reads (t .row y)) _ (eq-eqb (source y) x (sym e ∙ h)))
+
+  -- edge 4, of a row that doesn't read, and of a row and itself
+  pub from-unread : (r : Row) (a : Bool) → r ≡ t .row x → a ≡ reads r → not a ≡ true → false ≡ fromReads t source x y
+  unfolding fromReads
+  from-unread r a e f h = sym (and-false-left _ _ (and-false-right _ _ (sym (ap reads e) ∙ sym f ∙ not-out a h)))
+
+  pub from-itself : x ≡ y → false ≡ fromReads t source x y
+  unfolding fromReads _and_
+  from-itself e = rw (eq-eqb x y e) refl
+
+  module _ (s : ℕ) (r : Row) (a : Bool) (es : s ≡ source x) (er : r ≡ t .row x) (ea : a ≡ reads r) (ha : not a ≡ false) (d : x ≡ y → ⊥) where
+    on : (not (eqb x y) and reads (t .row x)) ≡ true
+    on = and-true (not-in (ne-eqb x y d)) (sym (ap reads er) ∙ sym ea ∙ not-false a ha)
+
+    pub from-initial-other : (q : Row) (b c : Bool) → eqb s INITIAL ≡ true → q ≡ t .row y → b ≡ writes q → c ≡ overlap r q → (b and c) ≡ fromReads t source x y
+    unfolding fromReads
+    from-initial-other q b c i eq eb ec =
+        let j : eqb (source x) INITIAL ≡ true = subst (λ (v : ℕ). eqb v INITIAL ≡ true) es i in
+        rw (j, eb, ec, eq, er) (sym (and-on _ _ on))
+
+    pub from-source-other : (b : Bool) → eqb s INITIAL ≡ false → b ≡ follows t s y → b ≡ fromReads t source x y
+    unfolding fromReads
+    from-source-other b i eb =
+        let j : eqb (source x) INITIAL ≡ false = subst (λ (v : ℕ). eqb v INITIAL ≡ false) es i in
+        rw (j, eb, es) (sym (and-on _ _ on))
+
+-- a row of edges stays within the words of all
+pub within-edges : {w u : List ℕ} (q : ℕ → Bool) (at n : ℕ) → 64 * EDGE ≤ at → at + n ≤ 64 * EDGE-END → u ≡ rowFill q w at n → Within EDGE EDGE-END w u
+within-edges {w} q at n l m e = rw e (within-rowFill EDGE EDGE-END q w at n l m)

@@ -2,7 +2,7 @@
 // its contract is about.
 ghost use mathlib.Core.Path.{_≡_};
 ghost use mathlib.Core.Bool.{Bool, cond};
-ghost use Prim.Native.Nat.{ℕ, _≤_, _<_};
+ghost use Prim.Native.Nat.{ℕ, _*_, _≤_, _<_};
 ghost use lib.ListN.{length};
 ghost use Rattle.bits.specs.Stage.{Made};
 ghost use Rattle.model.specs.Table.{rowOf, decode};
@@ -11,6 +11,7 @@ ghost use Rattle.model.specs.Edge.{beforeSome, readsFrom, fromReads, edgeNumber
 ghost use Rattle.area.specs.Regions.{EDGE, EDGE-END, GRID};
 ghost use Rattle.race.specs.Bytes.{Known};
 ghost use Rattle.axioms.specs.Sources.{sourceIn};
+ghost use Rattle.axioms.specs.Edges.{unsetAt};
 use model::Mode;
 use model::Places;
 use model::Row;
@@ -19,6 +20,14 @@ fn pick(b: bool, x: u16, y: u16) -> u16
     ensures { λ r. ⌜ r ≡ cond b x y ⌝ }
 {
     if b { x } else { y }
+}
+
+// Whether none of a pair's bits, which begin at bit `at`, is set: they stand in one word.
+fn is_unset(w: &[u64], at: usize) -> bool
+    requires { ⌜ at < 64 * length (now w) ⌝ }
+    ensures { λ b. ⌜ b ≡ unsetAt (now (w .entry)) at ⌝ }
+{
+    (w[at / 64] >> (at % 64)) % 65536 == 0
 }
 
 // Edge 1: whether x is location-ordered before y at some byte.
@@ -35,11 +44,12 @@ pub fn before_some(
     requires { ⌜ (x < n) × (y < n) × Known (decode (now rows) p mode n) n (now w) ⌝ }
     ensures { λ d. ⌜ d ≡ beforeSome (decode (now (rows .entry)) p mode n) x y ⌝ }
 {
+    let at = area::LOCATION * 64 + x * area::PAIRS + y * area::PAIR;
+    if is_unset(w, at) {
+        return false;
+    }
     for k in 0..area::PAIR {
-        if bits::get(
-            w,
-            area::LOCATION * 64 + x * area::PAIRS + y * area::PAIR + k,
-        ) {
+        if bits::get(w, at + k) {
             return true;
         }
     }
@@ -66,7 +76,15 @@ pub fn follows_at(
 }
 
 // The same where x is a source, which may be no row: so the work area is not asked.
-fn follows_source(rows: &[u8], p: Places, mode: Mode, n: usize, x: u16, y: usize, q: Row) -> bool
+pub fn follows_source(
+    rows: &[u8],
+    p: Places,
+    mode: Mode,
+    n: usize,
+    x: u16,
+    y: usize,
+    q: Row,
+) -> bool
     requires { ⌜ q ≡ rowOf (now rows) y ⌝ }
     ensures { λ d. ⌜ d ≡ follows (decode (now (rows .entry)) p mode n) x y ⌝ }
 {
@@ -148,24 +166,6 @@ pub fn edge_number(
     )
 }
 
-// Whether there is an edge from x to y.
-// Ruled out: one that leaves out edge 4; one that holds of an edge from y to x.
-pub fn edge_at(
-    rows: &[u8],
-    p: Places,
-    mode: Mode,
-    n: usize,
-    src: &[u16],
-    x: usize,
-    y: usize,
-    w: &[u64],
-) -> bool
-    requires { ⌜ (x < n) × (y < n) × (n ≤ length (now src)) × Known (decode (now rows) p mode n) n (now w) ⌝ }
-    ensures { λ d. ⌜ d ≡ edge (decode (now (rows .entry)) p mode n) (sourceIn (now (src .entry))) x y ⌝ }
-{
-    !(edge_number(rows, p, mode, n, src, x, y, w) == 0)
-}
-
 // The edges between n rows.
 // Ruled out: one that leaves a bit of an earlier stage set; one that writes a word outside the edges' region.
 pub fn fill_edges(rows: &[u8], p: Places, mode: Mode, n: usize, src: &[u16], w: &mut [u64])
@@ -174,9 +174,6 @@ pub fn fill_edges(rows: &[u8], p: Places, mode: Mode, n: usize, src: &[u16], w: 
 {
     bits::clear(w, area::EDGE, area::EDGE_END);
     for x in 0..n {
-        for y in 0..n {
-            let b = edge_at(rows, p, mode, n, src, x, y, w);
-            bits::put_if(w, (area::EDGE + x * area::GRID) * 64 + y, b);
-        }
+        crate::grid::edge_row(rows, p, mode, n, src, x, w);
     }
 }

@@ -1,113 +1,64 @@
-use Rattle.model.specs.Table.{decode}
+use mathlib.Core.Path.{_≡_, refl, sym, ap, _∙_}
+use Prim.Native.Nat.{_+_, _-_, _*_, _≤_, _<_}
+use native.Mathlib.Omega.{arith}
+use lib.ListN.{length}
+use Rattle.model.specs.Table.{rowOf, decode}
 use Rattle.model.specs.Edge.{edge}
 use Rattle.area.specs.Regions.{EDGE, EDGE-END, GRID}
 use Rattle.area.specs.State.{Located, located-kept}
 use Rattle.axioms.specs.Sources.{sourceIn}
-use mathlib.Core.Path.{_≡_, refl, ap, _∙_}
-use Prim.Native.Nat.{_+_, _-_, _*_, _≤_}
-use native.Mathlib.Omega.{arith}
-use lib.ListN.{length}
-use Rattle.bits.specs.Within.{within-put, within-cleared}
-use Rattle.bits.specs.Fill.{rowFill, gridFill, rowFill-none, rowFill-put, gridFill-none, gridFill-more, length-rowFill}
+use Rattle.bits.specs.Within.{within-cleared}
 use Rattle.bits.specs.Stage.{made-filled}
+use Rattle.bits.specs.Fill.{gridFill, gridFill-none, gridFill-more, length-gridFill}
+use Rattle.axioms.specs.Edges.{within-edges}
 use borrow.Author.Needs.{needs}
 use Rattle.axioms.proofs.edges.fill_edges.Statement.{statement}
 use Rattle.axioms.proofs.edges.fill_edges.Tie as tie
 use Rattle.axioms.proofs.edges.fill_edges.Reads as reads
 use Rattle.axioms.proofs.edges.fill_edges.Lts as lts
-use Rattle.axioms.proofs.edges.edge_at.Reads as edge-at-reads
+use Rattle.axioms.proofs.grid.edge_row.Reads as edge-row-reads
 use Rattle.bits.proofs.clear.Reads as clear-reads
-use Rattle.bits.proofs.put_if.Reads as put-if-reads
-
-abbrev Inv-loop2 : tie.InvT-loop2
-Inv-loop2 rows p mode n src w₀ x y₀ w y = (y ≤ n) × (length w ≡ length w₀) × Located (decode rows p mode n) n w × (w ≡ rowFill (edge (decode rows p mode n) (sourceIn src) x) w₀ (EDGE * 64 + x * (GRID * 64)) y)
-
-abbrev μ-loop2 : tie.MeasureT-loop2
-μ-loop2 rows p mode n src w₀ x y₀ w y = n - y
 
 abbrev Inv-loop : tie.InvT-loop
-Inv-loop rows p mode n src w₀ x₀ w x = (x ≤ n) × (length w ≡ length w₀) × Located (decode rows p mode n) n w × (w ≡ gridFill (edge (decode rows p mode n) (sourceIn src)) w₀ (EDGE * 64) (GRID * 64) (n) x)
+Inv-loop rows p mode n src w₀ x₀ w x = (x ≤ n) × (length w ≡ length w₀) × Located (decode rows p mode n) n w × (w ≡ gridFill (edge (decode rows p mode n) (sourceIn src)) w₀ (EDGE * 64) (GRID * 64) n x)
 
 abbrev μ-loop : tie.MeasureT-loop
 μ-loop rows p mode n src w₀ x₀ w x = n - x
 
--- src/edges.rt:150:5
-clear-requires : tie.Need-clear-requires Inv-loop2 μ-loop2 Inv-loop μ-loop
+-- src/edges.rt:167:5
+clear-requires : tie.Need-clear-requires Inv-loop μ-loop
 clear-requires c κs = search needs
 
--- src/edges.rt:151:5
-loop-holds : tie.Need-loop-holds Inv-loop2 μ-loop2 Inv-loop μ-loop
+-- src/edges.rt:168:5
+loop-holds : tie.Need-loop-holds Inv-loop μ-loop
 loop-holds c = (search needs, refl, located-kept (omega arith) (within-cleared EDGE EDGE-END (omega arith) (c .before .before .clear .ensures)) (c .before .before .before .before .before .before .before .pre .1 .3), gridFill-none _ _ _ _ _)
 
--- src/edges.rt:152:9
-loop2-holds : tie.Need-loop2-holds Inv-loop2 μ-loop2 Inv-loop μ-loop
-loop2-holds c = (search needs, refl, c .before .loop .inv .2, rowFill-none _ _ _)
+-- src/edges.rt:169:9
+edge-row-requires : tie.Need-edge-row-requires Inv-loop μ-loop
+edge-row-requires c κs = let s = c .before .before .before .before .before .before .before .before .before .before in let inv = c .before .before .loop .inv in (search needs, s .pre .0, (s .pre .1 .0, search needs, s .pre .1 .2, inv .2))
 
--- src/edges.rt:153:17
-edge-at-requires : tie.Need-edge-at-requires Inv-loop2 μ-loop2 Inv-loop μ-loop
-edge-at-requires c κs =
-    let s = c .before .before .before .before .before .before .before .before .before .before .before .before in
-    let inv = c .before .before .loop2 .inv in
-    (search needs, search needs, s .pre .0, (s .pre .1 .0, search needs, s .pre .1 .2, inv .2))
-
--- src/edges.rt:154:43
-mul-put-if : tie.Need-mul-put-if Inv-loop2 μ-loop2 Inv-loop μ-loop
-mul-put-if c = search needs
-
--- src/edges.rt:154:30
-add-put-if : tie.Need-add-put-if Inv-loop2 μ-loop2 Inv-loop μ-loop
-add-put-if c = search needs
-
--- src/edges.rt:154:29
-mul-put-if-2 : tie.Need-mul-put-if-2 Inv-loop2 μ-loop2 Inv-loop μ-loop
-mul-put-if-2 c = search needs
-
--- src/edges.rt:154:29
-add-put-if-2 : tie.Need-add-put-if-2 Inv-loop2 μ-loop2 Inv-loop μ-loop
-add-put-if-2 c = search needs
-
--- src/edges.rt:154:13
-put-if-requires : tie.Need-put-if-requires Inv-loop2 μ-loop2 Inv-loop μ-loop
-put-if-requires c κs = search needs
-
--- src/edges.rt:152:13
-add-y : tie.Need-add-y Inv-loop2 μ-loop2 Inv-loop μ-loop
-add-y c = search needs
-
--- src/edges.rt:152:9
-loop2-less : tie.Need-loop2-less Inv-loop2 μ-loop2 Inv-loop μ-loop
-loop2-less c = search needs
-
--- src/edges.rt:152:9
-loop2-again : tie.Need-loop2-again Inv-loop2 μ-loop2 Inv-loop μ-loop
-loop2-again c =
-    let put = c .before .before .put-if in
-    let inv = c .before .before .before .before .before .before .before .loop2 .inv in
-    let e = rowFill-put _ _ _ (put .last .0) _ _ _ _ (inv .3) (c .before .before .before .before .edge-at .ensures) (omega arith) (put .ensures) in
-    (search needs, ap length e ∙ length-rowFill _ _ _ _, located-kept (omega arith) (within-put EDGE EDGE-END _ _ (omega arith) (omega arith) (put .ensures)) (inv .2), e)
-
--- src/edges.rt:151:9
-add-x : tie.Need-add-x Inv-loop2 μ-loop2 Inv-loop μ-loop
+-- src/edges.rt:168:9
+add-x : tie.Need-add-x Inv-loop μ-loop
 add-x c = search needs
 
--- src/edges.rt:151:5
-loop-less : tie.Need-loop-less Inv-loop2 μ-loop2 Inv-loop μ-loop
+-- src/edges.rt:168:5
+loop-less : tie.Need-loop-less Inv-loop μ-loop
 loop-less c = search needs
 
--- src/edges.rt:151:5
-loop-again : tie.Need-loop-again Inv-loop2 μ-loop2 Inv-loop μ-loop
+-- src/edges.rt:168:5
+loop-again : tie.Need-loop-again Inv-loop μ-loop
 loop-again c =
-    let inv = c .before .loop2 .inv in
-    let out = c .before .before .before .loop .inv in
-    let e : c .before .loop2 .y ≡ c .before .before .before .before .before .before .before .before .before .before .before .args .n = omega arith in
-    (search needs, inv .1 ∙ out .1, inv .2, gridFill-more _ _ _ _ _ _ _ _ (out .3) (rw e at (inv .3)))
+    let row = c .before .before .edge-row in
+    let inv = c .before .before .before .before .before .loop .inv in
+    let e = gridFill-more _ _ _ _ _ _ _ _ (inv .3) (row .ensures) in
+    (search needs, ap length e ∙ length-gridFill _ _ _ _ _ _, located-kept (omega arith) (within-edges _ _ _ (omega arith) (omega arith) (row .ensures)) (inv .2), e)
 
--- src/edges.rt:146:1
-same-length : tie.Need-same-length Inv-loop2 μ-loop2 Inv-loop μ-loop
+-- src/edges.rt:163:1
+same-length : tie.Need-same-length Inv-loop μ-loop
 same-length c = search needs
 
--- src/edges.rt:146:1
-returns : tie.Need-returns Inv-loop2 μ-loop2 Inv-loop μ-loop
+-- src/edges.rt:163:1
+returns : tie.Need-returns Inv-loop μ-loop
 returns c =
     let e : c .before .loop .x ≡ c .before .before .before .before .before .before .before .before .before .args .n = omega arith in
     made-filled EDGE EDGE-END GRID _ _ _ _ _ (omega arith) (omega arith) (omega arith) (c .before .before .before .before .clear .ensures) (rw e at (c .before .loop .inv .3))
@@ -116,22 +67,11 @@ pub fill-edges-spec : {M : Type 1} → statement M
 fill-edges-spec =
     tie.close
     (tie.spec
-    Inv-loop2
-    μ-loop2
     Inv-loop
     μ-loop
     clear-requires
     loop-holds
-    loop2-holds
-    edge-at-requires
-    mul-put-if
-    add-put-if
-    mul-put-if-2
-    add-put-if-2
-    put-if-requires
-    add-y
-    loop2-less
-    loop2-again
+    edge-row-requires
     add-x
     loop-less
     loop-again

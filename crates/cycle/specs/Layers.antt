@@ -1,15 +1,18 @@
 -- The layers of the search for a cycle, as bits of the work area, and what is read and written by them. Assumes nothing.
-use mathlib.Core.Path.{_≡_, refl, ap, _∙_}
+use mathlib.Core.Path.{_≡_, refl, sym, ap, _∙_}
 use mathlib.Core.Bool.{Bool, true}
 use mathlib.Core.List.{List}
-use Prim.Native.Nat.{ℕ, suc, _+_, _≤_, _<_}
+use Prim.Native.Nat.{ℕ, suc, _+_, _*_, _≤_, _<_}
 use native.Mathlib.Omega.{arith}
 use native.Mathlib.Numerals.{add-one}
+use native.Mathlib.Decide.{decLt}
 use lib.ListN.{length, getD}
-use Rattle.finite.specs.Logic.{_and_}
-use Rattle.finite.specs.Below.{least, least-cong, least-found}
+use Rattle.finite.specs.Logic.{_and_, not-both}
+use Rattle.finite.specs.Below.{Least, least, least-cong, least-found, least-is, least-unique}
 use Rattle.finite.specs.Walk.{walk, cycleSize}
+use Rattle.bits.specs.Bit.{bit}
 use Rattle.bits.specs.Matrix.{rel}
+use Rattle.sets.specs.Meet.{both}
 use Rattle.area.specs.Regions.{EDGE, LAYERS, GRID}
 
 -- ---- definitions
@@ -60,3 +63,22 @@ size-found n e x k l t b = rw (add-one, least-found (λ j. walk n e x (suc j) x)
 pub size-none : (n : ℕ) (e : ℕ → ℕ → Bool) (x : ℕ) → least n (λ j. walk n e x (suc j) x) ≡ n → n + 1 ≡ cycleSize n e x
 unfolding cycleSize
 size-none n e x l = rw (add-one, l) refl
+
+-- ---- laws: the lowest bit that a row of edges and a layer share
+
+module _ (w : List ℕ) (k z n y : ℕ) (fits : n ≤ 64 * GRID) (h : Least (64 * GRID) (both w (EDGE + z * GRID) (LAYERS + k * GRID)) y) where
+  pub next-found : y < n → y ≡ least n (stepBit w k z)
+  unfolding both stepBit rel
+  next-found l = sym (least-unique _ n y l (h .hit (omega arith)) (λ j m. h .miss j m))
+
+  pub next-none : n ≤ y → n ≡ least n (stepBit w k z)
+  unfolding both stepBit rel
+  next-none l = go (decLt (least n (λ j. bit w ((EDGE + z * GRID) * 64 + j) and bit w ((LAYERS + k * GRID) * 64 + j))) n)
+    where
+      least-at : Least n (λ j. bit w ((EDGE + z * GRID) * 64 + j) and bit w ((LAYERS + k * GRID) * 64 + j)) (least n (λ j. bit w ((EDGE + z * GRID) * 64 + j) and bit w ((LAYERS + k * GRID) * 64 + j)))
+      least-at = least-is _ n
+
+      go : Dec (least n (λ j. bit w ((EDGE + z * GRID) * 64 + j) and bit w ((LAYERS + k * GRID) * 64 + j)) < n)
+          → n ≡ least n (λ j. bit w ((EDGE + z * GRID) * 64 + j) and bit w ((LAYERS + k * GRID) * 64 + j))
+      go (yes m) = not-both (least-at .hit m) (h .miss _ (omega arith))
+      go (no m) = let b = least-at .bound in omega arith

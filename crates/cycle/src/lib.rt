@@ -22,14 +22,6 @@ fn has(w: &[u64], base: usize, i: usize, j: usize) -> bool
     bits::get(w, (base + i * area::GRID) * 64 + j)
 }
 
-// Whether an edge leads from row z to row y, and y is in layer k.
-fn is_step(w: &[u64], k: usize, z: usize, y: usize) -> bool
-    requires { ⌜ (WORK ≤ length (now w)) × (k ≤ ROWS) × (z < ROWS) × (y < ROWS) ⌝ }
-    ensures { λ b. ⌜ b ≡ stepBit (now (w .entry)) k z y ⌝ }
-{
-    has(w, area::EDGE, z, y) & has(w, area::LAYERS, k, y)
-}
-
 // ---- the first row
 
 // The least row whose bit on the diagonal of the layers is set; n where none is.
@@ -66,12 +58,13 @@ pub fn next_row(w: &[u64], n: usize, k: usize, z: usize) -> usize
     ensures { λ r. ⌜ (r ≡ least n (stepBit (now (w .entry)) k z))
         × ((x : ℕ) → Layers n x (now (w .entry)) → r ≡ nextRow n (rel (now (w .entry)) EDGE GRID) x k z) ⌝ }
 {
-    for y in 0..n {
-        if is_step(w, k, z, y) {
-            return y;
-        }
-    }
-    n
+    let y = sets::first_both(
+        w,
+        area::EDGE + z * area::GRID,
+        area::LAYERS + k * area::GRID,
+        area::GRID,
+    );
+    if y < n { y } else { n }
 }
 
 // Layer k becomes the rows from which k edges lead to row x, for each k up to n.

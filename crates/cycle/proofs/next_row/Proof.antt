@@ -1,60 +1,49 @@
--- `next_row` meets its contract: no row so far passes. Assumes nothing.
-use mathlib.Core.Path.{_≡_, sym, _∙_}
-use Prim.Native.Nat.{_-_, _≤_}
+use mathlib.Core.Path.{_∙_}
 use native.Mathlib.Omega.{arith}
-use Rattle.finite.specs.Below.{least, least-none, least-more, least-found}
-use Rattle.cycle.specs.Layers.{stepBit, next-is}
+use Rattle.cycle.specs.Layers.{next-is, next-found, next-none}
 use borrow.Author.Needs.{needs}
 use Rattle.cycle.proofs.next_row.Statement.{statement}
 use Rattle.cycle.proofs.next_row.Tie as tie
 use Rattle.cycle.proofs.next_row.Reads as reads
 use Rattle.cycle.proofs.next_row.Lts as lts
-use Rattle.cycle.proofs.is_step.Reads as is-step-reads
+use Rattle.sets.proofs.first_both.Reads as first-both-reads
 
-abbrev Inv-loop : tie.InvT-loop
-Inv-loop w n k z y₀ y = (y ≤ n) × (least y (stepBit w k z) ≡ y)
+-- src/lib.rt:63:22
+mul-first-both : tie.Need-mul-first-both
+mul-first-both c = search needs
 
-abbrev μ-loop : tie.MeasureT-loop
-μ-loop w n k z y₀ y = n - y
+-- src/lib.rt:63:9
+add-first-both : tie.Need-add-first-both
+add-first-both c = search needs
 
-loop-holds : tie.Need-loop-holds Inv-loop μ-loop
-loop-holds c = (search needs, least-none _)
+-- src/lib.rt:64:24
+mul-first-both-2 : tie.Need-mul-first-both-2
+mul-first-both-2 c = search needs
 
-is-step-requires : tie.Need-is-step-requires Inv-loop μ-loop
-is-step-requires c κs = search needs
+-- src/lib.rt:64:9
+add-first-both-2 : tie.Need-add-first-both-2
+add-first-both-2 c = search needs
 
-returns : tie.Need-returns Inv-loop μ-loop
-returns c =
-    let at-loop = c .before .before .before in
-    let e = sym (least-found _ _ _ (at-loop .loop .inv .1) (sym (c .before .is-step .ensures) ∙ c .if1 .taken) (c .before .before .loop-test .taken)) in
-    (e, λ x h. e ∙ next-is h _ _ (at-loop .before .before .pre .2))
+-- src/lib.rt:61:9
+first-both-requires : tie.Need-first-both-requires
+first-both-requires c κs = search needs
 
-add-y : tie.Need-add-y Inv-loop μ-loop
-add-y c = search needs
+-- src/lib.rt:56:1
+returns : tie.Need-returns
+returns c = let e = next-found _ _ _ _ _ (omega (arith, c .before .before .before .pre .0)) (c .before .first-both .ensures) (c .if1 .taken) in (e, λ x h. e ∙ next-is h _ _ (c .before .before .before .pre .2))
 
-loop-less : tie.Need-loop-less Inv-loop μ-loop
-loop-less c = search needs
-
-loop-again : tie.Need-loop-again Inv-loop μ-loop
-loop-again c = (search needs, least-more _ _ (c .before .before .before .loop .inv .1) (sym (c .before .is-step .ensures) ∙ c .if1 .left))
-
-returns-2 : tie.Need-returns-2 Inv-loop μ-loop
-returns-2 c =
-    let start = c .before .before .before in
-    let n : c .before .loop .y ≡ start .args .n = omega arith in
-    let e = sym (rw n at (c .before .loop .inv .1)) in
-    (e, λ x h. e ∙ next-is h _ _ (start .pre .2))
+-- src/lib.rt:56:1
+returns-2 : tie.Need-returns-2
+returns-2 c = let e = next-none _ _ _ _ _ (omega (arith, c .before .before .before .pre .0)) (c .before .first-both .ensures) (c .if1 .left) in (e, λ x h. e ∙ next-is h _ _ (c .before .before .before .pre .2))
 
 pub next-row-spec : {M : Type 1} → statement M
 next-row-spec =
     tie.close
     (tie.spec
-    Inv-loop
-    μ-loop
-    loop-holds
-    is-step-requires
+    mul-first-both
+    add-first-both
+    mul-first-both-2
+    add-first-both-2
+    first-both-requires
     returns
-    add-y
-    loop-less
-    loop-again
     returns-2)

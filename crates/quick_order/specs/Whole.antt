@@ -22,7 +22,7 @@ use Rattle.model.specs.Happens.{holding, interThread, live, interThreadBy}
 use Rattle.area.specs.Regions.{MUTUAL, SYNC, HAPPENS, HAPPENS-END, GRID, MOMENTS, LOCATED-END}
 use Rattle.area.specs.State.{Ordered}
 use Rattle.sequence.specs.Forms.{and-on}
-use Rattle.sequence.specs.Known.{Synced, MadeSynced, synced-kept}
+use Rattle.sequence.specs.Known.{Synced, synced-kept}
 use Rattle.order.specs.Sets.{interBy, upTo, upTo-none, upTo-more, upTo-all}
 use Rattle.sets.specs.Own.{ClosedOwn}
 use Rattle.hubs.specs.Quiet.{inter-order}
@@ -62,7 +62,7 @@ pub record Reached (t : Table) (n s : ℕ) (w : List ℕ) : Type 0 where
 
 -- ---- laws: the beginning
 
-pub started-made : (b : List ℕ) (p : List (List ℕ)) (mode : Mode) (n : ℕ) (w v x y u : List ℕ) → n ≤ ROWS → MadeSynced (decode b p mode n) n w v
+pub started-made : (b : List ℕ) (p : List (List ℕ)) (mode : Mode) (n : ℕ) (w v x y u : List ℕ) → n ≤ ROWS → Synced (decode b p mode n) n v × Within MUTUAL HAPPENS-END w v
     → Begun (decode b p mode n) n v x → MadeJoined n x y → MadeDepends mode n (mode .dependencies) y u → Started (decode b p mode n) n w u
 started-made b p mode n w v x y u few synced begun joined depends =
     record {
@@ -75,13 +75,13 @@ started-made b p mode n w v x y u few synced begun joined depends =
           };
       happens = holds-cong (λ i j l o. upTo-none (decode b p mode n) i j)
           (holds-kept (λ h. absurd (omega arith)) (depends .frame) (holds-kept (λ h. absurd (omega arith)) (joined .frame) (begun .happens)));
-      frame = within-trans (within-widen MUTUAL LOCATED-END (omega arith) (omega arith) (synced .frame))
+      frame = within-trans (within-widen MUTUAL LOCATED-END (omega arith) (omega arith) (synced .1))
           (within-trans (within-widen MUTUAL LOCATED-END (omega arith) (omega arith) (begun .frame))
           (within-trans (within-widen MUTUAL LOCATED-END (omega arith) (omega arith) (joined .frame)) (within-widen MUTUAL LOCATED-END (omega arith) (omega arith) (depends .frame))));
     }
   where
     now : Synced (decode b p mode n) n x
-    now = synced-kept (omega arith) (begun .frame) (synced .synced)
+    now = synced-kept (omega arith) (begun .frame) (synced .0)
 
 -- ---- laws: the closure of a class set
 

@@ -61,7 +61,7 @@ fn start(rows: &[u8], p: Places, mode: Mode, n: usize, w: &mut [u64])
     requires { ⌜ (n ≤ ROWS) × (WORK ≤ length (now w)) ⌝ }
     ensures { λ _. ⌜ Started (decode (now (rows .entry)) p mode n) n (now (w .entry)) (now (w .exit)) ⌝ }
 {
-    sequence::sync::make_synced(rows, p, mode, n, w);
+    quick_sync::sync::make_synced(rows, p, mode, n, w);
     moment_sets::program::fill_order(rows, n, w);
     moment_sets::joined::fill_joined(w, n);
     moment_sets::joined::fill_depends(w, mode, n);

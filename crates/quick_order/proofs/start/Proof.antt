@@ -7,7 +7,7 @@ use Rattle.quick_order.proofs.start.Lts as lts
 use Rattle.moment_sets.proofs.joined.fill_depends.Reads as fill-depends-reads
 use Rattle.moment_sets.proofs.joined.fill_joined.Reads as fill-joined-reads
 use Rattle.moment_sets.proofs.program.fill_order.Reads as fill-order-reads
-use Rattle.sequence.proofs.sync.make_synced.Reads as make-synced-reads
+use Rattle.quick_sync.proofs.sync.make_synced.Reads as make-synced-reads
 
 -- src/lib.rt:100:5
 make-synced-requires : tie.Need-make-synced-requires

@@ -4,7 +4,7 @@ use Rattle.verdict.proofs.judge.locate.Statement.{statement}
 use Rattle.verdict.proofs.judge.locate.Tie as tie
 use Rattle.verdict.proofs.judge.locate.Reads as reads
 use Rattle.verdict.proofs.judge.locate.Lts as lts
-use Rattle.location.proofs.fill_location.Reads as fill-location-reads
+use Rattle.quick_location.proofs.fill_location.Reads as fill-location-reads
 use Rattle.quick_order.proofs.happens_before.Reads as happens-before-reads
 
 -- src/judge.rt:22:5

@@ -41,7 +41,7 @@ pub fn with_hosts(version: u8) -> bool
 }
 
 fn places_size(version: u8, agents: u8) -> usize
-    ensures { λ r. ⌜ (r ≡ placesSize version agents) × (r ≤ 2040) ⌝ }
+    ensures { λ r. ⌜ (r ≡ placesSize version agents) × (r ≤ 8 * agents) ⌝ }
 {
     if with_hosts(version) {
         return bytes::HOSTS_PLACE_BYTES * (agents as usize);
@@ -50,7 +50,7 @@ fn places_size(version: u8, agents: u8) -> usize
 }
 
 fn dependencies_size(version: u8, n: u16) -> usize
-    ensures { λ r. ⌜ (r ≡ dependenciesSize version n) × (r ≤ 262142) ⌝ }
+    ensures { λ r. ⌜ (r ≡ dependenciesSize version n) × (r ≤ 2 + 4 * n) ⌝ }
 {
     if with_hosts(version) {
         return 2 + bytes::DEPENDENCY_BYTES * (n as usize);
@@ -59,7 +59,7 @@ fn dependencies_size(version: u8, n: u16) -> usize
 }
 
 pub fn table_size(version: u8, agents: u8, rows: u8, n: u16) -> usize
-    ensures { λ r. ⌜ r ≡ tableSize version agents rows n ⌝ }
+    ensures { λ r. ⌜ (r ≡ tableSize version agents rows n) × (8 ≤ r) × (r ≤ 10 + 8 * agents + 16 * rows + 4 * n) ⌝ }
 {
     let places = places_size(version, agents);
     let after = dependencies_size(version, n);

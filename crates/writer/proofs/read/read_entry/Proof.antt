@@ -1,0 +1,31 @@
+use Rattle.writer.specs.Encode.{entryOf}
+use mathlib.Core.Path.{_≡_, refl, sym, ap, _∙_}
+use borrow.Author.Needs.{needs}
+use Rattle.writer.proofs.read.read_entry.Statement.{statement}
+use Rattle.writer.proofs.read.read_entry.Tie as tie
+use Rattle.writer.proofs.read.read_entry.Reads as reads
+use Rattle.writer.proofs.read.read_entry.Lts as lts
+use Rattle.rows.proofs.bytes.read_row.Reads as read-row-reads
+use Rattle.rows.proofs.bytes.read_source.Reads as read-source-reads
+use Rattle.rows.proofs.bytes.row_bytes.Reads as row-bytes-reads
+
+-- src/read.rt:13:9
+row-bytes-requires : tie.Need-row-bytes-requires
+row-bytes-requires c κs = search needs
+
+-- src/read.rt:15:14
+read-row-requires : tie.Need-read-row-requires
+read-row-requires c κs = search needs
+
+-- src/read.rt:16:17
+read-source-requires : tie.Need-read-source-requires
+read-source-requires c κs = search needs
+
+-- src/read.rt:10:1
+returns : tie.Need-returns
+unfolding entryOf
+returns c = rw (← c .before .before .row-bytes .ensures, ← c .before .read-row .ensures, ← c .read-source .ensures) refl
+
+pub read-entry-spec : {M : Type 1} → statement M
+read-entry-spec =
+    tie.close (tie.spec row-bytes-requires read-row-requires read-source-requires returns)

@@ -57,6 +57,10 @@ module _ (version : ℕ) where
   unfolding tableSize
   size-most agents rows n a r d = let x = places-most agents a in let y = after-most n d in omega arith
 
+  pub size-least : (agents rows n : ℕ) → HEADER ≤ tableSize version agents rows n
+  unfolding tableSize
+  size-least agents rows n = omega arith
+
 -- ---- the lengths of the parts
 
 pub header-length : (version agents rows size : ℕ) → length (headerList version agents rows size) ≡ HEADER

@@ -19,8 +19,9 @@ use Rattle.writer.specs.declared.Entry.{Entry}
 use Rattle.writer.specs.declared.Dependencies.{Dependencies}
 use Rattle.writer.specs.declared.WriteAnswer.{WriteAnswer}
 use Rattle.writer.specs.declared.WriteAnswer.the-variants as Answer
-use Rattle.writer.specs.Encode.{half, withHosts, placesSize, dependenciesSize, tableSize, headerList, numberOf, placeNumber, placeByte, rowList, nothing, entryAt, entryByte, dependencyNumber, dependencyByte, placesPart, rowsPart, dependenciesPart, encode}
+use Rattle.writer.specs.Encode.{half, withHosts, placesSize, dependenciesSize, tableSize, headerList, numberOf, placeNumber, placeByte, rowList, nothing, entryAt, entryByte, dependencyNumber, dependencyByte, placesPart, rowsPart, dependenciesPart, encode, entriesIn}
 use Rattle.writer.specs.Answer.{valuesFault, writtenAs, roomAnswer, writeAnswer, bufferAfter}
+use Rattle.writer.specs.Parts.{agentsIn, placesIn, rowsIn, dependenciesIn, partsAnswer, partsTable}
 use Rattle.writer.specs.ValueLaws.{Fits, places-most, after-most, size-most, header-length, encode-length, values-fit, agents-few, rows-few, after-few}
 
 -- ---- a byte of a number of two bytes
@@ -193,3 +194,19 @@ module _ (w : WriteAnswer) (a : Admission) (size room : ℕ) (e : w ≡ writtenA
     pub long-is : size ≤ room → w ≡ Answer.Written size
     unfolding roomAnswer
     long-is h = open-is ∙ rw (le-leb size room h) refl
+
+-- ---- values out of lent parts
+
+module _ (version : ℕ) (P B Q : List ℕ) {a : ℕ} {p : List (List ℕ)} {n : ℕ} {l : List Entry} {d : Dependencies} (ea : a ≡ agentsIn P) (ep : p ≡ placesIn P) (en : n ≡ rowsIn B) (el : l ≡ entriesIn B)
+    (ed : d ≡ dependenciesIn Q) where
+  answer-same : (room : ℕ) → writeAnswer version a p n l d room ≡ partsAnswer version P B Q room
+  unfolding partsAnswer
+  answer-same room = rw (← ea, ← ep, ← en, ← el, ← ed) refl
+
+  table-same : encode version a p n l d ≡ partsTable version P B Q
+  unfolding partsTable
+  table-same = rw (← ea, ← ep, ← en, ← el, ← ed) refl
+
+  pub parts-out : (out u : List ℕ) (r : WriteAnswer) (room : ℕ) → (r ≡ writeAnswer version a p n l d room) × (u ≡ bufferAfter (writeAnswer version a p n l d room) (encode version a p n l d) out)
+      → (r ≡ partsAnswer version P B Q room) × (u ≡ bufferAfter (partsAnswer version P B Q room) (partsTable version P B Q) out)
+  parts-out out u r room h = (h .0 ∙ answer-same room, h .1 ∙ ap₂ (λ (x : WriteAnswer) (y : List ℕ). bufferAfter x y out) (answer-same room) table-same)

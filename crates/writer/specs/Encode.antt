@@ -104,12 +104,16 @@ encode version agents p rows l d =
 
 -- ---- the values of a table, as they were read
 
+-- row i with its source, in the bytes of the rows
 unfoldable pub entryOf : List ℕ → ℕ → Entry
-entryOf s i = record { row = rowOf (rowBytes s) i; source = record { 0 = sourceOf (rowBytes s) i } }
+entryOf b i = record { row = rowOf b i; source = record { 0 = sourceOf b i } }
 
--- as many as a table may have: past its rows they are zeros
+-- as many as a table may have: past the rows they are zeros
+unfoldable pub entriesIn : List ℕ → List Entry
+entriesIn b = tabulate (entryOf b) ROWS
+
 unfoldable pub entriesOf : List ℕ → List Entry
-entriesOf s = tabulate (entryOf s) ROWS
+entriesOf s = entriesIn (rowBytes s)
 
 unfoldable pub dependenciesOf : List ℕ → Dependencies
 dependenciesOf s =

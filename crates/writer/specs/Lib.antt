@@ -5,4 +5,5 @@ pub mod EncodeLaws
 pub mod ReadLaws
 pub mod AnswerLaws
 pub mod PastLaws
+pub mod Parts
 pub mod Promise

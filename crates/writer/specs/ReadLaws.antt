@@ -21,7 +21,7 @@ use Rattle.model.specs.FilledLaws.{Bytes}
 use Rattle.model.specs.AdmissionLaws.{Sound, hosts-right, agents-fit, rows-fit, dependencies-fit, length-is}
 use Rattle.writer.specs.declared.Entry.{Entry}
 use Rattle.writer.specs.declared.Dependencies.{Dependencies}
-use Rattle.writer.specs.Encode.{half, withHosts, placesSize, dependenciesSize, tableSize, headerList, numberOf, placeNumber, placeByte, rowList, nothing, entryAt, entryByte, dependencyNumber, dependencyByte, placesPart, rowsPart, dependenciesPart, encode, entryOf, entriesOf, dependenciesOf}
+use Rattle.writer.specs.Encode.{half, withHosts, placesSize, dependenciesSize, tableSize, headerList, numberOf, placeNumber, placeByte, rowList, nothing, entryAt, entryByte, dependencyNumber, dependencyByte, placesPart, rowsPart, dependenciesPart, encode, entryOf, entriesIn, entriesOf, dependenciesOf}
 use Rattle.writer.specs.Answer.{versionKnown, countsFit, numberOver, numbersFit, dependenciesFit}
 use Rattle.writer.specs.ValueLaws.{Fits, places-hosts, places-plain, after-plain, after-most, header-length}
 use Rattle.writer.specs.EncodeLaws.{count-at}
@@ -260,9 +260,9 @@ module _ {blanks : Bool} {s : List ℕ} (sound : Sound blanks s) where
     unfolding rowBytes
     row-small = front-small (drop (rowsBegin s) s) (part-small s small (rowsBegin s)) (ROW-BYTES * rowsAt s)
 
-    entry-is : (i : ℕ) → i < rowsAt s → entryAt (entriesOf s) i ≡ entryOf s i
-    unfolding entryAt entriesOf
-    entry-is i h = let few = rows-fit sound in getD-tabulate (entryOf s) ROWS i nothing (omega arith)
+    entry-is : (i : ℕ) → i < rowsAt s → entryAt (entriesOf s) i ≡ entryOf (rowBytes s) i
+    unfolding entryAt entriesOf entriesIn
+    entry-is i h = let few = rows-fit sound in getD-tabulate (entryOf (rowBytes s)) ROWS i nothing (omega arith)
 
     pair-high : (i k : ℕ) → pairOf (rowBytes s) i k / 256 % 256 ≡ getD (rowBytes s) (i * ROW-BYTES + k) 0
     unfolding pairOf pairAt

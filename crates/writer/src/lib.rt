@@ -14,6 +14,7 @@ use rows::scopes;
 use table::pick;
 
 pub mod encode; // the bytes of a table
+pub mod parts; // values out of lent parts
 pub mod read; // the values of a table
 
 // A row with its source.

@@ -1,84 +1,25 @@
-use Rattle.model.specs.Limits.{ROWS}
-use Rattle.writer.specs.Encode.{entryOf, entriesOf}
-use Rattle.rows.proofs.Laws.{tab-none, tab-more, tab-all}
-use Rattle.finite.specs.Lists.{tabulate}
-use lib.ListN.{length, take, length-set, length-replicate}
+use Rattle.writer.specs.Encode.{entriesOf, entriesIn}
 use mathlib.Core.Path.{_≡_, refl, sym, ap, _∙_}
-use native.Mathlib.Omega.{arith}
-use mathlib.Core.List.{[]}
-use Prim.Native.Nat.{ℕ, _≤_, _-_}
 use borrow.Author.Needs.{needs}
 use Rattle.writer.proofs.read.read_entries.Statement.{statement}
 use Rattle.writer.proofs.read.read_entries.Tie as tie
 use Rattle.writer.proofs.read.read_entries.Reads as reads
 use Rattle.writer.proofs.read.read_entries.Lts as lts
-use Rattle.model.proofs.Source.of_row.Reads as of-row-reads
-use Rattle.writer.proofs.read.read_entry.Reads as read-entry-reads
+use Rattle.rows.proofs.bytes.row_bytes.Reads as row-bytes-reads
+use Rattle.writer.proofs.read.entries_in.Reads as entries-in-reads
 
-abbrev Inv-loop : tie.InvT-loop
-Inv-loop s l₀ i₀ l i = (i ≤ ROWS) × (length l ≡ ROWS) × (take i l ≡ tabulate (entryOf s) i)
+-- src/read.rt:51:16
+row-bytes-requires : tie.Need-row-bytes-requires
+row-bytes-requires c κs = search needs
 
-abbrev μ-loop : tie.MeasureT-loop
-μ-loop s l₀ i₀ l i = ROWS - i
+-- src/read.rt:51:5
+entries-in-requires : tie.Need-entries-in-requires
+entries-in-requires c κs = search needs
 
--- src/read.rt:38:17
-of-row-requires : tie.Need-of-row-requires Inv-loop μ-loop
-of-row-requires c κs = search needs
-
--- src/read.rt:41:5
-loop-holds : tie.Need-loop-holds Inv-loop μ-loop
-loop-holds c = (search needs, refl, tab-none _ [])
-
--- src/read.rt:42:31
-cast-read-entry : tie.Need-cast-read-entry Inv-loop μ-loop
-cast-read-entry c = search needs
-
--- src/read.rt:42:13
-read-entry-requires : tie.Need-read-entry-requires Inv-loop μ-loop
-read-entry-requires c κs = search needs
-
--- src/read.rt:43:9
-mul-l : tie.Need-mul-l Inv-loop μ-loop
-mul-l c = search needs
-
--- src/read.rt:43:9
-array-set-from-l : tie.Need-array-set-from-l Inv-loop μ-loop
-array-set-from-l c = search needs
-
--- src/read.rt:41:9
-add-i : tie.Need-add-i Inv-loop μ-loop
-add-i c = search needs
-
--- src/read.rt:41:5
-loop-less : tie.Need-loop-less Inv-loop μ-loop
-loop-less c = search needs
-
--- src/read.rt:41:5
-loop-again : tie.Need-loop-again Inv-loop μ-loop
-loop-again c =
-    let at-loop = c .before .before in
-    (omega arith, simp length-set (at-loop .loop .inv .1), tab-more _ _ _ _ (omega arith) (at-loop .loop .inv .2) (c .read-entry .ensures))
-
--- src/read.rt:21:1
-returns : tie.Need-returns Inv-loop μ-loop
+-- src/read.rt:48:1
+returns : tie.Need-returns
 unfolding entriesOf
-returns c =
-    let done : c .before .loop .i ≡ ROWS = omega arith in
-    tab-all _ (c .before .loop .l) ROWS (c .before .loop .inv .1) (rw done at (c .before .loop .inv .2))
+returns c = c .entries-in .ensures ∙ ap entriesIn (c .before .row-bytes .ensures)
 
 pub read-entries-spec : {M : Type 1} → statement M
-read-entries-spec =
-    tie.close
-    (tie.spec
-    Inv-loop
-    μ-loop
-    of-row-requires
-    loop-holds
-    cast-read-entry
-    read-entry-requires
-    mul-l
-    array-set-from-l
-    add-i
-    loop-less
-    loop-again
-    returns)
+read-entries-spec = tie.close (tie.spec row-bytes-requires entries-in-requires returns)

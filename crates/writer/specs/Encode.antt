@@ -1,12 +1,11 @@
 -- Places, rows and dependencies as values, and the bytes of their table (docs/FORMAT.md).
-use mathlib.Core.Bool.{Bool, true, false, cond}
+use mathlib.Core.Bool.{Bool, cond}
 use mathlib.Core.List.{List, [], _∷_, _++_}
 use Prim.Native.Nat.{ℕ, _+_, _-_, _*_, _/_, _%_}
 use lib.ListN.{getD}
 use lib.Dec.{ltb, eqb}
 use Rattle.finite.specs.Lists.{tabulate}
 use Rattle.model.specs.declared.Row.{Row}
-use Rattle.model.specs.declared.Source.{Source}
 use Rattle.model.specs.Limits.{ROWS, DEPENDENCIES}
 use Rattle.model.specs.Table.{HEADER, HOSTS, PLACE-BYTES, HOSTS-PLACE-BYTES, DEPENDENCY-BYTES, ROW-BYTES, rowBytes, dependencyBytes, rowOf, sourceOf, dependencyCount, dependencyFrom, dependencyTo}
 use Rattle.writer.specs.declared.Entry.{Entry}

@@ -1,27 +1,24 @@
 -- Reading back what was written gives what was given. Assumes nothing.
 use mathlib.Core.Path.{_≡_, refl, sym, ap, ap₂, _∙_, subst}
-use mathlib.Core.Bool.{Bool, true, false, not, cond}
-use mathlib.Core.Logic.{_⊎_, inl, inr, ⊎-elim}
+use mathlib.Core.Bool.{true, false, cond}
+use mathlib.Core.Logic.{_⊎_, ⊎-elim}
 use mathlib.Core.List.{List, [], _∷_, _++_}
-use Prim.Native.Nat.{ℕ, zero, suc, _+_, _-_, _*_, _/_, _%_, _≤_, _<_}
+use Prim.Native.Nat.{ℕ, _+_, _-_, _*_, _/_, _%_, _≤_, _<_}
 use native.Mathlib.Omega.{arith}
 use lib.ListN.{length, getD, take, drop, length-append, List·getD-append}
 use lib.Seq.{take-at, drop-at, drop-append-le, getD-append-add, getD-drop}
-use lib.Dec.{ltb, leb, eqb}
-use borrow.Author.Tests.{eq-eqb, ne-eqb, le-leb, lt-ltb, le-ltb}
-use Rattle.finite.specs.Logic.{_and_, split, and-true, which, not-in}
-use Rattle.finite.specs.Below.{anyBelow, any-not}
-use Rattle.finite.specs.Lists.{tabulate, length-tabulate, getD-tabulate}
-use Rattle.model.specs.declared.Row.{Row}
-use Rattle.model.specs.declared.Source.{Source}
+use borrow.Author.Tests.{eq-eqb, le-leb, lt-ltb, le-ltb}
+use Rattle.finite.specs.Logic.{_and_, which, not-in}
+use Rattle.finite.specs.Below.{any-not}
+use Rattle.finite.specs.Lists.{tabulate, getD-tabulate}
 use Rattle.model.specs.Limits.{AGENTS, ROWS, DEPENDENCIES}
-use Rattle.model.specs.Scope.{SHADER, QUEUE, agentKind}
+use Rattle.model.specs.Scope.{QUEUE, agentKind}
 use Rattle.model.specs.Table.{HEADER, FIRST, HOSTS, PLACE-BYTES, HOSTS-PLACE-BYTES, DEPENDENCY-BYTES, ROW-BYTES, pairAt, quadAt, countAt, versionAt, zeroAt, agentsAt, rowsAt, hasHosts, threeAt, fourAt, placeAt, slotAt, placesOf, rowsBegin, rowsEnd, sizeOf, rowBytes, dependencyBytes, byteOf, pairOf, rowOf, sourceOf, sourcesOf, dependencyCount, dependencyEnd, dependencyFrom, dependencyTo}
 use Rattle.model.specs.Refusal.{versionFits, limitsFit, lengthFits, kindOver, agentsKnown, dependenciesFew, dependenciesNamed, hostsFault, headerFault}
 use Rattle.writer.specs.declared.Entry.{Entry}
 use Rattle.writer.specs.declared.Dependencies.{Dependencies}
-use Rattle.writer.specs.Encode.{half, withHosts, placesSize, dependenciesSize, tableSize, headerList, numberOf, placeNumber, placeByte, rowList, nothing, entryAt, entryByte, dependencyNumber, dependencyByte, placesPart, rowsPart, dependenciesPart, encode}
-use Rattle.writer.specs.ValueLaws.{Fits, places-hosts, places-plain, after-hosts, after-plain, size-most, size-least, header-length, places-length, rows-length, encode-length, version-first, version-last, agents-few, rows-few, number-hosts, number-plain, after-none, after-few}
+use Rattle.writer.specs.Encode.{half, withHosts, placesSize, dependenciesSize, tableSize, headerList, numberOf, placeNumber, placeByte, rowList, entryAt, entryByte, dependencyNumber, dependencyByte, placesPart, rowsPart, dependenciesPart, encode}
+use Rattle.writer.specs.ValueLaws.{Fits, begin-either, end-either, places-hosts, places-plain, after-hosts, after-plain, size-most, size-least, header-length, places-length, rows-length, encode-length, version-first, version-last, agents-few, rows-few, number-hosts, number-plain, after-none, after-few}
 
 -- ---- definitions: numbers are those of their types
 
@@ -245,11 +242,7 @@ module _ (version agents : ℕ) (p : List (List ℕ)) (rows : ℕ) (l : List Ent
 
   encode-begin : rowsBegin (encode version agents p rows l d) ≡ HEADER + placesSize version agents
   unfolding rowsBegin placesSize
-  encode-begin = rw (encode-hosts, encode-agents) (both (withHosts version))
-    where
-      both : (b : Bool) → _≡_ {A = ℕ} (cond b (HEADER + HOSTS-PLACE-BYTES * agents) (HEADER + PLACE-BYTES * agents)) (HEADER + cond b (HOSTS-PLACE-BYTES * agents) (PLACE-BYTES * agents))
-      both true = refl
-      both false = refl
+  encode-begin = rw (encode-hosts, encode-agents) (begin-either (withHosts version) agents)
 
   encode-end : rowsEnd (encode version agents p rows l d) ≡ HEADER + placesSize version agents + ROW-BYTES * rows
   unfolding rowsEnd
@@ -381,11 +374,7 @@ module _ (version agents : ℕ) (p : List (List ℕ)) (rows : ℕ) (l : List Ent
 
     encode-size : sizeOf (encode version agents p rows l d) ≡ tableSize version agents rows (d .count)
     unfolding sizeOf tableSize dependenciesSize
-    encode-size = rw (encode-hosts, count-at (encode version agents p rows l d), encode-count, encode-end) (both (withHosts version) (HEADER + placesSize version agents + ROW-BYTES * rows) (d .count))
-      where
-        both : (b : Bool) (e n : ℕ) → _≡_ {A = ℕ} (cond b (e + 2 + DEPENDENCY-BYTES * n) e) (e + cond b (2 + DEPENDENCY-BYTES * n) 0)
-        both true e n = omega arith
-        both false e n = omega arith
+    encode-size = rw (encode-hosts, count-at (encode version agents p rows l d), encode-count, encode-end) (end-either (withHosts version) (HEADER + placesSize version agents + ROW-BYTES * rows) (d .count))
 
     encode-quad : countAt (encode version agents p rows l d) + 4 ≡ tableSize version agents rows (d .count)
     unfolding countAt quadAt pairAt headerList

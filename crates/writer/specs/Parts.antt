@@ -11,7 +11,7 @@ use Rattle.model.specs.Table.{ROW-BYTES}
 use Rattle.writer.specs.declared.Dependencies.{Dependencies}
 use Rattle.writer.specs.declared.WriteAnswer.{WriteAnswer}
 use Rattle.writer.specs.Encode.{entriesIn, encode}
-use Rattle.writer.specs.Answer.{writeAnswer, bufferAfter}
+use Rattle.writer.specs.Answer.{writeAnswer}
 
 -- a count as its type has it: one that is over the most is over every limit of a table
 unfoldable pub capped : ℕ → ℕ → ℕ

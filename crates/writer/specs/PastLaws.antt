@@ -1,23 +1,22 @@
 -- Values past their counts make no difference to the table that is written, nor to the answer. Assumes nothing.
-use mathlib.Core.Path.{_≡_, refl, sym, ap, ap₂, _∙_}
-use mathlib.Core.Bool.{Bool, true, false, not, cond}
+use mathlib.Core.Path.{_≡_, refl, ap, _∙_}
+use mathlib.Core.Bool.{true, false, not, cond}
 use mathlib.Core.Logic.{⊎-elim}
-use mathlib.Core.List.{List, [], _++_}
-use Prim.Native.Nat.{ℕ, _+_, _-_, _*_, _/_, _%_, _≤_, _<_}
+use mathlib.Core.List.{List, []}
+use Prim.Native.Nat.{ℕ, _+_, _-_, _*_, _/_, _%_, _<_}
 use native.Mathlib.Omega.{arith}
 use native.Mathlib.Decide.{decLt}
 use lib.ListN.{getD}
-use lib.Dec.{ltb, leb, eqb}
+use lib.Dec.{ltb}
 use borrow.Author.Tests.{lt-ltb, le-ltb}
 use Rattle.finite.specs.Logic.{which}
-use Rattle.finite.specs.Below.{anyBelow, any-cong}
+use Rattle.finite.specs.Below.{any-cong}
 use Rattle.finite.specs.Lists.{tabulate, tabulate-cong}
-use Rattle.model.specs.Scope.{SHADER, QUEUE, agentKind}
-use Rattle.model.specs.Refusal.{admission}
+use Rattle.model.specs.Scope.{agentKind}
 use Rattle.model.specs.Table.{PLACE-BYTES, HOSTS-PLACE-BYTES, DEPENDENCY-BYTES, ROW-BYTES}
 use Rattle.writer.specs.declared.Entry.{Entry}
 use Rattle.writer.specs.declared.Dependencies.{Dependencies}
-use Rattle.writer.specs.Encode.{half, withHosts, placesSize, dependenciesSize, tableSize, headerList, numberOf, placeNumber, placeByte, rowList, entryAt, entryByte, dependencyNumber, dependencyByte, placesPart, rowsPart, dependenciesPart, encode}
+use Rattle.writer.specs.Encode.{half, withHosts, placesSize, dependenciesSize, numberOf, placeNumber, placeByte, entryAt, entryByte, dependencyNumber, dependencyByte, placesPart, rowsPart, dependenciesPart, encode}
 use Rattle.writer.specs.Answer.{numberOver, numbersFit, valuesFault, writeAnswer}
 use Rattle.writer.specs.ValueLaws.{places-hosts, places-plain, after-hosts, after-plain}
 

@@ -3,17 +3,16 @@
 -- `writeAnswer`, `encode` and `bufferAfter` are the definitions that the contract of `write` names, `entriesOf` and `dependenciesOf`
 -- those of the readers; `versionAt`, `placeAt`, `rowOf` and the others are those that every answer about a table goes by.
 use mathlib.Core.Path.{_≡_, refl, sym, ap, _∙_, subst}
-use mathlib.Core.Bool.{Bool, true, false, cond}
+use mathlib.Core.Bool.{true, false, cond}
 use mathlib.Core.Logic.{_⊎_, inl, inr, ⊎-elim, _↔_}
-use mathlib.Core.List.{List, [], _++_}
-use Prim.Native.Nat.{ℕ, _+_, _≤_, _<_}
+use mathlib.Core.List.{List, []}
+use Prim.Native.Nat.{ℕ, _≤_, _<_}
 use native.Mathlib.Omega.{arith}
 use lib.ListN.{length, getD, take, drop}
 use lib.Seq.{take-at, drop-at}
 use lib.Dec.{eqb}
 use borrow.Author.Tests.{eq-eqb}
 use Rattle.finite.specs.Logic.{_and_, _or_, which, not-both}
-use Rattle.model.specs.declared.Admission.{Admission}
 use Rattle.model.specs.declared.Admission.the-variants.{Admitted, Refused}
 use Rattle.model.specs.Table.{versionAt, agentsAt, rowsAt, placeAt, placesOf, rowBytes, rowOf, sourcesOf, dependencyBytes, dependencyCount, dependencyFrom, dependencyTo}
 use Rattle.model.specs.Refusal.{dependenciesNamed, headerFault, admission}
@@ -21,14 +20,13 @@ use Rattle.model.specs.FilledLaws.{Bytes}
 use Rattle.model.specs.AdmissionLaws.{sound-admitted, admitted-sound}
 use Rattle.writer.specs.declared.Entry.{Entry}
 use Rattle.writer.specs.declared.Dependencies.{Dependencies}
-use Rattle.writer.specs.declared.WriteAnswer.{WriteAnswer}
 use Rattle.writer.specs.declared.WriteAnswer.the-variants as Answer
 use Rattle.writer.specs.Encode.{entryAt, tableSize, encode, entriesOf, dependenciesOf}
-use Rattle.writer.specs.Answer.{versionKnown, countsFit, numbersFit, dependenciesFit, valuesFault, roomAnswer, writeAnswer, bufferAfter}
+use Rattle.writer.specs.Answer.{versionKnown, countsFit, numbersFit, dependenciesFit, valuesFault, writeAnswer, bufferAfter}
 use Rattle.writer.specs.ValueLaws.{Fits, values-fit, fit-values, encode-length}
 use Rattle.writer.specs.EncodeLaws.{Typed, encode-version, encode-agents, encode-rows, encode-row, encode-source, encode-count, encode-from, encode-to, encode-place, encode-fault}
 use Rattle.writer.specs.ReadLaws.{length-same, read-fits, written-again}
-use Rattle.writer.specs.AnswerLaws.{ofTable, Admits, admission-number, not-written, room-short, room-long, values-in, table-in, admitted-in, written-out, refused-out, fault-apart, fault-version, fault-limits, fault-numbers, fault-dependencies}
+use Rattle.writer.specs.AnswerLaws.{ofTable, Admits, admission-number, room-short, room-long, values-in, table-in, admitted-in, written-out, refused-out, fault-apart, fault-version, fault-limits, fault-numbers, fault-dependencies}
 use Rattle.writer.specs.PastLaws.{Alike, encode-alike, answer-alike}
 
 -- ---- what was written

@@ -1,29 +1,28 @@
 -- Writing what was read from a table gives the same bytes. Assumes nothing.
 use mathlib.Core.Path.{_≡_, refl, sym, ap, ap₂, _∙_, subst}
 use mathlib.Core.Bool.{Bool, true, false, not, cond}
-use mathlib.Core.Logic.{_⊎_, inl, inr, ⊎-elim}
-use mathlib.Core.List.{List, [], _∷_, _++_}
+use mathlib.Core.Logic.{_⊎_, ⊎-elim}
+use mathlib.Core.List.{List, [], _++_}
 use Prim.Native.Nat.{ℕ, zero, suc, _+_, _-_, _*_, _/_, _%_, _≤_, _<_}
 use native.Mathlib.Omega.{arith}
 use native.Mathlib.Decide.{decLt}
-use lib.ListN.{length, getD, take, drop, length-take, length-drop, take-append-drop, drop-of-length-le, List·getD-eq-default}
+use lib.ListN.{length, getD, take, drop, length-take, length-drop, take-append-drop, List·getD-eq-default}
 use lib.Seq.{take-add, ext-getD, getD-take, getD-drop}
 use lib.Dec.{ltb, leb, eqb}
-use borrow.Author.Tests.{eqb-true, leb-true, eq-eqb, ne-eqb, le-leb, lt-ltb, le-ltb}
-use Rattle.finite.specs.Logic.{_and_, split, and-true, which, not-in}
+use borrow.Author.Tests.{eqb-true, leb-true, le-leb, lt-ltb, le-ltb}
+use Rattle.finite.specs.Logic.{split, which, not-in}
 use Rattle.finite.specs.Below.{anyBelow, any-not}
 use Rattle.finite.specs.Lists.{tabulate, length-tabulate, getD-tabulate}
 use Rattle.model.specs.Limits.{AGENTS, ROWS, DEPENDENCIES}
 use Rattle.model.specs.Scope.{SHADER, QUEUE, agentKind}
-use Rattle.model.specs.Table.{HEADER, FIRST, HOSTS, PLACE-BYTES, HOSTS-PLACE-BYTES, DEPENDENCY-BYTES, ROW-BYTES, pairAt, quadAt, countAt, versionAt, zeroAt, agentsAt, rowsAt, hasHosts, threeAt, fourAt, placeAt, slotAt, placesOf, rowsBegin, rowsEnd, sizeOf, rowBytes, dependencyBytes, byteOf, pairOf, rowOf, sourceOf, dependencyCount, dependencyEnd, dependencyFrom, dependencyTo}
-use Rattle.model.specs.Refusal.{versionFits, limitsFit, lengthFits, kindOver, agentsKnown, dependenciesFew, hostsFault, headerFault}
+use Rattle.model.specs.Table.{HEADER, PLACE-BYTES, HOSTS-PLACE-BYTES, DEPENDENCY-BYTES, ROW-BYTES, pairAt, quadAt, countAt, versionAt, zeroAt, agentsAt, rowsAt, hasHosts, threeAt, fourAt, placeAt, slotAt, placesOf, rowsBegin, rowsEnd, sizeOf, rowBytes, dependencyBytes, byteOf, pairOf, rowOf, sourceOf, dependencyCount, dependencyEnd, dependencyFrom, dependencyTo}
+use Rattle.model.specs.Refusal.{versionFits, limitsFit, lengthFits, kindOver, agentsKnown, hostsFault, headerFault}
 use Rattle.model.specs.FilledLaws.{Bytes}
 use Rattle.model.specs.AdmissionLaws.{Sound, hosts-right, agents-fit, rows-fit, dependencies-fit, length-is}
-use Rattle.writer.specs.declared.Entry.{Entry}
 use Rattle.writer.specs.declared.Dependencies.{Dependencies}
 use Rattle.writer.specs.Encode.{half, withHosts, placesSize, dependenciesSize, tableSize, headerList, numberOf, placeNumber, placeByte, rowList, nothing, entryAt, entryByte, dependencyNumber, dependencyByte, placesPart, rowsPart, dependenciesPart, encode, entryOf, entriesIn, entriesOf, dependenciesOf}
 use Rattle.writer.specs.Answer.{versionKnown, countsFit, numberOver, numbersFit, dependenciesFit}
-use Rattle.writer.specs.ValueLaws.{Fits, places-hosts, places-plain, after-plain, after-most, header-length}
+use Rattle.writer.specs.ValueLaws.{Fits, begin-either, end-either, places-hosts, places-plain, after-plain, after-most, header-length}
 use Rattle.writer.specs.EncodeLaws.{count-at}
 
 -- ---- bytes
@@ -98,11 +97,7 @@ module _ {blanks : Bool} {s : List ℕ} (sound : Sound blanks s) where
 
   begin-same : rowsBegin s ≡ HEADER + placesSize (versionAt s) (agentsAt s)
   unfolding rowsBegin placesSize
-  begin-same = rw hosts-same (both (hasHosts s))
-    where
-      both : (b : Bool) → _≡_ {A = ℕ} (cond b (HEADER + HOSTS-PLACE-BYTES * agentsAt s) (HEADER + PLACE-BYTES * agentsAt s)) (HEADER + cond b (HOSTS-PLACE-BYTES * agentsAt s) (PLACE-BYTES * agentsAt s))
-      both true = refl
-      both false = refl
+  begin-same = rw hosts-same (begin-either (hasHosts s) (agentsAt s))
 
   end-same : rowsEnd s ≡ HEADER + placesSize (versionAt s) (agentsAt s) + ROW-BYTES * rowsAt s
   unfolding rowsEnd
@@ -110,11 +105,7 @@ module _ {blanks : Bool} {s : List ℕ} (sound : Sound blanks s) where
 
   size-same : sizeOf s ≡ tableSize (versionAt s) (agentsAt s) (rowsAt s) (dependencyCount (dependencyBytes s))
   unfolding sizeOf tableSize dependenciesSize
-  size-same = rw (hosts-same, count-at s, end-same) (both (hasHosts s) (HEADER + placesSize (versionAt s) (agentsAt s) + ROW-BYTES * rowsAt s) (dependencyCount (dependencyBytes s)))
-    where
-      both : (b : Bool) (e n : ℕ) → _≡_ {A = ℕ} (cond b (e + 2 + DEPENDENCY-BYTES * n) e) (e + cond b (2 + DEPENDENCY-BYTES * n) 0)
-      both true e n = omega arith
-      both false e n = omega arith
+  size-same = rw (hosts-same, count-at s, end-same) (end-either (hasHosts s) (HEADER + placesSize (versionAt s) (agentsAt s) + ROW-BYTES * rowsAt s) (dependencyCount (dependencyBytes s)))
 
   pub length-same : length s ≡ tableSize (versionAt s) (agentsAt s) (rowsAt s) (dependencyCount (dependencyBytes s))
   length-same = length-is sound ∙ size-same

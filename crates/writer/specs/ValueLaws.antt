@@ -1,16 +1,16 @@
 -- What values that pass refusals 2, 3, 16 and 17 are known to be, and how long the parts of their table are. Assumes nothing.
-use mathlib.Core.Path.{_≡_, refl, sym, ap, subst, _∙_}
-use mathlib.Core.Bool.{Bool, true, false, not, cond}
+use mathlib.Core.Path.{_≡_, refl, subst}
+use mathlib.Core.Bool.{Bool, true, false, cond}
 use mathlib.Core.Logic.{⊎-elim}
-use mathlib.Core.List.{List, [], _∷_, _++_}
-use Prim.Native.Nat.{ℕ, zero, suc, _+_, _*_, _≤_, _<_}
+use mathlib.Core.List.{List, [], _++_}
+use Prim.Native.Nat.{ℕ, _+_, _*_, _≤_, _<_}
 use native.Mathlib.Omega.{arith}
 use lib.ListN.{length, length-append}
-use lib.Dec.{ltb, leb, eqb}
+use lib.Dec.{ltb, leb}
 use borrow.Author.Tests.{leb-true, ltb-false}
-use Rattle.finite.specs.Logic.{_and_, split, which, not-out}
-use Rattle.finite.specs.Below.{anyBelow, any-off}
-use Rattle.finite.specs.Lists.{tabulate, length-tabulate}
+use Rattle.finite.specs.Logic.{split, which, not-out}
+use Rattle.finite.specs.Below.{any-off}
+use Rattle.finite.specs.Lists.{length-tabulate}
 use Rattle.model.specs.Limits.{AGENTS, ROWS, DEPENDENCIES}
 use Rattle.model.specs.Scope.{SHADER, QUEUE, agentKind}
 use Rattle.model.specs.Table.{HEADER, FIRST, HOSTS, PLACE-BYTES, HOSTS-PLACE-BYTES, DEPENDENCY-BYTES, ROW-BYTES}
@@ -60,6 +60,16 @@ module _ (version : ℕ) where
   pub size-least : (agents rows n : ℕ) → HEADER ≤ tableSize version agents rows n
   unfolding tableSize
   size-least agents rows n = omega arith
+
+-- where the rows begin, and where the table ends, with host agents or without
+pub begin-either : (hosts : Bool) (agents : ℕ)
+    → _≡_ {A = ℕ} (cond hosts (HEADER + HOSTS-PLACE-BYTES * agents) (HEADER + PLACE-BYTES * agents)) (HEADER + cond hosts (HOSTS-PLACE-BYTES * agents) (PLACE-BYTES * agents))
+begin-either true agents = refl
+begin-either false agents = refl
+
+pub end-either : (hosts : Bool) (end n : ℕ) → _≡_ {A = ℕ} (cond hosts (end + 2 + DEPENDENCY-BYTES * n) end) (end + cond hosts (2 + DEPENDENCY-BYTES * n) 0)
+end-either true end n = omega arith
+end-either false end n = omega arith
 
 -- ---- the lengths of the parts
 

@@ -2,8 +2,8 @@ use Rattle.writer.specs.Answer.{numberOver}
 use Rattle.finite.specs.Below.{anyBelow, any-none, any-more, any-in}
 use Prim.Native.Nat.{_≤_, _-_}
 use native.Mathlib.Omega.{arith}
-use mathlib.Core.Bool.{true, false}
-use mathlib.Core.Path.{_≡_, refl, sym, ap, _∙_}
+use mathlib.Core.Bool.{false}
+use mathlib.Core.Path.{_≡_, sym, _∙_}
 use borrow.Author.Needs.{needs}
 use Rattle.writer.proofs.any_number_over.Statement.{statement}
 use Rattle.writer.proofs.any_number_over.Tie as tie

@@ -1,6 +1,6 @@
 use Rattle.finite.specs.Logic.{_and_}
 use Rattle.writer.specs.Answer.{countsFit}
-use mathlib.Core.Path.{_≡_, refl, sym, ap, _∙_}
+use mathlib.Core.Path.{refl}
 use Rattle.writer.proofs.counts_fit.Statement.{statement}
 use Rattle.writer.proofs.counts_fit.Tie as tie
 use Rattle.writer.proofs.counts_fit.Reads as reads

@@ -1,5 +1,5 @@
 use Rattle.writer.specs.Answer.{dependenciesFit}
-use mathlib.Core.Path.{_≡_, refl, sym, ap, _∙_}
+use mathlib.Core.Path.{refl}
 use borrow.Author.Needs.{needs}
 use Rattle.writer.proofs.dependencies_fit.Statement.{statement}
 use Rattle.writer.proofs.dependencies_fit.Tie as tie

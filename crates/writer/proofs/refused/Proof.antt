@@ -1,7 +1,7 @@
 use Rattle.writer.specs.declared.WriteAnswer.the-variants as Answer
 use Rattle.model.specs.declared.Admission.{Admission}
 use Rattle.writer.specs.Answer.{writtenAs}
-use mathlib.Core.Path.{_≡_, refl, sym, ap, _∙_}
+use mathlib.Core.Path.{sym, ap}
 use borrow.Author.Needs.{needs}
 use Rattle.writer.proofs.refused.Statement.{statement}
 use Rattle.writer.proofs.refused.Tie as tie

@@ -1,6 +1,6 @@
 use Rattle.finite.specs.Logic.{_and_}
 use Rattle.writer.specs.Answer.{versionKnown}
-use mathlib.Core.Path.{_≡_, refl, sym, ap, _∙_}
+use mathlib.Core.Path.{refl}
 use Rattle.writer.proofs.version_known.Statement.{statement}
 use Rattle.writer.proofs.version_known.Tie as tie
 use Rattle.writer.proofs.version_known.Reads as reads

@@ -1,5 +1,3 @@
-use denote.Ref.{now}
-use lib.ListN.{length}
 use native.Mathlib.Omega.{arith}
 use mathlib.Core.Path.{sym, _∙_}
 use Rattle.writer.specs.ValueLaws.{values-fit, agents-few, rows-few, after-few}

@@ -1,6 +1,5 @@
 use Rattle.writer.proofs.Laws.{number-count, number-first, number-second}
-use borrow.Author.Tests.{eq-eqb, ne-eqb, lt-ltb, le-ltb}
-use mathlib.Core.Path.{_≡_, refl, sym, ap, _∙_}
+use mathlib.Core.Path.{sym}
 use borrow.Author.Needs.{needs}
 use Rattle.writer.proofs.encode.dependency_number.Statement.{statement}
 use Rattle.writer.proofs.encode.dependency_number.Tie as tie

@@ -1,5 +1,5 @@
 use Rattle.writer.proofs.Laws.{half-high, half-low}
-use mathlib.Core.Path.{_≡_, refl, sym, ap, _∙_}
+use mathlib.Core.Path.{sym}
 use borrow.Author.Needs.{needs}
 use Rattle.writer.proofs.encode.half.Statement.{statement}
 use Rattle.writer.proofs.encode.half.Tie as tie

@@ -1,6 +1,6 @@
 use Rattle.writer.specs.Encode.{numberOf}
 use Rattle.writer.proofs.Laws.{number-past}
-use mathlib.Core.Path.{_≡_, refl, sym, ap, _∙_}
+use mathlib.Core.Path.{refl, sym}
 use borrow.Author.Needs.{needs}
 use Rattle.writer.proofs.encode.number_of.Statement.{statement}
 use Rattle.writer.proofs.encode.number_of.Tie as tie

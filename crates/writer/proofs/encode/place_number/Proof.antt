@@ -1,5 +1,4 @@
 use Rattle.writer.specs.Encode.{placeNumber}
-use mathlib.Core.Path.{_≡_, refl, sym, ap, _∙_}
 use borrow.Author.Needs.{needs}
 use Rattle.writer.proofs.encode.place_number.Statement.{statement}
 use Rattle.writer.proofs.encode.place_number.Tie as tie

@@ -1,6 +1,5 @@
 use Rattle.writer.specs.ValueLaws.{places-hosts, places-plain}
-use native.Mathlib.Omega.{arith}
-use mathlib.Core.Path.{_≡_, refl, sym, ap, _∙_}
+use mathlib.Core.Path.{sym, _∙_}
 use borrow.Author.Needs.{needs}
 use Rattle.writer.proofs.encode.places_size.Statement.{statement}
 use Rattle.writer.proofs.encode.places_size.Tie as tie

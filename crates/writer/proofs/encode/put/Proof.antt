@@ -1,11 +1,9 @@
 use denote.Ref.{now}
-use Rattle.writer.proofs.Laws.{paste-none}
 use Rattle.writer.proofs.Laws.{paste-more}
 use lib.Seq.{paste, paste-zero}
 use lib.ListN.{length, length-set}
-use native.Mathlib.Numerals.{add-one}
 use native.Mathlib.Omega.{arith}
-use mathlib.Core.Path.{_≡_, refl, sym, ap, _∙_}
+use mathlib.Core.Path.{_≡_, refl}
 use Prim.Native.Nat.{_≤_, _-_}
 use borrow.Author.Needs.{needs}
 use Rattle.writer.proofs.encode.put.Statement.{statement}
@@ -21,7 +19,7 @@ abbrev μ-loop : tie.MeasureT-loop
 
 -- src/encode.rt:187:5
 loop-holds : tie.Need-loop-holds Inv-loop μ-loop
-loop-holds c = (search needs, refl, paste-none (c .args .t .now) (c .args .at) (now (c .args .s)))
+loop-holds c = (search needs, refl, paste-zero (c .args .t .now) (c .args .at) (now (c .args .s)))
 
 -- src/encode.rt:188:21
 shared-slice-read-t : tie.Need-shared-slice-read-t Inv-loop μ-loop

@@ -1,5 +1,5 @@
 use Rattle.writer.specs.Encode.{rowList}
-use mathlib.Core.Path.{_≡_, refl, sym, ap, _∙_}
+use mathlib.Core.Path.{refl}
 use borrow.Author.Needs.{needs}
 use Rattle.writer.proofs.encode.row_bytes.Statement.{statement}
 use Rattle.writer.proofs.encode.row_bytes.Tie as tie

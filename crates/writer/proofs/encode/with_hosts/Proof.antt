@@ -1,5 +1,5 @@
 use Rattle.writer.specs.Encode.{withHosts}
-use mathlib.Core.Path.{_≡_, refl, sym, ap, _∙_}
+use mathlib.Core.Path.{refl}
 use Rattle.writer.proofs.encode.with_hosts.Statement.{statement}
 use Rattle.writer.proofs.encode.with_hosts.Tie as tie
 use Rattle.writer.proofs.encode.with_hosts.Reads as reads

@@ -1,7 +1,6 @@
 use native.Mathlib.Omega.{arith}
 use borrow.Author.Tests.{lt-ltb, le-ltb}
 use Rattle.writer.specs.Parts.{capped}
-use mathlib.Core.Path.{_≡_, refl, sym, ap, _∙_}
 use Rattle.writer.proofs.parts.capped.Statement.{statement}
 use Rattle.writer.proofs.parts.capped.Tie as tie
 use Rattle.writer.proofs.parts.capped.Reads as reads

@@ -1,4 +1,4 @@
-use mathlib.Core.Path.{_≡_, refl, sym, ap, _∙_}
+use mathlib.Core.Path.{refl}
 use Rattle.writer.specs.Parts.{dependenciesIn}
 use borrow.Author.Needs.{needs}
 use Rattle.writer.proofs.parts.dependencies_in.Statement.{statement}

@@ -3,7 +3,7 @@ use Rattle.writer.specs.Parts.{endIn}
 use Rattle.rows.proofs.Laws.{tab-none, tab-more, tab-all}
 use Rattle.finite.specs.Lists.{tabulate}
 use lib.ListN.{length, take, length-set}
-use mathlib.Core.Path.{_≡_, refl, sym, ap, _∙_}
+use mathlib.Core.Path.{_≡_, refl}
 use native.Mathlib.Omega.{arith}
 use mathlib.Core.List.{[]}
 use Prim.Native.Nat.{_≤_, _-_}

@@ -1,5 +1,5 @@
 use lib.ListN.{List·getD-eq-default}
-use mathlib.Core.Path.{_≡_, refl, sym, ap, _∙_}
+use mathlib.Core.Path.{sym}
 use borrow.Author.Needs.{needs}
 use Rattle.writer.proofs.parts.number_at.Statement.{statement}
 use Rattle.writer.proofs.parts.number_at.Tie as tie

@@ -1,5 +1,5 @@
 use Rattle.writer.specs.Encode.{entriesOf, entriesIn}
-use mathlib.Core.Path.{_≡_, refl, sym, ap, _∙_}
+use mathlib.Core.Path.{ap, _∙_}
 use borrow.Author.Needs.{needs}
 use Rattle.writer.proofs.read.read_entries.Statement.{statement}
 use Rattle.writer.proofs.read.read_entries.Tie as tie

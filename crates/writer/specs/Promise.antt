@@ -6,26 +6,29 @@ use mathlib.Core.Path.{_≡_, refl, sym, ap, _∙_, subst}
 use mathlib.Core.Bool.{true, false, cond}
 use mathlib.Core.Logic.{_⊎_, inl, inr, ⊎-elim, _↔_}
 use mathlib.Core.List.{List, []}
-use Prim.Native.Nat.{ℕ, _≤_, _<_}
+use Prim.Native.Nat.{ℕ, _*_, _/_, _≤_, _<_}
 use native.Mathlib.Omega.{arith}
+use native.Mathlib.Decide.{decLt}
 use lib.ListN.{length, getD, take, drop}
 use lib.Seq.{take-at, drop-at}
-use lib.Dec.{eqb}
-use borrow.Author.Tests.{eq-eqb}
+use lib.Dec.{eqb, ltb}
+use borrow.Author.Tests.{eq-eqb, lt-ltb, le-ltb}
 use Rattle.finite.specs.Logic.{_and_, _or_, which, not-both}
 use Rattle.model.specs.declared.Admission.the-variants.{Admitted, Refused}
-use Rattle.model.specs.Table.{versionAt, agentsAt, rowsAt, placeAt, placesOf, rowBytes, rowOf, sourcesOf, dependencyBytes, dependencyCount, dependencyFrom, dependencyTo}
+use Rattle.model.specs.Limits.{ROWS}
+use Rattle.model.specs.Table.{ROW-BYTES, versionAt, agentsAt, rowsAt, placeAt, placesOf, rowBytes, rowOf, sourcesOf, dependencyBytes, dependencyCount, dependencyFrom, dependencyTo}
 use Rattle.model.specs.Refusal.{dependenciesNamed, headerFault, admission}
 use Rattle.model.specs.FilledLaws.{Bytes}
 use Rattle.model.specs.AdmissionLaws.{sound-admitted, admitted-sound}
 use Rattle.writer.specs.declared.Entry.{Entry}
 use Rattle.writer.specs.declared.Dependencies.{Dependencies}
 use Rattle.writer.specs.declared.WriteAnswer.the-variants as Answer
-use Rattle.writer.specs.Encode.{entryAt, tableSize, encode, entriesOf, dependenciesOf}
+use Rattle.writer.specs.Encode.{entryAt, tableSize, rowsPart, encode, entriesIn, entriesOf, dependenciesOf}
+use Rattle.writer.specs.Parts.{capped, rowsIn}
 use Rattle.writer.specs.Answer.{versionKnown, countsFit, numbersFit, dependenciesFit, valuesFault, writeAnswer, bufferAfter}
 use Rattle.writer.specs.ValueLaws.{Fits, values-fit, fit-values, encode-length}
 use Rattle.writer.specs.EncodeLaws.{Typed, encode-version, encode-agents, encode-rows, encode-row, encode-source, encode-count, encode-from, encode-to, encode-place, encode-fault}
-use Rattle.writer.specs.ReadLaws.{length-same, read-fits, written-again}
+use Rattle.writer.specs.ReadLaws.{rows-same, length-same, read-fits, written-again}
 use Rattle.writer.specs.AnswerLaws.{ofTable, Admits, admission-number, room-short, room-long, values-in, table-in, admitted-in, written-out, refused-out, fault-apart, fault-version, fault-limits, fault-numbers, fault-dependencies}
 use Rattle.writer.specs.PastLaws.{Alike, encode-alike, answer-alike}
 
@@ -216,3 +219,18 @@ module _ (version agents : ℕ) (p q : List (List ℕ)) (rows : ℕ) (l k : List
 
   pub past-answer : (room : ℕ) → writeAnswer version agents p rows l d room ≡ writeAnswer version agents q rows k e room
   past-answer = answer-alike version agents p q rows l k d e alike
+
+-- ---- rows out of lent parts
+
+rows-whole : (b : List ℕ) → rowsIn b ≤ ROWS → ROW-BYTES * rowsIn b ≤ length b
+unfolding rowsIn capped
+rows-whole b few = go (decLt (length b / ROW-BYTES) 255) few
+  where
+    go : Dec (length b / ROW-BYTES < 255) → cond (ltb (length b / ROW-BYTES) 255) (length b / ROW-BYTES) 255 ≤ ROWS
+        → ROW-BYTES * cond (ltb (length b / ROW-BYTES) 255) (length b / ROW-BYTES) 255 ≤ length b
+    go (yes h) f = rw (lt-ltb (length b / ROW-BYTES) 255 h) (omega arith)
+    go (no h) f = absurd (let e = rw (le-ltb (length b / ROW-BYTES) 255 (omega arith)) at f in omega arith)
+
+-- rows that are handed over as their sixteen bytes are written as these
+pub parts-rows : (b : List ℕ) → Bytes b → rowsIn b ≤ ROWS → rowsPart (rowsIn b) (entriesIn b) ≡ take (ROW-BYTES * rowsIn b) b
+parts-rows b bytes few = rows-same b bytes (rowsIn b) few (rows-whole b few)

@@ -7,7 +7,7 @@ use Prim.Native.Nat.{ℕ, zero, suc, _+_, _-_, _*_, _/_, _%_, _≤_, _<_}
 use native.Mathlib.Omega.{arith}
 use native.Mathlib.Decide.{decLt}
 use lib.ListN.{length, getD, take, drop, length-take, length-drop, take-append-drop, List·getD-eq-default}
-use lib.Seq.{take-add, ext-getD, getD-take, getD-drop}
+use lib.Seq.{take-all, take-add, ext-getD, getD-take, getD-drop}
 use lib.Dec.{ltb, leb, eqb}
 use borrow.Author.Tests.{eqb-true, leb-true, le-leb, lt-ltb, le-ltb}
 use Rattle.finite.specs.Logic.{split, which, not-in}
@@ -65,6 +65,57 @@ tabulated f u n e h =
 drop-is : (s : List ℕ) → dependencyBytes s ≡ drop (rowsEnd s) s
 unfolding dependencyBytes
 drop-is s = refl
+
+-- ---- rows, in their bytes alone
+
+module _ (b : List ℕ) (row-small : Bytes b) where
+  pair-high : (i k : ℕ) → pairOf b i k / 256 % 256 ≡ getD b (i * ROW-BYTES + k) 0
+  unfolding pairOf pairAt
+  pair-high i k = high-is _ _ (row-small (i * ROW-BYTES + k)) (row-small (i * ROW-BYTES + k + 1))
+
+  pair-low : (i k : ℕ) → pairOf b i k % 256 ≡ getD b (i * ROW-BYTES + (k + 1)) 0
+  unfolding pairOf pairAt
+  pair-low i k =
+      let e : i * ROW-BYTES + k + 1 ≡ i * ROW-BYTES + (k + 1) = omega arith in
+      low-is _ _ (row-small (i * ROW-BYTES + k)) (row-small (i * ROW-BYTES + k + 1)) ∙ ap (λ (j : ℕ). getD b j 0) e
+
+  list-same : (i k : ℕ) → k < ROW-BYTES → getD (rowList (rowOf b i) (sourceOf b i)) k 0 ≡ getD b (i * ROW-BYTES + k) 0
+  unfolding rowList rowOf sourceOf byteOf
+  list-same i zero h = refl
+  list-same i (suc zero) h = refl
+  list-same i (suc (suc zero)) h = refl
+  list-same i (suc (suc (suc zero))) h = refl
+  list-same i (suc (suc (suc (suc zero)))) h = refl
+  list-same i (suc (suc (suc (suc (suc zero))))) h = refl
+  list-same i (suc (suc (suc (suc (suc (suc zero)))))) h = refl
+  list-same i (suc (suc (suc (suc (suc (suc (suc zero))))))) h = refl
+  list-same i (suc (suc (suc (suc (suc (suc (suc (suc zero)))))))) h = pair-high i 8
+  list-same i (suc (suc (suc (suc (suc (suc (suc (suc (suc zero))))))))) h = pair-low i 8
+  list-same i (suc (suc (suc (suc (suc (suc (suc (suc (suc (suc zero)))))))))) h = pair-high i 10
+  list-same i (suc (suc (suc (suc (suc (suc (suc (suc (suc (suc (suc zero))))))))))) h = pair-low i 10
+  list-same i (suc (suc (suc (suc (suc (suc (suc (suc (suc (suc (suc (suc zero)))))))))))) h = pair-high i 12
+  list-same i (suc (suc (suc (suc (suc (suc (suc (suc (suc (suc (suc (suc (suc zero))))))))))))) h = pair-low i 12
+  list-same i (suc (suc (suc (suc (suc (suc (suc (suc (suc (suc (suc (suc (suc (suc zero)))))))))))))) h = pair-high i 14
+  list-same i (suc (suc (suc (suc (suc (suc (suc (suc (suc (suc (suc (suc (suc (suc (suc zero))))))))))))))) h = pair-low i 14
+  list-same i (suc (suc (suc (suc (suc (suc (suc (suc (suc (suc (suc (suc (suc (suc (suc (suc k)))))))))))))))) h = absurd (omega arith)
+
+  entry-is : (i : ℕ) → i < ROWS → entryAt (entriesIn b) i ≡ entryOf b i
+  unfolding entryAt entriesIn
+  entry-is i h = getD-tabulate (entryOf b) ROWS i nothing h
+
+  entry-same : (n : ℕ) → n ≤ ROWS → (j : ℕ) → j < ROW-BYTES * n → entryByte (entriesIn b) j ≡ getD b j 0
+  unfolding entryByte entryOf
+  entry-same n few j h =
+      let e : j / ROW-BYTES * ROW-BYTES + j % ROW-BYTES ≡ j = omega arith in
+      rw (entry-is (j / ROW-BYTES) (omega arith)) (list-same (j / ROW-BYTES) (j % ROW-BYTES) (omega arith) ∙ ap (λ (i : ℕ). getD b i 0) e)
+
+  -- rows that were read from bytes are written as these
+  pub rows-same : (n : ℕ) → n ≤ ROWS → ROW-BYTES * n ≤ length b → rowsPart n (entriesIn b) ≡ take (ROW-BYTES * n) b
+  unfolding rowsPart
+  rows-same n few h =
+      let m = length-take (ROW-BYTES * n) b in
+      tabulated (entryByte (entriesIn b)) (take (ROW-BYTES * n) b) (ROW-BYTES * n) (omega arith)
+      (λ j l. entry-same n few j l ∙ sym (getD-take (ROW-BYTES * n) b j 0 l))
 
 -- ---- the header's tests, passed
 
@@ -251,54 +302,14 @@ module _ {blanks : Bool} {s : List ℕ} (sound : Sound blanks s) where
     unfolding rowBytes
     row-small = front-small (drop (rowsBegin s) s) (part-small s small (rowsBegin s)) (ROW-BYTES * rowsAt s)
 
-    entry-is : (i : ℕ) → i < rowsAt s → entryAt (entriesOf s) i ≡ entryOf (rowBytes s) i
-    unfolding entryAt entriesOf entriesIn
-    entry-is i h = let few = rows-fit sound in getD-tabulate (entryOf (rowBytes s)) ROWS i nothing (omega arith)
-
-    pair-high : (i k : ℕ) → pairOf (rowBytes s) i k / 256 % 256 ≡ getD (rowBytes s) (i * ROW-BYTES + k) 0
-    unfolding pairOf pairAt
-    pair-high i k = high-is _ _ (row-small (i * ROW-BYTES + k)) (row-small (i * ROW-BYTES + k + 1))
-
-    pair-low : (i k : ℕ) → pairOf (rowBytes s) i k % 256 ≡ getD (rowBytes s) (i * ROW-BYTES + (k + 1)) 0
-    unfolding pairOf pairAt
-    pair-low i k =
-        let e : i * ROW-BYTES + k + 1 ≡ i * ROW-BYTES + (k + 1) = omega arith in
-        low-is _ _ (row-small (i * ROW-BYTES + k)) (row-small (i * ROW-BYTES + k + 1)) ∙ ap (λ (j : ℕ). getD (rowBytes s) j 0) e
-
-    list-same : (i k : ℕ) → k < ROW-BYTES → getD (rowList (rowOf (rowBytes s) i) (sourceOf (rowBytes s) i)) k 0 ≡ getD (rowBytes s) (i * ROW-BYTES + k) 0
-    unfolding rowList rowOf sourceOf byteOf
-    list-same i zero h = refl
-    list-same i (suc zero) h = refl
-    list-same i (suc (suc zero)) h = refl
-    list-same i (suc (suc (suc zero))) h = refl
-    list-same i (suc (suc (suc (suc zero)))) h = refl
-    list-same i (suc (suc (suc (suc (suc zero))))) h = refl
-    list-same i (suc (suc (suc (suc (suc (suc zero)))))) h = refl
-    list-same i (suc (suc (suc (suc (suc (suc (suc zero))))))) h = refl
-    list-same i (suc (suc (suc (suc (suc (suc (suc (suc zero)))))))) h = pair-high i 8
-    list-same i (suc (suc (suc (suc (suc (suc (suc (suc (suc zero))))))))) h = pair-low i 8
-    list-same i (suc (suc (suc (suc (suc (suc (suc (suc (suc (suc zero)))))))))) h = pair-high i 10
-    list-same i (suc (suc (suc (suc (suc (suc (suc (suc (suc (suc (suc zero))))))))))) h = pair-low i 10
-    list-same i (suc (suc (suc (suc (suc (suc (suc (suc (suc (suc (suc (suc zero)))))))))))) h = pair-high i 12
-    list-same i (suc (suc (suc (suc (suc (suc (suc (suc (suc (suc (suc (suc (suc zero))))))))))))) h = pair-low i 12
-    list-same i (suc (suc (suc (suc (suc (suc (suc (suc (suc (suc (suc (suc (suc (suc zero)))))))))))))) h = pair-high i 14
-    list-same i (suc (suc (suc (suc (suc (suc (suc (suc (suc (suc (suc (suc (suc (suc (suc zero))))))))))))))) h = pair-low i 14
-    list-same i (suc (suc (suc (suc (suc (suc (suc (suc (suc (suc (suc (suc (suc (suc (suc (suc k)))))))))))))))) h = absurd (omega arith)
-
-    entry-same : (j : ℕ) → j < ROW-BYTES * rowsAt s → entryByte (entriesOf s) j ≡ getD (rowBytes s) j 0
-    unfolding entryByte entryOf
-    entry-same j h =
-        let e : j / ROW-BYTES * ROW-BYTES + j % ROW-BYTES ≡ j = omega arith in
-        rw (entry-is (j / ROW-BYTES) (omega arith)) (list-same (j / ROW-BYTES) (j % ROW-BYTES) (omega arith) ∙ ap (λ (i : ℕ). getD (rowBytes s) i 0) e)
-
     rows-part : rowsPart (rowsAt s) (entriesOf s) ≡ take (ROW-BYTES * rowsAt s) (drop (HEADER + placesSize (versionAt s) (agentsAt s)) s)
-    unfolding rowsPart tableSize rowBytes
+    unfolding tableSize rowBytes entriesOf
     rows-part =
         let n = length-same in
         let e = begin-same in
         let a = length-take (ROW-BYTES * rowsAt s) (drop (rowsBegin s) s) in
         let b = length-drop (rowsBegin s) s in
-        tabulated (entryByte (entriesOf s)) (rowBytes s) (ROW-BYTES * rowsAt s) (omega arith) entry-same
+        rows-same (rowBytes s) row-small (rowsAt s) (rows-fit sound) (omega arith) ∙ take-all (ROW-BYTES * rowsAt s) (rowBytes s) (omega arith)
         ∙ ap (λ (x : ℕ). take (ROW-BYTES * rowsAt s) (drop x s)) begin-same
 
     -- the dependencies

@@ -37,9 +37,9 @@ pub record EntryTyped (e : Entry) : Type 0 where
   pub rank : e .row .rank < 65536
   pub source : e .source .0 < 65536
 
--- all values, as far as they are counted
+-- all values: four numbers in each slot for a place, and as far as they are counted, numbers that fit
 pub record Typed (agents : ℕ) (p : List (List ℕ)) (rows : ℕ) (l : List Entry) (d : Dependencies) : Type 0 where
-  pub four : (a : ℕ) → a < agents → length (getD p a []) ≡ 4
+  pub four : (a : ℕ) → a < AGENTS → length (getD p a []) ≡ 4
   pub number : (a m : ℕ) → a < agents → numberOf p a m < 65536
   pub entry : (i : ℕ) → i < rows → EntryTyped (entryAt l i)
   pub count : d .count < 65536
@@ -339,12 +339,15 @@ module _ (version agents : ℕ) (p : List (List ℕ)) (rows : ℕ) (l : List Ent
         (subst (λ (y : ℕ). placeNumber (withHosts version) p y ≡ numberOf p x m) (plus-none (x * PLACE-BYTES + 2 * m)) (rw e (number-three p x m 0 (omega arith) c)))
         (rw e (number-three p x m 1 (omega arith) c)) at r
 
+    slot : (x : ℕ) → x < agents → x < AGENTS
+    slot x b = let few = agents-few f in omega arith
+
     four-back : withHosts version ≡ true → (x : ℕ) → x < agents → fourAt (encode version agents p rows l d) x ≡ getD p x []
     unfolding fourAt numberOf
     four-back e x b =
         rw
         (place-four e x 0 (HEADER + x * HOSTS-PLACE-BYTES + 0) b (omega arith) (omega arith), place-four e x 1 (HEADER + x * HOSTS-PLACE-BYTES + 2) b (omega arith) (omega arith), place-four e x 2 (HEADER + x * HOSTS-PLACE-BYTES + 4) b (omega arith) (omega arith), place-four e x 3 (HEADER + x * HOSTS-PLACE-BYTES + 6) b (omega arith) (omega arith))
-        (four-of (getD p x []) (typed .four x b))
+        (four-of (getD p x []) (typed .four x (slot x b)))
 
     -- without host agents the fourth number is 0
     three-back : withHosts version ≡ false → (x : ℕ) → x < agents → threeAt (encode version agents p rows l d) x ≡ getD p x []
@@ -352,7 +355,7 @@ module _ (version agents : ℕ) (p : List (List ℕ)) (rows : ℕ) (l : List Ent
     three-back e x b =
         rw
         (place-three e x 0 (HEADER + x * PLACE-BYTES + 0) b (omega arith) (omega arith), place-three e x 1 (HEADER + x * PLACE-BYTES + 2) b (omega arith) (omega arith), place-three e x 2 (HEADER + x * PLACE-BYTES + 4) b (omega arith) (omega arith))
-        (ap (λ (y : ℕ). getD (getD p x []) 0 0 ∷ getD (getD p x []) 1 0 ∷ getD (getD p x []) 2 0 ∷ y ∷ []) (sym (number-plain f e x b)) ∙ four-of (getD p x []) (typed .four x b))
+        (ap (λ (y : ℕ). getD (getD p x []) 0 0 ∷ getD (getD p x []) 1 0 ∷ getD (getD p x []) 2 0 ∷ y ∷ []) (sym (number-plain f e x b)) ∙ four-of (getD p x []) (typed .four x (slot x b)))
 
     pub encode-place : (x : ℕ) → x < agents → placeAt (encode version agents p rows l d) x ≡ getD p x []
     unfolding placeAt

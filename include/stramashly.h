@@ -23,6 +23,10 @@
  *   9  not before            derive
  *  10  accepted              accepts
  *  11  not accepted          accepts
+ *  12  written               write         bytes of the table
+ *  13  opened                open          rows        agents
+ *  14  a row                 row           next place
+ *  15  the end               row           the place, which stays
  *
  * Parts that the table above leaves empty are 0. A byte is its number among
  * the 65,536 that a table speaks of.
@@ -42,6 +46,10 @@
  *   a derivation   the first b numbers of the chain buffer are the steps; later
  *                  numbers are as they were. Any other answer leaves this
  *                  buffer alone.
+ *   written        the first a bytes of the buffer are the table; later bytes
+ *                  are as they were
+ *   a row          the first STRAMASHLY_ROW_BYTES bytes of the buffer are the
+ *                  row's; later bytes are as they were. The end leaves it alone.
  *
  * A work area or another lent buffer that is too short is refused before
  * anything else is looked at.
@@ -80,6 +88,12 @@ extern "C" {
 /* Where a cycle's edge numbers begin in the cycle buffer. */
 #define STRAMASHLY_CYCLE_EDGES 128
 
+/* Bytes of a row, and numbers of a place and of a dependency, as a writer takes
+ * them. */
+#define STRAMASHLY_ROW_BYTES 16
+#define STRAMASHLY_PLACE_NUMBERS 4
+#define STRAMASHLY_DEPENDENCY_NUMBERS 2
+
 /* Most agents, rows and dependencies of a table, and its most bytes, those of
  * version 3: a header of 8, 8 for each agent, 16 for each row, a count of 2, 4 for
  * each dependency. Versions 1 and 2 have 6 for each agent and no dependencies. */
@@ -112,14 +126,18 @@ enum stramashly_code {
   STRAMASHLY_DERIVATION = 8,
   STRAMASHLY_NOT_BEFORE = 9,
   STRAMASHLY_ACCEPTED = 10,
-  STRAMASHLY_NOT_ACCEPTED = 11
+  STRAMASHLY_NOT_ACCEPTED = 11,
+  STRAMASHLY_WRITTEN = 12,
+  STRAMASHLY_OPENED = 13,
+  STRAMASHLY_ROW = 14,
+  STRAMASHLY_END = 15
 };
 
 /* Part a of a refusal: which rule of form is broken. Part b is the row that
  * breaks it, 0 where it is no row's. Tested in this order: BUFFER; SHORT,
  * VERSION, LIMITS, LENGTH, AGENT_KIND, DEPENDENCIES, DEPENDENCY; row by row CODE,
  * AGENT_ROW, then KIND_FIT and EXTENT or OPERATION_FIT; row by row CLASS, SOURCE,
- * RANK, INSTANCE, RUN; MOMENTS. */
+ * RANK, INSTANCE, RUN; MOMENTS; ROOM. */
 enum stramashly_refusal {
   STRAMASHLY_REFUSAL_SHORT = 1,     /* a table of fewer than 8 bytes */
   STRAMASHLY_REFUSAL_VERSION = 2,   /* a version other than 1 to 3, or byte 7 not 0 */
@@ -133,6 +151,7 @@ enum stramashly_refusal {
   STRAMASHLY_REFUSAL_RANK = 10,     /* the rank of an earlier, mutually-ordered writer */
   STRAMASHLY_REFUSAL_BUFFER = 11,   /* a lent buffer that is too short */
   STRAMASHLY_REFUSAL_MOMENTS = 12,  /* not two different moments of the table */
+  STRAMASHLY_REFUSAL_ROOM = 13,     /* a buffer that is shorter than the table to be written */
   STRAMASHLY_REFUSAL_INSTANCE = 14, /* a control barrier that doesn't fit its instance */
   STRAMASHLY_REFUSAL_RUN = 15,      /* versions 2, 3: ranks further apart than a run of counts */
   STRAMASHLY_REFUSAL_AGENT_KIND = 16,   /* an agent that is no shader, host or queue agent */
@@ -189,6 +208,32 @@ uint64_t stramashly_report(const uint8_t *table, size_t table_len, uint8_t chain
  * nothing races and 1.0 exactly when every conflicting pair does. Where nothing
  * conflicts there is no share: then it is not a number. */
 double stramashly_share(uint16_t racing, uint16_t conflicting);
+
+/* Writes a table of values: written or refused. Of each agent there are
+ * STRAMASHLY_PLACE_NUMBERS numbers: family, workgroup, subgroup, and 0 shader, 1
+ * host, 2 queue; of each row its STRAMASHLY_ROW_BYTES bytes, numbers of two bytes
+ * big-endian; of each dependency its two rows. As many count as there are whole
+ * ones: a rest counts for nothing. A table that is written is one that
+ * stramashly_fill doesn't refuse, and it reads back as these values. What a fill
+ * refuses is refused alike, from VERSION on and LENGTH aside; before version 3
+ * AGENT_KIND is any fourth number but 0, and DEPENDENCIES any dependency; last
+ * comes ROOM.
+ * STRAMASHLY_TABLE_BYTES are enough for every table. */
+uint64_t stramashly_write(uint8_t version,
+                          const uint16_t *places, size_t places_len,
+                          const uint8_t *rows, size_t rows_len,
+                          const uint16_t *dependencies, size_t dependencies_len,
+                          uint8_t *out, size_t out_len);
+
+/* Whether a table can be stepped through: opened, or what stramashly_fill refuses
+ * it for, its buffers aside. Nothing is written. */
+uint64_t stramashly_open(const uint8_t *table, size_t table_len);
+
+/* The row at a place of an opened table, or the end. Places begin with 0; part a is
+ * the next one. A buffer of fewer than STRAMASHLY_ROW_BYTES bytes is refused
+ * (BUFFER). Of bytes that weren't opened it gives what stands where the row would. */
+uint64_t stramashly_row(const uint8_t *table, size_t table_len, uint16_t at,
+                        uint8_t *row, size_t row_len);
 
 #ifdef __cplusplus
 }

@@ -1,7 +1,9 @@
 -- An answer as one number for C: code × 2^48 + a × 2^32 + b × 2^16 + c.
 use mathlib.Core.Bool.{Bool, not, cond}
+use mathlib.Core.List.{List, _++_}
 use Prim.Native.Nat.{ℕ, _+_, _*_}
-use lib.Dec.{eqb}
+use lib.Dec.{leb, eqb}
+use lib.ListN.{length, drop}
 use lib.Ieee.{Float, nan}
 use Rattle.model.specs.declared.CheckAnswer.{CheckAnswer}
 use Rattle.model.specs.declared.CheckAnswer.the-variants
@@ -18,6 +20,15 @@ use Rattle.model.specs.declared.Share.the-variants as share
 use Rattle.model.specs.declared.Report.{Report}
 use Rattle.model.specs.declared.ReportAnswer.{ReportAnswer}
 use Rattle.model.specs.declared.ReportAnswer.the-variants as told
+use Rattle.model.specs.declared.Admission.{Admission}
+use Rattle.model.specs.declared.Admission.the-variants as admit
+use Rattle.model.specs.Table.{ROW-BYTES}
+use Rattle.writer.specs.declared.WriteAnswer.{WriteAnswer}
+use Rattle.writer.specs.declared.WriteAnswer.the-variants as written
+use Rattle.writer.specs.Encode.{rowList}
+use Rattle.stepping.specs.declared.Step.{Step}
+use Rattle.stepping.specs.declared.Step.the-variants as step
+use Rattle.stepping.specs.Steps.{stepAt, nextAt}
 
 unfoldable pub packed : ℕ → ℕ → ℕ → ℕ → ℕ
 packed code a b c = code * 281474976710656 + a * 4294967296 + b * 65536 + c
@@ -73,3 +84,30 @@ floatOf share.NoPairs = nan
 -- a switch, where a caller can hand in any number
 abbrev pub isOn : ℕ → Bool
 isOn switch = not (eqb switch 0)
+
+-- the codes: 4 refused, as above; 12 written (a is the number of bytes)
+unfoldable pub packWrite : WriteAnswer → ℕ
+packWrite (written.Refused n i) = packed 4 n i 0
+packWrite (written.Written m) = packed 12 m 0 0
+
+-- the codes: 4 refused, as above; 13 opened (a is the number of rows, b that of agents)
+unfoldable pub packOpen : Admission → ℕ
+packOpen (admit.Refused n i) = packed 4 n i 0
+packOpen (admit.Admitted a n) = packed 13 n a 0
+
+-- the codes: 14 a row, 15 the end (a is the next place)
+unfoldable pub packStep : Step → ℕ → ℕ
+packStep (step.Row r s) next = packed 14 next 0 0
+packStep step.End next = packed 15 next 0 0
+
+-- the row's bytes at the front of the lent buffer; the end leaves it alone
+unfoldable pub stepPut : Step → List ℕ → List ℕ
+stepPut (step.Row r s) out = rowList r (s .0) ++ drop ROW-BYTES out
+stepPut step.End out = out
+
+-- a buffer that a row has no room in is refused, with 11, and left alone
+unfoldable pub rowAnswer : List ℕ → ℕ → ℕ → ℕ
+rowAnswer s i room = cond (leb ROW-BYTES room) (packStep (stepAt s i) (nextAt s i)) (packed 4 11 0 0)
+
+unfoldable pub rowAfter : List ℕ → ℕ → List ℕ → List ℕ
+rowAfter s i out = cond (leb ROW-BYTES (length out)) (stepPut (stepAt s i) out) out

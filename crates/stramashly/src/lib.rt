@@ -1,5 +1,6 @@
 // The functions that C and Rust link. Each is the proved function of the same name with its answer packed into one number.
 ghost use mathlib.Core.Path.{_≡_};
+ghost use mathlib.Core.Bool.{true};
 ghost use Prim.Native.Nat.{ℕ, _≤_};
 ghost use lib.ListN.{length};
 ghost use Rattle.model.specs.Check.{check, checkAnswer, cycleAfter, workAfter};
@@ -9,14 +10,23 @@ ghost use Rattle.model.specs.Reason.{derive, deriveAnswer, chainAfter, judge, a
 ghost use Rattle.model.specs.Reason as Derivation;
 ghost use Rattle.model.specs.Report.{report, shareOf};
 ghost use Rattle.model.specs.Table.{rowsAt};
+ghost use Rattle.model.specs.Refusal.{admission};
+ghost use Rattle.writer.specs.Answer.{bufferAfter};
+ghost use Rattle.writer.specs.Parts.{partsAnswer, partsTable};
 ghost use Rattle.stramashly.specs.Packed.{packed, packCheck, packFill, packDerive, packAccept, packReport, reasonOf, isOn, floatOf};
+ghost use Rattle.stramashly.specs.Packed.{packWrite, packOpen, rowAnswer, rowAfter};
 use model::AcceptAnswer;
+use model::Admission;
 use model::CheckAnswer;
 use model::DeriveAnswer;
 use model::FillAnswer;
 use model::Reason;
 use model::ReportAnswer;
 use model::Share;
+use rows::bytes;
+use stepping::Step;
+use writer::WriteAnswer;
+use writer::encode;
 
 // The class set that says program order, where a caller can hand in no enum.
 const PROGRAM_ORDER: u8 = 16;
@@ -99,6 +109,24 @@ fn pack_report(answer: ReportAnswer) -> u64
     }
 }
 
+fn pack_write(answer: WriteAnswer) -> u64
+    ensures { λ r. ⌜ r ≡ packWrite answer ⌝ }
+{
+    match answer {
+        WriteAnswer::Refused { number, row } => pack(4, number as u16, row, 0),
+        WriteAnswer::Written { bytes } => pack(12, bytes, 0, 0),
+    }
+}
+
+fn pack_open(answer: Admission) -> u64
+    ensures { λ r. ⌜ r ≡ packOpen answer ⌝ }
+{
+    match answer {
+        Admission::Refused { number, row } => pack(4, number as u16, row, 0),
+        Admission::Admitted { agents, rows } => pack(13, rows as u16, agents as u16, 0),
+    }
+}
+
 fn reason_of(classes: u8) -> Reason
     ensures { λ r. ⌜ r ≡ reasonOf classes ⌝ }
 {
@@ -138,7 +166,7 @@ pub extern "C" fn stramashly_fill(
         × (now (sources .exit) ≡ sourcesAfter (fill (isOn chains) (now (table .entry)) (length (now (work .entry))) (length (now (sources .entry)))) (now (sources .entry))) ⌝ }
 {
     let answer = filling::fill(table, !(chains == 0), work, sources);
-    pack_fill(answer, rows::bytes::rows_at(table))
+    pack_fill(answer, bytes::rows_at(table))
 }
 
 // Why one moment happens before another: `reasons::derive`, packed; class set 16 is the word program order.
@@ -202,4 +230,48 @@ pub extern "C" fn stramashly_share(racing: u16, conflicting: u16) -> f64
         return 0.0 / 0.0;
     };
     part
+}
+
+// Writes a table of values: `writer::parts::write_parts`, packed.
+// Ruled out: one whose number of bytes is that of the buffer; one that writes where it refuses.
+#[no_mangle]
+pub extern "C" fn stramashly_write(
+    version: u8,
+    places: &[u16],
+    rows: &[u8],
+    dependencies: &[u16],
+    out: &mut [u8],
+) -> u64
+    ensures { λ r. ⌜ (r ≡ packWrite (partsAnswer version (now (places .entry)) (now (rows .entry)) (now (dependencies .entry)) (length (now (out .entry)))))
+        × (now (out .exit) ≡ bufferAfter (partsAnswer version (now (places .entry)) (now (rows .entry)) (now (dependencies .entry)) (length (now (out .entry)))) (partsTable version (now (places .entry)) (now (rows .entry)) (now (dependencies .entry))) (now (out .entry))) ⌝ }
+{
+    pack_write(writer::parts::write_parts(version, places, rows, dependencies, out))
+}
+
+// Whether a table can be stepped through: `stepping::opening`, packed.
+// Ruled out: one that opens what a fill refuses; one that refuses a blank.
+#[no_mangle]
+pub extern "C" fn stramashly_open(table: &[u8]) -> u64
+    ensures { λ r. ⌜ r ≡ packOpen (admission true (now (table .entry))) ⌝ }
+{
+    pack_open(stepping::opening(table))
+}
+
+// The row at a place of a table, as its sixteen bytes, or the end, and the next place: `stepping::step_at` and `stepping::next_at`.
+// Ruled out: one that writes a part of a row into a short buffer; one that leaves the end.
+#[no_mangle]
+pub extern "C" fn stramashly_row(table: &[u8], at: u16, row: &mut [u8]) -> u64
+    ensures { λ r. ⌜ (r ≡ rowAnswer (now (table .entry)) at (length (now (row .entry))))
+        × (now (row .exit) ≡ rowAfter (now (table .entry)) at (now (row .entry))) ⌝ }
+{
+    if row.len() < bytes::ROW_BYTES {
+        return pack(4, 11, 0, 0);
+    }
+    let next = stepping::next_at(table, at);
+    let step = stepping::step_at(table, at);
+    let Step::Row { row: r, source } = step else {
+        return pack(15, next, 0, 0);
+    };
+    encode::put(row, 0, &encode::row_bytes(r, source), 16);
+    pack(14, next, 0, 0)
 }

@@ -144,7 +144,7 @@ impl Answer for ReportAnswer<'_> {
     }
 }
 
-fn put_verdict(object: &mut Object, word: &str) {
+pub fn put_verdict(object: &mut Object, word: &str) {
     object.text("verdict", word);
 }
 
@@ -155,7 +155,7 @@ fn put_race(object: &mut Object, first: u16, second: u16, byte: u16) {
     object.number("byte", byte);
 }
 
-fn put_refusal(object: &mut Object, number: u16, row: u16) {
+pub fn put_refusal(object: &mut Object, number: u16, row: u16) {
     put_verdict(object, "refused");
     object.number("number", number);
     object.number("row", row);

@@ -111,7 +111,7 @@ pub fn parse(words: impl Iterator<Item = OsString>) -> Result<Command, String> {
             is_all: words.is_all,
         }),
         _ => {
-            let kind = Kind::named(name.as_encoded_bytes());
+            let kind = Kind::named(name.as_encoded_bytes()).filter(|kind| kind.takes_files());
             let kind = kind.ok_or_else(|| format!("no command is called {name:?}"))?;
             match question(kind, &mut words.others)? {
                 Question::Derive { first, second } if words.is_words => {

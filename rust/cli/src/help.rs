@@ -45,7 +45,8 @@ usage:
   stramashly edit [--hex] FILE EDIT...
                                       the table with changes made, as explain names them
   stramashly batch [--json] [-j N]    lines on standard input: `check HEX`, `fill HEX`,
-                                      `report HEX`, `derive HEX M N`, `accepts HEX M N ...`
+                                      `report HEX`, `derive HEX M N`, `accepts HEX M N ...`,
+                                      `rows HEX`, `write VERSION ROOM PLACES ROWS DEPENDENCIES`
   stramashly help [COMMAND]           this text, or a command's lines
   stramashly --help | --version
 
@@ -69,6 +70,10 @@ R.at, R.after. S is a class set, 1 to 15: the sum of 1 Uniform, 2 Workgroup, 4 I
 case, 1 to 4, plus the moment that it reaches: 1 synchronizes-with, 2 to a release, 3 from an
 acquire, 4 a dependency. Where M and N aren't two moments of the table, the answer is `refused 12 0`.
 
+rows gives each row's 16 bytes. write makes a table for a buffer of ROOM bytes: PLACES are hex digits,
+8 bytes for each agent (family, workgroup, subgroup, and 0 shader, 1 host, 2 queue), ROWS 16 for
+each row, DEPENDENCIES 4 for each dependency (two rows); `-` is none.
+
 answers, one line each, with the file's name before it if there are several:
   race-free                           every conflicting pair of rows is ordered
   race I J B                          rows I and J conflict, unordered at byte B
@@ -84,6 +89,8 @@ answers, one line each, with the file's name before it if there are several:
   not-before                          M doesn't happen before N
   accepted                            the derivation leads from M to N
   not-accepted                        it doesn't
+  ROW... end                          the table's rows, in hex digits
+  written HEX                         the table
 
 as objects, in the same order:
   {\"verdict\":\"race-free\"}
@@ -99,6 +106,8 @@ as objects, in the same order:
   {\"verdict\":\"not-before\"}
   {\"verdict\":\"accepted\"}
   {\"verdict\":\"not-accepted\"}
+  {\"verdict\":\"rows\",\"rows\":[ROW,...]}
+  {\"verdict\":\"written\",\"table\":HEX}
   {\"verdict\":\"error\",\"reason\":REASON}, of a file that can't be read and of a bad line
 If there are several files, \"file\" comes first, the file's name.
 

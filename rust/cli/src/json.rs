@@ -31,6 +31,11 @@ impl Object {
         self.member(key, &Quoted(text));
     }
 
+    pub fn texts(&mut self, key: &str, texts: &[String]) {
+        let texts: Vec<String> = texts.iter().map(|text| Quoted(text).to_string()).collect();
+        self.member(key, &format_args!("[{}]", texts.join(",")));
+    }
+
     fn member(&mut self, key: &str, value: &dyn Display) {
         let comma = if self.members.is_empty() { "" } else { "," };
         // Writing to a string can't fail.
@@ -74,7 +79,9 @@ mod tests {
         object.number("length", 2);
         object.numbers("rows", &[0, 65535]);
         object.numbers("edges", &[]);
-        let expected = r#"{"verdict":"cycle","length":2,"rows":[0,65535],"edges":[]}"#;
+        object.texts("words", &["a".to_string(), "\"".to_string()]);
+        let expected =
+            r#"{"verdict":"cycle","length":2,"rows":[0,65535],"edges":[],"words":["a","\""]}"#;
         assert_eq!(object.to_string(), expected);
     }
 

@@ -3,6 +3,7 @@
 use crate::answers::Answer;
 use crate::json::Object;
 use crate::question::Question;
+use crate::writing::{rows, write};
 use crate::Status;
 use std::fmt::{Display, Write};
 use stramashly::Checker;
@@ -40,6 +41,8 @@ pub fn judge(
             let answer = Checker::accepts(table, *first, *second, claim.derivation());
             append(text, form, &answer)
         }
+        Question::Rows => append(text, form, &rows(table)),
+        Question::Write(writing) => append(text, form, &write(writing)),
     }
 }
 

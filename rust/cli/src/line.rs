@@ -2,11 +2,13 @@
 
 use crate::hex::Hex;
 use crate::question::{is_number, Kind, Question};
+use crate::values::Values;
 use stramashly::CHAIN_NUMBERS;
 
 /// A command, a table's hex digits and, for some commands, further words.
 /// These need the digits without white space; else it is ignored. A line of
-/// white space and one that begins with `#` ask nothing.
+/// white space and one that begins with `#` ask nothing. `write` has values
+/// in the table's place.
 #[derive(Default)]
 pub struct Line {
     has_letters: bool,
@@ -17,6 +19,7 @@ pub struct Line {
     has_digits: bool,
     are_digits_over: bool,
     words: Words,
+    values: Values,
 }
 
 impl Line {
@@ -29,11 +32,13 @@ impl Line {
             return;
         }
         let piece = self.push_command(piece);
-        if Kind::named(&self.command).is_some_and(Kind::takes_words) {
-            let piece = self.push_digits(piece);
-            self.words.push(piece);
-        } else {
-            self.digits.push(piece);
+        match Kind::named(&self.command) {
+            Some(Kind::Write) => self.values.push(piece),
+            Some(kind) if kind.takes_words() => {
+                let piece = self.push_digits(piece);
+                self.words.push(piece);
+            }
+            _ => self.digits.push(piece),
         }
     }
 
@@ -44,7 +49,7 @@ impl Line {
         }
         let is_letter = |letter: &u8| !letter.is_ascii_whitespace();
         let begin = piece.iter().position(is_letter);
-        self.digits.skip(begin.unwrap_or(piece.len()));
+        self.skip(begin.unwrap_or(piece.len()));
         let rest = &piece[begin.unwrap_or(piece.len())..];
         self.has_letters = begin.is_some();
         self.is_comment = rest.first() == Some(&b'#');
@@ -61,8 +66,14 @@ impl Line {
         let room = Line::LONGEST_COMMAND - self.command.len();
         self.command.extend(&command[..command.len().min(room)]);
         self.is_command_over = end.is_some();
-        self.digits.skip(command.len());
+        self.skip(command.len());
         rest
+    }
+
+    /// Counts letters that stand before the digits and values.
+    fn skip(&mut self, letters: usize) {
+        self.digits.skip(letters);
+        self.values.skip(letters);
     }
 
     /// Takes the first word and the white space before it, and gives the rest.
@@ -98,13 +109,17 @@ impl Line {
         self.has_digits = false;
         self.are_digits_over = false;
         self.words.clear();
+        self.values.clear();
     }
 
-    /// What the whole line asks of which table.
+    /// What the whole line asks of which table; values have an empty one.
     pub fn request(&mut self) -> Result<(Question, &[u8]), String> {
         let Some(kind) = Kind::named(&self.command) else {
-            return Err(format!("none of {}", Kind::NAMES));
+            return Err(format!("none of {}", Kind::BATCH_NAMES));
         };
+        if kind == Kind::Write {
+            return Ok((Question::Write(self.values.writing()?), &[]));
+        }
         let table = self.digits.bytes().map_err(|bad| bad.to_string())?;
         self.words.close();
         let words: Vec<&str> = self.words.kept.iter().map(String::as_str).collect();

@@ -19,6 +19,8 @@ mod parallel;
 mod question;
 mod summary;
 mod tell;
+mod values;
+mod writing;
 
 use arguments::Command;
 use output::{complain, Output};

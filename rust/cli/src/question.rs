@@ -10,6 +10,8 @@ pub enum Kind {
     Report,
     Derive,
     Accepts,
+    Rows,
+    Write,
 }
 
 /// A command with all that it needs besides a table.
@@ -27,6 +29,19 @@ pub enum Question {
         second: u16,
         claim: Claim,
     },
+    Rows,
+    Write(Writing),
+}
+
+/// Values to make a table of, and how many bytes there are for it: four
+/// numbers for each place, two for each dependency.
+#[derive(Clone, Debug, PartialEq, Eq)]
+pub struct Writing {
+    pub version: u8,
+    pub room: u16,
+    pub places: Vec<u16>,
+    pub rows: Vec<u8>,
+    pub dependencies: Vec<u16>,
 }
 
 /// A derivation as somebody wrote it.
@@ -64,6 +79,8 @@ impl Claim {
 impl Kind {
     /// What there is to choose from.
     pub const NAMES: &str = "check, fill, report, derive and accepts";
+    /// The same in a batch.
+    pub const BATCH_NAMES: &str = "check, fill, report, derive, accepts, rows and write";
 
     pub fn named(name: &[u8]) -> Option<Kind> {
         match name {
@@ -72,8 +89,15 @@ impl Kind {
             b"report" => Some(Kind::Report),
             b"derive" => Some(Kind::Derive),
             b"accepts" => Some(Kind::Accepts),
+            b"rows" => Some(Kind::Rows),
+            b"write" => Some(Kind::Write),
             _ => None,
         }
+    }
+
+    /// Whether files can be asked it, and not only the lines of a batch.
+    pub fn takes_files(self) -> bool {
+        !matches!(self, Kind::Rows | Kind::Write)
     }
 
     /// Whether there are words after a single table.
@@ -102,6 +126,8 @@ impl Kind {
                 }),
                 _ => Err("accepts takes one table, two moments and a derivation".to_string()),
             },
+            Kind::Rows => Ok(Question::Rows),
+            Kind::Write => Err("write takes no table".to_string()),
         }
     }
 }
@@ -126,7 +152,7 @@ pub fn is_number(word: &[u8]) -> bool {
 }
 
 /// A word as a number up to the most that its type holds.
-fn number<T: TryFrom<u32> + Into<u32> + Copy>(word: &str, most: T) -> Result<T, String> {
+pub fn number<T: TryFrom<u32> + Into<u32> + Copy>(word: &str, most: T) -> Result<T, String> {
     let value = if is_number(word.as_bytes()) {
         word.parse::<u32>().ok()
     } else {

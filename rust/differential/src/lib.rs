@@ -10,6 +10,7 @@ mod expected;
 mod reasons;
 mod reports;
 mod tally;
+mod writing;
 
 pub use claim::Claim;
 pub use reasons::{Derived, Moments, Probed};

@@ -18,6 +18,7 @@
 //! | fillings | `filling` |
 //! | derivations, refusal 12 | `derivation` |
 //! | counts of conflicting pairs | `report` |
+//! | the writer, refusal 13, and a table's rows one by one | `writing` |
 //! | the rules one by one, for those who put an answer into words | `facts` |
 
 mod admission;
@@ -36,6 +37,7 @@ mod state;
 mod synchronization;
 mod system;
 pub mod table;
+mod writing;
 
 pub use answer::{CheckAnswer, FillAnswer, List};
 pub use chains::Chains;
@@ -46,6 +48,7 @@ pub use report::{Counts, ReportAnswer};
 pub use state::State;
 pub use system::DomainSteps;
 pub use table::{BLANK, INITIAL};
+pub use writing::{row_bytes, RowsAnswer, Values, WriteAnswer};
 
 /// Most rows of a table.
 pub const MAX_ROWS: usize = 128;

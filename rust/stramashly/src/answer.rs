@@ -17,6 +17,10 @@ pub enum Code {
     NotBefore = 9,
     Accepted = 10,
     NotAccepted = 11,
+    Written = 12,
+    Opened = 13,
+    Row = 14,
+    End = 15,
 }
 
 /// A packed answer: code × 2^48 + a × 2^32 + b × 2^16 + c.
@@ -44,6 +48,10 @@ impl Packed {
             9 => Code::NotBefore,
             10 => Code::Accepted,
             11 => Code::NotAccepted,
+            12 => Code::Written,
+            13 => Code::Opened,
+            14 => Code::Row,
+            15 => Code::End,
             _ => return None,
         };
         Some(code)
@@ -73,6 +81,10 @@ impl fmt::Debug for Packed {
             self.c()
         )
     }
+}
+
+pub(crate) fn foreign(packed: Packed) -> ! {
+    panic!("libstramashly.a gave an answer that stramashly.h doesn't have: {packed:?}")
 }
 
 /// What a check answers. The lists lie in the checker's own buffer.

@@ -1,6 +1,6 @@
 //! A checker with buffers of its own.
 
-use crate::answer::{CheckAnswer, Code, FillAnswer, Packed};
+use crate::answer::{foreign, CheckAnswer, Code, FillAnswer, Packed};
 use crate::derivation::{AcceptsAnswer, Derivation, DeriveAnswer};
 use crate::engine::{accepts_in, check_with, derive_in, fill_with, report_with, share_of};
 use crate::report::{Report, ReportAnswer, Share};
@@ -159,8 +159,4 @@ fn reported(packed: Packed) -> Report {
         racing,
         share,
     }
-}
-
-fn foreign(packed: Packed) -> ! {
-    panic!("libstramashly.a gave an answer that stramashly.h doesn't have: {packed:?}")
 }

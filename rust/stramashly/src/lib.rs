@@ -43,24 +43,31 @@
 //! On a device that reports the feature
 //! vulkanMemoryModelAvailabilityVisibilityChains, `Checker::new().with_chains(true)`.
 //!
+//! A recorder hands its values to a [`TableWriter`], which gives a table that a
+//! fill admits; [`Rows`] steps through the rows of one.
+//!
 //! [`check_in`], [`fill_in`], [`derive_in`] and [`report_in`] take lent buffers
-//! instead, of any length, and give the packed answer as it comes, and so does
-//! [`accepts_in`], which needs none.
+//! instead, of any length, and give the packed answer as it comes, and so do
+//! [`write_in`], [`open_in`], [`row_in`] and [`accepts_in`].
 
 mod answer;
 mod checker;
 mod derivation;
 mod engine;
 mod report;
+mod rows;
+mod writer;
 
 pub use answer::{CheckAnswer, Code, FillAnswer, Packed};
 pub use checker::Checker;
 pub use derivation::{AcceptsAnswer, Derivation, DeriveAnswer};
 pub use engine::{
-    accepts_in, check_in, check_with, derive_in, fill_in, fill_with, report_in, report_with,
-    share_of,
+    accepts_in, check_in, check_with, derive_in, fill_in, fill_with, open_in, report_in,
+    report_with, row_in, share_of, write_in,
 };
 pub use report::{Report, ReportAnswer, Share};
+pub use rows::Rows;
+pub use writer::{Refusal, Row, TableWriter};
 
 /// Source number for the initial value.
 pub const INITIAL: u16 = 65535;
@@ -69,12 +76,15 @@ pub const BLANK: u16 = 65534;
 
 /// Most rows of a table.
 pub const MAX_ROWS: usize = 128;
+/// Bytes of a row.
+pub const ROW_BYTES: usize = 16;
 /// Most agents of a table.
 pub const MAX_AGENTS: usize = 32;
 /// Most dependencies of a table of version 3.
 pub const MAX_DEPENDENCIES: usize = 64;
 /// Most bytes of a table: its header, agents, rows and dependencies.
-pub const MAX_TABLE_BYTES: usize = 8 + 8 * MAX_AGENTS + 16 * MAX_ROWS + 2 + 4 * MAX_DEPENDENCIES;
+pub const MAX_TABLE_BYTES: usize =
+    8 + 8 * MAX_AGENTS + ROW_BYTES * MAX_ROWS + 2 + 4 * MAX_DEPENDENCIES;
 
 /// Least length of the lent work area, in 64-bit words.
 pub const WORK_WORDS: usize = 8192;

@@ -478,6 +478,8 @@ fn share(table: &Table, first: u8, second: u8, scope: u8) -> bool {
     match scope {
         scope::INVOCATION => x == y,
         scope::DEVICE => true,
+        // A table that is damaged already may have no such scope.
+        _ if scope > scope::DEVICE => false,
         _ => {
             let numbers = usize::from(scope::DEVICE - scope);
             table.agents[x][..numbers] == table.agents[y][..numbers]

@@ -3,9 +3,11 @@
 
 mod derivation;
 mod report;
+mod writer;
 
 pub use derivation::{accepts_in, derive_in};
 pub use report::{report_in, report_with, share_of};
+pub use writer::{open_in, row_in, write_in};
 
 use crate::answer::Packed;
 

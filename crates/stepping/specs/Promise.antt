@@ -1,0 +1,49 @@
+-- The stepping reader, in its reader's words: what a fill refuses, 11 aside, isn't opened; else the steps give rows 0 onward, each once, then the
+-- end at every further call. What is assumed of the reader r is what the contract of `open` ensures; `stepsOf r i` is what call i of
+-- `next` gives, by the contract of `next`. What `open` says of the table beside the reader is `admission true s` itself.
+use mathlib.Core.Path.{_≡_, sym, ap, _∙_}
+use mathlib.Core.Bool.{true}
+use mathlib.Core.List.{List, []}
+use Prim.Native.Nat.{ℕ, _≤_, _<_}
+use native.Mathlib.Omega.{arith}
+use denote.Ref.{now}
+use Rattle.model.specs.declared.Admission.{Admission}
+use Rattle.model.specs.declared.Admission.the-variants.{Admitted, Refused}
+use Rattle.model.specs.Table.{rowsAt, rowBytes, rowOf, sourceOf}
+use Rattle.model.specs.Refusal.{admission}
+use Rattle.model.specs.AdmissionLaws.{sound-admitted, admitted-sound}
+use Rattle.stepping.specs.declared.RowReader.{RowReader}
+use Rattle.stepping.specs.declared.Step.the-variants.{Row, End}
+use Rattle.stepping.specs.Steps.{openedPart, stepsOf}
+use Rattle.stepping.specs.StepLaws.{steps-rows, steps-end}
+
+-- of a reader r that was opened on the table s
+module _ (s : List ℕ) (r : RowReader) (whole : now (r .table) ≡ openedPart (admission true s) s) (start : r .at ≡ 0) where
+  module _ (a n : ℕ) (e : admission true s ≡ Admitted a n) where
+    all-of : now (r .table) ≡ s
+    unfolding openedPart
+    all-of = whole ∙ ap (λ (x : Admission). openedPart x s) e
+
+    count-of : n ≡ rowsAt s
+    count-of = ap rows-in (sym e ∙ sound-admitted true s (admitted-sound true s e))
+      where
+        rows-in : Admission → ℕ
+        rows-in (Admitted x y) = y
+        rows-in (Refused x y) = 0
+
+    -- rows 0 onward, each once
+    pub opened-rows : (i : ℕ) → i < n → stepsOf r i ≡ Row (rowOf (rowBytes s) i) (record { 0 = sourceOf (rowBytes s) i })
+    opened-rows i l =
+        let m : i < rowsAt (now (r .table)) = rw (all-of, ← count-of) l in
+        steps-rows i r start m ∙ ap (λ (t : List ℕ). Row (rowOf (rowBytes t) i) (record { 0 = sourceOf (rowBytes t) i })) all-of
+
+    -- then the end at every further call
+    pub opened-end : (i : ℕ) → n ≤ i → stepsOf r i ≡ End
+    opened-end i l = steps-end i r start (rw (all-of, ← count-of) l)
+
+  -- what a fill refuses isn't opened: it has no rows
+  pub refused-end : (k j : ℕ) → admission true s ≡ Refused k j → (i : ℕ) → stepsOf r i ≡ End
+  unfolding openedPart rowsAt
+  refused-end k j e i =
+      let none : now (r .table) ≡ [] = whole ∙ ap (λ (x : Admission). openedPart x s) e in
+      steps-end i r start (rw none (omega arith))

@@ -1,0 +1,208 @@
+-- Laws that the writer's proofs cite. Assumes nothing.
+use mathlib.Core.Path.{_≡_, refl, sym, ap, ap₂, subst, _∙_}
+use mathlib.Core.Bool.{Bool, true}
+use mathlib.Core.List.{List, [], _∷_, _++_}
+use Prim.Native.Nat.{ℕ, _+_, _-_, _*_, _/_, _%_, _≤_, _<_}
+use native.Mathlib.Omega.{arith}
+use native.Mathlib.Numerals.{add-one}
+use lib.ListN.{length, getD, take, drop, set, length-take, List·getD-eq-default}
+use lib.Seq.{paste, paste-suc, length-paste, take-paste, take-all, ext-getD, getD-take}
+use borrow.Author.Tests.{eq-eqb, ne-eqb, le-leb, lt-leb, lt-ltb, le-ltb}
+use Rattle.finite.specs.Lists.{tabulate, length-tabulate, getD-tabulate}
+use Rattle.model.specs.declared.Admission.{Admission}
+use Rattle.model.specs.declared.Admission.the-variants.{Admitted, Refused}
+use Rattle.model.specs.Limits.{AGENTS, ROWS, DEPENDENCIES}
+use Rattle.model.specs.Refusal.{admission}
+use Rattle.model.specs.Table.{HEADER, DEPENDENCY-BYTES, ROW-BYTES}
+use Rattle.writer.specs.declared.Entry.{Entry}
+use Rattle.writer.specs.declared.Dependencies.{Dependencies}
+use Rattle.writer.specs.declared.WriteAnswer.{WriteAnswer}
+use Rattle.writer.specs.declared.WriteAnswer.the-variants as Answer
+use Rattle.writer.specs.Encode.{half, withHosts, placesSize, dependenciesSize, tableSize, headerList, numberOf, placeNumber, placeByte, rowList, nothing, entryAt, entryByte, dependencyNumber, dependencyByte, placesPart, rowsPart, dependenciesPart, encode, entriesIn}
+use Rattle.writer.specs.Answer.{valuesFault, writtenAs, roomAnswer, writeAnswer, bufferAfter}
+use Rattle.writer.specs.Parts.{agentsIn, placesIn, rowsIn, dependenciesIn, partsAnswer, partsTable}
+use Rattle.writer.specs.ValueLaws.{Fits, places-most, after-most, size-most, header-length, encode-length, values-fit, agents-few, rows-few, after-few}
+
+-- ---- a byte of a number of two bytes
+
+pub half-high : (v k : ℕ) → k % 2 ≡ 0 → half v k ≡ v / 256 % 256
+unfolding half
+half-high v k h = rw (eq-eqb (k % 2) 0 h) refl
+
+pub half-low : (v k : ℕ) → (k % 2 ≡ 0 → ⊥) → half v k ≡ v % 256
+unfolding half
+half-low v k h = rw (ne-eqb (k % 2) 0 h) refl
+
+-- ---- the numbers that bytes belong to
+
+pub number-past : (p : List (List ℕ)) (a m : ℕ) → length p ≤ a → numberOf p a m ≡ 0
+unfolding numberOf
+number-past p a m h = rw (List·getD-eq-default p [] h) refl
+
+pub number-count : (d : Dependencies) (k : ℕ) → k < 2 → dependencyNumber d k ≡ d .count
+unfolding dependencyNumber
+number-count d k h = rw (lt-ltb k 2 h) refl
+
+pub number-first : (d : Dependencies) (k : ℕ) → 2 ≤ k → (k - 2) % DEPENDENCY-BYTES < 2 → dependencyNumber d k ≡ getD (d .first) ((k - 2) / DEPENDENCY-BYTES) 0
+unfolding dependencyNumber
+number-first d k h m = rw (le-ltb k 2 h, lt-ltb ((k - 2) % DEPENDENCY-BYTES) 2 m) refl
+
+pub number-second : (d : Dependencies) (k : ℕ) → 2 ≤ k → 2 ≤ (k - 2) % DEPENDENCY-BYTES → dependencyNumber d k ≡ getD (d .second) ((k - 2) / DEPENDENCY-BYTES) 0
+unfolding dependencyNumber
+number-second d k h m = rw (le-ltb k 2 h, le-ltb ((k - 2) % DEPENDENCY-BYTES) 2 m) refl
+
+-- ---- the bytes that a loop stores
+
+pub byte-place : (hosts : Bool) (p : List (List ℕ)) (k : ℕ) (n : ℕ) {v : ℕ} → n ≡ placeNumber hosts p k → v ≡ half n k → v ≡ placeByte hosts p k
+unfolding placeByte
+byte-place hosts p k n e h = rw (← e) h
+
+pub byte-dependency : (d : Dependencies) (k n : ℕ) {v : ℕ} → n ≡ dependencyNumber d k → v ≡ half n k → v ≡ dependencyByte d k
+unfolding dependencyByte
+byte-dependency d k n e h = rw (← e) h
+
+pub byte-entry : (l : List Entry) (k : ℕ) (b : List ℕ) → b ≡ rowList (getD l (k / ROW-BYTES) nothing .row) (getD l (k / ROW-BYTES) nothing .source .0) → getD b (k % ROW-BYTES) 0 ≡ entryByte l k
+unfolding entryByte entryAt
+byte-entry l k b e = ap (λ (x : List ℕ). getD x (k % ROW-BYTES) 0) e
+
+-- ---- a loop that copies
+
+pub paste-more : (d : List ℕ) (at : ℕ) (s u : List ℕ) (k : ℕ) → at + k < length d → k < length s → u ≡ paste d at s k → set u (at + k) (getD s k 0) ≡ paste d at s (k + 1)
+paste-more d at s u k hd hs e = rw (e, add-one k) (paste-suc d at s k 0 hd hs)
+
+-- ---- four copies, one after the other, make the table
+
+take-none : (l : List ℕ) → take 0 l ≡ []
+take-none [] = refl
+take-none (x ∷ l) = refl
+
+-- the front of a longer list that a loop made
+front : (f : ℕ → ℕ) (m n : ℕ) → n ≤ m → take n (tabulate f m) ≡ tabulate f n
+front f m n h =
+    ext-getD 0 (take n (tabulate f m)) (tabulate f n) (long ∙ sym (length-tabulate f n))
+    (λ i q. let s : i < n = subst (λ (x : ℕ). i < x) long q in getD-take n (tabulate f m) i 0 s ∙ getD-tabulate f m i 0 (omega arith) ∙ sym (getD-tabulate f n i 0 s))
+  where
+    long : length (take n (tabulate f m)) ≡ n
+    long = length-take n (tabulate f m) ∙ rw (length-tabulate f m) (omega arith)
+
+-- lists of their lengths, copied into t₀ one after the other
+copied : (t₀ h P R D : List ℕ) (a b c : ℕ) → length t₀ ≡ 2570 → length h ≡ HEADER → HEADER + a + b + c ≤ 2570 → a ≤ length P → b ≤ length R → c ≤ length D
+    → take (HEADER + a + b + c) (paste (paste (paste (paste t₀ 0 h HEADER) HEADER P a) (HEADER + a) R b) (HEADER + a + b) D c) ≡ h ++ take a P ++ take b R ++ take c D
+copied t₀ h P R D a b c n₀ nh m la lb lc =
+    take-paste t₃ (HEADER + a + b) D c (let q = n₃ in omega arith) lc
+    ∙ ap (λ (x : List ℕ). x ++ take c D) (take-paste t₂ (HEADER + a) R b (let q = n₂ in omega arith) lb ∙ ap (λ (x : List ℕ). x ++ take b R) (take-paste t₁ HEADER P a (let q = n₁ in omega arith) la ∙ ap (λ (x : List ℕ). x ++ take a P) first))
+  where
+    t₁ : List ℕ
+    t₁ = paste t₀ 0 h HEADER
+
+    t₂ : List ℕ
+    t₂ = paste t₁ HEADER P a
+
+    t₃ : List ℕ
+    t₃ = paste t₂ (HEADER + a) R b
+
+    n₁ : length t₁ ≡ 2570
+    n₁ = length-paste t₀ 0 h HEADER (omega arith) (omega arith) ∙ n₀
+
+    n₂ : length t₂ ≡ 2570
+    n₂ = length-paste t₁ HEADER P a (let q = n₁ in omega arith) la ∙ n₁
+
+    n₃ : length t₃ ≡ 2570
+    n₃ = length-paste t₂ (HEADER + a) R b (let q = n₂ in omega arith) lb ∙ n₂
+
+    first : take HEADER t₁ ≡ h
+    first = take-paste t₀ 0 h HEADER (omega arith) (omega arith) ∙ ap (λ (x : List ℕ). x ++ take HEADER h) (take-none t₀) ∙ take-all HEADER h (omega arith)
+
+module _ (version agents : ℕ) (p : List (List ℕ)) (rows : ℕ) (l : List Entry) (d : Dependencies) (a : agents ≤ AGENTS) (r : rows ≤ ROWS) (n : d .count ≤ DEPENDENCIES)
+    (size places after : ℕ) (es : size ≡ tableSize version agents rows (d .count)) (ep : places ≡ placesSize version agents) (ea : after ≡ dependenciesSize version (d .count)) where
+  pub table-made : (t₀ h P R D t₁ t₂ t₃ t₄ : List ℕ) (hosts : Bool) → h ≡ headerList version agents rows size → t₁ ≡ paste t₀ 0 h HEADER
+      → hosts ≡ withHosts version → P ≡ tabulate (placeByte hosts p) 256 → t₂ ≡ paste t₁ HEADER P places
+      → R ≡ tabulate (entryByte l) 2048 → t₃ ≡ paste t₂ (HEADER + places) R (ROW-BYTES * rows)
+      → D ≡ tabulate (dependencyByte d) 258 → t₄ ≡ paste t₃ (HEADER + places + ROW-BYTES * rows) D after → length t₀ ≡ 2570
+      → take (tableSize version agents rows (d .count)) t₄ ≡ encode version agents p rows l d
+  unfolding tableSize encode placesPart rowsPart dependenciesPart
+  table-made t₀ h P R D t₁ t₂ t₃ t₄ hosts eh e₁ eb eP e₂ eR e₃ eD e₄ long =
+      let few : places ≤ 256 = rw ep (places-most version agents a) in
+      let less : after ≤ 258 = rw ea (after-most version (d .count) n) in
+      let hl : length h ≡ HEADER = ap length eh ∙ header-length version agents rows size in
+      let Pl : length P ≡ 256 = ap length eP ∙ length-tabulate (placeByte hosts p) 256 in
+      let Rl : length R ≡ 2048 = ap length eR ∙ length-tabulate (entryByte l) 2048 in
+      let Dl : length D ≡ 258 = ap length eD ∙ length-tabulate (dependencyByte d) 258 in
+      let made = copied t₀ h P R D places (ROW-BYTES * rows) after long hl (omega arith) (omega arith) (omega arith) (omega arith) in
+      rw (← ea, ← ep, e₄, e₃, e₂, e₁) (made ∙ rw (eP, eR, eD, eb, front (placeByte (withHosts version) p) 256 places few, front (entryByte l) 2048 (ROW-BYTES * rows) (omega arith), front (dependencyByte d) 258 after less, eh, es, ep, ea) refl)
+
+-- ---- the answer and the buffer
+
+pub refused-both : (w : WriteAnswer) (k i : ℕ) (t o : List ℕ) → w ≡ Answer.Refused k i → (Answer.Refused k i ≡ w) × (o ≡ bufferAfter w t o)
+unfolding bufferAfter
+refused-both w k i t o e = (sym e, rw e refl)
+
+pub written-both : (w : WriteAnswer) (n : ℕ) (t o u f : List ℕ) → w ≡ Answer.Written n → u ≡ paste o 0 f n → take n f ≡ t → (Answer.Written n ≡ w) × (u ≡ bufferAfter w t o)
+unfolding bufferAfter
+written-both w n t o u f e g h =
+    let z : 0 + n ≡ n = omega arith in
+    let k : u ≡ t ++ drop n o = g ∙ ap (λ (x : List ℕ). x ++ take n f ++ drop (0 + n) o) (take-none o) ∙ rw (z, h) refl in
+    (sym e, rw e k)
+
+module _ (version agents : ℕ) (p : List (List ℕ)) (rows : ℕ) (l : List Entry) (d : Dependencies) (room k : ℕ) (e : k ≡ valuesFault version agents p rows (d .count)) where
+  pub values-refused : (k ≡ 0 → ⊥) → writeAnswer version agents p rows l d room ≡ Answer.Refused k 0
+  unfolding writeAnswer
+  values-refused n = rw (← e, ne-eqb k 0 n) refl
+
+  -- values that pass, and what was made of them
+  module _ (z : k ≡ 0) (t : List ℕ) (size : ℕ) (n : size ≡ tableSize version agents rows (d .count)) (made : take (tableSize version agents rows (d .count)) t ≡ encode version agents p rows l d) where
+    fits : Fits version agents p rows (d .count)
+    fits = values-fit version agents p rows (d .count) (sym e ∙ z)
+
+    pub few-bytes : size ≤ 2570
+    few-bytes = rw n (size-most version agents rows (d .count) (agents-few fits) (rows-few fits) (after-few fits))
+
+    pub front-is : take size t ≡ encode version agents p rows l d
+    front-is = rw n made
+
+    pub front-size : size ≡ length (take size t)
+    front-size = n ∙ sym (ap length front-is ∙ encode-length version agents p rows l d)
+
+    module _ (a : Admission) (q : a ≡ admission true (take size t)) where
+      pub answer-is : writeAnswer version agents p rows l d room ≡ writtenAs a (roomAnswer size room)
+      unfolding writeAnswer
+      answer-is = rw (← e, eq-eqb k 0 z, ← n, q, front-is) refl
+
+module _ (w : WriteAnswer) (a : Admission) (size room : ℕ) (e : w ≡ writtenAs a (roomAnswer size room)) where
+  -- a table that is refused
+  pub refused-out : (r : WriteAnswer) (k i : ℕ) (t o : List ℕ) → r ≡ writtenAs a (Answer.Written 0) → a ≡ Refused k i → (r ≡ w) × (o ≡ bufferAfter w t o)
+  unfolding writtenAs
+  refused-out r k i t o f q =
+      let v : w ≡ Answer.Refused k i = e ∙ ap (λ (x : Admission). writtenAs x (roomAnswer size room)) q in
+      let u : r ≡ Answer.Refused k i = f ∙ ap (λ (x : Admission). writtenAs x (Answer.Written 0)) q in
+      (u ∙ sym v, refused-both w k i t o v .1)
+
+  -- one that is admitted
+  module _ (x n : ℕ) (q : a ≡ Admitted x n) where
+    open-is : w ≡ roomAnswer size room
+    unfolding writtenAs
+    open-is = e ∙ ap (λ (y : Admission). writtenAs y (roomAnswer size room)) q
+
+    pub short-is : room < size → w ≡ Answer.Refused 13 0
+    unfolding roomAnswer
+    short-is h = open-is ∙ rw (lt-leb size room h) refl
+
+    pub long-is : size ≤ room → w ≡ Answer.Written size
+    unfolding roomAnswer
+    long-is h = open-is ∙ rw (le-leb size room h) refl
+
+-- ---- values out of lent parts
+
+module _ (version : ℕ) (P B Q : List ℕ) {a : ℕ} {p : List (List ℕ)} {n : ℕ} {l : List Entry} {d : Dependencies} (ea : a ≡ agentsIn P) (ep : p ≡ placesIn P) (en : n ≡ rowsIn B) (el : l ≡ entriesIn B)
+    (ed : d ≡ dependenciesIn Q) where
+  answer-same : (room : ℕ) → writeAnswer version a p n l d room ≡ partsAnswer version P B Q room
+  unfolding partsAnswer
+  answer-same room = rw (← ea, ← ep, ← en, ← el, ← ed) refl
+
+  table-same : encode version a p n l d ≡ partsTable version P B Q
+  unfolding partsTable
+  table-same = rw (← ea, ← ep, ← en, ← el, ← ed) refl
+
+  pub parts-out : (out u : List ℕ) (r : WriteAnswer) (room : ℕ) → (r ≡ writeAnswer version a p n l d room) × (u ≡ bufferAfter (writeAnswer version a p n l d room) (encode version a p n l d) out)
+      → (r ≡ partsAnswer version P B Q room) × (u ≡ bufferAfter (partsAnswer version P B Q room) (partsTable version P B Q) out)
+  parts-out out u r room h = (h .0 ∙ answer-same room, h .1 ∙ ap₂ (λ (x : WriteAnswer) (y : List ℕ). bufferAfter x y out) (answer-same room) table-same)

@@ -1,0 +1,15 @@
+use Rattle.finite.specs.Logic.{_and_}
+use Rattle.writer.specs.Answer.{countsFit}
+use mathlib.Core.Path.{refl}
+use Rattle.writer.proofs.counts_fit.Statement.{statement}
+use Rattle.writer.proofs.counts_fit.Tie as tie
+use Rattle.writer.proofs.counts_fit.Reads as reads
+use Rattle.writer.proofs.counts_fit.Lts as lts
+
+-- src/lib.rt:47:1
+returns : tie.Need-returns
+unfolding countsFit _and_
+returns c = refl
+
+pub counts-fit-spec : {M : Type 1} → statement M
+counts-fit-spec = tie.close (tie.spec returns)

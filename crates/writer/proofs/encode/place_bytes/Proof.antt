@@ -1,0 +1,73 @@
+use Rattle.writer.proofs.Laws.{byte-place}
+use Rattle.writer.specs.Encode.{placeByte}
+use Rattle.rows.proofs.Laws.{tab-none, tab-more, tab-all}
+use Rattle.finite.specs.Lists.{tabulate}
+use lib.ListN.{length, take, length-set, length-replicate}
+use mathlib.Core.Path.{_≡_}
+use native.Mathlib.Omega.{arith}
+use mathlib.Core.List.{[]}
+use Prim.Native.Nat.{ℕ, _≤_, _-_}
+use borrow.Author.Needs.{needs}
+use Rattle.writer.proofs.encode.place_bytes.Statement.{statement}
+use Rattle.writer.proofs.encode.place_bytes.Tie as tie
+use Rattle.writer.proofs.encode.place_bytes.Reads as reads
+use Rattle.writer.proofs.encode.place_bytes.Lts as lts
+use Rattle.writer.proofs.encode.half.Reads as half-reads
+use Rattle.writer.proofs.encode.place_number.Reads as place-number-reads
+
+abbrev Inv-loop : tie.InvT-loop
+Inv-loop hosts p b₀ k₀ b k = (k ≤ 256) × (length b ≡ 256) × (take k b ≡ tabulate (placeByte hosts p) k)
+
+abbrev μ-loop : tie.MeasureT-loop
+μ-loop hosts p b₀ k₀ b k = 256 - k
+
+-- src/encode.rt:109:5
+loop-holds : tie.Need-loop-holds Inv-loop μ-loop
+loop-holds c = (search needs, length-replicate {A = ℕ} 256 0, tab-none _ [])
+
+-- src/encode.rt:110:22
+place-number-requires : tie.Need-place-number-requires Inv-loop μ-loop
+place-number-requires c κs = search needs
+
+-- src/encode.rt:110:13
+half-requires : tie.Need-half-requires Inv-loop μ-loop
+half-requires c κs = search needs
+
+-- src/encode.rt:111:9
+array-write-b : tie.Need-array-write-b Inv-loop μ-loop
+array-write-b c = search needs
+
+-- src/encode.rt:109:9
+add-k : tie.Need-add-k Inv-loop μ-loop
+add-k c = search needs
+
+-- src/encode.rt:109:5
+loop-less : tie.Need-loop-less Inv-loop μ-loop
+loop-less c = search needs
+
+-- src/encode.rt:109:5
+loop-again : tie.Need-loop-again Inv-loop μ-loop
+loop-again c =
+    let at-loop = c .before .before .before in
+    (omega arith, simp length-set (at-loop .loop .inv .1), tab-more _ _ _ _ (omega arith) (at-loop .loop .inv .2) (byte-place _ _ _ _ (c .before .place-number .ensures) (c .half .ensures)))
+
+-- src/encode.rt:105:1
+returns : tie.Need-returns Inv-loop μ-loop
+returns c =
+    let done : c .before .loop .k ≡ 256 = omega arith in
+    tab-all _ (c .before .loop .b) 256 (c .before .loop .inv .1) (rw done at (c .before .loop .inv .2))
+
+pub place-bytes-spec : {M : Type 1} → statement M
+place-bytes-spec =
+    tie.close
+    (tie.spec
+    Inv-loop
+    μ-loop
+    loop-holds
+    place-number-requires
+    half-requires
+    array-write-b
+    add-k
+    loop-less
+    loop-again
+    returns)

@@ -1,0 +1,15 @@
+use Rattle.finite.specs.Logic.{_and_}
+use Rattle.writer.specs.Answer.{versionKnown}
+use mathlib.Core.Path.{refl}
+use Rattle.writer.proofs.version_known.Statement.{statement}
+use Rattle.writer.proofs.version_known.Tie as tie
+use Rattle.writer.proofs.version_known.Reads as reads
+use Rattle.writer.proofs.version_known.Lts as lts
+
+-- src/lib.rt:40:1
+returns : tie.Need-returns
+unfolding versionKnown _and_
+returns c = refl
+
+pub version-known-spec : {M : Type 1} → statement M
+version-known-spec = tie.close (tie.spec returns)

@@ -1,0 +1,236 @@
+-- The writer, in its reader's words: what is written is admitted by a fill and reads back as what was given; writing what was read
+-- gives the same bytes; a refusal writes nothing; and each answer is given exactly for its case.
+-- `writeAnswer`, `encode` and `bufferAfter` are the definitions that the contract of `write` names, `entriesOf` and `dependenciesOf`
+-- those of the readers; `versionAt`, `placeAt`, `rowOf` and the others are those that every answer about a table goes by.
+use mathlib.Core.Path.{_≡_, refl, sym, ap, _∙_, subst}
+use mathlib.Core.Bool.{true, false, cond}
+use mathlib.Core.Logic.{_⊎_, inl, inr, ⊎-elim, _↔_}
+use mathlib.Core.List.{List, []}
+use Prim.Native.Nat.{ℕ, _*_, _/_, _≤_, _<_}
+use native.Mathlib.Omega.{arith}
+use native.Mathlib.Decide.{decLt}
+use lib.ListN.{length, getD, take, drop}
+use lib.Seq.{take-at, drop-at}
+use lib.Dec.{eqb, ltb}
+use borrow.Author.Tests.{eq-eqb, lt-ltb, le-ltb}
+use Rattle.finite.specs.Logic.{_and_, _or_, which, not-both}
+use Rattle.model.specs.declared.Admission.the-variants.{Admitted, Refused}
+use Rattle.model.specs.Limits.{ROWS}
+use Rattle.model.specs.Table.{ROW-BYTES, versionAt, agentsAt, rowsAt, placeAt, placesOf, rowBytes, rowOf, sourcesOf, dependencyBytes, dependencyCount, dependencyFrom, dependencyTo}
+use Rattle.model.specs.Refusal.{dependenciesNamed, headerFault, admission}
+use Rattle.model.specs.FilledLaws.{Bytes}
+use Rattle.model.specs.AdmissionLaws.{sound-admitted, admitted-sound}
+use Rattle.writer.specs.declared.Entry.{Entry}
+use Rattle.writer.specs.declared.Dependencies.{Dependencies}
+use Rattle.writer.specs.declared.WriteAnswer.the-variants as Answer
+use Rattle.writer.specs.Encode.{entryAt, tableSize, rowsPart, encode, entriesIn, entriesOf, dependenciesOf}
+use Rattle.writer.specs.Parts.{capped, rowsIn}
+use Rattle.writer.specs.Answer.{versionKnown, countsFit, numbersFit, dependenciesFit, valuesFault, writeAnswer, bufferAfter}
+use Rattle.writer.specs.ValueLaws.{Fits, values-fit, fit-values, encode-length}
+use Rattle.writer.specs.EncodeLaws.{Typed, encode-version, encode-agents, encode-rows, encode-row, encode-source, encode-count, encode-from, encode-to, encode-place, encode-fault}
+use Rattle.writer.specs.ReadLaws.{rows-same, length-same, read-fits, written-again}
+use Rattle.writer.specs.AnswerLaws.{ofTable, Admits, admission-number, room-short, room-long, values-in, table-in, admitted-in, written-out, refused-out, fault-apart, fault-version, fault-limits, fault-numbers, fault-dependencies}
+use Rattle.writer.specs.PastLaws.{Alike, encode-alike, answer-alike}
+
+-- ---- what was written
+
+module _ (version agents : ℕ) (p : List (List ℕ)) (rows : ℕ) (l : List Entry) (d : Dependencies) (typed : Typed agents p rows l d)
+    (room m : ℕ) (w : writeAnswer version agents p rows l d room ≡ Answer.Written m) where
+  abbrev t : List ℕ
+  t = encode version agents p rows l d
+
+  fits : Fits version agents p rows (d .count)
+  fits = values-fit version agents p rows (d .count) (written-out version agents p rows l d room m w .0)
+
+  -- a fill admits it, with these counts
+  pub written-admitted : admission true t ≡ Admitted agents rows
+  written-admitted =
+      let a = written-out version agents p rows l d room m w .1 in
+      sound-admitted true t (admitted-sound true t (a .2)) ∙ same
+    where
+      same : Admitted (agentsAt t) (rowsAt t) ≡ Admitted agents rows
+      same = rw (encode-agents version agents p rows l d, encode-rows version agents p rows l d) refl
+
+  -- the same version, places, rows, sources and dependencies
+  pub written-version : versionAt t ≡ version
+  written-version = encode-version version agents p rows l d
+
+  pub written-place : (a : ℕ) → a < agents → placeAt t a ≡ getD p a []
+  written-place = encode-place version agents p rows l d fits typed
+
+  pub written-row : (i : ℕ) → i < rows → rowOf (rowBytes t) i ≡ entryAt l i .row
+  written-row = encode-row version agents p rows l d fits typed
+
+  pub written-source : (i : ℕ) → i < rows → sourcesOf t i ≡ entryAt l i .source .0
+  written-source = encode-source version agents p rows l d fits typed
+
+  pub written-count : dependencyCount (dependencyBytes t) ≡ d .count
+  written-count = encode-count version agents p rows l d fits typed
+
+  pub written-dependency : (k : ℕ) → k < d .count
+      → (dependencyFrom (dependencyBytes t) k ≡ getD (d .first) k 0) × (dependencyTo (dependencyBytes t) k ≡ getD (d .second) k 0)
+  written-dependency k h = (encode-from version agents p rows l d fits typed k h, encode-to version agents p rows l d fits typed k h)
+
+  -- it has as many bytes as the answer says, and the buffer begins with them; bytes after them stay
+  pub written-size : (length t ≡ m) × (m ≤ room)
+  written-size =
+      let o = written-out version agents p rows l d room m w in
+      let n = encode-length version agents p rows l d in
+      let e : m ≡ tableSize version agents rows (d .count) = o .2 in
+      (n ∙ sym e, let h = o .3 in omega arith)
+
+  pub written-buffer : (out : List ℕ)
+      → (take m (bufferAfter (writeAnswer version agents p rows l d room) t out) ≡ t) × (drop m (bufferAfter (writeAnswer version agents p rows l d room) t out) ≡ drop m out)
+  unfolding bufferAfter
+  written-buffer out = rw w (take-at t (drop m out) m (written-size .0), drop-at t (drop m out) m (written-size .0))
+
+-- ---- what was refused
+
+-- a refusal writes nothing
+pub refused-buffer : (version agents : ℕ) (p : List (List ℕ)) (rows : ℕ) (l : List Entry) (d : Dependencies) (room k i : ℕ)
+    → writeAnswer version agents p rows l d room ≡ Answer.Refused k i → (out : List ℕ) → bufferAfter (writeAnswer version agents p rows l d room) (encode version agents p rows l d) out ≡ out
+unfolding bufferAfter
+refused-buffer version agents p rows l d room k i w out = rw w refl
+
+-- ---- writing what was read
+
+-- from any table that a fill admits, into a buffer that is long enough: the same bytes
+module _ (s : List ℕ) (bytes : Bytes s) (admits : Admits s) where
+  pub read-written : (room : ℕ) → length s ≤ room → writeAnswer (versionAt s) (agentsAt s) (placesOf s) (rowsAt s) (entriesOf s) (dependenciesOf s) room ≡ Answer.Written (length s)
+  unfolding dependenciesOf
+  read-written room h =
+      let sound = admitted-sound true s (admits .2) in
+      let n = length-same sound in
+      admitted-in (versionAt s) (agentsAt s) (placesOf s) (rowsAt s) (entriesOf s) (dependenciesOf s) room (fit-values (read-fits sound)) (subst Admits (sym (written-again sound bytes)) admits)
+      ∙ room-long _ room (omega arith) ∙ ap Answer.Written (sym n)
+
+  pub read-same : encode (versionAt s) (agentsAt s) (placesOf s) (rowsAt s) (entriesOf s) (dependenciesOf s) ≡ s
+  read-same = written-again (admitted-sound true s (admits .2)) bytes
+
+-- ---- each answer exactly for its case
+
+eighteen : ofTable (cond {A = ℕ} false 0 18) ≡ true
+unfolding ofTable _and_ _or_
+eighteen = refl
+
+thirteen : ofTable 13 ≡ false
+unfolding ofTable _and_ _or_
+thirteen = refl
+
+both : {A B C : Type 0} → A ↔ B → B ↔ C → A ↔ C
+both f g = (λ a. g .0 (f .0 a), λ c. f .1 (g .1 c))
+
+module _ (version agents : ℕ) (p : List (List ℕ)) (rows : ℕ) (l : List Entry) (d : Dependencies) (typed : Typed agents p rows l d) (room : ℕ) where
+  abbrev fault : ℕ
+  fault = valuesFault version agents p rows (d .count)
+
+  abbrev u : List ℕ
+  u = encode version agents p rows l d
+
+  -- what a table of such values is refused for is about its rows or dependencies
+  table-number : fault ≡ 0 → (k i : ℕ) → admission true u ≡ Refused k i → ofTable k ≡ true
+  table-number z k i q = admission-number true u k i (named (which (dependenciesNamed u))) q
+    where
+      h : headerFault u ≡ cond (dependenciesNamed u) 0 18
+      h = encode-fault version agents p rows l d (values-fit version agents p rows (d .count) z) typed
+
+      named : (dependenciesNamed u ≡ true) ⊎ (dependenciesNamed u ≡ false) → (ofTable (headerFault u) ≡ true) ⊎ (headerFault u ≡ 0)
+      named (inl e) = inr (h ∙ rw e refl)
+      named (inr e) = inl (rw (h, e) eighteen)
+
+  -- of another number than the table's and 13: the values' own
+  values-exactly : (k : ℕ) → ofTable k ≡ false → eqb k 13 ≡ false → eqb k 0 ≡ false → writeAnswer version agents p rows l d room ≡ Answer.Refused k 0 ↔ fault ≡ k
+  values-exactly k n o z = (there, back)
+    where
+      there : writeAnswer version agents p rows l d room ≡ Answer.Refused k 0 → fault ≡ k
+      there w =
+          ⊎-elim (λ c. c .1) (⊎-elim (λ c. not-both (table-number (c .0) k 0 (c .1)) n) (λ c. not-both (eq-eqb k 13 (c .3)) o))
+          (refused-out version agents p rows l d room k 0 w)
+
+      back : fault ≡ k → writeAnswer version agents p rows l d room ≡ Answer.Refused k 0
+      back e = values-in version agents p rows l d room (λ q. not-both (eq-eqb k 0 (sym e ∙ q)) z) ∙ ap (λ (x : ℕ). Answer.Refused x 0) e
+
+  -- 2: the version; 3: the counts of agents and rows; 16: an agent's fourth number; 17: the count of dependencies
+  pub version-exactly : writeAnswer version agents p rows l d room ≡ Answer.Refused 2 0 ↔ versionKnown version ≡ false
+  unfolding ofTable _and_ _or_
+  version-exactly = both (values-exactly 2 refl refl refl) (fault-version version agents p rows l d room)
+
+  pub limits-exactly : writeAnswer version agents p rows l d room ≡ Answer.Refused 3 0 ↔ (versionKnown version ≡ true) × (countsFit agents rows ≡ false)
+  unfolding ofTable _and_ _or_
+  limits-exactly = both (values-exactly 3 refl refl refl) (fault-limits version agents p rows l d room)
+
+  pub numbers-exactly : writeAnswer version agents p rows l d room ≡ Answer.Refused 16 0
+      ↔ (versionKnown version ≡ true) × (countsFit agents rows ≡ true) × (numbersFit version agents p ≡ false)
+  unfolding ofTable _and_ _or_
+  numbers-exactly = both (values-exactly 16 refl refl refl) (fault-numbers version agents p rows l d room)
+
+  pub dependencies-exactly : writeAnswer version agents p rows l d room ≡ Answer.Refused 17 0
+      ↔ (versionKnown version ≡ true) × (countsFit agents rows ≡ true) × (numbersFit version agents p ≡ true) × (dependenciesFit version (d .count) ≡ false)
+  unfolding ofTable _and_ _or_
+  dependencies-exactly = both (values-exactly 17 refl refl refl) (fault-dependencies version agents p rows l d room)
+
+  -- 5 to 10, 14, 15, 18 to 20: what a fill refuses the table for
+  pub table-exactly : (k i : ℕ) → ofTable k ≡ true → writeAnswer version agents p rows l d room ≡ Answer.Refused k i ↔ (fault ≡ 0) × (admission true u ≡ Refused k i)
+  table-exactly k i n = (there, λ c. table-in version agents p rows l d room k i (c .0) (c .1))
+    where
+      there : writeAnswer version agents p rows l d room ≡ Answer.Refused k i → (fault ≡ 0) × (admission true u ≡ Refused k i)
+      there w =
+          ⊎-elim (λ c. not-both (subst (λ (x : ℕ). ofTable x ≡ true) (sym (c .1)) n) (fault-apart version agents p rows l d room .0))
+          (⊎-elim (λ c. c) (λ c. not-both (subst (λ (x : ℕ). ofTable x ≡ true) (c .3) n) thirteen)) (refused-out version agents p rows l d room k i w)
+
+  -- 13: all is well but for the buffer, which is shorter than the table
+  pub short-exactly : writeAnswer version agents p rows l d room ≡ Answer.Refused 13 0 ↔ (fault ≡ 0) × Admits u × (room < length u)
+  short-exactly = (there, back)
+    where
+      n : length u ≡ tableSize version agents rows (d .count)
+      n = encode-length version agents p rows l d
+
+      there : writeAnswer version agents p rows l d room ≡ Answer.Refused 13 0 → (fault ≡ 0) × Admits u × (room < length u)
+      there w =
+          ⊎-elim (λ c. not-both (eq-eqb fault 13 (c .1)) (fault-apart version agents p rows l d room .1))
+          (⊎-elim (λ c. not-both (table-number (c .0) 13 0 (c .1)) thirteen) (λ c. (c .0, c .1, let e = n in let h = c .2 in omega arith))) (refused-out version agents p rows l d room 13 0 w)
+
+      back : (fault ≡ 0) × Admits u × (room < length u) → writeAnswer version agents p rows l d room ≡ Answer.Refused 13 0
+      back c =
+          admitted-in version agents p rows l d room (c .0) (c .1)
+          ∙ room-short (tableSize version agents rows (d .count)) room (let e = n in let h = c .2 in omega arith)
+
+  -- written: all is well
+  pub written-exactly : (m : ℕ) → writeAnswer version agents p rows l d room ≡ Answer.Written m ↔ (fault ≡ 0) × Admits u × (m ≡ length u) × (length u ≤ room)
+  written-exactly m = (there, back)
+    where
+      n : length u ≡ tableSize version agents rows (d .count)
+      n = encode-length version agents p rows l d
+
+      there : writeAnswer version agents p rows l d room ≡ Answer.Written m → (fault ≡ 0) × Admits u × (m ≡ length u) × (length u ≤ room)
+      there w = let o = written-out version agents p rows l d room m w in (o .0, o .1, o .2 ∙ sym n, let e = n in let h = o .3 in omega arith)
+
+      back : (fault ≡ 0) × Admits u × (m ≡ length u) × (length u ≤ room) → writeAnswer version agents p rows l d room ≡ Answer.Written m
+      back c =
+          admitted-in version agents p rows l d room (c .0) (c .1)
+          ∙ room-long (tableSize version agents rows (d .count)) room (let e = n in let h = c .3 in omega arith) ∙ ap Answer.Written (sym (c .2 ∙ n))
+
+-- ---- values past their counts
+
+-- make no difference, whatever they are
+module _ (version agents : ℕ) (p q : List (List ℕ)) (rows : ℕ) (l k : List Entry) (d e : Dependencies) (alike : Alike agents p q rows l k d e) where
+  pub past-bytes : encode version agents p rows l d ≡ encode version agents q rows k e
+  past-bytes = encode-alike version agents p q rows l k d e alike
+
+  pub past-answer : (room : ℕ) → writeAnswer version agents p rows l d room ≡ writeAnswer version agents q rows k e room
+  past-answer = answer-alike version agents p q rows l k d e alike
+
+-- ---- rows out of lent parts
+
+rows-whole : (b : List ℕ) → rowsIn b ≤ ROWS → ROW-BYTES * rowsIn b ≤ length b
+unfolding rowsIn capped
+rows-whole b few = go (decLt (length b / ROW-BYTES) 255) few
+  where
+    go : Dec (length b / ROW-BYTES < 255) → cond (ltb (length b / ROW-BYTES) 255) (length b / ROW-BYTES) 255 ≤ ROWS
+        → ROW-BYTES * cond (ltb (length b / ROW-BYTES) 255) (length b / ROW-BYTES) 255 ≤ length b
+    go (yes h) f = rw (lt-ltb (length b / ROW-BYTES) 255 h) (omega arith)
+    go (no h) f = absurd (let e = rw (le-ltb (length b / ROW-BYTES) 255 (omega arith)) at f in omega arith)
+
+-- rows that are handed over as their sixteen bytes are written as these
+pub parts-rows : (b : List ℕ) → Bytes b → rowsIn b ≤ ROWS → rowsPart (rowsIn b) (entriesIn b) ≡ take (ROW-BYTES * rowsIn b) b
+parts-rows b bytes few = rows-same b bytes (rowsIn b) few (rows-whole b few)

@@ -1,0 +1,105 @@
+//! A table written from values, and a table's rows: what `write` and `rows`
+//! answer.
+
+use crate::answers::{put_refusal, put_verdict, Answer};
+use crate::json::Object;
+use crate::question::Writing;
+use crate::Status;
+use std::fmt::{self, Display};
+use stramashly::{write_in, Code, Refusal, Row, Rows};
+
+/// The table, or why there is none.
+pub struct Written(Result<Vec<u8>, Refusal>);
+
+/// The rows, or why the table isn't opened.
+pub struct Stepped(Result<Vec<Row>, Refusal>);
+
+pub fn write(writing: &Writing) -> Written {
+    let mut out = vec![0; usize::from(writing.room)];
+    let packed = write_in(
+        writing.version,
+        &writing.places,
+        &writing.rows,
+        &writing.dependencies,
+        &mut out,
+    );
+    if packed.code() == Some(Code::Written) {
+        out.truncate(usize::from(packed.a()));
+        return Written(Ok(out));
+    }
+    Written(Err(Refusal {
+        number: packed.a(),
+        row: packed.b(),
+    }))
+}
+
+pub fn rows(table: &[u8]) -> Stepped {
+    Stepped(Rows::open(table).map(Iterator::collect))
+}
+
+impl Display for Written {
+    fn fmt(&self, formatter: &mut fmt::Formatter) -> fmt::Result {
+        match &self.0 {
+            Ok(table) => write!(formatter, "written {}", hex(table)),
+            Err(refusal) => write!(formatter, "{refusal}"),
+        }
+    }
+}
+
+impl Answer for Written {
+    fn status(&self) -> Status {
+        status(&self.0)
+    }
+
+    fn put(&self, object: &mut Object) {
+        match &self.0 {
+            Ok(table) => {
+                put_verdict(object, "written");
+                object.text("table", &hex(table));
+            }
+            Err(refusal) => put_refusal(object, refusal.number, refusal.row),
+        }
+    }
+}
+
+impl Display for Stepped {
+    fn fmt(&self, formatter: &mut fmt::Formatter) -> fmt::Result {
+        match &self.0 {
+            Ok(rows) => {
+                for row in rows {
+                    write!(formatter, "{} ", hex(&row.bytes()))?;
+                }
+                write!(formatter, "end")
+            }
+            Err(refusal) => write!(formatter, "{refusal}"),
+        }
+    }
+}
+
+impl Answer for Stepped {
+    fn status(&self) -> Status {
+        status(&self.0)
+    }
+
+    fn put(&self, object: &mut Object) {
+        match &self.0 {
+            Ok(rows) => {
+                put_verdict(object, "rows");
+                let rows: Vec<String> = rows.iter().map(|row| hex(&row.bytes())).collect();
+                object.texts("rows", &rows);
+            }
+            Err(refusal) => put_refusal(object, refusal.number, refusal.row),
+        }
+    }
+}
+
+fn status<T>(answer: &Result<T, Refusal>) -> Status {
+    match answer {
+        Ok(_) => Status::Fine,
+        Err(_) => Status::Refused,
+    }
+}
+
+fn hex(bytes: &[u8]) -> String {
+    bytes.iter().map(|byte| format!("{byte:02X}")).collect()
+}

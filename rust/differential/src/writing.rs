@@ -1,0 +1,89 @@
+//! Tables written from values, and stepped through, by both.
+
+use crate::{first_difference, Comparison, Difference};
+use second::{row_bytes, RowsAnswer, Values, WriteAnswer};
+use stramashly::{row_in, write_in, Code, Packed, Rows, ROW_BYTES};
+use tables::hex;
+
+impl Comparison {
+    /// A table of these values, for a buffer of so many bytes, which has random
+    /// bytes in it; parts that are no whole ones follow the values.
+    pub fn write(&mut self, values: &Values, room: usize) -> Result<WriteAnswer, Difference> {
+        let answer = self.state.write(values, room);
+        let mut ours: Vec<u8> = (0..room).map(|_| self.random.word() as u8).collect();
+        let mut theirs = ours.clone();
+        let expected = match &answer {
+            WriteAnswer::Refused { number, row } => {
+                Packed::new(Code::Refused, u16::from(*number), *row, 0)
+            }
+            WriteAnswer::Written(table) => {
+                theirs[..table.len()].copy_from_slice(table);
+                Packed::new(Code::Written, table.len() as u16, 0, 0)
+            }
+        };
+        let mut places = values.places.concat();
+        places.extend((0..self.random.below(4)).map(|_| self.random.word() as u16));
+        let mut rows: Vec<u8> = values.rows.iter().flat_map(|row| row_bytes(*row)).collect();
+        rows.extend((0..self.random.below(ROW_BYTES)).map(|_| self.random.word() as u8));
+        let mut dependencies = values.dependencies.concat();
+        dependencies.extend((0..self.random.below(2)).map(|_| self.random.word() as u16));
+        let packed = write_in(values.version, &places, &rows, &dependencies, &mut ours);
+        let part = if packed != expected {
+            format!("{packed:?} instead of {expected:?}")
+        } else if let Some(place) = first_difference(&ours, &theirs) {
+            format!("{packed:?}, but the buffer differs at {place}")
+        } else {
+            return Ok(answer);
+        };
+        Err(Difference(format!("{part}: {room} bytes for {values:?}")))
+    }
+
+    /// The rows of a table one by one, and three steps more.
+    pub fn step_through(&mut self, table: &[u8]) -> Result<RowsAnswer, Difference> {
+        let answer = self.state.step_through(table);
+        let ours = match Rows::open(table) {
+            Ok(mut rows) => {
+                let all = rows.by_ref().map(|row| row.bytes()).collect();
+                let is_over = (0..3).all(|_| rows.next().is_none());
+                is_over.then_some(RowsAnswer::Rows(all))
+            }
+            Err(refusal) => Some(RowsAnswer::Refused {
+                number: refusal.number as u8,
+                row: refusal.row,
+            }),
+        };
+        if ours.as_ref() != Some(&answer) {
+            let words = format!("{ours:?} instead of {answer:?}");
+            return Err(Difference(format!("{words}\nrows {}", hex(table))));
+        }
+        if let RowsAnswer::Rows(rows) = &answer {
+            self.step_anywhere(table, rows)?;
+        }
+        Ok(answer)
+    }
+
+    /// Steps at places in any order, with buffers of any length.
+    fn step_anywhere(&mut self, table: &[u8], rows: &[[u8; ROW_BYTES]]) -> Result<(), Difference> {
+        for _ in 0..3 {
+            let at = self.random.below(rows.len() + 2) as u16;
+            let at = self.random.pick(&[at, at, 65534, 65535]);
+            let room = self.random.pick(&[0, 1, 15, 16, 16, 17, 40]);
+            let mut ours: Vec<u8> = (0..room).map(|_| self.random.word() as u8).collect();
+            let mut theirs = ours.clone();
+            let expected = match rows.get(usize::from(at)) {
+                _ if room < ROW_BYTES => Packed::new(Code::Refused, 11, 0, 0),
+                Some(row) => {
+                    theirs[..ROW_BYTES].copy_from_slice(row);
+                    Packed::new(Code::Row, at + 1, 0, 0)
+                }
+                None => Packed::new(Code::End, at, 0, 0),
+            };
+            let packed = row_in(table, at, &mut ours);
+            if packed != expected || ours != theirs {
+                let words = format!("{packed:?} instead of {expected:?} at {at}, {room} bytes");
+                return Err(Difference(format!("{words}\nrow {}", hex(table))));
+            }
+        }
+        Ok(())
+    }
+}

@@ -1,0 +1,72 @@
+//! The C boundary: a table written, and stepped through.
+
+use crate::answer::Packed;
+
+mod linked {
+    unsafe extern "C" {
+        pub fn stramashly_write(
+            version: u8,
+            places: *const u16,
+            places_len: usize,
+            rows: *const u8,
+            rows_len: usize,
+            dependencies: *const u16,
+            dependencies_len: usize,
+            out: *mut u8,
+            out_len: usize,
+        ) -> u64;
+
+        pub fn stramashly_open(table: *const u8, table_len: usize) -> u64;
+
+        pub fn stramashly_row(
+            table: *const u8,
+            table_len: usize,
+            at: u16,
+            row: *mut u8,
+            row_len: usize,
+        ) -> u64;
+    }
+}
+
+/// Writes a table into a lent buffer of any length: four numbers for each
+/// place, 16 bytes for each row, two numbers for each dependency. A rest that
+/// is no whole part counts for nothing.
+pub fn write_in(
+    version: u8,
+    places: &[u16],
+    rows: &[u8],
+    dependencies: &[u16],
+    out: &mut [u8],
+) -> Packed {
+    // Sound as in `check_in`.
+    let answer = unsafe {
+        linked::stramashly_write(
+            version,
+            places.as_ptr(),
+            places.len(),
+            rows.as_ptr(),
+            rows.len(),
+            dependencies.as_ptr(),
+            dependencies.len(),
+            out.as_mut_ptr(),
+            out.len(),
+        )
+    };
+    Packed(answer)
+}
+
+/// Whether a table can be stepped through.
+pub fn open_in(table: &[u8]) -> Packed {
+    // Sound as in `check_in`; nothing is written.
+    Packed(unsafe { linked::stramashly_open(table.as_ptr(), table.len()) })
+}
+
+/// The row at a place of an opened table into a lent buffer of any length;
+/// one of fewer than 16 bytes is refusal 11.
+pub fn row_in(table: &[u8], at: u16, row: &mut [u8]) -> Packed {
+    // Sound as in `check_in`.
+    let answer = unsafe {
+        linked::stramashly_row(table.as_ptr(), table.len(), at, row.as_mut_ptr(), row.len())
+    };
+    Packed(answer)
+}

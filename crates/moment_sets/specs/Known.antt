@@ -1,6 +1,6 @@
 -- What the work area holds between the stages of this crate: sets of moments, one for each of some rows or one alone. Assumes nothing.
 use mathlib.Core.Path.{_≡_, _∙_}
-use mathlib.Core.Bool.{Bool, true}
+use mathlib.Core.Bool.{Bool, true, cond}
 use mathlib.Core.List.{List}
 use Prim.Native.Nat.{ℕ, _+_, _*_, _≤_, _<_}
 use native.Mathlib.Omega.{arith}
@@ -13,13 +13,15 @@ use Rattle.bits.specs.Matrix.{rel}
 use Rattle.bits.specs.Stage.{Holds, holds-kept}
 use Rattle.model.specs.Limits.{ROWS, WORK}
 use Rattle.model.specs.Table.{Table, rowOf}
+use Rattle.model.specs.declared.Row.{Row}
+use Rattle.model.specs.Row.{access, meets, classIn, single, releases}
 use Rattle.model.specs.Scope.{mutually}
-use Rattle.model.specs.Moment.{AT, rowIn, part, programOrder}
+use Rattle.model.specs.Moment.{AT, rowIn, part, classesOf, programOrder}
 use Rattle.model.specs.Synchronizes.{synchronizes}
 use Rattle.model.specs.Happens.{holding, concerns}
 use Rattle.area.specs.Regions.{MUTUAL, HAPPENS, HAPPENS-END, SYNC-END, GRID, MOMENTS}
 use Rattle.hubs.specs.Rows.{releaseAt}
-use Rattle.moment_sets.specs.Regions.{ORDER, ORDER-END, HOPS, HOPS-END, JOINED, DEPENDS, HOLD, RELEASE, CONCERN}
+use Rattle.moment_sets.specs.Regions.{CLASSES, ORDER, HOPS, HOPS-END, JOINED, DEPENDS, HOLD, RELEASE, CONCERN, CONCERN-END, RELEASING, TOUCHED}
 
 -- ---- definitions
 
@@ -40,12 +42,26 @@ syncsTo t x m = eqb (part m) AT and synchronizes t x (rowIn m)
 unfoldable pub dependsTo : Table → ℕ → ℕ → Bool
 dependsTo t x m = eqb (part m) AT and t .depends x (rowIn m)
 
+-- moment m is a release row's own
+unfoldable pub releasesTo : Table → ℕ → Bool
+releasesTo t m = eqb (part m) AT and releases (t .row (rowIn m))
+
+-- M6: moment k of r is of a class in s: it accesses it, or its availability or visibility operation has it
+unfoldable pub touches : ℕ → Row → ℕ → Bool
+touches s r k = cond (eqb k AT) (access r and classIn r s) (meets (classesOf r) s)
+
+-- moment m is of class q
+unfoldable pub touchesTo : Table → ℕ → ℕ → Bool
+touchesTo t q m = touches (single q) (t .row (rowIn m)) (part m)
+
 -- what every class set is made from; program order has no bit past the table's moments
 pub record Based (t : Table) (n : ℕ) (w : List ℕ) : Type 0 where
   pub mutuals : Holds MUTUAL GRID n (mutually t) w
   pub order : Rows ORDER (3 * n) (64 * MOMENTS) (programOrder t) w
   pub joined : Rows JOINED n (3 * n) (syncsTo t) w
   pub depends : Rows DEPENDS n (3 * n) (dependsTo t) w
+  pub releasing : Set RELEASING (3 * n) (releasesTo t) w
+  pub touched : Rows TOUCHED CLASSES (3 * n) (touchesTo t) w
 
 -- the sets of the class set s
 pub record Ready (t : Table) (n s : ℕ) (w : List ℕ) : Type 0 where
@@ -87,13 +103,15 @@ set-kept {a} {m} {c} {d} off f h = record { fits = h .fits; cell = λ j l. withi
         omega arith
 
 -- in a class set's own words, in its hops or in happens-before
-pub based-kept : {t : Table} {n c d : ℕ} {w u : List ℕ} → n ≤ ROWS → HOLD ≤ c → Within c d w u → Based t n w → Based t n u
-based-kept few l f b =
+pub based-kept : {t : Table} {n c d : ℕ} {w u : List ℕ} → n ≤ ROWS → HOLD ≤ c → d ≤ CONCERN-END → Within c d w u → Based t n w → Based t n u
+based-kept few l m f b =
     record {
       mutuals = holds-kept (λ h. absurd (omega arith)) f (b .mutuals);
       order = rows-kept (λ h. absurd (omega arith)) f (b .order);
       joined = rows-kept (λ h. absurd (omega arith)) f (b .joined);
       depends = rows-kept (λ h. absurd (omega arith)) f (b .depends);
+      releasing = set-kept (λ h. omega arith) f (b .releasing);
+      touched = rows-kept (λ h. omega arith) f (b .touched);
     }
 
 based-hops : {t : Table} {n : ℕ} {w u : List ℕ} → n ≤ ROWS → Within HOPS HOPS-END w u → Based t n w → Based t n u
@@ -103,6 +121,8 @@ based-hops few f b =
       order = rows-kept (λ h. absurd (omega arith)) f (b .order);
       joined = rows-kept (λ h. omega arith) f (b .joined);
       depends = rows-kept (λ h. omega arith) f (b .depends);
+      releasing = set-kept (λ h. omega arith) f (b .releasing);
+      touched = rows-kept (λ h. omega arith) f (b .touched);
     }
 
 based-happens : {t : Table} {n : ℕ} {w u : List ℕ} → n ≤ ROWS → Within HAPPENS HAPPENS-END w u → Based t n w → Based t n u
@@ -112,6 +132,8 @@ based-happens few f b =
       order = rows-kept (λ h. omega arith) f (b .order);
       joined = rows-kept (λ h. omega arith) f (b .joined);
       depends = rows-kept (λ h. omega arith) f (b .depends);
+      releasing = set-kept (λ h. omega arith) f (b .releasing);
+      touched = rows-kept (λ h. omega arith) f (b .touched);
     }
 
 ready-kept : {t : Table} {n s c d : ℕ} {w u : List ℕ} → d ≤ HOLD → Within c d w u → Ready t n s w → Ready t n s u

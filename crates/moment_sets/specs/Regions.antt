@@ -12,6 +12,10 @@ SETS = ROWS * MOMENTS
 abbrev pub NUMBERS : ℕ
 NUMBERS = 256
 
+-- storage classes
+abbrev pub CLASSES : ℕ
+CLASSES = 4
+
 -- program order, over moments
 abbrev pub ORDER : ℕ
 ORDER = HAPPENS-END
@@ -52,6 +56,16 @@ CONCERN = RELEASE + MOMENTS
 
 abbrev pub CONCERN-END : ℕ
 CONCERN-END = CONCERN + MOMENTS
+
+-- for every class set: the own moments of release rows; and for each class, the moments that are of it
+abbrev pub RELEASING : ℕ
+RELEASING = CONCERN-END
+
+abbrev pub TOUCHED : ℕ
+TOUCHED = RELEASING + MOMENTS
+
+abbrev pub TOUCHED-END : ℕ
+TOUCHED-END = TOUCHED + CLASSES * MOMENTS
 
 -- while program order is made, in the place of the hops and what they are made by: the moments of each agent that were passed
 abbrev pub AGENTS : ℕ

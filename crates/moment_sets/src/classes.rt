@@ -1,12 +1,91 @@
-// The sets of a class set, in one pass over the rows each.
+// The sets of a class set. Which moments are of a class, and which rows release, is asked once for a table, in one pass over the rows
+// each; a class set's own sets are then made in words.
 ghost use mathlib.Core.Path.{_≡_};
+ghost use mathlib.Core.Bool.{cond};
 ghost use Prim.Native.Nat.{ℕ, _+_, _*_, _≤_, _<_};
 ghost use lib.ListN.{length};
 ghost use Rattle.finite.specs.Below.{anyBelow};
 ghost use Rattle.model.specs.Limits.{ROWS, WORK};
 ghost use Rattle.model.specs.Table.{rowOf};
-ghost use Rattle.moment_sets.specs.Regions.{HOLD, RELEASE, CONCERN};
-ghost use Rattle.moment_sets.specs.Classes.{holdingAt, releasingAt, concerningAt, concernWords, MadeSet, joinsHolder};
+ghost use Rattle.moment_sets.specs.Regions.{CLASSES, HOLD, RELEASING, TOUCHED, TOUCHED-END};
+ghost use Rattle.moment_sets.specs.Known.{touches};
+ghost use Rattle.moment_sets.specs.Classes.{holdingAt, releasesAt, touchesAt, touchWords, MadeSet, MadeTouched, ConcernMade, ReleaseMade, joinsHolder};
+use model::Row;
+
+// M6: the storage classes.
+pub const CLASSES: u8 = 4;
+
+// ---- of a table
+
+// Whether row x releases.
+fn releases_at(rows: &[u8], x: usize) -> bool
+    requires { ⌜ x < ROWS ⌝ }
+    ensures { λ b. ⌜ b ≡ releasesAt (now (rows .entry)) (3 * x + 1) ⌝ }
+{
+    rows::kinds::releases(rows::bytes::read_row(rows, x as u16))
+}
+
+// The own moments of release rows.
+pub fn fill_releasing(w: &mut [u64], rows: &[u8], n: usize)
+    requires { ⌜ (n ≤ ROWS) × (WORK ≤ length (now w)) ⌝ }
+    ensures { λ _. ⌜ MadeSet RELEASING n (releasesAt (now (rows .entry))) (now (w .entry)) (now (w .exit)) ⌝ }
+{
+    bits::clear(w, crate::RELEASING, crate::RELEASING + area::MOMENTS);
+    for x in 0..n {
+        let b = releases_at(rows, x);
+        bits::put_if(w, crate::RELEASING * 64 + (3 * x + 1), b);
+    }
+}
+
+fn pick(b: bool, x: bool, y: bool) -> bool
+    ensures { λ r. ⌜ r ≡ cond b x y ⌝ }
+{
+    if b { x } else { y }
+}
+
+// M6: whether moment k of r is of a class in s.
+fn touches_of(s: u8, r: Row, k: u8) -> bool
+    ensures { λ b. ⌜ b ≡ touches s r k ⌝ }
+{
+    let access = rows::kinds::is_access(r) & rows::kinds::class_in(r, s);
+    let other = rows::kinds::meets(moments::classes_of(r), s);
+    pick(k == moments::AT, access, other)
+}
+
+// The bits of row x's moments that are of class q, in the set at word a.
+fn put_touched(w: &mut [u64], rows: &[u8], q: u8, a: usize, x: usize)
+    requires { ⌜ (x < ROWS) × (a < TOUCHED-END) × (a + 6 ≤ length (now w)) ⌝ }
+    ensures { λ _. ⌜ now (w .exit) ≡ touchWords (rowOf (now (rows .entry)) x) q a x (now (w .entry)) ⌝ }
+{
+    let r = rows::bytes::read_row(rows, x as u16);
+    let s = rows::kinds::single(q);
+    bits::put_if(w, a * 64 + 3 * x, touches_of(s, r, moments::BEFORE));
+    bits::put_if(w, a * 64 + (3 * x + 1), touches_of(s, r, moments::AT));
+    bits::put_if(w, a * 64 + (3 * x + 2), touches_of(s, r, moments::AFTER));
+}
+
+// The moments that are of class q, in the set at word a.
+fn fill_touched(w: &mut [u64], rows: &[u8], n: usize, q: u8, a: usize)
+    requires { ⌜ (n ≤ ROWS) × (a < TOUCHED-END) × (a + 6 ≤ length (now w)) ⌝ }
+    ensures { λ _. ⌜ MadeSet a n (touchesAt (now (rows .entry)) q) (now (w .entry)) (now (w .exit)) ⌝ }
+{
+    bits::clear(w, a, a + area::MOMENTS);
+    for x in 0..n {
+        put_touched(w, rows, q, a, x);
+    }
+}
+
+// The same for each class.
+pub fn fill_classes(w: &mut [u64], rows: &[u8], n: usize)
+    requires { ⌜ (n ≤ ROWS) × (WORK ≤ length (now w)) ⌝ }
+    ensures { λ _. ⌜ MadeTouched (now (rows .entry)) n CLASSES (now (w .entry)) (now (w .exit)) ⌝ }
+{
+    for q in 0..CLASSES {
+        fill_touched(w, rows, n, q, crate::TOUCHED + (q as usize) * area::MOMENTS);
+    }
+}
+
+// ---- of a class set
 
 // Whether row x holds all of s.
 fn hold_at(rows: &[u8], s: u8, x: usize) -> bool
@@ -15,15 +94,6 @@ fn hold_at(rows: &[u8], s: u8, x: usize) -> bool
 {
     let r = rows::bytes::read_row(rows, x as u16);
     order::steps::holding_of(s, r, moments::AT)
-}
-
-// Whether row x holds all of s and releases.
-fn release_at(rows: &[u8], s: u8, x: usize) -> bool
-    requires { ⌜ x < ROWS ⌝ }
-    ensures { λ b. ⌜ b ≡ releasingAt (now (rows .entry)) s (3 * x + 1) ⌝ }
-{
-    let r = rows::bytes::read_row(rows, x as u16);
-    order::steps::holding_of(s, r, moments::AT) & rows::kinds::releases(r)
 }
 
 // M6: the rows that hold all of s.
@@ -39,49 +109,31 @@ pub fn fill_hold(w: &mut [u64], rows: &[u8], n: usize, s: u8)
 }
 
 // Of these the release rows.
-pub fn fill_release(w: &mut [u64], rows: &[u8], n: usize, s: u8)
-    requires { ⌜ (n ≤ ROWS) × (WORK ≤ length (now w)) ⌝ }
-    ensures { λ _. ⌜ MadeSet RELEASE n (releasingAt (now (rows .entry)) s) (now (w .entry)) (now (w .exit)) ⌝ }
+pub fn fill_release(w: &mut [u64])
+    requires { ⌜ WORK ≤ length (now w) ⌝ }
+    ensures { λ _. ⌜ ReleaseMade (now (w .entry)) (now (w .exit)) ⌝ }
 {
     bits::clear(w, crate::RELEASE, crate::RELEASE + area::MOMENTS);
-    for x in 0..n {
-        let b = release_at(rows, s, x);
-        bits::put_if(w, crate::RELEASE * 64 + (3 * x + 1), b);
-    }
-}
-
-// The bits of row x's moments that concern s.
-fn put_concern(w: &mut [u64], rows: &[u8], s: u8, x: usize)
-    requires { ⌜ (x < ROWS) × (WORK ≤ length (now w)) ⌝ }
-    ensures { λ _. ⌜ now (w .exit) ≡ concernWords (rowOf (now (rows .entry)) x) s x (now (w .entry)) ⌝ }
-{
-    let r = rows::bytes::read_row(rows, x as u16);
-    let at = crate::CONCERN * 64;
-    bits::put_if(
+    sets::meet_row(
         w,
-        at + 3 * x,
-        order::steps::concerns_of(s, r, moments::BEFORE),
-    );
-    bits::put_if(
-        w,
-        at + (3 * x + 1),
-        order::steps::concerns_of(s, r, moments::AT),
-    );
-    bits::put_if(
-        w,
-        at + (3 * x + 2),
-        order::steps::concerns_of(s, r, moments::AFTER),
+        crate::RELEASE,
+        crate::HOLD,
+        crate::RELEASING,
+        area::MOMENTS,
     );
 }
 
-// M6: the moments that concern s.
-pub fn fill_concern(w: &mut [u64], rows: &[u8], n: usize, s: u8)
-    requires { ⌜ (n ≤ ROWS) × (WORK ≤ length (now w)) ⌝ }
-    ensures { λ _. ⌜ MadeSet CONCERN n (concerningAt (now (rows .entry)) s) (now (w .entry)) (now (w .exit)) ⌝ }
+// M6: the moments that concern s: those that hold all of it, and those of a class in it.
+pub fn fill_concern(w: &mut [u64], s: u8)
+    requires { ⌜ WORK ≤ length (now w) ⌝ }
+    ensures { λ _. ⌜ ConcernMade s (now (w .entry)) (now (w .exit)) ⌝ }
 {
     bits::clear(w, crate::CONCERN, crate::CONCERN + area::MOMENTS);
-    for x in 0..n {
-        put_concern(w, rows, s, x);
+    bits::join_row(w, crate::CONCERN, crate::HOLD, area::MOMENTS);
+    for q in 0..CLASSES {
+        let b = (s >> q) % 2 == 1;
+        let a = crate::TOUCHED + (q as usize) * area::MOMENTS;
+        sets::meet_if(w, b, crate::CONCERN, a, a, area::MOMENTS);
     }
 }
 

@@ -32,6 +32,10 @@ pub const RELEASE: usize = HOLD + area::MOMENTS;
 
 pub const CONCERN: usize = RELEASE + area::MOMENTS;
 
+pub const RELEASING: usize = CONCERN + area::MOMENTS;
+
+pub const TOUCHED: usize = RELEASING + area::MOMENTS;
+
 pub const AGENTS: usize = HOPS;
 
 pub const AGENTS_END: usize = AGENTS + NUMBERS * area::MOMENTS;

@@ -1,6 +1,6 @@
 -- From the closed hops of a class set to inter-thread order between moments, a row of happens-before at a time. Assumes nothing.
 use mathlib.Core.Path.{_≡_, refl, sym, ap, subst, _∙_}
-use mathlib.Core.Bool.{Bool, true, false, not, cond, _&&_, _||_}
+use mathlib.Core.Bool.{Bool, true, false, not, cond, _||_}
 use mathlib.Core.Logic.{⊎-elim}
 use mathlib.Core.List.{List}
 use Prim.Native.Nat.{ℕ, _+_, _*_, _/_, _%_, _≤_, _<_}
@@ -48,12 +48,20 @@ unfoldable pub sourceWords : Bool → ℕ → ℕ → List ℕ → List ℕ
 sourceWords h j m w =
     cond (ltb j NONE) (setBitIf (not h) (joinRow w (HAPPENS + m * MOMENTS) (HOPS + j / 3 * MOMENTS) MOMENTS) ((HAPPENS + m * MOMENTS) * 64 + j)) w
 
-pub record Sourced (m : ℕ) (dep : Bool) (w u : List ℕ) : Type 0 where
-  pub held : Bool
+pub record Sourced (m : ℕ) (held : Bool) (w u : List ℕ) : Type 0 where
   pub source : ℕ
-  pub held-is : held ≡ hubBit w dep m
   pub source-is : Source w m held source
   pub made : u ≡ sourceWords held source m w
+
+-- the three moments of row x, one after the other; the row itself is a hub's where the bits say so
+pub record RowSourced (x : ℕ) (dep : Bool) (w u : List ℕ) : Type 0 where
+  pub one : List ℕ
+  pub two : List ℕ
+  pub held : Bool
+  pub held-is : held ≡ (bit one (HOLD * 64 + (3 * x + 1)) or dep)
+  pub before : Sourced (3 * x) false w one
+  pub itself : Sourced (3 * x + 1) held one two
+  pub after : Sourced (3 * x + 2) false two u
 
 -- the closed hops of the class set s
 abbrev pub Closed : Table → Bool → ℕ → ℕ → List ℕ → Type 0
@@ -145,7 +153,7 @@ unfolding behind
 order-of t s m j b = split b .1
 
 module _ (bs : List ℕ) (t : Table) (n s m : ℕ) (dep : Bool) (w u : List ℕ) (p : Setup bs t n s dep w) (closed : Closed t dep s n w) (l : m < 3 * n)
-    (d : Sourced m dep w u) where
+    (held : Bool) (told : held ≡ hubBit w dep m) (d : Sourced m held w u) where
   few : n ≤ ROWS
   few = p .few
 
@@ -155,9 +163,9 @@ module _ (bs : List ℕ) (t : Table) (n s m : ℕ) (dep : Bool) (w u : List ℕ)
   hop-cell : (x k : ℕ) → x < n → k < 3 * n → rel w HOPS MOMENTS x k ≡ throughOwn (hopRow t dep s) itself (t .rows) x k
   hop-cell x k o q = closed .cell x k o q ∙ ap (λ (z : ℕ). throughOwn (hopRow t dep s) itself z x k) (sym same)
 
-  held-is : d .held ≡ hubMoment t dep s m
+  held-is : held ≡ hubMoment t dep s m
   unfolding hubBit hubMoment
-  held-is = d .held-is ∙ ap (λ (z : Bool). eqb (m % 3) 1 and (z or dep)) (p .ready .hold .cell m l)
+  held-is = told ∙ ap (λ (z : Bool). eqb (m % 3) 1 and (z or dep)) (p .ready .hold .cell m l)
 
   concern-is : bit w (CONCERN * 64 + m) ≡ concerns t s m
   concern-is = p .ready .concern .cell m l
@@ -181,10 +189,10 @@ module _ (bs : List ℕ) (t : Table) (n s m : ℕ) (dep : Bool) (w u : List ℕ)
   -- nothing is added
   unchanged : (k : ℕ) → NONE ≤ d .source → interThread t s m k ≡ false → rel u HAPPENS MOMENTS m k ≡ (rel w HAPPENS MOMENTS m k or interThread t s m k)
   unchanged k o e =
-      ap (λ (z : List ℕ). rel z HAPPENS MOMENTS m k) (source-off (d .held) (d .source) m w u (omega arith) (p .room) (d .made) o) ∙ sym (or-off _ _ e)
+      ap (λ (z : List ℕ). rel z HAPPENS MOMENTS m k) (source-off (held) (d .source) m w u (omega arith) (p .room) (d .made) o) ∙ sym (or-off _ _ e)
 
   -- a hub's own moment
-  by-own : (k : ℕ) → k < 3 * n → d .held ≡ true → rel u HAPPENS MOMENTS m k ≡ (rel w HAPPENS MOMENTS m k or interThread t s m k)
+  by-own : (k : ℕ) → k < 3 * n → held ≡ true → rel u HAPPENS MOMENTS m k ≡ (rel w HAPPENS MOMENTS m k or interThread t s m k)
   unfolding hubMoment hubRow _and_
   by-own k o e =
       let h = split (sym held-is ∙ e) in
@@ -192,19 +200,19 @@ module _ (bs : List ℕ) (t : Table) (n s m : ℕ) (dep : Bool) (w u : List ℕ)
       let q : d .source ≡ m = d .source-is .own e in
       let z : 3 * (m / 3) + 1 ≡ m = omega arith in
       let hub : (holding t s (3 * (m / 3) + 1) or dep) ≡ true = ap (λ (i : ℕ). holding t s i or dep) z ∙ h .1 in
-      source-bit (d .held) (d .source) m w u (omega arith) (p .room) (d .made) k (omega arith) (omega arith)
+      source-bit (held) (d .source) m w u (omega arith) (p .room) (d .made) k (omega arith) (omega arith)
       ∙ ap (λ (b : Bool). (rel w HAPPENS MOMENTS m k or rel w HOPS MOMENTS (d .source / 3) k) or (not b and eqb (d .source) k)) e
       ∙ drop-or _ _ (eqb (d .source) k) _
       (ap (λ (i : ℕ). rel w HOPS MOMENTS (i / 3) k) q ∙ hop-cell (m / 3) k (omega arith) o ∙ inter-hub t s dep (p .told) (m / 3) k (omega arith)
       ∙ ap (λ (b : Bool). b and interThread t s (3 * (m / 3) + 1) k) hub ∙ ap (λ (i : ℕ). interThread t s i k) z)
 
-  by-first : (k : ℕ) → k < 3 * n → d .held ≡ false → bit w (CONCERN * 64 + m) ≡ true → Dec (d .source < NONE)
+  by-first : (k : ℕ) → k < 3 * n → held ≡ false → bit w (CONCERN * 64 + m) ≡ true → Dec (d .source < NONE)
       → rel u HAPPENS MOMENTS m k ≡ (rel w HAPPENS MOMENTS m k or interThread t s m k)
   by-first k o e f (yes q) =
       let first = d .source-is .first e f in
       let hit : behind t s m (d .source) ≡ true = behind-out (d .source) q (first .hit q) in
       let inside : d .source < 3 * n = below (d .source) hit in
-      source-bit (d .held) (d .source) m w u (omega arith) (p .room) (d .made) k (omega arith) q
+      source-bit (held) (d .source) m w u (omega arith) (p .room) (d .made) k (omega arith) q
       ∙ ap (λ (b : Bool). (rel w HAPPENS MOMENTS m k or rel w HOPS MOMENTS (d .source / 3) k) or (not b and eqb (d .source) k)) e
       ∙ swap-or _ _ _ _ (hop-cell (d .source / 3) k (omega arith) o)
       ∙ ap (λ (z : Bool). rel w HAPPENS MOMENTS m k or z)
@@ -218,7 +226,7 @@ module _ (bs : List ℕ) (t : Table) (n s m : ℕ) (dep : Bool) (w u : List ℕ)
       (inter-none t s dep (p .told) m k (sym held-is ∙ e)
       (λ j z. and-false-right (concerns t s m) _ (not-so _ (λ b. not-both (behind-in j b) (d .source-is .first e f .miss j (omega arith))))))
 
-  by-none : (k : ℕ) → d .held ≡ false → bit w (CONCERN * 64 + m) ≡ false → rel u HAPPENS MOMENTS m k ≡ (rel w HAPPENS MOMENTS m k or interThread t s m k)
+  by-none : (k : ℕ) → held ≡ false → bit w (CONCERN * 64 + m) ≡ false → rel u HAPPENS MOMENTS m k ≡ (rel w HAPPENS MOMENTS m k or interThread t s m k)
   by-none k e f =
       let q : d .source ≡ NONE = d .source-is .none e f in
       unchanged k (omega arith) (inter-none t s dep (p .told) m k (sym held-is ∙ e) (λ j z. and-false-left (concerns t s m) _ (sym concern-is ∙ f)))
@@ -226,21 +234,29 @@ module _ (bs : List ℕ) (t : Table) (n s m : ℕ) (dep : Bool) (w u : List ℕ)
   source-cell : (k : ℕ) → k < 3 * n → rel u HAPPENS MOMENTS m k ≡ (rel w HAPPENS MOMENTS m k or interThread t s m k)
   source-cell k o =
       ⊎-elim (λ e. by-own k o e)
-      (λ e. ⊎-elim (λ f. by-first k o e f (decLt (d .source) NONE)) (λ f. by-none k e f) (which (bit w (CONCERN * 64 + m)))) (which (d .held))
+      (λ e. ⊎-elim (λ f. by-first k o e f (decLt (d .source) NONE)) (λ f. by-none k e f) (which (bit w (CONCERN * 64 + m)))) (which (held))
 
 -- ---- laws: all moments
 
-pub sources-frame : (m : ℕ) (dep : Bool) (w v u : List ℕ) → m < 3 * ROWS → WORK ≤ length v → Within HAPPENS HAPPENS-END w v → Sourced m dep v u → Within HAPPENS HAPPENS-END w u
-sources-frame m dep w v u l room f d =
-    within-trans f (within-widen HAPPENS HAPPENS-END (omega arith) (omega arith) (source-frame (d .held) (d .source) m v u l room (d .made)))
+one-frame : (m : ℕ) (h : Bool) (v u : List ℕ) → m < 3 * ROWS → WORK ≤ length v → Sourced m h v u → Within HAPPENS HAPPENS-END v u
+one-frame m h v u l room d = within-widen HAPPENS HAPPENS-END (omega arith) (omega arith) (source-frame h (d .source) m v u l room (d .made))
+
+pub sources-frame : (x : ℕ) (dep : Bool) (w v u : List ℕ) → x < ROWS → WORK ≤ length v → Within HAPPENS HAPPENS-END w v → RowSourced x dep v u → Within HAPPENS HAPPENS-END w u
+sources-frame x dep w v u l room f d =
+    let a = one-frame (3 * x) false v (d .one) (omega arith) room (d .before) in
+    let p = a .len in
+    let b = one-frame (3 * x + 1) (d .held) (d .one) (d .two) (omega arith) (omega arith) (d .itself) in
+    let q = b .len in
+    let c = one-frame (3 * x + 2) false (d .two) u (omega arith) (omega arith) (d .after) in
+    within-trans f (within-trans a (within-trans b c))
 
 pub sources-none : (t : Table) (s n : ℕ) (w : List ℕ) → SourcesAdded t s n 0 w w
 sources-none t s n w = record { done = λ i k l. absurd (omega arith); left = λ i k l o q. refl }
 
-pub sources-more : (bs : List ℕ) (t : Table) (n s m : ℕ) (dep : Bool) (w v u : List ℕ) → Setup bs t n s dep w → Closed t dep s n w → m < 3 * n
-    → Within HAPPENS HAPPENS-END w v → SourcesAdded t s n m w v → Sourced m dep v u → SourcesAdded t s n (m + 1) w u
+sources-more : (bs : List ℕ) (t : Table) (n s m : ℕ) (dep h : Bool) (w v u : List ℕ) → Setup bs t n s dep w → Closed t dep s n w → m < 3 * n
+    → Within HAPPENS HAPPENS-END w v → SourcesAdded t s n m w v → h ≡ hubBit v dep m → Sourced m h v u → SourcesAdded t s n (m + 1) w u
 unfolding rel
-sources-more bs t n s m dep w v u p closed l g a d =
+sources-more bs t n s m dep h w v u p closed l g a told d =
     record {
       done = λ i k o q r. here i k o q r (ℕ-discrete i m);
       left = λ i k o q r. within-bit f ((HAPPENS + i * MOMENTS) * 64 + k) (λ z. omega arith) ∙ a .left i k (omega arith) q r;
@@ -253,25 +269,49 @@ sources-more bs t n s m dep w v u p closed l g a d =
     few = p .few
 
     f : Within (HAPPENS + m * MOMENTS) (HAPPENS + m * MOMENTS + MOMENTS) v u
-    f = source-frame (d .held) (d .source) m v u (omega arith) (now .room) (d .made)
+    f = source-frame h (d .source) m v u (omega arith) (now .room) (d .made)
 
     one : (k : ℕ) → k < 3 * n → rel u HAPPENS MOMENTS m k ≡ (rel v HAPPENS MOMENTS m k or interThread t s m k)
-    one = source-cell bs t n s m dep v u now (rows-kept (λ h. omega arith) g closed) l d
+    one = source-cell bs t n s m dep v u now (rows-kept (λ h. omega arith) g closed) l h told d
 
     here : (i k : ℕ) → i < m + 1 → i < 3 * n → k < 3 * n → Dec (i ≡ m)
         → bit u ((HAPPENS + i * MOMENTS) * 64 + k) ≡ (bit w ((HAPPENS + i * MOMENTS) * 64 + k) or interThread t s i k)
     here i k o q r (yes e) = rw e (one k r ∙ ap (λ (z : Bool). z or interThread t s m k) (a .left m k (omega arith) l r))
     here i k o q r (no e) = within-bit f ((HAPPENS + i * MOMENTS) * 64 + k) (λ z. omega arith) ∙ a .done i k (omega arith) q r
 
-pub sources-all : {t : Table} {s n m : ℕ} {w u : List ℕ} → m ≡ 3 * n → Within HAPPENS HAPPENS-END w u → SourcesAdded t s n m w u
+-- no own moment, no hub's
+hub-not : (w : List ℕ) (dep : Bool) (m : ℕ) → (m % 3 ≡ 1 → ⊥) → false ≡ hubBit w dep m
+unfolding hubBit
+hub-not w dep m d = sym (and-false-left _ _ (ne-eqb (m % 3) 1 d))
+
+hub-own : (w : List ℕ) (dep : Bool) (x : ℕ) (h : Bool) → h ≡ (bit w (HOLD * 64 + (3 * x + 1)) or dep) → h ≡ hubBit w dep (3 * x + 1)
+unfolding hubBit _and_
+hub-own w dep x h e = rw (eq-eqb ((3 * x + 1) % 3) 1 (omega arith)) e
+
+pub sources-row : (bs : List ℕ) (t : Table) (n s x : ℕ) (dep : Bool) (w v u : List ℕ) → Setup bs t n s dep w → Closed t dep s n w → x < n
+    → Within HAPPENS HAPPENS-END w v → SourcesAdded t s n (3 * x) w v → RowSourced x dep v u → SourcesAdded t s n (3 * (x + 1)) w u
+sources-row bs t n s x dep w v u p closed l g a d =
+    let few : n ≤ ROWS = p .few in
+    let room : WORK ≤ length v = setup-happens g p .room in
+    let f₁ = one-frame (3 * x) false v (d .one) (omega arith) room (d .before) in
+    let g₁ = within-trans g f₁ in
+    let p₁ = f₁ .len in
+    let f₂ = one-frame (3 * x + 1) (d .held) (d .one) (d .two) (omega arith) (omega arith) (d .itself) in
+    let a₁ = sources-more bs t n s (3 * x) dep false w v (d .one) p closed (omega arith) g a (hub-not v dep (3 * x) (λ e. absurd (omega arith))) (d .before) in
+    let a₂ = sources-more bs t n s (3 * x + 1) dep (d .held) w (d .one) (d .two) p closed (omega arith) g₁ a₁ (hub-own (d .one) dep x (d .held) (d .held-is)) (d .itself) in
+    let e : 3 * x + 1 + 1 ≡ 3 * x + 2 = omega arith in
+    let a₃ =
+    sources-more bs t n s (3 * x + 2) dep false w (d .two) u p closed (omega arith) (within-trans g₁ f₂) (subst (λ (k : ℕ). SourcesAdded t s n k w (d .two)) e a₂)
+    (hub-not (d .two) dep (3 * x + 2) (λ z. absurd (omega arith))) (d .after)
+    in
+    let z : 3 * x + 2 + 1 ≡ 3 * (x + 1) = omega arith in
+    subst (λ (k : ℕ). SourcesAdded t s n k w u) z a₃
+
+pub sources-all : {t : Table} {s n x : ℕ} {w u : List ℕ} → x ≡ n → Within HAPPENS HAPPENS-END w u → SourcesAdded t s n (3 * x) w u
     → Added HAPPENS HAPPENS-END HAPPENS MOMENTS (3 * n) (interThread t s) w u
 sources-all e f a = record { cell = λ i k l o. a .done i k (omega arith) l o; frame = f }
 
 -- ---- laws: the code
-
-pub hub-is : (w : List ℕ) (dep : Bool) (m : ℕ) (b : Bool) → b ≡ bit w (HOLD * 64 + m) → (eqb (m % 3) 1 && (b || dep)) ≡ hubBit w dep m
-unfolding hubBit _and_ _or_
-hub-is w dep m b e = rw (← e) refl
 
 pub source-own : (w : List ℕ) (m : ℕ) (h : Bool) → h ≡ true → Source w m h m
 source-own w m h e = record { own = λ q. refl; none = λ q. not-both e q; first = λ q. not-both e q }
@@ -282,12 +322,22 @@ source-none w m h e f = record { own = λ q. not-both q e; none = λ q z. refl; 
 pub source-first : (w : List ℕ) (m j : ℕ) (h : Bool) → h ≡ false → bit w (CONCERN * 64 + m) ≡ true → Least NONE (both w (ORDER + m * MOMENTS) RELEASE) j → Source w m h j
 source-first w m j h e f l = record { own = λ q. not-both q e; none = λ q z. not-both f z; first = λ q z. l }
 
-pub sourced-on : (m j : ℕ) (dep h : Bool) (w v u : List ℕ) → h ≡ hubBit w dep m → Source w m h j → j < NONE
-    → v ≡ joinRow w (HAPPENS + m * MOMENTS) (HOPS + j / 3 * MOMENTS) MOMENTS → u ≡ setBitIf (not h) v ((HAPPENS + m * MOMENTS) * 64 + j) → Sourced m dep w u
+pub sourced-on : (m j : ℕ) (h : Bool) (w v u : List ℕ) → Source w m h j → j < NONE
+    → v ≡ joinRow w (HAPPENS + m * MOMENTS) (HOPS + j / 3 * MOMENTS) MOMENTS → u ≡ setBitIf (not h) v ((HAPPENS + m * MOMENTS) * 64 + j) → Sourced m h w u
 unfolding sourceWords
-sourced-on m j dep h w v u e s l p q =
-    record { held = h; source = j; held-is = e; source-is = s; made = rw (lt-ltb j NONE l) (q ∙ ap (λ (z : List ℕ). setBitIf (not h) z ((HAPPENS + m * MOMENTS) * 64 + j)) p) }
+sourced-on m j h w v u s l p q =
+    record { source = j; source-is = s; made = rw (lt-ltb j NONE l) (q ∙ ap (λ (z : List ℕ). setBitIf (not h) z ((HAPPENS + m * MOMENTS) * 64 + j)) p) }
 
-pub sourced-off : (m j : ℕ) (dep h : Bool) (w : List ℕ) → h ≡ hubBit w dep m → Source w m h j → NONE ≤ j → Sourced m dep w w
+pub sourced-off : (m j : ℕ) (h : Bool) (w : List ℕ) → Source w m h j → NONE ≤ j → Sourced m h w w
 unfolding sourceWords
-sourced-off m j dep h w e s l = record { held = h; source = j; held-is = e; source-is = s; made = rw (le-ltb j NONE l) refl }
+sourced-off m j h w s l = record { source = j; source-is = s; made = rw (le-ltb j NONE l) refl }
+
+or-both : (a b : Bool) → (a || b) ≡ (a or b)
+unfolding _or_
+or-both true b = refl
+or-both false b = refl
+
+pub row-sourced : (x : ℕ) (dep h : Bool) (w v y u : List ℕ) → Sourced (3 * x) false w v → h ≡ bit v (HOLD * 64 + (3 * x + 1)) → Sourced (3 * x + 1) (h || dep) v y
+    → Sourced (3 * x + 2) false y u → RowSourced x dep w u
+row-sourced x dep h w v y u a e b c =
+    record { one = v; two = y; held = h || dep; held-is = or-both h dep ∙ ap (λ (z : Bool). z or dep) e; before = a; itself = b; after = c }

@@ -26,11 +26,11 @@ use Rattle.sequence.specs.Known.{Synced, synced-kept}
 use Rattle.order.specs.Sets.{interBy, upTo, upTo-none, upTo-more, upTo-all}
 use Rattle.sets.specs.Own.{ClosedOwn}
 use Rattle.hubs.specs.Quiet.{inter-order}
-use Rattle.moment_sets.specs.Regions.{HOPS, HOPS-END, HOLD, RELEASE, CONCERN, CONCERN-END, AGENTS-END}
+use Rattle.moment_sets.specs.Regions.{CLASSES, HOPS, HOPS-END, JOINED, DEPENDS, HOLD, RELEASE, CONCERN, CONCERN-END, RELEASING, TOUCHED-END}
 use Rattle.moment_sets.specs.Known.{Rows, Set, Based, Ready, Setup, rows-kept, set-kept, based-kept, setup-hops, setup-happens}
 use Rattle.moment_sets.specs.Program.{Begun, decode-rows}
 use Rattle.moment_sets.specs.Joined.{MadeJoined, MadeDepends, joined-is, depends-is}
-use Rattle.moment_sets.specs.Classes.{holdingAt, releasingAt, concerningAt, MadeSet, joinsHolder, hold-is, release-is, concern-is, quiet-is}
+use Rattle.moment_sets.specs.Classes.{holdingAt, releasesAt, MadeSet, MadeTouched, ReleaseMade, ConcernMade, joinsHolder, hold-is, releasing-is, touched-is, release-set, concern-set, quiet-is}
 use Rattle.quick_order.specs.Hops.{HopsMade, hops-closed}
 use Rattle.quick_order.specs.Sources.{Closed}
 
@@ -62,31 +62,45 @@ pub record Reached (t : Table) (n s : ℕ) (w : List ℕ) : Type 0 where
 
 -- ---- laws: the beginning
 
-pub started-made : (b : List ℕ) (p : List (List ℕ)) (mode : Mode) (n : ℕ) (w v x y u : List ℕ) → n ≤ ROWS → Synced (decode b p mode n) n v × Within MUTUAL HAPPENS-END w v
-    → Begun (decode b p mode n) n v x → MadeJoined n x y → MadeDepends mode n (mode .dependencies) y u → Started (decode b p mode n) n w u
-started-made b p mode n w v x y u few synced begun joined depends =
+row-is : (b : List ℕ) (p : List (List ℕ)) (mode : Mode) (n x : ℕ) → decode b p mode n .row x ≡ rowOf b x
+unfolding decode
+row-is b p mode n x = refl
+
+pub started-made : (b : List ℕ) (p : List (List ℕ)) (mode : Mode) (n : ℕ) (w v x y z a u : List ℕ) → n ≤ ROWS → Synced (decode b p mode n) n v × Within MUTUAL HAPPENS-END w v
+    → Begun (decode b p mode n) n v x → MadeJoined n x y → MadeDepends mode n (mode .dependencies) y z → MadeSet RELEASING n (releasesAt b) z a
+    → MadeTouched b n CLASSES a u → Started (decode b p mode n) n w u
+started-made b p mode n w v x y z a u few synced begun joined depends releasing touched =
     record {
       based =
           record {
-            mutuals = holds-kept (λ h. absurd (omega arith)) (depends .frame) (holds-kept (λ h. absurd (omega arith)) (joined .frame) (now .mutuals));
-            order = rows-kept (λ h. absurd (omega arith)) (depends .frame) (rows-kept (λ h. absurd (omega arith)) (joined .frame) (begun .order));
-            joined = rows-kept (λ h. absurd (omega arith)) (depends .frame) (joined-is (decode b p mode n) n x y (now .syncs) (joined .joined));
-            depends = depends-is b p mode n u (depends .depends);
+            mutuals = holds-kept (λ h. absurd (omega arith)) after (now .mutuals);
+            order = rows-kept (λ h. absurd (omega arith)) after (begun .order);
+            joined = rows-kept (λ h. absurd (omega arith)) late (joined-is (decode b p mode n) n x y (now .syncs) (joined .joined));
+            depends = rows-kept (λ h. absurd (omega arith)) last (depends-is b p mode n z (depends .depends));
+            releasing = set-kept (λ h. absurd (omega arith)) (touched .frame) (releasing-is b (decode b p mode n) n 0 a (row-is b p mode n) (releasing .set));
+            touched = touched-is b (decode b p mode n) n 0 u (row-is b p mode n) (touched .touched);
           };
-      happens = holds-cong (λ i j l o. upTo-none (decode b p mode n) i j)
-          (holds-kept (λ h. absurd (omega arith)) (depends .frame) (holds-kept (λ h. absurd (omega arith)) (joined .frame) (begun .happens)));
+      happens = holds-cong (λ i j l o. upTo-none (decode b p mode n) i j) (holds-kept (λ h. absurd (omega arith)) after (begun .happens));
       frame = within-trans (within-widen MUTUAL LOCATED-END (omega arith) (omega arith) (synced .1))
-          (within-trans (within-widen MUTUAL LOCATED-END (omega arith) (omega arith) (begun .frame))
-          (within-trans (within-widen MUTUAL LOCATED-END (omega arith) (omega arith) (joined .frame)) (within-widen MUTUAL LOCATED-END (omega arith) (omega arith) (depends .frame))));
+          (within-trans (within-widen MUTUAL LOCATED-END (omega arith) (omega arith) (begun .frame)) (within-widen MUTUAL LOCATED-END (omega arith) (omega arith) after));
     }
   where
     now : Synced (decode b p mode n) n x
     now = synced-kept (omega arith) (begun .frame) (synced .0)
 
+    last : Within RELEASING TOUCHED-END z u
+    last = within-trans (within-widen RELEASING TOUCHED-END (omega arith) (omega arith) (releasing .frame)) (within-widen RELEASING TOUCHED-END (omega arith) (omega arith) (touched .frame))
+
+    late : Within DEPENDS TOUCHED-END y u
+    late = within-trans (within-widen DEPENDS TOUCHED-END (omega arith) (omega arith) (depends .frame)) (within-widen DEPENDS TOUCHED-END (omega arith) (omega arith) last)
+
+    after : Within JOINED TOUCHED-END x u
+    after = within-trans (within-widen JOINED TOUCHED-END (omega arith) (omega arith) (joined .frame)) (within-widen JOINED TOUCHED-END (omega arith) (omega arith) late)
+
 -- ---- laws: the closure of a class set
 
 module _ (bs : List ℕ) (t : Table) (n s : ℕ) (dep : Bool) (w v x : List ℕ) (few : n ≤ ROWS) (room : WORK ≤ length w) (h : Held bs t n s dep w)
-    (release : MadeSet RELEASE n (releasingAt bs s) w v) (concern : MadeSet CONCERN n (concerningAt bs s) v x) where
+    (low : s < 16) (release : ReleaseMade w v) (concern : ConcernMade s v x) where
   -- the sets are there
   pub setup-made : Setup bs t n s dep x
   setup-made =
@@ -98,14 +112,20 @@ module _ (bs : List ℕ) (t : Table) (n s : ℕ) (dep : Bool) (w v x : List ℕ)
         same = h .same;
         row = h .row;
         told = h .told;
-        based = based-kept few (omega arith) (concern .frame) (based-kept few (omega arith) (release .frame) (h .based));
+        based = based-kept few (omega arith) (omega arith) (concern .frame) released;
         ready =
             record {
-              hold = set-kept (λ q. absurd (omega arith)) (concern .frame) (set-kept (λ q. absurd (omega arith)) (release .frame) (h .hold));
-              release = set-kept (λ q. absurd (omega arith)) (concern .frame) (release-is bs t n s v (h .row) (release .set));
-              concern = concern-is bs t n s x (h .row) (concern .set);
+              hold = set-kept (λ q. absurd (omega arith)) (concern .frame) still;
+              release = set-kept (λ q. absurd (omega arith)) (concern .frame) (release-set t n s w v (h .hold) (h .based .releasing) release);
+              concern = concern-set t n s v x low still (released .touched) concern;
             };
       }
+    where
+      released : Based t n v
+      released = based-kept few (omega arith) (omega arith) (release .frame) (h .based)
+
+      still : Set HOLD (3 * n) (holding t s) v
+      still = set-kept (λ q. absurd (omega arith)) (release .frame) (h .hold)
 
   pub grown-made : (y z u : List ℕ) → HopsMade t dep s n n x y → ClosedOwn y z HOPS n
       → ((bs : List ℕ) (t : Table) (s : ℕ) → Setup bs t n s dep z → Closed t dep s n z → Added HAPPENS HAPPENS-END HAPPENS MOMENTS (3 * n) (interThread t s) z u)
@@ -135,9 +155,9 @@ module _ (bs : List ℕ) (t : Table) (n s : ℕ) (dep : Bool) (w v x : List ℕ)
       before i j l o = kept .cell i j l o
 
 -- no word outside happens-before and the regions behind it changed
-pub closed-frame : (n : ℕ) (p q : ℕ → Bool) (w v x y z u : List ℕ) → n ≤ ROWS → MadeSet RELEASE n p w v → MadeSet CONCERN n q v x → Within HOPS HOPS-END x y
+pub closed-frame : (n s : ℕ) (w v x y z u : List ℕ) → n ≤ ROWS → ReleaseMade w v → ConcernMade s v x → Within HOPS HOPS-END x y
     → ClosedOwn y z HOPS n → Within HAPPENS HAPPENS-END z u → Within HAPPENS CONCERN-END w u
-closed-frame n p q w v x y z u few a b c d e =
+closed-frame n s w v x y z u few a b c d e =
     within-trans (within-widen HAPPENS CONCERN-END (omega arith) (omega arith) (a .frame))
     (within-trans (within-widen HAPPENS CONCERN-END (omega arith) (omega arith) (b .frame))
     (within-trans (within-widen HAPPENS CONCERN-END (omega arith) (omega arith) c)
@@ -154,10 +174,6 @@ told-is b p mode n x y dep e h =
 
 free-is : (b : List ℕ) (p : List (List ℕ)) (mode : Mode) (n : ℕ) (dep : Bool) → dep ≡ ltb 0 (mode .dependencies) → dep ≡ false → (x y : ℕ) → decode b p mode n .depends x y ≡ false
 free-is b p mode n dep e f x y = not-so _ (λ h. not-both (told-is b p mode n x y dep e h) f)
-
-row-is : (b : List ℕ) (p : List (List ℕ)) (mode : Mode) (n x : ℕ) → decode b p mode n .row x ≡ rowOf b x
-unfolding decode
-row-is b p mode n x = refl
 
 -- ---- laws: a class set
 
@@ -194,7 +210,7 @@ module _ (b : List ℕ) (n s : ℕ) (dep : Bool) (w : List ℕ) (few : n ≤ ROW
 
   module _ (d : dep ≡ ltb 0 (mode .dependencies)) (v : List ℕ) (held : MadeSet HOLD n (holdingAt b (s + 1)) w v) where
     kept : Based (decode b p mode n) n v
-    kept = based-kept few (omega arith) (held .frame) (h .based)
+    kept = based-kept few (omega arith) (omega arith) (held .frame) (h .based)
 
     still : Holds HAPPENS MOMENTS (3 * n) (upTo (decode b p mode n) s) v
     still = holds-kept (λ q. absurd (omega arith)) (held .frame) (h .happens)

@@ -23,12 +23,12 @@ pub mod sources; // from hops to happens-before
 
 // M6: adds inter-thread order for the class set s, whose rows the work area holds: the closure of its direct cases.
 fn close_set(w: &mut [u64], rows: &[u8], n: usize, s: u8, dep: bool)
-    requires { ⌜ (n ≤ ROWS) × (WORK ≤ length (now w)) ⌝ }
+    requires { ⌜ (n ≤ ROWS) × (WORK ≤ length (now w)) × (s ≤ CLASS-SETS) ⌝ }
     ensures { λ _. ⌜ Within HAPPENS CONCERN-END (now (w .entry)) (now (w .exit))
         × ((t : Table) → Held (now (rows .entry)) t n s dep (now (w .entry)) → Grown t n s (now (w .entry)) (now (w .exit))) ⌝ }
 {
-    moment_sets::classes::fill_release(w, rows, n, s);
-    moment_sets::classes::fill_concern(w, rows, n, s);
+    moment_sets::classes::fill_release(w);
+    moment_sets::classes::fill_concern(w, s);
     hops::fill_hops(w, rows, n, dep);
     sets::close_own(w, moment_sets::HOPS, n);
     sources::add_sources(w, n, dep);
@@ -65,6 +65,8 @@ fn start(rows: &[u8], p: Places, mode: Mode, n: usize, w: &mut [u64])
     moment_sets::program::fill_order(rows, n, w);
     moment_sets::joined::fill_joined(w, n);
     moment_sets::joined::fill_depends(w, mode, n);
+    moment_sets::classes::fill_releasing(w, rows, n);
+    moment_sets::classes::fill_classes(w, rows, n);
 }
 
 // M7: happens-before: program order, or inter-thread order for some class set. Also mutually-ordered rows (M3), which later

@@ -11,19 +11,10 @@ ghost use Rattle.model.specs.Table.{Table};
 ghost use Rattle.model.specs.Happens.{interThread};
 ghost use Rattle.area.specs.Regions.{HAPPENS, HAPPENS-END, MOMENTS};
 ghost use Rattle.moment_sets.specs.Known.{Setup};
-ghost use Rattle.quick_order.specs.Sources.{hubBit, Source, Sourced, Closed};
+ghost use Rattle.quick_order.specs.Sources.{Source, Sourced, RowSourced, Closed};
 
 // No moment's number.
 const NONE: usize = 384;
-
-// Whether moment m is a hub's own.
-fn is_hub(w: &[u64], m: usize, dep: bool) -> bool
-    requires { ⌜ (m < 3 * ROWS) × (WORK ≤ length (now w)) ⌝ }
-    ensures { λ h. ⌜ h ≡ hubBit (now (w .entry)) dep m ⌝ }
-{
-    let b = bits::get(w, moment_sets::HOLD * 64 + m);
-    (m % 3 == 1) & (b | dep)
-}
 
 // The moment whose row's hops m leads to; h says that it is a hub's own.
 fn source_of(w: &[u64], m: usize, h: bool) -> usize
@@ -44,12 +35,11 @@ fn source_of(w: &[u64], m: usize, h: bool) -> usize
     )
 }
 
-// Adds to m's row of happens-before what the class set orders after it.
-fn add_source(w: &mut [u64], m: usize, dep: bool)
+// Adds to m's row of happens-before what the class set orders after it; h says that m is a hub's own.
+fn add_source(w: &mut [u64], m: usize, h: bool)
     requires { ⌜ (m < 3 * ROWS) × (WORK ≤ length (now w)) ⌝ }
-    ensures { λ _. ⌜ Sourced m dep (now (w .entry)) (now (w .exit)) ⌝ }
+    ensures { λ _. ⌜ Sourced m h (now (w .entry)) (now (w .exit)) ⌝ }
 {
-    let h = is_hub(w, m, dep);
     let j = source_of(w, m, h);
     if j < NONE {
         bits::join_row(
@@ -62,6 +52,17 @@ fn add_source(w: &mut [u64], m: usize, dep: bool)
     }
 }
 
+// The same for the moments of row x: its own may be a hub's, the others are none's.
+fn add_row(w: &mut [u64], x: usize, dep: bool)
+    requires { ⌜ (x < ROWS) × (WORK ≤ length (now w)) ⌝ }
+    ensures { λ _. ⌜ RowSourced x dep (now (w .entry)) (now (w .exit)) ⌝ }
+{
+    add_source(w, 3 * x, false);
+    let h = bits::get(w, moment_sets::HOLD * 64 + (3 * x + 1));
+    add_source(w, 3 * x + 1, h | dep);
+    add_source(w, 3 * x + 2, false);
+}
+
 // Adds inter-thread order for the class set whose sets and closed hops the work area holds.
 // Ruled out: one that takes a later release row than the first; one that leaves the release row itself out.
 pub fn add_sources(w: &mut [u64], n: usize, dep: bool)
@@ -70,7 +71,7 @@ pub fn add_sources(w: &mut [u64], n: usize, dep: bool)
         × ((bs : List ℕ) (t : Table) (s : ℕ) → Setup bs t n s dep (now (w .entry)) → Closed t dep s n (now (w .entry))
         → Added HAPPENS HAPPENS-END HAPPENS MOMENTS (3 * n) (interThread t s) (now (w .entry)) (now (w .exit))) ⌝ }
 {
-    for m in 0..3 * n {
-        add_source(w, m, dep);
+    for x in 0..n {
+        add_row(w, x, dep);
     }
 }

@@ -1,67 +1,89 @@
-use Rattle.moment_sets.specs.Classes.{concerningAt, concern-turn, set-made}
-use Rattle.moment_sets.specs.Regions.{CONCERN}
-use Rattle.bits.specs.Fill.{rowFill, rowFill-none, length-rowFill}
-use lib.ListN.{length}
+use Rattle.moment_sets.specs.Classes.{TouchTo, touch-none, touch-more, concern-made}
+use Rattle.moment_sets.specs.Regions.{CLASSES}
+use Rattle.bits.specs.Bit.{bitOf}
 use native.Mathlib.Omega.{arith}
-use Prim.Native.Nat.{_-_, _*_, _≤_}
-use mathlib.Core.Path.{_≡_, refl, ap, _∙_}
+use Prim.Native.Nat.{_-_, _≤_}
+use mathlib.Core.Path.{_≡_, refl, _∙_}
 use borrow.Author.Needs.{needs}
 use Rattle.moment_sets.proofs.classes.fill_concern.Statement.{statement}
 use Rattle.moment_sets.proofs.classes.fill_concern.Tie as tie
 use Rattle.moment_sets.proofs.classes.fill_concern.Reads as reads
 use Rattle.moment_sets.proofs.classes.fill_concern.Lts as lts
 use Rattle.bits.proofs.clear.Reads as clear-reads
-use Rattle.moment_sets.proofs.classes.put_concern.Reads as put-concern-reads
+use Rattle.bits.proofs.join_row.Reads as join-row-reads
+use Rattle.sets.proofs.meet_if.Reads as meet-if-reads
 
 abbrev Inv-loop : tie.InvT-loop
-Inv-loop w₀ rows n s x₀ w x = (x ≤ n) × (length w ≡ length w₀) × (w ≡ rowFill (concerningAt rows s) w₀ (CONCERN * 64) (3 * x))
+Inv-loop w₀ s q₀ w q = (q ≤ CLASSES) × TouchTo s q w₀ w
 
 abbrev μ-loop : tie.MeasureT-loop
-μ-loop w₀ rows n s x₀ w x = n - x
+μ-loop w₀ s q₀ w q = CLASSES - q
 
--- src/classes.rt:70:36
+-- src/classes.rt:131:36
 add-clear : tie.Need-add-clear Inv-loop μ-loop
 add-clear c = search needs
 
--- src/classes.rt:70:5
+-- src/classes.rt:131:5
 clear-requires : tie.Need-clear-requires Inv-loop μ-loop
 clear-requires c κs = search needs
 
--- src/classes.rt:71:5
+-- src/classes.rt:132:5
+join-row-requires : tie.Need-join-row-requires Inv-loop μ-loop
+join-row-requires c κs = search needs
+
+-- src/classes.rt:133:5
 loop-holds : tie.Need-loop-holds Inv-loop μ-loop
-loop-holds c = (search needs, refl, rowFill-none _ _ _)
+loop-holds c = (search needs, touch-none _ _)
 
--- src/classes.rt:72:9
-put-concern-requires : tie.Need-put-concern-requires Inv-loop μ-loop
-put-concern-requires c κs = search needs
+-- src/classes.rt:134:18
+shr-b : tie.Need-shr-b Inv-loop μ-loop
+shr-b c = search needs
 
--- src/classes.rt:71:9
-add-x : tie.Need-add-x Inv-loop μ-loop
-add-x c = search needs
+-- src/classes.rt:135:35
+cast-a : tie.Need-cast-a Inv-loop μ-loop
+cast-a c = search needs
 
--- src/classes.rt:71:5
+-- src/classes.rt:135:34
+mul-a : tie.Need-mul-a Inv-loop μ-loop
+mul-a c = search needs
+
+-- src/classes.rt:135:17
+add-a : tie.Need-add-a Inv-loop μ-loop
+add-a c = search needs
+
+-- src/classes.rt:136:9
+meet-if-requires : tie.Need-meet-if-requires Inv-loop μ-loop
+meet-if-requires c κs = search needs
+
+-- src/classes.rt:133:9
+add-q : tie.Need-add-q Inv-loop μ-loop
+add-q c = search needs
+
+-- src/classes.rt:133:5
 loop-less : tie.Need-loop-less Inv-loop μ-loop
 loop-less c = search needs
 
--- src/classes.rt:71:5
+-- src/classes.rt:133:5
 loop-again : tie.Need-loop-again Inv-loop μ-loop
+unfolding bitOf
 loop-again c =
-    let at-loop = c .before .before .before .before .before in
-    let inv = at-loop .loop .inv in
-    let e = concern-turn _ _ _ _ _ _ (inv .2) (c .before .before .put-concern .ensures) in
-    (search needs, ap length e ∙ length-rowFill _ _ _ _, e)
+    let at-meet = c .before .before in
+    let at-loop = at-meet .before .before .before in
+    let inv = at-loop .loop .inv .1 in
+    (search needs, touch-more _ _ _ _ _ _ (search needs) (search needs) inv refl (at-meet .meet-if .ensures))
 
--- src/classes.rt:66:1
+-- src/classes.rt:127:1
 same-length : tie.Need-same-length Inv-loop μ-loop
 same-length c = search needs
 
--- src/classes.rt:66:1
+-- src/classes.rt:127:1
 returns : tie.Need-returns Inv-loop μ-loop
 returns c =
     let at-loop = c .before in
-    let start = c .before .before .before .before .before .before .before .before in
-    let e : at-loop .loop .x ≡ start .args .n = omega arith in
-    set-made CONCERN _ _ (start .args .w .now) _ _ (search needs) (search needs) (at-loop .before .before .before .clear .ensures) (rw e at (at-loop .loop .inv .2))
+    let at-join = at-loop .before .before .before in
+    let at-clear = at-join .before .before .before .before in
+    let e : at-loop .loop .q ≡ CLASSES = omega arith in
+    concern-made _ _ _ _ _ _ e (search needs) (at-clear .clear .ensures) (at-join .join-row .ensures) (at-loop .loop .inv .1)
 
 pub fill-concern-spec : {M : Type 1} → statement M
 fill-concern-spec =
@@ -71,9 +93,14 @@ fill-concern-spec =
     μ-loop
     add-clear
     clear-requires
+    join-row-requires
     loop-holds
-    put-concern-requires
-    add-x
+    shr-b
+    cast-a
+    mul-a
+    add-a
+    meet-if-requires
+    add-q
     loop-less
     loop-again
     same-length

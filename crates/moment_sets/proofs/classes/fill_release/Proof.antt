@@ -1,106 +1,35 @@
-use Rattle.moment_sets.specs.Classes.{releasingAt, own-turn, set-made, releasing-only}
-use Rattle.moment_sets.specs.Regions.{RELEASE}
-use Rattle.bits.specs.Fill.{rowFill, rowFill-none, length-rowFill}
-use lib.ListN.{length}
-use native.Mathlib.Omega.{arith}
-use Prim.Native.Nat.{_-_, _*_, _≤_}
-use mathlib.Core.Path.{_≡_, refl, ap, _∙_}
+use Rattle.moment_sets.specs.Classes.{release-made}
 use borrow.Author.Needs.{needs}
 use Rattle.moment_sets.proofs.classes.fill_release.Statement.{statement}
 use Rattle.moment_sets.proofs.classes.fill_release.Tie as tie
 use Rattle.moment_sets.proofs.classes.fill_release.Reads as reads
 use Rattle.moment_sets.proofs.classes.fill_release.Lts as lts
 use Rattle.bits.proofs.clear.Reads as clear-reads
-use Rattle.bits.proofs.put_if.Reads as put-if-reads
-use Rattle.moment_sets.proofs.classes.release_at.Reads as release-at-reads
+use Rattle.sets.proofs.meet_row.Reads as meet-row-reads
 
-abbrev Inv-loop : tie.InvT-loop
-Inv-loop w₀ rows n s x₀ w x = (x ≤ n) × (length w ≡ length w₀) × (w ≡ rowFill (releasingAt rows s) w₀ (RELEASE * 64) (3 * x))
-
-abbrev μ-loop : tie.MeasureT-loop
-μ-loop w₀ rows n s x₀ w x = n - x
-
--- src/classes.rt:46:36
-add-clear : tie.Need-add-clear Inv-loop μ-loop
+-- src/classes.rt:116:36
+add-clear : tie.Need-add-clear
 add-clear c = search needs
 
--- src/classes.rt:46:5
-clear-requires : tie.Need-clear-requires Inv-loop μ-loop
+-- src/classes.rt:116:5
+clear-requires : tie.Need-clear-requires
 clear-requires c κs = search needs
 
--- src/classes.rt:47:5
-loop-holds : tie.Need-loop-holds Inv-loop μ-loop
-loop-holds c = (search needs, refl, rowFill-none _ _ _)
+-- src/classes.rt:117:5
+meet-row-requires : tie.Need-meet-row-requires
+meet-row-requires c κs = search needs
 
--- src/classes.rt:48:13
-release-at-requires : tie.Need-release-at-requires Inv-loop μ-loop
-release-at-requires c κs = search needs
-
--- src/classes.rt:49:25
-mul-put-if : tie.Need-mul-put-if Inv-loop μ-loop
-mul-put-if c = search needs
-
--- src/classes.rt:49:48
-mul-put-if-2 : tie.Need-mul-put-if-2 Inv-loop μ-loop
-mul-put-if-2 c = search needs
-
--- src/classes.rt:49:48
-add-put-if : tie.Need-add-put-if Inv-loop μ-loop
-add-put-if c = search needs
-
--- src/classes.rt:49:25
-add-put-if-2 : tie.Need-add-put-if-2 Inv-loop μ-loop
-add-put-if-2 c = search needs
-
--- src/classes.rt:49:9
-put-if-requires : tie.Need-put-if-requires Inv-loop μ-loop
-put-if-requires c κs = search needs
-
--- src/classes.rt:47:9
-add-x : tie.Need-add-x Inv-loop μ-loop
-add-x c = search needs
-
--- src/classes.rt:47:5
-loop-less : tie.Need-loop-less Inv-loop μ-loop
-loop-less c = search needs
-
--- src/classes.rt:47:5
-loop-again : tie.Need-loop-again Inv-loop μ-loop
-loop-again c =
-    let at-loop = c .before .before .before .before .before .before in
-    let inv = at-loop .loop .inv in
-    let e = own-turn _ _ _ _ _ _ _ (releasing-only _ _) (c .before .before .before .before .release-at .ensures) (inv .2) (c .before .before .put-if .ensures) in
-    (search needs, ap length e ∙ length-rowFill _ _ _ _, e)
-
--- src/classes.rt:42:1
-same-length : tie.Need-same-length Inv-loop μ-loop
+-- src/classes.rt:112:1
+same-length : tie.Need-same-length
 same-length c = search needs
 
--- src/classes.rt:42:1
-returns : tie.Need-returns Inv-loop μ-loop
+-- src/classes.rt:112:1
+returns : tie.Need-returns
 returns c =
-    let at-loop = c .before in
-    let start = c .before .before .before .before .before .before .before .before in
-    let e : at-loop .loop .x ≡ start .args .n = omega arith in
-    set-made RELEASE _ _ (start .args .w .now) _ _ (search needs) (search needs) (at-loop .before .before .before .clear .ensures) (rw e at (at-loop .loop .inv .2))
+    let at-meet = c .before .before in
+    let at-clear = at-meet .before .before .before .before in
+    release-made _ _ _ (search needs) (at-clear .clear .ensures) (at-meet .meet-row .ensures)
 
 pub fill-release-spec : {M : Type 1} → statement M
 fill-release-spec =
-    tie.close
-    (tie.spec
-    Inv-loop
-    μ-loop
-    add-clear
-    clear-requires
-    loop-holds
-    release-at-requires
-    mul-put-if
-    mul-put-if-2
-    add-put-if
-    add-put-if-2
-    put-if-requires
-    add-x
-    loop-less
-    loop-again
-    same-length
-    returns)
+    tie.close (tie.spec add-clear clear-requires meet-row-requires same-length returns)

@@ -6,82 +6,76 @@ use Rattle.quick_order.proofs.sources.add_source.Reads as reads
 use Rattle.quick_order.proofs.sources.add_source.Lts as lts
 use Rattle.bits.proofs.join_row.Reads as join-row-reads
 use Rattle.bits.proofs.put_if.Reads as put-if-reads
-use Rattle.quick_order.proofs.sources.is_hub.Reads as is-hub-reads
 use Rattle.quick_order.proofs.sources.source_of.Reads as source-of-reads
 
--- src/sources.rt:52:9
-is-hub-requires : tie.Need-is-hub-requires
-is-hub-requires c κs = search needs
-
--- src/sources.rt:53:9
+-- src/sources.rt:43:9
 source-of-requires : tie.Need-source-of-requires
 source-of-requires c κs = search needs
 
--- src/sources.rt:57:29
+-- src/sources.rt:47:29
 mul-join-row : tie.Need-mul-join-row
 mul-join-row c = search needs
 
--- src/sources.rt:57:13
+-- src/sources.rt:47:13
 add-join-row : tie.Need-add-join-row
 add-join-row c = search needs
 
--- src/sources.rt:58:27
+-- src/sources.rt:48:33
 mul-join-row-2 : tie.Need-mul-join-row-2
 mul-join-row-2 c = search needs
 
--- src/sources.rt:58:13
+-- src/sources.rt:48:13
 add-join-row-2 : tie.Need-add-join-row-2
 add-join-row-2 c = search needs
 
--- src/sources.rt:55:9
+-- src/sources.rt:45:9
 join-row-requires : tie.Need-join-row-requires
 join-row-requires c κs = search needs
 
--- src/sources.rt:61:42
+-- src/sources.rt:51:42
 mul-put-if : tie.Need-mul-put-if
 mul-put-if c = search needs
 
--- src/sources.rt:61:26
+-- src/sources.rt:51:26
 add-put-if : tie.Need-add-put-if
 add-put-if c = search needs
 
--- src/sources.rt:61:25
+-- src/sources.rt:51:25
 mul-put-if-2 : tie.Need-mul-put-if-2
 mul-put-if-2 c = search needs
 
--- src/sources.rt:61:25
+-- src/sources.rt:51:25
 add-put-if-2 : tie.Need-add-put-if-2
 add-put-if-2 c = search needs
 
--- src/sources.rt:61:9
+-- src/sources.rt:51:9
 put-if-requires : tie.Need-put-if-requires
 put-if-requires c κs = search needs
 
--- src/sources.rt:48:1
+-- src/sources.rt:39:1
 same-length : tie.Need-same-length
 same-length c = search needs
 
--- src/sources.rt:48:1
+-- src/sources.rt:39:1
 returns : tie.Need-returns
 returns c =
     let at-put = c .before .before in
     let at-join = at-put .before .before .before .before in
     let at-if = at-join .before .before in
-    sourced-on _ _ _ _ _ _ _ (at-if .before .before .before .is-hub .ensures) (at-if .before .source-of .ensures) (at-if .if1 .taken) (at-join .join-row .ensures) (at-put .put-if .ensures)
+    sourced-on _ _ _ _ _ _ (at-if .before .source-of .ensures) (at-if .if1 .taken) (at-join .join-row .ensures) (at-put .put-if .ensures)
 
--- src/sources.rt:48:1
+-- src/sources.rt:39:1
 same-length-2 : tie.Need-same-length-2
 same-length-2 c = search needs
 
--- src/sources.rt:48:1
+-- src/sources.rt:39:1
 returns-2 : tie.Need-returns-2
-returns-2 c = sourced-off _ _ _ _ _ (c .before .before .before .is-hub .ensures) (c .before .source-of .ensures) (c .if1 .left)
+returns-2 c = sourced-off _ _ _ _ (c .before .source-of .ensures) (c .if1 .left)
 
 pub add-source-spec : {M : Type 1} → statement M
 add-source-spec =
     tie.close
     (tie.spec
-    is-hub-requires
     source-of-requires
     mul-join-row
     add-join-row

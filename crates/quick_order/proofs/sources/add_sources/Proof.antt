@@ -1,4 +1,4 @@
-use Rattle.quick_order.specs.Sources.{Closed, SourcesAdded, sources-none, sources-more, sources-frame, sources-all}
+use Rattle.quick_order.specs.Sources.{Closed, SourcesAdded, sources-none, sources-row, sources-frame, sources-all}
 use Rattle.moment_sets.specs.Known.{Setup}
 use Rattle.area.specs.Regions.{HAPPENS, HAPPENS-END}
 use Rattle.model.specs.Table.{Table}
@@ -12,52 +12,48 @@ use Rattle.quick_order.proofs.sources.add_sources.Statement.{statement}
 use Rattle.quick_order.proofs.sources.add_sources.Tie as tie
 use Rattle.quick_order.proofs.sources.add_sources.Reads as reads
 use Rattle.quick_order.proofs.sources.add_sources.Lts as lts
-use Rattle.quick_order.proofs.sources.add_source.Reads as add-source-reads
+use Rattle.quick_order.proofs.sources.add_row.Reads as add-row-reads
 
 abbrev Inv-loop : tie.InvT-loop
-Inv-loop w₀ n dep m₀ m-end w m = (m ≤ 3 * n) × Within HAPPENS HAPPENS-END w₀ w × ((bs : List ℕ) (t : Table) (s : ℕ) → Setup bs t n s dep w₀ → Closed t dep s n w₀ → SourcesAdded t s n m w₀ w)
+Inv-loop w₀ n dep x₀ w x = (x ≤ n) × Within HAPPENS HAPPENS-END w₀ w × ((bs : List ℕ) (t : Table) (s : ℕ) → Setup bs t n s dep w₀ → Closed t dep s n w₀ → SourcesAdded t s n (3 * x) w₀ w)
 
 abbrev μ-loop : tie.MeasureT-loop
-μ-loop w₀ n dep m₀ m-end w m = 3 * n - m
+μ-loop w₀ n dep x₀ w x = n - x
 
--- src/sources.rt:73:17
-mul-m-end : tie.Need-mul-m-end Inv-loop μ-loop
-mul-m-end c = search needs
-
--- src/sources.rt:73:5
+-- src/sources.rt:74:5
 loop-holds : tie.Need-loop-holds Inv-loop μ-loop
 loop-holds c = (search needs, within-refl _ _ _, λ bs t s p q. sources-none t s _ _)
 
+-- src/sources.rt:75:9
+add-row-requires : tie.Need-add-row-requires Inv-loop μ-loop
+add-row-requires c κs = search needs
+
 -- src/sources.rt:74:9
-add-source-requires : tie.Need-add-source-requires Inv-loop μ-loop
-add-source-requires c κs = search needs
+add-x : tie.Need-add-x Inv-loop μ-loop
+add-x c = search needs
 
--- src/sources.rt:73:9
-add-m : tie.Need-add-m Inv-loop μ-loop
-add-m c = search needs
-
--- src/sources.rt:73:5
+-- src/sources.rt:74:5
 loop-less : tie.Need-loop-less Inv-loop μ-loop
 loop-less c = search needs
 
--- src/sources.rt:73:5
+-- src/sources.rt:74:5
 loop-again : tie.Need-loop-again Inv-loop μ-loop
 loop-again c =
     let at-call = c .before .before in
     let at-loop = at-call .before .before .before in
     let inv = at-loop .loop .inv in
     let len = inv .1 .len in
-    let made = at-call .add-source .ensures in
-    (search needs, sources-frame _ _ _ _ _ (search needs) (omega (arith, len)) (inv .1) made, λ bs t s p q. sources-more bs t _ s _ _ _ _ _ p q (search needs) (inv .1) (inv .2 bs t s p q) made)
+    let made = at-call .add-row .ensures in
+    (search needs, sources-frame _ _ _ _ _ (search needs) (omega (arith, len)) (inv .1) made, λ bs t s p q. sources-row bs t _ s _ _ _ _ _ p q (search needs) (inv .1) (inv .2 bs t s p q) made)
 
--- src/sources.rt:67:1
+-- src/sources.rt:68:1
 same-length : tie.Need-same-length Inv-loop μ-loop
 same-length c = search needs
 
--- src/sources.rt:67:1
+-- src/sources.rt:68:1
 returns : tie.Need-returns Inv-loop μ-loop
 returns c =
-    let e : c .before .loop .m ≡ 3 * c .before .before .before .args .n = omega arith in
+    let e : c .before .loop .x ≡ c .before .before .before .args .n = omega arith in
     let inv = c .before .loop .inv in
     (inv .1, λ bs t s p q. sources-all e (inv .1) (inv .2 bs t s p q))
 
@@ -67,10 +63,9 @@ add-sources-spec =
     (tie.spec
     Inv-loop
     μ-loop
-    mul-m-end
     loop-holds
-    add-source-requires
-    add-m
+    add-row-requires
+    add-x
     loop-less
     loop-again
     same-length

@@ -1,3 +1,4 @@
 pub mod Pieces
 pub mod PiecesLaws
 pub mod Entry
+pub mod Answers

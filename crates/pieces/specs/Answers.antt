@@ -60,7 +60,7 @@ module _ (chains : Bool) where
     unfolding checkBoth
     none-check f = none-door verdicts.refused (λ t. check chains t work buffer) verdictOf false CYCLE work buffer check-opens f (same-verdict f) (λ e. check-short e f)
 
--- ---- report
+    -- ---- report
 
     -- of an admitted table
     abbrev pub reportOfTable : List ℕ → ReportAnswer

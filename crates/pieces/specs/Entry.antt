@@ -67,14 +67,14 @@ module _ {blanks : Bool} {b : List ℕ} {p : List (List ℕ)} {mode : Mode} {n :
 
 -- ---- laws: an admission taken apart
 
-module _ {A : Type 0} (refused : ℕ → ℕ → A) (v : A) (a : Admission) where
-  pub opened-refused : {n i : ℕ} (x : Refusal) → a ≡ Refused n i → x ≡ refusalOf a → opened refused v a ≡ refused (x .number) (x .row)
+module _ {A : Type 0} (refused : ℕ → ℕ → A) (v : A) (a b : Admission) (e : a ≡ b) where
+  pub opened-refused : {n i : ℕ} (x : Refusal) → a ≡ Refused n i → x ≡ refusalOf a → opened refused v b ≡ refused (x .number) (x .row)
   unfolding opened refusalOf
-  opened-refused x h e = rw (e, h) refl
+  opened-refused x h q = rw (← e, q, h) refl
 
-  pub opened-admitted : {g n : ℕ} → a ≡ Admitted g n → opened refused v a ≡ v
+  pub opened-admitted : {g n : ℕ} → a ≡ Admitted g n → opened refused v b ≡ v
   unfolding opened
-  opened-admitted h = rw h refl
+  opened-admitted h = rw (← e, h) refl
 
 -- a refusal is no admission
 not-admitted : {A : Type 0} {n i a r : ℕ} → Refused n i ≡ Admitted a r → A
@@ -161,6 +161,17 @@ module _ (blanks : Bool) (f s : List ℕ) (a : Admission) (e : a ≡ admissionBo
     pub sources-both : sourceOf (take (n * ROW-BYTES) all) ≡ sourcesOf (joined f s)
     unfolding sourcesOf
     sources-both = rw front refl
+
+-- the same behind refusal 11
+module _ (needs : ℕ) (blanks : Bool) (f s : List ℕ) (work buffer : ℕ) (a : Admission) (e : a ≡ doorBoth needs blanks f s work buffer) {g n : ℕ} (h : a ≡ Admitted g n) where
+  pub door-few : n ≤ ROWS
+  door-few = few-both blanks f s a (door-admits needs blanks f s work buffer a e h .2) h
+
+  module _ (chains : Bool) (all : List ℕ) (p : List (List ℕ)) (mode : Mode) (copy : all ≡ areaOf (rowBytes f ++ s)) (places : p ≡ placesOf f) (modes : mode ≡ modeOf chains f) where
+    pub door-rows : (WORK ≤ work) × (needs ≤ buffer) × RowsOf blanks (take (n * ROW-BYTES) all) p mode n
+    door-rows =
+        let k = door-admits needs blanks f s work buffer a e h in
+        (k .0, k .1, rows-both blanks f s a (k .2) h chains all p mode copy places modes)
 
 -- ---- laws: the answer to two pieces, by what they are refused for
 

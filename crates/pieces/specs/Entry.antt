@@ -17,7 +17,7 @@ use Rattle.model.specs.declared.Admission.{Admission}
 use Rattle.model.specs.declared.Admission.the-variants.{Admitted, Refused}
 use Rattle.model.specs.Limits.{ROWS, WORK, LONGEST, BYTES}
 use Rattle.model.specs.Row.{access}
-use Rattle.model.specs.Table.{ROW-BYTES, rowsAt, rowBytes, placesOf, modeOf, rowOf, sourceOf, decode, tableUnder, sourcesOf}
+use Rattle.model.specs.Table.{ROW-BYTES, rowsAt, rowBytes, placesOf, modeOf, rowOf, sourceOf, decode, tableUnder, tableOf, sourcesOf}
 use Rattle.model.specs.Refusal.{buffersFit, headerFault, admission}
 use Rattle.model.specs.Check.{wiped}
 use Rattle.model.specs.AdmissionLaws.{Sound, sound-admitted, admitted-sound, rows-fit, size-fits, access-end}
@@ -161,6 +161,11 @@ module _ (blanks : Bool) (f s : List ℕ) (a : Admission) (e : a ≡ admissionBo
     pub sources-both : sourceOf (take (n * ROW-BYTES) all) ≡ sourcesOf (joined f s)
     unfolding sourcesOf
     sources-both = rw front refl
+
+-- what reads no chains asks the table without them
+pub table-false : (t : List ℕ) → tableUnder false t ≡ tableOf t
+unfolding tableOf
+table-false t = refl
 
 -- the same behind refusal 11
 module _ (needs : ℕ) (blanks : Bool) (f s : List ℕ) (work buffer : ℕ) (a : Admission) (e : a ≡ doorBoth needs blanks f s work buffer) {g n : ℕ} (h : a ≡ Admitted g n) where

@@ -24,7 +24,9 @@ same-length-2 c = search needs
 
 -- src/lib.rt:104:1
 returns : tie.Need-returns
-returns c = reported-one _ _ _ _ _ _ _ (c .before .before .before .before .report-both .ensures)
+returns c =
+    let args = c .before .before .before .before .before .before .before .before .before .before .before .args in
+    reported-one _ (args .table .now) (args .work .now) (args .cycle .now) _ _ _ (c .before .before .before .before .report-both .ensures)
 
 pub report-spec : {M : Type 1} → statement M
 report-spec =

@@ -45,7 +45,7 @@ module _ (chains : Bool) where
     unfolding check
     check-opens e t = rw e (admitted-is (admission false t) (verdictOf t))
 
-    check-short : buffersFit CYCLE work buffer ≡ false → (t : List ℕ) → check chains t work buffer ≡ verdicts.refused 11 0
+    pub check-short : buffersFit CYCLE work buffer ≡ false → (t : List ℕ) → check chains t work buffer ≡ verdicts.refused 11 0
     unfolding check
     check-short e t = rw e refl
 
@@ -74,7 +74,7 @@ module _ (chains : Bool) where
         go (Refused n i) = refl
         go (Admitted g n) = refl
 
-    report-short : buffersFit CYCLE work buffer ≡ false → (t : List ℕ) → report chains t work buffer ≡ told.Refused 11 0
+    pub report-short : buffersFit CYCLE work buffer ≡ false → (t : List ℕ) → report chains t work buffer ≡ told.Refused 11 0
     unfolding report reportAnswer checkAnswer
     report-short e t = ap (λ (v : Verdict). reportAnswer (checkAnswer v) (tableUnder chains t)) (check-short e t)
 
@@ -106,7 +106,7 @@ module _ (chains : Bool) where
     unfolding fill
     fill-opens e t = rw e (filled-is (admission true t) (outcomeOf t))
 
-    fill-short : buffersFit SOURCES work buffer ≡ false → (t : List ℕ) → fill chains t work buffer ≡ outcomes.refused 11 0
+    pub fill-short : buffersFit SOURCES work buffer ≡ false → (t : List ℕ) → fill chains t work buffer ≡ outcomes.refused 11 0
     unfolding fill
     fill-short e t = rw e refl
 
@@ -136,7 +136,7 @@ module _ (m k : ℕ) where
     unfolding derive
     derive-opens e t = rw e (derived-is (admission true t) (derivedOf (tableOf t) m k))
 
-    derive-short : buffersFit CHAIN work buffer ≡ false → (t : List ℕ) → derive t m k work buffer ≡ reasons.refused 11 0
+    pub derive-short : buffersFit CHAIN work buffer ≡ false → (t : List ℕ) → derive t m k work buffer ≡ reasons.refused 11 0
     unfolding derive
     derive-short e t = rw e refl
 

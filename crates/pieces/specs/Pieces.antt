@@ -19,12 +19,18 @@ use Rattle.model.specs.Fill as outcome
 use Rattle.model.specs.Reason as reason
 use Rattle.model.specs.Report.{report}
 use Rattle.table.specs.Rows.{shapeFault}
+use Rattle.pieces.specs.declared.RowPlace.{RowPlace}
+use Rattle.pieces.specs.declared.RowPlace.the-variants as place
 
 -- ---- the refusals of a pair
 
 -- how many rows both have
 unfoldable pub rowsBoth : List ℕ → List ℕ → ℕ
 rowsBoth f s = rowsAt f + length s / ROW-BYTES
+
+-- the same where there are not too many, else 0
+unfoldable pub countBoth : List ℕ → List ℕ → ℕ
+countBoth f s = cond (leb (rowsBoth f s) ROWS) (rowsBoth f s) 0
 
 -- 1 to 4 of the first piece; then 40: the second's size isn't a multiple of 16; then 3: the rows of both together are over the limit
 unfoldable pub piecesFault : List ℕ → List ℕ → ℕ
@@ -92,6 +98,21 @@ rowPart f s n =
     (take ROW-BYTES (drop (rowsBegin f + ROW-BYTES * n) f))
     (cond (ltb n (rowsBoth f s)) (take ROW-BYTES (drop (ROW-BYTES * (n - rowsAt f)) s)) []))
     []
+
+-- where those bytes begin, for a caller that can be handed no part of a slice
+unfoldable pub rowPlace : List ℕ → List ℕ → ℕ → RowPlace
+rowPlace f s n =
+    cond (eqb (earlyFault f s) 0)
+    (cond (ltb n (rowsAt f))
+    (place.First (rowsBegin f + ROW-BYTES * n))
+    (cond (ltb n (rowsBoth f s)) (place.Second (ROW-BYTES * (n - rowsAt f))) place.Neither))
+    place.Neither
+
+-- the sixteen bytes at a place (law `part-at`: they are the row's part)
+unfoldable pub partAt : List ℕ → List ℕ → RowPlace → List ℕ
+partAt f s (place.First at) = take ROW-BYTES (drop at f)
+partAt f s (place.Second at) = take ROW-BYTES (drop at s)
+partAt f s place.Neither = []
 
 -- ---- the rows of both, as the engine takes them
 

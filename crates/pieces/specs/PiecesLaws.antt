@@ -20,7 +20,9 @@ use Rattle.model.specs.Table.{HEADER, ROW-BYTES, PLACE-BYTES, HOSTS-PLACE-BYTES
 use Rattle.model.specs.Refusal.{versionFits, limitsFit, lengthFits, hostsFault, headerFault, admission}
 use Rattle.table.specs.Rows.{shapeFault, hostsFaultIn, rowsAdmission}
 use Rattle.table.proofs.Laws.{hosts-is, shape-refused, shape-passed, header-refused, header-passed}
-use Rattle.pieces.specs.Pieces.{AREA, areaOf, rowsBoth, piecesFault, headerOf, placeBytes, joined, ofBoth, admissionBoth, earlyFault, rowPart}
+use Rattle.pieces.specs.Pieces.{AREA, areaOf, rowsBoth, piecesFault, headerOf, placeBytes, joined, ofBoth, admissionBoth, earlyFault, rowPart, rowPlace, partAt}
+use Rattle.pieces.specs.declared.RowPlace.{RowPlace}
+use Rattle.pieces.specs.declared.RowPlace.the-variants as place
 
 -- ---- a first piece that is not refused for 1 to 4
 
@@ -534,6 +536,48 @@ part-none f s n l = go (ℕ-discrete (earlyFault f s) 0)
     go : Dec (earlyFault f s ≡ 0) → rowPart f s n ≡ []
     go (yes z) = part-past f s n (earlyFault f s) refl z (rowsAt f) refl (rowsBoth f s) refl (let k = rows-less f s in omega arith) l
     go (no d) = part-refused f s n (earlyFault f s) refl d
+
+-- ---- the place of row n
+
+pub part-at : (f s : List ℕ) (n : ℕ) → rowPart f s n ≡ partAt f s (rowPlace f s n)
+unfolding rowPart rowPlace partAt
+part-at f s n = go (eqb (earlyFault f s) 0) (ltb n (rowsAt f)) (ltb n (rowsBoth f s))
+  where
+    x : ℕ
+    x = rowsBegin f + ROW-BYTES * n
+
+    y : ℕ
+    y = ROW-BYTES * (n - rowsAt f)
+
+    go : (a b c : Bool)
+        → cond a (cond b (take ROW-BYTES (drop x f)) (cond c (take ROW-BYTES (drop y s)) [])) []
+        ≡ partAt f s (cond a (cond b (place.First x) (cond c (place.Second y) place.Neither)) place.Neither)
+    go true true c = refl
+    go true false true = refl
+    go true false false = refl
+    go false b c = refl
+
+module _ (f s : List ℕ) (n h : ℕ) (e : h ≡ earlyFault f s) where
+  pub place-refused : (h ≡ 0 → ⊥) → place.Neither ≡ rowPlace f s n
+  unfolding rowPlace
+  place-refused d = rw (← e, ne-eqb h 0 d) refl
+
+  module _ (z : h ≡ 0) (r : ℕ) (q : r ≡ rowsAt f) where
+    pub place-first : (b : ℕ) → b ≡ rowsBegin f → n < r → place.First (b + ROW-BYTES * n) ≡ rowPlace f s n
+    unfolding rowPlace
+    place-first b w l = rw (← e, z, ← q, ← w, lt-ltb n r l) refl
+
+    module _ (b : ℕ) (w : b ≡ rowsBoth f s) (k : r ≤ n) where
+      pub second-fits : n < b → ROW-BYTES * (n - r) < AREA
+      second-fits l = let t = both-fit f s (early-pieces f s h e z) in omega arith
+
+      pub place-second : n < b → place.Second (ROW-BYTES * (n - r)) ≡ rowPlace f s n
+      unfolding rowPlace
+      place-second l = rw (← e, z, ← q, ← w, le-ltb n r k, lt-ltb n b l) refl
+
+      pub place-past : b ≤ n → place.Neither ≡ rowPlace f s n
+      unfolding rowPlace
+      place-past l = rw (← e, z, ← q, ← w, le-ltb n r k, le-ltb n b l) refl
 
 -- ---- the rows of both, copied
 

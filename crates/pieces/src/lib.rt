@@ -5,7 +5,7 @@ ghost use mathlib.Core.List.{_++_};
 ghost use Prim.Native.Nat.{min};
 ghost use lib.ListN.{getD};
 ghost use Rattle.model.specs.Table.{rowBytes};
-ghost use Rattle.pieces.specs.Pieces.{AREA, rowsBoth, piecesFault, earlyFault, areaOf, admissionBoth, rowPart};
+ghost use Rattle.pieces.specs.Pieces.{AREA, rowsBoth, countBoth, piecesFault, earlyFault, areaOf, admissionBoth, rowPart, rowPlace};
 ghost use Rattle.pieces.specs.Entry.{refusalOf, doorBoth};
 use model::Admission;
 use rows::bytes;
@@ -23,6 +23,17 @@ pub fn rows_both(first: &[u8], second: &[u8]) -> usize
     ensures { λ r. ⌜ r ≡ rowsBoth (now (first .entry)) (now (second .entry)) ⌝ }
 {
     (bytes::rows_at(first) as usize) + second.len() / bytes::ROW_BYTES
+}
+
+// The same where there are not too many, else 0.
+pub fn count_both(first: &[u8], second: &[u8]) -> u8
+    ensures { λ r. ⌜ r ≡ countBoth (now (first .entry)) (now (second .entry)) ⌝ }
+{
+    let n = rows_both(first, second);
+    if model::ROWS < n {
+        return 0;
+    }
+    n as u8
 }
 
 // Refusals 1 to 4 of the first piece, 40 of the second, and 3 of both; or 0.
@@ -104,6 +115,33 @@ pub fn row_part<'a>(first: &'a [u8], second: &'a [u8], n: u16) -> &'a [u8]
         return &second[at..end];
     }
     &second[..0]
+}
+
+// Where row n's sixteen bytes begin: in the first piece, in the second, or nowhere.
+pub enum RowPlace {
+    First { at: u16 },
+    Second { at: u16 },
+    Neither,
+}
+
+// The place of that part, for a caller that can be handed no part of a slice.
+pub fn row_place(first: &[u8], second: &[u8], n: u16) -> RowPlace
+    ensures { λ r. ⌜ r ≡ rowPlace (now (first .entry)) (now (second .entry)) n ⌝ }
+{
+    if early_fault(first, second) != 0 {
+        return RowPlace::Neither;
+    }
+    let i = n as usize;
+    let rows = bytes::rows_at(first) as usize;
+    if i < rows {
+        let at = bytes::rows_begin(first) + bytes::ROW_BYTES * i;
+        return RowPlace::First { at: at as u16 };
+    }
+    if i < rows_both(first, second) {
+        let at = bytes::ROW_BYTES * (i - rows);
+        return RowPlace::Second { at: at as u16 };
+    }
+    RowPlace::Neither
 }
 
 // ---- opening a table

@@ -13,6 +13,8 @@ use Rattle.model.specs.declared.DeriveAnswer.{DeriveAnswer}
 use Rattle.model.specs.declared.DeriveAnswer.the-variants as derived
 use Rattle.model.specs.declared.AcceptAnswer.{AcceptAnswer}
 use Rattle.model.specs.declared.AcceptAnswer.the-variants as accept
+use Rattle.pieces.specs.declared.RowPlace.{RowPlace}
+use Rattle.pieces.specs.declared.RowPlace.the-variants as place
 use Rattle.model.specs.declared.Share.{Share}
 use Rattle.model.specs.declared.Share.the-variants as share
 use Rattle.model.specs.declared.Report.{Report}
@@ -73,3 +75,9 @@ floatOf share.NoPairs = nan
 -- a switch, where a caller can hand in any number
 abbrev pub isOn : ℕ → Bool
 isOn switch = not (eqb switch 0)
+
+-- the codes: 12 a row's place (a is its piece, 0 or 1, b the first of its sixteen bytes there), 13 no row
+unfoldable pub packPlace : RowPlace → ℕ
+packPlace (place.First at) = packed 12 0 at 0
+packPlace (place.Second at) = packed 12 1 at 0
+packPlace place.Neither = packed 13 0 0 0

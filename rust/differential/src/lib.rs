@@ -7,11 +7,13 @@
 
 mod claim;
 mod expected;
+mod pieces;
 mod reasons;
 mod reports;
 mod tally;
 
 pub use claim::Claim;
+pub use pieces::OfPieces;
 pub use reasons::{Derived, Moments, Probed};
 pub use tally::Tally;
 

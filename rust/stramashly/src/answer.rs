@@ -17,6 +17,9 @@ pub enum Code {
     NotBefore = 9,
     Accepted = 10,
     NotAccepted = 11,
+    /// A row's place in a table of two pieces.
+    Row = 12,
+    NoRow = 13,
 }
 
 /// A packed answer: code × 2^48 + a × 2^32 + b × 2^16 + c.
@@ -44,6 +47,8 @@ impl Packed {
             9 => Code::NotBefore,
             10 => Code::Accepted,
             11 => Code::NotAccepted,
+            12 => Code::Row,
+            13 => Code::NoRow,
             _ => return None,
         };
         Some(code)

@@ -46,5 +46,6 @@ void test_limits(void);
 void test_versions(void);
 void test_hosts(void);
 void test_chains(void);
+void test_pieces(void);
 
 #endif

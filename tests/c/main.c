@@ -103,6 +103,7 @@ int main(void) {
   test_versions();
   test_hosts();
   test_chains();
+  test_pieces();
   printf("%d passed, %d failed\n", passed, failed);
   return failed != 0;
 }

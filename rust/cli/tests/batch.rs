@@ -70,9 +70,9 @@ fn bad_lines_are_answered_and_the_stream_goes_on() {
     let input = format!(
         "guess 00\nchecks 00\ncheckfill 00\ncheck 0\ncheck 0G\nfill \u{e4}\n check {digits}\n"
     );
-    let answers = "error none of check, fill, report, derive and accepts\n\
-         error none of check, fill, report, derive and accepts\n\
-         error none of check, fill, report, derive and accepts\nerror odd count of hex digits\n\
+    let answers = "error none of check, fill, report, derive, accepts, the same with a 2, and row2\n\
+         error none of check, fill, report, derive, accepts, the same with a 2, and row2\n\
+         error none of check, fill, report, derive, accepts, the same with a 2, and row2\nerror odd count of hex digits\n\
          error 'G' at place 7 is no hex digit\nerror byte 0xC3 at place 5 is no hex digit\n\
          race-free\n";
     for words in [&["batch"][..], &["batch", "-j", "2"]] {
@@ -139,7 +139,7 @@ fn long_lines_have_the_refusal_that_they_deserve() {
     input.extend(b"\nfill 0000000401000000\n");
     let answer = stramashly(&["batch"], &input);
     let answers = "refused 4 0\nrefused 2 0\nerror odd count of hex digits\n\
-         error none of check, fill, report, derive and accepts\nfilled\n";
+         error none of check, fill, report, derive, accepts, the same with a 2, and row2\nfilled\n";
     assert_eq!(answer.output, answers);
 }
 

@@ -210,7 +210,7 @@ fn derivations_of_every_cut() {
         let count = 3 * u16::from(bytes[6]);
         for rows in 0..=usize::from(bytes[6]) {
             let [first, second] = cut(&bytes, rows);
-            for _ in 0..10 {
+            for _ in 0..30 {
                 let moments = [0, 1].map(|_| random.below(usize::from(count) + 1) as u16);
                 let packed = comparison.derivation_of_pieces([&first, &second], moments);
                 let code = packed.unwrap().code();

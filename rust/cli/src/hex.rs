@@ -187,12 +187,12 @@ mod tests {
             hex.push(&[b'5'; 1000]);
         }
         assert_eq!(hex.bytes(), Ok(&[0x55; KEPT_BYTES][..]));
-        // As rows they are as many bytes over 16 as all that came.
-        assert_eq!(hex.rows(), Ok(&[0x55; 16 * 129 + 500_000 % 16][..]));
+        // As rows they have the remainder of all that came, 500,000 bytes.
+        assert_eq!(hex.rows(), Ok(&[0x55; 16 * 129][..]));
         hex.push(b"5");
         assert_eq!(hex.bytes(), Err(Bad::OddDigits));
         hex.push(b"5");
-        assert_eq!(hex.rows(), Ok(&[0x55; 16 * 129 + 500_001 % 16][..]));
+        assert_eq!(hex.rows(), Ok(&[0x55; 16 * 129 + 1][..]));
         hex.clear();
         assert_eq!(hex.bytes(), Ok(&[][..]));
     }

@@ -155,6 +155,7 @@ fn packed_answers_come_apart() {
     assert_eq!(packed.0, 0x0001_0001_0002_FFFF);
     assert_eq!(packed.code(), Some(Code::Race));
     assert_eq!((packed.a(), packed.b(), packed.c()), (1, 2, 65535));
-    assert_eq!(Packed(12 << 48).code(), None);
+    assert_eq!(Packed(13 << 48).code(), Some(Code::NoRow));
+    assert_eq!(Packed(14 << 48).code(), None);
     assert_eq!(format!("{packed:?}"), "Packed(1, 1, 2, 65535)");
 }

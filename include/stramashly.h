@@ -27,6 +27,8 @@
  *  13  opened                open          rows        agents
  *  14  a row                 row           next place
  *  15  the end               row           the place, which stays
+ *  12  a row's place         row2          piece       first byte
+ *  13  no row                row2
  *
  * Parts that the table above leaves empty are 0. A byte is its number among
  * the 65,536 that a table speaks of.
@@ -63,6 +65,15 @@
  * case (1 synchronizes-with, 2 to a release, 3 from an acquire, 4 a dependency) +
  * the moment that it reaches. Numbers that aren't those of two different moments
  * of the table are refused (12), after all that a fill refuses.
+ *
+ * A table may come in two pieces: the first an ordinary table, the second only
+ * rows of 16 bytes, to be added after its rows, sources and moments counted over
+ * both. The functions whose names end in 2 take it so, and answer as the others do
+ * of the joined table: its header counts all rows, the rows of the second piece
+ * follow those of the first, and the dependencies of a table of version 3, which
+ * stay with the first piece and may name rows of either, come last. An empty second
+ * piece makes no difference. The refusals of the first piece up to LENGTH come
+ * before ROWS, then LIMITS of all rows, then the others of the joined table.
  *
  * The switch `chains` says whether the device reports the feature
  * vulkanMemoryModelAvailabilityVisibilityChains: 0, or STRAMASHLY_CHAINS; any
@@ -131,6 +142,8 @@ enum stramashly_code {
   STRAMASHLY_OPENED = 13,
   STRAMASHLY_ROW = 14,
   STRAMASHLY_END = 15
+  STRAMASHLY_ROW = 12,
+  STRAMASHLY_NO_ROW = 13
 };
 
 /* Part a of a refusal: which rule of form is broken. Part b is the row that
@@ -138,6 +151,9 @@ enum stramashly_code {
  * VERSION, LIMITS, LENGTH, AGENT_KIND, DEPENDENCIES, DEPENDENCY; row by row CODE,
  * AGENT_ROW, then KIND_FIT and EXTENT or OPERATION_FIT; row by row CLASS, SOURCE,
  * RANK, INSTANCE, RUN; MOMENTS; ROOM. */
+ * VERSION, LIMITS, LENGTH, and of two pieces ROWS and LIMITS of both; AGENT_KIND,
+ * DEPENDENCIES, DEPENDENCY; row by row CODE, AGENT_ROW, then KIND_FIT and EXTENT or OPERATION_FIT; row by row CLASS, SOURCE,
+ * RANK, INSTANCE, RUN; MOMENTS. */
 enum stramashly_refusal {
   STRAMASHLY_REFUSAL_SHORT = 1,     /* a table of fewer than 8 bytes */
   STRAMASHLY_REFUSAL_VERSION = 2,   /* a version other than 1 to 3, or byte 7 not 0 */
@@ -158,7 +174,8 @@ enum stramashly_refusal {
   STRAMASHLY_REFUSAL_DEPENDENCIES = 17, /* more dependencies than there may be */
   STRAMASHLY_REFUSAL_DEPENDENCY = 18,   /* a dependency of a row that isn't there */
   STRAMASHLY_REFUSAL_AGENT_ROW = 19,    /* a kind that the row's agent may not have */
-  STRAMASHLY_REFUSAL_OPERATION_FIT = 20 /* fields that a queue agent's row may not have */
+  STRAMASHLY_REFUSAL_OPERATION_FIT = 20, /* fields that a queue agent's row may not have */
+  STRAMASHLY_REFUSAL_ROWS = 40          /* a second piece that isn't whole rows */
 };
 
 /* The parts of an answer. */
@@ -234,6 +251,39 @@ uint64_t stramashly_open(const uint8_t *table, size_t table_len);
  * (BUFFER). Of bytes that weren't opened it gives what stands where the row would. */
 uint64_t stramashly_row(const uint8_t *table, size_t table_len, uint16_t at,
                         uint8_t *row, size_t row_len);
+/* The same of a table in two pieces. */
+uint64_t stramashly_check2(const uint8_t *first, size_t first_len,
+                           const uint8_t *second, size_t second_len, uint8_t chains,
+                           uint64_t *work, size_t work_len,
+                           uint16_t *cycle, size_t cycle_len);
+
+uint64_t stramashly_fill2(const uint8_t *first, size_t first_len,
+                          const uint8_t *second, size_t second_len, uint8_t chains,
+                          uint64_t *work, size_t work_len,
+                          uint16_t *sources, size_t sources_len);
+
+uint64_t stramashly_report2(const uint8_t *first, size_t first_len,
+                            const uint8_t *second, size_t second_len, uint8_t chains,
+                            uint64_t *work, size_t work_len,
+                            uint16_t *cycle, size_t cycle_len);
+
+/* Why moment m happens before moment k. */
+uint64_t stramashly_derive2(const uint8_t *first, size_t first_len,
+                            const uint8_t *second, size_t second_len,
+                            uint16_t m, uint16_t k,
+                            uint64_t *work, size_t work_len,
+                            uint16_t *chain, size_t chain_len);
+
+uint64_t stramashly_accepts2(const uint8_t *first, size_t first_len,
+                             const uint8_t *second, size_t second_len,
+                             uint16_t m, uint16_t k, uint8_t classes,
+                             const uint16_t *steps, size_t steps_len);
+
+/* Where a row has its sixteen bytes: part a is 0 for the first piece and 1 for the
+ * second, part b the first of the bytes there. No row where neither piece holds it;
+ * two pieces that are refused before CODE hold none. Nothing is copied. */
+uint64_t stramashly_row2(const uint8_t *first, size_t first_len,
+                         const uint8_t *second, size_t second_len, uint16_t row);
 
 #ifdef __cplusplus
 }

@@ -47,5 +47,6 @@ void test_versions(void);
 void test_hosts(void);
 void test_chains(void);
 void test_writer(void);
+void test_pieces(void);
 
 #endif

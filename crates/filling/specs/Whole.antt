@@ -1,12 +1,11 @@
--- What the calls of a fill come to, from the bytes of a table. Assumes nothing.
-use mathlib.Core.Path.{_≡_, refl, sym, ap, _∙_}
+-- What the calls of a fill come to, from the rows of an admitted table and from the bytes of two pieces. Assumes nothing.
+use mathlib.Core.Path.{_≡_, refl, sym, ap, ap₂, _∙_}
 use mathlib.Core.Bool.{Bool, true, false, cond}
-use mathlib.Core.List.{List}
-use Prim.Native.Nat.{ℕ, _≤_, _<_}
-use lib.ListN.{length}
+use mathlib.Core.List.{List, _++_}
+use Prim.Native.Nat.{ℕ, _*_, _≤_, _<_}
+use lib.ListN.{length, take}
 use lib.Dec.{ltb}
-use borrow.Author.Tests.{le-leb, lt-leb}
-use Rattle.finite.specs.Logic.{_and_, and-true, and-false-left, and-false-right}
+use Rattle.finite.specs.Logic.{_and_}
 use Rattle.finite.specs.Lists.{tabulate}
 use Rattle.bits.specs.Bit.{zeros}
 use Rattle.bits.specs.Within.{Within}
@@ -16,26 +15,22 @@ use Rattle.model.specs.declared.Admission.the-variants.{Admitted, Refused}
 use Rattle.model.specs.declared.FillAnswer.{FillAnswer}
 use Rattle.model.specs.declared.FillAnswer.the-variants
 use Rattle.model.specs.Limits.{WORK, SOURCES}
-use Rattle.model.specs.Table.{modeOf, Table, rowsAt, rowBytes, placesOf, sourceOf, decode, tableUnder, sourcesOf}
+use Rattle.model.specs.Table.{Table, ROW-BYTES, rowBytes, placesOf, modeOf, sourceOf, decode, tableUnder, sourcesOf}
 use Rattle.model.specs.Race.{raceRow, racePartner, raceByte}
 use Rattle.model.specs.Edge.{consistent}
-use Rattle.model.specs.Refusal.{buffersFit, admission}
 use Rattle.model.specs.Check.{wiped}
-use Rattle.model.specs.Fill.{Outcome, refused, race, none, filled, blank, chosen, sourcesFit, filledOr, racingOr, outcome, admittedFill, fill, fillAnswer, sourcesAfter, workAfter}
-use Rattle.model.specs.AdmissionLaws.{Sound, sound-admitted, admitted-sound}
+use Rattle.model.specs.Fill.{Outcome, refused, race, none, filled, blank, chosen, sourcesFit, filledOr, racingOr, outcome, fillAnswer, sourcesAfter, workAfter}
 use Rattle.model.specs.SourceLaws.{filled-same}
 use Rattle.area.specs.Regions.{MUTUAL, LOCATED-END, EDGE, LAYERS-END}
 use Rattle.axioms.specs.Sources.{sourceIn}
 use Rattle.choice.specs.Sources.{Listed}
-use Rattle.verdict.specs.Whole.{table-is, wiped-after}
+use Rattle.verdict.specs.Whole.{wiped-after}
+use Rattle.pieces.specs.declared.Refusal.{Refusal}
+use Rattle.pieces.specs.Pieces.{areaOf, joined, fillBoth}
+use Rattle.pieces.specs.Entry.{refusalOf, doorBoth, Left, left-same, opened-refused, opened-admitted, door-admits, table-both, sources-both}
+use Rattle.pieces.specs.Answers.{fill-both}
 
--- ---- definitions
-
-unfoldable pub refusedAnswer : Admission → FillAnswer
-refusedAnswer (Refused n i) = the-variants.Refused n i
-refusedAnswer (Admitted a n) = the-variants.None
-
--- ---- laws: a table that is admitted
+-- ---- laws: the rows of an admitted table
 
 chosen-same : (t : Table) (a b : ℕ → ℕ) (i : ℕ) → a i ≡ b i → chosen t a i ≡ chosen t b i
 unfolding chosen blank
@@ -45,21 +40,15 @@ outcome-same : (t : Table) (a b : ℕ → ℕ) → ((i : ℕ) → i < t .rows �
 unfolding outcome
 outcome-same t a b same = ap (λ (o : Outcome). racingOr o t) (filled-same t (chosen t a) (chosen t b) (λ i l. chosen-same t a b i (same i l)) none)
 
-module _ {s : List ℕ} (h : Sound true s) (chains : Bool) (b : List ℕ) (p : List (List ℕ)) (mode : Mode) (n : ℕ) (rows : b ≡ rowBytes s) (places : p ≡ placesOf s) (modes : mode ≡ modeOf chains s) (all : n ≡ rowsAt s)
-    (src : List ℕ) (listed : Listed (sourceOf b) n src) where
-  outcome-is : outcome (decode b p mode n) (sourceIn src) ≡ outcome (tableUnder chains s) (sourcesOf s)
-  unfolding sourcesOf decode
-  outcome-is =
-      outcome-same (decode b p mode n) (sourceIn src) (sourceOf (rowBytes s)) (λ i m. listed .each i m ∙ ap (λ (v : List ℕ). sourceOf v i) rows)
-      ∙ ap (λ (t : Table). outcome t (sourceOf (rowBytes s))) (table-is h chains b p _ n rows places modes all)
-
-  -- located, settled, wiped
-  pub table-filled : (r : FillAnswer) (w v u z c d : List ℕ) → WORK ≤ length w → Within MUTUAL LOCATED-END w v
-      → (r ≡ fillAnswer (outcome (decode b p mode n) (sourceIn src))) × (d ≡ sourcesAfter (outcome (decode b p mode n) (sourceIn src)) c) × Within EDGE LAYERS-END v u
-      → z ≡ zeros u 0 WORK
-      → (r ≡ fillAnswer (outcome (tableUnder chains s) (sourcesOf s))) × (z ≡ wiped w) × (d ≡ sourcesAfter (outcome (tableUnder chains s) (sourcesOf s)) c)
-  table-filled r w v u z c d room f a e =
-      (a .0 ∙ ap fillAnswer outcome-is, wiped-after w v u z room f (a .2) e, a .1 ∙ ap (λ (o : Outcome). sourcesAfter o c) outcome-is)
+-- located, settled, wiped
+pub rows-filled : (b : List ℕ) (p : List (List ℕ)) (mode : Mode) (n : ℕ) (src w v u z c d : List ℕ) (r : FillAnswer) → Listed (sourceOf b) n src → WORK ≤ length w → Within MUTUAL LOCATED-END w v
+    → (r ≡ fillAnswer (outcome (decode b p mode n) (sourceIn src))) × (d ≡ sourcesAfter (outcome (decode b p mode n) (sourceIn src)) c) × Within EDGE LAYERS-END v u
+    → z ≡ zeros u 0 WORK
+    → (r ≡ fillAnswer (outcome (decode b p mode n) (sourceOf b))) × (z ≡ wiped w) × (d ≡ sourcesAfter (outcome (decode b p mode n) (sourceOf b)) c)
+unfolding decode
+rows-filled b p mode n src w v u z c d r listed room f a e =
+    let o = outcome-same (decode b p mode n) (sourceIn src) (sourceOf b) (λ i m. listed .each i m) in
+    (a .0 ∙ ap fillAnswer o, wiped-after w v u z room f (a .2) e, a .1 ∙ ap (λ (y : Outcome). sourcesAfter y c) o)
 
 -- ---- laws: no outcome of such a table is a refusal
 
@@ -79,60 +68,30 @@ outcome-wiped t source w = go (ltb (raceRow t) (t .rows))
     go true = refl
     go false = filled-wiped t (chosen t source) w
 
--- ---- laws: any bytes
-
--- what an admission says of the number of rows
-abbrev rows-of : Admission → ℕ
-rows-of (Admitted a n) = n
-rows-of (Refused n i) = 0
-
-pub admitted-rows : (s : List ℕ) {k n : ℕ} (a : Admission) → a ≡ admission true s → a ≡ Admitted k n → (n ≡ rowsAt s) × Sound true s
-admitted-rows s {k} {n} a e h =
-    let sound : Sound true s = admitted-sound true s (sym e ∙ h) in
-    (ap rows-of (sym h ∙ e ∙ sound-admitted true s sound), sound)
+-- ---- laws: the entry point
 
 -- what comes back, by the outcome
-abbrev pub Left : Outcome → FillAnswer → List ℕ → List ℕ → List ℕ → List ℕ → Type 0
-Left o r w u c d = (r ≡ fillAnswer o) × (u ≡ workAfter o w) × (d ≡ sourcesAfter o c)
+abbrev pub Filled : Outcome → FillAnswer → List ℕ → List ℕ → List ℕ → List ℕ → Type 0
+Filled o r w u c d = Left fillAnswer workAfter sourcesAfter o r w u c d
 
-refused-left : (o : Outcome) (k i : ℕ) (w c : List ℕ) → o ≡ refused k i → Left o (the-variants.Refused k i) w w c c
-unfolding fillAnswer workAfter sourcesAfter
-refused-left o k i w c e = (rw e refl, rw e refl, rw e refl)
+module _ (chains : Bool) (f s w c : List ℕ) (a : Admission) (e : a ≡ doorBoth SOURCES true f s (length w) (length c)) where
+  abbrev told : Outcome
+  told = fillBoth chains f s (length w) (length c)
 
-short : (chains : Bool) (s : List ℕ) (work buffer : ℕ) → buffersFit SOURCES work buffer ≡ false → fill chains s work buffer ≡ refused 11 0
-unfolding fill
-short chains s work buffer e = rw e refl
+  pub filled-refused : {n i : ℕ} (x : Refusal) → a ≡ Refused n i → x ≡ refusalOf a → Filled told (the-variants.Refused (x .number) (x .row)) w w c c
+  unfolding fillAnswer workAfter sourcesAfter
+  filled-refused x h q =
+      left-same fillAnswer workAfter sourcesAfter (fill-both chains (length w) (length c) f s ∙ opened-refused refused _ a _ e x h q) (refl, refl, refl)
 
-module _ (chains : Bool) (s w c : List ℕ) where
-  abbrev pub told : Outcome
-  told = fill chains s (length w) (length c)
+  module _ {g n : ℕ} (h : a ≡ Admitted g n) (all : List ℕ) (p : List (List ℕ)) (mode : Mode) (copy : all ≡ areaOf (rowBytes f ++ s)) (places : p ≡ placesOf f) (modes : mode ≡ modeOf chains f) where
+    abbrev pub outcomeRows : Outcome
+    outcomeRows = outcome (decode (take (n * ROW-BYTES) all) p mode n) (sourceOf (take (n * ROW-BYTES) all))
 
-  pub work-short : length w < WORK → Left told (the-variants.Refused 11 0) w w c c
-  unfolding buffersFit
-  work-short l = refused-left told 11 0 w c (short chains s (length w) (length c) (and-false-left _ _ (lt-leb WORK (length w) l)))
+    told-is : told ≡ outcomeRows
+    told-is =
+        let k = door-admits SOURCES true f s (length w) (length c) a e h in
+        fill-both chains (length w) (length c) f s ∙ opened-admitted refused _ a _ e h
+        ∙ sym (ap₂ outcome (table-both true f s a (k .2) h chains all p mode copy places modes) (sources-both true f s a (k .2) h chains all p mode copy places modes))
 
-  pub buffer-short : length c < SOURCES → Left told (the-variants.Refused 11 0) w w c c
-  unfolding buffersFit
-  buffer-short l = refused-left told 11 0 w c (short chains s (length w) (length c) (and-false-right _ _ (lt-leb SOURCES (length c) l)))
-
-  module _ (room : WORK ≤ length w) (space : SOURCES ≤ length c) (a : Admission) (e : a ≡ admission true s) where
-    fitting : told ≡ admittedFill a (outcome (tableUnder chains s) (sourcesOf s))
-    unfolding fill buffersFit
-    fitting = rw (and-true (le-leb WORK (length w) room) (le-leb SOURCES (length c) space), e) refl
-
-    pub table-refused : {k i : ℕ} (r : FillAnswer) → a ≡ Refused k i → r ≡ refusedAnswer a → Left told r w w c c
-    unfolding refusedAnswer admittedFill
-    table-refused {k} {i} r h g =
-        let o : told ≡ refused k i = fitting ∙ ap (λ (x : Admission). admittedFill x (outcome (tableUnder chains s) (sourcesOf s))) h in
-        rw (g ∙ ap refusedAnswer h) (refused-left told k i w c o)
-
-    pub table-told : {k n : ℕ} (r : FillAnswer) (u d : List ℕ) → a ≡ Admitted k n
-        → (r ≡ fillAnswer (outcome (tableUnder chains s) (sourcesOf s))) × (u ≡ wiped w) × (d ≡ sourcesAfter (outcome (tableUnder chains s) (sourcesOf s)) c)
-        → Left told r w u c d
-    unfolding admittedFill
-    table-told {k} {n} r u d h x =
-        let o : told ≡ outcome (tableUnder chains s) (sourcesOf s) = fitting ∙ ap (λ (z : Admission). admittedFill z (outcome (tableUnder chains s) (sourcesOf s))) h in (
-          x .0 ∙ ap fillAnswer (sym o),
-          x .1 ∙ sym (outcome-wiped (tableUnder chains s) (sourcesOf s) w) ∙ ap (λ (z : Outcome). workAfter z w) (sym o),
-          x .2 ∙ ap (λ (z : Outcome). sourcesAfter z c) (sym o),
-        )
+    pub filled-outcome : (r : FillAnswer) (u d : List ℕ) → (r ≡ fillAnswer outcomeRows) × (u ≡ wiped w) × (d ≡ sourcesAfter outcomeRows c) → Filled told r w u c d
+    filled-outcome r u d j = left-same fillAnswer workAfter sourcesAfter told-is (j .0, j .1 ∙ sym (outcome-wiped _ _ w), j .2)

@@ -1,10 +1,10 @@
 -- What the reader's calls come to: direct cases by their number, a chain, and the answer from the bytes of a table. Assumes nothing.
 use mathlib.Core.Path.{_≡_, refl, sym, ap, _∙_}
 use mathlib.Core.Bool.{Bool, true, false, not, cond}
-use mathlib.Core.List.{List}
+use mathlib.Core.List.{List, _++_}
 use Prim.Native.Nat.{ℕ, _+_, _-_, _*_, _/_, _%_, _≤_, _<_}
 use native.Mathlib.Omega.{arith}
-use lib.ListN.{length, getD}
+use lib.ListN.{length, getD, take}
 use lib.Dec.{ltb, leb, eqb}
 use borrow.Author.Tests.{ltb-true, ne-eqb, not-false}
 use Rattle.finite.specs.Logic.{_and_, _or_, split, and-false-left, and-false-right, not-out, or-off}
@@ -19,21 +19,18 @@ use Rattle.model.specs.declared.AcceptAnswer.{AcceptAnswer}
 use Rattle.model.specs.declared.AcceptAnswer.the-variants as accept
 use Rattle.model.specs.Limits.{ROWS, CHAIN, CASE, CLASS-SETS}
 use Rattle.model.specs.Row.{releases, acquires}
-use Rattle.model.specs.Table.{modeOf, Table, rowsAt, rowBytes, placesOf, rowOf, decode, tableUnder, tableOf}
+use Rattle.model.specs.Table.{Table, ROW-BYTES, rowBytes, placesOf, modeOf, rowOf, decode, tableUnder, tableOf}
 use Rattle.model.specs.Moment.{moment, momentIn, orderedRows, programOrder}
 use Rattle.model.specs.Synchronizes.{synchronizes}
 use Rattle.model.specs.Happens.{holdingOf, concernsOf, holding, concerns, bySync, toRelease, fromAcquire, bySystem, direct}
-use Rattle.model.specs.Refusal.{admission}
-use Rattle.model.specs.AdmissionLaws.{Sound, sound-admitted, admitted-sound, rows-fit}
-use Rattle.model.specs.Reason.{stands, stepHolds, broken, chainHolds, accepts, twoMoments, judged, admittedReader, judge, acceptAnswer}
+use Rattle.model.specs.Reason.{stands, stepHolds, broken, chainHolds, accepts, twoMoments, judged, acceptAnswer}
+use Rattle.pieces.specs.declared.Refusal.{Refusal}
+use Rattle.pieces.specs.Pieces.{areaOf, joined, admissionBoth, judgeBoth}
+use Rattle.pieces.specs.Entry.{refusalOf, opened-refused, opened-admitted, table-both, table-false}
+use Rattle.pieces.specs.Answers.{not-judged, judge-both}
 use Rattle.sequence.specs.Forms.{and-on, and-on-right}
 
 -- ---- definitions
-
--- the answer of a refusal
-unfoldable pub refusedAnswer : Admission → AcceptAnswer
-refusedAnswer (Refused n i) = accept.Refused n i
-refusedAnswer (Admitted a n) = accept.NotAccepted
 
 -- the steps lead from moment m to moment k, and each holds for the class set s
 unfoldable pub leadsTo : Table → ℕ → ℕ → ℕ → List ℕ → Bool
@@ -152,52 +149,34 @@ module _ (b : List ℕ) (p : List (List ℕ)) (mode : Mode) (n m k : ℕ) (r : R
     unfolding accepts chainHolds leadsTo
     chain-on d f g = rw h (g ∙ sym (ap (λ (z : Bool). z and not (anyBelow (length steps) (broken (decode b p mode n) s m steps))) (and-on _ _ (not-false fits f))))
 
--- ---- laws: a table that is admitted
+-- ---- laws: the rows of an admitted table
 
-module _ {s : List ℕ} (h : Sound true s) (b : List ℕ) (p : List (List ℕ)) (mode : Mode) (n : ℕ) (rows : b ≡ rowBytes s) (places : p ≡ placesOf s) (modes : mode ≡ modeOf false s) (all : n ≡ rowsAt s) where
-  table-is : decode b p mode n ≡ tableOf s
-  unfolding tableOf tableUnder
-  table-is = rw (rows, places, modes, all) refl
+module _ (b : List ℕ) (p : List (List ℕ)) (mode : Mode) (n m k : ℕ) (r : Reason) (steps : List ℕ) (x y : Bool) (ex : x ≡ moment (decode b p mode n) m) (ey : y ≡ moment (decode b p mode n) k) where
+  abbrev two : Bool
+  two = x and y and not (eqb m k)
 
-  pub few : n ≤ ROWS
-  few = rw all (rows-fit h)
+  pub judged-absent : not two ≡ true → accept.Refused 12 0 ≡ acceptAnswer (judged (decode b p mode n) m k r steps)
+  unfolding judged twoMoments acceptAnswer
+  judged-absent f = rw (← ex, ← ey, not-out two f) refl
 
-  module _ (m k : ℕ) (r : Reason) (steps : List ℕ) (x y : Bool) (ex : x ≡ moment (decode b p mode n) m) (ey : y ≡ moment (decode b p mode n) k) where
-    abbrev two : Bool
-    two = x and y and not (eqb m k)
-
-    pub judged-absent : not two ≡ true → accept.Refused 12 0 ≡ acceptAnswer (judged (tableOf s) m k r steps)
+  module _ (f : not two ≡ false) (d : Bool) (e : d ≡ accepts (decode b p mode n) m k r steps) where
+    pub judged-accepted : d ≡ true → accept.Accepted ≡ acceptAnswer (judged (decode b p mode n) m k r steps)
     unfolding judged twoMoments acceptAnswer
-    judged-absent f = rw (← table-is, ← ex, ← ey, not-out two f) refl
+    judged-accepted g = rw (← ex, ← ey, not-false two f, ← e, g) refl
 
-    module _ (f : not two ≡ false) (d : Bool) (e : d ≡ accepts (decode b p mode n) m k r steps) where
-      pub judged-accepted : d ≡ true → accept.Accepted ≡ acceptAnswer (judged (tableOf s) m k r steps)
-      unfolding judged twoMoments acceptAnswer
-      judged-accepted g = rw (← table-is, ← ex, ← ey, not-false two f, ← e, g) refl
+    pub judged-other : d ≡ false → accept.NotAccepted ≡ acceptAnswer (judged (decode b p mode n) m k r steps)
+    unfolding judged twoMoments acceptAnswer
+    judged-other g = rw (← ex, ← ey, not-false two f, ← e, g) refl
 
-      pub judged-other : d ≡ false → accept.NotAccepted ≡ acceptAnswer (judged (tableOf s) m k r steps)
-      unfolding judged twoMoments acceptAnswer
-      judged-other g = rw (← table-is, ← ex, ← ey, not-false two f, ← e, g) refl
+-- ---- laws: the entry point
 
--- ---- laws: any bytes
+module _ (f s : List ℕ) (a : Admission) (e : a ≡ admissionBoth true f s) (m k : ℕ) (r : Reason) (steps : List ℕ) where
+  pub both-refused : {c i : ℕ} (x : Refusal) → a ≡ Refused c i → x ≡ refusalOf a → accept.Refused (x .number) (x .row) ≡ acceptAnswer (judgeBoth f s m k r steps)
+  unfolding acceptAnswer
+  both-refused x h q = sym (ap acceptAnswer (judge-both m k r steps f s ∙ opened-refused not-judged _ a _ e x h q))
 
--- what an admission says of the number of rows
-abbrev rows-of : Admission → ℕ
-rows-of (Admitted a n) = n
-rows-of (Refused n i) = 0
-
-module _ (s : List ℕ) (a : Admission) (e : a ≡ admission true s) where
-  pub admitted-rows : {c n : ℕ} → a ≡ Admitted c n → (n ≡ rowsAt s) × Sound true s
-  admitted-rows {c} {n} h =
-      let sound : Sound true s = admitted-sound true s (sym e ∙ h) in
-      (ap rows-of (sym h ∙ e ∙ sound-admitted true s sound), sound)
-
-  module _ (m k : ℕ) (r : Reason) (steps : List ℕ) where
-    pub table-refused : {c i : ℕ} (x : AcceptAnswer) → a ≡ Refused c i → x ≡ refusedAnswer a → x ≡ acceptAnswer (judge s m k r steps)
-    unfolding refusedAnswer judge admittedReader acceptAnswer
-    table-refused x h g = g ∙ rw (← e, h) refl
-
-    pub table-judged : {c n : ℕ} (x : AcceptAnswer) → a ≡ Admitted c n → x ≡ acceptAnswer (judged (tableOf s) m k r steps)
-        → x ≡ acceptAnswer (judge s m k r steps)
-    unfolding judge admittedReader
-    table-judged x h g = g ∙ rw (← e, h) refl
+  pub both-judged : {g n : ℕ} (h : a ≡ Admitted g n) (all : List ℕ) (p : List (List ℕ)) (mode : Mode) → all ≡ areaOf (rowBytes f ++ s) → p ≡ placesOf f → mode ≡ modeOf false f
+      → (x : AcceptAnswer) → x ≡ acceptAnswer (judged (decode (take (n * ROW-BYTES) all) p mode n) m k r steps) → x ≡ acceptAnswer (judgeBoth f s m k r steps)
+  both-judged h all p mode copy places modes x j =
+      let t = table-both true f s a e h false all p mode copy places modes ∙ table-false (joined f s) in
+      j ∙ ap acceptAnswer (ap (λ (y : Table). judged y m k r steps) t ∙ sym (judge-both m k r steps f s ∙ opened-admitted not-judged _ a _ e h))

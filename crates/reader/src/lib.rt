@@ -4,12 +4,13 @@ ghost use mathlib.Core.Bool.{true};
 ghost use mathlib.Core.List.{List};
 ghost use Prim.Native.Nat.{ℕ, _*_, _≤_, _<_};
 ghost use Rattle.model.specs.Limits.{ROWS};
-ghost use Rattle.model.specs.Table.{decode, rowsAt, tableOf};
+ghost use Rattle.model.specs.Table.{decode};
 ghost use Rattle.model.specs.Moment.{moment};
 ghost use Rattle.model.specs.Happens.{bySystem, direct};
-ghost use Rattle.model.specs.AdmissionLaws.{Sound};
 ghost use Rattle.model.specs.Reason.{stepHolds, accepts, judged, judge, acceptAnswer};
-ghost use Rattle.reader.specs.Judging.{leadsTo, refusedAnswer};
+ghost use Rattle.pieces.specs.Pieces.{judgeBoth};
+ghost use Rattle.pieces.specs.Entry.{RowsOf};
+ghost use Rattle.reader.specs.Judging.{leadsTo};
 use model::AcceptAnswer;
 use model::Admission;
 use model::Mode;
@@ -121,14 +122,20 @@ fn is_accepted(
     is_chain(rows, p, mode, n, s, m, k, steps)
 }
 
-// The answer about a table of n rows that is admitted.
-fn judge_rows(table: &[u8], n: usize, m: u16, k: u16, reason: Reason, steps: &[u16]) -> AcceptAnswer
-    requires { ⌜ (n ≡ rowsAt (now table)) × Sound true (now table) ⌝ }
-    ensures { λ r. ⌜ r ≡ acceptAnswer (judged (tableOf (now (table .entry))) m k reason (now (steps .entry))) ⌝ }
+// The answer about the n rows of a table that is admitted.
+fn judge_rows(
+    rows: &[u8],
+    p: Places,
+    mode: Mode,
+    n: usize,
+    m: u16,
+    k: u16,
+    reason: Reason,
+    steps: &[u16],
+) -> AcceptAnswer
+    requires { ⌜ RowsOf true (now rows) p mode n ⌝ }
+    ensures { λ r. ⌜ r ≡ acceptAnswer (judged (decode (now (rows .entry)) p mode n) m k reason (now (steps .entry))) ⌝ }
 {
-    let mode = rows::scopes::read_mode(table, false);
-    let rows = bytes::row_bytes(table);
-    let p = rows::scopes::read_places(table);
     if !(is_there(rows, p, mode, n, m) & is_there(rows, p, mode, n, k) & !(m == k)) {
         return AcceptAnswer::Refused { number: 12, row: 0 };
     }
@@ -138,24 +145,41 @@ fn judge_rows(table: &[u8], n: usize, m: u16, k: u16, reason: Reason, steps: &[u
     AcceptAnswer::NotAccepted
 }
 
-// The answer of a refusal; an admission is not handed to it.
-fn refused(a: Admission) -> AcceptAnswer
-    ensures { λ r. ⌜ r ≡ refusedAnswer a ⌝ }
+// Judges a derivation that moment m happens before moment k in a table in two pieces, of any bytes and any two numbers.
+// Ruled out: one that accepts a chain whose steps hold for different class sets; one that accepts an empty chain.
+pub fn accepts_both(
+    first: &[u8],
+    second: &[u8],
+    m: u16,
+    k: u16,
+    reason: Reason,
+    steps: &[u16],
+) -> AcceptAnswer
+    ensures { λ r. ⌜ r ≡ acceptAnswer (judgeBoth (now (first .entry)) (now (second .entry)) m k reason (now (steps .entry))) ⌝ }
 {
-    match a {
-        Admission::Refused { number, row } => AcceptAnswer::Refused { number, row },
-        Admission::Admitted { agents: _, rows: _ } => AcceptAnswer::NotAccepted,
-    }
+    let a = pieces::admit_both(first, second, true);
+    let Admission::Admitted {
+        agents: _,
+        rows: count,
+    } = a
+    else {
+        let x = pieces::refusal_of(a);
+        return AcceptAnswer::Refused {
+            number: x.number,
+            row: x.row,
+        };
+    };
+    let n = count as usize;
+    let p = rows::scopes::read_places(first);
+    let mode = rows::scopes::read_mode(first, false);
+    let all = pieces::join_rows(first, second);
+    let end = n * bytes::ROW_BYTES;
+    judge_rows(&all[..end], p, mode, n, m, k, reason, steps)
 }
 
-// Judges a derivation that one moment happens before another, of any bytes and any two numbers.
-// Ruled out: one that accepts a chain whose steps hold for different class sets; one that accepts an empty chain.
+// Judges a derivation that the first moment happens before the second in a table in one piece.
 pub fn accepts(table: &[u8], first: u16, second: u16, reason: Reason, steps: &[u16]) -> AcceptAnswer
     ensures { λ r. ⌜ r ≡ acceptAnswer (judge (now (table .entry)) first second reason (now (steps .entry))) ⌝ }
 {
-    let a = table::admit(table, true);
-    let Admission::Admitted { agents: _, rows: n } = a else {
-        return refused(a);
-    };
-    judge_rows(table, n as usize, first, second, reason, steps)
+    accepts_both(table, &table[..0], first, second, reason, steps)
 }

@@ -1,4 +1,4 @@
-// Reasons: a derivation that one moment of a table happens before another, for a reader to accept, or that it does not.
+// Reasons: a derivation that one moment of a table, in one or two pieces, happens before another, for a reader to accept, or that it does not.
 ghost use mathlib.Core.Path.{_≡_};
 ghost use mathlib.Core.Bool.{true};
 ghost use mathlib.Core.List.{List};
@@ -7,11 +7,11 @@ ghost use lib.ListN.{length};
 ghost use Rattle.bits.specs.Within.{Within};
 ghost use Rattle.model.specs.declared.Mode.{Mode};
 ghost use Rattle.model.specs.Limits.{ROWS, WORK, CHAIN};
-ghost use Rattle.model.specs.Table.{rowsAt, decode, tableOf};
+ghost use Rattle.model.specs.Table.{decode};
 ghost use Rattle.model.specs.Reason.{twoMoments, ours, derivedOf, derive, deriveAnswer, chainAfter, workAfter};
-ghost use Rattle.model.specs.AdmissionLaws.{Sound};
 ghost use Rattle.area.specs.Regions.{MUTUAL, CHAINS-END};
-ghost use Rattle.reasons.specs.Whole.{refusedAnswer};
+ghost use Rattle.pieces.specs.Pieces.{deriveBoth};
+ghost use Rattle.pieces.specs.Entry.{RowsOf};
 use model::Admission;
 use model::DeriveAnswer;
 use model::Mode;
@@ -19,19 +19,6 @@ use model::Places;
 
 pub mod chains; // the class set of a chain, and its steps as numbers
 pub mod layers; // the steps of a class set, and the layers of chains of them
-
-// The answer of a refusal; an admission is not handed to it.
-fn refused(a: Admission) -> DeriveAnswer
-    ensures { λ r. ⌜ r ≡ refusedAnswer a ⌝ }
-{
-    match a {
-        Admission::Refused { number, row } => DeriveAnswer::Refused {
-            number: number,
-            row: row,
-        },
-        Admission::Admitted { agents: _, rows: _ } => DeriveAnswer::NotBefore,
-    }
-}
 
 // Refusal 12: whether each number names a moment of the table, and they are two.
 fn two_moments(rows: &[u8], n: usize, first: u16, second: u16) -> bool
@@ -76,26 +63,25 @@ fn derive_moments(
     }
 }
 
-// The derivation in a table of n rows that is admitted; unless it is refusal 12, the work area's words end as zeros.
-fn derive_table(
-    table: &[u8],
+// The derivation in the n rows of a table that is admitted; unless it is refusal 12, the work area's words end as zeros.
+fn derive_rows(
+    rows: &[u8],
+    p: Places,
+    mode: Mode,
     n: usize,
     first: u16,
     second: u16,
     work: &mut [u64],
     chain: &mut [u16],
 ) -> DeriveAnswer
-    requires { ⌜ (WORK ≤ length (now work)) × (CHAIN ≤ length (now chain)) × (n ≡ rowsAt (now table)) × Sound true (now table) ⌝ }
-    ensures { λ r. ⌜ (r ≡ deriveAnswer (derivedOf (tableOf (now (table .entry))) first second))
-        × (now (work .exit) ≡ workAfter (derivedOf (tableOf (now (table .entry))) first second) (now (work .entry)))
-        × (now (chain .exit) ≡ chainAfter (derivedOf (tableOf (now (table .entry))) first second) (now (chain .entry))) ⌝ }
+    requires { ⌜ (WORK ≤ length (now work)) × (CHAIN ≤ length (now chain)) × RowsOf true (now rows) p mode n ⌝ }
+    ensures { λ r. ⌜ (r ≡ deriveAnswer (derivedOf (decode (now (rows .entry)) p mode n) first second))
+        × (now (work .exit) ≡ workAfter (derivedOf (decode (now (rows .entry)) p mode n) first second) (now (work .entry)))
+        × (now (chain .exit) ≡ chainAfter (derivedOf (decode (now (rows .entry)) p mode n) first second) (now (chain .entry))) ⌝ }
 {
-    let mode = rows::scopes::read_mode(table, false);
-    let rows = rows::bytes::row_bytes(table);
     if !two_moments(rows, n, first, second) {
         return DeriveAnswer::Refused { number: 12, row: 0 };
     }
-    let p = rows::scopes::read_places(table);
     let r = derive_moments(
         rows,
         p,
@@ -110,9 +96,42 @@ fn derive_table(
     r
 }
 
-// Derives that the first moment happens before the second, whatever bytes the table has and whatever the numbers are: a refusal, the
-// word program order, a class set with the steps of a chain in the lent buffer, or that it doesn't.
+// Derives that moment m happens before moment k in a table in two pieces, whatever bytes they have and whatever the numbers are: a refusal,
+// the word program order, a class set with the steps of a chain in the lent buffer, or that it doesn't.
 // Ruled out: one that answers "not before" to every table; one that puts zeros after a chain's last step in the buffer.
+pub fn derive_both(
+    first: &[u8],
+    second: &[u8],
+    m: u16,
+    k: u16,
+    work: &mut [u64],
+    chain: &mut [u16],
+) -> DeriveAnswer
+    ensures { λ r. ⌜ (r ≡ deriveAnswer (deriveBoth (now (first .entry)) (now (second .entry)) m k (length (now (work .entry))) (length (now (chain .entry)))))
+        × (now (work .exit) ≡ workAfter (deriveBoth (now (first .entry)) (now (second .entry)) m k (length (now (work .entry))) (length (now (chain .entry)))) (now (work .entry)))
+        × (now (chain .exit) ≡ chainAfter (deriveBoth (now (first .entry)) (now (second .entry)) m k (length (now (work .entry))) (length (now (chain .entry)))) (now (chain .entry))) ⌝ }
+{
+    let a = pieces::open_both(first, second, true, model::CHAIN, work.len(), chain.len());
+    let Admission::Admitted {
+        agents: _,
+        rows: count,
+    } = a
+    else {
+        let x = pieces::refusal_of(a);
+        return DeriveAnswer::Refused {
+            number: x.number,
+            row: x.row,
+        };
+    };
+    let n = count as usize;
+    let p = rows::scopes::read_places(first);
+    let mode = rows::scopes::read_mode(first, false);
+    let all = pieces::join_rows(first, second);
+    let end = n * rows::bytes::ROW_BYTES;
+    derive_rows(&all[..end], p, mode, n, m, k, work, chain)
+}
+
+// Derives that the first moment happens before the second in a table in one piece.
 pub fn derive(
     table: &[u8],
     first: u16,
@@ -124,15 +143,5 @@ pub fn derive(
         × (now (work .exit) ≡ workAfter (derive (now (table .entry)) first second (length (now (work .entry))) (length (now (chain .entry)))) (now (work .entry)))
         × (now (chain .exit) ≡ chainAfter (derive (now (table .entry)) first second (length (now (work .entry))) (length (now (chain .entry)))) (now (chain .entry))) ⌝ }
 {
-    if work.len() < model::WORK {
-        return DeriveAnswer::Refused { number: 11, row: 0 };
-    }
-    if chain.len() < model::CHAIN {
-        return DeriveAnswer::Refused { number: 11, row: 0 };
-    }
-    let a = table::admit(table, true);
-    let Admission::Admitted { agents: _, rows: n } = a else {
-        return refused(a);
-    };
-    derive_table(table, n as usize, first, second, work, chain)
+    derive_both(table, &table[..0], first, second, work, chain)
 }

@@ -1,86 +1,82 @@
--- What the calls of a report come to, from the bytes of a table: its answer goes with a check's, and both buffers end as a check leaves
--- them. Assumes nothing.
+-- What the calls of a report come to, from the rows of an admitted table and from the bytes of two pieces: its answer goes with a check's, and
+-- both buffers end as a check leaves them. Assumes nothing.
 use mathlib.Core.Path.{_≡_, refl, sym, ap, ap₂, _∙_}
 use mathlib.Core.Bool.{Bool, false}
-use mathlib.Core.List.{List}
-use Prim.Native.Nat.{ℕ, _≤_, _<_}
-use lib.ListN.{length}
+use mathlib.Core.List.{List, [], _++_}
+use Prim.Native.Nat.{ℕ, _*_, _≤_, _<_}
+use lib.ListN.{length, take}
 use Rattle.bits.specs.Bit.{zeros}
 use Rattle.bits.specs.Within.{Within}
 use Rattle.model.specs.declared.Mode.{Mode}
 use Rattle.model.specs.declared.Admission.{Admission}
 use Rattle.model.specs.declared.Admission.the-variants.{Admitted, Refused}
 use Rattle.model.specs.declared.CheckAnswer.{CheckAnswer}
-use Rattle.model.specs.declared.CheckAnswer.the-variants as said
 use Rattle.model.specs.declared.ReportAnswer.{ReportAnswer}
 use Rattle.model.specs.declared.ReportAnswer.the-variants as told
 use Rattle.model.specs.Limits.{WORK, CYCLE}
-use Rattle.model.specs.Table.{modeOf, Table, rowsAt, rowBytes, placesOf, sourceOf, decode, tableUnder, sourcesOf}
-use Rattle.model.specs.Refusal.{admission}
-use Rattle.model.specs.Words.{WellFormed}
-use Rattle.model.specs.Check.{raceFree, verdict, admitted, check, checkAnswer, cycleAfter, workAfter, wiped}
+use Rattle.model.specs.Table.{Table, ROW-BYTES, rowBytes, placesOf, modeOf, sourceOf, decode, tableUnder, sourcesOf}
+use Rattle.model.specs.Check.{verdict, check, checkAnswer, cycleAfter, workAfter, wiped}
 use Rattle.model.specs.Report.{reportAnswer, report}
-use Rattle.model.specs.AdmissionLaws.{admitted-sound}
 use Rattle.area.specs.Regions.{MUTUAL, LOCATED-END, EDGE, LAYERS-END}
 use Rattle.axioms.specs.Sources.{sourceIn}
 use Rattle.choice.specs.Sources.{Listed}
-use Rattle.verdict.specs.Whole.{Said, table-is, judged, short-work, short-cycle, said-refused, said-verdict}
-
--- ---- definitions
-
-unfoldable pub refusedAnswer : Admission → ReportAnswer
-refusedAnswer (Refused n i) = told.Refused n i
-refusedAnswer (Admitted a n) = told.NoPairs
-
--- what a report says, and what its buffers hold
-abbrev pub Reported : Bool → List ℕ → ReportAnswer → List ℕ → List ℕ → List ℕ → List ℕ → Type 0
-Reported chains s r w x c d =
-    (r ≡ report chains s (length w) (length c)) × (x ≡ workAfter (check chains s (length w) (length c)) w) × (d ≡ cycleAfter (check chains s (length w) (length c)) c)
+use Rattle.verdict.specs.Whole.{judged, said-refused, said-verdict, verdictRows}
+use Rattle.pieces.specs.declared.Refusal.{Refusal}
+use Rattle.pieces.specs.Pieces.{areaOf, joined, checkBoth, reportBoth}
+use Rattle.pieces.specs.Entry.{refusalOf, doorBoth, opened-refused, opened-admitted, door-admits, table-both, sources-both}
+use Rattle.pieces.specs.Answers.{report-both, none-check, none-report}
 
 -- ---- laws: a check's answer as a report's
 
 pub answered : (a b : CheckAnswer) (t : Table) {r : ReportAnswer} → a ≡ b → r ≡ reportAnswer b t → r ≡ reportAnswer a t
 answered a b t e f = f ∙ ap (λ (c : CheckAnswer). reportAnswer c t) (sym e)
 
--- ---- laws: the entry point
-
--- from what a check says
-reported : (chains : Bool) (s w x c d : List ℕ) (a : CheckAnswer) → Said (check chains s (length w) (length c)) a w x c d → Reported chains s (reportAnswer a (tableUnder chains s)) w x c d
-unfolding report
-reported chains s w x c d a h = (ap (λ (b : CheckAnswer). reportAnswer b (tableUnder chains s)) (h .0), h .1, h .2)
-
-pub work-short : (chains : Bool) (s w c : List ℕ) → length w < WORK → Reported chains s (told.Refused 11 0) w w c c
-unfolding reportAnswer
-work-short chains s w c l = reported chains s w w c c (said.Refused 11 0) (short-work chains s w c l)
-
-pub cycle-short : (chains : Bool) (s w c : List ℕ) → length c < CYCLE → Reported chains s (told.Refused 11 0) w w c c
-unfolding reportAnswer
-cycle-short chains s w c l = reported chains s w w c c (said.Refused 11 0) (short-cycle chains s w c l)
-
-module _ (chains : Bool) (s w c : List ℕ) (room : WORK ≤ length w) (long : CYCLE ≤ length c) (a : Admission) (e : a ≡ admission false s) where
-  pub reported-refused : (n i : ℕ) (r : ReportAnswer) → a ≡ Refused n i → r ≡ refusedAnswer a → Reported chains s r w w c c
-  unfolding refusedAnswer reportAnswer checkAnswer admitted
-  reported-refused n i r f g =
-      let h : r ≡ told.Refused n i = g ∙ rw f refl in
-      let k : said.Refused n i ≡ checkAnswer (admitted a raceFree) = rw f refl in
-      let z = reported chains s w w c c (said.Refused n i) (said-refused chains s w c room long a e n i (said.Refused n i) f k) in
-      (h ∙ z .0, z .1, z .2)
-
-  pub reported-table : (g n : ℕ) (r : ReportAnswer) (x d : List ℕ) → a ≡ Admitted g n
-      → (r ≡ reportAnswer (checkAnswer (verdict (tableUnder chains s) (sourcesOf s))) (tableUnder chains s)) × (x ≡ wiped w) × (d ≡ cycleAfter (verdict (tableUnder chains s) (sourcesOf s)) c)
-      → Reported chains s r w x c d
-  reported-table g n r x d f h =
-      let z = reported chains s w x c d _ (said-verdict chains s w c room long a e g n _ x d f refl (h .1) (h .2)) in
-      (h .0 ∙ z .0, z .1, z .2)
-
--- ---- laws: an admitted table
+-- ---- laws: the rows of an admitted table
 
 -- located, judged, answered, wiped
-pub table-reported : (chains : Bool) (s b : List ℕ) (p : List (List ℕ)) (mode : Mode) (n : ℕ) (src w v u z c d : List ℕ) (a : CheckAnswer) (r : ReportAnswer) → WellFormed s → b ≡ rowBytes s → p ≡ placesOf s → mode ≡ modeOf chains s → n ≡ rowsAt s
+pub rows-reported : (b : List ℕ) (p : List (List ℕ)) (mode : Mode) (n : ℕ) (src w v u z c d : List ℕ) (a : CheckAnswer) (r : ReportAnswer)
     → Listed (sourceOf b) n src → WORK ≤ length w → Within MUTUAL LOCATED-END w v
     → (a ≡ checkAnswer (verdict (decode b p mode n) (sourceIn src))) × (d ≡ cycleAfter (verdict (decode b p mode n) (sourceIn src)) c) × Within EDGE LAYERS-END v u
     → r ≡ reportAnswer a (decode b p mode n) → z ≡ zeros u 0 WORK
-    → (r ≡ reportAnswer (checkAnswer (verdict (tableUnder chains s) (sourcesOf s))) (tableUnder chains s)) × (z ≡ wiped w) × (d ≡ cycleAfter (verdict (tableUnder chains s) (sourcesOf s)) c)
-table-reported chains s b p mode n src w v u z c d a r well rows places modes all list room f j q e =
-    let k = judged chains s b p _ n src w v u z c d a well rows places modes all list room f j e in
-    (q ∙ ap₂ reportAnswer (k .0) (table-is (admitted-sound false s well) chains b p _ n rows places modes all), k .1, k .2)
+    → (r ≡ reportAnswer (checkAnswer (verdict (decode b p mode n) (sourceOf b))) (decode b p mode n)) × (z ≡ wiped w) × (d ≡ cycleAfter (verdict (decode b p mode n) (sourceOf b)) c)
+rows-reported b p mode n src w v u z c d a r list room f j q e =
+    let k = judged b p mode n src w v u z c d a list room f j e in
+    (q ∙ ap (λ (y : CheckAnswer). reportAnswer y (decode b p mode n)) (k .0), k .1, k .2)
+
+-- ---- laws: the entry point
+
+module _ (chains : Bool) (f s w c : List ℕ) where
+  -- what a report says, and what its buffers hold
+  abbrev pub Reported : ReportAnswer → List ℕ → List ℕ → Type 0
+  Reported r x d =
+      (r ≡ reportBoth chains f s (length w) (length c)) × (x ≡ workAfter (checkBoth chains f s (length w) (length c)) w)
+      × (d ≡ cycleAfter (checkBoth chains f s (length w) (length c)) c)
+
+  module _ (a : Admission) (e : a ≡ doorBoth CYCLE false f s (length w) (length c)) where
+    pub reported-refused : {n i : ℕ} (x : Refusal) → a ≡ Refused n i → x ≡ refusalOf a → Reported (told.Refused (x .number) (x .row)) w c
+    reported-refused x h q =
+        let k = said-refused chains f s w c a e x h q in
+        (sym (report-both chains (length w) (length c) f s ∙ opened-refused told.Refused _ a _ e x h q), k .1, k .2)
+
+    module _ {g n : ℕ} (h : a ≡ Admitted g n) (all : List ℕ) (p : List (List ℕ)) (mode : Mode) (copy : all ≡ areaOf (rowBytes f ++ s)) (places : p ≡ placesOf f) (modes : mode ≡ modeOf chains f) where
+      abbrev rows : List ℕ
+      rows = take (n * ROW-BYTES) all
+
+      pub reported-rows : (r : ReportAnswer) (x d : List ℕ)
+          → (r ≡ reportAnswer (checkAnswer (verdict (decode rows p mode n) (sourceOf rows))) (decode rows p mode n)) × (x ≡ wiped w) × (d ≡ cycleAfter (verdict (decode rows p mode n) (sourceOf rows)) c)
+          → Reported r x d
+      reported-rows r x d j =
+          let k = door-admits CYCLE false f s (length w) (length c) a e h in
+          let t = table-both false f s a (k .2) h chains all p mode copy places modes in
+          let o = sources-both false f s a (k .2) h chains all p mode copy places modes in
+          let z = said-verdict chains f s w c a e h all p mode copy places modes _ x d (refl, j .1, j .2) in (
+            j .0 ∙ ap₂ (λ (y : Table) (source : ℕ → ℕ). reportAnswer (checkAnswer (verdict y source)) y) t o
+                ∙ sym (report-both chains (length w) (length c) f s ∙ opened-admitted told.Refused _ a _ e h),
+            z .1,
+            z .2,
+          )
+
+-- one piece is two of which the second is empty
+pub reported-one : (chains : Bool) (s w c : List ℕ) (r : ReportAnswer) (x d : List ℕ) → Reported chains s [] w c r x d
+    → (r ≡ report chains s (length w) (length c)) × (x ≡ workAfter (check chains s (length w) (length c)) w) × (d ≡ cycleAfter (check chains s (length w) (length c)) c)
+reported-one chains s w c r x d h = rw (← none-report chains (length w) (length c) s, ← none-check chains (length w) (length c) s) h

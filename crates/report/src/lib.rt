@@ -1,14 +1,15 @@
-// The weekly report of a table: any bytes, and buffers of any length.
+// The weekly report of a table in one or two pieces: any bytes, and buffers of any length.
 ghost use mathlib.Core.Path.{_≡_};
+ghost use mathlib.Core.Bool.{false};
 ghost use Prim.Native.Nat.{_≤_, _<_};
 ghost use lib.ListN.{length};
 ghost use Rattle.model.specs.Limits.{WORK, CYCLE};
-ghost use Rattle.model.specs.Table.{rowsAt, decode, tableUnder, sourcesOf};
-ghost use Rattle.model.specs.Words.{WellFormed};
+ghost use Rattle.model.specs.Table.{decode, sourceOf};
 ghost use Rattle.model.specs.Check.{verdict, check, checkAnswer, cycleAfter, workAfter, wiped};
 ghost use Rattle.model.specs.Report.{reportAnswer, report};
 ghost use Rattle.race.specs.Bytes.{Known};
-ghost use Rattle.report.specs.Whole.{refusedAnswer};
+ghost use Rattle.pieces.specs.Pieces.{checkBoth, reportBoth};
+ghost use Rattle.pieces.specs.Entry.{RowsOf};
 use model::Admission;
 use model::CheckAnswer;
 use model::Mode;
@@ -17,19 +18,6 @@ use model::ReportAnswer;
 
 pub mod pairs; // what becomes of one pair of rows
 pub mod counts; // the four counts, and the share
-
-// The answer of a refusal; an admission is not handed to it.
-fn refused(a: Admission) -> ReportAnswer
-    ensures { λ r. ⌜ r ≡ refusedAnswer a ⌝ }
-{
-    match a {
-        Admission::Refused { number, row } => ReportAnswer::Refused {
-            number: number,
-            row: row,
-        },
-        Admission::Admitted { agents: _, rows: _ } => ReportAnswer::NoPairs,
-    }
-}
 
 // A check's answer c as a report's: itself where the table is inconsistent, else the counts.
 fn answer(c: CheckAnswer, rows: &[u8], p: Places, mode: Mode, n: usize, w: &[u64]) -> ReportAnswer
@@ -60,22 +48,20 @@ fn answer(c: CheckAnswer, rows: &[u8], p: Places, mode: Mode, n: usize, w: &[u64
     }
 }
 
-// The report of a table of n rows that is admitted.
-fn report_table(
-    table: &[u8],
-    chains: bool,
+// The report of the n rows of a table that is admitted.
+fn report_rows(
+    rows: &[u8],
+    p: Places,
+    mode: Mode,
     n: usize,
     work: &mut [u64],
     cycle: &mut [u16],
 ) -> ReportAnswer
-    requires { ⌜ (WORK ≤ length (now work)) × (CYCLE ≤ length (now cycle)) × (n ≡ rowsAt (now table)) × WellFormed (now table) ⌝ }
-    ensures { λ r. ⌜ (r ≡ reportAnswer (checkAnswer (verdict (tableUnder chains (now (table .entry))) (sourcesOf (now (table .entry))))) (tableUnder chains (now (table .entry))))
+    requires { ⌜ (WORK ≤ length (now work)) × (CYCLE ≤ length (now cycle)) × RowsOf false (now rows) p mode n ⌝ }
+    ensures { λ r. ⌜ (r ≡ reportAnswer (checkAnswer (verdict (decode (now (rows .entry)) p mode n) (sourceOf (now (rows .entry))))) (decode (now (rows .entry)) p mode n))
         × (now (work .exit) ≡ wiped (now (work .entry)))
-        × (now (cycle .exit) ≡ cycleAfter (verdict (tableUnder chains (now (table .entry))) (sourcesOf (now (table .entry)))) (now (cycle .entry))) ⌝ }
+        × (now (cycle .exit) ≡ cycleAfter (verdict (decode (now (rows .entry)) p mode n) (sourceOf (now (rows .entry)))) (now (cycle .entry))) ⌝ }
 {
-    let mode = rows::scopes::read_mode(table, chains);
-    let rows = rows::bytes::row_bytes(table);
-    let p = rows::scopes::read_places(table);
     let src = choice::sources::read_sources(rows, n);
     verdict::judge::locate(rows, p, mode, n, work);
     let c = verdict::judge::judge(rows, p, mode, n, &src, work, cycle);
@@ -84,23 +70,45 @@ fn report_table(
     r
 }
 
-// Reports on one recorded run, of a device with chains or without. A table that a check refuses or finds inconsistent gets the check's answer; else the pairs that
-// conflict are counted. Both buffers are left as a check leaves them.
+// Reports on one recorded run in two pieces, of a device with chains or without. A table that a check refuses or finds inconsistent gets the
+// check's answer; else the pairs that conflict are counted. Both buffers are left as a check leaves them.
 // Ruled out: one that reports a share of 0.0 where no pair conflicts; one that reports on an inconsistent table.
+pub fn report_both(
+    first: &[u8],
+    second: &[u8],
+    chains: bool,
+    work: &mut [u64],
+    cycle: &mut [u16],
+) -> ReportAnswer
+    ensures { λ r. ⌜ (r ≡ reportBoth chains (now (first .entry)) (now (second .entry)) (length (now (work .entry))) (length (now (cycle .entry))))
+        × (now (work .exit) ≡ workAfter (checkBoth chains (now (first .entry)) (now (second .entry)) (length (now (work .entry))) (length (now (cycle .entry)))) (now (work .entry)))
+        × (now (cycle .exit) ≡ cycleAfter (checkBoth chains (now (first .entry)) (now (second .entry)) (length (now (work .entry))) (length (now (cycle .entry)))) (now (cycle .entry))) ⌝ }
+{
+    let a = pieces::open_both(first, second, false, model::CYCLE, work.len(), cycle.len());
+    let Admission::Admitted {
+        agents: _,
+        rows: count,
+    } = a
+    else {
+        let x = pieces::refusal_of(a);
+        return ReportAnswer::Refused {
+            number: x.number,
+            row: x.row,
+        };
+    };
+    let n = count as usize;
+    let p = rows::scopes::read_places(first);
+    let mode = rows::scopes::read_mode(first, chains);
+    let all = pieces::join_rows(first, second);
+    let end = n * rows::bytes::ROW_BYTES;
+    report_rows(&all[..end], p, mode, n, work, cycle)
+}
+
+// Reports on one recorded run in one piece.
 pub fn report(table: &[u8], chains: bool, work: &mut [u64], cycle: &mut [u16]) -> ReportAnswer
     ensures { λ r. ⌜ (r ≡ report chains (now (table .entry)) (length (now (work .entry))) (length (now (cycle .entry))))
         × (now (work .exit) ≡ workAfter (check chains (now (table .entry)) (length (now (work .entry))) (length (now (cycle .entry)))) (now (work .entry)))
         × (now (cycle .exit) ≡ cycleAfter (check chains (now (table .entry)) (length (now (work .entry))) (length (now (cycle .entry)))) (now (cycle .entry))) ⌝ }
 {
-    if work.len() < model::WORK {
-        return ReportAnswer::Refused { number: 11, row: 0 };
-    }
-    if cycle.len() < model::CYCLE {
-        return ReportAnswer::Refused { number: 11, row: 0 };
-    }
-    let a = table::admit(table, false);
-    let Admission::Admitted { agents: _, rows: n } = a else {
-        return refused(a);
-    };
-    report_table(table, chains, n as usize, work, cycle)
+    report_both(table, &table[..0], chains, work, cycle)
 }

@@ -15,6 +15,8 @@ use Rattle.model.specs.declared.DeriveAnswer.{DeriveAnswer}
 use Rattle.model.specs.declared.DeriveAnswer.the-variants as derived
 use Rattle.model.specs.declared.AcceptAnswer.{AcceptAnswer}
 use Rattle.model.specs.declared.AcceptAnswer.the-variants as accept
+use Rattle.pieces.specs.declared.RowPlace.{RowPlace}
+use Rattle.pieces.specs.declared.RowPlace.the-variants as place
 use Rattle.model.specs.declared.Share.{Share}
 use Rattle.model.specs.declared.Share.the-variants as share
 use Rattle.model.specs.declared.Report.{Report}
@@ -111,3 +113,9 @@ rowAnswer s i room = cond (leb ROW-BYTES room) (packStep (stepAt s i) (nextAt s 
 
 unfoldable pub rowAfter : List ℕ → ℕ → List ℕ → List ℕ
 rowAfter s i out = cond (leb ROW-BYTES (length out)) (stepPut (stepAt s i) out) out
+
+-- the codes: 16 a row's place (a is its piece, 0 or 1, b the first of its sixteen bytes there), 17 no row
+unfoldable pub packPlace : RowPlace → ℕ
+packPlace (place.First at) = packed 16 0 at 0
+packPlace (place.Second at) = packed 16 1 at 0
+packPlace place.Neither = packed 17 0 0 0

@@ -13,8 +13,9 @@ ghost use Rattle.model.specs.Table.{rowsAt};
 ghost use Rattle.model.specs.Refusal.{admission};
 ghost use Rattle.writer.specs.Answer.{bufferAfter};
 ghost use Rattle.writer.specs.Parts.{partsAnswer, partsTable};
-ghost use Rattle.stramashly.specs.Packed.{packed, packCheck, packFill, packDerive, packAccept, packReport, reasonOf, isOn, floatOf};
+ghost use Rattle.stramashly.specs.Packed.{packed, packPlace, packCheck, packFill, packDerive, packAccept, packReport, reasonOf, isOn, floatOf};
 ghost use Rattle.stramashly.specs.Packed.{packWrite, packOpen, rowAnswer, rowAfter};
+ghost use Rattle.pieces.specs.Pieces.{countBoth, checkBoth, fillBoth, reportBoth, deriveBoth, judgeBoth, rowPlace};
 use model::AcceptAnswer;
 use model::Admission;
 use model::CheckAnswer;
@@ -27,6 +28,7 @@ use rows::bytes;
 use stepping::Step;
 use writer::WriteAnswer;
 use writer::encode;
+use pieces::RowPlace;
 
 // The class set that says program order, where a caller can hand in no enum.
 const PROGRAM_ORDER: u8 = 16;
@@ -124,6 +126,16 @@ fn pack_open(answer: Admission) -> u64
     match answer {
         Admission::Refused { number, row } => pack(4, number as u16, row, 0),
         Admission::Admitted { agents, rows } => pack(13, rows as u16, agents as u16, 0),
+    }
+}
+
+fn pack_place(place: RowPlace) -> u64
+    ensures { λ r. ⌜ r ≡ packPlace place ⌝ }
+{
+    match place {
+        RowPlace::First { at } => pack(16, 0, at, 0),
+        RowPlace::Second { at } => pack(16, 1, at, 0),
+        RowPlace::Neither => pack(17, 0, 0, 0),
     }
 }
 
@@ -274,4 +286,101 @@ pub extern "C" fn stramashly_row(table: &[u8], at: u16, row: &mut [u8]) -> u64
     };
     encode::put(row, 0, &encode::row_bytes(r, source), 16);
     pack(14, next, 0, 0)
+}
+
+// ---- a table in two pieces
+
+// Judges one recorded run in two pieces: `verdict::check_both`, packed.
+// Ruled out: one that judges the first piece alone.
+#[no_mangle]
+pub extern "C" fn stramashly_check2(
+    first: &[u8],
+    second: &[u8],
+    chains: u8,
+    work: &mut [u64],
+    cycle: &mut [u16],
+) -> u64
+    ensures { λ r. ⌜ (r ≡ packCheck (checkAnswer (checkBoth (isOn chains) (now (first .entry)) (now (second .entry)) (length (now (work .entry))) (length (now (cycle .entry))))))
+        × (now (work .exit) ≡ workAfter (checkBoth (isOn chains) (now (first .entry)) (now (second .entry)) (length (now (work .entry))) (length (now (cycle .entry)))) (now (work .entry)))
+        × (now (cycle .exit) ≡ cycleAfter (checkBoth (isOn chains) (now (first .entry)) (now (second .entry)) (length (now (work .entry))) (length (now (cycle .entry)))) (now (cycle .entry))) ⌝ }
+{
+    pack_check(verdict::check::check_both(first, second, !(chains == 0), work, cycle))
+}
+
+// Fills the blanks of one recorded run in two pieces: `filling::fill_both`, packed, with the number of rows of both where it filled them.
+// Ruled out: one that tells the rows of the first piece alone.
+#[no_mangle]
+pub extern "C" fn stramashly_fill2(
+    first: &[u8],
+    second: &[u8],
+    chains: u8,
+    work: &mut [u64],
+    sources: &mut [u16],
+) -> u64
+    ensures { λ r. ⌜ (r ≡ packFill (fillAnswer (fillBoth (isOn chains) (now (first .entry)) (now (second .entry)) (length (now (work .entry))) (length (now (sources .entry))))) (countBoth (now (first .entry)) (now (second .entry))))
+        × (now (work .exit) ≡ Fill.workAfter (fillBoth (isOn chains) (now (first .entry)) (now (second .entry)) (length (now (work .entry))) (length (now (sources .entry)))) (now (work .entry)))
+        × (now (sources .exit) ≡ sourcesAfter (fillBoth (isOn chains) (now (first .entry)) (now (second .entry)) (length (now (work .entry))) (length (now (sources .entry)))) (now (sources .entry))) ⌝ }
+{
+    let answer = filling::fill_both(first, second, !(chains == 0), work, sources);
+    pack_fill(answer, pieces::count_both(first, second))
+}
+
+// How bad a recorded run in two pieces was: `report::report_both`, packed.
+// Ruled out: one that counts the pairs of each piece by itself.
+#[no_mangle]
+pub extern "C" fn stramashly_report2(
+    first: &[u8],
+    second: &[u8],
+    chains: u8,
+    work: &mut [u64],
+    cycle: &mut [u16],
+) -> u64
+    ensures { λ r. ⌜ (r ≡ packReport (reportBoth (isOn chains) (now (first .entry)) (now (second .entry)) (length (now (work .entry))) (length (now (cycle .entry)))))
+        × (now (work .exit) ≡ workAfter (checkBoth (isOn chains) (now (first .entry)) (now (second .entry)) (length (now (work .entry))) (length (now (cycle .entry)))) (now (work .entry)))
+        × (now (cycle .exit) ≡ cycleAfter (checkBoth (isOn chains) (now (first .entry)) (now (second .entry)) (length (now (work .entry))) (length (now (cycle .entry)))) (now (cycle .entry))) ⌝ }
+{
+    pack_report(report::report_both(first, second, !(chains == 0), work, cycle))
+}
+
+// Why moment m happens before moment k in a table in two pieces: `reasons::derive_both`, packed.
+// Ruled out: one that refuses a moment of the second piece's rows.
+#[no_mangle]
+pub extern "C" fn stramashly_derive2(
+    first: &[u8],
+    second: &[u8],
+    m: u16,
+    k: u16,
+    work: &mut [u64],
+    chain: &mut [u16],
+) -> u64
+    ensures { λ r. ⌜ (r ≡ packDerive (deriveAnswer (deriveBoth (now (first .entry)) (now (second .entry)) m k (length (now (work .entry))) (length (now (chain .entry))))))
+        × (now (work .exit) ≡ Derivation.workAfter (deriveBoth (now (first .entry)) (now (second .entry)) m k (length (now (work .entry))) (length (now (chain .entry)))) (now (work .entry)))
+        × (now (chain .exit) ≡ chainAfter (deriveBoth (now (first .entry)) (now (second .entry)) m k (length (now (work .entry))) (length (now (chain .entry)))) (now (chain .entry))) ⌝ }
+{
+    pack_derive(reasons::derive_both(first, second, m, k, work, chain))
+}
+
+// Whether a derivation shows it in a table in two pieces: `reader::accepts_both`, packed.
+// Ruled out: one that reads the steps in the first piece alone.
+#[no_mangle]
+pub extern "C" fn stramashly_accepts2(
+    first: &[u8],
+    second: &[u8],
+    m: u16,
+    k: u16,
+    classes: u8,
+    steps: &[u16],
+) -> u64
+    ensures { λ r. ⌜ r ≡ packAccept (acceptAnswer (judgeBoth (now (first .entry)) (now (second .entry)) m k (reasonOf classes) (now (steps .entry)))) ⌝ }
+{
+    pack_accept(reader::accepts_both(first, second, m, k, reason_of(classes), steps))
+}
+
+// Where row n of a table in two pieces has its sixteen bytes: `pieces::row_place`, packed. Nothing is copied.
+// Ruled out: one that gives a place in a pair that is refused before 5; one that counts the second piece's rows from 0.
+#[no_mangle]
+pub extern "C" fn stramashly_row2(first: &[u8], second: &[u8], n: u16) -> u64
+    ensures { λ r. ⌜ r ≡ packPlace (rowPlace (now (first .entry)) (now (second .entry)) n) ⌝ }
+{
+    pack_place(pieces::row_place(first, second, n))
 }

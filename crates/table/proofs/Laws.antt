@@ -3,6 +3,8 @@ use mathlib.Core.Path.{_≡_, refl, sym, ap, _∙_}
 use mathlib.Core.Bool.{Bool, true, false, not, cond}
 use mathlib.Core.List.{List, []}
 use Prim.Native.Nat.{ℕ, _<_, _≤_}
+use lib.ListN.{length}
+use lib.Dec.{leb, eqb}
 use borrow.Author.Tests.{eq-eqb, ne-eqb, lt-ltb, le-ltb, le-leb, lt-leb}
 use Rattle.finite.specs.Logic.{_and_, _or_, and-false-left, and-false-right}
 use Rattle.finite.specs.Below.{anyBelow, any-not, least}
@@ -13,12 +15,12 @@ use Rattle.model.specs.declared.Admission.the-variants.{Admitted, Refused}
 use Rattle.model.specs.Limits.{DEPENDENCIES}
 use Rattle.model.specs.Row.{CONTROL, access, control, ranked, operation, sameInstance}
 use Rattle.model.specs.Scope.{agentKind, sameLocation}
-use Rattle.model.specs.Table.{OFF, rowOf, modeOf, decode, sourceOf, agentsAt, rowsAt, hasHosts, rowBytes, dependencyBytes, pairAt, dependencyCount, placesOf, tableUnder, tableOf, sourcesOf}
+use Rattle.model.specs.Table.{OFF, HEADER, rowOf, modeOf, decode, sourceOf, agentsAt, rowsAt, hasHosts, rowBytes, dependencyBytes, pairAt, dependencyCount, placesOf, tableUnder, tableOf, sourcesOf}
 use Rattle.model.specs.Refusal.{otherClass, otherClassAt, classTaken, writerFits, sourceFits, sourceBroken, sameRank, sameRankAt, rankTaken}
 use Rattle.model.specs.Refusal.{apart, apartAt, instanceBroken, rival, outside, outsideAt, begins, unfit}
 use Rattle.model.specs.Refusal.{kindOver, agentsKnown, dependenciesFew, namesNone, dependenciesNamed, hostsFault, codesFit, agentFits, operationFits, kindFits, extentFits, formFault, rowFault, tableFault, faulty, firstFault, rowFaultAt}
-use Rattle.model.specs.Refusal.{headerFault, admission}
-use Rattle.table.specs.Rows.{rowFaultIn, rowsAdmission}
+use Rattle.model.specs.Refusal.{versionFits, limitsFit, lengthFits, headerFault, admission}
+use Rattle.table.specs.Rows.{shapeFault, hostsFaultIn, rowFaultIn, rowsAdmission}
 
 -- ---- what a test does not read makes no difference to it
 
@@ -137,40 +139,50 @@ module _ (hosts : Bool) (p : List (List ℕ)) (agents : ℕ) (r : Row) (source :
 
 -- ---- the cascade of 16 to 18
 
+module _ (p : List (List ℕ)) (agents : ℕ) (d : List ℕ) (n : ℕ) (over : Bool) (e : over ≡ anyBelow agents (kindOver p)) where
+  pub hosts-16 : over ≡ true → 16 ≡ hostsFaultIn p agents d n
+  unfolding hostsFaultIn
+  hosts-16 h = rw (← e, h) refl
+
+  module _ (h : over ≡ false) (k : ℕ) (c : k ≡ pairAt d 0) where
+    pub hosts-17 : DEPENDENCIES < k → 17 ≡ hostsFaultIn p agents d n
+    unfolding hostsFaultIn dependencyCount
+    hosts-17 l = rw (← e, h, ← c, lt-leb k DEPENDENCIES l) refl
+
+    module _ (l : k ≤ DEPENDENCIES) (none : Bool) (q : none ≡ anyBelow (dependencyCount d) (namesNone d n)) where
+      pub hosts-18 : none ≡ true → 18 ≡ hostsFaultIn p agents d n
+      unfolding hostsFaultIn dependencyCount
+      hosts-18 m = rw (← e, h, ← q, m, ← c, le-leb k DEPENDENCIES l) refl
+
+      pub hosts-pass : none ≡ false → 0 ≡ hostsFaultIn p agents d n
+      unfolding hostsFaultIn dependencyCount
+      hosts-pass m = rw (← e, h, ← q, m, ← c, le-leb k DEPENDENCIES l) refl
+
+-- ---- 1 to 4 come before 16 to 18
+
 module _ (s : List ℕ) where
-  pub known-is : (p : List (List ℕ)) (n : ℕ) (over : Bool) → p ≡ placesOf s → n ≡ agentsAt s → over ≡ anyBelow n (kindOver p) → agentsKnown s ≡ not over
-  unfolding agentsKnown
-  known-is p n over ep en e = rw (← ep, ← en, ← e) refl
+  pub hosts-is : hostsFault s ≡ hostsFaultIn (placesOf s) (agentsAt s) (dependencyBytes s) (rowsAt s)
+  unfolding hostsFault hostsFaultIn agentsKnown dependenciesFew dependenciesNamed
+  hosts-is = refl
 
-  pub few-over : (d : List ℕ) (n : ℕ) → d ≡ dependencyBytes s → n ≡ pairAt d 0 → DEPENDENCIES < n → dependenciesFew s ≡ false
-  unfolding dependenciesFew dependencyCount
-  few-over d n ed e l = rw (← ed, ← e) (lt-leb n DEPENDENCIES l)
+  pub header-is : headerFault s ≡ cond (eqb (shapeFault s) 0) (hostsFault s) (shapeFault s)
+  unfolding headerFault shapeFault
+  header-is = go (leb HEADER (length s)) (versionFits s) (limitsFit s) (lengthFits s) (hostsFault s)
+    where
+      go : (a b c d : Bool) (n : ℕ)
+          → cond a (cond b (cond c (cond d n 4) 3) 2) 1
+          ≡ cond (eqb (cond a (cond b (cond c (cond d 0 4) 3) 2) 1) 0) n (cond a (cond b (cond c (cond d 0 4) 3) 2) 1)
+      go true true true true n = refl
+      go true true true false n = refl
+      go true true false d n = refl
+      go true false c d n = refl
+      go false b c d n = refl
 
-  pub few-in : (d : List ℕ) (n : ℕ) → d ≡ dependencyBytes s → n ≡ pairAt d 0 → n ≤ DEPENDENCIES → dependenciesFew s ≡ true
-  unfolding dependenciesFew dependencyCount
-  few-in d n ed e l = rw (← ed, ← e) (le-leb n DEPENDENCIES l)
+  pub shape-refused : (h : ℕ) → h ≡ shapeFault s → (h ≡ 0 → ⊥) → h ≡ headerFault s
+  shape-refused h e f = rw (header-is, ← e, ne-eqb h 0 f) refl
 
-  pub named-is : (d : List ℕ) (n : ℕ) (none : Bool) → d ≡ dependencyBytes s → n ≡ rowsAt s → none ≡ anyBelow (dependencyCount d) (namesNone d n)
-      → dependenciesNamed s ≡ not none
-  unfolding dependenciesNamed
-  named-is d n none ed en e = rw (← ed, ← en, ← e) refl
-
-  pub hosts-16 : (over : Bool) → agentsKnown s ≡ not over → over ≡ true → 16 ≡ hostsFault s
-  unfolding hostsFault
-  hosts-16 over a h = rw (a, h) refl
-
-  module _ (over : Bool) (a : agentsKnown s ≡ not over) (h : over ≡ false) where
-    pub hosts-17 : dependenciesFew s ≡ false → 17 ≡ hostsFault s
-    unfolding hostsFault
-    hosts-17 q = rw (a, h, q) refl
-
-    pub hosts-18 : dependenciesFew s ≡ true → (none : Bool) → dependenciesNamed s ≡ not none → none ≡ true → 18 ≡ hostsFault s
-    unfolding hostsFault
-    hosts-18 q none e n = rw (a, h, q, e, n) refl
-
-    pub hosts-pass : dependenciesFew s ≡ true → (none : Bool) → dependenciesNamed s ≡ not none → none ≡ false → 0 ≡ hostsFault s
-    unfolding hostsFault
-    hosts-pass q none e n = rw (a, h, q, e, n) refl
+  pub shape-passed : (h : ℕ) → h ≡ shapeFault s → h ≡ 0 → headerFault s ≡ hostsFault s
+  shape-passed h e f = rw (header-is, ← e, eq-eqb h 0 f) refl
 
 -- ---- the number r of row i says whether it has a fault
 

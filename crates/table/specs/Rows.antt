@@ -1,12 +1,27 @@
--- The part of an admission that comes after the header's, over the bytes of the rows alone.
-use mathlib.Core.Bool.{Bool}
+-- The parts of an admission: 1 to 4 alone, 16 to 18 over places and dependencies, and what comes after them, over the bytes of the rows alone.
+use mathlib.Core.Bool.{Bool, not, cond}
 use mathlib.Core.List.{List}
 use Prim.Native.Nat.{ℕ}
+use lib.ListN.{length}
+use lib.Dec.{leb}
+use Rattle.finite.specs.Below.{anyBelow}
 use Rattle.model.specs.declared.Mode.{Mode}
 use Rattle.model.specs.declared.Admission.{Admission}
 use Rattle.model.specs.declared.Admission.the-variants.{Admitted}
-use Rattle.model.specs.Table.{rowOf, sourceOf, decode}
-use Rattle.model.specs.Refusal.{rowFault, tableFault, firstFault}
+use Rattle.model.specs.Limits.{DEPENDENCIES}
+use Rattle.model.specs.Table.{HEADER, rowOf, sourceOf, dependencyCount, decode}
+use Rattle.model.specs.Refusal.{versionFits, limitsFit, lengthFits, kindOver, namesNone, rowFault, tableFault, firstFault}
+
+-- 1 to 4: the number, 0 for none
+unfoldable pub shapeFault : List ℕ → ℕ
+shapeFault s = cond (leb HEADER (length s)) (cond (versionFits s) (cond (limitsFit s) (cond (lengthFits s) 0 4) 3) 2) 1
+
+-- 16 to 18, of so many agents with the places p, and of the dependencies in their bytes d, which name rows below n
+unfoldable pub hostsFaultIn : List (List ℕ) → ℕ → List ℕ → ℕ → ℕ
+hostsFaultIn p agents d n =
+    cond (not (anyBelow agents (kindOver p)))
+    (cond (leb (dependencyCount d) DEPENDENCIES) (cond (not (anyBelow (dependencyCount d) (namesNone d n))) 0 18) 17)
+    16
 
 -- the fault of row i by itself, in the bytes b of the rows
 unfoldable pub rowFaultIn : Bool → List (List ℕ) → ℕ → List ℕ → ℕ → ℕ

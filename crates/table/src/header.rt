@@ -3,7 +3,8 @@ ghost use mathlib.Core.Path.{_≡_};
 ghost use mathlib.Core.Bool.{not};
 ghost use Rattle.finite.specs.Below.{anyBelow};
 ghost use Rattle.model.specs.Table.{sizeOf, dependencyCount};
-ghost use Rattle.model.specs.Refusal.{versionFits, limitsFit, lengthFits, kindOver, namesNone, hostsFault, headerFault};
+ghost use Rattle.model.specs.Refusal.{versionFits, limitsFit, lengthFits, kindOver, namesNone, headerFault};
+ghost use Rattle.table.specs.Rows.{shapeFault, hostsFaultIn};
 use crate::pick;
 use model::Places;
 use rows::bytes;
@@ -84,32 +85,45 @@ fn any_names_none(d: &[u8], rows: u8) -> bool
     false
 }
 
-// Refusals 16 to 18, or 0. More dependencies than there may be are not looked at.
+// Refusals 16 to 18, or 0, of so many agents with these places, and of the dependencies in their bytes, among so many rows. More
+// dependencies than there may be are not looked at.
 // Ruled out: 65 dependencies of which one names no row get 18; a dependency whose second row alone is there passes.
-pub fn hosts_fault(s: &[u8]) -> u8
-    ensures { λ r. ⌜ r ≡ hostsFault (now (s .entry)) ⌝ }
+pub fn hosts_fault(p: Places, agents: u8, d: &[u8], rows: u8) -> u8
+    ensures { λ r. ⌜ r ≡ hostsFaultIn p agents (now (d .entry)) rows ⌝ }
 {
-    if any_kind_over(scopes::read_places(s), bytes::agents_at(s)) {
+    if any_kind_over(p, agents) {
         return 16;
     }
-    let d = bytes::dependency_bytes(s);
     if model::DEPENDENCIES < bytes::pair_at(d, 0) as usize {
         return 17;
     }
-    if any_names_none(d, bytes::rows_at(s)) {
+    if any_names_none(d, rows) {
         return 18;
     }
     0
 }
 
-// Refusals 1 to 4 and 16 to 18, or 0.
+// Refusals 1 to 4, or 0.
 // Ruled out: a table that is longer than bytes 0 to 3 tell passes; a table of four bytes, whose version reads as 0, gets 2
 // and not 1.
-pub fn header_fault(s: &[u8]) -> u8
-    ensures { λ r. ⌜ r ≡ headerFault (now (s .entry)) ⌝ }
+pub fn shape_fault(s: &[u8]) -> u8
+    ensures { λ r. ⌜ r ≡ shapeFault (now (s .entry)) ⌝ }
 {
-    let sized = pick(length_fits(s), hosts_fault(s), 4);
+    let sized = pick(length_fits(s), 0, 4);
     let limited = pick(limits_fit(s), sized, 3);
     let marked = pick(version_fits(s), limited, 2);
     pick(bytes::HEADER <= s.len(), marked, 1)
+}
+
+// Refusals 1 to 4 and 16 to 18, or 0.
+pub fn header_fault(s: &[u8]) -> u8
+    ensures { λ r. ⌜ r ≡ headerFault (now (s .entry)) ⌝ }
+{
+    let shape = shape_fault(s);
+    if shape != 0 {
+        return shape;
+    }
+    let p = scopes::read_places(s);
+    let d = bytes::dependency_bytes(s);
+    hosts_fault(p, bytes::agents_at(s), d, bytes::rows_at(s))
 }

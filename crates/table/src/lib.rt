@@ -30,7 +30,7 @@ pub fn choose(b: bool, x: bool, y: bool) -> bool
 // ---- in their order
 
 // Rows ascending through 5, 19, 6 or 20, 7; then rows ascending through 8 to 10, 14 and 15.
-fn admit_rows(
+pub fn admit_rows(
     rows: &[u8],
     hosts: bool,
     p: Places,

@@ -1,44 +1,32 @@
-// The check of a table: any bytes, and buffers of any length.
+// The check of a table in one or two pieces: any bytes, and buffers of any length.
 ghost use mathlib.Core.Path.{_≡_};
 ghost use mathlib.Core.Bool.{false};
 ghost use Prim.Native.Nat.{ℕ, _≤_, _<_};
 ghost use lib.ListN.{length};
 ghost use Rattle.model.specs.Limits.{WORK, CYCLE};
-ghost use Rattle.model.specs.Table.{rowsAt, tableUnder, sourcesOf};
-ghost use Rattle.model.specs.Words.{WellFormed};
-ghost use Rattle.model.specs.Check.{raceFree, verdict, admitted, check, checkAnswer, cycleAfter, workAfter, wiped};
+ghost use Rattle.model.specs.Table.{decode, sourceOf};
+ghost use Rattle.model.specs.Check.{verdict, check, checkAnswer, cycleAfter, workAfter, wiped};
+ghost use Rattle.pieces.specs.Pieces.{checkBoth};
+ghost use Rattle.pieces.specs.Entry.{RowsOf};
 use model::Admission;
 use model::CheckAnswer;
+use model::Mode;
+use model::Places;
 
-// The answer to a table that is refused.
-fn refused(a: Admission) -> CheckAnswer
-    ensures { λ r. ⌜ r ≡ checkAnswer (admitted a raceFree) ⌝ }
-{
-    match a {
-        Admission::Refused { number, row } => CheckAnswer::Refused {
-            number: number,
-            row: row,
-        },
-        Admission::Admitted { agents: _, rows: _ } => CheckAnswer::RaceFree,
-    }
-}
-
-// The verdict on a table of n rows that is admitted.
-fn judge_table(
-    table: &[u8],
-    chains: bool,
+// The verdict on the n rows of a table that is admitted.
+fn judge_rows(
+    rows: &[u8],
+    p: Places,
+    mode: Mode,
     n: usize,
     work: &mut [u64],
     cycle: &mut [u16],
 ) -> CheckAnswer
-    requires { ⌜ (WORK ≤ length (now work)) × (CYCLE ≤ length (now cycle)) × (n ≡ rowsAt (now table)) × WellFormed (now table) ⌝ }
-    ensures { λ r. ⌜ (r ≡ checkAnswer (verdict (tableUnder chains (now (table .entry))) (sourcesOf (now (table .entry)))))
+    requires { ⌜ (WORK ≤ length (now work)) × (CYCLE ≤ length (now cycle)) × RowsOf false (now rows) p mode n ⌝ }
+    ensures { λ r. ⌜ (r ≡ checkAnswer (verdict (decode (now (rows .entry)) p mode n) (sourceOf (now (rows .entry)))))
         × (now (work .exit) ≡ wiped (now (work .entry)))
-        × (now (cycle .exit) ≡ cycleAfter (verdict (tableUnder chains (now (table .entry))) (sourcesOf (now (table .entry)))) (now (cycle .entry))) ⌝ }
+        × (now (cycle .exit) ≡ cycleAfter (verdict (decode (now (rows .entry)) p mode n) (sourceOf (now (rows .entry)))) (now (cycle .entry))) ⌝ }
 {
-    let mode = rows::scopes::read_mode(table, chains);
-    let rows = rows::bytes::row_bytes(table);
-    let p = rows::scopes::read_places(table);
     let src = choice::sources::read_sources(rows, n);
     crate::judge::locate(rows, p, mode, n, work);
     let r = crate::judge::judge(rows, p, mode, n, &src, work, cycle);
@@ -46,23 +34,47 @@ fn judge_table(
     r
 }
 
-// Judges one recorded run; `chains` says whether the device reports vulkanMemoryModelAvailabilityVisibilityChains. A short buffer is refusal 11; a table that is refused leaves both buffers alone. Otherwise the work
-// area's own part ends as zeros, and the cycle buffer holds the cycle if that is the answer.
-// Ruled out: one that answers race-free to every table; one that leaves the last customer's words in the work area.
+// Judges one recorded run in two pieces, the first a table, the second more rows for it; `chains` says whether the device reports
+// vulkanMemoryModelAvailabilityVisibilityChains. A short buffer is refusal 11; a table that is refused leaves both buffers alone. Otherwise
+// the work area's own part ends as zeros, and the cycle buffer holds the cycle if that is the answer.
+// Ruled out: one that judges the first piece alone; one that leaves the last customer's words in the work area.
+pub fn check_both(
+    first: &[u8],
+    second: &[u8],
+    chains: bool,
+    work: &mut [u64],
+    cycle: &mut [u16],
+) -> CheckAnswer
+    ensures { λ r. ⌜ (r ≡ checkAnswer (checkBoth chains (now (first .entry)) (now (second .entry)) (length (now (work .entry))) (length (now (cycle .entry)))))
+        × (now (work .exit) ≡ workAfter (checkBoth chains (now (first .entry)) (now (second .entry)) (length (now (work .entry))) (length (now (cycle .entry)))) (now (work .entry)))
+        × (now (cycle .exit) ≡ cycleAfter (checkBoth chains (now (first .entry)) (now (second .entry)) (length (now (work .entry))) (length (now (cycle .entry)))) (now (cycle .entry))) ⌝ }
+{
+    let a = pieces::open_both(first, second, false, model::CYCLE, work.len(), cycle.len());
+    let Admission::Admitted {
+        agents: _,
+        rows: count,
+    } = a
+    else {
+        let x = pieces::refusal_of(a);
+        return CheckAnswer::Refused {
+            number: x.number,
+            row: x.row,
+        };
+    };
+    let n = count as usize;
+    let p = rows::scopes::read_places(first);
+    let mode = rows::scopes::read_mode(first, chains);
+    let all = pieces::join_rows(first, second);
+    let end = n * rows::bytes::ROW_BYTES;
+    judge_rows(&all[..end], p, mode, n, work, cycle)
+}
+
+// Judges one recorded run in one piece.
+// Ruled out: one that answers race-free to every table.
 pub fn check(table: &[u8], chains: bool, work: &mut [u64], cycle: &mut [u16]) -> CheckAnswer
     ensures { λ r. ⌜ (r ≡ checkAnswer (check chains (now (table .entry)) (length (now (work .entry))) (length (now (cycle .entry)))))
         × (now (work .exit) ≡ workAfter (check chains (now (table .entry)) (length (now (work .entry))) (length (now (cycle .entry)))) (now (work .entry)))
         × (now (cycle .exit) ≡ cycleAfter (check chains (now (table .entry)) (length (now (work .entry))) (length (now (cycle .entry)))) (now (cycle .entry))) ⌝ }
 {
-    if work.len() < model::WORK {
-        return CheckAnswer::Refused { number: 11, row: 0 };
-    }
-    if cycle.len() < model::CYCLE {
-        return CheckAnswer::Refused { number: 11, row: 0 };
-    }
-    let a = table::admit(table, false);
-    let Admission::Admitted { agents: _, rows: n } = a else {
-        return refused(a);
-    };
-    judge_table(table, chains, n as usize, work, cycle)
+    check_both(table, &table[..0], chains, work, cycle)
 }

@@ -3,13 +3,46 @@
 
 use crate::json::Object;
 use crate::Status;
-use std::fmt::Display;
+use std::fmt::{self, Display};
 use stramashly::{AcceptsAnswer, CheckAnswer, Derivation, DeriveAnswer, FillAnswer, ReportAnswer};
 
 /// An answer; `Display` is its plain line.
 pub trait Answer: Display {
     fn status(&self) -> Status;
     fn put(&self, object: &mut Object);
+}
+
+/// A row's sixteen bytes, if a piece holds it.
+pub struct ShownRow<'a>(pub Option<&'a [u8]>);
+
+impl Display for ShownRow<'_> {
+    fn fmt(&self, formatter: &mut fmt::Formatter) -> fmt::Result {
+        match self.0 {
+            Some(bytes) => bytes
+                .iter()
+                .try_for_each(|byte| write!(formatter, "{byte:02x}")),
+            None => write!(formatter, "none"),
+        }
+    }
+}
+
+impl Answer for ShownRow<'_> {
+    fn status(&self) -> Status {
+        match self.0 {
+            Some(_) => Status::Fine,
+            None => Status::No,
+        }
+    }
+
+    fn put(&self, object: &mut Object) {
+        match self.0 {
+            Some(_) => {
+                put_verdict(object, "row");
+                object.text("bytes", &self.to_string());
+            }
+            None => put_verdict(object, "none"),
+        }
+    }
 }
 
 impl Answer for CheckAnswer<'_> {

@@ -41,6 +41,8 @@ pub struct Request {
     pub has_chains: bool,
     pub jobs: usize,
     pub names: Vec<OsString>,
+    /// The file of the second piece of each table.
+    pub then: Option<OsString>,
 }
 
 impl Request {
@@ -79,6 +81,7 @@ struct Words {
     is_words: bool,
     has_chains: bool,
     jobs: Option<usize>,
+    then: Option<OsString>,
     others: Vec<OsString>,
 }
 
@@ -170,6 +173,13 @@ fn sort(words: impl Iterator<Item = OsString>) -> Result<Words, String> {
             Some("--table") => sorted.is_table = true,
             Some("--words") => sorted.is_words = true,
             Some("--chains") => sorted.has_chains = true,
+            Some("--then") if sorted.then.is_some() => {
+                return Err("--then given twice: a table has two pieces".to_string());
+            }
+            Some("--then") => {
+                let name = words.next();
+                sorted.then = Some(name.ok_or("--then takes a file of rows")?);
+            }
             Some("-j" | "--jobs") => {
                 let count = words.next();
                 let count = count.as_ref().and_then(|count| count.to_str());
@@ -223,6 +233,9 @@ fn check_options(task: &Task, words: &Words) -> Result<(), String> {
     if words.has_chains && !takes_chains(task) {
         return Err("only check, fill, report, explain, draw and batch take --chains".to_string());
     }
+    if words.then.is_some() && !matches!(task, Task::Judge(_)) {
+        return Err(format!("only {} take --then", Kind::NAMES));
+    }
     if words.is_quiet && !matches!(task, Task::Judge(_)) {
         return Err(format!("only {} take --quiet", Kind::NAMES));
     }
@@ -249,6 +262,7 @@ fn files(task: Task, words: Words) -> Result<Command, String> {
         has_chains: words.has_chains,
         jobs: words.jobs.unwrap_or(1),
         names: words.others,
+        then: words.then,
     };
     let names = &request.names;
     if names.is_empty() {
@@ -258,8 +272,12 @@ fn files(task: Task, words: Words) -> Result<Command, String> {
     if !request.takes_directories() && names.len() > 1 {
         return Err("a picture, a page or a new table is of one file".to_string());
     }
-    // It could only be read once.
-    if names.iter().filter(|name| *name == "-").count() > 1 {
+    // It can only be read once; and a second piece is read with each table.
+    if request.then.as_ref().is_some_and(|name| name == "-") && names.len() > 1 {
+        return Err("--then - goes with one file".to_string());
+    }
+    let all = names.iter().chain(&request.then);
+    if all.filter(|name| *name == "-").count() > 1 {
         return Err("standard input given twice".to_string());
     }
     Ok(Command::Files(request))
@@ -274,7 +292,7 @@ fn batch(words: &Words) -> Result<Command, String> {
         words.is_table,
         words.is_words,
     ];
-    if others.contains(&true) || !words.others.is_empty() {
+    if others.contains(&true) || words.then.is_some() || !words.others.is_empty() {
         return Err("batch takes no file, and no option but --json and -j".to_string());
     }
     Ok(Command::Batch {
@@ -303,6 +321,7 @@ mod tests {
             has_chains: false,
             jobs: 1,
             names,
+            then: None,
         }))
     }
 
@@ -507,6 +526,13 @@ mod tests {
             ("edit", "row 2 flags 3"),
             ("edit a row", "no edit"),
             ("derive a 1.during 2", "1.before"),
+            ("check a --then", "a file of rows"),
+            ("check a --then b --then c", "twice"),
+            ("check - --then -", "twice"),
+            ("check a b --then -", "one file"),
+            ("show a --then b", "--then"),
+            ("fill --table a --then b", "--then"),
+            ("batch --then b", "batch"),
         ] {
             let reason = parsed(line).expect_err(line);
             assert!(reason.contains(part), "{line}: {reason}");

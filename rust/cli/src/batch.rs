@@ -3,10 +3,9 @@
 use crate::checker::checker;
 use crate::input;
 use crate::judge::{append_trouble, judge, Form};
-use crate::line::Line;
+use crate::line::{Asked, Line};
 use crate::output::{complain, Output};
 use crate::parallel::{in_order, Giver, Taker};
-use crate::question::Question;
 use crate::Status;
 use std::io::{self, BufRead, BufReader, ErrorKind, IsTerminal, StdinLock, Write};
 use std::sync::atomic::{AtomicBool, Ordering};
@@ -64,10 +63,14 @@ fn spread(form: Form, has_chains: bool, jobs: usize) -> Status {
     let (read, written) = in_order(
         (jobs, || checker(has_chains)),
         read_pieces,
-        |checker, asked: Result<(Question, Vec<u8>), String>| {
+        |checker, asked: Owned| {
             let mut text = String::new();
             let asked = match &asked {
-                Ok((question, table)) => Ok((question.clone(), &table[..])),
+                Ok(asked) => Ok(Asked {
+                    question: asked.question.clone(),
+                    table: &asked.table[..],
+                    second: asked.second.as_deref(),
+                }),
                 Err(reason) => Err(reason.clone()),
             };
             let status = answer(checker, form, asked, &mut text);
@@ -79,10 +82,10 @@ fn spread(form: Form, has_chains: bool, jobs: usize) -> Status {
     read.max(written)
 }
 
-type Asked = Result<(Question, Vec<u8>), String>;
+type Owned = Result<Asked<Vec<u8>>, String>;
 
 /// Gives lines in pieces, and what there is before waiting for more.
-fn read_pieces(giver: &mut Giver<Asked>, is_enough: &AtomicBool) -> Status {
+fn read_pieces(giver: &mut Giver<Owned>, is_enough: &AtomicBool) -> Status {
     let mut lines = Lines::new();
     let mut piece = Vec::with_capacity(PIECE);
     while !is_enough.load(Ordering::Relaxed) {
@@ -95,7 +98,7 @@ fn read_pieces(giver: &mut Giver<Asked>, is_enough: &AtomicBool) -> Status {
             }
         }
         let asked = lines.line.request();
-        piece.push(asked.map(|(question, table)| (question, table.to_vec())));
+        piece.push(asked.map(|asked| asked.to_owned()));
         if piece.len() == PIECE {
             giver.give(std::mem::take(&mut piece));
         }
@@ -108,12 +111,13 @@ fn read_pieces(giver: &mut Giver<Asked>, is_enough: &AtomicBool) -> Status {
 fn answer(
     checker: &mut Checker,
     form: Form,
-    asked: Result<(Question, &[u8]), String>,
+    asked: Result<Asked<&[u8]>, String>,
     text: &mut String,
 ) -> Status {
     match asked {
-        Ok((question, table)) => {
-            judge(checker, &question, table, form, text);
+        Ok(asked) => {
+            let table = (asked.table, asked.second);
+            judge(checker, &asked.question, table, form, text);
             Status::Fine
         }
         Err(reason) => {

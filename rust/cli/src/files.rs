@@ -5,7 +5,7 @@ use crate::arguments::{Request, Task};
 use crate::checker::checker;
 use crate::colour;
 use crate::folder;
-use crate::hex::{Hex, KEPT_BYTES};
+use crate::hex::{front_of_rows, Hex, KEPT_BYTES};
 use crate::input;
 use crate::judge::{append_trouble, judge, Form};
 use crate::make::{hex_line, make};
@@ -139,6 +139,7 @@ fn outcome(request: &Request, are_named: bool, checker: &mut Checker, name: Name
     let (name, table) = match name {
         Ok(name) => {
             let table = read(&name, request.is_hex);
+            let table = table.and_then(|table| Ok((table, second(request)?)));
             (name, table)
         }
         Err((name, reason)) => (name, Err(reason)),
@@ -152,7 +153,7 @@ fn outcome(request: &Request, are_named: bool, checker: &mut Checker, name: Name
         false => Form::Plain,
     };
     let (status, bytes, reason) = match table {
-        Ok(table) => answer(request, form, &table, checker),
+        Ok((table, second)) => answer(request, form, (&table, second.as_deref()), checker),
         Err(reason) => {
             let mut text = String::new();
             if request.is_json {
@@ -173,12 +174,13 @@ fn outcome(request: &Request, are_named: bool, checker: &mut Checker, name: Name
 fn answer(
     request: &Request,
     form: Form,
-    table: &[u8],
+    (table, second): (&[u8], Option<&[u8]>),
     checker: &mut Checker,
 ) -> (Status, Vec<u8>, Option<String>) {
     let mut text = String::new();
     match &request.task {
         Task::Judge(question) => {
+            let table = (table, second);
             let status = judge(checker, question, table, form, &mut text);
             (status, text.into_bytes(), None)
         }
@@ -194,6 +196,37 @@ fn answer(
             Err((status, reason)) => (status, Vec::new(), Some(reason)),
         },
     }
+}
+
+/// The second piece, if one was given, cut off where its refusal is sure.
+fn second(request: &Request) -> Result<Option<Vec<u8>>, String> {
+    let Some(name) = &request.then else {
+        return Ok(None);
+    };
+    let trouble = |reason: String| format!("{}: {reason}", name.to_string_lossy());
+    let bytes = if name == "-" {
+        input::trouble().and_then(|()| rows_from(io::stdin().lock(), request.is_hex))
+    } else {
+        let file = File::open(name).map_err(|error| error.to_string());
+        file.and_then(|file| rows_from(file, request.is_hex))
+    };
+    bytes.map(Some).map_err(trouble)
+}
+
+fn rows_from(mut input: impl Read, is_hex: bool) -> Result<Vec<u8>, String> {
+    if is_hex {
+        let hex = hex_from(input)?;
+        return match hex.rows() {
+            Ok(rows) => Ok(rows.to_vec()),
+            Err(bad) => Err(bad.to_string()),
+        };
+    }
+    let text = |error: io::Error| error.to_string();
+    let mut bytes = Vec::new();
+    let mut kept = input.by_ref().take(KEPT_BYTES as u64);
+    kept.read_to_end(&mut bytes).map_err(text)?;
+    let left_out = io::copy(&mut input, &mut io::sink()).map_err(text)?;
+    Ok(front_of_rows(&bytes, left_out).to_vec())
 }
 
 /// A file's table, cut off where its refusal is sure.
@@ -216,8 +249,15 @@ fn read_from(input: impl Read, is_hex: bool) -> Result<Vec<u8>, String> {
     read.map(|_| table).map_err(|error| error.to_string())
 }
 
+fn read_hex(input: impl Read) -> Result<Vec<u8>, String> {
+    match hex_from(input)?.bytes() {
+        Ok(bytes) => Ok(bytes.to_vec()),
+        Err(bad) => Err(bad.to_string()),
+    }
+}
+
 /// Reads to the end, so that a letter that is no digit is told wherever it is.
-fn read_hex(mut input: impl Read) -> Result<Vec<u8>, String> {
+fn hex_from(mut input: impl Read) -> Result<Hex, String> {
     let mut hex = Hex::default();
     let mut piece = [0; 1 << 14];
     while !hex.is_bad() {
@@ -228,8 +268,5 @@ fn read_hex(mut input: impl Read) -> Result<Vec<u8>, String> {
             Err(error) => return Err(error.to_string()),
         }
     }
-    match hex.bytes() {
-        Ok(bytes) => Ok(bytes.to_vec()),
-        Err(bad) => Err(bad.to_string()),
-    }
+    Ok(hex)
 }

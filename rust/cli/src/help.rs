@@ -47,6 +47,9 @@ usage:
   stramashly batch [--json] [-j N]    lines on standard input: `check HEX`, `fill HEX`,
                                       `report HEX`, `derive HEX M N`, `accepts HEX M N ...`,
                                       `rows HEX`, `write VERSION ROOM PLACES ROWS DEPENDENCIES`
+                                      `report HEX`, `derive HEX M N`, `accepts HEX M N ...`;
+                                      of two pieces `check2 HEX HEX2` and so on, and
+                                      `row2 HEX HEX2 ROW`
   stramashly help [COMMAND]           this text, or a command's lines
   stramashly --help | --version
 
@@ -56,7 +59,9 @@ in them; white space is ignored. `--` ends the options, for names that begin wit
 --json each answer of check, fill, report, derive, accepts and batch is an object. With --quiet
 these print no answers: the exit status has it. With --chains, check, fill, report, explain, draw
 and batch answer for a device that reports vulkanMemoryModelAvailabilityVisibilityChains. -j N
-works in N threads, answers in order. An
+works in N threads, answers in order. With --then ROWS, check, fill, report, derive and accepts
+add the rows of the file ROWS, 16 bytes each, after those of FILE, and answer for the joined table;
+sources and moments are counted over both. In a batch line `-` is a piece of no bytes. An
 answer is coloured on a terminal unless NO_COLOR is set. Of several files a last line on
 standard error says how many had which answer.
 
@@ -91,6 +96,7 @@ answers, one line each, with the file's name before it if there are several:
   not-accepted                        it doesn't
   ROW... end                          the table's rows, in hex digits
   written HEX                         the table
+  HEX, or none                        of row2: the row's 16 bytes from the piece that holds it
 
 as objects, in the same order:
   {\"verdict\":\"race-free\"}
@@ -108,6 +114,7 @@ as objects, in the same order:
   {\"verdict\":\"not-accepted\"}
   {\"verdict\":\"rows\",\"rows\":[ROW,...]}
   {\"verdict\":\"written\",\"table\":HEX}
+  {\"verdict\":\"row\",\"bytes\":\"HEX\"} or {\"verdict\":\"none\"}
   {\"verdict\":\"error\",\"reason\":REASON}, of a file that can't be read and of a bad line
 If there are several files, \"file\" comes first, the file's name.
 

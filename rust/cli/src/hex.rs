@@ -1,7 +1,7 @@
 //! Hex digits to a table's bytes, piece by piece and in bounded memory.
 
 use std::fmt;
-use stramashly::{MAX_DEPENDENCIES, MAX_TABLE_BYTES};
+use stramashly::{MAX_DEPENDENCIES, MAX_ROWS, MAX_TABLE_BYTES};
 
 /// How many bytes of a table are kept: one more than those of any count of
 /// dependencies, which the length must fit before the count is refused. More
@@ -33,8 +33,9 @@ const fn values() -> [u8; 256] {
 /// Digits read so far.
 #[derive(Default)]
 pub struct Hex {
-    /// The first bytes; the others were only looked at.
+    /// The first bytes; the others were only looked at, and counted.
     bytes: Vec<u8>,
+    left_out: u64,
     /// The first digit of a byte whose second one has not come yet.
     half: Option<u8>,
     letters: u64,
@@ -53,6 +54,7 @@ pub enum Bad {
 impl Hex {
     pub fn clear(&mut self) {
         self.bytes.clear();
+        self.left_out = 0;
         self.half = None;
         self.letters = 0;
         self.bad = None;
@@ -86,6 +88,8 @@ impl Hex {
             Some(half) => {
                 if self.bytes.len() < KEPT_BYTES {
                     self.bytes.push(half << 4 | value);
+                } else {
+                    self.left_out += 1;
                 }
                 None
             }
@@ -97,6 +101,12 @@ impl Hex {
         self.bad.is_some()
     }
 
+    /// The bytes as the second piece of a table, cut off where its refusal
+    /// is sure.
+    pub fn rows(&self) -> Result<&[u8], Bad> {
+        Ok(front_of_rows(self.bytes()?, self.left_out))
+    }
+
     /// The bytes, cut off after `KEPT_BYTES`.
     pub fn bytes(&self) -> Result<&[u8], Bad> {
         match (self.bad, self.half) {
@@ -105,6 +115,16 @@ impl Hex {
             (None, None) => Ok(&self.bytes),
         }
     }
+}
+
+/// The front of a second piece of a table, of which so many bytes were left
+/// out: it has too many rows, or is no rows, as the whole has.
+pub fn front_of_rows(bytes: &[u8], left_out: u64) -> &[u8] {
+    if left_out == 0 {
+        return bytes;
+    }
+    let rest = (bytes.len() as u64 + left_out) % 16;
+    &bytes[..16 * (MAX_ROWS + 1) + rest as usize]
 }
 
 impl fmt::Display for Bad {
@@ -167,8 +187,12 @@ mod tests {
             hex.push(&[b'5'; 1000]);
         }
         assert_eq!(hex.bytes(), Ok(&[0x55; KEPT_BYTES][..]));
+        // As rows they have the remainder of all that came, 500,000 bytes.
+        assert_eq!(hex.rows(), Ok(&[0x55; 16 * 129][..]));
         hex.push(b"5");
         assert_eq!(hex.bytes(), Err(Bad::OddDigits));
+        hex.push(b"5");
+        assert_eq!(hex.rows(), Ok(&[0x55; 16 * 129 + 1][..]));
         hex.clear();
         assert_eq!(hex.bytes(), Ok(&[][..]));
     }

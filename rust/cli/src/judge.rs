@@ -1,12 +1,12 @@
 //! One table judged: its answer as text, and the status that goes with it.
 
-use crate::answers::Answer;
+use crate::answers::{Answer, ShownRow};
 use crate::json::Object;
 use crate::question::Question;
 use crate::writing::{rows, write};
 use crate::Status;
 use std::fmt::{Display, Write};
-use stramashly::Checker;
+use stramashly::{row_of_pieces, Checker, Pieces};
 
 /// How an answer is written.
 #[derive(Clone, Copy)]
@@ -18,8 +18,22 @@ pub enum Form<'a> {
     },
 }
 
-/// Appends the answer and a line's end to the text.
+/// Appends the answer and a line's end to the text. The table may have a second
+/// piece.
 pub fn judge(
+    checker: &mut Checker,
+    question: &Question,
+    table: (&[u8], Option<&[u8]>),
+    form: Form,
+    text: &mut String,
+) -> Status {
+    match table {
+        (table, None) => judge_whole(checker, question, table, form, text),
+        (first, Some(second)) => judge_pieces(checker, question, [first, second], form, text),
+    }
+}
+
+fn judge_whole(
     checker: &mut Checker,
     question: &Question,
     table: &[u8],
@@ -43,6 +57,34 @@ pub fn judge(
         }
         Question::Rows => append(text, form, &rows(table)),
         Question::Write(writing) => append(text, form, &write(writing)),
+        // A table by itself is one whose second piece is empty.
+        Question::Row { .. } => judge_pieces(checker, question, [table, &[]], form, text),
+    }
+}
+
+fn judge_pieces(
+    checker: &mut Checker,
+    question: &Question,
+    pieces: Pieces,
+    form: Form,
+    text: &mut String,
+) -> Status {
+    match question {
+        Question::Check => append(text, form, &checker.check_pieces(pieces)),
+        Question::Fill => append(text, form, &checker.fill_pieces(pieces)),
+        Question::Report => append(text, form, &checker.report_pieces(pieces)),
+        Question::Derive { first, second } => {
+            append(text, form, &checker.derive_pieces(pieces, *first, *second))
+        }
+        Question::Accepts {
+            first,
+            second,
+            claim,
+        } => {
+            let answer = Checker::accepts_pieces(pieces, *first, *second, claim.derivation());
+            append(text, form, &answer)
+        }
+        Question::Row { row } => append(text, form, &ShownRow(row_of_pieces(pieces, *row))),
     }
 }
 

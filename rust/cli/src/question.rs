@@ -12,6 +12,8 @@ pub enum Kind {
     Accepts,
     Rows,
     Write,
+    /// A row of a table in two pieces.
+    Row,
 }
 
 /// A command with all that it needs besides a table.
@@ -42,6 +44,9 @@ pub struct Writing {
     pub places: Vec<u16>,
     pub rows: Vec<u8>,
     pub dependencies: Vec<u16>,
+    Row {
+        row: u16,
+    },
 }
 
 /// A derivation as somebody wrote it.
@@ -101,13 +106,30 @@ impl Kind {
     }
 
     /// Whether there are words after a single table.
+    /// What there is to choose from in a batch line.
+    pub const LINES: &str = "check, fill, report, derive, accepts, the same with a 2, and row2";
+
+    /// The command of a batch line, and whether its table is in two pieces.
+    pub fn of_line(name: &[u8]) -> Option<(Kind, bool)> {
+        let one = name.strip_suffix(b"2");
+        match one {
+            Some(b"row") => Some((Kind::Row, true)),
+            Some(one) => Kind::named(one).map(|kind| (kind, true)),
+            None => Kind::named(name).map(|kind| (kind, false)),
+        }
+    }
+
+    /// Whether there are words after the table.
     pub fn takes_words(self) -> bool {
-        matches!(self, Kind::Derive | Kind::Accepts)
+        matches!(self, Kind::Derive | Kind::Accepts | Kind::Row)
     }
 
     /// The question, from the words after the table.
     pub fn question(self, words: &[&str]) -> Result<Question, String> {
         match self {
+            Kind::Check | Kind::Fill | Kind::Report if !words.is_empty() => {
+                Err("no words come after the table".to_string())
+            }
             Kind::Check => Ok(Question::Check),
             Kind::Fill => Ok(Question::Fill),
             Kind::Report => Ok(Question::Report),
@@ -128,6 +150,12 @@ impl Kind {
             },
             Kind::Rows => Ok(Question::Rows),
             Kind::Write => Err("write takes no table".to_string()),
+            Kind::Row => match words {
+                [row] => Ok(Question::Row {
+                    row: number(row, u16::MAX)?,
+                }),
+                _ => Err("row2 takes one row's number".to_string()),
+            },
         }
     }
 }

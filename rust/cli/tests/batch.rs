@@ -73,6 +73,9 @@ fn bad_lines_are_answered_and_the_stream_goes_on() {
     let answers = "error none of check, fill, report, derive, accepts, rows and write\n\
          error none of check, fill, report, derive, accepts, rows and write\n\
          error none of check, fill, report, derive, accepts, rows and write\nerror odd count of hex digits\n\
+    let answers = "error none of check, fill, report, derive, accepts, the same with a 2, and row2\n\
+         error none of check, fill, report, derive, accepts, the same with a 2, and row2\n\
+         error none of check, fill, report, derive, accepts, the same with a 2, and row2\nerror odd count of hex digits\n\
          error 'G' at place 7 is no hex digit\nerror byte 0xC3 at place 5 is no hex digit\n\
          race-free\n";
     for words in [&["batch"][..], &["batch", "-j", "2"]] {
@@ -140,6 +143,7 @@ fn long_lines_have_the_refusal_that_they_deserve() {
     let answer = stramashly(&["batch"], &input);
     let answers = "refused 4 0\nrefused 2 0\nerror odd count of hex digits\n\
          error none of check, fill, report, derive, accepts, rows and write\nfilled\n";
+         error none of check, fill, report, derive, accepts, the same with a 2, and row2\nfilled\n";
     assert_eq!(answer.output, answers);
 }
 

@@ -7,12 +7,14 @@
 
 mod claim;
 mod expected;
+mod pieces;
 mod reasons;
 mod reports;
 mod tally;
 mod writing;
 
 pub use claim::Claim;
+pub use pieces::OfPieces;
 pub use reasons::{Derived, Moments, Probed};
 pub use tally::Tally;
 

@@ -19,6 +19,7 @@
 //! | derivations, refusal 12 | `derivation` |
 //! | counts of conflicting pairs | `report` |
 //! | the writer, refusal 13, and a table's rows one by one | `writing` |
+//! | tables in two pieces, refusal 40 | `pieces` |
 //! | the rules one by one, for those who put an answer into words | `facts` |
 
 mod admission;
@@ -32,6 +33,7 @@ mod happens_before;
 mod judge;
 mod location;
 mod moments;
+mod pieces;
 mod report;
 mod state;
 mod synchronization;
@@ -44,6 +46,7 @@ pub use chains::Chains;
 pub use derivation::{AcceptsAnswer, Derivation};
 pub use happens_before::{ACQUIRE_STEP, RELEASE_STEP, SYNCHRONIZES_STEP, SYSTEM_STEP};
 pub use moments::{AFTER, AT, BEFORE};
+pub use pieces::{joined, Pieces};
 pub use report::{Counts, ReportAnswer};
 pub use state::State;
 pub use system::DomainSteps;

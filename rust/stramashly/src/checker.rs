@@ -2,7 +2,10 @@
 
 use crate::answer::{foreign, CheckAnswer, Code, FillAnswer, Packed};
 use crate::derivation::{AcceptsAnswer, Derivation, DeriveAnswer};
-use crate::engine::{accepts_in, check_with, derive_in, fill_with, report_with, share_of};
+use crate::engine::{
+    accepts_in, accepts_pieces, check_pieces, check_with, derive_in, derive_pieces, fill_pieces,
+    fill_with, report_pieces, report_with, share_of, Pieces,
+};
 use crate::report::{Report, ReportAnswer, Share};
 use crate::{CHAIN_NUMBERS, CYCLE_EDGES, CYCLE_NUMBERS, PROGRAM_ORDER, SOURCE_NUMBERS, WORK_WORDS};
 
@@ -57,6 +60,48 @@ impl Checker {
     /// Counts a table's conflicting pairs, whatever its bytes.
     pub fn report(&mut self, table: &[u8]) -> ReportAnswer<'_> {
         let packed = report_with(self.chains, table, &mut self.work[..], &mut self.cycle);
+        self.counted(packed)
+    }
+
+    /// Checks a table in two pieces, whatever their bytes.
+    pub fn check_pieces(&mut self, pieces: Pieces) -> CheckAnswer<'_> {
+        let packed = check_pieces(self.chains, pieces, &mut self.work[..], &mut self.cycle);
+        self.checked(packed)
+    }
+
+    /// Fills the blanks of a table in two pieces, whatever their bytes.
+    pub fn fill_pieces(&mut self, pieces: Pieces) -> FillAnswer<'_> {
+        let packed = fill_pieces(self.chains, pieces, &mut self.work[..], &mut self.sources);
+        self.filled(packed)
+    }
+
+    /// Counts the conflicting pairs of a table in two pieces.
+    pub fn report_pieces(&mut self, pieces: Pieces) -> ReportAnswer<'_> {
+        let packed = report_pieces(self.chains, pieces, &mut self.work[..], &mut self.cycle);
+        self.counted(packed)
+    }
+
+    /// Why one moment of a table in two pieces happens before another.
+    pub fn derive_pieces(&mut self, pieces: Pieces, first: u16, second: u16) -> DeriveAnswer<'_> {
+        let moments = [first, second];
+        let packed = derive_pieces(pieces, moments, &mut self.work[..], &mut self.chain);
+        self.derived(packed)
+    }
+
+    /// Whether a derivation leads from one moment of a table in two pieces to
+    /// another.
+    pub fn accepts_pieces(
+        pieces: Pieces,
+        first: u16,
+        second: u16,
+        derivation: Derivation,
+    ) -> AcceptsAnswer {
+        let (classes, steps) = (derivation.classes(), derivation.steps());
+        accepted(accepts_pieces(pieces, [first, second], classes, steps))
+    }
+
+    /// A report's answer, taken apart.
+    fn counted(&self, packed: Packed) -> ReportAnswer<'_> {
         match packed.code() {
             Some(Code::Report) => ReportAnswer::Report(reported(packed)),
             Some(Code::Overwritten | Code::Cycle | Code::Refused) => {
@@ -93,6 +138,11 @@ impl Checker {
     /// Fills a table's blanks, whatever its bytes.
     pub fn fill(&mut self, table: &[u8]) -> FillAnswer<'_> {
         let packed = fill_with(self.chains, table, &mut self.work[..], &mut self.sources);
+        self.filled(packed)
+    }
+
+    /// A fill's answer, taken apart; the sources lie in the buffer.
+    fn filled(&self, packed: Packed) -> FillAnswer<'_> {
         let (a, b, c) = (packed.a(), packed.b(), packed.c());
         match packed.code() {
             Some(Code::Filled) => FillAnswer::Filled(&self.sources[..usize::from(a)]),
@@ -111,6 +161,11 @@ impl Checker {
     /// and the numbers.
     pub fn derive(&mut self, table: &[u8], first: u16, second: u16) -> DeriveAnswer<'_> {
         let packed = derive_in(table, first, second, &mut self.work[..], &mut self.chain);
+        self.derived(packed)
+    }
+
+    /// What was derived, taken apart; a chain lies in the buffer.
+    fn derived(&self, packed: Packed) -> DeriveAnswer<'_> {
         let (a, b) = (packed.a(), packed.b());
         match packed.code() {
             Some(Code::Derivation) if a == u16::from(PROGRAM_ORDER) => {
@@ -131,16 +186,20 @@ impl Checker {
     /// a checker's can be read.
     pub fn accepts(table: &[u8], first: u16, second: u16, derivation: Derivation) -> AcceptsAnswer {
         let (classes, steps) = (derivation.classes(), derivation.steps());
-        let packed = accepts_in(table, first, second, classes, steps);
-        match packed.code() {
-            Some(Code::Accepted) => AcceptsAnswer::Accepted,
-            Some(Code::NotAccepted) => AcceptsAnswer::NotAccepted,
-            Some(Code::Refused) => AcceptsAnswer::Refused {
-                number: packed.a(),
-                row: packed.b(),
-            },
-            _ => foreign(packed),
-        }
+        accepted(accepts_in(table, first, second, classes, steps))
+    }
+}
+
+/// The reader's answer, taken apart.
+fn accepted(packed: Packed) -> AcceptsAnswer {
+    match packed.code() {
+        Some(Code::Accepted) => AcceptsAnswer::Accepted,
+        Some(Code::NotAccepted) => AcceptsAnswer::NotAccepted,
+        Some(Code::Refused) => AcceptsAnswer::Refused {
+            number: packed.a(),
+            row: packed.b(),
+        },
+        _ => foreign(packed),
     }
 }
 

@@ -45,6 +45,22 @@
 //!
 //! A recorder hands its values to a [`TableWriter`], which gives a table that a
 //! fill admits; [`Rows`] steps through the rows of one.
+//! A table may come in two pieces, a table and more rows for it, which need not
+//! be copied together: [`Checker::check_pieces`] and its like. The answer is
+//! that of the joined table; [`row_of_pieces`] finds a row of either.
+//!
+//! ```
+//! use stramashly::{row_of_pieces, Checker};
+//!
+//! let prologue = [0, 0, 0, 10, 1, 1, 0, 0, 0, 0, 0, 0, 0, 0];
+//! let write = [1, 0, 0, 0, 0, 0, 0, 4, 0, 0, 0, 0, 255, 255, 0, 0];
+//! let pieces = [&prologue[..], &write];
+//! let mut checker = Checker::new();
+//! assert_eq!(checker.check_pieces(pieces).to_string(), "race-free");
+//! assert_eq!(row_of_pieces(pieces, 0), Some(&write[..]));
+//! assert_eq!(row_of_pieces(pieces, 1), None);
+//! assert_eq!(checker.check_pieces([&prologue, &write[1..]]).to_string(), "refused 40 0");
+//! ```
 //!
 //! [`check_in`], [`fill_in`], [`derive_in`] and [`report_in`] take lent buffers
 //! instead, of any length, and give the packed answer as it comes, and so do
@@ -64,6 +80,9 @@ pub use derivation::{AcceptsAnswer, Derivation, DeriveAnswer};
 pub use engine::{
     accepts_in, check_in, check_with, derive_in, fill_in, fill_with, open_in, report_in,
     report_with, row_in, share_of, write_in,
+    accepts_in, accepts_pieces, check_in, check_pieces, check_with, derive_in, derive_pieces,
+    fill_in, fill_pieces, fill_with, report_in, report_pieces, report_with, row_of_pieces,
+    share_of, Pieces,
 };
 pub use report::{Report, ReportAnswer, Share};
 pub use rows::Rows;

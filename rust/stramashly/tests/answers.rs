@@ -156,5 +156,7 @@ fn packed_answers_come_apart() {
     assert_eq!(packed.code(), Some(Code::Race));
     assert_eq!((packed.a(), packed.b(), packed.c()), (1, 2, 65535));
     assert_eq!(Packed(16 << 48).code(), None);
+    assert_eq!(Packed(13 << 48).code(), Some(Code::NoRow));
+    assert_eq!(Packed(14 << 48).code(), None);
     assert_eq!(format!("{packed:?}"), "Packed(1, 1, 2, 65535)");
 }

@@ -1,0 +1,257 @@
+-- Opening a table in one or two pieces, for every kind of answer: what an entry point knows once its bytes are admitted, and what comes
+-- back where they are not. Assumes nothing.
+use mathlib.Core.Path.{_≡_, refl, sym, ap, _∙_}
+use mathlib.Core.Bool.{Bool, true, false, not, cond}
+use mathlib.Core.List.{List, [], _++_}
+use Prim.Native.Nat.{ℕ, zero, suc, _+_, _-_, _*_, _≤_, _<_}
+use native.Mathlib.Omega.{arith}
+use native.Mathlib.Decide.{decLt, ℕ-discrete}
+use lib.ListN.{length, getD, take, drop, replicate, length-append, length-drop, length-replicate, List·getD-append}
+use lib.Seq.{ext-getD, getD-drop, getD-append-add}
+use lib.Dec.{leb, eqb}
+use borrow.Author.Tests.{leb-true, not-false}
+use Rattle.finite.specs.Logic.{_and_, split, not-out}
+use Rattle.bits.specs.Bit.{zeros, length-zeros, zeros-in, zeros-out}
+use Rattle.model.specs.declared.Mode.{Mode}
+use Rattle.model.specs.declared.Admission.{Admission}
+use Rattle.model.specs.declared.Admission.the-variants.{Admitted, Refused}
+use Rattle.model.specs.Limits.{ROWS, WORK, LONGEST, BYTES}
+use Rattle.model.specs.Row.{access}
+use Rattle.model.specs.Table.{ROW-BYTES, rowsAt, rowBytes, placesOf, modeOf, rowOf, sourceOf, decode, tableUnder, tableOf, sourcesOf}
+use Rattle.model.specs.Refusal.{buffersFit, headerFault, admission}
+use Rattle.model.specs.Check.{wiped}
+use Rattle.model.specs.AdmissionLaws.{Sound, sound-admitted, admitted-sound, rows-fit, size-fits, access-end}
+use Rattle.table.specs.Rows.{shapeFault}
+use Rattle.table.proofs.Laws.{shape-refused, header-refused}
+use Rattle.pieces.specs.declared.Refusal.{Refusal}
+use Rattle.pieces.specs.Pieces.{AREA, areaOf, rowsBoth, piecesFault, joined, ofBoth, admissionBoth}
+use Rattle.pieces.specs.PiecesLaws.{getD-zeros, both-fit, joined-rows, joined-places, joined-mode, joined-front, of-joined, of-refused, none-fault, none-admission}
+
+-- ---- definitions
+
+-- a refusal's number and row; an admission has none
+unfoldable pub refusalOf : Admission → Refusal
+refusalOf (Refused n i) = record { number = n; row = i }
+refusalOf (Admitted a n) = record { number = 0; row = 0 }
+
+-- refusal 11, by the lengths of the lent buffers, then the pair's
+unfoldable pub doorBoth : ℕ → Bool → List ℕ → List ℕ → ℕ → ℕ → Admission
+doorBoth needs blanks f s work buffer = cond (buffersFit needs work buffer) (admissionBoth blanks f s) (Refused 11 0)
+
+-- a refusal, or else v, in the words of any kind of answer
+unfoldable pub opened : {A : Type 0} → (ℕ → ℕ → A) → A → Admission → A
+opened refused v (Refused n i) = refused n i
+opened refused v (Admitted a n) = v
+
+-- b are the bytes of the n rows of some table that is admitted, p its places, and mode what it goes by beside them
+pub record RowsOf (blanks : Bool) (b : List ℕ) (p : List (List ℕ)) (mode : Mode) (n : ℕ) : Type 0 where
+  pub table : List ℕ
+  pub chains : Bool
+  pub sound : Sound blanks table
+  pub rows : b ≡ rowBytes table
+  pub places : p ≡ placesOf table
+  pub modes : mode ≡ modeOf chains table
+  pub all : n ≡ rowsAt table
+
+-- ---- laws: rows of an admitted table
+
+module _ {blanks : Bool} {b : List ℕ} {p : List (List ℕ)} {mode : Mode} {n : ℕ} (h : RowsOf blanks b p mode n) where
+  pub few : n ≤ ROWS
+  few = rw (h .all) (rows-fit (h .sound))
+
+  pub row-ends : (i : ℕ) → i < n → access (rowOf b i) ≡ true → rowOf b i .start + rowOf b i .size ≤ BYTES
+  row-ends i l a = rw (h .rows) (access-end (h .sound) i (rw (← h .all) l) (rw (← h .rows) a))
+
+  pub row-sizes : (i : ℕ) → i < n → rowOf b i .size ≤ LONGEST
+  row-sizes i l = rw (h .rows) (size-fits (h .sound) i (rw (← h .all) l))
+
+-- ---- laws: an admission taken apart
+
+module _ {A : Type 0} (refused : ℕ → ℕ → A) (v : A) (a b : Admission) (e : a ≡ b) where
+  pub opened-refused : {n i : ℕ} (x : Refusal) → a ≡ Refused n i → x ≡ refusalOf a → opened refused v b ≡ refused (x .number) (x .row)
+  unfolding opened refusalOf
+  opened-refused x h q = rw (← e, q, h) refl
+
+  pub opened-admitted : {g n : ℕ} → a ≡ Admitted g n → opened refused v b ≡ v
+  unfolding opened
+  opened-admitted h = rw (← e, h) refl
+
+-- a refusal is no admission
+not-admitted : {A : Type 0} {n i a r : ℕ} → Refused n i ≡ Admitted a r → A
+not-admitted e = let z : _≡_ {A = ℕ} 0 1 = ap which-one e in absurd (omega arith)
+  where
+    which-one : Admission → ℕ
+    which-one (Refused n i) = 0
+    which-one (Admitted a r) = 1
+
+-- refusal 11, from the two lengths
+pub door-short : (needs : ℕ) (blanks : Bool) (f s : List ℕ) (work buffer : ℕ) → not (leb WORK work and leb needs buffer) ≡ true → Refused 11 0 ≡ doorBoth needs blanks f s work buffer
+unfolding doorBoth buffersFit
+door-short needs blanks f s work buffer e = rw (not-out (leb WORK work and leb needs buffer) e) refl
+
+pub door-wide : (needs : ℕ) (blanks : Bool) (f s : List ℕ) (work buffer : ℕ) → not (leb WORK work and leb needs buffer) ≡ false → admissionBoth blanks f s ≡ doorBoth needs blanks f s work buffer
+unfolding doorBoth buffersFit
+door-wide needs blanks f s work buffer e = rw (not-false (leb WORK work and leb needs buffer) e) refl
+
+pub door-admits : (needs : ℕ) (blanks : Bool) (f s : List ℕ) (work buffer : ℕ) (a : Admission) {g n : ℕ} → a ≡ doorBoth needs blanks f s work buffer → a ≡ Admitted g n
+    → (WORK ≤ work) × (needs ≤ buffer) × (a ≡ admissionBoth blanks f s)
+unfolding doorBoth buffersFit
+door-admits needs blanks f s work buffer a {g} {n} e h = go (buffersFit needs work buffer) refl e
+  where
+    fits : buffersFit needs work buffer ≡ true → (WORK ≤ work) × (needs ≤ buffer)
+    fits q = (leb-true WORK work (split q .0), leb-true needs buffer (split q .1))
+
+    go : (b : Bool) → buffersFit needs work buffer ≡ b → a ≡ cond b (admissionBoth blanks f s) (Refused 11 0) → (WORK ≤ work) × (needs ≤ buffer) × (a ≡ admissionBoth blanks f s)
+    go true q k = (fits q .0, fits q .1, k)
+    go false q k = not-admitted (sym k ∙ h)
+
+-- ---- laws: two pieces that are admitted
+
+decode-same : (b c : List ℕ) (p q : List (List ℕ)) (g h : Mode) (n m : ℕ) → b ≡ c → p ≡ q → g ≡ h → n ≡ m → decode b p g n ≡ decode c q h m
+decode-same b c p q g h n m e f k l = rw (e, f, k, l) refl
+
+module _ (blanks : Bool) (f s : List ℕ) (a : Admission) (e : a ≡ admissionBoth blanks f s) {g n : ℕ} (h : a ≡ Admitted g n) where
+  pieces-right : piecesFault f s ≡ 0
+  unfolding admissionBoth
+  pieces-right = go (ℕ-discrete (piecesFault f s) 0)
+    where
+      go : Dec (piecesFault f s ≡ 0) → piecesFault f s ≡ 0
+      go (yes z) = z
+      go (no d) = not-admitted (sym (of-refused Refused (admission blanks) f s (piecesFault f s) refl d) ∙ sym e ∙ h)
+
+  admits : admission blanks (joined f s) ≡ Admitted g n
+  unfolding admissionBoth
+  admits = sym (of-joined f s pieces-right Refused (admission blanks)) ∙ sym e ∙ h
+
+  sound-both : Sound blanks (joined f s)
+  sound-both = admitted-sound blanks (joined f s) admits
+
+  all-both : n ≡ rowsAt (joined f s)
+  all-both = ap rows-in (sym admits ∙ sound-admitted blanks (joined f s) sound-both)
+    where
+      rows-in : Admission → ℕ
+      rows-in (Admitted x y) = y
+      rows-in (Refused x y) = 0
+
+  pub few-both : n ≤ ROWS
+  few-both = rw all-both (rows-fit sound-both)
+
+  module _ (chains : Bool) (all : List ℕ) (p : List (List ℕ)) (mode : Mode) (copy : all ≡ areaOf (rowBytes f ++ s)) (places : p ≡ placesOf f) (modes : mode ≡ modeOf chains f) where
+    front : take (n * ROW-BYTES) all ≡ rowBytes (joined f s)
+    front = joined-front f s all n pieces-right (all-both ∙ joined-rows f s pieces-right) copy
+
+    -- what the stage below an entry point is handed
+    pub rows-both : RowsOf blanks (take (n * ROW-BYTES) all) p mode n
+    rows-both =
+        record {
+          table = joined f s;
+          chains = chains;
+          sound = sound-both;
+          rows = front;
+          places = places ∙ sym (joined-places f s pieces-right);
+          modes = modes ∙ sym (joined-mode f s pieces-right chains);
+          all = all-both;
+        }
+
+    pub table-both : decode (take (n * ROW-BYTES) all) p mode n ≡ tableUnder chains (joined f s)
+    unfolding tableUnder
+    table-both =
+        decode-same _ _ _ _ _ _ _ _ front (places ∙ sym (joined-places f s pieces-right)) (modes ∙ sym (joined-mode f s pieces-right chains)) all-both
+
+    pub sources-both : sourceOf (take (n * ROW-BYTES) all) ≡ sourcesOf (joined f s)
+    unfolding sourcesOf
+    sources-both = rw front refl
+
+-- what reads no chains asks the table without them
+pub table-false : (t : List ℕ) → tableUnder false t ≡ tableOf t
+unfolding tableOf
+table-false t = refl
+
+-- the same behind refusal 11
+module _ (needs : ℕ) (blanks : Bool) (f s : List ℕ) (work buffer : ℕ) (a : Admission) (e : a ≡ doorBoth needs blanks f s work buffer) {g n : ℕ} (h : a ≡ Admitted g n) where
+  pub door-few : n ≤ ROWS
+  door-few = few-both blanks f s a (door-admits needs blanks f s work buffer a e h .2) h
+
+  module _ (chains : Bool) (all : List ℕ) (p : List (List ℕ)) (mode : Mode) (copy : all ≡ areaOf (rowBytes f ++ s)) (places : p ≡ placesOf f) (modes : mode ≡ modeOf chains f) where
+    pub door-rows : (WORK ≤ work) × (needs ≤ buffer) × RowsOf blanks (take (n * ROW-BYTES) all) p mode n
+    door-rows =
+        let k = door-admits needs blanks f s work buffer a e h in
+        (k .0, k .1, rows-both blanks f s a (k .2) h chains all p mode copy places modes)
+
+-- ---- laws: the answer to two pieces, by what they are refused for
+
+module _ {A : Type 0} (refused : ℕ → ℕ → A) (one v : List ℕ → A) (blanks : Bool) where
+  pub both-opened : ((t : List ℕ) → one t ≡ opened refused (v t) (admission blanks t)) → (f s : List ℕ)
+      → ofBoth refused one f s ≡ opened refused (v (joined f s)) (admissionBoth blanks f s)
+  unfolding ofBoth admissionBoth opened
+  both-opened is f s = go (eqb (piecesFault f s) 0) (piecesFault f s)
+    where
+      go : (b : Bool) (h : ℕ) → cond b (one (joined f s)) (refused h 0) ≡ opened refused (v (joined f s)) (cond b (admission blanks (joined f s)) (Refused h 0))
+      go true h = is (joined f s)
+      go false h = refl
+
+  -- with refusal 11 before it
+  pub door-opened : (needs work buffer : ℕ) → (buffersFit needs work buffer ≡ true → (t : List ℕ) → one t ≡ opened refused (v t) (admission blanks t)) → (f s : List ℕ)
+      → cond (buffersFit needs work buffer) (ofBoth refused one f s) (refused 11 0) ≡ opened refused (v (joined f s)) (doorBoth needs blanks f s work buffer)
+  unfolding doorBoth opened
+  door-opened needs work buffer is f s = go (buffersFit needs work buffer) (λ e. both-opened (is e) f s)
+    where
+      go : (b : Bool) → (b ≡ true → ofBoth refused one f s ≡ opened refused (v (joined f s)) (admissionBoth blanks f s))
+          → cond b (ofBoth refused one f s) (refused 11 0) ≡ opened refused (v (joined f s)) (cond b (admissionBoth blanks f s) (Refused 11 0))
+      go true k = k refl
+      go false k = refl
+
+  -- one piece is two of which the second is empty
+  pub none-one : ((t : List ℕ) → one t ≡ opened refused (v t) (admission blanks t)) → (f : List ℕ) → (shapeFault f ≡ 0 → v (joined f []) ≡ v f) → ofBoth refused one f [] ≡ one f
+  unfolding opened
+  none-one is f same = go (ℕ-discrete (shapeFault f) 0)
+    where
+      go : Dec (shapeFault f ≡ 0) → ofBoth refused one f [] ≡ one f
+      go (yes z) =
+          of-joined f [] (none-fault f ∙ z) refused one ∙ is (joined f []) ∙ ap (λ (x : A). opened refused x (admission blanks (joined f []))) (same z)
+          ∙ ap (opened refused (v f)) (none-admission f z blanks) ∙ sym (is f)
+      go (no d) =
+          of-refused refused one f [] (shapeFault f) (sym (none-fault f)) d
+          ∙ sym (is f ∙ ap (opened refused (v f)) (header-refused blanks f (shapeFault f) (shape-refused f (shapeFault f) refl d) d))
+
+  pub none-door : (needs work buffer : ℕ) → (buffersFit needs work buffer ≡ true → (t : List ℕ) → one t ≡ opened refused (v t) (admission blanks t))
+      → (f : List ℕ) → (shapeFault f ≡ 0 → v (joined f []) ≡ v f) → (buffersFit needs work buffer ≡ false → one f ≡ refused 11 0)
+      → cond (buffersFit needs work buffer) (ofBoth refused one f []) (refused 11 0) ≡ one f
+  none-door needs work buffer is f same short = go (buffersFit needs work buffer) (λ e. none-one (is e) f same) short
+    where
+      go : (b : Bool) → (b ≡ true → ofBoth refused one f [] ≡ one f) → (b ≡ false → one f ≡ refused 11 0) → cond b (ofBoth refused one f []) (refused 11 0) ≡ one f
+      go true k l = k refl
+      go false k l = sym (l refl)
+
+-- ---- laws: what comes back, with a work area w that becomes u and another buffer c that becomes d
+
+module _ {K A : Type 0} (answer : K → A) (workAfter bufferAfter : K → List ℕ → List ℕ) where
+  abbrev pub Left : K → A → List ℕ → List ℕ → List ℕ → List ℕ → Type 0
+  Left v r w u c d = (r ≡ answer v) × (u ≡ workAfter v w) × (d ≡ bufferAfter v c)
+
+  pub left-same : {o v : K} {r : A} {w u c d : List ℕ} → o ≡ v → Left v r w u c d → Left o r w u c d
+  left-same {w = w} {c = c} e h = (h .0 ∙ ap answer (sym e), h .1 ∙ ap (λ (x : K). workAfter x w) (sym e), h .2 ∙ ap (λ (x : K). bufferAfter x c) (sym e))
+
+-- ---- laws: the work area, wiped
+
+-- clearing the first words wipes them
+pub zeros-wiped : (w : List ℕ) → WORK ≤ length w → zeros w 0 WORK ≡ wiped w
+unfolding wiped
+zeros-wiped w room = ext-getD 0 (zeros w 0 WORK) (replicate WORK 0 ++ drop WORK w) (length-zeros w 0 WORK ∙ sym long) (λ k l. at k (decLt k WORK))
+  where
+    blank : List ℕ
+    blank = replicate WORK 0
+
+    front : length blank ≡ WORK
+    front = length-replicate {A = ℕ} WORK 0
+
+    long : length (blank ++ drop WORK w) ≡ length w
+    long = length-append blank (drop WORK w) ∙ rw (front, length-drop WORK w) (omega arith)
+
+    at : (k : ℕ) → Dec (k < WORK) → getD (zeros w 0 WORK) k 0 ≡ getD (blank ++ drop WORK w) k 0
+    at k (yes l) = zeros-in w 0 WORK k (omega arith) (omega arith) (omega arith) ∙ sym (List·getD-append blank (drop WORK w) 0 k (rw front l) ∙ getD-zeros WORK k)
+    at k (no l) =
+        let p : length blank + (k - WORK) ≡ k = rw front (omega arith) in
+        let q : WORK + (k - WORK) ≡ k = omega arith in
+        zeros-out w 0 WORK k (λ h. omega arith)
+        ∙ sym (ap (λ (i : ℕ). getD (blank ++ drop WORK w) i 0) (sym p) ∙ getD-append-add blank (drop WORK w) (k - WORK) 0 ∙ getD-drop WORK w (k - WORK) 0 ∙ ap (λ (i : ℕ). getD w i 0) q)

@@ -1,0 +1,5 @@
+pub mod Pieces
+pub mod PiecesLaws
+pub mod Entry
+pub mod Answers
+pub mod Promise

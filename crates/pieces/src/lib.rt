@@ -1,0 +1,204 @@
+// A table in two pieces: the first an ordinary table, the second only rows of 16 bytes, to be added after its rows. A table in one piece is
+// two of which the second is empty. Every entry point is opened here.
+ghost use mathlib.Core.Path.{_≡_};
+ghost use mathlib.Core.List.{_++_};
+ghost use Prim.Native.Nat.{min};
+ghost use lib.ListN.{getD};
+ghost use Rattle.model.specs.Table.{rowBytes};
+ghost use Rattle.pieces.specs.Pieces.{AREA, rowsBoth, countBoth, piecesFault, earlyFault, areaOf, admissionBoth, rowPart, rowPlace};
+ghost use Rattle.pieces.specs.Entry.{refusalOf, doorBoth};
+use model::Admission;
+use rows::bytes;
+use rows::scopes;
+use table::header;
+use table::pick;
+
+// The bytes of all rows that there may be.
+pub const AREA: usize = 2048;
+
+// ---- the refusals of a pair
+
+// How many rows both pieces have.
+pub fn rows_both(first: &[u8], second: &[u8]) -> usize
+    ensures { λ r. ⌜ r ≡ rowsBoth (now (first .entry)) (now (second .entry)) ⌝ }
+{
+    (bytes::rows_at(first) as usize) + second.len() / bytes::ROW_BYTES
+}
+
+// The same where there are not too many, else 0.
+pub fn count_both(first: &[u8], second: &[u8]) -> u8
+    ensures { λ r. ⌜ r ≡ countBoth (now (first .entry)) (now (second .entry)) ⌝ }
+{
+    let n = rows_both(first, second);
+    if model::ROWS < n {
+        return 0;
+    }
+    n as u8
+}
+
+// Refusals 1 to 4 of the first piece, 40 of the second, and 3 of both; or 0.
+// Ruled out: a first piece of another version whose second piece isn't whole rows gets 40; 15 bytes pass as no row.
+pub fn pieces_fault(first: &[u8], second: &[u8]) -> u8
+    ensures { λ r. ⌜ r ≡ piecesFault (now (first .entry)) (now (second .entry)) ⌝ }
+{
+    let limited = pick(rows_both(first, second) <= model::ROWS, 0, 3);
+    let whole = pick(second.len() % bytes::ROW_BYTES == 0, limited, 40);
+    let fault = header::shape_fault(first);
+    pick(fault == 0, whole, fault)
+}
+
+// Every refusal before 5, or 0. The dependencies stand in the first piece and may name rows of either.
+pub fn early_fault(first: &[u8], second: &[u8]) -> u8
+    ensures { λ r. ⌜ r ≡ earlyFault (now (first .entry)) (now (second .entry)) ⌝ }
+{
+    let fault = pieces_fault(first, second);
+    if fault != 0 {
+        return fault;
+    }
+    let p = scopes::read_places(first);
+    let d = bytes::dependency_bytes(first);
+    let n = rows_both(first, second);
+    header::hosts_fault(p, bytes::agents_at(first), d, n as u8)
+}
+
+// ---- the rows of both
+
+// Byte k of the rows of both.
+fn byte_both(rows: &[u8], second: &[u8], k: usize) -> u8
+    ensures { λ r. ⌜ r ≡ getD (now (rows .entry) ++ now (second .entry)) k 0 ⌝ }
+{
+    if k < rows.len() {
+        return rows[k];
+    }
+    bytes::byte_at(second, k - rows.len())
+}
+
+// So many bytes, or all that there may be.
+fn at_most(size: usize) -> usize
+    ensures { λ r. ⌜ r ≡ min size AREA ⌝ }
+{
+    if size < AREA { size } else { AREA }
+}
+
+// The rows of both, one after the other; zeros past them. What a table of so many rows has no place for is left out.
+pub fn join_rows(first: &[u8], second: &[u8]) -> [u8; AREA]
+    ensures { λ r. ⌜ r ≡ areaOf (rowBytes (now (first .entry)) ++ now (second .entry)) ⌝ }
+{
+    let rows = bytes::row_bytes(first);
+    let mut all = [0u8; AREA];
+    let size = rows.len() + second.len();
+    let end = at_most(size);
+    for k in 0..end {
+        all[k] = byte_both(rows, second, k);
+    }
+    all
+}
+
+// Row n as its sixteen bytes, from the piece that holds it and without copying; empty where neither does. A pair that is refused before 5
+// holds no rows.
+pub fn row_part<'a>(first: &'a [u8], second: &'a [u8], n: u16) -> &'a [u8]
+    ensures { λ r. ⌜ now r ≡ rowPart (now (first .entry)) (now (second .entry)) n ⌝ }
+{
+    if early_fault(first, second) != 0 {
+        return &first[..0];
+    }
+    let i = n as usize;
+    let rows = bytes::rows_at(first) as usize;
+    if i < rows {
+        let at = bytes::rows_begin(first) + bytes::ROW_BYTES * i;
+        let end = at + bytes::ROW_BYTES;
+        return &first[at..end];
+    }
+    if i < rows_both(first, second) {
+        let at = bytes::ROW_BYTES * (i - rows);
+        let end = at + bytes::ROW_BYTES;
+        return &second[at..end];
+    }
+    &second[..0]
+}
+
+// Where row n's sixteen bytes begin: in the first piece, in the second, or nowhere.
+pub enum RowPlace {
+    First { at: u16 },
+    Second { at: u16 },
+    Neither,
+}
+
+// The place of that part, for a caller that can be handed no part of a slice.
+pub fn row_place(first: &[u8], second: &[u8], n: u16) -> RowPlace
+    ensures { λ r. ⌜ r ≡ rowPlace (now (first .entry)) (now (second .entry)) n ⌝ }
+{
+    if early_fault(first, second) != 0 {
+        return RowPlace::Neither;
+    }
+    let i = n as usize;
+    let rows = bytes::rows_at(first) as usize;
+    if i < rows {
+        let at = bytes::rows_begin(first) + bytes::ROW_BYTES * i;
+        return RowPlace::First { at: at as u16 };
+    }
+    if i < rows_both(first, second) {
+        let at = bytes::ROW_BYTES * (i - rows);
+        return RowPlace::Second { at: at as u16 };
+    }
+    RowPlace::Neither
+}
+
+// ---- opening a table
+
+// What the joined table is refused for, or its counts.
+pub fn admit_both(first: &[u8], second: &[u8], blanks: bool) -> Admission
+    ensures { λ r. ⌜ r ≡ admissionBoth blanks (now (first .entry)) (now (second .entry)) ⌝ }
+{
+    let fault = early_fault(first, second);
+    if fault != 0 {
+        return Admission::Refused {
+            number: fault,
+            row: 0,
+        };
+    }
+    let n = rows_both(first, second);
+    let hosts = bytes::has_hosts(first);
+    let agents = bytes::agents_at(first);
+    let p = scopes::read_places(first);
+    let mode = scopes::read_mode(first, false);
+    let all = join_rows(first, second);
+    let end = n * bytes::ROW_BYTES;
+    table::admit_rows(&all[..end], hosts, p, mode, agents, n as u8, blanks)
+}
+
+// The same with refusal 11 before it, from the lengths of the work area and of another buffer, which must hold so many numbers.
+pub fn open_both(
+    first: &[u8],
+    second: &[u8],
+    blanks: bool,
+    needs: usize,
+    work: usize,
+    buffer: usize,
+) -> Admission
+    ensures { λ r. ⌜ r ≡ doorBoth needs blanks (now (first .entry)) (now (second .entry)) work buffer ⌝ }
+{
+    if !((model::WORK <= work) & (needs <= buffer)) {
+        return Admission::Refused { number: 11, row: 0 };
+    }
+    admit_both(first, second, blanks)
+}
+
+// The number and the row of a refusal.
+pub struct Refusal {
+    pub number: u8,
+    pub row: u16,
+}
+
+// An admission is not handed to it.
+pub fn refusal_of(a: Admission) -> Refusal
+    ensures { λ r. ⌜ r ≡ refusalOf a ⌝ }
+{
+    match a {
+        Admission::Refused { number, row } => Refusal {
+            number: number,
+            row: row,
+        },
+        Admission::Admitted { agents: _, rows: _ } => Refusal { number: 0, row: 0 },
+    }
+}

@@ -1,0 +1,173 @@
+//! Compares tables in two pieces: check, fill and report with the second
+//! implementation, derivations with those of the joined table, and every row.
+
+use crate::{expected, Comparison, Difference, Lengths};
+use second::{joined, Chains, CheckAnswer, FillAnswer, Pieces};
+use stramashly::{
+    accepts_in, accepts_pieces, check_pieces, derive_in, derive_pieces, fill_pieces, report_pieces,
+    row_of_pieces, Packed, CHAIN_NUMBERS, CYCLE_NUMBERS, PROGRAM_ORDER, SOURCE_NUMBERS, WORK_WORDS,
+};
+use tables::{hex, MAX_ROWS};
+
+/// What a pair of pieces was answered; both agree.
+pub struct OfPieces {
+    pub check: CheckAnswer,
+    pub fill: FillAnswer,
+    /// How many rows were shown.
+    pub rows: usize,
+}
+
+impl Comparison {
+    /// All that is asked of two pieces with buffers that are long enough,
+    /// derivations aside.
+    pub fn pieces(&mut self, chains: Chains, pieces: Pieces) -> Result<OfPieces, Difference> {
+        let lengths = self.enough(CYCLE_NUMBERS);
+        let check = self.check_pieces_in(chains, pieces, lengths)?;
+        self.report_of_pieces(chains, pieces, lengths)?;
+        let lengths = self.enough(SOURCE_NUMBERS);
+        let fill = self.fill_pieces_in(chains, pieces, lengths)?;
+        let rows = self.rows_of_pieces(pieces)?;
+        Ok(OfPieces { check, fill, rows })
+    }
+
+    /// A check of two pieces with buffers of any length.
+    pub fn check_pieces_in(
+        &mut self,
+        chains: Chains,
+        pieces: Pieces,
+        lengths: Lengths,
+    ) -> Result<CheckAnswer, Difference> {
+        let Lengths { work, numbers } = lengths;
+        let answer = self.state.check_pieces(chains, pieces, work, numbers);
+        let places = self.prepare_pieces(pieces, lengths);
+        let expected = expected::of_check(&answer, &mut self.expected);
+        let lent = places.map(|(at, size)| &self.around[at..at + size]);
+        let (work, cycle) = (&mut self.ours.work, &mut self.ours.numbers);
+        let packed = check_pieces(chains == Chains::On, lent, work, cycle);
+        let words = || format!("check2 {} {chains:?}", shown(pieces));
+        self.compare(words, lengths, packed, expected)?;
+        Ok(answer)
+    }
+
+    /// A fill of two pieces with buffers of any length. One that the second
+    /// implementation gives up on is not compared.
+    pub fn fill_pieces_in(
+        &mut self,
+        chains: Chains,
+        pieces: Pieces,
+        lengths: Lengths,
+    ) -> Result<FillAnswer, Difference> {
+        let Lengths { work, numbers } = lengths;
+        let answer = self.state.fill_pieces(chains, pieces, work, numbers);
+        let places = self.prepare_pieces(pieces, lengths);
+        if let Some(expected) = expected::of_fill(&answer, &mut self.expected) {
+            let lent = places.map(|(at, size)| &self.around[at..at + size]);
+            let (work, sources) = (&mut self.ours.work, &mut self.ours.numbers);
+            let packed = fill_pieces(chains == Chains::On, lent, work, sources);
+            let words = || format!("fill2 {} {chains:?}", shown(pieces));
+            self.compare(words, lengths, packed, expected)?;
+        }
+        Ok(answer)
+    }
+
+    fn report_of_pieces(
+        &mut self,
+        chains: Chains,
+        pieces: Pieces,
+        lengths: Lengths,
+    ) -> Result<(), Difference> {
+        let Lengths { work, numbers } = lengths;
+        let answer = self.state.report_pieces(chains, pieces, work, numbers);
+        let places = self.prepare_pieces(pieces, lengths);
+        let expected = expected::of_report(&answer, &mut self.expected);
+        let lent = places.map(|(at, size)| &self.around[at..at + size]);
+        let (work, cycle) = (&mut self.ours.work, &mut self.ours.numbers);
+        let packed = report_pieces(chains == Chains::On, lent, work, cycle);
+        let words = || format!("report2 {} {chains:?}", shown(pieces));
+        self.compare(words, lengths, packed, expected)
+    }
+
+    /// A derivation in two pieces is that of the joined table, with all that
+    /// is left in the buffers, and both readers read it alike.
+    pub fn derivation_of_pieces(
+        &mut self,
+        pieces: Pieces,
+        moments: [u16; 2],
+    ) -> Result<Packed, Difference> {
+        let lengths = Lengths {
+            work: WORK_WORDS,
+            numbers: CHAIN_NUMBERS,
+        };
+        let places = self.prepare_pieces(pieces, lengths);
+        let lent = places.map(|(at, size)| &self.around[at..at + size]);
+        let (work, chain) = (&mut self.expected.work, &mut self.expected.numbers);
+        let [first, second] = moments;
+        let expected = match joined(pieces) {
+            Ok(table) => derive_in(&table, first, second, work, chain),
+            Err(number) => Packed::new(stramashly::Code::Refused, u16::from(number), 0, 0),
+        };
+        let (work, chain) = (&mut self.ours.work, &mut self.ours.numbers);
+        let packed = derive_pieces(lent, moments, work, chain);
+        let words = || format!("derive2 {} {moments:?}", shown(pieces));
+        self.compare(words, lengths, packed, expected)?;
+        self.reading_of_pieces(pieces, moments, packed)?;
+        Ok(packed)
+    }
+
+    /// The word, and the first steps in the buffer, as both forms read them.
+    fn reading_of_pieces(
+        &self,
+        pieces: Pieces,
+        moments: [u16; 2],
+        packed: Packed,
+    ) -> Result<(), Difference> {
+        let Ok(table) = joined(pieces) else {
+            return Ok(());
+        };
+        let steps = usize::from(packed.b()).min(CHAIN_NUMBERS);
+        for (classes, steps) in [
+            (PROGRAM_ORDER, 0),
+            (packed.a() as u8, steps),
+            (packed.a() as u8, steps / 2),
+        ] {
+            let steps = &self.ours.numbers[..steps];
+            let one = accepts_in(&table, moments[0], moments[1], classes, steps);
+            let two = accepts_pieces(pieces, moments, classes, steps);
+            if one != two {
+                let words = format!("{two:?} instead of {one:?}: accepts2 {}", shown(pieces));
+                return Err(Difference(words));
+            }
+        }
+        Ok(())
+    }
+
+    /// Every row that there may be, and some more; gives how many there are.
+    fn rows_of_pieces(&mut self, pieces: Pieces) -> Result<usize, Difference> {
+        let mut count = 0;
+        for row in (0..=MAX_ROWS + 1).chain([255, 256, 65535]) {
+            let expected = self.state.row_of_pieces(pieces, row);
+            let shown_row = row_of_pieces(pieces, row as u16);
+            // The very bytes that were lent, and not a copy of them.
+            let place = |part: Option<&[u8]>| part.map(|part| (part.as_ptr(), part.len()));
+            if place(shown_row) != place(expected) {
+                let words = format!("{shown_row:?}: row2 {} {row}", shown(pieces));
+                return Err(Difference(words));
+            }
+            count += usize::from(shown_row.is_some());
+        }
+        Ok(count)
+    }
+
+    /// Puts both pieces among random bytes; gives their places and sizes.
+    fn prepare_pieces(&mut self, [first, second]: Pieces, lengths: Lengths) -> [(usize, usize); 2] {
+        let between = self.random.below(8);
+        let gap: Vec<u8> = (0..between).map(|_| self.random.word() as u8).collect();
+        let at = self.prepare(&[first, &gap, second].concat(), lengths);
+        let second_at = at + first.len() + between;
+        [(at, first.len()), (second_at, second.len())]
+    }
+}
+
+fn shown([first, second]: Pieces) -> String {
+    format!("{} {}", hex(first), hex(second))
+}

@@ -1,0 +1,123 @@
+//! A table in two pieces: an ordinary table, and rows to be added after its
+//! rows. The answer is that of the joined table.
+
+use crate::admission::{self, Purpose, Refusal};
+use crate::answer::{CheckAnswer, FillAnswer};
+use crate::chains::Chains;
+use crate::derivation::{AcceptsAnswer, Derivation};
+use crate::report::ReportAnswer;
+use crate::state::State;
+use crate::table::{agent_bytes, HEADER_BYTES, ROW_BYTES};
+use crate::{CYCLE_NUMBERS, MAX_ROWS, SOURCE_NUMBERS, WORK_WORDS};
+
+/// The two pieces, in order.
+pub type Pieces<'a> = [&'a [u8]; 2];
+
+/// The joined table, or the number of the pair's own refusal, whose row is 0:
+/// 1 to 4 of the first piece, then 40, then 3 of both.
+pub fn joined([first, second]: Pieces) -> Result<Vec<u8>, u8> {
+    let number = |refusal: Refusal| refusal.number;
+    let (agents, rows) = admission::door(first).map_err(number)?;
+    // Refusal 40: the second piece's size isn't a multiple of 16.
+    if !second.len().is_multiple_of(ROW_BYTES) {
+        return Err(40);
+    }
+    // Refusal 3: rows of both together are over the limit.
+    let rows_of_both = rows + second.len() / ROW_BYTES;
+    if rows_of_both > MAX_ROWS {
+        return Err(3);
+    }
+    let rows_end = HEADER_BYTES + agent_bytes(first[4]) * agents + ROW_BYTES * rows;
+    let (front, dependencies) = first.split_at(rows_end);
+    let mut table = [front, second, dependencies].concat();
+    let following = (table.len() - 4) as u32;
+    table[..4].copy_from_slice(&following.to_be_bytes());
+    table[6] = rows_of_both as u8;
+    Ok(table)
+}
+
+impl State {
+    /// Checks a table in two pieces.
+    pub fn check_pieces(
+        &mut self,
+        chains: Chains,
+        pieces: Pieces,
+        work_words: usize,
+        cycle_numbers: usize,
+    ) -> CheckAnswer {
+        self.row_count = 0;
+        if admission::refusal_11(work_words, WORK_WORDS, cycle_numbers, CYCLE_NUMBERS) {
+            return CheckAnswer::Refused { number: 11, row: 0 };
+        }
+        match joined(pieces) {
+            Ok(table) => self.check_with(chains, &table, work_words, cycle_numbers),
+            Err(number) => CheckAnswer::Refused { number, row: 0 },
+        }
+    }
+
+    /// Fills the blanks of a table in two pieces.
+    pub fn fill_pieces(
+        &mut self,
+        chains: Chains,
+        pieces: Pieces,
+        work_words: usize,
+        source_numbers: usize,
+    ) -> FillAnswer {
+        self.row_count = 0;
+        if admission::refusal_11(work_words, WORK_WORDS, source_numbers, SOURCE_NUMBERS) {
+            return FillAnswer::Refused { number: 11, row: 0 };
+        }
+        match joined(pieces) {
+            Ok(table) => self.fill_with(chains, &table, work_words, source_numbers),
+            Err(number) => FillAnswer::Refused { number, row: 0 },
+        }
+    }
+
+    /// Counts the conflicting pairs of a table in two pieces.
+    pub fn report_pieces(
+        &mut self,
+        chains: Chains,
+        pieces: Pieces,
+        work_words: usize,
+        cycle_numbers: usize,
+    ) -> ReportAnswer {
+        match self.check_pieces(chains, pieces, work_words, cycle_numbers) {
+            CheckAnswer::Refused { number, row } => {
+                ReportAnswer::Check(CheckAnswer::Refused { number, row })
+            }
+            _ => {
+                let table = joined(pieces).expect("it was checked");
+                self.report_with(chains, &table, work_words, cycle_numbers)
+            }
+        }
+    }
+
+    /// Reads a derivation from one moment of a table in two pieces to another.
+    pub fn accepts_pieces(
+        &mut self,
+        pieces: Pieces,
+        first: u16,
+        second: u16,
+        derivation: Derivation,
+    ) -> AcceptsAnswer {
+        match joined(pieces) {
+            Ok(table) => self.accepts(&table, first, second, derivation),
+            Err(number) => AcceptsAnswer::Refused { number, row: 0 },
+        }
+    }
+
+    /// Row n's sixteen bytes, from whichever piece holds it. Pairs refused
+    /// before 5 hold no rows.
+    pub fn row_of_pieces<'a>(&mut self, pieces: Pieces<'a>, row: usize) -> Option<&'a [u8]> {
+        let table = joined(pieces).ok()?;
+        let refusal = self.admit(&table, Purpose::Fill).err();
+        if refusal.is_some_and(|refusal| matches!(refusal.number, 16..=18)) {
+            return None;
+        }
+        let [first, second] = pieces;
+        let begin = HEADER_BYTES + agent_bytes(first[4]) * usize::from(first[5]);
+        let rows = usize::from(first[6]);
+        let of_first = first[begin..][..ROW_BYTES * rows].chunks(ROW_BYTES);
+        of_first.chain(second.chunks(ROW_BYTES)).nth(row)
+    }
+}

@@ -1,15 +1,15 @@
 -- The transitive closure by way of hubs: where every inner number of a path that is no hub can be left out, the closure can be
 -- taken over the hubs alone, which are numbered apart. For any relation, any hubs and any bounds. Assumes nothing.
-use mathlib.Core.Path.{_≡_, refl, sym, ap, subst, _∙_}
-use mathlib.Core.Bool.{Bool, true, false}
-use mathlib.Core.Logic.{_⊎_, inl, inr, ⊎-elim, _↔_}
-use Prim.Native.Nat.{ℕ, zero, suc, _+_, _≤_, _<_}
+use mathlib.Core.Path.{_≡_, refl, subst}
+use mathlib.Core.Bool.{Bool, true}
+use mathlib.Core.Logic.{_⊎_, inl, inr, ⊎-elim}
+use Prim.Native.Nat.{ℕ, zero, suc, _≤_, _<_}
 use native.Mathlib.Omega.{arith}
 use lib.Dec.{eqb}
 use borrow.Author.Tests.{eqb-true, eq-eqb}
-use Rattle.finite.specs.Logic.{_and_, _or_, which, bool-ext, not-both, split, and-true, and-false-left, or-cases, or-left, or-right}
+use Rattle.finite.specs.Logic.{_and_, _or_, which, bool-ext, split, and-true, or-cases, or-left, or-right}
 use Rattle.finite.specs.Below.{anyBelow, any-in, any-out}
-use Rattle.finite.specs.Closure.{Reach, one, more, through, through-reach, reach-trans}
+use Rattle.finite.specs.Closure.{Reach, one, more, through, through-reach}
 
 -- ---- definitions
 

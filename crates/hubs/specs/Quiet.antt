@@ -1,15 +1,14 @@
 -- A class set that no two of its rows synchronize for, in a table without dependencies, adds nothing to program order. For any
 -- table. Assumes nothing.
 use mathlib.Core.Path.{_≡_}
-use mathlib.Core.Bool.{Bool, true, false}
+use mathlib.Core.Bool.{true, false}
 use mathlib.Core.Logic.{_⊎_, inl, inr}
 use Prim.Native.Nat.{ℕ, _*_, _<_}
-use Rattle.finite.specs.Logic.{_and_, not-both, split}
-use Rattle.finite.specs.Closure.{Reach, one, more, through, through-reach}
-use Rattle.model.specs.Row.{releases, acquires}
+use Rattle.finite.specs.Logic.{not-both, split}
+use Rattle.finite.specs.Closure.{Reach, one, more, through-reach}
 use Rattle.model.specs.Table.{Table}
 use Rattle.model.specs.Moment.{rowIn, programOrder}
-use Rattle.model.specs.Happens.{holding, concerns, bySync, toRelease, fromAcquire, bySystem, step, interThread}
+use Rattle.model.specs.Happens.{bySync, toRelease, fromAcquire, bySystem, step, interThread}
 use Rattle.hubs.specs.Rows.{order-trans, step-cases}
 
 module _ (t : Table) (s : ℕ) (none : (m k : ℕ) → m < 3 * t .rows → k < 3 * t .rows → bySync t s m k ≡ false)

@@ -21,7 +21,7 @@ use Rattle.model.specs.declared.Row.{Row}
 use Rattle.model.specs.Limits.{ROWS, WORK}
 use Rattle.model.specs.Row.{access, meets, classIn, single, releases}
 use Rattle.model.specs.Table.{Table, rowOf}
-use Rattle.model.specs.Moment.{AT, rowIn, part, itself, classesOf}
+use Rattle.model.specs.Moment.{AT, rowIn, part, classesOf}
 use Rattle.model.specs.Synchronizes.{synchronizes}
 use Rattle.model.specs.Happens.{holdingOf, concernsOf, holding, concerns, bySync}
 use Rattle.area.specs.Regions.{MOMENTS}

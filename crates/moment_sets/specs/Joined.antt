@@ -6,11 +6,11 @@ use mathlib.Core.List.{List}
 use Prim.Native.Nat.{ℕ, _+_, _-_, _*_, _/_, _%_, _≤_, _<_}
 use native.Mathlib.Omega.{arith}
 use native.Mathlib.Numerals.{add-one}
-use native.Mathlib.Decide.{decLt, ℕ-discrete}
+use native.Mathlib.Decide.{ℕ-discrete}
 use lib.Dec.{ltb, eqb}
 use lib.ListN.{length, getD}
-use borrow.Author.Tests.{eqb-true, eq-eqb, ne-eqb, ltb-true, lt-ltb, le-ltb}
-use Rattle.finite.specs.Logic.{_and_, _or_, bool-ext, not-both, not-so, split, and-true, and-false-left, and-false-right, or-off, or-right, or-assoc}
+use borrow.Author.Tests.{eqb-true, eq-eqb, ltb-true, lt-ltb, le-ltb}
+use Rattle.finite.specs.Logic.{_and_, _or_, bool-ext, not-both, not-so, split, and-true, and-false-left, and-false-right, or-off, or-right}
 use Rattle.finite.specs.Below.{anyBelow, any-none, Least}
 use Rattle.bits.specs.Bit.{bit, setBit, setBit-same, setBit-other, setBitIf, setBitIf-same, setBitIf-other, zeros, bit-zeros-in}
 use Rattle.bits.specs.Within.{Within, within-refl, within-trans, within-widen, within-bit, within-setBit, within-put, within-cleared}
@@ -21,7 +21,7 @@ use Rattle.model.specs.Limits.{ROWS, WORK}
 use Rattle.model.specs.Table.{Table, dependency, dependsOf, decode}
 use Rattle.model.specs.Moment.{AT, rowIn, part}
 use Rattle.model.specs.Synchronizes.{synchronizes}
-use Rattle.area.specs.Regions.{SYNC, SYNC-END, GRID, MOMENTS}
+use Rattle.area.specs.Regions.{SYNC, GRID, MOMENTS}
 use Rattle.sets.specs.Meet.{both, least-empty}
 use Rattle.moment_sets.specs.Regions.{JOINED, JOINED-END, DEPENDS, DEPENDS-END}
 use Rattle.moment_sets.specs.Known.{Rows, syncsTo, dependsTo}

@@ -19,7 +19,7 @@ use Rattle.model.specs.Scope.{mutually}
 use Rattle.model.specs.Moment.{AT, rowIn, part, classesOf, programOrder}
 use Rattle.model.specs.Synchronizes.{synchronizes}
 use Rattle.model.specs.Happens.{holding, concerns}
-use Rattle.area.specs.Regions.{MUTUAL, HAPPENS, HAPPENS-END, SYNC-END, GRID, MOMENTS}
+use Rattle.area.specs.Regions.{MUTUAL, HAPPENS, HAPPENS-END, GRID, MOMENTS}
 use Rattle.hubs.specs.Rows.{releaseAt}
 use Rattle.moment_sets.specs.Regions.{CLASSES, ORDER, HOPS, HOPS-END, JOINED, DEPENDS, HOLD, RELEASE, CONCERN, CONCERN-END, RELEASING, TOUCHED}
 

@@ -1,16 +1,15 @@
 -- Program order in words, from the last moment up: a moment comes before those of its agent that were passed. Assumes nothing.
 use mathlib.Core.Path.{_≡_, refl, sym, ap, subst, _∙_}
 use mathlib.Core.Bool.{Bool, true, false}
-use mathlib.Core.Logic.{⊎-elim}
 use mathlib.Core.List.{List}
 use Prim.Native.Nat.{ℕ, _+_, _-_, _*_, _/_, _%_, _≤_, _<_}
 use native.Mathlib.Omega.{arith}
 use native.Mathlib.Decide.{ℕ-discrete}
 use lib.Dec.{ltb, leb, eqb}
 use lib.ListN.{length}
-use borrow.Author.Tests.{eqb-true, eq-eqb, ne-eqb, ltb-true, lt-ltb, le-ltb, leb-true, le-leb, lt-leb}
-use Rattle.finite.specs.Logic.{_and_, _or_, which, bool-ext, not-both, not-so, split, and-true, and-false-left, and-false-right}
-use Rattle.bits.specs.Bit.{bit, setBit, setBit-same, setBit-other, zeros, bit-zeros-in, joinRow, length-joinRow, bit-joinRow}
+use borrow.Author.Tests.{eqb-true, eq-eqb, ltb-true, lt-ltb, leb-true, le-leb}
+use Rattle.finite.specs.Logic.{_and_, _or_, bool-ext, not-both, not-so, split, and-true, and-false-left, and-false-right}
+use Rattle.bits.specs.Bit.{bit, setBit, setBit-same, setBit-other, zeros, bit-zeros-in, joinRow, bit-joinRow}
 use Rattle.bits.specs.Within.{Within, within-refl, within-trans, within-widen, within-bit, within-setBit, within-joinRow, within-cleared}
 use Rattle.bits.specs.Matrix.{rel}
 use Rattle.bits.specs.Stage.{Holds}
@@ -18,7 +17,7 @@ use Rattle.model.specs.declared.Mode.{Mode}
 use Rattle.model.specs.declared.Row.{Row}
 use Rattle.model.specs.Limits.{ROWS, WORK}
 use Rattle.model.specs.Table.{Table, rowOf, decode}
-use Rattle.model.specs.Moment.{AT, rowIn, part, momentOf, momentIn, moment, orderedRows, programOrder}
+use Rattle.model.specs.Moment.{rowIn, momentOf, momentIn, moment, orderedRows, programOrder}
 use Rattle.area.specs.Regions.{HAPPENS, HAPPENS-END, MOMENTS}
 use Rattle.moment_sets.specs.Regions.{NUMBERS, ORDER, ORDER-END, AGENTS, AGENTS-END}
 use Rattle.moment_sets.specs.Known.{Rows}

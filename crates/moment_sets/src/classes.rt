@@ -2,7 +2,7 @@
 // each; a class set's own sets are then made in words.
 ghost use mathlib.Core.Path.{_≡_};
 ghost use mathlib.Core.Bool.{cond};
-ghost use Prim.Native.Nat.{ℕ, _+_, _*_, _≤_, _<_};
+ghost use Prim.Native.Nat.{_+_, _*_, _≤_, _<_};
 ghost use lib.ListN.{length};
 ghost use Rattle.finite.specs.Below.{anyBelow};
 ghost use Rattle.model.specs.Limits.{ROWS, WORK};

@@ -1,6 +1,5 @@
 // Where each row leads by synchronizes-with and by dependencies, as sets of own moments: once for a table.
-ghost use mathlib.Core.Path.{_≡_};
-ghost use Prim.Native.Nat.{ℕ, _+_, _*_, _≤_, _<_};
+ghost use Prim.Native.Nat.{_+_, _*_, _≤_, _<_};
 ghost use lib.ListN.{length};
 ghost use Rattle.model.specs.Limits.{ROWS, WORK};
 ghost use Rattle.moment_sets.specs.Joined.{Spread, MadeJoined, DependAdded, MadeDepends};

@@ -5,7 +5,7 @@ use mathlib.Core.List.{List}
 use Prim.Native.Nat.{ℕ, _+_, _-_, _*_, _/_, _%_, _≤_, _<_}
 use native.Mathlib.Omega.{arith}
 use native.Mathlib.Decide.{ℕ-discrete}
-use lib.Dec.{eqb, ltb}
+use lib.Dec.{eqb}
 use lib.ListN.{length}
 use borrow.Author.Tests.{eq-eqb}
 use Rattle.finite.specs.Logic.{_and_, _or_, bool-ext, not-both, not-so, split, and-true}
@@ -13,11 +13,10 @@ use Rattle.bits.specs.Fill.{or-fresh}
 use Rattle.bits.specs.Bit.{bit, zeros, bit-zeros-in}
 use Rattle.bits.specs.Within.{Within, within-refl, within-bit, within-trans, within-widen, within-zeros}
 use Rattle.bits.specs.Matrix.{rel}
-use Rattle.model.specs.declared.Mode.{Mode}
 use Rattle.model.specs.Limits.{ROWS, WORK}
-use Rattle.model.specs.Row.{releases, acquires}
-use Rattle.model.specs.Table.{Table, rowOf, decode}
-use Rattle.model.specs.Moment.{AT, rowIn, part, itself, programOrder}
+use Rattle.model.specs.Row.{acquires}
+use Rattle.model.specs.Table.{Table, rowOf}
+use Rattle.model.specs.Moment.{rowIn, itself, programOrder}
 use Rattle.model.specs.Synchronizes.{synchronizes}
 use Rattle.model.specs.Happens.{holding, concerns, bySync, toRelease, fromAcquire, bySystem, step}
 use Rattle.area.specs.Regions.{MOMENTS}
@@ -26,7 +25,7 @@ use Rattle.sets.specs.Own.{ClosedOwn}
 use Rattle.hubs.specs.Hubs.{throughOwn, own-cong}
 use Rattle.hubs.specs.Rows.{hubRow, hopRow, releaseAt, holding-own, holding-concerns}
 use Rattle.moment_sets.specs.Regions.{ORDER, HOPS, HOPS-END, JOINED, DEPENDS, HOLD, RELEASE, CONCERN}
-use Rattle.moment_sets.specs.Known.{Rows, Set, syncsTo, dependsTo, Based, Ready, Setup, setup-hops}
+use Rattle.moment_sets.specs.Known.{Rows, syncsTo, dependsTo, Setup, setup-hops}
 
 -- ---- definitions
 

@@ -17,12 +17,12 @@ use Rattle.bits.specs.Matrix.{rel}
 use Rattle.bits.specs.Stage.{Added}
 use Rattle.model.specs.Limits.{ROWS, WORK}
 use Rattle.model.specs.Table.{Table}
-use Rattle.model.specs.Moment.{AT, rowIn, part, itself, programOrder}
+use Rattle.model.specs.Moment.{AT, part, itself, programOrder}
 use Rattle.model.specs.Happens.{holding, concerns, interThread}
 use Rattle.area.specs.Regions.{HAPPENS, HAPPENS-END, MOMENTS}
 use Rattle.sets.specs.Meet.{both}
 use Rattle.hubs.specs.Hubs.{throughOwn}
-use Rattle.hubs.specs.Rows.{hubRow, hubMoment, hopRow, releaseAt, behind, order-ends, inter-hub, inter-none, inter-first}
+use Rattle.hubs.specs.Rows.{hubRow, hubMoment, hopRow, behind, order-ends, inter-hub, inter-none, inter-first}
 use Rattle.moment_sets.specs.Regions.{ORDER, HOPS, HOLD, RELEASE, CONCERN}
 use Rattle.moment_sets.specs.Known.{Rows, Setup, rows-kept, setup-happens}
 

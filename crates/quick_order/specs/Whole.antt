@@ -1,5 +1,5 @@
 -- The stages in order: what every class set is made from, a class set, all of them. Assumes nothing.
-use mathlib.Core.Path.{_≡_, refl, sym, ap, subst, _∙_}
+use mathlib.Core.Path.{_≡_, refl, sym, ap, _∙_}
 use mathlib.Core.Bool.{Bool, true, false}
 use mathlib.Core.Logic.{⊎-elim}
 use mathlib.Core.List.{List}
@@ -8,26 +8,26 @@ use native.Mathlib.Omega.{arith}
 use native.Mathlib.Numerals.{add-one}
 use lib.Dec.{ltb}
 use lib.ListN.{length}
-use borrow.Author.Tests.{lt-ltb, ltb-true, ltb-false}
-use Rattle.finite.specs.Logic.{_and_, _or_, which, bool-ext, not-both, not-so, or-cases, or-left, or-off, and-false-left, split}
-use Rattle.finite.specs.Below.{anyBelow, any-out, any-not}
-use Rattle.bits.specs.Within.{Within, within-refl, within-trans, within-widen}
+use borrow.Author.Tests.{lt-ltb}
+use Rattle.finite.specs.Logic.{_and_, _or_, which, bool-ext, not-both, not-so, or-cases, or-left, and-false-left, split}
+use Rattle.finite.specs.Below.{anyBelow, any-out}
+use Rattle.bits.specs.Within.{Within, within-trans, within-widen}
 use Rattle.bits.specs.Matrix.{rel}
-use Rattle.bits.specs.Stage.{Holds, Added, holds-cong, holds-kept, holds-added}
+use Rattle.bits.specs.Stage.{Holds, Added, holds-cong, holds-kept}
 use Rattle.model.specs.declared.Mode.{Mode}
 use Rattle.model.specs.Limits.{ROWS, WORK, CLASS-SETS}
 use Rattle.model.specs.Table.{Table, rowOf, dependency, dependsOf, decode}
 use Rattle.model.specs.Moment.{programOrder}
 use Rattle.model.specs.Happens.{holding, interThread, live, interThreadBy}
-use Rattle.area.specs.Regions.{MUTUAL, SYNC, HAPPENS, HAPPENS-END, GRID, MOMENTS, LOCATED-END}
+use Rattle.area.specs.Regions.{MUTUAL, HAPPENS, HAPPENS-END, MOMENTS, LOCATED-END}
 use Rattle.area.specs.State.{Ordered}
 use Rattle.sequence.specs.Forms.{and-on}
 use Rattle.sequence.specs.Known.{Synced, synced-kept}
 use Rattle.order.specs.Sets.{interBy, upTo, upTo-none, upTo-more, upTo-all}
 use Rattle.sets.specs.Own.{ClosedOwn}
 use Rattle.hubs.specs.Quiet.{inter-order}
-use Rattle.moment_sets.specs.Regions.{CLASSES, HOPS, HOPS-END, JOINED, DEPENDS, HOLD, RELEASE, CONCERN, CONCERN-END, RELEASING, TOUCHED-END}
-use Rattle.moment_sets.specs.Known.{Rows, Set, Based, Ready, Setup, rows-kept, set-kept, based-kept, setup-hops, setup-happens}
+use Rattle.moment_sets.specs.Regions.{CLASSES, HOPS, HOPS-END, JOINED, DEPENDS, HOLD, CONCERN-END, RELEASING, TOUCHED-END}
+use Rattle.moment_sets.specs.Known.{Set, Based, Setup, rows-kept, set-kept, based-kept, setup-hops, setup-happens}
 use Rattle.moment_sets.specs.Program.{Begun, decode-rows}
 use Rattle.moment_sets.specs.Joined.{MadeJoined, MadeDepends, joined-is, depends-is}
 use Rattle.moment_sets.specs.Classes.{holdingAt, releasesAt, MadeSet, MadeTouched, ReleaseMade, ConcernMade, joinsHolder, hold-is, releasing-is, touched-is, release-set, concern-set, quiet-is}

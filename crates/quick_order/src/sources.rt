@@ -1,6 +1,5 @@
 // From the closed hops of a class set to happens-before: what each moment leads to is its row's hops, where the row is a hub, or those
 // of the first release row behind it.
-ghost use mathlib.Core.Path.{_≡_};
 ghost use mathlib.Core.List.{List};
 ghost use Prim.Native.Nat.{ℕ, _+_, _*_, _≤_, _<_};
 ghost use lib.ListN.{length};

@@ -1,7 +1,7 @@
 // Sets as bits of words in a lent list: what two sets share, and the lowest bit of it; and the closure of a relation that leads from
 // rows to moments.
 ghost use mathlib.Core.Path.{_≡_};
-ghost use Prim.Native.Nat.{ℕ, _+_, _*_, _≤_, _<_};
+ghost use Prim.Native.Nat.{_+_, _*_, _≤_, _<_};
 ghost use lib.ListN.{length};
 ghost use Rattle.finite.specs.Below.{Least};
 ghost use Rattle.bits.specs.Matrix.{AREA-LIMIT};

@@ -7,9 +7,9 @@ use Rattle.model.specs.declared.Mode.{Mode}
 use Rattle.bits.specs.Within.{Within, within-refl, within-trans, within-widen}
 use lib.Dec.{ltb}
 use native.Mathlib.Omega.{arith}
-use Prim.Native.Nat.{ℕ, _-_, _*_, _≤_}
+use Prim.Native.Nat.{ℕ, _-_, _≤_}
 use mathlib.Core.List.{List}
-use mathlib.Core.Path.{_≡_, refl, _∙_}
+use mathlib.Core.Path.{_≡_, refl}
 use borrow.Author.Needs.{needs}
 use Rattle.quick_order.proofs.happens_before.Statement.{statement}
 use Rattle.quick_order.proofs.happens_before.Tie as tie

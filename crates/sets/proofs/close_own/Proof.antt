@@ -1,7 +1,7 @@
 use Rattle.sets.specs.Own.{Rounds, rounds-none, rounds-more, rounds-skip, rounds-all}
 use native.Mathlib.Omega.{arith}
-use Prim.Native.Nat.{_-_, _*_, _+_, _≤_}
-use mathlib.Core.Path.{_≡_, sym, _∙_}
+use Prim.Native.Nat.{_-_, _≤_}
+use mathlib.Core.Path.{_≡_}
 use mathlib.Core.Logic.{⊎-elim}
 use borrow.Author.Needs.{needs}
 use Rattle.sets.proofs.close_own.Statement.{statement}

@@ -1,8 +1,7 @@
 use Rattle.sets.specs.Own.{Phase, phase-none, phase-skip, phase-join, phase-all}
-use Rattle.area.specs.Regions.{MOMENTS}
-use Rattle.bits.specs.Matrix.{rel, rows-apart}
+use Rattle.bits.specs.Matrix.{rel}
 use native.Mathlib.Omega.{arith}
-use Prim.Native.Nat.{_-_, _*_, _+_, _≤_}
+use Prim.Native.Nat.{_-_, _≤_}
 use mathlib.Core.Path.{_≡_, sym, _∙_}
 use mathlib.Core.Logic.{⊎-elim}
 use borrow.Author.Needs.{needs}

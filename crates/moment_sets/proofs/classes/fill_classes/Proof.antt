@@ -2,7 +2,7 @@ use Rattle.moment_sets.specs.Classes.{MadeTouched, touched-none, touched
 use Rattle.moment_sets.specs.Regions.{CLASSES}
 use native.Mathlib.Omega.{arith}
 use Prim.Native.Nat.{_-_, _≤_}
-use mathlib.Core.Path.{_≡_, refl, _∙_}
+use mathlib.Core.Path.{_≡_}
 use borrow.Author.Needs.{needs}
 use Rattle.moment_sets.proofs.classes.fill_classes.Statement.{statement}
 use Rattle.moment_sets.proofs.classes.fill_classes.Tie as tie

@@ -3,7 +3,7 @@ use Rattle.moment_sets.specs.Regions.{CLASSES}
 use Rattle.bits.specs.Bit.{bitOf}
 use native.Mathlib.Omega.{arith}
 use Prim.Native.Nat.{_-_, _≤_}
-use mathlib.Core.Path.{_≡_, refl, _∙_}
+use mathlib.Core.Path.{_≡_, refl}
 use borrow.Author.Needs.{needs}
 use Rattle.moment_sets.proofs.classes.fill_concern.Statement.{statement}
 use Rattle.moment_sets.proofs.classes.fill_concern.Tie as tie

@@ -1,5 +1,5 @@
-use Rattle.moment_sets.specs.Known.{touches}
 use Rattle.finite.specs.Logic.{_and_}
+use Rattle.moment_sets.specs.Known.{touches}
 use borrow.Author.Needs.{needs}
 use Rattle.moment_sets.proofs.classes.touches_of.Statement.{statement}
 use Rattle.moment_sets.proofs.classes.touches_of.Tie as tie

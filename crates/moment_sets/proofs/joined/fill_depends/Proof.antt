@@ -1,7 +1,7 @@
 use Rattle.moment_sets.specs.Joined.{MadeDepends, depends-none, depends-more, depends-made}
 use native.Mathlib.Omega.{arith}
 use Prim.Native.Nat.{_-_, _≤_}
-use mathlib.Core.Path.{_≡_, _∙_}
+use mathlib.Core.Path.{_≡_}
 use borrow.Author.Needs.{needs}
 use Rattle.moment_sets.proofs.joined.fill_depends.Statement.{statement}
 use Rattle.moment_sets.proofs.joined.fill_depends.Tie as tie

@@ -1,5 +1,4 @@
 use Rattle.moment_sets.specs.Joined.{spread-skip}
-use mathlib.Core.Path.{_≡_}
 use borrow.Author.Needs.{needs}
 use Rattle.moment_sets.proofs.joined.spread_row.Statement.{statement}
 use Rattle.moment_sets.proofs.joined.spread_row.Tie as tie

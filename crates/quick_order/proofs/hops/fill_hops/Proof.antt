@@ -5,7 +5,7 @@ use Rattle.model.specs.Table.{Table}
 use Rattle.bits.specs.Within.{Within, within-refl}
 use native.Mathlib.Omega.{arith}
 use Prim.Native.Nat.{ℕ, _-_, _≤_}
-use mathlib.Core.Path.{_≡_, refl, _∙_}
+use mathlib.Core.Path.{_≡_}
 use borrow.Author.Needs.{needs}
 use Rattle.quick_order.proofs.hops.fill_hops.Statement.{statement}
 use Rattle.quick_order.proofs.hops.fill_hops.Tie as tie

@@ -6,7 +6,7 @@ use Rattle.bits.specs.Within.{Within, within-refl}
 use native.Mathlib.Omega.{arith}
 use Prim.Native.Nat.{ℕ, _-_, _*_, _≤_}
 use mathlib.Core.List.{List}
-use mathlib.Core.Path.{_≡_, refl, _∙_}
+use mathlib.Core.Path.{_≡_}
 use borrow.Author.Needs.{needs}
 use Rattle.quick_order.proofs.sources.add_sources.Statement.{statement}
 use Rattle.quick_order.proofs.sources.add_sources.Tie as tie

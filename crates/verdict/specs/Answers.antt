@@ -124,9 +124,11 @@ cyclic-answered v l m size e s = rw (e, s) refl
 
 -- ---- laws: the stages
 
-pub located-made : {t : Table} {n : ℕ} {w v u : List ℕ} → MadeOrdered t n w v → MadeLocated t n v u → Located t n u × Within MUTUAL LOCATED-END w u
-located-made o l =
-    (l .located, within-trans (within-widen MUTUAL LOCATED-END (omega arith) (omega arith) (o .frame)) (within-widen MUTUAL LOCATED-END (omega arith) (omega arith) (l .frame)))
+pub located-made : {t : Table} {n : ℕ} {w v u : List ℕ} → Within MUTUAL LOCATED-END w v → MadeLocated t n v u → Located t n u × Within MUTUAL LOCATED-END w u
+located-made f l = (l .located, within-trans f (within-widen MUTUAL LOCATED-END (omega arith) (omega arith) (l .frame)))
+
+pub located-by-flags : {t : Table} {n : ℕ} {w v u : List ℕ} → MadeOrdered t n w v → MadeLocated t n v u → Located t n u × Within MUTUAL LOCATED-END w u
+located-by-flags o l = located-made (within-widen MUTUAL LOCATED-END (omega arith) (omega arith) (o .frame)) l
 
 -- what edges are read from is kept by every later stage
 pub known-kept : {t : Table} {n c d : ℕ} {w u : List ℕ} → LOCATION-END ≤ c → Known t n w → Within c d w u → Known t n u

@@ -15,8 +15,17 @@ use model::CheckAnswer;
 use model::Mode;
 use model::Places;
 
-// Location order of n rows.
+// Location order of n rows, by happens-before in words.
 pub fn locate(rows: &[u8], p: Places, mode: Mode, n: usize, w: &mut [u64])
+    requires { ⌜ (n ≤ ROWS) × (WORK ≤ length (now w)) ⌝ }
+    ensures { λ _. ⌜ Located (decode (now (rows .entry)) p mode n) n (now (w .exit)) × Within MUTUAL LOCATED-END (now (w .entry)) (now (w .exit)) ⌝ }
+{
+    quick_order::happens_before(rows, p, mode, n, w);
+    location::fill_location(rows, p, mode, n, w);
+}
+
+// The same by the obvious engine, with a flag for each two moments.
+pub fn locate_by_flags(rows: &[u8], p: Places, mode: Mode, n: usize, w: &mut [u64])
     requires { ⌜ (n ≤ ROWS) × (WORK ≤ length (now w)) ⌝ }
     ensures { λ _. ⌜ Located (decode (now (rows .entry)) p mode n) n (now (w .exit)) × Within MUTUAL LOCATED-END (now (w .entry)) (now (w .exit)) ⌝ }
 {

@@ -5,7 +5,7 @@ use Rattle.verdict.proofs.judge.locate.Tie as tie
 use Rattle.verdict.proofs.judge.locate.Reads as reads
 use Rattle.verdict.proofs.judge.locate.Lts as lts
 use Rattle.location.proofs.fill_location.Reads as fill-location-reads
-use Rattle.order.proofs.happens_before.Reads as happens-before-reads
+use Rattle.quick_order.proofs.happens_before.Reads as happens-before-reads
 
 -- src/judge.rt:22:5
 happens-before-requires : tie.Need-happens-before-requires
@@ -21,7 +21,7 @@ same-length c = search needs
 
 -- src/judge.rt:18:1
 returns : tie.Need-returns
-returns c = located-made (c .before .before .before .before .before .before .happens-before .ensures) (c .before .before .fill-location .ensures)
+returns c = located-made (c .before .before .before .before .before .before .happens-before .ensures .1) (c .before .before .fill-location .ensures)
 
 pub locate-spec : {M : Type 1} → statement M
 locate-spec =

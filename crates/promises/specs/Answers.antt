@@ -1,10 +1,13 @@
 -- What a caller gets: each case of an answer is given exactly for the verdict, outcome or judgement of its name, with its numbers.
--- A report's cases stand in Report.antt. Assumes nothing.
-use mathlib.Core.Path.{_≡_, refl, ap}
+-- That a report refuses, or shows a cycle or an overwritten read, exactly as a check does stands in Report.antt (`says-refused`,
+-- `says-cycle`, `says-overwritten`). Assumes nothing.
+use mathlib.Core.Path.{_≡_, refl, sym, ap, _∙_}
 use mathlib.Core.List.{List}
 use mathlib.Core.Logic.{_↔_}
 use Prim.Native.Nat.{ℕ}
 use native.Mathlib.Omega.{arith}
+use native.Mathlib.Decide.{ℕ-discrete}
+use borrow.Author.Tests.{eq-eqb, ne-eqb}
 use lib.ListN.{length}
 use Rattle.model.specs.declared.CheckAnswer.{CheckAnswer}
 use Rattle.model.specs.declared.CheckAnswer.the-variants as check
@@ -14,12 +17,18 @@ use Rattle.model.specs.declared.DeriveAnswer.{DeriveAnswer}
 use Rattle.model.specs.declared.DeriveAnswer.the-variants as derive
 use Rattle.model.specs.declared.AcceptAnswer.{AcceptAnswer}
 use Rattle.model.specs.declared.AcceptAnswer.the-variants as accept
+use Rattle.model.specs.declared.Report.{Report}
+use Rattle.model.specs.declared.ReportAnswer.{ReportAnswer}
+use Rattle.model.specs.declared.ReportAnswer.the-variants as report
+use Rattle.model.specs.Table.{Table}
 use Rattle.model.specs.Check.{Verdict, checkAnswer}
 use Rattle.model.specs.Check as verdict
 use Rattle.model.specs.Fill.{Outcome, fillAnswer}
 use Rattle.model.specs.Fill as outcome
 use Rattle.model.specs.Reason.{Derived, Judged, deriveAnswer, acceptAnswer}
 use Rattle.model.specs.Reason as reason
+use Rattle.model.specs.Report.{conflicting, racing, quotient, shareOf, reportOf, withShare, counted, reportAnswer}
+use Rattle.promises.specs.Report.{tag, inside}
 
 -- ---- a check
 
@@ -275,3 +284,64 @@ reads-not-accepted d = (forth d, λ e. rw e refl)
     forth (reason.refused n′ i′) e = absurd (let z : _≡_ {A = ℕ} 0 2 = ap accept-tag e in omega arith)
     forth reason.accepted e = absurd (let z : _≡_ {A = ℕ} 1 2 = ap accept-tag e in omega arith)
     forth reason.notAccepted e = refl
+
+-- ---- a report
+
+-- a verdict that finds the table consistent: some race, or none
+pub data Sound : Verdict → Type 0 where
+  raced : (x y b : ℕ) → Sound (verdict.race x y b)
+  free : Sound verdict.raceFree
+
+-- what is counted, by whether some pair conflicts
+counted-none : (t : Table) → conflicting t ≡ 0 → counted t ≡ report.NoPairs
+unfolding counted withShare shareOf
+counted-none t e = rw (eq-eqb (conflicting t) 0 e) refl
+
+counted-some : (t : Table) → (conflicting t ≡ 0 → ⊥) → counted t ≡ report.Report (reportOf t (quotient (racing t) (conflicting t)))
+unfolding counted withShare shareOf
+counted-some t e = rw (ne-eqb (conflicting t) 0 e) refl
+
+none-counted : (t : Table) → counted t ≡ report.NoPairs → conflicting t ≡ 0
+none-counted t e = go (ℕ-discrete (conflicting t) 0)
+  where
+    go : Dec (conflicting t ≡ 0) → conflicting t ≡ 0
+    go (yes h) = h
+    go (no h) = absurd (let z : _≡_ {A = ℕ} 4 3 = ap tag (sym (counted-some t h) ∙ e) in omega arith)
+
+some-counted : (t : Table) (r : Report) → counted t ≡ report.Report r → (conflicting t ≡ 0 → ⊥) × (r ≡ reportOf t (quotient (racing t) (conflicting t)))
+some-counted t r e =
+    let some : conflicting t ≡ 0 → ⊥ = λ h. absurd (let z : _≡_ {A = ℕ} 3 4 = ap tag (sym (counted-none t h) ∙ e) in omega arith) in
+    (some, ap (inside r) (sym e ∙ counted-some t some))
+
+-- no share exactly where the table is consistent and no pair conflicts
+pub reports-none : (d : Verdict) (t : Table) → (reportAnswer (checkAnswer d) t ≡ report.NoPairs) ↔ (Sound d × (conflicting t ≡ 0))
+unfolding reportAnswer checkAnswer
+reports-none d t = (forth d, λ e. back (e .0) (e .1))
+  where
+    forth : (d : Verdict) → reportAnswer (checkAnswer d) t ≡ report.NoPairs → Sound d × (conflicting t ≡ 0)
+    forth (verdict.refused n i) e = absurd (let z : _≡_ {A = ℕ} 0 3 = ap tag e in omega arith)
+    forth (verdict.cyclic rows edges) e = absurd (let z : _≡_ {A = ℕ} 1 3 = ap tag e in omega arith)
+    forth (verdict.overwritten y z b) e = absurd (let z : _≡_ {A = ℕ} 2 3 = ap tag e in omega arith)
+    forth (verdict.race x y b) e = (raced x y b, none-counted t e)
+    forth verdict.raceFree e = (free, none-counted t e)
+
+    back : {d : Verdict} → Sound d → conflicting t ≡ 0 → reportAnswer (checkAnswer d) t ≡ report.NoPairs
+    back (raced x y b) h = counted-none t h
+    back free h = counted-none t h
+
+-- a report exactly where it is consistent and some pair conflicts: the four counts, and the quotient of two of them beside them
+pub reports-counts : (d : Verdict) (t : Table) (r : Report)
+    → (reportAnswer (checkAnswer d) t ≡ report.Report r) ↔ (Sound d × (conflicting t ≡ 0 → ⊥) × (r ≡ reportOf t (quotient (racing t) (conflicting t))))
+unfolding reportAnswer checkAnswer
+reports-counts d t r = (forth d, λ e. back (e .0) (e .1) (e .2))
+  where
+    forth : (d : Verdict) → reportAnswer (checkAnswer d) t ≡ report.Report r → Sound d × (conflicting t ≡ 0 → ⊥) × (r ≡ reportOf t (quotient (racing t) (conflicting t)))
+    forth (verdict.refused n i) e = absurd (let z : _≡_ {A = ℕ} 0 4 = ap tag e in omega arith)
+    forth (verdict.cyclic rows edges) e = absurd (let z : _≡_ {A = ℕ} 1 4 = ap tag e in omega arith)
+    forth (verdict.overwritten y z b) e = absurd (let z : _≡_ {A = ℕ} 2 4 = ap tag e in omega arith)
+    forth (verdict.race x y b) e = let s = some-counted t r e in (raced x y b, s .0, s .1)
+    forth verdict.raceFree e = let s = some-counted t r e in (free, s .0, s .1)
+
+    back : {d : Verdict} → Sound d → (conflicting t ≡ 0 → ⊥) → r ≡ reportOf t (quotient (racing t) (conflicting t)) → reportAnswer (checkAnswer d) t ≡ report.Report r
+    back (raced x y b) h e = rw e (counted-some t h)
+    back free h e = rw e (counted-some t h)

@@ -36,7 +36,7 @@ use Rattle.promises.specs.Check.{same-verdict}
 
 -- ---- which case of an answer was given, and what it carries
 
-abbrev tag : ReportAnswer → ℕ
+abbrev pub tag : ReportAnswer → ℕ
 tag (told.Refused n i) = 0
 tag (told.Cycle k) = 1
 tag (told.Overwritten y z b) = 2
@@ -64,7 +64,7 @@ third (told.Overwritten y z b) = b
 third told.NoPairs = 0
 third (told.Report r) = 0
 
-abbrev inside : Report → ReportAnswer → Report
+abbrev pub inside : Report → ReportAnswer → Report
 inside d (told.Refused n i) = d
 inside d (told.Cycle k) = d
 inside d (told.Overwritten y z b) = d

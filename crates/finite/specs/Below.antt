@@ -1,14 +1,16 @@
 -- Tests on the numbers below a bound: some, all, the least, the first pair; and what each says.
 -- Each recurses on the bound, so that a loop that counts up goes one `suc` at a time. Assumes nothing.
 use mathlib.Core.Path.{_≡_, refl, sym, ap, subst, _∙_}
-use mathlib.Core.Bool.{Bool, true, false}
+use mathlib.Core.Bool.{Bool, true, false, not}
 use mathlib.Core.Logic.{_⊎_, inl, inr, ⊎-elim}
 use Prim.Native.Nat.{ℕ, zero, suc, _+_, _≤_, _<_}
 use native.Mathlib.Nat.{not-suc-le-zero, eq-or-lt-of-le, le-of-suc-le-suc}
 use native.Mathlib.Numerals.{add-one}
 use native.Mathlib.Decide.{decLt}
 use native.Mathlib.Omega.{arith}
-use Rattle.finite.specs.Logic.{_and_, _or_, which, not-both, and-left, and-right, and-true, or-cases, or-left, or-right, or-false, or-none}
+use lib.Dec.{ltb, eqb}
+use borrow.Author.Tests.{ltb-true, ltb-false, lt-ltb, eqb-true, eq-eqb}
+use Rattle.finite.specs.Logic.{_and_, _or_, which, bool-ext, not-both, and-left, and-right, and-true, or-cases, or-left, or-right, or-false, or-none}
 
 -- ---- definitions
 
@@ -166,3 +168,23 @@ least-cong p q zero h = refl
 least-cong p q (suc n) h =
     let e : least n p ≡ least n q = least-cong p q n (λ k l. h k (omega arith)) in
     rw (e, h (least n q) (omega (arith, least-is q n .bound))) refl
+
+-- ---- whether the least is below the bound
+
+pub least-any : (n : ℕ) (p : ℕ → Bool) → ltb (least n p) n ≡ anyBelow n p
+least-any n p =
+    bool-ext (ltb (least n p) n) (anyBelow n p) (λ e. let l = ltb-true (least n p) n e in any-in p n (least n p) l (least-is p n .hit l))
+    (λ e. lt-ltb (least n p) n (least-hit p n e .0))
+
+pub least-stops : (n : ℕ) (p : ℕ → Bool) → eqb (least n p) n ≡ not (anyBelow n p)
+least-stops n p = go (which (anyBelow n p))
+  where
+    go : (anyBelow n p ≡ true) ⊎ (anyBelow n p ≡ false) → eqb (least n p) n ≡ not (anyBelow n p)
+    go (inl e) = rw e (off (least-hit p n e .0))
+      where
+        off : least n p < n → eqb (least n p) n ≡ false
+        off l = bool-ext (eqb (least n p) n) false (λ h. let q = eqb-true (least n p) n h in absurd (omega arith)) (λ h. not-both refl (sym h))
+    go (inr e) = rw e (eq-eqb (least n p) n (at (ltb-false (least n p) n (least-any n p ∙ e))))
+      where
+        at : n ≤ least n p → least n p ≡ n
+        at l = let b : least n p ≤ n = least-is p n .bound in omega arith

@@ -5,14 +5,14 @@ use Prim.Native.Nat.{ℕ, _≤_}
 use native.Mathlib.Omega.{arith}
 use lib.Dec.{ltb, eqb}
 use Rattle.finite.specs.Logic.{_and_, _or_}
-use Rattle.finite.specs.Below.{anyBelow, any-cong, least-cong}
+use Rattle.finite.specs.Below.{anyBelow, any-cong, least-cong, least-any, least-stops}
 use Rattle.finite.specs.Walk.{onCycle, cycleStart}
 use Rattle.model.specs.Limits.{LONGEST, INITIAL, ROWS}
 use Rattle.model.specs.Table.{Table}
 use Rattle.model.specs.Location.{before}
 use Rattle.model.specs.Race.{nth}
 use Rattle.model.specs.Edge.{beforeNth, beforeSome, readsFrom, fromReads, edge, cycleRow, overwrites, overwritesNth, overNth, overwriting, overWriter, isOverwritten, overReader, consistent}
-use Rattle.moved.specs.Renumber.{Renumbering, eqb-to, eqb-stays, ltb-to, least-any, least-stops, some-cycle-to}
+use Rattle.moved.specs.Renumber.{Renumbering, eqb-to, eqb-stays, ltb-to, some-cycle-to}
 use Rattle.moved.specs.Alike.{Alike, some-row}
 use Rattle.moved.specs.OrderAlike.{follows-alike}
 use Rattle.moved.specs.LocationAlike.{before-alike}

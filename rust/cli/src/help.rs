@@ -46,8 +46,7 @@ usage:
                                       the table with changes made, as explain names them
   stramashly batch [--json] [-j N]    lines on standard input: `check HEX`, `fill HEX`,
                                       `report HEX`, `derive HEX M N`, `accepts HEX M N ...`,
-                                      `rows HEX`, `write VERSION ROOM PLACES ROWS DEPENDENCIES`
-                                      `report HEX`, `derive HEX M N`, `accepts HEX M N ...`;
+                                      `rows HEX`, `write VERSION ROOM PLACES ROWS DEPENDENCIES`;
                                       of two pieces `check2 HEX HEX2` and so on, and
                                       `row2 HEX HEX2 ROW`
   stramashly help [COMMAND]           this text, or a command's lines

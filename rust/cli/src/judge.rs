@@ -85,6 +85,10 @@ fn judge_pieces(
             append(text, form, &answer)
         }
         Question::Row { row } => append(text, form, &ShownRow(row_of_pieces(pieces, *row))),
+        // These are of one piece.
+        Question::Rows | Question::Write(_) => {
+            judge_whole(checker, question, pieces[0], form, text)
+        }
     }
 }
 

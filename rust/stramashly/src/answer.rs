@@ -22,8 +22,8 @@ pub enum Code {
     Row = 14,
     End = 15,
     /// A row's place in a table of two pieces.
-    Row = 12,
-    NoRow = 13,
+    RowPlace = 16,
+    NoRow = 17,
 }
 
 /// A packed answer: code × 2^48 + a × 2^32 + b × 2^16 + c.
@@ -55,8 +55,8 @@ impl Packed {
             13 => Code::Opened,
             14 => Code::Row,
             15 => Code::End,
-            12 => Code::Row,
-            13 => Code::NoRow,
+            16 => Code::RowPlace,
+            17 => Code::NoRow,
             _ => return None,
         };
         Some(code)

@@ -45,6 +45,7 @@
 //!
 //! A recorder hands its values to a [`TableWriter`], which gives a table that a
 //! fill admits; [`Rows`] steps through the rows of one.
+//!
 //! A table may come in two pieces, a table and more rows for it, which need not
 //! be copied together: [`Checker::check_pieces`] and its like. The answer is
 //! that of the joined table; [`row_of_pieces`] finds a row of either.
@@ -78,11 +79,9 @@ pub use answer::{CheckAnswer, Code, FillAnswer, Packed};
 pub use checker::Checker;
 pub use derivation::{AcceptsAnswer, Derivation, DeriveAnswer};
 pub use engine::{
-    accepts_in, check_in, check_with, derive_in, fill_in, fill_with, open_in, report_in,
-    report_with, row_in, share_of, write_in,
     accepts_in, accepts_pieces, check_in, check_pieces, check_with, derive_in, derive_pieces,
-    fill_in, fill_pieces, fill_with, report_in, report_pieces, report_with, row_of_pieces,
-    share_of, Pieces,
+    fill_in, fill_pieces, fill_with, open_in, report_in, report_pieces, report_with, row_in,
+    row_of_pieces, share_of, write_in, Pieces,
 };
 pub use report::{Report, ReportAnswer, Share};
 pub use rows::Rows;

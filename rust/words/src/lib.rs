@@ -9,6 +9,7 @@
 //! | what | module |
 //! |---|---|
 //! | the words for codes, rows and tables | `names`, `run`, `show` |
+//! | names and places from a table's text | `notes` |
 //! | why rows are ordered | `account`, `chain`, `derivation`, `why` |
 //! | why they aren't | `nearest`, `gap`, `carriage` |
 //! | what would order them | `catalogue`, `change`, `edit`, `reason`, `reduction`, `cure` |
@@ -42,6 +43,7 @@ mod judge;
 mod markup;
 mod names;
 mod nearest;
+mod notes;
 mod page;
 mod picture;
 mod race;
@@ -62,7 +64,7 @@ pub use cure::Cure;
 pub use dependency::Dependency;
 pub use derivation::{at, derivation_lines, derived_lines, moment_words, step_parts};
 pub use draw::draw;
-pub use edit::{edited, Edit, Field};
+pub use edit::{edited, row_bytes, Edit, Field};
 pub use explain::{explain, Explanation, Shown};
 pub use fault::{faults, Fault};
 pub use goal::Goal;
@@ -70,10 +72,12 @@ pub use headline::headline;
 pub use inconsistent::edge_name;
 pub use insertion::{stepped, Insertion, Step};
 pub use judge::Judge;
+pub use names::{CLASSES, KINDS, ORDERS, SCOPES, SORTS};
 pub use nearest::Near;
+pub use notes::{Notes, Place, RowNote};
 pub use page::page;
 pub use reason::Reason;
-pub use refusal::refusal;
+pub use refusal::{lines as refusal_lines, refusal};
 pub use run::Run;
 pub use shader::{glsl, spirv};
 pub use show::show;

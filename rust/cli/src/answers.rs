@@ -5,11 +5,17 @@ use crate::json::Object;
 use crate::Status;
 use std::fmt::Display;
 use stramashly::{AcceptsAnswer, CheckAnswer, Derivation, DeriveAnswer, FillAnswer, ReportAnswer};
+use words::is_of_a_row;
 
 /// An answer; `Display` is its plain line.
 pub trait Answer: Display {
     fn status(&self) -> Status;
     fn put(&self, object: &mut Object);
+
+    /// The rows that it names.
+    fn rows(&self) -> Vec<u16> {
+        Vec::new()
+    }
 }
 
 impl Answer for CheckAnswer<'_> {
@@ -48,6 +54,16 @@ impl Answer for CheckAnswer<'_> {
             CheckAnswer::Refused { number, row } => put_refusal(object, number, row),
         }
     }
+
+    fn rows(&self) -> Vec<u16> {
+        match *self {
+            CheckAnswer::RaceFree => Vec::new(),
+            CheckAnswer::Race { first, second, .. } => vec![first, second],
+            CheckAnswer::Overwritten { reader, writer, .. } => vec![reader, writer],
+            CheckAnswer::Cycle { rows, .. } => rows.to_vec(),
+            CheckAnswer::Refused { number, row } => refused_row(number, row),
+        }
+    }
 }
 
 impl Answer for FillAnswer<'_> {
@@ -73,6 +89,14 @@ impl Answer for FillAnswer<'_> {
                 byte,
             } => put_race(object, first, second, byte),
             FillAnswer::Refused { number, row } => put_refusal(object, number, row),
+        }
+    }
+
+    fn rows(&self) -> Vec<u16> {
+        match *self {
+            FillAnswer::Filled(_) | FillAnswer::None => Vec::new(),
+            FillAnswer::Race { first, second, .. } => vec![first, second],
+            FillAnswer::Refused { number, row } => refused_row(number, row),
         }
     }
 }
@@ -141,6 +165,21 @@ impl Answer for ReportAnswer<'_> {
             }
             ReportAnswer::Check(answer) => answer.put(object),
         }
+    }
+
+    fn rows(&self) -> Vec<u16> {
+        match self {
+            ReportAnswer::Report(_) => Vec::new(),
+            ReportAnswer::Check(answer) => answer.rows(),
+        }
+    }
+}
+
+/// A refusal of the header names no row.
+fn refused_row(number: u16, row: u16) -> Vec<u16> {
+    match is_of_a_row(number) {
+        true => vec![row],
+        false => Vec::new(),
     }
 }
 

@@ -5,18 +5,15 @@ use crate::arguments::{Request, Task};
 use crate::checker::checker;
 use crate::colour;
 use crate::folder;
-use crate::hex::{Hex, KEPT_BYTES};
-use crate::input;
 use crate::judge::{append_trouble, judge, Form};
 use crate::make::{hex_line, make};
 use crate::output::{complain, Output};
 use crate::parallel::{in_order, Giver, Taker};
+use crate::read::{read, Given, Unread};
 use crate::summary::{Summary, UNREAD};
 use crate::tell::tell;
 use crate::Status;
-use std::ffi::{OsStr, OsString};
-use std::fs::File;
-use std::io::{self, ErrorKind, Read};
+use std::ffi::OsString;
 use std::sync::atomic::AtomicBool;
 use stramashly::Checker;
 
@@ -32,8 +29,8 @@ struct Outcome {
     status: Status,
     /// For standard output.
     bytes: Vec<u8>,
-    /// For standard error.
-    reason: Option<String>,
+    /// For standard error, with the place in the file if there is one.
+    reason: Option<Unread>,
 }
 
 /// Judges every file, also after one that can't be read and after nobody
@@ -108,7 +105,7 @@ impl Writer<'_> {
         if let Some(reason) = outcome.reason {
             // Keeps answers and messages in order on a terminal.
             self.output.flush();
-            complain(&format!("{}: {reason}", outcome.name.to_string_lossy()));
+            complain(&reason.of(&outcome.name.to_string_lossy()));
         }
     }
 
@@ -136,27 +133,28 @@ impl Taker<Outcome> for Writer<'_> {
 
 /// What there is to say of a file.
 fn outcome(request: &Request, are_named: bool, checker: &mut Checker, name: Named) -> Outcome {
-    let (name, table) = match name {
+    let (name, given) = match name {
         Ok(name) => {
-            let table = read(&name, request.is_hex);
-            (name, table)
+            let given = read(&name, request);
+            (name, given)
         }
-        Err((name, reason)) => (name, Err(reason)),
+        Err((name, reason)) => (name, Err(reason.into())),
     };
     // A name that is no text can't be an object's as it is.
     let file = name.to_string_lossy().into_owned();
-    let form = match request.is_json {
+    let form = |notes| match request.is_json {
         true => Form::Json {
             file: are_named.then_some(&*file),
+            notes,
         },
         false => Form::Plain,
     };
-    let (status, bytes, reason) = match table {
-        Ok(table) => answer(request, form, &table, checker),
+    let (status, bytes, reason) = match given {
+        Ok(given) => answer(request, form(Some(&given.notes)), &given, checker),
         Err(reason) => {
             let mut text = String::new();
             if request.is_json {
-                append_trouble(&mut text, form, &reason);
+                append_trouble(&mut text, form(None), &reason.to_string());
             }
             (Status::Trouble, text.into_bytes(), Some(reason))
         }
@@ -173,63 +171,26 @@ fn outcome(request: &Request, are_named: bool, checker: &mut Checker, name: Name
 fn answer(
     request: &Request,
     form: Form,
-    table: &[u8],
+    given: &Given,
     checker: &mut Checker,
-) -> (Status, Vec<u8>, Option<String>) {
+) -> (Status, Vec<u8>, Option<Unread>) {
     let mut text = String::new();
     match &request.task {
         Task::Judge(question) => {
-            let status = judge(checker, question, table, form, &mut text);
+            let status = judge(checker, question, &given.table, form, &mut text);
             (status, text.into_bytes(), None)
         }
-        Task::Tell(telling) => match tell(checker, *telling, table, &mut text) {
+        Task::Tell(telling) => match tell(checker, *telling, given, &mut text) {
             Ok(status) => (status, text.into_bytes(), None),
-            Err(reason) => (Status::Refused, Vec::new(), Some(reason)),
+            Err(reason) => (Status::Refused, Vec::new(), Some(reason.into())),
         },
-        Task::Make(making) => match make(checker, making, table) {
+        Task::Make(making) => match make(checker, making, given) {
             Ok(made) if request.is_hex => {
-                (made.status, hex_line(&made.table).into_bytes(), made.told)
+                let digits = hex_line(&made.table).into_bytes();
+                (made.status, digits, made.told.map(Unread::from))
             }
-            Ok(made) => (made.status, made.table, made.told),
+            Ok(made) => (made.status, made.table, made.told.map(Unread::from)),
             Err((status, reason)) => (status, Vec::new(), Some(reason)),
         },
-    }
-}
-
-/// A file's table, cut off where its refusal is sure.
-fn read(name: &OsStr, is_hex: bool) -> Result<Vec<u8>, String> {
-    let text = |error: io::Error| error.to_string();
-    if name == "-" {
-        input::trouble()?;
-        read_from(io::stdin().lock(), is_hex)
-    } else {
-        read_from(File::open(name).map_err(text)?, is_hex)
-    }
-}
-
-fn read_from(input: impl Read, is_hex: bool) -> Result<Vec<u8>, String> {
-    if is_hex {
-        return read_hex(input);
-    }
-    let mut table = Vec::with_capacity(KEPT_BYTES);
-    let read = input.take(KEPT_BYTES as u64).read_to_end(&mut table);
-    read.map(|_| table).map_err(|error| error.to_string())
-}
-
-/// Reads to the end, so that a letter that is no digit is told wherever it is.
-fn read_hex(mut input: impl Read) -> Result<Vec<u8>, String> {
-    let mut hex = Hex::default();
-    let mut piece = [0; 1 << 14];
-    while !hex.is_bad() {
-        match input.read(&mut piece) {
-            Ok(0) => break,
-            Ok(count) => hex.push(&piece[..count]),
-            Err(error) if error.kind() == ErrorKind::Interrupted => (),
-            Err(error) => return Err(error.to_string()),
-        }
-    }
-    match hex.bytes() {
-        Ok(bytes) => Ok(bytes.to_vec()),
-        Err(bad) => Err(bad.to_string()),
     }
 }

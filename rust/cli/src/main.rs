@@ -17,6 +17,7 @@ mod make;
 mod output;
 mod parallel;
 mod question;
+mod read;
 mod summary;
 mod tell;
 

@@ -31,10 +31,7 @@ pub const PRIVATE: &str = "private";
 /// The code of a word, or of words joined by hyphens.
 fn code(names: &[&str], word: &str) -> Option<u8> {
     let is_named = |name: &&str| hyphened(name) == word;
-    names
-        .iter()
-        .position(|name| is_named(name))
-        .map(|place| place as u8)
+    names.iter().position(is_named).map(|place| place as u8)
 }
 
 fn hyphened(name: &str) -> String {

@@ -36,6 +36,8 @@ pub struct Request {
     pub task: Task,
     pub is_hex: bool,
     pub is_json: bool,
+    /// Whether all that is found is one SARIF log.
+    pub is_sarif: bool,
     pub is_quiet: bool,
     /// Whether the device has availability and visibility chains.
     pub has_chains: bool,
@@ -62,7 +64,7 @@ impl Request {
             self.task,
             Task::Judge(_) | Task::Tell(Telling::Explain | Telling::Why { .. })
         );
-        is_answer && !self.is_json
+        is_answer && !self.is_json && !self.is_sarif
     }
 }
 
@@ -75,6 +77,7 @@ struct Words {
     is_html: bool,
     is_all: bool,
     is_json: bool,
+    is_sarif: bool,
     is_quiet: bool,
     is_table: bool,
     is_words: bool,
@@ -175,6 +178,7 @@ fn sort(words: impl Iterator<Item = OsString>) -> Result<Words, String> {
             Some("--html") => sorted.is_html = true,
             Some("--all") => sorted.is_all = true,
             Some("--json") => sorted.is_json = true,
+            Some("--sarif") => sorted.is_sarif = true,
             Some("--quiet" | "-q") => sorted.is_quiet = true,
             Some("--table") => sorted.is_table = true,
             Some("--words") => sorted.is_words = true,
@@ -225,6 +229,12 @@ fn check_options(task: &Task, words: &Words) -> Result<(), String> {
     if words.is_json && !matches!(task, Task::Judge(_)) {
         return Err(format!("only {} and batch take --json", Kind::NAMES));
     }
+    if words.is_sarif && *task != Task::Judge(Question::Check) {
+        return Err("only check takes --sarif".to_string());
+    }
+    if words.is_sarif && (words.is_json || words.is_quiet) {
+        return Err("--sarif goes without --json and --quiet".to_string());
+    }
     if words.is_table && *task != Task::Make(Making::Filled) {
         return Err("only fill takes --table".to_string());
     }
@@ -260,6 +270,7 @@ fn files(task: Task, words: Words) -> Result<Command, String> {
         task,
         is_hex: words.is_hex,
         is_json: words.is_json,
+        is_sarif: words.is_sarif,
         is_quiet: words.is_quiet,
         has_chains: words.has_chains,
         jobs: words.jobs.unwrap_or(1),
@@ -287,6 +298,7 @@ fn batch(words: &Words) -> Result<Command, String> {
         words.is_all,
         words.is_quiet,
         words.is_table,
+        words.is_sarif,
         words.is_words,
         words.is_text,
         words.is_lines,

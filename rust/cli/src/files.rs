@@ -1,15 +1,18 @@
 //! Files, one table each: judged, told in words and pictures, or made into
 //! another table.
 
+use crate::answers::Answer;
 use crate::arguments::{Request, Task};
 use crate::checker::checker;
 use crate::colour;
 use crate::folder;
+use crate::json::Object;
 use crate::judge::{append_trouble, judge, Form};
 use crate::make::{hex_line, make};
 use crate::output::{complain, Output};
 use crate::parallel::{in_order, Giver, Taker};
 use crate::read::{read, Given, Unread};
+use crate::sarif::{log, notification, results, Origin};
 use crate::summary::{Summary, UNREAD};
 use crate::tell::tell;
 use crate::Status;
@@ -71,6 +74,9 @@ struct Writer<'a> {
     output: Output,
     summary: Summary,
     highest: Status,
+    /// For the SARIF log.
+    results: Vec<String>,
+    notifications: Vec<Object>,
 }
 
 impl Writer<'_> {
@@ -82,11 +88,16 @@ impl Writer<'_> {
             output: Output::new(),
             summary: Summary::default(),
             highest: Status::Fine,
+            results: Vec::new(),
+            notifications: Vec::new(),
         }
     }
 
     fn write(&mut self, outcome: Outcome) {
         self.highest = self.highest.max(outcome.status);
+        if self.request.is_sarif {
+            return self.keep(outcome);
+        }
         let is_plain = !self.request.is_json;
         let text = std::str::from_utf8(&outcome.bytes).unwrap_or_default();
         self.summary
@@ -109,7 +120,23 @@ impl Writer<'_> {
         }
     }
 
+    /// Keeps an outcome for the log, which is written at the end.
+    fn keep(&mut self, outcome: Outcome) {
+        let text = String::from_utf8_lossy(&outcome.bytes);
+        self.results.extend(text.lines().map(str::to_string));
+        if let Some(reason) = outcome.reason {
+            let file = outcome.name.to_string_lossy();
+            complain(&reason.of(&file));
+            self.notifications.push(notification(&file, &reason));
+        }
+    }
+
     fn finish(mut self) -> Status {
+        if self.request.is_sarif {
+            let log = log(&self.results, &self.notifications);
+            self.output.write(log.as_bytes());
+            return self.highest.max(self.output.finish());
+        }
         let is_judged = matches!(self.request.task, Task::Judge(_));
         let is_plain = !self.request.is_json && !self.request.is_quiet;
         if self.are_named && is_judged && is_plain {
@@ -150,7 +177,7 @@ fn outcome(request: &Request, are_named: bool, checker: &mut Checker, name: Name
         false => Form::Plain,
     };
     let (status, bytes, reason) = match given {
-        Ok(given) => answer(request, form(Some(&given.notes)), &given, checker),
+        Ok(given) => answer(request, (&file, form(Some(&given.notes))), &given, checker),
         Err(reason) => {
             let mut text = String::new();
             if request.is_json {
@@ -170,12 +197,21 @@ fn outcome(request: &Request, are_named: bool, checker: &mut Checker, name: Name
 /// The answer, and what is told besides.
 fn answer(
     request: &Request,
-    form: Form,
+    (name, form): (&str, Form),
     given: &Given,
     checker: &mut Checker,
 ) -> (Status, Vec<u8>, Option<Unread>) {
     let mut text = String::new();
     match &request.task {
+        Task::Judge(_) if request.is_sarif => {
+            let origin = Origin {
+                file: (name != "-").then_some(name),
+                is_hex: request.is_hex,
+            };
+            let text = results(given, &origin, checker);
+            let status = checker.check(&given.table).status();
+            (status, text.into_bytes(), None)
+        }
         Task::Judge(question) => {
             let status = judge(checker, question, &given.table, form, &mut text);
             (status, text.into_bytes(), None)

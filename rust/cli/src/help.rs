@@ -25,6 +25,8 @@ stramashly: a race checker for recorded runs of a graphics device
 
 usage:
   stramashly check [--hex] FILE...    judge each table
+  stramashly check --sarif [--hex] FILE...
+                                      the same as one SARIF 2.1.0 log
   stramashly fill [--hex] FILE...     decide the blank sources of each table
   stramashly fill --table [--hex] FILE
                                       the table with its blanks filled

@@ -33,6 +33,27 @@ impl Object {
         self.member(key, &format_args!("[{}]", objects.join(",")));
     }
 
+    pub fn object(&mut self, key: &str, object: &Object) {
+        self.member(key, object);
+    }
+
+    pub fn count(&mut self, key: &str, count: usize) {
+        self.member(key, &count);
+    }
+
+    pub fn flag(&mut self, key: &str, flag: bool) {
+        self.member(key, &flag);
+    }
+
+    /// A value that is JSON already.
+    pub fn written(&mut self, key: &str, json: &str) {
+        self.member(key, &json);
+    }
+
+    pub fn is_empty(&self) -> bool {
+        self.members.is_empty()
+    }
+
     pub fn text(&mut self, key: &str, text: &str) {
         self.member(key, &Quoted(text));
     }

@@ -18,6 +18,7 @@ mod output;
 mod parallel;
 mod question;
 mod read;
+mod sarif;
 mod summary;
 mod tell;
 

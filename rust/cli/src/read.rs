@@ -40,6 +40,11 @@ pub struct Unread {
 }
 
 impl Unread {
+    /// The place in the file.
+    pub fn spot(&self) -> Option<(usize, usize)> {
+        self.spot
+    }
+
     /// The message, with the file's name and the place.
     pub fn of(&self, name: &str) -> String {
         match self.spot {

@@ -16,6 +16,7 @@
 //! | new rows and dependencies that would, and their words for a shader | `insertion`, `dependency`, `remedy`, `domains`, `shader` |
 //! | the answers one by one | `race`, `race_free`, `inconsistent`, `refusal` |
 //! | what is wrong with a refused table, and with its blanks | `fault`, `unfit`, `blank` |
+//! | answers one finding after the other | `findings` |
 //! | answers in sentences, pictures and pages | `explain`, `headline`, `draw`, `picture`, `page`, `markup` |
 
 mod account;
@@ -34,6 +35,7 @@ mod edit;
 mod exhaustive;
 mod explain;
 mod fault;
+mod findings;
 mod gap;
 mod goal;
 mod headline;
@@ -67,6 +69,7 @@ pub use draw::{draw, draw_noted};
 pub use edit::{edited, row_bytes, Edit, Field};
 pub use explain::{explain, explain_noted, Explanation, Shown};
 pub use fault::{faults, Fault};
+pub use findings::{findings, Finding};
 pub use goal::Goal;
 pub use headline::headline;
 pub use inconsistent::edge_name;
@@ -78,7 +81,7 @@ pub use notes::{Notes, Place, RowNote};
 pub use page::page;
 pub use reason::Reason;
 pub use refusal::{is_of_a_row, lines as refusal_lines, refusal};
-pub use run::Run;
+pub use run::{first_row, Run};
 pub use shader::{glsl, spirv};
 pub use show::show;
 pub use unfit::{unfit, Unfit};

@@ -1,5 +1,6 @@
 //! The words of the command line.
 
+use crate::completion::Shell;
 use crate::help;
 use crate::make::{steps, Making};
 use crate::question::{Kind, Question};
@@ -14,6 +15,8 @@ pub enum Command {
     /// The lines of one command.
     HelpOf(String),
     Version,
+    /// A script for a shell.
+    Completion(Shell),
     Files(Request),
     Batch {
         is_json: bool,
@@ -69,7 +72,7 @@ impl Request {
 }
 
 /// Options, and the words that are none, in order.
-#[derive(Default)]
+#[derive(Clone, Default)]
 struct Words {
     is_help: bool,
     is_version: bool,
@@ -86,6 +89,26 @@ struct Words {
     has_chains: bool,
     jobs: Option<usize>,
     others: Vec<OsString>,
+}
+
+impl Words {
+    /// Whether there is any option besides a count of threads.
+    fn has_options(&self) -> bool {
+        let options = [
+            self.is_hex,
+            self.is_html,
+            self.is_all,
+            self.is_json,
+            self.is_sarif,
+            self.is_quiet,
+            self.is_table,
+            self.is_words,
+            self.is_text,
+            self.is_lines,
+            self.has_chains,
+        ];
+        options.contains(&true)
+    }
 }
 
 /// The most threads that may be asked for.
@@ -106,6 +129,7 @@ pub fn parse(words: impl Iterator<Item = OsString>) -> Result<Command, String> {
     let task = match name.to_str() {
         Some("help") => return help(&words),
         Some("batch") => return batch(&words),
+        Some("completion") => return completion(&words),
         Some("fill") if words.is_table => Task::Make(Making::Filled),
         Some("make") => Task::Make(Making::Read),
         Some("edit") => Task::Make(Making::Edited(edit(&mut words.others)?)),
@@ -216,6 +240,20 @@ fn help(words: &Words) -> Result<Command, String> {
     }
 }
 
+fn completion(words: &Words) -> Result<Command, String> {
+    let bad = || "completion takes a shell: bash, zsh or fish".to_string();
+    if words.has_options() {
+        return Err("completion takes no options".to_string());
+    }
+    match &words.others[..] {
+        [name] => {
+            let shell = name.to_str().and_then(Shell::named);
+            shell.map(Command::Completion).ok_or_else(bad)
+        }
+        _ => Err(bad()),
+    }
+}
+
 /// What goes with which command.
 fn check_options(task: &Task, words: &Words) -> Result<(), String> {
     let is_page = matches!(task, Task::Tell(Telling::Page { .. }));
@@ -292,18 +330,12 @@ fn files(task: Task, words: Words) -> Result<Command, String> {
 }
 
 fn batch(words: &Words) -> Result<Command, String> {
-    let others = [
-        words.is_hex,
-        words.is_html,
-        words.is_all,
-        words.is_quiet,
-        words.is_table,
-        words.is_sarif,
-        words.is_words,
-        words.is_text,
-        words.is_lines,
-    ];
-    if others.contains(&true) || !words.others.is_empty() {
+    let bare = Words {
+        is_json: false,
+        has_chains: false,
+        ..words.clone()
+    };
+    if bare.has_options() || !words.others.is_empty() {
         return Err("batch takes no file, and no option but --json and -j".to_string());
     }
     Ok(Command::Batch {

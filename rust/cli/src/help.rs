@@ -51,6 +51,8 @@ usage:
                                       the table with changes made, as explain names them
   stramashly batch [--json] [-j N]    lines on standard input: `check HEX`, `fill HEX`,
                                       `report HEX`, `derive HEX M N`, `accepts HEX M N ...`
+  stramashly completion bash|zsh|fish
+                                      a script that completes commands and options
   stramashly help [COMMAND]           this text, or a command's lines
   stramashly --help | --version
 

@@ -7,6 +7,10 @@ use std::fmt::Display;
 use stramashly::{AcceptsAnswer, CheckAnswer, Derivation, DeriveAnswer, FillAnswer, ReportAnswer};
 use words::is_of_a_row;
 
+/// The verdict of an answer that the library has and this program doesn't know:
+/// its status is that of trouble.
+const UNKNOWN: &str = "unknown";
+
 /// An answer; `Display` is its plain line.
 pub trait Answer: Display {
     fn status(&self) -> Status;
@@ -25,6 +29,7 @@ impl Answer for CheckAnswer<'_> {
             CheckAnswer::Race { .. } => Status::No,
             CheckAnswer::Overwritten { .. } | CheckAnswer::Cycle { .. } => Status::Inconsistent,
             CheckAnswer::Refused { .. } => Status::Refused,
+            _ => Status::Trouble,
         }
     }
 
@@ -52,6 +57,7 @@ impl Answer for CheckAnswer<'_> {
                 object.numbers("edges", edges);
             }
             CheckAnswer::Refused { number, row } => put_refusal(object, number, row),
+            _ => put_verdict(object, UNKNOWN),
         }
     }
 
@@ -62,6 +68,7 @@ impl Answer for CheckAnswer<'_> {
             CheckAnswer::Overwritten { reader, writer, .. } => vec![reader, writer],
             CheckAnswer::Cycle { rows, .. } => rows.to_vec(),
             CheckAnswer::Refused { number, row } => refused_row(number, row),
+            _ => Vec::new(),
         }
     }
 }
@@ -73,6 +80,7 @@ impl Answer for FillAnswer<'_> {
             FillAnswer::Race { .. } => Status::No,
             FillAnswer::None => Status::Inconsistent,
             FillAnswer::Refused { .. } => Status::Refused,
+            _ => Status::Trouble,
         }
     }
 
@@ -89,6 +97,7 @@ impl Answer for FillAnswer<'_> {
                 byte,
             } => put_race(object, first, second, byte),
             FillAnswer::Refused { number, row } => put_refusal(object, number, row),
+            _ => put_verdict(object, UNKNOWN),
         }
     }
 
@@ -97,6 +106,7 @@ impl Answer for FillAnswer<'_> {
             FillAnswer::Filled(_) | FillAnswer::None => Vec::new(),
             FillAnswer::Race { first, second, .. } => vec![first, second],
             FillAnswer::Refused { number, row } => refused_row(number, row),
+            _ => Vec::new(),
         }
     }
 }
@@ -107,6 +117,7 @@ impl Answer for DeriveAnswer<'_> {
             DeriveAnswer::Derivation(_) => Status::Fine,
             DeriveAnswer::NotBefore => Status::No,
             DeriveAnswer::Refused { .. } => Status::Refused,
+            _ => Status::Trouble,
         }
     }
 
@@ -122,6 +133,7 @@ impl Answer for DeriveAnswer<'_> {
             }
             DeriveAnswer::NotBefore => put_verdict(object, "not-before"),
             DeriveAnswer::Refused { number, row } => put_refusal(object, number, row),
+            _ => put_verdict(object, UNKNOWN),
         }
     }
 }
@@ -132,6 +144,7 @@ impl Answer for AcceptsAnswer {
             AcceptsAnswer::Accepted => Status::Fine,
             AcceptsAnswer::NotAccepted => Status::No,
             AcceptsAnswer::Refused { .. } => Status::Refused,
+            _ => Status::Trouble,
         }
     }
 
@@ -140,6 +153,7 @@ impl Answer for AcceptsAnswer {
             AcceptsAnswer::Accepted => put_verdict(object, "accepted"),
             AcceptsAnswer::NotAccepted => put_verdict(object, "not-accepted"),
             AcceptsAnswer::Refused { number, row } => put_refusal(object, number, row),
+            _ => put_verdict(object, UNKNOWN),
         }
     }
 }
@@ -150,6 +164,7 @@ impl Answer for ReportAnswer<'_> {
             ReportAnswer::Report(report) if report.racing > 0 => Status::No,
             ReportAnswer::Report(_) => Status::Fine,
             ReportAnswer::Check(answer) => answer.status(),
+            _ => Status::Trouble,
         }
     }
 
@@ -164,6 +179,7 @@ impl Answer for ReportAnswer<'_> {
                 object.share("share", report.share);
             }
             ReportAnswer::Check(answer) => answer.put(object),
+            _ => put_verdict(object, UNKNOWN),
         }
     }
 
@@ -171,6 +187,7 @@ impl Answer for ReportAnswer<'_> {
         match self {
             ReportAnswer::Report(_) => Vec::new(),
             ReportAnswer::Check(answer) => answer.rows(),
+            _ => Vec::new(),
         }
     }
 }

@@ -83,6 +83,7 @@ fn filled(checker: &mut Checker, table: &[u8]) -> Result<Vec<u8>, (Status, Unrea
         FillAnswer::Race { .. } => Status::No,
         FillAnswer::None => Status::Inconsistent,
         FillAnswer::Refused { .. } => Status::Refused,
+        _ => Status::Trouble,
     };
     let reason = format!("{answer}; there is no filled table");
     Err((status, reason.into()))

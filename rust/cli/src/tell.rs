@@ -65,6 +65,7 @@ pub fn tell(
                 DeriveAnswer::Derivation(_) => Status::Fine,
                 DeriveAnswer::NotBefore => Status::No,
                 DeriveAnswer::Refused { .. } => Status::Refused,
+                _ => Status::Trouble,
             })
         }
         Telling::Draw { is_all } => {

@@ -40,6 +40,21 @@
 //! assert_eq!(checker.report(&empty_table).to_string(), "report 0 0 0 0 no-share");
 //! ```
 //!
+//! Answers borrow the checker's buffers until its next call; `into_owned` gives
+//! one that doesn't:
+//!
+//! ```
+//! use stramashly::{Checker, OwnedCheckAnswer};
+//!
+//! let tables = [vec![0, 0, 0, 4, 1, 0, 0, 0], vec![]];
+//! let mut checker = Checker::new();
+//! let answers: Vec<OwnedCheckAnswer> = tables
+//!     .iter()
+//!     .map(|table| checker.check(table).into_owned())
+//!     .collect();
+//! assert_eq!(answers[1].to_string(), "refused 1 0");
+//! ```
+//!
 //! On a device that reports the feature
 //! vulkanMemoryModelAvailabilityVisibilityChains, `Checker::new().with_chains(true)`.
 //!
@@ -47,10 +62,13 @@
 //! instead, of any length, and give the packed answer as it comes, and so does
 //! [`accepts_in`], which needs none.
 
+#![deny(missing_docs)]
+
 mod answer;
 mod checker;
 mod derivation;
 mod engine;
+mod owned;
 mod report;
 
 pub use answer::{CheckAnswer, Code, FillAnswer, Packed};
@@ -59,6 +77,9 @@ pub use derivation::{AcceptsAnswer, Derivation, DeriveAnswer};
 pub use engine::{
     accepts_in, check_in, check_with, derive_in, fill_in, fill_with, report_in, report_with,
     share_of,
+};
+pub use owned::{
+    OwnedCheckAnswer, OwnedDerivation, OwnedDeriveAnswer, OwnedFillAnswer, OwnedReportAnswer,
 };
 pub use report::{Report, ReportAnswer, Share};
 

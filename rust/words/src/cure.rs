@@ -197,7 +197,6 @@ impl Searcher<'_> {
     /// asked, since that looks for races before anything else.
     fn is_ordered(&mut self, table: &[u8], goal: Goal) -> Option<bool> {
         match self.checker.fill(table) {
-            FillAnswer::Refused { .. } => return None,
             FillAnswer::Filled(_) | FillAnswer::None => return Some(true),
             FillAnswer::Race {
                 first,
@@ -214,6 +213,7 @@ impl Searcher<'_> {
                     _ => (),
                 }
             }
+            _ => return None,
         }
         let chains = self.checker.chains();
         self.state

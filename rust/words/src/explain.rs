@@ -185,5 +185,6 @@ pub fn shown(checked: Checked, answer: CheckAnswer) -> Shown {
             rows: rows.iter().map(|row| usize::from(*row)).collect(),
             edges: edges.to_vec(),
         },
+        _ => panic!("a check has no such answer: {answer}"),
     }
 }

@@ -201,17 +201,11 @@ impl Searcher<'_> {
         self.is_ordered(&table, goal)
     }
 
-    /// Whether rows don't race in a table; none if it is refused. The second
-    /// implementation is asked first: it takes a fraction of the time, and most
-    /// changes don't do. What it takes for a cure the proved library is asked
-    /// about, by a fill, since that looks for races before anything else.
+    /// Whether rows don't race in a table; none if it is refused. A fill is
+    /// asked, since that looks for races before anything else.
     fn is_ordered(&mut self, table: &[u8], goal: Goal) -> Option<bool> {
-        self.relate(table)?;
-        if self.state.races_at(goal.first, goal.second, goal.byte) {
-            return Some(false);
-        }
         match self.checker.fill(table) {
-            FillAnswer::Filled(_) | FillAnswer::None => Some(true),
+            FillAnswer::Filled(_) | FillAnswer::None => return Some(true),
             FillAnswer::Race {
                 first,
                 second,
@@ -219,16 +213,18 @@ impl Searcher<'_> {
             } => {
                 let pair = (usize::from(first), usize::from(second));
                 match pair.cmp(&(goal.first, goal.second)) {
+                    // Pairs that come before the first racing one don't race.
+                    Ordering::Greater => return Some(true),
                     Ordering::Equal if u32::from(byte) >= goal.byte => {
-                        Some(u32::from(byte) > goal.byte)
+                        return Some(u32::from(byte) > goal.byte)
                     }
-                    // Pairs that come before the first racing one don't race; of
-                    // those after it nothing is said.
-                    _ => Some(true),
+                    _ => (),
                 }
             }
-            _ => None,
+            _ => return None,
         }
+        self.relate(table)?;
+        Some(!self.state.races_at(goal.first, goal.second, goal.byte))
     }
 
     /// Has the second implementation relate a table's rows; none if it refuses

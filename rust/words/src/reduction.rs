@@ -29,12 +29,7 @@ impl Reduction {
     /// the other are left out too.
     pub fn tight(table: &[u8], goal: Goal, chains: Chains) -> Reduction {
         let run = Run::of(table);
-        let kept = relevant(&run, goal, chains);
-        // A chain's middle may be on no way.
-        let kept = match chains {
-            Chains::Off => on_ways(&run, goal, kept),
-            Chains::On => kept,
-        };
+        let kept = on_ways(&run, goal, relevant(&run, goal, chains));
         Reduction::to(table, &run, kept)
     }
 
@@ -140,8 +135,8 @@ pub fn relevant(run: &Run, goal: Goal, chains: Chains) -> Vec<usize> {
 }
 
 /// Of these rows, those that a way from one of the goal's rows to the other may
-/// go through, the plain ones, and whatever else accesses an atomic's place:
-/// release sequences depend on all of these.
+/// go through, a chain's elements among them, and all the atomics of a place
+/// that one of those has: release sequences depend on each.
 fn on_ways(run: &Run, goal: Goal, rows: Vec<usize>) -> Vec<usize> {
     let (first, second) = (goal.first, goal.second);
     let [after_first, after_second] = [first, second].map(|row| reached(run, row, is_step));
@@ -162,7 +157,7 @@ fn on_ways(run: &Run, goal: Goal, rows: Vec<usize>) -> Vec<usize> {
     rows.retain(|row| {
         let fields = run.rows[*row];
         let is_placed = fields.is_atomic() && places.contains(&place(*row));
-        fields.is_plain() || is_between(*row) || is_placed
+        is_between(*row) || is_placed
     });
     rows
 }
@@ -239,8 +234,8 @@ mod tests {
     use tables::{chained, checkable, hex, hosted, Random, Size};
 
     /// Whether the goal's rows race; none if the table is refused.
-    fn races(state: &mut State, table: &[u8], goal: Goal) -> Option<bool> {
-        let answer = state.check(table, WORK_WORDS, CYCLE_NUMBERS);
+    fn races(state: &mut State, chains: Chains, table: &[u8], goal: Goal) -> Option<bool> {
+        let answer = state.check_with(chains, table, WORK_WORDS, CYCLE_NUMBERS);
         let is_refused = matches!(answer, CheckAnswer::Refused { .. });
         (!is_refused).then(|| state.races_at(goal.first, goal.second, goal.byte))
     }
@@ -279,6 +274,7 @@ mod tests {
         let (mut raced, mut ordered, mut smaller) = (0, 0, 0);
         while raced + ordered < 2500 {
             let size = Size { least: 3, most: 16 };
+            let chains = random.pick(&[Chains::Off, Chains::On]);
             let table = match random.below(3) {
                 0 => checkable(&mut random, size).bytes(),
                 1 => hosted(&mut random, size).bytes(),
@@ -288,7 +284,7 @@ mod tests {
                 first,
                 second,
                 byte,
-            } = state.check(&table, WORK_WORDS, CYCLE_NUMBERS)
+            } = state.check_with(chains, &table, WORK_WORDS, CYCLE_NUMBERS)
             else {
                 continue;
             };
@@ -297,17 +293,17 @@ mod tests {
                 second: second.into(),
                 byte: byte.into(),
             };
-            let loose = Reduction::of(&table, goal, Chains::Off);
-            let tight = Reduction::tight(&table, goal, Chains::Off);
+            let loose = Reduction::of(&table, goal, chains);
+            let tight = Reduction::tight(&table, goal, chains);
             smaller += usize::from(tight.kept.len() < loose.kept.len());
             for _ in 0..20 {
                 let edits = any_edits(&mut random, &Run::of(&table));
-                let Some(whole) = races(&mut state, &edited(&table, &edits), goal) else {
+                let Some(whole) = races(&mut state, chains, &edited(&table, &edits), goal) else {
                     continue;
                 };
                 for reduction in [&loose, &tight] {
                     let reduced = reduction.edited(&edits);
-                    let found = races(&mut state, &reduced, reduction.goal(goal));
+                    let found = races(&mut state, chains, &reduced, reduction.goal(goal));
                     assert_eq!(found, Some(whole), "{} {edits:?}", hex(&table));
                 }
                 raced += usize::from(whole);

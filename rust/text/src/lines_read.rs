@@ -4,7 +4,7 @@
 use crate::draft::Draft;
 use crate::json::{parse, Member, Node, Value};
 use crate::said::{Part, Said};
-use crate::trouble::Trouble;
+use crate::trouble::{Spot, Trouble};
 use crate::vocabulary::{
     bad_name, class_code, class_words, kind_code, kind_words, number, order_code, order_words,
     scope_code, scope_words, sort_code, BLANK, FLAGS, INITIAL,
@@ -31,10 +31,10 @@ pub fn read(text: &str) -> Result<Draft, Trouble> {
     let mut lines = lines.map(|(place, text)| (place + 1, text));
     let mut taken = Taken::default();
     let mut draft = Draft::default();
-    let mut dependencies = Vec::new();
-    if let Some((line, text)) = lines.next() {
-        dependencies = header(&mut draft, &mut taken, &parse(line, text)?)?;
-    }
+    let Some((line, text)) = lines.next() else {
+        return Err(Spot { line: 1, column: 1 }.trouble("expected an object with \"version\""));
+    };
+    let dependencies = header(&mut draft, &mut taken, &parse(line, text)?)?;
     for (line, text) in lines {
         row(&mut draft, &mut taken, &parse(line, text)?)?;
     }

@@ -363,6 +363,11 @@ fn bad_json_lines_are_told() {
     let row = r#""agent":0,"kind":"write","start":0,"length":4,"reference":1,"class":"Image""#;
     let head = |line: &str| format!("{header}\n{{{row}}}\n{line}\n");
     for (text, place, part) in [
+        (
+            "\n".to_string(),
+            (1, 1),
+            "expected an object with \"version\"",
+        ),
         ("{}".to_string(), (1, 1), "expected the key \"version\""),
         (
             r#"{"version":1}"#.to_string(),

@@ -177,6 +177,11 @@ fn places_and_names_are_told() {
     let drawn = stramashly(&["draw", &text], b"").output;
     assert!(drawn.contains(">@ alloc.comp:41</text>"), "{drawn}");
     assert!(drawn.contains("non-private, at shaders/alloc.comp:41</title>"));
+    assert!(drawn.contains(">agent 0, producer</text>"), "{drawn}");
+    // Letters that have a meaning in a picture are written out.
+    let odd = LEAK.replace("shaders/alloc.comp:41", "a<b&c.comp:3");
+    let drawn = stramashly(&["draw", "-"], odd.as_bytes()).output;
+    assert!(drawn.contains(">@ a&lt;b&amp;c.comp:3</text>"), "{drawn}");
     let page = stramashly(&["explain", "--html", &text], b"").output;
     assert!(page.contains("@ alloc.comp:41") && page.contains("shaders/alloc.comp:44"));
     let object = stramashly(&["check", "--json", &text], b"").output;

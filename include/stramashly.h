@@ -90,6 +90,13 @@
 extern "C" {
 #endif
 
+/* The version of this header. The library has no function that tells its own;
+ * the functions are those of the archive that is linked. */
+#define STRAMASHLY_VERSION_MAJOR 0
+#define STRAMASHLY_VERSION_MINOR 2
+#define STRAMASHLY_VERSION_PATCH 0
+#define STRAMASHLY_VERSION "0.2.0"
+
 /* Least lengths of the lent buffers, each in its own numbers. */
 #define STRAMASHLY_WORK_WORDS 8192
 #define STRAMASHLY_CYCLE_NUMBERS 256

@@ -1,6 +1,7 @@
 //! What goes with each answer: its exit status, and its members in JSON, whose
 //! keys are the words of `--help`.
 
+use crate::hex::digits;
 use crate::json::Object;
 use crate::Status;
 use std::fmt::{self, Display};
@@ -28,9 +29,7 @@ pub struct ShownRow<'a>(pub Option<&'a [u8]>);
 impl Display for ShownRow<'_> {
     fn fmt(&self, formatter: &mut fmt::Formatter) -> fmt::Result {
         match self.0 {
-            Some(bytes) => bytes
-                .iter()
-                .try_for_each(|byte| write!(formatter, "{byte:02x}")),
+            Some(bytes) => write!(formatter, "{}", digits(bytes)),
             None => write!(formatter, "none"),
         }
     }

@@ -1,5 +1,6 @@
 //! A table made: of its text, of another whose blanks are filled, or by steps.
 
+use crate::hex::digits;
 use crate::read::{Given, Unread};
 use crate::Status;
 use stramashly::{Checker, FillAnswer, BLANK};
@@ -99,6 +100,5 @@ pub fn steps(words: &[&str]) -> Result<Vec<Step>, String> {
 
 /// Bytes as hex digits and a line's end.
 pub fn hex_line(bytes: &[u8]) -> String {
-    let digits: String = bytes.iter().map(|byte| format!("{byte:02X}")).collect();
-    digits + "\n"
+    digits(bytes) + "\n"
 }

@@ -4,7 +4,7 @@
 use stramashly::{Checker, FillAnswer};
 use tables::{chained, chained_fillable, checkable, clean, damaged, damaged_hosted, fillable};
 use tables::{examples, hosted, hosted_fillable, litmus, moved, Random, Size};
-use text::{admission, assemble, form, read, write, write_lines, Form, Refusal};
+use text::{admission, assemble, form, read, remade, write, write_lines, Form, Refusal};
 use words::{Notes, Run};
 
 /// Both forms of a table, if a fill takes it.
@@ -115,6 +115,9 @@ fn parts_are_assembled_as_a_fill_admits_them() {
             1 => damaged_hosted(&mut random, size),
             _ => fillable(&mut random, size).bytes(),
         };
+        let made_anew = remade(&table);
+        assert_eq!(made_anew.as_ref().err().copied(), admission(&table));
+        assert!(made_anew.is_err() || made_anew.as_ref() == Ok(&table));
         // What isn't whole has no parts.
         let door = admission(&table).is_some_and(|refusal| refusal.number < 5);
         if door {

@@ -66,7 +66,7 @@ pub use cure::Cure;
 pub use dependency::Dependency;
 pub use derivation::{at, derivation_lines, derived_lines, moment_words, step_parts};
 pub use draw::{draw, draw_noted};
-pub use edit::{edited, row_bytes, Edit, Field};
+pub use edit::{edited, Edit, Field};
 pub use explain::{explain, explain_noted, Explanation, Shown};
 pub use fault::{faults, Fault};
 pub use findings::{findings, Finding};

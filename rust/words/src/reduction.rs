@@ -1,11 +1,11 @@
 //! The part of a table that two rows' order at a byte depends on. Large tables
 //! have many rows that it doesn't depend on, and asking of fewer is quicker.
 
-use crate::edit::{edited, row_bytes, Edit, Field};
+use crate::edit::{edited, Edit, Field};
 use crate::goal::Goal;
 use crate::run::{first_row, Run};
 use second::table::{Row, ATOMIC_RMW, ROW_BYTES};
-use second::{Chains, BLANK, INITIAL};
+use second::{row_bytes, Chains, BLANK, INITIAL};
 use std::collections::HashSet;
 
 /// A table of fewer rows in which the goal's rows race exactly if they do in

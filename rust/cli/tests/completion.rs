@@ -10,7 +10,8 @@ use std::process::Command;
 /// What bash offers for the last of these words.
 fn offered(words: &str) -> Vec<String> {
     let script = stramashly(&["completion", "bash"], b"").output;
-    let path = scratch().join("completion.bash");
+    // A file of its own: the other test writes its script at the same time.
+    let path = scratch().join("offered.bash");
     fs::write(&path, script).unwrap();
     let last = words.split(' ').count() - 1;
     let words: Vec<String> = words.split(' ').map(|word| format!("'{word}'")).collect();

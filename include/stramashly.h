@@ -27,8 +27,8 @@
  *  13  opened                open          rows        agents
  *  14  a row                 row           next place
  *  15  the end               row           the place, which stays
- *  12  a row's place         row2          piece       first byte
- *  13  no row                row2
+ *  16  a row's place         row2          piece       first byte
+ *  17  no row                row2
  *
  * Parts that the table above leaves empty are 0. A byte is its number among
  * the 65,536 that a table speaks of.
@@ -90,6 +90,13 @@
 extern "C" {
 #endif
 
+/* The version of this header. The library has no function that tells its own;
+ * the functions are those of the archive that is linked. */
+#define STRAMASHLY_VERSION_MAJOR 0
+#define STRAMASHLY_VERSION_MINOR 2
+#define STRAMASHLY_VERSION_PATCH 0
+#define STRAMASHLY_VERSION "0.2.0"
+
 /* Least lengths of the lent buffers, each in its own numbers. */
 #define STRAMASHLY_WORK_WORDS 8192
 #define STRAMASHLY_CYCLE_NUMBERS 256
@@ -141,19 +148,16 @@ enum stramashly_code {
   STRAMASHLY_WRITTEN = 12,
   STRAMASHLY_OPENED = 13,
   STRAMASHLY_ROW = 14,
-  STRAMASHLY_END = 15
-  STRAMASHLY_ROW = 12,
-  STRAMASHLY_NO_ROW = 13
+  STRAMASHLY_END = 15,
+  STRAMASHLY_ROW_PLACE = 16,
+  STRAMASHLY_NO_ROW = 17
 };
 
 /* Part a of a refusal: which rule of form is broken. Part b is the row that
  * breaks it, 0 where it is no row's. Tested in this order: BUFFER; SHORT,
- * VERSION, LIMITS, LENGTH, AGENT_KIND, DEPENDENCIES, DEPENDENCY; row by row CODE,
- * AGENT_ROW, then KIND_FIT and EXTENT or OPERATION_FIT; row by row CLASS, SOURCE,
- * RANK, INSTANCE, RUN; MOMENTS; ROOM. */
  * VERSION, LIMITS, LENGTH, and of two pieces ROWS and LIMITS of both; AGENT_KIND,
- * DEPENDENCIES, DEPENDENCY; row by row CODE, AGENT_ROW, then KIND_FIT and EXTENT or OPERATION_FIT; row by row CLASS, SOURCE,
- * RANK, INSTANCE, RUN; MOMENTS. */
+ * DEPENDENCIES, DEPENDENCY; row by row CODE, AGENT_ROW, then KIND_FIT and EXTENT or
+ * OPERATION_FIT; row by row CLASS, SOURCE, RANK, INSTANCE, RUN; MOMENTS; ROOM. */
 enum stramashly_refusal {
   STRAMASHLY_REFUSAL_SHORT = 1,     /* a table of fewer than 8 bytes */
   STRAMASHLY_REFUSAL_VERSION = 2,   /* a version other than 1 to 3, or byte 7 not 0 */
@@ -251,7 +255,8 @@ uint64_t stramashly_open(const uint8_t *table, size_t table_len);
  * (BUFFER). Of bytes that weren't opened it gives what stands where the row would. */
 uint64_t stramashly_row(const uint8_t *table, size_t table_len, uint16_t at,
                         uint8_t *row, size_t row_len);
-/* The same of a table in two pieces. */
+
+/* Check, fill, report, derive and accepts of a table in two pieces. */
 uint64_t stramashly_check2(const uint8_t *first, size_t first_len,
                            const uint8_t *second, size_t second_len, uint8_t chains,
                            uint64_t *work, size_t work_len,

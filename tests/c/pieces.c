@@ -36,7 +36,7 @@ static uint64_t row(unsigned number) {
 /* A row as its sixteen bytes, from whichever piece holds it. */
 static const uint8_t *shown(unsigned number) {
   uint64_t place = row(number);
-  if (STRAMASHLY_CODE(place) != STRAMASHLY_ROW) return NULL;
+  if (STRAMASHLY_CODE(place) != STRAMASHLY_ROW_PLACE) return NULL;
   return (STRAMASHLY_A(place) == 0 ? first : second) + STRAMASHLY_B(place);
 }
 
@@ -104,7 +104,7 @@ static void test_refusals(void) {
   expect(check() == refused(STRAMASHLY_REFUSAL_LIMITS, 0), "129 rows");
   second_len -= ROW_BYTES;
   expect(check() == refused(STRAMASHLY_REFUSAL_EXTENT, 2), "128 rows, the third of no bytes");
-  expect(STRAMASHLY_CODE(row(127)) == STRAMASHLY_ROW, "which are there all the same");
+  expect(STRAMASHLY_CODE(row(127)) == STRAMASHLY_ROW_PLACE, "which are there all the same");
   expect(is_work_kept() && is_cycle_kept() && are_sources_kept(), "refusals keep the buffers");
   expect(stramashly_check2(first, first_len, second, 1, 0, work, STRAMASHLY_WORK_WORDS - 1, cycle,
                            STRAMASHLY_CYCLE_NUMBERS) == refused(STRAMASHLY_REFUSAL_BUFFER, 0),

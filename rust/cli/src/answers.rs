@@ -1,15 +1,26 @@
 //! What goes with each answer: its exit status, and its members in JSON, whose
 //! keys are the words of `--help`.
 
+use crate::hex::digits;
 use crate::json::Object;
 use crate::Status;
 use std::fmt::{self, Display};
 use stramashly::{AcceptsAnswer, CheckAnswer, Derivation, DeriveAnswer, FillAnswer, ReportAnswer};
+use words::is_of_a_row;
+
+/// The verdict of an answer that the library has and this program doesn't know:
+/// its status is that of trouble.
+const UNKNOWN: &str = "unknown";
 
 /// An answer; `Display` is its plain line.
 pub trait Answer: Display {
     fn status(&self) -> Status;
     fn put(&self, object: &mut Object);
+
+    /// The rows that it names.
+    fn rows(&self) -> Vec<u16> {
+        Vec::new()
+    }
 }
 
 /// A row's sixteen bytes, if a piece holds it.
@@ -18,9 +29,7 @@ pub struct ShownRow<'a>(pub Option<&'a [u8]>);
 impl Display for ShownRow<'_> {
     fn fmt(&self, formatter: &mut fmt::Formatter) -> fmt::Result {
         match self.0 {
-            Some(bytes) => bytes
-                .iter()
-                .try_for_each(|byte| write!(formatter, "{byte:02x}")),
+            Some(bytes) => write!(formatter, "{}", digits(bytes)),
             None => write!(formatter, "none"),
         }
     }
@@ -52,6 +61,7 @@ impl Answer for CheckAnswer<'_> {
             CheckAnswer::Race { .. } => Status::No,
             CheckAnswer::Overwritten { .. } | CheckAnswer::Cycle { .. } => Status::Inconsistent,
             CheckAnswer::Refused { .. } => Status::Refused,
+            _ => Status::Trouble,
         }
     }
 
@@ -79,6 +89,18 @@ impl Answer for CheckAnswer<'_> {
                 object.numbers("edges", edges);
             }
             CheckAnswer::Refused { number, row } => put_refusal(object, number, row),
+            _ => put_verdict(object, UNKNOWN),
+        }
+    }
+
+    fn rows(&self) -> Vec<u16> {
+        match *self {
+            CheckAnswer::RaceFree => Vec::new(),
+            CheckAnswer::Race { first, second, .. } => vec![first, second],
+            CheckAnswer::Overwritten { reader, writer, .. } => vec![reader, writer],
+            CheckAnswer::Cycle { rows, .. } => rows.to_vec(),
+            CheckAnswer::Refused { number, row } => refused_row(number, row),
+            _ => Vec::new(),
         }
     }
 }
@@ -90,6 +112,7 @@ impl Answer for FillAnswer<'_> {
             FillAnswer::Race { .. } => Status::No,
             FillAnswer::None => Status::Inconsistent,
             FillAnswer::Refused { .. } => Status::Refused,
+            _ => Status::Trouble,
         }
     }
 
@@ -106,6 +129,16 @@ impl Answer for FillAnswer<'_> {
                 byte,
             } => put_race(object, first, second, byte),
             FillAnswer::Refused { number, row } => put_refusal(object, number, row),
+            _ => put_verdict(object, UNKNOWN),
+        }
+    }
+
+    fn rows(&self) -> Vec<u16> {
+        match *self {
+            FillAnswer::Filled(_) | FillAnswer::None => Vec::new(),
+            FillAnswer::Race { first, second, .. } => vec![first, second],
+            FillAnswer::Refused { number, row } => refused_row(number, row),
+            _ => Vec::new(),
         }
     }
 }
@@ -116,6 +149,7 @@ impl Answer for DeriveAnswer<'_> {
             DeriveAnswer::Derivation(_) => Status::Fine,
             DeriveAnswer::NotBefore => Status::No,
             DeriveAnswer::Refused { .. } => Status::Refused,
+            _ => Status::Trouble,
         }
     }
 
@@ -131,6 +165,7 @@ impl Answer for DeriveAnswer<'_> {
             }
             DeriveAnswer::NotBefore => put_verdict(object, "not-before"),
             DeriveAnswer::Refused { number, row } => put_refusal(object, number, row),
+            _ => put_verdict(object, UNKNOWN),
         }
     }
 }
@@ -141,6 +176,7 @@ impl Answer for AcceptsAnswer {
             AcceptsAnswer::Accepted => Status::Fine,
             AcceptsAnswer::NotAccepted => Status::No,
             AcceptsAnswer::Refused { .. } => Status::Refused,
+            _ => Status::Trouble,
         }
     }
 
@@ -149,6 +185,7 @@ impl Answer for AcceptsAnswer {
             AcceptsAnswer::Accepted => put_verdict(object, "accepted"),
             AcceptsAnswer::NotAccepted => put_verdict(object, "not-accepted"),
             AcceptsAnswer::Refused { number, row } => put_refusal(object, number, row),
+            _ => put_verdict(object, UNKNOWN),
         }
     }
 }
@@ -159,6 +196,7 @@ impl Answer for ReportAnswer<'_> {
             ReportAnswer::Report(report) if report.racing > 0 => Status::No,
             ReportAnswer::Report(_) => Status::Fine,
             ReportAnswer::Check(answer) => answer.status(),
+            _ => Status::Trouble,
         }
     }
 
@@ -173,7 +211,24 @@ impl Answer for ReportAnswer<'_> {
                 object.share("share", report.share);
             }
             ReportAnswer::Check(answer) => answer.put(object),
+            _ => put_verdict(object, UNKNOWN),
         }
+    }
+
+    fn rows(&self) -> Vec<u16> {
+        match self {
+            ReportAnswer::Report(_) => Vec::new(),
+            ReportAnswer::Check(answer) => answer.rows(),
+            _ => Vec::new(),
+        }
+    }
+}
+
+/// A refusal of the header names no row.
+fn refused_row(number: u16, row: u16) -> Vec<u16> {
+    match is_of_a_row(number) {
+        true => vec![row],
+        false => Vec::new(),
     }
 }
 

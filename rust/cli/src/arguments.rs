@@ -1,5 +1,6 @@
 //! The words of the command line.
 
+use crate::completion::Shell;
 use crate::help;
 use crate::make::{steps, Making};
 use crate::question::{Kind, Question};
@@ -14,6 +15,8 @@ pub enum Command {
     /// The lines of one command.
     HelpOf(String),
     Version,
+    /// A script for a shell.
+    Completion(Shell),
     Files(Request),
     Batch {
         is_json: bool,
@@ -36,6 +39,8 @@ pub struct Request {
     pub task: Task,
     pub is_hex: bool,
     pub is_json: bool,
+    /// Whether all that is found is one SARIF log.
+    pub is_sarif: bool,
     pub is_quiet: bool,
     /// Whether the device has availability and visibility chains.
     pub has_chains: bool,
@@ -52,6 +57,7 @@ impl Request {
             self.task,
             Task::Judge(Question::Derive { .. } | Question::Accepts { .. })
                 | Task::Tell(Telling::Draw { .. } | Telling::Page { .. } | Telling::Why { .. })
+                | Task::Tell(Telling::Text | Telling::Lines)
                 | Task::Make(_)
         );
         !is_of_one
@@ -63,12 +69,12 @@ impl Request {
             self.task,
             Task::Judge(_) | Task::Tell(Telling::Explain | Telling::Why { .. })
         );
-        is_answer && !self.is_json
+        is_answer && !self.is_json && !self.is_sarif
     }
 }
 
 /// Options, and the words that are none, in order.
-#[derive(Default)]
+#[derive(Clone, Default)]
 struct Words {
     is_help: bool,
     is_version: bool,
@@ -76,13 +82,36 @@ struct Words {
     is_html: bool,
     is_all: bool,
     is_json: bool,
+    is_sarif: bool,
     is_quiet: bool,
     is_table: bool,
     is_words: bool,
+    is_text: bool,
+    is_lines: bool,
     has_chains: bool,
     jobs: Option<usize>,
     then: Option<OsString>,
     others: Vec<OsString>,
+}
+
+impl Words {
+    /// Whether there is any option besides a count of threads.
+    fn has_options(&self) -> bool {
+        let options = [
+            self.is_hex,
+            self.is_html,
+            self.is_all,
+            self.is_json,
+            self.is_sarif,
+            self.is_quiet,
+            self.is_table,
+            self.is_words,
+            self.is_text,
+            self.is_lines,
+            self.has_chains,
+        ];
+        options.contains(&true) || self.then.is_some()
+    }
 }
 
 /// The most threads that may be asked for.
@@ -103,9 +132,16 @@ pub fn parse(words: impl Iterator<Item = OsString>) -> Result<Command, String> {
     let task = match name.to_str() {
         Some("help") => return help(&words),
         Some("batch") => return batch(&words),
+        Some("completion") => return completion(&words),
         Some("fill") if words.is_table => Task::Make(Making::Filled),
+        Some("make") => Task::Make(Making::Read),
         Some("edit") => Task::Make(Making::Edited(edit(&mut words.others)?)),
-        Some("show") => Task::Tell(Telling::Show),
+        Some("show") => Task::Tell(match (words.is_text, words.is_lines) {
+            (false, false) => Telling::Show,
+            (true, false) => Telling::Text,
+            (false, true) => Telling::Lines,
+            (true, true) => return Err("--text or --json-lines, not both".to_string()),
+        }),
         Some("explain") if words.is_html => Task::Tell(Telling::Page {
             is_all: words.is_all,
         }),
@@ -169,9 +205,12 @@ fn sort(words: impl Iterator<Item = OsString>) -> Result<Words, String> {
             Some("--html") => sorted.is_html = true,
             Some("--all") => sorted.is_all = true,
             Some("--json") => sorted.is_json = true,
+            Some("--sarif") => sorted.is_sarif = true,
             Some("--quiet" | "-q") => sorted.is_quiet = true,
             Some("--table") => sorted.is_table = true,
             Some("--words") => sorted.is_words = true,
+            Some("--text") => sorted.is_text = true,
+            Some("--json-lines") => sorted.is_lines = true,
             Some("--chains") => sorted.has_chains = true,
             Some("--then") if sorted.then.is_some() => {
                 return Err("--then given twice: a table has two pieces".to_string());
@@ -211,6 +250,20 @@ fn help(words: &Words) -> Result<Command, String> {
     }
 }
 
+fn completion(words: &Words) -> Result<Command, String> {
+    let bad = || "completion takes a shell: bash, zsh or fish".to_string();
+    if words.has_options() {
+        return Err("completion takes no options".to_string());
+    }
+    match &words.others[..] {
+        [name] => {
+            let shell = name.to_str().and_then(Shell::named);
+            shell.map(Command::Completion).ok_or_else(bad)
+        }
+        _ => Err(bad()),
+    }
+}
+
 /// What goes with which command.
 fn check_options(task: &Task, words: &Words) -> Result<(), String> {
     let is_page = matches!(task, Task::Tell(Telling::Page { .. }));
@@ -224,8 +277,18 @@ fn check_options(task: &Task, words: &Words) -> Result<(), String> {
     if words.is_json && !matches!(task, Task::Judge(_)) {
         return Err(format!("only {} and batch take --json", Kind::NAMES));
     }
+    if words.is_sarif && *task != Task::Judge(Question::Check) {
+        return Err("only check takes --sarif".to_string());
+    }
+    if words.is_sarif && (words.is_json || words.is_quiet || words.then.is_some()) {
+        return Err("--sarif goes without --json, --quiet and --then".to_string());
+    }
     if words.is_table && *task != Task::Make(Making::Filled) {
         return Err("only fill takes --table".to_string());
+    }
+    let is_shown = matches!(task, Task::Tell(Telling::Text | Telling::Lines));
+    if (words.is_text || words.is_lines) && !is_shown {
+        return Err("only show takes --text and --json-lines".to_string());
     }
     if words.is_words && !matches!(task, Task::Tell(Telling::Why { .. })) {
         return Err("only derive takes --words".to_string());
@@ -258,6 +321,7 @@ fn files(task: Task, words: Words) -> Result<Command, String> {
         task,
         is_hex: words.is_hex,
         is_json: words.is_json,
+        is_sarif: words.is_sarif,
         is_quiet: words.is_quiet,
         has_chains: words.has_chains,
         jobs: words.jobs.unwrap_or(1),
@@ -270,7 +334,7 @@ fn files(task: Task, words: Words) -> Result<Command, String> {
     }
     // Two documents in a row are none.
     if !request.takes_directories() && names.len() > 1 {
-        return Err("a picture, a page or a new table is of one file".to_string());
+        return Err("a picture, a page, a text or a new table is of one file".to_string());
     }
     // It can only be read once; and a second piece is read with each table.
     if request.then.as_ref().is_some_and(|name| name == "-") && names.len() > 1 {
@@ -284,15 +348,12 @@ fn files(task: Task, words: Words) -> Result<Command, String> {
 }
 
 fn batch(words: &Words) -> Result<Command, String> {
-    let others = [
-        words.is_hex,
-        words.is_html,
-        words.is_all,
-        words.is_quiet,
-        words.is_table,
-        words.is_words,
-    ];
-    if others.contains(&true) || words.then.is_some() || !words.others.is_empty() {
+    let bare = Words {
+        is_json: false,
+        has_chains: false,
+        ..words.clone()
+    };
+    if bare.has_options() || !words.others.is_empty() {
         return Err("batch takes no file, and no option but --json and -j".to_string());
     }
     Ok(Command::Batch {
@@ -303,239 +364,4 @@ fn batch(words: &Words) -> Result<Command, String> {
 }
 
 #[cfg(test)]
-mod tests {
-    use super::*;
-    use crate::question::Claim;
-
-    fn parsed(line: &str) -> Result<Command, String> {
-        parse(line.split_whitespace().map(OsString::from))
-    }
-
-    fn request(task: Task, is_hex: bool, names: &[&str]) -> Result<Command, String> {
-        let names = names.iter().map(OsString::from).collect();
-        Ok(Command::Files(Request {
-            task,
-            is_hex,
-            is_json: false,
-            is_quiet: false,
-            has_chains: false,
-            jobs: 1,
-            names,
-            then: None,
-        }))
-    }
-
-    #[test]
-    fn commands_and_options_are_told_apart() {
-        assert_eq!(parsed("--help"), Ok(Command::Help));
-        assert_eq!(parsed("check -h"), Ok(Command::Help));
-        assert_eq!(parsed("--version"), Ok(Command::Version));
-        let batch = |is_json, jobs| {
-            Ok(Command::Batch {
-                is_json,
-                has_chains: false,
-                jobs,
-            })
-        };
-        assert_eq!(parsed("batch"), batch(false, 1));
-        assert_eq!(parsed("batch --json -j 3"), batch(true, 3));
-        assert_eq!(parsed("help"), Ok(Command::Help));
-        assert_eq!(parsed("help fill"), Ok(Command::HelpOf("fill".into())));
-        let check = || Task::Judge(Question::Check);
-        let fill = || Task::Judge(Question::Fill);
-        assert_eq!(parsed("check a -"), request(check(), false, &["a", "-"]));
-        assert_eq!(parsed("--hex fill a"), request(fill(), true, &["a"]));
-        assert_eq!(parsed("fill a --hex"), request(fill(), true, &["a"]));
-        assert_eq!(
-            parsed("check -- --hex"),
-            request(check(), false, &["--hex"])
-        );
-    }
-
-    #[test]
-    fn questions_about_moments_have_one_file() {
-        let derive = Task::Judge(Question::Derive {
-            first: 3,
-            second: 8,
-        });
-        assert_eq!(parsed("derive a 3 8"), request(derive, false, &["a"]));
-        let claim = Claim::Chain {
-            classes: 1,
-            steps: vec![1028],
-        };
-        let accepts = Task::Judge(Question::Accepts {
-            first: 3,
-            second: 4,
-            claim,
-        });
-        assert_eq!(
-            parsed("accepts --hex - 3 4 1 1028"),
-            request(accepts, true, &["-"])
-        );
-    }
-
-    #[test]
-    fn answers_in_json_are_asked_for() {
-        for line in ["check --json a", "--json derive a 3 8", "fill a b --json"] {
-            let Ok(Command::Files(request)) = parsed(line) else {
-                panic!("{line}");
-            };
-            assert!(request.is_json && !request.is_hex, "{line}");
-        }
-    }
-
-    /// Chains go where they play a part; where the library takes none, the
-    /// option isn't passed over.
-    #[test]
-    fn chains_are_asked_for_or_told() {
-        for line in [
-            "check --chains a",
-            "fill --table --chains a",
-            "report a --chains",
-            "--chains explain a",
-            "explain --html --chains a",
-            "draw --chains a",
-        ] {
-            match parsed(line) {
-                Ok(Command::Files(request)) => assert!(request.has_chains, "{line}"),
-                other => panic!("{line}: {other:?}"),
-            }
-        }
-        assert!(parsed("batch --chains").is_ok());
-        for line in [
-            "show --chains a",
-            "derive --chains a 3 8",
-            "edit --chains a",
-        ] {
-            assert!(parsed(line).is_err(), "{line}");
-        }
-        for (task, expected) in [
-            (Task::Judge(Question::Check), true),
-            (Task::Tell(Telling::Draw { is_all: false }), true),
-            (Task::Tell(Telling::Show), false),
-            (Task::Make(Making::Edited(Vec::new())), false),
-        ] {
-            assert_eq!(takes_chains(&task), expected, "{task:?}");
-        }
-    }
-
-    #[test]
-    fn threads_and_quiet_are_asked_for() {
-        for line in [
-            "check -j 4 -q a",
-            "check a -j4 --quiet",
-            "--jobs=4 -q check a",
-        ] {
-            let Ok(Command::Files(request)) = parsed(line) else {
-                panic!("{line}");
-            };
-            assert_eq!((request.jobs, request.is_quiet), (4, true), "{line}");
-        }
-    }
-
-    #[test]
-    fn tables_are_made_of_one_file() {
-        let filled = request(Task::Make(Making::Filled), false, &["a"]);
-        assert_eq!(parsed("fill --table a"), filled);
-        let words = [
-            "edit",
-            "a",
-            "row 2 flags 3; row 0 scope 1",
-            "insert 0 kind 1 agent 0",
-        ];
-        let Ok(Command::Files(request)) = parse(words.into_iter().map(OsString::from)) else {
-            panic!();
-        };
-        let Task::Make(Making::Edited(steps)) = request.task else {
-            panic!();
-        };
-        let steps: Vec<String> = steps.iter().map(Step::to_string).collect();
-        let expected = ["row 2 flags 3", "row 0 scope 1", "insert 0 kind 1 agent 0"];
-        assert_eq!(steps, expected);
-        let why = Telling::Why {
-            first: 3,
-            second: 8,
-        };
-        assert_eq!(
-            parsed("derive --words a 1.before 2.after"),
-            self::request(Task::Tell(why), false, &["a"])
-        );
-    }
-
-    #[test]
-    fn words_and_pictures_are_told_apart() {
-        let page = |is_all| Telling::Page { is_all };
-        let draw = |is_all| Telling::Draw { is_all };
-        for (line, telling, is_hex) in [
-            ("show a", Telling::Show, false),
-            ("explain a", Telling::Explain, false),
-            ("explain --html a", page(false), false),
-            ("--html --hex explain a --all", page(true), true),
-            ("draw --hex a", draw(false), true),
-            ("draw --all a", draw(true), false),
-        ] {
-            let expected = request(Task::Tell(telling), is_hex, &["a"]);
-            assert_eq!(parsed(line), expected, "{line}");
-        }
-        let several = request(Task::Tell(Telling::Show), false, &["a", "b"]);
-        assert_eq!(parsed("show a b"), several);
-    }
-
-    #[test]
-    fn bad_words_are_told() {
-        for (line, part) in [
-            ("", "no command given"),
-            ("guess a", "guess"),
-            ("check", "no file given"),
-            ("check --hxe a", "--hxe"),
-            ("check - -", "twice"),
-            ("batch a", "batch"),
-            ("batch --hex", "batch"),
-            ("batch --html", "batch"),
-            ("check --html a", "--html"),
-            ("draw --html a", "--html"),
-            ("draw a b", "one file"),
-            ("explain --html a b", "one file"),
-            ("explain", "no file given"),
-            ("derive", "two moments"),
-            ("derive a 1", "two moments"),
-            ("derive a b 1 2", "two moments"),
-            ("derive a 1 b", "\"b\""),
-            ("accepts a 1 2", "a derivation"),
-            ("accepts a 1 2 256", "255"),
-            ("show --json a", "--json"),
-            ("explain --html --json a", "--json"),
-            ("batch --quiet", "batch"),
-            ("batch --all", "batch"),
-            ("explain --all a", "--all"),
-            ("check --all a", "--all"),
-            ("help guess", "guess"),
-            ("help fill check", "one command"),
-            ("check -j 0 a", "from 1 to 256"),
-            ("check -j 257 a", "from 1 to 256"),
-            ("check a -j", "from 1 to 256"),
-            ("check -jx a", "\"x\""),
-            ("check --jobs=+1 a", "\"+1\""),
-            ("check --table a", "--table"),
-            ("check --words a", "--words"),
-            ("accepts --words a 1 2 3", "--words"),
-            ("explain --quiet a", "--quiet"),
-            ("fill --table a b", "one file"),
-            ("fill --table --json a", "--json"),
-            ("edit a", "row 2 flags 3"),
-            ("edit", "row 2 flags 3"),
-            ("edit a row", "no edit"),
-            ("derive a 1.during 2", "1.before"),
-            ("check a --then", "a file of rows"),
-            ("check a --then b --then c", "twice"),
-            ("check - --then -", "twice"),
-            ("check a b --then -", "one file"),
-            ("show a --then b", "--then"),
-            ("fill --table a --then b", "--then"),
-            ("batch --then b", "batch"),
-        ] {
-            let reason = parsed(line).expect_err(line);
-            assert!(reason.contains(part), "{line}: {reason}");
-        }
-    }
-}
+mod tests;

@@ -21,7 +21,10 @@ pub fn run(is_json: bool, has_chains: bool, jobs: usize) -> Status {
         return Status::Trouble;
     }
     let form = if is_json {
-        Form::Json { file: None }
+        Form::Json {
+            file: None,
+            notes: None,
+        }
     } else {
         Form::Plain
     };

@@ -1,22 +1,22 @@
 //! Files, one table each: judged, told in words and pictures, or made into
 //! another table.
 
+use crate::answers::Answer;
 use crate::arguments::{Request, Task};
 use crate::checker::checker;
 use crate::colour;
 use crate::folder;
-use crate::hex::{front_of_rows, Hex, KEPT_BYTES};
-use crate::input;
+use crate::json::Object;
 use crate::judge::{append_trouble, judge, Form};
 use crate::make::{hex_line, make};
 use crate::output::{complain, Output};
 use crate::parallel::{in_order, Giver, Taker};
+use crate::read::{read, second, Given, Unread};
+use crate::sarif::{log, notification, results, Origin};
 use crate::summary::{Summary, UNREAD};
 use crate::tell::tell;
 use crate::Status;
-use std::ffi::{OsStr, OsString};
-use std::fs::File;
-use std::io::{self, ErrorKind, Read};
+use std::ffi::OsString;
 use std::sync::atomic::AtomicBool;
 use stramashly::Checker;
 
@@ -32,8 +32,8 @@ struct Outcome {
     status: Status,
     /// For standard output.
     bytes: Vec<u8>,
-    /// For standard error.
-    reason: Option<String>,
+    /// For standard error, with the place in the file if there is one.
+    reason: Option<Unread>,
 }
 
 /// Judges every file, also after one that can't be read and after nobody
@@ -74,6 +74,9 @@ struct Writer<'a> {
     output: Output,
     summary: Summary,
     highest: Status,
+    /// For the SARIF log.
+    results: Vec<String>,
+    notifications: Vec<Object>,
 }
 
 impl Writer<'_> {
@@ -85,11 +88,16 @@ impl Writer<'_> {
             output: Output::new(),
             summary: Summary::default(),
             highest: Status::Fine,
+            results: Vec::new(),
+            notifications: Vec::new(),
         }
     }
 
     fn write(&mut self, outcome: Outcome) {
         self.highest = self.highest.max(outcome.status);
+        if self.request.is_sarif {
+            return self.keep(outcome);
+        }
         let is_plain = !self.request.is_json;
         let text = std::str::from_utf8(&outcome.bytes).unwrap_or_default();
         self.summary
@@ -108,11 +116,27 @@ impl Writer<'_> {
         if let Some(reason) = outcome.reason {
             // Keeps answers and messages in order on a terminal.
             self.output.flush();
-            complain(&format!("{}: {reason}", outcome.name.to_string_lossy()));
+            complain(&reason.of(&outcome.name.to_string_lossy()));
+        }
+    }
+
+    /// Keeps an outcome for the log, which is written at the end.
+    fn keep(&mut self, outcome: Outcome) {
+        let text = String::from_utf8_lossy(&outcome.bytes);
+        self.results.extend(text.lines().map(str::to_string));
+        if let Some(reason) = outcome.reason {
+            let file = outcome.name.to_string_lossy();
+            complain(&reason.of(&file));
+            self.notifications.push(notification(&file, &reason));
         }
     }
 
     fn finish(mut self) -> Status {
+        if self.request.is_sarif {
+            let log = log(&self.results, &self.notifications);
+            self.output.write(log.as_bytes());
+            return self.highest.max(self.output.finish());
+        }
         let is_judged = matches!(self.request.task, Task::Judge(_));
         let is_plain = !self.request.is_json && !self.request.is_quiet;
         if self.are_named && is_judged && is_plain {
@@ -136,28 +160,32 @@ impl Taker<Outcome> for Writer<'_> {
 
 /// What there is to say of a file.
 fn outcome(request: &Request, are_named: bool, checker: &mut Checker, name: Named) -> Outcome {
-    let (name, table) = match name {
+    let (name, given) = match name {
         Ok(name) => {
-            let table = read(&name, request.is_hex);
-            let table = table.and_then(|table| Ok((table, second(request)?)));
-            (name, table)
+            let given = read(&name, request);
+            let given = given.and_then(|given| Ok((given, second(request)?)));
+            (name, given)
         }
-        Err((name, reason)) => (name, Err(reason)),
+        Err((name, reason)) => (name, Err(reason.into())),
     };
     // A name that is no text can't be an object's as it is.
     let file = name.to_string_lossy().into_owned();
-    let form = match request.is_json {
+    let form = |notes| match request.is_json {
         true => Form::Json {
             file: are_named.then_some(&*file),
+            notes,
         },
         false => Form::Plain,
     };
-    let (status, bytes, reason) = match table {
-        Ok((table, second)) => answer(request, form, (&table, second.as_deref()), checker),
+    let (status, bytes, reason) = match given {
+        Ok((given, second)) => {
+            let form = form(Some(&given.notes));
+            answer(request, (&file, form), (&given, second.as_deref()), checker)
+        }
         Err(reason) => {
             let mut text = String::new();
             if request.is_json {
-                append_trouble(&mut text, form, &reason);
+                append_trouble(&mut text, form(None), &reason.to_string());
             }
             (Status::Trouble, text.into_bytes(), Some(reason))
         }
@@ -173,100 +201,37 @@ fn outcome(request: &Request, are_named: bool, checker: &mut Checker, name: Name
 /// The answer, and what is told besides.
 fn answer(
     request: &Request,
-    form: Form,
-    (table, second): (&[u8], Option<&[u8]>),
+    (name, form): (&str, Form),
+    (given, second): (&Given, Option<&[u8]>),
     checker: &mut Checker,
-) -> (Status, Vec<u8>, Option<String>) {
+) -> (Status, Vec<u8>, Option<Unread>) {
     let mut text = String::new();
     match &request.task {
+        Task::Judge(_) if request.is_sarif => {
+            let origin = Origin {
+                file: (name != "-").then_some(name),
+                is_hex: request.is_hex,
+            };
+            let text = results(given, &origin, checker);
+            let status = checker.check(&given.table).status();
+            (status, text.into_bytes(), None)
+        }
         Task::Judge(question) => {
-            let table = (table, second);
+            let table = (&given.table[..], second);
             let status = judge(checker, question, table, form, &mut text);
             (status, text.into_bytes(), None)
         }
-        Task::Tell(telling) => match tell(checker, *telling, table, &mut text) {
+        Task::Tell(telling) => match tell(checker, *telling, given, &mut text) {
             Ok(status) => (status, text.into_bytes(), None),
-            Err(reason) => (Status::Refused, Vec::new(), Some(reason)),
+            Err(reason) => (Status::Refused, Vec::new(), Some(reason.into())),
         },
-        Task::Make(making) => match make(checker, making, table) {
+        Task::Make(making) => match make(checker, making, given) {
             Ok(made) if request.is_hex => {
-                (made.status, hex_line(&made.table).into_bytes(), made.told)
+                let digits = hex_line(&made.table).into_bytes();
+                (made.status, digits, made.told.map(Unread::from))
             }
-            Ok(made) => (made.status, made.table, made.told),
+            Ok(made) => (made.status, made.table, made.told.map(Unread::from)),
             Err((status, reason)) => (status, Vec::new(), Some(reason)),
         },
     }
-}
-
-/// The second piece, if one was given, cut off where its refusal is sure.
-fn second(request: &Request) -> Result<Option<Vec<u8>>, String> {
-    let Some(name) = &request.then else {
-        return Ok(None);
-    };
-    let trouble = |reason: String| format!("{}: {reason}", name.to_string_lossy());
-    let bytes = if name == "-" {
-        input::trouble().and_then(|()| rows_from(io::stdin().lock(), request.is_hex))
-    } else {
-        let file = File::open(name).map_err(|error| error.to_string());
-        file.and_then(|file| rows_from(file, request.is_hex))
-    };
-    bytes.map(Some).map_err(trouble)
-}
-
-fn rows_from(mut input: impl Read, is_hex: bool) -> Result<Vec<u8>, String> {
-    if is_hex {
-        let hex = hex_from(input)?;
-        return match hex.rows() {
-            Ok(rows) => Ok(rows.to_vec()),
-            Err(bad) => Err(bad.to_string()),
-        };
-    }
-    let text = |error: io::Error| error.to_string();
-    let mut bytes = Vec::new();
-    let mut kept = input.by_ref().take(KEPT_BYTES as u64);
-    kept.read_to_end(&mut bytes).map_err(text)?;
-    let left_out = io::copy(&mut input, &mut io::sink()).map_err(text)?;
-    Ok(front_of_rows(&bytes, left_out).to_vec())
-}
-
-/// A file's table, cut off where its refusal is sure.
-fn read(name: &OsStr, is_hex: bool) -> Result<Vec<u8>, String> {
-    let text = |error: io::Error| error.to_string();
-    if name == "-" {
-        input::trouble()?;
-        read_from(io::stdin().lock(), is_hex)
-    } else {
-        read_from(File::open(name).map_err(text)?, is_hex)
-    }
-}
-
-fn read_from(input: impl Read, is_hex: bool) -> Result<Vec<u8>, String> {
-    if is_hex {
-        return read_hex(input);
-    }
-    let mut table = Vec::with_capacity(KEPT_BYTES);
-    let read = input.take(KEPT_BYTES as u64).read_to_end(&mut table);
-    read.map(|_| table).map_err(|error| error.to_string())
-}
-
-fn read_hex(input: impl Read) -> Result<Vec<u8>, String> {
-    match hex_from(input)?.bytes() {
-        Ok(bytes) => Ok(bytes.to_vec()),
-        Err(bad) => Err(bad.to_string()),
-    }
-}
-
-/// Reads to the end, so that a letter that is no digit is told wherever it is.
-fn hex_from(mut input: impl Read) -> Result<Hex, String> {
-    let mut hex = Hex::default();
-    let mut piece = [0; 1 << 14];
-    while !hex.is_bad() {
-        match input.read(&mut piece) {
-            Ok(0) => break,
-            Ok(count) => hex.push(&piece[..count]),
-            Err(error) if error.kind() == ErrorKind::Interrupted => (),
-            Err(error) => return Err(error.to_string()),
-        }
-    }
-    Ok(hex)
 }

@@ -25,6 +25,8 @@ stramashly: a race checker for recorded runs of a graphics device
 
 usage:
   stramashly check [--hex] FILE...    judge each table
+  stramashly check --sarif [--hex] FILE...
+                                      the same as one SARIF 2.1.0 log
   stramashly fill [--hex] FILE...     decide the blank sources of each table
   stramashly fill --table [--hex] FILE
                                       the table with its blanks filled
@@ -36,6 +38,9 @@ usage:
   stramashly accepts [--hex] FILE M N S STEP...
                                       whether that is a reason why M happens before N
   stramashly show [--hex] FILE...     each table in words, a line for each row
+  stramashly show --text FILE         the table as text, to be read again
+  stramashly show --json-lines FILE   the same as JSON, an object a line
+  stramashly make [--hex] FILE        the table of a text or of JSON lines
   stramashly explain [--hex] FILE...  each table's answer in sentences: what is missing, what to change
   stramashly explain --html [--all] [--hex] FILE
                                       the same as a page, with the table and the picture
@@ -46,10 +51,11 @@ usage:
                                       the table with changes made, as explain names them
   stramashly batch [--json] [-j N]    lines on standard input: `check HEX`, `fill HEX`,
                                       `report HEX`, `derive HEX M N`, `accepts HEX M N ...`,
-                                      `rows HEX`, `write VERSION ROOM PLACES ROWS DEPENDENCIES`
-                                      `report HEX`, `derive HEX M N`, `accepts HEX M N ...`;
+                                      `rows HEX`, `write VERSION ROOM PLACES ROWS DEPENDENCIES`;
                                       of two pieces `check2 HEX HEX2` and so on, and
                                       `row2 HEX HEX2 ROW`
+  stramashly completion bash|zsh|fish
+                                      a script that completes commands and options
   stramashly help [COMMAND]           this text, or a command's lines
   stramashly --help | --version
 
@@ -64,6 +70,10 @@ add the rows of the file ROWS, 16 bytes each, after those of FILE, and answer fo
 sources and moments are counted over both. In a batch line `-` is a piece of no bytes. An
 answer is coloured on a terminal unless NO_COLOR is set. Of several files a last line on
 standard error says how many had which answer.
+
+Instead of a table's bytes a FILE may hold text, which begins with `stramashly` and a version, or
+JSON lines, which begin with `{`. What is wrong with it is told as FILE:LINE:COLUMN. Where it says
+`@ shader.comp:12`, explain, draw and --json name that place beside the row.
 
 An EDIT is `row R FIELD VALUE`, `insert R FIELD VALUE ...` or `depend R S`, several with `;`
 between them: kind, agent, order, scope, classes, flags, class, length, start, reference, source,
@@ -116,7 +126,8 @@ as objects, in the same order:
   {\"verdict\":\"written\",\"table\":HEX}
   {\"verdict\":\"row\",\"bytes\":\"HEX\"} or {\"verdict\":\"none\"}
   {\"verdict\":\"error\",\"reason\":REASON}, of a file that can't be read and of a bad line
-If there are several files, \"file\" comes first, the file's name.
+If there are several files, \"file\" comes first, the file's name. Of a text \"places\" comes last, the
+labels and places of the rows that the answer names: [{\"row\":I,\"label\":LABEL,\"at\":PLACE},...].
 
 exit status, of several files the highest:
   0 race-free, filled, a report without races, a derivation or accepted
@@ -125,6 +136,9 @@ exit status, of several files the highest:
 
 explain begins with the line of check and has its exit status. show and draw have 0, or 3
 for a refused table: show then tells what can be read, draw has no picture.
+
+show --text and --json-lines write nothing of a table that a fill refuses, and make nothing of a
+text that gives one: the refusal is told on standard error, and the status is 3.
 
 edit has 0, or 3 if the new table is refused, and fill --table has fill's statuses: where there
 is nothing to write, the answer is told on standard error.
@@ -143,6 +157,8 @@ examples:
   stramashly explain examples/leak.table
   stramashly edit examples/leak.table 'row 2 flags 3' | stramashly check -
   stramashly draw examples/leak.table > run.svg
+  stramashly show --text examples/leak.table > run.txt
+  stramashly make run.txt > run.table
   xxd -p examples/leak.table | stramashly check --hex -
   echo 'check 0000000401000000' | stramashly batch
 ";

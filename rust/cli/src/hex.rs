@@ -1,4 +1,5 @@
-//! Hex digits to a table's bytes, piece by piece and in bounded memory.
+//! Hex digits to a table's bytes, piece by piece and in bounded memory; and
+//! bytes to hex digits.
 
 use std::fmt;
 use stramashly::{MAX_DEPENDENCIES, MAX_ROWS, MAX_TABLE_BYTES};
@@ -28,6 +29,11 @@ const fn values() -> [u8; 256] {
         place += 1;
     }
     values
+}
+
+/// Bytes as hex digits.
+pub fn digits(bytes: &[u8]) -> String {
+    bytes.iter().map(|byte| format!("{byte:02X}")).collect()
 }
 
 /// Digits read so far.

@@ -2,6 +2,7 @@
 
 use std::fmt::{self, Display, Write};
 use stramashly::Share;
+use text::json::Quoted;
 
 /// An object, member by member.
 #[derive(Default)]
@@ -27,6 +28,32 @@ impl Object {
         self.member(key, &format_args!("[{}]", numbers.join(",")));
     }
 
+    pub fn objects(&mut self, key: &str, objects: &[Object]) {
+        let objects: Vec<String> = objects.iter().map(Object::to_string).collect();
+        self.member(key, &format_args!("[{}]", objects.join(",")));
+    }
+
+    pub fn object(&mut self, key: &str, object: &Object) {
+        self.member(key, object);
+    }
+
+    pub fn count(&mut self, key: &str, count: usize) {
+        self.member(key, &count);
+    }
+
+    pub fn flag(&mut self, key: &str, flag: bool) {
+        self.member(key, &flag);
+    }
+
+    /// A value that is JSON already.
+    pub fn written(&mut self, key: &str, json: &str) {
+        self.member(key, &json);
+    }
+
+    pub fn is_empty(&self) -> bool {
+        self.members.is_empty()
+    }
+
     pub fn text(&mut self, key: &str, text: &str) {
         self.member(key, &Quoted(text));
     }
@@ -46,24 +73,6 @@ impl Object {
 impl Display for Object {
     fn fmt(&self, formatter: &mut fmt::Formatter) -> fmt::Result {
         write!(formatter, "{{{}}}", self.members)
-    }
-}
-
-/// A text in quotation marks. JSON forbids those, backslashes and the letters
-/// below the space in it; the last are written by their numbers.
-struct Quoted<'a>(&'a str);
-
-impl Display for Quoted<'_> {
-    fn fmt(&self, formatter: &mut fmt::Formatter) -> fmt::Result {
-        formatter.write_char('"')?;
-        for letter in self.0.chars() {
-            match letter {
-                '"' | '\\' => write!(formatter, "\\{letter}")?,
-                '\0'..='\u{1f}' => write!(formatter, "\\u{:04x}", u32::from(letter))?,
-                _ => formatter.write_char(letter)?,
-            }
-        }
-        formatter.write_char('"')
     }
 }
 
@@ -97,12 +106,5 @@ mod tests {
             object.share("share", share);
             assert_eq!(object.to_string(), expected);
         }
-    }
-
-    #[test]
-    fn texts_are_escaped() {
-        let text = "a\"b\\c\nd\u{1}\u{7f}ä😀";
-        let expected = "\"a\\\"b\\\\c\\u000ad\\u0001\u{7f}ä😀\"";
-        assert_eq!(Quoted(text).to_string(), expected);
     }
 }

@@ -7,6 +7,7 @@ use crate::writing::{rows, write};
 use crate::Status;
 use std::fmt::{Display, Write};
 use stramashly::{row_of_pieces, Checker, Pieces};
+use words::Notes;
 
 /// How an answer is written.
 #[derive(Clone, Copy)]
@@ -15,6 +16,8 @@ pub enum Form<'a> {
     /// As an object, with the file's name if there are several.
     Json {
         file: Option<&'a str>,
+        /// What the table's text says of rows.
+        notes: Option<&'a Notes>,
     },
 }
 
@@ -85,6 +88,10 @@ fn judge_pieces(
             append(text, form, &answer)
         }
         Question::Row { row } => append(text, form, &ShownRow(row_of_pieces(pieces, *row))),
+        // These are of one piece.
+        Question::Rows | Question::Write(_) => {
+            judge_whole(checker, question, pieces[0], form, text)
+        }
     }
 }
 
@@ -92,7 +99,7 @@ fn judge_pieces(
 pub fn append_trouble(text: &mut String, form: Form, reason: &str) {
     match form {
         Form::Plain => append_line(text, &format_args!("error {reason}")),
-        Form::Json { file } => {
+        Form::Json { file, .. } => {
             let mut object = Object::default();
             if let Some(file) = file {
                 object.text("file", file);
@@ -107,16 +114,39 @@ pub fn append_trouble(text: &mut String, form: Form, reason: &str) {
 fn append(text: &mut String, form: Form, answer: &dyn Answer) -> Status {
     match form {
         Form::Plain => append_line(text, &answer),
-        Form::Json { file } => {
+        Form::Json { file, notes } => {
             let mut object = Object::default();
             if let Some(file) = file {
                 object.text("file", file);
             }
             answer.put(&mut object);
+            if let Some(notes) = notes {
+                put_places(&mut object, notes, &answer.rows());
+            }
             append_line(text, &object);
         }
     }
     answer.status()
+}
+
+/// The labels and places of the rows that an answer names, if there are any.
+fn put_places(object: &mut Object, notes: &Notes, rows: &[u16]) {
+    let places = rows.iter().filter_map(|row| {
+        let (label, place) = (notes.label((*row).into()), notes.place((*row).into()));
+        let mut place_object = Object::default();
+        place_object.number("row", *row);
+        if let Some(label) = label {
+            place_object.text("label", label);
+        }
+        if let Some(place) = place {
+            place_object.text("at", &place.to_string());
+        }
+        (label.is_some() || place.is_some()).then_some(place_object)
+    });
+    let places: Vec<Object> = places.collect();
+    if !places.is_empty() {
+        object.objects("places", &places);
+    }
 }
 
 fn append_line(text: &mut String, shown: &dyn Display) {

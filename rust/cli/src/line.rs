@@ -5,10 +5,6 @@ use crate::question::{is_number, Kind, Question};
 use crate::values::Values;
 use stramashly::CHAIN_NUMBERS;
 
-/// A command, a table's hex digits and, for some commands, further words.
-/// These need the digits without white space; else it is ignored. A line of
-/// white space and one that begins with `#` ask nothing. `write` has values
-/// in the table's place.
 /// What a line asks of which table.
 #[derive(Clone, Debug, PartialEq, Eq)]
 pub struct Asked<Bytes> {
@@ -30,8 +26,9 @@ impl Asked<&[u8]> {
 
 /// A command, a table's hex digits, for some commands those of its second
 /// piece, and further words. These need the digits without white space; else
-/// it is ignored. A piece without bytes is `-`. A line of white space and one
-/// that begins with `#` ask nothing.
+/// it is ignored. A piece without bytes is `-`. `write` has values in the
+/// table's place. A line of white space and one that begins with `#` ask
+/// nothing.
 #[derive(Default)]
 pub struct Line {
     has_letters: bool,
@@ -40,6 +37,7 @@ pub struct Line {
     is_command_over: bool,
     pieces: [Piece; 2],
     words: Words,
+    values: Values,
 }
 
 /// The digits of a table or of its second piece, as one word.
@@ -48,8 +46,6 @@ struct Piece {
     digits: Hex,
     has_digits: bool,
     are_digits_over: bool,
-    words: Words,
-    values: Values,
     is_dash: bool,
 }
 
@@ -63,14 +59,8 @@ impl Line {
             return;
         }
         let piece = self.push_command(piece);
-        match Kind::named(&self.command) {
-            Some(Kind::Write) => self.values.push(piece),
-            Some(kind) if kind.takes_words() => {
-                let piece = self.push_digits(piece);
-                self.words.push(piece);
-            }
-            _ => self.digits.push(piece),
         match Kind::of_line(&self.command) {
+            Some((Kind::Write, _)) => self.values.push(piece),
             Some((_, true)) => {
                 let rest = self.pieces[0].push(piece);
                 // Places are those of the line.
@@ -86,11 +76,12 @@ impl Line {
         }
     }
 
-    /// Counts letters that are no digits of either piece.
+    /// Counts letters that stand before the digits and values.
     fn skip(&mut self, letters: usize) {
         self.pieces
             .iter_mut()
             .for_each(|piece| piece.digits.skip(letters));
+        self.values.skip(letters);
     }
 
     /// Takes the white space before the first letter, and gives the rest.
@@ -121,31 +112,6 @@ impl Line {
         rest
     }
 
-    /// Counts letters that stand before the digits and values.
-    fn skip(&mut self, letters: usize) {
-        self.digits.skip(letters);
-        self.values.skip(letters);
-    }
-
-    /// Takes the first word and the white space before it, and gives the rest.
-    fn push_digits<'a>(&mut self, piece: &'a [u8]) -> &'a [u8] {
-        if self.are_digits_over {
-            return piece;
-        }
-        let is_letter = |letter: &u8| !letter.is_ascii_whitespace();
-        let begin = if self.has_digits {
-            0
-        } else {
-            piece.iter().position(is_letter).unwrap_or(piece.len())
-        };
-        let length = piece[begin..].iter().position(u8::is_ascii_whitespace);
-        self.has_digits |= begin < piece.len();
-        self.are_digits_over = length.is_some();
-        let end = length.map_or(piece.len(), |length| begin + length);
-        self.digits.push(&piece[..end]);
-        &piece[end..]
-    }
-
     /// Whether nothing is asked.
     pub fn is_idle(&self) -> bool {
         self.is_comment || !self.has_letters
@@ -162,19 +128,17 @@ impl Line {
     }
 
     /// What the whole line asks of which table; values have an empty one.
-    pub fn request(&mut self) -> Result<(Question, &[u8]), String> {
-        let Some(kind) = Kind::named(&self.command) else {
-            return Err(format!("none of {}", Kind::BATCH_NAMES));
-        };
-        if kind == Kind::Write {
-            return Ok((Question::Write(self.values.writing()?), &[]));
-        }
-        let table = self.digits.bytes().map_err(|bad| bad.to_string())?;
-    /// What the whole line asks of which table.
     pub fn request(&mut self) -> Result<Asked<&[u8]>, String> {
         let Some((kind, is_in_pieces)) = Kind::of_line(&self.command) else {
             return Err(format!("none of {}", Kind::LINES));
         };
+        if kind == Kind::Write {
+            return Ok(Asked {
+                question: Question::Write(self.values.writing()?),
+                table: &[],
+                second: None,
+            });
+        }
         let text = |bad: Bad| bad.to_string();
         let [first, second] = &self.pieces;
         let table = first.digits.bytes().map_err(text)?;
@@ -343,6 +307,8 @@ mod tests {
             ("row 00 1", "none of"),
             ("accepts22 00 00 1 2 3", "none of"),
             ("2 00 00", "none of"),
+            ("rows2 00 00", "none of"),
+            ("write2 1 2 - - -", "none of"),
         ] {
             let reason = asked_in_pieces(&[line]).expect_err(line);
             assert!(reason.contains(part), "{line}: {reason}");

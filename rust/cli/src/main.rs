@@ -3,8 +3,10 @@
 mod answers;
 mod arguments;
 mod batch;
+mod catalogue;
 mod checker;
 mod colour;
+mod completion;
 mod files;
 mod folder;
 mod help;
@@ -17,6 +19,8 @@ mod make;
 mod output;
 mod parallel;
 mod question;
+mod read;
+mod sarif;
 mod summary;
 mod tell;
 mod values;
@@ -43,6 +47,7 @@ fn main() -> ExitCode {
         Ok(Command::Version) => print(concat!("stramashly ", env!("CARGO_PKG_VERSION"), "\n")),
         Ok(Command::Files(request)) => files::run(&request),
         Ok(Command::HelpOf(name)) => print(&help::of(&name).unwrap_or_default()),
+        Ok(Command::Completion(shell)) => print(&completion::script(shell)),
         Ok(Command::Batch {
             is_json,
             has_chains,

@@ -1,12 +1,17 @@
-//! A table made of another: its blanks filled, or steps made in it.
+//! A table made: of its text, of another whose blanks are filled, or by steps.
 
+use crate::hex::digits;
+use crate::read::{Given, Unread};
 use crate::Status;
 use stramashly::{Checker, FillAnswer, BLANK};
+use text::remade;
 use words::{edited, stepped, Edit, Field, Run, Step};
 
 /// How a table is made.
 #[derive(Clone, Debug, PartialEq, Eq)]
 pub enum Making {
+    /// Of text or JSON lines.
+    Read,
     /// Each blank has its source.
     Filled,
     /// Steps are made one after the other.
@@ -24,45 +29,61 @@ pub struct Made {
 pub fn make(
     checker: &mut Checker,
     making: &Making,
-    table: &[u8],
-) -> Result<Made, (Status, String)> {
+    given: &Given,
+) -> Result<Made, (Status, Unread)> {
     let made = |table, status, told| Made {
         table,
         status,
         told,
     };
+    let table = &given.table;
     match making {
+        Making::Read => read(given).map(|table| made(table, Status::Fine, None)),
         Making::Filled => filled(checker, table).map(|table| made(table, Status::Fine, None)),
         Making::Edited(steps) => {
             let stepped = stepped(table, steps);
-            let table = stepped.map_err(|reason| (Status::Trouble, reason))?;
+            let table = stepped.map_err(|reason| (Status::Trouble, reason.into()))?;
             // What isn't well formed is handed out all the same: more steps may follow.
-            let answer = checker.fill(&table);
-            match answer {
-                FillAnswer::Refused { .. } => {
-                    let told = format!("made; it is {answer}");
+            match remade(&table) {
+                Err(refusal) => {
+                    let told = format!("made; it is {refusal}");
                     Ok(made(table, Status::Refused, Some(told)))
                 }
-                _ => Ok(made(table, Status::Fine, None)),
+                Ok(table) => Ok(made(table, Status::Fine, None)),
             }
         }
     }
 }
 
-fn filled(checker: &mut Checker, table: &[u8]) -> Result<Vec<u8>, (Status, String)> {
+/// The table of a text; a refusal is told at its row's place.
+fn read(given: &Given) -> Result<Vec<u8>, (Status, Unread)> {
+    let Some(draft) = &given.draft else {
+        let reason = "neither text, which begins with `stramashly 1`, nor JSON lines";
+        return Err((Status::Trouble, reason.to_string().into()));
+    };
+    match draft.refusal() {
+        Some(trouble) => Err((Status::Refused, trouble.into())),
+        None => Ok(given.table.clone()),
+    }
+}
+
+fn filled(checker: &mut Checker, table: &[u8]) -> Result<Vec<u8>, (Status, Unread)> {
     let answer = checker.fill(table);
     let status = match answer {
         FillAnswer::Filled(sources) => {
             let rows = Run::of(table).rows;
             let blanks = (0..rows.len()).filter(|row| rows[*row].source == BLANK);
             let edits = blanks.map(|row| Edit::new(row, Field::Source, sources[row]));
-            return Ok(edited(table, &edits.collect::<Vec<_>>()));
+            let filled = remade(&edited(table, &edits.collect::<Vec<_>>()));
+            return filled.map_err(|refusal| (Status::Refused, refusal.to_string().into()));
         }
         FillAnswer::Race { .. } => Status::No,
         FillAnswer::None => Status::Inconsistent,
         FillAnswer::Refused { .. } => Status::Refused,
+        _ => Status::Trouble,
     };
-    Err((status, format!("{answer}; there is no filled table")))
+    let reason = format!("{answer}; there is no filled table");
+    Err((status, reason.into()))
 }
 
 /// The steps of an edit: words like `row 2 flags 3`, several with semicolons
@@ -79,6 +100,5 @@ pub fn steps(words: &[&str]) -> Result<Vec<Step>, String> {
 
 /// Bytes as hex digits and a line's end.
 pub fn hex_line(bytes: &[u8]) -> String {
-    let digits: String = bytes.iter().map(|byte| format!("{byte:02X}")).collect();
-    digits + "\n"
+    digits(bytes) + "\n"
 }

@@ -33,6 +33,9 @@ pub enum Question {
     },
     Rows,
     Write(Writing),
+    Row {
+        row: u16,
+    },
 }
 
 /// Values to make a table of, and how many bytes there are for it: four
@@ -44,9 +47,6 @@ pub struct Writing {
     pub places: Vec<u16>,
     pub rows: Vec<u8>,
     pub dependencies: Vec<u16>,
-    Row {
-        row: u16,
-    },
 }
 
 /// A derivation as somebody wrote it.
@@ -84,8 +84,9 @@ impl Claim {
 impl Kind {
     /// What there is to choose from.
     pub const NAMES: &str = "check, fill, report, derive and accepts";
-    /// The same in a batch.
-    pub const BATCH_NAMES: &str = "check, fill, report, derive, accepts, rows and write";
+    /// What there is to choose from in a batch line.
+    pub const LINES: &str = "check, fill, report, derive, accepts, rows and write, \
+        and of two pieces the first five with a 2, and row2";
 
     pub fn named(name: &[u8]) -> Option<Kind> {
         match name {
@@ -102,19 +103,18 @@ impl Kind {
 
     /// Whether files can be asked it, and not only the lines of a batch.
     pub fn takes_files(self) -> bool {
-        !matches!(self, Kind::Rows | Kind::Write)
+        !matches!(self, Kind::Rows | Kind::Write | Kind::Row)
     }
-
-    /// Whether there are words after a single table.
-    /// What there is to choose from in a batch line.
-    pub const LINES: &str = "check, fill, report, derive, accepts, the same with a 2, and row2";
 
     /// The command of a batch line, and whether its table is in two pieces.
     pub fn of_line(name: &[u8]) -> Option<(Kind, bool)> {
         let one = name.strip_suffix(b"2");
         match one {
             Some(b"row") => Some((Kind::Row, true)),
-            Some(one) => Kind::named(one).map(|kind| (kind, true)),
+            Some(one) => {
+                let kind = Kind::named(one).filter(|kind| kind.takes_files());
+                kind.map(|kind| (kind, true))
+            }
             None => Kind::named(name).map(|kind| (kind, false)),
         }
     }

@@ -1,13 +1,19 @@
 //! One table told in words or as a picture, and the status that goes with it.
 
+use crate::read::Given;
 use crate::Status;
 use stramashly::{Checker, DeriveAnswer};
-use words::{draw, explain, page, refusal, show, why, Explanation, Shown};
+use text::{write, write_lines, Refusal};
+use words::{draw_noted, explain_noted, page, refusal, show, why, Explanation, Shown};
 
 /// How a table is told.
 #[derive(Clone, Copy, Debug, PartialEq, Eq)]
 pub enum Telling {
     Show,
+    /// As text that can be read again.
+    Text,
+    /// As JSON lines.
+    Lines,
     Explain,
     /// An explanation as a page.
     Page {
@@ -30,10 +36,13 @@ pub enum Telling {
 pub fn tell(
     checker: &mut Checker,
     telling: Telling,
-    table: &[u8],
+    given: &Given,
     text: &mut String,
 ) -> Result<Status, String> {
+    let Given { table, notes, .. } = given;
     match telling {
+        Telling::Text => said(text, write(table, notes)),
+        Telling::Lines => said(text, write_lines(table, notes)),
         Telling::Show => {
             *text += &show(table);
             let refusal = refusal(table, checker);
@@ -41,12 +50,12 @@ pub fn tell(
             Ok(refusal.map_or(Status::Fine, |_| Status::Refused))
         }
         Telling::Explain => {
-            let explanation = explain(table, checker);
+            let explanation = explain_noted(table, notes, checker);
             *text += &explanation.text();
             Ok(status(&explanation))
         }
         Telling::Page { is_all } => {
-            let explanation = explain(table, checker);
+            let explanation = explain_noted(table, notes, checker);
             *text += &page(table, &explanation, is_all);
             Ok(status(&explanation))
         }
@@ -56,13 +65,27 @@ pub fn tell(
                 DeriveAnswer::Derivation(_) => Status::Fine,
                 DeriveAnswer::NotBefore => Status::No,
                 DeriveAnswer::Refused { .. } => Status::Refused,
+                _ => Status::Trouble,
             })
         }
         Telling::Draw { is_all } => {
-            let picture = draw(table, checker, is_all);
+            let picture = draw_noted(table, notes, checker, is_all);
             *text += &picture.map_err(|answer| format!("{answer}; there is no picture"))?;
             Ok(Status::Fine)
         }
+    }
+}
+
+/// Appends a table's text; only what a fill takes has one.
+fn said(text: &mut String, written: Result<String, Refusal>) -> Result<Status, String> {
+    match written {
+        Ok(written) => {
+            *text += &written;
+            Ok(Status::Fine)
+        }
+        Err(Refusal { number, row }) => Err(format!(
+            "refused {number} {row}; a refused table has no text"
+        )),
     }
 }
 

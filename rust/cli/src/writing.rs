@@ -2,6 +2,7 @@
 //! answer.
 
 use crate::answers::{put_refusal, put_verdict, Answer};
+use crate::hex::digits;
 use crate::json::Object;
 use crate::question::Writing;
 use crate::Status;
@@ -40,7 +41,7 @@ pub fn rows(table: &[u8]) -> Stepped {
 impl Display for Written {
     fn fmt(&self, formatter: &mut fmt::Formatter) -> fmt::Result {
         match &self.0 {
-            Ok(table) => write!(formatter, "written {}", hex(table)),
+            Ok(table) => write!(formatter, "written {}", digits(table)),
             Err(refusal) => write!(formatter, "{refusal}"),
         }
     }
@@ -55,7 +56,7 @@ impl Answer for Written {
         match &self.0 {
             Ok(table) => {
                 put_verdict(object, "written");
-                object.text("table", &hex(table));
+                object.text("table", &digits(table));
             }
             Err(refusal) => put_refusal(object, refusal.number, refusal.row),
         }
@@ -67,7 +68,7 @@ impl Display for Stepped {
         match &self.0 {
             Ok(rows) => {
                 for row in rows {
-                    write!(formatter, "{} ", hex(&row.bytes()))?;
+                    write!(formatter, "{} ", digits(&row.bytes()))?;
                 }
                 write!(formatter, "end")
             }
@@ -85,7 +86,7 @@ impl Answer for Stepped {
         match &self.0 {
             Ok(rows) => {
                 put_verdict(object, "rows");
-                let rows: Vec<String> = rows.iter().map(|row| hex(&row.bytes())).collect();
+                let rows: Vec<String> = rows.iter().map(|row| digits(&row.bytes())).collect();
                 object.texts("rows", &rows);
             }
             Err(refusal) => put_refusal(object, refusal.number, refusal.row),
@@ -98,8 +99,4 @@ fn status<T>(answer: &Result<T, Refusal>) -> Status {
         Ok(_) => Status::Fine,
         Err(_) => Status::Refused,
     }
-}
-
-fn hex(bytes: &[u8]) -> String {
-    bytes.iter().map(|byte| format!("{byte:02X}")).collect()
 }

@@ -7,6 +7,10 @@ use second::{State, CYCLE_NUMBERS, SOURCE_NUMBERS, WORK_WORDS};
 use std::io::{BufRead, BufReader, Read, Write};
 use tables::{checkable, damaged, fillable, hex, Random, Size};
 
+/// The answer to a line whose command is none.
+const UNKNOWN: &str = "error none of check, fill, report, derive, accepts, rows and write, \
+    and of two pieces the first five with a 2, and row2";
+
 #[test]
 fn each_line_has_its_answer() {
     let digits: String = P.split_whitespace().collect();
@@ -70,14 +74,11 @@ fn bad_lines_are_answered_and_the_stream_goes_on() {
     let input = format!(
         "guess 00\nchecks 00\ncheckfill 00\ncheck 0\ncheck 0G\nfill \u{e4}\n check {digits}\n"
     );
-    let answers = "error none of check, fill, report, derive, accepts, rows and write\n\
-         error none of check, fill, report, derive, accepts, rows and write\n\
-         error none of check, fill, report, derive, accepts, rows and write\nerror odd count of hex digits\n\
-    let answers = "error none of check, fill, report, derive, accepts, the same with a 2, and row2\n\
-         error none of check, fill, report, derive, accepts, the same with a 2, and row2\n\
-         error none of check, fill, report, derive, accepts, the same with a 2, and row2\nerror odd count of hex digits\n\
+    let answers = format!(
+        "{UNKNOWN}\n{UNKNOWN}\n{UNKNOWN}\nerror odd count of hex digits\n\
          error 'G' at place 7 is no hex digit\nerror byte 0xC3 at place 5 is no hex digit\n\
-         race-free\n";
+         race-free\n"
+    );
     for words in [&["batch"][..], &["batch", "-j", "2"]] {
         let answer = stramashly(words, input.as_bytes());
         assert_eq!(answer.output, answers);
@@ -141,9 +142,8 @@ fn long_lines_have_the_refusal_that_they_deserve() {
     input.extend([b'x'; 300_000]);
     input.extend(b"\nfill 0000000401000000\n");
     let answer = stramashly(&["batch"], &input);
-    let answers = "refused 4 0\nrefused 2 0\nerror odd count of hex digits\n\
-         error none of check, fill, report, derive, accepts, rows and write\nfilled\n";
-         error none of check, fill, report, derive, accepts, the same with a 2, and row2\nfilled\n";
+    let answers =
+        format!("refused 4 0\nrefused 2 0\nerror odd count of hex digits\n{UNKNOWN}\nfilled\n");
     assert_eq!(answer.output, answers);
 }
 

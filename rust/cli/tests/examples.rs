@@ -54,7 +54,12 @@ fn every_line_of_the_page_is_right() {
 fn every_table_is_on_the_page() {
     let named: BTreeSet<String> = page().iter().map(|line| line.words[1].clone()).collect();
     for file in fs::read_dir(folder()).unwrap() {
-        let name = file.unwrap().file_name().into_string().unwrap();
+        let file = file.unwrap();
+        let name = file.file_name().into_string().unwrap();
+        // Folders hold programs.
+        if file.path().is_dir() {
+            continue;
+        }
         assert!(name == "README.md" || named.contains(&name), "{name}");
     }
 }
@@ -81,8 +86,21 @@ fn every_answer_is_on_the_page() {
     assert_eq!(words, all.map(str::to_string).into());
 }
 
-/// The commands of README.md, each with the lines below it, up to the next
-/// command or an empty line.
+/// What stands below a command: up to the next command or to what isn't
+/// further in.
+fn shown_below(lines: &[&str]) -> String {
+    let is_below = |line: &&&str| {
+        let is_command = line.starts_with("    $ ");
+        line.is_empty() || line.starts_with("    ") && !is_command
+    };
+    let below = lines.iter().take_while(is_below);
+    let shown: String = below
+        .map(|line| format!("{}\n", line.get(4..).unwrap_or_default()))
+        .collect();
+    shown.trim_end().to_string() + "\n"
+}
+
+/// The commands of README.md, each with the lines below it.
 #[test]
 fn the_front_page_is_right() {
     let root = folder().join("..");
@@ -93,10 +111,7 @@ fn the_front_page_is_right() {
         if let Some(command) = line.strip_prefix("    $ ./stramashly ") {
             let words: Vec<&str> = command.split(' ').collect();
             let answer = stramashly_in(&root, &words, b"");
-            let below = lines[place + 1..]
-                .iter()
-                .take_while(|line| !line.is_empty() && !line.starts_with("    $ "));
-            let shown: String = below.map(|line| format!("{}\n", &line[4..])).collect();
+            let shown = shown_below(&lines[place + 1..]);
             let output = if shown.contains(SHADERS[0]) {
                 answer.output
             } else {

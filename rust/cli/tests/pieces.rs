@@ -73,7 +73,7 @@ fn lines_of_a_batch() {
         let pieces = format!("{first} {}", dashed(&second));
         let rows = digits();
         let shown: Vec<String> = (0..4)
-            .map(|row| rows[40 + 32 * row..][..32].to_lowercase())
+            .map(|row| rows[40 + 32 * row..][..32].to_uppercase())
             .collect();
         let lines = format!(
             "check2 {pieces}\nfill2 {pieces}\nreport2 {pieces}\nderive2 {pieces} 3 8\n\
@@ -101,11 +101,11 @@ fn refusals_and_objects() {
     );
     let answers = format!(
         "refused 40 0\nrefused 1 0\nrefused 3 0\nnone\n{}\nnone\n",
-        second[32..].to_lowercase()
+        second[32..].to_uppercase()
     );
     assert_eq!(answered(&["batch"], &line), (answers, Some(0)));
     let line = format!("row2 {first} {second} 2\nrow2 {first} {second} 4\n");
-    let bytes = second[..32].to_lowercase();
+    let bytes = second[..32].to_uppercase();
     let objects =
         format!("{{\"verdict\":\"row\",\"bytes\":\"{bytes}\"}}\n{{\"verdict\":\"none\"}}\n");
     assert_eq!(answered(&["batch", "--json"], &line), (objects, Some(0)));
@@ -157,4 +157,28 @@ fn a_second_piece_that_cannot_be_read_is_told() {
     assert_eq!(answer.status, Some(4));
     assert_eq!(answer.output, "");
     assert!(answer.messages.contains(missing), "{}", answer.messages);
+}
+
+/// The first piece may be a text, whose labels and places are told of its own
+/// rows; the rows of the second have none.
+#[test]
+fn rows_are_added_to_a_text() {
+    let text = "stramashly 1\nagent a0 = 0.0.0\nagent a1 = 0.0.1\nref v1 = 1 Uniform\n\n\
+        w: a0 plain-write v1 0..4 non-private @ s.comp:3\n";
+    let first = file("pieces-first.txt", text);
+    let second = scratch().join("pieces-second.rows");
+    fs::write(
+        &second,
+        [1, 1, 0, 0, 0, 1, 0, 4, 0, 0, 0, 1, 255, 255, 0, 0],
+    )
+    .unwrap();
+    let second = second.to_str().unwrap();
+    let race = ("race 0 1 0\n".to_string(), Some(1));
+    assert_eq!(answered(&["check", &first, "--then", second], ""), race);
+    let object = "{\"verdict\":\"race\",\"first\":0,\"second\":1,\"byte\":0,\
+        \"places\":[{\"row\":0,\"label\":\"w\",\"at\":\"s.comp:3\"}]}\n";
+    assert_eq!(
+        answered(&["check", "--json", &first, "--then", second], ""),
+        (object.to_string(), Some(1))
+    );
 }

@@ -15,6 +15,7 @@ fn word(answer: &stramashly::CheckAnswer) -> &'static str {
         stramashly::CheckAnswer::Overwritten { .. } => "overwritten",
         stramashly::CheckAnswer::Cycle { .. } => "cycle",
         stramashly::CheckAnswer::Refused { .. } => "refused",
+        answer => panic!("{answer}"),
     }
 }
 
@@ -31,6 +32,7 @@ fn filled(checker: &mut Checker, table: &Table) -> Filled {
         stramashly::FillAnswer::None => Filled::Word("none"),
         stramashly::FillAnswer::Race { .. } => Filled::Word("race"),
         stramashly::FillAnswer::Refused { .. } => Filled::Word("refused"),
+        answer => panic!("{answer}"),
     }
 }
 

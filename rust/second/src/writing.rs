@@ -140,7 +140,8 @@ impl Values {
         }
     }
 
-    fn bytes(&self) -> Vec<u8> {
+    /// The table's bytes, admissible or not; counts must fit in theirs.
+    pub fn bytes(&self) -> Vec<u8> {
         let numbers = agent_bytes(self.version) / 2;
         let mut following = vec![
             self.version,

@@ -4,26 +4,44 @@ use std::fmt;
 
 /// What an answer says; its number is the packed answer's code.
 #[derive(Clone, Copy, Debug, PartialEq, Eq)]
+#[non_exhaustive]
 pub enum Code {
+    /// Every conflicting pair of rows is ordered.
     RaceFree = 0,
+    /// Two rows conflict and have no order at a byte.
     Race = 1,
+    /// A reader's source was overwritten before it read.
     Overwritten = 2,
+    /// Edges lead from a row back to itself.
     Cycle = 3,
+    /// The table breaks a rule of form.
     Refused = 4,
+    /// No filling is consistent.
     None = 5,
+    /// The blanks have their sources.
     Filled = 6,
+    /// The conflicting pairs are counted.
     Report = 7,
+    /// A moment happens before another, and this is why.
     Derivation = 8,
+    /// A moment doesn't happen before another.
     NotBefore = 9,
+    /// A derivation leads from a moment to another.
     Accepted = 10,
+    /// It doesn't.
     NotAccepted = 11,
+    /// The values make a table.
     Written = 12,
+    /// The table can be stepped through.
     Opened = 13,
+    /// A row of an opened table.
     Row = 14,
+    /// An opened table has no further row.
     End = 15,
     /// A row's place in a table of two pieces.
-    Row = 12,
-    NoRow = 13,
+    RowPlace = 16,
+    /// Neither piece holds the row.
+    NoRow = 17,
 }
 
 /// A packed answer: code × 2^48 + a × 2^32 + b × 2^16 + c.
@@ -31,6 +49,7 @@ pub enum Code {
 pub struct Packed(pub u64);
 
 impl Packed {
+    /// Packs an answer.
     pub fn new(code: Code, a: u16, b: u16, c: u16) -> Packed {
         let number = (code as u64) << 48;
         Packed(number | u64::from(a) << 32 | u64::from(b) << 16 | u64::from(c))
@@ -55,21 +74,24 @@ impl Packed {
             13 => Code::Opened,
             14 => Code::Row,
             15 => Code::End,
-            12 => Code::Row,
-            13 => Code::NoRow,
+            16 => Code::RowPlace,
+            17 => Code::NoRow,
             _ => return None,
         };
         Some(code)
     }
 
+    /// Part a.
     pub fn a(self) -> u16 {
         (self.0 >> 32) as u16
     }
 
+    /// Part b.
     pub fn b(self) -> u16 {
         (self.0 >> 16) as u16
     }
 
+    /// Part c.
     pub fn c(self) -> u16 {
         self.0 as u16
     }
@@ -94,30 +116,68 @@ pub(crate) fn foreign(packed: Packed) -> ! {
 
 /// What a check answers. The lists lie in the checker's own buffer.
 #[derive(Clone, Copy, Debug, PartialEq, Eq)]
+#[non_exhaustive]
 pub enum CheckAnswer<'a> {
     /// Every conflicting pair of rows is ordered.
     RaceFree,
     /// Two rows conflict and have no order at a byte.
-    Race { first: u16, second: u16, byte: u16 },
+    Race {
+        /// The lower row.
+        first: u16,
+        /// The higher row.
+        second: u16,
+        /// The lowest byte without order.
+        byte: u16,
+    },
     /// A reader's source was overwritten before it read.
-    Overwritten { reader: u16, writer: u16, byte: u16 },
+    Overwritten {
+        /// The row that read.
+        reader: u16,
+        /// The row that wrote over what it read.
+        writer: u16,
+        /// The byte.
+        byte: u16,
+    },
     /// Edges lead from a row back to itself; edge k leaves row k.
-    Cycle { rows: &'a [u16], edges: &'a [u16] },
+    Cycle {
+        /// The rows, each before the next and the last before the first.
+        rows: &'a [u16],
+        /// The number of the edge that leaves each row.
+        edges: &'a [u16],
+    },
     /// The table breaks a rule of form.
-    Refused { number: u16, row: u16 },
+    Refused {
+        /// Which rule of form is broken.
+        number: u16,
+        /// The row that breaks it, 0 where it is no row's.
+        row: u16,
+    },
 }
 
 /// What a fill answers. The list lies in the checker's own buffer.
 #[derive(Clone, Copy, Debug, PartialEq, Eq)]
+#[non_exhaustive]
 pub enum FillAnswer<'a> {
     /// One source for each row, 65535 where a row doesn't read.
     Filled(&'a [u16]),
     /// No filling is consistent.
     None,
     /// Two rows conflict and have no order at a byte.
-    Race { first: u16, second: u16, byte: u16 },
+    Race {
+        /// The lower row.
+        first: u16,
+        /// The higher row.
+        second: u16,
+        /// The lowest byte without order.
+        byte: u16,
+    },
     /// The table breaks a rule of form.
-    Refused { number: u16, row: u16 },
+    Refused {
+        /// Which rule of form is broken.
+        number: u16,
+        /// The row that breaks it, 0 where it is no row's.
+        row: u16,
+    },
 }
 
 impl fmt::Display for CheckAnswer<'_> {

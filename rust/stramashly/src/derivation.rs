@@ -12,7 +12,12 @@ pub enum Derivation<'a> {
     /// The word program order.
     ProgramOrder,
     /// Steps for one class set, 1 to 15. As in C, the set 16 is the word.
-    Chain { classes: u8, steps: &'a [u16] },
+    Chain {
+        /// The class set.
+        classes: u8,
+        /// The steps, 1 to 383 of them.
+        steps: &'a [u16],
+    },
 }
 
 impl<'a> Derivation<'a> {
@@ -35,6 +40,7 @@ impl<'a> Derivation<'a> {
 
 /// What the finder answers. A chain lies in the checker's own buffer.
 #[derive(Clone, Copy, Debug, PartialEq, Eq)]
+#[non_exhaustive]
 pub enum DeriveAnswer<'a> {
     /// The first moment happens before the second, and this is why.
     Derivation(Derivation<'a>),
@@ -42,11 +48,17 @@ pub enum DeriveAnswer<'a> {
     NotBefore,
     /// The table breaks a rule of form, or the numbers aren't those of two
     /// moments of it (12).
-    Refused { number: u16, row: u16 },
+    Refused {
+        /// Which rule of form is broken.
+        number: u16,
+        /// The row that breaks it, 0 where it is no row's.
+        row: u16,
+    },
 }
 
 /// What the reader of derivations answers.
 #[derive(Clone, Copy, Debug, PartialEq, Eq)]
+#[non_exhaustive]
 pub enum AcceptsAnswer {
     /// The derivation leads from the first moment to the second.
     Accepted,
@@ -54,7 +66,12 @@ pub enum AcceptsAnswer {
     NotAccepted,
     /// The table breaks a rule of form, or the numbers aren't those of two
     /// moments of it (12).
-    Refused { number: u16, row: u16 },
+    Refused {
+        /// Which rule of form is broken.
+        number: u16,
+        /// The row that breaks it, 0 where it is no row's.
+        row: u16,
+    },
 }
 
 impl fmt::Display for Derivation<'_> {

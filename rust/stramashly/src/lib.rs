@@ -40,11 +40,27 @@
 //! assert_eq!(checker.report(&empty_table).to_string(), "report 0 0 0 0 no-share");
 //! ```
 //!
+//! Answers borrow the checker's buffers until its next call; `into_owned` gives
+//! one that doesn't:
+//!
+//! ```
+//! use stramashly::{Checker, OwnedCheckAnswer};
+//!
+//! let tables = [vec![0, 0, 0, 4, 1, 0, 0, 0], vec![]];
+//! let mut checker = Checker::new();
+//! let answers: Vec<OwnedCheckAnswer> = tables
+//!     .iter()
+//!     .map(|table| checker.check(table).into_owned())
+//!     .collect();
+//! assert_eq!(answers[1].to_string(), "refused 1 0");
+//! ```
+//!
 //! On a device that reports the feature
 //! vulkanMemoryModelAvailabilityVisibilityChains, `Checker::new().with_chains(true)`.
 //!
 //! A recorder hands its values to a [`TableWriter`], which gives a table that a
 //! fill admits; [`Rows`] steps through the rows of one.
+//!
 //! A table may come in two pieces, a table and more rows for it, which need not
 //! be copied together: [`Checker::check_pieces`] and its like. The answer is
 //! that of the joined table; [`row_of_pieces`] finds a row of either.
@@ -66,10 +82,13 @@
 //! instead, of any length, and give the packed answer as it comes, and so do
 //! [`write_in`], [`open_in`], [`row_in`] and [`accepts_in`].
 
+#![deny(missing_docs)]
+
 mod answer;
 mod checker;
 mod derivation;
 mod engine;
+mod owned;
 mod report;
 mod rows;
 mod writer;
@@ -78,11 +97,12 @@ pub use answer::{CheckAnswer, Code, FillAnswer, Packed};
 pub use checker::Checker;
 pub use derivation::{AcceptsAnswer, Derivation, DeriveAnswer};
 pub use engine::{
-    accepts_in, check_in, check_with, derive_in, fill_in, fill_with, open_in, report_in,
-    report_with, row_in, share_of, write_in,
     accepts_in, accepts_pieces, check_in, check_pieces, check_with, derive_in, derive_pieces,
-    fill_in, fill_pieces, fill_with, report_in, report_pieces, report_with, row_of_pieces,
-    share_of, Pieces,
+    fill_in, fill_pieces, fill_with, open_in, report_in, report_pieces, report_with, row_in,
+    row_of_pieces, share_of, write_in, Pieces,
+};
+pub use owned::{
+    OwnedCheckAnswer, OwnedDerivation, OwnedDeriveAnswer, OwnedFillAnswer, OwnedReportAnswer,
 };
 pub use report::{Report, ReportAnswer, Share};
 pub use rows::Rows;

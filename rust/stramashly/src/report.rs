@@ -5,7 +5,9 @@ use std::fmt;
 
 /// What a report answers.
 #[derive(Clone, Copy, Debug, PartialEq)]
+#[non_exhaustive]
 pub enum ReportAnswer<'a> {
+    /// The counts.
     Report(Report),
     /// A refused or inconsistent table has check's answer and no report.
     Check(CheckAnswer<'a>),
@@ -20,13 +22,16 @@ pub struct Report {
     pub mutual: u16,
     /// Those that aren't, but are ordered at every shared byte.
     pub ordered: u16,
+    /// Those that race.
     pub racing: u16,
+    /// The racing ones' part.
     pub share: Share,
 }
 
 /// The racing pairs' part of the conflicting ones.
 #[derive(Clone, Copy, Debug, PartialEq)]
 pub enum Share {
+    /// The one division, rounded once.
     Of(f64),
     /// No pair conflicts, which isn't the same as none that races.
     NoPairs,

@@ -9,17 +9,30 @@ use std::fmt;
 /// A row as values: the fields of a table's row, in its order.
 #[derive(Clone, Copy, Debug, Default, PartialEq, Eq)]
 pub struct Row {
+    /// What the agent did: 0 a plain read, and so on.
     pub kind: u8,
+    /// The agent's number.
     pub agent: u8,
+    /// 0 relaxed, 1 acquire, 2 release, 3 both.
     pub order: u8,
+    /// 0 invocation, 1 subgroup, 2 workgroup, 3 queue family, 4 device.
     pub scope: u8,
+    /// Semantics classes: the sum of 1 Uniform, 2 Workgroup, 4 Image, 8 Output.
     pub classes: u8,
+    /// The sum of 1 non-private, 2 make available, 4 make visible.
     pub flags: u8,
+    /// The class accessed, 0 to 3; a control barrier's execution scope.
     pub class: u8,
+    /// How many bytes are accessed.
     pub length: u8,
+    /// The first byte accessed; a control barrier's instance number.
     pub start: u16,
+    /// By which variable or pointer the memory is reached.
     pub reference: u16,
+    /// The row that was read, [`INITIAL`](crate::INITIAL) or
+    /// [`BLANK`](crate::BLANK).
     pub source: u16,
+    /// An atomic writer's place in the modification order of its location.
     pub rank: u16,
 }
 
@@ -71,7 +84,9 @@ impl Row {
 /// Which rule of form is broken, and the row that breaks it.
 #[derive(Clone, Copy, Debug, PartialEq, Eq)]
 pub struct Refusal {
+    /// The rule's number.
     pub number: u16,
+    /// The row, 0 where it is no row's.
     pub row: u16,
 }
 

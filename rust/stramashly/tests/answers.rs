@@ -155,8 +155,9 @@ fn packed_answers_come_apart() {
     assert_eq!(packed.0, 0x0001_0001_0002_FFFF);
     assert_eq!(packed.code(), Some(Code::Race));
     assert_eq!((packed.a(), packed.b(), packed.c()), (1, 2, 65535));
-    assert_eq!(Packed(16 << 48).code(), None);
-    assert_eq!(Packed(13 << 48).code(), Some(Code::NoRow));
-    assert_eq!(Packed(14 << 48).code(), None);
+    assert_eq!(Packed(15 << 48).code(), Some(Code::End));
+    assert_eq!(Packed(16 << 48).code(), Some(Code::RowPlace));
+    assert_eq!(Packed(17 << 48).code(), Some(Code::NoRow));
+    assert_eq!(Packed(18 << 48).code(), None);
     assert_eq!(format!("{packed:?}"), "Packed(1, 1, 2, 65535)");
 }

@@ -44,6 +44,7 @@ pub fn lines(table: &[u8], checker: &mut dyn Judge) -> Vec<String> {
             lines.extend(none_lines(table, &blanks, checker));
             lines
         }
+        _ => vec![format!("{told}.")],
     }
 }
 

@@ -84,21 +84,25 @@ struct Searcher<'a> {
     goal: Goal,
     checker: &'a mut dyn Judge,
     state: State,
-    /// What the race depends on.
+    /// What the race depends on, whatever is edited; and while only orders,
+    /// scopes, classes and flags are.
     reduction: Reduction,
+    tight: Reduction,
     /// Questions that may still be asked.
     budget: usize,
 }
 
 /// Looks for cures of a table's race; `checked` is the table as it is.
 pub fn search(table: &[u8], checked: Checked, goal: Goal, checker: &mut dyn Judge) -> Search {
-    let reduction = Reduction::of(table, goal, checker.chains());
+    let chains = checker.chains();
+    let reduction = Reduction::of(table, goal, chains);
     let rows = Run::of(reduction.table()).rows.len();
     let mut searcher = Searcher {
         table,
         goal,
         checker,
         state: State::new(),
+        tight: Reduction::tight(table, goal, chains),
         reduction,
         // A check takes time with the square of the rows, at the least.
         budget: 800_000 / ((rows + 8) * (rows + 8)),
@@ -188,8 +192,12 @@ impl Searcher<'_> {
     /// is refused then or may not be asked any more.
     fn mends(&mut self, edits: &[Edit]) -> Option<bool> {
         self.budget = self.budget.checked_sub(1)?;
-        let table = self.reduction.edited(edits);
-        let goal = self.reduction.goal(self.goal);
+        let reduction = match Reduction::is_tight_with(edits) {
+            true => &self.tight,
+            false => &self.reduction,
+        };
+        let table = reduction.edited(edits);
+        let goal = reduction.goal(self.goal);
         self.is_ordered(&table, goal)
     }
 
@@ -197,7 +205,6 @@ impl Searcher<'_> {
     /// asked, since that looks for races before anything else.
     fn is_ordered(&mut self, table: &[u8], goal: Goal) -> Option<bool> {
         match self.checker.fill(table) {
-            FillAnswer::Refused { .. } => return None,
             FillAnswer::Filled(_) | FillAnswer::None => return Some(true),
             FillAnswer::Race {
                 first,
@@ -214,11 +221,21 @@ impl Searcher<'_> {
                     _ => (),
                 }
             }
+            _ => return None,
         }
-        let chains = self.checker.chains();
-        self.state
-            .check_with(chains, table, WORK_WORDS, CYCLE_NUMBERS);
+        self.relate(table)?;
         Some(!self.state.races_at(goal.first, goal.second, goal.byte))
+    }
+
+    /// Has the second implementation relate a table's rows; none if it refuses
+    /// the table.
+    fn relate(&mut self, table: &[u8]) -> Option<()> {
+        let chains = self.checker.chains();
+        let answer = self
+            .state
+            .check_with(chains, table, WORK_WORDS, CYCLE_NUMBERS);
+        let is_refused = matches!(answer, second::CheckAnswer::Refused { .. });
+        (!is_refused).then_some(())
     }
 
     /// The cure, if these changes and new rows are one.
@@ -245,19 +262,17 @@ impl Searcher<'_> {
             return None;
         }
         let table = stepped(self.table, &cure.steps()).ok()?;
-        cure.answer = match self.checker.check(&table) {
-            CheckAnswer::Refused { .. } => return None,
-            answer => answer.to_string(),
-        };
-        let reduction = Reduction::of(&table, goal, self.checker.chains());
-        let chains = self.checker.chains();
-        self.state
-            .check_with(chains, reduction.table(), WORK_WORDS, CYCLE_NUMBERS);
+        let reduction = Reduction::tight(&table, goal, self.checker.chains());
         let goal = reduction.goal(goal);
+        self.relate(reduction.table())?;
         if self.state.races_at(goal.first, goal.second, goal.byte) {
             return None;
         }
         cure.order = self.order_words(reduction.table(), goal)?;
+        cure.answer = match self.checker.check(&table) {
+            CheckAnswer::Refused { .. } => return None,
+            answer => answer.to_string(),
+        };
         Some(cure)
     }
 
@@ -324,7 +339,7 @@ impl Searcher<'_> {
             second: first.moved(self.goal.second),
             ..self.goal
         };
-        let reduction = Reduction::of(&table, goal, self.checker.chains());
+        let reduction = Reduction::tight(&table, goal, self.checker.chains());
         let goal = reduction.goal(goal);
         self.is_ordered(reduction.table(), goal) != Some(true)
     }
@@ -398,7 +413,7 @@ impl Searcher<'_> {
 }
 
 /// A row with every flag, class and order that it may have.
-fn strongest(row: usize, fields: Row, is_wide: bool) -> Vec<Edit> {
+pub fn strongest(row: usize, fields: Row, is_wide: bool) -> Vec<Edit> {
     let order = match fields.kind {
         PLAIN_READ | PLAIN_WRITE => RELAXED,
         ATOMIC_READ => ACQUIRE,

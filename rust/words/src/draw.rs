@@ -3,6 +3,7 @@
 use crate::account::Checked;
 use crate::explain::{shown, Shown};
 use crate::judge::Judge;
+use crate::notes::Notes;
 use crate::picture::picture;
 use crate::run::Run;
 use second::{State, CYCLE_NUMBERS, WORK_WORDS};
@@ -11,6 +12,16 @@ use stramashly::CheckAnswer;
 /// The table as an SVG document, or the refusal of a table that has no picture.
 /// Of a large run only the rows that matter are drawn, unless all are wanted.
 pub fn draw(table: &[u8], checker: &mut dyn Judge, is_all: bool) -> Result<String, String> {
+    draw_noted(table, &Notes::default(), checker, is_all)
+}
+
+/// The same of a table of which more is noted.
+pub fn draw_noted(
+    table: &[u8],
+    notes: &Notes,
+    checker: &mut dyn Judge,
+    is_all: bool,
+) -> Result<String, String> {
     let chains = checker.chains();
     let answer = checker.check(table);
     if let CheckAnswer::Refused { .. } = answer {
@@ -19,7 +30,7 @@ pub fn draw(table: &[u8], checker: &mut dyn Judge, is_all: bool) -> Result<Strin
     if !Run::is_known(table) {
         return Err(format!("{answer} of version {}", table[4]));
     }
-    let run = Run::of(table);
+    let run = Run::of(table).noted(notes);
     let mut state = State::new();
     state.check_with(chains, table, WORK_WORDS, CYCLE_NUMBERS);
     let checked = Checked {

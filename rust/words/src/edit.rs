@@ -1,6 +1,7 @@
 //! Edits of a table: one field of one row gets another value.
 
 use crate::run::first_row;
+use second::row_bytes;
 use second::table::{Row, ROW_BYTES};
 use std::fmt;
 use std::str::FromStr;
@@ -165,16 +166,6 @@ pub fn whole_number<T: FromStr + PartialOrd>(text: &str, most: T) -> Option<T> {
     let are_digits = text.bytes().all(|letter| letter.is_ascii_digit());
     let number = text.parse().ok().filter(|number| *number <= most);
     number.filter(|_| are_digits)
-}
-
-/// A row's bytes, as they stand in a table.
-pub fn row_bytes(row: Row) -> [u8; ROW_BYTES] {
-    let mut bytes = [0; ROW_BYTES];
-    for (field, _, place, size) in FIELDS {
-        let value = field.of(row).to_be_bytes();
-        bytes[place..place + size].copy_from_slice(&value[2 - size..]);
-    }
-    bytes
 }
 
 /// The table with these edits made.

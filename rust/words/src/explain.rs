@@ -5,6 +5,7 @@ use crate::account::Checked;
 use crate::cure::{search, Cure};
 use crate::goal::Goal;
 use crate::judge::Judge;
+use crate::notes::Notes;
 use crate::run::Run;
 use crate::{inconsistent, race, race_free, refusal};
 use second::{Chains, State, CYCLE_NUMBERS, WORK_WORDS};
@@ -62,6 +63,8 @@ pub struct Explanation {
     pub cures: Vec<Cure>,
     /// Whether it was asked with chains.
     pub chains: Chains,
+    /// What the table's text says besides.
+    pub notes: Notes,
 }
 
 impl Explanation {
@@ -78,11 +81,16 @@ impl Explanation {
 
 /// Explains a table's answer, whatever its bytes.
 pub fn explain(table: &[u8], checker: &mut dyn Judge) -> Explanation {
+    explain_noted(table, &Notes::default(), checker)
+}
+
+/// Explains the answer to a table of which more is noted.
+pub fn explain_noted(table: &[u8], notes: &Notes, checker: &mut dyn Judge) -> Explanation {
     let mut state = State::new();
     let chains = checker.chains();
     let second = state.check_with(chains, table, WORK_WORDS, CYCLE_NUMBERS);
     let second = second.to_string();
-    let run = Run::of(table);
+    let run = Run::of(table).noted(notes);
     let checked = Checked {
         table,
         state: &state,
@@ -95,6 +103,7 @@ pub fn explain(table: &[u8], checker: &mut dyn Judge) -> Explanation {
         lines: Vec::new(),
         cures: Vec::new(),
         chains,
+        notes: notes.clone(),
     };
     if second == explanation.answer && !Run::is_known(table) && !second.starts_with("refused") {
         explanation.lines = vec![format!(
@@ -109,6 +118,8 @@ pub fn explain(table: &[u8], checker: &mut dyn Judge) -> Explanation {
             "No explanation: the unproved second implementation answers `{second}`. Please report this table."
         )];
     }
+    let noted = notes.lines(&explanation.lines);
+    explanation.lines.extend(noted);
     explanation
 }
 
@@ -174,5 +185,6 @@ pub fn shown(checked: Checked, answer: CheckAnswer) -> Shown {
             rows: rows.iter().map(|row| usize::from(*row)).collect(),
             edges: edges.to_vec(),
         },
+        _ => panic!("a check has no such answer: {answer}"),
     }
 }

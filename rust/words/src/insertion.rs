@@ -1,10 +1,10 @@
 //! Rows put into a table, and the steps that make one table of another.
 
 use crate::dependency::{count_changed, Dependency};
-use crate::edit::{row_bytes, whole_number, Edit, Field, FIELDS};
+use crate::edit::{whole_number, Edit, Field, FIELDS};
 use crate::run::{dependency_count, first_row, past_rows, Run};
 use second::table::{Row, COUNT_BYTES, DEPENDENCY_BYTES, HEADER_BYTES, ROW_BYTES, WITH_HOSTS};
-use second::{BLANK, INITIAL, MAX_ROWS};
+use second::{row_bytes, BLANK, INITIAL, MAX_ROWS};
 use std::fmt;
 use std::str::FromStr;
 

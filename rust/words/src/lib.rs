@@ -9,12 +9,14 @@
 //! | what | module |
 //! |---|---|
 //! | the words for codes, rows and tables | `names`, `run`, `show` |
+//! | names and places from a table's text | `notes` |
 //! | why rows are ordered | `account`, `chain`, `derivation`, `why` |
 //! | why they aren't | `nearest`, `gap`, `carriage` |
 //! | what would order them | `catalogue`, `change`, `edit`, `reason`, `reduction`, `cure` |
 //! | new rows and dependencies that would, and their words for a shader | `insertion`, `dependency`, `remedy`, `domains`, `shader` |
 //! | the answers one by one | `race`, `race_free`, `inconsistent`, `refusal` |
 //! | what is wrong with a refused table, and with its blanks | `fault`, `unfit`, `blank` |
+//! | answers one finding after the other | `findings` |
 //! | answers in sentences, pictures and pages | `explain`, `headline`, `draw`, `picture`, `page`, `markup` |
 
 mod account;
@@ -33,6 +35,7 @@ mod edit;
 mod exhaustive;
 mod explain;
 mod fault;
+mod findings;
 mod gap;
 mod goal;
 mod headline;
@@ -42,6 +45,7 @@ mod judge;
 mod markup;
 mod names;
 mod nearest;
+mod notes;
 mod page;
 mod picture;
 mod race;
@@ -61,20 +65,23 @@ pub use change::Change;
 pub use cure::Cure;
 pub use dependency::Dependency;
 pub use derivation::{at, derivation_lines, derived_lines, moment_words, step_parts};
-pub use draw::draw;
+pub use draw::{draw, draw_noted};
 pub use edit::{edited, Edit, Field};
-pub use explain::{explain, Explanation, Shown};
+pub use explain::{explain, explain_noted, Explanation, Shown};
 pub use fault::{faults, Fault};
+pub use findings::{findings, Finding};
 pub use goal::Goal;
 pub use headline::headline;
 pub use inconsistent::edge_name;
 pub use insertion::{stepped, Insertion, Step};
 pub use judge::Judge;
+pub use names::{CLASSES, KINDS, ORDERS, SCOPES, SORTS};
 pub use nearest::Near;
+pub use notes::{Notes, Place, RowNote};
 pub use page::page;
 pub use reason::Reason;
-pub use refusal::refusal;
-pub use run::Run;
+pub use refusal::{is_of_a_row, lines as refusal_lines, refusal};
+pub use run::{first_row, Run};
 pub use shader::{glsl, spirv};
 pub use show::show;
 pub use unfit::{unfit, Unfit};

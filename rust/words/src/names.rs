@@ -4,7 +4,8 @@
 use second::table::{Row, MAKE_AVAILABLE, MAKE_VISIBLE, NON_PRIVATE};
 use second::{BLANK, INITIAL};
 
-const KINDS: [&str; 13] = [
+/// The kinds of rows, by their codes.
+pub const KINDS: [&str; 13] = [
     "plain read",
     "plain write",
     "atomic read",
@@ -19,19 +20,23 @@ const KINDS: [&str; 13] = [
     "domain operation from host to device",
     "domain operation from device to host",
 ];
-const SORTS: [&str; 3] = ["shader", "host", "queue"];
+/// What an agent can be.
+pub const SORTS: [&str; 3] = ["shader", "host", "queue"];
 /// The last sort of an agent and the last class that have a meaning.
 pub const LAST_SORT: u16 = SORTS.len() as u16 - 1;
 pub const LAST_CLASS: u8 = CLASSES.len() as u8 - 1;
-const ORDERS: [&str; 4] = ["relaxed", "acquire", "release", "acquire-release"];
-const SCOPES: [&str; 5] = [
+/// The orders.
+pub const ORDERS: [&str; 4] = ["relaxed", "acquire", "release", "acquire-release"];
+/// The scopes.
+pub const SCOPES: [&str; 5] = [
     "invocation",
     "subgroup",
     "workgroup",
     "queue family",
     "device",
 ];
-const CLASSES: [&str; 4] = ["Uniform", "Workgroup", "Image", "Output"];
+/// The classes.
+pub const CLASSES: [&str; 4] = ["Uniform", "Workgroup", "Image", "Output"];
 const FLAGS: [(u8, &str); 3] = [
     (NON_PRIVATE, "non-private"),
     (MAKE_AVAILABLE, "make available"),

@@ -53,7 +53,7 @@ pub fn page(table: &[u8], explanation: &Explanation, is_all: bool) -> String {
     let mut html = format!(
         "<!DOCTYPE html>\n<html lang=\"en\" xmlns=\"http://www.w3.org/1999/xhtml\">\n<head>\n<meta charset=\"utf-8\"/>\n<meta name=\"viewport\" content=\"width=device-width, initial-scale=1\"/>\n<title>{headline}</title>\n<style>\n{SHEET}</style>\n</head>\n<body>\n<main>\n<h1>{headline}</h1>\n<p><code>{answer}</code></p>\n"
     );
-    let run = Run::of(table);
+    let run = Run::of(table).noted(&explanation.notes);
     for line in &explanation.lines {
         html += &paragraph(line, run.rows.len());
     }

@@ -60,16 +60,32 @@ fn in_short(rule: u8, after: Row) -> &'static str {
     }
 }
 
-/// The other racing pairs, each with its lowest unordered byte.
-fn other_races(checked: Checked, goal: Goal) -> Option<String> {
+/// The racing pairs, each with its lowest unordered byte.
+pub fn races(checked: Checked) -> Vec<Goal> {
     let rows = checked.run.rows.len();
     let pairs = (0..rows).flat_map(|x| (x + 1..rows).map(move |y| (x, y)));
-    let races: Vec<String> = pairs
-        .filter(|pair| *pair != (goal.first, goal.second))
-        .filter_map(|(x, y)| {
-            let mut bytes = checked.shared_bytes(x, y).into_iter();
-            let byte = bytes.find(|byte| checked.state.races_at(x, y, *byte))?;
-            Some(format!("{x} and {y} at byte {byte}"))
+    let goals = pairs.filter_map(|(first, second)| {
+        let mut bytes = checked.shared_bytes(first, second).into_iter();
+        let byte = bytes.find(|byte| checked.state.races_at(first, second, *byte))?;
+        Some(Goal {
+            first,
+            second,
+            byte,
+        })
+    });
+    goals.collect()
+}
+
+/// The other racing pairs.
+fn other_races(checked: Checked, goal: Goal) -> Option<String> {
+    let others = races(checked).into_iter();
+    let others = others.filter(|other| (other.first, other.second) != (goal.first, goal.second));
+    let races: Vec<String> = others
+        .map(|other| {
+            format!(
+                "{} and {} at byte {}",
+                other.first, other.second, other.byte
+            )
         })
         .collect();
     let shown = races.len().min(SHOWN_RACES);

@@ -65,6 +65,7 @@ fn meaning(number: u16) -> &'static str {
         10 => "Atomic writers that are mutually-ordered have different ranks.",
         11 => "A lent buffer is too short.",
         12 => "The two numbers aren't two different moments of the table.",
+        13 => "A buffer is shorter than the table to be written.",
         14 => "Rows of one control barrier's instance have one execution scope, different agents, and all these in one instance of that scope.",
         15 => "Counted ranks of one place's writers fit in some 32768 counts in a row, past 65535 and on from 0 if need be.",
         16 => "An agent is a shader, a host or a queue.",
@@ -72,6 +73,7 @@ fn meaning(number: u16) -> &'static str {
         18 => "A dependency joins two rows of the table.",
         19 => "A host has plain rows only; a queue has availability, visibility and domain operations only, and nobody else has these.",
         20 => "An operation of a queue has a kind and an agent; its other fields are 0 and its source is 65535.",
+        40 => "A second piece is whole rows, 16 bytes each.",
         _ => "This number isn't known here.",
     }
 }

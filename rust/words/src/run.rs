@@ -2,6 +2,7 @@
 //! few words.
 
 use crate::names;
+use crate::notes::Notes;
 use second::table::{agent_bytes, agent_places, agent_sort, dependency_of, row_of};
 use second::table::{Row, COUNT_BYTES, DEPENDENCY_BYTES, HEADER_BYTES, ROW_BYTES};
 use second::table::{CONTROL_BARRIER, DEVICE_TO_HOST, HOST, QUEUE, SHADER};
@@ -20,6 +21,8 @@ pub struct Run {
     pub dependencies: Vec<[u16; 2]>,
     /// Whether there may be agents that are no shaders.
     pub has_hosts: bool,
+    /// What the bytes don't hold.
+    pub notes: Notes,
 }
 
 /// Versions from 1 to this one are known.
@@ -68,6 +71,15 @@ impl Run {
                 .collect(),
             dependencies: whole_dependencies(table),
             has_hosts: version >= WITH_HOSTS,
+            notes: Notes::default(),
+        }
+    }
+
+    /// The same with what a text says besides.
+    pub fn noted(self, notes: &Notes) -> Run {
+        Run {
+            notes: notes.clone(),
+            ..self
         }
     }
 
@@ -188,6 +200,9 @@ impl Run {
         }
         if fields.is_atomic_writer() {
             parts.push(format!("{} {}", self.rank_word(), fields.rank));
+        }
+        if let Some(place) = self.notes.place(row) {
+            parts.push(format!("at {place}"));
         }
         parts.join(", ")
     }

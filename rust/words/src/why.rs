@@ -20,6 +20,7 @@ pub fn why(table: &[u8], first: u16, second: u16, checker: &mut dyn Judge) -> St
         }
         DeriveAnswer::NotBefore => missing(table, from, to).into_iter().collect(),
         DeriveAnswer::Refused { number, row } => refusal::lines(table, number, row.into()),
+        _ => Vec::new(),
     };
     let mut text = format!("{answer}\n");
     for line in lines {

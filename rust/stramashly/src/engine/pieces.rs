@@ -223,7 +223,9 @@ pub fn row_of_pieces<'a>(pieces: Pieces<'a>, row: u16) -> Option<&'a [u8]> {
     };
     let place = Packed(place);
     match place.code() {
-        Some(Code::Row) => Some(&pieces[usize::from(place.a())][usize::from(place.b())..][..16]),
+        Some(Code::RowPlace) => {
+            Some(&pieces[usize::from(place.a())][usize::from(place.b())..][..16])
+        }
         Some(Code::NoRow) => None,
         _ => panic!("libstramashly.a gave a place that stramashly.h doesn't have: {place:?}"),
     }

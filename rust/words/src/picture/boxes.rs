@@ -29,7 +29,10 @@ fn middles(layout: &Layout) -> impl Iterator<Item = (usize, i32)> + '_ {
 pub fn agents(run: &Run, layout: &Layout) -> String {
     let mut svg = String::new();
     for (agent, middle) in middles(layout) {
-        let name = run.agent_name(agent as u8);
+        let mut name = run.agent_name(agent as u8);
+        if let Some(Some(given)) = run.notes.agents.get(agent) {
+            name += &format!(", {}", escaped(given));
+        }
         for y in &layout.bands {
             svg += &format!("<text class=\"agent\" x=\"{middle}\" y=\"{y}\">{name}</text>\n");
         }

@@ -120,7 +120,7 @@ impl Layout {
         let column = agents
             .take_while(|agent| **agent < usize::from(row.agent))
             .count();
-        let lines = lines(number, row, self.is_narrow);
+        let lines = lines(checked.run, number, self.is_narrow);
         let before = moment(checked, number, BEFORE);
         let after = moment(checked, number, AFTER);
         let place = Place {
@@ -145,7 +145,7 @@ impl Layout {
 /// Wide enough for every box's text, whose first line is bold.
 fn column_width(run: &Run, rows: &[usize], is_narrow: bool) -> i32 {
     let widths = rows.iter().flat_map(|number| {
-        let lines = lines(*number, run.rows[*number], is_narrow);
+        let lines = lines(run, *number, is_narrow);
         let lines = lines.into_iter().enumerate();
         lines.map(|(place, line)| {
             let letters = line.chars().count() as i32;
@@ -162,8 +162,11 @@ fn column_width(run: &Run, rows: &[usize], is_narrow: bool) -> i32 {
 }
 
 /// What stands in a row's box, in short lines where columns are narrow.
-fn lines(number: usize, row: Row, is_narrow: bool) -> Vec<String> {
-    let lines = wide_lines(number, row);
+fn lines(run: &Run, number: usize, is_narrow: bool) -> Vec<String> {
+    let mut lines = wide_lines(number, run.rows[number]);
+    if let Some(place) = run.notes.place(number) {
+        lines.push(format!("@ {}", place.short()));
+    }
     if !is_narrow {
         return lines;
     }

@@ -1,0 +1,176 @@
+//! A file read: a table's bytes, its hex digits, its text or its JSON lines; and
+//! the second piece of a table.
+
+use crate::arguments::{Request, Task};
+use crate::hex::{front_of_rows, Hex, KEPT_BYTES};
+use crate::input;
+use crate::make::Making;
+use std::ffi::OsStr;
+use std::fmt;
+use std::fs::File;
+use std::io::{self, ErrorKind, Read};
+use text::{Draft, Form, Trouble};
+use words::Notes;
+
+/// A longer text than this is none of a table.
+const TEXT_BYTES: usize = 1 << 20;
+
+/// A table, cut off where its refusal is sure, and what was noted of it.
+pub struct Given {
+    pub table: Vec<u8>,
+    pub notes: Notes,
+    /// The parts, of what wasn't bytes.
+    pub draft: Option<Draft>,
+}
+
+impl From<Vec<u8>> for Given {
+    fn from(table: Vec<u8>) -> Given {
+        Given {
+            table,
+            notes: Notes::default(),
+            draft: None,
+        }
+    }
+}
+
+/// Why there is nothing to answer, and where in the file that shows.
+#[derive(Clone, Debug, PartialEq, Eq)]
+pub struct Unread {
+    spot: Option<(usize, usize)>,
+    reason: String,
+}
+
+impl Unread {
+    /// The place in the file.
+    pub fn spot(&self) -> Option<(usize, usize)> {
+        self.spot
+    }
+
+    /// The message, with the file's name and the place.
+    pub fn of(&self, name: &str) -> String {
+        match self.spot {
+            Some((line, column)) => format!("{name}:{line}:{column}: {}", self.reason),
+            None => format!("{name}: {}", self.reason),
+        }
+    }
+}
+
+impl From<String> for Unread {
+    fn from(reason: String) -> Unread {
+        Unread { spot: None, reason }
+    }
+}
+
+impl From<Trouble> for Unread {
+    fn from(trouble: Trouble) -> Unread {
+        Unread {
+            spot: Some((trouble.line, trouble.column)),
+            reason: trouble.reason,
+        }
+    }
+}
+
+impl fmt::Display for Unread {
+    /// Without the file's name.
+    fn fmt(&self, formatter: &mut fmt::Formatter) -> fmt::Result {
+        if let Some((line, column)) = self.spot {
+            write!(formatter, "{line}:{column}: ")?;
+        }
+        write!(formatter, "{}", self.reason)
+    }
+}
+
+/// Reads a file, whichever of the forms it has; with --hex it has digits,
+/// unless it is a text that a table is to be made of.
+pub fn read(name: &OsStr, request: &Request) -> Result<Given, Unread> {
+    let is_hex = request.is_hex && request.task != Task::Make(Making::Read);
+    if name == "-" {
+        input::trouble()?;
+        read_from(io::stdin().lock(), is_hex)
+    } else {
+        let file = File::open(name).map_err(|error| error.to_string())?;
+        read_from(file, is_hex)
+    }
+}
+
+fn read_from(mut input: impl Read, is_hex: bool) -> Result<Given, Unread> {
+    if is_hex {
+        return Ok(read_hex(input)?.into());
+    }
+    let mut bytes = Vec::with_capacity(KEPT_BYTES);
+    let mut more = |bytes: &mut Vec<u8>, most: usize| {
+        let read = input.by_ref().take(most as u64).read_to_end(bytes);
+        read.map_err(|error| error.to_string())
+    };
+    more(&mut bytes, KEPT_BYTES)?;
+    let Some(form) = text::form(&bytes) else {
+        return Ok(bytes.into());
+    };
+    more(&mut bytes, TEXT_BYTES - KEPT_BYTES + 1)?;
+    read_text(form, &bytes)
+}
+
+fn read_text(form: Form, bytes: &[u8]) -> Result<Given, Unread> {
+    if bytes.len() > TEXT_BYTES {
+        return Err(format!("the text has more than {TEXT_BYTES} bytes").into());
+    }
+    let draft = text::read(form, bytes)?;
+    Ok(Given {
+        table: draft.bytes(),
+        notes: draft.notes.clone(),
+        draft: Some(draft),
+    })
+}
+
+fn read_hex(input: impl Read) -> Result<Vec<u8>, String> {
+    match hex_from(input)?.bytes() {
+        Ok(bytes) => Ok(bytes.to_vec()),
+        Err(bad) => Err(bad.to_string()),
+    }
+}
+
+/// The second piece, if one was given, cut off where its refusal is sure.
+pub fn second(request: &Request) -> Result<Option<Vec<u8>>, Unread> {
+    let Some(name) = &request.then else {
+        return Ok(None);
+    };
+    let trouble = |reason: String| format!("{}: {reason}", name.to_string_lossy());
+    let bytes = if name == "-" {
+        input::trouble().and_then(|()| rows_from(io::stdin().lock(), request.is_hex))
+    } else {
+        let file = File::open(name).map_err(|error| error.to_string());
+        file.and_then(|file| rows_from(file, request.is_hex))
+    };
+    Ok(Some(bytes.map_err(trouble)?))
+}
+
+fn rows_from(mut input: impl Read, is_hex: bool) -> Result<Vec<u8>, String> {
+    if is_hex {
+        let hex = hex_from(input)?;
+        return match hex.rows() {
+            Ok(rows) => Ok(rows.to_vec()),
+            Err(bad) => Err(bad.to_string()),
+        };
+    }
+    let text = |error: io::Error| error.to_string();
+    let mut bytes = Vec::new();
+    let mut kept = input.by_ref().take(KEPT_BYTES as u64);
+    kept.read_to_end(&mut bytes).map_err(text)?;
+    let left_out = io::copy(&mut input, &mut io::sink()).map_err(text)?;
+    Ok(front_of_rows(&bytes, left_out).to_vec())
+}
+
+/// Reads to the end, so that a letter that is no digit is told wherever it is.
+fn hex_from(mut input: impl Read) -> Result<Hex, String> {
+    let mut hex = Hex::default();
+    let mut piece = [0; 1 << 14];
+    while !hex.is_bad() {
+        match input.read(&mut piece) {
+            Ok(0) => break,
+            Ok(count) => hex.push(&piece[..count]),
+            Err(error) if error.kind() == ErrorKind::Interrupted => (),
+            Err(error) => return Err(error.to_string()),
+        }
+    }
+    Ok(hex)
+}

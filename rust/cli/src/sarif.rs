@@ -1,0 +1,216 @@
+//! `check --sarif`: what was found in all the files, as one SARIF 2.1.0 log
+//! for tools that list findings beside the program's lines.
+
+use crate::json::Object;
+use crate::read::{Given, Unread};
+use stramashly::Checker;
+use words::{findings, first_row, Finding};
+
+/// A rule's name, its title and what it finds.
+type Rule = (&'static str, &'static str, &'static str);
+
+/// A rule for each answer that is not `race-free`, named by its first word.
+const RULES: [Rule; 4] = [
+    (
+        "race",
+        "Race",
+        "Two rows conflict, and nothing orders them at a byte.",
+    ),
+    (
+        "overwritten",
+        "OverwrittenRead",
+        "A row read what had been written over before: the run can't have happened.",
+    ),
+    (
+        "cycle",
+        "Cycle",
+        "Rows come before each other in a circle: the run can't have happened.",
+    ),
+    (
+        "refused",
+        "Refused",
+        "The table breaks a rule of form, so nothing was judged.",
+    ),
+];
+
+/// Bytes of a row.
+const ROW_BYTES: usize = 16;
+
+/// Where a table came from.
+pub struct Origin<'a> {
+    /// The file's name, none of standard input.
+    pub file: Option<&'a str>,
+    pub is_hex: bool,
+}
+
+/// The results of a table, an object a line.
+pub fn results(given: &Given, origin: &Origin, checker: &mut Checker) -> String {
+    let found = findings(&given.table, &given.notes, checker);
+    let results = found.iter().map(|finding| result(finding, given, origin));
+    results.map(|result| format!("{result}\n")).collect()
+}
+
+fn result(finding: &Finding, given: &Given, origin: &Origin) -> Object {
+    let word = finding.answer.split(' ').next().unwrap_or_default();
+    let rule = RULES.iter().position(|(id, ..)| *id == word);
+    let mut object = Object::default();
+    object.text("ruleId", word);
+    object.count("ruleIndex", rule.unwrap_or(0));
+    object.text("level", "error");
+    object.object("message", &text(&finding.message));
+    let places = finding.rows.iter().enumerate().map(|(id, (row, words))| {
+        let mut place = location(Some(*row), given, origin);
+        if id > 0 {
+            place.count("id", id);
+        }
+        place.object("message", &text(words));
+        place
+    });
+    let mut places: Vec<Object> = places.collect();
+    if places.is_empty() {
+        places.push(location(None, given, origin));
+    }
+    let related = places.split_off(1);
+    object.objects("locations", &places);
+    if !related.is_empty() {
+        object.objects("relatedLocations", &related);
+    }
+    let mut properties = Object::default();
+    if let Some(file) = origin.file {
+        properties.text("table", file);
+    }
+    properties.text("answer", &finding.answer);
+    properties.flag("proved", finding.is_proved);
+    object.object("properties", &properties);
+    object
+}
+
+fn text(text: &str) -> Object {
+    let mut message = Object::default();
+    message.text("text", text);
+    message
+}
+
+/// Where a row stands: in the program, else in the text, else in the bytes; or
+/// the file as a whole.
+fn location(row: Option<usize>, given: &Given, origin: &Origin) -> Object {
+    let mut region = Object::default();
+    let place = row.and_then(|row| given.notes.place(row));
+    let mut file = origin.file;
+    if let Some(place) = place {
+        file = Some(&place.file);
+        region.count("startLine", place.line as usize);
+        if let Some(column) = place.column {
+            region.count("startColumn", column as usize);
+        }
+    } else if let (Some(row), Some(draft)) = (row, &given.draft) {
+        let (line, column) = draft.notes.rows[row].spot;
+        region.count("startLine", line);
+        region.count("startColumn", column);
+    } else if let (Some(row), false) = (row, origin.is_hex) {
+        region.count("byteOffset", first_row(&given.table) + ROW_BYTES * row);
+        region.count("byteLength", ROW_BYTES);
+    }
+    let mut location = Object::default();
+    if let Some(file) = file {
+        location.object("physicalLocation", &physical(file, &region));
+    }
+    if let Some(row) = row {
+        let mut logical = Object::default();
+        logical.text("name", &format!("row {row}"));
+        location.objects("logicalLocations", &[logical]);
+    }
+    location
+}
+
+fn physical(file: &str, region: &Object) -> Object {
+    let mut artifact = Object::default();
+    artifact.text("uri", &uri(file));
+    let mut physical = Object::default();
+    physical.object("artifactLocation", &artifact);
+    if !region.is_empty() {
+        physical.object("region", region);
+    }
+    physical
+}
+
+/// A file's name as a reference: what has a meaning there is written by its
+/// number.
+fn uri(file: &str) -> String {
+    let mut uri = String::new();
+    if file.starts_with('/') {
+        uri += "file://";
+    }
+    for byte in file.bytes() {
+        match byte {
+            b'A'..=b'Z' | b'a'..=b'z' | b'0'..=b'9' | b'/' | b'-' | b'.' | b'_' | b'~' => {
+                uri.push(char::from(byte));
+            }
+            _ => uri += &format!("%{byte:02X}"),
+        }
+    }
+    uri
+}
+
+/// What can't be read is a notification, not a result.
+pub fn notification(file: &str, reason: &Unread) -> Object {
+    let mut notification = Object::default();
+    notification.text("level", "error");
+    notification.object("message", &text(&reason.to_string()));
+    let mut region = Object::default();
+    if let Some((line, column)) = reason.spot() {
+        region.count("startLine", line);
+        region.count("startColumn", column);
+    }
+    let mut location = Object::default();
+    location.object("physicalLocation", &physical(file, &region));
+    notification.objects("locations", &[location]);
+    notification
+}
+
+/// The log of all the results and notifications.
+pub fn log(results: &[String], notifications: &[Object]) -> String {
+    let rules = RULES.map(|(id, name, words)| {
+        let mut level = Object::default();
+        level.text("level", "error");
+        let mut rule = Object::default();
+        rule.text("id", id);
+        rule.text("name", name);
+        rule.object("shortDescription", &text(words));
+        rule.object("defaultConfiguration", &level);
+        rule
+    });
+    let mut driver = Object::default();
+    driver.text("name", "stramashly");
+    driver.text("version", env!("CARGO_PKG_VERSION"));
+    driver.objects("rules", &rules);
+    let mut tool = Object::default();
+    tool.object("driver", &driver);
+    let mut invocation = Object::default();
+    invocation.flag("executionSuccessful", notifications.is_empty());
+    if !notifications.is_empty() {
+        invocation.objects("toolExecutionNotifications", notifications);
+    }
+    let mut run = Object::default();
+    run.object("tool", &tool);
+    run.objects("invocations", &[invocation]);
+    run.text("columnKind", "unicodeCodePoints");
+    run.written("results", &format!("[{}]", results.join(",")));
+    let mut log = Object::default();
+    log.text("$schema", "https://json.schemastore.org/sarif-2.1.0.json");
+    log.text("version", "2.1.0");
+    log.objects("runs", &[run]);
+    format!("{log}\n")
+}
+
+#[cfg(test)]
+mod tests {
+    use super::uri;
+
+    #[test]
+    fn names_are_references() {
+        assert_eq!(uri("a/b.comp"), "a/b.comp");
+        assert_eq!(uri("/a b%.comp"), "file:///a%20b%25.comp");
+        assert_eq!(uri("c:\\ä"), "c%3A%5C%C3%A4");
+    }
+}

@@ -1,0 +1,85 @@
+//! What a check found, one finding after the other, for tools that list them:
+//! the proved answer first, then the other races, by the second implementation.
+
+use crate::account::Checked;
+use crate::explain::{shown, Shown};
+use crate::goal::Goal;
+use crate::headline::headline;
+use crate::judge::Judge;
+use crate::notes::Notes;
+use crate::race::races;
+use crate::refusal;
+use crate::run::Run;
+use second::{State, CYCLE_NUMBERS, WORK_WORDS};
+
+/// One thing that was found.
+#[derive(Clone, Debug, PartialEq, Eq)]
+pub struct Finding {
+    /// What a check answers of it.
+    pub answer: String,
+    /// A sentence, and more of a refusal.
+    pub message: String,
+    /// The rows that it is about, each with its description.
+    pub rows: Vec<(usize, String)>,
+    /// Whether it is the proved library's own answer.
+    pub is_proved: bool,
+}
+
+/// What a check of the table found; nothing of a race-free one.
+pub fn findings(table: &[u8], notes: &Notes, checker: &mut dyn Judge) -> Vec<Finding> {
+    let mut state = State::new();
+    let second = state.check_with(checker.chains(), table, WORK_WORDS, CYCLE_NUMBERS);
+    let run = Run::of(table).noted(notes);
+    let checked = Checked {
+        table,
+        state: &state,
+        run: &run,
+    };
+    let given = checker.check(table);
+    let (answer, shown) = (given.to_string(), shown(checked, given));
+    let finding = |answer: String, shown: &Shown, is_proved| Finding {
+        answer,
+        message: message(table, shown),
+        rows: described(&run, shown),
+        is_proved,
+    };
+    match shown {
+        Shown::Nothing => Vec::new(),
+        Shown::Race(goal) => {
+            let is_agreed = second.to_string() == answer;
+            let mut found = vec![finding(answer, &shown, true)];
+            let others = races(checked).into_iter().filter(|other| *other != goal);
+            let others = others.filter(|_| is_agreed).map(|other| {
+                let Goal {
+                    first,
+                    second,
+                    byte,
+                } = other;
+                let answer = format!("race {first} {second} {byte}");
+                finding(answer, &Shown::Race(other), false)
+            });
+            found.extend(others);
+            found
+        }
+        _ => vec![finding(answer, &shown, true)],
+    }
+}
+
+fn message(table: &[u8], shown: &Shown) -> String {
+    let headline = headline(shown);
+    match shown {
+        Shown::Refused { number, row } => {
+            let lines = refusal::lines(table, *number, *row);
+            let lines: Vec<&str> = lines.iter().map(|line| line.trim()).collect();
+            format!("{headline}. {}", lines.join(" "))
+        }
+        _ => format!("{headline}."),
+    }
+}
+
+/// The rows and what they are; of a refused table they may not be whole.
+fn described(run: &Run, shown: &Shown) -> Vec<(usize, String)> {
+    let rows = shown.rows().into_iter();
+    let rows = rows.filter(|row| *row < run.rows.len());
+    rows.map(|row| (row, run.described(row))).collect()
+}

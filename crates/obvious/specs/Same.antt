@@ -23,7 +23,8 @@ use Rattle.model.specs.Check as verdict
 use Rattle.model.specs.Check.{Verdict, check, checkAnswer, cycleAfter, cycleNumber}
 use Rattle.model.specs.Fill as outcome
 use Rattle.model.specs.Fill.{Outcome, fill, fillAnswer, sourcesAfter}
-use Rattle.model.specs.Race.{raceRow, racePartner, raceByte}
+use Rattle.model.specs.Race.{raceRow}
+use Rattle.model.specs.Edge.{consistent}
 use Rattle.pieces.specs.Entry.{left-same}
 use Rattle.verdict.specs.Whole.{Said}
 use Rattle.filling.specs.Whole.{Filled}
@@ -79,7 +80,7 @@ begins f n x y k l =
 
 -- ---- laws: the cycle
 
-cycles : CheckAnswer → ℕ
+abbrev cycles : CheckAnswer → ℕ
 cycles (checks.Cycle l) = 1
 cycles (checks.Refused n i) = 0
 cycles (checks.Overwritten y z b) = 0
@@ -99,7 +100,7 @@ cycle-same verdict.raceFree h c e k l = no-cycle checks.RaceFree refl h
 
 -- ---- laws: the sources
 
-fillings : FillAnswer → ℕ
+abbrev fillings : FillAnswer → ℕ
 fillings fills.Filled = 1
 fillings (fills.Refused n i) = 0
 fillings (fills.Race x y b) = 0
@@ -132,10 +133,13 @@ sources-either : (n : ℕ) (b : Bool) (x y : Outcome) → Sources n x → Source
 sources-either n true x y f g = f
 sources-either n false x y f g = g
 
+sources-chosen : (t : Table) (source : ℕ → ℕ) → Sources (t .rows) (outcome.filledOr outcome.none t source)
+unfolding outcome.filledOr
+sources-chosen t source = sources-either (t .rows) (outcome.sourcesFit t source and consistent t source) _ _ (sources-filled source (t .rows)) (sources-none (t .rows))
+
 sources-outcome : (t : Table) (source : ℕ → ℕ) → Sources (t .rows) (outcome.outcome t source)
-unfolding outcome.outcome outcome.racingOr outcome.filledOr
-sources-outcome t source =
-    sources-either (t .rows) (ltb (raceRow t) (t .rows)) _ _ (sources-race (t .rows) _ _ _) (sources-either (t .rows) _ _ _ (sources-filled (outcome.chosen t source) (t .rows)) (sources-none (t .rows)))
+unfolding outcome.outcome outcome.racingOr
+sources-outcome t source = sources-either (t .rows) (ltb (raceRow t) (t .rows)) _ _ (sources-race (t .rows) _ _ _) (sources-chosen t (outcome.chosen t source))
 
 sources-same : (chains : Bool) (s : List ℕ) → Sources (rowsAt s) (filledOf chains s)
 unfolding outcome.admittedFill tableUnder decode
@@ -149,8 +153,8 @@ sources-same chains s = go (admission true s)
 
 module _ (chains : Bool) (s w x c b : List ℕ) {u v d e : List ℕ} where
   pub check-alike : {r q : CheckAnswer} → LongEnough CYCLE w c → LongEnough CYCLE x b → Checked chains s r w u c d → Checked chains s q x v b e
-      → (r ≡ q) × ({n : ℕ} → r ≡ checks.Cycle n → (k : ℕ) → k < CYCLE → getD d k 0 ≡ getD e k 0)
-  check-alike {r} {q} long wide h g = (one .0 ∙ sym (two .0), λ a k l. at a k l)
+      → (r ≡ q) × ((n : ℕ) → r ≡ checks.Cycle n → (k : ℕ) → k < CYCLE → getD d k 0 ≡ getD e k 0)
+  check-alike {r} {q} long wide h g = (one .0 ∙ sym (two .0), at)
     where
       one : Said (saidOf chains s) r w u c d
       one = left-same checkAnswer verdict.workAfter cycleAfter (sym (check-is chains s w c long)) h
@@ -158,12 +162,12 @@ module _ (chains : Bool) (s w x c b : List ℕ) {u v d e : List ℕ} where
       two : Said (saidOf chains s) q x v b e
       two = left-same checkAnswer verdict.workAfter cycleAfter (sym (check-is chains s x b wide)) g
 
-      at : {n : ℕ} → r ≡ checks.Cycle n → (k : ℕ) → k < CYCLE → getD d k 0 ≡ getD e k 0
-      at a k l = rw (one .2, two .2) (cycle-same (saidOf chains s) (sym (one .0) ∙ a) c b k l)
+      at : (n : ℕ) → r ≡ checks.Cycle n → (k : ℕ) → k < CYCLE → getD d k 0 ≡ getD e k 0
+      at n a k l = rw (one .2, two .2) (cycle-same (saidOf chains s) (sym (one .0) ∙ a) c b k l)
 
   pub fill-alike : {r q : FillAnswer} → LongEnough SOURCES w c → LongEnough SOURCES x b → FilledBy chains s r w u c d → FilledBy chains s q x v b e
       → (r ≡ q) × (r ≡ fills.Filled → (k : ℕ) → k < rowsAt s → getD d k 0 ≡ getD e k 0)
-  fill-alike {r} {q} long wide h g = (one .0 ∙ sym (two .0), λ a k l. at a k l)
+  fill-alike {r} {q} long wide h g = (one .0 ∙ sym (two .0), at)
     where
       one : Filled (filledOf chains s) r w u c d
       one = left-same fillAnswer outcome.workAfter sourcesAfter (sym (fill-is chains s w c long)) h

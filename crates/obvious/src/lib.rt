@@ -2,7 +2,7 @@
 // whose contracts are the same, equation for equation (law file `Same`).
 ghost use mathlib.Core.Path.{_≡_};
 ghost use mathlib.Core.Bool.{true, false};
-ghost use Prim.Native.Nat.{ℕ, _≤_, _<_};
+ghost use Prim.Native.Nat.{_≤_};
 ghost use lib.ListN.{length};
 ghost use Rattle.model.specs.Limits.{WORK, CYCLE, SOURCES};
 ghost use Rattle.model.specs.Table.{decode, sourceOf};

@@ -9,23 +9,23 @@ use Rattle.obvious.proofs.check.Reads as reads
 use Rattle.obvious.proofs.check.Lts as lts
 use Rattle.obvious.proofs.check_both.Reads as check-both-reads
 
--- src/lib.rt:76:23
+-- src/lib.rt:80:23
 slice-aggregate-check-both : tie.Need-slice-aggregate-check-both
 slice-aggregate-check-both c = search needs
 
--- src/lib.rt:76:5
+-- src/lib.rt:80:5
 check-both-requires : tie.Need-check-both-requires
 check-both-requires c κs = search needs
 
--- src/lib.rt:71:1
+-- src/lib.rt:75:1
 same-length : tie.Need-same-length
 same-length c = search needs
 
--- src/lib.rt:71:1
+-- src/lib.rt:75:1
 same-length-2 : tie.Need-same-length-2
 same-length-2 c = search needs
 
--- src/lib.rt:71:1
+-- src/lib.rt:75:1
 returns : tie.Need-returns
 returns c = left-same checkAnswer workAfter cycleAfter (sym (none-check _ _ _ _)) (c .before .before .before .before .check-both .ensures)
 

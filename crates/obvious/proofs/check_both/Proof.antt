@@ -18,56 +18,56 @@ use Rattle.obvious.proofs.judge_rows.Reads as judge-rows-reads
 open-both-requires : tie.Need-open-both-requires
 open-both-requires c κs = search needs
 
--- src/lib.rt:54:1
+-- src/lib.rt:56:15
 enum-known-a : tie.Need-enum-known-a
 enum-known-a c = search needs
 
--- src/lib.rt:55:13
+-- src/lib.rt:59:13
 enum-told : tie.Need-enum-told
 enum-told c = search needs
 
--- src/lib.rt:55:13
+-- src/lib.rt:59:13
 refusal-of-requires : tie.Need-refusal-of-requires
 refusal-of-requires c κs = search needs
 
--- src/lib.rt:56:9
+-- src/lib.rt:60:9
 returns : tie.Need-returns
 returns c = said-refused _ _ _ _ _ _ (c .before .before .before .open-both .ensures) _ (c .before .enum-told .given .1) (c .refusal-of .ensures)
 
--- src/lib.rt:61:13
+-- src/lib.rt:65:13
 cast-n : tie.Need-cast-n
 cast-n c = search needs
 
--- src/lib.rt:62:9
+-- src/lib.rt:66:9
 read-places-requires : tie.Need-read-places-requires
 read-places-requires c κs = search needs
 
--- src/lib.rt:63:9
+-- src/lib.rt:67:9
 read-mode-requires : tie.Need-read-mode-requires
 read-mode-requires c κs = search needs
 
--- src/lib.rt:64:1
+-- src/lib.rt:68:15
 join-rows-requires : tie.Need-join-rows-requires
 join-rows-requires c κs = search needs
 
--- src/lib.rt:65:15
+-- src/lib.rt:69:15
 mul-end : tie.Need-mul-end
 mul-end c = search needs
 
--- src/lib.rt:66:16
+-- src/lib.rt:70:16
 array-share-prefix-all : tie.Need-array-share-prefix-all
 array-share-prefix-all c =
     let few = door-few _ _ _ _ _ _ _ (c .before .before .before .before .before .before .open-both .ensures) (c .before .before .before .before .a .given .1) in
     let long = copy-length _ _ (c .join-rows .ensures) in
     omega arith
 
--- src/lib.rt:66:16
+-- src/lib.rt:70:16
 slice-aggregate-judge-rows : tie.Need-slice-aggregate-judge-rows
 slice-aggregate-judge-rows c =
     let few = door-few _ _ _ _ _ _ _ (c .before .before .before .before .before .before .before .open-both .ensures) (c .before .before .before .before .before .a .given .1) in
     front-length _ _ _ (c .before .join-rows .ensures) (omega arith)
 
--- src/lib.rt:66:5
+-- src/lib.rt:70:5
 judge-rows-requires : tie.Need-judge-rows-requires
 judge-rows-requires c κs =
     let at = c .before .before .before in

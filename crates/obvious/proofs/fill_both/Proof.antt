@@ -18,56 +18,56 @@ use Rattle.rows.proofs.scopes.read_places.Reads as read-places-reads
 open-both-requires : tie.Need-open-both-requires
 open-both-requires c κs = search needs
 
--- src/lib.rt:117:1
+-- src/lib.rt:126:15
 enum-known-a : tie.Need-enum-known-a
 enum-known-a c = search needs
 
--- src/lib.rt:118:13
+-- src/lib.rt:129:13
 enum-told : tie.Need-enum-told
 enum-told c = search needs
 
--- src/lib.rt:118:13
+-- src/lib.rt:129:13
 refusal-of-requires : tie.Need-refusal-of-requires
 refusal-of-requires c κs = search needs
 
--- src/lib.rt:119:9
+-- src/lib.rt:130:9
 returns : tie.Need-returns
 returns c = filled-refused _ _ _ _ _ _ (c .before .before .before .open-both .ensures) _ (c .before .enum-told .given .1) (c .refusal-of .ensures)
 
--- src/lib.rt:124:13
+-- src/lib.rt:135:13
 cast-n : tie.Need-cast-n
 cast-n c = search needs
 
--- src/lib.rt:125:9
+-- src/lib.rt:136:9
 read-places-requires : tie.Need-read-places-requires
 read-places-requires c κs = search needs
 
--- src/lib.rt:126:9
+-- src/lib.rt:137:9
 read-mode-requires : tie.Need-read-mode-requires
 read-mode-requires c κs = search needs
 
--- src/lib.rt:127:1
+-- src/lib.rt:138:15
 join-rows-requires : tie.Need-join-rows-requires
 join-rows-requires c κs = search needs
 
--- src/lib.rt:128:1
+-- src/lib.rt:139:15
 mul-end : tie.Need-mul-end
 mul-end c = search needs
 
--- src/lib.rt:129:15
+-- src/lib.rt:140:15
 array-share-prefix-all : tie.Need-array-share-prefix-all
 array-share-prefix-all c =
     let few = door-few _ _ _ _ _ _ _ (c .before .before .before .before .before .before .open-both .ensures) (c .before .before .before .before .a .given .1) in
     let long = copy-length _ _ (c .join-rows .ensures) in
     omega arith
 
--- src/lib.rt:129:15
+-- src/lib.rt:140:15
 slice-aggregate-fill-rows : tie.Need-slice-aggregate-fill-rows
 slice-aggregate-fill-rows c =
     let few = door-few _ _ _ _ _ _ _ (c .before .before .before .before .before .before .before .open-both .ensures) (c .before .before .before .before .before .a .given .1) in
     front-length _ _ _ (c .before .join-rows .ensures) (omega arith)
 
--- src/lib.rt:129:5
+-- src/lib.rt:140:5
 fill-rows-requires : tie.Need-fill-rows-requires
 fill-rows-requires c κs =
     let at = c .before .before .before in

@@ -24,11 +24,11 @@ use model::FillAnswer;
 use model::Reason;
 use model::ReportAnswer;
 use model::Share;
+use pieces::RowPlace;
 use rows::bytes;
 use stepping::Step;
 use writer::WriteAnswer;
 use writer::encode;
-use pieces::RowPlace;
 
 // The class set that says program order, where a caller can hand in no enum.
 const PROGRAM_ORDER: u8 = 16;

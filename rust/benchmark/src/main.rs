@@ -1,17 +1,23 @@
 //! Times both implementations on 1,000 tables of 128 rows, or of so many as it
-//! is told, in one process and one thread, and prints a page of Markdown.
+//! is told, or on one table of each dear family, in one process and one thread,
+//! and prints a page of Markdown.
 
+mod families;
 mod memory;
 mod times;
 mod work;
 
 use std::env;
+use std::fmt::Display;
 use std::process::ExitCode;
+use stramashly::Checker;
 use tables::MAX_ROWS;
 use times::Times;
 use work::{Verdict, Work};
 
-const USAGE: &str = "usage: benchmark [REPETITIONS [ROWS]]";
+const USAGE: &str = "usage: benchmark [REPETITIONS [ROWS]] | benchmark families [REPETITIONS]";
+/// Asks for the families.
+const FAMILIES: &str = "families";
 const SEED: u64 = 64;
 const REPETITIONS: usize = 5;
 /// Fewer rows don't have every verdict.
@@ -23,11 +29,10 @@ fn main() -> ExitCode {
     let result = match words.as_slice() {
         [] => run(REPETITIONS, MAX_ROWS),
         [memory::WORD, implementation] => memory::measure(implementation),
-        [repetitions] => asked(repetitions, MAX_ROWS),
-        [repetitions, rows] => match rows.parse() {
-            Ok(rows) => asked(repetitions, rows),
-            Err(_) => Err(USAGE.to_string()),
-        },
+        [FAMILIES] => print_families(REPETITIONS),
+        [FAMILIES, repetitions] => number(repetitions).and_then(print_families),
+        [repetitions] => number(repetitions).and_then(|repetitions| run(repetitions, MAX_ROWS)),
+        [repetitions, rows] => asked(repetitions, rows),
         _ => Err(USAGE.to_string()),
     };
     match result {
@@ -39,18 +44,25 @@ fn main() -> ExitCode {
     }
 }
 
-fn asked(repetitions: &str, rows: usize) -> Result<(), String> {
-    match repetitions.parse() {
-        Ok(repetitions) if repetitions > 0 && (LEAST_ROWS..=MAX_ROWS).contains(&rows) => {
-            run(repetitions, rows)
-        }
+/// How often, from 1 on.
+fn number(word: &str) -> Result<usize, String> {
+    match word.parse() {
+        Ok(number) if number > 0 => Ok(number),
         _ => Err(USAGE.to_string()),
     }
 }
 
+fn asked(repetitions: &str, rows: &str) -> Result<(), String> {
+    let rows = number(rows)?;
+    if !(LEAST_ROWS..=MAX_ROWS).contains(&rows) {
+        return Err(USAGE.to_string());
+    }
+    run(number(repetitions)?, rows)
+}
+
 fn run(repetitions: usize, rows: usize) -> Result<(), String> {
     let work = Work::generate(SEED, rows);
-    work.agree()?;
+    work::agree(work.all())?;
     let times = Times::take(&work, repetitions);
     print_times(&work, &times, repetitions, rows);
     print_memory(&work)
@@ -65,17 +77,33 @@ fn print_times(work: &Work, times: &Times, repetitions: usize, rows: usize) {
     println!("|---|---|---|---|---|");
     for verdict in Verdict::ALL {
         let count = work.of(verdict).len();
-        print_line(verdict.name(), count, times.of(verdict));
+        print_line(verdict.name(), count, count, times.of(verdict));
     }
-    print_line("all", count, times.in_all());
+    print_line("all", count, count, times.in_all());
 }
 
 /// One line; the times are in nanoseconds of all its tables.
-fn print_line(name: &str, count: usize, (ours, second): (u128, u128)) {
+fn print_line(name: &str, what: impl Display, count: usize, (ours, second): (u128, u128)) {
     let each = |time: u128| time as f64 / 1000.0 / count as f64;
     let ratio = second as f64 / ours as f64;
     let (ours, second) = (each(ours), each(second));
-    println!("| {name} | {count} | {ours:.1} | {second:.1} | {ratio:.2} |");
+    println!("| {name} | {what} | {ours:.1} | {second:.1} | {ratio:.2} |");
+}
+
+fn print_families(repetitions: usize) -> Result<(), String> {
+    println!("Checks of a table of {MAX_ROWS} rows of each family, release build, one thread;");
+    println!("microseconds, median of {repetitions} repetitions.");
+    println!();
+    println!("| family | answer | ours | second | second ÷ ours |");
+    println!("|---|---|---|---|---|");
+    for (name, table) in families::all() {
+        let table = table.bytes();
+        work::agree([&table])?;
+        let answer = Checker::new().check(&table).to_string();
+        let word = answer.split(' ').next().unwrap_or_default();
+        print_line(name, word, 1, times::of_table(&table, repetitions));
+    }
+    Ok(())
 }
 
 fn print_memory(work: &Work) -> Result<(), String> {

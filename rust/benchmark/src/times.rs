@@ -12,22 +12,9 @@ pub struct Times {
 }
 
 impl Times {
-    /// Both take turns, so that a slower moment of the machine meets both.
     pub fn take(work: &Work, repetitions: usize) -> Times {
-        let mut checker = Checker::new();
-        let mut state = State::new();
-        let mut once = || {
-            Verdict::ALL.map(|verdict| {
-                let tables = work.of(verdict);
-                let ours = time(tables, |table| {
-                    black_box(checker.check(table));
-                });
-                let second = time(tables, |table| {
-                    black_box(state.check(table, WORK_WORDS, CYCLE_NUMBERS));
-                });
-                (ours, second)
-            })
-        };
+        let mut both = Both::new();
+        let mut once = || Verdict::ALL.map(|verdict| both.time(work.of(verdict)));
         Times {
             repetitions: (0..repetitions).map(|_| once()).collect(),
         }
@@ -48,6 +35,41 @@ impl Times {
         let parts: Vec<(u128, u128)> = self.repetitions.iter().map(part).collect();
         let (ours, second) = parts.into_iter().unzip();
         (median(ours), median(second))
+    }
+}
+
+/// Nanoseconds for one table, ours and the second one's.
+pub fn of_table(table: &[u8], repetitions: usize) -> (u128, u128) {
+    let mut both = Both::new();
+    let table = [table.to_vec()];
+    let times = (0..repetitions).map(|_| both.time(&table));
+    let (ours, second) = times.unzip();
+    (median(ours), median(second))
+}
+
+/// Both implementations, with their buffers.
+struct Both {
+    checker: Checker,
+    state: State,
+}
+
+impl Both {
+    fn new() -> Both {
+        Both {
+            checker: Checker::new(),
+            state: State::new(),
+        }
+    }
+
+    /// Both take turns, so that a slower moment of the machine meets both.
+    fn time(&mut self, tables: &[Vec<u8>]) -> (u128, u128) {
+        let ours = time(tables, |table| {
+            black_box(self.checker.check(table));
+        });
+        let second = time(tables, |table| {
+            black_box(self.state.check(table, WORK_WORDS, CYCLE_NUMBERS));
+        });
+        (ours, second)
     }
 }
 

@@ -87,19 +87,19 @@ impl Work {
     pub fn total(&self) -> usize {
         self.all().count()
     }
+}
 
-    /// Times mean nothing where the answers differ.
-    pub fn agree(&self) -> Result<(), String> {
-        let mut state = State::new();
-        let mut checker = Checker::new();
-        for table in self.all() {
-            let ours = checker.check(table).to_string();
-            let expected = state.check(table, WORK_WORDS, CYCLE_NUMBERS).to_string();
-            if ours != expected {
-                let digits = hex(table);
-                return Err(format!("{ours} instead of {expected}: check {digits}"));
-            }
+/// Times mean nothing where the answers differ.
+pub fn agree<'a>(tables: impl IntoIterator<Item = &'a Vec<u8>>) -> Result<(), String> {
+    let mut state = State::new();
+    let mut checker = Checker::new();
+    for table in tables {
+        let ours = checker.check(table).to_string();
+        let expected = state.check(table, WORK_WORDS, CYCLE_NUMBERS).to_string();
+        if ours != expected {
+            let digits = hex(table);
+            return Err(format!("{ours} instead of {expected}: check {digits}"));
         }
-        Ok(())
     }
+    Ok(())
 }

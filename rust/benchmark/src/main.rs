@@ -1,23 +1,30 @@
 //! Times both implementations on 1,000 tables of 128 rows, or of so many as it
-//! is told, or on one table of each dear family, in one process and one thread,
-//! and prints a page of Markdown.
+//! is told, on one table of each dear family, or by rows with a picture, in one
+//! process and one thread, and prints a page of Markdown.
 
 mod families;
 mod memory;
+mod plot;
 mod times;
 mod work;
 
 use std::env;
 use std::fmt::Display;
+use std::fs;
 use std::process::ExitCode;
 use stramashly::Checker;
 use tables::MAX_ROWS;
 use times::Times;
 use work::{Verdict, Work};
 
-const USAGE: &str = "usage: benchmark [REPETITIONS [ROWS]] | benchmark families [REPETITIONS]";
+const USAGE: &str = "usage: benchmark [REPETITIONS [ROWS]]
+       benchmark families [REPETITIONS]
+       benchmark growth PICTURE.svg";
 /// Asks for the families.
 const FAMILIES: &str = "families";
+/// Asks for times by rows.
+const GROWTH: &str = "growth";
+const GROWTH_ROWS: [usize; 5] = [8, 16, 32, 64, MAX_ROWS];
 const SEED: u64 = 64;
 const REPETITIONS: usize = 5;
 /// Fewer rows don't have every verdict.
@@ -31,6 +38,7 @@ fn main() -> ExitCode {
         [memory::WORD, implementation] => memory::measure(implementation),
         [FAMILIES] => print_families(REPETITIONS),
         [FAMILIES, repetitions] => number(repetitions).and_then(print_families),
+        [GROWTH, picture] => print_growth(picture),
         [repetitions] => number(repetitions).and_then(|repetitions| run(repetitions, MAX_ROWS)),
         [repetitions, rows] => asked(repetitions, rows),
         _ => Err(USAGE.to_string()),
@@ -82,11 +90,15 @@ fn print_times(work: &Work, times: &Times, repetitions: usize, rows: usize) {
     print_line("all", count, count, times.in_all());
 }
 
+/// Microseconds a table.
+fn each(time: u128, count: usize) -> f64 {
+    time as f64 / 1000.0 / count as f64
+}
+
 /// One line; the times are in nanoseconds of all its tables.
 fn print_line(name: &str, what: impl Display, count: usize, (ours, second): (u128, u128)) {
-    let each = |time: u128| time as f64 / 1000.0 / count as f64;
     let ratio = second as f64 / ours as f64;
-    let (ours, second) = (each(ours), each(second));
+    let (ours, second) = (each(ours, count), each(second, count));
     println!("| {name} | {what} | {ours:.1} | {second:.1} | {ratio:.2} |");
 }
 
@@ -104,6 +116,23 @@ fn print_families(repetitions: usize) -> Result<(), String> {
         print_line(name, word, 1, times::of_table(&table, repetitions));
     }
     Ok(())
+}
+
+/// Once each: what is shown spans powers of ten.
+fn print_growth(picture: &str) -> Result<(), String> {
+    println!("Checks of 1,000 generated tables of so many rows, microseconds a table.");
+    println!();
+    println!("| rows | tables | ours | second | second ÷ ours |");
+    println!("|---|---|---|---|---|");
+    let mut points = Vec::new();
+    for rows in GROWTH_ROWS {
+        let work = Work::generate(SEED, rows);
+        work::agree(work.all())?;
+        let (count, times) = (work.total(), Times::take(&work, 1).in_all());
+        print_line(&rows.to_string(), count, count, times);
+        points.push((rows, each(times.0, count), each(times.1, count)));
+    }
+    fs::write(picture, plot::svg(&points)).map_err(|error| format!("{picture}: {error}"))
 }
 
 fn print_memory(work: &Work) -> Result<(), String> {

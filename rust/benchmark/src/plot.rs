@@ -33,7 +33,7 @@ pub fn svg(points: &[Point]) -> String {
         "middle",
         "rows",
     ));
-    lines.push(text(8.0, TOP + 4.0, "start", "µs"));
+    lines.push(text(8.0, TOP - 8.0, "start", "µs"));
     lines.extend(curve("ours", points, |point| point.1));
     lines.extend(curve("second", points, |point| point.2));
     lines.push("</svg>\n".to_string());

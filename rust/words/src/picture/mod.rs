@@ -20,6 +20,8 @@ use layout::{Layout, EDGE, TOP};
 
 /// Room for labels beside arrows of the last column.
 const LABEL_ROOM: i32 = 110;
+/// A letter of the headline in the widest of its fonts, rounded up.
+const HEADLINE_LETTER: i32 = 13;
 
 /// The picture as an SVG document of its own: of a large run the rows that
 /// matter, unless all are wanted.
@@ -32,7 +34,7 @@ pub fn picture(checked: Checked, answer: &str, shown: &Shown, is_all: bool) -> S
     let headline = headline(shown);
     layout.width = layout
         .width
-        .max(2 * EDGE + headline.chars().count() as i32 * 11);
+        .max(2 * EDGE + headline.chars().count() as i32 * HEADLINE_LETTER);
     let drawn = drawn(checked, &layout, shown);
     let legend = legend::entries(&drawn, shown);
     let (width, height) = (

@@ -9,5 +9,6 @@ pub mod Moved
 pub mod MovedAlike
 pub mod VerdictAlike
 pub mod Page
+pub mod PiecesPage
 pub mod Tried
 pub mod MovedRuns

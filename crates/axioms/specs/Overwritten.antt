@@ -14,7 +14,7 @@ use Rattle.model.specs.Table.{Table}
 use Rattle.model.specs.Location.{before}
 use Rattle.model.specs.Race.{nth}
 use Rattle.model.specs.Edge.{overwrites, overwritesNth, overNth, overwriting, overWriter, isOverwritten, overReader, overByte}
-use Rattle.model.specs.PairLaws.{inside-out, common-out}
+use Rattle.laws.specs.PairLaws.{inside-out, common-out}
 use Rattle.race.specs.Bytes.{Bounded}
 use Rattle.race.specs.First.{least-off}
 use Rattle.axioms.specs.declared.overwritten.Overwrite.{Overwrite}

@@ -21,7 +21,7 @@ use Rattle.model.specs.Table.{Table}
 use Rattle.model.specs.Race.{raceRow, racePartner, raceByte}
 use Rattle.model.specs.Edge.{edge, cycleRow, overReader, consistent}
 use Rattle.model.specs.Fill.{Outcome, race, none, filled, chosen, sourcesFit, filledOr, racingOr, outcome, fillAnswer, sourcesAfter}
-use Rattle.model.specs.SourceLaws.{consistent-same, fits-same}
+use Rattle.laws.specs.SourceLaws.{consistent-same, fits-same}
 use Rattle.area.specs.Regions.{EDGE, EDGE-END, GRID, LAYERS, LAYERS-END}
 use Rattle.cycle.specs.Layers.{Written}
 use Rattle.race.specs.declared.Found.{Found}

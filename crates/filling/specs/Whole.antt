@@ -20,7 +20,7 @@ use Rattle.model.specs.Race.{raceRow, racePartner, raceByte}
 use Rattle.model.specs.Edge.{consistent}
 use Rattle.model.specs.Check.{wiped}
 use Rattle.model.specs.Fill.{Outcome, refused, race, none, filled, blank, chosen, sourcesFit, filledOr, racingOr, outcome, fillAnswer, sourcesAfter, workAfter}
-use Rattle.model.specs.SourceLaws.{filled-same}
+use Rattle.laws.specs.SourceLaws.{filled-same}
 use Rattle.area.specs.Regions.{MUTUAL, LOCATED-END, EDGE, LAYERS-END}
 use Rattle.axioms.specs.Sources.{sourceIn}
 use Rattle.choice.specs.Sources.{Listed}

@@ -19,7 +19,7 @@ use Rattle.model.specs.Scope.{DEVICE, shares}
 use Rattle.model.specs.Moment.{BEFORE, AFTER, rowIn, part, itself, availabilityOf, visibilityOf, orderedRows, availability, visibility, programOrder}
 use Rattle.model.specs.Happens.{happens}
 use Rattle.model.specs.Location.{coversOf, publicWrite, availableAt, visibleAt, firstAvailable, lastVisible, broadens, narrows, availabilityChain, visibilityChain, availableBy, availableFrom, visibleBy, visibleTo, inDomain, shown, met, byDomain, carried, L3}
-use Rattle.model.specs.ChainLaws.{shares-wider, shares-right}
+use Rattle.laws.specs.ChainLaws.{shares-wider, shares-right}
 
 -- ---- definitions
 

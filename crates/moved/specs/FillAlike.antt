@@ -12,7 +12,7 @@ use Rattle.model.specs.Row.{plainRead}
 use Rattle.model.specs.Table.{Table}
 use Rattle.model.specs.Refusal.{writerFits, sourceFits, sourceBroken}
 use Rattle.model.specs.Fill.{missesAt, writtenBy, written, hidesAt, between, candidate, choice, blank, chosen, sourcesFit}
-use Rattle.model.specs.ChoiceLaws.{NoRace, Fair, candidates-same}
+use Rattle.laws.specs.ChoiceLaws.{NoRace, Fair, candidates-same}
 use Rattle.moved.specs.Renumber.{Renumbering, eqb-to, eqb-stays, ltb-to, least-to}
 use Rattle.moved.specs.Alike.{Alike, some-row}
 use Rattle.moved.specs.OrderAlike.{follows-alike}

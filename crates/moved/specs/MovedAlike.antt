@@ -15,9 +15,9 @@ use Rattle.finite.specs.Lists.{tabulate, tabulate-cong, getD-tabulate}
 use Rattle.model.specs.Limits.{AGENTS, DEPENDENCIES, INITIAL, ROWS}
 use Rattle.model.specs.Row.{atomic}
 use Rattle.model.specs.Table.{HEADER, PLACE-BYTES, ROW-BYTES, COUNTED, HOSTS-PLACE-BYTES, pairAt, versionAt, agentsAt, rowsAt, hasHosts, threeAt, fourAt, placeAt, slotAt, placesOf, modeOf, rowsBegin, rowBytes, dependencyBytes, byteOf, pairOf, rowOf, sourceOf, atomicSource, dependencyCount, dependencyFrom, dependencyTo, dependency, dependsOf, decode, tableUnder, sourcesOf}
-use Rattle.model.specs.AdmissionLaws.{Sound, dependencies-fit, rows-fit, size-fits}
-use Rattle.model.specs.FillingLaws.{begin-hosts, begin-plain, begin-header, bytes-at, bytes-past, pair-is}
-use Rattle.model.specs.RaceLaws.{Sized}
+use Rattle.laws.specs.AdmissionLaws.{Sound, dependencies-fit, rows-fit, size-fits}
+use Rattle.laws.specs.FillingLaws.{begin-hosts, begin-plain, begin-header, bytes-at, bytes-past, pair-is}
+use Rattle.laws.specs.RaceLaws.{Sized}
 use Rattle.moved.specs.Renumber.{Renumbering, to-below, eqb-to}
 use Rattle.moved.specs.Moved.{Moved}
 use Rattle.moved.specs.Alike.{Alike}

@@ -18,9 +18,9 @@ use Rattle.model.specs.Check.{admitted, check}
 use Rattle.model.specs.Fill.{Outcome, chosen, admittedFill, fill, sourcesAfter}
 use Rattle.model.specs.Fill as Fill
 use Rattle.model.specs.Words.{WellFormed}
-use Rattle.model.specs.AdmissionLaws.{Sound, admitted-sound}
-use Rattle.model.specs.FilledLaws.{Bytes}
-use Rattle.model.specs.ChoiceLaws.{NoRace}
+use Rattle.laws.specs.AdmissionLaws.{Sound, admitted-sound}
+use Rattle.laws.specs.FilledLaws.{Bytes}
+use Rattle.laws.specs.ChoiceLaws.{NoRace}
 use Rattle.promises.specs.Searches.{free-of}
 use Rattle.promises.specs.FillLaws.{fair}
 use Rattle.promises.specs.Outcomes.{settled, said-filled, say-filled}

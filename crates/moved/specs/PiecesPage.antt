@@ -12,7 +12,7 @@ use Rattle.model.specs.Refusal.{buffersFit, admission}
 use Rattle.model.specs.Words.{WellFormed}
 use Rattle.model.specs.Fill.{Outcome, sourcesAfter}
 use Rattle.model.specs.Fill as Fill
-use Rattle.model.specs.FilledLaws.{Bytes}
+use Rattle.laws.specs.FilledLaws.{Bytes}
 use Rattle.pieces.specs.Pieces.{piecesFault, joined, checkBoth, fillBoth}
 use Rattle.pieces.specs.Promise.{check-joined, fill-joined}
 use Rattle.moved.specs.Renumber.{Renumbering}

@@ -14,9 +14,9 @@ use Rattle.model.specs.Table.{Table}
 use Rattle.model.specs.Location.{common}
 use Rattle.model.specs.Race.{clash, conflict, hasRace, raceRow}
 use Rattle.model.specs.Words.{Races}
-use Rattle.model.specs.RaceLaws.{Sized, race-shown, race-none}
-use Rattle.model.specs.PairLaws.{common-sym, mutually-sym, conflict-in}
-use Rattle.model.specs.ChoiceLaws.{NoRace}
+use Rattle.laws.specs.RaceLaws.{Sized, race-shown, race-none}
+use Rattle.laws.specs.PairLaws.{common-sym, mutually-sym, conflict-in}
+use Rattle.laws.specs.ChoiceLaws.{NoRace}
 use Rattle.moved.specs.Renumber.{Renumbering, one-to-one, to-below, back-below, eqb-to}
 use Rattle.moved.specs.Alike.{Alike}
 use Rattle.moved.specs.OrderAlike.{mutually-alike}

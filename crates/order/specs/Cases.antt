@@ -18,7 +18,7 @@ use Rattle.model.specs.Table.{decode, rowOf}
 use Rattle.model.specs.Moment.{AT, rowIn, part, programOrder}
 use Rattle.model.specs.Synchronizes.{synchronizes}
 use Rattle.model.specs.Happens.{holdingOf, concernsOf, holding, concerns, bySync, toRelease, fromAcquire, holdsAll, live}
-use Rattle.model.specs.HostLaws.{step₁}
+use Rattle.laws.specs.HostLaws.{step₁}
 
 -- ---- definitions
 

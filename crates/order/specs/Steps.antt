@@ -17,7 +17,7 @@ use Rattle.model.specs.declared.Mode.{Mode}
 use Rattle.model.specs.Limits.{ROWS, WORK}
 use Rattle.model.specs.Table.{rowOf, decode}
 use Rattle.model.specs.Moment.{AT, programOrder}
-use Rattle.model.specs.HostLaws.{step₁}
+use Rattle.laws.specs.HostLaws.{step₁}
 use Rattle.area.specs.Regions.{SYNC, STEP, STEP-END, GRID, MOMENTS}
 use Rattle.sequence.specs.Known.{Synced, synced-kept}
 use Rattle.order.specs.Cases.{stepRows, holdsAt, step-read, step-ends}

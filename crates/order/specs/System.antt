@@ -20,7 +20,7 @@ use Rattle.model.specs.Limits.{ROWS, WORK}
 use Rattle.model.specs.Table.{dependency, dependsOf, decode}
 use Rattle.model.specs.Moment.{AT, rowIn, part}
 use Rattle.model.specs.Happens.{bySystem, step}
-use Rattle.model.specs.HostLaws.{step₁}
+use Rattle.laws.specs.HostLaws.{step₁}
 use Rattle.area.specs.Regions.{STEP, STEP-END, MOMENTS}
 
 -- ---- definitions

@@ -11,7 +11,7 @@ ghost use Rattle.model.specs.Limits.{ROWS, WORK};
 ghost use Rattle.model.specs.Table.{decode, rowOf};
 ghost use Rattle.model.specs.Moment.{programOrder};
 ghost use Rattle.model.specs.Happens.{holdingOf, concernsOf, step};
-ghost use Rattle.model.specs.HostLaws.{step₁};
+ghost use Rattle.laws.specs.HostLaws.{step₁};
 ghost use Rattle.area.specs.Regions.{SYNC, STEP, STEP-END, GRID, MOMENTS};
 ghost use Rattle.sequence.specs.Known.{Synced};
 ghost use Rattle.order.specs.Cases.{stepRows, holdsAt};

@@ -20,7 +20,7 @@ use Rattle.model.specs.Row.{access}
 use Rattle.model.specs.Table.{ROW-BYTES, rowsAt, rowBytes, placesOf, modeOf, rowOf, sourceOf, decode, tableUnder, tableOf, sourcesOf}
 use Rattle.model.specs.Refusal.{buffersFit, headerFault, admission}
 use Rattle.model.specs.Check.{wiped}
-use Rattle.model.specs.AdmissionLaws.{Sound, sound-admitted, admitted-sound, rows-fit, size-fits, access-end}
+use Rattle.laws.specs.AdmissionLaws.{Sound, sound-admitted, admitted-sound, rows-fit, size-fits, access-end}
 use Rattle.table.specs.Rows.{shapeFault}
 use Rattle.table.proofs.Laws.{shape-refused, header-refused}
 use Rattle.pieces.specs.declared.Refusal.{Refusal}

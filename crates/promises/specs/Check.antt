@@ -23,9 +23,9 @@ use Rattle.model.specs.Edge.{edge, edgeNumber, cycleRow, cycleRows, cycleEdges,
 use Rattle.model.specs.Refusal.{buffersFit, admission}
 use Rattle.model.specs.Check.{Verdict, cyclic, overwritten, race, raceFree, raceOr, overwrittenOr, cyclicOr, verdict, admitted, check}
 use Rattle.model.specs.Words.{Unordered, Races, Cyclic, Overwritten, Consistent, WellFormed}
-use Rattle.model.specs.AdmissionLaws.{admitted-sound, size-fits}
-use Rattle.model.specs.RaceLaws.{Sized, FirstRace, race-shown, race-none}
-use Rattle.model.specs.AxiomLaws.{FirstOverwrite, cyclic-is, overwrite-shown, overwritten-is, consistent-is}
+use Rattle.laws.specs.AdmissionLaws.{admitted-sound, size-fits}
+use Rattle.laws.specs.RaceLaws.{Sized, FirstRace, race-shown, race-none}
+use Rattle.laws.specs.AxiomLaws.{FirstOverwrite, cyclic-is, overwrite-shown, overwritten-is, consistent-is}
 use Rattle.promises.specs.Searches.{stuck}
 use Rattle.promises.specs.Cases.{Tests, decided, said-cyclic, said-overwritten, said-race, said-free, say-cyclic, say-overwritten, say-race, say-free}
 

@@ -21,11 +21,11 @@ use Rattle.model.specs.Edge.{consistent}
 use Rattle.model.specs.Refusal.{buffersFit, admission}
 use Rattle.model.specs.Fill.{Outcome, race, none, filled, chosen, sourcesFit, filledOr, racingOr, outcome, admittedFill, fill}
 use Rattle.model.specs.Words.{Unordered, Races, blankAt, Filling}
-use Rattle.model.specs.AdmissionLaws.{admitted-sound, size-fits}
-use Rattle.model.specs.RaceLaws.{Sized, FirstRace, race-shown, race-none}
-use Rattle.model.specs.ChoiceLaws.{NoRace}
-use Rattle.model.specs.FillingLaws.{under-kept}
-use Rattle.model.specs.FilledLaws.{Bytes, fillings-same}
+use Rattle.laws.specs.AdmissionLaws.{admitted-sound, size-fits}
+use Rattle.laws.specs.RaceLaws.{Sized, FirstRace, race-shown, race-none}
+use Rattle.laws.specs.ChoiceLaws.{NoRace}
+use Rattle.laws.specs.FillingLaws.{under-kept}
+use Rattle.laws.specs.FilledLaws.{Bytes, fillings-same}
 use Rattle.promises.specs.Searches.{stuck, free-of}
 use Rattle.promises.specs.Outcomes.{settled, said-race, said-filled, said-none, say-race, say-filled, say-none}
 use Rattle.promises.specs.FillLaws.{Good, forced, good-fits, good-consistent, made, made-sources, made-good}

@@ -20,13 +20,13 @@ use Rattle.model.specs.Edge.{consistent}
 use Rattle.model.specs.Refusal.{buffersFit, writerFits, sourceFits, sourceBroken, sameRankAt, rankTaken, outsideAt, begins, unfit, admission}
 use Rattle.model.specs.Fill.{Outcome, race, none, filled, blank, choice, chosen, sourcesFit, filledOr, racingOr, outcome, admittedFill, fill}
 use Rattle.model.specs.Words.{Races, Consistent, WellFormed, ConsistentBytes, blankAt, Filling}
-use Rattle.model.specs.AdmissionLaws.{Sound, sound-admitted, admitted-sound, rows-fit, size-fits, access-size, among-right}
-use Rattle.model.specs.RaceLaws.{Sized, FirstRace, race-shown, race-none}
-use Rattle.model.specs.AxiomLaws.{consistent-is, consistent-cong}
-use Rattle.model.specs.WriterLaws.{writers-ordered}
-use Rattle.model.specs.ChoiceLaws.{NoRace, Fair, choice-forced}
-use Rattle.model.specs.FillingLaws.{under-kept, source-kept}
-use Rattle.model.specs.FilledLaws.{Bytes, rank-small, filledBytes, fillings-same, filling-sound, sound-filling, filled-source, filled-filling}
+use Rattle.laws.specs.AdmissionLaws.{Sound, sound-admitted, admitted-sound, rows-fit, size-fits, access-size, among-right}
+use Rattle.laws.specs.RaceLaws.{Sized, FirstRace, race-shown, race-none}
+use Rattle.laws.specs.AxiomLaws.{consistent-is, consistent-cong}
+use Rattle.laws.specs.WriterLaws.{writers-ordered}
+use Rattle.laws.specs.ChoiceLaws.{NoRace, Fair, choice-forced}
+use Rattle.laws.specs.FillingLaws.{under-kept, source-kept}
+use Rattle.laws.specs.FilledLaws.{Bytes, rank-small, filledBytes, fillings-same, filling-sound, sound-filling, filled-source, filled-filling}
 use Rattle.promises.specs.Outcomes.{settled, said-race, said-filled, said-none, say-race, say-filled, say-none}
 
 -- ---- definitions

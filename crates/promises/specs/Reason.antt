@@ -24,9 +24,9 @@ use Rattle.model.specs.Limits.{ROWS, CHAIN, CASE, CLASS-SETS}
 use Rattle.model.specs.Table.{Table, rowsAt, tableUnder, tableOf, decode}
 use Rattle.model.specs.Moment.{AT, part, momentOf, momentIn, moment, orderedRows, programOrder}
 use Rattle.model.specs.Happens.{holding, holdingOf, bySync, toRelease, fromAcquire, bySystem, direct, step, happens}
-use Rattle.model.specs.HappensLaws.{happens-is}
+use Rattle.laws.specs.HappensLaws.{happens-is}
 use Rattle.model.specs.Words.{HappensBefore}
-use Rattle.model.specs.AdmissionLaws.{admitted-sound, rows-fit}
+use Rattle.laws.specs.AdmissionLaws.{admitted-sound, rows-fit}
 use Rattle.model.specs.Refusal.{buffersFit, admission}
 use Rattle.model.specs.Reason.{caseIn, reached, stepTo, stepHolds, stands, broken, chainHolds, accepts, twoMoments, hasChain, chainSize, lowestCase, stepNumber, chain, hasChainBy, chainOr, ours, Judged, accepted, notAccepted, judged, admittedReader, judge, Derived, word, chained, notBefore, derivedOf, admittedDerive, derive, refused}
 

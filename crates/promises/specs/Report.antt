@@ -26,11 +26,11 @@ use Rattle.model.specs.Refusal.{buffersFit}
 use Rattle.model.specs.Check.{Verdict, refused, cyclic, overwritten, race, raceFree, raceOr, overwrittenOr, cyclicOr, verdict, admitted, check, checkAnswer}
 use Rattle.model.specs.Report.{conflictMutual, conflictOrdered, conflicting, mutuals, ordered, racing, quotient, shareOf, reportOf, withShare, counted, reportAnswer, report}
 use Rattle.model.specs.Words.{Races, Consistent, WellFormed}
-use Rattle.model.specs.AdmissionLaws.{admitted-sound, rows-fit, size-fits}
-use Rattle.model.specs.RaceLaws.{Sized, races-is, race-none}
-use Rattle.model.specs.AxiomLaws.{cyclic-is, overwritten-is}
-use Rattle.model.specs.ShareLaws.{MOST, zero-float, one-float, zero-is, one-is}
-use Rattle.model.specs.ReportLaws.{Throughout, ordered-is, adds-up, counts-fit, conflicting-none, racing-none, racing-all}
+use Rattle.laws.specs.AdmissionLaws.{admitted-sound, rows-fit, size-fits}
+use Rattle.laws.specs.RaceLaws.{Sized, races-is, race-none}
+use Rattle.laws.specs.AxiomLaws.{cyclic-is, overwritten-is}
+use Rattle.laws.specs.ShareLaws.{MOST, zero-float, one-float, zero-is, one-is}
+use Rattle.laws.specs.ReportLaws.{Throughout, ordered-is, adds-up, counts-fit, conflicting-none, racing-none, racing-all}
 use Rattle.promises.specs.Searches.{stuck}
 use Rattle.promises.specs.Check.{same-verdict}
 

@@ -9,8 +9,8 @@ use borrow.Author.Tests.{ltb-false}
 use Rattle.finite.specs.Below.{least, least-is}
 use Rattle.model.specs.Table.{Table}
 use Rattle.model.specs.Race.{hasRace, raceRow}
-use Rattle.model.specs.RaceLaws.{Sized, race-none}
-use Rattle.model.specs.ChoiceLaws.{NoRace}
+use Rattle.laws.specs.RaceLaws.{Sized, race-none}
+use Rattle.laws.specs.ChoiceLaws.{NoRace}
 
 -- a search that found nothing below the bound stopped at it
 pub stuck : (t : Table) → ltb (raceRow t) (t .rows) ≡ false → raceRow t ≡ t .rows

@@ -18,7 +18,7 @@ use Rattle.model.specs.Scope.{mutually}
 use Rattle.model.specs.Location.{common, before}
 use Rattle.model.specs.Race.{conflict}
 use Rattle.model.specs.Edge.{beforeNth}
-use Rattle.model.specs.RaceLaws.{Sized, touched, common-left, common-right}
+use Rattle.laws.specs.RaceLaws.{Sized, touched, common-left, common-right}
 use Rattle.location.specs.Shared.{inBoth, lowest-at, lowest-nothing}
 use Rattle.area.specs.Regions.{LOCATION, PAIR, PAIRS}
 use Rattle.area.specs.State.{Located}

@@ -16,8 +16,8 @@ use Rattle.model.specs.Row.{touches}
 use Rattle.model.specs.Table.{Table}
 use Rattle.model.specs.Location.{common}
 use Rattle.model.specs.Race.{nth, clash, conflict, unordered, unorderedNth, raceNth, races, racesAbove, racePartner, hasRace, raceRow, raceByte}
-use Rattle.model.specs.RaceLaws.{Sized, touched, common-left}
-use Rattle.model.specs.PairLaws.{inside-out}
+use Rattle.laws.specs.RaceLaws.{Sized, touched, common-left}
+use Rattle.laws.specs.PairLaws.{inside-out}
 use Rattle.race.specs.declared.Found.{Found}
 use Rattle.race.specs.declared.Found.the-variants.{At, Nothing}
 use Rattle.race.specs.Bytes.{Bounded, mayRace, lowestByte, lowest-apart}

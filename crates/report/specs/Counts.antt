@@ -21,7 +21,7 @@ use Rattle.model.specs.Scope.{mutually}
 use Rattle.model.specs.Location.{common, before}
 use Rattle.model.specs.Race.{conflict, unorderedNth, raceNth, races}
 use Rattle.model.specs.Report.{orderedAt, orderedNth, conflictMutual, conflictOrdered, conflicting, mutuals, ordered, racing, shareOf, reportOf, withShare, counted}
-use Rattle.model.specs.ShareLaws.{MOST, divided}
+use Rattle.laws.specs.ShareLaws.{MOST, divided}
 use Rattle.race.specs.Bytes.{mayRace}
 use Rattle.report.specs.declared.pairs.Count.{Count}
 use Rattle.report.specs.declared.pairs.Count.the-variants.{Conflicting, Mutuals, Ordered, Racing}

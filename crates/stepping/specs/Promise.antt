@@ -11,7 +11,7 @@ use Rattle.model.specs.declared.Admission.{Admission}
 use Rattle.model.specs.declared.Admission.the-variants.{Admitted, Refused}
 use Rattle.model.specs.Table.{rowsAt, rowBytes, rowOf, sourceOf}
 use Rattle.model.specs.Refusal.{admission}
-use Rattle.model.specs.AdmissionLaws.{sound-admitted, admitted-sound}
+use Rattle.laws.specs.AdmissionLaws.{sound-admitted, admitted-sound}
 use Rattle.stepping.specs.declared.RowReader.{RowReader}
 use Rattle.stepping.specs.declared.Step.the-variants.{Row, End}
 use Rattle.stepping.specs.Steps.{openedPart, stepsOf}

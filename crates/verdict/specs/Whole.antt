@@ -18,7 +18,7 @@ use Rattle.model.specs.Table.{Table, ROW-BYTES, rowBytes, placesOf, modeOf, row
 use Rattle.model.specs.Race.{raceRow, racePartner, raceByte}
 use Rattle.model.specs.Edge.{cycleRow, cycleRows, cycleEdges, overReader, overWriter, overByte}
 use Rattle.model.specs.Check.{Verdict, refused, cyclic, overwritten, race, raceFree, raceOr, overwrittenOr, cyclicOr, verdict, checkAnswer, cycleAfter, workAfter, wiped}
-use Rattle.model.specs.SourceLaws.{verdict-same}
+use Rattle.laws.specs.SourceLaws.{verdict-same}
 use Rattle.area.specs.Regions.{MUTUAL, LOCATED-END, EDGE, LAYERS-END}
 use Rattle.area.specs.State.{Located}
 use Rattle.race.specs.Bytes.{Known, Bounded}

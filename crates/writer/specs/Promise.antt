@@ -18,8 +18,8 @@ use Rattle.model.specs.declared.Admission.the-variants.{Admitted, Refused}
 use Rattle.model.specs.Limits.{ROWS}
 use Rattle.model.specs.Table.{ROW-BYTES, versionAt, agentsAt, rowsAt, placeAt, placesOf, rowBytes, rowOf, sourcesOf, dependencyBytes, dependencyCount, dependencyFrom, dependencyTo}
 use Rattle.model.specs.Refusal.{dependenciesNamed, headerFault, admission}
-use Rattle.model.specs.FilledLaws.{Bytes}
-use Rattle.model.specs.AdmissionLaws.{sound-admitted, admitted-sound}
+use Rattle.laws.specs.FilledLaws.{Bytes}
+use Rattle.laws.specs.AdmissionLaws.{sound-admitted, admitted-sound}
 use Rattle.writer.specs.declared.Entry.{Entry}
 use Rattle.writer.specs.declared.Dependencies.{Dependencies}
 use Rattle.writer.specs.declared.WriteAnswer.the-variants as Answer

@@ -17,8 +17,8 @@ use Rattle.model.specs.Limits.{AGENTS, ROWS, DEPENDENCIES}
 use Rattle.model.specs.Scope.{SHADER, QUEUE, agentKind}
 use Rattle.model.specs.Table.{HEADER, PLACE-BYTES, HOSTS-PLACE-BYTES, DEPENDENCY-BYTES, ROW-BYTES, pairAt, quadAt, countAt, versionAt, zeroAt, agentsAt, rowsAt, hasHosts, threeAt, fourAt, placeAt, slotAt, placesOf, rowsBegin, rowsEnd, sizeOf, rowBytes, dependencyBytes, byteOf, pairOf, rowOf, sourceOf, dependencyCount, dependencyEnd, dependencyFrom, dependencyTo}
 use Rattle.model.specs.Refusal.{versionFits, limitsFit, lengthFits, kindOver, agentsKnown, hostsFault, headerFault}
-use Rattle.model.specs.FilledLaws.{Bytes}
-use Rattle.model.specs.AdmissionLaws.{Sound, hosts-right, agents-fit, rows-fit, dependencies-fit, length-is}
+use Rattle.laws.specs.FilledLaws.{Bytes}
+use Rattle.laws.specs.AdmissionLaws.{Sound, hosts-right, agents-fit, rows-fit, dependencies-fit, length-is}
 use Rattle.writer.specs.declared.Dependencies.{Dependencies}
 use Rattle.writer.specs.Encode.{half, withHosts, placesSize, dependenciesSize, tableSize, headerList, numberOf, placeNumber, placeByte, rowList, nothing, entryAt, entryByte, dependencyNumber, dependencyByte, placesPart, rowsPart, dependenciesPart, encode, entryOf, entriesIn, entriesOf, dependenciesOf}
 use Rattle.writer.specs.Answer.{versionKnown, countsFit, numberOver, numbersFit, dependenciesFit}

@@ -9,14 +9,14 @@ use lib.Dec.{ltb}
 use borrow.Author.Tests.{eq-eqb, eqb-true, ltb-true}
 use Rattle.finite.specs.Logic.{_and_, _or_, split, and-true, which, not-in, not-out, not-so, not-both, or-cases, or-false}
 use Rattle.finite.specs.Below.{anyBelow, any-out, any-off}
 use Rattle.model.specs.declared.Row.{Row}
 use Rattle.model.specs.Limits.{COUNTS, RUN}
 use Rattle.model.specs.Row.{ranked}
 use Rattle.model.specs.Table.{Table}
 use Rattle.model.specs.Scope.{sameLocation, age, later}
 use Rattle.model.specs.Refusal.{rival, outside, outsideAt, begins, unfit}
-use Rattle.model.specs.RunLaws.{Fits, outsideRun, beginsRun, fits, fits-in, fits-out}
-use Rattle.model.specs.RankLaws.{Ranks, InRun, ranks-plain, ranks-counted}
+use Rattle.laws.specs.RunLaws.{Fits, outsideRun, beginsRun, fits, fits-in, fits-out}
+use Rattle.laws.specs.RankLaws.{Ranks, InRun, ranks-plain, ranks-counted}
 
 -- ---- one start, length and reference
 

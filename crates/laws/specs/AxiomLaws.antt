@@ -11,15 +11,15 @@ use Rattle.finite.specs.Logic.{_and_, split, and-true}
 use Rattle.finite.specs.Below.{least, least-is, least-low}
 use Rattle.finite.specs.Closure.{reach-cong}
 use Rattle.finite.specs.Cycle.{cycle-exists, cycle-none}
 use Rattle.model.specs.declared.Row.{Row}
 use Rattle.model.specs.Limits.{LONGEST}
 use Rattle.model.specs.Row.{reads, writes}
 use Rattle.model.specs.Table.{Table}
 use Rattle.model.specs.Location.{common, before}
 use Rattle.model.specs.Race.{nth}
 use Rattle.model.specs.Edge.{readsFrom, fromReads, edge, cycleRow, overwrites, overwritesNth, overNth, overwriting, overWriter, isOverwritten, overReader, overByte, consistent}
 use Rattle.model.specs.Words.{Cyclic, Overwritten, Consistent}
-use Rattle.model.specs.RaceLaws.{Sized, touched, common-left, common-right}
+use Rattle.laws.specs.RaceLaws.{Sized, touched, common-left, common-right}
 
 -- ---- definitions
 

@@ -10,14 +10,14 @@ use borrow.Author.Tests.{ltb-true, ltb-false}
 use Rattle.finite.specs.Logic.{_and_, _or_, which, split, and-true, or-cases, or-left, or-right, not-both, not-so, not-in, not-out}
 use Rattle.finite.specs.Below.{allBelow, all-in, all-out, least, least-is}
 use Rattle.finite.specs.Count.{one, one-none, one-off, countPairs, pairs-bound, pairs-zero, pairs-off, pairs-split}
 use Rattle.model.specs.Limits.{LONGEST, ROWS}
 use Rattle.model.specs.Table.{Table}
 use Rattle.model.specs.Scope.{mutually}
 use Rattle.model.specs.Location.{common, before}
 use Rattle.model.specs.Race.{nth, conflict, unordered, unorderedNth, raceNth, races}
 use Rattle.model.specs.Report.{conflictMutual, orderedAt, orderedNth, conflictOrdered, conflicting, mutuals, ordered, racing}
-use Rattle.model.specs.RaceLaws.{Sized, touched, common-left}
-use Rattle.model.specs.ShareLaws.{MOST}
+use Rattle.laws.specs.RaceLaws.{Sized, touched, common-left}
+use Rattle.laws.specs.ShareLaws.{MOST}
 
 -- ---- definitions
 

@@ -12,15 +12,15 @@ use borrow.Author.Tests.{eqb-true, eqb-false, eq-eqb, leb-true, le-leb}
 use Rattle.finite.specs.Logic.{_and_, _or_, split, and-true, or-cases, or-left, or-right, which, not-both, not-out, bool-ext}
 use Rattle.finite.specs.Below.{anyBelow, any-in, any-out}
 use Rattle.finite.specs.Closure.{Reach, through-reach}
 use Rattle.model.specs.Row.{plain, reads}
 use Rattle.model.specs.Table.{Table, rowBytes, rowOf, modeOf, dependency, dependsOf, decode, tableUnder}
 use Rattle.model.specs.Refusal.{codesFit}
-use Rattle.model.specs.AdmissionLaws.{Sound, row-right}
+use Rattle.laws.specs.AdmissionLaws.{Sound, row-right}
 use Rattle.model.specs.Scope.{DEVICE, INVOCATION, agree, oneInstance, shares, mutually, follows}
 use Rattle.model.specs.Moment.{BEFORE, AFTER, rowIn, part, itself, availabilityOf, visibilityOf, orderedRows, availability, visibility, moment, sameAgent, programOrder}
 use Rattle.model.specs.Synchronizes.{ends, sequence, takesFrom, leads, trails, syncAtomics, carriesOut, syncFromBarrier, carriesIn, syncToBarrier, carriesOver, syncControl, passes, arrives, joins, upTo, syncBarriers, synchronizes}
 use Rattle.model.specs.Happens.{holding, concerns, bySync, toRelease, fromAcquire, bySystem, step, interThread, holdsAll, live, interThreadBy, happens}
 use Rattle.model.specs.Location.{coversOf, publicWrite, L1, L2, availableAt, visibleAt, firstAvailable, lastVisible, broader, broadens, narrows, availabilityChain, visibilityChain, availableBy, availableFrom, visibleBy, visibleTo, inDomain, shown, met, carried, byDomain, L3, systemBefore, L4, thence, onHost, availableKind, visibleKind, domainKind, seenBy, metFrom, carriedBy, reachesBy, L5, before}
 
 -- ---- definitions
 

@@ -15,17 +15,17 @@ use Rattle.finite.specs.Logic.{_and_, _or_, split, and-true, or-cases, or-off, 
 use Rattle.finite.specs.Below.{anyBelow, any-not}
 use Rattle.finite.specs.Closure.{Reach, one, more, through-reach, reach-cong}
 use Rattle.finite.specs.Lists.{tabulate, length-tabulate, getD-tabulate}
 use Rattle.model.specs.declared.Row.{Row}
 use Rattle.model.specs.Limits.{AGENTS, CLASS-SETS}
 use Rattle.model.specs.Row.{CONTROL, AVAILABLE-HOST, AVAILABLE-DEVICE, DEVICE-TO-HOST, operation}
 use Rattle.model.specs.Table.{Table, pairAt, agentsAt, rowsAt, hasHosts, threeAt, placeAt, slotAt, placesOf, rowsEnd, sizeOf, rowBytes, dependencyBytes, rowOf, dependencyCount, dependsOf, decode, modeOf, tableUnder}
 use Rattle.model.specs.Scope.{SHADER, agentKind, shader, oneInstance, shares}
 use Rattle.model.specs.Moment.{rowIn, programOrder}
 use Rattle.model.specs.Happens.{bySync, toRelease, fromAcquire, bySystem, step, happens}
 use Rattle.model.specs.Location.{L1, L2, L3, systemBefore, L4, thence, availableKind, onHost, reachesBy, L5, common, before}
 use Rattle.model.specs.Refusal.{codesFit}
-use Rattle.model.specs.HappensLaws.{happens-is}
-use Rattle.model.specs.AdmissionLaws.{Sound, length-is, row-right}
+use Rattle.laws.specs.HappensLaws.{happens-is}
+use Rattle.laws.specs.AdmissionLaws.{Sound, length-is, row-right}
 
 -- ---- definitions
 

@@ -14,16 +14,16 @@ use borrow.Author.Tests.{eqb-true, eqb-false, eq-eqb, ne-eqb, ltb-true, lt-ltb, 
 use Rattle.finite.specs.Logic.{_and_, _or_, split, and-true, or-cases, or-left, or-right, which, not-both, not-so, not-in, not-out}
 use Rattle.finite.specs.Below.{any-cong}
 use Rattle.finite.specs.Lists.{tabulate, length-tabulate, getD-tabulate}
 use Rattle.model.specs.declared.Row.{Row}
 use Rattle.model.specs.declared.Admission.the-variants.{Admitted}
 use Rattle.model.specs.Limits.{INITIAL, BLANK, ROWS}
 use Rattle.model.specs.Row.{PLAIN-READ, ATOMIC-READ, RMW, access, plainRead, reads, operation}
 use Rattle.model.specs.Table.{Table, HEADER, ROW-BYTES, pairAt, quadAt, countAt, versionAt, zeroAt, agentsAt, rowsAt, hasHosts, placesOf, rowsBegin, rowsEnd, sizeOf, rowBytes, byteOf, pairOf, rowOf, sourceOf, decode, tableUnder, tableOf, sourcesOf, dependencyBytes}
 use Rattle.model.specs.Refusal.{versionFits, limitsFit, lengthFits, agentsKnown, dependenciesFew, namesNone, dependenciesNamed, hostsFault, headerFault, kindFits, formFault, rowFault, rowFaultAt, sourceBroken, tableFault}
 use Rattle.model.specs.Fill.{blank, chosen}
 use Rattle.model.specs.Words.{blankAt, sourceBegin, Filling}
-use Rattle.model.specs.AdmissionLaws.{Sound, length-is, rows-fit, among-right, access-no-operation}
-use Rattle.model.specs.FillingLaws.{begin-header, head-kept, version-kept, hosts-kept, agents-kept, rows-kept, begin-kept, places-kept, row-kept, end-kept, rows-end-kept, count-kept, from-kept, to-kept, source-kept, table-kept, bytes-at, bytes-past, pair-is}
+use Rattle.laws.specs.AdmissionLaws.{Sound, length-is, rows-fit, among-right, access-no-operation}
+use Rattle.laws.specs.FillingLaws.{begin-header, head-kept, version-kept, hosts-kept, agents-kept, rows-kept, begin-kept, places-kept, row-kept, end-kept, rows-end-kept, count-kept, from-kept, to-kept, source-kept, table-kept, bytes-at, bytes-past, pair-is}
 
 -- ---- definitions
 

@@ -12,20 +12,20 @@ use borrow.Author.Tests.{eqb-true, eqb-false, eq-eqb, ne-eqb, ltb-true, lt-ltb, 
 use Rattle.finite.specs.Logic.{_and_, _or_, split, and-true, or-cases, or-left, or-right, which, not-both, not-so, not-in, not-out}
 use Rattle.finite.specs.Below.{anyBelow, any-in, any-out, any-off, any-not, least, least-unique}
 use Rattle.finite.specs.Closure.{Reach, one, more}
 use Rattle.model.specs.declared.Row.{Row}
 use Rattle.model.specs.Limits.{ROWS, LONGEST, INITIAL}
 use Rattle.model.specs.Row.{PLAIN-READ, PLAIN-WRITE, ATOMIC-READ, ATOMIC-WRITE, RMW, access, atomic, plainRead, reads, writes, ranked, inside, touches, covers, overlap}
 use Rattle.model.specs.Table.{Table}
 use Rattle.model.specs.Scope.{mutualRows, mutually, later, laterWriter, follows}
 use Rattle.model.specs.Location.{common, before}
 use Rattle.model.specs.Race.{nth}
 use Rattle.model.specs.Edge.{beforeNth, beforeSome, readsFrom, fromReads, edge, overwrites}
-use Rattle.model.specs.WriterLaws.{Rivals, Ordered}
+use Rattle.laws.specs.WriterLaws.{Rivals, Ordered}
 use Rattle.model.specs.Refusal.{writerFits, sameRank, sameRankAt, rankTaken}
 use Rattle.model.specs.Fill.{missesAt, writtenBy, written, hidesAt, between, candidate, choice}
 use Rattle.model.specs.Words.{Races, Cyclic, Overwritten, Consistent}
-use Rattle.model.specs.RaceLaws.{Sized, touched}
-use Rattle.model.specs.PairLaws.{inside-in, inside-out, overlap-is, common-in, common-out, common-sym, either-way, mutually-sym, mutual-sym}
+use Rattle.laws.specs.RaceLaws.{Sized, touched}
+use Rattle.laws.specs.PairLaws.{inside-in, inside-out, overlap-is, common-in, common-out, common-sym, either-way, mutually-sym, mutual-sym}
 
 -- ---- definitions
 

@@ -1,0 +1,16 @@
+pub mod HappensLaws
+pub mod FillingLaws
+pub mod AdmissionLaws
+pub mod RaceLaws
+pub mod AxiomLaws
+pub mod PairLaws
+pub mod HostLaws
+pub mod ChainLaws
+pub mod RankLaws
+pub mod RunLaws
+pub mod WriterLaws
+pub mod ChoiceLaws
+pub mod FilledLaws
+pub mod SourceLaws
+pub mod ShareLaws
+pub mod ReportLaws

@@ -1,11 +1,11 @@
 // Numbers, rows and sources out of the bytes of a table. Each reader is total: past the end a byte is 0.
 ghost use mathlib.Core.Path.{_≡_};
-ghost use Prim.Native.Nat.{_≤_};
-ghost use lib.ListN.{getD};
+ghost use Prim.Native.Nat.{_+_, _*_, _≤_, _<_};
+ghost use lib.ListN.{getD, length};
 ghost use Rattle.finite.specs.Lists.{tabulate};
 ghost use Rattle.model.specs.Limits.{DEPENDENCIES};
 ghost use Rattle.model.specs.Table.{pairAt, quadAt, agentsAt, rowsAt, hasHosts, rowsBegin, rowsEnd, rowBytes, dependencyBytes, dependencyEnd, dependencyFrom, dependencyTo};
-ghost use Rattle.model.specs.Table.{byteOf, pairOf, rowOf, sourceOf, atomicSource};
+ghost use Rattle.model.specs.Table.{ROW-BYTES, byteOf, pairOf, rowOf, sourceOf, atomicSource};
 use crate::kinds;
 use model::Row;
 use model::Source;
@@ -148,7 +148,44 @@ pub fn row_pair(rows: &[u8], i: u16, k: u8) -> u16
     pair_at(rows, (i as usize) * ROW_BYTES + (k as usize))
 }
 
-pub fn read_row(rows: &[u8], i: u16) -> Row
+// The byte at a place that has one, and the two bytes.
+fn byte_inside(s: &[u8], at: usize) -> u8
+    requires { ⌜ at < length (now s) ⌝ }
+    ensures { λ r. ⌜ r ≡ getD (now (s .entry)) at 0 ⌝ }
+{
+    s[at]
+}
+
+fn pair_inside(s: &[u8], at: usize) -> u16
+    requires { ⌜ at + 2 ≤ length (now s) ⌝ }
+    ensures { λ r. ⌜ r ≡ pairAt (now (s .entry)) at ⌝ }
+{
+    (byte_inside(s, at) as u16) * 256 + (byte_inside(s, at + 1) as u16)
+}
+
+// Row i where all of its bytes are there: none of them is asked for.
+fn row_inside(rows: &[u8], i: u16) -> Row
+    requires { ⌜ i * ROW-BYTES + ROW-BYTES ≤ length (now rows) ⌝ }
+    ensures { λ r. ⌜ r ≡ rowOf (now (rows .entry)) i ⌝ }
+{
+    let at = (i as usize) * ROW_BYTES;
+    Row {
+        kind: byte_inside(rows, at + 0),
+        agent: byte_inside(rows, at + 1),
+        order: byte_inside(rows, at + 2),
+        scope: byte_inside(rows, at + 3),
+        classes: byte_inside(rows, at + 4),
+        flags: byte_inside(rows, at + 5),
+        class: byte_inside(rows, at + 6),
+        size: byte_inside(rows, at + 7),
+        start: pair_inside(rows, at + 8),
+        reference: pair_inside(rows, at + 10),
+        rank: pair_inside(rows, at + 14),
+    }
+}
+
+// Row i where some may not be.
+fn row_beyond(rows: &[u8], i: u16) -> Row
     ensures { λ r. ⌜ r ≡ rowOf (now (rows .entry)) i ⌝ }
 {
     Row {
@@ -164,6 +201,15 @@ pub fn read_row(rows: &[u8], i: u16) -> Row
         reference: row_pair(rows, i, 10),
         rank: row_pair(rows, i, 14),
     }
+}
+
+pub fn read_row(rows: &[u8], i: u16) -> Row
+    ensures { λ r. ⌜ r ≡ rowOf (now (rows .entry)) i ⌝ }
+{
+    if (i as usize) * ROW_BYTES + ROW_BYTES <= rows.len() {
+        return row_inside(rows, i);
+    }
+    row_beyond(rows, i)
 }
 
 // Row i's agent alone, where the rest of the row is not asked.

@@ -1,10 +1,11 @@
 // Agents' places (a term of our own), the scopes that two agents share, and mutually-ordered rows.
 ghost use mathlib.Core.Path.{_≡_};
-ghost use mathlib.Core.List.{[]};
-ghost use Prim.Native.Nat.{_+_, _*_, _<_};
+ghost use mathlib.Core.List.{List, []};
+ghost use Prim.Native.Nat.{ℕ, _+_, _*_, _<_};
 ghost use lib.ListN.{getD};
 ghost use Rattle.model.specs.Table.{threeAt, fourAt, slotAt, placesOf, modeOf};
-ghost use Rattle.model.specs.Scope.{agentKind, shader, host, agree, oneInstance, shares, together, sameLocation, mutualRows, age, later, laterWriter};
+ghost use Rattle.model.specs.Scope.{agentKind, shader, host, oneInstance, shares, together, sameLocation, mutualRows, age, later, laterWriter};
+ghost use Rattle.rows.specs.Places.{IsPlace};
 use crate::bytes;
 use crate::kinds;
 use model::Mode;
@@ -111,11 +112,12 @@ fn place_number(p: Places, a: u8, k: usize) -> u16
     if i < model::AGENTS { p[i][k] } else { 0 }
 }
 
-fn agree(p: Places, k: usize, a: u8, b: u8) -> bool
-    requires { ⌜ k < 4 ⌝ }
-    ensures { λ r. ⌜ r ≡ agree p k a b ⌝ }
+// The place of agent a as numbers of their own, zeros for an agent that there is no slot for.
+fn place_at(p: Places, a: u8) -> [u16; 4]
+    ensures { λ x. ⌜ IsPlace p a x ⌝ }
 {
-    place_number(p, a, k) == place_number(p, b, k)
+    let i = a as usize;
+    if i < model::AGENTS { p[i] } else { [0; 4] }
 }
 
 // ---- scopes
@@ -139,13 +141,13 @@ pub fn is_host(p: Places, a: u8) -> bool
     agent_kind(p, a) == HOST
 }
 
-// Whether one instance of the scope holds two agents, by their places.
-fn one_instance(p: Places, scope: u8, a: u8, b: u8) -> bool
-    ensures { λ r. ⌜ r ≡ oneInstance p scope a b ⌝ }
+// Whether one instance of the scope holds two agents, whose places are x and y.
+fn one_instance(scope: u8, a: u8, b: u8, x: [u16; 4], y: [u16; 4]) -> bool
+    ensures { λ r. ⌜ ((p : List (List ℕ)) → IsPlace p a x → IsPlace p b y → r ≡ oneInstance p scope a b) ⌝ }
 {
-    let family = agree(p, 0, a, b);
-    let workgroup = agree(p, 1, a, b);
-    let subgroup = agree(p, 2, a, b);
+    let family = x[0] == y[0];
+    let workgroup = x[1] == y[1];
+    let subgroup = x[2] == y[2];
     (scope == DEVICE)
         | (scope == FAMILY) & family
         | (scope == WORKGROUP) & family & workgroup
@@ -153,18 +155,27 @@ fn one_instance(p: Places, scope: u8, a: u8, b: u8) -> bool
         | (scope == INVOCATION) & (a == b)
 }
 
-// Whether two agents share the scope: scopes hold between shader agents only.
+// Whether they share the scope: scopes hold between shader agents only.
+fn shares_by(scope: u8, a: u8, b: u8, x: [u16; 4], y: [u16; 4]) -> bool
+    ensures { λ r. ⌜ ((p : List (List ℕ)) → IsPlace p a x → IsPlace p b y → r ≡ shares p scope a b) ⌝ }
+{
+    (x[3] == SHADER) & (y[3] == SHADER) & one_instance(scope, a, b, x, y)
+}
+
+// The same of two agents. All places go by value, so each is taken out once.
 pub fn shares_scope(p: Places, scope: u8, a: u8, b: u8) -> bool
     ensures { λ r. ⌜ r ≡ shares p scope a b ⌝ }
 {
-    is_shader(p, a) & is_shader(p, b) & one_instance(p, scope, a, b)
+    shares_by(scope, a, b, place_at(p, a), place_at(p, b))
 }
 
 // Whether the agents of two rows share both rows' scopes.
 pub fn together(p: Places, r: Row, q: Row) -> bool
     ensures { λ b. ⌜ b ≡ together p r q ⌝ }
 {
-    shares_scope(p, r.scope, r.agent, q.agent) & shares_scope(p, q.scope, r.agent, q.agent)
+    let x = place_at(p, r.agent);
+    let y = place_at(p, q.agent);
+    shares_by(r.scope, r.agent, q.agent, x, y) & shares_by(q.scope, r.agent, q.agent, x, y)
 }
 
 // ---- mutually-ordered rows

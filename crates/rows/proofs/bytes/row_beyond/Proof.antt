@@ -1,9 +1,9 @@
 use borrow.Author.Needs.{needs}
 use Rattle.model.specs.Table.{rowOf}
-use Rattle.rows.proofs.bytes.read_row.Statement.{statement}
-use Rattle.rows.proofs.bytes.read_row.Tie as tie
-use Rattle.rows.proofs.bytes.read_row.Reads as reads
-use Rattle.rows.proofs.bytes.read_row.Lts as lts
+use Rattle.rows.proofs.bytes.row_beyond.Statement.{statement}
+use Rattle.rows.proofs.bytes.row_beyond.Tie as tie
+use Rattle.rows.proofs.bytes.row_beyond.Reads as reads
+use Rattle.rows.proofs.bytes.row_beyond.Lts as lts
 use Rattle.rows.proofs.bytes.row_byte.Reads as row-byte-reads
 use Rattle.rows.proofs.bytes.row_pair.Reads as row-pair-reads
 
@@ -56,8 +56,8 @@ returns : tie.Need-returns
 unfolding rowOf
 returns c = cc
 
-pub read-row-spec : {M : Type 1} → statement M
-read-row-spec =
+pub row-beyond-spec : {M : Type 1} → statement M
+row-beyond-spec =
     tie.close
     (tie.spec
     row-byte-requires

@@ -15,10 +15,10 @@ use Rattle.model.specs.declared.Row.{Row}
 use Rattle.model.specs.declared.Admission.{Admission}
 use Rattle.model.specs.declared.Admission.the-variants.{Admitted, Refused}
 use Rattle.model.specs.Limits.{AGENTS, ROWS, DEPENDENCIES, LONGEST, BYTES}
-use Rattle.model.specs.Row.{RMW, BARRIER, CONTROL, AVAILABLE-HOST, access, barrier, operation}
-use Rattle.model.specs.Scope.{agentKind}
+use Rattle.model.specs.Row.{RMW, BARRIER, CONTROL, AVAILABLE-HOST, BOTH, access, barrier, control, operation}
+use Rattle.model.specs.Scope.{DEVICE, agentKind}
 use Rattle.model.specs.Table.{Table, HEADER, agentsAt, rowsAt, hasHosts, sizeOf, rowBytes, dependencyBytes, rowOf, sourceOf, dependencyCount, placesOf, tableOf, sourcesOf, decode}
-use Rattle.model.specs.Refusal.{headerFault, versionFits, limitsFit, lengthFits, agentsKnown, dependenciesFew, dependenciesNamed, hostsFault, agentFits, operationFits, formFault, codesFit, kindFits, barrierFits, extentFits, rowFault, classTaken, sourceBroken, rankTaken, instanceBroken, unfit, tableFault, faulty, firstFault, rowFaultAt, admission}
+use Rattle.model.specs.Refusal.{CLASSES, FLAGS, CLASS, headerFault, versionFits, limitsFit, lengthFits, agentsKnown, dependenciesFew, dependenciesNamed, hostsFault, agentFits, operationFits, formFault, codesFit, kindFits, barrierFits, extentFits, rowFault, classTaken, sourceBroken, rankTaken, instanceBroken, unfit, tableFault, faulty, firstFault, rowFaultAt, admission}
 
 -- ---- definitions
 
@@ -27,6 +27,42 @@ pub record Sound (blanks : Bool) (s : List ℕ) : Type 0 where
   pub header : headerFault s ≡ 0
   pub row : (i : ℕ) → i < rowsAt s → rowFaultAt s i ≡ 0
   pub among : (i : ℕ) → i < rowsAt s → tableFault blanks (tableOf s) (sourcesOf s) i ≡ 0
+
+-- what a header that passed has, a field for each refusal: 2, 3, 4; then 16, 17, 18
+pub record HeaderRight (s : List ℕ) : Type 0 where
+  pub version : versionFits s ≡ true
+  pub limits : limitsFit s ≡ true
+  pub size : lengthFits s ≡ true
+  pub hosts : hostsFault s ≡ 0
+
+pub record HostsRight (s : List ℕ) : Type 0 where
+  pub agents : agentsKnown s ≡ true
+  pub few : dependenciesFew s ≡ true
+  pub named : dependenciesNamed s ≡ true
+
+-- what 5 asks of a row's numbers
+pub record CodesRight (hosts : Bool) (agents : ℕ) (r : Row) : Type 0 where
+  pub kind : (leb (r .kind) CONTROL or (hosts and operation r)) ≡ true
+  pub agent : ltb (r .agent) agents ≡ true
+  pub order : leb (r .order) BOTH ≡ true
+  pub scope : leb (r .scope) DEVICE ≡ true
+  pub classes : leb (r .classes) CLASSES ≡ true
+  pub flags : leb (r .flags) FLAGS ≡ true
+  pub class : leb (r .class) (cond (control r) DEVICE CLASS) ≡ true
+
+-- what a row that passed has: 5, 19, and 20 or 6 and 7
+pub record RowRight (s : List ℕ) (r : Row) (source : ℕ) : Type 0 where
+  pub codes : CodesRight (hasHosts s) (agentsAt s) r
+  pub agent : agentFits (agentKind (placesOf s) (r .agent)) r ≡ true
+  pub form : formFault r source ≡ 0
+
+-- what a row that passed among the others has: 8, 9, 10, 14, 15
+pub record AmongRight (blanks : Bool) (s : List ℕ) (i : ℕ) : Type 0 where
+  pub class : classTaken (tableOf s) i ≡ false
+  pub source : sourceBroken blanks (tableOf s) (sourcesOf s) i ≡ false
+  pub rank : rankTaken (tableOf s) i ≡ false
+  pub instance : instanceBroken (tableOf s) i ≡ false
+  pub run : unfit (tableOf s) i ≡ false
 
 -- ---- an admission and its faults
 
@@ -118,6 +154,17 @@ row-passed true true n e = (refl, refl, e)
 row-passed true false n e = absurd (omega arith)
 row-passed false b n e = absurd (omega arith)
 
+codes-right : (hosts : Bool) (agents : ℕ) (r : Row) → codesFit hosts agents r ≡ true → CodesRight hosts agents r
+unfolding codesFit
+codes-right hosts agents r e =
+    let g = split e in
+    let f = split (g .0) in
+    let c = split (f .0) in
+    let s = split (c .0) in
+    let o = split (s .0) in
+    let k = split (o .0) in
+    record { kind = k .0; agent = k .1; order = o .1; scope = s .1; classes = c .1; flags = f .1; class = g .1 }
+
 form-passed : (a b c d : Bool) → _≡_ {A = ℕ} (cond a (cond b 0 20) (cond c (cond d 0 7) 6)) 0 → ((a ≡ true) × (b ≡ true)) ⊎ ((a ≡ false) × (c ≡ true) × (d ≡ true))
 form-passed true true c d e = inl (refl, refl)
 form-passed true false c d e = absurd (omega arith)
@@ -156,48 +203,49 @@ table-passed false false false false true q = absurd (omega arith)
 table-passed false false false false false q = (refl, refl, refl, refl, refl)
 
 module _ {blanks : Bool} {s : List ℕ} (h : Sound blanks s) where
-  header-right : (versionFits s ≡ true) × (limitsFit s ≡ true) × (lengthFits s ≡ true) × (hostsFault s ≡ 0)
+  header-right : HeaderRight s
   unfolding headerFault
-  header-right = header-passed (leb HEADER (length s)) (versionFits s) (limitsFit s) (lengthFits s) (hostsFault s) (h .header)
+  header-right =
+      let p = header-passed (leb HEADER (length s)) (versionFits s) (limitsFit s) (lengthFits s) (hostsFault s) (h .header) in
+      record { version = p .0; limits = p .1; size = p .2; hosts = p .3 }
 
-  limits : (limitsFit s ≡ true) × (lengthFits s ≡ true)
-  limits = (header-right .1, header-right .2)
-
-  -- 16, 17, 18
-  pub hosts-right : (agentsKnown s ≡ true) × (dependenciesFew s ≡ true) × (dependenciesNamed s ≡ true)
+  pub hosts-right : HostsRight s
   unfolding hostsFault
-  hosts-right = hosts-passed (agentsKnown s) (dependenciesFew s) (dependenciesNamed s) (header-right .3)
+  hosts-right =
+      let p = hosts-passed (agentsKnown s) (dependenciesFew s) (dependenciesNamed s) (header-right .hosts) in
+      record { agents = p .0; few = p .1; named = p .2 }
 
   pub agents-fit : agentsAt s ≤ AGENTS
   unfolding limitsFit
-  agents-fit = leb-true (agentsAt s) AGENTS (split (limits .0) .0)
+  agents-fit = leb-true (agentsAt s) AGENTS (split (header-right .limits) .0)
 
   pub dependencies-fit : dependencyCount (dependencyBytes s) ≤ DEPENDENCIES
   unfolding dependenciesFew
-  dependencies-fit = leb-true (dependencyCount (dependencyBytes s)) DEPENDENCIES (hosts-right .1)
+  dependencies-fit = leb-true (dependencyCount (dependencyBytes s)) DEPENDENCIES (hosts-right .few)
 
   pub rows-fit : rowsAt s ≤ ROWS
   unfolding limitsFit
-  rows-fit = leb-true (rowsAt s) ROWS (split (limits .0) .1)
+  rows-fit = leb-true (rowsAt s) ROWS (split (header-right .limits) .1)
 
   pub length-is : length s ≡ sizeOf s
   unfolding lengthFits
-  length-is = eqb-true (length s) (sizeOf s) (split (limits .1) .1)
+  length-is = eqb-true (length s) (sizeOf s) (split (header-right .size) .1)
 
   module _ (i : ℕ) (l : i < rowsAt s) where
     abbrev r : Row
     r = rowOf (rowBytes s) i
 
-    -- 5, 19
-    pub row-right : (codesFit (hasHosts s) (agentsAt s) r ≡ true) × (agentFits (agentKind (placesOf s) (r .agent)) r ≡ true) × (formFault r (sourceOf (rowBytes s) i) ≡ 0)
+    pub row-right : RowRight s r (sourceOf (rowBytes s) i)
     unfolding rowFaultAt rowFault
-    row-right = row-passed (codesFit (hasHosts s) (agentsAt s) r) (agentFits (agentKind (placesOf s) (r .agent)) r) (formFault r (sourceOf (rowBytes s) i)) (h .row i l)
+    row-right =
+        let p = row-passed (codesFit (hasHosts s) (agentsAt s) r) (agentFits (agentKind (placesOf s) (r .agent)) r) (formFault r (sourceOf (rowBytes s) i)) (h .row i l) in
+        record { codes = codes-right (hasHosts s) (agentsAt s) r (p .0); agent = p .1; form = p .2 }
 
     -- 20; or 6 and 7
     pub form-right : ((operation r ≡ true) × (operationFits r (sourceOf (rowBytes s) i) ≡ true))
         ⊎ ((operation r ≡ false) × (kindFits r (sourceOf (rowBytes s) i) ≡ true) × (extentFits r ≡ true))
     unfolding formFault
-    form-right = form-passed (operation r) (operationFits r (sourceOf (rowBytes s) i)) (kindFits r (sourceOf (rowBytes s) i)) (extentFits r) (row-right .2)
+    form-right = form-passed (operation r) (operationFits r (sourceOf (rowBytes s) i)) (kindFits r (sourceOf (rowBytes s) i)) (extentFits r) (row-right .form)
 
     -- 6, 7 of a row that is no operation
     pub kind-right : (operation r ≡ true → ⊥) → (kindFits r (sourceOf (rowBytes s) i) ≡ true) × (extentFits r ≡ true)
@@ -208,13 +256,12 @@ module _ {blanks : Bool} {s : List ℕ} (h : Sound blanks s) where
     unfolding operationFits
     operation-size o = ⊎-elim (λ f. eqb-true (r .size) 0 (split (split (split (split (split (f .1) .0) .0) .0) .0) .1)) (λ k. not-both o (k .0)) form-right
 
-    -- 8, 9, 10, 14, 15
-    pub among-right : (classTaken (tableOf s) i ≡ false) × (sourceBroken blanks (tableOf s) (sourcesOf s) i ≡ false) × (rankTaken (tableOf s) i ≡ false)
-        × (instanceBroken (tableOf s) i ≡ false) × (unfit (tableOf s) i ≡ false)
+    pub among-right : AmongRight blanks s i
     unfolding tableFault
     among-right =
-        table-passed (classTaken (tableOf s) i) (sourceBroken blanks (tableOf s) (sourcesOf s) i) (rankTaken (tableOf s) i) (instanceBroken (tableOf s) i)
-        (unfit (tableOf s) i) (h .among i l)
+        let p = table-passed (classTaken (tableOf s) i) (sourceBroken blanks (tableOf s) (sourcesOf s) i) (rankTaken (tableOf s) i) (instanceBroken (tableOf s) i)
+            (unfit (tableOf s) i) (h .among i l) in
+        record { class = p .0; source = p .1; rank = p .2; instance = p .3; run = p .4 }
 
     -- an access has 1 to LONGEST bytes; a barrier has none
     pub access-size : access r ≡ true → (1 ≤ r .size) × (r .size ≤ LONGEST)
@@ -254,4 +301,4 @@ module _ {blanks : Bool} {s : List ℕ} (h : Sound blanks s) where
         other : RMW < r .kind → r .size ≤ LONGEST
         other n =
             ⊎-elim (old n) (λ o. none (operation-size (split o .1)))
-            (or-cases (leb (r .kind) CONTROL) (hasHosts s and operation r) (split (split (split (split (split (split (row-right .0) .0) .0) .0) .0) .0) .0))
+            (or-cases (leb (r .kind) CONTROL) (hasHosts s and operation r) (row-right .codes .kind))

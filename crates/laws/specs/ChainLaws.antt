@@ -521,7 +521,7 @@ module _ (t : Table) where
 module _ {blanks : Bool} {s : List ℕ} (h : Sound blanks s) (c : Bool) where
   scoped-of : Scoped (tableUnder c s)
   unfolding tableUnder decode codesFit
-  scoped-of i l = leb-true (rowOf (rowBytes s) i .scope) DEVICE (split (split (split (split (row-right h i l .0) .0) .0) .0) .1)
+  scoped-of i l = leb-true (rowOf (rowBytes s) i .scope) DEVICE (row-right h i l .codes .scope)
 
 switched : (c : Bool) (s : List ℕ) → tableUnder c s .chains ≡ c
 unfolding tableUnder decode modeOf

@@ -230,7 +230,7 @@ module _ {s f : List ℕ} (fl : Filling s f) where
       record {
         header = header-kept ∙ h .header;
         row = λ i l. row-fault-kept i ∙ h .row i (below l);
-        among = λ i l. rw (table-kept fl) (let c = among-right h i (below l) in rw (c .0, a i (below l), c .2, c .3, c .4) refl);
+        among = λ i l. rw (table-kept fl) (let c = among-right h i (below l) in rw (c .class, a i (below l), c .rank, c .instance, c .run) refl);
       }
     where
       below : {i : ℕ} → i < rowsAt f → i < rowsAt s
@@ -238,7 +238,7 @@ module _ {s f : List ℕ} (fl : Filling s f) where
 
   pub sound-filling : Sound false f → Admits
   sound-filling h i l =
-      subst (λ (t : Table). sourceBroken false t (sourcesOf f) i ≡ false) (table-kept fl) (among-right h i (subst (λ (n : ℕ). i < n) (sym (rows-kept fl)) l) .1)
+      subst (λ (t : Table). sourceBroken false t (sourcesOf f) i ≡ false) (table-kept fl) (among-right h i (subst (λ (n : ℕ). i < n) (sym (rows-kept fl)) l) .source)
 
 -- ---- the filled bytes are a filling
 

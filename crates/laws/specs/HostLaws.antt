@@ -124,7 +124,7 @@ module _ {blanks : Bool} {s : List ℕ} (h : Sound blanks s) (old : hasHosts s �
 
   no-operation : (i : ℕ) → i < rowsAt s → operation (rowOf (rowBytes s) i) ≡ false
   unfolding codesFit operation
-  no-operation i l = not-so _ (λ e. ⊎-elim (λ k. clash (leb-true (rowOf (rowBytes s) i .kind) CONTROL k) (leb-true AVAILABLE-HOST (rowOf (rowBytes s) i .kind) (split e .0))) (λ k. not-both (split k .0) old) (or-cases (leb (rowOf (rowBytes s) i .kind) CONTROL) _ (split (split (split (split (split (split (row-right h i l .0) .0) .0) .0) .0) .0) .0)))
+  no-operation i l = not-so _ (λ e. ⊎-elim (λ k. clash (leb-true (rowOf (rowBytes s) i .kind) CONTROL k) (leb-true AVAILABLE-HOST (rowOf (rowBytes s) i .kind) (split e .0))) (λ k. not-both (split k .0) old) (or-cases (leb (rowOf (rowBytes s) i .kind) CONTROL) _ (row-right h i l .codes .kind)))
     where
       clash : {n : ℕ} → n ≤ CONTROL → AVAILABLE-HOST ≤ n → ⊥
       clash p q = omega arith

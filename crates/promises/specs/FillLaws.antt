@@ -67,8 +67,8 @@ module _ (chains : Bool) (s : List ℕ) (bytes : Bytes s) (well : admission true
         few = rows-fit sound;
         sized = λ i l. size-fits sound i l;
         nonempty = λ i l a. access-size sound i l a .0;
-        ranks = λ i l. ranks-under i ∙ among-right sound i l .2;
-        order = writers-ordered t (λ i l. rank-small s bytes i) (λ i l. fit-under i ∙ among-right sound i l .4);
+        ranks = λ i l. ranks-under i ∙ among-right sound i l .rank;
+        order = writers-ordered t (λ i l. rank-small s bytes i) (λ i l. fit-under i ∙ among-right sound i l .run);
       }
 
   -- a source that refusal 9 takes where no blank is allowed is the initial value or a row that fits

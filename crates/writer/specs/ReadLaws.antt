@@ -190,7 +190,7 @@ module _ {blanks : Bool} {s : List ℕ} (sound : Sound blanks s) where
   read-numbers = ⊎-elim on off (which (hasHosts s))
     where
       on : hasHosts s ≡ true → not (anyBelow (agentsAt s) (λ a. ltb (cond (withHosts (versionAt s)) QUEUE SHADER) (agentKind (placesOf s) a))) ≡ true
-      on h = let e : withHosts (versionAt s) ≡ true = hosts-same ∙ h in rw e (hosts-right sound .0)
+      on h = let e : withHosts (versionAt s) ≡ true = hosts-same ∙ h in rw e (hosts-right sound .agents)
 
       off : hasHosts s ≡ false → not (anyBelow (agentsAt s) (λ a. ltb (cond (withHosts (versionAt s)) QUEUE SHADER) (agentKind (placesOf s) a))) ≡ true
       off h =

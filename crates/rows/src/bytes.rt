@@ -226,6 +226,13 @@ pub fn read_kind(rows: &[u8], i: u16) -> u8
     row_byte(rows, i, 0)
 }
 
+// Row i's start alone: of a control barrier its instance.
+pub fn read_start(rows: &[u8], i: u16) -> u16
+    ensures { λ r. ⌜ r ≡ rowOf (now (rows .entry)) i .start ⌝ }
+{
+    row_pair(rows, i, 8)
+}
+
 // Row i's reference alone.
 pub fn read_reference(rows: &[u8], i: u16) -> u16
     ensures { λ r. ⌜ r ≡ rowOf (now (rows .entry)) i .reference ⌝ }

@@ -94,6 +94,10 @@ module _ (b : List ℕ) (p : List (List ℕ)) where
   unfolding apartAt apart sameInstance control decode
   apart-off i j h = sym (and-false-left _ _ (and-false-left _ _ (and-false-right _ _ (ne-eqb (rowOf b j .kind) CONTROL h))))
 
+  pub apart-other : (i j : ℕ) → (rowOf b i .start ≡ rowOf b j .start → ⊥) → false ≡ apartAt (decode b p OFF 0) i j
+  unfolding apartAt apart sameInstance decode
+  apart-other i j h = sym (and-false-left _ _ (and-false-right _ _ (ne-eqb (rowOf b i .start) (rowOf b j .start) h)))
+
   none-at : (i j : ℕ) → (rowOf b i .kind ≡ CONTROL → ⊥) → false ≡ apartAt (decode b p OFF 0) i j
   unfolding apartAt apart sameInstance control decode
   none-at i j h = sym (and-false-left _ _ (and-false-left _ _ (and-false-left _ _ (ne-eqb (rowOf b i .kind) CONTROL h))))

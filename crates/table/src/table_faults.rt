@@ -135,11 +135,14 @@ pub fn is_apart(p: Places, r: Row, q: Row) -> bool
             & scopes::shares_scope(p, r.class, r.agent, q.agent))
 }
 
-// Only control barriers have an instance.
+// Only control barriers have an instance, and most have another.
 pub fn apart_at(rows: &[u8], p: Places, i: u16, j: u16) -> bool
     ensures { λ b. ⌜ b ≡ apartAt (decode (now (rows .entry)) p OFF 0) i j ⌝ }
 {
     if bytes::read_kind(rows, j) != kinds::CONTROL {
+        return false;
+    }
+    if bytes::read_start(rows, j) != bytes::read_start(rows, i) {
         return false;
     }
     let r = bytes::read_row(rows, i);

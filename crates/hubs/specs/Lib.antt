@@ -1,3 +1,4 @@
 pub mod Hubs
 pub mod Rows
 pub mod Quiet
+pub mod Wider

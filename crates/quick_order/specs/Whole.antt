@@ -1,31 +1,34 @@
 -- The stages in order: what every class set is made from, a class set, all of them. Assumes nothing.
-use mathlib.Core.Path.{_≡_, refl, sym, ap, _∙_}
-use mathlib.Core.Bool.{Bool, true, false}
-use mathlib.Core.Logic.{⊎-elim}
+use mathlib.Core.Path.{_≡_, refl, sym, ap, ap₂, subst, _∙_}
+use mathlib.Core.Bool.{Bool, true, false, not}
+use mathlib.Core.Logic.{_⊎_, inl, inr, ⊎-elim}
 use mathlib.Core.List.{List}
-use Prim.Native.Nat.{ℕ, _+_, _*_, _≤_, _<_}
+use Prim.Native.Nat.{ℕ, _+_, _-_, _*_, _≤_, _<_}
+use native.Mathlib.Nat.{eq-or-lt-of-le}
 use native.Mathlib.Omega.{arith}
 use native.Mathlib.Numerals.{add-one}
-use lib.Dec.{ltb}
+use lib.Dec.{eqb, ltb, leb}
 use lib.ListN.{length}
-use borrow.Author.Tests.{lt-ltb}
-use Rattle.finite.specs.Logic.{_and_, _or_, which, bool-ext, not-both, not-so, or-cases, or-left, and-false-left, split}
-use Rattle.finite.specs.Below.{anyBelow, any-out}
+use borrow.Author.Tests.{lt-ltb, le-leb, lt-leb, leb-true}
+use Rattle.finite.specs.Logic.{_and_, _or_, which, bool-ext, not-both, not-so, or-cases, or-left, or-right, or-off, and-true, and-false-left, split}
+use Rattle.finite.specs.Below.{anyBelow, any-in, any-out, any-not}
 use Rattle.bits.specs.Within.{Within, within-trans, within-widen}
 use Rattle.bits.specs.Matrix.{rel}
 use Rattle.bits.specs.Stage.{Holds, Added, holds-cong, holds-kept}
 use Rattle.model.specs.declared.Mode.{Mode}
+use Rattle.model.specs.declared.Row.{Row}
 use Rattle.model.specs.Limits.{ROWS, WORK, CLASS-SETS}
 use Rattle.model.specs.Table.{Table, rowOf, dependency, dependsOf, decode}
 use Rattle.model.specs.Moment.{programOrder}
-use Rattle.model.specs.Happens.{holding, interThread, live, interThreadBy}
+use Rattle.model.specs.Happens.{holding, interThread, live, interThreadBy, happens}
 use Rattle.area.specs.Regions.{MUTUAL, HAPPENS, HAPPENS-END, MOMENTS, LOCATED-END}
 use Rattle.area.specs.State.{Ordered}
 use Rattle.sequence.specs.Forms.{and-on}
 use Rattle.sequence.specs.Known.{Synced, synced-kept}
-use Rattle.order.specs.Sets.{interBy, upTo, upTo-none, upTo-more, upTo-all}
+use Rattle.order.specs.Sets.{interBy}
 use Rattle.sets.specs.Own.{ClosedOwn}
 use Rattle.hubs.specs.Quiet.{inter-order}
+use Rattle.hubs.specs.Wider.{lessBy, sharedBy, covered, shared-more, covered-out}
 use Rattle.moment_sets.specs.Regions.{CLASSES, HOPS, HOPS-END, JOINED, DEPENDS, HOLD, CONCERN-END, RELEASING, TOUCHED-END}
 use Rattle.moment_sets.specs.Known.{Set, Based, Setup, rows-kept, set-kept, based-kept, setup-hops, setup-happens}
 use Rattle.moment_sets.specs.Program.{Begun, decode-rows}
@@ -36,10 +39,14 @@ use Rattle.quick_order.specs.Sources.{Closed}
 
 -- ---- definitions
 
+-- happens-before by the class sets after the first s
+unfoldable pub onward : Table → ℕ → ℕ → ℕ → Bool
+onward t s m k = programOrder t m k or anyBelow CLASS-SETS (λ j. leb s j and interThreadBy t m k j)
+
 -- what every class set is made from was made, and what happens-before begins with
 pub record Started (t : Table) (n : ℕ) (w u : List ℕ) : Type 0 where
   pub based : Based t n u
-  pub happens : Holds HAPPENS MOMENTS (3 * n) (upTo t 0) u
+  pub happens : Holds HAPPENS MOMENTS (3 * n) (onward t CLASS-SETS) u
   pub frame : Within MUTUAL LOCATED-END w u
 
 -- of a table whose rows stand in the bytes bs: what a class set is made from, and which moments hold all of it
@@ -55,10 +62,50 @@ pub record Grown (t : Table) (n s : ℕ) (w u : List ℕ) : Type 0 where
   pub based : Based t n u
   pub cell : (i j : ℕ) → i < 3 * n → j < 3 * n → rel u HAPPENS MOMENTS i j ≡ (rel w HAPPENS MOMENTS i j or interThread t s i j)
 
--- the first s class sets are in
+-- the class sets after the first s are in
 pub record Reached (t : Table) (n s : ℕ) (w : List ℕ) : Type 0 where
   pub based : Based t n w
-  pub happens : Holds HAPPENS MOMENTS (3 * n) (upTo t s) w
+  pub happens : Holds HAPPENS MOMENTS (3 * n) (onward t s) w
+
+-- ---- laws: class sets, from the last down
+
+onward-none : (t : Table) (m k : ℕ) → programOrder t m k ≡ onward t CLASS-SETS m k
+unfolding onward
+onward-none t m k = sym (or-off _ _ (any-not _ CLASS-SETS (λ j l. and-false-left _ _ (lt-leb CLASS-SETS j l))))
+
+onward-out : (t : Table) (s m k : ℕ) → onward t s m k ≡ true → (programOrder t m k ≡ true) ⊎ ((j : ℕ) × (s ≤ j) × (j < CLASS-SETS) × (interThreadBy t m k j ≡ true))
+unfolding onward
+onward-out t s m k e =
+    ⊎-elim inl (λ a. let r = any-out (λ j. leb s j and interThreadBy t m k j) CLASS-SETS a in let b = split (r .2) in inr (r .0, leb-true s (r .0) (b .0), r .1, b .1))
+    (or-cases (programOrder t m k) _ e)
+
+onward-order : (t : Table) (s m k : ℕ) → programOrder t m k ≡ true → onward t s m k ≡ true
+unfolding onward
+onward-order t s m k e = or-left _ e
+
+onward-in : (t : Table) (s m k j : ℕ) → s ≤ j → j < CLASS-SETS → interThreadBy t m k j ≡ true → onward t s m k ≡ true
+unfolding onward
+onward-in t s m k j l o e = or-right _ (any-in (λ j. leb s j and interThreadBy t m k j) CLASS-SETS j o (and-true (le-leb s j l) e))
+
+onward-more : (t : Table) (s m k : ℕ) → s < CLASS-SETS → (onward t (s + 1) m k or interBy t s m k) ≡ onward t s m k
+unfolding interBy
+onward-more t s m k l = bool-ext _ _ forth back
+  where
+    forth : (onward t (s + 1) m k or interThreadBy t m k s) ≡ true → onward t s m k ≡ true
+    forth e =
+        ⊎-elim (λ a. ⊎-elim (onward-order t s m k) (λ r. let o = r .1 in onward-in t s m k (r .0) (omega (arith, o)) (r .2) (r .3)) (onward-out t (s + 1) m k a))
+        (λ a. onward-in t s m k s (omega arith) l a) (or-cases (onward t (s + 1) m k) _ e)
+
+    back : onward t s m k ≡ true → (onward t (s + 1) m k or interThreadBy t m k s) ≡ true
+    back e = ⊎-elim (λ a. or-left _ (onward-order t (s + 1) m k a)) later (onward-out t s m k e)
+      where
+        later : (j : ℕ) × (s ≤ j) × (j < CLASS-SETS) × (interThreadBy t m k j ≡ true) → (onward t (s + 1) m k or interThreadBy t m k s) ≡ true
+        later (j, o, q, a) =
+            ⊎-elim (λ (d : s ≡ j). or-right _ (rw d a)) (λ d. or-left _ (onward-in t (s + 1) m k j (omega (arith, d)) q a)) (eq-or-lt-of-le o)
+
+onward-all : (t : Table) (m k : ℕ) → onward t 0 m k ≡ happens t m k
+unfolding onward happens _and_ interThreadBy live _or_ anyBelow interThread
+onward-all t m k = refl
 
 -- ---- laws: the beginning
 
@@ -80,7 +127,7 @@ started-made b p mode n w v x y z a u few synced begun joined depends releasing 
             releasing = set-kept (λ h. absurd (omega arith)) (touched .frame) (releasing-is b (decode b p mode n) n 0 a (row-is b p mode n) (releasing .set));
             touched = touched-is b (decode b p mode n) n 0 u (row-is b p mode n) (touched .touched);
           };
-      happens = holds-cong (λ i j l o. upTo-none (decode b p mode n) i j) (holds-kept (λ h. absurd (omega arith)) after (begun .happens));
+      happens = holds-cong (λ i j l o. onward-none (decode b p mode n) i j) (holds-kept (λ h. absurd (omega arith)) after (begun .happens));
       frame = within-trans (within-widen MUTUAL LOCATED-END (omega arith) (omega arith) (synced .1))
           (within-trans (within-widen MUTUAL LOCATED-END (omega arith) (omega arith) (begun .frame)) (within-widen MUTUAL LOCATED-END (omega arith) (omega arith) after));
     }
@@ -175,6 +222,20 @@ told-is b p mode n x y dep e h =
 free-is : (b : List ℕ) (p : List (List ℕ)) (mode : Mode) (n : ℕ) (dep : Bool) → dep ≡ ltb 0 (mode .dependencies) → dep ≡ false → (x y : ℕ) → decode b p mode n .depends x y ≡ false
 free-is b p mode n dep e f x y = not-so _ (λ h. not-both (told-is b p mode n x y dep e h) f)
 
+-- ---- laws: what covers a class set
+
+pub shared-next : (b : List ℕ) (p : List (List ℕ)) (mode : Mode) (n s x c k : ℕ) → c ≡ sharedBy (decode b p mode n) s x → k ≡ rowOf b x .classes
+    → lessBy s c k ≡ sharedBy (decode b p mode n) s (x + 1)
+shared-next b p mode n s x c k e f =
+    ap₂ (lessBy s) e (f ∙ ap (λ (r : Row). r .classes) (sym (row-is b p mode n x))) ∙ shared-more (decode b p mode n) s x
+
+pub covered-is : (b : List ℕ) (p : List (List ℕ)) (mode : Mode) (n s c : ℕ) (l : Bool) → c ≡ sharedBy (decode b p mode n) s n → l ≡ live (decode b p mode n) c
+    → (not (eqb c s) and l) ≡ covered (decode b p mode n) s
+unfolding covered
+covered-is b p mode n s c l e f =
+    let q : c ≡ sharedBy (decode b p mode n) s (decode b p mode n .rows) = e ∙ ap (sharedBy (decode b p mode n) s) (sym (decode-rows b p mode n)) in
+    ap₂ (λ (x : ℕ) (y : Bool). not (eqb x s) and y) q (f ∙ ap (live (decode b p mode n)) q)
+
 -- ---- laws: a class set
 
 -- live sets: what is added
@@ -190,29 +251,48 @@ inter-out : (t : Table) (s i j : ℕ) → interBy t s i j ≡ true → interThre
 unfolding interBy interThreadBy
 inter-out t s i j e = rw add-one (split e .1)
 
-order-in : (t : Table) (s i j : ℕ) → programOrder t i j ≡ true → upTo t s i j ≡ true
-unfolding upTo
-order-in t s i j e = or-left _ e
+inter-in : (t : Table) (s i j : ℕ) → live t (s + 1) ≡ true → interThread t (s + 1) i j ≡ true → interThreadBy t i j s ≡ true
+unfolding interThreadBy
+inter-in t s i j l e = and-true (rw add-one at l) (rw add-one at e)
 
 -- nothing is to be added
-reached-more : (t : Table) (n s : ℕ) (w : List ℕ) → ((i j : ℕ) → i < 3 * n → j < 3 * n → interBy t s i j ≡ true → upTo t s i j ≡ true)
-    → Holds HAPPENS MOMENTS (3 * n) (upTo t s) w → Holds HAPPENS MOMENTS (3 * n) (upTo t (s + 1)) w
-reached-more t n s w f h =
+reached-more : (t : Table) (n s : ℕ) (w : List ℕ) → s < CLASS-SETS
+    → ((i j : ℕ) → i < 3 * n → j < 3 * n → interBy t s i j ≡ true → onward t (s + 1) i j ≡ true)
+    → Holds HAPPENS MOMENTS (3 * n) (onward t (s + 1)) w → Holds HAPPENS MOMENTS (3 * n) (onward t s) w
+reached-more t n s w low f h =
     holds-cong
-    (λ i j l o. bool-ext _ _ (λ e. sym (upTo-more t s i j) ∙ or-left _ e)
-    (λ e. ⊎-elim (λ a. a) (λ a. f i j l o a) (or-cases (upTo t s i j) (interBy t s i j) (upTo-more t s i j ∙ e)))) h
+    (λ i j l o. bool-ext _ _ (λ e. sym (onward-more t s i j low) ∙ or-left _ e)
+    (λ e. ⊎-elim (λ a. a) (λ a. f i j l o a) (or-cases (onward t (s + 1) i j) (interBy t s i j) (onward-more t s i j low ∙ e)))) h
 
-module _ (b : List ℕ) (n s : ℕ) (dep : Bool) (w : List ℕ) (few : n ≤ ROWS) (p : List (List ℕ)) (mode : Mode) (h : Reached (decode b p mode n) n s w) where
+module _ (b : List ℕ) (n s : ℕ) (dep : Bool) (w : List ℕ) (few : n ≤ ROWS) (p : List (List ℕ)) (mode : Mode) (low : s < CLASS-SETS)
+    (h : Reached (decode b p mode n) n (s + 1) w) where
   -- no row holds all of it
-  pub reached-off : live (decode b p mode n) (s + 1) ≡ false → Reached (decode b p mode n) n (s + 1) w
+  pub reached-off : live (decode b p mode n) (s + 1) ≡ false → Reached (decode b p mode n) n s w
   reached-off l =
-      record { based = h .based; happens = reached-more (decode b p mode n) n s w (λ i j o q e. not-both e (inter-off (decode b p mode n) s i j l)) (h .happens) }
+      record { based = h .based; happens = reached-more (decode b p mode n) n s w low (λ i j o q e. not-both e (inter-off (decode b p mode n) s i j l)) (h .happens) }
+
+  -- a wider class set covers it
+  pub reached-covered : covered (decode b p mode n) (s + 1) ≡ true → Reached (decode b p mode n) n s w
+  reached-covered e =
+      let r : decode b p mode n .rows ≡ n = decode-rows b p mode n in
+      let out = covered-out (decode b p mode n) (s + 1) (omega arith) e in
+      let c = out .0 in
+      let later = out .1 in
+      let bound = out .2 in
+      let same : c - 1 + 1 ≡ c = omega (arith, later) in
+      record {
+        based = h .based;
+        happens = reached-more (decode b p mode n) n s w low
+            (λ i j l o a. onward-in (decode b p mode n) (s + 1) i j (c - 1) (omega (arith, later)) (omega (arith, later, bound))
+            (inter-in (decode b p mode n) (c - 1) i j (rw same (out .3))
+            (rw same (out .4 i j (omega (arith, r, l)) (omega (arith, r, o)) (inter-out (decode b p mode n) s i j a))))) (h .happens);
+      }
 
   module _ (d : dep ≡ ltb 0 (mode .dependencies)) (v : List ℕ) (held : MadeSet HOLD n (holdingAt b (s + 1)) w v) where
     kept : Based (decode b p mode n) n v
     kept = based-kept few (omega arith) (omega arith) (held .frame) (h .based)
 
-    still : Holds HAPPENS MOMENTS (3 * n) (upTo (decode b p mode n) s) v
+    still : Holds HAPPENS MOMENTS (3 * n) (onward (decode b p mode n) (s + 1)) v
     still = holds-kept (λ q. absurd (omega arith)) (held .frame) (h .happens)
 
     hold : Set HOLD (3 * n) (holding (decode b p mode n) (s + 1)) v
@@ -229,19 +309,19 @@ module _ (b : List ℕ) (n s : ℕ) (dep : Bool) (w : List ℕ) (few : n ≤ ROW
         }
 
     -- no two of its rows synchronize
-    pub reached-quiet : dep ≡ false → anyBelow n (joinsHolder v) ≡ false → Reached (decode b p mode n) n (s + 1) v
+    pub reached-quiet : dep ≡ false → anyBelow n (joinsHolder v) ≡ false → Reached (decode b p mode n) n s v
     reached-quiet off none =
         let r : decode b p mode n .rows ≡ n = decode-rows b p mode n in
         record {
           based = kept;
-          happens = reached-more (decode b p mode n) n s v
-              (λ i j l o e. order-in (decode b p mode n) s i j
+          happens = reached-more (decode b p mode n) n s v low
+              (λ i j l o e. onward-order (decode b p mode n) (s + 1) i j
               (inter-order (decode b p mode n) (s + 1) (quiet-is (decode b p mode n) n (s + 1) v r few (kept .joined) hold none) (free-is b p mode n dep d off) i j
               (omega (arith, r)) (omega (arith, r)) (inter-out (decode b p mode n) s i j e))) still;
         }
 
     -- its closure was added
-    pub reached-grown : (u : List ℕ) → live (decode b p mode n) (s + 1) ≡ true → Grown (decode b p mode n) n (s + 1) v u → Reached (decode b p mode n) n (s + 1) u
+    pub reached-grown : (u : List ℕ) → live (decode b p mode n) (s + 1) ≡ true → Grown (decode b p mode n) n (s + 1) v u → Reached (decode b p mode n) n s u
     reached-grown u l g =
         record {
           based = g .based;
@@ -249,18 +329,21 @@ module _ (b : List ℕ) (n s : ℕ) (dep : Bool) (w : List ℕ) (few : n ≤ ROW
               record {
                 fits = h .happens .fits;
                 cell = λ i j o q. g .cell i j o q ∙ ap (λ (z : Bool). z or interThread (decode b p mode n) (s + 1) i j) (still .cell i j o q)
-                    ∙ ap (λ (z : Bool). upTo (decode b p mode n) s i j or z) (inter-on (decode b p mode n) s i j l) ∙ upTo-more (decode b p mode n) s i j;
+                    ∙ ap (λ (z : Bool). onward (decode b p mode n) (s + 1) i j or z) (inter-on (decode b p mode n) s i j l) ∙ onward-more (decode b p mode n) s i j low;
               };
         }
 
 -- ---- laws: all of them
 
-pub reached-start : {t : Table} {n : ℕ} {w u : List ℕ} → Started t n w u → Reached t n 0 u
+pub reached-start : {t : Table} {n : ℕ} {w u : List ℕ} → Started t n w u → Reached t n CLASS-SETS u
 reached-start s = record { based = s .based; happens = s .happens }
 
-pub ordered-made : {t : Table} {n s : ℕ} {u : List ℕ} → s ≡ CLASS-SETS → Reached t n s u → Ordered t n u
+pub reached-as : {t : Table} {n a b : ℕ} {w : List ℕ} → a ≡ b → Reached t n a w → Reached t n b w
+reached-as {t} {n} {a} {b} {w} e h = subst (λ (z : ℕ). Reached t n z w) e h
+
+pub ordered-made : {t : Table} {n s : ℕ} {u : List ℕ} → s ≡ 0 → Reached t n s u → Ordered t n u
 ordered-made {t} {n} {s} {u} e h =
     record {
       mutuals = h .based .mutuals;
-      happening = holds-cong (λ i j l o. ap (λ (z : ℕ). upTo t z i j) e ∙ upTo-all t i j) (h .happens);
+      happening = holds-cong (λ i j l o. ap (λ (z : ℕ). onward t z i j) e ∙ onward-all t i j) (h .happens);
     }

@@ -11,6 +11,7 @@ ghost use Rattle.model.specs.Limits.{ROWS, WORK, CLASS-SETS};
 ghost use Rattle.model.specs.Table.{Table, decode};
 ghost use Rattle.area.specs.Regions.{MUTUAL, HAPPENS, LOCATED-END};
 ghost use Rattle.area.specs.State.{Ordered};
+ghost use Rattle.hubs.specs.Wider.{lessBy, sharedBy, covered};
 ghost use Rattle.moment_sets.specs.Regions.{CONCERN-END};
 ghost use Rattle.quick_order.specs.Whole.{Started, Held, Grown, Reached};
 use model::Mode;
@@ -34,14 +35,47 @@ fn close_set(w: &mut [u64], rows: &[u8], n: usize, s: u8, dep: bool)
     sources::add_sources(w, n, dep);
 }
 
-// The same for class set s + 1; nothing where no row holds all of it, or no two that do synchronize and there are no dependencies.
+// Of the classes c those that k has too, where k holds all of s.
+fn less_by(s: u8, c: u8, k: u8) -> u8
+    ensures { λ d. ⌜ d ≡ lessBy s c k ⌝ }
+{
+    if rows::kinds::holds(k, s) { c & k } else { c }
+}
+
+// The classes that all rows have that hold all of s. The last class set has all classes.
+fn shared_by(rows: &[u8], n: usize, s: u8) -> u8
+    requires { ⌜ n ≤ ROWS ⌝ }
+    ensures { λ c. ⌜ ((p : List (List ℕ)) (mode : Mode) → c ≡ sharedBy (decode (now (rows .entry)) p mode n) s n) ⌝ }
+{
+    let mut c = order::CLASS_SETS;
+    for x in 0..n {
+        c = less_by(s, c, rows::bytes::read_classes(rows, x as u16));
+    }
+    c
+}
+
+// Whether some wider class set is held by all rows that hold all of s: then it orders all that s does.
+fn is_covered(rows: &[u8], n: usize, s: u8) -> bool
+    requires { ⌜ n ≤ ROWS ⌝ }
+    ensures { λ b. ⌜ ((p : List (List ℕ)) (mode : Mode) → b ≡ covered (decode (now (rows .entry)) p mode n) s) ⌝ }
+{
+    let c = shared_by(rows, n, s);
+    let live = order::is_live(rows, n, c);
+    !(c == s) & live
+}
+
+// The same for class set s + 1, where the later ones are in; nothing where no row holds all of it, where a wider one covers it, or
+// where no two rows that hold all of it synchronize and there are no dependencies.
 fn add_set(w: &mut [u64], rows: &[u8], n: usize, s: u8, dep: bool)
     requires { ⌜ (n ≤ ROWS) × (WORK ≤ length (now w)) × (s < CLASS-SETS) ⌝ }
     ensures { λ _. ⌜ Within HAPPENS CONCERN-END (now (w .entry)) (now (w .exit))
         × ((p : List (List ℕ)) (mode : Mode) → dep ≡ ltb 0 (mode .dependencies)
-        → Reached (decode (now (rows .entry)) p mode n) n s (now (w .entry)) → Reached (decode (now (rows .entry)) p mode n) n (s + 1) (now (w .exit))) ⌝ }
+        → Reached (decode (now (rows .entry)) p mode n) n (s + 1) (now (w .entry)) → Reached (decode (now (rows .entry)) p mode n) n s (now (w .exit))) ⌝ }
 {
     if !order::is_live(rows, n, s + 1) {
+        return;
+    }
+    if is_covered(rows, n, s + 1) {
         return;
     }
     moment_sets::classes::fill_hold(w, rows, n, s + 1);
@@ -71,6 +105,7 @@ fn start(rows: &[u8], p: Places, mode: Mode, n: usize, w: &mut [u64])
 
 // M7: happens-before: program order, or inter-thread order for some class set. Also mutually-ordered rows (M3), which later
 // stages read. What `order::happens_before` says, in words.
+// From the last class set down, so that what covers a set is in before it.
 // Ruled out: one that leaves a class set out; one that skips a class set though two of its rows synchronize.
 pub fn happens_before(rows: &[u8], p: Places, mode: Mode, n: usize, w: &mut [u64])
     requires { ⌜ (n ≤ ROWS) × (WORK ≤ length (now w)) ⌝ }
@@ -79,6 +114,6 @@ pub fn happens_before(rows: &[u8], p: Places, mode: Mode, n: usize, w: &mut [u64
     start(rows, p, mode, n, w);
     let dep = 0 < mode.dependencies;
     for s in 0..order::CLASS_SETS {
-        add_set(w, rows, n, s, dep);
+        add_set(w, rows, n, order::CLASS_SETS - 1 - s, dep);
     }
 }

@@ -20,6 +20,7 @@ use Rattle.model.specs.Row.{reads, writes, overlap}
 use Rattle.model.specs.Table.{Table}
 use Rattle.model.specs.Scope.{mutually, laterWriter, follows}
 use Rattle.model.specs.Edge.{beforeNth, beforeSome, readsFrom, fromReads, edgeNumber, edge}
+use Rattle.race.specs.Bytes.{mayTouch, touch-apart}
 use Rattle.area.specs.Regions.{LOCATION, PAIR, PAIRS, EDGE, EDGE-END}
 use Rattle.area.specs.State.{Located}
 
@@ -156,6 +157,15 @@ module _ (t : Table) (source : ℕ → ℕ) (x y : ℕ) where
   pub from-itself : x ≡ y → false ≡ fromReads t source x y
   unfolding fromReads _and_
   from-itself e = rw (eq-eqb x y e) refl
+
+  -- nor to a row that shares no byte with one that read the initial value
+  pub from-apart : (s : ℕ) (r q : Row) (b : Bool) → s ≡ source x → eqb s INITIAL ≡ true → r ≡ t .row x → q ≡ t .row y → b ≡ mayTouch q (r .start) (r .start + r .size) → not b ≡ true
+      → false ≡ fromReads t source x y
+  unfolding fromReads
+  from-apart s r q b es i er eq eb h =
+      let j : eqb (source x) INITIAL ≡ true = subst (λ (v : ℕ). eqb v INITIAL ≡ true) es i in
+      let o : overlap (t .row x) (t .row y) ≡ false = rw (← er, ← eq) (touch-apart r q b eb h) in
+      rw j (sym (and-false-right _ _ (and-false-right _ _ o)))
 
   module _ (s : ℕ) (r : Row) (a : Bool) (es : s ≡ source x) (er : r ≡ t .row x) (ea : a ≡ reads r) (ha : not a ≡ false) (d : x ≡ y → ⊥) where
     on : (not (eqb x y) and reads (t .row x)) ≡ true

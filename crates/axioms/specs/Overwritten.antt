@@ -1,11 +1,11 @@
 -- Axiom B's first break as an answer, and the turns of its searches. Assumes nothing.
-use mathlib.Core.Path.{_≡_, refl, sym, subst}
-use mathlib.Core.Bool.{Bool, true, false, cond}
+use mathlib.Core.Path.{_≡_, refl, sym, subst, _∙_}
+use mathlib.Core.Bool.{Bool, true, false, not, cond}
 use Prim.Native.Nat.{ℕ, _+_, _≤_, _<_}
 use native.Mathlib.Omega.{arith}
 use lib.Dec.{ltb}
 use borrow.Author.Tests.{lt-ltb, le-ltb, ltb-true}
-use Rattle.finite.specs.Logic.{_and_, split, and-false-left}
+use Rattle.finite.specs.Logic.{_and_, split, and-true, and-false-left, and-false-right, not-so, not-out, not-both}
 use Rattle.finite.specs.Below.{least-is}
 use Rattle.model.specs.declared.Row.{Row}
 use Rattle.model.specs.Limits.{LONGEST, BYTES}
@@ -13,7 +13,9 @@ use Rattle.model.specs.Row.{access, reads, writes, touches}
 use Rattle.model.specs.Table.{Table}
 use Rattle.model.specs.Location.{before}
 use Rattle.model.specs.Race.{nth}
-use Rattle.model.specs.Edge.{overwrites, overwritesNth, overNth, overwriting, overWriter, isOverwritten, overReader, overByte}
+use Rattle.model.specs.Edge.{beforeSome, overwrites, overwritesNth, overNth, overwriting, overWriter, isOverwritten, overReader, overByte}
+use Rattle.laws.specs.RaceLaws.{Sized}
+use Rattle.laws.specs.ChoiceLaws.{some-before}
 use Rattle.laws.specs.PairLaws.{inside-out, common-out}
 use Rattle.race.specs.Bytes.{Bounded}
 use Rattle.race.specs.First.{least-off}
@@ -53,6 +55,22 @@ module _ (t : Table) (source : ℕ → ℕ) where
   pub over-none : (y z : ℕ) → mayOverwrite y z ≡ false → LONGEST ≡ overNth t source y z
   unfolding overNth
   over-none y z m = sym (least-off (overwritesNth t source y z) LONGEST (λ k l. overwrites-off y z k m))
+
+  -- nor where z comes before y at no byte
+  pub over-apart : (y z : ℕ) → Sized t → z < t .rows → false ≡ beforeSome t z y → LONGEST ≡ overNth t source y z
+  unfolding overNth overwritesNth overwrites
+  over-apart y z s l e = sym (least-off (overwritesNth t source y z) LONGEST (λ k m. and-false-right _ _ (not-so (before t z y (nth t y k)) (λ h. not-both (some-before t z y (nth t y k) (s z l) h) (sym e)))))
+
+  -- no row overwrites the source of a y that doesn't read, or whose source is no row
+  unread-off : (y z : ℕ) → (reads (t .row y) and ltb (source y) (t .rows)) ≡ false → mayOverwrite y z ≡ false
+  unfolding mayOverwrite
+  unread-off y z e = not-so _ (λ h. not-both (and-true (split (split h .0) .0) (split h .1)) e)
+
+  pub unread-none : (y n s : ℕ) (r : Row) (a b : Bool) → n ≡ t .rows → r ≡ t .row y → s ≡ source y → a ≡ reads r → b ≡ ltb s n → not (a and b) ≡ true → n ≡ overWriter t source y
+  unfolding overWriter overwriting
+  unread-none y n s r a b q e f c d h =
+      let g : (reads (t .row y) and ltb (source y) (t .rows)) ≡ false = rw (← e, ← f, ← q, ← c, ← d) (not-out _ h) in
+      q ∙ sym (least-off (λ z. ltb (overNth t source y z) LONGEST) (t .rows) (λ z l. le-ltb (overNth t source y z) LONGEST (let k = over-none y z (unread-off y z g) in omega arith)))
 
   -- ---- laws: what the searches compare
 

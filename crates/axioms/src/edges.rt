@@ -23,7 +23,7 @@ fn pick(b: bool, x: u16, y: u16) -> u16
 }
 
 // Whether none of a pair's bits, which begin at bit `at`, is set: they stand in one word.
-fn is_unset(w: &[u64], at: usize) -> bool
+pub fn is_unset(w: &[u64], at: usize) -> bool
     requires { ⌜ at < 64 * length (now w) ⌝ }
     ensures { λ b. ⌜ b ≡ unsetAt (now (w .entry)) at ⌝ }
 {

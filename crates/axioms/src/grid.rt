@@ -17,24 +17,17 @@ use model::Row;
 use rows::bytes;
 use rows::kinds;
 
-// Edge 2: whether y follows x, which is r, in their scoped modification order. Few rows are mutually-ordered.
-fn follows_of(
-    rows: &[u8],
-    p: Places,
-    mode: Mode,
-    n: usize,
-    x: usize,
-    r: Row,
-    y: usize,
-    w: &[u64],
-) -> bool
-    requires { ⌜ (x < n) × (y < n) × (r ≡ rowOf (now rows) x) × Known (decode (now rows) p mode n) n (now w) ⌝ }
+// Edge 2: whether y follows x in their scoped modification order. Few rows are mutually-ordered, and a bit tells it.
+fn follows_of(rows: &[u8], p: Places, mode: Mode, n: usize, x: usize, y: usize, w: &[u64]) -> bool
+    requires { ⌜ (x < n) × (y < n) × Known (decode (now rows) p mode n) n (now w) ⌝ }
     ensures { λ d. ⌜ d ≡ follows (decode (now (rows .entry)) p mode n) x y ⌝ }
 {
     if !race::mutual_at(rows, p, mode, n, x, y, w) {
         return false;
     }
-    rows::scopes::is_later_writer(mode.counted, bytes::read_row(rows, y as u16), r)
+    let r = bytes::read_row(rows, x as u16);
+    let q = bytes::read_row(rows, y as u16);
+    rows::scopes::is_later_writer(mode.counted, q, r)
 }
 
 // The same where x is a source, which may be no row: then the work area is not asked.
@@ -43,7 +36,7 @@ fn follows_source(rows: &[u8], p: Places, mode: Mode, n: usize, x: u16, y: usize
     ensures { λ d. ⌜ d ≡ follows (decode (now (rows .entry)) p mode n) x y ⌝ }
 {
     if (x as usize) < n {
-        return follows_of(rows, p, mode, n, x as usize, bytes::read_row(rows, x), y, w);
+        return follows_of(rows, p, mode, n, x as usize, y, w);
     }
     edges::follows_source(rows, p, mode, n, x, y, bytes::read_row(rows, y as u16))
 }
@@ -91,6 +84,10 @@ fn from_reads_of(
     }
     let s = crate::source_at(src, x);
     if s.is_initial() {
+        let start = r.start as u32;
+        if !race::may_touch(rows, y as u16, start, start + (r.size as u32)) {
+            return false;
+        }
         let q = bytes::read_row(rows, y as u16);
         return kinds::writes(q) & location::shared::overlap(r, q);
     }
@@ -118,7 +115,7 @@ fn edge_of(
     if reads_from_of(rows, p, mode, n, src, x, y) {
         return true;
     }
-    if follows_of(rows, p, mode, n, x, r, y, w) {
+    if follows_of(rows, p, mode, n, x, y, w) {
         return true;
     }
     from_reads_of(rows, p, mode, n, src, x, r, y, w)

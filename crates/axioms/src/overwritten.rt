@@ -75,6 +75,10 @@ pub fn over_nth(
     requires { ⌜ (y < n) × (z < n) × (n ≤ length (now src)) × Known (decode (now rows) p mode n) n (now w) ⌝ }
     ensures { λ k. ⌜ k ≡ overNth (decode (now (rows .entry)) p mode n) (sourceIn (now (src .entry))) y z ⌝ }
 {
+    let at = area::LOCATION * 64 + z * area::PAIRS + y * area::PAIR;
+    if crate::edges::is_unset(w, at) {
+        return area::PAIR;
+    }
     if !may_overwrite(rows, p, mode, n, src, y, z) {
         return area::PAIR;
     }
@@ -104,6 +108,11 @@ pub fn over_writer(
     requires { ⌜ (y < n) × (n ≤ length (now src)) × Known (decode (now rows) p mode n) n (now w) ⌝ }
     ensures { λ z. ⌜ z ≡ overWriter (decode (now (rows .entry)) p mode n) (sourceIn (now (src .entry))) y ⌝ }
 {
+    let r = rows::bytes::read_row(rows, y as u16);
+    let s = crate::source_at(src, y);
+    if !(rows::kinds::reads(r) & s.is_row(n as u16)) {
+        return n;
+    }
     for z in 0..n {
         if over_nth(rows, p, mode, n, src, y, z, w) < area::PAIR {
             return z;

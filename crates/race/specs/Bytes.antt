@@ -1,23 +1,26 @@
 -- What races are read from, and what a pair's bits say of each byte. Assumes nothing.
-use mathlib.Core.Path.{_≡_, refl, sym, subst}
+use mathlib.Core.Path.{_≡_, refl, sym, subst, _∙_}
 use mathlib.Core.Bool.{Bool, true, false, not}
 use mathlib.Core.List.{List}
 use Prim.Native.Nat.{ℕ, _+_, _-_, _*_, _≤_, _<_}
 use native.Mathlib.Omega.{arith}
 use lib.ListN.{length}
-use Rattle.finite.specs.Logic.{_and_, split, and-true, not-so, not-both}
+use lib.Dec.{ltb}
+use borrow.Author.Tests.{lt-ltb}
+use Rattle.finite.specs.Logic.{_and_, split, and-true, not-so, not-out, not-both}
 use Rattle.bits.specs.Bit.{bit}
 use Rattle.bits.specs.Cube.{cube-bit}
 use Rattle.model.specs.declared.Row.{Row}
 use Rattle.model.specs.declared.Shared.{Shared}
 use Rattle.model.specs.declared.Shared.the-variants.{At, Nothing}
 use Rattle.model.specs.Limits.{ROWS, WORK, BYTES}
-use Rattle.model.specs.Row.{access, touches, lowestShared}
+use Rattle.model.specs.Row.{access, inside, touches, lowestShared, overlap}
 use Rattle.model.specs.Table.{Table}
 use Rattle.model.specs.Scope.{mutually}
 use Rattle.model.specs.Location.{common, before}
 use Rattle.model.specs.Race.{conflict}
 use Rattle.model.specs.Edge.{beforeNth}
+use Rattle.laws.specs.PairLaws.{inside-out, overlap-is}
 use Rattle.laws.specs.RaceLaws.{Sized, touched, common-left, common-right}
 use Rattle.location.specs.Shared.{inBoth, lowest-at, lowest-nothing}
 use Rattle.area.specs.Regions.{LOCATION, PAIR, PAIRS}
@@ -36,6 +39,10 @@ Bounded t = (i : ℕ) → i < t .rows → access (t .row i) ≡ true → t .row 
 -- x and y conflict and are not mutually-ordered
 unfoldable pub mayRace : Table → ℕ → ℕ → Bool
 mayRace t x y = conflict t x y and not (mutually t x y)
+
+-- q starts before the byte e, and ends after the byte a
+unfoldable pub mayTouch : Row → ℕ → ℕ → Bool
+mayTouch q a e = ltb a (q .start + q .size) and ltb (q .start) e
 
 unfoldable pub byteOr : Shared → ℕ → ℕ
 byteOr (At c) e = c
@@ -73,6 +80,22 @@ before-bit t n w x y b a m h l k e o s q =
 -- ---- laws: where the search of a pair starts
 
 module _ (r q : Row) where
+  -- rows share no byte where one starts at or past the other's end
+  pub touch-apart : (b : Bool) → b ≡ mayTouch q (r .start) (r .start + r .size) → not b ≡ true → overlap r q ≡ false
+  unfolding mayTouch touches
+  touch-apart b e h = not-so (overlap r q) (λ o. not-both (meet (overlap-is r q .0 o)) (sym e ∙ not-out b h))
+    where
+      meet : (c : ℕ) × (inside (r .start) (r .size) c ≡ true) × (inside (q .start) (q .size) c ≡ true)
+          → (ltb (r .start) (q .start + q .size) and ltb (q .start) (r .start + r .size)) ≡ true
+      meet s =
+          let f = inside-out (r .start) (r .size) (s .0) (s .1) in
+          let g = inside-out (q .start) (q .size) (s .0) (s .2) in
+          let f0 = f .0 in
+          let f1 = f .1 in
+          let g0 = g .0 in
+          let g1 = g .1 in
+          and-true (lt-ltb (r .start) (q .start + q .size) (omega arith)) (lt-ltb (q .start) (r .start + r .size) (omega arith))
+
   both-in : (c : ℕ) → common r q c ≡ true → inBoth (r .start) (r .size) (q .start) (q .size) c ≡ true
   unfolding inBoth touches
   both-in c e = and-true (common-left r q c e) (common-right r q c e)

@@ -1,6 +1,6 @@
 -- The first race as an answer, and the turns of its search. Assumes nothing.
 use mathlib.Core.Path.{_≡_, refl, subst}
-use mathlib.Core.Bool.{Bool, true, false, cond}
+use mathlib.Core.Bool.{Bool, true, false, not, cond}
 use mathlib.Core.Logic.{⊎-elim}
 use Prim.Native.Nat.{ℕ, _+_, _-_, _≤_, _<_}
 use native.Mathlib.Omega.{arith}
@@ -12,7 +12,7 @@ use Rattle.finite.specs.Logic.{_and_, split, and-true, and-false-left, and-fals
 use Rattle.finite.specs.Below.{least, least-is, least-found, least-unique, below-cases}
 use Rattle.model.specs.declared.Row.{Row}
 use Rattle.model.specs.Limits.{LONGEST, BYTES}
-use Rattle.model.specs.Row.{touches}
+use Rattle.model.specs.Row.{touches, overlap}
 use Rattle.model.specs.Table.{Table}
 use Rattle.model.specs.Location.{common}
 use Rattle.model.specs.Race.{nth, clash, conflict, unordered, unorderedNth, raceNth, races, racesAbove, racePartner, hasRace, raceRow, raceByte}
@@ -20,7 +20,7 @@ use Rattle.laws.specs.RaceLaws.{Sized, touched, common-left}
 use Rattle.laws.specs.PairLaws.{inside-out}
 use Rattle.race.specs.declared.Found.{Found}
 use Rattle.race.specs.declared.Found.the-variants.{At, Nothing}
-use Rattle.race.specs.Bytes.{Bounded, mayRace, lowestByte, lowest-apart}
+use Rattle.race.specs.Bytes.{Bounded, mayRace, mayTouch, lowestByte, touch-apart, lowest-apart}
 
 -- ---- definitions
 
@@ -120,6 +120,12 @@ module _ (t : Table) (x y : ℕ) where
   pub pair-off : mayRace t x y ≡ false → racesAbove t x y ≡ false
   unfolding racesAbove races mayRace
   pair-off f = and-false-right _ _ (and-false-left _ _ f)
+
+  pub pair-apart : (r q : Row) (e : ℕ) (b : Bool) → r ≡ t .row x → q ≡ t .row y → e ≡ r .start + r .size → b ≡ mayTouch q (r .start) e → not b ≡ true → racesAbove t x y ≡ false
+  unfolding mayRace conflict clash
+  pair-apart r q e b er eq ee eb h =
+      let o : overlap (t .row x) (t .row y) ≡ false = rw (← er, ← eq) (touch-apart r q b (rw (← ee) eb) h) in
+      pair-off (and-false-left _ _ (and-false-right _ _ (and-false-right _ _ o)))
 
   -- a racing access ends at or below BYTES
   pub race-ends : Bounded t → (r : Row) → r ≡ t .row x → x < t .rows → mayRace t x y ≡ true → r .start + r .size ≤ BYTES

@@ -6,7 +6,7 @@ ghost use Rattle.model.specs.Table.{rowOf, decode};
 ghost use Rattle.model.specs.Scope.{mutually};
 ghost use Rattle.model.specs.Location.{before};
 ghost use Rattle.model.specs.Race.{unordered};
-ghost use Rattle.race.specs.Bytes.{Known, Bounded, mayRace, lowestByte};
+ghost use Rattle.race.specs.Bytes.{Known, Bounded, mayRace, mayTouch, lowestByte};
 ghost use Rattle.race.specs.First.{foundRace};
 use model::Mode;
 use model::Places;
@@ -101,6 +101,22 @@ pub fn may_race(
     !(x == y) & location::shared::clash(r, q) & !mutual_at(rows, p, mode, n, x, y, w)
 }
 
+// Places of a row's size and start.
+const SIZE: u8 = 7;
+
+const START: u8 = 8;
+
+// Whether row y may have a byte from `start` to before `end`: it starts before that end, and ends after that start. Most pairs of rows
+// share no byte, and three bytes of a row tell it.
+// Ruled out: one that holds of a row that ends where those bytes start; one that reads another row.
+pub fn may_touch(rows: &[u8], y: u16, start: u32, end: u32) -> bool
+    ensures { λ b. ⌜ b ≡ mayTouch (rowOf (now (rows .entry)) y) start end ⌝ }
+{
+    let other = rows::bytes::row_pair(rows, y, START) as u32;
+    let size = rows::bytes::row_byte(rows, y, SIZE) as u32;
+    (start < other + size) & (other < end)
+}
+
 // Where the byte search of a pair starts: the lowest byte that r and q share, and r's end where there is none.
 fn lowest_byte(r: Row, q: Row) -> u32
     ensures { λ b. ⌜ b ≡ lowestByte r q ⌝ }
@@ -126,8 +142,12 @@ pub fn first_race(rows: &[u8], p: Places, mode: Mode, n: usize, w: &[u64]) -> Fo
     let mut answer = Found::Nothing;
     'pairs: for x in 0..n {
         let r = rows::bytes::read_row(rows, x as u16);
-        let end = (r.start as u32) + (r.size as u32);
+        let start = r.start as u32;
+        let end = start + (r.size as u32);
         for y in x + 1..n {
+            if !may_touch(rows, y as u16, start, end) {
+                continue;
+            }
             let q = rows::bytes::read_row(rows, y as u16);
             if !may_race(rows, p, mode, n, x, y, r, q, w) {
                 continue;

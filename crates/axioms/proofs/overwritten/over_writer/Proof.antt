@@ -1,17 +1,22 @@
-use Rattle.axioms.specs.Overwritten.{overwriting-is}
+use Rattle.axioms.specs.Overwritten.{unread-none, overwriting-is}
 use Rattle.axioms.specs.Sources.{sourceIn}
+use Rattle.finite.specs.Logic.{_and_}
 use Rattle.model.specs.Edge.{overwriting, overWriter}
 use Rattle.finite.specs.Below.{least, least-none, least-found, least-more}
 use Rattle.model.specs.Table.{decode}
 use native.Mathlib.Omega.{arith}
 use Prim.Native.Nat.{_-_, _≤_}
-use mathlib.Core.Path.{_≡_, sym}
+use mathlib.Core.Path.{_≡_, refl, sym}
 use borrow.Author.Needs.{needs}
 use Rattle.axioms.proofs.overwritten.over_writer.Statement.{statement}
 use Rattle.axioms.proofs.overwritten.over_writer.Tie as tie
 use Rattle.axioms.proofs.overwritten.over_writer.Reads as reads
 use Rattle.axioms.proofs.overwritten.over_writer.Lts as lts
 use Rattle.axioms.proofs.overwritten.over_nth.Reads as over-nth-reads
+use Rattle.axioms.proofs.source_at.Reads as source-at-reads
+use Rattle.model.proofs.Source.is_row.Reads as is-row-reads
+use Rattle.rows.proofs.bytes.read_row.Reads as read-row-reads
+use Rattle.rows.proofs.kinds.reads.Reads as reads-reads
 
 abbrev Inv-loop : tie.InvT-loop
 Inv-loop rows p mode n src y w z₀ z = (z ≤ n) × (least z (overwriting (decode rows p mode n) (sourceIn src) y) ≡ z)
@@ -19,36 +24,65 @@ Inv-loop rows p mode n src y w z₀ z = (z ≤ n) × (least z (overwriting (deco
 abbrev μ-loop : tie.MeasureT-loop
 μ-loop rows p mode n src y w z₀ z = n - z
 
--- src/overwritten.rt:98:5
+-- src/overwritten.rt:111:41
+cast-read-row : tie.Need-cast-read-row Inv-loop μ-loop
+cast-read-row c = search needs
+
+-- src/overwritten.rt:111:9
+read-row-requires : tie.Need-read-row-requires Inv-loop μ-loop
+read-row-requires c κs = search needs
+
+-- src/overwritten.rt:112:9
+source-at-requires : tie.Need-source-at-requires Inv-loop μ-loop
+source-at-requires c κs = search needs
+
+-- src/overwritten.rt:113:10
+reads-requires : tie.Need-reads-requires Inv-loop μ-loop
+reads-requires c κs = search needs
+
+-- src/overwritten.rt:113:43
+cast-is-row : tie.Need-cast-is-row Inv-loop μ-loop
+cast-is-row c = search needs
+
+-- src/overwritten.rt:113:34
+is-row-requires : tie.Need-is-row-requires Inv-loop μ-loop
+is-row-requires c κs = search needs
+
+-- src/overwritten.rt:114:9
+returns : tie.Need-returns Inv-loop μ-loop
+unfolding decode _and_
+returns c = unread-none _ _ _ _ _ _ _ _ refl (c .before .before .before .before .read-row .ensures) (c .before .before .before .source-at .ensures) (c .before .before .reads .ensures) (c .before .is-row .ensures) (c .if1 .taken)
+
+-- src/overwritten.rt:116:5
 loop-holds : tie.Need-loop-holds Inv-loop μ-loop
 loop-holds c = (search needs, least-none _)
 
--- src/overwritten.rt:99:12
+-- src/overwritten.rt:117:12
 over-nth-requires : tie.Need-over-nth-requires Inv-loop μ-loop
 over-nth-requires c κs = search needs
 
--- src/overwritten.rt:100:13
-returns : tie.Need-returns Inv-loop μ-loop
+-- src/overwritten.rt:118:13
+returns-2 : tie.Need-returns-2 Inv-loop μ-loop
 unfolding overWriter decode
-returns c = sym (least-found _ _ _ (c .before .before .before .loop .inv .1) (overwriting-is _ _ _ _ _ (c .before .over-nth .ensures) .0 (c .if1 .taken)) (c .before .before .loop-test .taken))
+returns-2 c = sym (least-found _ _ _ (c .before .before .before .loop .inv .1) (overwriting-is _ _ _ _ _ (c .before .over-nth .ensures) .0 (c .if2 .taken)) (c .before .before .loop-test .taken))
 
--- src/overwritten.rt:98:9
+-- src/overwritten.rt:116:9
 add-z : tie.Need-add-z Inv-loop μ-loop
 add-z c = search needs
 
--- src/overwritten.rt:98:5
+-- src/overwritten.rt:116:5
 loop-less : tie.Need-loop-less Inv-loop μ-loop
 loop-less c = search needs
 
--- src/overwritten.rt:98:5
+-- src/overwritten.rt:116:5
 loop-again : tie.Need-loop-again Inv-loop μ-loop
 unfolding decode
-loop-again c = (search needs, least-more _ _ (c .before .before .before .loop .inv .1) (overwriting-is _ _ _ _ _ (c .before .over-nth .ensures) .1 (c .if1 .left)))
+loop-again c = (search needs, least-more _ _ (c .before .before .before .loop .inv .1) (overwriting-is _ _ _ _ _ (c .before .over-nth .ensures) .1 (c .if2 .left)))
 
--- src/overwritten.rt:94:1
-returns-2 : tie.Need-returns-2 Inv-loop μ-loop
+-- src/overwritten.rt:99:1
+returns-3 : tie.Need-returns-3 Inv-loop μ-loop
 unfolding overWriter decode
-returns-2 c = let e : c .before .loop .z ≡ c .before .before .before .before .before .args .n = omega arith in sym (rw e at (c .before .loop .inv .1))
+returns-3 c = let e : c .before .loop .z ≡ c .before .before .before .before .before .before .before .before .before .before .args .n = omega arith in sym (rw e at (c .before .loop .inv .1))
 
 pub over-writer-spec : {M : Type 1} → statement M
 over-writer-spec =
@@ -56,10 +90,17 @@ over-writer-spec =
     (tie.spec
     Inv-loop
     μ-loop
+    cast-read-row
+    read-row-requires
+    source-at-requires
+    reads-requires
+    cast-is-row
+    is-row-requires
+    returns
     loop-holds
     over-nth-requires
-    returns
+    returns-2
     add-z
     loop-less
     loop-again
-    returns-2)
+    returns-3)

@@ -19,7 +19,7 @@ use Rattle.bits.specs.Fill.{rowFill, rowFill-in, rowFill-put, rowFill-skip, wit
 use Rattle.bits.specs.Matrix.{rel}
 use Rattle.model.specs.declared.Row.{Row}
 use Rattle.model.specs.Limits.{ROWS, WORK}
-use Rattle.model.specs.Row.{access, meets, classIn, single, releases}
+use Rattle.model.specs.Row.{holds, access, meets, classIn, single, releases}
 use Rattle.model.specs.Table.{Table, rowOf}
 use Rattle.model.specs.Moment.{AT, rowIn, part, classesOf}
 use Rattle.model.specs.Synchronizes.{synchronizes}
@@ -146,6 +146,12 @@ touched-more bs n q w v u few l h s =
     go i m k o (no e) = within-bit (s .frame) ((TOUCHED + i * MOMENTS) * 64 + m) (λ z. omega arith) ∙ h .touched .cell i m (omega arith) o
 
 -- ---- laws: a row's tests
+
+pub holding-off : (bs : List ℕ) (s x c : ℕ) → c ≡ rowOf bs x .classes → holds c s ≡ false → false ≡ holdingAt bs s (3 * x + 1)
+unfolding holdingAt holdingOf
+holding-off bs s x c e f =
+    let q : (3 * x + 1) / 3 ≡ x = omega arith in
+    rw q (sym (and-false-right _ _ (ap (λ (z : ℕ). holds z s) (sym e) ∙ f)))
 
 pub holding-at : (bs : List ℕ) (s x : ℕ) (r : Row) (b : Bool) → r ≡ rowOf bs x → b ≡ holdingOf s r 1 → b ≡ holdingAt bs s (3 * x + 1)
 unfolding holdingAt

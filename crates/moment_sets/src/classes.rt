@@ -87,11 +87,14 @@ pub fn fill_classes(w: &mut [u64], rows: &[u8], n: usize)
 
 // ---- of a class set
 
-// Whether row x holds all of s.
+// Whether row x holds all of s. Most rows have not all of its classes, as one byte tells.
 fn hold_at(rows: &[u8], s: u8, x: usize) -> bool
     requires { ⌜ x < ROWS ⌝ }
     ensures { λ b. ⌜ b ≡ holdingAt (now (rows .entry)) s (3 * x + 1) ⌝ }
 {
+    if !rows::kinds::holds(rows::bytes::read_classes(rows, x as u16), s) {
+        return false;
+    }
     let r = rows::bytes::read_row(rows, x as u16);
     order::steps::holding_of(s, r, moments::AT)
 }

@@ -283,13 +283,13 @@ hop-made x h k a d w v₀ v₁ v₂ v₃ u e₀ e₁ e₂ e₃ e₄ =
     rw (← f₀, ← e₁, ← e₂, ← e₃) e₄
 
 -- a turn of the loop over the rows
-pub hops-turn : (bs : List ℕ) (t : Table) (n s x : ℕ) (dep h k q : Bool) (w v u : List ℕ) → Setup bs t n s dep w → x < n → HopsMade t dep s n x w v
-    → h ≡ bit v (HOLD * 64 + (3 * x + 1)) → k ≡ bit v (CONCERN * 64 + (3 * x + 1)) → q ≡ acquires (rowOf bs x)
-    → u ≡ hopWords x h (h || dep && k) (h && q) dep v → HopsMade t dep s n (x + 1) w u
-hops-turn bs t n s x dep h k q w v u p l m held on acq made =
+pub hops-turn : (bs : List ℕ) (t : Table) (n s x : ℕ) (dep h k a : Bool) (w v u : List ℕ) → Setup bs t n s dep w → x < n → HopsMade t dep s n x w v
+    → h ≡ bit v (HOLD * 64 + (3 * x + 1)) → k ≡ bit v (CONCERN * 64 + (3 * x + 1)) → a ≡ (h and acquires (rowOf bs x))
+    → u ≡ hopWords x h (h || dep && k) a dep v → HopsMade t dep s n (x + 1) w u
+hops-turn bs t n s x dep h k a w v u p l m held on acq made =
     let e : (h || dep && k) ≡ (h or dep and k) = or-both h (dep && k) ∙ ap (λ (z : Bool). h or z) (and-both dep k) in
-    hops-more bs t n s x dep h k q w v u p l m held on acq
-    (made ∙ ap (λ (z : Bool). hopWords x h z (h && q) dep v) e ∙ ap (λ (z : Bool). hopWords x h (h or dep and k) z dep v) (and-both h q))
+    hops-more bs t n s x dep h k (acquires (rowOf bs x)) w v u p l m held on refl
+    (made ∙ ap (λ (z : Bool). hopWords x h z a dep v) e ∙ ap (λ (z : Bool). hopWords x h (h or dep and k) z dep v) acq)
 
 pub hops-frame : (x : ℕ) (h k a d : Bool) (w v u : List ℕ) → x < ROWS → WORK ≤ length v → Within HOPS HOPS-END w v → u ≡ hopWords x h k a d v → Within HOPS HOPS-END w u
 hops-frame x h k a d w v u l room f made =

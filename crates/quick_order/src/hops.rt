@@ -3,6 +3,7 @@
 ghost use mathlib.Core.Path.{_≡_};
 ghost use Prim.Native.Nat.{ℕ, _+_, _*_, _≤_, _<_};
 ghost use lib.ListN.{length};
+ghost use Rattle.finite.specs.Logic.{_and_};
 ghost use Rattle.bits.specs.Within.{Within};
 ghost use Rattle.model.specs.Limits.{ROWS, WORK};
 ghost use Rattle.model.specs.Row.{acquires};
@@ -11,11 +12,14 @@ ghost use Rattle.moment_sets.specs.Regions.{HOPS, HOPS-END};
 ghost use Rattle.moment_sets.specs.Known.{Setup};
 ghost use Rattle.quick_order.specs.Hops.{hopWords, HopsMade};
 
-// Whether row x acquires.
-fn acquires_at(rows: &[u8], x: usize) -> bool
+// Whether row x acquires, where h says that it is asked.
+fn acquires_at(rows: &[u8], x: usize, h: bool) -> bool
     requires { ⌜ x < ROWS ⌝ }
-    ensures { λ b. ⌜ b ≡ acquires (rowOf (now (rows .entry)) x) ⌝ }
+    ensures { λ b. ⌜ b ≡ (h and acquires (rowOf (now (rows .entry)) x)) ⌝ }
 {
+    if !h {
+        return false;
+    }
     rows::kinds::acquires(rows::bytes::read_row(rows, x as u16))
 }
 
@@ -44,7 +48,7 @@ pub fn fill_hops(w: &mut [u64], rows: &[u8], n: usize, dep: bool)
     for x in 0..n {
         let h = bits::get(w, moment_sets::HOLD * 64 + (3 * x + 1));
         let k = bits::get(w, moment_sets::CONCERN * 64 + (3 * x + 1));
-        let q = acquires_at(rows, x);
-        hop_row(w, x, h, h | dep & k, h & q, dep);
+        let a = acquires_at(rows, x, h);
+        hop_row(w, x, h, h | dep & k, a, dep);
     }
 }

@@ -16,12 +16,13 @@ use model::Places;
 
 pub mod settle; // the search for a race, the choice and its tests, one after the other
 
-// Fills the n rows of a table that is admitted; the work area's words end as zeros.
+// Fills the n rows of a table that is admitted, by the engine that `quick` says; the work area's words end as zeros.
 fn fill_rows(
     rows: &[u8],
     p: Places,
     mode: Mode,
     n: usize,
+    quick: bool,
     work: &mut [u64],
     sources: &mut [u16],
 ) -> FillAnswer
@@ -31,7 +32,7 @@ fn fill_rows(
         × (now (sources .exit) ≡ sourcesAfter (outcome (decode (now (rows .entry)) p mode n) (sourceOf (now (rows .entry)))) (now (sources .entry))) ⌝ }
 {
     let src = choice::sources::read_sources(rows, n);
-    verdict::judge::locate(rows, p, mode, n, work);
+    verdict::judge::locate_by(quick, rows, p, mode, n, work);
     let r = settle::settle(rows, p, mode, n, &src, work, sources);
     bits::clear(work, 0, model::WORK);
     r
@@ -39,12 +40,14 @@ fn fill_rows(
 
 // Fills the blanks of a table in two pieces, whatever bytes they have, on a device with chains or without: a refusal, a race, none, or the
 // sources of all rows in the lent buffer.
+// Whichever engine `quick` says, the answer is this one.
 // Two wrong programs that the contract rules out: one that leaves a choice in the source buffer where the filled table is not
 // consistent; one that names a race and leaves its bits in the work area.
-pub fn fill_both(
+pub fn fill_by(
     first: &[u8],
     second: &[u8],
     chains: bool,
+    quick: bool,
     work: &mut [u64],
     sources: &mut [u16],
 ) -> FillAnswer
@@ -76,7 +79,22 @@ pub fn fill_both(
     let mode = rows::scopes::read_mode(first, chains);
     let all = pieces::join_rows(first, second);
     let end = n * rows::bytes::ROW_BYTES;
-    fill_rows(&all[..end], p, mode, n, work, sources)
+    fill_rows(&all[..end], p, mode, n, quick, work, sources)
+}
+
+// The same by the quick engine.
+pub fn fill_both(
+    first: &[u8],
+    second: &[u8],
+    chains: bool,
+    work: &mut [u64],
+    sources: &mut [u16],
+) -> FillAnswer
+    ensures { λ r. ⌜ (r ≡ fillAnswer (fillBoth chains (now (first .entry)) (now (second .entry)) (length (now (work .entry))) (length (now (sources .entry)))))
+        × (now (work .exit) ≡ workAfter (fillBoth chains (now (first .entry)) (now (second .entry)) (length (now (work .entry))) (length (now (sources .entry)))) (now (work .entry)))
+        × (now (sources .exit) ≡ sourcesAfter (fillBoth chains (now (first .entry)) (now (second .entry)) (length (now (work .entry))) (length (now (sources .entry)))) (now (sources .entry))) ⌝ }
+{
+    fill_by(first, second, chains, true, work, sources)
 }
 
 // Fills the blanks of a table in one piece.
@@ -86,4 +104,14 @@ pub fn fill(table: &[u8], chains: bool, work: &mut [u64], sources: &mut [u16]) -
         × (now (sources .exit) ≡ sourcesAfter (fill chains (now (table .entry)) (length (now (work .entry))) (length (now (sources .entry)))) (now (sources .entry))) ⌝ }
 {
     fill_both(table, &table[..0], chains, work, sources)
+}
+
+// The same by the obvious engine, with one flag for each two moments.
+// Ruled out: one that chooses another source than the quick fill; one that writes sources where the answer is a race.
+pub fn fill_by_flags(table: &[u8], chains: bool, work: &mut [u64], sources: &mut [u16]) -> FillAnswer
+    ensures { λ r. ⌜ (r ≡ fillAnswer (fill chains (now (table .entry)) (length (now (work .entry))) (length (now (sources .entry)))))
+        × (now (work .exit) ≡ workAfter (fill chains (now (table .entry)) (length (now (work .entry))) (length (now (sources .entry)))) (now (work .entry)))
+        × (now (sources .exit) ≡ sourcesAfter (fill chains (now (table .entry)) (length (now (work .entry))) (length (now (sources .entry)))) (now (sources .entry))) ⌝ }
+{
+    fill_by(table, &table[..0], chains, false, work, sources)
 }

@@ -164,6 +164,22 @@ pub extern "C" fn stramashly_check(
     pack_check(verdict::check::check(table, !(chains == 0), work, cycle))
 }
 
+// The same by the obvious engine, for whoever wants a second answer: it is proved to be the first one.
+// Ruled out: one whose work area keeps a flag; one that answers another race than the quick engine.
+#[no_mangle]
+pub extern "C" fn stramashly_check_by_flags(
+    table: &[u8],
+    chains: u8,
+    work: &mut [u64],
+    cycle: &mut [u16],
+) -> u64
+    ensures { λ r. ⌜ (r ≡ packCheck (checkAnswer (check (isOn chains) (now (table .entry)) (length (now (work .entry))) (length (now (cycle .entry))))))
+        × (now (work .exit) ≡ workAfter (check (isOn chains) (now (table .entry)) (length (now (work .entry))) (length (now (cycle .entry)))) (now (work .entry)))
+        × (now (cycle .exit) ≡ cycleAfter (check (isOn chains) (now (table .entry)) (length (now (work .entry))) (length (now (cycle .entry)))) (now (cycle .entry))) ⌝ }
+{
+    pack_check(verdict::check::check_by_flags(table, !(chains == 0), work, cycle))
+}
+
 // Fills the blanks of one recorded run: `filling::fill`, packed, with the number of rows where it filled them.
 // Ruled out: one whose code for filled is that of none; one that writes a source where a pair races.
 #[no_mangle]
@@ -178,6 +194,23 @@ pub extern "C" fn stramashly_fill(
         × (now (sources .exit) ≡ sourcesAfter (fill (isOn chains) (now (table .entry)) (length (now (work .entry))) (length (now (sources .entry)))) (now (sources .entry))) ⌝ }
 {
     let answer = filling::fill(table, !(chains == 0), work, sources);
+    pack_fill(answer, bytes::rows_at(table))
+}
+
+// The same by the obvious engine.
+// Ruled out: one that fills another source than the quick engine; one whose code for filled is that of none.
+#[no_mangle]
+pub extern "C" fn stramashly_fill_by_flags(
+    table: &[u8],
+    chains: u8,
+    work: &mut [u64],
+    sources: &mut [u16],
+) -> u64
+    ensures { λ r. ⌜ (r ≡ packFill (fillAnswer (fill (isOn chains) (now (table .entry)) (length (now (work .entry))) (length (now (sources .entry))))) (rowsAt (now (table .entry))))
+        × (now (work .exit) ≡ Fill.workAfter (fill (isOn chains) (now (table .entry)) (length (now (work .entry))) (length (now (sources .entry)))) (now (work .entry)))
+        × (now (sources .exit) ≡ sourcesAfter (fill (isOn chains) (now (table .entry)) (length (now (work .entry))) (length (now (sources .entry)))) (now (sources .entry))) ⌝ }
+{
+    let answer = filling::fill_by_flags(table, !(chains == 0), work, sources);
     pack_fill(answer, bytes::rows_at(table))
 }
 

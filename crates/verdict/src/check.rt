@@ -13,12 +13,13 @@ use model::CheckAnswer;
 use model::Mode;
 use model::Places;
 
-// The verdict on the n rows of a table that is admitted.
+// The verdict on the n rows of a table that is admitted, by the engine that `quick` says.
 fn judge_rows(
     rows: &[u8],
     p: Places,
     mode: Mode,
     n: usize,
+    quick: bool,
     work: &mut [u64],
     cycle: &mut [u16],
 ) -> CheckAnswer
@@ -28,7 +29,7 @@ fn judge_rows(
         × (now (cycle .exit) ≡ cycleAfter (verdict (decode (now (rows .entry)) p mode n) (sourceOf (now (rows .entry)))) (now (cycle .entry))) ⌝ }
 {
     let src = choice::sources::read_sources(rows, n);
-    crate::judge::locate(rows, p, mode, n, work);
+    crate::judge::locate_by(quick, rows, p, mode, n, work);
     let r = crate::judge::judge(rows, p, mode, n, &src, work, cycle);
     bits::clear(work, 0, model::WORK);
     r
@@ -37,11 +38,13 @@ fn judge_rows(
 // Judges one recorded run in two pieces, the first a table, the second more rows for it; `chains` says whether the device reports
 // vulkanMemoryModelAvailabilityVisibilityChains. A short buffer is refusal 11; a table that is refused leaves both buffers alone. Otherwise
 // the work area's own part ends as zeros, and the cycle buffer holds the cycle if that is the answer.
+// Whichever engine `quick` says, the answer is this one.
 // Ruled out: one that judges the first piece alone; one that leaves the last customer's words in the work area.
-pub fn check_both(
+pub fn check_by(
     first: &[u8],
     second: &[u8],
     chains: bool,
+    quick: bool,
     work: &mut [u64],
     cycle: &mut [u16],
 ) -> CheckAnswer
@@ -66,7 +69,22 @@ pub fn check_both(
     let mode = rows::scopes::read_mode(first, chains);
     let all = pieces::join_rows(first, second);
     let end = n * rows::bytes::ROW_BYTES;
-    judge_rows(&all[..end], p, mode, n, work, cycle)
+    judge_rows(&all[..end], p, mode, n, quick, work, cycle)
+}
+
+// The same by the quick engine.
+pub fn check_both(
+    first: &[u8],
+    second: &[u8],
+    chains: bool,
+    work: &mut [u64],
+    cycle: &mut [u16],
+) -> CheckAnswer
+    ensures { λ r. ⌜ (r ≡ checkAnswer (checkBoth chains (now (first .entry)) (now (second .entry)) (length (now (work .entry))) (length (now (cycle .entry)))))
+        × (now (work .exit) ≡ workAfter (checkBoth chains (now (first .entry)) (now (second .entry)) (length (now (work .entry))) (length (now (cycle .entry)))) (now (work .entry)))
+        × (now (cycle .exit) ≡ cycleAfter (checkBoth chains (now (first .entry)) (now (second .entry)) (length (now (work .entry))) (length (now (cycle .entry)))) (now (cycle .entry))) ⌝ }
+{
+    check_by(first, second, chains, true, work, cycle)
 }
 
 // Judges one recorded run in one piece.
@@ -77,4 +95,14 @@ pub fn check(table: &[u8], chains: bool, work: &mut [u64], cycle: &mut [u16]) ->
         × (now (cycle .exit) ≡ cycleAfter (check chains (now (table .entry)) (length (now (work .entry))) (length (now (cycle .entry)))) (now (cycle .entry))) ⌝ }
 {
     check_both(table, &table[..0], chains, work, cycle)
+}
+
+// The same by the obvious engine, with one flag for each two moments, which is kept beside the quick one.
+// Ruled out: one that shows another race than the quick check; one that leaves a flag in the work area.
+pub fn check_by_flags(table: &[u8], chains: bool, work: &mut [u64], cycle: &mut [u16]) -> CheckAnswer
+    ensures { λ r. ⌜ (r ≡ checkAnswer (check chains (now (table .entry)) (length (now (work .entry))) (length (now (cycle .entry)))))
+        × (now (work .exit) ≡ workAfter (check chains (now (table .entry)) (length (now (work .entry))) (length (now (cycle .entry)))) (now (work .entry)))
+        × (now (cycle .exit) ≡ cycleAfter (check chains (now (table .entry)) (length (now (work .entry))) (length (now (cycle .entry)))) (now (cycle .entry))) ⌝ }
+{
+    check_by(table, &table[..0], chains, false, work, cycle)
 }

@@ -33,6 +33,18 @@ pub fn locate_by_flags(rows: &[u8], p: Places, mode: Mode, n: usize, w: &mut [u6
     location::fill_location(rows, p, mode, n, w);
 }
 
+// Either of them: `quick` says which.
+pub fn locate_by(quick: bool, rows: &[u8], p: Places, mode: Mode, n: usize, w: &mut [u64])
+    requires { ⌜ (n ≤ ROWS) × (WORK ≤ length (now w)) ⌝ }
+    ensures { λ _. ⌜ Located (decode (now (rows .entry)) p mode n) n (now (w .exit)) × Within MUTUAL LOCATED-END (now (w .entry)) (now (w .exit)) ⌝ }
+{
+    if quick {
+        locate(rows, p, mode, n, w);
+        return;
+    }
+    locate_by_flags(rows, p, mode, n, w);
+}
+
 fn race_answer(f: race::Found) -> CheckAnswer
     ensures { λ r. ⌜ r ≡ raceAnswer f ⌝ }
 {

@@ -3,8 +3,8 @@
 use crate::answer::{foreign, CheckAnswer, Code, FillAnswer, Packed};
 use crate::derivation::{AcceptsAnswer, Derivation, DeriveAnswer};
 use crate::engine::{
-    accepts_in, accepts_pieces, check_pieces, check_with, derive_in, derive_pieces, fill_pieces,
-    fill_with, report_pieces, report_with, share_of, Pieces,
+    accepts_in, accepts_pieces, check_by_flags, check_pieces, check_with, derive_in, derive_pieces,
+    fill_by_flags, fill_pieces, fill_with, report_pieces, report_with, share_of, Pieces,
 };
 use crate::report::{Report, ReportAnswer, Share};
 use crate::{CHAIN_NUMBERS, CYCLE_EDGES, CYCLE_NUMBERS, PROGRAM_ORDER, SOURCE_NUMBERS, WORK_WORDS};
@@ -55,6 +55,19 @@ impl Checker {
     pub fn check(&mut self, table: &[u8]) -> CheckAnswer<'_> {
         let packed = check_with(self.chains, table, &mut self.work[..], &mut self.cycle);
         self.checked(packed)
+    }
+
+    /// Checks a table by the obvious engine, which has one flag for each two
+    /// moments: the same answer, many times as slowly.
+    pub fn check_by_flags(&mut self, table: &[u8]) -> CheckAnswer<'_> {
+        let packed = check_by_flags(self.chains, table, &mut self.work[..], &mut self.cycle);
+        self.checked(packed)
+    }
+
+    /// Fills the blanks of a table by the obvious engine.
+    pub fn fill_by_flags(&mut self, table: &[u8]) -> FillAnswer<'_> {
+        let packed = fill_by_flags(self.chains, table, &mut self.work[..], &mut self.sources);
+        self.filled(packed)
     }
 
     /// Counts a table's conflicting pairs, whatever its bytes.

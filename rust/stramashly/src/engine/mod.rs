@@ -2,11 +2,13 @@
 //! these functions do; nothing compares the declarations here with it.
 
 mod derivation;
+mod flags;
 mod pieces;
 mod report;
 mod writer;
 
 pub use derivation::{accepts_in, derive_in};
+pub use flags::{check_by_flags, fill_by_flags};
 pub use pieces::{
     accepts_pieces, check_pieces, derive_pieces, fill_pieces, report_pieces, row_of_pieces, Pieces,
 };

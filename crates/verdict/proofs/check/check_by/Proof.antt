@@ -3,10 +3,10 @@ use Rattle.pieces.specs.PiecesLaws.{copy-length, front-length}
 use Rattle.pieces.specs.Entry.{door-few, door-rows}
 use Rattle.verdict.specs.Whole.{said-refused, said-verdict}
 use borrow.Author.Needs.{needs}
-use Rattle.verdict.proofs.check.check_both.Statement.{statement}
-use Rattle.verdict.proofs.check.check_both.Tie as tie
-use Rattle.verdict.proofs.check.check_both.Reads as reads
-use Rattle.verdict.proofs.check.check_both.Lts as lts
+use Rattle.verdict.proofs.check.check_by.Statement.{statement}
+use Rattle.verdict.proofs.check.check_by.Tie as tie
+use Rattle.verdict.proofs.check.check_by.Reads as reads
+use Rattle.verdict.proofs.check.check_by.Lts as lts
 use Rattle.pieces.proofs.join_rows.Reads as join-rows-reads
 use Rattle.pieces.proofs.open_both.Reads as open-both-reads
 use Rattle.pieces.proofs.refusal_of.Reads as refusal-of-reads
@@ -87,8 +87,8 @@ returns-2 c =
     let at = c .before .before .before .before .before .before .before .before in
     said-verdict _ _ _ _ _ _ (at .before .before .before .before .before .before .open-both .ensures) (at .before .before .before .before .a .given .1) _ _ _ (at .join-rows .ensures) (at .before .before .read-places .ensures) (at .before .read-mode .ensures) _ _ _ (c .before .before .before .before .judge-rows .ensures)
 
-pub check-both-spec : {M : Type 1} → statement M
-check-both-spec =
+pub check-by-spec : {M : Type 1} → statement M
+check-by-spec =
     tie.close
     (tie.spec
     open-both-requires

@@ -3,10 +3,10 @@ use Rattle.pieces.specs.PiecesLaws.{copy-length, front-length}
 use Rattle.pieces.specs.Entry.{door-few, door-rows}
 use Rattle.filling.specs.Whole.{filled-refused, filled-outcome}
 use borrow.Author.Needs.{needs}
-use Rattle.filling.proofs.fill_both.Statement.{statement}
-use Rattle.filling.proofs.fill_both.Tie as tie
-use Rattle.filling.proofs.fill_both.Reads as reads
-use Rattle.filling.proofs.fill_both.Lts as lts
+use Rattle.filling.proofs.fill_by.Statement.{statement}
+use Rattle.filling.proofs.fill_by.Tie as tie
+use Rattle.filling.proofs.fill_by.Reads as reads
+use Rattle.filling.proofs.fill_by.Lts as lts
 use Rattle.filling.proofs.fill_rows.Reads as fill-rows-reads
 use Rattle.pieces.proofs.join_rows.Reads as join-rows-reads
 use Rattle.pieces.proofs.open_both.Reads as open-both-reads
@@ -87,8 +87,8 @@ returns-2 c =
     let at = c .before .before .before .before .before .before .before .before in
     filled-outcome _ _ _ _ _ _ (at .before .before .before .before .before .before .open-both .ensures) (at .before .before .before .before .a .given .1) _ _ _ (at .join-rows .ensures) (at .before .before .read-places .ensures) (at .before .read-mode .ensures) _ _ _ (c .before .before .before .before .fill-rows .ensures)
 
-pub fill-both-spec : {M : Type 1} → statement M
-fill-both-spec =
+pub fill-by-spec : {M : Type 1} → statement M
+fill-by-spec =
     tie.close
     (tie.spec
     open-both-requires

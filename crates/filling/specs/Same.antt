@@ -1,5 +1,6 @@
--- The two engines give the same answers. The quick check and fill (`verdict`, `filling`) and the obvious ones promise their callers `Checked` and
--- `FilledBy`; whoever keeps these promises, on any table and with chains on or off, answers and leaves what every other does. Assumes nothing.
+-- The two engines give the same answers. `check` and `check_by_flags` (`verdict`), `fill` and `fill_by_flags` (here) promise their callers
+-- `Checked` and `FilledBy`; whoever keeps these promises, on any table and with chains on or off, answers and leaves what every other does.
+-- Assumes nothing.
 use mathlib.Core.Path.{_≡_, refl, sym, ap, _∙_}
 use mathlib.Core.Bool.{Bool, true, false, cond}
 use mathlib.Core.List.{List, _++_}

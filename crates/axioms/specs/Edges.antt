@@ -2,17 +2,15 @@
 use mathlib.Core.Path.{_≡_, refl, sym, ap, subst, _∙_}
 use mathlib.Core.Bool.{Bool, true, false, not, cond}
 use mathlib.Core.List.{List}
-use Prim.Native.Nat.{ℕ, zero, suc, _+_, _*_, _/_, _%_, _^_, _≤_, _<_}
+use Prim.Native.Nat.{ℕ, zero, suc, _+_, _*_, _/_, _%_, _^_, _<_}
 use native.Mathlib.Omega.{arith}
 use native.Mathlib.Nat.{div-div-eq-div-mul}
 use lib.Pow.{pow-add}
 use lib.ListN.{getD}
-use borrow.Author.Tests.{eqb-true, eq-eqb, ne-eqb, not-false}
+use borrow.Author.Tests.{eqb-true, not-false}
 use lib.Dec.{eqb}
-use Rattle.finite.specs.Logic.{_and_, _or_, or-left, or-right, and-true, and-false-left, and-false-right, not-in, not-out}
+use Rattle.finite.specs.Logic.{_and_, and-false-left, and-false-right, not-out}
 use Rattle.bits.specs.Bit.{bit, bitOf}
-use Rattle.bits.specs.Within.{Within}
-use Rattle.bits.specs.Fill.{rowFill, within-rowFill}
 use Rattle.finite.specs.Below.{anyBelow, any-cong, any-not}
 use Rattle.model.specs.declared.Row.{Row}
 use Rattle.model.specs.Limits.{INITIAL}
@@ -21,7 +19,7 @@ use Rattle.model.specs.Table.{Table}
 use Rattle.model.specs.Scope.{mutually, laterWriter, follows}
 use Rattle.model.specs.Edge.{beforeNth, beforeSome, readsFrom, fromReads, edgeNumber, edge}
 use Rattle.race.specs.Bytes.{mayTouch, touch-apart}
-use Rattle.area.specs.Regions.{LOCATION, PAIR, PAIRS, EDGE, EDGE-END}
+use Rattle.area.specs.Regions.{LOCATION, PAIR, PAIRS}
 use Rattle.area.specs.State.{Located}
 
 -- ---- definitions
@@ -76,7 +74,7 @@ and-on : (a b : Bool) → a ≡ true → (a and b) ≡ b
 unfolding _and_
 and-on a b e = rw e refl
 
-and-on-right : (a b : Bool) → b ≡ true → (a and b) ≡ a
+pub and-on-right : (a b : Bool) → b ≡ true → (a and b) ≡ a
 unfolding _and_
 and-on-right true b e = e
 and-on-right false b e = refl
@@ -111,27 +109,10 @@ some-unset t n w x y at h l m q e = sym (any-not (orderBit w x y) PAIR none) ∙
     none : (k : ℕ) → k < PAIR → orderBit w x y k ≡ false
     none k o = subst (λ (z : ℕ). bit w (z + k) ≡ false) q (unset-bit w at k (omega arith) o e)
 
--- ---- laws: one edge after the other
+-- ---- laws: where an edge can't be
 
-module _ (t : Table) (source : ℕ → ℕ) (x y : ℕ) where
-  pub edge-location : (a : Bool) → a ≡ beforeSome t x y → a ≡ true → true ≡ edge t source x y
-  unfolding edge
-  edge-location a e h = sym (or-left _ (or-left _ (or-left _ (sym e ∙ h))))
-
-  pub edge-scoped : (a : Bool) → a ≡ follows t x y → a ≡ true → true ≡ edge t source x y
-  unfolding edge
-  edge-scoped a e h = sym (or-left _ (or-left _ (or-right _ (sym e ∙ h))))
-
-  pub edge-source : (a : Bool) → a ≡ readsFrom t source x y → a ≡ true → true ≡ edge t source x y
-  unfolding edge
-  edge-source a e h = sym (or-left _ (or-right _ (sym e ∙ h)))
-
-  pub edge-last : (a b c d : Bool) → a ≡ beforeSome t x y → a ≡ false → c ≡ readsFrom t source x y → c ≡ false → b ≡ follows t x y → b ≡ false → d ≡ fromReads t source x y
-      → d ≡ edge t source x y
-  unfolding edge _or_
-  edge-last a b c d ea ha ec hc eb hb ed = ed ∙ rw (← ea, ha, ← eb, hb, ← ec, hc) refl
-
-  -- edge 2, of rows that aren't mutually-ordered, and of rows that are
+-- edge 2, of rows that aren't mutually-ordered, and of rows that are
+module _ (t : Table) (x y : ℕ) where
   pub follows-apart : (a : Bool) → a ≡ mutually t x y → not a ≡ true → false ≡ follows t x y
   unfolding follows
   follows-apart a e h = sym (and-false-left _ _ (sym e ∙ not-out a h))
@@ -140,25 +121,12 @@ module _ (t : Table) (source : ℕ → ℕ) (x y : ℕ) where
   unfolding follows
   follows-on a b r q e h er eq eb = rw (eb, er, eq) (sym (and-on _ _ (sym e ∙ not-false a h)))
 
-  -- edge 3, of a row that has another source
-  pub source-other : (s : ℕ) → s ≡ source y → (s ≡ x → ⊥) → false ≡ readsFrom t source x y
-  unfolding readsFrom
-  source-other s e h = sym (and-false-right _ _ (ne-eqb (source y) x (λ q. h (e ∙ q))))
-
-  pub source-this : (s : ℕ) (q : Row) (a : Bool) → s ≡ source y → s ≡ x → q ≡ t .row y → a ≡ reads q → a ≡ readsFrom t source x y
-  unfolding readsFrom
-  source-this s q a e h f g = g ∙ ap reads f ∙ sym (and-on-right (reads (t .row y)) _ (eq-eqb (source y) x (sym e ∙ h)))
-
-  -- edge 4, of a row that doesn't read, and of a row and itself
+-- edge 4, of a row that doesn't read, and from one that read the initial value to a row that shares none of its bytes
+module _ (t : Table) (source : ℕ → ℕ) (x y : ℕ) where
   pub from-unread : (r : Row) (a : Bool) → r ≡ t .row x → a ≡ reads r → not a ≡ true → false ≡ fromReads t source x y
   unfolding fromReads
   from-unread r a e f h = sym (and-false-left _ _ (and-false-right _ _ (sym (ap reads e) ∙ sym f ∙ not-out a h)))
 
-  pub from-itself : x ≡ y → false ≡ fromReads t source x y
-  unfolding fromReads _and_
-  from-itself e = rw (eq-eqb x y e) refl
-
-  -- nor to a row that shares no byte with one that read the initial value
   pub from-apart : (s : ℕ) (r q : Row) (b : Bool) → s ≡ source x → eqb s INITIAL ≡ true → r ≡ t .row x → q ≡ t .row y → b ≡ mayTouch q (r .start) (r .start + r .size) → not b ≡ true
       → false ≡ fromReads t source x y
   unfolding fromReads
@@ -166,23 +134,3 @@ module _ (t : Table) (source : ℕ → ℕ) (x y : ℕ) where
       let j : eqb (source x) INITIAL ≡ true = subst (λ (v : ℕ). eqb v INITIAL ≡ true) es i in
       let o : overlap (t .row x) (t .row y) ≡ false = rw (← er, ← eq) (touch-apart r q b eb h) in
       rw j (sym (and-false-right _ _ (and-false-right _ _ o)))
-
-  module _ (s : ℕ) (r : Row) (a : Bool) (es : s ≡ source x) (er : r ≡ t .row x) (ea : a ≡ reads r) (ha : not a ≡ false) (d : x ≡ y → ⊥) where
-    on : (not (eqb x y) and reads (t .row x)) ≡ true
-    on = and-true (not-in (ne-eqb x y d)) (sym (ap reads er) ∙ sym ea ∙ not-false a ha)
-
-    pub from-initial-other : (q : Row) (b c : Bool) → eqb s INITIAL ≡ true → q ≡ t .row y → b ≡ writes q → c ≡ overlap r q → (b and c) ≡ fromReads t source x y
-    unfolding fromReads
-    from-initial-other q b c i eq eb ec =
-        let j : eqb (source x) INITIAL ≡ true = subst (λ (v : ℕ). eqb v INITIAL ≡ true) es i in
-        rw (j, eb, ec, eq, er) (sym (and-on _ _ on))
-
-    pub from-source-other : (b : Bool) → eqb s INITIAL ≡ false → b ≡ follows t s y → b ≡ fromReads t source x y
-    unfolding fromReads
-    from-source-other b i eb =
-        let j : eqb (source x) INITIAL ≡ false = subst (λ (v : ℕ). eqb v INITIAL ≡ false) es i in
-        rw (j, eb, es) (sym (and-on _ _ on))
-
--- a row of edges stays within the words of all
-pub within-edges : {w u : List ℕ} (q : ℕ → Bool) (at n : ℕ) → 64 * EDGE ≤ at → at + n ≤ 64 * EDGE-END → u ≡ rowFill q w at n → Within EDGE EDGE-END w u
-within-edges {w} q at n l m e = rw e (within-rowFill EDGE EDGE-END q w at n l m)

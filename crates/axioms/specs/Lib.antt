@@ -1,3 +1,5 @@
 pub mod Sources
 pub mod Edges
 pub mod Overwritten
+pub mod Words
+pub mod Added

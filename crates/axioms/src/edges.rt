@@ -176,4 +176,5 @@ pub fn fill_edges(rows: &[u8], p: Places, mode: Mode, n: usize, src: &[u16], w: 
     for x in 0..n {
         crate::grid::edge_row(rows, p, mode, n, src, x, w);
     }
+    crate::grid::add_sources(rows, p, mode, n, src, w);
 }

@@ -1,67 +1,69 @@
-use mathlib.Core.Path.{_≡_, refl, sym, ap, _∙_}
-use Prim.Native.Nat.{_+_, _-_, _*_, _≤_, _<_}
+use mathlib.Core.Path.{_≡_, refl}
+use Prim.Native.Nat.{_-_, _≤_}
 use native.Mathlib.Omega.{arith}
 use lib.ListN.{length}
-use Rattle.model.specs.Table.{rowOf, decode}
-use Rattle.model.specs.Edge.{edge}
-use Rattle.area.specs.Regions.{EDGE, EDGE-END, GRID}
+use Rattle.model.specs.Table.{decode}
+use Rattle.area.specs.Regions.{EDGE, EDGE-END}
 use Rattle.area.specs.State.{Located, located-kept}
-use Rattle.axioms.specs.Sources.{sourceIn}
 use Rattle.bits.specs.Within.{within-cleared}
-use Rattle.bits.specs.Stage.{made-filled}
-use Rattle.bits.specs.Fill.{gridFill, gridFill-none, gridFill-more, length-gridFill}
-use Rattle.axioms.specs.Edges.{within-edges}
+use Rattle.axioms.specs.Sources.{sourceIn}
+use Rattle.axioms.specs.Added.{Edged, outBelow, linked, rows-none, rows-more, made-edges}
 use borrow.Author.Needs.{needs}
 use Rattle.axioms.proofs.edges.fill_edges.Statement.{statement}
 use Rattle.axioms.proofs.edges.fill_edges.Tie as tie
 use Rattle.axioms.proofs.edges.fill_edges.Reads as reads
 use Rattle.axioms.proofs.edges.fill_edges.Lts as lts
+use Rattle.axioms.proofs.grid.add_sources.Reads as add-sources-reads
 use Rattle.axioms.proofs.grid.edge_row.Reads as edge-row-reads
 use Rattle.bits.proofs.clear.Reads as clear-reads
 
 abbrev Inv-loop : tie.InvT-loop
-Inv-loop rows p mode n src w₀ x₀ w x = (x ≤ n) × (length w ≡ length w₀) × Located (decode rows p mode n) n w × (w ≡ gridFill (edge (decode rows p mode n) (sourceIn src)) w₀ (EDGE * 64) (GRID * 64) n x)
+Inv-loop rows p mode n src w₀ x₀ w x = (x ≤ n) × (length w ≡ length w₀) × Located (decode rows p mode n) n w × Edged n (outBelow x (linked (decode rows p mode n) (sourceIn src))) w₀ w
 
 abbrev μ-loop : tie.MeasureT-loop
 μ-loop rows p mode n src w₀ x₀ w x = n - x
 
--- src/edges.rt:167:5
+-- src/edges.rt:175:5
 clear-requires : tie.Need-clear-requires Inv-loop μ-loop
 clear-requires c κs = search needs
 
--- src/edges.rt:168:5
+-- src/edges.rt:176:5
 loop-holds : tie.Need-loop-holds Inv-loop μ-loop
-loop-holds c = (search needs, refl, located-kept (omega arith) (within-cleared EDGE EDGE-END (omega arith) (c .before .before .clear .ensures)) (c .before .before .before .before .before .before .before .pre .1 .3), gridFill-none _ _ _ _ _)
+loop-holds c = (search needs, refl, located-kept (omega arith) (within-cleared EDGE EDGE-END (omega arith) ((c .before .before) .clear .ensures)) ((c .before .before .before .before .before .before .before) .pre .1 .3), rows-none _ _)
 
--- src/edges.rt:169:9
+-- src/edges.rt:177:9
 edge-row-requires : tie.Need-edge-row-requires Inv-loop μ-loop
-edge-row-requires c κs = let s = c .before .before .before .before .before .before .before .before .before .before in let inv = c .before .before .loop .inv in (search needs, s .pre .0, (s .pre .1 .0, search needs, s .pre .1 .2, inv .2))
+edge-row-requires c κs = let s = (c .before .before .before .before .before .before .before .before .before .before) .pre in let inv = (c .before .before) .loop .inv in (search needs, s .0, (s .1 .0, search needs, s .1 .2, inv .2))
 
--- src/edges.rt:168:9
+-- src/edges.rt:176:9
 add-x : tie.Need-add-x Inv-loop μ-loop
 add-x c = search needs
 
--- src/edges.rt:168:5
+-- src/edges.rt:176:5
 loop-less : tie.Need-loop-less Inv-loop μ-loop
 loop-less c = search needs
 
--- src/edges.rt:168:5
+-- src/edges.rt:176:5
 loop-again : tie.Need-loop-again Inv-loop μ-loop
 loop-again c =
-    let row = c .before .before .edge-row in
-    let inv = c .before .before .before .before .before .loop .inv in
-    let e = gridFill-more _ _ _ _ _ _ _ _ (inv .3) (row .ensures) in
-    (search needs, ap length e ∙ length-gridFill _ _ _ _ _ _, located-kept (omega arith) (within-edges _ _ _ (omega arith) (omega arith) (row .ensures)) (inv .2), e)
+    let row = (c .before .before) .edge-row .ensures in
+    let inv = (c .before .before .before .before .before) .loop .inv in
+    let e = rows-more _ _ _ (inv .3) row in
+    (search needs, e .frame .len, located-kept (omega arith) (row .frame) (inv .2), e)
 
--- src/edges.rt:163:1
+-- src/edges.rt:179:5
+add-sources-requires : tie.Need-add-sources-requires Inv-loop μ-loop
+add-sources-requires c κs = search needs
+
+-- src/edges.rt:171:1
 same-length : tie.Need-same-length Inv-loop μ-loop
 same-length c = search needs
 
--- src/edges.rt:163:1
+-- src/edges.rt:171:1
 returns : tie.Need-returns Inv-loop μ-loop
 returns c =
-    let e : c .before .loop .x ≡ c .before .before .before .before .before .before .before .before .before .args .n = omega arith in
-    made-filled EDGE EDGE-END GRID _ _ _ _ _ (omega arith) (omega arith) (omega arith) (c .before .before .before .before .clear .ensures) (rw e at (c .before .loop .inv .3))
+    let e : (c .before .before .before .before .before) .loop .x ≡ (c .before .before .before .before .before .before .before .before .before .before .before .before .before) .args .n = omega arith in
+    made-edges _ _ (omega arith) (omega arith) ((c .before .before .before .before .before .before .before .before) .clear .ensures) (rw e at ((c .before .before .before .before .before) .loop .inv .3)) ((c .before .before) .add-sources .ensures)
 
 pub fill-edges-spec : {M : Type 1} → statement M
 fill-edges-spec =
@@ -75,5 +77,6 @@ fill-edges-spec =
     add-x
     loop-less
     loop-again
+    add-sources-requires
     same-length
     returns)

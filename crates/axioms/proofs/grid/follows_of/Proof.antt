@@ -15,32 +15,24 @@ mutual-at-requires c κs = search needs
 
 -- src/grid.rt:26:9
 returns : tie.Need-returns
-returns c = follows-apart _ (λ i. i) _ _ _ (c .before .mutual-at .ensures) (c .if1 .taken)
+returns c = follows-apart _ _ _ _ (c .before .mutual-at .ensures) (c .if1 .taken)
 
--- src/grid.rt:28:35
+-- src/grid.rt:28:71
 cast-read-row : tie.Need-cast-read-row
 cast-read-row c = search needs
 
--- src/grid.rt:28:9
+-- src/grid.rt:28:49
 read-row-requires : tie.Need-read-row-requires
 read-row-requires c κs = search needs
 
--- src/grid.rt:29:35
-cast-read-row-2 : tie.Need-cast-read-row-2
-cast-read-row-2 c = search needs
-
--- src/grid.rt:29:9
-read-row-requires-2 : tie.Need-read-row-requires-2
-read-row-requires-2 c κs = search needs
-
--- src/grid.rt:30:5
+-- src/grid.rt:28:5
 is-later-writer-requires : tie.Need-is-later-writer-requires
 is-later-writer-requires c κs = search needs
 
 -- src/grid.rt:21:1
 returns-2 : tie.Need-returns-2
 unfolding decode
-returns-2 c = follows-on _ (λ i. i) _ _ _ _ _ _ (c .before .before .before .before .mutual-at .ensures) (c .before .before .before .if1 .left) (c .before .before .read-row .ensures) (c .before .read-row2 .ensures) (c .is-later-writer .ensures)
+returns-2 c = follows-on _ _ _ _ _ _ _ (c .before .before .before .mutual-at .ensures) (c .before .before .if1 .left) (c .before .before .before .before .before .before .pre .2) (c .before .read-row .ensures) (c .is-later-writer .ensures)
 
 pub follows-of-spec : {M : Type 1} → statement M
 follows-of-spec =
@@ -50,7 +42,5 @@ follows-of-spec =
     returns
     cast-read-row
     read-row-requires
-    cast-read-row-2
-    read-row-requires-2
     is-later-writer-requires
     returns-2)

@@ -45,6 +45,13 @@ availableRows n x r c s b = availabilityOf s (part c) and orderedRows n (itself 
 unfoldable pub visibleRows : ℕ → ℕ → Row → ℕ → Row → ℕ → Bool
 visibleRows n y q v s b = visibilityOf s (part v) and orderedRows n v (itself y) s q and coversOf s q b
 
+-- a is an availability operation of x's agent after x, v is a visibility operation of y's agent before y, whatever they cover
+unfoldable pub availableAfter : Table → ℕ → ℕ → Bool
+availableAfter t x a = availability t (availableAt t a) and programOrder t (itself x) (availableAt t a)
+
+unfoldable pub visibleBefore : Table → ℕ → ℕ → Bool
+visibleBefore t y v = visibility t (visibleAt t v) and programOrder t (visibleAt t v) (itself y)
+
 -- the broadest scope that is no broader than either: scopes are nested, so that no smaller domain need be asked of
 unfoldable pub widest : ℕ → ℕ → ℕ
 widest s u = min (min s u) DEVICE
@@ -272,6 +279,47 @@ pub visible-small : (s : Row) → visiblePart s < 3
 unfolding visiblePart
 visible-small s = ⊎-elim (λ e. rw e (omega arith)) (λ e. rw e (omega arith)) (which (plain s))
 
+module _ (t : List ℕ) (p : List (List ℕ)) (mode : Mode) (n x y : ℕ) where
+  -- an element, whatever it covers, by the row's one moment
+  pub after-row : (a k : ℕ) (r s : Row) (g d : Bool) → r ≡ rowOf t x → s ≡ rowOf t a → k ≡ availablePart s → k < 3 → g ≡ availabilityOf s k
+      → d ≡ orderedRows n (itself x) (3 * a + k) r s → availableAfter (decode t p mode n) x a ≡ (g and d)
+  unfolding decode availableAfter availability programOrder availableAt availablePart
+  after-row a k r s g d er es ek l eg ed =
+      let e : (3 * x + 1) / 3 ≡ x = omega arith in
+      let f : (3 * a + k) / 3 ≡ a = omega arith in
+      let h : (3 * a + k) % 3 ≡ k = omega arith in
+      let q : k ≡ cond (plain (rowOf t a)) AFTER BEFORE = ek ∙ ap availablePart es in
+      rw (eg, ed, er, es, ← q, e, f, h) refl
+
+  pub before-row : (v k : ℕ) (q s : Row) (g d : Bool) → q ≡ rowOf t y → s ≡ rowOf t v → k ≡ visiblePart s → k < 3 → g ≡ visibilityOf s k
+      → d ≡ orderedRows n (3 * v + k) (itself y) s q → visibleBefore (decode t p mode n) y v ≡ (g and d)
+  unfolding decode visibleBefore visibility programOrder visibleAt visiblePart
+  before-row v k q s g d eq es ek l eg ed =
+      let e : (3 * y + 1) / 3 ≡ y = omega arith in
+      let f : (3 * v + k) / 3 ≡ v = omega arith in
+      let h : (3 * v + k) % 3 ≡ k = omega arith in
+      let o : k ≡ cond (plain (rowOf t v)) BEFORE AFTER = ek ∙ ap visiblePart es in
+      rw (eg, ed, eq, es, ← o, e, f, h) refl
+
+  -- two bytes, and the number of the row, tell of an element
+  pub after-tells : (a : ℕ) → availableAfter (decode t p mode n) x a ≡ true → (mayAvail t (rowOf t x) a ≡ true) × (x ≤ a)
+  unfolding availabilityOf orderedRows makesAvailable mayAvail rowOf
+  after-tells a e =
+      let k = available-small (rowOf t a) in
+      let f = split (sym (after-row a _ _ _ _ _ refl refl refl k refl refl) ∙ e) in
+      let o = split (split (split (f .1) .0) .0) in
+      let l : 3 * x + 1 < 3 * a + availablePart (rowOf t a) = ltb-true _ _ (o .0) in
+      (and-true (o .1) (split (split (f .0) .0) .0), omega arith)
+
+  pub before-tells : (v : ℕ) → visibleBefore (decode t p mode n) y v ≡ true → (maySee t (rowOf t y) v ≡ true) × (v ≤ y)
+  unfolding visibilityOf orderedRows makesVisible maySee rowOf
+  before-tells v e =
+      let k = visible-small (rowOf t v) in
+      let f = split (sym (before-row v _ _ _ _ _ refl refl refl k refl refl) ∙ e) in
+      let o = split (split (split (f .1) .0) .0) in
+      let l : 3 * v + visiblePart (rowOf t v) < 3 * y + 1 = ltb-true _ _ (o .0) in
+      (and-true (o .1) (split (split (f .0) .0) .0), omega arith)
+
 module _ (t : List ℕ) (p : List (List ℕ)) (mode : Mode) (n x y b : ℕ) where
   chains-of : decode t p mode n .chains ≡ true → mode .chains ≡ true
   unfolding decode
@@ -298,14 +346,8 @@ module _ (t : List ℕ) (p : List (List ℕ)) (mode : Mode) (n x y b : ℕ) wher
 
   -- a row that two bytes rule out, and no row before x
   first-tells : (a : ℕ) → firstAvailable (decode t p mode n) x b a ≡ true → (mayAvail t (rowOf t x) a ≡ true) × (x ≤ a)
-  unfolding availableRows availabilityOf orderedRows makesAvailable mayAvail rowOf
-  first-tells a e =
-      let k = available-small (rowOf t a) in
-      let f = split (first-row a (availablePart (rowOf t a)) (rowOf t x) (rowOf t a) refl refl refl k ∙ e) in
-      let h = split (f .0) in
-      let o = split (split (split (h .1) .0) .0) in
-      let l : 3 * x + 1 < 3 * a + availablePart (rowOf t a) = ltb-true _ _ (o .0) in
-      (and-true (o .1) (split (split (h .0) .0) .0), omega arith)
+  unfolding firstAvailable availableAfter
+  first-tells a e = after-tells t p mode n x y a (split e .0)
 
   pub carried-off : (a : ℕ) (r : Row) → r ≡ rowOf t x → mayAvail t r a ≡ false → carriedBy (decode t p mode n) x y b a ≡ false
   unfolding carriedBy
@@ -316,14 +358,8 @@ module _ (t : List ℕ) (p : List (List ℕ)) (mode : Mode) (n x y b : ℕ) wher
   carried-low = any-not _ x (λ a l. not-so _ (λ e. let h = first-tells a (split e .0) .1 in omega arith))
 
   last-tells : (v : ℕ) → lastVisible (decode t p mode n) y b v ≡ true → (maySee t (rowOf t y) v ≡ true) × (v ≤ y)
-  unfolding visibleRows visibilityOf orderedRows makesVisible maySee rowOf
-  last-tells v e =
-      let k = visible-small (rowOf t v) in
-      let f = split (last-row v (visiblePart (rowOf t v)) (rowOf t y) (rowOf t v) refl refl refl k ∙ e) in
-      let h = split (f .0) in
-      let o = split (split (split (h .1) .0) .0) in
-      let l : 3 * v + visiblePart (rowOf t v) < 3 * y + 1 = ltb-true _ _ (o .0) in
-      (and-true (o .1) (split (split (h .0) .0) .0), omega arith)
+  unfolding lastVisible visibleBefore
+  last-tells v e = before-tells t p mode n x y v (split e .0)
 
   -- a row that two bytes, or without chains two bits, rule out; no row after y
   seen-bits : (c v : ℕ) (h k : Bool) → h ≡ happens (decode t p mode n) (availableAt (decode t p mode n) c) (3 * v)

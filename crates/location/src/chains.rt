@@ -14,7 +14,7 @@ ghost use Rattle.model.specs.Table.{rowOf, decode};
 ghost use Rattle.model.specs.Location.{L3};
 ghost use Rattle.area.specs.Regions.{HAPPENS, MOMENTS, GRID};
 ghost use Rattle.location.specs.Chains.{availablePart, visiblePart, mayAvail, maySee, availableRows, visibleRows, widest, meetIn};
-ghost use Rattle.location.specs.Chains.{seen, startsWith, shownBy, endsAt, endsWith, carriedBy};
+ghost use Rattle.location.specs.Chains.{seen, metAtOnce, startsWith, shownBy, endsAt, endsWith, carriedBy};
 ghost use Rattle.location.specs.Reach.{Reaching};
 use crate::pairs;
 use model::Mode;
@@ -133,7 +133,7 @@ fn seen_at(
 
 // Whether row v may be a last element for what moment c makes available to q: it has q's agent and the flag and, without chains,
 // moment c happens before one of its own.
-fn may_show(rows: &[u8], mode: Mode, q: Row, c: usize, v: usize, w: &[u64]) -> bool
+pub fn may_show(rows: &[u8], mode: Mode, q: Row, c: usize, v: usize, w: &[u64]) -> bool
     requires { ⌜ (c < 3 * ROWS) × (v < ROWS) × (WORK ≤ length (now w)) ⌝ }
     ensures { λ d. ⌜ d ≡ ((mode .chains or rel (now (w .entry)) HAPPENS MOMENTS c (3 * v) or rel (now (w .entry)) HAPPENS MOMENTS c (3 * v + 2)) and maySee (now (rows .entry)) q v) ⌝ }
 {
@@ -199,7 +199,7 @@ fn some_start(
 }
 
 // Some visibility chain that ends with row v shows what row i makes available.
-fn starts_at(
+pub fn starts_at(
     rows: &[u8],
     p: Places,
     mode: Mode,
@@ -283,6 +283,30 @@ fn some_shown(
     false
 }
 
+// y meets at once what row i, which is s, makes available.
+pub fn met_at(
+    rows: &[u8],
+    p: Places,
+    mode: Mode,
+    n: usize,
+    x: usize,
+    y: usize,
+    r: Row,
+    q: Row,
+    i: usize,
+    s: Row,
+    w: &[u64],
+) -> bool
+    requires { ⌜ (n ≤ ROWS) × (WORK ≤ length (now w)) × (x < n) × (y < n)
+        × (r ≡ rowOf (now rows) x) × (q ≡ rowOf (now rows) y) × Reaching (decode (now rows) p mode n) n (now w) × (i < n) × (s ≡ rowOf (now rows) i) ⌝ }
+    ensures { λ d. ⌜ d ≡ metAtOnce (decode (now (rows .entry)) p mode n) x y i ⌝ }
+{
+    if !pairs::happens_bit(w, 3 * i + available_part(s), 3 * y + 1) {
+        return false;
+    }
+    meet_in(p, widest(s.scope, rows::scopes::DEVICE), r, q, s, q)
+}
+
 // L3: y meets what row i makes available: a reader by way of a visibility chain, any other at once.
 fn ends_at(
     rows: &[u8],
@@ -305,14 +329,13 @@ fn ends_at(
     if rows::kinds::reads(q) {
         return some_shown(rows, p, mode, n, x, y, r, q, b, i, s, w);
     }
-    let h = pairs::happens_bit(w, 3 * i + available_part(s), 3 * y + 1);
-    h & meet_in(p, widest(s.scope, rows::scopes::DEVICE), r, q, s, q)
+    met_at(rows, p, mode, n, x, y, r, q, i, s, w)
 }
 
 // ---- what x makes available
 
 // Whether row i may make r available: it has r's agent and the flag.
-fn may_avail(rows: &[u8], r: Row, i: usize) -> bool
+pub fn may_avail(rows: &[u8], r: Row, i: usize) -> bool
     requires { ⌜ i < ROWS ⌝ }
     ensures { λ d. ⌜ d ≡ mayAvail (now (rows .entry)) r i ⌝ }
 {

@@ -6,16 +6,21 @@ use mathlib.Core.Logic.{⊎-elim}
 use mathlib.Core.List.{List}
 use Prim.Native.Nat.{ℕ, zero, suc, _+_, _*_, _≤_, _<_}
 use lib.Dec.{eqb}
-use Rattle.finite.specs.Logic.{_and_, _or_, which, and-false-left, and-false-right, not-out}
+use Rattle.finite.specs.Logic.{_and_, _or_, which, not-both, not-so, split, and-false-left, and-false-right, not-out}
+use Rattle.bits.specs.Bit.{bitOf}
 use Rattle.bits.specs.Fill.{rowFill, gridFill, rowFill-cong}
 use Rattle.model.specs.declared.Row.{Row}
-use Rattle.model.specs.Row.{access}
+use Rattle.model.specs.Row.{access, writes}
 use Rattle.model.specs.Table.{Table}
 use Rattle.model.specs.Moment.{itself}
 use Rattle.model.specs.Happens.{happens}
 use Rattle.model.specs.Location.{sameReference, pureRead, publicWrite, common, L3}
 use Rattle.model.specs.Edge.{beforeNth}
 use Rattle.area.specs.Regions.{PAIR}
+use Rattle.finite.specs.Below.{anyBelow}
+use Rattle.location.specs.Chains.{carriedBy, L3-off, L3-on}
+use Rattle.quick_location.specs.Masks.{Mask, mask-cong, any-wider, put-filled}
+use Rattle.quick_location.specs.Elements.{publishes, carriedNth, carried-below}
 use Rattle.location.specs.Order.{hosted, before-off, before-first, before-third, row-off}
 
 -- ---- definitions
@@ -24,7 +29,26 @@ use Rattle.location.specs.Order.{hosted, before-off, before-first, before-third
 unfoldable pub sharedNth : ℕ → ℕ → Row → Row → ℕ → Bool
 sharedNth x y r q k = not (eqb x y) and common r q (r .start + k)
 
+-- the two share the first's k-th byte, and the second meets it by way of some first element of L3's
+unfoldable pub carriedBytes : Table → ℕ → ℕ → ℕ → Bool
+carriedBytes t x y k = sharedNth x y (t .row x) (t .row y) k and anyBelow (t .rows) (carriedNth t x y k)
+
 -- ---- laws
+
+pub public-writes : (r q : Row) → publicWrite r q ≡ true → writes r ≡ true
+unfolding publicWrite
+public-writes r q e = split (split (split e .0) .0) .0
+
+-- L3 orders no byte where the first is no write that it speaks of
+pub third-private : (t : Table) (x y : ℕ) (r q : Row) → r ≡ t .row x → q ≡ t .row y → publicWrite r q ≡ false → (b : ℕ) → L3 t x y b ≡ false
+third-private t x y r q er eq e b = L3-off t x y b r q er eq e
+
+-- nor where there is no first element
+pub third-silent : (t : Table) (x y f : ℕ) → t .rows ≤ f → anyBelow f (publishes t x) ≡ false → (b : ℕ) → L3 t x y b ≡ false
+third-silent t x y f l e b = ⊎-elim told (λ o. L3-off t x y b (t .row x) (t .row y) refl refl o) (which (publicWrite (t .row x) (t .row y)))
+  where
+    told : publicWrite (t .row x) (t .row y) ≡ true → L3 t x y b ≡ false
+    told o = sym (L3-on t x y b (t .row x) (t .row y) _ refl refl o refl) ∙ carried-below t x y b (t .rows) (public-writes (t .row x) (t .row y) o) (not-so _ (λ h. not-both (any-wider (publishes t x) (t .rows) f l h) e))
 
 module _ (t : Table) (x y : ℕ) (r q : Row) (er : r ≡ t .row x) (eq : q ≡ t .row y) where
   module _ (h a c g : Bool) (happening : h ≡ happens t (itself x) (itself y)) (hosting : g ≡ hosted t x y)
@@ -36,19 +60,33 @@ module _ (t : Table) (x y : ℕ) (r q : Row) (er : r ≡ t .row x) (eq : q ≡ t
         ⊎-elim (λ e. e ∙ before-first t x y r q er eq k h a c g e happening hosting ea ec o) (λ e. e ∙ sym (before-off t x y r q er eq k e))
         (which (not (eqb x y) and common r q (r .start + k)))
 
-    never : (k : ℕ) → publicWrite r q ≡ false → L3 t x y (r .start + k) ≡ false
-    unfolding L3
-    never k e = and-false-left _ _ (ap (λ (z : Row). publicWrite z (t .row y)) (sym er) ∙ ap (λ (z : Row). publicWrite r z) (sym eq) ∙ e)
-
     -- what is told once orders none, and neither does L3
-    pub pair-none : (a or c or g) ≡ false → publicWrite r q ≡ false → (k : ℕ) → beforeNth t x y k ≡ false
+    pub pair-none : (a or c or g) ≡ false → ((b : ℕ) → L3 t x y b ≡ false) → (k : ℕ) → beforeNth t x y k ≡ false
     pair-none o e k =
-        ⊎-elim (λ s. sym (before-third t x y r q er eq k h a c g s happening hosting (L3 t x y (r .start + k)) ea ec o refl) ∙ never k e) (λ s. before-off t x y r q er eq k s)
+        ⊎-elim (λ s. sym (before-third t x y r q er eq k h a c g s happening hosting (L3 t x y (r .start + k)) ea ec o refl) ∙ e (r .start + k)) (λ s. before-off t x y r q er eq k s)
         (which (not (eqb x y) and common r q (r .start + k)))
+
+    -- what is told once orders none, and the first is a write that L3 speaks of
+    pub pair-third : (a or c or g) ≡ false → publicWrite r q ≡ true → (k : ℕ) → carriedBytes t x y k ≡ beforeNth t x y k
+    unfolding carriedBytes sharedNth carriedNth _and_
+    pair-third o e k = ⊎-elim there off (which (not (eqb x y) and common r q (r .start + k)))
+      where
+        third : anyBelow (t .rows) (carriedNth t x y k) ≡ L3 t x y (r .start + k)
+        third = L3-on t x y (t .row x .start + k) r q _ er eq e refl ∙ ap (λ (z : Row). L3 t x y (z .start + k)) (sym er)
+
+        there : (not (eqb x y) and common r q (r .start + k)) ≡ true → carriedBytes t x y k ≡ beforeNth t x y k
+        there s = rw (← er, ← eq, s) (before-third t x y r q er eq k h a c g s happening hosting _ ea ec o third)
+
+        off : (not (eqb x y) and common r q (r .start + k)) ≡ false → carriedBytes t x y k ≡ beforeNth t x y k
+        off s = rw (← er, ← eq, s) (sym (before-off t x y r q er eq k s))
 
   -- the bits of a pair, from those of the bytes that they share
   pub shared-filled : (w u : List ℕ) (at : ℕ) → ((k : ℕ) → sharedNth x y r q k ≡ beforeNth t x y k) → u ≡ rowFill (sharedNth x y r q) w at PAIR → u ≡ rowFill (beforeNth t x y) w at PAIR
   shared-filled w u at f e = e ∙ rowFill-cong (sharedNth x y r q) (beforeNth t x y) w at PAIR (λ k l. f k)
+
+-- the bits of a pair that L3 alone may order
+pub carried-filled : (t : Table) (x y : ℕ) (w u : List ℕ) (at : ℕ) → ((k : ℕ) → carriedBytes t x y k ≡ beforeNth t x y k) → u ≡ rowFill (carriedBytes t x y) w at PAIR → u ≡ rowFill (beforeNth t x y) w at PAIR
+carried-filled t x y w u at f e = e ∙ rowFill-cong (carriedBytes t x y) (beforeNth t x y) w at PAIR (λ k l. f k)
 
 -- a row that is no access has no bits
 pub row-none : (t : Table) (x : ℕ) (r : Row) (u : Bool) → r ≡ t .row x → u ≡ access r → not u ≡ true → (y k : ℕ) → beforeNth t x y k ≡ false
@@ -68,3 +106,9 @@ grid-none p w at m n f = go n
     go : (i : ℕ) → w ≡ gridFill p w at m m i
     go zero = refl
     go (suc i) = row-off (p i) w (at + i * m) m (f i) ∙ ap (λ (v : List ℕ). rowFill (p i) v (at + i * m) m) (go i)
+
+-- the bits that L3 alone may set, from the set of their bytes
+pub third-filled : (t : Table) (x y m : ℕ) (r q : Row) (w u : List ℕ) (at : ℕ) → r ≡ t .row x → q ≡ t .row y
+    → Mask PAIR (λ k. sharedNth x y r q k and anyBelow (t .rows) (carriedNth t x y k)) m → u ≡ rowFill (bitOf m) w at PAIR → u ≡ rowFill (carriedBytes t x y) w at PAIR
+unfolding carriedBytes
+third-filled t x y m r q w u at er eq h e = put-filled w u at (mask-cong (carriedBytes t x y) (λ k l. rw (er, eq) refl) h) e

@@ -1,40 +1,41 @@
 // Location order at each byte of each pair of rows, as bits: what doesn't hang on the byte is asked once a pair, and rows that are no
 // accesses aren't asked at all.
 ghost use mathlib.Core.Path.{_≡_};
+ghost use mathlib.Core.Bool.{true, false};
 ghost use Prim.Native.Nat.{_+_, _*_, _≤_, _<_};
 ghost use lib.ListN.{length};
 ghost use Rattle.bits.specs.Fill.{rowFill, gridFill};
+ghost use Rattle.finite.specs.Below.{anyBelow};
 ghost use Rattle.model.specs.Limits.{ROWS, WORK};
+ghost use Rattle.model.specs.Row.{writes};
 ghost use Rattle.model.specs.Table.{rowOf, decode};
 ghost use Rattle.model.specs.Edge.{beforeNth};
 ghost use Rattle.area.specs.Regions.{LOCATION, PAIR, PAIRS};
 ghost use Rattle.area.specs.State.{Ordered, MadeLocated};
-ghost use Rattle.location.specs.Order.{Prepared};
-ghost use Rattle.quick_location.specs.Pairs.{sharedNth};
+ghost use Rattle.location.specs.Order.{mayShare, Prepared};
+ghost use Rattle.location.specs.Reach.{Reaching};
+ghost use Rattle.quick_location.specs.Elements.{publishes};
+ghost use Rattle.quick_location.specs.Pairs.{sharedNth, carriedBytes};
 use location::pairs;
 use model::Mode;
 use model::Places;
 use model::Row;
 use rows::bytes;
 
+pub mod masks; // sets of a row's bytes
+pub mod elements; // L3 by two elements
+
 // The bits of a pair that is ordered at each byte that x, which is r, and y, which is q, share.
 fn fill_shared(x: usize, y: usize, r: Row, q: Row, w: &mut [u64])
     requires { ⌜ (x < ROWS) × (y < ROWS) × (WORK ≤ length (now w)) ⌝ }
     ensures { λ _. ⌜ now (w .exit) ≡ rowFill (sharedNth x y r q) (now (w .entry)) (LOCATION * 64 + x * PAIRS + y * PAIR) PAIR ⌝ }
 {
-    let start = r.start as u32;
-    for k in 0..area::PAIR {
-        let b = pairs::common_of(x, y, r, q, start + (k as u32));
-        bits::put_if(
-            w,
-            area::LOCATION * 64 + x * area::PAIRS + y * area::PAIR + k,
-            b,
-        );
-    }
+    let m = masks::shared(x, y, r, q);
+    masks::put_bytes(x, y, m, w);
 }
 
-// The bits of any pair, byte by byte.
-fn fill_bytes(
+// The bits of a pair that L3 alone may order; x writes, and no row before f is a first element of it.
+fn fill_third(
     rows: &[u8],
     p: Places,
     mode: Mode,
@@ -43,23 +44,35 @@ fn fill_bytes(
     y: usize,
     r: Row,
     q: Row,
+    f: usize,
     w: &mut [u64],
 )
     requires { ⌜ (n ≤ ROWS) × (WORK ≤ length (now w)) × (x < n) × (y < n) × (r ≡ rowOf (now rows) x) × (q ≡ rowOf (now rows) y)
-        × Prepared (decode (now rows) p mode n) n (now w) ⌝ }
-    ensures { λ _. ⌜ now (w .exit) ≡ rowFill (beforeNth (decode (now (rows .entry)) p mode n) x y) (now (w .entry)) (LOCATION * 64 + x * PAIRS + y * PAIR) PAIR ⌝ }
+        × Reaching (decode (now rows) p mode n) n (now w) × (f ≤ n) × (anyBelow f (publishes (decode (now rows) p mode n) x) ≡ false) × (writes r ≡ true) ⌝ }
+    ensures { λ _. ⌜ now (w .exit) ≡ rowFill (carriedBytes (decode (now (rows .entry)) p mode n) x y) (now (w .entry)) (LOCATION * 64 + x * PAIRS + y * PAIR) PAIR ⌝ }
 {
-    for k in 0..area::PAIR {
-        let b = location::before_at(rows, p, mode, n, x, y, r, q, k, w);
-        bits::put_if(
-            w,
-            area::LOCATION * 64 + x * area::PAIRS + y * area::PAIR + k,
-            b,
-        );
-    }
+    let both = masks::shared(x, y, r, q);
+    let m = elements::carried_bytes(rows, p, mode, n, x, y, r, q, f, both, w);
+    masks::put_bytes(x, y, m, w);
 }
 
-// The bits of the pair of x, which is r, and y. Rows that share no byte cost one test.
+// Places of a row's size and start.
+const SIZE: u8 = 7;
+
+const START: u8 = 8;
+
+// Whether x, which is r, and y may share a byte, as three bytes of y tell.
+fn is_near(rows: &[u8], x: usize, r: Row, y: usize) -> bool
+    requires { ⌜ y < ROWS ⌝ }
+    ensures { λ d. ⌜ d ≡ mayShare x y r (rowOf (now (rows .entry)) y) ⌝ }
+{
+    let start = r.start as u32;
+    let other = bytes::row_pair(rows, y as u16, START) as u32;
+    let size = bytes::row_byte(rows, y as u16, SIZE) as u32;
+    !(x == y) & (start < other + size) & (other < start + (r.size as u32))
+}
+
+// The bits of the pair of x, which is r, and y; no row before f is a first element of L3's. Rows that share no byte cost one test.
 // Ruled out: one that takes a private write for one that L3 speaks of; one that asks L1 of the rows exchanged.
 fn fill_pair(
     rows: &[u8],
@@ -68,26 +81,31 @@ fn fill_pair(
     n: usize,
     x: usize,
     r: Row,
+    f: usize,
     y: usize,
     w: &mut [u64],
 )
-    requires { ⌜ (n ≤ ROWS) × (WORK ≤ length (now w)) × (x < n) × (y < n) × (r ≡ rowOf (now rows) x) × Prepared (decode (now rows) p mode n) n (now w) ⌝ }
+    requires { ⌜ (n ≤ ROWS) × (WORK ≤ length (now w)) × (x < n) × (y < n) × (r ≡ rowOf (now rows) x) × Prepared (decode (now rows) p mode n) n (now w)
+        × (f ≤ n) × (anyBelow f (publishes (decode (now rows) p mode n) x) ≡ false) ⌝ }
     ensures { λ _. ⌜ now (w .exit) ≡ rowFill (beforeNth (decode (now (rows .entry)) p mode n) x y) (now (w .entry)) (LOCATION * 64 + x * PAIRS + y * PAIR) PAIR ⌝ }
 {
-    let q = bytes::read_row(rows, y as u16);
-    if !pairs::may_share(x, y, r, q) {
+    if !is_near(rows, x, r, y) {
         return;
     }
+    let q = bytes::read_row(rows, y as u16);
     let h = pairs::happens_bit(w, 3 * x + 1, 3 * y + 1);
     let g = location::domains::grid_bit(w, area::HOSTED, x, y);
     if pairs::l1(r, q, h) | pairs::l2(r, q, h) | g {
         fill_shared(x, y, r, q, w);
         return;
     }
+    if n <= f {
+        return;
+    }
     if !pairs::public_write(r, q) {
         return;
     }
-    fill_bytes(rows, p, mode, n, x, y, r, q, w);
+    fill_third(rows, p, mode, n, x, y, r, q, f, w);
 }
 
 // The bits of row x's pairs.
@@ -99,8 +117,9 @@ fn fill_row(rows: &[u8], p: Places, mode: Mode, n: usize, x: usize, w: &mut [u64
     if !rows::kinds::is_access(r) {
         return;
     }
+    let f = elements::first_from(rows, n, x, r);
     for y in 0..n {
-        fill_pair(rows, p, mode, n, x, r, y, w);
+        fill_pair(rows, p, mode, n, x, r, f, y, w);
     }
 }
 

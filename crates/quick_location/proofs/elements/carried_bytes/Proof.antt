@@ -1,0 +1,70 @@
+use mathlib.Core.Path.{_≡_, refl, sym, _∙_}
+use Prim.Native.Nat.{_-_, _≤_}
+use native.Mathlib.Omega.{arith}
+use Rattle.finite.specs.Below.{anyBelow}
+use Rattle.model.specs.Table.{decode}
+use Rattle.area.specs.Regions.{PAIR}
+use Rattle.quick_location.specs.Masks.{Mask, mask-zero, mask-joined, mask-full, mask-and, any-wider}
+use Rattle.quick_location.specs.Elements.{carriedNth, carried-low}
+use borrow.Author.Needs.{needs}
+use Rattle.quick_location.proofs.elements.carried_bytes.Statement.{statement}
+use Rattle.quick_location.proofs.elements.carried_bytes.Tie as tie
+use Rattle.quick_location.proofs.elements.carried_bytes.Reads as reads
+use Rattle.quick_location.proofs.elements.carried_bytes.Lts as lts
+use Rattle.quick_location.proofs.elements.first_bytes.Reads as first-bytes-reads
+
+abbrev Inv-loop : tie.InvT-loop
+Inv-loop rows p mode n x y r q f both w m₀ a₀ m a = (a ≤ n) × Mask PAIR (λ k. anyBelow a (carriedNth (decode rows p mode n) x y k)) m
+
+abbrev μ-loop : tie.MeasureT-loop
+μ-loop rows p mode n x y r q f both w m₀ a₀ m a = n - a
+
+-- src/elements.rt:332:5
+loop-holds : tie.Need-loop-holds Inv-loop μ-loop
+loop-holds c =
+    let s = c .before .before in
+    (search needs, mask-zero _ _ (λ k. carried-low _ _ _ _ _ _ k _ _ (s .pre .4) (s .pre .9) (s .pre .8)))
+
+-- src/elements.rt:333:17
+first-bytes-requires : tie.Need-first-bytes-requires Inv-loop μ-loop
+first-bytes-requires c κs = search needs
+
+-- src/elements.rt:335:13
+returns : tie.Need-returns Inv-loop μ-loop
+returns c =
+    let s = c .before .before .before .before .before .before in
+    let j = mask-joined _ _ (c .before .before .before .loop .inv .1) (c .before .first-bytes .ensures) refl in
+    mask-full _ (s .pre .10) j (c .if1 .taken) (λ k l. any-wider _ _ _ (omega arith))
+
+-- src/elements.rt:332:9
+add-a : tie.Need-add-a Inv-loop μ-loop
+add-a c = search needs
+
+-- src/elements.rt:332:5
+loop-less : tie.Need-loop-less Inv-loop μ-loop
+loop-less c = search needs
+
+-- src/elements.rt:332:5
+loop-again : tie.Need-loop-again Inv-loop μ-loop
+loop-again c = (search needs, mask-joined _ _ (c .before .before .before .loop .inv .1) (c .before .first-bytes .ensures) refl)
+
+-- src/elements.rt:313:1
+returns-2 : tie.Need-returns-2 Inv-loop μ-loop
+returns-2 c =
+    let s = c .before .before .before .before in
+    let e : c .before .loop .a ≡ s .args .n = omega arith in
+    mask-and (s .pre .10) (rw e at (c .before .loop .inv .1))
+
+pub carried-bytes-spec : {M : Type 1} → statement M
+carried-bytes-spec =
+    tie.close
+    (tie.spec
+    Inv-loop
+    μ-loop
+    loop-holds
+    first-bytes-requires
+    returns
+    add-a
+    loop-less
+    loop-again
+    returns-2)

@@ -1,0 +1,339 @@
+// L3 by two elements: the bytes that a first element of x's and a last element of y's cover, where the one leads to the other. What
+// doesn't hang on the byte is asked once. The rows r and q are x's and y's, read once by the caller.
+ghost use mathlib.Core.Path.{_≡_};
+ghost use mathlib.Core.Bool.{true, false};
+ghost use mathlib.Core.List.{List};
+ghost use Prim.Native.Nat.{ℕ, _+_, _*_, _≤_, _<_};
+ghost use lib.ListN.{length};
+ghost use Rattle.finite.specs.Logic.{_and_};
+ghost use Rattle.finite.specs.Below.{anyBelow};
+ghost use Rattle.model.specs.declared.Mode.{Mode};
+ghost use Rattle.model.specs.Limits.{ROWS, WORK};
+ghost use Rattle.model.specs.Row.{reads, writes};
+ghost use Rattle.model.specs.Table.{rowOf, decode};
+ghost use Rattle.area.specs.Regions.{PAIR};
+ghost use Rattle.location.specs.Chains.{availableAfter};
+ghost use Rattle.location.specs.Reach.{Reaching};
+ghost use Rattle.quick_location.specs.Masks.{Mask, coveredNth};
+ghost use Rattle.quick_location.specs.Pairs.{sharedNth};
+ghost use Rattle.quick_location.specs.Elements.{linkedWith, linkedFrom, metWith, metFrom, shownNth, carriedNth, publishes};
+use crate::masks;
+use location::chains;
+use model::Mode;
+use model::Places;
+use model::Row;
+use rows::bytes;
+
+// ---- what leads from a first element
+
+// A visibility chain that ends with row v shows what an availability chain of more than one element from row a to row c makes available.
+fn linked_with(
+    rows: &[u8],
+    p: Places,
+    mode: Mode,
+    n: usize,
+    x: usize,
+    y: usize,
+    r: Row,
+    q: Row,
+    a: usize,
+    v: usize,
+    c: usize,
+    w: &[u64],
+) -> bool
+    requires { ⌜ (n ≤ ROWS) × (WORK ≤ length (now w)) × (x < n) × (y < n)
+        × (r ≡ rowOf (now rows) x) × (q ≡ rowOf (now rows) y) × Reaching (decode (now rows) p mode n) n (now w) × (a < n) × (v < n) × (c < n) × (mode .chains ≡ true) ⌝ }
+    ensures { λ d. ⌜ d ≡ linkedWith (decode (now (rows .entry)) p mode n) x y a v c ⌝ }
+{
+    if !bits::get(w, (area::REACH_OUT + a * area::GRID) * 64 + c) {
+        return false;
+    }
+    let s = bytes::read_row(rows, c as u16);
+    chains::starts_at(rows, p, mode, n, x, y, r, q, c, s, v, w)
+}
+
+// The same of some chain of more than one element from row a.
+fn some_linked(
+    rows: &[u8],
+    p: Places,
+    mode: Mode,
+    n: usize,
+    x: usize,
+    y: usize,
+    r: Row,
+    q: Row,
+    a: usize,
+    v: usize,
+    w: &[u64],
+) -> bool
+    requires { ⌜ (n ≤ ROWS) × (WORK ≤ length (now w)) × (x < n) × (y < n)
+        × (r ≡ rowOf (now rows) x) × (q ≡ rowOf (now rows) y) × Reaching (decode (now rows) p mode n) n (now w) × (a < n) × (v < n) × (mode .chains ≡ true) ⌝ }
+    ensures { λ d. ⌜ d ≡ anyBelow n (linkedWith (decode (now (rows .entry)) p mode n) x y a v) ⌝ }
+{
+    for c in 0..n {
+        if linked_with(rows, p, mode, n, x, y, r, q, a, v, c, w) {
+            return true;
+        }
+    }
+    false
+}
+
+// The same of any chain from row a, which is s.
+fn is_linked(
+    rows: &[u8],
+    p: Places,
+    mode: Mode,
+    n: usize,
+    x: usize,
+    y: usize,
+    r: Row,
+    q: Row,
+    a: usize,
+    s: Row,
+    v: usize,
+    w: &[u64],
+) -> bool
+    requires { ⌜ (n ≤ ROWS) × (WORK ≤ length (now w)) × (x < n) × (y < n)
+        × (r ≡ rowOf (now rows) x) × (q ≡ rowOf (now rows) y) × Reaching (decode (now rows) p mode n) n (now w) × (a < n) × (v < n) × (s ≡ rowOf (now rows) a) ⌝ }
+    ensures { λ d. ⌜ d ≡ linkedFrom (decode (now (rows .entry)) p mode n) x y a v ⌝ }
+{
+    if chains::starts_at(rows, p, mode, n, x, y, r, q, a, s, v, w) {
+        return true;
+    }
+    if !mode.chains {
+        return false;
+    }
+    some_linked(rows, p, mode, n, x, y, r, q, a, v, w)
+}
+
+// y meets at once what an availability chain of more than one element from row a to row c makes available.
+fn met_with(
+    rows: &[u8],
+    p: Places,
+    mode: Mode,
+    n: usize,
+    x: usize,
+    y: usize,
+    r: Row,
+    q: Row,
+    a: usize,
+    c: usize,
+    w: &[u64],
+) -> bool
+    requires { ⌜ (n ≤ ROWS) × (WORK ≤ length (now w)) × (x < n) × (y < n)
+        × (r ≡ rowOf (now rows) x) × (q ≡ rowOf (now rows) y) × Reaching (decode (now rows) p mode n) n (now w) × (a < n) × (c < n) × (mode .chains ≡ true) ⌝ }
+    ensures { λ d. ⌜ d ≡ metWith (decode (now (rows .entry)) p mode n) x y a c ⌝ }
+{
+    if !bits::get(w, (area::REACH_OUT + a * area::GRID) * 64 + c) {
+        return false;
+    }
+    let s = bytes::read_row(rows, c as u16);
+    chains::met_at(rows, p, mode, n, x, y, r, q, c, s, w)
+}
+
+fn some_met(
+    rows: &[u8],
+    p: Places,
+    mode: Mode,
+    n: usize,
+    x: usize,
+    y: usize,
+    r: Row,
+    q: Row,
+    a: usize,
+    w: &[u64],
+) -> bool
+    requires { ⌜ (n ≤ ROWS) × (WORK ≤ length (now w)) × (x < n) × (y < n)
+        × (r ≡ rowOf (now rows) x) × (q ≡ rowOf (now rows) y) × Reaching (decode (now rows) p mode n) n (now w) × (a < n) × (mode .chains ≡ true) ⌝ }
+    ensures { λ d. ⌜ d ≡ anyBelow n (metWith (decode (now (rows .entry)) p mode n) x y a) ⌝ }
+{
+    for c in 0..n {
+        if met_with(rows, p, mode, n, x, y, r, q, a, c, w) {
+            return true;
+        }
+    }
+    false
+}
+
+// The same of any chain from row a, which is s.
+fn is_met(
+    rows: &[u8],
+    p: Places,
+    mode: Mode,
+    n: usize,
+    x: usize,
+    y: usize,
+    r: Row,
+    q: Row,
+    a: usize,
+    s: Row,
+    w: &[u64],
+) -> bool
+    requires { ⌜ (n ≤ ROWS) × (WORK ≤ length (now w)) × (x < n) × (y < n)
+        × (r ≡ rowOf (now rows) x) × (q ≡ rowOf (now rows) y) × Reaching (decode (now rows) p mode n) n (now w) × (a < n) × (s ≡ rowOf (now rows) a) ⌝ }
+    ensures { λ d. ⌜ d ≡ metFrom (decode (now (rows .entry)) p mode n) x y a ⌝ }
+{
+    if chains::met_at(rows, p, mode, n, x, y, r, q, a, s, w) {
+        return true;
+    }
+    if !mode.chains {
+        return false;
+    }
+    some_met(rows, p, mode, n, x, y, r, q, a, w)
+}
+
+// ---- last elements
+
+// The bytes that y sees by way of row v and the first element a, which is s.
+fn last_bytes(
+    rows: &[u8],
+    p: Places,
+    mode: Mode,
+    n: usize,
+    x: usize,
+    y: usize,
+    r: Row,
+    q: Row,
+    a: usize,
+    s: Row,
+    v: usize,
+    w: &[u64],
+) -> u64
+    requires { ⌜ (n ≤ ROWS) × (WORK ≤ length (now w)) × (x < n) × (y < n)
+        × (r ≡ rowOf (now rows) x) × (q ≡ rowOf (now rows) y) × Reaching (decode (now rows) p mode n) n (now w) × (a < n) × (v < n) × (s ≡ rowOf (now rows) a) ⌝ }
+    ensures { λ m. ⌜ Mask PAIR (λ k. shownNth (decode (now (rows .entry)) p mode n) x y a k v) m ⌝ }
+{
+    if !chains::may_show(rows, mode, q, 3 * a + chains::available_part(s), v, w) {
+        return 0;
+    }
+    let u = bytes::read_row(rows, v as u16);
+    let k = chains::visible_part(u);
+    if !(moments::visibility_of(u, k as u8) & moments::is_ordered(n, 3 * v + k, 3 * y + 1, u, q)) {
+        return 0;
+    }
+    if !is_linked(rows, p, mode, n, x, y, r, q, a, s, v, w) {
+        return 0;
+    }
+    masks::covered(u, q, r.start)
+}
+
+// The bytes of c, which are those that the first element a covers, that y sees by way of some last element. No row after y is one.
+fn lasts_bytes(
+    rows: &[u8],
+    p: Places,
+    mode: Mode,
+    n: usize,
+    x: usize,
+    y: usize,
+    r: Row,
+    q: Row,
+    a: usize,
+    s: Row,
+    c: u64,
+    w: &[u64],
+) -> u64
+    requires { ⌜ (n ≤ ROWS) × (WORK ≤ length (now w)) × (x < n) × (y < n)
+        × (r ≡ rowOf (now rows) x) × (q ≡ rowOf (now rows) y) × Reaching (decode (now rows) p mode n) n (now w) × (a < n) × (s ≡ rowOf (now rows) a)
+        × Mask PAIR (coveredNth s r (r .start)) c ⌝ }
+    ensures { λ m. ⌜ Mask PAIR (λ k. coveredNth s r (r .start) k and anyBelow n (shownNth (decode (now (rows .entry)) p mode n) x y a k)) m ⌝ }
+{
+    let mut m = 0u64;
+    for v in 0..y + 1 {
+        m = m | last_bytes(rows, p, mode, n, x, y, r, q, a, s, v, w);
+        if m & c == c {
+            return c;
+        }
+    }
+    c & m
+}
+
+// ---- first elements
+
+// Whether row a is an availability operation of x's agent after x. Two bytes rule most rows out.
+fn is_first(rows: &[u8], n: usize, x: usize, r: Row, a: usize) -> bool
+    requires { ⌜ (n ≤ ROWS) × (x < n) × (a < n) × (r ≡ rowOf (now rows) x) ⌝ }
+    ensures { λ d. ⌜ ((p : List (List ℕ)) (mode : Mode) → d ≡ availableAfter (decode (now (rows .entry)) p mode n) x a) ⌝ }
+{
+    if !chains::may_avail(rows, r, a) {
+        return false;
+    }
+    let s = bytes::read_row(rows, a as u16);
+    let k = chains::available_part(s);
+    moments::availability_of(s, k as u8) & moments::is_ordered(n, 3 * x + 1, 3 * a + k, r, s)
+}
+
+// A row before which there is no first element of x, n where x doesn't write. No row before x is one.
+pub fn first_from(rows: &[u8], n: usize, x: usize, r: Row) -> usize
+    requires { ⌜ (n ≤ ROWS) × (x < n) × (r ≡ rowOf (now rows) x) ⌝ }
+    ensures { λ f. ⌜ (f ≤ n) × ((p : List (List ℕ)) (mode : Mode) → anyBelow f (publishes (decode (now (rows .entry)) p mode n) x) ≡ false) ⌝ }
+{
+    if !rows::kinds::writes(r) {
+        return n;
+    }
+    for a in x..n {
+        if is_first(rows, n, x, r, a) {
+            return a;
+        }
+    }
+    n
+}
+
+// The bytes that y meets by way of row a as first element.
+fn first_bytes(
+    rows: &[u8],
+    p: Places,
+    mode: Mode,
+    n: usize,
+    x: usize,
+    y: usize,
+    r: Row,
+    q: Row,
+    a: usize,
+    w: &[u64],
+) -> u64
+    requires { ⌜ (n ≤ ROWS) × (WORK ≤ length (now w)) × (x < n) × (y < n)
+        × (r ≡ rowOf (now rows) x) × (q ≡ rowOf (now rows) y) × Reaching (decode (now rows) p mode n) n (now w) × (a < n) ⌝ }
+    ensures { λ m. ⌜ Mask PAIR (λ k. carriedNth (decode (now (rows .entry)) p mode n) x y k a) m ⌝ }
+{
+    if !is_first(rows, n, x, r, a) {
+        return 0;
+    }
+    let s = bytes::read_row(rows, a as u16);
+    let c = masks::covered(s, r, r.start);
+    if rows::kinds::reads(q) {
+        return lasts_bytes(rows, p, mode, n, x, y, r, q, a, s, c, w);
+    }
+    if !is_met(rows, p, mode, n, x, y, r, q, a, s, w) {
+        return 0;
+    }
+    c
+}
+
+// The bytes of both, which are those of m, that y meets by way of some first element; there is none before row f.
+pub fn carried_bytes(
+    rows: &[u8],
+    p: Places,
+    mode: Mode,
+    n: usize,
+    x: usize,
+    y: usize,
+    r: Row,
+    q: Row,
+    f: usize,
+    both: u64,
+    w: &[u64],
+) -> u64
+    requires { ⌜ (n ≤ ROWS) × (WORK ≤ length (now w)) × (x < n) × (y < n)
+        × (r ≡ rowOf (now rows) x) × (q ≡ rowOf (now rows) y) × Reaching (decode (now rows) p mode n) n (now w)
+        × (f ≤ n) × (anyBelow f (publishes (decode (now rows) p mode n) x) ≡ false) × (writes r ≡ true) × Mask PAIR (sharedNth x y r q) both ⌝ }
+    ensures { λ m. ⌜ Mask PAIR (λ k. sharedNth x y r q k and anyBelow n (carriedNth (decode (now (rows .entry)) p mode n) x y k)) m ⌝ }
+{
+    let mut m = 0u64;
+    for a in f..n {
+        m = m | first_bytes(rows, p, mode, n, x, y, r, q, a, w);
+        if m & both == both {
+            return both;
+        }
+    }
+    both & m
+}

@@ -7,4 +7,3 @@ pub mod Outcomes
 pub mod Searches
 pub mod FillLaws
 pub mod Report
-pub mod ReportRuns

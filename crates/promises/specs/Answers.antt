@@ -1,14 +1,17 @@
--- What a caller gets: each case of an answer is given exactly for the verdict, outcome or judgement of its name, with its numbers.
+-- What a caller gets: each case of an answer is given exactly for the verdict, outcome or judgement of its name, with its numbers; and what is
+-- left in the lent buffers.
 -- That a report refuses, or shows a cycle or an overwritten read, exactly as a check does stands in Report.antt (`says-refused`,
 -- `says-cycle`, `says-overwritten`). Assumes nothing.
 use mathlib.Core.Path.{_≡_, refl, sym, ap, _∙_}
-use mathlib.Core.List.{List}
-use mathlib.Core.Logic.{_↔_}
+use mathlib.Core.List.{List, _++_}
+use mathlib.Core.Logic.{_⊎_, inl, inr, _↔_}
 use Prim.Native.Nat.{ℕ}
 use native.Mathlib.Omega.{arith}
 use native.Mathlib.Decide.{ℕ-discrete}
 use borrow.Author.Tests.{eq-eqb, ne-eqb}
-use lib.ListN.{length}
+use lib.ListN.{length, drop, replicate}
+use Rattle.finite.specs.Lists.{tabulate}
+use Rattle.model.specs.Limits.{WORK, CYCLE}
 use Rattle.model.specs.declared.CheckAnswer.{CheckAnswer}
 use Rattle.model.specs.declared.CheckAnswer.the-variants as check
 use Rattle.model.specs.declared.FillAnswer.{FillAnswer}
@@ -21,11 +24,11 @@ use Rattle.model.specs.declared.Report.{Report}
 use Rattle.model.specs.declared.ReportAnswer.{ReportAnswer}
 use Rattle.model.specs.declared.ReportAnswer.the-variants as report
 use Rattle.model.specs.Table.{Table}
-use Rattle.model.specs.Check.{Verdict, checkAnswer}
+use Rattle.model.specs.Check.{Verdict, checkAnswer, wiped, cycleNumber, cycleAfter, workAfter}
 use Rattle.model.specs.Check as verdict
-use Rattle.model.specs.Fill.{Outcome, fillAnswer}
+use Rattle.model.specs.Fill.{Outcome, fillAnswer, sourcesAfter}
 use Rattle.model.specs.Fill as outcome
-use Rattle.model.specs.Reason.{Derived, Judged, deriveAnswer, acceptAnswer}
+use Rattle.model.specs.Reason.{Derived, Judged, deriveAnswer, acceptAnswer, chainAfter}
 use Rattle.model.specs.Reason as reason
 use Rattle.model.specs.Report.{conflicting, racing, quotient, shareOf, reportOf, withShare, counted, reportAnswer}
 use Rattle.promises.specs.Report.{tag, inside}
@@ -288,9 +291,8 @@ reads-not-accepted d = (forth d, λ e. rw e refl)
 -- ---- a report
 
 -- a verdict that finds the table consistent: some race, or none
-pub data Sound : Verdict → Type 0 where
-  raced : (x y b : ℕ) → Sound (verdict.race x y b)
-  free : Sound verdict.raceFree
+abbrev pub Sound : Verdict → Type 0
+Sound d = ((x : ℕ) × (y : ℕ) × (b : ℕ) × (d ≡ verdict.race x y b)) ⊎ (d ≡ verdict.raceFree)
 
 -- what is counted, by whether some pair conflicts
 counted-none : (t : Table) → conflicting t ≡ 0 → counted t ≡ report.NoPairs
@@ -322,12 +324,12 @@ reports-none d t = (forth d, λ e. back (e .0) (e .1))
     forth (verdict.refused n i) e = absurd (let z : _≡_ {A = ℕ} 0 3 = ap tag e in omega arith)
     forth (verdict.cyclic rows edges) e = absurd (let z : _≡_ {A = ℕ} 1 3 = ap tag e in omega arith)
     forth (verdict.overwritten y z b) e = absurd (let z : _≡_ {A = ℕ} 2 3 = ap tag e in omega arith)
-    forth (verdict.race x y b) e = (raced x y b, none-counted t e)
-    forth verdict.raceFree e = (free, none-counted t e)
+    forth (verdict.race x y b) e = (inl (x, y, b, refl), none-counted t e)
+    forth verdict.raceFree e = (inr refl, none-counted t e)
 
-    back : {d : Verdict} → Sound d → conflicting t ≡ 0 → reportAnswer (checkAnswer d) t ≡ report.NoPairs
-    back (raced x y b) h = counted-none t h
-    back free h = counted-none t h
+    back : Sound d → conflicting t ≡ 0 → reportAnswer (checkAnswer d) t ≡ report.NoPairs
+    back (inl r) h = rw (r .3) (counted-none t h)
+    back (inr r) h = rw r (counted-none t h)
 
 -- a report exactly where it is consistent and some pair conflicts: the four counts, and the quotient of two of them beside them
 pub reports-counts : (d : Verdict) (t : Table) (r : Report)
@@ -339,9 +341,45 @@ reports-counts d t r = (forth d, λ e. back (e .0) (e .1) (e .2))
     forth (verdict.refused n i) e = absurd (let z : _≡_ {A = ℕ} 0 4 = ap tag e in omega arith)
     forth (verdict.cyclic rows edges) e = absurd (let z : _≡_ {A = ℕ} 1 4 = ap tag e in omega arith)
     forth (verdict.overwritten y z b) e = absurd (let z : _≡_ {A = ℕ} 2 4 = ap tag e in omega arith)
-    forth (verdict.race x y b) e = let s = some-counted t r e in (raced x y b, s .0, s .1)
-    forth verdict.raceFree e = let s = some-counted t r e in (free, s .0, s .1)
+    forth (verdict.race x y b) e = let s = some-counted t r e in (inl (x, y, b, refl), s .0, s .1)
+    forth verdict.raceFree e = let s = some-counted t r e in (inr refl, s .0, s .1)
 
-    back : {d : Verdict} → Sound d → (conflicting t ≡ 0 → ⊥) → r ≡ reportOf t (quotient (racing t) (conflicting t)) → reportAnswer (checkAnswer d) t ≡ report.Report r
-    back (raced x y b) h e = rw e (counted-some t h)
-    back free h e = rw e (counted-some t h)
+    back : Sound d → (conflicting t ≡ 0 → ⊥) → r ≡ reportOf t (quotient (racing t) (conflicting t)) → reportAnswer (checkAnswer d) t ≡ report.Report r
+    back (inl q) h e = rw (q .3, e) (counted-some t h)
+    back (inr q) h e = rw (q, e) (counted-some t h)
+
+-- ---- what is left in the lent buffers: w the work area, c the other one
+
+-- after a refusal both are as they were; else the first words of the work area are zeros, and a cycle is in the cycle buffer, or that is as it was
+pub check-leaves : (v : Verdict) (w c : List ℕ)
+    → ((n : ℕ) × (i : ℕ) × (v ≡ verdict.refused n i) × (workAfter v w ≡ w) × (cycleAfter v c ≡ c))
+    ⊎ ((workAfter v w ≡ replicate WORK 0 ++ drop WORK w)
+    × (((r : List ℕ) × (e : List ℕ) × (v ≡ verdict.cyclic r e) × (cycleAfter v c ≡ tabulate (cycleNumber r e) CYCLE ++ drop CYCLE c)) ⊎ (cycleAfter v c ≡ c)))
+unfolding workAfter wiped cycleAfter
+check-leaves (verdict.refused n i) w c = inl (n, i, refl, refl, refl)
+check-leaves (verdict.cyclic r e) w c = inr (refl, inl (r, e, refl, refl))
+check-leaves (verdict.overwritten y z b) w c = inr (refl, inr refl)
+check-leaves (verdict.race x y b) w c = inr (refl, inr refl)
+check-leaves verdict.raceFree w c = inr (refl, inr refl)
+
+-- the same of a fill: the sources are in the source buffer, the rest of it kept, or it is as it was
+pub fill-leaves : (o : Outcome) (w c : List ℕ)
+    → ((n : ℕ) × (i : ℕ) × (o ≡ outcome.refused n i) × (outcome.workAfter o w ≡ w) × (sourcesAfter o c ≡ c))
+    ⊎ ((outcome.workAfter o w ≡ replicate WORK 0 ++ drop WORK w)
+    × (((l : List ℕ) × (o ≡ outcome.filled l) × (sourcesAfter o c ≡ l ++ drop (length l) c)) ⊎ (sourcesAfter o c ≡ c)))
+unfolding outcome.workAfter wiped sourcesAfter
+fill-leaves (outcome.refused n i) w c = inl (n, i, refl, refl, refl)
+fill-leaves (outcome.race x y b) w c = inr (refl, inr refl)
+fill-leaves outcome.none w c = inr (refl, inr refl)
+fill-leaves (outcome.filled l) w c = inr (refl, inl (l, refl, refl))
+
+-- and of a derivation: the steps of a chain are in the chain buffer, the rest of it kept, or it is as it was
+pub derive-leaves : (d : Derived) (w c : List ℕ)
+    → ((n : ℕ) × (i : ℕ) × (d ≡ reason.refused n i) × (reason.workAfter d w ≡ w) × (chainAfter d c ≡ c))
+    ⊎ ((reason.workAfter d w ≡ replicate WORK 0 ++ drop WORK w)
+    × (((s : ℕ) × (l : List ℕ) × (d ≡ reason.chained s l) × (chainAfter d c ≡ l ++ drop (length l) c)) ⊎ (chainAfter d c ≡ c)))
+unfolding reason.workAfter wiped chainAfter
+derive-leaves (reason.refused n i) w c = inl (n, i, refl, refl, refl)
+derive-leaves reason.word w c = inr (refl, inr refl)
+derive-leaves (reason.chained s l) w c = inr (refl, inl (s, l, refl, refl))
+derive-leaves reason.notBefore w c = inr (refl, inr refl)

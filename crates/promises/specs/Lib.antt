@@ -1,3 +1,4 @@
+pub mod Main
 pub mod Check
 pub mod Fill
 pub mod Reason
@@ -7,3 +8,4 @@ pub mod Outcomes
 pub mod Searches
 pub mod FillLaws
 pub mod Report
+pub mod Refused

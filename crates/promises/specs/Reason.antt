@@ -1,6 +1,5 @@
 -- Reasons a reviewer can follow: which derivations the reader accepts, that there is one exactly where a moment happens before
--- another, and what holds of the one that is found. `judge` and `derive` are the definitions that the contracts of the entry
--- points name.
+-- another, and what holds of the one that is found. Assumes nothing.
 use mathlib.Core.Path.{_≡_, refl, sym, ap, subst, _∙_}
 use mathlib.Core.Bool.{Bool, true, false, not, cond}
 use mathlib.Core.List.{List, [], _∷_}
@@ -30,7 +29,7 @@ use Rattle.laws.specs.AdmissionLaws.{admitted-sound, rows-fit}
 use Rattle.model.specs.Refusal.{buffersFit, admission}
 use Rattle.model.specs.Reason.{caseIn, reached, stepTo, stepHolds, stands, broken, chainHolds, accepts, twoMoments, hasChain, chainSize, lowestCase, stepNumber, chain, hasChainBy, chainOr, ours, Judged, accepted, notAccepted, judged, admittedReader, judge, Derived, word, chained, notBefore, derivedOf, admittedDerive, derive, refused}
 
--- ---- words of the page
+-- ---- definitions
 
 module _ (t : Table) where
   -- the step x leads from moment m to a moment that is there, by the direct case of M6 that it names
@@ -49,7 +48,7 @@ module _ (t : Table) where
     by-word : programOrder t m k ≡ true → Accepted m k ProgramOrder []
     by-chain : {s : ℕ} {l : List ℕ} → 1 ≤ s → s ≤ CLASS-SETS → 1 ≤ length l → length l ≤ CHAIN → Leads s m l k → Accepted m k (Chain s) l
 
--- ---- a step
+-- ---- laws: a step
 
 module _ (t : Table) (s m : ℕ) where
   step-out : (x : ℕ) → stepHolds t s m x ≡ true → Holds t s m x
@@ -117,7 +116,7 @@ module _ (t : Table) (s m : ℕ) where
       last (inl e) = go (or-cases _ _ e)
       last (inr e) = row-there k l (split (split e .0) .1)
 
--- ---- a chain
+-- ---- laws: a chain
 
 stands-next : (m x : ℕ) (l : List ℕ) (i : ℕ) → stands m (x ∷ l) (suc i) ≡ stands (reached x) l i
 unfolding stands
@@ -172,8 +171,8 @@ module _ (t : Table) (s : ℕ) where
       (and-true (and-true (and-true (and-true (lt-ltb _ _ a) (le-leb _ _ b)) (lt-ltb _ _ c)) (le-leb _ _ d)) (eq-eqb _ _ (leads-end p)))
       (not-in (any-not (broken t s m l) (length l) (λ i q. ap not (leads-each p i q))))
 
--- ---- PROMISE: a derivation is accepted exactly if it is the word and program order holds, or its chain leads from the first moment to
--- the second in 1 to CHAIN steps that hold in the table for its one class set
+-- ---- what is accepted: the word where program order holds, or a chain whose steps hold in the table for its one class set and lead from
+-- the first moment to the second
 
 pub accepts-exactly : (t : Table) (m k : ℕ) (r : Reason) (l : List ℕ) → (accepts t m k r l ≡ true) ↔ Accepted t m k r l
 unfolding accepts
@@ -190,7 +189,7 @@ accepts-exactly t m k (Chain s) l = (chain-out t s m k l, back s l)
     back : (s : ℕ) (l : List ℕ) → Accepted t m k (Chain s) l → chainHolds t s m k l ≡ true
     back s l (by-chain a b c d p) = chain-in t s m k l a b c d p
 
--- ---- a chain is a path of direct cases
+-- ---- laws: a chain is a path of direct cases
 
 module _ (t : Table) (s : ℕ) where
   below : (k : ℕ) → moment t k ≡ true → k < 3 * t .rows
@@ -250,7 +249,7 @@ module _ (t : Table) (s : ℕ) where
       in
       chain-in t s m k (along (stepNumber t s) k l) a b (omega arith) (omega arith) (way-leads f (trail-way (3 * t .rows) (step t s) k _ m (hit .1)))
 
--- ---- PROMISE: some derivation is accepted exactly where the first moment happens before the second, so none is otherwise
+-- ---- some derivation is accepted exactly where the first moment happens before the second, so none is otherwise
 
 module _ (t : Table) (m k : ℕ) (f : t .rows ≤ ROWS) (two : twoMoments t m k ≡ true) where
   first-there : moment t m ≡ true
@@ -283,7 +282,7 @@ module _ (t : Table) (m k : ℕ) (f : t .rows ≤ ROWS) (two : twoMoments t m k 
               go : chainHolds t s m k (chain t s m k) ≡ true → accepts t m k (Chain s) (chain t s m k) ≡ true
               go e = accepts-exactly t m k (Chain s) (chain t s m k) .1 (chain-out t s m k (chain t s m k) e)
 
-  -- ---- PROMISE: what is said of the two moments by the derivation that is found holds; which one is found is undecided, and ours
+  -- ---- what is said of the two moments by the derivation that is found holds; which one is found is undecided, and ours
 
   -- the word and a chain are accepted; not before is said where the first does not happen before the second; nothing is refused
   abbrev pub Said : Derived → Type 0
@@ -313,7 +312,7 @@ module _ (t : Table) (m k : ℕ) (f : t .rows ≤ ROWS) (two : twoMoments t m k 
       go (inr x) (yes d) = rw (x, lt-ltb c CLASS-SETS d) (chain-accepted t (suc c) f (omega arith) d m k two (found .hit d))
       go (inr x) (no d) = rw (x, le-ltb c CLASS-SETS (omega arith)) (none x (let b = found .bound in omega arith))
 
-  -- NOT BEFORE is said exactly where the first does not happen before the second
+  -- not before is said exactly where the first does not happen before the second
   pub ours-none : (ours t m k ≡ notBefore) ↔ (HappensBefore t m k → ⊥)
   ours-none = (λ e. subst Said e ours-said, λ n. go (ours t m k) ours-said n)
     where
@@ -323,23 +322,19 @@ module _ (t : Table) (m k : ℕ) (f : t .rows ≤ ROWS) (two : twoMoments t m k 
       go notBefore a n = refl
       go (refused i j) a n = absurd a
 
--- ---- PROMISES: of any bytes
+-- an admitted table is within the limit that these ask for
+rows-within : (s : List ℕ) {a n : ℕ} → admission true s ≡ Admitted a n → tableOf s .rows ≤ ROWS
+unfolding tableOf tableUnder decode
+rows-within s e = rows-fit (admitted-sound true s e)
 
-module _ (s : List ℕ) (m k : ℕ) where
-  -- a fill's refusals come first; then 12, row 0, unless the numbers name two moments
-  pub reads-refused : (r : Reason) (l : List ℕ) (n i : ℕ) → admission true s ≡ Refused n i → judge s m k r l ≡ refused n i
-  unfolding judge admittedReader
-  reads-refused r l n i e = rw e refl
+-- ---- of any bytes that are admitted, and two moments
 
-  pub reads-12 : (r : Reason) (l : List ℕ) {a n : ℕ} → admission true s ≡ Admitted a n → twoMoments (tableOf s) m k ≡ false → judge s m k r l ≡ refused 12 0
+module _ (s : List ℕ) (m k : ℕ) {a n : ℕ} (admits : admission true s ≡ Admitted a n) (two : twoMoments (tableOf s) m k ≡ true) where
+  -- ---- what the reader accepts
+
+  reads : (r : Reason) (l : List ℕ) → (judge s m k r l ≡ accepted) ↔ (accepts (tableOf s) m k r l ≡ true)
   unfolding judge admittedReader judged
-  reads-12 r l e x = rw (e, x) refl
-
-  -- ACCEPTED is said exactly of what the page calls so
-  pub reads-accepted : (r : Reason) (l : List ℕ) {a n : ℕ} → admission true s ≡ Admitted a n → twoMoments (tableOf s) m k ≡ true
-      → (judge s m k r l ≡ accepted) ↔ Accepted (tableOf s) m k r l
-  unfolding judge admittedReader judged
-  reads-accepted r l e two = (λ h. accepts-exactly (tableOf s) m k r l .0 (taken (which (accepts (tableOf s) m k r l)) (rw (e, two) at h)), λ h. rw (e, two, accepts-exactly (tableOf s) m k r l .1 h) refl)
+  reads r l = (λ h. taken (which (accepts (tableOf s) m k r l)) (rw (admits, two) at h), λ h. rw (admits, two, h) refl)
     where
       taken : (accepts (tableOf s) m k r l ≡ true) ⊎ (accepts (tableOf s) m k r l ≡ false) → cond (accepts (tableOf s) m k r l) accepted notAccepted ≡ accepted
           → accepts (tableOf s) m k r l ≡ true
@@ -354,31 +349,74 @@ module _ (s : List ℕ) (m k : ℕ) where
               is accepted = ⊥
               is (refused n i) = ⊥
 
-  module _ (work buffer : ℕ) where
-    pub derives-11 : buffersFit CHAIN work buffer ≡ false → derive s m k work buffer ≡ refused 11 0
-    unfolding derive
-    derives-11 x = rw x refl
+  -- the word: no steps beside it, and program order holds
+  pub reads-word : (l : List ℕ) → (judge s m k ProgramOrder l ≡ accepted) ↔ ((l ≡ []) × (programOrder (tableOf s) m k ≡ true))
+  reads-word l = (λ e. out l (accepts-exactly (tableOf s) m k ProgramOrder l .0 (reads ProgramOrder l .0 e)), λ h. reads ProgramOrder l .1 (back l (h .0) (h .1)))
+    where
+      out : (l : List ℕ) → Accepted (tableOf s) m k ProgramOrder l → (l ≡ []) × (programOrder (tableOf s) m k ≡ true)
+      out [] (by-word h) = (refl, h)
 
-    module _ (room : buffersFit CHAIN work buffer ≡ true) where
-      pub derives-refused : (n i : ℕ) → admission true s ≡ Refused n i → derive s m k work buffer ≡ refused n i
-      unfolding derive admittedDerive
-      derives-refused n i e = rw (room, e) refl
+      back : (l : List ℕ) → l ≡ [] → programOrder (tableOf s) m k ≡ true → accepts (tableOf s) m k ProgramOrder l ≡ true
+      back l e h = rw e (accepts-exactly (tableOf s) m k ProgramOrder [] .1 (by-word h))
 
-      pub derives-12 : {a n : ℕ} → admission true s ≡ Admitted a n → twoMoments (tableOf s) m k ≡ false → derive s m k work buffer ≡ refused 12 0
-      unfolding derive admittedDerive derivedOf
-      derives-12 e x = rw (room, e, x) refl
+  -- a chain: of a class set, of 1 to CHAIN steps, each of which holds where it stands, and it ends at the second moment
+  pub reads-chain : (c : ℕ) (l : List ℕ) → (judge s m k (Chain c) l ≡ accepted)
+      ↔ ((1 ≤ c) × (c ≤ CLASS-SETS) × (1 ≤ length l) × (length l ≤ CHAIN) × (stands m l (length l) ≡ k)
+      × ((i : ℕ) → i < length l → stepHolds (tableOf s) c (stands m l i) (getD l i 0) ≡ true))
+  reads-chain c l = (
+    λ e. out c (accepts-exactly (tableOf s) m k (Chain c) l .0 (reads (Chain c) l .0 e)),
+    λ h. reads (Chain c) l .1 (accepts-exactly (tableOf s) m k (Chain c) l .1 (by-chain (h .0) (h .1) (h .2) (h .3) (leads-in (tableOf s) c m k l (h .5) (h .4)))),
+  )
+    where
+      out : (c : ℕ) → Accepted (tableOf s) m k (Chain c) l → (1 ≤ c) × (c ≤ CLASS-SETS) × (1 ≤ length l) × (length l ≤ CHAIN) × (stands m l (length l) ≡ k) × Each (tableOf s) c m l
+      out c (by-chain a b d e p) = (a, b, d, e, leads-end (tableOf s) c p, leads-each (tableOf s) c p)
 
-      -- of two moments the answer is ours, so that all of the above holds of it
-      pub derives-ours : {a n : ℕ} → admission true s ≡ Admitted a n → twoMoments (tableOf s) m k ≡ true → derive s m k work buffer ≡ ours (tableOf s) m k
-      unfolding derive admittedDerive derivedOf
-      derives-ours e two = rw (room, e, two) refl
+  -- some derivation, exactly where the first moment happens before the second
+  pub reads-some : ((r : Reason) × (l : List ℕ) × (judge s m k r l ≡ accepted)) ↔ HappensBefore (tableOf s) m k
+  reads-some =
+      let b = accepted-before (tableOf s) m k (rows-within s admits) two in (
+        λ d. b .0 (d .0, d .1, reads (d .0) (d .1) .0 (d .2)),
+        λ h. let d = b .1 h in (d .0, d .1, reads (d .0) (d .1) .1 (d .2)),
+      )
 
-      -- it depends on the table and the two moments alone
-      pub same-derivation : (work′ buffer′ : ℕ) → buffersFit CHAIN work′ buffer′ ≡ true → derive s m k work′ buffer′ ≡ derive s m k work buffer
-      unfolding derive
-      same-derivation work′ buffer′ room′ = rw (room, room′) refl
+  -- ---- what is found
 
--- an admitted table is within the limit that the page asks for
-pub rows-within : (s : List ℕ) {a n : ℕ} → admission true s ≡ Admitted a n → tableOf s .rows ≤ ROWS
-unfolding tableOf tableUnder decode
-rows-within s e = rows-fit (admitted-sound true s e)
+  module _ (work buffer : ℕ) (room : buffersFit CHAIN work buffer ≡ true) where
+    derives-ours : derive s m k work buffer ≡ ours (tableOf s) m k
+    unfolding derive admittedDerive derivedOf
+    derives-ours = rw (room, admits, two) refl
+
+    said : (d : Derived) → derive s m k work buffer ≡ d → Said (tableOf s) m k (rows-within s admits) two d
+    said d e = subst (Said (tableOf s) m k (rows-within s admits) two) (sym derives-ours ∙ e) (ours-said (tableOf s) m k (rows-within s admits) two)
+
+    -- it is accepted
+    pub finds-word : derive s m k work buffer ≡ word → judge s m k ProgramOrder [] ≡ accepted
+    finds-word e = reads ProgramOrder [] .1 (said word e)
+
+    pub finds-chain : (c : ℕ) (l : List ℕ) → derive s m k work buffer ≡ chained c l → judge s m k (Chain c) l ≡ accepted
+    finds-chain c l e = reads (Chain c) l .1 (said (chained c l) e)
+
+    -- some derivation is found exactly where the first moment happens before the second
+    pub finds-some : ((derive s m k work buffer ≡ word) ⊎ ((c : ℕ) × (l : List ℕ) × (derive s m k work buffer ≡ chained c l))) ↔ HappensBefore (tableOf s) m k
+    finds-some = (
+      λ d. ⊎-elim (λ e. reads-some .0 (ProgramOrder, [], finds-word e)) (λ e. reads-some .0 (Chain (e .0), e .1, finds-chain (e .0) (e .1) (e .2))) d,
+      λ h. go (derive s m k work buffer) refl h,
+    )
+      where
+        go : (d : Derived) → derive s m k work buffer ≡ d → HappensBefore (tableOf s) m k
+            → (derive s m k work buffer ≡ word) ⊎ ((c : ℕ) × (l : List ℕ) × (derive s m k work buffer ≡ chained c l))
+        go word e h = inl e
+        go (chained c l) e h = inr (c, l, e)
+        go notBefore e h = absurd (said notBefore e h)
+        go (refused i j) e h = absurd (said (refused i j) e)
+
+    -- and none exactly where it does not
+    pub finds-none : (derive s m k work buffer ≡ notBefore) ↔ (HappensBefore (tableOf s) m k → ⊥)
+    finds-none = let b = ours-none (tableOf s) m k (rows-within s admits) two in (λ e. b .0 (sym derives-ours ∙ e), λ h. derives-ours ∙ b .1 h)
+
+-- ---- the derivation depends on the table and the two numbers alone: refused or not, with any buffers that are long enough
+
+pub same-derivation : (s : List ℕ) (m k work buffer work′ buffer′ : ℕ) → buffersFit CHAIN work buffer ≡ true → buffersFit CHAIN work′ buffer′ ≡ true
+    → derive s m k work′ buffer′ ≡ derive s m k work buffer
+unfolding derive
+same-derivation s m k work buffer work′ buffer′ h h′ = rw (h, h′) refl

@@ -1,5 +1,5 @@
 -- The weekly report: refused and inconsistent tables get check's answer; of every other table, with buffers that are long enough,
--- whatever they hold, the counts and the share. `report` is the definition that the contract of the entry point names.
+-- whatever they hold, the counts and the share. Assumes nothing.
 use mathlib.Core.Path.{_≡_, refl, sym, ap, _∙_}
 use mathlib.Core.Bool.{Bool, true, false, cond}
 use mathlib.Core.List.{List}
@@ -34,7 +34,7 @@ use Rattle.laws.specs.ReportLaws.{Throughout, ordered-is, adds-up, counts-fit, 
 use Rattle.promises.specs.Searches.{stuck}
 use Rattle.promises.specs.Check.{same-verdict}
 
--- ---- which case of an answer was given, and what it carries
+-- ---- definitions: which case of an answer was given, and what it carries
 
 abbrev pub tag : ReportAnswer → ℕ
 tag (told.Refused n i) = 0
@@ -91,7 +91,7 @@ counted-tag t = go (shareOf (racing t) (conflicting t))
     go share.NoPairs = omega arith
     go (share.Of f) = omega arith
 
--- ---- the theorems: check's answer and no report
+-- ---- check's answer, and no report
 
 -- for one table, refused or not, and any buffers that are long enough the answer is the same
 pub same-report : (chains : Bool) (s : List ℕ) (work buffer work′ buffer′ : ℕ) → buffersFit CYCLE work buffer ≡ true → buffersFit CYCLE work′ buffer′ ≡ true
@@ -136,7 +136,7 @@ module _ (chains : Bool) (s : List ℕ) (work buffer : ℕ) where
       forth (race u v c) e = absurd (let z : tag (counted (tableUnder chains s)) ≡ 2 = ap tag e in omega (arith, counted-tag (tableUnder chains s)))
       forth raceFree e = absurd (let z : tag (counted (tableUnder chains s)) ≡ 2 = ap tag e in omega (arith, counted-tag (tableUnder chains s)))
 
--- ---- the theorems: of a consistent table
+-- ---- of a consistent table
 
 module _ (chains : Bool) (s : List ℕ) (work buffer : ℕ) (fit : buffersFit CYCLE work buffer ≡ true) (well : WellFormed s) where
   abbrev t : Table

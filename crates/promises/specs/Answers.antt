@@ -1,7 +1,6 @@
 -- What a caller gets: each case of an answer is given exactly for the verdict, outcome or judgement of its name, with its numbers; and what is
--- left in the lent buffers.
--- That a report refuses, or shows a cycle or an overwritten read, exactly as a check does stands in Report.antt (`says-refused`,
--- `says-cycle`, `says-overwritten`). Assumes nothing.
+-- left in the lent buffers. That a report refuses, or shows a cycle or an overwritten read, exactly as a check does stands in Report.antt
+-- (`says-refused`, `says-cycle`, `says-overwritten`). Assumes nothing.
 use mathlib.Core.Path.{_≡_, refl, sym, ap, _∙_}
 use mathlib.Core.List.{List, _++_}
 use mathlib.Core.Logic.{_⊎_, inl, inr, _↔_}
@@ -21,7 +20,6 @@ use Rattle.model.specs.declared.DeriveAnswer.the-variants as derive
 use Rattle.model.specs.declared.AcceptAnswer.{AcceptAnswer}
 use Rattle.model.specs.declared.AcceptAnswer.the-variants as accept
 use Rattle.model.specs.declared.Report.{Report}
-use Rattle.model.specs.declared.ReportAnswer.{ReportAnswer}
 use Rattle.model.specs.declared.ReportAnswer.the-variants as report
 use Rattle.model.specs.Table.{Table}
 use Rattle.model.specs.Check.{Verdict, checkAnswer, wiped, cycleNumber, cycleAfter, workAfter}
@@ -74,7 +72,8 @@ checks-refused d n i = (forth d, λ e. rw e refl)
     forth (verdict.race x′ y′ b′) e = absurd (let z : _≡_ {A = ℕ} 3 0 = ap check-tag e in omega arith)
     forth verdict.raceFree e = absurd (let z : _≡_ {A = ℕ} 4 0 = ap check-tag e in omega arith)
 
-pub checks-cycle : (d : Verdict) (k : ℕ) → (checkAnswer d ≡ check.Cycle k) ↔ ((rows : List ℕ) × (edges : List ℕ) × (d ≡ verdict.cyclic rows edges) × (length rows ≡ k))
+pub checks-cycle : (d : Verdict) (k : ℕ)
+    → (checkAnswer d ≡ check.Cycle k) ↔ ((rows : List ℕ) × (edges : List ℕ) × (d ≡ verdict.cyclic rows edges) × (length rows ≡ k))
 unfolding checkAnswer
 checks-cycle d k = (forth d, λ e. let h = e .3 in rw (e .2, h) refl)
   where
@@ -337,7 +336,8 @@ pub reports-counts : (d : Verdict) (t : Table) (r : Report)
 unfolding reportAnswer checkAnswer
 reports-counts d t r = (forth d, λ e. back (e .0) (e .1) (e .2))
   where
-    forth : (d : Verdict) → reportAnswer (checkAnswer d) t ≡ report.Report r → Sound d × (conflicting t ≡ 0 → ⊥) × (r ≡ reportOf t (quotient (racing t) (conflicting t)))
+    forth : (d : Verdict) → reportAnswer (checkAnswer d) t ≡ report.Report r
+        → Sound d × (conflicting t ≡ 0 → ⊥) × (r ≡ reportOf t (quotient (racing t) (conflicting t)))
     forth (verdict.refused n i) e = absurd (let z : _≡_ {A = ℕ} 0 4 = ap tag e in omega arith)
     forth (verdict.cyclic rows edges) e = absurd (let z : _≡_ {A = ℕ} 1 4 = ap tag e in omega arith)
     forth (verdict.overwritten y z b) e = absurd (let z : _≡_ {A = ℕ} 2 4 = ap tag e in omega arith)

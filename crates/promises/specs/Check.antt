@@ -1,31 +1,28 @@
 -- The exact verdict: of every well-formed table, on a device with or without chains, with buffers that are long enough, whatever they hold.
 -- Assumes nothing.
 use mathlib.Core.Path.{_≡_, refl, sym, ap, subst, _∙_}
-use mathlib.Core.Bool.{Bool, true, false, not}
+use mathlib.Core.Bool.{Bool, true, false}
 use mathlib.Core.List.{List}
 use mathlib.Core.Logic.{_⊎_, inl, inr, ⊎-elim, _↔_}
-use Prim.Native.Nat.{ℕ, _+_, _≤_, _<_}
+use Prim.Native.Nat.{ℕ, _<_}
 use native.Mathlib.Omega.{arith}
-use native.Mathlib.Nat.{eq-or-lt-of-le}
-use lib.ListN.{length, getD}
 use lib.Dec.{ltb}
-use borrow.Author.Tests.{ltb-true, ltb-false, lt-ltb, le-ltb}
+use borrow.Author.Tests.{ltb-true, lt-ltb, le-ltb}
 use Rattle.finite.specs.Logic.{which, not-both, not-so}
 use Rattle.finite.specs.Walk.{along}
 use Rattle.finite.specs.Cycle.{Canonical, cycle-canonical}
-use Rattle.model.specs.declared.Admission.the-variants.{Admitted}
 use Rattle.model.specs.Limits.{CYCLE}
-use Rattle.model.specs.Table.{Table, agentsAt, rowsAt, tableUnder, sourcesOf, decode, rowBytes, placesOf}
+use Rattle.model.specs.Table.{Table, tableUnder, sourcesOf, decode}
 use Rattle.model.specs.Scope.{mutually}
 use Rattle.model.specs.Location.{common, before}
 use Rattle.model.specs.Race.{conflict, raceRow, racePartner, raceByte}
 use Rattle.model.specs.Edge.{edge, edgeNumber, cycleRow, cycleRows, cycleEdges, overReader, overWriter, overByte}
-use Rattle.model.specs.Refusal.{buffersFit, admission}
-use Rattle.model.specs.Check.{Verdict, cyclic, overwritten, race, raceFree, raceOr, overwrittenOr, cyclicOr, verdict, admitted, check}
-use Rattle.model.specs.Words.{Unordered, Races, Cyclic, Overwritten, Consistent, WellFormed}
+use Rattle.model.specs.Refusal.{buffersFit}
+use Rattle.model.specs.Check.{cyclic, overwritten, race, raceFree, raceOr, overwrittenOr, cyclicOr, verdict, admitted, check}
+use Rattle.model.specs.Words.{Races, Cyclic, Overwritten, Consistent, WellFormed}
 use Rattle.laws.specs.AdmissionLaws.{admitted-sound, size-fits}
 use Rattle.laws.specs.RaceLaws.{Sized, FirstRace, race-shown, race-none}
-use Rattle.laws.specs.AxiomLaws.{FirstOverwrite, cyclic-is, overwrite-shown, overwritten-is, consistent-is}
+use Rattle.laws.specs.AxiomLaws.{FirstOverwrite, cyclic-is, overwrite-shown, overwritten-is}
 use Rattle.promises.specs.Searches.{stuck}
 use Rattle.promises.specs.Cases.{Tests, decided, said-cyclic, said-overwritten, said-race, said-free, say-cyclic, say-overwritten, say-race, say-free}
 

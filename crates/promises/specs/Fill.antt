@@ -1,16 +1,16 @@
 -- The only filling: of every table that a fill does not refuse, whichever plain reads are blank, on a device with or without chains, with buffers
 -- that are long enough, whatever they hold. `Good chains s f` says that f is a filling of s that leaves it well formed and consistent.
 -- Assumes nothing.
-use mathlib.Core.Path.{_≡_, refl, sym, ap, subst, _∙_}
+use mathlib.Core.Path.{_≡_, refl, sym, ap, _∙_}
 use mathlib.Core.Bool.{Bool, true, false}
 use mathlib.Core.List.{List}
-use mathlib.Core.Logic.{_⊎_, inl, inr, ⊎-elim, _↔_}
-use Prim.Native.Nat.{ℕ, _+_, _≤_, _<_}
+use mathlib.Core.Logic.{⊎-elim, _↔_}
+use Prim.Native.Nat.{ℕ, _<_}
 use native.Mathlib.Omega.{arith}
 use lib.ListN.{length, getD}
 use lib.Seq.{ext-getD}
 use lib.Dec.{ltb}
-use borrow.Author.Tests.{ltb-true, lt-ltb, le-ltb}
+use borrow.Author.Tests.{ltb-true, le-ltb}
 use Rattle.finite.specs.Logic.{_and_, split, and-true, which, not-both, not-so}
 use Rattle.finite.specs.Lists.{tabulate, length-tabulate, getD-tabulate}
 use Rattle.model.specs.declared.Admission.the-variants.{Admitted}
@@ -30,7 +30,8 @@ use Rattle.promises.specs.Searches.{stuck, free-of}
 use Rattle.promises.specs.Outcomes.{settled, said-race, said-filled, said-none, say-race, say-filled, say-none}
 use Rattle.promises.specs.FillLaws.{Good, forced, good-fits, good-consistent, made, made-sources, made-good}
 
-module _ (chains : Bool) (s : List ℕ) (work buffer : ℕ) (fit : buffersFit SOURCES work buffer ≡ true) (well : admission true s ≡ Admitted (agentsAt s) (rowsAt s)) where
+module _ (chains : Bool) (s : List ℕ) (work buffer : ℕ) (fit : buffersFit SOURCES work buffer ≡ true)
+    (well : admission true s ≡ Admitted (agentsAt s) (rowsAt s)) where
   abbrev T : Table
   T = tableUnder chains s
 
@@ -77,22 +78,28 @@ module _ (chains : Bool) (s : List ℕ) (work buffer : ℕ) (fit : buffersFit SO
       calm : found ≡ false
       calm = le-ltb (raceRow T) (T .rows) (omega (arith, race-none T (sized) .1 free))
 
+      passing : (f : List ℕ) → Good chains s f → passes ≡ true
+      passing f g = and-true (good-fits chains s bytes well free f g) (good-consistent chains s bytes well free f g)
+
       pub says-filled : ((l : List ℕ) × (fill chains s work buffer ≡ filled l)) ↔ ((f : List ℕ) × Good chains s f)
       says-filled = (
-        λ e. let p = split (said-filled _ _ _ _ _ _ (sym fill-is ∙ e .1) .1) in (made chains s bytes well (p .0) (p .1), made-good chains s bytes well (p .0) (p .1)),
-        λ g. (_, fill-is ∙ say-filled _ _ _ _ _ _ calm (and-true (good-fits chains s bytes well free (g .0) (g .1)) (good-consistent chains s bytes well free (g .0) (g .1)))),
+        λ e.
+            let p = split (said-filled _ _ _ _ _ _ (sym fill-is ∙ e .1) .1) in
+            (made chains s bytes well (p .0) (p .1), made-good chains s bytes well (p .0) (p .1)),
+        λ g. (_, fill-is ∙ say-filled _ _ _ _ _ _ calm (passing (g .0) (g .1))),
       )
 
       pub says-none : (fill chains s work buffer ≡ none) ↔ ((f : List ℕ) → Good chains s f → ⊥)
       says-none = (
-        λ e f g. not-both (and-true (good-fits chains s bytes well free f g) (good-consistent chains s bytes well free f g)) (said-none _ _ _ _ _ _ (sym fill-is ∙ e) .1),
+        λ e f g. not-both (passing f g) (said-none _ _ _ _ _ _ (sym fill-is ∙ e) .1),
         λ n. fill-is ∙ say-none _ _ _ _ _ _ calm (not-so passes (λ p. n _ (made-good chains s bytes well (split p .0) (split p .1)))),
       )
 
     -- ---- what is handed back is such a filling, its sources row by row, and it is the only one
 
     pub shows-filled : (l : List ℕ) → fill chains s work buffer ≡ filled l
-        → (f : List ℕ) × Good chains s f × (length l ≡ rowsAt s) × ((i : ℕ) → i < rowsAt s → getD l i 0 ≡ sourcesOf f i) × ((g : List ℕ) → Good chains s g → g ≡ f)
+        → (f : List ℕ) × Good chains s f × (length l ≡ rowsAt s) × ((i : ℕ) → i < rowsAt s → getD l i 0 ≡ sourcesOf f i)
+        × ((g : List ℕ) → Good chains s g → g ≡ f)
     unfolding tableUnder decode
     shows-filled l e =
         let p = said-filled _ _ _ _ _ _ (sym fill-is ∙ e) in
@@ -117,7 +124,8 @@ module _ (chains : Bool) (s f : List ℕ) (h : Filling s f) where
 
 -- ---- the outcome depends on the table and the switch alone: refused or not, with any buffers that are long enough
 
-pub same-outcome : (chains : Bool) (s : List ℕ) (work buffer work′ buffer′ : ℕ) → buffersFit SOURCES work buffer ≡ true → buffersFit SOURCES work′ buffer′ ≡ true
+pub same-outcome : (chains : Bool) (s : List ℕ) (work buffer work′ buffer′ : ℕ)
+    → buffersFit SOURCES work buffer ≡ true → buffersFit SOURCES work′ buffer′ ≡ true
     → fill chains s work′ buffer′ ≡ fill chains s work buffer
 unfolding fill
 same-outcome chains s work buffer work′ buffer′ h k = rw (h, k) refl

@@ -4,44 +4,40 @@ use mathlib.Core.Path.{_≡_, refl, sym, ap, subst, _∙_}
 use mathlib.Core.Bool.{Bool, true, false, not, cond}
 use mathlib.Core.List.{List, [], _∷_}
 use mathlib.Core.Logic.{_⊎_, inl, inr, ⊎-elim, _↔_}
-use Prim.Native.Nat.{ℕ, zero, suc, _+_, _-_, _*_, _/_, _%_, _≤_, _<_}
+use Prim.Native.Nat.{ℕ, zero, suc, _-_, _*_, _/_, _≤_, _<_}
 use native.Mathlib.Omega.{arith}
 use native.Mathlib.Nat.{not-suc-le-zero}
 use native.Mathlib.Decide.{decLt}
 use lib.ListN.{length, getD}
-use lib.Dec.{ltb, leb, eqb}
+use lib.Dec.{ltb, eqb}
 use borrow.Author.Tests.{ltb-true, lt-ltb, le-ltb, leb-true, le-leb, eqb-true, eqb-false, eq-eqb, ne-eqb}
-use Rattle.finite.specs.Logic.{_and_, _or_, which, split, and-true, or-cases, or-left, or-right, not-both, not-so, not-in, not-out}
-use Rattle.finite.specs.Below.{anyBelow, least, any-in, any-out, any-off, any-not, Least, least-is, least-hit}
+use Rattle.finite.specs.Logic.{_and_, _or_, which, split, and-true, or-cases, or-left, or-right, not-both, not-in, not-out}
+use Rattle.finite.specs.Below.{least, any-off, any-not, Least, least-is, least-hit}
 use Rattle.finite.specs.Closure.{Reach, one, more}
 use Rattle.finite.specs.Walk.{walk, trail, along}
 use Rattle.finite.specs.Cycle.{Way, there, onward, length-trail, length-along, trail-way, walk-reach, least-apart}
-use Rattle.model.specs.declared.Admission.the-variants.{Admitted, Refused}
+use Rattle.model.specs.declared.Admission.the-variants.{Admitted}
 use Rattle.model.specs.declared.Reason.{Reason}
 use Rattle.model.specs.declared.Reason.the-variants.{ProgramOrder, Chain}
 use Rattle.model.specs.Limits.{ROWS, CHAIN, CASE, CLASS-SETS}
-use Rattle.model.specs.Table.{Table, rowsAt, tableUnder, tableOf, decode}
+use Rattle.model.specs.Table.{Table, tableUnder, tableOf, decode}
 use Rattle.model.specs.Moment.{AT, part, momentOf, momentIn, moment, orderedRows, programOrder}
-use Rattle.model.specs.Happens.{holding, holdingOf, bySync, toRelease, fromAcquire, bySystem, direct, step, happens}
-use Rattle.laws.specs.HappensLaws.{happens-is}
+use Rattle.model.specs.Happens.{holding, holdingOf, bySync, toRelease, fromAcquire, bySystem, direct, step}
 use Rattle.model.specs.Words.{HappensBefore}
 use Rattle.laws.specs.AdmissionLaws.{admitted-sound, rows-fit}
 use Rattle.model.specs.Refusal.{buffersFit, admission}
-use Rattle.model.specs.Reason.{caseIn, reached, stepTo, stepHolds, stands, broken, chainHolds, accepts, twoMoments, hasChain, chainSize, lowestCase, stepNumber, chain, hasChainBy, chainOr, ours, Judged, accepted, notAccepted, judged, admittedReader, judge, Derived, word, chained, notBefore, derivedOf, admittedDerive, derive, refused}
+use Rattle.model.specs.Reason.{caseIn, reached, stepTo, stepHolds, stands, broken, chainHolds, accepts, twoMoments}
+use Rattle.model.specs.Reason.{hasChain, chainSize, lowestCase, stepNumber, chain, hasChainBy, chainOr, ours}
+use Rattle.model.specs.Reason.{Judged, accepted, notAccepted, judged, admittedReader, judge}
+use Rattle.model.specs.Reason.{Derived, word, chained, notBefore, refused, derivedOf, admittedDerive, derive}
 
 -- ---- definitions
 
 module _ (t : Table) where
-  -- the step x leads from moment m to a moment that is there, by the direct case of M6 that it names
-  pub record Holds (s m x : ℕ) : Type 0 where
-    pub there : moment t (reached x) ≡ true
-    pub by : ((caseIn x ≡ 1) × (bySync t s m (reached x) ≡ true))
-        ⊎ (((caseIn x ≡ 2) × (toRelease t s m (reached x) ≡ true)) ⊎ (((caseIn x ≡ 3) × (fromAcquire t s m (reached x) ≡ true)) ⊎ ((caseIn x ≡ 4) × (bySystem t m (reached x) ≡ true))))
-
   -- steps that hold for the class set s lead from a moment to another
   pub data Leads (s : ℕ) : ℕ → List ℕ → ℕ → Type 0 where
     done : {m : ℕ} → Leads s m [] m
-    next : {m x k : ℕ} {l : List ℕ} → Holds s m x → Leads s (reached x) l k → Leads s m (x ∷ l) k
+    next : {m x k : ℕ} {l : List ℕ} → stepHolds t s m x ≡ true → Leads s (reached x) l k → Leads s m (x ∷ l) k
 
   -- what the reader accepts of moments m and k: the word where program order holds, or a chain of 1 to CHAIN such steps
   pub data Accepted (m k : ℕ) : Reason → List ℕ → Type 0 where
@@ -51,41 +47,18 @@ module _ (t : Table) where
 -- ---- laws: a step
 
 module _ (t : Table) (s m : ℕ) where
-  step-out : (x : ℕ) → stepHolds t s m x ≡ true → Holds t s m x
-  unfolding stepHolds direct
-  step-out x h = record { there = split h .0; by = go (or-cases _ _ (split h .1)) }
+  -- the moment that a step reaches is there
+  step-there : (x : ℕ) → stepHolds t s m x ≡ true → moment t (reached x) ≡ true
+  unfolding stepHolds
+  step-there x h = split h .0
+
+  -- a step that holds is one of those that inter-thread order is the closure of
+  step-is : (x : ℕ) → stepHolds t s m x ≡ true → step t s m (reached x) ≡ true
+  unfolding stepHolds direct step
+  step-is x h = or-map (or-map (or-map (λ e. split e .1) (λ e. split e .1)) (λ e. split e .1)) (λ e. split e .1) (split h .1)
     where
-      k : ℕ
-      k = reached x
-
-      inner : ((eqb (caseIn x) 1 and bySync t s m k) ≡ true) ⊎ ((eqb (caseIn x) 2 and toRelease t s m k) ≡ true)
-          → ((caseIn x ≡ 1) × (bySync t s m k ≡ true)) ⊎ (((caseIn x ≡ 2) × (toRelease t s m k ≡ true)) ⊎ (((caseIn x ≡ 3) × (fromAcquire t s m k ≡ true)) ⊎ ((caseIn x ≡ 4) × (bySystem t m k ≡ true))))
-      inner (inl e) = inl (eqb-true _ _ (split e .0), split e .1)
-      inner (inr e) = inr (inl (eqb-true _ _ (split e .0), split e .1))
-
-      outer : ((eqb (caseIn x) 1 and bySync t s m k or eqb (caseIn x) 2 and toRelease t s m k) ≡ true) ⊎ ((eqb (caseIn x) 3 and fromAcquire t s m k) ≡ true)
-          → ((caseIn x ≡ 1) × (bySync t s m k ≡ true)) ⊎ (((caseIn x ≡ 2) × (toRelease t s m k ≡ true)) ⊎ (((caseIn x ≡ 3) × (fromAcquire t s m k ≡ true)) ⊎ ((caseIn x ≡ 4) × (bySystem t m k ≡ true))))
-      outer (inl e) = inner (or-cases _ _ e)
-      outer (inr e) = inr (inr (inl (eqb-true _ _ (split e .0), split e .1)))
-
-      go : ((eqb (caseIn x) 1 and bySync t s m k or eqb (caseIn x) 2 and toRelease t s m k or eqb (caseIn x) 3 and fromAcquire t s m k) ≡ true) ⊎ ((eqb (caseIn x) 4 and bySystem t m k) ≡ true)
-          → ((caseIn x ≡ 1) × (bySync t s m k ≡ true)) ⊎ (((caseIn x ≡ 2) × (toRelease t s m k ≡ true)) ⊎ (((caseIn x ≡ 3) × (fromAcquire t s m k ≡ true)) ⊎ ((caseIn x ≡ 4) × (bySystem t m k ≡ true))))
-      go (inl e) = outer (or-cases _ _ e)
-      go (inr e) = inr (inr (inr (eqb-true _ _ (split e .0), split e .1)))
-
-  step-in : (x : ℕ) → Holds t s m x → stepHolds t s m x ≡ true
-  unfolding stepHolds direct
-  step-in x h =
-      and-true (h .there)
-      (⊎-elim (λ a. or-left _ (or-left _ (or-left _ (and-true (eq-eqb _ _ (a .0)) (a .1)))))
-      (λ b. ⊎-elim (λ a. or-left _ (or-left _ (or-right _ (and-true (eq-eqb _ _ (a .0)) (a .1))))) (λ c. ⊎-elim (λ a. or-left _ (or-right _ (and-true (eq-eqb _ _ (a .0)) (a .1)))) (λ a. or-right _ (and-true (eq-eqb _ _ (a .0)) (a .1))) c) b)
-      (h .by))
-
-  -- it is one of the steps that inter-thread order is the closure of
-  step-is : (x : ℕ) → Holds t s m x → step t s m (reached x) ≡ true
-  unfolding step
-  step-is x h =
-      ⊎-elim (λ a. or-left _ (or-left _ (or-left _ (a .1)))) (λ b. ⊎-elim (λ a. or-left _ (or-left _ (or-right _ (a .1)))) (λ c. ⊎-elim (λ a. or-left _ (or-right _ (a .1))) (λ a. or-right _ (a .1)) c) b) (h .by)
+      or-map : {a b c d : Bool} → (a ≡ true → c ≡ true) → (b ≡ true → d ≡ true) → (a or b) ≡ true → (c or d) ≡ true
+      or-map {a} {b} {c} {d} f g e = ⊎-elim (λ p. or-left d (f p)) (λ p. or-right c (g p)) (or-cases a b e)
 
   -- a moment that is reached is there
   own : (k : ℕ) → k < 3 * t .rows → holding t s k ≡ true → moment t k ≡ true
@@ -135,13 +108,13 @@ module _ (t : Table) (s : ℕ) where
   unfolding stands
   leads-in m k [] h e = rw e done
   leads-in m k (x ∷ l) h e =
-      next (step-out t s m x (h 0 (omega arith)))
+      next (h 0 (omega arith))
       (leads-in (reached x) k l (λ i b. rw (stands-next m x l i) at (h (suc i) (omega arith))) (sym (stands-next m x l (length l)) ∙ e))
 
   leads-each : {m k : ℕ} {l : List ℕ} → Leads t s m l k → Each m l
   unfolding stands
   leads-each done i b = absurd (not-suc-le-zero b)
-  leads-each {m} (next {x = x} {l = l} h p) zero b = step-in t s m x h
+  leads-each {m} (next {x = x} {l = l} h p) zero b = h
   leads-each {m} (next {x = x} {l = l} h p) (suc i) b = rw (stands-next m x l i) (leads-each p i (omega arith))
 
   leads-end : {m k : ℕ} {l : List ℕ} → Leads t s m l k → stands m l (length l) ≡ k
@@ -199,29 +172,32 @@ module _ (t : Table) (s : ℕ) where
   leads-reach : {m k : ℕ} {l : List ℕ} → 1 ≤ length l → Leads t s m l k → Reach (step t s) (3 * t .rows) m k
   leads-reach b done = absurd (not-suc-le-zero b)
   leads-reach {m} b (next {x = x} h done) = one (step-is t s m x h)
-  leads-reach {m} b (next {x = x} h (next g p)) = more (step-is t s m x h) (below (reached x) (h .there)) (leads-reach (omega arith) (next g p))
+  leads-reach {m} b (next {x = x} h (next g p)) = more (step-is t s m x h) (below (reached x) (step-there t s m x h)) (leads-reach (omega arith) (next g p))
 
-  -- the lowest case that leads to a moment is one of M6's
-  lowest-holds : (m k : ℕ) → k < CASE → moment t k ≡ true → step t s m k ≡ true → Holds t s m (stepNumber t s m k)
-  unfolding stepNumber lowestCase step
+  -- where no other case leads to a moment, the fourth does
+  fourth : (m k : ℕ) → bySync t s m k ≡ false → toRelease t s m k ≡ false → fromAcquire t s m k ≡ false → step t s m k ≡ true → bySystem t m k ≡ true
+  unfolding step _or_
+  fourth m k x y z h = rw (x, y, z) at h
+
+  -- a step by the lowest case that leads to a moment holds
+  lowest-holds : (m k : ℕ) → k < CASE → moment t k ≡ true → step t s m k ≡ true → stepHolds t s m (stepNumber t s m k) ≡ true
+  unfolding stepHolds stepNumber lowestCase step direct
   lowest-holds m k b here h = go (which (bySync t s m k)) (which (toRelease t s m k)) (which (fromAcquire t s m k))
     where
-      to : (case : ℕ) → (caseIn (stepTo case k) ≡ case) × (reached (stepTo case k) ≡ k)
-      to case = (omega arith, omega arith)
+      by : (case : ℕ) → direct t s case m k ≡ true → stepHolds t s m (stepTo case k) ≡ true
+      by case d =
+          let a : caseIn (stepTo case k) ≡ case = omega arith in
+          let r : reached (stepTo case k) ≡ k = omega arith in
+          rw (a, r) (and-true here d)
 
-      last : bySync t s m k ≡ false → toRelease t s m k ≡ false → fromAcquire t s m k ≡ false → bySystem t m k ≡ true
-      last x y z =
-          ⊎-elim
-          (λ d. ⊎-elim (λ a. ⊎-elim (λ c. not-both c x) (λ c. not-both c y) (or-cases (bySync t s m k) (toRelease t s m k) a)) (λ a. not-both a z) (or-cases (bySync t s m k or toRelease t s m k) (fromAcquire t s m k) d))
-          (λ d. d)
-          (or-cases (bySync t s m k or toRelease t s m k or fromAcquire t s m k) (bySystem t m k) h)
-
-      go : (bySync t s m k ≡ true) ⊎ (bySync t s m k ≡ false) → (toRelease t s m k ≡ true) ⊎ (toRelease t s m k ≡ false) → (fromAcquire t s m k ≡ true) ⊎ (fromAcquire t s m k ≡ false)
-          → Holds t s m (stepTo (cond (bySync t s m k) 1 (cond (toRelease t s m k) 2 (cond (fromAcquire t s m k) 3 4))) k)
-      go (inl x) y z = rw x (record { there = rw (to 1 .1) here; by = inl (to 1 .0, rw (to 1 .1) x) })
-      go (inr x) (inl y) z = rw (x, y) (record { there = rw (to 2 .1) here; by = inr (inl (to 2 .0, rw (to 2 .1) y)) })
-      go (inr x) (inr y) (inl z) = rw (x, y, z) (record { there = rw (to 3 .1) here; by = inr (inr (inl (to 3 .0, rw (to 3 .1) z))) })
-      go (inr x) (inr y) (inr z) = rw (x, y, z) (record { there = rw (to 4 .1) here; by = inr (inr (inr (to 4 .0, rw (to 4 .1) (last x y z)))) })
+      go : (bySync t s m k ≡ true) ⊎ (bySync t s m k ≡ false)
+          → (toRelease t s m k ≡ true) ⊎ (toRelease t s m k ≡ false)
+          → (fromAcquire t s m k ≡ true) ⊎ (fromAcquire t s m k ≡ false)
+          → stepHolds t s m (stepTo (cond (bySync t s m k) 1 (cond (toRelease t s m k) 2 (cond (fromAcquire t s m k) 3 4))) k) ≡ true
+      go (inl x) y z = rw x (by 1 (or-left _ (or-left _ (or-left _ (and-true (eq-eqb 1 1 refl) x)))))
+      go (inr x) (inl y) z = rw (x, y) (by 2 (or-left _ (or-left _ (or-right _ (and-true (eq-eqb 2 2 refl) y)))))
+      go (inr x) (inr y) (inl z) = rw (x, y, z) (by 3 (or-left _ (or-right _ (and-true (eq-eqb 3 3 refl) z))))
+      go (inr x) (inr y) (inr z) = rw (x, y, z) (by 4 (or-right _ (and-true (eq-eqb 4 4 refl) (fourth m k x y z h))))
 
   hop : (z w : ℕ) {k : ℕ} {l : List ℕ} → t .rows ≤ ROWS → w < 3 * t .rows → step t s z w ≡ true → Leads t s w l k → Leads t s z (stepNumber t s z w ∷ l) k
   unfolding stepNumber
@@ -236,7 +212,8 @@ module _ (t : Table) (s : ℕ) where
   way-leads f {k} (onward {z} {w} d a (onward {l = l} g b p)) = hop z w f d a (way-leads f (onward g b p))
 
   -- where there is a chain, the shortest is accepted: it has fewer steps than there are moments
-  chain-accepted : t .rows ≤ ROWS → 1 ≤ s → s ≤ CLASS-SETS → (m k : ℕ) → twoMoments t m k ≡ true → hasChain t s m k ≡ true → chainHolds t s m k (chain t s m k) ≡ true
+  chain-accepted : t .rows ≤ ROWS → 1 ≤ s → s ≤ CLASS-SETS → (m k : ℕ) → twoMoments t m k ≡ true → hasChain t s m k ≡ true
+      → chainHolds t s m k (chain t s m k) ≡ true
   unfolding chain hasChain chainSize twoMoments
   chain-accepted f a b m k two h =
       let d = split two in
@@ -351,7 +328,10 @@ module _ (s : List ℕ) (m k : ℕ) {a n : ℕ} (admits : admission true s ≡ A
 
   -- the word: no steps beside it, and program order holds
   pub reads-word : (l : List ℕ) → (judge s m k ProgramOrder l ≡ accepted) ↔ ((l ≡ []) × (programOrder (tableOf s) m k ≡ true))
-  reads-word l = (λ e. out l (accepts-exactly (tableOf s) m k ProgramOrder l .0 (reads ProgramOrder l .0 e)), λ h. reads ProgramOrder l .1 (back l (h .0) (h .1)))
+  reads-word l = (
+    λ e. out l (accepts-exactly (tableOf s) m k ProgramOrder l .0 (reads ProgramOrder l .0 e)),
+    λ h. reads ProgramOrder l .1 (back l (h .0) (h .1)),
+  )
     where
       out : (l : List ℕ) → Accepted (tableOf s) m k ProgramOrder l → (l ≡ []) × (programOrder (tableOf s) m k ≡ true)
       out [] (by-word h) = (refl, h)
@@ -365,10 +345,12 @@ module _ (s : List ℕ) (m k : ℕ) {a n : ℕ} (admits : admission true s ≡ A
       × ((i : ℕ) → i < length l → stepHolds (tableOf s) c (stands m l i) (getD l i 0) ≡ true))
   reads-chain c l = (
     λ e. out c (accepts-exactly (tableOf s) m k (Chain c) l .0 (reads (Chain c) l .0 e)),
-    λ h. reads (Chain c) l .1 (accepts-exactly (tableOf s) m k (Chain c) l .1 (by-chain (h .0) (h .1) (h .2) (h .3) (leads-in (tableOf s) c m k l (h .5) (h .4)))),
+    λ h. reads (Chain c) l .1 (accepts-exactly (tableOf s) m k (Chain c) l .1
+        (by-chain (h .0) (h .1) (h .2) (h .3) (leads-in (tableOf s) c m k l (h .5) (h .4)))),
   )
     where
-      out : (c : ℕ) → Accepted (tableOf s) m k (Chain c) l → (1 ≤ c) × (c ≤ CLASS-SETS) × (1 ≤ length l) × (length l ≤ CHAIN) × (stands m l (length l) ≡ k) × Each (tableOf s) c m l
+      out : (c : ℕ) → Accepted (tableOf s) m k (Chain c) l
+          → (1 ≤ c) × (c ≤ CLASS-SETS) × (1 ≤ length l) × (length l ≤ CHAIN) × (stands m l (length l) ≡ k) × Each (tableOf s) c m l
       out c (by-chain a b d e p) = (a, b, d, e, leads-end (tableOf s) c p, leads-each (tableOf s) c p)
 
   -- some derivation, exactly where the first moment happens before the second

@@ -75,7 +75,10 @@ module _ {W : Type 0} (refused : ℕ → ℕ → W) (same : (n i m j : ℕ) → 
   by-table : (a : Admission) (v : W) → (given refused a v ≡ refused n i) ↔ ((a ≡ Refused n i) ⊎ (Admits a × (v ≡ refused n i)))
   by-table (Refused m j) v = (
     λ e. let s = same m j n i e in inl (rw (s .0, s .1) refl),
-    λ h. ⊎-elim (λ p. let a : m ≡ n = ap number p in let b : j ≡ i = ap row p in rw (a, b) refl) (λ p. absurd (let z : _≡_ {A = ℕ} 1 0 = ap isRefused (p .0 .2) in omega arith)) h,
+    λ h. ⊎-elim
+        (λ p. let a : m ≡ n = ap number p in let b : j ≡ i = ap row p in rw (a, b) refl)
+        (λ p. absurd (let z : _≡_ {A = ℕ} 1 0 = ap isRefused (p .0 .2) in omega arith))
+        h,
   )
   by-table (Admitted x y) v = (
     λ e. inr ((x, y, refl), e),

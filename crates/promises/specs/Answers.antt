@@ -348,38 +348,67 @@ reports-counts d t r = (forth d, λ e. back (e .0) (e .1) (e .2))
     back (inl q) h e = rw (q .3, e) (counted-some t h)
     back (inr q) h e = rw (q, e) (counted-some t h)
 
--- ---- what is left in the lent buffers: w the work area, c the other one
+-- ---- what is left in the lent buffers
 
--- after a refusal both are as they were; else the first words of the work area are zeros, and a cycle is in the cycle buffer, or that is as it was
-pub check-leaves : (v : Verdict) (w c : List ℕ)
-    → ((n : ℕ) × (i : ℕ) × (v ≡ verdict.refused n i) × (workAfter v w ≡ w) × (cycleAfter v c ≡ c))
-    ⊎ ((workAfter v w ≡ replicate WORK 0 ++ drop WORK w)
-    × (((r : List ℕ) × (e : List ℕ) × (v ≡ verdict.cyclic r e) × (cycleAfter v c ≡ tabulate (cycleNumber r e) CYCLE ++ drop CYCLE c)) ⊎ (cycleAfter v c ≡ c)))
+-- w is the work area, c the other. A refusal leaves the work area alone, and every other verdict zeros in its first words; a cycle is in the cycle
+-- buffer, and every other verdict leaves that alone
+pub check-leaves : (w c : List ℕ) → ((n i : ℕ) → workAfter (verdict.refused n i) w ≡ w)
+    × ((v : Verdict) → ((n i : ℕ) → v ≡ verdict.refused n i → ⊥) → workAfter v w ≡ replicate WORK 0 ++ drop WORK w)
+    × ((rows edges : List ℕ) → cycleAfter (verdict.cyclic rows edges) c ≡ tabulate (cycleNumber rows edges) CYCLE ++ drop CYCLE c)
+    × ((v : Verdict) → ((rows edges : List ℕ) → v ≡ verdict.cyclic rows edges → ⊥) → cycleAfter v c ≡ c)
 unfolding workAfter wiped cycleAfter
-check-leaves (verdict.refused n i) w c = inl (n, i, refl, refl, refl)
-check-leaves (verdict.cyclic r e) w c = inr (refl, inl (r, e, refl, refl))
-check-leaves (verdict.overwritten y z b) w c = inr (refl, inr refl)
-check-leaves (verdict.race x y b) w c = inr (refl, inr refl)
-check-leaves verdict.raceFree w c = inr (refl, inr refl)
+check-leaves w c = (λ n i. refl, zeros, λ rows edges. refl, kept)
+  where
+    zeros : (v : Verdict) → ((n i : ℕ) → v ≡ verdict.refused n i → ⊥) → workAfter v w ≡ replicate WORK 0 ++ drop WORK w
+    zeros (verdict.refused n i) f = absurd (f n i refl)
+    zeros (verdict.cyclic rows edges) f = refl
+    zeros (verdict.overwritten y z b) f = refl
+    zeros (verdict.race x y b) f = refl
+    zeros verdict.raceFree f = refl
 
--- the same of a fill: the sources are in the source buffer, the rest of it kept, or it is as it was
-pub fill-leaves : (o : Outcome) (w c : List ℕ)
-    → ((n : ℕ) × (i : ℕ) × (o ≡ outcome.refused n i) × (outcome.workAfter o w ≡ w) × (sourcesAfter o c ≡ c))
-    ⊎ ((outcome.workAfter o w ≡ replicate WORK 0 ++ drop WORK w)
-    × (((l : List ℕ) × (o ≡ outcome.filled l) × (sourcesAfter o c ≡ l ++ drop (length l) c)) ⊎ (sourcesAfter o c ≡ c)))
+    kept : (v : Verdict) → ((rows edges : List ℕ) → v ≡ verdict.cyclic rows edges → ⊥) → cycleAfter v c ≡ c
+    kept (verdict.refused n i) f = refl
+    kept (verdict.cyclic rows edges) f = absurd (f rows edges refl)
+    kept (verdict.overwritten y z b) f = refl
+    kept (verdict.race x y b) f = refl
+    kept verdict.raceFree f = refl
+
+-- the same of a fill: where it is filled, the sources are in the source buffer, the rest of which is kept
+pub fill-leaves : (w c : List ℕ) → ((n i : ℕ) → outcome.workAfter (outcome.refused n i) w ≡ w)
+    × ((o : Outcome) → ((n i : ℕ) → o ≡ outcome.refused n i → ⊥) → outcome.workAfter o w ≡ replicate WORK 0 ++ drop WORK w)
+    × ((l : List ℕ) → sourcesAfter (outcome.filled l) c ≡ l ++ drop (length l) c)
+    × ((o : Outcome) → ((l : List ℕ) → o ≡ outcome.filled l → ⊥) → sourcesAfter o c ≡ c)
 unfolding outcome.workAfter wiped sourcesAfter
-fill-leaves (outcome.refused n i) w c = inl (n, i, refl, refl, refl)
-fill-leaves (outcome.race x y b) w c = inr (refl, inr refl)
-fill-leaves outcome.none w c = inr (refl, inr refl)
-fill-leaves (outcome.filled l) w c = inr (refl, inl (l, refl, refl))
+fill-leaves w c = (λ n i. refl, zeros, λ l. refl, kept)
+  where
+    zeros : (o : Outcome) → ((n i : ℕ) → o ≡ outcome.refused n i → ⊥) → outcome.workAfter o w ≡ replicate WORK 0 ++ drop WORK w
+    zeros (outcome.refused n i) f = absurd (f n i refl)
+    zeros (outcome.race x y b) f = refl
+    zeros outcome.none f = refl
+    zeros (outcome.filled l) f = refl
 
--- and of a derivation: the steps of a chain are in the chain buffer, the rest of it kept, or it is as it was
-pub derive-leaves : (d : Derived) (w c : List ℕ)
-    → ((n : ℕ) × (i : ℕ) × (d ≡ reason.refused n i) × (reason.workAfter d w ≡ w) × (chainAfter d c ≡ c))
-    ⊎ ((reason.workAfter d w ≡ replicate WORK 0 ++ drop WORK w)
-    × (((s : ℕ) × (l : List ℕ) × (d ≡ reason.chained s l) × (chainAfter d c ≡ l ++ drop (length l) c)) ⊎ (chainAfter d c ≡ c)))
+    kept : (o : Outcome) → ((l : List ℕ) → o ≡ outcome.filled l → ⊥) → sourcesAfter o c ≡ c
+    kept (outcome.refused n i) f = refl
+    kept (outcome.race x y b) f = refl
+    kept outcome.none f = refl
+    kept (outcome.filled l) f = absurd (f l refl)
+
+-- and of a derivation: where there is a chain, its steps are in the chain buffer, the rest of which is kept
+pub derive-leaves : (w c : List ℕ) → ((n i : ℕ) → reason.workAfter (reason.refused n i) w ≡ w)
+    × ((d : Derived) → ((n i : ℕ) → d ≡ reason.refused n i → ⊥) → reason.workAfter d w ≡ replicate WORK 0 ++ drop WORK w)
+    × ((k : ℕ) (l : List ℕ) → chainAfter (reason.chained k l) c ≡ l ++ drop (length l) c)
+    × ((d : Derived) → ((k : ℕ) (l : List ℕ) → d ≡ reason.chained k l → ⊥) → chainAfter d c ≡ c)
 unfolding reason.workAfter wiped chainAfter
-derive-leaves (reason.refused n i) w c = inl (n, i, refl, refl, refl)
-derive-leaves reason.word w c = inr (refl, inr refl)
-derive-leaves (reason.chained s l) w c = inr (refl, inl (s, l, refl, refl))
-derive-leaves reason.notBefore w c = inr (refl, inr refl)
+derive-leaves w c = (λ n i. refl, zeros, λ k l. refl, kept)
+  where
+    zeros : (d : Derived) → ((n i : ℕ) → d ≡ reason.refused n i → ⊥) → reason.workAfter d w ≡ replicate WORK 0 ++ drop WORK w
+    zeros (reason.refused n i) f = absurd (f n i refl)
+    zeros reason.word f = refl
+    zeros (reason.chained k l) f = refl
+    zeros reason.notBefore f = refl
+
+    kept : (d : Derived) → ((k : ℕ) (l : List ℕ) → d ≡ reason.chained k l → ⊥) → chainAfter d c ≡ c
+    kept (reason.refused n i) f = refl
+    kept reason.word f = refl
+    kept (reason.chained k l) f = absurd (f k l refl)
+    kept reason.notBefore f = refl

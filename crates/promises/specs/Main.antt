@@ -240,7 +240,7 @@ module _ (s : List ℕ) (m k : ℕ) (well : admission true s ≡ Admitted (agent
 
 -- ---- what the answer depends on
 
--- on the table and the switch alone, and not on the buffers as long as they are long enough; of a refused table too
+-- on the table and the switch alone (a derivation on the table and the two numbers), not on buffers that are long enough; of a refused table too
 module _ (chains : Bool) (s : List ℕ) (work buffer work′ buffer′ : ℕ) where
   pub same-verdict : buffersFit CYCLE work buffer ≡ true → buffersFit CYCLE work′ buffer′ ≡ true → check chains s work′ buffer′ ≡ check chains s work buffer
   same-verdict = beside.Check.same-verdict chains s work buffer work′ buffer′
@@ -284,21 +284,24 @@ accept-cases j = (Answers.reads-refused j, Answers.reads-accepted j, Answers.rea
 
 -- ---- what is left in the lent buffers
 
--- w is the work area, c the other. After a refusal both are as they were. Else the first words of the work area are zeros and the later ones kept, and the
--- other buffer begins with the cycle, the sources or the chain that is said, its rest kept, or is as it was
-pub check-leaves : (v : Verdict) (w c : List ℕ) → ((n : ℕ) × (i : ℕ) × (v ≡ Verdict.refused n i) × (workAfter v w ≡ w) × (cycleAfter v c ≡ c))
-    ⊎ ((workAfter v w ≡ replicate WORK 0 ++ drop WORK w) × (((rows : List ℕ) × (edges : List ℕ) × (v ≡ Verdict.cyclic rows edges)
-    × (cycleAfter v c ≡ tabulate (cycleNumber rows edges) CYCLE ++ drop CYCLE c)) ⊎ (cycleAfter v c ≡ c)))
+-- w is the work area, c the other. A refusal leaves the work area alone, and all else zeros in its first words; a cycle, the sources or a chain are in the
+-- other buffer, the rest of which is kept, and all else leaves that alone
+pub check-leaves : (w c : List ℕ) → ((n i : ℕ) → workAfter (Verdict.refused n i) w ≡ w)
+    × ((v : Verdict) → ((n i : ℕ) → v ≡ Verdict.refused n i → ⊥) → workAfter v w ≡ replicate WORK 0 ++ drop WORK w)
+    × ((rows edges : List ℕ) → cycleAfter (Verdict.cyclic rows edges) c ≡ tabulate (cycleNumber rows edges) CYCLE ++ drop CYCLE c)
+    × ((v : Verdict) → ((rows edges : List ℕ) → v ≡ Verdict.cyclic rows edges → ⊥) → cycleAfter v c ≡ c)
 check-leaves = Answers.check-leaves
 
-pub fill-leaves : (o : Outcome) (w c : List ℕ) → ((n : ℕ) × (i : ℕ) × (o ≡ Outcome.refused n i) × (Fill.workAfter o w ≡ w) × (sourcesAfter o c ≡ c))
-    ⊎ ((Fill.workAfter o w ≡ replicate WORK 0 ++ drop WORK w)
-    × (((l : List ℕ) × (o ≡ Outcome.filled l) × (sourcesAfter o c ≡ l ++ drop (length l) c)) ⊎ (sourcesAfter o c ≡ c)))
+pub fill-leaves : (w c : List ℕ) → ((n i : ℕ) → Fill.workAfter (Outcome.refused n i) w ≡ w)
+    × ((o : Outcome) → ((n i : ℕ) → o ≡ Outcome.refused n i → ⊥) → Fill.workAfter o w ≡ replicate WORK 0 ++ drop WORK w)
+    × ((l : List ℕ) → sourcesAfter (Outcome.filled l) c ≡ l ++ drop (length l) c)
+    × ((o : Outcome) → ((l : List ℕ) → o ≡ Outcome.filled l → ⊥) → sourcesAfter o c ≡ c)
 fill-leaves = Answers.fill-leaves
 
-pub derive-leaves : (d : Derived) (w c : List ℕ) → ((n : ℕ) × (i : ℕ) × (d ≡ Derived.refused n i) × (Derivation.workAfter d w ≡ w) × (chainAfter d c ≡ c))
-    ⊎ ((Derivation.workAfter d w ≡ replicate WORK 0 ++ drop WORK w)
-    × (((k : ℕ) × (l : List ℕ) × (d ≡ Derived.chained k l) × (chainAfter d c ≡ l ++ drop (length l) c)) ⊎ (chainAfter d c ≡ c)))
+pub derive-leaves : (w c : List ℕ) → ((n i : ℕ) → Derivation.workAfter (Derived.refused n i) w ≡ w)
+    × ((d : Derived) → ((n i : ℕ) → d ≡ Derived.refused n i → ⊥) → Derivation.workAfter d w ≡ replicate WORK 0 ++ drop WORK w)
+    × ((k : ℕ) (l : List ℕ) → chainAfter (Derived.chained k l) c ≡ l ++ drop (length l) c)
+    × ((d : Derived) → ((k : ℕ) (l : List ℕ) → d ≡ Derived.chained k l → ⊥) → chainAfter d c ≡ c)
 derive-leaves = Answers.derive-leaves
 
 -- ---- pages of other crates that promise more

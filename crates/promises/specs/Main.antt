@@ -24,13 +24,14 @@ use Rattle.model.specs.declared.{Reason.Reason, Report.Report, CheckAnswer.Chec
 use Rattle.model.specs.declared.{DeriveAnswer.DeriveAnswer, AcceptAnswer.AcceptAnswer, ReportAnswer.ReportAnswer}
 use Rattle.model.specs.Limits.{WORK, CYCLE, SOURCES, CHAIN, CLASS-SETS}
 use Rattle.model.specs.Table.{Table, agentsAt, rowsAt, tableUnder, tableOf, sourcesOf}
-use Rattle.model.specs.{Scope.mutually, Moment.programOrder, Location.common, Location.before, Race.conflict}
+use Rattle.model.specs.{Scope.mutually, Moment.moment, Moment.programOrder, Location.common, Location.before, Race.conflict}
+use Rattle.model.specs.Happens.{bySync, toRelease, fromAcquire, bySystem}
 use Rattle.model.specs.Edge.{edge, edgeNumber, cycleRow, overwrites}
 use Rattle.model.specs.Refusal.{buffersFit, admission}
 use Rattle.model.specs.Check.{Verdict, check, checkAnswer, cycleNumber, cycleAfter, workAfter}
 use Rattle.model.specs.Fill.{Outcome, fill, fillAnswer, sourcesAfter}
 use Rattle.model.specs.Fill as Fill
-use Rattle.model.specs.Reason.{Judged, Derived, twoMoments, stands, stepHolds, judge, acceptAnswer, derive, deriveAnswer, chainAfter}
+use Rattle.model.specs.Reason.{Judged, Derived, caseIn, reached, stands, stepHolds, twoMoments, judge, acceptAnswer, derive, deriveAnswer, chainAfter}
 use Rattle.model.specs.Reason as Derivation
 use Rattle.model.specs.Report.{report}
 use Rattle.model.specs.Words.{HappensBefore, Unordered, Races, Cyclic, Overwritten, Consistent, WellFormed, ConsistentBytes, blankAt, Filling}
@@ -218,6 +219,12 @@ module _ (s : List ℕ) (m k : ℕ) (well : admission true s ≡ Admitted (agent
       ↔ ((1 ≤ c) × (c ≤ CLASS-SETS) × (1 ≤ length l) × (length l ≤ CHAIN) × (stands m l (length l) ≡ k)
       × ((i : ℕ) → i < length l → stepHolds (tableOf s) c (stands m l i) (getD l i 0) ≡ true))
   chain-accepted = beside.Reason.reads-chain s m k well two
+
+  -- a step x from moment j holds exactly if the moment that it reaches is there, and the direct case of M6 that it names, 1 to 4, leads to it
+  pub step-holds : (c j x : ℕ) → (stepHolds (tableOf s) c j x ≡ true) ↔ ((moment (tableOf s) (reached x) ≡ true)
+      × (((((caseIn x ≡ 1) × (bySync (tableOf s) c j (reached x) ≡ true)) ⊎ ((caseIn x ≡ 2) × (toRelease (tableOf s) c j (reached x) ≡ true)))
+      ⊎ ((caseIn x ≡ 3) × (fromAcquire (tableOf s) c j (reached x) ≡ true))) ⊎ ((caseIn x ≡ 4) × (bySystem (tableOf s) j (reached x) ≡ true))))
+  step-holds = beside.Reason.step-exactly (tableOf s)
 
   -- some derivation is accepted exactly when m happens before k
   pub accepted-exactly : ((r : Reason) × (l : List ℕ) × (judge s m k r l ≡ Judged.accepted)) ↔ HappensBefore (tableOf s) m k

@@ -46,7 +46,27 @@ module _ (t : Table) where
 
 -- ---- laws: a step
 
+-- two tests, and what each decides
+or-is : {a b : Bool} {A B : Type 0} → (a ≡ true) ↔ A → (b ≡ true) ↔ B → ((a or b) ≡ true) ↔ (A ⊎ B)
+or-is {a} {b} f g = (
+  λ e. ⊎-elim (λ p. inl (f .0 p)) (λ p. inr (g .0 p)) (or-cases a b e),
+  λ e. ⊎-elim (λ p. or-left b (f .1 p)) (λ p. or-right a (g .1 p)) e,
+)
+
+-- a case is the n-th, and its test passes
+case-is : (c n : ℕ) {b : Bool} → ((eqb c n and b) ≡ true) ↔ ((c ≡ n) × (b ≡ true))
+case-is c n = (λ e. (eqb-true c n (split e .0), split e .1), λ e. and-true (eq-eqb c n (e .0)) (e .1))
+
 module _ (t : Table) (s m : ℕ) where
+  -- a step holds exactly if the moment that it reaches is there, and the direct case that it names, 1 to 4, leads to it
+  pub step-exactly : (x : ℕ) → (stepHolds t s m x ≡ true) ↔ ((moment t (reached x) ≡ true)
+      × (((((caseIn x ≡ 1) × (bySync t s m (reached x) ≡ true)) ⊎ ((caseIn x ≡ 2) × (toRelease t s m (reached x) ≡ true)))
+      ⊎ ((caseIn x ≡ 3) × (fromAcquire t s m (reached x) ≡ true))) ⊎ ((caseIn x ≡ 4) × (bySystem t m (reached x) ≡ true))))
+  unfolding stepHolds direct
+  step-exactly x =
+      let c = or-is (or-is (or-is (case-is (caseIn x) 1) (case-is (caseIn x) 2)) (case-is (caseIn x) 3)) (case-is (caseIn x) 4) in
+      (λ e. (split e .0, c .0 (split e .1)), λ e. and-true (e .0) (c .1 (e .1)))
+
   -- the moment that a step reaches is there
   step-there : (x : ℕ) → stepHolds t s m x ≡ true → moment t (reached x) ≡ true
   unfolding stepHolds

@@ -50,10 +50,10 @@ isRefused (Admitted a r) = 0
 
 -- ---- laws: any kind of answer
 
--- of two answers that are no refusals, either is none
-either : {W : Type 0} (tag : W → ℕ) (b : Bool) (u v : W) → 1 ≤ tag u → 1 ≤ tag v → 1 ≤ tag (cond b u v)
-either tag true u v p q = p
-either tag false u v p q = q
+-- of two answers that are no refusals, neither is one, whichever is given
+spoken : {W : Type 0} (tag : W → ℕ) (b : Bool) (u v : W) → 1 ≤ tag u → 1 ≤ tag v → 1 ≤ tag (cond b u v)
+spoken tag true u v p q = p
+spoken tag false u v p q = q
 
 -- what comes after a test, in other words
 later-words : {E F G H K : Type 0} → E ↔ (F ⊎ (G × H)) → H ↔ K → E ↔ (F ⊎ (G × K))
@@ -132,8 +132,8 @@ unfolding verdict cyclicOr overwrittenOr raceOr
 no-verdict t source n i e =
     let z : Cases.tag (verdict t source) ≡ 0 = ap Cases.tag e in
     let p : 1 ≤ Cases.tag (verdict t source) =
-    either Cases.tag (ltb (cycleRow t source) (t .rows)) _ _ (omega arith)
-    (either Cases.tag (ltb (overReader t source) (t .rows)) _ _ (omega arith) (either Cases.tag (ltb (raceRow t) (t .rows)) _ _ (omega arith) (omega arith)))
+    spoken Cases.tag (ltb (cycleRow t source) (t .rows)) _ _ (omega arith)
+    (spoken Cases.tag (ltb (overReader t source) (t .rows)) _ _ (omega arith) (spoken Cases.tag (ltb (raceRow t) (t .rows)) _ _ (omega arith) (omega arith)))
     in
     omega arith
 
@@ -160,8 +160,8 @@ unfolding outcome racingOr filledOr
 no-outcome t source n i e =
     let z : Outcomes.tag (outcome t source) ≡ 0 = ap Outcomes.tag e in
     let p : 1 ≤ Outcomes.tag (outcome t source) =
-    either Outcomes.tag (ltb (raceRow t) (t .rows)) _ _ (omega arith)
-    (either Outcomes.tag (sourcesFit t (chosen t source) and consistent t (chosen t source)) _ _ (omega arith) (omega arith))
+    spoken Outcomes.tag (ltb (raceRow t) (t .rows)) _ _ (omega arith)
+    (spoken Outcomes.tag (sourcesFit t (chosen t source) and consistent t (chosen t source)) _ _ (omega arith) (omega arith))
     in
     omega arith
 
@@ -242,8 +242,8 @@ unfolding ours chainOr
 no-derived t m k n i e =
     let z : derived-tag (ours t m k) ≡ 0 = ap derived-tag e in
     let p : 1 ≤ derived-tag (ours t m k) =
-    either derived-tag (programOrder t m k) _ _ (omega arith)
-    (either derived-tag (ltb (least CLASS-SETS (hasChainBy t m k)) CLASS-SETS) _ _ (omega arith) (omega arith))
+    spoken derived-tag (programOrder t m k) _ _ (omega arith)
+    (spoken derived-tag (ltb (least CLASS-SETS (hasChainBy t m k)) CLASS-SETS) _ _ (omega arith) (omega arith))
     in
     omega arith
 

@@ -1,6 +1,6 @@
 -- Everything that is promised of an answer, for whoever reads this page and the definitions that it names. Those stand in crates/model/specs, each rule
 -- of docs/RULES.md under its name, and use some general words of crates/finite/specs: `Reach` (Closure), `Canonical` (Cycle), `along` (Walk), `countPairs`
--- (Count). No proof need be read: each theorem is stated in full here, and its proof names theorems of a page beside this one.
+-- (Count), `tabulate` (Lists). No proof need be read: each theorem is stated in full here, and its proof names theorems of a page beside this one.
 --
 -- From a function to its meaning: the contract of an entry point is an equation, and its right side is a definition that this page speaks of.
 --
@@ -10,8 +10,8 @@
 --   reader::accepts   answers `acceptAnswer (judge …)` (Reason)
 --   report::report    answers `report …`, and leaves in the buffers what a check leaves (Report)
 --
--- The C functions of crates/stramashly/src/lib.rt are these with the answer packed into one number. Throughout, s is the table, any bytes at all; `chains`
--- is the switch, on or off; work and buffer are the lengths of the lent buffers, and nothing else about these matters.
+-- The C functions of the same names (crates/stramashly/src/lib.rt) have these answers packed into one number. Throughout, s is the table, any bytes at
+-- all; `chains` is the switch, on or off; work and buffer are the lengths of the lent buffers, about which nothing else matters.
 use mathlib.Core.Path.{_≡_}
 use mathlib.Core.Bool.{Bool, true, false}
 use mathlib.Core.List.{List, [], _++_}
@@ -207,7 +207,7 @@ module _ (chains : Bool) (s : List ℕ) (work buffer : ℕ) where
       pub racing-none : (r .racing ≡ 0) ↔ (check chains s work buffer ≡ Verdict.raceFree)
       racing-none = beside.Report.racing-free chains s work buffer fit well keeps r said
 
--- ---- derivations that moment m happens before moment k
+-- ---- derivations that moment m happens before moment k; the switch plays no part in them
 
 module _ (s : List ℕ) (m k : ℕ) (well : admission true s ≡ Admitted (agentsAt s) (rowsAt s)) (two : twoMoments (tableOf s) m k ≡ true) where
   -- the reader accepts exactly the true ones: the word, with no steps beside it, where program order holds

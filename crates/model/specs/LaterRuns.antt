@@ -4,43 +4,9 @@ use mathlib.Core.Bool.{Bool, true, false}
 use mathlib.Core.List.{List, [], _∷_, _++_, map}
 use Prim.Native.Nat.{ℕ, _+_, _*_}
 use lib.ListN.{length, set}
-use Rattle.finite.specs.Logic.{_and_, _or_}
-use Rattle.finite.specs.Below.{anyBelow, allBelow, least}
-use Rattle.finite.specs.Closure.{through}
-use Rattle.finite.specs.Lists.{tabulate}
-use Rattle.finite.specs.Walk.{walk, onCycle, cycleStart, cycleSize, trail, cycle, along}
-use Rattle.model.specs.Row.{plain, atomic, access, barrier, control, sameInstance, operation, plainRead, rmw, reads, writes, ranked, acquires, releases, holds, meets, single, classIn, nonPrivate, makesAvailable, makesVisible, inside, touches, covers, lowestShared, isShared, overlap}
-use Rattle.model.specs.Table.{pairAt, quadAt, countAt, versionAt, agentsAt, rowsAt, zeroAt, hasHosts, threeAt, fourAt, placeAt, slotAt, placesOf, modeOf, rowsBegin, rowsEnd, sizeOf, rowBytes, dependencyBytes, byteOf, pairOf, rowOf, sourceOf, atomicSource, dependencyCount, dependencyEnd, dependencyFrom, dependencyTo, dependency, dependsOf, decode, tableUnder, tableOf, sourcesOf}
-use Rattle.model.specs.Scope.{agentKind, shader, host, agree, oneInstance, shares, together, sameLocation, mutualRows, mutually, age, later, laterWriter, follows}
-use Rattle.model.specs.Moment.{availabilityOf, visibilityOf, momentOf, momentIn, orderedRows, classesOf, availability, visibility, moment, sameAgent, programOrder}
-use Rattle.model.specs.Synchronizes.{continues, ends, sequence, takesFrom, leads, trails, syncAtomics, carriesOut, syncFromBarrier, carriesIn, syncToBarrier, carriesOver, syncBarriers, upTo, joins, arrives, passes, syncControl, synchronizes}
-use Rattle.model.specs.Happens.{holdingOf, concernsOf, holding, concerns, bySync, toRelease, fromAcquire, bySystem, step, interThread, holdsAll, live, interThreadBy, happens}
-use Rattle.model.specs.Location.{sameReference, coversOf, pureRead, publicWrite, L1, L2, availableAt, visibleAt, firstAvailable, lastVisible, broader, broadens, narrows, availabilityChain, visibilityChain, availableBy, availableFrom, visibleBy, visibleTo, inDomain, shown, met, carried, byDomain, L3, systemBefore, L4, thence, onHost, availableKind, visibleKind, domainKind, seenBy, metFrom, carriedBy, reachesBy, L5, common, before}
-use Rattle.model.specs.Race.{clash, conflict, unordered, unorderedNth, raceNth, races, racesAbove, racePartner, hasRace, raceRow, raceByte}
-use Rattle.model.specs.Edge.{beforeNth, beforeSome, readsFrom, fromReads, edgeNumber, edge, cycleRow, cycleRows, cycleEdges, overwrites, overwritesNth, overNth, overwriting, overWriter, isOverwritten, overReader, overByte, consistent}
-use Rattle.model.specs.Refusal.{buffersFit, versionFits, limitsFit, lengthFits, kindOver, agentsKnown, dependenciesFew, namesNone, dependenciesNamed, hostsFault, headerFault, codesFit, agentFits, operationFits, plainFits, atomicFits, barrierFits, semanticsFit, kindFits, atomicExtentFits, extentFits, formFault, rowFault, otherClass, otherClassAt, classTaken, writerFits, sourceFits, sourceBroken, sameRank, sameRankAt, rankTaken, apart, apartAt, instanceBroken, rival, outside, outsideAt, begins, unfit, tableFault, faulty, firstFault, rowFaultAt, admission}
-use Rattle.model.specs.Check.{raceOr, overwrittenOr, cyclicOr, verdict, admitted, check}
-use Rattle.model.specs.Fill.{missesAt, writtenBy, written, hidesAt, between, candidate, choice, blank, chosen, sourcesFit, filledOr, racingOr, outcome, admittedFill, fill}
-use Rattle.model.specs.Check.{Verdict, refused, race, raceFree}
-use Rattle.model.specs.Fill.{Outcome, filled}
-use Rattle.model.specs.Limits.{WORK, CYCLE, SOURCES}
-use Rattle.model.specs.Runs.{joined}
-
--- ---- a run: a table, on a device with or without chains, and what a check or a fill of it gives
-
-pub data Answer : Type 0 where
-  checked : Verdict → Answer
-  filling : Outcome → Answer
-
-pub record Run : Type 0 where
-  pub fills : Bool
-  pub chains : Bool
-  pub table : List ℕ
-  pub gives : Answer
-
-unfoldable pub answer : Bool → Bool → List ℕ → Answer
-answer true chains s = filling (fill chains s WORK SOURCES)
-answer false chains s = checked (check chains s WORK CYCLE)
+use Rattle.model.specs.Check.{refused, race, raceFree}
+use Rattle.model.specs.Fill.{filled}
+use Rattle.model.specs.Runs.{checked, filling, ordered, asCheck, asFill, asBefore, Run, answer, joined}
 
 -- ---- tables
 
@@ -100,41 +66,41 @@ upload = hosted three (write 0 0 1 ∷ perform 7 ∷ perform 11 ∷ perform 10 �
 
 abbrev pub hosts : List Run
 hosts =
-    record { fills = false; chains = false; table = upload; gives = checked raceFree }
+    record { ask = asCheck; table = upload; gives = checked raceFree }
     -- the read blank
-    ∷ record { fills = true; chains = false; table = hosted three (write 0 0 1 ∷ perform 7 ∷ perform 11 ∷ perform 10 ∷ read 2 7 255 254 ∷ []) each; gives = filling (filled (65535 ∷ 65535 ∷ 65535 ∷ 65535 ∷ 0 ∷ [])) }
+    ∷ record { ask = asFill; table = hosted three (write 0 0 1 ∷ perform 7 ∷ perform 11 ∷ perform 10 ∷ read 2 7 255 254 ∷ []) each; gives = filling (filled (65535 ∷ 65535 ∷ 65535 ∷ 65535 ∷ 0 ∷ [])) }
     -- without the domain operation
-    ∷ record { fills = false; chains = false; table = hosted three (write 0 0 1 ∷ perform 7 ∷ perform 10 ∷ read 2 7 0 0 ∷ []) (dependency₁ 0 1 ∷ dependency₁ 1 2 ∷ dependency₁ 2 3 ∷ []); gives = checked (race 0 3 0) }
+    ∷ record { ask = asCheck; table = hosted three (write 0 0 1 ∷ perform 7 ∷ perform 10 ∷ read 2 7 0 0 ∷ []) (dependency₁ 0 1 ∷ dependency₁ 1 2 ∷ dependency₁ 2 3 ∷ []); gives = checked (race 0 3 0) }
     -- with the other domain operation
-    ∷ record { fills = false; chains = false; table = hosted three (write 0 0 1 ∷ perform 7 ∷ perform 12 ∷ perform 10 ∷ read 2 7 0 0 ∷ []) each; gives = checked (race 0 4 0) }
+    ∷ record { ask = asCheck; table = hosted three (write 0 0 1 ∷ perform 7 ∷ perform 12 ∷ perform 10 ∷ read 2 7 0 0 ∷ []) each; gives = checked (race 0 4 0) }
     -- program order between the queue agent's own rows serves as well
-    ∷ record { fills = false; chains = false; table = hosted three (write 0 0 1 ∷ perform 7 ∷ perform 11 ∷ perform 10 ∷ read 2 7 0 0 ∷ []) (dependency₁ 0 1 ∷ dependency₁ 3 4 ∷ []); gives = checked raceFree }
+    ∷ record { ask = asCheck; table = hosted three (write 0 0 1 ∷ perform 7 ∷ perform 11 ∷ perform 10 ∷ read 2 7 0 0 ∷ []) (dependency₁ 0 1 ∷ dependency₁ 3 4 ∷ []); gives = checked raceFree }
     -- closing happens-before over program order: the dependency is of the host's next row
-    ∷ record { fills = false; chains = false; table = hosted three (write 0 0 1 ∷ write 0 8 1 ∷ perform 7 ∷ perform 11 ∷ perform 10 ∷ read 2 7 0 0 ∷ []) (dependency₁ 1 2 ∷ dependency₁ 2 3 ∷ dependency₁ 3 4 ∷ dependency₁ 4 5 ∷ []); gives = checked (race 0 5 0) }
+    ∷ record { ask = asCheck; table = hosted three (write 0 0 1 ∷ write 0 8 1 ∷ perform 7 ∷ perform 11 ∷ perform 10 ∷ read 2 7 0 0 ∷ []) (dependency₁ 1 2 ∷ dependency₁ 2 3 ∷ dependency₁ 3 4 ∷ dependency₁ 4 5 ∷ []); gives = checked (race 0 5 0) }
     -- from the device to the host
-    ∷ record { fills = false; chains = false; table = hosted three (write 2 0 1 ∷ perform 8 ∷ perform 12 ∷ perform 9 ∷ read 0 7 0 0 ∷ []) each; gives = checked raceFree }
+    ∷ record { ask = asCheck; table = hosted three (write 2 0 1 ∷ perform 8 ∷ perform 12 ∷ perform 9 ∷ read 0 7 0 0 ∷ []) each; gives = checked raceFree }
     -- a private host read, and a shader's write after it
-    ∷ record { fills = false; chains = false; table = hosted three (read 0 1 255 255 ∷ perform 10 ∷ write 2 0 7 ∷ []) (dependency₁ 0 1 ∷ dependency₁ 1 2 ∷ []); gives = checked raceFree }
+    ∷ record { ask = asCheck; table = hosted three (read 0 1 255 255 ∷ perform 10 ∷ write 2 0 7 ∷ []) (dependency₁ 0 1 ∷ dependency₁ 1 2 ∷ []); gives = checked raceFree }
     -- a write after a write needs no visibility operation
-    ∷ record { fills = false; chains = false; table = hosted three (write 0 0 1 ∷ perform 7 ∷ perform 11 ∷ write 2 0 7 ∷ []) (dependency₁ 0 1 ∷ dependency₁ 1 2 ∷ dependency₁ 2 3 ∷ []); gives = checked raceFree }
+    ∷ record { ask = asCheck; table = hosted three (write 0 0 1 ∷ perform 7 ∷ perform 11 ∷ write 2 0 7 ∷ []) (dependency₁ 0 1 ∷ dependency₁ 1 2 ∷ dependency₁ 2 3 ∷ []); gives = checked raceFree }
     -- between two shader agents nothing needs to be carried
-    ∷ record { fills = false; chains = false; table = hosted (agent 0 0 ∷ agent 0 2 ∷ agent 5 0 ∷ []) (write 0 0 1 ∷ perform 8 ∷ perform 10 ∷ read 2 7 0 0 ∷ []) (dependency₁ 0 1 ∷ dependency₁ 1 2 ∷ dependency₁ 2 3 ∷ []); gives = checked raceFree }
+    ∷ record { ask = asCheck; table = hosted (agent 0 0 ∷ agent 0 2 ∷ agent 5 0 ∷ []) (write 0 0 1 ∷ perform 8 ∷ perform 10 ∷ read 2 7 0 0 ∷ []) (dependency₁ 0 1 ∷ dependency₁ 1 2 ∷ dependency₁ 2 3 ∷ []); gives = checked raceFree }
     -- refusals: a fourth number over 2; a dependency that names no row; a host agent's operation; a field outside an operation's layout
-    ∷ record { fills = false; chains = false; table = hosted (agent 0 3 ∷ []) (write 0 0 1 ∷ []) []; gives = checked (refused 16 0) }
-    ∷ record { fills = false; chains = false; table = hosted three (write 0 0 1 ∷ []) (dependency₁ 0 1 ∷ []); gives = checked (refused 18 0) }
-    ∷ record { fills = false; chains = false; table = hosted (agent 0 0 ∷ agent 0 1 ∷ []) (write 0 0 1 ∷ perform 7 ∷ []) []; gives = checked (refused 19 1) }
-    ∷ record { fills = false; chains = false; table = set (hosted three (write 0 0 1 ∷ perform 7 ∷ []) []) 52 1; gives = checked (refused 20 1) }
+    ∷ record { ask = asCheck; table = hosted (agent 0 3 ∷ []) (write 0 0 1 ∷ []) []; gives = checked (refused 16 0) }
+    ∷ record { ask = asCheck; table = hosted three (write 0 0 1 ∷ []) (dependency₁ 0 1 ∷ []); gives = checked (refused 18 0) }
+    ∷ record { ask = asCheck; table = hosted (agent 0 0 ∷ agent 0 1 ∷ []) (write 0 0 1 ∷ perform 7 ∷ []) []; gives = checked (refused 19 1) }
+    ∷ record { ask = asCheck; table = set (hosted three (write 0 0 1 ∷ perform 7 ∷ []) []) 52 1; gives = checked (refused 20 1) }
     -- a control barrier of two shader agents beside a host agent; a host agent has none
-    ∷ record { fills = false; chains = false; table = hosted (agent 0 0 ∷ agent 0 0 ∷ agent 0 1 ∷ []) (publish ∷ meet 0 ∷ meet 1 ∷ observe ∷ []) []; gives = checked raceFree }
-    ∷ record { fills = false; chains = false; table = hosted (agent 0 1 ∷ []) (meet 0 ∷ []) []; gives = checked (refused 19 0) }
+    ∷ record { ask = asCheck; table = hosted (agent 0 0 ∷ agent 0 0 ∷ agent 0 1 ∷ []) (publish ∷ meet 0 ∷ meet 1 ∷ observe ∷ []) []; gives = checked raceFree }
+    ∷ record { ask = asCheck; table = hosted (agent 0 1 ∷ []) (meet 0 ∷ []) []; gives = checked (refused 19 0) }
     -- a missing count; an empty table of version 3; version 4
-    ∷ record { fills = false; chains = false; table = 0 ∷ 0 ∷ 0 ∷ 4 ∷ 3 ∷ 0 ∷ 0 ∷ 0 ∷ []; gives = checked (refused 4 0) }
-    ∷ record { fills = false; chains = false; table = hosted [] [] []; gives = checked raceFree }
-    ∷ record { fills = false; chains = false; table = 0 ∷ 0 ∷ 0 ∷ 4 ∷ 4 ∷ 0 ∷ 0 ∷ 0 ∷ []; gives = checked (refused 2 0) }
+    ∷ record { ask = asCheck; table = 0 ∷ 0 ∷ 0 ∷ 4 ∷ 3 ∷ 0 ∷ 0 ∷ 0 ∷ []; gives = checked (refused 4 0) }
+    ∷ record { ask = asCheck; table = hosted [] [] []; gives = checked raceFree }
+    ∷ record { ask = asCheck; table = 0 ∷ 0 ∷ 0 ∷ 4 ∷ 4 ∷ 0 ∷ 0 ∷ 0 ∷ []; gives = checked (refused 2 0) }
     ∷ []
 
-pub hosts-hold : map (λ r. answer (r .fills) (r .chains) (r .table)) hosts ≡ map (λ r. r .gives) hosts
-unfolding answer _and_ _or_ anyBelow allBelow least through tabulate walk onCycle cycleStart cycleSize trail cycle along plain atomic access barrier control sameInstance operation plainRead rmw reads writes ranked acquires releases holds meets single classIn nonPrivate makesAvailable makesVisible inside touches covers lowestShared isShared overlap pairAt quadAt countAt versionAt agentsAt rowsAt zeroAt hasHosts threeAt fourAt placeAt slotAt placesOf modeOf rowsBegin rowsEnd sizeOf rowBytes dependencyBytes byteOf pairOf rowOf sourceOf atomicSource dependencyCount dependencyEnd dependencyFrom dependencyTo dependency dependsOf decode tableUnder tableOf sourcesOf agentKind shader host agree oneInstance shares together sameLocation mutualRows mutually age later laterWriter follows availabilityOf visibilityOf momentOf momentIn orderedRows classesOf availability visibility moment sameAgent programOrder continues ends sequence takesFrom leads trails syncAtomics carriesOut syncFromBarrier carriesIn syncToBarrier carriesOver syncBarriers upTo joins arrives passes syncControl synchronizes holdingOf concernsOf holding concerns bySync toRelease fromAcquire bySystem step interThread holdsAll live interThreadBy happens sameReference coversOf pureRead publicWrite L1 L2 availableAt visibleAt firstAvailable lastVisible broader broadens narrows availabilityChain visibilityChain availableBy availableFrom visibleBy visibleTo inDomain shown met carried byDomain L3 systemBefore L4 thence onHost availableKind visibleKind domainKind seenBy metFrom carriedBy reachesBy L5 common before clash conflict unordered unorderedNth raceNth races racesAbove racePartner hasRace raceRow raceByte beforeNth beforeSome readsFrom fromReads edgeNumber edge cycleRow cycleRows cycleEdges overwrites overwritesNth overNth overwriting overWriter isOverwritten overReader overByte consistent buffersFit versionFits limitsFit lengthFits kindOver agentsKnown dependenciesFew namesNone dependenciesNamed hostsFault headerFault codesFit agentFits operationFits plainFits atomicFits barrierFits semanticsFit kindFits atomicExtentFits extentFits formFault rowFault otherClass otherClassAt classTaken writerFits sourceFits sourceBroken sameRank sameRankAt rankTaken apart apartAt instanceBroken rival outside outsideAt begins unfit tableFault faulty firstFault rowFaultAt admission raceOr overwrittenOr cyclicOr verdict admitted check missesAt writtenBy written hidesAt between candidate choice blank chosen sourcesFit filledOr racingOr outcome admittedFill fill
+pub hosts-hold : map (λ r. answer (r .ask) (r .table)) hosts ≡ map (λ r. r .gives) hosts
+unfolding answer
 hosts-hold = refl
 
 -- ---- chains
@@ -210,10 +176,10 @@ chained =
     ∷ record { table = astray; reader = 7; off = false; on = false }
     ∷ []
 
-pub chained-off : map (λ r. before (tableUnder false (r .table)) 0 (r .reader) 0) chained ≡ map (λ r. r .off) chained
-unfolding _and_ _or_ anyBelow allBelow least through tabulate walk onCycle cycleStart cycleSize trail cycle along plain atomic access barrier control sameInstance operation plainRead rmw reads writes ranked acquires releases holds meets single classIn nonPrivate makesAvailable makesVisible inside touches covers lowestShared isShared overlap pairAt quadAt countAt versionAt agentsAt rowsAt zeroAt hasHosts threeAt fourAt placeAt slotAt placesOf modeOf rowsBegin rowsEnd sizeOf rowBytes dependencyBytes byteOf pairOf rowOf sourceOf atomicSource dependencyCount dependencyEnd dependencyFrom dependencyTo dependency dependsOf decode tableUnder tableOf sourcesOf agentKind shader host agree oneInstance shares together sameLocation mutualRows mutually age later laterWriter follows availabilityOf visibilityOf momentOf momentIn orderedRows classesOf availability visibility moment sameAgent programOrder continues ends sequence takesFrom leads trails syncAtomics carriesOut syncFromBarrier carriesIn syncToBarrier carriesOver syncBarriers upTo joins arrives passes syncControl synchronizes holdingOf concernsOf holding concerns bySync toRelease fromAcquire bySystem step interThread holdsAll live interThreadBy happens sameReference coversOf pureRead publicWrite L1 L2 availableAt visibleAt firstAvailable lastVisible broader broadens narrows availabilityChain visibilityChain availableBy availableFrom visibleBy visibleTo inDomain shown met carried byDomain L3 systemBefore L4 thence onHost availableKind visibleKind domainKind seenBy metFrom carriedBy reachesBy L5 common before clash conflict unordered unorderedNth raceNth races racesAbove racePartner hasRace raceRow raceByte beforeNth beforeSome readsFrom fromReads edgeNumber edge cycleRow cycleRows cycleEdges overwrites overwritesNth overNth overwriting overWriter isOverwritten overReader overByte consistent buffersFit versionFits limitsFit lengthFits kindOver agentsKnown dependenciesFew namesNone dependenciesNamed hostsFault headerFault codesFit agentFits operationFits plainFits atomicFits barrierFits semanticsFit kindFits atomicExtentFits extentFits formFault rowFault otherClass otherClassAt classTaken writerFits sourceFits sourceBroken sameRank sameRankAt rankTaken apart apartAt instanceBroken rival outside outsideAt begins unfit tableFault faulty firstFault rowFaultAt admission raceOr overwrittenOr cyclicOr verdict admitted check missesAt writtenBy written hidesAt between candidate choice blank chosen sourcesFit filledOr racingOr outcome admittedFill fill
+pub chained-off : map (λ r. answer (asBefore false (r .reader)) (r .table)) chained ≡ map (λ r. ordered (r .off)) chained
+unfolding answer
 chained-off = refl
 
-pub chained-on : map (λ r. before (tableUnder true (r .table)) 0 (r .reader) 0) chained ≡ map (λ r. r .on) chained
-unfolding _and_ _or_ anyBelow allBelow least through tabulate walk onCycle cycleStart cycleSize trail cycle along plain atomic access barrier control sameInstance operation plainRead rmw reads writes ranked acquires releases holds meets single classIn nonPrivate makesAvailable makesVisible inside touches covers lowestShared isShared overlap pairAt quadAt countAt versionAt agentsAt rowsAt zeroAt hasHosts threeAt fourAt placeAt slotAt placesOf modeOf rowsBegin rowsEnd sizeOf rowBytes dependencyBytes byteOf pairOf rowOf sourceOf atomicSource dependencyCount dependencyEnd dependencyFrom dependencyTo dependency dependsOf decode tableUnder tableOf sourcesOf agentKind shader host agree oneInstance shares together sameLocation mutualRows mutually age later laterWriter follows availabilityOf visibilityOf momentOf momentIn orderedRows classesOf availability visibility moment sameAgent programOrder continues ends sequence takesFrom leads trails syncAtomics carriesOut syncFromBarrier carriesIn syncToBarrier carriesOver syncBarriers upTo joins arrives passes syncControl synchronizes holdingOf concernsOf holding concerns bySync toRelease fromAcquire bySystem step interThread holdsAll live interThreadBy happens sameReference coversOf pureRead publicWrite L1 L2 availableAt visibleAt firstAvailable lastVisible broader broadens narrows availabilityChain visibilityChain availableBy availableFrom visibleBy visibleTo inDomain shown met carried byDomain L3 systemBefore L4 thence onHost availableKind visibleKind domainKind seenBy metFrom carriedBy reachesBy L5 common before clash conflict unordered unorderedNth raceNth races racesAbove racePartner hasRace raceRow raceByte beforeNth beforeSome readsFrom fromReads edgeNumber edge cycleRow cycleRows cycleEdges overwrites overwritesNth overNth overwriting overWriter isOverwritten overReader overByte consistent buffersFit versionFits limitsFit lengthFits kindOver agentsKnown dependenciesFew namesNone dependenciesNamed hostsFault headerFault codesFit agentFits operationFits plainFits atomicFits barrierFits semanticsFit kindFits atomicExtentFits extentFits formFault rowFault otherClass otherClassAt classTaken writerFits sourceFits sourceBroken sameRank sameRankAt rankTaken apart apartAt instanceBroken rival outside outsideAt begins unfit tableFault faulty firstFault rowFaultAt admission raceOr overwrittenOr cyclicOr verdict admitted check missesAt writtenBy written hidesAt between candidate choice blank chosen sourcesFit filledOr racingOr outcome admittedFill fill
+pub chained-on : map (λ r. answer (asBefore true (r .reader)) (r .table)) chained ≡ map (λ r. ordered (r .on)) chained
+unfolding answer
 chained-on = refl

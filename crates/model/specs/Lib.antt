@@ -12,7 +12,8 @@ pub mod Refusal
 pub mod Check
 pub mod Fill
 pub mod Reason
+pub mod Report
+pub mod Opened
 pub mod Runs
 pub mod LaterRuns
 pub mod Words
-pub mod Report

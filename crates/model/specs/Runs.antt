@@ -1,56 +1,55 @@
--- Document 01's starred runs, and its shortcuts that would fool us, computed from the definitions. Assumes nothing.
+-- Document 01's starred runs, its shortcuts that would fool us, and runs of what came later, computed from the definitions. Assumes nothing.
 use mathlib.Core.Path.{_≡_, refl}
 use mathlib.Core.Bool.{Bool, true, false}
 use mathlib.Core.List.{List, [], _∷_, _++_, map}
 use Prim.Native.Nat.{ℕ, _+_, _*_}
 use lib.ListN.{length, set}
-use Rattle.finite.specs.Logic.{_and_, _or_}
-use Rattle.finite.specs.Below.{anyBelow, allBelow, least}
-use Rattle.finite.specs.Closure.{through}
-use Rattle.finite.specs.Lists.{tabulate}
-use Rattle.finite.specs.Walk.{walk, onCycle, cycleStart, cycleSize, trail, cycle, along}
-use Rattle.model.specs.Row.{plain, atomic, access, barrier, control, sameInstance, operation, plainRead, rmw, reads, writes, ranked, acquires, releases, holds, meets, single, classIn, nonPrivate, makesAvailable, makesVisible, inside, touches, covers, lowestShared, isShared, overlap}
-use Rattle.model.specs.Table.{pairAt, quadAt, countAt, versionAt, agentsAt, rowsAt, zeroAt, hasHosts, threeAt, fourAt, placeAt, slotAt, placesOf, modeOf, rowsBegin, rowsEnd, sizeOf, rowBytes, dependencyBytes, byteOf, pairOf, rowOf, sourceOf, atomicSource, dependencyCount, dependencyEnd, dependencyFrom, dependencyTo, dependency, dependsOf, decode, tableUnder, tableOf, sourcesOf}
-use Rattle.model.specs.Scope.{agree, agentKind, shader, host, oneInstance, shares, together, sameLocation, mutualRows, mutually, age, later, laterWriter, follows}
-use Rattle.model.specs.Moment.{availabilityOf, visibilityOf, momentOf, momentIn, orderedRows, classesOf, availability, visibility, moment, sameAgent, programOrder}
-use Rattle.model.specs.Synchronizes.{continues, ends, sequence, takesFrom, leads, trails, syncAtomics, carriesOut, syncFromBarrier, carriesIn, syncToBarrier, carriesOver, syncBarriers, upTo, joins, arrives, passes, syncControl, synchronizes}
-use Rattle.model.specs.Happens.{holdingOf, concernsOf, holding, concerns, bySync, toRelease, fromAcquire, bySystem, step, interThread, holdsAll, live, interThreadBy, happens}
-use Rattle.model.specs.Location.{sameReference, coversOf, pureRead, publicWrite, L1, L2, availableAt, visibleAt, firstAvailable, lastVisible, broader, broadens, narrows, availabilityChain, visibilityChain, availableBy, availableFrom, visibleBy, visibleTo, inDomain, shown, met, carried, byDomain, L3, systemBefore, L4, thence, onHost, availableKind, visibleKind, domainKind, seenBy, metFrom, carriedBy, reachesBy, L5, common, before}
-use Rattle.model.specs.Race.{clash, conflict, unordered, unorderedNth, raceNth, races, racesAbove, racePartner, hasRace, raceRow, raceByte}
-use Rattle.model.specs.Edge.{beforeNth, beforeSome, readsFrom, fromReads, edgeNumber, edge, cycleRow, cycleRows, cycleEdges, overwrites, overwritesNth, overNth, overwriting, overWriter, isOverwritten, overReader, overByte, consistent}
-use Rattle.model.specs.Refusal.{buffersFit, versionFits, limitsFit, lengthFits, kindOver, agentsKnown, dependenciesFew, namesNone, dependenciesNamed, hostsFault, headerFault, codesFit, agentFits, operationFits, plainFits, atomicFits, barrierFits, semanticsFit, kindFits, atomicExtentFits, extentFits, formFault, rowFault, otherClass, otherClassAt, classTaken, writerFits, sourceFits, sourceBroken, sameRank, sameRankAt, rankTaken, apart, apartAt, instanceBroken, rival, outside, outsideAt, begins, unfit, tableFault, faulty, firstFault, rowFaultAt, admission}
+use lib.IntN.{pos, negsuc}
+use lib.Ieee.{Float, fin}
 use Rattle.model.specs.declared.Reason.the-variants.{ProgramOrder}
-use Rattle.model.specs.Reason as reason
-use Rattle.model.specs.Reason.{Judged, judge, admittedReader, judged, twoMoments, accepts}
-use Rattle.model.specs.Check.{raceOr, overwrittenOr, cyclicOr, verdict, admitted, check}
-use Rattle.model.specs.Fill.{missesAt, writtenBy, written, hidesAt, between, candidate, choice, blank, chosen, sourcesFit, filledOr, racingOr, outcome, admittedFill, fill}
-use Rattle.model.specs.Check.{Verdict, refused, cyclic, overwritten, race, raceFree}
-use Rattle.model.specs.Fill.{Outcome, filled}
+use Rattle.model.specs.declared.ReportAnswer.{ReportAnswer}
+use Rattle.model.specs.declared.ReportAnswer.the-variants as told
 use Rattle.model.specs.Limits.{WORK, CYCLE, SOURCES}
+use Rattle.model.specs.Table.{tableUnder}
+use Rattle.model.specs.Location.{before}
+use Rattle.model.specs.Check.{Verdict, refused, cyclic, race, raceFree, check}
+use Rattle.model.specs.Fill.{Outcome, filled, fill}
+use Rattle.model.specs.Reason.{Judged, judge}
+use Rattle.model.specs.Reason as reason
+use Rattle.model.specs.Report.{report}
+use Rattle.model.specs.Opened.{opened}
 
 -- ---- a run: what is asked of a table, and the answer
 
 pub data Answer : Type 0 where
   checked : Verdict → Answer
   filling : Outcome → Answer
+  reported : ReportAnswer → Answer
   reasoned : Judged → Answer
+  ordered : Bool → Answer
 
 pub data Ask : Type 0 where
   asCheck : Ask
   asFill : Ask
+  asReport : Ask
   -- whether program order leads from the one moment to the other
   asOrder : ℕ → ℕ → Ask
+  -- whether row 0 is location-ordered before this row at byte 0, on a device with or without chains
+  asBefore : Bool → ℕ → Ask
 
 pub record Run : Type 0 where
   pub ask : Ask
   pub table : List ℕ
   pub gives : Answer
 
--- with buffers just large enough
+-- without chains, with buffers just large enough; to unfold it is to unfold all that it computes with
 unfoldable pub answer : Ask → List ℕ → Answer
+unfolding opened
 answer asCheck s = checked (check false s WORK CYCLE)
 answer asFill s = filling (fill false s WORK SOURCES)
+answer asReport s = reported (report false s WORK CYCLE)
 answer (asOrder m k) s = reasoned (judge s m k ProgramOrder [])
+answer (asBefore chains y) s = ordered (before (tableUnder chains s) 0 y 0)
 
 -- ---- tables
 
@@ -134,7 +133,7 @@ starred =
     ∷ []
 
 pub starred-hold : map (λ r. answer (r .ask) (r .table)) starred ≡ map (λ r. r .gives) starred
-unfolding answer _and_ _or_ anyBelow allBelow least through tabulate walk onCycle cycleStart cycleSize trail cycle along plain atomic access barrier control sameInstance operation plainRead rmw reads writes ranked acquires releases holds meets single classIn nonPrivate makesAvailable makesVisible inside touches covers lowestShared isShared overlap pairAt quadAt countAt versionAt agentsAt rowsAt zeroAt hasHosts threeAt fourAt placeAt slotAt placesOf modeOf rowsBegin rowsEnd sizeOf rowBytes dependencyBytes byteOf pairOf rowOf sourceOf atomicSource dependencyCount dependencyEnd dependencyFrom dependencyTo dependency dependsOf decode tableUnder tableOf sourcesOf agree agentKind shader host oneInstance shares together sameLocation mutualRows mutually age later laterWriter follows availabilityOf visibilityOf momentOf momentIn orderedRows classesOf availability visibility moment sameAgent programOrder continues ends sequence takesFrom leads trails syncAtomics carriesOut syncFromBarrier carriesIn syncToBarrier carriesOver syncBarriers upTo joins arrives passes syncControl synchronizes holdingOf concernsOf holding concerns bySync toRelease fromAcquire bySystem step interThread holdsAll live interThreadBy happens sameReference coversOf pureRead publicWrite L1 L2 availableAt visibleAt firstAvailable lastVisible broader broadens narrows availabilityChain visibilityChain availableBy availableFrom visibleBy visibleTo inDomain shown met carried byDomain L3 systemBefore L4 thence onHost availableKind visibleKind domainKind seenBy metFrom carriedBy reachesBy L5 common before clash conflict unordered unorderedNth raceNth races racesAbove racePartner hasRace raceRow raceByte beforeNth beforeSome readsFrom fromReads edgeNumber edge cycleRow cycleRows cycleEdges overwrites overwritesNth overNth overwriting overWriter isOverwritten overReader overByte consistent buffersFit versionFits limitsFit lengthFits kindOver agentsKnown dependenciesFew namesNone dependenciesNamed hostsFault headerFault codesFit agentFits operationFits plainFits atomicFits barrierFits semanticsFit kindFits atomicExtentFits extentFits formFault rowFault otherClass otherClassAt classTaken writerFits sourceFits sourceBroken sameRank sameRankAt rankTaken apart apartAt instanceBroken rival outside outsideAt begins unfit tableFault faulty firstFault rowFaultAt admission raceOr overwrittenOr cyclicOr verdict admitted check missesAt writtenBy written hidesAt between candidate choice blank chosen sourcesFit filledOr racingOr outcome admittedFill fill
+unfolding answer
 starred-hold = refl
 
 -- ---- shortcuts that would fool us
@@ -199,7 +198,7 @@ shortcuts =
     ∷ []
 
 pub shortcuts-hold : map (λ r. answer (r .ask) (r .table)) shortcuts ≡ map (λ r. r .gives) shortcuts
-unfolding answer _and_ _or_ anyBelow allBelow least through tabulate walk onCycle cycleStart cycleSize trail cycle along plain atomic access barrier control sameInstance operation plainRead rmw reads writes ranked acquires releases holds meets single classIn nonPrivate makesAvailable makesVisible inside touches covers lowestShared isShared overlap pairAt quadAt countAt versionAt agentsAt rowsAt zeroAt hasHosts threeAt fourAt placeAt slotAt placesOf modeOf rowsBegin rowsEnd sizeOf rowBytes dependencyBytes byteOf pairOf rowOf sourceOf atomicSource dependencyCount dependencyEnd dependencyFrom dependencyTo dependency dependsOf decode tableUnder tableOf sourcesOf agree agentKind shader host oneInstance shares together sameLocation mutualRows mutually age later laterWriter follows availabilityOf visibilityOf momentOf momentIn orderedRows classesOf availability visibility moment sameAgent programOrder continues ends sequence takesFrom leads trails syncAtomics carriesOut syncFromBarrier carriesIn syncToBarrier carriesOver syncBarriers upTo joins arrives passes syncControl synchronizes holdingOf concernsOf holding concerns bySync toRelease fromAcquire bySystem step interThread holdsAll live interThreadBy happens sameReference coversOf pureRead publicWrite L1 L2 availableAt visibleAt firstAvailable lastVisible broader broadens narrows availabilityChain visibilityChain availableBy availableFrom visibleBy visibleTo inDomain shown met carried byDomain L3 systemBefore L4 thence onHost availableKind visibleKind domainKind seenBy metFrom carriedBy reachesBy L5 common before clash conflict unordered unorderedNth raceNth races racesAbove racePartner hasRace raceRow raceByte beforeNth beforeSome readsFrom fromReads edgeNumber edge cycleRow cycleRows cycleEdges overwrites overwritesNth overNth overwriting overWriter isOverwritten overReader overByte consistent buffersFit versionFits limitsFit lengthFits kindOver agentsKnown dependenciesFew namesNone dependenciesNamed hostsFault headerFault codesFit agentFits operationFits plainFits atomicFits barrierFits semanticsFit kindFits atomicExtentFits extentFits formFault rowFault otherClass otherClassAt classTaken writerFits sourceFits sourceBroken sameRank sameRankAt rankTaken apart apartAt instanceBroken rival outside outsideAt begins unfit tableFault faulty firstFault rowFaultAt admission raceOr overwrittenOr cyclicOr verdict admitted check missesAt writtenBy written hidesAt between candidate choice blank chosen sourcesFit filledOr racingOr outcome admittedFill fill judge admittedReader judged twoMoments accepts
+unfolding answer
 shortcuts-hold = refl
 
 -- ---- control barriers
@@ -250,7 +249,7 @@ controls =
     ∷ []
 
 pub controls-hold : map (λ r. answer (r .ask) (r .table)) controls ≡ map (λ r. r .gives) controls
-unfolding answer _and_ _or_ anyBelow allBelow least through tabulate walk onCycle cycleStart cycleSize trail cycle along plain atomic access barrier control sameInstance operation plainRead rmw reads writes ranked acquires releases holds meets single classIn nonPrivate makesAvailable makesVisible inside touches covers lowestShared isShared overlap pairAt quadAt countAt versionAt agentsAt rowsAt zeroAt hasHosts threeAt fourAt placeAt slotAt placesOf modeOf rowsBegin rowsEnd sizeOf rowBytes dependencyBytes byteOf pairOf rowOf sourceOf atomicSource dependencyCount dependencyEnd dependencyFrom dependencyTo dependency dependsOf decode tableUnder tableOf sourcesOf agree agentKind shader host oneInstance shares together sameLocation mutualRows mutually age later laterWriter follows availabilityOf visibilityOf momentOf momentIn orderedRows classesOf availability visibility moment sameAgent programOrder continues ends sequence takesFrom leads trails syncAtomics carriesOut syncFromBarrier carriesIn syncToBarrier carriesOver syncBarriers upTo joins arrives passes syncControl synchronizes holdingOf concernsOf holding concerns bySync toRelease fromAcquire bySystem step interThread holdsAll live interThreadBy happens sameReference coversOf pureRead publicWrite L1 L2 availableAt visibleAt firstAvailable lastVisible broader broadens narrows availabilityChain visibilityChain availableBy availableFrom visibleBy visibleTo inDomain shown met carried byDomain L3 systemBefore L4 thence onHost availableKind visibleKind domainKind seenBy metFrom carriedBy reachesBy L5 common before clash conflict unordered unorderedNth raceNth races racesAbove racePartner hasRace raceRow raceByte beforeNth beforeSome readsFrom fromReads edgeNumber edge cycleRow cycleRows cycleEdges overwrites overwritesNth overNth overwriting overWriter isOverwritten overReader overByte consistent buffersFit versionFits limitsFit lengthFits kindOver agentsKnown dependenciesFew namesNone dependenciesNamed hostsFault headerFault codesFit agentFits operationFits plainFits atomicFits barrierFits semanticsFit kindFits atomicExtentFits extentFits formFault rowFault otherClass otherClassAt classTaken writerFits sourceFits sourceBroken sameRank sameRankAt rankTaken apart apartAt instanceBroken rival outside outsideAt begins unfit tableFault faulty firstFault rowFaultAt admission raceOr overwrittenOr cyclicOr verdict admitted check missesAt writtenBy written hidesAt between candidate choice blank chosen sourcesFit filledOr racingOr outcome admittedFill fill
+unfolding answer
 controls-hold = refl
 
 -- ---- counted ranks
@@ -281,5 +280,50 @@ counts =
     ∷ []
 
 pub counts-hold : map (λ r. answer (r .ask) (r .table)) counts ≡ map (λ r. r .gives) counts
-unfolding answer _and_ _or_ anyBelow allBelow least through tabulate walk onCycle cycleStart cycleSize trail cycle along plain atomic access barrier control sameInstance operation plainRead rmw reads writes ranked acquires releases holds meets single classIn nonPrivate makesAvailable makesVisible inside touches covers lowestShared isShared overlap pairAt quadAt countAt versionAt agentsAt rowsAt zeroAt hasHosts threeAt fourAt placeAt slotAt placesOf modeOf rowsBegin rowsEnd sizeOf rowBytes dependencyBytes byteOf pairOf rowOf sourceOf atomicSource dependencyCount dependencyEnd dependencyFrom dependencyTo dependency dependsOf decode tableUnder tableOf sourcesOf agree agentKind shader host oneInstance shares together sameLocation mutualRows mutually age later laterWriter follows availabilityOf visibilityOf momentOf momentIn orderedRows classesOf availability visibility moment sameAgent programOrder continues ends sequence takesFrom leads trails syncAtomics carriesOut syncFromBarrier carriesIn syncToBarrier carriesOver syncBarriers upTo joins arrives passes syncControl synchronizes holdingOf concernsOf holding concerns bySync toRelease fromAcquire bySystem step interThread holdsAll live interThreadBy happens sameReference coversOf pureRead publicWrite L1 L2 availableAt visibleAt firstAvailable lastVisible broader broadens narrows availabilityChain visibilityChain availableBy availableFrom visibleBy visibleTo inDomain shown met carried byDomain L3 systemBefore L4 thence onHost availableKind visibleKind domainKind seenBy metFrom carriedBy reachesBy L5 common before clash conflict unordered unorderedNth raceNth races racesAbove racePartner hasRace raceRow raceByte beforeNth beforeSome readsFrom fromReads edgeNumber edge cycleRow cycleRows cycleEdges overwrites overwritesNth overNth overwriting overWriter isOverwritten overReader overByte consistent buffersFit versionFits limitsFit lengthFits kindOver agentsKnown dependenciesFew namesNone dependenciesNamed hostsFault headerFault codesFit agentFits operationFits plainFits atomicFits barrierFits semanticsFit kindFits atomicExtentFits extentFits formFault rowFault otherClass otherClassAt classTaken writerFits sourceFits sourceBroken sameRank sameRankAt rankTaken apart apartAt instanceBroken rival outside outsideAt begins unfit tableFault faulty firstFault rowFaultAt admission raceOr overwrittenOr cyclicOr verdict admitted check missesAt writtenBy written hidesAt between candidate choice blank chosen sourcesFit filledOr racingOr outcome admittedFill fill
+unfolding answer
 counts-hold = refl
+
+-- ---- reports
+
+-- the counts, and the share
+abbrev says : ℕ → ℕ → ℕ → ℕ → Float → Answer
+says c m o r f = reported (told.Report (record { conflicting = c; mutuals = m; ordered = o; racing = r; share = f }))
+
+-- 0.0, 0.25, 0.5, 1.0
+abbrev none : Float
+none = fin false 0 (pos 0)
+
+abbrev quarter : Float
+quarter = fin false 1 (negsuc 1)
+
+abbrev half : Float
+half = fin false 1 (negsuc 0)
+
+abbrev whole : Float
+whole = fin false 1 (pos 0)
+
+-- a private write of one byte
+abbrev lone : ℕ → List ℕ
+lone a = 1 ∷ a ∷ 0 ∷ 0 ∷ 0 ∷ 0 ∷ 0 ∷ 1 ∷ 0 ∷ 0 ∷ 0 ∷ 1 ∷ 255 ∷ 255 ∷ 0 ∷ 0 ∷ []
+
+abbrev pub reports : List Run
+reports =
+    -- the flag's pair is mutually-ordered, the data's ordered
+    record { ask = asReport; table = P; gives = says 2 1 1 0 none }
+    -- row 3 private: the data's pair races
+    ∷ record { ask = asReport; table = change 2 3 5 0 P; gives = says 2 1 0 1 half }
+    -- three pairs of the flag, and the data's pair races
+    ∷ record { ask = asReport; table = Q; gives = says 4 3 0 1 quarter }
+    -- the one conflicting pair races
+    ∷ record { ask = asReport; table = two (lone 0 ∷ lone 1 ∷ []); gives = says 1 0 0 1 whole }
+    -- row 3 reads the initial value
+    ∷ record { ask = asReport; table = change 2 3 12 255 (change 2 3 13 255 P); gives = reported (told.Cycle 2) }
+    -- row 3 blank
+    ∷ record { ask = asReport; table = change 2 3 12 255 (change 2 3 13 254 P); gives = reported (told.Refused 9 3) }
+    -- no rows
+    ∷ record { ask = asReport; table = table [] []; gives = reported told.NoPairs }
+    ∷ []
+
+pub reports-hold : map (λ r. answer (r .ask) (r .table)) reports ≡ map (λ r. r .gives) reports
+unfolding answer
+reports-hold = refl

@@ -4,26 +4,12 @@ use mathlib.Core.Bool.{Bool, true, false}
 use mathlib.Core.List.{List, [], _∷_, _++_, map}
 use Prim.Native.Nat.{ℕ, _+_, _*_}
 use lib.ListN.{length, set}
-use Rattle.finite.specs.Logic.{_and_, _or_}
-use Rattle.finite.specs.Below.{anyBelow, allBelow, least}
-use Rattle.finite.specs.Closure.{through}
-use Rattle.finite.specs.Lists.{tabulate}
-use Rattle.finite.specs.Walk.{walk, onCycle, cycleStart, cycleSize, trail, cycle, along}
-use Rattle.model.specs.Row.{plain, atomic, access, barrier, control, sameInstance, operation, plainRead, rmw, reads, writes, ranked, acquires, releases, holds, meets, single, classIn, nonPrivate, makesAvailable, makesVisible, inside, touches, covers, lowestShared, isShared, overlap}
-use Rattle.model.specs.Table.{pairAt, quadAt, countAt, versionAt, agentsAt, rowsAt, zeroAt, hasHosts, threeAt, fourAt, placeAt, slotAt, placesOf, modeOf, rowsBegin, rowsEnd, sizeOf, rowBytes, dependencyBytes, byteOf, pairOf, rowOf, sourceOf, atomicSource, dependencyCount, dependencyEnd, dependencyFrom, dependencyTo, dependency, dependsOf, decode, tableUnder, tableOf, sourcesOf}
-use Rattle.model.specs.Scope.{agree, agentKind, shader, host, oneInstance, shares, together, sameLocation, mutualRows, mutually, age, later, laterWriter, follows}
-use Rattle.model.specs.Moment.{availabilityOf, visibilityOf, momentOf, momentIn, orderedRows, classesOf, availability, visibility, moment, sameAgent, programOrder}
-use Rattle.model.specs.Synchronizes.{continues, ends, sequence, takesFrom, leads, trails, syncAtomics, carriesOut, syncFromBarrier, carriesIn, syncToBarrier, carriesOver, syncBarriers, upTo, joins, arrives, passes, syncControl, synchronizes}
-use Rattle.model.specs.Happens.{holdingOf, concernsOf, holding, concerns, bySync, toRelease, fromAcquire, bySystem, step, interThread, holdsAll, live, interThreadBy, happens}
-use Rattle.model.specs.Location.{sameReference, coversOf, pureRead, publicWrite, L1, L2, availableAt, visibleAt, firstAvailable, lastVisible, broader, broadens, narrows, availabilityChain, visibilityChain, availableBy, availableFrom, visibleBy, visibleTo, inDomain, shown, met, carried, byDomain, L3, systemBefore, L4, thence, onHost, availableKind, visibleKind, domainKind, seenBy, metFrom, carriedBy, reachesBy, L5, common, before}
-use Rattle.model.specs.Race.{clash, conflict, unordered, unorderedNth, raceNth, races, racesAbove, racePartner, hasRace, raceRow, raceByte}
-use Rattle.model.specs.Edge.{beforeNth, beforeSome, readsFrom, fromReads, edgeNumber, edge, cycleRow, cycleRows, cycleEdges, overwrites, overwritesNth, overNth, overwriting, overWriter, isOverwritten, overReader, overByte, consistent}
-use Rattle.model.specs.Refusal.{buffersFit, versionFits, limitsFit, lengthFits, kindOver, agentsKnown, dependenciesFew, namesNone, dependenciesNamed, hostsFault, headerFault, codesFit, agentFits, operationFits, plainFits, atomicFits, barrierFits, semanticsFit, kindFits, atomicExtentFits, extentFits, formFault, rowFault, otherClass, otherClassAt, classTaken, writerFits, sourceFits, sourceBroken, sameRank, sameRankAt, rankTaken, apart, apartAt, instanceBroken, rival, outside, outsideAt, begins, unfit, tableFault, faulty, firstFault, rowFaultAt, admission}
-use Rattle.model.specs.Check.{raceOr, overwrittenOr, cyclicOr, verdict, admitted, check}
-use Rattle.model.specs.Fill.{missesAt, writtenBy, written, hidesAt, between, candidate, choice, blank, chosen, sourcesFit, filledOr, racingOr, outcome, admittedFill, fill}
-use Rattle.model.specs.Check.{cyclic, race, raceFree}
-use Rattle.model.specs.Fill.{filled}
+use Rattle.finite.specs.Logic.{_and_}
 use Rattle.model.specs.Limits.{WORK, CYCLE, SOURCES}
+use Rattle.model.specs.Table.{rowsAt}
+use Rattle.model.specs.Check.{cyclic, race, raceFree, check}
+use Rattle.model.specs.Fill.{filled, fill}
+use Rattle.model.specs.Opened.{opened}
 use Rattle.moved.specs.Renumber.{Renumbering}
 use Rattle.moved.specs.Moved.{Moved}
 use Rattle.moved.specs.Tried.{undoes, by-list, listed, sameHead, sameByte, sameRow, inOrder, ordered, sameDependency, sameDependencies, isMoved, moved-by-test}
@@ -108,6 +94,11 @@ upload′ = hosted (sees 1 ∷ write ∷ perform 7 ∷ perform 11 ∷ perform 10
 
 -- ---- they are moved
 
+-- what the test computes with
+tested : Unit {0}
+unfolding opened undoes by-list isMoved sameHead sameByte sameRow inOrder ordered sameDependency sameDependencies
+tested = tt
+
 abbrev testsBy : List ℕ → List ℕ → List ℕ → List ℕ → Bool
 testsBy l k s s′ = undoes (rowsAt s) l k and undoes (rowsAt s) k l and isMoved s s′ (by-list (rowsAt s) l)
 
@@ -115,34 +106,34 @@ abbrev tests : List ℕ → List ℕ → Bool
 tests s s′ = testsBy there here s s′
 
 pub moved-hold : map (λ (p : List ℕ × List ℕ). tests (p .0) (p .1)) ((P, P′) ∷ (hidden, hidden′) ∷ (early, early′) ∷ (blanked, blanked′) ∷ []) ≡ true ∷ true ∷ true ∷ true ∷ []
-unfolding _and_ _or_ allBelow undoes by-list isMoved sameHead sameByte sameRow inOrder ordered sameDependency sameDependencies pairAt versionAt agentsAt rowsAt hasHosts rowsBegin rowsEnd rowBytes dependencyBytes byteOf pairOf rowOf sourceOf sourcesOf dependencyCount dependencyEnd dependencyFrom dependencyTo
+unfolding tested
 moved-hold = refl
 
 pub hosted-hold : testsBy (1 ∷ 2 ∷ 3 ∷ 4 ∷ 0 ∷ []) (4 ∷ 0 ∷ 1 ∷ 2 ∷ 3 ∷ []) upload upload′ ≡ true
-unfolding _and_ _or_ allBelow undoes by-list isMoved sameHead sameByte sameRow inOrder ordered sameDependency sameDependencies pairAt versionAt agentsAt rowsAt hasHosts rowsBegin rowsEnd rowBytes dependencyBytes byteOf pairOf rowOf sourceOf sourcesOf dependencyCount dependencyEnd dependencyFrom dependencyTo
+unfolding tested
 hosted-hold = refl
 
 -- a source that is not renumbered, and an agent's rows out of their order, are told
 pub not-moved : tests P (table agents (acquire 2 ∷ write ∷ release ∷ read 0 ∷ [])) ≡ false
-unfolding _and_ _or_ allBelow undoes by-list isMoved sameHead sameByte sameRow inOrder ordered sameDependency sameDependencies pairAt versionAt agentsAt rowsAt hasHosts rowsBegin rowsEnd rowBytes dependencyBytes byteOf pairOf rowOf sourceOf sourcesOf dependencyCount dependencyEnd dependencyFrom dependencyTo
+unfolding tested
 not-moved = refl
 
 -- so Page.antt speaks of them
 pub cycled : Renumbering (rowsAt P)
-unfolding _and_ _or_ allBelow undoes by-list isMoved sameHead sameByte sameRow inOrder ordered sameDependency sameDependencies pairAt versionAt agentsAt rowsAt hasHosts rowsBegin rowsEnd rowBytes dependencyBytes byteOf pairOf rowOf sourceOf sourcesOf dependencyCount dependencyEnd dependencyFrom dependencyTo
+unfolding tested
 cycled = listed (rowsAt P) there here refl refl
 
 pub P-moved : Moved P P′ cycled
-unfolding _and_ _or_ allBelow undoes by-list isMoved sameHead sameByte sameRow inOrder ordered sameDependency sameDependencies pairAt versionAt agentsAt rowsAt hasHosts rowsBegin rowsEnd rowBytes dependencyBytes byteOf pairOf rowOf sourceOf sourcesOf dependencyCount dependencyEnd dependencyFrom dependencyTo cycled
+unfolding tested cycled
 P-moved = moved-by-test P P′ cycled refl
 
 -- ---- and are answered alike; the shown pair and cycle differ
 
 pub answers : map (λ s. check false s WORK CYCLE) (P ∷ P′ ∷ upload ∷ upload′ ∷ hidden ∷ hidden′ ∷ early ∷ early′ ∷ [])
     ≡ raceFree ∷ raceFree ∷ raceFree ∷ raceFree ∷ race 0 3 0 ∷ race 1 3 0 ∷ cyclic (0 ∷ 3 ∷ []) (1 ∷ 4 ∷ []) ∷ cyclic (1 ∷ 3 ∷ []) (1 ∷ 4 ∷ []) ∷ []
-unfolding _and_ _or_ anyBelow allBelow least through tabulate walk onCycle cycleStart cycleSize trail cycle along plain atomic access barrier control sameInstance operation plainRead rmw reads writes ranked acquires releases holds meets single classIn nonPrivate makesAvailable makesVisible inside touches covers lowestShared isShared overlap pairAt quadAt countAt versionAt agentsAt rowsAt zeroAt hasHosts threeAt fourAt placeAt slotAt placesOf modeOf rowsBegin rowsEnd sizeOf rowBytes dependencyBytes byteOf pairOf rowOf sourceOf atomicSource dependencyCount dependencyEnd dependencyFrom dependencyTo dependency dependsOf decode tableUnder tableOf sourcesOf agree agentKind shader host oneInstance shares together sameLocation mutualRows mutually age later laterWriter follows availabilityOf visibilityOf momentOf momentIn orderedRows classesOf availability visibility moment sameAgent programOrder continues ends sequence takesFrom leads trails syncAtomics carriesOut syncFromBarrier carriesIn syncToBarrier carriesOver syncBarriers upTo joins arrives passes syncControl synchronizes holdingOf concernsOf holding concerns bySync toRelease fromAcquire bySystem step interThread holdsAll live interThreadBy happens sameReference coversOf pureRead publicWrite L1 L2 availableAt visibleAt firstAvailable lastVisible broader broadens narrows availabilityChain visibilityChain availableBy availableFrom visibleBy visibleTo inDomain shown met carried byDomain L3 systemBefore L4 thence onHost availableKind visibleKind domainKind seenBy metFrom carriedBy reachesBy L5 common before clash conflict unordered unorderedNth raceNth races racesAbove racePartner hasRace raceRow raceByte beforeNth beforeSome readsFrom fromReads edgeNumber edge cycleRow cycleRows cycleEdges overwrites overwritesNth overNth overwriting overWriter isOverwritten overReader overByte consistent buffersFit versionFits limitsFit lengthFits kindOver agentsKnown dependenciesFew namesNone dependenciesNamed hostsFault headerFault codesFit agentFits operationFits plainFits atomicFits barrierFits semanticsFit kindFits atomicExtentFits extentFits formFault rowFault otherClass otherClassAt classTaken writerFits sourceFits sourceBroken sameRank sameRankAt rankTaken apart apartAt instanceBroken rival outside outsideAt begins unfit tableFault faulty firstFault rowFaultAt admission raceOr overwrittenOr cyclicOr verdict admitted check missesAt writtenBy written hidesAt between candidate choice blank chosen sourcesFit filledOr racingOr outcome admittedFill fill
+unfolding opened
 answers = refl
 
 pub fills : map (λ s. fill false s WORK SOURCES) (blanked ∷ blanked′ ∷ []) ≡ filled (65535 ∷ 65535 ∷ 1 ∷ 0 ∷ []) ∷ filled (2 ∷ 65535 ∷ 65535 ∷ 1 ∷ []) ∷ []
-unfolding _and_ _or_ anyBelow allBelow least through tabulate walk onCycle cycleStart cycleSize trail cycle along plain atomic access barrier control sameInstance operation plainRead rmw reads writes ranked acquires releases holds meets single classIn nonPrivate makesAvailable makesVisible inside touches covers lowestShared isShared overlap pairAt quadAt countAt versionAt agentsAt rowsAt zeroAt hasHosts threeAt fourAt placeAt slotAt placesOf modeOf rowsBegin rowsEnd sizeOf rowBytes dependencyBytes byteOf pairOf rowOf sourceOf atomicSource dependencyCount dependencyEnd dependencyFrom dependencyTo dependency dependsOf decode tableUnder tableOf sourcesOf agree agentKind shader host oneInstance shares together sameLocation mutualRows mutually age later laterWriter follows availabilityOf visibilityOf momentOf momentIn orderedRows classesOf availability visibility moment sameAgent programOrder continues ends sequence takesFrom leads trails syncAtomics carriesOut syncFromBarrier carriesIn syncToBarrier carriesOver syncBarriers upTo joins arrives passes syncControl synchronizes holdingOf concernsOf holding concerns bySync toRelease fromAcquire bySystem step interThread holdsAll live interThreadBy happens sameReference coversOf pureRead publicWrite L1 L2 availableAt visibleAt firstAvailable lastVisible broader broadens narrows availabilityChain visibilityChain availableBy availableFrom visibleBy visibleTo inDomain shown met carried byDomain L3 systemBefore L4 thence onHost availableKind visibleKind domainKind seenBy metFrom carriedBy reachesBy L5 common before clash conflict unordered unorderedNth raceNth races racesAbove racePartner hasRace raceRow raceByte beforeNth beforeSome readsFrom fromReads edgeNumber edge cycleRow cycleRows cycleEdges overwrites overwritesNth overNth overwriting overWriter isOverwritten overReader overByte consistent buffersFit versionFits limitsFit lengthFits kindOver agentsKnown dependenciesFew namesNone dependenciesNamed hostsFault headerFault codesFit agentFits operationFits plainFits atomicFits barrierFits semanticsFit kindFits atomicExtentFits extentFits formFault rowFault otherClass otherClassAt classTaken writerFits sourceFits sourceBroken sameRank sameRankAt rankTaken apart apartAt instanceBroken rival outside outsideAt begins unfit tableFault faulty firstFault rowFaultAt admission raceOr overwrittenOr cyclicOr verdict admitted check missesAt writtenBy written hidesAt between candidate choice blank chosen sourcesFit filledOr racingOr outcome admittedFill fill
+unfolding opened
 fills = refl

@@ -1,14 +1,16 @@
--- What a caller gets: each case of an answer is given exactly for the verdict, outcome or judgement of its name, with its numbers.
--- That a report refuses, or shows a cycle or an overwritten read, exactly as a check does stands in Report.antt (`says-refused`,
--- `says-cycle`, `says-overwritten`). Assumes nothing.
+-- What a caller gets: each case of an answer is given exactly for the verdict, outcome or judgement of its name, with its numbers; and what is
+-- left in the lent buffers. That a report refuses, or shows a cycle or an overwritten read, exactly as a check does stands in Report.antt
+-- (`says-refused`, `says-cycle`, `says-overwritten`). Assumes nothing.
 use mathlib.Core.Path.{_≡_, refl, sym, ap, _∙_}
-use mathlib.Core.List.{List}
-use mathlib.Core.Logic.{_↔_}
+use mathlib.Core.List.{List, _++_}
+use mathlib.Core.Logic.{_⊎_, inl, inr, _↔_}
 use Prim.Native.Nat.{ℕ}
 use native.Mathlib.Omega.{arith}
 use native.Mathlib.Decide.{ℕ-discrete}
 use borrow.Author.Tests.{eq-eqb, ne-eqb}
-use lib.ListN.{length}
+use lib.ListN.{length, drop, replicate}
+use Rattle.finite.specs.Lists.{tabulate}
+use Rattle.model.specs.Limits.{WORK, CYCLE}
 use Rattle.model.specs.declared.CheckAnswer.{CheckAnswer}
 use Rattle.model.specs.declared.CheckAnswer.the-variants as check
 use Rattle.model.specs.declared.FillAnswer.{FillAnswer}
@@ -18,14 +20,13 @@ use Rattle.model.specs.declared.DeriveAnswer.the-variants as derive
 use Rattle.model.specs.declared.AcceptAnswer.{AcceptAnswer}
 use Rattle.model.specs.declared.AcceptAnswer.the-variants as accept
 use Rattle.model.specs.declared.Report.{Report}
-use Rattle.model.specs.declared.ReportAnswer.{ReportAnswer}
 use Rattle.model.specs.declared.ReportAnswer.the-variants as report
 use Rattle.model.specs.Table.{Table}
-use Rattle.model.specs.Check.{Verdict, checkAnswer}
+use Rattle.model.specs.Check.{Verdict, checkAnswer, wiped, cycleNumber, cycleAfter, workAfter}
 use Rattle.model.specs.Check as verdict
-use Rattle.model.specs.Fill.{Outcome, fillAnswer}
+use Rattle.model.specs.Fill.{Outcome, fillAnswer, sourcesAfter}
 use Rattle.model.specs.Fill as outcome
-use Rattle.model.specs.Reason.{Derived, Judged, deriveAnswer, acceptAnswer}
+use Rattle.model.specs.Reason.{Derived, Judged, deriveAnswer, acceptAnswer, chainAfter}
 use Rattle.model.specs.Reason as reason
 use Rattle.model.specs.Report.{conflicting, racing, quotient, shareOf, reportOf, withShare, counted, reportAnswer}
 use Rattle.promises.specs.Report.{tag, inside}
@@ -71,7 +72,8 @@ checks-refused d n i = (forth d, λ e. rw e refl)
     forth (verdict.race x′ y′ b′) e = absurd (let z : _≡_ {A = ℕ} 3 0 = ap check-tag e in omega arith)
     forth verdict.raceFree e = absurd (let z : _≡_ {A = ℕ} 4 0 = ap check-tag e in omega arith)
 
-pub checks-cycle : (d : Verdict) (k : ℕ) → (checkAnswer d ≡ check.Cycle k) ↔ ((rows : List ℕ) × (edges : List ℕ) × (d ≡ verdict.cyclic rows edges) × (length rows ≡ k))
+pub checks-cycle : (d : Verdict) (k : ℕ)
+    → (checkAnswer d ≡ check.Cycle k) ↔ ((rows : List ℕ) × (edges : List ℕ) × (d ≡ verdict.cyclic rows edges) × (length rows ≡ k))
 unfolding checkAnswer
 checks-cycle d k = (forth d, λ e. let h = e .3 in rw (e .2, h) refl)
   where
@@ -288,9 +290,8 @@ reads-not-accepted d = (forth d, λ e. rw e refl)
 -- ---- a report
 
 -- a verdict that finds the table consistent: some race, or none
-pub data Sound : Verdict → Type 0 where
-  raced : (x y b : ℕ) → Sound (verdict.race x y b)
-  free : Sound verdict.raceFree
+abbrev pub Sound : Verdict → Type 0
+Sound d = ((x : ℕ) × (y : ℕ) × (b : ℕ) × (d ≡ verdict.race x y b)) ⊎ (d ≡ verdict.raceFree)
 
 -- what is counted, by whether some pair conflicts
 counted-none : (t : Table) → conflicting t ≡ 0 → counted t ≡ report.NoPairs
@@ -322,12 +323,12 @@ reports-none d t = (forth d, λ e. back (e .0) (e .1))
     forth (verdict.refused n i) e = absurd (let z : _≡_ {A = ℕ} 0 3 = ap tag e in omega arith)
     forth (verdict.cyclic rows edges) e = absurd (let z : _≡_ {A = ℕ} 1 3 = ap tag e in omega arith)
     forth (verdict.overwritten y z b) e = absurd (let z : _≡_ {A = ℕ} 2 3 = ap tag e in omega arith)
-    forth (verdict.race x y b) e = (raced x y b, none-counted t e)
-    forth verdict.raceFree e = (free, none-counted t e)
+    forth (verdict.race x y b) e = (inl (x, y, b, refl), none-counted t e)
+    forth verdict.raceFree e = (inr refl, none-counted t e)
 
-    back : {d : Verdict} → Sound d → conflicting t ≡ 0 → reportAnswer (checkAnswer d) t ≡ report.NoPairs
-    back (raced x y b) h = counted-none t h
-    back free h = counted-none t h
+    back : Sound d → conflicting t ≡ 0 → reportAnswer (checkAnswer d) t ≡ report.NoPairs
+    back (inl r) h = rw (r .3) (counted-none t h)
+    back (inr r) h = rw r (counted-none t h)
 
 -- a report exactly where it is consistent and some pair conflicts: the four counts, and the quotient of two of them beside them
 pub reports-counts : (d : Verdict) (t : Table) (r : Report)
@@ -335,13 +336,79 @@ pub reports-counts : (d : Verdict) (t : Table) (r : Report)
 unfolding reportAnswer checkAnswer
 reports-counts d t r = (forth d, λ e. back (e .0) (e .1) (e .2))
   where
-    forth : (d : Verdict) → reportAnswer (checkAnswer d) t ≡ report.Report r → Sound d × (conflicting t ≡ 0 → ⊥) × (r ≡ reportOf t (quotient (racing t) (conflicting t)))
+    forth : (d : Verdict) → reportAnswer (checkAnswer d) t ≡ report.Report r
+        → Sound d × (conflicting t ≡ 0 → ⊥) × (r ≡ reportOf t (quotient (racing t) (conflicting t)))
     forth (verdict.refused n i) e = absurd (let z : _≡_ {A = ℕ} 0 4 = ap tag e in omega arith)
     forth (verdict.cyclic rows edges) e = absurd (let z : _≡_ {A = ℕ} 1 4 = ap tag e in omega arith)
     forth (verdict.overwritten y z b) e = absurd (let z : _≡_ {A = ℕ} 2 4 = ap tag e in omega arith)
-    forth (verdict.race x y b) e = let s = some-counted t r e in (raced x y b, s .0, s .1)
-    forth verdict.raceFree e = let s = some-counted t r e in (free, s .0, s .1)
+    forth (verdict.race x y b) e = let s = some-counted t r e in (inl (x, y, b, refl), s .0, s .1)
+    forth verdict.raceFree e = let s = some-counted t r e in (inr refl, s .0, s .1)
 
-    back : {d : Verdict} → Sound d → (conflicting t ≡ 0 → ⊥) → r ≡ reportOf t (quotient (racing t) (conflicting t)) → reportAnswer (checkAnswer d) t ≡ report.Report r
-    back (raced x y b) h e = rw e (counted-some t h)
-    back free h e = rw e (counted-some t h)
+    back : Sound d → (conflicting t ≡ 0 → ⊥) → r ≡ reportOf t (quotient (racing t) (conflicting t)) → reportAnswer (checkAnswer d) t ≡ report.Report r
+    back (inl q) h e = rw (q .3, e) (counted-some t h)
+    back (inr q) h e = rw (q, e) (counted-some t h)
+
+-- ---- what is left in the lent buffers
+
+-- w is the work area, c the other. A refusal leaves the work area alone, and every other verdict zeros in its first words; a cycle is in the cycle
+-- buffer, and every other verdict leaves that alone
+pub check-leaves : (w c : List ℕ) → ((n i : ℕ) → workAfter (verdict.refused n i) w ≡ w)
+    × ((v : Verdict) → ((n i : ℕ) → v ≡ verdict.refused n i → ⊥) → workAfter v w ≡ replicate WORK 0 ++ drop WORK w)
+    × ((rows edges : List ℕ) → cycleAfter (verdict.cyclic rows edges) c ≡ tabulate (cycleNumber rows edges) CYCLE ++ drop CYCLE c)
+    × ((v : Verdict) → ((rows edges : List ℕ) → v ≡ verdict.cyclic rows edges → ⊥) → cycleAfter v c ≡ c)
+unfolding workAfter wiped cycleAfter
+check-leaves w c = (λ n i. refl, zeros, λ rows edges. refl, kept)
+  where
+    zeros : (v : Verdict) → ((n i : ℕ) → v ≡ verdict.refused n i → ⊥) → workAfter v w ≡ replicate WORK 0 ++ drop WORK w
+    zeros (verdict.refused n i) f = absurd (f n i refl)
+    zeros (verdict.cyclic rows edges) f = refl
+    zeros (verdict.overwritten y z b) f = refl
+    zeros (verdict.race x y b) f = refl
+    zeros verdict.raceFree f = refl
+
+    kept : (v : Verdict) → ((rows edges : List ℕ) → v ≡ verdict.cyclic rows edges → ⊥) → cycleAfter v c ≡ c
+    kept (verdict.refused n i) f = refl
+    kept (verdict.cyclic rows edges) f = absurd (f rows edges refl)
+    kept (verdict.overwritten y z b) f = refl
+    kept (verdict.race x y b) f = refl
+    kept verdict.raceFree f = refl
+
+-- the same of a fill: where it is filled, the sources are in the source buffer, the rest of which is kept
+pub fill-leaves : (w c : List ℕ) → ((n i : ℕ) → outcome.workAfter (outcome.refused n i) w ≡ w)
+    × ((o : Outcome) → ((n i : ℕ) → o ≡ outcome.refused n i → ⊥) → outcome.workAfter o w ≡ replicate WORK 0 ++ drop WORK w)
+    × ((l : List ℕ) → sourcesAfter (outcome.filled l) c ≡ l ++ drop (length l) c)
+    × ((o : Outcome) → ((l : List ℕ) → o ≡ outcome.filled l → ⊥) → sourcesAfter o c ≡ c)
+unfolding outcome.workAfter wiped sourcesAfter
+fill-leaves w c = (λ n i. refl, zeros, λ l. refl, kept)
+  where
+    zeros : (o : Outcome) → ((n i : ℕ) → o ≡ outcome.refused n i → ⊥) → outcome.workAfter o w ≡ replicate WORK 0 ++ drop WORK w
+    zeros (outcome.refused n i) f = absurd (f n i refl)
+    zeros (outcome.race x y b) f = refl
+    zeros outcome.none f = refl
+    zeros (outcome.filled l) f = refl
+
+    kept : (o : Outcome) → ((l : List ℕ) → o ≡ outcome.filled l → ⊥) → sourcesAfter o c ≡ c
+    kept (outcome.refused n i) f = refl
+    kept (outcome.race x y b) f = refl
+    kept outcome.none f = refl
+    kept (outcome.filled l) f = absurd (f l refl)
+
+-- and of a derivation: where there is a chain, its steps are in the chain buffer, the rest of which is kept
+pub derive-leaves : (w c : List ℕ) → ((n i : ℕ) → reason.workAfter (reason.refused n i) w ≡ w)
+    × ((d : Derived) → ((n i : ℕ) → d ≡ reason.refused n i → ⊥) → reason.workAfter d w ≡ replicate WORK 0 ++ drop WORK w)
+    × ((k : ℕ) (l : List ℕ) → chainAfter (reason.chained k l) c ≡ l ++ drop (length l) c)
+    × ((d : Derived) → ((k : ℕ) (l : List ℕ) → d ≡ reason.chained k l → ⊥) → chainAfter d c ≡ c)
+unfolding reason.workAfter wiped chainAfter
+derive-leaves w c = (λ n i. refl, zeros, λ k l. refl, kept)
+  where
+    zeros : (d : Derived) → ((n i : ℕ) → d ≡ reason.refused n i → ⊥) → reason.workAfter d w ≡ replicate WORK 0 ++ drop WORK w
+    zeros (reason.refused n i) f = absurd (f n i refl)
+    zeros reason.word f = refl
+    zeros (reason.chained k l) f = refl
+    zeros reason.notBefore f = refl
+
+    kept : (d : Derived) → ((k : ℕ) (l : List ℕ) → d ≡ reason.chained k l → ⊥) → chainAfter d c ≡ c
+    kept (reason.refused n i) f = refl
+    kept reason.word f = refl
+    kept (reason.chained k l) f = absurd (f k l refl)
+    kept reason.notBefore f = refl

@@ -1,29 +1,28 @@
 -- Which case of a verdict was given, and what it carries. Assumes nothing.
-use mathlib.Core.Path.{_≡_, refl, sym, ap, subst, _∙_}
+use mathlib.Core.Path.{_≡_, refl, ap}
 use mathlib.Core.Bool.{Bool, true, false, cond}
 use mathlib.Core.List.{List, []}
-use mathlib.Core.Logic.{_⊎_, inl, inr}
 use Prim.Native.Nat.{ℕ}
 use native.Mathlib.Omega.{arith}
 use Rattle.model.specs.Check.{Verdict, refused, cyclic, overwritten, race, raceFree}
 
--- ---- what a verdict carries
+-- ---- definitions: what a verdict carries
 
-abbrev tag : Verdict → ℕ
+abbrev pub tag : Verdict → ℕ
 tag (refused n i) = 0
 tag (cyclic rows edges) = 1
 tag (overwritten y z b) = 2
 tag (race x y b) = 3
 tag raceFree = 4
 
-abbrev first : Verdict → ℕ
+abbrev pub first : Verdict → ℕ
 first (refused n i) = n
 first (cyclic rows edges) = 0
 first (overwritten y z b) = y
 first (race x y b) = x
 first raceFree = 0
 
-abbrev second : Verdict → ℕ
+abbrev pub second : Verdict → ℕ
 second (refused n i) = i
 second (cyclic rows edges) = 0
 second (overwritten y z b) = z

@@ -1,35 +1,32 @@
--- Demand 2, the exact verdict: of every well-formed table, on a device with or without chains, with buffers that are long enough, whatever they hold.
--- `check` is the definition that the contract of the entry point names.
+-- The exact verdict: of every well-formed table, on a device with or without chains, with buffers that are long enough, whatever they hold.
+-- Assumes nothing.
 use mathlib.Core.Path.{_≡_, refl, sym, ap, subst, _∙_}
-use mathlib.Core.Bool.{Bool, true, false, not}
+use mathlib.Core.Bool.{Bool, true, false}
 use mathlib.Core.List.{List}
 use mathlib.Core.Logic.{_⊎_, inl, inr, ⊎-elim, _↔_}
-use Prim.Native.Nat.{ℕ, _+_, _≤_, _<_}
+use Prim.Native.Nat.{ℕ, _<_}
 use native.Mathlib.Omega.{arith}
-use native.Mathlib.Nat.{eq-or-lt-of-le}
-use lib.ListN.{length, getD}
 use lib.Dec.{ltb}
-use borrow.Author.Tests.{ltb-true, ltb-false, lt-ltb, le-ltb}
+use borrow.Author.Tests.{ltb-true, lt-ltb, le-ltb}
 use Rattle.finite.specs.Logic.{which, not-both, not-so}
 use Rattle.finite.specs.Walk.{along}
 use Rattle.finite.specs.Cycle.{Canonical, cycle-canonical}
-use Rattle.model.specs.declared.Admission.the-variants.{Admitted}
 use Rattle.model.specs.Limits.{CYCLE}
-use Rattle.model.specs.Table.{Table, agentsAt, rowsAt, tableUnder, sourcesOf, decode, rowBytes, placesOf}
+use Rattle.model.specs.Table.{Table, tableUnder, sourcesOf, decode}
 use Rattle.model.specs.Scope.{mutually}
 use Rattle.model.specs.Location.{common, before}
 use Rattle.model.specs.Race.{conflict, raceRow, racePartner, raceByte}
 use Rattle.model.specs.Edge.{edge, edgeNumber, cycleRow, cycleRows, cycleEdges, overReader, overWriter, overByte}
-use Rattle.model.specs.Refusal.{buffersFit, admission}
-use Rattle.model.specs.Check.{Verdict, cyclic, overwritten, race, raceFree, raceOr, overwrittenOr, cyclicOr, verdict, admitted, check}
-use Rattle.model.specs.Words.{Unordered, Races, Cyclic, Overwritten, Consistent, WellFormed}
+use Rattle.model.specs.Refusal.{buffersFit}
+use Rattle.model.specs.Check.{cyclic, overwritten, race, raceFree, raceOr, overwrittenOr, cyclicOr, verdict, admitted, check}
+use Rattle.model.specs.Words.{Races, Cyclic, Overwritten, Consistent, WellFormed}
 use Rattle.laws.specs.AdmissionLaws.{admitted-sound, size-fits}
 use Rattle.laws.specs.RaceLaws.{Sized, FirstRace, race-shown, race-none}
-use Rattle.laws.specs.AxiomLaws.{FirstOverwrite, cyclic-is, overwrite-shown, overwritten-is, consistent-is}
+use Rattle.laws.specs.AxiomLaws.{FirstOverwrite, cyclic-is, overwrite-shown, overwritten-is}
 use Rattle.promises.specs.Searches.{stuck}
 use Rattle.promises.specs.Cases.{Tests, decided, said-cyclic, said-overwritten, said-race, said-free, say-cyclic, say-overwritten, say-race, say-free}
 
--- ---- words of the page
+-- ---- definitions
 
 -- the pair x, y is mutually-ordered, or ordered one way or the other at every byte that they share
 abbrev pub Settled : Table → ℕ → ℕ → Type 0
@@ -40,12 +37,7 @@ Settled t x y =
 abbrev pub RaceFree : Table → Type 0
 RaceFree t = (x y : ℕ) → x < y → y < t .rows → conflict t x y ≡ true → Settled t x y
 
--- the shown rows are the canonical cycle of the edges, and the shown numbers each step's lowest edge
-pub record ShownCycle (t : Table) (source : ℕ → ℕ) (rows edges : List ℕ) : Type 0 where
-  pub canonical : Canonical (t .rows) (edge t source) rows
-  pub lowest : edges ≡ along (edgeNumber t source) (cycleRow t source) rows
-
--- ---- a pair that does not race is settled
+-- ---- laws: a pair that does not race is settled
 
 module _ (t : Table) where
   settled : ((x y : ℕ) → x < y → y < t .rows → Races t x y → ⊥) → RaceFree t
@@ -63,9 +55,9 @@ module _ (t : Table) where
       (λ g. let u = r .2 .1 in ⊎-elim (λ e. not-both e (u .1)) (λ e. not-both e (u .2)) (g (r .2 .0) (u .0)))
       (f x y l m (r .0))
 
--- ---- the theorems
+-- ---- the verdict depends on the table and the switch alone
 
--- for one table, refused or not, and any buffers that are long enough the verdict is the same
+-- refused or not, with any buffers that are long enough
 pub same-verdict : (chains : Bool) (s : List ℕ) (work buffer work′ buffer′ : ℕ) → buffersFit CYCLE work buffer ≡ true → buffersFit CYCLE work′ buffer′ ≡ true
     → check chains s work′ buffer′ ≡ check chains s work buffer
 unfolding check
@@ -102,6 +94,8 @@ module _ (chains : Bool) (s : List ℕ) (work buffer : ℕ) (fit : buffersFit CY
         raceAt = raceByte t x v;
       }
 
+  -- ---- laws: what the searches find decides
+
   check-is : check chains s work buffer ≡ decided found
   unfolding check verdict cyclicOr overwrittenOr raceOr admitted decided
   check-is = rw (fit, well) refl
@@ -131,14 +125,14 @@ module _ (chains : Bool) (s : List ℕ) (work buffer : ℕ) (fit : buffersFit CY
   )
 
   -- what is shown is the canonical cycle, with the lowest edge numbers
-  pub shows-cycle : (rows edges : List ℕ) → check chains s work buffer ≡ cyclic rows edges → ShownCycle t source rows edges
+  pub shows-cycle : (rows edges : List ℕ) → check chains s work buffer ≡ cyclic rows edges
+      → Canonical (t .rows) (edge t source) rows × (edges ≡ along (edgeNumber t source) (cycleRow t source) rows)
   unfolding cycleRow cycleRows cycleEdges
   shows-cycle rows edges e =
-      let p = said-cyclic found (sym check-is ∙ e) in
-      record {
-        canonical = subst (Canonical (t .rows) (edge t source)) (p .1) (cycle-canonical (t .rows) (edge t source) (ltb-true _ _ (p .0)));
-        lowest = sym (p .2) ∙ ap (along (edgeNumber t source) (cycleRow t source)) (p .1);
-      }
+      let p = said-cyclic found (sym check-is ∙ e) in (
+        subst (Canonical (t .rows) (edge t source)) (p .1) (cycle-canonical (t .rows) (edge t source) (ltb-true _ _ (p .0))),
+        sym (p .2) ∙ ap (along (edgeNumber t source) (cycleRow t source)) (p .1),
+      )
 
   -- what is shown are the least Y, Z, b that break B
   pub shows-overwritten : (y z b : ℕ) → check chains s work buffer ≡ overwritten y z b → FirstOverwrite t source y z b

@@ -1,16 +1,16 @@
--- Demand 3, the only filling, on a device with or without chains: of every table that a fill does not refuse, whichever plain reads are blank, with buffers that are long
--- enough, whatever they hold. `fill` is the definition that the contract of the entry point names; `Good chains s f` says that f is a
--- filling of s that leaves it well formed and consistent.
-use mathlib.Core.Path.{_≡_, refl, sym, ap, subst, _∙_}
+-- The only filling: of every table that a fill does not refuse, whichever plain reads are blank, on a device with or without chains, with buffers
+-- that are long enough, whatever they hold. `Good chains s f` says that f is a filling of s that leaves it well formed and consistent.
+-- Assumes nothing.
+use mathlib.Core.Path.{_≡_, refl, sym, ap, _∙_}
 use mathlib.Core.Bool.{Bool, true, false}
 use mathlib.Core.List.{List}
-use mathlib.Core.Logic.{_⊎_, inl, inr, ⊎-elim, _↔_}
-use Prim.Native.Nat.{ℕ, _+_, _≤_, _<_}
+use mathlib.Core.Logic.{⊎-elim, _↔_}
+use Prim.Native.Nat.{ℕ, _<_}
 use native.Mathlib.Omega.{arith}
 use lib.ListN.{length, getD}
 use lib.Seq.{ext-getD}
 use lib.Dec.{ltb}
-use borrow.Author.Tests.{ltb-true, lt-ltb, le-ltb}
+use borrow.Author.Tests.{ltb-true, le-ltb}
 use Rattle.finite.specs.Logic.{_and_, split, and-true, which, not-both, not-so}
 use Rattle.finite.specs.Lists.{tabulate, length-tabulate, getD-tabulate}
 use Rattle.model.specs.declared.Admission.the-variants.{Admitted}
@@ -30,7 +30,8 @@ use Rattle.promises.specs.Searches.{stuck, free-of}
 use Rattle.promises.specs.Outcomes.{settled, said-race, said-filled, said-none, say-race, say-filled, say-none}
 use Rattle.promises.specs.FillLaws.{Good, forced, good-fits, good-consistent, made, made-sources, made-good}
 
-module _ (chains : Bool) (s : List ℕ) (work buffer : ℕ) (fit : buffersFit SOURCES work buffer ≡ true) (well : admission true s ≡ Admitted (agentsAt s) (rowsAt s)) where
+module _ (chains : Bool) (s : List ℕ) (work buffer : ℕ) (fit : buffersFit SOURCES work buffer ≡ true)
+    (well : admission true s ≡ Admitted (agentsAt s) (rowsAt s)) where
   abbrev T : Table
   T = tableUnder chains s
 
@@ -54,7 +55,7 @@ module _ (chains : Bool) (s : List ℕ) (work buffer : ℕ) (fit : buffersFit SO
   unfolding tableUnder decode
   sized i l = size-fits (admitted-sound true s well) i l
 
-  -- ---- a. race exactly when a pair races; what is shown is the first such pair and its lowest byte with no order
+  -- ---- race exactly when a pair races; what is shown is the first such pair and its lowest byte with no order
 
   pub shows-race : (x y b : ℕ) → fill chains s work buffer ≡ race x y b → FirstRace T x y b
   shows-race x y b e =
@@ -71,28 +72,34 @@ module _ (chains : Bool) (s : List ℕ) (work buffer : ℕ) (fit : buffersFit SO
       some r = ⊎-elim (λ e. e) (λ e. absurd (race-none T (sized) .0 (stuck T e) (r .0) (r .1) (r .2) (r .3) (r .4))) (which found)
 
   module _ (bytes : Bytes s) where
-    -- ---- c. when no pair races: filled exactly when some filling is well formed and consistent, none exactly when there is none
+    -- ---- when no pair races: filled exactly when some filling is well formed and consistent, none exactly when there is none
 
     module _ (free : NoRace T) where
       calm : found ≡ false
       calm = le-ltb (raceRow T) (T .rows) (omega (arith, race-none T (sized) .1 free))
 
+      passing : (f : List ℕ) → Good chains s f → passes ≡ true
+      passing f g = and-true (good-fits chains s bytes well free f g) (good-consistent chains s bytes well free f g)
+
       pub says-filled : ((l : List ℕ) × (fill chains s work buffer ≡ filled l)) ↔ ((f : List ℕ) × Good chains s f)
       says-filled = (
-        λ e. let p = split (said-filled _ _ _ _ _ _ (sym fill-is ∙ e .1) .1) in (made chains s bytes well (p .0) (p .1), made-good chains s bytes well (p .0) (p .1)),
-        λ g. (_, fill-is ∙ say-filled _ _ _ _ _ _ calm (and-true (good-fits chains s bytes well free (g .0) (g .1)) (good-consistent chains s bytes well free (g .0) (g .1)))),
+        λ e.
+            let p = split (said-filled _ _ _ _ _ _ (sym fill-is ∙ e .1) .1) in
+            (made chains s bytes well (p .0) (p .1), made-good chains s bytes well (p .0) (p .1)),
+        λ g. (_, fill-is ∙ say-filled _ _ _ _ _ _ calm (passing (g .0) (g .1))),
       )
 
       pub says-none : (fill chains s work buffer ≡ none) ↔ ((f : List ℕ) → Good chains s f → ⊥)
       says-none = (
-        λ e f g. not-both (and-true (good-fits chains s bytes well free f g) (good-consistent chains s bytes well free f g)) (said-none _ _ _ _ _ _ (sym fill-is ∙ e) .1),
+        λ e f g. not-both (passing f g) (said-none _ _ _ _ _ _ (sym fill-is ∙ e) .1),
         λ n. fill-is ∙ say-none _ _ _ _ _ _ calm (not-so passes (λ p. n _ (made-good chains s bytes well (split p .0) (split p .1)))),
       )
 
-    -- ---- d, e. what is handed back is such a filling, its sources row by row, and it is the only one
+    -- ---- what is handed back is such a filling, its sources row by row, and it is the only one
 
     pub shows-filled : (l : List ℕ) → fill chains s work buffer ≡ filled l
-        → (f : List ℕ) × Good chains s f × (length l ≡ rowsAt s) × ((i : ℕ) → i < rowsAt s → getD l i 0 ≡ sourcesOf f i) × ((g : List ℕ) → Good chains s g → g ≡ f)
+        → (f : List ℕ) × Good chains s f × (length l ≡ rowsAt s) × ((i : ℕ) → i < rowsAt s → getD l i 0 ≡ sourcesOf f i)
+        × ((g : List ℕ) → Good chains s g → g ≡ f)
     unfolding tableUnder decode
     shows-filled l e =
         let p = said-filled _ _ _ _ _ _ (sym fill-is ∙ e) in
@@ -106,7 +113,7 @@ module _ (chains : Bool) (s : List ℕ) (work buffer : ℕ) (fit : buffersFit SO
           λ g h. fillings-same (h .0) (made-good chains s bytes well (q .0) (q .1) .0) (λ i m. forced chains s bytes well free g h i m ∙ sym (same i m)),
         )
 
--- ---- b. whatever a filling puts in, the same pairs race, with the same unordered bytes
+-- ---- whatever a filling puts in, the same pairs race, with the same unordered bytes
 
 module _ (chains : Bool) (s f : List ℕ) (h : Filling s f) where
   pub same-races : (x y : ℕ) → Races (tableUnder chains f) x y ≡ Races (tableUnder chains s) x y
@@ -115,14 +122,15 @@ module _ (chains : Bool) (s f : List ℕ) (h : Filling s f) where
   pub same-bytes : (x y b : ℕ) → Unordered (tableUnder chains f) x y b ≡ Unordered (tableUnder chains s) x y b
   same-bytes x y b = ap (λ (u : Table). Unordered u x y b) (under-kept h chains)
 
--- ---- g. for one table, refused or not, and any buffers that are long enough the outcome is the same
+-- ---- the outcome depends on the table and the switch alone: refused or not, with any buffers that are long enough
 
-pub same-outcome : (chains : Bool) (s : List ℕ) (work buffer work′ buffer′ : ℕ) → buffersFit SOURCES work buffer ≡ true → buffersFit SOURCES work′ buffer′ ≡ true
+pub same-outcome : (chains : Bool) (s : List ℕ) (work buffer work′ buffer′ : ℕ)
+    → buffersFit SOURCES work buffer ≡ true → buffersFit SOURCES work′ buffer′ ≡ true
     → fill chains s work′ buffer′ ≡ fill chains s work buffer
 unfolding fill
 same-outcome chains s work buffer work′ buffer′ h k = rw (h, k) refl
 
--- ---- f. a table without blanks is its own one filling
+-- ---- a table without blanks is its own one filling
 
 pub own-filling : (s : List ℕ) → Bytes s → ((i : ℕ) → i < rowsAt s → blankAt s i ≡ false) → (f : List ℕ) → Filling s f ↔ (f ≡ s)
 own-filling s bytes n f = (λ h. ext-getD 0 f s (h .size) (λ k l. h .kept k (λ i m b e. not-both b (n i m))), λ e. rw e itself)

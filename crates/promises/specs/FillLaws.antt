@@ -1,33 +1,27 @@
 -- What the page on fills rests on: a good filling has the chosen sources, and where those fit they make one. Assumes nothing.
-use mathlib.Core.Path.{_≡_, refl, sym, ap, subst, _∙_}
-use mathlib.Core.Bool.{Bool, true, false, not, cond}
+use mathlib.Core.Path.{_≡_, refl, sym, subst, _∙_}
+use mathlib.Core.Bool.{Bool, true, false, not}
 use mathlib.Core.List.{List}
-use mathlib.Core.Logic.{_⊎_, inl, inr, ⊎-elim, _↔_}
-use Prim.Native.Nat.{ℕ, _+_, _≤_, _<_}
-use native.Mathlib.Omega.{arith}
-use lib.ListN.{length, getD}
-use lib.Dec.{ltb, eqb}
-use borrow.Author.Tests.{ltb-true, ltb-false, lt-ltb, le-ltb, eqb-true}
-use Rattle.finite.specs.Logic.{_and_, _or_, split, and-true, or-cases, which, not-both, not-so, not-in, not-out}
-use Rattle.finite.specs.Below.{least, least-is, any-not, any-off}
-use Rattle.finite.specs.Lists.{tabulate, length-tabulate, getD-tabulate}
+use mathlib.Core.Logic.{_⊎_, inl, inr, ⊎-elim}
+use Prim.Native.Nat.{ℕ, _<_}
+use lib.Dec.{eqb}
+use borrow.Author.Tests.{ltb-true, eqb-true}
+use Rattle.finite.specs.Logic.{_and_, _or_, split, and-true, or-cases, which, not-both, not-in, not-out}
+use Rattle.finite.specs.Below.{any-not, any-off}
 use Rattle.model.specs.declared.Admission.the-variants.{Admitted}
-use Rattle.model.specs.Limits.{SOURCES, INITIAL, BLANK}
+use Rattle.model.specs.Limits.{INITIAL, BLANK}
 use Rattle.model.specs.Row.{plainRead, reads}
-use Rattle.model.specs.Table.{Table, agentsAt, rowsAt, rowBytes, rowOf, modeOf, tableUnder, tableOf, sourcesOf, decode}
-use Rattle.model.specs.Race.{hasRace, raceRow, racePartner, raceByte}
+use Rattle.model.specs.Table.{Table, agentsAt, rowsAt, modeOf, tableUnder, tableOf, sourcesOf, decode}
 use Rattle.model.specs.Edge.{consistent}
-use Rattle.model.specs.Refusal.{buffersFit, writerFits, sourceFits, sourceBroken, sameRankAt, rankTaken, outsideAt, begins, unfit, admission}
-use Rattle.model.specs.Fill.{Outcome, race, none, filled, blank, choice, chosen, sourcesFit, filledOr, racingOr, outcome, admittedFill, fill}
-use Rattle.model.specs.Words.{Races, Consistent, WellFormed, ConsistentBytes, blankAt, Filling}
+use Rattle.model.specs.Refusal.{writerFits, sourceFits, sourceBroken, sameRankAt, rankTaken, outsideAt, begins, unfit, admission}
+use Rattle.model.specs.Fill.{blank, choice, chosen, sourcesFit}
+use Rattle.model.specs.Words.{Consistent, WellFormed, ConsistentBytes, blankAt, Filling}
 use Rattle.laws.specs.AdmissionLaws.{Sound, sound-admitted, admitted-sound, rows-fit, size-fits, access-size, among-right}
-use Rattle.laws.specs.RaceLaws.{Sized, FirstRace, race-shown, race-none}
 use Rattle.laws.specs.AxiomLaws.{consistent-is, consistent-cong}
 use Rattle.laws.specs.WriterLaws.{writers-ordered}
 use Rattle.laws.specs.ChoiceLaws.{NoRace, Fair, choice-forced}
 use Rattle.laws.specs.FillingLaws.{under-kept, source-kept}
-use Rattle.laws.specs.FilledLaws.{Bytes, rank-small, filledBytes, fillings-same, filling-sound, sound-filling, filled-source, filled-filling}
-use Rattle.promises.specs.Outcomes.{settled, said-race, said-filled, said-none, say-race, say-filled, say-none}
+use Rattle.laws.specs.FilledLaws.{Bytes, rank-small, filledBytes, filling-sound, sound-filling, filled-source, filled-filling}
 
 -- ---- definitions
 
@@ -76,7 +70,10 @@ module _ (chains : Bool) (s : List ℕ) (bytes : Bytes s) (well : admission true
   unfolding sourceFits
   fit-cases i v r e =
       ⊎-elim
-      (λ h. ⊎-elim (λ a. ⊎-elim (λ b. inl (eqb-true v INITIAL b)) (λ b. inr b) (or-cases (eqb v INITIAL) (writerFits t i v) a)) (λ a. not-both (split (split a .0) .0) refl) (or-cases (eqb v INITIAL or writerFits t i v) _ h))
+      (λ h. ⊎-elim
+      (λ a. ⊎-elim (λ b. inl (eqb-true v INITIAL b)) (λ b. inr b) (or-cases (eqb v INITIAL) (writerFits t i v) a))
+      (λ a. not-both (split (split a .0) .0) refl)
+      (or-cases (eqb v INITIAL or writerFits t i v) _ h))
       (λ h. not-both (and-true r (not-in h)) e)
       (which (eqb v INITIAL or writerFits t i v or (false and plainRead (t .row i) and eqb v BLANK)))
 
@@ -117,7 +114,9 @@ module _ (chains : Bool) (s : List ℕ) (bytes : Bytes s) (well : admission true
     unfolding sourceBroken
     forced i l =
         ⊎-elim
-        (λ e. choice-forced t fair free i (row-of l) (blank-plain i e) (sourcesOf f) kept (fit-cases i (sourcesOf f i) (blank-reads i e) (admits i l)) ∙ sym (chosen-blank i e))
+        (λ e.
+        choice-forced t fair free i (row-of l) (blank-plain i e) (sourcesOf f) kept (fit-cases i (sourcesOf f i) (blank-reads i e) (admits i l))
+        ∙ sym (chosen-blank i e))
         (λ e. source-kept (good .0) i e ∙ sym (chosen-kept i e))
         (which (blankAt s i))
 
@@ -140,7 +139,8 @@ module _ (chains : Bool) (s : List ℕ) (bytes : Bytes s) (well : admission true
     named : (i : ℕ) → i < rowsAt s → blankAt s i ≡ true → (source i ≡ INITIAL) ⊎ (source i < rowsAt s)
     unfolding sourceBroken writerFits
     named i l b =
-        ⊎-elim (λ e. inl e) (λ e. inr (of-row (ltb-true (source i) (t .rows) (split (split (split e .0) .0) .0)))) (fit-cases i (source i) (blank-reads i b) (fits-at i l))
+        ⊎-elim (λ e. inl e) (λ e. inr (of-row (ltb-true (source i) (t .rows) (split (split (split e .0) .0) .0))))
+        (fit-cases i (source i) (blank-reads i b) (fits-at i l))
 
     abbrev pub made : List ℕ
     made = filledBytes s source
@@ -156,6 +156,9 @@ module _ (chains : Bool) (s : List ℕ) (bytes : Bytes s) (well : admission true
     unfolding sourceBroken
     made-good = (
       made-filling,
-      sound-admitted false made (filling-sound made-filling sound (λ i l. sym (broken-under false (sourcesOf made) i) ∙ subst (λ (v : ℕ). (reads (t .row i) and not (sourceFits false t i v)) ≡ false) (sym (made-sources i l)) (fits-at i l))),
-      subst (λ (u : Table). Consistent u (sourcesOf made)) (sym (under-kept made-filling chains)) (consistent-cong t source (sourcesOf made) (λ i l. sym (made-sources i (of-row l))) (consistent-is t source (fair .sized) .0 con)),
+      sound-admitted false made (filling-sound made-filling sound (λ i l.
+          sym (broken-under false (sourcesOf made) i)
+          ∙ subst (λ (v : ℕ). (reads (t .row i) and not (sourceFits false t i v)) ≡ false) (sym (made-sources i l)) (fits-at i l))),
+      subst (λ (u : Table). Consistent u (sourcesOf made)) (sym (under-kept made-filling chains))
+          (consistent-cong t source (sourcesOf made) (λ i l. sym (made-sources i (of-row l))) (consistent-is t source (fair .sized) .0 con)),
     )

@@ -1,10 +1,11 @@
+pub mod Main
+pub mod Refused
 pub mod Check
 pub mod Fill
 pub mod Reason
+pub mod Report
 pub mod Answers
 pub mod Cases
 pub mod Outcomes
 pub mod Searches
 pub mod FillLaws
-pub mod Report
-pub mod ReportRuns

@@ -6,21 +6,21 @@ use Prim.Native.Nat.{ℕ}
 use native.Mathlib.Omega.{arith}
 use Rattle.model.specs.Fill.{Outcome, refused, race, none, filled}
 
--- ---- what an outcome carries
+-- ---- definitions: what an outcome carries
 
-abbrev tag : Outcome → ℕ
+abbrev pub tag : Outcome → ℕ
 tag (refused n i) = 0
 tag (race x y b) = 1
 tag none = 2
 tag (filled l) = 3
 
-abbrev first : Outcome → ℕ
+abbrev pub first : Outcome → ℕ
 first (refused n i) = n
 first (race x y b) = x
 first none = 0
 first (filled l) = 0
 
-abbrev second : Outcome → ℕ
+abbrev pub second : Outcome → ℕ
 second (refused n i) = i
 second (race x y b) = y
 second none = 0

@@ -1,92 +1,84 @@
 -- Reasons a reviewer can follow: which derivations the reader accepts, that there is one exactly where a moment happens before
--- another, and what holds of the one that is found. `judge` and `derive` are the definitions that the contracts of the entry
--- points name.
+-- another, and what holds of the one that is found. Assumes nothing.
 use mathlib.Core.Path.{_≡_, refl, sym, ap, subst, _∙_}
 use mathlib.Core.Bool.{Bool, true, false, not, cond}
 use mathlib.Core.List.{List, [], _∷_}
 use mathlib.Core.Logic.{_⊎_, inl, inr, ⊎-elim, _↔_}
-use Prim.Native.Nat.{ℕ, zero, suc, _+_, _-_, _*_, _/_, _%_, _≤_, _<_}
+use Prim.Native.Nat.{ℕ, zero, suc, _-_, _*_, _/_, _≤_, _<_}
 use native.Mathlib.Omega.{arith}
 use native.Mathlib.Nat.{not-suc-le-zero}
 use native.Mathlib.Decide.{decLt}
 use lib.ListN.{length, getD}
-use lib.Dec.{ltb, leb, eqb}
+use lib.Dec.{ltb, eqb}
 use borrow.Author.Tests.{ltb-true, lt-ltb, le-ltb, leb-true, le-leb, eqb-true, eqb-false, eq-eqb, ne-eqb}
-use Rattle.finite.specs.Logic.{_and_, _or_, which, split, and-true, or-cases, or-left, or-right, not-both, not-so, not-in, not-out}
-use Rattle.finite.specs.Below.{anyBelow, least, any-in, any-out, any-off, any-not, Least, least-is, least-hit}
+use Rattle.finite.specs.Logic.{_and_, _or_, which, split, and-true, or-cases, or-left, or-right, not-both, not-in, not-out}
+use Rattle.finite.specs.Below.{least, any-off, any-not, Least, least-is, least-hit}
 use Rattle.finite.specs.Closure.{Reach, one, more}
 use Rattle.finite.specs.Walk.{walk, trail, along}
 use Rattle.finite.specs.Cycle.{Way, there, onward, length-trail, length-along, trail-way, walk-reach, least-apart}
-use Rattle.model.specs.declared.Admission.the-variants.{Admitted, Refused}
+use Rattle.model.specs.declared.Admission.the-variants.{Admitted}
 use Rattle.model.specs.declared.Reason.{Reason}
 use Rattle.model.specs.declared.Reason.the-variants.{ProgramOrder, Chain}
 use Rattle.model.specs.Limits.{ROWS, CHAIN, CASE, CLASS-SETS}
-use Rattle.model.specs.Table.{Table, rowsAt, tableUnder, tableOf, decode}
+use Rattle.model.specs.Table.{Table, tableUnder, tableOf, decode}
 use Rattle.model.specs.Moment.{AT, part, momentOf, momentIn, moment, orderedRows, programOrder}
-use Rattle.model.specs.Happens.{holding, holdingOf, bySync, toRelease, fromAcquire, bySystem, direct, step, happens}
-use Rattle.laws.specs.HappensLaws.{happens-is}
+use Rattle.model.specs.Happens.{holding, holdingOf, bySync, toRelease, fromAcquire, bySystem, direct, step}
 use Rattle.model.specs.Words.{HappensBefore}
 use Rattle.laws.specs.AdmissionLaws.{admitted-sound, rows-fit}
 use Rattle.model.specs.Refusal.{buffersFit, admission}
-use Rattle.model.specs.Reason.{caseIn, reached, stepTo, stepHolds, stands, broken, chainHolds, accepts, twoMoments, hasChain, chainSize, lowestCase, stepNumber, chain, hasChainBy, chainOr, ours, Judged, accepted, notAccepted, judged, admittedReader, judge, Derived, word, chained, notBefore, derivedOf, admittedDerive, derive, refused}
+use Rattle.model.specs.Reason.{caseIn, reached, stepTo, stepHolds, stands, broken, chainHolds, accepts, twoMoments}
+use Rattle.model.specs.Reason.{hasChain, chainSize, lowestCase, stepNumber, chain, hasChainBy, chainOr, ours}
+use Rattle.model.specs.Reason.{Judged, accepted, notAccepted, judged, admittedReader, judge}
+use Rattle.model.specs.Reason.{Derived, word, chained, notBefore, refused, derivedOf, admittedDerive, derive}
 
--- ---- words of the page
+-- ---- definitions
 
 module _ (t : Table) where
-  -- the step x leads from moment m to a moment that is there, by the direct case of M6 that it names
-  pub record Holds (s m x : ℕ) : Type 0 where
-    pub there : moment t (reached x) ≡ true
-    pub by : ((caseIn x ≡ 1) × (bySync t s m (reached x) ≡ true))
-        ⊎ (((caseIn x ≡ 2) × (toRelease t s m (reached x) ≡ true)) ⊎ (((caseIn x ≡ 3) × (fromAcquire t s m (reached x) ≡ true)) ⊎ ((caseIn x ≡ 4) × (bySystem t m (reached x) ≡ true))))
-
   -- steps that hold for the class set s lead from a moment to another
   pub data Leads (s : ℕ) : ℕ → List ℕ → ℕ → Type 0 where
     done : {m : ℕ} → Leads s m [] m
-    next : {m x k : ℕ} {l : List ℕ} → Holds s m x → Leads s (reached x) l k → Leads s m (x ∷ l) k
+    next : {m x k : ℕ} {l : List ℕ} → stepHolds t s m x ≡ true → Leads s (reached x) l k → Leads s m (x ∷ l) k
 
   -- what the reader accepts of moments m and k: the word where program order holds, or a chain of 1 to CHAIN such steps
   pub data Accepted (m k : ℕ) : Reason → List ℕ → Type 0 where
     by-word : programOrder t m k ≡ true → Accepted m k ProgramOrder []
     by-chain : {s : ℕ} {l : List ℕ} → 1 ≤ s → s ≤ CLASS-SETS → 1 ≤ length l → length l ≤ CHAIN → Leads s m l k → Accepted m k (Chain s) l
 
--- ---- a step
+-- ---- laws: a step
+
+-- two tests, and what each decides
+or-is : {a b : Bool} {A B : Type 0} → (a ≡ true) ↔ A → (b ≡ true) ↔ B → ((a or b) ≡ true) ↔ (A ⊎ B)
+or-is {a} {b} f g = (
+  λ e. ⊎-elim (λ p. inl (f .0 p)) (λ p. inr (g .0 p)) (or-cases a b e),
+  λ e. ⊎-elim (λ p. or-left b (f .1 p)) (λ p. or-right a (g .1 p)) e,
+)
+
+-- a case is the n-th, and its test passes
+case-is : (c n : ℕ) {b : Bool} → ((eqb c n and b) ≡ true) ↔ ((c ≡ n) × (b ≡ true))
+case-is c n = (λ e. (eqb-true c n (split e .0), split e .1), λ e. and-true (eq-eqb c n (e .0)) (e .1))
 
 module _ (t : Table) (s m : ℕ) where
-  step-out : (x : ℕ) → stepHolds t s m x ≡ true → Holds t s m x
+  -- a step holds exactly if the moment that it reaches is there, and the direct case that it names, 1 to 4, leads to it
+  pub step-exactly : (x : ℕ) → (stepHolds t s m x ≡ true) ↔ ((moment t (reached x) ≡ true)
+      × (((((caseIn x ≡ 1) × (bySync t s m (reached x) ≡ true)) ⊎ ((caseIn x ≡ 2) × (toRelease t s m (reached x) ≡ true)))
+      ⊎ ((caseIn x ≡ 3) × (fromAcquire t s m (reached x) ≡ true))) ⊎ ((caseIn x ≡ 4) × (bySystem t m (reached x) ≡ true))))
   unfolding stepHolds direct
-  step-out x h = record { there = split h .0; by = go (or-cases _ _ (split h .1)) }
+  step-exactly x =
+      let c = or-is (or-is (or-is (case-is (caseIn x) 1) (case-is (caseIn x) 2)) (case-is (caseIn x) 3)) (case-is (caseIn x) 4) in
+      (λ e. (split e .0, c .0 (split e .1)), λ e. and-true (e .0) (c .1 (e .1)))
+
+  -- the moment that a step reaches is there
+  step-there : (x : ℕ) → stepHolds t s m x ≡ true → moment t (reached x) ≡ true
+  unfolding stepHolds
+  step-there x h = split h .0
+
+  -- a step that holds is one of those that inter-thread order is the closure of
+  step-is : (x : ℕ) → stepHolds t s m x ≡ true → step t s m (reached x) ≡ true
+  unfolding stepHolds direct step
+  step-is x h = or-map (or-map (or-map (λ e. split e .1) (λ e. split e .1)) (λ e. split e .1)) (λ e. split e .1) (split h .1)
     where
-      k : ℕ
-      k = reached x
-
-      inner : ((eqb (caseIn x) 1 and bySync t s m k) ≡ true) ⊎ ((eqb (caseIn x) 2 and toRelease t s m k) ≡ true)
-          → ((caseIn x ≡ 1) × (bySync t s m k ≡ true)) ⊎ (((caseIn x ≡ 2) × (toRelease t s m k ≡ true)) ⊎ (((caseIn x ≡ 3) × (fromAcquire t s m k ≡ true)) ⊎ ((caseIn x ≡ 4) × (bySystem t m k ≡ true))))
-      inner (inl e) = inl (eqb-true _ _ (split e .0), split e .1)
-      inner (inr e) = inr (inl (eqb-true _ _ (split e .0), split e .1))
-
-      outer : ((eqb (caseIn x) 1 and bySync t s m k or eqb (caseIn x) 2 and toRelease t s m k) ≡ true) ⊎ ((eqb (caseIn x) 3 and fromAcquire t s m k) ≡ true)
-          → ((caseIn x ≡ 1) × (bySync t s m k ≡ true)) ⊎ (((caseIn x ≡ 2) × (toRelease t s m k ≡ true)) ⊎ (((caseIn x ≡ 3) × (fromAcquire t s m k ≡ true)) ⊎ ((caseIn x ≡ 4) × (bySystem t m k ≡ true))))
-      outer (inl e) = inner (or-cases _ _ e)
-      outer (inr e) = inr (inr (inl (eqb-true _ _ (split e .0), split e .1)))
-
-      go : ((eqb (caseIn x) 1 and bySync t s m k or eqb (caseIn x) 2 and toRelease t s m k or eqb (caseIn x) 3 and fromAcquire t s m k) ≡ true) ⊎ ((eqb (caseIn x) 4 and bySystem t m k) ≡ true)
-          → ((caseIn x ≡ 1) × (bySync t s m k ≡ true)) ⊎ (((caseIn x ≡ 2) × (toRelease t s m k ≡ true)) ⊎ (((caseIn x ≡ 3) × (fromAcquire t s m k ≡ true)) ⊎ ((caseIn x ≡ 4) × (bySystem t m k ≡ true))))
-      go (inl e) = outer (or-cases _ _ e)
-      go (inr e) = inr (inr (inr (eqb-true _ _ (split e .0), split e .1)))
-
-  step-in : (x : ℕ) → Holds t s m x → stepHolds t s m x ≡ true
-  unfolding stepHolds direct
-  step-in x h =
-      and-true (h .there)
-      (⊎-elim (λ a. or-left _ (or-left _ (or-left _ (and-true (eq-eqb _ _ (a .0)) (a .1)))))
-      (λ b. ⊎-elim (λ a. or-left _ (or-left _ (or-right _ (and-true (eq-eqb _ _ (a .0)) (a .1))))) (λ c. ⊎-elim (λ a. or-left _ (or-right _ (and-true (eq-eqb _ _ (a .0)) (a .1)))) (λ a. or-right _ (and-true (eq-eqb _ _ (a .0)) (a .1))) c) b)
-      (h .by))
-
-  -- it is one of the steps that inter-thread order is the closure of
-  step-is : (x : ℕ) → Holds t s m x → step t s m (reached x) ≡ true
-  unfolding step
-  step-is x h =
-      ⊎-elim (λ a. or-left _ (or-left _ (or-left _ (a .1)))) (λ b. ⊎-elim (λ a. or-left _ (or-left _ (or-right _ (a .1)))) (λ c. ⊎-elim (λ a. or-left _ (or-right _ (a .1))) (λ a. or-right _ (a .1)) c) b) (h .by)
+      or-map : {a b c d : Bool} → (a ≡ true → c ≡ true) → (b ≡ true → d ≡ true) → (a or b) ≡ true → (c or d) ≡ true
+      or-map {a} {b} {c} {d} f g e = ⊎-elim (λ p. or-left d (f p)) (λ p. or-right c (g p)) (or-cases a b e)
 
   -- a moment that is reached is there
   own : (k : ℕ) → k < 3 * t .rows → holding t s k ≡ true → moment t k ≡ true
@@ -117,7 +109,7 @@ module _ (t : Table) (s m : ℕ) where
       last (inl e) = go (or-cases _ _ e)
       last (inr e) = row-there k l (split (split e .0) .1)
 
--- ---- a chain
+-- ---- laws: a chain
 
 stands-next : (m x : ℕ) (l : List ℕ) (i : ℕ) → stands m (x ∷ l) (suc i) ≡ stands (reached x) l i
 unfolding stands
@@ -136,13 +128,13 @@ module _ (t : Table) (s : ℕ) where
   unfolding stands
   leads-in m k [] h e = rw e done
   leads-in m k (x ∷ l) h e =
-      next (step-out t s m x (h 0 (omega arith)))
+      next (h 0 (omega arith))
       (leads-in (reached x) k l (λ i b. rw (stands-next m x l i) at (h (suc i) (omega arith))) (sym (stands-next m x l (length l)) ∙ e))
 
   leads-each : {m k : ℕ} {l : List ℕ} → Leads t s m l k → Each m l
   unfolding stands
   leads-each done i b = absurd (not-suc-le-zero b)
-  leads-each {m} (next {x = x} {l = l} h p) zero b = step-in t s m x h
+  leads-each {m} (next {x = x} {l = l} h p) zero b = h
   leads-each {m} (next {x = x} {l = l} h p) (suc i) b = rw (stands-next m x l i) (leads-each p i (omega arith))
 
   leads-end : {m k : ℕ} {l : List ℕ} → Leads t s m l k → stands m l (length l) ≡ k
@@ -172,8 +164,8 @@ module _ (t : Table) (s : ℕ) where
       (and-true (and-true (and-true (and-true (lt-ltb _ _ a) (le-leb _ _ b)) (lt-ltb _ _ c)) (le-leb _ _ d)) (eq-eqb _ _ (leads-end p)))
       (not-in (any-not (broken t s m l) (length l) (λ i q. ap not (leads-each p i q))))
 
--- ---- PROMISE: a derivation is accepted exactly if it is the word and program order holds, or its chain leads from the first moment to
--- the second in 1 to CHAIN steps that hold in the table for its one class set
+-- ---- what is accepted: the word where program order holds, or a chain whose steps hold in the table for its one class set and lead from
+-- the first moment to the second
 
 pub accepts-exactly : (t : Table) (m k : ℕ) (r : Reason) (l : List ℕ) → (accepts t m k r l ≡ true) ↔ Accepted t m k r l
 unfolding accepts
@@ -190,7 +182,7 @@ accepts-exactly t m k (Chain s) l = (chain-out t s m k l, back s l)
     back : (s : ℕ) (l : List ℕ) → Accepted t m k (Chain s) l → chainHolds t s m k l ≡ true
     back s l (by-chain a b c d p) = chain-in t s m k l a b c d p
 
--- ---- a chain is a path of direct cases
+-- ---- laws: a chain is a path of direct cases
 
 module _ (t : Table) (s : ℕ) where
   below : (k : ℕ) → moment t k ≡ true → k < 3 * t .rows
@@ -200,29 +192,32 @@ module _ (t : Table) (s : ℕ) where
   leads-reach : {m k : ℕ} {l : List ℕ} → 1 ≤ length l → Leads t s m l k → Reach (step t s) (3 * t .rows) m k
   leads-reach b done = absurd (not-suc-le-zero b)
   leads-reach {m} b (next {x = x} h done) = one (step-is t s m x h)
-  leads-reach {m} b (next {x = x} h (next g p)) = more (step-is t s m x h) (below (reached x) (h .there)) (leads-reach (omega arith) (next g p))
+  leads-reach {m} b (next {x = x} h (next g p)) = more (step-is t s m x h) (below (reached x) (step-there t s m x h)) (leads-reach (omega arith) (next g p))
 
-  -- the lowest case that leads to a moment is one of M6's
-  lowest-holds : (m k : ℕ) → k < CASE → moment t k ≡ true → step t s m k ≡ true → Holds t s m (stepNumber t s m k)
-  unfolding stepNumber lowestCase step
+  -- where no other case leads to a moment, the fourth does
+  fourth : (m k : ℕ) → bySync t s m k ≡ false → toRelease t s m k ≡ false → fromAcquire t s m k ≡ false → step t s m k ≡ true → bySystem t m k ≡ true
+  unfolding step _or_
+  fourth m k x y z h = rw (x, y, z) at h
+
+  -- a step by the lowest case that leads to a moment holds
+  lowest-holds : (m k : ℕ) → k < CASE → moment t k ≡ true → step t s m k ≡ true → stepHolds t s m (stepNumber t s m k) ≡ true
+  unfolding stepHolds stepNumber lowestCase step direct
   lowest-holds m k b here h = go (which (bySync t s m k)) (which (toRelease t s m k)) (which (fromAcquire t s m k))
     where
-      to : (case : ℕ) → (caseIn (stepTo case k) ≡ case) × (reached (stepTo case k) ≡ k)
-      to case = (omega arith, omega arith)
+      by : (case : ℕ) → direct t s case m k ≡ true → stepHolds t s m (stepTo case k) ≡ true
+      by case d =
+          let a : caseIn (stepTo case k) ≡ case = omega arith in
+          let r : reached (stepTo case k) ≡ k = omega arith in
+          rw (a, r) (and-true here d)
 
-      last : bySync t s m k ≡ false → toRelease t s m k ≡ false → fromAcquire t s m k ≡ false → bySystem t m k ≡ true
-      last x y z =
-          ⊎-elim
-          (λ d. ⊎-elim (λ a. ⊎-elim (λ c. not-both c x) (λ c. not-both c y) (or-cases (bySync t s m k) (toRelease t s m k) a)) (λ a. not-both a z) (or-cases (bySync t s m k or toRelease t s m k) (fromAcquire t s m k) d))
-          (λ d. d)
-          (or-cases (bySync t s m k or toRelease t s m k or fromAcquire t s m k) (bySystem t m k) h)
-
-      go : (bySync t s m k ≡ true) ⊎ (bySync t s m k ≡ false) → (toRelease t s m k ≡ true) ⊎ (toRelease t s m k ≡ false) → (fromAcquire t s m k ≡ true) ⊎ (fromAcquire t s m k ≡ false)
-          → Holds t s m (stepTo (cond (bySync t s m k) 1 (cond (toRelease t s m k) 2 (cond (fromAcquire t s m k) 3 4))) k)
-      go (inl x) y z = rw x (record { there = rw (to 1 .1) here; by = inl (to 1 .0, rw (to 1 .1) x) })
-      go (inr x) (inl y) z = rw (x, y) (record { there = rw (to 2 .1) here; by = inr (inl (to 2 .0, rw (to 2 .1) y)) })
-      go (inr x) (inr y) (inl z) = rw (x, y, z) (record { there = rw (to 3 .1) here; by = inr (inr (inl (to 3 .0, rw (to 3 .1) z))) })
-      go (inr x) (inr y) (inr z) = rw (x, y, z) (record { there = rw (to 4 .1) here; by = inr (inr (inr (to 4 .0, rw (to 4 .1) (last x y z)))) })
+      go : (bySync t s m k ≡ true) ⊎ (bySync t s m k ≡ false)
+          → (toRelease t s m k ≡ true) ⊎ (toRelease t s m k ≡ false)
+          → (fromAcquire t s m k ≡ true) ⊎ (fromAcquire t s m k ≡ false)
+          → stepHolds t s m (stepTo (cond (bySync t s m k) 1 (cond (toRelease t s m k) 2 (cond (fromAcquire t s m k) 3 4))) k) ≡ true
+      go (inl x) y z = rw x (by 1 (or-left _ (or-left _ (or-left _ (and-true (eq-eqb 1 1 refl) x)))))
+      go (inr x) (inl y) z = rw (x, y) (by 2 (or-left _ (or-left _ (or-right _ (and-true (eq-eqb 2 2 refl) y)))))
+      go (inr x) (inr y) (inl z) = rw (x, y, z) (by 3 (or-left _ (or-right _ (and-true (eq-eqb 3 3 refl) z))))
+      go (inr x) (inr y) (inr z) = rw (x, y, z) (by 4 (or-right _ (and-true (eq-eqb 4 4 refl) (fourth m k x y z h))))
 
   hop : (z w : ℕ) {k : ℕ} {l : List ℕ} → t .rows ≤ ROWS → w < 3 * t .rows → step t s z w ≡ true → Leads t s w l k → Leads t s z (stepNumber t s z w ∷ l) k
   unfolding stepNumber
@@ -237,7 +232,8 @@ module _ (t : Table) (s : ℕ) where
   way-leads f {k} (onward {z} {w} d a (onward {l = l} g b p)) = hop z w f d a (way-leads f (onward g b p))
 
   -- where there is a chain, the shortest is accepted: it has fewer steps than there are moments
-  chain-accepted : t .rows ≤ ROWS → 1 ≤ s → s ≤ CLASS-SETS → (m k : ℕ) → twoMoments t m k ≡ true → hasChain t s m k ≡ true → chainHolds t s m k (chain t s m k) ≡ true
+  chain-accepted : t .rows ≤ ROWS → 1 ≤ s → s ≤ CLASS-SETS → (m k : ℕ) → twoMoments t m k ≡ true → hasChain t s m k ≡ true
+      → chainHolds t s m k (chain t s m k) ≡ true
   unfolding chain hasChain chainSize twoMoments
   chain-accepted f a b m k two h =
       let d = split two in
@@ -250,7 +246,7 @@ module _ (t : Table) (s : ℕ) where
       in
       chain-in t s m k (along (stepNumber t s) k l) a b (omega arith) (omega arith) (way-leads f (trail-way (3 * t .rows) (step t s) k _ m (hit .1)))
 
--- ---- PROMISE: some derivation is accepted exactly where the first moment happens before the second, so none is otherwise
+-- ---- some derivation is accepted exactly where the first moment happens before the second, so none is otherwise
 
 module _ (t : Table) (m k : ℕ) (f : t .rows ≤ ROWS) (two : twoMoments t m k ≡ true) where
   first-there : moment t m ≡ true
@@ -283,7 +279,7 @@ module _ (t : Table) (m k : ℕ) (f : t .rows ≤ ROWS) (two : twoMoments t m k 
               go : chainHolds t s m k (chain t s m k) ≡ true → accepts t m k (Chain s) (chain t s m k) ≡ true
               go e = accepts-exactly t m k (Chain s) (chain t s m k) .1 (chain-out t s m k (chain t s m k) e)
 
-  -- ---- PROMISE: what is said of the two moments by the derivation that is found holds; which one is found is undecided, and ours
+  -- ---- what is said of the two moments by the derivation that is found holds; which one is found is undecided, and ours
 
   -- the word and a chain are accepted; not before is said where the first does not happen before the second; nothing is refused
   abbrev pub Said : Derived → Type 0
@@ -313,7 +309,7 @@ module _ (t : Table) (m k : ℕ) (f : t .rows ≤ ROWS) (two : twoMoments t m k 
       go (inr x) (yes d) = rw (x, lt-ltb c CLASS-SETS d) (chain-accepted t (suc c) f (omega arith) d m k two (found .hit d))
       go (inr x) (no d) = rw (x, le-ltb c CLASS-SETS (omega arith)) (none x (let b = found .bound in omega arith))
 
-  -- NOT BEFORE is said exactly where the first does not happen before the second
+  -- not before is said exactly where the first does not happen before the second
   pub ours-none : (ours t m k ≡ notBefore) ↔ (HappensBefore t m k → ⊥)
   ours-none = (λ e. subst Said e ours-said, λ n. go (ours t m k) ours-said n)
     where
@@ -323,23 +319,19 @@ module _ (t : Table) (m k : ℕ) (f : t .rows ≤ ROWS) (two : twoMoments t m k 
       go notBefore a n = refl
       go (refused i j) a n = absurd a
 
--- ---- PROMISES: of any bytes
+-- an admitted table is within the limit that these ask for
+rows-within : (s : List ℕ) {a n : ℕ} → admission true s ≡ Admitted a n → tableOf s .rows ≤ ROWS
+unfolding tableOf tableUnder decode
+rows-within s e = rows-fit (admitted-sound true s e)
 
-module _ (s : List ℕ) (m k : ℕ) where
-  -- a fill's refusals come first; then 12, row 0, unless the numbers name two moments
-  pub reads-refused : (r : Reason) (l : List ℕ) (n i : ℕ) → admission true s ≡ Refused n i → judge s m k r l ≡ refused n i
-  unfolding judge admittedReader
-  reads-refused r l n i e = rw e refl
+-- ---- of any bytes that are admitted, and two moments
 
-  pub reads-12 : (r : Reason) (l : List ℕ) {a n : ℕ} → admission true s ≡ Admitted a n → twoMoments (tableOf s) m k ≡ false → judge s m k r l ≡ refused 12 0
+module _ (s : List ℕ) (m k : ℕ) {a n : ℕ} (admits : admission true s ≡ Admitted a n) (two : twoMoments (tableOf s) m k ≡ true) where
+  -- ---- what the reader accepts
+
+  reads : (r : Reason) (l : List ℕ) → (judge s m k r l ≡ accepted) ↔ (accepts (tableOf s) m k r l ≡ true)
   unfolding judge admittedReader judged
-  reads-12 r l e x = rw (e, x) refl
-
-  -- ACCEPTED is said exactly of what the page calls so
-  pub reads-accepted : (r : Reason) (l : List ℕ) {a n : ℕ} → admission true s ≡ Admitted a n → twoMoments (tableOf s) m k ≡ true
-      → (judge s m k r l ≡ accepted) ↔ Accepted (tableOf s) m k r l
-  unfolding judge admittedReader judged
-  reads-accepted r l e two = (λ h. accepts-exactly (tableOf s) m k r l .0 (taken (which (accepts (tableOf s) m k r l)) (rw (e, two) at h)), λ h. rw (e, two, accepts-exactly (tableOf s) m k r l .1 h) refl)
+  reads r l = (λ h. taken (which (accepts (tableOf s) m k r l)) (rw (admits, two) at h), λ h. rw (admits, two, h) refl)
     where
       taken : (accepts (tableOf s) m k r l ≡ true) ⊎ (accepts (tableOf s) m k r l ≡ false) → cond (accepts (tableOf s) m k r l) accepted notAccepted ≡ accepted
           → accepts (tableOf s) m k r l ≡ true
@@ -354,31 +346,79 @@ module _ (s : List ℕ) (m k : ℕ) where
               is accepted = ⊥
               is (refused n i) = ⊥
 
-  module _ (work buffer : ℕ) where
-    pub derives-11 : buffersFit CHAIN work buffer ≡ false → derive s m k work buffer ≡ refused 11 0
-    unfolding derive
-    derives-11 x = rw x refl
+  -- the word: no steps beside it, and program order holds
+  pub reads-word : (l : List ℕ) → (judge s m k ProgramOrder l ≡ accepted) ↔ ((l ≡ []) × (programOrder (tableOf s) m k ≡ true))
+  reads-word l = (
+    λ e. out l (accepts-exactly (tableOf s) m k ProgramOrder l .0 (reads ProgramOrder l .0 e)),
+    λ h. reads ProgramOrder l .1 (back l (h .0) (h .1)),
+  )
+    where
+      out : (l : List ℕ) → Accepted (tableOf s) m k ProgramOrder l → (l ≡ []) × (programOrder (tableOf s) m k ≡ true)
+      out [] (by-word h) = (refl, h)
 
-    module _ (room : buffersFit CHAIN work buffer ≡ true) where
-      pub derives-refused : (n i : ℕ) → admission true s ≡ Refused n i → derive s m k work buffer ≡ refused n i
-      unfolding derive admittedDerive
-      derives-refused n i e = rw (room, e) refl
+      back : (l : List ℕ) → l ≡ [] → programOrder (tableOf s) m k ≡ true → accepts (tableOf s) m k ProgramOrder l ≡ true
+      back l e h = rw e (accepts-exactly (tableOf s) m k ProgramOrder [] .1 (by-word h))
 
-      pub derives-12 : {a n : ℕ} → admission true s ≡ Admitted a n → twoMoments (tableOf s) m k ≡ false → derive s m k work buffer ≡ refused 12 0
-      unfolding derive admittedDerive derivedOf
-      derives-12 e x = rw (room, e, x) refl
+  -- a chain: of a class set, of 1 to CHAIN steps, each of which holds where it stands, and it ends at the second moment
+  pub reads-chain : (c : ℕ) (l : List ℕ) → (judge s m k (Chain c) l ≡ accepted)
+      ↔ ((1 ≤ c) × (c ≤ CLASS-SETS) × (1 ≤ length l) × (length l ≤ CHAIN) × (stands m l (length l) ≡ k)
+      × ((i : ℕ) → i < length l → stepHolds (tableOf s) c (stands m l i) (getD l i 0) ≡ true))
+  reads-chain c l = (
+    λ e. out c (accepts-exactly (tableOf s) m k (Chain c) l .0 (reads (Chain c) l .0 e)),
+    λ h. reads (Chain c) l .1 (accepts-exactly (tableOf s) m k (Chain c) l .1
+        (by-chain (h .0) (h .1) (h .2) (h .3) (leads-in (tableOf s) c m k l (h .5) (h .4)))),
+  )
+    where
+      out : (c : ℕ) → Accepted (tableOf s) m k (Chain c) l
+          → (1 ≤ c) × (c ≤ CLASS-SETS) × (1 ≤ length l) × (length l ≤ CHAIN) × (stands m l (length l) ≡ k) × Each (tableOf s) c m l
+      out c (by-chain a b d e p) = (a, b, d, e, leads-end (tableOf s) c p, leads-each (tableOf s) c p)
 
-      -- of two moments the answer is ours, so that all of the above holds of it
-      pub derives-ours : {a n : ℕ} → admission true s ≡ Admitted a n → twoMoments (tableOf s) m k ≡ true → derive s m k work buffer ≡ ours (tableOf s) m k
-      unfolding derive admittedDerive derivedOf
-      derives-ours e two = rw (room, e, two) refl
+  -- some derivation, exactly where the first moment happens before the second
+  pub reads-some : ((r : Reason) × (l : List ℕ) × (judge s m k r l ≡ accepted)) ↔ HappensBefore (tableOf s) m k
+  reads-some =
+      let b = accepted-before (tableOf s) m k (rows-within s admits) two in (
+        λ d. b .0 (d .0, d .1, reads (d .0) (d .1) .0 (d .2)),
+        λ h. let d = b .1 h in (d .0, d .1, reads (d .0) (d .1) .1 (d .2)),
+      )
 
-      -- it depends on the table and the two moments alone
-      pub same-derivation : (work′ buffer′ : ℕ) → buffersFit CHAIN work′ buffer′ ≡ true → derive s m k work′ buffer′ ≡ derive s m k work buffer
-      unfolding derive
-      same-derivation work′ buffer′ room′ = rw (room, room′) refl
+  -- ---- what is found
 
--- an admitted table is within the limit that the page asks for
-pub rows-within : (s : List ℕ) {a n : ℕ} → admission true s ≡ Admitted a n → tableOf s .rows ≤ ROWS
-unfolding tableOf tableUnder decode
-rows-within s e = rows-fit (admitted-sound true s e)
+  module _ (work buffer : ℕ) (room : buffersFit CHAIN work buffer ≡ true) where
+    derives-ours : derive s m k work buffer ≡ ours (tableOf s) m k
+    unfolding derive admittedDerive derivedOf
+    derives-ours = rw (room, admits, two) refl
+
+    said : (d : Derived) → derive s m k work buffer ≡ d → Said (tableOf s) m k (rows-within s admits) two d
+    said d e = subst (Said (tableOf s) m k (rows-within s admits) two) (sym derives-ours ∙ e) (ours-said (tableOf s) m k (rows-within s admits) two)
+
+    -- it is accepted
+    pub finds-word : derive s m k work buffer ≡ word → judge s m k ProgramOrder [] ≡ accepted
+    finds-word e = reads ProgramOrder [] .1 (said word e)
+
+    pub finds-chain : (c : ℕ) (l : List ℕ) → derive s m k work buffer ≡ chained c l → judge s m k (Chain c) l ≡ accepted
+    finds-chain c l e = reads (Chain c) l .1 (said (chained c l) e)
+
+    -- some derivation is found exactly where the first moment happens before the second
+    pub finds-some : ((derive s m k work buffer ≡ word) ⊎ ((c : ℕ) × (l : List ℕ) × (derive s m k work buffer ≡ chained c l))) ↔ HappensBefore (tableOf s) m k
+    finds-some = (
+      λ d. ⊎-elim (λ e. reads-some .0 (ProgramOrder, [], finds-word e)) (λ e. reads-some .0 (Chain (e .0), e .1, finds-chain (e .0) (e .1) (e .2))) d,
+      λ h. go (derive s m k work buffer) refl h,
+    )
+      where
+        go : (d : Derived) → derive s m k work buffer ≡ d → HappensBefore (tableOf s) m k
+            → (derive s m k work buffer ≡ word) ⊎ ((c : ℕ) × (l : List ℕ) × (derive s m k work buffer ≡ chained c l))
+        go word e h = inl e
+        go (chained c l) e h = inr (c, l, e)
+        go notBefore e h = absurd (said notBefore e h)
+        go (refused i j) e h = absurd (said (refused i j) e)
+
+    -- and none exactly where it does not
+    pub finds-none : (derive s m k work buffer ≡ notBefore) ↔ (HappensBefore (tableOf s) m k → ⊥)
+    finds-none = let b = ours-none (tableOf s) m k (rows-within s admits) two in (λ e. b .0 (sym derives-ours ∙ e), λ h. derives-ours ∙ b .1 h)
+
+-- ---- the derivation depends on the table and the two numbers alone: refused or not, with any buffers that are long enough
+
+pub same-derivation : (s : List ℕ) (m k work buffer work′ buffer′ : ℕ) → buffersFit CHAIN work buffer ≡ true → buffersFit CHAIN work′ buffer′ ≡ true
+    → derive s m k work′ buffer′ ≡ derive s m k work buffer
+unfolding derive
+same-derivation s m k work buffer work′ buffer′ h h′ = rw (h, h′) refl

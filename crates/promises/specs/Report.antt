@@ -1,5 +1,5 @@
 -- The weekly report: refused and inconsistent tables get check's answer; of every other table, with buffers that are long enough,
--- whatever they hold, the counts and the share. `report` is the definition that the contract of the entry point names.
+-- whatever they hold, the counts and the share. Assumes nothing.
 use mathlib.Core.Path.{_≡_, refl, sym, ap, _∙_}
 use mathlib.Core.Bool.{Bool, true, false, cond}
 use mathlib.Core.List.{List}
@@ -24,7 +24,8 @@ use Rattle.model.specs.Race.{conflict, races, raceRow, racePartner, raceByte}
 use Rattle.model.specs.Edge.{cycleRow, overReader}
 use Rattle.model.specs.Refusal.{buffersFit}
 use Rattle.model.specs.Check.{Verdict, refused, cyclic, overwritten, race, raceFree, raceOr, overwrittenOr, cyclicOr, verdict, admitted, check, checkAnswer}
-use Rattle.model.specs.Report.{conflictMutual, conflictOrdered, conflicting, mutuals, ordered, racing, quotient, shareOf, reportOf, withShare, counted, reportAnswer, report}
+use Rattle.model.specs.Report.{conflictMutual, conflictOrdered, conflicting, mutuals, ordered, racing}
+use Rattle.model.specs.Report.{quotient, shareOf, reportOf, withShare, counted, reportAnswer, report}
 use Rattle.model.specs.Words.{Races, Consistent, WellFormed}
 use Rattle.laws.specs.AdmissionLaws.{admitted-sound, rows-fit, size-fits}
 use Rattle.laws.specs.RaceLaws.{Sized, races-is, race-none}
@@ -34,7 +35,7 @@ use Rattle.laws.specs.ReportLaws.{Throughout, ordered-is, adds-up, counts-fit, 
 use Rattle.promises.specs.Searches.{stuck}
 use Rattle.promises.specs.Check.{same-verdict}
 
--- ---- which case of an answer was given, and what it carries
+-- ---- definitions: which case of an answer was given, and what it carries
 
 abbrev pub tag : ReportAnswer → ℕ
 tag (told.Refused n i) = 0
@@ -91,7 +92,7 @@ counted-tag t = go (shareOf (racing t) (conflicting t))
     go share.NoPairs = omega arith
     go (share.Of f) = omega arith
 
--- ---- the theorems: check's answer and no report
+-- ---- check's answer, and no report
 
 -- for one table, refused or not, and any buffers that are long enough the answer is the same
 pub same-report : (chains : Bool) (s : List ℕ) (work buffer work′ buffer′ : ℕ) → buffersFit CYCLE work buffer ≡ true → buffersFit CYCLE work′ buffer′ ≡ true
@@ -114,11 +115,13 @@ module _ (chains : Bool) (s : List ℕ) (work buffer : ℕ) where
       forth raceFree e = absurd (let z : tag (counted (tableUnder chains s)) ≡ 0 = ap tag e in omega (arith, counted-tag (tableUnder chains s)))
 
   -- a cycle of so many rows exactly where a check shows one; its numbers are left where a check leaves them
-  pub says-cycle : (k : ℕ) → (report chains s work buffer ≡ told.Cycle k) ↔ ((rows : List ℕ) × (edges : List ℕ) × (check chains s work buffer ≡ cyclic rows edges) × (length rows ≡ k))
+  pub says-cycle : (k : ℕ) → (report chains s work buffer ≡ told.Cycle k)
+      ↔ ((rows : List ℕ) × (edges : List ℕ) × (check chains s work buffer ≡ cyclic rows edges) × (length rows ≡ k))
   unfolding report reportAnswer checkAnswer
   says-cycle k = (λ e. forth (check chains s work buffer) e, λ e. let l = e .3 in rw (e .2, l) refl)
     where
-      forth : (v : Verdict) → reportAnswer (checkAnswer v) (tableUnder chains s) ≡ told.Cycle k → (rows : List ℕ) × (edges : List ℕ) × (v ≡ cyclic rows edges) × (length rows ≡ k)
+      forth : (v : Verdict) → reportAnswer (checkAnswer v) (tableUnder chains s) ≡ told.Cycle k
+          → (rows : List ℕ) × (edges : List ℕ) × (v ≡ cyclic rows edges) × (length rows ≡ k)
       forth (refused m j) e = absurd (let z : _≡_ {A = ℕ} 0 1 = ap tag e in omega arith)
       forth (cyclic r d) e = (r, d, refl, ap first e)
       forth (overwritten y z b) e = absurd (let z : _≡_ {A = ℕ} 2 1 = ap tag e in omega arith)
@@ -136,7 +139,7 @@ module _ (chains : Bool) (s : List ℕ) (work buffer : ℕ) where
       forth (race u v c) e = absurd (let z : tag (counted (tableUnder chains s)) ≡ 2 = ap tag e in omega (arith, counted-tag (tableUnder chains s)))
       forth raceFree e = absurd (let z : tag (counted (tableUnder chains s)) ≡ 2 = ap tag e in omega (arith, counted-tag (tableUnder chains s)))
 
--- ---- the theorems: of a consistent table
+-- ---- of a consistent table
 
 module _ (chains : Bool) (s : List ℕ) (work buffer : ℕ) (fit : buffersFit CYCLE work buffer ≡ true) (well : WellFormed s) where
   abbrev t : Table
@@ -168,7 +171,9 @@ module _ (chains : Bool) (s : List ℕ) (work buffer : ℕ) (fit : buffersFit CY
     unfolding report raceOr reportAnswer checkAnswer
     reported = rw checked (go (ltb (raceRow t) (t .rows)))
       where
-        go : (b : Bool) → reportAnswer (checkAnswer (cond b (race (raceRow t) (racePartner t (raceRow t)) (raceByte t (raceRow t) (racePartner t (raceRow t)))) raceFree)) t ≡ counted t
+        go : (b : Bool)
+            → reportAnswer (checkAnswer (cond b (race (raceRow t) (racePartner t (raceRow t)) (raceByte t (raceRow t) (racePartner t (raceRow t)))) raceFree)) t
+            ≡ counted t
         go true = refl
         go false = refl
 
@@ -230,7 +235,8 @@ module _ (chains : Bool) (s : List ℕ) (work buffer : ℕ) (fit : buffersFit CY
       unfolding mutuals conflictMutual
       counts-mutuals p h =
           sym mutuals-is
-          ∙ pairs-cong (conflictMutual t) p (t .rows) (λ x y l m. bool-ext _ (p x y) (λ e. h x y l m .1 (split e)) (λ e. let q = h x y l m .0 e in and-true (q .0) (q .1)))
+          ∙ pairs-cong (conflictMutual t) p (t .rows) (λ x y l m.
+          bool-ext _ (p x y) (λ e. h x y l m .1 (split e)) (λ e. let q = h x y l m .0 e in and-true (q .0) (q .1)))
 
       pub counts-ordered : (p : ℕ → ℕ → Bool)
           → ((x y : ℕ) → x < y → y < t .rows → (p x y ≡ true) ↔ ((conflict t x y ≡ true) × (mutually t x y ≡ false) × Throughout t x y))

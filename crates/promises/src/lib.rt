@@ -1,1 +1,1 @@
-// What the answers are promised to mean: specs only. Each page states a demand's theorems in the words of docs/RULES.md.
+// What the answers are promised to mean: specs only. All of it stands on one page, specs/Main.antt; the pages beside it have the proofs.

@@ -1,0 +1,74 @@
+-- All that a run computes with, under one name: to unfold `opened` is to unfold every definition on its line. A new definition is named here,
+-- and no page of runs names any. Assumes nothing.
+use lib.Ieee
+use Rattle.finite.specs.Logic
+use Rattle.finite.specs.Below
+use Rattle.finite.specs.Closure
+use Rattle.finite.specs.Lists
+use Rattle.finite.specs.Walk
+use Rattle.finite.specs.Count
+use Rattle.model.specs.Row
+use Rattle.model.specs.Table
+use Rattle.model.specs.Scope
+use Rattle.model.specs.Moment
+use Rattle.model.specs.Synchronizes
+use Rattle.model.specs.Happens
+use Rattle.model.specs.Location
+use Rattle.model.specs.Race
+use Rattle.model.specs.Edge
+use Rattle.model.specs.Refusal
+use Rattle.model.specs.Check
+use Rattle.model.specs.Fill
+use Rattle.model.specs.Reason
+use Rattle.model.specs.Report
+
+unfoldable pub opened : Unit {0}
+unfolding
+    Ieee.round
+    Logic._and_ Logic._or_
+    Below.anyBelow Below.allBelow Below.least
+    Closure.through
+    Lists.tabulate
+    Walk.walk Walk.onCycle Walk.cycleStart Walk.cycleSize Walk.trail Walk.cycle Walk.along
+    Count.one Count.countBelow Count.under Count.countPairs
+    Row.plain Row.atomic Row.access Row.barrier Row.control Row.sameInstance Row.operation Row.plainRead Row.rmw Row.reads Row.writes Row.ranked
+    Row.acquires Row.releases Row.holds Row.meets Row.single Row.classIn Row.nonPrivate Row.makesAvailable Row.makesVisible Row.inside Row.touches
+    Row.covers Row.lowestShared Row.isShared Row.overlap
+    Table.pairAt Table.quadAt Table.countAt Table.versionAt Table.agentsAt Table.rowsAt Table.zeroAt Table.hasHosts Table.threeAt Table.fourAt
+    Table.placeAt Table.slotAt Table.placesOf Table.modeOf Table.rowsBegin Table.rowsEnd Table.sizeOf Table.rowBytes Table.dependencyBytes
+    Table.byteOf Table.pairOf Table.rowOf Table.sourceOf Table.atomicSource Table.dependencyCount Table.dependencyEnd Table.dependencyFrom
+    Table.dependencyTo Table.dependency Table.dependsOf Table.decode Table.tableUnder Table.tableOf Table.sourcesOf
+    Scope.agree Scope.agentKind Scope.shader Scope.host Scope.oneInstance Scope.shares Scope.together Scope.sameLocation Scope.mutualRows
+    Scope.mutually Scope.age Scope.later Scope.laterWriter Scope.follows
+    Moment.availabilityOf Moment.visibilityOf Moment.momentOf Moment.momentIn Moment.orderedRows Moment.classesOf Moment.availability
+    Moment.visibility Moment.moment Moment.sameAgent Moment.programOrder
+    Synchronizes.continues Synchronizes.ends Synchronizes.sequence Synchronizes.takesFrom Synchronizes.leads Synchronizes.trails
+    Synchronizes.syncAtomics Synchronizes.carriesOut Synchronizes.syncFromBarrier Synchronizes.carriesIn Synchronizes.syncToBarrier
+    Synchronizes.carriesOver Synchronizes.syncBarriers Synchronizes.upTo Synchronizes.joins Synchronizes.arrives Synchronizes.passes
+    Synchronizes.syncControl Synchronizes.synchronizes
+    Happens.holdingOf Happens.concernsOf Happens.holding Happens.concerns Happens.bySync Happens.toRelease Happens.fromAcquire Happens.bySystem
+    Happens.step Happens.interThread Happens.holdsAll Happens.live Happens.interThreadBy Happens.happens
+    Location.sameReference Location.coversOf Location.pureRead Location.publicWrite Location.L1 Location.L2 Location.availableAt Location.visibleAt
+    Location.firstAvailable Location.lastVisible Location.broader Location.broadens Location.narrows Location.availabilityChain
+    Location.visibilityChain Location.availableBy Location.availableFrom Location.visibleBy Location.visibleTo Location.inDomain Location.shown
+    Location.met Location.carried Location.byDomain Location.L3 Location.systemBefore Location.L4 Location.thence Location.onHost
+    Location.availableKind Location.visibleKind Location.domainKind Location.seenBy Location.metFrom Location.carriedBy Location.reachesBy
+    Location.L5 Location.common Location.before
+    Race.clash Race.conflict Race.unordered Race.unorderedNth Race.raceNth Race.races Race.racesAbove Race.racePartner Race.hasRace Race.raceRow
+    Race.raceByte
+    Edge.beforeNth Edge.beforeSome Edge.readsFrom Edge.fromReads Edge.edgeNumber Edge.edge Edge.cycleRow Edge.cycleRows Edge.cycleEdges
+    Edge.overwrites Edge.overwritesNth Edge.overNth Edge.overwriting Edge.overWriter Edge.isOverwritten Edge.overReader Edge.overByte Edge.consistent
+    Refusal.buffersFit Refusal.versionFits Refusal.limitsFit Refusal.lengthFits Refusal.kindOver Refusal.agentsKnown Refusal.dependenciesFew
+    Refusal.namesNone Refusal.dependenciesNamed Refusal.hostsFault Refusal.headerFault Refusal.codesFit Refusal.agentFits Refusal.operationFits
+    Refusal.plainFits Refusal.atomicFits Refusal.barrierFits Refusal.semanticsFit Refusal.kindFits Refusal.atomicExtentFits Refusal.extentFits
+    Refusal.formFault Refusal.rowFault Refusal.otherClass Refusal.otherClassAt Refusal.classTaken Refusal.writerFits Refusal.sourceFits
+    Refusal.sourceBroken Refusal.sameRank Refusal.sameRankAt Refusal.rankTaken Refusal.apart Refusal.apartAt Refusal.instanceBroken Refusal.rival
+    Refusal.outside Refusal.outsideAt Refusal.begins Refusal.unfit Refusal.tableFault Refusal.faulty Refusal.firstFault Refusal.rowFaultAt
+    Refusal.admission
+    Check.raceOr Check.overwrittenOr Check.cyclicOr Check.verdict Check.admitted Check.check Check.checkAnswer
+    Fill.missesAt Fill.writtenBy Fill.written Fill.hidesAt Fill.between Fill.candidate Fill.choice Fill.blank Fill.chosen Fill.sourcesFit
+    Fill.filledOr Fill.racingOr Fill.outcome Fill.admittedFill Fill.fill
+    Reason.judge Reason.admittedReader Reason.judged Reason.twoMoments Reason.accepts
+    Report.conflictMutual Report.orderedAt Report.orderedNth Report.conflictOrdered Report.conflicting Report.mutuals Report.ordered Report.racing
+    Report.quotient Report.shareOf Report.reportOf Report.withShare Report.counted Report.reportAnswer Report.report
+opened = tt

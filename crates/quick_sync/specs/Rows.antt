@@ -9,7 +9,7 @@ use native.Mathlib.Omega.{arith}
 use native.Mathlib.Decide.{ℕ-discrete, decLt}
 use lib.Dec.{eqb, ltb, leb}
 use borrow.Author.Tests.{ne-eqb, eq-eqb, eqb-true, not-false}
-use Rattle.finite.specs.Logic.{_and_, _or_, bool-ext, not-both, not-so, not-in, not-out, split, and-true, and-false-left, and-false-right, or-off, or-none, or-false}
+use Rattle.finite.specs.Logic.{_and_, _or_, bool-ext, not-both, not-so, not-in, not-out, split, and-true, and-false-left, and-false-right, or-off, or-none}
 use Rattle.finite.specs.Below.{anyBelow, any-in, any-out, any-off, any-not}
 use Rattle.bits.specs.Bit.{setBit, setBitIf}
 use Rattle.bits.specs.Fill.{rowFill, within-rowFill}
@@ -22,7 +22,7 @@ use Rattle.model.specs.Scope.{shares, sameLocation, together, mutualRows, mutua
 use Rattle.model.specs.Moment.{sameAgent}
 use Rattle.model.specs.Synchronizes.{continues, ends, sequence, takesFrom, leads, trails, upTo, joins, synchronizes}
 use Rattle.quick_sync.specs.Product.{byWay, times}
-use Rattle.quick_sync.specs.Links.{heads, gets, released, gotten, led, metBy, passed, syncBy, sync-is}
+use Rattle.quick_sync.specs.Links.{heads, gets, released, gotten, led, metBy, passed, syncBy, by-atomics, sync-is}
 
 -- ---- definitions
 
@@ -205,19 +205,25 @@ module _ (b : List ℕ) (p : List (List ℕ)) (mode : Mode) (n : ℕ) where
 
   -- ---- laws: M5, from the bits
 
+  pub sync-relaxed : (a c : ℕ) (q : Row) (u : Bool) → q ≡ rowOf b c → u ≡ acquires q → not u ≡ true → false ≡ syncBy (decode b p mode n) a c
+  unfolding syncBy decode
+  sync-relaxed a c q u eq eu h = sym (and-false-left _ _ (and-false-left _ _ (and-false-left _ _ (rw (← eq, ← eu) (not-out u h)))))
+
+  pub sync-atomics : (a c : ℕ) (r q : Row) (u v x y : Bool) → a < n → c < n → r ≡ rowOf b a → q ≡ rowOf b c → u ≡ acquires q → not u ≡ false
+      → v ≡ led (decode b p mode n) a c → x ≡ atomic r → y ≡ atomic q → (v and x and y) ≡ true → true ≡ syncBy (decode b p mode n) a c
+  unfolding decode
+  sync-atomics a c r q u v x y la lc er eq eu h ev ex ey e =
+      let s = split e in
+      let o = split (s .0) in
+      sym (by-atomics (decode b p mode n) a c la lc (sym ev ∙ o .0) (sym (ap atomic er) ∙ sym ex ∙ o .1) (sym (ap atomic eq) ∙ sym ey ∙ s .1) (sym (ap acquires eq) ∙ sym eu ∙ not-false u h))
+
+  -- what is neither linked nor passed to
+  pub sync-unlinked : (a c : ℕ) → a < n → c < n → led (decode b p mode n) a c ≡ false → passed (decode b p mode n) a c ≡ false → synchronizes (decode b p mode n) a c ≡ false
+  unfolding syncBy decode
+  sync-unlinked a c la lc e f =
+      sync-is (decode b p mode n) a c la lc ∙ and-false-right _ _ (and-false-left _ _ (and-false-left _ _ (and-false-right _ _ (or-none e (and-false-right _ _ f)))))
+
   module _ (a c : ℕ) (r : Row) (v w : Bool) (er : r ≡ rowOf b a) (ev : v ≡ led (decode b p mode n) a c) (ew : w ≡ passed (decode b p mode n) a c) where
-    pub sync-unlinked : not (v or w) ≡ true → false ≡ syncBy (decode b p mode n) a c
-    unfolding syncBy decode
-    sync-unlinked h =
-        sym (and-false-left _ _ (and-false-left _ _ (and-false-right _ _ (or-none (sym ev ∙ none .0) (and-false-right _ _ (sym ew ∙ none .1))))))
-      where
-        none : (v ≡ false) × (w ≡ false)
-        none = or-false v w (not-out (v or w) h)
-
-    pub sync-relaxed : (q : Row) (u : Bool) → q ≡ rowOf b c → u ≡ acquires q → not u ≡ true → false ≡ syncBy (decode b p mode n) a c
-    unfolding syncBy decode
-    sync-relaxed q u eq eu h = sym (and-false-left _ _ (and-false-left _ _ (and-false-left _ _ (rw (← eq, ← eu) (not-out u h)))))
-
     pub sync-linked : (q : Row) (u x y z : Bool) → q ≡ rowOf b c → u ≡ acquires q → not u ≡ false → x ≡ barrier r → y ≡ barrier q → z ≡ together p r q
         → ((v or (x and y and w)) and not (eqb a c) and z) ≡ syncBy (decode b p mode n) a c
     unfolding syncBy decode

@@ -1,11 +1,12 @@
 -- What the work area holds between the stages of this crate, and after them. Assumes nothing.
-use mathlib.Core.Path.{_≡_}
+use mathlib.Core.Path.{_≡_, sym, _∙_}
 use mathlib.Core.Bool.{Bool, false}
 use mathlib.Core.List.{List}
 use Prim.Native.Nat.{ℕ, _+_, _-_, _*_, _≤_, _<_}
 use native.Mathlib.Omega.{arith}
 use lib.ListN.{length}
-use Rattle.bits.specs.Bit.{zeros, bit-zeros-in}
+use Rattle.finite.specs.Logic.{or-false}
+use Rattle.bits.specs.Bit.{bit, zeros, bit-zeros-in}
 use Rattle.bits.specs.Within.{Within, within-trans, within-widen, within-cleared}
 use Rattle.bits.specs.Matrix.{rel}
 use Rattle.bits.specs.Stage.{Holds, Made, holds-kept}
@@ -18,7 +19,9 @@ use Rattle.area.specs.Regions.{MUTUAL, MUTUAL-END, SEQUENCE, SEQUENCE-END, SYNC
 use Rattle.sequence.specs.Known.{Known, Synced, known-made, known-kept}
 use Rattle.quick_sync.specs.Regions.{HEADS, TAKES, GETS, HANDS, LINKS, UP-TO, JOINS, MEETS, PASSED, PASSED-END}
 use Rattle.quick_sync.specs.Product.{grid, times, times-held}
+use Rattle.quick_sync.specs.Walk.{either}
 use Rattle.quick_sync.specs.Links.{released, gotten, handed, led, metBy, passed}
+use Rattle.quick_sync.specs.Rows.{sync-unlinked}
 
 -- ---- definitions
 
@@ -36,6 +39,14 @@ pub record MadeLinked (t : Table) (n : ℕ) (w u : List ℕ) : Type 0 where
 -- a change in earlier words keeps it
 pub linked-kept : {t : Table} {n c d : ℕ} {w u : List ℕ} → d ≤ HAPPENS → Within c d w u → Linked t n w → Linked t n u
 linked-kept l f k = record { links = holds-kept (λ h. omega arith) f (k .links); passing = holds-kept (λ h. omega arith) f (k .passing) }
+
+-- a row that a walk over the two grids passes by
+pub sync-passed : (b : List ℕ) (p : List (List ℕ)) (mode : Mode) (n : ℕ) {w : List ℕ} (a c : ℕ) → a < n → c < n → Linked (decode b p mode n) n w
+    → either w (LINKS + a * GRID) (PASSED + a * GRID) c ≡ false → synchronizes (decode b p mode n) a c ≡ false
+unfolding either rel
+sync-passed b p mode n {w} a c la lc k e =
+    let s = or-false (bit w ((LINKS + a * GRID) * 64 + c)) (bit w ((PASSED + a * GRID) * 64 + c)) e in
+    sync-unlinked b p mode n a c la lc (sym (k .links .cell a c la lc) ∙ s .0) (sym (k .passing .cell a c la lc) ∙ s .1)
 
 -- the stages in order
 module _ (b : List ℕ) (p : List (List ℕ)) (mode : Mode) (n : ℕ) where

@@ -14,13 +14,13 @@ use Rattle.model.specs.declared.Mode.{Mode}
 use Rattle.model.specs.Limits.{ROWS, WORK}
 use Rattle.model.specs.Table.{Table, decode}
 use Rattle.model.specs.Scope.{mutually}
-use Rattle.model.specs.Synchronizes.{takesFrom, upTo, joins, sequence, synchronizes}
+use Rattle.model.specs.Synchronizes.{takesFrom, joins, sequence, synchronizes}
 use Rattle.area.specs.Regions.{MUTUAL, MUTUAL-END, SEQUENCE, SEQUENCE-END, SYNC, SYNC-END, HAPPENS, HAPPENS-END, GRID, ROWS-GRID}
 use Rattle.sequence.specs.Known.{Known, Synced, known-made, known-kept}
 use Rattle.quick_sync.specs.Regions.{HEADS, TAKES, GETS, HANDS, LINKS, UP-TO, JOINS, MEETS, PASSED, PASSED-END}
 use Rattle.quick_sync.specs.Product.{grid, times, times-held}
 use Rattle.quick_sync.specs.Walk.{either}
-use Rattle.quick_sync.specs.Links.{released, gotten, handed, led, metBy, passed}
+use Rattle.quick_sync.specs.Links.{released, gotten, handed, led, ahead, metBy, passed}
 use Rattle.quick_sync.specs.Rows.{sync-unlinked}
 
 -- ---- definitions
@@ -63,7 +63,7 @@ module _ (b : List ℕ) (p : List (List ℕ)) (mode : Mode) (n : ℕ) where
         frame = within-widen UP-TO PASSED-END (omega arith) (omega arith) (within-cleared PASSED PASSED-END (omega arith) e);
       }
 
-  pub passed-made : {w v x y u : List ℕ} → Made UP-TO JOINS UP-TO GRID n (upTo (decode b p mode n)) w v → Made JOINS MEETS JOINS GRID n (joins (decode b p mode n)) v x
+  pub passed-made : {w v x y u : List ℕ} → Made UP-TO JOINS UP-TO GRID n (ahead (decode b p mode n)) w v → Made JOINS MEETS JOINS GRID n (joins (decode b p mode n)) v x
       → Made MEETS (MEETS + ROWS-GRID) MEETS GRID n (times n (grid x JOINS) (grid x UP-TO)) x y
       → Made PASSED (PASSED + ROWS-GRID) PASSED GRID n (times n (grid y UP-TO) (grid y MEETS)) y u → Made UP-TO PASSED-END PASSED GRID n (passed (decode b p mode n)) w u
   unfolding passed metBy decode

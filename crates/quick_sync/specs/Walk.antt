@@ -15,6 +15,9 @@ use Rattle.finite.specs.Logic.{_or_, or-off, or-false, or-left, or-cases}
 use Rattle.finite.specs.Below.{anyBelow, below-cases}
 use Rattle.bits.specs.Bit.{bit, bitOf, bitOf-or, bitOf-zero, setBitIf}
 use Rattle.bits.specs.Fill.{rowFill}
+use Rattle.bits.specs.Matrix.{rel}
+use Rattle.bits.specs.Stage.{Holds}
+use Rattle.area.specs.Regions.{GRID}
 use Rattle.sets.specs.Lowest.{Lowest}
 
 -- ---- definitions
@@ -133,6 +136,12 @@ twice false = refl
 pub once : (w : List ℕ) (a m : ℕ) {b : Bool} → either w a a m ≡ b → bit w (a * 64 + m) ≡ b
 unfolding either
 once w a m e = sym (twice (bit w (a * 64 + m))) ∙ e
+
+-- what the relation that a grid holds says of it
+pub walked : {a n : ℕ} {r : ℕ → ℕ → Bool} {w : List ℕ} {v : Bool} → Holds a GRID n r w → (i j : ℕ) → i < n → j < n → either w (a + i * GRID) (a + i * GRID) j ≡ v
+    → r i j ≡ v
+unfolding rel
+walked {a} {n} {r} {w} h i j p q e = sym (h .cell i j p q) ∙ once w (a + i * GRID) j e
 
 -- "some" of numbers that don't pass
 pub any-pass : (p : ℕ → Bool) (j k : ℕ) → j ≤ k → ((m : ℕ) → j ≤ m → m < k → p m ≡ false) → anyBelow k p ≡ anyBelow j p

@@ -1,4 +1,5 @@
 pub mod Regions
+pub mod Walk
 pub mod Product
 pub mod Links
 pub mod Rows

@@ -10,7 +10,7 @@ use borrow.Author.Tests.{eqb-true, eq-eqb, leb-true}
 use Rattle.finite.specs.Logic.{_and_, _or_, which, bool-ext, not-both, not-so, not-in, split, and-true, or-cases, or-left, or-right}
 use Rattle.finite.specs.Below.{anyBelow, any-in, any-out, any-cong}
 use Rattle.model.specs.declared.Row.{Row}
-use Rattle.model.specs.Row.{atomic, barrier, releases, acquires}
+use Rattle.model.specs.Row.{atomic, barrier, control, sameInstance, reads, releases, acquires}
 use Rattle.model.specs.Table.{Table}
 use Rattle.model.specs.Scope.{together, mutualRows, mutually}
 use Rattle.model.specs.Synchronizes.{takesFrom, leads, trails, upTo, joins, arrives, passes, syncAtomics, carriesOut, syncFromBarrier, carriesIn, syncToBarrier, carriesOver, syncBarriers, syncControl, synchronizes}
@@ -40,7 +40,7 @@ unfoldable pub released : Table → ℕ → ℕ → Bool
 released t a x = releases (t .row a) and heads t a x
 
 unfoldable pub gotten : Table → ℕ → ℕ → Bool
-gotten t y b = atomic (t .row y) and gets t b y
+gotten t y b = atomic (t .row y) and reads (t .row y) and gets t b y
 
 -- the grids that are multiplied
 unfoldable pub handed : Table → ℕ → ℕ → Bool
@@ -49,11 +49,15 @@ handed t = times (t .rows) (takesFrom t) (gotten t)
 unfoldable pub led : Table → ℕ → ℕ → Bool
 led t = times (t .rows) (released t) (handed t)
 
+-- program order from barriers alone: a control barrier is one
+unfoldable pub ahead : Table → ℕ → ℕ → Bool
+ahead t a c = barrier (t .row a) and upTo t a c
+
 unfoldable pub metBy : Table → ℕ → ℕ → Bool
-metBy t = times (t .rows) (joins t) (upTo t)
+metBy t = times (t .rows) (joins t) (ahead t)
 
 unfoldable pub passed : Table → ℕ → ℕ → Bool
-passed t = times (t .rows) (upTo t) (metBy t)
+passed t = times (t .rows) (ahead t) (metBy t)
 
 -- M5 in these terms
 unfoldable pub syncBy : Table → ℕ → ℕ → Bool
@@ -204,11 +208,15 @@ module _ (t : Table) where
   unfolding takesFrom mutually mutualRows
   takes-atomic x y e = let m = split (split (split (split (split e .0) .0) .0) .0) in split (split (split (m .1) .0) .0) .1
 
+  takes-reads : (x y : ℕ) → takesFrom t x y ≡ true → reads (t .row y) ≡ true
+  unfolding takesFrom
+  takes-reads x y e = split (split (split e .0) .0) .1
+
   handed-is : (x b : ℕ) → handed t x b ≡ anyBelow (t .rows) (handsTo t x b)
   unfolding handed times byWay gotten handsTo
   handed-is x b =
       any-cong _ _ (t .rows)
-      (λ y l. bool-ext _ _ (λ e. let s = split e in and-true (s .0) (split (s .1) .1)) (λ e. let s = split e in and-true (s .0) (and-true (takes-atomic x y (s .0)) (s .1))))
+      (λ y l. bool-ext _ _ (λ e. let s = split e in and-true (s .0) (split (s .1) .1)) (λ e. let s = split e in and-true (s .0) (and-true (and-true (takes-atomic x y (s .0)) (takes-reads x y (s .0))) (s .1))))
 
   led-is : (a b : ℕ) → led t a b ≡ (releases (t .row a) and anyBelow (t .rows) (hands t a b))
   unfolding led times byWay released hands
@@ -230,13 +238,35 @@ module _ (t : Table) where
           let r = split (x .2) in
           any-in _ (t .rows) (x .0) (x .1) (and-true (and-true (s .0) (r .0)) (handed-is (x .0) b ∙ r .1))
 
-  met-is : (b c : ℕ) → metBy t c b ≡ anyBelow (t .rows) (arrives t b c)
-  unfolding metBy times byWay arrives
-  met-is b c = any-cong _ _ (t .rows) (λ d l. bool-ext _ _ (λ e. let s = split e in and-true (s .1) (s .0)) (λ e. let s = split e in and-true (s .1) (s .0)))
+  joins-barrier : (c d : ℕ) → joins t c d ≡ true → barrier (t .row d) ≡ true
+  unfolding joins sameInstance control barrier
+  joins-barrier c d e = or-right (eqb (t .row d .kind) 5) (split (split (split (split e .0) .1) .0) .1)
 
-  passed-is : (a b : ℕ) → passed t a b ≡ anyBelow (t .rows) (passes t a b)
-  unfolding passed times byWay passes
-  passed-is a b = any-cong _ _ (t .rows) (λ c l. ap (λ (z : Bool). upTo t a c and z) (met-is b c))
+  met-is : (b c : ℕ) → metBy t c b ≡ anyBelow (t .rows) (arrives t b c)
+  unfolding metBy times byWay ahead arrives
+  met-is b c =
+      any-cong _ _ (t .rows)
+      (λ d l. bool-ext _ _ (λ e. let s = split e in and-true (split (s .1) .1) (s .0)) (λ e. let s = split e in and-true (s .1) (and-true (joins-barrier c d (s .1)) (s .0))))
+
+  passed-is : (a b : ℕ) → passed t a b ≡ (barrier (t .row a) and anyBelow (t .rows) (passes t a b))
+  unfolding passed times byWay ahead passes
+  passed-is a b = bool-ext _ _ forth back
+    where
+      forth : anyBelow (t .rows) (λ c. barrier (t .row a) and upTo t a c and metBy t c b) ≡ true
+          → (barrier (t .row a) and anyBelow (t .rows) (λ c. upTo t a c and anyBelow (t .rows) (arrives t b c))) ≡ true
+      forth e =
+          let c = any-out _ (t .rows) e in
+          let s = split (c .2) in
+          let u = split (s .0) in
+          and-true (u .0) (any-in _ (t .rows) (c .0) (c .1) (and-true (u .1) (sym (met-is b (c .0)) ∙ s .1)))
+
+      back : (barrier (t .row a) and anyBelow (t .rows) (λ c. upTo t a c and anyBelow (t .rows) (arrives t b c))) ≡ true
+          → anyBelow (t .rows) (λ c. barrier (t .row a) and upTo t a c and metBy t c b) ≡ true
+      back e =
+          let s = split e in
+          let c = any-out _ (t .rows) (s .1) in
+          let u = split (c .2) in
+          any-in _ (t .rows) (c .0) (c .1) (and-true (and-true (s .0) (u .0)) (met-is b (c .0) ∙ u .1))
 
   -- a release synchronizes-with what it is linked to, or passes to
   module _ (a b : ℕ) (la : a < t .rows) (lb : b < t .rows) where
@@ -247,6 +277,26 @@ module _ (t : Table) where
         let u = split (s .0) in
         and-true (and-true (and-true q (or-left _ (led-is a b ∙ and-true r (s .1)))) (u .0)) (u .1)
 
+    -- two atomics: the writer is the one and the reader the other, and they are mutually-ordered
+    pub by-atomics : led t a b ≡ true → atomic (t .row a) ≡ true → atomic (t .row b) ≡ true → acquires (t .row b) ≡ true → syncBy t a b ≡ true
+    unfolding syncBy hands handsTo
+    by-atomics e f g q =
+        let x = any-out _ (t .rows) (split (sym (led-is a b) ∙ e) .1) in
+        let h = split (x .2) in
+        let y = any-out _ (t .rows) (h .1) in
+        let k = split (y .2) in
+        let o = subst (λ (i : ℕ). takesFrom t i (y .0) ≡ true) (sym (from (heads-cases a b la lb (x .0) (h .0)))) (k .0) in
+        let m = takes-mutual a b (subst (λ (i : ℕ). takesFrom t a i ≡ true) (sym (to (gets-cases a b la lb (y .0) (k .1)))) o) in
+        and-true (and-true (and-true q (or-left _ e)) (m .0)) (m .1)
+      where
+        from : {x : ℕ} → ((atomic (t .row a) ≡ true) × (a ≡ x)) ⊎ ((barrier (t .row a) ≡ true) × (leads t a x ≡ true)) → a ≡ x
+        from (inl i) = i .1
+        from (inr i) = absurd (apart (t .row a) f (i .0))
+
+        to : {y : ℕ} → ((atomic (t .row b) ≡ true) × (b ≡ y)) ⊎ ((barrier (t .row b) ≡ true) × (trails t b y ≡ true)) → b ≡ y
+        to (inl i) = i .1
+        to (inr i) = absurd (apart (t .row b) g (i .0))
+
     by-control : acquires (t .row b) ≡ true → syncControl t a b ≡ true → syncBy t a b ≡ true
     unfolding syncBy syncControl
     by-control q e =
@@ -254,19 +304,19 @@ module _ (t : Table) where
         let u = split (s .0) in
         let v = split (u .0) in
         let z = split (v .0) in
-        and-true (and-true (and-true q (or-right (led t a b) (and-true (and-true (z .1) (v .1)) (passed-is a b ∙ s .1)))) (z .0)) (u .1)
+        and-true (and-true (and-true q (or-right (led t a b) (and-true (and-true (z .1) (v .1)) (passed-is a b ∙ and-true (z .1) (s .1))))) (z .0)) (u .1)
 
     link : not (eqb a b) ≡ true → together (t .places) (t .row a) (t .row b) ≡ true → led t a b ≡ true → linked t a b ≡ true
     unfolding linked
     link d g h = and-true (and-true d g) (split (sym (led-is a b) ∙ h) .1)
 
-    control : not (eqb a b) ≡ true → together (t .places) (t .row a) (t .row b) ≡ true → (barrier (t .row a) and barrier (t .row b) and passed t a b) ≡ true
+    by-passing : not (eqb a b) ≡ true → together (t .places) (t .row a) (t .row b) ≡ true → (barrier (t .row a) and barrier (t .row b) and passed t a b) ≡ true
         → syncControl t a b ≡ true
     unfolding syncControl
-    control d g h =
+    by-passing d g h =
         let s = split h in
         let u = split (s .0) in
-        and-true (and-true (and-true (and-true d (u .0)) (u .1)) g) (sym (passed-is a b) ∙ s .1)
+        and-true (and-true (and-true (and-true d (u .0)) (u .1)) g) (split (sym (passed-is a b) ∙ s .1) .1)
 
     of-by : releases (t .row a) ≡ true → syncBy t a b ≡ true
         → (acquires (t .row b) ≡ true) × ((syncAtomics t a b or syncFromBarrier t a b or syncToBarrier t a b or syncBarriers t a b or syncControl t a b) ≡ true)
@@ -275,7 +325,7 @@ module _ (t : Table) where
         let s = split e in
         let u = split (s .0) in
         let v = split (u .0) in
-        (v .0, ⊎-elim (λ h. or-left _ (four-is a b la lb ∙ link (u .1) (s .1) h)) (λ h. or-right _ (control (u .1) (s .1) h)) (or-cases (led t a b) _ (v .1)))
+        (v .0, ⊎-elim (λ h. or-left _ (four-is a b la lb ∙ link (u .1) (s .1) h)) (λ h. or-right _ (by-passing (u .1) (s .1) h)) (or-cases (led t a b) _ (v .1)))
 
     -- M5 by products
     pub sync-is : synchronizes t a b ≡ (releases (t .row a) and syncBy t a b)

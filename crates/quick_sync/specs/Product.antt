@@ -17,6 +17,7 @@ use Rattle.bits.specs.Matrix.{rel}
 use Rattle.bits.specs.Stage.{Holds, Made, made-cong}
 use Rattle.area.specs.Regions.{GRID, ROWS-GRID}
 use Rattle.model.specs.Limits.{ROWS}
+use Rattle.quick_sync.specs.Walk.{Next, once, any-pass}
 
 -- ---- definitions
 
@@ -31,10 +32,6 @@ times n r s i k = anyBelow n (byWay r s i k)
 -- the bits of a grid
 abbrev pub grid : List ℕ → ℕ → ℕ → ℕ → Bool
 grid w a = rel w a GRID
-
--- the row at a word has no bit
-unfoldable pub emptyAt : List ℕ → ℕ → Bool
-emptyAt w at = eqb (getD w at 0) 0 and eqb (getD w (at + 1) 0) 0
 
 -- j numbers were gone by: row i of the grid at c has what it had, and their rows of the grid at b where row i of the one at a has
 -- them; no other word changed
@@ -70,19 +67,27 @@ pub row-none : (w : List ℕ) (c a b i : ℕ) → RowTimes w w c a b i 0
 unfolding times anyBelow
 row-none w c a b i = record { cell = λ k l. sym (or-off _ _ refl); frame = within-refl _ _ w }
 
--- a bit that is read on the way
-pub row-get : {w u : List ℕ} {c a b i j : ℕ} (at : ℕ) → RowTimes w u c a b i j → Apart c a → i < ROWS → j < ROWS → at ≡ a + i * GRID → bit u (at * 64 + j) ≡ grid w a i j
-unfolding rel
-row-get {w} {u} {c} {a} {b} {i} {j} at h off p q e = rw e (grid-kept a (h .frame) (omega arith) (omega arith) off i j p (omega arith))
-
--- a number whose row is not taken
-pub row-skip : {w v u : List ℕ} {c a b i j : ℕ} → grid w a i j ≡ false → RowTimes w v c a b i j → u ≡ v → RowTimes w u c a b i (j + 1)
-unfolding times byWay anyBelow
-row-skip {w} {v} {u} {c} {a} {b} {i} {j} e h q =
+-- numbers whose rows are not taken
+pub row-pass : {w u : List ℕ} {c a b i j : ℕ} (k : ℕ) → j ≤ k → ((m : ℕ) → j ≤ m → m < k → grid w a i m ≡ false) → RowTimes w u c a b i j → RowTimes w u c a b i k
+unfolding times byWay
+row-pass {w} {u} {c} {a} {b} {i} {j} k l none h =
     record {
-      cell = λ k l. ap (λ (x : List ℕ). grid x c i k) q ∙ h .cell k l ∙ ap (λ (z : Bool). grid w c i k or z) (rw (add-one j) (sym (or-off _ _ (and-false-left _ (grid w b j k) e))));
-      frame = rw q (h .frame);
+      cell = λ x q. h .cell x q ∙ ap (λ (z : Bool). grid w c i x or z) (sym (any-pass _ j k l (λ m p o. and-false-left _ (grid w b m x) (none m p o))));
+      frame = h .frame;
     }
+
+-- on to the next number whose row is taken
+pub row-next : {w u : List ℕ} {c a b i j n : ℕ} (at k : ℕ) → Apart c a → i < ROWS → n ≤ ROWS → at ≡ a + i * GRID → RowTimes w u c a b i j → Next u at at j n k
+    → RowTimes w u c a b i k × (k < n → grid w a i k ≡ true)
+unfolding rel
+row-next {w} {u} {c} {a} {b} {i} {j} {n} at k off p few e h s =
+    let o = s .high in (
+      row-pass k (s .low) (λ m l q. sym (read m (omega arith)) ∙ once u at m (s .miss m l q)) h,
+      λ l. sym (read k (omega arith)) ∙ once u at k (s .hit l),
+    )
+  where
+    read : (m : ℕ) → m < ROWS → bit u (at * 64 + m) ≡ grid w a i m
+    read m q = rw e (grid-kept a (h .frame) (omega arith) (omega arith) off i m p (omega arith))
 
 -- or from the left: the last comes last
 turn : (x y z : Bool) (g v : Bool) → g ≡ true → v ≡ z → ((x or y) or v) ≡ (x or (y or (g and z)))
@@ -113,32 +118,6 @@ row-join {w} {v} {u} {c} {a} {b} {i} {j} p q room off e h s =
         ∙ ap (λ (z : Bool). z or bit v ((b + j * GRID) * 64 + k)) (h .cell k l)
         ∙ turn (bit w ((c + i * GRID) * 64 + k)) (anyBelow j (λ m. bit w ((a + i * GRID) * 64 + m) and bit w ((b + m * GRID) * 64 + k)))
         (bit w ((b + j * GRID) * 64 + k)) (bit w ((a + i * GRID) * 64 + j)) (bit v ((b + j * GRID) * 64 + k)) e (kept k l))
-
--- a row of no bits, told by its two words
-row-empty : (w : List ℕ) (c a b i n : ℕ) → n ≤ ROWS → getD w (a + i * GRID) 0 ≡ 0 → getD w (a + i * GRID + 1) 0 ≡ 0 → RowTimes w w c a b i n
-unfolding times byWay rel bit
-row-empty w c a b i n few e f =
-    record {
-      cell = λ k l. sym (or-off _ _ (any-not _ n (λ j m. and-false-left _ _ (none j (omega arith)))));
-      frame = within-refl _ _ w;
-    }
-  where
-    none : (j : ℕ) → j < 64 * GRID → bitOf (getD w (((a + i * GRID) * 64 + j) / 64) 0) (((a + i * GRID) * 64 + j) % 64) ≡ false
-    none j l = go (decLt j 64)
-      where
-        go : Dec (j < 64) → bitOf (getD w (((a + i * GRID) * 64 + j) / 64) 0) (((a + i * GRID) * 64 + j) % 64) ≡ false
-        go (yes h) =
-            let q : ((a + i * GRID) * 64 + j) / 64 ≡ a + i * GRID = omega arith in
-            rw (q, e) (bitOf-zero (((a + i * GRID) * 64 + j) % 64))
-        go (no h) =
-            let q : ((a + i * GRID) * 64 + j) / 64 ≡ a + i * GRID + 1 = omega arith in
-            rw (q, f) (bitOf-zero (((a + i * GRID) * 64 + j) % 64))
-
-pub row-none-there : (w : List ℕ) (c a b i n at : ℕ) → n ≤ ROWS → at ≡ a + i * GRID → emptyAt w at ≡ true → RowTimes w w c a b i n
-unfolding emptyAt
-row-none-there w c a b i n at few q e =
-    let s = split e in
-    row-empty w c a b i n few (ap (λ (x : ℕ). getD w x 0) (sym q) ∙ eqb-true (getD w at 0) 0 (s .0)) (ap (λ (x : ℕ). getD w (x + 1) 0) (sym q) ∙ eqb-true (getD w (at + 1) 0) 0 (s .1))
 
 -- ---- laws: all rows
 

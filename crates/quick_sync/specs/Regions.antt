@@ -23,7 +23,7 @@ HANDS = GETS + ROWS-GRID
 abbrev pub LINKS : ℕ
 LINKS = HANDS + ROWS-GRID
 
--- program order between rows, each with itself
+-- program order from barriers to rows, each with itself
 abbrev pub UP-TO : ℕ
 UP-TO = LINKS + ROWS-GRID
 

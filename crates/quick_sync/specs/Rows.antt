@@ -8,21 +8,22 @@ use Prim.Native.Nat.{ℕ, zero, suc, _+_, _*_, _≤_, _<_}
 use native.Mathlib.Omega.{arith}
 use native.Mathlib.Decide.{ℕ-discrete, decLt}
 use lib.Dec.{eqb, ltb, leb}
-use borrow.Author.Tests.{ne-eqb, eq-eqb, eqb-true, not-false}
-use Rattle.finite.specs.Logic.{_and_, _or_, bool-ext, not-both, not-so, not-in, not-out, split, and-true, and-false-left, and-false-right, or-off, or-none, or-false}
+use borrow.Author.Tests.{ne-eqb, eq-eqb, eqb-true, lt-leb, leb-true, le-ltb, not-false}
+use Rattle.finite.specs.Logic.{_and_, _or_, bool-ext, not-both, not-so, not-in, not-out, split, and-true, and-false-left, and-false-right, or-left, or-right, or-off, or-none}
 use Rattle.finite.specs.Below.{anyBelow, any-in, any-out, any-off, any-not}
 use Rattle.bits.specs.Bit.{setBit, setBitIf}
 use Rattle.bits.specs.Fill.{rowFill, within-rowFill}
 use Rattle.bits.specs.Within.{Within}
 use Rattle.model.specs.declared.Mode.{Mode}
 use Rattle.model.specs.declared.Row.{Row}
-use Rattle.model.specs.Row.{CONTROL, atomic, barrier, control, sameInstance, executionOf, releases, acquires, classIn}
-use Rattle.model.specs.Table.{Table, decode, rowOf}
+use Rattle.model.specs.Row.{PLAIN-READ, ATOMIC-READ, ATOMIC-WRITE, RMW, CONTROL, atomic, barrier, control, sameInstance, executionOf, reads, writes, releases, acquires, classIn}
+use Rattle.model.specs.Table.{Table, decode, rowOf, sourceOf, atomicSource}
 use Rattle.model.specs.Scope.{shares, sameLocation, together, mutualRows, mutually, later, laterWriter, follows}
 use Rattle.model.specs.Moment.{sameAgent}
 use Rattle.model.specs.Synchronizes.{continues, ends, sequence, takesFrom, leads, trails, upTo, joins, synchronizes}
+use Rattle.sequence.specs.Forms.{takes-on, takes-none as takes-past}
 use Rattle.quick_sync.specs.Product.{byWay, times}
-use Rattle.quick_sync.specs.Links.{heads, gets, released, gotten, led, metBy, passed, syncBy, sync-is}
+use Rattle.quick_sync.specs.Links.{heads, gets, released, gotten, led, ahead, metBy, passed, syncBy, by-atomics, sync-is}
 
 -- ---- definitions
 
@@ -56,6 +57,12 @@ row-one q w at (suc n) a k l e h = go (ℕ-discrete a n) (λ d. row-one q w at n
         rw (y, ← f, g) refl
     go (no d) ih = rw (h n (omega arith), ne-eqb a n d) (ih (omega arith))
 
+-- one that says yes of a single number, or of none
+pub row-one-if : (q : ℕ → Bool) (w : List ℕ) (at n a k : ℕ) (z : Bool) → a < n → k ≡ at + a → ((m : ℕ) → m < n → q m ≡ (z and eqb a m)) → setBitIf z w k ≡ rowFill q w at n
+unfolding setBitIf _and_
+row-one-if q w at n a k true l e h = row-one q w at n a k l e h
+row-one-if q w at n a k false l e h = row-off q w at n h
+
 -- it stays within the words of its bits
 pub within-row : {w u : List ℕ} (a b : ℕ) (q : ℕ → Bool) (at n : ℕ) → 64 * a ≤ at → at + n ≤ 64 * b → u ≡ rowFill q w at n → Within a b w u
 within-row {w} a b q at n l m e = rw e (within-rowFill a b q w at n l m)
@@ -65,6 +72,14 @@ within-row {w} a b q at n l m e = rw e (within-rowFill a b q w at n l m)
 and-on : (a b : Bool) → a ≡ true → (a and b) ≡ b
 unfolding _and_
 and-on a b e = rw e refl
+
+reads-other : (r : Row) → atomic r ≡ true → (r .kind ≡ ATOMIC-WRITE → ⊥) → reads r ≡ true
+unfolding atomic reads
+reads-other r e h = go (ℕ-discrete (r .kind) ATOMIC-READ)
+  where
+    go : Dec (r .kind ≡ ATOMIC-READ) → (eqb (r .kind) PLAIN-READ or eqb (r .kind) ATOMIC-READ or eqb (r .kind) RMW) ≡ true
+    go (yes q) = or-left _ (or-right _ (eq-eqb (r .kind) ATOMIC-READ q))
+    go (no q) = or-right _ (eq-eqb (r .kind) RMW (omega (arith, h, q, leb-true ATOMIC-READ (r .kind) (split e .0), leb-true (r .kind) RMW (split e .1))))
 
 pub control-yes : (b : List ℕ) (c k : ℕ) → k ≡ rowOf b c .kind → k ≡ CONTROL → controlOf b c ≡ true
 unfolding controlOf control
@@ -151,9 +166,34 @@ module _ (b : List ℕ) (p : List (List ℕ)) (mode : Mode) (n : ℕ) where
 
   -- ---- laws: M5
 
-  pub takes-none : (x : ℕ) (r : Row) (u : Bool) → r ≡ rowOf b x → u ≡ atomic r → not u ≡ true → (y : ℕ) → takesFrom (decode b p mode n) x y ≡ false
-  unfolding takesFrom
-  takes-none x r u er eu h y = and-false-left _ _ (and-false-left _ _ (and-false-left _ _ (and-false-left _ _ (mutual-none x r u er eu h y))))
+  -- one that doesn't write
+  pub takes-none : (x : ℕ) (r : Row) (u : Bool) → r ≡ rowOf b x → u ≡ writes r → not u ≡ true → (y : ℕ) → takesFrom (decode b p mode n) x y ≡ false
+  unfolding takesFrom decode
+  takes-none x r u er eu h y = and-false-left _ _ (and-false-left _ _ (and-false-left _ _ (and-false-right _ _ (rw (← er, ← eu) (not-out u h)))))
+
+  pub takes-write : (x y k : ℕ) → k ≡ rowOf b y .kind → k ≡ ATOMIC-WRITE → false ≡ takesFrom (decode b p mode n) x y
+  unfolding takesFrom reads decode _or_
+  takes-write x y k e h =
+      let q = sym e ∙ h in
+      sym (and-false-left _ _ (and-false-left _ _ (and-false-right _ _ (rw q refl))))
+
+  -- two that are mutually-ordered, a writer and a row that isn't a write alone
+  module _ (x y : ℕ) (m : mutually (decode b p mode n) x y ≡ true) where
+    reader : atomic (rowOf b y) ≡ true
+    unfolding mutually mutualRows decode
+    reader = split (split (split (split m .1) .0) .0) .1
+
+    source : (s : ℕ) → s ≡ sourceOf b y → s ≡ atomicSource b y
+    unfolding atomicSource
+    source s e = rw reader e
+
+    pub takes-far : (s : ℕ) → s ≡ sourceOf b y → n ≤ s → false ≡ takesFrom (decode b p mode n) x y
+    takes-far s e l = takes-past b p mode n x y s (source s e) l
+
+    pub takes-here : (s k : ℕ) (v : Bool) → writes (rowOf b x) ≡ true → k ≡ rowOf b y .kind → (k ≡ ATOMIC-WRITE → ⊥) → s ≡ sourceOf b y → s < n
+        → v ≡ sequence (decode b p mode n) x s → v ≡ takesFrom (decode b p mode n) x y
+    takes-here s k v g ek h es l ev =
+        sym (and-on _ _ (and-true g (reads-other (rowOf b y) reader (λ q. h (ek ∙ q))))) ∙ takes-on b p mode n x y s (rowOf b x) (rowOf b y) v m (source s es) l refl refl ev
 
   -- rows of two agents
   pub heads-apart : (a x : ℕ) (r : Row) → r ≡ rowOf b a → (rowOf b x .agent ≡ r .agent → ⊥) → false ≡ heads (decode b p mode n) a x
@@ -168,6 +208,25 @@ module _ (b : List ℕ) (p : List (List ℕ)) (mode : Mode) (n : ℕ) where
       sym (or-none (and-false-right _ _ (ne-eqb c y (λ e. h (ap (λ (i : ℕ). rowOf b i .agent) e ∙ ap (λ (z : Row). z .agent) (sym eq)))))
       (and-false-right _ _ (and-false-left _ _ (and-false-right _ _ (ne-eqb (rowOf b y .agent) (rowOf b c .agent) (λ e. h (sym e ∙ ap (λ (z : Row). z .agent) (sym eq))))))))
 
+  -- an earlier row
+  pub released-back : (a x : ℕ) → x < a → released (decode b p mode n) a x ≡ false
+  unfolding released heads leads
+  released-back a x l =
+      and-false-right _ _ (or-none (and-false-right _ _ (ne-eqb a x (λ e. absurd (omega arith)))) (and-false-right _ _ (and-false-left _ _ (and-false-left _ _ (le-ltb a x (omega arith))))))
+
+  pub gotten-back : (y c : ℕ) → c < y → gotten (decode b p mode n) y c ≡ false
+  unfolding gotten gets trails
+  gotten-back y c l =
+      and-false-right _ _ (or-none (and-false-right _ _ (ne-eqb c y (λ e. absurd (omega arith)))) (and-false-right _ _ (and-false-left _ _ (and-false-left _ _ (le-ltb y c (omega arith))))))
+
+  -- a release that is no barrier heads itself, if anything
+  pub released-own : (a : ℕ) (r : Row) (u v z : Bool) → r ≡ rowOf b a → u ≡ releases r → not u ≡ false → v ≡ barrier r → not v ≡ true → z ≡ atomic r
+      → (x : ℕ) → released (decode b p mode n) a x ≡ (z and eqb a x)
+  unfolding released heads decode
+  released-own a r u v z er eu h ev g ez x =
+      and-on _ _ (sym (ap releases er) ∙ sym eu ∙ not-false u h) ∙ or-off _ _ (and-false-left _ _ (sym (ap barrier er) ∙ sym ev ∙ not-out v g))
+      ∙ ap (λ (k : Bool). k and eqb a x) (sym (ez ∙ ap atomic er))
+
   pub released-none : (a : ℕ) (r : Row) (u : Bool) → r ≡ rowOf b a → u ≡ releases r → not u ≡ true → (x : ℕ) → released (decode b p mode n) a x ≡ false
   unfolding released decode
   released-none a r u er eu h x = and-false-left _ _ (rw (← er, ← eu) (not-out u h))
@@ -176,15 +235,33 @@ module _ (b : List ℕ) (p : List (List ℕ)) (mode : Mode) (n : ℕ) where
   unfolding released decode
   released-on a x r u v er eu h ev = ev ∙ sym (and-on _ _ (sym (ap releases er) ∙ sym eu ∙ not-false u h))
 
-  pub gotten-none : (y : ℕ) (r : Row) (u : Bool) → r ≡ rowOf b y → u ≡ atomic r → not u ≡ true → (c : ℕ) → gotten (decode b p mode n) y c ≡ false
+  pub gotten-none : (y : ℕ) (r : Row) (u v : Bool) → r ≡ rowOf b y → u ≡ atomic r → v ≡ reads r → not (u and v) ≡ true → (c : ℕ) → gotten (decode b p mode n) y c ≡ false
   unfolding gotten decode
-  gotten-none y r u er eu h c = and-false-left _ _ (rw (← er, ← eu) (not-out u h))
+  gotten-none y r u v er eu ev h c = and-false-left _ _ (rw (← er, ← eu, ← ev) (not-out (u and v) h))
 
-  pub gotten-on : (y c : ℕ) (r : Row) (u v : Bool) → r ≡ rowOf b y → u ≡ atomic r → not u ≡ false → v ≡ gets (decode b p mode n) c y → v ≡ gotten (decode b p mode n) y c
+  pub gotten-on : (y c : ℕ) (r : Row) (u v d : Bool) → r ≡ rowOf b y → u ≡ atomic r → v ≡ reads r → not (u and v) ≡ false → d ≡ gets (decode b p mode n) c y
+      → d ≡ gotten (decode b p mode n) y c
   unfolding gotten decode
-  gotten-on y c r u v er eu h ev = ev ∙ sym (and-on _ _ (sym (ap atomic er) ∙ sym eu ∙ not-false u h))
+  gotten-on y c r u v d er eu ev h ed = ed ∙ sym (and-on _ _ (rw (← er, ← eu, ← ev) (not-false (u and v) h)))
 
   -- ---- laws: control barriers
+
+  pub ahead-none : (a : ℕ) (r : Row) (u : Bool) → r ≡ rowOf b a → u ≡ barrier r → not u ≡ true → (c : ℕ) → ahead (decode b p mode n) a c ≡ false
+  unfolding ahead decode
+  ahead-none a r u er eu h c = and-false-left _ _ (rw (← er, ← eu) (not-out u h))
+
+  pub ahead-on : (a c : ℕ) (r : Row) (u v : Bool) → r ≡ rowOf b a → u ≡ barrier r → not u ≡ false → v ≡ upTo (decode b p mode n) a c → v ≡ ahead (decode b p mode n) a c
+  unfolding ahead decode
+  ahead-on a c r u v er eu h ev = ev ∙ sym (and-on _ _ (sym (ap barrier er) ∙ sym eu ∙ not-false u h))
+
+  -- an earlier row
+  pub ahead-back : (a c : ℕ) → c < a → ahead (decode b p mode n) a c ≡ false
+  unfolding ahead upTo
+  ahead-back a c l = and-false-right _ _ (and-false-left _ _ (lt-leb a c l))
+
+  pub joins-kind : (c d k : ℕ) → k ≡ rowOf b d .kind → (k ≡ CONTROL → ⊥) → false ≡ joins (decode b p mode n) c d
+  unfolding joins sameInstance control decode
+  joins-kind c d k e h = sym (and-false-left _ _ (and-false-right _ _ (and-false-left _ _ (and-false-right _ _ (ne-eqb (rowOf b d .kind) CONTROL (λ q. h (e ∙ q)))))))
 
   pub joins-off : (c d : ℕ) (r q : Row) (u : Bool) → r ≡ rowOf b c → q ≡ rowOf b d → u ≡ sameInstance r q → not u ≡ true → false ≡ joins (decode b p mode n) c d
   unfolding joins decode
@@ -205,19 +282,25 @@ module _ (b : List ℕ) (p : List (List ℕ)) (mode : Mode) (n : ℕ) where
 
   -- ---- laws: M5, from the bits
 
+  pub sync-relaxed : (a c : ℕ) (q : Row) (u : Bool) → q ≡ rowOf b c → u ≡ acquires q → not u ≡ true → false ≡ syncBy (decode b p mode n) a c
+  unfolding syncBy decode
+  sync-relaxed a c q u eq eu h = sym (and-false-left _ _ (and-false-left _ _ (and-false-left _ _ (rw (← eq, ← eu) (not-out u h)))))
+
+  pub sync-atomics : (a c : ℕ) (r q : Row) (u v x y : Bool) → a < n → c < n → r ≡ rowOf b a → q ≡ rowOf b c → u ≡ acquires q → not u ≡ false
+      → v ≡ led (decode b p mode n) a c → x ≡ atomic r → y ≡ atomic q → (v and x and y) ≡ true → true ≡ syncBy (decode b p mode n) a c
+  unfolding decode
+  sync-atomics a c r q u v x y la lc er eq eu h ev ex ey e =
+      let s = split e in
+      let o = split (s .0) in
+      sym (by-atomics (decode b p mode n) a c la lc (sym ev ∙ o .0) (sym (ap atomic er) ∙ sym ex ∙ o .1) (sym (ap atomic eq) ∙ sym ey ∙ s .1) (sym (ap acquires eq) ∙ sym eu ∙ not-false u h))
+
+  -- what is neither linked nor passed to
+  pub sync-unlinked : (a c : ℕ) → a < n → c < n → led (decode b p mode n) a c ≡ false → passed (decode b p mode n) a c ≡ false → synchronizes (decode b p mode n) a c ≡ false
+  unfolding syncBy decode
+  sync-unlinked a c la lc e f =
+      sync-is (decode b p mode n) a c la lc ∙ and-false-right _ _ (and-false-left _ _ (and-false-left _ _ (and-false-right _ _ (or-none e (and-false-right _ _ f)))))
+
   module _ (a c : ℕ) (r : Row) (v w : Bool) (er : r ≡ rowOf b a) (ev : v ≡ led (decode b p mode n) a c) (ew : w ≡ passed (decode b p mode n) a c) where
-    pub sync-unlinked : not (v or w) ≡ true → false ≡ syncBy (decode b p mode n) a c
-    unfolding syncBy decode
-    sync-unlinked h =
-        sym (and-false-left _ _ (and-false-left _ _ (and-false-right _ _ (or-none (sym ev ∙ none .0) (and-false-right _ _ (sym ew ∙ none .1))))))
-      where
-        none : (v ≡ false) × (w ≡ false)
-        none = or-false v w (not-out (v or w) h)
-
-    pub sync-relaxed : (q : Row) (u : Bool) → q ≡ rowOf b c → u ≡ acquires q → not u ≡ true → false ≡ syncBy (decode b p mode n) a c
-    unfolding syncBy decode
-    sync-relaxed q u eq eu h = sym (and-false-left _ _ (and-false-left _ _ (and-false-left _ _ (rw (← eq, ← eu) (not-out u h)))))
-
     pub sync-linked : (q : Row) (u x y z : Bool) → q ≡ rowOf b c → u ≡ acquires q → not u ≡ false → x ≡ barrier r → y ≡ barrier q → z ≡ together p r q
         → ((v or (x and y and w)) and not (eqb a c) and z) ≡ syncBy (decode b p mode n) a c
     unfolding syncBy decode

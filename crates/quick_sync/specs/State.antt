@@ -1,11 +1,12 @@
 -- What the work area holds between the stages of this crate, and after them. Assumes nothing.
-use mathlib.Core.Path.{_≡_}
+use mathlib.Core.Path.{_≡_, sym, _∙_}
 use mathlib.Core.Bool.{Bool, false}
 use mathlib.Core.List.{List}
 use Prim.Native.Nat.{ℕ, _+_, _-_, _*_, _≤_, _<_}
 use native.Mathlib.Omega.{arith}
 use lib.ListN.{length}
-use Rattle.bits.specs.Bit.{zeros, bit-zeros-in}
+use Rattle.finite.specs.Logic.{or-false}
+use Rattle.bits.specs.Bit.{bit, zeros, bit-zeros-in}
 use Rattle.bits.specs.Within.{Within, within-trans, within-widen, within-cleared}
 use Rattle.bits.specs.Matrix.{rel}
 use Rattle.bits.specs.Stage.{Holds, Made, holds-kept}
@@ -13,12 +14,14 @@ use Rattle.model.specs.declared.Mode.{Mode}
 use Rattle.model.specs.Limits.{ROWS, WORK}
 use Rattle.model.specs.Table.{Table, decode}
 use Rattle.model.specs.Scope.{mutually}
-use Rattle.model.specs.Synchronizes.{takesFrom, upTo, joins, sequence, synchronizes}
+use Rattle.model.specs.Synchronizes.{takesFrom, joins, sequence, synchronizes}
 use Rattle.area.specs.Regions.{MUTUAL, MUTUAL-END, SEQUENCE, SEQUENCE-END, SYNC, SYNC-END, HAPPENS, HAPPENS-END, GRID, ROWS-GRID}
 use Rattle.sequence.specs.Known.{Known, Synced, known-made, known-kept}
 use Rattle.quick_sync.specs.Regions.{HEADS, TAKES, GETS, HANDS, LINKS, UP-TO, JOINS, MEETS, PASSED, PASSED-END}
 use Rattle.quick_sync.specs.Product.{grid, times, times-held}
-use Rattle.quick_sync.specs.Links.{released, gotten, handed, led, metBy, passed}
+use Rattle.quick_sync.specs.Walk.{either}
+use Rattle.quick_sync.specs.Links.{released, gotten, handed, led, ahead, metBy, passed}
+use Rattle.quick_sync.specs.Rows.{sync-unlinked}
 
 -- ---- definitions
 
@@ -37,6 +40,14 @@ pub record MadeLinked (t : Table) (n : ℕ) (w u : List ℕ) : Type 0 where
 pub linked-kept : {t : Table} {n c d : ℕ} {w u : List ℕ} → d ≤ HAPPENS → Within c d w u → Linked t n w → Linked t n u
 linked-kept l f k = record { links = holds-kept (λ h. omega arith) f (k .links); passing = holds-kept (λ h. omega arith) f (k .passing) }
 
+-- a row that a walk over the two grids passes by
+pub sync-passed : (b : List ℕ) (p : List (List ℕ)) (mode : Mode) (n : ℕ) {w : List ℕ} (a c : ℕ) → a < n → c < n → Linked (decode b p mode n) n w
+    → either w (LINKS + a * GRID) (PASSED + a * GRID) c ≡ false → synchronizes (decode b p mode n) a c ≡ false
+unfolding either rel
+sync-passed b p mode n {w} a c la lc k e =
+    let s = or-false (bit w ((LINKS + a * GRID) * 64 + c)) (bit w ((PASSED + a * GRID) * 64 + c)) e in
+    sync-unlinked b p mode n a c la lc (sym (k .links .cell a c la lc) ∙ s .0) (sym (k .passing .cell a c la lc) ∙ s .1)
+
 -- the stages in order
 module _ (b : List ℕ) (p : List (List ℕ)) (mode : Mode) (n : ℕ) where
   -- without control barriers: the grid is empty
@@ -52,7 +63,7 @@ module _ (b : List ℕ) (p : List (List ℕ)) (mode : Mode) (n : ℕ) where
         frame = within-widen UP-TO PASSED-END (omega arith) (omega arith) (within-cleared PASSED PASSED-END (omega arith) e);
       }
 
-  pub passed-made : {w v x y u : List ℕ} → Made UP-TO JOINS UP-TO GRID n (upTo (decode b p mode n)) w v → Made JOINS MEETS JOINS GRID n (joins (decode b p mode n)) v x
+  pub passed-made : {w v x y u : List ℕ} → Made UP-TO JOINS UP-TO GRID n (ahead (decode b p mode n)) w v → Made JOINS MEETS JOINS GRID n (joins (decode b p mode n)) v x
       → Made MEETS (MEETS + ROWS-GRID) MEETS GRID n (times n (grid x JOINS) (grid x UP-TO)) x y
       → Made PASSED (PASSED + ROWS-GRID) PASSED GRID n (times n (grid y UP-TO) (grid y MEETS)) y u → Made UP-TO PASSED-END PASSED GRID n (passed (decode b p mode n)) w u
   unfolding passed metBy decode

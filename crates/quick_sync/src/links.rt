@@ -1,18 +1,22 @@
 // M5 but for control barriers: which writers carry what a release has behind it, who reads from their sequences, which acquires get
 // what was read; and these one after the other.
 ghost use mathlib.Core.Path.{_≡_};
+ghost use mathlib.Core.Bool.{true};
 ghost use Prim.Native.Nat.{_+_, _*_, _≤_, _<_};
 ghost use lib.ListN.{length};
 ghost use Rattle.bits.specs.Fill.{rowFill};
 ghost use Rattle.bits.specs.Stage.{Made};
 ghost use Rattle.model.specs.Limits.{ROWS, WORK};
+ghost use Rattle.model.specs.Row.{writes};
 ghost use Rattle.model.specs.Table.{rowOf, decode};
+ghost use Rattle.model.specs.Scope.{mutually};
 ghost use Rattle.model.specs.Synchronizes.{takesFrom};
 ghost use Rattle.area.specs.Regions.{GRID};
 ghost use Rattle.sequence.specs.Known.{Known};
 ghost use Rattle.quick_sync.specs.Regions.{HEADS, TAKES, GETS, HANDS};
 ghost use Rattle.quick_sync.specs.Links.{heads, gets, released, gotten};
 use crate::product::ROWS_GRID;
+use crate::walk;
 use model::Mode;
 use model::Places;
 use model::Row;
@@ -45,6 +49,7 @@ fn heads_of(rows: &[u8], p: Places, mode: Mode, n: usize, a: usize, r: Row, x: u
         | kinds::is_barrier(r) & ((a < x) & (r.agent == q.agent) & kinds::class_in(q, r.classes))
 }
 
+// M5 for the release a and every row. An atomic heads itself alone, a barrier nothing that comes before it.
 fn heads_row(rows: &[u8], p: Places, mode: Mode, n: usize, a: usize, w: &mut [u64])
     requires { ⌜ (n ≤ ROWS) × (a < n) × (WORK ≤ length (now w)) ⌝ }
     ensures { λ _. ⌜ now (w .exit) ≡ rowFill (released (decode (now (rows .entry)) p mode n) a) (now (w .entry)) (HEADS * 64 + a * (GRID * 64)) n ⌝ }
@@ -53,7 +58,12 @@ fn heads_row(rows: &[u8], p: Places, mode: Mode, n: usize, a: usize, w: &mut [u6
     if !kinds::releases(r) {
         return;
     }
-    for x in 0..n {
+    if !kinds::is_barrier(r) {
+        let own = kinds::is_atomic(r);
+        bits::put_if(w, (HEADS + a * area::GRID) * 64 + a, own);
+        return;
+    }
+    for x in a..n {
         let b = heads_of(rows, p, mode, n, a, r, x);
         bits::put_if(w, (HEADS + a * area::GRID) * 64 + x, b);
     }
@@ -71,17 +81,38 @@ pub fn fill_heads(rows: &[u8], p: Places, mode: Mode, n: usize, w: &mut [u64])
 
 // ---- from a writer to its readers
 
+// M5: whether row y, which is mutually-ordered with the writer x and so an atomic, reads from the sequence that x heads.
+fn takes_of(rows: &[u8], p: Places, mode: Mode, n: usize, x: usize, y: usize, w: &[u64]) -> bool
+    requires { ⌜ (n ≤ ROWS) × (x < n) × (y < n) × (WORK ≤ length (now w)) × (writes (rowOf (now rows) x) ≡ true)
+        × (mutually (decode (now rows) p mode n) x y ≡ true) × Known (decode (now rows) p mode n) n (now w) ⌝ }
+    ensures { λ d. ⌜ d ≡ takesFrom (decode (now (rows .entry)) p mode n) x y ⌝ }
+{
+    if bytes::read_kind(rows, y as u16) == kinds::ATOMIC_WRITE {
+        return false;
+    }
+    let s = bytes::read_source(rows, y as u16);
+    let k = s.0 as usize;
+    if n <= k {
+        return false;
+    }
+    bits::get(w, (area::SEQUENCE + x * area::GRID) * 64 + k)
+}
+
+// M5 for the writer x and every row: only what is mutually-ordered with it may read from its sequence.
 fn takes_row(rows: &[u8], p: Places, mode: Mode, n: usize, x: usize, w: &mut [u64])
     requires { ⌜ (n ≤ ROWS) × (x < n) × (WORK ≤ length (now w)) × Known (decode (now rows) p mode n) n (now w) ⌝ }
     ensures { λ _. ⌜ now (w .exit) ≡ rowFill (takesFrom (decode (now (rows .entry)) p mode n) x) (now (w .entry)) (TAKES * 64 + x * (GRID * 64)) n ⌝ }
 {
     let r = bytes::read_row(rows, x as u16);
-    if !kinds::is_atomic(r) {
+    if !kinds::writes(r) {
         return;
     }
-    for y in 0..n {
-        let b = sequence::carriers::takes_from_at(rows, p, mode, n, x, y, w);
+    let at = area::MUTUAL + x * area::GRID;
+    let mut y = walk::next(w, at, at, 0, n);
+    while y < n {
+        let b = takes_of(rows, p, mode, n, x, y, w);
         bits::put_if(w, (TAKES + x * area::GRID) * 64 + y, b);
+        y = walk::next(w, at, at, y + 1, n);
     }
 }
 
@@ -110,15 +141,16 @@ fn gets_of(rows: &[u8], p: Places, mode: Mode, n: usize, y: usize, q: Row, b: us
         | kinds::is_barrier(r) & ((y < b) & (q.agent == r.agent) & kinds::class_in(q, r.classes))
 }
 
+// M5 for the atomic reader y and every row: none gets anything that comes before it.
 fn gets_row(rows: &[u8], p: Places, mode: Mode, n: usize, y: usize, w: &mut [u64])
     requires { ⌜ (n ≤ ROWS) × (y < n) × (WORK ≤ length (now w)) ⌝ }
     ensures { λ _. ⌜ now (w .exit) ≡ rowFill (gotten (decode (now (rows .entry)) p mode n) y) (now (w .entry)) (GETS * 64 + y * (GRID * 64)) n ⌝ }
 {
     let q = bytes::read_row(rows, y as u16);
-    if !kinds::is_atomic(q) {
+    if !(kinds::is_atomic(q) & kinds::reads(q)) {
         return;
     }
-    for b in 0..n {
+    for b in y..n {
         let d = gets_of(rows, p, mode, n, y, q, b);
         bits::put_if(w, (GETS + y * area::GRID) * 64 + b, d);
     }

@@ -10,7 +10,7 @@ ghost use Rattle.model.specs.Table.{rowOf, decode};
 ghost use Rattle.model.specs.Synchronizes.{upTo, joins};
 ghost use Rattle.area.specs.Regions.{GRID};
 ghost use Rattle.quick_sync.specs.Regions.{UP-TO, JOINS, MEETS, PASSED, PASSED-END};
-ghost use Rattle.quick_sync.specs.Links.{passed};
+ghost use Rattle.quick_sync.specs.Links.{ahead, passed};
 ghost use Rattle.quick_sync.specs.Rows.{controlOf};
 use crate::links::LINKS;
 use crate::product;
@@ -32,30 +32,34 @@ pub const PASSED: usize = MEETS + ROWS_GRID;
 
 pub const PASSED_END: usize = PASSED + ROWS_GRID;
 
-// ---- program order between rows, each with itself
+// ---- program order from barriers to rows, each with itself
 
-fn up_to_of(rows: &[u8], p: Places, mode: Mode, n: usize, a: usize, c: usize) -> bool
-    requires { ⌜ (a < ROWS) × (c < ROWS) ⌝ }
+// Whether row a, which is r, comes before row c, or is c.
+fn up_to_of(rows: &[u8], p: Places, mode: Mode, n: usize, a: usize, r: Row, c: usize) -> bool
+    requires { ⌜ (c < ROWS) × (r ≡ rowOf (now rows) a) ⌝ }
     ensures { λ b. ⌜ b ≡ upTo (decode (now (rows .entry)) p mode n) a c ⌝ }
 {
-    let r = bytes::read_agent(rows, a as u16);
     let q = bytes::read_agent(rows, c as u16);
-    (a <= c) & (r == q)
+    (a <= c) & (r.agent == q)
 }
 
 fn up_to_row(rows: &[u8], p: Places, mode: Mode, n: usize, a: usize, w: &mut [u64])
     requires { ⌜ (n ≤ ROWS) × (a < n) × (WORK ≤ length (now w)) ⌝ }
-    ensures { λ _. ⌜ now (w .exit) ≡ rowFill (upTo (decode (now (rows .entry)) p mode n) a) (now (w .entry)) (UP-TO * 64 + a * (GRID * 64)) n ⌝ }
+    ensures { λ _. ⌜ now (w .exit) ≡ rowFill (ahead (decode (now (rows .entry)) p mode n) a) (now (w .entry)) (UP-TO * 64 + a * (GRID * 64)) n ⌝ }
 {
-    for c in 0..n {
-        let b = up_to_of(rows, p, mode, n, a, c);
+    let r = bytes::read_row(rows, a as u16);
+    if !kinds::is_barrier(r) {
+        return;
+    }
+    for c in a..n {
+        let b = up_to_of(rows, p, mode, n, a, r, c);
         bits::put_if(w, (UP_TO + a * area::GRID) * 64 + c, b);
     }
 }
 
 fn fill_up_to(rows: &[u8], p: Places, mode: Mode, n: usize, w: &mut [u64])
     requires { ⌜ (n ≤ ROWS) × (WORK ≤ length (now w)) ⌝ }
-    ensures { λ _. ⌜ Made UP-TO JOINS UP-TO GRID n (upTo (decode (now (rows .entry)) p mode n)) (now (w .entry)) (now (w .exit)) ⌝ }
+    ensures { λ _. ⌜ Made UP-TO JOINS UP-TO GRID n (ahead (decode (now (rows .entry)) p mode n)) (now (w .entry)) (now (w .exit)) ⌝ }
 {
     bits::clear(w, UP_TO, JOINS);
     for a in 0..n {
@@ -65,11 +69,15 @@ fn fill_up_to(rows: &[u8], p: Places, mode: Mode, n: usize, w: &mut [u64])
 
 // ---- control barriers that join
 
-// M5: whether row c, which is r, and row d join. Most rows are of no instance, and no place is asked of them.
+// M5: whether row c, which is r, and row d join. Most rows are no control barrier, or of another instance, and no place is asked
+// of them.
 fn joins_of(rows: &[u8], p: Places, mode: Mode, n: usize, c: usize, r: Row, d: usize) -> bool
     requires { ⌜ (d < ROWS) × (r ≡ rowOf (now rows) c) ⌝ }
     ensures { λ b. ⌜ b ≡ joins (decode (now (rows .entry)) p mode n) c d ⌝ }
 {
+    if bytes::read_kind(rows, d as u16) != kinds::CONTROL {
+        return false;
+    }
     let q = bytes::read_row(rows, d as u16);
     if !kinds::same_instance(r, q) {
         return false;

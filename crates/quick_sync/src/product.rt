@@ -5,33 +5,23 @@ ghost use lib.ListN.{length};
 ghost use Rattle.bits.specs.Stage.{Made};
 ghost use Rattle.model.specs.Limits.{ROWS, WORK};
 ghost use Rattle.area.specs.Regions.{GRID, ROWS-GRID};
-ghost use Rattle.quick_sync.specs.Product.{grid, times, emptyAt, Apart, RowTimes};
+ghost use Rattle.quick_sync.specs.Product.{grid, times, Apart, RowTimes};
+use crate::walk;
 
 // The words of a grid.
 pub const ROWS_GRID: usize = model::ROWS * area::GRID;
 
-// Whether the row at a word has no bit.
-fn is_empty(w: &[u64], at: usize) -> bool
-    requires { ⌜ at + GRID ≤ length (now w) ⌝ }
-    ensures { λ b. ⌜ b ≡ emptyAt (now (w .entry)) at ⌝ }
-{
-    (w[at] == 0) & (w[at + 1] == 0)
-}
-
-// Joins to row i of the grid at c the rows of the grid at b that row i of the grid at a has. Most rows have none.
+// Joins to row i of the grid at c the rows of the grid at b that row i of the grid at a has. Most rows have few.
 fn multiply_row(w: &mut [u64], c: usize, a: usize, b: usize, n: usize, i: usize)
     requires { ⌜ (n ≤ ROWS) × (i < n) × (WORK ≤ length (now w)) × (c + ROWS-GRID ≤ WORK) × (a + ROWS-GRID ≤ WORK) × (b + ROWS-GRID ≤ WORK)
         × Apart c a × Apart c b ⌝ }
     ensures { λ _. ⌜ RowTimes (now (w .entry)) (now (w .exit)) c a b i n ⌝ }
 {
     let at = a + i * area::GRID;
-    if is_empty(w, at) {
-        return;
-    }
-    for j in 0..n {
-        if bits::get(w, at * 64 + j) {
-            bits::join_row(w, c + i * area::GRID, b + j * area::GRID, area::GRID);
-        }
+    let mut j = walk::next(w, at, at, 0, n);
+    while j < n {
+        bits::join_row(w, c + i * area::GRID, b + j * area::GRID, area::GRID);
+        j = walk::next(w, at, at, j + 1, n);
     }
 }
 

@@ -16,6 +16,7 @@ use crate::links;
 use crate::meets;
 use crate::mutual;
 use crate::product;
+use crate::walk;
 use model::Mode;
 use model::Places;
 use model::Row;
@@ -23,7 +24,8 @@ use rows::bytes;
 use rows::kinds;
 use rows::scopes;
 
-// M5: whether the release a, which is r, synchronizes-with row b. Few rows are linked, and no place is asked of the others.
+// M5: whether the release a, which is r, synchronizes-with row b. Of two atomics that are linked no place is asked: they are
+// mutually-ordered.
 fn sync_of(
     rows: &[u8],
     p: Places,
@@ -37,20 +39,21 @@ fn sync_of(
     requires { ⌜ (n ≤ ROWS) × (a < n) × (b < n) × (WORK ≤ length (now w)) × (r ≡ rowOf (now rows) a) × Linked (decode (now rows) p mode n) n (now w) ⌝ }
     ensures { λ d. ⌜ d ≡ syncBy (decode (now (rows .entry)) p mode n) a b ⌝ }
 {
-    let led = bits::get(w, (links::LINKS + a * area::GRID) * 64 + b);
-    let passed = bits::get(w, (meets::PASSED + a * area::GRID) * 64 + b);
-    if !(led | passed) {
-        return false;
-    }
     let q = bytes::read_row(rows, b as u16);
     if !kinds::acquires(q) {
         return false;
     }
+    let led = bits::get(w, (links::LINKS + a * area::GRID) * 64 + b);
+    if led & kinds::is_atomic(r) & kinds::is_atomic(q) {
+        return true;
+    }
+    let passed = bits::get(w, (meets::PASSED + a * area::GRID) * 64 + b);
     (led | kinds::is_barrier(r) & kinds::is_barrier(q) & passed)
         & !(a == b)
         & scopes::together(p, r, q)
 }
 
+// M5 for the release a and every row. Few rows are linked, or passed to.
 fn sync_row(rows: &[u8], p: Places, mode: Mode, n: usize, a: usize, w: &mut [u64])
     requires { ⌜ (n ≤ ROWS) × (a < n) × (WORK ≤ length (now w)) × Linked (decode (now rows) p mode n) n (now w) ⌝ }
     ensures { λ _. ⌜ now (w .exit) ≡ rowFill (synchronizes (decode (now (rows .entry)) p mode n) a) (now (w .entry)) (SYNC * 64 + a * (GRID * 64)) n ⌝ }
@@ -59,9 +62,13 @@ fn sync_row(rows: &[u8], p: Places, mode: Mode, n: usize, a: usize, w: &mut [u64
     if !kinds::releases(r) {
         return;
     }
-    for b in 0..n {
+    let links = links::LINKS + a * area::GRID;
+    let passed = meets::PASSED + a * area::GRID;
+    let mut b = walk::next(w, links, passed, 0, n);
+    while b < n {
         let d = sync_of(rows, p, mode, n, a, r, b, w);
         bits::put_if(w, (area::SYNC + a * area::GRID) * 64 + b, d);
+        b = walk::next(w, links, passed, b + 1, n);
     }
 }
 

@@ -1,14 +1,14 @@
-use mathlib.Core.Path.{_≡_, refl, sym, ap, _∙_}
+use mathlib.Core.Path.{_≡_, refl, ap, _∙_}
 use Prim.Native.Nat.{_+_, _-_, _*_, _≤_, _<_}
 use native.Mathlib.Omega.{arith}
 use lib.ListN.{length}
-use Rattle.bits.specs.Fill.{rowFill, rowFill-none, rowFill-put, length-rowFill}
-use Rattle.bits.specs.Within.{within-put}
+use Rattle.finite.specs.Logic.{_and_}
+use Rattle.bits.specs.Fill.{rowFill, rowFill-put, length-rowFill}
 use Rattle.model.specs.Table.{rowOf, decode}
-use Rattle.quick_sync.specs.Links.{gotten}
 use Rattle.area.specs.Regions.{GRID}
 use Rattle.quick_sync.specs.Regions.{GETS}
-use Rattle.quick_sync.specs.Rows.{row-off, gotten-none, gotten-on}
+use Rattle.quick_sync.specs.Links.{gotten}
+use Rattle.quick_sync.specs.Rows.{row-off, gotten-none, gotten-on, gotten-back}
 use borrow.Author.Needs.{needs}
 use Rattle.quick_sync.proofs.links.gets_row.Statement.{statement}
 use Rattle.quick_sync.proofs.links.gets_row.Tie as tie
@@ -18,6 +18,7 @@ use Rattle.bits.proofs.put_if.Reads as put-if-reads
 use Rattle.quick_sync.proofs.links.gets_of.Reads as gets-of-reads
 use Rattle.rows.proofs.bytes.read_row.Reads as read-row-reads
 use Rattle.rows.proofs.kinds.is_atomic.Reads as is-atomic-reads
+use Rattle.rows.proofs.kinds.reads.Reads as reads-reads
 
 abbrev Inv-loop : tie.InvT-loop
 Inv-loop rows p mode n y w₀ q b₀ w b = (b ≤ n) × (length w ≡ length w₀) × (q ≡ rowOf rows y) × (w ≡ rowFill (gotten (decode rows p mode n) y) w₀ (GETS * 64 + y * (GRID * 64)) b)
@@ -25,74 +26,80 @@ Inv-loop rows p mode n y w₀ q b₀ w b = (b ≤ n) × (length w ≡ length w�
 abbrev μ-loop : tie.MeasureT-loop
 μ-loop rows p mode n y w₀ q b₀ w b = n - b
 
--- src/links.rt:117:35
+-- src/links.rt:149:35
 cast-read-row : tie.Need-cast-read-row Inv-loop μ-loop
 cast-read-row c = search needs
 
--- src/links.rt:117:9
+-- src/links.rt:149:9
 read-row-requires : tie.Need-read-row-requires Inv-loop μ-loop
 read-row-requires c κs = search needs
 
--- src/links.rt:118:9
+-- src/links.rt:150:10
 is-atomic-requires : tie.Need-is-atomic-requires Inv-loop μ-loop
 is-atomic-requires c κs = search needs
 
--- src/links.rt:119:9
+-- src/links.rt:150:32
+reads-requires : tie.Need-reads-requires Inv-loop μ-loop
+reads-requires c κs = search needs
+
+-- src/links.rt:151:9
 returns : tie.Need-returns Inv-loop μ-loop
-returns c = row-off _ _ _ _ (λ m l. gotten-none _ _ _ _ _ _ _ (c .before .before .read-row .ensures) (c .before .is-atomic .ensures) (c .if1 .taken) m)
+unfolding _and_
+returns c = row-off _ _ _ _ (λ m l. gotten-none _ _ _ _ _ _ _ _ (c .before .before .before .read-row .ensures) (c .before .before .is-atomic .ensures) (c .before .reads .ensures) (c .if1 .taken) m)
 
--- src/links.rt:121:5
+-- src/links.rt:153:5
 loop-holds : tie.Need-loop-holds Inv-loop μ-loop
-loop-holds c = (search needs, refl, c .before .before .read-row .ensures, rowFill-none _ _ _)
+loop-holds c = (search needs, refl, c .before .before .before .read-row .ensures, row-off _ _ _ _ (λ m l. gotten-back _ _ _ _ _ _ l))
 
--- src/links.rt:122:13
+-- src/links.rt:154:13
 gets-of-requires : tie.Need-gets-of-requires Inv-loop μ-loop
 gets-of-requires c κs = search needs
 
--- src/links.rt:123:33
+-- src/links.rt:155:33
 mul-put-if : tie.Need-mul-put-if Inv-loop μ-loop
 mul-put-if c = search needs
 
--- src/links.rt:123:26
+-- src/links.rt:155:26
 add-put-if : tie.Need-add-put-if Inv-loop μ-loop
 add-put-if c = search needs
 
--- src/links.rt:123:25
+-- src/links.rt:155:25
 mul-put-if-2 : tie.Need-mul-put-if-2 Inv-loop μ-loop
 mul-put-if-2 c = search needs
 
--- src/links.rt:123:25
+-- src/links.rt:155:25
 add-put-if-2 : tie.Need-add-put-if-2 Inv-loop μ-loop
 add-put-if-2 c = search needs
 
--- src/links.rt:123:9
+-- src/links.rt:155:9
 put-if-requires : tie.Need-put-if-requires Inv-loop μ-loop
 put-if-requires c κs = search needs
 
--- src/links.rt:121:9
+-- src/links.rt:153:9
 add-b : tie.Need-add-b Inv-loop μ-loop
 add-b c = search needs
 
--- src/links.rt:121:5
+-- src/links.rt:153:5
 loop-less : tie.Need-loop-less Inv-loop μ-loop
 loop-less c = search needs
 
--- src/links.rt:121:5
+-- src/links.rt:153:5
 loop-again : tie.Need-loop-again Inv-loop μ-loop
+unfolding _and_
 loop-again c =
     let put = c .before .before .put-if in
     let inv = c .before .before .before .before .before .before .loop .inv in
-    let l = c .before .before .before .before .before .loop-test .taken in
-    let e = rowFill-put _ _ _ (put .last .0) _ _ _ _ (inv .3) (gotten-on _ _ _ _ _ _ _ _ _ (inv .2) (c .before .before .before .before .before .before .before .before .is-atomic .ensures) (c .before .before .before .before .before .before .before .if1 .left) (c .before .before .before .before .gets-of .ensures)) (omega arith) (put .ensures) in
+    let d = gotten-on _ _ _ _ _ _ _ _ _ _ (inv .2) (c .before .before .before .before .before .before .before .before .before .is-atomic .ensures) (c .before .before .before .before .before .before .before .before .reads .ensures) (c .before .before .before .before .before .before .before .if1 .left) (c .before .before .before .before .gets-of .ensures) in
+    let e = rowFill-put _ _ _ (put .last .0) _ _ _ _ (inv .3) d (omega arith) (put .ensures) in
     (search needs, ap length e ∙ length-rowFill _ _ _ _, inv .2, e)
 
--- src/links.rt:113:1
+-- src/links.rt:145:1
 same-length : tie.Need-same-length Inv-loop μ-loop
 same-length c = search needs
 
--- src/links.rt:113:1
+-- src/links.rt:145:1
 returns-2 : tie.Need-returns-2 Inv-loop μ-loop
-returns-2 c = let e : c .before .loop .b ≡ c .before .before .before .before .before .before .before .args .n = omega arith in rw e at (c .before .loop .inv .3)
+returns-2 c = let e : c .before .loop .b ≡ c .before .before .before .before .before .before .before .before .args .n = omega arith in rw e at (c .before .loop .inv .3)
 
 pub gets-row-spec : {M : Type 1} → statement M
 gets-row-spec =
@@ -103,6 +110,7 @@ gets-row-spec =
     cast-read-row
     read-row-requires
     is-atomic-requires
+    reads-requires
     returns
     loop-holds
     gets-of-requires

@@ -1,14 +1,20 @@
 use mathlib.Core.Path.{_≡_, refl, sym, ap, _∙_}
+use mathlib.Core.Bool.{true}
 use Prim.Native.Nat.{_+_, _-_, _*_, _≤_, _<_}
 use native.Mathlib.Omega.{arith}
 use lib.ListN.{length}
+use borrow.Author.Tests.{not-false}
 use Rattle.bits.specs.Fill.{rowFill, rowFill-none, rowFill-put, length-rowFill}
 use Rattle.bits.specs.Within.{within-put}
+use Rattle.model.specs.Row.{writes}
 use Rattle.model.specs.Table.{rowOf, decode}
+use Rattle.model.specs.Scope.{mutually}
 use Rattle.model.specs.Synchronizes.{takesFrom}
 use Rattle.area.specs.Regions.{GRID}
 use Rattle.quick_sync.specs.Regions.{TAKES, GETS}
 use Rattle.sequence.specs.Known.{Known, known-kept}
+use Rattle.sequence.specs.Forms.{takes-apart}
+use Rattle.quick_sync.specs.Walk.{walked, fill-pass}
 use Rattle.quick_sync.specs.Rows.{row-off, takes-none}
 use borrow.Author.Needs.{needs}
 use Rattle.quick_sync.proofs.links.takes_row.Statement.{statement}
@@ -16,83 +22,107 @@ use Rattle.quick_sync.proofs.links.takes_row.Tie as tie
 use Rattle.quick_sync.proofs.links.takes_row.Reads as reads
 use Rattle.quick_sync.proofs.links.takes_row.Lts as lts
 use Rattle.bits.proofs.put_if.Reads as put-if-reads
+use Rattle.quick_sync.proofs.links.takes_of.Reads as takes-of-reads
+use Rattle.quick_sync.proofs.walk.next.Reads as next-reads
 use Rattle.rows.proofs.bytes.read_row.Reads as read-row-reads
-use Rattle.rows.proofs.kinds.is_atomic.Reads as is-atomic-reads
-use Rattle.sequence.proofs.carriers.takes_from_at.Reads as takes-from-at-reads
+use Rattle.rows.proofs.kinds.writes.Reads as writes-reads
 
 abbrev Inv-loop : tie.InvT-loop
-Inv-loop rows p mode n x w₀ y₀ w y = (y ≤ n) × (length w ≡ length w₀) × Known (decode rows p mode n) n w × (w ≡ rowFill (takesFrom (decode rows p mode n) x) w₀ (TAKES * 64 + x * (GRID * 64)) y)
+Inv-loop rows p mode n x w₀ at y₀ w y = (y ≤ n) × (length w ≡ length w₀) × Known (decode rows p mode n) n w × (writes (rowOf rows x) ≡ true) × (y < n → mutually (decode rows p mode n) x y ≡ true) × (w ≡ rowFill (takesFrom (decode rows p mode n) x) w₀ (TAKES * 64 + x * (GRID * 64)) y)
 
 abbrev μ-loop : tie.MeasureT-loop
-μ-loop rows p mode n x w₀ y₀ w y = n - y
+μ-loop rows p mode n x w₀ at y₀ w y = n - y
 
--- src/links.rt:78:35
+-- src/links.rt:106:35
 cast-read-row : tie.Need-cast-read-row Inv-loop μ-loop
 cast-read-row c = search needs
 
--- src/links.rt:78:9
+-- src/links.rt:106:9
 read-row-requires : tie.Need-read-row-requires Inv-loop μ-loop
 read-row-requires c κs = search needs
 
--- src/links.rt:79:9
-is-atomic-requires : tie.Need-is-atomic-requires Inv-loop μ-loop
-is-atomic-requires c κs = search needs
+-- src/links.rt:107:9
+writes-requires : tie.Need-writes-requires Inv-loop μ-loop
+writes-requires c κs = search needs
 
--- src/links.rt:80:9
+-- src/links.rt:108:9
 returns : tie.Need-returns Inv-loop μ-loop
-returns c = row-off _ _ _ _ (λ m l. takes-none _ _ _ _ _ _ _ (c .before .before .read-row .ensures) (c .before .is-atomic .ensures) (c .if1 .taken) m)
+returns c = row-off _ _ _ _ (λ m l. takes-none _ _ _ _ _ _ _ (c .before .before .read-row .ensures) (c .before .writes .ensures) (c .if1 .taken) m)
 
--- src/links.rt:82:5
+-- src/links.rt:110:29
+mul-at : tie.Need-mul-at Inv-loop μ-loop
+mul-at c = search needs
+
+-- src/links.rt:110:14
+add-at : tie.Need-add-at Inv-loop μ-loop
+add-at c = search needs
+
+-- src/links.rt:111:9
+next-requires : tie.Need-next-requires Inv-loop μ-loop
+next-requires c κs = search needs
+
+-- src/links.rt:112:5
 loop-holds : tie.Need-loop-holds Inv-loop μ-loop
-loop-holds c = (search needs, refl, c .before .before .before .before .before .pre .3, rowFill-none _ _ _)
+loop-holds c =
+    let pre = c .before .before .before .before .before .before .before .pre in
+    let next = c .next .ensures in
+    let g = sym (ap writes (c .before .before .before .before .read-row .ensures)) ∙ sym (c .before .before .before .writes .ensures) ∙ not-false _ (c .before .before .if1 .left) in
+    (next .high, refl, pre .3, g, λ l. walked (pre .3 .mutuals) _ _ (pre .1) l (next .hit l), fill-pass _ _ _ _ _ _ (next .low) (λ m l q. sym (takes-apart _ _ _ _ _ _ (walked (pre .3 .mutuals) _ _ (pre .1) (omega (arith, next .high)) (next .miss m l q)))) (rowFill-none _ _ _))
 
--- src/links.rt:83:13
-takes-from-at-requires : tie.Need-takes-from-at-requires Inv-loop μ-loop
-takes-from-at-requires c κs = search needs
+-- src/links.rt:113:13
+takes-of-requires : tie.Need-takes-of-requires Inv-loop μ-loop
+takes-of-requires c κs = (search needs, search needs, search needs, search needs, c .before .before .loop .inv .3, c .before .before .loop .inv .4 (c .before .loop-test .taken), c .before .before .loop .inv .2)
 
--- src/links.rt:84:34
+-- src/links.rt:114:34
 mul-put-if : tie.Need-mul-put-if Inv-loop μ-loop
 mul-put-if c = search needs
 
--- src/links.rt:84:26
+-- src/links.rt:114:26
 add-put-if : tie.Need-add-put-if Inv-loop μ-loop
 add-put-if c = search needs
 
--- src/links.rt:84:25
+-- src/links.rt:114:25
 mul-put-if-2 : tie.Need-mul-put-if-2 Inv-loop μ-loop
 mul-put-if-2 c = search needs
 
--- src/links.rt:84:25
+-- src/links.rt:114:25
 add-put-if-2 : tie.Need-add-put-if-2 Inv-loop μ-loop
 add-put-if-2 c = search needs
 
--- src/links.rt:84:9
+-- src/links.rt:114:9
 put-if-requires : tie.Need-put-if-requires Inv-loop μ-loop
 put-if-requires c κs = search needs
 
--- src/links.rt:82:9
-add-y : tie.Need-add-y Inv-loop μ-loop
-add-y c = search needs
+-- src/links.rt:115:35
+add-next : tie.Need-add-next Inv-loop μ-loop
+add-next c = search needs
 
--- src/links.rt:82:5
+-- src/links.rt:115:9
+next-requires-2 : tie.Need-next-requires-2 Inv-loop μ-loop
+next-requires-2 c κs = search needs
+
+-- src/links.rt:112:5
 loop-less : tie.Need-loop-less Inv-loop μ-loop
 loop-less c = search needs
 
--- src/links.rt:82:5
+-- src/links.rt:112:5
 loop-again : tie.Need-loop-again Inv-loop μ-loop
 loop-again c =
-    let put = c .before .before .put-if in
-    let inv = c .before .before .before .before .before .before .before .loop .inv in
-    let e = rowFill-put _ _ _ (put .last .0) _ _ _ _ (inv .3) (c .before .before .before .before .takes-from-at .ensures) (omega arith) (put .ensures) in
-    (search needs, ap length e ∙ length-rowFill _ _ _ _, known-kept (omega arith) (within-put TAKES GETS _ _ (omega arith) (omega arith) (put .ensures)) (inv .2), e)
+    let pre = c .before .before .before .before .before .before .before .before .before .before .before .before .before .before .before .before .before .pre in
+    let next = c .next2 .ensures in
+    let put = c .before .before .before .before .put-if in
+    let inv = c .before .before .before .before .before .before .before .before .before .loop .inv in
+    let e = rowFill-put _ _ _ (put .last .0) _ _ _ _ (inv .5) (c .before .before .before .before .before .before .takes-of .ensures) (omega arith) (put .ensures) in
+    let k = known-kept (omega arith) (within-put TAKES GETS _ _ (omega arith) (omega arith) (put .ensures)) (inv .2) in
+    (next .high, ap length e ∙ length-rowFill _ _ _ _, k, inv .3, λ l. walked (k .mutuals) _ _ (pre .1) l (next .hit l), fill-pass _ _ _ _ _ _ (next .low) (λ m l q. sym (takes-apart _ _ _ _ _ _ (walked (k .mutuals) _ _ (pre .1) (omega (arith, next .high)) (next .miss m l q)))) e)
 
--- src/links.rt:74:1
+-- src/links.rt:102:1
 same-length : tie.Need-same-length Inv-loop μ-loop
 same-length c = search needs
 
--- src/links.rt:74:1
+-- src/links.rt:102:1
 returns-2 : tie.Need-returns-2 Inv-loop μ-loop
-returns-2 c = let e : c .before .loop .y ≡ c .before .before .before .before .before .before .before .args .n = omega arith in rw e at (c .before .loop .inv .3)
+returns-2 c = let e : c .before .loop .y ≡ c .before .before .before .before .before .before .before .before .before .args .n = omega arith in rw e at (c .before .loop .inv .5)
 
 pub takes-row-spec : {M : Type 1} → statement M
 takes-row-spec =
@@ -102,16 +132,20 @@ takes-row-spec =
     μ-loop
     cast-read-row
     read-row-requires
-    is-atomic-requires
+    writes-requires
     returns
+    mul-at
+    add-at
+    next-requires
     loop-holds
-    takes-from-at-requires
+    takes-of-requires
     mul-put-if
     add-put-if
     mul-put-if-2
     add-put-if-2
     put-if-requires
-    add-y
+    add-next
+    next-requires-2
     loop-less
     loop-again
     same-length

@@ -6,7 +6,7 @@ use Rattle.bits.specs.Fill.{gridFill, gridFill-none, gridFill-more, length-grid
 use Rattle.bits.specs.Stage.{made-filled}
 use Rattle.bits.specs.Within.{within-cleared}
 use Rattle.model.specs.Table.{rowOf, decode}
-use Rattle.model.specs.Synchronizes.{upTo}
+use Rattle.quick_sync.specs.Links.{ahead}
 use Rattle.area.specs.Regions.{GRID}
 use Rattle.quick_sync.specs.Regions.{UP-TO, JOINS}
 use borrow.Author.Needs.{needs}
@@ -18,7 +18,7 @@ use Rattle.bits.proofs.clear.Reads as clear-reads
 use Rattle.quick_sync.proofs.meets.up_to_row.Reads as up-to-row-reads
 
 abbrev Inv-loop : tie.InvT-loop
-Inv-loop rows p mode n w₀ a₀ w a = (a ≤ n) × (length w ≡ length w₀) × (w ≡ gridFill (upTo (decode rows p mode n)) w₀ (UP-TO * 64) (GRID * 64) n a)
+Inv-loop rows p mode n w₀ a₀ w a = (a ≤ n) × (length w ≡ length w₀) × (w ≡ gridFill (ahead (decode rows p mode n)) w₀ (UP-TO * 64) (GRID * 64) n a)
 
 abbrev μ-loop : tie.MeasureT-loop
 μ-loop rows p mode n w₀ a₀ w a = n - a

@@ -260,7 +260,7 @@ module _ {blanks : Bool} {s : List ℕ} (h : Sound blanks s) where
     unfolding tableFault
     among-right =
         let p = table-passed (classTaken (tableOf s) i) (sourceBroken blanks (tableOf s) (sourcesOf s) i) (rankTaken (tableOf s) i) (instanceBroken (tableOf s) i)
-            (unfit (tableOf s) i) (h .among i l) in
+        (unfit (tableOf s) i) (h .among i l) in
         record { class = p .0; source = p .1; rank = p .2; instance = p .3; run = p .4 }
 
     -- an access has 1 to LONGEST bytes; a barrier has none

@@ -4,7 +4,7 @@
 ghost use mathlib.Core.Path.{_≡_};
 ghost use mathlib.Core.List.{[]};
 ghost use Rattle.finite.specs.Below.{anyBelow, least};
-ghost use Rattle.model.specs.Table.{OFF, decode, sourceOf};
+ghost use Rattle.model.specs.Table.{rowOf, OFF, decode, sourceOf};
 ghost use Rattle.model.specs.Refusal.{otherClass, otherClassAt, classTaken, writerFits, sourceFits, sourceBroken};
 ghost use Rattle.model.specs.Refusal.{sameRank, sameRankAt, rankTaken, apart, apartAt, instanceBroken};
 ghost use Rattle.model.specs.Refusal.{rival, outside, outsideAt, begins, unfit, tableFault, faulty};
@@ -26,21 +26,23 @@ pub fn other_class(r: Row, q: Row) -> bool
     kinds::is_access(q) & (q.reference == r.reference) & !(q.class == r.class)
 }
 
-// Most rows have another reference, and no whole row is read.
-pub fn other_class_at(rows: &[u8], i: u16, j: u16) -> bool
+// The same of row i, which is r, and row j. Most rows have another reference, and no whole row is read.
+pub fn other_class_at(rows: &[u8], i: u16, r: Row, j: u16) -> bool
+    requires { ⌜ r ≡ rowOf (now rows) i ⌝ }
     ensures { λ b. ⌜ b ≡ otherClassAt (decode (now (rows .entry)) [] OFF 0) i j ⌝ }
 {
-    if bytes::read_reference(rows, j) != bytes::read_reference(rows, i) {
+    if bytes::read_reference(rows, j) != r.reference {
         return false;
     }
-    other_class(bytes::read_row(rows, i), bytes::read_row(rows, j))
+    other_class(r, bytes::read_row(rows, j))
 }
 
-pub fn any_other_class(rows: &[u8], i: u16) -> bool
+pub fn any_other_class(rows: &[u8], i: u16, r: Row) -> bool
+    requires { ⌜ r ≡ rowOf (now rows) i ⌝ }
     ensures { λ b. ⌜ b ≡ anyBelow i (otherClassAt (decode (now (rows .entry)) [] OFF 0) i) ⌝ }
 {
     for j in 0..i {
-        if other_class_at(rows, i, j) {
+        if other_class_at(rows, i, r, j) {
             return true;
         }
     }
@@ -50,10 +52,11 @@ pub fn any_other_class(rows: &[u8], i: u16) -> bool
 pub fn class_taken(rows: &[u8], i: u16) -> bool
     ensures { λ b. ⌜ b ≡ classTaken (decode (now (rows .entry)) [] OFF 0) i ⌝ }
 {
-    if !kinds::is_access(bytes::read_row(rows, i)) {
+    let r = bytes::read_row(rows, i);
+    if !kinds::is_access(r) {
         return false;
     }
-    any_other_class(rows, i)
+    any_other_class(rows, i, r)
 }
 
 // ---- 9
@@ -92,22 +95,23 @@ pub fn same_rank(r: Row, q: Row) -> bool
 }
 
 // Few rows have one rank, and no place is asked of the others.
-pub fn same_rank_at(rows: &[u8], p: Places, i: u16, j: u16) -> bool
+pub fn same_rank_at(rows: &[u8], p: Places, i: u16, r: Row, j: u16) -> bool
+    requires { ⌜ r ≡ rowOf (now rows) i ⌝ }
     ensures { λ b. ⌜ b ≡ sameRankAt (decode (now (rows .entry)) p OFF 0) i j ⌝ }
 {
-    if bytes::read_rank(rows, j) != bytes::read_rank(rows, i) {
+    if bytes::read_rank(rows, j) != r.rank {
         return false;
     }
-    let r = bytes::read_row(rows, i);
     let q = bytes::read_row(rows, j);
     same_rank(r, q) & scopes::is_mutual(p, r, q)
 }
 
-pub fn any_same_rank(rows: &[u8], p: Places, i: u16) -> bool
+pub fn any_same_rank(rows: &[u8], p: Places, i: u16, r: Row) -> bool
+    requires { ⌜ r ≡ rowOf (now rows) i ⌝ }
     ensures { λ b. ⌜ b ≡ anyBelow i (sameRankAt (decode (now (rows .entry)) p OFF 0) i) ⌝ }
 {
     for j in 0..i {
-        if same_rank_at(rows, p, i, j) {
+        if same_rank_at(rows, p, i, r, j) {
             return true;
         }
     }
@@ -117,10 +121,11 @@ pub fn any_same_rank(rows: &[u8], p: Places, i: u16) -> bool
 pub fn rank_taken(rows: &[u8], p: Places, i: u16) -> bool
     ensures { λ b. ⌜ b ≡ rankTaken (decode (now (rows .entry)) p OFF 0) i ⌝ }
 {
-    if !kinds::is_ranked(bytes::read_row(rows, i)) {
+    let r = bytes::read_row(rows, i);
+    if !kinds::is_ranked(r) {
         return false;
     }
-    any_same_rank(rows, p, i)
+    any_same_rank(rows, p, i, r)
 }
 
 // ---- 14

@@ -14,10 +14,10 @@ use Rattle.table.proofs.table_faults.any_other_class.Lts as lts
 use Rattle.table.proofs.table_faults.other_class_at.Reads as other-class-at-reads
 
 abbrev Inv-loop : tie.InvT-loop
-Inv-loop rows i j₀ j = (j ≤ i) × (anyBelow j (otherClassAt (decode rows [] OFF 0) i) ≡ false)
+Inv-loop rows i r j₀ j = (j ≤ i) × (anyBelow j (otherClassAt (decode rows [] OFF 0) i) ≡ false)
 
 abbrev μ-loop : tie.MeasureT-loop
-μ-loop rows i j₀ j = i - j
+μ-loop rows i r j₀ j = i - j
 
 -- src/table_faults.rt:35:5
 loop-holds : tie.Need-loop-holds Inv-loop μ-loop

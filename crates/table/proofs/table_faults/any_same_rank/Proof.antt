@@ -13,10 +13,10 @@ use Rattle.table.proofs.table_faults.any_same_rank.Lts as lts
 use Rattle.table.proofs.table_faults.same_rank_at.Reads as same-rank-at-reads
 
 abbrev Inv-loop : tie.InvT-loop
-Inv-loop rows p i j₀ j = (j ≤ i) × (anyBelow j (sameRankAt (decode rows p OFF 0) i) ≡ false)
+Inv-loop rows p i r j₀ j = (j ≤ i) × (anyBelow j (sameRankAt (decode rows p OFF 0) i) ≡ false)
 
 abbrev μ-loop : tie.MeasureT-loop
-μ-loop rows p i j₀ j = i - j
+μ-loop rows p i r j₀ j = i - j
 
 -- src/table_faults.rt:94:5
 loop-holds : tie.Need-loop-holds Inv-loop μ-loop

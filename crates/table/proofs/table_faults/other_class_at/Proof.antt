@@ -1,7 +1,8 @@
 use Rattle.model.specs.Table.{OFF, decode}
 use Rattle.model.specs.Refusal.{otherClassAt}
 use Rattle.table.proofs.Laws.{class-off}
-use mathlib.Core.Path.{_≡_, sym, _∙_}
+use mathlib.Core.Path.{_≡_, sym, ap, _∙_}
+use Rattle.model.specs.declared.Row.{Row}
 use borrow.Author.Needs.{needs}
 use Rattle.table.proofs.table_faults.other_class_at.Statement.{statement}
 use Rattle.table.proofs.table_faults.other_class_at.Tie as tie
@@ -15,21 +16,13 @@ use Rattle.table.proofs.table_faults.other_class.Reads as other-class-r
 read-reference-requires : tie.Need-read-reference-requires
 read-reference-requires c κs = search needs
 
--- src/table_faults.rt:33:42
-read-reference-requires-2 : tie.Need-read-reference-requires-2
-read-reference-requires-2 c κs = search needs
-
 -- src/table_faults.rt:34:9
 returns : tie.Need-returns
-returns c = class-off _ _ _ (λ e. c .if1 .taken (c .before .before .read-reference .ensures ∙ e ∙ sym (c .before .read-reference2 .ensures)))
+returns c = class-off _ _ _ (λ e. c .if1 .taken (c .before .before .read-reference .ensures ∙ e ∙ sym (ap (λ (q : Row). q .reference) (c .before .before .before .before .pre))))
 
 -- src/table_faults.rt:36:17
 read-row-requires : tie.Need-read-row-requires
 read-row-requires c κs = search needs
-
--- src/table_faults.rt:36:43
-read-row-requires-2 : tie.Need-read-row-requires-2
-read-row-requires-2 c κs = search needs
 
 -- src/table_faults.rt:36:5
 other-class-requires : tie.Need-other-class-requires
@@ -45,9 +38,7 @@ other-class-at-spec =
     tie.close
     (tie.spec
     read-reference-requires
-    read-reference-requires-2
     returns
     read-row-requires
-    read-row-requires-2
     other-class-requires
     returns-2)

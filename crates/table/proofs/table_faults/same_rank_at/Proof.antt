@@ -2,7 +2,8 @@ use Rattle.finite.specs.Logic.{_and_, _or_}
 use Rattle.model.specs.Table.{OFF, decode}
 use Rattle.model.specs.Refusal.{sameRankAt}
 use Rattle.table.proofs.Laws.{rank-off}
-use mathlib.Core.Path.{_≡_, sym, _∙_}
+use mathlib.Core.Path.{_≡_, sym, ap, _∙_}
+use Rattle.model.specs.declared.Row.{Row}
 use borrow.Author.Needs.{needs}
 use Rattle.table.proofs.table_faults.same_rank_at.Statement.{statement}
 use Rattle.table.proofs.table_faults.same_rank_at.Tie as tie
@@ -17,21 +18,13 @@ use Rattle.table.proofs.table_faults.same_rank.Reads as same-rank-reads
 read-rank-requires : tie.Need-read-rank-requires
 read-rank-requires c κs = search needs
 
--- src/table_faults.rt:98:37
-read-rank-requires-2 : tie.Need-read-rank-requires-2
-read-rank-requires-2 c κs = search needs
-
 -- src/table_faults.rt:99:9
 returns : tie.Need-returns
-returns c = rank-off _ _ _ _ (λ e. c .if1 .taken (c .before .before .read-rank .ensures ∙ e ∙ sym (c .before .read-rank2 .ensures)))
+returns c = rank-off _ _ _ _ (λ e. c .if1 .taken (c .before .before .read-rank .ensures ∙ e ∙ sym (ap (λ (q : Row). q .rank) (c .before .before .before .before .pre))))
 
 -- src/table_faults.rt:101:9
 read-row-requires : tie.Need-read-row-requires
 read-row-requires c κs = search needs
-
--- src/table_faults.rt:102:9
-read-row-requires-2 : tie.Need-read-row-requires-2
-read-row-requires-2 c κs = search needs
 
 -- src/table_faults.rt:103:5
 same-rank-requires : tie.Need-same-rank-requires
@@ -51,10 +44,8 @@ same-rank-at-spec =
     tie.close
     (tie.spec
     read-rank-requires
-    read-rank-requires-2
     returns
     read-row-requires
-    read-row-requires-2
     same-rank-requires
     is-mutual-requires
     returns-2)

@@ -1,7 +1,8 @@
-//! Times both implementations on 1,000 tables of 128 rows, or of so many as it
+//! Times both engines and the second implementation on 1,000 tables of 128 rows, or of so many as it
 //! is told, on one table of each dear family, or by rows with a picture, in one
 //! process and one thread, and prints a page of Markdown.
 
+mod answers;
 mod families;
 mod memory;
 mod plot;
@@ -14,14 +15,17 @@ use std::fs;
 use std::process::ExitCode;
 use stramashly::Checker;
 use tables::MAX_ROWS;
-use times::Times;
+use times::{Three, Times};
 use work::{Verdict, Work};
 
 const USAGE: &str = "usage: benchmark [REPETITIONS [ROWS]]
        benchmark families [REPETITIONS]
-       benchmark growth PICTURE.svg";
+       benchmark growth PICTURE.svg
+       benchmark answers [REPETITIONS]";
 /// Asks for the families.
 const FAMILIES: &str = "families";
+/// Asks for the other answers than a check's, and for chains.
+const ANSWERS: &str = "answers";
 /// Asks for times by rows.
 const GROWTH: &str = "growth";
 const GROWTH_ROWS: [usize; 5] = [8, 16, 32, 64, MAX_ROWS];
@@ -38,6 +42,8 @@ fn main() -> ExitCode {
         [memory::WORD, implementation] => memory::measure(implementation),
         [FAMILIES] => print_families(REPETITIONS),
         [FAMILIES, repetitions] => number(repetitions).and_then(print_families),
+        [ANSWERS] => print_answers(REPETITIONS),
+        [ANSWERS, repetitions] => number(repetitions).and_then(print_answers),
         [GROWTH, picture] => print_growth(picture),
         [repetitions] => number(repetitions).and_then(|repetitions| run(repetitions, MAX_ROWS)),
         [repetitions, rows] => asked(repetitions, rows),
@@ -81,8 +87,8 @@ fn print_times(work: &Work, times: &Times, repetitions: usize, rows: usize) {
     println!("Checks of {count} generated tables of {rows} rows (seed {SEED}), release build,");
     println!("one thread; microseconds a table, median of {repetitions} repetitions.");
     println!();
-    println!("| verdict | tables | ours | second | second ÷ ours |");
-    println!("|---|---|---|---|---|");
+    println!("| verdict | tables | ours | obvious | second | second ÷ ours |");
+    println!("|---|---|---|---|---|---|");
     for verdict in Verdict::ALL {
         let count = work.of(verdict).len();
         print_line(verdict.name(), count, count, times.of(verdict));
@@ -96,18 +102,19 @@ fn each(time: u128, count: usize) -> f64 {
 }
 
 /// One line; the times are in nanoseconds of all its tables.
-fn print_line(name: &str, what: impl Display, count: usize, (ours, second): (u128, u128)) {
-    let ratio = second as f64 / ours as f64;
-    let (ours, second) = (each(ours, count), each(second, count));
-    println!("| {name} | {what} | {ours:.1} | {second:.1} | {ratio:.2} |");
+fn print_line(name: &str, what: impl Display, count: usize, times: Three) {
+    let ratio = times.second as f64 / times.ours as f64;
+    let [ours, flags, second] =
+        [times.ours, times.flags, times.second].map(|time| each(time, count));
+    println!("| {name} | {what} | {ours:.1} | {flags:.1} | {second:.1} | {ratio:.2} |");
 }
 
 fn print_families(repetitions: usize) -> Result<(), String> {
     println!("Checks of a table of {MAX_ROWS} rows of each family, release build, one thread;");
     println!("microseconds, median of {repetitions} repetitions.");
     println!();
-    println!("| family | answer | ours | second | second ÷ ours |");
-    println!("|---|---|---|---|---|");
+    println!("| family | answer | ours | obvious | second | second ÷ ours |");
+    println!("|---|---|---|---|---|---|");
     for (name, table) in families::all() {
         let table = table.bytes();
         work::agree([&table])?;
@@ -118,19 +125,37 @@ fn print_families(repetitions: usize) -> Result<(), String> {
     Ok(())
 }
 
+fn print_answers(repetitions: usize) -> Result<(), String> {
+    println!(
+        "{} tables of {MAX_ROWS} rows each, release build, one thread;",
+        answers::TABLES
+    );
+    println!("microseconds a table, median of {repetitions} repetitions.");
+    println!();
+    println!("| answer | ours | second | second ÷ ours |");
+    println!("|---|---|---|---|");
+    for (name, ours, second) in answers::times(SEED, repetitions) {
+        let ratio = second as f64 / ours as f64;
+        let [ours, second] = [ours, second].map(|time| each(time, answers::TABLES));
+        println!("| {name} | {ours:.1} | {second:.1} | {ratio:.2} |");
+    }
+    Ok(())
+}
+
 /// Once each: what is shown spans powers of ten.
 fn print_growth(picture: &str) -> Result<(), String> {
     println!("Checks of 1,000 generated tables of so many rows, microseconds a table.");
     println!();
-    println!("| rows | tables | ours | second | second ÷ ours |");
-    println!("|---|---|---|---|---|");
+    println!("| rows | tables | ours | obvious | second | second ÷ ours |");
+    println!("|---|---|---|---|---|---|");
     let mut points = Vec::new();
     for rows in GROWTH_ROWS {
         let work = Work::generate(SEED, rows);
         work::agree(work.all())?;
         let (count, times) = (work.total(), Times::take(&work, 1).in_all());
         print_line(&rows.to_string(), count, count, times);
-        points.push((rows, each(times.0, count), each(times.1, count)));
+        let all = [times.ours, times.flags, times.second];
+        points.push((rows, all.map(|time| each(time, count))));
     }
     fs::write(picture, plot::svg(&points)).map_err(|error| format!("{picture}: {error}"))
 }

@@ -1,4 +1,4 @@
-//! Times of both implementations.
+//! Times of both engines and of the second implementation.
 
 use crate::work::{Verdict, Work};
 use second::{State, CYCLE_NUMBERS, WORK_WORDS};
@@ -6,74 +6,103 @@ use std::hint::black_box;
 use std::time::Instant;
 use stramashly::Checker;
 
-/// Nanoseconds by repetition, then by verdict: ours and the second one's.
+/// Nanoseconds of the quick engine, the obvious one and the second
+/// implementation.
+#[derive(Clone, Copy, Default)]
+pub struct Three {
+    pub ours: u128,
+    pub flags: u128,
+    pub second: u128,
+}
+
+impl Three {
+    fn add(self, other: &Three) -> Three {
+        Three {
+            ours: self.ours + other.ours,
+            flags: self.flags + other.flags,
+            second: self.second + other.second,
+        }
+    }
+
+    fn median(times: &[Three]) -> Three {
+        let of = |part: fn(&Three) -> u128| median(times.iter().map(part).collect());
+        Three {
+            ours: of(|three| three.ours),
+            flags: of(|three| three.flags),
+            second: of(|three| three.second),
+        }
+    }
+}
+
+/// By repetition, then by verdict.
 pub struct Times {
-    repetitions: Vec<[(u128, u128); 3]>,
+    repetitions: Vec<[Three; 3]>,
 }
 
 impl Times {
     pub fn take(work: &Work, repetitions: usize) -> Times {
-        let mut both = Both::new();
-        let mut once = || Verdict::ALL.map(|verdict| both.time(work.of(verdict)));
+        let mut all = All::new();
+        let mut once = || Verdict::ALL.map(|verdict| all.time(work.of(verdict)));
         Times {
             repetitions: (0..repetitions).map(|_| once()).collect(),
         }
     }
 
-    pub fn of(&self, verdict: Verdict) -> (u128, u128) {
+    pub fn of(&self, verdict: Verdict) -> Three {
         self.medians(|times| times[verdict as usize])
     }
 
-    pub fn in_all(&self) -> (u128, u128) {
-        self.medians(|times| {
-            let add = |sum: (u128, u128), time: &(u128, u128)| (sum.0 + time.0, sum.1 + time.1);
-            times.iter().fold((0, 0), add)
-        })
+    pub fn in_all(&self) -> Three {
+        self.medians(|times| times.iter().fold(Three::default(), Three::add))
     }
 
-    fn medians(&self, part: impl Fn(&[(u128, u128); 3]) -> (u128, u128)) -> (u128, u128) {
-        let parts: Vec<(u128, u128)> = self.repetitions.iter().map(part).collect();
-        let (ours, second) = parts.into_iter().unzip();
-        (median(ours), median(second))
+    fn medians(&self, part: impl Fn(&[Three; 3]) -> Three) -> Three {
+        Three::median(&self.repetitions.iter().map(part).collect::<Vec<Three>>())
     }
 }
 
-/// Nanoseconds for one table, ours and the second one's.
-pub fn of_table(table: &[u8], repetitions: usize) -> (u128, u128) {
-    let mut both = Both::new();
+/// Of one table.
+pub fn of_table(table: &[u8], repetitions: usize) -> Three {
+    let mut all = All::new();
     let table = [table.to_vec()];
-    let times = (0..repetitions).map(|_| both.time(&table));
-    let (ours, second) = times.unzip();
-    (median(ours), median(second))
+    let times: Vec<Three> = (0..repetitions).map(|_| all.time(&table)).collect();
+    Three::median(&times)
 }
 
-/// Both implementations, with their buffers.
-struct Both {
+/// All three, with their buffers.
+struct All {
     checker: Checker,
     state: State,
 }
 
-impl Both {
-    fn new() -> Both {
-        Both {
+impl All {
+    fn new() -> All {
+        All {
             checker: Checker::new(),
             state: State::new(),
         }
     }
 
-    /// Both take turns, so that a slower moment of the machine meets both.
-    fn time(&mut self, tables: &[Vec<u8>]) -> (u128, u128) {
+    /// They take turns, so that a slower moment of the machine meets all.
+    fn time(&mut self, tables: &[Vec<u8>]) -> Three {
         let ours = time(tables, |table| {
             black_box(self.checker.check(table));
+        });
+        let flags = time(tables, |table| {
+            black_box(self.checker.check_by_flags(table));
         });
         let second = time(tables, |table| {
             black_box(self.state.check(table, WORK_WORDS, CYCLE_NUMBERS));
         });
-        (ours, second)
+        Three {
+            ours,
+            flags,
+            second,
+        }
     }
 }
 
-fn time(tables: &[Vec<u8>], mut check: impl FnMut(&[u8])) -> u128 {
+pub fn time(tables: &[Vec<u8>], mut check: impl FnMut(&[u8])) -> u128 {
     let began = Instant::now();
     for table in tables {
         check(black_box(table));
@@ -82,7 +111,7 @@ fn time(tables: &[Vec<u8>], mut check: impl FnMut(&[u8])) -> u128 {
 }
 
 /// The middle one, or the lower of the two in the middle.
-fn median(mut times: Vec<u128>) -> u128 {
+pub fn median(mut times: Vec<u128>) -> u128 {
     times.sort_unstable();
     times[(times.len() - 1) / 2]
 }

@@ -19,8 +19,22 @@ pub use reasons::{Derived, Moments, Probed};
 pub use tally::Tally;
 
 use second::{Chains, CheckAnswer, FillAnswer, State};
-use stramashly::{check_with, fill_with, Packed, CYCLE_NUMBERS, SOURCE_NUMBERS, WORK_WORDS};
+use stramashly::{
+    check_by_flags, check_with, fill_by_flags, fill_with, Packed, CYCLE_NUMBERS, SOURCE_NUMBERS,
+    WORK_WORDS,
+};
 use tables::{hex, Random};
+
+/// A function of the library: chains, table, work area, cycle or source buffer.
+type Engine = fn(bool, &[u8], &mut [u64], &mut [u16]) -> Packed;
+
+/// The quick engine's and the obvious one's.
+const CHECKS: [(&str, Engine); 2] = [("check", check_with), ("check by flags", check_by_flags)];
+const FILLS: [(&str, Engine); 2] = [("fill", fill_with), ("fill by flags", fill_by_flags)];
+
+/// Longer tables take the obvious engine long: it is asked of one in so many.
+const SHORT_TABLE: usize = 512;
+const LONG_TABLES: usize = 24;
 
 /// Lengths of the work area and of the cycle or source buffer.
 #[derive(Clone, Copy, Debug)]
@@ -100,17 +114,13 @@ impl Comparison {
     ) -> Result<CheckAnswer, Difference> {
         let Lengths { work, numbers } = lengths;
         let answer = self.state.check_with(chains, table, work, numbers);
-        let at = self.prepare(table, lengths);
-        let expected = expected::of_check(&answer, &mut self.expected);
-        let lent = &self.around[at..at + table.len()];
-        let packed = check_with(
-            chains == Chains::On,
-            lent,
-            &mut self.ours.work,
-            &mut self.ours.numbers,
-        );
-        let words = || format!("check {} {chains:?}", hex(table));
-        self.compare(words, lengths, packed, expected)?;
+        for (word, engine) in self.engines(CHECKS, table) {
+            let at = self.prepare(table, lengths);
+            let expected = expected::of_check(&answer, &mut self.expected);
+            let packed = self.ask(engine, chains, at, table.len());
+            let words = || format!("{word} {} {chains:?}", hex(table));
+            self.compare(words, lengths, packed, expected)?;
+        }
         Ok(answer)
     }
 
@@ -124,20 +134,36 @@ impl Comparison {
     ) -> Result<FillAnswer, Difference> {
         let Lengths { work, numbers } = lengths;
         let answer = self.state.fill_with(chains, table, work, numbers);
-        let at = self.prepare(table, lengths);
-        let expected = expected::of_fill(&answer, &mut self.expected);
-        if let Some(expected) = expected {
-            let lent = &self.around[at..at + table.len()];
-            let packed = fill_with(
-                chains == Chains::On,
-                lent,
-                &mut self.ours.work,
-                &mut self.ours.numbers,
-            );
-            let words = || format!("fill {} {chains:?}", hex(table));
+        for (word, engine) in self.engines(FILLS, table) {
+            let at = self.prepare(table, lengths);
+            let Some(expected) = expected::of_fill(&answer, &mut self.expected) else {
+                break;
+            };
+            let packed = self.ask(engine, chains, at, table.len());
+            let words = || format!("{word} {} {chains:?}", hex(table));
             self.compare(words, lengths, packed, expected)?;
         }
         Ok(answer)
+    }
+
+    /// Those that are asked of a table: the quick one always.
+    fn engines(
+        &mut self,
+        both: [(&'static str, Engine); 2],
+        table: &[u8],
+    ) -> impl Iterator<Item = (&'static str, Engine)> {
+        let is_asked = table.len() < SHORT_TABLE || self.random.below(LONG_TABLES) == 0;
+        both.into_iter().take(if is_asked { 2 } else { 1 })
+    }
+
+    /// The answer to the table of so many bytes that lies at a place among others.
+    fn ask(&mut self, engine: Engine, chains: Chains, at: usize, length: usize) -> Packed {
+        engine(
+            chains == Chains::On,
+            &self.around[at..at + length],
+            &mut self.ours.work,
+            &mut self.ours.numbers,
+        )
     }
 
     /// Puts random words into the buffers, and the table among random bytes;

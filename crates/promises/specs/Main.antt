@@ -318,4 +318,4 @@ derive-leaves = Answers.derive-leaves
 --   crates/pieces/specs/Promise.antt     a table in two pieces is answered as the joined one, and a table in one piece as with an empty second
 --   crates/writer/specs/Promise.antt     what is written reads back, what was read is written again, and each answer is given exactly for its case
 --   crates/stepping/specs/Promise.antt   the stepping reader gives rows 0 onward, each once, then the end; what a fill refuses isn't opened
---   crates/obvious/specs/Same.antt       the two engines of check and fill answer the same, and leave the same in the buffers
+--   crates/filling/specs/Same.antt       the two engines of check and fill answer the same, and leave the same in the buffers

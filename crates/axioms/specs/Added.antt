@@ -8,19 +8,21 @@ use native.Mathlib.Omega.{arith}
 use native.Mathlib.Decide.{decLt, ℕ-discrete}
 use lib.Dec.{eqb, ltb}
 use lib.ListN.{length}
-use borrow.Author.Tests.{eq-eqb, ne-eqb, lt-ltb, le-ltb}
+use borrow.Author.Tests.{eq-eqb, ne-eqb, lt-ltb, le-ltb, not-false}
 use Rattle.finite.specs.Logic.{_and_, _or_, and-false-left, and-false-right, or-off, or-right, or-assoc}
 use Rattle.bits.specs.Bit.{bit, setBitIf, setBitIf-same, setBitIf-other, zeros, bit-zeros-in}
 use Rattle.bits.specs.Matrix.{rel}
 use Rattle.bits.specs.Within.{within-trans, within-put, within-cleared}
 use Rattle.bits.specs.Fill.{or-fresh}
 use Rattle.bits.specs.Stage.{Holds, Made, Added, added-none, holds-added, holds-cong}
-use Rattle.model.specs.Limits.{ROWS}
+use Rattle.model.specs.declared.Row.{Row}
+use Rattle.model.specs.Limits.{ROWS, INITIAL}
 use Rattle.model.specs.Row.{reads}
 use Rattle.model.specs.Table.{Table}
 use Rattle.model.specs.Scope.{mutually, follows}
 use Rattle.model.specs.Edge.{beforeSome, readsFrom, fromReads, edge}
 use Rattle.area.specs.Regions.{EDGE, EDGE-END, GRID}
+use Rattle.axioms.specs.Edges.{and-on-right, from-source}
 
 -- ---- definitions
 
@@ -129,6 +131,15 @@ unfolding _and_ _or_
 or-lacks true b c e = refl
 or-lacks false b c e = e
 
+-- an edge that is there, and one that isn't
+pub lacks-set : {a : Bool} (b c : Bool) → b ≡ a → b ≡ true → false ≡ (not a and c)
+unfolding _and_
+lacks-set b c e h = rw (← e, h) refl
+
+pub lacks-other : {a : Bool} (b c d : Bool) → b ≡ a → b ≡ false → d ≡ c → d ≡ (not a and c)
+unfolding _and_
+lacks-other b c d e h f = rw (← e, h) f
+
 -- ---- laws: what is added
 
 module _ {n : ℕ} {w : List ℕ} where
@@ -168,24 +179,23 @@ module _ {n : ℕ} (x : ℕ) (p : ℕ → Bool) where
   unfolding fromUpto
   row-none w = added-none EDGE EDGE-END w (λ i j k l. and-false-right _ _ (below-none j (p j)))
 
-  row-put : {w₀ w u : List ℕ} (y k : ℕ) (b : Bool) → n ≤ ROWS → EDGE-END ≤ length w → x < n → y < n → Edged n (fromUpto x y p) w₀ w → k ≡ edgeBit x y → u ≡ setBitIf b w k
-      → (bit w k or b) ≡ (bit w k or p y) → Edged n (fromUpto x (y + 1) p) w₀ u
-  unfolding fromUpto
-  row-put {w = w} {u = u} y k b fits room l m f q e h =
-      edged-cong (λ i j d c. step i j) (edged-trans f (edged-put w x y b (p y) fits room l m (rw q at e) (rw q at h)))
-    where
-      step : (i j : ℕ) → ((eqb i x and (ltb j y and p j)) or (eqb i x and (eqb j y and p y))) ≡ (eqb i x and (ltb j (y + 1) and p j))
-      step i j =
-          ap (λ (v : Bool). (eqb i x and (ltb j y and p j)) or (eqb i x and v)) (at-one j y (p y) (p j) (λ d. ap p (sym d))) ∙ and-or (eqb i x) _ _ ∙ ap (λ (v : Bool). eqb i x and v) (turn j y (p j))
+  -- a bit more: what is put is the test, or the test where the bit is not set yet
+  module _ {w₀ w u : List ℕ} (y k : ℕ) (b : Bool) (fits : n ≤ ROWS) (room : EDGE-END ≤ length w) (l : x < n) (m : y < n) (f : Edged n (fromUpto x y p) w₀ w) (q : k ≡ edgeBit x y)
+      (e : u ≡ setBitIf b w k) where
+    row-put : (bit w k or b) ≡ (bit w k or p y) → Edged n (fromUpto x (y + 1) p) w₀ u
+    unfolding fromUpto
+    row-put h = edged-cong (λ i j d c. step i j) (edged-trans f (edged-put w x y b (p y) fits room l m (rw q at e) (rw q at h)))
+      where
+        step : (i j : ℕ) → ((eqb i x and (ltb j y and p j)) or (eqb i x and (eqb j y and p y))) ≡ (eqb i x and (ltb j (y + 1) and p j))
+        step i j =
+            ap (λ (v : Bool). (eqb i x and (ltb j y and p j)) or (eqb i x and v)) (at-one j y (p y) (p j) (λ d. ap p (sym d)))
+            ∙ and-or (eqb i x) _ _ ∙ ap (λ (v : Bool). eqb i x and v) (turn j y (p j))
 
-  -- what is put is the test, or the test where the bit is not set yet
-  pub row-exact : {w₀ w u : List ℕ} (y k : ℕ) (b : Bool) → n ≤ ROWS → EDGE-END ≤ length w → x < n → y < n → Edged n (fromUpto x y p) w₀ w → k ≡ edgeBit x y → u ≡ setBitIf b w k → b ≡ p y
-      → Edged n (fromUpto x (y + 1) p) w₀ u
-  row-exact {w = w} y k b fits room l m f q e h = row-put y k b fits room l m f q e (ap (λ (v : Bool). bit w k or v) h)
+    pub row-exact : b ≡ p y → Edged n (fromUpto x (y + 1) p) w₀ u
+    row-exact h = row-put (ap (λ (v : Bool). bit w k or v) h)
 
-  pub row-lacks : {w₀ w u : List ℕ} (y k : ℕ) (b : Bool) → n ≤ ROWS → EDGE-END ≤ length w → x < n → y < n → Edged n (fromUpto x y p) w₀ w → k ≡ edgeBit x y → u ≡ setBitIf b w k → b ≡ (not (bit w k) and p y)
-      → Edged n (fromUpto x (y + 1) p) w₀ u
-  row-lacks y k b fits room l m f q e h = row-put y k b fits room l m f q e (or-lacks _ b (p y) h)
+    pub row-lacks : b ≡ (not (bit w k) and p y) → Edged n (fromUpto x (y + 1) p) w₀ u
+    row-lacks h = row-put (or-lacks _ b (p y) h)
 
   -- rows that don't pass are passed over
   pub row-over : {w u : List ℕ} (y z : ℕ) → y ≤ z → ((m : ℕ) → y ≤ m → m < z → p m ≡ false) → Edged n (fromUpto x y p) w u → Edged n (fromUpto x z p) w u
@@ -206,6 +216,14 @@ module _ {n : ℕ} (x : ℕ) (p : ℕ → Bool) where
   row-cong q h f = edged-cong (λ i j d c. ap (λ (v : Bool). eqb i x and (ltb j n and v)) (h j c)) f
 
 -- ---- laws: all edges
+
+-- edge 4 from a reader whose source is a row
+pub from-after : (t : Table) (source : ℕ → ℕ) (x s n : ℕ) (r : Row) (a : Bool) → s ≡ source x → r ≡ t .row x → a ≡ reads r → not a ≡ false → s < n → n ≤ ROWS
+    → (m : ℕ) → after t x s m ≡ fromReads t source x m
+unfolding after
+from-after t source x s n r a es er ea ha l fits m =
+    ap (λ (v : Bool). v and follows t s m) (sym (and-on-right (not (eqb x m)) a (not-false a ha)))
+    ∙ from-source t source x m s r (t .row m) es er refl a (follows t s m) (ne-eqb s INITIAL (λ q. omega arith)) ea refl
 
 module _ (t : Table) (source : ℕ → ℕ) where
   after-self : (x y : ℕ) → after t x x y ≡ follows t x y

@@ -1,6 +1,6 @@
 -- Where a whole word tells that bits are unset, so that their pairs need not be asked. Assumes nothing.
 use mathlib.Core.Path.{_≡_, refl, sym, ap, _∙_}
-use mathlib.Core.Bool.{Bool, true, false, not}
+use mathlib.Core.Bool.{true, false, not}
 use mathlib.Core.List.{List}
 use Prim.Native.Nat.{ℕ, _+_, _-_, _*_, _/_, _%_, _^_, _≤_, _<_, min}
 use native.Mathlib.Omega.{arith}
@@ -8,23 +8,20 @@ use native.Mathlib.Nat.{div-div-eq-div-mul, div-eq-of-lt, one-le-pow}
 use lib.Pow.{pow-add}
 use lib.Dec.{eqb}
 use lib.ListN.{getD}
-use borrow.Author.Tests.{ne-eqb, not-false}
 use Rattle.finite.specs.Logic.{_and_, and-true, and-false-left, and-false-right, not-so, not-both}
 use Rattle.finite.specs.Below.{Least}
 use Rattle.bits.specs.Bit.{bit, bitOf, bitOf-zero}
 use Rattle.bits.specs.Stage.{holds-bit}
 use Rattle.sets.specs.Lowest.{Lowest}
 use Rattle.sets.specs.Meet.{both}
-use Rattle.model.specs.declared.Row.{Row}
-use Rattle.model.specs.Limits.{ROWS, INITIAL}
-use Rattle.model.specs.Row.{reads}
+use Rattle.model.specs.Limits.{ROWS}
 use Rattle.model.specs.Table.{Table}
 use Rattle.model.specs.Scope.{follows}
-use Rattle.model.specs.Edge.{beforeSome, fromReads}
+use Rattle.model.specs.Edge.{beforeSome}
 use Rattle.area.specs.Regions.{MUTUAL, LOCATION, GRID, PAIR, PAIRS}
 use Rattle.area.specs.State.{Located}
 use Rattle.axioms.specs.Added.{after}
-use Rattle.axioms.specs.Edges.{unsetAt, some-unset, and-on-right, from-source}
+use Rattle.axioms.specs.Edges.{unsetAt, some-unset}
 
 -- ---- definitions
 
@@ -68,23 +65,6 @@ pub after-empty : (t : Table) (n : ℕ) (w : List ℕ) (x s a k : ℕ) → Locat
     → (m : ℕ) → m < n → after t x s m ≡ false
 unfolding both
 after-empty t n w x s a k h l fits q f far m i = after-off t n w x s a m h l i q (not-so _ (λ g. not-both (and-true g g) (f .miss m (omega arith))))
-
--- edge 4 from a reader whose source is a row
-pub from-after : (t : Table) (source : ℕ → ℕ) (x s n : ℕ) (r : Row) (a : Bool) → s ≡ source x → r ≡ t .row x → a ≡ reads r → not a ≡ false → s < n → n ≤ ROWS
-    → (m : ℕ) → after t x s m ≡ fromReads t source x m
-unfolding after
-from-after t source x s n r a es er ea ha l fits m =
-    ap (λ (v : Bool). v and follows t s m) (sym (and-on-right (not (eqb x m)) a (not-false a ha)))
-    ∙ from-source t source x m s r (t .row m) es er refl a (follows t s m) (ne-eqb s INITIAL (λ q. omega arith)) ea refl
-
--- an edge that is there, and one that isn't
-pub lacks-set : {a : Bool} (b c : Bool) → b ≡ a → b ≡ true → false ≡ (not a and c)
-unfolding _and_
-lacks-set b c e h = rw (← e, h) refl
-
-pub lacks-other : {a : Bool} (b c d : Bool) → b ≡ a → b ≡ false → d ≡ c → d ≡ (not a and c)
-unfolding _and_
-lacks-other b c d e h f = rw (← e, h) f
 
 -- ---- laws: pairs
 

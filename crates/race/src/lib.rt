@@ -1,7 +1,7 @@
 // Races: the first pair of rows that races, and its lowest byte with no location order either way. Some code reads none of the
 // rows, places or number of rows that it is given: they say which table its contract is about.
 ghost use mathlib.Core.Path.{_≡_};
-ghost use Prim.Native.Nat.{ℕ, _<_};
+ghost use Prim.Native.Nat.{ℕ, _+_, _≤_, _<_};
 ghost use Rattle.model.specs.Table.{rowOf, decode};
 ghost use Rattle.model.specs.Scope.{mutually};
 ghost use Rattle.model.specs.Location.{before};
@@ -102,19 +102,30 @@ pub fn may_race(
 }
 
 // Places of a row's size and start.
-const SIZE: u8 = 7;
+const SIZE: usize = 7;
 
-const START: u8 = 8;
+const START: usize = 8;
+
+// A byte as a number that sums of bytes fit into.
+fn wide(x: u8) -> u32
+    ensures { λ r. ⌜ (r ≡ x) × (r ≤ 255) ⌝ }
+{
+    x as u32
+}
 
 // Whether row y may have a byte from `start` to before `end`: it starts before that end, and ends after that start. Most pairs of rows
-// share no byte, and three bytes of a row tell it.
+// share no byte, and three bytes of a row tell it; they are read at once where the row is all there.
 // Ruled out: one that holds of a row that ends where those bytes start; one that reads another row.
 pub fn may_touch(rows: &[u8], y: u16, start: u32, end: u32) -> bool
     ensures { λ b. ⌜ b ≡ mayTouch (rowOf (now (rows .entry)) y) start end ⌝ }
 {
-    let other = rows::bytes::row_pair(rows, y, START) as u32;
-    let size = rows::bytes::row_byte(rows, y, SIZE) as u32;
-    (start < other + size) & (other < end)
+    let at = (y as usize) * rows::bytes::ROW_BYTES;
+    if rows.len() < at + rows::bytes::ROW_BYTES {
+        let q = rows::bytes::read_row(rows, y);
+        return (start < (q.start as u32) + (q.size as u32)) & ((q.start as u32) < end);
+    }
+    let other = wide(rows[at + START]) * 256 + wide(rows[at + START + 1]);
+    (start < other + wide(rows[at + SIZE])) & (other < end)
 }
 
 // Where the byte search of a pair starts: the lowest byte that r and q share, and r's end where there is none.

@@ -1,8 +1,7 @@
 use mathlib.Core.Path.{sym}
 use Rattle.model.specs.Table.{decode}
 use Rattle.axioms.specs.Edges.{from-unread}
-use Rattle.axioms.specs.Words.{from-after}
-use Rattle.axioms.specs.Added.{row-empty, row-cong}
+use Rattle.axioms.specs.Added.{from-after, row-empty, row-cong}
 use borrow.Author.Needs.{needs}
 use Rattle.axioms.proofs.grid.from_row.Statement.{statement}
 use Rattle.axioms.proofs.grid.from_row.Tie as tie

@@ -1,6 +1,5 @@
 use Rattle.finite.specs.Logic.{_and_}
-use Rattle.axioms.specs.Added.{after}
-use Rattle.axioms.specs.Words.{lacks-set, lacks-other}
+use Rattle.axioms.specs.Added.{after, lacks-set, lacks-other}
 use borrow.Author.Needs.{needs}
 use Rattle.axioms.proofs.grid.lacks_after.Statement.{statement}
 use Rattle.axioms.proofs.grid.lacks_after.Tie as tie

@@ -20,7 +20,7 @@ use model::Row;
 // ---- one step
 
 // Whether row i has a flag of these.
-fn has_flag(rows: &[u8], i: usize, flags: u8) -> bool
+pub fn has_flag(rows: &[u8], i: usize, flags: u8) -> bool
     requires { ⌜ i < ROWS ⌝ }
     ensures { λ d. ⌜ d ≡ meets (byteOf (now (rows .entry)) i 5) flags ⌝ }
 {
@@ -28,7 +28,7 @@ fn has_flag(rows: &[u8], i: usize, flags: u8) -> bool
 }
 
 // Whether u has a broader scope than s, and is performed in the instance of s's scope.
-fn is_broader(p: Places, s: Row, u: Row) -> bool
+pub fn is_broader(p: Places, s: Row, u: Row) -> bool
     ensures { λ d. ⌜ d ≡ broaderRows p s u ⌝ }
 {
     (s.scope < u.scope) & rows::scopes::shares_scope(p, s.scope, s.agent, u.agent)

@@ -57,7 +57,7 @@ publishes t x a = writes (t .row x) and availableAfter t x a
 
 -- ---- laws: elements
 
-and-only : (c : Bool) → c ≡ (c and true)
+pub and-only : (c : Bool) → c ≡ (c and true)
 unfolding _and_
 and-only true = refl
 and-only false = refl

@@ -52,7 +52,7 @@ fn linked_with(
     chains::starts_at(rows, p, mode, n, x, y, r, q, c, s, v, w)
 }
 
-// The same of some chain of more than one element from row a.
+// The same of some chain of more than one element from row a; most rows begin none.
 fn some_linked(
     rows: &[u8],
     p: Places,
@@ -70,7 +70,12 @@ fn some_linked(
         × (r ≡ rowOf (now rows) x) × (q ≡ rowOf (now rows) y) × Reaching (decode (now rows) p mode n) n (now w) × (a < n) × (v < n) × (mode .chains ≡ true) ⌝ }
     ensures { λ d. ⌜ d ≡ anyBelow n (linkedWith (decode (now (rows .entry)) p mode n) x y a v) ⌝ }
 {
-    for c in 0..n {
+    let at = area::REACH_OUT + a * area::GRID;
+    let f = sets::first_both(w, at, at, area::GRID);
+    if n <= f {
+        return false;
+    }
+    for c in f..n {
         if linked_with(rows, p, mode, n, x, y, r, q, a, v, c, w) {
             return true;
         }
@@ -147,7 +152,12 @@ fn some_met(
         × (r ≡ rowOf (now rows) x) × (q ≡ rowOf (now rows) y) × Reaching (decode (now rows) p mode n) n (now w) × (a < n) × (mode .chains ≡ true) ⌝ }
     ensures { λ d. ⌜ d ≡ anyBelow n (metWith (decode (now (rows .entry)) p mode n) x y a) ⌝ }
 {
-    for c in 0..n {
+    let at = area::REACH_OUT + a * area::GRID;
+    let f = sets::first_both(w, at, at, area::GRID);
+    if n <= f {
+        return false;
+    }
+    for c in f..n {
         if met_with(rows, p, mode, n, x, y, r, q, a, c, w) {
             return true;
         }

@@ -24,6 +24,7 @@ use rows::bytes;
 
 pub mod masks; // sets of a row's bytes
 pub mod elements; // L3 by two elements
+pub mod reach; // the reach of chains
 
 // The bits of a pair that is ordered at each byte that x, which is r, and y, which is q, share.
 fn fill_shared(x: usize, y: usize, r: Row, q: Row, w: &mut [u64])
@@ -129,7 +130,7 @@ pub fn fill_location(rows: &[u8], p: Places, mode: Mode, n: usize, w: &mut [u64]
     ensures { λ _. ⌜ MadeLocated (decode (now (rows .entry)) p mode n) n (now (w .entry)) (now (w .exit)) ⌝ }
 {
     location::hosted::make_hosted(rows, p, mode, n, w);
-    location::reach::make_reach(rows, p, mode, n, w);
+    reach::make_reach(rows, p, mode, n, w);
     bits::clear(w, area::LOCATION, area::LOCATION_END);
     for x in 0..n {
         fill_row(rows, p, mode, n, x, w);

@@ -17,7 +17,7 @@ use Rattle.quick_location.proofs.fill_location.Lts as lts
 use Rattle.bits.proofs.clear.Reads as clear-reads
 use Rattle.quick_location.proofs.fill_row.Reads as fill-row-reads
 use Rattle.location.proofs.hosted.make_hosted.Reads as make-hosted-reads
-use Rattle.location.proofs.reach.make_reach.Reads as make-reach-reads
+use Rattle.quick_location.proofs.reach.make_reach.Reads as make-reach-reads
 
 abbrev Inv-loop : tie.InvT-loop
 Inv-loop rows p mode n w₀ x₀ w x = (x ≤ n) × (length w ≡ length w₀) × Prepared (decode rows p mode n) n w × (w ≡ cubeFill (beforeNth (decode rows p mode n)) w₀ (LOCATION * 64) PAIRS PAIR n x)

@@ -4,4 +4,5 @@ pub mod Product
 pub mod Links
 pub mod Rows
 pub mod Breaks
+pub mod Pairs
 pub mod State

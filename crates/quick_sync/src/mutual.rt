@@ -11,6 +11,8 @@ ghost use Rattle.model.specs.Table.{rowOf, decode};
 ghost use Rattle.model.specs.Scope.{mutually};
 ghost use Rattle.model.specs.Synchronizes.{sequence};
 ghost use Rattle.area.specs.Regions.{MUTUAL, MUTUAL-END, SEQUENCE, SEQUENCE-END, GRID};
+ghost use Rattle.bits.specs.Within.{Within};
+ghost use Rattle.quick_sync.specs.Pairs.{Pairs};
 ghost use Rattle.quick_sync.specs.Breaks.{since, breakAt, firstBreak};
 use crate::walk;
 use model::Mode;
@@ -37,18 +39,20 @@ fn mutual_of(rows: &[u8], p: Places, mode: Mode, n: usize, i: usize, r: Row, j: 
     !(i == j) & scopes::is_mutual(p, r, q)
 }
 
-// M3 for row i and every other.
+// M3 for row i and every row after it, both ways; the rows before it were held against it.
 fn mutual_row(rows: &[u8], p: Places, mode: Mode, n: usize, i: usize, w: &mut [u64])
-    requires { ⌜ (n ≤ ROWS) × (i < n) × (WORK ≤ length (now w)) ⌝ }
-    ensures { λ _. ⌜ now (w .exit) ≡ rowFill (mutually (decode (now (rows .entry)) p mode n) i) (now (w .entry)) (MUTUAL * 64 + i * (GRID * 64)) n ⌝ }
+    requires { ⌜ (n ≤ ROWS) × (i < n) × (WORK ≤ length (now w)) × Pairs (mutually (decode (now rows) p mode n)) n (i * ROWS) (now w) ⌝ }
+    ensures { λ _. ⌜ Pairs (mutually (decode (now (rows .entry)) p mode n)) n ((i + 1) * ROWS) (now (w .exit))
+        × Within MUTUAL MUTUAL-END (now (w .entry)) (now (w .exit)) ⌝ }
 {
     let r = bytes::read_row(rows, i as u16);
     if !kinds::is_atomic(r) {
         return;
     }
-    for j in 0..n {
+    for j in i + 1..n {
         let b = mutual_of(rows, p, mode, n, i, r, j);
         bits::put_if(w, (area::MUTUAL + i * area::GRID) * 64 + j, b);
+        bits::put_if(w, (area::MUTUAL + j * area::GRID) * 64 + i, b);
     }
 }
 

@@ -27,10 +27,6 @@ use Rattle.quick_sync.specs.Links.{heads, gets, released, gotten, led, a
 
 -- ---- definitions
 
--- M4: z follows the head a, and doesn't continue its sequence
-unfoldable pub breaks : Table → ℕ → ℕ → Bool
-breaks t a z = follows t a z and not (continues (t .row z))
-
 -- row c is a control barrier
 unfoldable pub controlOf : List ℕ → ℕ → Bool
 controlOf b c = control (rowOf b c)
@@ -69,7 +65,7 @@ within-row {w} a b q at n l m e = rw e (within-rowFill a b q w at n l m)
 
 -- ---- laws: M3
 
-and-on : (a b : Bool) → a ≡ true → (a and b) ≡ b
+pub and-on : (a b : Bool) → a ≡ true → (a and b) ≡ b
 unfolding _and_
 and-on a b e = rw e refl
 
@@ -103,66 +99,6 @@ module _ (b : List ℕ) (p : List (List ℕ)) (mode : Mode) (n : ℕ) where
   pub mutual-none : (i : ℕ) (r : Row) (x : Bool) → r ≡ rowOf b i → x ≡ atomic r → not x ≡ true → (j : ℕ) → mutually (decode b p mode n) i j ≡ false
   unfolding mutually mutualRows decode
   mutual-none i r x er ex h j = and-false-right _ _ (and-false-left _ _ (and-false-left _ _ (and-false-left _ _ (rw (← er, ← ex) (not-out x h)))))
-
-  -- ---- laws: M4
-
-  pub breaks-apart : (a z : ℕ) → mutually (decode b p mode n) a z ≡ false → false ≡ breaks (decode b p mode n) a z
-  unfolding breaks follows
-  breaks-apart a z e = sym (and-false-left _ _ (and-false-left _ _ e))
-
-  pub breaks-on : (a z : ℕ) (h q : Row) (x y : Bool) → mutually (decode b p mode n) a z ≡ true → h ≡ rowOf b a → q ≡ rowOf b z → x ≡ laterWriter (mode .counted) q h
-      → y ≡ continues q → (x and not y) ≡ breaks (decode b p mode n) a z
-  unfolding breaks follows decode
-  breaks-on a z h q x y m eh eq ex ey = rw (ex, ey, eh, eq) (ap (λ (u : Bool). u and not (continues (rowOf b z))) (sym (and-on _ _ m)))
-
-  -- an end is a break
-  ends-is : (a x z : ℕ) → ends (decode b p mode n) a x z ≡ (breaks (decode b p mode n) a z and not (later (mode .counted) (rowOf b z .rank) (rowOf b x .rank)))
-  unfolding ends breaks decode
-  ends-is a x z = swap (follows (decode b p mode n) a z) (not (later (mode .counted) (rowOf b z .rank) (rowOf b x .rank))) (not (continues (rowOf b z)))
-    where
-      swap : (u v w : Bool) → (u and v and w) ≡ (u and w and v)
-      swap u v w = bool-ext _ _ (λ e. let s = split e in let o = split (s .0) in and-true (and-true (o .0) (s .1)) (o .1)) (λ e. let s = split e in let o = split (s .0) in and-true (and-true (o .0) (s .1)) (o .1))
-
-  pub ends-off : (a x z : ℕ) → breaks (decode b p mode n) a z ≡ false → false ≡ ends (decode b p mode n) a x z
-  ends-off a x z e = sym (ends-is a x z ∙ and-false-left _ _ e)
-
-  pub ends-on : (a x z : ℕ) (r q : Row) (y : Bool) → breaks (decode b p mode n) a z ≡ true → r ≡ rowOf b x → q ≡ rowOf b z → y ≡ later (mode .counted) (q .rank) (r .rank)
-      → not y ≡ ends (decode b p mode n) a x z
-  ends-on a x z r q y e er eq ey = rw (ey, er, eq) (sym (ends-is a x z ∙ and-on _ _ e))
-
-  -- where nothing breaks a sequence nothing ends it
-  pub ends-none : (a x : ℕ) → anyBelow n (breaks (decode b p mode n) a) ≡ false → anyBelow n (ends (decode b p mode n) a x) ≡ false
-  ends-none a x e = any-not _ n (λ z l. sym (ends-off a x z (any-off _ n e z l)))
-
-  pub sequence-apart : (a x : ℕ) → mutually (decode b p mode n) a x ≡ false → eqb a x ≡ sequence (decode b p mode n) a x
-  unfolding sequence follows
-  sequence-apart a x e = sym (or-off _ _ (and-false-left _ _ (and-false-left _ _ e)))
-
-  pub sequence-earlier : (a x : ℕ) (h r : Row) (y : Bool) → h ≡ rowOf b a → r ≡ rowOf b x → y ≡ laterWriter (mode .counted) r h → not y ≡ true → eqb a x ≡ sequence (decode b p mode n) a x
-  unfolding sequence follows decode
-  sequence-earlier a x h r y eh er ey f = sym (or-off _ _ (and-false-left _ _ (and-false-right _ _ (rw (← eh, ← er, ← ey) (not-out y f)))))
-
-  module _ (a x : ℕ) (h r : Row) (y : Bool) (m : mutually (decode b p mode n) a x ≡ true) (eh : h ≡ rowOf b a) (er : r ≡ rowOf b x) (ey : y ≡ laterWriter (mode .counted) r h) (f : not y ≡ false) where
-    following : follows (decode b p mode n) a x ≡ true
-    unfolding follows decode
-    following = and-true m (rw (← eh, ← er, ← ey) (not-false y f))
-
-    or-on : (u v : Bool) → v ≡ true → true ≡ (u or v)
-    unfolding _or_
-    or-on true v e = refl
-    or-on false v e = sym e
-
-    pub sequence-whole : anyBelow n (breaks (decode b p mode n) a) ≡ false → true ≡ sequence (decode b p mode n) a x
-    unfolding sequence decode
-    sequence-whole e = or-on (eqb a x) _ (and-true following (not-in (ends-none a x e)))
-
-    pub sequence-held : (d : Bool) → d ≡ anyBelow n (ends (decode b p mode n) a x) → (eqb a x or not d) ≡ sequence (decode b p mode n) a x
-    unfolding sequence decode
-    sequence-held d e = rw e (ap (λ (u : Bool). eqb a x or u) (sym (and-on _ _ following)))
-
-  -- a row that isn't atomic has itself alone
-  pub sequence-alone : (a : ℕ) (r : Row) (x : Bool) → r ≡ rowOf b a → x ≡ atomic r → not x ≡ true → (m : ℕ) → sequence (decode b p mode n) a m ≡ eqb a m
-  sequence-alone a r x er ex h m = sym (sequence-apart a m (mutual-none a r x er ex h m))
 
   -- ---- laws: M5
 

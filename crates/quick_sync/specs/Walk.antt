@@ -2,6 +2,7 @@
 -- goes by it may leave out. Assumes nothing.
 use mathlib.Core.Path.{_≡_, refl, sym, ap, ap₂, _∙_}
 use mathlib.Core.Bool.{Bool, true, false}
+use mathlib.Core.Logic.{_⊎_, ⊎-elim}
 use mathlib.Core.List.{List}
 use Prim.Native.Nat.{ℕ, zero, suc, _+_, _-_, _*_, _/_, _%_, _^_, _≤_, _<_, min}
 use native.Mathlib.Omega.{arith}
@@ -38,6 +39,13 @@ pub record Next (w : List ℕ) (a b j n r : ℕ) : Type 0 where
   pub high : r ≤ n
   pub hit : r < n → either w a b r ≡ true
   pub miss : (m : ℕ) → j ≤ m → m < r → either w a b m ≡ false
+
+-- the same of one row, or i if that comes first
+pub record NextOr (w : List ℕ) (a i j n r : ℕ) : Type 0 where
+  pub low : j ≤ r
+  pub high : r ≤ n
+  pub hit : r < n → (r ≡ i → ⊥) → either w a a r ≡ true
+  pub miss : (m : ℕ) → j ≤ m → m < r → (either w a a m ≡ false) × (m ≡ i → ⊥)
 
 -- ---- laws: a word
 
@@ -124,6 +132,18 @@ module _ (w : List ℕ) (a b : ℕ) where
     -- the first word has nothing from j on
     pub none-first : (k : ℕ) → 64 ≤ k → FromBit (bitOr (getD w a 0) (getD w b 0)) j k → (m : ℕ) → j ≤ m → m < 64 → either w a b m ≡ false
     none-first k h f m p q = first-word m q ∙ f .miss m p q (omega arith)
+
+-- ---- laws: one row, and a number beside it
+
+module _ (w : List ℕ) (a i j n k : ℕ) (s : Next w a a j n k) where
+  -- it is gone by, or not reached yet
+  pub or-next : (i < j ⊎ k ≤ i) → NextOr w a i j n k
+  or-next o = record { low = s .low; high = s .high; hit = λ l d. s .hit l; miss = λ m p q. (s .miss m p q, λ e. ⊎-elim (λ l. omega arith) (λ l. omega arith) o) }
+
+  pub or-here : j ≤ i → i < k → NextOr w a i j n i
+  or-here l h =
+      let o = s .high in
+      record { low = l; high = omega arith; hit = λ q d. absurd (d refl); miss = λ m p q. (s .miss m p (omega arith), λ e. omega arith) }
 
 -- ---- laws: what is passed over
 

@@ -1,16 +1,20 @@
 // M3 and M4: mutually-ordered rows and release sequences, as bits, row by row. A row that isn't atomic costs one test.
 ghost use mathlib.Core.Path.{_≡_};
+ghost use mathlib.Core.Bool.{true};
 ghost use Prim.Native.Nat.{_+_, _*_, _≤_, _<_};
 ghost use lib.ListN.{length};
-ghost use Rattle.finite.specs.Below.{anyBelow};
 ghost use Rattle.bits.specs.Fill.{rowFill};
 ghost use Rattle.bits.specs.Stage.{Holds, Made};
 ghost use Rattle.model.specs.Limits.{ROWS, WORK};
+ghost use Rattle.model.specs.Row.{writes};
 ghost use Rattle.model.specs.Table.{rowOf, decode};
 ghost use Rattle.model.specs.Scope.{mutually};
-ghost use Rattle.model.specs.Synchronizes.{ends, sequence};
+ghost use Rattle.model.specs.Synchronizes.{sequence};
 ghost use Rattle.area.specs.Regions.{MUTUAL, MUTUAL-END, SEQUENCE, SEQUENCE-END, GRID};
-ghost use Rattle.quick_sync.specs.Rows.{breaks};
+ghost use Rattle.bits.specs.Within.{Within};
+ghost use Rattle.quick_sync.specs.Pairs.{Pairs};
+ghost use Rattle.quick_sync.specs.Breaks.{since, breakAt, firstBreak};
+use crate::walk;
 use model::Mode;
 use model::Places;
 use model::Row;
@@ -35,18 +39,20 @@ fn mutual_of(rows: &[u8], p: Places, mode: Mode, n: usize, i: usize, r: Row, j: 
     !(i == j) & scopes::is_mutual(p, r, q)
 }
 
-// M3 for row i and every other.
+// M3 for row i and every row after it, both ways; the rows before it were held against it.
 fn mutual_row(rows: &[u8], p: Places, mode: Mode, n: usize, i: usize, w: &mut [u64])
-    requires { ⌜ (n ≤ ROWS) × (i < n) × (WORK ≤ length (now w)) ⌝ }
-    ensures { λ _. ⌜ now (w .exit) ≡ rowFill (mutually (decode (now (rows .entry)) p mode n) i) (now (w .entry)) (MUTUAL * 64 + i * (GRID * 64)) n ⌝ }
+    requires { ⌜ (n ≤ ROWS) × (i < n) × (WORK ≤ length (now w)) × Pairs (mutually (decode (now rows) p mode n)) n (i * ROWS) (now w) ⌝ }
+    ensures { λ _. ⌜ Pairs (mutually (decode (now (rows .entry)) p mode n)) n ((i + 1) * ROWS) (now (w .exit))
+        × Within MUTUAL MUTUAL-END (now (w .entry)) (now (w .exit)) ⌝ }
 {
     let r = bytes::read_row(rows, i as u16);
     if !kinds::is_atomic(r) {
         return;
     }
-    for j in 0..n {
+    for j in i + 1..n {
         let b = mutual_of(rows, p, mode, n, i, r, j);
         bits::put_if(w, (area::MUTUAL + i * area::GRID) * 64 + j, b);
+        bits::put_if(w, (area::MUTUAL + j * area::GRID) * 64 + i, b);
     }
 }
 
@@ -63,92 +69,50 @@ pub fn fill_mutual(rows: &[u8], p: Places, mode: Mode, n: usize, w: &mut [u64])
 
 // ---- M4
 
-// M4: whether row z follows the head a, which is h, and doesn't continue its sequence.
-fn is_break(
-    rows: &[u8],
-    p: Places,
-    mode: Mode,
-    n: usize,
-    a: usize,
-    h: Row,
-    z: usize,
-    w: &[u64],
-) -> bool
-    requires { ⌜ (n ≤ ROWS) × (a < n) × (z < n) × (WORK ≤ length (now w)) × (h ≡ rowOf (now rows) a)
-        × Holds MUTUAL GRID n (mutually (decode (now rows) p mode n)) (now w) ⌝ }
-    ensures { λ b. ⌜ b ≡ breaks (decode (now (rows .entry)) p mode n) a z ⌝ }
+// Where no rank stands.
+const NEVER: usize = 65536;
+
+// Where a rank that is later than h stands among all that are.
+fn since_of(counted: bool, k: u16, h: u16) -> u16
+    ensures { λ r. ⌜ r ≡ since counted k h ⌝ }
 {
-    if !bits::get(w, (area::MUTUAL + a * area::GRID) * 64 + z) {
-        return false;
-    }
-    let q = bytes::read_row(rows, z as u16);
-    scopes::is_later_writer(mode.counted, q, h) & !sequence::heads::is_continued(q)
+    if counted { scopes::age(k, h) } else { k }
 }
 
-// M4: whether some row breaks the sequence of the head a.
-fn has_break(rows: &[u8], p: Places, mode: Mode, n: usize, a: usize, h: Row, w: &[u64]) -> bool
-    requires { ⌜ (n ≤ ROWS) × (a < n) × (WORK ≤ length (now w)) × (h ≡ rowOf (now rows) a)
-        × Holds MUTUAL GRID n (mutually (decode (now rows) p mode n)) (now w) ⌝ }
-    ensures { λ b. ⌜ b ≡ anyBelow n (breaks (decode (now (rows .entry)) p mode n) a) ⌝ }
+// M4: where row z, which is mutually-ordered with the head a, which is h, breaks its sequence: a write alone does, if it is later.
+fn break_of(rows: &[u8], p: Places, mode: Mode, n: usize, a: usize, h: Row, z: usize) -> usize
+    requires { ⌜ (z < ROWS) × (h ≡ rowOf (now rows) a) × (writes h ≡ true) × (mutually (decode (now rows) p mode n) a z ≡ true) ⌝ }
+    ensures { λ k. ⌜ k ≡ breakAt (decode (now (rows .entry)) p mode n) a z ⌝ }
 {
-    for z in 0..n {
-        if is_break(rows, p, mode, n, a, h, z, w) {
-            return true;
-        }
+    if bytes::read_kind(rows, z as u16) != kinds::ATOMIC_WRITE {
+        return NEVER;
     }
-    false
+    let k = bytes::read_rank(rows, z as u16);
+    if !scopes::is_later(mode.counted, k, h.rank) {
+        return NEVER;
+    }
+    since_of(mode.counted, k, h.rank) as usize
 }
 
-// M4: whether row z ends the sequence of the head a, which is h, no later than row x, which is r.
-fn is_end(
-    rows: &[u8],
-    p: Places,
-    mode: Mode,
-    n: usize,
-    a: usize,
-    h: Row,
-    x: usize,
-    r: Row,
-    z: usize,
-    w: &[u64],
-) -> bool
-    requires { ⌜ (n ≤ ROWS) × (a < n) × (z < n) × (WORK ≤ length (now w)) × (h ≡ rowOf (now rows) a) × (r ≡ rowOf (now rows) x)
+// M4: where the first row does.
+fn first_break(rows: &[u8], p: Places, mode: Mode, n: usize, a: usize, h: Row, w: &[u64]) -> usize
+    requires { ⌜ (n ≤ ROWS) × (a < n) × (WORK ≤ length (now w)) × (h ≡ rowOf (now rows) a) × (writes h ≡ true)
         × Holds MUTUAL GRID n (mutually (decode (now rows) p mode n)) (now w) ⌝ }
-    ensures { λ b. ⌜ b ≡ ends (decode (now (rows .entry)) p mode n) a x z ⌝ }
+    ensures { λ f. ⌜ f ≡ firstBreak (decode (now (rows .entry)) p mode n) a n ⌝ }
 {
-    if !is_break(rows, p, mode, n, a, h, z, w) {
-        return false;
+    let at = area::MUTUAL + a * area::GRID;
+    let mut first = NEVER;
+    let mut z = walk::next(w, at, at, 0, n);
+    while z < n {
+        let k = break_of(rows, p, mode, n, a, h, z);
+        first = walk::at_most(first, k);
+        z = walk::next(w, at, at, z + 1, n);
     }
-    let q = bytes::read_row(rows, z as u16);
-    !scopes::is_later(mode.counted, q.rank, r.rank)
+    first
 }
 
-// M4: whether some row does.
-fn is_ended(
-    rows: &[u8],
-    p: Places,
-    mode: Mode,
-    n: usize,
-    a: usize,
-    h: Row,
-    x: usize,
-    r: Row,
-    w: &[u64],
-) -> bool
-    requires { ⌜ (n ≤ ROWS) × (a < n) × (WORK ≤ length (now w)) × (h ≡ rowOf (now rows) a) × (r ≡ rowOf (now rows) x)
-        × Holds MUTUAL GRID n (mutually (decode (now rows) p mode n)) (now w) ⌝ }
-    ensures { λ b. ⌜ b ≡ anyBelow n (ends (decode (now (rows .entry)) p mode n) a x) ⌝ }
-{
-    for z in 0..n {
-        if is_end(rows, p, mode, n, a, h, x, r, z, w) {
-            return true;
-        }
-    }
-    false
-}
-
-// M4: whether row x is in the release sequence of the head a, which is h; `broken` says whether some row breaks that. Only then is x
-// held against the others.
+// M4: whether row x, which is the head a or mutually-ordered with it, is in the sequence of a, which is h, whose first break is
+// known: a writer that is later than the head and earlier than the break.
 fn sequence_of(
     rows: &[u8],
     p: Places,
@@ -156,42 +120,43 @@ fn sequence_of(
     n: usize,
     a: usize,
     h: Row,
-    broken: bool,
+    first: usize,
     x: usize,
-    w: &[u64],
 ) -> bool
-    requires { ⌜ (n ≤ ROWS) × (a < n) × (x < n) × (WORK ≤ length (now w)) × (h ≡ rowOf (now rows) a)
-        × (broken ≡ anyBelow n (breaks (decode (now rows) p mode n) a))
-        × Holds MUTUAL GRID n (mutually (decode (now rows) p mode n)) (now w) ⌝ }
+    requires { ⌜ (x < ROWS) × (h ≡ rowOf (now rows) a) × (writes h ≡ true) × (first ≡ firstBreak (decode (now rows) p mode n) a n)
+        × ((x ≡ a → ⊥) → mutually (decode (now rows) p mode n) a x ≡ true) ⌝ }
     ensures { λ b. ⌜ b ≡ sequence (decode (now (rows .entry)) p mode n) a x ⌝ }
 {
-    if !bits::get(w, (area::MUTUAL + a * area::GRID) * 64 + x) {
-        return a == x;
-    }
-    let r = bytes::read_row(rows, x as u16);
-    if !scopes::is_later_writer(mode.counted, r, h) {
-        return a == x;
-    }
-    if !broken {
+    if x == a {
         return true;
     }
-    (a == x) | !is_ended(rows, p, mode, n, a, h, x, r, w)
+    if bytes::read_kind(rows, x as u16) == kinds::ATOMIC_READ {
+        return false;
+    }
+    let k = bytes::read_rank(rows, x as u16);
+    if !scopes::is_later(mode.counted, k, h.rank) {
+        return false;
+    }
+    (since_of(mode.counted, k, h.rank) as usize) < first
 }
 
-// M4 for the head a and every row. A row that isn't atomic has itself alone.
+// M4 for the head a and every row. A row that doesn't write has itself alone.
 fn sequence_row(rows: &[u8], p: Places, mode: Mode, n: usize, a: usize, w: &mut [u64])
     requires { ⌜ (n ≤ ROWS) × (a < n) × (WORK ≤ length (now w)) × Holds MUTUAL GRID n (mutually (decode (now rows) p mode n)) (now w) ⌝ }
     ensures { λ _. ⌜ now (w .exit) ≡ rowFill (sequence (decode (now (rows .entry)) p mode n) a) (now (w .entry)) (SEQUENCE * 64 + a * (GRID * 64)) n ⌝ }
 {
     let h = bytes::read_row(rows, a as u16);
-    if !kinds::is_atomic(h) {
+    if !kinds::writes(h) {
         bits::put(w, (area::SEQUENCE + a * area::GRID) * 64 + a);
         return;
     }
-    let broken = has_break(rows, p, mode, n, a, h, w);
-    for x in 0..n {
-        let b = sequence_of(rows, p, mode, n, a, h, broken, x, w);
+    let first = first_break(rows, p, mode, n, a, h, w);
+    let at = area::MUTUAL + a * area::GRID;
+    let mut x = walk::next_or(w, at, a, 0, n);
+    while x < n {
+        let b = sequence_of(rows, p, mode, n, a, h, first, x);
         bits::put_if(w, (area::SEQUENCE + a * area::GRID) * 64 + x, b);
+        x = walk::next_or(w, at, a, x + 1, n);
     }
 }
 

@@ -1,86 +1,73 @@
-use mathlib.Core.Path.{_≡_, refl, sym, ap, _∙_}
-use borrow.Author.Tests.{not-true, not-false}
-use Rattle.finite.specs.Logic.{_and_, _or_}
-use Rattle.bits.specs.Stage.{Holds, holds-bit, holds-kept}
-use native.Mathlib.Omega.{arith}
-use Rattle.quick_sync.specs.Rows.{sequence-apart, sequence-earlier, sequence-whole, sequence-held}
+use mathlib.Core.Path.{sym}
+use Rattle.quick_sync.specs.Breaks.{sequence-own, sequence-read, sequence-earlier, sequence-within}
 use borrow.Author.Needs.{needs}
 use Rattle.quick_sync.proofs.mutual.sequence_of.Statement.{statement}
 use Rattle.quick_sync.proofs.mutual.sequence_of.Tie as tie
 use Rattle.quick_sync.proofs.mutual.sequence_of.Reads as reads
 use Rattle.quick_sync.proofs.mutual.sequence_of.Lts as lts
-use Rattle.bits.proofs.get.Reads as get-reads
-use Rattle.quick_sync.proofs.mutual.is_ended.Reads as is-ended-reads
-use Rattle.rows.proofs.bytes.read_row.Reads as read-row-reads
-use Rattle.rows.proofs.scopes.is_later_writer.Reads as is-later-writer-reads
+use Rattle.quick_sync.proofs.mutual.since_of.Reads as since-of-reads
+use Rattle.rows.proofs.bytes.read_kind.Reads as read-kind-reads
+use Rattle.rows.proofs.bytes.read_rank.Reads as read-rank-reads
+use Rattle.rows.proofs.scopes.is_later.Reads as is-later-reads
 
--- src/mutual.rt:159:38
-mul-get : tie.Need-mul-get
-mul-get c = search needs
-
--- src/mutual.rt:159:23
-add-get : tie.Need-add-get
-add-get c = search needs
-
--- src/mutual.rt:159:22
-mul-get-2 : tie.Need-mul-get-2
-mul-get-2 c = search needs
-
--- src/mutual.rt:159:22
-add-get-2 : tie.Need-add-get-2
-add-get-2 c = search needs
-
--- src/mutual.rt:159:9
-get-requires : tie.Need-get-requires
-get-requires c κs = search needs
-
--- src/mutual.rt:160:9
+-- src/mutual.rt:118:9
 returns : tie.Need-returns
-returns c = sequence-apart _ _ _ _ _ _ (sym (holds-bit (c .before .before .before .before .pre .6) _ _ _ (omega arith) (c .before .before .before .before .pre .1) (c .before .before .before .before .pre .2)) ∙ sym (c .before .get .ensures) ∙ not-true _ (c .if1 .taken))
+returns c = sequence-own _ _ _ _ _ _ (sym (c .if1 .taken))
 
--- src/mutual.rt:162:35
-cast-read-row : tie.Need-cast-read-row
-cast-read-row c = search needs
+-- src/mutual.rt:120:31
+cast-read-kind : tie.Need-cast-read-kind
+cast-read-kind c = search needs
 
--- src/mutual.rt:162:9
-read-row-requires : tie.Need-read-row-requires
-read-row-requires c κs = search needs
+-- src/mutual.rt:120:8
+read-kind-requires : tie.Need-read-kind-requires
+read-kind-requires c κs = search needs
 
--- src/mutual.rt:163:9
-is-later-writer-requires : tie.Need-is-later-writer-requires
-is-later-writer-requires c κs = search needs
-
--- src/mutual.rt:164:9
+-- src/mutual.rt:121:9
 returns-2 : tie.Need-returns-2
-returns-2 c = sequence-earlier _ _ _ _ _ _ _ _ _ (c .before .before .before .before .before .before .before .pre .4) (c .before .before .read-row .ensures) (c .before .is-later-writer .ensures) (c .if2 .taken)
+returns-2 c = sequence-read _ _ _ _ _ _ (c .before .before .before .before .pre .4 (c .before .before .if1 .left)) _ (c .before .read-kind .ensures) (c .if2 .taken)
 
--- src/mutual.rt:167:9
+-- src/mutual.rt:123:36
+cast-read-rank : tie.Need-cast-read-rank
+cast-read-rank c = search needs
+
+-- src/mutual.rt:123:9
+read-rank-requires : tie.Need-read-rank-requires
+read-rank-requires c κs = search needs
+
+-- src/mutual.rt:124:9
+is-later-requires : tie.Need-is-later-requires
+is-later-requires c κs = search needs
+
+-- src/mutual.rt:125:9
 returns-3 : tie.Need-returns-3
-returns-3 c = sequence-whole _ _ _ _ _ _ _ _ _ (sym (holds-bit (c .before .before .before .before .before .before .before .before .pre .6) _ _ _ (omega arith) (c .before .before .before .before .before .before .before .before .pre .1) (c .before .before .before .before .before .before .before .before .pre .2)) ∙ sym (c .before .before .before .before .before .get .ensures) ∙ not-false _ (c .before .before .before .before .if1 .left)) (c .before .before .before .before .before .before .before .before .pre .4) (c .before .before .before .read-row .ensures) (c .before .before .is-later-writer .ensures) (c .before .if2 .left) (sym (c .before .before .before .before .before .before .before .before .pre .5) ∙ not-true _ (c .if3 .taken))
+returns-3 c = sequence-earlier _ _ _ _ _ _ (c .before .before .before .before .before .before .before .pre .4 (c .before .before .before .before .before .if1 .left)) _ _ _ (c .before .before .before .before .before .before .before .pre .1) (c .before .before .read-rank .ensures) (c .before .is-later .ensures) (c .if3 .taken)
 
--- src/mutual.rt:169:17
-is-ended-requires : tie.Need-is-ended-requires
-is-ended-requires c κs = search needs
+-- src/mutual.rt:127:6
+since-of-requires : tie.Need-since-of-requires
+since-of-requires c κs = search needs
 
--- src/mutual.rt:143:1
+-- src/mutual.rt:127:6
+cast-result : tie.Need-cast-result
+cast-result c = search needs
+
+-- src/mutual.rt:112:1
 returns-4 : tie.Need-returns-4
-unfolding _or_
-returns-4 c = sequence-held _ _ _ _ _ _ _ _ _ (sym (holds-bit (c .before .before .before .before .before .before .before .before .before .pre .6) _ _ _ (omega arith) (c .before .before .before .before .before .before .before .before .before .pre .1) (c .before .before .before .before .before .before .before .before .before .pre .2)) ∙ sym (c .before .before .before .before .before .before .get .ensures) ∙ not-false _ (c .before .before .before .before .before .if1 .left)) (c .before .before .before .before .before .before .before .before .before .pre .4) (c .before .before .before .before .read-row .ensures) (c .before .before .before .is-later-writer .ensures) (c .before .before .if2 .left) _ (c .is-ended .ensures)
+returns-4 c =
+    let pre = c .before .before .before .before .before .before .before .before .pre in
+    sequence-within _ _ _ _ _ _ (pre .4 (c .before .before .before .before .before .before .if1 .left)) _ _ _ _ _ _ (pre .1) (pre .2) (search needs) (c .before .before .before .before .before .read-kind .ensures) (c .before .before .before .before .if2 .left) (c .before .before .before .read-rank .ensures) (search needs) (c .before .before .is-later .ensures) (c .before .if3 .left) (c .since-of .ensures) (pre .3)
 
 pub sequence-of-spec : {M : Type 1} → statement M
 sequence-of-spec =
     tie.close
     (tie.spec
-    mul-get
-    add-get
-    mul-get-2
-    add-get-2
-    get-requires
     returns
-    cast-read-row
-    read-row-requires
-    is-later-writer-requires
+    cast-read-kind
+    read-kind-requires
     returns-2
+    cast-read-rank
+    read-rank-requires
+    is-later-requires
     returns-3
-    is-ended-requires
+    since-of-requires
+    cast-result
     returns-4)

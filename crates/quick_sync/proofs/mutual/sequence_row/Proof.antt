@@ -1,16 +1,20 @@
 use mathlib.Core.Path.{_≡_, refl, sym, ap, _∙_}
+use mathlib.Core.Bool.{true}
 use Prim.Native.Nat.{_+_, _-_, _*_, _≤_, _<_}
 use native.Mathlib.Omega.{arith}
 use lib.ListN.{length}
+use borrow.Author.Tests.{not-false}
 use Rattle.bits.specs.Fill.{rowFill, rowFill-none, rowFill-put, length-rowFill}
 use Rattle.bits.specs.Within.{within-put}
+use Rattle.bits.specs.Stage.{Holds, holds-kept}
+use Rattle.model.specs.Row.{writes}
 use Rattle.model.specs.Table.{rowOf, decode}
-use Rattle.bits.specs.Stage.{Holds, holds-bit, holds-kept}
-use Rattle.finite.specs.Below.{anyBelow}
 use Rattle.model.specs.Scope.{mutually}
 use Rattle.model.specs.Synchronizes.{sequence}
 use Rattle.area.specs.Regions.{MUTUAL, SEQUENCE, SEQUENCE-END, GRID}
-use Rattle.quick_sync.specs.Rows.{breaks, row-one, sequence-alone}
+use Rattle.quick_sync.specs.Walk.{walked, fill-pass}
+use Rattle.quick_sync.specs.Rows.{row-one}
+use Rattle.quick_sync.specs.Breaks.{firstBreak, sequence-alone, sequence-apart}
 use borrow.Author.Needs.{needs}
 use Rattle.quick_sync.proofs.mutual.sequence_row.Statement.{statement}
 use Rattle.quick_sync.proofs.mutual.sequence_row.Tie as tie
@@ -18,112 +22,137 @@ use Rattle.quick_sync.proofs.mutual.sequence_row.Reads as reads
 use Rattle.quick_sync.proofs.mutual.sequence_row.Lts as lts
 use Rattle.bits.proofs.put.Reads as put-reads
 use Rattle.bits.proofs.put_if.Reads as put-if-reads
-use Rattle.quick_sync.proofs.mutual.has_break.Reads as has-break-reads
+use Rattle.quick_sync.proofs.mutual.first_break.Reads as first-break-reads
 use Rattle.quick_sync.proofs.mutual.sequence_of.Reads as sequence-of-reads
+use Rattle.quick_sync.proofs.walk.next_or.Reads as next-or-reads
 use Rattle.rows.proofs.bytes.read_row.Reads as read-row-reads
-use Rattle.rows.proofs.kinds.is_atomic.Reads as is-atomic-reads
+use Rattle.rows.proofs.kinds.writes.Reads as writes-reads
 
 abbrev Inv-loop : tie.InvT-loop
-Inv-loop rows p mode n a w₀ h broken x₀ w x = (x ≤ n) × (length w ≡ length w₀) × (h ≡ rowOf rows a) × (broken ≡ anyBelow n (breaks (decode rows p mode n) a)) × Holds MUTUAL GRID n (mutually (decode rows p mode n)) w × (w ≡ rowFill (sequence (decode rows p mode n) a) w₀ (SEQUENCE * 64 + a * (GRID * 64)) x)
+Inv-loop rows p mode n a w₀ h first at x₀ w x = (x ≤ n) × (length w ≡ length w₀) × (h ≡ rowOf rows a) × (writes h ≡ true) × (first ≡ firstBreak (decode rows p mode n) a n) × Holds MUTUAL GRID n (mutually (decode rows p mode n)) w × (x < n → (x ≡ a → ⊥) → mutually (decode rows p mode n) a x ≡ true) × (w ≡ rowFill (sequence (decode rows p mode n) a) w₀ (SEQUENCE * 64 + a * (GRID * 64)) x)
 
 abbrev μ-loop : tie.MeasureT-loop
-μ-loop rows p mode n a w₀ h broken x₀ w x = n - x
+μ-loop rows p mode n a w₀ h first at x₀ w x = n - x
 
--- src/mutual.rt:177:35
+-- src/mutual.rt:135:35
 cast-read-row : tie.Need-cast-read-row Inv-loop μ-loop
 cast-read-row c = search needs
 
--- src/mutual.rt:177:9
+-- src/mutual.rt:135:9
 read-row-requires : tie.Need-read-row-requires Inv-loop μ-loop
 read-row-requires c κs = search needs
 
--- src/mutual.rt:178:9
-is-atomic-requires : tie.Need-is-atomic-requires Inv-loop μ-loop
-is-atomic-requires c κs = search needs
+-- src/mutual.rt:136:9
+writes-requires : tie.Need-writes-requires Inv-loop μ-loop
+writes-requires c κs = search needs
 
--- src/mutual.rt:179:40
+-- src/mutual.rt:137:40
 mul-put : tie.Need-mul-put Inv-loop μ-loop
 mul-put c = search needs
 
--- src/mutual.rt:179:23
+-- src/mutual.rt:137:23
 add-put : tie.Need-add-put Inv-loop μ-loop
 add-put c = search needs
 
--- src/mutual.rt:179:22
+-- src/mutual.rt:137:22
 mul-put-2 : tie.Need-mul-put-2 Inv-loop μ-loop
 mul-put-2 c = search needs
 
--- src/mutual.rt:179:22
+-- src/mutual.rt:137:22
 add-put-2 : tie.Need-add-put-2 Inv-loop μ-loop
 add-put-2 c = search needs
 
--- src/mutual.rt:179:9
+-- src/mutual.rt:137:9
 put-requires : tie.Need-put-requires Inv-loop μ-loop
 put-requires c κs = search needs
 
--- src/mutual.rt:180:9
+-- src/mutual.rt:138:9
 same-length : tie.Need-same-length Inv-loop μ-loop
 same-length c = search needs
 
--- src/mutual.rt:180:9
+-- src/mutual.rt:138:9
 returns : tie.Need-returns Inv-loop μ-loop
-returns c = c .before .before .put .ensures ∙ row-one _ _ _ _ _ _ (c .before .before .before .before .before .before .before .before .before .pre .1) (omega arith) (λ m l. sequence-alone _ _ _ _ _ _ _ (c .before .before .before .before .before .before .read-row .ensures) (c .before .before .before .before .before .is-atomic .ensures) (c .before .before .before .before .if1 .taken) m)
+returns c = c .before .before .put .ensures ∙ row-one _ _ _ _ _ _ (c .before .before .before .before .before .before .before .before .before .pre .1) (omega arith) (λ m l. sequence-alone _ _ _ _ _ _ _ (c .before .before .before .before .before .before .read-row .ensures) (c .before .before .before .before .before .writes .ensures) (c .before .before .before .before .if1 .taken) m)
 
--- src/mutual.rt:182:9
-has-break-requires : tie.Need-has-break-requires Inv-loop μ-loop
-has-break-requires c κs = search needs
+-- src/mutual.rt:140:9
+first-break-requires : tie.Need-first-break-requires Inv-loop μ-loop
+first-break-requires c κs =
+    let pre = c .before .before .before .before .before .before .pre in
+    (search needs, pre .1, search needs, c .before .before .before .read-row .ensures, sym (c .before .before .writes .ensures) ∙ not-false _ (c .before .if1 .left), pre .3)
 
--- src/mutual.rt:183:5
+-- src/mutual.rt:141:29
+mul-at : tie.Need-mul-at Inv-loop μ-loop
+mul-at c = search needs
+
+-- src/mutual.rt:141:14
+add-at : tie.Need-add-at Inv-loop μ-loop
+add-at c = search needs
+
+-- src/mutual.rt:142:9
+next-or-requires : tie.Need-next-or-requires Inv-loop μ-loop
+next-or-requires c κs = search needs
+
+-- src/mutual.rt:143:5
 loop-holds : tie.Need-loop-holds Inv-loop μ-loop
-loop-holds c = (search needs, refl, c .before .before .before .before .read-row .ensures, c .has-break .ensures, c .before .before .before .before .before .before .before .pre .3, rowFill-none _ _ _)
+loop-holds c =
+    let pre = c .before .before .before .before .before .before .before .before .before .pre in
+    let next = c .next-or .ensures in
+    (next .high, refl, c .before .before .before .before .before .before .read-row .ensures, sym (c .before .before .before .before .before .writes .ensures) ∙ not-false _ (c .before .before .before .before .if1 .left), c .before .before .first-break .ensures, pre .3, λ l d. walked (pre .3) _ _ (pre .1) l (next .hit l d), fill-pass _ _ _ _ _ _ (next .low) (λ m l q. sequence-apart _ _ _ _ _ _ (next .miss m l q .1) (walked (pre .3) _ _ (pre .1) (omega (arith, next .high)) (next .miss m l q .0))) (rowFill-none _ _ _))
 
--- src/mutual.rt:184:13
+-- src/mutual.rt:144:13
 sequence-of-requires : tie.Need-sequence-of-requires Inv-loop μ-loop
-sequence-of-requires c κs = search needs
+sequence-of-requires c κs = let inv = c .before .loop .inv in (search needs, inv .2, inv .3, inv .4, inv .6 (c .loop-test .taken))
 
--- src/mutual.rt:185:43
+-- src/mutual.rt:145:43
 mul-put-if : tie.Need-mul-put-if Inv-loop μ-loop
 mul-put-if c = search needs
 
--- src/mutual.rt:185:26
+-- src/mutual.rt:145:26
 add-put-if : tie.Need-add-put-if Inv-loop μ-loop
 add-put-if c = search needs
 
--- src/mutual.rt:185:25
+-- src/mutual.rt:145:25
 mul-put-if-2 : tie.Need-mul-put-if-2 Inv-loop μ-loop
 mul-put-if-2 c = search needs
 
--- src/mutual.rt:185:25
+-- src/mutual.rt:145:25
 add-put-if-2 : tie.Need-add-put-if-2 Inv-loop μ-loop
 add-put-if-2 c = search needs
 
--- src/mutual.rt:185:9
+-- src/mutual.rt:145:9
 put-if-requires : tie.Need-put-if-requires Inv-loop μ-loop
 put-if-requires c κs = search needs
 
--- src/mutual.rt:183:9
-add-x : tie.Need-add-x Inv-loop μ-loop
-add-x c = search needs
+-- src/mutual.rt:146:37
+add-next-or : tie.Need-add-next-or Inv-loop μ-loop
+add-next-or c = search needs
 
--- src/mutual.rt:183:5
+-- src/mutual.rt:146:9
+next-or-requires-2 : tie.Need-next-or-requires-2 Inv-loop μ-loop
+next-or-requires-2 c κs = search needs
+
+-- src/mutual.rt:143:5
 loop-less : tie.Need-loop-less Inv-loop μ-loop
 loop-less c = search needs
 
--- src/mutual.rt:183:5
+-- src/mutual.rt:143:5
 loop-again : tie.Need-loop-again Inv-loop μ-loop
 loop-again c =
-    let put = c .before .before .put-if in
-    let inv = c .before .before .before .before .before .before .before .loop .inv in
-    let e = rowFill-put _ _ _ (put .last .0) _ _ _ _ (inv .5) (c .before .before .before .before .sequence-of .ensures) (omega arith) (put .ensures) in
-    (search needs, ap length e ∙ length-rowFill _ _ _ _, inv .2, inv .3, holds-kept (λ h. omega arith) (within-put SEQUENCE SEQUENCE-END _ _ (omega arith) (omega arith) (put .ensures)) (inv .4), e)
+    let pre = c .before .before .before .before .before .before .before .before .before .before .before .before .before .before .before .before .before .before .pre in
+    let next = c .next-or2 .ensures in
+    let put = c .before .before .before .before .put-if in
+    let inv = c .before .before .before .before .before .before .before .before .loop .inv in
+    let e = rowFill-put _ _ _ (put .last .0) _ _ _ _ (inv .7) (c .before .before .before .before .before .before .sequence-of .ensures) (omega arith) (put .ensures) in
+    let k = holds-kept (λ h. omega arith) (within-put SEQUENCE SEQUENCE-END _ _ (omega arith) (omega arith) (put .ensures)) (inv .5) in
+    (next .high, ap length e ∙ length-rowFill _ _ _ _, inv .2, inv .3, inv .4, k, λ l d. walked k _ _ (pre .1) l (next .hit l d), fill-pass _ _ _ _ _ _ (next .low) (λ m l q. sequence-apart _ _ _ _ _ _ (next .miss m l q .1) (walked k _ _ (pre .1) (omega (arith, next .high)) (next .miss m l q .0))) e)
 
--- src/mutual.rt:173:1
+-- src/mutual.rt:131:1
 same-length-2 : tie.Need-same-length-2 Inv-loop μ-loop
 same-length-2 c = search needs
 
--- src/mutual.rt:173:1
+-- src/mutual.rt:131:1
 returns-2 : tie.Need-returns-2 Inv-loop μ-loop
-returns-2 c = let e : c .before .loop .x ≡ c .before .before .before .before .before .before .before .before .before .args .n = omega arith in rw e at (c .before .loop .inv .5)
+returns-2 c = let e : c .before .loop .x ≡ c .before .before .before .before .before .before .before .before .before .before .before .args .n = omega arith in rw e at (c .before .loop .inv .7)
 
 pub sequence-row-spec : {M : Type 1} → statement M
 sequence-row-spec =
@@ -133,7 +162,7 @@ sequence-row-spec =
     μ-loop
     cast-read-row
     read-row-requires
-    is-atomic-requires
+    writes-requires
     mul-put
     add-put
     mul-put-2
@@ -141,7 +170,10 @@ sequence-row-spec =
     put-requires
     same-length
     returns
-    has-break-requires
+    first-break-requires
+    mul-at
+    add-at
+    next-or-requires
     loop-holds
     sequence-of-requires
     mul-put-if
@@ -149,7 +181,8 @@ sequence-row-spec =
     mul-put-if-2
     add-put-if-2
     put-if-requires
-    add-x
+    add-next-or
+    next-or-requires-2
     loop-less
     loop-again
     same-length-2

@@ -4,7 +4,7 @@ use mathlib.Core.Path.{_≡_, refl, sym, ap, _∙_}
 use mathlib.Core.Bool.{Bool, true, false, not}
 use mathlib.Core.Logic.{⊎-elim}
 use mathlib.Core.List.{List}
-use Prim.Native.Nat.{ℕ, zero, suc, _+_, _*_, _≤_, _<_}
+use Prim.Native.Nat.{ℕ, zero, suc, _+_, _*_, _≤_}
 use lib.Dec.{eqb}
 use Rattle.finite.specs.Logic.{_and_, _or_, which, not-both, not-so, split, and-false-left, and-false-right, not-out}
 use Rattle.bits.specs.Bit.{bitOf}
@@ -18,7 +18,7 @@ use Rattle.model.specs.Location.{sameReference, pureRead, publicWrite, common, 
 use Rattle.model.specs.Edge.{beforeNth}
 use Rattle.area.specs.Regions.{PAIR}
 use Rattle.finite.specs.Below.{anyBelow}
-use Rattle.location.specs.Chains.{carriedBy, L3-off, L3-on}
+use Rattle.location.specs.Chains.{L3-off, L3-on}
 use Rattle.quick_location.specs.Masks.{Mask, mask-cong, any-wider, put-filled}
 use Rattle.quick_location.specs.Elements.{publishes, carriedNth, carried-below}
 use Rattle.location.specs.Order.{hosted, before-off, before-first, before-third, row-off}

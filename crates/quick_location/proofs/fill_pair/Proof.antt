@@ -1,8 +1,8 @@
-use mathlib.Core.Path.{_≡_, refl, sym, ap, _∙_}
+use mathlib.Core.Path.{refl, sym, _∙_}
 use borrow.Author.Tests.{not-true, not-false}
 use native.Mathlib.Omega.{arith}
-use Rattle.finite.specs.Logic.{_and_, _or_}
-use Rattle.model.specs.Table.{rowOf, decode}
+use Rattle.finite.specs.Logic.{_or_}
+use Rattle.model.specs.Table.{decode}
 use Rattle.location.specs.Order.{pair-off, row-off}
 use Rattle.quick_location.specs.Pairs.{pair-shared, pair-none, pair-third, shared-filled, carried-filled, third-private, third-silent, public-writes}
 use borrow.Author.Needs.{needs}

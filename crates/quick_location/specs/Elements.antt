@@ -1,25 +1,26 @@
 -- L3 by two elements: a first one of x's and a last one of y's, and what leads from the one to the other. Only what the two cover
 -- hangs on the byte. Assumes nothing.
 use mathlib.Core.Path.{_≡_, refl, sym, ap, _∙_}
-use mathlib.Core.Bool.{Bool, true, false, cond}
-use mathlib.Core.Logic.{_⊎_, inl, inr, ⊎-elim}
+use mathlib.Core.Bool.{Bool, true, false}
+use mathlib.Core.Logic.{⊎-elim}
 use mathlib.Core.List.{List}
 use Prim.Native.Nat.{ℕ, _+_, _*_, _≤_, _<_}
 use native.Mathlib.Omega.{arith}
-use native.Mathlib.Decide.{decLt}
 use lib.Bits.{bitAnd}
 use Rattle.finite.specs.Logic.{_and_, _or_, split, and-true, and-false-left, and-false-right, not-both, not-so, bool-ext, or-left, or-right, or-cases}
 use Rattle.finite.specs.Below.{anyBelow, any-in, any-out, any-off, any-not, any-cong}
 use Rattle.finite.specs.Closure.{through}
 use Rattle.model.specs.declared.Mode.{Mode}
 use Rattle.model.specs.declared.Row.{Row}
-use Rattle.model.specs.Row.{reads, writes, nonPrivate}
+use Rattle.model.specs.Row.{reads, writes}
 use Rattle.model.specs.Table.{Table, rowOf, decode}
 use Rattle.model.specs.Happens.{happens}
-use Rattle.model.specs.Location.{coversOf, sameReference, publicWrite, availableAt, firstAvailable, lastVisible, broadens, L3}
-use Rattle.location.specs.Chains.{mayAvail, maySee, availableAfter, visibleBefore, availablePart, after-tells, before-tells, seen, metAtOnce, startsWith, shownBy, endsAt, endsWith, carriedBy, shown-out, L3-on}
-use Rattle.area.specs.Regions.{PAIR}
-use Rattle.quick_location.specs.Masks.{Mask, mask-cong, mask-and, any-wider, coveredNth}
+use Rattle.model.specs.Location.{coversOf, firstAvailable, lastVisible, broadens}
+use Rattle.location.specs.Chains.{mayAvail, maySee, availableAfter, visibleBefore, availablePart, after-tells, before-tells, seen, metAtOnce, startsWith, shownBy, endsAt, endsWith, carriedBy, shown-out}
+use Rattle.bits.specs.Matrix.{rel}
+use Rattle.area.specs.Regions.{HAPPENS, MOMENTS, PAIR}
+use Rattle.area.specs.State.{Ordered}
+use Rattle.quick_location.specs.Masks.{Mask, mask-zero, mask-cong, mask-and, any-wider, coveredNth}
 
 -- ---- definitions
 
@@ -217,6 +218,16 @@ module _ (t : List ℕ) (p : List (List ℕ)) (mode : Mode) (n x y : ℕ) where
           (λ l. not-both (and-true (or-left g (or-left h (split l .0))) (rw eq (before-tells t p mode n x y v (split (split e .0) .0) .0))) off)
           (or-cases (linked T x y a v) (T .chains and anyBelow (T .rows) (linkedWith T x y a v)) (split e .1))
 
+  -- nor do rows before a bound below which those bits rule all out
+  pub shown-low : (a k f m g : ℕ) (q s : Row) (w : List ℕ) → Ordered T n w → a < n → q ≡ rowOf t y → s ≡ rowOf t a → m ≡ availablePart s → m < 3
+      → ((v : ℕ) → v < f → (mode .chains or rel w HAPPENS MOMENTS (3 * a + m) (3 * v) or rel w HAPPENS MOMENTS (3 * a + m) (3 * v + 2)) ≡ false)
+      → g ≤ f → g ≤ n → anyBelow g (shownNth T x y a k) ≡ false
+  shown-low a k f m g q s w o la eq es em lm off lf ln =
+      any-not _ g
+      (λ v l.
+      shown-skip a v k m q s _ _ eq es em (o .happening .cell (3 * a + m) (3 * v) (omega arith) (omega arith)) (o .happening .cell (3 * a + m) (3 * v + 2) (omega arith) (omega arith))
+      (and-false-left _ _ (off v (omega arith))))
+
   -- no row after y is a last element
   pub shown-all : (a k : ℕ) → y < n → anyBelow (y + 1) (shownNth T x y a k) ≡ anyBelow n (shownNth T x y a k)
   unfolding shownNth lastVisible visibleBefore
@@ -244,6 +255,10 @@ module _ (t : List ℕ) (p : List (List ℕ)) (mode : Mode) (n x y : ℕ) where
   pub lasts-bytes : (a v c m : ℕ) (s : ℕ → Bool) → y < n → v ≡ y + 1 → Mask PAIR s c → Mask PAIR (λ k. anyBelow v (shownNth T x y a k)) m
       → Mask PAIR (λ k. s k and anyBelow n (shownNth T x y a k)) (bitAnd c m)
   lasts-bytes a v c m s l e f g = mask-cong _ (λ k h. rw e (ap (λ (z : Bool). s k and z) (shown-all a k l))) (mask-and f g)
+
+  -- the same where none of them was asked
+  pub lasts-none : (a : ℕ) (s : ℕ → Bool) → y < n → ((k : ℕ) → anyBelow (y + 1) (shownNth T x y a k) ≡ false) → Mask PAIR (λ k. s k and anyBelow n (shownNth T x y a k)) 0
+  lasts-none a s l e = mask-zero PAIR _ (λ k. and-false-right _ _ (sym (shown-all a k l) ∙ e k))
 
   pub reader-bytes : (a m : ℕ) (r q s : Row) → r ≡ rowOf t x → q ≡ rowOf t y → s ≡ rowOf t a → availableAfter T x a ≡ true → reads q ≡ true
       → Mask PAIR (λ k. coveredNth s r (r .start) k and anyBelow n (shownNth T x y a k)) m → Mask PAIR (λ k. carriedNth T x y k a) m

@@ -1,9 +1,8 @@
 -- Sets of a row's bytes, as the bits of one number: what all that is asked of a pair's bytes is told by. Assumes nothing.
 use mathlib.Core.Path.{_≡_, refl, sym, ap, _∙_}
 use mathlib.Core.Bool.{Bool, true, false, cond}
-use mathlib.Core.Logic.{⊎-elim}
 use mathlib.Core.List.{List}
-use Prim.Native.Nat.{ℕ, zero, suc, _+_, _*_, _/_, _%_, _^_, _≤_, _<_}
+use Prim.Native.Nat.{ℕ, _+_, _%_, _^_, _≤_, _<_}
 use native.Mathlib.Omega.{arith}
 use native.Mathlib.Numerals.{add-one}
 use native.Mathlib.Decide.{ℕ-discrete}
@@ -11,7 +10,7 @@ use native.Mathlib.Nat.{div-eq-of-lt}
 use lib.Pow.{pow-mono}
 use lib.Bits.{bitOr, bitAnd}
 use lib.Dec.{eqb}
-use Rattle.finite.specs.Logic.{_and_, _or_, which, not-both, bool-ext, split, and-true, and-false-left, or-none, or-left, or-right}
+use Rattle.finite.specs.Logic.{_and_, _or_, bool-ext, split, and-true, and-false-left, or-none, or-off, or-right}
 use Rattle.finite.specs.Below.{anyBelow, allBelow, all-out, any-in, any-out}
 use Rattle.bits.specs.Bit.{bitOf, bitOf-or, bitOf-zero, bitOf-pow-same, bitOf-pow-other}
 use Rattle.bits.specs.Fill.{rowFill, rowFill-cong}
@@ -36,10 +35,6 @@ withBit b m k = cond b (bitOr m (2 ^ k)) m
 abbrev pub ALL : ℕ
 ALL = 65535
 
--- all of m's bits, or none
-unfoldable pub keptIf : Bool → ℕ → ℕ
-keptIf b m = cond b m 0
-
 -- s has the k-th byte from start
 unfoldable pub touchedNth : Row → ℕ → ℕ → Bool
 touchedNth s start k = touches s (start + k)
@@ -56,12 +51,8 @@ bit-with true m k e = bitOf-or m (2 ^ k) k ∙ or-right (bitOf m k) (bitOf-pow-s
 bit-with false m k e = e
 
 bit-beside : (b : Bool) (m k j : ℕ) → (j ≡ k → ⊥) → bitOf (withBit b m k) j ≡ bitOf m j
-unfolding withBit _or_
-bit-beside true m k j h = bitOf-or m (2 ^ k) j ∙ off (bitOf m j) (bitOf-pow-other k j h)
-  where
-    off : (a : Bool) {b : Bool} → b ≡ false → (a or b) ≡ a
-    off true e = refl
-    off false e = e
+unfolding withBit
+bit-beside true m k j h = bitOf-or m (2 ^ k) j ∙ or-off (bitOf m j) (bitOf (2 ^ k) j) (bitOf-pow-other k j h)
 bit-beside false m k j h = refl
 
 -- ---- laws: a mask
@@ -142,10 +133,6 @@ mask-full {n} {m} {a} {p} {q} s f g e more = mask-cong (λ k. s k and q k) (λ k
     there k l h = sym (g .below k l) ∙ split (sym (bitOf-and m a k) ∙ ap (λ (z : ℕ). bitOf z k) e ∙ f .below k l ∙ h) .0
 
 -- ---- laws: the bytes of a row
-
-pub touched-is : (s : Row) (start k b : ℕ) → b ≡ start + k → touches s b ≡ touchedNth s start k
-unfolding touchedNth
-touched-is s start k b e = ap (touches s) e
 
 -- a plain element covers its own bytes, for its own reference
 pub covered-plain : (s q : Row) (start k : ℕ) → plain s ≡ true → sameReference s q ≡ true → touchedNth s start k ≡ coveredNth s q start k

@@ -1,10 +1,11 @@
 -- What is asked of a pair once, whatever the byte: where L1, L2, L4 or L5 orders it, each byte that the two rows share is ordered;
--- where none does, and the first isn't a write that L3 speaks of, none is. Assumes nothing.
+-- where none does, those that L3 orders are; where the first isn't a write that L3 speaks of or has no first element, none is.
+-- Assumes nothing.
 use mathlib.Core.Path.{_≡_, refl, sym, ap, _∙_}
 use mathlib.Core.Bool.{Bool, true, false, not}
 use mathlib.Core.Logic.{⊎-elim}
 use mathlib.Core.List.{List}
-use Prim.Native.Nat.{ℕ, zero, suc, _+_, _*_, _≤_, _<_}
+use Prim.Native.Nat.{ℕ, zero, suc, _+_, _*_, _≤_}
 use lib.Dec.{eqb}
 use Rattle.finite.specs.Logic.{_and_, _or_, which, not-both, not-so, split, and-false-left, and-false-right, not-out}
 use Rattle.bits.specs.Bit.{bitOf}
@@ -18,7 +19,7 @@ use Rattle.model.specs.Location.{sameReference, pureRead, publicWrite, common, 
 use Rattle.model.specs.Edge.{beforeNth}
 use Rattle.area.specs.Regions.{PAIR}
 use Rattle.finite.specs.Below.{anyBelow}
-use Rattle.location.specs.Chains.{carriedBy, L3-off, L3-on}
+use Rattle.location.specs.Chains.{L3-off, L3-on}
 use Rattle.quick_location.specs.Masks.{Mask, mask-cong, any-wider, put-filled}
 use Rattle.quick_location.specs.Elements.{publishes, carriedNth, carried-below}
 use Rattle.location.specs.Order.{hosted, before-off, before-first, before-third, row-off}
@@ -39,11 +40,7 @@ pub public-writes : (r q : Row) → publicWrite r q ≡ true → writes r ≡ tr
 unfolding publicWrite
 public-writes r q e = split (split (split e .0) .0) .0
 
--- L3 orders no byte where the first is no write that it speaks of
-pub third-private : (t : Table) (x y : ℕ) (r q : Row) → r ≡ t .row x → q ≡ t .row y → publicWrite r q ≡ false → (b : ℕ) → L3 t x y b ≡ false
-third-private t x y r q er eq e b = L3-off t x y b r q er eq e
-
--- nor where there is no first element
+-- L3 orders no byte where there is no first element
 pub third-silent : (t : Table) (x y f : ℕ) → t .rows ≤ f → anyBelow f (publishes t x) ≡ false → (b : ℕ) → L3 t x y b ≡ false
 third-silent t x y f l e b = ⊎-elim told (λ o. L3-off t x y b (t .row x) (t .row y) refl refl o) (which (publicWrite (t .row x) (t .row y)))
   where
@@ -80,13 +77,17 @@ module _ (t : Table) (x y : ℕ) (r q : Row) (er : r ≡ t .row x) (eq : q ≡ t
         off : (not (eqb x y) and common r q (r .start + k)) ≡ false → carriedBytes t x y k ≡ beforeNth t x y k
         off s = rw (← er, ← eq, s) (sym (before-off t x y r q er eq k s))
 
-  -- the bits of a pair, from those of the bytes that they share
-  pub shared-filled : (w u : List ℕ) (at : ℕ) → ((k : ℕ) → sharedNth x y r q k ≡ beforeNth t x y k) → u ≡ rowFill (sharedNth x y r q) w at PAIR → u ≡ rowFill (beforeNth t x y) w at PAIR
-  shared-filled w u at f e = e ∙ rowFill-cong (sharedNth x y r q) (beforeNth t x y) w at PAIR (λ k l. f k)
+-- ---- laws: the bits of a pair
 
--- the bits of a pair that L3 alone may order
-pub carried-filled : (t : Table) (x y : ℕ) (w u : List ℕ) (at : ℕ) → ((k : ℕ) → carriedBytes t x y k ≡ beforeNth t x y k) → u ≡ rowFill (carriedBytes t x y) w at PAIR → u ≡ rowFill (beforeNth t x y) w at PAIR
-carried-filled t x y w u at f e = e ∙ rowFill-cong (carriedBytes t x y) (beforeNth t x y) w at PAIR (λ k l. f k)
+-- from tests that agree
+pub filled-cong : (p q : ℕ → Bool) (w u : List ℕ) (at : ℕ) → ((k : ℕ) → p k ≡ q k) → u ≡ rowFill p w at PAIR → u ≡ rowFill q w at PAIR
+filled-cong p q w u at f e = e ∙ rowFill-cong p q w at PAIR (λ k l. f k)
+
+-- the bits that L3 alone may set, from the set of their bytes
+pub third-filled : (t : Table) (x y m : ℕ) (r q : Row) (w u : List ℕ) (at : ℕ) → r ≡ t .row x → q ≡ t .row y
+    → Mask PAIR (λ k. sharedNth x y r q k and anyBelow (t .rows) (carriedNth t x y k)) m → u ≡ rowFill (bitOf m) w at PAIR → u ≡ rowFill (carriedBytes t x y) w at PAIR
+unfolding carriedBytes
+third-filled t x y m r q w u at er eq h e = put-filled w u at (mask-cong (carriedBytes t x y) (λ k l. rw (er, eq) refl) h) e
 
 -- a row that is no access has no bits
 pub row-none : (t : Table) (x : ℕ) (r : Row) (u : Bool) → r ≡ t .row x → u ≡ access r → not u ≡ true → (y k : ℕ) → beforeNth t x y k ≡ false
@@ -106,9 +107,3 @@ grid-none p w at m n f = go n
     go : (i : ℕ) → w ≡ gridFill p w at m m i
     go zero = refl
     go (suc i) = row-off (p i) w (at + i * m) m (f i) ∙ ap (λ (v : List ℕ). rowFill (p i) v (at + i * m) m) (go i)
-
--- the bits that L3 alone may set, from the set of their bytes
-pub third-filled : (t : Table) (x y m : ℕ) (r q : Row) (w u : List ℕ) (at : ℕ) → r ≡ t .row x → q ≡ t .row y
-    → Mask PAIR (λ k. sharedNth x y r q k and anyBelow (t .rows) (carriedNth t x y k)) m → u ≡ rowFill (bitOf m) w at PAIR → u ≡ rowFill (carriedBytes t x y) w at PAIR
-unfolding carriedBytes
-third-filled t x y m r q w u at er eq h e = put-filled w u at (mask-cong (carriedBytes t x y) (λ k l. rw (er, eq) refl) h) e

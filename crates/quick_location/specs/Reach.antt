@@ -2,9 +2,9 @@
 use mathlib.Core.Path.{_≡_, refl, sym, _∙_}
 use mathlib.Core.Bool.{Bool, true, false}
 use mathlib.Core.List.{List}
-use Prim.Native.Nat.{ℕ, _+_, _*_, _≤_, _<_}
+use Prim.Native.Nat.{ℕ, _+_, _*_, _/_, _≤_, _<_}
 use native.Mathlib.Omega.{arith}
-use Rattle.finite.specs.Logic.{_and_, and-true, and-false-left, and-false-right, not-both, not-so}
+use Rattle.finite.specs.Logic.{_and_, _or_, or-none, and-true, and-false-left, and-false-right, not-both, not-so}
 use Rattle.finite.specs.Below.{Least, anyBelow, any-not}
 use Rattle.finite.specs.Closure.{through}
 use Rattle.bits.specs.Bit.{bit}
@@ -36,6 +36,13 @@ least-below w a n f h j l = not-so _ (λ e. not-both (and-true e e) (h .miss j l
 
 whole : (g d h : Bool) → h ≡ true → (g and d) ≡ (g and d and h)
 whole g d h e = rw e (and-only _)
+
+-- the rows below the lowest bit of a moment, which two bits of each tell of
+pub moments-below : (w : List ℕ) (c f : ℕ) (b : Bool) → b ≡ false → Least (64 * MOMENTS) (both w (HAPPENS + c * MOMENTS) (HAPPENS + c * MOMENTS)) f
+    → (v : ℕ) → v < f / 3 → (b or rel w HAPPENS MOMENTS c (3 * v) or rel w HAPPENS MOMENTS c (3 * v + 2)) ≡ false
+unfolding rel
+moments-below w c f b e h v l =
+    or-none (or-none e (least-below w (HAPPENS + c * MOMENTS) MOMENTS f h (3 * v) (omega arith))) (least-below w (HAPPENS + c * MOMENTS) MOMENTS f h (3 * v + 2) (omega arith))
 
 module _ (t : List ℕ) (p : List (List ℕ)) (mode : Mode) (n : ℕ) where
   -- ---- laws: one step

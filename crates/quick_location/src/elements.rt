@@ -5,13 +5,14 @@ ghost use mathlib.Core.Bool.{true, false};
 ghost use mathlib.Core.List.{List};
 ghost use Prim.Native.Nat.{ℕ, _+_, _*_, _≤_, _<_};
 ghost use lib.ListN.{length};
-ghost use Rattle.finite.specs.Logic.{_and_};
+ghost use Rattle.finite.specs.Logic.{_and_, _or_};
 ghost use Rattle.finite.specs.Below.{anyBelow};
 ghost use Rattle.model.specs.declared.Mode.{Mode};
 ghost use Rattle.model.specs.Limits.{ROWS, WORK};
 ghost use Rattle.model.specs.Row.{reads, writes};
 ghost use Rattle.model.specs.Table.{rowOf, decode};
-ghost use Rattle.area.specs.Regions.{PAIR};
+ghost use Rattle.bits.specs.Matrix.{rel};
+ghost use Rattle.area.specs.Regions.{HAPPENS, MOMENTS, PAIR};
 ghost use Rattle.location.specs.Chains.{availableAfter};
 ghost use Rattle.location.specs.Reach.{Reaching};
 ghost use Rattle.quick_location.specs.Masks.{Mask, coveredNth};
@@ -227,6 +228,18 @@ fn last_bytes(
     masks::covered(u, q, r.start)
 }
 
+// A row before which there is, without chains, no last element for what moment c makes available: it happens before none of theirs.
+fn lasts_from(mode: Mode, c: usize, w: &[u64]) -> usize
+    requires { ⌜ (c < 3 * ROWS) × (WORK ≤ length (now w)) ⌝ }
+    ensures { λ f. ⌜ ((v : ℕ) → v < f → (mode .chains or rel (now (w .entry)) HAPPENS MOMENTS c (3 * v) or rel (now (w .entry)) HAPPENS MOMENTS c (3 * v + 2)) ≡ false) ⌝ }
+{
+    if mode.chains {
+        return 0;
+    }
+    let at = area::HAPPENS + c * area::MOMENTS;
+    sets::first_both(w, at, at, area::MOMENTS) / 3
+}
+
 // The bytes of c, which are those that the first element a covers, that y sees by way of some last element. No row after y is one.
 fn lasts_bytes(
     rows: &[u8],
@@ -247,8 +260,12 @@ fn lasts_bytes(
         × Mask PAIR (coveredNth s r (r .start)) c ⌝ }
     ensures { λ m. ⌜ Mask PAIR (λ k. coveredNth s r (r .start) k and anyBelow n (shownNth (decode (now (rows .entry)) p mode n) x y a k)) m ⌝ }
 {
+    let f = lasts_from(mode, 3 * a + chains::available_part(s), w);
+    if y < f {
+        return 0;
+    }
     let mut m = 0u64;
-    for v in 0..y + 1 {
+    for v in f..y + 1 {
         m = m | last_bytes(rows, p, mode, n, x, y, r, q, a, s, v, w);
         if m & c == c {
             return c;
@@ -319,7 +336,7 @@ fn first_bytes(
     c
 }
 
-// The bytes of both, which are those of m, that y meets by way of some first element; there is none before row f.
+// The bytes of `both`, which are those that x and y share, that y meets by way of some first element; there is none before row f.
 pub fn carried_bytes(
     rows: &[u8],
     p: Places,

@@ -1,10 +1,11 @@
-use mathlib.Core.Path.{_≡_, refl, sym, ap, _∙_}
+use mathlib.Core.Path.{refl, sym, _∙_}
 use borrow.Author.Tests.{not-true, not-false}
 use native.Mathlib.Omega.{arith}
-use Rattle.finite.specs.Logic.{_and_, _or_}
-use Rattle.model.specs.Table.{rowOf, decode}
+use Rattle.finite.specs.Logic.{_or_}
+use Rattle.model.specs.Table.{decode}
+use Rattle.location.specs.Chains.{L3-off}
 use Rattle.location.specs.Order.{pair-off, row-off}
-use Rattle.quick_location.specs.Pairs.{pair-shared, pair-none, pair-third, shared-filled, carried-filled, third-private, third-silent, public-writes}
+use Rattle.quick_location.specs.Pairs.{pair-shared, pair-none, pair-third, filled-cong, third-silent, public-writes}
 use borrow.Author.Needs.{needs}
 use Rattle.quick_location.proofs.fill_pair.Statement.{statement}
 use Rattle.quick_location.proofs.fill_pair.Tie as tie
@@ -85,7 +86,7 @@ returns-2 c =
     let h = c .before .before .before .before .before .before .before .before .before .happens-bit .ensures ∙ s .pre .5 .reaching .ordered .happening .cell _ _ (omega (arith, s .pre .2)) (omega (arith, s .pre .3)) in
     let g = c .before .before .before .before .before .before .before .grid-bit .ensures ∙ s .pre .5 .hosting .cell _ _ (s .pre .2) (s .pre .3) in
     let q = c .before .before .before .before .before .before .before .before .before .before .before .read-row .ensures in
-    shared-filled _ _ _ _ _ (s .pre .4) q _ _ _ (pair-shared _ _ _ _ _ (s .pre .4) q _ _ _ _ h g (c .before .before .before .before .before .before .l1 .ensures) (c .before .before .before .before .before .l2 .ensures) (c .before .before .before .before .if2 .taken)) (c .before .before .fill-shared .ensures)
+    filled-cong _ _ _ _ _ (pair-shared _ _ _ _ _ (s .pre .4) q _ _ _ _ h g (c .before .before .before .before .before .before .l1 .ensures) (c .before .before .before .before .before .l2 .ensures) (c .before .before .before .before .if2 .taken)) (c .before .before .fill-shared .ensures)
 
 -- src/lib.rt:103:9
 same-length-2 : tie.Need-same-length-2
@@ -117,7 +118,7 @@ returns-4 c =
     let h = c .before .before .before .before .before .before .before .before .happens-bit .ensures ∙ s .pre .5 .reaching .ordered .happening .cell _ _ (omega (arith, s .pre .2)) (omega (arith, s .pre .3)) in
     let g = c .before .before .before .before .before .before .grid-bit .ensures ∙ s .pre .5 .hosting .cell _ _ (s .pre .2) (s .pre .3) in
     let q = c .before .before .before .before .before .before .before .before .before .before .read-row .ensures in
-    row-off _ _ _ _ (pair-none _ _ _ _ _ (s .pre .4) q _ _ _ _ h g (c .before .before .before .before .before .l1 .ensures) (c .before .before .before .before .l2 .ensures) (c .before .before .before .if2 .left) (third-private _ _ _ _ _ (s .pre .4) q (sym (c .before .public-write .ensures) ∙ not-true _ (c .if4 .taken))))
+    row-off _ _ _ _ (pair-none _ _ _ _ _ (s .pre .4) q _ _ _ _ h g (c .before .before .before .before .before .l1 .ensures) (c .before .before .before .before .l2 .ensures) (c .before .before .before .if2 .left) (λ b. L3-off _ _ _ b _ _ (s .pre .4) q (sym (c .before .public-write .ensures) ∙ not-true _ (c .if4 .taken))))
 
 -- src/lib.rt:108:5
 fill-third-requires : tie.Need-fill-third-requires
@@ -137,7 +138,7 @@ returns-5 c =
     let h = c .before .before .before .before .before .before .before .before .before .before .before .before .happens-bit .ensures ∙ s .pre .5 .reaching .ordered .happening .cell _ _ (omega (arith, s .pre .2)) (omega (arith, s .pre .3)) in
     let g = c .before .before .before .before .before .before .before .before .before .before .grid-bit .ensures ∙ s .pre .5 .hosting .cell _ _ (s .pre .2) (s .pre .3) in
     let q = c .before .before .before .before .before .before .before .before .before .before .before .before .before .before .read-row .ensures in
-    carried-filled _ _ _ _ _ _ (pair-third _ _ _ _ _ (s .pre .4) q _ _ _ _ h g (c .before .before .before .before .before .before .before .before .before .l1 .ensures) (c .before .before .before .before .before .before .before .before .l2 .ensures) (c .before .before .before .before .before .before .before .if2 .left) (sym (c .before .before .before .before .before .public-write .ensures) ∙ not-false _ (c .before .before .before .before .if4 .left))) (c .before .before .fill-third .ensures)
+    filled-cong _ _ _ _ _ (pair-third _ _ _ _ _ (s .pre .4) q _ _ _ _ h g (c .before .before .before .before .before .before .before .before .before .l1 .ensures) (c .before .before .before .before .before .before .before .before .l2 .ensures) (c .before .before .before .before .before .before .before .if2 .left) (sym (c .before .before .before .before .before .public-write .ensures) ∙ not-false _ (c .before .before .before .before .if4 .left))) (c .before .before .fill-third .ensures)
 
 pub fill-pair-spec : {M : Type 1} → statement M
 fill-pair-spec =

@@ -3,7 +3,7 @@ use mathlib.Core.Bool.{false}
 use mathlib.Core.List.{List}
 use Prim.Native.Nat.{ℕ, _-_, _≤_}
 use native.Mathlib.Omega.{arith}
-use borrow.Author.Tests.{not-true, not-false}
+use borrow.Author.Tests.{not-true}
 use Rattle.finite.specs.Below.{anyBelow, any-more}
 use Rattle.model.specs.declared.Mode.{Mode}
 use Rattle.model.specs.Table.{decode}

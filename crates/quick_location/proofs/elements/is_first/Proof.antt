@@ -1,5 +1,5 @@
-use mathlib.Core.Path.{_≡_, sym, _∙_}
-use borrow.Author.Tests.{not-true, not-false}
+use mathlib.Core.Path.{sym, _∙_}
+use borrow.Author.Tests.{not-true}
 use Rattle.finite.specs.Logic.{_and_}
 use Rattle.quick_location.specs.Elements.{after-off}
 use Rattle.location.specs.Chains.{after-row}

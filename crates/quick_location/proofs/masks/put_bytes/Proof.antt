@@ -1,10 +1,10 @@
-use mathlib.Core.Path.{_≡_, refl, sym, ap, _∙_}
-use Prim.Native.Nat.{_+_, _-_, _*_, _≤_, _<_}
+use mathlib.Core.Path.{_≡_, refl, ap, _∙_}
+use Prim.Native.Nat.{_+_, _-_, _*_, _≤_}
 use native.Mathlib.Omega.{arith}
 use lib.ListN.{length}
 use Rattle.bits.specs.Bit.{bitOf}
 use Rattle.bits.specs.Fill.{rowFill, rowFill-none, rowFill-put, length-rowFill}
-use Rattle.area.specs.Regions.{LOCATION, LOCATION-END, PAIR, PAIRS}
+use Rattle.area.specs.Regions.{LOCATION, PAIR, PAIRS}
 use borrow.Author.Needs.{needs}
 use Rattle.quick_location.proofs.masks.put_bytes.Statement.{statement}
 use Rattle.quick_location.proofs.masks.put_bytes.Tie as tie

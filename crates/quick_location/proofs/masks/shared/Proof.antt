@@ -1,7 +1,6 @@
-use mathlib.Core.Path.{_≡_, refl, sym, ap, _∙_}
-use Prim.Native.Nat.{_+_, _-_, _*_, _≤_, _<_}
+use mathlib.Core.Path.{_≡_}
+use Prim.Native.Nat.{_-_, _≤_}
 use native.Mathlib.Omega.{arith}
-use Rattle.finite.specs.Logic.{_and_}
 use Rattle.area.specs.Regions.{PAIR}
 use Rattle.quick_location.specs.Masks.{Mask, mask-none, mask-more}
 use Rattle.quick_location.specs.Pairs.{sharedNth}

@@ -1,6 +1,5 @@
 use mathlib.Core.Path.{refl, ap}
 use Prim.Native.Nat.{ℕ}
-use native.Mathlib.Omega.{arith}
 use lib.Bits.{bitOr}
 use Rattle.bits.specs.Bit.{one-shl}
 use Rattle.quick_location.specs.Masks.{withBit}

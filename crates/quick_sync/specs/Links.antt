@@ -1,13 +1,13 @@
 -- M5 as products of relations between rows: a release heads the writers that carry what it has behind it, a reader takes from a
 -- writer's sequence, an acquire gets what the reader has read; and control barriers, which join. For any table. Assumes nothing.
-use mathlib.Core.Path.{_≡_, refl, sym, ap, subst, _∙_}
-use mathlib.Core.Bool.{Bool, true, false, not}
+use mathlib.Core.Path.{_≡_, refl, sym, subst, _∙_}
+use mathlib.Core.Bool.{Bool, true, not}
 use mathlib.Core.Logic.{_⊎_, inl, inr, ⊎-elim}
-use Prim.Native.Nat.{ℕ, _≤_, _<_}
+use Prim.Native.Nat.{ℕ, _<_}
 use native.Mathlib.Omega.{arith}
-use lib.Dec.{eqb, leb}
+use lib.Dec.{eqb}
 use borrow.Author.Tests.{eqb-true, eq-eqb, leb-true}
-use Rattle.finite.specs.Logic.{_and_, _or_, which, bool-ext, not-both, not-so, not-in, split, and-true, or-cases, or-left, or-right}
+use Rattle.finite.specs.Logic.{_and_, _or_, which, bool-ext, not-so, not-in, split, and-true, or-cases, or-left, or-right}
 use Rattle.finite.specs.Below.{anyBelow, any-in, any-out, any-cong}
 use Rattle.model.specs.declared.Row.{Row}
 use Rattle.model.specs.Row.{atomic, barrier, control, sameInstance, reads, releases, acquires}

@@ -8,19 +8,19 @@ use Prim.Native.Nat.{ℕ, _+_, _-_, _*_, _≤_, _<_, min, max}
 use native.Mathlib.Omega.{arith}
 use native.Mathlib.Decide.{decLt, ℕ-discrete}
 use lib.ListN.{length}
-use lib.Dec.{ltb, eqb}
-use borrow.Author.Tests.{lt-ltb, le-ltb, eq-eqb, not-false}
+use lib.Dec.{ltb}
+use borrow.Author.Tests.{lt-ltb, le-ltb, eq-eqb}
 use Rattle.finite.specs.Logic.{_and_, _or_, bool-ext, and-false-left, and-false-right}
 use Rattle.bits.specs.Bit.{bit, setBitIf, length-setBitIf, setBitIf-same, setBitIf-other, zeros, bit-zeros-in}
 use Rattle.bits.specs.Fill.{or-fresh}
 use Rattle.bits.specs.Matrix.{rel}
-use Rattle.bits.specs.Stage.{Holds, Made}
+use Rattle.bits.specs.Stage.{Made}
 use Rattle.bits.specs.Within.{Within, within-trans, within-cleared}
 use Rattle.model.specs.declared.Mode.{Mode}
 use Rattle.model.specs.declared.Row.{Row}
 use Rattle.model.specs.Limits.{ROWS, WORK}
 use Rattle.model.specs.Row.{atomic}
-use Rattle.model.specs.Table.{Table, decode, rowOf}
+use Rattle.model.specs.Table.{decode, rowOf}
 use Rattle.model.specs.Scope.{mutually}
 use Rattle.laws.specs.PairLaws.{mutually-sym}
 use Rattle.area.specs.Regions.{MUTUAL, MUTUAL-END, GRID}

@@ -2,16 +2,16 @@
 use mathlib.Core.Path.{_≡_, refl, sym, ap, ap₂, _∙_}
 use mathlib.Core.Bool.{Bool, true, false}
 use mathlib.Core.List.{List}
-use Prim.Native.Nat.{ℕ, _+_, _-_, _*_, _/_, _%_, _≤_, _<_}
+use Prim.Native.Nat.{ℕ, _+_, _-_, _*_, _≤_, _<_}
 use native.Mathlib.Omega.{arith}
 use native.Mathlib.Numerals.{add-one}
 use native.Mathlib.Decide.{decLt, ℕ-discrete}
-use lib.ListN.{length, getD}
-use lib.Dec.{ltb, eqb}
-use borrow.Author.Tests.{lt-ltb, le-ltb, eqb-true}
-use Rattle.finite.specs.Logic.{_and_, _or_, or-off, or-assoc, and-false-left, split}
-use Rattle.finite.specs.Below.{anyBelow, any-cong, any-not}
-use Rattle.bits.specs.Bit.{bit, bitOf, bitOf-zero, zeros, bit-zeros-in, length-zeros, joinRow, length-joinRow, bit-joinRow}
+use lib.ListN.{length}
+use lib.Dec.{ltb}
+use borrow.Author.Tests.{lt-ltb, le-ltb}
+use Rattle.finite.specs.Logic.{_and_, _or_, or-off, or-assoc, and-false-left}
+use Rattle.finite.specs.Below.{anyBelow, any-cong}
+use Rattle.bits.specs.Bit.{bit, zeros, bit-zeros-in, joinRow, bit-joinRow}
 use Rattle.bits.specs.Within.{Within, within-refl, within-trans, within-widen, within-bit, within-joinRow, within-cleared}
 use Rattle.bits.specs.Matrix.{rel}
 use Rattle.bits.specs.Stage.{Holds, Made, made-cong}

@@ -2,34 +2,37 @@
 -- whole test comes to where it says yes. Assumes nothing.
 use mathlib.Core.Path.{_≡_, refl, sym, ap, _∙_}
 use mathlib.Core.Bool.{Bool, true, false, not}
-use mathlib.Core.Logic.{⊎-elim}
 use mathlib.Core.List.{List}
 use Prim.Native.Nat.{ℕ, zero, suc, _+_, _*_, _≤_, _<_}
 use native.Mathlib.Omega.{arith}
-use native.Mathlib.Decide.{ℕ-discrete, decLt}
-use lib.Dec.{eqb, ltb, leb}
-use borrow.Author.Tests.{ne-eqb, eq-eqb, eqb-true, lt-leb, leb-true, le-ltb, not-false}
-use Rattle.finite.specs.Logic.{_and_, _or_, bool-ext, not-both, not-so, not-in, not-out, split, and-true, and-false-left, and-false-right, or-left, or-right, or-off, or-none}
-use Rattle.finite.specs.Below.{anyBelow, any-in, any-out, any-off, any-not}
+use native.Mathlib.Decide.{ℕ-discrete}
+use lib.Dec.{eqb, leb}
+use borrow.Author.Tests.{ne-eqb, eq-eqb, lt-leb, leb-true, le-ltb, not-false}
+use Rattle.finite.specs.Logic.{_and_, _or_, not-out, split, and-true, and-false-left, and-false-right, or-left, or-right, or-off, or-none}
+use Rattle.finite.specs.Below.{anyBelow, any-off, any-not}
 use Rattle.bits.specs.Bit.{setBit, setBitIf}
 use Rattle.bits.specs.Fill.{rowFill, within-rowFill}
 use Rattle.bits.specs.Within.{Within}
 use Rattle.model.specs.declared.Mode.{Mode}
 use Rattle.model.specs.declared.Row.{Row}
-use Rattle.model.specs.Row.{PLAIN-READ, ATOMIC-READ, ATOMIC-WRITE, RMW, CONTROL, atomic, barrier, control, sameInstance, executionOf, reads, writes, releases, acquires, classIn}
-use Rattle.model.specs.Table.{Table, decode, rowOf, sourceOf, atomicSource}
-use Rattle.model.specs.Scope.{shares, sameLocation, together, mutualRows, mutually, later, laterWriter, follows}
+use Rattle.model.specs.Row.{PLAIN-READ, ATOMIC-READ, ATOMIC-WRITE, RMW, CONTROL, atomic, barrier, control, sameInstance, reads, writes, releases, acquires}
+use Rattle.model.specs.Table.{decode, rowOf, sourceOf, atomicSource}
+use Rattle.model.specs.Scope.{sameLocation, together, mutualRows, mutually}
 use Rattle.model.specs.Moment.{sameAgent}
-use Rattle.model.specs.Synchronizes.{continues, ends, sequence, takesFrom, leads, trails, upTo, joins, synchronizes}
+use Rattle.model.specs.Synchronizes.{sequence, takesFrom, leads, trails, upTo, joins, synchronizes}
 use Rattle.sequence.specs.Forms.{takes-on, takes-none as takes-past}
 use Rattle.quick_sync.specs.Product.{byWay, times}
-use Rattle.quick_sync.specs.Links.{heads, gets, released, gotten, led, ahead, metBy, passed, syncBy, by-atomics, sync-is}
+use Rattle.quick_sync.specs.Links.{heads, gets, released, gotten, handed, led, ahead, metBy, passed, syncBy, by-atomics, sync-is}
 
 -- ---- definitions
 
 -- row c is a control barrier
 unfoldable pub controlOf : List ℕ → ℕ → Bool
 controlOf b c = control (rowOf b c)
+
+-- row y is an atomic
+unfoldable pub atomicOf : List ℕ → ℕ → Bool
+atomicOf b y = atomic (rowOf b y)
 
 -- ---- laws: a row of bits that is filled from a test
 
@@ -76,6 +79,10 @@ reads-other r e h = go (ℕ-discrete (r .kind) ATOMIC-READ)
     go : Dec (r .kind ≡ ATOMIC-READ) → (eqb (r .kind) PLAIN-READ or eqb (r .kind) ATOMIC-READ or eqb (r .kind) RMW) ≡ true
     go (yes q) = or-left _ (or-right _ (eq-eqb (r .kind) ATOMIC-READ q))
     go (no q) = or-right _ (eq-eqb (r .kind) RMW (omega (arith, h, q, leb-true ATOMIC-READ (r .kind) (split e .0), leb-true (r .kind) RMW (split e .1))))
+
+pub atomic-is : (b : List ℕ) (y k : ℕ) {v : Bool} → k ≡ rowOf b y .kind → (leb ATOMIC-READ k and leb k RMW) ≡ v → atomicOf b y ≡ v
+unfolding atomicOf atomic
+atomic-is b y k e h = rw (← e) h
 
 pub control-yes : (b : List ℕ) (c k : ℕ) → k ≡ rowOf b c .kind → k ≡ CONTROL → controlOf b c ≡ true
 unfolding controlOf control
@@ -179,6 +186,11 @@ module _ (b : List ℕ) (p : List (List ℕ)) (mode : Mode) (n : ℕ) where
       → d ≡ gotten (decode b p mode n) y c
   unfolding gotten decode
   gotten-on y c r u v d er eu ev h ed = ed ∙ sym (and-on _ _ (rw (← er, ← eu, ← ev) (not-false (u and v) h)))
+
+  -- without atomics no release is linked to an acquire
+  pub led-none : anyBelow n (atomicOf b) ≡ false → (a c : ℕ) → led (decode b p mode n) a c ≡ false
+  unfolding led handed gotten times byWay atomicOf decode
+  led-none e a c = any-not _ n (λ x l. and-false-right _ _ (any-not _ n (λ y k. and-false-right _ _ (and-false-left _ _ (and-false-left _ _ (any-off _ n e y k))))))
 
   -- ---- laws: control barriers
 

@@ -11,12 +11,12 @@ use Rattle.bits.specs.Within.{Within, within-trans, within-widen, within-cleare
 use Rattle.bits.specs.Matrix.{rel}
 use Rattle.bits.specs.Stage.{Holds, Made, holds-kept}
 use Rattle.model.specs.declared.Mode.{Mode}
-use Rattle.model.specs.Limits.{ROWS, WORK}
+use Rattle.model.specs.Limits.{ROWS}
 use Rattle.model.specs.Table.{Table, decode}
 use Rattle.model.specs.Scope.{mutually}
 use Rattle.model.specs.Synchronizes.{takesFrom, joins, sequence, synchronizes}
 use Rattle.area.specs.Regions.{MUTUAL, MUTUAL-END, SEQUENCE, SEQUENCE-END, SYNC, SYNC-END, HAPPENS, HAPPENS-END, GRID, ROWS-GRID}
-use Rattle.sequence.specs.Known.{Known, Synced, known-made, known-kept}
+use Rattle.sequence.specs.Known.{Synced, known-made, known-kept}
 use Rattle.quick_sync.specs.Regions.{HEADS, TAKES, GETS, HANDS, LINKS, UP-TO, JOINS, MEETS, PASSED, PASSED-END}
 use Rattle.quick_sync.specs.Product.{grid, times, times-held}
 use Rattle.quick_sync.specs.Walk.{either}
@@ -48,21 +48,21 @@ sync-passed b p mode n {w} a c la lc k e =
     let s = or-false (bit w ((LINKS + a * GRID) * 64 + c)) (bit w ((PASSED + a * GRID) * 64 + c)) e in
     sync-unlinked b p mode n a c la lc (sym (k .links .cell a c la lc) ∙ s .0) (sym (k .passing .cell a c la lc) ∙ s .1)
 
+-- a grid that holds nothing, and is cleared
+pub cleared-made : (c a n : ℕ) {r : ℕ → ℕ → Bool} {w u : List ℕ} → c ≤ a → a + ROWS-GRID ≤ length w → n ≤ ROWS → u ≡ zeros w a (a + ROWS-GRID - a) → ((i j : ℕ) → r i j ≡ false)
+    → Made c (a + ROWS-GRID) a GRID n r w u
+unfolding rel
+cleared-made c a n {r} {w} {u} l room few e none =
+    record {
+      holds = record {
+        fits = omega arith;
+        cell = λ i j p q. rw (e, none i j) (bit-zeros-in w a (a + ROWS-GRID - a) ((a + i * GRID) * 64 + j) (omega arith) (omega arith) (omega arith));
+      };
+      frame = within-widen c (a + ROWS-GRID) l (omega arith) (within-cleared a (a + ROWS-GRID) (omega arith) e);
+    }
+
 -- the stages in order
 module _ (b : List ℕ) (p : List (List ℕ)) (mode : Mode) (n : ℕ) where
-  -- without control barriers: the grid is empty
-  pub passed-cleared : {w u : List ℕ} → n ≤ ROWS → WORK ≤ length w → u ≡ zeros w PASSED (PASSED-END - PASSED) → ((a c : ℕ) → passed (decode b p mode n) a c ≡ false)
-      → Made UP-TO PASSED-END PASSED GRID n (passed (decode b p mode n)) w u
-  unfolding rel
-  passed-cleared {w} {u} few room e none =
-      record {
-        holds = record {
-          fits = omega arith;
-          cell = λ i j l m. rw (e, none i j) (bit-zeros-in w PASSED (PASSED-END - PASSED) ((PASSED + i * GRID) * 64 + j) (omega arith) (omega arith) (omega arith));
-        };
-        frame = within-widen UP-TO PASSED-END (omega arith) (omega arith) (within-cleared PASSED PASSED-END (omega arith) e);
-      }
-
   pub passed-made : {w v x y u : List ℕ} → Made UP-TO JOINS UP-TO GRID n (ahead (decode b p mode n)) w v → Made JOINS MEETS JOINS GRID n (joins (decode b p mode n)) v x
       → Made MEETS (MEETS + ROWS-GRID) MEETS GRID n (times n (grid x JOINS) (grid x UP-TO)) x y
       → Made PASSED (PASSED + ROWS-GRID) PASSED GRID n (times n (grid y UP-TO) (grid y MEETS)) y u → Made UP-TO PASSED-END PASSED GRID n (passed (decode b p mode n)) w u
@@ -80,11 +80,11 @@ module _ (b : List ℕ) (p : List (List ℕ)) (mode : Mode) (n : ℕ) where
             (within-trans (within-widen UP-TO PASSED-END (omega arith) (omega arith) (c .frame)) (within-widen UP-TO PASSED-END (omega arith) (omega arith) (d .frame))));
       }
 
-  pub linked-made : {w v x y z o u : List ℕ} → Made HEADS TAKES HEADS GRID n (released (decode b p mode n)) w v → Made TAKES GETS TAKES GRID n (takesFrom (decode b p mode n)) v x
+  pub links-made : {w v x y z u : List ℕ} → Made HEADS TAKES HEADS GRID n (released (decode b p mode n)) w v → Made TAKES GETS TAKES GRID n (takesFrom (decode b p mode n)) v x
       → Made GETS HANDS GETS GRID n (gotten (decode b p mode n)) x y → Made HANDS (HANDS + ROWS-GRID) HANDS GRID n (times n (grid y TAKES) (grid y GETS)) y z
-      → Made LINKS (LINKS + ROWS-GRID) LINKS GRID n (times n (grid z HEADS) (grid z HANDS)) z o → Made UP-TO PASSED-END PASSED GRID n (passed (decode b p mode n)) o u → MadeLinked (decode b p mode n) n w u
+      → Made LINKS (LINKS + ROWS-GRID) LINKS GRID n (times n (grid z HEADS) (grid z HANDS)) z u → Made HEADS UP-TO LINKS GRID n (led (decode b p mode n)) w u
   unfolding led handed decode
-  linked-made {w} {v} {x} {y} {z} {o} {u} a g c d e f =
+  links-made {w} {v} {x} {y} {z} {u} a g c d e =
       let few : n ≤ 64 * GRID = a .holds .fits in
       let by = holds-kept (λ h. absurd (omega arith)) (c .frame) (g .holds) in
       let hz = times-held by (c .holds) d in
@@ -92,15 +92,21 @@ module _ (b : List ℕ) (p : List (List ℕ)) (mode : Mode) (n : ℕ) where
       let ay = holds-kept (λ h. absurd (omega arith)) (c .frame) ax in
       let az = holds-kept (λ h. absurd (omega arith)) (d .frame) ay in
       let l = times-held az (hz .holds) e in
-      let lu = holds-kept (λ h. absurd (omega arith)) (f .frame) (l .holds) in
       record {
-        linked = record { links = lu; passing = f .holds };
-        frame = within-trans (within-widen HAPPENS HAPPENS-END (omega arith) (omega arith) (a .frame))
-            (within-trans (within-widen HAPPENS HAPPENS-END (omega arith) (omega arith) (g .frame))
-            (within-trans (within-widen HAPPENS HAPPENS-END (omega arith) (omega arith) (c .frame))
-            (within-trans (within-widen HAPPENS HAPPENS-END (omega arith) (omega arith) (d .frame))
-            (within-trans (within-widen HAPPENS HAPPENS-END (omega arith) (omega arith) (e .frame)) (within-widen HAPPENS HAPPENS-END (omega arith) (omega arith) (f .frame))))));
+        holds = l .holds;
+        frame = within-trans (within-widen HEADS UP-TO (omega arith) (omega arith) (a .frame))
+            (within-trans (within-widen HEADS UP-TO (omega arith) (omega arith) (g .frame))
+            (within-trans (within-widen HEADS UP-TO (omega arith) (omega arith) (c .frame))
+            (within-trans (within-widen HEADS UP-TO (omega arith) (omega arith) (d .frame)) (within-widen HEADS UP-TO (omega arith) (omega arith) (e .frame)))));
       }
+
+pub linked-made : {t : Table} {n : ℕ} {w v u : List ℕ} → Made HEADS UP-TO LINKS GRID n (led t) w v → Made UP-TO PASSED-END PASSED GRID n (passed t) v u → MadeLinked t n w u
+linked-made {n = n} l f =
+    let few : n ≤ 64 * GRID = l .holds .fits in
+    record {
+      linked = record { links = holds-kept (λ h. absurd (omega arith)) (f .frame) (l .holds); passing = f .holds };
+      frame = within-trans (within-widen HAPPENS HAPPENS-END (omega arith) (omega arith) (l .frame)) (within-widen HAPPENS HAPPENS-END (omega arith) (omega arith) (f .frame));
+    }
 
 pub synced-made : {t : Table} {n : ℕ} {w v x y u : List ℕ} → Made MUTUAL MUTUAL-END MUTUAL GRID n (mutually t) w v
     → Made SEQUENCE SEQUENCE-END SEQUENCE GRID n (sequence t) v x → MadeLinked t n x y → Made SYNC SYNC-END SYNC GRID n (synchronizes t) y u

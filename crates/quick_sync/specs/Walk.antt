@@ -12,8 +12,8 @@ use lib.ListN.{getD}
 use lib.Dec.{eqb}
 use lib.Bits.{bitOr}
 use lib.Pow.{pow-add}
-use Rattle.finite.specs.Logic.{_or_, or-off, or-false, or-left, or-cases}
-use Rattle.finite.specs.Below.{anyBelow, below-cases}
+use Rattle.finite.specs.Logic.{_or_, or-off}
+use Rattle.finite.specs.Below.{anyBelow}
 use Rattle.bits.specs.Bit.{bit, bitOf, bitOf-or, bitOf-zero, setBitIf}
 use Rattle.bits.specs.Fill.{rowFill}
 use Rattle.bits.specs.Matrix.{rel}

@@ -4,6 +4,7 @@ ghost use mathlib.Core.Path.{_≡_};
 ghost use mathlib.Core.Bool.{true};
 ghost use Prim.Native.Nat.{_+_, _*_, _≤_, _<_};
 ghost use lib.ListN.{length};
+ghost use Rattle.finite.specs.Below.{anyBelow};
 ghost use Rattle.bits.specs.Fill.{rowFill};
 ghost use Rattle.bits.specs.Stage.{Made};
 ghost use Rattle.model.specs.Limits.{ROWS, WORK};
@@ -13,8 +14,10 @@ ghost use Rattle.model.specs.Scope.{mutually};
 ghost use Rattle.model.specs.Synchronizes.{takesFrom};
 ghost use Rattle.area.specs.Regions.{GRID};
 ghost use Rattle.sequence.specs.Known.{Known};
-ghost use Rattle.quick_sync.specs.Regions.{HEADS, TAKES, GETS, HANDS};
-ghost use Rattle.quick_sync.specs.Links.{heads, gets, released, gotten};
+ghost use Rattle.quick_sync.specs.Regions.{HEADS, TAKES, GETS, HANDS, LINKS, UP-TO};
+ghost use Rattle.quick_sync.specs.Links.{heads, gets, released, gotten, led};
+ghost use Rattle.quick_sync.specs.Rows.{atomicOf};
+use crate::product;
 use crate::product::ROWS_GRID;
 use crate::walk;
 use model::Mode;
@@ -69,7 +72,7 @@ fn heads_row(rows: &[u8], p: Places, mode: Mode, n: usize, a: usize, w: &mut [u6
     }
 }
 
-pub fn fill_heads(rows: &[u8], p: Places, mode: Mode, n: usize, w: &mut [u64])
+fn fill_heads(rows: &[u8], p: Places, mode: Mode, n: usize, w: &mut [u64])
     requires { ⌜ (n ≤ ROWS) × (WORK ≤ length (now w)) ⌝ }
     ensures { λ _. ⌜ Made HEADS TAKES HEADS GRID n (released (decode (now (rows .entry)) p mode n)) (now (w .entry)) (now (w .exit)) ⌝ }
 {
@@ -116,7 +119,7 @@ fn takes_row(rows: &[u8], p: Places, mode: Mode, n: usize, x: usize, w: &mut [u6
     }
 }
 
-pub fn fill_takes(rows: &[u8], p: Places, mode: Mode, n: usize, w: &mut [u64])
+fn fill_takes(rows: &[u8], p: Places, mode: Mode, n: usize, w: &mut [u64])
     requires { ⌜ (n ≤ ROWS) × (WORK ≤ length (now w)) × Known (decode (now rows) p mode n) n (now w) ⌝ }
     ensures { λ _. ⌜ Made TAKES GETS TAKES GRID n (takesFrom (decode (now (rows .entry)) p mode n)) (now (w .entry)) (now (w .exit)) ⌝ }
 {
@@ -156,7 +159,7 @@ fn gets_row(rows: &[u8], p: Places, mode: Mode, n: usize, y: usize, w: &mut [u64
     }
 }
 
-pub fn fill_gets(rows: &[u8], p: Places, mode: Mode, n: usize, w: &mut [u64])
+fn fill_gets(rows: &[u8], p: Places, mode: Mode, n: usize, w: &mut [u64])
     requires { ⌜ (n ≤ ROWS) × (WORK ≤ length (now w)) ⌝ }
     ensures { λ _. ⌜ Made GETS HANDS GETS GRID n (gotten (decode (now (rows .entry)) p mode n)) (now (w .entry)) (now (w .exit)) ⌝ }
 {
@@ -164,4 +167,36 @@ pub fn fill_gets(rows: &[u8], p: Places, mode: Mode, n: usize, w: &mut [u64])
     for y in 0..n {
         gets_row(rows, p, mode, n, y, w);
     }
+}
+
+// ---- from a release to the acquires
+
+// Whether some row is an atomic.
+fn has_atomic(rows: &[u8], n: usize) -> bool
+    requires { ⌜ n ≤ ROWS ⌝ }
+    ensures { λ b. ⌜ b ≡ anyBelow n (atomicOf (now (rows .entry))) ⌝ }
+{
+    for y in 0..n {
+        let k = bytes::read_kind(rows, y as u16);
+        if (kinds::ATOMIC_READ <= k) & (k <= kinds::RMW) {
+            return true;
+        }
+    }
+    false
+}
+
+// M5: which acquires each release is linked to. Without atomics there are none.
+pub fn fill_links(rows: &[u8], p: Places, mode: Mode, n: usize, w: &mut [u64])
+    requires { ⌜ (n ≤ ROWS) × (WORK ≤ length (now w)) × Known (decode (now rows) p mode n) n (now w) ⌝ }
+    ensures { λ _. ⌜ Made HEADS UP-TO LINKS GRID n (led (decode (now (rows .entry)) p mode n)) (now (w .entry)) (now (w .exit)) ⌝ }
+{
+    if !has_atomic(rows, n) {
+        bits::clear(w, LINKS, LINKS + ROWS_GRID);
+        return;
+    }
+    fill_heads(rows, p, mode, n, w);
+    fill_takes(rows, p, mode, n, w);
+    fill_gets(rows, p, mode, n, w);
+    product::multiply(w, HANDS, TAKES, GETS, n);
+    product::multiply(w, LINKS, HEADS, HANDS, n);
 }

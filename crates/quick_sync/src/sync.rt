@@ -15,7 +15,6 @@ ghost use Rattle.quick_sync.specs.State.{Linked, MadeLinked};
 use crate::links;
 use crate::meets;
 use crate::mutual;
-use crate::product;
 use crate::walk;
 use model::Mode;
 use model::Places;
@@ -88,11 +87,7 @@ fn make_linked(rows: &[u8], p: Places, mode: Mode, n: usize, w: &mut [u64])
     requires { ⌜ (n ≤ ROWS) × (WORK ≤ length (now w)) × Known (decode (now rows) p mode n) n (now w) ⌝ }
     ensures { λ _. ⌜ MadeLinked (decode (now (rows .entry)) p mode n) n (now (w .entry)) (now (w .exit)) ⌝ }
 {
-    links::fill_heads(rows, p, mode, n, w);
-    links::fill_takes(rows, p, mode, n, w);
-    links::fill_gets(rows, p, mode, n, w);
-    product::multiply(w, links::HANDS, links::TAKES, links::GETS, n);
-    product::multiply(w, links::LINKS, links::HEADS, links::HANDS, n);
+    links::fill_links(rows, p, mode, n, w);
     meets::fill_passed(rows, p, mode, n, w);
 }
 

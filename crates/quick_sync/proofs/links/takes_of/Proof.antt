@@ -1,6 +1,6 @@
-use mathlib.Core.Path.{_≡_, sym, _∙_}
+use mathlib.Core.Path.{_∙_}
 use native.Mathlib.Omega.{arith}
-use Rattle.bits.specs.Stage.{Holds, holds-bit}
+use Rattle.bits.specs.Stage.{holds-bit}
 use Rattle.quick_sync.specs.Rows.{takes-write, takes-far, takes-here}
 use borrow.Author.Needs.{needs}
 use Rattle.quick_sync.proofs.links.takes_of.Statement.{statement}

@@ -1,7 +1,8 @@
-use mathlib.Core.Path.{_≡_, refl, sym, ap, _∙_}
-use borrow.Author.Tests.{not-true, not-false}
+use mathlib.Core.Path.{sym, _∙_}
+use borrow.Author.Tests.{not-true}
 use native.Mathlib.Omega.{arith}
-use Rattle.quick_sync.specs.State.{passed-cleared, passed-made}
+use Rattle.quick_sync.specs.State.{cleared-made, passed-made}
+use Rattle.quick_sync.specs.Regions.{UP-TO, PASSED}
 use Rattle.quick_sync.specs.Rows.{passed-none}
 use borrow.Author.Needs.{needs}
 use Rattle.quick_sync.proofs.meets.fill_passed.Statement.{statement}
@@ -28,7 +29,7 @@ same-length c = search needs
 
 -- src/meets.rt:126:9
 returns : tie.Need-returns
-returns c = passed-cleared _ _ _ _ (c .before .before .before .before .before .before .before .before .pre .0) (c .before .before .before .before .before .before .before .before .pre .1) (c .before .before .clear .ensures) (passed-none _ _ _ _ (sym (c .before .before .before .before .before .has-control .ensures) ∙ not-true _ (c .before .before .before .before .if1 .taken)))
+returns c = cleared-made UP-TO PASSED _ (omega arith) (omega (arith, c .before .before .before .before .before .before .before .before .pre .1)) (c .before .before .before .before .before .before .before .before .pre .0) (c .before .before .clear .ensures) (passed-none _ _ _ _ (sym (c .before .before .before .before .before .has-control .ensures) ∙ not-true _ (c .before .before .before .before .if1 .taken)))
 
 -- src/meets.rt:128:5
 fill-up-to-requires : tie.Need-fill-up-to-requires

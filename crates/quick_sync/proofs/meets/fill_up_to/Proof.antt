@@ -1,11 +1,10 @@
-use mathlib.Core.Path.{_≡_, refl, sym, ap, _∙_}
-use Prim.Native.Nat.{_+_, _-_, _*_, _≤_, _<_}
+use mathlib.Core.Path.{_≡_, refl, ap, _∙_}
+use Prim.Native.Nat.{_-_, _*_, _≤_}
 use native.Mathlib.Omega.{arith}
 use lib.ListN.{length}
 use Rattle.bits.specs.Fill.{gridFill, gridFill-none, gridFill-more, length-gridFill}
 use Rattle.bits.specs.Stage.{made-filled}
-use Rattle.bits.specs.Within.{within-cleared}
-use Rattle.model.specs.Table.{rowOf, decode}
+use Rattle.model.specs.Table.{decode}
 use Rattle.quick_sync.specs.Links.{ahead}
 use Rattle.area.specs.Regions.{GRID}
 use Rattle.quick_sync.specs.Regions.{UP-TO, JOINS}

@@ -1,6 +1,5 @@
-use mathlib.Core.Path.{_≡_}
 use Rattle.finite.specs.Logic.{_and_}
-use Rattle.model.specs.Table.{rowOf, decode}
+use Rattle.model.specs.Table.{decode}
 use Rattle.model.specs.Moment.{sameAgent}
 use Rattle.model.specs.Synchronizes.{upTo}
 use borrow.Author.Needs.{needs}

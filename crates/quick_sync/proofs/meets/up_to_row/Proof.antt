@@ -1,8 +1,8 @@
 use mathlib.Core.Path.{_≡_, refl, ap, _∙_}
-use Prim.Native.Nat.{_+_, _-_, _*_, _≤_, _<_}
+use Prim.Native.Nat.{_+_, _-_, _*_, _≤_}
 use native.Mathlib.Omega.{arith}
 use lib.ListN.{length}
-use Rattle.bits.specs.Fill.{rowFill, rowFill-none, rowFill-put, length-rowFill}
+use Rattle.bits.specs.Fill.{rowFill, rowFill-put, length-rowFill}
 use Rattle.model.specs.Table.{rowOf, decode}
 use Rattle.area.specs.Regions.{GRID}
 use Rattle.quick_sync.specs.Regions.{UP-TO}

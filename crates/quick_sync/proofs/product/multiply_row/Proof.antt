@@ -3,7 +3,6 @@ use mathlib.Core.Bool.{true}
 use Prim.Native.Nat.{_+_, _-_, _*_, _≤_, _<_}
 use native.Mathlib.Omega.{arith}
 use lib.ListN.{length}
-use Rattle.bits.specs.Matrix.{rel}
 use Rattle.area.specs.Regions.{GRID, ROWS-GRID}
 use Rattle.quick_sync.specs.Product.{grid, RowTimes, row-none, row-next, row-join}
 use borrow.Author.Needs.{needs}

@@ -1,6 +1,6 @@
-use mathlib.Core.Path.{_≡_, refl, sym, ap, _∙_}
+use mathlib.Core.Path.{_∙_}
 use Rattle.finite.specs.Logic.{_and_, _or_}
-use Rattle.bits.specs.Stage.{Holds, holds-bit}
+use Rattle.bits.specs.Stage.{holds-bit}
 use native.Mathlib.Omega.{arith}
 use Rattle.quick_sync.specs.Rows.{sync-relaxed, sync-atomics, sync-linked}
 use borrow.Author.Needs.{needs}

@@ -43,6 +43,30 @@ static void test_cycle(void) {
   expect(are_sources_kept(), "none keeps the source buffer");
 }
 
+/* Both engines of one table. */
+static void test_flags(void) {
+  uint64_t first, second;
+  prepare();
+  first = check();
+  prepare();
+  second = stramashly_check_by_flags(table, sizeof table, 0, work, STRAMASHLY_WORK_WORDS + 1, cycle,
+                                     STRAMASHLY_CYCLE_NUMBERS + 1);
+  expect(first == second, "both engines call P race-free");
+  expect(is_work_cleared() && is_cycle_kept(), "the obvious one leaves the same");
+  prepare();
+  set_source(3, STRAMASHLY_INITIAL);
+  second = stramashly_check_by_flags(table, sizeof table, 0, work, STRAMASHLY_WORK_WORDS + 1, cycle,
+                                     STRAMASHLY_CYCLE_NUMBERS + 1);
+  expect(second == packed(STRAMASHLY_CYCLE, 2, 0, 0), "the obvious one finds the cycle");
+  expect(cycle[0] == 0 && cycle[1] == 3, "and shows its rows");
+  prepare();
+  table[ROWS_AT + 1 * ROW_BYTES + FLAGS] = 1;
+  second = stramashly_fill_by_flags(table, sizeof table, 0, work, STRAMASHLY_WORK_WORDS + 1, sources,
+                                    STRAMASHLY_SOURCE_NUMBERS + 1);
+  expect(second == packed(STRAMASHLY_RACE, 0, 3, 0), "and a fill by it tells the race");
+  expect(is_work_cleared() && are_sources_kept(), "and leaves what a fill leaves");
+}
+
 static void test_overwritten(void) {
   /* Two writes by one agent, and its read of the first. */
   static const uint8_t stale[] = {
@@ -137,6 +161,7 @@ void test_check_and_fill(void) {
   test_race_free();
   test_race();
   test_cycle();
+  test_flags();
   test_overwritten();
   test_fill();
   test_refusals();

@@ -1,5 +1,6 @@
 -- What rows meet of what an operation leaves in their domain, made by rows of bits that are added one after the other: first the rows
--- that meet it at once, then those that meet it by way of one visibility operation and another. Assumes nothing.
+-- that meet it at once, then those that meet it by way of one visibility operation and another. Who sees what by way of one stands
+-- in a grid of its own, which nothing else needs yet. Assumes nothing.
 use mathlib.Core.Path.{_≡_, refl, sym, ap, _∙_}
 use mathlib.Core.Bool.{Bool, true, false, not, cond}
 use mathlib.Core.Logic.{_⊎_, inl, inr}
@@ -13,11 +14,11 @@ use lib.ListN.{length}
 use borrow.Author.Tests.{eq-eqb, ne-eqb, eqb-true, lt-ltb, le-ltb}
 use Rattle.finite.specs.Logic.{_and_, _or_, which, split, bool-ext, and-true, and-false-left, and-false-right, or-off, or-left, or-right, or-assoc, not-both, not-so}
 use Rattle.finite.specs.Below.{anyBelow, any-none, any-not, any-cong}
-use Rattle.bits.specs.Bit.{bit, zeros, bit-zeros-in}
+use Rattle.bits.specs.Bit.{bit, zeros, bit-zeros-in, joinRow, bit-joinRow}
 use Rattle.bits.specs.Matrix.{rel}
-use Rattle.bits.specs.Within.{Within, within-trans, within-cleared}
+use Rattle.bits.specs.Within.{Within, within-trans, within-widen, within-bit, within-joinRow, within-cleared}
 use Rattle.bits.specs.Fill.{or-fresh, rowFill, rowFill-in, rowFill-out, within-rowFill}
-use Rattle.bits.specs.Stage.{Holds, Made, Added, added-none, holds-added, holds-cong}
+use Rattle.bits.specs.Stage.{Holds, Made, Added, added-none, holds-added, holds-cong, holds-kept}
 use Rattle.model.specs.declared.Mode.{Mode}
 use Rattle.model.specs.Limits.{ROWS, WORK}
 use Rattle.model.specs.Row.{VISIBLE-HOST, VISIBLE-DEVICE, operation, reads}
@@ -25,10 +26,11 @@ use Rattle.model.specs.Table.{Table, rowOf, decode}
 use Rattle.model.specs.Moment.{itself}
 use Rattle.model.specs.Happens.{happens}
 use Rattle.model.specs.Location.{thence, onHost, visibleKind, seenBy, metFrom}
-use Rattle.area.specs.Regions.{HAPPENS, MOMENTS, MET, MET-END, GRID}
-use Rattle.area.specs.State.{Ordered}
+use Rattle.area.specs.Regions.{HAPPENS, MOMENTS, HOSTED, HOSTED-END, SYSTEM, SYSTEM-END, MET, MET-END, REACHED, REACHED-END, GRID}
+use Rattle.area.specs.State.{Ordered, ordered-kept}
 use Rattle.location.specs.Chains.{and-on}
-use Rattle.location.specs.Domains.{metBy, visibleOf}
+use Rattle.location.specs.Order.{row-off}
+use Rattle.location.specs.Domains.{metBy, visibleOf, Meeting}
 
 -- ---- definitions
 
@@ -58,6 +60,11 @@ only m p i j = eqb i m and p j
 
 unfoldable pub metBelow : Table → ℕ → ℕ → ℕ → Bool
 metBelow t m i j = ltb i m and metBy t i j
+
+-- what the readers see by way of one row; the bits that tell of it
+pub record Seeing (t : Table) (n : ℕ) (w : List ℕ) : Type 0 where
+  pub ordered : Ordered t n w
+  pub seeing : Holds REACHED GRID n (seenFrom t) w
 
 -- r was added to what n rows meet
 abbrev pub MetMore : ℕ → (ℕ → ℕ → Bool) → List ℕ → List ℕ → Type 0
@@ -119,17 +126,54 @@ row-added {n} m p {w} {u} small room l e =
     go i j a c (no d) =
         rowFill-out p w (MET * 64 + m * (GRID * 64)) n ((MET + i * GRID) * 64 + j) (λ h. omega arith) ∙ sym (or-off _ _ (and-false-left _ _ (ne-eqb i m d)))
 
+-- a row of another grid
+row-joined : {n : ℕ} (m i : ℕ) (p : ℕ → ℕ → Bool) {w u : List ℕ} → n ≤ ROWS → WORK ≤ length w → m < n → i < n → Holds REACHED GRID n p w
+    → u ≡ joinRow w (MET + m * GRID) (REACHED + i * GRID) GRID → MetMore n (only m (p i)) w u
+unfolding only rel
+row-joined {n} m i p {w} {u} small room l k h e =
+    record {
+      cell = λ a j b c. rw e (go a j b c (ℕ-discrete a m));
+      frame = rw e (within-widen MET MET-END (omega arith) (omega arith) (within-joinRow w (MET + m * GRID) (REACHED + i * GRID) GRID));
+    }
+  where
+    go : (a j : ℕ) → a < n → j < n → Dec (a ≡ m)
+        → bit (joinRow w (MET + m * GRID) (REACHED + i * GRID) GRID) ((MET + a * GRID) * 64 + j) ≡ (bit w ((MET + a * GRID) * 64 + j) or (eqb a m and p i j))
+    go a j b c (yes d) =
+        rw (d, eq-eqb m m refl)
+        (bit-joinRow w (MET + m * GRID) (REACHED + i * GRID) GRID j (omega arith) (omega arith)
+        ∙ ap (λ (v : Bool). bit w ((MET + m * GRID) * 64 + j) or v) (h .cell i j k c ∙ sym (and-on _ _ refl)))
+    go a j b c (no d) =
+        within-bit (within-joinRow w (MET + m * GRID) (REACHED + i * GRID) GRID) ((MET + a * GRID) * 64 + j) (λ g. omega arith)
+        ∙ sym (or-off _ _ (and-false-left _ _ (ne-eqb a m d)))
+
+-- ---- laws: what y sees by way of a row
+
+visible-kinds : (c : Bool) (k : ℕ) → eqb k (cond c VISIBLE-HOST VISIBLE-DEVICE) ≡ true → (eqb k VISIBLE-HOST or eqb k VISIBLE-DEVICE) ≡ true
+visible-kinds true k f = or-left _ f
+visible-kinds false k f = or-right _ f
+
+seen-visible : (t : Table) (i y : ℕ) → seenFrom t i y ≡ true → (eqb (t .row i .kind) VISIBLE-HOST or eqb (t .row i .kind) VISIBLE-DEVICE) ≡ true
+unfolding seenFrom visibleKind
+seen-visible t i y e = visible-kinds (onHost t y) (t .row i .kind) (split (split e .1) .0)
+
+-- what is no visibility operation has no bits
+pub unseen-row : (t : Table) (i kind : ℕ) (w : List ℕ) (at n : ℕ) → kind ≡ t .row i .kind → (eqb kind VISIBLE-HOST or eqb kind VISIBLE-DEVICE) ≡ false
+    → w ≡ rowFill (seenFrom t i) w at n
+unseen-row t i kind w at n e f = row-off (seenFrom t i) w at n (λ y. not-so _ (λ h. not-both (seen-visible t i y h) (rw (← e) f)))
+
+pub seeing-made : {t : Table} {n : ℕ} {w u : List ℕ} → Ordered t n w → Made REACHED REACHED-END REACHED GRID n (seenFrom t) w u → Seeing t n u
+seeing-made o m = record { ordered = ordered-kept (omega arith) (m .frame) o; seeing = m .holds }
+
+pub seeing-kept : {t : Table} {n : ℕ} {w u : List ℕ} → Within MET MET-END w u → Seeing t n w → Seeing t n u
+seeing-kept f s = record { ordered = ordered-kept (omega arith) f (s .ordered); seeing = holds-kept (λ h. omega arith) f (s .seeing) }
+
 -- ---- laws: what y meets of m
 
 module _ (t : Table) (m : ℕ) where
   -- what is no visibility operation after m shows nothing
   show-none : (i y : ℕ) → shows t m i ≡ false → seenAfter t m y i ≡ false
-  unfolding shows seenAfter seenFrom visibleKind
-  show-none i y e = not-so _ (λ h. let s = split h in let k = split (split (s .1) .1) in not-both (and-true (visible (onHost t y) (t .row i .kind) (k .0)) (s .0)) e)
-    where
-      visible : (c : Bool) (k : ℕ) → eqb k (cond c VISIBLE-HOST VISIBLE-DEVICE) ≡ true → (eqb k VISIBLE-HOST or eqb k VISIBLE-DEVICE) ≡ true
-      visible true k f = or-left _ f
-      visible false k f = or-right _ f
+  unfolding shows seenAfter
+  show-none i y e = not-so _ (λ h. let s = split h in not-both (and-true (seen-visible t i y (s .1)) (s .0)) e)
 
   show-some : (i y : ℕ) → shows t m i ≡ true → seenFrom t i y ≡ seenAfter t m y i
   unfolding shows seenAfter
@@ -140,10 +184,11 @@ module _ (t : Table) (m : ℕ) where
     unfolding only
     seen-none i e = added-none MET MET-END w (λ a y p q. and-false-right _ _ (show-none i y e))
 
-    pub seen-some : {u : List ℕ} (i : ℕ) → n ≤ ROWS → WORK ≤ length w → m < n → shows t m i ≡ true → u ≡ rowFill (seenFrom t i) w (MET * 64 + m * (GRID * 64)) n
+    pub seen-some : {u : List ℕ} (i : ℕ) → n ≤ ROWS → WORK ≤ length w → m < n → i < n → shows t m i ≡ true → Seeing t n w
+        → u ≡ joinRow w (MET + m * GRID) (REACHED + i * GRID) GRID
         → MetMore n (only m (λ y. seenAfter t m y i)) w u
     unfolding only
-    seen-some i small room l e f = more-cong (λ a y p q. ap (λ (b : Bool). eqb a m and b) (show-some i y e)) (row-added m (seenFrom t i) small room l f)
+    seen-some i small room l k e s f = more-cong (λ a y p q. ap (λ (b : Bool). eqb a m and b) (show-some i y e)) (row-joined m i (seenFrom t) small room l k (s .seeing) f)
 
     -- one row after the other
     pub upto-none : MetMore n (only m (seenUpto t m 0)) w w
@@ -203,17 +248,19 @@ module _ (t : Table) {n : ℕ} {w : List ℕ} where
   unfolding metBelow
   below-none = added-none MET MET-END w (λ i j k l. and-false-left _ _ (le-ltb i 0 (omega arith)))
 
-  -- cleared, then added
-  pub made-met : {v u : List ℕ} → n ≤ ROWS → WORK ≤ length w → v ≡ zeros w MET (MET-END - MET) → MetMore n (metBelow t n) v u → Made MET MET-END MET GRID n (metBy t) w u
+  -- the readers' grid made, the other cleared, then added to
+  pub made-met : {x v u : List ℕ} → n ≤ ROWS → WORK ≤ length x → Within REACHED REACHED-END w x → v ≡ zeros x MET (MET-END - MET) → MetMore n (metBelow t n) v u
+      → Made MET REACHED-END MET GRID n (metBy t) w u
   unfolding metBelow rel
-  made-met {v} small room e f =
+  made-met {x} {v} small room d e f =
       record {
         holds = holds-cong (λ i j d c. same i j d) (holds-added empty f);
-        frame = within-trans (within-cleared MET MET-END (omega arith) e) (f .frame);
+        frame = within-trans (within-widen MET REACHED-END (omega arith) (omega arith) d)
+            (within-widen MET REACHED-END (omega arith) (omega arith) (within-trans (within-cleared MET MET-END (omega arith) e) (f .frame)));
       }
     where
       empty : Holds MET GRID n (λ i j. false) v
-      empty = record { fits = omega arith; cell = λ i j d c. rw e (bit-zeros-in w MET (MET-END - MET) ((MET + i * GRID) * 64 + j) (omega arith) (omega arith) (omega arith)) }
+      empty = record { fits = omega arith; cell = λ i j d c. rw e (bit-zeros-in x MET (MET-END - MET) ((MET + i * GRID) * 64 + j) (omega arith) (omega arith) (omega arith)) }
 
       same : (i j : ℕ) → i < n → (false or (ltb i n and metBy t i j)) ≡ metBy t i j
       same i j d = or-fresh false _ refl ∙ and-on _ _ (lt-ltb i n d)
@@ -253,3 +300,19 @@ module _ (b : List ℕ) (p : List (List ℕ)) (mode : Mode) (n : ℕ) (w : List 
       → g ≡ rel w HAPPENS MOMENTS (itself m) (itself i) → g ≡ shows (decode b p mode n) m i
   unfolding shows decode _and_
   shows-on m i kind g l k e h f = rw (← e, h) (f ∙ o .happening .cell (itself m) (itself i) (omega arith) (omega arith))
+
+-- ---- laws: the stages, one after the other
+
+pub meeting-met : {t : Table} {n : ℕ} {w u : List ℕ} → Ordered t n w → Made MET REACHED-END MET GRID n (metBy t) w u → Meeting t n u
+meeting-met o m = record { ordered = ordered-kept (omega arith) (m .frame) o; meeting = m .holds }
+
+pub made-all : {n : ℕ} {r : ℕ → ℕ → Bool} {w v x z u : List ℕ} → Within SYSTEM SYSTEM-END w v → Within MET REACHED-END v x → Within REACHED REACHED-END x z
+    → Made HOSTED HOSTED-END HOSTED GRID n r z u
+    → Made HOSTED REACHED-END HOSTED GRID n r w u
+made-all f g h m =
+    record {
+      holds = m .holds;
+      frame = within-trans
+          (within-trans (within-widen HOSTED REACHED-END (omega arith) (omega arith) f) (within-widen HOSTED REACHED-END (omega arith) (omega arith) g))
+          (within-trans (within-widen HOSTED REACHED-END (omega arith) (omega arith) h) (within-widen HOSTED REACHED-END (omega arith) (omega arith) (m .frame)));
+    }

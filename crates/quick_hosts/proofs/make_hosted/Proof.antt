@@ -1,4 +1,5 @@
-use Rattle.location.specs.Domains.{meeting-made, sources-made, system-is, made-unhosted, made-hosted}
+use Rattle.quick_hosts.specs.Met.{meeting-met, made-all}
+use Rattle.location.specs.Domains.{sources-made, system-is, made-unhosted}
 use Rattle.area.specs.State.{ordered-kept}
 use Rattle.bits.specs.Stage.{holds-kept}
 use native.Mathlib.Omega.{arith}
@@ -50,7 +51,7 @@ fill-reached-requires c κs =
     let s = c .before .before .before .before .before .before .before .before .before .before .before .before .before in
     let f = c .before .before .before .before .before .before .before .make-system .ensures .frame in
     let m = c .before .before .before .fill-met .ensures in
-    (s .pre .0, omega (arith, f .len, m .frame .len, s .pre .1), meeting-made (ordered-kept (omega arith) f (s .pre .2)) m)
+    (s .pre .0, omega (arith, f .len, m .frame .len, s .pre .1), meeting-met (ordered-kept (omega arith) f (s .pre .2)) m)
 
 -- src/hosted.rt:142:5
 fill-hosted-requires : tie.Need-fill-hosted-requires
@@ -68,7 +69,7 @@ same-length-2 c = search needs
 
 -- src/hosted.rt:131:1
 returns-2 : tie.Need-returns-2
-returns-2 c = made-hosted (c .before .before .before .before .before .before .before .before .before .before .before .before .before .before .make-system .ensures .frame) (c .before .before .before .before .before .before .before .before .before .before .fill-met .ensures .frame) (c .before .before .before .before .before .before .fill-reached .ensures .frame) (c .before .before .fill-hosted .ensures)
+returns-2 c = made-all (c .before .before .before .before .before .before .before .before .before .before .before .before .before .before .make-system .ensures .frame) (c .before .before .before .before .before .before .before .before .before .before .fill-met .ensures .frame) (c .before .before .before .before .before .before .fill-reached .ensures .frame) (c .before .before .fill-hosted .ensures)
 
 pub make-hosted-spec : {M : Type 1} → statement M
 make-hosted-spec =

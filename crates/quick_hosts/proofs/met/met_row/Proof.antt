@@ -1,8 +1,7 @@
-use Rattle.quick_hosts.specs.Met.{seenUpto, only, MetMore, upto-none, upto-more, met-none, met-all}
+use Rattle.quick_hosts.specs.Met.{seenUpto, only, Seeing, MetMore, seeing-kept, upto-none, upto-more, met-none, met-all}
 use Rattle.location.specs.Domains.{operationAt}
 use Rattle.location.specs.Order.{within-row}
 use Rattle.area.specs.Regions.{MET, MET-END}
-use Rattle.area.specs.State.{Ordered, ordered-kept}
 use Rattle.model.specs.Table.{decode}
 use borrow.Author.Tests.{not-true, not-false}
 use lib.ListN.{length}
@@ -19,7 +18,7 @@ use Rattle.quick_hosts.proofs.met.add_seen.Reads as add-seen-reads
 use Rattle.quick_hosts.proofs.met.once_row.Reads as once-row-reads
 
 abbrev Inv-loop : tie.InvT-loop
-Inv-loop rows p mode n m w₀ i₀ w i = (i ≤ n) × (length w ≡ length w₀) × Ordered (decode rows p mode n) n w × MetMore n (only m (seenUpto (decode rows p mode n) m i)) w₀ w
+Inv-loop rows p mode n m w₀ i₀ w i = (i ≤ n) × (length w ≡ length w₀) × Seeing (decode rows p mode n) n w × MetMore n (only m (seenUpto (decode rows p mode n) m i)) w₀ w
 
 abbrev μ-loop : tie.MeasureT-loop
 μ-loop rows p mode n m w₀ i₀ w i = n - i
@@ -39,7 +38,7 @@ once-row-requires c κs = search needs
 
 -- src/met.rt:115:5
 loop-holds : tie.Need-loop-holds Inv-loop μ-loop
-loop-holds c = let s = c .before .before .before .before .before .before .before .before in (search needs, refl, ordered-kept (omega arith) (within-row MET MET-END _ _ _ (omega arith) (omega (arith, s .pre .0, s .pre .2)) (c .before .before .once-row .ensures)) (s .pre .3), upto-none _ _)
+loop-holds c = let s = c .before .before .before .before .before .before .before .before in (search needs, refl, seeing-kept (within-row MET MET-END _ _ _ (omega arith) (omega (arith, s .pre .0, s .pre .2)) (c .before .before .once-row .ensures)) (s .pre .3), upto-none _ _)
 
 -- src/met.rt:116:9
 add-seen-requires : tie.Need-add-seen-requires Inv-loop μ-loop
@@ -58,7 +57,7 @@ loop-again : tie.Need-loop-again Inv-loop μ-loop
 loop-again c =
     let more = c .before .before .add-seen .ensures in
     let inv = c .before .before .before .before .before .loop .inv in
-    (search needs, more .frame .len ∙ inv .1, ordered-kept (omega arith) (more .frame) (inv .2), upto-more _ _ _ (inv .3) more)
+    (search needs, more .frame .len ∙ inv .1, seeing-kept (more .frame) (inv .2), upto-more _ _ _ (inv .3) more)
 
 -- src/met.rt:107:1
 same-length : tie.Need-same-length Inv-loop μ-loop

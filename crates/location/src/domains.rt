@@ -35,7 +35,7 @@ fn available_kind(p: Places, agent: u8) -> u8
 }
 
 // The operation that makes visible from an agent's domain.
-fn visible_kind(p: Places, agent: u8) -> u8
+pub fn visible_kind(p: Places, agent: u8) -> u8
     ensures { λ k. ⌜ k ≡ visibleOf p agent ⌝ }
 {
     if rows::scopes::is_host(p, agent) {

@@ -62,7 +62,7 @@ pub fn make_system(mode: Mode, n: usize, w: &mut [u64])
 }
 
 // L4 of r, where s tells whether it system-synchronizes.
-fn l4(r: Row, s: bool) -> bool
+pub fn l4(r: Row, s: bool) -> bool
     ensures { λ d. ⌜ d ≡ (reads r and not (writes r) and s) ⌝ }
 {
     rows::kinds::reads(r) & !rows::kinds::writes(r) & s
@@ -118,7 +118,7 @@ fn has_operation(rows: &[u8], n: usize) -> bool
 }
 
 // Whether there is neither a dependency nor an operation.
-fn is_unhosted(rows: &[u8], mode: Mode, n: usize) -> bool
+pub fn is_unhosted(rows: &[u8], mode: Mode, n: usize) -> bool
     requires { ⌜ n ≤ ROWS ⌝ }
     ensures { λ d. ⌜ d ≡ unhosted mode (now (rows .entry)) n ⌝ }
 {

@@ -12,7 +12,7 @@ ghost use Rattle.model.specs.Table.{rowOf, decode};
 ghost use Rattle.model.specs.Edge.{beforeNth};
 ghost use Rattle.area.specs.Regions.{LOCATION, PAIR, PAIRS};
 ghost use Rattle.area.specs.State.{Ordered, MadeLocated};
-ghost use Rattle.location.specs.Order.{mayShare, Prepared};
+ghost use Rattle.location.specs.Order.{Prepared};
 ghost use Rattle.location.specs.Reach.{Reaching};
 ghost use Rattle.quick_location.specs.Elements.{publishes};
 ghost use Rattle.quick_location.specs.Pairs.{sharedNth, carriedBytes};
@@ -57,22 +57,6 @@ fn fill_third(
     masks::put_bytes(x, y, m, w);
 }
 
-// Places of a row's size and start.
-const SIZE: u8 = 7;
-
-const START: u8 = 8;
-
-// Whether x, which is r, and y may share a byte, as three bytes of y tell.
-fn is_near(rows: &[u8], x: usize, r: Row, y: usize) -> bool
-    requires { ⌜ y < ROWS ⌝ }
-    ensures { λ d. ⌜ d ≡ mayShare x y r (rowOf (now (rows .entry)) y) ⌝ }
-{
-    let start = r.start as u32;
-    let other = bytes::row_pair(rows, y as u16, START) as u32;
-    let size = bytes::row_byte(rows, y as u16, SIZE) as u32;
-    !(x == y) & (start < other + size) & (other < start + (r.size as u32))
-}
-
 // The bits of the pair of x, which is r, and y; no row before f is a first element of L3's. Rows that share no byte cost one test.
 // Ruled out: one that takes a private write for one that L3 speaks of; one that asks L1 of the rows exchanged.
 fn fill_pair(
@@ -90,7 +74,7 @@ fn fill_pair(
         × (f ≤ n) × (anyBelow f (publishes (decode (now rows) p mode n) x) ≡ false) ⌝ }
     ensures { λ _. ⌜ now (w .exit) ≡ rowFill (beforeNth (decode (now (rows .entry)) p mode n) x y) (now (w .entry)) (LOCATION * 64 + x * PAIRS + y * PAIR) PAIR ⌝ }
 {
-    if !is_near(rows, x, r, y) {
+    if !quick_hosts::is_near(rows, x, r, y) {
         return;
     }
     let q = bytes::read_row(rows, y as u16);
@@ -129,7 +113,7 @@ pub fn fill_location(rows: &[u8], p: Places, mode: Mode, n: usize, w: &mut [u64]
     requires { ⌜ (n ≤ ROWS) × (WORK ≤ length (now w)) × Ordered (decode (now rows) p mode n) n (now w) ⌝ }
     ensures { λ _. ⌜ MadeLocated (decode (now (rows .entry)) p mode n) n (now (w .entry)) (now (w .exit)) ⌝ }
 {
-    location::hosted::make_hosted(rows, p, mode, n, w);
+    quick_hosts::make_hosted(rows, p, mode, n, w);
     reach::make_reach(rows, p, mode, n, w);
     bits::clear(w, area::LOCATION, area::LOCATION_END);
     for x in 0..n {

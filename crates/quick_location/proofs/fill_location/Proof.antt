@@ -16,7 +16,7 @@ use Rattle.quick_location.proofs.fill_location.Reads as reads
 use Rattle.quick_location.proofs.fill_location.Lts as lts
 use Rattle.bits.proofs.clear.Reads as clear-reads
 use Rattle.quick_location.proofs.fill_row.Reads as fill-row-reads
-use Rattle.location.proofs.hosted.make_hosted.Reads as make-hosted-reads
+use Rattle.quick_hosts.proofs.make_hosted.Reads as make-hosted-reads
 use Rattle.quick_location.proofs.reach.make_reach.Reads as make-reach-reads
 
 abbrev Inv-loop : tie.InvT-loop

@@ -18,7 +18,7 @@ use Rattle.location.proofs.pairs.l2.Reads as l2-reads
 use Rattle.location.proofs.pairs.public_write.Reads as public-write-reads
 use Rattle.quick_location.proofs.fill_shared.Reads as fill-shared-reads
 use Rattle.quick_location.proofs.fill_third.Reads as fill-third-reads
-use Rattle.quick_location.proofs.is_near.Reads as is-near-reads
+use Rattle.quick_hosts.proofs.is_near.Reads as is-near-reads
 use Rattle.rows.proofs.bytes.read_row.Reads as read-row-reads
 
 -- src/lib.rt:92:9

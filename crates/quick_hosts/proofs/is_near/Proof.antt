@@ -2,10 +2,10 @@ use Rattle.finite.specs.Logic.{_and_}
 use Rattle.model.specs.Table.{rowOf}
 use Rattle.location.specs.Order.{mayShare}
 use borrow.Author.Needs.{needs}
-use Rattle.quick_location.proofs.is_near.Statement.{statement}
-use Rattle.quick_location.proofs.is_near.Tie as tie
-use Rattle.quick_location.proofs.is_near.Reads as reads
-use Rattle.quick_location.proofs.is_near.Lts as lts
+use Rattle.quick_hosts.proofs.is_near.Statement.{statement}
+use Rattle.quick_hosts.proofs.is_near.Tie as tie
+use Rattle.quick_hosts.proofs.is_near.Reads as reads
+use Rattle.quick_hosts.proofs.is_near.Lts as lts
 use Rattle.rows.proofs.bytes.row_byte.Reads as row-byte-reads
 use Rattle.rows.proofs.bytes.row_pair.Reads as row-pair-reads
 

@@ -1,0 +1,78 @@
+use Rattle.quick_hosts.specs.Met.{seenFrom}
+use Rattle.location.specs.Order.{within-row}
+use Rattle.area.specs.Regions.{REACHED, REACHED-END, GRID}
+use Rattle.area.specs.State.{Ordered, ordered-kept}
+use Rattle.model.specs.Table.{decode}
+use Rattle.bits.specs.Stage.{made-filled}
+use Rattle.bits.specs.Fill.{gridFill, gridFill-none, gridFill-more, length-gridFill}
+use Rattle.bits.specs.Within.{within-cleared}
+use lib.ListN.{length}
+use native.Mathlib.Omega.{arith}
+use Prim.Native.Nat.{_-_, _*_, _≤_}
+use mathlib.Core.Path.{_≡_, refl, ap, _∙_}
+use borrow.Author.Needs.{needs}
+use Rattle.quick_hosts.proofs.met.fill_seen.Statement.{statement}
+use Rattle.quick_hosts.proofs.met.fill_seen.Tie as tie
+use Rattle.quick_hosts.proofs.met.fill_seen.Reads as reads
+use Rattle.quick_hosts.proofs.met.fill_seen.Lts as lts
+use Rattle.bits.proofs.clear.Reads as clear-reads
+use Rattle.quick_hosts.proofs.met.seen_row.Reads as seen-row-reads
+
+abbrev Inv-loop : tie.InvT-loop
+Inv-loop rows p mode n w₀ i₀ w i = (i ≤ n) × (length w ≡ length w₀) × Ordered (decode rows p mode n) n w × (w ≡ gridFill (seenFrom (decode rows p mode n)) w₀ (REACHED * 64) (GRID * 64) n i)
+
+abbrev μ-loop : tie.MeasureT-loop
+μ-loop rows p mode n w₀ i₀ w i = n - i
+
+-- src/met.rt:99:5
+clear-requires : tie.Need-clear-requires Inv-loop μ-loop
+clear-requires c κs = search needs
+
+-- src/met.rt:100:5
+loop-holds : tie.Need-loop-holds Inv-loop μ-loop
+loop-holds c = (search needs, refl, ordered-kept (omega arith) (within-cleared REACHED REACHED-END (omega arith) (c .before .before .clear .ensures)) (c .before .before .before .before .before .before .pre .2), gridFill-none _ _ _ _ _)
+
+-- src/met.rt:101:9
+seen-row-requires : tie.Need-seen-row-requires Inv-loop μ-loop
+seen-row-requires c κs = search needs
+
+-- src/met.rt:100:9
+add-i : tie.Need-add-i Inv-loop μ-loop
+add-i c = search needs
+
+-- src/met.rt:100:5
+loop-less : tie.Need-loop-less Inv-loop μ-loop
+loop-less c = search needs
+
+-- src/met.rt:100:5
+loop-again : tie.Need-loop-again Inv-loop μ-loop
+loop-again c =
+    let row = c .before .before .seen-row in
+    let inv = c .before .before .before .before .before .loop .inv in
+    let e = gridFill-more _ _ _ _ _ _ _ _ (inv .3) (row .ensures) in
+    (search needs, ap length e ∙ length-gridFill _ _ _ _ _ _, ordered-kept (omega arith) (within-row REACHED REACHED-END _ _ _ (omega arith) (omega arith) (row .ensures)) (inv .2), e)
+
+-- src/met.rt:95:1
+same-length : tie.Need-same-length Inv-loop μ-loop
+same-length c = search needs
+
+-- src/met.rt:95:1
+returns : tie.Need-returns Inv-loop μ-loop
+returns c =
+    let e : c .before .loop .i ≡ c .before .before .before .before .before .before .before .before .args .n = omega arith in
+    made-filled REACHED REACHED-END GRID _ _ _ _ _ (omega arith) (omega arith) (omega arith) (c .before .before .before .before .clear .ensures) (rw e at (c .before .loop .inv .3))
+
+pub fill-seen-spec : {M : Type 1} → statement M
+fill-seen-spec =
+    tie.close
+    (tie.spec
+    Inv-loop
+    μ-loop
+    clear-requires
+    loop-holds
+    seen-row-requires
+    add-i
+    loop-less
+    loop-again
+    same-length
+    returns)

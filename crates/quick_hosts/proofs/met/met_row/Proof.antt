@@ -1,0 +1,89 @@
+use Rattle.quick_hosts.specs.Met.{seenUpto, only, Seeing, MetMore, seeing-kept, upto-none, upto-more, met-none, met-all}
+use Rattle.location.specs.Domains.{operationAt}
+use Rattle.location.specs.Order.{within-row}
+use Rattle.area.specs.Regions.{MET, MET-END}
+use Rattle.model.specs.Table.{decode}
+use borrow.Author.Tests.{not-true, not-false}
+use lib.ListN.{length}
+use native.Mathlib.Omega.{arith}
+use Prim.Native.Nat.{_-_, _≤_}
+use mathlib.Core.Path.{_≡_, refl, sym, _∙_}
+use borrow.Author.Needs.{needs}
+use Rattle.quick_hosts.proofs.met.met_row.Statement.{statement}
+use Rattle.quick_hosts.proofs.met.met_row.Tie as tie
+use Rattle.quick_hosts.proofs.met.met_row.Reads as reads
+use Rattle.quick_hosts.proofs.met.met_row.Lts as lts
+use Rattle.location.proofs.domains.operation_at.Reads as operation-at-reads
+use Rattle.quick_hosts.proofs.met.add_seen.Reads as add-seen-reads
+use Rattle.quick_hosts.proofs.met.once_row.Reads as once-row-reads
+
+abbrev Inv-loop : tie.InvT-loop
+Inv-loop rows p mode n m w₀ i₀ w i = (i ≤ n) × (length w ≡ length w₀) × Seeing (decode rows p mode n) n w × MetMore n (only m (seenUpto (decode rows p mode n) m i)) w₀ w
+
+abbrev μ-loop : tie.MeasureT-loop
+μ-loop rows p mode n m w₀ i₀ w i = n - i
+
+-- src/met.rt:111:9
+operation-at-requires : tie.Need-operation-at-requires Inv-loop μ-loop
+operation-at-requires c κs = search needs
+
+-- src/met.rt:112:9
+returns : tie.Need-returns Inv-loop μ-loop
+unfolding operationAt decode
+returns c = met-none _ _ (sym (c .before .operation-at .ensures) ∙ not-true _ (c .if1 .taken))
+
+-- src/met.rt:114:5
+once-row-requires : tie.Need-once-row-requires Inv-loop μ-loop
+once-row-requires c κs = search needs
+
+-- src/met.rt:115:5
+loop-holds : tie.Need-loop-holds Inv-loop μ-loop
+loop-holds c = let s = c .before .before .before .before .before .before .before .before in (search needs, refl, seeing-kept (within-row MET MET-END _ _ _ (omega arith) (omega (arith, s .pre .0, s .pre .2)) (c .before .before .once-row .ensures)) (s .pre .3), upto-none _ _)
+
+-- src/met.rt:116:9
+add-seen-requires : tie.Need-add-seen-requires Inv-loop μ-loop
+add-seen-requires c κs = search needs
+
+-- src/met.rt:115:9
+add-i : tie.Need-add-i Inv-loop μ-loop
+add-i c = search needs
+
+-- src/met.rt:115:5
+loop-less : tie.Need-loop-less Inv-loop μ-loop
+loop-less c = search needs
+
+-- src/met.rt:115:5
+loop-again : tie.Need-loop-again Inv-loop μ-loop
+loop-again c =
+    let more = c .before .before .add-seen .ensures in
+    let inv = c .before .before .before .before .before .loop .inv in
+    (search needs, more .frame .len ∙ inv .1, seeing-kept (more .frame) (inv .2), upto-more _ _ _ (inv .3) more)
+
+-- src/met.rt:107:1
+same-length : tie.Need-same-length Inv-loop μ-loop
+same-length c = search needs
+
+-- src/met.rt:107:1
+returns-2 : tie.Need-returns-2 Inv-loop μ-loop
+unfolding operationAt decode
+returns-2 c =
+    let s = c .before .before .before .before .before .before .before .before .before .before in
+    let e : c .before .loop .i ≡ s .args .n = omega arith in
+    met-all _ _ (s .pre .0) (s .pre .1) (s .pre .2) (sym (c .before .before .before .before .before .before .before .operation-at .ensures) ∙ not-false _ (c .before .before .before .before .before .before .if1 .left)) (c .before .before .before .before .once-row .ensures) (rw e at (c .before .loop .inv .3))
+
+pub met-row-spec : {M : Type 1} → statement M
+met-row-spec =
+    tie.close
+    (tie.spec
+    Inv-loop
+    μ-loop
+    operation-at-requires
+    returns
+    once-row-requires
+    loop-holds
+    add-seen-requires
+    add-i
+    loop-less
+    loop-again
+    same-length
+    returns-2)

@@ -1,0 +1,113 @@
+use Rattle.quick_hosts.specs.Met.{seenFrom, unseen-row}
+use Rattle.area.specs.Regions.{REACHED, REACHED-END, GRID}
+use Rattle.area.specs.State.{Ordered, ordered-kept}
+use Rattle.model.specs.Table.{rowOf, decode}
+use Rattle.finite.specs.Logic.{_or_}
+use Rattle.bits.specs.Fill.{rowFill, rowFill-none, rowFill-put, length-rowFill}
+use Rattle.bits.specs.Within.{within-put}
+use borrow.Author.Tests.{not-true}
+use lib.ListN.{length}
+use native.Mathlib.Omega.{arith}
+use Prim.Native.Nat.{_+_, _-_, _*_, _≤_}
+use mathlib.Core.Path.{_≡_, refl, ap, _∙_}
+use borrow.Author.Needs.{needs}
+use Rattle.quick_hosts.proofs.met.seen_row.Statement.{statement}
+use Rattle.quick_hosts.proofs.met.seen_row.Tie as tie
+use Rattle.quick_hosts.proofs.met.seen_row.Reads as reads
+use Rattle.quick_hosts.proofs.met.seen_row.Lts as lts
+use Rattle.bits.proofs.put_if.Reads as put-if-reads
+use Rattle.quick_hosts.proofs.met.seen_from.Reads as seen-from-reads
+use Rattle.rows.proofs.bytes.read_kind.Reads as read-kind-reads
+
+abbrev Inv-loop : tie.InvT-loop
+Inv-loop rows p mode n i w₀ kind y₀ w y = (y ≤ n) × (length w ≡ length w₀) × (kind ≡ rowOf rows i .kind) × Ordered (decode rows p mode n) n w × (w ≡ rowFill (seenFrom (decode rows p mode n) i) w₀ (REACHED * 64 + i * (GRID * 64)) y)
+
+abbrev μ-loop : tie.MeasureT-loop
+μ-loop rows p mode n i w₀ kind y₀ w y = n - y
+
+-- src/met.rt:84:39
+cast-read-kind : tie.Need-cast-read-kind Inv-loop μ-loop
+cast-read-kind c = search needs
+
+-- src/met.rt:84:9
+read-kind-requires : tie.Need-read-kind-requires Inv-loop μ-loop
+read-kind-requires c κs = search needs
+
+-- src/met.rt:86:9
+returns : tie.Need-returns Inv-loop μ-loop
+unfolding decode _or_
+returns c = unseen-row _ _ _ _ _ _ (c .before .read-kind .ensures) (not-true _ (c .if1 .taken))
+
+-- src/met.rt:88:5
+loop-holds : tie.Need-loop-holds Inv-loop μ-loop
+loop-holds c = (search needs, refl, c .before .read-kind .ensures, c .before .before .before .before .pre .3, rowFill-none _ _ _)
+
+-- src/met.rt:89:13
+seen-from-requires : tie.Need-seen-from-requires Inv-loop μ-loop
+seen-from-requires c κs = search needs
+
+-- src/met.rt:90:42
+mul-put-if : tie.Need-mul-put-if Inv-loop μ-loop
+mul-put-if c = search needs
+
+-- src/met.rt:90:26
+add-put-if : tie.Need-add-put-if Inv-loop μ-loop
+add-put-if c = search needs
+
+-- src/met.rt:90:25
+mul-put-if-2 : tie.Need-mul-put-if-2 Inv-loop μ-loop
+mul-put-if-2 c = search needs
+
+-- src/met.rt:90:25
+add-put-if-2 : tie.Need-add-put-if-2 Inv-loop μ-loop
+add-put-if-2 c = search needs
+
+-- src/met.rt:90:9
+put-if-requires : tie.Need-put-if-requires Inv-loop μ-loop
+put-if-requires c κs = search needs
+
+-- src/met.rt:88:9
+add-y : tie.Need-add-y Inv-loop μ-loop
+add-y c = search needs
+
+-- src/met.rt:88:5
+loop-less : tie.Need-loop-less Inv-loop μ-loop
+loop-less c = search needs
+
+-- src/met.rt:88:5
+loop-again : tie.Need-loop-again Inv-loop μ-loop
+loop-again c =
+    let put = c .before .before .put-if in
+    let inv = c .before .before .before .before .before .before .before .loop .inv in
+    let e = rowFill-put _ _ _ (put .last .0) _ _ _ _ (inv .4) (c .before .before .before .before .seen-from .ensures) (omega arith) (put .ensures) in
+    (search needs, ap length e ∙ length-rowFill _ _ _ _, inv .2, ordered-kept (omega arith) (within-put REACHED REACHED-END _ _ (omega arith) (omega arith) (put .ensures)) (inv .3), e)
+
+-- src/met.rt:80:1
+same-length : tie.Need-same-length Inv-loop μ-loop
+same-length c = search needs
+
+-- src/met.rt:80:1
+returns-2 : tie.Need-returns-2 Inv-loop μ-loop
+returns-2 c = let e : c .before .loop .y ≡ c .before .before .before .before .before .before .args .n = omega arith in rw e at (c .before .loop .inv .4)
+
+pub seen-row-spec : {M : Type 1} → statement M
+seen-row-spec =
+    tie.close
+    (tie.spec
+    Inv-loop
+    μ-loop
+    cast-read-kind
+    read-kind-requires
+    returns
+    loop-holds
+    seen-from-requires
+    mul-put-if
+    add-put-if
+    mul-put-if-2
+    add-put-if-2
+    put-if-requires
+    add-y
+    loop-less
+    loop-again
+    same-length
+    returns-2)

@@ -108,7 +108,12 @@ pub fn fill(table: &[u8], chains: bool, work: &mut [u64], sources: &mut [u16]) -
 
 // The same by the obvious engine, with one flag for each two moments.
 // Ruled out: one that chooses another source than the quick fill; one that writes sources where the answer is a race.
-pub fn fill_by_flags(table: &[u8], chains: bool, work: &mut [u64], sources: &mut [u16]) -> FillAnswer
+pub fn fill_by_flags(
+    table: &[u8],
+    chains: bool,
+    work: &mut [u64],
+    sources: &mut [u16],
+) -> FillAnswer
     ensures { λ r. ⌜ (r ≡ fillAnswer (fill chains (now (table .entry)) (length (now (work .entry))) (length (now (sources .entry)))))
         × (now (work .exit) ≡ workAfter (fill chains (now (table .entry)) (length (now (work .entry))) (length (now (sources .entry)))) (now (work .entry)))
         × (now (sources .exit) ≡ sourcesAfter (fill chains (now (table .entry)) (length (now (work .entry))) (length (now (sources .entry)))) (now (sources .entry))) ⌝ }

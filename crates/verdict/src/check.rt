@@ -99,7 +99,12 @@ pub fn check(table: &[u8], chains: bool, work: &mut [u64], cycle: &mut [u16]) ->
 
 // The same by the obvious engine, with one flag for each two moments, which is kept beside the quick one.
 // Ruled out: one that shows another race than the quick check; one that leaves a flag in the work area.
-pub fn check_by_flags(table: &[u8], chains: bool, work: &mut [u64], cycle: &mut [u16]) -> CheckAnswer
+pub fn check_by_flags(
+    table: &[u8],
+    chains: bool,
+    work: &mut [u64],
+    cycle: &mut [u16],
+) -> CheckAnswer
     ensures { λ r. ⌜ (r ≡ checkAnswer (check chains (now (table .entry)) (length (now (work .entry))) (length (now (cycle .entry)))))
         × (now (work .exit) ≡ workAfter (check chains (now (table .entry)) (length (now (work .entry))) (length (now (cycle .entry)))) (now (work .entry)))
         × (now (cycle .exit) ≡ cycleAfter (check chains (now (table .entry)) (length (now (work .entry))) (length (now (cycle .entry)))) (now (cycle .entry))) ⌝ }

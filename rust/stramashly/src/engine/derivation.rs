@@ -36,7 +36,7 @@ pub fn derive_in(
     work: &mut [u64],
     chain: &mut [u16],
 ) -> Packed {
-    // Sound as in `check_in`.
+    // Sound as in `super::ask`.
     let answer = unsafe {
         linked::stramashly_derive(
             table.as_ptr(),
@@ -55,7 +55,7 @@ pub fn derive_in(
 /// Whether the chain of a class set, or the word program order where the set
 /// is `PROGRAM_ORDER`, is a derivation from one moment to the other.
 pub fn accepts_in(table: &[u8], first: u16, second: u16, classes: u8, steps: &[u16]) -> Packed {
-    // Sound as in `check_in`; nothing is written.
+    // Sound as in `super::ask`; nothing is written.
     let answer = unsafe {
         linked::stramashly_accepts(
             table.as_ptr(),

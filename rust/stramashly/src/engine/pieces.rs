@@ -75,81 +75,62 @@ mod linked {
     }
 }
 
+/// A C function that judges a table in two pieces, as `super::Judges` one.
+type Judges = unsafe extern "C" fn(
+    first: *const u8,
+    first_len: usize,
+    second: *const u8,
+    second_len: usize,
+    chains: u8,
+    work: *mut u64,
+    work_len: usize,
+    numbers: *mut u16,
+    numbers_len: usize,
+) -> u64;
+
+/// What a function of the archive answers.
+fn ask(
+    function: Judges,
+    chains: bool,
+    [first, second]: Pieces,
+    work: &mut [u64],
+    numbers: &mut [u16],
+) -> Packed {
+    // Sound as in `super::ask`.
+    let answer = unsafe {
+        function(
+            first.as_ptr(),
+            first.len(),
+            second.as_ptr(),
+            second.len(),
+            u8::from(chains),
+            work.as_mut_ptr(),
+            work.len(),
+            numbers.as_mut_ptr(),
+            numbers.len(),
+        )
+    };
+    Packed(answer)
+}
+
 /// The two pieces of a table: the first an ordinary table, the second only
 /// rows, to be added after its rows.
 pub type Pieces<'a> = [&'a [u8]; 2];
 
 /// Checks a table in two pieces, in lent buffers of any length.
-pub fn check_pieces(
-    chains: bool,
-    [first, second]: Pieces,
-    work: &mut [u64],
-    cycle: &mut [u16],
-) -> Packed {
-    // Sound as in `check_in`.
-    let answer = unsafe {
-        linked::stramashly_check2(
-            first.as_ptr(),
-            first.len(),
-            second.as_ptr(),
-            second.len(),
-            u8::from(chains),
-            work.as_mut_ptr(),
-            work.len(),
-            cycle.as_mut_ptr(),
-            cycle.len(),
-        )
-    };
-    Packed(answer)
+pub fn check_pieces(chains: bool, pieces: Pieces, work: &mut [u64], cycle: &mut [u16]) -> Packed {
+    ask(linked::stramashly_check2, chains, pieces, work, cycle)
 }
 
 /// Fills a table in two pieces, in lent buffers of any length.
-pub fn fill_pieces(
-    chains: bool,
-    [first, second]: Pieces,
-    work: &mut [u64],
-    sources: &mut [u16],
-) -> Packed {
-    // Sound as in `check_in`.
-    let answer = unsafe {
-        linked::stramashly_fill2(
-            first.as_ptr(),
-            first.len(),
-            second.as_ptr(),
-            second.len(),
-            u8::from(chains),
-            work.as_mut_ptr(),
-            work.len(),
-            sources.as_mut_ptr(),
-            sources.len(),
-        )
-    };
-    Packed(answer)
+pub fn fill_pieces(chains: bool, pieces: Pieces, work: &mut [u64], sources: &mut [u16]) -> Packed {
+    ask(linked::stramashly_fill2, chains, pieces, work, sources)
 }
 
 /// Counts the conflicting pairs of a table in two pieces, in lent buffers of
 /// any length.
-pub fn report_pieces(
-    chains: bool,
-    [first, second]: Pieces,
-    work: &mut [u64],
-    cycle: &mut [u16],
-) -> Packed {
-    // Sound as in `check_in`.
-    let answer = unsafe {
-        linked::stramashly_report2(
-            first.as_ptr(),
-            first.len(),
-            second.as_ptr(),
-            second.len(),
-            u8::from(chains),
-            work.as_mut_ptr(),
-            work.len(),
-            cycle.as_mut_ptr(),
-            cycle.len(),
-        )
-    };
-    Packed(answer)
+pub fn report_pieces(chains: bool, pieces: Pieces, work: &mut [u64], cycle: &mut [u16]) -> Packed {
+    ask(linked::stramashly_report2, chains, pieces, work, cycle)
 }
 
 /// Derives one moment's happening before another in a table in two pieces, in
@@ -160,7 +141,7 @@ pub fn derive_pieces(
     work: &mut [u64],
     chain: &mut [u16],
 ) -> Packed {
-    // Sound as in `check_in`.
+    // Sound as in `super::ask`.
     let answer = unsafe {
         linked::stramashly_derive2(
             first.as_ptr(),
@@ -186,7 +167,7 @@ pub fn accepts_pieces(
     classes: u8,
     steps: &[u16],
 ) -> Packed {
-    // Sound as in `check_in`; nothing is written.
+    // Sound as in `super::ask`; nothing is written.
     let answer = unsafe {
         linked::stramashly_accepts2(
             first.as_ptr(),

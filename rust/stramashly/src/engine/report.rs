@@ -1,5 +1,6 @@
 //! The C boundary: reports.
 
+use super::ask;
 use crate::answer::Packed;
 
 mod linked {
@@ -26,19 +27,7 @@ pub fn report_in(table: &[u8], work: &mut [u64], cycle: &mut [u16]) -> Packed {
 
 /// Counts the conflicting pairs of a table of a device that has chains or not.
 pub fn report_with(chains: bool, table: &[u8], work: &mut [u64], cycle: &mut [u16]) -> Packed {
-    // Sound as in `check_in`.
-    let answer = unsafe {
-        linked::stramashly_report(
-            table.as_ptr(),
-            table.len(),
-            u8::from(chains),
-            work.as_mut_ptr(),
-            work.len(),
-            cycle.as_mut_ptr(),
-            cycle.len(),
-        )
-    };
-    Packed(answer)
+    ask(linked::stramashly_report, chains, table, work, cycle)
 }
 
 /// The one division, rounded once; not a number where nothing conflicts.

@@ -38,7 +38,7 @@ pub fn write_in(
     dependencies: &[u16],
     out: &mut [u8],
 ) -> Packed {
-    // Sound as in `check_in`.
+    // Sound as in `super::ask`.
     let answer = unsafe {
         linked::stramashly_write(
             version,
@@ -57,14 +57,14 @@ pub fn write_in(
 
 /// Whether a table can be stepped through.
 pub fn open_in(table: &[u8]) -> Packed {
-    // Sound as in `check_in`; nothing is written.
+    // Sound as in `super::ask`; nothing is written.
     Packed(unsafe { linked::stramashly_open(table.as_ptr(), table.len()) })
 }
 
 /// The row at a place of an opened table into a lent buffer of any length;
 /// one of fewer than 16 bytes is refusal 11.
 pub fn row_in(table: &[u8], at: u16, row: &mut [u8]) -> Packed {
-    // Sound as in `check_in`.
+    // Sound as in `super::ask`.
     let answer = unsafe {
         linked::stramashly_row(table.as_ptr(), table.len(), at, row.as_mut_ptr(), row.len())
     };

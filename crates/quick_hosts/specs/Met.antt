@@ -11,8 +11,8 @@ use native.Mathlib.Decide.{decLt, ℕ-discrete}
 use native.Mathlib.Numerals.{add-one}
 use lib.Dec.{eqb, ltb}
 use lib.ListN.{length}
-use borrow.Author.Tests.{eq-eqb, ne-eqb, eqb-true, lt-ltb, le-ltb}
-use Rattle.finite.specs.Logic.{_and_, _or_, which, split, bool-ext, and-true, and-false-left, and-false-right, or-off, or-left, or-right, or-assoc, not-both, not-so}
+use borrow.Author.Tests.{eq-eqb, ne-eqb, lt-ltb, le-ltb}
+use Rattle.finite.specs.Logic.{_and_, _or_, which, split, and-true, and-false-left, and-false-right, or-off, or-left, or-right, or-assoc, not-both, not-so}
 use Rattle.finite.specs.Below.{anyBelow, any-none, any-not, any-cong}
 use Rattle.bits.specs.Bit.{bit, zeros, bit-zeros-in, joinRow, bit-joinRow}
 use Rattle.bits.specs.Matrix.{rel}
@@ -61,7 +61,7 @@ only m p i j = eqb i m and p j
 unfoldable pub metBelow : Table → ℕ → ℕ → ℕ → Bool
 metBelow t m i j = ltb i m and metBy t i j
 
--- what the readers see by way of one row; the bits that tell of it
+-- what the readers that meet it are told from
 pub record Seeing (t : Table) (n : ℕ) (w : List ℕ) : Type 0 where
   pub ordered : Ordered t n w
   pub seeing : Holds REACHED GRID n (seenFrom t) w

@@ -1,8 +1,8 @@
 -- L4 and L5 of a row that neither reads nor writes: it has neither. Assumes nothing.
-use mathlib.Core.Path.{_≡_, refl, sym, _∙_}
+use mathlib.Core.Path.{_≡_, sym, _∙_}
 use mathlib.Core.Bool.{Bool, true, false, not}
 use mathlib.Core.List.{List}
-use Prim.Native.Nat.{ℕ, _+_, _*_, _≤_, _<_}
+use Prim.Native.Nat.{ℕ}
 use Rattle.finite.specs.Logic.{_and_, _or_, and-false-left, and-false-right, or-none, or-false, not-out}
 use Rattle.bits.specs.Fill.{rowFill}
 use Rattle.model.specs.declared.Row.{Row}

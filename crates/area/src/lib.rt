@@ -1,4 +1,8 @@
-// The map of the work area: where each region begins and ends, in words. specs/Regions.antt says the same.
+// The map of the work area: where each region begins and ends, in words, and where a bit of a region stands. specs/Regions.antt says
+// the same.
+pub mod grid; // bits of two rows
+pub mod moments; // bits of two moments
+pub mod pairs; // bits of two rows and a byte
 
 // Words in a row of a grid over rows, and over moments.
 pub const GRID: usize = 2;

@@ -27,7 +27,7 @@ pub fn mutual_at(
     requires { ⌜ (x < n) × (y < n) × Known (decode (now rows) p mode n) n (now w) ⌝ }
     ensures { λ d. ⌜ d ≡ mutually (decode (now (rows .entry)) p mode n) x y ⌝ }
 {
-    bits::get(w, (area::MUTUAL + x * area::GRID) * 64 + y)
+    area::grid::get(w, area::MUTUAL, x, y)
 }
 
 // Whether x, which is r, is location-ordered before y at byte b, for any b: no byte outside the bits of a pair is one of x's.
@@ -54,10 +54,7 @@ pub fn before_byte(
     if area::PAIR <= k {
         return false;
     }
-    bits::get(
-        w,
-        area::LOCATION * 64 + x * area::PAIRS + y * area::PAIR + k,
-    )
+    area::pairs::get(w, x, y, k)
 }
 
 // Whether b is a byte of x and y, which are r and q, with no location order either way.

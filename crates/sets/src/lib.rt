@@ -64,7 +64,7 @@ pub fn join_own(w: &mut [u64], base: usize, n: usize, k: usize)
     ensures { λ _. ⌜ Round (now (w .entry)) (now (w .exit)) base n k ⌝ }
 {
     for i in 0..n {
-        if bits::get(w, (base + i * area::MOMENTS) * 64 + (3 * k + 1)) {
+        if area::moments::get(w, base, i, 3 * k + 1) {
             bits::join_row(
                 w,
                 base + i * area::MOMENTS,

@@ -9,7 +9,7 @@ use Rattle.sets.proofs.join_own.Statement.{statement}
 use Rattle.sets.proofs.join_own.Tie as tie
 use Rattle.sets.proofs.join_own.Reads as reads
 use Rattle.sets.proofs.join_own.Lts as lts
-use Rattle.bits.proofs.get.Reads as get-reads
+use Rattle.area.proofs.moments.get.Reads as get-reads
 use Rattle.bits.proofs.join_row.Reads as join-row-reads
 
 abbrev Inv-loop : tie.InvT-loop
@@ -22,29 +22,13 @@ abbrev μ-loop : tie.MeasureT-loop
 loop-holds : tie.Need-loop-holds Inv-loop μ-loop
 loop-holds c = (search needs, phase-none _ _ _ _)
 
--- src/lib.rt:67:33
+-- src/lib.rt:67:43
 mul-get : tie.Need-mul-get Inv-loop μ-loop
 mul-get c = search needs
 
--- src/lib.rt:67:26
+-- src/lib.rt:67:43
 add-get : tie.Need-add-get Inv-loop μ-loop
 add-get c = search needs
-
--- src/lib.rt:67:25
-mul-get-2 : tie.Need-mul-get-2 Inv-loop μ-loop
-mul-get-2 c = search needs
-
--- src/lib.rt:67:60
-mul-get-3 : tie.Need-mul-get-3 Inv-loop μ-loop
-mul-get-3 c = search needs
-
--- src/lib.rt:67:60
-add-get-2 : tie.Need-add-get-2 Inv-loop μ-loop
-add-get-2 c = search needs
-
--- src/lib.rt:67:25
-add-get-3 : tie.Need-add-get-3 Inv-loop μ-loop
-add-get-3 c = search needs
 
 -- src/lib.rt:67:12
 get-requires : tie.Need-get-requires Inv-loop μ-loop
@@ -116,10 +100,6 @@ join-own-spec =
     loop-holds
     mul-get
     add-get
-    mul-get-2
-    mul-get-3
-    add-get-2
-    add-get-3
     get-requires
     mul-join-row
     add-join-row

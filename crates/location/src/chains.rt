@@ -165,7 +165,7 @@ fn starts_with(
         × (r ≡ rowOf (now rows) x) × (q ≡ rowOf (now rows) y) × Reaching (decode (now rows) p mode n) n (now w) × (i < n) × (v < n) × (j < n) × (s ≡ rowOf (now rows) i) × (mode .chains ≡ true) ⌝ }
     ensures { λ d. ⌜ d ≡ startsWith (decode (now (rows .entry)) p mode n) x y i v j ⌝ }
 {
-    if !bits::get(w, (area::REACH_IN + j * area::GRID) * 64 + v) {
+    if !area::grid::get(w, area::REACH_IN, j, v) {
         return false;
     }
     seen_at(rows, p, mode, n, x, y, r, q, i, s, j, w)
@@ -363,7 +363,7 @@ fn ends_with(
         × (r ≡ rowOf (now rows) x) × (q ≡ rowOf (now rows) y) × Reaching (decode (now rows) p mode n) n (now w) × (a < n) × (c < n) × (mode .chains ≡ true) ⌝ }
     ensures { λ d. ⌜ d ≡ endsWith (decode (now (rows .entry)) p mode n) x y b a c ⌝ }
 {
-    if !bits::get(w, (area::REACH_OUT + a * area::GRID) * 64 + c) {
+    if !area::grid::get(w, area::REACH_OUT, a, c) {
         return false;
     }
     let s = rows::bytes::read_row(rows, c as u16);

@@ -79,7 +79,7 @@ pub fn grid_bit(w: &[u64], base: usize, i: usize, j: usize) -> bool
     requires { ⌜ (base ≤ REACHED) × (i < ROWS) × (j < ROWS) × (WORK ≤ length (now w)) ⌝ }
     ensures { λ d. ⌜ d ≡ rel (now (w .entry)) base GRID i j ⌝ }
 {
-    bits::get(w, (base + i * area::GRID) * 64 + j)
+    area::grid::get(w, base, i, j)
 }
 
 // Whether row i is the operation of this kind, and row x happens before it.
@@ -168,7 +168,7 @@ pub fn fill_met(rows: &[u8], p: Places, mode: Mode, n: usize, w: &mut [u64])
     for m in 0..n {
         for y in 0..n {
             let b = met_at(rows, p, mode, n, m, y, w);
-            bits::put_if(w, (area::MET + m * area::GRID) * 64 + y, b);
+            area::grid::put_if(w, area::MET, m, y, b);
         }
     }
 }
@@ -203,7 +203,7 @@ pub fn fill_reached(rows: &[u8], p: Places, mode: Mode, n: usize, w: &mut [u64])
     for a in 0..n {
         for y in 0..n {
             let b = reached_at(rows, p, mode, n, a, y, w);
-            bits::put_if(w, (area::REACHED + a * area::GRID) * 64 + y, b);
+            area::grid::put_if(w, area::REACHED, a, y, b);
         }
     }
 }

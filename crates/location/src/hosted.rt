@@ -45,7 +45,7 @@ fn put_dependency(mode: Mode, n: usize, k: u16, w: &mut [u64])
     if n <= j {
         return;
     }
-    bits::put(w, (area::SYSTEM + i * area::GRID) * 64 + j);
+    area::grid::put(w, area::SYSTEM, i, j);
 }
 
 // Which rows system-synchronize, by one dependency or by several in a row.
@@ -97,7 +97,7 @@ pub fn fill_hosted(rows: &[u8], p: Places, mode: Mode, n: usize, w: &mut [u64])
     for x in 0..n {
         for y in 0..n {
             let b = hosted_at(rows, p, mode, n, x, y, w);
-            bits::put_if(w, (area::HOSTED + x * area::GRID) * 64 + y, b);
+            area::grid::put_if(w, area::HOSTED, x, y, b);
         }
     }
 }

@@ -62,11 +62,7 @@ fn fill_pair(rows: &[u8], p: Places, mode: Mode, n: usize, x: usize, y: usize, w
     }
     for k in 0..area::PAIR {
         let b = before_at(rows, p, mode, n, x, y, r, q, k, w);
-        bits::put_if(
-            w,
-            area::LOCATION * 64 + x * area::PAIRS + y * area::PAIR + k,
-            b,
-        );
+        area::pairs::put_if(w, x, y, k, b);
     }
 }
 

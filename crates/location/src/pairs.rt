@@ -93,5 +93,5 @@ pub fn happens_bit(w: &[u64], m: usize, k: usize) -> bool
     requires { ⌜ (m < 3 * ROWS) × (k < 3 * ROWS) × (WORK ≤ length (now w)) ⌝ }
     ensures { λ r. ⌜ r ≡ rel (now (w .entry)) HAPPENS MOMENTS m k ⌝ }
 {
-    bits::get(w, (area::HAPPENS + m * area::MOMENTS) * 64 + k)
+    area::moments::get(w, area::HAPPENS, m, k)
 }

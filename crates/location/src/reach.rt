@@ -79,7 +79,7 @@ fn fill_out(rows: &[u8], p: Places, mode: Mode, n: usize, w: &mut [u64])
     for a in 0..n {
         for c in 0..n {
             let b = broadens_at(rows, p, mode, n, a, c, w);
-            bits::put_if(w, (area::REACH_OUT + a * area::GRID) * 64 + c, b);
+            area::grid::put_if(w, area::REACH_OUT, a, c, b);
         }
     }
 }
@@ -93,7 +93,7 @@ fn fill_in(rows: &[u8], p: Places, mode: Mode, n: usize, w: &mut [u64])
     for j in 0..n {
         for v in 0..n {
             let b = narrows_at(rows, p, mode, n, j, v, w);
-            bits::put_if(w, (area::REACH_IN + j * area::GRID) * 64 + v, b);
+            area::grid::put_if(w, area::REACH_IN, j, v, b);
         }
     }
 }

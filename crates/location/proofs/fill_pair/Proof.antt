@@ -14,7 +14,7 @@ use Rattle.location.proofs.fill_pair.Statement.{statement}
 use Rattle.location.proofs.fill_pair.Tie as tie
 use Rattle.location.proofs.fill_pair.Reads as reads
 use Rattle.location.proofs.fill_pair.Lts as lts
-use Rattle.bits.proofs.put_if.Reads as put-if-reads
+use Rattle.area.proofs.pairs.put_if.Reads as put-if-reads
 use Rattle.location.proofs.before_at.Reads as before-at-reads
 use Rattle.location.proofs.pairs.may_share.Reads as may-share-reads
 use Rattle.rows.proofs.bytes.read_row.Reads as read-row-reads
@@ -25,78 +25,54 @@ Inv-loop rows p mode n x y w₀ r q k₀ w k = (k ≤ PAIR) × (length w ≡ len
 abbrev μ-loop : tie.MeasureT-loop
 μ-loop rows p mode n x y w₀ r q k₀ w k = PAIR - k
 
--- src/lib.rt:51:41
+-- src/lib.rt:58:41
 cast-read-row : tie.Need-cast-read-row Inv-loop μ-loop
 cast-read-row c = search needs
 
--- src/lib.rt:51:9
+-- src/lib.rt:58:9
 read-row-requires : tie.Need-read-row-requires Inv-loop μ-loop
 read-row-requires c κs = search needs
 
--- src/lib.rt:52:41
+-- src/lib.rt:59:41
 cast-read-row-2 : tie.Need-cast-read-row-2 Inv-loop μ-loop
 cast-read-row-2 c = search needs
 
--- src/lib.rt:52:9
+-- src/lib.rt:59:9
 read-row-requires-2 : tie.Need-read-row-requires-2 Inv-loop μ-loop
 read-row-requires-2 c κs = search needs
 
--- src/lib.rt:53:9
+-- src/lib.rt:60:9
 may-share-requires : tie.Need-may-share-requires Inv-loop μ-loop
 may-share-requires c κs = search needs
 
--- src/lib.rt:54:9
+-- src/lib.rt:61:9
 returns : tie.Need-returns Inv-loop μ-loop
 unfolding decode
 returns c =
     row-off _ _ _ _
     (pair-off _ _ _ _ _ (c .before .before .before .read-row .ensures) (c .before .before .read-row2 .ensures) (sym (c .before .may-share .ensures) ∙ not-true _ (c .if1 .taken)))
 
--- src/lib.rt:56:5
+-- src/lib.rt:63:5
 loop-holds : tie.Need-loop-holds Inv-loop μ-loop
 loop-holds c = (search needs, refl, c .before .before .before .before .before .before .pre .4, rowFill-none _ _ _)
 
--- src/lib.rt:57:13
+-- src/lib.rt:64:13
 before-at-requires : tie.Need-before-at-requires Inv-loop μ-loop
 before-at-requires c κs = search needs
 
--- src/lib.rt:60:13
-mul-put-if : tie.Need-mul-put-if Inv-loop μ-loop
-mul-put-if c = search needs
-
--- src/lib.rt:60:35
-mul-put-if-2 : tie.Need-mul-put-if-2 Inv-loop μ-loop
-mul-put-if-2 c = search needs
-
--- src/lib.rt:60:13
-add-put-if : tie.Need-add-put-if Inv-loop μ-loop
-add-put-if c = search needs
-
--- src/lib.rt:60:53
-mul-put-if-3 : tie.Need-mul-put-if-3 Inv-loop μ-loop
-mul-put-if-3 c = search needs
-
--- src/lib.rt:60:13
-add-put-if-2 : tie.Need-add-put-if-2 Inv-loop μ-loop
-add-put-if-2 c = search needs
-
--- src/lib.rt:60:13
-add-put-if-3 : tie.Need-add-put-if-3 Inv-loop μ-loop
-add-put-if-3 c = search needs
-
--- src/lib.rt:58:9
+-- src/lib.rt:65:9
 put-if-requires : tie.Need-put-if-requires Inv-loop μ-loop
 put-if-requires c κs = search needs
 
--- src/lib.rt:56:9
+-- src/lib.rt:63:9
 add-k : tie.Need-add-k Inv-loop μ-loop
 add-k c = search needs
 
--- src/lib.rt:56:5
+-- src/lib.rt:63:5
 loop-less : tie.Need-loop-less Inv-loop μ-loop
 loop-less c = search needs
 
--- src/lib.rt:56:5
+-- src/lib.rt:63:5
 loop-again : tie.Need-loop-again Inv-loop μ-loop
 loop-again c =
     let put = c .before .before .put-if in
@@ -108,11 +84,11 @@ loop-again c =
       e,
     )
 
--- src/lib.rt:47:1
+-- src/lib.rt:54:1
 same-length : tie.Need-same-length Inv-loop μ-loop
 same-length c = search needs
 
--- src/lib.rt:47:1
+-- src/lib.rt:54:1
 returns-2 : tie.Need-returns-2 Inv-loop μ-loop
 returns-2 c =
     let e : c .before .loop .k ≡ PAIR = omega arith in
@@ -132,12 +108,6 @@ fill-pair-spec =
     returns
     loop-holds
     before-at-requires
-    mul-put-if
-    mul-put-if-2
-    add-put-if
-    mul-put-if-3
-    add-put-if-2
-    add-put-if-3
     put-if-requires
     add-k
     loop-less

@@ -10,50 +10,34 @@ use Rattle.location.proofs.chains.ends_with.Statement.{statement}
 use Rattle.location.proofs.chains.ends_with.Tie as tie
 use Rattle.location.proofs.chains.ends_with.Reads as reads
 use Rattle.location.proofs.chains.ends_with.Lts as lts
-use Rattle.bits.proofs.get.Reads as get-reads
+use Rattle.area.proofs.grid.get.Reads as get-reads
 use Rattle.location.proofs.chains.ends_at.Reads as ends-at-reads
 use Rattle.rows.proofs.bytes.read_row.Reads as read-row-reads
 
--- src/chains.rt:342:41
-mul-get : tie.Need-mul-get
-mul-get c = search needs
-
--- src/chains.rt:342:23
-add-get : tie.Need-add-get
-add-get c = search needs
-
--- src/chains.rt:342:22
-mul-get-2 : tie.Need-mul-get-2
-mul-get-2 c = search needs
-
--- src/chains.rt:342:22
-add-get-2 : tie.Need-add-get-2
-add-get-2 c = search needs
-
--- src/chains.rt:342:9
+-- src/chains.rt:366:9
 get-requires : tie.Need-get-requires
 get-requires c κs = search needs
 
--- src/chains.rt:343:9
+-- src/chains.rt:367:9
 returns : tie.Need-returns
 returns c =
     let s = c .before .before .before .before in
     let h = c .before .get .ensures ∙ holds-bit (reach-out _ _ _ _ _ (s .pre .6) (s .pre .9)) _ _ _ (omega arith) (s .pre .7) (s .pre .8) in
     sym (ends-row _ _ _ _ _ _ _ _ _ _ h ∙ and-false-left _ _ (not-true _ (c .if1 .taken)))
 
--- src/chains.rt:345:41
+-- src/chains.rt:369:41
 cast-read-row : tie.Need-cast-read-row
 cast-read-row c = search needs
 
--- src/chains.rt:345:9
+-- src/chains.rt:369:9
 read-row-requires : tie.Need-read-row-requires
 read-row-requires c κs = search needs
 
--- src/chains.rt:346:5
+-- src/chains.rt:370:5
 ends-at-requires : tie.Need-ends-at-requires
 ends-at-requires c κs = search needs
 
--- src/chains.rt:324:1
+-- src/chains.rt:348:1
 returns-2 : tie.Need-returns-2
 returns-2 c =
     let s = c .before .before .before .before .before .before in
@@ -63,14 +47,4 @@ returns-2 c =
 pub ends-with-spec : {M : Type 1} → statement M
 ends-with-spec =
     tie.close
-    (tie.spec
-    mul-get
-    add-get
-    mul-get-2
-    add-get-2
-    get-requires
-    returns
-    cast-read-row
-    read-row-requires
-    ends-at-requires
-    returns-2)
+    (tie.spec get-requires returns cast-read-row read-row-requires ends-at-requires returns-2)

@@ -14,7 +14,7 @@ use Rattle.location.proofs.domains.fill_reached.Tie as tie
 use Rattle.location.proofs.domains.fill_reached.Reads as reads
 use Rattle.location.proofs.domains.fill_reached.Lts as lts
 use Rattle.bits.proofs.clear.Reads as clear-reads
-use Rattle.bits.proofs.put_if.Reads as put-if-reads
+use Rattle.area.proofs.grid.put_if.Reads as put-if-reads
 use Rattle.location.proofs.domains.reached_at.Reads as reached-at-reads
 
 abbrev Inv-loop2 : tie.InvT-loop2
@@ -44,22 +44,6 @@ loop2-holds c = (search needs, refl, c .before .loop .inv .2, rowFill-none _ _ _
 -- src/domains.rt:205:17
 reached-at-requires : tie.Need-reached-at-requires Inv-loop2 μ-loop2 Inv-loop μ-loop
 reached-at-requires c κs = search needs
-
--- src/domains.rt:206:46
-mul-put-if : tie.Need-mul-put-if Inv-loop2 μ-loop2 Inv-loop μ-loop
-mul-put-if c = search needs
-
--- src/domains.rt:206:30
-add-put-if : tie.Need-add-put-if Inv-loop2 μ-loop2 Inv-loop μ-loop
-add-put-if c = search needs
-
--- src/domains.rt:206:29
-mul-put-if-2 : tie.Need-mul-put-if-2 Inv-loop2 μ-loop2 Inv-loop μ-loop
-mul-put-if-2 c = search needs
-
--- src/domains.rt:206:29
-add-put-if-2 : tie.Need-add-put-if-2 Inv-loop2 μ-loop2 Inv-loop μ-loop
-add-put-if-2 c = search needs
 
 -- src/domains.rt:206:13
 put-if-requires : tie.Need-put-if-requires Inv-loop2 μ-loop2 Inv-loop μ-loop
@@ -119,10 +103,6 @@ fill-reached-spec =
     loop-holds
     loop2-holds
     reached-at-requires
-    mul-put-if
-    add-put-if
-    mul-put-if-2
-    add-put-if-2
     put-if-requires
     add-y
     loop2-less

@@ -5,7 +5,7 @@ use Rattle.location.proofs.hosted.put_dependency.Statement.{statement}
 use Rattle.location.proofs.hosted.put_dependency.Tie as tie
 use Rattle.location.proofs.hosted.put_dependency.Reads as reads
 use Rattle.location.proofs.hosted.put_dependency.Lts as lts
-use Rattle.bits.proofs.put.Reads as put-reads
+use Rattle.area.proofs.grid.put.Reads as put-reads
 use Rattle.location.proofs.hosted.dependency_end.Reads as dependency-end-reads
 
 -- src/hosted.rt:40:13
@@ -32,22 +32,6 @@ returns c = added-nothing _ _ _ _ _ (c .before .before .dependency-end .ensures)
 returns-2 : tie.Need-returns-2
 returns-2 c = added-nothing _ _ _ _ _ (c .before .before .before .dependency-end .ensures) (c .before .before .dependency-end2 .ensures) _ (λ h. c .if2 .taken)
 
--- src/hosted.rt:48:34
-mul-put : tie.Need-mul-put
-mul-put c = search needs
-
--- src/hosted.rt:48:19
-add-put : tie.Need-add-put
-add-put c = search needs
-
--- src/hosted.rt:48:18
-mul-put-2 : tie.Need-mul-put-2
-mul-put-2 c = search needs
-
--- src/hosted.rt:48:18
-add-put-2 : tie.Need-add-put-2
-add-put-2 c = search needs
-
 -- src/hosted.rt:48:5
 put-requires : tie.Need-put-requires
 put-requires c κs = search needs
@@ -72,10 +56,6 @@ put-dependency-spec =
     cast-j
     returns
     returns-2
-    mul-put
-    add-put
-    mul-put-2
-    add-put-2
     put-requires
     same-length
     returns-3)

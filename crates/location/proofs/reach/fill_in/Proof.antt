@@ -15,7 +15,7 @@ use Rattle.location.proofs.reach.fill_in.Tie as tie
 use Rattle.location.proofs.reach.fill_in.Reads as reads
 use Rattle.location.proofs.reach.fill_in.Lts as lts
 use Rattle.bits.proofs.clear.Reads as clear-reads
-use Rattle.bits.proofs.put_if.Reads as put-if-reads
+use Rattle.area.proofs.grid.put_if.Reads as put-if-reads
 use Rattle.location.proofs.reach.narrows_at.Reads as narrows-at-reads
 
 abbrev Inv-loop2 : tie.InvT-loop2
@@ -30,51 +30,35 @@ Inv-loop rows p mode n w₀ j₀ w j = (j ≤ n) × (length w ≡ length w₀) �
 abbrev μ-loop : tie.MeasureT-loop
 μ-loop rows p mode n w₀ j₀ w j = n - j
 
--- src/reach.rt:167:5
+-- src/reach.rt:92:5
 clear-requires : tie.Need-clear-requires Inv-loop2 μ-loop2 Inv-loop μ-loop
 clear-requires c κs = search needs
 
--- src/reach.rt:168:5
+-- src/reach.rt:93:5
 loop-holds : tie.Need-loop-holds Inv-loop2 μ-loop2 Inv-loop μ-loop
 loop-holds c = (search needs, refl, ordered-kept (omega arith) (within-cleared REACH-IN REACH-IN-END (omega arith) (c .before .before .clear .ensures)) (c .before .before .before .before .before .before .pre .2), gridFill-none _ _ _ _ _)
 
--- src/reach.rt:169:9
+-- src/reach.rt:94:9
 loop2-holds : tie.Need-loop2-holds Inv-loop2 μ-loop2 Inv-loop μ-loop
 loop2-holds c = (search needs, refl, c .before .loop .inv .2, rowFill-none _ _ _)
 
--- src/reach.rt:170:17
+-- src/reach.rt:95:17
 narrows-at-requires : tie.Need-narrows-at-requires Inv-loop2 μ-loop2 Inv-loop μ-loop
 narrows-at-requires c κs = search needs
 
--- src/reach.rt:171:42
-mul-put-if : tie.Need-mul-put-if Inv-loop2 μ-loop2 Inv-loop μ-loop
-mul-put-if c = search needs
-
--- src/reach.rt:171:30
-add-put-if : tie.Need-add-put-if Inv-loop2 μ-loop2 Inv-loop μ-loop
-add-put-if c = search needs
-
--- src/reach.rt:171:29
-mul-put-if-2 : tie.Need-mul-put-if-2 Inv-loop2 μ-loop2 Inv-loop μ-loop
-mul-put-if-2 c = search needs
-
--- src/reach.rt:171:29
-add-put-if-2 : tie.Need-add-put-if-2 Inv-loop2 μ-loop2 Inv-loop μ-loop
-add-put-if-2 c = search needs
-
--- src/reach.rt:171:13
+-- src/reach.rt:96:13
 put-if-requires : tie.Need-put-if-requires Inv-loop2 μ-loop2 Inv-loop μ-loop
 put-if-requires c κs = search needs
 
--- src/reach.rt:169:13
+-- src/reach.rt:94:13
 add-v : tie.Need-add-v Inv-loop2 μ-loop2 Inv-loop μ-loop
 add-v c = search needs
 
--- src/reach.rt:169:9
+-- src/reach.rt:94:9
 loop2-less : tie.Need-loop2-less Inv-loop2 μ-loop2 Inv-loop μ-loop
 loop2-less c = search needs
 
--- src/reach.rt:169:9
+-- src/reach.rt:94:9
 loop2-again : tie.Need-loop2-again Inv-loop2 μ-loop2 Inv-loop μ-loop
 loop2-again c =
     let put = c .before .before .put-if in
@@ -82,15 +66,15 @@ loop2-again c =
     let e = rowFill-put _ _ _ (put .last .0) _ _ _ _ (inv .3) (c .before .before .before .before .narrows-at .ensures) (omega arith) (put .ensures) in
     (search needs, ap length e ∙ length-rowFill _ _ _ _, ordered-kept (omega arith) (within-put REACH-IN REACH-IN-END _ _ (omega arith) (omega arith) (put .ensures)) (inv .2), e)
 
--- src/reach.rt:168:9
+-- src/reach.rt:93:9
 add-j : tie.Need-add-j Inv-loop2 μ-loop2 Inv-loop μ-loop
 add-j c = search needs
 
--- src/reach.rt:168:5
+-- src/reach.rt:93:5
 loop-less : tie.Need-loop-less Inv-loop2 μ-loop2 Inv-loop μ-loop
 loop-less c = search needs
 
--- src/reach.rt:168:5
+-- src/reach.rt:93:5
 loop-again : tie.Need-loop-again Inv-loop2 μ-loop2 Inv-loop μ-loop
 loop-again c =
     let inv = c .before .loop2 .inv in
@@ -98,11 +82,11 @@ loop-again c =
     let e : c .before .loop2 .v ≡ c .before .before .before .before .before .before .before .before .before .before .args .n = omega arith in
     (search needs, inv .1 ∙ out .1, inv .2, gridFill-more _ _ _ _ _ _ _ _ (out .3) (rw e at (inv .3)))
 
--- src/reach.rt:163:1
+-- src/reach.rt:88:1
 same-length : tie.Need-same-length Inv-loop2 μ-loop2 Inv-loop μ-loop
 same-length c = search needs
 
--- src/reach.rt:163:1
+-- src/reach.rt:88:1
 returns : tie.Need-returns Inv-loop2 μ-loop2 Inv-loop μ-loop
 returns c =
     let e : c .before .loop .j ≡ c .before .before .before .before .before .before .before .before .args .n = omega arith in
@@ -120,10 +104,6 @@ fill-in-spec =
     loop-holds
     loop2-holds
     narrows-at-requires
-    mul-put-if
-    add-put-if
-    mul-put-if-2
-    add-put-if-2
     put-if-requires
     add-v
     loop2-less

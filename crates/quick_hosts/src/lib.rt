@@ -70,7 +70,7 @@ fn hosted_row(rows: &[u8], p: Places, mode: Mode, n: usize, x: usize, w: &mut [u
     }
     for y in 0..n {
         let b = hosted_with(rows, p, mode, n, x, r, y, w);
-        bits::put_if(w, (area::HOSTED + x * area::GRID) * 64 + y, b);
+        area::grid::put_if(w, area::HOSTED, x, y, b);
     }
 }
 

@@ -46,7 +46,7 @@ fn once_row(rows: &[u8], p: Places, mode: Mode, n: usize, m: usize, w: &mut [u64
 {
     for y in 0..n {
         let b = once_at(rows, p, mode, n, m, y, w);
-        bits::put_if(w, (area::MET + m * area::GRID) * 64 + y, b);
+        area::grid::put_if(w, area::MET, m, y, b);
     }
 }
 
@@ -87,7 +87,7 @@ fn seen_row(rows: &[u8], p: Places, mode: Mode, n: usize, i: usize, w: &mut [u64
     }
     for y in 0..n {
         let b = seen_from(rows, p, mode, n, kind, i, y, w);
-        bits::put_if(w, (area::REACHED + i * area::GRID) * 64 + y, b);
+        area::grid::put_if(w, area::REACHED, i, y, b);
     }
 }
 

@@ -13,7 +13,7 @@ use Rattle.quick_hosts.proofs.met.once_row.Statement.{statement}
 use Rattle.quick_hosts.proofs.met.once_row.Tie as tie
 use Rattle.quick_hosts.proofs.met.once_row.Reads as reads
 use Rattle.quick_hosts.proofs.met.once_row.Lts as lts
-use Rattle.bits.proofs.put_if.Reads as put-if-reads
+use Rattle.area.proofs.grid.put_if.Reads as put-if-reads
 use Rattle.quick_hosts.proofs.met.once_at.Reads as once-at-reads
 
 abbrev Inv-loop : tie.InvT-loop
@@ -29,22 +29,6 @@ loop-holds c = (search needs, refl, c .before .before .pre .3, rowFill-none _ _ 
 -- src/met.rt:48:13
 once-at-requires : tie.Need-once-at-requires Inv-loop μ-loop
 once-at-requires c κs = search needs
-
--- src/met.rt:49:38
-mul-put-if : tie.Need-mul-put-if Inv-loop μ-loop
-mul-put-if c = search needs
-
--- src/met.rt:49:26
-add-put-if : tie.Need-add-put-if Inv-loop μ-loop
-add-put-if c = search needs
-
--- src/met.rt:49:25
-mul-put-if-2 : tie.Need-mul-put-if-2 Inv-loop μ-loop
-mul-put-if-2 c = search needs
-
--- src/met.rt:49:25
-add-put-if-2 : tie.Need-add-put-if-2 Inv-loop μ-loop
-add-put-if-2 c = search needs
 
 -- src/met.rt:49:9
 put-if-requires : tie.Need-put-if-requires Inv-loop μ-loop
@@ -82,10 +66,6 @@ once-row-spec =
     μ-loop
     loop-holds
     once-at-requires
-    mul-put-if
-    add-put-if
-    mul-put-if-2
-    add-put-if-2
     put-if-requires
     add-y
     loop-less

@@ -15,7 +15,7 @@ use Rattle.quick_hosts.proofs.met.seen_row.Statement.{statement}
 use Rattle.quick_hosts.proofs.met.seen_row.Tie as tie
 use Rattle.quick_hosts.proofs.met.seen_row.Reads as reads
 use Rattle.quick_hosts.proofs.met.seen_row.Lts as lts
-use Rattle.bits.proofs.put_if.Reads as put-if-reads
+use Rattle.area.proofs.grid.put_if.Reads as put-if-reads
 use Rattle.quick_hosts.proofs.met.seen_from.Reads as seen-from-reads
 use Rattle.rows.proofs.bytes.read_kind.Reads as read-kind-reads
 
@@ -45,22 +45,6 @@ loop-holds c = (search needs, refl, c .before .read-kind .ensures, c .before .be
 -- src/met.rt:89:13
 seen-from-requires : tie.Need-seen-from-requires Inv-loop μ-loop
 seen-from-requires c κs = search needs
-
--- src/met.rt:90:42
-mul-put-if : tie.Need-mul-put-if Inv-loop μ-loop
-mul-put-if c = search needs
-
--- src/met.rt:90:26
-add-put-if : tie.Need-add-put-if Inv-loop μ-loop
-add-put-if c = search needs
-
--- src/met.rt:90:25
-mul-put-if-2 : tie.Need-mul-put-if-2 Inv-loop μ-loop
-mul-put-if-2 c = search needs
-
--- src/met.rt:90:25
-add-put-if-2 : tie.Need-add-put-if-2 Inv-loop μ-loop
-add-put-if-2 c = search needs
 
 -- src/met.rt:90:9
 put-if-requires : tie.Need-put-if-requires Inv-loop μ-loop
@@ -101,10 +85,6 @@ seen-row-spec =
     returns
     loop-holds
     seen-from-requires
-    mul-put-if
-    add-put-if
-    mul-put-if-2
-    add-put-if-2
     put-if-requires
     add-y
     loop-less

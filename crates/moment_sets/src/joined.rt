@@ -13,8 +13,8 @@ fn spread_bits(w: &mut [u64], n: usize, x: usize)
     ensures { λ _. ⌜ Spread (now (w .entry)) (now (w .exit)) x n ⌝ }
 {
     for y in 0..n {
-        let b = bits::get(w, (area::SYNC + x * area::GRID) * 64 + y);
-        bits::put_if(w, (crate::JOINED + x * area::MOMENTS) * 64 + (3 * y + 1), b);
+        let b = area::grid::get(w, area::SYNC, x, y);
+        area::moments::put_if(w, crate::JOINED, x, 3 * y + 1, b);
     }
 }
 
@@ -55,7 +55,7 @@ fn put_dependency(w: &mut [u64], mode: Mode, n: usize, c: u16)
     if n <= y {
         return;
     }
-    bits::put(w, (crate::DEPENDS + x * area::MOMENTS) * 64 + (3 * y + 1));
+    area::moments::put(w, crate::DEPENDS, x, 3 * y + 1);
 }
 
 // The own moments of the rows that each row system-synchronizes-with.

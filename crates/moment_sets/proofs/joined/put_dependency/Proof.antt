@@ -5,67 +5,51 @@ use Rattle.moment_sets.proofs.joined.put_dependency.Statement.{statemen
 use Rattle.moment_sets.proofs.joined.put_dependency.Tie as tie
 use Rattle.moment_sets.proofs.joined.put_dependency.Reads as reads
 use Rattle.moment_sets.proofs.joined.put_dependency.Lts as lts
-use Rattle.bits.proofs.put.Reads as put-reads
+use Rattle.area.proofs.moments.put.Reads as put-reads
 use Rattle.rows.proofs.dependencies.first_at.Reads as first-at-reads
 use Rattle.rows.proofs.dependencies.second_at.Reads as second-at-reads
 
--- src/joined.rt:55:13
+-- src/joined.rt:50:13
 first-at-requires : tie.Need-first-at-requires
 first-at-requires c κs = search needs
 
--- src/joined.rt:55:13
+-- src/joined.rt:50:13
 cast-x : tie.Need-cast-x
 cast-x c = search needs
 
--- src/joined.rt:56:13
+-- src/joined.rt:51:13
 second-at-requires : tie.Need-second-at-requires
 second-at-requires c κs = search needs
 
--- src/joined.rt:56:13
+-- src/joined.rt:51:13
 cast-y : tie.Need-cast-y
 cast-y c = search needs
 
--- src/joined.rt:58:9
+-- src/joined.rt:53:9
 returns : tie.Need-returns
 returns c = past-first _ _ _ _ _ _ (c .before .before .first-at .ensures) (c .before .second-at .ensures) (c .if1 .taken)
 
--- src/joined.rt:61:9
+-- src/joined.rt:56:9
 returns-2 : tie.Need-returns-2
 returns-2 c = past-second _ _ _ _ _ _ (c .before .before .before .first-at .ensures) (c .before .before .second-at .ensures) (c .if2 .taken)
 
--- src/joined.rt:65:27
+-- src/joined.rt:58:46
 mul-put : tie.Need-mul-put
 mul-put c = search needs
 
--- src/joined.rt:65:10
+-- src/joined.rt:58:46
 add-put : tie.Need-add-put
 add-put c = search needs
 
--- src/joined.rt:65:9
-mul-put-2 : tie.Need-mul-put-2
-mul-put-2 c = search needs
-
--- src/joined.rt:65:54
-mul-put-3 : tie.Need-mul-put-3
-mul-put-3 c = search needs
-
--- src/joined.rt:65:54
-add-put-2 : tie.Need-add-put-2
-add-put-2 c = search needs
-
--- src/joined.rt:65:9
-add-put-3 : tie.Need-add-put-3
-add-put-3 c = search needs
-
--- src/joined.rt:63:5
+-- src/joined.rt:58:5
 put-requires : tie.Need-put-requires
 put-requires c κs = search needs
 
--- src/joined.rt:51:1
+-- src/joined.rt:46:1
 same-length : tie.Need-same-length
 same-length c = search needs
 
--- src/joined.rt:51:1
+-- src/joined.rt:46:1
 returns-3 : tie.Need-returns-3
 returns-3 c =
     let at-put = c .before .before in
@@ -86,10 +70,6 @@ put-dependency-spec =
     returns-2
     mul-put
     add-put
-    mul-put-2
-    mul-put-3
-    add-put-2
-    add-put-3
     put-requires
     same-length
     returns-3)

@@ -5,20 +5,20 @@ use mathlib.Core.List.{List}
 use mathlib.Core.Logic.{_⊎_, inl, inr, ⊎-elim}
 use Prim.Native.Nat.{ℕ, zero, suc, _+_, _≤_, _<_}
 use native.Mathlib.Omega.{arith}
-use native.Mathlib.Decide.{decLt, ℕ-discrete}
+use native.Mathlib.Decide.{decLt}
 use lib.ListN.{length}
 use lib.Dec.{ltb, leb, eqb}
-use borrow.Author.Tests.{eqb-true, leb-true, leb-false, ltb-false, eq-eqb, le-ltb}
-use Rattle.finite.specs.Logic.{_and_, _or_, split, which, not-both, not-out, or-cases, or-left, or-right}
+use borrow.Author.Tests.{eqb-true, leb-true, ltb-false, eq-eqb, le-ltb}
+use Rattle.finite.specs.Logic.{_and_, _or_, split, which, not-both, not-out, or-cases}
 use Rattle.finite.specs.Below.{least, least-is, least-hit, any-not}
 use Rattle.model.specs.declared.Row.{Row}
 use Rattle.model.specs.declared.Admission.{Admission}
 use Rattle.model.specs.declared.Admission.the-variants.{Admitted, Refused}
 use Rattle.model.specs.Limits.{AGENTS, ROWS, DEPENDENCIES, LONGEST, BYTES}
-use Rattle.model.specs.Row.{RMW, BARRIER, CONTROL, AVAILABLE-HOST, BOTH, access, barrier, control, operation}
+use Rattle.model.specs.Row.{RMW, CONTROL, AVAILABLE-HOST, BOTH, access, control, operation}
 use Rattle.model.specs.Scope.{DEVICE, agentKind}
 use Rattle.model.specs.Table.{Table, HEADER, agentsAt, rowsAt, hasHosts, sizeOf, rowBytes, dependencyBytes, rowOf, sourceOf, dependencyCount, placesOf, tableOf, sourcesOf, decode}
-use Rattle.model.specs.Refusal.{CLASSES, FLAGS, CLASS, headerFault, versionFits, limitsFit, lengthFits, agentsKnown, dependenciesFew, dependenciesNamed, hostsFault, agentFits, operationFits, formFault, codesFit, kindFits, barrierFits, extentFits, rowFault, classTaken, sourceBroken, rankTaken, instanceBroken, unfit, tableFault, faulty, firstFault, rowFaultAt, admission}
+use Rattle.model.specs.Refusal.{CLASSES, FLAGS, CLASS, headerFault, versionFits, limitsFit, lengthFits, agentsKnown, dependenciesFew, dependenciesNamed, hostsFault, agentFits, operationFits, formFault, codesFit, kindFits, bytesFit, barrierFits, extentFits, rowFault, classTaken, sourceBroken, rankTaken, instanceBroken, unfit, tableFault, faulty, firstFault, rowFaultAt, admission}
 
 -- ---- definitions
 
@@ -181,17 +181,8 @@ access-kind : (r : Row) → access r ≡ true → r .kind ≤ RMW
 unfolding access
 access-kind r e = leb-true (r .kind) RMW e
 
-barrier-kind : (r : Row) → barrier r ≡ true → r .kind ≤ CONTROL
-unfolding barrier
-barrier-kind r e =
-    ⊎-elim (λ a. let k = eqb-true (r .kind) BARRIER a in omega arith) (λ a. let k = eqb-true (r .kind) CONTROL a in omega arith)
-    (or-cases (eqb (r .kind) BARRIER) (eqb (r .kind) CONTROL) e)
-
 pub access-no-operation : (r : Row) → access r ≡ true → operation r ≡ true → ⊥
 access-no-operation r a o = let k = access-kind r a in let m = operation-kind r o in omega arith
-
-barrier-no-operation : (r : Row) → barrier r ≡ true → operation r ≡ true → ⊥
-barrier-no-operation r a o = let k = barrier-kind r a in let m = operation-kind r o in omega arith
 
 table-passed : (a b c d e : Bool) → _≡_ {A = ℕ} (cond a 8 (cond b 9 (cond c 10 (cond d 14 (cond e 15 0))))) 0
     → (a ≡ false) × (b ≡ false) × (c ≡ false) × (d ≡ false) × (e ≡ false)
@@ -263,7 +254,7 @@ module _ {blanks : Bool} {s : List ℕ} (h : Sound blanks s) where
         (unfit (tableOf s) i) (h .among i l) in
         record { class = p .0; source = p .1; rank = p .2; instance = p .3; run = p .4 }
 
-    -- an access has 1 to LONGEST bytes; a barrier has none
+    -- an access has 1 to LONGEST bytes
     pub access-size : access r ≡ true → (1 ≤ r .size) × (r .size ≤ LONGEST)
     unfolding extentFits
     access-size a =
@@ -278,27 +269,13 @@ module _ {blanks : Bool} {s : List ℕ} (h : Sound blanks s) where
         ⊎-elim (λ n. not-both a (not-out (access r) n)) (λ t. leb-true (r .start + r .size) BYTES (split t .1))
         (or-cases (not (access r)) (leb 1 (r .size) and leb (r .size) LONGEST and leb (r .start + r .size) BYTES) (split (kind-right (access-no-operation r a) .1) .0))
 
-    barrier-size : barrier r ≡ true → r .size ≡ 0
-    unfolding kindFits barrierFits
-    barrier-size b =
-        ⊎-elim (λ n. not-both b (not-out (barrier r) n)) (λ t. eqb-true (r .size) 0 (split (split t .0) .1)) (or-cases (not (barrier r)) _ (split (split (split (split (kind-right (barrier-no-operation r b) .0) .0) .0) .0) .1))
-
-    -- so no row has more than LONGEST bytes
+    -- so no row has more than LONGEST bytes: 20 of an operation, 6 of any other that is no access
     pub size-fits : r .size ≤ LONGEST
-    unfolding codesFit access barrier
-    size-fits = ⊎-elim (λ a. access-size a .1) (λ n. other (leb-false (r .kind) RMW n)) (which (leb (r .kind) RMW))
+    unfolding kindFits bytesFit
+    size-fits =
+        ⊎-elim (λ o. none (operation-size (o .0)))
+        (λ k. ⊎-elim (λ a. access-size a .1) (λ z. none (eqb-true (r .size) 0 z)) (or-cases (access r) (eqb (r .size) 0) (split (k .1) .1)))
+        form-right
       where
         none : r .size ≡ 0 → r .size ≤ LONGEST
         none e = omega arith
-
-        kinds : r .kind ≤ CONTROL → RMW < r .kind → Dec (r .kind ≡ BARRIER) → (eqb (r .kind) BARRIER or eqb (r .kind) CONTROL) ≡ true
-        kinds k n (yes e) = or-left _ (eq-eqb (r .kind) BARRIER e)
-        kinds k n (no e) = or-right _ (eq-eqb (r .kind) CONTROL (omega arith))
-
-        old : RMW < r .kind → leb (r .kind) CONTROL ≡ true → r .size ≤ LONGEST
-        old n k = none (barrier-size (kinds (leb-true (r .kind) CONTROL k) n (ℕ-discrete (r .kind) BARRIER)))
-
-        other : RMW < r .kind → r .size ≤ LONGEST
-        other n =
-            ⊎-elim (old n) (λ o. none (operation-size (split o .1)))
-            (or-cases (leb (r .kind) CONTROL) (hasHosts s and operation r) (row-right .codes .kind))

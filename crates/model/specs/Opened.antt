@@ -60,7 +60,7 @@ unfolding
     Edge.overwrites Edge.overwritesNth Edge.overNth Edge.overwriting Edge.overWriter Edge.isOverwritten Edge.overReader Edge.overByte Edge.consistent
     Refusal.buffersFit Refusal.versionFits Refusal.limitsFit Refusal.lengthFits Refusal.kindOver Refusal.agentsKnown Refusal.dependenciesFew
     Refusal.namesNone Refusal.dependenciesNamed Refusal.hostsFault Refusal.headerFault Refusal.codesFit Refusal.agentFits Refusal.operationFits
-    Refusal.plainFits Refusal.atomicFits Refusal.barrierFits Refusal.semanticsFit Refusal.kindFits Refusal.atomicExtentFits Refusal.extentFits
+    Refusal.plainFits Refusal.atomicFits Refusal.barrierFits Refusal.semanticsFit Refusal.bytesFit Refusal.kindFits Refusal.atomicExtentFits Refusal.extentFits
     Refusal.formFault Refusal.rowFault Refusal.otherClass Refusal.otherClassAt Refusal.classTaken Refusal.writerFits Refusal.sourceFits
     Refusal.sourceBroken Refusal.sameRank Refusal.sameRankAt Refusal.rankTaken Refusal.apart Refusal.apartAt Refusal.instanceBroken Refusal.rival
     Refusal.outside Refusal.outsideAt Refusal.begins Refusal.unfit Refusal.tableFault Refusal.faulty Refusal.firstFault Refusal.rowFaultAt

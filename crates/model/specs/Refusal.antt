@@ -98,10 +98,10 @@ atomicFits r =
     nonPrivate r and (not (eqb (r .kind) ATOMIC-READ) or eqb (r .order) RELAXED or eqb (r .order) ACQUIRE)
     and (not (eqb (r .kind) ATOMIC-WRITE) or eqb (r .order) RELAXED or eqb (r .order) RELEASE)
 
--- 6, barriers: order 1 to 3, not non-private, bytes 6 to 11 zero; a control barrier may have order 0, a scope in byte 6, and a start
+-- 6, barriers: order 1 to 3, not non-private, bytes 6 and 8 to 11 zero; a control barrier may have order 0, a scope in byte 6, and a start
 unfoldable pub barrierFits : Row → Bool
 barrierFits r =
-    (control r or (not (eqb (r .order) RELAXED) and eqb (r .class) 0 and eqb (r .start) 0)) and not (nonPrivate r) and eqb (r .size) 0
+    (control r or (not (eqb (r .order) RELAXED) and eqb (r .class) 0 and eqb (r .start) 0)) and not (nonPrivate r)
     and eqb (r .reference) 0
 
 -- 6, atomics and barriers: make available needs a release, make visible an acquire; classes are empty exactly when order is 0
@@ -110,11 +110,15 @@ semanticsFit r =
     (not (makesAvailable r) or releases r) and (not (makesVisible r) or acquires r)
     and Bool·beq (eqb (r .classes) 0) (eqb (r .order) RELAXED)
 
+-- 6: what is no access has no bytes
+unfoldable pub bytesFit : Row → Bool
+bytesFit r = access r or eqb (r .size) 0
+
 -- 6: kind fit, with the row's source
 unfoldable pub kindFits : Row → ℕ → Bool
 kindFits r source =
     (not (plain r) or plainFits r) and (not (atomic r) or atomicFits r) and (not (barrier r) or barrierFits r)
-    and (plain r or semanticsFit r) and (reads r or eqb source INITIAL) and (ranked r or eqb (r .rank) 0)
+    and (plain r or semanticsFit r) and (reads r or eqb source INITIAL) and (ranked r or eqb (r .rank) 0) and bytesFit r
 
 -- 7, atomic rows: ATOMIC-SHORT or ATOMIC-LONG bytes, whose number divides the start
 unfoldable pub atomicExtentFits : Row → Bool

@@ -20,6 +20,7 @@ use Rattle.model.specs.Table.{decode, rowOf, sourceOf, atomicSource}
 use Rattle.model.specs.Scope.{sameLocation, together, mutualRows, mutually}
 use Rattle.model.specs.Moment.{sameAgent}
 use Rattle.model.specs.Synchronizes.{sequence, takesFrom, leads, trails, upTo, joins, synchronizes}
+use Rattle.rows.specs.Starts.{starts-apart}
 use Rattle.sequence.specs.Forms.{takes-on, takes-none as takes-past}
 use Rattle.quick_sync.specs.Product.{byWay, times}
 use Rattle.quick_sync.specs.Links.{heads, gets, released, gotten, handed, led, ahead, metBy, passed, syncBy, by-atomics, sync-is}
@@ -97,6 +98,10 @@ module _ (b : List ℕ) (p : List (List ℕ)) (mode : Mode) (n : ℕ) where
   unfolding mutually mutualRows sameLocation decode
   mutual-reference i j r er h =
       sym (and-false-right _ _ (and-false-left _ _ (and-false-right _ _ (and-false-right _ _ (ne-eqb (rowOf b i .reference) (rowOf b j .reference) (λ e. h (sym e ∙ ap (λ (z : Row). z .reference) (sym er))))))))
+
+  pub mutual-start : (i j : ℕ) (r : Row) → r ≡ rowOf b i → (rowOf b j .start ≡ r .start → ⊥) → false ≡ mutually (decode b p mode n) i j
+  unfolding mutually decode
+  mutual-start i j r er h = sym (and-false-right _ _ (starts-apart p (rowOf b i) (rowOf b j) (λ e. h (sym e ∙ ap (λ (z : Row). z .start) (sym er)))))
 
   pub mutual-location : (i j : ℕ) (r q : Row) (x : Bool) → r ≡ rowOf b i → q ≡ rowOf b j → x ≡ sameLocation r q → not x ≡ true → false ≡ mutually (decode b p mode n) i j
   unfolding mutually mutualRows decode

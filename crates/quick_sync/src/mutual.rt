@@ -32,6 +32,9 @@ fn mutual_of(rows: &[u8], p: Places, mode: Mode, n: usize, i: usize, r: Row, j: 
     if bytes::read_reference(rows, j as u16) != r.reference {
         return false;
     }
+    if bytes::read_start(rows, j as u16) != r.start {
+        return false;
+    }
     let q = bytes::read_row(rows, j as u16);
     if !scopes::same_location(r, q) {
         return false;

@@ -226,6 +226,13 @@ pub fn read_kind(rows: &[u8], i: u16) -> u8
     row_byte(rows, i, 0)
 }
 
+// Row i's class alone: of a control barrier its execution scope.
+pub fn read_class(rows: &[u8], i: u16) -> u8
+    ensures { λ r. ⌜ r ≡ rowOf (now (rows .entry)) i .class ⌝ }
+{
+    row_byte(rows, i, 6)
+}
+
 // Row i's start alone: of a control barrier its instance.
 pub fn read_start(rows: &[u8], i: u16) -> u16
     ensures { λ r. ⌜ r ≡ rowOf (now (rows .entry)) i .start ⌝ }

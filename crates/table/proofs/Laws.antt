@@ -20,6 +20,7 @@ use Rattle.model.specs.Refusal.{otherClass, otherClassAt, classTaken, writerFit
 use Rattle.model.specs.Refusal.{apart, apartAt, instanceBroken, rival, outside, outsideAt, begins, unfit}
 use Rattle.model.specs.Refusal.{kindOver, agentsKnown, dependenciesFew, namesNone, dependenciesNamed, hostsFault, codesFit, agentFits, operationFits, kindFits, extentFits, formFault, rowFault, tableFault, faulty, firstFault, rowFaultAt}
 use Rattle.model.specs.Refusal.{versionFits, limitsFit, lengthFits, headerFault, admission}
+use Rattle.rows.specs.Starts.{starts-apart}
 use Rattle.table.specs.Rows.{shapeFault, hostsFaultIn, rowFaultIn, rowsAdmission}
 
 -- ---- what a test does not read makes no difference to it
@@ -53,6 +54,10 @@ module _ (b : List ℕ) where
   unfolding otherClassAt otherClass decode
   class-off i j h = sym (and-false-left _ _ (and-false-right _ _ (ne-eqb (rowOf b j .reference) (rowOf b i .reference) h)))
 
+  pub class-same : (i j : ℕ) → rowOf b j .class ≡ rowOf b i .class → false ≡ otherClassAt (decode b [] OFF 0) i j
+  unfolding otherClassAt otherClass decode
+  class-same i j h = sym (and-false-right _ _ (ap not (eq-eqb (rowOf b j .class) (rowOf b i .class) h)))
+
   pub class-none : (i : ℕ) (r : Row) (x : Bool) → r ≡ rowOf b i → x ≡ access r → x ≡ false → false ≡ classTaken (decode b [] OFF 0) i
   unfolding classTaken decode _and_
   class-none i r x er ex h = rw (← er, ← ex, h) refl
@@ -80,6 +85,10 @@ module _ (b : List ℕ) (p : List (List ℕ)) where
   pub rank-off : (i j : ℕ) → (rowOf b j .rank ≡ rowOf b i .rank → ⊥) → false ≡ sameRankAt (decode b p OFF 0) i j
   unfolding sameRankAt sameRank decode
   rank-off i j h = sym (and-false-left _ _ (and-false-right _ _ (ne-eqb (rowOf b j .rank) (rowOf b i .rank) h)))
+
+  pub rank-start : (i j : ℕ) → (rowOf b j .start ≡ rowOf b i .start → ⊥) → false ≡ sameRankAt (decode b p OFF 0) i j
+  unfolding sameRankAt decode
+  rank-start i j h = sym (and-false-right _ _ (starts-apart p (rowOf b i) (rowOf b j) (λ e. h (sym e))))
 
   pub rank-none : (i : ℕ) (r : Row) (x : Bool) → r ≡ rowOf b i → x ≡ ranked r → x ≡ false → false ≡ rankTaken (decode b p OFF 0) i
   unfolding rankTaken decode _and_

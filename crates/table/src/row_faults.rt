@@ -1,7 +1,7 @@
 // Refusals 5 to 7, 19 and 20: a row by itself.
 ghost use mathlib.Core.Path.{_≡_};
 ghost use Rattle.finite.specs.Below.{least};
-ghost use Rattle.model.specs.Refusal.{codesFit, plainFits, atomicFits, barrierFits, semanticsFit, kindFits, atomicExtentFits, extentFits};
+ghost use Rattle.model.specs.Refusal.{codesFit, plainFits, atomicFits, barrierFits, semanticsFit, bytesFit, kindFits, atomicExtentFits, extentFits};
 ghost use Rattle.model.specs.Refusal.{agentFits, operationFits, formFault, rowFault, faulty};
 ghost use Rattle.table.specs.Rows.{rowFaultIn};
 use crate::choose;
@@ -85,13 +85,12 @@ pub fn atomic_fits(r: Row) -> bool
         & (!(r.kind == kinds::ATOMIC_WRITE) | relaxed | (r.order == kinds::RELEASE))
 }
 
-// 6, of a barrier: it has no bytes. A control barrier may have order 0, a scope in byte 6, and a start.
+// 6, of a barrier. A control barrier may have order 0, a scope in byte 6, and a start.
 pub fn barrier_fits(r: Row) -> bool
     ensures { λ b. ⌜ b ≡ barrierFits r ⌝ }
 {
     (kinds::is_control(r) | !(r.order == kinds::RELAXED) & (r.class == 0) & (r.start == 0))
         & !kinds::is_non_private(r)
-        & (r.size == 0)
         & (r.reference == 0)
 }
 
@@ -102,6 +101,13 @@ pub fn semantics_fit(r: Row) -> bool
     (!kinds::makes_available(r) | kinds::releases(r))
         & (!kinds::makes_visible(r) | kinds::acquires(r))
         & ((r.classes == 0) == (r.order == kinds::RELAXED))
+}
+
+// 6: what is no access has no bytes.
+pub fn bytes_fit(r: Row) -> bool
+    ensures { λ b. ⌜ b ≡ bytesFit r ⌝ }
+{
+    kinds::is_access(r) | (r.size == 0)
 }
 
 // 6: kind fit.
@@ -115,6 +121,7 @@ pub fn kind_fits(r: Row, source: Source) -> bool
         & (plain | semantics_fit(r))
         & (kinds::reads(r) | source.is_initial())
         & (kinds::is_ranked(r) | (r.rank == 0))
+        & bytes_fit(r)
 }
 
 pub const LONGEST: u8 = 16;

@@ -26,12 +26,15 @@ pub fn other_class(r: Row, q: Row) -> bool
     kinds::is_access(q) & (q.reference == r.reference) & !(q.class == r.class)
 }
 
-// The same of row i, which is r, and row j. Most rows have another reference, and no whole row is read.
+// The same of row i, which is r, and row j. Most rows have another reference or the same class, and no whole row is read.
 pub fn other_class_at(rows: &[u8], i: u16, r: Row, j: u16) -> bool
     requires { ⌜ r ≡ rowOf (now rows) i ⌝ }
     ensures { λ b. ⌜ b ≡ otherClassAt (decode (now (rows .entry)) [] OFF 0) i j ⌝ }
 {
     if bytes::read_reference(rows, j) != r.reference {
+        return false;
+    }
+    if bytes::read_class(rows, j) == r.class {
         return false;
     }
     other_class(r, bytes::read_row(rows, j))
@@ -94,12 +97,15 @@ pub fn same_rank(r: Row, q: Row) -> bool
     kinds::is_ranked(q) & (q.rank == r.rank)
 }
 
-// Few rows have one rank, and no place is asked of the others.
+// Few rows have one rank and one start, and no place is asked of the others.
 pub fn same_rank_at(rows: &[u8], p: Places, i: u16, r: Row, j: u16) -> bool
     requires { ⌜ r ≡ rowOf (now rows) i ⌝ }
     ensures { λ b. ⌜ b ≡ sameRankAt (decode (now (rows .entry)) p OFF 0) i j ⌝ }
 {
     if bytes::read_rank(rows, j) != r.rank {
+        return false;
+    }
+    if bytes::read_start(rows, j) != r.start {
         return false;
     }
     let q = bytes::read_row(rows, j);

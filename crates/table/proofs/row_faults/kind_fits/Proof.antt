@@ -13,6 +13,7 @@ use Rattle.rows.proofs.kinds.is_ranked.Reads as is-ranked-reads
 use Rattle.rows.proofs.kinds.reads.Reads as reads-reads
 use Rattle.table.proofs.row_faults.atomic_fits.Reads as atomic-fits-reads
 use Rattle.table.proofs.row_faults.barrier_fits.Reads as barrier-fits-reads
+use Rattle.table.proofs.row_faults.bytes_fit.Reads as bytes-fit-reads
 use Rattle.table.proofs.row_faults.plain_fits.Reads as plain-fits-reads
 use Rattle.table.proofs.row_faults.semantics_fit.Reads as semantics-fit-reads
 
@@ -56,7 +57,9 @@ is-initial-requires c κs = search needs
 is-ranked-requires : tie.Need-is-ranked-requires
 is-ranked-requires c κs = search needs
 
--- src/row_faults.rt:82:1
+bytes-fit-requires : tie.Need-bytes-fit-requires
+bytes-fit-requires c κs = search needs
+
 returns : tie.Need-returns
 unfolding kindFits _and_ _or_
 returns c = cc
@@ -75,4 +78,5 @@ kind-fits-spec =
     reads-requires
     is-initial-requires
     is-ranked-requires
+    bytes-fit-requires
     returns)

@@ -63,8 +63,8 @@ fn available_at(n: usize, x: usize, r: Row, c: usize, s: Row, b: u32) -> bool
     requires { ⌜ x < ROWS ⌝ }
     ensures { λ d. ⌜ d ≡ availableRows n x r c s b ⌝ }
 {
-    moments::availability_of(s, (c % 3) as u8)
-        & moments::is_ordered(n, 3 * x + 1, c, r, s)
+    rules::moments::availability_of(s, (c % 3) as u8)
+        & rules::moments::is_ordered(n, 3 * x + 1, c, r, s)
         & pairs::covers_of(s, r, b)
 }
 
@@ -73,8 +73,8 @@ fn visible_at(n: usize, y: usize, q: Row, v: usize, s: Row, b: u32) -> bool
     requires { ⌜ y < ROWS ⌝ }
     ensures { λ d. ⌜ d ≡ visibleRows n y q v s b ⌝ }
 {
-    moments::visibility_of(s, (v % 3) as u8)
-        & moments::is_ordered(n, v, 3 * y + 1, s, q)
+    rules::moments::visibility_of(s, (v % 3) as u8)
+        & rules::moments::is_ordered(n, v, 3 * y + 1, s, q)
         & pairs::covers_of(s, q, b)
 }
 

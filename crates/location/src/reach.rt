@@ -46,7 +46,7 @@ fn broadens_at(rows: &[u8], p: Places, mode: Mode, n: usize, a: usize, c: usize,
     let u = rows::bytes::read_row(rows, c as u16);
     let k = chains::available_part(s);
     let m = chains::available_part(u);
-    moments::availability_of(u, m as u8)
+    rules::moments::availability_of(u, m as u8)
         & is_broader(p, s, u)
         & pairs::happens_bit(w, 3 * a + k, 3 * c + m)
 }
@@ -63,7 +63,7 @@ fn narrows_at(rows: &[u8], p: Places, mode: Mode, n: usize, j: usize, v: usize, 
     let s = rows::bytes::read_row(rows, v as u16);
     let k = chains::visible_part(u);
     let m = chains::visible_part(s);
-    moments::visibility_of(u, k as u8)
+    rules::moments::visibility_of(u, k as u8)
         & is_broader(p, s, u)
         & pairs::happens_bit(w, 3 * j + k, 3 * v + m)
 }

@@ -48,8 +48,8 @@ fn touches_of(s: u8, r: Row, k: u8) -> bool
     ensures { λ b. ⌜ b ≡ touches s r k ⌝ }
 {
     let access = rows::kinds::is_access(r) & rows::kinds::class_in(r, s);
-    let other = rows::kinds::meets(moments::classes_of(r), s);
-    pick(k == moments::AT, access, other)
+    let other = rows::kinds::meets(rules::moments::classes_of(r), s);
+    pick(k == rules::moments::AT, access, other)
 }
 
 // The bits of row x's moments that are of class q, in the set at word a.
@@ -59,9 +59,17 @@ fn put_touched(w: &mut [u64], rows: &[u8], q: u8, a: usize, x: usize)
 {
     let r = rows::bytes::read_row(rows, x as u16);
     let s = rows::kinds::single(q);
-    bits::put_if(w, a * 64 + 3 * x, touches_of(s, r, moments::BEFORE));
-    bits::put_if(w, a * 64 + (3 * x + 1), touches_of(s, r, moments::AT));
-    bits::put_if(w, a * 64 + (3 * x + 2), touches_of(s, r, moments::AFTER));
+    bits::put_if(w, a * 64 + 3 * x, touches_of(s, r, rules::moments::BEFORE));
+    bits::put_if(
+        w,
+        a * 64 + (3 * x + 1),
+        touches_of(s, r, rules::moments::AT),
+    );
+    bits::put_if(
+        w,
+        a * 64 + (3 * x + 2),
+        touches_of(s, r, rules::moments::AFTER),
+    );
 }
 
 // The moments that are of class q, in the set at word a.
@@ -96,7 +104,7 @@ fn hold_at(rows: &[u8], s: u8, x: usize) -> bool
         return false;
     }
     let r = rows::bytes::read_row(rows, x as u16);
-    order::steps::holding_of(s, r, moments::AT)
+    rules::cases::holding_of(s, r, rules::moments::AT)
 }
 
 // M6: the rows that hold all of s.

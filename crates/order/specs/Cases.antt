@@ -13,43 +13,43 @@ use Rattle.finite.specs.Logic.{_and_, _or_, split, and-false-right, not-out, or
 use Rattle.finite.specs.Below.{anyBelow}
 use Rattle.model.specs.declared.Mode.{Mode}
 use Rattle.model.specs.declared.Row.{Row}
-use Rattle.model.specs.Row.{holds, releases, acquires}
+use Rattle.model.specs.Row.{releases, acquires}
 use Rattle.model.specs.Table.{decode, rowOf}
 use Rattle.model.specs.Moment.{AT, rowIn, part, programOrder}
 use Rattle.model.specs.Synchronizes.{synchronizes}
 use Rattle.model.specs.Happens.{holdingOf, concernsOf, holding, concerns, bySync, toRelease, fromAcquire, holdsAll, live}
 use Rattle.laws.specs.HostLaws.{step₁}
+use Rattle.rules.specs.Cases.{holdsAt, caseRows, case-one, case-two, case-three}
 
 -- ---- definitions
 
 -- M6: one of these from the moment `from` of r to the moment `to` of q; b says that r synchronizes-with q, o that the one moment is
 -- program-ordered before the other
 unfoldable pub stepRows : ℕ → ℕ → ℕ → Row → Row → Bool → Bool → Bool
-stepRows s from to r q b o =
-    holdingOf s r from and holdingOf s q to and b
-    or holdingOf s q to and releases q and concernsOf s r from and o
-    or holdingOf s r from and acquires r and concernsOf s q to and o
-
--- row i holds all of s
-unfoldable pub holdsAt : List ℕ → ℕ → ℕ → Bool
-holdsAt b s i = holds (rowOf b i .classes) s
+stepRows s from to r q b o = caseRows 1 s from to r q b o or caseRows 2 s from to r q b o or caseRows 3 s from to r q b o
 
 -- ---- laws: of two rows
 
--- neither moment holds all of s: none of them
-pub step-off : (s from to : ℕ) (r q : Row) (b o h g : Bool) → h ≡ holdingOf s r from → g ≡ holdingOf s q to → not (h or g) ≡ true
-    → false ≡ stepRows s from to r q b o
-unfolding stepRows _and_ _or_
-step-off s from to r q b o h g x y f =
-    let z = or-false h g (not-out (h or g) f) in
-    rw (sym x ∙ z .0, sym y ∙ z .1) refl
+module _ (s from to : ℕ) (r q : Row) (b o : Bool) where
+  -- each of them in full
+  steps-are : stepRows s from to r q b o
+      ≡ (holdingOf s r from and holdingOf s q to and b or holdingOf s q to and releases q and concernsOf s r from and o
+      or holdingOf s r from and acquires r and concernsOf s q to and o)
+  unfolding stepRows
+  steps-are = rw (case-one s from to r q b o, case-two s from to r q b o, case-three s from to r q b o) refl
+
+  -- neither moment holds all of s: none of them
+  pub step-off : (h g : Bool) → h ≡ holdingOf s r from → g ≡ holdingOf s q to → not (h or g) ≡ true → false ≡ stepRows s from to r q b o
+  unfolding _and_ _or_
+  step-off h g x y f =
+      let z = or-false h g (not-out (h or g) f) in
+      rw (steps-are, sym x ∙ z .0, sym y ∙ z .1) refl
 
 -- neither synchronizes-with nor program order: none of them
 pub step-apart : (s from to : ℕ) (r q : Row) (b o v : Bool) → o ≡ v → not (b or o) ≡ true → false ≡ stepRows s from to r q b v
-unfolding stepRows
 step-apart s from to r q b o v e f =
     let z = or-false b o (not-out (b or o) f) in
-    sym (or-none (or-none (and-false-right _ _ (z .0)) (and-false-right _ _ (sym e ∙ z .1))) (and-false-right _ _ (sym e ∙ z .1)))
+    sym (steps-are s from to r q b v ∙ or-none (or-none (and-false-right _ _ (z .0)) (and-false-right _ _ (sym e ∙ z .1))) (and-false-right _ _ (sym e ∙ z .1)))
 
 -- on rows and order that were read
 pub step-told : (s from to : ℕ) (r q x y : Row) (b o v d : Bool) → d ≡ stepRows s from to r q b o → r ≡ x → q ≡ y → o ≡ v → d ≡ stepRows s from to x y b v
@@ -61,8 +61,8 @@ module _ (b : List ℕ) (p : List (List ℕ)) (mode : Mode) (n : ℕ) where
   pub step-is : (s m k : ℕ)
       → step₁ (decode b p mode n) s m k
       ≡ stepRows s (part m) (part k) (rowOf b (rowIn m)) (rowOf b (rowIn k)) (synchronizes (decode b p mode n) (rowIn m) (rowIn k)) (programOrder (decode b p mode n) m k)
-  unfolding step₁ bySync toRelease fromAcquire holding concerns stepRows decode
-  step-is s m k = refl
+  unfolding step₁ bySync toRelease fromAcquire holding concerns decode
+  step-is s m k = sym (steps-are s (part m) (part k) (rowOf b (rowIn m)) (rowOf b (rowIn k)) (synchronizes (decode b p mode n) (rowIn m) (rowIn k)) (programOrder (decode b p mode n) m k))
 
   -- the test on rows, with the bit of the work area
   pub step-read : (w : List ℕ) (s m k : ℕ) (v d : Bool) → Synced (decode b p mode n) n w → m < 3 * n → k < 3 * n → v ≡ rel w SYNC GRID (m / 3) (k / 3)

@@ -20,7 +20,8 @@ use Rattle.model.specs.Moment.{AT, programOrder}
 use Rattle.laws.specs.HostLaws.{step₁}
 use Rattle.area.specs.Regions.{SYNC, STEP, STEP-END, GRID, MOMENTS}
 use Rattle.sequence.specs.Known.{Synced, synced-kept}
-use Rattle.order.specs.Cases.{stepRows, holdsAt, step-read, step-ends}
+use Rattle.rules.specs.Cases.{holdsAt}
+use Rattle.order.specs.Cases.{stepRows, step-read, step-ends}
 
 -- ---- definitions
 

@@ -15,11 +15,10 @@ ghost use Rattle.sequence.specs.Known.{Synced};
 ghost use Rattle.order.specs.Sets.{interBy};
 use model::Mode;
 use model::Places;
+use rules::cases;
+use rules::moments;
 
 pub mod steps; // M6: the direct cases of inter-thread order
-
-// M6: the class sets are the numbers 1 to 15.
-pub const CLASS_SETS: u8 = 15;
 
 // M1: program order, as the bits that happens-before begins with.
 pub fn fill_order(rows: &[u8], n: usize, w: &mut [u64])
@@ -46,7 +45,7 @@ pub fn is_live(rows: &[u8], n: usize, s: u8) -> bool
         return true;
     }
     for i in 0..n {
-        if steps::holds_at(rows, s, i) {
+        if cases::holds_at(rows, s, i) {
             return true;
         }
     }
@@ -80,7 +79,7 @@ pub fn happens_before(rows: &[u8], p: Places, mode: Mode, n: usize, w: &mut [u64
 {
     sequence::sync::make_synced(rows, p, mode, n, w);
     fill_order(rows, n, w);
-    for s in 0..CLASS_SETS {
+    for s in 0..cases::CLASS_SETS {
         add_set(rows, p, mode, n, s, w);
     }
 }

@@ -1,6 +1,5 @@
 // M6: the direct cases of inter-thread order for a class set, as bits over moments.
 ghost use mathlib.Core.Path.{_≡_};
-ghost use mathlib.Core.Bool.{cond};
 ghost use mathlib.Core.List.{List};
 ghost use Prim.Native.Nat.{ℕ, _+_, _*_, _/_, _%_, _≤_, _<_};
 ghost use lib.ListN.{length};
@@ -10,48 +9,18 @@ ghost use Rattle.model.specs.declared.Mode.{Mode};
 ghost use Rattle.model.specs.Limits.{ROWS, WORK};
 ghost use Rattle.model.specs.Table.{decode, rowOf};
 ghost use Rattle.model.specs.Moment.{programOrder};
-ghost use Rattle.model.specs.Happens.{holdingOf, concernsOf, step};
+ghost use Rattle.model.specs.Happens.{step};
 ghost use Rattle.laws.specs.HostLaws.{step₁};
 ghost use Rattle.area.specs.Regions.{SYNC, STEP, STEP-END, GRID, MOMENTS};
 ghost use Rattle.sequence.specs.Known.{Synced};
-ghost use Rattle.order.specs.Cases.{stepRows, holdsAt};
+ghost use Rattle.order.specs.Cases.{stepRows};
 ghost use Rattle.order.specs.Steps.{CellMade, RowMade};
 ghost use Rattle.order.specs.System.{systemBy, systemTo};
 use model::Mode;
 use model::Places;
 use model::Row;
-
-fn pick(b: bool, x: bool, y: bool) -> bool
-    ensures { λ r. ⌜ r ≡ cond b x y ⌝ }
-{
-    if b { x } else { y }
-}
-
-// ---- moments and a class set
-
-// M6: whether moment k is the atomic or barrier r itself, holding all of s.
-pub fn holding_of(s: u8, r: Row, k: u8) -> bool
-    ensures { λ b. ⌜ b ≡ holdingOf s r k ⌝ }
-{
-    (k == moments::AT) & !rows::kinds::is_plain(r) & rows::kinds::holds(r.classes, s)
-}
-
-// M6: whether moment k of r accesses a class in s, or is an atomic or barrier holding all of s.
-pub fn concerns_of(s: u8, r: Row, k: u8) -> bool
-    ensures { λ b. ⌜ b ≡ concernsOf s r k ⌝ }
-{
-    let access = rows::kinds::is_access(r) & rows::kinds::class_in(r, s);
-    let other = rows::kinds::meets(moments::classes_of(r), s);
-    pick(k == moments::AT, access, other) | holding_of(s, r, k)
-}
-
-// Whether row i holds all of s.
-pub fn holds_at(rows: &[u8], s: u8, i: usize) -> bool
-    requires { ⌜ i < ROWS ⌝ }
-    ensures { λ b. ⌜ b ≡ holdsAt (now (rows .entry)) s i ⌝ }
-{
-    rows::kinds::holds(rows::bytes::read_classes(rows, i as u16), s)
-}
+use rules::cases;
+use rules::moments;
 
 // ---- direct cases that go by rows
 
@@ -60,14 +29,14 @@ pub fn holds_at(rows: &[u8], s: u8, i: usize) -> bool
 fn is_step(s: u8, from: u8, to: u8, r: Row, q: Row, b: bool, o: bool) -> bool
     ensures { λ d. ⌜ d ≡ stepRows s from to r q b o ⌝ }
 {
-    let h = holding_of(s, r, from);
-    let g = holding_of(s, q, to);
+    let h = cases::holding_of(s, r, from);
+    let g = cases::holding_of(s, q, to);
     if !(h | g) {
         return false;
     }
-    h & g & b
-        | g & rows::kinds::releases(q) & concerns_of(s, r, from) & o
-        | h & rows::kinds::acquires(r) & concerns_of(s, q, to) & o
+    cases::is_case(1, s, from, to, r, q, b, o)
+        | cases::is_case(2, s, from, to, r, q, b, o)
+        | cases::is_case(3, s, from, to, r, q, b, o)
 }
 
 // M6: one of them for the class set s from moment m to moment k; b says that m's row synchronizes-with k's. Most pairs have
@@ -122,7 +91,7 @@ fn fill_cases(rows: &[u8], p: Places, mode: Mode, n: usize, s: u8, w: &mut [u64]
 {
     bits::clear(w, area::STEP, area::STEP_END);
     for j in 0..n {
-        if holds_at(rows, s, j) {
+        if cases::holds_at(rows, s, j) {
             fill_at(rows, n, s, 3 * j + 1, w);
         }
     }

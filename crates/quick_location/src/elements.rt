@@ -219,7 +219,8 @@ fn last_bytes(
     }
     let u = bytes::read_row(rows, v as u16);
     let k = chains::visible_part(u);
-    if !(moments::visibility_of(u, k as u8) & moments::is_ordered(n, 3 * v + k, 3 * y + 1, u, q)) {
+    if !(rules::moments::visibility_of(u, k as u8)
+        & rules::moments::is_ordered(n, 3 * v + k, 3 * y + 1, u, q)) {
         return 0;
     }
     if !is_linked(rows, p, mode, n, x, y, r, q, a, s, v, w) {
@@ -286,7 +287,8 @@ fn is_first(rows: &[u8], n: usize, x: usize, r: Row, a: usize) -> bool
     }
     let s = bytes::read_row(rows, a as u16);
     let k = chains::available_part(s);
-    moments::availability_of(s, k as u8) & moments::is_ordered(n, 3 * x + 1, 3 * a + k, r, s)
+    rules::moments::availability_of(s, k as u8)
+        & rules::moments::is_ordered(n, 3 * x + 1, 3 * a + k, r, s)
 }
 
 // A row before which there is no first element of x, n where x doesn't write. No row before x is one.

@@ -44,7 +44,7 @@ fn broadens_at(
     if !pairs::happens_bit(w, 3 * a + k, 3 * c + m) {
         return false;
     }
-    moments::availability_of(u, m as u8) & location::reach::is_broader(p, s, u)
+    rules::moments::availability_of(u, m as u8) & location::reach::is_broader(p, s, u)
 }
 
 // Whether row v may come right after row j, which is u, in a visibility chain.
@@ -67,7 +67,7 @@ fn narrows_at(
     if !pairs::happens_bit(w, 3 * j + k, 3 * v + m) {
         return false;
     }
-    moments::visibility_of(u, k as u8) & location::reach::is_broader(p, s, u)
+    rules::moments::visibility_of(u, k as u8) & location::reach::is_broader(p, s, u)
 }
 
 // ---- the steps from one row

@@ -47,7 +47,7 @@ fn shared_by(rows: &[u8], n: usize, s: u8) -> u8
     requires { ⌜ n ≤ ROWS ⌝ }
     ensures { λ c. ⌜ ((p : List (List ℕ)) (mode : Mode) → c ≡ sharedBy (decode (now (rows .entry)) p mode n) s n) ⌝ }
 {
-    let mut c = order::CLASS_SETS;
+    let mut c = rules::cases::CLASS_SETS;
     for x in 0..n {
         c = less_by(s, c, rows::bytes::read_classes(rows, x as u16));
     }
@@ -113,7 +113,7 @@ pub fn happens_before(rows: &[u8], p: Places, mode: Mode, n: usize, w: &mut [u64
 {
     start(rows, p, mode, n, w);
     let dep = 0 < mode.dependencies;
-    for s in 0..order::CLASS_SETS {
-        add_set(w, rows, n, order::CLASS_SETS - 1 - s, dep);
+    for s in 0..rules::cases::CLASS_SETS {
+        add_set(w, rows, n, rules::cases::CLASS_SETS - 1 - s, dep);
     }
 }

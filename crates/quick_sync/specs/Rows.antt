@@ -21,7 +21,7 @@ use Rattle.model.specs.Scope.{sameLocation, together, mutualRows, mutually}
 use Rattle.model.specs.Moment.{sameAgent}
 use Rattle.model.specs.Synchronizes.{sequence, takesFrom, leads, trails, upTo, joins, synchronizes}
 use Rattle.rows.specs.Starts.{starts-apart}
-use Rattle.sequence.specs.Forms.{takes-on, takes-none as takes-past}
+use Rattle.rules.specs.Forms.{takes-on, takes-none as takes-past}
 use Rattle.quick_sync.specs.Product.{byWay, times}
 use Rattle.quick_sync.specs.Links.{heads, gets, released, gotten, handed, led, ahead, metBy, passed, syncBy, by-atomics, sync-is}
 

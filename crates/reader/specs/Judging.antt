@@ -7,7 +7,7 @@ use native.Mathlib.Omega.{arith}
 use lib.ListN.{length, getD, take}
 use lib.Dec.{ltb, leb, eqb}
 use borrow.Author.Tests.{ltb-true, ne-eqb, not-false}
-use Rattle.finite.specs.Logic.{_and_, _or_, split, and-false-left, and-false-right, not-out, or-off}
+use Rattle.finite.specs.Logic.{_and_, _or_, split, and-false-left, and-false-right, not-out}
 use Rattle.finite.specs.Below.{anyBelow, any-in}
 use Rattle.model.specs.declared.Mode.{Mode}
 use Rattle.model.specs.declared.Admission.{Admission}
@@ -18,17 +18,17 @@ use Rattle.model.specs.declared.Reason.the-variants as reason
 use Rattle.model.specs.declared.AcceptAnswer.{AcceptAnswer}
 use Rattle.model.specs.declared.AcceptAnswer.the-variants as accept
 use Rattle.model.specs.Limits.{ROWS, CHAIN, CASE, CLASS-SETS}
-use Rattle.model.specs.Row.{releases, acquires}
 use Rattle.model.specs.Table.{Table, ROW-BYTES, rowBytes, placesOf, modeOf, rowOf, decode, tableUnder, tableOf}
 use Rattle.model.specs.Moment.{moment, momentIn, orderedRows, programOrder}
 use Rattle.model.specs.Synchronizes.{synchronizes}
-use Rattle.model.specs.Happens.{holdingOf, concernsOf, holding, concerns, bySync, toRelease, fromAcquire, bySystem, direct}
+use Rattle.model.specs.Happens.{bySystem, direct}
 use Rattle.model.specs.Reason.{stands, stepHolds, broken, chainHolds, accepts, twoMoments, judged, acceptAnswer}
 use Rattle.pieces.specs.declared.Refusal.{Refusal}
 use Rattle.pieces.specs.Pieces.{areaOf, joined, admissionBoth, judgeBoth}
 use Rattle.pieces.specs.Entry.{refusalOf, opened-refused, opened-admitted, table-both, table-false}
 use Rattle.pieces.specs.Answers.{not-judged, judge-both}
-use Rattle.sequence.specs.Forms.{and-on, and-on-right}
+use Rattle.rules.specs.Forms.{and-on, and-on-right}
+use Rattle.rules.specs.Cases.{caseRows, direct-is, asked-once}
 
 -- ---- definitions
 
@@ -38,39 +38,14 @@ leadsTo t s m k steps = eqb (stands m steps (length steps)) k and not (anyBelow 
 
 -- ---- laws: a direct case by its number
 
-module _ (t : Table) (s case m k : ℕ) where
-  direct-one : case ≡ 1 → bySync t s m k ≡ direct t s case m k
-  unfolding direct _and_ _or_
-  direct-one e = rw e (sym (or-off _ _ refl ∙ or-off _ _ refl ∙ or-off _ _ refl))
-
-  direct-two : case ≡ 2 → toRelease t s m k ≡ direct t s case m k
-  unfolding direct _and_ _or_
-  direct-two e = rw e (sym (or-off _ _ refl ∙ or-off _ _ refl))
-
-  direct-three : case ≡ 3 → fromAcquire t s m k ≡ direct t s case m k
-  unfolding direct _and_ _or_
-  direct-three e = rw e (sym (or-off _ _ refl))
-
-  pub direct-system : (d : Bool) → (case ≡ 1 → ⊥) → (case ≡ 2 → ⊥) → (case ≡ 3 → ⊥) → d ≡ bySystem t m k → (eqb case 4 and d) ≡ direct t s case m k
-  unfolding direct _and_ _or_
-  direct-system d e f g h = rw (h, ne-eqb case 1 e, ne-eqb case 2 f, ne-eqb case 3 g) refl
-
--- the same of two rows that were read
-module _ (b : List ℕ) (p : List (List ℕ)) (mode : Mode) (n s case m k : ℕ) (r q : Row) (er : r ≡ rowOf b (m / 3)) (eq : q ≡ rowOf b (k / 3)) where
-  pub direct-sync : (h g v : Bool) → case ≡ 1 → h ≡ holdingOf s r (m % 3) → g ≡ holdingOf s q (k % 3) → v ≡ synchronizes (decode b p mode n) (m / 3) (k / 3)
-      → (h and g and v) ≡ direct (decode b p mode n) s case m k
-  unfolding bySync holding decode
-  direct-sync h g v e eh eg ev = rw (eh, eg, ev, er, eq) (direct-one (decode b p mode n) s case m k e)
-
-  pub direct-release : (g x d o : Bool) → case ≡ 2 → g ≡ holdingOf s q (k % 3) → x ≡ releases q → d ≡ concernsOf s r (m % 3) → o ≡ orderedRows n m k r q
-      → (g and x and d and o) ≡ direct (decode b p mode n) s case m k
-  unfolding toRelease holding concerns programOrder decode
-  direct-release g x d o e eg ex ed eo = rw (eg, ex, ed, eo, er, eq) (direct-two (decode b p mode n) s case m k e)
-
-  pub direct-acquire : (h x d o : Bool) → case ≡ 3 → h ≡ holdingOf s r (m % 3) → x ≡ acquires r → d ≡ concernsOf s q (k % 3) → o ≡ orderedRows n m k r q
-      → (h and x and d and o) ≡ direct (decode b p mode n) s case m k
-  unfolding fromAcquire holding concerns programOrder decode
-  direct-acquire h x d o e eh ex ed eo = rw (eh, ex, ed, eo, er, eq) (direct-three (decode b p mode n) s case m k e)
+-- on rows that were read; only of the first it was asked whether one synchronizes-with the other
+module _ (b : List ℕ) (p : List (List ℕ)) (mode : Mode) (n s case m k : ℕ) where
+  pub direct-told : (r q : Row) (v o d e : Bool) → r ≡ rowOf b (m / 3) → q ≡ rowOf b (k / 3) → v ≡ (eqb case 1 and synchronizes (decode b p mode n) (m / 3) (k / 3))
+      → o ≡ orderedRows n m k r q → d ≡ caseRows case s (m % 3) (k % 3) r q v o → e ≡ bySystem (decode b p mode n) m k
+      → (d or (eqb case 4 and e)) ≡ direct (decode b p mode n) s case m k
+  unfolding programOrder decode
+  direct-told r q v o d e er eq ev eo ed ee =
+      rw (direct-is b p mode n s case m k, ed, ee, ev, eo, er, eq, asked-once s (m % 3) (k % 3) (rowOf b (m / 3)) (rowOf b (k / 3)) (synchronizes (decode b p mode n) (m / 3) (k / 3)) (orderedRows n m k (rowOf b (m / 3)) (rowOf b (k / 3))) case) refl
 
 -- ---- laws: a chain
 

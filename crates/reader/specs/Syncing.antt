@@ -14,7 +14,7 @@ use Rattle.model.specs.Row.{BARRIER, CONTROL, RMW, atomic, barrier, releases, a
 use Rattle.model.specs.Table.{decode, rowOf}
 use Rattle.model.specs.Scope.{together}
 use Rattle.model.specs.Synchronizes.{takesFrom, carriesOut, carriesIn, carriesOver, passes, syncAtomics, syncFromBarrier, syncToBarrier, syncBarriers, syncControl, synchronizes}
-use Rattle.sequence.specs.Forms.{and-on}
+use Rattle.rules.specs.Forms.{and-on}
 
 -- ---- laws: of the tests alone
 

@@ -2,10 +2,13 @@
 ghost use mathlib.Core.Path.{_≡_};
 ghost use mathlib.Core.Bool.{true};
 ghost use mathlib.Core.List.{List};
-ghost use Prim.Native.Nat.{ℕ, _*_, _≤_, _<_};
+ghost use Prim.Native.Nat.{ℕ, _*_, _/_, _≤_, _<_};
+ghost use lib.Dec.{eqb};
+ghost use Rattle.finite.specs.Logic.{_and_};
 ghost use Rattle.model.specs.Limits.{ROWS};
 ghost use Rattle.model.specs.Table.{decode};
 ghost use Rattle.model.specs.Moment.{moment};
+ghost use Rattle.model.specs.Synchronizes.{synchronizes};
 ghost use Rattle.model.specs.Happens.{bySystem, direct};
 ghost use Rattle.model.specs.Reason.{stepHolds, accepts, judged, judge, acceptAnswer};
 ghost use Rattle.pieces.specs.Pieces.{judgeBoth};
@@ -17,6 +20,8 @@ use model::Mode;
 use model::Places;
 use model::Reason;
 use rows::bytes;
+use rules::cases;
+use rules::moments;
 
 pub mod sync; // M4 and M5, from the rows alone
 
@@ -36,6 +41,17 @@ fn is_system(mode: Mode, m: u16, k: u16) -> bool
         & rows::dependencies::depends(mode, m / 3, k / 3)
 }
 
+// Whether the row of moment m synchronizes-with the row of moment k, as the first case asks. That walks over all rows, so no other does.
+fn is_synced(rows: &[u8], p: Places, mode: Mode, n: usize, case: u16, m: u16, k: u16) -> bool
+    requires { ⌜ (n ≤ ROWS) × (m < 3 * n) × (k < 3 * n) ⌝ }
+    ensures { λ b. ⌜ b ≡ (eqb case 1 and synchronizes (decode (now (rows .entry)) p mode n) (m / 3) (k / 3)) ⌝ }
+{
+    if !(case == 1) {
+        return false;
+    }
+    sync::sync_at(rows, p, mode, n, (m / 3) as usize, (k / 3) as usize)
+}
+
 // M6: whether the direct case of this number leads from moment m to moment k for the class set s.
 fn is_direct(rows: &[u8], p: Places, mode: Mode, n: usize, s: u8, case: u16, m: u16, k: u16) -> bool
     requires { ⌜ (n ≤ ROWS) × (m < 3 * n) × (k < 3 * n) ⌝ }
@@ -43,23 +59,10 @@ fn is_direct(rows: &[u8], p: Places, mode: Mode, n: usize, s: u8, case: u16, m: 
 {
     let r = bytes::read_row(rows, m / 3);
     let q = bytes::read_row(rows, k / 3);
-    let m_holds = order::steps::holding_of(s, r, (m % 3) as u8);
-    let k_holds = order::steps::holding_of(s, q, (k % 3) as u8);
-    if case == 1 {
-        return m_holds
-            & k_holds
-            & sync::sync_at(rows, p, mode, n, (m / 3) as usize, (k / 3) as usize);
-    }
-    let release = rows::kinds::releases(q);
-    let acquire = rows::kinds::acquires(r);
-    let ordered = moments::is_ordered(n, m as usize, k as usize, r, q);
-    if case == 2 {
-        return k_holds & release & order::steps::concerns_of(s, r, (m % 3) as u8) & ordered;
-    }
-    if case == 3 {
-        return m_holds & acquire & order::steps::concerns_of(s, q, (k % 3) as u8) & ordered;
-    }
-    (case == 4) & is_system(mode, m, k)
+    let b = is_synced(rows, p, mode, n, case, m, k);
+    let o = moments::is_ordered(n, m as usize, k as usize, r, q);
+    cases::is_case(case, s, (m % 3) as u8, (k % 3) as u8, r, q, b, o)
+        | (case == 4) & is_system(mode, m, k)
 }
 
 // Whether the step x, CASE × its case + the moment that it reaches, holds from moment m for the class set s.
@@ -116,7 +119,7 @@ fn is_accepted(
     let Reason::Chain(s) = why else {
         return (count == 0) & moments::ordered_at(rows, n, m as usize, k as usize);
     };
-    if !((0 < s) & (s <= order::CLASS_SETS) & (0 < count) & (count <= model::CHAIN)) {
+    if !((0 < s) & (s <= cases::CLASS_SETS) & (0 < count) & (count <= model::CHAIN)) {
         return false;
     }
     is_chain(rows, p, mode, n, s, m, k, steps)

@@ -9,9 +9,9 @@ use model::Mode;
 use model::Places;
 use rows::bytes;
 use rows::kinds;
-use sequence::carriers;
-use sequence::control;
-use sequence::heads;
+use rules::carriers;
+use rules::control;
+use rules::sequences;
 
 // M4: whether some row ends the sequence that row a heads no later than row x.
 fn is_ended(rows: &[u8], p: Places, mode: Mode, n: usize, a: usize, x: usize) -> bool
@@ -21,9 +21,9 @@ fn is_ended(rows: &[u8], p: Places, mode: Mode, n: usize, a: usize, x: usize) ->
     let h = bytes::read_row(rows, a as u16);
     let r = bytes::read_row(rows, x as u16);
     for z in 0..n {
-        let b = heads::mutual_at(rows, p, mode, n, a, z);
+        let b = sequences::mutual_at(rows, p, mode, n, a, z);
         let q = bytes::read_row(rows, z as u16);
-        if heads::is_end(mode.counted, b, h, r, q) {
+        if sequences::is_end(mode.counted, b, h, r, q) {
             return true;
         }
     }
@@ -37,7 +37,7 @@ fn sequence_at(rows: &[u8], p: Places, mode: Mode, n: usize, a: usize, x: usize)
 {
     let h = bytes::read_row(rows, a as u16);
     let r = bytes::read_row(rows, x as u16);
-    let follows = heads::mutual_at(rows, p, mode, n, a, x)
+    let follows = sequences::mutual_at(rows, p, mode, n, a, x)
         & rows::scopes::is_later_writer(mode.counted, r, h);
     (a == x) | follows & !is_ended(rows, p, mode, n, a, x)
 }
@@ -47,7 +47,7 @@ fn takes_from(rows: &[u8], p: Places, mode: Mode, n: usize, x: usize, y: usize) 
     requires { ⌜ (n ≤ ROWS) × (x < n) × (y < n) ⌝ }
     ensures { λ b. ⌜ b ≡ takesFrom (decode (now (rows .entry)) p mode n) x y ⌝ }
 {
-    if !heads::mutual_at(rows, p, mode, n, x, y) {
+    if !sequences::mutual_at(rows, p, mode, n, x, y) {
         return false;
     }
     let k = bytes::atomic_source(rows, y as u16).0 as usize;

@@ -4,18 +4,17 @@ use mathlib.Core.Bool.{Bool, true, false, cond}
 use mathlib.Core.List.{List}
 use Prim.Native.Nat.{ℕ, _+_, _*_, _/_, _%_, _≤_, _<_}
 use native.Mathlib.Omega.{arith}
-use Rattle.finite.specs.Logic.{_and_}
 use Rattle.bits.specs.Bit.{bit}
 use Rattle.bits.specs.Stage.{holds-bit}
 use Rattle.model.specs.declared.Mode.{Mode}
 use Rattle.model.specs.declared.Row.{Row}
 use Rattle.model.specs.Limits.{CASE}
-use Rattle.model.specs.Row.{releases, acquires}
 use Rattle.model.specs.Table.{decode, rowOf}
 use Rattle.model.specs.Moment.{rowIn, part, programOrder}
 use Rattle.model.specs.Synchronizes.{synchronizes}
-use Rattle.model.specs.Happens.{holdingOf, concernsOf, holding, concerns, bySync, toRelease, fromAcquire}
+use Rattle.model.specs.Happens.{holding, concerns, bySync, toRelease, fromAcquire}
 use Rattle.model.specs.Reason.{lowestCase, stepNumber}
+use Rattle.rules.specs.Cases.{caseRows, case-one, case-two, case-three}
 use Rattle.area.specs.Regions.{SYNC, GRID}
 use Rattle.sequence.specs.Known.{Synced}
 
@@ -23,19 +22,14 @@ use Rattle.sequence.specs.Known.{Synced}
 
 -- M6: the lowest case that leads from the moment `from` of r to the moment `to` of q, 4 if none of the three that go by rows does; b
 -- says that r synchronizes-with q, o that the one moment is program-ordered before the other
-unfoldable pub caseRows : ℕ → ℕ → ℕ → Row → Row → Bool → Bool → ℕ
-caseRows s from to r q b o =
-    cond (holdingOf s r from and holdingOf s q to and b) 1
-    (cond (holdingOf s q to and releases q and concernsOf s r from and o) 2
-    (cond (holdingOf s r from and acquires r and concernsOf s q to and o) 3 4))
+unfoldable pub lowestRows : ℕ → ℕ → ℕ → Row → Row → Bool → Bool → ℕ
+lowestRows s from to r q b o = cond (caseRows 1 s from to r q b o) 1 (cond (caseRows 2 s from to r q b o) 2 (cond (caseRows 3 s from to r q b o) 3 4))
 
 -- ---- laws
 
-pub case-small : (s from to : ℕ) (r q : Row) (b o : Bool) → caseRows s from to r q b o ≤ 4
-unfolding caseRows
-case-small s from to r q b o =
-    go (holdingOf s r from and holdingOf s q to and b) (holdingOf s q to and releases q and concernsOf s r from and o)
-    (holdingOf s r from and acquires r and concernsOf s q to and o)
+pub case-small : (s from to : ℕ) (r q : Row) (b o : Bool) → lowestRows s from to r q b o ≤ 4
+unfolding lowestRows
+case-small s from to r q b o = go (caseRows 1 s from to r q b o) (caseRows 2 s from to r q b o) (caseRows 3 s from to r q b o)
   where
     go : (x y z : Bool) → cond {A = ℕ} x 1 (cond y 2 (cond z 3 4)) ≤ 4
     go true y z = omega arith
@@ -44,20 +38,20 @@ case-small s from to r q b o =
     go false false false = omega arith
 
 -- on rows and order that were read
-pub case-told : (s from to d : ℕ) (r q x y : Row) (b o v : Bool) → d ≡ caseRows s from to r q b o → r ≡ x → q ≡ y → o ≡ v → d ≡ caseRows s from to x y b v
+pub case-told : (s from to d : ℕ) (r q x y : Row) (b o v : Bool) → d ≡ lowestRows s from to r q b o → r ≡ x → q ≡ y → o ≡ v → d ≡ lowestRows s from to x y b v
 case-told s from to d r q x y b o v f e g h = rw (← e, ← g, ← h) f
 
 module _ (b : List ℕ) (p : List (List ℕ)) (mode : Mode) (n : ℕ) where
   case-is : (s m k : ℕ)
       → lowestCase (decode b p mode n) s m k
-      ≡ caseRows s (part m) (part k) (rowOf b (rowIn m)) (rowOf b (rowIn k)) (synchronizes (decode b p mode n) (rowIn m) (rowIn k)) (programOrder (decode b p mode n) m k)
-  unfolding lowestCase bySync toRelease fromAcquire holding concerns caseRows decode
-  case-is s m k = refl
+      ≡ lowestRows s (part m) (part k) (rowOf b (rowIn m)) (rowOf b (rowIn k)) (synchronizes (decode b p mode n) (rowIn m) (rowIn k)) (programOrder (decode b p mode n) m k)
+  unfolding lowestCase bySync toRelease fromAcquire holding concerns lowestRows decode
+  case-is s m k = rw (case-one _ _ _ _ _ _ _, case-two _ _ _ _ _ _ _, case-three _ _ _ _ _ _ _) refl
 
   -- the number of a step, with the bit of the work area
   pub number-is : (w : List ℕ) (s m k i d : ℕ) (v : Bool) → Synced (decode b p mode n) n w → m < 3 * n → k < 3 * n
       → i ≡ (SYNC + m / 3 * GRID) * 64 + k / 3 → v ≡ bit w i
-      → d ≡ caseRows s (m % 3) (k % 3) (rowOf b (m / 3)) (rowOf b (k / 3)) v (programOrder (decode b p mode n) m k)
+      → d ≡ lowestRows s (m % 3) (k % 3) (rowOf b (m / 3)) (rowOf b (k / 3)) v (programOrder (decode b p mode n) m k)
       → CASE * d + k ≡ stepNumber (decode b p mode n) s m k
   unfolding stepNumber
   number-is w s m k i d v h l o at e f =

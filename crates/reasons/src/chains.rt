@@ -16,12 +16,14 @@ ghost use Rattle.model.specs.Reason.{hasChainBy, stepNumber};
 ghost use Rattle.area.specs.Regions.{HAPPENS, STEP, CHAINS-END, MOMENTS};
 ghost use Rattle.sequence.specs.Known.{Synced};
 ghost use Rattle.reasons.specs.Layers.{MOST, Layers, Layered};
-ghost use Rattle.reasons.specs.Cases.{caseRows};
+ghost use Rattle.reasons.specs.Cases.{lowestRows};
 ghost use Rattle.reasons.specs.Written.{stepBit, Written};
 use crate::layers;
 use model::Mode;
 use model::Places;
 use model::Row;
+use rules::cases;
+use rules::moments;
 
 // ---- the class set
 
@@ -42,14 +44,14 @@ pub fn find_set(
         × Within HAPPENS CHAINS-END (now (w .entry)) (now (w .exit))
         × (c < CLASS-SETS → Layered (decode (now (rows .entry)) p mode n) n (c + 1) second (now (w .exit))) ⌝ }
 {
-    for c in 0..order::CLASS_SETS {
+    for c in 0..cases::CLASS_SETS {
         layers::make_layers(rows, p, mode, n, c + 1, second, w);
         let j = layers::layer_of(w, 3 * n, first);
         if j < 3 * n {
             return c;
         }
     }
-    order::CLASS_SETS
+    cases::CLASS_SETS
 }
 
 // ---- its steps
@@ -84,19 +86,18 @@ fn pick(b: bool, x: u16, y: u16) -> u16
 // M6: the lowest case from the moment `from` of r to the moment `to` of q, where there is one: a dependency if it is none of the three
 // that go by rows. b says that r synchronizes-with q, o that the one moment is program-ordered before the other.
 fn case_of(s: u8, from: u8, to: u8, r: Row, q: Row, b: bool, o: bool) -> u16
-    ensures { λ d. ⌜ d ≡ caseRows s from to r q b o ⌝ }
+    ensures { λ d. ⌜ d ≡ lowestRows s from to r q b o ⌝ }
 {
-    let h = order::steps::holding_of(s, r, from);
-    let g = order::steps::holding_of(s, q, to);
-    let release = g & rows::kinds::releases(q) & order::steps::concerns_of(s, r, from) & o;
-    let acquire = h & rows::kinds::acquires(r) & order::steps::concerns_of(s, q, to) & o;
-    pick(h & g & b, 1, pick(release, 2, pick(acquire, 3, 4)))
+    let sync = cases::is_case(1, s, from, to, r, q, b, o);
+    let release = cases::is_case(2, s, from, to, r, q, b, o);
+    let acquire = cases::is_case(3, s, from, to, r, q, b, o);
+    pick(sync, 1, pick(release, 2, pick(acquire, 3, 4)))
 }
 
 // The same of moments m and k of a table; b says that m's row synchronizes-with k's.
 fn case_at(rows: &[u8], n: usize, s: u8, m: usize, k: usize, b: bool) -> u16
     requires { ⌜ (n ≤ ROWS) × (m < 3 * n) × (k < 3 * n) ⌝ }
-    ensures { λ d. ⌜ (d ≤ 4) × ((p : List (List ℕ)) (mode : Mode) → d ≡ caseRows s (m % 3) (k % 3) (rowOf (now (rows .entry)) (m / 3)) (rowOf (now (rows .entry)) (k / 3)) b
+    ensures { λ d. ⌜ (d ≤ 4) × ((p : List (List ℕ)) (mode : Mode) → d ≡ lowestRows s (m % 3) (k % 3) (rowOf (now (rows .entry)) (m / 3)) (rowOf (now (rows .entry)) (k / 3)) b
         (programOrder (decode (now (rows .entry)) p mode n) m k)) ⌝ }
 {
     let o = moments::ordered_at(rows, n, m, k);

@@ -26,8 +26,8 @@ fn two_moments(rows: &[u8], n: usize, first: u16, second: u16) -> bool
 {
     let r = rows::bytes::read_row(rows, first / 3);
     let q = rows::bytes::read_row(rows, second / 3);
-    moments::moment_in(n, r, first as usize)
-        & moments::moment_in(n, q, second as usize)
+    rules::moments::moment_in(n, r, first as usize)
+        & rules::moments::moment_in(n, q, second as usize)
         & !(first == second)
 }
 
@@ -47,12 +47,12 @@ fn derive_moments(
         × (now (c .exit) ≡ chainAfter (ours (decode (now (rows .entry)) p mode n) first second) (now (c .entry)))
         × Within MUTUAL CHAINS-END (now (w .entry)) (now (w .exit)) ⌝ }
 {
-    if moments::ordered_at(rows, n, first, second) {
+    if rules::moments::ordered_at(rows, n, first, second) {
         return DeriveAnswer::ProgramOrder;
     }
     sequence::sync::make_synced(rows, p, mode, n, w);
     let set = chains::find_set(rows, p, mode, n, first, second, w);
-    if order::CLASS_SETS <= set {
+    if rules::cases::CLASS_SETS <= set {
         return DeriveAnswer::NotBefore;
     }
     let size = layers::layer_of(w, 3 * n, first) + 1;

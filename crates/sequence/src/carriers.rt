@@ -7,12 +7,10 @@ ghost use Rattle.finite.specs.Below.{anyBelow};
 ghost use Rattle.model.specs.declared.Mode.{Mode};
 ghost use Rattle.model.specs.Limits.{ROWS, WORK};
 ghost use Rattle.model.specs.Table.{decode};
-ghost use Rattle.model.specs.Synchronizes.{takesFrom, leads, trails, carriesOut, carriesIn, carriesOver};
-ghost use Rattle.sequence.specs.Forms.{leadRows, trailRows};
+ghost use Rattle.model.specs.Synchronizes.{takesFrom, carriesOut, carriesIn, carriesOver};
 ghost use Rattle.sequence.specs.Known.{Known};
 use model::Mode;
 use model::Places;
-use model::Row;
 
 // M5: whether row y reads from the sequence that the writer x heads, the two being mutually-ordered. Few rows are, so their bit
 // is read first.
@@ -42,44 +40,6 @@ pub fn takes_from_at(
     rows::kinds::writes(r) & rows::kinds::reads(q) & b
 }
 
-// ---- program order to and from a barrier
-
-// M5: whether row x, which is q, is program-ordered after the barrier a, which is r, its class in a's semantics.
-fn is_leading(a: usize, x: usize, r: Row, q: Row) -> bool
-    ensures { λ d. ⌜ d ≡ leadRows a x r q ⌝ }
-{
-    (a < x) & (r.agent == q.agent) & rows::kinds::class_in(q, r.classes)
-}
-
-// M5: the same of two rows of a table.
-pub fn leads_at(rows: &[u8], a: usize, x: usize) -> bool
-    requires { ⌜ (a < ROWS) × (x < ROWS) ⌝ }
-    ensures { λ d. ⌜ ((p : List (List ℕ)) (mode : Mode) (n : ℕ) → d ≡ leads (decode (now (rows .entry)) p mode n) a x) ⌝ }
-{
-    let r = rows::bytes::read_row(rows, a as u16);
-    let q = rows::bytes::read_row(rows, x as u16);
-    is_leading(a, x, r, q)
-}
-
-// M5: whether row y, which is q, is program-ordered before the barrier b, which is r, its class in b's semantics.
-fn is_trailing(b: usize, y: usize, r: Row, q: Row) -> bool
-    ensures { λ d. ⌜ d ≡ trailRows b y r q ⌝ }
-{
-    (y < b) & (q.agent == r.agent) & rows::kinds::class_in(q, r.classes)
-}
-
-// M5: the same of two rows of a table.
-pub fn trails_at(rows: &[u8], b: usize, y: usize) -> bool
-    requires { ⌜ (b < ROWS) × (y < ROWS) ⌝ }
-    ensures { λ d. ⌜ ((p : List (List ℕ)) (mode : Mode) (n : ℕ) → d ≡ trails (decode (now (rows .entry)) p mode n) b y) ⌝ }
-{
-    let r = rows::bytes::read_row(rows, b as u16);
-    let q = rows::bytes::read_row(rows, y as u16);
-    is_trailing(b, y, r, q)
-}
-
-// ---- carriers
-
 // M5: whether x carries the release of the barrier a to the atomic b.
 fn carries_out_at(
     rows: &[u8],
@@ -97,7 +57,7 @@ fn carries_out_at(
     if !takes_from_at(rows, p, mode, n, x, b, w) {
         return false;
     }
-    leads_at(rows, a, x)
+    rules::carriers::leads_at(rows, a, x)
 }
 
 // M5: whether some row does.
@@ -138,7 +98,7 @@ fn carries_in_at(
     if !takes_from_at(rows, p, mode, n, a, y, w) {
         return false;
     }
-    trails_at(rows, b, y)
+    rules::carriers::trails_at(rows, b, y)
 }
 
 // M5: whether some row does.
@@ -176,7 +136,7 @@ fn carries_over_at(
     requires { ⌜ (n ≤ ROWS) × (a < n) × (b < n) × (x < n) × (WORK ≤ length (now w)) × Known (decode (now rows) p mode n) n (now w) ⌝ }
     ensures { λ d. ⌜ d ≡ carriesOver (decode (now (rows .entry)) p mode n) a b x ⌝ }
 {
-    if !leads_at(rows, a, x) {
+    if !rules::carriers::leads_at(rows, a, x) {
         return false;
     }
     is_carried_in(rows, p, mode, n, x, b, w)

@@ -7,24 +7,13 @@ ghost use Rattle.bits.specs.Stage.{Holds, Made};
 ghost use Rattle.model.specs.Limits.{ROWS, WORK};
 ghost use Rattle.model.specs.Table.{decode};
 ghost use Rattle.model.specs.Scope.{mutually, follows};
-ghost use Rattle.model.specs.Synchronizes.{continues, ends, sequence};
+ghost use Rattle.model.specs.Synchronizes.{ends, sequence};
 ghost use Rattle.area.specs.Regions.{MUTUAL, MUTUAL-END, SEQUENCE, SEQUENCE-END, GRID};
-ghost use Rattle.sequence.specs.Forms.{endRows};
 use model::Mode;
 use model::Places;
-use model::Row;
+use rules::sequences;
 
 // ---- M3
-
-// M3: whether rows i and j are mutually-ordered.
-pub fn mutual_at(rows: &[u8], p: Places, mode: Mode, n: usize, i: usize, j: usize) -> bool
-    requires { ⌜ (i < ROWS) × (j < ROWS) ⌝ }
-    ensures { λ b. ⌜ b ≡ mutually (decode (now (rows .entry)) p mode n) i j ⌝ }
-{
-    let r = rows::bytes::read_row(rows, i as u16);
-    let q = rows::bytes::read_row(rows, j as u16);
-    !(i == j) & rows::scopes::is_mutual(p, r, q)
-}
 
 // M3 for every two rows.
 pub fn fill_mutual(rows: &[u8], p: Places, mode: Mode, n: usize, w: &mut [u64])
@@ -34,7 +23,7 @@ pub fn fill_mutual(rows: &[u8], p: Places, mode: Mode, n: usize, w: &mut [u64])
     bits::clear(w, area::MUTUAL, area::MUTUAL_END);
     for i in 0..n {
         for j in 0..n {
-            let b = mutual_at(rows, p, mode, n, i, j);
+            let b = sequences::mutual_at(rows, p, mode, n, i, j);
             bits::put_if(w, (area::MUTUAL + i * area::GRID) * 64 + j, b);
         }
     }
@@ -62,24 +51,6 @@ pub fn follows_at(
 
 // ---- M4
 
-// M4: whether r, after the head, continues a sequence. Nothing else says what does.
-pub fn is_continued(r: Row) -> bool
-    ensures { λ b. ⌜ b ≡ continues r ⌝ }
-{
-    rows::kinds::is_rmw(r)
-}
-
-// M4: whether q ends the sequence of the head h no later than r; b says that h and q are mutually-ordered.
-// Ruled out: one that asks whether r continues the sequence; one that lets a follower later than r end it.
-pub fn is_end(counted: bool, b: bool, h: Row, r: Row, q: Row) -> bool
-    ensures { λ d. ⌜ d ≡ endRows counted b h r q ⌝ }
-{
-    b
-        & rows::scopes::is_later_writer(counted, q, h)
-        & !rows::scopes::is_later(counted, q.rank, r.rank)
-        & !is_continued(q)
-}
-
 // M4: whether some row ends the sequence of the head a no later than row x.
 pub fn is_ended(rows: &[u8], p: Places, mode: Mode, n: usize, a: usize, x: usize, w: &[u64]) -> bool
     requires { ⌜ (n ≤ ROWS) × (a < n) × (x < n) × (WORK ≤ length (now w))
@@ -91,7 +62,7 @@ pub fn is_ended(rows: &[u8], p: Places, mode: Mode, n: usize, a: usize, x: usize
     for z in 0..n {
         let b = bits::get(w, (area::MUTUAL + a * area::GRID) * 64 + z);
         let q = rows::bytes::read_row(rows, z as u16);
-        if is_end(mode.counted, b, h, r, q) {
+        if sequences::is_end(mode.counted, b, h, r, q) {
             return true;
         }
     }

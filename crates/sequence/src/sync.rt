@@ -9,10 +9,10 @@ ghost use Rattle.model.specs.Synchronizes.{syncAtomics, syncFromBarrier, syncTo
 ghost use Rattle.area.specs.Regions.{SYNC, SYNC-END, GRID};
 ghost use Rattle.sequence.specs.Known.{Known, MadeSynced};
 use crate::carriers;
-use crate::control;
 use crate::heads;
 use model::Mode;
 use model::Places;
+use rules::control;
 
 // ---- the cases of M5
 

@@ -17,7 +17,7 @@ use Rattle.order.proofs.fill_order.Reads as reads
 use Rattle.order.proofs.fill_order.Lts as lts
 use Rattle.bits.proofs.clear.Reads as clear-reads
 use Rattle.bits.proofs.put_if.Reads as put-if-reads
-use Rattle.moments.proofs.ordered_at.Reads as ordered-at-reads
+use Rattle.rules.proofs.moments.ordered_at.Reads as ordered-at-reads
 
 abbrev Inv-loop2 : tie.InvT-loop2
 Inv-loop2 rows n w₀ m k₀ m-end k-end w k = (k ≤ 3 * n) × (length w ≡ length w₀) × (w ≡ rowFill (programOrder (decode rows [] OFF n) m) w₀ (HAPPENS * 64 + m * (MOMENTS * 64)) k)

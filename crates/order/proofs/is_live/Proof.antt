@@ -3,13 +3,14 @@ use mathlib.Core.Bool.{false}
 use Prim.Native.Nat.{_-_, _≤_}
 use native.Mathlib.Omega.{arith}
 use Rattle.finite.specs.Below.{anyBelow, any-none, any-more, any-in}
-use Rattle.order.specs.Cases.{holdsAt, live-first, live-other}
+use Rattle.rules.specs.Cases.{holdsAt}
+use Rattle.order.specs.Cases.{live-first, live-other}
 use borrow.Author.Needs.{needs}
 use Rattle.order.proofs.is_live.Statement.{statement}
 use Rattle.order.proofs.is_live.Tie as tie
 use Rattle.order.proofs.is_live.Reads as reads
 use Rattle.order.proofs.is_live.Lts as lts
-use Rattle.order.proofs.steps.holds_at.Reads as holds-at-reads
+use Rattle.rules.proofs.cases.holds_at.Reads as holds-at-reads
 
 abbrev Inv-loop : tie.InvT-loop
 Inv-loop rows n s i₀ i = (i ≤ n) × (anyBelow i (holdsAt rows s) ≡ false) × (s ≡ 1 → ⊥)

@@ -5,7 +5,7 @@ use Rattle.reader.proofs.is_accepted.Statement.{statement}
 use Rattle.reader.proofs.is_accepted.Tie as tie
 use Rattle.reader.proofs.is_accepted.Reads as reads
 use Rattle.reader.proofs.is_accepted.Lts as lts
-use Rattle.moments.proofs.ordered_at.Reads as ordered-at-reads
+use Rattle.rules.proofs.moments.ordered_at.Reads as ordered-at-reads
 use Rattle.reader.proofs.is_chain.Reads as is-chain-reads
 
 -- src/lib.rt:80:23

@@ -5,7 +5,7 @@ use Rattle.reader.proofs.is_there.Statement.{statement}
 use Rattle.reader.proofs.is_there.Tie as tie
 use Rattle.reader.proofs.is_there.Reads as reads
 use Rattle.reader.proofs.is_there.Lts as lts
-use Rattle.moments.proofs.moment_in.Reads as moment-in-reads
+use Rattle.rules.proofs.moments.moment_in.Reads as moment-in-reads
 use Rattle.rows.proofs.bytes.read_row.Reads as read-row-reads
 
 -- src/lib.rt:28:27

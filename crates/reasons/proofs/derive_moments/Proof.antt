@@ -9,7 +9,7 @@ use Rattle.reasons.proofs.derive_moments.Statement.{statement}
 use Rattle.reasons.proofs.derive_moments.Tie as tie
 use Rattle.reasons.proofs.derive_moments.Reads as reads
 use Rattle.reasons.proofs.derive_moments.Lts as lts
-use Rattle.moments.proofs.ordered_at.Reads as ordered-at-reads
+use Rattle.rules.proofs.moments.ordered_at.Reads as ordered-at-reads
 use Rattle.reasons.proofs.chains.find_set.Reads as find-set-reads
 use Rattle.reasons.proofs.chains.write_steps.Reads as write-steps-reads
 use Rattle.reasons.proofs.layers.layer_of.Reads as layer-of-reads

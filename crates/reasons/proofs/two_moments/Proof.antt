@@ -6,7 +6,7 @@ use Rattle.reasons.proofs.two_moments.Statement.{statement}
 use Rattle.reasons.proofs.two_moments.Tie as tie
 use Rattle.reasons.proofs.two_moments.Reads as reads
 use Rattle.reasons.proofs.two_moments.Lts as lts
-use Rattle.moments.proofs.moment_in.Reads as moment-in-reads
+use Rattle.rules.proofs.moments.moment_in.Reads as moment-in-reads
 use Rattle.rows.proofs.bytes.read_row.Reads as read-row-reads
 
 -- src/lib.rt:38:9

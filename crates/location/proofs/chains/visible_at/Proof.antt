@@ -6,8 +6,8 @@ use Rattle.location.proofs.chains.visible_at.Tie as tie
 use Rattle.location.proofs.chains.visible_at.Reads as reads
 use Rattle.location.proofs.chains.visible_at.Lts as lts
 use Rattle.location.proofs.pairs.covers_of.Reads as covers-of-reads
-use Rattle.moments.proofs.is_ordered.Reads as is-ordered-reads
-use Rattle.moments.proofs.visibility_of.Reads as visibility-of-reads
+use Rattle.rules.proofs.moments.is_ordered.Reads as is-ordered-reads
+use Rattle.rules.proofs.moments.visibility_of.Reads as visibility-of-reads
 
 -- src/chains.rt:72:31
 cast-visibility-of : tie.Need-cast-visibility-of

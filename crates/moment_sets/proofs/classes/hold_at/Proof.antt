@@ -6,7 +6,7 @@ use Rattle.moment_sets.proofs.classes.hold_at.Statement.{statement}
 use Rattle.moment_sets.proofs.classes.hold_at.Tie as tie
 use Rattle.moment_sets.proofs.classes.hold_at.Reads as reads
 use Rattle.moment_sets.proofs.classes.hold_at.Lts as lts
-use Rattle.order.proofs.steps.holding_of.Reads as holding-of-reads
+use Rattle.rules.proofs.cases.holding_of.Reads as holding-of-reads
 use Rattle.rows.proofs.bytes.read_row.Reads as read-row-reads
 use Rattle.rows.proofs.bytes.read_classes.Reads as read-classes-reads
 use Rattle.rows.proofs.kinds.holds.Reads as holds-reads

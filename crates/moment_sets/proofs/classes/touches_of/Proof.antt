@@ -6,7 +6,7 @@ use Rattle.moment_sets.proofs.classes.touches_of.Tie as tie
 use Rattle.moment_sets.proofs.classes.touches_of.Reads as reads
 use Rattle.moment_sets.proofs.classes.touches_of.Lts as lts
 use Rattle.moment_sets.proofs.classes.pick.Reads as pick-reads
-use Rattle.moments.proofs.classes_of.Reads as classes-of-reads
+use Rattle.rules.proofs.moments.classes_of.Reads as classes-of-reads
 use Rattle.rows.proofs.kinds.class_in.Reads as class-in-reads
 use Rattle.rows.proofs.kinds.is_access.Reads as is-access-reads
 use Rattle.rows.proofs.kinds.meets.Reads as meets-reads

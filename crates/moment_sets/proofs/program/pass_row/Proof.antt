@@ -8,7 +8,7 @@ use Rattle.moment_sets.proofs.program.pass_row.Statement.{statement}
 use Rattle.moment_sets.proofs.program.pass_row.Tie as tie
 use Rattle.moment_sets.proofs.program.pass_row.Reads as reads
 use Rattle.moment_sets.proofs.program.pass_row.Lts as lts
-use Rattle.moments.proofs.moment_of.Reads as moment-of-reads
+use Rattle.rules.proofs.moments.moment_of.Reads as moment-of-reads
 use Rattle.moment_sets.proofs.program.pass_moment.Reads as pass-moment-reads
 use Rattle.rows.proofs.bytes.read_row.Reads as read-row-reads
 

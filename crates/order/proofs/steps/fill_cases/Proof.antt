@@ -11,7 +11,7 @@ use Rattle.order.proofs.steps.fill_cases.Reads as reads
 use Rattle.order.proofs.steps.fill_cases.Lts as lts
 use Rattle.bits.proofs.clear.Reads as clear-reads
 use Rattle.order.proofs.steps.fill_at.Reads as fill-at-reads
-use Rattle.order.proofs.steps.holds_at.Reads as holds-at-reads
+use Rattle.rules.proofs.cases.holds_at.Reads as holds-at-reads
 
 abbrev Inv-loop : tie.InvT-loop
 Inv-loop rows n s w₀ j₀ w j = (j ≤ n) × (length w ≡ length w₀) × RowsMade rows n s j w₀ w

@@ -5,7 +5,7 @@ use Rattle.order.proofs.steps.step_of.Statement.{statement}
 use Rattle.order.proofs.steps.step_of.Tie as tie
 use Rattle.order.proofs.steps.step_of.Reads as reads
 use Rattle.order.proofs.steps.step_of.Lts as lts
-use Rattle.moments.proofs.ordered_at.Reads as ordered-at-reads
+use Rattle.rules.proofs.moments.ordered_at.Reads as ordered-at-reads
 use Rattle.order.proofs.steps.is_step.Reads as is-step-reads
 use Rattle.rows.proofs.bytes.read_row.Reads as read-row-reads
 

@@ -10,8 +10,8 @@ use Rattle.quick_location.proofs.elements.is_first.Reads as reads
 use Rattle.quick_location.proofs.elements.is_first.Lts as lts
 use Rattle.location.proofs.chains.available_part.Reads as available-part-reads
 use Rattle.location.proofs.chains.may_avail.Reads as may-avail-reads
-use Rattle.moments.proofs.availability_of.Reads as availability-of-reads
-use Rattle.moments.proofs.is_ordered.Reads as is-ordered-reads
+use Rattle.rules.proofs.moments.availability_of.Reads as availability-of-reads
+use Rattle.rules.proofs.moments.is_ordered.Reads as is-ordered-reads
 use Rattle.rows.proofs.bytes.read_row.Reads as read-row-reads
 
 -- src/elements.rt:257:9

@@ -13,8 +13,8 @@ use Rattle.quick_location.proofs.elements.last_bytes.Lts as lts
 use Rattle.location.proofs.chains.available_part.Reads as available-part-reads
 use Rattle.location.proofs.chains.may_show.Reads as may-show-reads
 use Rattle.location.proofs.chains.visible_part.Reads as visible-part-reads
-use Rattle.moments.proofs.is_ordered.Reads as is-ordered-reads
-use Rattle.moments.proofs.visibility_of.Reads as visibility-of-reads
+use Rattle.rules.proofs.moments.is_ordered.Reads as is-ordered-reads
+use Rattle.rules.proofs.moments.visibility_of.Reads as visibility-of-reads
 use Rattle.quick_location.proofs.elements.is_linked.Reads as is-linked-reads
 use Rattle.quick_location.proofs.masks.covered.Reads as covered-reads
 use Rattle.rows.proofs.bytes.read_row.Reads as read-row-reads

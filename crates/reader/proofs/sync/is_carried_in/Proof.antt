@@ -13,7 +13,7 @@ use Rattle.reader.proofs.sync.is_carried_in.Tie as tie
 use Rattle.reader.proofs.sync.is_carried_in.Reads as reads
 use Rattle.reader.proofs.sync.is_carried_in.Lts as lts
 use Rattle.reader.proofs.sync.takes_from.Reads as takes-from-reads
-use Rattle.sequence.proofs.carriers.trails_at.Reads as trails-at-reads
+use Rattle.rules.proofs.carriers.trails_at.Reads as trails-at-reads
 
 abbrev Inv-loop : tie.InvT-loop
 Inv-loop rows p mode n a b y₀ y = (y ≤ n) × (anyBelow y (carriesIn (decode rows p mode n) a b) ≡ false)

@@ -13,7 +13,7 @@ use Rattle.reader.proofs.sync.is_carried_out.Tie as tie
 use Rattle.reader.proofs.sync.is_carried_out.Reads as reads
 use Rattle.reader.proofs.sync.is_carried_out.Lts as lts
 use Rattle.reader.proofs.sync.takes_from.Reads as takes-from-reads
-use Rattle.sequence.proofs.carriers.leads_at.Reads as leads-at-reads
+use Rattle.rules.proofs.carriers.leads_at.Reads as leads-at-reads
 
 abbrev Inv-loop : tie.InvT-loop
 Inv-loop rows p mode n a b x₀ x = (x ≤ n) × (anyBelow x (carriesOut (decode rows p mode n) a b) ≡ false)

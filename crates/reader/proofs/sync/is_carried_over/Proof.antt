@@ -13,7 +13,7 @@ use Rattle.reader.proofs.sync.is_carried_over.Tie as tie
 use Rattle.reader.proofs.sync.is_carried_over.Reads as reads
 use Rattle.reader.proofs.sync.is_carried_over.Lts as lts
 use Rattle.reader.proofs.sync.is_carried_in.Reads as is-carried-in-reads
-use Rattle.sequence.proofs.carriers.leads_at.Reads as leads-at-reads
+use Rattle.rules.proofs.carriers.leads_at.Reads as leads-at-reads
 
 abbrev Inv-loop : tie.InvT-loop
 Inv-loop rows p mode n a b x₀ x = (x ≤ n) × (anyBelow x (carriesOver (decode rows p mode n) a b) ≡ false)

@@ -5,15 +5,15 @@ use native.Mathlib.Omega.{arith}
 use Rattle.finite.specs.Below.{anyBelow, any-none, any-more, any-in}
 use Rattle.model.specs.Table.{decode}
 use Rattle.model.specs.Synchronizes.{ends}
-use Rattle.sequence.specs.Forms.{ends-told}
+use Rattle.rules.specs.Forms.{ends-told}
 use borrow.Author.Needs.{needs}
 use Rattle.reader.proofs.sync.is_ended.Statement.{statement}
 use Rattle.reader.proofs.sync.is_ended.Tie as tie
 use Rattle.reader.proofs.sync.is_ended.Reads as reads
 use Rattle.reader.proofs.sync.is_ended.Lts as lts
 use Rattle.rows.proofs.bytes.read_row.Reads as read-row-reads
-use Rattle.sequence.proofs.heads.is_end.Reads as is-end-reads
-use Rattle.sequence.proofs.heads.mutual_at.Reads as mutual-at-reads
+use Rattle.rules.proofs.sequences.is_end.Reads as is-end-reads
+use Rattle.rules.proofs.sequences.mutual_at.Reads as mutual-at-reads
 
 abbrev Inv-loop : tie.InvT-loop
 Inv-loop rows p mode n a x h r z₀ z = (z ≤ n) × (anyBelow z (ends (decode rows p mode n) a x) ≡ false)

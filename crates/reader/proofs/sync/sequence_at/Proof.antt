@@ -10,7 +10,7 @@ use Rattle.reader.proofs.sync.sequence_at.Lts as lts
 use Rattle.reader.proofs.sync.is_ended.Reads as is-ended-reads
 use Rattle.rows.proofs.bytes.read_row.Reads as read-row-reads
 use Rattle.rows.proofs.scopes.is_later_writer.Reads as is-later-writer-reads
-use Rattle.sequence.proofs.heads.mutual_at.Reads as mutual-at-reads
+use Rattle.rules.proofs.sequences.mutual_at.Reads as mutual-at-reads
 
 -- src/sync.rt:37:35
 cast-read-row : tie.Need-cast-read-row

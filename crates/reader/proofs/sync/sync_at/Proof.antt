@@ -1,6 +1,6 @@
 use mathlib.Core.Path.{refl}
 use Rattle.finite.specs.Logic.{_and_, _or_}
-use Rattle.sequence.specs.Forms.{sync-off}
+use Rattle.rules.specs.Forms.{sync-off}
 use Rattle.reader.specs.Syncing.{sync-atomics, sync-from, sync-to, sync-over}
 use borrow.Author.Needs.{needs}
 use Rattle.reader.proofs.sync.sync_at.Statement.{statement}
@@ -17,7 +17,7 @@ use Rattle.rows.proofs.kinds.is_atomic.Reads as is-atomic-reads
 use Rattle.rows.proofs.kinds.is_barrier.Reads as is-barrier-reads
 use Rattle.rows.proofs.kinds.releases.Reads as releases-reads
 use Rattle.rows.proofs.scopes.together.Reads as together-reads
-use Rattle.sequence.proofs.control.is_passed.Reads as is-passed-reads
+use Rattle.rules.proofs.control.is_passed.Reads as is-passed-reads
 
 -- src/sync.rt:105:35
 cast-read-row : tie.Need-cast-read-row

@@ -1,7 +1,7 @@
 use mathlib.Core.Path.{sym, _∙_}
 use borrow.Author.Tests.{not-true, not-false}
 use Rattle.finite.specs.Logic.{_and_}
-use Rattle.sequence.specs.Forms.{takes-apart, takes-none, takes-on}
+use Rattle.rules.specs.Forms.{takes-apart, takes-none, takes-on}
 use borrow.Author.Needs.{needs}
 use Rattle.reader.proofs.sync.takes_from.Statement.{statement}
 use Rattle.reader.proofs.sync.takes_from.Tie as tie
@@ -12,7 +12,7 @@ use Rattle.rows.proofs.bytes.atomic_source.Reads as atomic-source-reads
 use Rattle.rows.proofs.bytes.read_row.Reads as read-row-reads
 use Rattle.rows.proofs.kinds.reads.Reads as reads-reads
 use Rattle.rows.proofs.kinds.writes.Reads as writes-reads
-use Rattle.sequence.proofs.heads.mutual_at.Reads as mutual-at-reads
+use Rattle.rules.proofs.sequences.mutual_at.Reads as mutual-at-reads
 
 -- src/sync.rt:48:9
 mutual-at-requires : tie.Need-mutual-at-requires

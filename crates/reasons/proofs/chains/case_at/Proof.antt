@@ -5,7 +5,7 @@ use Rattle.reasons.proofs.chains.case_at.Statement.{statement}
 use Rattle.reasons.proofs.chains.case_at.Tie as tie
 use Rattle.reasons.proofs.chains.case_at.Reads as reads
 use Rattle.reasons.proofs.chains.case_at.Lts as lts
-use Rattle.moments.proofs.ordered_at.Reads as ordered-at-reads
+use Rattle.rules.proofs.moments.ordered_at.Reads as ordered-at-reads
 use Rattle.reasons.proofs.chains.case_of.Reads as case-of-reads
 use Rattle.rows.proofs.bytes.read_row.Reads as read-row-reads
 

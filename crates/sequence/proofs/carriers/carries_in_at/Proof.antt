@@ -2,14 +2,14 @@ use mathlib.Core.Path.{sym, _∙_}
 use borrow.Author.Tests.{not-true, not-false}
 use Rattle.finite.specs.Logic.{and-false-right}
 use Rattle.model.specs.Synchronizes.{carriesIn}
-use Rattle.sequence.specs.Forms.{and-on-right}
+use Rattle.rules.specs.Forms.{and-on-right}
 use borrow.Author.Needs.{needs}
 use Rattle.sequence.proofs.carriers.carries_in_at.Statement.{statement}
 use Rattle.sequence.proofs.carriers.carries_in_at.Tie as tie
 use Rattle.sequence.proofs.carriers.carries_in_at.Reads as reads
 use Rattle.sequence.proofs.carriers.carries_in_at.Lts as lts
 use Rattle.sequence.proofs.carriers.takes_from_at.Reads as takes-from-at-reads
-use Rattle.sequence.proofs.carriers.trails_at.Reads as trails-at-reads
+use Rattle.rules.proofs.carriers.trails_at.Reads as trails-at-reads
 
 -- src/carriers.rt:102:9
 takes-from-at-requires : tie.Need-takes-from-at-requires

@@ -2,13 +2,13 @@ use mathlib.Core.Path.{sym, _∙_}
 use borrow.Author.Tests.{not-true, not-false}
 use Rattle.finite.specs.Logic.{and-false-right}
 use Rattle.model.specs.Synchronizes.{carriesOut}
-use Rattle.sequence.specs.Forms.{and-on-right}
+use Rattle.rules.specs.Forms.{and-on-right}
 use borrow.Author.Needs.{needs}
 use Rattle.sequence.proofs.carriers.carries_out_at.Statement.{statement}
 use Rattle.sequence.proofs.carriers.carries_out_at.Tie as tie
 use Rattle.sequence.proofs.carriers.carries_out_at.Reads as reads
 use Rattle.sequence.proofs.carriers.carries_out_at.Lts as lts
-use Rattle.sequence.proofs.carriers.leads_at.Reads as leads-at-reads
+use Rattle.rules.proofs.carriers.leads_at.Reads as leads-at-reads
 use Rattle.sequence.proofs.carriers.takes_from_at.Reads as takes-from-at-reads
 
 -- src/carriers.rt:78:9

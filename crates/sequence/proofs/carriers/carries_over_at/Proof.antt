@@ -3,14 +3,14 @@ use borrow.Author.Tests.{not-true, not-false}
 use Rattle.finite.specs.Logic.{and-false-left}
 use Rattle.model.specs.Synchronizes.{carriesOver}
 use Rattle.model.specs.Table.{decode}
-use Rattle.sequence.specs.Forms.{and-on}
+use Rattle.rules.specs.Forms.{and-on}
 use borrow.Author.Needs.{needs}
 use Rattle.sequence.proofs.carriers.carries_over_at.Statement.{statement}
 use Rattle.sequence.proofs.carriers.carries_over_at.Tie as tie
 use Rattle.sequence.proofs.carriers.carries_over_at.Reads as reads
 use Rattle.sequence.proofs.carriers.carries_over_at.Lts as lts
 use Rattle.sequence.proofs.carriers.is_carried_in.Reads as is-carried-in-reads
-use Rattle.sequence.proofs.carriers.leads_at.Reads as leads-at-reads
+use Rattle.rules.proofs.carriers.leads_at.Reads as leads-at-reads
 
 -- src/carriers.rt:134:9
 leads-at-requires : tie.Need-leads-at-requires

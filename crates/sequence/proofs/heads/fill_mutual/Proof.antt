@@ -14,7 +14,7 @@ use Rattle.sequence.proofs.heads.fill_mutual.Reads as reads
 use Rattle.sequence.proofs.heads.fill_mutual.Lts as lts
 use Rattle.bits.proofs.clear.Reads as clear-reads
 use Rattle.bits.proofs.put_if.Reads as put-if-reads
-use Rattle.sequence.proofs.heads.mutual_at.Reads as mutual-at-reads
+use Rattle.rules.proofs.sequences.mutual_at.Reads as mutual-at-reads
 
 abbrev Inv-loop2 : tie.InvT-loop2
 Inv-loop2 rows p mode n w₀ i j₀ w j = (j ≤ n) × (length w ≡ length w₀) × (w ≡ rowFill (mutually (decode rows p mode n) i) w₀ (MUTUAL * 64 + i * (GRID * 64)) j)

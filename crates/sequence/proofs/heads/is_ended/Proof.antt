@@ -1,4 +1,4 @@
-use Rattle.sequence.specs.Forms.{ends-told}
+use Rattle.rules.specs.Forms.{ends-told}
 use mathlib.Core.Path.{_≡_, sym, _∙_}
 use mathlib.Core.Bool.{false}
 use mathlib.Core.List.{List}
@@ -17,7 +17,7 @@ use Rattle.sequence.proofs.heads.is_ended.Reads as reads
 use Rattle.sequence.proofs.heads.is_ended.Lts as lts
 use Rattle.bits.proofs.get.Reads as get-reads
 use Rattle.rows.proofs.bytes.read_row.Reads as read-row-reads
-use Rattle.sequence.proofs.heads.is_end.Reads as is-end-reads
+use Rattle.rules.proofs.sequences.is_end.Reads as is-end-reads
 
 abbrev Inv-loop : tie.InvT-loop
 Inv-loop rows mode n a x w h r z₀ z = (z ≤ n) × ((p : List (List ℕ)) → Holds MUTUAL GRID n (mutually (decode rows p mode n)) w → anyBelow z (ends (decode rows p mode n) a x) ≡ false)

@@ -1,5 +1,5 @@
 use Rattle.finite.specs.Logic.{_and_, _or_}
-use Rattle.sequence.specs.Forms.{sync-off, sync-on}
+use Rattle.rules.specs.Forms.{sync-off, sync-on}
 use borrow.Author.Needs.{needs}
 use Rattle.sequence.proofs.sync.sync_at.Statement.{statement}
 use Rattle.sequence.proofs.sync.sync_at.Tie as tie

@@ -1,5 +1,5 @@
 use Rattle.finite.specs.Logic.{_and_}
-use Rattle.sequence.specs.Forms.{over-off, over-on}
+use Rattle.rules.specs.Forms.{over-off, over-on}
 use borrow.Author.Needs.{needs}
 use Rattle.sequence.proofs.sync.sync_barriers.Statement.{statement}
 use Rattle.sequence.proofs.sync.sync_barriers.Tie as tie

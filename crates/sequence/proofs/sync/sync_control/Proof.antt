@@ -1,5 +1,5 @@
 use Rattle.finite.specs.Logic.{_and_}
-use Rattle.sequence.specs.Forms.{control-off, control-on}
+use Rattle.rules.specs.Forms.{control-off, control-on}
 use borrow.Author.Needs.{needs}
 use Rattle.sequence.proofs.sync.sync_control.Statement.{statement}
 use Rattle.sequence.proofs.sync.sync_control.Tie as tie
@@ -8,7 +8,7 @@ use Rattle.sequence.proofs.sync.sync_control.Lts as lts
 use Rattle.rows.proofs.bytes.read_row.Reads as read-row-reads
 use Rattle.rows.proofs.kinds.is_barrier.Reads as is-barrier-reads
 use Rattle.rows.proofs.scopes.together.Reads as together-reads
-use Rattle.sequence.proofs.control.is_passed.Reads as is-passed-reads
+use Rattle.rules.proofs.control.is_passed.Reads as is-passed-reads
 
 -- src/sync.rt:60:41
 cast-read-row : tie.Need-cast-read-row

@@ -1,5 +1,5 @@
 use Rattle.finite.specs.Logic.{_and_}
-use Rattle.sequence.specs.Forms.{from-off, from-on}
+use Rattle.rules.specs.Forms.{from-off, from-on}
 use borrow.Author.Needs.{needs}
 use Rattle.sequence.proofs.sync.sync_from_barrier.Statement.{statement}
 use Rattle.sequence.proofs.sync.sync_from_barrier.Tie as tie

@@ -1,5 +1,5 @@
 use Rattle.finite.specs.Logic.{_and_}
-use Rattle.sequence.specs.Forms.{to-off, to-on}
+use Rattle.rules.specs.Forms.{to-off, to-on}
 use borrow.Author.Needs.{needs}
 use Rattle.sequence.proofs.sync.sync_to_barrier.Statement.{statement}
 use Rattle.sequence.proofs.sync.sync_to_barrier.Tie as tie

@@ -1,0 +1,44 @@
+// M5: program order to and from a barrier, of the rows that carry a release to an acquire.
+ghost use mathlib.Core.Path.{_≡_};
+ghost use mathlib.Core.List.{List};
+ghost use Prim.Native.Nat.{ℕ, _<_};
+ghost use Rattle.model.specs.declared.Mode.{Mode};
+ghost use Rattle.model.specs.Limits.{ROWS};
+ghost use Rattle.model.specs.Table.{decode};
+ghost use Rattle.model.specs.Synchronizes.{leads, trails};
+ghost use Rattle.rules.specs.Forms.{leadRows, trailRows};
+use model::Row;
+
+// M5: whether row x, which is q, is program-ordered after the barrier a, which is r, its class in a's semantics.
+fn is_leading(a: usize, x: usize, r: Row, q: Row) -> bool
+    ensures { λ d. ⌜ d ≡ leadRows a x r q ⌝ }
+{
+    (a < x) & (r.agent == q.agent) & rows::kinds::class_in(q, r.classes)
+}
+
+// M5: the same of two rows of a table.
+pub fn leads_at(rows: &[u8], a: usize, x: usize) -> bool
+    requires { ⌜ (a < ROWS) × (x < ROWS) ⌝ }
+    ensures { λ d. ⌜ ((p : List (List ℕ)) (mode : Mode) (n : ℕ) → d ≡ leads (decode (now (rows .entry)) p mode n) a x) ⌝ }
+{
+    let r = rows::bytes::read_row(rows, a as u16);
+    let q = rows::bytes::read_row(rows, x as u16);
+    is_leading(a, x, r, q)
+}
+
+// M5: whether row y, which is q, is program-ordered before the barrier b, which is r, its class in b's semantics.
+fn is_trailing(b: usize, y: usize, r: Row, q: Row) -> bool
+    ensures { λ d. ⌜ d ≡ trailRows b y r q ⌝ }
+{
+    (y < b) & (q.agent == r.agent) & rows::kinds::class_in(q, r.classes)
+}
+
+// M5: the same of two rows of a table.
+pub fn trails_at(rows: &[u8], b: usize, y: usize) -> bool
+    requires { ⌜ (b < ROWS) × (y < ROWS) ⌝ }
+    ensures { λ d. ⌜ ((p : List (List ℕ)) (mode : Mode) (n : ℕ) → d ≡ trails (decode (now (rows .entry)) p mode n) b y) ⌝ }
+{
+    let r = rows::bytes::read_row(rows, b as u16);
+    let q = rows::bytes::read_row(rows, y as u16);
+    is_trailing(b, y, r, q)
+}

@@ -1,0 +1,60 @@
+// M6: the direct cases of inter-thread order for a class set, on rows that are decoded already.
+ghost use mathlib.Core.Path.{_≡_};
+ghost use mathlib.Core.Bool.{cond};
+ghost use Prim.Native.Nat.{_<_};
+ghost use Rattle.model.specs.Limits.{ROWS};
+ghost use Rattle.model.specs.Happens.{holdingOf, concernsOf};
+ghost use Rattle.rules.specs.Cases.{holdsAt, caseRows};
+use crate::moments;
+use model::Row;
+
+// M6: the class sets are the numbers 1 to 15.
+pub const CLASS_SETS: u8 = 15;
+
+fn pick(b: bool, x: bool, y: bool) -> bool
+    ensures { λ r. ⌜ r ≡ cond b x y ⌝ }
+{
+    if b { x } else { y }
+}
+
+// M6: whether moment k is the atomic or barrier r itself, holding all of s.
+pub fn holding_of(s: u8, r: Row, k: u8) -> bool
+    ensures { λ b. ⌜ b ≡ holdingOf s r k ⌝ }
+{
+    (k == moments::AT) & !rows::kinds::is_plain(r) & rows::kinds::holds(r.classes, s)
+}
+
+// M6: whether moment k of r accesses a class in s, or is an atomic or barrier holding all of s.
+pub fn concerns_of(s: u8, r: Row, k: u8) -> bool
+    ensures { λ b. ⌜ b ≡ concernsOf s r k ⌝ }
+{
+    let access = rows::kinds::is_access(r) & rows::kinds::class_in(r, s);
+    let other = rows::kinds::meets(moments::classes_of(r), s);
+    pick(k == moments::AT, access, other) | holding_of(s, r, k)
+}
+
+// Whether row i holds all of s.
+pub fn holds_at(rows: &[u8], s: u8, i: usize) -> bool
+    requires { ⌜ i < ROWS ⌝ }
+    ensures { λ b. ⌜ b ≡ holdsAt (now (rows .entry)) s i ⌝ }
+{
+    rows::kinds::holds(rows::bytes::read_classes(rows, i as u16), s)
+}
+
+// M6: whether the direct case of this number, of the three that go by rows, leads from the moment `from` of r to the moment `to` of q;
+// b says that r synchronizes-with q, o that the one moment is program-ordered before the other.
+// Ruled out: one that asks both ends of cases 2 and 3 to hold all of s; one that lets an acquire end case 2.
+pub fn is_case(case: u16, s: u8, from: u8, to: u8, r: Row, q: Row, b: bool, o: bool) -> bool
+    ensures { λ d. ⌜ d ≡ caseRows case s from to r q b o ⌝ }
+{
+    if case == 1 {
+        return holding_of(s, r, from) & holding_of(s, q, to) & b;
+    }
+    if case == 2 {
+        return holding_of(s, q, to) & rows::kinds::releases(q) & concerns_of(s, r, from) & o;
+    }
+    if case == 3 {
+        return holding_of(s, r, from) & rows::kinds::acquires(r) & concerns_of(s, q, to) & o;
+    }
+    false
+}

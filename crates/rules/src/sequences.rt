@@ -1,0 +1,39 @@
+// M3 and M4: mutually-ordered rows, and the row that ends a release sequence.
+ghost use mathlib.Core.Path.{_≡_};
+ghost use Prim.Native.Nat.{_<_};
+ghost use Rattle.model.specs.Limits.{ROWS};
+ghost use Rattle.model.specs.Table.{decode};
+ghost use Rattle.model.specs.Scope.{mutually};
+ghost use Rattle.model.specs.Synchronizes.{continues};
+ghost use Rattle.rules.specs.Forms.{endRows};
+use model::Mode;
+use model::Places;
+use model::Row;
+
+// M3: whether rows i and j are mutually-ordered.
+pub fn mutual_at(rows: &[u8], p: Places, mode: Mode, n: usize, i: usize, j: usize) -> bool
+    requires { ⌜ (i < ROWS) × (j < ROWS) ⌝ }
+    ensures { λ b. ⌜ b ≡ mutually (decode (now (rows .entry)) p mode n) i j ⌝ }
+{
+    let r = rows::bytes::read_row(rows, i as u16);
+    let q = rows::bytes::read_row(rows, j as u16);
+    !(i == j) & rows::scopes::is_mutual(p, r, q)
+}
+
+// M4: whether r, after the head, continues a sequence. Nothing else says what does.
+pub fn is_continued(r: Row) -> bool
+    ensures { λ b. ⌜ b ≡ continues r ⌝ }
+{
+    rows::kinds::is_rmw(r)
+}
+
+// M4: whether q ends the sequence of the head h no later than r; b says that h and q are mutually-ordered.
+// Ruled out: one that asks whether r continues the sequence; one that lets a follower later than r end it.
+pub fn is_end(counted: bool, b: bool, h: Row, r: Row, q: Row) -> bool
+    ensures { λ d. ⌜ d ≡ endRows counted b h r q ⌝ }
+{
+    b
+        & rows::scopes::is_later_writer(counted, q, h)
+        & !rows::scopes::is_later(counted, q.rank, r.rank)
+        & !is_continued(q)
+}

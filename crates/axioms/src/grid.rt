@@ -54,7 +54,7 @@ fn order_row(rows: &[u8], p: Places, mode: Mode, n: usize, x: usize, w: &mut [u6
             continue;
         }
         let b = edges::before_some(rows, p, mode, n, x, y, w);
-        bits::put_if(w, (area::EDGE + x * area::GRID) * 64 + y, b);
+        area::grid::put_if(w, area::EDGE, x, y, b);
         y += 1;
     }
 }
@@ -94,7 +94,7 @@ fn lacks_after(
     requires { ⌜ (x < n) × (s < n) × (y < n) × (r ≡ rowOf (now rows) s) × Known (decode (now rows) p mode n) n (now w) ⌝ }
     ensures { λ d. ⌜ d ≡ (not (bit (now (w .entry)) (edgeBit x y)) and after (decode (now (rows .entry)) p mode n) x s y) ⌝ }
 {
-    if bits::get(w, (area::EDGE + x * area::GRID) * 64 + y) {
+    if area::grid::get(w, area::EDGE, x, y) {
         return false;
     }
     !(x == y) & follows_of(rows, p, mode, n, s, r, y, w)
@@ -113,7 +113,7 @@ fn after_row(rows: &[u8], p: Places, mode: Mode, n: usize, x: usize, s: usize, w
     let mut y = 0;
     while y < n {
         let b = lacks_after(rows, p, mode, n, x, s, r, y, w);
-        bits::put_if(w, (area::EDGE + x * area::GRID) * 64 + y, b);
+        area::grid::put_if(w, area::EDGE, x, y, b);
         y = next_in(w, at, y + 1, n);
     }
 }
@@ -158,7 +158,7 @@ fn from_any(
 {
     for y in 0..n {
         let b = from_reads_of(rows, p, mode, n, src, x, r, y);
-        bits::put_if(w, (area::EDGE + x * area::GRID) * 64 + y, b);
+        area::grid::put_if(w, area::EDGE, x, y, b);
     }
 }
 
@@ -200,7 +200,7 @@ fn add_source(rows: &[u8], p: Places, mode: Mode, n: usize, src: &[u16], y: usiz
         return;
     }
     let b = kinds::reads(bytes::read_row(rows, y as u16));
-    bits::put_if(w, (area::EDGE + x * area::GRID) * 64 + y, b);
+    area::grid::put_if(w, area::EDGE, x, y, b);
 }
 
 // Edge 3: from the source of each reader.

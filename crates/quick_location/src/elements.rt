@@ -46,7 +46,7 @@ fn linked_with(
         × (r ≡ rowOf (now rows) x) × (q ≡ rowOf (now rows) y) × Reaching (decode (now rows) p mode n) n (now w) × (a < n) × (v < n) × (c < n) × (mode .chains ≡ true) ⌝ }
     ensures { λ d. ⌜ d ≡ linkedWith (decode (now (rows .entry)) p mode n) x y a v c ⌝ }
 {
-    if !bits::get(w, (area::REACH_OUT + a * area::GRID) * 64 + c) {
+    if !area::grid::get(w, area::REACH_OUT, a, c) {
         return false;
     }
     let s = bytes::read_row(rows, c as u16);
@@ -130,7 +130,7 @@ fn met_with(
         × (r ≡ rowOf (now rows) x) × (q ≡ rowOf (now rows) y) × Reaching (decode (now rows) p mode n) n (now w) × (a < n) × (c < n) × (mode .chains ≡ true) ⌝ }
     ensures { λ d. ⌜ d ≡ metWith (decode (now (rows .entry)) p mode n) x y a c ⌝ }
 {
-    if !bits::get(w, (area::REACH_OUT + a * area::GRID) * 64 + c) {
+    if !area::grid::get(w, area::REACH_OUT, a, c) {
         return false;
     }
     let s = bytes::read_row(rows, c as u16);

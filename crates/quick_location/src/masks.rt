@@ -68,10 +68,6 @@ pub fn put_bytes(x: usize, y: usize, m: u64, w: &mut [u64])
     ensures { λ _. ⌜ now (w .exit) ≡ rowFill (bitOf m) (now (w .entry)) (LOCATION * 64 + x * PAIRS + y * PAIR) PAIR ⌝ }
 {
     for k in 0..area::PAIR {
-        bits::put_if(
-            w,
-            area::LOCATION * 64 + x * area::PAIRS + y * area::PAIR + k,
-            (m >> k) % 2 == 1,
-        );
+        area::pairs::put_if(w, x, y, k, (m >> k) % 2 == 1);
     }
 }

@@ -84,7 +84,7 @@ fn fill_from(rows: &[u8], p: Places, mode: Mode, n: usize, a: usize, w: &mut [u6
     }
     for c in 0..n {
         let b = broadens_at(rows, p, mode, n, a, s, c, w);
-        bits::put_if(w, (area::REACH_OUT + a * area::GRID) * 64 + c, b);
+        area::grid::put_if(w, area::REACH_OUT, a, c, b);
     }
 }
 
@@ -100,7 +100,7 @@ fn fill_to(rows: &[u8], p: Places, mode: Mode, n: usize, j: usize, w: &mut [u64]
     }
     for v in 0..n {
         let b = narrows_at(rows, p, mode, n, j, u, v, w);
-        bits::put_if(w, (area::REACH_IN + j * area::GRID) * 64 + v, b);
+        area::grid::put_if(w, area::REACH_IN, j, v, b);
     }
 }
 

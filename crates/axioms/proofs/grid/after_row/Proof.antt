@@ -15,7 +15,7 @@ use Rattle.axioms.proofs.grid.after_row.Reads as reads
 use Rattle.axioms.proofs.grid.after_row.Lts as lts
 use Rattle.axioms.proofs.grid.lacks_after.Reads as lacks-after-reads
 use Rattle.axioms.proofs.grid.next_in.Reads as next-in-reads
-use Rattle.bits.proofs.put_if.Reads as put-if-reads
+use Rattle.area.proofs.grid.put_if.Reads as put-if-reads
 use Rattle.rows.proofs.bytes.read_row.Reads as read-row-reads
 use Rattle.sets.proofs.first_both.Reads as first-both-reads
 
@@ -60,22 +60,6 @@ loop-holds c = (search needs, refl, c .read-row .ensures, (c .before .before .be
 -- src/grid.rt:115:13
 lacks-after-requires : tie.Need-lacks-after-requires Inv-loop μ-loop
 lacks-after-requires c κs = let s = (c .before .before .before .before .before .before .before .before .before) .pre in let inv = (c .before .before) .loop .inv in (s .0, s .1, search needs, inv .2, (s .2 .0, search needs, s .2 .2, inv .3))
-
--- src/grid.rt:116:39
-mul-put-if : tie.Need-mul-put-if Inv-loop μ-loop
-mul-put-if c = search needs
-
--- src/grid.rt:116:26
-add-put-if : tie.Need-add-put-if Inv-loop μ-loop
-add-put-if c = search needs
-
--- src/grid.rt:116:25
-mul-put-if-2 : tie.Need-mul-put-if-2 Inv-loop μ-loop
-mul-put-if-2 c = search needs
-
--- src/grid.rt:116:25
-add-put-if-2 : tie.Need-add-put-if-2 Inv-loop μ-loop
-add-put-if-2 c = search needs
 
 -- src/grid.rt:116:9
 put-if-requires : tie.Need-put-if-requires Inv-loop μ-loop
@@ -127,10 +111,6 @@ after-row-spec =
     read-row-requires
     loop-holds
     lacks-after-requires
-    mul-put-if
-    add-put-if
-    mul-put-if-2
-    add-put-if-2
     put-if-requires
     add-next-in
     next-in-requires

@@ -12,7 +12,7 @@ use Rattle.axioms.proofs.grid.from_any.Tie as tie
 use Rattle.axioms.proofs.grid.from_any.Reads as reads
 use Rattle.axioms.proofs.grid.from_any.Lts as lts
 use Rattle.axioms.proofs.grid.from_reads_of.Reads as from-reads-of-reads
-use Rattle.bits.proofs.put_if.Reads as put-if-reads
+use Rattle.area.proofs.grid.put_if.Reads as put-if-reads
 
 abbrev Inv-loop : tie.InvT-loop
 Inv-loop rows p mode n src x r w₀ y₀ w y = (y ≤ n) × (length w ≡ length w₀) × Edged n (fromUpto x y (fromReads (decode rows p mode n) (sourceIn src) x)) w₀ w
@@ -27,22 +27,6 @@ loop-holds c = (search needs, refl, row-none _ _ _)
 -- src/grid.rt:160:13
 from-reads-of-requires : tie.Need-from-reads-of-requires Inv-loop μ-loop
 from-reads-of-requires c κs = search needs
-
--- src/grid.rt:161:39
-mul-put-if : tie.Need-mul-put-if Inv-loop μ-loop
-mul-put-if c = search needs
-
--- src/grid.rt:161:26
-add-put-if : tie.Need-add-put-if Inv-loop μ-loop
-add-put-if c = search needs
-
--- src/grid.rt:161:25
-mul-put-if-2 : tie.Need-mul-put-if-2 Inv-loop μ-loop
-mul-put-if-2 c = search needs
-
--- src/grid.rt:161:25
-add-put-if-2 : tie.Need-add-put-if-2 Inv-loop μ-loop
-add-put-if-2 c = search needs
 
 -- src/grid.rt:161:9
 put-if-requires : tie.Need-put-if-requires Inv-loop μ-loop
@@ -80,10 +64,6 @@ from-any-spec =
     μ-loop
     loop-holds
     from-reads-of-requires
-    mul-put-if
-    add-put-if
-    mul-put-if-2
-    add-put-if-2
     put-if-requires
     add-y
     loop-less

@@ -6,23 +6,7 @@ use Rattle.axioms.proofs.grid.lacks_after.Tie as tie
 use Rattle.axioms.proofs.grid.lacks_after.Reads as reads
 use Rattle.axioms.proofs.grid.lacks_after.Lts as lts
 use Rattle.axioms.proofs.grid.follows_of.Reads as follows-of-reads
-use Rattle.bits.proofs.get.Reads as get-reads
-
--- src/grid.rt:97:35
-mul-get : tie.Need-mul-get
-mul-get c = search needs
-
--- src/grid.rt:97:22
-add-get : tie.Need-add-get
-add-get c = search needs
-
--- src/grid.rt:97:21
-mul-get-2 : tie.Need-mul-get-2
-mul-get-2 c = search needs
-
--- src/grid.rt:97:21
-add-get-2 : tie.Need-add-get-2
-add-get-2 c = search needs
+use Rattle.area.proofs.grid.get.Reads as get-reads
 
 -- src/grid.rt:97:8
 get-requires : tie.Need-get-requires
@@ -42,14 +26,4 @@ unfolding after _and_
 returns-2 c = lacks-other _ _ _ ((c .before .before) .get .ensures) ((c .before) .if1 .left) cc
 
 pub lacks-after-spec : {M : Type 1} → statement M
-lacks-after-spec =
-    tie.close
-    (tie.spec
-    mul-get
-    add-get
-    mul-get-2
-    add-get-2
-    get-requires
-    returns
-    follows-of-requires
-    returns-2)
+lacks-after-spec = tie.close (tie.spec get-requires returns follows-of-requires returns-2)

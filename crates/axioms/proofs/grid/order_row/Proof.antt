@@ -16,7 +16,7 @@ use Rattle.axioms.proofs.grid.order_row.Reads as reads
 use Rattle.axioms.proofs.grid.order_row.Lts as lts
 use Rattle.axioms.proofs.edges.before_some.Reads as before-some-reads
 use Rattle.axioms.proofs.grid.lower.Reads as lower-reads
-use Rattle.bits.proofs.put_if.Reads as put-if-reads
+use Rattle.area.proofs.grid.put_if.Reads as put-if-reads
 
 abbrev Inv-loop : tie.InvT-loop
 Inv-loop rows p mode n x w₀ y₀ w y = (y ≤ n) × (length w ≡ length w₀) × Located (decode rows p mode n) n w × Edged n (fromUpto x y (beforeSome (decode rows p mode n) x)) w₀ w
@@ -82,22 +82,6 @@ loop-again c =
 before-some-requires : tie.Need-before-some-requires Inv-loop μ-loop
 before-some-requires c κs = let s = (c .before .before .before .before .before .before .before) .pre in let inv = (c .before .before .before .before) .loop .inv in (s .0, search needs, (s .1 .0, search needs, s .1 .2, inv .2))
 
--- src/grid.rt:57:39
-mul-put-if : tie.Need-mul-put-if Inv-loop μ-loop
-mul-put-if c = search needs
-
--- src/grid.rt:57:26
-add-put-if : tie.Need-add-put-if Inv-loop μ-loop
-add-put-if c = search needs
-
--- src/grid.rt:57:25
-mul-put-if-2 : tie.Need-mul-put-if-2 Inv-loop μ-loop
-mul-put-if-2 c = search needs
-
--- src/grid.rt:57:25
-add-put-if-2 : tie.Need-add-put-if-2 Inv-loop μ-loop
-add-put-if-2 c = search needs
-
 -- src/grid.rt:57:9
 put-if-requires : tie.Need-put-if-requires Inv-loop μ-loop
 put-if-requires c κs = search needs
@@ -146,10 +130,6 @@ order-row-spec =
     loop-less
     loop-again
     before-some-requires
-    mul-put-if
-    add-put-if
-    mul-put-if-2
-    add-put-if-2
     put-if-requires
     add-y
     loop-less-2

@@ -11,50 +11,34 @@ use Rattle.quick_location.proofs.elements.linked_with.Statement.{statem
 use Rattle.quick_location.proofs.elements.linked_with.Tie as tie
 use Rattle.quick_location.proofs.elements.linked_with.Reads as reads
 use Rattle.quick_location.proofs.elements.linked_with.Lts as lts
-use Rattle.bits.proofs.get.Reads as get-reads
+use Rattle.area.proofs.grid.get.Reads as get-reads
 use Rattle.location.proofs.chains.starts_at.Reads as starts-at-reads
 use Rattle.rows.proofs.bytes.read_row.Reads as read-row-reads
 
--- src/elements.rt:48:41
-mul-get : tie.Need-mul-get
-mul-get c = search needs
-
--- src/elements.rt:48:23
-add-get : tie.Need-add-get
-add-get c = search needs
-
--- src/elements.rt:48:22
-mul-get-2 : tie.Need-mul-get-2
-mul-get-2 c = search needs
-
--- src/elements.rt:48:22
-add-get-2 : tie.Need-add-get-2
-add-get-2 c = search needs
-
--- src/elements.rt:48:9
+-- src/elements.rt:49:9
 get-requires : tie.Need-get-requires
 get-requires c κs = search needs
 
--- src/elements.rt:49:9
+-- src/elements.rt:50:9
 returns : tie.Need-returns
 returns c =
     let s = c .before .before .before .before in
     let h = c .before .get .ensures ∙ holds-bit (reach-out _ _ _ _ _ (s .pre .6) (s .pre .10)) _ _ _ (omega arith) (s .pre .7) (s .pre .9) in
     sym (linked-row _ _ _ _ _ _ _ _ _ _ h ∙ and-false-left _ _ (not-true _ (c .if1 .taken)))
 
--- src/elements.rt:51:35
+-- src/elements.rt:52:35
 cast-read-row : tie.Need-cast-read-row
 cast-read-row c = search needs
 
--- src/elements.rt:51:9
+-- src/elements.rt:52:9
 read-row-requires : tie.Need-read-row-requires
 read-row-requires c κs = search needs
 
--- src/elements.rt:52:5
+-- src/elements.rt:53:5
 starts-at-requires : tie.Need-starts-at-requires
 starts-at-requires c κs = search needs
 
--- src/elements.rt:30:1
+-- src/elements.rt:31:1
 returns-2 : tie.Need-returns-2
 returns-2 c =
     let s = c .before .before .before .before .before .before in
@@ -64,14 +48,4 @@ returns-2 c =
 pub linked-with-spec : {M : Type 1} → statement M
 linked-with-spec =
     tie.close
-    (tie.spec
-    mul-get
-    add-get
-    mul-get-2
-    add-get-2
-    get-requires
-    returns
-    cast-read-row
-    read-row-requires
-    starts-at-requires
-    returns-2)
+    (tie.spec get-requires returns cast-read-row read-row-requires starts-at-requires returns-2)

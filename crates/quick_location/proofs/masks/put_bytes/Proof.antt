@@ -10,7 +10,7 @@ use Rattle.quick_location.proofs.masks.put_bytes.Statement.{statement}
 use Rattle.quick_location.proofs.masks.put_bytes.Tie as tie
 use Rattle.quick_location.proofs.masks.put_bytes.Reads as reads
 use Rattle.quick_location.proofs.masks.put_bytes.Lts as lts
-use Rattle.bits.proofs.put_if.Reads as put-if-reads
+use Rattle.area.proofs.pairs.put_if.Reads as put-if-reads
 
 abbrev Inv-loop : tie.InvT-loop
 Inv-loop x y m w₀ k₀ w k = (k ≤ PAIR) × (length w ≡ length w₀) × (w ≡ rowFill (bitOf m) w₀ (LOCATION * 64 + x * PAIRS + y * PAIR) k)
@@ -22,31 +22,7 @@ abbrev μ-loop : tie.MeasureT-loop
 loop-holds : tie.Need-loop-holds Inv-loop μ-loop
 loop-holds c = (search needs, refl, rowFill-none _ _ _)
 
--- src/masks.rt:73:13
-mul-put-if : tie.Need-mul-put-if Inv-loop μ-loop
-mul-put-if c = search needs
-
--- src/masks.rt:73:35
-mul-put-if-2 : tie.Need-mul-put-if-2 Inv-loop μ-loop
-mul-put-if-2 c = search needs
-
--- src/masks.rt:73:13
-add-put-if : tie.Need-add-put-if Inv-loop μ-loop
-add-put-if c = search needs
-
--- src/masks.rt:73:53
-mul-put-if-3 : tie.Need-mul-put-if-3 Inv-loop μ-loop
-mul-put-if-3 c = search needs
-
--- src/masks.rt:73:13
-add-put-if-2 : tie.Need-add-put-if-2 Inv-loop μ-loop
-add-put-if-2 c = search needs
-
--- src/masks.rt:73:13
-add-put-if-3 : tie.Need-add-put-if-3 Inv-loop μ-loop
-add-put-if-3 c = search needs
-
--- src/masks.rt:74:14
+-- src/masks.rt:71:42
 shr-put-if : tie.Need-shr-put-if Inv-loop μ-loop
 shr-put-if c = search needs
 
@@ -86,12 +62,6 @@ put-bytes-spec =
     Inv-loop
     μ-loop
     loop-holds
-    mul-put-if
-    mul-put-if-2
-    add-put-if
-    mul-put-if-3
-    add-put-if-2
-    add-put-if-3
     shr-put-if
     put-if-requires
     add-k

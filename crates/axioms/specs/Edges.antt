@@ -1,74 +1,19 @@
--- Edge 1 in a pair's bits, and laws of the edges that the stages cite. Assumes nothing.
+-- Laws of the edges that the stages cite. Assumes nothing.
 use mathlib.Core.Path.{_≡_, refl, sym, ap, subst, _∙_}
 use mathlib.Core.Bool.{Bool, true, false, not, cond}
-use mathlib.Core.List.{List}
-use Prim.Native.Nat.{ℕ, zero, suc, _+_, _*_, _/_, _%_, _^_, _<_}
-use native.Mathlib.Omega.{arith}
-use native.Mathlib.Nat.{div-div-eq-div-mul}
-use lib.Pow.{pow-add}
-use lib.ListN.{getD}
-use borrow.Author.Tests.{eqb-true, not-false}
+use Prim.Native.Nat.{ℕ, _+_}
+use borrow.Author.Tests.{not-false}
 use lib.Dec.{eqb}
 use Rattle.finite.specs.Logic.{_and_, and-false-left, and-false-right, not-out}
-use Rattle.bits.specs.Bit.{bit, bitOf}
-use Rattle.finite.specs.Below.{anyBelow, any-cong, any-not}
 use Rattle.model.specs.declared.Row.{Row}
 use Rattle.model.specs.Limits.{INITIAL}
 use Rattle.model.specs.Row.{reads, writes, overlap}
 use Rattle.model.specs.Table.{Table}
 use Rattle.model.specs.Scope.{mutually, laterWriter, follows}
-use Rattle.model.specs.Edge.{beforeNth, beforeSome, readsFrom, fromReads, edgeNumber, edge}
+use Rattle.model.specs.Edge.{beforeSome, readsFrom, fromReads, edgeNumber, edge}
 use Rattle.race.specs.Bytes.{mayTouch, touch-apart}
-use Rattle.area.specs.Regions.{LOCATION, PAIR, PAIRS}
-use Rattle.area.specs.State.{Located}
-
--- ---- definitions
-
--- the bit of x before y at x's k-th byte
-unfoldable pub orderBit : List ℕ → ℕ → ℕ → ℕ → Bool
-orderBit w x y k = bit w (LOCATION * 64 + x * PAIRS + y * PAIR + k)
-
--- none of the bits of the pair that begins at bit `at` is set, by the word that they stand in
-unfoldable pub unsetAt : List ℕ → ℕ → Bool
-unsetAt w at = eqb (getD w (at / 64) 0 / 2 ^ (at % 64) % 65536) 0
 
 -- ---- laws
-
--- sixteen bits of a number that is a multiple of 65536
-even : (y k : ℕ) → y % 65536 ≡ 0 → k < 16 → y / 2 ^ k % 2 ≡ 0
-even y zero e l = omega arith
-even y (suc zero) e l = omega arith
-even y (suc (suc zero)) e l = omega arith
-even y (suc (suc (suc zero))) e l = omega arith
-even y (suc (suc (suc (suc zero)))) e l = omega arith
-even y (suc (suc (suc (suc (suc zero))))) e l = omega arith
-even y (suc (suc (suc (suc (suc (suc zero)))))) e l = omega arith
-even y (suc (suc (suc (suc (suc (suc (suc zero))))))) e l = omega arith
-even y (suc (suc (suc (suc (suc (suc (suc (suc zero)))))))) e l = omega arith
-even y (suc (suc (suc (suc (suc (suc (suc (suc (suc zero))))))))) e l = omega arith
-even y (suc (suc (suc (suc (suc (suc (suc (suc (suc (suc zero)))))))))) e l = omega arith
-even y (suc (suc (suc (suc (suc (suc (suc (suc (suc (suc (suc zero))))))))))) e l = omega arith
-even y (suc (suc (suc (suc (suc (suc (suc (suc (suc (suc (suc (suc zero)))))))))))) e l = omega arith
-even y (suc (suc (suc (suc (suc (suc (suc (suc (suc (suc (suc (suc (suc zero))))))))))))) e l = omega arith
-even y (suc (suc (suc (suc (suc (suc (suc (suc (suc (suc (suc (suc (suc (suc zero)))))))))))))) e l = omega arith
-even y (suc (suc (suc (suc (suc (suc (suc (suc (suc (suc (suc (suc (suc (suc (suc zero))))))))))))))) e l = omega arith
-even y (suc (suc (suc (suc (suc (suc (suc (suc (suc (suc (suc (suc (suc (suc (suc (suc k)))))))))))))))) e l = absurd (omega arith)
-
-unset-bit : (w : List ℕ) (at k : ℕ) → at % 16 ≡ 0 → k < PAIR → unsetAt w at ≡ true → bit w (at + k) ≡ false
-unfolding unsetAt bit bitOf
-unset-bit w at k a l e =
-    let q : (at + k) / 64 ≡ at / 64 = omega arith in
-    let r : (at + k) % 64 ≡ at % 64 + k = omega arith in
-    let z : getD w (at / 64) 0 / 2 ^ (at % 64) % 65536 ≡ 0 = eqb-true _ 0 e in
-    let y : getD w (at / 64) 0 / 2 ^ (at % 64 + k) % 2 ≡ 0 =
-    ap (λ (m : ℕ). getD w (at / 64) 0 / m % 2) (pow-add 2 (at % 64) k) ∙ ap (λ (m : ℕ). m % 2) (sym (div-div-eq-div-mul (getD w (at / 64) 0) (2 ^ (at % 64)) (2 ^ k)))
-    ∙ even (getD w (at / 64) 0 / 2 ^ (at % 64)) k z l in
-    rw (q, r, y) refl
-
--- edge 1 is what a pair's bits say
-pub some-bits : (t : Table) (n : ℕ) (w : List ℕ) (x y : ℕ) → Located t n w → x < n → y < n → anyBelow PAIR (orderBit w x y) ≡ beforeSome t x y
-unfolding beforeSome orderBit
-some-bits t n w x y h l m = any-cong (λ k. bit w (LOCATION * 64 + x * PAIRS + y * PAIR + k)) (beforeNth t x y) PAIR (λ k o. h .location .cell x y k l m o)
 
 and-on : (a b : Bool) → a ≡ true → (a and b) ≡ b
 unfolding _and_
@@ -99,15 +44,6 @@ module _ (t : Table) (source : ℕ → ℕ) (y z s : ℕ) (r q : Row) (e : s ≡
   from-source a b i l m =
       let j : eqb (source y) INITIAL ≡ false = subst (λ (v : ℕ). eqb v INITIAL ≡ false) e i in
       rw (j, l, m, f, e) refl
-
--- a pair of which no bit is set
-pub some-unset : (t : Table) (n : ℕ) (w : List ℕ) (x y at : ℕ) → Located t n w → x < n → y < n → at ≡ LOCATION * 64 + x * PAIRS + y * PAIR
-    → unsetAt w at ≡ true → false ≡ beforeSome t x y
-unfolding orderBit
-some-unset t n w x y at h l m q e = sym (any-not (orderBit w x y) PAIR none) ∙ some-bits t n w x y h l m
-  where
-    none : (k : ℕ) → k < PAIR → orderBit w x y k ≡ false
-    none k o = subst (λ (z : ℕ). bit w (z + k) ≡ false) q (unset-bit w at k (omega arith) o e)
 
 -- ---- laws: where an edge can't be
 

@@ -21,7 +21,7 @@ use Rattle.model.specs.Edge.{beforeSome}
 use Rattle.area.specs.Regions.{MUTUAL, LOCATION, GRID, PAIR, PAIRS}
 use Rattle.area.specs.State.{Located}
 use Rattle.axioms.specs.Added.{after}
-use Rattle.axioms.specs.Edges.{unsetAt, some-unset}
+use Rattle.race.specs.Pairs.{unsetAt, some-unset}
 
 -- ---- definitions
 

@@ -11,7 +11,6 @@ ghost use Rattle.model.specs.Edge.{beforeSome, readsFrom, fromReads, edgeNumber
 ghost use Rattle.area.specs.Regions.{EDGE, EDGE-END, GRID};
 ghost use Rattle.race.specs.Bytes.{Known};
 ghost use Rattle.axioms.specs.Sources.{sourceIn};
-ghost use Rattle.axioms.specs.Edges.{unsetAt};
 use model::Mode;
 use model::Places;
 use model::Row;
@@ -20,40 +19,6 @@ fn pick(b: bool, x: u16, y: u16) -> u16
     ensures { λ r. ⌜ r ≡ cond b x y ⌝ }
 {
     if b { x } else { y }
-}
-
-// Whether none of a pair's bits, which begin at bit `at`, is set: they stand in one word.
-pub fn is_unset(w: &[u64], at: usize) -> bool
-    requires { ⌜ at < 64 * length (now w) ⌝ }
-    ensures { λ b. ⌜ b ≡ unsetAt (now (w .entry)) at ⌝ }
-{
-    (w[at / 64] >> (at % 64)) % 65536 == 0
-}
-
-// Edge 1: whether x is location-ordered before y at some byte.
-// Ruled out: one that asks for each byte; one that leaves out x's last byte.
-pub fn before_some(
-    rows: &[u8],
-    p: Places,
-    mode: Mode,
-    n: usize,
-    x: usize,
-    y: usize,
-    w: &[u64],
-) -> bool
-    requires { ⌜ (x < n) × (y < n) × Known (decode (now rows) p mode n) n (now w) ⌝ }
-    ensures { λ d. ⌜ d ≡ beforeSome (decode (now (rows .entry)) p mode n) x y ⌝ }
-{
-    let at = area::LOCATION * 64 + x * area::PAIRS + y * area::PAIR;
-    if is_unset(w, at) {
-        return false;
-    }
-    for k in 0..area::PAIR {
-        if bits::get(w, at + k) {
-            return true;
-        }
-    }
-    false
 }
 
 // Edge 2: whether y, which is q, follows x, which is r, in their scoped modification order.
@@ -155,7 +120,7 @@ pub fn edge_number(
 {
     let r = rows::bytes::read_row(rows, x as u16);
     let q = rows::bytes::read_row(rows, y as u16);
-    let location = before_some(rows, p, mode, n, x, y, w);
+    let location = race::pair::before_some(rows, p, mode, n, x, y, w);
     let order = follows_at(rows, p, mode, n, x, y, r, q, w);
     let source = reads_from_at(rows, p, mode, n, src, x, y, q);
     let reader = from_reads_at(rows, p, mode, n, src, x, y, r, q);

@@ -53,7 +53,7 @@ fn order_row(rows: &[u8], p: Places, mode: Mode, n: usize, x: usize, w: &mut [u6
             y = lower(y / 4 * 4 + 4, n);
             continue;
         }
-        let b = edges::before_some(rows, p, mode, n, x, y, w);
+        let b = race::pair::before_some(rows, p, mode, n, x, y, w);
         area::grid::put_if(w, area::EDGE, x, y, b);
         y += 1;
     }

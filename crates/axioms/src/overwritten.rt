@@ -76,7 +76,7 @@ pub fn over_nth(
     ensures { λ k. ⌜ k ≡ overNth (decode (now (rows .entry)) p mode n) (sourceIn (now (src .entry))) y z ⌝ }
 {
     let at = area::LOCATION * 64 + z * area::PAIRS + y * area::PAIR;
-    if crate::edges::is_unset(w, at) {
+    if race::pair::is_unset(w, at) {
         return area::PAIR;
     }
     if !may_overwrite(rows, p, mode, n, src, y, z) {

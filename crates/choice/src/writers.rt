@@ -24,7 +24,7 @@ fn written_by(rows: &[u8], p: Places, mode: Mode, n: usize, y: usize, z: usize, 
     if !rows::kinds::writes(r) {
         return false;
     }
-    axioms::edges::before_some(rows, p, mode, n, z, y, w)
+    race::pair::before_some(rows, p, mode, n, z, y, w)
 }
 
 // Whether some writer is ordered before y.
@@ -107,7 +107,7 @@ fn overtakes(
     if !sequence::heads::follows_at(rows, p, mode, n, s, z, w) {
         return false;
     }
-    axioms::edges::before_some(rows, p, mode, n, z, y, w)
+    race::pair::before_some(rows, p, mode, n, z, y, w)
 }
 
 // Whether the writer z comes between s and y: in scoped order, or at a byte.

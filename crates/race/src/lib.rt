@@ -13,6 +13,8 @@ use model::Places;
 use model::Row;
 use model::Shared;
 
+pub mod pair; // edge 1, by all bits of a pair
+
 // Whether x and y are mutually-ordered, as the work area's bits say.
 // Ruled out: one that says yes of a row and itself; one that reads the bit of x and y + 1.
 pub fn mutual_at(

@@ -4,7 +4,7 @@ use Rattle.axioms.proofs.edges.edge_number.Statement.{statement}
 use Rattle.axioms.proofs.edges.edge_number.Tie as tie
 use Rattle.axioms.proofs.edges.edge_number.Reads as reads
 use Rattle.axioms.proofs.edges.edge_number.Lts as lts
-use Rattle.axioms.proofs.edges.before_some.Reads as before-some-reads
+use Rattle.race.proofs.pair.before_some.Reads as before-some-reads
 use Rattle.axioms.proofs.edges.follows_at.Reads as follows-at-reads
 use Rattle.axioms.proofs.edges.from_reads_at.Reads as from-reads-at-reads
 use Rattle.axioms.proofs.edges.pick.Reads as pick-reads

@@ -14,7 +14,7 @@ use Rattle.axioms.proofs.grid.order_row.Statement.{statement}
 use Rattle.axioms.proofs.grid.order_row.Tie as tie
 use Rattle.axioms.proofs.grid.order_row.Reads as reads
 use Rattle.axioms.proofs.grid.order_row.Lts as lts
-use Rattle.axioms.proofs.edges.before_some.Reads as before-some-reads
+use Rattle.race.proofs.pair.before_some.Reads as before-some-reads
 use Rattle.axioms.proofs.grid.lower.Reads as lower-reads
 use Rattle.area.proofs.grid.put_if.Reads as put-if-reads
 

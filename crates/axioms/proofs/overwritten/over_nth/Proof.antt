@@ -1,4 +1,4 @@
-use Rattle.axioms.specs.Edges.{some-unset}
+use Rattle.race.specs.Pairs.{some-unset}
 use Rattle.axioms.specs.Overwritten.{over-none, over-apart}
 use Rattle.axioms.specs.Sources.{sourceIn}
 use Rattle.model.specs.Edge.{overwritesNth, overNth}
@@ -14,7 +14,7 @@ use Rattle.axioms.proofs.overwritten.over_nth.Statement.{statement}
 use Rattle.axioms.proofs.overwritten.over_nth.Tie as tie
 use Rattle.axioms.proofs.overwritten.over_nth.Reads as reads
 use Rattle.axioms.proofs.overwritten.over_nth.Lts as lts
-use Rattle.axioms.proofs.edges.is_unset.Reads as is-unset-reads
+use Rattle.race.proofs.pair.is_unset.Reads as is-unset-reads
 use Rattle.axioms.proofs.overwritten.may_overwrite.Reads as may-overwrite-reads
 use Rattle.axioms.proofs.overwritten.overwrites_at.Reads as overwrites-at-reads
 use Rattle.axioms.proofs.source_at.Reads as source-at-reads

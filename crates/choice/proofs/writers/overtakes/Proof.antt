@@ -5,7 +5,7 @@ use Rattle.choice.proofs.writers.overtakes.Statement.{statement}
 use Rattle.choice.proofs.writers.overtakes.Tie as tie
 use Rattle.choice.proofs.writers.overtakes.Reads as reads
 use Rattle.choice.proofs.writers.overtakes.Lts as lts
-use Rattle.axioms.proofs.edges.before_some.Reads as before-some-reads
+use Rattle.race.proofs.pair.before_some.Reads as before-some-reads
 use Rattle.sequence.proofs.heads.follows_at.Reads as follows-at-reads
 
 -- src/writers.rt:95:9

@@ -9,7 +9,7 @@ use Rattle.choice.proofs.writers.written_by.Statement.{statement}
 use Rattle.choice.proofs.writers.written_by.Tie as tie
 use Rattle.choice.proofs.writers.written_by.Reads as reads
 use Rattle.choice.proofs.writers.written_by.Lts as lts
-use Rattle.axioms.proofs.edges.before_some.Reads as before-some-reads
+use Rattle.race.proofs.pair.before_some.Reads as before-some-reads
 use Rattle.rows.proofs.bytes.read_row.Reads as read-row-reads
 use Rattle.rows.proofs.kinds.writes.Reads as writes-reads
 

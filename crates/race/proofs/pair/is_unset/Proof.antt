@@ -1,24 +1,24 @@
 use mathlib.Core.Path.{refl}
-use Rattle.axioms.specs.Edges.{unsetAt}
+use Rattle.race.specs.Pairs.{unsetAt}
 use borrow.Author.Needs.{needs}
-use Rattle.axioms.proofs.edges.is_unset.Statement.{statement}
-use Rattle.axioms.proofs.edges.is_unset.Tie as tie
-use Rattle.axioms.proofs.edges.is_unset.Reads as reads
-use Rattle.axioms.proofs.edges.is_unset.Lts as lts
+use Rattle.race.proofs.pair.is_unset.Statement.{statement}
+use Rattle.race.proofs.pair.is_unset.Tie as tie
+use Rattle.race.proofs.pair.is_unset.Reads as reads
+use Rattle.race.proofs.pair.is_unset.Lts as lts
 
--- src/edges.rt:30:6
+-- src/pair.rt:30:6
 mul-result : tie.Need-mul-result
 mul-result c = search needs
 
--- src/edges.rt:30:6
+-- src/pair.rt:30:6
 shared-slice-read-result : tie.Need-shared-slice-read-result
 shared-slice-read-result c = search needs
 
--- src/edges.rt:30:6
+-- src/pair.rt:30:6
 shr-result : tie.Need-shr-result
 shr-result c = search needs
 
--- src/edges.rt:26:1
+-- src/pair.rt:26:1
 returns : tie.Need-returns
 unfolding unsetAt
 returns c = cc

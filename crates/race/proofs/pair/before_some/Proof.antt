@@ -4,13 +4,13 @@ use Prim.Native.Nat.{_+_, _-_, _*_, _≤_}
 use native.Mathlib.Omega.{arith}
 use Rattle.finite.specs.Below.{anyBelow, any-none, any-in, any-more}
 use Rattle.area.specs.Regions.{LOCATION, PAIR, PAIRS}
-use Rattle.axioms.specs.Edges.{orderBit, some-bits, some-unset}
+use Rattle.race.specs.Pairs.{orderBit, some-bits, some-unset}
 use borrow.Author.Needs.{needs}
-use Rattle.axioms.proofs.edges.before_some.Statement.{statement}
-use Rattle.axioms.proofs.edges.before_some.Tie as tie
-use Rattle.axioms.proofs.edges.before_some.Reads as reads
-use Rattle.axioms.proofs.edges.before_some.Lts as lts
-use Rattle.axioms.proofs.edges.is_unset.Reads as is-unset-reads
+use Rattle.race.proofs.pair.before_some.Statement.{statement}
+use Rattle.race.proofs.pair.before_some.Tie as tie
+use Rattle.race.proofs.pair.before_some.Reads as reads
+use Rattle.race.proofs.pair.before_some.Lts as lts
+use Rattle.race.proofs.pair.is_unset.Reads as is-unset-reads
 use Rattle.bits.proofs.get.Reads as get-reads
 
 abbrev Inv-loop : tie.InvT-loop
@@ -19,65 +19,65 @@ Inv-loop rows n x y w at k₀ k = (k ≤ PAIR) × (anyBelow k (orderBit w x y) �
 abbrev μ-loop : tie.MeasureT-loop
 μ-loop rows n x y w at k₀ k = PAIR - k
 
--- src/edges.rt:47:14
+-- src/pair.rt:47:14
 mul-at : tie.Need-mul-at Inv-loop μ-loop
 mul-at c = search needs
 
--- src/edges.rt:47:36
+-- src/pair.rt:47:36
 mul-at-2 : tie.Need-mul-at-2 Inv-loop μ-loop
 mul-at-2 c = search needs
 
--- src/edges.rt:47:14
+-- src/pair.rt:47:14
 add-at : tie.Need-add-at Inv-loop μ-loop
 add-at c = search needs
 
--- src/edges.rt:47:54
+-- src/pair.rt:47:54
 mul-at-3 : tie.Need-mul-at-3 Inv-loop μ-loop
 mul-at-3 c = search needs
 
--- src/edges.rt:47:14
+-- src/pair.rt:47:14
 add-at-2 : tie.Need-add-at-2 Inv-loop μ-loop
 add-at-2 c = search needs
 
--- src/edges.rt:48:8
+-- src/pair.rt:48:8
 is-unset-requires : tie.Need-is-unset-requires Inv-loop μ-loop
 is-unset-requires c κs = search needs
 
--- src/edges.rt:49:9
+-- src/pair.rt:49:9
 returns : tie.Need-returns Inv-loop μ-loop
 returns c = some-unset _ _ _ _ _ _ (c .before .before .before .before .pre .2 .3) (c .before .before .before .before .pre .0) (c .before .before .before .before .pre .1) refl (sym (c .before .is-unset .ensures) ∙ c .if1 .taken)
 
--- src/edges.rt:51:5
+-- src/pair.rt:51:5
 loop-holds : tie.Need-loop-holds Inv-loop μ-loop
 loop-holds c = (search needs, any-none _)
 
--- src/edges.rt:52:25
+-- src/pair.rt:52:25
 add-get : tie.Need-add-get Inv-loop μ-loop
 add-get c = search needs
 
--- src/edges.rt:52:12
+-- src/pair.rt:52:12
 get-requires : tie.Need-get-requires Inv-loop μ-loop
 get-requires c κs = search needs
 
--- src/edges.rt:53:13
+-- src/pair.rt:53:13
 returns-2 : tie.Need-returns-2 Inv-loop μ-loop
 unfolding orderBit
 returns-2 c = sym (any-in _ _ _ (c .before .before .loop-test .taken) (sym (c .before .get .ensures) ∙ c .if2 .taken)) ∙ some-bits _ _ _ _ _ (c .before .before .before .before .before .before .before .before .pre .2 .3) (c .before .before .before .before .before .before .before .before .pre .0) (c .before .before .before .before .before .before .before .before .pre .1)
 
--- src/edges.rt:51:9
+-- src/pair.rt:51:9
 add-k : tie.Need-add-k Inv-loop μ-loop
 add-k c = search needs
 
--- src/edges.rt:51:5
+-- src/pair.rt:51:5
 loop-less : tie.Need-loop-less Inv-loop μ-loop
 loop-less c = search needs
 
--- src/edges.rt:51:5
+-- src/pair.rt:51:5
 loop-again : tie.Need-loop-again Inv-loop μ-loop
 unfolding orderBit
 loop-again c = (search needs, any-more _ _ (c .before .before .before .loop .inv .1) (sym (c .before .get .ensures) ∙ c .if2 .left))
 
--- src/edges.rt:35:1
+-- src/pair.rt:35:1
 returns-3 : tie.Need-returns-3 Inv-loop μ-loop
 returns-3 c = let e : c .before .loop .k ≡ PAIR = omega arith in sym (rw e at (c .before .loop .inv .1)) ∙ some-bits _ _ _ _ _ (c .before .before .before .before .before .before .pre .2 .3) (c .before .before .before .before .before .before .pre .0) (c .before .before .before .before .before .before .pre .1)
 

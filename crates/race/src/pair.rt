@@ -1,0 +1,44 @@
+// Edge 1: what all the bits of a pair of rows say at once.
+ghost use mathlib.Core.Path.{_≡_};
+ghost use Prim.Native.Nat.{_*_, _<_};
+ghost use lib.ListN.{length};
+ghost use Rattle.model.specs.Table.{decode};
+ghost use Rattle.model.specs.Edge.{beforeSome};
+ghost use Rattle.race.specs.Bytes.{Known};
+ghost use Rattle.race.specs.Pairs.{unsetAt};
+use model::Mode;
+use model::Places;
+
+// Whether none of a pair's bits, which begin at bit `at`, is set: they stand in one word.
+pub fn is_unset(w: &[u64], at: usize) -> bool
+    requires { ⌜ at < 64 * length (now w) ⌝ }
+    ensures { λ b. ⌜ b ≡ unsetAt (now (w .entry)) at ⌝ }
+{
+    (w[at / 64] >> (at % 64)) % 65536 == 0
+}
+
+// Edge 1: whether x is location-ordered before y at some byte.
+// Ruled out: one that asks for each byte; one that leaves out x's last byte.
+pub fn before_some(
+    rows: &[u8],
+    p: Places,
+    mode: Mode,
+    n: usize,
+    x: usize,
+    y: usize,
+    w: &[u64],
+) -> bool
+    requires { ⌜ (x < n) × (y < n) × Known (decode (now rows) p mode n) n (now w) ⌝ }
+    ensures { λ d. ⌜ d ≡ beforeSome (decode (now (rows .entry)) p mode n) x y ⌝ }
+{
+    let at = area::LOCATION * 64 + x * area::PAIRS + y * area::PAIR;
+    if is_unset(w, at) {
+        return false;
+    }
+    for k in 0..area::PAIR {
+        if bits::get(w, at + k) {
+            return true;
+        }
+    }
+    false
+}

@@ -47,7 +47,7 @@ fn add_source(w: &mut [u64], m: usize, h: bool)
             moment_sets::HOPS + j / 3 * area::MOMENTS,
             area::MOMENTS,
         );
-        bits::put_if(w, (area::HAPPENS + m * area::MOMENTS) * 64 + j, !h);
+        area::moments::put_if(w, area::HAPPENS, m, j, !h);
     }
 }
 

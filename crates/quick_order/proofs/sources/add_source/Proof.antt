@@ -5,58 +5,42 @@ use Rattle.quick_order.proofs.sources.add_source.Tie as tie
 use Rattle.quick_order.proofs.sources.add_source.Reads as reads
 use Rattle.quick_order.proofs.sources.add_source.Lts as lts
 use Rattle.bits.proofs.join_row.Reads as join-row-reads
-use Rattle.bits.proofs.put_if.Reads as put-if-reads
+use Rattle.area.proofs.moments.put_if.Reads as put-if-reads
 use Rattle.quick_order.proofs.sources.source_of.Reads as source-of-reads
 
--- src/sources.rt:43:9
+-- src/sources.rt:42:9
 source-of-requires : tie.Need-source-of-requires
 source-of-requires c κs = search needs
 
--- src/sources.rt:47:29
+-- src/sources.rt:46:29
 mul-join-row : tie.Need-mul-join-row
 mul-join-row c = search needs
 
--- src/sources.rt:47:13
+-- src/sources.rt:46:13
 add-join-row : tie.Need-add-join-row
 add-join-row c = search needs
 
--- src/sources.rt:48:33
+-- src/sources.rt:47:33
 mul-join-row-2 : tie.Need-mul-join-row-2
 mul-join-row-2 c = search needs
 
--- src/sources.rt:48:13
+-- src/sources.rt:47:13
 add-join-row-2 : tie.Need-add-join-row-2
 add-join-row-2 c = search needs
 
--- src/sources.rt:45:9
+-- src/sources.rt:44:9
 join-row-requires : tie.Need-join-row-requires
 join-row-requires c κs = search needs
 
--- src/sources.rt:51:42
-mul-put-if : tie.Need-mul-put-if
-mul-put-if c = search needs
-
--- src/sources.rt:51:26
-add-put-if : tie.Need-add-put-if
-add-put-if c = search needs
-
--- src/sources.rt:51:25
-mul-put-if-2 : tie.Need-mul-put-if-2
-mul-put-if-2 c = search needs
-
--- src/sources.rt:51:25
-add-put-if-2 : tie.Need-add-put-if-2
-add-put-if-2 c = search needs
-
--- src/sources.rt:51:9
+-- src/sources.rt:50:9
 put-if-requires : tie.Need-put-if-requires
 put-if-requires c κs = search needs
 
--- src/sources.rt:39:1
+-- src/sources.rt:38:1
 same-length : tie.Need-same-length
 same-length c = search needs
 
--- src/sources.rt:39:1
+-- src/sources.rt:38:1
 returns : tie.Need-returns
 returns c =
     let at-put = c .before .before in
@@ -64,11 +48,11 @@ returns c =
     let at-if = at-join .before .before in
     sourced-on _ _ _ _ _ _ (at-if .before .source-of .ensures) (at-if .if1 .taken) (at-join .join-row .ensures) (at-put .put-if .ensures)
 
--- src/sources.rt:39:1
+-- src/sources.rt:38:1
 same-length-2 : tie.Need-same-length-2
 same-length-2 c = search needs
 
--- src/sources.rt:39:1
+-- src/sources.rt:38:1
 returns-2 : tie.Need-returns-2
 returns-2 c = sourced-off _ _ _ _ (c .before .source-of .ensures) (c .if1 .left)
 
@@ -82,10 +66,6 @@ add-source-spec =
     mul-join-row-2
     add-join-row-2
     join-row-requires
-    mul-put-if
-    add-put-if
-    mul-put-if-2
-    add-put-if-2
     put-if-requires
     same-length
     returns

@@ -1,1 +1,3 @@
 pub mod Places
+pub mod Instances
+pub mod Shares

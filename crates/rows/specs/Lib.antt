@@ -1,2 +1,4 @@
 pub mod Places
 pub mod Starts
+pub mod Instances
+pub mod Shares

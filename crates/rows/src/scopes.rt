@@ -5,7 +5,9 @@ ghost use Prim.Native.Nat.{ℕ, _+_, _*_, _<_};
 ghost use lib.ListN.{getD};
 ghost use Rattle.model.specs.Table.{threeAt, fourAt, slotAt, placesOf, modeOf};
 ghost use Rattle.model.specs.Scope.{agentKind, shader, host, oneInstance, shares, together, sameLocation, mutualRows, age, later, laterWriter};
+ghost use Rattle.model.specs.Table.{rowOf};
 ghost use Rattle.rows.specs.Places.{IsPlace};
+ghost use Rattle.rows.specs.Instances.{ofInstance};
 use crate::bytes;
 use crate::kinds;
 use model::Mode;
@@ -176,6 +178,77 @@ pub fn together(p: Places, r: Row, q: Row) -> bool
     let x = place_at(p, r.agent);
     let y = place_at(p, q.agent);
     shares_by(r.scope, r.agent, q.agent, x, y) & shares_by(q.scope, r.agent, q.agent, x, y)
+}
+
+// ---- the same of places that are lent: none of them is copied but the one that is asked
+
+pub fn place_in(p: &[[u16; 4]], a: u8) -> [u16; 4]
+    ensures { λ x. ⌜ IsPlace (now (p .entry)) a x ⌝ }
+{
+    let i = a as usize;
+    if i < p.len() { p[i] } else { [0; 4] }
+}
+
+// Whether two agents, whose places are x and y, share the scope: it asks no number that the scope doesn't go by.
+fn shares_at(scope: u8, a: u8, b: u8, x: [u16; 4], y: [u16; 4]) -> bool
+    ensures { λ r. ⌜ ((p : List (List ℕ)) → IsPlace p a x → IsPlace p b y → r ≡ shares p scope a b) ⌝ }
+{
+    if (y[3] != SHADER) | (x[3] != SHADER) {
+        return false;
+    }
+    if scope == DEVICE {
+        return true;
+    }
+    if scope == INVOCATION {
+        return a == b;
+    }
+    if x[0] != y[0] {
+        return false;
+    }
+    if scope == FAMILY {
+        return true;
+    }
+    if x[1] != y[1] {
+        return false;
+    }
+    (scope == WORKGROUP) | (scope == SUBGROUP) & (x[2] == y[2])
+}
+
+// The same of an agent whose place was taken out and another.
+pub fn shares_from(p: &[[u16; 4]], scope: u8, a: u8, x: [u16; 4], b: u8) -> bool
+    requires { ⌜ IsPlace (now p) a x ⌝ }
+    ensures { λ r. ⌜ r ≡ shares (now (p .entry)) scope a b ⌝ }
+{
+    shares_at(scope, a, b, x, place_in(p, b))
+}
+
+pub fn shares_in(p: &[[u16; 4]], scope: u8, a: u8, b: u8) -> bool
+    ensures { λ r. ⌜ r ≡ shares (now (p .entry)) scope a b ⌝ }
+{
+    shares_at(scope, a, b, place_in(p, a), place_in(p, b))
+}
+
+pub fn together_in(p: &[[u16; 4]], r: Row, q: Row) -> bool
+    ensures { λ b. ⌜ b ≡ together (now (p .entry)) r q ⌝ }
+{
+    let x = place_in(p, r.agent);
+    let y = place_in(p, q.agent);
+    shares_at(r.scope, r.agent, q.agent, x, y) & shares_at(q.scope, r.agent, q.agent, x, y)
+}
+
+// ---- control barriers
+
+// Whether row j is a control barrier of this instance. Most rows are of another, and the last byte of its number tells.
+pub fn is_of_instance(rows: &[u8], instance: u16, j: u16) -> bool
+    ensures { λ b. ⌜ b ≡ ofInstance instance (rowOf (now (rows .entry)) j) ⌝ }
+{
+    if bytes::row_byte(rows, j, 9) != (instance % 256) as u8 {
+        return false;
+    }
+    if bytes::row_byte(rows, j, 8) != (instance / 256) as u8 {
+        return false;
+    }
+    bytes::read_kind(rows, j) == kinds::CONTROL
 }
 
 // ---- mutually-ordered rows

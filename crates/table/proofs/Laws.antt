@@ -5,8 +5,8 @@ use mathlib.Core.List.{List, []}
 use Prim.Native.Nat.{ℕ, _<_, _≤_}
 use lib.ListN.{length}
 use lib.Dec.{leb, eqb}
-use borrow.Author.Tests.{eq-eqb, ne-eqb, lt-ltb, le-ltb, le-leb, lt-leb}
-use Rattle.finite.specs.Logic.{_and_, _or_, and-false-left, and-false-right}
+use borrow.Author.Tests.{eq-eqb, ne-eqb, lt-ltb, le-ltb, le-leb, lt-leb, not-false}
+use Rattle.finite.specs.Logic.{_and_, _or_, and-false-left, and-false-right, and-true, not-in, not-out}
 use Rattle.finite.specs.Below.{anyBelow, any-not, least}
 use Rattle.model.specs.declared.Mode.{Mode}
 use Rattle.model.specs.declared.Row.{Row}
@@ -14,14 +14,19 @@ use Rattle.model.specs.declared.Admission.{Admission}
 use Rattle.model.specs.declared.Admission.the-variants.{Admitted, Refused}
 use Rattle.model.specs.Limits.{DEPENDENCIES}
 use Rattle.model.specs.Row.{CONTROL, access, control, ranked, operation, sameInstance}
-use Rattle.model.specs.Scope.{agentKind, sameLocation}
-use Rattle.model.specs.Table.{OFF, HEADER, rowOf, modeOf, decode, sourceOf, agentsAt, rowsAt, hasHosts, rowBytes, dependencyBytes, pairAt, dependencyCount, placesOf, tableUnder, tableOf, sourcesOf}
+use Rattle.model.specs.Scope.{agentKind, shares, sameLocation}
+use Rattle.model.specs.Table.{OFF, HEADER, byteOf, rowOf, modeOf, decode, sourceOf, agentsAt, rowsAt, hasHosts, rowBytes, dependencyBytes, pairAt, dependencyCount, placesOf, tableUnder, tableOf, sourcesOf}
 use Rattle.model.specs.Refusal.{otherClass, otherClassAt, classTaken, writerFits, sourceFits, sourceBroken, sameRank, sameRankAt, rankTaken}
 use Rattle.model.specs.Refusal.{apart, apartAt, instanceBroken, rival, outside, outsideAt, begins, unfit}
 use Rattle.model.specs.Refusal.{kindOver, agentsKnown, dependenciesFew, namesNone, dependenciesNamed, hostsFault, codesFit, agentFits, operationFits, kindFits, extentFits, formFault, rowFault, tableFault, faulty, firstFault, rowFaultAt}
 use Rattle.model.specs.Refusal.{versionFits, limitsFit, lengthFits, headerFault, admission}
 use Rattle.rows.specs.Starts.{starts-apart}
+use Rattle.rows.specs.Instances.{ofInstance}
 use Rattle.table.specs.Rows.{shapeFault, hostsFaultIn, rowFaultIn, rowsAdmission}
+
+byte-class : (b : List ℕ) (j : ℕ) → byteOf b j 6 ≡ rowOf b j .class
+unfolding rowOf
+byte-class b j = refl
 
 -- ---- what a test does not read makes no difference to it
 
@@ -99,13 +104,38 @@ module _ (b : List ℕ) (p : List (List ℕ)) where
   unfolding rankTaken decode _and_
   rank-some i r x y er ex h ey = ey ∙ rw (← er, ← ex, h) refl
 
-  pub apart-off : (i j : ℕ) → (rowOf b j .kind ≡ CONTROL → ⊥) → false ≡ apartAt (decode b p OFF 0) i j
-  unfolding apartAt apart sameInstance control decode
-  apart-off i j h = sym (and-false-left _ _ (and-false-left _ _ (and-false-right _ _ (ne-eqb (rowOf b j .kind) CONTROL h))))
+  -- row j beside row i, which is the control barrier r
+  module _ (i j : ℕ) (r : Row) (er : r ≡ rowOf b i) (e : r .kind ≡ CONTROL) where
+    apart-is : apartAt (decode b p OFF 0) i j
+        ≡ (ofInstance (r .start) (rowOf b j)
+        and not (eqb (r .class) (rowOf b j .class) and not (eqb (r .agent) (rowOf b j .agent)) and shares p (r .class) (r .agent) (rowOf b j .agent)))
+    unfolding apartAt apart sameInstance control ofInstance decode _and_
+    apart-is = rw (← er, e) refl
 
-  pub apart-other : (i j : ℕ) → (rowOf b i .start ≡ rowOf b j .start → ⊥) → false ≡ apartAt (decode b p OFF 0) i j
-  unfolding apartAt apart sameInstance decode
-  apart-other i j h = sym (and-false-left _ _ (and-false-right _ _ (ne-eqb (rowOf b i .start) (rowOf b j .start) h)))
+    pub apart-other : (v : Bool) → v ≡ ofInstance (r .start) (rowOf b j) → not v ≡ true → false ≡ apartAt (decode b p OFF 0) i j
+    apart-other v ev h = sym (apart-is ∙ and-false-left _ _ (sym ev ∙ not-out v h))
+
+    module _ (v : Bool) (ev : v ≡ ofInstance (r .start) (rowOf b j)) (h : not v ≡ false) where
+      inside : (z : Bool) → z ≡ true → (ofInstance (r .start) (rowOf b j) and z) ≡ true
+      inside z q = and-true (sym ev ∙ not-false v h) q
+
+      pub apart-class : (k : ℕ) → k ≡ byteOf b j 6 → (k ≡ r .class → ⊥) → true ≡ apartAt (decode b p OFF 0) i j
+      unfolding rowOf
+      apart-class k ek d = sym (apart-is ∙ inside _ (not-in (and-false-left _ _ (and-false-left _ _ (ne-eqb (r .class) (byteOf b j 6) (λ q. d (ek ∙ sym q)))))))
+
+      pub apart-agent : (g : ℕ) → g ≡ rowOf b j .agent → g ≡ r .agent → true ≡ apartAt (decode b p OFF 0) i j
+      apart-agent g eg q = sym (apart-is ∙ inside _ (not-in (and-false-left _ _ (and-false-right _ _ (rw (eq-eqb (r .agent) (rowOf b j .agent) (sym q ∙ eg)) refl)))))
+
+      pub apart-scope : (k g : ℕ) (s : Bool) → k ≡ byteOf b j 6 → k ≡ r .class → g ≡ rowOf b j .agent → (g ≡ r .agent → ⊥) → s ≡ shares p (r .class) (r .agent) g
+          → not s ≡ apartAt (decode b p OFF 0) i j
+      unfolding _and_
+      apart-scope k g s ek q eg d es =
+          let c : eqb (r .class) (rowOf b j .class) ≡ true = eq-eqb _ _ (sym q ∙ ek ∙ class-is) in
+          let a : eqb (r .agent) (rowOf b j .agent) ≡ false = ne-eqb _ _ (λ z. d (eg ∙ sym z)) in
+          sym (apart-is ∙ rw (← ev, not-false v h, c, a, ← eg, ← es) refl)
+        where
+          class-is : byteOf b j 6 ≡ rowOf b j .class
+          class-is = byte-class b j
 
   none-at : (i j : ℕ) → (rowOf b i .kind ≡ CONTROL → ⊥) → false ≡ apartAt (decode b p OFF 0) i j
   unfolding apartAt apart sameInstance control decode

@@ -4,10 +4,12 @@
 ghost use mathlib.Core.Path.{_≡_};
 ghost use mathlib.Core.List.{[]};
 ghost use Rattle.finite.specs.Below.{anyBelow, least};
+ghost use Rattle.model.specs.Row.{CONTROL};
 ghost use Rattle.model.specs.Table.{rowOf, OFF, decode, sourceOf};
 ghost use Rattle.model.specs.Refusal.{otherClass, otherClassAt, classTaken, writerFits, sourceFits, sourceBroken};
-ghost use Rattle.model.specs.Refusal.{sameRank, sameRankAt, rankTaken, apart, apartAt, instanceBroken};
+ghost use Rattle.model.specs.Refusal.{sameRank, sameRankAt, rankTaken, apartAt, instanceBroken};
 ghost use Rattle.model.specs.Refusal.{rival, outside, outsideAt, begins, unfit, tableFault, faulty};
+ghost use Rattle.rows.specs.Places.{IsPlace};
 use crate::pick;
 use model::Mode;
 use model::Places;
@@ -136,39 +138,35 @@ pub fn rank_taken(rows: &[u8], p: Places, i: u16) -> bool
 
 // ---- 14
 
-// q is of r's instance, and the two differ in execution scope, have one agent, or don't share that scope.
-pub fn is_apart(p: Places, r: Row, q: Row) -> bool
-    ensures { λ b. ⌜ b ≡ apart p r q ⌝ }
+// Row j is of the instance of row i, which is r and whose agent has the place x, and the two differ in execution scope, have one
+// agent, or don't share that scope. Most rows are of another instance, and no place is asked of them.
+pub fn apart_at(rows: &[u8], p: &[[u16; 4]], i: u16, r: Row, x: [u16; 4], j: u16) -> bool
+    requires { ⌜ (r ≡ rowOf (now rows) i) × (r .kind ≡ CONTROL) × IsPlace (now p) (r .agent) x ⌝ }
+    ensures { λ b. ⌜ b ≡ apartAt (decode (now (rows .entry)) (now (p .entry)) OFF 0) i j ⌝ }
 {
-    kinds::same_instance(r, q)
-        & !((r.class == q.class)
-            & !(r.agent == q.agent)
-            & scopes::shares_scope(p, r.class, r.agent, q.agent))
-}
-
-// Only control barriers have an instance, and most have another.
-pub fn apart_at(rows: &[u8], p: Places, i: u16, j: u16) -> bool
-    ensures { λ b. ⌜ b ≡ apartAt (decode (now (rows .entry)) p OFF 0) i j ⌝ }
-{
-    if bytes::read_kind(rows, j) != kinds::CONTROL {
+    if !scopes::is_of_instance(rows, r.start, j) {
         return false;
     }
-    if bytes::read_start(rows, j) != bytes::read_start(rows, i) {
-        return false;
+    if bytes::row_byte(rows, j, 6) != r.class {
+        return true;
     }
-    let r = bytes::read_row(rows, i);
-    let q = bytes::read_row(rows, j);
-    is_apart(p, r, q)
+    let g = bytes::read_agent(rows, j);
+    if g == r.agent {
+        return true;
+    }
+    !scopes::shares_from(p, r.class, r.agent, x, g)
 }
 
 pub fn instance_broken(rows: &[u8], p: Places, i: u16) -> bool
     ensures { λ b. ⌜ b ≡ instanceBroken (decode (now (rows .entry)) p OFF 0) i ⌝ }
 {
-    if bytes::read_kind(rows, i) != kinds::CONTROL {
+    let r = bytes::read_row(rows, i);
+    if r.kind != kinds::CONTROL {
         return false;
     }
+    let x = scopes::place_in(&p, r.agent);
     for j in 0..i {
-        if apart_at(rows, p, i, j) {
+        if apart_at(rows, &p, i, r, x, j) {
             return true;
         }
     }

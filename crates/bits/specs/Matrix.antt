@@ -21,10 +21,6 @@ AREA-LIMIT = 1048576
 unfoldable pub rel : List ℕ → ℕ → ℕ → ℕ → ℕ → Bool
 rel w base stride i j = bit w ((base + i * stride) * 64 + j)
 
--- the same with rows and columns exchanged
-unfoldable pub flipped : List ℕ → ℕ → ℕ → ℕ → ℕ → Bool
-flipped w base stride i j = rel w base stride j i
-
 -- u is w with its matrix closed: by Warshall's recursion, which is to say by paths; no word outside it changed
 pub record Closed (w u : List ℕ) (base n stride : ℕ) : Type 0 where
   pub cells : (i j : ℕ) → i < n → j < 64 * stride → rel u base stride i j ≡ through (rel w base stride) n i j

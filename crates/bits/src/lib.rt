@@ -4,8 +4,7 @@ ghost use mathlib.Core.Path.{_≡_};
 ghost use Prim.Native.Nat.{ℕ, _+_, _-_, _*_, _≤_, _<_};
 ghost use lib.ListN.{length};
 ghost use Rattle.bits.specs.Bit.{bit, setBit, setBitIf, zeros, joinRow};
-ghost use Rattle.bits.specs.Matrix.{AREA-LIMIT, flipped, Closed};
-ghost use Rattle.bits.specs.Stage.{Made};
+ghost use Rattle.bits.specs.Matrix.{AREA-LIMIT, Closed};
 
 // Whether bit k is set.
 // Ruled out: one that reads bit k % 32 of the word; one that reads word k.
@@ -72,23 +71,6 @@ pub fn close(w: &mut [u64], base: usize, n: usize, stride: usize)
             if get(w, dst * 64 + k) {
                 join_row(w, dst, src, stride);
             }
-        }
-    }
-}
-
-// The n x n bits at dst become those at src with rows and columns exchanged, whatever dst held.
-// Ruled out: one that copies without exchanging; one that leaves old bits set at dst.
-pub fn transpose(w: &mut [u64], src: usize, dst: usize, n: usize, stride: usize)
-    requires { ⌜ (src + n * stride ≤ length (now w)) × (dst + n * stride ≤ length (now w))
-        × (src + n * stride ≤ AREA-LIMIT) × (dst + n * stride ≤ AREA-LIMIT) × (n ≤ 64 * stride)
-        × (dst < src + n * stride → dst + n * stride ≤ src) ⌝ }
-    ensures { λ r. ⌜ Made dst (dst + n * stride) dst stride n (flipped (now (w .entry)) src stride) (now (w .entry)) (now (w .exit)) ⌝ }
-{
-    clear(w, dst, dst + n * stride);
-    for i in 0..n {
-        for j in 0..n {
-            let b = get(w, (src + j * stride) * 64 + i);
-            put_if(w, (dst + i * stride) * 64 + j, b);
         }
     }
 }

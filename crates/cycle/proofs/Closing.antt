@@ -17,7 +17,7 @@ use Rattle.bits.specs.Fill.{or-fresh}
 use Rattle.bits.specs.Stage.{Holds, Added, holds-self, holds-kept, holds-closed, within-closed, added-joined}
 use Rattle.model.specs.Limits.{ROWS, WORK}
 use Rattle.area.specs.Regions.{EDGE, LAYERS, LAYERS-END, GRID}
-use Rattle.cycle.specs.Layers.{looped}
+use Rattle.cycle.specs.Shown.{looped}
 
 -- a row lies on a cycle where the closure has it reach itself
 on-cycle-through : (n : ℕ) (e : ℕ → ℕ → Bool) (x : ℕ) → x < n → through e n x x ≡ onCycle n e x

@@ -3,15 +3,31 @@
 use mathlib.Core.Path.{_≡_, refl, sym, ap, subst, _∙_}
 use mathlib.Core.Bool.{Bool, true}
 use mathlib.Core.List.{List}
-use Prim.Native.Nat.{ℕ, suc, _≤_, _<_}
+use Prim.Native.Nat.{ℕ, suc, _+_, _≤_, _<_}
+use native.Mathlib.Numerals.{add-one}
 use lib.ListN.{length, getD}
-use Rattle.finite.specs.Below.{least-is, least-hit}
+use Rattle.finite.specs.Below.{least, least-is, least-hit}
+use Rattle.finite.specs.Lists.{Written}
 use Rattle.finite.specs.Walk.{walk, onCycle, cycleStart, cycleSize, trail, cycle}
 use Rattle.finite.specs.Cycle.{length-trail, cycle-canonical, cycleStart-cong, cycle-cong}
 use Rattle.bits.specs.Matrix.{rel}
 use Rattle.bits.specs.Stage.{Holds}
-use Rattle.area.specs.Regions.{EDGE, GRID}
-use Rattle.cycle.specs.Layers.{Written}
+use Rattle.area.specs.Regions.{EDGE, LAYERS, GRID}
+use Rattle.walks.specs.Layers.{inLayer, Layers, layer-is}
+
+-- ---- definitions
+
+-- bit x of row x of the layers: once the edges are closed there, x lies on a cycle
+unfoldable pub looped : List ℕ → ℕ → Bool
+looped w x = rel w LAYERS GRID x x
+
+-- ---- of the layers
+
+-- the first layer that the first row is in again says how long the cycle is
+pub layer-size : {n x j : ℕ} {w : List ℕ} → Layers EDGE LAYERS GRID n x w → x < n → j ≡ least n (inLayer w LAYERS GRID x)
+    → j + 1 ≡ cycleSize n (rel w EDGE GRID) x
+unfolding cycleSize
+layer-size {x = x} {j} h l e = add-one j ∙ ap suc (e ∙ layer-is h x l)
 
 -- ---- of any relation
 

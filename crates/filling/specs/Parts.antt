@@ -1,16 +1,14 @@
 -- What the calls of a fill come to, over the rows of a table. Assumes nothing.
 use mathlib.Core.Path.{_≡_, refl, sym, ap, ap₂, _∙_}
 use mathlib.Core.Bool.{Bool, true, false, cond}
-use mathlib.Core.List.{List, _++_}
-use Prim.Native.Nat.{ℕ, _+_, _-_, _≤_, _<_}
+use mathlib.Core.List.{List}
+use Prim.Native.Nat.{ℕ, _≤_, _<_}
 use native.Mathlib.Omega.{arith}
-use native.Mathlib.Decide.{decLt, ℕ-discrete}
-use lib.ListN.{length, getD, set, drop, length-set, length-append, length-drop, List·getD-append}
-use lib.Seq.{ext-getD, getD-set-same, getD-set-other, getD-drop, getD-append-add}
+use lib.ListN.{length}
 use lib.Dec.{ltb, eqb}
 use borrow.Author.Tests.{eq-eqb, ne-eqb}
 use Rattle.finite.specs.Logic.{_and_, and-false-left}
-use Rattle.finite.specs.Lists.{tabulate, length-tabulate, getD-tabulate}
+use Rattle.finite.specs.Lists.{Written, written-all, tabulate, length-tabulate, getD-tabulate}
 use Rattle.finite.specs.Walk.{cycleStart}
 use Rattle.bits.specs.Matrix.{rel}
 use Rattle.bits.specs.Within.{Within, within-refl}
@@ -23,7 +21,6 @@ use Rattle.model.specs.Edge.{edge, cycleRow, overReader, consistent}
 use Rattle.model.specs.Fill.{Outcome, race, none, filled, chosen, sourcesFit, filledOr, racingOr, outcome, fillAnswer, sourcesAfter}
 use Rattle.laws.specs.SourceLaws.{consistent-same, fits-same}
 use Rattle.area.specs.Regions.{EDGE, EDGE-END, GRID, LAYERS, LAYERS-END}
-use Rattle.cycle.specs.Layers.{Written}
 use Rattle.race.specs.declared.Found.{Found}
 use Rattle.race.specs.declared.Found.the-variants as found
 use Rattle.race.specs.First.{raceOf, foundRace}
@@ -56,42 +53,12 @@ module _ (t : Table) (source : ℕ → ℕ) (n x : ℕ) (w v u : List ℕ) (all 
 
 -- ---- laws: the sources that are written
 
-pub written-none : (l c : List ℕ) → Written l 0 c c
-written-none l c = record { len = refl; row = λ i h. absurd (omega arith); rest = λ i h. refl }
-
-pub written-more : (l c d : List ℕ) (n v : ℕ) → n < length c → v ≡ getD l n 0 → Written l n c d → Written l (n + 1) c (set d n v)
-written-more l c d n v b e h =
-    record {
-      len = length-set d n v ∙ h .len;
-      row = λ i m. go i m (ℕ-discrete i n);
-      rest = λ i m. getD-set-other d n i v 0 (λ q. absurd (omega arith)) ∙ h .rest i (omega arith);
-    }
-  where
-    go : (i : ℕ) → i < n + 1 → Dec (i ≡ n) → getD (set d n v) i 0 ≡ getD l i 0
-    go i m (yes q) = let r = h .len in rw q (getD-set-same d n v 0 (omega arith) ∙ e)
-    go i m (no q) = getD-set-other d n i v 0 q ∙ h .row i (omega arith)
-
 -- a list of the sources, written, is what a fill leaves
 pub written-filled : (source : ℕ → ℕ) (l c d : List ℕ) (n : ℕ) → n ≤ length c → Listed source n l → Written l n c d → d ≡ sourcesAfter (filled (tabulate source n)) c
 unfolding sourcesAfter
 written-filled source l c d n room listed h =
-    ext-getD 0 d (first ++ drop (length first) c) (h .len ∙ sym whole) (λ k m. at k (decLt k n))
-  where
-    first : List ℕ
-    first = tabulate source n
-
-    front : length first ≡ n
-    front = length-tabulate source n
-
-    whole : length (first ++ drop (length first) c) ≡ length c
-    whole = length-append first (drop (length first) c) ∙ rw (length-drop (length first) c, front) (omega arith)
-
-    at : (k : ℕ) → Dec (k < n) → getD d k 0 ≡ getD (first ++ drop (length first) c) k 0
-    at k (yes m) = h .row k m ∙ listed .each k m ∙ sym (List·getD-append first (drop (length first) c) 0 k (rw front m) ∙ getD-tabulate source n k 0 m)
-    at k (no m) =
-        let p : length first + (k - length first) ≡ k = rw front (omega arith) in
-        h .rest k (omega arith)
-        ∙ sym (ap (λ (i : ℕ). getD (first ++ drop (length first) c) i 0) (sym p) ∙ getD-append-add first (drop (length first) c) (k - length first) 0 ∙ getD-drop (length first) c (k - length first) 0 ∙ ap (λ (i : ℕ). getD c i 0) p)
+    written-all (tabulate source n) c d n (sym (length-tabulate source n)) room
+    (record { len = h .len; front = λ k m. h .front k m ∙ listed .each k m ∙ sym (getD-tabulate source n k 0 m); rest = h .rest })
 
 -- ---- laws: the chosen sources, tested
 

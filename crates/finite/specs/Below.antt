@@ -169,6 +169,19 @@ least-cong p q (suc n) h =
     let e : least n p ≡ least n q = least-cong p q n (λ k l. h k (omega arith)) in
     rw (e, h (least n q) (omega (arith, least-is q n .bound))) refl
 
+-- ---- the least below a lower bound
+
+module _ {m n k : ℕ} {p : ℕ → Bool} (low : n ≤ m) (h : Least m p k) where
+  pub least-inside : k < n → k ≡ least n p
+  least-inside l = sym (least-unique p n k l (h .hit (omega arith)) (h .miss))
+
+  pub least-outside : n ≤ k → n ≡ least n p
+  least-outside l = go (decLt (least n p) n)
+    where
+      go : Dec (least n p < n) → n ≡ least n p
+      go (yes o) = not-both (least-is p n .hit o) (h .miss (least n p) (omega arith))
+      go (no o) = let b = least-is p n .bound in omega arith
+
 -- ---- whether the least is below the bound
 
 pub least-any : (n : ℕ) (p : ℕ → Bool) → ltb (least n p) n ≡ anyBelow n p

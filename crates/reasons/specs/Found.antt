@@ -14,8 +14,9 @@ use Rattle.model.specs.Limits.{ROWS, CHAIN, CLASS-SETS}
 use Rattle.model.specs.Table.{Table}
 use Rattle.model.specs.Happens.{step}
 use Rattle.model.specs.Reason.{hasChain, chainSize, hasChainBy}
-use Rattle.area.specs.Regions.{STEP, MOMENTS}
-use Rattle.reasons.specs.Layers.{inLayer, Layered}
+use Rattle.area.specs.Regions.{STEP, CHAINS, MOMENTS}
+use Rattle.walks.specs.Layers.{inLayer, layer-is}
+use Rattle.reasons.specs.Layers.{Layered}
 
 -- a walk of the class set's steps from z to x, by the number of its steps less one
 abbrev by : (t : Table) (n s x z : ℕ) → ℕ → Bool
@@ -24,18 +25,17 @@ by t n s x z j = walk (3 * n) (step t s) x (suc j) z
 -- ---- laws: one class set
 
 module _ {t : Table} {n s x : ℕ} {w : List ℕ} (all : n ≡ t .rows) (h : Layered t n s x w) (z : ℕ) (l : z < 3 * n) where
-  in-layer : (j : ℕ) → j < 3 * n → inLayer w z j ≡ by t n s x z j
-  unfolding inLayer
-  in-layer j o = h .layers .cell (suc j) z o l ∙ walk-cong (3 * n) (rel w STEP MOMENTS) (step t s) (h .steps .cell) x (suc j) z l
-
   has-is : hasChain t s z x ≡ anyBelow (3 * n) (by t n s x z)
   unfolding hasChain
   has-is = ap (λ (i : ℕ). anyBelow (3 * i) (by t i s x z)) (sym all)
 
   -- the layer that a search finds
-  module _ (j : ℕ) (e : j ≡ least (3 * n) (inLayer w z)) where
+  module _ (j : ℕ) (e : j ≡ least (3 * n) (inLayer w CHAINS MOMENTS z)) where
     first : j ≡ least (3 * n) (by t n s x z)
-    first = e ∙ least-cong (inLayer w z) (by t n s x z) (3 * n) in-layer
+    first =
+        e ∙ layer-is (h .layers) z l
+        ∙ least-cong (λ i. walk (3 * n) (rel w STEP MOMENTS) x (suc i) z) (by t n s x z) (3 * n)
+        (λ i o. walk-cong (3 * n) (rel w STEP MOMENTS) (step t s) (h .steps .cell) x (suc i) z l)
 
     pub chain-found : j < 3 * n → hasChain t s z x ≡ true
     chain-found o =
@@ -57,15 +57,15 @@ module _ {t : Table} {n s x : ℕ} {w : List ℕ} (all : n ≡ t .rows) (h : Lay
     size-fits few o apart f =
         let k : suc (least (3 * n) (by t n s x z)) < 3 * n = least-apart (3 * n) (step t s) x z o l apart (sym has-is ∙ f) in
         let q : suc j < 3 * n = subst (λ (i : ℕ). suc i < 3 * n) (sym first) k in
-        let i : least (3 * n) (inLayer w z) < 3 * n = subst (λ (i : ℕ). i < 3 * n) e (omega arith) in
-        let hit : inLayer w z j ≡ true = subst (λ (i : ℕ). inLayer w z i ≡ true) (sym e) (least-is (inLayer w z) (3 * n) .hit i) in
+        let i : least (3 * n) (inLayer w CHAINS MOMENTS z) < 3 * n = subst (λ (i : ℕ). i < 3 * n) e (omega arith) in
+        let hit : inLayer w CHAINS MOMENTS z j ≡ true = subst (λ (i : ℕ). inLayer w CHAINS MOMENTS z i ≡ true) (sym e) (least-is (inLayer w CHAINS MOMENTS z) (3 * n) .hit i) in
         let g : walk (3 * n) (rel w STEP MOMENTS) x (suc j) z ≡ true = sym (h .layers .cell (suc j) z (omega arith) l) ∙ hit in
         (omega arith, omega arith, subst (λ (i : ℕ). walk (3 * n) (rel w STEP MOMENTS) x i z ≡ true) (sym (add-one j)) g)
 
 -- ---- laws: the class sets in turn
 
 module _ {t : Table} {n x c : ℕ} {w : List ℕ} (all : n ≡ t .rows) (h : Layered t n (c + 1) x w) (z j : ℕ) (l : z < 3 * n)
-    (e : j ≡ least (3 * n) (inLayer w z)) (none : least c (hasChainBy t z x) ≡ c) where
+    (e : j ≡ least (3 * n) (inLayer w CHAINS MOMENTS z)) (none : least c (hasChainBy t z x) ≡ c) where
   pub set-found : c < CLASS-SETS → j < 3 * n → c ≡ least CLASS-SETS (hasChainBy t z x)
   unfolding hasChainBy
   set-found o q =

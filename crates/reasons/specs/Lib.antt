@@ -2,4 +2,3 @@ pub mod Cases
 pub mod Found
 pub mod Layers
 pub mod Whole
-pub mod Written

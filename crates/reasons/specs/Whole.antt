@@ -10,6 +10,7 @@ use lib.Dec.{ltb, eqb}
 use borrow.Author.Tests.{ltb-true, eqb-false, lt-ltb, le-ltb}
 use Rattle.finite.specs.Logic.{_and_, split, not-out}
 use Rattle.finite.specs.Below.{least}
+use Rattle.finite.specs.Lists.{Written, written-all}
 use Rattle.finite.specs.Walk.{walk, trail, along}
 use Rattle.finite.specs.Cycle.{length-trail, length-along, trail-cong}
 use Rattle.bits.specs.Bit.{zeros}
@@ -26,14 +27,14 @@ use Rattle.model.specs.Moment.{momentIn, moment, programOrder}
 use Rattle.model.specs.Happens.{step}
 use Rattle.model.specs.Check.{wiped}
 use Rattle.model.specs.Reason.{twoMoments, chainSize, stepNumber, chain, hasChainBy, Derived, refused, word, chained, notBefore, chainOr, ours, derivedOf, deriveAnswer, chainAfter, workAfter}
-use Rattle.area.specs.Regions.{MUTUAL, SYNC-END, HAPPENS, STEP, CHAINS-END, MOMENTS}
+use Rattle.area.specs.Regions.{MUTUAL, SYNC-END, HAPPENS, STEP, CHAINS, CHAINS-END, MOMENTS}
 use Rattle.pieces.specs.declared.Refusal.{Refusal}
 use Rattle.pieces.specs.Pieces.{areaOf, joined, deriveBoth}
 use Rattle.pieces.specs.Entry.{refusalOf, doorBoth, Left, left-same, zeros-wiped, opened-refused, opened-admitted, door-admits, table-both, table-false}
 use Rattle.pieces.specs.Answers.{not-derived, derive-both}
-use Rattle.reasons.specs.Layers.{inLayer, Layered}
+use Rattle.walks.specs.Layers.{inLayer}
+use Rattle.reasons.specs.Layers.{Layered}
 use Rattle.reasons.specs.Found.{size-is, size-fits, set-has}
-use Rattle.reasons.specs.Written.{Written, written-all}
 
 -- ---- definitions
 
@@ -44,7 +45,7 @@ Told o r w u c d = Left deriveAnswer workAfter chainAfter o r w u c d
 -- ---- laws: the chain that is written
 
 module _ {t : Table} {n s x z : ℕ} {w : List ℕ} (all : n ≡ t .rows) (h : Layered t n s x w) (l : z < 3 * n) (j : ℕ)
-    (e : j ≡ least (3 * n) (inLayer w z)) where
+    (e : j ≡ least (3 * n) (inLayer w CHAINS MOMENTS z)) where
   chain-trail : chain t s z x ≡ along (stepNumber t s) x (trail (3 * n) (step t s) x (j + 1) z)
   unfolding chain
   chain-trail =
@@ -98,7 +99,7 @@ module _ (t : Table) (m k : ℕ) where
 
 -- the class set was found, and then the layer of the first moment
 module _ {t : Table} {n m k i : ℕ} {u : List ℕ} (all : n ≡ t .rows) (few : n ≤ ROWS) (l : m < 3 * n) (o : k < 3 * n) (apart : m ≡ k → ⊥)
-    (f : i ≡ least CLASS-SETS (hasChainBy t m k)) (s : i < CLASS-SETS) (h : Layered t n (i + 1) k u) (j : ℕ) (e : j ≡ least (3 * n) (inLayer u m)) where
+    (f : i ≡ least CLASS-SETS (hasChainBy t m k)) (s : i < CLASS-SETS) (h : Layered t n (i + 1) k u) (j : ℕ) (e : j ≡ least (3 * n) (inLayer u CHAINS MOMENTS m)) where
   -- what `write_steps` asks
   pub steps-asked : (j + 1 ≤ CHAIN) × (j + 1 ≤ 3 * n) × (walk (3 * n) (rel u STEP MOMENTS) k (j + 1) m ≡ true)
   steps-asked = size-fits all h m l j e few o apart (set-has t i m k f s)

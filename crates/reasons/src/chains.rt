@@ -5,6 +5,7 @@ ghost use mathlib.Core.List.{List};
 ghost use Prim.Native.Nat.{ℕ, _+_, _*_, _/_, _%_, _≤_, _<_};
 ghost use lib.ListN.{length};
 ghost use Rattle.finite.specs.Below.{least};
+ghost use Rattle.finite.specs.Lists.{Written};
 ghost use Rattle.finite.specs.Walk.{walk, trail, along};
 ghost use Rattle.bits.specs.Matrix.{rel};
 ghost use Rattle.bits.specs.Within.{Within};
@@ -13,11 +14,11 @@ ghost use Rattle.model.specs.Limits.{ROWS, WORK, CHAIN, CLASS-SETS};
 ghost use Rattle.model.specs.Table.{decode, rowOf};
 ghost use Rattle.model.specs.Moment.{programOrder};
 ghost use Rattle.model.specs.Reason.{hasChainBy, stepNumber};
-ghost use Rattle.area.specs.Regions.{HAPPENS, STEP, CHAINS-END, MOMENTS};
+ghost use Rattle.area.specs.Regions.{HAPPENS, STEP, CHAINS, CHAINS-END, MOMENTS};
 ghost use Rattle.sequence.specs.Known.{Synced};
-ghost use Rattle.reasons.specs.Layers.{MOST, Layers, Layered};
+ghost use Rattle.walks.specs.Layers.{Layers};
+ghost use Rattle.reasons.specs.Layers.{Layered};
 ghost use Rattle.reasons.specs.Cases.{lowestRows};
-ghost use Rattle.reasons.specs.Written.{stepBit, Written};
 use crate::layers;
 use model::Mode;
 use model::Places;
@@ -46,7 +47,7 @@ pub fn find_set(
 {
     for c in 0..cases::CLASS_SETS {
         layers::make_layers(rows, p, mode, n, c + 1, second, w);
-        let j = layers::layer_of(w, 3 * n, first);
+        let j = walks::layer_of(w, area::CHAINS, area::MOMENTS, 3 * n, first);
         if j < 3 * n {
             return c;
         }
@@ -55,27 +56,6 @@ pub fn find_set(
 }
 
 // ---- its steps
-
-// Whether a step leads from moment z to moment y, and y is in layer k.
-fn is_step(w: &[u64], k: usize, z: usize, y: usize) -> bool
-    requires { ⌜ (WORK ≤ length (now w)) × (k ≤ MOST) × (z < MOST) × (y < MOST) ⌝ }
-    ensures { λ b. ⌜ b ≡ stepBit (now (w .entry)) k z y ⌝ }
-{
-    layers::has(w, area::STEP, z, y) & layers::has(w, area::CHAINS, k, y)
-}
-
-// The least moment that a step from z leads to and that is in layer k; m where there is none.
-fn next_moment(w: &[u64], m: usize, k: usize, z: usize) -> usize
-    requires { ⌜ (m ≤ MOST) × (WORK ≤ length (now w)) × (k ≤ m) × (z < m) ⌝ }
-    ensures { λ y. ⌜ y ≡ least m (stepBit (now (w .entry)) k z) ⌝ }
-{
-    for y in 0..m {
-        if is_step(w, k, z, y) {
-            return y;
-        }
-    }
-    m
-}
 
 fn pick(b: bool, x: u16, y: u16) -> u16
     ensures { λ r. ⌜ r ≡ cond b x y ⌝ }
@@ -131,14 +111,22 @@ pub fn write_steps(
     c: &mut [u16],
 )
     requires { ⌜ (n ≤ ROWS) × (WORK ≤ length (now w)) × (first < 3 * n) × (size ≤ CHAIN) × (size ≤ 3 * n) × (CHAIN ≤ length (now c))
-        × Layers (3 * n) (rel (now w) STEP MOMENTS) second (now w) × (walk (3 * n) (rel (now w) STEP MOMENTS) second size first ≡ true) ⌝ }
+        × Layers STEP CHAINS MOMENTS (3 * n) second (now w) × (walk (3 * n) (rel (now w) STEP MOMENTS) second size first ≡ true) ⌝ }
     ensures { λ _. ⌜ ((p : List (List ℕ)) (mode : Mode) → Synced (decode (now (rows .entry)) p mode n) n (now (w .entry))
         → Written (along (stepNumber (decode (now (rows .entry)) p mode n) s) second
         (trail (3 * n) (rel (now (w .entry)) STEP MOMENTS) second size first)) size (now (c .entry)) (now (c .exit))) ⌝ }
 {
     let mut z = first;
     for i in 0..size {
-        let y = next_moment(w, 3 * n, size - i - 1, z);
+        let y = walks::next(
+            w,
+            area::STEP,
+            area::CHAINS,
+            area::MOMENTS,
+            3 * n,
+            size - i - 1,
+            z,
+        );
         c[i] = step_number(rows, n, s, z, y, w);
         z = y;
     }

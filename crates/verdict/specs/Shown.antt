@@ -9,20 +9,21 @@ use lib.ListN.{length, getD, set, length-set, drop, length-append, length-drop, 
 use lib.Seq.{ext-getD, getD-drop, getD-append-add, getD-set-same, getD-set-other}
 use lib.Dec.{ltb}
 use borrow.Author.Tests.{lt-ltb, le-ltb}
-use Rattle.finite.specs.Lists.{tabulate, length-tabulate, getD-tabulate}
+use Rattle.finite.specs.Below.{least}
+use Rattle.finite.specs.Lists.{Written, tabulate, length-tabulate, getD-tabulate}
 use Rattle.bits.specs.Bit.{zeros, length-zeros, zeros-in, zeros-out}
-use Rattle.model.specs.Limits.{CYCLE, CYCLE-EDGES}
+use Rattle.model.specs.Limits.{ROWS, CYCLE, CYCLE-EDGES}
 use Rattle.model.specs.Check.{cycleNumber, cycleAfter, cyclic}
 use Rattle.finite.specs.Walk.{walk, cycleStart, cycleSize, trail, cycle, along}
 use Rattle.finite.specs.Cycle.{along-at, along-last, length-along}
 use Rattle.model.specs.Table.{Table}
 use Rattle.model.specs.Edge.{edgeNumber, edge, cycleRow, cycleRows, cycleEdges}
 use Rattle.bits.specs.Matrix.{rel}
-use Rattle.bits.specs.Within.{Within}
+use Rattle.bits.specs.Within.{Within, within-widen}
 use Rattle.bits.specs.Stage.{Holds, holds-kept}
 use Rattle.area.specs.Regions.{EDGE, GRID, LAYERS, LAYERS-END}
-use Rattle.cycle.specs.Shown.{shown-below, held-walk, held-length, held-written}
-use Rattle.cycle.specs.Layers.{Written}
+use Rattle.walks.specs.Layers.{inLayer, Layers}
+use Rattle.cycle.specs.Shown.{layer-size, shown-below, held-walk, held-length, held-written}
 
 -- ---- definitions
 
@@ -85,8 +86,8 @@ unfolding stepNumber
 steps-along t source x l c d e w h = record { len = h .len; number = λ i m. h .number i m ∙ at i m (decLt (i + 1) (length l)); rest = h .rest }
   where
     at : (i : ℕ) → i < length l → Dec (i + 1 < length l) → edgeNumber t source (getD d i 0) (cond (ltb (i + 1) (length l)) (getD d (i + 1) 0) x) ≡ getD (along (edgeNumber t source) x l) i 0
-    at i m (yes q) = rw (lt-ltb (i + 1) (length l) q, w .row i m, w .row (i + 1) q) (sym (along-at (edgeNumber t source) x l i q))
-    at i m (no q) = rw (le-ltb (i + 1) (length l) (omega arith), w .row i m) (sym (along-last (edgeNumber t source) x l i (omega arith)))
+    at i m (yes q) = rw (lt-ltb (i + 1) (length l) q, w .front i m, w .front (i + 1) q) (sym (along-at (edgeNumber t source) x l i q))
+    at i m (no q) = rw (le-ltb (i + 1) (length l) (omega arith), w .front i m) (sym (along-last (edgeNumber t source) x l i (omega arith)))
 
 number-low : (rows edges : List ℕ) (k : ℕ) → k < CYCLE-EDGES → cycleNumber rows edges k ≡ getD rows k 0
 unfolding cycleNumber
@@ -133,7 +134,7 @@ shown-buffer rows edges c d e f room few same cleared written numbered =
     row-at k l = numbered .rest k (λ h. absurd (omega arith)) ∙ go (decLt k n)
       where
         go : Dec (k < n) → getD e k 0 ≡ getD rows k 0
-        go (yes h) = written .row k h
+        go (yes h) = written .front k h
         go (no h) = written .rest k (omega arith) ∙ zero-at k (omega arith) ∙ sym (List·getD-eq-default rows 0 (omega arith))
 
     edge-at : (j : ℕ) → j < CYCLE-EDGES → getD f (CYCLE-EDGES + j) 0 ≡ getD edges j 0
@@ -165,44 +166,49 @@ shown-buffer rows edges c d e f room few same cleared written numbered =
 
 -- ---- laws: the calls that show a cycle, one after the other
 
--- w is the area before the layers are made, u after; n rows, and the cycle's lowest row is x
-module _ (t : Table) (source : ℕ → ℕ) (n x size : ℕ) (w u : List ℕ) (all : n ≡ t .rows) (h : Holds EDGE GRID n (edge t source) w)
-    (frame : Within LAYERS LAYERS-END w u) (q : x ≡ cycleRow t source) (s : size ≡ cycleSize n (rel u EDGE GRID) x) where
+-- w is the area before the layers are made, u after; n rows, the cycle's lowest row is x, and it is in layer j + 1 again
+module _ (t : Table) (source : ℕ → ℕ) (n x j : ℕ) (w u : List ℕ) (all : n ≡ t .rows) (few : n ≤ ROWS) (h : Holds EDGE GRID n (edge t source) w)
+    (filled : Layers EDGE LAYERS GRID n x u × Within LAYERS (LAYERS + n * GRID + GRID) w u) (q : x ≡ cycleRow t source) (l : x < n)
+    (e : j ≡ least n (inLayer u LAYERS GRID x)) where
   held : Holds EDGE GRID n (edge t source) u
-  held = let g : n ≤ 64 * GRID = h .fits in holds-kept (λ l. absurd (omega arith)) frame h
+  held = holds-kept (λ l. absurd (omega arith)) (filled .1) h
 
   start : x ≡ cycleStart n (edge t source)
   unfolding cycleRow
   start = rw all q
 
-  pub size-asked : x < n → (size ≤ n) × (walk n (rel u EDGE GRID) x size x ≡ true)
-  size-asked l = held-walk held start l s
+  sized : j + 1 ≡ cycleSize n (rel u EDGE GRID) x
+  sized = layer-size (filled .0) l e
+
+  pub size-asked : (j + 1 ≤ n) × (walk n (rel u EDGE GRID) x (j + 1) x ≡ true)
+  size-asked = held-walk held start l sized
 
   rows-are : cycle n (edge t source) ≡ cycleRows t source
   unfolding cycleRows
   rows-are = ap (λ (m : ℕ). cycle m (edge t source)) all
 
-  pub size-is : size ≡ length (cycleRows t source)
-  size-is = held-length held start s ∙ ap length rows-are
+  pub size-is : j + 1 ≡ length (cycleRows t source)
+  size-is = held-length held start sized ∙ ap length rows-are
 
-  module _ (d e : List ℕ) (written : Written (trail n (rel u EDGE GRID) x size x) size d e) where
-    pub rows-written : Written (cycleRows t source) (length (cycleRows t source)) d e
-    rows-written = subst (λ (l : List ℕ). Written l (length l) d e) rows-are (held-written held start s written)
+  module _ (d f : List ℕ) (written : Written (trail n (rel u EDGE GRID) x (j + 1) x) (j + 1) d f) where
+    pub rows-written : Written (cycleRows t source) (length (cycleRows t source)) d f
+    rows-written = subst (λ (l : List ℕ). Written l (length l) d f) rows-are (held-written held start sized written)
 
-    pub rows-below : x < n → (i : ℕ) → i < size → getD e i 0 < n
-    rows-below l i m =
+    pub rows-below : (i : ℕ) → i < j + 1 → getD f i 0 < n
+    rows-below i m =
         let k : i < length (cycleRows t source) = subst (λ (v : ℕ). i < v) size-is m in
-        rw (rows-written .row i k) (subst (λ (r : List ℕ). getD r i 0 < n) rows-are (shown-below n (edge t source) (subst (λ (v : ℕ). v < n) start l) i (subst (λ (r : List ℕ). i < length r) (sym rows-are) k)))
+        rw (rows-written .front i k) (subst (λ (r : List ℕ). getD r i 0 < n) rows-are (shown-below n (edge t source) (subst (λ (v : ℕ). v < n) start l) i (subst (λ (r : List ℕ). i < length r) (sym rows-are) k)))
 
-    pub shown-is : (c f : List ℕ) → n ≤ CYCLE-EDGES → x < n → CYCLE ≤ length c → d ≡ zeros c 0 CYCLE → Numbered (stepNumber t source x size e) size e f
-        → (size ≡ length (cycleRows t source)) × (f ≡ cycleAfter (cyclic (cycleRows t source) (cycleEdges t source)) c)
+    pub shown-is : (c g : List ℕ) → CYCLE ≤ length c → d ≡ zeros c 0 CYCLE → Numbered (stepNumber t source x (j + 1) f) (j + 1) f g
+        → (j + 1 ≡ length (cycleRows t source)) × (g ≡ cycleAfter (cyclic (cycleRows t source) (cycleEdges t source)) c) × Within LAYERS LAYERS-END w u
     unfolding cycleEdges
-    shown-is c f few l room cleared numbered =
-        let k = size-asked l .0 in
+    shown-is c g room cleared numbered =
+        let k = size-asked .0 in
         let z = size-is in
-        let m : Numbered (stepNumber t source x (length (cycleRows t source)) e) (length (cycleRows t source)) e f = subst (λ (v : ℕ). Numbered (stepNumber t source x v e) v e f) size-is numbered in
-        let a : Numbered (λ i. getD (along (edgeNumber t source) x (cycleRows t source)) i 0) (length (cycleRows t source)) e f = steps-along t source x (cycleRows t source) d e f rows-written m in (
+        let m : Numbered (stepNumber t source x (length (cycleRows t source)) f) (length (cycleRows t source)) f g = subst (λ (v : ℕ). Numbered (stepNumber t source x v f) v f g) size-is numbered in
+        let a : Numbered (λ i. getD (along (edgeNumber t source) x (cycleRows t source)) i 0) (length (cycleRows t source)) f g = steps-along t source x (cycleRows t source) d f g rows-written m in (
           size-is,
-          subst (λ (y : ℕ). f ≡ cycleAfter (cyclic (cycleRows t source) (along (edgeNumber t source) y (cycleRows t source))) c) q
-              (shown-buffer (cycleRows t source) (along (edgeNumber t source) x (cycleRows t source)) c d e f room (omega arith) (length-along (edgeNumber t source) x (cycleRows t source)) cleared rows-written a),
+          subst (λ (y : ℕ). g ≡ cycleAfter (cyclic (cycleRows t source) (along (edgeNumber t source) y (cycleRows t source))) c) q
+              (shown-buffer (cycleRows t source) (along (edgeNumber t source) x (cycleRows t source)) c d f g room (omega arith) (length-along (edgeNumber t source) x (cycleRows t source)) cleared rows-written a),
+          within-widen LAYERS LAYERS-END (omega arith) (omega arith) (filled .1),
         )

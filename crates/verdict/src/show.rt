@@ -86,8 +86,8 @@ pub fn show_cycle(
         × (now (c .exit) ≡ cycleAfter (cyclic (cycleRows (decode (now (rows .entry)) p mode n) (sourceIn (now (src .entry)))) (cycleEdges (decode (now (rows .entry)) p mode n) (sourceIn (now (src .entry))))) (now (c .entry)))
         × Within LAYERS LAYERS-END (now (w .entry)) (now (w .exit)) ⌝ }
 {
-    cycle::fill_layers(w, n, x);
-    let size = cycle::cycle_size(w, n, x);
+    walks::fill_layers(w, area::EDGE, area::LAYERS, area::GRID, n, x);
+    let size = walks::layer_of(w, area::LAYERS, area::GRID, n, x) + 1;
     clear_numbers(c);
     cycle::write_rows(w, n, x, size, c);
     write_edges(rows, p, mode, n, src, x, size, w, c);

@@ -3,13 +3,14 @@ use mathlib.Core.Path.{_≡_, sym, _∙_}
 use Prim.Native.Nat.{_-_, _≤_}
 use native.Mathlib.Omega.{arith}
 use Rattle.finite.specs.Below.{least, least-none, least-more, least-found}
-use Rattle.cycle.specs.Layers.{looped}
+use Rattle.bits.specs.Matrix.{rel}
+use Rattle.cycle.specs.Shown.{looped}
 use borrow.Author.Needs.{needs}
 use Rattle.cycle.proofs.first_looped.Statement.{statement}
 use Rattle.cycle.proofs.first_looped.Tie as tie
 use Rattle.cycle.proofs.first_looped.Reads as reads
 use Rattle.cycle.proofs.first_looped.Lts as lts
-use Rattle.cycle.proofs.has.Reads as has-reads
+use Rattle.bits.proofs.get.Reads as get-reads
 
 abbrev Inv-loop : tie.InvT-loop
 Inv-loop w n x₀ x = (x ≤ n) × (least x (looped w) ≡ x)
@@ -20,12 +21,24 @@ abbrev μ-loop : tie.MeasureT-loop
 loop-holds : tie.Need-loop-holds Inv-loop μ-loop
 loop-holds c = (search needs, least-none _)
 
-has-requires : tie.Need-has-requires Inv-loop μ-loop
-has-requires c κs = search needs
+mul-get : tie.Need-mul-get Inv-loop μ-loop
+mul-get c = search needs
+
+add-get : tie.Need-add-get Inv-loop μ-loop
+add-get c = search needs
+
+mul-get-2 : tie.Need-mul-get-2 Inv-loop μ-loop
+mul-get-2 c = search needs
+
+add-get-2 : tie.Need-add-get-2 Inv-loop μ-loop
+add-get-2 c = search needs
+
+get-requires : tie.Need-get-requires Inv-loop μ-loop
+get-requires c κs = search needs
 
 returns : tie.Need-returns Inv-loop μ-loop
-unfolding looped
-returns c = sym (least-found _ _ _ (c .before .before .before .loop .inv .1) (sym (c .before .has .ensures) ∙ c .if1 .taken) (c .before .before .loop-test .taken))
+unfolding looped rel
+returns c = sym (least-found _ _ _ (c .before .before .before .loop .inv .1) (sym (c .before .get .ensures) ∙ c .if1 .taken) (c .before .before .loop-test .taken))
 
 add-x : tie.Need-add-x Inv-loop μ-loop
 add-x c = search needs
@@ -34,8 +47,8 @@ loop-less : tie.Need-loop-less Inv-loop μ-loop
 loop-less c = search needs
 
 loop-again : tie.Need-loop-again Inv-loop μ-loop
-unfolding looped
-loop-again c = (search needs, least-more _ _ (c .before .before .before .loop .inv .1) (sym (c .before .has .ensures) ∙ c .if1 .left))
+unfolding looped rel
+loop-again c = (search needs, least-more _ _ (c .before .before .before .loop .inv .1) (sym (c .before .get .ensures) ∙ c .if1 .left))
 
 returns-2 : tie.Need-returns-2 Inv-loop μ-loop
 returns-2 c =
@@ -45,4 +58,4 @@ returns-2 c =
 pub first-looped-spec : {M : Type 1} → statement M
 first-looped-spec =
     tie.close
-    (tie.spec Inv-loop μ-loop loop-holds has-requires returns add-x loop-less loop-again returns-2)
+    (tie.spec Inv-loop μ-loop loop-holds mul-get add-get mul-get-2 add-get-2 get-requires returns add-x loop-less loop-again returns-2)

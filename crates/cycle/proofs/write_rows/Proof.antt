@@ -1,23 +1,25 @@
 -- `write_rows` meets its contract: i rows are written, and the rest of the trail begins at z. Assumes nothing.
-use mathlib.Core.Path.{_≡_, refl}
-use Prim.Native.Nat.{_-_, _≤_, _<_}
+use mathlib.Core.Path.{_≡_, refl, sym, ap, _∙_}
+use mathlib.Core.List.{List}
+use Prim.Native.Nat.{ℕ, _-_, _≤_, _<_}
 use native.Mathlib.Omega.{arith}
-use lib.ListN.{length, length-set}
+use lib.ListN.{length, getD, length-set}
+use Rattle.finite.specs.Lists.{Written, written-none, written-more}
 use Rattle.finite.specs.Walk.{trail}
 use Rattle.bits.specs.Matrix.{rel}
 use Rattle.area.specs.Regions.{EDGE, GRID}
-use Rattle.cycle.specs.Layers.{Written}
-use Rattle.cycle.proofs.Trails.{Left, written-none, written-more, left-none, left-head, left-more}
+use Rattle.walks.specs.Layers.{next-is}
+use Rattle.walks.specs.Left.{Left, along-first, left-none, left-more}
 use borrow.Author.Needs.{needs}
 use Rattle.cycle.proofs.write_rows.Statement.{statement}
 use Rattle.cycle.proofs.write_rows.Tie as tie
 use Rattle.cycle.proofs.write_rows.Reads as reads
 use Rattle.cycle.proofs.write_rows.Lts as lts
-use Rattle.cycle.proofs.next_row.Reads as next-row-reads
+use Rattle.walks.proofs.next.Reads as next-reads
 
 abbrev Inv-loop : tie.InvT-loop
 Inv-loop w n x size c₀ z₀ i₀ c z i =
-    (i ≤ size) × (z < n) × (length c ≡ length c₀) × Written (trail n (rel w EDGE GRID) x size x) i c₀ c × Left n (rel w EDGE GRID) x size i (size - i) z
+    (i ≤ size) × (z < n) × (length c ≡ length c₀) × Written (trail n (rel w EDGE GRID) x size x) i c₀ c × Left n (rel w EDGE GRID) x size x i (size - i) z
 
 abbrev μ-loop : tie.MeasureT-loop
 μ-loop w n x size c₀ z₀ i₀ c z i = size - i
@@ -25,7 +27,7 @@ abbrev μ-loop : tie.MeasureT-loop
 loop-holds : tie.Need-loop-holds Inv-loop μ-loop
 loop-holds c =
     let start = c .before .before in
-    (search needs, start .pre .2, refl, written-none _ _, left-none _ _ _ _ (start .pre .6))
+    (search needs, start .pre .2, refl, written-none _ _, left-none _ _ _ _ _ (start .pre .6))
 
 cast-c : tie.Need-cast-c Inv-loop μ-loop
 cast-c c = search needs
@@ -36,14 +38,14 @@ mul-c c = search needs
 slice-write-c : tie.Need-slice-write-c Inv-loop μ-loop
 slice-write-c c = search needs
 
-sub-next-row : tie.Need-sub-next-row Inv-loop μ-loop
-sub-next-row c = search needs
+sub-next : tie.Need-sub-next Inv-loop μ-loop
+sub-next c = search needs
 
-sub-next-row-2 : tie.Need-sub-next-row-2 Inv-loop μ-loop
-sub-next-row-2 c = search needs
+sub-next-2 : tie.Need-sub-next-2 Inv-loop μ-loop
+sub-next-2 c = search needs
 
-next-row-requires : tie.Need-next-row-requires Inv-loop μ-loop
-next-row-requires c κs = search needs
+next-requires : tie.Need-next-requires Inv-loop μ-loop
+next-requires c κs = search needs
 
 add-i : tie.Need-add-i Inv-loop μ-loop
 add-i c = search needs
@@ -57,8 +59,9 @@ loop-again c =
     let start = at-loop .before .before .before in
     let inv = at-loop .loop .inv in
     let less = c .before .loop-test .taken in
-    let more = left-more _ _ _ _ _ _ _ less (inv .4) (c .next-row .ensures .1 _ (start .pre .5)) in
-    (search needs, more .0, simp length-set (inv .2), written-more _ _ (search needs) (left-head _ _ _ _ _ _ less (inv .4)) (inv .3), more .1)
+    let more = left-more _ _ _ _ _ _ _ _ less (inv .4) (c .next .ensures ∙ next-is (start .pre .5) _ _ (omega arith)) in
+    let row = sym (ap (λ (l : List ℕ). getD l (at-loop .loop .i) 0) (along-first _ _)) ∙ more .1 (λ a b. a) in
+    (search needs, more .0, simp length-set (inv .2), written-more _ _ (search needs) row (inv .3), more .2)
 
 same-length : tie.Need-same-length Inv-loop μ-loop
 same-length c = search needs
@@ -78,9 +81,9 @@ write-rows-spec =
     cast-c
     mul-c
     slice-write-c
-    sub-next-row
-    sub-next-row-2
-    next-row-requires
+    sub-next
+    sub-next-2
+    next-requires
     add-i
     loop-less
     loop-again

@@ -12,7 +12,7 @@ use Rattle.reasons.proofs.derive_moments.Lts as lts
 use Rattle.rules.proofs.moments.ordered_at.Reads as ordered-at-reads
 use Rattle.reasons.proofs.chains.find_set.Reads as find-set-reads
 use Rattle.reasons.proofs.chains.write_steps.Reads as write-steps-reads
-use Rattle.reasons.proofs.layers.layer_of.Reads as layer-of-reads
+use Rattle.walks.proofs.layer_of.Reads as layer-of-reads
 use Rattle.sequence.proofs.sync.make_synced.Reads as make-synced-reads
 
 -- src/lib.rt:60:8

@@ -2,8 +2,7 @@ use mathlib.Core.Path.{_≡_, refl}
 use Prim.Native.Nat.{_-_, _≤_}
 use native.Mathlib.Omega.{arith}
 use lib.ListN.{length, length-set}
-use Rattle.cycle.specs.Layers.{Written}
-use Rattle.filling.specs.Parts.{written-none, written-more}
+use Rattle.finite.specs.Lists.{Written, written-none, written-more}
 use borrow.Author.Needs.{needs}
 use Rattle.filling.proofs.settle.write_sources.Statement.{statement}
 use Rattle.filling.proofs.settle.write_sources.Tie as tie
@@ -48,7 +47,7 @@ loop-less c = search needs
 loop-again : tie.Need-loop-again Inv-loop μ-loop
 loop-again c =
     let inv = c .before .before .loop .inv in
-    (search needs, simp length-set (inv .1), written-more _ _ _ _ _ (search needs) refl (inv .2))
+    (search needs, simp length-set (inv .1), written-more _ _ (search needs) refl (inv .2))
 
 -- src/settle.rt:47:1
 same-length : tie.Need-same-length Inv-loop μ-loop

@@ -16,7 +16,7 @@ use Rattle.reasons.proofs.chains.find_set.Statement.{statement}
 use Rattle.reasons.proofs.chains.find_set.Tie as tie
 use Rattle.reasons.proofs.chains.find_set.Reads as reads
 use Rattle.reasons.proofs.chains.find_set.Lts as lts
-use Rattle.reasons.proofs.layers.layer_of.Reads as layer-of-reads
+use Rattle.walks.proofs.layer_of.Reads as layer-of-reads
 use Rattle.reasons.proofs.layers.make_layers.Reads as make-layers-reads
 
 abbrev Inv-loop : tie.InvT-loop

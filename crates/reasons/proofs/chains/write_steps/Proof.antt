@@ -4,6 +4,7 @@ use mathlib.Core.List.{List}
 use Prim.Native.Nat.{ℕ, _-_, _*_, _≤_, _<_}
 use native.Mathlib.Omega.{arith}
 use lib.ListN.{length, length-set}
+use Rattle.finite.specs.Lists.{Written, written-none, written-more}
 use Rattle.finite.specs.Walk.{trail, along}
 use Rattle.bits.specs.Matrix.{rel}
 use Rattle.model.specs.declared.Mode.{Mode}
@@ -11,13 +12,14 @@ use Rattle.model.specs.Table.{decode}
 use Rattle.model.specs.Reason.{stepNumber}
 use Rattle.area.specs.Regions.{STEP, MOMENTS}
 use Rattle.sequence.specs.Known.{Synced}
-use Rattle.reasons.specs.Written.{Written, written-none, written-more, next-is, Left, left-none, left-more}
+use Rattle.walks.specs.Layers.{next-is}
+use Rattle.walks.specs.Left.{Left, left-none, left-more}
 use borrow.Author.Needs.{needs}
 use Rattle.reasons.proofs.chains.write_steps.Statement.{statement}
 use Rattle.reasons.proofs.chains.write_steps.Tie as tie
 use Rattle.reasons.proofs.chains.write_steps.Reads as reads
 use Rattle.reasons.proofs.chains.write_steps.Lts as lts
-use Rattle.reasons.proofs.chains.next_moment.Reads as next-moment-reads
+use Rattle.walks.proofs.next.Reads as next-reads
 use Rattle.reasons.proofs.chains.step_number.Reads as step-number-reads
 
 abbrev Inv-loop : tie.InvT-loop
@@ -33,27 +35,27 @@ loop-holds c =
     (search needs, start .pre .2, refl, left-none _ _ _ _ _ (start .pre .7), λ p mode h. written-none _ _)
 
 -- src/chains.rt:138:32
-mul-next-moment : tie.Need-mul-next-moment Inv-loop μ-loop
-mul-next-moment c = search needs
+mul-next : tie.Need-mul-next Inv-loop μ-loop
+mul-next c = search needs
 
 -- src/chains.rt:138:39
-sub-next-moment : tie.Need-sub-next-moment Inv-loop μ-loop
-sub-next-moment c = search needs
+sub-next : tie.Need-sub-next Inv-loop μ-loop
+sub-next c = search needs
 
 -- src/chains.rt:138:39
-sub-next-moment-2 : tie.Need-sub-next-moment-2 Inv-loop μ-loop
-sub-next-moment-2 c = search needs
+sub-next-2 : tie.Need-sub-next-2 Inv-loop μ-loop
+sub-next-2 c = search needs
 
 -- src/chains.rt:138:13
-next-moment-requires : tie.Need-next-moment-requires Inv-loop μ-loop
-next-moment-requires c κs = search needs
+next-requires : tie.Need-next-requires Inv-loop μ-loop
+next-requires c κs = search needs
 
 -- src/chains.rt:139:16
 step-number-requires : tie.Need-step-number-requires Inv-loop μ-loop
 step-number-requires c κs =
     let start = c .before .before .before .before .before .before in
     let inv = c .before .before .loop .inv in
-    let more = left-more _ _ _ _ _ _ _ _ (c .before .loop-test .taken) (inv .3) (next-is (start .pre .6) _ _ _ (omega arith) (c .next-moment .ensures)) in
+    let more = left-more _ _ _ _ _ _ _ _ (c .before .loop-test .taken) (inv .3) (c .next .ensures ∙ next-is (start .pre .6) _ _ (omega arith)) in
     (start .pre .0, inv .1, more .0, start .pre .1)
 
 -- src/chains.rt:139:9
@@ -77,7 +79,7 @@ loop-again : tie.Need-loop-again Inv-loop μ-loop
 loop-again c =
     let start = c .before .before .before .before .before .before .before in
     let inv = c .before .before .before .loop .inv in
-    let more = left-more _ _ _ _ _ _ _ _ (c .before .before .loop-test .taken) (inv .3) (next-is (start .pre .6) _ _ _ (omega arith) (c .before .next-moment .ensures)) in
+    let more = left-more _ _ _ _ _ _ _ _ (c .before .before .loop-test .taken) (inv .3) (c .before .next .ensures ∙ next-is (start .pre .6) _ _ (omega arith)) in
     (search needs, more .0, simp length-set (inv .2), more .2, λ p mode h. written-more _ _ (omega arith) (more .1 _ ∙ sym (c .step-number .ensures p mode h)) (inv .4 p mode h))
 
 -- src/chains.rt:120:1
@@ -97,10 +99,10 @@ write-steps-spec =
     Inv-loop
     μ-loop
     loop-holds
-    mul-next-moment
-    sub-next-moment
-    sub-next-moment-2
-    next-moment-requires
+    mul-next
+    sub-next
+    sub-next-2
+    next-requires
     step-number-requires
     mul-c
     slice-write-c

@@ -9,19 +9,22 @@ use Rattle.verdict.proofs.show.show_cycle.Statement.{statement}
 use Rattle.verdict.proofs.show.show_cycle.Tie as tie
 use Rattle.verdict.proofs.show.show_cycle.Reads as reads
 use Rattle.verdict.proofs.show.show_cycle.Lts as lts
-use Rattle.cycle.proofs.cycle_size.Reads as cycle-size-reads
-use Rattle.cycle.proofs.fill_layers.Reads as fill-layers-reads
 use Rattle.cycle.proofs.write_rows.Reads as write-rows-reads
 use Rattle.verdict.proofs.show.clear_numbers.Reads as clear-numbers-reads
 use Rattle.verdict.proofs.show.write_edges.Reads as write-edges-reads
+use Rattle.walks.proofs.fill_layers.Reads as fill-layers-reads
+use Rattle.walks.proofs.layer_of.Reads as layer-of-reads
 
 -- src/show.rt:86:5
 fill-layers-requires : tie.Need-fill-layers-requires
 fill-layers-requires c κs = search needs
 
 -- src/show.rt:87:9
-cycle-size-requires : tie.Need-cycle-size-requires
-cycle-size-requires c κs = search needs
+layer-of-requires : tie.Need-layer-of-requires
+layer-of-requires c κs = search needs
+
+add-size : tie.Need-add-size
+add-size c = search needs
 
 -- src/show.rt:88:5
 clear-numbers-requires : tie.Need-clear-numbers-requires
@@ -33,8 +36,8 @@ unfolding decode
 write-rows-requires c κs =
     let pre = c .before .before .before .before .before .before .before .before .before .before .before .before .before .before .before .before .pre in
     let fill = c .before .before .before .before .before .before .before .before .before .before .fill-layers .ensures in
-    let size = c .before .before .before .before .before .before .cycle-size .ensures in
-    let asked = size-asked _ _ _ _ _ _ _ refl (pre .4) (fill .1) (pre .5) size (pre .0) in
+    let size = c .before .before .before .before .before .before .layer-of .ensures .0 in
+    let asked = size-asked _ _ _ _ _ _ _ refl (pre .3 .0) (pre .4) fill (pre .5) (pre .0) size in
     (search needs, search needs, search needs, asked .0, search needs, fill .0, asked .1)
 
 -- src/show.rt:90:5
@@ -43,15 +46,15 @@ unfolding decode
 write-edges-requires c κs =
     let pre = c .before .before .before .before .before .before .before .before .before .before .before .before .before .before .before .before .before .before .before .before .before .pre in
     let fill = c .before .before .before .before .before .before .before .before .before .before .before .before .before .before .before .fill-layers .ensures in
-    let size = c .before .before .before .before .before .before .before .before .before .before .before .cycle-size .ensures in
-    let asked = size-asked _ _ _ _ _ _ _ refl (pre .4) (fill .1) (pre .5) size (pre .0) in
+    let size = c .before .before .before .before .before .before .before .before .before .before .before .layer-of .ensures .0 in
+    let asked = size-asked _ _ _ _ _ _ _ refl (pre .3 .0) (pre .4) fill (pre .5) (pre .0) size in
     let rows = c .before .before .before .before .write-rows .ensures in (
       search needs,
       omega (arith, asked .0, pre .3 .0),
       search needs,
       search needs,
       known-kept (omega arith) (pre .3) (fill .1),
-      rows-below _ _ _ _ _ _ _ refl (pre .4) (fill .1) (pre .5) size _ _ rows (pre .0),
+      rows-below _ _ _ _ _ _ _ refl (pre .3 .0) (pre .4) fill (pre .5) (pre .0) size _ _ rows,
     )
 
 -- src/show.rt:70:1
@@ -68,19 +71,19 @@ unfolding decode
 returns c =
     let pre = c .before .before .before .before .before .before .before .before .before .before .before .before .before .before .before .before .before .before .before .before .before .before .before .before .pre in
     let fill = c .before .before .before .before .before .before .before .before .before .before .before .before .before .before .before .before .before .before .fill-layers .ensures in
-    let size = c .before .before .before .before .before .before .before .before .before .before .before .before .before .before .cycle-size .ensures in
+    let size = c .before .before .before .before .before .before .before .before .before .before .before .before .before .before .layer-of .ensures .0 in
     let rows = c .before .before .before .before .before .before .before .write-rows .ensures in
     let clear = c .before .before .before .before .before .before .before .before .before .before .before .before .clear-numbers .ensures in
     let edges = c .before .before .write-edges .ensures in
-    let shown = shown-is _ _ _ _ _ _ _ refl (pre .4) (fill .1) (pre .5) size _ _ rows _ _ (pre .3 .0) (pre .0) (pre .1) clear edges in
-    (shown .0, shown .1, fill .1)
+    shown-is _ _ _ _ _ _ _ refl (pre .3 .0) (pre .4) fill (pre .5) (pre .0) size _ _ rows _ _ (pre .1) clear edges
 
 pub show-cycle-spec : {M : Type 1} → statement M
 show-cycle-spec =
     tie.close
     (tie.spec
     fill-layers-requires
-    cycle-size-requires
+    layer-of-requires
+    add-size
     clear-numbers-requires
     write-rows-requires
     write-edges-requires

@@ -1,0 +1,47 @@
+-- `next` meets its contract: the lowest bit that the row of steps and the layer share, where it is below n. Assumes nothing.
+use native.Mathlib.Nat.{mul-le-mul-right}
+use native.Mathlib.Omega.{arith}
+use Rattle.finite.specs.Below.{least-inside, least-outside}
+use Rattle.bits.specs.Matrix.{rel, row-apart}
+use Rattle.sets.specs.Meet.{both}
+use Rattle.walks.specs.Layers.{stepBit}
+use Rattle.walks.proofs.next.Statement.{statement}
+use Rattle.walks.proofs.next.Tie as tie
+use Rattle.walks.proofs.next.Reads as reads
+use Rattle.walks.proofs.next.Lts as lts
+use Rattle.sets.proofs.first_both.Reads as first-both-reads
+
+mul-first-both : tie.Need-mul-first-both
+mul-first-both c = omega (arith, row-apart (c .before .args .z) (c .before .args .n) (c .before .args .stride) (c .before .pre .3))
+
+add-first-both : tie.Need-add-first-both
+add-first-both c = omega (arith, row-apart (c .before .args .z) (c .before .args .n) (c .before .args .stride) (c .before .pre .3))
+
+mul-first-both-2 : tie.Need-mul-first-both-2
+mul-first-both-2 c = omega (arith, mul-le-mul-right (c .before .args .stride) (c .before .pre .2))
+
+add-first-both-2 : tie.Need-add-first-both-2
+add-first-both-2 c = omega (arith, mul-le-mul-right (c .before .args .stride) (c .before .pre .2))
+
+first-both-requires : tie.Need-first-both-requires
+first-both-requires c κs = (omega (arith, row-apart (c .before .args .z) (c .before .args .n) (c .before .args .stride) (c .before .pre .3)), omega (arith, mul-le-mul-right (c .before .args .stride) (c .before .pre .2)), omega arith)
+
+returns : tie.Need-returns
+unfolding both stepBit rel
+returns c = least-inside (c .before .before .before .pre .0 .0) (c .before .first-both .ensures) (c .if1 .taken)
+
+returns-2 : tie.Need-returns-2
+unfolding both stepBit rel
+returns-2 c = least-outside (c .before .before .before .pre .0 .0) (c .before .first-both .ensures) (c .if1 .left)
+
+pub next-spec : {M : Type 1} → statement M
+next-spec =
+    tie.close
+    (tie.spec
+    mul-first-both
+    add-first-both
+    mul-first-both-2
+    add-first-both-2
+    first-both-requires
+    returns
+    returns-2)

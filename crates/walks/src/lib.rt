@@ -1,0 +1,70 @@
+// Walks of a counted number of steps to one number: steps and layers are two matrices of bits in a lent list of words, and layer k is
+// the numbers from which k steps lead there. The layers stand after the steps; nothing else of the list changes.
+ghost use mathlib.Core.Path.{_≡_};
+ghost use Prim.Native.Nat.{_+_, _*_, _≤_, _<_};
+ghost use lib.ListN.{length};
+ghost use Rattle.finite.specs.Below.{least};
+ghost use Rattle.bits.specs.Within.{Within};
+ghost use Rattle.bits.specs.Fill.{rowFill};
+ghost use Rattle.walks.specs.Layers.{Room, stepBit, reaches, inLayer, after, Layers};
+
+// The least number that a step from z leads to and that is in layer k; n where there is none.
+// Ruled out: one that gives the last such number; one that reads the steps that lead to z.
+pub fn next(
+    w: &[u64],
+    steps: usize,
+    layers: usize,
+    stride: usize,
+    n: usize,
+    k: usize,
+    z: usize,
+) -> usize
+    requires { ⌜ Room layers stride n (length (now w)) × (steps + n * stride ≤ layers) × (k ≤ n) × (z < n) ⌝ }
+    ensures { λ r. ⌜ r ≡ least n (stepBit (now (w .entry)) steps layers stride k z) ⌝ }
+{
+    let y = sets::first_both(w, steps + z * stride, layers + k * stride, stride);
+    if y < n { y } else { n }
+}
+
+// Adds the numbers from which a step leads into layer k to the layer after it.
+fn fill_after(w: &mut [u64], steps: usize, layers: usize, stride: usize, n: usize, k: usize)
+    requires { ⌜ Room layers stride n (length (now w)) × (steps + n * stride ≤ layers) × (k < n) ⌝ }
+    ensures { λ _. ⌜ now (w .exit) ≡ rowFill (reaches (now (w .entry)) steps layers stride n k) (now (w .entry)) (after layers stride k) n ⌝ }
+{
+    let at = (layers + k * stride + stride) * 64;
+    for z in 0..n {
+        let y = next(w, steps, layers, stride, n, k, z);
+        bits::put_if(w, at + z, y < n);
+    }
+}
+
+// Layer k becomes the numbers from which k steps lead to x, for each k up to n. After an empty layer there are none to add.
+// Ruled out: one that leaves old bits in the layers; one that begins with x in layer 1; one that goes along the steps from x.
+pub fn fill_layers(w: &mut [u64], steps: usize, layers: usize, stride: usize, n: usize, x: usize)
+    requires { ⌜ Room layers stride n (length (now w)) × (steps + n * stride ≤ layers) × (x < n) ⌝ }
+    ensures { λ _. ⌜ Layers steps layers stride n x (now (w .exit)) × Within layers (layers + n * stride + stride) (now (w .entry)) (now (w .exit)) ⌝ }
+{
+    bits::clear(w, layers, layers + n * stride + stride);
+    bits::put(w, layers * 64 + x);
+    for k in 0..n {
+        let at = layers + k * stride;
+        if 64 * stride <= sets::first_both(w, at, at, stride) {
+            return;
+        }
+        fill_after(w, steps, layers, stride, n, k);
+    }
+}
+
+// The least j for which z is in layer j + 1; n where there is none.
+// Ruled out: one that finds z in layer 0, by no step at all; one that gives a longer way.
+pub fn layer_of(w: &[u64], layers: usize, stride: usize, n: usize, z: usize) -> usize
+    requires { ⌜ Room layers stride n (length (now w)) × (z < n) ⌝ }
+    ensures { λ r. ⌜ (r ≡ least n (inLayer (now (w .entry)) layers stride z)) × (r ≤ n) ⌝ }
+{
+    for j in 0..n {
+        if bits::get(w, (layers + j * stride + stride) * 64 + z) {
+            return j;
+        }
+    }
+    n
+}

@@ -1,7 +1,6 @@
 // The four edges between rows. Some code reads none of the rows, places or number of rows that it is given: they say which table
 // its contract is about.
 ghost use mathlib.Core.Path.{_≡_};
-ghost use mathlib.Core.Bool.{Bool, cond};
 ghost use Prim.Native.Nat.{ℕ, _*_, _≤_, _<_};
 ghost use lib.ListN.{length};
 ghost use Rattle.bits.specs.Stage.{Made};
@@ -14,12 +13,7 @@ ghost use Rattle.axioms.specs.Sources.{sourceIn};
 use model::Mode;
 use model::Places;
 use model::Row;
-
-fn pick(b: bool, x: u16, y: u16) -> u16
-    ensures { λ r. ⌜ r ≡ cond b x y ⌝ }
-{
-    if b { x } else { y }
-}
+use rows::pick;
 
 // Edge 2: whether y, which is q, follows x, which is r, in their scoped modification order.
 // Ruled out: one that goes from the later rank to the earlier; one that holds of rows whose scopes are not shared.
@@ -98,7 +92,7 @@ pub fn from_reads_at(
     let s = crate::source_at(src, y);
     let apart = !(y == z) & rows::kinds::reads(r);
     if s.is_initial() {
-        return apart & (rows::kinds::writes(q) & location::shared::overlap(r, q));
+        return apart & (rows::kinds::writes(q) & rules::shared::overlap(r, q));
     }
     apart & follows_source(rows, p, mode, n, s.0, z, q)
 }
@@ -124,10 +118,14 @@ pub fn edge_number(
     let order = follows_at(rows, p, mode, n, x, y, r, q, w);
     let source = reads_from_at(rows, p, mode, n, src, x, y, q);
     let reader = from_reads_at(rows, p, mode, n, src, x, y, r, q);
-    pick(
+    pick::number(
         location,
         1,
-        pick(order, 2, pick(source, 3, pick(reader, 4, 0))),
+        pick::number(
+            order,
+            2,
+            pick::number(source, 3, pick::number(reader, 4, 0)),
+        ),
     )
 }
 

@@ -29,7 +29,8 @@ use Rattle.model.specs.Location.{systemBefore, L4, thence, onHost, availableKin
 use Rattle.area.specs.Regions.{HAPPENS, MOMENTS, GRID, HOSTED, HOSTED-END, SYSTEM, SYSTEM-END, MET, MET-END, REACHED, REACHED-END}
 use Rattle.area.specs.State.{Ordered, ordered-kept}
 use Rattle.location.specs.Chains.{and-on}
-use Rattle.location.specs.Order.{mayShare, hosted}
+use Rattle.rules.specs.Shared.{mayShare}
+use Rattle.location.specs.Order.{hosted}
 
 -- ---- definitions: tests over bytes and bits
 

@@ -1,4 +1,3 @@
-pub mod Shared
 pub mod Chains
 pub mod Reach
 pub mod Order

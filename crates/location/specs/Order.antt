@@ -4,7 +4,7 @@ use mathlib.Core.Bool.{Bool, true, false, not}
 use mathlib.Core.List.{List}
 use Prim.Native.Nat.{ℕ, zero, suc, _+_, _*_, _≤_}
 use native.Mathlib.Omega.{arith}
-use lib.Dec.{ltb, eqb}
+use lib.Dec.{eqb}
 use borrow.Author.Tests.{lt-ltb}
 use Rattle.finite.specs.Logic.{_and_, _or_, split, and-true, not-both, not-so, and-false-left, or-left, or-assoc}
 use Rattle.bits.specs.Bit.{setBitIf}
@@ -21,14 +21,10 @@ use Rattle.model.specs.Location.{sameReference, pureRead, common, L1, L2, L3, L
 use Rattle.model.specs.Edge.{beforeNth}
 use Rattle.area.specs.Regions.{LOCATION, LOCATION-END, HOSTED, REACHED-END, LOCATED-END, GRID, PAIR, PAIRS}
 use Rattle.area.specs.State.{ordered-kept, MadeLocated}
-use Rattle.location.specs.Shared.{inside-out}
+use Rattle.rules.specs.Shared.{mayShare, inside-out}
 use Rattle.location.specs.Reach.{Reaching, MadeReach, reaching-kept}
 
 -- ---- definitions
-
--- different rows, each of which starts before the other ends
-unfoldable pub mayShare : ℕ → ℕ → Row → Row → Bool
-mayShare x y r q = not (eqb x y) and ltb (r .start) (q .start + q .size) and ltb (q .start) (r .start + r .size)
 
 -- what L4 and L5 tell of a pair, whatever the byte; pairs that share none are not asked
 unfoldable pub hosted : Table → ℕ → ℕ → Bool

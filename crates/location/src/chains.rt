@@ -16,10 +16,12 @@ ghost use Rattle.area.specs.Regions.{HAPPENS, MOMENTS, GRID};
 ghost use Rattle.location.specs.Chains.{availablePart, visiblePart, mayAvail, maySee, availableRows, visibleRows, widest, meetIn};
 ghost use Rattle.location.specs.Chains.{seen, metAtOnce, startsWith, shownBy, endsAt, endsWith, carriedBy};
 ghost use Rattle.location.specs.Reach.{Reaching};
-use crate::pairs;
+use crate::happens;
 use model::Mode;
 use model::Places;
 use model::Row;
+use rules::moments;
+use rules::pairs;
 
 // The moments before and after a row, counted from three times the row.
 const BEFORE: usize = 0;
@@ -63,8 +65,8 @@ fn available_at(n: usize, x: usize, r: Row, c: usize, s: Row, b: u32) -> bool
     requires { ⌜ x < ROWS ⌝ }
     ensures { λ d. ⌜ d ≡ availableRows n x r c s b ⌝ }
 {
-    rules::moments::availability_of(s, (c % 3) as u8)
-        & rules::moments::is_ordered(n, 3 * x + 1, c, r, s)
+    moments::availability_of(s, (c % 3) as u8)
+        & moments::is_ordered(n, 3 * x + 1, c, r, s)
         & pairs::covers_of(s, r, b)
 }
 
@@ -73,8 +75,8 @@ fn visible_at(n: usize, y: usize, q: Row, v: usize, s: Row, b: u32) -> bool
     requires { ⌜ y < ROWS ⌝ }
     ensures { λ d. ⌜ d ≡ visibleRows n y q v s b ⌝ }
 {
-    rules::moments::visibility_of(s, (v % 3) as u8)
-        & rules::moments::is_ordered(n, v, 3 * y + 1, s, q)
+    moments::visibility_of(s, (v % 3) as u8)
+        & moments::is_ordered(n, v, 3 * y + 1, s, q)
         & pairs::covers_of(s, q, b)
 }
 
@@ -123,7 +125,7 @@ fn seen_at(
     ensures { λ d. ⌜ d ≡ seen (decode (now (rows .entry)) p mode n) x y i j ⌝ }
 {
     let u = rows::bytes::read_row(rows, j as u16);
-    if !pairs::happens_bit(w, 3 * i + available_part(s), 3 * j + visible_part(u)) {
+    if !happens::happens_bit(w, 3 * i + available_part(s), 3 * j + visible_part(u)) {
         return false;
     }
     meet_in(p, widest(s.scope, u.scope), r, q, s, u)
@@ -137,7 +139,9 @@ pub fn may_show(rows: &[u8], mode: Mode, q: Row, c: usize, v: usize, w: &[u64]) 
     requires { ⌜ (c < 3 * ROWS) × (v < ROWS) × (WORK ≤ length (now w)) ⌝ }
     ensures { λ d. ⌜ d ≡ ((mode .chains or rel (now (w .entry)) HAPPENS MOMENTS c (3 * v) or rel (now (w .entry)) HAPPENS MOMENTS c (3 * v + 2)) and maySee (now (rows .entry)) q v) ⌝ }
 {
-    if !(mode.chains | pairs::happens_bit(w, c, 3 * v) | pairs::happens_bit(w, c, 3 * v + AFTER)) {
+    if !(mode.chains
+        | happens::happens_bit(w, c, 3 * v)
+        | happens::happens_bit(w, c, 3 * v + AFTER)) {
         return false;
     }
     let agent = rows::bytes::row_byte(rows, v as u16, AGENT);
@@ -301,7 +305,7 @@ pub fn met_at(
         × (r ≡ rowOf (now rows) x) × (q ≡ rowOf (now rows) y) × Reaching (decode (now rows) p mode n) n (now w) × (i < n) × (s ≡ rowOf (now rows) i) ⌝ }
     ensures { λ d. ⌜ d ≡ metAtOnce (decode (now (rows .entry)) p mode n) x y i ⌝ }
 {
-    if !pairs::happens_bit(w, 3 * i + available_part(s), 3 * y + 1) {
+    if !happens::happens_bit(w, 3 * i + available_part(s), 3 * y + 1) {
         return false;
     }
     meet_in(p, widest(s.scope, rows::scopes::DEVICE), r, q, s, q)

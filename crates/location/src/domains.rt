@@ -13,7 +13,7 @@ ghost use Rattle.model.specs.Table.{decode};
 ghost use Rattle.area.specs.Regions.{MET, MET-END, REACHED, REACHED-END, GRID};
 ghost use Rattle.area.specs.State.{Ordered};
 ghost use Rattle.location.specs.Domains.{thenceBits, seenBits, onwardBits, operationAt, availableOf, visibleOf, isAvailable, outOf, metBy, reached, Meeting};
-use crate::pairs;
+use crate::happens;
 use model::Mode;
 use model::Places;
 use model::Row;
@@ -90,7 +90,7 @@ fn thence_at(rows: &[u8], kind: u8, x: usize, i: usize, w: &[u64]) -> bool
     if !(rows::bytes::row_byte(rows, i as u16, KIND) == kind) {
         return false;
     }
-    pairs::happens_bit(w, 3 * x + 1, 3 * i + 1)
+    happens::happens_bit(w, 3 * x + 1, 3 * i + 1)
 }
 
 // Whether row i is the operation of this kind, after row m and before row y.
@@ -101,7 +101,7 @@ fn seen_at(rows: &[u8], kind: u8, m: usize, y: usize, i: usize, w: &[u64]) -> bo
     if !thence_at(rows, kind, m, i, w) {
         return false;
     }
-    pairs::happens_bit(w, 3 * i + 1, 3 * y + 1)
+    happens::happens_bit(w, 3 * i + 1, 3 * y + 1)
 }
 
 // Whether some row is.
@@ -155,7 +155,7 @@ fn met_at(rows: &[u8], p: Places, mode: Mode, n: usize, m: usize, y: usize, w: &
     if rows::kinds::reads(q) {
         return is_seen(rows, n, visible_kind(p, q.agent), m, y, w);
     }
-    pairs::happens_bit(w, 3 * m + 1, 3 * y + 1)
+    happens::happens_bit(w, 3 * m + 1, 3 * y + 1)
 }
 
 // The same for every operation and row.

@@ -15,10 +15,10 @@ ghost use Rattle.area.specs.State.{Ordered};
 ghost use Rattle.location.specs.Order.{hosted};
 ghost use Rattle.location.specs.Domains.{operationAt, unhosted, nthDepends, Sources};
 use crate::domains;
-use crate::pairs;
 use model::Mode;
 use model::Places;
 use model::Row;
+use rules::pairs;
 
 // ---- L4: the closure of the dependencies
 

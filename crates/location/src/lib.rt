@@ -1,4 +1,4 @@
-// Location order at each byte of each pair of rows, as bits in a lent work area, and the lowest byte that two accesses share.
+// Location order at each byte of each pair of rows, as bits in a lent work area.
 ghost use mathlib.Core.Path.{_≡_};
 ghost use Prim.Native.Nat.{_+_, _*_, _≤_, _<_};
 ghost use lib.ListN.{length};
@@ -12,9 +12,9 @@ ghost use Rattle.location.specs.Order.{Prepared};
 use model::Mode;
 use model::Places;
 use model::Row;
+use rules::pairs;
 
-pub mod shared; // the bytes that two accesses share
-pub mod pairs; // the tests on two rows that location order is made of
+pub mod happens; // happens-before, from the bits
 pub mod chains; // L3's chains
 pub mod reach; // the reach of chains
 pub mod domains; // L5's operations
@@ -42,7 +42,7 @@ pub fn before_at(
     if !pairs::common_of(x, y, r, q, b) {
         return false;
     }
-    let h = pairs::happens_bit(w, 3 * x + 1, 3 * y + 1);
+    let h = happens::happens_bit(w, 3 * x + 1, 3 * y + 1);
     let g = domains::grid_bit(w, area::HOSTED, x, y);
     if pairs::l1(r, q, h) | pairs::l2(r, q, h) | g {
         return true;

@@ -12,10 +12,11 @@ ghost use Rattle.area.specs.Regions.{REACH-OUT, REACH-OUT-END, REACH-IN, REACH-
 ghost use Rattle.area.specs.State.{Ordered};
 ghost use Rattle.location.specs.Reach.{broaderRows, MadeReach};
 use crate::chains;
-use crate::pairs;
+use crate::happens;
 use model::Mode;
 use model::Places;
 use model::Row;
+use rules::moments;
 
 // ---- one step
 
@@ -46,9 +47,9 @@ fn broadens_at(rows: &[u8], p: Places, mode: Mode, n: usize, a: usize, c: usize,
     let u = rows::bytes::read_row(rows, c as u16);
     let k = chains::available_part(s);
     let m = chains::available_part(u);
-    rules::moments::availability_of(u, m as u8)
+    moments::availability_of(u, m as u8)
         & is_broader(p, s, u)
-        & pairs::happens_bit(w, 3 * a + k, 3 * c + m)
+        & happens::happens_bit(w, 3 * a + k, 3 * c + m)
 }
 
 // Whether row v may come right after row j in a visibility chain.
@@ -63,9 +64,9 @@ fn narrows_at(rows: &[u8], p: Places, mode: Mode, n: usize, j: usize, v: usize, 
     let s = rows::bytes::read_row(rows, v as u16);
     let k = chains::visible_part(u);
     let m = chains::visible_part(s);
-    rules::moments::visibility_of(u, k as u8)
+    moments::visibility_of(u, k as u8)
         & is_broader(p, s, u)
-        & pairs::happens_bit(w, 3 * j + k, 3 * v + m)
+        & happens::happens_bit(w, 3 * j + k, 3 * v + m)
 }
 
 // ---- all steps

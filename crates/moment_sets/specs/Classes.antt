@@ -27,8 +27,9 @@ use Rattle.model.specs.Happens.{holdingOf, concernsOf, holding, concerns, bySyn
 use Rattle.area.specs.Regions.{MOMENTS}
 use Rattle.sets.specs.Meet.{meetRow, bit-meetRow, within-meetRow, meetIf, bit-meetIf, within-meetIf, both}
 use Rattle.hubs.specs.Rows.{releaseAt, holding-own}
+use Rattle.rules.specs.Cases.{touches}
 use Rattle.moment_sets.specs.Regions.{CLASSES, JOINED, HOLD, RELEASE, CONCERN, CONCERN-END, RELEASING, TOUCHED, TOUCHED-END}
-use Rattle.moment_sets.specs.Known.{Rows, Set, syncsTo, releasesTo, touches, touchesTo}
+use Rattle.moment_sets.specs.Known.{Rows, Set, syncsTo, releasesTo, touchesTo}
 
 -- ---- definitions
 

@@ -1,6 +1,6 @@
 -- What the work area holds between the stages of this crate: sets of moments, one for each of some rows or one alone. Assumes nothing.
 use mathlib.Core.Path.{_≡_, _∙_}
-use mathlib.Core.Bool.{Bool, true, cond}
+use mathlib.Core.Bool.{Bool, true}
 use mathlib.Core.List.{List}
 use Prim.Native.Nat.{ℕ, _+_, _*_, _≤_, _<_}
 use native.Mathlib.Omega.{arith}
@@ -13,12 +13,12 @@ use Rattle.bits.specs.Matrix.{rel}
 use Rattle.bits.specs.Stage.{Holds, holds-kept}
 use Rattle.model.specs.Limits.{ROWS, WORK}
 use Rattle.model.specs.Table.{Table, rowOf}
-use Rattle.model.specs.declared.Row.{Row}
-use Rattle.model.specs.Row.{access, meets, classIn, single, releases}
+use Rattle.model.specs.Row.{single, releases}
 use Rattle.model.specs.Scope.{mutually}
-use Rattle.model.specs.Moment.{AT, rowIn, part, classesOf, programOrder}
+use Rattle.model.specs.Moment.{AT, rowIn, part, programOrder}
 use Rattle.model.specs.Synchronizes.{synchronizes}
 use Rattle.model.specs.Happens.{holding, concerns}
+use Rattle.rules.specs.Cases.{touches}
 use Rattle.area.specs.Regions.{MUTUAL, HAPPENS, HAPPENS-END, GRID, MOMENTS}
 use Rattle.hubs.specs.Rows.{releaseAt}
 use Rattle.moment_sets.specs.Regions.{CLASSES, ORDER, HOPS, HOPS-END, JOINED, DEPENDS, HOLD, RELEASE, CONCERN, CONCERN-END, RELEASING, TOUCHED}
@@ -45,10 +45,6 @@ dependsTo t x m = eqb (part m) AT and t .depends x (rowIn m)
 -- moment m is a release row's own
 unfoldable pub releasesTo : Table → ℕ → Bool
 releasesTo t m = eqb (part m) AT and releases (t .row (rowIn m))
-
--- M6: moment k of r is of a class in s: it accesses it, or its availability or visibility operation has it
-unfoldable pub touches : ℕ → Row → ℕ → Bool
-touches s r k = cond (eqb k AT) (access r and classIn r s) (meets (classesOf r) s)
 
 -- moment m is of class q
 unfoldable pub touchesTo : Table → ℕ → ℕ → Bool

@@ -1,16 +1,15 @@
 // The sets of a class set. Which moments are of a class, and which rows release, is asked once for a table, in one pass over the rows
 // each; a class set's own sets are then made in words.
 ghost use mathlib.Core.Path.{_≡_};
-ghost use mathlib.Core.Bool.{cond};
 ghost use Prim.Native.Nat.{_+_, _*_, _≤_, _<_};
 ghost use lib.ListN.{length};
 ghost use Rattle.finite.specs.Below.{anyBelow};
 ghost use Rattle.model.specs.Limits.{ROWS, WORK};
 ghost use Rattle.model.specs.Table.{rowOf};
 ghost use Rattle.moment_sets.specs.Regions.{CLASSES, HOLD, RELEASING, TOUCHED, TOUCHED-END};
-ghost use Rattle.moment_sets.specs.Known.{touches};
 ghost use Rattle.moment_sets.specs.Classes.{holdingAt, releasesAt, touchesAt, touchWords, MadeSet, MadeTouched, ConcernMade, ReleaseMade, joinsHolder};
-use model::Row;
+use rules::cases;
+use rules::moments;
 
 // M6: the storage classes.
 pub const CLASSES: u8 = 4;
@@ -37,21 +36,6 @@ pub fn fill_releasing(w: &mut [u64], rows: &[u8], n: usize)
     }
 }
 
-fn pick(b: bool, x: bool, y: bool) -> bool
-    ensures { λ r. ⌜ r ≡ cond b x y ⌝ }
-{
-    if b { x } else { y }
-}
-
-// M6: whether moment k of r is of a class in s.
-fn touches_of(s: u8, r: Row, k: u8) -> bool
-    ensures { λ b. ⌜ b ≡ touches s r k ⌝ }
-{
-    let access = rows::kinds::is_access(r) & rows::kinds::class_in(r, s);
-    let other = rows::kinds::meets(rules::moments::classes_of(r), s);
-    pick(k == rules::moments::AT, access, other)
-}
-
 // The bits of row x's moments that are of class q, in the set at word a.
 fn put_touched(w: &mut [u64], rows: &[u8], q: u8, a: usize, x: usize)
     requires { ⌜ (x < ROWS) × (a < TOUCHED-END) × (a + 6 ≤ length (now w)) ⌝ }
@@ -59,16 +43,16 @@ fn put_touched(w: &mut [u64], rows: &[u8], q: u8, a: usize, x: usize)
 {
     let r = rows::bytes::read_row(rows, x as u16);
     let s = rows::kinds::single(q);
-    bits::put_if(w, a * 64 + 3 * x, touches_of(s, r, rules::moments::BEFORE));
+    bits::put_if(w, a * 64 + 3 * x, cases::touches_of(s, r, moments::BEFORE));
     bits::put_if(
         w,
         a * 64 + (3 * x + 1),
-        touches_of(s, r, rules::moments::AT),
+        cases::touches_of(s, r, moments::AT),
     );
     bits::put_if(
         w,
         a * 64 + (3 * x + 2),
-        touches_of(s, r, rules::moments::AFTER),
+        cases::touches_of(s, r, moments::AFTER),
     );
 }
 
@@ -104,7 +88,7 @@ fn hold_at(rows: &[u8], s: u8, x: usize) -> bool
         return false;
     }
     let r = rows::bytes::read_row(rows, x as u16);
-    rules::cases::holding_of(s, r, rules::moments::AT)
+    cases::holding_of(s, r, moments::AT)
 }
 
 // M6: the rows that hold all of s.

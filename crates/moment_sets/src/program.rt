@@ -8,6 +8,7 @@ ghost use Rattle.model.specs.Limits.{ROWS, WORK};
 ghost use Rattle.model.specs.Table.{rowOf, decode};
 ghost use Rattle.moment_sets.specs.Regions.{NUMBERS};
 ghost use Rattle.moment_sets.specs.Program.{passWords, passRow, Begun};
+use rules::moments;
 
 // Passes moment m of agent a, where b says that it is there.
 fn pass_moment(w: &mut [u64], a: u8, m: usize, b: bool)
@@ -27,24 +28,9 @@ fn pass_row(rows: &[u8], x: usize, w: &mut [u64])
     ensures { λ _. ⌜ (now (w .exit) ≡ passRow (rowOf (now (rows .entry)) x) x (now (w .entry))) × (rowOf (now (rows .entry)) x .agent < NUMBERS) ⌝ }
 {
     let r = rows::bytes::read_row(rows, x as u16);
-    pass_moment(
-        w,
-        r.agent,
-        3 * x + 2,
-        rules::moments::moment_of(r, rules::moments::AFTER),
-    );
-    pass_moment(
-        w,
-        r.agent,
-        3 * x + 1,
-        rules::moments::moment_of(r, rules::moments::AT),
-    );
-    pass_moment(
-        w,
-        r.agent,
-        3 * x,
-        rules::moments::moment_of(r, rules::moments::BEFORE),
-    );
+    pass_moment(w, r.agent, 3 * x + 2, moments::moment_of(r, moments::AFTER));
+    pass_moment(w, r.agent, 3 * x + 1, moments::moment_of(r, moments::AT));
+    pass_moment(w, r.agent, 3 * x, moments::moment_of(r, moments::BEFORE));
 }
 
 // Program order, which happens-before begins with. Bits past the table's moments are off.

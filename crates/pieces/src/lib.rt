@@ -9,9 +9,9 @@ ghost use Rattle.pieces.specs.Pieces.{AREA, rowsBoth, countBoth, piecesF
 ghost use Rattle.pieces.specs.Entry.{refusalOf, doorBoth};
 use model::Admission;
 use rows::bytes;
+use rows::pick;
 use rows::scopes;
 use table::header;
-use table::pick;
 
 // The bytes of all rows that there may be.
 pub const AREA: usize = 2048;
@@ -41,10 +41,10 @@ pub fn count_both(first: &[u8], second: &[u8]) -> u8
 pub fn pieces_fault(first: &[u8], second: &[u8]) -> u8
     ensures { λ r. ⌜ r ≡ piecesFault (now (first .entry)) (now (second .entry)) ⌝ }
 {
-    let limited = pick(rows_both(first, second) <= model::ROWS, 0, 3);
-    let whole = pick(second.len() % bytes::ROW_BYTES == 0, limited, 40);
+    let limited = pick::byte(rows_both(first, second) <= model::ROWS, 0, 3);
+    let whole = pick::byte(second.len() % bytes::ROW_BYTES == 0, limited, 40);
     let fault = header::shape_fault(first);
-    pick(fault == 0, whole, fault)
+    pick::byte(fault == 0, whole, fault)
 }
 
 // Every refusal before 5, or 0. The dependencies stand in the first piece and may name rows of either.

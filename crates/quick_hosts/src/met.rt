@@ -13,7 +13,7 @@ ghost use Rattle.area.specs.State.{Ordered};
 ghost use Rattle.location.specs.Domains.{metBy};
 ghost use Rattle.quick_hosts.specs.Met.{atOnce, seenFrom, seenAfter, shows, only, Seeing, MetMore};
 use location::domains;
-use location::pairs;
+use location::happens;
 use model::Mode;
 use model::Places;
 use rows::bytes;
@@ -37,7 +37,7 @@ fn once_at(rows: &[u8], p: Places, mode: Mode, n: usize, m: usize, y: usize, w: 
     if reads_at(rows, y) {
         return false;
     }
-    pairs::happens_bit(w, 3 * m + 1, 3 * y + 1)
+    happens::happens_bit(w, 3 * m + 1, 3 * y + 1)
 }
 
 fn once_row(rows: &[u8], p: Places, mode: Mode, n: usize, m: usize, w: &mut [u64])
@@ -73,7 +73,7 @@ fn seen_from(
     if !(kind == domains::visible_kind(p, agent)) {
         return false;
     }
-    pairs::happens_bit(w, 3 * i + 1, 3 * y + 1)
+    happens::happens_bit(w, 3 * i + 1, 3 * y + 1)
 }
 
 // The same for row i and every row. What is no visibility operation is not asked.
@@ -111,7 +111,7 @@ fn shows_at(rows: &[u8], p: Places, mode: Mode, n: usize, m: usize, i: usize, w:
     if !((kind == kinds::VISIBLE_HOST) | (kind == kinds::VISIBLE_DEVICE)) {
         return false;
     }
-    pairs::happens_bit(w, 3 * m + 1, 3 * i + 1)
+    happens::happens_bit(w, 3 * m + 1, 3 * i + 1)
 }
 
 // Adds the readers that meet it by way of row i.

@@ -24,6 +24,7 @@ use model::Mode;
 use model::Places;
 use model::Row;
 use rows::bytes;
+use rules::moments;
 
 // ---- what leads from a first element
 
@@ -219,8 +220,7 @@ fn last_bytes(
     }
     let u = bytes::read_row(rows, v as u16);
     let k = chains::visible_part(u);
-    if !(rules::moments::visibility_of(u, k as u8)
-        & rules::moments::is_ordered(n, 3 * v + k, 3 * y + 1, u, q)) {
+    if !(moments::visibility_of(u, k as u8) & moments::is_ordered(n, 3 * v + k, 3 * y + 1, u, q)) {
         return 0;
     }
     if !is_linked(rows, p, mode, n, x, y, r, q, a, s, v, w) {
@@ -287,8 +287,7 @@ fn is_first(rows: &[u8], n: usize, x: usize, r: Row, a: usize) -> bool
     }
     let s = bytes::read_row(rows, a as u16);
     let k = chains::available_part(s);
-    rules::moments::availability_of(s, k as u8)
-        & rules::moments::is_ordered(n, 3 * x + 1, 3 * a + k, r, s)
+    moments::availability_of(s, k as u8) & moments::is_ordered(n, 3 * x + 1, 3 * a + k, r, s)
 }
 
 // A row before which there is no first element of x, n where x doesn't write. No row before x is one.

@@ -16,11 +16,12 @@ ghost use Rattle.location.specs.Order.{Prepared};
 ghost use Rattle.location.specs.Reach.{Reaching};
 ghost use Rattle.quick_location.specs.Elements.{publishes};
 ghost use Rattle.quick_location.specs.Pairs.{sharedNth, carriedBytes};
-use location::pairs;
+use location::happens;
 use model::Mode;
 use model::Places;
 use model::Row;
 use rows::bytes;
+use rules::pairs;
 
 pub mod masks; // sets of a row's bytes
 pub mod elements; // L3 by two elements
@@ -78,7 +79,7 @@ fn fill_pair(
         return;
     }
     let q = bytes::read_row(rows, y as u16);
-    let h = pairs::happens_bit(w, 3 * x + 1, 3 * y + 1);
+    let h = happens::happens_bit(w, 3 * x + 1, 3 * y + 1);
     let g = location::domains::grid_bit(w, area::HOSTED, x, y);
     if pairs::l1(r, q, h) | pairs::l2(r, q, h) | g {
         fill_shared(x, y, r, q, w);

@@ -8,8 +8,8 @@ ghost use Rattle.model.specs.Limits.{ROWS, WORK};
 ghost use Rattle.area.specs.Regions.{LOCATION, PAIR, PAIRS};
 ghost use Rattle.quick_location.specs.Masks.{Mask, withBit, touchedNth, coveredNth};
 ghost use Rattle.quick_location.specs.Pairs.{sharedNth};
-use location::pairs;
 use model::Row;
+use rules::pairs;
 
 // All bytes of a row.
 const ALL: u64 = 65535;

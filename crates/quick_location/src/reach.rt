@@ -13,11 +13,12 @@ ghost use Rattle.area.specs.Regions.{REACH-OUT, REACH-OUT-END, REACH-IN, REACH-
 ghost use Rattle.area.specs.State.{Ordered};
 ghost use Rattle.location.specs.Reach.{MadeReach};
 use location::chains;
-use location::pairs;
+use location::happens;
 use model::Mode;
 use model::Places;
 use model::Row;
 use rows::bytes;
+use rules::moments;
 
 // ---- one step
 
@@ -41,10 +42,10 @@ fn broadens_at(
     let u = bytes::read_row(rows, c as u16);
     let k = chains::available_part(s);
     let m = chains::available_part(u);
-    if !pairs::happens_bit(w, 3 * a + k, 3 * c + m) {
+    if !happens::happens_bit(w, 3 * a + k, 3 * c + m) {
         return false;
     }
-    rules::moments::availability_of(u, m as u8) & location::reach::is_broader(p, s, u)
+    moments::availability_of(u, m as u8) & location::reach::is_broader(p, s, u)
 }
 
 // Whether row v may come right after row j, which is u, in a visibility chain.
@@ -64,10 +65,10 @@ fn narrows_at(
     let s = bytes::read_row(rows, v as u16);
     let k = chains::visible_part(u);
     let m = chains::visible_part(s);
-    if !pairs::happens_bit(w, 3 * j + k, 3 * v + m) {
+    if !happens::happens_bit(w, 3 * j + k, 3 * v + m) {
         return false;
     }
-    rules::moments::visibility_of(u, k as u8) & location::reach::is_broader(p, s, u)
+    moments::visibility_of(u, k as u8) & location::reach::is_broader(p, s, u)
 }
 
 // ---- the steps from one row

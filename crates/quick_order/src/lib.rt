@@ -16,6 +16,7 @@ ghost use Rattle.moment_sets.specs.Regions.{CONCERN-END};
 ghost use Rattle.quick_order.specs.Whole.{Started, Held, Grown, Reached};
 use model::Mode;
 use model::Places;
+use rules::cases;
 
 pub mod hops; // the direct cases from hubs
 pub mod sources; // from hops to happens-before
@@ -47,7 +48,7 @@ fn shared_by(rows: &[u8], n: usize, s: u8) -> u8
     requires { ⌜ n ≤ ROWS ⌝ }
     ensures { λ c. ⌜ ((p : List (List ℕ)) (mode : Mode) → c ≡ sharedBy (decode (now (rows .entry)) p mode n) s n) ⌝ }
 {
-    let mut c = rules::cases::CLASS_SETS;
+    let mut c = cases::CLASS_SETS;
     for x in 0..n {
         c = less_by(s, c, rows::bytes::read_classes(rows, x as u16));
     }
@@ -113,7 +114,7 @@ pub fn happens_before(rows: &[u8], p: Places, mode: Mode, n: usize, w: &mut [u64
 {
     start(rows, p, mode, n, w);
     let dep = 0 < mode.dependencies;
-    for s in 0..rules::cases::CLASS_SETS {
-        add_set(w, rows, n, rules::cases::CLASS_SETS - 1 - s, dep);
+    for s in 0..cases::CLASS_SETS {
+        add_set(w, rows, n, cases::CLASS_SETS - 1 - s, dep);
     }
 }

@@ -22,7 +22,7 @@ use Rattle.model.specs.Race.{conflict}
 use Rattle.model.specs.Edge.{beforeNth}
 use Rattle.laws.specs.PairLaws.{inside-out, overlap-is}
 use Rattle.laws.specs.RaceLaws.{Sized, touched, common-left, common-right}
-use Rattle.location.specs.Shared.{inBoth, lowest-at, lowest-nothing}
+use Rattle.rules.specs.Shared.{inBoth, lowest-at, lowest-nothing}
 use Rattle.area.specs.Regions.{LOCATION, PAIR, PAIRS}
 use Rattle.area.specs.State.{Located}
 

@@ -12,6 +12,7 @@ use model::Mode;
 use model::Places;
 use model::Row;
 use model::Shared;
+use rules::shared;
 
 pub mod pair; // edge 1, by all bits of a pair
 
@@ -76,7 +77,7 @@ pub fn unordered_at(
     requires { ⌜ (x < n) × (y < n) × (r ≡ rowOf (now rows) x) × (q ≡ rowOf (now rows) y) × Known (decode (now rows) p mode n) n (now w) ⌝ }
     ensures { λ d. ⌜ d ≡ unordered (decode (now (rows .entry)) p mode n) x y b ⌝ }
 {
-    location::pairs::common(r, q, b)
+    rules::pairs::common(r, q, b)
         & !before_byte(rows, p, mode, n, x, y, r, b, w)
         & !before_byte(rows, p, mode, n, y, x, q, b, w)
 }
@@ -97,7 +98,7 @@ pub fn may_race(
     requires { ⌜ (x < n) × (y < n) × (r ≡ rowOf (now rows) x) × (q ≡ rowOf (now rows) y) × Known (decode (now rows) p mode n) n (now w) ⌝ }
     ensures { λ d. ⌜ d ≡ mayRace (decode (now (rows .entry)) p mode n) x y ⌝ }
 {
-    !(x == y) & location::shared::clash(r, q) & !mutual_at(rows, p, mode, n, x, y, w)
+    !(x == y) & shared::clash(r, q) & !mutual_at(rows, p, mode, n, x, y, w)
 }
 
 // Places of a row's size and start.
@@ -131,7 +132,7 @@ pub fn may_touch(rows: &[u8], y: u16, start: u32, end: u32) -> bool
 fn lowest_byte(r: Row, q: Row) -> u32
     ensures { λ b. ⌜ b ≡ lowestByte r q ⌝ }
 {
-    let s = location::shared::lowest_shared(r.start, r.size, q.start, q.size);
+    let s = shared::lowest_shared(r.start, r.size, q.start, q.size);
     match s {
         Shared::At(c) => c as u32,
         Shared::Nothing => (r.start as u32) + (r.size as u32),

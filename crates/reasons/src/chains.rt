@@ -1,6 +1,6 @@
 // A chain of direct cases of M6: the lowest class set that has one, and its steps as numbers in a lent buffer.
 ghost use mathlib.Core.Path.{_≡_};
-ghost use mathlib.Core.Bool.{true, cond};
+ghost use mathlib.Core.Bool.{true};
 ghost use mathlib.Core.List.{List};
 ghost use Prim.Native.Nat.{ℕ, _+_, _*_, _/_, _%_, _≤_, _<_};
 ghost use lib.ListN.{length};
@@ -23,6 +23,7 @@ use crate::layers;
 use model::Mode;
 use model::Places;
 use model::Row;
+use rows::pick;
 use rules::cases;
 use rules::moments;
 
@@ -57,12 +58,6 @@ pub fn find_set(
 
 // ---- its steps
 
-fn pick(b: bool, x: u16, y: u16) -> u16
-    ensures { λ r. ⌜ r ≡ cond b x y ⌝ }
-{
-    if b { x } else { y }
-}
-
 // M6: the lowest case from the moment `from` of r to the moment `to` of q, where there is one: a dependency if it is none of the three
 // that go by rows. b says that r synchronizes-with q, o that the one moment is program-ordered before the other.
 fn case_of(s: u8, from: u8, to: u8, r: Row, q: Row, b: bool, o: bool) -> u16
@@ -71,7 +66,11 @@ fn case_of(s: u8, from: u8, to: u8, r: Row, q: Row, b: bool, o: bool) -> u16
     let sync = cases::is_case(1, s, from, to, r, q, b, o);
     let release = cases::is_case(2, s, from, to, r, q, b, o);
     let acquire = cases::is_case(3, s, from, to, r, q, b, o);
-    pick(sync, 1, pick(release, 2, pick(acquire, 3, 4)))
+    pick::number(
+        sync,
+        1,
+        pick::number(release, 2, pick::number(acquire, 3, 4)),
+    )
 }
 
 // The same of moments m and k of a table; b says that m's row synchronizes-with k's.

@@ -16,6 +16,7 @@ use model::Admission;
 use model::DeriveAnswer;
 use model::Mode;
 use model::Places;
+use rules::moments;
 
 pub mod chains; // the class set of a chain, and its steps as numbers
 pub mod layers; // the steps of a class set, and the layers of chains of them
@@ -26,8 +27,8 @@ fn two_moments(rows: &[u8], n: usize, first: u16, second: u16) -> bool
 {
     let r = rows::bytes::read_row(rows, first / 3);
     let q = rows::bytes::read_row(rows, second / 3);
-    rules::moments::moment_in(n, r, first as usize)
-        & rules::moments::moment_in(n, q, second as usize)
+    moments::moment_in(n, r, first as usize)
+        & moments::moment_in(n, q, second as usize)
         & !(first == second)
 }
 
@@ -47,7 +48,7 @@ fn derive_moments(
         × (now (c .exit) ≡ chainAfter (ours (decode (now (rows .entry)) p mode n) first second) (now (c .entry)))
         × Within MUTUAL CHAINS-END (now (w .entry)) (now (w .exit)) ⌝ }
 {
-    if rules::moments::ordered_at(rows, n, first, second) {
+    if moments::ordered_at(rows, n, first, second) {
         return DeriveAnswer::ProgramOrder;
     }
     sequence::sync::make_synced(rows, p, mode, n, w);

@@ -38,7 +38,7 @@ fn ordered_nth(
     ensures { λ d. ⌜ d ≡ orderedNth (decode (now (rows .entry)) p mode n) x y k ⌝ }
 {
     let b = (r.start as u32) + (k as u32);
-    !location::pairs::common(r, q, b)
+    !rules::pairs::common(r, q, b)
         | race::before_byte(rows, p, mode, n, x, y, r, b, w)
         | race::before_byte(rows, p, mode, n, y, x, q, b, w)
 }
@@ -123,7 +123,7 @@ fn is_conflict(
     requires { ⌜ (r ≡ rowOf (now rows) x) × (q ≡ rowOf (now rows) y) ⌝ }
     ensures { λ d. ⌜ d ≡ conflict (decode (now (rows .entry)) p mode n) x y ⌝ }
 {
-    !(x == y) & location::shared::clash(r, q)
+    !(x == y) & rules::shared::clash(r, q)
 }
 
 // Whether x and y conflict and are mutually-ordered.

@@ -1,6 +1,6 @@
 -- The tests of M6 on rows that are decoded already, and that they are the table's. Assumes nothing.
 use mathlib.Core.Path.{_≡_, refl, sym, ap, _∙_}
-use mathlib.Core.Bool.{Bool, true, false}
+use mathlib.Core.Bool.{Bool, true, false, cond}
 use mathlib.Core.List.{List}
 use Prim.Native.Nat.{ℕ}
 use lib.Dec.{eqb}
@@ -8,13 +8,17 @@ use borrow.Author.Tests.{ne-eqb}
 use Rattle.finite.specs.Logic.{_and_, _or_, or-off}
 use Rattle.model.specs.declared.Mode.{Mode}
 use Rattle.model.specs.declared.Row.{Row}
-use Rattle.model.specs.Row.{holds, releases, acquires}
+use Rattle.model.specs.Row.{access, holds, meets, classIn, releases, acquires}
 use Rattle.model.specs.Table.{decode, rowOf}
-use Rattle.model.specs.Moment.{rowIn, part, programOrder}
+use Rattle.model.specs.Moment.{AT, rowIn, part, classesOf, programOrder}
 use Rattle.model.specs.Synchronizes.{synchronizes}
 use Rattle.model.specs.Happens.{holdingOf, concernsOf, holding, concerns, bySync, toRelease, fromAcquire, bySystem, direct}
 
 -- ---- definitions
+
+-- M6: moment k of r is of a class in s: it accesses it, or its availability or visibility operation has it
+unfoldable pub touches : ℕ → Row → ℕ → Bool
+touches s r k = cond (eqb k AT) (access r and classIn r s) (meets (classesOf r) s)
 
 -- row i holds all of s
 unfoldable pub holdsAt : List ℕ → ℕ → ℕ → Bool

@@ -1,21 +1,15 @@
 // M6: the direct cases of inter-thread order for a class set, on rows that are decoded already.
 ghost use mathlib.Core.Path.{_≡_};
-ghost use mathlib.Core.Bool.{cond};
 ghost use Prim.Native.Nat.{_<_};
 ghost use Rattle.model.specs.Limits.{ROWS};
 ghost use Rattle.model.specs.Happens.{holdingOf, concernsOf};
-ghost use Rattle.rules.specs.Cases.{holdsAt, caseRows};
+ghost use Rattle.rules.specs.Cases.{touches, holdsAt, caseRows};
 use crate::moments;
 use model::Row;
+use rows::pick;
 
 // M6: the class sets are the numbers 1 to 15.
 pub const CLASS_SETS: u8 = 15;
-
-fn pick(b: bool, x: bool, y: bool) -> bool
-    ensures { λ r. ⌜ r ≡ cond b x y ⌝ }
-{
-    if b { x } else { y }
-}
 
 // M6: whether moment k is the atomic or barrier r itself, holding all of s.
 pub fn holding_of(s: u8, r: Row, k: u8) -> bool
@@ -24,13 +18,20 @@ pub fn holding_of(s: u8, r: Row, k: u8) -> bool
     (k == moments::AT) & !rows::kinds::is_plain(r) & rows::kinds::holds(r.classes, s)
 }
 
+// M6: whether moment k of r is of a class in s.
+pub fn touches_of(s: u8, r: Row, k: u8) -> bool
+    ensures { λ b. ⌜ b ≡ touches s r k ⌝ }
+{
+    let access = rows::kinds::is_access(r) & rows::kinds::class_in(r, s);
+    let other = rows::kinds::meets(moments::classes_of(r), s);
+    pick::flag(k == moments::AT, access, other)
+}
+
 // M6: whether moment k of r accesses a class in s, or is an atomic or barrier holding all of s.
 pub fn concerns_of(s: u8, r: Row, k: u8) -> bool
     ensures { λ b. ⌜ b ≡ concernsOf s r k ⌝ }
 {
-    let access = rows::kinds::is_access(r) & rows::kinds::class_in(r, s);
-    let other = rows::kinds::meets(moments::classes_of(r), s);
-    pick(k == moments::AT, access, other) | holding_of(s, r, k)
+    touches_of(s, r, k) | holding_of(s, r, k)
 }
 
 // Whether row i holds all of s.

@@ -1,13 +1,13 @@
 // M1: the moments of a row, and program order between moments. Moment 3 × row + 0, 1 or 2 is the one before, at or after the row.
 ghost use mathlib.Core.Path.{_≡_};
 ghost use mathlib.Core.List.{List};
-ghost use mathlib.Core.Bool.{Bool, cond};
 ghost use Prim.Native.Nat.{ℕ, _+_, _*_, _/_, _%_, _<_};
 ghost use Rattle.model.specs.declared.Mode.{Mode};
 ghost use Rattle.model.specs.Limits.{ROWS};
 ghost use Rattle.model.specs.Table.{decode};
-ghost use Rattle.model.specs.Moment.{availabilityOf, visibilityOf, momentOf, momentIn, classesOf, orderedRows, moment, programOrder};
+ghost use Rattle.model.specs.Moment.{availabilityOf, visibilityOf, momentOf, momentIn, classesOf, orderedRows, programOrder};
 use model::Row;
+use rows::pick;
 
 pub const BEFORE: u8 = 0;
 
@@ -15,17 +15,11 @@ pub const AT: u8 = 1;
 
 pub const AFTER: u8 = 2;
 
-fn pick(b: bool, x: u8, y: u8) -> u8
-    ensures { λ r. ⌜ r ≡ cond b x y ⌝ }
-{
-    if b { x } else { y }
-}
-
 // Whether moment k of r is an availability moment.
 pub fn availability_of(r: Row, k: u8) -> bool
     ensures { λ b. ⌜ b ≡ availabilityOf r k ⌝ }
 {
-    let at = pick(rows::kinds::is_plain(r), AFTER, BEFORE);
+    let at = pick::byte(rows::kinds::is_plain(r), AFTER, BEFORE);
     rows::kinds::makes_available(r) & !(r.scope == rows::scopes::INVOCATION) & (k == at)
 }
 
@@ -33,7 +27,7 @@ pub fn availability_of(r: Row, k: u8) -> bool
 pub fn visibility_of(r: Row, k: u8) -> bool
     ensures { λ b. ⌜ b ≡ visibilityOf r k ⌝ }
 {
-    let at = pick(rows::kinds::is_plain(r), BEFORE, AFTER);
+    let at = pick::byte(rows::kinds::is_plain(r), BEFORE, AFTER);
     rows::kinds::makes_visible(r) & !(r.scope == rows::scopes::INVOCATION) & (k == at)
 }
 
@@ -48,7 +42,7 @@ pub fn moment_of(r: Row, k: u8) -> bool
 pub fn classes_of(r: Row) -> u8
     ensures { λ c. ⌜ c ≡ classesOf r ⌝ }
 {
-    pick(
+    pick::byte(
         rows::kinds::is_plain(r),
         rows::kinds::single(r.class),
         r.classes,

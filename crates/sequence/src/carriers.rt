@@ -1,16 +1,15 @@
 // M5: the rows that carry a release to an acquire, from the bits of mutually-ordered rows and of release sequences.
 ghost use mathlib.Core.Path.{_≡_};
-ghost use mathlib.Core.List.{List};
-ghost use Prim.Native.Nat.{ℕ, _≤_, _<_};
+ghost use Prim.Native.Nat.{_≤_, _<_};
 ghost use lib.ListN.{length};
 ghost use Rattle.finite.specs.Below.{anyBelow};
-ghost use Rattle.model.specs.declared.Mode.{Mode};
 ghost use Rattle.model.specs.Limits.{ROWS, WORK};
 ghost use Rattle.model.specs.Table.{decode};
 ghost use Rattle.model.specs.Synchronizes.{takesFrom, carriesOut, carriesIn, carriesOver};
 ghost use Rattle.sequence.specs.Known.{Known};
 use model::Mode;
 use model::Places;
+use rules::carriers;
 
 // M5: whether row y reads from the sequence that the writer x heads, the two being mutually-ordered. Few rows are, so their bit
 // is read first.
@@ -57,7 +56,7 @@ fn carries_out_at(
     if !takes_from_at(rows, p, mode, n, x, b, w) {
         return false;
     }
-    rules::carriers::leads_at(rows, a, x)
+    carriers::leads_at(rows, a, x)
 }
 
 // M5: whether some row does.
@@ -98,7 +97,7 @@ fn carries_in_at(
     if !takes_from_at(rows, p, mode, n, a, y, w) {
         return false;
     }
-    rules::carriers::trails_at(rows, b, y)
+    carriers::trails_at(rows, b, y)
 }
 
 // M5: whether some row does.
@@ -136,7 +135,7 @@ fn carries_over_at(
     requires { ⌜ (n ≤ ROWS) × (a < n) × (b < n) × (x < n) × (WORK ≤ length (now w)) × Known (decode (now rows) p mode n) n (now w) ⌝ }
     ensures { λ d. ⌜ d ≡ carriesOver (decode (now (rows .entry)) p mode n) a b x ⌝ }
 {
-    if !rules::carriers::leads_at(rows, a, x) {
+    if !carriers::leads_at(rows, a, x) {
         return false;
     }
     is_carried_in(rows, p, mode, n, x, b, w)

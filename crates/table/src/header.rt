@@ -5,9 +5,9 @@ ghost use Rattle.finite.specs.Below.{anyBelow};
 ghost use Rattle.model.specs.Table.{sizeOf, dependencyCount};
 ghost use Rattle.model.specs.Refusal.{versionFits, limitsFit, lengthFits, kindOver, namesNone, headerFault};
 ghost use Rattle.table.specs.Rows.{shapeFault, hostsFaultIn};
-use crate::pick;
 use model::Places;
 use rows::bytes;
+use rows::pick;
 use rows::scopes;
 
 pub fn version_fits(s: &[u8]) -> bool
@@ -109,10 +109,10 @@ pub fn hosts_fault(p: Places, agents: u8, d: &[u8], rows: u8) -> u8
 pub fn shape_fault(s: &[u8]) -> u8
     ensures { λ r. ⌜ r ≡ shapeFault (now (s .entry)) ⌝ }
 {
-    let sized = pick(length_fits(s), 0, 4);
-    let limited = pick(limits_fit(s), sized, 3);
-    let marked = pick(version_fits(s), limited, 2);
-    pick(bytes::HEADER <= s.len(), marked, 1)
+    let sized = pick::byte(length_fits(s), 0, 4);
+    let limited = pick::byte(limits_fit(s), sized, 3);
+    let marked = pick::byte(version_fits(s), limited, 2);
+    pick::byte(bytes::HEADER <= s.len(), marked, 1)
 }
 
 // Refusals 1 to 4 and 16 to 18, or 0.

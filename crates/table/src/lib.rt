@@ -1,6 +1,5 @@
 // Admission: refusals 1 to 10, and 14 to 20, each a test of its own, in their order.
 ghost use mathlib.Core.Path.{_≡_};
-ghost use mathlib.Core.Bool.{cond};
 ghost use Rattle.model.specs.Refusal.{admission};
 ghost use Rattle.table.specs.Rows.{rowsAdmission};
 use model::Admission;
@@ -12,20 +11,6 @@ use rows::scopes;
 pub mod header; // 1 to 4, 16 to 18
 pub mod row_faults; // 5 to 7, 19, 20: a row by itself
 pub mod table_faults; // 8 to 10, 14, 15: a row among the others
-
-// ---- the cascades choose by these: all that they choose from is total
-
-pub fn pick(b: bool, x: u8, y: u8) -> u8
-    ensures { λ r. ⌜ r ≡ cond b x y ⌝ }
-{
-    if b { x } else { y }
-}
-
-pub fn choose(b: bool, x: bool, y: bool) -> bool
-    ensures { λ r. ⌜ r ≡ cond b x y ⌝ }
-{
-    if b { x } else { y }
-}
 
 // ---- in their order
 

@@ -4,13 +4,12 @@ ghost use Rattle.finite.specs.Below.{least};
 ghost use Rattle.model.specs.Refusal.{codesFit, plainFits, atomicFits, barrierFits, semanticsFit, bytesFit, kindFits, atomicExtentFits, extentFits};
 ghost use Rattle.model.specs.Refusal.{agentFits, operationFits, formFault, rowFault, faulty};
 ghost use Rattle.table.specs.Rows.{rowFaultIn};
-use crate::choose;
-use crate::pick;
 use model::Places;
 use model::Row;
 use model::Source;
 use rows::bytes;
 use rows::kinds;
+use rows::pick;
 use rows::scopes;
 
 pub const CLASSES: u8 = 15;
@@ -29,7 +28,7 @@ pub fn codes_fit(hosts: bool, agents: u8, r: Row) -> bool
         & (r.scope <= scopes::DEVICE)
         & (r.classes <= CLASSES)
         & (r.flags <= FLAGS)
-        & (r.class <= pick(kinds::is_control(r), scopes::DEVICE, CLASS))
+        & (r.class <= pick::byte(kinds::is_control(r), scopes::DEVICE, CLASS))
 }
 
 // 19: a host agent has plain rows, a queue agent operations, a shader agent the rest.
@@ -37,8 +36,8 @@ pub fn agent_fits(kind: u16, r: Row) -> bool
     ensures { λ b. ⌜ b ≡ agentFits kind r ⌝ }
 {
     let operation = kinds::is_operation(r);
-    let other = choose(kind == scopes::QUEUE, operation, !operation);
-    choose(kind == scopes::HOST, kinds::is_plain(r), other)
+    let other = pick::flag(kind == scopes::QUEUE, operation, !operation);
+    pick::flag(kind == scopes::HOST, kinds::is_plain(r), other)
 }
 
 // 20: an operation has zeros in bytes 2 to 11 and as its rank, and no source.
@@ -63,7 +62,7 @@ pub fn plain_fits(r: Row) -> bool
 {
     let available = kinds::makes_available(r);
     let visible = kinds::makes_visible(r);
-    let scoped = choose(
+    let scoped = pick::flag(
         available | visible,
         kinds::is_non_private(r),
         r.scope == scopes::INVOCATION,
@@ -154,9 +153,9 @@ pub fn extent_fits(r: Row) -> bool
 pub fn form_fault(r: Row, source: Source) -> u8
     ensures { λ n. ⌜ n ≡ formFault r (source .0) ⌝ }
 {
-    let operation = pick(operation_fits(r, source), 0, 20);
-    let other = pick(kind_fits(r, source), pick(extent_fits(r), 0, 7), 6);
-    pick(kinds::is_operation(r), operation, other)
+    let operation = pick::byte(operation_fits(r, source), 0, 20);
+    let other = pick::byte(kind_fits(r, source), pick::byte(extent_fits(r), 0, 7), 6);
+    pick::byte(kinds::is_operation(r), operation, other)
 }
 
 // Refusals 5, 19, 6 or 20, 7 of a row, or 0.
@@ -166,8 +165,8 @@ pub fn row_fault(hosts: bool, p: Places, agents: u8, r: Row, source: Source) -> 
     ensures { λ n. ⌜ n ≡ rowFault hosts p agents r (source .0) ⌝ }
 {
     let fits = agent_fits(scopes::agent_kind(p, r.agent), r);
-    let fault = pick(fits, form_fault(r, source), 19);
-    pick(codes_fit(hosts, agents, r), fault, 5)
+    let fault = pick::byte(fits, form_fault(r, source), 19);
+    pick::byte(codes_fit(hosts, agents, r), fault, 5)
 }
 
 pub fn row_fault_at(rows: &[u8], hosts: bool, p: Places, agents: u8, i: u16) -> u8

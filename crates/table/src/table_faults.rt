@@ -10,13 +10,13 @@ ghost use Rattle.model.specs.Refusal.{otherClass, otherClassAt, classTaken, wri
 ghost use Rattle.model.specs.Refusal.{sameRank, sameRankAt, rankTaken, apartAt, instanceBroken};
 ghost use Rattle.model.specs.Refusal.{rival, outside, outsideAt, begins, unfit, tableFault, faulty};
 ghost use Rattle.rows.specs.Places.{IsPlace};
-use crate::pick;
 use model::Mode;
 use model::Places;
 use model::Row;
 use model::Source;
 use rows::bytes;
 use rows::kinds;
+use rows::pick;
 use rows::scopes;
 
 // ---- 8
@@ -256,11 +256,11 @@ pub fn is_unfit(rows: &[u8], mode: Mode, i: u16) -> bool
 pub fn table_fault(rows: &[u8], p: Places, mode: Mode, n: u16, blanks: bool, i: u16) -> u8
     ensures { λ r. ⌜ r ≡ tableFault blanks (decode (now (rows .entry)) p mode n) (sourceOf (now (rows .entry))) i ⌝ }
 {
-    let run = pick(is_unfit(rows, mode, i), 15, 0);
-    let instance = pick(instance_broken(rows, p, i), 14, run);
-    let rank = pick(rank_taken(rows, p, i), 10, instance);
-    let source = pick(source_broken(rows, n, blanks, i), 9, rank);
-    pick(class_taken(rows, i), 8, source)
+    let run = pick::byte(is_unfit(rows, mode, i), 15, 0);
+    let instance = pick::byte(instance_broken(rows, p, i), 14, run);
+    let rank = pick::byte(rank_taken(rows, p, i), 10, instance);
+    let source = pick::byte(source_broken(rows, n, blanks, i), 9, rank);
+    pick::byte(class_taken(rows, i), 8, source)
 }
 
 // The first of n rows that has a refusal 8 to 10, 14 or 15; n where none has.

@@ -10,8 +10,8 @@ use model::Places;
 use model::Row;
 use model::Source;
 use rows::bytes;
+use rows::pick;
 use rows::scopes;
-use table::pick;
 
 pub mod encode; // the bytes of a table
 pub mod parts; // values out of lent parts
@@ -89,10 +89,10 @@ fn dependencies_fit(version: u8, n: u16) -> bool
 fn values_fault(version: u8, agents: u8, p: Places, rows: u8, n: u16) -> u8
     ensures { λ r. ⌜ r ≡ valuesFault version agents p rows n ⌝ }
 {
-    let few = pick(dependencies_fit(version, n), 0, 17);
-    let numbered = pick(!any_number_over(version, p, agents), few, 16);
-    let counted = pick(counts_fit(agents, rows), numbered, 3);
-    pick(version_known(version), counted, 2)
+    let few = pick::byte(dependencies_fit(version, n), 0, 17);
+    let numbered = pick::byte(!any_number_over(version, p, agents), few, 16);
+    let counted = pick::byte(counts_fit(agents, rows), numbered, 3);
+    pick::byte(version_known(version), counted, 2)
 }
 
 // ---- writing

@@ -11,10 +11,10 @@ use Rattle.location.proofs.before_at.Reads as reads
 use Rattle.location.proofs.before_at.Lts as lts
 use Rattle.location.proofs.chains.l3.Reads as l3-reads
 use Rattle.location.proofs.domains.grid_bit.Reads as grid-bit-reads
-use Rattle.location.proofs.pairs.common_of.Reads as common-of-reads
-use Rattle.location.proofs.pairs.happens_bit.Reads as happens-bit-reads
-use Rattle.location.proofs.pairs.l1.Reads as l1-reads
-use Rattle.location.proofs.pairs.l2.Reads as l2-reads
+use Rattle.rules.proofs.pairs.common_of.Reads as common-of-reads
+use Rattle.location.proofs.happens.happens_bit.Reads as happens-bit-reads
+use Rattle.rules.proofs.pairs.l1.Reads as l1-reads
+use Rattle.rules.proofs.pairs.l2.Reads as l2-reads
 
 -- src/lib.rt:39:17
 cast-start : tie.Need-cast-start

@@ -16,7 +16,7 @@ use Rattle.location.proofs.fill_pair.Reads as reads
 use Rattle.location.proofs.fill_pair.Lts as lts
 use Rattle.area.proofs.pairs.put_if.Reads as put-if-reads
 use Rattle.location.proofs.before_at.Reads as before-at-reads
-use Rattle.location.proofs.pairs.may_share.Reads as may-share-reads
+use Rattle.rules.proofs.pairs.may_share.Reads as may-share-reads
 use Rattle.rows.proofs.bytes.read_row.Reads as read-row-reads
 
 abbrev Inv-loop : tie.InvT-loop

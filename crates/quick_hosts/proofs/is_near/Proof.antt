@@ -1,6 +1,6 @@
 use Rattle.finite.specs.Logic.{_and_}
 use Rattle.model.specs.Table.{rowOf}
-use Rattle.location.specs.Order.{mayShare}
+use Rattle.rules.specs.Shared.{mayShare}
 use borrow.Author.Needs.{needs}
 use Rattle.quick_hosts.proofs.is_near.Statement.{statement}
 use Rattle.quick_hosts.proofs.is_near.Tie as tie

@@ -12,10 +12,10 @@ use Rattle.quick_location.proofs.fill_pair.Tie as tie
 use Rattle.quick_location.proofs.fill_pair.Reads as reads
 use Rattle.quick_location.proofs.fill_pair.Lts as lts
 use Rattle.location.proofs.domains.grid_bit.Reads as grid-bit-reads
-use Rattle.location.proofs.pairs.happens_bit.Reads as happens-bit-reads
-use Rattle.location.proofs.pairs.l1.Reads as l1-reads
-use Rattle.location.proofs.pairs.l2.Reads as l2-reads
-use Rattle.location.proofs.pairs.public_write.Reads as public-write-reads
+use Rattle.location.proofs.happens.happens_bit.Reads as happens-bit-reads
+use Rattle.rules.proofs.pairs.l1.Reads as l1-reads
+use Rattle.rules.proofs.pairs.l2.Reads as l2-reads
+use Rattle.rules.proofs.pairs.public_write.Reads as public-write-reads
 use Rattle.quick_location.proofs.fill_shared.Reads as fill-shared-reads
 use Rattle.quick_location.proofs.fill_third.Reads as fill-third-reads
 use Rattle.quick_hosts.proofs.is_near.Reads as is-near-reads

@@ -7,7 +7,7 @@ use Rattle.race.proofs.lowest_byte.Statement.{statement}
 use Rattle.race.proofs.lowest_byte.Tie as tie
 use Rattle.race.proofs.lowest_byte.Reads as reads
 use Rattle.race.proofs.lowest_byte.Lts as lts
-use Rattle.location.proofs.shared.lowest_shared.Reads as lowest-shared-reads
+use Rattle.rules.proofs.shared.lowest_shared.Reads as lowest-shared-reads
 
 -- src/lib.rt:96:9
 lowest-shared-requires : tie.Need-lowest-shared-requires

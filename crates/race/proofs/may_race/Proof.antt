@@ -7,7 +7,7 @@ use Rattle.race.proofs.may_race.Statement.{statement}
 use Rattle.race.proofs.may_race.Tie as tie
 use Rattle.race.proofs.may_race.Reads as reads
 use Rattle.race.proofs.may_race.Lts as lts
-use Rattle.location.proofs.shared.clash.Reads as clash-reads
+use Rattle.rules.proofs.shared.clash.Reads as clash-reads
 use Rattle.race.proofs.mutual_at.Reads as mutual-at-reads
 
 -- src/lib.rt:89:17

@@ -6,7 +6,7 @@ use Rattle.race.proofs.unordered_at.Statement.{statement}
 use Rattle.race.proofs.unordered_at.Tie as tie
 use Rattle.race.proofs.unordered_at.Reads as reads
 use Rattle.race.proofs.unordered_at.Lts as lts
-use Rattle.location.proofs.pairs.common.Reads as common-reads
+use Rattle.rules.proofs.pairs.common.Reads as common-reads
 use Rattle.race.proofs.before_byte.Reads as before-byte-reads
 
 -- src/lib.rt:70:5

@@ -7,7 +7,7 @@ use Rattle.axioms.proofs.edges.edge_number.Lts as lts
 use Rattle.race.proofs.pair.before_some.Reads as before-some-reads
 use Rattle.axioms.proofs.edges.follows_at.Reads as follows-at-reads
 use Rattle.axioms.proofs.edges.from_reads_at.Reads as from-reads-at-reads
-use Rattle.axioms.proofs.edges.pick.Reads as pick-reads
+use Rattle.rows.proofs.pick.number.Reads as number-reads
 use Rattle.axioms.proofs.edges.reads_from_at.Reads as reads-from-at-reads
 use Rattle.rows.proofs.bytes.read_row.Reads as read-row-reads
 
@@ -44,26 +44,26 @@ from-reads-at-requires : tie.Need-from-reads-at-requires
 from-reads-at-requires c κs = search needs
 
 -- src/edges.rt:125:54
-pick-requires : tie.Need-pick-requires
-pick-requires c κs = search needs
+number-requires : tie.Need-number-requires
+number-requires c κs = search needs
 
 -- src/edges.rt:125:38
-pick-requires-2 : tie.Need-pick-requires-2
-pick-requires-2 c κs = search needs
+number-requires-2 : tie.Need-number-requires-2
+number-requires-2 c κs = search needs
 
 -- src/edges.rt:125:23
-pick-requires-3 : tie.Need-pick-requires-3
-pick-requires-3 c κs = search needs
+number-requires-3 : tie.Need-number-requires-3
+number-requires-3 c κs = search needs
 
 -- src/edges.rt:125:5
-pick-requires-4 : tie.Need-pick-requires-4
-pick-requires-4 c κs = search needs
+number-requires-4 : tie.Need-number-requires-4
+number-requires-4 c κs = search needs
 
 -- src/edges.rt:107:1
 returns : tie.Need-returns
 returns c =
     number-is _ _ _ _ _ _ _ _ _ _ _ _ (c .before .before .before .before .before .before .before .before-some .ensures) (c .before .before .before .before .before .before .follows-at .ensures) (c .before .before .before .before .before .reads-from-at .ensures)
-    (c .before .before .before .before .from-reads-at .ensures) (c .pick4 .ensures) (c .before .pick3 .ensures) (c .before .before .pick2 .ensures) (c .before .before .before .pick .ensures)
+    (c .before .before .before .before .from-reads-at .ensures) (c .number4 .ensures) (c .before .number3 .ensures) (c .before .before .number2 .ensures) (c .before .before .before .number .ensures)
 
 pub edge-number-spec : {M : Type 1} → statement M
 edge-number-spec =
@@ -77,8 +77,8 @@ edge-number-spec =
     follows-at-requires
     reads-from-at-requires
     from-reads-at-requires
-    pick-requires
-    pick-requires-2
-    pick-requires-3
-    pick-requires-4
+    number-requires
+    number-requires-2
+    number-requires-3
+    number-requires-4
     returns)

@@ -9,7 +9,7 @@ use Rattle.axioms.proofs.edges.from_reads_at.Reads as reads
 use Rattle.axioms.proofs.edges.from_reads_at.Lts as lts
 use Rattle.axioms.proofs.edges.follows_source.Reads as follows-source-reads
 use Rattle.axioms.proofs.source_at.Reads as source-at-reads
-use Rattle.location.proofs.shared.overlap.Reads as overlap-reads
+use Rattle.rules.proofs.shared.overlap.Reads as overlap-reads
 use Rattle.model.proofs.Source.is_initial.Reads as is-initial-reads
 use Rattle.rows.proofs.kinds.reads.Reads as reads-reads
 use Rattle.rows.proofs.kinds.writes.Reads as writes-reads

@@ -5,7 +5,7 @@ use Rattle.location.proofs.chains.available_at.Statement.{statement}
 use Rattle.location.proofs.chains.available_at.Tie as tie
 use Rattle.location.proofs.chains.available_at.Reads as reads
 use Rattle.location.proofs.chains.available_at.Lts as lts
-use Rattle.location.proofs.pairs.covers_of.Reads as covers-of-reads
+use Rattle.rules.proofs.pairs.covers_of.Reads as covers-of-reads
 use Rattle.rules.proofs.moments.availability_of.Reads as availability-of-reads
 use Rattle.rules.proofs.moments.is_ordered.Reads as is-ordered-reads
 

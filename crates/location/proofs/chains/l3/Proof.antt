@@ -8,7 +8,7 @@ use Rattle.location.proofs.chains.l3.Tie as tie
 use Rattle.location.proofs.chains.l3.Reads as reads
 use Rattle.location.proofs.chains.l3.Lts as lts
 use Rattle.location.proofs.chains.some_carried.Reads as some-carried-reads
-use Rattle.location.proofs.pairs.public_write.Reads as public-write-reads
+use Rattle.rules.proofs.pairs.public_write.Reads as public-write-reads
 
 -- src/chains.rt:253:9
 public-write-requires : tie.Need-public-write-requires

@@ -8,7 +8,7 @@ use Rattle.location.proofs.chains.may_show.Statement.{statement}
 use Rattle.location.proofs.chains.may_show.Tie as tie
 use Rattle.location.proofs.chains.may_show.Reads as reads
 use Rattle.location.proofs.chains.may_show.Lts as lts
-use Rattle.location.proofs.pairs.happens_bit.Reads as happens-bit-reads
+use Rattle.location.proofs.happens.happens_bit.Reads as happens-bit-reads
 use Rattle.rows.proofs.bytes.row_byte.Reads as row-byte-reads
 use Rattle.rows.proofs.kinds.meets.Reads as meets-reads
 

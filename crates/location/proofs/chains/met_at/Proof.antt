@@ -11,7 +11,7 @@ use Rattle.location.proofs.chains.met_at.Lts as lts
 use Rattle.location.proofs.chains.available_part.Reads as available-part-reads
 use Rattle.location.proofs.chains.meet_in.Reads as meet-in-reads
 use Rattle.location.proofs.chains.widest.Reads as widest-reads
-use Rattle.location.proofs.pairs.happens_bit.Reads as happens-bit-reads
+use Rattle.location.proofs.happens.happens_bit.Reads as happens-bit-reads
 
 -- src/chains.rt:304:31
 mul-happens-bit : tie.Need-mul-happens-bit

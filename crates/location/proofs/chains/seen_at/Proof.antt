@@ -12,7 +12,7 @@ use Rattle.location.proofs.chains.available_part.Reads as available-par
 use Rattle.location.proofs.chains.meet_in.Reads as meet-in-reads
 use Rattle.location.proofs.chains.visible_part.Reads as visible-part-reads
 use Rattle.location.proofs.chains.widest.Reads as widest-reads
-use Rattle.location.proofs.pairs.happens_bit.Reads as happens-bit-reads
+use Rattle.location.proofs.happens.happens_bit.Reads as happens-bit-reads
 use Rattle.rows.proofs.bytes.read_row.Reads as read-row-reads
 
 -- src/chains.rt:125:41

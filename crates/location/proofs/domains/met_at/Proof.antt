@@ -9,7 +9,7 @@ use Rattle.location.proofs.domains.met_at.Lts as lts
 use Rattle.location.proofs.domains.is_seen.Reads as is-seen-reads
 use Rattle.location.proofs.domains.operation_at.Reads as operation-at-reads
 use Rattle.location.proofs.domains.visible_kind.Reads as visible-kind-reads
-use Rattle.location.proofs.pairs.happens_bit.Reads as happens-bit-reads
+use Rattle.location.proofs.happens.happens_bit.Reads as happens-bit-reads
 use Rattle.rows.proofs.bytes.read_row.Reads as read-row-reads
 use Rattle.rows.proofs.kinds.reads.Reads as reads-reads
 

@@ -9,7 +9,7 @@ use Rattle.location.proofs.domains.seen_at.Tie as tie
 use Rattle.location.proofs.domains.seen_at.Reads as reads
 use Rattle.location.proofs.domains.seen_at.Lts as lts
 use Rattle.location.proofs.domains.thence_at.Reads as thence-at-reads
-use Rattle.location.proofs.pairs.happens_bit.Reads as happens-bit-reads
+use Rattle.location.proofs.happens.happens_bit.Reads as happens-bit-reads
 
 -- src/domains.rt:101:9
 thence-at-requires : tie.Need-thence-at-requires

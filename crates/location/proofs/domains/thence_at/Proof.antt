@@ -8,7 +8,7 @@ use Rattle.location.proofs.domains.thence_at.Statement.{statement}
 use Rattle.location.proofs.domains.thence_at.Tie as tie
 use Rattle.location.proofs.domains.thence_at.Reads as reads
 use Rattle.location.proofs.domains.thence_at.Lts as lts
-use Rattle.location.proofs.pairs.happens_bit.Reads as happens-bit-reads
+use Rattle.location.proofs.happens.happens_bit.Reads as happens-bit-reads
 use Rattle.rows.proofs.bytes.row_byte.Reads as row-byte-reads
 
 -- src/domains.rt:90:38

@@ -9,7 +9,7 @@ use Rattle.location.proofs.hosted.hosted_at.Lts as lts
 use Rattle.location.proofs.domains.grid_bit.Reads as grid-bit-reads
 use Rattle.location.proofs.domains.l5.Reads as l5-reads
 use Rattle.location.proofs.hosted.l4.Reads as l4-reads
-use Rattle.location.proofs.pairs.may_share.Reads as may-share-reads
+use Rattle.rules.proofs.pairs.may_share.Reads as may-share-reads
 use Rattle.rows.proofs.bytes.read_row.Reads as read-row-reads
 
 -- src/hosted.rt:78:41

@@ -9,7 +9,7 @@ use Rattle.location.proofs.reach.broadens_at.Tie as tie
 use Rattle.location.proofs.reach.broadens_at.Reads as reads
 use Rattle.location.proofs.reach.broadens_at.Lts as lts
 use Rattle.location.proofs.chains.available_part.Reads as available-part-reads
-use Rattle.location.proofs.pairs.happens_bit.Reads as happens-bit-reads
+use Rattle.location.proofs.happens.happens_bit.Reads as happens-bit-reads
 use Rattle.location.proofs.reach.has_flag.Reads as has-flag-reads
 use Rattle.location.proofs.reach.is_broader.Reads as is-broader-reads
 use Rattle.rules.proofs.moments.availability_of.Reads as availability-of-reads

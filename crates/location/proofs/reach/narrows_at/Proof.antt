@@ -9,7 +9,7 @@ use Rattle.location.proofs.reach.narrows_at.Tie as tie
 use Rattle.location.proofs.reach.narrows_at.Reads as reads
 use Rattle.location.proofs.reach.narrows_at.Lts as lts
 use Rattle.location.proofs.chains.visible_part.Reads as visible-part-reads
-use Rattle.location.proofs.pairs.happens_bit.Reads as happens-bit-reads
+use Rattle.location.proofs.happens.happens_bit.Reads as happens-bit-reads
 use Rattle.location.proofs.reach.has_flag.Reads as has-flag-reads
 use Rattle.location.proofs.reach.is_broader.Reads as is-broader-reads
 use Rattle.rules.proofs.moments.visibility_of.Reads as visibility-of-reads

@@ -5,7 +5,7 @@ use Rattle.moment_sets.proofs.classes.put_touched.Tie as tie
 use Rattle.moment_sets.proofs.classes.put_touched.Reads as reads
 use Rattle.moment_sets.proofs.classes.put_touched.Lts as lts
 use Rattle.bits.proofs.put_if.Reads as put-if-reads
-use Rattle.moment_sets.proofs.classes.touches_of.Reads as touches-of-reads
+use Rattle.rules.proofs.cases.touches_of.Reads as touches-of-reads
 use Rattle.rows.proofs.bytes.read_row.Reads as read-row-reads
 use Rattle.rows.proofs.kinds.single.Reads as single-reads
 

@@ -4,7 +4,7 @@ use Rattle.quick_hosts.proofs.met.once_at.Statement.{statement}
 use Rattle.quick_hosts.proofs.met.once_at.Tie as tie
 use Rattle.quick_hosts.proofs.met.once_at.Reads as reads
 use Rattle.quick_hosts.proofs.met.once_at.Lts as lts
-use Rattle.location.proofs.pairs.happens_bit.Reads as happens-bit-reads
+use Rattle.location.proofs.happens.happens_bit.Reads as happens-bit-reads
 use Rattle.quick_hosts.proofs.met.reads_at.Reads as reads-at-reads
 
 -- src/met.rt:37:8

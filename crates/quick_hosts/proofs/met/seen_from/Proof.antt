@@ -6,7 +6,7 @@ use Rattle.quick_hosts.proofs.met.seen_from.Tie as tie
 use Rattle.quick_hosts.proofs.met.seen_from.Reads as reads
 use Rattle.quick_hosts.proofs.met.seen_from.Lts as lts
 use Rattle.location.proofs.domains.visible_kind.Reads as visible-kind-reads
-use Rattle.location.proofs.pairs.happens_bit.Reads as happens-bit-reads
+use Rattle.location.proofs.happens.happens_bit.Reads as happens-bit-reads
 use Rattle.quick_hosts.proofs.met.reads_at.Reads as reads-at-reads
 use Rattle.rows.proofs.bytes.read_agent.Reads as read-agent-reads
 

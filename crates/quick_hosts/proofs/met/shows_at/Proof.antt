@@ -6,7 +6,7 @@ use Rattle.quick_hosts.proofs.met.shows_at.Statement.{statement}
 use Rattle.quick_hosts.proofs.met.shows_at.Tie as tie
 use Rattle.quick_hosts.proofs.met.shows_at.Reads as reads
 use Rattle.quick_hosts.proofs.met.shows_at.Lts as lts
-use Rattle.location.proofs.pairs.happens_bit.Reads as happens-bit-reads
+use Rattle.location.proofs.happens.happens_bit.Reads as happens-bit-reads
 use Rattle.rows.proofs.bytes.read_kind.Reads as read-kind-reads
 
 -- src/met.rt:86:39

@@ -6,7 +6,7 @@ use Rattle.quick_location.proofs.masks.covered.Statement.{statement}
 use Rattle.quick_location.proofs.masks.covered.Tie as tie
 use Rattle.quick_location.proofs.masks.covered.Reads as reads
 use Rattle.quick_location.proofs.masks.covered.Lts as lts
-use Rattle.location.proofs.pairs.same_reference.Reads as same-reference-reads
+use Rattle.rules.proofs.pairs.same_reference.Reads as same-reference-reads
 use Rattle.quick_location.proofs.masks.touched.Reads as touched-reads
 use Rattle.rows.proofs.kinds.class_in.Reads as class-in-reads
 use Rattle.rows.proofs.kinds.is_plain.Reads as is-plain-reads

@@ -9,7 +9,7 @@ use Rattle.quick_location.proofs.masks.shared.Statement.{statement}
 use Rattle.quick_location.proofs.masks.shared.Tie as tie
 use Rattle.quick_location.proofs.masks.shared.Reads as reads
 use Rattle.quick_location.proofs.masks.shared.Lts as lts
-use Rattle.location.proofs.pairs.common_of.Reads as common-of-reads
+use Rattle.rules.proofs.pairs.common_of.Reads as common-of-reads
 use Rattle.quick_location.proofs.masks.with_bit.Reads as with-bit-reads
 
 abbrev Inv-loop : tie.InvT-loop

@@ -5,7 +5,7 @@ use Rattle.reasons.proofs.chains.case_of.Statement.{statement}
 use Rattle.reasons.proofs.chains.case_of.Tie as tie
 use Rattle.reasons.proofs.chains.case_of.Reads as reads
 use Rattle.reasons.proofs.chains.case_of.Lts as lts
-use Rattle.reasons.proofs.chains.pick.Reads as pick-reads
+use Rattle.rows.proofs.pick.number.Reads as number-reads
 use Rattle.rules.proofs.cases.is_case.Reads as is-case-reads
 
 -- src/chains.rt:91:9
@@ -21,16 +21,16 @@ is-case-requires-3 : tie.Need-is-case-requires-3
 is-case-requires-3 c κs = search needs
 
 -- src/chains.rt:94:36
-pick-requires : tie.Need-pick-requires
-pick-requires c κs = search needs
+number-requires : tie.Need-number-requires
+number-requires c κs = search needs
 
 -- src/chains.rt:94:19
-pick-requires-2 : tie.Need-pick-requires-2
-pick-requires-2 c κs = search needs
+number-requires-2 : tie.Need-number-requires-2
+number-requires-2 c κs = search needs
 
 -- src/chains.rt:94:5
-pick-requires-3 : tie.Need-pick-requires-3
-pick-requires-3 c κs = search needs
+number-requires-3 : tie.Need-number-requires-3
+number-requires-3 c κs = search needs
 
 -- src/chains.rt:88:1
 returns : tie.Need-returns
@@ -44,7 +44,7 @@ case-of-spec =
     is-case-requires
     is-case-requires-2
     is-case-requires-3
-    pick-requires
-    pick-requires-2
-    pick-requires-3
+    number-requires
+    number-requires-2
+    number-requires-3
     returns)

@@ -6,7 +6,7 @@ use Rattle.report.proofs.pairs.is_conflict.Statement.{statement}
 use Rattle.report.proofs.pairs.is_conflict.Tie as tie
 use Rattle.report.proofs.pairs.is_conflict.Reads as reads
 use Rattle.report.proofs.pairs.is_conflict.Lts as lts
-use Rattle.location.proofs.shared.clash.Reads as clash-reads
+use Rattle.rules.proofs.shared.clash.Reads as clash-reads
 
 -- src/pairs.rt:112:17
 clash-requires : tie.Need-clash-requires

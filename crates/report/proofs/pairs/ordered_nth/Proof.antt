@@ -7,7 +7,7 @@ use Rattle.report.proofs.pairs.ordered_nth.Statement.{statement}
 use Rattle.report.proofs.pairs.ordered_nth.Tie as tie
 use Rattle.report.proofs.pairs.ordered_nth.Reads as reads
 use Rattle.report.proofs.pairs.ordered_nth.Lts as lts
-use Rattle.location.proofs.pairs.common.Reads as common-reads
+use Rattle.rules.proofs.pairs.common.Reads as common-reads
 use Rattle.race.proofs.before_byte.Reads as before-byte-reads
 
 -- src/pairs.rt:38:14

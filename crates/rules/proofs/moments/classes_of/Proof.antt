@@ -4,7 +4,7 @@ use Rattle.rules.proofs.moments.classes_of.Statement.{statement}
 use Rattle.rules.proofs.moments.classes_of.Tie as tie
 use Rattle.rules.proofs.moments.classes_of.Reads as reads
 use Rattle.rules.proofs.moments.classes_of.Lts as lts
-use Rattle.rules.proofs.moments.pick.Reads as pick-reads
+use Rattle.rows.proofs.pick.byte.Reads as byte-reads
 use Rattle.rows.proofs.kinds.is_plain.Reads as is-plain-reads
 use Rattle.rows.proofs.kinds.single.Reads as single-reads
 
@@ -17,8 +17,8 @@ single-requires : tie.Need-single-requires
 single-requires c κs = search needs
 
 -- src/moments.rt:49:5
-pick-requires : tie.Need-pick-requires
-pick-requires c κs = search needs
+byte-requires : tie.Need-byte-requires
+byte-requires c κs = search needs
 
 -- src/moments.rt:46:1
 returns : tie.Need-returns
@@ -26,4 +26,4 @@ unfolding classesOf
 returns c = cc
 
 pub classes-of-spec : {M : Type 1} → statement M
-classes-of-spec = tie.close (tie.spec is-plain-requires single-requires pick-requires returns)
+classes-of-spec = tie.close (tie.spec is-plain-requires single-requires byte-requires returns)

@@ -5,7 +5,7 @@ use Rattle.rules.proofs.moments.visibility_of.Statement.{statement}
 use Rattle.rules.proofs.moments.visibility_of.Tie as tie
 use Rattle.rules.proofs.moments.visibility_of.Reads as reads
 use Rattle.rules.proofs.moments.visibility_of.Lts as lts
-use Rattle.rules.proofs.moments.pick.Reads as pick-reads
+use Rattle.rows.proofs.pick.byte.Reads as byte-reads
 use Rattle.rows.proofs.kinds.is_plain.Reads as is-plain-reads
 use Rattle.rows.proofs.kinds.makes_visible.Reads as makes-visible-reads
 
@@ -14,8 +14,8 @@ is-plain-requires : tie.Need-is-plain-requires
 is-plain-requires c κs = search needs
 
 -- src/moments.rt:34:9
-pick-requires : tie.Need-pick-requires
-pick-requires c κs = search needs
+byte-requires : tie.Need-byte-requires
+byte-requires c κs = search needs
 
 -- src/moments.rt:35:5
 makes-visible-requires : tie.Need-makes-visible-requires
@@ -28,4 +28,4 @@ returns c = cc
 
 pub visibility-of-spec : {M : Type 1} → statement M
 visibility-of-spec =
-    tie.close (tie.spec is-plain-requires pick-requires makes-visible-requires returns)
+    tie.close (tie.spec is-plain-requires byte-requires makes-visible-requires returns)

@@ -7,35 +7,35 @@ use Rattle.table.proofs.header.shape_fault.Lts as lts
 use Rattle.table.proofs.header.length_fits.Reads as length-fits-reads
 use Rattle.table.proofs.header.limits_fit.Reads as limits-fit-reads
 use Rattle.table.proofs.header.version_fits.Reads as version-fits-reads
-use Rattle.table.proofs.pick.Reads as pick-reads
+use Rattle.rows.proofs.pick.byte.Reads as byte-reads
 
 -- src/header.rt:112:22
 length-fits-requires : tie.Need-length-fits-requires
 length-fits-requires c κs = search needs
 
 -- src/header.rt:112:9
-pick-requires : tie.Need-pick-requires
-pick-requires c κs = search needs
+byte-requires : tie.Need-byte-requires
+byte-requires c κs = search needs
 
 -- src/header.rt:113:24
 limits-fit-requires : tie.Need-limits-fit-requires
 limits-fit-requires c κs = search needs
 
 -- src/header.rt:113:9
-pick-requires-2 : tie.Need-pick-requires-2
-pick-requires-2 c κs = search needs
+byte-requires-2 : tie.Need-byte-requires-2
+byte-requires-2 c κs = search needs
 
 -- src/header.rt:114:23
 version-fits-requires : tie.Need-version-fits-requires
 version-fits-requires c κs = search needs
 
 -- src/header.rt:114:9
-pick-requires-3 : tie.Need-pick-requires-3
-pick-requires-3 c κs = search needs
+byte-requires-3 : tie.Need-byte-requires-3
+byte-requires-3 c κs = search needs
 
 -- src/header.rt:115:5
-pick-requires-4 : tie.Need-pick-requires-4
-pick-requires-4 c κs = search needs
+byte-requires-4 : tie.Need-byte-requires-4
+byte-requires-4 c κs = search needs
 
 -- src/header.rt:109:1
 returns : tie.Need-returns
@@ -47,10 +47,10 @@ shape-fault-spec =
     tie.close
     (tie.spec
     length-fits-requires
-    pick-requires
+    byte-requires
     limits-fit-requires
-    pick-requires-2
+    byte-requires-2
     version-fits-requires
-    pick-requires-3
-    pick-requires-4
+    byte-requires-3
+    byte-requires-4
     returns)

@@ -7,7 +7,7 @@ use Rattle.table.proofs.row_faults.codes_fit.Reads as reads
 use Rattle.table.proofs.row_faults.codes_fit.Lts as lts
 use Rattle.rows.proofs.kinds.is_control.Reads as is-control-reads
 use Rattle.rows.proofs.kinds.is_operation.Reads as is-operation-reads
-use Rattle.table.proofs.pick.Reads as pick-reads
+use Rattle.rows.proofs.pick.byte.Reads as byte-reads
 
 -- src/row_faults.rt:26:43
 is-operation-requires : tie.Need-is-operation-requires
@@ -18,8 +18,8 @@ is-control-requires : tie.Need-is-control-requires
 is-control-requires c κs = search needs
 
 -- src/row_faults.rt:32:23
-pick-requires : tie.Need-pick-requires
-pick-requires c κs = search needs
+byte-requires : tie.Need-byte-requires
+byte-requires c κs = search needs
 
 -- src/row_faults.rt:23:1
 returns : tie.Need-returns
@@ -28,4 +28,4 @@ returns c = cc
 
 pub codes-fit-spec : {M : Type 1} → statement M
 codes-fit-spec =
-    tie.close (tie.spec is-operation-requires is-control-requires pick-requires returns)
+    tie.close (tie.spec is-operation-requires is-control-requires byte-requires returns)

@@ -10,7 +10,7 @@ use Rattle.rows.proofs.kinds.makes_available.Reads as makes-available-reads
 use Rattle.rows.proofs.kinds.makes_visible.Reads as makes-visible-reads
 use Rattle.rows.proofs.kinds.reads.Reads as reads-reads
 use Rattle.rows.proofs.kinds.writes.Reads as writes-reads
-use Rattle.table.proofs.choose.Reads as choose-reads
+use Rattle.rows.proofs.pick.flag.Reads as flag-reads
 
 -- src/row_faults.rt:36:9
 makes-available-requires : tie.Need-makes-available-requires
@@ -25,8 +25,8 @@ is-non-private-requires : tie.Need-is-non-private-requires
 is-non-private-requires c κs = search needs
 
 -- src/row_faults.rt:38:9
-choose-requires : tie.Need-choose-requires
-choose-requires c κs = search needs
+flag-requires : tie.Need-flag-requires
+flag-requires c κs = search needs
 
 -- src/row_faults.rt:45:13
 reads-requires : tie.Need-reads-requires
@@ -48,7 +48,7 @@ plain-fits-spec =
     makes-available-requires
     makes-visible-requires
     is-non-private-requires
-    choose-requires
+    flag-requires
     reads-requires
     writes-requires
     returns)

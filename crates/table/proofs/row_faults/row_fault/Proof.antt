@@ -5,7 +5,7 @@ use Rattle.table.proofs.row_faults.row_fault.Tie as tie
 use Rattle.table.proofs.row_faults.row_fault.Reads as reads
 use Rattle.table.proofs.row_faults.row_fault.Lts as lts
 use Rattle.rows.proofs.scopes.agent_kind.Reads as agent-kind-reads
-use Rattle.table.proofs.pick.Reads as pick-reads
+use Rattle.rows.proofs.pick.byte.Reads as byte-reads
 use Rattle.table.proofs.row_faults.agent_fits.Reads as agent-fits-reads
 use Rattle.table.proofs.row_faults.codes_fit.Reads as codes-fit-reads
 use Rattle.table.proofs.row_faults.form_fault.Reads as form-fault-reads
@@ -23,16 +23,16 @@ form-fault-requires : tie.Need-form-fault-requires
 form-fault-requires c κs = search needs
 
 -- src/row_faults.rt:162:9
-pick-requires : tie.Need-pick-requires
-pick-requires c κs = search needs
+byte-requires : tie.Need-byte-requires
+byte-requires c κs = search needs
 
 -- src/row_faults.rt:163:10
 codes-fit-requires : tie.Need-codes-fit-requires
 codes-fit-requires c κs = search needs
 
 -- src/row_faults.rt:163:5
-pick-requires-2 : tie.Need-pick-requires-2
-pick-requires-2 c κs = search needs
+byte-requires-2 : tie.Need-byte-requires-2
+byte-requires-2 c κs = search needs
 
 -- src/row_faults.rt:158:1
 returns : tie.Need-returns
@@ -40,7 +40,7 @@ returns c =
     let inner = c .before .before in
     row-numbers _ _ _ _ _ _ _ _ _ _ _
     (c .before .codes-fit .ensures) (inner .before .before .before .agent-kind .ensures) (inner .before .before .agent-fits .ensures)
-    (inner .before .form-fault .ensures) (inner .pick .ensures) (c .pick2 .ensures)
+    (inner .before .form-fault .ensures) (inner .byte .ensures) (c .byte2 .ensures)
 
 pub row-fault-spec : {M : Type 1} → statement M
 row-fault-spec =
@@ -49,7 +49,7 @@ row-fault-spec =
     agent-kind-requires
     agent-fits-requires
     form-fault-requires
-    pick-requires
+    byte-requires
     codes-fit-requires
-    pick-requires-2
+    byte-requires-2
     returns)

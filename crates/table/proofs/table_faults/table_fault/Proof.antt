@@ -5,7 +5,7 @@ use Rattle.table.proofs.table_faults.table_fault.Statement.{statement}
 use Rattle.table.proofs.table_faults.table_fault.Tie as tie
 use Rattle.table.proofs.table_faults.table_fault.Reads as reads
 use Rattle.table.proofs.table_faults.table_fault.Lts as lts
-use Rattle.table.proofs.pick.Reads as pick-reads
+use Rattle.rows.proofs.pick.byte.Reads as byte-reads
 use Rattle.table.proofs.table_faults.class_taken.Reads as class-taken-reads
 use Rattle.table.proofs.table_faults.instance_broken.Reads as instance-broken-reads
 use Rattle.table.proofs.table_faults.is_unfit.Reads as is-unfit-reads
@@ -17,40 +17,40 @@ is-unfit-requires : tie.Need-is-unfit-requires
 is-unfit-requires c κs = search needs
 
 -- src/table_faults.rt:1
-pick-requires : tie.Need-pick-requires
-pick-requires c κs = search needs
+byte-requires : tie.Need-byte-requires
+byte-requires c κs = search needs
 
 -- src/table_faults.rt:1
 instance-broken-requires : tie.Need-instance-broken-requires
 instance-broken-requires c κs = search needs
 
 -- src/table_faults.rt:1
-pick-requires-2 : tie.Need-pick-requires-2
-pick-requires-2 c κs = search needs
+byte-requires-2 : tie.Need-byte-requires-2
+byte-requires-2 c κs = search needs
 
 -- src/table_faults.rt:1
 rank-taken-requires : tie.Need-rank-taken-requires
 rank-taken-requires c κs = search needs
 
 -- src/table_faults.rt:1
-pick-requires-3 : tie.Need-pick-requires-3
-pick-requires-3 c κs = search needs
+byte-requires-3 : tie.Need-byte-requires-3
+byte-requires-3 c κs = search needs
 
 -- src/table_faults.rt:1
 source-broken-requires : tie.Need-source-broken-requires
 source-broken-requires c κs = search needs
 
 -- src/table_faults.rt:1
-pick-requires-4 : tie.Need-pick-requires-4
-pick-requires-4 c κs = search needs
+byte-requires-4 : tie.Need-byte-requires-4
+byte-requires-4 c κs = search needs
 
 -- src/table_faults.rt:1
 class-taken-requires : tie.Need-class-taken-requires
 class-taken-requires c κs = search needs
 
 -- src/table_faults.rt:1
-pick-requires-5 : tie.Need-pick-requires-5
-pick-requires-5 c κs = search needs
+byte-requires-5 : tie.Need-byte-requires-5
+byte-requires-5 c κs = search needs
 
 -- src/table_faults.rt:111:1
 returns : tie.Need-returns
@@ -64,13 +64,13 @@ table-fault-spec =
     tie.close
     (tie.spec
     is-unfit-requires
-    pick-requires
+    byte-requires
     instance-broken-requires
-    pick-requires-2
+    byte-requires-2
     rank-taken-requires
-    pick-requires-3
+    byte-requires-3
     source-broken-requires
-    pick-requires-4
+    byte-requires-4
     class-taken-requires
-    pick-requires-5
+    byte-requires-5
     returns)

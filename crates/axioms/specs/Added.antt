@@ -9,7 +9,8 @@ use native.Mathlib.Decide.{decLt, ℕ-discrete}
 use lib.Dec.{eqb, ltb}
 use lib.ListN.{length}
 use borrow.Author.Tests.{eq-eqb, ne-eqb, lt-ltb, le-ltb, not-false}
-use Rattle.finite.specs.Logic.{_and_, _or_, and-false-left, and-false-right, or-off, or-right, or-assoc}
+use Rattle.finite.specs.Below.{turn, at-one}
+use Rattle.finite.specs.Logic.{_and_, _or_, and-false-left, and-false-right, or-off, or-right, or-assoc, and-on-right, and-or}
 use Rattle.bits.specs.Bit.{bit, setBitIf, setBitIf-same, setBitIf-other, zeros, bit-zeros-in}
 use Rattle.bits.specs.Matrix.{rel}
 use Rattle.bits.specs.Within.{within-trans, within-put, within-cleared}
@@ -21,8 +22,9 @@ use Rattle.model.specs.Row.{reads}
 use Rattle.model.specs.Table.{Table}
 use Rattle.model.specs.Scope.{mutually, follows}
 use Rattle.model.specs.Edge.{beforeSome, readsFrom, fromReads, edge}
+use Rattle.laws.specs.PairLaws.{eqb-swap}
 use Rattle.area.specs.Regions.{EDGE, EDGE-END, GRID}
-use Rattle.axioms.specs.Edges.{and-on-right, from-source}
+use Rattle.axioms.specs.Edges.{from-source}
 
 -- ---- definitions
 
@@ -62,16 +64,6 @@ linked t source x y = beforeSome t x y or follows t x y or fromReads t source x 
 
 -- ---- laws: tests
 
--- one more number passes
-turn : (i x : ℕ) (b : Bool) → ((ltb i x and b) or (eqb i x and b)) ≡ (ltb i (x + 1) and b)
-unfolding _and_ _or_
-turn i x b = go (ℕ-discrete i x) (decLt i x)
-  where
-    go : Dec (i ≡ x) → Dec (i < x) → ((ltb i x and b) or (eqb i x and b)) ≡ (ltb i (x + 1) and b)
-    go (yes e) d = rw (eq-eqb i x e, le-ltb i x (omega arith), lt-ltb i (x + 1) (omega arith)) refl
-    go (no e) (yes l) = rw (ne-eqb i x e, lt-ltb i x l, lt-ltb i (x + 1) (omega arith)) (or-off _ _ refl)
-    go (no e) (no l) = rw (ne-eqb i x e, le-ltb i x (omega arith), le-ltb i (x + 1) (omega arith)) refl
-
 below-all : (i n : ℕ) (b : Bool) → i < n → (ltb i n and b) ≡ b
 unfolding _and_
 below-all i n b l = rw (lt-ltb i n l) refl
@@ -79,33 +71,12 @@ below-all i n b l = rw (lt-ltb i n l) refl
 below-none : (i : ℕ) (b : Bool) → (ltb i 0 and b) ≡ false
 below-none i b = and-false-left _ _ (le-ltb i 0 (omega arith))
 
--- under a test that holds of one number alone
-at-one : (i x : ℕ) (b c : Bool) → (i ≡ x → b ≡ c) → (eqb i x and b) ≡ (eqb i x and c)
-unfolding _and_
-at-one i x b c h = go (ℕ-discrete i x)
-  where
-    go : Dec (i ≡ x) → (eqb i x and b) ≡ (eqb i x and c)
-    go (yes e) = rw (eq-eqb i x e) (h e)
-    go (no e) = rw (ne-eqb i x e) refl
-
-and-or : (a b c : Bool) → ((a and b) or (a and c)) ≡ (a and (b or c))
-unfolding _and_ _or_
-and-or true b c = refl
-and-or false b c = refl
-
 and-flip : (a b : Bool) → (a and b) ≡ (b and a)
 unfolding _and_
 and-flip true true = refl
 and-flip true false = refl
 and-flip false true = refl
 and-flip false false = refl
-
-eqb-flip : (i j : ℕ) → eqb i j ≡ eqb j i
-eqb-flip i j = go (ℕ-discrete i j)
-  where
-    go : Dec (i ≡ j) → eqb i j ≡ eqb j i
-    go (yes e) = eq-eqb i j e ∙ sym (eq-eqb j i (sym e))
-    go (no e) = ne-eqb i j e ∙ sym (ne-eqb j i (λ q. e (sym q)))
 
 and-twice : (a b c : Bool) → (a and (a and b and c)) ≡ (a and b and c)
 unfolding _and_
@@ -266,7 +237,7 @@ module _ (t : Table) (source : ℕ → ℕ) where
       where
         same : (i j : ℕ) → (eqb i s and (eqb j y and b)) ≡ (eqb j y and (reads (t .row j) and eqb (source j) i))
         same i j =
-            and-flip _ _ ∙ and-assoc (eqb j y) b (eqb i s) ∙ at-one j y _ _ (λ d. rw (d, ← e, g) (ap (λ (v : Bool). reads (t .row y) and v) (eqb-flip i s)))
+            and-flip _ _ ∙ and-assoc (eqb j y) b (eqb i s) ∙ at-one j y _ _ (λ d. rw (d, ← e, g) (ap (λ (v : Bool). reads (t .row y) and v) (eqb-swap i s)))
 
     pub source-none : (y s : ℕ) → s ≡ source y → n ≤ s → Edged n (into y (readsFrom t source)) w w
     unfolding into readsFrom

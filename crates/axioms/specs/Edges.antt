@@ -4,7 +4,7 @@ use mathlib.Core.Bool.{Bool, true, false, not, cond}
 use Prim.Native.Nat.{ℕ, _+_}
 use borrow.Author.Tests.{not-false}
 use lib.Dec.{eqb}
-use Rattle.finite.specs.Logic.{_and_, and-false-left, and-false-right, not-out}
+use Rattle.finite.specs.Logic.{_and_, and-false-left, and-false-right, not-out, and-on}
 use Rattle.model.specs.declared.Row.{Row}
 use Rattle.model.specs.Limits.{INITIAL}
 use Rattle.model.specs.Row.{reads, writes, overlap}
@@ -14,15 +14,6 @@ use Rattle.model.specs.Edge.{beforeSome, readsFrom, fromReads, edgeNumber, edge
 use Rattle.race.specs.Bytes.{mayTouch, touch-apart}
 
 -- ---- laws
-
-and-on : (a b : Bool) → a ≡ true → (a and b) ≡ b
-unfolding _and_
-and-on a b e = rw e refl
-
-pub and-on-right : (a b : Bool) → b ≡ true → (a and b) ≡ a
-unfolding _and_
-and-on-right true b e = e
-and-on-right false b e = refl
 
 -- the lowest number, chosen one after the other
 pub number-is : (t : Table) (source : ℕ → ℕ) (x y e f g h : ℕ) (a b c d : Bool) → a ≡ beforeSome t x y → b ≡ follows t x y → c ≡ readsFrom t source x y

@@ -8,7 +8,7 @@ use native.Mathlib.Omega.{arith}
 use native.Mathlib.Numerals.{add-one}
 use native.Mathlib.Decide.{decLt, ℕ-discrete}
 use lib.ListN.{length}
-use Rattle.finite.specs.Logic.{_and_, _or_, or-off, and-false-left}
+use Rattle.finite.specs.Logic.{_and_, _or_, or-off, and-false-left, through-on, absorb}
 use Rattle.finite.specs.Closure.{through, through-reach}
 use Rattle.bits.specs.Bit.{bit-word, joinRow, joinRow-out, bit-joinRow}
 use Rattle.bits.specs.Within.{Within, within-refl, within-trans, within-widen, within-joinRow}
@@ -32,18 +32,6 @@ pub record Rounds (w₀ w : List ℕ) (base n stride k : ℕ) : Type 0 where
   pub upto : k ≤ n
   pub cells : (i j : ℕ) → i < n → j < 64 * stride → rel w base stride i j ≡ through (rel w₀ base stride) k i j
   pub frame : Within base (base + n * stride) w₀ w
-
--- ---- laws: bools
-
-absorb : (a b : Bool) → (a or (b and a)) ≡ a
-unfolding _and_ _or_
-absorb true b = refl
-absorb false true = refl
-absorb false false = refl
-
-through-on : (x a b : Bool) → a ≡ true → (x or b) ≡ (x or (a and b))
-unfolding _and_
-through-on x a b e = rw e refl
 
 -- ---- laws: a turn within a round
 

@@ -6,11 +6,11 @@ use mathlib.Core.Logic.{_⊎_, inl, inr, ⊎-elim}
 use Prim.Native.Nat.{ℕ, zero, suc, _+_, _≤_, _<_}
 use native.Mathlib.Nat.{not-suc-le-zero, eq-or-lt-of-le, le-of-suc-le-suc}
 use native.Mathlib.Numerals.{add-one}
-use native.Mathlib.Decide.{decLt}
+use native.Mathlib.Decide.{decLt, ℕ-discrete}
 use native.Mathlib.Omega.{arith}
 use lib.Dec.{ltb, eqb}
-use borrow.Author.Tests.{ltb-true, ltb-false, lt-ltb, eqb-true, eq-eqb}
-use Rattle.finite.specs.Logic.{_and_, _or_, which, bool-ext, not-both, and-left, and-right, and-true, or-cases, or-left, or-right, or-false, or-none}
+use borrow.Author.Tests.{ltb-true, ltb-false, lt-ltb, le-ltb, eqb-true, eq-eqb, ne-eqb}
+use Rattle.finite.specs.Logic.{_and_, _or_, which, bool-ext, not-both, and-left, and-right, and-true, or-cases, or-left, or-right, or-false, or-none, or-off}
 
 -- ---- definitions
 
@@ -201,3 +201,24 @@ least-stops n p = go (which (anyBelow n p))
       where
         at : n ≤ least n p → least n p ≡ n
         at l = let b : least n p ≤ n = least-is p n .bound in omega arith
+
+-- ---- laws: one number, and those below another
+
+-- one more number passes
+pub turn : (i x : ℕ) (b : Bool) → ((ltb i x and b) or (eqb i x and b)) ≡ (ltb i (x + 1) and b)
+unfolding _and_ _or_
+turn i x b = go (ℕ-discrete i x) (decLt i x)
+  where
+    go : Dec (i ≡ x) → Dec (i < x) → ((ltb i x and b) or (eqb i x and b)) ≡ (ltb i (x + 1) and b)
+    go (yes e) d = rw (eq-eqb i x e, le-ltb i x (omega arith), lt-ltb i (x + 1) (omega arith)) refl
+    go (no e) (yes l) = rw (ne-eqb i x e, lt-ltb i x l, lt-ltb i (x + 1) (omega arith)) (or-off _ _ refl)
+    go (no e) (no l) = rw (ne-eqb i x e, le-ltb i x (omega arith), le-ltb i (x + 1) (omega arith)) refl
+
+-- under a test that holds of one number alone
+pub at-one : (i x : ℕ) (b c : Bool) → (i ≡ x → b ≡ c) → (eqb i x and b) ≡ (eqb i x and c)
+unfolding _and_
+at-one i x b c h = go (ℕ-discrete i x)
+  where
+    go : Dec (i ≡ x) → (eqb i x and b) ≡ (eqb i x and c)
+    go (yes e) = rw (eq-eqb i x e) (h e)
+    go (no e) = rw (ne-eqb i x e) refl

@@ -2,7 +2,7 @@
 -- They stay shut, so that a proof need not write out what stands at their two places; they associate to the left, as `&` and
 -- `|` do in code. Assumes nothing.
 use mathlib.Core.Path.{_≡_, refl, sym, _∙_}
-use mathlib.Core.Bool.{Bool, true, false, not, true≢false}
+use mathlib.Core.Bool.{Bool, true, false, not, _&&_, _||_, true≢false}
 use mathlib.Core.Logic.{_⊎_, inl, inr}
 
 infixl 35 _and_
@@ -104,3 +104,43 @@ pub or-assoc : (a b c : Bool) → ((a or b) or c) ≡ (a or (b or c))
 unfolding _or_
 or-assoc true b c = refl
 or-assoc false b c = refl
+
+-- ---- laws: a test that passes says nothing more
+
+pub and-on : (a b : Bool) → a ≡ true → (a and b) ≡ b
+unfolding _and_
+and-on a b e = rw e refl
+
+pub and-on-right : (a b : Bool) → b ≡ true → (a and b) ≡ a
+unfolding _and_
+and-on-right true b e = e
+and-on-right false b e = refl
+
+pub through-on : (x a b : Bool) → a ≡ true → (x or b) ≡ (x or (a and b))
+unfolding _and_
+through-on x a b e = rw e refl
+
+-- ---- laws: one of the two within the other
+
+pub and-or : (a b c : Bool) → ((a and b) or (a and c)) ≡ (a and (b or c))
+unfolding _and_ _or_
+and-or true b c = refl
+and-or false b c = refl
+
+pub absorb : (a b : Bool) → (a or (b and a)) ≡ a
+unfolding _and_ _or_
+absorb true b = refl
+absorb false true = refl
+absorb false false = refl
+
+-- ---- laws: the connectives of code
+
+pub and-both : (a b : Bool) → (a && b) ≡ (a and b)
+unfolding _and_
+and-both true b = refl
+and-both false b = refl
+
+pub or-both : (a b : Bool) → (a || b) ≡ (a or b)
+unfolding _or_
+or-both true b = refl
+or-both false b = refl

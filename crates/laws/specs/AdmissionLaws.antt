@@ -67,7 +67,7 @@ pub record AmongRight (blanks : Bool) (s : List ℕ) (i : ℕ) : Type 0 where
 -- ---- an admission and its faults
 
 -- a refusal is no admission
-not-admitted : {A : Type 0} {n i a r : ℕ} → Refused n i ≡ Admitted a r → A
+pub not-admitted : {A : Type 0} {n i a r : ℕ} → Refused n i ≡ Admitted a r → A
 not-admitted e = let z : _≡_ {A = ℕ} 0 1 = ap which-one e in absurd (omega arith)
   where
     which-one : Admission → ℕ

@@ -254,10 +254,6 @@ module _ (t : Table) (x y b : ℕ) where
 
 -- ---- laws: a table's rows
 
-pub and-on : (a b : Bool) → a ≡ true → (a and b) ≡ b
-unfolding _and_
-and-on a b e = rw e refl
-
 pub or-on : (a b : Bool) → a ≡ true → true ≡ (a or b)
 unfolding _or_
 or-on a b e = rw e refl

@@ -10,7 +10,7 @@ use native.Mathlib.Numerals.{add-one}
 use lib.ListN.{length, getD}
 use lib.Dec.{eqb}
 use borrow.Author.Tests.{eq-eqb, ne-eqb, eqb-true, le-leb}
-use Rattle.finite.specs.Logic.{_and_, _or_, split, and-true, and-false-left, and-false-right, or-right, or-none, or-off, not-both, not-so, not-out, bool-ext}
+use Rattle.finite.specs.Logic.{_and_, _or_, split, and-true, and-false-left, and-false-right, or-right, or-none, or-off, not-both, not-so, not-out, bool-ext, and-on}
 use Rattle.finite.specs.Below.{anyBelow, any-none, any-off, any-not, any-cong}
 use Rattle.finite.specs.Closure.{through, through-none}
 use Rattle.bits.specs.Bit.{bit, setBit, setBit-same, setBit-other, zeros, bit-zeros-in}
@@ -28,7 +28,6 @@ use Rattle.model.specs.Happens.{happens}
 use Rattle.model.specs.Location.{systemBefore, L4, thence, onHost, availableKind, visibleKind, domainKind, seenBy, metFrom, carriedBy, reachesBy, L5}
 use Rattle.area.specs.Regions.{HAPPENS, MOMENTS, GRID, HOSTED, HOSTED-END, SYSTEM, SYSTEM-END, MET, MET-END, REACHED, REACHED-END}
 use Rattle.area.specs.State.{Ordered, ordered-kept}
-use Rattle.location.specs.Chains.{and-on}
 use Rattle.rules.specs.Shared.{mayShare}
 use Rattle.location.specs.Order.{hosted}
 

@@ -6,7 +6,7 @@ use Prim.Native.Nat.{ℕ, _+_, _-_, _*_, _≤_}
 use native.Mathlib.Omega.{arith}
 use native.Mathlib.Numerals.{add-one}
 use lib.ListN.{length}
-use Rattle.finite.specs.Logic.{_or_, or-off, or-assoc, and-false-left}
+use Rattle.finite.specs.Logic.{_or_, or-off, or-assoc, and-false-left, and-on}
 use Rattle.finite.specs.Below.{anyBelow}
 use Rattle.finite.specs.Closure.{through}
 use Rattle.bits.specs.Bit.{joinRow}
@@ -20,7 +20,6 @@ use Rattle.model.specs.Moment.{programOrder}
 use Rattle.model.specs.Happens.{step, interThread, live, interThreadBy, happens}
 use Rattle.area.specs.Regions.{MUTUAL, HAPPENS, HAPPENS-END, STEP, STEP-END, MOMENTS}
 use Rattle.area.specs.State.{MadeOrdered}
-use Rattle.rules.specs.Forms.{and-on}
 use Rattle.sequence.specs.Known.{Synced, MadeSynced}
 
 -- ---- definitions

@@ -20,7 +20,7 @@ use Rattle.model.specs.Row.{access}
 use Rattle.model.specs.Table.{ROW-BYTES, rowsAt, rowBytes, placesOf, modeOf, rowOf, sourceOf, decode, tableUnder, tableOf, sourcesOf}
 use Rattle.model.specs.Refusal.{buffersFit, headerFault, admission}
 use Rattle.model.specs.Check.{wiped}
-use Rattle.laws.specs.AdmissionLaws.{Sound, sound-admitted, admitted-sound, rows-fit, size-fits, access-end}
+use Rattle.laws.specs.AdmissionLaws.{not-admitted, Sound, sound-admitted, admitted-sound, rows-fit, size-fits, access-end}
 use Rattle.table.specs.Rows.{shapeFault}
 use Rattle.table.proofs.Laws.{shape-refused, header-refused}
 use Rattle.pieces.specs.declared.Refusal.{Refusal}
@@ -75,14 +75,6 @@ module _ {A : Type 0} (refused : ℕ → ℕ → A) (v : A) (a b : Admission) (e
   pub opened-admitted : {g n : ℕ} → a ≡ Admitted g n → opened refused v b ≡ v
   unfolding opened
   opened-admitted h = rw (← e, h) refl
-
--- a refusal is no admission
-not-admitted : {A : Type 0} {n i a r : ℕ} → Refused n i ≡ Admitted a r → A
-not-admitted e = let z : _≡_ {A = ℕ} 0 1 = ap which-one e in absurd (omega arith)
-  where
-    which-one : Admission → ℕ
-    which-one (Refused n i) = 0
-    which-one (Admitted a r) = 1
 
 -- refusal 11, from the two lengths
 pub door-short : (needs : ℕ) (blanks : Bool) (f s : List ℕ) (work buffer : ℕ) → not (leb WORK work and leb needs buffer) ≡ true → Refused 11 0 ≡ doorBoth needs blanks f s work buffer

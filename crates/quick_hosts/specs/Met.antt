@@ -12,8 +12,8 @@ use native.Mathlib.Numerals.{add-one}
 use lib.Dec.{eqb, ltb}
 use lib.ListN.{length}
 use borrow.Author.Tests.{eq-eqb, ne-eqb, lt-ltb, le-ltb}
-use Rattle.finite.specs.Logic.{_and_, _or_, which, split, and-true, and-false-left, and-false-right, or-off, or-left, or-right, or-assoc, not-both, not-so}
-use Rattle.finite.specs.Below.{anyBelow, any-none, any-not, any-cong}
+use Rattle.finite.specs.Logic.{_and_, _or_, which, split, and-true, and-false-left, and-false-right, or-off, or-left, or-right, or-assoc, not-both, not-so, and-on, and-or}
+use Rattle.finite.specs.Below.{anyBelow, any-none, any-not, any-cong, turn, at-one}
 use Rattle.bits.specs.Bit.{bit, zeros, bit-zeros-in, joinRow, bit-joinRow}
 use Rattle.bits.specs.Matrix.{rel}
 use Rattle.bits.specs.Within.{Within, within-trans, within-widen, within-bit, within-joinRow, within-cleared}
@@ -28,7 +28,6 @@ use Rattle.model.specs.Happens.{happens}
 use Rattle.model.specs.Location.{thence, onHost, visibleKind, seenBy, metFrom}
 use Rattle.area.specs.Regions.{HAPPENS, MOMENTS, HOSTED, HOSTED-END, SYSTEM, SYSTEM-END, MET, MET-END, REACHED, REACHED-END, GRID}
 use Rattle.area.specs.State.{Ordered, ordered-kept}
-use Rattle.location.specs.Chains.{and-on}
 use Rattle.location.specs.Order.{row-off}
 use Rattle.location.specs.Domains.{metBy, visibleOf, Meeting}
 
@@ -69,32 +68,6 @@ pub record Seeing (t : Table) (n : ℕ) (w : List ℕ) : Type 0 where
 -- r was added to what n rows meet
 abbrev pub MetMore : ℕ → (ℕ → ℕ → Bool) → List ℕ → List ℕ → Type 0
 MetMore n r w u = Added MET MET-END MET GRID n r w u
-
--- ---- laws: tests
-
-and-or : (a b c : Bool) → ((a and b) or (a and c)) ≡ (a and (b or c))
-unfolding _and_ _or_
-and-or true b c = refl
-and-or false b c = refl
-
--- under a test that holds of one number alone
-at-one : (i x : ℕ) (b c : Bool) → (i ≡ x → b ≡ c) → (eqb i x and b) ≡ (eqb i x and c)
-unfolding _and_
-at-one i x b c h = go (ℕ-discrete i x)
-  where
-    go : Dec (i ≡ x) → (eqb i x and b) ≡ (eqb i x and c)
-    go (yes e) = rw (eq-eqb i x e) (h e)
-    go (no e) = rw (ne-eqb i x e) refl
-
--- one more number passes
-turn : (i x : ℕ) (b : Bool) → ((ltb i x and b) or (eqb i x and b)) ≡ (ltb i (x + 1) and b)
-unfolding _and_ _or_
-turn i x b = go (ℕ-discrete i x) (decLt i x)
-  where
-    go : Dec (i ≡ x) → Dec (i < x) → ((ltb i x and b) or (eqb i x and b)) ≡ (ltb i (x + 1) and b)
-    go (yes e) d = rw (eq-eqb i x e, le-ltb i x (omega arith), lt-ltb i (x + 1) (omega arith)) refl
-    go (no e) (yes l) = rw (ne-eqb i x e, lt-ltb i x l, lt-ltb i (x + 1) (omega arith)) (or-off _ _ refl)
-    go (no e) (no l) = rw (ne-eqb i x e, le-ltb i x (omega arith), le-ltb i (x + 1) (omega arith)) refl
 
 -- ---- laws: what is added
 

@@ -8,7 +8,7 @@ use native.Mathlib.Decide.{ℕ-discrete}
 use lib.Dec.{eqb}
 use lib.ListN.{length}
 use borrow.Author.Tests.{eq-eqb}
-use Rattle.finite.specs.Logic.{_and_, _or_, bool-ext, not-both, not-so, split, and-true}
+use Rattle.finite.specs.Logic.{_and_, _or_, bool-ext, not-both, not-so, split, and-true, and-both, or-both}
 use Rattle.bits.specs.Fill.{or-fresh}
 use Rattle.bits.specs.Bit.{bit, zeros, bit-zeros-in}
 use Rattle.bits.specs.Within.{Within, within-refl, within-bit, within-trans, within-widen, within-zeros}
@@ -261,16 +261,6 @@ hops-closed {t} {dep} {s} {n} {w} {v} few m c =
     }
 
 -- ---- laws: the code
-
-and-both : (a b : Bool) → (a && b) ≡ (a and b)
-unfolding _and_
-and-both true b = refl
-and-both false b = refl
-
-or-both : (a b : Bool) → (a || b) ≡ (a or b)
-unfolding _or_
-or-both true b = refl
-or-both false b = refl
 
 pub hop-made : (x : ℕ) (h k a d : Bool) (w v₀ v₁ v₂ v₃ u : List ℕ) → v₀ ≡ zeros w (HOPS + x * MOMENTS) (HOPS + x * MOMENTS + MOMENTS - (HOPS + x * MOMENTS))
     → v₁ ≡ meetIf h v₀ (HOPS + x * MOMENTS) (JOINED + x * MOMENTS) HOLD MOMENTS → v₂ ≡ meetIf k v₁ (HOPS + x * MOMENTS) (ORDER + (3 * x + 1) * MOMENTS) RELEASE MOMENTS

@@ -9,7 +9,7 @@ use native.Mathlib.Decide.{decLt, ℕ-discrete}
 use lib.Dec.{ltb, eqb}
 use lib.ListN.{length}
 use borrow.Author.Tests.{eqb-true, eq-eqb, ne-eqb, lt-ltb, le-ltb}
-use Rattle.finite.specs.Logic.{_and_, _or_, which, not-both, not-so, or-off, or-right, and-false-left, and-false-right, and-true, split}
+use Rattle.finite.specs.Logic.{_and_, _or_, which, not-both, not-so, or-off, or-right, and-false-left, and-false-right, and-true, split, and-on-right, or-both}
 use Rattle.finite.specs.Below.{Least}
 use Rattle.bits.specs.Bit.{bit, setBitIf, setBitIf-same, setBitIf-other, joinRow, length-joinRow, bit-joinRow}
 use Rattle.bits.specs.Within.{Within, within-refl, within-bit, within-trans, within-widen, within-joinRow, within-setBitIf}
@@ -74,11 +74,6 @@ pub record SourcesAdded (t : Table) (s n m : ℕ) (w u : List ℕ) : Type 0 wher
 
 -- ---- laws: connectives
 
-and-on : (q b : Bool) → b ≡ true → (q and b) ≡ q
-unfolding _and_
-and-on true b e = e
-and-on false b e = refl
-
 swap-or : (a b c d : Bool) → b ≡ d → ((a or b) or (true and c)) ≡ (a or (c or d))
 unfolding _and_ _or_
 swap-or true b c d e = refl
@@ -126,7 +121,7 @@ module _ (h : Bool) (j m : ℕ) (w u : List ℕ) (l : m < 3 * ROWS) (room : WORK
       off a b e = sym (or-off a (not h and b) (and-false-right (not h) b e))
 
       on : (a b : Bool) → b ≡ true → (a or not h) ≡ (a or (not h and b))
-      on a b e = ap (λ (z : Bool). a or z) (sym (and-on (not h) b e))
+      on a b e = ap (λ (z : Bool). a or z) (sym (and-on-right (not h) b e))
 
       len : length v ≡ length w
       len = length-joinRow w (HAPPENS + m * MOMENTS) (HOPS + j / 3 * MOMENTS) MOMENTS
@@ -331,11 +326,6 @@ sourced-on m j h w v u s l p q =
 pub sourced-off : (m j : ℕ) (h : Bool) (w : List ℕ) → Source w m h j → NONE ≤ j → Sourced m h w w
 unfolding sourceWords
 sourced-off m j h w s l = record { source = j; source-is = s; made = rw (le-ltb j NONE l) refl }
-
-or-both : (a b : Bool) → (a || b) ≡ (a or b)
-unfolding _or_
-or-both true b = refl
-or-both false b = refl
 
 pub row-sourced : (x : ℕ) (dep h : Bool) (w v y u : List ℕ) → Sourced (3 * x) false w v → h ≡ bit v (HOLD * 64 + (3 * x + 1)) → Sourced (3 * x + 1) (h || dep) v y
     → Sourced (3 * x + 2) false y u → RowSourced x dep w u

@@ -10,7 +10,7 @@ use native.Mathlib.Numerals.{add-one}
 use lib.Dec.{eqb, ltb, leb}
 use lib.ListN.{length}
 use borrow.Author.Tests.{lt-ltb, le-leb, lt-leb, leb-true}
-use Rattle.finite.specs.Logic.{_and_, _or_, which, bool-ext, not-both, not-so, or-cases, or-left, or-right, or-off, and-true, and-false-left, split}
+use Rattle.finite.specs.Logic.{_and_, _or_, which, bool-ext, not-both, not-so, or-cases, or-left, or-right, or-off, and-true, and-false-left, split, and-on}
 use Rattle.finite.specs.Below.{anyBelow, any-in, any-out, any-not}
 use Rattle.bits.specs.Within.{Within, within-trans, within-widen}
 use Rattle.bits.specs.Matrix.{rel}
@@ -23,7 +23,6 @@ use Rattle.model.specs.Moment.{programOrder}
 use Rattle.model.specs.Happens.{holding, interThread, live, interThreadBy, happens}
 use Rattle.area.specs.Regions.{MUTUAL, HAPPENS, HAPPENS-END, MOMENTS, LOCATED-END}
 use Rattle.area.specs.State.{Ordered}
-use Rattle.rules.specs.Forms.{and-on}
 use Rattle.sequence.specs.Known.{Synced, synced-kept}
 use Rattle.order.specs.Sets.{interBy}
 use Rattle.sets.specs.Own.{ClosedOwn}

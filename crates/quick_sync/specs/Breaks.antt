@@ -10,7 +10,7 @@ use native.Mathlib.Numerals.{add-one}
 use native.Mathlib.Decide.{decLt, ℕ-discrete}
 use lib.Dec.{eqb, ltb, leb}
 use borrow.Author.Tests.{ne-eqb, eq-eqb, eqb-true, lt-ltb, le-ltb, ltb-true, lt-leb, le-leb, leb-true, not-false}
-use Rattle.finite.specs.Logic.{_and_, _or_, which, bool-ext, not-both, not-so, not-in, not-out, split, and-true, and-false-left, and-false-right, or-cases, or-off, or-none}
+use Rattle.finite.specs.Logic.{_and_, _or_, which, bool-ext, not-both, not-so, not-in, not-out, split, and-true, and-false-left, and-false-right, or-cases, or-off, or-none, and-on}
 use Rattle.finite.specs.Below.{anyBelow, any-cong}
 use Rattle.bits.specs.Fill.{or-fresh}
 use Rattle.model.specs.declared.Mode.{Mode}
@@ -20,7 +20,6 @@ use Rattle.model.specs.Row.{ATOMIC-READ, ATOMIC-WRITE, RMW, atomic, rmw, writes
 use Rattle.model.specs.Table.{Table, decode, rowOf}
 use Rattle.model.specs.Scope.{mutualRows, mutually, age, later, laterWriter, follows}
 use Rattle.model.specs.Synchronizes.{continues, ends, sequence}
-use Rattle.quick_sync.specs.Rows.{and-on}
 
 -- ---- definitions
 

@@ -10,7 +10,7 @@ use native.Mathlib.Decide.{decLt, ℕ-discrete}
 use lib.ListN.{length}
 use lib.Dec.{ltb}
 use borrow.Author.Tests.{lt-ltb, le-ltb, eq-eqb}
-use Rattle.finite.specs.Logic.{_and_, _or_, bool-ext, and-false-left, and-false-right}
+use Rattle.finite.specs.Logic.{_and_, _or_, bool-ext, and-false-left, and-false-right, and-on}
 use Rattle.bits.specs.Bit.{bit, setBitIf, length-setBitIf, setBitIf-same, setBitIf-other, zeros, bit-zeros-in}
 use Rattle.bits.specs.Fill.{or-fresh}
 use Rattle.bits.specs.Matrix.{rel}
@@ -24,7 +24,7 @@ use Rattle.model.specs.Table.{decode, rowOf}
 use Rattle.model.specs.Scope.{mutually}
 use Rattle.laws.specs.PairLaws.{mutually-sym}
 use Rattle.area.specs.Regions.{MUTUAL, MUTUAL-END, GRID}
-use Rattle.quick_sync.specs.Rows.{and-on, mutual-none}
+use Rattle.quick_sync.specs.Rows.{mutual-none}
 
 -- ---- definitions
 

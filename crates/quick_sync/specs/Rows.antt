@@ -8,7 +8,7 @@ use native.Mathlib.Omega.{arith}
 use native.Mathlib.Decide.{ℕ-discrete}
 use lib.Dec.{eqb, leb}
 use borrow.Author.Tests.{ne-eqb, eq-eqb, lt-leb, leb-true, le-ltb, not-false}
-use Rattle.finite.specs.Logic.{_and_, _or_, not-out, split, and-true, and-false-left, and-false-right, or-left, or-right, or-off, or-none}
+use Rattle.finite.specs.Logic.{_and_, _or_, not-out, split, and-true, and-false-left, and-false-right, or-left, or-right, or-off, or-none, and-on}
 use Rattle.finite.specs.Below.{anyBelow, any-off, any-not}
 use Rattle.bits.specs.Bit.{setBit, setBitIf}
 use Rattle.bits.specs.Fill.{rowFill, within-rowFill}
@@ -68,10 +68,6 @@ pub within-row : {w u : List ℕ} (a b : ℕ) (q : ℕ → Bool) (at n : ℕ) �
 within-row {w} a b q at n l m e = rw e (within-rowFill a b q w at n l m)
 
 -- ---- laws: M3
-
-pub and-on : (a b : Bool) → a ≡ true → (a and b) ≡ b
-unfolding _and_
-and-on a b e = rw e refl
 
 reads-other : (r : Row) → atomic r ≡ true → (r .kind ≡ ATOMIC-WRITE → ⊥) → reads r ≡ true
 unfolding atomic reads

@@ -7,7 +7,7 @@ use native.Mathlib.Omega.{arith}
 use lib.ListN.{length, getD, take}
 use lib.Dec.{ltb, leb, eqb}
 use borrow.Author.Tests.{ltb-true, ne-eqb, not-false}
-use Rattle.finite.specs.Logic.{_and_, _or_, split, and-false-left, and-false-right, not-out}
+use Rattle.finite.specs.Logic.{_and_, _or_, split, and-false-left, and-false-right, not-out, and-on, and-on-right}
 use Rattle.finite.specs.Below.{anyBelow, any-in}
 use Rattle.model.specs.declared.Mode.{Mode}
 use Rattle.model.specs.declared.Admission.{Admission}
@@ -27,7 +27,6 @@ use Rattle.pieces.specs.declared.Refusal.{Refusal}
 use Rattle.pieces.specs.Pieces.{areaOf, joined, admissionBoth, judgeBoth}
 use Rattle.pieces.specs.Entry.{refusalOf, opened-refused, opened-admitted, table-both, table-false}
 use Rattle.pieces.specs.Answers.{not-judged, judge-both}
-use Rattle.rules.specs.Forms.{and-on, and-on-right}
 use Rattle.rules.specs.Cases.{caseRows, direct-is, asked-once}
 
 -- ---- definitions

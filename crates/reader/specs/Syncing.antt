@@ -6,7 +6,7 @@ use Prim.Native.Nat.{ℕ, _≤_}
 use native.Mathlib.Omega.{arith}
 use lib.Dec.{eqb}
 use borrow.Author.Tests.{leb-true, ne-eqb, not-false}
-use Rattle.finite.specs.Logic.{_and_, _or_, not-both, not-so, or-none, split}
+use Rattle.finite.specs.Logic.{_and_, _or_, not-both, not-so, or-none, split, and-on}
 use Rattle.finite.specs.Below.{anyBelow}
 use Rattle.model.specs.declared.Mode.{Mode}
 use Rattle.model.specs.declared.Row.{Row}
@@ -14,7 +14,6 @@ use Rattle.model.specs.Row.{BARRIER, CONTROL, RMW, atomic, barrier, releases, a
 use Rattle.model.specs.Table.{decode, rowOf}
 use Rattle.model.specs.Scope.{together}
 use Rattle.model.specs.Synchronizes.{takesFrom, carriesOut, carriesIn, carriesOver, passes, syncAtomics, syncFromBarrier, syncToBarrier, syncBarriers, syncControl, synchronizes}
-use Rattle.rules.specs.Forms.{and-on}
 
 -- ---- laws: of the tests alone
 

@@ -6,7 +6,7 @@ use Prim.Native.Nat.{ℕ, _+_, _*_, _/_, _%_, _<_}
 use native.Mathlib.Omega.{arith}
 use lib.Dec.{eqb}
 use borrow.Author.Tests.{ne-eqb, eq-eqb}
-use Rattle.finite.specs.Logic.{_and_, and-false-right}
+use Rattle.finite.specs.Logic.{_and_, and-false-right, and-on-right}
 use Rattle.model.specs.declared.Row.{Row}
 use Rattle.model.specs.Row.{CONTROL, control}
 use Rattle.model.specs.Table.{ROW-BYTES, byteOf, pairOf, pairAt, rowOf}
@@ -30,11 +30,6 @@ pub instance-first : (b : List ℕ) (s j x v : ℕ) → x ≡ byteOf b j 9 → x
 unfolding ofInstance
 instance-first b s j x v ex l e h = sym (and-false-right _ _ (ne-eqb s _ (λ q. let z = start-is b j in h (omega (arith, ex, e, q, z, l)))))
 
-and-last : (u v : Bool) → v ≡ true → (u and v) ≡ u
-unfolding _and_
-and-last true v e = e
-and-last false v e = refl
-
 -- the same number
 pub instance-here : (b : List ℕ) (s j x y k : ℕ) → x ≡ byteOf b j 9 → x ≡ s % 256 → y ≡ byteOf b j 8 → y ≡ s / 256 → k ≡ rowOf b j .kind
     → eqb k CONTROL ≡ ofInstance s (rowOf b j)
@@ -42,4 +37,4 @@ unfolding ofInstance control
 instance-here b s j x y k ex lx ey ly ek =
     let z = start-is b j in
     let q : s ≡ rowOf b j .start = omega (arith, ex, lx, ey, ly, z) in
-    ap (λ (m : ℕ). eqb m CONTROL) ek ∙ sym (and-last _ _ (eq-eqb s _ q))
+    ap (λ (m : ℕ). eqb m CONTROL) ek ∙ sym (and-on-right _ _ (eq-eqb s _ q))

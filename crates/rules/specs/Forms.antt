@@ -5,7 +5,7 @@ use mathlib.Core.List.{List}
 use Prim.Native.Nat.{ℕ, _≤_, _<_}
 use lib.Dec.{ltb, eqb}
 use borrow.Author.Tests.{lt-ltb, le-ltb, not-false}
-use Rattle.finite.specs.Logic.{_and_, _or_, or-off, and-false-left, and-false-right, not-out, not-so, not-both, split}
+use Rattle.finite.specs.Logic.{_and_, _or_, or-off, and-false-left, and-false-right, not-out, not-so, not-both, split, and-on}
 use Rattle.finite.specs.Below.{anyBelow, any-out}
 use Rattle.model.specs.declared.Mode.{Mode}
 use Rattle.model.specs.declared.Row.{Row}
@@ -32,20 +32,10 @@ trailRows b y r q = ltb y b and eqb (q .agent) (r .agent) and classIn q (r .clas
 
 -- ---- laws
 
--- a test that passes says nothing more
-pub and-on : (a b : Bool) → a ≡ true → (a and b) ≡ b
-unfolding _and_
-and-on a b e = rw e refl
-
 -- a row that is no control barrier is met by none
 pub never-passed : (t : Table) (a b c : ℕ) → control (t .row c) ≡ false → passes t a b c ≡ false
 unfolding passes arrives joins sameInstance
 never-passed t a b c e = not-so _ (λ h. let d = any-out (arrives t b c) (t .rows) (split h .1) in not-both (split (split (split (split (split (d .2) .1) .0) .1) .0) .0) e)
-
-pub and-on-right : (a b : Bool) → b ≡ true → (a and b) ≡ a
-unfolding _and_
-and-on-right true b e = e
-and-on-right false b e = refl
 
 -- tests that pass, left out
 with-true : (a b c : Bool) → (a and b and c) ≡ (true and a and b and true and c)

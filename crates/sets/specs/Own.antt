@@ -8,7 +8,7 @@ use native.Mathlib.Omega.{arith}
 use native.Mathlib.Numerals.{add-one}
 use native.Mathlib.Decide.{decLt, ℕ-discrete}
 use lib.ListN.{length}
-use Rattle.finite.specs.Logic.{_and_, _or_, or-off, and-false-left, and-false-right}
+use Rattle.finite.specs.Logic.{_and_, _or_, or-off, and-false-left, and-false-right, through-on, absorb}
 use Rattle.finite.specs.Below.{Least}
 use Rattle.bits.specs.Bit.{joinRow, bit-joinRow}
 use Rattle.bits.specs.Within.{Within, within-refl, within-trans, within-widen, within-bit, within-joinRow}
@@ -45,18 +45,6 @@ pub record Phase (w₀ w : List ℕ) (base n k i : ℕ) : Type 0 where
 pub record Rounds (w₀ w : List ℕ) (base n k : ℕ) : Type 0 where
   pub cells : (i j : ℕ) → i < n → j < 64 * MOMENTS → rel w base MOMENTS i j ≡ throughOwn (rel w₀ base MOMENTS) itself k i j
   pub frame : Within base (base + n * MOMENTS) w₀ w
-
--- ---- laws: bools
-
-absorb : (a b : Bool) → (a or (b and a)) ≡ a
-unfolding _and_ _or_
-absorb true b = refl
-absorb false true = refl
-absorb false false = refl
-
-through-on : (x a b : Bool) → a ≡ true → (x or b) ≡ (x or (a and b))
-unfolding _and_
-through-on x a b e = rw e refl
 
 -- ---- laws: a turn within a round
 

@@ -1,8 +1,7 @@
 -- `is_synced` meets its contract: false where it isn't asked. Assumes nothing.
 use mathlib.Core.Path.{sym, _∙_}
 use borrow.Author.Tests.{not-false}
-use Rattle.finite.specs.Logic.{and-false-left, not-out}
-use Rattle.rules.specs.Forms.{and-on}
+use Rattle.finite.specs.Logic.{and-false-left, not-out, and-on}
 use borrow.Author.Needs.{needs}
 use Rattle.reader.proofs.is_synced.Statement.{statement}
 use Rattle.reader.proofs.is_synced.Tie as tie

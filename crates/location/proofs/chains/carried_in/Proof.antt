@@ -1,7 +1,7 @@
 use mathlib.Core.Path.{sym, _∙_}
 use borrow.Author.Tests.{not-true, not-false}
-use Rattle.finite.specs.Logic.{and-false-left}
-use Rattle.location.specs.Chains.{carried-off, carried-row, and-on}
+use Rattle.finite.specs.Logic.{and-false-left, and-on}
+use Rattle.location.specs.Chains.{carried-off, carried-row}
 use borrow.Author.Needs.{needs}
 use Rattle.location.proofs.chains.carried_in.Statement.{statement}
 use Rattle.location.proofs.chains.carried_in.Tie as tie

@@ -1,10 +1,10 @@
 use mathlib.Core.Path.{sym, _∙_}
 use native.Mathlib.Omega.{arith}
 use borrow.Author.Tests.{not-true, not-false}
-use Rattle.finite.specs.Logic.{and-false-left}
+use Rattle.finite.specs.Logic.{and-false-left, and-on}
 use Rattle.bits.specs.Stage.{holds-bit}
 use Rattle.location.specs.Reach.{reach-out}
-use Rattle.location.specs.Chains.{ends-row, and-on}
+use Rattle.location.specs.Chains.{ends-row}
 use borrow.Author.Needs.{needs}
 use Rattle.location.proofs.chains.ends_with.Statement.{statement}
 use Rattle.location.proofs.chains.ends_with.Tie as tie

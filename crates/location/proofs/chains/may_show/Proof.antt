@@ -1,8 +1,8 @@
 use mathlib.Core.Path.{_≡_, sym, _∙_}
 use lib.Dec.{eqb}
 use borrow.Author.Tests.{not-true, not-false}
-use Rattle.finite.specs.Logic.{_and_, _or_, and-false-left}
-use Rattle.location.specs.Chains.{maySee, and-on}
+use Rattle.finite.specs.Logic.{_and_, _or_, and-false-left, and-on}
+use Rattle.location.specs.Chains.{maySee}
 use borrow.Author.Needs.{needs}
 use Rattle.location.proofs.chains.may_show.Statement.{statement}
 use Rattle.location.proofs.chains.may_show.Tie as tie

@@ -1,9 +1,8 @@
 use mathlib.Core.Path.{sym, ap, _∙_}
 use borrow.Author.Needs.{needs}
 use borrow.Author.Tests.{not-true, not-false}
-use Rattle.finite.specs.Logic.{and-false-left}
+use Rattle.finite.specs.Logic.{and-false-left, and-on}
 use Rattle.model.specs.Row.{acquires}
-use Rattle.rules.specs.Forms.{and-on}
 use Rattle.quick_order.proofs.hops.acquires_at.Statement.{statement}
 use Rattle.quick_order.proofs.hops.acquires_at.Tie as tie
 use Rattle.quick_order.proofs.hops.acquires_at.Reads as reads

@@ -1,9 +1,9 @@
 use mathlib.Core.Path.{sym, _∙_}
 use borrow.Author.Tests.{not-true, not-false}
-use Rattle.finite.specs.Logic.{and-false-left}
+use Rattle.finite.specs.Logic.{and-false-left, and-on}
 use Rattle.model.specs.Synchronizes.{passes}
 use Rattle.model.specs.Table.{decode}
-use Rattle.rules.specs.Forms.{and-on, never-passed}
+use Rattle.rules.specs.Forms.{never-passed}
 use borrow.Author.Needs.{needs}
 use Rattle.rules.proofs.control.passes_at.Statement.{statement}
 use Rattle.rules.proofs.control.passes_at.Tie as tie

@@ -127,6 +127,11 @@ unfolding _and_ _or_
 and-or true b c = refl
 and-or false b c = refl
 
+pub and-same : (a : Bool) → (a and a) ≡ a
+unfolding _and_
+and-same true = refl
+and-same false = refl
+
 pub absorb : (a b : Bool) → (a or (b and a)) ≡ a
 unfolding _and_ _or_
 absorb true b = refl

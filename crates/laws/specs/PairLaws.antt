@@ -91,7 +91,7 @@ common-sym r q b e = let c = common-out r q b e in common-in q r b (c .1) (c .0)
 
 -- ---- mutual order is symmetric
 
-eqb-swap : (a b : ℕ) → eqb a b ≡ eqb b a
+pub eqb-swap : (a b : ℕ) → eqb a b ≡ eqb b a
 eqb-swap a b = bool-ext (eqb a b) (eqb b a) (λ e. eq-eqb b a (sym (eqb-true a b e))) (λ e. eq-eqb a b (sym (eqb-true b a e)))
 
 agree-sym : (p : List (List ℕ)) (k a b : ℕ) → agree p k a b ≡ agree p k b a

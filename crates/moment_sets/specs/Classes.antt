@@ -11,7 +11,7 @@ use lib.Bits.{bitAnd, and-mod, and-le-r}
 use lib.Dec.{ltb, eqb}
 use lib.ListN.{length}
 use borrow.Author.Tests.{eqb-true, lt-ltb, le-ltb}
-use Rattle.finite.specs.Logic.{_and_, _or_, bool-ext, not-both, not-so, split, and-true, and-false-left, and-false-right, or-off, or-assoc}
+use Rattle.finite.specs.Logic.{_and_, _or_, bool-ext, not-both, not-so, split, and-true, and-false-left, and-false-right, or-off, or-assoc, and-same}
 use Rattle.finite.specs.Below.{anyBelow, any-in, any-out, any-off, any-not, any-cong, allBelow, all-out, Least}
 use Rattle.bits.specs.Bit.{bitOf, bit, setBitIf, zeros, length-zeros, bit-zeros-in, joinRow, bit-joinRow}
 use Rattle.bits.specs.Within.{Within, within-refl, within-trans, within-widen, within-bit, within-cleared, within-joinRow}
@@ -192,11 +192,6 @@ module _ (bs : List ℕ) (t : Table) (n s : ℕ) (w : List ℕ) (row : (x : ℕ)
   touched-is h = record { fits = h .fits; cell = λ q m l o. h .cell q m l o ∙ ap (λ (r : Row). touches (single q) r (m % 3)) (sym (row (m / 3))) }
 
 -- ---- laws: classes of a set
-
-and-same : (a : Bool) → (a and a) ≡ a
-unfolding _and_
-and-same true = refl
-and-same false = refl
 
 -- on four bits, computed
 same-bool : Bool → Bool → Bool

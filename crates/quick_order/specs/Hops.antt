@@ -8,7 +8,7 @@ use native.Mathlib.Decide.{ℕ-discrete}
 use lib.Dec.{eqb}
 use lib.ListN.{length}
 use borrow.Author.Tests.{eq-eqb}
-use Rattle.finite.specs.Logic.{_and_, _or_, bool-ext, not-both, not-so, split, and-true, and-both, or-both}
+use Rattle.finite.specs.Logic.{_and_, _or_, bool-ext, not-both, not-so, split, and-true, and-both, or-both, and-same}
 use Rattle.bits.specs.Fill.{or-fresh}
 use Rattle.bits.specs.Bit.{bit, zeros, bit-zeros-in}
 use Rattle.bits.specs.Within.{Within, within-refl, within-bit, within-trans, within-widen, within-zeros}
@@ -54,11 +54,6 @@ and-swap true true = refl
 and-swap true false = refl
 and-swap false true = refl
 and-swap false false = refl
-
-and-same : (a : Bool) → (a and a) ≡ a
-unfolding _and_
-and-same true = refl
-and-same false = refl
 
 and-mid : (k a b : Bool) → (k and (a and b)) ≡ (a and k and b)
 unfolding _and_

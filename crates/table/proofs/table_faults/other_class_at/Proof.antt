@@ -25,7 +25,7 @@ read-class-requires : tie.Need-read-class-requires
 read-class-requires c κs = search needs
 
 returns-2 : tie.Need-returns-2
-returns-2 c = class-same _ _ _ (sym (c .before .read-class .ensures) ∙ c .if2 .taken ∙ ap (λ (q : Row). q .class) (c .before .before .before .before .before .before .pre))
+returns-2 c = class-same _ _ _ (sym (c .before .before .read-class .ensures) ∙ c .if2 .taken ∙ ap (λ (q : Row). q .class) (c .before .before .before .before .before .before .before .pre))
 
 -- src/table_faults.rt:36:17
 read-row-requires : tie.Need-read-row-requires

@@ -25,7 +25,7 @@ pub fn takes_from_at(
     requires { ⌜ (n ≤ ROWS) × (x < n) × (y < n) × (WORK ≤ length (now w)) × Known (decode (now rows) p mode n) n (now w) ⌝ }
     ensures { λ d. ⌜ d ≡ takesFrom (decode (now (rows .entry)) p mode n) x y ⌝ }
 {
-    if !bits::get(w, (area::MUTUAL + x * area::GRID) * 64 + y) {
+    if !area::grid::get(w, area::MUTUAL, x, y) {
         return false;
     }
     let s = rows::bytes::atomic_source(rows, y as u16);
@@ -35,7 +35,7 @@ pub fn takes_from_at(
     }
     let r = rows::bytes::read_row(rows, x as u16);
     let q = rows::bytes::read_row(rows, y as u16);
-    let b = bits::get(w, (area::SEQUENCE + x * area::GRID) * 64 + k);
+    let b = area::grid::get(w, area::SEQUENCE, x, k);
     rows::kinds::writes(r) & rows::kinds::reads(q) & b
 }
 

@@ -24,7 +24,7 @@ pub fn fill_mutual(rows: &[u8], p: Places, mode: Mode, n: usize, w: &mut [u64])
     for i in 0..n {
         for j in 0..n {
             let b = sequences::mutual_at(rows, p, mode, n, i, j);
-            bits::put_if(w, (area::MUTUAL + i * area::GRID) * 64 + j, b);
+            area::grid::put_if(w, area::MUTUAL, i, j, b);
         }
     }
 }
@@ -45,7 +45,7 @@ pub fn follows_at(
 {
     let r = rows::bytes::read_row(rows, i as u16);
     let q = rows::bytes::read_row(rows, j as u16);
-    let b = bits::get(w, (area::MUTUAL + i * area::GRID) * 64 + j);
+    let b = area::grid::get(w, area::MUTUAL, i, j);
     b & rows::scopes::is_later_writer(mode.counted, q, r)
 }
 
@@ -60,7 +60,7 @@ pub fn is_ended(rows: &[u8], p: Places, mode: Mode, n: usize, a: usize, x: usize
     let h = rows::bytes::read_row(rows, a as u16);
     let r = rows::bytes::read_row(rows, x as u16);
     for z in 0..n {
-        let b = bits::get(w, (area::MUTUAL + a * area::GRID) * 64 + z);
+        let b = area::grid::get(w, area::MUTUAL, a, z);
         let q = rows::bytes::read_row(rows, z as u16);
         if sequences::is_end(mode.counted, b, h, r, q) {
             return true;
@@ -99,7 +99,7 @@ pub fn fill_sequence(rows: &[u8], p: Places, mode: Mode, n: usize, w: &mut [u64]
     for a in 0..n {
         for x in 0..n {
             let b = sequence_at(rows, p, mode, n, a, x, w);
-            bits::put_if(w, (area::SEQUENCE + a * area::GRID) * 64 + x, b);
+            area::grid::put_if(w, area::SEQUENCE, a, x, b);
         }
     }
 }

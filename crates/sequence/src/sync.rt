@@ -138,7 +138,7 @@ pub fn fill_sync(rows: &[u8], p: Places, mode: Mode, n: usize, w: &mut [u64])
     for a in 0..n {
         for b in 0..n {
             let d = sync_at(rows, p, mode, n, a, b, w);
-            bits::put_if(w, (area::SYNC + a * area::GRID) * 64 + b, d);
+            area::grid::put_if(w, area::SYNC, a, b, d);
         }
     }
 }

@@ -9,99 +9,67 @@ use Rattle.sequence.proofs.carriers.takes_from_at.Statement.{statement}
 use Rattle.sequence.proofs.carriers.takes_from_at.Tie as tie
 use Rattle.sequence.proofs.carriers.takes_from_at.Reads as reads
 use Rattle.sequence.proofs.carriers.takes_from_at.Lts as lts
-use Rattle.bits.proofs.get.Reads as get-reads
+use Rattle.area.proofs.grid.get.Reads as get-reads
 use Rattle.rows.proofs.bytes.atomic_source.Reads as atomic-source-reads
 use Rattle.rows.proofs.bytes.read_row.Reads as read-row-reads
 use Rattle.rows.proofs.kinds.reads.Reads as reads-reads
 use Rattle.rows.proofs.kinds.writes.Reads as writes-reads
 
--- src/carriers.rt:21:38
-mul-get : tie.Need-mul-get
-mul-get c = search needs
-
--- src/carriers.rt:21:23
-add-get : tie.Need-add-get
-add-get c = search needs
-
--- src/carriers.rt:21:22
-mul-get-2 : tie.Need-mul-get-2
-mul-get-2 c = search needs
-
--- src/carriers.rt:21:22
-add-get-2 : tie.Need-add-get-2
-add-get-2 c = search needs
-
--- src/carriers.rt:21:9
+-- src/carriers.rt:28:9
 get-requires : tie.Need-get-requires
 get-requires c κs = search needs
 
--- src/carriers.rt:22:9
+-- src/carriers.rt:29:9
 returns : tie.Need-returns
 returns c =
     let start = c .before .before .before .before in
     takes-apart _ _ _ _ _ _ (sym (holds-bit (start .pre .4 .mutuals) _ (start .args .x) (start .args .y) (omega arith) (omega arith) (omega arith)) ∙ sym (c .before .get .ensures) ∙ not-true _ (c .if1 .taken))
 
--- src/carriers.rt:24:46
+-- src/carriers.rt:31:46
 cast-atomic-source : tie.Need-cast-atomic-source
 cast-atomic-source c = search needs
 
--- src/carriers.rt:24:9
+-- src/carriers.rt:31:9
 atomic-source-requires : tie.Need-atomic-source-requires
 atomic-source-requires c κs = search needs
 
--- src/carriers.rt:25:13
+-- src/carriers.rt:32:13
 cast-k : tie.Need-cast-k
 cast-k c = search needs
 
--- src/carriers.rt:27:9
+-- src/carriers.rt:34:9
 returns-2 : tie.Need-returns-2
 returns-2 c = takes-none _ _ _ _ _ _ _ (c .before .before .atomic-source .ensures) (c .if2 .taken)
 
--- src/carriers.rt:29:41
+-- src/carriers.rt:36:41
 cast-read-row : tie.Need-cast-read-row
 cast-read-row c = search needs
 
--- src/carriers.rt:29:9
+-- src/carriers.rt:36:9
 read-row-requires : tie.Need-read-row-requires
 read-row-requires c κs = search needs
 
--- src/carriers.rt:30:41
+-- src/carriers.rt:37:41
 cast-read-row-2 : tie.Need-cast-read-row-2
 cast-read-row-2 c = search needs
 
--- src/carriers.rt:30:9
+-- src/carriers.rt:37:9
 read-row-requires-2 : tie.Need-read-row-requires-2
 read-row-requires-2 c κs = search needs
 
--- src/carriers.rt:31:44
-mul-get-3 : tie.Need-mul-get-3
-mul-get-3 c = search needs
-
--- src/carriers.rt:31:27
-add-get-3 : tie.Need-add-get-3
-add-get-3 c = search needs
-
--- src/carriers.rt:31:26
-mul-get-4 : tie.Need-mul-get-4
-mul-get-4 c = search needs
-
--- src/carriers.rt:31:26
-add-get-4 : tie.Need-add-get-4
-add-get-4 c = search needs
-
--- src/carriers.rt:31:9
+-- src/carriers.rt:38:9
 get-requires-2 : tie.Need-get-requires-2
 get-requires-2 c κs = search needs
 
--- src/carriers.rt:32:5
+-- src/carriers.rt:39:5
 writes-requires : tie.Need-writes-requires
 writes-requires c κs = search needs
 
--- src/carriers.rt:32:30
+-- src/carriers.rt:39:30
 reads-requires : tie.Need-reads-requires
 reads-requires c κs = search needs
 
--- src/carriers.rt:17:1
+-- src/carriers.rt:16:1
 returns-3 : tie.Need-returns-3
 unfolding _and_
 returns-3 c =
@@ -118,10 +86,6 @@ pub takes-from-at-spec : {M : Type 1} → statement M
 takes-from-at-spec =
     tie.close
     (tie.spec
-    mul-get
-    add-get
-    mul-get-2
-    add-get-2
     get-requires
     returns
     cast-atomic-source
@@ -132,10 +96,6 @@ takes-from-at-spec =
     read-row-requires
     cast-read-row-2
     read-row-requires-2
-    mul-get-3
-    add-get-3
-    mul-get-4
-    add-get-4
     get-requires-2
     writes-requires
     reads-requires

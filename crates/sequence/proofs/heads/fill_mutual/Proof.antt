@@ -13,7 +13,7 @@ use Rattle.sequence.proofs.heads.fill_mutual.Tie as tie
 use Rattle.sequence.proofs.heads.fill_mutual.Reads as reads
 use Rattle.sequence.proofs.heads.fill_mutual.Lts as lts
 use Rattle.bits.proofs.clear.Reads as clear-reads
-use Rattle.bits.proofs.put_if.Reads as put-if-reads
+use Rattle.area.proofs.grid.put_if.Reads as put-if-reads
 use Rattle.rules.proofs.sequences.mutual_at.Reads as mutual-at-reads
 
 abbrev Inv-loop2 : tie.InvT-loop2
@@ -28,51 +28,35 @@ Inv-loop rows p mode n w₀ i₀ w i = (i ≤ n) × (length w ≡ length w₀) �
 abbrev μ-loop : tie.MeasureT-loop
 μ-loop rows p mode n w₀ i₀ w i = n - i
 
--- src/heads.rt:33:5
+-- src/heads.rt:23:5
 clear-requires : tie.Need-clear-requires Inv-loop2 μ-loop2 Inv-loop μ-loop
 clear-requires c κs = search needs
 
--- src/heads.rt:34:5
+-- src/heads.rt:24:5
 loop-holds : tie.Need-loop-holds Inv-loop2 μ-loop2 Inv-loop μ-loop
 loop-holds c = (search needs, refl, gridFill-none _ _ _ _ _)
 
--- src/heads.rt:35:9
+-- src/heads.rt:25:9
 loop2-holds : tie.Need-loop2-holds Inv-loop2 μ-loop2 Inv-loop μ-loop
 loop2-holds c = (search needs, refl, rowFill-none _ _ _)
 
--- src/heads.rt:36:17
+-- src/heads.rt:26:17
 mutual-at-requires : tie.Need-mutual-at-requires Inv-loop2 μ-loop2 Inv-loop μ-loop
 mutual-at-requires c κs = search needs
 
--- src/heads.rt:37:45
-mul-put-if : tie.Need-mul-put-if Inv-loop2 μ-loop2 Inv-loop μ-loop
-mul-put-if c = search needs
-
--- src/heads.rt:37:30
-add-put-if : tie.Need-add-put-if Inv-loop2 μ-loop2 Inv-loop μ-loop
-add-put-if c = search needs
-
--- src/heads.rt:37:29
-mul-put-if-2 : tie.Need-mul-put-if-2 Inv-loop2 μ-loop2 Inv-loop μ-loop
-mul-put-if-2 c = search needs
-
--- src/heads.rt:37:29
-add-put-if-2 : tie.Need-add-put-if-2 Inv-loop2 μ-loop2 Inv-loop μ-loop
-add-put-if-2 c = search needs
-
--- src/heads.rt:37:13
+-- src/heads.rt:27:13
 put-if-requires : tie.Need-put-if-requires Inv-loop2 μ-loop2 Inv-loop μ-loop
 put-if-requires c κs = search needs
 
--- src/heads.rt:35:13
+-- src/heads.rt:25:13
 add-j : tie.Need-add-j Inv-loop2 μ-loop2 Inv-loop μ-loop
 add-j c = search needs
 
--- src/heads.rt:35:9
+-- src/heads.rt:25:9
 loop2-less : tie.Need-loop2-less Inv-loop2 μ-loop2 Inv-loop μ-loop
 loop2-less c = search needs
 
--- src/heads.rt:35:9
+-- src/heads.rt:25:9
 loop2-again : tie.Need-loop2-again Inv-loop2 μ-loop2 Inv-loop μ-loop
 loop2-again c =
     let put = c .before .before .put-if in
@@ -80,15 +64,15 @@ loop2-again c =
     let e = rowFill-put _ _ _ (put .last .0) _ _ _ _ (inv .2) (c .before .before .before .before .mutual-at .ensures) (omega arith) (put .ensures) in
     (search needs, ap length e ∙ length-rowFill _ _ _ _, e)
 
--- src/heads.rt:34:9
+-- src/heads.rt:24:9
 add-i : tie.Need-add-i Inv-loop2 μ-loop2 Inv-loop μ-loop
 add-i c = search needs
 
--- src/heads.rt:34:5
+-- src/heads.rt:24:5
 loop-less : tie.Need-loop-less Inv-loop2 μ-loop2 Inv-loop μ-loop
 loop-less c = search needs
 
--- src/heads.rt:34:5
+-- src/heads.rt:24:5
 loop-again : tie.Need-loop-again Inv-loop2 μ-loop2 Inv-loop μ-loop
 loop-again c =
     let inv = c .before .loop2 .inv in
@@ -96,11 +80,11 @@ loop-again c =
     let e : c .before .loop2 .j ≡ c .before .before .before .before .before .before .before .before .before .before .args .n = omega arith in
     (search needs, inv .1 ∙ out .1, gridFill-more _ _ _ _ _ _ _ _ (out .2) (rw e at (inv .2)))
 
--- src/heads.rt:29:1
+-- src/heads.rt:19:1
 same-length : tie.Need-same-length Inv-loop2 μ-loop2 Inv-loop μ-loop
 same-length c = search needs
 
--- src/heads.rt:29:1
+-- src/heads.rt:19:1
 returns : tie.Need-returns Inv-loop2 μ-loop2 Inv-loop μ-loop
 returns c =
     let e : c .before .loop .i ≡ c .before .before .before .before .before .before .before .before .args .n = omega arith in
@@ -118,10 +102,6 @@ fill-mutual-spec =
     loop-holds
     loop2-holds
     mutual-at-requires
-    mul-put-if
-    add-put-if
-    mul-put-if-2
-    add-put-if-2
     put-if-requires
     add-j
     loop2-less

@@ -15,7 +15,7 @@ use Rattle.sequence.proofs.heads.fill_sequence.Tie as tie
 use Rattle.sequence.proofs.heads.fill_sequence.Reads as reads
 use Rattle.sequence.proofs.heads.fill_sequence.Lts as lts
 use Rattle.bits.proofs.clear.Reads as clear-reads
-use Rattle.bits.proofs.put_if.Reads as put-if-reads
+use Rattle.area.proofs.grid.put_if.Reads as put-if-reads
 use Rattle.sequence.proofs.heads.sequence_at.Reads as sequence-at-reads
 
 abbrev Inv-loop2 : tie.InvT-loop2
@@ -30,51 +30,35 @@ Inv-loop rows p mode n w₀ a₀ w a = (a ≤ n) × (length w ≡ length w₀) �
 abbrev μ-loop : tie.MeasureT-loop
 μ-loop rows p mode n w₀ a₀ w a = n - a
 
--- src/heads.rt:109:5
+-- src/heads.rt:98:5
 clear-requires : tie.Need-clear-requires Inv-loop2 μ-loop2 Inv-loop μ-loop
 clear-requires c κs = search needs
 
--- src/heads.rt:110:5
+-- src/heads.rt:99:5
 loop-holds : tie.Need-loop-holds Inv-loop2 μ-loop2 Inv-loop μ-loop
 loop-holds c = (search needs, refl, holds-kept (λ h. omega arith) (within-cleared SEQUENCE SEQUENCE-END (omega arith) (c .before .before .clear .ensures)) (c .before .before .before .before .before .before .pre .2), gridFill-none _ _ _ _ _)
 
--- src/heads.rt:111:9
+-- src/heads.rt:100:9
 loop2-holds : tie.Need-loop2-holds Inv-loop2 μ-loop2 Inv-loop μ-loop
 loop2-holds c = (search needs, refl, c .before .loop .inv .2, rowFill-none _ _ _)
 
--- src/heads.rt:112:17
+-- src/heads.rt:101:17
 sequence-at-requires : tie.Need-sequence-at-requires Inv-loop2 μ-loop2 Inv-loop μ-loop
 sequence-at-requires c κs = search needs
 
--- src/heads.rt:113:47
-mul-put-if : tie.Need-mul-put-if Inv-loop2 μ-loop2 Inv-loop μ-loop
-mul-put-if c = search needs
-
--- src/heads.rt:113:30
-add-put-if : tie.Need-add-put-if Inv-loop2 μ-loop2 Inv-loop μ-loop
-add-put-if c = search needs
-
--- src/heads.rt:113:29
-mul-put-if-2 : tie.Need-mul-put-if-2 Inv-loop2 μ-loop2 Inv-loop μ-loop
-mul-put-if-2 c = search needs
-
--- src/heads.rt:113:29
-add-put-if-2 : tie.Need-add-put-if-2 Inv-loop2 μ-loop2 Inv-loop μ-loop
-add-put-if-2 c = search needs
-
--- src/heads.rt:113:13
+-- src/heads.rt:102:13
 put-if-requires : tie.Need-put-if-requires Inv-loop2 μ-loop2 Inv-loop μ-loop
 put-if-requires c κs = search needs
 
--- src/heads.rt:111:13
+-- src/heads.rt:100:13
 add-x : tie.Need-add-x Inv-loop2 μ-loop2 Inv-loop μ-loop
 add-x c = search needs
 
--- src/heads.rt:111:9
+-- src/heads.rt:100:9
 loop2-less : tie.Need-loop2-less Inv-loop2 μ-loop2 Inv-loop μ-loop
 loop2-less c = search needs
 
--- src/heads.rt:111:9
+-- src/heads.rt:100:9
 loop2-again : tie.Need-loop2-again Inv-loop2 μ-loop2 Inv-loop μ-loop
 loop2-again c =
     let put = c .before .before .put-if in
@@ -82,15 +66,15 @@ loop2-again c =
     let e = rowFill-put _ _ _ (put .last .0) _ _ _ _ (inv .3) (c .before .before .before .before .sequence-at .ensures) (omega arith) (put .ensures) in
     (search needs, ap length e ∙ length-rowFill _ _ _ _, holds-kept (λ h. omega arith) (within-put SEQUENCE SEQUENCE-END _ _ (omega arith) (omega arith) (put .ensures)) (inv .2), e)
 
--- src/heads.rt:110:9
+-- src/heads.rt:99:9
 add-a : tie.Need-add-a Inv-loop2 μ-loop2 Inv-loop μ-loop
 add-a c = search needs
 
--- src/heads.rt:110:5
+-- src/heads.rt:99:5
 loop-less : tie.Need-loop-less Inv-loop2 μ-loop2 Inv-loop μ-loop
 loop-less c = search needs
 
--- src/heads.rt:110:5
+-- src/heads.rt:99:5
 loop-again : tie.Need-loop-again Inv-loop2 μ-loop2 Inv-loop μ-loop
 loop-again c =
     let inv = c .before .loop2 .inv in
@@ -98,11 +82,11 @@ loop-again c =
     let e : c .before .loop2 .x ≡ c .before .before .before .before .before .before .before .before .before .before .args .n = omega arith in
     (search needs, inv .1 ∙ out .1, inv .2, gridFill-more _ _ _ _ _ _ _ _ (out .3) (rw e at (inv .3)))
 
--- src/heads.rt:104:1
+-- src/heads.rt:93:1
 same-length : tie.Need-same-length Inv-loop2 μ-loop2 Inv-loop μ-loop
 same-length c = search needs
 
--- src/heads.rt:104:1
+-- src/heads.rt:93:1
 returns : tie.Need-returns Inv-loop2 μ-loop2 Inv-loop μ-loop
 returns c =
     let e : c .before .loop .a ≡ c .before .before .before .before .before .before .before .before .args .n = omega arith in
@@ -120,10 +104,6 @@ fill-sequence-spec =
     loop-holds
     loop2-holds
     sequence-at-requires
-    mul-put-if
-    add-put-if
-    mul-put-if-2
-    add-put-if-2
     put-if-requires
     add-x
     loop2-less

@@ -9,51 +9,35 @@ use Rattle.sequence.proofs.heads.follows_at.Statement.{statement}
 use Rattle.sequence.proofs.heads.follows_at.Tie as tie
 use Rattle.sequence.proofs.heads.follows_at.Reads as reads
 use Rattle.sequence.proofs.heads.follows_at.Lts as lts
-use Rattle.bits.proofs.get.Reads as get-reads
+use Rattle.area.proofs.grid.get.Reads as get-reads
 use Rattle.rows.proofs.bytes.read_row.Reads as read-row-reads
 use Rattle.rows.proofs.scopes.is_later_writer.Reads as is-later-writer-reads
 
--- src/heads.rt:48:41
+-- src/heads.rt:46:41
 cast-read-row : tie.Need-cast-read-row
 cast-read-row c = search needs
 
--- src/heads.rt:48:9
+-- src/heads.rt:46:9
 read-row-requires : tie.Need-read-row-requires
 read-row-requires c κs = search needs
 
--- src/heads.rt:49:41
+-- src/heads.rt:47:41
 cast-read-row-2 : tie.Need-cast-read-row-2
 cast-read-row-2 c = search needs
 
--- src/heads.rt:49:9
+-- src/heads.rt:47:9
 read-row-requires-2 : tie.Need-read-row-requires-2
 read-row-requires-2 c κs = search needs
 
--- src/heads.rt:50:42
-mul-get : tie.Need-mul-get
-mul-get c = search needs
-
--- src/heads.rt:50:27
-add-get : tie.Need-add-get
-add-get c = search needs
-
--- src/heads.rt:50:26
-mul-get-2 : tie.Need-mul-get-2
-mul-get-2 c = search needs
-
--- src/heads.rt:50:26
-add-get-2 : tie.Need-add-get-2
-add-get-2 c = search needs
-
--- src/heads.rt:50:9
+-- src/heads.rt:48:9
 get-requires : tie.Need-get-requires
 get-requires c κs = search needs
 
--- src/heads.rt:51:9
+-- src/heads.rt:49:9
 is-later-writer-requires : tie.Need-is-later-writer-requires
 is-later-writer-requires c κs = search needs
 
--- src/heads.rt:43:1
+-- src/heads.rt:33:1
 returns : tie.Need-returns
 unfolding follows decode _and_
 returns c =
@@ -69,10 +53,6 @@ follows-at-spec =
     read-row-requires
     cast-read-row-2
     read-row-requires-2
-    mul-get
-    add-get
-    mul-get-2
-    add-get-2
     get-requires
     is-later-writer-requires
     returns)

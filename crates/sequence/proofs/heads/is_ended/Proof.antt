@@ -15,7 +15,7 @@ use Rattle.sequence.proofs.heads.is_ended.Statement.{statement}
 use Rattle.sequence.proofs.heads.is_ended.Tie as tie
 use Rattle.sequence.proofs.heads.is_ended.Reads as reads
 use Rattle.sequence.proofs.heads.is_ended.Lts as lts
-use Rattle.bits.proofs.get.Reads as get-reads
+use Rattle.area.proofs.grid.get.Reads as get-reads
 use Rattle.rows.proofs.bytes.read_row.Reads as read-row-reads
 use Rattle.rules.proofs.sequences.is_end.Reads as is-end-reads
 
@@ -25,59 +25,43 @@ Inv-loop rows mode n a x w h r z₀ z = (z ≤ n) × ((p : List (List ℕ)) → 
 abbrev μ-loop : tie.MeasureT-loop
 μ-loop rows mode n a x w h r z₀ z = n - z
 
--- src/heads.rt:79:41
+-- src/heads.rt:60:41
 cast-read-row : tie.Need-cast-read-row Inv-loop μ-loop
 cast-read-row c = search needs
 
--- src/heads.rt:79:9
+-- src/heads.rt:60:9
 read-row-requires : tie.Need-read-row-requires Inv-loop μ-loop
 read-row-requires c κs = search needs
 
--- src/heads.rt:80:41
+-- src/heads.rt:61:41
 cast-read-row-2 : tie.Need-cast-read-row-2 Inv-loop μ-loop
 cast-read-row-2 c = search needs
 
--- src/heads.rt:80:9
+-- src/heads.rt:61:9
 read-row-requires-2 : tie.Need-read-row-requires-2 Inv-loop μ-loop
 read-row-requires-2 c κs = search needs
 
--- src/heads.rt:81:5
+-- src/heads.rt:62:5
 loop-holds : tie.Need-loop-holds Inv-loop μ-loop
 loop-holds c = (search needs, λ p k. any-none _)
 
--- src/heads.rt:82:46
-mul-get : tie.Need-mul-get Inv-loop μ-loop
-mul-get c = search needs
-
--- src/heads.rt:82:31
-add-get : tie.Need-add-get Inv-loop μ-loop
-add-get c = search needs
-
--- src/heads.rt:82:30
-mul-get-2 : tie.Need-mul-get-2 Inv-loop μ-loop
-mul-get-2 c = search needs
-
--- src/heads.rt:82:30
-add-get-2 : tie.Need-add-get-2 Inv-loop μ-loop
-add-get-2 c = search needs
-
--- src/heads.rt:82:13
+-- src/heads.rt:63:13
 get-requires : tie.Need-get-requires Inv-loop μ-loop
 get-requires c κs = search needs
 
--- src/heads.rt:83:45
+-- src/heads.rt:64:45
 cast-read-row-3 : tie.Need-cast-read-row-3 Inv-loop μ-loop
 cast-read-row-3 c = search needs
 
--- src/heads.rt:83:13
+-- src/heads.rt:64:13
 read-row-requires-3 : tie.Need-read-row-requires-3 Inv-loop μ-loop
 read-row-requires-3 c κs = search needs
 
--- src/heads.rt:84:12
+-- src/heads.rt:65:12
 is-end-requires : tie.Need-is-end-requires Inv-loop μ-loop
 is-end-requires c κs = search needs
 
--- src/heads.rt:85:13
+-- src/heads.rt:66:13
 returns : tie.Need-returns Inv-loop μ-loop
 returns c =
     let start = c .before .before .before .before .before .before .before .before .before .before in
@@ -86,15 +70,15 @@ returns c =
     let t = ends-told _ _ _ _ _ _ _ _ _ _ _ _ f (c .before .before .before .before .before .before .before .read-row .ensures) (c .before .before .before .before .before .before .read-row2 .ensures) (c .before .before .read-row3 .ensures) (c .before .is-end .ensures) in
     sym (any-in _ _ z (c .before .before .before .before .loop-test .taken) (t ∙ c .if1 .taken))
 
--- src/heads.rt:81:9
+-- src/heads.rt:62:9
 add-z : tie.Need-add-z Inv-loop μ-loop
 add-z c = search needs
 
--- src/heads.rt:81:5
+-- src/heads.rt:62:5
 loop-less : tie.Need-loop-less Inv-loop μ-loop
 loop-less c = search needs
 
--- src/heads.rt:81:5
+-- src/heads.rt:62:5
 loop-again : tie.Need-loop-again Inv-loop μ-loop
 loop-again c =
     let start = c .before .before .before .before .before .before .before .before .before .before in
@@ -106,7 +90,7 @@ loop-again c =
           any-more _ _ (c .before .before .before .before .before .loop .inv .1 p k) (t ∙ c .if1 .left),
     )
 
--- src/heads.rt:74:1
+-- src/heads.rt:55:1
 returns-2 : tie.Need-returns-2 Inv-loop μ-loop
 returns-2 c =
     let start = c .before .before .before .before .before .before in
@@ -124,10 +108,6 @@ is-ended-spec =
     cast-read-row-2
     read-row-requires-2
     loop-holds
-    mul-get
-    add-get
-    mul-get-2
-    add-get-2
     get-requires
     cast-read-row-3
     read-row-requires-3

@@ -15,7 +15,7 @@ use Rattle.sequence.proofs.sync.fill_sync.Tie as tie
 use Rattle.sequence.proofs.sync.fill_sync.Reads as reads
 use Rattle.sequence.proofs.sync.fill_sync.Lts as lts
 use Rattle.bits.proofs.clear.Reads as clear-reads
-use Rattle.bits.proofs.put_if.Reads as put-if-reads
+use Rattle.area.proofs.grid.put_if.Reads as put-if-reads
 use Rattle.sequence.proofs.sync.sync_at.Reads as sync-at-reads
 
 abbrev Inv-loop2 : tie.InvT-loop2
@@ -30,51 +30,35 @@ Inv-loop rows p mode n w₀ a₀ w a = (a ≤ n) × (length w ≡ length w₀) �
 abbrev μ-loop : tie.MeasureT-loop
 μ-loop rows p mode n w₀ a₀ w a = n - a
 
--- src/sync.rt:94:5
+-- src/sync.rt:137:5
 clear-requires : tie.Need-clear-requires Inv-loop2 μ-loop2 Inv-loop μ-loop
 clear-requires c κs = search needs
 
--- src/sync.rt:95:5
+-- src/sync.rt:138:5
 loop-holds : tie.Need-loop-holds Inv-loop2 μ-loop2 Inv-loop μ-loop
 loop-holds c = (search needs, refl, known-kept (omega arith) (within-cleared SYNC SYNC-END (omega arith) (c .before .before .clear .ensures)) (c .before .before .before .before .before .before .pre .2), gridFill-none _ _ _ _ _)
 
--- src/sync.rt:96:9
+-- src/sync.rt:139:9
 loop2-holds : tie.Need-loop2-holds Inv-loop2 μ-loop2 Inv-loop μ-loop
 loop2-holds c = (search needs, refl, c .before .loop .inv .2, rowFill-none _ _ _)
 
--- src/sync.rt:97:17
+-- src/sync.rt:140:17
 sync-at-requires : tie.Need-sync-at-requires Inv-loop2 μ-loop2 Inv-loop μ-loop
 sync-at-requires c κs = search needs
 
--- src/sync.rt:98:43
-mul-put-if : tie.Need-mul-put-if Inv-loop2 μ-loop2 Inv-loop μ-loop
-mul-put-if c = search needs
-
--- src/sync.rt:98:30
-add-put-if : tie.Need-add-put-if Inv-loop2 μ-loop2 Inv-loop μ-loop
-add-put-if c = search needs
-
--- src/sync.rt:98:29
-mul-put-if-2 : tie.Need-mul-put-if-2 Inv-loop2 μ-loop2 Inv-loop μ-loop
-mul-put-if-2 c = search needs
-
--- src/sync.rt:98:29
-add-put-if-2 : tie.Need-add-put-if-2 Inv-loop2 μ-loop2 Inv-loop μ-loop
-add-put-if-2 c = search needs
-
--- src/sync.rt:98:13
+-- src/sync.rt:141:13
 put-if-requires : tie.Need-put-if-requires Inv-loop2 μ-loop2 Inv-loop μ-loop
 put-if-requires c κs = search needs
 
--- src/sync.rt:96:13
+-- src/sync.rt:139:13
 add-b : tie.Need-add-b Inv-loop2 μ-loop2 Inv-loop μ-loop
 add-b c = search needs
 
--- src/sync.rt:96:9
+-- src/sync.rt:139:9
 loop2-less : tie.Need-loop2-less Inv-loop2 μ-loop2 Inv-loop μ-loop
 loop2-less c = search needs
 
--- src/sync.rt:96:9
+-- src/sync.rt:139:9
 loop2-again : tie.Need-loop2-again Inv-loop2 μ-loop2 Inv-loop μ-loop
 loop2-again c =
     let put = c .before .before .put-if in
@@ -82,15 +66,15 @@ loop2-again c =
     let e = rowFill-put _ _ _ (put .last .0) _ _ _ _ (inv .3) (c .before .before .before .before .sync-at .ensures) (omega arith) (put .ensures) in
     (search needs, ap length e ∙ length-rowFill _ _ _ _, known-kept (omega arith) (within-put SYNC SYNC-END _ _ (omega arith) (omega arith) (put .ensures)) (inv .2), e)
 
--- src/sync.rt:95:9
+-- src/sync.rt:138:9
 add-a : tie.Need-add-a Inv-loop2 μ-loop2 Inv-loop μ-loop
 add-a c = search needs
 
--- src/sync.rt:95:5
+-- src/sync.rt:138:5
 loop-less : tie.Need-loop-less Inv-loop2 μ-loop2 Inv-loop μ-loop
 loop-less c = search needs
 
--- src/sync.rt:95:5
+-- src/sync.rt:138:5
 loop-again : tie.Need-loop-again Inv-loop2 μ-loop2 Inv-loop μ-loop
 loop-again c =
     let inv = c .before .loop2 .inv in
@@ -98,11 +82,11 @@ loop-again c =
     let e : c .before .loop2 .b ≡ c .before .before .before .before .before .before .before .before .before .before .args .n = omega arith in
     (search needs, inv .1 ∙ out .1, inv .2, gridFill-more _ _ _ _ _ _ _ _ (out .3) (rw e at (inv .3)))
 
--- src/sync.rt:90:1
+-- src/sync.rt:133:1
 same-length : tie.Need-same-length Inv-loop2 μ-loop2 Inv-loop μ-loop
 same-length c = search needs
 
--- src/sync.rt:90:1
+-- src/sync.rt:133:1
 returns : tie.Need-returns Inv-loop2 μ-loop2 Inv-loop μ-loop
 returns c =
     let e : c .before .loop .a ≡ c .before .before .before .before .before .before .before .before .args .n = omega arith in
@@ -120,10 +104,6 @@ fill-sync-spec =
     loop-holds
     loop2-holds
     sync-at-requires
-    mul-put-if
-    add-put-if
-    mul-put-if-2
-    add-put-if-2
     put-if-requires
     add-b
     loop2-less

@@ -30,7 +30,7 @@ pub fn fill_order(rows: &[u8], n: usize, w: &mut [u64])
     for m in 0..3 * n {
         for k in 0..3 * n {
             let b = moments::ordered_at(rows, n, m, k);
-            bits::put_if(w, (area::HAPPENS + m * area::MOMENTS) * 64 + k, b);
+            area::moments::put_if(w, area::HAPPENS, m, k, b);
         }
     }
 }

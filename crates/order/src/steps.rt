@@ -60,7 +60,7 @@ fn sync_bit(m: usize, k: usize, w: &[u64]) -> bool
     requires { ⌜ (m < 3 * ROWS) × (k < 3 * ROWS) × (WORK ≤ length (now w)) ⌝ }
     ensures { λ b. ⌜ b ≡ rel (now (w .entry)) SYNC GRID (m / 3) (k / 3) ⌝ }
 {
-    bits::get(w, (area::SYNC + m / 3 * area::GRID) * 64 + k / 3)
+    area::grid::get(w, area::SYNC, m / 3, k / 3)
 }
 
 // Sets the bit from m to k where there is one.
@@ -69,7 +69,7 @@ fn fill_cell(rows: &[u8], n: usize, s: u8, m: usize, k: usize, w: &mut [u64])
     ensures { λ _. ⌜ CellMade (now (rows .entry)) n s m k (now (w .entry)) (now (w .exit)) ⌝ }
 {
     let b = step_of(rows, n, s, m, k, sync_bit(m, k, w));
-    bits::put_if(w, (area::STEP + m * area::MOMENTS) * 64 + k, b);
+    area::moments::put_if(w, area::STEP, m, k, b);
 }
 
 // Sets the bits of those from and to the moment m.
@@ -112,10 +112,7 @@ fn put_dependency(mode: Mode, n: usize, c: u16, w: &mut [u64])
     if n <= y {
         return;
     }
-    bits::put(
-        w,
-        (area::STEP + (3 * x + 1) * area::MOMENTS) * 64 + (3 * y + 1),
-    );
+    area::moments::put(w, area::STEP, 3 * x + 1, 3 * y + 1);
 }
 
 // Adds the direct case that goes by dependencies: a bit for each of them, instead of a test of all at every two moments.

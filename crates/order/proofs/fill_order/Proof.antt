@@ -16,7 +16,7 @@ use Rattle.order.proofs.fill_order.Tie as tie
 use Rattle.order.proofs.fill_order.Reads as reads
 use Rattle.order.proofs.fill_order.Lts as lts
 use Rattle.bits.proofs.clear.Reads as clear-reads
-use Rattle.bits.proofs.put_if.Reads as put-if-reads
+use Rattle.area.proofs.moments.put_if.Reads as put-if-reads
 use Rattle.rules.proofs.moments.ordered_at.Reads as ordered-at-reads
 
 abbrev Inv-loop2 : tie.InvT-loop2
@@ -54,22 +54,6 @@ loop2-holds c = (search needs, refl, rowFill-none _ _ _)
 -- src/lib.rt:32:17
 ordered-at-requires : tie.Need-ordered-at-requires Inv-loop2 μ-loop2 Inv-loop μ-loop
 ordered-at-requires c κs = search needs
-
--- src/lib.rt:33:46
-mul-put-if : tie.Need-mul-put-if Inv-loop2 μ-loop2 Inv-loop μ-loop
-mul-put-if c = search needs
-
--- src/lib.rt:33:30
-add-put-if : tie.Need-add-put-if Inv-loop2 μ-loop2 Inv-loop μ-loop
-add-put-if c = search needs
-
--- src/lib.rt:33:29
-mul-put-if-2 : tie.Need-mul-put-if-2 Inv-loop2 μ-loop2 Inv-loop μ-loop
-mul-put-if-2 c = search needs
-
--- src/lib.rt:33:29
-add-put-if-2 : tie.Need-add-put-if-2 Inv-loop2 μ-loop2 Inv-loop μ-loop
-add-put-if-2 c = search needs
 
 -- src/lib.rt:33:13
 put-if-requires : tie.Need-put-if-requires Inv-loop2 μ-loop2 Inv-loop μ-loop
@@ -131,10 +115,6 @@ fill-order-spec =
     mul-k-end
     loop2-holds
     ordered-at-requires
-    mul-put-if
-    add-put-if
-    mul-put-if-2
-    add-put-if-2
     put-if-requires
     add-k
     loop2-less

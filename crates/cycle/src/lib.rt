@@ -20,7 +20,7 @@ fn first_looped(w: &[u64], n: usize) -> usize
     ensures { λ r. ⌜ r ≡ least n (looped (now (w .entry))) ⌝ }
 {
     for x in 0..n {
-        if bits::get(w, (area::LAYERS + x * area::GRID) * 64 + x) {
+        if area::grid::get(w, area::LAYERS, x, x) {
             return x;
         }
     }

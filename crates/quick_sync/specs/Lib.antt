@@ -6,3 +6,7 @@ pub mod Rows
 pub mod Breaks
 pub mod Pairs
 pub mod State
+pub mod Words
+pub mod Grids
+pub mod Along
+pub mod Like

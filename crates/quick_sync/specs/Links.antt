@@ -53,8 +53,12 @@ led t = times (t .rows) (released t) (handed t)
 unfoldable pub ahead : Table → ℕ → ℕ → Bool
 ahead t a c = barrier (t .row a) and upTo t a c
 
+-- the same to barriers
+unfoldable pub aheadTo : Table → ℕ → ℕ → Bool
+aheadTo t a c = ahead t a c and barrier (t .row c)
+
 unfoldable pub metBy : Table → ℕ → ℕ → Bool
-metBy t = times (t .rows) (joins t) (ahead t)
+metBy t = times (t .rows) (joins t) (aheadTo t)
 
 unfoldable pub passed : Table → ℕ → ℕ → Bool
 passed t = times (t .rows) (ahead t) (metBy t)
@@ -62,7 +66,7 @@ passed t = times (t .rows) (ahead t) (metBy t)
 -- M5 in these terms
 unfoldable pub syncBy : Table → ℕ → ℕ → Bool
 syncBy t a b =
-    acquires (t .row b) and (led t a b or (barrier (t .row a) and barrier (t .row b) and passed t a b)) and not (eqb a b)
+    acquires (t .row b) and (led t a b or passed t a b) and not (eqb a b)
     and together (t .places) (t .row a) (t .row b)
 
 -- ---- laws
@@ -242,31 +246,47 @@ module _ (t : Table) where
   unfolding joins sameInstance control barrier
   joins-barrier c d e = or-right (eqb (t .row d .kind) 5) (split (split (split (split e .0) .1) .0) .1)
 
-  met-is : (b c : ℕ) → metBy t c b ≡ anyBelow (t .rows) (arrives t b c)
-  unfolding metBy times byWay ahead arrives
-  met-is b c =
-      any-cong _ _ (t .rows)
-      (λ d l. bool-ext _ _ (λ e. let s = split e in and-true (split (s .1) .1) (s .0)) (λ e. let s = split e in and-true (s .1) (and-true (joins-barrier c d (s .1)) (s .0))))
+  met-is : (b c : ℕ) → metBy t c b ≡ (barrier (t .row b) and anyBelow (t .rows) (arrives t b c))
+  unfolding metBy times byWay aheadTo ahead arrives
+  met-is b c = bool-ext _ _ forth back
+    where
+      forth : anyBelow (t .rows) (λ d. joins t c d and (barrier (t .row d) and upTo t d b and barrier (t .row b))) ≡ true
+          → (barrier (t .row b) and anyBelow (t .rows) (λ d. upTo t d b and joins t c d)) ≡ true
+      forth e =
+          let d = any-out _ (t .rows) e in
+          let s = split (d .2) in
+          let u = split (s .1) in
+          and-true (u .1) (any-in _ (t .rows) (d .0) (d .1) (and-true (split (u .0) .1) (s .0)))
 
-  passed-is : (a b : ℕ) → passed t a b ≡ (barrier (t .row a) and anyBelow (t .rows) (passes t a b))
+      back : (barrier (t .row b) and anyBelow (t .rows) (λ d. upTo t d b and joins t c d)) ≡ true
+          → anyBelow (t .rows) (λ d. joins t c d and (barrier (t .row d) and upTo t d b and barrier (t .row b))) ≡ true
+      back e =
+          let s = split e in
+          let d = any-out _ (t .rows) (s .1) in
+          let u = split (d .2) in
+          any-in _ (t .rows) (d .0) (d .1) (and-true (u .1) (and-true (and-true (joins-barrier c (d .0) (u .1)) (u .0)) (s .0)))
+
+  passed-is : (a b : ℕ) → passed t a b ≡ (barrier (t .row a) and barrier (t .row b) and anyBelow (t .rows) (passes t a b))
   unfolding passed times byWay ahead passes
   passed-is a b = bool-ext _ _ forth back
     where
       forth : anyBelow (t .rows) (λ c. barrier (t .row a) and upTo t a c and metBy t c b) ≡ true
-          → (barrier (t .row a) and anyBelow (t .rows) (λ c. upTo t a c and anyBelow (t .rows) (arrives t b c))) ≡ true
+          → (barrier (t .row a) and barrier (t .row b) and anyBelow (t .rows) (λ c. upTo t a c and anyBelow (t .rows) (arrives t b c))) ≡ true
       forth e =
           let c = any-out _ (t .rows) e in
           let s = split (c .2) in
           let u = split (s .0) in
-          and-true (u .0) (any-in _ (t .rows) (c .0) (c .1) (and-true (u .1) (sym (met-is b (c .0)) ∙ s .1)))
+          let m = split (sym (met-is b (c .0)) ∙ s .1) in
+          and-true (and-true (u .0) (m .0)) (any-in _ (t .rows) (c .0) (c .1) (and-true (u .1) (m .1)))
 
-      back : (barrier (t .row a) and anyBelow (t .rows) (λ c. upTo t a c and anyBelow (t .rows) (arrives t b c))) ≡ true
+      back : (barrier (t .row a) and barrier (t .row b) and anyBelow (t .rows) (λ c. upTo t a c and anyBelow (t .rows) (arrives t b c))) ≡ true
           → anyBelow (t .rows) (λ c. barrier (t .row a) and upTo t a c and metBy t c b) ≡ true
       back e =
           let s = split e in
+          let o = split (s .0) in
           let c = any-out _ (t .rows) (s .1) in
           let u = split (c .2) in
-          any-in _ (t .rows) (c .0) (c .1) (and-true (and-true (s .0) (u .0)) (met-is b (c .0) ∙ u .1))
+          any-in _ (t .rows) (c .0) (c .1) (and-true (and-true (o .0) (u .0)) (met-is b (c .0) ∙ and-true (o .1) (u .1)))
 
   -- a release synchronizes-with what it is linked to, or passes to
   module _ (a b : ℕ) (la : a < t .rows) (lb : b < t .rows) where
@@ -304,19 +324,18 @@ module _ (t : Table) where
         let u = split (s .0) in
         let v = split (u .0) in
         let z = split (v .0) in
-        and-true (and-true (and-true q (or-right (led t a b) (and-true (and-true (z .1) (v .1)) (passed-is a b ∙ and-true (z .1) (s .1))))) (z .0)) (u .1)
+        and-true (and-true (and-true q (or-right (led t a b) (passed-is a b ∙ and-true (and-true (z .1) (v .1)) (s .1)))) (z .0)) (u .1)
 
     link : not (eqb a b) ≡ true → together (t .places) (t .row a) (t .row b) ≡ true → led t a b ≡ true → linked t a b ≡ true
     unfolding linked
     link d g h = and-true (and-true d g) (split (sym (led-is a b) ∙ h) .1)
 
-    by-passing : not (eqb a b) ≡ true → together (t .places) (t .row a) (t .row b) ≡ true → (barrier (t .row a) and barrier (t .row b) and passed t a b) ≡ true
-        → syncControl t a b ≡ true
+    by-passing : not (eqb a b) ≡ true → together (t .places) (t .row a) (t .row b) ≡ true → passed t a b ≡ true → syncControl t a b ≡ true
     unfolding syncControl
     by-passing d g h =
-        let s = split h in
+        let s = split (sym (passed-is a b) ∙ h) in
         let u = split (s .0) in
-        and-true (and-true (and-true (and-true d (u .0)) (u .1)) g) (split (sym (passed-is a b) ∙ s .1) .1)
+        and-true (and-true (and-true (and-true d (u .0)) (u .1)) g) (s .1)
 
     of-by : releases (t .row a) ≡ true → syncBy t a b ≡ true
         → (acquires (t .row b) ≡ true) × ((syncAtomics t a b or syncFromBarrier t a b or syncToBarrier t a b or syncBarriers t a b or syncControl t a b) ≡ true)

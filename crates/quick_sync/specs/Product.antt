@@ -190,3 +190,9 @@ pub times-held : {w u : List ℕ} {x y c a b n : ℕ} {r s : ℕ → ℕ → Boo
     → Made x y c GRID n (times n (grid w a) (grid w b)) w u → Made x y c GRID n (times n r s) w u
 times-held {w} {u} {x} {y} {c} {a} {b} {n} {r} {s} ha hb =
     made-cong (λ i k p q. times-cong n (grid w a) (grid w b) r s i k (λ j m. ha .cell i j p m) (λ j m. hb .cell j k m q))
+
+-- of a relation and what a grid holds
+pub times-right : {w u : List ℕ} {x y c b n : ℕ} {r q s : ℕ → ℕ → Bool} → ((i j : ℕ) → r i j ≡ q i j) → Holds b GRID n s w → Made x y c GRID n (times n r (grid w b)) w u
+    → Made x y c GRID n (times n q s) w u
+times-right {w} {u} {x} {y} {c} {b} {n} {r} {q} {s} e hb =
+    made-cong (λ i k p o. times-cong n r (grid w b) q s i k (λ j m. e i j) (λ j m. hb .cell j k m o))

@@ -1,11 +1,15 @@
--- Where the grids stand that synchronizes-with is made of: over happens-before, which is made after it. A grid each, in the order
--- in which they are made.
-use Prim.Native.Nat.{ℕ, _+_}
+-- Where the grids stand that synchronizes-with is made of: over happens-before, which is made after it. A grid each. What links are
+-- made of gives its place to what is made of control barriers, and that to what is known of scopes.
+use Prim.Native.Nat.{ℕ, _+_, _*_}
 use Rattle.area.specs.Regions.{HAPPENS, ROWS-GRID}
+
+-- which acquires a release is linked to
+abbrev pub LINKS : ℕ
+LINKS = HAPPENS
 
 -- which writers carry what a release has behind it
 abbrev pub HEADS : ℕ
-HEADS = HAPPENS
+HEADS = LINKS + ROWS-GRID
 
 -- who reads from whose release sequence
 abbrev pub TAKES : ℕ
@@ -19,25 +23,32 @@ GETS = TAKES + ROWS-GRID
 abbrev pub HANDS : ℕ
 HANDS = GETS + ROWS-GRID
 
--- which acquires a release is linked to
-abbrev pub LINKS : ℕ
-LINKS = HANDS + ROWS-GRID
+abbrev pub HANDS-END : ℕ
+HANDS-END = HANDS + ROWS-GRID
 
--- program order from barriers to rows, each with itself
-abbrev pub UP-TO : ℕ
-UP-TO = LINKS + ROWS-GRID
+-- each barrier with itself
+abbrev pub ALONE : ℕ
+ALONE = LINKS + ROWS-GRID
 
 -- which control barriers join
 abbrev pub JOINS : ℕ
-JOINS = UP-TO + ROWS-GRID
+JOINS = ALONE + ROWS-GRID
 
--- which rows a control barrier is met before
+-- which barriers a control barrier is met before
 abbrev pub MEETS : ℕ
 MEETS = JOINS + ROWS-GRID
 
--- which rows a row passes to by way of a control barrier
+-- which barriers a barrier passes to by way of a control barrier
 abbrev pub PASSED : ℕ
 PASSED = MEETS + ROWS-GRID
 
-abbrev pub PASSED-END : ℕ
-PASSED-END = PASSED + ROWS-GRID
+-- what the rows of each agent have: an agent is a byte
+abbrev pub AGENTS : ℕ
+AGENTS = PASSED + ROWS-GRID
+
+-- program order between barriers, each with itself
+abbrev pub UP-TO : ℕ
+UP-TO = AGENTS + 2 * ROWS-GRID
+
+abbrev pub UP-TO-END : ℕ
+UP-TO-END = UP-TO + ROWS-GRID

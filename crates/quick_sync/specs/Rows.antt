@@ -7,7 +7,7 @@ use Prim.Native.Nat.{ℕ, zero, suc, _+_, _*_, _≤_, _<_}
 use native.Mathlib.Omega.{arith}
 use native.Mathlib.Decide.{ℕ-discrete}
 use lib.Dec.{eqb, leb}
-use borrow.Author.Tests.{ne-eqb, eq-eqb, lt-leb, leb-true, le-ltb, not-false}
+use borrow.Author.Tests.{ne-eqb, eq-eqb, leb-true, le-ltb, not-false}
 use Rattle.finite.specs.Logic.{_and_, _or_, not-out, split, and-true, and-false-left, and-false-right, or-left, or-right, or-off, or-none, and-on}
 use Rattle.finite.specs.Below.{anyBelow, any-off, any-not}
 use Rattle.bits.specs.Bit.{setBit, setBitIf}
@@ -19,11 +19,11 @@ use Rattle.model.specs.Row.{PLAIN-READ, ATOMIC-READ, ATOMIC-WRITE, RMW, CONTROL
 use Rattle.model.specs.Table.{decode, rowOf, sourceOf, atomicSource}
 use Rattle.model.specs.Scope.{sameLocation, together, mutualRows, mutually}
 use Rattle.model.specs.Moment.{sameAgent}
-use Rattle.model.specs.Synchronizes.{sequence, takesFrom, leads, trails, upTo, joins, synchronizes}
+use Rattle.model.specs.Synchronizes.{sequence, takesFrom, leads, trails, joins, synchronizes}
 use Rattle.rows.specs.Starts.{starts-apart}
 use Rattle.rules.specs.Forms.{takes-on, takes-none as takes-past}
 use Rattle.quick_sync.specs.Product.{byWay, times}
-use Rattle.quick_sync.specs.Links.{heads, gets, released, gotten, handed, led, ahead, metBy, passed, syncBy, by-atomics, sync-is}
+use Rattle.quick_sync.specs.Links.{heads, gets, released, gotten, handed, led, metBy, passed, syncBy, by-atomics, sync-is}
 
 -- ---- definitions
 
@@ -195,33 +195,9 @@ module _ (b : List ℕ) (p : List (List ℕ)) (mode : Mode) (n : ℕ) where
 
   -- ---- laws: control barriers
 
-  pub ahead-none : (a : ℕ) (r : Row) (u : Bool) → r ≡ rowOf b a → u ≡ barrier r → not u ≡ true → (c : ℕ) → ahead (decode b p mode n) a c ≡ false
-  unfolding ahead decode
-  ahead-none a r u er eu h c = and-false-left _ _ (rw (← er, ← eu) (not-out u h))
-
-  pub ahead-on : (a c : ℕ) (r : Row) (u v : Bool) → r ≡ rowOf b a → u ≡ barrier r → not u ≡ false → v ≡ upTo (decode b p mode n) a c → v ≡ ahead (decode b p mode n) a c
-  unfolding ahead decode
-  ahead-on a c r u v er eu h ev = ev ∙ sym (and-on _ _ (sym (ap barrier er) ∙ sym eu ∙ not-false u h))
-
-  -- an earlier row
-  pub ahead-back : (a c : ℕ) → c < a → ahead (decode b p mode n) a c ≡ false
-  unfolding ahead upTo
-  ahead-back a c l = and-false-right _ _ (and-false-left _ _ (lt-leb a c l))
-
-  pub joins-kind : (c d k : ℕ) → k ≡ rowOf b d .kind → (k ≡ CONTROL → ⊥) → false ≡ joins (decode b p mode n) c d
-  unfolding joins sameInstance control decode
-  joins-kind c d k e h = sym (and-false-left _ _ (and-false-right _ _ (and-false-left _ _ (and-false-right _ _ (ne-eqb (rowOf b d .kind) CONTROL (λ q. h (e ∙ q)))))))
-
-  pub joins-off : (c d : ℕ) (r q : Row) (u : Bool) → r ≡ rowOf b c → q ≡ rowOf b d → u ≡ sameInstance r q → not u ≡ true → false ≡ joins (decode b p mode n) c d
-  unfolding joins decode
-  joins-off c d r q u er eq eu h = sym (and-false-left _ _ (and-false-right _ _ (rw (← er, ← eq, ← eu) (not-out u h))))
-
   joins-control : (c d : ℕ) → control (rowOf b c) ≡ false → joins (decode b p mode n) c d ≡ false
   unfolding joins sameInstance decode
   joins-control c d e = and-false-left _ _ (and-false-right _ _ (and-false-left _ _ (and-false-left _ _ e)))
-
-  pub joins-none : (c : ℕ) (r : Row) (u : Bool) → r ≡ rowOf b c → u ≡ control r → not u ≡ true → (d : ℕ) → joins (decode b p mode n) c d ≡ false
-  joins-none c r u er eu h d = joins-control c d (sym (ap control er) ∙ sym eu ∙ not-out u h)
 
   -- without control barriers no row passes to another
   pub passed-none : anyBelow n (controlOf b) ≡ false → (a c : ℕ) → passed (decode b p mode n) a c ≡ false
@@ -247,14 +223,14 @@ module _ (b : List ℕ) (p : List (List ℕ)) (mode : Mode) (n : ℕ) where
   pub sync-unlinked : (a c : ℕ) → a < n → c < n → led (decode b p mode n) a c ≡ false → passed (decode b p mode n) a c ≡ false → synchronizes (decode b p mode n) a c ≡ false
   unfolding syncBy decode
   sync-unlinked a c la lc e f =
-      sync-is (decode b p mode n) a c la lc ∙ and-false-right _ _ (and-false-left _ _ (and-false-left _ _ (and-false-right _ _ (or-none e (and-false-right _ _ f)))))
+      sync-is (decode b p mode n) a c la lc ∙ and-false-right _ _ (and-false-left _ _ (and-false-left _ _ (and-false-right _ _ (or-none e f))))
 
   module _ (a c : ℕ) (r : Row) (v w : Bool) (er : r ≡ rowOf b a) (ev : v ≡ led (decode b p mode n) a c) (ew : w ≡ passed (decode b p mode n) a c) where
-    pub sync-linked : (q : Row) (u x y z : Bool) → q ≡ rowOf b c → u ≡ acquires q → not u ≡ false → x ≡ barrier r → y ≡ barrier q → z ≡ together p r q
-        → ((v or (x and y and w)) and not (eqb a c) and z) ≡ syncBy (decode b p mode n) a c
+    pub sync-linked : (q : Row) (u z : Bool) → q ≡ rowOf b c → u ≡ acquires q → not u ≡ false → z ≡ together p r q
+        → ((v or w) and not (eqb a c) and z) ≡ syncBy (decode b p mode n) a c
     unfolding syncBy decode
-    sync-linked q u x y z eq eu h ex ey ez =
-        rw (ex, ey, ez, er, eq, ev, ew)
+    sync-linked q u z eq eu h ez =
+        rw (ez, er, eq, ev, ew)
         (ap (λ (k : Bool). k and not (eqb a c) and together p (rowOf b a) (rowOf b c)) (sym (and-on _ _ (sym (ap acquires eq) ∙ sym eu ∙ not-false u h))))
 
   -- a row that doesn't release, and one that does

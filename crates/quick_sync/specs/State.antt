@@ -1,7 +1,7 @@
 -- What the work area holds between the stages of this crate, and after them. Assumes nothing.
 use mathlib.Core.Path.{_≡_, sym, _∙_}
 use mathlib.Core.Bool.{Bool, false}
-use mathlib.Core.List.{List}
+use mathlib.Core.List.{List, []}
 use Prim.Native.Nat.{ℕ, _+_, _-_, _*_, _≤_, _<_}
 use native.Mathlib.Omega.{arith}
 use lib.ListN.{length}
@@ -9,19 +9,21 @@ use Rattle.finite.specs.Logic.{or-false}
 use Rattle.bits.specs.Bit.{bit, zeros, bit-zeros-in}
 use Rattle.bits.specs.Within.{Within, within-trans, within-widen, within-cleared}
 use Rattle.bits.specs.Matrix.{rel}
-use Rattle.bits.specs.Stage.{Holds, Made, holds-kept}
+use Rattle.bits.specs.Stage.{Holds, Made, holds-kept, holds-cong, made-cong}
 use Rattle.model.specs.declared.Mode.{Mode}
 use Rattle.model.specs.Limits.{ROWS}
-use Rattle.model.specs.Table.{Table, decode}
+use Rattle.model.specs.Table.{Table, OFF, decode}
 use Rattle.model.specs.Scope.{mutually}
 use Rattle.model.specs.Synchronizes.{takesFrom, joins, sequence, synchronizes}
 use Rattle.area.specs.Regions.{MUTUAL, MUTUAL-END, SEQUENCE, SEQUENCE-END, SYNC, SYNC-END, HAPPENS, HAPPENS-END, GRID, ROWS-GRID}
 use Rattle.sequence.specs.Known.{Synced, known-made, known-kept}
-use Rattle.quick_sync.specs.Regions.{HEADS, TAKES, GETS, HANDS, LINKS, UP-TO, JOINS, MEETS, PASSED, PASSED-END}
-use Rattle.quick_sync.specs.Product.{grid, times, times-held}
+use Rattle.quick_sync.specs.Regions.{LINKS, HEADS, TAKES, GETS, HANDS, HANDS-END, ALONE, JOINS, MEETS, PASSED, AGENTS, UP-TO, UP-TO-END}
+use Rattle.quick_sync.specs.Product.{grid, times, times-held, times-right}
 use Rattle.quick_sync.specs.Walk.{either}
 use Rattle.quick_sync.specs.Links.{released, gotten, handed, led, ahead, metBy, passed}
 use Rattle.quick_sync.specs.Rows.{sync-unlinked}
+use Rattle.quick_sync.specs.Along.{alone, alone-times, ahead-any}
+use Rattle.quick_sync.specs.Like.{joins-any}
 
 -- ---- definitions
 
@@ -36,9 +38,14 @@ pub record MadeLinked (t : Table) (n : ℕ) (w u : List ℕ) : Type 0 where
 
 -- ---- laws
 
--- a change in earlier words keeps it
-pub linked-kept : {t : Table} {n c d : ℕ} {w u : List ℕ} → d ≤ HAPPENS → Within c d w u → Linked t n w → Linked t n u
-linked-kept l f k = record { links = holds-kept (λ h. omega arith) f (k .links); passing = holds-kept (λ h. omega arith) f (k .passing) }
+-- a change in earlier words, or in later ones, keeps it
+pub linked-kept : {t : Table} {n c d : ℕ} {w u : List ℕ} → (c < AGENTS → d ≤ HAPPENS) → Within c d w u → Linked t n w → Linked t n u
+linked-kept {n = n} {c = c} {d = d} l f k =
+    let few : n ≤ 64 * GRID = k .links .fits in
+    record {
+      links = holds-kept (λ h. let g : d ≤ HAPPENS = l (omega arith) in omega arith) f (k .links);
+      passing = holds-kept (λ h. let g : d ≤ HAPPENS = l (omega arith) in omega arith) f (k .passing);
+    }
 
 -- a row that a walk over the two grids passes by
 pub sync-passed : (b : List ℕ) (p : List (List ℕ)) (mode : Mode) (n : ℕ) {w : List ℕ} (a c : ℕ) → a < n → c < n → Linked (decode b p mode n) n w
@@ -49,40 +56,43 @@ sync-passed b p mode n {w} a c la lc k e =
     sync-unlinked b p mode n a c la lc (sym (k .links .cell a c la lc) ∙ s .0) (sym (k .passing .cell a c la lc) ∙ s .1)
 
 -- a grid that holds nothing, and is cleared
-pub cleared-made : (c a n : ℕ) {r : ℕ → ℕ → Bool} {w u : List ℕ} → c ≤ a → a + ROWS-GRID ≤ length w → n ≤ ROWS → u ≡ zeros w a (a + ROWS-GRID - a) → ((i j : ℕ) → r i j ≡ false)
-    → Made c (a + ROWS-GRID) a GRID n r w u
+pub cleared-made : (c d a n : ℕ) {r : ℕ → ℕ → Bool} {w u : List ℕ} → c ≤ a → a + ROWS-GRID ≤ d → a + ROWS-GRID ≤ length w → n ≤ ROWS → u ≡ zeros w a (a + ROWS-GRID - a) → ((i j : ℕ) → r i j ≡ false)
+    → Made c d a GRID n r w u
 unfolding rel
-cleared-made c a n {r} {w} {u} l room few e none =
+cleared-made c d a n {r} {w} {u} l o room few e none =
     record {
       holds = record {
         fits = omega arith;
         cell = λ i j p q. rw (e, none i j) (bit-zeros-in w a (a + ROWS-GRID - a) ((a + i * GRID) * 64 + j) (omega arith) (omega arith) (omega arith));
       };
-      frame = within-widen c (a + ROWS-GRID) l (omega arith) (within-cleared a (a + ROWS-GRID) (omega arith) e);
+      frame = within-widen c d l o (within-cleared a (a + ROWS-GRID) (omega arith) e);
     }
 
 -- the stages in order
 module _ (b : List ℕ) (p : List (List ℕ)) (mode : Mode) (n : ℕ) where
-  pub passed-made : {w v x y u : List ℕ} → Made UP-TO JOINS UP-TO GRID n (ahead (decode b p mode n)) w v → Made JOINS MEETS JOINS GRID n (joins (decode b p mode n)) v x
-      → Made MEETS (MEETS + ROWS-GRID) MEETS GRID n (times n (grid x JOINS) (grid x UP-TO)) x y
-      → Made PASSED (PASSED + ROWS-GRID) PASSED GRID n (times n (grid y UP-TO) (grid y MEETS)) y u → Made UP-TO PASSED-END PASSED GRID n (passed (decode b p mode n)) w u
+  pub passed-made : {w v x y z u : List ℕ} → Made ALONE JOINS ALONE GRID n (alone b) w v
+      → Made PASSED UP-TO-END UP-TO GRID n (times n (ahead (decode b [] OFF n)) (grid v ALONE)) v x
+      → Made JOINS MEETS JOINS GRID n (joins (decode b p OFF n)) x y
+      → Made MEETS (MEETS + ROWS-GRID) MEETS GRID n (times n (grid y JOINS) (grid y UP-TO)) y z
+      → Made PASSED UP-TO-END PASSED GRID n (times n (ahead (decode b [] OFF n)) (grid z MEETS)) z u → Made ALONE UP-TO-END PASSED GRID n (passed (decode b p mode n)) w u
   unfolding passed metBy decode
-  passed-made {w} {v} {x} {y} {u} a g c d =
-      let few : n ≤ 64 * GRID = a .holds .fits in
-      let ax = holds-kept (λ h. absurd (omega arith)) (g .frame) (a .holds) in
-      let m = times-held (g .holds) ax c in
-      let ay = holds-kept (λ h. absurd (omega arith)) (c .frame) ax in
-      let q = times-held ay (m .holds) d in
+  passed-made {w} {v} {x} {y} {z} {u} al up jo me pa =
+      let few : n ≤ 64 * GRID = al .holds .fits in
+      let ux = made-cong (λ i k l m. alone-times b p mode n i k m) (times-right (λ i j. ahead-any b p mode n i j) (al .holds) up) in
+      let uy = holds-kept (λ h. omega arith) (jo .frame) (ux .holds) in
+      let mz = times-held (holds-cong (λ i j l m. joins-any b p mode n i j) (jo .holds)) uy me in
+      let pu = times-right (λ i j. ahead-any b p mode n i j) (mz .holds) pa in
       record {
-        holds = q .holds;
-        frame = within-trans (within-widen UP-TO PASSED-END (omega arith) (omega arith) (a .frame))
-            (within-trans (within-widen UP-TO PASSED-END (omega arith) (omega arith) (g .frame))
-            (within-trans (within-widen UP-TO PASSED-END (omega arith) (omega arith) (c .frame)) (within-widen UP-TO PASSED-END (omega arith) (omega arith) (d .frame))));
+        holds = pu .holds;
+        frame = within-trans (within-widen ALONE UP-TO-END (omega arith) (omega arith) (al .frame))
+            (within-trans (within-widen ALONE UP-TO-END (omega arith) (omega arith) (up .frame))
+            (within-trans (within-widen ALONE UP-TO-END (omega arith) (omega arith) (jo .frame))
+            (within-trans (within-widen ALONE UP-TO-END (omega arith) (omega arith) (me .frame)) (within-widen ALONE UP-TO-END (omega arith) (omega arith) (pa .frame)))));
       }
 
   pub links-made : {w v x y z u : List ℕ} → Made HEADS TAKES HEADS GRID n (released (decode b p mode n)) w v → Made TAKES GETS TAKES GRID n (takesFrom (decode b p mode n)) v x
       → Made GETS HANDS GETS GRID n (gotten (decode b p mode n)) x y → Made HANDS (HANDS + ROWS-GRID) HANDS GRID n (times n (grid y TAKES) (grid y GETS)) y z
-      → Made LINKS (LINKS + ROWS-GRID) LINKS GRID n (times n (grid z HEADS) (grid z HANDS)) z u → Made HEADS UP-TO LINKS GRID n (led (decode b p mode n)) w u
+      → Made LINKS (LINKS + ROWS-GRID) LINKS GRID n (times n (grid z HEADS) (grid z HANDS)) z u → Made LINKS HANDS-END LINKS GRID n (led (decode b p mode n)) w u
   unfolding led handed decode
   links-made {w} {v} {x} {y} {z} {u} a g c d e =
       let few : n ≤ 64 * GRID = a .holds .fits in
@@ -94,13 +104,13 @@ module _ (b : List ℕ) (p : List (List ℕ)) (mode : Mode) (n : ℕ) where
       let l = times-held az (hz .holds) e in
       record {
         holds = l .holds;
-        frame = within-trans (within-widen HEADS UP-TO (omega arith) (omega arith) (a .frame))
-            (within-trans (within-widen HEADS UP-TO (omega arith) (omega arith) (g .frame))
-            (within-trans (within-widen HEADS UP-TO (omega arith) (omega arith) (c .frame))
-            (within-trans (within-widen HEADS UP-TO (omega arith) (omega arith) (d .frame)) (within-widen HEADS UP-TO (omega arith) (omega arith) (e .frame)))));
+        frame = within-trans (within-widen LINKS HANDS-END (omega arith) (omega arith) (a .frame))
+            (within-trans (within-widen LINKS HANDS-END (omega arith) (omega arith) (g .frame))
+            (within-trans (within-widen LINKS HANDS-END (omega arith) (omega arith) (c .frame))
+            (within-trans (within-widen LINKS HANDS-END (omega arith) (omega arith) (d .frame)) (within-widen LINKS HANDS-END (omega arith) (omega arith) (e .frame)))));
       }
 
-pub linked-made : {t : Table} {n : ℕ} {w v u : List ℕ} → Made HEADS UP-TO LINKS GRID n (led t) w v → Made UP-TO PASSED-END PASSED GRID n (passed t) v u → MadeLinked t n w u
+pub linked-made : {t : Table} {n : ℕ} {w v u : List ℕ} → Made LINKS HANDS-END LINKS GRID n (led t) w v → Made ALONE UP-TO-END PASSED GRID n (passed t) v u → MadeLinked t n w u
 linked-made {n = n} l f =
     let few : n ≤ 64 * GRID = l .holds .fits in
     record {

@@ -14,7 +14,7 @@ ghost use Rattle.model.specs.Scope.{mutually};
 ghost use Rattle.model.specs.Synchronizes.{takesFrom};
 ghost use Rattle.area.specs.Regions.{GRID};
 ghost use Rattle.sequence.specs.Known.{Known};
-ghost use Rattle.quick_sync.specs.Regions.{HEADS, TAKES, GETS, HANDS, LINKS, UP-TO};
+ghost use Rattle.quick_sync.specs.Regions.{HEADS, TAKES, GETS, HANDS, HANDS-END, LINKS};
 ghost use Rattle.quick_sync.specs.Links.{heads, gets, released, gotten, led};
 ghost use Rattle.quick_sync.specs.Rows.{atomicOf};
 use crate::product;
@@ -27,7 +27,9 @@ use rows::bytes;
 use rows::kinds;
 
 // The map of the grids; specs/Regions.antt says the same.
-pub const HEADS: usize = area::HAPPENS;
+pub const LINKS: usize = area::HAPPENS;
+
+pub const HEADS: usize = LINKS + ROWS_GRID;
 
 pub const TAKES: usize = HEADS + ROWS_GRID;
 
@@ -35,7 +37,7 @@ pub const GETS: usize = TAKES + ROWS_GRID;
 
 pub const HANDS: usize = GETS + ROWS_GRID;
 
-pub const LINKS: usize = HANDS + ROWS_GRID;
+pub const HANDS_END: usize = HANDS + ROWS_GRID;
 
 // ---- from a release to the writers
 
@@ -188,7 +190,7 @@ fn has_atomic(rows: &[u8], n: usize) -> bool
 // M5: which acquires each release is linked to. Without atomics there are none.
 pub fn fill_links(rows: &[u8], p: Places, mode: Mode, n: usize, w: &mut [u64])
     requires { ⌜ (n ≤ ROWS) × (WORK ≤ length (now w)) × Known (decode (now rows) p mode n) n (now w) ⌝ }
-    ensures { λ _. ⌜ Made HEADS UP-TO LINKS GRID n (led (decode (now (rows .entry)) p mode n)) (now (w .entry)) (now (w .exit)) ⌝ }
+    ensures { λ _. ⌜ Made LINKS HANDS-END LINKS GRID n (led (decode (now (rows .entry)) p mode n)) (now (w .entry)) (now (w .exit)) ⌝ }
 {
     if !has_atomic(rows, n) {
         bits::clear(w, LINKS, LINKS + ROWS_GRID);

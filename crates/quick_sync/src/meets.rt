@@ -1,20 +1,29 @@
 // M5, control barriers: which of them join, and which rows each is met before. A table without any costs a walk over its rows.
 ghost use mathlib.Core.Path.{_≡_};
+ghost use mathlib.Core.Bool.{true};
+ghost use mathlib.Core.List.{[]};
 ghost use Prim.Native.Nat.{_+_, _*_, _≤_, _<_};
 ghost use lib.ListN.{length};
 ghost use Rattle.finite.specs.Below.{anyBelow};
 ghost use Rattle.bits.specs.Fill.{rowFill};
 ghost use Rattle.bits.specs.Stage.{Made};
+ghost use Rattle.bits.specs.Within.{Within};
 ghost use Rattle.model.specs.Limits.{ROWS, WORK};
-ghost use Rattle.model.specs.Table.{rowOf, decode};
-ghost use Rattle.model.specs.Synchronizes.{upTo, joins};
-ghost use Rattle.area.specs.Regions.{GRID};
-ghost use Rattle.quick_sync.specs.Regions.{UP-TO, JOINS, MEETS, PASSED, PASSED-END};
+ghost use Rattle.model.specs.Row.{CONTROL, barrier};
+ghost use Rattle.model.specs.Table.{OFF, rowOf, decode};
+ghost use Rattle.model.specs.Synchronizes.{joins};
+ghost use Rattle.area.specs.Regions.{GRID, ROWS-GRID};
+ghost use Rattle.quick_sync.specs.Regions.{ALONE, JOINS, MEETS, PASSED, UP-TO, UP-TO-END};
+ghost use Rattle.quick_sync.specs.Product.{grid, times};
 ghost use Rattle.quick_sync.specs.Links.{ahead, passed};
 ghost use Rattle.quick_sync.specs.Rows.{controlOf};
+ghost use Rattle.quick_sync.specs.Grids.{RowOf, RowsOf};
+ghost use Rattle.quick_sync.specs.Along.{Along, Target, alone};
+ghost use Rattle.quick_sync.specs.Like.{likeAt};
 use crate::links::LINKS;
 use crate::product;
 use crate::product::ROWS_GRID;
+use crate::words;
 use model::Mode;
 use model::Places;
 use model::Row;
@@ -22,94 +31,158 @@ use rows::bytes;
 use rows::kinds;
 use rows::scopes;
 
-pub const UP_TO: usize = LINKS + ROWS_GRID;
+pub const ALONE: usize = LINKS + ROWS_GRID;
 
-pub const JOINS: usize = UP_TO + ROWS_GRID;
+pub const JOINS: usize = ALONE + ROWS_GRID;
 
 pub const MEETS: usize = JOINS + ROWS_GRID;
 
 pub const PASSED: usize = MEETS + ROWS_GRID;
 
-pub const PASSED_END: usize = PASSED + ROWS_GRID;
+pub const AGENTS: usize = PASSED + ROWS_GRID;
 
-// ---- program order from barriers to rows, each with itself
+pub const AGENTS_END: usize = AGENTS + 2 * ROWS_GRID;
 
-// Whether row a, which is r, comes before row c, or is c.
-fn up_to_of(rows: &[u8], p: Places, mode: Mode, n: usize, a: usize, r: Row, c: usize) -> bool
-    requires { ⌜ (c < ROWS) × (r ≡ rowOf (now rows) a) ⌝ }
-    ensures { λ b. ⌜ b ≡ upTo (decode (now (rows .entry)) p mode n) a c ⌝ }
+pub const UP_TO: usize = AGENTS_END;
+
+// ---- along program order
+
+fn barrier_at(rows: &[u8], a: usize) -> bool
+    requires { ⌜ a < ROWS ⌝ }
+    ensures { λ b. ⌜ b ≡ barrier (rowOf (now (rows .entry)) a) ⌝ }
 {
-    let q = bytes::read_agent(rows, c as u16);
-    (a <= c) & (r.agent == q)
+    let k = bytes::read_kind(rows, a as u16);
+    (k == kinds::BARRIER) | (k == kinds::CONTROL)
 }
 
-fn up_to_row(rows: &[u8], p: Places, mode: Mode, n: usize, a: usize, w: &mut [u64])
-    requires { ⌜ (n ≤ ROWS) × (a < n) × (WORK ≤ length (now w)) ⌝ }
-    ensures { λ _. ⌜ now (w .exit) ≡ rowFill (ahead (decode (now (rows .entry)) p mode n) a) (now (w .entry)) (UP-TO * 64 + a * (GRID * 64)) n ⌝ }
-{
-    let r = bytes::read_row(rows, a as u16);
-    if !kinds::is_barrier(r) {
-        return;
-    }
-    for c in a..n {
-        let b = up_to_of(rows, p, mode, n, a, r, c);
-        bits::put_if(w, (UP_TO + a * area::GRID) * 64 + c, b);
-    }
-}
-
-fn fill_up_to(rows: &[u8], p: Places, mode: Mode, n: usize, w: &mut [u64])
+// Each barrier with itself.
+fn fill_alone(rows: &[u8], n: usize, w: &mut [u64])
     requires { ⌜ (n ≤ ROWS) × (WORK ≤ length (now w)) ⌝ }
-    ensures { λ _. ⌜ Made UP-TO JOINS UP-TO GRID n (ahead (decode (now (rows .entry)) p mode n)) (now (w .entry)) (now (w .exit)) ⌝ }
+    ensures { λ _. ⌜ Made ALONE JOINS ALONE GRID n (alone (now (rows .entry))) (now (w .entry)) (now (w .exit)) ⌝ }
 {
-    bits::clear(w, UP_TO, JOINS);
+    bits::clear(w, ALONE, JOINS);
     for a in 0..n {
-        up_to_row(rows, p, mode, n, a, w);
+        let b = barrier_at(rows, a);
+        bits::put_if(w, (ALONE + a * area::GRID) * 64 + a, b);
+    }
+}
+
+// Row a's agent gets what row a of the grid at src has, and row a of the grid at dst, if it is a barrier, what its agent has by now:
+// the rows after it were gone by.
+fn along_row(rows: &[u8], n: usize, dst: usize, src: usize, a: usize, w: &mut [u64])
+    requires { ⌜ (n ≤ ROWS) × (a < n) × (WORK ≤ length (now w)) × Target dst src × Along (now rows) n dst src (a + 1) (now w) ⌝ }
+    ensures { λ _. ⌜ Along (now (rows .entry)) n dst src a (now (w .exit)) × Within PASSED UP-TO-END (now (w .entry)) (now (w .exit)) ⌝ }
+{
+    let own = AGENTS + (bytes::read_agent(rows, a as u16) as usize) * area::GRID;
+    bits::join_row(w, own, src + a * area::GRID, area::GRID);
+    if barrier_at(rows, a) {
+        bits::join_row(w, dst + a * area::GRID, own, area::GRID);
+    }
+}
+
+// The grid at dst becomes the product of program order from barriers and the grid at src: from the last row on, an agent at a time.
+fn fill_along(rows: &[u8], n: usize, dst: usize, src: usize, w: &mut [u64])
+    requires { ⌜ (n ≤ ROWS) × (WORK ≤ length (now w)) × Target dst src ⌝ }
+    ensures { λ _. ⌜ Made PASSED UP-TO-END dst GRID n (times n (ahead (decode (now (rows .entry)) [] OFF n)) (grid (now (w .entry)) src)) (now (w .entry)) (now (w .exit)) ⌝ }
+{
+    bits::clear(w, AGENTS, AGENTS_END);
+    bits::clear(w, dst, dst + ROWS_GRID);
+    for i in 0..n {
+        along_row(rows, n, dst, src, n - 1 - i, w);
     }
 }
 
 // ---- control barriers that join
 
-// M5: whether row c, which is r, and row d join. Most rows are no control barrier, or of another instance, and no place is asked
-// of them.
-fn joins_of(rows: &[u8], p: Places, mode: Mode, n: usize, c: usize, r: Row, d: usize) -> bool
-    requires { ⌜ (d < ROWS) × (r ≡ rowOf (now rows) c) ⌝ }
-    ensures { λ b. ⌜ b ≡ joins (decode (now (rows .entry)) p mode n) c d ⌝ }
+// M5: whether the control barrier c, which is r, and row d join. Most rows are of no instance, or of another, and no place is asked of
+// them.
+fn joins_of(rows: &[u8], p: &[[u16; 4]], n: usize, c: usize, r: Row, d: usize) -> bool
+    requires { ⌜ (d < ROWS) × (r ≡ rowOf (now rows) c) × (r .kind ≡ CONTROL) ⌝ }
+    ensures { λ b. ⌜ b ≡ joins (decode (now (rows .entry)) (now (p .entry)) OFF n) c d ⌝ }
 {
-    if bytes::read_kind(rows, d as u16) != kinds::CONTROL {
+    if !scopes::is_of_instance(rows, r.start, d as u16) {
         return false;
     }
-    let q = bytes::read_row(rows, d as u16);
-    if !kinds::same_instance(r, q) {
+    if c == d {
         return false;
     }
-    !(c == d) & kinds::same_instance(r, q) & scopes::shares_scope(p, r.class, r.agent, q.agent)
+    scopes::shares_in(p, r.class, r.agent, bytes::read_agent(rows, d as u16))
 }
 
-fn joins_row(rows: &[u8], p: Places, mode: Mode, n: usize, c: usize, w: &mut [u64])
-    requires { ⌜ (n ≤ ROWS) × (c < n) × (WORK ≤ length (now w)) ⌝ }
-    ensures { λ _. ⌜ now (w .exit) ≡ rowFill (joins (decode (now (rows .entry)) p mode n) c) (now (w .entry)) (JOINS * 64 + c * (GRID * 64)) n ⌝ }
+fn scan_row(rows: &[u8], p: &[[u16; 4]], n: usize, c: usize, r: Row, w: &mut [u64])
+    requires { ⌜ (n ≤ ROWS) × (c < n) × (WORK ≤ length (now w)) × (r ≡ rowOf (now rows) c) × (r .kind ≡ CONTROL) ⌝ }
+    ensures { λ _. ⌜ now (w .exit) ≡ rowFill (joins (decode (now (rows .entry)) (now (p .entry)) OFF n) c) (now (w .entry)) (JOINS * 64 + c * (GRID * 64)) n ⌝ }
 {
-    let r = bytes::read_row(rows, c as u16);
-    if !kinds::is_control(r) {
-        return;
-    }
     for d in 0..n {
-        let b = joins_of(rows, p, mode, n, c, r, d);
+        let b = joins_of(rows, p, n, c, r, d);
         bits::put_if(w, (JOINS + c * area::GRID) * 64 + d, b);
     }
 }
 
-fn fill_joins(rows: &[u8], p: Places, mode: Mode, n: usize, w: &mut [u64])
+// Whether row e joins what row c, which is the control barrier r, joins: it is of its instance, has its execution scope, and shares it.
+fn is_like(rows: &[u8], p: &[[u16; 4]], c: usize, r: Row, e: usize) -> bool
+    requires { ⌜ (e < ROWS) × (r ≡ rowOf (now rows) c) ⌝ }
+    ensures { λ b. ⌜ b ≡ likeAt (now (rows .entry)) (now (p .entry)) c e ⌝ }
+{
+    if !scopes::is_of_instance(rows, r.start, e as u16) {
+        return false;
+    }
+    if bytes::row_byte(rows, e as u16, 6) != r.class {
+        return false;
+    }
+    scopes::shares_in(p, r.class, r.agent, bytes::read_agent(rows, e as u16))
+}
+
+// The last row before c that is; c where none is.
+fn like_of(rows: &[u8], p: &[[u16; 4]], c: usize, r: Row) -> usize
+    requires { ⌜ (c < ROWS) × (r ≡ rowOf (now rows) c) ⌝ }
+    ensures { λ e. ⌜ (e ≤ c) × (e < c → likeAt (now (rows .entry)) (now (p .entry)) c e ≡ true) ⌝ }
+{
+    let mut e = c;
+    while 0 < e {
+        e = e - 1;
+        if is_like(rows, p, c, r, e) {
+            return e;
+        }
+    }
+    c
+}
+
+// M5 for row c and every row. One that is like an earlier row joins that row, and what it joins.
+fn joins_row(rows: &[u8], p: &[[u16; 4]], n: usize, c: usize, w: &mut [u64])
+    requires { ⌜ (n ≤ ROWS) × (c < n) × (WORK ≤ length (now w)) × RowsOf JOINS n c (joins (decode (now rows) (now p) OFF n)) (now w) ⌝ }
+    ensures { λ _. ⌜ RowOf JOINS n c (joins (decode (now (rows .entry)) (now (p .entry)) OFF n) c) (now (w .entry)) (now (w .exit)) ⌝ }
+{
+    let r = bytes::read_row(rows, c as u16);
+    if r.kind != kinds::CONTROL {
+        return;
+    }
+    let e = like_of(rows, p, c, r);
+    if e == c {
+        scan_row(rows, p, n, c, r, w);
+        return;
+    }
+    bits::join_row(
+        w,
+        JOINS + c * area::GRID,
+        JOINS + e * area::GRID,
+        area::GRID,
+    );
+    bits::put(w, (JOINS + c * area::GRID) * 64 + e);
+    words::drop_bit(w, (JOINS + c * area::GRID) * 64 + c);
+}
+
+fn fill_joins(rows: &[u8], p: &[[u16; 4]], n: usize, w: &mut [u64])
     requires { ⌜ (n ≤ ROWS) × (WORK ≤ length (now w)) ⌝ }
-    ensures { λ _. ⌜ Made JOINS MEETS JOINS GRID n (joins (decode (now (rows .entry)) p mode n)) (now (w .entry)) (now (w .exit)) ⌝ }
+    ensures { λ _. ⌜ Made JOINS MEETS JOINS GRID n (joins (decode (now (rows .entry)) (now (p .entry)) OFF n)) (now (w .entry)) (now (w .exit)) ⌝ }
 {
     bits::clear(w, JOINS, MEETS);
     for c in 0..n {
-        joins_row(rows, p, mode, n, c, w);
+        joins_row(rows, p, n, c, w);
     }
 }
 
-// ---- from a row to the rows that it passes to
+// ---- from a barrier to those that it passes to
 
 // Whether some row is a control barrier.
 fn has_control(rows: &[u8], n: usize) -> bool
@@ -124,17 +197,18 @@ fn has_control(rows: &[u8], n: usize) -> bool
     false
 }
 
-// M5: which rows each row passes to, by way of a control barrier.
+// M5: which barriers each barrier passes to, by way of a control barrier.
 pub fn fill_passed(rows: &[u8], p: Places, mode: Mode, n: usize, w: &mut [u64])
     requires { ⌜ (n ≤ ROWS) × (WORK ≤ length (now w)) ⌝ }
-    ensures { λ _. ⌜ Made UP-TO PASSED-END PASSED GRID n (passed (decode (now (rows .entry)) p mode n)) (now (w .entry)) (now (w .exit)) ⌝ }
+    ensures { λ _. ⌜ Made ALONE UP-TO-END PASSED GRID n (passed (decode (now (rows .entry)) p mode n)) (now (w .entry)) (now (w .exit)) ⌝ }
 {
     if !has_control(rows, n) {
-        bits::clear(w, PASSED, PASSED_END);
+        bits::clear(w, PASSED, AGENTS);
         return;
     }
-    fill_up_to(rows, p, mode, n, w);
-    fill_joins(rows, p, mode, n, w);
+    fill_alone(rows, n, w);
+    fill_along(rows, n, UP_TO, ALONE, w);
+    fill_joins(rows, &p, n, w);
     product::multiply(w, MEETS, JOINS, UP_TO, n);
-    product::multiply(w, PASSED, UP_TO, MEETS, n);
+    fill_along(rows, n, PASSED, MEETS, w);
 }

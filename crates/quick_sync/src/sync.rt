@@ -47,9 +47,7 @@ fn sync_of(
         return true;
     }
     let passed = bits::get(w, (meets::PASSED + a * area::GRID) * 64 + b);
-    (led | kinds::is_barrier(r) & kinds::is_barrier(q) & passed)
-        & !(a == b)
-        & scopes::together(p, r, q)
+    (led | passed) & !(a == b) & scopes::together_in(&p, r, q)
 }
 
 // M5 for the release a and every row. Few rows are linked, or passed to.

@@ -91,7 +91,7 @@ fn step_number(rows: &[u8], n: usize, s: u8, m: usize, k: usize, w: &[u64]) -> u
     ensures { λ r. ⌜ ((p : List (List ℕ)) (mode : Mode) → Synced (decode (now (rows .entry)) p mode n) n (now (w .entry))
         → r ≡ stepNumber (decode (now (rows .entry)) p mode n) s m k) ⌝ }
 {
-    let b = bits::get(w, (area::SYNC + m / 3 * area::GRID) * 64 + k / 3);
+    let b = area::grid::get(w, area::SYNC, m / 3, k / 3);
     let d = case_at(rows, n, s, m, k, b);
     model::CASE * d + (k as u16)
 }

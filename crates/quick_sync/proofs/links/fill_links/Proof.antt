@@ -2,7 +2,7 @@ use mathlib.Core.Path.{sym, _∙_}
 use native.Mathlib.Omega.{arith}
 use borrow.Author.Tests.{not-true}
 use Rattle.sequence.specs.Known.{known-kept}
-use Rattle.quick_sync.specs.Regions.{HEADS, LINKS}
+use Rattle.quick_sync.specs.Regions.{LINKS, HANDS-END}
 use Rattle.quick_sync.specs.State.{cleared-made, links-made}
 use Rattle.quick_sync.specs.Rows.{led-none}
 use borrow.Author.Needs.{needs}
@@ -37,7 +37,7 @@ same-length c = search needs
 returns : tie.Need-returns
 returns c =
     let pre = c .before .before .before .before .before .before .before .before .pre in
-    cleared-made HEADS LINKS _ (omega arith) (omega (arith, pre .1)) (pre .0) (c .before .before .clear .ensures) (led-none _ _ _ _ (sym (c .before .before .before .before .before .has-atomic .ensures) ∙ not-true _ (c .before .before .before .before .if1 .taken)))
+    cleared-made LINKS HANDS-END LINKS _ (omega arith) (omega arith) (omega (arith, pre .1)) (pre .0) (c .before .before .clear .ensures) (led-none _ _ _ _ (sym (c .before .before .before .before .before .has-atomic .ensures) ∙ not-true _ (c .before .before .before .before .if1 .taken)))
 
 -- src/links.rt:197:5
 fill-heads-requires : tie.Need-fill-heads-requires

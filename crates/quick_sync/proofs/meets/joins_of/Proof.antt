@@ -1,69 +1,60 @@
-use Rattle.finite.specs.Logic.{_and_}
-use Rattle.model.specs.Table.{decode}
-use Rattle.model.specs.Synchronizes.{joins}
-use Rattle.quick_sync.specs.Rows.{joins-kind, joins-off}
+use Rattle.quick_sync.specs.Like.{joins-other, joins-self, joins-on}
 use borrow.Author.Needs.{needs}
 use Rattle.quick_sync.proofs.meets.joins_of.Statement.{statement}
 use Rattle.quick_sync.proofs.meets.joins_of.Tie as tie
 use Rattle.quick_sync.proofs.meets.joins_of.Reads as reads
 use Rattle.quick_sync.proofs.meets.joins_of.Lts as lts
-use Rattle.rows.proofs.bytes.read_kind.Reads as read-kind-reads
-use Rattle.rows.proofs.bytes.read_row.Reads as read-row-reads
-use Rattle.rows.proofs.kinds.same_instance.Reads as same-instance-reads
-use Rattle.rows.proofs.scopes.shares_scope.Reads as shares-scope-reads
+use Rattle.rows.proofs.bytes.read_agent.Reads as read-agent-reads
+use Rattle.rows.proofs.scopes.is_of_instance.Reads as is-of-instance-reads
+use Rattle.rows.proofs.scopes.shares_in.Reads as shares-in-reads
 
--- src/meets.rt:78:31
-cast-read-kind : tie.Need-cast-read-kind
-cast-read-kind c = search needs
+-- src/meets.rt:103:47
+cast-is-of-instance : tie.Need-cast-is-of-instance
+cast-is-of-instance c = search needs
 
--- src/meets.rt:78:8
-read-kind-requires : tie.Need-read-kind-requires
-read-kind-requires c κs = search needs
+-- src/meets.rt:103:9
+is-of-instance-requires : tie.Need-is-of-instance-requires
+is-of-instance-requires c κs = search needs
 
--- src/meets.rt:79:9
+-- src/meets.rt:104:9
 returns : tie.Need-returns
-returns c = joins-kind _ _ _ _ _ _ _ (c .before .read-kind .ensures) (c .if1 .taken)
+returns c =
+    let pre = c .before .before .before .pre in
+    joins-other _ _ _ _ _ _ (pre .1) (pre .2) _ (c .before .is-of-instance .ensures) (c .if1 .taken)
 
--- src/meets.rt:81:35
-cast-read-row : tie.Need-cast-read-row
-cast-read-row c = search needs
-
--- src/meets.rt:81:9
-read-row-requires : tie.Need-read-row-requires
-read-row-requires c κs = search needs
-
--- src/meets.rt:82:9
-same-instance-requires : tie.Need-same-instance-requires
-same-instance-requires c κs = search needs
-
--- src/meets.rt:83:9
+-- src/meets.rt:107:9
 returns-2 : tie.Need-returns-2
-returns-2 c = joins-off _ _ _ _ _ _ _ _ _ (c .before .before .before .before .before .before .pre .1) (c .before .before .read-row .ensures) (c .before .same-instance .ensures) (c .if2 .taken)
+returns-2 c =
+    let pre = c .before .before .before .before .pre in
+    joins-self _ _ _ _ _ _ (pre .1) (pre .2) (c .if2 .taken)
 
--- src/meets.rt:85:17
-same-instance-requires-2 : tie.Need-same-instance-requires-2
-same-instance-requires-2 c κs = search needs
+-- src/meets.rt:109:68
+cast-read-agent : tie.Need-cast-read-agent
+cast-read-agent c = search needs
 
--- src/meets.rt:85:46
-shares-scope-requires : tie.Need-shares-scope-requires
-shares-scope-requires c κs = search needs
+-- src/meets.rt:109:44
+read-agent-requires : tie.Need-read-agent-requires
+read-agent-requires c κs = search needs
 
--- src/meets.rt:74:1
+-- src/meets.rt:109:5
+shares-in-requires : tie.Need-shares-in-requires
+shares-in-requires c κs = search needs
+
+-- src/meets.rt:99:1
 returns-3 : tie.Need-returns-3
-unfolding joins decode _and_
-returns-3 c = cc
+returns-3 c =
+    let pre = c .before .before .before .before .before .before .pre in
+    joins-on _ _ _ _ _ _ (pre .1) (pre .2) _ _ _ (c .before .before .before .before .is-of-instance .ensures) (c .before .before .before .if1 .left) (c .before .before .if2 .left) (c .before .read-agent .ensures) (c .shares-in .ensures)
 
 pub joins-of-spec : {M : Type 1} → statement M
 joins-of-spec =
     tie.close
     (tie.spec
-    cast-read-kind
-    read-kind-requires
+    cast-is-of-instance
+    is-of-instance-requires
     returns
-    cast-read-row
-    read-row-requires
-    same-instance-requires
     returns-2
-    same-instance-requires-2
-    shares-scope-requires
+    cast-read-agent
+    read-agent-requires
+    shares-in-requires
     returns-3)

@@ -1,118 +1,151 @@
-use mathlib.Core.Path.{_≡_, refl, sym, ap, _∙_}
-use Prim.Native.Nat.{_+_, _-_, _*_, _≤_, _<_}
+use mathlib.Core.Path.{sym}
+use mathlib.Core.Path.{ap, _∙_}
 use native.Mathlib.Omega.{arith}
-use lib.ListN.{length}
-use Rattle.bits.specs.Fill.{rowFill, rowFill-none, rowFill-put, length-rowFill}
-use Rattle.bits.specs.Within.{within-put}
-use Rattle.model.specs.Table.{rowOf, decode}
-use Rattle.model.specs.Synchronizes.{joins}
-use Rattle.area.specs.Regions.{GRID}
-use Rattle.quick_sync.specs.Regions.{JOINS}
-use Rattle.quick_sync.specs.Rows.{row-off, joins-none}
+use Rattle.model.specs.declared.Row.{Row}
+use Rattle.quick_sync.specs.Grids.{row-of-none, row-of-fill, row-of-copy}
+use Rattle.quick_sync.specs.Like.{joins-bare, joins-like}
 use borrow.Author.Needs.{needs}
 use Rattle.quick_sync.proofs.meets.joins_row.Statement.{statement}
 use Rattle.quick_sync.proofs.meets.joins_row.Tie as tie
 use Rattle.quick_sync.proofs.meets.joins_row.Reads as reads
 use Rattle.quick_sync.proofs.meets.joins_row.Lts as lts
-use Rattle.bits.proofs.put_if.Reads as put-if-reads
-use Rattle.quick_sync.proofs.meets.joins_of.Reads as joins-of-reads
+use Rattle.bits.proofs.join_row.Reads as join-row-reads
+use Rattle.bits.proofs.put.Reads as put-reads
+use Rattle.quick_sync.proofs.meets.like_of.Reads as like-of-reads
+use Rattle.quick_sync.proofs.meets.scan_row.Reads as scan-row-reads
+use Rattle.quick_sync.proofs.words.drop_bit.Reads as drop-bit-reads
 use Rattle.rows.proofs.bytes.read_row.Reads as read-row-reads
-use Rattle.rows.proofs.kinds.is_control.Reads as is-control-reads
 
-abbrev Inv-loop : tie.InvT-loop
-Inv-loop rows p mode n c w₀ r d₀ w d = (d ≤ n) × (length w ≡ length w₀) × (r ≡ rowOf rows c) × (w ≡ rowFill (joins (decode rows p mode n) c) w₀ (JOINS * 64 + c * (GRID * 64)) d)
-
-abbrev μ-loop : tie.MeasureT-loop
-μ-loop rows p mode n c w₀ r d₀ w d = n - d
-
--- src/meets.rt:84:35
-cast-read-row : tie.Need-cast-read-row Inv-loop μ-loop
+-- src/meets.rt:156:35
+cast-read-row : tie.Need-cast-read-row
 cast-read-row c = search needs
 
--- src/meets.rt:84:9
-read-row-requires : tie.Need-read-row-requires Inv-loop μ-loop
+-- src/meets.rt:156:9
+read-row-requires : tie.Need-read-row-requires
 read-row-requires c κs = search needs
 
--- src/meets.rt:85:9
-is-control-requires : tie.Need-is-control-requires Inv-loop μ-loop
-is-control-requires c κs = search needs
+-- src/meets.rt:158:9
+returns : tie.Need-returns
+returns c =
+    let pre = c .before .before .before .before .before .pre in
+    row-of-none (pre .3) (pre .1) (joins-bare _ _ _ _ (λ e. c .if1 .taken (ap (λ (q : Row). q .kind) (c .before .before .read-row .ensures) ∙ e)))
 
--- src/meets.rt:86:9
-returns : tie.Need-returns Inv-loop μ-loop
-returns c = row-off _ _ _ _ (λ m l. joins-none _ _ _ _ _ _ _ (c .before .before .read-row .ensures) (c .before .is-control .ensures) (c .if1 .taken) m)
+-- src/meets.rt:160:9
+like-of-requires : tie.Need-like-of-requires
+like-of-requires c κs = search needs
 
--- src/meets.rt:88:5
-loop-holds : tie.Need-loop-holds Inv-loop μ-loop
-loop-holds c = (search needs, refl, c .before .before .read-row .ensures, rowFill-none _ _ _)
+-- src/meets.rt:162:9
+scan-row-requires : tie.Need-scan-row-requires
+scan-row-requires c κs = search needs
 
--- src/meets.rt:89:13
-joins-of-requires : tie.Need-joins-of-requires Inv-loop μ-loop
-joins-of-requires c κs = search needs
-
--- src/meets.rt:90:34
-mul-put-if : tie.Need-mul-put-if Inv-loop μ-loop
-mul-put-if c = search needs
-
--- src/meets.rt:90:26
-add-put-if : tie.Need-add-put-if Inv-loop μ-loop
-add-put-if c = search needs
-
--- src/meets.rt:90:25
-mul-put-if-2 : tie.Need-mul-put-if-2 Inv-loop μ-loop
-mul-put-if-2 c = search needs
-
--- src/meets.rt:90:25
-add-put-if-2 : tie.Need-add-put-if-2 Inv-loop μ-loop
-add-put-if-2 c = search needs
-
--- src/meets.rt:90:9
-put-if-requires : tie.Need-put-if-requires Inv-loop μ-loop
-put-if-requires c κs = search needs
-
--- src/meets.rt:88:9
-add-d : tie.Need-add-d Inv-loop μ-loop
-add-d c = search needs
-
--- src/meets.rt:88:5
-loop-less : tie.Need-loop-less Inv-loop μ-loop
-loop-less c = search needs
-
--- src/meets.rt:88:5
-loop-again : tie.Need-loop-again Inv-loop μ-loop
-loop-again c =
-    let put = c .before .before .put-if in
-    let inv = c .before .before .before .before .before .before .loop .inv in
-    let l = c .before .before .before .before .before .loop-test .taken in
-    let e = rowFill-put _ _ _ (put .last .0) _ _ _ _ (inv .3) (c .before .before .before .before .joins-of .ensures) (omega arith) (put .ensures) in
-    (search needs, ap length e ∙ length-rowFill _ _ _ _, inv .2, e)
-
--- src/meets.rt:80:1
-same-length : tie.Need-same-length Inv-loop μ-loop
+-- src/meets.rt:163:9
+same-length : tie.Need-same-length
 same-length c = search needs
 
--- src/meets.rt:80:1
-returns-2 : tie.Need-returns-2 Inv-loop μ-loop
-returns-2 c = let e : c .before .loop .d ≡ c .before .before .before .before .before .before .before .args .n = omega arith in rw e at (c .before .loop .inv .3)
+-- src/meets.rt:163:9
+returns-2 : tie.Need-returns-2
+returns-2 c =
+    let pre = c .before .before .before .before .before .before .before .before .before .before .before .pre in
+    row-of-fill (pre .0) (omega (arith, pre .2)) (pre .3) (pre .1) (c .before .before .scan-row .ensures)
+
+-- src/meets.rt:167:17
+mul-join-row : tie.Need-mul-join-row
+mul-join-row c = search needs
+
+-- src/meets.rt:167:9
+add-join-row : tie.Need-add-join-row
+add-join-row c = search needs
+
+-- src/meets.rt:168:17
+mul-join-row-2 : tie.Need-mul-join-row-2
+mul-join-row-2 c = search needs
+
+-- src/meets.rt:168:9
+add-join-row-2 : tie.Need-add-join-row-2
+add-join-row-2 c = search needs
+
+-- src/meets.rt:165:5
+join-row-requires : tie.Need-join-row-requires
+join-row-requires c κs = search needs
+
+-- src/meets.rt:171:27
+mul-put : tie.Need-mul-put
+mul-put c = search needs
+
+-- src/meets.rt:171:19
+add-put : tie.Need-add-put
+add-put c = search needs
+
+-- src/meets.rt:171:18
+mul-put-2 : tie.Need-mul-put-2
+mul-put-2 c = search needs
+
+-- src/meets.rt:171:18
+add-put-2 : tie.Need-add-put-2
+add-put-2 c = search needs
+
+-- src/meets.rt:171:5
+put-requires : tie.Need-put-requires
+put-requires c κs = search needs
+
+-- src/meets.rt:172:33
+mul-drop-bit : tie.Need-mul-drop-bit
+mul-drop-bit c = search needs
+
+-- src/meets.rt:172:25
+add-drop-bit : tie.Need-add-drop-bit
+add-drop-bit c = search needs
+
+-- src/meets.rt:172:24
+mul-drop-bit-2 : tie.Need-mul-drop-bit-2
+mul-drop-bit-2 c = search needs
+
+-- src/meets.rt:172:24
+add-drop-bit-2 : tie.Need-add-drop-bit-2
+add-drop-bit-2 c = search needs
+
+-- src/meets.rt:172:5
+drop-bit-requires : tie.Need-drop-bit-requires
+drop-bit-requires c κs = search needs
+
+-- src/meets.rt:152:1
+same-length-2 : tie.Need-same-length-2
+same-length-2 c = search needs
+
+-- src/meets.rt:152:1
+returns-3 : tie.Need-returns-3
+returns-3 c =
+    let pre = c .before .before .before .before .before .before .before .before .before .before .before .before .before .before .before .before .before .before .before .pre in
+    let like = c .before .before .before .before .before .before .before .before .before .before .before .before .before .like-of .ensures in
+    let other = c .before .before .before .before .before .before .before .before .before .before .before .before .if2 .left in
+    let is-control = sym (ap (λ (q : Row). q .kind) (c .before .before .before .before .before .before .before .before .before .before .before .before .before .before .before .before .read-row .ensures)) ∙ c .before .before .before .before .before .before .before .before .before .before .before .before .before .before .if1 .left in
+    row-of-copy _ (pre .0) (omega (arith, pre .2)) (pre .3) (pre .1) (omega (arith, like .0, other)) (joins-like _ _ _ _ _ is-control (like .1 (omega (arith, like .0, other)))) (c .before .before .before .before .before .before .before .before .before .before .join-row .ensures) (c .before .before .before .before .before .before .put .ensures) (c .before .before .drop-bit .ensures)
 
 pub joins-row-spec : {M : Type 1} → statement M
 joins-row-spec =
     tie.close
     (tie.spec
-    Inv-loop
-    μ-loop
     cast-read-row
     read-row-requires
-    is-control-requires
     returns
-    loop-holds
-    joins-of-requires
-    mul-put-if
-    add-put-if
-    mul-put-if-2
-    add-put-if-2
-    put-if-requires
-    add-d
-    loop-less
-    loop-again
+    like-of-requires
+    scan-row-requires
     same-length
-    returns-2)
+    returns-2
+    mul-join-row
+    add-join-row
+    mul-join-row-2
+    add-join-row-2
+    join-row-requires
+    mul-put
+    add-put
+    mul-put-2
+    add-put-2
+    put-requires
+    mul-drop-bit
+    add-drop-bit
+    mul-drop-bit-2
+    add-drop-bit-2
+    drop-bit-requires
+    same-length-2
+    returns-3)

@@ -1,0 +1,95 @@
+use mathlib.Core.Path.{_≡_, refl, ap, _∙_}
+use Prim.Native.Nat.{_+_, _-_, _*_, _≤_, _<_}
+use native.Mathlib.Omega.{arith}
+use lib.ListN.{length}
+use Rattle.bits.specs.Fill.{rowFill, rowFill-none, rowFill-put, length-rowFill}
+use Rattle.model.specs.Table.{OFF, decode}
+use Rattle.model.specs.Synchronizes.{joins}
+use Rattle.area.specs.Regions.{GRID}
+use Rattle.quick_sync.specs.Regions.{JOINS}
+use borrow.Author.Needs.{needs}
+use Rattle.quick_sync.proofs.meets.scan_row.Statement.{statement}
+use Rattle.quick_sync.proofs.meets.scan_row.Tie as tie
+use Rattle.quick_sync.proofs.meets.scan_row.Reads as reads
+use Rattle.quick_sync.proofs.meets.scan_row.Lts as lts
+use Rattle.bits.proofs.put_if.Reads as put-if-reads
+use Rattle.quick_sync.proofs.meets.joins_of.Reads as joins-of-reads
+
+abbrev Inv-loop : tie.InvT-loop
+Inv-loop rows p n c r w₀ d₀ w d = (d ≤ n) × (length w ≡ length w₀) × (w ≡ rowFill (joins (decode rows p OFF n) c) w₀ (JOINS * 64 + c * (GRID * 64)) d)
+
+abbrev μ-loop : tie.MeasureT-loop
+μ-loop rows p n c r w₀ d₀ w d = n - d
+
+-- src/meets.rt:116:5
+loop-holds : tie.Need-loop-holds Inv-loop μ-loop
+loop-holds c = (search needs, refl, rowFill-none _ _ _)
+
+-- src/meets.rt:117:13
+joins-of-requires : tie.Need-joins-of-requires Inv-loop μ-loop
+joins-of-requires c κs = search needs
+
+-- src/meets.rt:118:34
+mul-put-if : tie.Need-mul-put-if Inv-loop μ-loop
+mul-put-if c = search needs
+
+-- src/meets.rt:118:26
+add-put-if : tie.Need-add-put-if Inv-loop μ-loop
+add-put-if c = search needs
+
+-- src/meets.rt:118:25
+mul-put-if-2 : tie.Need-mul-put-if-2 Inv-loop μ-loop
+mul-put-if-2 c = search needs
+
+-- src/meets.rt:118:25
+add-put-if-2 : tie.Need-add-put-if-2 Inv-loop μ-loop
+add-put-if-2 c = search needs
+
+-- src/meets.rt:118:9
+put-if-requires : tie.Need-put-if-requires Inv-loop μ-loop
+put-if-requires c κs = search needs
+
+-- src/meets.rt:116:9
+add-d : tie.Need-add-d Inv-loop μ-loop
+add-d c = search needs
+
+-- src/meets.rt:116:5
+loop-less : tie.Need-loop-less Inv-loop μ-loop
+loop-less c = search needs
+
+-- src/meets.rt:116:5
+loop-again : tie.Need-loop-again Inv-loop μ-loop
+loop-again c =
+    let put = c .before .before .put-if in
+    let inv = c .before .before .before .before .before .before .loop .inv in
+    let e = rowFill-put _ _ _ (put .last .0) _ _ _ _ (inv .2) (c .before .before .before .before .joins-of .ensures) (omega arith) (put .ensures) in
+    (search needs, ap length e ∙ length-rowFill _ _ _ _, e)
+
+-- src/meets.rt:112:1
+same-length : tie.Need-same-length Inv-loop μ-loop
+same-length c = search needs
+
+-- src/meets.rt:112:1
+returns : tie.Need-returns Inv-loop μ-loop
+returns c =
+    let e : c .before .loop .d ≡ c .before .before .before .before .args .n = omega arith in
+    rw e at (c .before .loop .inv .2)
+
+pub scan-row-spec : {M : Type 1} → statement M
+scan-row-spec =
+    tie.close
+    (tie.spec
+    Inv-loop
+    μ-loop
+    loop-holds
+    joins-of-requires
+    mul-put-if
+    add-put-if
+    mul-put-if-2
+    add-put-if-2
+    put-if-requires
+    add-d
+    loop-less
+    loop-again
+    same-length
+    returns)

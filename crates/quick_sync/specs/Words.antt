@@ -1,0 +1,99 @@
+-- A bit that is taken away from a word. Assumes nothing.
+use mathlib.Core.Path.{_≡_, refl, sym, ap, _∙_}
+use mathlib.Core.Bool.{Bool, true, false, not}
+use mathlib.Core.List.{List}
+use Prim.Native.Nat.{ℕ, zero, suc, _+_, _*_, _/_, _%_, _^_, _≤_, _<_}
+use native.Mathlib.Omega.{arith}
+use native.Mathlib.Decide.{ℕ-discrete}
+use lib.Dec.{eqb}
+use lib.Bits.{bitAnd, bitXor, xor-shr, xor-mod}
+use lib.ListN.{length, getD, set, length-set}
+use lib.Seq.{getD-set-same, getD-set-other}
+use borrow.Author.Tests.{eq-eqb, ne-eqb}
+use Rattle.finite.specs.Logic.{_and_}
+use Rattle.bits.specs.Bit.{bit, bitOf, bitOf-pow-same, bitOf-pow-other}
+use Rattle.bits.specs.Within.{Within}
+use Rattle.sets.specs.Lowest.{bitOf-and}
+
+-- ---- definitions
+
+-- bit k was taken away; no other word changed
+pub record Dropped (w u : List ℕ) (k : ℕ) : Type 0 where
+  pub cell : (j : ℕ) → bit u j ≡ (bit w j and not (eqb j k))
+  pub frame : Within (k / 64) (k / 64 + 1) w u
+
+-- what the word x has and the word y hasn't
+abbrev pub less : ℕ → ℕ → ℕ
+less x y = bitXor x (bitAnd x y)
+
+-- ---- laws
+
+and-on : (b : Bool) → (b and true) ≡ b
+unfolding _and_
+and-on true = refl
+and-on false = refl
+
+differ : Bool → Bool → Bool
+differ true b = not b
+differ false b = b
+
+xor-digit : (x y : ℕ) → x < 2 → y < 2 → eqb (bitXor x y) 1 ≡ differ (eqb x 1) (eqb y 1)
+unfolding differ
+xor-digit zero zero p q = refl
+xor-digit zero (suc zero) p q = refl
+xor-digit zero (suc (suc y)) p q = absurd (omega arith)
+xor-digit (suc zero) zero p q = refl
+xor-digit (suc zero) (suc zero) p q = refl
+xor-digit (suc zero) (suc (suc y)) p q = absurd (omega arith)
+xor-digit (suc (suc x)) y p q = absurd (omega arith)
+
+bitOf-xor : (a b j : ℕ) → bitOf (bitXor a b) j ≡ differ (bitOf a j) (bitOf b j)
+unfolding bitOf
+bitOf-xor a b j =
+    ap (λ (x : ℕ). eqb (x % 2) 1) (xor-shr a b j) ∙ ap (λ (x : ℕ). eqb x 1) (xor-mod (a / 2 ^ j) (b / 2 ^ j) 1)
+    ∙ xor-digit (a / 2 ^ j % 2) (b / 2 ^ j % 2) (omega arith) (omega arith)
+
+without : (a b : Bool) → differ a (a and b) ≡ (a and not b)
+unfolding _and_ differ
+without true b = refl
+without false b = refl
+
+pub bitOf-less : (x y j : ℕ) → bitOf (less x y) j ≡ (bitOf x j and not (bitOf y j))
+bitOf-less x y j = bitOf-xor x (bitAnd x y) j ∙ ap (λ (z : Bool). differ (bitOf x j) z) (bitOf-and x y j) ∙ without (bitOf x j) (bitOf y j)
+
+-- the bit alone that a power of 2 has
+power : (i j : ℕ) → bitOf (2 ^ i) j ≡ eqb j i
+power i j = go (ℕ-discrete j i)
+  where
+    go : Dec (j ≡ i) → bitOf (2 ^ i) j ≡ eqb j i
+    go (yes e) = rw (eq-eqb j i e, e) (bitOf-pow-same i)
+    go (no e) = rw (ne-eqb j i e) (bitOf-pow-other i j e)
+
+pub dropped : (w u : List ℕ) (k : ℕ) → k < 64 * length w → u ≡ set w (k / 64) (less (getD w (k / 64) 0) (2 ^ (k % 64))) → Dropped w u k
+unfolding bit
+dropped w u k l e = record { cell = λ j. cell j (ℕ-discrete (j / 64) (k / 64)); frame = record { len = rw e (simp length-set); out = λ x o. out x o } }
+  where
+    v : ℕ
+    v = less (getD w (k / 64) 0) (2 ^ (k % 64))
+
+    out : (x : ℕ) → (k / 64 ≤ x → k / 64 + 1 ≤ x) → getD u x 0 ≡ getD w x 0
+    out x o = rw e (getD-set-other w (k / 64) x v 0 (λ q. let h : k / 64 + 1 ≤ x = o (omega arith) in absurd (omega arith)))
+
+    here : (j : ℕ) → j / 64 ≡ k / 64 → eqb (j % 64) (k % 64) ≡ eqb j k
+    here j q = go (ℕ-discrete j k)
+      where
+        go : Dec (j ≡ k) → eqb (j % 64) (k % 64) ≡ eqb j k
+        go (yes d) = eq-eqb (j % 64) (k % 64) (omega arith) ∙ sym (eq-eqb j k d)
+        go (no d) = ne-eqb (j % 64) (k % 64) (λ r. d (omega arith)) ∙ sym (ne-eqb j k d)
+
+    on : (b : Bool) → (b and true) ≡ b
+    on b = and-on b
+
+    cell : (j : ℕ) → Dec (j / 64 ≡ k / 64) → bitOf (getD u (j / 64) 0) (j % 64) ≡ (bitOf (getD w (j / 64) 0) (j % 64) and not (eqb j k))
+    cell j (yes q) =
+        rw (e, q, getD-set-same w (k / 64) v 0 (omega arith))
+        (bitOf-less (getD w (k / 64) 0) (2 ^ (k % 64)) (j % 64)
+        ∙ ap (λ (z : Bool). bitOf (getD w (k / 64) 0) (j % 64) and not z) (power (k % 64) (j % 64) ∙ here j q))
+    cell j (no q) =
+        rw (e, getD-set-other w (k / 64) (j / 64) v 0 q, ne-eqb j k (λ d. q (ap (λ (z : ℕ). z / 64) d)))
+        (sym (on _))

@@ -10,3 +10,4 @@ pub mod Words
 pub mod Grids
 pub mod Along
 pub mod Like
+pub mod Near

@@ -90,7 +90,7 @@ pub joins-any : (b : List ℕ) (p : List (List ℕ)) (mode : Mode) (n i j : ℕ)
 unfolding joins decode
 joins-any b p mode n i j = refl
 
-turn : (x y : ℕ) → eqb x y ≡ eqb y x
+pub turn : (x y : ℕ) → eqb x y ≡ eqb y x
 turn x y = go (ℕ-discrete x y)
   where
     go : Dec (x ≡ y) → eqb x y ≡ eqb y x

@@ -297,26 +297,6 @@ module _ (t : Table) where
         let u = split (s .0) in
         and-true (and-true (and-true q (or-left _ (led-is a b ∙ and-true r (s .1)))) (u .0)) (u .1)
 
-    -- two atomics: the writer is the one and the reader the other, and they are mutually-ordered
-    pub by-atomics : led t a b ≡ true → atomic (t .row a) ≡ true → atomic (t .row b) ≡ true → acquires (t .row b) ≡ true → syncBy t a b ≡ true
-    unfolding syncBy hands handsTo
-    by-atomics e f g q =
-        let x = any-out _ (t .rows) (split (sym (led-is a b) ∙ e) .1) in
-        let h = split (x .2) in
-        let y = any-out _ (t .rows) (h .1) in
-        let k = split (y .2) in
-        let o = subst (λ (i : ℕ). takesFrom t i (y .0) ≡ true) (sym (from (heads-cases a b la lb (x .0) (h .0)))) (k .0) in
-        let m = takes-mutual a b (subst (λ (i : ℕ). takesFrom t a i ≡ true) (sym (to (gets-cases a b la lb (y .0) (k .1)))) o) in
-        and-true (and-true (and-true q (or-left _ e)) (m .0)) (m .1)
-      where
-        from : {x : ℕ} → ((atomic (t .row a) ≡ true) × (a ≡ x)) ⊎ ((barrier (t .row a) ≡ true) × (leads t a x ≡ true)) → a ≡ x
-        from (inl i) = i .1
-        from (inr i) = absurd (apart (t .row a) f (i .0))
-
-        to : {y : ℕ} → ((atomic (t .row b) ≡ true) × (b ≡ y)) ⊎ ((barrier (t .row b) ≡ true) × (trails t b y ≡ true)) → b ≡ y
-        to (inl i) = i .1
-        to (inr i) = absurd (apart (t .row b) g (i .0))
-
     by-control : acquires (t .row b) ≡ true → syncControl t a b ≡ true → syncBy t a b ≡ true
     unfolding syncBy syncControl
     by-control q e =

@@ -1,7 +1,7 @@
 -- Where the grids stand that synchronizes-with is made of: over happens-before, which is made after it. A grid each. What links are
 -- made of gives its place to what is made of control barriers, and that to what is known of scopes.
 use Prim.Native.Nat.{ℕ, _+_, _*_}
-use Rattle.area.specs.Regions.{HAPPENS, ROWS-GRID}
+use Rattle.area.specs.Regions.{HAPPENS, GRID, ROWS-GRID}
 
 -- which acquires a release is linked to
 abbrev pub LINKS : ℕ
@@ -52,3 +52,21 @@ UP-TO = AGENTS + 2 * ROWS-GRID
 
 abbrev pub UP-TO-END : ℕ
 UP-TO-END = UP-TO + ROWS-GRID
+
+-- of which rows it is known whether they are acquires that a row shares scopes with, in the place of what the agents had
+abbrev pub COVER : ℕ
+COVER = AGENTS
+
+-- those that are
+abbrev pub GOOD : ℕ
+GOOD = COVER + ROWS-GRID
+
+abbrev pub GOOD-END : ℕ
+GOOD-END = GOOD + ROWS-GRID
+
+-- a row of those to be asked
+abbrev pub TODO : ℕ
+TODO = GOOD-END
+
+abbrev pub TODO-END : ℕ
+TODO-END = TODO + GRID

@@ -15,15 +15,15 @@ use Rattle.bits.specs.Fill.{rowFill, within-rowFill}
 use Rattle.bits.specs.Within.{Within}
 use Rattle.model.specs.declared.Mode.{Mode}
 use Rattle.model.specs.declared.Row.{Row}
-use Rattle.model.specs.Row.{PLAIN-READ, ATOMIC-READ, ATOMIC-WRITE, RMW, CONTROL, atomic, barrier, control, sameInstance, reads, writes, releases, acquires}
+use Rattle.model.specs.Row.{PLAIN-READ, ATOMIC-READ, ATOMIC-WRITE, RMW, CONTROL, atomic, barrier, control, sameInstance, reads, writes, releases}
 use Rattle.model.specs.Table.{decode, rowOf, sourceOf, atomicSource}
-use Rattle.model.specs.Scope.{sameLocation, together, mutualRows, mutually}
+use Rattle.model.specs.Scope.{sameLocation, mutualRows, mutually}
 use Rattle.model.specs.Moment.{sameAgent}
 use Rattle.model.specs.Synchronizes.{sequence, takesFrom, leads, trails, joins, synchronizes}
 use Rattle.rows.specs.Starts.{starts-apart}
 use Rattle.rules.specs.Forms.{takes-on, takes-none as takes-past}
 use Rattle.quick_sync.specs.Product.{byWay, times}
-use Rattle.quick_sync.specs.Links.{heads, gets, released, gotten, handed, led, metBy, passed, syncBy, by-atomics, sync-is}
+use Rattle.quick_sync.specs.Links.{heads, gets, released, gotten, handed, led, metBy, passed, syncBy, sync-is}
 
 -- ---- definitions
 
@@ -207,38 +207,13 @@ module _ (b : List ℕ) (p : List (List ℕ)) (mode : Mode) (n : ℕ) where
 
   -- ---- laws: M5, from the bits
 
-  pub sync-relaxed : (a c : ℕ) (q : Row) (u : Bool) → q ≡ rowOf b c → u ≡ acquires q → not u ≡ true → false ≡ syncBy (decode b p mode n) a c
-  unfolding syncBy decode
-  sync-relaxed a c q u eq eu h = sym (and-false-left _ _ (and-false-left _ _ (and-false-left _ _ (rw (← eq, ← eu) (not-out u h)))))
-
-  pub sync-atomics : (a c : ℕ) (r q : Row) (u v x y : Bool) → a < n → c < n → r ≡ rowOf b a → q ≡ rowOf b c → u ≡ acquires q → not u ≡ false
-      → v ≡ led (decode b p mode n) a c → x ≡ atomic r → y ≡ atomic q → (v and x and y) ≡ true → true ≡ syncBy (decode b p mode n) a c
-  unfolding decode
-  sync-atomics a c r q u v x y la lc er eq eu h ev ex ey e =
-      let s = split e in
-      let o = split (s .0) in
-      sym (by-atomics (decode b p mode n) a c la lc (sym ev ∙ o .0) (sym (ap atomic er) ∙ sym ex ∙ o .1) (sym (ap atomic eq) ∙ sym ey ∙ s .1) (sym (ap acquires eq) ∙ sym eu ∙ not-false u h))
-
   -- what is neither linked nor passed to
   pub sync-unlinked : (a c : ℕ) → a < n → c < n → led (decode b p mode n) a c ≡ false → passed (decode b p mode n) a c ≡ false → synchronizes (decode b p mode n) a c ≡ false
   unfolding syncBy decode
   sync-unlinked a c la lc e f =
       sync-is (decode b p mode n) a c la lc ∙ and-false-right _ _ (and-false-left _ _ (and-false-left _ _ (and-false-right _ _ (or-none e f))))
 
-  module _ (a c : ℕ) (r : Row) (v w : Bool) (er : r ≡ rowOf b a) (ev : v ≡ led (decode b p mode n) a c) (ew : w ≡ passed (decode b p mode n) a c) where
-    pub sync-linked : (q : Row) (u z : Bool) → q ≡ rowOf b c → u ≡ acquires q → not u ≡ false → z ≡ together p r q
-        → ((v or w) and not (eqb a c) and z) ≡ syncBy (decode b p mode n) a c
-    unfolding syncBy decode
-    sync-linked q u z eq eu h ez =
-        rw (ez, er, eq, ev, ew)
-        (ap (λ (k : Bool). k and not (eqb a c) and together p (rowOf b a) (rowOf b c)) (sym (and-on _ _ (sym (ap acquires eq) ∙ sym eu ∙ not-false u h))))
-
-  -- a row that doesn't release, and one that does
+  -- a row that doesn't release
   pub sync-none : (a : ℕ) (r : Row) (u : Bool) → r ≡ rowOf b a → u ≡ releases r → not u ≡ true → (c : ℕ) → synchronizes (decode b p mode n) a c ≡ false
   unfolding synchronizes decode
   sync-none a r u er eu h c = and-false-left _ _ (and-false-left _ _ (rw (← er, ← eu) (not-out u h)))
-
-  pub sync-on : (a c : ℕ) (r : Row) (u v : Bool) → a < n → c < n → r ≡ rowOf b a → u ≡ releases r → not u ≡ false → v ≡ syncBy (decode b p mode n) a c
-      → v ≡ synchronizes (decode b p mode n) a c
-  unfolding decode
-  sync-on a c r u v la lc er eu h ev = ev ∙ sym (sync-is (decode b p mode n) a c la lc ∙ and-on _ _ (sym (ap releases er) ∙ sym eu ∙ not-false u h))

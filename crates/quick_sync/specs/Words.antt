@@ -1,19 +1,21 @@
--- A bit that is taken away from a word. Assumes nothing.
-use mathlib.Core.Path.{_≡_, refl, sym, ap, _∙_}
+-- Bits that are taken away from words. Assumes nothing.
+use mathlib.Core.Path.{_≡_, refl, sym, ap, ap₂, _∙_}
 use mathlib.Core.Bool.{Bool, true, false, not}
 use mathlib.Core.List.{List}
 use Prim.Native.Nat.{ℕ, zero, suc, _+_, _*_, _/_, _%_, _^_, _≤_, _<_}
 use native.Mathlib.Omega.{arith}
-use native.Mathlib.Decide.{ℕ-discrete}
+use native.Mathlib.Decide.{decLt, ℕ-discrete}
 use lib.Dec.{eqb}
-use lib.Bits.{bitAnd, bitXor, xor-shr, xor-mod}
+use lib.Bits.{bitAnd, bitOr, bitXor, xor-shr, xor-mod}
 use lib.ListN.{length, getD, set, length-set}
 use lib.Seq.{getD-set-same, getD-set-other}
 use borrow.Author.Tests.{eq-eqb, ne-eqb}
-use Rattle.finite.specs.Logic.{_and_}
-use Rattle.bits.specs.Bit.{bit, bitOf, bitOf-pow-same, bitOf-pow-other}
+use Rattle.finite.specs.Logic.{_and_, _or_}
+use Rattle.bits.specs.Bit.{bit, bitOf, bitOf-or, bitOf-pow-same, bitOf-pow-other}
 use Rattle.bits.specs.Within.{Within}
+use Rattle.area.specs.Regions.{GRID}
 use Rattle.sets.specs.Lowest.{bitOf-and}
+use Rattle.quick_sync.specs.Walk.{either}
 
 -- ---- definitions
 
@@ -25,6 +27,11 @@ pub record Dropped (w u : List ℕ) (k : ℕ) : Type 0 where
 -- what the word x has and the word y hasn't
 abbrev pub less : ℕ → ℕ → ℕ
 less x y = bitXor x (bitAnd x y)
+
+-- the row at dst was made to have what the row at a or the row at b has and the row at c hasn't; no other word changed
+pub record Lessened (w u : List ℕ) (dst a b c : ℕ) : Type 0 where
+  pub cell : (k : ℕ) → k < 64 * GRID → bit u (dst * 64 + k) ≡ (either w a b k and not (bit w (c * 64 + k)))
+  pub frame : Within dst (dst + GRID) w u
 
 -- ---- laws
 
@@ -97,3 +104,53 @@ dropped w u k l e = record { cell = λ j. cell j (ℕ-discrete (j / 64) (k / 64)
     cell j (no q) =
         rw (e, getD-set-other w (k / 64) (j / 64) v 0 q, ne-eqb j k (λ d. q (ap (λ (z : ℕ). z / 64) d)))
         (sym (on _))
+
+-- bit k of a row's first word, and of its second
+in-word : (w : List ℕ) (a k j : ℕ) → k / 64 ≡ j → bit w (a * 64 + k) ≡ bitOf (getD w (a + j) 0) (k % 64)
+unfolding bit
+in-word w a k j e =
+    let q : (a * 64 + k) / 64 ≡ a + j = omega arith in
+    let r : (a * 64 + k) % 64 ≡ k % 64 = omega arith in
+    rw (q, r) refl
+
+word-is : (w u : List ℕ) (dst a b c k j : ℕ) → k / 64 ≡ j → getD u (dst + j) 0 ≡ less (bitOr (getD w (a + j) 0) (getD w (b + j) 0)) (getD w (c + j) 0)
+    → bit u (dst * 64 + k) ≡ (either w a b k and not (bit w (c * 64 + k)))
+unfolding either
+word-is w u dst a b c k j e f =
+    in-word u dst k j e ∙ ap (λ (x : ℕ). bitOf x (k % 64)) f
+    ∙ bitOf-less (bitOr (getD w (a + j) 0) (getD w (b + j) 0)) (getD w (c + j) 0) (k % 64)
+    ∙ ap₂ (λ (x y : Bool). x and not y) (bitOf-or (getD w (a + j) 0) (getD w (b + j) 0) (k % 64) ∙ ap₂ _or_ (sym (in-word w a k j e)) (sym (in-word w b k j e)))
+    (sym (in-word w c k j e))
+
+pub lessened : (w u : List ℕ) (dst a b c x y : ℕ) → dst + GRID ≤ length w → x ≡ less (bitOr (getD w a 0) (getD w b 0)) (getD w c 0)
+    → y ≡ less (bitOr (getD w (a + 1) 0) (getD w (b + 1) 0)) (getD w (c + 1) 0) → u ≡ set (set w dst x) (dst + 1) y → Lessened w u dst a b c
+lessened w u dst a b c x y l ex ey e =
+    record {
+      cell = λ k q. cell k q (decLt k 64);
+      frame = record { len = rw e (simp length-set); out = λ z o. out z o };
+    }
+  where
+    long : length (set w dst x) ≡ length w
+    long = simp length-set
+
+    first : getD u (dst + 0) 0 ≡ less (bitOr (getD w (a + 0) 0) (getD w (b + 0) 0)) (getD w (c + 0) 0)
+    first =
+        let z : (d : ℕ) → d + 0 ≡ d = λ d. omega arith in
+        rw (z dst, z a, z b, z c, e, getD-set-other (set w dst x) (dst + 1) dst y 0 (λ q. absurd (omega arith)), getD-set-same w dst x 0 (omega arith)) ex
+
+    second : getD u (dst + 1) 0 ≡ less (bitOr (getD w (a + 1) 0) (getD w (b + 1) 0)) (getD w (c + 1) 0)
+    second = rw (e, getD-set-same (set w dst x) (dst + 1) y 0 (omega (arith, long))) ey
+
+    cell : (k : ℕ) → k < 64 * GRID → Dec (k < 64) → bit u (dst * 64 + k) ≡ (either w a b k and not (bit w (c * 64 + k)))
+    cell k q (yes o) = word-is w u dst a b c k 0 (omega arith) first
+    cell k q (no o) = word-is w u dst a b c k 1 (omega arith) second
+
+    out : (z : ℕ) → (dst ≤ z → dst + GRID ≤ z) → getD u z 0 ≡ getD w z 0
+    out z o = go (decLt z dst)
+      where
+        apart : (z ≡ dst → ⊥) → (z ≡ dst + 1 → ⊥) → getD u z 0 ≡ getD w z 0
+        apart f g = rw e (getD-set-other (set w dst x) (dst + 1) z y 0 g ∙ getD-set-other w dst z x 0 f)
+
+        go : Dec (z < dst) → getD u z 0 ≡ getD w z 0
+        go (yes m) = apart (λ q. absurd (omega arith)) (λ q. absurd (omega arith))
+        go (no m) = let h : dst + GRID ≤ z = o (omega arith) in apart (λ q. absurd (omega arith)) (λ q. absurd (omega arith))

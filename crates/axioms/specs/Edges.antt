@@ -11,7 +11,8 @@ use Rattle.model.specs.Row.{reads, writes, overlap}
 use Rattle.model.specs.Table.{Table}
 use Rattle.model.specs.Scope.{mutually, laterWriter, follows}
 use Rattle.model.specs.Edge.{beforeSome, readsFrom, fromReads, edgeNumber, edge}
-use Rattle.race.specs.Bytes.{mayTouch, touch-apart}
+use Rattle.rules.specs.Shared.{mayTouch}
+use Rattle.race.specs.Bytes.{touch-apart}
 
 -- ---- laws
 

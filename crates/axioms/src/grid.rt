@@ -134,7 +134,7 @@ fn from_reads_of(
 {
     let s = crate::source_at(src, x);
     let start = r.start as u32;
-    let touches = race::may_touch(rows, y as u16, start, start + (r.size as u32));
+    let touches = rules::pairs::may_touch(rows, y as u16, start, start + (r.size as u32));
     if s.is_initial() & !touches {
         return false;
     }

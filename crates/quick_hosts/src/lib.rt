@@ -20,20 +20,13 @@ use rows::bytes;
 
 pub mod met; // what rows meet of what operations leave
 
-// Places of a row's size and start.
-const SIZE: u8 = 7;
-
-const START: u8 = 8;
-
 // Whether x, which is r, and y may share a byte, as three bytes of y tell.
 pub fn is_near(rows: &[u8], x: usize, r: Row, y: usize) -> bool
     requires { ⌜ y < ROWS ⌝ }
     ensures { λ d. ⌜ d ≡ mayShare x y r (rowOf (now (rows .entry)) y) ⌝ }
 {
     let start = r.start as u32;
-    let other = bytes::row_pair(rows, y as u16, START) as u32;
-    let size = bytes::row_byte(rows, y as u16, SIZE) as u32;
-    !(x == y) & (start < other + size) & (other < start + (r.size as u32))
+    !(x == y) & rules::pairs::may_touch(rows, y as u16, start, start + (r.size as u32))
 }
 
 // L4 and L5 of x, which is r, and y. Rows that share no byte are not asked.

@@ -22,7 +22,7 @@ use Rattle.model.specs.Race.{conflict}
 use Rattle.model.specs.Edge.{beforeNth}
 use Rattle.laws.specs.PairLaws.{inside-out, overlap-is}
 use Rattle.laws.specs.RaceLaws.{Sized, touched, common-left, common-right}
-use Rattle.rules.specs.Shared.{inBoth, lowest-at, lowest-nothing}
+use Rattle.rules.specs.Shared.{mayTouch, inBoth, lowest-at, lowest-nothing}
 use Rattle.area.specs.Regions.{LOCATION, PAIR, PAIRS}
 use Rattle.area.specs.State.{Located}
 
@@ -39,10 +39,6 @@ Bounded t = (i : ℕ) → i < t .rows → access (t .row i) ≡ true → t .row 
 -- x and y conflict and are not mutually-ordered
 unfoldable pub mayRace : Table → ℕ → ℕ → Bool
 mayRace t x y = conflict t x y and not (mutually t x y)
-
--- q starts before the byte e, and ends after the byte a
-unfoldable pub mayTouch : Row → ℕ → ℕ → Bool
-mayTouch q a e = ltb a (q .start + q .size) and ltb (q .start) e
 
 unfoldable pub byteOr : Shared → ℕ → ℕ
 byteOr (At c) e = c

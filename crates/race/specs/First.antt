@@ -20,7 +20,8 @@ use Rattle.laws.specs.RaceLaws.{Sized, touched, common-left}
 use Rattle.laws.specs.PairLaws.{inside-out}
 use Rattle.race.specs.declared.Found.{Found}
 use Rattle.race.specs.declared.Found.the-variants.{At, Nothing}
-use Rattle.race.specs.Bytes.{Bounded, mayRace, mayTouch, lowestByte, touch-apart, lowest-apart}
+use Rattle.rules.specs.Shared.{mayTouch}
+use Rattle.race.specs.Bytes.{Bounded, mayRace, lowestByte, touch-apart, lowest-apart}
 
 -- ---- definitions
 

@@ -6,7 +6,7 @@ ghost use Rattle.model.specs.Table.{rowOf, decode};
 ghost use Rattle.model.specs.Scope.{mutually};
 ghost use Rattle.model.specs.Location.{before};
 ghost use Rattle.model.specs.Race.{unordered};
-ghost use Rattle.race.specs.Bytes.{Known, Bounded, mayRace, mayTouch, lowestByte};
+ghost use Rattle.race.specs.Bytes.{Known, Bounded, mayRace, lowestByte};
 ghost use Rattle.race.specs.First.{foundRace};
 use model::Mode;
 use model::Places;
@@ -101,33 +101,6 @@ pub fn may_race(
     !(x == y) & shared::clash(r, q) & !mutual_at(rows, p, mode, n, x, y, w)
 }
 
-// Places of a row's size and start.
-const SIZE: usize = 7;
-
-const START: usize = 8;
-
-// A byte as a number that sums of bytes fit into.
-fn wide(x: u8) -> u32
-    ensures { λ r. ⌜ (r ≡ x) × (r ≤ 255) ⌝ }
-{
-    x as u32
-}
-
-// Whether row y may have a byte from `start` to before `end`: it starts before that end, and ends after that start. Most pairs of rows
-// share no byte, and three bytes of a row tell it; they are read at once where the row is all there.
-// Ruled out: one that holds of a row that ends where those bytes start; one that reads another row.
-pub fn may_touch(rows: &[u8], y: u16, start: u32, end: u32) -> bool
-    ensures { λ b. ⌜ b ≡ mayTouch (rowOf (now (rows .entry)) y) start end ⌝ }
-{
-    let at = (y as usize) * rows::bytes::ROW_BYTES;
-    if rows.len() < at + rows::bytes::ROW_BYTES {
-        let q = rows::bytes::read_row(rows, y);
-        return (start < (q.start as u32) + (q.size as u32)) & ((q.start as u32) < end);
-    }
-    let other = wide(rows[at + START]) * 256 + wide(rows[at + START + 1]);
-    (start < other + wide(rows[at + SIZE])) & (other < end)
-}
-
 // Where the byte search of a pair starts: the lowest byte that r and q share, and r's end where there is none.
 fn lowest_byte(r: Row, q: Row) -> u32
     ensures { λ b. ⌜ b ≡ lowestByte r q ⌝ }
@@ -156,7 +129,7 @@ pub fn first_race(rows: &[u8], p: Places, mode: Mode, n: usize, w: &[u64]) -> Fo
         let start = r.start as u32;
         let end = start + (r.size as u32);
         for y in x + 1..n {
-            if !may_touch(rows, y as u16, start, end) {
+            if !rules::pairs::may_touch(rows, y as u16, start, end) {
                 continue;
             }
             let q = rows::bytes::read_row(rows, y as u16);

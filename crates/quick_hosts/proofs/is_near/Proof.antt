@@ -1,71 +1,48 @@
+use mathlib.Core.Path.{_≡_, refl, ap, _∙_}
+use mathlib.Core.Bool.{Bool, true, false, not, _&&_}
+use lib.Dec.{eqb}
 use Rattle.finite.specs.Logic.{_and_}
-use Rattle.model.specs.Table.{rowOf}
-use Rattle.rules.specs.Shared.{mayShare}
+use Rattle.rules.specs.Shared.{mayShare, mayTouch}
 use borrow.Author.Needs.{needs}
 use Rattle.quick_hosts.proofs.is_near.Statement.{statement}
 use Rattle.quick_hosts.proofs.is_near.Tie as tie
 use Rattle.quick_hosts.proofs.is_near.Reads as reads
 use Rattle.quick_hosts.proofs.is_near.Lts as lts
-use Rattle.rows.proofs.bytes.row_byte.Reads as row-byte-reads
-use Rattle.rows.proofs.bytes.row_pair.Reads as row-pair-reads
+use Rattle.rules.proofs.pairs.may_touch.Reads as may-touch-reads
 
--- src/lib.rt:69:17
+grouped : (a b c : Bool) → (a && (b and c)) ≡ (a and b and c)
+unfolding _and_
+grouped true b c = refl
+grouped false b c = refl
+
+-- src/lib.rt:28:17
 cast-start : tie.Need-cast-start
 cast-start c = search needs
 
--- src/lib.rt:70:39
-cast-row-pair : tie.Need-cast-row-pair
-cast-row-pair c = search needs
+-- src/lib.rt:29:47
+cast-may-touch : tie.Need-cast-may-touch
+cast-may-touch c = search needs
 
--- src/lib.rt:70:17
-row-pair-requires : tie.Need-row-pair-requires
-row-pair-requires c κs = search needs
+-- src/lib.rt:29:73
+cast-may-touch-2 : tie.Need-cast-may-touch-2
+cast-may-touch-2 c = search needs
 
--- src/lib.rt:70:17
-cast-other : tie.Need-cast-other
-cast-other c = search needs
+-- src/lib.rt:29:64
+add-may-touch : tie.Need-add-may-touch
+add-may-touch c = search needs
 
--- src/lib.rt:71:38
-cast-row-byte : tie.Need-cast-row-byte
-cast-row-byte c = search needs
+-- src/lib.rt:29:17
+may-touch-requires : tie.Need-may-touch-requires
+may-touch-requires c κs = search needs
 
--- src/lib.rt:71:16
-row-byte-requires : tie.Need-row-byte-requires
-row-byte-requires c κs = search needs
-
--- src/lib.rt:71:16
-cast-size : tie.Need-cast-size
-cast-size c = search needs
-
--- src/lib.rt:72:26
-add-result : tie.Need-add-result
-add-result c = search needs
-
--- src/lib.rt:72:60
-cast-result : tie.Need-cast-result
-cast-result c = search needs
-
--- src/lib.rt:72:51
-add-result-2 : tie.Need-add-result-2
-add-result-2 c = search needs
-
--- src/lib.rt:65:1
+-- src/lib.rt:24:1
 returns : tie.Need-returns
-unfolding mayShare rowOf _and_
-returns c = cc
+unfolding mayShare mayTouch
+returns c =
+    let a = c .before .before .before .before .args in
+    ap (λ (m : Bool). not (eqb (a .x) (a .y)) && m) (c .may-touch .ensures) ∙ grouped _ _ _
 
 pub is-near-spec : {M : Type 1} → statement M
 is-near-spec =
     tie.close
-    (tie.spec
-    cast-start
-    cast-row-pair
-    row-pair-requires
-    cast-other
-    cast-row-byte
-    row-byte-requires
-    cast-size
-    add-result
-    cast-result
-    add-result-2
-    returns)
+    (tie.spec cast-start cast-may-touch cast-may-touch-2 add-may-touch may-touch-requires returns)

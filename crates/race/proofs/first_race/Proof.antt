@@ -16,7 +16,7 @@ use Rattle.race.proofs.first_race.Reads as reads
 use Rattle.race.proofs.first_race.Lts as lts
 use Rattle.race.proofs.lowest_byte.Reads as lowest-byte-reads
 use Rattle.race.proofs.may_race.Reads as may-race-reads
-use Rattle.race.proofs.may_touch.Reads as may-touch-reads
+use Rattle.rules.proofs.pairs.may_touch.Reads as may-touch-reads
 use Rattle.race.proofs.unordered_at.Reads as unordered-at-reads
 use Rattle.rows.proofs.bytes.read_row.Reads as read-row-reads
 

@@ -10,7 +10,7 @@ use Rattle.axioms.proofs.grid.from_reads_of.Lts as lts
 use Rattle.axioms.proofs.edges.from_reads_at.Reads as from-reads-at-reads
 use Rattle.axioms.proofs.source_at.Reads as source-at-reads
 use Rattle.model.proofs.Source.is_initial.Reads as is-initial-reads
-use Rattle.race.proofs.may_touch.Reads as may-touch-reads
+use Rattle.rules.proofs.pairs.may_touch.Reads as may-touch-reads
 use Rattle.rows.proofs.bytes.read_row.Reads as read-row-reads
 
 -- src/grid.rt:135:9

@@ -26,7 +26,8 @@ use Rattle.area.specs.Regions.{GRID, ROWS-GRID}
 use Rattle.quick_sync.specs.Regions.{PASSED, AGENTS, UP-TO, UP-TO-END}
 use Rattle.quick_sync.specs.Product.{byWay, times, grid}
 use Rattle.quick_sync.specs.Links.{ahead, aheadTo}
-use Rattle.quick_sync.specs.Rows.{row-one-if}
+use Rattle.quick_sync.specs.Rows.{and-on, row-one-if}
+use Rattle.quick_sync.specs.Words.{eqb-turn}
 
 -- ---- definitions
 
@@ -92,14 +93,7 @@ module _ (b : List ℕ) (n : ℕ) (r : ℕ → ℕ → Bool) where
 
   from-own : (a g k : ℕ) → g ≡ rowOf b a .agent → barrier (rowOf b a) ≡ true → anyBelow n (fromRow b a g r k) ≡ times n (ahead (decode b [] OFF n)) r a k
   unfolding fromRow times byWay ahead upTo sameAgent decode _and_
-  from-own a g k e h = any-cong _ _ n (λ c l. rw (h, e, turn (rowOf b c .agent) (rowOf b a .agent)) refl)
-    where
-      turn : (x y : ℕ) → eqb x y ≡ eqb y x
-      turn x y = go (ℕ-discrete x y)
-        where
-          go : Dec (x ≡ y) → eqb x y ≡ eqb y x
-          go (yes q) = eq-eqb x y q ∙ sym (eq-eqb y x (sym q))
-          go (no q) = ne-eqb x y q ∙ sym (ne-eqb y x (λ z. q (sym z)))
+  from-own a g k e h = any-cong _ _ n (λ c l. rw (h, e, eqb-turn (rowOf b c .agent) (rowOf b a .agent)) refl)
 
   times-bare : (a k : ℕ) → barrier (rowOf b a) ≡ false → times n (ahead (decode b [] OFF n)) r a k ≡ false
   unfolding times byWay ahead decode
@@ -137,10 +131,6 @@ module _ (b : List ℕ) (p : List (List ℕ)) (mode : Mode) (n : ℕ) where
       back e = let s = split e in any-in _ n k l (and-true (s .0) (and-true (sym (at k) ∙ s .1) (eq-eqb k k refl)))
 
 -- ---- laws: words
-
-and-on : (a b : Bool) → a ≡ true → (a and b) ≡ b
-unfolding _and_
-and-on a b e = rw e refl
 
 -- a grid that lies before what changes
 kept : {w u : List ℕ} {c d : ℕ} (src : ℕ) → src + ROWS-GRID ≤ c → Within c d w u → (i j : ℕ) → i < ROWS → j < 64 * GRID → grid u src i j ≡ grid w src i j

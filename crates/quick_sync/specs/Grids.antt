@@ -17,7 +17,7 @@ use Rattle.bits.specs.Stage.{Holds}
 use Rattle.model.specs.Limits.{ROWS}
 use Rattle.area.specs.Regions.{GRID, ROWS-GRID}
 use Rattle.quick_sync.specs.Product.{grid}
-use Rattle.quick_sync.specs.Words.{Dropped}
+use Rattle.quick_sync.specs.Words.{Dropped, eqb-moved}
 
 -- ---- definitions
 
@@ -83,7 +83,7 @@ pub row-of-copy : {a n i : ℕ} {r : ℕ → ℕ → Bool} {w v x u : List ℕ} 
 unfolding rel
 row-of-copy {a} {n} {i} {r} {w} {v} {x} {u} e few room h l m is ev ex d =
     record {
-      cell = λ k q. d .cell ((a + i * GRID) * 64 + k) ∙ ap₂ (λ (y z : Bool). y and not z) (put k q (ℕ-discrete k e)) (apart k) ∙ sym (is k);
+      cell = λ k q. d .cell ((a + i * GRID) * 64 + k) ∙ ap₂ (λ (y z : Bool). y and not z) (put k q (ℕ-discrete k e)) (eqb-moved ((a + i * GRID) * 64) k i) ∙ sym (is k);
       frame = within-trans copied (within-trans (rw ex (within-setBit (a + i * GRID) (a + i * GRID + GRID) v ((a + i * GRID) * 64 + e) (omega arith) (omega arith)))
           (within-widen (a + i * GRID) (a + i * GRID + GRID) (omega arith) (omega arith) (d .frame)));
     }
@@ -93,13 +93,6 @@ row-of-copy {a} {n} {i} {r} {w} {v} {x} {u} e few room h l m is ev ex d =
 
     long : length v ≡ length w
     long = copied .len
-
-    apart : (k : ℕ) → eqb ((a + i * GRID) * 64 + k) ((a + i * GRID) * 64 + i) ≡ eqb k i
-    apart k = go (ℕ-discrete k i)
-      where
-        go : Dec (k ≡ i) → eqb ((a + i * GRID) * 64 + k) ((a + i * GRID) * 64 + i) ≡ eqb k i
-        go (yes q) = eq-eqb ((a + i * GRID) * 64 + k) ((a + i * GRID) * 64 + i) (omega arith) ∙ sym (eq-eqb k i q)
-        go (no q) = ne-eqb ((a + i * GRID) * 64 + k) ((a + i * GRID) * 64 + i) (λ z. q (omega arith)) ∙ sym (ne-eqb k i q)
 
     put : (k : ℕ) → k < n → Dec (k ≡ e) → bit x ((a + i * GRID) * 64 + k) ≡ (r e k or eqb k e)
     put k q (yes z) = rw (ex, z) (setBit-same v ((a + i * GRID) * 64 + e) (omega (arith, long))) ∙ sym (or-right (r e k) (eq-eqb k e z))

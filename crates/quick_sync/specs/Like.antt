@@ -16,6 +16,7 @@ use Rattle.model.specs.Scope.{INVOCATION, SUBGROUP, WORKGROUP, FAMILY, DEVICE, 
 use Rattle.model.specs.Table.{OFF, byteOf, rowOf, decode}
 use Rattle.model.specs.Synchronizes.{joins}
 use Rattle.rows.specs.Instances.{ofInstance}
+use Rattle.quick_sync.specs.Words.{eqb-turn}
 
 -- ---- definitions
 
@@ -89,13 +90,6 @@ module _ (p : List (List ℕ)) (s g h : ℕ) (e : shares p s g h ≡ true) where
 pub joins-any : (b : List ℕ) (p : List (List ℕ)) (mode : Mode) (n i j : ℕ) → joins (decode b p OFF n) i j ≡ joins (decode b p mode n) i j
 unfolding joins decode
 joins-any b p mode n i j = refl
-
-pub turn : (x y : ℕ) → eqb x y ≡ eqb y x
-turn x y = go (ℕ-discrete x y)
-  where
-    go : Dec (x ≡ y) → eqb x y ≡ eqb y x
-    go (yes q) = eq-eqb x y q ∙ sym (eq-eqb y x (sym q))
-    go (no q) = ne-eqb x y q ∙ sym (ne-eqb y x (λ z. q (sym z)))
 
 round : (u v w : Bool) → (u and v and w) ≡ ((true and v and w or false) and u)
 unfolding _and_ _or_
@@ -182,7 +176,7 @@ module _ (b : List ℕ) (p : List (List ℕ)) (n c e : ℕ) (kc : rowOf b c .kin
   itself : (not (eqb c e) and sameInstance (rowOf b c) (rowOf b e) and shares p (rowOf b c .class) (rowOf b c .agent) (rowOf b e .agent))
       ≡ ((not (eqb e e) and sameInstance (rowOf b e) (rowOf b e) and shares p (rowOf b e .class) (rowOf b e .agent) (rowOf b e .agent) or eqb e e) and not (eqb e c))
   itself =
-      rw (eq-eqb e e refl, sym (same e) ∙ met, facts .3, turn c e) (own (not (eqb e c)) (sameInstance (rowOf b e) (rowOf b e)) (shares p (rowOf b e .class) (rowOf b e .agent) (rowOf b e .agent)))
+      rw (eq-eqb e e refl, sym (same e) ∙ met, facts .3, eqb-turn c e) (own (not (eqb e c)) (sameInstance (rowOf b e) (rowOf b e)) (shares p (rowOf b e .class) (rowOf b e .agent) (rowOf b e .agent)))
     where
       met : sameInstance (rowOf b e) (rowOf b e) ≡ true
       met = of-itself (rowOf b e) (facts .0)
@@ -196,5 +190,5 @@ module _ (b : List ℕ) (p : List (List ℕ)) (n c e : ℕ) (kc : rowOf b c .kin
           ≡ ((not (eqb e d) and sameInstance (rowOf b e) (rowOf b d) and shares p (rowOf b e .class) (rowOf b e .agent) (rowOf b d .agent) or eqb d e) and not (eqb d c))
       go (yes q) = rw q itself
       go (no q) =
-          rw (ne-eqb d e q, ne-eqb e d (λ z. q (sym z)), same d, mates d, turn c d)
+          rw (ne-eqb d e q, ne-eqb e d (λ z. q (sym z)), same d, mates d, eqb-turn c d)
           (round (not (eqb d c)) (sameInstance (rowOf b c) (rowOf b d)) (shares p (rowOf b c .class) (rowOf b c .agent) (rowOf b d .agent)))

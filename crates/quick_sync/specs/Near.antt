@@ -8,7 +8,7 @@ use native.Mathlib.Omega.{arith}
 use native.Mathlib.Decide.{decLt, ℕ-discrete}
 use lib.ListN.{length}
 use lib.Dec.{eqb}
-use borrow.Author.Tests.{eq-eqb, ne-eqb, eqb-true, not-false}
+use borrow.Author.Tests.{eqb-true, not-false}
 use Rattle.finite.specs.Logic.{_and_, _or_, which, and-false-left, not-both, or-left, or-right}
 use Rattle.finite.specs.Below.{anyBelow, any-off}
 use Rattle.bits.specs.Bit.{bit, zeros, bit-zeros-in, setBit, setBit-same, setBit-other, setBitIf, setBitIf-same, setBitIf-other}
@@ -27,10 +27,10 @@ use Rattle.sets.specs.Meet.{meetRow, both, within-meetRow, bit-meetRow}
 use Rattle.quick_sync.specs.Regions.{LINKS, PASSED, COVER, GOOD, GOOD-END, TODO, TODO-END}
 use Rattle.quick_sync.specs.Walk.{either, Next, once}
 use Rattle.quick_sync.specs.Product.{grid}
-use Rattle.quick_sync.specs.Words.{Dropped, Lessened}
+use Rattle.quick_sync.specs.Words.{Dropped, Lessened, eqb-turn, eqb-moved}
 use Rattle.quick_sync.specs.Grids.{RowsOf, rows-of-more, rows-of-row, rows-of-done, row-of-none}
 use Rattle.quick_sync.specs.Links.{led, passed, syncBy, sync-is}
-use Rattle.quick_sync.specs.Like.{shares-peer, turn}
+use Rattle.quick_sync.specs.Like.{shares-peer}
 use Rattle.quick_sync.specs.Rows.{and-on, sync-none}
 use Rattle.quick_sync.specs.State.{Linked, linked-kept, sync-passed}
 
@@ -307,7 +307,7 @@ pub drawn : (a e : ℕ) (w : List ℕ) {v x u : List ℕ} → a < ROWS → e < R
 unfolding rel both
 drawn a e w {v} {x} {u} la le room ev ex d =
     record {
-      cell = λ k q. d .cell ((SYNC + a * GRID) * 64 + k) ∙ ap₂ (λ (y z : Bool). y and not z) (second k q ∙ ap₂ _or_ (first k q) (later k q)) (apart k);
+      cell = λ k q. d .cell ((SYNC + a * GRID) * 64 + k) ∙ ap₂ (λ (y z : Bool). y and not z) (second k q ∙ ap₂ _or_ (first k q) (later k q)) (eqb-moved ((SYNC + a * GRID) * 64) k a);
       frame = within-trans one (within-trans two (within-widen (SYNC + a * GRID) (SYNC + a * GRID + GRID) (omega arith) (omega arith) (d .frame)));
     }
   where
@@ -334,13 +334,6 @@ drawn a e w {v} {x} {u} la le room ev ex d =
     later : (k : ℕ) → k < 64 * GRID → (bit v ((PASSED + a * GRID) * 64 + k) and bit v ((GOOD + e * GRID) * 64 + k))
         ≡ (bit w ((PASSED + a * GRID) * 64 + k) and bit w ((GOOD + e * GRID) * 64 + k))
     later k q = ap₂ _and_ (kept (PASSED + a * GRID) k (omega arith)) (kept (GOOD + e * GRID) k (omega arith))
-
-    apart : (k : ℕ) → eqb ((SYNC + a * GRID) * 64 + k) ((SYNC + a * GRID) * 64 + a) ≡ eqb k a
-    apart k = go (ℕ-discrete k a)
-      where
-        go : Dec (k ≡ a) → eqb ((SYNC + a * GRID) * 64 + k) ((SYNC + a * GRID) * 64 + a) ≡ eqb k a
-        go (yes q) = eq-eqb ((SYNC + a * GRID) * 64 + k) ((SYNC + a * GRID) * 64 + a) (omega arith) ∙ sym (eq-eqb k a q)
-        go (no q) = ne-eqb ((SYNC + a * GRID) * 64 + k) ((SYNC + a * GRID) * 64 + a) (λ z. q (omega arith)) ∙ sym (ne-eqb k a q)
 
 -- ---- laws: turns
 
@@ -431,7 +424,7 @@ module _ (b : List ℕ) (p : List (List ℕ)) (mode : Mode) (n a : ℕ) (few : n
         d .cell k (omega arith)
         ∙ ap₂ _and_
         (ap₂ _or_ (ap₂ _or_ (sync-zero k q) (ap₂ _and_ (linked-v .links .cell a k la q) (good k q))) (ap₂ _and_ (linked-v .passing .cell a k la q) (good k q)))
-        (ap not (turn k a))
+        (ap not (eqb-turn k a))
         ∙ mixed (led (decode b p mode n) a k) (passed (decode b p mode n) a k) (grid v COVER e k) (acquires (rowOf b k)) (together p (rowOf b a) (rowOf b k)) (not (eqb a k)) (covered-by k q)
         ∙ sym (sync-near k q)
 

@@ -33,12 +33,28 @@ pub record Lessened (w u : List ℕ) (dst a b c : ℕ) : Type 0 where
   pub cell : (k : ℕ) → k < 64 * GRID → bit u (dst * 64 + k) ≡ (either w a b k and not (bit w (c * 64 + k)))
   pub frame : Within dst (dst + GRID) w u
 
--- ---- laws
+-- ---- laws: equal numbers
 
-and-on : (b : Bool) → (b and true) ≡ b
+pub eqb-turn : (x y : ℕ) → eqb x y ≡ eqb y x
+eqb-turn x y = go (ℕ-discrete x y)
+  where
+    go : Dec (x ≡ y) → eqb x y ≡ eqb y x
+    go (yes q) = eq-eqb x y q ∙ sym (eq-eqb y x (sym q))
+    go (no q) = ne-eqb x y q ∙ sym (ne-eqb y x (λ z. q (sym z)))
+
+pub eqb-moved : (a k i : ℕ) → eqb (a + k) (a + i) ≡ eqb k i
+eqb-moved a k i = go (ℕ-discrete k i)
+  where
+    go : Dec (k ≡ i) → eqb (a + k) (a + i) ≡ eqb k i
+    go (yes q) = eq-eqb (a + k) (a + i) (omega arith) ∙ sym (eq-eqb k i q)
+    go (no q) = ne-eqb (a + k) (a + i) (λ z. q (omega arith)) ∙ sym (ne-eqb k i q)
+
+-- ---- laws: bits
+
+and-kept : (b : Bool) → (b and true) ≡ b
 unfolding _and_
-and-on true = refl
-and-on false = refl
+and-kept true = refl
+and-kept false = refl
 
 differ : Bool → Bool → Bool
 differ true b = not b
@@ -94,7 +110,7 @@ dropped w u k l e = record { cell = λ j. cell j (ℕ-discrete (j / 64) (k / 64)
         go (no d) = ne-eqb (j % 64) (k % 64) (λ r. d (omega arith)) ∙ sym (ne-eqb j k d)
 
     on : (b : Bool) → (b and true) ≡ b
-    on b = and-on b
+    on b = and-kept b
 
     cell : (j : ℕ) → Dec (j / 64 ≡ k / 64) → bitOf (getD u (j / 64) 0) (j % 64) ≡ (bitOf (getD w (j / 64) 0) (j % 64) and not (eqb j k))
     cell j (yes q) =

@@ -160,10 +160,10 @@ pub fn apart_at(rows: &[u8], p: &[[u16; 4]], i: u16, r: Row, x: [u16; 4], j: u16
 pub fn instance_broken(rows: &[u8], p: Places, i: u16) -> bool
     ensures { λ b. ⌜ b ≡ instanceBroken (decode (now (rows .entry)) p OFF 0) i ⌝ }
 {
-    let r = bytes::read_row(rows, i);
-    if r.kind != kinds::CONTROL {
+    if bytes::read_kind(rows, i) != kinds::CONTROL {
         return false;
     }
+    let r = bytes::read_row(rows, i);
     let x = scopes::place_in(&p, r.agent);
     for j in 0..i {
         if apart_at(rows, &p, i, r, x, j) {

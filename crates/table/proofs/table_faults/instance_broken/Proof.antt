@@ -14,6 +14,7 @@ use Rattle.table.proofs.table_faults.instance_broken.Statement.{stateme
 use Rattle.table.proofs.table_faults.instance_broken.Tie as tie
 use Rattle.table.proofs.table_faults.instance_broken.Reads as reads
 use Rattle.table.proofs.table_faults.instance_broken.Lts as lts
+use Rattle.rows.proofs.bytes.read_kind.Reads as read-kind-reads
 use Rattle.rows.proofs.bytes.read_row.Reads as read-row-reads
 use Rattle.rows.proofs.scopes.place_in.Reads as place-in-reads
 use Rattle.table.proofs.table_faults.apart_at.Reads as apart-at-reads
@@ -24,13 +25,17 @@ Inv-loop rows i p r x j₀ j = (j ≤ i) × (anyBelow j (apartAt (decode rows p 
 abbrev μ-loop : tie.MeasureT-loop
 μ-loop rows i p r x j₀ j = i - j
 
--- src/table_faults.rt:157:9
+-- src/table_faults.rt:157:8
+read-kind-requires : tie.Need-read-kind-requires Inv-loop μ-loop
+read-kind-requires c κs = search needs
+
+-- src/table_faults.rt:158:9
+returns : tie.Need-returns Inv-loop μ-loop
+returns c = instance-none _ _ _ (λ e. c .if1 .taken (c .before .read-kind .ensures ∙ e))
+
+-- src/table_faults.rt:160:9
 read-row-requires : tie.Need-read-row-requires Inv-loop μ-loop
 read-row-requires c κs = search needs
-
--- src/table_faults.rt:159:9
-returns : tie.Need-returns Inv-loop μ-loop
-returns c = instance-none _ _ _ (λ e. c .if1 .taken (ap (λ (q : Row). q .kind) (c .before .before .read-row .ensures) ∙ e))
 
 -- src/table_faults.rt:161:30
 slice-aggregate-place-in : tie.Need-slice-aggregate-place-in Inv-loop μ-loop
@@ -42,7 +47,9 @@ place-in-requires c κs = search needs
 
 -- src/table_faults.rt:162:5
 loop-holds : tie.Need-loop-holds Inv-loop μ-loop
-loop-holds c = (search needs, any-none _, c .before .before .before .before .read-row .ensures, search needs, c .place-in .ensures)
+loop-holds c =
+    let row = c .before .before .read-row .ensures in
+    (search needs, any-none _, row, ap (λ (q : Row). q .kind) row ∙ sym (c .before .before .before .before .read-kind .ensures) ∙ c .before .before .before .if1 .left, c .place-in .ensures)
 
 -- src/table_faults.rt:163:27
 slice-aggregate-apart-at : tie.Need-slice-aggregate-apart-at Inv-loop μ-loop
@@ -82,8 +89,9 @@ instance-broken-spec =
     (tie.spec
     Inv-loop
     μ-loop
-    read-row-requires
+    read-kind-requires
     returns
+    read-row-requires
     slice-aggregate-place-in
     place-in-requires
     loop-holds

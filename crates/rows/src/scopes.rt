@@ -4,7 +4,7 @@ ghost use mathlib.Core.List.{List, []};
 ghost use Prim.Native.Nat.{ℕ, _+_, _*_, _<_};
 ghost use lib.ListN.{getD};
 ghost use Rattle.model.specs.Table.{threeAt, fourAt, slotAt, placesOf, modeOf};
-ghost use Rattle.model.specs.Scope.{agentKind, shader, host, oneInstance, shares, together, sameLocation, mutualRows, age, later, laterWriter};
+ghost use Rattle.model.specs.Scope.{agentKind, shader, host, shares, together, sameLocation, mutualRows, age, later, laterWriter};
 ghost use Rattle.model.specs.Table.{rowOf};
 ghost use Rattle.rows.specs.Places.{IsPlace};
 ghost use Rattle.rows.specs.Instances.{ofInstance};
@@ -114,14 +114,6 @@ fn place_number(p: Places, a: u8, k: usize) -> u16
     if i < model::AGENTS { p[i][k] } else { 0 }
 }
 
-// The place of agent a as numbers of their own, zeros for an agent that there is no slot for.
-fn place_at(p: Places, a: u8) -> [u16; 4]
-    ensures { λ x. ⌜ IsPlace p a x ⌝ }
-{
-    let i = a as usize;
-    if i < model::AGENTS { p[i] } else { [0; 4] }
-}
-
 // ---- scopes
 
 // What agent a is.
@@ -143,45 +135,7 @@ pub fn is_host(p: Places, a: u8) -> bool
     agent_kind(p, a) == HOST
 }
 
-// Whether one instance of the scope holds two agents, whose places are x and y.
-fn one_instance(scope: u8, a: u8, b: u8, x: [u16; 4], y: [u16; 4]) -> bool
-    ensures { λ r. ⌜ ((p : List (List ℕ)) → IsPlace p a x → IsPlace p b y → r ≡ oneInstance p scope a b) ⌝ }
-{
-    let family = x[0] == y[0];
-    let workgroup = x[1] == y[1];
-    let subgroup = x[2] == y[2];
-    (scope == DEVICE)
-        | (scope == FAMILY) & family
-        | (scope == WORKGROUP) & family & workgroup
-        | (scope == SUBGROUP) & family & workgroup & subgroup
-        | (scope == INVOCATION) & (a == b)
-}
-
-// Whether they share the scope: scopes hold between shader agents only.
-fn shares_by(scope: u8, a: u8, b: u8, x: [u16; 4], y: [u16; 4]) -> bool
-    ensures { λ r. ⌜ ((p : List (List ℕ)) → IsPlace p a x → IsPlace p b y → r ≡ shares p scope a b) ⌝ }
-{
-    (x[3] == SHADER) & (y[3] == SHADER) & one_instance(scope, a, b, x, y)
-}
-
-// The same of two agents. All places go by value, so each is taken out once.
-pub fn shares_scope(p: Places, scope: u8, a: u8, b: u8) -> bool
-    ensures { λ r. ⌜ r ≡ shares p scope a b ⌝ }
-{
-    shares_by(scope, a, b, place_at(p, a), place_at(p, b))
-}
-
-// Whether the agents of two rows share both rows' scopes.
-pub fn together(p: Places, r: Row, q: Row) -> bool
-    ensures { λ b. ⌜ b ≡ together p r q ⌝ }
-{
-    let x = place_at(p, r.agent);
-    let y = place_at(p, q.agent);
-    shares_by(r.scope, r.agent, q.agent, x, y) & shares_by(q.scope, r.agent, q.agent, x, y)
-}
-
-// ---- the same of places that are lent: none of them is copied but the one that is asked
-
+// The place of agent a, zeros for an agent that there is no slot for. Places are lent, since all of them by value would be copied.
 pub fn place_in(p: &[[u16; 4]], a: u8) -> [u16; 4]
     ensures { λ x. ⌜ IsPlace (now (p .entry)) a x ⌝ }
 {
@@ -222,18 +176,33 @@ pub fn shares_from(p: &[[u16; 4]], scope: u8, a: u8, x: [u16; 4], b: u8) -> bool
     shares_at(scope, a, b, x, place_in(p, b))
 }
 
+// Whether two agents share the scope: scopes hold between shader agents only.
 pub fn shares_in(p: &[[u16; 4]], scope: u8, a: u8, b: u8) -> bool
     ensures { λ r. ⌜ r ≡ shares (now (p .entry)) scope a b ⌝ }
 {
     shares_at(scope, a, b, place_in(p, a), place_in(p, b))
 }
 
+// Whether the agents of two rows share both rows' scopes.
 pub fn together_in(p: &[[u16; 4]], r: Row, q: Row) -> bool
     ensures { λ b. ⌜ b ≡ together (now (p .entry)) r q ⌝ }
 {
     let x = place_in(p, r.agent);
     let y = place_in(p, q.agent);
     shares_at(r.scope, r.agent, q.agent, x, y) & shares_at(q.scope, r.agent, q.agent, x, y)
+}
+
+// The same of places by value.
+pub fn shares_scope(p: Places, scope: u8, a: u8, b: u8) -> bool
+    ensures { λ r. ⌜ r ≡ shares p scope a b ⌝ }
+{
+    shares_in(&p, scope, a, b)
+}
+
+pub fn together(p: Places, r: Row, q: Row) -> bool
+    ensures { λ b. ⌜ b ≡ together p r q ⌝ }
+{
+    together_in(&p, r, q)
 }
 
 // ---- control barriers

@@ -77,6 +77,11 @@ module _ (b : List ℕ) where
   outside-off i m j h =
       sym (and-false-left _ _ (and-false-right _ _ (and-false-right _ _ (ne-eqb (rowOf b i .reference) (rowOf b j .reference) (λ e. h (sym e))))))
 
+  pub begins-start : (i m : ℕ) → (rowOf b m .start ≡ rowOf b i .start → ⊥) → false ≡ begins (decode b [] OFF 0) i m
+  unfolding begins rival sameLocation decode
+  begins-start i m h =
+      sym (and-false-left _ _ (and-false-right _ _ (and-false-left _ _ (and-false-left _ _ (ne-eqb (rowOf b i .start) (rowOf b m .start) (λ e. h (sym e)))))))
+
   pub begins-none : (i m : ℕ) (r f : Row) (x : Bool) → r ≡ rowOf b i → f ≡ rowOf b m → x ≡ rival r f → x ≡ false → false ≡ begins (decode b [] OFF 0) i m
   unfolding begins decode _and_
   begins-none i m r f x er ef ex h = rw (← er, ← ef, ← ex, h) refl

@@ -212,10 +212,13 @@ pub fn any_outside(rows: &[u8], i: u16, m: u16) -> bool
     false
 }
 
-// Row m is a rival of row i, and the run that begins with it has all those up to row i.
+// Row m is a rival of row i, and the run that begins with it has all those up to row i. Most rows have another start.
 pub fn begins_at(rows: &[u8], i: u16, m: u16) -> bool
     ensures { λ b. ⌜ b ≡ begins (decode (now (rows .entry)) [] OFF 0) i m ⌝ }
 {
+    if bytes::read_start(rows, m) != bytes::read_start(rows, i) {
+        return false;
+    }
     let r = bytes::read_row(rows, i);
     let f = bytes::read_row(rows, m);
     if !is_rival(r, f) {

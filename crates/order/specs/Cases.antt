@@ -7,7 +7,7 @@ use Prim.Native.Nat.{ℕ, _*_, _/_, _%_, _<_}
 use native.Mathlib.Omega.{arith}
 use Rattle.bits.specs.Matrix.{rel}
 use Rattle.area.specs.Regions.{SYNC, GRID}
-use Rattle.sequence.specs.Known.{Synced}
+use Rattle.area.specs.Synced.{Synced}
 use borrow.Author.Tests.{eqb-true, eq-eqb, ne-eqb}
 use Rattle.finite.specs.Logic.{_and_, _or_, split, and-false-right, not-out, or-cases, or-left, or-none, or-false}
 use Rattle.finite.specs.Below.{anyBelow}

@@ -20,7 +20,7 @@ use Rattle.model.specs.Moment.{programOrder}
 use Rattle.model.specs.Happens.{step, interThread, live, interThreadBy, happens}
 use Rattle.area.specs.Regions.{MUTUAL, HAPPENS, HAPPENS-END, STEP, STEP-END, MOMENTS}
 use Rattle.area.specs.State.{MadeOrdered}
-use Rattle.sequence.specs.Known.{Synced, MadeSynced}
+use Rattle.area.specs.Synced.{Synced, MadeSynced}
 
 -- ---- definitions
 

@@ -19,7 +19,7 @@ use Rattle.model.specs.Table.{rowOf, decode}
 use Rattle.model.specs.Moment.{AT, programOrder}
 use Rattle.laws.specs.HostLaws.{step₁}
 use Rattle.area.specs.Regions.{SYNC, STEP, STEP-END, GRID, MOMENTS}
-use Rattle.sequence.specs.Known.{Synced, synced-kept}
+use Rattle.area.specs.Synced.{Synced, synced-kept}
 use Rattle.rules.specs.Cases.{holdsAt}
 use Rattle.order.specs.Cases.{stepRows, step-read, step-ends}
 

@@ -11,7 +11,7 @@ ghost use Rattle.model.specs.Moment.{programOrder};
 ghost use Rattle.model.specs.Happens.{live};
 ghost use Rattle.area.specs.Regions.{HAPPENS, HAPPENS-END, STEP-END, MOMENTS};
 ghost use Rattle.area.specs.State.{MadeOrdered};
-ghost use Rattle.sequence.specs.Known.{Synced};
+ghost use Rattle.area.specs.Synced.{Synced};
 ghost use Rattle.order.specs.Sets.{interBy};
 use model::Mode;
 use model::Places;

@@ -12,7 +12,7 @@ ghost use Rattle.model.specs.Moment.{programOrder};
 ghost use Rattle.model.specs.Happens.{step};
 ghost use Rattle.laws.specs.HostLaws.{step₁};
 ghost use Rattle.area.specs.Regions.{SYNC, STEP, STEP-END, GRID, MOMENTS};
-ghost use Rattle.sequence.specs.Known.{Synced};
+ghost use Rattle.area.specs.Synced.{Synced};
 ghost use Rattle.order.specs.Cases.{stepRows};
 ghost use Rattle.order.specs.Steps.{CellMade, RowMade};
 ghost use Rattle.order.specs.System.{systemBy, systemTo};

@@ -23,7 +23,7 @@ use Rattle.model.specs.Moment.{programOrder}
 use Rattle.model.specs.Happens.{holding, interThread, live, interThreadBy, happens}
 use Rattle.area.specs.Regions.{MUTUAL, HAPPENS, HAPPENS-END, MOMENTS, LOCATED-END}
 use Rattle.area.specs.State.{Ordered}
-use Rattle.sequence.specs.Known.{Synced, synced-kept}
+use Rattle.area.specs.Synced.{Synced, synced-kept}
 use Rattle.order.specs.Sets.{interBy}
 use Rattle.sets.specs.Own.{ClosedOwn}
 use Rattle.hubs.specs.Quiet.{inter-order}

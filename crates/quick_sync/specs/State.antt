@@ -16,7 +16,7 @@ use Rattle.model.specs.Table.{Table, OFF, decode}
 use Rattle.model.specs.Scope.{mutually}
 use Rattle.model.specs.Synchronizes.{takesFrom, joins, sequence, synchronizes}
 use Rattle.area.specs.Regions.{MUTUAL, MUTUAL-END, SEQUENCE, SEQUENCE-END, SYNC, HAPPENS, HAPPENS-END, GRID, ROWS-GRID}
-use Rattle.sequence.specs.Known.{Synced, known-made, known-kept}
+use Rattle.area.specs.Synced.{Synced, known-made, known-kept}
 use Rattle.quick_sync.specs.Regions.{LINKS, HEADS, TAKES, GETS, HANDS, HANDS-END, ALONE, JOINS, MEETS, PASSED, AGENTS, UP-TO, UP-TO-END, TODO-END}
 use Rattle.quick_sync.specs.Product.{grid, times, times-held, times-right}
 use Rattle.quick_sync.specs.Walk.{either}

@@ -13,7 +13,7 @@ ghost use Rattle.model.specs.Table.{rowOf, decode};
 ghost use Rattle.model.specs.Scope.{mutually};
 ghost use Rattle.model.specs.Synchronizes.{takesFrom};
 ghost use Rattle.area.specs.Regions.{GRID};
-ghost use Rattle.sequence.specs.Known.{Known};
+ghost use Rattle.area.specs.Synced.{Known};
 ghost use Rattle.quick_sync.specs.Regions.{HEADS, TAKES, GETS, HANDS, HANDS-END, LINKS};
 ghost use Rattle.quick_sync.specs.Links.{heads, gets, released, gotten, led};
 ghost use Rattle.quick_sync.specs.Rows.{atomicOf};

@@ -11,7 +11,7 @@ ghost use Rattle.model.specs.Row.{acquires, releases};
 ghost use Rattle.model.specs.Table.{rowOf, decode};
 ghost use Rattle.model.specs.Synchronizes.{synchronizes};
 ghost use Rattle.area.specs.Regions.{MUTUAL, SYNC, HAPPENS-END, GRID};
-ghost use Rattle.sequence.specs.Known.{Known, Synced};
+ghost use Rattle.area.specs.Synced.{Known, Synced};
 ghost use Rattle.quick_sync.specs.Regions.{LINKS, PASSED, COVER, GOOD-END, TODO-END};
 ghost use Rattle.quick_sync.specs.State.{Linked, MadeLinked};
 ghost use Rattle.quick_sync.specs.Walk.{either};

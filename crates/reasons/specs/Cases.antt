@@ -16,7 +16,7 @@ use Rattle.model.specs.Happens.{holding, concerns, bySync, toRelease, fromAcqui
 use Rattle.model.specs.Reason.{lowestCase, stepNumber}
 use Rattle.rules.specs.Cases.{caseRows, case-one, case-two, case-three}
 use Rattle.area.specs.Regions.{SYNC, GRID}
-use Rattle.sequence.specs.Known.{Synced}
+use Rattle.area.specs.Synced.{Synced}
 
 -- ---- definitions
 

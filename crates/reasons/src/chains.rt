@@ -15,7 +15,7 @@ ghost use Rattle.model.specs.Table.{decode, rowOf};
 ghost use Rattle.model.specs.Moment.{programOrder};
 ghost use Rattle.model.specs.Reason.{hasChainBy, stepNumber};
 ghost use Rattle.area.specs.Regions.{HAPPENS, STEP, CHAINS, CHAINS-END, MOMENTS};
-ghost use Rattle.sequence.specs.Known.{Synced};
+ghost use Rattle.area.specs.Synced.{Synced};
 ghost use Rattle.walks.specs.Layers.{Layers};
 ghost use Rattle.reasons.specs.Layers.{Layered};
 ghost use Rattle.reasons.specs.Cases.{lowestRows};

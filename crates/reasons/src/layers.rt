@@ -4,7 +4,7 @@ ghost use Prim.Native.Nat.{_*_, _≤_, _<_};
 ghost use lib.ListN.{length};
 ghost use Rattle.model.specs.Limits.{ROWS, WORK};
 ghost use Rattle.model.specs.Table.{decode};
-ghost use Rattle.sequence.specs.Known.{Synced};
+ghost use Rattle.area.specs.Synced.{Synced};
 ghost use Rattle.reasons.specs.Layers.{MadeLayered};
 use model::Mode;
 use model::Places;

@@ -6,7 +6,7 @@ ghost use Rattle.finite.specs.Below.{anyBelow};
 ghost use Rattle.model.specs.Limits.{ROWS, WORK};
 ghost use Rattle.model.specs.Table.{decode};
 ghost use Rattle.model.specs.Synchronizes.{takesFrom, carriesOut, carriesIn, carriesOver};
-ghost use Rattle.sequence.specs.Known.{Known};
+ghost use Rattle.area.specs.Synced.{Known};
 use model::Mode;
 use model::Places;
 use rules::carriers;

@@ -7,7 +7,7 @@ ghost use Rattle.model.specs.Limits.{ROWS, WORK};
 ghost use Rattle.model.specs.Table.{decode};
 ghost use Rattle.model.specs.Synchronizes.{syncAtomics, syncFromBarrier, syncToBarrier, syncBarriers, syncControl, synchronizes};
 ghost use Rattle.area.specs.Regions.{SYNC, SYNC-END, GRID};
-ghost use Rattle.sequence.specs.Known.{Known, MadeSynced};
+ghost use Rattle.area.specs.Synced.{Known, MadeSynced};
 use crate::carriers;
 use crate::heads;
 use model::Mode;

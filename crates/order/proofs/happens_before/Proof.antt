@@ -7,7 +7,7 @@ use Rattle.bits.specs.Stage.{Holds, holds-cong, holds-added}
 use Rattle.model.specs.Limits.{CLASS-SETS}
 use Rattle.model.specs.Table.{decode}
 use Rattle.area.specs.Regions.{HAPPENS, STEP-END, MOMENTS}
-use Rattle.sequence.specs.Known.{Synced, synced-kept}
+use Rattle.area.specs.Synced.{Synced, synced-kept}
 use Rattle.order.specs.Sets.{upTo, upTo-none, upTo-more, ordered-made}
 use borrow.Author.Needs.{needs}
 use Rattle.order.proofs.happens_before.Statement.{statement}

@@ -2,7 +2,7 @@
 use mathlib.Core.Path.{refl, sym, _∙_}
 use native.Mathlib.Omega.{arith}
 use Rattle.model.specs.Table.{decode}
-use Rattle.sequence.specs.Known.{synced-kept}
+use Rattle.area.specs.Synced.{synced-kept}
 use Rattle.reasons.specs.Whole.{told-word, told-none, told-chain, steps-asked}
 use borrow.Author.Needs.{needs}
 use Rattle.reasons.proofs.derive_moments.Statement.{statement}

@@ -1,7 +1,7 @@
 use mathlib.Core.Path.{sym, _∙_}
 use native.Mathlib.Omega.{arith}
 use borrow.Author.Tests.{not-true}
-use Rattle.sequence.specs.Known.{known-kept}
+use Rattle.area.specs.Synced.{known-kept}
 use Rattle.quick_sync.specs.Regions.{LINKS, HANDS-END}
 use Rattle.quick_sync.specs.State.{cleared-made, links-made}
 use Rattle.quick_sync.specs.Rows.{led-none}

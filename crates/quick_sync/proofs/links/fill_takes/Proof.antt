@@ -9,7 +9,7 @@ use Rattle.model.specs.Table.{rowOf, decode}
 use Rattle.model.specs.Synchronizes.{takesFrom}
 use Rattle.area.specs.Regions.{GRID}
 use Rattle.quick_sync.specs.Regions.{TAKES, GETS}
-use Rattle.sequence.specs.Known.{Known, known-kept}
+use Rattle.area.specs.Synced.{Known, known-kept}
 use Rattle.quick_sync.specs.Rows.{within-row}
 use borrow.Author.Needs.{needs}
 use Rattle.quick_sync.proofs.links.fill_takes.Statement.{statement}

@@ -12,7 +12,7 @@ use Rattle.model.specs.Scope.{mutually}
 use Rattle.model.specs.Synchronizes.{takesFrom}
 use Rattle.area.specs.Regions.{GRID}
 use Rattle.quick_sync.specs.Regions.{TAKES, GETS}
-use Rattle.sequence.specs.Known.{Known, known-kept}
+use Rattle.area.specs.Synced.{Known, known-kept}
 use Rattle.rules.specs.Forms.{takes-apart}
 use Rattle.quick_sync.specs.Walk.{walked, fill-pass}
 use Rattle.quick_sync.specs.Rows.{row-off, takes-none}

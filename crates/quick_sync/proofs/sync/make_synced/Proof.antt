@@ -1,5 +1,5 @@
 use native.Mathlib.Omega.{arith}
-use Rattle.sequence.specs.Known.{known-made}
+use Rattle.area.specs.Synced.{known-made}
 use Rattle.quick_sync.specs.State.{synced-made}
 use borrow.Author.Needs.{needs}
 use Rattle.quick_sync.proofs.sync.make_synced.Statement.{statement}

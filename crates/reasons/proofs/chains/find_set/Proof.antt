@@ -9,7 +9,7 @@ use Rattle.model.specs.Limits.{CLASS-SETS}
 use Rattle.model.specs.Table.{decode}
 use Rattle.model.specs.Reason.{hasChainBy}
 use Rattle.area.specs.Regions.{HAPPENS, CHAINS-END}
-use Rattle.sequence.specs.Known.{Synced, synced-kept}
+use Rattle.area.specs.Synced.{Synced, synced-kept}
 use Rattle.reasons.specs.Found.{set-found, set-missed}
 use borrow.Author.Needs.{needs}
 use Rattle.reasons.proofs.chains.find_set.Statement.{statement}

@@ -11,7 +11,7 @@ use Rattle.model.specs.declared.Mode.{Mode}
 use Rattle.model.specs.Table.{decode}
 use Rattle.model.specs.Reason.{stepNumber}
 use Rattle.area.specs.Regions.{STEP, MOMENTS}
-use Rattle.sequence.specs.Known.{Synced}
+use Rattle.area.specs.Synced.{Synced}
 use Rattle.walks.specs.Layers.{next-is}
 use Rattle.walks.specs.Left.{Left, left-none, left-more}
 use borrow.Author.Needs.{needs}

@@ -1,7 +1,7 @@
 use Rattle.model.specs.Table.{decode}
 use Rattle.model.specs.Synchronizes.{synchronizes}
 use Rattle.area.specs.Regions.{SYNC, SYNC-END, GRID}
-use Rattle.sequence.specs.Known.{Known, known-kept}
+use Rattle.area.specs.Synced.{Known, known-kept}
 use mathlib.Core.Path.{_≡_, refl, ap, _∙_}
 use Prim.Native.Nat.{_+_, _-_, _*_, _≤_}
 use native.Mathlib.Omega.{arith}

@@ -1,4 +1,4 @@
-use Rattle.sequence.specs.Known.{known-made, synced-made}
+use Rattle.area.specs.Synced.{known-made, synced-made}
 use borrow.Author.Needs.{needs}
 use Rattle.sequence.proofs.sync.make_synced.Statement.{statement}
 use Rattle.sequence.proofs.sync.make_synced.Tie as tie

@@ -1,4 +1,4 @@
--- What the work area holds between the stages of this crate, and after them. Assumes nothing.
+-- What the work area holds between the stages that make synchronizes-with, and after them, whichever engine's. Assumes nothing.
 use mathlib.Core.List.{List}
 use Prim.Native.Nat.{ℕ, _*_, _≤_}
 use native.Mathlib.Omega.{arith}

@@ -37,8 +37,6 @@ pub const GETS: usize = TAKES + ROWS_GRID;
 
 pub const HANDS: usize = GETS + ROWS_GRID;
 
-pub const HANDS_END: usize = HANDS + ROWS_GRID;
-
 // ---- from a release to the writers
 
 // M5: whether the release a, which is r, heads what row x carries. Most rows have another agent.

@@ -10,7 +10,7 @@ use lib.Dec.{eqb, ltb}
 use lib.ListN.{length}
 use borrow.Author.Tests.{eq-eqb, ne-eqb, lt-ltb, le-ltb, not-false}
 use Rattle.finite.specs.Below.{turn, at-one}
-use Rattle.finite.specs.Logic.{_and_, _or_, and-false-left, and-false-right, or-off, or-right, or-assoc, and-on-right, and-or}
+use Rattle.finite.specs.Logic.{_and_, _or_, and-false-left, and-false-right, or-off, or-right, or-assoc, and-or, and-on-right}
 use Rattle.bits.specs.Bit.{bit, setBitIf, setBitIf-same, setBitIf-other, zeros, bit-zeros-in}
 use Rattle.bits.specs.Matrix.{rel}
 use Rattle.bits.specs.Within.{within-trans, within-put, within-cleared}

@@ -12,7 +12,7 @@ use native.Mathlib.Numerals.{add-one}
 use lib.Dec.{eqb, ltb}
 use lib.ListN.{length}
 use borrow.Author.Tests.{eq-eqb, ne-eqb, lt-ltb, le-ltb}
-use Rattle.finite.specs.Logic.{_and_, _or_, which, split, and-true, and-false-left, and-false-right, or-off, or-left, or-right, or-assoc, not-both, not-so, and-on, and-or}
+use Rattle.finite.specs.Logic.{_and_, _or_, which, split, and-true, and-false-left, and-false-right, or-off, or-left, or-right, or-assoc, not-both, not-so, and-or, and-on}
 use Rattle.finite.specs.Below.{anyBelow, any-none, any-not, any-cong, turn, at-one}
 use Rattle.bits.specs.Bit.{bit, zeros, bit-zeros-in, joinRow, bit-joinRow}
 use Rattle.bits.specs.Matrix.{rel}

@@ -9,7 +9,7 @@ use native.Mathlib.Decide.{decLt, ℕ-discrete}
 use lib.Dec.{ltb, eqb}
 use lib.ListN.{length}
 use borrow.Author.Tests.{eqb-true, eq-eqb, ne-eqb, lt-ltb, le-ltb}
-use Rattle.finite.specs.Logic.{_and_, _or_, which, not-both, not-so, or-off, or-right, and-false-left, and-false-right, and-true, split, and-on-right, or-both}
+use Rattle.finite.specs.Logic.{_and_, _or_, which, not-both, not-so, or-off, or-right, and-false-left, and-false-right, and-true, split, or-both, and-on-right}
 use Rattle.finite.specs.Below.{Least}
 use Rattle.bits.specs.Bit.{bit, setBitIf, setBitIf-same, setBitIf-other, joinRow, length-joinRow, bit-joinRow}
 use Rattle.bits.specs.Within.{Within, within-refl, within-bit, within-trans, within-widen, within-joinRow, within-setBitIf}

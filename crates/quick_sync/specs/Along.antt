@@ -9,7 +9,7 @@ use native.Mathlib.Decide.{ℕ-discrete, decLt}
 use lib.ListN.{length}
 use lib.Dec.{eqb, leb}
 use borrow.Author.Tests.{eq-eqb, ne-eqb, eqb-true, le-leb, lt-leb, leb-true}
-use Rattle.finite.specs.Logic.{_and_, _or_, split, and-true, and-false-left, or-cases, or-left, or-right, or-off, bool-ext}
+use Rattle.finite.specs.Logic.{_and_, _or_, split, and-true, and-false-left, or-cases, or-left, or-right, or-off, bool-ext, and-on}
 use Rattle.finite.specs.Below.{anyBelow, any-in, any-out, any-not, any-cong}
 use Rattle.bits.specs.Bit.{setBitIf, zeros, bit-zeros-in, joinRow, bit-joinRow}
 use Rattle.bits.specs.Within.{Within, within-trans, within-widen, within-bit, within-joinRow, within-cleared}
@@ -26,7 +26,7 @@ use Rattle.area.specs.Regions.{GRID, ROWS-GRID}
 use Rattle.quick_sync.specs.Regions.{PASSED, AGENTS, UP-TO, UP-TO-END}
 use Rattle.quick_sync.specs.Product.{byWay, times, grid}
 use Rattle.quick_sync.specs.Links.{ahead, aheadTo}
-use Rattle.quick_sync.specs.Rows.{and-on, row-one-if}
+use Rattle.quick_sync.specs.Rows.{row-one-if}
 use Rattle.quick_sync.specs.Words.{eqb-turn}
 
 -- ---- definitions

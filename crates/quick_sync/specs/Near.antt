@@ -9,7 +9,7 @@ use native.Mathlib.Decide.{decLt, ℕ-discrete}
 use lib.ListN.{length}
 use lib.Dec.{eqb}
 use borrow.Author.Tests.{eqb-true, not-false}
-use Rattle.finite.specs.Logic.{_and_, _or_, which, and-false-left, not-both, or-left, or-right}
+use Rattle.finite.specs.Logic.{_and_, _or_, which, and-false-left, not-both, or-left, or-right, and-on}
 use Rattle.finite.specs.Below.{anyBelow, any-off}
 use Rattle.bits.specs.Bit.{bit, zeros, bit-zeros-in, setBit, setBit-same, setBit-other, setBitIf, setBitIf-same, setBitIf-other}
 use Rattle.bits.specs.Within.{Within, within-refl, within-trans, within-widen, within-bit, within-setBit, within-setBitIf, within-cleared}
@@ -31,7 +31,7 @@ use Rattle.quick_sync.specs.Words.{Dropped, Lessened, eqb-turn, eqb-move
 use Rattle.quick_sync.specs.Grids.{RowsOf, rows-of-more, rows-of-row, rows-of-done, row-of-none}
 use Rattle.quick_sync.specs.Links.{led, passed, syncBy, sync-is}
 use Rattle.quick_sync.specs.Like.{shares-peer}
-use Rattle.quick_sync.specs.Rows.{and-on, sync-none}
+use Rattle.quick_sync.specs.Rows.{sync-none}
 use Rattle.quick_sync.specs.State.{Linked, linked-kept, sync-passed}
 
 -- ---- definitions

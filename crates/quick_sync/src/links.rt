@@ -63,12 +63,12 @@ fn heads_row(rows: &[u8], p: Places, mode: Mode, n: usize, a: usize, w: &mut [u6
     }
     if !kinds::is_barrier(r) {
         let own = kinds::is_atomic(r);
-        bits::put_if(w, (HEADS + a * area::GRID) * 64 + a, own);
+        area::grid::put_if(w, HEADS, a, a, own);
         return;
     }
     for x in a..n {
         let b = heads_of(rows, p, mode, n, a, r, x);
-        bits::put_if(w, (HEADS + a * area::GRID) * 64 + x, b);
+        area::grid::put_if(w, HEADS, a, x, b);
     }
 }
 
@@ -98,7 +98,7 @@ fn takes_of(rows: &[u8], p: Places, mode: Mode, n: usize, x: usize, y: usize, w:
     if n <= k {
         return false;
     }
-    bits::get(w, (area::SEQUENCE + x * area::GRID) * 64 + k)
+    area::grid::get(w, area::SEQUENCE, x, k)
 }
 
 // M5 for the writer x and every row: only what is mutually-ordered with it may read from its sequence.
@@ -114,7 +114,7 @@ fn takes_row(rows: &[u8], p: Places, mode: Mode, n: usize, x: usize, w: &mut [u6
     let mut y = walk::next(w, at, at, 0, n);
     while y < n {
         let b = takes_of(rows, p, mode, n, x, y, w);
-        bits::put_if(w, (TAKES + x * area::GRID) * 64 + y, b);
+        area::grid::put_if(w, TAKES, x, y, b);
         y = walk::next(w, at, at, y + 1, n);
     }
 }
@@ -155,7 +155,7 @@ fn gets_row(rows: &[u8], p: Places, mode: Mode, n: usize, y: usize, w: &mut [u64
     }
     for b in y..n {
         let d = gets_of(rows, p, mode, n, y, q, b);
-        bits::put_if(w, (GETS + y * area::GRID) * 64 + b, d);
+        area::grid::put_if(w, GETS, y, b, d);
     }
 }
 

@@ -63,7 +63,7 @@ fn fill_alone(rows: &[u8], n: usize, w: &mut [u64])
     bits::clear(w, ALONE, JOINS);
     for a in 0..n {
         let b = barrier_at(rows, a);
-        bits::put_if(w, (ALONE + a * area::GRID) * 64 + a, b);
+        area::grid::put_if(w, ALONE, a, a, b);
     }
 }
 
@@ -115,7 +115,7 @@ fn scan_row(rows: &[u8], p: &[[u16; 4]], n: usize, c: usize, r: Row, w: &mut [u6
 {
     for d in 0..n {
         let b = joins_of(rows, p, n, c, r, d);
-        bits::put_if(w, (JOINS + c * area::GRID) * 64 + d, b);
+        area::grid::put_if(w, JOINS, c, d, b);
     }
 }
 
@@ -168,7 +168,7 @@ fn joins_row(rows: &[u8], p: &[[u16; 4]], n: usize, c: usize, w: &mut [u64])
         JOINS + e * area::GRID,
         area::GRID,
     );
-    bits::put(w, (JOINS + c * area::GRID) * 64 + e);
+    area::grid::put(w, JOINS, c, e);
     words::drop_bit(w, (JOINS + c * area::GRID) * 64 + c);
 }
 

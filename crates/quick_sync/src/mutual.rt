@@ -54,8 +54,8 @@ fn mutual_row(rows: &[u8], p: Places, mode: Mode, n: usize, i: usize, w: &mut [u
     }
     for j in i + 1..n {
         let b = mutual_of(rows, p, mode, n, i, r, j);
-        bits::put_if(w, (area::MUTUAL + i * area::GRID) * 64 + j, b);
-        bits::put_if(w, (area::MUTUAL + j * area::GRID) * 64 + i, b);
+        area::grid::put_if(w, area::MUTUAL, i, j, b);
+        area::grid::put_if(w, area::MUTUAL, j, i, b);
     }
 }
 
@@ -150,7 +150,7 @@ fn sequence_row(rows: &[u8], p: Places, mode: Mode, n: usize, a: usize, w: &mut 
 {
     let h = bytes::read_row(rows, a as u16);
     if !kinds::writes(h) {
-        bits::put(w, (area::SEQUENCE + a * area::GRID) * 64 + a);
+        area::grid::put(w, area::SEQUENCE, a, a);
         return;
     }
     let first = first_break(rows, p, mode, n, a, h, w);
@@ -158,7 +158,7 @@ fn sequence_row(rows: &[u8], p: Places, mode: Mode, n: usize, a: usize, w: &mut 
     let mut x = walk::next_or(w, at, a, 0, n);
     while x < n {
         let b = sequence_of(rows, p, mode, n, a, h, first, x);
-        bits::put_if(w, (area::SEQUENCE + a * area::GRID) * 64 + x, b);
+        area::grid::put_if(w, area::SEQUENCE, a, x, b);
         x = walk::next_or(w, at, a, x + 1, n);
     }
 }

@@ -146,8 +146,8 @@ fn learn_one(
     ensures { λ _. ⌜ LearntOne (now (rows .entry)) (now (p .entry)) n e b (now (w .entry)) (now (w .exit)) ⌝ }
 {
     let d = near_of(rows, p, a, r, b);
-    bits::put_if(w, (GOOD + e * area::GRID) * 64 + b, d);
-    bits::put(w, (COVER + e * area::GRID) * 64 + b);
+    area::grid::put_if(w, GOOD, e, b, d);
+    area::grid::put(w, COVER, e, b);
 }
 
 // The same of all rows that row a is linked to, or passes to, and that are not known yet.

@@ -14,7 +14,7 @@ use Rattle.quick_sync.proofs.links.gets_row.Statement.{statement}
 use Rattle.quick_sync.proofs.links.gets_row.Tie as tie
 use Rattle.quick_sync.proofs.links.gets_row.Reads as reads
 use Rattle.quick_sync.proofs.links.gets_row.Lts as lts
-use Rattle.bits.proofs.put_if.Reads as put-if-reads
+use Rattle.area.proofs.grid.put_if.Reads as put-if-reads
 use Rattle.quick_sync.proofs.links.gets_of.Reads as gets-of-reads
 use Rattle.rows.proofs.bytes.read_row.Reads as read-row-reads
 use Rattle.rows.proofs.kinds.is_atomic.Reads as is-atomic-reads
@@ -26,64 +26,48 @@ Inv-loop rows p mode n y w₀ q b₀ w b = (b ≤ n) × (length w ≡ length w�
 abbrev μ-loop : tie.MeasureT-loop
 μ-loop rows p mode n y w₀ q b₀ w b = n - b
 
--- src/links.rt:149:35
+-- src/links.rt:152:35
 cast-read-row : tie.Need-cast-read-row Inv-loop μ-loop
 cast-read-row c = search needs
 
--- src/links.rt:149:9
+-- src/links.rt:152:9
 read-row-requires : tie.Need-read-row-requires Inv-loop μ-loop
 read-row-requires c κs = search needs
 
--- src/links.rt:150:10
+-- src/links.rt:153:10
 is-atomic-requires : tie.Need-is-atomic-requires Inv-loop μ-loop
 is-atomic-requires c κs = search needs
 
--- src/links.rt:150:32
+-- src/links.rt:153:32
 reads-requires : tie.Need-reads-requires Inv-loop μ-loop
 reads-requires c κs = search needs
 
--- src/links.rt:151:9
+-- src/links.rt:154:9
 returns : tie.Need-returns Inv-loop μ-loop
 unfolding _and_
 returns c = row-off _ _ _ _ (λ m l. gotten-none _ _ _ _ _ _ _ _ (c .before .before .before .read-row .ensures) (c .before .before .is-atomic .ensures) (c .before .reads .ensures) (c .if1 .taken) m)
 
--- src/links.rt:153:5
+-- src/links.rt:156:5
 loop-holds : tie.Need-loop-holds Inv-loop μ-loop
 loop-holds c = (search needs, refl, c .before .before .before .read-row .ensures, row-off _ _ _ _ (λ m l. gotten-back _ _ _ _ _ _ l))
 
--- src/links.rt:154:13
+-- src/links.rt:157:13
 gets-of-requires : tie.Need-gets-of-requires Inv-loop μ-loop
 gets-of-requires c κs = search needs
 
--- src/links.rt:155:33
-mul-put-if : tie.Need-mul-put-if Inv-loop μ-loop
-mul-put-if c = search needs
-
--- src/links.rt:155:26
-add-put-if : tie.Need-add-put-if Inv-loop μ-loop
-add-put-if c = search needs
-
--- src/links.rt:155:25
-mul-put-if-2 : tie.Need-mul-put-if-2 Inv-loop μ-loop
-mul-put-if-2 c = search needs
-
--- src/links.rt:155:25
-add-put-if-2 : tie.Need-add-put-if-2 Inv-loop μ-loop
-add-put-if-2 c = search needs
-
--- src/links.rt:155:9
+-- src/links.rt:158:9
 put-if-requires : tie.Need-put-if-requires Inv-loop μ-loop
 put-if-requires c κs = search needs
 
--- src/links.rt:153:9
+-- src/links.rt:156:9
 add-b : tie.Need-add-b Inv-loop μ-loop
 add-b c = search needs
 
--- src/links.rt:153:5
+-- src/links.rt:156:5
 loop-less : tie.Need-loop-less Inv-loop μ-loop
 loop-less c = search needs
 
--- src/links.rt:153:5
+-- src/links.rt:156:5
 loop-again : tie.Need-loop-again Inv-loop μ-loop
 unfolding _and_
 loop-again c =
@@ -93,11 +77,11 @@ loop-again c =
     let e = rowFill-put _ _ _ (put .last .0) _ _ _ _ (inv .3) d (omega arith) (put .ensures) in
     (search needs, ap length e ∙ length-rowFill _ _ _ _, inv .2, e)
 
--- src/links.rt:145:1
+-- src/links.rt:148:1
 same-length : tie.Need-same-length Inv-loop μ-loop
 same-length c = search needs
 
--- src/links.rt:145:1
+-- src/links.rt:148:1
 returns-2 : tie.Need-returns-2 Inv-loop μ-loop
 returns-2 c = let e : c .before .loop .b ≡ c .before .before .before .before .before .before .before .before .args .n = omega arith in rw e at (c .before .loop .inv .3)
 
@@ -114,10 +98,6 @@ gets-row-spec =
     returns
     loop-holds
     gets-of-requires
-    mul-put-if
-    add-put-if
-    mul-put-if-2
-    add-put-if-2
     put-if-requires
     add-b
     loop-less

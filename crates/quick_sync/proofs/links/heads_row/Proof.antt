@@ -13,7 +13,7 @@ use Rattle.quick_sync.proofs.links.heads_row.Statement.{statement}
 use Rattle.quick_sync.proofs.links.heads_row.Tie as tie
 use Rattle.quick_sync.proofs.links.heads_row.Reads as reads
 use Rattle.quick_sync.proofs.links.heads_row.Lts as lts
-use Rattle.bits.proofs.put_if.Reads as put-if-reads
+use Rattle.area.proofs.grid.put_if.Reads as put-if-reads
 use Rattle.quick_sync.proofs.links.heads_of.Reads as heads-of-reads
 use Rattle.rows.proofs.bytes.read_row.Reads as read-row-reads
 use Rattle.rows.proofs.kinds.is_atomic.Reads as is-atomic-reads
@@ -26,97 +26,65 @@ Inv-loop rows p mode n a w₀ r x₀ w x = (x ≤ n) × (length w ≡ length w�
 abbrev μ-loop : tie.MeasureT-loop
 μ-loop rows p mode n a w₀ r x₀ w x = n - x
 
--- src/links.rt:57:35
+-- src/links.rt:60:35
 cast-read-row : tie.Need-cast-read-row Inv-loop μ-loop
 cast-read-row c = search needs
 
--- src/links.rt:57:9
+-- src/links.rt:60:9
 read-row-requires : tie.Need-read-row-requires Inv-loop μ-loop
 read-row-requires c κs = search needs
 
--- src/links.rt:58:9
+-- src/links.rt:61:9
 releases-requires : tie.Need-releases-requires Inv-loop μ-loop
 releases-requires c κs = search needs
 
--- src/links.rt:59:9
+-- src/links.rt:62:9
 returns : tie.Need-returns Inv-loop μ-loop
 returns c = row-off _ _ _ _ (λ m l. released-none _ _ _ _ _ _ _ (c .before .before .read-row .ensures) (c .before .releases .ensures) (c .if1 .taken) m)
 
--- src/links.rt:61:9
+-- src/links.rt:64:9
 is-barrier-requires : tie.Need-is-barrier-requires Inv-loop μ-loop
 is-barrier-requires c κs = search needs
 
--- src/links.rt:62:13
+-- src/links.rt:65:13
 is-atomic-requires : tie.Need-is-atomic-requires Inv-loop μ-loop
 is-atomic-requires c κs = search needs
 
--- src/links.rt:63:34
-mul-put-if : tie.Need-mul-put-if Inv-loop μ-loop
-mul-put-if c = search needs
-
--- src/links.rt:63:26
-add-put-if : tie.Need-add-put-if Inv-loop μ-loop
-add-put-if c = search needs
-
--- src/links.rt:63:25
-mul-put-if-2 : tie.Need-mul-put-if-2 Inv-loop μ-loop
-mul-put-if-2 c = search needs
-
--- src/links.rt:63:25
-add-put-if-2 : tie.Need-add-put-if-2 Inv-loop μ-loop
-add-put-if-2 c = search needs
-
--- src/links.rt:63:9
+-- src/links.rt:66:9
 put-if-requires : tie.Need-put-if-requires Inv-loop μ-loop
 put-if-requires c κs = search needs
 
--- src/links.rt:64:9
+-- src/links.rt:67:9
 same-length : tie.Need-same-length Inv-loop μ-loop
 same-length c = search needs
 
--- src/links.rt:64:9
+-- src/links.rt:67:9
 returns-2 : tie.Need-returns-2 Inv-loop μ-loop
 returns-2 c =
     let put = c .before .before .put-if in
     put .ensures ∙ row-one-if _ _ _ _ _ _ _ (c .before .before .before .before .before .before .before .before .before .before .before .before .pre .1) (omega arith) (λ m l. released-own _ _ _ _ _ _ _ _ _ (c .before .before .before .before .before .before .before .before .before .read-row .ensures) (c .before .before .before .before .before .before .before .before .releases .ensures) (c .before .before .before .before .before .before .before .if1 .left) (c .before .before .before .before .before .before .is-barrier .ensures) (c .before .before .before .before .before .if2 .taken) (c .before .before .before .before .is-atomic .ensures) m)
 
--- src/links.rt:66:5
+-- src/links.rt:69:5
 loop-holds : tie.Need-loop-holds Inv-loop μ-loop
 loop-holds c = (search needs, refl, c .before .before .before .before .read-row .ensures, row-off _ _ _ _ (λ m l. released-back _ _ _ _ _ _ l))
 
--- src/links.rt:67:13
+-- src/links.rt:70:13
 heads-of-requires : tie.Need-heads-of-requires Inv-loop μ-loop
 heads-of-requires c κs = search needs
 
--- src/links.rt:68:34
-mul-put-if-3 : tie.Need-mul-put-if-3 Inv-loop μ-loop
-mul-put-if-3 c = search needs
-
--- src/links.rt:68:26
-add-put-if-3 : tie.Need-add-put-if-3 Inv-loop μ-loop
-add-put-if-3 c = search needs
-
--- src/links.rt:68:25
-mul-put-if-4 : tie.Need-mul-put-if-4 Inv-loop μ-loop
-mul-put-if-4 c = search needs
-
--- src/links.rt:68:25
-add-put-if-4 : tie.Need-add-put-if-4 Inv-loop μ-loop
-add-put-if-4 c = search needs
-
--- src/links.rt:68:9
+-- src/links.rt:71:9
 put-if-requires-2 : tie.Need-put-if-requires-2 Inv-loop μ-loop
 put-if-requires-2 c κs = search needs
 
--- src/links.rt:66:9
+-- src/links.rt:69:9
 add-x : tie.Need-add-x Inv-loop μ-loop
 add-x c = search needs
 
--- src/links.rt:66:5
+-- src/links.rt:69:5
 loop-less : tie.Need-loop-less Inv-loop μ-loop
 loop-less c = search needs
 
--- src/links.rt:66:5
+-- src/links.rt:69:5
 loop-again : tie.Need-loop-again Inv-loop μ-loop
 loop-again c =
     let put = c .before .before .put-if2 in
@@ -125,11 +93,11 @@ loop-again c =
     let e = rowFill-put _ _ _ (put .last .0) _ _ _ _ (inv .3) d (omega arith) (put .ensures) in
     (search needs, ap length e ∙ length-rowFill _ _ _ _, inv .2, e)
 
--- src/links.rt:53:1
+-- src/links.rt:56:1
 same-length-2 : tie.Need-same-length-2 Inv-loop μ-loop
 same-length-2 c = search needs
 
--- src/links.rt:53:1
+-- src/links.rt:56:1
 returns-3 : tie.Need-returns-3 Inv-loop μ-loop
 returns-3 c = let e : c .before .loop .x ≡ c .before .before .before .before .before .before .before .before .before .args .n = omega arith in rw e at (c .before .loop .inv .3)
 
@@ -145,19 +113,11 @@ heads-row-spec =
     returns
     is-barrier-requires
     is-atomic-requires
-    mul-put-if
-    add-put-if
-    mul-put-if-2
-    add-put-if-2
     put-if-requires
     same-length
     returns-2
     loop-holds
     heads-of-requires
-    mul-put-if-3
-    add-put-if-3
-    mul-put-if-4
-    add-put-if-4
     put-if-requires-2
     add-x
     loop-less

@@ -21,7 +21,7 @@ use Rattle.quick_sync.proofs.links.takes_row.Statement.{statement}
 use Rattle.quick_sync.proofs.links.takes_row.Tie as tie
 use Rattle.quick_sync.proofs.links.takes_row.Reads as reads
 use Rattle.quick_sync.proofs.links.takes_row.Lts as lts
-use Rattle.bits.proofs.put_if.Reads as put-if-reads
+use Rattle.area.proofs.grid.put_if.Reads as put-if-reads
 use Rattle.quick_sync.proofs.links.takes_of.Reads as takes-of-reads
 use Rattle.quick_sync.proofs.walk.next.Reads as next-reads
 use Rattle.rows.proofs.bytes.read_row.Reads as read-row-reads
@@ -33,35 +33,35 @@ Inv-loop rows p mode n x w₀ at y₀ w y = (y ≤ n) × (length w ≡ length w�
 abbrev μ-loop : tie.MeasureT-loop
 μ-loop rows p mode n x w₀ at y₀ w y = n - y
 
--- src/links.rt:106:35
+-- src/links.rt:109:35
 cast-read-row : tie.Need-cast-read-row Inv-loop μ-loop
 cast-read-row c = search needs
 
--- src/links.rt:106:9
+-- src/links.rt:109:9
 read-row-requires : tie.Need-read-row-requires Inv-loop μ-loop
 read-row-requires c κs = search needs
 
--- src/links.rt:107:9
+-- src/links.rt:110:9
 writes-requires : tie.Need-writes-requires Inv-loop μ-loop
 writes-requires c κs = search needs
 
--- src/links.rt:108:9
+-- src/links.rt:111:9
 returns : tie.Need-returns Inv-loop μ-loop
 returns c = row-off _ _ _ _ (λ m l. takes-none _ _ _ _ _ _ _ (c .before .before .read-row .ensures) (c .before .writes .ensures) (c .if1 .taken) m)
 
--- src/links.rt:110:29
+-- src/links.rt:113:29
 mul-at : tie.Need-mul-at Inv-loop μ-loop
 mul-at c = search needs
 
--- src/links.rt:110:14
+-- src/links.rt:113:14
 add-at : tie.Need-add-at Inv-loop μ-loop
 add-at c = search needs
 
--- src/links.rt:111:9
+-- src/links.rt:114:9
 next-requires : tie.Need-next-requires Inv-loop μ-loop
 next-requires c κs = search needs
 
--- src/links.rt:112:5
+-- src/links.rt:115:5
 loop-holds : tie.Need-loop-holds Inv-loop μ-loop
 loop-holds c =
     let pre = c .before .before .before .before .before .before .before .pre in
@@ -69,43 +69,27 @@ loop-holds c =
     let g = sym (ap writes (c .before .before .before .before .read-row .ensures)) ∙ sym (c .before .before .before .writes .ensures) ∙ not-false _ (c .before .before .if1 .left) in
     (next .high, refl, pre .3, g, λ l. walked (pre .3 .mutuals) _ _ (pre .1) l (next .hit l), fill-pass _ _ _ _ _ _ (next .low) (λ m l q. sym (takes-apart _ _ _ _ _ _ (walked (pre .3 .mutuals) _ _ (pre .1) (omega (arith, next .high)) (next .miss m l q)))) (rowFill-none _ _ _))
 
--- src/links.rt:113:13
+-- src/links.rt:116:13
 takes-of-requires : tie.Need-takes-of-requires Inv-loop μ-loop
 takes-of-requires c κs = (search needs, search needs, search needs, search needs, c .before .before .loop .inv .3, c .before .before .loop .inv .4 (c .before .loop-test .taken), c .before .before .loop .inv .2)
 
--- src/links.rt:114:34
-mul-put-if : tie.Need-mul-put-if Inv-loop μ-loop
-mul-put-if c = search needs
-
--- src/links.rt:114:26
-add-put-if : tie.Need-add-put-if Inv-loop μ-loop
-add-put-if c = search needs
-
--- src/links.rt:114:25
-mul-put-if-2 : tie.Need-mul-put-if-2 Inv-loop μ-loop
-mul-put-if-2 c = search needs
-
--- src/links.rt:114:25
-add-put-if-2 : tie.Need-add-put-if-2 Inv-loop μ-loop
-add-put-if-2 c = search needs
-
--- src/links.rt:114:9
+-- src/links.rt:117:9
 put-if-requires : tie.Need-put-if-requires Inv-loop μ-loop
 put-if-requires c κs = search needs
 
--- src/links.rt:115:35
+-- src/links.rt:118:35
 add-next : tie.Need-add-next Inv-loop μ-loop
 add-next c = search needs
 
--- src/links.rt:115:9
+-- src/links.rt:118:9
 next-requires-2 : tie.Need-next-requires-2 Inv-loop μ-loop
 next-requires-2 c κs = search needs
 
--- src/links.rt:112:5
+-- src/links.rt:115:5
 loop-less : tie.Need-loop-less Inv-loop μ-loop
 loop-less c = search needs
 
--- src/links.rt:112:5
+-- src/links.rt:115:5
 loop-again : tie.Need-loop-again Inv-loop μ-loop
 loop-again c =
     let pre = c .before .before .before .before .before .before .before .before .before .before .before .before .before .before .before .before .before .pre in
@@ -116,11 +100,11 @@ loop-again c =
     let k = known-kept (omega arith) (within-put TAKES GETS _ _ (omega arith) (omega arith) (put .ensures)) (inv .2) in
     (next .high, ap length e ∙ length-rowFill _ _ _ _, k, inv .3, λ l. walked (k .mutuals) _ _ (pre .1) l (next .hit l), fill-pass _ _ _ _ _ _ (next .low) (λ m l q. sym (takes-apart _ _ _ _ _ _ (walked (k .mutuals) _ _ (pre .1) (omega (arith, next .high)) (next .miss m l q)))) e)
 
--- src/links.rt:102:1
+-- src/links.rt:105:1
 same-length : tie.Need-same-length Inv-loop μ-loop
 same-length c = search needs
 
--- src/links.rt:102:1
+-- src/links.rt:105:1
 returns-2 : tie.Need-returns-2 Inv-loop μ-loop
 returns-2 c = let e : c .before .loop .y ≡ c .before .before .before .before .before .before .before .before .before .args .n = omega arith in rw e at (c .before .loop .inv .5)
 
@@ -139,10 +123,6 @@ takes-row-spec =
     next-requires
     loop-holds
     takes-of-requires
-    mul-put-if
-    add-put-if
-    mul-put-if-2
-    add-put-if-2
     put-if-requires
     add-next
     next-requires-2

@@ -13,7 +13,7 @@ use Rattle.quick_sync.proofs.meets.fill_alone.Tie as tie
 use Rattle.quick_sync.proofs.meets.fill_alone.Reads as reads
 use Rattle.quick_sync.proofs.meets.fill_alone.Lts as lts
 use Rattle.bits.proofs.clear.Reads as clear-reads
-use Rattle.bits.proofs.put_if.Reads as put-if-reads
+use Rattle.area.proofs.grid.put_if.Reads as put-if-reads
 use Rattle.quick_sync.proofs.meets.barrier_at.Reads as barrier-at-reads
 
 abbrev Inv-loop : tie.InvT-loop
@@ -33,22 +33,6 @@ loop-holds c = (search needs, refl, gridFill-none _ _ _ _ _)
 -- src/meets.rt:65:13
 barrier-at-requires : tie.Need-barrier-at-requires Inv-loop μ-loop
 barrier-at-requires c κs = search needs
-
--- src/meets.rt:66:34
-mul-put-if : tie.Need-mul-put-if Inv-loop μ-loop
-mul-put-if c = search needs
-
--- src/meets.rt:66:26
-add-put-if : tie.Need-add-put-if Inv-loop μ-loop
-add-put-if c = search needs
-
--- src/meets.rt:66:25
-mul-put-if-2 : tie.Need-mul-put-if-2 Inv-loop μ-loop
-mul-put-if-2 c = search needs
-
--- src/meets.rt:66:25
-add-put-if-2 : tie.Need-add-put-if-2 Inv-loop μ-loop
-add-put-if-2 c = search needs
 
 -- src/meets.rt:66:9
 put-if-requires : tie.Need-put-if-requires Inv-loop μ-loop
@@ -89,10 +73,6 @@ fill-alone-spec =
     clear-requires
     loop-holds
     barrier-at-requires
-    mul-put-if
-    add-put-if
-    mul-put-if-2
-    add-put-if-2
     put-if-requires
     add-a
     loop-less

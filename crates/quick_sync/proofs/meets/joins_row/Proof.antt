@@ -10,7 +10,7 @@ use Rattle.quick_sync.proofs.meets.joins_row.Tie as tie
 use Rattle.quick_sync.proofs.meets.joins_row.Reads as reads
 use Rattle.quick_sync.proofs.meets.joins_row.Lts as lts
 use Rattle.bits.proofs.join_row.Reads as join-row-reads
-use Rattle.bits.proofs.put.Reads as put-reads
+use Rattle.area.proofs.grid.put.Reads as put-reads
 use Rattle.quick_sync.proofs.meets.like_of.Reads as like-of-reads
 use Rattle.quick_sync.proofs.meets.scan_row.Reads as scan-row-reads
 use Rattle.quick_sync.proofs.words.drop_bit.Reads as drop-bit-reads
@@ -68,22 +68,6 @@ add-join-row-2 c = search needs
 join-row-requires : tie.Need-join-row-requires
 join-row-requires c κs = search needs
 
--- src/meets.rt:171:27
-mul-put : tie.Need-mul-put
-mul-put c = search needs
-
--- src/meets.rt:171:19
-add-put : tie.Need-add-put
-add-put c = search needs
-
--- src/meets.rt:171:18
-mul-put-2 : tie.Need-mul-put-2
-mul-put-2 c = search needs
-
--- src/meets.rt:171:18
-add-put-2 : tie.Need-add-put-2
-add-put-2 c = search needs
-
 -- src/meets.rt:171:5
 put-requires : tie.Need-put-requires
 put-requires c κs = search needs
@@ -137,10 +121,6 @@ joins-row-spec =
     mul-join-row-2
     add-join-row-2
     join-row-requires
-    mul-put
-    add-put
-    mul-put-2
-    add-put-2
     put-requires
     mul-drop-bit
     add-drop-bit

@@ -12,7 +12,7 @@ use Rattle.quick_sync.proofs.meets.scan_row.Statement.{statement}
 use Rattle.quick_sync.proofs.meets.scan_row.Tie as tie
 use Rattle.quick_sync.proofs.meets.scan_row.Reads as reads
 use Rattle.quick_sync.proofs.meets.scan_row.Lts as lts
-use Rattle.bits.proofs.put_if.Reads as put-if-reads
+use Rattle.area.proofs.grid.put_if.Reads as put-if-reads
 use Rattle.quick_sync.proofs.meets.joins_of.Reads as joins-of-reads
 
 abbrev Inv-loop : tie.InvT-loop
@@ -28,22 +28,6 @@ loop-holds c = (search needs, refl, rowFill-none _ _ _)
 -- src/meets.rt:117:13
 joins-of-requires : tie.Need-joins-of-requires Inv-loop μ-loop
 joins-of-requires c κs = search needs
-
--- src/meets.rt:118:34
-mul-put-if : tie.Need-mul-put-if Inv-loop μ-loop
-mul-put-if c = search needs
-
--- src/meets.rt:118:26
-add-put-if : tie.Need-add-put-if Inv-loop μ-loop
-add-put-if c = search needs
-
--- src/meets.rt:118:25
-mul-put-if-2 : tie.Need-mul-put-if-2 Inv-loop μ-loop
-mul-put-if-2 c = search needs
-
--- src/meets.rt:118:25
-add-put-if-2 : tie.Need-add-put-if-2 Inv-loop μ-loop
-add-put-if-2 c = search needs
 
 -- src/meets.rt:118:9
 put-if-requires : tie.Need-put-if-requires Inv-loop μ-loop
@@ -83,10 +67,6 @@ scan-row-spec =
     μ-loop
     loop-holds
     joins-of-requires
-    mul-put-if
-    add-put-if
-    mul-put-if-2
-    add-put-if-2
     put-if-requires
     add-d
     loop-less

@@ -13,7 +13,7 @@ use Rattle.quick_sync.proofs.mutual.mutual_row.Statement.{statement}
 use Rattle.quick_sync.proofs.mutual.mutual_row.Tie as tie
 use Rattle.quick_sync.proofs.mutual.mutual_row.Reads as reads
 use Rattle.quick_sync.proofs.mutual.mutual_row.Lts as lts
-use Rattle.bits.proofs.put_if.Reads as put-if-reads
+use Rattle.area.proofs.grid.put_if.Reads as put-if-reads
 use Rattle.quick_sync.proofs.mutual.mutual_of.Reads as mutual-of-reads
 use Rattle.rows.proofs.bytes.read_row.Reads as read-row-reads
 use Rattle.rows.proofs.kinds.is_atomic.Reads as is-atomic-reads
@@ -24,87 +24,55 @@ Inv-loop rows p mode n i w₀ r j₀ w j = (i < j) × (j ≤ n) × (length w ≡
 abbrev μ-loop : tie.MeasureT-loop
 μ-loop rows p mode n i w₀ r j₀ w j = n - j
 
--- src/mutual.rt:48:35
+-- src/mutual.rt:51:35
 cast-read-row : tie.Need-cast-read-row Inv-loop μ-loop
 cast-read-row c = search needs
 
--- src/mutual.rt:48:9
+-- src/mutual.rt:51:9
 read-row-requires : tie.Need-read-row-requires Inv-loop μ-loop
 read-row-requires c κs = search needs
 
--- src/mutual.rt:49:9
+-- src/mutual.rt:52:9
 is-atomic-requires : tie.Need-is-atomic-requires Inv-loop μ-loop
 is-atomic-requires c κs = search needs
 
--- src/mutual.rt:50:9
+-- src/mutual.rt:53:9
 returns : tie.Need-returns Inv-loop μ-loop
 returns c =
     let pre = c .before .before .before .before .before .pre in
     (pairs-plain _ _ _ _ (pre .0) _ (pre .1) _ _ (c .before .before .read-row .ensures) (c .before .is-atomic .ensures) (c .if1 .taken) (pre .3), within-refl _ _ _)
 
--- src/mutual.rt:52:14
+-- src/mutual.rt:55:14
 add-j : tie.Need-add-j Inv-loop μ-loop
 add-j c = search needs
 
--- src/mutual.rt:52:5
+-- src/mutual.rt:55:5
 loop-holds : tie.Need-loop-holds Inv-loop μ-loop
 loop-holds c =
     let pre = c .before .before .before .before .before .pre in
     (search needs, search needs, refl, c .before .before .read-row .ensures, pairs-own _ _ _ _ (pre .0) _ (pre .1) (pre .3), within-refl _ _ _)
 
--- src/mutual.rt:53:13
+-- src/mutual.rt:56:13
 mutual-of-requires : tie.Need-mutual-of-requires Inv-loop μ-loop
 mutual-of-requires c κs = search needs
 
--- src/mutual.rt:54:41
-mul-put-if : tie.Need-mul-put-if Inv-loop μ-loop
-mul-put-if c = search needs
-
--- src/mutual.rt:54:26
-add-put-if : tie.Need-add-put-if Inv-loop μ-loop
-add-put-if c = search needs
-
--- src/mutual.rt:54:25
-mul-put-if-2 : tie.Need-mul-put-if-2 Inv-loop μ-loop
-mul-put-if-2 c = search needs
-
--- src/mutual.rt:54:25
-add-put-if-2 : tie.Need-add-put-if-2 Inv-loop μ-loop
-add-put-if-2 c = search needs
-
--- src/mutual.rt:54:9
+-- src/mutual.rt:57:9
 put-if-requires : tie.Need-put-if-requires Inv-loop μ-loop
 put-if-requires c κs = search needs
 
--- src/mutual.rt:55:41
-mul-put-if-3 : tie.Need-mul-put-if-3 Inv-loop μ-loop
-mul-put-if-3 c = search needs
-
--- src/mutual.rt:55:26
-add-put-if-3 : tie.Need-add-put-if-3 Inv-loop μ-loop
-add-put-if-3 c = search needs
-
--- src/mutual.rt:55:25
-mul-put-if-4 : tie.Need-mul-put-if-4 Inv-loop μ-loop
-mul-put-if-4 c = search needs
-
--- src/mutual.rt:55:25
-add-put-if-4 : tie.Need-add-put-if-4 Inv-loop μ-loop
-add-put-if-4 c = search needs
-
--- src/mutual.rt:55:9
+-- src/mutual.rt:58:9
 put-if-requires-2 : tie.Need-put-if-requires-2 Inv-loop μ-loop
 put-if-requires-2 c κs = search needs
 
--- src/mutual.rt:52:9
+-- src/mutual.rt:55:9
 add-j-2 : tie.Need-add-j-2 Inv-loop μ-loop
 add-j-2 c = search needs
 
--- src/mutual.rt:52:5
+-- src/mutual.rt:55:5
 loop-less : tie.Need-loop-less Inv-loop μ-loop
 loop-less c = search needs
 
--- src/mutual.rt:52:5
+-- src/mutual.rt:55:5
 loop-again : tie.Need-loop-again Inv-loop μ-loop
 loop-again c =
     let pre = c .before .before .before .before .before .before .before .before .before .before .before .before .before .before .before .before .pre in
@@ -116,11 +84,11 @@ loop-again c =
     let f = within-trans (within-put MUTUAL MUTUAL-END _ _ (omega (arith, pre .0, l)) (omega (arith, pre .0, pre .1, l)) (first .ensures)) (within-put MUTUAL MUTUAL-END _ _ (omega (arith, pre .0, l)) (omega (arith, pre .0, pre .1, l)) (second .ensures)) in
     (search needs, search needs, f .len ∙ inv .2, inv .3, e, within-trans (inv .5) f)
 
--- src/mutual.rt:43:1
+-- src/mutual.rt:46:1
 same-length : tie.Need-same-length Inv-loop μ-loop
 same-length c = search needs
 
--- src/mutual.rt:43:1
+-- src/mutual.rt:46:1
 returns-2 : tie.Need-returns-2 Inv-loop μ-loop
 returns-2 c =
     let pre = c .before .before .before .before .before .before .before .pre in
@@ -140,15 +108,7 @@ mutual-row-spec =
     add-j
     loop-holds
     mutual-of-requires
-    mul-put-if
-    add-put-if
-    mul-put-if-2
-    add-put-if-2
     put-if-requires
-    mul-put-if-3
-    add-put-if-3
-    mul-put-if-4
-    add-put-if-4
     put-if-requires-2
     add-j-2
     loop-less

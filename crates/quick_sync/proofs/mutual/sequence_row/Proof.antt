@@ -20,8 +20,8 @@ use Rattle.quick_sync.proofs.mutual.sequence_row.Statement.{statement}
 use Rattle.quick_sync.proofs.mutual.sequence_row.Tie as tie
 use Rattle.quick_sync.proofs.mutual.sequence_row.Reads as reads
 use Rattle.quick_sync.proofs.mutual.sequence_row.Lts as lts
-use Rattle.bits.proofs.put.Reads as put-reads
-use Rattle.bits.proofs.put_if.Reads as put-if-reads
+use Rattle.area.proofs.grid.put.Reads as put-reads
+use Rattle.area.proofs.grid.put_if.Reads as put-if-reads
 use Rattle.quick_sync.proofs.mutual.first_break.Reads as first-break-reads
 use Rattle.quick_sync.proofs.mutual.sequence_of.Reads as sequence-of-reads
 use Rattle.quick_sync.proofs.walk.next_or.Reads as next-or-reads
@@ -34,108 +34,76 @@ Inv-loop rows p mode n a w₀ h first at x₀ w x = (x ≤ n) × (length w ≡ l
 abbrev μ-loop : tie.MeasureT-loop
 μ-loop rows p mode n a w₀ h first at x₀ w x = n - x
 
--- src/mutual.rt:135:35
+-- src/mutual.rt:151:35
 cast-read-row : tie.Need-cast-read-row Inv-loop μ-loop
 cast-read-row c = search needs
 
--- src/mutual.rt:135:9
+-- src/mutual.rt:151:9
 read-row-requires : tie.Need-read-row-requires Inv-loop μ-loop
 read-row-requires c κs = search needs
 
--- src/mutual.rt:136:9
+-- src/mutual.rt:152:9
 writes-requires : tie.Need-writes-requires Inv-loop μ-loop
 writes-requires c κs = search needs
 
--- src/mutual.rt:137:40
-mul-put : tie.Need-mul-put Inv-loop μ-loop
-mul-put c = search needs
-
--- src/mutual.rt:137:23
-add-put : tie.Need-add-put Inv-loop μ-loop
-add-put c = search needs
-
--- src/mutual.rt:137:22
-mul-put-2 : tie.Need-mul-put-2 Inv-loop μ-loop
-mul-put-2 c = search needs
-
--- src/mutual.rt:137:22
-add-put-2 : tie.Need-add-put-2 Inv-loop μ-loop
-add-put-2 c = search needs
-
--- src/mutual.rt:137:9
+-- src/mutual.rt:153:9
 put-requires : tie.Need-put-requires Inv-loop μ-loop
 put-requires c κs = search needs
 
--- src/mutual.rt:138:9
+-- src/mutual.rt:154:9
 same-length : tie.Need-same-length Inv-loop μ-loop
 same-length c = search needs
 
--- src/mutual.rt:138:9
+-- src/mutual.rt:154:9
 returns : tie.Need-returns Inv-loop μ-loop
 returns c = c .before .before .put .ensures ∙ row-one _ _ _ _ _ _ (c .before .before .before .before .before .before .before .before .before .pre .1) (omega arith) (λ m l. sequence-alone _ _ _ _ _ _ _ (c .before .before .before .before .before .before .read-row .ensures) (c .before .before .before .before .before .writes .ensures) (c .before .before .before .before .if1 .taken) m)
 
--- src/mutual.rt:140:9
+-- src/mutual.rt:156:9
 first-break-requires : tie.Need-first-break-requires Inv-loop μ-loop
 first-break-requires c κs =
     let pre = c .before .before .before .before .before .before .pre in
     (search needs, pre .1, search needs, c .before .before .before .read-row .ensures, sym (c .before .before .writes .ensures) ∙ not-false _ (c .before .if1 .left), pre .3)
 
--- src/mutual.rt:141:29
+-- src/mutual.rt:157:29
 mul-at : tie.Need-mul-at Inv-loop μ-loop
 mul-at c = search needs
 
--- src/mutual.rt:141:14
+-- src/mutual.rt:157:14
 add-at : tie.Need-add-at Inv-loop μ-loop
 add-at c = search needs
 
--- src/mutual.rt:142:9
+-- src/mutual.rt:158:9
 next-or-requires : tie.Need-next-or-requires Inv-loop μ-loop
 next-or-requires c κs = search needs
 
--- src/mutual.rt:143:5
+-- src/mutual.rt:159:5
 loop-holds : tie.Need-loop-holds Inv-loop μ-loop
 loop-holds c =
     let pre = c .before .before .before .before .before .before .before .before .before .pre in
     let next = c .next-or .ensures in
     (next .high, refl, c .before .before .before .before .before .before .read-row .ensures, sym (c .before .before .before .before .before .writes .ensures) ∙ not-false _ (c .before .before .before .before .if1 .left), c .before .before .first-break .ensures, pre .3, λ l d. walked (pre .3) _ _ (pre .1) l (next .hit l d), fill-pass _ _ _ _ _ _ (next .low) (λ m l q. sequence-apart _ _ _ _ _ _ (next .miss m l q .1) (walked (pre .3) _ _ (pre .1) (omega (arith, next .high)) (next .miss m l q .0))) (rowFill-none _ _ _))
 
--- src/mutual.rt:144:13
+-- src/mutual.rt:160:13
 sequence-of-requires : tie.Need-sequence-of-requires Inv-loop μ-loop
 sequence-of-requires c κs = let inv = c .before .loop .inv in (search needs, inv .2, inv .3, inv .4, inv .6 (c .loop-test .taken))
 
--- src/mutual.rt:145:43
-mul-put-if : tie.Need-mul-put-if Inv-loop μ-loop
-mul-put-if c = search needs
-
--- src/mutual.rt:145:26
-add-put-if : tie.Need-add-put-if Inv-loop μ-loop
-add-put-if c = search needs
-
--- src/mutual.rt:145:25
-mul-put-if-2 : tie.Need-mul-put-if-2 Inv-loop μ-loop
-mul-put-if-2 c = search needs
-
--- src/mutual.rt:145:25
-add-put-if-2 : tie.Need-add-put-if-2 Inv-loop μ-loop
-add-put-if-2 c = search needs
-
--- src/mutual.rt:145:9
+-- src/mutual.rt:161:9
 put-if-requires : tie.Need-put-if-requires Inv-loop μ-loop
 put-if-requires c κs = search needs
 
--- src/mutual.rt:146:37
+-- src/mutual.rt:162:37
 add-next-or : tie.Need-add-next-or Inv-loop μ-loop
 add-next-or c = search needs
 
--- src/mutual.rt:146:9
+-- src/mutual.rt:162:9
 next-or-requires-2 : tie.Need-next-or-requires-2 Inv-loop μ-loop
 next-or-requires-2 c κs = search needs
 
--- src/mutual.rt:143:5
+-- src/mutual.rt:159:5
 loop-less : tie.Need-loop-less Inv-loop μ-loop
 loop-less c = search needs
 
--- src/mutual.rt:143:5
+-- src/mutual.rt:159:5
 loop-again : tie.Need-loop-again Inv-loop μ-loop
 loop-again c =
     let pre = c .before .before .before .before .before .before .before .before .before .before .before .before .before .before .before .before .before .before .pre in
@@ -146,11 +114,11 @@ loop-again c =
     let k = holds-kept (λ h. omega arith) (within-put SEQUENCE SEQUENCE-END _ _ (omega arith) (omega arith) (put .ensures)) (inv .5) in
     (next .high, ap length e ∙ length-rowFill _ _ _ _, inv .2, inv .3, inv .4, k, λ l d. walked k _ _ (pre .1) l (next .hit l d), fill-pass _ _ _ _ _ _ (next .low) (λ m l q. sequence-apart _ _ _ _ _ _ (next .miss m l q .1) (walked k _ _ (pre .1) (omega (arith, next .high)) (next .miss m l q .0))) e)
 
--- src/mutual.rt:131:1
+-- src/mutual.rt:147:1
 same-length-2 : tie.Need-same-length-2 Inv-loop μ-loop
 same-length-2 c = search needs
 
--- src/mutual.rt:131:1
+-- src/mutual.rt:147:1
 returns-2 : tie.Need-returns-2 Inv-loop μ-loop
 returns-2 c = let e : c .before .loop .x ≡ c .before .before .before .before .before .before .before .before .before .before .before .args .n = omega arith in rw e at (c .before .loop .inv .7)
 
@@ -163,10 +131,6 @@ sequence-row-spec =
     cast-read-row
     read-row-requires
     writes-requires
-    mul-put
-    add-put
-    mul-put-2
-    add-put-2
     put-requires
     same-length
     returns
@@ -176,10 +140,6 @@ sequence-row-spec =
     next-or-requires
     loop-holds
     sequence-of-requires
-    mul-put-if
-    add-put-if
-    mul-put-if-2
-    add-put-if-2
     put-if-requires
     add-next-or
     next-or-requires-2

@@ -48,7 +48,7 @@ fn order_row(rows: &[u8], p: Places, mode: Mode, n: usize, x: usize, w: &mut [u6
 {
     let mut y = 0;
     while y < n {
-        let at = area::LOCATION * 64 + x * area::PAIRS + y * area::PAIR;
+        let at = area::pairs::at(x, y);
         if w[at / 64] == 0 {
             y = lower(y / 4 * 4 + 4, n);
             continue;

@@ -75,8 +75,7 @@ pub fn over_nth(
     requires { ⌜ (y < n) × (z < n) × (n ≤ length (now src)) × Known (decode (now rows) p mode n) n (now w) ⌝ }
     ensures { λ k. ⌜ k ≡ overNth (decode (now (rows .entry)) p mode n) (sourceIn (now (src .entry))) y z ⌝ }
 {
-    let at = area::LOCATION * 64 + z * area::PAIRS + y * area::PAIR;
-    if race::pair::is_unset(w, at) {
+    if race::pair::is_unset(w, z, y) {
         return area::PAIR;
     }
     if !may_overwrite(rows, p, mode, n, src, y, z) {

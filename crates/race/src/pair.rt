@@ -1,19 +1,23 @@
 // Edge 1: what all the bits of a pair of rows say at once.
 ghost use mathlib.Core.Path.{_≡_};
-ghost use Prim.Native.Nat.{_*_, _<_};
+ghost use Prim.Native.Nat.{_+_, _*_, _≤_, _<_};
 ghost use lib.ListN.{length};
+ghost use Rattle.model.specs.Limits.{ROWS, WORK};
 ghost use Rattle.model.specs.Table.{decode};
 ghost use Rattle.model.specs.Edge.{beforeSome};
+ghost use Rattle.area.specs.Regions.{LOCATION, PAIR, PAIRS};
 ghost use Rattle.race.specs.Bytes.{Known};
 ghost use Rattle.race.specs.Pairs.{unsetAt};
 use model::Mode;
 use model::Places;
 
-// Whether none of a pair's bits, which begin at bit `at`, is set: they stand in one word.
-pub fn is_unset(w: &[u64], at: usize) -> bool
-    requires { ⌜ at < 64 * length (now w) ⌝ }
-    ensures { λ b. ⌜ b ≡ unsetAt (now (w .entry)) at ⌝ }
+// Whether none of the bits of rows x and y is set: they stand in one word.
+// Ruled out: one that looks at the whole word; one that looks at the bits of rows y and x.
+pub fn is_unset(w: &[u64], x: usize, y: usize) -> bool
+    requires { ⌜ (x < ROWS) × (y < ROWS) × (WORK ≤ length (now w)) ⌝ }
+    ensures { λ b. ⌜ b ≡ unsetAt (now (w .entry)) (LOCATION * 64 + x * PAIRS + y * PAIR) ⌝ }
 {
+    let at = area::pairs::at(x, y);
     (w[at / 64] >> (at % 64)) % 65536 == 0
 }
 
@@ -31,12 +35,11 @@ pub fn before_some(
     requires { ⌜ (x < n) × (y < n) × Known (decode (now rows) p mode n) n (now w) ⌝ }
     ensures { λ d. ⌜ d ≡ beforeSome (decode (now (rows .entry)) p mode n) x y ⌝ }
 {
-    let at = area::LOCATION * 64 + x * area::PAIRS + y * area::PAIR;
-    if is_unset(w, at) {
+    if is_unset(w, x, y) {
         return false;
     }
     for k in 0..area::PAIR {
-        if bits::get(w, at + k) {
+        if area::pairs::get(w, x, y, k) {
             return true;
         }
     }

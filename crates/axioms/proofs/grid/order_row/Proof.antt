@@ -17,6 +17,7 @@ use Rattle.axioms.proofs.grid.order_row.Lts as lts
 use Rattle.race.proofs.pair.before_some.Reads as before-some-reads
 use Rattle.axioms.proofs.grid.lower.Reads as lower-reads
 use Rattle.area.proofs.grid.put_if.Reads as put-if-reads
+use Rattle.area.proofs.pairs.at.Reads as at-reads
 
 abbrev Inv-loop : tie.InvT-loop
 Inv-loop rows p mode n x w₀ y₀ w y = (y ≤ n) × (length w ≡ length w₀) × Located (decode rows p mode n) n w × Edged n (fromUpto x y (beforeSome (decode rows p mode n) x)) w₀ w
@@ -28,25 +29,8 @@ abbrev μ-loop : tie.MeasureT-loop
 loop-holds : tie.Need-loop-holds Inv-loop μ-loop
 loop-holds c = (search needs, refl, (c .before .before) .pre .1 .3, row-none _ _ _)
 
--- src/grid.rt:51:18
-mul-at : tie.Need-mul-at Inv-loop μ-loop
-mul-at c = search needs
-
--- src/grid.rt:51:40
-mul-at-2 : tie.Need-mul-at-2 Inv-loop μ-loop
-mul-at-2 c = search needs
-
--- src/grid.rt:51:18
-add-at : tie.Need-add-at Inv-loop μ-loop
-add-at c = search needs
-
--- src/grid.rt:51:58
-mul-at-3 : tie.Need-mul-at-3 Inv-loop μ-loop
-mul-at-3 c = search needs
-
--- src/grid.rt:51:18
-add-at-2 : tie.Need-add-at-2 Inv-loop μ-loop
-add-at-2 c = search needs
+at-requires : tie.Need-at-requires Inv-loop μ-loop
+at-requires c κs = search needs
 
 -- src/grid.rt:52:12
 mul-if1 : tie.Need-mul-if1 Inv-loop μ-loop
@@ -75,12 +59,12 @@ loop-less c = search needs
 -- src/grid.rt:50:5
 loop-again : tie.Need-loop-again Inv-loop μ-loop
 loop-again c =
-    let inv = (c .before .before .before .before) .loop .inv in
-    (search needs, inv .1, inv .2, row-over _ _ _ _ (omega arith) (order-none _ _ _ _ _ _ _ (inv .2) ((c .before .before .before .before .before .before .before) .pre .0) refl ((c .before) .if1 .taken) (c .lower .ensures)) (inv .3))
+    let inv = (c .before .before .before .before .before) .loop .inv in
+    (search needs, inv .1, inv .2, row-over _ _ _ _ (omega arith) (order-none _ _ _ _ _ _ _ (inv .2) ((c .before .before .before .before .before .before .before .before) .pre .0) (c .before .before .before .at .ensures) ((c .before) .if1 .taken) (c .lower .ensures)) (inv .3))
 
 -- src/grid.rt:56:13
 before-some-requires : tie.Need-before-some-requires Inv-loop μ-loop
-before-some-requires c κs = let s = (c .before .before .before .before .before .before .before) .pre in let inv = (c .before .before .before .before) .loop .inv in (s .0, search needs, (s .1 .0, search needs, s .1 .2, inv .2))
+before-some-requires c κs = let s = (c .before .before .before .before .before .before .before .before) .pre in let inv = (c .before .before .before .before .before) .loop .inv in (s .0, search needs, (s .1 .0, search needs, s .1 .2, inv .2))
 
 -- src/grid.rt:57:9
 put-if-requires : tie.Need-put-if-requires Inv-loop μ-loop
@@ -98,7 +82,7 @@ loop-less-2 c = search needs
 loop-again-2 : tie.Need-loop-again-2 Inv-loop μ-loop
 loop-again-2 c =
     let put = (c .before .before) .put-if in
-    let inv = (c .before .before .before .before .before .before .before .before .before) .loop .inv in
+    let inv = (c .before .before .before .before .before .before .before .before .before .before) .loop .inv in
     let e = row-exact _ _ _ _ _ (omega arith) (omega arith) (omega arith) (omega arith) (inv .3) refl (put .ensures) ((c .before .before .before .before) .before-some .ensures) in
     (search needs, e .frame .len, located-kept (omega arith) (within-put EDGE EDGE-END _ _ (omega arith) (omega arith) (put .ensures)) (inv .2), e)
 
@@ -117,11 +101,7 @@ order-row-spec =
     Inv-loop
     μ-loop
     loop-holds
-    mul-at
-    mul-at-2
-    add-at
-    mul-at-3
-    add-at-2
+    at-requires
     mul-if1
     slice-read-if1
     mul-lower

@@ -21,30 +21,10 @@ use Rattle.axioms.proofs.source_at.Reads as source-at-reads
 use Rattle.rows.proofs.bytes.read_row.Reads as read-row-reads
 
 abbrev Inv-loop : tie.InvT-loop
-Inv-loop rows p mode n src y z w at s o r q k₀ k = (k ≤ PAIR) × (least k (overwritesNth (decode rows p mode n) (sourceIn src) y z) ≡ k)
+Inv-loop rows p mode n src y z w s o r q k₀ k = (k ≤ PAIR) × (least k (overwritesNth (decode rows p mode n) (sourceIn src) y z) ≡ k)
 
 abbrev μ-loop : tie.MeasureT-loop
-μ-loop rows p mode n src y z w at s o r q k₀ k = PAIR - k
-
--- src/overwritten.rt:78:14
-mul-at : tie.Need-mul-at Inv-loop μ-loop
-mul-at c = search needs
-
--- src/overwritten.rt:78:36
-mul-at-2 : tie.Need-mul-at-2 Inv-loop μ-loop
-mul-at-2 c = search needs
-
--- src/overwritten.rt:78:14
-add-at : tie.Need-add-at Inv-loop μ-loop
-add-at c = search needs
-
--- src/overwritten.rt:78:54
-mul-at-3 : tie.Need-mul-at-3 Inv-loop μ-loop
-mul-at-3 c = search needs
-
--- src/overwritten.rt:78:14
-add-at-2 : tie.Need-add-at-2 Inv-loop μ-loop
-add-at-2 c = search needs
+μ-loop rows p mode n src y z w s o r q k₀ k = PAIR - k
 
 -- src/overwritten.rt:79:8
 is-unset-requires : tie.Need-is-unset-requires Inv-loop μ-loop
@@ -81,7 +61,7 @@ read-row-requires-2 c κs = search needs
 
 -- src/overwritten.rt:88:41
 cast-read-row-2 : tie.Need-cast-read-row-2 Inv-loop μ-loop
-cast-read-row-2 c = search needs
+cast-read-row-2 c = let s = (c .before .before .before .before .before .before .before .before .before .before) .pre in search (needs, s .1, s .3 .0)
 
 -- src/overwritten.rt:88:9
 read-row-requires-3 : tie.Need-read-row-requires-3 Inv-loop μ-loop
@@ -127,11 +107,6 @@ over-nth-spec =
     (tie.spec
     Inv-loop
     μ-loop
-    mul-at
-    mul-at-2
-    add-at
-    mul-at-3
-    add-at-2
     is-unset-requires
     returns
     may-overwrite-requires

@@ -11,33 +11,13 @@ use Rattle.race.proofs.pair.before_some.Tie as tie
 use Rattle.race.proofs.pair.before_some.Reads as reads
 use Rattle.race.proofs.pair.before_some.Lts as lts
 use Rattle.race.proofs.pair.is_unset.Reads as is-unset-reads
-use Rattle.bits.proofs.get.Reads as get-reads
+use Rattle.area.proofs.pairs.get.Reads as get-reads
 
 abbrev Inv-loop : tie.InvT-loop
-Inv-loop rows n x y w at k₀ k = (k ≤ PAIR) × (anyBelow k (orderBit w x y) ≡ false)
+Inv-loop rows n x y w k₀ k = (k ≤ PAIR) × (anyBelow k (orderBit w x y) ≡ false)
 
 abbrev μ-loop : tie.MeasureT-loop
-μ-loop rows n x y w at k₀ k = PAIR - k
-
--- src/pair.rt:47:14
-mul-at : tie.Need-mul-at Inv-loop μ-loop
-mul-at c = search needs
-
--- src/pair.rt:47:36
-mul-at-2 : tie.Need-mul-at-2 Inv-loop μ-loop
-mul-at-2 c = search needs
-
--- src/pair.rt:47:14
-add-at : tie.Need-add-at Inv-loop μ-loop
-add-at c = search needs
-
--- src/pair.rt:47:54
-mul-at-3 : tie.Need-mul-at-3 Inv-loop μ-loop
-mul-at-3 c = search needs
-
--- src/pair.rt:47:14
-add-at-2 : tie.Need-add-at-2 Inv-loop μ-loop
-add-at-2 c = search needs
+μ-loop rows n x y w k₀ k = PAIR - k
 
 -- src/pair.rt:48:8
 is-unset-requires : tie.Need-is-unset-requires Inv-loop μ-loop
@@ -50,10 +30,6 @@ returns c = some-unset _ _ _ _ _ _ (c .before .before .before .before .pre .2 .3
 -- src/pair.rt:51:5
 loop-holds : tie.Need-loop-holds Inv-loop μ-loop
 loop-holds c = (search needs, any-none _)
-
--- src/pair.rt:52:25
-add-get : tie.Need-add-get Inv-loop μ-loop
-add-get c = search needs
 
 -- src/pair.rt:52:12
 get-requires : tie.Need-get-requires Inv-loop μ-loop
@@ -87,15 +63,9 @@ before-some-spec =
     (tie.spec
     Inv-loop
     μ-loop
-    mul-at
-    mul-at-2
-    add-at
-    mul-at-3
-    add-at-2
     is-unset-requires
     returns
     loop-holds
-    add-get
     get-requires
     returns-2
     add-k

@@ -12,7 +12,7 @@ use Rattle.area.specs.Regions.{MUTUAL, MUTUAL-END, SEQUENCE, SEQUENCE-EN
 -- ---- definitions
 
 -- what synchronizes-with is made from: mutually-ordered rows, and release sequences
-pub record Known (t : Table) (n : ℕ) (w : List ℕ) : Type 0 where
+pub record Sequenced (t : Table) (n : ℕ) (w : List ℕ) : Type 0 where
   pub mutuals : Holds MUTUAL GRID n (mutually t) w
   pub sequences : Holds SEQUENCE GRID n (sequence t) w
 
@@ -28,8 +28,8 @@ pub record MadeSynced (t : Table) (n : ℕ) (w u : List ℕ) : Type 0 where
 
 -- ---- laws: a change in later words keeps each
 
-pub known-kept : {t : Table} {n c d : ℕ} {w u : List ℕ} → SEQUENCE-END ≤ c → Within c d w u → Known t n w → Known t n u
-known-kept {n = n} l f k =
+pub sequenced-kept : {t : Table} {n c d : ℕ} {w u : List ℕ} → SEQUENCE-END ≤ c → Within c d w u → Sequenced t n w → Sequenced t n u
+sequenced-kept {n = n} l f k =
     let h : n ≤ 64 * GRID = k .mutuals .fits in
     record { mutuals = holds-kept (λ h. absurd (omega arith)) f (k .mutuals); sequences = holds-kept (λ h. absurd (omega arith)) f (k .sequences) }
 
@@ -40,9 +40,9 @@ synced-kept {n = n} l f k =
 
 -- ---- laws: the stages in order
 
-pub known-made : {t : Table} {n : ℕ} {w v x : List ℕ} → Made MUTUAL MUTUAL-END MUTUAL GRID n (mutually t) w v
-    → Made SEQUENCE SEQUENCE-END SEQUENCE GRID n (sequence t) v x → Known t n x
-known-made {n = n} m s =
+pub sequenced-made : {t : Table} {n : ℕ} {w v x : List ℕ} → Made MUTUAL MUTUAL-END MUTUAL GRID n (mutually t) w v
+    → Made SEQUENCE SEQUENCE-END SEQUENCE GRID n (sequence t) v x → Sequenced t n x
+sequenced-made {n = n} m s =
     let h : n ≤ 64 * GRID = m .holds .fits in
     record { mutuals = holds-kept (λ h. absurd (omega arith)) (s .frame) (m .holds); sequences = s .holds }
 
@@ -50,7 +50,7 @@ pub synced-made : {t : Table} {n : ℕ} {w v x u : List ℕ} → Made MUTUAL MUT
     → Made SEQUENCE SEQUENCE-END SEQUENCE GRID n (sequence t) v x → Made SYNC SYNC-END SYNC GRID n (synchronizes t) x u → MadeSynced t n w u
 synced-made m s y =
     record {
-      synced = record { mutuals = known-kept (omega arith) (y .frame) (known-made m s) .mutuals; syncs = y .holds };
+      synced = record { mutuals = sequenced-kept (omega arith) (y .frame) (sequenced-made m s) .mutuals; syncs = y .holds };
       frame = within-trans (within-widen MUTUAL SYNC-END (omega arith) (omega arith) (m .frame))
           (within-trans (within-widen MUTUAL SYNC-END (omega arith) (omega arith) (s .frame))
           (within-widen MUTUAL SYNC-END (omega arith) (omega arith) (y .frame)));

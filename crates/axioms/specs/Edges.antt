@@ -17,10 +17,12 @@ use Rattle.race.specs.Bytes.{touch-apart}
 -- ---- laws
 
 -- the lowest number, chosen one after the other
-pub number-is : (t : Table) (source : ℕ → ℕ) (x y e f g h : ℕ) (a b c d : Bool) → a ≡ beforeSome t x y → b ≡ follows t x y → c ≡ readsFrom t source x y
-    → d ≡ fromReads t source x y → e ≡ cond a 1 f → f ≡ cond b 2 g → g ≡ cond c 3 h → h ≡ cond d 4 0 → e ≡ edgeNumber t source x y
+pub number-is : (t : Table) (source : ℕ → ℕ) (x y one two three four : ℕ) (byOrder byScope byRead fromRead : Bool) → byOrder ≡ beforeSome t x y
+    → byScope ≡ follows t x y → byRead ≡ readsFrom t source x y → fromRead ≡ fromReads t source x y → one ≡ cond byOrder 1 two → two ≡ cond byScope 2 three
+    → three ≡ cond byRead 3 four → four ≡ cond fromRead 4 0 → one ≡ edgeNumber t source x y
 unfolding edgeNumber
-number-is t source x y e f g h a b c d i j k l m n o p = rw (m, n, o, p, i, j, k, l) refl
+number-is t source x y one two three four byOrder byScope byRead fromRead isOrder isScope isRead isFrom isOne isTwo isThree isFour =
+    rw (isOne, isTwo, isThree, isFour, isOrder, isScope, isRead, isFrom) refl
 
 -- edge 4 where y, which is r, read the initial value, and where it did not; s is y's source, and q is z
 module _ (t : Table) (source : ℕ → ℕ) (y z s : ℕ) (r q : Row) (e : s ≡ source y) (f : r ≡ t .row y) (g : q ≡ t .row z) where

@@ -8,7 +8,7 @@ ghost use Rattle.model.specs.Table.{rowOf, decode};
 ghost use Rattle.model.specs.Scope.{follows};
 ghost use Rattle.model.specs.Edge.{beforeSome, readsFrom, fromReads, edgeNumber, edge};
 ghost use Rattle.area.specs.Regions.{EDGE, EDGE-END, GRID};
-ghost use Rattle.race.specs.Bytes.{Known};
+ghost use Rattle.race.specs.Bytes.{Ready};
 ghost use Rattle.axioms.specs.Sources.{sourceIn};
 use model::Mode;
 use model::Places;
@@ -28,13 +28,13 @@ pub fn follows_at(
     q: Row,
     w: &[u64],
 ) -> bool
-    requires { ⌜ (x < n) × (y < n) × (r ≡ rowOf (now rows) x) × (q ≡ rowOf (now rows) y) × Known (decode (now rows) p mode n) n (now w) ⌝ }
+    requires { ⌜ (x < n) × (y < n) × (r ≡ rowOf (now rows) x) × (q ≡ rowOf (now rows) y) × Ready (decode (now rows) p mode n) n (now w) ⌝ }
     ensures { λ d. ⌜ d ≡ follows (decode (now (rows .entry)) p mode n) x y ⌝ }
 {
     race::mutual_at(rows, p, mode, n, x, y, w) & rows::scopes::is_later_writer(mode.counted, q, r)
 }
 
-// The same where x is a source, which may be no row: so the work area is not asked.
+// Edge 2 from a source: a fill may hand in a number that is no row, so the rows are compared and not the bits.
 pub fn follows_source(
     rows: &[u8],
     p: Places,
@@ -109,7 +109,7 @@ pub fn edge_number(
     y: usize,
     w: &[u64],
 ) -> u16
-    requires { ⌜ (x < n) × (y < n) × (n ≤ length (now src)) × Known (decode (now rows) p mode n) n (now w) ⌝ }
+    requires { ⌜ (x < n) × (y < n) × (n ≤ length (now src)) × Ready (decode (now rows) p mode n) n (now w) ⌝ }
     ensures { λ e. ⌜ e ≡ edgeNumber (decode (now (rows .entry)) p mode n) (sourceIn (now (src .entry))) x y ⌝ }
 {
     let r = rows::bytes::read_row(rows, x as u16);
@@ -132,7 +132,7 @@ pub fn edge_number(
 // The edges between n rows.
 // Ruled out: one that leaves a bit of an earlier stage set; one that writes a word outside the edges' region.
 pub fn fill_edges(rows: &[u8], p: Places, mode: Mode, n: usize, src: &[u16], w: &mut [u64])
-    requires { ⌜ (n ≤ length (now src)) × Known (decode (now rows) p mode n) n (now w) ⌝ }
+    requires { ⌜ (n ≤ length (now src)) × Ready (decode (now rows) p mode n) n (now w) ⌝ }
     ensures { λ _. ⌜ Made EDGE EDGE-END EDGE GRID n (edge (decode (now (rows .entry)) p mode n) (sourceIn (now (src .entry)))) (now (w .entry)) (now (w .exit)) ⌝ }
 {
     bits::clear(w, area::EDGE, area::EDGE_END);

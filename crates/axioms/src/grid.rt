@@ -11,7 +11,7 @@ ghost use Rattle.model.specs.Table.{rowOf, decode};
 ghost use Rattle.model.specs.Scope.{follows};
 ghost use Rattle.model.specs.Edge.{beforeSome, readsFrom, fromReads};
 ghost use Rattle.area.specs.Regions.{GRID};
-ghost use Rattle.race.specs.Bytes.{Known};
+ghost use Rattle.race.specs.Bytes.{Ready};
 ghost use Rattle.axioms.specs.Sources.{sourceIn};
 ghost use Rattle.axioms.specs.Words.{Next};
 ghost use Rattle.axioms.specs.Added.{Edged, edgeBit, fromUpto, outOf, into, after, linked};
@@ -43,7 +43,7 @@ fn next_in(w: &[u64], at: usize, y: usize, n: usize) -> usize
 
 // Edge 1 from x, which is location-ordered before few rows.
 fn order_row(rows: &[u8], p: Places, mode: Mode, n: usize, x: usize, w: &mut [u64])
-    requires { ⌜ (x < n) × Known (decode (now rows) p mode n) n (now w) ⌝ }
+    requires { ⌜ (x < n) × Ready (decode (now rows) p mode n) n (now w) ⌝ }
     ensures { λ _. ⌜ Edged n (fromUpto x n (beforeSome (decode (now (rows .entry)) p mode n) x)) (now (w .entry)) (now (w .exit)) ⌝ }
 {
     let mut y = 0;
@@ -70,7 +70,7 @@ fn follows_of(
     y: usize,
     w: &[u64],
 ) -> bool
-    requires { ⌜ (x < n) × (y < n) × (r ≡ rowOf (now rows) x) × Known (decode (now rows) p mode n) n (now w) ⌝ }
+    requires { ⌜ (x < n) × (y < n) × (r ≡ rowOf (now rows) x) × Ready (decode (now rows) p mode n) n (now w) ⌝ }
     ensures { λ d. ⌜ d ≡ follows (decode (now (rows .entry)) p mode n) x y ⌝ }
 {
     if !race::mutual_at(rows, p, mode, n, x, y, w) {
@@ -91,7 +91,7 @@ fn lacks_after(
     y: usize,
     w: &[u64],
 ) -> bool
-    requires { ⌜ (x < n) × (s < n) × (y < n) × (r ≡ rowOf (now rows) s) × Known (decode (now rows) p mode n) n (now w) ⌝ }
+    requires { ⌜ (x < n) × (s < n) × (y < n) × (r ≡ rowOf (now rows) s) × Ready (decode (now rows) p mode n) n (now w) ⌝ }
     ensures { λ d. ⌜ d ≡ (not (bit (now (w .entry)) (edgeBit x y)) and after (decode (now (rows .entry)) p mode n) x s y) ⌝ }
 {
     if area::grid::get(w, area::EDGE, x, y) {
@@ -102,7 +102,7 @@ fn lacks_after(
 
 // From x to the other rows that follow s: edge 2 where s is x, edge 4 where it is x's source. Few rows are mutually-ordered with s.
 fn after_row(rows: &[u8], p: Places, mode: Mode, n: usize, x: usize, s: usize, w: &mut [u64])
-    requires { ⌜ (x < n) × (s < n) × Known (decode (now rows) p mode n) n (now w) ⌝ }
+    requires { ⌜ (x < n) × (s < n) × Ready (decode (now rows) p mode n) n (now w) ⌝ }
     ensures { λ _. ⌜ Edged n (fromUpto x n (after (decode (now (rows .entry)) p mode n) x s)) (now (w .entry)) (now (w .exit)) ⌝ }
 {
     let at = area::MUTUAL + s * area::GRID;
@@ -164,7 +164,7 @@ fn from_any(
 
 // Edge 4 from x: none where it doesn't read.
 fn from_row(rows: &[u8], p: Places, mode: Mode, n: usize, src: &[u16], x: usize, w: &mut [u64])
-    requires { ⌜ (x < n) × (n ≤ length (now src)) × Known (decode (now rows) p mode n) n (now w) ⌝ }
+    requires { ⌜ (x < n) × (n ≤ length (now src)) × Ready (decode (now rows) p mode n) n (now w) ⌝ }
     ensures { λ _. ⌜ Edged n (fromUpto x n (fromReads (decode (now (rows .entry)) p mode n) (sourceIn (now (src .entry))) x)) (now (w .entry)) (now (w .exit)) ⌝ }
 {
     let r = bytes::read_row(rows, x as u16);
@@ -181,7 +181,7 @@ fn from_row(rows: &[u8], p: Places, mode: Mode, n: usize, src: &[u16], x: usize,
 
 // Edges 1, 2 and 4 from x.
 pub fn edge_row(rows: &[u8], p: Places, mode: Mode, n: usize, src: &[u16], x: usize, w: &mut [u64])
-    requires { ⌜ (x < n) × (n ≤ length (now src)) × Known (decode (now rows) p mode n) n (now w) ⌝ }
+    requires { ⌜ (x < n) × (n ≤ length (now src)) × Ready (decode (now rows) p mode n) n (now w) ⌝ }
     ensures { λ _. ⌜ Edged n (outOf x (linked (decode (now (rows .entry)) p mode n) (sourceIn (now (src .entry))))) (now (w .entry)) (now (w .exit)) ⌝ }
 {
     order_row(rows, p, mode, n, x, w);

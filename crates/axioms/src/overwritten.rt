@@ -7,7 +7,7 @@ ghost use Rattle.model.specs.Limits.{ROWS};
 ghost use Rattle.model.specs.Table.{rowOf, decode};
 ghost use Rattle.model.specs.Edge.{overwritesNth, overNth, overWriter, overReader};
 ghost use Rattle.area.specs.Regions.{PAIR};
-ghost use Rattle.race.specs.Bytes.{Known, Bounded};
+ghost use Rattle.race.specs.Bytes.{Ready, Bounded};
 ghost use Rattle.axioms.specs.Sources.{sourceIn};
 ghost use Rattle.axioms.specs.Overwritten.{mayOverwrite, foundOverwrite};
 use model::Mode;
@@ -52,7 +52,7 @@ pub fn overwrites_at(
 ) -> bool
     requires { ⌜ (y < n) × (z < n) × (k < PAIR) × (s ≡ sourceIn (now src) y)
         × (mayOverwrite (decode (now rows) p mode n) (sourceIn (now src)) y z ≡ true)
-        × (o ≡ rowOf (now rows) s) × (r ≡ rowOf (now rows) y) × (q ≡ rowOf (now rows) z) × Known (decode (now rows) p mode n) n (now w) ⌝ }
+        × (o ≡ rowOf (now rows) s) × (r ≡ rowOf (now rows) y) × (q ≡ rowOf (now rows) z) × Ready (decode (now rows) p mode n) n (now w) ⌝ }
     ensures { λ d. ⌜ d ≡ overwritesNth (decode (now (rows .entry)) p mode n) (sourceIn (now (src .entry))) y z k ⌝ }
 {
     let b = (r.start as u32) + (k as u32);
@@ -72,7 +72,7 @@ pub fn over_nth(
     z: usize,
     w: &[u64],
 ) -> usize
-    requires { ⌜ (y < n) × (z < n) × (n ≤ length (now src)) × Known (decode (now rows) p mode n) n (now w) ⌝ }
+    requires { ⌜ (y < n) × (z < n) × (n ≤ length (now src)) × Ready (decode (now rows) p mode n) n (now w) ⌝ }
     ensures { λ k. ⌜ k ≡ overNth (decode (now (rows .entry)) p mode n) (sourceIn (now (src .entry))) y z ⌝ }
 {
     if race::pair::is_unset(w, z, y) {
@@ -104,7 +104,7 @@ pub fn over_writer(
     y: usize,
     w: &[u64],
 ) -> usize
-    requires { ⌜ (y < n) × (n ≤ length (now src)) × Known (decode (now rows) p mode n) n (now w) ⌝ }
+    requires { ⌜ (y < n) × (n ≤ length (now src)) × Ready (decode (now rows) p mode n) n (now w) ⌝ }
     ensures { λ z. ⌜ z ≡ overWriter (decode (now (rows .entry)) p mode n) (sourceIn (now (src .entry))) y ⌝ }
 {
     let r = rows::bytes::read_row(rows, y as u16);
@@ -123,7 +123,7 @@ pub fn over_writer(
 // Axiom B: the first reader whose source is overwritten, and n where B holds.
 // Ruled out: one that gives the reader of the first writer; one that passes over the last row.
 pub fn over_reader(rows: &[u8], p: Places, mode: Mode, n: usize, src: &[u16], w: &[u64]) -> usize
-    requires { ⌜ (n ≤ length (now src)) × Known (decode (now rows) p mode n) n (now w) ⌝ }
+    requires { ⌜ (n ≤ length (now src)) × Ready (decode (now rows) p mode n) n (now w) ⌝ }
     ensures { λ y. ⌜ y ≡ overReader (decode (now (rows .entry)) p mode n) (sourceIn (now (src .entry))) ⌝ }
 {
     for y in 0..n {
@@ -149,7 +149,7 @@ pub fn first_overwrite(
     src: &[u16],
     w: &[u64],
 ) -> Overwrite
-    requires { ⌜ (n ≤ length (now src)) × Bounded (decode (now rows) p mode n) × Known (decode (now rows) p mode n) n (now w) ⌝ }
+    requires { ⌜ (n ≤ length (now src)) × Bounded (decode (now rows) p mode n) × Ready (decode (now rows) p mode n) n (now w) ⌝ }
     ensures { λ r. ⌜ r ≡ foundOverwrite (decode (now (rows .entry)) p mode n) (sourceIn (now (src .entry))) ⌝ }
 {
     let y = over_reader(rows, p, mode, n, src, w);

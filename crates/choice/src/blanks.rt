@@ -6,7 +6,7 @@ ghost use Rattle.finite.specs.Below.{anyBelow, least};
 ghost use Rattle.model.specs.Limits.{LONGEST};
 ghost use Rattle.model.specs.Table.{rowOf, decode};
 ghost use Rattle.model.specs.Fill.{missesAt, candidate, choice, chosen};
-ghost use Rattle.race.specs.Bytes.{Known};
+ghost use Rattle.race.specs.Bytes.{Ready};
 ghost use Rattle.choice.specs.Sources.{Listed};
 ghost use Rattle.choice.specs.Choice.{chosenFrom};
 use crate::writers;
@@ -30,7 +30,7 @@ fn misses_at(
     k: usize,
     w: &[u64],
 ) -> bool
-    requires { ⌜ (y < n) × (s < n) × (r ≡ rowOf (now rows) y) × (q ≡ rowOf (now rows) s) × (k < LONGEST) × Known (decode (now rows) p mode n) n (now w) ⌝ }
+    requires { ⌜ (y < n) × (s < n) × (r ≡ rowOf (now rows) y) × (q ≡ rowOf (now rows) s) × (k < LONGEST) × Ready (decode (now rows) p mode n) n (now w) ⌝ }
     ensures { λ b. ⌜ b ≡ missesAt (decode (now (rows .entry)) p mode n) y s k ⌝ }
 {
     let b = (r.start as u32) + (k as u32);
@@ -47,7 +47,7 @@ pub fn some_miss(
     s: usize,
     w: &[u64],
 ) -> bool
-    requires { ⌜ (y < n) × (s < n) × Known (decode (now rows) p mode n) n (now w) ⌝ }
+    requires { ⌜ (y < n) × (s < n) × Ready (decode (now rows) p mode n) n (now w) ⌝ }
     ensures { λ b. ⌜ b ≡ anyBelow LONGEST (missesAt (decode (now (rows .entry)) p mode n) y s) ⌝ }
 {
     let r = rows::bytes::read_row(rows, y as u16);
@@ -70,7 +70,7 @@ pub fn candidate_at(
     s: usize,
     w: &[u64],
 ) -> bool
-    requires { ⌜ (y < n) × (s < n) × Known (decode (now rows) p mode n) n (now w) ⌝ }
+    requires { ⌜ (y < n) × (s < n) × Ready (decode (now rows) p mode n) n (now w) ⌝ }
     ensures { λ b. ⌜ b ≡ candidate (decode (now (rows .entry)) p mode n) y s ⌝ }
 {
     let from = Source::of_row(s as u16);
@@ -85,7 +85,7 @@ pub fn candidate_at(
 
 // The first row that y may have read; n where there is none.
 pub fn first_candidate(rows: &[u8], p: Places, mode: Mode, n: usize, y: usize, w: &[u64]) -> usize
-    requires { ⌜ (y < n) × Known (decode (now rows) p mode n) n (now w) ⌝ }
+    requires { ⌜ (y < n) × Ready (decode (now rows) p mode n) n (now w) ⌝ }
     ensures { λ s. ⌜ (s ≡ least n (candidate (decode (now (rows .entry)) p mode n) y)) × (s ≤ n) ⌝ }
 {
     for s in 0..n {
@@ -100,7 +100,7 @@ pub fn first_candidate(rows: &[u8], p: Places, mode: Mode, n: usize, y: usize, w
 
 // The source that the blank y must have: the initial value where no writer comes before it; n where it can have none.
 pub fn choice_of(rows: &[u8], p: Places, mode: Mode, n: usize, y: usize, w: &[u64]) -> u16
-    requires { ⌜ (y < n) × Known (decode (now rows) p mode n) n (now w) ⌝ }
+    requires { ⌜ (y < n) × Ready (decode (now rows) p mode n) n (now w) ⌝ }
     ensures { λ s. ⌜ s ≡ choice (decode (now (rows .entry)) p mode n) y ⌝ }
 {
     if !writers::is_written(rows, p, mode, n, y, w) {
@@ -111,7 +111,7 @@ pub fn choice_of(rows: &[u8], p: Places, mode: Mode, n: usize, y: usize, w: &[u6
 
 // The source of row i, which has s: its choice where it is a blank, else s.
 fn chosen_at(rows: &[u8], p: Places, mode: Mode, n: usize, i: usize, s: u16, w: &[u64]) -> u16
-    requires { ⌜ (i < n) × Known (decode (now rows) p mode n) n (now w) ⌝ }
+    requires { ⌜ (i < n) × Ready (decode (now rows) p mode n) n (now w) ⌝ }
     ensures { λ c. ⌜ c ≡ chosenFrom (decode (now (rows .entry)) p mode n) i s ⌝ }
 {
     let r = rows::bytes::read_row(rows, i as u16);
@@ -126,7 +126,7 @@ fn chosen_at(rows: &[u8], p: Places, mode: Mode, n: usize, i: usize, s: u16, w: 
 // Ruled out: one that chooses for a plain read that names its source; one that takes for a blank a writer that was overwritten
 // before it at any byte.
 pub fn choose(rows: &[u8], p: Places, mode: Mode, n: usize, src: &[u16], w: &[u64]) -> [u16; 128]
-    requires { ⌜ (n ≤ length (now src)) × Known (decode (now rows) p mode n) n (now w) ⌝ }
+    requires { ⌜ (n ≤ length (now src)) × Ready (decode (now rows) p mode n) n (now w) ⌝ }
     ensures { λ r. ⌜ Listed (chosen (decode (now (rows .entry)) p mode n) (λ i. getD (now (src .entry)) i 0)) n r ⌝ }
 {
     let mut list = [0u16; 128];

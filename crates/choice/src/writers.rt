@@ -8,7 +8,7 @@ ghost use Rattle.model.specs.Table.{rowOf, decode};
 ghost use Rattle.model.specs.Scope.{follows};
 ghost use Rattle.model.specs.Edge.{beforeSome};
 ghost use Rattle.model.specs.Fill.{writtenBy, written, hidesAt, between};
-ghost use Rattle.race.specs.Bytes.{Known};
+ghost use Rattle.race.specs.Bytes.{Ready};
 use model::Mode;
 use model::Places;
 use model::Row;
@@ -17,7 +17,7 @@ use model::Row;
 
 // Whether z is a writer that is ordered before y.
 fn written_by(rows: &[u8], p: Places, mode: Mode, n: usize, y: usize, z: usize, w: &[u64]) -> bool
-    requires { ⌜ (y < n) × (z < n) × Known (decode (now rows) p mode n) n (now w) ⌝ }
+    requires { ⌜ (y < n) × (z < n) × Ready (decode (now rows) p mode n) n (now w) ⌝ }
     ensures { λ b. ⌜ b ≡ writtenBy (decode (now (rows .entry)) p mode n) y z ⌝ }
 {
     let r = rows::bytes::read_row(rows, z as u16);
@@ -29,7 +29,7 @@ fn written_by(rows: &[u8], p: Places, mode: Mode, n: usize, y: usize, z: usize, 
 
 // Whether some writer is ordered before y.
 pub fn is_written(rows: &[u8], p: Places, mode: Mode, n: usize, y: usize, w: &[u64]) -> bool
-    requires { ⌜ (y < n) × Known (decode (now rows) p mode n) n (now w) ⌝ }
+    requires { ⌜ (y < n) × Ready (decode (now rows) p mode n) n (now w) ⌝ }
     ensures { λ b. ⌜ b ≡ written (decode (now (rows .entry)) p mode n) y ⌝ }
 {
     for z in 0..n {
@@ -57,7 +57,7 @@ fn hides_at(
     k: usize,
     w: &[u64],
 ) -> bool
-    requires { ⌜ (y < n) × (s < n) × (z < n) × (r ≡ rowOf (now rows) y) × (q ≡ rowOf (now rows) s) × (v ≡ rowOf (now rows) z) × (k < LONGEST) × Known (decode (now rows) p mode n) n (now w) ⌝ }
+    requires { ⌜ (y < n) × (s < n) × (z < n) × (r ≡ rowOf (now rows) y) × (q ≡ rowOf (now rows) s) × (v ≡ rowOf (now rows) z) × (k < LONGEST) × Ready (decode (now rows) p mode n) n (now w) ⌝ }
     ensures { λ b. ⌜ b ≡ hidesAt (decode (now (rows .entry)) p mode n) y s z k ⌝ }
 {
     let b = (r.start as u32) + (k as u32);
@@ -76,7 +76,7 @@ pub fn some_hidden(
     z: usize,
     w: &[u64],
 ) -> bool
-    requires { ⌜ (y < n) × (s < n) × (z < n) × Known (decode (now rows) p mode n) n (now w) ⌝ }
+    requires { ⌜ (y < n) × (s < n) × (z < n) × Ready (decode (now rows) p mode n) n (now w) ⌝ }
     ensures { λ b. ⌜ b ≡ anyBelow LONGEST (hidesAt (decode (now (rows .entry)) p mode n) y s z) ⌝ }
 {
     let r = rows::bytes::read_row(rows, y as u16);
@@ -101,7 +101,7 @@ fn overtakes(
     z: usize,
     w: &[u64],
 ) -> bool
-    requires { ⌜ (y < n) × (s < n) × (z < n) × Known (decode (now rows) p mode n) n (now w) ⌝ }
+    requires { ⌜ (y < n) × (s < n) × (z < n) × Ready (decode (now rows) p mode n) n (now w) ⌝ }
     ensures { λ b. ⌜ b ≡ (follows (decode (now (rows .entry)) p mode n) s z and beforeSome (decode (now (rows .entry)) p mode n) z y) ⌝ }
 {
     if !sequence::heads::follows_at(rows, p, mode, n, s, z, w) {
@@ -121,7 +121,7 @@ pub fn between_at(
     z: usize,
     w: &[u64],
 ) -> bool
-    requires { ⌜ (y < n) × (s < n) × (z < n) × Known (decode (now rows) p mode n) n (now w) ⌝ }
+    requires { ⌜ (y < n) × (s < n) × (z < n) × Ready (decode (now rows) p mode n) n (now w) ⌝ }
     ensures { λ b. ⌜ b ≡ between (decode (now (rows .entry)) p mode n) y s z ⌝ }
 {
     let v = rows::bytes::read_row(rows, z as u16);
@@ -141,7 +141,7 @@ pub fn some_between(
     s: usize,
     w: &[u64],
 ) -> bool
-    requires { ⌜ (y < n) × (s < n) × Known (decode (now rows) p mode n) n (now w) ⌝ }
+    requires { ⌜ (y < n) × (s < n) × Ready (decode (now rows) p mode n) n (now w) ⌝ }
     ensures { λ b. ⌜ b ≡ anyBelow n (between (decode (now (rows .entry)) p mode n) y s) ⌝ }
 {
     for z in 0..n {

@@ -10,7 +10,7 @@ ghost use Rattle.model.specs.Edge.{consistent};
 ghost use Rattle.model.specs.Fill.{chosen, sourcesFit, none, filledOr, outcome, fillAnswer, sourcesAfter};
 ghost use Rattle.bits.specs.Within.{Within};
 ghost use Rattle.area.specs.Regions.{EDGE, LAYERS-END};
-ghost use Rattle.race.specs.Bytes.{Known, Bounded};
+ghost use Rattle.race.specs.Bytes.{Ready, Bounded};
 ghost use Rattle.axioms.specs.Sources.{sourceIn};
 ghost use Rattle.filling.specs.Parts.{raceAnswer};
 use model::FillAnswer;
@@ -27,7 +27,7 @@ pub fn is_consistent(
     src: &[u16],
     w: &mut [u64],
 ) -> bool
-    requires { ⌜ (n ≤ length (now src)) × Known (decode (now rows) p mode n) n (now w) ⌝ }
+    requires { ⌜ (n ≤ length (now src)) × Ready (decode (now rows) p mode n) n (now w) ⌝ }
     ensures { λ b. ⌜ (b ≡ consistent (decode (now (rows .entry)) p mode n) (sourceIn (now (src .entry)))) × Within EDGE LAYERS-END (now (w .entry)) (now (w .exit)) ⌝ }
 {
     axioms::edges::fill_edges(rows, p, mode, n, src, w);
@@ -40,7 +40,7 @@ pub fn is_consistent(
 
 // Whether a check admits the sources, and the table with them is consistent.
 fn is_filled(rows: &[u8], p: Places, mode: Mode, n: usize, src: &[u16], w: &mut [u64]) -> bool
-    requires { ⌜ (n ≤ length (now src)) × Known (decode (now rows) p mode n) n (now w) ⌝ }
+    requires { ⌜ (n ≤ length (now src)) × Ready (decode (now rows) p mode n) n (now w) ⌝ }
     ensures { λ b. ⌜ (b ≡ (sourcesFit (decode (now (rows .entry)) p mode n) (sourceIn (now (src .entry))) and consistent (decode (now (rows .entry)) p mode n) (sourceIn (now (src .entry)))))
         × Within EDGE LAYERS-END (now (w .entry)) (now (w .exit)) ⌝ }
 {
@@ -71,7 +71,7 @@ fn choose_sources(
     w: &mut [u64],
     out: &mut [u16],
 ) -> FillAnswer
-    requires { ⌜ (SOURCES ≤ length (now out)) × (n ≤ length (now src)) × Known (decode (now rows) p mode n) n (now w) ⌝ }
+    requires { ⌜ (SOURCES ≤ length (now out)) × (n ≤ length (now src)) × Ready (decode (now rows) p mode n) n (now w) ⌝ }
     ensures { λ r. ⌜ (r ≡ fillAnswer (filledOr none (decode (now (rows .entry)) p mode n) (chosen (decode (now (rows .entry)) p mode n) (sourceIn (now (src .entry))))))
         × (now (out .exit) ≡ sourcesAfter (filledOr none (decode (now (rows .entry)) p mode n) (chosen (decode (now (rows .entry)) p mode n) (sourceIn (now (src .entry))))) (now (out .entry)))
         × Within EDGE LAYERS-END (now (w .entry)) (now (w .exit)) ⌝ }
@@ -114,7 +114,7 @@ pub fn settle(
     w: &mut [u64],
     out: &mut [u16],
 ) -> FillAnswer
-    requires { ⌜ (SOURCES ≤ length (now out)) × (n ≤ length (now src)) × Bounded (decode (now rows) p mode n) × Known (decode (now rows) p mode n) n (now w) ⌝ }
+    requires { ⌜ (SOURCES ≤ length (now out)) × (n ≤ length (now src)) × Bounded (decode (now rows) p mode n) × Ready (decode (now rows) p mode n) n (now w) ⌝ }
     ensures { λ r. ⌜ (r ≡ fillAnswer (outcome (decode (now (rows .entry)) p mode n) (sourceIn (now (src .entry)))))
         × (now (out .exit) ≡ sourcesAfter (outcome (decode (now (rows .entry)) p mode n) (sourceIn (now (src .entry)))) (now (out .entry)))
         × Within EDGE LAYERS-END (now (w .entry)) (now (w .exit)) ⌝ }

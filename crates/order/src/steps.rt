@@ -24,35 +24,34 @@ use rules::moments;
 
 // ---- direct cases that go by rows
 
-// M6: one of them from the moment `from` of r to the moment `to` of q; b says that r synchronizes-with q, o that the one moment is
-// program-ordered before the other. Each case needs a moment that holds all of s: that is tested first.
-fn is_step(s: u8, from: u8, to: u8, r: Row, q: Row, b: bool, o: bool) -> bool
-    ensures { λ d. ⌜ d ≡ stepRows s from to r q b o ⌝ }
+// M6: one of them from the moment `from` of r to the moment `to` of q. Each needs a moment that holds all of s: that is tested first.
+fn is_step(s: u8, from: u8, to: u8, r: Row, q: Row, synced: bool, ordered: bool) -> bool
+    ensures { λ d. ⌜ d ≡ stepRows s from to r q synced ordered ⌝ }
 {
     let h = cases::holding_of(s, r, from);
     let g = cases::holding_of(s, q, to);
     if !(h | g) {
         return false;
     }
-    cases::is_case(1, s, from, to, r, q, b, o)
-        | cases::is_case(2, s, from, to, r, q, b, o)
-        | cases::is_case(3, s, from, to, r, q, b, o)
+    cases::is_case(1, s, from, to, r, q, synced, ordered)
+        | cases::is_case(2, s, from, to, r, q, synced, ordered)
+        | cases::is_case(3, s, from, to, r, q, synced, ordered)
 }
 
-// M6: one of them for the class set s from moment m to moment k; b says that m's row synchronizes-with k's. Most pairs have
-// neither that nor program order, and no whole row is read.
-fn step_of(rows: &[u8], n: usize, s: u8, m: usize, k: usize, b: bool) -> bool
+// M6: one of them for the class set s from moment m to moment k. Most pairs neither synchronize nor are program-ordered, and no whole
+// row is read.
+fn step_of(rows: &[u8], n: usize, s: u8, m: usize, k: usize, synced: bool) -> bool
     requires { ⌜ (n ≤ ROWS) × (m < 3 * n) × (k < 3 * n) ⌝ }
-    ensures { λ d. ⌜ ((p : List (List ℕ)) (mode : Mode) → d ≡ stepRows s (m % 3) (k % 3) (rowOf (now (rows .entry)) (m / 3)) (rowOf (now (rows .entry)) (k / 3)) b
+    ensures { λ d. ⌜ ((p : List (List ℕ)) (mode : Mode) → d ≡ stepRows s (m % 3) (k % 3) (rowOf (now (rows .entry)) (m / 3)) (rowOf (now (rows .entry)) (k / 3)) synced
         (programOrder (decode (now (rows .entry)) p mode n) m k)) ⌝ }
 {
-    let o = moments::ordered_at(rows, n, m, k);
-    if !(b | o) {
+    let ordered = moments::ordered_at(rows, n, m, k);
+    if !(synced | ordered) {
         return false;
     }
     let r = rows::bytes::read_row(rows, (m / 3) as u16);
     let q = rows::bytes::read_row(rows, (k / 3) as u16);
-    is_step(s, (m % 3) as u8, (k % 3) as u8, r, q, b, o)
+    is_step(s, (m % 3) as u8, (k % 3) as u8, r, q, synced, ordered)
 }
 
 // Whether the row of moment m synchronizes-with the row of moment k, as the work area's bits say.

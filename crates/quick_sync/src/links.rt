@@ -13,7 +13,7 @@ ghost use Rattle.model.specs.Table.{rowOf, decode};
 ghost use Rattle.model.specs.Scope.{mutually};
 ghost use Rattle.model.specs.Synchronizes.{takesFrom};
 ghost use Rattle.area.specs.Regions.{GRID};
-ghost use Rattle.area.specs.Synced.{Known};
+ghost use Rattle.area.specs.Synced.{Sequenced};
 ghost use Rattle.quick_sync.specs.Regions.{HEADS, TAKES, GETS, HANDS, HANDS-END, LINKS};
 ghost use Rattle.quick_sync.specs.Links.{heads, gets, released, gotten, led};
 ghost use Rattle.quick_sync.specs.Rows.{atomicOf};
@@ -87,7 +87,7 @@ fn fill_heads(rows: &[u8], p: Places, mode: Mode, n: usize, w: &mut [u64])
 // M5: whether row y, which is mutually-ordered with the writer x and so an atomic, reads from the sequence that x heads.
 fn takes_of(rows: &[u8], p: Places, mode: Mode, n: usize, x: usize, y: usize, w: &[u64]) -> bool
     requires { ⌜ (n ≤ ROWS) × (x < n) × (y < n) × (WORK ≤ length (now w)) × (writes (rowOf (now rows) x) ≡ true)
-        × (mutually (decode (now rows) p mode n) x y ≡ true) × Known (decode (now rows) p mode n) n (now w) ⌝ }
+        × (mutually (decode (now rows) p mode n) x y ≡ true) × Sequenced (decode (now rows) p mode n) n (now w) ⌝ }
     ensures { λ d. ⌜ d ≡ takesFrom (decode (now (rows .entry)) p mode n) x y ⌝ }
 {
     if bytes::read_kind(rows, y as u16) == kinds::ATOMIC_WRITE {
@@ -103,7 +103,7 @@ fn takes_of(rows: &[u8], p: Places, mode: Mode, n: usize, x: usize, y: usize, w:
 
 // M5 for the writer x and every row: only what is mutually-ordered with it may read from its sequence.
 fn takes_row(rows: &[u8], p: Places, mode: Mode, n: usize, x: usize, w: &mut [u64])
-    requires { ⌜ (n ≤ ROWS) × (x < n) × (WORK ≤ length (now w)) × Known (decode (now rows) p mode n) n (now w) ⌝ }
+    requires { ⌜ (n ≤ ROWS) × (x < n) × (WORK ≤ length (now w)) × Sequenced (decode (now rows) p mode n) n (now w) ⌝ }
     ensures { λ _. ⌜ now (w .exit) ≡ rowFill (takesFrom (decode (now (rows .entry)) p mode n) x) (now (w .entry)) (TAKES * 64 + x * (GRID * 64)) n ⌝ }
 {
     let r = bytes::read_row(rows, x as u16);
@@ -120,7 +120,7 @@ fn takes_row(rows: &[u8], p: Places, mode: Mode, n: usize, x: usize, w: &mut [u6
 }
 
 fn fill_takes(rows: &[u8], p: Places, mode: Mode, n: usize, w: &mut [u64])
-    requires { ⌜ (n ≤ ROWS) × (WORK ≤ length (now w)) × Known (decode (now rows) p mode n) n (now w) ⌝ }
+    requires { ⌜ (n ≤ ROWS) × (WORK ≤ length (now w)) × Sequenced (decode (now rows) p mode n) n (now w) ⌝ }
     ensures { λ _. ⌜ Made TAKES GETS TAKES GRID n (takesFrom (decode (now (rows .entry)) p mode n)) (now (w .entry)) (now (w .exit)) ⌝ }
 {
     bits::clear(w, TAKES, GETS);
@@ -187,7 +187,7 @@ fn has_atomic(rows: &[u8], n: usize) -> bool
 
 // M5: which acquires each release is linked to. Without atomics there are none.
 pub fn fill_links(rows: &[u8], p: Places, mode: Mode, n: usize, w: &mut [u64])
-    requires { ⌜ (n ≤ ROWS) × (WORK ≤ length (now w)) × Known (decode (now rows) p mode n) n (now w) ⌝ }
+    requires { ⌜ (n ≤ ROWS) × (WORK ≤ length (now w)) × Sequenced (decode (now rows) p mode n) n (now w) ⌝ }
     ensures { λ _. ⌜ Made LINKS HANDS-END LINKS GRID n (led (decode (now (rows .entry)) p mode n)) (now (w .entry)) (now (w .exit)) ⌝ }
 {
     if !has_atomic(rows, n) {

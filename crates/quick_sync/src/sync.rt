@@ -11,7 +11,7 @@ ghost use Rattle.model.specs.Row.{acquires, releases};
 ghost use Rattle.model.specs.Table.{rowOf, decode};
 ghost use Rattle.model.specs.Synchronizes.{synchronizes};
 ghost use Rattle.area.specs.Regions.{MUTUAL, SYNC, HAPPENS-END, GRID};
-ghost use Rattle.area.specs.Synced.{Known, Synced};
+ghost use Rattle.area.specs.Synced.{Sequenced, Synced};
 ghost use Rattle.quick_sync.specs.Regions.{LINKS, PASSED, COVER, GOOD-END, TODO-END};
 ghost use Rattle.quick_sync.specs.State.{Linked, MadeLinked};
 ghost use Rattle.quick_sync.specs.Walk.{either};
@@ -236,7 +236,7 @@ pub fn fill_sync(rows: &[u8], p: Places, mode: Mode, n: usize, w: &mut [u64])
 
 // M5: what synchronizes-with is made from, by products.
 fn make_linked(rows: &[u8], p: Places, mode: Mode, n: usize, w: &mut [u64])
-    requires { ⌜ (n ≤ ROWS) × (WORK ≤ length (now w)) × Known (decode (now rows) p mode n) n (now w) ⌝ }
+    requires { ⌜ (n ≤ ROWS) × (WORK ≤ length (now w)) × Sequenced (decode (now rows) p mode n) n (now w) ⌝ }
     ensures { λ _. ⌜ MadeLinked (decode (now (rows .entry)) p mode n) n (now (w .entry)) (now (w .exit)) ⌝ }
 {
     links::fill_links(rows, p, mode, n, w);

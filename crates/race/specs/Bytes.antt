@@ -29,8 +29,8 @@ use Rattle.area.specs.State.{Located}
 -- ---- definitions
 
 -- what races, edges and choices are read from: the area holds location order of the table's n rows, none longer than LONGEST
-abbrev pub Known : Table → ℕ → List ℕ → Type 0
-Known t n w = (n ≤ ROWS) × (WORK ≤ length w) × Sized t × Located t n w
+abbrev pub Ready : Table → ℕ → List ℕ → Type 0
+Ready t n w = (n ≤ ROWS) × (WORK ≤ length w) × Sized t × Located t n w
 
 -- the bytes of each access are numbers of 16 bits, as refusal 7 sees to
 abbrev pub Bounded : Table → Type 0

@@ -6,7 +6,7 @@ ghost use Rattle.model.specs.Table.{rowOf, decode};
 ghost use Rattle.model.specs.Scope.{mutually};
 ghost use Rattle.model.specs.Location.{before};
 ghost use Rattle.model.specs.Race.{unordered};
-ghost use Rattle.race.specs.Bytes.{Known, Bounded, mayRace, lowestByte};
+ghost use Rattle.race.specs.Bytes.{Ready, Bounded, mayRace, lowestByte};
 ghost use Rattle.race.specs.First.{foundRace};
 use model::Mode;
 use model::Places;
@@ -27,7 +27,7 @@ pub fn mutual_at(
     y: usize,
     w: &[u64],
 ) -> bool
-    requires { ⌜ (x < n) × (y < n) × Known (decode (now rows) p mode n) n (now w) ⌝ }
+    requires { ⌜ (x < n) × (y < n) × Ready (decode (now rows) p mode n) n (now w) ⌝ }
     ensures { λ d. ⌜ d ≡ mutually (decode (now (rows .entry)) p mode n) x y ⌝ }
 {
     area::grid::get(w, area::MUTUAL, x, y)
@@ -46,7 +46,7 @@ pub fn before_byte(
     b: u32,
     w: &[u64],
 ) -> bool
-    requires { ⌜ (x < n) × (y < n) × (r ≡ rowOf (now rows) x) × Known (decode (now rows) p mode n) n (now w) ⌝ }
+    requires { ⌜ (x < n) × (y < n) × (r ≡ rowOf (now rows) x) × Ready (decode (now rows) p mode n) n (now w) ⌝ }
     ensures { λ d. ⌜ d ≡ before (decode (now (rows .entry)) p mode n) x y b ⌝ }
 {
     let start = r.start as u32;
@@ -74,7 +74,7 @@ pub fn unordered_at(
     b: u32,
     w: &[u64],
 ) -> bool
-    requires { ⌜ (x < n) × (y < n) × (r ≡ rowOf (now rows) x) × (q ≡ rowOf (now rows) y) × Known (decode (now rows) p mode n) n (now w) ⌝ }
+    requires { ⌜ (x < n) × (y < n) × (r ≡ rowOf (now rows) x) × (q ≡ rowOf (now rows) y) × Ready (decode (now rows) p mode n) n (now w) ⌝ }
     ensures { λ d. ⌜ d ≡ unordered (decode (now (rows .entry)) p mode n) x y b ⌝ }
 {
     rules::pairs::common(r, q, b)
@@ -95,7 +95,7 @@ pub fn may_race(
     q: Row,
     w: &[u64],
 ) -> bool
-    requires { ⌜ (x < n) × (y < n) × (r ≡ rowOf (now rows) x) × (q ≡ rowOf (now rows) y) × Known (decode (now rows) p mode n) n (now w) ⌝ }
+    requires { ⌜ (x < n) × (y < n) × (r ≡ rowOf (now rows) x) × (q ≡ rowOf (now rows) y) × Ready (decode (now rows) p mode n) n (now w) ⌝ }
     ensures { λ d. ⌜ d ≡ mayRace (decode (now (rows .entry)) p mode n) x y ⌝ }
 {
     !(x == y) & shared::clash(r, q) & !mutual_at(rows, p, mode, n, x, y, w)
@@ -120,7 +120,7 @@ pub enum Found {
 // The first pair in row order that races, then its lowest shared byte with no order: the lower row, the higher, the byte.
 // Ruled out: one that shows the rows exchanged; one that shows the lowest shared byte, ordered or not.
 pub fn first_race(rows: &[u8], p: Places, mode: Mode, n: usize, w: &[u64]) -> Found
-    requires { ⌜ Bounded (decode (now rows) p mode n) × Known (decode (now rows) p mode n) n (now w) ⌝ }
+    requires { ⌜ Bounded (decode (now rows) p mode n) × Ready (decode (now rows) p mode n) n (now w) ⌝ }
     ensures { λ r. ⌜ r ≡ foundRace (decode (now (rows .entry)) p mode n) ⌝ }
 {
     let mut answer = Found::Nothing;

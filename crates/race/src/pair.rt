@@ -6,7 +6,7 @@ ghost use Rattle.model.specs.Limits.{ROWS, WORK};
 ghost use Rattle.model.specs.Table.{decode};
 ghost use Rattle.model.specs.Edge.{beforeSome};
 ghost use Rattle.area.specs.Regions.{LOCATION, PAIR, PAIRS};
-ghost use Rattle.race.specs.Bytes.{Known};
+ghost use Rattle.race.specs.Bytes.{Ready};
 ghost use Rattle.race.specs.Pairs.{unsetAt};
 use model::Mode;
 use model::Places;
@@ -32,7 +32,7 @@ pub fn before_some(
     y: usize,
     w: &[u64],
 ) -> bool
-    requires { ⌜ (x < n) × (y < n) × Known (decode (now rows) p mode n) n (now w) ⌝ }
+    requires { ⌜ (x < n) × (y < n) × Ready (decode (now rows) p mode n) n (now w) ⌝ }
     ensures { λ d. ⌜ d ≡ beforeSome (decode (now (rows .entry)) p mode n) x y ⌝ }
 {
     if is_unset(w, x, y) {

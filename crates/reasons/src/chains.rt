@@ -59,13 +59,13 @@ pub fn find_set(
 // ---- its steps
 
 // M6: the lowest case from the moment `from` of r to the moment `to` of q, where there is one: a dependency if it is none of the three
-// that go by rows. b says that r synchronizes-with q, o that the one moment is program-ordered before the other.
-fn case_of(s: u8, from: u8, to: u8, r: Row, q: Row, b: bool, o: bool) -> u16
-    ensures { λ d. ⌜ d ≡ lowestRows s from to r q b o ⌝ }
+// that go by rows.
+fn case_of(s: u8, from: u8, to: u8, r: Row, q: Row, synced: bool, ordered: bool) -> u16
+    ensures { λ d. ⌜ d ≡ lowestRows s from to r q synced ordered ⌝ }
 {
-    let sync = cases::is_case(1, s, from, to, r, q, b, o);
-    let release = cases::is_case(2, s, from, to, r, q, b, o);
-    let acquire = cases::is_case(3, s, from, to, r, q, b, o);
+    let sync = cases::is_case(1, s, from, to, r, q, synced, ordered);
+    let release = cases::is_case(2, s, from, to, r, q, synced, ordered);
+    let acquire = cases::is_case(3, s, from, to, r, q, synced, ordered);
     pick::number(
         sync,
         1,
@@ -73,16 +73,16 @@ fn case_of(s: u8, from: u8, to: u8, r: Row, q: Row, b: bool, o: bool) -> u16
     )
 }
 
-// The same of moments m and k of a table; b says that m's row synchronizes-with k's.
-fn case_at(rows: &[u8], n: usize, s: u8, m: usize, k: usize, b: bool) -> u16
+// The same of moments m and k of a table.
+fn case_at(rows: &[u8], n: usize, s: u8, m: usize, k: usize, synced: bool) -> u16
     requires { ⌜ (n ≤ ROWS) × (m < 3 * n) × (k < 3 * n) ⌝ }
-    ensures { λ d. ⌜ (d ≤ 4) × ((p : List (List ℕ)) (mode : Mode) → d ≡ lowestRows s (m % 3) (k % 3) (rowOf (now (rows .entry)) (m / 3)) (rowOf (now (rows .entry)) (k / 3)) b
+    ensures { λ d. ⌜ (d ≤ 4) × ((p : List (List ℕ)) (mode : Mode) → d ≡ lowestRows s (m % 3) (k % 3) (rowOf (now (rows .entry)) (m / 3)) (rowOf (now (rows .entry)) (k / 3)) synced
         (programOrder (decode (now (rows .entry)) p mode n) m k)) ⌝ }
 {
-    let o = moments::ordered_at(rows, n, m, k);
+    let ordered = moments::ordered_at(rows, n, m, k);
     let r = rows::bytes::read_row(rows, (m / 3) as u16);
     let q = rows::bytes::read_row(rows, (k / 3) as u16);
-    case_of(s, (m % 3) as u8, (k % 3) as u8, r, q, b, o)
+    case_of(s, (m % 3) as u8, (k % 3) as u8, r, q, synced, ordered)
 }
 
 // The number of the step from moment m to moment k.

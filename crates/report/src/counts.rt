@@ -4,7 +4,7 @@ ghost use Prim.Native.Nat.{_≤_, _<_};
 ghost use Rattle.finite.specs.Count.{countBelow, countPairs, one, under};
 ghost use Rattle.model.specs.Table.{decode};
 ghost use Rattle.model.specs.Report.{shareOf, counted};
-ghost use Rattle.race.specs.Bytes.{Known};
+ghost use Rattle.race.specs.Bytes.{Ready};
 ghost use Rattle.report.specs.Counts.{counts};
 use crate::pairs;
 use crate::pairs::Count;
@@ -22,7 +22,7 @@ fn one(b: bool) -> u16
 
 // How many rows below y make a pair with y that c counts.
 fn count_below(c: Count, rows: &[u8], p: Places, mode: Mode, n: usize, y: usize, w: &[u64]) -> u16
-    requires { ⌜ (y < n) × Known (decode (now rows) p mode n) n (now w) ⌝ }
+    requires { ⌜ (y < n) × Ready (decode (now rows) p mode n) n (now w) ⌝ }
     ensures { λ r. ⌜ (r ≡ countBelow y (under (counts c (decode (now (rows .entry)) p mode n)) y)) × (r ≤ y) ⌝ }
 {
     let q = rows::bytes::read_row(rows, y as u16);
@@ -37,7 +37,7 @@ fn count_below(c: Count, rows: &[u8], p: Places, mode: Mode, n: usize, y: usize,
 // How many pairs c counts.
 // Ruled out: one that counts each pair twice; one that leaves out the last row.
 pub fn count_pairs(c: Count, rows: &[u8], p: Places, mode: Mode, n: usize, w: &[u64]) -> u16
-    requires { ⌜ Known (decode (now rows) p mode n) n (now w) ⌝ }
+    requires { ⌜ Ready (decode (now rows) p mode n) n (now w) ⌝ }
     ensures { λ r. ⌜ r ≡ countPairs n (counts c (decode (now (rows .entry)) p mode n)) ⌝ }
 {
     let mut sum: u16 = 0;
@@ -61,7 +61,7 @@ pub fn share(racing: u16, conflicting: u16) -> Share
 // The report of a table that is consistent.
 // Ruled out: one that exchanges the mutually-ordered and the ordered pairs; one that reports a share of 0.0 where no pair conflicts.
 pub fn report_of(rows: &[u8], p: Places, mode: Mode, n: usize, w: &[u64]) -> ReportAnswer
-    requires { ⌜ Known (decode (now rows) p mode n) n (now w) ⌝ }
+    requires { ⌜ Ready (decode (now rows) p mode n) n (now w) ⌝ }
     ensures { λ r. ⌜ r ≡ counted (decode (now (rows .entry)) p mode n) ⌝ }
 {
     let conflicting = count_pairs(Count::Conflicting, rows, p, mode, n, w);

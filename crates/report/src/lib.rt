@@ -7,7 +7,7 @@ ghost use Rattle.model.specs.Limits.{WORK, CYCLE};
 ghost use Rattle.model.specs.Table.{decode, sourceOf};
 ghost use Rattle.model.specs.Check.{verdict, check, checkAnswer, cycleAfter, workAfter, wiped};
 ghost use Rattle.model.specs.Report.{reportAnswer, report};
-ghost use Rattle.race.specs.Bytes.{Known};
+ghost use Rattle.race.specs.Bytes.{Ready};
 ghost use Rattle.pieces.specs.Pieces.{checkBoth, reportBoth};
 ghost use Rattle.pieces.specs.Entry.{RowsOf};
 use model::Admission;
@@ -21,7 +21,7 @@ pub mod counts; // the four counts, and the share
 
 // A check's answer c as a report's: itself where the table is inconsistent, else the counts.
 fn answer(c: CheckAnswer, rows: &[u8], p: Places, mode: Mode, n: usize, w: &[u64]) -> ReportAnswer
-    requires { ⌜ Known (decode (now rows) p mode n) n (now w) ⌝ }
+    requires { ⌜ Ready (decode (now rows) p mode n) n (now w) ⌝ }
     ensures { λ r. ⌜ r ≡ reportAnswer c (decode (now (rows .entry)) p mode n) ⌝ }
 {
     match c {

@@ -7,7 +7,7 @@ ghost use Rattle.model.specs.Limits.{LONGEST};
 ghost use Rattle.model.specs.Table.{rowOf, decode};
 ghost use Rattle.model.specs.Race.{conflict, unorderedNth, raceNth, races};
 ghost use Rattle.model.specs.Report.{orderedNth, conflictMutual, conflictOrdered};
-ghost use Rattle.race.specs.Bytes.{Known};
+ghost use Rattle.race.specs.Bytes.{Ready};
 ghost use Rattle.report.specs.Counts.{counts};
 use model::Mode;
 use model::Places;
@@ -34,7 +34,7 @@ fn ordered_nth(
     k: usize,
     w: &[u64],
 ) -> bool
-    requires { ⌜ (x < n) × (y < n) × (k < LONGEST) × (r ≡ rowOf (now rows) x) × (q ≡ rowOf (now rows) y) × Known (decode (now rows) p mode n) n (now w) ⌝ }
+    requires { ⌜ (x < n) × (y < n) × (k < LONGEST) × (r ≡ rowOf (now rows) x) × (q ≡ rowOf (now rows) y) × Ready (decode (now rows) p mode n) n (now w) ⌝ }
     ensures { λ d. ⌜ d ≡ orderedNth (decode (now (rows .entry)) p mode n) x y k ⌝ }
 {
     let b = (r.start as u32) + (k as u32);
@@ -55,7 +55,7 @@ fn all_ordered(
     q: Row,
     w: &[u64],
 ) -> bool
-    requires { ⌜ (x < n) × (y < n) × (r ≡ rowOf (now rows) x) × (q ≡ rowOf (now rows) y) × Known (decode (now rows) p mode n) n (now w) ⌝ }
+    requires { ⌜ (x < n) × (y < n) × (r ≡ rowOf (now rows) x) × (q ≡ rowOf (now rows) y) × Ready (decode (now rows) p mode n) n (now w) ⌝ }
     ensures { λ d. ⌜ d ≡ allBelow LONGEST (orderedNth (decode (now (rows .entry)) p mode n) x y) ⌝ }
 {
     for k in 0..area::PAIR {
@@ -79,7 +79,7 @@ fn open_nth(
     k: usize,
     w: &[u64],
 ) -> bool
-    requires { ⌜ (x < n) × (y < n) × (k < LONGEST) × (r ≡ rowOf (now rows) x) × (q ≡ rowOf (now rows) y) × Known (decode (now rows) p mode n) n (now w) ⌝ }
+    requires { ⌜ (x < n) × (y < n) × (k < LONGEST) × (r ≡ rowOf (now rows) x) × (q ≡ rowOf (now rows) y) × Ready (decode (now rows) p mode n) n (now w) ⌝ }
     ensures { λ d. ⌜ d ≡ unorderedNth (decode (now (rows .entry)) p mode n) x y k ⌝ }
 {
     let b = (r.start as u32) + (k as u32);
@@ -98,7 +98,7 @@ fn some_open(
     q: Row,
     w: &[u64],
 ) -> bool
-    requires { ⌜ (x < n) × (y < n) × (r ≡ rowOf (now rows) x) × (q ≡ rowOf (now rows) y) × Known (decode (now rows) p mode n) n (now w) ⌝ }
+    requires { ⌜ (x < n) × (y < n) × (r ≡ rowOf (now rows) x) × (q ≡ rowOf (now rows) y) × Ready (decode (now rows) p mode n) n (now w) ⌝ }
     ensures { λ d. ⌜ d ≡ ltb (raceNth (decode (now (rows .entry)) p mode n) x y) LONGEST ⌝ }
 {
     for k in 0..area::PAIR {
@@ -138,7 +138,7 @@ fn is_mutual(
     q: Row,
     w: &[u64],
 ) -> bool
-    requires { ⌜ (x < n) × (y < n) × (r ≡ rowOf (now rows) x) × (q ≡ rowOf (now rows) y) × Known (decode (now rows) p mode n) n (now w) ⌝ }
+    requires { ⌜ (x < n) × (y < n) × (r ≡ rowOf (now rows) x) × (q ≡ rowOf (now rows) y) × Ready (decode (now rows) p mode n) n (now w) ⌝ }
     ensures { λ d. ⌜ d ≡ conflictMutual (decode (now (rows .entry)) p mode n) x y ⌝ }
 {
     is_conflict(rows, p, mode, n, x, y, r, q) & race::mutual_at(rows, p, mode, n, x, y, w)
@@ -156,7 +156,7 @@ fn is_ordered(
     q: Row,
     w: &[u64],
 ) -> bool
-    requires { ⌜ (x < n) × (y < n) × (r ≡ rowOf (now rows) x) × (q ≡ rowOf (now rows) y) × Known (decode (now rows) p mode n) n (now w) ⌝ }
+    requires { ⌜ (x < n) × (y < n) × (r ≡ rowOf (now rows) x) × (q ≡ rowOf (now rows) y) × Ready (decode (now rows) p mode n) n (now w) ⌝ }
     ensures { λ d. ⌜ d ≡ conflictOrdered (decode (now (rows .entry)) p mode n) x y ⌝ }
 {
     if !race::may_race(rows, p, mode, n, x, y, r, q, w) {
@@ -177,7 +177,7 @@ fn is_racing(
     q: Row,
     w: &[u64],
 ) -> bool
-    requires { ⌜ (x < n) × (y < n) × (r ≡ rowOf (now rows) x) × (q ≡ rowOf (now rows) y) × Known (decode (now rows) p mode n) n (now w) ⌝ }
+    requires { ⌜ (x < n) × (y < n) × (r ≡ rowOf (now rows) x) × (q ≡ rowOf (now rows) y) × Ready (decode (now rows) p mode n) n (now w) ⌝ }
     ensures { λ d. ⌜ d ≡ races (decode (now (rows .entry)) p mode n) x y ⌝ }
 {
     if !race::may_race(rows, p, mode, n, x, y, r, q, w) {
@@ -200,7 +200,7 @@ pub fn is_counted(
     q: Row,
     w: &[u64],
 ) -> bool
-    requires { ⌜ (x < n) × (y < n) × (r ≡ rowOf (now rows) x) × (q ≡ rowOf (now rows) y) × Known (decode (now rows) p mode n) n (now w) ⌝ }
+    requires { ⌜ (x < n) × (y < n) × (r ≡ rowOf (now rows) x) × (q ≡ rowOf (now rows) y) × Ready (decode (now rows) p mode n) n (now w) ⌝ }
     ensures { λ d. ⌜ d ≡ counts c (decode (now (rows .entry)) p mode n) x y ⌝ }
 {
     match c {

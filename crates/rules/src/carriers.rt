@@ -16,7 +16,7 @@ fn is_leading(a: usize, x: usize, r: Row, q: Row) -> bool
     (a < x) & (r.agent == q.agent) & rows::kinds::class_in(q, r.classes)
 }
 
-// M5: the same of two rows of a table.
+// M5: whether row x of a table is program-ordered after its barrier a, its class in a's semantics.
 pub fn leads_at(rows: &[u8], a: usize, x: usize) -> bool
     requires { ⌜ (a < ROWS) × (x < ROWS) ⌝ }
     ensures { λ d. ⌜ ((p : List (List ℕ)) (mode : Mode) (n : ℕ) → d ≡ leads (decode (now (rows .entry)) p mode n) a x) ⌝ }
@@ -33,7 +33,7 @@ fn is_trailing(b: usize, y: usize, r: Row, q: Row) -> bool
     (y < b) & (q.agent == r.agent) & rows::kinds::class_in(q, r.classes)
 }
 
-// M5: the same of two rows of a table.
+// M5: whether row y of a table is program-ordered before its barrier b, its class in b's semantics.
 pub fn trails_at(rows: &[u8], b: usize, y: usize) -> bool
     requires { ⌜ (b < ROWS) × (y < ROWS) ⌝ }
     ensures { λ d. ⌜ ((p : List (List ℕ)) (mode : Mode) (n : ℕ) → d ≡ trails (decode (now (rows .entry)) p mode n) b y) ⌝ }

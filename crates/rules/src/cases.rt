@@ -42,20 +42,28 @@ pub fn holds_at(rows: &[u8], s: u8, i: usize) -> bool
     rows::kinds::holds(rows::bytes::read_classes(rows, i as u16), s)
 }
 
-// M6: whether the direct case of this number, of the three that go by rows, leads from the moment `from` of r to the moment `to` of q;
-// b says that r synchronizes-with q, o that the one moment is program-ordered before the other.
+// M6: whether the direct case of this number, of the three that go by rows, leads from the moment `from` of r to the moment `to` of q.
 // Ruled out: one that asks both ends of cases 2 and 3 to hold all of s; one that lets an acquire end case 2.
-pub fn is_case(case: u16, s: u8, from: u8, to: u8, r: Row, q: Row, b: bool, o: bool) -> bool
-    ensures { λ d. ⌜ d ≡ caseRows case s from to r q b o ⌝ }
+pub fn is_case(
+    case: u16,
+    s: u8,
+    from: u8,
+    to: u8,
+    r: Row,
+    q: Row,
+    synced: bool,
+    ordered: bool,
+) -> bool
+    ensures { λ d. ⌜ d ≡ caseRows case s from to r q synced ordered ⌝ }
 {
     if case == 1 {
-        return holding_of(s, r, from) & holding_of(s, q, to) & b;
+        return holding_of(s, r, from) & holding_of(s, q, to) & synced;
     }
     if case == 2 {
-        return holding_of(s, q, to) & rows::kinds::releases(q) & concerns_of(s, r, from) & o;
+        return holding_of(s, q, to) & rows::kinds::releases(q) & concerns_of(s, r, from) & ordered;
     }
     if case == 3 {
-        return holding_of(s, r, from) & rows::kinds::acquires(r) & concerns_of(s, q, to) & o;
+        return holding_of(s, r, from) & rows::kinds::acquires(r) & concerns_of(s, q, to) & ordered;
     }
     false
 }

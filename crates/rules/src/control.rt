@@ -45,7 +45,7 @@ fn arrives_at(rows: &[u8], p: Places, mode: Mode, n: usize, b: usize, c: usize, 
     joins_at(rows, p, mode, n, c, d)
 }
 
-// M5: whether some row does.
+// M5: whether some row meets row c, and comes before row b or is b.
 fn is_arrived(rows: &[u8], p: Places, mode: Mode, n: usize, b: usize, c: usize) -> bool
     requires { ⌜ (n ≤ ROWS) × (b < n) × (c < n) ⌝ }
     ensures { λ e. ⌜ e ≡ anyBelow n (arrives (decode (now (rows .entry)) p mode n) b c) ⌝ }
@@ -81,7 +81,7 @@ fn passes_at(rows: &[u8], p: Places, mode: Mode, n: usize, a: usize, b: usize, c
     is_arrived(rows, p, mode, n, b, c)
 }
 
-// M5: whether some row does.
+// M5: whether a control barrier passes on from row a to row b.
 pub fn is_passed(rows: &[u8], p: Places, mode: Mode, n: usize, a: usize, b: usize) -> bool
     requires { ⌜ (n ≤ ROWS) × (a < n) × (b < n) ⌝ }
     ensures { λ d. ⌜ d ≡ anyBelow n (passes (decode (now (rows .entry)) p mode n) a b) ⌝ }

@@ -6,7 +6,7 @@ ghost use Rattle.finite.specs.Below.{anyBelow};
 ghost use Rattle.model.specs.Limits.{ROWS, WORK};
 ghost use Rattle.model.specs.Table.{decode};
 ghost use Rattle.model.specs.Synchronizes.{takesFrom, carriesOut, carriesIn, carriesOver};
-ghost use Rattle.area.specs.Synced.{Known};
+ghost use Rattle.area.specs.Synced.{Sequenced};
 use model::Mode;
 use model::Places;
 use rules::carriers;
@@ -22,7 +22,7 @@ pub fn takes_from_at(
     y: usize,
     w: &[u64],
 ) -> bool
-    requires { ⌜ (n ≤ ROWS) × (x < n) × (y < n) × (WORK ≤ length (now w)) × Known (decode (now rows) p mode n) n (now w) ⌝ }
+    requires { ⌜ (n ≤ ROWS) × (x < n) × (y < n) × (WORK ≤ length (now w)) × Sequenced (decode (now rows) p mode n) n (now w) ⌝ }
     ensures { λ d. ⌜ d ≡ takesFrom (decode (now (rows .entry)) p mode n) x y ⌝ }
 {
     if !area::grid::get(w, area::MUTUAL, x, y) {
@@ -50,7 +50,7 @@ fn carries_out_at(
     x: usize,
     w: &[u64],
 ) -> bool
-    requires { ⌜ (n ≤ ROWS) × (a < n) × (b < n) × (x < n) × (WORK ≤ length (now w)) × Known (decode (now rows) p mode n) n (now w) ⌝ }
+    requires { ⌜ (n ≤ ROWS) × (a < n) × (b < n) × (x < n) × (WORK ≤ length (now w)) × Sequenced (decode (now rows) p mode n) n (now w) ⌝ }
     ensures { λ d. ⌜ d ≡ carriesOut (decode (now (rows .entry)) p mode n) a b x ⌝ }
 {
     if !takes_from_at(rows, p, mode, n, x, b, w) {
@@ -59,7 +59,7 @@ fn carries_out_at(
     carriers::leads_at(rows, a, x)
 }
 
-// M5: whether some row does.
+// M5: whether some writer carries the release of the barrier a to the atomic b.
 pub fn is_carried_out(
     rows: &[u8],
     p: Places,
@@ -69,7 +69,7 @@ pub fn is_carried_out(
     b: usize,
     w: &[u64],
 ) -> bool
-    requires { ⌜ (n ≤ ROWS) × (a < n) × (b < n) × (WORK ≤ length (now w)) × Known (decode (now rows) p mode n) n (now w) ⌝ }
+    requires { ⌜ (n ≤ ROWS) × (a < n) × (b < n) × (WORK ≤ length (now w)) × Sequenced (decode (now rows) p mode n) n (now w) ⌝ }
     ensures { λ d. ⌜ d ≡ anyBelow n (carriesOut (decode (now (rows .entry)) p mode n) a b) ⌝ }
 {
     for x in 0..n {
@@ -91,7 +91,7 @@ fn carries_in_at(
     y: usize,
     w: &[u64],
 ) -> bool
-    requires { ⌜ (n ≤ ROWS) × (a < n) × (b < n) × (y < n) × (WORK ≤ length (now w)) × Known (decode (now rows) p mode n) n (now w) ⌝ }
+    requires { ⌜ (n ≤ ROWS) × (a < n) × (b < n) × (y < n) × (WORK ≤ length (now w)) × Sequenced (decode (now rows) p mode n) n (now w) ⌝ }
     ensures { λ d. ⌜ d ≡ carriesIn (decode (now (rows .entry)) p mode n) a b y ⌝ }
 {
     if !takes_from_at(rows, p, mode, n, a, y, w) {
@@ -100,7 +100,7 @@ fn carries_in_at(
     carriers::trails_at(rows, b, y)
 }
 
-// M5: whether some row does.
+// M5: whether some reader carries the release of the atomic a to the barrier b.
 pub fn is_carried_in(
     rows: &[u8],
     p: Places,
@@ -110,7 +110,7 @@ pub fn is_carried_in(
     b: usize,
     w: &[u64],
 ) -> bool
-    requires { ⌜ (n ≤ ROWS) × (a < n) × (b < n) × (WORK ≤ length (now w)) × Known (decode (now rows) p mode n) n (now w) ⌝ }
+    requires { ⌜ (n ≤ ROWS) × (a < n) × (b < n) × (WORK ≤ length (now w)) × Sequenced (decode (now rows) p mode n) n (now w) ⌝ }
     ensures { λ d. ⌜ d ≡ anyBelow n (carriesIn (decode (now (rows .entry)) p mode n) a b) ⌝ }
 {
     for y in 0..n {
@@ -132,7 +132,7 @@ fn carries_over_at(
     x: usize,
     w: &[u64],
 ) -> bool
-    requires { ⌜ (n ≤ ROWS) × (a < n) × (b < n) × (x < n) × (WORK ≤ length (now w)) × Known (decode (now rows) p mode n) n (now w) ⌝ }
+    requires { ⌜ (n ≤ ROWS) × (a < n) × (b < n) × (x < n) × (WORK ≤ length (now w)) × Sequenced (decode (now rows) p mode n) n (now w) ⌝ }
     ensures { λ d. ⌜ d ≡ carriesOver (decode (now (rows .entry)) p mode n) a b x ⌝ }
 {
     if !carriers::leads_at(rows, a, x) {
@@ -141,7 +141,7 @@ fn carries_over_at(
     is_carried_in(rows, p, mode, n, x, b, w)
 }
 
-// M5: whether some row does.
+// M5: whether some writer, and a row that reads from its sequence, carry the release of the barrier a to the barrier b.
 pub fn is_carried_over(
     rows: &[u8],
     p: Places,
@@ -151,7 +151,7 @@ pub fn is_carried_over(
     b: usize,
     w: &[u64],
 ) -> bool
-    requires { ⌜ (n ≤ ROWS) × (a < n) × (b < n) × (WORK ≤ length (now w)) × Known (decode (now rows) p mode n) n (now w) ⌝ }
+    requires { ⌜ (n ≤ ROWS) × (a < n) × (b < n) × (WORK ≤ length (now w)) × Sequenced (decode (now rows) p mode n) n (now w) ⌝ }
     ensures { λ d. ⌜ d ≡ anyBelow n (carriesOver (decode (now (rows .entry)) p mode n) a b) ⌝ }
 {
     for x in 0..n {

@@ -7,7 +7,7 @@ ghost use Rattle.model.specs.Limits.{ROWS, WORK};
 ghost use Rattle.model.specs.Table.{decode};
 ghost use Rattle.model.specs.Synchronizes.{syncAtomics, syncFromBarrier, syncToBarrier, syncBarriers, syncControl, synchronizes};
 ghost use Rattle.area.specs.Regions.{SYNC, SYNC-END, GRID};
-ghost use Rattle.area.specs.Synced.{Known, MadeSynced};
+ghost use Rattle.area.specs.Synced.{Sequenced, MadeSynced};
 use crate::carriers;
 use crate::heads;
 use model::Mode;
@@ -18,7 +18,7 @@ use rules::control;
 
 // M5: a release atomic a, an acquire atomic b.
 fn sync_atomics(rows: &[u8], p: Places, mode: Mode, n: usize, a: usize, b: usize, w: &[u64]) -> bool
-    requires { ⌜ (n ≤ ROWS) × (a < n) × (b < n) × (WORK ≤ length (now w)) × Known (decode (now rows) p mode n) n (now w) ⌝ }
+    requires { ⌜ (n ≤ ROWS) × (a < n) × (b < n) × (WORK ≤ length (now w)) × Sequenced (decode (now rows) p mode n) n (now w) ⌝ }
     ensures { λ d. ⌜ d ≡ syncAtomics (decode (now (rows .entry)) p mode n) a b ⌝ }
 {
     let r = rows::bytes::read_row(rows, a as u16);
@@ -38,7 +38,7 @@ fn sync_from_barrier(
     b: usize,
     w: &[u64],
 ) -> bool
-    requires { ⌜ (n ≤ ROWS) × (a < n) × (b < n) × (WORK ≤ length (now w)) × Known (decode (now rows) p mode n) n (now w) ⌝ }
+    requires { ⌜ (n ≤ ROWS) × (a < n) × (b < n) × (WORK ≤ length (now w)) × Sequenced (decode (now rows) p mode n) n (now w) ⌝ }
     ensures { λ d. ⌜ d ≡ syncFromBarrier (decode (now (rows .entry)) p mode n) a b ⌝ }
 {
     let r = rows::bytes::read_row(rows, a as u16);
@@ -59,7 +59,7 @@ fn sync_to_barrier(
     b: usize,
     w: &[u64],
 ) -> bool
-    requires { ⌜ (n ≤ ROWS) × (a < n) × (b < n) × (WORK ≤ length (now w)) × Known (decode (now rows) p mode n) n (now w) ⌝ }
+    requires { ⌜ (n ≤ ROWS) × (a < n) × (b < n) × (WORK ≤ length (now w)) × Sequenced (decode (now rows) p mode n) n (now w) ⌝ }
     ensures { λ d. ⌜ d ≡ syncToBarrier (decode (now (rows .entry)) p mode n) a b ⌝ }
 {
     let r = rows::bytes::read_row(rows, a as u16);
@@ -80,7 +80,7 @@ fn sync_barriers(
     b: usize,
     w: &[u64],
 ) -> bool
-    requires { ⌜ (n ≤ ROWS) × (a < n) × (b < n) × (WORK ≤ length (now w)) × Known (decode (now rows) p mode n) n (now w) ⌝ }
+    requires { ⌜ (n ≤ ROWS) × (a < n) × (b < n) × (WORK ≤ length (now w)) × Sequenced (decode (now rows) p mode n) n (now w) ⌝ }
     ensures { λ d. ⌜ d ≡ syncBarriers (decode (now (rows .entry)) p mode n) a b ⌝ }
 {
     let r = rows::bytes::read_row(rows, a as u16);
@@ -112,7 +112,7 @@ fn sync_control(rows: &[u8], p: Places, mode: Mode, n: usize, a: usize, b: usize
 
 // M5: whether the release row a synchronizes-with the acquire row b. Most rows are neither, so their orders are tested first.
 pub fn sync_at(rows: &[u8], p: Places, mode: Mode, n: usize, a: usize, b: usize, w: &[u64]) -> bool
-    requires { ⌜ (n ≤ ROWS) × (a < n) × (b < n) × (WORK ≤ length (now w)) × Known (decode (now rows) p mode n) n (now w) ⌝ }
+    requires { ⌜ (n ≤ ROWS) × (a < n) × (b < n) × (WORK ≤ length (now w)) × Sequenced (decode (now rows) p mode n) n (now w) ⌝ }
     ensures { λ d. ⌜ d ≡ synchronizes (decode (now (rows .entry)) p mode n) a b ⌝ }
 {
     let r = rows::bytes::read_row(rows, a as u16);
@@ -131,7 +131,7 @@ pub fn sync_at(rows: &[u8], p: Places, mode: Mode, n: usize, a: usize, b: usize,
 
 // M5 for every two rows.
 pub fn fill_sync(rows: &[u8], p: Places, mode: Mode, n: usize, w: &mut [u64])
-    requires { ⌜ (n ≤ ROWS) × (WORK ≤ length (now w)) × Known (decode (now rows) p mode n) n (now w) ⌝ }
+    requires { ⌜ (n ≤ ROWS) × (WORK ≤ length (now w)) × Sequenced (decode (now rows) p mode n) n (now w) ⌝ }
     ensures { λ _. ⌜ Made SYNC SYNC-END SYNC GRID n (synchronizes (decode (now (rows .entry)) p mode n)) (now (w .entry)) (now (w .exit)) ⌝ }
 {
     bits::clear(w, area::SYNC, area::SYNC_END);

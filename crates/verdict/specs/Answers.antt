@@ -23,7 +23,7 @@ use Rattle.bits.specs.Stage.{Holds, Made, holds-kept}
 use Rattle.area.specs.Regions.{MUTUAL, LOCATION-END, LOCATED-END, EDGE, EDGE-END, GRID, LAYERS, LAYERS-END}
 use Rattle.area.specs.State.{Located, MadeOrdered, MadeLocated, located-kept}
 use Rattle.cycle.specs.Shown.{held-start}
-use Rattle.race.specs.Bytes.{Known}
+use Rattle.race.specs.Bytes.{Ready}
 use Rattle.race.specs.declared.Found.{Found}
 use Rattle.race.specs.declared.Found.the-variants as found
 use Rattle.race.specs.First.{raceOf, foundRace}
@@ -131,7 +131,7 @@ pub located-by-flags : {t : Table} {n : ℕ} {w v u : List ℕ} → MadeOrdered 
 located-by-flags o l = located-made (within-widen MUTUAL LOCATED-END (omega arith) (omega arith) (o .frame)) l
 
 -- what edges are read from is kept by every later stage
-pub known-kept : {t : Table} {n c d : ℕ} {w u : List ℕ} → LOCATION-END ≤ c → Known t n w → Within c d w u → Known t n u
+pub known-kept : {t : Table} {n c d : ℕ} {w u : List ℕ} → LOCATION-END ≤ c → Ready t n w → Within c d w u → Ready t n u
 known-kept l k f = let e = f .len in let g = k .1 in (k .0, omega arith, k .2, located-kept l f (k .3))
 
 -- edges made, then the search for a cycle, which leaves them
@@ -161,7 +161,7 @@ module _ (t : Table) (source : ℕ → ℕ) (n x : ℕ) (w v u : List ℕ) (all 
   row : x ≡ cycleRow t source
   row = start-found t source n x w v all made start
 
-  pub show-asked : Known t n w → x < n → (x < n) × Known t n u × Holds EDGE GRID n (edge t source) u × (x ≡ cycleRow t source)
+  pub show-asked : Ready t n w → x < n → (x < n) × Ready t n u × Holds EDGE GRID n (edge t source) u × (x ≡ cycleRow t source)
   show-asked k l = (l, known-kept (omega arith) k (edges-held made frame .1), edges-held made frame .0, row)
 
   pub judge-cyclic : (size : ℕ) (z c d : List ℕ) → x < n → size ≡ length (cycleRows t source) → d ≡ cycleAfter (cyclic (cycleRows t source) (cycleEdges t source)) c → Within LAYERS LAYERS-END u z

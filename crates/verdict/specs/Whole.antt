@@ -21,7 +21,7 @@ use Rattle.model.specs.Check.{Verdict, refused, cyclic, overwritten, race, race
 use Rattle.laws.specs.SourceLaws.{verdict-same}
 use Rattle.area.specs.Regions.{MUTUAL, LOCATED-END, EDGE, LAYERS-END}
 use Rattle.area.specs.State.{Located}
-use Rattle.race.specs.Bytes.{Known, Bounded}
+use Rattle.race.specs.Bytes.{Ready, Bounded}
 use Rattle.axioms.specs.Sources.{sourceIn}
 use Rattle.choice.specs.Sources.{Listed}
 use Rattle.pieces.specs.declared.Refusal.{Refusal}
@@ -41,7 +41,7 @@ module _ {blanks : Bool} {b : List ℕ} {p : List (List ℕ)} {mode : Mode} {n :
   unfolding decode
   bounded i l a = row-ends h i l a
 
-  pub known : {w v : List ℕ} → WORK ≤ length w → Within MUTUAL LOCATED-END w v → Located (decode b p mode n) n v → Known (decode b p mode n) n v
+  pub known : {w v : List ℕ} → WORK ≤ length w → Within MUTUAL LOCATED-END w v → Located (decode b p mode n) n v → Ready (decode b p mode n) n v
   unfolding decode
   known {w} {v} room f l = let e = f .len in (few h, omega arith, row-sizes h, l)
 

@@ -8,7 +8,7 @@ ghost use Rattle.model.specs.Check.{verdict, raceFree, raceOr, overwrittenOr, c
 ghost use Rattle.bits.specs.Within.{Within};
 ghost use Rattle.area.specs.Regions.{MUTUAL, LOCATED-END, EDGE, LAYERS-END};
 ghost use Rattle.area.specs.State.{Located};
-ghost use Rattle.race.specs.Bytes.{Known, Bounded};
+ghost use Rattle.race.specs.Bytes.{Ready, Bounded};
 ghost use Rattle.axioms.specs.Sources.{sourceIn};
 ghost use Rattle.verdict.specs.Answers.{raceAnswer, overwriteAnswer};
 use model::CheckAnswer;
@@ -81,7 +81,7 @@ fn overwrite_answer(o: axioms::overwritten::Overwrite) -> CheckAnswer
 
 // The verdict where no edges make a cycle: overwritten, else a race, else race-free.
 fn settle(rows: &[u8], p: Places, mode: Mode, n: usize, src: &[u16], w: &[u64]) -> CheckAnswer
-    requires { ⌜ (n ≤ length (now src)) × Bounded (decode (now rows) p mode n) × Known (decode (now rows) p mode n) n (now w) ⌝ }
+    requires { ⌜ (n ≤ length (now src)) × Bounded (decode (now rows) p mode n) × Ready (decode (now rows) p mode n) n (now w) ⌝ }
     ensures { λ r. ⌜ r ≡ checkAnswer (overwrittenOr (raceOr raceFree (decode (now (rows .entry)) p mode n)) (decode (now (rows .entry)) p mode n) (sourceIn (now (src .entry)))) ⌝ }
 {
     let o = axioms::overwritten::first_overwrite(rows, p, mode, n, src, w);
@@ -101,7 +101,7 @@ pub fn judge(
     w: &mut [u64],
     c: &mut [u16],
 ) -> CheckAnswer
-    requires { ⌜ (CYCLE ≤ length (now c)) × (n ≤ length (now src)) × Bounded (decode (now rows) p mode n) × Known (decode (now rows) p mode n) n (now w) ⌝ }
+    requires { ⌜ (CYCLE ≤ length (now c)) × (n ≤ length (now src)) × Bounded (decode (now rows) p mode n) × Ready (decode (now rows) p mode n) n (now w) ⌝ }
     ensures { λ r. ⌜ (r ≡ checkAnswer (verdict (decode (now (rows .entry)) p mode n) (sourceIn (now (src .entry)))))
         × (now (c .exit) ≡ cycleAfter (verdict (decode (now (rows .entry)) p mode n) (sourceIn (now (src .entry)))) (now (c .entry)))
         × Within EDGE LAYERS-END (now (w .entry)) (now (w .exit)) ⌝ }

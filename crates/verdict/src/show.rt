@@ -13,7 +13,7 @@ ghost use Rattle.bits.specs.Bit.{zeros};
 ghost use Rattle.bits.specs.Within.{Within};
 ghost use Rattle.bits.specs.Stage.{Holds};
 ghost use Rattle.area.specs.Regions.{EDGE, GRID, LAYERS, LAYERS-END};
-ghost use Rattle.race.specs.Bytes.{Known};
+ghost use Rattle.race.specs.Bytes.{Ready};
 ghost use Rattle.axioms.specs.Sources.{sourceIn};
 ghost use Rattle.verdict.specs.Shown.{Numbered, stepNumber};
 use model::Mode;
@@ -55,7 +55,7 @@ fn write_edges(
     w: &[u64],
     c: &mut [u16],
 )
-    requires { ⌜ (x < n) × (size ≤ CYCLE-EDGES) × (CYCLE ≤ length (now c)) × (n ≤ length (now src)) × Known (decode (now rows) p mode n) n (now w)
+    requires { ⌜ (x < n) × (size ≤ CYCLE-EDGES) × (CYCLE ≤ length (now c)) × (n ≤ length (now src)) × Ready (decode (now rows) p mode n) n (now w)
         × ((i : ℕ) → i < size → getD (now c) i 0 < n) ⌝ }
     ensures { λ _. ⌜ Numbered (stepNumber (decode (now (rows .entry)) p mode n) (sourceIn (now (src .entry))) x size (now (c .entry))) size (now (c .entry)) (now (c .exit)) ⌝ }
 {
@@ -79,7 +79,7 @@ pub fn show_cycle(
     w: &mut [u64],
     c: &mut [u16],
 ) -> usize
-    requires { ⌜ (x < n) × (CYCLE ≤ length (now c)) × (n ≤ length (now src)) × Known (decode (now rows) p mode n) n (now w)
+    requires { ⌜ (x < n) × (CYCLE ≤ length (now c)) × (n ≤ length (now src)) × Ready (decode (now rows) p mode n) n (now w)
         × Holds EDGE GRID n (edge (decode (now rows) p mode n) (sourceIn (now src))) (now w)
         × (x ≡ cycleRow (decode (now rows) p mode n) (sourceIn (now src))) ⌝ }
     ensures { λ r. ⌜ (r ≡ length (cycleRows (decode (now (rows .entry)) p mode n) (sourceIn (now (src .entry)))))

@@ -1,7 +1,7 @@
 use mathlib.Core.Path.{sym, _∙_}
 use native.Mathlib.Omega.{arith}
 use borrow.Author.Tests.{not-true}
-use Rattle.area.specs.Synced.{known-kept}
+use Rattle.area.specs.Synced.{sequenced-kept}
 use Rattle.quick_sync.specs.Regions.{LINKS, HANDS-END}
 use Rattle.quick_sync.specs.State.{cleared-made, links-made}
 use Rattle.quick_sync.specs.Rows.{led-none}
@@ -48,7 +48,7 @@ fill-takes-requires : tie.Need-fill-takes-requires
 fill-takes-requires c κs =
     let pre = c .before .before .before .before .before .before .before .before .before .pre in
     let f = c .before .before .before .fill-heads .ensures .frame in
-    (pre .0, omega (arith, f .len, pre .1), known-kept (omega arith) f (pre .2))
+    (pre .0, omega (arith, f .len, pre .1), sequenced-kept (omega arith) f (pre .2))
 
 -- src/links.rt:199:5
 fill-gets-requires : tie.Need-fill-gets-requires

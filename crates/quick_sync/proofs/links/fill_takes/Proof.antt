@@ -9,7 +9,7 @@ use Rattle.model.specs.Table.{rowOf, decode}
 use Rattle.model.specs.Synchronizes.{takesFrom}
 use Rattle.area.specs.Regions.{GRID}
 use Rattle.quick_sync.specs.Regions.{TAKES, GETS}
-use Rattle.area.specs.Synced.{Known, known-kept}
+use Rattle.area.specs.Synced.{Sequenced, sequenced-kept}
 use Rattle.quick_sync.specs.Rows.{within-row}
 use borrow.Author.Needs.{needs}
 use Rattle.quick_sync.proofs.links.fill_takes.Statement.{statement}
@@ -20,7 +20,7 @@ use Rattle.bits.proofs.clear.Reads as clear-reads
 use Rattle.quick_sync.proofs.links.takes_row.Reads as takes-row-reads
 
 abbrev Inv-loop : tie.InvT-loop
-Inv-loop rows p mode n w₀ x₀ w x = (x ≤ n) × (length w ≡ length w₀) × Known (decode rows p mode n) n w × (w ≡ gridFill (takesFrom (decode rows p mode n)) w₀ (TAKES * 64) (GRID * 64) n x)
+Inv-loop rows p mode n w₀ x₀ w x = (x ≤ n) × (length w ≡ length w₀) × Sequenced (decode rows p mode n) n w × (w ≡ gridFill (takesFrom (decode rows p mode n)) w₀ (TAKES * 64) (GRID * 64) n x)
 
 abbrev μ-loop : tie.MeasureT-loop
 μ-loop rows p mode n w₀ x₀ w x = n - x
@@ -31,7 +31,7 @@ clear-requires c κs = search needs
 
 -- src/links.rt:93:5
 loop-holds : tie.Need-loop-holds Inv-loop μ-loop
-loop-holds c = (search needs, refl, known-kept (omega arith) (within-cleared TAKES GETS (omega arith) (c .before .before .clear .ensures)) (c .before .before .before .before .before .before .pre .2), gridFill-none _ _ _ _ _)
+loop-holds c = (search needs, refl, sequenced-kept (omega arith) (within-cleared TAKES GETS (omega arith) (c .before .before .clear .ensures)) (c .before .before .before .before .before .before .pre .2), gridFill-none _ _ _ _ _)
 
 -- src/links.rt:94:9
 takes-row-requires : tie.Need-takes-row-requires Inv-loop μ-loop
@@ -51,7 +51,7 @@ loop-again c =
     let row = c .before .before .takes-row in
     let inv = c .before .before .before .before .before .loop .inv in
     let e = gridFill-more _ _ _ _ _ _ _ _ (inv .3) (row .ensures) in
-    (search needs, ap length e ∙ length-gridFill _ _ _ _ _ _, known-kept (omega arith) (within-row TAKES GETS _ _ _ (omega arith) (omega arith) (row .ensures)) (inv .2), e)
+    (search needs, ap length e ∙ length-gridFill _ _ _ _ _ _, sequenced-kept (omega arith) (within-row TAKES GETS _ _ _ (omega arith) (omega arith) (row .ensures)) (inv .2), e)
 
 -- src/links.rt:88:1
 same-length : tie.Need-same-length Inv-loop μ-loop

@@ -12,7 +12,7 @@ use Rattle.model.specs.Scope.{mutually}
 use Rattle.model.specs.Synchronizes.{takesFrom}
 use Rattle.area.specs.Regions.{GRID}
 use Rattle.quick_sync.specs.Regions.{TAKES, GETS}
-use Rattle.area.specs.Synced.{Known, known-kept}
+use Rattle.area.specs.Synced.{Sequenced, sequenced-kept}
 use Rattle.rules.specs.Forms.{takes-apart}
 use Rattle.quick_sync.specs.Walk.{walked, fill-pass}
 use Rattle.quick_sync.specs.Rows.{row-off, takes-none}
@@ -28,7 +28,7 @@ use Rattle.rows.proofs.bytes.read_row.Reads as read-row-reads
 use Rattle.rows.proofs.kinds.writes.Reads as writes-reads
 
 abbrev Inv-loop : tie.InvT-loop
-Inv-loop rows p mode n x w₀ at y₀ w y = (y ≤ n) × (length w ≡ length w₀) × Known (decode rows p mode n) n w × (writes (rowOf rows x) ≡ true) × (y < n → mutually (decode rows p mode n) x y ≡ true) × (w ≡ rowFill (takesFrom (decode rows p mode n) x) w₀ (TAKES * 64 + x * (GRID * 64)) y)
+Inv-loop rows p mode n x w₀ at y₀ w y = (y ≤ n) × (length w ≡ length w₀) × Sequenced (decode rows p mode n) n w × (writes (rowOf rows x) ≡ true) × (y < n → mutually (decode rows p mode n) x y ≡ true) × (w ≡ rowFill (takesFrom (decode rows p mode n) x) w₀ (TAKES * 64 + x * (GRID * 64)) y)
 
 abbrev μ-loop : tie.MeasureT-loop
 μ-loop rows p mode n x w₀ at y₀ w y = n - y
@@ -97,7 +97,7 @@ loop-again c =
     let put = c .before .before .before .before .put-if in
     let inv = c .before .before .before .before .before .before .before .before .before .loop .inv in
     let e = rowFill-put _ _ _ (put .last .0) _ _ _ _ (inv .5) (c .before .before .before .before .before .before .takes-of .ensures) (omega arith) (put .ensures) in
-    let k = known-kept (omega arith) (within-put TAKES GETS _ _ (omega arith) (omega arith) (put .ensures)) (inv .2) in
+    let k = sequenced-kept (omega arith) (within-put TAKES GETS _ _ (omega arith) (omega arith) (put .ensures)) (inv .2) in
     (next .high, ap length e ∙ length-rowFill _ _ _ _, k, inv .3, λ l. walked (k .mutuals) _ _ (pre .1) l (next .hit l), fill-pass _ _ _ _ _ _ (next .low) (λ m l q. sym (takes-apart _ _ _ _ _ _ (walked (k .mutuals) _ _ (pre .1) (omega (arith, next .high)) (next .miss m l q)))) e)
 
 -- src/links.rt:105:1

@@ -1,5 +1,5 @@
 use native.Mathlib.Omega.{arith}
-use Rattle.area.specs.Synced.{known-made}
+use Rattle.area.specs.Synced.{sequenced-made}
 use Rattle.quick_sync.specs.State.{synced-made}
 use borrow.Author.Needs.{needs}
 use Rattle.quick_sync.proofs.sync.make_synced.Statement.{statement}
@@ -21,7 +21,7 @@ fill-sequence-requires c κs = search needs
 
 -- src/sync.rt:91:5
 make-linked-requires : tie.Need-make-linked-requires
-make-linked-requires c κs = let m = c .before .before .before .before .before .before .before .fill-mutual .ensures in let s = c .before .before .before .fill-sequence .ensures in (c .before .before .before .before .before .before .before .before .before .before .before .pre .0, omega (arith, m .frame .len, s .frame .len, c .before .before .before .before .before .before .before .before .before .before .before .pre .1), known-made m s)
+make-linked-requires c κs = let m = c .before .before .before .before .before .before .before .fill-mutual .ensures in let s = c .before .before .before .fill-sequence .ensures in (c .before .before .before .before .before .before .before .before .before .before .before .pre .0, omega (arith, m .frame .len, s .frame .len, c .before .before .before .before .before .before .before .before .before .before .before .pre .1), sequenced-made m s)
 
 -- src/sync.rt:92:5
 fill-sync-requires : tie.Need-fill-sync-requires

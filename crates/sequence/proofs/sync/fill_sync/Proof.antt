@@ -1,7 +1,7 @@
 use Rattle.model.specs.Table.{decode}
 use Rattle.model.specs.Synchronizes.{synchronizes}
 use Rattle.area.specs.Regions.{SYNC, SYNC-END, GRID}
-use Rattle.area.specs.Synced.{Known, known-kept}
+use Rattle.area.specs.Synced.{Sequenced, sequenced-kept}
 use mathlib.Core.Path.{_≡_, refl, ap, _∙_}
 use Prim.Native.Nat.{_+_, _-_, _*_, _≤_}
 use native.Mathlib.Omega.{arith}
@@ -19,13 +19,13 @@ use Rattle.area.proofs.grid.put_if.Reads as put-if-reads
 use Rattle.sequence.proofs.sync.sync_at.Reads as sync-at-reads
 
 abbrev Inv-loop2 : tie.InvT-loop2
-Inv-loop2 rows p mode n w₀ a b₀ w b = (b ≤ n) × (length w ≡ length w₀) × Known (decode rows p mode n) n w × (w ≡ rowFill (synchronizes (decode rows p mode n) a) w₀ (SYNC * 64 + a * (GRID * 64)) b)
+Inv-loop2 rows p mode n w₀ a b₀ w b = (b ≤ n) × (length w ≡ length w₀) × Sequenced (decode rows p mode n) n w × (w ≡ rowFill (synchronizes (decode rows p mode n) a) w₀ (SYNC * 64 + a * (GRID * 64)) b)
 
 abbrev μ-loop2 : tie.MeasureT-loop2
 μ-loop2 rows p mode n w₀ a b₀ w b = n - b
 
 abbrev Inv-loop : tie.InvT-loop
-Inv-loop rows p mode n w₀ a₀ w a = (a ≤ n) × (length w ≡ length w₀) × Known (decode rows p mode n) n w × (w ≡ gridFill (synchronizes (decode rows p mode n)) w₀ (SYNC * 64) (GRID * 64) (n) a)
+Inv-loop rows p mode n w₀ a₀ w a = (a ≤ n) × (length w ≡ length w₀) × Sequenced (decode rows p mode n) n w × (w ≡ gridFill (synchronizes (decode rows p mode n)) w₀ (SYNC * 64) (GRID * 64) (n) a)
 
 abbrev μ-loop : tie.MeasureT-loop
 μ-loop rows p mode n w₀ a₀ w a = n - a
@@ -36,7 +36,7 @@ clear-requires c κs = search needs
 
 -- src/sync.rt:138:5
 loop-holds : tie.Need-loop-holds Inv-loop2 μ-loop2 Inv-loop μ-loop
-loop-holds c = (search needs, refl, known-kept (omega arith) (within-cleared SYNC SYNC-END (omega arith) (c .before .before .clear .ensures)) (c .before .before .before .before .before .before .pre .2), gridFill-none _ _ _ _ _)
+loop-holds c = (search needs, refl, sequenced-kept (omega arith) (within-cleared SYNC SYNC-END (omega arith) (c .before .before .clear .ensures)) (c .before .before .before .before .before .before .pre .2), gridFill-none _ _ _ _ _)
 
 -- src/sync.rt:139:9
 loop2-holds : tie.Need-loop2-holds Inv-loop2 μ-loop2 Inv-loop μ-loop
@@ -64,7 +64,7 @@ loop2-again c =
     let put = c .before .before .put-if in
     let inv = c .before .before .before .before .before .before .before .loop2 .inv in
     let e = rowFill-put _ _ _ (put .last .0) _ _ _ _ (inv .3) (c .before .before .before .before .sync-at .ensures) (omega arith) (put .ensures) in
-    (search needs, ap length e ∙ length-rowFill _ _ _ _, known-kept (omega arith) (within-put SYNC SYNC-END _ _ (omega arith) (omega arith) (put .ensures)) (inv .2), e)
+    (search needs, ap length e ∙ length-rowFill _ _ _ _, sequenced-kept (omega arith) (within-put SYNC SYNC-END _ _ (omega arith) (omega arith) (put .ensures)) (inv .2), e)
 
 -- src/sync.rt:138:9
 add-a : tie.Need-add-a Inv-loop2 μ-loop2 Inv-loop μ-loop

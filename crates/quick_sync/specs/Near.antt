@@ -24,7 +24,7 @@ use Rattle.model.specs.Table.{byteOf, rowOf, decode}
 use Rattle.model.specs.Synchronizes.{synchronizes}
 use Rattle.area.specs.Regions.{SYNC, SYNC-END, GRID, ROWS-GRID}
 use Rattle.sets.specs.Meet.{meetRow, both, within-meetRow, bit-meetRow}
-use Rattle.quick_sync.specs.Regions.{LINKS, PASSED, COVER, GOOD, GOOD-END, TODO, TODO-END}
+use Rattle.quick_sync.specs.Regions.{LINKS, PASSED, COVER, GOOD, GOOD-END, UNKNOWN, UNKNOWN-END}
 use Rattle.quick_sync.specs.Walk.{either, Next, once}
 use Rattle.quick_sync.specs.Product.{grid}
 use Rattle.quick_sync.specs.Words.{Dropped, Lessened, eqb-turn, eqb-moved}
@@ -67,12 +67,12 @@ pub record LearntOne (b : List ℕ) (p : List (List ℕ)) (n e k : ℕ) (w u : L
 pub record LearntRow (b : List ℕ) (p : List (List ℕ)) (n a e : ℕ) (w u : List ℕ) : Type 0 where
   pub learnt : Learnt b p n u
   pub known : (k : ℕ) → k < n → either w (LINKS + a * GRID) (PASSED + a * GRID) k ≡ true → grid u COVER e k ≡ true
-  pub frame : Within COVER TODO-END w u
+  pub frame : Within COVER UNKNOWN-END w u
 
 -- while they are: those before j, of the ones to be asked
 pub record Learning (b : List ℕ) (p : List (List ℕ)) (n e : ℕ) (w u : List ℕ) (j : ℕ) : Type 0 where
   pub learnt : Learnt b p n u
-  pub known : (m : ℕ) → m < j → m < n → bit w (TODO * 64 + m) ≡ true → grid u COVER e m ≡ true
+  pub known : (m : ℕ) → m < j → m < n → bit w (UNKNOWN * 64 + m) ≡ true → grid u COVER e m ≡ true
   pub more : (m : ℕ) → m < n → grid w COVER e m ≡ true → grid u COVER e m ≡ true
   pub frame : Within COVER GOOD-END w u
 
@@ -245,15 +245,15 @@ module _ (b : List ℕ) (p : List (List ℕ)) (n a e k : ℕ) {w v u : List ℕ}
 -- ---- laws: a row is learnt
 
 -- the rows to be asked stay as they were
-asked : {w u : List ℕ} → Within COVER GOOD-END w u → (m : ℕ) → bit u (TODO * 64 + m) ≡ bit w (TODO * 64 + m)
-asked f m = within-bit f (TODO * 64 + m) (λ o. omega arith)
+asked : {w u : List ℕ} → Within COVER GOOD-END w u → (m : ℕ) → bit u (UNKNOWN * 64 + m) ≡ bit w (UNKNOWN * 64 + m)
+asked f m = within-bit f (UNKNOWN * 64 + m) (λ o. omega arith)
 
 -- none that is passed by is to be asked
-module _ {w u : List ℕ} (j n k : ℕ) (f : Within COVER GOOD-END w u) (s : Next u TODO TODO j n k) where
-  not-asked : {A : Type 0} → (m : ℕ) → j ≤ m → m < k → bit w (TODO * 64 + m) ≡ true → A
-  not-asked m l o h = not-both (asked f m ∙ h) (once u TODO m (s .miss m l o))
+module _ {w u : List ℕ} (j n k : ℕ) (f : Within COVER GOOD-END w u) (s : Next u UNKNOWN UNKNOWN j n k) where
+  not-asked : {A : Type 0} → (m : ℕ) → j ≤ m → m < k → bit w (UNKNOWN * 64 + m) ≡ true → A
+  not-asked m l o h = not-both (asked f m ∙ h) (once u UNKNOWN m (s .miss m l o))
 
-pub learning-none : {b : List ℕ} {p : List (List ℕ)} {n e j : ℕ} {w : List ℕ} → Learnt b p n w → Next w TODO TODO 0 n j → Learning b p n e w w j
+pub learning-none : {b : List ℕ} {p : List (List ℕ)} {n e j : ℕ} {w : List ℕ} → Learnt b p n w → Next w UNKNOWN UNKNOWN 0 n j → Learning b p n e w w j
 learning-none {n = n} {j = j} {w = w} h s =
     record {
       learnt = h;
@@ -262,7 +262,7 @@ learning-none {n = n} {j = j} {w = w} h s =
       frame = within-refl COVER GOOD-END w;
     }
 
-pub learning-more : {b : List ℕ} {p : List (List ℕ)} {n e j k : ℕ} {w v u : List ℕ} → j < n → Learning b p n e w v j → LearntOne b p n e j v u → Next u TODO TODO (j + 1) n k
+pub learning-more : {b : List ℕ} {p : List (List ℕ)} {n e j k : ℕ} {w v u : List ℕ} → j < n → Learning b p n e w v j → LearntOne b p n e j v u → Next u UNKNOWN UNKNOWN (j + 1) n k
     → Learning b p n e w u k
 learning-more {b} {p} {n} {e} {j} {k} {w} {v} {u} lj h o s =
     record {
@@ -272,7 +272,7 @@ learning-more {b} {p} {n} {e} {j} {k} {w} {v} {u} lj h o s =
       frame = within-trans (h .frame) (o .frame);
     }
   where
-    known : (m : ℕ) → m < k → m < n → bit w (TODO * 64 + m) ≡ true → Dec (m < j) → Dec (m ≡ j) → grid u COVER e m ≡ true
+    known : (m : ℕ) → m < k → m < n → bit w (UNKNOWN * 64 + m) ≡ true → Dec (m < j) → Dec (m ≡ j) → grid u COVER e m ≡ true
     known m l q z (yes a) d = o .more m q (h .known m a q z)
     known m l q z (no a) (yes d) = rw d (o .here)
     known m l q z (no a) (no d) = not-asked (j + 1) n k (within-trans (h .frame) (o .frame)) s m (omega arith) l z
@@ -282,13 +282,13 @@ unfolding _and_
 bare = refl
 
 pub learning-done : {b : List ℕ} {p : List (List ℕ)} {n a e j : ℕ} {w v u : List ℕ} → n ≤ ROWS → a < n → e < n → n ≤ j
-    → Lessened w v TODO (LINKS + a * GRID) (PASSED + a * GRID) (COVER + e * GRID) → Learning b p n e v u j → LearntRow b p n a e w u
+    → Lessened w v UNKNOWN (LINKS + a * GRID) (PASSED + a * GRID) (COVER + e * GRID) → Learning b p n e v u j → LearntRow b p n a e w u
 unfolding rel
 learning-done {b} {p} {n} {a} {e} {j} {w} {v} {u} few la le l z h =
     record {
       learnt = h .learnt;
       known = λ k q o. known k q o (grid w COVER e k) refl;
-      frame = within-trans (within-widen COVER TODO-END (omega arith) (omega arith) (z .frame)) (within-widen COVER TODO-END (omega arith) (omega arith) (h .frame));
+      frame = within-trans (within-widen COVER UNKNOWN-END (omega arith) (omega arith) (z .frame)) (within-widen COVER UNKNOWN-END (omega arith) (omega arith) (h .frame));
     }
   where
     known : (k : ℕ) → k < n → either w (LINKS + a * GRID) (PASSED + a * GRID) k ≡ true → (x : Bool) → grid w COVER e k ≡ x → grid u COVER e k ≡ true
@@ -296,7 +296,7 @@ learning-done {b} {p} {n} {a} {e} {j} {w} {v} {u} few la le l z h =
     known k q o false c = h .known k (omega arith) q (z .cell k (omega arith) ∙ rw (o, c) bare)
 
 -- what doesn't change Learnt for the rows to be asked
-pub learnt-todo : {b : List ℕ} {p : List (List ℕ)} {n : ℕ} {w v : List ℕ} {x y z : ℕ} → n ≤ ROWS → Lessened w v TODO x y z → Learnt b p n w → Learnt b p n v
+pub learnt-todo : {b : List ℕ} {p : List (List ℕ)} {n : ℕ} {w v : List ℕ} {x y z : ℕ} → n ≤ ROWS → Lessened w v UNKNOWN x y z → Learnt b p n w → Learnt b p n v
 learnt-todo few l h = learnt-kept few (λ o. absurd (omega arith)) (l .frame) h
 
 -- ---- laws: a row is drawn
@@ -371,25 +371,25 @@ mixed false false c x t d h = mixed-off c x t d
 
 module _ (b : List ℕ) (p : List (List ℕ)) (mode : Mode) (n a : ℕ) (few : n ≤ ROWS) (la : a < n) where
   -- a row that doesn't release
-  pub turn-none : {w : List ℕ} (r : Row) (u : Bool) → r ≡ rowOf b a → u ≡ releases r → not u ≡ true → Turn b p mode n a w → Turn b p mode n (a + 1) w × Within SYNC TODO-END w w
+  pub turn-none : {w : List ℕ} (r : Row) (u : Bool) → r ≡ rowOf b a → u ≡ releases r → not u ≡ true → Turn b p mode n a w → Turn b p mode n (a + 1) w × Within SYNC UNKNOWN-END w w
   turn-none {w} r u er eu h t = (
     record {
       linked = t .linked;
       learnt = t .learnt;
       syncs = rows-of-row few (t .syncs) (row-of-none (t .syncs) la (sync-none b p mode n a r u er eu h)) la;
     },
-    within-refl SYNC TODO-END w,
+    within-refl SYNC UNKNOWN-END w,
   )
 
   -- one that is linked to none, and passes to none
-  pub turn-bare : {w : List ℕ} (k : ℕ) → n ≤ k → Next w (LINKS + a * GRID) (PASSED + a * GRID) 0 n k → Turn b p mode n a w → Turn b p mode n (a + 1) w × Within SYNC TODO-END w w
+  pub turn-bare : {w : List ℕ} (k : ℕ) → n ≤ k → Next w (LINKS + a * GRID) (PASSED + a * GRID) 0 n k → Turn b p mode n a w → Turn b p mode n (a + 1) w × Within SYNC UNKNOWN-END w w
   turn-bare {w} k l s t = (
     record {
       linked = t .linked;
       learnt = t .learnt;
       syncs = rows-of-more few (t .syncs) (λ x j q d o. refl) (λ j q. t .syncs .left a j (omega arith) la q ∙ sym (none j q)) la;
     },
-    within-refl SYNC TODO-END w,
+    within-refl SYNC UNKNOWN-END w,
   )
     where
       none : (j : ℕ) → j < n → synchronizes (decode b p mode n) a j ≡ false
@@ -433,14 +433,14 @@ module _ (b : List ℕ) (p : List (List ℕ)) (mode : Mode) (n a : ℕ) (few : n
     other x k q z m =
         within-bit (d .frame) ((SYNC + x * GRID) * 64 + k) (λ y. omega arith) ∙ within-bit (o .frame) ((SYNC + x * GRID) * 64 + k) (λ y. absurd (omega arith))
 
-    pub turn-drawn : Turn b p mode n (a + 1) u × Within SYNC TODO-END w u
+    pub turn-drawn : Turn b p mode n (a + 1) u × Within SYNC UNKNOWN-END w u
     turn-drawn = (
       record {
         linked = linked-kept (λ z. omega arith) (d .frame) linked-v;
         learnt = learnt-kept few (λ z. omega arith) (d .frame) (o .learnt);
         syncs = rows-of-more few (t .syncs) other cell la;
       },
-      within-trans (within-widen SYNC TODO-END (omega arith) (omega arith) (o .frame)) (within-widen SYNC TODO-END (omega arith) (omega arith) (d .frame)),
+      within-trans (within-widen SYNC UNKNOWN-END (omega arith) (omega arith) (o .frame)) (within-widen SYNC UNKNOWN-END (omega arith) (omega arith) (d .frame)),
     )
 
 -- ---- laws: all rows
@@ -453,7 +453,7 @@ cleared-sync w e c few room x j q o =
     ∙ rw e (bit-zeros-in w SYNC (SYNC-END - SYNC) ((SYNC + x * GRID) * 64 + j) (omega arith) (omega arith) (omega arith))
 
 pub turn-first : {b : List ℕ} {p : List (List ℕ)} {mode : Mode} {n : ℕ} (w : List ℕ) {v u : List ℕ} → n ≤ ROWS → WORK ≤ length w → Linked (decode b p mode n) n w
-    → v ≡ zeros w SYNC (SYNC-END - SYNC) → u ≡ zeros v COVER (GOOD-END - COVER) → Turn b p mode n 0 u × Within SYNC TODO-END w u
+    → v ≡ zeros w SYNC (SYNC-END - SYNC) → u ≡ zeros v COVER (GOOD-END - COVER) → Turn b p mode n 0 u × Within SYNC UNKNOWN-END w u
 turn-first {b} {p} {mode} {n} w {v} {u} few room k e f =
     let cv = within-cleared SYNC SYNC-END (omega arith) e in
     let cu = within-cleared COVER GOOD-END (omega arith) f in
@@ -463,12 +463,12 @@ turn-first {b} {p} {mode} {n} w {v} {u} few room k e f =
         learnt = learnt-none b p n v few (omega arith) f;
         syncs = record { done = λ x j p q. absurd (omega arith); left = λ x j p q o. zero x j q o cu };
       },
-      within-trans (within-widen SYNC TODO-END (omega arith) (omega arith) cv) (within-widen SYNC TODO-END (omega arith) (omega arith) cu),
+      within-trans (within-widen SYNC UNKNOWN-END (omega arith) (omega arith) cv) (within-widen SYNC UNKNOWN-END (omega arith) (omega arith) cu),
     )
   where
     zero : (x j : ℕ) → x < n → j < n → Within COVER GOOD-END v u → grid u SYNC x j ≡ false
     zero x j q o c = cleared-sync w e c few room x j q o
 
-pub sync-made : {b : List ℕ} {p : List (List ℕ)} {mode : Mode} {n : ℕ} {w u : List ℕ} → n ≤ ROWS → Turn b p mode n n u → Within SYNC TODO-END w u
-    → Made SYNC TODO-END SYNC GRID n (synchronizes (decode b p mode n)) w u
+pub sync-made : {b : List ℕ} {p : List (List ℕ)} {mode : Mode} {n : ℕ} {w u : List ℕ} → n ≤ ROWS → Turn b p mode n n u → Within SYNC UNKNOWN-END w u
+    → Made SYNC UNKNOWN-END SYNC GRID n (synchronizes (decode b p mode n)) w u
 sync-made few t f = record { holds = rows-of-done few (t .syncs); frame = f }

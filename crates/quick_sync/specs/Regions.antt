@@ -65,8 +65,8 @@ abbrev pub GOOD-END : ℕ
 GOOD-END = GOOD + ROWS-GRID
 
 -- a row of those to be asked
-abbrev pub TODO : ℕ
-TODO = GOOD-END
+abbrev pub UNKNOWN : ℕ
+UNKNOWN = GOOD-END
 
-abbrev pub TODO-END : ℕ
-TODO-END = TODO + GRID
+abbrev pub UNKNOWN-END : ℕ
+UNKNOWN-END = UNKNOWN + GRID

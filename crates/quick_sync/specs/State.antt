@@ -17,7 +17,7 @@ use Rattle.model.specs.Scope.{mutually}
 use Rattle.model.specs.Synchronizes.{takesFrom, joins, sequence, synchronizes}
 use Rattle.area.specs.Regions.{MUTUAL, MUTUAL-END, SEQUENCE, SEQUENCE-END, SYNC, HAPPENS, HAPPENS-END, GRID, ROWS-GRID}
 use Rattle.area.specs.Synced.{Synced, sequenced-made, sequenced-kept}
-use Rattle.quick_sync.specs.Regions.{LINKS, HEADS, TAKES, GETS, HANDS, HANDS-END, ALONE, JOINS, MEETS, PASSED, AGENTS, UP-TO, UP-TO-END, TODO-END}
+use Rattle.quick_sync.specs.Regions.{LINKS, HEADS, TAKES, GETS, HANDS, HANDS-END, ALONE, JOINS, MEETS, PASSED, AGENTS, UP-TO, UP-TO-END, UNKNOWN-END}
 use Rattle.quick_sync.specs.Product.{grid, times, times-held, times-right}
 use Rattle.quick_sync.specs.Walk.{either}
 use Rattle.quick_sync.specs.Links.{released, gotten, handed, led, ahead, metBy, passed}
@@ -119,7 +119,7 @@ linked-made {n = n} l f =
     }
 
 pub synced-made : {t : Table} {n : ℕ} {w v x y u : List ℕ} → Made MUTUAL MUTUAL-END MUTUAL GRID n (mutually t) w v
-    → Made SEQUENCE SEQUENCE-END SEQUENCE GRID n (sequence t) v x → MadeLinked t n x y → Made SYNC TODO-END SYNC GRID n (synchronizes t) y u
+    → Made SEQUENCE SEQUENCE-END SEQUENCE GRID n (sequence t) v x → MadeLinked t n x y → Made SYNC UNKNOWN-END SYNC GRID n (synchronizes t) y u
     → Synced t n u × Within MUTUAL HAPPENS-END w u
 synced-made m s l y =
     let k = sequenced-kept (omega arith) (y .frame) (sequenced-kept (omega arith) (l .frame) (sequenced-made m s)) in (

@@ -12,7 +12,7 @@ ghost use Rattle.model.specs.Table.{rowOf, decode};
 ghost use Rattle.model.specs.Synchronizes.{synchronizes};
 ghost use Rattle.area.specs.Regions.{MUTUAL, SYNC, HAPPENS-END, GRID};
 ghost use Rattle.area.specs.Synced.{Sequenced, Synced};
-ghost use Rattle.quick_sync.specs.Regions.{LINKS, PASSED, COVER, GOOD-END, TODO-END};
+ghost use Rattle.quick_sync.specs.Regions.{LINKS, PASSED, COVER, GOOD-END, UNKNOWN-END};
 ghost use Rattle.quick_sync.specs.State.{Linked, MadeLinked};
 ghost use Rattle.quick_sync.specs.Walk.{either};
 ghost use Rattle.quick_sync.specs.Near.{near, offScope, Level, Peer, Learnt, LearntOne, LearntRow, Drawn, Turn};
@@ -36,7 +36,7 @@ const GOOD: usize = COVER + ROWS_GRID;
 
 const GOOD_END: usize = GOOD + ROWS_GRID;
 
-const TODO: usize = GOOD_END;
+const UNKNOWN: usize = GOOD_END;
 
 // ---- rows that synchronize with the same rows, but for what they are linked to and pass to
 
@@ -158,15 +158,15 @@ fn learn_row(rows: &[u8], p: &[[u16; 4]], n: usize, a: usize, r: Row, e: usize, 
 {
     words::set_less(
         w,
-        TODO,
+        UNKNOWN,
         links::LINKS + a * area::GRID,
         meets::PASSED + a * area::GRID,
         COVER + e * area::GRID,
     );
-    let mut b = walk::next(w, TODO, TODO, 0, n);
+    let mut b = walk::next(w, UNKNOWN, UNKNOWN, 0, n);
     while b < n {
         learn_one(rows, p, n, a, r, e, b, w);
-        b = walk::next(w, TODO, TODO, b + 1, n);
+        b = walk::next(w, UNKNOWN, UNKNOWN, b + 1, n);
     }
 }
 
@@ -197,7 +197,7 @@ fn sync_release(
 )
     requires { ⌜ (n ≤ ROWS) × (a < n) × (WORK ≤ length (now w)) × (r ≡ rowOf (now rows) a) × (releases r ≡ true) × Level (now rows) n level
         × Turn (now rows) (now p) mode n a (now w) ⌝ }
-    ensures { λ _. ⌜ Turn (now (rows .entry)) (now (p .entry)) mode n (a + 1) (now (w .exit)) × Within SYNC TODO-END (now (w .entry)) (now (w .exit)) ⌝ }
+    ensures { λ _. ⌜ Turn (now (rows .entry)) (now (p .entry)) mode n (a + 1) (now (w .exit)) × Within SYNC UNKNOWN-END (now (w .entry)) (now (w .exit)) ⌝ }
 {
     let e = peer_of(rows, p, n, level, a, r);
     learn_row(rows, p, n, a, r, e, w);
@@ -207,7 +207,7 @@ fn sync_release(
 // M5 for row a and every row. Few rows release, and are linked, or pass to others.
 fn sync_row(rows: &[u8], p: &[[u16; 4]], mode: Mode, n: usize, level: u16, a: usize, w: &mut [u64])
     requires { ⌜ (n ≤ ROWS) × (a < n) × (WORK ≤ length (now w)) × Level (now rows) n level × Turn (now rows) (now p) mode n a (now w) ⌝ }
-    ensures { λ _. ⌜ Turn (now (rows .entry)) (now (p .entry)) mode n (a + 1) (now (w .exit)) × Within SYNC TODO-END (now (w .entry)) (now (w .exit)) ⌝ }
+    ensures { λ _. ⌜ Turn (now (rows .entry)) (now (p .entry)) mode n (a + 1) (now (w .exit)) × Within SYNC UNKNOWN-END (now (w .entry)) (now (w .exit)) ⌝ }
 {
     let r = bytes::read_row(rows, a as u16);
     if !kinds::releases(r) {
@@ -224,7 +224,7 @@ fn sync_row(rows: &[u8], p: &[[u16; 4]], mode: Mode, n: usize, level: u16, a: us
 // M5 for every two rows.
 pub fn fill_sync(rows: &[u8], p: Places, mode: Mode, n: usize, w: &mut [u64])
     requires { ⌜ (n ≤ ROWS) × (WORK ≤ length (now w)) × Linked (decode (now rows) p mode n) n (now w) ⌝ }
-    ensures { λ _. ⌜ Made SYNC TODO-END SYNC GRID n (synchronizes (decode (now (rows .entry)) p mode n)) (now (w .entry)) (now (w .exit)) ⌝ }
+    ensures { λ _. ⌜ Made SYNC UNKNOWN-END SYNC GRID n (synchronizes (decode (now (rows .entry)) p mode n)) (now (w .entry)) (now (w .exit)) ⌝ }
 {
     bits::clear(w, area::SYNC, area::SYNC_END);
     bits::clear(w, COVER, GOOD_END);

@@ -4,7 +4,7 @@ use native.Mathlib.Omega.{arith}
 use lib.ListN.{length}
 use Rattle.bits.specs.Within.{Within, within-refl, within-trans}
 use Rattle.area.specs.Regions.{SYNC}
-use Rattle.quick_sync.specs.Regions.{TODO-END}
+use Rattle.quick_sync.specs.Regions.{UNKNOWN-END}
 use Rattle.quick_sync.specs.Near.{Level, Turn, turn-first, sync-made}
 use borrow.Author.Needs.{needs}
 use Rattle.quick_sync.proofs.sync.fill_sync.Statement.{statement}
@@ -16,7 +16,7 @@ use Rattle.quick_sync.proofs.sync.level_of.Reads as level-of-reads
 use Rattle.quick_sync.proofs.sync.sync_row.Reads as sync-row-reads
 
 abbrev Inv-loop : tie.InvT-loop
-Inv-loop rows mode n w₀ p level a₀ w a = (a ≤ n) × (length w ≡ length w₀) × Level rows n level × Turn rows p mode n a w × Within SYNC TODO-END w₀ w
+Inv-loop rows mode n w₀ p level a₀ w a = (a ≤ n) × (length w ≡ length w₀) × Level rows n level × Turn rows p mode n a w × Within SYNC UNKNOWN-END w₀ w
 
 abbrev μ-loop : tie.MeasureT-loop
 μ-loop rows mode n w₀ p level a₀ w a = n - a
@@ -37,7 +37,7 @@ level-of-requires c κs = search needs
 loop-holds : tie.Need-loop-holds Inv-loop μ-loop
 loop-holds c =
     let pre = c .before .before .before .before .before .before .before .before .before .before .before .pre in
-    (search needs, refl, c .level-of .ensures, turn-first _ (pre .0) (pre .1) (pre .2) (c .before .before .before .before .before .before .before .clear .ensures) (c .before .before .before .clear2 .ensures) .0, within-refl SYNC TODO-END _)
+    (search needs, refl, c .level-of .ensures, turn-first _ (pre .0) (pre .1) (pre .2) (c .before .before .before .before .before .before .before .clear .ensures) (c .before .before .before .clear2 .ensures) .0, within-refl SYNC UNKNOWN-END _)
 
 -- src/sync.rt:215:24
 slice-aggregate-sync-row : tie.Need-slice-aggregate-sync-row Inv-loop μ-loop

@@ -136,3 +136,17 @@ LAYERS = EDGE-END
 
 abbrev pub LAYERS-END : ℕ
 LAYERS-END = LAYERS + ROWS-GRID + GRID
+
+-- which rows share bytes, over rows: made with location order, in the place of what the pairs of hosts were made by, and read after it
+abbrev pub OVERLAP : ℕ
+OVERLAP = REACHED
+
+abbrev pub OVERLAP-END : ℕ
+OVERLAP-END = OVERLAP + ROWS-GRID
+
+-- while that is made: the rows with a byte in each cell
+abbrev pub CELLS : ℕ
+CELLS = MET + ROWS
+
+abbrev pub CELLS-END : ℕ
+CELLS-END = CELLS + ROWS

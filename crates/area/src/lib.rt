@@ -83,3 +83,11 @@ pub const EDGE_END: usize = EDGE + ROWS_GRID;
 pub const LAYERS: usize = EDGE_END;
 
 pub const LAYERS_END: usize = LAYERS + ROWS_GRID + GRID;
+
+pub const OVERLAP: usize = REACHED;
+
+pub const OVERLAP_END: usize = OVERLAP + ROWS_GRID;
+
+pub const CELLS: usize = MET + model::ROWS;
+
+pub const CELLS_END: usize = CELLS + model::ROWS;

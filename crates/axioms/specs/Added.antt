@@ -10,7 +10,7 @@ use lib.Dec.{eqb, ltb}
 use lib.ListN.{length}
 use borrow.Author.Tests.{eq-eqb, ne-eqb, lt-ltb, le-ltb, not-false}
 use Rattle.finite.specs.Below.{turn, at-one}
-use Rattle.finite.specs.Logic.{_and_, _or_, and-false-left, and-false-right, or-off, or-right, or-assoc, and-or, and-on-right}
+use Rattle.finite.specs.Logic.{_and_, _or_, and-false-left, and-false-right, or-off, or-right, or-assoc, and-or, and-on, and-on-right}
 use Rattle.bits.specs.Bit.{bit, setBitIf, setBitIf-same, setBitIf-other, zeros, bit-zeros-in}
 use Rattle.bits.specs.Matrix.{rel}
 use Rattle.bits.specs.Within.{within-trans, within-put, within-cleared}
@@ -20,10 +20,12 @@ use Rattle.model.specs.declared.Row.{Row}
 use Rattle.model.specs.Limits.{ROWS, INITIAL}
 use Rattle.model.specs.Row.{reads}
 use Rattle.model.specs.Table.{Table}
-use Rattle.model.specs.Scope.{mutually, follows}
+use Rattle.model.specs.Scope.{mutually, laterWriter, follows}
 use Rattle.model.specs.Edge.{beforeSome, readsFrom, fromReads, edge}
 use Rattle.laws.specs.PairLaws.{eqb-swap}
 use Rattle.area.specs.Regions.{EDGE, EDGE-END, GRID}
+use Rattle.sets.specs.Walk.{Next}
+use Rattle.race.specs.Bytes.{passed}
 use Rattle.axioms.specs.Edges.{from-source}
 
 -- ---- definitions
@@ -131,7 +133,8 @@ module _ {n : ℕ} (w : List ℕ) (x y : ℕ) (b c : Bool) {u : List ℕ} (fits 
   unfolding rel _and_
   put-same = rw (eq-eqb x x refl, eq-eqb y y refl, e) (setBitIf-same b w (edgeBit x y) (omega arith) ∙ h)
 
-  put-other : (i j : ℕ) → i < n → j < n → ((i ≡ x) → (j ≡ y) → ⊥) → (eqb i x and (eqb j y and c)) ≡ false → rel u EDGE GRID i j ≡ (rel w EDGE GRID i j or (eqb i x and (eqb j y and c)))
+  put-other : (i j : ℕ) → i < n → j < n → ((i ≡ x) → (j ≡ y) → ⊥) → (eqb i x and (eqb j y and c)) ≡ false
+      → rel u EDGE GRID i j ≡ (rel w EDGE GRID i j or (eqb i x and (eqb j y and c)))
   unfolding rel
   put-other i j p q d f = rw e (setBitIf-other b w (edgeBit x y) (edgeBit i j) (λ k. d (omega arith) (omega arith))) ∙ sym (or-off _ _ f)
 
@@ -178,6 +181,11 @@ module _ {n : ℕ} (x : ℕ) (p : ℕ → Bool) where
       over j (no a) (yes b) = and-false-right _ _ (h j (omega arith) b) ∙ sym (and-false-right _ _ (h j (omega arith) b))
       over j (no a) (no b) = ap (λ (v : Bool). v and p j) (le-ltb j y (omega arith) ∙ sym (le-ltb j z (omega arith)))
 
+  -- by a walk over row s of a grid
+  pub row-walk : {w₀ w : List ℕ} {a s y z : ℕ} {r : ℕ → ℕ → Bool} → Holds a GRID n r w → s < n → Next w (a + s * GRID) (a + s * GRID) y n z
+      → ((m : ℕ) → r s m ≡ false → p m ≡ false) → Edged n (fromUpto x y p) w₀ w → Edged n (fromUpto x z p) w₀ w
+  row-walk {y = y} {z} h l next off f = row-over y z (next .low) (passed h l next off) f
+
   pub row-empty : (w : List ℕ) → ((m : ℕ) → m < n → p m ≡ false) → Edged n (fromUpto x n p) w w
   row-empty w h = row-over 0 n (omega arith) (λ m a b. h m b) (row-none w)
 
@@ -187,6 +195,17 @@ module _ {n : ℕ} (x : ℕ) (p : ℕ → Bool) where
   row-cong q h f = edged-cong (λ i j d c. ap (λ (v : Bool). eqb i x and (ltb j n and v)) (h j c)) f
 
 -- ---- laws: all edges
+
+-- a row that isn't mutually-ordered with s doesn't follow it, and of one that is the writers tell
+module _ (t : Table) (x s y : ℕ) where
+  pub after-apart : mutually t s y ≡ false → after t x s y ≡ false
+  unfolding after follows
+  after-apart e = and-false-right _ _ (and-false-left _ _ e)
+
+  pub after-on : (b : Bool) (r q : Row) → mutually t s y ≡ true → r ≡ t .row s → q ≡ t .row y → b ≡ laterWriter (t .counted) q r
+      → (not (eqb x y) and b) ≡ after t x s y
+  unfolding after follows
+  after-on b r q m er eq eb = ap (λ (v : Bool). not (eqb x y) and v) (rw (eb, er, eq) (sym (and-on _ _ m)))
 
 -- edge 4 from a reader whose source is a row
 pub from-after : (t : Table) (source : ℕ → ℕ) (x s n : ℕ) (r : Row) (a : Bool) → s ≡ source x → r ≡ t .row x → a ≡ reads r → not a ≡ false → s < n → n ≤ ROWS
@@ -225,12 +244,14 @@ module _ (t : Table) (source : ℕ → ℕ) where
     unfolding outBelow
     rows-none = added-none EDGE EDGE-END w (λ i j k l. below-none i _)
 
-    pub rows-more : {v u : List ℕ} (x : ℕ) → Edged n (outBelow x (linked t source)) w v → Edged n (outOf x (linked t source)) v u → Edged n (outBelow (x + 1) (linked t source)) w u
+    pub rows-more : {v u : List ℕ} (x : ℕ) → Edged n (outBelow x (linked t source)) w v → Edged n (outOf x (linked t source)) v u
+        → Edged n (outBelow (x + 1) (linked t source)) w u
     unfolding outBelow outOf
     rows-more x f g = edged-cong (λ i j d c. turn i x _) (edged-trans f g)
 
     -- the source of one reader, and of all
-    pub source-put : {u : List ℕ} (y s k : ℕ) (b : Bool) → n ≤ ROWS → EDGE-END ≤ length w → s < n → y < n → s ≡ source y → b ≡ reads (t .row y) → k ≡ edgeBit s y → u ≡ setBitIf b w k
+    pub source-put : {u : List ℕ} (y s k : ℕ) (b : Bool) → n ≤ ROWS → EDGE-END ≤ length w → s < n → y < n → s ≡ source y → b ≡ reads (t .row y)
+        → k ≡ edgeBit s y → u ≡ setBitIf b w k
         → Edged n (into y (readsFrom t source)) w u
     unfolding into readsFrom
     source-put y s k b fits room l m e g q h = edged-cong (λ i j d c. same i j) (edged-put w s y b b fits room l m (rw q at h) refl)
@@ -248,7 +269,8 @@ module _ (t : Table) (source : ℕ → ℕ) where
     unfolding intoBelow
     sources-none = added-none EDGE EDGE-END w (λ i j k l. below-none j _)
 
-    pub sources-more : {v u : List ℕ} (y : ℕ) → Edged n (intoBelow y (readsFrom t source)) w v → Edged n (into y (readsFrom t source)) v u → Edged n (intoBelow (y + 1) (readsFrom t source)) w u
+    pub sources-more : {v u : List ℕ} (y : ℕ) → Edged n (intoBelow y (readsFrom t source)) w v → Edged n (into y (readsFrom t source)) v u
+        → Edged n (intoBelow (y + 1) (readsFrom t source)) w u
     unfolding intoBelow into
     sources-more y f g = edged-cong (λ i j d c. turn j y _) (edged-trans f g)
 

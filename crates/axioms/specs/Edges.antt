@@ -1,18 +1,19 @@
 -- Laws of the edges that the stages cite. Assumes nothing.
-use mathlib.Core.Path.{_≡_, refl, sym, ap, subst, _∙_}
+use mathlib.Core.Path.{_≡_, refl, sym, ap, ap₂, subst, _∙_}
 use mathlib.Core.Bool.{Bool, true, false, not, cond}
-use Prim.Native.Nat.{ℕ, _+_}
-use borrow.Author.Tests.{not-false}
+use Prim.Native.Nat.{ℕ}
 use lib.Dec.{eqb}
-use Rattle.finite.specs.Logic.{_and_, and-false-left, and-false-right, not-out, and-on}
+use Rattle.finite.specs.Logic.{_and_, and-false-left, and-false-right, not-out, and-on-right}
+use Rattle.finite.specs.Below.{any-not}
 use Rattle.model.specs.declared.Row.{Row}
-use Rattle.model.specs.Limits.{INITIAL}
+use Rattle.model.specs.Limits.{LONGEST, INITIAL}
 use Rattle.model.specs.Row.{reads, writes, overlap}
 use Rattle.model.specs.Table.{Table}
-use Rattle.model.specs.Scope.{mutually, laterWriter, follows}
-use Rattle.model.specs.Edge.{beforeSome, readsFrom, fromReads, edgeNumber, edge}
-use Rattle.rules.specs.Shared.{mayTouch}
-use Rattle.race.specs.Bytes.{touch-apart}
+use Rattle.model.specs.Scope.{follows}
+use Rattle.model.specs.Race.{nth}
+use Rattle.model.specs.Edge.{beforeNth, beforeSome, readsFrom, fromReads, edgeNumber}
+use Rattle.area.specs.State.{overlaps}
+use Rattle.race.specs.Bytes.{before-apart}
 
 -- ---- laws
 
@@ -41,15 +42,10 @@ module _ (t : Table) (source : ℕ → ℕ) (y z s : ℕ) (r q : Row) (e : s ≡
 
 -- ---- laws: where an edge can't be
 
--- edge 2, of rows that aren't mutually-ordered, and of rows that are
-module _ (t : Table) (x y : ℕ) where
-  pub follows-apart : (a : Bool) → a ≡ mutually t x y → not a ≡ true → false ≡ follows t x y
-  unfolding follows
-  follows-apart a e h = sym (and-false-left _ _ (sym e ∙ not-out a h))
-
-  pub follows-on : (a b : Bool) (r q : Row) → a ≡ mutually t x y → not a ≡ false → r ≡ t .row x → q ≡ t .row y → b ≡ laterWriter (t .counted) q r → b ≡ follows t x y
-  unfolding follows
-  follows-on a b r q e h er eq eb = rw (eb, er, eq) (sym (and-on _ _ (sym e ∙ not-false a h)))
+-- edge 1, of rows that share no byte
+pub some-apart : (t : Table) (x y : ℕ) → overlaps t x y ≡ false → beforeSome t x y ≡ false
+unfolding beforeSome beforeNth
+some-apart t x y o = any-not (beforeNth t x y) LONGEST (λ k l. before-apart t x y (nth t x k) o)
 
 -- edge 4, of a row that doesn't read, and from one that read the initial value to a row that shares none of its bytes
 module _ (t : Table) (source : ℕ → ℕ) (x y : ℕ) where
@@ -57,10 +53,13 @@ module _ (t : Table) (source : ℕ → ℕ) (x y : ℕ) where
   unfolding fromReads
   from-unread r a e f h = sym (and-false-left _ _ (and-false-right _ _ (sym (ap reads e) ∙ sym f ∙ not-out a h)))
 
-  pub from-apart : (s : ℕ) (r q : Row) (b : Bool) → s ≡ source x → eqb s INITIAL ≡ true → r ≡ t .row x → q ≡ t .row y → b ≡ mayTouch q (r .start) (r .start + r .size) → not b ≡ true
-      → false ≡ fromReads t source x y
-  unfolding fromReads
-  from-apart s r q b es i er eq eb h =
-      let j : eqb (source x) INITIAL ≡ true = subst (λ (v : ℕ). eqb v INITIAL ≡ true) es i in
-      let o : overlap (t .row x) (t .row y) ≡ false = rw (← er, ← eq) (touch-apart r q b eb h) in
-      rw j (sym (and-false-right _ _ (and-false-right _ _ o)))
+  module _ (i : eqb (source x) INITIAL ≡ true) where
+    pub from-apart : overlaps t x y ≡ false → fromReads t source x y ≡ false
+    unfolding fromReads overlaps
+    from-apart o = rw i (and-false-right _ _ (and-false-right _ _ o))
+
+    -- and to one that shares some
+    pub from-shared : (q : Row) (b : Bool) → reads (t .row x) ≡ true → overlaps t x y ≡ true → q ≡ t .row y → b ≡ writes q
+        → (not (eqb x y) and b) ≡ fromReads t source x y
+    unfolding fromReads overlaps
+    from-shared q b r o e f = rw i (ap₂ _and_ (sym (and-on-right _ _ r)) (f ∙ ap writes e ∙ sym (and-on-right _ _ o)))

@@ -1,5 +1,4 @@
 pub mod Sources
 pub mod Edges
 pub mod Overwritten
-pub mod Words
 pub mod Added

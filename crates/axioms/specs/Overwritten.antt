@@ -1,12 +1,15 @@
 -- Axiom B's first break as an answer, and the turns of its searches. Assumes nothing.
 use mathlib.Core.Path.{_≡_, refl, sym, subst, _∙_}
 use mathlib.Core.Bool.{Bool, true, false, not, cond}
-use Prim.Native.Nat.{ℕ, _+_, _≤_, _<_}
+use mathlib.Core.List.{List}
+use Prim.Native.Nat.{ℕ, _+_, _*_, _≤_, _<_}
 use native.Mathlib.Omega.{arith}
 use lib.Dec.{ltb}
 use borrow.Author.Tests.{lt-ltb, le-ltb, ltb-true}
 use Rattle.finite.specs.Logic.{_and_, split, and-true, and-false-left, and-false-right, not-so, not-out, not-both}
-use Rattle.finite.specs.Below.{least-is}
+use Rattle.finite.specs.Below.{least, least-is}
+use Rattle.bits.specs.Stage.{Holds}
+use Rattle.sets.specs.Walk.{Next}
 use Rattle.model.specs.declared.Row.{Row}
 use Rattle.model.specs.Limits.{LONGEST, BYTES}
 use Rattle.model.specs.Row.{access, reads, writes, touches}
@@ -17,8 +20,10 @@ use Rattle.model.specs.Edge.{beforeSome, overwrites, overwritesNth, overNth, ov
 use Rattle.laws.specs.RaceLaws.{Sized}
 use Rattle.laws.specs.ChoiceLaws.{some-before}
 use Rattle.laws.specs.PairLaws.{inside-out, common-out}
-use Rattle.race.specs.Bytes.{Bounded}
-use Rattle.race.specs.First.{least-off}
+use Rattle.area.specs.Regions.{OVERLAP, GRID}
+use Rattle.area.specs.State.{overlaps}
+use Rattle.race.specs.Bytes.{Bounded, before-apart, overlaps-sym, passed}
+use Rattle.race.specs.First.{least-off, least-pass}
 use Rattle.axioms.specs.declared.overwritten.Overwrite.{Overwrite}
 use Rattle.axioms.specs.declared.overwritten.Overwrite.the-variants.{At, Nothing}
 
@@ -61,12 +66,24 @@ module _ (t : Table) (source : ℕ → ℕ) where
   unfolding overNth overwritesNth overwrites
   over-apart y z s l e = sym (least-off (overwritesNth t source y z) LONGEST (λ k m. and-false-right _ _ (not-so (before t z y (nth t y k)) (λ h. not-both (some-before t z y (nth t y k) (s z l) h) (sym e)))))
 
+  -- nor where they share no byte
+  overwriting-apart : (y z : ℕ) → overlaps t y z ≡ false → overwriting t source y z ≡ false
+  unfolding overwriting overNth overwritesNth overwrites
+  overwriting-apart y z o =
+      let none = least-off (overwritesNth t source y z) LONGEST (λ k l. and-false-right _ _ (before-apart t z y (nth t y k) (overlaps-sym t z y ∙ o))) in
+      le-ltb (overNth t source y z) LONGEST (omega arith)
+
+  pub writer-pass : (y j k n : ℕ) (w : List ℕ) → Holds OVERLAP GRID n (overlaps t) w → y < n → Next w (OVERLAP + y * GRID) (OVERLAP + y * GRID) j n k
+      → least j (overwriting t source y) ≡ j → least k (overwriting t source y) ≡ k
+  writer-pass y j k n w h l next e = least-pass (overwriting t source y) j k e (passed h l next (overwriting-apart y))
+
   -- no row overwrites the source of a y that doesn't read, or whose source is no row
   unread-off : (y z : ℕ) → (reads (t .row y) and ltb (source y) (t .rows)) ≡ false → mayOverwrite y z ≡ false
   unfolding mayOverwrite
   unread-off y z e = not-so _ (λ h. not-both (and-true (split (split h .0) .0) (split h .1)) e)
 
-  pub unread-none : (y n s : ℕ) (r : Row) (a b : Bool) → n ≡ t .rows → r ≡ t .row y → s ≡ source y → a ≡ reads r → b ≡ ltb s n → not (a and b) ≡ true → n ≡ overWriter t source y
+  pub unread-none : (y n s : ℕ) (r : Row) (a b : Bool) → n ≡ t .rows → r ≡ t .row y → s ≡ source y → a ≡ reads r → b ≡ ltb s n → not (a and b) ≡ true
+      → n ≡ overWriter t source y
   unfolding overWriter overwriting
   unread-none y n s r a b q e f c d h =
       let g : (reads (t .row y) and ltb (source y) (t .rows)) ≡ false = rw (← e, ← f, ← q, ← c, ← d) (not-out _ h) in
@@ -74,11 +91,13 @@ module _ (t : Table) (source : ℕ → ℕ) where
 
   -- ---- laws: what the searches compare
 
-  pub overwriting-is : (y z k : ℕ) → k ≡ overNth t source y z → (k < LONGEST → overwriting t source y z ≡ true) × (LONGEST ≤ k → overwriting t source y z ≡ false)
+  pub overwriting-is : (y z k : ℕ) → k ≡ overNth t source y z
+      → (k < LONGEST → overwriting t source y z ≡ true) × (LONGEST ≤ k → overwriting t source y z ≡ false)
   unfolding overwriting
   overwriting-is y z k e = (λ l. rw (← e) (lt-ltb k LONGEST l), λ l. rw (← e) (le-ltb k LONGEST l))
 
-  pub overwritten-is : (y z n : ℕ) → n ≡ t .rows → z ≡ overWriter t source y → (z < n → isOverwritten t source y ≡ true) × (n ≤ z → isOverwritten t source y ≡ false)
+  pub overwritten-is : (y z n : ℕ) → n ≡ t .rows → z ≡ overWriter t source y
+      → (z < n → isOverwritten t source y ≡ true) × (n ≤ z → isOverwritten t source y ≡ false)
   unfolding isOverwritten
   overwritten-is y z n q e = (λ l. rw (← e, ← q) (lt-ltb z n l), λ l. rw (← e, ← q) (le-ltb z n l))
 
@@ -88,7 +107,8 @@ module _ (t : Table) (source : ℕ → ℕ) where
   unfolding foundOverwrite overwriteOf
   shown-none y n q e l = rw (← e, ← q, le-ltb y n l) refl
 
-  pub shown-at : (y z k b n : ℕ) → n ≡ t .rows → y ≡ overReader t source → z ≡ overWriter t source y → k ≡ overNth t source y z → b ≡ t .row y .start + k → y < n
+  pub shown-at : (y z k b n : ℕ) → n ≡ t .rows → y ≡ overReader t source → z ≡ overWriter t source y → k ≡ overNth t source y z
+      → b ≡ t .row y .start + k → y < n
       → _≡_ {A = Overwrite} (At y z b) foundOverwrite
   unfolding foundOverwrite overwriteOf overByte
   shown-at y z k b n q e f g h l = rw (← e, ← f, ← g, ← q, lt-ltb y n l, h) refl

@@ -13,6 +13,7 @@ ghost use Rattle.axioms.specs.Overwritten.{mayOverwrite, foundOverwrite}
 use model::Mode;
 use model::Places;
 use model::Row;
+use sets::walk;
 
 // Whether y reads, z writes, and y's source is a row.
 fn may_overwrite(
@@ -93,7 +94,7 @@ pub fn over_nth(
     area::PAIR
 }
 
-// Axiom B: the first writer that overwrites y's source before y, and n where none does.
+// Axiom B: the first writer that overwrites y's source before y, and n where none does. It shares a byte with y.
 // Ruled out: one that gives a later writer with a lower byte; one that says 0 where none does.
 pub fn over_writer(
     rows: &[u8],
@@ -112,10 +113,13 @@ pub fn over_writer(
     if !(rows::kinds::reads(r) & s.is_row(n as u16)) {
         return n;
     }
-    for z in 0..n {
+    let at = area::OVERLAP + y * area::GRID;
+    let mut z = walk::next(w, at, at, 0, n);
+    while z < n {
         if over_nth(rows, p, mode, n, src, y, z, w) < area::PAIR {
             return z;
         }
+        z = walk::next(w, at, at, z + 1, n);
     }
     n
 }

@@ -14,7 +14,7 @@ use Rattle.model.specs.Table.{OFF, Table, decode}
 use Rattle.model.specs.Scope.{follows}
 use Rattle.model.specs.Edge.{beforeSome}
 use Rattle.model.specs.Refusal.{writerFits}
-use Rattle.model.specs.Fill.{missesAt, written, hidesAt, between, candidate, choice, blank, chosen}
+use Rattle.model.specs.Fill.{unorderedAt, written, overwritesBetween, between, candidate, choice, blank, chosen}
 
 -- ---- definitions
 
@@ -34,14 +34,15 @@ and-go x y f b e h q = rw (← e, h, q) refl
 -- ---- laws: between
 
 pub writer-told : (t : Table) (y s z : ℕ) (f g h : Bool) → f ≡ writes (t .row z) → f ≡ true
-    → g ≡ (follows t s z and beforeSome t z y) → h ≡ anyBelow LONGEST (hidesAt t y s z) → (g or h) ≡ between t y s z
+    → g ≡ (follows t s z and beforeSome t z y) → h ≡ anyBelow LONGEST (overwritesBetween t y s z) → (g or h) ≡ between t y s z
 unfolding between
 writer-told t y s z f g h d e p q = and-go _ _ f _ d e (rw (p, q) refl)
 
 -- ---- laws: candidates
 
 -- the test of a writer reads no place
-pub fit-told : (b : List ℕ) (p : List (List ℕ)) (mode : Mode) (n i s v : ℕ) (f : Bool) → v ≡ s → f ≡ writerFits (decode b [] OFF n) i v → f ≡ writerFits (decode b p mode n) i s
+pub fit-told : (b : List ℕ) (p : List (List ℕ)) (mode : Mode) (n i s v : ℕ) (f : Bool) → v ≡ s → f ≡ writerFits (decode b [] OFF n) i v
+    → f ≡ writerFits (decode b p mode n) i s
 unfolding writerFits decode
 fit-told b p mode n i s v f e h = rw (← e, h) refl
 
@@ -50,7 +51,7 @@ module _ (t : Table) (y s : ℕ) (f : Bool) (d : f ≡ writerFits t y s) where
   unfolding candidate
   unfit h = sym (and-false-left _ _ (and-false-left _ _ (sym d ∙ h)))
 
-  module _ (m : Bool) (e : m ≡ anyBelow LONGEST (missesAt t y s)) where
+  module _ (m : Bool) (e : m ≡ anyBelow LONGEST (unorderedAt t y s)) where
     pub missed : m ≡ true → false ≡ candidate t y s
     unfolding candidate
     missed h = sym (and-false-left _ _ (and-false-right _ _ (rw (sym e ∙ h) refl)))

@@ -5,7 +5,7 @@ ghost use lib.ListN.{length, getD};
 ghost use Rattle.finite.specs.Below.{anyBelow, least};
 ghost use Rattle.model.specs.Limits.{LONGEST};
 ghost use Rattle.model.specs.Table.{rowOf, decode};
-ghost use Rattle.model.specs.Fill.{missesAt, candidate, choice, chosen};
+ghost use Rattle.model.specs.Fill.{unorderedAt, candidate, choice, chosen};
 ghost use Rattle.race.specs.Bytes.{Ready};
 ghost use Rattle.choice.specs.Sources.{Listed};
 ghost use Rattle.choice.specs.Choice.{chosenFrom};
@@ -31,7 +31,7 @@ fn misses_at(
     w: &[u64],
 ) -> bool
     requires { ⌜ (y < n) × (s < n) × (r ≡ rowOf (now rows) y) × (q ≡ rowOf (now rows) s) × (k < LONGEST) × Ready (decode (now rows) p mode n) n (now w) ⌝ }
-    ensures { λ b. ⌜ b ≡ missesAt (decode (now (rows .entry)) p mode n) y s k ⌝ }
+    ensures { λ b. ⌜ b ≡ unorderedAt (decode (now (rows .entry)) p mode n) y s k ⌝ }
 {
     let b = (r.start as u32) + (k as u32);
     rows::kinds::touches(r, b) & !race::before_byte(rows, p, mode, n, s, y, q, b, w)
@@ -48,7 +48,7 @@ pub fn some_miss(
     w: &[u64],
 ) -> bool
     requires { ⌜ (y < n) × (s < n) × Ready (decode (now rows) p mode n) n (now w) ⌝ }
-    ensures { λ b. ⌜ b ≡ anyBelow LONGEST (missesAt (decode (now (rows .entry)) p mode n) y s) ⌝ }
+    ensures { λ b. ⌜ b ≡ anyBelow LONGEST (unorderedAt (decode (now (rows .entry)) p mode n) y s) ⌝ }
 {
     let r = rows::bytes::read_row(rows, y as u16);
     let q = rows::bytes::read_row(rows, s as u16);

@@ -7,7 +7,7 @@ ghost use Rattle.model.specs.Limits.{LONGEST};
 ghost use Rattle.model.specs.Table.{rowOf, decode};
 ghost use Rattle.model.specs.Scope.{follows};
 ghost use Rattle.model.specs.Edge.{beforeSome};
-ghost use Rattle.model.specs.Fill.{writtenBy, written, hidesAt, between};
+ghost use Rattle.model.specs.Fill.{writtenBy, written, overwritesBetween, between};
 ghost use Rattle.race.specs.Bytes.{Ready};
 use model::Mode;
 use model::Places;
@@ -57,8 +57,9 @@ fn hides_at(
     k: usize,
     w: &[u64],
 ) -> bool
-    requires { ⌜ (y < n) × (s < n) × (z < n) × (r ≡ rowOf (now rows) y) × (q ≡ rowOf (now rows) s) × (v ≡ rowOf (now rows) z) × (k < LONGEST) × Ready (decode (now rows) p mode n) n (now w) ⌝ }
-    ensures { λ b. ⌜ b ≡ hidesAt (decode (now (rows .entry)) p mode n) y s z k ⌝ }
+    requires { ⌜ (y < n) × (s < n) × (z < n) × (r ≡ rowOf (now rows) y) × (q ≡ rowOf (now rows) s) × (v ≡ rowOf (now rows) z) × (k < LONGEST)
+        × Ready (decode (now rows) p mode n) n (now w) ⌝ }
+    ensures { λ b. ⌜ b ≡ overwritesBetween (decode (now (rows .entry)) p mode n) y s z k ⌝ }
 {
     let b = (r.start as u32) + (k as u32);
     race::before_byte(rows, p, mode, n, s, z, q, b, w)
@@ -77,7 +78,7 @@ pub fn some_hidden(
     w: &[u64],
 ) -> bool
     requires { ⌜ (y < n) × (s < n) × (z < n) × Ready (decode (now rows) p mode n) n (now w) ⌝ }
-    ensures { λ b. ⌜ b ≡ anyBelow LONGEST (hidesAt (decode (now (rows .entry)) p mode n) y s z) ⌝ }
+    ensures { λ b. ⌜ b ≡ anyBelow LONGEST (overwritesBetween (decode (now (rows .entry)) p mode n) y s z) ⌝ }
 {
     let r = rows::bytes::read_row(rows, y as u16);
     let q = rows::bytes::read_row(rows, s as u16);

@@ -13,6 +13,9 @@ ghost use Rattle.model.specs.Limits.{ROWS, WORK, CYCLE};
 ghost use Rattle.area.specs.Regions.{EDGE, LAYERS, LAYERS-END, GRID};
 ghost use Rattle.walks.specs.Layers.{Layers};
 ghost use Rattle.cycle.specs.Shown.{looped};
+use sets::walk;
+
+mod marks; // the rows that may lie on a cycle
 
 // The least row whose bit on the diagonal of the layers is set; n where none is.
 fn first_looped(w: &[u64], n: usize) -> usize
@@ -27,15 +30,19 @@ fn first_looped(w: &[u64], n: usize) -> usize
     n
 }
 
-// The lowest row on a cycle; n where there is none. The edges are copied to the layers and closed there.
+// The lowest row on a cycle; n where there is none. If some row may lie on one, the edges are copied to the layers and closed there.
 // Ruled out: one that finds cycles of one edge alone, since nothing was closed; one that closes the edges in place.
 pub fn cycle_start(w: &mut [u64], n: usize) -> usize
     requires { ⌜ (n ≤ ROWS) × (WORK ≤ length (now w)) ⌝ }
     ensures { λ r. ⌜ (r ≡ cycleStart n (rel (now (w .entry)) EDGE GRID)) × Within LAYERS LAYERS-END (now (w .entry)) (now (w .exit)) ⌝ }
 {
     bits::clear(w, area::LAYERS, area::LAYERS_END);
+    marks::mark_rows(w, n);
+    if n <= walk::next(w, marks::MARKS, marks::MARKS, 0, n) {
+        return n;
+    }
     bits::join_row(w, area::LAYERS, area::EDGE, n * area::GRID);
-    bits::close(w, area::LAYERS, n, area::GRID);
+    marks::close_marked(w, n);
     first_looped(w, n)
 }
 

@@ -54,7 +54,8 @@ module _ (t : Table) (source : ℕ → ℕ) (n x : ℕ) (w v u : List ℕ) (all 
 -- ---- laws: the sources that are written
 
 -- a list of the sources, written, is what a fill leaves
-pub written-filled : (source : ℕ → ℕ) (l c d : List ℕ) (n : ℕ) → n ≤ length c → Listed source n l → Written l n c d → d ≡ sourcesAfter (filled (tabulate source n)) c
+pub written-filled : (source : ℕ → ℕ) (l c d : List ℕ) (n : ℕ) → n ≤ length c → Listed source n l → Written l n c d
+    → d ≡ sourcesAfter (filled (tabulate source n)) c
 unfolding sourcesAfter
 written-filled source l c d n room listed h =
     written-all (tabulate source n) c d n (sym (length-tabulate source n)) room
@@ -118,7 +119,8 @@ module _ (t : Table) (source : ℕ → ℕ) (f : Found) (e : f ≡ foundRace t) 
   unfolding raceAnswer foundRace raceOf outcome racingOr fillAnswer sourcesAfter
   raced {i} {j} {k} r c w h g = go (ltb x (t .rows)) (sym e ∙ h) (g ∙ ap raceAnswer e)
     where
-      go : (b : Bool) → pair b ≡ found.At i j k → r ≡ raceAnswer (pair b) → (r ≡ fillAnswer (next b)) × (c ≡ sourcesAfter (next b) c) × Within EDGE LAYERS-END w w
+      go : (b : Bool) → pair b ≡ found.At i j k → r ≡ raceAnswer (pair b)
+          → (r ≡ fillAnswer (next b)) × (c ≡ sourcesAfter (next b) c) × Within EDGE LAYERS-END w w
       go true q p = (p, refl, within-refl EDGE LAYERS-END w)
       go false q p = not-nothing q
 

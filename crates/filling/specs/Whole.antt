@@ -41,7 +41,8 @@ unfolding outcome
 outcome-same t a b same = ap (λ (o : Outcome). racingOr o t) (filled-same t (chosen t a) (chosen t b) (λ i l. chosen-same t a b i (same i l)) none)
 
 -- located, settled, wiped
-pub rows-filled : (b : List ℕ) (p : List (List ℕ)) (mode : Mode) (n : ℕ) (src w v u z c d : List ℕ) (r : FillAnswer) → Listed (sourceOf b) n src → WORK ≤ length w → Within MUTUAL LOCATED-END w v
+pub rows-filled : (b : List ℕ) (p : List (List ℕ)) (mode : Mode) (n : ℕ) (src w v u z c d : List ℕ) (r : FillAnswer) → Listed (sourceOf b) n src
+    → WORK ≤ length w → Within MUTUAL LOCATED-END w v
     → (r ≡ fillAnswer (outcome (decode b p mode n) (sourceIn src))) × (d ≡ sourcesAfter (outcome (decode b p mode n) (sourceIn src)) c) × Within EDGE LAYERS-END v u
     → z ≡ zeros u 0 WORK
     → (r ≡ fillAnswer (outcome (decode b p mode n) (sourceOf b))) × (z ≡ wiped w) × (d ≡ sourcesAfter (outcome (decode b p mode n) (sourceOf b)) c)
@@ -64,7 +65,8 @@ outcome-wiped : (t : Table) (source : ℕ → ℕ) (w : List ℕ) → workAfter 
 unfolding outcome racingOr workAfter
 outcome-wiped t source w = go (ltb (raceRow t) (t .rows))
   where
-    go : (b : Bool) → workAfter (cond b (race (raceRow t) (racePartner t (raceRow t)) (raceByte t (raceRow t) (racePartner t (raceRow t)))) (filledOr none t (chosen t source))) w ≡ wiped w
+    go : (b : Bool)
+        → workAfter (cond b (race (raceRow t) (racePartner t (raceRow t)) (raceByte t (raceRow t) (racePartner t (raceRow t)))) (filledOr none t (chosen t source))) w ≡ wiped w
     go true = refl
     go false = filled-wiped t (chosen t source) w
 
@@ -93,5 +95,6 @@ module _ (chains : Bool) (f s w c : List ℕ) (a : Admission) (e : a ≡ doorBot
         fill-both chains (length w) (length c) f s ∙ opened-admitted refused _ a _ e h
         ∙ sym (ap₂ outcome (table-both true f s a (k .2) h chains all p mode copy places modes) (sources-both true f s a (k .2) h chains all p mode copy places modes))
 
-    pub filled-outcome : (r : FillAnswer) (u d : List ℕ) → (r ≡ fillAnswer outcomeRows) × (u ≡ wiped w) × (d ≡ sourcesAfter outcomeRows c) → Filled told r w u c d
+    pub filled-outcome : (r : FillAnswer) (u d : List ℕ) → (r ≡ fillAnswer outcomeRows) × (u ≡ wiped w) × (d ≡ sourcesAfter outcomeRows c)
+        → Filled told r w u c d
     filled-outcome r u d j = left-same fillAnswer workAfter sourcesAfter told-is (j .0, j .1 ∙ sym (outcome-wiped _ _ w), j .2)

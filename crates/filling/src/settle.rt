@@ -28,7 +28,8 @@ pub fn is_consistent(
     w: &mut [u64],
 ) -> bool
     requires { ⌜ (n ≤ length (now src)) × Ready (decode (now rows) p mode n) n (now w) ⌝ }
-    ensures { λ b. ⌜ (b ≡ consistent (decode (now (rows .entry)) p mode n) (sourceIn (now (src .entry)))) × Within EDGE LAYERS-END (now (w .entry)) (now (w .exit)) ⌝ }
+    ensures { λ b. ⌜ (b ≡ consistent (decode (now (rows .entry)) p mode n) (sourceIn (now (src .entry))))
+        × Within EDGE LAYERS-END (now (w .entry)) (now (w .exit)) ⌝ }
 {
     axioms::edges::fill_edges(rows, p, mode, n, src, w);
     let x = cycle::cycle_start(w, n);

@@ -10,7 +10,8 @@ use native.Mathlib.Decide.{decLt, ℕ-discrete}
 use native.Mathlib.Omega.{arith}
 use lib.Dec.{ltb, eqb}
 use borrow.Author.Tests.{ltb-true, ltb-false, lt-ltb, le-ltb, eqb-true, eq-eqb, ne-eqb}
-use Rattle.finite.specs.Logic.{_and_, _or_, which, bool-ext, not-both, and-left, and-right, and-true, or-cases, or-left, or-right, or-false, or-none, or-off}
+use Rattle.finite.specs.Logic.{_and_, _or_, which, bool-ext, not-both, and-left, and-right, and-true, or-cases, or-left, or-right, or-false}
+use Rattle.finite.specs.Logic.{or-none, or-off}
 
 -- ---- definitions
 

@@ -104,7 +104,8 @@ module _ (r : ℕ → ℕ → Bool) where
 
 -- ---- relations that agree below the bound
 
-pub through-cong : (r s : ℕ → ℕ → Bool) (n : ℕ) → ((i j : ℕ) → i < n → j < n → r i j ≡ s i j) → (k i j : ℕ) → k ≤ n → i < n → j < n → through r k i j ≡ through s k i j
+pub through-cong : (r s : ℕ → ℕ → Bool) (n : ℕ) → ((i j : ℕ) → i < n → j < n → r i j ≡ s i j) → (k i j : ℕ) → k ≤ n → i < n → j < n
+    → through r k i j ≡ through s k i j
 unfolding through
 through-cong r s n h zero i j l p q = h i j p q
 through-cong r s n h (suc k) i j l p q =

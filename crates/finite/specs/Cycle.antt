@@ -137,7 +137,8 @@ module _ (n : ℕ) (e : ℕ → ℕ → Bool) where
   rest (onward d a p) (suc j) h = let r = rest p j (omega arith) in let q = r .1 in (r .0, omega arith, r .2)
 
   -- up to place i, and from there another way
-  detour : {x z : ℕ} {l : List ℕ} → Way n e x z l → (i : ℕ) → i < length l → (m : List ℕ) → Way n e x (getD l i 0) m → (k : List ℕ) × (length k ≡ length m + i) × Way n e x z k
+  detour : {x z : ℕ} {l : List ℕ} → Way n e x z l → (i : ℕ) → i < length l → (m : List ℕ) → Way n e x (getD l i 0) m
+      → (k : List ℕ) × (length k ≡ length m + i) × Way n e x z k
   detour there i h m q = absurd (not-suc-le-zero h)
   detour (onward d a p) zero h m q = (m, omega arith, q)
   detour (onward {z} d a p) (suc i) h m q = let r = detour p i (omega arith) m q in let s = r .1 in (z ∷ r .0, omega arith, onward d a (r .2))

@@ -108,7 +108,8 @@ module _ (t : Table) (s c : ℕ) (sub : holds c s ≡ true) (all : (x : ℕ) →
   unfolding holding holdingOf
   holding-wider m l e = let a = split e in and-true (a .0) (all (rowIn m) (omega arith) (a .1))
 
-  touching : (b : Bool) (r : Row) → cond b (access r and classIn r s) (meets (classesOf r) s) ≡ true → cond b (access r and classIn r c) (meets (classesOf r) c) ≡ true
+  touching : (b : Bool) (r : Row) → cond b (access r and classIn r s) (meets (classesOf r) s) ≡ true
+      → cond b (access r and classIn r c) (meets (classesOf r) c) ≡ true
   unfolding classIn
   touching true r e = let a = split e in and-true (a .0) (wider-meets c s (single (r .class)) sub (a .1))
   touching false r e = meets-wider c s (classesOf r) sub e

@@ -17,8 +17,12 @@ use Rattle.model.specs.declared.Admission.the-variants.{Admitted, Refused}
 use Rattle.model.specs.Limits.{AGENTS, ROWS, DEPENDENCIES, LONGEST, BYTES}
 use Rattle.model.specs.Row.{RMW, CONTROL, AVAILABLE-HOST, BOTH, access, control, operation}
 use Rattle.model.specs.Scope.{DEVICE, agentKind}
-use Rattle.model.specs.Table.{Table, HEADER, agentsAt, rowsAt, hasHosts, sizeOf, rowBytes, dependencyBytes, rowOf, sourceOf, dependencyCount, placesOf, tableOf, sourcesOf, decode}
-use Rattle.model.specs.Refusal.{CLASSES, FLAGS, CLASS, headerFault, versionFits, limitsFit, lengthFits, agentsKnown, dependenciesFew, dependenciesNamed, hostsFault, agentFits, operationFits, formFault, codesFit, kindFits, bytesFit, barrierFits, extentFits, rowFault, classTaken, sourceBroken, rankTaken, instanceBroken, unfit, tableFault, faulty, firstFault, rowFaultAt, admission}
+use Rattle.model.specs.Table.{Table, HEADER, agentsAt, rowsAt, hasHosts, sizeOf, rowBytes, dependencyBytes, rowOf, sourceOf, dependencyCount, placesOf}
+use Rattle.model.specs.Table.{tableOf, sourcesOf, decode}
+use Rattle.model.specs.Refusal.{CLASSES, FLAGS, CLASS, headerFault, versionFits, limitsFit, lengthFits, agentsKnown, dependenciesFew}
+use Rattle.model.specs.Refusal.{dependenciesNamed, hostsFault, agentFits, operationFits, formFault, codesFit, kindFits, bytesFit, barrierFits}
+use Rattle.model.specs.Refusal.{extentFits, rowFault, classTaken, sourceBroken, rankTaken, instanceBroken, unfit, tableFault, faulty, firstFault}
+use Rattle.model.specs.Refusal.{rowFaultAt, admission}
 
 -- ---- definitions
 

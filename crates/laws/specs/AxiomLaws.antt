@@ -17,7 +17,8 @@ use Rattle.model.specs.Row.{reads, writes}
 use Rattle.model.specs.Table.{Table}
 use Rattle.model.specs.Location.{common, before}
 use Rattle.model.specs.Race.{nth}
-use Rattle.model.specs.Edge.{readsFrom, fromReads, edge, cycleRow, overwrites, overwritesNth, overNth, overwriting, overWriter, isOverwritten, overReader, overByte, consistent}
+use Rattle.model.specs.Edge.{readsFrom, fromReads, edge, cycleRow, overwrites, overwritesNth, overNth, overwriting, overWriter, isOverwritten}
+use Rattle.model.specs.Edge.{overReader, overByte, consistent}
 use Rattle.model.specs.Words.{Cyclic, Overwritten, Consistent}
 use Rattle.laws.specs.RaceLaws.{Sized, touched, common-left, common-right}
 

@@ -17,10 +17,15 @@ use Rattle.model.specs.Table.{Table, rowBytes, rowOf, modeOf, dependency, depen
 use Rattle.model.specs.Refusal.{codesFit}
 use Rattle.laws.specs.AdmissionLaws.{Sound, row-right}
 use Rattle.model.specs.Scope.{DEVICE, INVOCATION, agree, oneInstance, shares, mutually, follows}
-use Rattle.model.specs.Moment.{BEFORE, AFTER, rowIn, part, itself, availabilityOf, visibilityOf, orderedRows, availability, visibility, moment, sameAgent, programOrder}
-use Rattle.model.specs.Synchronizes.{ends, sequence, takesFrom, leads, trails, syncAtomics, carriesOut, syncFromBarrier, carriesIn, syncToBarrier, carriesOver, syncControl, passes, arrives, joins, upTo, syncBarriers, synchronizes}
+use Rattle.model.specs.Moment.{BEFORE, AFTER, rowIn, part, itself, availabilityOf, visibilityOf, orderedRows, availability, visibility, moment}
+use Rattle.model.specs.Moment.{sameAgent, programOrder}
+use Rattle.model.specs.Synchronizes.{ends, sequence, takesFrom, leads, trails, syncAtomics, carriesOut, syncFromBarrier, carriesIn, syncToBarrier}
+use Rattle.model.specs.Synchronizes.{carriesOver, syncControl, passes, arrives, joins, upTo, syncBarriers, synchronizes}
 use Rattle.model.specs.Happens.{holding, concerns, bySync, toRelease, fromAcquire, bySystem, step, interThread, holdsAll, live, interThreadBy, happens}
-use Rattle.model.specs.Location.{coversOf, publicWrite, L1, L2, availableAt, visibleAt, firstAvailable, lastVisible, broader, broadens, narrows, availabilityChain, visibilityChain, availableBy, availableFrom, visibleBy, visibleTo, inDomain, shown, met, carried, byDomain, L3, systemBefore, L4, thence, onHost, availableKind, visibleKind, domainKind, seenBy, metFrom, carriedBy, reachesBy, L5, before}
+use Rattle.model.specs.Location.{coversOf, publicWrite, L1, L2, availableAt, visibleAt, firstAvailable, lastVisible, broader, broadens, narrows}
+use Rattle.model.specs.Location.{availabilityChain, visibilityChain, availableBy, availableFrom, visibleBy, visibleTo, inDomain, visibleVia, reaches}
+use Rattle.model.specs.Location.{availableVia, byDomain, L3, systemBefore, L4, thence, onHost, availableKind, visibleKind, domainKind, seenBy, metFrom}
+use Rattle.model.specs.Location.{carriedBy, reachesBy, L5, before}
 
 -- ---- definitions
 
@@ -259,28 +264,31 @@ module _ (t : Table) (scoped : Scoped t) (off : t .chains ≡ false) where
         (shares-wider (t .places) d (t .row c .scope) (t .row x .agent) (t .row y .agent) l (leb-true d (t .row c .scope) f) (scoped c k) h)
 
     shown-single : (d c w : ℕ) → 1 ≤ d → shares (t .places) d (t .row x .agent) (t .row y .agent) ≡ true → w < t .rows
-        → shown t d y b c w ≡ true → singleShown t x y b (availableAt t c) (visibleAt t w) ≡ true
-    unfolding shown inDomain singleShown
+        → visibleVia t d y b c w ≡ true → singleShown t x y b (availableAt t c) (visibleAt t w) ≡ true
+    unfolding visibleVia inDomain singleShown
     shown-single d c w l h k f =
         let a = split f in
         let g = split (a .0) in
         and-true (and-true (last-single y b w (to-last y b w (a .1))) (shared d w (visibleAt t w) l k (visible-row t w) (split (g .0) .0) h)) (g .1)
 
-    forth-met : (d c : ℕ) → 1 ≤ d → shares (t .places) d (t .row x .agent) (t .row y .agent) ≡ true → met t d y b c ≡ true → singleMet t x y b (availableAt t c) ≡ true
-    unfolding met singleMet
+    forth-met : (d c : ℕ) → 1 ≤ d → shares (t .places) d (t .row x .agent) (t .row y .agent) ≡ true → reaches t d y b c ≡ true
+        → singleMet t x y b (availableAt t c) ≡ true
+    unfolding reaches singleMet
     forth-met d c l h e = ⊎-elim reading writing (which (reads (t .row y)))
       where
-        reading : reads (t .row y) ≡ true → cond (reads (t .row y)) (anyBelow (3 * t .rows) (singleShown t x y b (availableAt t c))) (happens t (availableAt t c) (itself y)) ≡ true
+        reading : reads (t .row y) ≡ true
+            → cond (reads (t .row y)) (anyBelow (3 * t .rows) (singleShown t x y b (availableAt t c))) (happens t (availableAt t c) (itself y)) ≡ true
         reading r =
-            let f : anyBelow (t .rows) (shown t d y b c) ≡ true = rw r at e in
-            let w = any-out (shown t d y b c) (t .rows) f in
+            let f : anyBelow (t .rows) (visibleVia t d y b c) ≡ true = rw r at e in
+            let w = any-out (visibleVia t d y b c) (t .rows) f in
             rw r (any-in (singleShown t x y b (availableAt t c)) (3 * t .rows) (visibleAt t (w .0)) (visible-below t (w .0) (w .1)) (shown-single d c (w .0) l h (w .1) (w .2)))
 
-        writing : reads (t .row y) ≡ false → cond (reads (t .row y)) (anyBelow (3 * t .rows) (singleShown t x y b (availableAt t c))) (happens t (availableAt t c) (itself y)) ≡ true
+        writing : reads (t .row y) ≡ false
+            → cond (reads (t .row y)) (anyBelow (3 * t .rows) (singleShown t x y b (availableAt t c))) (happens t (availableAt t c) (itself y)) ≡ true
         writing r = let f : happens t (availableAt t c) (itself y) ≡ true = rw r at e in rw r f
 
-    forth-carried : (c : ℕ) → c < t .rows → carried t x y b c ≡ true → singleCarried t x y b (availableAt t c) ≡ true
-    unfolding carried byDomain inDomain singleCarried
+    forth-carried : (c : ℕ) → c < t .rows → availableVia t x y b c ≡ true → singleCarried t x y b (availableAt t c) ≡ true
+    unfolding availableVia byDomain inDomain singleCarried
     forth-carried c l e =
         let k = any-out (byDomain t x y b c) DEVICE (split e .1) in
         let g = split (k .2) in
@@ -292,7 +300,7 @@ module _ (t : Table) (scoped : Scoped t) (off : t .chains ≡ false) where
     forth : L3 t x y b ≡ true → Single t x y b ≡ true
     unfolding L3 Single
     forth e =
-        let c = any-out (carried t x y b) (t .rows) (split e .1) in
+        let c = any-out (availableVia t x y b) (t .rows) (split e .1) in
         and-true (split e .0)
         (any-in (singleCarried t x y b) (3 * t .rows) (availableAt t (c .0)) (available-below t (c .0) (c .1)) (forth-carried (c .0) (c .1) (c .2)))
 
@@ -304,14 +312,16 @@ module _ (t : Table) (scoped : Scoped t) (off : t .chains ≡ false) where
     abbrev Y : ℕ
     Y = t .row y .agent
 
-    in-domain-x : (d m : ℕ) → 1 ≤ d → d ≤ DEVICE → singleAvailable t x b m ≡ true → d ≤ t .row (rowIn m) .scope → shares (t .places) d X Y ≡ true → inDomain t d x (rowIn m) ≡ true
+    in-domain-x : (d m : ℕ) → 1 ≤ d → d ≤ DEVICE → singleAvailable t x b m ≡ true → d ≤ t .row (rowIn m) .scope → shares (t .places) d X Y ≡ true
+        → inDomain t d x (rowIn m) ≡ true
     unfolding singleAvailable inDomain
     in-domain-x d m l n e k h =
         let q : t .row (rowIn (itself x)) .agent ≡ t .row (rowIn m) .agent = order-agent t (itself x) m (split (split e .0) .1) in
         let r : X ≡ t .row (rowIn m) .agent = ap (λ (i : ℕ). t .row i .agent) (sym (itself-row t x)) ∙ q in
         and-true (le-leb d (t .row (rowIn m) .scope) k) (subst (λ (a : ℕ). shares (t .places) d X a ≡ true) r (shares-left (t .places) d X Y l n h))
 
-    in-domain-y : (d m : ℕ) → 1 ≤ d → d ≤ DEVICE → singleVisible t y b m ≡ true → d ≤ t .row (rowIn m) .scope → shares (t .places) d X Y ≡ true → inDomain t d y (rowIn m) ≡ true
+    in-domain-y : (d m : ℕ) → 1 ≤ d → d ≤ DEVICE → singleVisible t y b m ≡ true → d ≤ t .row (rowIn m) .scope → shares (t .places) d X Y ≡ true
+        → inDomain t d y (rowIn m) ≡ true
     unfolding singleVisible inDomain
     in-domain-y d m l n e k h =
         let q : t .row (rowIn m) .agent ≡ t .row (rowIn (itself y)) .agent = order-agent t m (itself y) (split (split e .0) .1) in
@@ -319,11 +329,12 @@ module _ (t : Table) (scoped : Scoped t) (off : t .chains ≡ false) where
         and-true (le-leb d (t .row (rowIn m) .scope) k) (subst (λ (a : ℕ). shares (t .places) d Y a ≡ true) r (shares-right (t .places) d X Y l n h))
 
     -- c makes available to a domain of scope d
-    build : (d c : ℕ) → 1 ≤ d → d ≤ DEVICE → c < t .rows → shares (t .places) d X Y ≡ true → inDomain t d x c ≡ true → availableFrom t x b c ≡ true → met t d y b c ≡ true
-        → anyBelow (t .rows) (carried t x y b) ≡ true
-    unfolding byDomain carried
+    build : (d c : ℕ) → 1 ≤ d → d ≤ DEVICE → c < t .rows → shares (t .places) d X Y ≡ true → inDomain t d x c ≡ true → availableFrom t x b c ≡ true
+        → reaches t d y b c ≡ true
+        → anyBelow (t .rows) (availableVia t x y b) ≡ true
+    unfolding byDomain availableVia
     build zero c l n k h i a e = absurd (omega arith)
-    build (suc d) c l n k h i a e = any-in (carried t x y b) (t .rows) c k (and-true a (any-in (byDomain t x y b c) DEVICE d (omega arith) (and-true (and-true h i) e)))
+    build (suc d) c l n k h i a e = any-in (availableVia t x y b) (t .rows) c k (and-true a (any-in (byDomain t x y b c) DEVICE d (omega arith) (and-true (and-true h i) e)))
 
     available-single : (m : ℕ) → singleAvailable t x b m ≡ true → availability t m ≡ true
     unfolding singleAvailable
@@ -334,14 +345,16 @@ module _ (t : Table) (scoped : Scoped t) (off : t .chains ≡ false) where
     visible-single m e = split (split e .0) .0
 
     -- y meets c by way of a domain of scope d
-    back-carried : (d m : ℕ) → m < 3 * t .rows → 1 ≤ d → d ≤ DEVICE → singleAvailable t x b m ≡ true → d ≤ t .row (rowIn m) .scope → shares (t .places) d X Y ≡ true
-        → met t d y b (rowIn m) ≡ true → anyBelow (t .rows) (carried t x y b) ≡ true
+    back-carried : (d m : ℕ) → m < 3 * t .rows → 1 ≤ d → d ≤ DEVICE → singleAvailable t x b m ≡ true → d ≤ t .row (rowIn m) .scope
+        → shares (t .places) d X Y ≡ true
+        → reaches t d y b (rowIn m) ≡ true → anyBelow (t .rows) (availableVia t x y b) ≡ true
     back-carried d m lm l n e k h f =
         build d (rowIn m) l n (omega arith) h (in-domain-x d m l n e k h) (first-from x b (rowIn m) (omega arith) (single-first x b m e)) f
 
-    back-writing : (m : ℕ) → m < 3 * t .rows → reads (t .row y) ≡ false → singleAvailable t x b m ≡ true → shareMoment t x y m ≡ true → happens t m (itself y) ≡ true
-        → anyBelow (t .rows) (carried t x y b) ≡ true
-    unfolding shareMoment met
+    back-writing : (m : ℕ) → m < 3 * t .rows → reads (t .row y) ≡ false → singleAvailable t x b m ≡ true → shareMoment t x y m ≡ true
+        → happens t m (itself y) ≡ true
+        → anyBelow (t .rows) (availableVia t x y b) ≡ true
+    unfolding shareMoment reaches
     back-writing m lm r e h f =
         let l = available-scope t m (available-single m e) in
         let n = scoped (rowIn m) (omega arith) in
@@ -349,8 +362,8 @@ module _ (t : Table) (scoped : Scoped t) (off : t .chains ≡ false) where
         back-carried (t .row (rowIn m) .scope) m lm l n e (omega arith) h (rw r g)
 
     back-reading : (m v : ℕ) → m < 3 * t .rows → v < 3 * t .rows → reads (t .row y) ≡ true → singleAvailable t x b m ≡ true → shareMoment t x y m ≡ true
-        → singleVisible t y b v ≡ true → shareMoment t x y v ≡ true → happens t m v ≡ true → anyBelow (t .rows) (carried t x y b) ≡ true
-    unfolding shareMoment met shown
+        → singleVisible t y b v ≡ true → shareMoment t x y v ≡ true → happens t m v ≡ true → anyBelow (t .rows) (availableVia t x y b) ≡ true
+    unfolding shareMoment reaches visibleVia
     back-reading m v lm lv r e h f g o = go (decLt (t .row (rowIn v) .scope) (t .row (rowIn m) .scope))
       where
         hap : happens t (availableAt t (rowIn m)) (visibleAt t (rowIn v)) ≡ true
@@ -358,12 +371,13 @@ module _ (t : Table) (scoped : Scoped t) (off : t .chains ≡ false) where
             subst (λ (k : ℕ). happens t k (visibleAt t (rowIn v)) ≡ true) (sym (available-moment t m (available-single m e)))
             (subst (λ (k : ℕ). happens t m k ≡ true) (sym (visible-moment t v (visible-single v f))) o)
 
-        by : (d : ℕ) → 1 ≤ d → d ≤ DEVICE → d ≤ t .row (rowIn m) .scope → d ≤ t .row (rowIn v) .scope → shares (t .places) d X Y ≡ true → anyBelow (t .rows) (carried t x y b) ≡ true
+        by : (d : ℕ) → 1 ≤ d → d ≤ DEVICE → d ≤ t .row (rowIn m) .scope → d ≤ t .row (rowIn v) .scope → shares (t .places) d X Y ≡ true
+            → anyBelow (t .rows) (availableVia t x y b) ≡ true
         by d l n km kv s =
             back-carried d m lm l n e km s
-            (rw r (any-in (shown t d y b (rowIn m)) (t .rows) (rowIn v) (omega arith) (and-true (and-true (in-domain-y d v l n f kv s) hap) (last-to y b (rowIn v) (omega arith) (single-last y b v f)))))
+            (rw r (any-in (visibleVia t d y b (rowIn m)) (t .rows) (rowIn v) (omega arith) (and-true (and-true (in-domain-y d v l n f kv s) hap) (last-to y b (rowIn v) (omega arith) (single-last y b v f)))))
 
-        go : Dec (t .row (rowIn v) .scope < t .row (rowIn m) .scope) → anyBelow (t .rows) (carried t x y b) ≡ true
+        go : Dec (t .row (rowIn v) .scope < t .row (rowIn m) .scope) → anyBelow (t .rows) (availableVia t x y b) ≡ true
         go (yes q) = by (t .row (rowIn v) .scope) (visible-scope t v (visible-single v f)) (scoped (rowIn v) (omega arith)) (omega arith) (omega arith) g
         go (no q) = by (t .row (rowIn m) .scope) (available-scope t m (available-single m e)) (scoped (rowIn m) (omega arith)) (omega arith) (omega arith) h
 
@@ -371,20 +385,20 @@ module _ (t : Table) (scoped : Scoped t) (off : t .chains ≡ false) where
     unfolding L3 Single singleCarried singleMet singleShown
     back e = and-true (split e .0) (at (any-out (singleCarried t x y b) (3 * t .rows) (split e .1)))
       where
-        at : (m : ℕ) × (m < 3 * t .rows) × (singleCarried t x y b m ≡ true) → anyBelow (t .rows) (carried t x y b) ≡ true
+        at : (m : ℕ) × (m < 3 * t .rows) × (singleCarried t x y b m ≡ true) → anyBelow (t .rows) (availableVia t x y b) ≡ true
         at w = ⊎-elim reading writing (which (reads (t .row y)))
           where
             a : (singleAvailable t x b (w .0) ≡ true) × (shareMoment t x y (w .0) ≡ true)
             a = split (split (w .2) .0)
 
-            reading : reads (t .row y) ≡ true → anyBelow (t .rows) (carried t x y b) ≡ true
+            reading : reads (t .row y) ≡ true → anyBelow (t .rows) (availableVia t x y b) ≡ true
             reading r =
                 let f : anyBelow (3 * t .rows) (singleShown t x y b (w .0)) ≡ true = rw r at (split (w .2) .1) in
                 let v = any-out (singleShown t x y b (w .0)) (3 * t .rows) f in
                 let g = split (v .2) in
                 back-reading (w .0) (v .0) (w .1) (v .1) r (a .0) (a .1) (split (g .0) .0) (split (g .0) .1) (g .1)
 
-            writing : reads (t .row y) ≡ false → anyBelow (t .rows) (carried t x y b) ≡ true
+            writing : reads (t .row y) ≡ false → anyBelow (t .rows) (availableVia t x y b) ≡ true
             writing r =
                 let f : happens t (w .0) (itself y) ≡ true = rw r at (split (w .2) .1) in
                 back-writing (w .0) (w .1) r (a .0) (a .1) f
@@ -467,33 +481,33 @@ module _ (t : Table) where
   domain-same : (d x i : ℕ) → inDomain no-chains d x i ≡ true → inDomain with-chains d x i ≡ true
   domain-same d x i e = domain-under true t d x i ∙ sym (domain-under false t d x i) ∙ e
 
-  met-grows : (d y b c : ℕ) → met no-chains d y b c ≡ true → met with-chains d y b c ≡ true
-  unfolding met shown availableAt visibleAt
+  met-grows : (d y b c : ℕ) → reaches no-chains d y b c ≡ true → reaches with-chains d y b c ≡ true
+  unfolding reaches visibleVia availableAt visibleAt
   met-grows d y b c e = ⊎-elim reading writing (which (reads (t .row y)))
     where
       m : ℕ
       m = 3 * c + cond (plain (t .row c)) AFTER BEFORE
 
-      reading : reads (t .row y) ≡ true → met with-chains d y b c ≡ true
+      reading : reads (t .row y) ≡ true → reaches with-chains d y b c ≡ true
       reading r =
-          let f : anyBelow (t .rows) (shown no-chains d y b c) ≡ true = rw r at e in
-          let w = any-out (shown no-chains d y b c) (t .rows) f in
+          let f : anyBelow (t .rows) (visibleVia no-chains d y b c) ≡ true = rw r at e in
+          let w = any-out (visibleVia no-chains d y b c) (t .rows) f in
           let g = split (w .2) in
           let h = split (g .0) in
-          rw r (any-in (shown with-chains d y b c) (t .rows) (w .0) (w .1) (and-true (and-true (domain-same d y (w .0) (h .0)) (happens-same m _ (h .1))) (visible-grows y b (w .0) (g .1))))
+          rw r (any-in (visibleVia with-chains d y b c) (t .rows) (w .0) (w .1) (and-true (and-true (domain-same d y (w .0) (h .0)) (happens-same m _ (h .1))) (visible-grows y b (w .0) (g .1))))
 
-      writing : reads (t .row y) ≡ false → met with-chains d y b c ≡ true
+      writing : reads (t .row y) ≡ false → reaches with-chains d y b c ≡ true
       writing r = let f : happens no-chains m (itself y) ≡ true = rw r at e in rw r (happens-same m (itself y) f)
 
   pub L3-grows : (x y b : ℕ) → L3 no-chains x y b ≡ true → L3 with-chains x y b ≡ true
-  unfolding L3 byDomain carried
+  unfolding L3 byDomain availableVia
   L3-grows x y b e =
-      let c = any-out (carried no-chains x y b) (t .rows) (split e .1) in
+      let c = any-out (availableVia no-chains x y b) (t .rows) (split e .1) in
       let h = split (c .2) in
       let k = any-out (byDomain no-chains x y b (c .0)) DEVICE (h .1) in
       let g = split (k .2) in
       and-true (split e .0)
-      (any-in (carried with-chains x y b) (t .rows) (c .0) (c .1) (and-true (available-grows x b (c .0) (h .0))
+      (any-in (availableVia with-chains x y b) (t .rows) (c .0) (c .1) (and-true (available-grows x b (c .0) (h .0))
       (any-in (byDomain with-chains x y b (c .0)) DEVICE (k .0) (k .1) (and-true (and-true (split (g .0) .0) (domain-same (suc (k .0)) x (c .0) (split (g .0) .1))) (met-grows (suc (k .0)) y b (c .0) (g .1))))))
 
   -- WHATEVER IS ORDERED WITHOUT CHAINS IS ORDERED WITH THEM

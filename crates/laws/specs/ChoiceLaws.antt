@@ -14,7 +14,8 @@ use Rattle.finite.specs.Below.{anyBelow, any-in, any-out, any-off, any-not, lea
 use Rattle.finite.specs.Closure.{Reach, one, more}
 use Rattle.model.specs.declared.Row.{Row}
 use Rattle.model.specs.Limits.{ROWS, LONGEST, INITIAL}
-use Rattle.model.specs.Row.{PLAIN-READ, PLAIN-WRITE, ATOMIC-READ, ATOMIC-WRITE, RMW, access, atomic, plainRead, reads, writes, ranked, inside, touches, covers, overlap}
+use Rattle.model.specs.Row.{PLAIN-READ, PLAIN-WRITE, ATOMIC-READ, ATOMIC-WRITE, RMW, access, atomic, plainRead, reads, writes, ranked, inside, touches}
+use Rattle.model.specs.Row.{covers, overlap}
 use Rattle.model.specs.Table.{Table}
 use Rattle.model.specs.Scope.{mutualRows, mutually, later, laterWriter, follows}
 use Rattle.model.specs.Location.{common, before}
@@ -22,7 +23,7 @@ use Rattle.model.specs.Race.{nth}
 use Rattle.model.specs.Edge.{beforeNth, beforeSome, readsFrom, fromReads, edge, overwrites}
 use Rattle.laws.specs.WriterLaws.{Rivals, Ordered}
 use Rattle.model.specs.Refusal.{writerFits, sameRank, sameRankAt, rankTaken}
-use Rattle.model.specs.Fill.{missesAt, writtenBy, written, hidesAt, between, candidate, choice}
+use Rattle.model.specs.Fill.{unorderedAt, writtenBy, written, overwritesBetween, between, candidate, choice}
 use Rattle.model.specs.Words.{Races, Cyclic, Overwritten, Consistent}
 use Rattle.laws.specs.RaceLaws.{Sized, touched}
 use Rattle.laws.specs.PairLaws.{inside-in, inside-out, overlap-is, common-in, common-out, common-sym, either-way, mutually-sym, mutual-sym}
@@ -134,7 +135,7 @@ record Candidate (t : Table) (y s : ℕ) : Type 0 where
   alone : (z : ℕ) → z < t .rows → between t y s z ≡ false
 
 candidate-out : (t : Table) (y s : ℕ) → candidate t y s ≡ true → Candidate t y s
-unfolding candidate writerFits missesAt
+unfolding candidate writerFits unorderedAt
 candidate-out t y s e =
     let a = split e in
     let b = split (a .0) in
@@ -148,7 +149,8 @@ candidate-out t y s e =
 
 module _ (t : Table) (fair : Fair t) (free : NoRace t) where
   -- of two mutually-ordered writers one follows the other, since no rank is taken twice
-  ranked-apart : (x y : ℕ) → x < y → y < t .rows → mutually t x y ≡ true → writes (t .row x) ≡ true → writes (t .row y) ≡ true → t .row x .rank ≡ t .row y .rank → ⊥
+  ranked-apart : (x y : ℕ) → x < y → y < t .rows → mutually t x y ≡ true → writes (t .row x) ≡ true → writes (t .row y) ≡ true
+      → t .row x .rank ≡ t .row y .rank → ⊥
   unfolding rankTaken sameRankAt sameRank mutually mutualRows
   ranked-apart x y l m u wx wy e =
       let q = split u .1 in
@@ -161,7 +163,8 @@ module _ (t : Table) (fair : Fair t) (free : NoRace t) where
   unfolding mutually
   mutually-ne x y u = eqb-false x y (not-out _ (split u .0))
 
-  follows-in : (x y : ℕ) → mutually t x y ≡ true → writes (t .row x) ≡ true → writes (t .row y) ≡ true → later (t .counted) (t .row y .rank) (t .row x .rank) ≡ true → follows t x y ≡ true
+  follows-in : (x y : ℕ) → mutually t x y ≡ true → writes (t .row x) ≡ true → writes (t .row y) ≡ true
+      → later (t .counted) (t .row y .rank) (t .row x .rank) ≡ true → follows t x y ≡ true
   unfolding follows laterWriter
   follows-in x y m wx wy l = and-true m (and-true (and-true wy wx) l)
 
@@ -196,7 +199,7 @@ module _ (t : Table) (fair : Fair t) (free : NoRace t) where
     first-byte = let n = fair .nonempty y yl (plain-accesses (t .row y) py) in inside-in (t .row y .start) (t .row y .size) (t .row y .start + 0) (omega arith) (omega arith)
 
     between-order : (s z : ℕ) → writes (t .row z) ≡ true → before t s z (nth t y 0) ≡ true → before t z y (nth t y 0) ≡ true → between t y s z ≡ true
-    unfolding between hidesAt
+    unfolding between overwritesBetween
     between-order s z w a b = and-true w (or-right _ (any-in (λ k. before t s z (nth t y k) and before t z y (nth t y k)) LONGEST 0 (omega arith) (and-true a b)))
 
     between-follow : (s z b : ℕ) → z < t .rows → writes (t .row z) ≡ true → follows t s z ≡ true → before t z y b ≡ true → between t y s z ≡ true
@@ -251,7 +254,8 @@ module _ (t : Table) (fair : Fair t) (free : NoRace t) where
     -- ---- a consistent source
 
     module _ (source : ℕ → ℕ) (con : Consistent t source) where
-      from-initial : (z : ℕ) → source y ≡ INITIAL → writes (t .row z) ≡ true → (y ≡ z → ⊥) → overlap (t .row y) (t .row z) ≡ true → fromReads t source y z ≡ true
+      from-initial : (z : ℕ) → source y ≡ INITIAL → writes (t .row z) ≡ true → (y ≡ z → ⊥) → overlap (t .row y) (t .row z) ≡ true
+          → fromReads t source y z ≡ true
       unfolding fromReads
       from-initial z e w n o = and-true (and-true (not-in (ne-eqb y z n)) (plain-reads (t .row y) py)) (rw (eq-eqb (source y) INITIAL e) (and-true w o))
 
@@ -313,8 +317,8 @@ module _ (t : Table) (fair : Fair t) (free : NoRace t) where
             any-in (λ z. writes (t .row z) and beforeSome t z y) (t .rows) (source y) source-row
             (and-true source-writes (some-before t (source y) y (nth t y 0) (fair .sized (source y) source-row) (source-before (nth t y 0) first-byte)))
 
-        no-miss : anyBelow LONGEST (missesAt t y (source y)) ≡ false
-        unfolding missesAt
+        no-miss : anyBelow LONGEST (unorderedAt t y (source y)) ≡ false
+        unfolding unorderedAt
         no-miss =
             any-not (λ k. touches (t .row y) (nth t y k) and not (before t (source y) y (nth t y k))) LONGEST
             (λ k l. not-so _ (λ h. not-both (source-before (nth t y k) (split h .0)) (not-out _ (split h .1))))
@@ -333,7 +337,7 @@ module _ (t : Table) (fair : Fair t) (free : NoRace t) where
         broken z b w p q = and-true (and-true (and-true (and-true (plain-reads (t .row y) py) w) (lt-ltb (source y) (t .rows) source-row)) p) q
 
         nothing-between : (z : ℕ) → z < t .rows → between t y (source y) z ≡ false
-        unfolding between hidesAt
+        unfolding between overwritesBetween
         nothing-between z l = not-so _ (λ h. ⊎-elim (λ a. follow (split h .0) a) (λ a. hide (split h .0) a) (or-cases (follows t (source y) z and beforeSome t z y) _ (split h .1)))
           where
             follow : writes (t .row z) ≡ true → (follows t (source y) z and beforeSome t z y) ≡ true → ⊥

@@ -18,12 +18,16 @@ use Rattle.model.specs.declared.Row.{Row}
 use Rattle.model.specs.declared.Admission.the-variants.{Admitted}
 use Rattle.model.specs.Limits.{INITIAL, BLANK, ROWS}
 use Rattle.model.specs.Row.{PLAIN-READ, ATOMIC-READ, RMW, access, plainRead, reads, operation}
-use Rattle.model.specs.Table.{Table, HEADER, ROW-BYTES, pairAt, quadAt, countAt, versionAt, zeroAt, agentsAt, rowsAt, hasHosts, placesOf, rowsBegin, rowsEnd, sizeOf, rowBytes, byteOf, pairOf, rowOf, sourceOf, decode, tableUnder, tableOf, sourcesOf, dependencyBytes}
-use Rattle.model.specs.Refusal.{versionFits, limitsFit, lengthFits, agentsKnown, dependenciesFew, namesNone, dependenciesNamed, hostsFault, headerFault, kindFits, formFault, rowFault, rowFaultAt, sourceBroken, tableFault}
+use Rattle.model.specs.Table.{Table, HEADER, ROW-BYTES, pairAt, quadAt, countAt, versionAt, zeroAt, agentsAt, rowsAt, hasHosts, placesOf, rowsBegin}
+use Rattle.model.specs.Table.{rowsEnd, sizeOf, rowBytes, byteOf, pairOf, rowOf, sourceOf, decode, tableUnder, tableOf, sourcesOf, dependencyBytes}
+use Rattle.model.specs.Refusal.{versionFits, limitsFit, lengthFits, agentsKnown, dependenciesFew, namesNone, dependenciesNamed, hostsFault}
+use Rattle.model.specs.Refusal.{headerFault, kindFits, formFault, rowFault, rowFaultAt, sourceBroken, tableFault}
 use Rattle.model.specs.Fill.{blank, chosen}
 use Rattle.model.specs.Words.{blankAt, sourceBegin, Filling}
 use Rattle.laws.specs.AdmissionLaws.{Sound, length-is, rows-fit, among-right, access-no-operation}
-use Rattle.laws.specs.FillingLaws.{begin-header, head-kept, version-kept, hosts-kept, agents-kept, rows-kept, begin-kept, places-kept, row-kept, end-kept, rows-end-kept, count-kept, from-kept, to-kept, source-kept, table-kept, bytes-at, bytes-past, pair-is}
+use Rattle.laws.specs.FillingLaws.{begin-header, head-kept, version-kept, hosts-kept, agents-kept, rows-kept, begin-kept, places-kept, row-kept}
+use Rattle.laws.specs.FillingLaws.{end-kept, rows-end-kept, count-kept, from-kept, to-kept, source-kept, table-kept, bytes-at, bytes-past}
+use Rattle.laws.specs.FillingLaws.{pair-is}
 
 -- ---- definitions
 
@@ -298,7 +302,8 @@ module _ (s : List ℕ) (bytes : Bytes s) (h : Sound true s) (source : ℕ → �
   unfolding rowByte
   byte-other i j n old = ⊎-elim (λ e. at (ltb-true i (rowsAt s) (split e .0)) (split e .1)) (λ e. rw e refl) (which (ltb i (rowsAt s) and blankAt s i))
     where
-      at : i < rowsAt s → blankAt s i ≡ true → cond (ltb i (rowsAt s) and blankAt s i) (cond (eqb j 12) (source i / 256) (cond (eqb j 13) (source i % 256) old)) old ≡ old
+      at : i < rowsAt s → blankAt s i ≡ true
+          → cond (ltb i (rowsAt s) and blankAt s i) (cond (eqb j 12) (source i / 256) (cond (eqb j 13) (source i % 256) old)) old ≡ old
       at l b = inner (ltb i (rowsAt s) and blankAt s i) (rw (ne-eqb j 12 (λ e. n l b (inl e)), ne-eqb j 13 (λ e. n l b (inr e))) refl)
         where
           inner : (c : Bool) {x : ℕ} → x ≡ old → cond c x old ≡ old

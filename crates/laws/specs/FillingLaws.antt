@@ -18,7 +18,10 @@ use Rattle.model.specs.declared.Row.{Row}
 use Rattle.model.specs.declared.Mode.{Mode}
 use Rattle.model.specs.Limits.{AGENTS, DEPENDENCIES, INITIAL, BLANK}
 use Rattle.model.specs.Row.{PLAIN-READ, ATOMIC-READ, atomic, plainRead}
-use Rattle.model.specs.Table.{Table, HEADER, PLACE-BYTES, HOSTS-PLACE-BYTES, DEPENDENCY-BYTES, ROW-BYTES, pairAt, versionAt, agentsAt, rowsAt, hasHosts, threeAt, fourAt, placeAt, slotAt, placesOf, rowsBegin, rowsEnd, rowBytes, dependencyBytes, byteOf, pairOf, rowOf, sourceOf, atomicSource, dependencyCount, dependencyEnd, dependencyFrom, dependencyTo, dependsOf, decode, tableUnder, tableOf, sourcesOf, modeOf, COUNTED}
+use Rattle.model.specs.Table.{Table, HEADER, PLACE-BYTES, HOSTS-PLACE-BYTES, DEPENDENCY-BYTES, ROW-BYTES, pairAt, versionAt, agentsAt, rowsAt}
+use Rattle.model.specs.Table.{hasHosts, threeAt, fourAt, placeAt, slotAt, placesOf, rowsBegin, rowsEnd, rowBytes, dependencyBytes, byteOf, pairOf}
+use Rattle.model.specs.Table.{rowOf, sourceOf, atomicSource, dependencyCount, dependencyEnd, dependencyFrom, dependencyTo, dependsOf, decode}
+use Rattle.model.specs.Table.{tableUnder, tableOf, sourcesOf, modeOf, COUNTED}
 use Rattle.model.specs.Location.{before}
 use Rattle.model.specs.Race.{conflict, races, unordered}
 use Rattle.model.specs.Fill.{blank}
@@ -215,7 +218,8 @@ module _ {s f : List ℕ} (fl : Filling s f) where
   unfolding atomicSource sourcesOf
   atomic-kept i = rw (row-kept i) (⊎-elim at (λ n. rw n refl) (which (atomic (rowOf (rowBytes s) i))))
     where
-      at : atomic (rowOf (rowBytes s) i) ≡ true → cond (atomic (rowOf (rowBytes s) i)) (sourceOf (rowBytes f) i) INITIAL ≡ cond (atomic (rowOf (rowBytes s) i)) (sourceOf (rowBytes s) i) INITIAL
+      at : atomic (rowOf (rowBytes s) i) ≡ true
+          → cond (atomic (rowOf (rowBytes s) i)) (sourceOf (rowBytes f) i) INITIAL ≡ cond (atomic (rowOf (rowBytes s) i)) (sourceOf (rowBytes s) i) INITIAL
       at a = rw a (source-kept i (atomic-no-blank i a))
 
   -- ---- the dependencies

@@ -18,7 +18,8 @@ use Rattle.finite.specs.Lists.{tabulate, length-tabulate, getD-tabulate}
 use Rattle.model.specs.declared.Row.{Row}
 use Rattle.model.specs.Limits.{AGENTS, CLASS-SETS}
 use Rattle.model.specs.Row.{CONTROL, AVAILABLE-HOST, AVAILABLE-DEVICE, DEVICE-TO-HOST, operation}
-use Rattle.model.specs.Table.{Table, pairAt, agentsAt, rowsAt, hasHosts, threeAt, placeAt, slotAt, placesOf, rowsEnd, sizeOf, rowBytes, dependencyBytes, rowOf, dependencyCount, dependsOf, decode, modeOf, tableUnder}
+use Rattle.model.specs.Table.{Table, pairAt, agentsAt, rowsAt, hasHosts, threeAt, placeAt, slotAt, placesOf, rowsEnd, sizeOf, rowBytes}
+use Rattle.model.specs.Table.{dependencyBytes, rowOf, dependencyCount, dependsOf, decode, modeOf, tableUnder}
 use Rattle.model.specs.Scope.{SHADER, agentKind, shader, oneInstance, shares}
 use Rattle.model.specs.Moment.{rowIn, programOrder}
 use Rattle.model.specs.Happens.{bySync, toRelease, fromAcquire, bySystem, step, happens}

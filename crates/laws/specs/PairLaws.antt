@@ -58,7 +58,8 @@ overlap-is r q = (λ e. forth e (which (ltb k m)), back)
     k : ℕ
     k = least m p
 
-    forth : isShared (cond (ltb k m) (At (a + k)) Nothing) ≡ true → (ltb k m ≡ true) ⊎ (ltb k m ≡ false) → (b : ℕ) × (inside a m b ≡ true) × (inside (q .start) (q .size) b ≡ true)
+    forth : isShared (cond (ltb k m) (At (a + k)) Nothing) ≡ true → (ltb k m ≡ true) ⊎ (ltb k m ≡ false)
+        → (b : ℕ) × (inside a m b ≡ true) × (inside (q .start) (q .size) b ≡ true)
     forth e (inl t) =
         let l = ltb-true k m t in
         (a + k, inside-in a m (a + k) (omega arith) (omega arith), least-is p m .hit l)
@@ -135,7 +136,8 @@ module _ (t : Table) where
 
   -- ---- conflicts
 
-  pub conflict-in : (x y b : ℕ) → (x ≡ y → ⊥) → common (t .row x) (t .row y) b ≡ true → (writes (t .row x) ≡ true) ⊎ (writes (t .row y) ≡ true) → conflict t x y ≡ true
+  pub conflict-in : (x y b : ℕ) → (x ≡ y → ⊥) → common (t .row x) (t .row y) b ≡ true → (writes (t .row x) ≡ true) ⊎ (writes (t .row y) ≡ true)
+      → conflict t x y ≡ true
   unfolding conflict clash
   conflict-in x y b n c w =
       let d = common-out (t .row x) (t .row y) b c in

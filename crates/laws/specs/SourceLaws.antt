@@ -16,7 +16,8 @@ use Rattle.finite.specs.Walk.{along, cycle}
 use Rattle.finite.specs.Cycle.{Canonical, cycle-canonical, cycleStart-cong, cycle-cong}
 use Rattle.model.specs.Table.{Table}
 use Rattle.model.specs.Limits.{LONGEST}
-use Rattle.model.specs.Edge.{readsFrom, fromReads, edgeNumber, edge, cycleRow, cycleRows, cycleEdges, overwrites, overwritesNth, overNth, overwriting, overWriter, isOverwritten, overReader, overByte, consistent}
+use Rattle.model.specs.Edge.{readsFrom, fromReads, edgeNumber, edge, cycleRow, cycleRows, cycleEdges, overwrites, overwritesNth, overNth, overwriting}
+use Rattle.model.specs.Edge.{overWriter, isOverwritten, overReader, overByte, consistent}
 use Rattle.model.specs.Check as Check
 use Rattle.model.specs.Check.{Verdict, cyclicOr, overwrittenOr, verdict}
 use Rattle.model.specs.Refusal.{sourceBroken}

@@ -18,7 +18,9 @@ use Rattle.model.specs.Table.{Table, byteOf, rowOf, decode}
 use Rattle.model.specs.Scope.{DEVICE, shares}
 use Rattle.model.specs.Moment.{BEFORE, AFTER, rowIn, part, itself, availabilityOf, visibilityOf, orderedRows, availability, visibility, programOrder}
 use Rattle.model.specs.Happens.{happens}
-use Rattle.model.specs.Location.{coversOf, publicWrite, availableAt, visibleAt, firstAvailable, lastVisible, broadens, narrows, availabilityChain, visibilityChain, availableBy, availableFrom, visibleBy, visibleTo, inDomain, shown, met, byDomain, carried, L3}
+use Rattle.model.specs.Location.{coversOf, publicWrite, availableAt, visibleAt, firstAvailable, lastVisible, broadens, narrows, availabilityChain}
+use Rattle.model.specs.Location.{visibilityChain, availableBy, availableFrom, visibleBy, visibleTo, inDomain, visibleVia, reaches, byDomain}
+use Rattle.model.specs.Location.{availableVia, L3}
 use Rattle.laws.specs.ChainLaws.{shares-wider, shares-right}
 
 -- ---- definitions
@@ -123,14 +125,15 @@ module _ (p : List (List ℕ)) (r q s u : Row) where
 
 module _ (t : Table) (x y b c : ℕ) where
   -- a domain that byDomain finds, for a reader: w begins a chain that y sees by
-  domain-shown : (w : ℕ) → w < t .rows → reads (t .row y) ≡ true → seen t x y c w ≡ true → visibleTo t y b w ≡ true → anyBelow DEVICE (byDomain t x y b c) ≡ true
-  unfolding seen byDomain inDomain met shown
+  domain-shown : (w : ℕ) → w < t .rows → reads (t .row y) ≡ true → seen t x y c w ≡ true → visibleTo t y b w ≡ true
+      → anyBelow DEVICE (byDomain t x y b c) ≡ true
+  unfolding seen byDomain inDomain reaches visibleVia
   domain-shown w l r e v =
       let f = split e in
       let k = meet-out (t .places) (t .row x) (t .row y) (t .row c) (t .row w) (t .row c .scope) (t .row w .scope) (f .1) in
       any-in (byDomain t x y b c) DEVICE (k .0) (k .1)
       (and-true (and-true (k .4) (and-true (le-leb (suc (k .0)) (t .row c .scope) (k .2)) (k .5)))
-      (rw r (any-in (shown t (suc (k .0)) y b c) (t .rows) w l (and-true (and-true (and-true (le-leb (suc (k .0)) (t .row w .scope) (k .3)) (k .6)) (f .0)) v))))
+      (rw r (any-in (visibleVia t (suc (k .0)) y b c) (t .rows) w l (and-true (and-true (and-true (le-leb (suc (k .0)) (t .row w .scope) (k .3)) (k .6)) (f .0)) v))))
 
   ends-reader-there : reads (t .row y) ≡ true → anyBelow (t .rows) (shownBy t x y b c) ≡ true → anyBelow DEVICE (byDomain t x y b c) ≡ true
   unfolding shownBy startsWith visibleTo visibleBy visibilityChain
@@ -154,12 +157,12 @@ module _ (t : Table) (x y b c : ℕ) where
       (leb-true (suc k) (t .row w .scope) (split e .0)) a (split d .1) (split e .1))
 
   ends-reader-back : reads (t .row y) ≡ true → anyBelow DEVICE (byDomain t x y b c) ≡ true → anyBelow (t .rows) (shownBy t x y b c) ≡ true
-  unfolding byDomain met shown visibleTo visibleBy visibilityChain shownBy startsWith
+  unfolding byDomain reaches visibleVia visibleTo visibleBy visibilityChain shownBy startsWith
   ends-reader-back r e =
       let k = any-out (byDomain t x y b c) DEVICE e in
       let f = split (k .2) in
-      let m : anyBelow (t .rows) (shown t (suc (k .0)) y b c) ≡ true = rw r at (f .1) in
-      let w = any-out (shown t (suc (k .0)) y b c) (t .rows) m in
+      let m : anyBelow (t .rows) (visibleVia t (suc (k .0)) y b c) ≡ true = rw r at (f .1) in
+      let w = any-out (visibleVia t (suc (k .0)) y b c) (t .rows) m in
       let g = split (w .2) in
       let h = split (g .0) in
       let v = any-out (visibleBy t y b (w .0)) (t .rows) (g .1) in
@@ -174,7 +177,7 @@ module _ (t : Table) (x y b c : ℕ) where
 
   -- any other row
   ends-other-there : reads (t .row y) ≡ false → metAtOnce t x y c ≡ true → anyBelow DEVICE (byDomain t x y b c) ≡ true
-  unfolding metAtOnce byDomain inDomain met
+  unfolding metAtOnce byDomain inDomain reaches
   ends-other-there r e =
       let f = split e in
       let k = meet-out (t .places) (t .row x) (t .row y) (t .row c) (t .row y) (t .row c .scope) DEVICE (f .1) in
@@ -182,7 +185,7 @@ module _ (t : Table) (x y b c : ℕ) where
       (and-true (and-true (k .4) (and-true (le-leb (suc (k .0)) (t .row c .scope) (k .2)) (k .5))) (rw r (f .0)))
 
   ends-other-back : reads (t .row y) ≡ false → anyBelow DEVICE (byDomain t x y b c) ≡ true → metAtOnce t x y c ≡ true
-  unfolding metAtOnce byDomain inDomain met
+  unfolding metAtOnce byDomain inDomain reaches
   ends-other-back r e =
       let k = any-out (byDomain t x y b c) DEVICE e in
       let l : k .0 < DEVICE = k .1 in
@@ -202,26 +205,26 @@ module _ (t : Table) (x y b c : ℕ) where
       (which (reads (t .row y)))
 
 module _ (t : Table) (x y b : ℕ) where
-  firsts-there : anyBelow (t .rows) (carriedBy t x y b) ≡ true → anyBelow (t .rows) (carried t x y b) ≡ true
-  unfolding carriedBy endsWith carried availableFrom availableBy availabilityChain
+  firsts-there : anyBelow (t .rows) (carriedBy t x y b) ≡ true → anyBelow (t .rows) (availableVia t x y b) ≡ true
+  unfolding carriedBy endsWith availableVia availableFrom availableBy availabilityChain
   firsts-there e =
       let a = any-out (carriedBy t x y b) (t .rows) e in
       let f = split (a .2) in
       ⊎-elim
       (λ h.
-      any-in (carried t x y b) (t .rows) (a .0) (a .1)
+      any-in (availableVia t x y b) (t .rows) (a .0) (a .1)
       (and-true (any-in (availableBy t x b (a .0)) (t .rows) (a .0) (a .1) (and-true (f .0) (or-left _ (eq-eqb (a .0) (a .0) refl)))) (sym (ends-is t x y b (a .0)) ∙ h)))
       (λ h.
       let c = any-out (endsWith t x y b (a .0)) (t .rows) (split h .1) in
       let g = split (c .2) in
-      any-in (carried t x y b) (t .rows) (c .0) (c .1)
+      any-in (availableVia t x y b) (t .rows) (c .0) (c .1)
       (and-true (any-in (availableBy t x b (c .0)) (t .rows) (a .0) (a .1) (and-true (f .0) (or-right (eqb (a .0) (c .0)) (and-true (split h .0) (g .0))))) (sym (ends-is t x y b (c .0)) ∙ g .1)))
       (or-cases (endsAt t x y b (a .0)) (t .chains and anyBelow (t .rows) (endsWith t x y b (a .0))) (f .1))
 
-  firsts-back : anyBelow (t .rows) (carried t x y b) ≡ true → anyBelow (t .rows) (carriedBy t x y b) ≡ true
-  unfolding carriedBy endsWith carried availableFrom availableBy availabilityChain
+  firsts-back : anyBelow (t .rows) (availableVia t x y b) ≡ true → anyBelow (t .rows) (carriedBy t x y b) ≡ true
+  unfolding carriedBy endsWith availableVia availableFrom availableBy availabilityChain
   firsts-back e =
-      let c = any-out (carried t x y b) (t .rows) e in
+      let c = any-out (availableVia t x y b) (t .rows) e in
       let f = split (c .2) in
       let a = any-out (availableBy t x b (c .0)) (t .rows) (f .0) in
       let g = split (a .2) in
@@ -233,8 +236,8 @@ module _ (t : Table) (x y b : ℕ) where
       (λ q. or-right (endsAt t x y b (a .0)) (and-true (split q .0) (any-in (endsWith t x y b (a .0)) (t .rows) (c .0) (c .1) (and-true (split q .1) h))))
       (or-cases (eqb (a .0) (c .0)) (t .chains and through (broadens t) (t .rows) (a .0) (c .0)) (g .1))))
 
-  pub firsts-is : anyBelow (t .rows) (carriedBy t x y b) ≡ anyBelow (t .rows) (carried t x y b)
-  firsts-is = bool-ext (anyBelow (t .rows) (carriedBy t x y b)) (anyBelow (t .rows) (carried t x y b)) firsts-there firsts-back
+  pub firsts-is : anyBelow (t .rows) (carriedBy t x y b) ≡ anyBelow (t .rows) (availableVia t x y b)
+  firsts-is = bool-ext (anyBelow (t .rows) (carriedBy t x y b)) (anyBelow (t .rows) (availableVia t x y b)) firsts-there firsts-back
 
   pub L3-off : (r q : Row) → r ≡ t .row x → q ≡ t .row y → publicWrite r q ≡ false → L3 t x y b ≡ false
   unfolding L3 _and_
@@ -375,7 +378,8 @@ module _ (t : List ℕ) (p : List (List ℕ)) (mode : Mode) (n x y b : ℕ) wher
   unfolding shownBy
   shown-off c v q h k eq eh ek off = not-so _ told
     where
-      some : (seen (decode t p mode n) x y c v or (decode t p mode n .chains and anyBelow (decode t p mode n .rows) (startsWith (decode t p mode n) x y c v))) ≡ true → (mode .chains or h or k) ≡ true
+      some : (seen (decode t p mode n) x y c v or (decode t p mode n .chains and anyBelow (decode t p mode n .rows) (startsWith (decode t p mode n) x y c v))) ≡ true
+          → (mode .chains or h or k) ≡ true
       some e = ⊎-elim (λ g. ⊎-elim (λ f. or-left k (or-right (mode .chains) f)) (λ f. or-right (mode .chains or h) f) (seen-bits c v h k eh ek g)) (λ g. or-left k (or-left h (chains-of (split g .0)))) (or-cases _ _ e)
 
       told : shownBy (decode t p mode n) x y b c v ≡ true → ⊥
@@ -385,7 +389,8 @@ module _ (t : List ℕ) (p : List (List ℕ)) (mode : Mode) (n x y b : ℕ) wher
   unfolding decode availableAt availablePart
   available-of i k s es ek = rw (ek, es) refl
 
-  pub shown-out : (i v k : ℕ) (q s : Row) (h g : Bool) → q ≡ rowOf t y → s ≡ rowOf t i → k ≡ availablePart s → h ≡ happens (decode t p mode n) (3 * i + k) (3 * v)
+  pub shown-out : (i v k : ℕ) (q s : Row) (h g : Bool) → q ≡ rowOf t y → s ≡ rowOf t i → k ≡ availablePart s
+      → h ≡ happens (decode t p mode n) (3 * i + k) (3 * v)
       → g ≡ happens (decode t p mode n) (3 * i + k) (3 * v + 2) → ((mode .chains or h or g) and maySee t q v) ≡ false
       → shownBy (decode t p mode n) x y b i v ≡ false
   shown-out i v k q s h g eq es ek eh eg off =
@@ -424,7 +429,8 @@ module _ (t : List ℕ) (p : List (List ℕ)) (mode : Mode) (n x y b : ℕ) wher
 -- ---- laws: two elements over the rows
 
 module _ (t : List ℕ) (p : List (List ℕ)) (mode : Mode) (n x y : ℕ) where
-  pub seen-row : (i j k m g : ℕ) (r q s u : Row) (h d : Bool) → r ≡ rowOf t x → q ≡ rowOf t y → s ≡ rowOf t i → u ≡ rowOf t j → k ≡ availablePart s → m ≡ visiblePart u
+  pub seen-row : (i j k m g : ℕ) (r q s u : Row) (h d : Bool) → r ≡ rowOf t x → q ≡ rowOf t y → s ≡ rowOf t i → u ≡ rowOf t j → k ≡ availablePart s
+      → m ≡ visiblePart u
       → h ≡ happens (decode t p mode n) (3 * i + k) (3 * j + m) → g ≡ widest (s .scope) (u .scope) → d ≡ meetIn p g r q s u
       → seen (decode t p mode n) x y i j ≡ (h and d)
   unfolding seen decode availableAt visibleAt availablePart visiblePart

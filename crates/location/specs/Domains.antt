@@ -10,7 +10,8 @@ use native.Mathlib.Numerals.{add-one}
 use lib.ListN.{length, getD}
 use lib.Dec.{eqb}
 use borrow.Author.Tests.{eq-eqb, ne-eqb, eqb-true, le-leb}
-use Rattle.finite.specs.Logic.{_and_, _or_, split, and-true, and-false-left, and-false-right, or-right, or-none, or-off, not-both, not-so, not-out, bool-ext, and-on}
+use Rattle.finite.specs.Logic.{_and_, _or_, split, and-true, and-false-left, and-false-right, or-right, or-none, or-off, not-both, not-so, not-out}
+use Rattle.finite.specs.Logic.{bool-ext, and-on}
 use Rattle.finite.specs.Below.{anyBelow, any-none, any-off, any-not, any-cong}
 use Rattle.finite.specs.Closure.{through, through-none}
 use Rattle.bits.specs.Bit.{bit, setBit, setBit-same, setBit-other, zeros, bit-zeros-in}

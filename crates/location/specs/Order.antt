@@ -20,7 +20,7 @@ use Rattle.model.specs.Happens.{happens}
 use Rattle.model.specs.Location.{sameReference, pureRead, common, L1, L2, L3, L4, L5, before}
 use Rattle.model.specs.Edge.{beforeNth}
 use Rattle.area.specs.Regions.{LOCATION, LOCATION-END, HOSTED, REACHED-END, LOCATED-END, GRID, PAIR, PAIRS}
-use Rattle.area.specs.State.{ordered-kept, MadeLocated}
+use Rattle.area.specs.State.{ordered-kept, MadePlaced}
 use Rattle.rules.specs.Shared.{mayShare, inside-out}
 use Rattle.location.specs.Reach.{Reaching, MadeReach, reaching-kept}
 
@@ -119,11 +119,11 @@ made-prepared {n = n} h m =
     let l : n ≤ 64 * GRID = h .fits in
     record { reaching = m .reaching; hosting = holds-kept (λ h. omega arith) (m .frame) h }
 
-pub made-located : {t : Table} {n : ℕ} {w x v u : List ℕ} → Made HOSTED REACHED-END HOSTED GRID n (hosted t) w x → MadeReach t n x v
-    → MadeCube LOCATION LOCATION-END LOCATION PAIRS PAIR n (beforeNth t) v u → MadeLocated t n w u
-made-located h r m =
+pub made-placed : {t : Table} {n : ℕ} {w x v u : List ℕ} → Made HOSTED REACHED-END HOSTED GRID n (hosted t) w x → MadeReach t n x v
+    → MadeCube LOCATION LOCATION-END LOCATION PAIRS PAIR n (beforeNth t) v u → MadePlaced t n w u
+made-placed h r m =
     record {
-      located = record { mutuals = ordered-kept (omega arith) (m .frame) (r .reaching .ordered) .mutuals; location = m .cube };
+      placed = record { mutuals = ordered-kept (omega arith) (m .frame) (r .reaching .ordered) .mutuals; location = m .cube };
       frame =
           within-trans
           (within-trans (within-widen LOCATION LOCATED-END (omega arith) (omega arith) (h .frame)) (within-widen LOCATION LOCATED-END (omega arith) (omega arith) (r .frame)))

@@ -121,7 +121,8 @@ fn seen_at(
     w: &[u64],
 ) -> bool
     requires { ⌜ (n ≤ ROWS) × (WORK ≤ length (now w)) × (x < n) × (y < n)
-        × (r ≡ rowOf (now rows) x) × (q ≡ rowOf (now rows) y) × Reaching (decode (now rows) p mode n) n (now w) × (i < n) × (j < n) × (s ≡ rowOf (now rows) i) ⌝ }
+        × (r ≡ rowOf (now rows) x) × (q ≡ rowOf (now rows) y) × Reaching (decode (now rows) p mode n) n (now w) × (i < n) × (j < n)
+        × (s ≡ rowOf (now rows) i) ⌝ }
     ensures { λ d. ⌜ d ≡ seen (decode (now (rows .entry)) p mode n) x y i j ⌝ }
 {
     let u = rows::bytes::read_row(rows, j as u16);
@@ -166,7 +167,8 @@ fn starts_with(
     w: &[u64],
 ) -> bool
     requires { ⌜ (n ≤ ROWS) × (WORK ≤ length (now w)) × (x < n) × (y < n)
-        × (r ≡ rowOf (now rows) x) × (q ≡ rowOf (now rows) y) × Reaching (decode (now rows) p mode n) n (now w) × (i < n) × (v < n) × (j < n) × (s ≡ rowOf (now rows) i) × (mode .chains ≡ true) ⌝ }
+        × (r ≡ rowOf (now rows) x) × (q ≡ rowOf (now rows) y) × Reaching (decode (now rows) p mode n) n (now w) × (i < n) × (v < n) × (j < n)
+        × (s ≡ rowOf (now rows) i) × (mode .chains ≡ true) ⌝ }
     ensures { λ d. ⌜ d ≡ startsWith (decode (now (rows .entry)) p mode n) x y i v j ⌝ }
 {
     if !area::grid::get(w, area::REACH_IN, j, v) {
@@ -191,7 +193,8 @@ fn some_start(
     w: &[u64],
 ) -> bool
     requires { ⌜ (n ≤ ROWS) × (WORK ≤ length (now w)) × (x < n) × (y < n)
-        × (r ≡ rowOf (now rows) x) × (q ≡ rowOf (now rows) y) × Reaching (decode (now rows) p mode n) n (now w) × (i < n) × (v < n) × (s ≡ rowOf (now rows) i) × (mode .chains ≡ true) ⌝ }
+        × (r ≡ rowOf (now rows) x) × (q ≡ rowOf (now rows) y) × Reaching (decode (now rows) p mode n) n (now w) × (i < n) × (v < n)
+        × (s ≡ rowOf (now rows) i) × (mode .chains ≡ true) ⌝ }
     ensures { λ d. ⌜ d ≡ anyBelow n (startsWith (decode (now (rows .entry)) p mode n) x y i v) ⌝ }
 {
     for j in 0..n {
@@ -218,7 +221,8 @@ pub fn starts_at(
     w: &[u64],
 ) -> bool
     requires { ⌜ (n ≤ ROWS) × (WORK ≤ length (now w)) × (x < n) × (y < n)
-        × (r ≡ rowOf (now rows) x) × (q ≡ rowOf (now rows) y) × Reaching (decode (now rows) p mode n) n (now w) × (i < n) × (v < n) × (s ≡ rowOf (now rows) i) ⌝ }
+        × (r ≡ rowOf (now rows) x) × (q ≡ rowOf (now rows) y) × Reaching (decode (now rows) p mode n) n (now w) × (i < n) × (v < n)
+        × (s ≡ rowOf (now rows) i) ⌝ }
     ensures { λ d. ⌜ d ≡ (seen (decode (now (rows .entry)) p mode n) x y i v or (mode .chains and anyBelow n (startsWith (decode (now (rows .entry)) p mode n) x y i v))) ⌝ }
 {
     if seen_at(rows, p, mode, n, x, y, r, q, i, s, v, w) {
@@ -247,7 +251,8 @@ fn shown_in(
     w: &[u64],
 ) -> bool
     requires { ⌜ (n ≤ ROWS) × (WORK ≤ length (now w)) × (x < n) × (y < n)
-        × (r ≡ rowOf (now rows) x) × (q ≡ rowOf (now rows) y) × Reaching (decode (now rows) p mode n) n (now w) × (i < n) × (v < n) × (s ≡ rowOf (now rows) i) ⌝ }
+        × (r ≡ rowOf (now rows) x) × (q ≡ rowOf (now rows) y) × Reaching (decode (now rows) p mode n) n (now w) × (i < n) × (v < n)
+        × (s ≡ rowOf (now rows) i) ⌝ }
     ensures { λ d. ⌜ d ≡ shownBy (decode (now (rows .entry)) p mode n) x y b i v ⌝ }
 {
     if !may_show(rows, mode, q, 3 * i + available_part(s), v, w) {

@@ -7,7 +7,7 @@ ghost use Rattle.model.specs.Limits.{ROWS, WORK};
 ghost use Rattle.model.specs.Table.{rowOf, decode};
 ghost use Rattle.model.specs.Edge.{beforeNth};
 ghost use Rattle.area.specs.Regions.{LOCATION, PAIR, PAIRS};
-ghost use Rattle.area.specs.State.{Ordered, MadeLocated};
+ghost use Rattle.area.specs.State.{Ordered, MadePlaced};
 ghost use Rattle.location.specs.Order.{Prepared};
 use model::Mode;
 use model::Places;
@@ -80,7 +80,7 @@ fn fill_row(rows: &[u8], p: Places, mode: Mode, n: usize, x: usize, w: &mut [u64
 // Ruled out: one that counts a pair's bytes from the second row's start; one that leaves a bit of an earlier stage set.
 pub fn fill_location(rows: &[u8], p: Places, mode: Mode, n: usize, w: &mut [u64])
     requires { ⌜ (n ≤ ROWS) × (WORK ≤ length (now w)) × Ordered (decode (now rows) p mode n) n (now w) ⌝ }
-    ensures { λ _. ⌜ MadeLocated (decode (now (rows .entry)) p mode n) n (now (w .entry)) (now (w .exit)) ⌝ }
+    ensures { λ _. ⌜ MadePlaced (decode (now (rows .entry)) p mode n) n (now (w .entry)) (now (w .exit)) ⌝ }
 {
     hosted::make_hosted(rows, p, mode, n, w);
     reach::make_reach(rows, p, mode, n, w);

@@ -27,8 +27,8 @@ use Rattle.model.specs.Check.{wiped}
 
 module _ (t : Table) where
   -- s is not ordered before y at y's k-th byte
-  unfoldable pub missesAt : ℕ → ℕ → ℕ → Bool
-  missesAt y s k = touches (t .row y) (nth t y k) and not (before t s y (nth t y k))
+  unfoldable pub unorderedAt : ℕ → ℕ → ℕ → Bool
+  unorderedAt y s k = touches (t .row y) (nth t y k) and not (before t s y (nth t y k))
 
   -- some writer is ordered before y
   unfoldable pub writtenBy : ℕ → ℕ → Bool
@@ -38,16 +38,16 @@ module _ (t : Table) where
   written y = anyBelow (t .rows) (writtenBy y)
 
   -- z overwrites s before y at y's k-th byte
-  unfoldable pub hidesAt : ℕ → ℕ → ℕ → ℕ → Bool
-  hidesAt y s z k = before t s z (nth t y k) and before t z y (nth t y k)
+  unfoldable pub overwritesBetween : ℕ → ℕ → ℕ → ℕ → Bool
+  overwritesBetween y s z k = before t s z (nth t y k) and before t z y (nth t y k)
 
   -- the writer z comes between s and y: after s in scoped order and before y at some byte, or between the two at a byte
   unfoldable pub between : ℕ → ℕ → ℕ → Bool
-  between y s z = writes (t .row z) and ((follows t s z and beforeSome t z y) or anyBelow LONGEST (hidesAt y s z))
+  between y s z = writes (t .row z) and ((follows t s z and beforeSome t z y) or anyBelow LONGEST (overwritesBetween y s z))
 
   -- y may have read s: s covers y, comes before y at each byte, and nothing comes between
   unfoldable pub candidate : ℕ → ℕ → Bool
-  candidate y s = writerFits t y s and not (anyBelow LONGEST (missesAt y s)) and not (anyBelow (t .rows) (between y s))
+  candidate y s = writerFits t y s and not (anyBelow LONGEST (unorderedAt y s)) and not (anyBelow (t .rows) (between y s))
 
   -- the source that the blank y must have: the initial value where no writer comes before it; the number of rows where it can have none
   unfoldable pub choice : ℕ → ℕ

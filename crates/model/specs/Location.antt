@@ -6,7 +6,8 @@ use Rattle.finite.specs.Logic.{_and_, _or_}
 use Rattle.finite.specs.Below.{anyBelow}
 use Rattle.finite.specs.Closure.{through}
 use Rattle.model.specs.declared.Row.{Row}
-use Rattle.model.specs.Row.{AVAILABLE-HOST, AVAILABLE-DEVICE, VISIBLE-HOST, VISIBLE-DEVICE, HOST-TO-DEVICE, DEVICE-TO-HOST, plain, access, reads, writes, nonPrivate, classIn, touches}
+use Rattle.model.specs.Row.{AVAILABLE-HOST, AVAILABLE-DEVICE, VISIBLE-HOST, VISIBLE-DEVICE, HOST-TO-DEVICE, DEVICE-TO-HOST, plain, access, reads}
+use Rattle.model.specs.Row.{writes, nonPrivate, classIn, touches}
 use Rattle.model.specs.Table.{Table}
 use Rattle.model.specs.Scope.{DEVICE, host, shares}
 use Rattle.model.specs.Moment.{BEFORE, AFTER, itself, availability, visibility, programOrder, sameAgent}
@@ -95,23 +96,24 @@ unfoldable pub inDomain : Table → ℕ → ℕ → ℕ → Bool
 inDomain t d x i = leb d (t .row i .scope) and shares (t .places) d (t .row x .agent) (t .row i .agent)
 
 -- what c makes available to the domain of scope d, w makes visible from it
-unfoldable pub shown : Table → ℕ → ℕ → ℕ → ℕ → ℕ → Bool
-shown t d y b c w = inDomain t d y w and happens t (availableAt t c) (visibleAt t w) and visibleTo t y b w
+unfoldable pub visibleVia : Table → ℕ → ℕ → ℕ → ℕ → ℕ → Bool
+visibleVia t d y b c w = inDomain t d y w and happens t (availableAt t c) (visibleAt t w) and visibleTo t y b w
 
 -- y meets what c makes available to that domain: a reader by way of a visibility chain, any other at once
-unfoldable pub met : Table → ℕ → ℕ → ℕ → ℕ → Bool
-met t d y b c = cond (reads (t .row y)) (anyBelow (t .rows) (shown t d y b c)) (happens t (availableAt t c) (itself y))
+unfoldable pub reaches : Table → ℕ → ℕ → ℕ → ℕ → Bool
+reaches t d y b c = cond (reads (t .row y)) (anyBelow (t .rows) (visibleVia t d y b c)) (happens t (availableAt t c) (itself y))
 
 -- the agents of x and y access a common domain, of scope k + 1, c makes available to it, and y meets that
 unfoldable pub byDomain : Table → ℕ → ℕ → ℕ → ℕ → ℕ → Bool
 byDomain t x y b c k =
-    shares (t .places) (suc k) (t .row x .agent) (t .row y .agent) and inDomain t (suc k) x c and met t (suc k) y b c
+    shares (t .places) (suc k) (t .row x .agent) (t .row y .agent) and inDomain t (suc k) x c and reaches t (suc k) y b c
 
-unfoldable pub carried : Table → ℕ → ℕ → ℕ → ℕ → Bool
-carried t x y b c = availableFrom t x b c and anyBelow DEVICE (byDomain t x y b c)
+-- what x wrote at b is made available by way of c, in a domain where y meets it
+unfoldable pub availableVia : Table → ℕ → ℕ → ℕ → ℕ → Bool
+availableVia t x y b c = availableFrom t x b c and anyBelow DEVICE (byDomain t x y b c)
 
 unfoldable pub L3 : Table → ℕ → ℕ → ℕ → Bool
-L3 t x y b = publicWrite (t .row x) (t .row y) and anyBelow (t .rows) (carried t x y b)
+L3 t x y b = publicWrite (t .row x) (t .row y) and anyBelow (t .rows) (availableVia t x y b)
 
 -- ---- L4: 003's read case for system synchronization. A read that also writes is held to L3 and L5, as in L2
 

@@ -50,8 +50,8 @@ unfolding
     Happens.step Happens.interThread Happens.holdsAll Happens.live Happens.interThreadBy Happens.happens
     Location.sameReference Location.coversOf Location.pureRead Location.publicWrite Location.L1 Location.L2 Location.availableAt Location.visibleAt
     Location.firstAvailable Location.lastVisible Location.broader Location.broadens Location.narrows Location.availabilityChain
-    Location.visibilityChain Location.availableBy Location.availableFrom Location.visibleBy Location.visibleTo Location.inDomain Location.shown
-    Location.met Location.carried Location.byDomain Location.L3 Location.systemBefore Location.L4 Location.thence Location.onHost
+    Location.visibilityChain Location.availableBy Location.availableFrom Location.visibleBy Location.visibleTo Location.inDomain Location.visibleVia
+    Location.reaches Location.availableVia Location.byDomain Location.L3 Location.systemBefore Location.L4 Location.thence Location.onHost
     Location.availableKind Location.visibleKind Location.domainKind Location.seenBy Location.metFrom Location.carriedBy Location.reachesBy
     Location.L5 Location.common Location.before
     Race.clash Race.conflict Race.unordered Race.unorderedNth Race.raceNth Race.races Race.racesAbove Race.racePartner Race.hasRace Race.raceRow
@@ -66,7 +66,7 @@ unfolding
     Refusal.outside Refusal.outsideAt Refusal.begins Refusal.unfit Refusal.tableFault Refusal.faulty Refusal.firstFault Refusal.rowFaultAt
     Refusal.admission
     Check.raceOr Check.overwrittenOr Check.cyclicOr Check.verdict Check.admitted Check.check Check.checkAnswer
-    Fill.missesAt Fill.writtenBy Fill.written Fill.hidesAt Fill.between Fill.candidate Fill.choice Fill.blank Fill.chosen Fill.sourcesFit
+    Fill.unorderedAt Fill.writtenBy Fill.written Fill.overwritesBetween Fill.between Fill.candidate Fill.choice Fill.blank Fill.chosen Fill.sourcesFit
     Fill.filledOr Fill.racingOr Fill.outcome Fill.admittedFill Fill.fill
     Reason.judge Reason.admittedReader Reason.judged Reason.twoMoments Reason.accepts
     Report.conflictMutual Report.orderedAt Report.orderedNth Report.conflictOrdered Report.conflicting Report.mutuals Report.ordered Report.racing

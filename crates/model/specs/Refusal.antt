@@ -10,8 +10,11 @@ use Rattle.model.specs.declared.Row.{Row}
 use Rattle.model.specs.declared.Admission.{Admission}
 use Rattle.model.specs.declared.Admission.the-variants.{Admitted, Refused}
 use Rattle.model.specs.Limits.{AGENTS, ROWS, WORK, DEPENDENCIES, LONGEST, BYTES, ATOMIC-SHORT, ATOMIC-LONG, RUN, INITIAL, BLANK}
-use Rattle.model.specs.Row.{CONTROL, ATOMIC-READ, ATOMIC-WRITE, RELAXED, ACQUIRE, RELEASE, BOTH, plain, atomic, access, barrier, control, executionOf, sameInstance, operation, plainRead, reads, writes, ranked, acquires, releases, nonPrivate, makesAvailable, makesVisible, covers}
-use Rattle.model.specs.Table.{Table, HEADER, FIRST, HOSTS, countAt, versionAt, agentsAt, rowsAt, zeroAt, hasHosts, sizeOf, rowBytes, dependencyBytes, rowOf, sourceOf, placesOf, dependencyCount, dependencyFrom, dependencyTo, tableOf, sourcesOf}
+use Rattle.model.specs.Row.{CONTROL, ATOMIC-READ, ATOMIC-WRITE, RELAXED, ACQUIRE, RELEASE, BOTH, plain, atomic, access, barrier, control}
+use Rattle.model.specs.Row.{executionOf, sameInstance, operation, plainRead, reads, writes, ranked, acquires, releases, nonPrivate}
+use Rattle.model.specs.Row.{makesAvailable, makesVisible, covers}
+use Rattle.model.specs.Table.{Table, HEADER, FIRST, HOSTS, countAt, versionAt, agentsAt, rowsAt, zeroAt, hasHosts, sizeOf, rowBytes}
+use Rattle.model.specs.Table.{dependencyBytes, rowOf, sourceOf, placesOf, dependencyCount, dependencyFrom, dependencyTo, tableOf, sourcesOf}
 use Rattle.model.specs.Scope.{INVOCATION, DEVICE, HOST, QUEUE, agentKind, shares, sameLocation, mutualRows, mutually, age}
 
 -- ---- 11: the lent buffers, by their lengths; `needs` is what the second one must hold

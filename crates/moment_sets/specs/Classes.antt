@@ -83,7 +83,8 @@ joinsHolder w x = bit w (HOLD * 64 + (3 * x + 1)) and anyBelow (64 * MOMENTS) (b
 
 -- ---- laws: a set is filled
 
-pub set-made : (a n : ℕ) (p : ℕ → Bool) (w v u : List ℕ) → n ≤ ROWS → a + MOMENTS ≤ length w → v ≡ zeros w a (a + MOMENTS - a) → u ≡ rowFill p v (a * 64) (3 * n)
+pub set-made : (a n : ℕ) (p : ℕ → Bool) (w v u : List ℕ) → n ≤ ROWS → a + MOMENTS ≤ length w → v ≡ zeros w a (a + MOMENTS - a)
+    → u ≡ rowFill p v (a * 64) (3 * n)
     → MadeSet a n p w u
 set-made a n p w v u few room cleared filled =
     record {
@@ -282,7 +283,8 @@ in-parts : (s c : ℕ) → anyBelow 4 (inSet s c) ≡ anyBelow 4 (λ q. bitOf s 
 unfolding inSet
 in-parts s c = refl
 
-touch-swap : (s : ℕ) (r : Row) (k : ℕ) → (holdingOf s r k or touches s r k) ≡ (cond (eqb k AT) (access r and classIn r s) (meets (classesOf r) s) or holdingOf s r k)
+touch-swap : (s : ℕ) (r : Row) (k : ℕ)
+    → (holdingOf s r k or touches s r k) ≡ (cond (eqb k AT) (access r and classIn r s) (meets (classesOf r) s) or holdingOf s r k)
 unfolding touches
 touch-swap s r k = or-swap _ _
 
@@ -323,7 +325,8 @@ release-set t n s w u h r made =
           ∙ held-own t s m (releases (t .row (m / 3)));
     }
 
-pub concern-set : (t : Table) (n s : ℕ) (w u : List ℕ) → s < 16 → Set HOLD (3 * n) (holding t s) w → Rows TOUCHED CLASSES (3 * n) (touchesTo t) w → ConcernMade s w u
+pub concern-set : (t : Table) (n s : ℕ) (w u : List ℕ) → s < 16 → Set HOLD (3 * n) (holding t s) w → Rows TOUCHED CLASSES (3 * n) (touchesTo t) w
+    → ConcernMade s w u
     → Set CONCERN (3 * n) (concerns t s) u
 unfolding touchBits both touchesTo holding concerns rel
 concern-set t n s w u l h c made =
@@ -393,7 +396,8 @@ pub touch-made : (r o : Row) (q c a x : ℕ) (d e f : Bool) (w v z u : List ℕ)
 unfolding touchWords
 touch-made r o q c a x d e f w v z u same of g b k h i j = rw (← same, ← of, ← g, ← k, ← i, ← b, ← h) j
 
-pub release-made : (w v u : List ℕ) → WORK ≤ length w → v ≡ zeros w RELEASE (RELEASE + MOMENTS - RELEASE) → u ≡ meetRow v RELEASE HOLD RELEASING MOMENTS → ReleaseMade w u
+pub release-made : (w v u : List ℕ) → WORK ≤ length w → v ≡ zeros w RELEASE (RELEASE + MOMENTS - RELEASE)
+    → u ≡ meetRow v RELEASE HOLD RELEASING MOMENTS → ReleaseMade w u
 unfolding both _or_
 release-made w v u room cleared met =
     record {
@@ -416,7 +420,8 @@ pub touch-none : (s : ℕ) (w : List ℕ) → TouchTo s 0 w w
 unfolding touchBits anyBelow
 touch-none s w = record { cell = λ m l. sym (or-off _ _ refl); frame = within-refl CONCERN CONCERN-END w }
 
-pub concern-made : (s c : ℕ) (w v x u : List ℕ) → c ≡ CLASSES → WORK ≤ length w → v ≡ zeros w CONCERN (CONCERN + MOMENTS - CONCERN) → x ≡ joinRow v CONCERN HOLD MOMENTS
+pub concern-made : (s c : ℕ) (w v x u : List ℕ) → c ≡ CLASSES → WORK ≤ length w → v ≡ zeros w CONCERN (CONCERN + MOMENTS - CONCERN)
+    → x ≡ joinRow v CONCERN HOLD MOMENTS
     → TouchTo s c x u → ConcernMade s w u
 unfolding _or_
 concern-made s c w v x u all room cleared joined h =

@@ -6,12 +6,12 @@ use mathlib.Core.List.{List}
 use Prim.Native.Nat.{ℕ, _+_, _-_, _*_, _/_, _%_, _≤_, _<_}
 use native.Mathlib.Omega.{arith}
 use native.Mathlib.Numerals.{add-one}
-use native.Mathlib.Decide.{ℕ-discrete}
+use native.Mathlib.Decide.{decLt, ℕ-discrete}
 use lib.Dec.{ltb, eqb}
 use lib.ListN.{length, getD}
 use borrow.Author.Tests.{eqb-true, eq-eqb, ltb-true, lt-ltb, le-ltb}
 use Rattle.finite.specs.Logic.{_and_, _or_, bool-ext, not-both, not-so, split, and-true, and-false-left, and-false-right, or-off, or-right}
-use Rattle.finite.specs.Below.{anyBelow, any-none, Least}
+use Rattle.finite.specs.Below.{anyBelow, any-none}
 use Rattle.bits.specs.Bit.{bit, setBit, setBit-same, setBit-other, setBitIf, setBitIf-same, setBitIf-other, zeros, bit-zeros-in}
 use Rattle.bits.specs.Within.{Within, within-refl, within-trans, within-widen, within-bit, within-setBit, within-put, within-cleared}
 use Rattle.bits.specs.Matrix.{rel}
@@ -22,7 +22,7 @@ use Rattle.model.specs.Table.{Table, dependency, dependsOf, decode}
 use Rattle.model.specs.Moment.{AT, rowIn, part}
 use Rattle.model.specs.Synchronizes.{synchronizes}
 use Rattle.area.specs.Regions.{SYNC, GRID, MOMENTS}
-use Rattle.sets.specs.Meet.{both, least-empty}
+use Rattle.sets.specs.Walk.{Next, once}
 use Rattle.moment_sets.specs.Regions.{JOINED, JOINED-END, DEPENDS, DEPENDS-END}
 use Rattle.moment_sets.specs.Known.{Rows, syncsTo, dependsTo}
 
@@ -97,10 +97,12 @@ module _ (w v u : List ℕ) (x y : ℕ) (b : Bool) (l : x < ROWS) (o : y < ROWS)
   unfolding syncBits
   off m d = bool-ext _ _ forth back
     where
-      forth : (ltb (m / 3) y and (eqb (m % 3) 1 and rel w SYNC GRID x (m / 3))) ≡ true → (ltb (m / 3) (y + 1) and (eqb (m % 3) 1 and rel w SYNC GRID x (m / 3))) ≡ true
+      forth : (ltb (m / 3) y and (eqb (m % 3) 1 and rel w SYNC GRID x (m / 3))) ≡ true
+          → (ltb (m / 3) (y + 1) and (eqb (m % 3) 1 and rel w SYNC GRID x (m / 3))) ≡ true
       forth h = let a = split h in let k = ltb-true (m / 3) y (a .0) in and-true (lt-ltb (m / 3) (y + 1) (omega arith)) (a .1)
 
-      back : (ltb (m / 3) (y + 1) and (eqb (m % 3) 1 and rel w SYNC GRID x (m / 3))) ≡ true → (ltb (m / 3) y and (eqb (m % 3) 1 and rel w SYNC GRID x (m / 3))) ≡ true
+      back : (ltb (m / 3) (y + 1) and (eqb (m % 3) 1 and rel w SYNC GRID x (m / 3))) ≡ true
+          → (ltb (m / 3) y and (eqb (m % 3) 1 and rel w SYNC GRID x (m / 3))) ≡ true
       back h =
           let a = split h in
           let k = ltb-true (m / 3) (y + 1) (a .0) in
@@ -132,19 +134,30 @@ bits-out : (w : List ℕ) (x m : ℕ) → syncBits w x m ≡ true → bit w ((SY
 unfolding syncBits rel
 bits-out w x m h = split h .1
 
--- a row that synchronizes-with none
-pub spread-skip : (w : List ℕ) (n x k : ℕ) → n ≤ ROWS → Least (64 * GRID) (both w (SYNC + x * GRID) (SYNC + x * GRID)) k → 64 * GRID ≤ k → Spread w w x n
-spread-skip w n x k few least far =
+-- the walk passes over rows that x does not synchronize-with
+pub spread-next : (w v : List ℕ) (n x y r : ℕ) → n ≤ ROWS → x < ROWS → Spread w v x y → Next v (SYNC + x * GRID) (SYNC + x * GRID) y n r → Spread w v x r
+spread-next w v n x y r few l s next =
     record {
-      cell = λ m l. sym (or-off _ _ (not-so _ (λ h. none m h)));
-      frame = within-refl (JOINED + x * MOMENTS) (JOINED + x * MOMENTS + MOMENTS) w;
+      cell = λ m o. s .cell m o ∙ ap (λ (z : Bool). rel w JOINED MOMENTS x m or z) (bool-ext _ _ (forth m) (back m));
+      frame = s .frame;
     }
   where
-    none : (m : ℕ) → (ltb (m / 3) n and syncBits w x m) ≡ true → ⊥
-    none m h =
+    forth : (m : ℕ) → (ltb (m / 3) y and syncBits w x m) ≡ true → (ltb (m / 3) r and syncBits w x m) ≡ true
+    forth m h =
         let a = split h in
-        let l = ltb-true (m / 3) n (a .0) in
-        not-both (bits-out w x m (a .1)) (least-empty w (SYNC + x * GRID) GRID k least far (m / 3) (omega arith))
+        let low = next .low in
+        let k = ltb-true (m / 3) y (a .0) in
+        and-true (lt-ltb (m / 3) r (omega arith)) (a .1)
+
+    back : (m : ℕ) → (ltb (m / 3) r and syncBits w x m) ≡ true → (ltb (m / 3) y and syncBits w x m) ≡ true
+    back m h = go (ltb-true (m / 3) r (split h .0)) (split h .1) (decLt (m / 3) y)
+      where
+        go : m / 3 < r → syncBits w x m ≡ true → Dec (m / 3 < y) → (ltb (m / 3) y and syncBits w x m) ≡ true
+        go k e (yes o) = and-true (lt-ltb (m / 3) y o) e
+        go k e (no o) =
+            let high = next .high in
+            not-both (within-bit (s .frame) ((SYNC + x * GRID) * 64 + m / 3) (λ z. absurd (omega arith)) ∙ bits-out w x m e)
+            (once v (SYNC + x * GRID) (m / 3) (next .miss (m / 3) (omega arith) k))
 
 -- ---- laws: all rows
 
@@ -191,7 +204,8 @@ joined-made n w v u few cleared h =
     f = within-cleared JOINED JOINED-END (omega arith) cleared
 
 -- the bits are the table's
-pub joined-is : (t : Table) (n : ℕ) (w u : List ℕ) → Holds SYNC GRID n (synchronizes t) w → Rows JOINED n (3 * n) (syncBits w) u → Rows JOINED n (3 * n) (syncsTo t) u
+pub joined-is : (t : Table) (n : ℕ) (w u : List ℕ) → Holds SYNC GRID n (synchronizes t) w → Rows JOINED n (3 * n) (syncBits w) u
+    → Rows JOINED n (3 * n) (syncsTo t) u
 unfolding syncBits syncsTo
 joined-is t n w u h r =
     record { fits = r .fits; cell = λ x m l o. r .cell x m l o ∙ ap (λ (z : Bool). eqb (m % 3) 1 and z) (h .cell x (m / 3) l (omega arith)) }
@@ -237,7 +251,8 @@ module _ (mode : Mode) (n c x y : ℕ) (w : List ℕ) (ex : x ≡ getD (mode .fi
   past-second l =
       record { cell = λ i m p q. sym (or-off _ _ (not-so _ (λ h. let e = alone i m h .1 in omega arith))); frame = within-refl DEPENDS DEPENDS-END w }
 
-  pub depend-put : (u : List ℕ) → n ≤ ROWS → WORK ≤ length w → x < n → y < n → u ≡ setBit w ((DEPENDS + x * MOMENTS) * 64 + (3 * y + 1)) → DependAdded mode n c w u
+  pub depend-put : (u : List ℕ) → n ≤ ROWS → WORK ≤ length w → x < n → y < n → u ≡ setBit w ((DEPENDS + x * MOMENTS) * 64 + (3 * y + 1))
+      → DependAdded mode n c w u
   unfolding rel
   depend-put u few room l o put =
       record {
@@ -273,7 +288,8 @@ depends-none mode n w v few room cleared =
       frame = within-refl DEPENDS DEPENDS-END v;
     }
 
-pub depends-made : (mode : Mode) (n c k : ℕ) (w v u : List ℕ) → c ≡ k → v ≡ zeros w DEPENDS (DEPENDS-END - DEPENDS) → MadeDepends mode n c v u → MadeDepends mode n k w u
+pub depends-made : (mode : Mode) (n c k : ℕ) (w v u : List ℕ) → c ≡ k → v ≡ zeros w DEPENDS (DEPENDS-END - DEPENDS) → MadeDepends mode n c v u
+    → MadeDepends mode n k w u
 depends-made mode n c k w v u e cleared h =
     subst (λ (z : ℕ). MadeDepends mode n z w u) e
     (record { depends = h .depends; frame = within-trans (within-cleared DEPENDS DEPENDS-END (omega arith) cleared) (h .frame) })

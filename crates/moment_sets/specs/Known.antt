@@ -152,7 +152,8 @@ setup-hops f p =
       ready = ready-kept (omega arith) f (p .ready);
     }
 
-pub setup-happens : {bs : List ℕ} {t : Table} {n s : ℕ} {dep : Bool} {w u : List ℕ} → Within HAPPENS HAPPENS-END w u → Setup bs t n s dep w → Setup bs t n s dep u
+pub setup-happens : {bs : List ℕ} {t : Table} {n s : ℕ} {dep : Bool} {w u : List ℕ} → Within HAPPENS HAPPENS-END w u → Setup bs t n s dep w
+    → Setup bs t n s dep u
 setup-happens f p =
     record {
       few = p .few;

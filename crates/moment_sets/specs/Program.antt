@@ -249,7 +249,8 @@ unfolding decode
 decode-rows b p mode n = refl
 
 -- all words are cleared: nothing was passed
-pub passed-start : (t : Table) (n : ℕ) (w v : List ℕ) → t .rows ≡ n → n ≤ ROWS → WORK ≤ length w → v ≡ zeros w HAPPENS (AGENTS-END - HAPPENS) → Passed t n (3 * n) v
+pub passed-start : (t : Table) (n : ℕ) (w v : List ℕ) → t .rows ≡ n → n ≤ ROWS → WORK ≤ length w → v ≡ zeros w HAPPENS (AGENTS-END - HAPPENS)
+    → Passed t n (3 * n) v
 unfolding rel
 passed-start t n w v same few room cleared =
     record {

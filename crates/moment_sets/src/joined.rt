@@ -4,28 +4,20 @@ ghost use lib.ListN.{length};
 ghost use Rattle.model.specs.Limits.{ROWS, WORK};
 ghost use Rattle.moment_sets.specs.Joined.{Spread, MadeJoined, DependAdded, MadeDepends};
 use model::Mode;
+use sets::walk;
 
 // ---- synchronizes-with
 
-// Spreads the bits of row x out, from rows to own moments.
-fn spread_bits(w: &mut [u64], n: usize, x: usize)
-    requires { ⌜ (n ≤ ROWS) × (x < n) × (WORK ≤ length (now w)) ⌝ }
-    ensures { λ _. ⌜ Spread (now (w .entry)) (now (w .exit)) x n ⌝ }
-{
-    for y in 0..n {
-        let b = area::grid::get(w, area::SYNC, x, y);
-        area::moments::put_if(w, crate::JOINED, x, 3 * y + 1, b);
-    }
-}
-
-// The same; most rows synchronize-with none, and no bit is asked.
+// Spreads the bits of row x out, from rows to own moments. Most rows synchronize-with few or none.
 fn spread_row(w: &mut [u64], n: usize, x: usize)
     requires { ⌜ (n ≤ ROWS) × (x < n) × (WORK ≤ length (now w)) ⌝ }
     ensures { λ _. ⌜ Spread (now (w .entry)) (now (w .exit)) x n ⌝ }
 {
-    let a = area::SYNC + x * area::GRID;
-    if sets::first_both(w, a, a, area::GRID) < 64 * area::GRID {
-        spread_bits(w, n, x);
+    let at = area::SYNC + x * area::GRID;
+    let mut y = walk::next(w, at, at, 0, n);
+    while y < n {
+        area::moments::put_if(w, crate::JOINED, x, 3 * y + 1, true);
+        y = walk::next(w, at, at, y + 1, n);
     }
 }
 

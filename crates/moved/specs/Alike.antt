@@ -115,10 +115,12 @@ module _ {t u : Table} {π : Renumbering (t .rows)} (M : Alike t u π) where
   unfolding thrice
   some-moment p q f = rw (M .rows) (any-to (thrice π) p q f)
 
-  pub moment-path : (r d : ℕ → ℕ → Bool) → ((m k : ℕ) → d (mo m) (mo k) ≡ r m k) → (m k : ℕ) → through d (3 * u .rows) (mo m) (mo k) ≡ through r (3 * t .rows) m k
+  pub moment-path : (r d : ℕ → ℕ → Bool) → ((m k : ℕ) → d (mo m) (mo k) ≡ r m k) → (m k : ℕ)
+      → through d (3 * u .rows) (mo m) (mo k) ≡ through r (3 * t .rows) m k
   unfolding thrice
   moment-path r d f m k = rw (M .rows) (through-to (thrice π) r d f m k)
 
   -- a path of rows
-  pub row-path : (r d : ℕ → ℕ → Bool) → ((x y : ℕ) → d (π .to x) (π .to y) ≡ r x y) → (x y : ℕ) → through d (u .rows) (π .to x) (π .to y) ≡ through r (t .rows) x y
+  pub row-path : (r d : ℕ → ℕ → Bool) → ((x y : ℕ) → d (π .to x) (π .to y) ≡ r x y) → (x y : ℕ)
+      → through d (u .rows) (π .to x) (π .to y) ≡ through r (t .rows) x y
   row-path r d f x y = rw (M .rows) (through-to π r d f x y)

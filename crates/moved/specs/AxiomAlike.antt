@@ -11,7 +11,8 @@ use Rattle.model.specs.Limits.{LONGEST, INITIAL, ROWS}
 use Rattle.model.specs.Table.{Table}
 use Rattle.model.specs.Location.{before}
 use Rattle.model.specs.Race.{nth}
-use Rattle.model.specs.Edge.{beforeNth, beforeSome, readsFrom, fromReads, edge, cycleRow, overwrites, overwritesNth, overNth, overwriting, overWriter, isOverwritten, overReader, consistent}
+use Rattle.model.specs.Edge.{beforeNth, beforeSome, readsFrom, fromReads, edge, cycleRow, overwrites, overwritesNth, overNth, overwriting, overWriter}
+use Rattle.model.specs.Edge.{isOverwritten, overReader, consistent}
 use Rattle.moved.specs.Renumber.{Renumbering, eqb-to, eqb-stays, ltb-to, some-cycle-to}
 use Rattle.moved.specs.Alike.{Alike, some-row}
 use Rattle.moved.specs.OrderAlike.{follows-alike}

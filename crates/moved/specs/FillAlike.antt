@@ -11,7 +11,7 @@ use Rattle.model.specs.Limits.{LONGEST, INITIAL, BLANK, ROWS}
 use Rattle.model.specs.Row.{plainRead}
 use Rattle.model.specs.Table.{Table}
 use Rattle.model.specs.Refusal.{writerFits, sourceFits, sourceBroken}
-use Rattle.model.specs.Fill.{missesAt, writtenBy, written, hidesAt, between, candidate, choice, blank, chosen, sourcesFit}
+use Rattle.model.specs.Fill.{unorderedAt, writtenBy, written, overwritesBetween, between, candidate, choice, blank, chosen, sourcesFit}
 use Rattle.laws.specs.ChoiceLaws.{NoRace, Fair, candidates-same}
 use Rattle.moved.specs.Renumber.{Renumbering, eqb-to, eqb-stays, ltb-to, least-to}
 use Rattle.moved.specs.Alike.{Alike, some-row}
@@ -41,8 +41,8 @@ module _ {t u : Table} {π : Renumbering (t .rows)} (M : Alike t u π) where
 
   -- ---- the source of a blank
 
-  misses-alike : (y s k : ℕ) → missesAt u (π .to y) (π .to s) k ≡ missesAt t y s k
-  unfolding missesAt
+  misses-alike : (y s k : ℕ) → unorderedAt u (π .to y) (π .to s) k ≡ unorderedAt t y s k
+  unfolding unorderedAt
   misses-alike y s k = rw (nth-alike M s y y k, M .row y) refl
 
   by-alike : (y z : ℕ) → writtenBy u (π .to y) (π .to z) ≡ writtenBy t y z
@@ -53,21 +53,21 @@ module _ {t u : Table} {π : Renumbering (t .rows)} (M : Alike t u π) where
   unfolding written
   written-alike y = some-row M (writtenBy t y) (writtenBy u (π .to y)) (by-alike y)
 
-  hides-alike : (y s z k : ℕ) → hidesAt u (π .to y) (π .to s) (π .to z) k ≡ hidesAt t y s z k
-  unfolding hidesAt
+  hides-alike : (y s z k : ℕ) → overwritesBetween u (π .to y) (π .to s) (π .to z) k ≡ overwritesBetween t y s z k
+  unfolding overwritesBetween
   hides-alike y s z k = rw (nth-alike M s z y k, nth-alike M z y y k) refl
 
   between-alike : (y s z : ℕ) → between u (π .to y) (π .to s) (π .to z) ≡ between t y s z
   unfolding between
   between-alike y s z =
-      rw (M .row z, follows-alike M s z, some-alike M z y, any-cong (hidesAt u (π .to y) (π .to s) (π .to z)) (hidesAt t y s z) LONGEST (λ k l. hides-alike y s z k)) refl
+      rw (M .row z, follows-alike M s z, some-alike M z y, any-cong (overwritesBetween u (π .to y) (π .to s) (π .to z)) (overwritesBetween t y s z) LONGEST (λ k l. hides-alike y s z k)) refl
 
   candidate-alike : (y s : ℕ) → candidate u (π .to y) (π .to s) ≡ candidate t y s
   unfolding candidate
   candidate-alike y s =
       rw (
         writer-alike y s,
-        any-cong (missesAt u (π .to y) (π .to s)) (missesAt t y s) LONGEST (λ k l. misses-alike y s k),
+        any-cong (unorderedAt u (π .to y) (π .to s)) (unorderedAt t y s) LONGEST (λ k l. misses-alike y s k),
         some-row M (between t y s) (between u (π .to y) (π .to s)) (between-alike y s),
       )
       refl
@@ -101,6 +101,7 @@ module _ {t u : Table} {π : Renumbering (t .rows)} (M : Alike t u π) where
       unfolding chosen
       chosen-alike i l = rw (blank-alike i l) (go (which (blank t a i)))
         where
-          go : (blank t a i ≡ true) ⊎ (blank t a i ≡ false) → cond (blank t a i) (choice u (π .to i)) (b (π .to i)) ≡ π .to (cond (blank t a i) (choice t i) (a i))
+          go : (blank t a i ≡ true) ⊎ (blank t a i ≡ false)
+              → cond (blank t a i) (choice u (π .to i)) (b (π .to i)) ≡ π .to (cond (blank t a i) (choice t i) (a i))
           go (inl e) = rw e (choice-alike i l (blank-plain i e))
           go (inr e) = rw e (source i l)

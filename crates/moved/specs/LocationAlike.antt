@@ -10,7 +10,10 @@ use Rattle.model.specs.Table.{Table}
 use Rattle.model.specs.Scope.{DEVICE}
 use Rattle.model.specs.Moment.{BEFORE, AFTER, itself, sameAgent}
 use Rattle.model.specs.Happens.{happens}
-use Rattle.model.specs.Location.{L1, L2, availableAt, visibleAt, firstAvailable, lastVisible, broader, broadens, narrows, availabilityChain, visibilityChain, availableBy, availableFrom, visibleBy, visibleTo, inDomain, shown, met, carried, byDomain, L3, systemBefore, L4, thence, onHost, availableKind, visibleKind, domainKind, seenBy, metFrom, carriedBy, reachesBy, L5, before}
+use Rattle.model.specs.Location.{L1, L2, availableAt, visibleAt, firstAvailable, lastVisible, broader, broadens, narrows, availabilityChain}
+use Rattle.model.specs.Location.{visibilityChain, availableBy, availableFrom, visibleBy, visibleTo, inDomain, visibleVia, reaches, availableVia}
+use Rattle.model.specs.Location.{byDomain, L3, systemBefore, L4, thence, onHost, availableKind, visibleKind, domainKind, seenBy, metFrom, carriedBy}
+use Rattle.model.specs.Location.{reachesBy, L5, before}
 use Rattle.moved.specs.Renumber.{Renumbering, moment-at, moment-part, eqb-to}
 use Rattle.moved.specs.Alike.{Alike, mo, some-row, row-path}
 use Rattle.moved.specs.OrderAlike.{availability-alike, visibility-alike, order-alike, happens-alike}
@@ -103,27 +106,27 @@ module _ {t u : Table} {π : Renumbering (t .rows)} (M : Alike t u π) where
   unfolding inDomain
   in-domain-alike d x i = rw (M .row x, M .row i, M .places) refl
 
-  shown-alike : (d y b c w : ℕ) → shown u d (π .to y) b (π .to c) (π .to w) ≡ shown t d y b c w
-  unfolding shown
+  shown-alike : (d y b c w : ℕ) → visibleVia u d (π .to y) b (π .to c) (π .to w) ≡ visibleVia t d y b c w
+  unfolding visibleVia
   shown-alike d y b c w = rw (in-domain-alike d y w, available-at c, visible-at w, happens-alike M (availableAt t c) (visibleAt t w), to-alike y b w) refl
 
-  met-alike : (d y b c : ℕ) → met u d (π .to y) b (π .to c) ≡ met t d y b c
-  unfolding met
+  met-alike : (d y b c : ℕ) → reaches u d (π .to y) b (π .to c) ≡ reaches t d y b c
+  unfolding reaches
   met-alike d y b c =
-      rw (M .row y, some-row M (shown t d y b c) (shown u d (π .to y) b (π .to c)) (shown-alike d y b c), available-at c, at y, happens-alike M (availableAt t c) (itself y)) refl
+      rw (M .row y, some-row M (visibleVia t d y b c) (visibleVia u d (π .to y) b (π .to c)) (shown-alike d y b c), available-at c, at y, happens-alike M (availableAt t c) (itself y)) refl
 
   by-domain-alike : (x y b c k : ℕ) → byDomain u (π .to x) (π .to y) b (π .to c) k ≡ byDomain t x y b c k
   unfolding byDomain
   by-domain-alike x y b c k = rw (M .row x, M .row y, in-domain-alike (suc k) x c, met-alike (suc k) y b c, M .places) refl
 
-  carried-alike : (x y b c : ℕ) → carried u (π .to x) (π .to y) b (π .to c) ≡ carried t x y b c
-  unfolding carried
+  carried-alike : (x y b c : ℕ) → availableVia u (π .to x) (π .to y) b (π .to c) ≡ availableVia t x y b c
+  unfolding availableVia
   carried-alike x y b c =
       rw (from-alike x b c, any-cong (byDomain u (π .to x) (π .to y) b (π .to c)) (byDomain t x y b c) DEVICE (λ k l. by-domain-alike x y b c k)) refl
 
   L3-alike : (x y b : ℕ) → L3 u (π .to x) (π .to y) b ≡ L3 t x y b
   unfolding L3
-  L3-alike x y b = rw (M .row x, M .row y, some-row M (carried t x y b) (carried u (π .to x) (π .to y) b) (carried-alike x y b)) refl
+  L3-alike x y b = rw (M .row x, M .row y, some-row M (availableVia t x y b) (availableVia u (π .to x) (π .to y) b) (carried-alike x y b)) refl
 
   -- ---- L4
 

@@ -12,7 +12,8 @@ use Rattle.model.specs.Fill.{filled, fill}
 use Rattle.model.specs.Opened.{opened}
 use Rattle.moved.specs.Renumber.{Renumbering}
 use Rattle.moved.specs.Moved.{Moved}
-use Rattle.moved.specs.Tried.{undoes, by-list, listed, sameHead, sameByte, sameRow, inOrder, ordered, sameDependency, sameDependencies, isMoved, moved-by-test}
+use Rattle.moved.specs.Tried.{undoes, by-list, listed, sameHead, sameByte, sameRow, inOrder, ordered, sameDependency, sameDependencies, isMoved}
+use Rattle.moved.specs.Tried.{moved-by-test}
 
 -- ---- tables: as the model's runs have them
 

@@ -11,7 +11,8 @@ use Rattle.model.specs.Limits.{CLASS-SETS}
 use Rattle.model.specs.Table.{Table}
 use Rattle.model.specs.Scope.{mutually, follows}
 use Rattle.model.specs.Moment.{momentIn, orderedRows, availability, visibility, sameAgent, programOrder}
-use Rattle.model.specs.Synchronizes.{ends, sequence, takesFrom, leads, trails, syncAtomics, carriesOut, syncFromBarrier, carriesIn, syncToBarrier, carriesOver, syncBarriers, upTo, joins, arrives, passes, syncControl, synchronizes}
+use Rattle.model.specs.Synchronizes.{ends, sequence, takesFrom, leads, trails, syncAtomics, carriesOut, syncFromBarrier, carriesIn, syncToBarrier}
+use Rattle.model.specs.Synchronizes.{carriesOver, syncBarriers, upTo, joins, arrives, passes, syncControl, synchronizes}
 use Rattle.model.specs.Happens.{holding, concerns, bySync, toRelease, fromAcquire, bySystem, step, interThread, holdsAll, live, interThreadBy, happens}
 use Rattle.moved.specs.Renumber.{Renumbering, row-of, part-of, eqb-to, ltb-to}
 use Rattle.moved.specs.Alike.{Alike, and-left-so, ltb-kept, leb-kept, mo, row-at, ltb-moment, some-row, moment-path}

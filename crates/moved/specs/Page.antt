@@ -29,7 +29,8 @@ use Rattle.moved.specs.Moved.{Moved}
 use Rattle.moved.specs.Alike.{Alike}
 use Rattle.moved.specs.RaceAlike.{race-alike}
 use Rattle.moved.specs.MovedAlike.{rows-is, rows-same, to-rows, few-of, sized-of, of-table, moved-alike, sources-moved}
-use Rattle.moved.specs.VerdictAlike.{checkWord, fillWord, verdict-alike, chosen-moved, passes-alike, racing, passing, outcome-is, settled-word, race, none, filled}
+use Rattle.moved.specs.VerdictAlike.{checkWord, fillWord, verdict-alike, chosen-moved, passes-alike, racing, passing, outcome-is, settled-word}
+use Rattle.moved.specs.VerdictAlike.{race, none, filled}
 
 -- ---- the theorems
 
@@ -96,7 +97,8 @@ module _ (chains : Bool) (s s′ : List ℕ) (π : Renumbering (rowsAt s)) (move
           λ i m. at i m (p .0) (p .2),
         )
       where
-        at : (i : ℕ) → i < rowsAt s → racing (tableUnder chains s) ≡ false → tabulate (chosen (tableUnder chains s) (sourcesOf s)) (tableUnder chains s .rows) ≡ l
+        at : (i : ℕ) → i < rowsAt s → racing (tableUnder chains s) ≡ false
+            → tabulate (chosen (tableUnder chains s) (sourcesOf s)) (tableUnder chains s .rows) ≡ l
             → getD (tabulate (chosen (tableUnder chains s′) (sourcesOf s′)) (tableUnder chains s′ .rows)) (π .to i) 0 ≡ π .to (getD l i 0)
         at i m e q =
             getD-tabulate (chosen (tableUnder chains s′) (sourcesOf s′)) (tableUnder chains s′ .rows) (π .to i) 0 (to-rows chains s′ (subst (λ (n : ℕ). π .to i < n) (sym (rows-same moved h h′)) (to-below π i m)))

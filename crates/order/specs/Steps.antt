@@ -40,8 +40,10 @@ pub record CellMade (b : List ℕ) (n s m k : ℕ) (w u : List ℕ) : Type 0 whe
 -- among them those from m to the first k moments and from these to m
 pub record RowMade (b : List ℕ) (n s m k : ℕ) (w u : List ℕ) : Type 0 where
   pub grown : Grown b n s w u
-  pub from : (p : List (List ℕ)) (mode : Mode) → Synced (decode b p mode n) n w → (j : ℕ) → j < k → step₁ (decode b p mode n) s m j ≡ true → rel u STEP MOMENTS m j ≡ true
-  pub to : (p : List (List ℕ)) (mode : Mode) → Synced (decode b p mode n) n w → (j : ℕ) → j < k → step₁ (decode b p mode n) s j m ≡ true → rel u STEP MOMENTS j m ≡ true
+  pub from : (p : List (List ℕ)) (mode : Mode) → Synced (decode b p mode n) n w → (j : ℕ) → j < k → step₁ (decode b p mode n) s m j ≡ true
+      → rel u STEP MOMENTS m j ≡ true
+  pub to : (p : List (List ℕ)) (mode : Mode) → Synced (decode b p mode n) n w → (j : ℕ) → j < k → step₁ (decode b p mode n) s j m ≡ true
+      → rel u STEP MOMENTS j m ≡ true
 
 -- among them those from and to the own moments of the first j rows that hold all of s
 pub record RowsMade (b : List ℕ) (n s j : ℕ) (w u : List ℕ) : Type 0 where
@@ -56,7 +58,8 @@ pub record RowsMade (b : List ℕ) (n s j : ℕ) (w u : List ℕ) : Type 0 where
 pub grown-none : (b : List ℕ) (n s : ℕ) (w : List ℕ) → Grown b n s w w
 grown-none b n s w = record { frame = within-refl STEP STEP-END w; kept = λ i j p q h. h; sound = λ p mode y i j l o h. or-left _ h }
 
-synced-on : {b : List ℕ} {n s : ℕ} {w u : List ℕ} (p : List (List ℕ)) (mode : Mode) → Grown b n s w u → Synced (decode b p mode n) n w → Synced (decode b p mode n) n u
+synced-on : {b : List ℕ} {n s : ℕ} {w u : List ℕ} (p : List (List ℕ)) (mode : Mode) → Grown b n s w u → Synced (decode b p mode n) n w
+    → Synced (decode b p mode n) n u
 synced-on p mode g y = synced-kept (omega arith) (g .frame) y
 
 pub grown-more : {b : List ℕ} {n s : ℕ} {w v u : List ℕ} → Grown b n s w v → Grown b n s v u → Grown b n s w u
@@ -116,7 +119,8 @@ cell-made b n s m k i c d w u few room l o e f at put =
     kept x y p q h (yes a) (no z) = rest x y p q (λ t. z (t .1)) ∙ h
     kept x y p q h (no a) z = rest x y p q (λ t. a (t .0)) ∙ h
 
-    sound : (p : List (List ℕ)) (mode : Mode) → Synced (decode b p mode n) n w → (x y : ℕ) → x < 3 * n → y < 3 * n → rel u STEP MOMENTS x y ≡ true → Dec (x ≡ m) → Dec (y ≡ k)
+    sound : (p : List (List ℕ)) (mode : Mode) → Synced (decode b p mode n) n w → (x y : ℕ) → x < 3 * n → y < 3 * n → rel u STEP MOMENTS x y ≡ true
+        → Dec (x ≡ m) → Dec (y ≡ k)
         → (rel w STEP MOMENTS x y or step₁ (decode b p mode n) s x y) ≡ true
     sound p mode t x y q r h (yes a) (yes z) = rw (a, z, ← is p mode t, ← one) (rw (a, z) at h)
     sound p mode t x y q r h (yes a) (no z) = or-left _ (sym (rest x y q r (λ v. z (v .1))) ∙ h)
@@ -204,7 +208,8 @@ steps-made b p mode n s w v u few room y cleared h =
     fresh : (i j : ℕ) → i < 3 * n → j < 3 * n → rel v STEP MOMENTS i j ≡ false
     fresh i j l o = rw cleared (bit-zeros-in w STEP (STEP-END - STEP) ((STEP + i * MOMENTS) * 64 + j) (omega arith) (omega arith) (omega arith))
 
-    clean : (i j : ℕ) → i < 3 * n → j < 3 * n → (rel v STEP MOMENTS i j ≡ true) ⊎ (step₁ (decode b p mode n) s i j ≡ true) → step₁ (decode b p mode n) s i j ≡ true
+    clean : (i j : ℕ) → i < 3 * n → j < 3 * n → (rel v STEP MOMENTS i j ≡ true) ⊎ (step₁ (decode b p mode n) s i j ≡ true)
+        → step₁ (decode b p mode n) s i j ≡ true
     clean i j l o (inl e) = not-both e (fresh i j l o)
     clean i j l o (inr e) = e
 

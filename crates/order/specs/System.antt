@@ -91,13 +91,15 @@ module _ (mode : Mode) (n c x y : ℕ) (w : List ℕ) (ex : x ≡ getD (mode .fi
     unfolding rel
     same = rw (put, at) (setBit-same w ((STEP + (3 * x + 1) * MOMENTS) * 64 + (3 * y + 1)) (omega arith))
 
-    other : (m k : ℕ) → m < 3 * n → k < 3 * n → ((m ≡ 3 * x + 1) × (k ≡ 3 * y + 1) → ⊥) → rel u STEP MOMENTS m k ≡ (rel w STEP MOMENTS m k or systemBy mode c m k)
+    other : (m k : ℕ) → m < 3 * n → k < 3 * n → ((m ≡ 3 * x + 1) × (k ≡ 3 * y + 1) → ⊥)
+        → rel u STEP MOMENTS m k ≡ (rel w STEP MOMENTS m k or systemBy mode c m k)
     unfolding rel
     other m k p q h =
         rw put (setBit-other w i ((STEP + m * MOMENTS) * 64 + k) (λ e. h (omega arith, omega arith)))
         ∙ sym (or-off _ _ (not-so _ (λ e. h (alone m k e))))
 
-    cell : (m k : ℕ) → m < 3 * n → k < 3 * n → Dec (m ≡ 3 * x + 1) → Dec (k ≡ 3 * y + 1) → rel u STEP MOMENTS m k ≡ (rel w STEP MOMENTS m k or systemBy mode c m k)
+    cell : (m k : ℕ) → m < 3 * n → k < 3 * n → Dec (m ≡ 3 * x + 1) → Dec (k ≡ 3 * y + 1)
+        → rel u STEP MOMENTS m k ≡ (rel w STEP MOMENTS m k or systemBy mode c m k)
     cell m k p q (yes e) (yes f) = rw (e, f) (same ∙ sym (or-right _ there))
     cell m k p q (yes e) (no f) = other m k p q (λ h. f (h .1))
     cell m k p q (no e) f = other m k p q (λ h. e (h .0))
@@ -124,7 +126,8 @@ all-more mode n c {w} f g =
     }
 
 -- after the three direct cases that go by rows
-pub step-made : (b : List ℕ) (p : List (List ℕ)) (mode : Mode) (n s : ℕ) {w v u : List ℕ} → Made STEP STEP-END STEP MOMENTS (3 * n) (step₁ (decode b p mode n) s) w v
+pub step-made : (b : List ℕ) (p : List (List ℕ)) (mode : Mode) (n s : ℕ) {w v u : List ℕ}
+    → Made STEP STEP-END STEP MOMENTS (3 * n) (step₁ (decode b p mode n) s) w v
     → Added STEP STEP-END STEP MOMENTS (3 * n) (systemTo mode (mode .dependencies)) v u → Made STEP STEP-END STEP MOMENTS (3 * n) (step (decode b p mode n) s) w u
 step-made b p mode n s f g = record { holds = holds-cong (λ m k l o. both m k) (holds-added (f .holds) g); frame = within-trans (f .frame) (g .frame) }
   where

@@ -70,7 +70,8 @@ module _ (chains : Bool) where
     unfolding report reportAnswer checkAnswer opened
     report-opens e t = ap (λ (v : Verdict). reportAnswer (checkAnswer v) (tableUnder chains t)) (check-opens e t) ∙ go (admission false t)
       where
-        go : (a : Admission) → reportAnswer (checkAnswer (opened verdicts.refused (verdictOf t) a)) (tableUnder chains t) ≡ opened told.Refused (reportOfTable t) a
+        go : (a : Admission)
+            → reportAnswer (checkAnswer (opened verdicts.refused (verdictOf t) a)) (tableUnder chains t) ≡ opened told.Refused (reportOfTable t) a
         go (Refused n i) = refl
         go (Admitted g n) = refl
 
@@ -81,7 +82,8 @@ module _ (chains : Bool) where
     same-report : (f : List ℕ) → shapeFault f ≡ 0 → reportOfTable (joined f []) ≡ reportOfTable f
     same-report f z = ap₂ (λ (v : Verdict) (t : Table). reportAnswer (checkAnswer v) t) (same-verdict f z) (none-table f z chains)
 
-    pub report-both : (f s : List ℕ) → reportBoth chains f s work buffer ≡ opened told.Refused (reportOfTable (joined f s)) (doorBoth CYCLE false f s work buffer)
+    pub report-both : (f s : List ℕ)
+        → reportBoth chains f s work buffer ≡ opened told.Refused (reportOfTable (joined f s)) (doorBoth CYCLE false f s work buffer)
     unfolding reportBoth
     report-both f s = door-opened told.Refused (λ t. report chains t work buffer) reportOfTable false CYCLE work buffer report-opens f s
 
@@ -132,7 +134,8 @@ module _ (m k : ℕ) where
   derived-is (Admitted g n) v = refl
 
   module _ (work buffer : ℕ) where
-    derive-opens : buffersFit CHAIN work buffer ≡ true → (t : List ℕ) → derive t m k work buffer ≡ opened not-derived (derivedOf (tableOf t) m k) (admission true t)
+    derive-opens : buffersFit CHAIN work buffer ≡ true → (t : List ℕ)
+        → derive t m k work buffer ≡ opened not-derived (derivedOf (tableOf t) m k) (admission true t)
     unfolding derive
     derive-opens e t = rw e (derived-is (admission true t) (derivedOf (tableOf t) m k))
 
@@ -140,7 +143,8 @@ module _ (m k : ℕ) where
     unfolding derive
     derive-short e t = rw e refl
 
-    pub derive-both : (f s : List ℕ) → deriveBoth f s m k work buffer ≡ opened not-derived (derivedOf (tableOf (joined f s)) m k) (doorBoth CHAIN true f s work buffer)
+    pub derive-both : (f s : List ℕ)
+        → deriveBoth f s m k work buffer ≡ opened not-derived (derivedOf (tableOf (joined f s)) m k) (doorBoth CHAIN true f s work buffer)
     unfolding deriveBoth
     derive-both f s = door-opened not-derived (λ t. derive t m k work buffer) (λ t. derivedOf (tableOf t) m k) true CHAIN work buffer derive-opens f s
 

@@ -25,7 +25,8 @@ use Rattle.table.specs.Rows.{shapeFault}
 use Rattle.table.proofs.Laws.{shape-refused, header-refused}
 use Rattle.pieces.specs.declared.Refusal.{Refusal}
 use Rattle.pieces.specs.Pieces.{AREA, areaOf, rowsBoth, piecesFault, joined, ofBoth, admissionBoth}
-use Rattle.pieces.specs.PiecesLaws.{getD-zeros, both-fit, joined-rows, joined-places, joined-mode, joined-front, of-joined, of-refused, none-fault, none-admission}
+use Rattle.pieces.specs.PiecesLaws.{getD-zeros, both-fit, joined-rows, joined-places, joined-mode, joined-front, of-joined, of-refused}
+use Rattle.pieces.specs.PiecesLaws.{none-fault, none-admission}
 
 -- ---- definitions
 
@@ -77,15 +78,18 @@ module _ {A : Type 0} (refused : ℕ → ℕ → A) (v : A) (a b : Admission) (e
   opened-admitted h = rw (← e, h) refl
 
 -- refusal 11, from the two lengths
-pub door-short : (needs : ℕ) (blanks : Bool) (f s : List ℕ) (work buffer : ℕ) → not (leb WORK work and leb needs buffer) ≡ true → Refused 11 0 ≡ doorBoth needs blanks f s work buffer
+pub door-short : (needs : ℕ) (blanks : Bool) (f s : List ℕ) (work buffer : ℕ) → not (leb WORK work and leb needs buffer) ≡ true
+    → Refused 11 0 ≡ doorBoth needs blanks f s work buffer
 unfolding doorBoth buffersFit
 door-short needs blanks f s work buffer e = rw (not-out (leb WORK work and leb needs buffer) e) refl
 
-pub door-wide : (needs : ℕ) (blanks : Bool) (f s : List ℕ) (work buffer : ℕ) → not (leb WORK work and leb needs buffer) ≡ false → admissionBoth blanks f s ≡ doorBoth needs blanks f s work buffer
+pub door-wide : (needs : ℕ) (blanks : Bool) (f s : List ℕ) (work buffer : ℕ) → not (leb WORK work and leb needs buffer) ≡ false
+    → admissionBoth blanks f s ≡ doorBoth needs blanks f s work buffer
 unfolding doorBoth buffersFit
 door-wide needs blanks f s work buffer e = rw (not-false (leb WORK work and leb needs buffer) e) refl
 
-pub door-admits : (needs : ℕ) (blanks : Bool) (f s : List ℕ) (work buffer : ℕ) (a : Admission) {g n : ℕ} → a ≡ doorBoth needs blanks f s work buffer → a ≡ Admitted g n
+pub door-admits : (needs : ℕ) (blanks : Bool) (f s : List ℕ) (work buffer : ℕ) (a : Admission) {g n : ℕ} → a ≡ doorBoth needs blanks f s work buffer
+    → a ≡ Admitted g n
     → (WORK ≤ work) × (needs ≤ buffer) × (a ≡ admissionBoth blanks f s)
 unfolding doorBoth buffersFit
 door-admits needs blanks f s work buffer a {g} {n} e h = go (buffersFit needs work buffer) refl e
@@ -93,7 +97,8 @@ door-admits needs blanks f s work buffer a {g} {n} e h = go (buffersFit needs wo
     fits : buffersFit needs work buffer ≡ true → (WORK ≤ work) × (needs ≤ buffer)
     fits q = (leb-true WORK work (split q .0), leb-true needs buffer (split q .1))
 
-    go : (b : Bool) → buffersFit needs work buffer ≡ b → a ≡ cond b (admissionBoth blanks f s) (Refused 11 0) → (WORK ≤ work) × (needs ≤ buffer) × (a ≡ admissionBoth blanks f s)
+    go : (b : Bool) → buffersFit needs work buffer ≡ b → a ≡ cond b (admissionBoth blanks f s) (Refused 11 0)
+        → (WORK ≤ work) × (needs ≤ buffer) × (a ≡ admissionBoth blanks f s)
     go true q k = (fits q .0, fits q .1, k)
     go false q k = not-admitted (sym k ∙ h)
 
@@ -183,7 +188,8 @@ module _ {A : Type 0} (refused : ℕ → ℕ → A) (one v : List ℕ → A) (bl
       go false h = refl
 
   -- with refusal 11 before it
-  pub door-opened : (needs work buffer : ℕ) → (buffersFit needs work buffer ≡ true → (t : List ℕ) → one t ≡ opened refused (v t) (admission blanks t)) → (f s : List ℕ)
+  pub door-opened : (needs work buffer : ℕ) → (buffersFit needs work buffer ≡ true → (t : List ℕ) → one t ≡ opened refused (v t) (admission blanks t))
+      → (f s : List ℕ)
       → cond (buffersFit needs work buffer) (ofBoth refused one f s) (refused 11 0) ≡ opened refused (v (joined f s)) (doorBoth needs blanks f s work buffer)
   unfolding doorBoth opened
   door-opened needs work buffer is f s = go (buffersFit needs work buffer) (λ e. both-opened (is e) f s)
@@ -194,7 +200,8 @@ module _ {A : Type 0} (refused : ℕ → ℕ → A) (one v : List ℕ → A) (bl
       go false k = refl
 
   -- one piece is two of which the second is empty
-  pub none-one : ((t : List ℕ) → one t ≡ opened refused (v t) (admission blanks t)) → (f : List ℕ) → (shapeFault f ≡ 0 → v (joined f []) ≡ v f) → ofBoth refused one f [] ≡ one f
+  pub none-one : ((t : List ℕ) → one t ≡ opened refused (v t) (admission blanks t)) → (f : List ℕ) → (shapeFault f ≡ 0 → v (joined f []) ≡ v f)
+      → ofBoth refused one f [] ≡ one f
   unfolding opened
   none-one is f same = go (ℕ-discrete (shapeFault f) 0)
     where
@@ -211,7 +218,8 @@ module _ {A : Type 0} (refused : ℕ → ℕ → A) (one v : List ℕ → A) (bl
       → cond (buffersFit needs work buffer) (ofBoth refused one f []) (refused 11 0) ≡ one f
   none-door needs work buffer is f same short = go (buffersFit needs work buffer) (λ e. none-one (is e) f same) short
     where
-      go : (b : Bool) → (b ≡ true → ofBoth refused one f [] ≡ one f) → (b ≡ false → one f ≡ refused 11 0) → cond b (ofBoth refused one f []) (refused 11 0) ≡ one f
+      go : (b : Bool) → (b ≡ true → ofBoth refused one f [] ≡ one f) → (b ≡ false → one f ≡ refused 11 0)
+          → cond b (ofBoth refused one f []) (refused 11 0) ≡ one f
       go true k l = k refl
       go false k l = sym (l refl)
 

@@ -6,8 +6,10 @@ use mathlib.Core.List.{List, [], _∷_, _++_, append-nil, append-assoc}
 use Prim.Native.Nat.{ℕ, zero, suc, _+_, _-_, _*_, _/_, _%_, _≤_, _<_}
 use native.Mathlib.Omega.{arith}
 use native.Mathlib.Decide.{decLt, ℕ-discrete}
-use lib.ListN.{length, getD, set, take, drop, replicate, length-set, length-replicate, List·getD-eq-default, length-append, length-drop, length-take, List·getD-append}
-use lib.Seq.{ext-getD, getD-set-same, getD-set-other, take-add, getD-drop, getD-take, getD-append-add, drop-append-add, drop-append-le, drop-drop, take-append-le, take-take, length-take-le, take-at, drop-at}
+use lib.ListN.{length, getD, set, take, drop, replicate, length-set, length-replicate, List·getD-eq-default, length-append, length-drop, length-take}
+use lib.ListN.{List·getD-append}
+use lib.Seq.{ext-getD, getD-set-same, getD-set-other, take-add, getD-drop, getD-take, getD-append-add, drop-append-add, drop-append-le, drop-drop}
+use lib.Seq.{take-append-le, take-take, length-take-le, take-at, drop-at}
 use lib.Dec.{ltb, leb, eqb}
 use borrow.Author.Tests.{eqb-true, leb-true, eq-eqb, ne-eqb, le-leb, lt-ltb, le-ltb}
 use Rattle.finite.specs.Logic.{_and_, split, and-true, not-both, which}
@@ -16,11 +18,14 @@ use Rattle.model.specs.declared.Mode.{Mode}
 use Rattle.model.specs.declared.Admission.{Admission}
 use Rattle.model.specs.declared.Admission.the-variants.{Admitted, Refused}
 use Rattle.model.specs.Limits.{AGENTS, ROWS}
-use Rattle.model.specs.Table.{HEADER, ROW-BYTES, PLACE-BYTES, HOSTS-PLACE-BYTES, DEPENDENCY-BYTES, FIRST, HOSTS, pairAt, quadAt, countAt, versionAt, zeroAt, agentsAt, rowsAt, hasHosts, threeAt, fourAt, placeAt, slotAt, placesOf, rowsBegin, rowsEnd, sizeOf, rowBytes, dependencyBytes, modeOf, tableUnder, sourcesOf}
+use Rattle.model.specs.Table.{HEADER, ROW-BYTES, PLACE-BYTES, HOSTS-PLACE-BYTES, DEPENDENCY-BYTES, FIRST, HOSTS, pairAt, quadAt, countAt, versionAt}
+use Rattle.model.specs.Table.{zeroAt, agentsAt, rowsAt, hasHosts, threeAt, fourAt, placeAt, slotAt, placesOf, rowsBegin, rowsEnd, sizeOf, rowBytes}
+use Rattle.model.specs.Table.{dependencyBytes, modeOf, tableUnder, sourcesOf}
 use Rattle.model.specs.Refusal.{versionFits, limitsFit, lengthFits, hostsFault, headerFault, admission}
 use Rattle.table.specs.Rows.{shapeFault, hostsFaultIn, rowsAdmission}
 use Rattle.table.proofs.Laws.{hosts-is, shape-refused, shape-passed, header-refused, header-passed}
-use Rattle.pieces.specs.Pieces.{AREA, areaOf, rowsBoth, piecesFault, headerOf, placeBytes, joined, ofBoth, admissionBoth, earlyFault, rowPart, rowPlace, partAt}
+use Rattle.pieces.specs.Pieces.{AREA, areaOf, rowsBoth, piecesFault, headerOf, placeBytes, joined, ofBoth, admissionBoth, earlyFault, rowPart}
+use Rattle.pieces.specs.Pieces.{rowPlace, partAt}
 use Rattle.pieces.specs.declared.RowPlace.{RowPlace}
 use Rattle.pieces.specs.declared.RowPlace.the-variants as place
 
@@ -328,7 +333,8 @@ module _ (f s : List ℕ) (z : piecesFault f s ≡ 0) where
   unfolding placeAt
   place-kept a l = rw joined-hosts (go (which (hasHosts f)))
     where
-      go : (hasHosts f ≡ true) ⊎ (hasHosts f ≡ false) → cond (hasHosts f) (fourAt (joined f s) a) (threeAt (joined f s) a) ≡ cond (hasHosts f) (fourAt f a) (threeAt f a)
+      go : (hasHosts f ≡ true) ⊎ (hasHosts f ≡ false)
+          → cond (hasHosts f) (fourAt (joined f s) a) (threeAt (joined f s) a) ≡ cond (hasHosts f) (fourAt f a) (threeAt f a)
       go (inl h) = rw h (four-kept a h l)
       go (inr h) = rw h (three-kept a h l)
 
@@ -336,7 +342,8 @@ module _ (f s : List ℕ) (z : piecesFault f s ≡ 0) where
   unfolding slotAt
   slot-kept a = rw joined-agents (go (decLt a (agentsAt f)))
     where
-      go : Dec (a < agentsAt f) → cond (ltb a (agentsAt f)) (placeAt (joined f s) a) (0 ∷ 0 ∷ 0 ∷ 0 ∷ []) ≡ cond (ltb a (agentsAt f)) (placeAt f a) (0 ∷ 0 ∷ 0 ∷ 0 ∷ [])
+      go : Dec (a < agentsAt f)
+          → cond (ltb a (agentsAt f)) (placeAt (joined f s) a) (0 ∷ 0 ∷ 0 ∷ 0 ∷ []) ≡ cond (ltb a (agentsAt f)) (placeAt f a) (0 ∷ 0 ∷ 0 ∷ 0 ∷ [])
       go (yes l) = rw (place-kept a l) refl
       go (no l) = rw (le-ltb a (agentsAt f) (omega arith)) refl
 
@@ -368,7 +375,8 @@ module _ (f s : List ℕ) (z : piecesFault f s ≡ 0) where
 
 -- ---- every other pair
 
-pub of-refused : {A : Type 0} (refused : ℕ → ℕ → A) (one : List ℕ → A) (f s : List ℕ) (h : ℕ) → h ≡ piecesFault f s → (h ≡ 0 → ⊥) → ofBoth refused one f s ≡ refused h 0
+pub of-refused : {A : Type 0} (refused : ℕ → ℕ → A) (one : List ℕ → A) (f s : List ℕ) (h : ℕ) → h ≡ piecesFault f s → (h ≡ 0 → ⊥)
+    → ofBoth refused one f s ≡ refused h 0
 unfolding ofBoth
 of-refused refused one f s h e n = rw (← e, ne-eqb h 0 n) refl
 
@@ -406,7 +414,8 @@ pub early-first : (f s : List ℕ) (h : ℕ) → h ≡ piecesFault f s → (h �
 unfolding earlyFault
 early-first f s h e n = rw (← e, ne-eqb h 0 n) refl
 
-pub early-second : (f s : List ℕ) (h r : ℕ) → h ≡ piecesFault f s → h ≡ 0 → r ≡ hostsFaultIn (placesOf f) (agentsAt f) (dependencyBytes f) (rowsBoth f s) → r ≡ earlyFault f s
+pub early-second : (f s : List ℕ) (h r : ℕ) → h ≡ piecesFault f s → h ≡ 0
+    → r ≡ hostsFaultIn (placesOf f) (agentsAt f) (dependencyBytes f) (rowsBoth f s) → r ≡ earlyFault f s
 unfolding earlyFault
 early-second f s h r e z q =
     let p : piecesFault f s ≡ 0 = sym e ∙ z in
@@ -490,7 +499,8 @@ module _ (f s : List ℕ) (n h : ℕ) (e : h ≡ earlyFault f s) where
       unfolding rowPart
       part-past l = rw (← e, z, ← q, ← w, le-ltb n r k, le-ltb n b l) refl
 
-rows-drop : (f : List ℕ) (n : ℕ) → shapeFault f ≡ 0 → n < rowsAt f → take ROW-BYTES (drop (ROW-BYTES * n) (rowBytes f)) ≡ take ROW-BYTES (drop (rowsBegin f + ROW-BYTES * n) f)
+rows-drop : (f : List ℕ) (n : ℕ) → shapeFault f ≡ 0 → n < rowsAt f
+    → take ROW-BYTES (drop (ROW-BYTES * n) (rowBytes f)) ≡ take ROW-BYTES (drop (rowsBegin f + ROW-BYTES * n) f)
 unfolding rowBytes
 rows-drop f n z l =
     let a = shape-end f z in
@@ -655,7 +665,8 @@ pub front-length : (x all : List ℕ) (m : ℕ) → all ≡ areaOf x → m ≤ A
 front-length x all m e h = sym (length-take-le m all (rw (e, area-length x) h))
 
 -- the front of the copy is the joined table's rows
-pub joined-front : (f s all : List ℕ) (n : ℕ) → piecesFault f s ≡ 0 → n ≡ rowsBoth f s → all ≡ areaOf (rowBytes f ++ s) → take (n * ROW-BYTES) all ≡ rowBytes (joined f s)
+pub joined-front : (f s all : List ℕ) (n : ℕ) → piecesFault f s ≡ 0 → n ≡ rowsBoth f s → all ≡ areaOf (rowBytes f ++ s)
+    → take (n * ROW-BYTES) all ≡ rowBytes (joined f s)
 joined-front f s all n z w c =
     let fit = both-fit f s z in
     rw c (take-area (rowBytes f ++ s) (n * ROW-BYTES) (bytes-length f s z ∙ turned (rowsBoth f s) n w) (omega arith)) ∙ sym (joined-bytes f s z)

@@ -17,7 +17,8 @@ use Rattle.model.specs.Report.{report}
 use Rattle.model.specs.Reason.{derive, judge}
 use Rattle.table.specs.Rows.{shapeFault}
 use Rattle.pieces.specs.Pieces.{rowsBoth, piecesFault, joined, ofBoth, checkBoth, fillBoth, reportBoth, deriveBoth, judgeBoth, earlyFault, rowPart}
-use Rattle.pieces.specs.PiecesLaws.{joined-version, joined-agents, joined-rows, joined-places, joined-bytes, joined-dependencies, joined-length, joined-shape, of-joined, part-joined, part-none, part-refused}
+use Rattle.pieces.specs.PiecesLaws.{joined-version, joined-agents, joined-rows, joined-places, joined-bytes, joined-dependencies, joined-length}
+use Rattle.pieces.specs.PiecesLaws.{joined-shape, of-joined, part-joined, part-none, part-refused}
 use Rattle.pieces.specs.Answers.{check-short, fill-short, report-short, derive-short, none-check, none-fill, none-report, none-derive, none-judge}
 
 -- ---- the refusals of a pair, in their order: 1 to 4 of the first piece, then 40, then 3
@@ -73,7 +74,8 @@ joined-is f s z =
 -- ---- the answer is that of the joined table; what is left in the buffers goes by the same, as the contracts say
 
 -- with refusal 11 first: a short buffer is 11 of the joined table too
-door : {A : Type 0} (refused : ℕ → ℕ → A) (one : List ℕ → A) (f s : List ℕ) → piecesFault f s ≡ 0 → (fits : Bool) → (fits ≡ false → one (joined f s) ≡ refused 11 0)
+door : {A : Type 0} (refused : ℕ → ℕ → A) (one : List ℕ → A) (f s : List ℕ) → piecesFault f s ≡ 0 → (fits : Bool)
+    → (fits ≡ false → one (joined f s) ≡ refused 11 0)
     → cond fits (ofBoth refused one f s) (refused 11 0) ≡ one (joined f s)
 door refused one f s z true short = of-joined f s z refused one
 door refused one f s z false short = sym (short refl)

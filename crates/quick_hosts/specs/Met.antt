@@ -12,7 +12,8 @@ use native.Mathlib.Numerals.{add-one}
 use lib.Dec.{eqb, ltb}
 use lib.ListN.{length}
 use borrow.Author.Tests.{eq-eqb, ne-eqb, lt-ltb, le-ltb}
-use Rattle.finite.specs.Logic.{_and_, _or_, which, split, and-true, and-false-left, and-false-right, or-off, or-left, or-right, or-assoc, not-both, not-so, and-or, and-on}
+use Rattle.finite.specs.Logic.{_and_, _or_, which, split, and-true, and-false-left, and-false-right, or-off, or-left, or-right, or-assoc, not-both}
+use Rattle.finite.specs.Logic.{not-so, and-or, and-on}
 use Rattle.finite.specs.Below.{anyBelow, any-none, any-not, any-cong, turn, at-one}
 use Rattle.bits.specs.Bit.{bit, zeros, bit-zeros-in, joinRow, bit-joinRow}
 use Rattle.bits.specs.Matrix.{rel}
@@ -83,7 +84,8 @@ module _ {n : ℕ} {w : List ℕ} where
       }
 
 -- a row of bits
-row-added : {n : ℕ} (m : ℕ) (p : ℕ → Bool) {w u : List ℕ} → n ≤ ROWS → WORK ≤ length w → m < n → u ≡ rowFill p w (MET * 64 + m * (GRID * 64)) n → MetMore n (only m p) w u
+row-added : {n : ℕ} (m : ℕ) (p : ℕ → Bool) {w u : List ℕ} → n ≤ ROWS → WORK ≤ length w → m < n → u ≡ rowFill p w (MET * 64 + m * (GRID * 64)) n
+    → MetMore n (only m p) w u
 unfolding only rel
 row-added {n} m p {w} {u} small room l e =
     record {
@@ -168,7 +170,8 @@ module _ (t : Table) (m : ℕ) where
     unfolding only seenUpto
     upto-none = added-none MET MET-END w (λ a y p q. and-false-right _ _ (any-none _))
 
-    pub upto-more : {v u : List ℕ} (i : ℕ) → MetMore n (only m (seenUpto t m i)) w v → MetMore n (only m (λ y. seenAfter t m y i)) v u → MetMore n (only m (seenUpto t m (i + 1))) w u
+    pub upto-more : {v u : List ℕ} (i : ℕ) → MetMore n (only m (seenUpto t m i)) w v → MetMore n (only m (λ y. seenAfter t m y i)) v u
+        → MetMore n (only m (seenUpto t m (i + 1))) w u
     unfolding only seenUpto anyBelow
     upto-more i f g = more-cong (λ a y p q. and-or (eqb a m) _ _ ∙ ap (λ (b : Bool). eqb a m and b) (rw add-one refl)) (more-trans f g)
 

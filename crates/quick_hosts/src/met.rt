@@ -63,7 +63,8 @@ fn seen_from(
     y: usize,
     w: &[u64],
 ) -> bool
-    requires { ⌜ (n ≤ ROWS) × (i < n) × (y < n) × (kind ≡ rowOf (now rows) i .kind) × (WORK ≤ length (now w)) × Ordered (decode (now rows) p mode n) n (now w) ⌝ }
+    requires { ⌜ (n ≤ ROWS) × (i < n) × (y < n) × (kind ≡ rowOf (now rows) i .kind) × (WORK ≤ length (now w))
+        × Ordered (decode (now rows) p mode n) n (now w) ⌝ }
     ensures { λ d. ⌜ d ≡ seenFrom (decode (now (rows .entry)) p mode n) i y ⌝ }
 {
     if !reads_at(rows, y) {

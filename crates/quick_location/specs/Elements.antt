@@ -16,7 +16,8 @@ use Rattle.model.specs.Row.{reads, writes}
 use Rattle.model.specs.Table.{Table, rowOf, decode}
 use Rattle.model.specs.Happens.{happens}
 use Rattle.model.specs.Location.{coversOf, firstAvailable, lastVisible, broadens}
-use Rattle.location.specs.Chains.{mayAvail, maySee, availableAfter, visibleBefore, availablePart, after-tells, before-tells, seen, metAtOnce, startsWith, shownBy, endsAt, endsWith, carriedBy, shown-out}
+use Rattle.location.specs.Chains.{mayAvail, maySee, availableAfter, visibleBefore, availablePart, after-tells, before-tells, seen, metAtOnce}
+use Rattle.location.specs.Chains.{startsWith, shownBy, endsAt, endsWith, carriedBy, shown-out}
 use Rattle.bits.specs.Matrix.{rel}
 use Rattle.area.specs.Regions.{HAPPENS, MOMENTS, PAIR}
 use Rattle.area.specs.State.{Ordered}
@@ -166,7 +167,8 @@ module _ (t : Table) (x y : ℕ) where
   shown-apart a k v e = and-false-right _ _ e
 
   -- a last element that a leads to shows what it covers
-  pub shown-covers : (a k v : ℕ) → visibleBefore t y v ≡ true → linkedFrom t x y a v ≡ true → coveredNth (t .row v) (t .row y) (t .row x .start) k ≡ shownNth t x y a k v
+  pub shown-covers : (a k v : ℕ) → visibleBefore t y v ≡ true → linkedFrom t x y a v ≡ true
+      → coveredNth (t .row v) (t .row y) (t .row x .start) k ≡ shownNth t x y a k v
   unfolding shownNth coveredNth lastVisible visibleBefore _and_
   shown-covers a k v e f = rw (last-covers t x y (t .row x .start + k) v, e, f) (and-only _)
 
@@ -257,7 +259,8 @@ module _ (t : List ℕ) (p : List (List ℕ)) (mode : Mode) (n x y : ℕ) where
   lasts-bytes a v c m s l e f g = mask-cong _ (λ k h. rw e (ap (λ (z : Bool). s k and z) (shown-all a k l))) (mask-and f g)
 
   -- the same where none of them was asked
-  pub lasts-none : (a : ℕ) (s : ℕ → Bool) → y < n → ((k : ℕ) → anyBelow (y + 1) (shownNth T x y a k) ≡ false) → Mask PAIR (λ k. s k and anyBelow n (shownNth T x y a k)) 0
+  pub lasts-none : (a : ℕ) (s : ℕ → Bool) → y < n → ((k : ℕ) → anyBelow (y + 1) (shownNth T x y a k) ≡ false)
+      → Mask PAIR (λ k. s k and anyBelow n (shownNth T x y a k)) 0
   lasts-none a s l e = mask-zero PAIR _ (λ k. and-false-right _ _ (sym (shown-all a k l) ∙ e k))
 
   pub reader-bytes : (a m : ℕ) (r q s : Row) → r ≡ rowOf t x → q ≡ rowOf t y → s ≡ rowOf t a → availableAfter T x a ≡ true → reads q ≡ true

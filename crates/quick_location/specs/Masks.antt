@@ -1,24 +1,25 @@
 -- Sets of a row's bytes, as the bits of one number: what all that is asked of a pair's bytes is told by. Assumes nothing.
-use mathlib.Core.Path.{_≡_, refl, sym, ap, _∙_}
-use mathlib.Core.Bool.{Bool, true, false, cond}
+use mathlib.Core.Path.{_≡_, refl, sym, ap, ap₂, _∙_}
+use mathlib.Core.Bool.{Bool, true, false, not}
 use mathlib.Core.List.{List}
-use Prim.Native.Nat.{ℕ, _+_, _%_, _^_, _≤_, _<_}
+use Prim.Native.Nat.{ℕ, _+_, _-_, _*_, _/_, _%_, _^_, _≤_, _<_, min}
 use native.Mathlib.Omega.{arith}
 use native.Mathlib.Numerals.{add-one}
-use native.Mathlib.Decide.{ℕ-discrete}
-use native.Mathlib.Nat.{div-eq-of-lt}
+use native.Mathlib.Nat.{div-eq-of-lt, div-le-self}
 use lib.Pow.{pow-mono}
 use lib.Bits.{bitOr, bitAnd}
-use lib.Dec.{eqb}
-use Rattle.finite.specs.Logic.{_and_, _or_, bool-ext, split, and-true, and-false-left, or-none, or-off, or-right}
+use lib.Dec.{eqb, leb, ltb}
+use borrow.Author.Tests.{le-leb, lt-ltb, leb-true, ltb-true}
+use Rattle.finite.specs.Logic.{_and_, _or_, bool-ext, split, and-true, and-false-left, and-false-right, or-none}
 use Rattle.finite.specs.Below.{anyBelow, allBelow, all-out, any-in, any-out}
-use Rattle.bits.specs.Bit.{bitOf, bitOf-or, bitOf-zero, bitOf-pow-same, bitOf-pow-other}
+use Rattle.bits.specs.Bit.{bitOf, bitOf-or, bitOf-zero}
 use Rattle.bits.specs.Fill.{rowFill, rowFill-cong}
 use Rattle.sets.specs.Lowest.{bitOf-and}
 use Rattle.model.specs.declared.Row.{Row}
-use Rattle.model.specs.Row.{plain, classIn, touches}
+use Rattle.model.specs.Row.{plain, classIn, inside, touches}
 use Rattle.model.specs.Location.{sameReference, coversOf}
 use Rattle.area.specs.Regions.{PAIR}
+use Rattle.rules.specs.Shared.{inside-in, inside-out}
 
 -- ---- definitions
 
@@ -27,13 +28,13 @@ pub record Mask (n : ℕ) (p : ℕ → Bool) (m : ℕ) : Type 0 where
   pub below : (k : ℕ) → k < n → bitOf m k ≡ p k
   pub above : (k : ℕ) → n ≤ k → bitOf m k ≡ false
 
--- bit k set where b
-unfoldable pub withBit : Bool → ℕ → ℕ → ℕ
-withBit b m k = cond b (bitOr m (2 ^ k)) m
-
 -- all bytes of a row
 abbrev pub ALL : ℕ
 ALL = 65535
+
+-- the bytes from the lo-th on, before the hi-th
+unfoldable pub spanned : ℕ → ℕ → ℕ → Bool
+spanned lo hi k = leb lo k and ltb k hi
 
 -- s has the k-th byte from start
 unfoldable pub touchedNth : Row → ℕ → ℕ → Bool
@@ -43,39 +44,11 @@ touchedNth s start k = touches s (start + k)
 unfoldable pub coveredNth : Row → Row → ℕ → ℕ → Bool
 coveredNth s q start k = coversOf s q (start + k)
 
--- ---- laws: a bit
-
-bit-with : (b : Bool) (m k : ℕ) → bitOf m k ≡ false → bitOf (withBit b m k) k ≡ b
-unfolding withBit
-bit-with true m k e = bitOf-or m (2 ^ k) k ∙ or-right (bitOf m k) (bitOf-pow-same k)
-bit-with false m k e = e
-
-bit-beside : (b : Bool) (m k j : ℕ) → (j ≡ k → ⊥) → bitOf (withBit b m k) j ≡ bitOf m j
-unfolding withBit
-bit-beside true m k j h = bitOf-or m (2 ^ k) j ∙ or-off (bitOf m j) (bitOf (2 ^ k) j) (bitOf-pow-other k j h)
-bit-beside false m k j h = refl
-
 -- ---- laws: a mask
 
 -- what some number below a bound passes, some number below a higher one passes
 pub any-wider : (p : ℕ → Bool) (i n : ℕ) → i ≤ n → anyBelow i p ≡ true → anyBelow n p ≡ true
 any-wider p i n l e = let r = any-out p i e in let h = r .1 in any-in p n (r .0) (omega arith) (r .2)
-
-pub mask-none : (p : ℕ → Bool) → Mask 0 p 0
-mask-none p = record { below = λ k l. absurd (omega arith); above = λ k l. bitOf-zero k }
-
--- a turn of a loop over the bytes
-pub mask-more : (n m u : ℕ) (p : ℕ → Bool) (b : Bool) → Mask n p m → b ≡ p n → u ≡ withBit b m n → Mask (n + 1) p u
-mask-more n m u p b h e f =
-    rw f
-    (record {
-      below = λ k l. go k l (ℕ-discrete k n);
-      above = λ k l. bit-beside b m n k (λ q. omega arith) ∙ h .above k (omega arith);
-    })
-  where
-    go : (k : ℕ) → k < n + 1 → Dec (k ≡ n) → bitOf (withBit b m n) k ≡ p k
-    go k l (yes q) = rw q (bit-with b m n (h .above n (omega arith)) ∙ e)
-    go k l (no q) = bit-beside b m n k q ∙ h .below k (omega arith)
 
 pub mask-cong : {n m : ℕ} {p : ℕ → Bool} (q : ℕ → Bool) → ((k : ℕ) → k < n → p k ≡ q k) → Mask n p m → Mask n q m
 mask-cong q e h = record { below = λ k l. h .below k l ∙ e k l; above = h .above }
@@ -88,14 +61,14 @@ all-bits : allBelow PAIR (bitOf ALL) ≡ true
 unfolding allBelow bitOf _and_
 all-bits = refl
 
-beyond : (k : ℕ) → PAIR ≤ k → bitOf ALL k ≡ false
+beyond : (x : ℕ) → x ≤ ALL → (k : ℕ) → PAIR ≤ k → bitOf x k ≡ false
 unfolding bitOf
-beyond k l =
+beyond x m k l =
     let h : 2 ^ 16 ≤ 2 ^ k = pow-mono l in
-    ap (λ (x : ℕ). eqb (x % 2) 1) (div-eq-of-lt {n = ALL} {m = 2 ^ k} (omega arith))
+    ap (λ (z : ℕ). eqb (z % 2) 1) (div-eq-of-lt {n = x} {m = 2 ^ k} (omega arith))
 
 pub mask-all : (p : ℕ → Bool) → ((k : ℕ) → p k ≡ true) → Mask PAIR p ALL
-mask-all p e = record { below = λ k l. all-out (bitOf ALL) PAIR all-bits k l ∙ sym (e k); above = beyond }
+mask-all p e = record { below = λ k l. all-out (bitOf ALL) PAIR all-bits k l ∙ sym (e k); above = beyond ALL (omega arith) }
 
 -- both, and either
 pub mask-and : {n a b : ℕ} {p q : ℕ → Bool} → Mask n p a → Mask n q b → Mask n (λ k. p k and q k) (bitAnd a b)
@@ -117,6 +90,78 @@ mask-or {n} {a} {b} {p} {q} f g =
   where
     either : {c d e h : Bool} → c ≡ e → d ≡ h → (c or d) ≡ (e or h)
     either x y = rw (x, y) refl
+
+-- ---- laws: a span of bytes
+
+-- two bits are the same
+unfoldable same : Bool → Bool → Bool
+same true b = b
+same false b = not b
+
+same-is : (a b : Bool) → same a b ≡ true → a ≡ b
+unfolding same
+same-is true true e = refl
+same-is true false e = sym e
+same-is false true e = e
+same-is false false e = refl
+
+-- a row's bytes from the j-th on, and all but its last j
+unfoldable highBits : ℕ → Bool
+highBits j = allBelow PAIR (λ k. same (bitOf (ALL * 2 ^ j % 2 ^ 64) k) (leb j k))
+
+unfoldable lowBits : ℕ → Bool
+lowBits j = allBelow PAIR (λ k. same (bitOf (ALL / 2 ^ j) k) (ltb k (PAIR - j)))
+
+high-bits : allBelow 17 highBits ≡ true
+unfolding allBelow bitOf same _and_ highBits
+high-bits = refl
+
+low-bits : allBelow 17 lowBits ≡ true
+unfolding allBelow bitOf same _and_ lowBits
+low-bits = refl
+
+high : (j k : ℕ) → j ≤ PAIR → k < PAIR → bitOf (ALL * 2 ^ j % 2 ^ 64) k ≡ leb j k
+unfolding highBits
+high j k l h = same-is _ _ (all-out (λ i. same (bitOf (ALL * 2 ^ j % 2 ^ 64) i) (leb j i)) PAIR (all-out highBits 17 high-bits j (omega arith)) k h)
+
+low : (j k : ℕ) → j ≤ PAIR → k < PAIR → bitOf (ALL / 2 ^ j) k ≡ ltb k (PAIR - j)
+unfolding lowBits
+low j k l h = same-is _ _ (all-out (λ i. same (bitOf (ALL / 2 ^ j) i) (ltb i (PAIR - j))) PAIR (all-out lowBits 17 low-bits j (omega arith)) k h)
+
+pub mask-span : (lo hi : ℕ) → lo ≤ PAIR → hi ≤ PAIR → Mask PAIR (spanned lo hi) (bitAnd (ALL * 2 ^ lo % 2 ^ 64) (ALL / 2 ^ (PAIR - hi)))
+unfolding spanned
+mask-span lo hi l h =
+    record {
+      below = λ k m. bitOf-and a b k ∙ ap₂ _and_ (high lo k l m) (low (PAIR - hi) k (omega arith) m ∙ ap (ltb k) (omega arith));
+      above = λ k m. bitOf-and a b k ∙ and-false-right _ _ (beyond b (div-le-self ALL (2 ^ (PAIR - hi))) k m);
+    }
+  where
+    a : ℕ
+    a = ALL * 2 ^ lo % 2 ^ 64
+
+    b : ℕ
+    b = ALL / 2 ^ (PAIR - hi)
+
+-- the bytes of s, from where it starts and ends
+pub mask-touched : {m : ℕ} (s : Row) (start lo hi : ℕ) → lo ≡ min (s .start - start) PAIR → hi ≡ min (s .start + s .size - start) PAIR
+    → Mask PAIR (spanned lo hi) m → Mask PAIR (touchedNth s start) m
+unfolding spanned touchedNth touches inside
+mask-touched s start lo hi el eh h = mask-cong (touchedNth s start) (λ k l. bool-ext _ _ (there k l) (back k l)) h
+  where
+    there : (k : ℕ) → k < PAIR → (leb lo k and ltb k hi) ≡ true → inside (s .start) (s .size) (start + k) ≡ true
+    there k l e =
+        let a : lo ≤ k = leb-true lo k (split e .0) in
+        let b : k < hi = ltb-true k hi (split e .1) in
+        inside-in (s .start) (s .size) (start + k) (omega arith) (omega arith)
+
+    back : (k : ℕ) → k < PAIR → inside (s .start) (s .size) (start + k) ≡ true → (leb lo k and ltb k hi) ≡ true
+    back k l e =
+        let f = inside-out (s .start) (s .size) (start + k) e in
+        let a = f .0 in
+        let b = f .1 in
+        and-true (le-leb lo k (omega arith)) (lt-ltb k hi (omega arith))
+
+-- ---- laws: sets of bytes that are joined
 
 -- a turn of a loop that joins what each of the numbers below a bound tells
 pub mask-joined : {n m d u : ℕ} (f : ℕ → ℕ → Bool) (i : ℕ) → Mask n (λ k. anyBelow i (f k)) m → Mask n (λ k. f k i) d → u ≡ bitOr m d

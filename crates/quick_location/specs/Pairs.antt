@@ -5,11 +5,15 @@ use mathlib.Core.Path.{_≡_, refl, sym, ap, _∙_}
 use mathlib.Core.Bool.{Bool, true, false, not}
 use mathlib.Core.Logic.{⊎-elim}
 use mathlib.Core.List.{List}
-use Prim.Native.Nat.{ℕ, zero, suc, _+_, _*_, _≤_}
+use Prim.Native.Nat.{ℕ, zero, suc, _+_, _*_, _≤_, _<_}
+use native.Mathlib.Omega.{arith}
+use native.Mathlib.Decide.{ℕ-discrete}
 use lib.Dec.{eqb}
+use borrow.Author.Tests.{eq-eqb, ne-eqb}
 use Rattle.finite.specs.Logic.{_and_, _or_, which, not-both, not-so, split, and-false-left, and-false-right, not-out}
 use Rattle.bits.specs.Bit.{bitOf}
 use Rattle.bits.specs.Fill.{rowFill, gridFill, rowFill-cong}
+use Rattle.sets.specs.Walk.{Next, walked}
 use Rattle.model.specs.declared.Row.{Row}
 use Rattle.model.specs.Row.{access, writes}
 use Rattle.model.specs.Table.{Table}
@@ -17,12 +21,15 @@ use Rattle.model.specs.Moment.{itself}
 use Rattle.model.specs.Happens.{happens}
 use Rattle.model.specs.Location.{sameReference, pureRead, publicWrite, common, L3}
 use Rattle.model.specs.Edge.{beforeNth}
-use Rattle.area.specs.Regions.{PAIR}
+use Rattle.laws.specs.PairLaws.{overlap-is, common-out}
+use Rattle.area.specs.Regions.{OVERLAP, GRID, PAIR}
+use Rattle.area.specs.State.{overlaps}
 use Rattle.finite.specs.Below.{anyBelow}
 use Rattle.location.specs.Chains.{L3-off, L3-on}
-use Rattle.quick_location.specs.Masks.{Mask, mask-cong, any-wider, put-filled}
+use Rattle.quick_location.specs.Masks.{Mask, touchedNth, mask-cong, any-wider, put-filled}
 use Rattle.quick_location.specs.Elements.{publishes, carriedNth, carried-below}
 use Rattle.location.specs.Order.{hosted, before-off, before-first, before-third, row-off}
+use Rattle.quick_location.specs.Prepared.{Prepared}
 
 -- ---- definitions
 
@@ -39,6 +46,21 @@ carriedBytes t x y k = sharedNth x y (t .row x) (t .row y) k and anyBelow (t .ro
 pub public-writes : (r q : Row) → publicWrite r q ≡ true → writes r ≡ true
 unfolding publicWrite
 public-writes r q e = split (split (split e .0) .0) .0
+
+-- the bytes that two different accesses share are those that are both's
+pub shared-both : {m : ℕ} (x y : ℕ) (r q : Row) → (x ≡ y → ⊥) → (access r and access q) ≡ true
+    → Mask PAIR (λ k. touchedNth r (r .start) k and touchedNth q (r .start) k) m → Mask PAIR (sharedNth x y r q) m
+unfolding sharedNth touchedNth common _and_
+shared-both x y r q n e h = mask-cong (sharedNth x y r q) (λ k l. rw (ne-eqb x y n, e) refl) h
+
+-- a row shares none with itself, and none with a row that is no access
+pub shared-itself : (x y : ℕ) (r q : Row) → x ≡ y → (k : ℕ) → sharedNth x y r q k ≡ false
+unfolding sharedNth
+shared-itself x y r q e k = and-false-left _ _ (ap not (eq-eqb x y e))
+
+pub shared-none : (x y : ℕ) (r q : Row) → (access r and access q) ≡ false → (k : ℕ) → sharedNth x y r q k ≡ false
+unfolding sharedNth common
+shared-none x y r q e k = and-false-right _ _ (and-false-left _ _ (and-false-left _ _ e))
 
 -- L3 orders no byte where there is no first element
 pub third-silent : (t : Table) (x y f : ℕ) → t .rows ≤ f → anyBelow f (publishes t x) ≡ false → (b : ℕ) → L3 t x y b ≡ false
@@ -107,3 +129,33 @@ grid-none p w at m n f = go n
     go : (i : ℕ) → w ≡ gridFill p w at m m i
     go zero = refl
     go (suc i) = row-off (p i) w (at + i * m) m (f i) ∙ ap (λ (v : List ℕ). rowFill (p i) v (at + i * m) m) (go i)
+
+-- ---- laws: rows that share no byte
+
+-- none of their bits is on
+pub pair-apart : (t : Table) (x y : ℕ) → overlaps t x y ≡ false → (k : ℕ) → beforeNth t x y k ≡ false
+unfolding overlaps
+pair-apart t x y e k = before-off t x y (t .row x) (t .row y) refl refl k (and-false-right _ _ (not-so _ apart))
+  where
+    apart : common (t .row x) (t .row y) (t .row x .start + k) ≡ true → ⊥
+    apart h = let d = common-out _ _ _ h in not-both (overlap-is (t .row x) (t .row y) .1 (t .row x .start + k, d .2, d .3)) e
+
+-- pairs of which no bit is to be set
+grid-same : (p : ℕ → ℕ → Bool) (w : List ℕ) (at m j k : ℕ) → j ≤ k → ((y : ℕ) → j ≤ y → y < k → (i : ℕ) → p y i ≡ false)
+    → gridFill p w at m m k ≡ gridFill p w at m m j
+unfolding gridFill
+grid-same p w at m j zero l h = let e : j ≡ 0 = omega arith in rw e refl
+grid-same p w at m j (suc k) l h = go (ℕ-discrete j (suc k)) (λ d. grid-same p w at m j k d (λ y a b. h y a (omega arith)))
+  where
+    go : Dec (j ≡ suc k) → (j ≤ k → gridFill p w at m m k ≡ gridFill p w at m m j)
+        → rowFill (p k) (gridFill p w at m m k) (at + k * m) m ≡ gridFill p w at m m j
+    go (yes e) ih = rw e refl
+    go (no e) ih = sym (row-off (p k) (gridFill p w at m m k) (at + k * m) m (h k (omega arith) (omega arith))) ∙ ih (omega arith)
+
+-- the pairs that a walk over the rows that share a byte with x passes over
+pub row-pass : {t : Table} {n x j r : ℕ} {v w : List ℕ} (u : List ℕ) (at : ℕ) → Prepared t n w → x < n
+    → Next w (OVERLAP + x * GRID) (OVERLAP + x * GRID) j n r → v ≡ gridFill (beforeNth t x) u at PAIR PAIR j
+    → v ≡ gridFill (beforeNth t x) u at PAIR PAIR r
+row-pass {t} {n} {x} {j} {r} u at o l s e =
+    let g = s .high in
+    e ∙ sym (grid-same (beforeNth t x) u at PAIR j r (s .low) (λ y a b. pair-apart t x y (walked (o .overlapping) x y l (omega arith) (s .miss y a b))))

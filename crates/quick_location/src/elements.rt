@@ -17,6 +17,7 @@ ghost use Rattle.location.specs.Chains.{availableAfter};
 ghost use Rattle.location.specs.Reach.{Reaching};
 ghost use Rattle.quick_location.specs.Masks.{Mask, coveredNth};
 ghost use Rattle.quick_location.specs.Pairs.{sharedNth};
+ghost use Rattle.quick_location.specs.Publics.{PUBLIC-WORDS, setAt, Publics};
 ghost use Rattle.quick_location.specs.Elements.{linkedWith, linkedFrom, metWith, metFrom, shownNth, carriedNth, publishes};
 use crate::masks;
 use location::chains;
@@ -25,6 +26,7 @@ use model::Places;
 use model::Row;
 use rows::bytes;
 use rules::moments;
+use sets::walk;
 
 // ---- what leads from a first element
 
@@ -44,7 +46,8 @@ fn linked_with(
     w: &[u64],
 ) -> bool
     requires { ⌜ (n ≤ ROWS) × (WORK ≤ length (now w)) × (x < n) × (y < n)
-        × (r ≡ rowOf (now rows) x) × (q ≡ rowOf (now rows) y) × Reaching (decode (now rows) p mode n) n (now w) × (a < n) × (v < n) × (c < n) × (mode .chains ≡ true) ⌝ }
+        × (r ≡ rowOf (now rows) x) × (q ≡ rowOf (now rows) y) × Reaching (decode (now rows) p mode n) n (now w) × (a < n) × (v < n) × (c < n)
+        × (mode .chains ≡ true) ⌝ }
     ensures { λ d. ⌜ d ≡ linkedWith (decode (now (rows .entry)) p mode n) x y a v c ⌝ }
 {
     if !area::grid::get(w, area::REACH_OUT, a, c) {
@@ -101,7 +104,8 @@ fn is_linked(
     w: &[u64],
 ) -> bool
     requires { ⌜ (n ≤ ROWS) × (WORK ≤ length (now w)) × (x < n) × (y < n)
-        × (r ≡ rowOf (now rows) x) × (q ≡ rowOf (now rows) y) × Reaching (decode (now rows) p mode n) n (now w) × (a < n) × (v < n) × (s ≡ rowOf (now rows) a) ⌝ }
+        × (r ≡ rowOf (now rows) x) × (q ≡ rowOf (now rows) y) × Reaching (decode (now rows) p mode n) n (now w) × (a < n) × (v < n)
+        × (s ≡ rowOf (now rows) a) ⌝ }
     ensures { λ d. ⌜ d ≡ linkedFrom (decode (now (rows .entry)) p mode n) x y a v ⌝ }
 {
     if chains::starts_at(rows, p, mode, n, x, y, r, q, a, s, v, w) {
@@ -212,7 +216,8 @@ fn last_bytes(
     w: &[u64],
 ) -> u64
     requires { ⌜ (n ≤ ROWS) × (WORK ≤ length (now w)) × (x < n) × (y < n)
-        × (r ≡ rowOf (now rows) x) × (q ≡ rowOf (now rows) y) × Reaching (decode (now rows) p mode n) n (now w) × (a < n) × (v < n) × (s ≡ rowOf (now rows) a) ⌝ }
+        × (r ≡ rowOf (now rows) x) × (q ≡ rowOf (now rows) y) × Reaching (decode (now rows) p mode n) n (now w) × (a < n) × (v < n)
+        × (s ≡ rowOf (now rows) a) ⌝ }
     ensures { λ m. ⌜ Mask PAIR (λ k. shownNth (decode (now (rows .entry)) p mode n) x y a k v) m ⌝ }
 {
     if !chains::may_show(rows, mode, q, 3 * a + chains::available_part(s), v, w) {
@@ -275,35 +280,56 @@ fn lasts_bytes(
     c & m
 }
 
+// ---- the rows that make available, as a set for each agent
+
+// The words of all sets.
+pub const PUBLIC_WORDS: usize = area::GRID * model::AGENTS;
+
+// The word at which the set of an agent's rows begins.
+fn set_at(agent: u8) -> usize
+    ensures { λ k. ⌜ k ≡ setAt agent ⌝ }
+{
+    area::GRID * ((agent as usize) % model::AGENTS)
+}
+
+// Each of n rows that has the flag that makes available joins the set of its agent.
+pub fn fill_publics(rows: &[u8], n: usize, publics: &mut [u64])
+    requires { ⌜ (n ≤ ROWS) × (PUBLIC-WORDS ≤ length (now publics)) ⌝ }
+    ensures { λ _. ⌜ Publics (now (rows .entry)) n (now (publics .exit)) ⌝ }
+{
+    for a in 0..n {
+        let at = set_at(bytes::read_agent(rows, a as u16));
+        let flags = bytes::row_byte(rows, a as u16, chains::FLAGS);
+        bits::put_if(
+            publics,
+            at * 64 + a,
+            rows::kinds::meets(flags, chains::AVAILABLE),
+        );
+    }
+}
+
 // ---- first elements
 
-// Whether row a is an availability operation of x's agent after x. Two bytes rule most rows out.
-fn is_first(rows: &[u8], n: usize, x: usize, r: Row, a: usize) -> bool
-    requires { ⌜ (n ≤ ROWS) × (x < n) × (a < n) × (r ≡ rowOf (now rows) x) ⌝ }
+// Whether row a, which is s, is an availability operation of x's agent after x.
+fn is_first(rows: &[u8], n: usize, x: usize, r: Row, a: usize, s: Row) -> bool
+    requires { ⌜ (n ≤ ROWS) × (x < n) × (a < n) × (r ≡ rowOf (now rows) x) × (s ≡ rowOf (now rows) a) ⌝ }
     ensures { λ d. ⌜ ((p : List (List ℕ)) (mode : Mode) → d ≡ availableAfter (decode (now (rows .entry)) p mode n) x a) ⌝ }
 {
-    if !chains::may_avail(rows, r, a) {
-        return false;
-    }
-    let s = bytes::read_row(rows, a as u16);
     let k = chains::available_part(s);
     moments::availability_of(s, k as u8) & moments::is_ordered(n, 3 * x + 1, 3 * a + k, r, s)
 }
 
 // A row before which there is no first element of x, n where x doesn't write. No row before x is one.
-pub fn first_from(rows: &[u8], n: usize, x: usize, r: Row) -> usize
-    requires { ⌜ (n ≤ ROWS) × (x < n) × (r ≡ rowOf (now rows) x) ⌝ }
+// Ruled out: one that passes over x itself.
+pub fn first_from(rows: &[u8], n: usize, x: usize, r: Row, publics: &[u64]) -> usize
+    requires { ⌜ (n ≤ ROWS) × (x < n) × (r ≡ rowOf (now rows) x) × Publics (now rows) n (now publics) ⌝ }
     ensures { λ f. ⌜ (f ≤ n) × ((p : List (List ℕ)) (mode : Mode) → anyBelow f (publishes (decode (now (rows .entry)) p mode n) x) ≡ false) ⌝ }
 {
     if !rows::kinds::writes(r) {
         return n;
     }
-    for a in x..n {
-        if is_first(rows, n, x, r, a) {
-            return a;
-        }
-    }
-    n
+    let at = set_at(r.agent);
+    walk::next(publics, at, at, x, n)
 }
 
 // The bytes that y meets by way of row a as first element.
@@ -323,10 +349,10 @@ fn first_bytes(
         × (r ≡ rowOf (now rows) x) × (q ≡ rowOf (now rows) y) × Reaching (decode (now rows) p mode n) n (now w) × (a < n) ⌝ }
     ensures { λ m. ⌜ Mask PAIR (λ k. carriedNth (decode (now (rows .entry)) p mode n) x y k a) m ⌝ }
 {
-    if !is_first(rows, n, x, r, a) {
+    let s = bytes::read_row(rows, a as u16);
+    if !is_first(rows, n, x, r, a, s) {
         return 0;
     }
-    let s = bytes::read_row(rows, a as u16);
     let c = masks::covered(s, r, r.start);
     if rows::kinds::reads(q) {
         return lasts_bytes(rows, p, mode, n, x, y, r, q, a, s, c, w);
@@ -349,19 +375,24 @@ pub fn carried_bytes(
     q: Row,
     f: usize,
     both: u64,
+    publics: &[u64],
     w: &[u64],
 ) -> u64
     requires { ⌜ (n ≤ ROWS) × (WORK ≤ length (now w)) × (x < n) × (y < n)
         × (r ≡ rowOf (now rows) x) × (q ≡ rowOf (now rows) y) × Reaching (decode (now rows) p mode n) n (now w)
-        × (f ≤ n) × (anyBelow f (publishes (decode (now rows) p mode n) x) ≡ false) × (writes r ≡ true) × Mask PAIR (sharedNth x y r q) both ⌝ }
+        × (f ≤ n) × (anyBelow f (publishes (decode (now rows) p mode n) x) ≡ false) × (writes r ≡ true) × Mask PAIR (sharedNth x y r q) both
+        × Publics (now rows) n (now publics) ⌝ }
     ensures { λ m. ⌜ Mask PAIR (λ k. sharedNth x y r q k and anyBelow n (carriedNth (decode (now (rows .entry)) p mode n) x y k)) m ⌝ }
 {
+    let at = set_at(r.agent);
     let mut m = 0u64;
-    for a in f..n {
+    let mut a = f;
+    while a < n {
         m = m | first_bytes(rows, p, mode, n, x, y, r, q, a, w);
         if m & both == both {
             return both;
         }
+        a = walk::next(publics, at, at, a + 1, n);
     }
     both & m
 }

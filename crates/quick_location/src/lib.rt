@@ -1,5 +1,5 @@
 // Location order at each byte of each pair of rows, as bits: what doesn't hang on the byte is asked once a pair, and rows that are no
-// accesses aren't asked at all.
+// accesses or share no byte aren't asked at all.
 ghost use mathlib.Core.Path.{_≡_};
 ghost use mathlib.Core.Bool.{true, false};
 ghost use Prim.Native.Nat.{_+_, _*_, _≤_, _<_};
@@ -12,9 +12,10 @@ ghost use Rattle.model.specs.Table.{rowOf, decode};
 ghost use Rattle.model.specs.Edge.{beforeNth};
 ghost use Rattle.area.specs.Regions.{LOCATION, PAIR, PAIRS};
 ghost use Rattle.area.specs.State.{Ordered, MadeLocated};
-ghost use Rattle.location.specs.Order.{Prepared};
+ghost use Rattle.quick_location.specs.Prepared.{Prepared, MadePrepared};
 ghost use Rattle.location.specs.Reach.{Reaching};
 ghost use Rattle.quick_location.specs.Elements.{publishes};
+ghost use Rattle.quick_location.specs.Publics.{Publics};
 ghost use Rattle.quick_location.specs.Pairs.{sharedNth, carriedBytes};
 use location::happens;
 use model::Mode;
@@ -22,6 +23,7 @@ use model::Places;
 use model::Row;
 use rows::bytes;
 use rules::pairs;
+use sets::walk;
 
 pub mod masks; // sets of a row's bytes
 pub mod elements; // L3 by two elements
@@ -47,14 +49,16 @@ fn fill_third(
     r: Row,
     q: Row,
     f: usize,
+    publics: &[u64],
     w: &mut [u64],
 )
     requires { ⌜ (n ≤ ROWS) × (WORK ≤ length (now w)) × (x < n) × (y < n) × (r ≡ rowOf (now rows) x) × (q ≡ rowOf (now rows) y)
-        × Reaching (decode (now rows) p mode n) n (now w) × (f ≤ n) × (anyBelow f (publishes (decode (now rows) p mode n) x) ≡ false) × (writes r ≡ true) ⌝ }
+        × Reaching (decode (now rows) p mode n) n (now w) × (f ≤ n)
+        × (anyBelow f (publishes (decode (now rows) p mode n) x) ≡ false) × (writes r ≡ true) × Publics (now rows) n (now publics) ⌝ }
     ensures { λ _. ⌜ now (w .exit) ≡ rowFill (carriedBytes (decode (now (rows .entry)) p mode n) x y) (now (w .entry)) (LOCATION * 64 + x * PAIRS + y * PAIR) PAIR ⌝ }
 {
     let both = masks::shared(x, y, r, q);
-    let m = elements::carried_bytes(rows, p, mode, n, x, y, r, q, f, both, w);
+    let m = elements::carried_bytes(rows, p, mode, n, x, y, r, q, f, both, publics, w);
     masks::put_bytes(x, y, m, w);
 }
 
@@ -69,10 +73,11 @@ fn fill_pair(
     r: Row,
     f: usize,
     y: usize,
+    publics: &[u64],
     w: &mut [u64],
 )
     requires { ⌜ (n ≤ ROWS) × (WORK ≤ length (now w)) × (x < n) × (y < n) × (r ≡ rowOf (now rows) x) × Prepared (decode (now rows) p mode n) n (now w)
-        × (f ≤ n) × (anyBelow f (publishes (decode (now rows) p mode n) x) ≡ false) ⌝ }
+        × (f ≤ n) × (anyBelow f (publishes (decode (now rows) p mode n) x) ≡ false) × Publics (now rows) n (now publics) ⌝ }
     ensures { λ _. ⌜ now (w .exit) ≡ rowFill (beforeNth (decode (now (rows .entry)) p mode n) x y) (now (w .entry)) (LOCATION * 64 + x * PAIRS + y * PAIR) PAIR ⌝ }
 {
     if !quick_hosts::is_near(rows, x, r, y) {
@@ -91,22 +96,36 @@ fn fill_pair(
     if !pairs::public_write(r, q) {
         return;
     }
-    fill_third(rows, p, mode, n, x, y, r, q, f, w);
+    fill_third(rows, p, mode, n, x, y, r, q, f, publics, w);
 }
 
-// The bits of row x's pairs.
-fn fill_row(rows: &[u8], p: Places, mode: Mode, n: usize, x: usize, w: &mut [u64])
-    requires { ⌜ (n ≤ ROWS) × (WORK ≤ length (now w)) × (x < n) × Prepared (decode (now rows) p mode n) n (now w) ⌝ }
+// The bits of row x's pairs: those of rows that share no byte with it stay off.
+fn fill_row(rows: &[u8], p: Places, mode: Mode, n: usize, x: usize, publics: &[u64], w: &mut [u64])
+    requires { ⌜ (n ≤ ROWS) × (WORK ≤ length (now w)) × (x < n) × Prepared (decode (now rows) p mode n) n (now w)
+        × Publics (now rows) n (now publics) ⌝ }
     ensures { λ _. ⌜ now (w .exit) ≡ gridFill (beforeNth (decode (now (rows .entry)) p mode n) x) (now (w .entry)) (LOCATION * 64 + x * PAIRS) PAIR PAIR n ⌝ }
 {
     let r = bytes::read_row(rows, x as u16);
     if !rows::kinds::is_access(r) {
         return;
     }
-    let f = elements::first_from(rows, n, x, r);
-    for y in 0..n {
-        fill_pair(rows, p, mode, n, x, r, f, y, w);
+    let f = elements::first_from(rows, n, x, r, publics);
+    let at = area::OVERLAP + x * area::GRID;
+    let mut y = walk::next(w, at, at, 0, n);
+    while y < n {
+        fill_pair(rows, p, mode, n, x, r, f, y, publics, w);
+        y = walk::next(w, at, at, y + 1, n);
     }
+}
+
+// What the bits of a pair are made from: L4 and L5, which rows share bytes, and the reach of chains.
+fn prepare(rows: &[u8], p: Places, mode: Mode, n: usize, w: &mut [u64])
+    requires { ⌜ (n ≤ ROWS) × (WORK ≤ length (now w)) × Ordered (decode (now rows) p mode n) n (now w) ⌝ }
+    ensures { λ _. ⌜ MadePrepared (decode (now (rows .entry)) p mode n) n (now (w .entry)) (now (w .exit)) ⌝ }
+{
+    quick_hosts::make_hosted(rows, p, mode, n, w);
+    overlap::fill_overlaps(rows, n, w);
+    reach::make_reach(rows, p, mode, n, w);
 }
 
 // Location order of all pairs of n rows: what `location::fill_location` says.
@@ -114,10 +133,11 @@ pub fn fill_location(rows: &[u8], p: Places, mode: Mode, n: usize, w: &mut [u64]
     requires { ⌜ (n ≤ ROWS) × (WORK ≤ length (now w)) × Ordered (decode (now rows) p mode n) n (now w) ⌝ }
     ensures { λ _. ⌜ MadeLocated (decode (now (rows .entry)) p mode n) n (now (w .entry)) (now (w .exit)) ⌝ }
 {
-    quick_hosts::make_hosted(rows, p, mode, n, w);
-    reach::make_reach(rows, p, mode, n, w);
+    prepare(rows, p, mode, n, w);
     bits::clear(w, area::LOCATION, area::LOCATION_END);
+    let mut publics = [0u64; elements::PUBLIC_WORDS];
+    elements::fill_publics(rows, n, &mut publics);
     for x in 0..n {
-        fill_row(rows, p, mode, n, x, w);
+        fill_row(rows, p, mode, n, x, &publics, w);
     }
 }

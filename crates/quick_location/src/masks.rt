@@ -1,37 +1,46 @@
 // Sets of a row's bytes, as the bits of one number: bit k is the k-th byte from the first row's start.
 ghost use mathlib.Core.Path.{_≡_};
-ghost use Prim.Native.Nat.{_+_, _*_, _≤_, _<_};
+ghost use Prim.Native.Nat.{_+_, _-_, _*_, _≤_, _<_, min};
 ghost use lib.ListN.{length};
 ghost use Rattle.bits.specs.Bit.{bitOf};
 ghost use Rattle.bits.specs.Fill.{rowFill};
 ghost use Rattle.model.specs.Limits.{ROWS, WORK};
 ghost use Rattle.area.specs.Regions.{LOCATION, PAIR, PAIRS};
-ghost use Rattle.quick_location.specs.Masks.{Mask, withBit, touchedNth, coveredNth};
+ghost use Rattle.quick_location.specs.Masks.{Mask, spanned, touchedNth, coveredNth};
 ghost use Rattle.quick_location.specs.Pairs.{sharedNth};
 use model::Row;
 use rules::pairs;
+use sets::walk;
 
 // All bytes of a row.
 const ALL: u64 = 65535;
 
-// Bit k of m set where b.
-fn with_bit(m: u64, k: usize, b: bool) -> u64
-    requires { ⌜ k < 64 ⌝ }
-    ensures { λ r. ⌜ r ≡ withBit b m k ⌝ }
+// The bytes from the lo-th on, before the hi-th.
+// Ruled out: one that has the hi-th byte too.
+fn span(lo: usize, hi: usize) -> u64
+    requires { ⌜ (lo ≤ PAIR) × (hi ≤ PAIR) ⌝ }
+    ensures { λ m. ⌜ Mask PAIR (spanned lo hi) m ⌝ }
 {
-    if b { m | (1u64 << k) } else { m }
+    (ALL << lo) & (ALL >> (area::PAIR - hi))
+}
+
+// Which byte from start on b is; the first where b comes before it, and the one past a row's bytes where b lies past them.
+fn nth(start: u16, b: u32) -> usize
+    ensures { λ k. ⌜ k ≡ min (b - start) PAIR ⌝ }
+{
+    let first = start as u32;
+    if b <= first {
+        return 0;
+    }
+    walk::at_most((b - first) as usize, area::PAIR)
 }
 
 // The bytes that are s's.
 fn touched(s: Row, start: u16) -> u64
     ensures { λ m. ⌜ Mask PAIR (touchedNth s start) m ⌝ }
 {
-    let first = start as u32;
-    let mut m = 0u64;
-    for k in 0..area::PAIR {
-        m = with_bit(m, k, rows::kinds::touches(s, first + (k as u32)));
-    }
-    m
+    let first = s.start as u32;
+    span(nth(start, first), nth(start, first + (s.size as u32)))
 }
 
 // The bytes that a moment of s covers, with q's reference.
@@ -54,12 +63,13 @@ pub fn covered(s: Row, q: Row, start: u16) -> u64
 pub fn shared(x: usize, y: usize, r: Row, q: Row) -> u64
     ensures { λ m. ⌜ Mask PAIR (sharedNth x y r q) m ⌝ }
 {
-    let start = r.start as u32;
-    let mut m = 0u64;
-    for k in 0..area::PAIR {
-        m = with_bit(m, k, pairs::common_of(x, y, r, q, start + (k as u32)));
+    if x == y {
+        return 0;
     }
-    m
+    if !(rows::kinds::is_access(r) & rows::kinds::is_access(q)) {
+        return 0;
+    }
+    touched(r, r.start) & touched(q, r.start)
 }
 
 // Sets the bits of the pair of x and y that are in m.

@@ -8,10 +8,10 @@ use native.Mathlib.Decide.{ℕ-discrete}
 use lib.Dec.{eqb}
 use lib.ListN.{length}
 use borrow.Author.Tests.{eq-eqb}
-use Rattle.finite.specs.Logic.{_and_, _or_, bool-ext, not-both, not-so, split, and-true, and-both, or-both, and-same}
+use Rattle.finite.specs.Logic.{_and_, _or_, bool-ext, not-both, not-so, split, and-true, and-false-left, and-both, or-both, and-same}
 use Rattle.bits.specs.Fill.{or-fresh}
 use Rattle.bits.specs.Bit.{bit, zeros, bit-zeros-in}
-use Rattle.bits.specs.Within.{Within, within-refl, within-bit, within-trans, within-widen, within-zeros}
+use Rattle.bits.specs.Within.{Within, within-refl, within-bit, within-trans, within-widen, within-cleared}
 use Rattle.bits.specs.Matrix.{rel}
 use Rattle.model.specs.Limits.{ROWS, WORK}
 use Rattle.model.specs.Row.{acquires}
@@ -21,7 +21,7 @@ use Rattle.model.specs.Synchronizes.{synchronizes}
 use Rattle.model.specs.Happens.{holding, concerns, bySync, toRelease, fromAcquire, bySystem, step}
 use Rattle.area.specs.Regions.{MOMENTS}
 use Rattle.sets.specs.Meet.{meetIf, both, within-meetIf, bit-meetIf}
-use Rattle.sets.specs.Own.{ClosedOwn}
+use Rattle.sets.specs.Own.{ClosedOwn, Rest}
 use Rattle.hubs.specs.Hubs.{throughOwn, own-cong}
 use Rattle.hubs.specs.Rows.{hubRow, hopRow, releaseAt, holding-own, holding-concerns}
 use Rattle.moment_sets.specs.Regions.{ORDER, HOPS, HOPS-END, JOINED, DEPENDS, HOLD, RELEASE, CONCERN}
@@ -29,17 +29,23 @@ use Rattle.moment_sets.specs.Known.{Rows, syncsTo, dependsTo, Setup, setup-hops
 
 -- ---- definitions
 
--- the hops of row x in words: h says that it holds all of the class set, k that it is a hub and concerns it, a that it holds all of it
+-- the hops of row x in words, where its row is clear: h says that it holds all of the class set, k that it is a hub and concerns it, a that it holds all of it
 -- and acquires, d that there are dependencies
 unfoldable pub hopWords : ℕ → Bool → Bool → Bool → Bool → List ℕ → List ℕ
 hopWords x h k a d w =
     meetIf d
     (meetIf a
     (meetIf k
-    (meetIf h (zeros w (HOPS + x * MOMENTS) MOMENTS) (HOPS + x * MOMENTS) (JOINED + x * MOMENTS) HOLD MOMENTS)
+    (meetIf h w (HOPS + x * MOMENTS) (JOINED + x * MOMENTS) HOLD MOMENTS)
     (HOPS + x * MOMENTS) (ORDER + (3 * x + 1) * MOMENTS) RELEASE MOMENTS)
     (HOPS + x * MOMENTS) (ORDER + (3 * x + 1) * MOMENTS) CONCERN MOMENTS)
     (HOPS + x * MOMENTS) (DEPENDS + x * MOMENTS) (DEPENDS + x * MOMENTS) MOMENTS
+
+-- u is w after the hops of row x were made, of a table whose rows stand in the bytes bs. A row that is no hub has none
+pub record HopAt (bs : List ℕ) (dep : Bool) (x : ℕ) (w u : List ℕ) : Type 0 where
+  pub cell : (t : Table) (n s : ℕ) → Setup bs t n s dep w → x < n → (m : ℕ) → m < 3 * n → rel u HOPS MOMENTS x m ≡ hopRow t dep s x m
+  pub none : dep ≡ false → bit w (HOLD * 64 + itself x) ≡ false → (j : ℕ) → j < 64 * MOMENTS → rel u HOPS MOMENTS x j ≡ false
+  pub frame : Within (HOPS + x * MOMENTS) (HOPS + x * MOMENTS + MOMENTS) w u
 
 -- the first x rows hold the hops of s
 pub record HopsMade (t : Table) (dep : Bool) (s n x : ℕ) (w u : List ℕ) : Type 0 where
@@ -113,40 +119,52 @@ meet-bit x a b j q w v u l room o p r f e =
     off : (c : ℕ) → (HOPS < c + MOMENTS → HOPS-END ≤ c) → 64 * (HOPS + x * MOMENTS) ≤ c * 64 + j → 64 * (HOPS + x * MOMENTS + MOMENTS) ≤ c * 64 + j
     off c g h = let z : HOPS-END ≤ c = g (omega arith) in omega arith
 
-zero-bit : (w : List ℕ) (x j : ℕ) → WORK ≤ length w → x < ROWS → j < 64 * MOMENTS → rel (zeros w (HOPS + x * MOMENTS) MOMENTS) HOPS MOMENTS x j ≡ false
-unfolding rel
-zero-bit w x j room l o = bit-zeros-in w (HOPS + x * MOMENTS) MOMENTS ((HOPS + x * MOMENTS) * 64 + j) (omega arith) (omega arith) (omega arith)
-
 module _ (x : ℕ) (h k a d : Bool) (w u : List ℕ) (l : x < ROWS) (room : WORK ≤ length w) (made : u ≡ hopWords x h k a d w) where
-  -- the words, bit by bit
-  pub hop-bits : (j : ℕ) → j < 64 * MOMENTS
+  -- the words change in the row alone, bit by bit
+  hop-words : (j : ℕ) → j < 64 * MOMENTS
       → (rel u HOPS MOMENTS x j
-      ≡ (h and both w (JOINED + x * MOMENTS) HOLD j or k and both w (ORDER + (3 * x + 1) * MOMENTS) RELEASE j
+      ≡ (rel w HOPS MOMENTS x j or h and both w (JOINED + x * MOMENTS) HOLD j or k and both w (ORDER + (3 * x + 1) * MOMENTS) RELEASE j
       or a and both w (ORDER + (3 * x + 1) * MOMENTS) CONCERN j or d and both w (DEPENDS + x * MOMENTS) (DEPENDS + x * MOMENTS) j))
       × Within (HOPS + x * MOMENTS) (HOPS + x * MOMENTS + MOMENTS) w u
   unfolding hopWords
-  hop-bits j o =
-      let v₀ = zeros w (HOPS + x * MOMENTS) MOMENTS in
-      let v₁ = meetIf h v₀ (HOPS + x * MOMENTS) (JOINED + x * MOMENTS) HOLD MOMENTS in
+  hop-words j o =
+      let v₁ = meetIf h w (HOPS + x * MOMENTS) (JOINED + x * MOMENTS) HOLD MOMENTS in
       let v₂ = meetIf k v₁ (HOPS + x * MOMENTS) (ORDER + (3 * x + 1) * MOMENTS) RELEASE MOMENTS in
       let v₃ = meetIf a v₂ (HOPS + x * MOMENTS) (ORDER + (3 * x + 1) * MOMENTS) CONCERN MOMENTS in
-      let f₀ = within-zeros w (HOPS + x * MOMENTS) MOMENTS in
-      let f₁ = within-trans f₀ (within-meetIf h v₀ (HOPS + x * MOMENTS) (JOINED + x * MOMENTS) HOLD MOMENTS) in
+      let f₀ = within-refl (HOPS + x * MOMENTS) (HOPS + x * MOMENTS + MOMENTS) w in
+      let f₁ = within-meetIf h w (HOPS + x * MOMENTS) (JOINED + x * MOMENTS) HOLD MOMENTS in
       let f₂ = within-trans f₁ (within-meetIf k v₁ (HOPS + x * MOMENTS) (ORDER + (3 * x + 1) * MOMENTS) RELEASE MOMENTS) in
       let f₃ = within-trans f₂ (within-meetIf a v₂ (HOPS + x * MOMENTS) (ORDER + (3 * x + 1) * MOMENTS) CONCERN MOMENTS) in
       let f₄ = within-trans f₃ (within-meetIf d v₃ (HOPS + x * MOMENTS) (DEPENDS + x * MOMENTS) (DEPENDS + x * MOMENTS) MOMENTS) in
-      let b₁ = meet-bit x (JOINED + x * MOMENTS) HOLD j h w v₀ v₁ l room o (λ z. omega arith) (λ z. omega arith) f₀ refl in
+      let b₁ = meet-bit x (JOINED + x * MOMENTS) HOLD j h w w v₁ l room o (λ z. omega arith) (λ z. omega arith) f₀ refl in
       let b₂ = meet-bit x (ORDER + (3 * x + 1) * MOMENTS) RELEASE j k w v₁ v₂ l room o (λ z. absurd (omega arith)) (λ z. omega arith) f₁ refl in
       let b₃ = meet-bit x (ORDER + (3 * x + 1) * MOMENTS) CONCERN j a w v₂ v₃ l room o (λ z. absurd (omega arith)) (λ z. omega arith) f₂ refl in
       let b₄ = meet-bit x (DEPENDS + x * MOMENTS) (DEPENDS + x * MOMENTS) j d w v₃ u l room o (λ z. omega arith) (λ z. omega arith) f₃ made in (
         b₄ ∙ ap (λ (z : Bool). z or (d and both w (DEPENDS + x * MOMENTS) (DEPENDS + x * MOMENTS) j))
             (b₃ ∙ ap (λ (z : Bool). z or (a and both w (ORDER + (3 * x + 1) * MOMENTS) CONCERN j))
-            (b₂ ∙ ap (λ (z : Bool). z or (k and both w (ORDER + (3 * x + 1) * MOMENTS) RELEASE j)) (b₁ ∙ fresh j o _))),
+            (b₂ ∙ ap (λ (z : Bool). z or (k and both w (ORDER + (3 * x + 1) * MOMENTS) RELEASE j)) b₁)),
         subst (λ (z : List ℕ). Within (HOPS + x * MOMENTS) (HOPS + x * MOMENTS + MOMENTS) w z) (sym made) f₄,
       )
-    where
-      fresh : (j : ℕ) → j < 64 * MOMENTS → (b : Bool) → (rel (zeros w (HOPS + x * MOMENTS) MOMENTS) HOPS MOMENTS x j or b) ≡ b
-      fresh j o b = or-fresh _ b (zero-bit w x j room l o)
+
+  hop-frame : Within (HOPS + x * MOMENTS) (HOPS + x * MOMENTS + MOMENTS) w u
+  hop-frame = hop-words 0 (omega arith) .1
+
+  -- in a row that was clear
+  hop-bits : (j : ℕ) → j < 64 * MOMENTS → rel w HOPS MOMENTS x j ≡ false
+      → rel u HOPS MOMENTS x j
+      ≡ (h and both w (JOINED + x * MOMENTS) HOLD j or k and both w (ORDER + (3 * x + 1) * MOMENTS) RELEASE j
+      or a and both w (ORDER + (3 * x + 1) * MOMENTS) CONCERN j or d and both w (DEPENDS + x * MOMENTS) (DEPENDS + x * MOMENTS) j)
+  hop-bits j o e = hop-words j o .0 ∙ rw (or-fresh _ (h and both w (JOINED + x * MOMENTS) HOLD j) e) refl
+
+-- no case leads from a row that does not hold all of the class set
+hop-off : (dep h k q : Bool) (x : ℕ) (w u : List ℕ) → x < ROWS → WORK ≤ length w → u ≡ hopWords x h (h or dep and k) (h and q) dep w → dep ≡ false → h ≡ false
+    → (j : ℕ) → j < 64 * MOMENTS → rel w HOPS MOMENTS x j ≡ false → rel u HOPS MOMENTS x j ≡ false
+unfolding _and_ _or_
+hop-off dep h k q x w u l room made e f j o c = hop-bits x h (h or dep and k) (h and q) dep w u l room made j o c ∙ rw (f, e) refl
+
+no-hops : (t : Table) (dep : Bool) (s x m : ℕ) → (holding t s (itself x) or dep) ≡ false → hopRow t dep s x m ≡ false
+unfolding hopRow hubRow
+no-hops t dep s x m e = and-false-left _ _ e
 
 -- ---- laws: a row's bits are its hops
 
@@ -174,7 +192,7 @@ syncs-held t s x m =
 
 module _ (bs : List ℕ) (t : Table) (n s x : ℕ) (dep h k q : Bool) (w u : List ℕ) (p : Setup bs t n s dep w) (l : x < n)
     (held : h ≡ bit w (HOLD * 64 + (3 * x + 1))) (on : k ≡ bit w (CONCERN * 64 + (3 * x + 1))) (acq : q ≡ acquires (rowOf bs x))
-    (made : u ≡ hopWords x h (h or dep and k) (h and q) dep w) where
+    (made : u ≡ hopWords x h (h or dep and k) (h and q) dep w) (clear : (j : ℕ) → j < 64 * MOMENTS → rel w HOPS MOMENTS x j ≡ false) where
   few : n ≤ ROWS
   few = p .few
 
@@ -211,38 +229,101 @@ module _ (bs : List ℕ) (t : Table) (n s x : ℕ) (dep h k q : Bool) (w u : Lis
   pub hop-cell : (m : ℕ) → m < 3 * n → rel u HOPS MOMENTS x m ≡ hopRow t dep s x m
   unfolding hopRow hubRow
   hop-cell m o =
-      hop-bits x h (h or dep and k) (h and q) dep w u (omega arith) (p .room) made m (omega arith) .0
+      hop-bits x h (h or dep and k) (h and q) dep w u (omega arith) (p .room) made m (omega arith) (clear m (omega arith))
       ∙ rw (sync-is m o, release-is m o, concern-is m o, depend-is m o, step-is t s x m, hold-is, on-is, acq-is)
       (share (holding t s (itself x)) dep (concerns t s (itself x)) (acquires (t .row x)) (synchronizes t x (rowIn m)) (holding t s m) (releaseAt t s m) (concerns t s m)
       (programOrder t (itself x) m) (dependsTo t x m) (holding-concerns t s (itself x)) (λ e. p .told x (rowIn m) (depends-out t x m e)))
+
+-- ---- laws: the row is cleared first
+
+module _ (bs : List ℕ) (dep h : Bool) (x : ℕ) (w v : List ℕ) (l : x < ROWS) (room : WORK ≤ length w)
+    (clear : v ≡ zeros w (HOPS + x * MOMENTS) (HOPS + x * MOMENTS + MOMENTS - (HOPS + x * MOMENTS))) (held : h ≡ bit v (HOLD * 64 + (3 * x + 1))) where
+  before : Within (HOPS + x * MOMENTS) (HOPS + x * MOMENTS + MOMENTS) w v
+  before = within-cleared (HOPS + x * MOMENTS) (HOPS + x * MOMENTS + MOMENTS) (omega arith) clear
+
+  cleared : (j : ℕ) → j < 64 * MOMENTS → rel v HOPS MOMENTS x j ≡ false
+  unfolding rel
+  cleared j o =
+      ap (λ (z : List ℕ). bit z ((HOPS + x * MOMENTS) * 64 + j)) clear
+      ∙ bit-zeros-in w (HOPS + x * MOMENTS) (HOPS + x * MOMENTS + MOMENTS - (HOPS + x * MOMENTS)) ((HOPS + x * MOMENTS) * 64 + j) (omega arith) (omega arith) (omega arith)
+
+  still : {t : Table} {n s : ℕ} → Setup bs t n s dep w → Setup bs t n s dep v
+  still p = setup-hops (within-widen HOPS HOPS-END (omega arith) (omega arith) before) p
+
+  as-was : bit v (HOLD * 64 + (3 * x + 1)) ≡ bit w (HOLD * 64 + (3 * x + 1))
+  as-was = within-bit before (HOLD * 64 + (3 * x + 1)) (λ z. omega arith)
+
+  -- no hub
+  pub hop-none : (h || dep) ≡ false → HopAt bs dep x w v
+  hop-none e =
+      record {
+        cell = λ t n s p o m q. cleared m (wide p q) ∙ sym (no-hub t n s m p o (sym (or-both h dep) ∙ e));
+        none = λ a b j o. cleared j o;
+        frame = before;
+      }
+    where
+      wide : {t : Table} {n s m : ℕ} → Setup bs t n s dep w → m < 3 * n → m < 64 * MOMENTS
+      wide {n = n} p q = let few : n ≤ ROWS = p .few in omega arith
+
+      no-hub : (t : Table) (n s m : ℕ) → Setup bs t n s dep w → x < n → (h or dep) ≡ false → hopRow t dep s x m ≡ false
+      no-hub t n s m p o f =
+          let is : h ≡ holding t s (itself x) = held ∙ still p .ready .hold .cell (3 * x + 1) (omega arith) in
+          no-hops t dep s x m (ap (λ (z : Bool). z or dep) (sym is) ∙ f)
+
+  -- a hub
+  pub hop-made-at : (k a : Bool) (u : List ℕ) → k ≡ bit v (CONCERN * 64 + (3 * x + 1)) → a ≡ (h and acquires (rowOf bs x))
+      → u ≡ hopWords x h (h || dep && k) a dep v → HopAt bs dep x w u
+  hop-made-at k a u on acq made =
+      record {
+        cell = λ t n s p o m q. hop-cell bs t n s x dep h k (acquires (rowOf bs x)) v u (still p) o held on refl same cleared m q;
+        none = λ e f j o. hop-off dep h k (acquires (rowOf bs x)) x v u l space same e (held ∙ as-was ∙ f) j o (cleared j o);
+        frame = within-trans before (hop-frame x h (h or dep and k) (h and acquires (rowOf bs x)) dep v u l space same);
+      }
+    where
+      space : WORK ≤ length v
+      space = omega (arith, before .len)
+
+      same : u ≡ hopWords x h (h or dep and k) (h and acquires (rowOf bs x)) dep v
+      same =
+          let e : (h || dep && k) ≡ (h or dep and k) = or-both h (dep && k) ∙ ap (λ (z : Bool). h or z) (and-both dep k) in
+          made ∙ ap (λ (z : Bool). hopWords x h z a dep v) e ∙ ap (λ (z : Bool). hopWords x h (h or dep and k) z dep v) acq
 
 -- ---- laws: all rows
 
 pub hops-none : (t : Table) (dep : Bool) (s n : ℕ) (w : List ℕ) → n ≤ ROWS → HopsMade t dep s n 0 w w
 hops-none t dep s n w few = record { hops = record { fits = omega arith; cell = λ x m l o. absurd (omega arith) }; frame = within-refl HOPS HOPS-END w }
 
-pub hops-more : (bs : List ℕ) (t : Table) (n s x : ℕ) (dep h k q : Bool) (w v u : List ℕ) → Setup bs t n s dep w → x < n → HopsMade t dep s n x w v
-    → h ≡ bit v (HOLD * 64 + (3 * x + 1)) → k ≡ bit v (CONCERN * 64 + (3 * x + 1)) → q ≡ acquires (rowOf bs x)
-    → u ≡ hopWords x h (h or dep and k) (h and q) dep v → HopsMade t dep s n (x + 1) w u
-unfolding rel
-hops-more bs t n s x dep h k q w v u p l m held on acq made =
-    record {
-      hops = record { fits = m .hops .fits; cell = λ i j o r. go i j o r (ℕ-discrete i x) };
-      frame = within-trans (m .frame) (within-widen HOPS HOPS-END (omega arith) (omega arith) f);
-    }
-  where
-    now : Setup bs t n s dep v
-    now = setup-hops (m .frame) p
+pub rest-none : (dep : Bool) (w : List ℕ) → Rest dep w HOPS 0 HOLD
+rest-none dep w = record { empty = λ k j l. absurd (omega arith) }
 
-    few : n ≤ ROWS
-    few = p .few
+module _ (bs : List ℕ) (dep : Bool) (n x : ℕ) (w v u : List ℕ) (few : n ≤ ROWS) (l : x < n) (f : Within HOPS HOPS-END w v) (a : HopAt bs dep x v u) where
+  pub hops-frame : Within HOPS HOPS-END w u
+  hops-frame = within-trans f (within-widen HOPS HOPS-END (omega arith) (omega arith) (a .frame))
 
-    f : Within (HOPS + x * MOMENTS) (HOPS + x * MOMENTS + MOMENTS) v u
-    f = hop-bits x h (h or dep and k) (h and q) dep v u (omega arith) (now .room) made 0 (omega arith) .1
+  other : (i j : ℕ) → i < x → j < 64 * MOMENTS → rel u HOPS MOMENTS i j ≡ rel v HOPS MOMENTS i j
+  unfolding rel
+  other i j o b = within-bit (a .frame) ((HOPS + i * MOMENTS) * 64 + j) (λ z. absurd (omega arith))
 
-    go : (i j : ℕ) → i < x + 1 → j < 3 * n → Dec (i ≡ x) → bit u ((HOPS + i * MOMENTS) * 64 + j) ≡ hopRow t dep s i j
-    go i j o r (yes e) = rw e (hop-cell bs t n s x dep h k q v u now l held on acq made j r)
-    go i j o r (no e) = within-bit f ((HOPS + i * MOMENTS) * 64 + j) (λ z. omega arith) ∙ m .hops .cell i j (omega arith) r
+  -- a turn of the loop over the rows
+  pub hops-more : (t : Table) (s : ℕ) → Setup bs t n s dep w → HopsMade t dep s n x w v → HopsMade t dep s n (x + 1) w u
+  hops-more t s p m =
+      record { hops = record { fits = m .hops .fits; cell = λ i j o r. go i j o r (ℕ-discrete i x) }; frame = hops-frame }
+    where
+      go : (i j : ℕ) → i < x + 1 → j < 3 * n → Dec (i ≡ x) → rel u HOPS MOMENTS i j ≡ hopRow t dep s i j
+      go i j o r (yes e) = rw e (a .cell t n s (setup-hops f p) l j r)
+      go i j o r (no e) = other i j (omega arith) (omega arith) ∙ m .hops .cell i j (omega arith) r
+
+  pub rest-more : Rest dep v HOPS x HOLD → Rest dep u HOPS (x + 1) HOLD
+  rest-more r = record { empty = λ i j o e h b. go i j o e h b (ℕ-discrete i x) }
+    where
+      kept : (i : ℕ) → i < x + 1 → bit u (HOLD * 64 + itself i) ≡ bit v (HOLD * 64 + itself i)
+      kept i o = within-bit (a .frame) (HOLD * 64 + (3 * i + 1)) (λ z. omega arith)
+
+      go : (i j : ℕ) → i < x + 1 → dep ≡ false → bit u (HOLD * 64 + itself i) ≡ false → j < 64 * MOMENTS → Dec (i ≡ x) → rel u HOPS MOMENTS i j ≡ false
+      go i j o e h b (yes q) =
+          let off = subst (λ (z : ℕ). bit v (HOLD * 64 + itself z) ≡ false) q (sym (kept i o) ∙ h) in
+          subst (λ (z : ℕ). rel u HOPS MOMENTS z j ≡ false) (sym q) (a .none e off j b)
+      go i j o e h b (no q) = other i j (omega arith) b ∙ r .empty i j (omega arith) e (sym (kept i o) ∙ h) b
 
 -- ---- laws: closed
 
@@ -257,25 +338,9 @@ hops-closed {t} {dep} {s} {n} {w} {v} few m c =
 
 -- ---- laws: the code
 
-pub hop-made : (x : ℕ) (h k a d : Bool) (w v₀ v₁ v₂ v₃ u : List ℕ) → v₀ ≡ zeros w (HOPS + x * MOMENTS) (HOPS + x * MOMENTS + MOMENTS - (HOPS + x * MOMENTS))
-    → v₁ ≡ meetIf h v₀ (HOPS + x * MOMENTS) (JOINED + x * MOMENTS) HOLD MOMENTS → v₂ ≡ meetIf k v₁ (HOPS + x * MOMENTS) (ORDER + (3 * x + 1) * MOMENTS) RELEASE MOMENTS
+pub hop-made : (x : ℕ) (h k a d : Bool) (w v₁ v₂ v₃ u : List ℕ) → v₁ ≡ meetIf h w (HOPS + x * MOMENTS) (JOINED + x * MOMENTS) HOLD MOMENTS
+    → v₂ ≡ meetIf k v₁ (HOPS + x * MOMENTS) (ORDER + (3 * x + 1) * MOMENTS) RELEASE MOMENTS
     → v₃ ≡ meetIf a v₂ (HOPS + x * MOMENTS) (ORDER + (3 * x + 1) * MOMENTS) CONCERN MOMENTS
     → u ≡ meetIf d v₃ (HOPS + x * MOMENTS) (DEPENDS + x * MOMENTS) (DEPENDS + x * MOMENTS) MOMENTS → u ≡ hopWords x h k a d w
 unfolding hopWords
-hop-made x h k a d w v₀ v₁ v₂ v₃ u e₀ e₁ e₂ e₃ e₄ =
-    let z : HOPS + x * MOMENTS + MOMENTS - (HOPS + x * MOMENTS) ≡ MOMENTS = omega arith in
-    let f₀ : v₀ ≡ zeros w (HOPS + x * MOMENTS) MOMENTS = e₀ ∙ ap (λ (c : ℕ). zeros w (HOPS + x * MOMENTS) c) z in
-    rw (← f₀, ← e₁, ← e₂, ← e₃) e₄
-
--- a turn of the loop over the rows
-pub hops-turn : (bs : List ℕ) (t : Table) (n s x : ℕ) (dep h k a : Bool) (w v u : List ℕ) → Setup bs t n s dep w → x < n → HopsMade t dep s n x w v
-    → h ≡ bit v (HOLD * 64 + (3 * x + 1)) → k ≡ bit v (CONCERN * 64 + (3 * x + 1)) → a ≡ (h and acquires (rowOf bs x))
-    → u ≡ hopWords x h (h || dep && k) a dep v → HopsMade t dep s n (x + 1) w u
-hops-turn bs t n s x dep h k a w v u p l m held on acq made =
-    let e : (h || dep && k) ≡ (h or dep and k) = or-both h (dep && k) ∙ ap (λ (z : Bool). h or z) (and-both dep k) in
-    hops-more bs t n s x dep h k (acquires (rowOf bs x)) w v u p l m held on refl
-    (made ∙ ap (λ (z : Bool). hopWords x h z a dep v) e ∙ ap (λ (z : Bool). hopWords x h (h or dep and k) z dep v) acq)
-
-pub hops-frame : (x : ℕ) (h k a d : Bool) (w v u : List ℕ) → x < ROWS → WORK ≤ length v → Within HOPS HOPS-END w v → u ≡ hopWords x h k a d v → Within HOPS HOPS-END w u
-hops-frame x h k a d w v u l room f made =
-    within-trans f (within-widen HOPS HOPS-END (omega arith) (omega arith) (hop-bits x h k a d v u l room made 0 (omega arith) .1))
+hop-made x h k a d w v₁ v₂ v₃ u e₁ e₂ e₃ e₄ = rw (← e₁, ← e₂, ← e₃) e₄

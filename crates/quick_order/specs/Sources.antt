@@ -114,7 +114,8 @@ module _ (h : Bool) (j m : ℕ) (w u : List ℕ) (l : m < 3 * ROWS) (room : WORK
       v : List ℕ
       v = joinRow w (HAPPENS + m * MOMENTS) (HOPS + j / 3 * MOMENTS) MOMENTS
 
-      joined : (z : ℕ) → z < NONE → bit v ((HAPPENS + m * MOMENTS) * 64 + z) ≡ (bit w ((HAPPENS + m * MOMENTS) * 64 + z) or bit w ((HOPS + j / 3 * MOMENTS) * 64 + z))
+      joined : (z : ℕ) → z < NONE
+          → bit v ((HAPPENS + m * MOMENTS) * 64 + z) ≡ (bit w ((HAPPENS + m * MOMENTS) * 64 + z) or bit w ((HOPS + j / 3 * MOMENTS) * 64 + z))
       joined z q = bit-joinRow w (HAPPENS + m * MOMENTS) (HOPS + j / 3 * MOMENTS) MOMENTS z (omega arith) (omega arith)
 
       off : (a b : Bool) → b ≡ false → a ≡ (a or (not h and b))
@@ -236,7 +237,8 @@ module _ (bs : List ℕ) (t : Table) (n s m : ℕ) (dep : Bool) (w u : List ℕ)
 one-frame : (m : ℕ) (h : Bool) (v u : List ℕ) → m < 3 * ROWS → WORK ≤ length v → Sourced m h v u → Within HAPPENS HAPPENS-END v u
 one-frame m h v u l room d = within-widen HAPPENS HAPPENS-END (omega arith) (omega arith) (source-frame h (d .source) m v u l room (d .made))
 
-pub sources-frame : (x : ℕ) (dep : Bool) (w v u : List ℕ) → x < ROWS → WORK ≤ length v → Within HAPPENS HAPPENS-END w v → RowSourced x dep v u → Within HAPPENS HAPPENS-END w u
+pub sources-frame : (x : ℕ) (dep : Bool) (w v u : List ℕ) → x < ROWS → WORK ≤ length v → Within HAPPENS HAPPENS-END w v → RowSourced x dep v u
+    → Within HAPPENS HAPPENS-END w u
 sources-frame x dep w v u l room f d =
     let a = one-frame (3 * x) false v (d .one) (omega arith) room (d .before) in
     let p = a .len in
@@ -314,7 +316,8 @@ source-own w m h e = record { own = λ q. refl; none = λ q. not-both e q; first
 pub source-none : (w : List ℕ) (m : ℕ) (h : Bool) → h ≡ false → bit w (CONCERN * 64 + m) ≡ false → Source w m h NONE
 source-none w m h e f = record { own = λ q. not-both q e; none = λ q z. refl; first = λ q z. not-both z f }
 
-pub source-first : (w : List ℕ) (m j : ℕ) (h : Bool) → h ≡ false → bit w (CONCERN * 64 + m) ≡ true → Least NONE (both w (ORDER + m * MOMENTS) RELEASE) j → Source w m h j
+pub source-first : (w : List ℕ) (m j : ℕ) (h : Bool) → h ≡ false → bit w (CONCERN * 64 + m) ≡ true
+    → Least NONE (both w (ORDER + m * MOMENTS) RELEASE) j → Source w m h j
 source-first w m j h e f l = record { own = λ q. not-both q e; none = λ q z. not-both f z; first = λ q z. l }
 
 pub sourced-on : (m j : ℕ) (h : Bool) (w v u : List ℕ) → Source w m h j → j < NONE
@@ -327,7 +330,8 @@ pub sourced-off : (m j : ℕ) (h : Bool) (w : List ℕ) → Source w m h j → N
 unfolding sourceWords
 sourced-off m j h w s l = record { source = j; source-is = s; made = rw (le-ltb j NONE l) refl }
 
-pub row-sourced : (x : ℕ) (dep h : Bool) (w v y u : List ℕ) → Sourced (3 * x) false w v → h ≡ bit v (HOLD * 64 + (3 * x + 1)) → Sourced (3 * x + 1) (h || dep) v y
+pub row-sourced : (x : ℕ) (dep h : Bool) (w v y u : List ℕ) → Sourced (3 * x) false w v → h ≡ bit v (HOLD * 64 + (3 * x + 1))
+    → Sourced (3 * x + 1) (h || dep) v y
     → Sourced (3 * x + 2) false y u → RowSourced x dep w u
 row-sourced x dep h w v y u a e b c =
     record { one = v; two = y; held = h || dep; held-is = or-both h dep ∙ ap (λ (z : Bool). z or dep) e; before = a; itself = b; after = c }

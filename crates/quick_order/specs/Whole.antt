@@ -32,7 +32,8 @@ use Rattle.moment_sets.specs.Regions.{CLASSES, HOPS, HOPS-END, JOINED, DEPENDS,
 use Rattle.moment_sets.specs.Known.{Set, Based, Setup, rows-kept, set-kept, based-kept, setup-hops, setup-happens}
 use Rattle.moment_sets.specs.Program.{Begun, decode-rows}
 use Rattle.moment_sets.specs.Joined.{MadeJoined, MadeDepends, joined-is, depends-is}
-use Rattle.moment_sets.specs.Classes.{holdingAt, releasesAt, MadeSet, MadeTouched, ReleaseMade, ConcernMade, joinsHolder, hold-is, releasing-is, touched-is, release-set, concern-set, quiet-is}
+use Rattle.moment_sets.specs.Classes.{holdingAt, releasesAt, MadeSet, MadeTouched, ReleaseMade, ConcernMade, joinsHolder, hold-is, releasing-is}
+use Rattle.moment_sets.specs.Classes.{touched-is, release-set, concern-set, quiet-is}
 use Rattle.quick_order.specs.Hops.{HopsMade, hops-closed}
 use Rattle.quick_order.specs.Sources.{Closed}
 
@@ -72,7 +73,8 @@ onward-none : (t : Table) (m k : ℕ) → programOrder t m k ≡ onward t CLASS-
 unfolding onward
 onward-none t m k = sym (or-off _ _ (any-not _ CLASS-SETS (λ j l. and-false-left _ _ (lt-leb CLASS-SETS j l))))
 
-onward-out : (t : Table) (s m k : ℕ) → onward t s m k ≡ true → (programOrder t m k ≡ true) ⊎ ((j : ℕ) × (s ≤ j) × (j < CLASS-SETS) × (interThreadBy t m k j ≡ true))
+onward-out : (t : Table) (s m k : ℕ) → onward t s m k ≡ true
+    → (programOrder t m k ≡ true) ⊎ ((j : ℕ) × (s ≤ j) × (j < CLASS-SETS) × (interThreadBy t m k j ≡ true))
 unfolding onward
 onward-out t s m k e =
     ⊎-elim inl (λ a. let r = any-out (λ j. leb s j and interThreadBy t m k j) CLASS-SETS a in let b = split (r .2) in inr (r .0, leb-true s (r .0) (b .0), r .1, b .1))
@@ -112,7 +114,8 @@ row-is : (b : List ℕ) (p : List (List ℕ)) (mode : Mode) (n x : ℕ) → deco
 unfolding decode
 row-is b p mode n x = refl
 
-pub started-made : (b : List ℕ) (p : List (List ℕ)) (mode : Mode) (n : ℕ) (w v x y z a u : List ℕ) → n ≤ ROWS → Synced (decode b p mode n) n v × Within MUTUAL HAPPENS-END w v
+pub started-made : (b : List ℕ) (p : List (List ℕ)) (mode : Mode) (n : ℕ) (w v x y z a u : List ℕ) → n ≤ ROWS
+    → Synced (decode b p mode n) n v × Within MUTUAL HAPPENS-END w v
     → Begun (decode b p mode n) n v x → MadeJoined n x y → MadeDepends mode n (mode .dependencies) y z → MadeSet RELEASING n (releasesAt b) z a
     → MadeTouched b n CLASSES a u → Started (decode b p mode n) n w u
 started-made b p mode n w v x y z a u few synced begun joined depends releasing touched =
@@ -211,14 +214,16 @@ closed-frame n s w v x y z u few a b c d e =
 
 -- ---- laws: dependencies
 
-told-is : (b : List ℕ) (p : List (List ℕ)) (mode : Mode) (n x y : ℕ) (dep : Bool) → dep ≡ ltb 0 (mode .dependencies) → decode b p mode n .depends x y ≡ true → dep ≡ true
+told-is : (b : List ℕ) (p : List (List ℕ)) (mode : Mode) (n x y : ℕ) (dep : Bool) → dep ≡ ltb 0 (mode .dependencies)
+    → decode b p mode n .depends x y ≡ true → dep ≡ true
 unfolding decode dependsOf
 told-is b p mode n x y dep e h =
     let k = any-out (dependency mode x y) (mode .dependencies) h in
     let l = k .1 in
     e ∙ lt-ltb 0 (mode .dependencies) (omega arith)
 
-free-is : (b : List ℕ) (p : List (List ℕ)) (mode : Mode) (n : ℕ) (dep : Bool) → dep ≡ ltb 0 (mode .dependencies) → dep ≡ false → (x y : ℕ) → decode b p mode n .depends x y ≡ false
+free-is : (b : List ℕ) (p : List (List ℕ)) (mode : Mode) (n : ℕ) (dep : Bool) → dep ≡ ltb 0 (mode .dependencies) → dep ≡ false → (x y : ℕ)
+    → decode b p mode n .depends x y ≡ false
 free-is b p mode n dep e f x y = not-so _ (λ h. not-both (told-is b p mode n x y dep e h) f)
 
 -- ---- laws: what covers a class set

@@ -8,9 +8,10 @@ ghost use Rattle.bits.specs.Within.{Within};
 ghost use Rattle.model.specs.Limits.{ROWS, WORK};
 ghost use Rattle.model.specs.Row.{acquires};
 ghost use Rattle.model.specs.Table.{Table, rowOf};
-ghost use Rattle.moment_sets.specs.Regions.{HOPS, HOPS-END};
+ghost use Rattle.moment_sets.specs.Regions.{HOPS, HOPS-END, HOLD};
+ghost use Rattle.sets.specs.Own.{Rest};
 ghost use Rattle.moment_sets.specs.Known.{Setup};
-ghost use Rattle.quick_order.specs.Hops.{hopWords, HopsMade};
+ghost use Rattle.quick_order.specs.Hops.{hopWords, HopAt, HopsMade};
 
 // Whether row x acquires, where h says that it is asked.
 fn acquires_at(rows: &[u8], x: usize, h: bool) -> bool
@@ -23,7 +24,7 @@ fn acquires_at(rows: &[u8], x: usize, h: bool) -> bool
     rows::kinds::acquires(rows::bytes::read_row(rows, x as u16))
 }
 
-// The hops of row x: case 1 where h, case 2 where k, case 3 where a, case 4 where d.
+// The hops of row x, whose words are clear: case 1 where h, case 2 where k, case 3 where a, case 4 where d.
 fn hop_row(w: &mut [u64], x: usize, h: bool, k: bool, a: bool, d: bool)
     requires { ⌜ (x < ROWS) × (WORK ≤ length (now w)) ⌝ }
     ensures { λ _. ⌜ now (w .exit) ≡ hopWords x h k a d (now (w .entry)) ⌝ }
@@ -32,23 +33,36 @@ fn hop_row(w: &mut [u64], x: usize, h: bool, k: bool, a: bool, d: bool)
     let order = moment_sets::ORDER + (3 * x + 1) * area::MOMENTS;
     let joined = moment_sets::JOINED + x * area::MOMENTS;
     let depends = moment_sets::DEPENDS + x * area::MOMENTS;
-    bits::clear(w, hops, hops + area::MOMENTS);
     sets::meet_if(w, h, hops, joined, moment_sets::HOLD, area::MOMENTS);
     sets::meet_if(w, k, hops, order, moment_sets::RELEASE, area::MOMENTS);
     sets::meet_if(w, a, hops, order, moment_sets::CONCERN, area::MOMENTS);
     sets::meet_if(w, d, hops, depends, depends, area::MOMENTS);
 }
 
-// The hops of all rows, of the class set whose sets the work area holds; `dep` says that there are dependencies.
-pub fn fill_hops(w: &mut [u64], rows: &[u8], n: usize, dep: bool)
-    requires { ⌜ (n ≤ ROWS) × (WORK ≤ length (now w)) ⌝ }
-    ensures { λ _. ⌜ Within HOPS HOPS-END (now (w .entry)) (now (w .exit))
-        × ((t : Table) (s : ℕ) → Setup (now (rows .entry)) t n s dep (now (w .entry)) → HopsMade t dep s n n (now (w .entry)) (now (w .exit))) ⌝ }
+// The hops of row x, of the class set whose sets the work area holds; `dep` says that there are dependencies. Without, only a row that
+// holds all of the class set has hops.
+// Ruled out: one that leaves the row's hops of another class set; one that passes over a row that only has dependencies.
+fn hop_at(w: &mut [u64], rows: &[u8], x: usize, dep: bool)
+    requires { ⌜ (x < ROWS) × (WORK ≤ length (now w)) ⌝ }
+    ensures { λ _. ⌜ HopAt (now (rows .entry)) dep x (now (w .entry)) (now (w .exit)) ⌝ }
 {
-    for x in 0..n {
-        let h = bits::get(w, moment_sets::HOLD * 64 + (3 * x + 1));
+    let hops = moment_sets::HOPS + x * area::MOMENTS;
+    bits::clear(w, hops, hops + area::MOMENTS);
+    let h = bits::get(w, moment_sets::HOLD * 64 + (3 * x + 1));
+    if h | dep {
         let k = bits::get(w, moment_sets::CONCERN * 64 + (3 * x + 1));
         let a = acquires_at(rows, x, h);
         hop_row(w, x, h, h | dep & k, a, dep);
+    }
+}
+
+// The same for all rows.
+pub fn fill_hops(w: &mut [u64], rows: &[u8], n: usize, dep: bool)
+    requires { ⌜ (n ≤ ROWS) × (WORK ≤ length (now w)) ⌝ }
+    ensures { λ _. ⌜ Within HOPS HOPS-END (now (w .entry)) (now (w .exit)) × Rest dep (now (w .exit)) HOPS n HOLD
+        × ((t : Table) (s : ℕ) → Setup (now (rows .entry)) t n s dep (now (w .entry)) → HopsMade t dep s n n (now (w .entry)) (now (w .exit))) ⌝ }
+{
+    for x in 0..n {
+        hop_at(w, rows, x, dep);
     }
 }

@@ -32,7 +32,7 @@ fn close_set(w: &mut [u64], rows: &[u8], n: usize, s: u8, dep: bool)
     moment_sets::classes::fill_release(w);
     moment_sets::classes::fill_concern(w, s);
     hops::fill_hops(w, rows, n, dep);
-    sets::close_own(w, moment_sets::HOPS, n);
+    sets::own::close_own(w, moment_sets::HOPS, n, moment_sets::HOLD, dep);
     sources::add_sources(w, n, dep);
 }
 

@@ -80,7 +80,8 @@ module _ (b : List ℕ) (n : ℕ) (r : ℕ → ℕ → Bool) where
           → anyBelow n (λ c. leb a c and eqb (rowOf b c .agent) g and r c k) ≡ true
       back e = ⊎-elim earlier here (or-cases (anyBelow n (λ c. leb (a + 1) c and eqb (rowOf b c .agent) g and r c k)) (eqb (rowOf b a .agent) g and r a k) e)
         where
-          earlier : anyBelow n (λ c. leb (a + 1) c and eqb (rowOf b c .agent) g and r c k) ≡ true → anyBelow n (λ c. leb a c and eqb (rowOf b c .agent) g and r c k) ≡ true
+          earlier : anyBelow n (λ c. leb (a + 1) c and eqb (rowOf b c .agent) g and r c k) ≡ true
+              → anyBelow n (λ c. leb a c and eqb (rowOf b c .agent) g and r c k) ≡ true
           earlier h =
               let c = any-out _ n h in
               let s = split (c .2) in
@@ -198,7 +199,8 @@ module _ (b : List ℕ) (n dst src : ℕ) (few : n ≤ ROWS) (t : Target dst src
         rw e (bit-joinRow w (AGENTS + g * GRID) (src + a * GRID) GRID k (omega arith) q)
         ∙ ap₂ _or_ (h .own g k lg q) (sym (and-on _ _ (eq-eqb (rowOf b a .agent) g (sym eg))))
 
-    other : (x k : ℕ) → x < 256 → k < 64 * GRID → (x ≡ g → ⊥) → grid v AGENTS x k ≡ (anyBelow n (fromRow b (a + 1) x (grid w src) k) or (eqb (rowOf b a .agent) x and grid w src a k))
+    other : (x k : ℕ) → x < 256 → k < 64 * GRID → (x ≡ g → ⊥)
+        → grid v AGENTS x k ≡ (anyBelow n (fromRow b (a + 1) x (grid w src) k) or (eqb (rowOf b a .agent) x and grid w src a k))
     unfolding rel
     other x k m q o =
         within-bit taken ((AGENTS + x * GRID) * 64 + k) (λ z. omega arith) ∙ h .own x k m q
@@ -298,7 +300,8 @@ alone-row b w u at n a k z l e ez eu = eu ∙ row-one-if (alone b a) w at n a k 
 pub joined-length : (w : List ℕ) {v : List ℕ} (d s n : ℕ) → v ≡ joinRow w d s n → length v ≡ length w
 joined-length w d s n e = rw e (within-joinRow w d s n .len)
 
-pub target-apart : {dst src : ℕ} → Target dst src → (g a : ℕ) → g < 256 → a < ROWS → AGENTS + g * GRID < dst + a * GRID → AGENTS + g * GRID + GRID ≤ dst + a * GRID
+pub target-apart : {dst src : ℕ} → Target dst src → (g a : ℕ) → g < 256 → a < ROWS → AGENTS + g * GRID < dst + a * GRID
+    → AGENTS + g * GRID + GRID ≤ dst + a * GRID
 target-apart {dst} t g a l m h = go (decLt dst UP-TO)
   where
     go : Dec (dst < UP-TO) → AGENTS + g * GRID + GRID ≤ dst + a * GRID

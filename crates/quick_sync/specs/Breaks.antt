@@ -10,7 +10,8 @@ use native.Mathlib.Numerals.{add-one}
 use native.Mathlib.Decide.{decLt, ℕ-discrete}
 use lib.Dec.{eqb, ltb, leb}
 use borrow.Author.Tests.{ne-eqb, eq-eqb, eqb-true, lt-ltb, le-ltb, ltb-true, lt-leb, le-leb, leb-true, not-false}
-use Rattle.finite.specs.Logic.{_and_, _or_, which, bool-ext, not-both, not-so, not-in, not-out, split, and-true, and-false-left, and-false-right, or-cases, or-off, or-none, and-on}
+use Rattle.finite.specs.Logic.{_and_, _or_, which, bool-ext, not-both, not-so, not-in, not-out, split, and-true, and-false-left, and-false-right}
+use Rattle.finite.specs.Logic.{or-cases, or-off, or-none, and-on}
 use Rattle.finite.specs.Below.{anyBelow, any-cong}
 use Rattle.bits.specs.Fill.{or-fresh}
 use Rattle.model.specs.declared.Mode.{Mode}
@@ -68,7 +69,8 @@ since-is true z x h lx lh ez ex = go (decLt ((x + COUNTS - h) % COUNTS) ((z + CO
         let m : (z + COUNTS - h) % COUNTS ≤ (x + COUNTS - h) % COUNTS = omega arith in
         le-leb _ _ m ∙ sym (not-in (not-so _ (λ e. out m (split e))))
       where
-        out : (z + COUNTS - h) % COUNTS ≤ (x + COUNTS - h) % COUNTS → (leb 1 ((z + COUNTS - x) % COUNTS) ≡ true) × (ltb ((z + COUNTS - x) % COUNTS) RUN ≡ true) → ⊥
+        out : (z + COUNTS - h) % COUNTS ≤ (x + COUNTS - h) % COUNTS
+            → (leb 1 ((z + COUNTS - x) % COUNTS) ≡ true) × (ltb ((z + COUNTS - x) % COUNTS) RUN ≡ true) → ⊥
         out m s = omega (arith, m, oz .0, oz .1, ox .0, ox .1, leb-true 1 ((z + COUNTS - x) % COUNTS) (s .0), ltb-true ((z + COUNTS - x) % COUNTS) RUN (s .1))
 
 since-small : (c : Bool) (x h : ℕ) → x < COUNTS → since c x h < COUNTS
@@ -214,7 +216,8 @@ module _ (b : List ℕ) (p : List (List ℕ)) (mode : Mode) (n : ℕ) where
   unfolding breaks follows
   break-apart a z e = no-break a z (and-false-left _ _ (and-false-left _ _ e))
 
-  pub break-other : (a z k : ℕ) → mutually (decode b p mode n) a z ≡ true → k ≡ rowOf b z .kind → (k ≡ ATOMIC-WRITE → ⊥) → COUNTS ≡ breakAt (decode b p mode n) a z
+  pub break-other : (a z k : ℕ) → mutually (decode b p mode n) a z ≡ true → k ≡ rowOf b z .kind → (k ≡ ATOMIC-WRITE → ⊥)
+      → COUNTS ≡ breakAt (decode b p mode n) a z
   unfolding breaks follows laterWriter continues decode
   break-other a z k m ek h =
       no-break a z
@@ -228,7 +231,8 @@ module _ (b : List ℕ) (p : List (List ℕ)) (mode : Mode) (n : ℕ) where
   unfolding breaks follows laterWriter decode
   break-earlier a z k h y eh ek ey e = no-break a z (and-false-left _ _ (and-false-right _ _ (and-false-right _ _ (rw (← ek, ← eh, ← ey) (not-out y e)))))
 
-  pub break-here : (a z k r s : ℕ) (h : Row) (y : Bool) → mutually (decode b p mode n) a z ≡ true → h ≡ rowOf b a → writes h ≡ true → k ≡ rowOf b z .kind → k ≡ ATOMIC-WRITE
+  pub break-here : (a z k r s : ℕ) (h : Row) (y : Bool) → mutually (decode b p mode n) a z ≡ true → h ≡ rowOf b a → writes h ≡ true
+      → k ≡ rowOf b z .kind → k ≡ ATOMIC-WRITE
       → r ≡ rowOf b z .rank → y ≡ later (mode .counted) r (h .rank) → not y ≡ false → s ≡ since (mode .counted) r (h .rank) → s ≡ breakAt (decode b p mode n) a z
   unfolding breaks follows laterWriter decode
   break-here a z k r s h y m eh w ek e er ey f es =
@@ -268,7 +272,8 @@ module _ (b : List ℕ) (p : List (List ℕ)) (mode : Mode) (n : ℕ) where
     unfolding follows laterWriter decode
     sequence-read k ek e = sym (sequence-other a x different (and-false-right _ _ (and-false-left _ _ (and-false-left _ _ (reads-alone (rowOf b x) (sym ek ∙ e))))))
 
-    pub sequence-earlier : (k : ℕ) (h : Row) (y : Bool) → h ≡ rowOf b a → k ≡ rowOf b x .rank → y ≡ later (mode .counted) k (h .rank) → not y ≡ true → false ≡ sequence (decode b p mode n) a x
+    pub sequence-earlier : (k : ℕ) (h : Row) (y : Bool) → h ≡ rowOf b a → k ≡ rowOf b x .rank → y ≡ later (mode .counted) k (h .rank) → not y ≡ true
+        → false ≡ sequence (decode b p mode n) a x
     unfolding follows laterWriter decode
     sequence-earlier k h y eh ek ey e = sym (sequence-other a x different (and-false-right _ _ (and-false-right _ _ (rw (← ek, ← eh, ← ey) (not-out y e)))))
 

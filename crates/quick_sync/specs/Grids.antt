@@ -33,7 +33,8 @@ pub record RowOf (a n i : ℕ) (q : ℕ → Bool) (w u : List ℕ) : Type 0 wher
 
 -- ---- laws
 
-pub rows-of-none : (w : List ℕ) {v : List ℕ} (a n : ℕ) {r : ℕ → ℕ → Bool} → n ≤ ROWS → a + ROWS-GRID ≤ length w → v ≡ zeros w a (a + ROWS-GRID - a) → RowsOf a n 0 r v
+pub rows-of-none : (w : List ℕ) {v : List ℕ} (a n : ℕ) {r : ℕ → ℕ → Bool} → n ≤ ROWS → a + ROWS-GRID ≤ length w → v ≡ zeros w a (a + ROWS-GRID - a)
+    → RowsOf a n 0 r v
 unfolding rel
 rows-of-none w a n few room e =
     record {
@@ -41,7 +42,8 @@ rows-of-none w a n few room e =
       left = λ x k p q s. rw e (bit-zeros-in w a (a + ROWS-GRID - a) ((a + x * GRID) * 64 + k) (omega arith) (omega arith) (omega arith));
     }
 
-pub rows-of-more : {a n i : ℕ} {r : ℕ → ℕ → Bool} {w u : List ℕ} → n ≤ ROWS → RowsOf a n i r w → ((x k : ℕ) → x < n → (x ≡ i → ⊥) → k < n → grid u a x k ≡ grid w a x k)
+pub rows-of-more : {a n i : ℕ} {r : ℕ → ℕ → Bool} {w u : List ℕ} → n ≤ ROWS → RowsOf a n i r w
+    → ((x k : ℕ) → x < n → (x ≡ i → ⊥) → k < n → grid u a x k ≡ grid w a x k)
     → ((k : ℕ) → k < n → grid u a i k ≡ r i k) → i < n → RowsOf a n (i + 1) r u
 rows-of-more {a} {n} {i} {r} {w} {u} few h other here l =
     record { done = λ x k p q. done x k p q (ℕ-discrete x i); left = λ x k p q s. other x k q (λ e. absurd (omega arith)) s ∙ h .left x k (omega arith) q s }

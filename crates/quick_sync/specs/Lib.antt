@@ -1,5 +1,4 @@
 pub mod Regions
-pub mod Walk
 pub mod Product
 pub mod Links
 pub mod Rows
@@ -11,3 +10,4 @@ pub mod Grids
 pub mod Along
 pub mod Like
 pub mod Near
+pub mod Filed

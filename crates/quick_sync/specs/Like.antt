@@ -130,7 +130,8 @@ module _ (b : List ℕ) (p : List (List ℕ)) (n c d : ℕ) (r : Row) (er : r �
   pub joins-self : c ≡ d → false ≡ joins (decode b p OFF n) c d
   joins-self e = sym (joins-is ∙ and-false-left _ _ (and-false-left _ _ (rw (eq-eqb c d e) refl)))
 
-  pub joins-on : (v s : Bool) (g : ℕ) → v ≡ ofInstance (r .start) (rowOf b d) → not v ≡ false → (c ≡ d → ⊥) → g ≡ rowOf b d .agent → s ≡ shares p (r .class) (r .agent) g
+  pub joins-on : (v s : Bool) (g : ℕ) → v ≡ ofInstance (r .start) (rowOf b d) → not v ≡ false → (c ≡ d → ⊥) → g ≡ rowOf b d .agent
+      → s ≡ shares p (r .class) (r .agent) g
       → s ≡ joins (decode b p OFF n) c d
   unfolding _and_
   joins-on v s g ev h e eg es = sym (joins-is ∙ rw (ne-eqb c d e, ← ev, not-false v h, ← eg, ← es) refl)

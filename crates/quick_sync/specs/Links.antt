@@ -13,7 +13,8 @@ use Rattle.model.specs.declared.Row.{Row}
 use Rattle.model.specs.Row.{atomic, barrier, control, sameInstance, reads, releases, acquires}
 use Rattle.model.specs.Table.{Table}
 use Rattle.model.specs.Scope.{together, mutualRows, mutually}
-use Rattle.model.specs.Synchronizes.{takesFrom, leads, trails, upTo, joins, arrives, passes, syncAtomics, carriesOut, syncFromBarrier, carriesIn, syncToBarrier, carriesOver, syncBarriers, syncControl, synchronizes}
+use Rattle.model.specs.Synchronizes.{takesFrom, leads, trails, upTo, joins, arrives, passes, syncAtomics, carriesOut, syncFromBarrier, carriesIn}
+use Rattle.model.specs.Synchronizes.{syncToBarrier, carriesOver, syncBarriers, syncControl, synchronizes}
 use Rattle.quick_sync.specs.Product.{byWay, times}
 
 -- ---- definitions

@@ -25,7 +25,7 @@ use Rattle.model.specs.Synchronizes.{synchronizes}
 use Rattle.area.specs.Regions.{SYNC, SYNC-END, GRID, ROWS-GRID}
 use Rattle.sets.specs.Meet.{meetRow, both, within-meetRow, bit-meetRow}
 use Rattle.quick_sync.specs.Regions.{LINKS, PASSED, COVER, GOOD, GOOD-END, UNKNOWN, UNKNOWN-END}
-use Rattle.quick_sync.specs.Walk.{either, Next, once}
+use Rattle.sets.specs.Walk.{either, Next, once}
 use Rattle.quick_sync.specs.Product.{grid}
 use Rattle.quick_sync.specs.Words.{Dropped, Lessened, eqb-turn, eqb-moved}
 use Rattle.quick_sync.specs.Grids.{RowsOf, rows-of-more, rows-of-row, rows-of-done, row-of-none}
@@ -146,7 +146,8 @@ module _ (b : List ℕ) (p : List (List ℕ)) (n a e : ℕ) (r : Row) (x g : ℕ
 
 -- ---- laws: what is learnt
 
-pub learnt-kept : {b : List ℕ} {p : List (List ℕ)} {n c d : ℕ} {w u : List ℕ} → n ≤ ROWS → (c < GOOD-END → d ≤ COVER) → Within c d w u → Learnt b p n w → Learnt b p n u
+pub learnt-kept : {b : List ℕ} {p : List (List ℕ)} {n c d : ℕ} {w u : List ℕ} → n ≤ ROWS → (c < GOOD-END → d ≤ COVER) → Within c d w u
+    → Learnt b p n w → Learnt b p n u
 unfolding rel
 learnt-kept {b} {p} {n} {c} {d} {w} {u} few off f h =
     record { cell = λ e k q m. at GOOD (omega arith) (omega arith) e k q m ∙ h .cell e k q m ∙ ap (λ (z : Bool). z and near b p e k) (sym (at COVER (omega arith) (omega arith) e k q m)) }
@@ -159,7 +160,8 @@ learnt-kept {b} {p} {n} {c} {d} {w} {u} few off f h =
         out o (no z) = absurd (omega arith)
 
 -- both grids are cleared
-pub learnt-none : (b : List ℕ) (p : List (List ℕ)) (n : ℕ) (w : List ℕ) {u : List ℕ} → n ≤ ROWS → WORK ≤ length w → u ≡ zeros w COVER (GOOD-END - COVER) → Learnt b p n u
+pub learnt-none : (b : List ℕ) (p : List (List ℕ)) (n : ℕ) (w : List ℕ) {u : List ℕ} → n ≤ ROWS → WORK ≤ length w
+    → u ≡ zeros w COVER (GOOD-END - COVER) → Learnt b p n u
 unfolding rel _and_
 learnt-none b p n w {u} few room f =
     record { cell = λ e k q m. off GOOD (omega arith) (omega arith) e k q m ∙ sym (and-false-left _ _ (off COVER (omega arith) (omega arith) e k q m)) }
@@ -262,7 +264,8 @@ learning-none {n = n} {j = j} {w = w} h s =
       frame = within-refl COVER GOOD-END w;
     }
 
-pub learning-more : {b : List ℕ} {p : List (List ℕ)} {n e j k : ℕ} {w v u : List ℕ} → j < n → Learning b p n e w v j → LearntOne b p n e j v u → Next u UNKNOWN UNKNOWN (j + 1) n k
+pub learning-more : {b : List ℕ} {p : List (List ℕ)} {n e j k : ℕ} {w v u : List ℕ} → j < n → Learning b p n e w v j → LearntOne b p n e j v u
+    → Next u UNKNOWN UNKNOWN (j + 1) n k
     → Learning b p n e w u k
 learning-more {b} {p} {n} {e} {j} {k} {w} {v} {u} lj h o s =
     record {
@@ -364,14 +367,16 @@ unfolding _and_ _or_
 mixed-off c true t d = refl
 mixed-off c false t d = refl
 
-mixed : (l q c x t d : Bool) → ((l or q) ≡ true → c ≡ true) → ((false or (l and (c and (x and t))) or (q and (c and (x and t)))) and d) ≡ (x and (l or q) and d and t)
+mixed : (l q c x t d : Bool) → ((l or q) ≡ true → c ≡ true)
+    → ((false or (l and (c and (x and t))) or (q and (c and (x and t)))) and d) ≡ (x and (l or q) and d and t)
 mixed true q c x t d h = rw (h (or-left q refl)) (mixed-on q x t d)
 mixed false true c x t d h = rw (h (or-right false refl)) (mixed-in x t d)
 mixed false false c x t d h = mixed-off c x t d
 
 module _ (b : List ℕ) (p : List (List ℕ)) (mode : Mode) (n a : ℕ) (few : n ≤ ROWS) (la : a < n) where
   -- a row that doesn't release
-  pub turn-none : {w : List ℕ} (r : Row) (u : Bool) → r ≡ rowOf b a → u ≡ releases r → not u ≡ true → Turn b p mode n a w → Turn b p mode n (a + 1) w × Within SYNC UNKNOWN-END w w
+  pub turn-none : {w : List ℕ} (r : Row) (u : Bool) → r ≡ rowOf b a → u ≡ releases r → not u ≡ true → Turn b p mode n a w
+      → Turn b p mode n (a + 1) w × Within SYNC UNKNOWN-END w w
   turn-none {w} r u er eu h t = (
     record {
       linked = t .linked;
@@ -382,7 +387,8 @@ module _ (b : List ℕ) (p : List (List ℕ)) (mode : Mode) (n a : ℕ) (few : n
   )
 
   -- one that is linked to none, and passes to none
-  pub turn-bare : {w : List ℕ} (k : ℕ) → n ≤ k → Next w (LINKS + a * GRID) (PASSED + a * GRID) 0 n k → Turn b p mode n a w → Turn b p mode n (a + 1) w × Within SYNC UNKNOWN-END w w
+  pub turn-bare : {w : List ℕ} (k : ℕ) → n ≤ k → Next w (LINKS + a * GRID) (PASSED + a * GRID) 0 n k → Turn b p mode n a w
+      → Turn b p mode n (a + 1) w × Within SYNC UNKNOWN-END w w
   turn-bare {w} k l s t = (
     record {
       linked = t .linked;
@@ -452,7 +458,8 @@ cleared-sync w e c few room x j q o =
     within-bit c ((SYNC + x * GRID) * 64 + j) (λ m. absurd (omega arith))
     ∙ rw e (bit-zeros-in w SYNC (SYNC-END - SYNC) ((SYNC + x * GRID) * 64 + j) (omega arith) (omega arith) (omega arith))
 
-pub turn-first : {b : List ℕ} {p : List (List ℕ)} {mode : Mode} {n : ℕ} (w : List ℕ) {v u : List ℕ} → n ≤ ROWS → WORK ≤ length w → Linked (decode b p mode n) n w
+pub turn-first : {b : List ℕ} {p : List (List ℕ)} {mode : Mode} {n : ℕ} (w : List ℕ) {v u : List ℕ} → n ≤ ROWS → WORK ≤ length w
+    → Linked (decode b p mode n) n w
     → v ≡ zeros w SYNC (SYNC-END - SYNC) → u ≡ zeros v COVER (GOOD-END - COVER) → Turn b p mode n 0 u × Within SYNC UNKNOWN-END w u
 turn-first {b} {p} {mode} {n} w {v} {u} few room k e f =
     let cv = within-cleared SYNC SYNC-END (omega arith) e in

@@ -68,7 +68,8 @@ beyond : (k c j : ℕ) → (k < c + j → ⊥) → (k ≡ c + j → ⊥) → c +
 beyond k c j p q = omega arith
 
 -- the pair of i and j, the lesser first
-pub pairs-put : {r : ℕ → ℕ → Bool} {n : ℕ} {w v u : List ℕ} (i j : ℕ) (b : Bool) → ((x y : ℕ) → r x y ≡ r y x) → n ≤ ROWS → WORK ≤ length w → i < j → j < n → b ≡ r i j
+pub pairs-put : {r : ℕ → ℕ → Bool} {n : ℕ} {w v u : List ℕ} (i j : ℕ) (b : Bool) → ((x y : ℕ) → r x y ≡ r y x) → n ≤ ROWS → WORK ≤ length w → i < j
+    → j < n → b ≡ r i j
     → v ≡ setBitIf b w ((MUTUAL + i * GRID) * 64 + j) → u ≡ setBitIf b v ((MUTUAL + j * GRID) * 64 + i) → Pairs r n (i * ROWS + j) w → Pairs r n (i * ROWS + (j + 1)) u
 unfolding rel _and_
 pairs-put {r} {n} {w} {v} {u} i j b swap few room l m eb ev eu h = record { cell = cell }
@@ -153,12 +154,22 @@ module _ (b : List ℕ) (p : List (List ℕ)) (mode : Mode) (n : ℕ) where
         plain x y lx ly lo hi (yes e) = rw e (mutual-none b p mode n i r u er eu h y)
         plain x y lx ly lo hi (no d) = let e : y ≡ i = omega arith in rw e (mutual-swap x i ∙ mutual-none b p mode n i r u er eu h x)
 
+    -- rows that it is not mutually-ordered with
+    pub pairs-over : (j k : ℕ) → i < j → j ≤ k → k ≤ n → ((m : ℕ) → j ≤ m → m < k → mutually (decode b p mode n) i m ≡ false)
+        → Pairs (mutually (decode b p mode n)) n (i * ROWS + j) w → Pairs (mutually (decode b p mode n)) n (i * ROWS + k) w
+    pairs-over j k lj lk hk none = pairs-pass _ (omega arith) (λ x y lx ly lo hi. go x y lx ly lo hi (decLt x y))
+      where
+        go : (x y : ℕ) → x < n → y < n → i * ROWS + j ≤ turn x y → turn x y < i * ROWS + k → Dec (x < y) → mutually (decode b p mode n) x y ≡ false
+        go x y lx ly lo hi (yes d) = let e : x ≡ i = omega arith in rw e (none y (omega arith) (omega arith))
+        go x y lx ly lo hi (no d) = let e : y ≡ i = omega arith in rw e (mutual-swap x i ∙ none x (omega arith) (omega arith))
+
     -- a row that was held against all that come after it
     pub pairs-row : Pairs (mutually (decode b p mode n)) n (i * ROWS + n) w → Pairs (mutually (decode b p mode n)) n ((i + 1) * ROWS) w
     pairs-row = pairs-pass _ (omega arith) (λ x y lx ly lo hi. absurd (omega arith))
 
   -- all rows
-  pub mutual-made : {w v u : List ℕ} → n ≤ ROWS → v ≡ zeros w MUTUAL (MUTUAL-END - MUTUAL) → Within MUTUAL MUTUAL-END v u → Pairs (mutually (decode b p mode n)) n (n * ROWS) u
+  pub mutual-made : {w v u : List ℕ} → n ≤ ROWS → v ≡ zeros w MUTUAL (MUTUAL-END - MUTUAL) → Within MUTUAL MUTUAL-END v u
+      → Pairs (mutually (decode b p mode n)) n (n * ROWS) u
       → Made MUTUAL MUTUAL-END MUTUAL GRID n (mutually (decode b p mode n)) w u
   mutual-made few e f h =
       record {

@@ -17,7 +17,7 @@ use Rattle.bits.specs.Matrix.{rel}
 use Rattle.bits.specs.Stage.{Holds, Made, made-cong}
 use Rattle.area.specs.Regions.{GRID, ROWS-GRID}
 use Rattle.model.specs.Limits.{ROWS}
-use Rattle.quick_sync.specs.Walk.{Next, once, any-pass}
+use Rattle.sets.specs.Walk.{Next, once, any-pass}
 
 -- ---- definitions
 
@@ -68,7 +68,8 @@ unfolding times anyBelow
 row-none w c a b i = record { cell = λ k l. sym (or-off _ _ refl); frame = within-refl _ _ w }
 
 -- numbers whose rows are not taken
-pub row-pass : {w u : List ℕ} {c a b i j : ℕ} (k : ℕ) → j ≤ k → ((m : ℕ) → j ≤ m → m < k → grid w a i m ≡ false) → RowTimes w u c a b i j → RowTimes w u c a b i k
+pub row-pass : {w u : List ℕ} {c a b i j : ℕ} (k : ℕ) → j ≤ k → ((m : ℕ) → j ≤ m → m < k → grid w a i m ≡ false) → RowTimes w u c a b i j
+    → RowTimes w u c a b i k
 unfolding times byWay
 row-pass {w} {u} {c} {a} {b} {i} {j} k l none h =
     record {
@@ -122,7 +123,8 @@ row-join {w} {v} {u} {c} {a} {b} {i} {j} p q room off e h s =
 -- ---- laws: all rows
 
 -- relations that agree on the numbers gone by
-times-cong : (n : ℕ) (r s q o : ℕ → ℕ → Bool) (i k : ℕ) → ((j : ℕ) → j < n → r i j ≡ q i j) → ((j : ℕ) → j < n → s j k ≡ o j k) → times n r s i k ≡ times n q o i k
+times-cong : (n : ℕ) (r s q o : ℕ → ℕ → Bool) (i k : ℕ) → ((j : ℕ) → j < n → r i j ≡ q i j) → ((j : ℕ) → j < n → s j k ≡ o j k)
+    → times n r s i k ≡ times n q o i k
 unfolding times byWay
 times-cong n r s q o i k e f = any-cong _ _ n (λ j l. rw (e j l, f j l) refl)
 
@@ -134,7 +136,8 @@ rows-none w {v} {c} {a} {b} {n} few room e =
       frame = within-refl c (c + ROWS-GRID) v;
     }
 
-pub rows-more : {w v u : List ℕ} {c a b n i : ℕ} → n ≤ ROWS → i < n → Apart c a → Apart c b → RowsTimes w v c a b n i → RowTimes v u c a b i n → RowsTimes w u c a b n (i + 1)
+pub rows-more : {w v u : List ℕ} {c a b n i : ℕ} → n ≤ ROWS → i < n → Apart c a → Apart c b → RowsTimes w v c a b n i → RowTimes v u c a b i n
+    → RowsTimes w u c a b n (i + 1)
 unfolding rel _or_ _and_
 rows-more {w} {v} {u} {c} {a} {b} {n} {i} few l offa offb h r =
     record {
@@ -192,7 +195,8 @@ times-held {w} {u} {x} {y} {c} {a} {b} {n} {r} {s} ha hb =
     made-cong (λ i k p q. times-cong n (grid w a) (grid w b) r s i k (λ j m. ha .cell i j p m) (λ j m. hb .cell j k m q))
 
 -- of a relation and what a grid holds
-pub times-right : {w u : List ℕ} {x y c b n : ℕ} {r q s : ℕ → ℕ → Bool} → ((i j : ℕ) → r i j ≡ q i j) → Holds b GRID n s w → Made x y c GRID n (times n r (grid w b)) w u
+pub times-right : {w u : List ℕ} {x y c b n : ℕ} {r q s : ℕ → ℕ → Bool} → ((i j : ℕ) → r i j ≡ q i j) → Holds b GRID n s w
+    → Made x y c GRID n (times n r (grid w b)) w u
     → Made x y c GRID n (times n q s) w u
 times-right {w} {u} {x} {y} {c} {b} {n} {r} {q} {s} e hb =
     made-cong (λ i k p o. times-cong n r (grid w b) q s i k (λ j m. e i j) (λ j m. hb .cell j k m o))

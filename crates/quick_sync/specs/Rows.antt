@@ -6,7 +6,7 @@ use mathlib.Core.List.{List}
 use Prim.Native.Nat.{ℕ, zero, suc, _+_, _*_, _≤_, _<_}
 use native.Mathlib.Omega.{arith}
 use native.Mathlib.Decide.{ℕ-discrete}
-use lib.Dec.{eqb, leb}
+use lib.Dec.{eqb, leb, ltb}
 use borrow.Author.Tests.{ne-eqb, eq-eqb, leb-true, le-ltb, not-false}
 use Rattle.finite.specs.Logic.{_and_, _or_, not-out, split, and-true, and-false-left, and-false-right, or-left, or-right, or-off, or-none, and-on}
 use Rattle.finite.specs.Below.{anyBelow, any-off, any-not}
@@ -15,7 +15,7 @@ use Rattle.bits.specs.Fill.{rowFill, within-rowFill}
 use Rattle.bits.specs.Within.{Within}
 use Rattle.model.specs.declared.Mode.{Mode}
 use Rattle.model.specs.declared.Row.{Row}
-use Rattle.model.specs.Row.{PLAIN-READ, ATOMIC-READ, ATOMIC-WRITE, RMW, CONTROL, atomic, barrier, control, sameInstance, reads, writes, releases}
+use Rattle.model.specs.Row.{PLAIN-READ, ATOMIC-READ, ATOMIC-WRITE, RMW, CONTROL, atomic, barrier, control, sameInstance, reads, writes, releases, classIn}
 use Rattle.model.specs.Table.{decode, rowOf, sourceOf, atomicSource}
 use Rattle.model.specs.Scope.{sameLocation, mutualRows, mutually}
 use Rattle.model.specs.Moment.{sameAgent}
@@ -58,7 +58,8 @@ row-one q w at (suc n) a k l e h = go (ℕ-discrete a n) (λ d. row-one q w at n
     go (no d) ih = rw (h n (omega arith), ne-eqb a n d) (ih (omega arith))
 
 -- one that says yes of a single number, or of none
-pub row-one-if : (q : ℕ → Bool) (w : List ℕ) (at n a k : ℕ) (z : Bool) → a < n → k ≡ at + a → ((m : ℕ) → m < n → q m ≡ (z and eqb a m)) → setBitIf z w k ≡ rowFill q w at n
+pub row-one-if : (q : ℕ → Bool) (w : List ℕ) (at n a k : ℕ) (z : Bool) → a < n → k ≡ at + a → ((m : ℕ) → m < n → q m ≡ (z and eqb a m))
+    → setBitIf z w k ≡ rowFill q w at n
 unfolding setBitIf _and_
 row-one-if q w at n a k true l e h = row-one q w at n a k l e h
 row-one-if q w at n a k false l e h = row-off q w at n h
@@ -99,7 +100,8 @@ module _ (b : List ℕ) (p : List (List ℕ)) (mode : Mode) (n : ℕ) where
   unfolding mutually decode
   mutual-start i j r er h = sym (and-false-right _ _ (starts-apart p (rowOf b i) (rowOf b j) (λ e. h (sym e ∙ ap (λ (z : Row). z .start) (sym er)))))
 
-  pub mutual-location : (i j : ℕ) (r q : Row) (x : Bool) → r ≡ rowOf b i → q ≡ rowOf b j → x ≡ sameLocation r q → not x ≡ true → false ≡ mutually (decode b p mode n) i j
+  pub mutual-location : (i j : ℕ) (r q : Row) (x : Bool) → r ≡ rowOf b i → q ≡ rowOf b j → x ≡ sameLocation r q → not x ≡ true
+      → false ≡ mutually (decode b p mode n) i j
   unfolding mutually mutualRows decode
   mutual-location i j r q x er eq ex h = sym (and-false-right _ _ (and-false-left _ _ (and-false-right _ _ (rw (← er, ← eq, ← ex) (not-out x h)))))
 
@@ -152,6 +154,19 @@ module _ (b : List ℕ) (p : List (List ℕ)) (mode : Mode) (n : ℕ) where
       sym (or-none (and-false-right _ _ (ne-eqb c y (λ e. h (ap (λ (i : ℕ). rowOf b i .agent) e ∙ ap (λ (z : Row). z .agent) (sym eq)))))
       (and-false-right _ _ (and-false-left _ _ (and-false-right _ _ (ne-eqb (rowOf b y .agent) (rowOf b c .agent) (λ e. h (sym e ∙ ap (λ (z : Row). z .agent) (sym eq))))))))
 
+  -- row c by its kind, agent and classes alone: where it is row y, so are its own
+  own-atomic : (c y : ℕ) (q : Row) → q ≡ rowOf b y → (atomic q and eqb c y) ≡ (atomic (rowOf b c) and eqb c y)
+  own-atomic c y q eq = go (ℕ-discrete c y)
+    where
+      go : Dec (c ≡ y) → (atomic q and eqb c y) ≡ (atomic (rowOf b c) and eqb c y)
+      go (yes e) = rw (eq, e) refl
+      go (no e) = and-false-right _ _ (ne-eqb c y e) ∙ sym (and-false-right _ _ (ne-eqb c y e))
+
+  pub gets-told : (c y : ℕ) (q : Row) {u v w : Bool} {a s : ℕ} → q ≡ rowOf b y → u ≡ atomic q → v ≡ barrier (rowOf b c) → a ≡ rowOf b c .agent
+      → s ≡ rowOf b c .classes → w ≡ classIn q s → ((u and eqb c y) or (v and (ltb y c and eqb (q .agent) a and w))) ≡ gets (decode b p mode n) c y
+  unfolding gets trails sameAgent decode
+  gets-told c y q {u} {v} {w} {a} {s} eq eu ev ea es ew = rw (eu, ev, ea, ew, es, own-atomic c y q eq, eq) refl
+
   -- an earlier row
   pub released-back : (a x : ℕ) → x < a → released (decode b p mode n) a x ≡ false
   unfolding released heads leads
@@ -175,11 +190,13 @@ module _ (b : List ℕ) (p : List (List ℕ)) (mode : Mode) (n : ℕ) where
   unfolding released decode
   released-none a r u er eu h x = and-false-left _ _ (rw (← er, ← eu) (not-out u h))
 
-  pub released-on : (a x : ℕ) (r : Row) (u v : Bool) → r ≡ rowOf b a → u ≡ releases r → not u ≡ false → v ≡ heads (decode b p mode n) a x → v ≡ released (decode b p mode n) a x
+  pub released-on : (a x : ℕ) (r : Row) (u v : Bool) → r ≡ rowOf b a → u ≡ releases r → not u ≡ false → v ≡ heads (decode b p mode n) a x
+      → v ≡ released (decode b p mode n) a x
   unfolding released decode
   released-on a x r u v er eu h ev = ev ∙ sym (and-on _ _ (sym (ap releases er) ∙ sym eu ∙ not-false u h))
 
-  pub gotten-none : (y : ℕ) (r : Row) (u v : Bool) → r ≡ rowOf b y → u ≡ atomic r → v ≡ reads r → not (u and v) ≡ true → (c : ℕ) → gotten (decode b p mode n) y c ≡ false
+  pub gotten-none : (y : ℕ) (r : Row) (u v : Bool) → r ≡ rowOf b y → u ≡ atomic r → v ≡ reads r → not (u and v) ≡ true → (c : ℕ)
+      → gotten (decode b p mode n) y c ≡ false
   unfolding gotten decode
   gotten-none y r u v er eu ev h c = and-false-left _ _ (rw (← er, ← eu, ← ev) (not-out (u and v) h))
 
@@ -208,7 +225,8 @@ module _ (b : List ℕ) (p : List (List ℕ)) (mode : Mode) (n : ℕ) where
   -- ---- laws: M5, from the bits
 
   -- what is neither linked nor passed to
-  pub sync-unlinked : (a c : ℕ) → a < n → c < n → led (decode b p mode n) a c ≡ false → passed (decode b p mode n) a c ≡ false → synchronizes (decode b p mode n) a c ≡ false
+  pub sync-unlinked : (a c : ℕ) → a < n → c < n → led (decode b p mode n) a c ≡ false → passed (decode b p mode n) a c ≡ false
+      → synchronizes (decode b p mode n) a c ≡ false
   unfolding syncBy decode
   sync-unlinked a c la lc e f =
       sync-is (decode b p mode n) a c la lc ∙ and-false-right _ _ (and-false-left _ _ (and-false-left _ _ (and-false-right _ _ (or-none e f))))

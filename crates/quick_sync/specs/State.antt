@@ -19,7 +19,7 @@ use Rattle.area.specs.Regions.{MUTUAL, MUTUAL-END, SEQUENCE, SEQUENCE-END, SYNC
 use Rattle.area.specs.Synced.{Synced, sequenced-made, sequenced-kept}
 use Rattle.quick_sync.specs.Regions.{LINKS, HEADS, TAKES, GETS, HANDS, HANDS-END, ALONE, JOINS, MEETS, PASSED, AGENTS, UP-TO, UP-TO-END, UNKNOWN-END}
 use Rattle.quick_sync.specs.Product.{grid, times, times-held, times-right}
-use Rattle.quick_sync.specs.Walk.{either}
+use Rattle.sets.specs.Walk.{either}
 use Rattle.quick_sync.specs.Links.{released, gotten, handed, led, ahead, metBy, passed}
 use Rattle.quick_sync.specs.Rows.{sync-unlinked}
 use Rattle.quick_sync.specs.Along.{alone, alone-times, ahead-any}
@@ -56,7 +56,8 @@ sync-passed b p mode n {w} a c la lc k e =
     sync-unlinked b p mode n a c la lc (sym (k .links .cell a c la lc) ∙ s .0) (sym (k .passing .cell a c la lc) ∙ s .1)
 
 -- a grid that holds nothing, and is cleared
-pub cleared-made : (c d a n : ℕ) {r : ℕ → ℕ → Bool} {w u : List ℕ} → c ≤ a → a + ROWS-GRID ≤ d → a + ROWS-GRID ≤ length w → n ≤ ROWS → u ≡ zeros w a (a + ROWS-GRID - a) → ((i j : ℕ) → r i j ≡ false)
+pub cleared-made : (c d a n : ℕ) {r : ℕ → ℕ → Bool} {w u : List ℕ} → c ≤ a → a + ROWS-GRID ≤ d → a + ROWS-GRID ≤ length w → n ≤ ROWS
+    → u ≡ zeros w a (a + ROWS-GRID - a) → ((i j : ℕ) → r i j ≡ false)
     → Made c d a GRID n r w u
 unfolding rel
 cleared-made c d a n {r} {w} {u} l o room few e none =
@@ -90,7 +91,8 @@ module _ (b : List ℕ) (p : List (List ℕ)) (mode : Mode) (n : ℕ) where
             (within-trans (within-widen ALONE UP-TO-END (omega arith) (omega arith) (me .frame)) (within-widen ALONE UP-TO-END (omega arith) (omega arith) (pa .frame)))));
       }
 
-  pub links-made : {w v x y z u : List ℕ} → Made HEADS TAKES HEADS GRID n (released (decode b p mode n)) w v → Made TAKES GETS TAKES GRID n (takesFrom (decode b p mode n)) v x
+  pub links-made : {w v x y z u : List ℕ} → Made HEADS TAKES HEADS GRID n (released (decode b p mode n)) w v
+      → Made TAKES GETS TAKES GRID n (takesFrom (decode b p mode n)) v x
       → Made GETS HANDS GETS GRID n (gotten (decode b p mode n)) x y → Made HANDS (HANDS + ROWS-GRID) HANDS GRID n (times n (grid y TAKES) (grid y GETS)) y z
       → Made LINKS (LINKS + ROWS-GRID) LINKS GRID n (times n (grid z HEADS) (grid z HANDS)) z u → Made LINKS HANDS-END LINKS GRID n (led (decode b p mode n)) w u
   unfolding led handed decode
@@ -110,7 +112,8 @@ module _ (b : List ℕ) (p : List (List ℕ)) (mode : Mode) (n : ℕ) where
             (within-trans (within-widen LINKS HANDS-END (omega arith) (omega arith) (d .frame)) (within-widen LINKS HANDS-END (omega arith) (omega arith) (e .frame)))));
       }
 
-pub linked-made : {t : Table} {n : ℕ} {w v u : List ℕ} → Made LINKS HANDS-END LINKS GRID n (led t) w v → Made ALONE UP-TO-END PASSED GRID n (passed t) v u → MadeLinked t n w u
+pub linked-made : {t : Table} {n : ℕ} {w v u : List ℕ} → Made LINKS HANDS-END LINKS GRID n (led t) w v
+    → Made ALONE UP-TO-END PASSED GRID n (passed t) v u → MadeLinked t n w u
 linked-made {n = n} l f =
     let few : n ≤ 64 * GRID = l .holds .fits in
     record {

@@ -15,7 +15,7 @@ use Rattle.bits.specs.Bit.{bit, bitOf, bitOf-or, bitOf-pow-same, bitOf-pow-othe
 use Rattle.bits.specs.Within.{Within}
 use Rattle.area.specs.Regions.{GRID}
 use Rattle.sets.specs.Lowest.{bitOf-and}
-use Rattle.quick_sync.specs.Walk.{either}
+use Rattle.sets.specs.Walk.{either}
 
 -- ---- definitions
 

@@ -1,6 +1,6 @@
 // Mutually-ordered rows, release sequences and synchronizes-with, as bits, by products of relations between rows: what each row
 // can't have is told by the row itself, and what it has is joined in whole words.
-pub mod walk; // the bits of a row, one after the other
+pub mod filed; // rows by their starts, or their agents
 pub mod words; // the words of a row, with bits taken away
 pub mod product; // what two grids come to, one after the other
 pub mod mutual; // M3 and M4, row by row

@@ -17,14 +17,17 @@ ghost use Rattle.area.specs.Synced.{Sequenced};
 ghost use Rattle.quick_sync.specs.Regions.{HEADS, TAKES, GETS, HANDS, HANDS-END, LINKS};
 ghost use Rattle.quick_sync.specs.Links.{heads, gets, released, gotten, led};
 ghost use Rattle.quick_sync.specs.Rows.{atomicOf};
+ghost use Rattle.quick_sync.specs.Filed.{Filed, byAgent, every};
+use crate::filed;
+use crate::meets;
 use crate::product;
 use crate::product::ROWS_GRID;
-use crate::walk;
 use model::Mode;
 use model::Places;
 use model::Row;
 use rows::bytes;
 use rows::kinds;
+use sets::walk;
 
 // The map of the grids; specs/Regions.antt says the same.
 pub const LINKS: usize = area::HAPPENS;
@@ -44,17 +47,18 @@ fn heads_of(rows: &[u8], p: Places, mode: Mode, n: usize, a: usize, r: Row, x: u
     requires { ⌜ (x < ROWS) × (r ≡ rowOf (now rows) a) ⌝ }
     ensures { λ b. ⌜ b ≡ heads (decode (now (rows .entry)) p mode n) a x ⌝ }
 {
-    if bytes::read_agent(rows, x as u16) != r.agent {
+    let agent = bytes::read_agent(rows, x as u16);
+    if agent != r.agent {
         return false;
     }
-    let q = bytes::read_row(rows, x as u16);
+    let class = kinds::single(bytes::read_class(rows, x as u16));
     kinds::is_atomic(r) & (a == x)
-        | kinds::is_barrier(r) & ((a < x) & (r.agent == q.agent) & kinds::class_in(q, r.classes))
+        | kinds::is_barrier(r) & ((a < x) & (r.agent == agent) & kinds::meets(r.classes, class))
 }
 
 // M5 for the release a and every row. An atomic heads itself alone, a barrier nothing that comes before it.
-fn heads_row(rows: &[u8], p: Places, mode: Mode, n: usize, a: usize, w: &mut [u64])
-    requires { ⌜ (n ≤ ROWS) × (a < n) × (WORK ≤ length (now w)) ⌝ }
+fn heads_row(rows: &[u8], p: Places, mode: Mode, n: usize, a: usize, agents: &[u64], w: &mut [u64])
+    requires { ⌜ (n ≤ ROWS) × (a < n) × (WORK ≤ length (now w)) × Filed (byAgent (now rows)) every n (now agents) ⌝ }
     ensures { λ _. ⌜ now (w .exit) ≡ rowFill (released (decode (now (rows .entry)) p mode n) a) (now (w .entry)) (HEADS * 64 + a * (GRID * 64)) n ⌝ }
 {
     let r = bytes::read_row(rows, a as u16);
@@ -66,19 +70,22 @@ fn heads_row(rows: &[u8], p: Places, mode: Mode, n: usize, a: usize, w: &mut [u6
         area::grid::put_if(w, HEADS, a, a, own);
         return;
     }
-    for x in a..n {
+    let at = filed::agent_file(r.agent) * area::GRID;
+    let mut x = walk::next(agents, at, at, a, n);
+    while x < n {
         let b = heads_of(rows, p, mode, n, a, r, x);
         area::grid::put_if(w, HEADS, a, x, b);
+        x = walk::next(agents, at, at, x + 1, n);
     }
 }
 
-fn fill_heads(rows: &[u8], p: Places, mode: Mode, n: usize, w: &mut [u64])
-    requires { ⌜ (n ≤ ROWS) × (WORK ≤ length (now w)) ⌝ }
+fn fill_heads(rows: &[u8], p: Places, mode: Mode, n: usize, agents: &[u64], w: &mut [u64])
+    requires { ⌜ (n ≤ ROWS) × (WORK ≤ length (now w)) × Filed (byAgent (now rows)) every n (now agents) ⌝ }
     ensures { λ _. ⌜ Made HEADS TAKES HEADS GRID n (released (decode (now (rows .entry)) p mode n)) (now (w .entry)) (now (w .exit)) ⌝ }
 {
     bits::clear(w, HEADS, TAKES);
     for a in 0..n {
-        heads_row(rows, p, mode, n, a, w);
+        heads_row(rows, p, mode, n, a, agents, w);
     }
 }
 
@@ -136,36 +143,40 @@ fn gets_of(rows: &[u8], p: Places, mode: Mode, n: usize, y: usize, q: Row, b: us
     requires { ⌜ (b < ROWS) × (q ≡ rowOf (now rows) y) ⌝ }
     ensures { λ d. ⌜ d ≡ gets (decode (now (rows .entry)) p mode n) b y ⌝ }
 {
-    if bytes::read_agent(rows, b as u16) != q.agent {
+    let agent = bytes::read_agent(rows, b as u16);
+    if agent != q.agent {
         return false;
     }
-    let r = bytes::read_row(rows, b as u16);
-    kinds::is_atomic(r) & (b == y)
-        | kinds::is_barrier(r) & ((y < b) & (q.agent == r.agent) & kinds::class_in(q, r.classes))
+    let classes = bytes::read_classes(rows, b as u16);
+    kinds::is_atomic(q) & (b == y)
+        | meets::barrier_at(rows, b) & ((y < b) & (q.agent == agent) & kinds::class_in(q, classes))
 }
 
 // M5 for the atomic reader y and every row: none gets anything that comes before it.
-fn gets_row(rows: &[u8], p: Places, mode: Mode, n: usize, y: usize, w: &mut [u64])
-    requires { ⌜ (n ≤ ROWS) × (y < n) × (WORK ≤ length (now w)) ⌝ }
+fn gets_row(rows: &[u8], p: Places, mode: Mode, n: usize, y: usize, agents: &[u64], w: &mut [u64])
+    requires { ⌜ (n ≤ ROWS) × (y < n) × (WORK ≤ length (now w)) × Filed (byAgent (now rows)) every n (now agents) ⌝ }
     ensures { λ _. ⌜ now (w .exit) ≡ rowFill (gotten (decode (now (rows .entry)) p mode n) y) (now (w .entry)) (GETS * 64 + y * (GRID * 64)) n ⌝ }
 {
     let q = bytes::read_row(rows, y as u16);
     if !(kinds::is_atomic(q) & kinds::reads(q)) {
         return;
     }
-    for b in y..n {
+    let at = filed::agent_file(q.agent) * area::GRID;
+    let mut b = walk::next(agents, at, at, y, n);
+    while b < n {
         let d = gets_of(rows, p, mode, n, y, q, b);
         area::grid::put_if(w, GETS, y, b, d);
+        b = walk::next(agents, at, at, b + 1, n);
     }
 }
 
-fn fill_gets(rows: &[u8], p: Places, mode: Mode, n: usize, w: &mut [u64])
-    requires { ⌜ (n ≤ ROWS) × (WORK ≤ length (now w)) ⌝ }
+fn fill_gets(rows: &[u8], p: Places, mode: Mode, n: usize, agents: &[u64], w: &mut [u64])
+    requires { ⌜ (n ≤ ROWS) × (WORK ≤ length (now w)) × Filed (byAgent (now rows)) every n (now agents) ⌝ }
     ensures { λ _. ⌜ Made GETS HANDS GETS GRID n (gotten (decode (now (rows .entry)) p mode n)) (now (w .entry)) (now (w .exit)) ⌝ }
 {
     bits::clear(w, GETS, HANDS);
     for y in 0..n {
-        gets_row(rows, p, mode, n, y, w);
+        gets_row(rows, p, mode, n, y, agents, w);
     }
 }
 
@@ -185,7 +196,19 @@ fn has_atomic(rows: &[u8], n: usize) -> bool
     false
 }
 
-// M5: which acquires each release is linked to. Without atomics there are none.
+// M5: which acquires each release is linked to, with the rows filed by their agents.
+fn link_rows(rows: &[u8], p: Places, mode: Mode, n: usize, agents: &[u64], w: &mut [u64])
+    requires { ⌜ (n ≤ ROWS) × (WORK ≤ length (now w)) × Sequenced (decode (now rows) p mode n) n (now w) × Filed (byAgent (now rows)) every n (now agents) ⌝ }
+    ensures { λ _. ⌜ Made LINKS HANDS-END LINKS GRID n (led (decode (now (rows .entry)) p mode n)) (now (w .entry)) (now (w .exit)) ⌝ }
+{
+    fill_heads(rows, p, mode, n, agents, w);
+    fill_takes(rows, p, mode, n, w);
+    fill_gets(rows, p, mode, n, agents, w);
+    product::multiply(w, HANDS, TAKES, GETS, n);
+    product::multiply(w, LINKS, HEADS, HANDS, n);
+}
+
+// The same. Without atomics there are none.
 pub fn fill_links(rows: &[u8], p: Places, mode: Mode, n: usize, w: &mut [u64])
     requires { ⌜ (n ≤ ROWS) × (WORK ≤ length (now w)) × Sequenced (decode (now rows) p mode n) n (now w) ⌝ }
     ensures { λ _. ⌜ Made LINKS HANDS-END LINKS GRID n (led (decode (now (rows .entry)) p mode n)) (now (w .entry)) (now (w .exit)) ⌝ }
@@ -194,9 +217,7 @@ pub fn fill_links(rows: &[u8], p: Places, mode: Mode, n: usize, w: &mut [u64])
         bits::clear(w, LINKS, LINKS + ROWS_GRID);
         return;
     }
-    fill_heads(rows, p, mode, n, w);
-    fill_takes(rows, p, mode, n, w);
-    fill_gets(rows, p, mode, n, w);
-    product::multiply(w, HANDS, TAKES, GETS, n);
-    product::multiply(w, LINKS, HEADS, HANDS, n);
+    let mut agents = [0u64; filed::WORDS];
+    filed::file_agents(rows, n, &mut agents);
+    link_rows(rows, p, mode, n, &agents, w);
 }

@@ -47,7 +47,8 @@ pub const UP_TO: usize = AGENTS_END;
 
 // ---- along program order
 
-fn barrier_at(rows: &[u8], a: usize) -> bool
+// Whether row a is a barrier, as its kind tells.
+pub fn barrier_at(rows: &[u8], a: usize) -> bool
     requires { ⌜ a < ROWS ⌝ }
     ensures { λ b. ⌜ b ≡ barrier (rowOf (now (rows .entry)) a) ⌝ }
 {

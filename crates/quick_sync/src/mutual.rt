@@ -13,14 +13,17 @@ ghost use Rattle.model.specs.Synchronizes.{sequence};
 ghost use Rattle.area.specs.Regions.{MUTUAL, MUTUAL-END, SEQUENCE, SEQUENCE-END, GRID};
 ghost use Rattle.bits.specs.Within.{Within};
 ghost use Rattle.quick_sync.specs.Pairs.{Pairs};
+ghost use Rattle.quick_sync.specs.Rows.{atomicOf};
+ghost use Rattle.quick_sync.specs.Filed.{Filed, byStart};
 ghost use Rattle.quick_sync.specs.Breaks.{since, breakAt, firstBreak};
-use crate::walk;
+use crate::filed;
 use model::Mode;
 use model::Places;
 use model::Row;
 use rows::bytes;
 use rows::kinds;
 use rows::scopes;
+use sets::walk;
 
 // ---- M3
 
@@ -42,9 +45,11 @@ fn mutual_of(rows: &[u8], p: Places, mode: Mode, n: usize, i: usize, r: Row, j: 
     !(i == j) & scopes::is_mutual(p, r, q)
 }
 
-// M3 for row i and every row after it, both ways; the rows before it were held against it.
-fn mutual_row(rows: &[u8], p: Places, mode: Mode, n: usize, i: usize, w: &mut [u64])
-    requires { ⌜ (n ≤ ROWS) × (i < n) × (WORK ≤ length (now w)) × Pairs (mutually (decode (now rows) p mode n)) n (i * ROWS) (now w) ⌝ }
+// M3 for row i and every row after it, both ways; the rows before it were held against it. Only atomics that are filed with its start
+// are asked.
+fn mutual_row(rows: &[u8], p: Places, mode: Mode, n: usize, i: usize, starts: &[u64], w: &mut [u64])
+    requires { ⌜ (n ≤ ROWS) × (i < n) × (WORK ≤ length (now w)) × Filed (byStart (now rows)) (atomicOf (now rows)) n (now starts)
+        × Pairs (mutually (decode (now rows) p mode n)) n (i * ROWS) (now w) ⌝ }
     ensures { λ _. ⌜ Pairs (mutually (decode (now (rows .entry)) p mode n)) n ((i + 1) * ROWS) (now (w .exit))
         × Within MUTUAL MUTUAL-END (now (w .entry)) (now (w .exit)) ⌝ }
 {
@@ -52,10 +57,24 @@ fn mutual_row(rows: &[u8], p: Places, mode: Mode, n: usize, i: usize, w: &mut [u
     if !kinds::is_atomic(r) {
         return;
     }
-    for j in i + 1..n {
+    let at = filed::start_file(r.start) * area::GRID;
+    let mut j = walk::next(starts, at, at, i + 1, n);
+    while j < n {
         let b = mutual_of(rows, p, mode, n, i, r, j);
         area::grid::put_if(w, area::MUTUAL, i, j, b);
         area::grid::put_if(w, area::MUTUAL, j, i, b);
+        j = walk::next(starts, at, at, j + 1, n);
+    }
+}
+
+// M3 for every two rows, with the atomics filed by their starts.
+fn fill_rows(rows: &[u8], p: Places, mode: Mode, n: usize, starts: &[u64], w: &mut [u64])
+    requires { ⌜ (n ≤ ROWS) × (WORK ≤ length (now w)) × Filed (byStart (now rows)) (atomicOf (now rows)) n (now starts) ⌝ }
+    ensures { λ _. ⌜ Made MUTUAL MUTUAL-END MUTUAL GRID n (mutually (decode (now (rows .entry)) p mode n)) (now (w .entry)) (now (w .exit)) ⌝ }
+{
+    bits::clear(w, area::MUTUAL, area::MUTUAL_END);
+    for i in 0..n {
+        mutual_row(rows, p, mode, n, i, starts, w);
     }
 }
 
@@ -64,10 +83,9 @@ pub fn fill_mutual(rows: &[u8], p: Places, mode: Mode, n: usize, w: &mut [u64])
     requires { ⌜ (n ≤ ROWS) × (WORK ≤ length (now w)) ⌝ }
     ensures { λ _. ⌜ Made MUTUAL MUTUAL-END MUTUAL GRID n (mutually (decode (now (rows .entry)) p mode n)) (now (w .entry)) (now (w .exit)) ⌝ }
 {
-    bits::clear(w, area::MUTUAL, area::MUTUAL_END);
-    for i in 0..n {
-        mutual_row(rows, p, mode, n, i, w);
-    }
+    let mut starts = [0u64; filed::WORDS];
+    filed::file_starts(rows, n, &mut starts);
+    fill_rows(rows, p, mode, n, &starts, w);
 }
 
 // ---- M4

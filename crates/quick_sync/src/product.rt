@@ -5,7 +5,7 @@ ghost use Rattle.bits.specs.Stage.{Made};
 ghost use Rattle.model.specs.Limits.{ROWS, WORK};
 ghost use Rattle.area.specs.Regions.{GRID, ROWS-GRID};
 ghost use Rattle.quick_sync.specs.Product.{grid, times, Apart, RowTimes};
-use crate::walk;
+use sets::walk;
 
 // The words of a grid.
 pub const ROWS_GRID: usize = model::ROWS * area::GRID;

@@ -14,13 +14,12 @@ ghost use Rattle.area.specs.Regions.{MUTUAL, SYNC, HAPPENS-END, GRID};
 ghost use Rattle.area.specs.Synced.{Sequenced, Synced};
 ghost use Rattle.quick_sync.specs.Regions.{LINKS, PASSED, COVER, GOOD-END, UNKNOWN-END};
 ghost use Rattle.quick_sync.specs.State.{Linked, MadeLinked};
-ghost use Rattle.quick_sync.specs.Walk.{either};
+ghost use Rattle.sets.specs.Walk.{either};
 ghost use Rattle.quick_sync.specs.Near.{near, offScope, Level, Peer, Learnt, LearntOne, LearntRow, Drawn, Turn};
 use crate::links;
 use crate::meets;
 use crate::mutual;
 use crate::product::ROWS_GRID;
-use crate::walk;
 use crate::words;
 use model::Mode;
 use model::Places;
@@ -28,6 +27,7 @@ use model::Row;
 use rows::bytes;
 use rows::kinds;
 use rows::scopes;
+use sets::walk;
 
 // The map of what is known of scopes; specs/Regions.antt says the same.
 const COVER: usize = meets::AGENTS;

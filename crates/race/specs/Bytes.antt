@@ -1,30 +1,30 @@
 -- What races are read from, and what a pair's bits say of each byte. Assumes nothing.
-use mathlib.Core.Path.{_≡_, refl, sym, subst, _∙_}
+use mathlib.Core.Path.{_≡_, refl, sym, subst}
 use mathlib.Core.Bool.{Bool, true, false, not}
 use mathlib.Core.List.{List}
 use Prim.Native.Nat.{ℕ, _+_, _-_, _*_, _≤_, _<_}
 use native.Mathlib.Omega.{arith}
 use lib.ListN.{length}
-use lib.Dec.{ltb}
-use borrow.Author.Tests.{lt-ltb}
-use Rattle.finite.specs.Logic.{_and_, split, and-true, not-so, not-out, not-both}
+use Rattle.finite.specs.Logic.{_and_, split, and-true, not-so, not-both}
 use Rattle.bits.specs.Bit.{bit}
 use Rattle.bits.specs.Cube.{cube-bit}
 use Rattle.model.specs.declared.Row.{Row}
 use Rattle.model.specs.declared.Shared.{Shared}
 use Rattle.model.specs.declared.Shared.the-variants.{At, Nothing}
 use Rattle.model.specs.Limits.{ROWS, WORK, BYTES}
-use Rattle.model.specs.Row.{access, inside, touches, lowestShared, overlap}
+use Rattle.model.specs.Row.{access, touches, lowestShared, overlap}
 use Rattle.model.specs.Table.{Table}
 use Rattle.model.specs.Scope.{mutually}
 use Rattle.model.specs.Location.{common, before}
 use Rattle.model.specs.Race.{conflict}
 use Rattle.model.specs.Edge.{beforeNth}
-use Rattle.laws.specs.PairLaws.{inside-out, overlap-is}
+use Rattle.laws.specs.PairLaws.{overlap-is, overlap-sym, common-out}
 use Rattle.laws.specs.RaceLaws.{Sized, touched, common-left, common-right}
-use Rattle.rules.specs.Shared.{mayTouch, inBoth, lowest-at, lowest-nothing}
-use Rattle.area.specs.Regions.{LOCATION, PAIR, PAIRS}
-use Rattle.area.specs.State.{Located}
+use Rattle.rules.specs.Shared.{inBoth, lowest-at, lowest-nothing}
+use Rattle.area.specs.Regions.{LOCATION, GRID, PAIR, PAIRS}
+use Rattle.area.specs.State.{Located, overlaps}
+use Rattle.bits.specs.Stage.{Holds}
+use Rattle.sets.specs.Walk.{Next, walked}
 
 -- ---- definitions
 
@@ -58,6 +58,18 @@ before-touched : (t : Table) (x y b : ℕ) → Sized t → x < t .rows → befor
     → (t .row x .start ≤ b) × (b < t .row x .start + PAIR)
 before-touched t x y b s l e = touched (t .row x) b (s x l) (common-left (t .row x) (t .row y) b (before-common t x y b e))
 
+-- rows that share no byte are ordered at none
+pub before-apart : (t : Table) (x y b : ℕ) → overlaps t x y ≡ false → before t x y b ≡ false
+unfolding overlaps
+before-apart t x y b o =
+    not-so (before t x y b) (λ e.
+    let c = common-out (t .row x) (t .row y) b (before-common t x y b e) in
+    not-both (overlap-is (t .row x) (t .row y) .1 (b, c .2, c .3)) o)
+
+pub overlaps-sym : (t : Table) (x y : ℕ) → overlaps t x y ≡ overlaps t y x
+unfolding overlaps
+overlaps-sym t x y = overlap-sym (t .row x) (t .row y)
+
 -- no byte before x's start, and none past a pair's bits
 pub before-low : (t : Table) (x y b a : ℕ) → Sized t → x < t .rows → a ≡ t .row x .start → b < a → false ≡ before t x y b
 before-low t x y b a s l e h = sym (not-so (before t x y b) (λ d. let g = before-touched t x y b s l d .0 in omega arith))
@@ -76,22 +88,6 @@ before-bit t n w x y b a m h l k e o s q =
 -- ---- laws: where the search of a pair starts
 
 module _ (r q : Row) where
-  -- rows share no byte where one starts at or past the other's end
-  pub touch-apart : (b : Bool) → b ≡ mayTouch q (r .start) (r .start + r .size) → not b ≡ true → overlap r q ≡ false
-  unfolding mayTouch touches
-  touch-apart b e h = not-so (overlap r q) (λ o. not-both (meet (overlap-is r q .0 o)) (sym e ∙ not-out b h))
-    where
-      meet : (c : ℕ) × (inside (r .start) (r .size) c ≡ true) × (inside (q .start) (q .size) c ≡ true)
-          → (ltb (r .start) (q .start + q .size) and ltb (q .start) (r .start + r .size)) ≡ true
-      meet s =
-          let f = inside-out (r .start) (r .size) (s .0) (s .1) in
-          let g = inside-out (q .start) (q .size) (s .0) (s .2) in
-          let f0 = f .0 in
-          let f1 = f .1 in
-          let g0 = g .0 in
-          let g1 = g .1 in
-          and-true (lt-ltb (r .start) (q .start + q .size) (omega arith)) (lt-ltb (q .start) (r .start + r .size) (omega arith))
-
   both-in : (c : ℕ) → common r q c ≡ true → inBoth (r .start) (r .size) (q .start) (q .size) c ≡ true
   unfolding inBoth touches
   both-in c e = and-true (common-left r q c e) (common-right r q c e)
@@ -105,3 +101,10 @@ module _ (r q : Row) where
   pub lowest-apart : (c : ℕ) → c < lowestByte r q → common r q c ≡ true → ⊥
   unfolding lowestByte
   lowest-apart c l t = apart _ refl c l t
+
+-- ---- laws: a walk
+
+-- numbers between two stops of a walk over row x of a grid: they have no bit, so a test that asks for it doesn't pass
+pub passed : {a n x j k : ℕ} {r : ℕ → ℕ → Bool} {w : List ℕ} {p : ℕ → Bool} → Holds a GRID n r w → x < n → Next w (a + x * GRID) (a + x * GRID) j n k
+    → ((m : ℕ) → r x m ≡ false → p m ≡ false) → (m : ℕ) → j ≤ m → m < k → p m ≡ false
+passed {x = x} h l next off m a b = off m (walked h x m l (omega (arith, next .high)) (next .miss m a b))

@@ -1,8 +1,9 @@
 -- The first race as an answer, and the turns of its search. Assumes nothing.
 use mathlib.Core.Path.{_≡_, refl, subst}
-use mathlib.Core.Bool.{Bool, true, false, not, cond}
+use mathlib.Core.Bool.{Bool, true, false, cond}
 use mathlib.Core.Logic.{⊎-elim}
-use Prim.Native.Nat.{ℕ, _+_, _-_, _≤_, _<_}
+use mathlib.Core.List.{List}
+use Prim.Native.Nat.{ℕ, _+_, _-_, _*_, _≤_, _<_}
 use native.Mathlib.Omega.{arith}
 use native.Mathlib.Numerals.{add-one}
 use native.Mathlib.Decide.{decLt}
@@ -12,7 +13,7 @@ use Rattle.finite.specs.Logic.{_and_, split, and-true, and-false-left, and-fals
 use Rattle.finite.specs.Below.{least, least-is, least-found, least-unique, below-cases}
 use Rattle.model.specs.declared.Row.{Row}
 use Rattle.model.specs.Limits.{LONGEST, BYTES}
-use Rattle.model.specs.Row.{touches, overlap}
+use Rattle.model.specs.Row.{touches}
 use Rattle.model.specs.Table.{Table}
 use Rattle.model.specs.Location.{common}
 use Rattle.model.specs.Race.{nth, clash, conflict, unordered, unorderedNth, raceNth, races, racesAbove, racePartner, hasRace, raceRow, raceByte}
@@ -20,8 +21,11 @@ use Rattle.laws.specs.RaceLaws.{Sized, touched, common-left}
 use Rattle.laws.specs.PairLaws.{inside-out}
 use Rattle.race.specs.declared.Found.{Found}
 use Rattle.race.specs.declared.Found.the-variants.{At, Nothing}
-use Rattle.rules.specs.Shared.{mayTouch}
-use Rattle.race.specs.Bytes.{Bounded, mayRace, lowestByte, touch-apart, lowest-apart}
+use Rattle.bits.specs.Stage.{Holds}
+use Rattle.area.specs.Regions.{OVERLAP, GRID}
+use Rattle.area.specs.State.{overlaps}
+use Rattle.sets.specs.Walk.{Next}
+use Rattle.race.specs.Bytes.{Bounded, mayRace, lowestByte, lowest-apart, passed}
 
 -- ---- definitions
 
@@ -50,6 +54,14 @@ least-off p n f = go (decLt (least n p) n)
     go : Dec (least n p < n) → least n p ≡ n
     go (yes l) = not-both (least-is p n .hit l) (f (least n p) l)
     go (no l) = omega (arith, least-is p n .bound)
+
+-- numbers that are passed over
+pub least-pass : (p : ℕ → Bool) (j k : ℕ) → least j p ≡ j → ((m : ℕ) → j ≤ m → m < k → p m ≡ false) → least k p ≡ k
+least-pass p j k e f = least-off p k (λ m h. go m h (decLt m j))
+  where
+    go : (m : ℕ) → m < k → Dec (m < j) → p m ≡ false
+    go m h (yes l) = least-is p j .miss m (omega arith)
+    go m h (no l) = f m (omega arith) h
 
 module _ (t : Table) (x y : ℕ) where
   unordered-common : (b : ℕ) → unordered t x y b ≡ true → common (t .row x) (t .row y) b ≡ true
@@ -122,11 +134,10 @@ module _ (t : Table) (x y : ℕ) where
   unfolding racesAbove races mayRace
   pair-off f = and-false-right _ _ (and-false-left _ _ f)
 
-  pub pair-apart : (r q : Row) (e : ℕ) (b : Bool) → r ≡ t .row x → q ≡ t .row y → e ≡ r .start + r .size → b ≡ mayTouch q (r .start) e → not b ≡ true → racesAbove t x y ≡ false
-  unfolding mayRace conflict clash
-  pair-apart r q e b er eq ee eb h =
-      let o : overlap (t .row x) (t .row y) ≡ false = rw (← er, ← eq) (touch-apart r q b (rw (← ee) eb) h) in
-      pair-off (and-false-left _ _ (and-false-right _ _ (and-false-right _ _ o)))
+  -- rows that share no byte
+  pub pair-apart : overlaps t x y ≡ false → racesAbove t x y ≡ false
+  unfolding mayRace conflict clash overlaps
+  pair-apart o = pair-off (and-false-left _ _ (and-false-right _ _ (and-false-right _ _ o)))
 
   -- a racing access ends at or below BYTES
   pub race-ends : Bounded t → (r : Row) → r ≡ t .row x → x < t .rows → mayRace t x y ≡ true → r .start + r .size ≤ BYTES
@@ -140,6 +151,11 @@ module _ (t : Table) where
   pub row-starts : (x : ℕ) → least (x + 1) (racesAbove t x) ≡ x + 1
   unfolding racesAbove
   row-starts x = least-off (λ y. ltb x y and races t x y) (x + 1) (λ k l. and-false-left _ _ (le-ltb x k (omega arith)))
+
+  -- it goes on to the next row that shares a byte
+  pub row-pass : (x j k n : ℕ) (w : List ℕ) → Holds OVERLAP GRID n (overlaps t) w → x < n → Next w (OVERLAP + x * GRID) (OVERLAP + x * GRID) j n k
+      → least j (racesAbove t x) ≡ j → least k (racesAbove t x) ≡ k
+  row-pass x j k n w h l next e = least-pass (racesAbove t x) j k e (passed h l next (pair-apart t x))
 
   pub row-off : (x n : ℕ) → n ≡ t .rows → least n (racesAbove t x) ≡ n → hasRace t x ≡ false
   unfolding hasRace racePartner

@@ -13,6 +13,7 @@ use model::Places;
 use model::Row;
 use model::Shared;
 use rules::shared;
+use sets::walk;
 
 pub mod pair; // edge 1, by all bits of a pair
 
@@ -117,7 +118,8 @@ pub enum Found {
     Nothing,
 }
 
-// The first pair in row order that races, then its lowest shared byte with no order: the lower row, the higher, the byte.
+// The first pair in row order that races, then its lowest shared byte with no order: the lower row, the higher, the byte. Rows that
+// share no byte are passed over.
 // Ruled out: one that shows the rows exchanged; one that shows the lowest shared byte, ordered or not.
 pub fn first_race(rows: &[u8], p: Places, mode: Mode, n: usize, w: &[u64]) -> Found
     requires { ⌜ Bounded (decode (now rows) p mode n) × Ready (decode (now rows) p mode n) n (now w) ⌝ }
@@ -128,10 +130,11 @@ pub fn first_race(rows: &[u8], p: Places, mode: Mode, n: usize, w: &[u64]) -> Fo
         let r = rows::bytes::read_row(rows, x as u16);
         let start = r.start as u32;
         let end = start + (r.size as u32);
-        for y in x + 1..n {
-            if !rules::pairs::may_touch(rows, y as u16, start, end) {
-                continue;
-            }
+        let at = area::OVERLAP + x * area::GRID;
+        let mut next = walk::next(w, at, at, x + 1, n);
+        while next < n {
+            let y = next;
+            next = walk::next(w, at, at, y + 1, n);
             let q = rows::bytes::read_row(rows, y as u16);
             if !may_race(rows, p, mode, n, x, y, r, q, w) {
                 continue;

@@ -39,7 +39,8 @@ leadsTo t s m k steps = eqb (stands m steps (length steps)) k and not (anyBelow 
 
 -- on rows that were read; only of the first it was asked whether one synchronizes-with the other
 module _ (b : List ℕ) (p : List (List ℕ)) (mode : Mode) (n s case m k : ℕ) where
-  pub direct-told : (r q : Row) (v o d e : Bool) → r ≡ rowOf b (m / 3) → q ≡ rowOf b (k / 3) → v ≡ (eqb case 1 and synchronizes (decode b p mode n) (m / 3) (k / 3))
+  pub direct-told : (r q : Row) (v o d e : Bool) → r ≡ rowOf b (m / 3) → q ≡ rowOf b (k / 3)
+      → v ≡ (eqb case 1 and synchronizes (decode b p mode n) (m / 3) (k / 3))
       → o ≡ orderedRows n m k r q → d ≡ caseRows case s (m % 3) (k % 3) r q v o → e ≡ bySystem (decode b p mode n) m k
       → (d or (eqb case 4 and e)) ≡ direct (decode b p mode n) s case m k
   unfolding programOrder decode
@@ -145,11 +146,13 @@ module _ (b : List ℕ) (p : List (List ℕ)) (mode : Mode) (n m k : ℕ) (r : R
 -- ---- laws: the entry point
 
 module _ (f s : List ℕ) (a : Admission) (e : a ≡ admissionBoth true f s) (m k : ℕ) (r : Reason) (steps : List ℕ) where
-  pub both-refused : {c i : ℕ} (x : Refusal) → a ≡ Refused c i → x ≡ refusalOf a → accept.Refused (x .number) (x .row) ≡ acceptAnswer (judgeBoth f s m k r steps)
+  pub both-refused : {c i : ℕ} (x : Refusal) → a ≡ Refused c i → x ≡ refusalOf a
+      → accept.Refused (x .number) (x .row) ≡ acceptAnswer (judgeBoth f s m k r steps)
   unfolding acceptAnswer
   both-refused x h q = sym (ap acceptAnswer (judge-both m k r steps f s ∙ opened-refused not-judged _ a _ e x h q))
 
-  pub both-judged : {g n : ℕ} (h : a ≡ Admitted g n) (all : List ℕ) (p : List (List ℕ)) (mode : Mode) → all ≡ areaOf (rowBytes f ++ s) → p ≡ placesOf f → mode ≡ modeOf false f
+  pub both-judged : {g n : ℕ} (h : a ≡ Admitted g n) (all : List ℕ) (p : List (List ℕ)) (mode : Mode) → all ≡ areaOf (rowBytes f ++ s)
+      → p ≡ placesOf f → mode ≡ modeOf false f
       → (x : AcceptAnswer) → x ≡ acceptAnswer (judged (decode (take (n * ROW-BYTES) all) p mode n) m k r steps) → x ≡ acceptAnswer (judgeBoth f s m k r steps)
   both-judged h all p mode copy places modes x j =
       let t = table-both true f s a e h false all p mode copy places modes ∙ table-false (joined f s) in

@@ -13,7 +13,8 @@ use Rattle.model.specs.declared.Row.{Row}
 use Rattle.model.specs.Row.{BARRIER, CONTROL, RMW, atomic, barrier, releases, acquires}
 use Rattle.model.specs.Table.{decode, rowOf}
 use Rattle.model.specs.Scope.{together}
-use Rattle.model.specs.Synchronizes.{takesFrom, carriesOut, carriesIn, carriesOver, passes, syncAtomics, syncFromBarrier, syncToBarrier, syncBarriers, syncControl, synchronizes}
+use Rattle.model.specs.Synchronizes.{takesFrom, carriesOut, carriesIn, carriesOver, passes, syncAtomics, syncFromBarrier, syncToBarrier, syncBarriers}
+use Rattle.model.specs.Synchronizes.{syncControl, synchronizes}
 
 -- ---- laws: of the tests alone
 

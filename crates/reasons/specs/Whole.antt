@@ -26,7 +26,8 @@ use Rattle.model.specs.Table.{Table, ROW-BYTES, rowBytes, placesOf, modeOf, row
 use Rattle.model.specs.Moment.{momentIn, moment, programOrder}
 use Rattle.model.specs.Happens.{step}
 use Rattle.model.specs.Check.{wiped}
-use Rattle.model.specs.Reason.{twoMoments, chainSize, stepNumber, chain, hasChainBy, Derived, refused, word, chained, notBefore, chainOr, ours, derivedOf, deriveAnswer, chainAfter, workAfter}
+use Rattle.model.specs.Reason.{twoMoments, chainSize, stepNumber, chain, hasChainBy, Derived, refused, word, chained, notBefore, chainOr, ours}
+use Rattle.model.specs.Reason.{derivedOf, deriveAnswer, chainAfter, workAfter}
 use Rattle.area.specs.Regions.{MUTUAL, SYNC-END, HAPPENS, STEP, CHAINS, CHAINS-END, MOMENTS}
 use Rattle.pieces.specs.declared.Refusal.{Refusal}
 use Rattle.pieces.specs.Pieces.{areaOf, joined, deriveBoth}
@@ -174,7 +175,8 @@ module _ (f s : List ℕ) (m k : ℕ) (w c : List ℕ) (a : Admission) (e : a �
   told-refused x h q =
       left-same deriveAnswer workAfter chainAfter (derive-both m k (length w) (length c) f s ∙ opened-refused not-derived _ a _ e x h q) (refl, refl, refl)
 
-  pub told-rows : {g n : ℕ} (h : a ≡ Admitted g n) (all : List ℕ) (p : List (List ℕ)) (mode : Mode) → all ≡ areaOf (rowBytes f ++ s) → p ≡ placesOf f → mode ≡ modeOf false f
+  pub told-rows : {g n : ℕ} (h : a ≡ Admitted g n) (all : List ℕ) (p : List (List ℕ)) (mode : Mode) → all ≡ areaOf (rowBytes f ++ s) → p ≡ placesOf f
+      → mode ≡ modeOf false f
       → (r : DeriveAnswer) (u d : List ℕ) → Told (derivedOf (decode (take (n * ROW-BYTES) all) p mode n) m k) r w u c d → Told told r w u c d
   told-rows h all p mode copy places modes r u d j =
       let q = door-admits CHAIN true f s (length w) (length c) a e h in

@@ -20,7 +20,8 @@ use Rattle.model.specs.Table.{Table}
 use Rattle.model.specs.Scope.{mutually}
 use Rattle.model.specs.Location.{common, before}
 use Rattle.model.specs.Race.{conflict, unorderedNth, raceNth, races}
-use Rattle.model.specs.Report.{orderedAt, orderedNth, conflictMutual, conflictOrdered, conflicting, mutuals, ordered, racing, shareOf, reportOf, withShare, counted}
+use Rattle.model.specs.Report.{orderedAt, orderedNth, conflictMutual, conflictOrdered, conflicting, mutuals, ordered, racing, shareOf, reportOf}
+use Rattle.model.specs.Report.{withShare, counted}
 use Rattle.laws.specs.ShareLaws.{MOST, divided}
 use Rattle.race.specs.Bytes.{mayRace}
 use Rattle.report.specs.declared.pairs.Count.{Count}
@@ -86,7 +87,8 @@ counted-as j k t x y e f = f ∙ ap (λ (z : Count). counts z t x y) (sym e)
 
 -- ---- laws: the turns of the counts
 
-pub below-turn : (p : ℕ → ℕ → Bool) (y x a b c : ℕ) (d : Bool) → a ≡ countBelow x (under p y) → d ≡ p x y → b ≡ one d → c ≡ a + b → c ≡ countBelow (x + 1) (under p y)
+pub below-turn : (p : ℕ → ℕ → Bool) (y x a b c : ℕ) (d : Bool) → a ≡ countBelow x (under p y) → d ≡ p x y → b ≡ one d → c ≡ a + b
+    → c ≡ countBelow (x + 1) (under p y)
 unfolding under
 below-turn p y x a b c d e f g h = h ∙ rw (e, g, f, count-more (λ z. p z y) x) refl
 

@@ -9,7 +9,8 @@ use native.Mathlib.Omega.{arith}
 use lib.ListN.{length, List·getD-eq-default, take, drop, set, length-drop, drop-of-length-le}
 use lib.Seq.{take-suc-set, take-all}
 use Rattle.finite.specs.Lists.{tabulate}
-use Rattle.model.specs.Table.{HEADER, PLACE-BYTES, HOSTS-PLACE-BYTES, ROW-BYTES, pairAt, agentsAt, hasHosts, dependencyBytes, rowsEnd, quadAt, rowsAt, rowsBegin, rowBytes}
+use Rattle.model.specs.Table.{HEADER, PLACE-BYTES, HOSTS-PLACE-BYTES, ROW-BYTES, pairAt, agentsAt, hasHosts, dependencyBytes, rowsEnd, quadAt, rowsAt}
+use Rattle.model.specs.Table.{rowsBegin, rowBytes}
 
 -- ---- past the end a number is 0
 
@@ -34,7 +35,8 @@ unfolding rowBytes
 rows-none s at e h = rw (← e, drop-of-length-le s h) (take-none (ROW-BYTES * rowsAt s))
 
 -- fewer bytes than the rows have
-pub rows-rest : (s : List ℕ) (at size : ℕ) → at ≡ rowsBegin s → size ≡ ROW-BYTES * rowsAt s → length s ≤ at + size → take (length s - at) (drop at s) ≡ rowBytes s
+pub rows-rest : (s : List ℕ) (at size : ℕ) → at ≡ rowsBegin s → size ≡ ROW-BYTES * rowsAt s → length s ≤ at + size
+    → take (length s - at) (drop at s) ≡ rowBytes s
 unfolding rowBytes
 rows-rest s at size e f h =
     let n = length-drop at s in

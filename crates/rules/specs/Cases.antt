@@ -59,10 +59,12 @@ module _ (s from to : ℕ) (r q : Row) (b o : Bool) where
     pub told-one : {h g : Bool} → case ≡ 1 → h ≡ holdingOf s r from → g ≡ holdingOf s q to → (h and g and b) ≡ caseRows case s from to r q b o
     told-one e x y = rw (x, y, e) (sym case-one)
 
-    pub told-two : {g x c : Bool} → case ≡ 2 → g ≡ holdingOf s q to → x ≡ releases q → c ≡ concernsOf s r from → (g and x and c and o) ≡ caseRows case s from to r q b o
+    pub told-two : {g x c : Bool} → case ≡ 2 → g ≡ holdingOf s q to → x ≡ releases q → c ≡ concernsOf s r from
+        → (g and x and c and o) ≡ caseRows case s from to r q b o
     told-two e f g h = rw (f, g, h, e) (sym case-two)
 
-    pub told-three : {h x c : Bool} → case ≡ 3 → h ≡ holdingOf s r from → x ≡ acquires r → c ≡ concernsOf s q to → (h and x and c and o) ≡ caseRows case s from to r q b o
+    pub told-three : {h x c : Bool} → case ≡ 3 → h ≡ holdingOf s r from → x ≡ acquires r → c ≡ concernsOf s q to
+        → (h and x and c and o) ≡ caseRows case s from to r q b o
     told-three e f g h = rw (f, g, h, e) (sym case-three)
 
     -- no other number is one of them

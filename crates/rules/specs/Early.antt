@@ -15,7 +15,8 @@ module _ (b : List ℕ) (p : List (List ℕ)) (mode : Mode) (n m k : ℕ) where
   unfolding programOrder orderedRows decode _and_
   not-earlier l = rw (le-ltb m k l) refl
 
-  pub other-agent : (x y : ℕ) → x ≡ rowOf b (rowIn m) .agent → y ≡ rowOf b (rowIn k) .agent → not (eqb x y) ≡ true → false ≡ programOrder (decode b p mode n) m k
+  pub other-agent : (x y : ℕ) → x ≡ rowOf b (rowIn m) .agent → y ≡ rowOf b (rowIn k) .agent → not (eqb x y) ≡ true
+      → false ≡ programOrder (decode b p mode n) m k
   unfolding programOrder orderedRows decode
   other-agent x y e f g =
       let h : eqb (rowOf b (rowIn m) .agent) (rowOf b (rowIn k) .agent) ≡ false = rw (← e, ← f) (not-out (eqb x y) g) in

@@ -1,3 +1,5 @@
+pub mod Held
 pub mod Lowest
 pub mod Meet
 pub mod Own
+pub mod Walk

@@ -3,14 +3,17 @@ use mathlib.Core.Bool.{Bool, not, cond}
 use mathlib.Core.List.{List}
 use Prim.Native.Nat.{ℕ}
 use lib.ListN.{length}
-use lib.Dec.{leb}
+use lib.Dec.{leb, eqb}
+use Rattle.finite.specs.Logic.{_and_}
 use Rattle.finite.specs.Below.{anyBelow}
 use Rattle.model.specs.declared.Mode.{Mode}
+use Rattle.model.specs.declared.Row.{Row}
 use Rattle.model.specs.declared.Admission.{Admission}
 use Rattle.model.specs.declared.Admission.the-variants.{Admitted}
 use Rattle.model.specs.Limits.{DEPENDENCIES}
+use Rattle.model.specs.Row.{access}
 use Rattle.model.specs.Table.{HEADER, rowOf, sourceOf, dependencyCount, decode}
-use Rattle.model.specs.Refusal.{versionFits, limitsFit, lengthFits, kindOver, namesNone, rowFault, tableFault, firstFault}
+use Rattle.model.specs.Refusal.{versionFits, limitsFit, lengthFits, kindOver, namesNone, outside, rowFault, tableFault, firstFault}
 
 -- 1 to 4: the number, 0 for none
 unfoldable pub shapeFault : List ℕ → ℕ
@@ -31,3 +34,11 @@ rowFaultIn hosts p agents b i = rowFault hosts p agents (rowOf b i) (sourceOf b 
 unfoldable pub rowsAdmission : Bool → Bool → ℕ → List ℕ → List (List ℕ) → Mode → ℕ → Admission
 rowsAdmission blanks hosts agents b p mode n =
     firstFault (rowFaultIn hosts p agents b) n (firstFault (tableFault blanks (decode b p mode n) (sourceOf b)) n (Admitted agents n))
+
+-- r is an access of the reference v
+unfoldable pub ofReference : ℕ → Row → Bool
+ofReference v r = access r and eqb (r .reference) v
+
+-- row j, in the bytes b of the rows, is a rival of r, and no count of the run that begins with f's
+unfoldable pub outsideIn : List ℕ → Row → Row → ℕ → Bool
+outsideIn b r f j = outside r f (rowOf b j)

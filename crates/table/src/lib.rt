@@ -29,7 +29,7 @@ pub fn admit_rows(
     let n = count as u16;
     let i = row_faults::first_row_fault(rows, hosts, p, agents, n);
     if i < n {
-        let number = row_faults::row_fault_at(rows, hosts, p, agents, i);
+        let number = row_faults::row_fault_at(rows, hosts, &p, agents, i);
         return Admission::Refused {
             number: number,
             row: i,
@@ -37,7 +37,7 @@ pub fn admit_rows(
     }
     let j = table_faults::first_table_fault(rows, p, mode, n, blanks);
     if j < n {
-        let number = table_faults::table_fault(rows, p, mode, n, blanks, j);
+        let number = table_faults::table_fault(rows, &p, mode, n, blanks, j);
         return Admission::Refused {
             number: number,
             row: j,

@@ -109,15 +109,16 @@ pub fn bytes_fit(r: Row) -> bool
     kinds::is_access(r) | (r.size == 0)
 }
 
-// 6: kind fit.
+// 6: kind fit. A plain row is asked what plain rows are.
 pub fn kind_fits(r: Row, source: Source) -> bool
     ensures { λ b. ⌜ b ≡ kindFits r (source .0) ⌝ }
 {
-    let plain = kinds::is_plain(r);
-    (!plain | plain_fits(r))
-        & (!kinds::is_atomic(r) | atomic_fits(r))
+    if kinds::is_plain(r) {
+        return plain_fits(r) & (kinds::reads(r) | source.is_initial()) & (r.rank == 0);
+    }
+    (!kinds::is_atomic(r) | atomic_fits(r))
         & (!kinds::is_barrier(r) | barrier_fits(r))
-        & (plain | semantics_fit(r))
+        & semantics_fit(r)
         & (kinds::reads(r) | source.is_initial())
         & (kinds::is_ranked(r) | (r.rank == 0))
         & bytes_fit(r)
@@ -153,24 +154,33 @@ pub fn extent_fits(r: Row) -> bool
 pub fn form_fault(r: Row, source: Source) -> u8
     ensures { λ n. ⌜ n ≡ formFault r (source .0) ⌝ }
 {
-    let operation = pick::byte(operation_fits(r, source), 0, 20);
-    let other = pick::byte(kind_fits(r, source), pick::byte(extent_fits(r), 0, 7), 6);
-    pick::byte(kinds::is_operation(r), operation, other)
+    if kinds::is_operation(r) {
+        return pick::byte(operation_fits(r, source), 0, 20);
+    }
+    if !kind_fits(r, source) {
+        return 6;
+    }
+    pick::byte(extent_fits(r), 0, 7)
 }
 
-// Refusals 5, 19, 6 or 20, 7 of a row, or 0.
+// Refusals 5, 19, 6 or 20, 7 of a row, or 0. Places are lent, since all of them by value would be copied.
 // Ruled out: a barrier of class 4 gets 6, though 5 comes first; an access passes that goes on past the last byte, or an
 // atomic of 8 bytes that starts at a multiple of 4.
-pub fn row_fault(hosts: bool, p: Places, agents: u8, r: Row, source: Source) -> u8
-    ensures { λ n. ⌜ n ≡ rowFault hosts p agents r (source .0) ⌝ }
+pub fn row_fault(hosts: bool, p: &[[u16; 4]], agents: u8, r: Row, source: Source) -> u8
+    ensures { λ n. ⌜ n ≡ rowFault hosts (now (p .entry)) agents r (source .0) ⌝ }
 {
-    let fits = agent_fits(scopes::agent_kind(p, r.agent), r);
-    let fault = pick::byte(fits, form_fault(r, source), 19);
-    pick::byte(codes_fit(hosts, agents, r), fault, 5)
+    if !codes_fit(hosts, agents, r) {
+        return 5;
+    }
+    let x = scopes::place_in(p, r.agent);
+    if !agent_fits(x[3], r) {
+        return 19;
+    }
+    form_fault(r, source)
 }
 
-pub fn row_fault_at(rows: &[u8], hosts: bool, p: Places, agents: u8, i: u16) -> u8
-    ensures { λ n. ⌜ n ≡ rowFaultIn hosts p agents (now (rows .entry)) i ⌝ }
+pub fn row_fault_at(rows: &[u8], hosts: bool, p: &[[u16; 4]], agents: u8, i: u16) -> u8
+    ensures { λ n. ⌜ n ≡ rowFaultIn hosts (now (p .entry)) agents (now (rows .entry)) i ⌝ }
 {
     let r = bytes::read_row(rows, i);
     row_fault(hosts, p, agents, r, bytes::read_source(rows, i))
@@ -182,7 +192,7 @@ pub fn first_row_fault(rows: &[u8], hosts: bool, p: Places, agents: u8, n: u16) 
     ensures { λ i. ⌜ i ≡ least n (faulty (rowFaultIn hosts p agents (now (rows .entry)))) ⌝ }
 {
     for i in 0..n {
-        if row_fault_at(rows, hosts, p, agents, i) != 0 {
+        if row_fault_at(rows, hosts, &p, agents, i) != 0 {
             return i;
         }
     }

@@ -2,14 +2,19 @@
 // A test that reads no place is stated of a table with none, one that reads no mode of one that is OFF, and one that reads no
 // number of rows of a table of 0: what is left out makes no difference to it.
 ghost use mathlib.Core.Path.{_≡_};
+ghost use mathlib.Core.Bool.{false};
 ghost use mathlib.Core.List.{[]};
+ghost use Prim.Native.Nat.{_<_};
+ghost use lib.Dec.{eqb};
 ghost use Rattle.finite.specs.Below.{anyBelow, least};
 ghost use Rattle.model.specs.Row.{CONTROL};
-ghost use Rattle.model.specs.Table.{rowOf, OFF, decode, sourceOf};
-ghost use Rattle.model.specs.Refusal.{otherClass, otherClassAt, classTaken, writerFits, sourceFits, sourceBroken};
+ghost use Rattle.model.specs.Scope.{mutualRows};
+ghost use Rattle.model.specs.Table.{ROW-BYTES, pairOf, rowOf, OFF, decode, sourceOf};
+ghost use Rattle.model.specs.Refusal.{otherClassAt, classTaken, writerFits, sourceFits, sourceBroken};
 ghost use Rattle.model.specs.Refusal.{sameRank, sameRankAt, rankTaken, apartAt, instanceBroken};
-ghost use Rattle.model.specs.Refusal.{rival, outside, outsideAt, begins, unfit, tableFault, faulty};
+ghost use Rattle.model.specs.Refusal.{rival, outside, begins, unfit, tableFault, faulty};
 ghost use Rattle.rows.specs.Places.{IsPlace};
+ghost use Rattle.table.specs.Rows.{ofReference, outsideIn};
 use model::Mode;
 use model::Places;
 use model::Row;
@@ -19,45 +24,59 @@ use rows::kinds;
 use rows::pick;
 use rows::scopes;
 
+// ---- two bytes of a row
+
+// Places of a row's start, reference and rank.
+const START: u8 = 8;
+
+const REFERENCE: u8 = 10;
+
+const RANK: u8 = 14;
+
+// Whether the two bytes of row j from byte k on are the number x. Most rows have another, and its last byte tells.
+fn has_pair(rows: &[u8], j: u16, k: u8, x: u16) -> bool
+    requires { ⌜ k < ROW-BYTES ⌝ }
+    ensures { λ b. ⌜ b ≡ eqb (pairOf (now (rows .entry)) j k) x ⌝ }
+{
+    if bytes::row_byte(rows, j, k + 1) != (x % 256) as u8 {
+        return false;
+    }
+    bytes::row_byte(rows, j, k) == (x / 256) as u8
+}
+
 // ---- 8
 
-// The access q has r's reference and another class.
-pub fn other_class(r: Row, q: Row) -> bool
-    ensures { λ b. ⌜ b ≡ otherClass r q ⌝ }
+// Whether row j is an access of this reference.
+fn is_of_reference(rows: &[u8], reference: u16, j: u16) -> bool
+    ensures { λ b. ⌜ b ≡ ofReference reference (rowOf (now (rows .entry)) j) ⌝ }
 {
-    kinds::is_access(q) & (q.reference == r.reference) & !(q.class == r.class)
-}
-
-// The same of row i, which is r, and row j. Most rows have another reference or the same class, and no whole row is read.
-pub fn other_class_at(rows: &[u8], i: u16, r: Row, j: u16) -> bool
-    requires { ⌜ r ≡ rowOf (now rows) i ⌝ }
-    ensures { λ b. ⌜ b ≡ otherClassAt (decode (now (rows .entry)) [] OFF 0) i j ⌝ }
-{
-    if bytes::read_reference(rows, j) != r.reference {
+    if !has_pair(rows, j, REFERENCE, reference) {
         return false;
     }
-    if bytes::read_class(rows, j) == r.class {
-        return false;
-    }
-    other_class(r, bytes::read_row(rows, j))
+    bytes::read_kind(rows, j) <= kinds::RMW
 }
 
-pub fn any_other_class(rows: &[u8], i: u16, r: Row) -> bool
-    requires { ⌜ r ≡ rowOf (now rows) i ⌝ }
+// The last access before row i of the reference of row i, which is r, has another class. Those before it have its class, since its
+// own turn found nothing.
+// Ruled out: one that looks no further than the row before.
+fn any_other_class(rows: &[u8], i: u16, r: Row) -> bool
+    requires { ⌜ (r ≡ rowOf (now rows) i) × (anyBelow i (classTaken (decode (now rows) [] OFF 0)) ≡ false) ⌝ }
     ensures { λ b. ⌜ b ≡ anyBelow i (otherClassAt (decode (now (rows .entry)) [] OFF 0) i) ⌝ }
 {
-    for j in 0..i {
-        if other_class_at(rows, i, r, j) {
-            return true;
+    let mut j = i;
+    while 0 < j {
+        j = j - 1;
+        if is_of_reference(rows, r.reference, j) {
+            return bytes::read_class(rows, j) != r.class;
         }
     }
     false
 }
 
-pub fn class_taken(rows: &[u8], i: u16) -> bool
+pub fn class_taken(rows: &[u8], i: u16, r: Row) -> bool
+    requires { ⌜ (r ≡ rowOf (now rows) i) × (anyBelow i (classTaken (decode (now rows) [] OFF 0)) ≡ false) ⌝ }
     ensures { λ b. ⌜ b ≡ classTaken (decode (now (rows .entry)) [] OFF 0) i ⌝ }
 {
-    let r = bytes::read_row(rows, i);
     if !kinds::is_access(r) {
         return false;
     }
@@ -66,29 +85,47 @@ pub fn class_taken(rows: &[u8], i: u16) -> bool
 
 // ---- 9
 
-// Of n rows, s is another row than i, a writer, and covers all bytes of row i.
-pub fn writer_fits(rows: &[u8], n: u16, i: u16, s: Source) -> bool
+// Of n rows, s is another row than i, which is r, a writer, and covers all bytes of row i.
+fn is_writer_of(rows: &[u8], n: u16, i: u16, r: Row, s: Source) -> bool
+    requires { ⌜ r ≡ rowOf (now rows) i ⌝ }
     ensures { λ b. ⌜ b ≡ writerFits (decode (now (rows .entry)) [] OFF n) i (s .0) ⌝ }
 {
     let w = bytes::read_row(rows, s.0);
-    let r = bytes::read_row(rows, i);
     s.is_row(n) & !(s.0 == i) & kinds::writes(w) & kinds::covers(w, r)
 }
 
-// The source s of row i is the initial value, a writer that fits, or a blank where one is allowed.
+pub fn writer_fits(rows: &[u8], n: u16, i: u16, s: Source) -> bool
+    ensures { λ b. ⌜ b ≡ writerFits (decode (now (rows .entry)) [] OFF n) i (s .0) ⌝ }
+{
+    is_writer_of(rows, n, i, bytes::read_row(rows, i), s)
+}
+
+// The source s of row i, which is r, is the initial value, a writer that fits, or a blank where one is allowed.
 // Ruled out: a writer of only some of the row's bytes passes; a blank passes on an atomic read.
+fn is_source_of(rows: &[u8], n: u16, blanks: bool, i: u16, r: Row, s: Source) -> bool
+    requires { ⌜ r ≡ rowOf (now rows) i ⌝ }
+    ensures { λ b. ⌜ b ≡ sourceFits blanks (decode (now (rows .entry)) [] OFF n) i (s .0) ⌝ }
+{
+    if s.is_initial() {
+        return true;
+    }
+    is_writer_of(rows, n, i, r, s) | blanks & kinds::is_plain_read(r) & s.is_blank()
+}
+
 pub fn source_fits(rows: &[u8], n: u16, blanks: bool, i: u16, s: Source) -> bool
     ensures { λ b. ⌜ b ≡ sourceFits blanks (decode (now (rows .entry)) [] OFF n) i (s .0) ⌝ }
 {
-    let r = bytes::read_row(rows, i);
-    s.is_initial() | writer_fits(rows, n, i, s) | blanks & kinds::is_plain_read(r) & s.is_blank()
+    is_source_of(rows, n, blanks, i, bytes::read_row(rows, i), s)
 }
 
-pub fn source_broken(rows: &[u8], n: u16, blanks: bool, i: u16) -> bool
+pub fn source_broken(rows: &[u8], n: u16, blanks: bool, i: u16, r: Row) -> bool
+    requires { ⌜ r ≡ rowOf (now rows) i ⌝ }
     ensures { λ b. ⌜ b ≡ sourceBroken blanks (decode (now (rows .entry)) [] OFF n) (sourceOf (now (rows .entry))) i ⌝ }
 {
-    let r = bytes::read_row(rows, i);
-    kinds::reads(r) & !source_fits(rows, n, blanks, i, bytes::read_source(rows, i))
+    if !kinds::reads(r) {
+        return false;
+    }
+    !is_source_of(rows, n, blanks, i, r, bytes::read_source(rows, i))
 }
 
 // ---- 10
@@ -99,26 +136,37 @@ pub fn same_rank(r: Row, q: Row) -> bool
     kinds::is_ranked(q) & (q.rank == r.rank)
 }
 
-// Few rows have one rank and one start, and no place is asked of the others.
-pub fn same_rank_at(rows: &[u8], p: Places, i: u16, r: Row, j: u16) -> bool
-    requires { ⌜ r ≡ rowOf (now rows) i ⌝ }
-    ensures { λ b. ⌜ b ≡ sameRankAt (decode (now (rows .entry)) p OFF 0) i j ⌝ }
+// Whether two rows, if they are different rows, are mutually-ordered. Places are lent, since all of them by value would be copied.
+fn is_mutual_in(p: &[[u16; 4]], r: Row, q: Row) -> bool
+    ensures { λ b. ⌜ b ≡ mutualRows (now (p .entry)) r q ⌝ }
 {
-    if bytes::read_rank(rows, j) != r.rank {
-        return false;
-    }
-    if bytes::read_start(rows, j) != r.start {
+    kinds::is_atomic(r)
+        & kinds::is_atomic(q)
+        & scopes::same_location(r, q)
+        & scopes::together_in(p, r, q)
+}
+
+// Few rows have one start, and no place is asked of the others.
+pub fn same_rank_at(rows: &[u8], p: &[[u16; 4]], i: u16, r: Row, j: u16) -> bool
+    requires { ⌜ r ≡ rowOf (now rows) i ⌝ }
+    ensures { λ b. ⌜ b ≡ sameRankAt (decode (now (rows .entry)) (now (p .entry)) OFF 0) i j ⌝ }
+{
+    if !has_pair(rows, j, START, r.start) {
         return false;
     }
     let q = bytes::read_row(rows, j);
-    same_rank(r, q) & scopes::is_mutual(p, r, q)
+    same_rank(r, q) & is_mutual_in(p, r, q)
 }
 
-pub fn any_same_rank(rows: &[u8], p: Places, i: u16, r: Row) -> bool
+// Few rows have one rank, and nothing more is asked of the others.
+pub fn any_same_rank(rows: &[u8], p: &[[u16; 4]], i: u16, r: Row) -> bool
     requires { ⌜ r ≡ rowOf (now rows) i ⌝ }
-    ensures { λ b. ⌜ b ≡ anyBelow i (sameRankAt (decode (now (rows .entry)) p OFF 0) i) ⌝ }
+    ensures { λ b. ⌜ b ≡ anyBelow i (sameRankAt (decode (now (rows .entry)) (now (p .entry)) OFF 0) i) ⌝ }
 {
     for j in 0..i {
+        if !has_pair(rows, j, RANK, r.rank) {
+            continue;
+        }
         if same_rank_at(rows, p, i, r, j) {
             return true;
         }
@@ -126,10 +174,10 @@ pub fn any_same_rank(rows: &[u8], p: Places, i: u16, r: Row) -> bool
     false
 }
 
-pub fn rank_taken(rows: &[u8], p: Places, i: u16) -> bool
-    ensures { λ b. ⌜ b ≡ rankTaken (decode (now (rows .entry)) p OFF 0) i ⌝ }
+pub fn rank_taken(rows: &[u8], p: &[[u16; 4]], i: u16, r: Row) -> bool
+    requires { ⌜ r ≡ rowOf (now rows) i ⌝ }
+    ensures { λ b. ⌜ b ≡ rankTaken (decode (now (rows .entry)) (now (p .entry)) OFF 0) i ⌝ }
 {
-    let r = bytes::read_row(rows, i);
     if !kinds::is_ranked(r) {
         return false;
     }
@@ -157,16 +205,16 @@ pub fn apart_at(rows: &[u8], p: &[[u16; 4]], i: u16, r: Row, x: [u16; 4], j: u16
     !scopes::shares_from(p, r.class, r.agent, x, g)
 }
 
-pub fn instance_broken(rows: &[u8], p: Places, i: u16) -> bool
-    ensures { λ b. ⌜ b ≡ instanceBroken (decode (now (rows .entry)) p OFF 0) i ⌝ }
+pub fn instance_broken(rows: &[u8], p: &[[u16; 4]], i: u16, r: Row) -> bool
+    requires { ⌜ r ≡ rowOf (now rows) i ⌝ }
+    ensures { λ b. ⌜ b ≡ instanceBroken (decode (now (rows .entry)) (now (p .entry)) OFF 0) i ⌝ }
 {
-    if bytes::read_kind(rows, i) != kinds::CONTROL {
+    if r.kind != kinds::CONTROL {
         return false;
     }
-    let r = bytes::read_row(rows, i);
-    let x = scopes::place_in(&p, r.agent);
+    let x = scopes::place_in(p, r.agent);
     for j in 0..i {
-        if apart_at(rows, &p, i, r, x, j) {
+        if apart_at(rows, p, i, r, x, j) {
             return true;
         }
     }
@@ -189,81 +237,81 @@ pub fn is_outside(r: Row, m: Row, q: Row) -> bool
     is_rival(r, q) & !(scopes::age(q.rank, m.rank) < scopes::RUN)
 }
 
-pub fn outside_at(rows: &[u8], i: u16, m: u16, j: u16) -> bool
-    ensures { λ b. ⌜ b ≡ outsideAt (decode (now (rows .entry)) [] OFF 0) i m j ⌝ }
-{
-    if bytes::read_reference(rows, j) != bytes::read_reference(rows, i) {
-        return false;
-    }
-    let r = bytes::read_row(rows, i);
-    let f = bytes::read_row(rows, m);
-    let q = bytes::read_row(rows, j);
-    is_outside(r, f, q)
-}
-
-pub fn any_outside(rows: &[u8], i: u16, m: u16) -> bool
-    ensures { λ b. ⌜ b ≡ anyBelow i (outsideAt (decode (now (rows .entry)) [] OFF 0) i m) ⌝ }
+// Most rows have another start.
+pub fn any_outside(rows: &[u8], i: u16, r: Row, f: Row) -> bool
+    ensures { λ b. ⌜ b ≡ anyBelow i (outsideIn (now (rows .entry)) r f) ⌝ }
 {
     for j in 0..i {
-        if outside_at(rows, i, m, j) {
+        if !has_pair(rows, j, START, r.start) {
+            continue;
+        }
+        if is_outside(r, f, bytes::read_row(rows, j)) {
             return true;
         }
     }
     false
 }
 
-// Row m is a rival of row i, and the run that begins with it has all those up to row i. Most rows have another start.
-pub fn begins_at(rows: &[u8], i: u16, m: u16) -> bool
+// Row m is a rival of row i, which is r, and the run that begins with it has all those up to row i.
+pub fn begins_at(rows: &[u8], i: u16, r: Row, m: u16) -> bool
+    requires { ⌜ r ≡ rowOf (now rows) i ⌝ }
     ensures { λ b. ⌜ b ≡ begins (decode (now (rows .entry)) [] OFF 0) i m ⌝ }
 {
-    if bytes::read_start(rows, m) != bytes::read_start(rows, i) {
-        return false;
-    }
-    let r = bytes::read_row(rows, i);
     let f = bytes::read_row(rows, m);
     if !is_rival(r, f) {
         return false;
     }
-    !(any_outside(rows, i, m) | outside_at(rows, i, m, i))
+    !(any_outside(rows, i, r, f) | is_outside(r, f, r))
 }
 
-pub fn any_begins(rows: &[u8], i: u16) -> bool
+// Most rows have another start.
+pub fn any_begins(rows: &[u8], i: u16, r: Row) -> bool
+    requires { ⌜ r ≡ rowOf (now rows) i ⌝ }
     ensures { λ b. ⌜ b ≡ anyBelow i (begins (decode (now (rows .entry)) [] OFF 0) i) ⌝ }
 {
     for m in 0..i {
-        if begins_at(rows, i, m) {
+        if !has_pair(rows, m, START, r.start) {
+            continue;
+        }
+        if begins_at(rows, i, r, m) {
             return true;
         }
     }
     false
 }
 
-// Counted ranks of row i's location fit in no run.
+// Counted ranks of the location of row i, which is r, fit in no run.
 // Ruled out: one that refuses ranks 0 and 32767; one that passes 0, 20000 and 45000, of which any two fit.
-pub fn is_unfit(rows: &[u8], mode: Mode, i: u16) -> bool
+pub fn is_unfit(rows: &[u8], mode: Mode, i: u16, r: Row) -> bool
+    requires { ⌜ r ≡ rowOf (now rows) i ⌝ }
     ensures { λ b. ⌜ b ≡ unfit (decode (now (rows .entry)) [] mode 0) i ⌝ }
 {
     if !mode.counted {
         return false;
     }
-    if !kinds::is_ranked(bytes::read_row(rows, i)) {
+    if !kinds::is_ranked(r) {
         return false;
     }
-    !(any_begins(rows, i) | begins_at(rows, i, i))
+    if any_begins(rows, i, r) {
+        return false;
+    }
+    any_outside(rows, i, r, r) | is_outside(r, r, r)
 }
 
 // ---- in their order
 
-// Refusals 8 to 10, 14 and 15 of row i, or 0.
+// Refusals 8 to 10, 14 and 15 of row i, or 0. No earlier row has refusal 8.
 // Ruled out: of two rows of one rank the earlier is refused; a row passes that reads from itself.
-pub fn table_fault(rows: &[u8], p: Places, mode: Mode, n: u16, blanks: bool, i: u16) -> u8
-    ensures { λ r. ⌜ r ≡ tableFault blanks (decode (now (rows .entry)) p mode n) (sourceOf (now (rows .entry))) i ⌝ }
+pub fn table_fault(rows: &[u8], p: &[[u16; 4]], mode: Mode, n: u16, blanks: bool, i: u16) -> u8
+    requires { ⌜ anyBelow i (classTaken (decode (now rows) [] OFF 0)) ≡ false ⌝ }
+    ensures { λ r. ⌜ r ≡ tableFault blanks (decode (now (rows .entry)) (now (p .entry)) mode n) (sourceOf (now (rows .entry))) i ⌝ }
 {
-    let run = pick::byte(is_unfit(rows, mode, i), 15, 0);
-    let instance = pick::byte(instance_broken(rows, p, i), 14, run);
-    let rank = pick::byte(rank_taken(rows, p, i), 10, instance);
-    let source = pick::byte(source_broken(rows, n, blanks, i), 9, rank);
-    pick::byte(class_taken(rows, i), 8, source)
+    let r = bytes::read_row(rows, i);
+    let run = pick::byte(is_unfit(rows, mode, i, r), 15, 0);
+    let instance = pick::byte(instance_broken(rows, p, i, r), 14, run);
+    let rank = pick::byte(rank_taken(rows, p, i, r), 10, instance);
+    let source = pick::byte(source_broken(rows, n, blanks, i, r), 9, rank);
+    pick::byte(class_taken(rows, i, r), 8, source)
 }
 
 // The first of n rows that has a refusal 8 to 10, 14 or 15; n where none has.
@@ -272,7 +320,7 @@ pub fn first_table_fault(rows: &[u8], p: Places, mode: Mode, n: u16, blanks: boo
     ensures { λ i. ⌜ i ≡ least n (faulty (tableFault blanks (decode (now (rows .entry)) p mode n) (sourceOf (now (rows .entry))))) ⌝ }
 {
     for i in 0..n {
-        if table_fault(rows, p, mode, n, blanks, i) != 0 {
+        if table_fault(rows, &p, mode, n, blanks, i) != 0 {
             return i;
         }
     }

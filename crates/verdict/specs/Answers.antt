@@ -20,8 +20,8 @@ use Rattle.finite.specs.Cycle.{cycle-canonical}
 use Rattle.bits.specs.Matrix.{rel}
 use Rattle.bits.specs.Within.{Within, within-trans, within-widen}
 use Rattle.bits.specs.Stage.{Holds, Made, holds-kept}
-use Rattle.area.specs.Regions.{MUTUAL, LOCATION-END, LOCATED-END, EDGE, EDGE-END, GRID, LAYERS, LAYERS-END}
-use Rattle.area.specs.State.{Located, MadeOrdered, MadeLocated, located-kept}
+use Rattle.area.specs.Regions.{MUTUAL, LOCATION-END, LOCATED-END, EDGE, EDGE-END, GRID, LAYERS, LAYERS-END, OVERLAP, OVERLAP-END, CELLS}
+use Rattle.area.specs.State.{Located, MadeOrdered, MadePlaced, MadeLocated, overlaps, placed-located, located-kept}
 use Rattle.cycle.specs.Shown.{held-start}
 use Rattle.race.specs.Bytes.{Ready}
 use Rattle.race.specs.declared.Found.{Found}
@@ -68,16 +68,19 @@ overwrite-answered t source next o e = rw e (go (ltb y (t .rows)))
     z : ℕ
     z = overWriter t source y
 
-    go : (b : Bool) → overwriteOr (cond b (over.At y z (overByte t source y z)) over.Nothing) (checkAnswer next) ≡ checkAnswer (cond b (overwritten y z (overByte t source y z)) next)
+    go : (b : Bool)
+        → overwriteOr (cond b (over.At y z (overByte t source y z)) over.Nothing) (checkAnswer next) ≡ checkAnswer (cond b (overwritten y z (overByte t source y z)) next)
     go true = refl
     go false = refl
 
-pub settle-over : (t : Table) (source : ℕ → ℕ) (next : Verdict) (o : Overwrite) (r : CheckAnswer) {y z b : ℕ} → o ≡ foundOverwrite t source → o ≡ over.At y z b → r ≡ overwriteAnswer o
+pub settle-over : (t : Table) (source : ℕ → ℕ) (next : Verdict) (o : Overwrite) (r : CheckAnswer) {y z b : ℕ} → o ≡ foundOverwrite t source
+    → o ≡ over.At y z b → r ≡ overwriteAnswer o
     → r ≡ checkAnswer (overwrittenOr next t source)
 unfolding overwriteAnswer overwriteOr
 settle-over t source next o r e f g = g ∙ rw f refl ∙ overwrite-answered t source next o e
 
-pub settle-on : (t : Table) (source : ℕ → ℕ) (o : Overwrite) (f : Found) (r : CheckAnswer) → o ≡ foundOverwrite t source → o ≡ over.Nothing → f ≡ foundRace t → r ≡ raceAnswer f
+pub settle-on : (t : Table) (source : ℕ → ℕ) (o : Overwrite) (f : Found) (r : CheckAnswer) → o ≡ foundOverwrite t source → o ≡ over.Nothing
+    → f ≡ foundRace t → r ≡ raceAnswer f
     → r ≡ checkAnswer (overwrittenOr (raceOr raceFree t) t source)
 unfolding overwriteOr
 settle-on t source o f r e none h g =
@@ -87,11 +90,13 @@ settle-on t source o f r e none h g =
 -- ---- laws: the verdict
 
 -- where there is a cycle, and where there is none
-pub verdict-cyclic : (t : Table) (source : ℕ → ℕ) (n x : ℕ) → n ≡ t .rows → x ≡ cycleRow t source → x < n → verdict t source ≡ cyclic (cycleRows t source) (cycleEdges t source)
+pub verdict-cyclic : (t : Table) (source : ℕ → ℕ) (n x : ℕ) → n ≡ t .rows → x ≡ cycleRow t source → x < n
+    → verdict t source ≡ cyclic (cycleRows t source) (cycleEdges t source)
 unfolding verdict cyclicOr
 verdict-cyclic t source n x e q l = rw (lt-ltb (cycleRow t source) (t .rows) (rw (← q, ← e) l)) refl
 
-pub verdict-on : (t : Table) (source : ℕ → ℕ) (n x : ℕ) → n ≡ t .rows → x ≡ cycleRow t source → n ≤ x → verdict t source ≡ overwrittenOr (raceOr raceFree t) t source
+pub verdict-on : (t : Table) (source : ℕ → ℕ) (n x : ℕ) → n ≡ t .rows → x ≡ cycleRow t source → n ≤ x
+    → verdict t source ≡ overwrittenOr (raceOr raceFree t) t source
 unfolding verdict cyclicOr
 verdict-on t source n x e q l = rw (le-ltb (cycleRow t source) (t .rows) (rw (← q, ← e) l)) refl
 
@@ -127,12 +132,13 @@ cyclic-answered v l m size e s = rw (e, s) refl
 pub located-made : {t : Table} {n : ℕ} {w v u : List ℕ} → Within MUTUAL LOCATED-END w v → MadeLocated t n v u → Located t n u × Within MUTUAL LOCATED-END w u
 located-made f l = (l .located, within-trans f (within-widen MUTUAL LOCATED-END (omega arith) (omega arith) (l .frame)))
 
-pub located-by-flags : {t : Table} {n : ℕ} {w v u : List ℕ} → MadeOrdered t n w v → MadeLocated t n v u → Located t n u × Within MUTUAL LOCATED-END w u
-located-by-flags o l = located-made (within-widen MUTUAL LOCATED-END (omega arith) (omega arith) (o .frame)) l
+pub located-by-flags : {t : Table} {n : ℕ} {w v u z : List ℕ} → MadeOrdered t n w v → MadePlaced t n v u
+    → Made CELLS OVERLAP-END OVERLAP GRID n (overlaps t) u z → Located t n z × Within MUTUAL LOCATED-END w z
+located-by-flags o l m = located-made (within-widen MUTUAL LOCATED-END (omega arith) (omega arith) (o .frame)) (placed-located l m)
 
 -- what edges are read from is kept by every later stage
-pub known-kept : {t : Table} {n c d : ℕ} {w u : List ℕ} → LOCATION-END ≤ c → Ready t n w → Within c d w u → Ready t n u
-known-kept l k f = let e = f .len in let g = k .1 in (k .0, omega arith, k .2, located-kept l f (k .3))
+pub known-kept : {t : Table} {n c d : ℕ} {w u : List ℕ} → LOCATION-END ≤ c → d ≤ OVERLAP → Ready t n w → Within c d w u → Ready t n u
+known-kept l m k f = let e = f .len in let g = k .1 in (k .0, omega arith, k .2, located-kept l m f (k .3))
 
 -- edges made, then the search for a cycle, which leaves them
 pub edges-held : {n : ℕ} {r : ℕ → ℕ → Bool} {w v u : List ℕ} → Made EDGE EDGE-END EDGE GRID n r w v → Within LAYERS LAYERS-END v u
@@ -143,7 +149,8 @@ edges-held {n} m f =
       within-trans (within-widen EDGE LAYERS-END (omega arith) (omega arith) (m .frame)) (within-widen EDGE LAYERS-END (omega arith) (omega arith) f),
     )
 
-pub start-found : (t : Table) (source : ℕ → ℕ) (n x : ℕ) (w v : List ℕ) → n ≡ t .rows → Made EDGE EDGE-END EDGE GRID n (edge t source) w v → x ≡ cycleStart n (rel v EDGE GRID)
+pub start-found : (t : Table) (source : ℕ → ℕ) (n x : ℕ) (w v : List ℕ) → n ≡ t .rows → Made EDGE EDGE-END EDGE GRID n (edge t source) w v
+    → x ≡ cycleStart n (rel v EDGE GRID)
     → x ≡ cycleRow t source
 unfolding cycleRow
 start-found t source n x w v e m q = q ∙ held-start (m .holds) ∙ ap (λ (k : ℕ). cycleStart k (edge t source)) e
@@ -162,9 +169,10 @@ module _ (t : Table) (source : ℕ → ℕ) (n x : ℕ) (w v u : List ℕ) (all 
   row = start-found t source n x w v all made start
 
   pub show-asked : Ready t n w → x < n → (x < n) × Ready t n u × Holds EDGE GRID n (edge t source) u × (x ≡ cycleRow t source)
-  show-asked k l = (l, known-kept (omega arith) k (edges-held made frame .1), edges-held made frame .0, row)
+  show-asked k l = (l, known-kept (omega arith) (omega arith) k (edges-held made frame .1), edges-held made frame .0, row)
 
-  pub judge-cyclic : (size : ℕ) (z c d : List ℕ) → x < n → size ≡ length (cycleRows t source) → d ≡ cycleAfter (cyclic (cycleRows t source) (cycleEdges t source)) c → Within LAYERS LAYERS-END u z
+  pub judge-cyclic : (size : ℕ) (z c d : List ℕ) → x < n → size ≡ length (cycleRows t source)
+      → d ≡ cycleAfter (cyclic (cycleRows t source) (cycleEdges t source)) c → Within LAYERS LAYERS-END u z
       → (the-variants.Cycle size ≡ checkAnswer (verdict t source)) × (d ≡ cycleAfter (verdict t source) c) × Within EDGE LAYERS-END w z
   judge-cyclic size z c d l s e f =
       let q = verdict-cyclic t source n x all row l in (

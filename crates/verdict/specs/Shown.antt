@@ -43,7 +43,8 @@ stepNumber t source x size c i = edgeNumber t source (getD c i 0) (cond (ltb (i 
 pub numbered-none : (f : ℕ → ℕ) (c : List ℕ) → Numbered f 0 c c
 numbered-none f c = record { len = refl; number = λ i h. absurd (omega arith); rest = λ k h. refl }
 
-pub numbered-more : (f : ℕ → ℕ) (n v k : ℕ) (c d : List ℕ) → CYCLE-EDGES + n < length c → k ≡ CYCLE-EDGES + n → v ≡ f n → Numbered f n c d → Numbered f (n + 1) c (set d k v)
+pub numbered-more : (f : ℕ → ℕ) (n v k : ℕ) (c d : List ℕ) → CYCLE-EDGES + n < length c → k ≡ CYCLE-EDGES + n → v ≡ f n → Numbered f n c d
+    → Numbered f (n + 1) c (set d k v)
 numbered-more f n v k c d room q e h =
     record { len = length-set d k v ∙ h .len; number = λ i m. go i m (ℕ-discrete i n); rest = out }
   where
@@ -75,17 +76,20 @@ module _ (f : ℕ → ℕ) (k n size x i : ℕ) (c d : List ℕ) (h : Numbered f
   unfolding stepNumber
   step-is t source a b e p q r = rw (r, p, q, numbered-row f k i c d (omega arith) h) (go (decLt (i + 1) size))
     where
-      go : Dec (i + 1 < size) → edgeNumber t source (getD c i 0) (cond (ltb (i + 1) size) (getD d (i + 1) 0) x) ≡ edgeNumber t source (getD c i 0) (cond (ltb (i + 1) size) (getD c (i + 1) 0) x)
+      go : Dec (i + 1 < size)
+          → edgeNumber t source (getD c i 0) (cond (ltb (i + 1) size) (getD d (i + 1) 0) x) ≡ edgeNumber t source (getD c i 0) (cond (ltb (i + 1) size) (getD c (i + 1) 0) x)
       go (yes z) = rw (numbered-row f k (i + 1) c d (omega arith) h) refl
       go (no z) = rw (le-ltb (i + 1) size (omega arith)) refl
 
 -- the steps of a cycle that stands in c are the edge numbers along it
-pub steps-along : (t : Table) (source : ℕ → ℕ) (x : ℕ) (l c d e : List ℕ) → Written l (length l) c d → Numbered (stepNumber t source x (length l) d) (length l) d e
+pub steps-along : (t : Table) (source : ℕ → ℕ) (x : ℕ) (l c d e : List ℕ) → Written l (length l) c d
+    → Numbered (stepNumber t source x (length l) d) (length l) d e
     → Numbered (λ i. getD (along (edgeNumber t source) x l) i 0) (length l) d e
 unfolding stepNumber
 steps-along t source x l c d e w h = record { len = h .len; number = λ i m. h .number i m ∙ at i m (decLt (i + 1) (length l)); rest = h .rest }
   where
-    at : (i : ℕ) → i < length l → Dec (i + 1 < length l) → edgeNumber t source (getD d i 0) (cond (ltb (i + 1) (length l)) (getD d (i + 1) 0) x) ≡ getD (along (edgeNumber t source) x l) i 0
+    at : (i : ℕ) → i < length l → Dec (i + 1 < length l)
+        → edgeNumber t source (getD d i 0) (cond (ltb (i + 1) (length l)) (getD d (i + 1) 0) x) ≡ getD (along (edgeNumber t source) x l) i 0
     at i m (yes q) = rw (lt-ltb (i + 1) (length l) q, w .front i m, w .front (i + 1) q) (sym (along-at (edgeNumber t source) x l i q))
     at i m (no q) = rw (le-ltb (i + 1) (length l) (omega arith), w .front i m) (sym (along-last (edgeNumber t source) x l i (omega arith)))
 

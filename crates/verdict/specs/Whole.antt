@@ -17,7 +17,8 @@ use Rattle.model.specs.Limits.{WORK, CYCLE}
 use Rattle.model.specs.Table.{Table, ROW-BYTES, rowBytes, placesOf, modeOf, rowOf, sourceOf, decode, tableUnder, sourcesOf}
 use Rattle.model.specs.Race.{raceRow, racePartner, raceByte}
 use Rattle.model.specs.Edge.{cycleRow, cycleRows, cycleEdges, overReader, overWriter, overByte}
-use Rattle.model.specs.Check.{Verdict, refused, cyclic, overwritten, race, raceFree, raceOr, overwrittenOr, cyclicOr, verdict, checkAnswer, cycleAfter, workAfter, wiped}
+use Rattle.model.specs.Check.{Verdict, refused, cyclic, overwritten, race, raceFree, raceOr, overwrittenOr, cyclicOr, verdict, checkAnswer, cycleAfter}
+use Rattle.model.specs.Check.{workAfter, wiped}
 use Rattle.laws.specs.SourceLaws.{verdict-same}
 use Rattle.area.specs.Regions.{MUTUAL, LOCATED-END, EDGE, LAYERS-END}
 use Rattle.area.specs.State.{Located}
@@ -26,7 +27,8 @@ use Rattle.axioms.specs.Sources.{sourceIn}
 use Rattle.choice.specs.Sources.{Listed}
 use Rattle.pieces.specs.declared.Refusal.{Refusal}
 use Rattle.pieces.specs.Pieces.{areaOf, joined, checkBoth}
-use Rattle.pieces.specs.Entry.{RowsOf, refusalOf, doorBoth, few, row-ends, row-sizes, Left, left-same, zeros-wiped, opened-refused, opened-admitted, door-admits, table-both, sources-both}
+use Rattle.pieces.specs.Entry.{RowsOf, refusalOf, doorBoth, few, row-ends, row-sizes, Left, left-same, zeros-wiped, opened-refused, opened-admitted}
+use Rattle.pieces.specs.Entry.{door-admits, table-both, sources-both}
 use Rattle.pieces.specs.Answers.{check-both}
 
 -- stages that stay inside the area's own part, and the part cleared after them
@@ -46,7 +48,8 @@ module _ {blanks : Bool} {b : List ℕ} {p : List (List ℕ)} {mode : Mode} {n :
   known {w} {v} room f l = let e = f .len in (few h, omega arith, row-sizes h, l)
 
 -- the verdict over a list of the sources
-verdict-is : (b : List ℕ) (p : List (List ℕ)) (mode : Mode) (n : ℕ) (src : List ℕ) → Listed (sourceOf b) n src → verdict (decode b p mode n) (sourceIn src) ≡ verdict (decode b p mode n) (sourceOf b)
+verdict-is : (b : List ℕ) (p : List (List ℕ)) (mode : Mode) (n : ℕ) (src : List ℕ) → Listed (sourceOf b) n src
+    → verdict (decode b p mode n) (sourceIn src) ≡ verdict (decode b p mode n) (sourceOf b)
 unfolding decode
 verdict-is b p mode n src l = verdict-same (decode b p mode n) (sourceIn src) (sourceOf b) (λ i m. l .each i m)
 

@@ -31,6 +31,7 @@ pub fn locate_by_flags(rows: &[u8], p: Places, mode: Mode, n: usize, w: &mut [u6
 {
     order::happens_before(rows, p, mode, n, w);
     location::fill_location(rows, p, mode, n, w);
+    overlap::fill_overlaps(rows, n, w);
 }
 
 // Either of them: `quick` says which.

@@ -18,7 +18,9 @@ use Rattle.writer.specs.declared.Entry.{Entry}
 use Rattle.writer.specs.declared.Dependencies.{Dependencies}
 use Rattle.writer.specs.declared.WriteAnswer.{WriteAnswer}
 use Rattle.writer.specs.declared.WriteAnswer.the-variants as Answer
-use Rattle.writer.specs.Encode.{half, withHosts, placesSize, dependenciesSize, tableSize, headerList, numberOf, placeNumber, placeByte, rowList, nothing, entryAt, entryByte, dependencyNumber, dependencyByte, placesPart, rowsPart, dependenciesPart, encode, entriesIn}
+use Rattle.writer.specs.Encode.{half, withHosts, placesSize, dependenciesSize, tableSize, headerList, numberOf, placeNumber, placeByte, rowList}
+use Rattle.writer.specs.Encode.{nothing, entryAt, entryByte, dependencyNumber, dependencyByte, placesPart, rowsPart, dependenciesPart, encode}
+use Rattle.writer.specs.Encode.{entriesIn}
 use Rattle.writer.specs.Answer.{valuesFault, writtenAs, roomAnswer, writeAnswer, bufferAfter}
 use Rattle.writer.specs.Parts.{agentsIn, placesIn, rowsIn, dependenciesIn, partsAnswer, partsTable}
 use Rattle.writer.specs.ValueLaws.{Fits, places-most, after-most, size-most, header-length, encode-length, values-fit, agents-few, rows-few, after-few}
@@ -61,13 +63,15 @@ pub byte-dependency : (d : Dependencies) (k n : ℕ) {v : ℕ} → n ≡ depende
 unfolding dependencyByte
 byte-dependency d k n e h = rw (← e) h
 
-pub byte-entry : (l : List Entry) (k : ℕ) (b : List ℕ) → b ≡ rowList (getD l (k / ROW-BYTES) nothing .row) (getD l (k / ROW-BYTES) nothing .source .0) → getD b (k % ROW-BYTES) 0 ≡ entryByte l k
+pub byte-entry : (l : List Entry) (k : ℕ) (b : List ℕ) → b ≡ rowList (getD l (k / ROW-BYTES) nothing .row) (getD l (k / ROW-BYTES) nothing .source .0)
+    → getD b (k % ROW-BYTES) 0 ≡ entryByte l k
 unfolding entryByte entryAt
 byte-entry l k b e = ap (λ (x : List ℕ). getD x (k % ROW-BYTES) 0) e
 
 -- ---- a loop that copies
 
-pub paste-more : (d : List ℕ) (at : ℕ) (s u : List ℕ) (k : ℕ) → at + k < length d → k < length s → u ≡ paste d at s k → set u (at + k) (getD s k 0) ≡ paste d at s (k + 1)
+pub paste-more : (d : List ℕ) (at : ℕ) (s u : List ℕ) (k : ℕ) → at + k < length d → k < length s → u ≡ paste d at s k
+    → set u (at + k) (getD s k 0) ≡ paste d at s (k + 1)
 paste-more d at s u k hd hs e = rw (e, add-one k) (paste-suc d at s k 0 hd hs)
 
 -- ---- four copies, one after the other, make the table
@@ -137,7 +141,8 @@ pub refused-both : (w : WriteAnswer) (k i : ℕ) (t o : List ℕ) → w ≡ Answ
 unfolding bufferAfter
 refused-both w k i t o e = (sym e, rw e refl)
 
-pub written-both : (w : WriteAnswer) (n : ℕ) (t o u f : List ℕ) → w ≡ Answer.Written n → u ≡ paste o 0 f n → take n f ≡ t → (Answer.Written n ≡ w) × (u ≡ bufferAfter w t o)
+pub written-both : (w : WriteAnswer) (n : ℕ) (t o u f : List ℕ) → w ≡ Answer.Written n → u ≡ paste o 0 f n → take n f ≡ t
+    → (Answer.Written n ≡ w) × (u ≡ bufferAfter w t o)
 unfolding bufferAfter
 written-both w n t o u f e g h =
     let z : 0 + n ≡ n = omega arith in
@@ -203,6 +208,7 @@ module _ (version : ℕ) (P B Q : List ℕ) {a : ℕ} {p : List (List ℕ)} {n :
   unfolding partsTable
   table-same = rw (← ea, ← ep, ← en, ← el, ← ed) refl
 
-  pub parts-out : (out u : List ℕ) (r : WriteAnswer) (room : ℕ) → (r ≡ writeAnswer version a p n l d room) × (u ≡ bufferAfter (writeAnswer version a p n l d room) (encode version a p n l d) out)
+  pub parts-out : (out u : List ℕ) (r : WriteAnswer) (room : ℕ)
+      → (r ≡ writeAnswer version a p n l d room) × (u ≡ bufferAfter (writeAnswer version a p n l d room) (encode version a p n l d) out)
       → (r ≡ partsAnswer version P B Q room) × (u ≡ bufferAfter (partsAnswer version P B Q room) (partsTable version P B Q) out)
   parts-out out u r room h = (h .0 ∙ answer-same room, h .1 ∙ ap₂ (λ (x : WriteAnswer) (y : List ℕ). bufferAfter x y out) (answer-same room) table-same)

@@ -14,7 +14,8 @@ use Rattle.model.specs.declared.Admission.the-variants.{Admitted, Refused}
 use Rattle.model.specs.declared.Row.{Row}
 use Rattle.model.specs.Scope.{agentKind}
 use Rattle.model.specs.Table.{agentsAt, rowsAt, hasHosts, rowBytes, rowOf, sourceOf, placesOf, tableOf, sourcesOf, Table}
-use Rattle.model.specs.Refusal.{codesFit, agentFits, operationFits, kindFits, extentFits, formFault, rowFault, classTaken, sourceBroken, rankTaken, instanceBroken, unfit, tableFault, faulty, firstFault, rowFaultAt, headerFault, admission}
+use Rattle.model.specs.Refusal.{codesFit, agentFits, operationFits, kindFits, extentFits, formFault, rowFault, classTaken, sourceBroken, rankTaken}
+use Rattle.model.specs.Refusal.{instanceBroken, unfit, tableFault, faulty, firstFault, rowFaultAt, headerFault, admission}
 use Rattle.model.specs.Row.{operation}
 use Rattle.writer.specs.declared.Entry.{Entry}
 use Rattle.writer.specs.declared.Dependencies.{Dependencies}
@@ -111,7 +112,8 @@ first-number f n next k i h e = go (which (ltb (least n (faulty f)) n))
     go (inl l) = inl (subst (λ (x : ℕ). ofTable x ≡ true) (ap number-of (subst T l e)) (numbered-out (f m) (h m) (fault-out f m (least-is (faulty f) n .hit (ltb-true m n l)))))
     go (inr l) = inr (subst T l e)
 
-pub admission-number : (blanks : Bool) (s : List ℕ) (k i : ℕ) → ofTable (headerFault s) ≡ true ⊎ headerFault s ≡ 0 → admission blanks s ≡ Refused k i → ofTable k ≡ true
+pub admission-number : (blanks : Bool) (s : List ℕ) (k i : ℕ) → ofTable (headerFault s) ≡ true ⊎ headerFault s ≡ 0 → admission blanks s ≡ Refused k i
+    → ofTable k ≡ true
 unfolding admission
 admission-number blanks s k i h e = go (which (eqb (headerFault s) 0))
   where

@@ -7,7 +7,8 @@ use lib.Dec.{ltb, eqb}
 use Rattle.finite.specs.Lists.{tabulate}
 use Rattle.model.specs.declared.Row.{Row}
 use Rattle.model.specs.Limits.{ROWS, DEPENDENCIES}
-use Rattle.model.specs.Table.{HEADER, HOSTS, PLACE-BYTES, HOSTS-PLACE-BYTES, DEPENDENCY-BYTES, ROW-BYTES, rowBytes, dependencyBytes, rowOf, sourceOf, dependencyCount, dependencyFrom, dependencyTo}
+use Rattle.model.specs.Table.{HEADER, HOSTS, PLACE-BYTES, HOSTS-PLACE-BYTES, DEPENDENCY-BYTES, ROW-BYTES, rowBytes, dependencyBytes, rowOf, sourceOf}
+use Rattle.model.specs.Table.{dependencyCount, dependencyFrom, dependencyTo}
 use Rattle.writer.specs.declared.Entry.{Entry}
 use Rattle.writer.specs.declared.Dependencies.{Dependencies}
 

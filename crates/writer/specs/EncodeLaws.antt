@@ -13,12 +13,18 @@ use Rattle.finite.specs.Below.{any-not}
 use Rattle.finite.specs.Lists.{tabulate, getD-tabulate}
 use Rattle.model.specs.Limits.{AGENTS, ROWS, DEPENDENCIES}
 use Rattle.model.specs.Scope.{QUEUE, agentKind}
-use Rattle.model.specs.Table.{HEADER, FIRST, HOSTS, PLACE-BYTES, HOSTS-PLACE-BYTES, DEPENDENCY-BYTES, ROW-BYTES, pairAt, quadAt, countAt, versionAt, zeroAt, agentsAt, rowsAt, hasHosts, threeAt, fourAt, placeAt, slotAt, placesOf, rowsBegin, rowsEnd, sizeOf, rowBytes, dependencyBytes, byteOf, pairOf, rowOf, sourceOf, sourcesOf, dependencyCount, dependencyEnd, dependencyFrom, dependencyTo}
+use Rattle.model.specs.Table.{HEADER, FIRST, HOSTS, PLACE-BYTES, HOSTS-PLACE-BYTES, DEPENDENCY-BYTES, ROW-BYTES, pairAt, quadAt, countAt, versionAt}
+use Rattle.model.specs.Table.{zeroAt, agentsAt, rowsAt, hasHosts, threeAt, fourAt, placeAt, slotAt, placesOf, rowsBegin, rowsEnd, sizeOf, rowBytes}
+use Rattle.model.specs.Table.{dependencyBytes, byteOf, pairOf, rowOf, sourceOf, sourcesOf, dependencyCount, dependencyEnd, dependencyFrom}
+use Rattle.model.specs.Table.{dependencyTo}
 use Rattle.model.specs.Refusal.{versionFits, limitsFit, lengthFits, kindOver, agentsKnown, dependenciesFew, dependenciesNamed, hostsFault, headerFault}
 use Rattle.writer.specs.declared.Entry.{Entry}
 use Rattle.writer.specs.declared.Dependencies.{Dependencies}
-use Rattle.writer.specs.Encode.{half, withHosts, placesSize, dependenciesSize, tableSize, headerList, numberOf, placeNumber, placeByte, rowList, entryAt, entryByte, dependencyNumber, dependencyByte, placesPart, rowsPart, dependenciesPart, encode}
-use Rattle.writer.specs.ValueLaws.{Fits, begin-either, end-either, places-hosts, places-plain, after-hosts, after-plain, size-most, size-least, header-length, places-length, rows-length, encode-length, version-first, version-last, agents-few, rows-few, number-hosts, number-plain, after-none, after-few}
+use Rattle.writer.specs.Encode.{half, withHosts, placesSize, dependenciesSize, tableSize, headerList, numberOf, placeNumber, placeByte, rowList}
+use Rattle.writer.specs.Encode.{entryAt, entryByte, dependencyNumber, dependencyByte, placesPart, rowsPart, dependenciesPart, encode}
+use Rattle.writer.specs.ValueLaws.{Fits, begin-either, end-either, places-hosts, places-plain, after-hosts, after-plain, size-most, size-least}
+use Rattle.writer.specs.ValueLaws.{header-length, places-length, rows-length, encode-length, version-first, version-last, agents-few, rows-few}
+use Rattle.writer.specs.ValueLaws.{number-hosts, number-plain, after-none, after-few}
 
 -- ---- definitions: numbers are those of their types
 
@@ -325,14 +331,16 @@ module _ (version agents : ℕ) (p : List (List ℕ)) (rows : ℕ) (l : List Ent
         (place-byte q (omega arith) ∙ (ap (λ (y : ℕ). half y q) u ∙ half-at (numberOf p x m) q (HEADER + q) (omega arith)))
         (ap (λ (y : ℕ). getD (encode version agents p rows l d) y 0) n ∙ place-byte (q + 1) w ∙ (ap (λ (y : ℕ). half y (q + 1)) v ∙ half-at (numberOf p x m) (q + 1) (HEADER + q + 1) (omega arith))))
 
-    place-four : withHosts version ≡ true → (x m at : ℕ) → x < agents → m < 4 → at ≡ HEADER + (x * HOSTS-PLACE-BYTES + 2 * m) → pairAt (encode version agents p rows l d) at ≡ numberOf p x m
+    place-four : withHosts version ≡ true → (x m at : ℕ) → x < agents → m < 4 → at ≡ HEADER + (x * HOSTS-PLACE-BYTES + 2 * m)
+        → pairAt (encode version agents p rows l d) at ≡ numberOf p x m
     place-four e x m at b c r =
         let n = places-hosts version agents e in
         place-pair x m (x * HOSTS-PLACE-BYTES + 2 * m) b (omega arith) (omega arith)
         (subst (λ (y : ℕ). placeNumber (withHosts version) p y ≡ numberOf p x m) (plus-none (x * HOSTS-PLACE-BYTES + 2 * m)) (rw e (number-four p x m 0 (omega arith) c)))
         (rw e (number-four p x m 1 (omega arith) c)) at r
 
-    place-three : withHosts version ≡ false → (x m at : ℕ) → x < agents → m < 3 → at ≡ HEADER + (x * PLACE-BYTES + 2 * m) → pairAt (encode version agents p rows l d) at ≡ numberOf p x m
+    place-three : withHosts version ≡ false → (x m at : ℕ) → x < agents → m < 3 → at ≡ HEADER + (x * PLACE-BYTES + 2 * m)
+        → pairAt (encode version agents p rows l d) at ≡ numberOf p x m
     place-three e x m at b c r =
         let n = places-plain version agents e in
         place-pair x m (x * PLACE-BYTES + 2 * m) b (omega arith) (omega arith)
@@ -361,10 +369,12 @@ module _ (version agents : ℕ) (p : List (List ℕ)) (rows : ℕ) (l : List Ent
     unfolding placeAt
     encode-place x b = rw encode-hosts (⊎-elim on off (which (withHosts version)))
       where
-        on : withHosts version ≡ true → cond (withHosts version) (fourAt (encode version agents p rows l d) x) (threeAt (encode version agents p rows l d) x) ≡ getD p x []
+        on : withHosts version ≡ true
+            → cond (withHosts version) (fourAt (encode version agents p rows l d) x) (threeAt (encode version agents p rows l d) x) ≡ getD p x []
         on e = rw e (four-back e x b)
 
-        off : withHosts version ≡ false → cond (withHosts version) (fourAt (encode version agents p rows l d) x) (threeAt (encode version agents p rows l d) x) ≡ getD p x []
+        off : withHosts version ≡ false
+            → cond (withHosts version) (fourAt (encode version agents p rows l d) x) (threeAt (encode version agents p rows l d) x) ≡ getD p x []
         off e = rw e (three-back e x b)
 
     encode-slot : (x : ℕ) → x < agents → getD (placesOf (encode version agents p rows l d)) x [] ≡ getD p x []

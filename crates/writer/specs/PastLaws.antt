@@ -16,7 +16,8 @@ use Rattle.model.specs.Scope.{agentKind}
 use Rattle.model.specs.Table.{PLACE-BYTES, HOSTS-PLACE-BYTES, DEPENDENCY-BYTES, ROW-BYTES}
 use Rattle.writer.specs.declared.Entry.{Entry}
 use Rattle.writer.specs.declared.Dependencies.{Dependencies}
-use Rattle.writer.specs.Encode.{half, withHosts, placesSize, dependenciesSize, numberOf, placeNumber, placeByte, entryAt, entryByte, dependencyNumber, dependencyByte, placesPart, rowsPart, dependenciesPart, encode}
+use Rattle.writer.specs.Encode.{half, withHosts, placesSize, dependenciesSize, numberOf, placeNumber, placeByte, entryAt, entryByte}
+use Rattle.writer.specs.Encode.{dependencyNumber, dependencyByte, placesPart, rowsPart, dependenciesPart, encode}
 use Rattle.writer.specs.Answer.{numberOver, numbersFit, valuesFault, writeAnswer}
 use Rattle.writer.specs.ValueLaws.{places-hosts, places-plain, after-hosts, after-plain}
 

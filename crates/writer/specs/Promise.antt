@@ -16,7 +16,8 @@ use borrow.Author.Tests.{eq-eqb, lt-ltb, le-ltb}
 use Rattle.finite.specs.Logic.{_and_, _or_, which, not-both}
 use Rattle.model.specs.declared.Admission.the-variants.{Admitted, Refused}
 use Rattle.model.specs.Limits.{ROWS}
-use Rattle.model.specs.Table.{ROW-BYTES, versionAt, agentsAt, rowsAt, placeAt, placesOf, rowBytes, rowOf, sourcesOf, dependencyBytes, dependencyCount, dependencyFrom, dependencyTo}
+use Rattle.model.specs.Table.{ROW-BYTES, versionAt, agentsAt, rowsAt, placeAt, placesOf, rowBytes, rowOf, sourcesOf, dependencyBytes, dependencyCount}
+use Rattle.model.specs.Table.{dependencyFrom, dependencyTo}
 use Rattle.model.specs.Refusal.{dependenciesNamed, headerFault, admission}
 use Rattle.laws.specs.FilledLaws.{Bytes}
 use Rattle.laws.specs.AdmissionLaws.{sound-admitted, admitted-sound}
@@ -27,9 +28,11 @@ use Rattle.writer.specs.Encode.{entryAt, tableSize, rowsPart, encode, en
 use Rattle.writer.specs.Parts.{capped, rowsIn}
 use Rattle.writer.specs.Answer.{versionKnown, countsFit, numbersFit, dependenciesFit, valuesFault, writeAnswer, bufferAfter}
 use Rattle.writer.specs.ValueLaws.{Fits, values-fit, fit-values, encode-length}
-use Rattle.writer.specs.EncodeLaws.{Typed, encode-version, encode-agents, encode-rows, encode-row, encode-source, encode-count, encode-from, encode-to, encode-place, encode-fault}
+use Rattle.writer.specs.EncodeLaws.{Typed, encode-version, encode-agents, encode-rows, encode-row, encode-source, encode-count, encode-from}
+use Rattle.writer.specs.EncodeLaws.{encode-to, encode-place, encode-fault}
 use Rattle.writer.specs.ReadLaws.{rows-same, length-same, read-fits, written-again}
-use Rattle.writer.specs.AnswerLaws.{ofTable, Admits, admission-number, room-short, room-long, values-in, table-in, admitted-in, written-out, refused-out, fault-apart, fault-version, fault-limits, fault-numbers, fault-dependencies}
+use Rattle.writer.specs.AnswerLaws.{ofTable, Admits, admission-number, room-short, room-long, values-in, table-in, admitted-in, written-out}
+use Rattle.writer.specs.AnswerLaws.{refused-out, fault-apart, fault-version, fault-limits, fault-numbers, fault-dependencies}
 use Rattle.writer.specs.PastLaws.{Alike, encode-alike, answer-alike}
 
 -- ---- what was written
@@ -96,7 +99,8 @@ refused-buffer version agents p rows l d room k i w out = rw w refl
 
 -- from any table that a fill admits, into a buffer that is long enough: the same bytes
 module _ (s : List ℕ) (bytes : Bytes s) (admits : Admits s) where
-  pub read-written : (room : ℕ) → length s ≤ room → writeAnswer (versionAt s) (agentsAt s) (placesOf s) (rowsAt s) (entriesOf s) (dependenciesOf s) room ≡ Answer.Written (length s)
+  pub read-written : (room : ℕ) → length s ≤ room
+      → writeAnswer (versionAt s) (agentsAt s) (placesOf s) (rowsAt s) (entriesOf s) (dependenciesOf s) room ≡ Answer.Written (length s)
   unfolding dependenciesOf
   read-written room h =
       let sound = admitted-sound true s (admits .2) in
@@ -139,7 +143,8 @@ module _ (version agents : ℕ) (p : List (List ℕ)) (rows : ℕ) (l : List Ent
       named (inr e) = inl (rw (h, e) eighteen)
 
   -- of another number than the table's and 13: the values' own
-  values-exactly : (k : ℕ) → ofTable k ≡ false → eqb k 13 ≡ false → eqb k 0 ≡ false → writeAnswer version agents p rows l d room ≡ Answer.Refused k 0 ↔ fault ≡ k
+  values-exactly : (k : ℕ) → ofTable k ≡ false → eqb k 13 ≡ false → eqb k 0 ≡ false
+      → writeAnswer version agents p rows l d room ≡ Answer.Refused k 0 ↔ fault ≡ k
   values-exactly k n o z = (there, back)
     where
       there : writeAnswer version agents p rows l d room ≡ Answer.Refused k 0 → fault ≡ k
@@ -170,7 +175,8 @@ module _ (version agents : ℕ) (p : List (List ℕ)) (rows : ℕ) (l : List Ent
   dependencies-exactly = both (values-exactly 17 refl refl refl) (fault-dependencies version agents p rows l d room)
 
   -- 5 to 10, 14, 15, 18 to 20: what a fill refuses the table for
-  pub table-exactly : (k i : ℕ) → ofTable k ≡ true → writeAnswer version agents p rows l d room ≡ Answer.Refused k i ↔ (fault ≡ 0) × (admission true u ≡ Refused k i)
+  pub table-exactly : (k i : ℕ) → ofTable k ≡ true
+      → writeAnswer version agents p rows l d room ≡ Answer.Refused k i ↔ (fault ≡ 0) × (admission true u ≡ Refused k i)
   table-exactly k i n = (there, λ c. table-in version agents p rows l d room k i (c .0) (c .1))
     where
       there : writeAnswer version agents p rows l d room ≡ Answer.Refused k i → (fault ≡ 0) × (admission true u ≡ Refused k i)

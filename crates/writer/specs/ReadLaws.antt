@@ -15,12 +15,16 @@ use Rattle.finite.specs.Below.{anyBelow, any-not}
 use Rattle.finite.specs.Lists.{tabulate, length-tabulate, getD-tabulate}
 use Rattle.model.specs.Limits.{AGENTS, ROWS, DEPENDENCIES}
 use Rattle.model.specs.Scope.{SHADER, QUEUE, agentKind}
-use Rattle.model.specs.Table.{HEADER, PLACE-BYTES, HOSTS-PLACE-BYTES, DEPENDENCY-BYTES, ROW-BYTES, pairAt, quadAt, countAt, versionAt, zeroAt, agentsAt, rowsAt, hasHosts, threeAt, fourAt, placeAt, slotAt, placesOf, rowsBegin, rowsEnd, sizeOf, rowBytes, dependencyBytes, byteOf, pairOf, rowOf, sourceOf, dependencyCount, dependencyEnd, dependencyFrom, dependencyTo}
+use Rattle.model.specs.Table.{HEADER, PLACE-BYTES, HOSTS-PLACE-BYTES, DEPENDENCY-BYTES, ROW-BYTES, pairAt, quadAt, countAt, versionAt, zeroAt}
+use Rattle.model.specs.Table.{agentsAt, rowsAt, hasHosts, threeAt, fourAt, placeAt, slotAt, placesOf, rowsBegin, rowsEnd, sizeOf, rowBytes}
+use Rattle.model.specs.Table.{dependencyBytes, byteOf, pairOf, rowOf, sourceOf, dependencyCount, dependencyEnd, dependencyFrom, dependencyTo}
 use Rattle.model.specs.Refusal.{versionFits, limitsFit, lengthFits, kindOver, agentsKnown, hostsFault, headerFault}
 use Rattle.laws.specs.FilledLaws.{Bytes}
 use Rattle.laws.specs.AdmissionLaws.{Sound, hosts-right, agents-fit, rows-fit, dependencies-fit, length-is}
 use Rattle.writer.specs.declared.Dependencies.{Dependencies}
-use Rattle.writer.specs.Encode.{half, withHosts, placesSize, dependenciesSize, tableSize, headerList, numberOf, placeNumber, placeByte, rowList, nothing, entryAt, entryByte, dependencyNumber, dependencyByte, placesPart, rowsPart, dependenciesPart, encode, entryOf, entriesIn, entriesOf, dependenciesOf}
+use Rattle.writer.specs.Encode.{half, withHosts, placesSize, dependenciesSize, tableSize, headerList, numberOf, placeNumber, placeByte, rowList}
+use Rattle.writer.specs.Encode.{nothing, entryAt, entryByte, dependencyNumber, dependencyByte, placesPart, rowsPart, dependenciesPart, encode}
+use Rattle.writer.specs.Encode.{entryOf, entriesIn, entriesOf, dependenciesOf}
 use Rattle.writer.specs.Answer.{versionKnown, countsFit, numberOver, numbersFit, dependenciesFit}
 use Rattle.writer.specs.ValueLaws.{Fits, begin-either, end-either, places-hosts, places-plain, after-plain, after-most, header-length}
 use Rattle.writer.specs.EncodeLaws.{count-at}
@@ -223,7 +227,8 @@ module _ {blanks : Bool} {s : List ℕ} (sound : Sound blanks s) where
     unfolding countAt quadAt pairAt
     count-is = let e = is-count in let n = size-same in omega arith
 
-    header-same : (k : ℕ) → k < HEADER → getD (headerList (versionAt s) (agentsAt s) (rowsAt s) (tableSize (versionAt s) (agentsAt s) (rowsAt s) (dependencyCount (dependencyBytes s)))) k 0 ≡ getD s k 0
+    header-same : (k : ℕ) → k < HEADER
+        → getD (headerList (versionAt s) (agentsAt s) (rowsAt s) (tableSize (versionAt s) (agentsAt s) (rowsAt s) (dependencyCount (dependencyBytes s)))) k 0 ≡ getD s k 0
     unfolding headerList versionAt zeroAt agentsAt rowsAt
     header-same zero h = rw count-is (let a = small 0 in let b = small 1 in let c = small 2 in let e = small 3 in omega arith)
     header-same (suc zero) h = rw count-is (let a = small 0 in let b = small 1 in let c = small 2 in let e = small 3 in omega arith)
@@ -317,13 +322,15 @@ module _ {blanks : Bool} {s : List ℕ} (sound : Sound blanks s) where
     unfolding dependencyBytes
     after-small = part-small s small (rowsEnd s)
 
-    from-same : (k : ℕ) → 2 ≤ k → (k - 2) % DEPENDENCY-BYTES < 2 → half (dependencyFrom (dependencyBytes s) ((k - 2) / DEPENDENCY-BYTES)) k ≡ getD (dependencyBytes s) k 0
+    from-same : (k : ℕ) → 2 ≤ k → (k - 2) % DEPENDENCY-BYTES < 2
+        → half (dependencyFrom (dependencyBytes s) ((k - 2) / DEPENDENCY-BYTES)) k ≡ getD (dependencyBytes s) k 0
     unfolding dependencyFrom dependencyEnd
     from-same k a c =
         let e : 2 + (k - 2) / DEPENDENCY-BYTES * DEPENDENCY-BYTES + k % 2 ≡ k = omega arith in
         half-of (dependencyBytes s) after-small (2 + (k - 2) / DEPENDENCY-BYTES * DEPENDENCY-BYTES) k ∙ ap (λ (x : ℕ). getD (dependencyBytes s) x 0) e
 
-    to-same : (k : ℕ) → 2 ≤ k → 2 ≤ (k - 2) % DEPENDENCY-BYTES → half (dependencyTo (dependencyBytes s) ((k - 2) / DEPENDENCY-BYTES)) k ≡ getD (dependencyBytes s) k 0
+    to-same : (k : ℕ) → 2 ≤ k → 2 ≤ (k - 2) % DEPENDENCY-BYTES
+        → half (dependencyTo (dependencyBytes s) ((k - 2) / DEPENDENCY-BYTES)) k ≡ getD (dependencyBytes s) k 0
     unfolding dependencyTo dependencyEnd
     to-same k a c =
         let e : 4 + (k - 2) / DEPENDENCY-BYTES * DEPENDENCY-BYTES + k % 2 ≡ k = omega arith in

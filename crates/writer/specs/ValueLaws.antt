@@ -16,7 +16,8 @@ use Rattle.model.specs.Scope.{SHADER, QUEUE, agentKind}
 use Rattle.model.specs.Table.{HEADER, FIRST, HOSTS, PLACE-BYTES, HOSTS-PLACE-BYTES, DEPENDENCY-BYTES, ROW-BYTES}
 use Rattle.writer.specs.declared.Entry.{Entry}
 use Rattle.writer.specs.declared.Dependencies.{Dependencies}
-use Rattle.writer.specs.Encode.{withHosts, placesSize, dependenciesSize, tableSize, headerList, placeByte, entryByte, dependencyByte, placesPart, rowsPart, dependenciesPart, encode}
+use Rattle.writer.specs.Encode.{withHosts, placesSize, dependenciesSize, tableSize, headerList, placeByte, entryByte, dependencyByte, placesPart}
+use Rattle.writer.specs.Encode.{rowsPart, dependenciesPart, encode}
 use Rattle.writer.specs.Answer.{versionKnown, countsFit, numberOver, numbersFit, dependenciesFit, valuesFault}
 
 -- ---- definitions

@@ -1,4 +1,4 @@
-use Rattle.location.specs.Order.{Prepared, prepared-kept, made-prepared, within-grid, made-located}
+use Rattle.location.specs.Order.{Prepared, prepared-kept, made-prepared, within-grid, made-placed}
 use Rattle.area.specs.State.{ordered-kept}
 use Rattle.area.specs.Regions.{LOCATION, LOCATION-END, PAIR, PAIRS}
 use Rattle.model.specs.Edge.{beforeNth}
@@ -84,7 +84,7 @@ returns c =
     let h = c .before .before .before .before .before .before .before .before .before .before .before .before .make-hosted .ensures in
     let r = c .before .before .before .before .before .before .before .before .make-reach .ensures in
     let e : c .before .loop .x ≡ s .args .n = omega arith in
-    made-located h r
+    made-placed h r
     (made-cube LOCATION LOCATION-END PAIRS PAIR _ _ _ _ _ (omega arith) (omega arith) (omega arith) (omega (arith, h .frame .len, r .frame .len, s .pre .1)) (c .before .before .before .before .clear .ensures)
     (rw e at (c .before .loop .inv .3)))
 

@@ -20,7 +20,9 @@ use Rattle.rules.proofs.pairs.may_share.Reads as may-share-reads
 use Rattle.rows.proofs.bytes.read_row.Reads as read-row-reads
 
 abbrev Inv-loop : tie.InvT-loop
-Inv-loop rows p mode n x y w₀ r q k₀ w k = (k ≤ PAIR) × (length w ≡ length w₀) × Prepared (decode rows p mode n) n w × (w ≡ rowFill (beforeNth (decode rows p mode n) x y) w₀ (LOCATION * 64 + x * PAIRS + y * PAIR) k)
+Inv-loop rows p mode n x y w₀ r q k₀ w k =
+    (k ≤ PAIR) × (length w ≡ length w₀) × Prepared (decode rows p mode n) n w
+    × (w ≡ rowFill (beforeNth (decode rows p mode n) x y) w₀ (LOCATION * 64 + x * PAIRS + y * PAIR) k)
 
 abbrev μ-loop : tie.MeasureT-loop
 μ-loop rows p mode n x y w₀ r q k₀ w k = PAIR - k

@@ -15,7 +15,9 @@ use Rattle.location.proofs.fill_row.Lts as lts
 use Rattle.location.proofs.fill_pair.Reads as fill-pair-reads
 
 abbrev Inv-loop : tie.InvT-loop
-Inv-loop rows p mode n x w₀ y₀ w y = (y ≤ n) × (length w ≡ length w₀) × Prepared (decode rows p mode n) n w × (w ≡ gridFill (beforeNth (decode rows p mode n) x) w₀ (LOCATION * 64 + x * PAIRS) PAIR PAIR y)
+Inv-loop rows p mode n x w₀ y₀ w y =
+    (y ≤ n) × (length w ≡ length w₀) × Prepared (decode rows p mode n) n w
+    × (w ≡ gridFill (beforeNth (decode rows p mode n) x) w₀ (LOCATION * 64 + x * PAIRS) PAIR PAIR y)
 
 abbrev μ-loop : tie.MeasureT-loop
 μ-loop rows p mode n x w₀ y₀ w y = n - y

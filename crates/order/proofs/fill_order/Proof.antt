@@ -20,13 +20,15 @@ use Rattle.area.proofs.moments.put_if.Reads as put-if-reads
 use Rattle.rules.proofs.moments.ordered_at.Reads as ordered-at-reads
 
 abbrev Inv-loop2 : tie.InvT-loop2
-Inv-loop2 rows n w₀ m k₀ m-end k-end w k = (k ≤ 3 * n) × (length w ≡ length w₀) × (w ≡ rowFill (programOrder (decode rows [] OFF n) m) w₀ (HAPPENS * 64 + m * (MOMENTS * 64)) k)
+Inv-loop2 rows n w₀ m k₀ m-end k-end w k =
+    (k ≤ 3 * n) × (length w ≡ length w₀) × (w ≡ rowFill (programOrder (decode rows [] OFF n) m) w₀ (HAPPENS * 64 + m * (MOMENTS * 64)) k)
 
 abbrev μ-loop2 : tie.MeasureT-loop2
 μ-loop2 rows n w₀ m k₀ m-end k-end w k = 3 * n - k
 
 abbrev Inv-loop : tie.InvT-loop
-Inv-loop rows n w₀ m₀ m-end w m = (m ≤ 3 * n) × (length w ≡ length w₀) × (w ≡ gridFill (programOrder (decode rows [] OFF n)) w₀ (HAPPENS * 64) (MOMENTS * 64) (3 * n) m)
+Inv-loop rows n w₀ m₀ m-end w m =
+    (m ≤ 3 * n) × (length w ≡ length w₀) × (w ≡ gridFill (programOrder (decode rows [] OFF n)) w₀ (HAPPENS * 64) (MOMENTS * 64) (3 * n) m)
 
 abbrev μ-loop : tie.MeasureT-loop
 μ-loop rows n w₀ m₀ m-end w m = 3 * n - m

@@ -19,7 +19,9 @@ use Rattle.order.proofs.fill_order.Reads as fill-order-reads
 use Rattle.sequence.proofs.sync.make_synced.Reads as make-synced-reads
 
 abbrev Inv-loop : tie.InvT-loop
-Inv-loop rows p mode n w₀ s₀ w s = (s ≤ CLASS-SETS) × (length w ≡ length w₀) × Synced (decode rows p mode n) n w × Holds HAPPENS MOMENTS (3 * n) (upTo (decode rows p mode n) s) w × Within HAPPENS STEP-END w₀ w
+Inv-loop rows p mode n w₀ s₀ w s =
+    (s ≤ CLASS-SETS) × (length w ≡ length w₀) × Synced (decode rows p mode n) n w × Holds HAPPENS MOMENTS (3 * n) (upTo (decode rows p mode n) s) w
+    × Within HAPPENS STEP-END w₀ w
 
 abbrev μ-loop : tie.MeasureT-loop
 μ-loop rows p mode n w₀ s₀ w s = CLASS-SETS - s

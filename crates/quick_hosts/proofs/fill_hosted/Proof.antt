@@ -18,7 +18,9 @@ use Rattle.bits.proofs.clear.Reads as clear-reads
 use Rattle.quick_hosts.proofs.hosted_row.Reads as hosted-row-reads
 
 abbrev Inv-loop : tie.InvT-loop
-Inv-loop rows p mode n w₀ x₀ w x = (x ≤ n) × (length w ≡ length w₀) × Sources (decode rows p mode n) n w × (w ≡ gridFill (hosted (decode rows p mode n)) w₀ (HOSTED * 64) (GRID * 64) n x)
+Inv-loop rows p mode n w₀ x₀ w x =
+    (x ≤ n) × (length w ≡ length w₀) × Sources (decode rows p mode n) n w
+    × (w ≡ gridFill (hosted (decode rows p mode n)) w₀ (HOSTED * 64) (GRID * 64) n x)
 
 abbrev μ-loop : tie.MeasureT-loop
 μ-loop rows p mode n w₀ x₀ w x = n - x

@@ -22,7 +22,9 @@ use Rattle.rows.proofs.kinds.reads.Reads as reads-reads
 use Rattle.rows.proofs.kinds.writes.Reads as writes-reads
 
 abbrev Inv-loop : tie.InvT-loop
-Inv-loop rows p mode n x w₀ r y₀ w y = (y ≤ n) × (length w ≡ length w₀) × (r ≡ rowOf rows x) × Sources (decode rows p mode n) n w × (w ≡ rowFill (hosted (decode rows p mode n) x) w₀ (HOSTED * 64 + x * (GRID * 64)) y)
+Inv-loop rows p mode n x w₀ r y₀ w y =
+    (y ≤ n) × (length w ≡ length w₀) × (r ≡ rowOf rows x) × Sources (decode rows p mode n) n w
+    × (w ≡ rowFill (hosted (decode rows p mode n) x) w₀ (HOSTED * 64 + x * (GRID * 64)) y)
 
 abbrev μ-loop : tie.MeasureT-loop
 μ-loop rows p mode n x w₀ r y₀ w y = n - y

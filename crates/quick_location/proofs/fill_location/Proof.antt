@@ -1,5 +1,5 @@
-use Rattle.location.specs.Order.{Prepared, prepared-kept, made-prepared, within-grid, made-located}
-use Rattle.area.specs.State.{ordered-kept}
+use Rattle.location.specs.Order.{within-grid}
+use Rattle.quick_location.specs.Prepared.{Prepared, prepared-kept, made-located}
 use Rattle.area.specs.Regions.{LOCATION, LOCATION-END, PAIR, PAIRS}
 use Rattle.model.specs.Edge.{beforeNth}
 use Rattle.model.specs.Table.{decode}
@@ -9,83 +9,92 @@ use lib.ListN.{length}
 use native.Mathlib.Omega.{arith}
 use Prim.Native.Nat.{_-_, _*_, _≤_}
 use mathlib.Core.Path.{_≡_, refl, ap, _∙_}
+use Rattle.quick_location.specs.Publics.{Publics}
 use borrow.Author.Needs.{needs}
 use Rattle.quick_location.proofs.fill_location.Statement.{statement}
 use Rattle.quick_location.proofs.fill_location.Tie as tie
 use Rattle.quick_location.proofs.fill_location.Reads as reads
 use Rattle.quick_location.proofs.fill_location.Lts as lts
 use Rattle.bits.proofs.clear.Reads as clear-reads
+use Rattle.quick_location.proofs.elements.fill_publics.Reads as fill-publics-reads
 use Rattle.quick_location.proofs.fill_row.Reads as fill-row-reads
-use Rattle.quick_hosts.proofs.make_hosted.Reads as make-hosted-reads
-use Rattle.quick_location.proofs.reach.make_reach.Reads as make-reach-reads
+use Rattle.quick_location.proofs.prepare.Reads as prepare-reads
 
 abbrev Inv-loop : tie.InvT-loop
-Inv-loop rows p mode n w₀ x₀ w x = (x ≤ n) × (length w ≡ length w₀) × Prepared (decode rows p mode n) n w × (w ≡ cubeFill (beforeNth (decode rows p mode n)) w₀ (LOCATION * 64) PAIRS PAIR n x)
+Inv-loop rows p mode n w₀ publics x₀ w x =
+    (x ≤ n) × (length w ≡ length w₀) × Prepared (decode rows p mode n) n w
+    × (w ≡ cubeFill (beforeNth (decode rows p mode n)) w₀ (LOCATION * 64) PAIRS PAIR n x) × Publics rows n publics
 
 abbrev μ-loop : tie.MeasureT-loop
-μ-loop rows p mode n w₀ x₀ w x = n - x
+μ-loop rows p mode n w₀ publics x₀ w x = n - x
 
--- src/lib.rt:88:5
-make-hosted-requires : tie.Need-make-hosted-requires Inv-loop μ-loop
-make-hosted-requires c κs = search needs
+-- src/lib.rt:136:5
+prepare-requires : tie.Need-prepare-requires Inv-loop μ-loop
+prepare-requires c κs = search needs
 
--- src/lib.rt:91:5
-make-reach-requires : tie.Need-make-reach-requires Inv-loop μ-loop
-make-reach-requires c κs =
-    let s = c .before .before .before .before .before .before .before in
-    let f = c .before .before .before .make-hosted .ensures .frame in
-    (s .pre .0, omega (arith, f .len, s .pre .1), ordered-kept (omega arith) f (s .pre .2))
-
--- src/lib.rt:89:5
+-- src/lib.rt:137:5
 clear-requires : tie.Need-clear-requires Inv-loop μ-loop
 clear-requires c κs = search needs
 
--- src/lib.rt:90:5
+-- src/lib.rt:139:37
+slice-aggregate-fill-publics : tie.Need-slice-aggregate-fill-publics Inv-loop μ-loop
+slice-aggregate-fill-publics c = search needs
+
+-- src/lib.rt:139:5
+fill-publics-requires : tie.Need-fill-publics-requires Inv-loop μ-loop
+fill-publics-requires c κs = search needs
+
+-- src/lib.rt:140:5
 loop-holds : tie.Need-loop-holds Inv-loop μ-loop
 loop-holds c = (
   search needs,
   refl,
-  prepared-kept (within-cleared LOCATION LOCATION-END (omega arith) (c .before .before .clear .ensures)) (made-prepared (c .before .before .before .before .before .before .before .before .before .before .make-hosted .ensures .holds) (c .before .before .before .before .before .before .make-reach .ensures)),
+  prepared-kept (within-cleared LOCATION LOCATION-END (omega arith) (c .before .before .before .before .before .clear .ensures)) (c .before .before .before .before .before .before .before .before .before .prepare .ensures .prepared),
   cubeFill-none _ _ _ _ _ _,
+  c .before .fill-publics .ensures,
 )
 
--- src/lib.rt:91:9
+-- src/lib.rt:141:39
+slice-aggregate-fill-row : tie.Need-slice-aggregate-fill-row Inv-loop μ-loop
+slice-aggregate-fill-row c = search needs
+
+-- src/lib.rt:141:9
 fill-row-requires : tie.Need-fill-row-requires Inv-loop μ-loop
 fill-row-requires c κs = search needs
 
--- src/lib.rt:90:9
+-- src/lib.rt:140:9
 add-x : tie.Need-add-x Inv-loop μ-loop
 add-x c = search needs
 
--- src/lib.rt:90:5
+-- src/lib.rt:140:5
 loop-less : tie.Need-loop-less Inv-loop μ-loop
 loop-less c = search needs
 
--- src/lib.rt:90:5
+-- src/lib.rt:140:5
 loop-again : tie.Need-loop-again Inv-loop μ-loop
 loop-again c =
     let row = c .before .before .fill-row in
-    let inv = c .before .before .before .before .before .loop .inv in
+    let inv = c .before .before .before .before .before .before .loop .inv in
     let e = cubeFill-more _ _ _ _ _ _ _ _ _ (inv .3) (row .ensures) in (
       search needs,
       ap length e ∙ length-cubeFill _ _ _ _ _ _ _,
       prepared-kept (within-grid LOCATION LOCATION-END _ _ _ _ (omega arith) (omega arith) (row .ensures)) (inv .2),
       e,
+      inv .4,
     )
 
--- src/lib.rt:84:1
+-- src/lib.rt:132:1
 same-length : tie.Need-same-length Inv-loop μ-loop
 same-length c = search needs
 
--- src/lib.rt:84:1
+-- src/lib.rt:132:1
 returns : tie.Need-returns Inv-loop μ-loop
 returns c =
-    let s = c .before .before .before .before .before .before .before .before .before .before .before .before .before .before .before .before in
-    let h = c .before .before .before .before .before .before .before .before .before .before .before .before .make-hosted .ensures in
-    let r = c .before .before .before .before .before .before .before .before .make-reach .ensures in
+    let s = c .before .before .before .before .before .before .before .before .before .before .before .before .before .before .before in
+    let h = c .before .before .before .before .before .before .before .before .before .before .before .prepare .ensures in
     let e : c .before .loop .x ≡ s .args .n = omega arith in
-    made-located h r
-    (made-cube LOCATION LOCATION-END PAIRS PAIR _ _ _ _ _ (omega arith) (omega arith) (omega arith) (omega (arith, h .frame .len, r .frame .len, s .pre .1)) (c .before .before .before .before .clear .ensures)
+    made-located h
+    (made-cube LOCATION LOCATION-END PAIRS PAIR _ _ _ _ _ (omega arith) (omega arith) (omega arith) (omega (arith, h .frame .len, s .pre .1)) (c .before .before .before .before .before .before .before .clear .ensures)
     (rw e at (c .before .loop .inv .3)))
 
 pub fill-location-spec : {M : Type 1} → statement M
@@ -94,10 +103,12 @@ fill-location-spec =
     (tie.spec
     Inv-loop
     μ-loop
-    make-hosted-requires
-    make-reach-requires
+    prepare-requires
     clear-requires
+    slice-aggregate-fill-publics
+    fill-publics-requires
     loop-holds
+    slice-aggregate-fill-row
     fill-row-requires
     add-x
     loop-less

@@ -10,7 +10,7 @@ use Rattle.moment_sets.proofs.classes.fill_concern.Reads as fill-concern-reads
 use Rattle.moment_sets.proofs.classes.fill_release.Reads as fill-release-reads
 use Rattle.quick_order.proofs.hops.fill_hops.Reads as fill-hops-reads
 use Rattle.quick_order.proofs.sources.add_sources.Reads as add-sources-reads
-use Rattle.sets.proofs.close_own.Reads as close-own-reads
+use Rattle.sets.proofs.own.close_own.Reads as close-own-reads
 
 -- src/lib.rt:66:5
 fill-release-requires : tie.Need-fill-release-requires
@@ -51,7 +51,7 @@ returns c =
     let hops = at-hops .fill-hops .ensures in
     let closed = at-close .close-own .ensures in
     let added = at-sources .add-sources .ensures in
-    (closed-frame _ _ _ _ _ _ _ _ (pre .0) release concern (hops .0) closed (added .0), λ t h. grown-made _ t _ _ _ _ _ _ (pre .0) (pre .1) h low release concern _ _ _ (hops .1 t _ (setup-made _ t _ _ _ _ _ _ (pre .0) (pre .1) h low release concern)) closed (added .1) (added .0))
+    (closed-frame _ _ _ _ _ _ _ _ (pre .0) release concern (hops .0) closed (added .0), λ t h. grown-made _ t _ _ _ _ _ _ (pre .0) (pre .1) h low release concern _ _ _ (hops .2 t _ (setup-made _ t _ _ _ _ _ _ (pre .0) (pre .1) h low release concern)) closed (added .1) (added .0))
 
 pub close-set-spec : {M : Type 1} → statement M
 close-set-spec =

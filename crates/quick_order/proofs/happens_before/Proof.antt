@@ -19,7 +19,9 @@ use Rattle.quick_order.proofs.add_set.Reads as add-set-reads
 use Rattle.quick_order.proofs.start.Reads as start-reads
 
 abbrev Inv-loop : tie.InvT-loop
-Inv-loop rows n w₀ dep s₀ w s = (s ≤ CLASS-SETS) × Within HAPPENS CONCERN-END w₀ w × ((p : List (List ℕ)) (mode : Mode) → dep ≡ ltb 0 (mode .dependencies) → Reached (decode rows p mode n) n CLASS-SETS w₀ → Reached (decode rows p mode n) n (CLASS-SETS - s) w)
+Inv-loop rows n w₀ dep s₀ w s =
+    (s ≤ CLASS-SETS) × Within HAPPENS CONCERN-END w₀ w
+    × ((p : List (List ℕ)) (mode : Mode) → dep ≡ ltb 0 (mode .dependencies) → Reached (decode rows p mode n) n CLASS-SETS w₀ → Reached (decode rows p mode n) n (CLASS-SETS - s) w)
 
 abbrev μ-loop : tie.MeasureT-loop
 μ-loop rows n w₀ dep s₀ w s = CLASS-SETS - s

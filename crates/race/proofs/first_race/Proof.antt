@@ -1,5 +1,6 @@
 use Rattle.model.specs.Limits.{BYTES}
-use Rattle.race.specs.First.{search-ran, search-hit, NoneBelow, none-starts, none-more, pair-off, pair-apart, pair-none, pair-on, race-byte, race-ends, row-starts, row-off, race-found, race-none}
+use Rattle.race.specs.First.{search-ran, search-hit, NoneBelow, none-starts, none-more, pair-off, row-pass, pair-none, pair-on, race-byte}
+use Rattle.race.specs.First.{race-ends, row-starts, row-off, race-found, race-none}
 use borrow.Author.Tests.{not-false, not-true}
 use Rattle.race.specs.declared.Found.the-variants.{Nothing}
 use Rattle.model.specs.Race.{racesAbove, hasRace}
@@ -16,21 +17,22 @@ use Rattle.race.proofs.first_race.Reads as reads
 use Rattle.race.proofs.first_race.Lts as lts
 use Rattle.race.proofs.lowest_byte.Reads as lowest-byte-reads
 use Rattle.race.proofs.may_race.Reads as may-race-reads
-use Rattle.rules.proofs.pairs.may_touch.Reads as may-touch-reads
 use Rattle.race.proofs.unordered_at.Reads as unordered-at-reads
 use Rattle.rows.proofs.bytes.read_row.Reads as read-row-reads
+use Rattle.sets.proofs.walk.next.Reads as next-reads
 
 abbrev Inv-loop2 : tie.InvT-loop2
-Inv-loop2 rows p mode n w answer x r start end y q b₀ b = NoneBelow (decode rows p mode n) x y b
+Inv-loop2 rows p mode n w answer x r start end at next y q b₀ b = NoneBelow (decode rows p mode n) x y b
 
 abbrev μ-loop2 : tie.MeasureT-loop2
-μ-loop2 rows p mode n w answer x r start end y q b₀ b = end - b
+μ-loop2 rows p mode n w answer x r start end at next y q b₀ b = end - b
 
 abbrev Inv-loop : tie.InvT-loop
-Inv-loop rows p mode n w answer₀ x r start end y₀ answer y = (x < y) × (y ≤ n) × (answer ≡ Nothing) × (least y (racesAbove (decode rows p mode n) x) ≡ y) × (end ≤ 2 * BYTES)
+Inv-loop rows p mode n w answer₀ x r start end at next₀ answer next =
+    (x < next) × (next ≤ n) × (answer ≡ Nothing) × (least next (racesAbove (decode rows p mode n) x) ≡ next) × (end ≤ 2 * BYTES)
 
 abbrev μ-loop : tie.MeasureT-loop
-μ-loop rows p mode n w answer₀ x r start end y₀ answer y = n - y
+μ-loop rows p mode n w answer₀ x r start end at next₀ answer next = n - next
 
 abbrev Inv-pairs : tie.InvT-pairs
 Inv-pairs rows p mode n w answer₀ x₀ answer x = (x ≤ n) × (answer ≡ Nothing) × (least x (hasRace (decode rows p mode n)) ≡ x)
@@ -38,179 +40,173 @@ Inv-pairs rows p mode n w answer₀ x₀ answer x = (x ≤ n) × (answer ≡ Not
 abbrev μ-pairs : tie.MeasureT-pairs
 μ-pairs rows p mode n w answer₀ x₀ answer x = n - x
 
--- src/lib.rt:143:5
+-- src/lib.rt:129:5
 pairs-holds : tie.Need-pairs-holds Inv-loop2 μ-loop2 Inv-loop μ-loop Inv-pairs μ-pairs
 pairs-holds c = (search needs, refl, least-none _)
 
--- src/lib.rt:144:45
+-- src/lib.rt:130:45
 cast-read-row : tie.Need-cast-read-row Inv-loop2 μ-loop2 Inv-loop μ-loop Inv-pairs μ-pairs
 cast-read-row c = search needs
 
--- src/lib.rt:144:13
+-- src/lib.rt:130:13
 read-row-requires : tie.Need-read-row-requires Inv-loop2 μ-loop2 Inv-loop μ-loop Inv-pairs μ-pairs
 read-row-requires c κs = search needs
 
--- src/lib.rt:145:21
+-- src/lib.rt:131:21
 cast-start : tie.Need-cast-start Inv-loop2 μ-loop2 Inv-loop μ-loop Inv-pairs μ-pairs
 cast-start c = search needs
 
--- src/lib.rt:146:28
+-- src/lib.rt:132:28
 cast-end : tie.Need-cast-end Inv-loop2 μ-loop2 Inv-loop μ-loop Inv-pairs μ-pairs
 cast-end c = search needs
 
--- src/lib.rt:146:19
+-- src/lib.rt:132:19
 add-end : tie.Need-add-end Inv-loop2 μ-loop2 Inv-loop μ-loop Inv-pairs μ-pairs
 add-end c = search needs
 
--- src/lib.rt:147:18
-add-y : tie.Need-add-y Inv-loop2 μ-loop2 Inv-loop μ-loop Inv-pairs μ-pairs
-add-y c = search needs
+-- src/lib.rt:133:34
+mul-at : tie.Need-mul-at Inv-loop2 μ-loop2 Inv-loop μ-loop Inv-pairs μ-pairs
+mul-at c = search needs
 
--- src/lib.rt:147:9
+-- src/lib.rt:133:18
+add-at : tie.Need-add-at Inv-loop2 μ-loop2 Inv-loop μ-loop Inv-pairs μ-pairs
+add-at c = search needs
+
+-- src/lib.rt:134:46
+add-next : tie.Need-add-next Inv-loop2 μ-loop2 Inv-loop μ-loop Inv-pairs μ-pairs
+add-next c = search needs
+
+-- src/lib.rt:134:13
+next-requires : tie.Need-next-requires Inv-loop2 μ-loop2 Inv-loop μ-loop Inv-pairs μ-pairs
+next-requires c κs = search needs
+
+-- src/lib.rt:135:9
 loop-holds : tie.Need-loop-holds Inv-loop2 μ-loop2 Inv-loop μ-loop Inv-pairs μ-pairs
-loop-holds c = (search needs, search needs, c .before .before .before .before .pairs .inv .1, row-starts _ _, search needs)
+loop-holds c =
+    let next = c .next .ensures in
+    (omega (arith, next .low), next .high, c .before .before .before .before .before .pairs .inv .1, row-pass _ _ _ _ _ _ (c .before .before .before .before .before .before .before .before .pre .1 .3 .overlapping) (c .before .before .before .before .pairs-test .taken) next (row-starts _ _), search needs)
 
--- src/lib.rt:148:33
-cast-may-touch : tie.Need-cast-may-touch Inv-loop2 μ-loop2 Inv-loop μ-loop Inv-pairs μ-pairs
-cast-may-touch c = search needs
+-- src/lib.rt:137:42
+add-next-2 : tie.Need-add-next-2 Inv-loop2 μ-loop2 Inv-loop μ-loop Inv-pairs μ-pairs
+add-next-2 c = search needs
 
--- src/lib.rt:148:17
-may-touch-requires :
-    tie.Need-may-touch-requires Inv-loop2 μ-loop2 Inv-loop μ-loop Inv-pairs μ-pairs
-may-touch-requires c κs = search needs
+-- src/lib.rt:137:13
+next-requires-2 : tie.Need-next-requires-2 Inv-loop2 μ-loop2 Inv-loop μ-loop Inv-pairs μ-pairs
+next-requires-2 c κs = search needs
 
--- src/lib.rt:149:17
-add-y-2 : tie.Need-add-y-2 Inv-loop2 μ-loop2 Inv-loop μ-loop Inv-pairs μ-pairs
-add-y-2 c = let l = c .before .before .loop-test .taken in let m = c .before .before .before .before .before .before .before .before .before .before .before .pre .1 .0 in search needs
-
--- src/lib.rt:147:9
-loop-less : tie.Need-loop-less Inv-loop2 μ-loop2 Inv-loop μ-loop Inv-pairs μ-pairs
-loop-less c = search needs
-
--- src/lib.rt:147:9
-loop-again : tie.Need-loop-again Inv-loop2 μ-loop2 Inv-loop μ-loop Inv-pairs μ-pairs
-unfolding decode
-loop-again c =
-    let inv = c .before .before .before .loop .inv in
-    (search needs, search needs, inv .2, least-more _ _ (inv .3) (pair-apart _ _ _ _ _ _ _ (c .before .before .before .before .before .before .read-row .ensures) refl refl (c .before .may-touch .ensures) (c .if1 .taken)), inv .4)
-
--- src/lib.rt:151:49
+-- src/lib.rt:138:49
 cast-read-row-2 : tie.Need-cast-read-row-2 Inv-loop2 μ-loop2 Inv-loop μ-loop Inv-pairs μ-pairs
 cast-read-row-2 c = search needs
 
--- src/lib.rt:151:17
+-- src/lib.rt:138:17
 read-row-requires-2 :
     tie.Need-read-row-requires-2 Inv-loop2 μ-loop2 Inv-loop μ-loop Inv-pairs μ-pairs
 read-row-requires-2 c κs = search needs
 
--- src/lib.rt:152:17
+-- src/lib.rt:139:17
 may-race-requires : tie.Need-may-race-requires Inv-loop2 μ-loop2 Inv-loop μ-loop Inv-pairs μ-pairs
-may-race-requires c κs = (c .before .before .before .before .before .before .before .before .pairs-test .taken, c .before .before .before .loop-test .taken, c .before .before .before .before .before .before .before .read-row .ensures, c .read-row2 .ensures, c .before .before .before .before .before .before .before .before .before .before .before .before .pre .1)
+may-race-requires c κs = (c .before .before .before .before .before .before .before .before .pairs-test .taken, c .before .before .loop-test .taken, c .before .before .before .before .before .before .before .read-row .ensures, c .read-row2 .ensures, c .before .before .before .before .before .before .before .before .before .before .before .before .pre .1)
 
--- src/lib.rt:153:17
-add-y-3 : tie.Need-add-y-3 Inv-loop2 μ-loop2 Inv-loop μ-loop Inv-pairs μ-pairs
-add-y-3 c = let l = c .before .before .before .before .before .loop-test .taken in let m = c .before .before .before .before .before .before .before .before .before .before .before .before .before .before .pre .1 .0 in search needs
+-- src/lib.rt:135:9
+loop-less : tie.Need-loop-less Inv-loop2 μ-loop2 Inv-loop μ-loop Inv-pairs μ-pairs
+loop-less c = search needs
 
--- src/lib.rt:147:9
-loop-less-2 : tie.Need-loop-less-2 Inv-loop2 μ-loop2 Inv-loop μ-loop Inv-pairs μ-pairs
-loop-less-2 c = search needs
-
--- src/lib.rt:147:9
-loop-again-2 : tie.Need-loop-again-2 Inv-loop2 μ-loop2 Inv-loop μ-loop Inv-pairs μ-pairs
+-- src/lib.rt:135:9
+loop-again : tie.Need-loop-again Inv-loop2 μ-loop2 Inv-loop μ-loop Inv-pairs μ-pairs
 unfolding decode
-loop-again-2 c =
-    let inv = c .before .before .before .before .before .before .loop .inv in
-    (search needs, search needs, inv .2, least-more _ _ (inv .3) (pair-off _ _ _ (sym (c .before .may-race .ensures) ∙ not-true _ (c .if2 .taken))), inv .4)
+loop-again c =
+    let inv = c .before .before .before .before .before .loop .inv in
+    let next = c .before .before .before .next2 .ensures in
+    let e = least-more _ _ (inv .3) (pair-off _ _ _ (sym (c .before .may-race .ensures) ∙ not-true _ (c .if1 .taken))) in
+    (omega (arith, inv .0, next .low), next .high, inv .2, row-pass _ _ _ _ _ _ (c .before .before .before .before .before .before .before .before .before .before .before .before .before .before .pre .1 .3 .overlapping) (c .before .before .before .before .before .before .before .before .before .before .pairs-test .taken) next e, inv .4)
 
--- src/lib.rt:155:17
+-- src/lib.rt:142:17
 lowest-byte-requires :
     tie.Need-lowest-byte-requires Inv-loop2 μ-loop2 Inv-loop μ-loop Inv-pairs μ-pairs
 lowest-byte-requires c κs = search needs
 
--- src/lib.rt:156:17
+-- src/lib.rt:143:17
 loop2-holds : tie.Need-loop2-holds Inv-loop2 μ-loop2 Inv-loop μ-loop Inv-pairs μ-pairs
 unfolding decode
 loop2-holds c = none-starts _ _ _ _ _ _ (c .before .before .before .before .before .before .before .before .before .before .read-row .ensures) (c .before .before .before .read-row2 .ensures) (c .lowest-byte .ensures)
 
--- src/lib.rt:160:20
+-- src/lib.rt:147:20
 unordered-at-requires :
     tie.Need-unordered-at-requires Inv-loop2 μ-loop2 Inv-loop μ-loop Inv-pairs μ-pairs
-unordered-at-requires c κs = (c .before .before .before .before .before .before .before .before .before .before .before .before .before .pairs-test .taken, c .before .before .before .before .before .before .before .before .loop-test .taken, c .before .before .before .before .before .before .before .before .before .before .before .before .read-row .ensures, c .before .before .before .before .before .read-row2 .ensures, c .before .before .before .before .before .before .before .before .before .before .before .before .before .before .before .before .before .pre .1)
+unordered-at-requires c κs = (c .before .before .before .before .before .before .before .before .before .before .before .before .before .pairs-test .taken, c .before .before .before .before .before .before .before .loop-test .taken, c .before .before .before .before .before .before .before .before .before .before .before .before .read-row .ensures, c .before .before .before .before .before .read-row2 .ensures, c .before .before .before .before .before .before .before .before .before .before .before .before .before .before .before .before .before .pre .1)
 
--- src/lib.rt:163:17
+-- src/lib.rt:150:17
 add-b : tie.Need-add-b Inv-loop2 μ-loop2 Inv-loop μ-loop Inv-pairs μ-pairs
-add-b c = let l = c .before .before .if3 .left in let m = c .before .before .before .before .before .before .before .before .before .before .before .loop .inv .4 in search needs
+add-b c = let l = c .before .before .if2 .left in let m = c .before .before .before .before .before .before .before .before .before .before .loop .inv .4 in search needs
 
--- src/lib.rt:156:17
+-- src/lib.rt:143:17
 loop2-less : tie.Need-loop2-less Inv-loop2 μ-loop2 Inv-loop μ-loop Inv-pairs μ-pairs
 loop2-less c = search needs
 
--- src/lib.rt:156:17
+-- src/lib.rt:143:17
 loop2-again : tie.Need-loop2-again Inv-loop2 μ-loop2 Inv-loop μ-loop Inv-pairs μ-pairs
-loop2-again c = none-more _ _ _ _ (c .before .before .before .loop2 .inv) (sym (c .before .unordered-at .ensures) ∙ c .if4 .left)
+loop2-again c = none-more _ _ _ _ (c .before .before .before .loop2 .inv) (sym (c .before .unordered-at .ensures) ∙ c .if3 .left)
 
--- src/lib.rt:167:28
-cast-t24 : tie.Need-cast-t24 Inv-loop2 μ-loop2 Inv-loop μ-loop Inv-pairs μ-pairs
-cast-t24 c = let l = c .before .before .before .before .before .before .before .before .before .before .before .before .before .before .pairs-test .taken in let k = c .before .before .before .before .before .before .before .before .before .loop-test .taken in let m = c .before .before .before .before .before .before .before .before .before .before .before .before .before .before .before .before .before .before .pre .1 .0 in search needs
+-- src/lib.rt:154:28
+cast-t28 : tie.Need-cast-t28 Inv-loop2 μ-loop2 Inv-loop μ-loop Inv-pairs μ-pairs
+cast-t28 c = let l = c .before .before .before .before .before .before .before .before .before .before .before .before .before .before .pairs-test .taken in let k = c .before .before .before .before .before .before .before .before .loop-test .taken in let m = c .before .before .before .before .before .before .before .before .before .before .before .before .before .before .before .before .before .before .pre .1 .0 in search needs
 
--- src/lib.rt:168:29
-cast-t25 : tie.Need-cast-t25 Inv-loop2 μ-loop2 Inv-loop μ-loop Inv-pairs μ-pairs
-cast-t25 c = let l = c .before .before .before .before .before .before .before .before .before .before .before .before .before .before .pairs-test .taken in let k = c .before .before .before .before .before .before .before .before .before .loop-test .taken in let m = c .before .before .before .before .before .before .before .before .before .before .before .before .before .before .before .before .before .before .pre .1 .0 in search needs
+-- src/lib.rt:155:29
+cast-t29 : tie.Need-cast-t29 Inv-loop2 μ-loop2 Inv-loop μ-loop Inv-pairs μ-pairs
+cast-t29 c = let l = c .before .before .before .before .before .before .before .before .before .before .before .before .before .before .pairs-test .taken in let k = c .before .before .before .before .before .before .before .before .loop-test .taken in let m = c .before .before .before .before .before .before .before .before .before .before .before .before .before .before .before .before .before .before .pre .1 .0 in search needs
 
--- src/lib.rt:169:27
-cast-t26 : tie.Need-cast-t26 Inv-loop2 μ-loop2 Inv-loop μ-loop Inv-pairs μ-pairs
+-- src/lib.rt:156:27
+cast-t30 : tie.Need-cast-t30 Inv-loop2 μ-loop2 Inv-loop μ-loop Inv-pairs μ-pairs
 unfolding decode
-cast-t26 c =
-    let may = sym (c .before .before .before .before .before .before .may-race .ensures) ∙ not-false _ (c .before .before .before .before .before .if2 .left) in
+cast-t30 c =
+    let may = sym (c .before .before .before .before .before .before .may-race .ensures) ∙ not-false _ (c .before .before .before .before .before .if1 .left) in
     let f = race-ends _ _ _ (c .before .before .before .before .before .before .before .before .before .before .before .before .before .before .before .before .before .before .before .pre .0) _ (c .before .before .before .before .before .before .before .before .before .before .before .before .before .before .read-row .ensures) (c .before .before .before .before .before .before .before .before .before .before .before .before .before .before .before .pairs-test .taken) may in
-    let l = c .before .if5 .taken in
+    let l = c .before .if4 .taken in
     search needs
 
--- src/lib.rt:147:13
-add-y-4 : tie.Need-add-y-4 Inv-loop2 μ-loop2 Inv-loop μ-loop Inv-pairs μ-pairs
-add-y-4 c = let l = c .before .before .before .before .before .before .before .before .before .loop-test .taken in let m = c .before .before .before .before .before .before .before .before .before .before .before .before .before .before .before .before .before .before .pre .1 .0 in search needs
+-- src/lib.rt:135:9
+loop-less-2 : tie.Need-loop-less-2 Inv-loop2 μ-loop2 Inv-loop μ-loop Inv-pairs μ-pairs
+loop-less-2 c = search needs
 
--- src/lib.rt:147:9
-loop-less-3 : tie.Need-loop-less-3 Inv-loop2 μ-loop2 Inv-loop μ-loop Inv-pairs μ-pairs
-loop-less-3 c = search needs
-
--- src/lib.rt:147:9
-loop-again-3 : tie.Need-loop-again-3 Inv-loop2 μ-loop2 Inv-loop μ-loop Inv-pairs μ-pairs
+-- src/lib.rt:135:9
+loop-again-2 : tie.Need-loop-again-2 Inv-loop2 μ-loop2 Inv-loop μ-loop Inv-pairs μ-pairs
 unfolding decode
-loop-again-3 c =
+loop-again-2 c =
     let at = c .before in
     let found =
     ⊎-elim (λ v. search-ran _ _ _ _ _ _ (at .before .loop2 .inv) (v .0 .taken) (v .1))
     (λ v. search-hit _ _ _ _ _ _ (at .before .loop2 .inv) (sym (v .1 .ensures) ∙ v .2 .taken) (v .3))
-    (at .if3 .came)
+    (at .if2 .came)
     in
-    let inv = c .before .before .before .before .before .before .before .before .before .before .loop .inv in
-    let none = pair-none _ _ _ (c .before .before .before .before .before .before .before .before .before .before .before .before .before .before .before .before .before .before .pre .1 .2) (c .before .before .before .before .before .before .before .before .before .before .before .before .before .before .pairs-test .taken) _ _ (c .before .before .before .before .before .before .before .before .before .before .before .before .before .read-row .ensures) (found .0) (c .if5 .left) in
-    (search needs, search needs, inv .2, least-more _ _ (inv .3) none, inv .4)
+    let inv = c .before .before .before .before .before .before .before .before .before .loop .inv in
+    let none = pair-none _ _ _ (c .before .before .before .before .before .before .before .before .before .before .before .before .before .before .before .before .before .before .pre .1 .2) (c .before .before .before .before .before .before .before .before .before .before .before .before .before .before .pairs-test .taken) _ _ (c .before .before .before .before .before .before .before .before .before .before .before .before .before .read-row .ensures) (found .0) (c .if4 .left) in
+    let next = c .before .before .before .before .before .before .before .next2 .ensures in
+    let more = row-pass _ _ _ _ _ _ (c .before .before .before .before .before .before .before .before .before .before .before .before .before .before .before .before .before .before .pre .1 .3 .overlapping) (c .before .before .before .before .before .before .before .before .before .before .before .before .before .before .pairs-test .taken) next (least-more _ _ (inv .3) none) in
+    (omega (arith, inv .0, next .low), next .high, inv .2, more, inv .4)
 
--- src/lib.rt:143:17
+-- src/lib.rt:129:17
 add-x : tie.Need-add-x Inv-loop2 μ-loop2 Inv-loop μ-loop Inv-pairs μ-pairs
 add-x c = search needs
 
--- src/lib.rt:143:5
+-- src/lib.rt:129:5
 pairs-less : tie.Need-pairs-less Inv-loop2 μ-loop2 Inv-loop μ-loop Inv-pairs μ-pairs
 pairs-less c = search needs
 
--- src/lib.rt:143:5
+-- src/lib.rt:129:5
 pairs-again : tie.Need-pairs-again Inv-loop2 μ-loop2 Inv-loop μ-loop Inv-pairs μ-pairs
 unfolding decode
 pairs-again c =
-    let e : c .before .loop .y ≡ c .before .before .before .before .before .before .before .before .before .args .n = omega arith in
-    (search needs, c .before .loop .inv .2, least-more _ _ (c .before .before .before .before .before .before .pairs .inv .2) (row-off _ _ _ refl (rw e at (c .before .loop .inv .3))))
+    let e : c .before .loop .next ≡ c .before .before .before .before .before .before .before .before .before .before .args .n = omega arith in
+    (search needs, c .before .loop .inv .2, least-more _ _ (c .before .before .before .before .before .before .before .pairs .inv .2) (row-off _ _ _ refl (rw e at (c .before .loop .inv .3))))
 
--- src/lib.rt:138:1
+-- src/lib.rt:124:1
 returns : tie.Need-returns Inv-loop2 μ-loop2 Inv-loop μ-loop Inv-pairs μ-pairs
 unfolding decode
 returns c =
     let e : c .before .pairs .x ≡ c .before .before .before .before .args .n = omega arith in
     c .before .pairs .inv .1 ∙ race-none _ _ refl (rw e at (c .before .pairs .inv .2))
 
--- src/lib.rt:138:1
+-- src/lib.rt:124:1
 returns-2 : tie.Need-returns-2 Inv-loop2 μ-loop2 Inv-loop μ-loop Inv-pairs μ-pairs
 unfolding decode
 returns-2 c =
@@ -218,14 +214,14 @@ returns-2 c =
     let found =
     ⊎-elim (λ v. search-ran _ _ _ _ _ _ (at .before .loop2 .inv) (v .0 .taken) (v .1))
     (λ v. search-hit _ _ _ _ _ _ (at .before .loop2 .inv) (sym (v .1 .ensures) ∙ v .2 .taken) (v .3))
-    (at .if3 .came)
+    (at .if2 .came)
     in
-    let inv = c .before .before .before .before .before .before .before .before .before .before .before .loop .inv in
-    let may = sym (c .before .before .before .before .before .before .may-race .ensures) ∙ not-false _ (c .before .before .before .before .before .if2 .left) in
+    let inv = c .before .before .before .before .before .before .before .before .before .before .loop .inv in
+    let may = sym (c .before .before .before .before .before .before .may-race .ensures) ∙ not-false _ (c .before .before .before .before .before .if1 .left) in
     let sized = c .before .before .before .before .before .before .before .before .before .before .before .before .before .before .before .before .before .before .before .pre .1 .2 in
     let row = c .before .before .before .before .before .before .before .before .before .before .before .before .before .before .before .pairs-test .taken in
-    let hit = found .1 (c .before .if5 .taken) in
-    race-found _ _ _ _ (c .before .before .before .before .before .before .before .before .before .before .before .before .before .before .before .before .pairs .inv .2) row (inv .3) (c .before .before .before .before .before .before .before .before .before .before .loop-test .taken) (pair-on _ _ _ sized row _ (inv .0) may (found .0) hit)
+    let hit = found .1 (c .before .if4 .taken) in
+    race-found _ _ _ _ (c .before .before .before .before .before .before .before .before .before .before .before .before .before .before .before .before .pairs .inv .2) row (inv .3) (c .before .before .before .before .before .before .before .before .before .loop-test .taken) (pair-on _ _ _ sized row _ (inv .0) may (found .0) hit)
     (race-byte _ _ _ sized row _ (found .0) hit)
 
 pub first-race-spec : {M : Type 1} → statement M
@@ -244,31 +240,29 @@ first-race-spec =
     cast-start
     cast-end
     add-end
-    add-y
+    mul-at
+    add-at
+    add-next
+    next-requires
     loop-holds
-    cast-may-touch
-    may-touch-requires
-    add-y-2
-    loop-less
-    loop-again
+    add-next-2
+    next-requires-2
     cast-read-row-2
     read-row-requires-2
     may-race-requires
-    add-y-3
-    loop-less-2
-    loop-again-2
+    loop-less
+    loop-again
     lowest-byte-requires
     loop2-holds
     unordered-at-requires
     add-b
     loop2-less
     loop2-again
-    cast-t24
-    cast-t25
-    cast-t26
-    add-y-4
-    loop-less-3
-    loop-again-3
+    cast-t28
+    cast-t29
+    cast-t30
+    loop-less-2
+    loop-again-2
     add-x
     pairs-less
     pairs-again

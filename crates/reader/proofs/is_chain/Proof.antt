@@ -16,7 +16,8 @@ use Rattle.reader.proofs.is_chain.Lts as lts
 use Rattle.reader.proofs.is_step.Reads as is-step-reads
 
 abbrev Inv-loop : tie.InvT-loop
-Inv-loop rows p mode n s first second steps m₀ i₀ i-end m i = (i ≤ length steps) × (m ≡ stands first steps i) × (m < 3 * n) × (anyBelow i (broken (decode rows p mode n) s first steps) ≡ false)
+Inv-loop rows p mode n s first second steps m₀ i₀ i-end m i =
+    (i ≤ length steps) × (m ≡ stands first steps i) × (m < 3 * n) × (anyBelow i (broken (decode rows p mode n) s first steps) ≡ false)
 
 abbrev μ-loop : tie.MeasureT-loop
 μ-loop rows p mode n s first second steps m₀ i₀ i-end m i = length steps - i

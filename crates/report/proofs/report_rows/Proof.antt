@@ -39,7 +39,7 @@ answer-requires : tie.Need-answer-requires
 answer-requires c κs =
     let pre = c .before .before .before .before .before .before .before .before .before .before .before .before .before .before .before .before .before .pre in
     let at = c .before .before .before .before .before .before .before .before .before .before .before .locate .ensures in
-    known-kept (omega arith) (known (pre .2) (pre .0) (at .1) (at .0)) (c .before .before .before .before .before .judge .ensures .2)
+    known-kept (omega arith) (omega arith) (known (pre .2) (pre .0) (at .1) (at .0)) (c .before .before .before .before .before .judge .ensures .2)
 
 -- src/lib.rt:69:5
 clear-requires : tie.Need-clear-requires

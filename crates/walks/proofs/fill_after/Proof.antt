@@ -16,7 +16,8 @@ use Rattle.bits.proofs.put_if.Reads as put-if-reads
 use Rattle.walks.proofs.next.Reads as next-reads
 
 abbrev Inv-loop : tie.InvT-loop
-Inv-loop w₀ steps layers stride n k at z₀ w z = (z ≤ n) × (length w ≡ length w₀) × (w ≡ rowFill (reaches w₀ steps layers stride n k) w₀ (after layers stride k) z)
+Inv-loop w₀ steps layers stride n k at z₀ w z =
+    (z ≤ n) × (length w ≡ length w₀) × (w ≡ rowFill (reaches w₀ steps layers stride n k) w₀ (after layers stride k) z)
 
 abbrev μ-loop : tie.MeasureT-loop
 μ-loop w₀ steps layers stride n k at z₀ w z = n - z

@@ -18,7 +18,8 @@ use Rattle.axioms.proofs.grid.edge_row.Reads as edge-row-reads
 use Rattle.bits.proofs.clear.Reads as clear-reads
 
 abbrev Inv-loop : tie.InvT-loop
-Inv-loop rows p mode n src w₀ x₀ w x = (x ≤ n) × (length w ≡ length w₀) × Located (decode rows p mode n) n w × Edged n (outBelow x (linked (decode rows p mode n) (sourceIn src))) w₀ w
+Inv-loop rows p mode n src w₀ x₀ w x =
+    (x ≤ n) × (length w ≡ length w₀) × Located (decode rows p mode n) n w × Edged n (outBelow x (linked (decode rows p mode n) (sourceIn src))) w₀ w
 
 abbrev μ-loop : tie.MeasureT-loop
 μ-loop rows p mode n src w₀ x₀ w x = n - x
@@ -29,7 +30,7 @@ clear-requires c κs = search needs
 
 -- src/edges.rt:176:5
 loop-holds : tie.Need-loop-holds Inv-loop μ-loop
-loop-holds c = (search needs, refl, located-kept (omega arith) (within-cleared EDGE EDGE-END (omega arith) ((c .before .before) .clear .ensures)) ((c .before .before .before .before .before .before .before) .pre .1 .3), rows-none _ _)
+loop-holds c = (search needs, refl, located-kept (omega arith) (omega arith) (within-cleared EDGE EDGE-END (omega arith) ((c .before .before) .clear .ensures)) ((c .before .before .before .before .before .before .before) .pre .1 .3), rows-none _ _)
 
 -- src/edges.rt:177:9
 edge-row-requires : tie.Need-edge-row-requires Inv-loop μ-loop
@@ -49,7 +50,7 @@ loop-again c =
     let row = (c .before .before) .edge-row .ensures in
     let inv = (c .before .before .before .before .before) .loop .inv in
     let e = rows-more _ _ _ (inv .3) row in
-    (search needs, e .frame .len, located-kept (omega arith) (row .frame) (inv .2), e)
+    (search needs, e .frame .len, located-kept (omega arith) (omega arith) (row .frame) (inv .2), e)
 
 -- src/edges.rt:179:5
 add-sources-requires : tie.Need-add-sources-requires Inv-loop μ-loop

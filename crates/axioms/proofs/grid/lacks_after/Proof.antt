@@ -1,29 +1,49 @@
 use Rattle.finite.specs.Logic.{_and_}
-use Rattle.axioms.specs.Added.{after, lacks-set, lacks-other}
+use Rattle.model.specs.Table.{decode}
+use Rattle.axioms.specs.Added.{lacks-set, lacks-other, after-on}
 use borrow.Author.Needs.{needs}
 use Rattle.axioms.proofs.grid.lacks_after.Statement.{statement}
 use Rattle.axioms.proofs.grid.lacks_after.Tie as tie
 use Rattle.axioms.proofs.grid.lacks_after.Reads as reads
 use Rattle.axioms.proofs.grid.lacks_after.Lts as lts
-use Rattle.axioms.proofs.grid.follows_of.Reads as follows-of-reads
 use Rattle.area.proofs.grid.get.Reads as get-reads
+use Rattle.rows.proofs.bytes.read_row.Reads as read-row-reads
+use Rattle.rows.proofs.scopes.is_later_writer.Reads as is-later-writer-reads
 
--- src/grid.rt:97:8
+-- src/grid.rt:57:8
 get-requires : tie.Need-get-requires
 get-requires c κs = search needs
 
--- src/grid.rt:98:9
+-- src/grid.rt:58:9
 returns : tie.Need-returns
-returns c = lacks-set _ _ ((c .before) .get .ensures) (c .if1 .taken)
+returns c = lacks-set _ _ (c .before .get .ensures) (c .if1 .taken)
 
--- src/grid.rt:100:17
-follows-of-requires : tie.Need-follows-of-requires
-follows-of-requires c κs = search needs
+-- src/grid.rt:61:77
+cast-read-row : tie.Need-cast-read-row
+cast-read-row c = search needs
 
--- src/grid.rt:83:1
+-- src/grid.rt:61:55
+read-row-requires : tie.Need-read-row-requires
+read-row-requires c κs = search needs
+
+-- src/grid.rt:61:11
+is-later-writer-requires : tie.Need-is-later-writer-requires
+is-later-writer-requires c κs = search needs
+
+-- src/grid.rt:43:1
 returns-2 : tie.Need-returns-2
-unfolding after _and_
-returns-2 c = lacks-other _ _ _ ((c .before .before) .get .ensures) ((c .before) .if1 .left) cc
+unfolding decode _and_
+returns-2 c =
+    let pre = c .before .before .before .before .before .before .pre in
+    lacks-other _ _ _ (c .before .before .before .get .ensures) (c .before .before .if1 .left) (after-on _ _ _ _ _ _ _ (pre .4) (pre .3) (c .before .read-row .ensures) (c .is-later-writer .ensures))
 
 pub lacks-after-spec : {M : Type 1} → statement M
-lacks-after-spec = tie.close (tie.spec get-requires returns follows-of-requires returns-2)
+lacks-after-spec =
+    tie.close
+    (tie.spec
+    get-requires
+    returns
+    cast-read-row
+    read-row-requires
+    is-later-writer-requires
+    returns-2)

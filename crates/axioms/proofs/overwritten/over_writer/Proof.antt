@@ -1,4 +1,4 @@
-use Rattle.axioms.specs.Overwritten.{unread-none, overwriting-is}
+use Rattle.axioms.specs.Overwritten.{unread-none, overwriting-is, writer-pass}
 use Rattle.axioms.specs.Sources.{sourceIn}
 use Rattle.finite.specs.Logic.{_and_}
 use Rattle.model.specs.Edge.{overwriting, overWriter}
@@ -17,12 +17,13 @@ use Rattle.axioms.proofs.source_at.Reads as source-at-reads
 use Rattle.model.proofs.Source.is_row.Reads as is-row-reads
 use Rattle.rows.proofs.bytes.read_row.Reads as read-row-reads
 use Rattle.rows.proofs.kinds.reads.Reads as reads-reads
+use Rattle.sets.proofs.walk.next.Reads as next-reads
 
 abbrev Inv-loop : tie.InvT-loop
-Inv-loop rows p mode n src y w z₀ z = (z ≤ n) × (least z (overwriting (decode rows p mode n) (sourceIn src) y) ≡ z)
+Inv-loop rows p mode n src y w at z₀ z = (z ≤ n) × (least z (overwriting (decode rows p mode n) (sourceIn src) y) ≡ z)
 
 abbrev μ-loop : tie.MeasureT-loop
-μ-loop rows p mode n src y w z₀ z = n - z
+μ-loop rows p mode n src y w at z₀ z = n - z
 
 -- src/overwritten.rt:111:41
 cast-read-row : tie.Need-cast-read-row Inv-loop μ-loop
@@ -53,36 +54,59 @@ returns : tie.Need-returns Inv-loop μ-loop
 unfolding decode _and_
 returns c = unread-none _ _ _ _ _ _ _ _ refl (c .before .before .before .before .read-row .ensures) (c .before .before .before .source-at .ensures) (c .before .before .reads .ensures) (c .before .is-row .ensures) (c .if1 .taken)
 
--- src/overwritten.rt:116:5
-loop-holds : tie.Need-loop-holds Inv-loop μ-loop
-loop-holds c = (search needs, least-none _)
+-- src/overwritten.rt:116:30
+mul-at : tie.Need-mul-at Inv-loop μ-loop
+mul-at c = search needs
 
--- src/overwritten.rt:117:12
+-- src/overwritten.rt:116:14
+add-at : tie.Need-add-at Inv-loop μ-loop
+add-at c = search needs
+
+-- src/overwritten.rt:117:9
+next-requires : tie.Need-next-requires Inv-loop μ-loop
+next-requires c κs = search needs
+
+-- src/overwritten.rt:118:5
+loop-holds : tie.Need-loop-holds Inv-loop μ-loop
+loop-holds c =
+    let pre = c .before .before .before .before .before .before .before .before .before .pre in
+    let next = c .next .ensures in
+    (next .high, writer-pass _ _ _ _ _ _ _ (pre .2 .3 .overlapping) (pre .0) next (least-none _))
+
+-- src/overwritten.rt:119:12
 over-nth-requires : tie.Need-over-nth-requires Inv-loop μ-loop
 over-nth-requires c κs = search needs
 
--- src/overwritten.rt:118:13
+-- src/overwritten.rt:120:13
 returns-2 : tie.Need-returns-2 Inv-loop μ-loop
 unfolding overWriter decode
 returns-2 c = sym (least-found _ _ _ (c .before .before .before .loop .inv .1) (overwriting-is _ _ _ _ _ (c .before .over-nth .ensures) .0 (c .if2 .taken)) (c .before .before .loop-test .taken))
 
--- src/overwritten.rt:116:9
-add-z : tie.Need-add-z Inv-loop μ-loop
-add-z c = search needs
+-- src/overwritten.rt:122:35
+add-next : tie.Need-add-next Inv-loop μ-loop
+add-next c = search needs
 
--- src/overwritten.rt:116:5
+-- src/overwritten.rt:122:9
+next-requires-2 : tie.Need-next-requires-2 Inv-loop μ-loop
+next-requires-2 c κs = search needs
+
+-- src/overwritten.rt:118:5
 loop-less : tie.Need-loop-less Inv-loop μ-loop
 loop-less c = search needs
 
--- src/overwritten.rt:116:5
+-- src/overwritten.rt:118:5
 loop-again : tie.Need-loop-again Inv-loop μ-loop
 unfolding decode
-loop-again c = (search needs, least-more _ _ (c .before .before .before .loop .inv .1) (overwriting-is _ _ _ _ _ (c .before .over-nth .ensures) .1 (c .if2 .left)))
+loop-again c =
+    let pre = c .before .before .before .before .before .before .before .before .before .before .before .before .before .before .pre in
+    let next = c .next2 .ensures in
+    let e = least-more _ _ (c .before .before .before .before .loop .inv .1) (overwriting-is _ _ _ _ _ (c .before .before .over-nth .ensures) .1 (c .before .if2 .left)) in
+    (next .high, writer-pass _ _ _ _ _ _ _ (pre .2 .3 .overlapping) (pre .0) next e)
 
 -- src/overwritten.rt:99:1
 returns-3 : tie.Need-returns-3 Inv-loop μ-loop
 unfolding overWriter decode
-returns-3 c = let e : c .before .loop .z ≡ c .before .before .before .before .before .before .before .before .before .before .args .n = omega arith in sym (rw e at (c .before .loop .inv .1))
+returns-3 c = let e : c .before .loop .z ≡ c .before .before .before .before .before .before .before .before .before .before .before .args .n = omega arith in sym (rw e at (c .before .loop .inv .1))
 
 pub over-writer-spec : {M : Type 1} → statement M
 over-writer-spec =
@@ -97,10 +121,14 @@ over-writer-spec =
     cast-is-row
     is-row-requires
     returns
+    mul-at
+    add-at
+    next-requires
     loop-holds
     over-nth-requires
     returns-2
-    add-z
+    add-next
+    next-requires-2
     loop-less
     loop-again
     returns-3)

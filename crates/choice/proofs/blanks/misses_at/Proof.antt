@@ -1,5 +1,5 @@
 use Rattle.model.specs.Table.{decode}
-use Rattle.model.specs.Fill.{missesAt}
+use Rattle.model.specs.Fill.{unorderedAt}
 use Rattle.finite.specs.Logic.{_and_}
 use borrow.Author.Needs.{needs}
 use Rattle.choice.proofs.blanks.misses_at.Statement.{statement}
@@ -31,7 +31,7 @@ before-byte-requires c κs = search needs
 
 -- src/blanks.rt:20:1
 returns : tie.Need-returns
-unfolding missesAt decode _and_
+unfolding unorderedAt decode _and_
 returns c = cc
 
 pub misses-at-spec : {M : Type 1} → statement M

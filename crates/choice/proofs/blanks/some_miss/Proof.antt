@@ -4,7 +4,7 @@ use native.Mathlib.Omega.{arith}
 use mathlib.Core.Bool.{false}
 use Rattle.finite.specs.Below.{anyBelow, any-none, any-in, any-more}
 use Rattle.model.specs.Table.{decode}
-use Rattle.model.specs.Fill.{missesAt}
+use Rattle.model.specs.Fill.{unorderedAt}
 use Rattle.model.specs.Limits.{LONGEST}
 use borrow.Author.Needs.{needs}
 use Rattle.choice.proofs.blanks.some_miss.Statement.{statement}
@@ -15,7 +15,7 @@ use Rattle.choice.proofs.blanks.misses_at.Reads as misses-at-reads
 use Rattle.rows.proofs.bytes.read_row.Reads as read-row-reads
 
 abbrev Inv-loop : tie.InvT-loop
-Inv-loop rows p mode n y s w r q k₀ k = (k ≤ LONGEST) × (anyBelow k (missesAt (decode rows p mode n) y s) ≡ false)
+Inv-loop rows p mode n y s w r q k₀ k = (k ≤ LONGEST) × (anyBelow k (unorderedAt (decode rows p mode n) y s) ≡ false)
 
 abbrev μ-loop : tie.MeasureT-loop
 μ-loop rows p mode n y s w r q k₀ k = LONGEST - k

@@ -1,5 +1,5 @@
 use Rattle.model.specs.Table.{decode}
-use Rattle.model.specs.Fill.{hidesAt}
+use Rattle.model.specs.Fill.{overwritesBetween}
 use Rattle.finite.specs.Logic.{_and_}
 use borrow.Author.Needs.{needs}
 use Rattle.choice.proofs.writers.hides_at.Statement.{statement}
@@ -30,7 +30,7 @@ before-byte-requires-2 c κs = search needs
 
 -- src/writers.rt:46:1
 returns : tie.Need-returns
-unfolding hidesAt decode _and_
+unfolding overwritesBetween decode _and_
 returns c = cc
 
 pub hides-at-spec : {M : Type 1} → statement M

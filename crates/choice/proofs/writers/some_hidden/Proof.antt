@@ -4,7 +4,7 @@ use native.Mathlib.Omega.{arith}
 use mathlib.Core.Bool.{false}
 use Rattle.finite.specs.Below.{anyBelow, any-none, any-in, any-more}
 use Rattle.model.specs.Table.{decode}
-use Rattle.model.specs.Fill.{hidesAt}
+use Rattle.model.specs.Fill.{overwritesBetween}
 use Rattle.model.specs.Limits.{LONGEST}
 use borrow.Author.Needs.{needs}
 use Rattle.choice.proofs.writers.some_hidden.Statement.{statement}
@@ -15,7 +15,7 @@ use Rattle.choice.proofs.writers.hides_at.Reads as hides-at-reads
 use Rattle.rows.proofs.bytes.read_row.Reads as read-row-reads
 
 abbrev Inv-loop : tie.InvT-loop
-Inv-loop rows p mode n y s z w r q v k₀ k = (k ≤ LONGEST) × (anyBelow k (hidesAt (decode rows p mode n) y s z) ≡ false)
+Inv-loop rows p mode n y s z w r q v k₀ k = (k ≤ LONGEST) × (anyBelow k (overwritesBetween (decode rows p mode n) y s z) ≡ false)
 
 abbrev μ-loop : tie.MeasureT-loop
 μ-loop rows p mode n y s z w r q v k₀ k = LONGEST - k

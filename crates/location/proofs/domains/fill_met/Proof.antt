@@ -19,13 +19,17 @@ use Rattle.area.proofs.grid.put_if.Reads as put-if-reads
 use Rattle.location.proofs.domains.met_at.Reads as met-at-reads
 
 abbrev Inv-loop2 : tie.InvT-loop2
-Inv-loop2 rows p mode n w₀ m y₀ w y = (y ≤ n) × (length w ≡ length w₀) × Ordered (decode rows p mode n) n w × (w ≡ rowFill (metBy (decode rows p mode n) m) w₀ (MET * 64 + m * (GRID * 64)) y)
+Inv-loop2 rows p mode n w₀ m y₀ w y =
+    (y ≤ n) × (length w ≡ length w₀) × Ordered (decode rows p mode n) n w
+    × (w ≡ rowFill (metBy (decode rows p mode n) m) w₀ (MET * 64 + m * (GRID * 64)) y)
 
 abbrev μ-loop2 : tie.MeasureT-loop2
 μ-loop2 rows p mode n w₀ m y₀ w y = n - y
 
 abbrev Inv-loop : tie.InvT-loop
-Inv-loop rows p mode n w₀ m₀ w m = (m ≤ n) × (length w ≡ length w₀) × Ordered (decode rows p mode n) n w × (w ≡ gridFill (metBy (decode rows p mode n)) w₀ (MET * 64) (GRID * 64) n m)
+Inv-loop rows p mode n w₀ m₀ w m =
+    (m ≤ n) × (length w ≡ length w₀) × Ordered (decode rows p mode n) n w
+    × (w ≡ gridFill (metBy (decode rows p mode n)) w₀ (MET * 64) (GRID * 64) n m)
 
 abbrev μ-loop : tie.MeasureT-loop
 μ-loop rows p mode n w₀ m₀ w m = n - m

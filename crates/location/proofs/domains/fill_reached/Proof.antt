@@ -18,13 +18,17 @@ use Rattle.area.proofs.grid.put_if.Reads as put-if-reads
 use Rattle.location.proofs.domains.reached_at.Reads as reached-at-reads
 
 abbrev Inv-loop2 : tie.InvT-loop2
-Inv-loop2 rows p mode n w₀ a y₀ w y = (y ≤ n) × (length w ≡ length w₀) × Meeting (decode rows p mode n) n w × (w ≡ rowFill (reached (decode rows p mode n) a) w₀ (REACHED * 64 + a * (GRID * 64)) y)
+Inv-loop2 rows p mode n w₀ a y₀ w y =
+    (y ≤ n) × (length w ≡ length w₀) × Meeting (decode rows p mode n) n w
+    × (w ≡ rowFill (reached (decode rows p mode n) a) w₀ (REACHED * 64 + a * (GRID * 64)) y)
 
 abbrev μ-loop2 : tie.MeasureT-loop2
 μ-loop2 rows p mode n w₀ a y₀ w y = n - y
 
 abbrev Inv-loop : tie.InvT-loop
-Inv-loop rows p mode n w₀ a₀ w a = (a ≤ n) × (length w ≡ length w₀) × Meeting (decode rows p mode n) n w × (w ≡ gridFill (reached (decode rows p mode n)) w₀ (REACHED * 64) (GRID * 64) n a)
+Inv-loop rows p mode n w₀ a₀ w a =
+    (a ≤ n) × (length w ≡ length w₀) × Meeting (decode rows p mode n) n w
+    × (w ≡ gridFill (reached (decode rows p mode n)) w₀ (REACHED * 64) (GRID * 64) n a)
 
 abbrev μ-loop : tie.MeasureT-loop
 μ-loop rows p mode n w₀ a₀ w a = n - a

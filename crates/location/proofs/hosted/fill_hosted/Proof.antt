@@ -19,13 +19,17 @@ use Rattle.area.proofs.grid.put_if.Reads as put-if-reads
 use Rattle.location.proofs.hosted.hosted_at.Reads as hosted-at-reads
 
 abbrev Inv-loop2 : tie.InvT-loop2
-Inv-loop2 rows p mode n w₀ x y₀ w y = (y ≤ n) × (length w ≡ length w₀) × Sources (decode rows p mode n) n w × (w ≡ rowFill (hosted (decode rows p mode n) x) w₀ (HOSTED * 64 + x * (GRID * 64)) y)
+Inv-loop2 rows p mode n w₀ x y₀ w y =
+    (y ≤ n) × (length w ≡ length w₀) × Sources (decode rows p mode n) n w
+    × (w ≡ rowFill (hosted (decode rows p mode n) x) w₀ (HOSTED * 64 + x * (GRID * 64)) y)
 
 abbrev μ-loop2 : tie.MeasureT-loop2
 μ-loop2 rows p mode n w₀ x y₀ w y = n - y
 
 abbrev Inv-loop : tie.InvT-loop
-Inv-loop rows p mode n w₀ x₀ w x = (x ≤ n) × (length w ≡ length w₀) × Sources (decode rows p mode n) n w × (w ≡ gridFill (hosted (decode rows p mode n)) w₀ (HOSTED * 64) (GRID * 64) n x)
+Inv-loop rows p mode n w₀ x₀ w x =
+    (x ≤ n) × (length w ≡ length w₀) × Sources (decode rows p mode n) n w
+    × (w ≡ gridFill (hosted (decode rows p mode n)) w₀ (HOSTED * 64) (GRID * 64) n x)
 
 abbrev μ-loop : tie.MeasureT-loop
 μ-loop rows p mode n w₀ x₀ w x = n - x

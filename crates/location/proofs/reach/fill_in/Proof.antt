@@ -19,13 +19,17 @@ use Rattle.area.proofs.grid.put_if.Reads as put-if-reads
 use Rattle.location.proofs.reach.narrows_at.Reads as narrows-at-reads
 
 abbrev Inv-loop2 : tie.InvT-loop2
-Inv-loop2 rows p mode n w₀ j v₀ w v = (v ≤ n) × (length w ≡ length w₀) × Ordered (decode rows p mode n) n w × (w ≡ rowFill (narrows (decode rows p mode n) j) w₀ (REACH-IN * 64 + j * (GRID * 64)) v)
+Inv-loop2 rows p mode n w₀ j v₀ w v =
+    (v ≤ n) × (length w ≡ length w₀) × Ordered (decode rows p mode n) n w
+    × (w ≡ rowFill (narrows (decode rows p mode n) j) w₀ (REACH-IN * 64 + j * (GRID * 64)) v)
 
 abbrev μ-loop2 : tie.MeasureT-loop2
 μ-loop2 rows p mode n w₀ j v₀ w v = n - v
 
 abbrev Inv-loop : tie.InvT-loop
-Inv-loop rows p mode n w₀ j₀ w j = (j ≤ n) × (length w ≡ length w₀) × Ordered (decode rows p mode n) n w × (w ≡ gridFill (narrows (decode rows p mode n)) w₀ (REACH-IN * 64) (GRID * 64) n j)
+Inv-loop rows p mode n w₀ j₀ w j =
+    (j ≤ n) × (length w ≡ length w₀) × Ordered (decode rows p mode n) n w
+    × (w ≡ gridFill (narrows (decode rows p mode n)) w₀ (REACH-IN * 64) (GRID * 64) n j)
 
 abbrev μ-loop : tie.MeasureT-loop
 μ-loop rows p mode n w₀ j₀ w j = n - j

@@ -19,13 +19,17 @@ use Rattle.area.proofs.grid.put_if.Reads as put-if-reads
 use Rattle.location.proofs.reach.broadens_at.Reads as broadens-at-reads
 
 abbrev Inv-loop2 : tie.InvT-loop2
-Inv-loop2 rows p mode n w₀ a c₀ w c = (c ≤ n) × (length w ≡ length w₀) × Ordered (decode rows p mode n) n w × (w ≡ rowFill (broadens (decode rows p mode n) a) w₀ (REACH-OUT * 64 + a * (GRID * 64)) c)
+Inv-loop2 rows p mode n w₀ a c₀ w c =
+    (c ≤ n) × (length w ≡ length w₀) × Ordered (decode rows p mode n) n w
+    × (w ≡ rowFill (broadens (decode rows p mode n) a) w₀ (REACH-OUT * 64 + a * (GRID * 64)) c)
 
 abbrev μ-loop2 : tie.MeasureT-loop2
 μ-loop2 rows p mode n w₀ a c₀ w c = n - c
 
 abbrev Inv-loop : tie.InvT-loop
-Inv-loop rows p mode n w₀ a₀ w a = (a ≤ n) × (length w ≡ length w₀) × Ordered (decode rows p mode n) n w × (w ≡ gridFill (broadens (decode rows p mode n)) w₀ (REACH-OUT * 64) (GRID * 64) n a)
+Inv-loop rows p mode n w₀ a₀ w a =
+    (a ≤ n) × (length w ≡ length w₀) × Ordered (decode rows p mode n) n w
+    × (w ≡ gridFill (broadens (decode rows p mode n)) w₀ (REACH-OUT * 64) (GRID * 64) n a)
 
 abbrev μ-loop : tie.MeasureT-loop
 μ-loop rows p mode n w₀ a₀ w a = n - a

@@ -18,7 +18,9 @@ use Rattle.bits.proofs.join_row.Reads as join-row-reads
 use Rattle.moment_sets.proofs.program.pass_row.Reads as pass-row-reads
 
 abbrev Inv-loop : tie.InvT-loop
-Inv-loop rows n w₀ j₀ w j = (j ≤ n) × (length w ≡ length w₀) × Within ORDER AGENTS-END w₀ w × ((p : List (List ℕ)) (mode : Mode) → Passed (decode rows p mode n) n (3 * (n - j)) w)
+Inv-loop rows n w₀ j₀ w j =
+    (j ≤ n) × (length w ≡ length w₀) × Within ORDER AGENTS-END w₀ w
+    × ((p : List (List ℕ)) (mode : Mode) → Passed (decode rows p mode n) n (3 * (n - j)) w)
 
 abbrev μ-loop : tie.MeasureT-loop
 μ-loop rows n w₀ j₀ w j = n - j

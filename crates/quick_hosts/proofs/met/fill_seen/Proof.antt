@@ -19,7 +19,9 @@ use Rattle.bits.proofs.clear.Reads as clear-reads
 use Rattle.quick_hosts.proofs.met.seen_row.Reads as seen-row-reads
 
 abbrev Inv-loop : tie.InvT-loop
-Inv-loop rows p mode n w₀ i₀ w i = (i ≤ n) × (length w ≡ length w₀) × Ordered (decode rows p mode n) n w × (w ≡ gridFill (seenFrom (decode rows p mode n)) w₀ (REACHED * 64) (GRID * 64) n i)
+Inv-loop rows p mode n w₀ i₀ w i =
+    (i ≤ n) × (length w ≡ length w₀) × Ordered (decode rows p mode n) n w
+    × (w ≡ gridFill (seenFrom (decode rows p mode n)) w₀ (REACHED * 64) (GRID * 64) n i)
 
 abbrev μ-loop : tie.MeasureT-loop
 μ-loop rows p mode n w₀ i₀ w i = n - i

@@ -18,7 +18,8 @@ use Rattle.quick_hosts.proofs.met.add_seen.Reads as add-seen-reads
 use Rattle.quick_hosts.proofs.met.once_row.Reads as once-row-reads
 
 abbrev Inv-loop : tie.InvT-loop
-Inv-loop rows p mode n m w₀ i₀ w i = (i ≤ n) × (length w ≡ length w₀) × Seeing (decode rows p mode n) n w × MetMore n (only m (seenUpto (decode rows p mode n) m i)) w₀ w
+Inv-loop rows p mode n m w₀ i₀ w i =
+    (i ≤ n) × (length w ≡ length w₀) × Seeing (decode rows p mode n) n w × MetMore n (only m (seenUpto (decode rows p mode n) m i)) w₀ w
 
 abbrev μ-loop : tie.MeasureT-loop
 μ-loop rows p mode n m w₀ i₀ w i = n - i

@@ -17,7 +17,9 @@ use Rattle.area.proofs.grid.put_if.Reads as put-if-reads
 use Rattle.quick_hosts.proofs.met.once_at.Reads as once-at-reads
 
 abbrev Inv-loop : tie.InvT-loop
-Inv-loop rows p mode n m w₀ y₀ w y = (y ≤ n) × (length w ≡ length w₀) × Ordered (decode rows p mode n) n w × (w ≡ rowFill (atOnce (decode rows p mode n) m) w₀ (MET * 64 + m * (GRID * 64)) y)
+Inv-loop rows p mode n m w₀ y₀ w y =
+    (y ≤ n) × (length w ≡ length w₀) × Ordered (decode rows p mode n) n w
+    × (w ≡ rowFill (atOnce (decode rows p mode n) m) w₀ (MET * 64 + m * (GRID * 64)) y)
 
 abbrev μ-loop : tie.MeasureT-loop
 μ-loop rows p mode n m w₀ y₀ w y = n - y

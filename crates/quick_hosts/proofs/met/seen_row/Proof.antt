@@ -20,7 +20,9 @@ use Rattle.quick_hosts.proofs.met.seen_from.Reads as seen-from-reads
 use Rattle.rows.proofs.bytes.read_kind.Reads as read-kind-reads
 
 abbrev Inv-loop : tie.InvT-loop
-Inv-loop rows p mode n i w₀ kind y₀ w y = (y ≤ n) × (length w ≡ length w₀) × (kind ≡ rowOf rows i .kind) × Ordered (decode rows p mode n) n w × (w ≡ rowFill (seenFrom (decode rows p mode n) i) w₀ (REACHED * 64 + i * (GRID * 64)) y)
+Inv-loop rows p mode n i w₀ kind y₀ w y =
+    (y ≤ n) × (length w ≡ length w₀) × (kind ≡ rowOf rows i .kind) × Ordered (decode rows p mode n) n w
+    × (w ≡ rowFill (seenFrom (decode rows p mode n) i) w₀ (REACHED * 64 + i * (GRID * 64)) y)
 
 abbrev μ-loop : tie.MeasureT-loop
 μ-loop rows p mode n i w₀ kind y₀ w y = n - y

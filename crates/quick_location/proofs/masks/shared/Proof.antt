@@ -1,77 +1,54 @@
-use mathlib.Core.Path.{_≡_}
-use Prim.Native.Nat.{_-_, _≤_}
-use native.Mathlib.Omega.{arith}
-use Rattle.area.specs.Regions.{PAIR}
-use Rattle.quick_location.specs.Masks.{Mask, mask-none, mask-more}
-use Rattle.quick_location.specs.Pairs.{sharedNth}
+use mathlib.Core.Path.{sym, ap₂, _∙_}
+use borrow.Author.Tests.{not-true, not-false}
+use Rattle.finite.specs.Logic.{_and_}
+use Rattle.quick_location.specs.Masks.{mask-zero, mask-and}
+use Rattle.quick_location.specs.Pairs.{shared-both, shared-itself, shared-none}
 use borrow.Author.Needs.{needs}
 use Rattle.quick_location.proofs.masks.shared.Statement.{statement}
 use Rattle.quick_location.proofs.masks.shared.Tie as tie
 use Rattle.quick_location.proofs.masks.shared.Reads as reads
 use Rattle.quick_location.proofs.masks.shared.Lts as lts
-use Rattle.rules.proofs.pairs.common_of.Reads as common-of-reads
-use Rattle.quick_location.proofs.masks.with_bit.Reads as with-bit-reads
+use Rattle.quick_location.proofs.masks.touched.Reads as touched-reads
+use Rattle.rows.proofs.kinds.is_access.Reads as is-access-reads
 
-abbrev Inv-loop : tie.InvT-loop
-Inv-loop x y r q start m₀ k₀ m k = (k ≤ PAIR) × Mask k (sharedNth x y r q) m
+-- src/masks.rt:67:9
+returns : tie.Need-returns
+returns c = mask-zero _ _ (shared-itself _ _ _ _ (c .if1 .taken))
 
-abbrev μ-loop : tie.MeasureT-loop
-μ-loop x y r q start m₀ k₀ m k = PAIR - k
+-- src/masks.rt:69:10
+is-access-requires : tie.Need-is-access-requires
+is-access-requires c κs = search needs
 
--- src/masks.rt:57:17
-cast-start : tie.Need-cast-start Inv-loop μ-loop
-cast-start c = search needs
+-- src/masks.rt:69:38
+is-access-requires-2 : tie.Need-is-access-requires-2
+is-access-requires-2 c κs = search needs
 
--- src/masks.rt:59:5
-loop-holds : tie.Need-loop-holds Inv-loop μ-loop
-loop-holds c = (search needs, mask-none _)
+-- src/masks.rt:70:9
+returns-2 : tie.Need-returns-2
+unfolding _and_
+returns-2 c = mask-zero _ _ (shared-none _ _ _ _ (ap₂ _and_ (sym (c .before .before .is-access .ensures)) (sym (c .before .is-access2 .ensures)) ∙ not-true _ (c .if2 .taken)))
 
--- src/masks.rt:60:66
-cast-common-of : tie.Need-cast-common-of Inv-loop μ-loop
-cast-common-of c = search needs
+-- src/masks.rt:72:5
+touched-requires : tie.Need-touched-requires
+touched-requires c κs = search needs
 
--- src/masks.rt:60:57
-add-common-of : tie.Need-add-common-of Inv-loop μ-loop
-add-common-of c = search needs
+-- src/masks.rt:72:27
+touched-requires-2 : tie.Need-touched-requires-2
+touched-requires-2 c κs = search needs
 
--- src/masks.rt:60:28
-common-of-requires : tie.Need-common-of-requires Inv-loop μ-loop
-common-of-requires c κs = search needs
-
--- src/masks.rt:60:9
-with-bit-requires : tie.Need-with-bit-requires Inv-loop μ-loop
-with-bit-requires c κs = search needs
-
--- src/masks.rt:59:9
-add-k : tie.Need-add-k Inv-loop μ-loop
-add-k c = search needs
-
--- src/masks.rt:59:5
-loop-less : tie.Need-loop-less Inv-loop μ-loop
-loop-less c = search needs
-
--- src/masks.rt:59:5
-loop-again : tie.Need-loop-again Inv-loop μ-loop
-unfolding sharedNth
-loop-again c = (search needs, mask-more _ _ _ _ _ (c .before .before .before .loop .inv .1) (c .before .common-of .ensures) (c .with-bit .ensures))
-
--- src/masks.rt:54:1
-returns : tie.Need-returns Inv-loop μ-loop
-returns c = let e : c .before .loop .k ≡ PAIR = omega arith in rw e at (c .before .loop .inv .1)
+-- src/masks.rt:63:1
+returns-3 : tie.Need-returns-3
+unfolding _and_
+returns-3 c = shared-both _ _ _ _ (c .before .before .before .before .before .if1 .left) (ap₂ _and_ (sym (c .before .before .before .before .is-access .ensures)) (sym (c .before .before .before .is-access2 .ensures)) ∙ not-false _ (c .before .before .if2 .left)) (mask-and (c .before .touched .ensures) (c .touched2 .ensures))
 
 pub shared-spec : {M : Type 1} → statement M
 shared-spec =
     tie.close
     (tie.spec
-    Inv-loop
-    μ-loop
-    cast-start
-    loop-holds
-    cast-common-of
-    add-common-of
-    common-of-requires
-    with-bit-requires
-    add-k
-    loop-less
-    loop-again
-    returns)
+    returns
+    is-access-requires
+    is-access-requires-2
+    returns-2
+    touched-requires
+    touched-requires-2
+    returns-3)

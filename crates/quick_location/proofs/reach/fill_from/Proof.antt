@@ -21,7 +21,9 @@ use Rattle.rows.proofs.bytes.read_row.Reads as read-row-reads
 use Rattle.sets.proofs.first_both.Reads as first-both-reads
 
 abbrev Inv-loop : tie.InvT-loop
-Inv-loop rows p mode n a w₀ s at c₀ w c = (c ≤ n) × (length w ≡ length w₀) × (s ≡ rowOf rows a) × Ordered (decode rows p mode n) n w × (w ≡ rowFill (broadens (decode rows p mode n) a) w₀ (REACH-OUT * 64 + a * (GRID * 64)) c)
+Inv-loop rows p mode n a w₀ s at c₀ w c =
+    (c ≤ n) × (length w ≡ length w₀) × (s ≡ rowOf rows a) × Ordered (decode rows p mode n) n w
+    × (w ≡ rowFill (broadens (decode rows p mode n) a) w₀ (REACH-OUT * 64 + a * (GRID * 64)) c)
 
 abbrev μ-loop : tie.MeasureT-loop
 μ-loop rows p mode n a w₀ s at c₀ w c = n - c

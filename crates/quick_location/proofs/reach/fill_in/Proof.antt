@@ -19,7 +19,9 @@ use Rattle.bits.proofs.clear.Reads as clear-reads
 use Rattle.quick_location.proofs.reach.fill_to.Reads as fill-to-reads
 
 abbrev Inv-loop : tie.InvT-loop
-Inv-loop rows p mode n w₀ j₀ w j = (j ≤ n) × (length w ≡ length w₀) × Ordered (decode rows p mode n) n w × (w ≡ gridFill (narrows (decode rows p mode n)) w₀ (REACH-IN * 64) (GRID * 64) n j)
+Inv-loop rows p mode n w₀ j₀ w j =
+    (j ≤ n) × (length w ≡ length w₀) × Ordered (decode rows p mode n) n w
+    × (w ≡ gridFill (narrows (decode rows p mode n)) w₀ (REACH-IN * 64) (GRID * 64) n j)
 
 abbrev μ-loop : tie.MeasureT-loop
 μ-loop rows p mode n w₀ j₀ w j = n - j

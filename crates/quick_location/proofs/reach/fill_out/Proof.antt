@@ -19,7 +19,9 @@ use Rattle.bits.proofs.clear.Reads as clear-reads
 use Rattle.quick_location.proofs.reach.fill_from.Reads as fill-from-reads
 
 abbrev Inv-loop : tie.InvT-loop
-Inv-loop rows p mode n w₀ a₀ w a = (a ≤ n) × (length w ≡ length w₀) × Ordered (decode rows p mode n) n w × (w ≡ gridFill (broadens (decode rows p mode n)) w₀ (REACH-OUT * 64) (GRID * 64) n a)
+Inv-loop rows p mode n w₀ a₀ w a =
+    (a ≤ n) × (length w ≡ length w₀) × Ordered (decode rows p mode n) n w
+    × (w ≡ gridFill (broadens (decode rows p mode n)) w₀ (REACH-OUT * 64) (GRID * 64) n a)
 
 abbrev μ-loop : tie.MeasureT-loop
 μ-loop rows p mode n w₀ a₀ w a = n - a

@@ -21,7 +21,9 @@ use Rattle.rows.proofs.bytes.read_row.Reads as read-row-reads
 use Rattle.sets.proofs.first_both.Reads as first-both-reads
 
 abbrev Inv-loop : tie.InvT-loop
-Inv-loop rows p mode n j w₀ u at v₀ w v = (v ≤ n) × (length w ≡ length w₀) × (u ≡ rowOf rows j) × Ordered (decode rows p mode n) n w × (w ≡ rowFill (narrows (decode rows p mode n) j) w₀ (REACH-IN * 64 + j * (GRID * 64)) v)
+Inv-loop rows p mode n j w₀ u at v₀ w v =
+    (v ≤ n) × (length w ≡ length w₀) × (u ≡ rowOf rows j) × Ordered (decode rows p mode n) n w
+    × (w ≡ rowFill (narrows (decode rows p mode n) j) w₀ (REACH-IN * 64 + j * (GRID * 64)) v)
 
 abbrev μ-loop : tie.MeasureT-loop
 μ-loop rows p mode n j w₀ u at v₀ w v = n - v

@@ -15,7 +15,9 @@ use Rattle.quick_order.proofs.sources.add_sources.Lts as lts
 use Rattle.quick_order.proofs.sources.add_row.Reads as add-row-reads
 
 abbrev Inv-loop : tie.InvT-loop
-Inv-loop w₀ n dep x₀ w x = (x ≤ n) × Within HAPPENS HAPPENS-END w₀ w × ((bs : List ℕ) (t : Table) (s : ℕ) → Setup bs t n s dep w₀ → Closed t dep s n w₀ → SourcesAdded t s n (3 * x) w₀ w)
+Inv-loop w₀ n dep x₀ w x =
+    (x ≤ n) × Within HAPPENS HAPPENS-END w₀ w
+    × ((bs : List ℕ) (t : Table) (s : ℕ) → Setup bs t n s dep w₀ → Closed t dep s n w₀ → SourcesAdded t s n (3 * x) w₀ w)
 
 abbrev μ-loop : tie.MeasureT-loop
 μ-loop w₀ n dep x₀ w x = n - x

@@ -18,10 +18,10 @@ use Rattle.bits.proofs.clear.Reads as clear-reads
 use Rattle.quick_sync.proofs.links.gets_row.Reads as gets-row-reads
 
 abbrev Inv-loop : tie.InvT-loop
-Inv-loop rows p mode n w₀ y₀ w y = (y ≤ n) × (length w ≡ length w₀) × (w ≡ gridFill (gotten (decode rows p mode n)) w₀ (GETS * 64) (GRID * 64) n y)
+Inv-loop rows p mode n agents w₀ y₀ w y = (y ≤ n) × (length w ≡ length w₀) × (w ≡ gridFill (gotten (decode rows p mode n)) w₀ (GETS * 64) (GRID * 64) n y)
 
 abbrev μ-loop : tie.MeasureT-loop
-μ-loop rows p mode n w₀ y₀ w y = n - y
+μ-loop rows p mode n agents w₀ y₀ w y = n - y
 
 -- src/links.rt:131:5
 clear-requires : tie.Need-clear-requires Inv-loop μ-loop
@@ -58,7 +58,7 @@ same-length c = search needs
 -- src/links.rt:127:1
 returns : tie.Need-returns Inv-loop μ-loop
 returns c =
-    let e : c .before .loop .y ≡ c .before .before .before .before .before .before .before .before .args .n = omega arith in
+    let e : c .before .loop .y ≡ c .before .before .before .before .before .before .before .before .before .args .n = omega arith in
     made-filled GETS HANDS GRID _ _ _ _ _ (omega arith) (omega arith) (omega arith) (c .before .before .before .before .clear .ensures) (rw e at (c .before .loop .inv .2))
 
 pub fill-gets-spec : {M : Type 1} → statement M

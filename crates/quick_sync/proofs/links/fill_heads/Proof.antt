@@ -18,10 +18,10 @@ use Rattle.bits.proofs.clear.Reads as clear-reads
 use Rattle.quick_sync.proofs.links.heads_row.Reads as heads-row-reads
 
 abbrev Inv-loop : tie.InvT-loop
-Inv-loop rows p mode n w₀ a₀ w a = (a ≤ n) × (length w ≡ length w₀) × (w ≡ gridFill (released (decode rows p mode n)) w₀ (HEADS * 64) (GRID * 64) n a)
+Inv-loop rows p mode n agents w₀ a₀ w a = (a ≤ n) × (length w ≡ length w₀) × (w ≡ gridFill (released (decode rows p mode n)) w₀ (HEADS * 64) (GRID * 64) n a)
 
 abbrev μ-loop : tie.MeasureT-loop
-μ-loop rows p mode n w₀ a₀ w a = n - a
+μ-loop rows p mode n agents w₀ a₀ w a = n - a
 
 -- src/links.rt:66:5
 clear-requires : tie.Need-clear-requires Inv-loop μ-loop
@@ -58,7 +58,7 @@ same-length c = search needs
 -- src/links.rt:62:1
 returns : tie.Need-returns Inv-loop μ-loop
 returns c =
-    let e : c .before .loop .a ≡ c .before .before .before .before .before .before .before .before .args .n = omega arith in
+    let e : c .before .loop .a ≡ c .before .before .before .before .before .before .before .before .before .args .n = omega arith in
     made-filled HEADS TAKES GRID _ _ _ _ _ (omega arith) (omega arith) (omega arith) (c .before .before .before .before .clear .ensures) (rw e at (c .before .loop .inv .2))
 
 pub fill-heads-spec : {M : Type 1} → statement M

@@ -20,7 +20,9 @@ use Rattle.bits.proofs.clear.Reads as clear-reads
 use Rattle.quick_sync.proofs.links.takes_row.Reads as takes-row-reads
 
 abbrev Inv-loop : tie.InvT-loop
-Inv-loop rows p mode n w₀ x₀ w x = (x ≤ n) × (length w ≡ length w₀) × Sequenced (decode rows p mode n) n w × (w ≡ gridFill (takesFrom (decode rows p mode n)) w₀ (TAKES * 64) (GRID * 64) n x)
+Inv-loop rows p mode n w₀ x₀ w x =
+    (x ≤ n) × (length w ≡ length w₀) × Sequenced (decode rows p mode n) n w
+    × (w ≡ gridFill (takesFrom (decode rows p mode n)) w₀ (TAKES * 64) (GRID * 64) n x)
 
 abbrev μ-loop : tie.MeasureT-loop
 μ-loop rows p mode n w₀ x₀ w x = n - x

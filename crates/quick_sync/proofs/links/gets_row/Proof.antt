@@ -9,81 +9,127 @@ use Rattle.area.specs.Regions.{GRID}
 use Rattle.quick_sync.specs.Regions.{GETS}
 use Rattle.quick_sync.specs.Links.{gotten}
 use Rattle.quick_sync.specs.Rows.{row-off, gotten-none, gotten-on, gotten-back}
+use Rattle.quick_sync.specs.Filed.{Filed, FILES, agentFile, byAgent, every, gotten-apart}
+use Rattle.sets.specs.Walk.{fill-pass}
+use Prim.Native.Nat.{ℕ}
+use Prim.Native.Nat.{_<_}
 use borrow.Author.Needs.{needs}
 use Rattle.quick_sync.proofs.links.gets_row.Statement.{statement}
 use Rattle.quick_sync.proofs.links.gets_row.Tie as tie
 use Rattle.quick_sync.proofs.links.gets_row.Reads as reads
 use Rattle.quick_sync.proofs.links.gets_row.Lts as lts
 use Rattle.area.proofs.grid.put_if.Reads as put-if-reads
+use Rattle.quick_sync.proofs.filed.agent_file.Reads as agent-file-reads
 use Rattle.quick_sync.proofs.links.gets_of.Reads as gets-of-reads
 use Rattle.rows.proofs.bytes.read_row.Reads as read-row-reads
 use Rattle.rows.proofs.kinds.is_atomic.Reads as is-atomic-reads
 use Rattle.rows.proofs.kinds.reads.Reads as reads-reads
+use Rattle.sets.proofs.walk.next.Reads as next-reads
 
 abbrev Inv-loop : tie.InvT-loop
-Inv-loop rows p mode n y w₀ q b₀ w b = (b ≤ n) × (length w ≡ length w₀) × (q ≡ rowOf rows y) × (w ≡ rowFill (gotten (decode rows p mode n) y) w₀ (GETS * 64 + y * (GRID * 64)) b)
+Inv-loop rows p mode n y agents w₀ q at b₀ w b =
+    (b ≤ n) × (length w ≡ length w₀) × (q ≡ rowOf rows y) × Filed (byAgent rows) every n agents × (at ≡ agentFile (q .agent) * GRID)
+    × (agentFile (q .agent) < FILES) × (w ≡ rowFill (gotten (decode rows p mode n) y) w₀ (GETS * 64 + y * (GRID * 64)) b)
 
 abbrev μ-loop : tie.MeasureT-loop
-μ-loop rows p mode n y w₀ q b₀ w b = n - b
+μ-loop rows p mode n y agents w₀ q at b₀ w b = n - b
 
--- src/links.rt:152:35
+-- src/links.rt:173:35
 cast-read-row : tie.Need-cast-read-row Inv-loop μ-loop
 cast-read-row c = search needs
 
--- src/links.rt:152:9
+-- src/links.rt:173:9
 read-row-requires : tie.Need-read-row-requires Inv-loop μ-loop
 read-row-requires c κs = search needs
 
--- src/links.rt:153:10
+-- src/links.rt:174:10
 is-atomic-requires : tie.Need-is-atomic-requires Inv-loop μ-loop
 is-atomic-requires c κs = search needs
 
--- src/links.rt:153:32
+-- src/links.rt:174:32
 reads-requires : tie.Need-reads-requires Inv-loop μ-loop
 reads-requires c κs = search needs
 
--- src/links.rt:154:9
+-- src/links.rt:175:9
 returns : tie.Need-returns Inv-loop μ-loop
 unfolding _and_
 returns c = row-off _ _ _ _ (λ m l. gotten-none _ _ _ _ _ _ _ _ (c .before .before .before .read-row .ensures) (c .before .before .is-atomic .ensures) (c .before .reads .ensures) (c .if1 .taken) m)
 
--- src/links.rt:156:5
-loop-holds : tie.Need-loop-holds Inv-loop μ-loop
-loop-holds c = (search needs, refl, c .before .before .before .read-row .ensures, row-off _ _ _ _ (λ m l. gotten-back _ _ _ _ _ _ l))
+-- src/links.rt:177:14
+agent-file-requires : tie.Need-agent-file-requires Inv-loop μ-loop
+agent-file-requires c κs = search needs
 
--- src/links.rt:157:13
+-- src/links.rt:177:14
+mul-at : tie.Need-mul-at Inv-loop μ-loop
+mul-at c = search needs
+
+-- src/links.rt:178:9
+next-requires : tie.Need-next-requires Inv-loop μ-loop
+next-requires c κs = search needs
+
+-- src/links.rt:179:5
+loop-holds : tie.Need-loop-holds Inv-loop μ-loop
+loop-holds c =
+    let pre = c .before .before .before .before .before .before .before .before .before .pre in
+    let row = c .before .before .before .before .before .read-row .ensures in
+    let file = c .before .agent-file .ensures in
+    let at = ap (λ (z : ℕ). z * GRID) (file .0) in
+    let next = c .next .ensures in
+    let start = row-off _ _ _ _ (λ m l. gotten-back _ _ _ _ _ _ l) in (
+      next .high,
+      refl,
+      row,
+      pre .3,
+      at,
+      rw (file .0) at (file .1),
+      fill-pass _ _ _ _ _ _ (next .low) (λ m l q. gotten-apart _ _ _ _ (pre .3) _ m _ _ row at (omega (arith, next .high)) (next .miss m l q)) start,
+    )
+
+-- src/links.rt:180:13
 gets-of-requires : tie.Need-gets-of-requires Inv-loop μ-loop
 gets-of-requires c κs = search needs
 
--- src/links.rt:158:9
+-- src/links.rt:181:9
 put-if-requires : tie.Need-put-if-requires Inv-loop μ-loop
 put-if-requires c κs = search needs
 
--- src/links.rt:156:9
-add-b : tie.Need-add-b Inv-loop μ-loop
-add-b c = search needs
+-- src/links.rt:182:40
+add-next : tie.Need-add-next Inv-loop μ-loop
+add-next c = search needs
 
--- src/links.rt:156:5
+-- src/links.rt:182:9
+next-requires-2 : tie.Need-next-requires-2 Inv-loop μ-loop
+next-requires-2 c κs = search needs
+
+-- src/links.rt:179:5
 loop-less : tie.Need-loop-less Inv-loop μ-loop
 loop-less c = search needs
 
--- src/links.rt:156:5
+-- src/links.rt:179:5
 loop-again : tie.Need-loop-again Inv-loop μ-loop
 unfolding _and_
 loop-again c =
-    let put = c .before .before .put-if in
-    let inv = c .before .before .before .before .before .before .loop .inv in
-    let d = gotten-on _ _ _ _ _ _ _ _ _ _ (inv .2) (c .before .before .before .before .before .before .before .before .before .is-atomic .ensures) (c .before .before .before .before .before .before .before .before .reads .ensures) (c .before .before .before .before .before .before .before .if1 .left) (c .before .before .before .before .gets-of .ensures) in
-    let e = rowFill-put _ _ _ (put .last .0) _ _ _ _ (inv .3) d (omega arith) (put .ensures) in
-    (search needs, ap length e ∙ length-rowFill _ _ _ _, inv .2, e)
+    let put = c .before .before .before .put-if in
+    let inv = c .before .before .before .before .before .before .before .loop .inv in
+    let next = c .next2 .ensures in
+    let d = gotten-on _ _ _ _ _ _ _ _ _ _ (inv .2) (c .before .before .before .before .before .before .before .before .before .before .before .before .is-atomic .ensures) (c .before .before .before .before .before .before .before .before .before .before .before .reads .ensures) (c .before .before .before .before .before .before .before .before .before .before .if1 .left) (c .before .before .before .before .before .gets-of .ensures) in
+    let e = rowFill-put _ _ _ (put .last .0) _ _ _ _ (inv .6) d (omega arith) (put .ensures) in (
+      next .high,
+      ap length e ∙ length-rowFill _ _ _ _,
+      inv .2,
+      inv .3,
+      inv .4,
+      inv .5,
+      fill-pass _ _ _ _ _ _ (next .low) (λ m l q. gotten-apart _ _ _ _ (inv .3) _ m _ _ (inv .2) (inv .4) (omega (arith, next .high)) (next .miss m l q)) e,
+    )
 
--- src/links.rt:148:1
+-- src/links.rt:161:1
 same-length : tie.Need-same-length Inv-loop μ-loop
 same-length c = search needs
 
--- src/links.rt:148:1
+-- src/links.rt:161:1
 returns-2 : tie.Need-returns-2 Inv-loop μ-loop
-returns-2 c = let e : c .before .loop .b ≡ c .before .before .before .before .before .before .before .before .args .n = omega arith in rw e at (c .before .loop .inv .3)
+returns-2 c = let e : c .before .loop .b ≡ c .before .before .before .before .before .before .before .before .before .before .before .args .n = omega arith in rw e at (c .before .loop .inv .6)
 
 pub gets-row-spec : {M : Type 1} → statement M
 gets-row-spec =
@@ -96,10 +142,14 @@ gets-row-spec =
     is-atomic-requires
     reads-requires
     returns
+    agent-file-requires
+    mul-at
+    next-requires
     loop-holds
     gets-of-requires
     put-if-requires
-    add-b
+    add-next
+    next-requires-2
     loop-less
     loop-again
     same-length

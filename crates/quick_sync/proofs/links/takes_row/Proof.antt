@@ -14,7 +14,7 @@ use Rattle.area.specs.Regions.{GRID}
 use Rattle.quick_sync.specs.Regions.{TAKES, GETS}
 use Rattle.area.specs.Synced.{Sequenced, sequenced-kept}
 use Rattle.rules.specs.Forms.{takes-apart}
-use Rattle.quick_sync.specs.Walk.{walked, fill-pass}
+use Rattle.sets.specs.Walk.{walked, fill-pass}
 use Rattle.quick_sync.specs.Rows.{row-off, takes-none}
 use borrow.Author.Needs.{needs}
 use Rattle.quick_sync.proofs.links.takes_row.Statement.{statement}
@@ -23,12 +23,14 @@ use Rattle.quick_sync.proofs.links.takes_row.Reads as reads
 use Rattle.quick_sync.proofs.links.takes_row.Lts as lts
 use Rattle.area.proofs.grid.put_if.Reads as put-if-reads
 use Rattle.quick_sync.proofs.links.takes_of.Reads as takes-of-reads
-use Rattle.quick_sync.proofs.walk.next.Reads as next-reads
+use Rattle.sets.proofs.walk.next.Reads as next-reads
 use Rattle.rows.proofs.bytes.read_row.Reads as read-row-reads
 use Rattle.rows.proofs.kinds.writes.Reads as writes-reads
 
 abbrev Inv-loop : tie.InvT-loop
-Inv-loop rows p mode n x w₀ at y₀ w y = (y ≤ n) × (length w ≡ length w₀) × Sequenced (decode rows p mode n) n w × (writes (rowOf rows x) ≡ true) × (y < n → mutually (decode rows p mode n) x y ≡ true) × (w ≡ rowFill (takesFrom (decode rows p mode n) x) w₀ (TAKES * 64 + x * (GRID * 64)) y)
+Inv-loop rows p mode n x w₀ at y₀ w y =
+    (y ≤ n) × (length w ≡ length w₀) × Sequenced (decode rows p mode n) n w × (writes (rowOf rows x) ≡ true)
+    × (y < n → mutually (decode rows p mode n) x y ≡ true) × (w ≡ rowFill (takesFrom (decode rows p mode n) x) w₀ (TAKES * 64 + x * (GRID * 64)) y)
 
 abbrev μ-loop : tie.MeasureT-loop
 μ-loop rows p mode n x w₀ at y₀ w y = n - y

@@ -20,7 +20,9 @@ use Rattle.bits.proofs.clear.Reads as clear-reads
 use Rattle.quick_sync.proofs.mutual.sequence_row.Reads as sequence-row-reads
 
 abbrev Inv-loop : tie.InvT-loop
-Inv-loop rows p mode n w₀ a₀ w a = (a ≤ n) × (length w ≡ length w₀) × Holds MUTUAL GRID n (mutually (decode rows p mode n)) w × (w ≡ gridFill (sequence (decode rows p mode n)) w₀ (SEQUENCE * 64) (GRID * 64) n a)
+Inv-loop rows p mode n w₀ a₀ w a =
+    (a ≤ n) × (length w ≡ length w₀) × Holds MUTUAL GRID n (mutually (decode rows p mode n)) w
+    × (w ≡ gridFill (sequence (decode rows p mode n)) w₀ (SEQUENCE * 64) (GRID * 64) n a)
 
 abbrev μ-loop : tie.MeasureT-loop
 μ-loop rows p mode n w₀ a₀ w a = n - a

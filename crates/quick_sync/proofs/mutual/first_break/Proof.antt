@@ -4,7 +4,7 @@ use Prim.Native.Nat.{_-_, _≤_, _<_}
 use native.Mathlib.Omega.{arith}
 use Rattle.model.specs.Table.{decode}
 use Rattle.model.specs.Scope.{mutually}
-use Rattle.quick_sync.specs.Walk.{walked}
+use Rattle.sets.specs.Walk.{walked}
 use Rattle.quick_sync.specs.Breaks.{firstBreak, first-none, first-more, first-pass, break-apart}
 use borrow.Author.Needs.{needs}
 use Rattle.quick_sync.proofs.mutual.first_break.Statement.{statement}
@@ -12,11 +12,12 @@ use Rattle.quick_sync.proofs.mutual.first_break.Tie as tie
 use Rattle.quick_sync.proofs.mutual.first_break.Reads as reads
 use Rattle.quick_sync.proofs.mutual.first_break.Lts as lts
 use Rattle.quick_sync.proofs.mutual.break_of.Reads as break-of-reads
-use Rattle.quick_sync.proofs.walk.at_most.Reads as at-most-reads
-use Rattle.quick_sync.proofs.walk.next.Reads as next-reads
+use Rattle.sets.proofs.walk.at_most.Reads as at-most-reads
+use Rattle.sets.proofs.walk.next.Reads as next-reads
 
 abbrev Inv-loop : tie.InvT-loop
-Inv-loop rows p mode n a h w at first₀ z₀ first z = (z ≤ n) × (first ≡ firstBreak (decode rows p mode n) a z) × (z < n → mutually (decode rows p mode n) a z ≡ true)
+Inv-loop rows p mode n a h w at first₀ z₀ first z =
+    (z ≤ n) × (first ≡ firstBreak (decode rows p mode n) a z) × (z < n → mutually (decode rows p mode n) a z ≡ true)
 
 abbrev μ-loop : tie.MeasureT-loop
 μ-loop rows p mode n a h w at first₀ z₀ first z = n - z

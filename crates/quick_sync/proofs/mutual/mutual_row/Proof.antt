@@ -1,3 +1,4 @@
+use mathlib.Core.Path.{ap}
 use mathlib.Core.Path.{_≡_, refl, _∙_}
 use Prim.Native.Nat.{_+_, _-_, _*_, _≤_, _<_}
 use native.Mathlib.Omega.{arith}
@@ -8,92 +9,128 @@ use Rattle.model.specs.Table.{rowOf, decode}
 use Rattle.model.specs.Scope.{mutually}
 use Rattle.area.specs.Regions.{MUTUAL, MUTUAL-END}
 use Rattle.quick_sync.specs.Pairs.{Pairs, pairs-put, mutual-swap, pairs-own, pairs-plain, pairs-row}
+use Rattle.quick_sync.specs.Filed.{Filed, FILES, startFile, byStart, start-apart}
+use Rattle.quick_sync.specs.Rows.{atomicOf}
+use Rattle.quick_sync.specs.Pairs.{pairs-over}
+use Rattle.area.specs.Regions.{GRID}
+use Prim.Native.Nat.{ℕ}
 use borrow.Author.Needs.{needs}
 use Rattle.quick_sync.proofs.mutual.mutual_row.Statement.{statement}
 use Rattle.quick_sync.proofs.mutual.mutual_row.Tie as tie
 use Rattle.quick_sync.proofs.mutual.mutual_row.Reads as reads
 use Rattle.quick_sync.proofs.mutual.mutual_row.Lts as lts
 use Rattle.area.proofs.grid.put_if.Reads as put-if-reads
+use Rattle.quick_sync.proofs.filed.start_file.Reads as start-file-reads
 use Rattle.quick_sync.proofs.mutual.mutual_of.Reads as mutual-of-reads
 use Rattle.rows.proofs.bytes.read_row.Reads as read-row-reads
 use Rattle.rows.proofs.kinds.is_atomic.Reads as is-atomic-reads
+use Rattle.sets.proofs.walk.next.Reads as next-reads
 
 abbrev Inv-loop : tie.InvT-loop
-Inv-loop rows p mode n i w₀ r j₀ w j = (i < j) × (j ≤ n) × (length w ≡ length w₀) × (r ≡ rowOf rows i) × Pairs (mutually (decode rows p mode n)) n (i * ROWS + j) w × Within MUTUAL MUTUAL-END w₀ w
+Inv-loop rows p mode n i starts w₀ r at j₀ w j =
+    (i < j) × (j ≤ n) × (length w ≡ length w₀) × (r ≡ rowOf rows i) × Filed (byStart rows) (atomicOf rows) n starts
+    × (at ≡ startFile (r .start) * GRID) × (startFile (r .start) < FILES) × Pairs (mutually (decode rows p mode n)) n (i * ROWS + j) w
+    × Within MUTUAL MUTUAL-END w₀ w
 
 abbrev μ-loop : tie.MeasureT-loop
-μ-loop rows p mode n i w₀ r j₀ w j = n - j
+μ-loop rows p mode n i starts w₀ r at j₀ w j = n - j
 
--- src/mutual.rt:51:35
+-- src/mutual.rt:63:35
 cast-read-row : tie.Need-cast-read-row Inv-loop μ-loop
 cast-read-row c = search needs
 
--- src/mutual.rt:51:9
+-- src/mutual.rt:63:9
 read-row-requires : tie.Need-read-row-requires Inv-loop μ-loop
 read-row-requires c κs = search needs
 
--- src/mutual.rt:52:9
+-- src/mutual.rt:64:9
 is-atomic-requires : tie.Need-is-atomic-requires Inv-loop μ-loop
 is-atomic-requires c κs = search needs
 
--- src/mutual.rt:53:9
+-- src/mutual.rt:65:9
 returns : tie.Need-returns Inv-loop μ-loop
 returns c =
-    let pre = c .before .before .before .before .before .pre in
-    (pairs-plain _ _ _ _ (pre .0) _ (pre .1) _ _ (c .before .before .read-row .ensures) (c .before .is-atomic .ensures) (c .if1 .taken) (pre .3), within-refl _ _ _)
+    let pre = c .before .before .before .before .before .before .pre in
+    (pairs-plain _ _ _ _ (pre .0) _ (pre .1) _ _ (c .before .before .read-row .ensures) (c .before .is-atomic .ensures) (c .if1 .taken) (pre .4), within-refl _ _ _)
 
--- src/mutual.rt:55:14
-add-j : tie.Need-add-j Inv-loop μ-loop
-add-j c = search needs
+-- src/mutual.rt:67:14
+start-file-requires : tie.Need-start-file-requires Inv-loop μ-loop
+start-file-requires c κs = search needs
 
--- src/mutual.rt:55:5
+-- src/mutual.rt:67:14
+mul-at : tie.Need-mul-at Inv-loop μ-loop
+mul-at c = search needs
+
+-- src/mutual.rt:68:44
+add-next : tie.Need-add-next Inv-loop μ-loop
+add-next c = search needs
+
+-- src/mutual.rt:68:9
+next-requires : tie.Need-next-requires Inv-loop μ-loop
+next-requires c κs = search needs
+
+-- src/mutual.rt:69:5
 loop-holds : tie.Need-loop-holds Inv-loop μ-loop
 loop-holds c =
-    let pre = c .before .before .before .before .before .pre in
-    (search needs, search needs, refl, c .before .before .read-row .ensures, pairs-own _ _ _ _ (pre .0) _ (pre .1) (pre .3), within-refl _ _ _)
+    let pre = c .before .before .before .before .before .before .before .before .pre in
+    let row = c .before .before .before .before .read-row .ensures in
+    let file = c .before .start-file .ensures in
+    let at = ap (λ (z : ℕ). z * GRID) (file .0) in
+    let next = c .next .ensures in
+    let own = pairs-own _ _ _ _ (pre .0) _ (pre .1) (pre .4) in
+    let over = pairs-over _ _ _ _ (pre .0) _ (pre .1) _ _ (omega arith) (next .low) (next .high)
+    (λ m l q. start-apart _ _ _ _ (pre .3) _ m _ _ row at (omega (arith, next .high)) (next .miss m l q)) own in
+    (omega (arith, next .low), next .high, refl, row, pre .3, at, rw (file .0) at (file .1), over, within-refl _ _ _)
 
--- src/mutual.rt:56:13
+-- src/mutual.rt:70:13
 mutual-of-requires : tie.Need-mutual-of-requires Inv-loop μ-loop
 mutual-of-requires c κs = search needs
 
--- src/mutual.rt:57:9
+-- src/mutual.rt:71:9
 put-if-requires : tie.Need-put-if-requires Inv-loop μ-loop
 put-if-requires c κs = search needs
 
--- src/mutual.rt:58:9
+-- src/mutual.rt:72:9
 put-if-requires-2 : tie.Need-put-if-requires-2 Inv-loop μ-loop
 put-if-requires-2 c κs = search needs
 
--- src/mutual.rt:55:9
-add-j-2 : tie.Need-add-j-2 Inv-loop μ-loop
-add-j-2 c = search needs
+-- src/mutual.rt:73:40
+add-next-2 : tie.Need-add-next-2 Inv-loop μ-loop
+add-next-2 c = search needs
 
--- src/mutual.rt:55:5
+-- src/mutual.rt:73:9
+next-requires-2 : tie.Need-next-requires-2 Inv-loop μ-loop
+next-requires-2 c κs = search needs
+
+-- src/mutual.rt:69:5
 loop-less : tie.Need-loop-less Inv-loop μ-loop
 loop-less c = search needs
 
--- src/mutual.rt:55:5
+-- src/mutual.rt:69:5
 loop-again : tie.Need-loop-again Inv-loop μ-loop
 loop-again c =
-    let pre = c .before .before .before .before .before .before .before .before .before .before .before .before .before .before .before .before .pre in
-    let first = c .before .before .before .before .before .before .put-if in
-    let second = c .before .before .put-if2 in
-    let inv = c .before .before .before .before .before .before .before .before .before .before .loop .inv in
-    let l = c .before .before .before .before .before .before .before .before .before .loop-test .taken in
-    let e = pairs-put _ _ _ (mutual-swap _ _ _ _) (pre .0) (omega (arith, pre .2, inv .2)) (inv .0) l (c .before .before .before .before .before .before .before .before .mutual-of .ensures) (first .ensures) (second .ensures) (inv .4) in
+    let pre = c .before .before .before .before .before .before .before .before .before .before .before .before .before .before .before .before .before .before .before .before .pre in
+    let first = c .before .before .before .before .before .before .before .put-if in
+    let second = c .before .before .before .put-if2 in
+    let inv = c .before .before .before .before .before .before .before .before .before .before .before .loop .inv in
+    let l = c .before .before .before .before .before .before .before .before .before .before .loop-test .taken in
+    let next = c .next2 .ensures in
+    let e = pairs-put _ _ _ (mutual-swap _ _ _ _) (pre .0) (omega (arith, pre .2, inv .2)) (inv .0) l (c .before .before .before .before .before .before .before .before .before .mutual-of .ensures) (first .ensures) (second .ensures) (inv .7) in
     let f = within-trans (within-put MUTUAL MUTUAL-END _ _ (omega (arith, pre .0, l)) (omega (arith, pre .0, pre .1, l)) (first .ensures)) (within-put MUTUAL MUTUAL-END _ _ (omega (arith, pre .0, l)) (omega (arith, pre .0, pre .1, l)) (second .ensures)) in
-    (search needs, search needs, f .len ∙ inv .2, inv .3, e, within-trans (inv .5) f)
+    let over = pairs-over _ _ _ _ (pre .0) _ (pre .1) _ _ (omega (arith, inv .0)) (next .low) (next .high)
+    (λ m k q. start-apart _ _ _ _ (inv .4) _ m _ _ (inv .3) (inv .5) (omega (arith, next .high)) (next .miss m k q)) e in
+    (omega (arith, next .low, inv .0), next .high, f .len ∙ inv .2, inv .3, inv .4, inv .5, inv .6, over, within-trans (inv .8) f)
 
--- src/mutual.rt:46:1
+-- src/mutual.rt:50:1
 same-length : tie.Need-same-length Inv-loop μ-loop
 same-length c = search needs
 
--- src/mutual.rt:46:1
+-- src/mutual.rt:50:1
 returns-2 : tie.Need-returns-2 Inv-loop μ-loop
 returns-2 c =
-    let pre = c .before .before .before .before .before .before .before .pre in
-    let e : c .before .loop .j ≡ c .before .before .before .before .before .before .before .args .n = omega arith in
-    (pairs-row _ _ _ _ (pre .0) _ (pre .1) (rw e at (c .before .loop .inv .4)), c .before .loop .inv .5)
+    let pre = c .before .before .before .before .before .before .before .before .before .before .pre in
+    let e : c .before .loop .j ≡ c .before .before .before .before .before .before .before .before .before .before .args .n = omega arith in
+    (pairs-row _ _ _ _ (pre .0) _ (pre .1) (rw e at (c .before .loop .inv .7)), c .before .loop .inv .8)
 
 pub mutual-row-spec : {M : Type 1} → statement M
 mutual-row-spec =
@@ -105,12 +142,16 @@ mutual-row-spec =
     read-row-requires
     is-atomic-requires
     returns
-    add-j
+    start-file-requires
+    mul-at
+    add-next
+    next-requires
     loop-holds
     mutual-of-requires
     put-if-requires
     put-if-requires-2
-    add-j-2
+    add-next-2
+    next-requires-2
     loop-less
     loop-again
     same-length

@@ -12,7 +12,7 @@ use Rattle.model.specs.Table.{rowOf, decode}
 use Rattle.model.specs.Scope.{mutually}
 use Rattle.model.specs.Synchronizes.{sequence}
 use Rattle.area.specs.Regions.{MUTUAL, SEQUENCE, SEQUENCE-END, GRID}
-use Rattle.quick_sync.specs.Walk.{walked, fill-pass}
+use Rattle.sets.specs.Walk.{walked, fill-pass}
 use Rattle.quick_sync.specs.Rows.{row-one}
 use Rattle.quick_sync.specs.Breaks.{firstBreak, sequence-alone, sequence-apart}
 use borrow.Author.Needs.{needs}
@@ -24,12 +24,15 @@ use Rattle.area.proofs.grid.put.Reads as put-reads
 use Rattle.area.proofs.grid.put_if.Reads as put-if-reads
 use Rattle.quick_sync.proofs.mutual.first_break.Reads as first-break-reads
 use Rattle.quick_sync.proofs.mutual.sequence_of.Reads as sequence-of-reads
-use Rattle.quick_sync.proofs.walk.next_or.Reads as next-or-reads
+use Rattle.sets.proofs.walk.next_or.Reads as next-or-reads
 use Rattle.rows.proofs.bytes.read_row.Reads as read-row-reads
 use Rattle.rows.proofs.kinds.writes.Reads as writes-reads
 
 abbrev Inv-loop : tie.InvT-loop
-Inv-loop rows p mode n a w₀ h first at x₀ w x = (x ≤ n) × (length w ≡ length w₀) × (h ≡ rowOf rows a) × (writes h ≡ true) × (first ≡ firstBreak (decode rows p mode n) a n) × Holds MUTUAL GRID n (mutually (decode rows p mode n)) w × (x < n → (x ≡ a → ⊥) → mutually (decode rows p mode n) a x ≡ true) × (w ≡ rowFill (sequence (decode rows p mode n) a) w₀ (SEQUENCE * 64 + a * (GRID * 64)) x)
+Inv-loop rows p mode n a w₀ h first at x₀ w x =
+    (x ≤ n) × (length w ≡ length w₀) × (h ≡ rowOf rows a) × (writes h ≡ true) × (first ≡ firstBreak (decode rows p mode n) a n)
+    × Holds MUTUAL GRID n (mutually (decode rows p mode n)) w × (x < n → (x ≡ a → ⊥) → mutually (decode rows p mode n) a x ≡ true)
+    × (w ≡ rowFill (sequence (decode rows p mode n) a) w₀ (SEQUENCE * 64 + a * (GRID * 64)) x)
 
 abbrev μ-loop : tie.MeasureT-loop
 μ-loop rows p mode n a w₀ h first at x₀ w x = n - x

@@ -11,7 +11,7 @@ use Rattle.quick_sync.proofs.product.multiply_row.Tie as tie
 use Rattle.quick_sync.proofs.product.multiply_row.Reads as reads
 use Rattle.quick_sync.proofs.product.multiply_row.Lts as lts
 use Rattle.bits.proofs.join_row.Reads as join-row-reads
-use Rattle.quick_sync.proofs.walk.next.Reads as next-reads
+use Rattle.sets.proofs.walk.next.Reads as next-reads
 
 abbrev Inv-loop : tie.InvT-loop
 Inv-loop w₀ c a b n i at j₀ w j = (j ≤ n) × (length w ≡ length w₀) × (at ≡ a + i * GRID) × RowTimes w₀ w c a b i j × (j < n → grid w₀ a i j ≡ true)

@@ -8,7 +8,7 @@ use Rattle.quick_sync.proofs.sync.learn_row.Tie as tie
 use Rattle.quick_sync.proofs.sync.learn_row.Reads as reads
 use Rattle.quick_sync.proofs.sync.learn_row.Lts as lts
 use Rattle.quick_sync.proofs.sync.learn_one.Reads as learn-one-reads
-use Rattle.quick_sync.proofs.walk.next.Reads as next-reads
+use Rattle.sets.proofs.walk.next.Reads as next-reads
 use Rattle.quick_sync.proofs.words.set_less.Reads as set-less-reads
 
 abbrev Inv-loop : tie.InvT-loop

@@ -7,7 +7,7 @@ use Rattle.quick_sync.proofs.sync.sync_row.Tie as tie
 use Rattle.quick_sync.proofs.sync.sync_row.Reads as reads
 use Rattle.quick_sync.proofs.sync.sync_row.Lts as lts
 use Rattle.quick_sync.proofs.sync.sync_release.Reads as sync-release-reads
-use Rattle.quick_sync.proofs.walk.next.Reads as next-reads
+use Rattle.sets.proofs.walk.next.Reads as next-reads
 use Rattle.rows.proofs.bytes.read_row.Reads as read-row-reads
 use Rattle.rows.proofs.kinds.releases.Reads as releases-reads
 

@@ -20,7 +20,9 @@ use Rattle.walks.proofs.layer_of.Reads as layer-of-reads
 use Rattle.reasons.proofs.layers.make_layers.Reads as make-layers-reads
 
 abbrev Inv-loop : tie.InvT-loop
-Inv-loop rows p mode n first second w₀ c₀ w c = (c ≤ CLASS-SETS) × (length w ≡ length w₀) × (least c (hasChainBy (decode rows p mode n) first second) ≡ c) × Synced (decode rows p mode n) n w × Within HAPPENS CHAINS-END w₀ w
+Inv-loop rows p mode n first second w₀ c₀ w c =
+    (c ≤ CLASS-SETS) × (length w ≡ length w₀) × (least c (hasChainBy (decode rows p mode n) first second) ≡ c) × Synced (decode rows p mode n) n w
+    × Within HAPPENS CHAINS-END w₀ w
 
 abbrev μ-loop : tie.MeasureT-loop
 μ-loop rows p mode n first second w₀ c₀ w c = CLASS-SETS - c

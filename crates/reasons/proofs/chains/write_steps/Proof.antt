@@ -23,7 +23,9 @@ use Rattle.walks.proofs.next.Reads as next-reads
 use Rattle.reasons.proofs.chains.step_number.Reads as step-number-reads
 
 abbrev Inv-loop : tie.InvT-loop
-Inv-loop rows n s first second size w c₀ z₀ i₀ c z i = (i ≤ size) × (z < 3 * n) × (length c ≡ length c₀) × Left (3 * n) (rel w STEP MOMENTS) second size first i (size - i) z × ((p : List (List ℕ)) (mode : Mode) → Synced (decode rows p mode n) n w → Written (along (stepNumber (decode rows p mode n) s) second (trail (3 * n) (rel w STEP MOMENTS) second size first)) i c₀ c)
+Inv-loop rows n s first second size w c₀ z₀ i₀ c z i =
+    (i ≤ size) × (z < 3 * n) × (length c ≡ length c₀) × Left (3 * n) (rel w STEP MOMENTS) second size first i (size - i) z
+    × ((p : List (List ℕ)) (mode : Mode) → Synced (decode rows p mode n) n w → Written (along (stepNumber (decode rows p mode n) s) second (trail (3 * n) (rel w STEP MOMENTS) second size first)) i c₀ c)
 
 abbrev μ-loop : tie.MeasureT-loop
 μ-loop rows n s first second size w c₀ z₀ i₀ c z i = size - i

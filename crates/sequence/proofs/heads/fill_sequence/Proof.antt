@@ -19,13 +19,17 @@ use Rattle.area.proofs.grid.put_if.Reads as put-if-reads
 use Rattle.sequence.proofs.heads.sequence_at.Reads as sequence-at-reads
 
 abbrev Inv-loop2 : tie.InvT-loop2
-Inv-loop2 rows p mode n w₀ a x₀ w x = (x ≤ n) × (length w ≡ length w₀) × Holds MUTUAL GRID n (mutually (decode rows p mode n)) w × (w ≡ rowFill (sequence (decode rows p mode n) a) w₀ (SEQUENCE * 64 + a * (GRID * 64)) x)
+Inv-loop2 rows p mode n w₀ a x₀ w x =
+    (x ≤ n) × (length w ≡ length w₀) × Holds MUTUAL GRID n (mutually (decode rows p mode n)) w
+    × (w ≡ rowFill (sequence (decode rows p mode n) a) w₀ (SEQUENCE * 64 + a * (GRID * 64)) x)
 
 abbrev μ-loop2 : tie.MeasureT-loop2
 μ-loop2 rows p mode n w₀ a x₀ w x = n - x
 
 abbrev Inv-loop : tie.InvT-loop
-Inv-loop rows p mode n w₀ a₀ w a = (a ≤ n) × (length w ≡ length w₀) × Holds MUTUAL GRID n (mutually (decode rows p mode n)) w × (w ≡ gridFill (sequence (decode rows p mode n)) w₀ (SEQUENCE * 64) (GRID * 64) (n) a)
+Inv-loop rows p mode n w₀ a₀ w a =
+    (a ≤ n) × (length w ≡ length w₀) × Holds MUTUAL GRID n (mutually (decode rows p mode n)) w
+    × (w ≡ gridFill (sequence (decode rows p mode n)) w₀ (SEQUENCE * 64) (GRID * 64) (n) a)
 
 abbrev μ-loop : tie.MeasureT-loop
 μ-loop rows p mode n w₀ a₀ w a = n - a

@@ -20,7 +20,8 @@ use Rattle.rows.proofs.bytes.read_row.Reads as read-row-reads
 use Rattle.rules.proofs.sequences.is_end.Reads as is-end-reads
 
 abbrev Inv-loop : tie.InvT-loop
-Inv-loop rows mode n a x w h r z₀ z = (z ≤ n) × ((p : List (List ℕ)) → Holds MUTUAL GRID n (mutually (decode rows p mode n)) w → anyBelow z (ends (decode rows p mode n) a x) ≡ false)
+Inv-loop rows mode n a x w h r z₀ z =
+    (z ≤ n) × ((p : List (List ℕ)) → Holds MUTUAL GRID n (mutually (decode rows p mode n)) w → anyBelow z (ends (decode rows p mode n) a x) ≡ false)
 
 abbrev μ-loop : tie.MeasureT-loop
 μ-loop rows mode n a x w h r z₀ z = n - z

@@ -19,13 +19,17 @@ use Rattle.area.proofs.grid.put_if.Reads as put-if-reads
 use Rattle.sequence.proofs.sync.sync_at.Reads as sync-at-reads
 
 abbrev Inv-loop2 : tie.InvT-loop2
-Inv-loop2 rows p mode n w₀ a b₀ w b = (b ≤ n) × (length w ≡ length w₀) × Sequenced (decode rows p mode n) n w × (w ≡ rowFill (synchronizes (decode rows p mode n) a) w₀ (SYNC * 64 + a * (GRID * 64)) b)
+Inv-loop2 rows p mode n w₀ a b₀ w b =
+    (b ≤ n) × (length w ≡ length w₀) × Sequenced (decode rows p mode n) n w
+    × (w ≡ rowFill (synchronizes (decode rows p mode n) a) w₀ (SYNC * 64 + a * (GRID * 64)) b)
 
 abbrev μ-loop2 : tie.MeasureT-loop2
 μ-loop2 rows p mode n w₀ a b₀ w b = n - b
 
 abbrev Inv-loop : tie.InvT-loop
-Inv-loop rows p mode n w₀ a₀ w a = (a ≤ n) × (length w ≡ length w₀) × Sequenced (decode rows p mode n) n w × (w ≡ gridFill (synchronizes (decode rows p mode n)) w₀ (SYNC * 64) (GRID * 64) (n) a)
+Inv-loop rows p mode n w₀ a₀ w a =
+    (a ≤ n) × (length w ≡ length w₀) × Sequenced (decode rows p mode n) n w
+    × (w ≡ gridFill (synchronizes (decode rows p mode n)) w₀ (SYNC * 64) (GRID * 64) (n) a)
 
 abbrev μ-loop : tie.MeasureT-loop
 μ-loop rows p mode n w₀ a₀ w a = n - a

@@ -1,4 +1,4 @@
-use Rattle.table.proofs.Laws.{form-numbers}
+use Rattle.table.proofs.Laws.{form-operation, form-kind, form-extent}
 use borrow.Author.Needs.{needs}
 use Rattle.table.proofs.row_faults.form_fault.Statement.{statement}
 use Rattle.table.proofs.row_faults.form_fault.Tie as tie
@@ -10,57 +10,58 @@ use Rattle.table.proofs.row_faults.extent_fits.Reads as extent-fits-rea
 use Rattle.table.proofs.row_faults.kind_fits.Reads as kind-fits-reads
 use Rattle.table.proofs.row_faults.operation_fits.Reads as operation-fits-reads
 
--- src/row_faults.rt:150:26
-operation-fits-requires : tie.Need-operation-fits-requires
-operation-fits-requires c κs = search needs
-
--- src/row_faults.rt:150:9
-byte-requires : tie.Need-byte-requires
-byte-requires c κs = search needs
-
--- src/row_faults.rt:151:22
-kind-fits-requires : tie.Need-kind-fits-requires
-kind-fits-requires c κs = search needs
-
--- src/row_faults.rt:151:49
-extent-fits-requires : tie.Need-extent-fits-requires
-extent-fits-requires c κs = search needs
-
--- src/row_faults.rt:151:44
-byte-requires-2 : tie.Need-byte-requires-2
-byte-requires-2 c κs = search needs
-
--- src/row_faults.rt:151:9
-byte-requires-3 : tie.Need-byte-requires-3
-byte-requires-3 c κs = search needs
-
--- src/row_faults.rt:152:10
+-- src/row_faults.rt:157:8
 is-operation-requires : tie.Need-is-operation-requires
 is-operation-requires c κs = search needs
 
--- src/row_faults.rt:152:5
-byte-requires-4 : tie.Need-byte-requires-4
-byte-requires-4 c κs = search needs
+-- src/row_faults.rt:158:27
+operation-fits-requires : tie.Need-operation-fits-requires
+operation-fits-requires c κs = search needs
 
--- src/row_faults.rt:147:1
+-- src/row_faults.rt:158:9
+byte-requires : tie.Need-byte-requires
+byte-requires c κs = search needs
+
+-- src/row_faults.rt:158:9
 returns : tie.Need-returns
 returns c =
-    let last = c .before .before in
-    let tests = last .before .before in
-    form-numbers _ _ _ _ _ _ _ _ _ _
-    (c .before .is-operation .ensures) (tests .before .before .before .operation-fits .ensures) (tests .before .kind-fits .ensures) (tests .extent-fits .ensures)
-    (tests .before .before .byte .ensures) (last .before .byte2 .ensures) (last .byte3 .ensures) (c .byte4 .ensures)
+    let first = c .before .before in
+    form-operation _ _ _ (first .before .is-operation .ensures) _ _ (first .if1 .taken) (c .before .operation-fits .ensures) (c .byte .ensures)
+
+-- src/row_faults.rt:160:9
+kind-fits-requires : tie.Need-kind-fits-requires
+kind-fits-requires c κs = search needs
+
+-- src/row_faults.rt:161:9
+returns-2 : tie.Need-returns-2
+returns-2 c = form-kind _ _ _ (c .before .before .before .is-operation .ensures) (c .before .before .if1 .left) _ (c .before .kind-fits .ensures)
+    (c .if2 .taken)
+
+-- src/row_faults.rt:163:16
+extent-fits-requires : tie.Need-extent-fits-requires
+extent-fits-requires c κs = search needs
+
+-- src/row_faults.rt:163:5
+byte-requires-2 : tie.Need-byte-requires-2
+byte-requires-2 c κs = search needs
+
+-- src/row_faults.rt:154:1
+returns-3 : tie.Need-returns-3
+returns-3 c =
+    let kind = c .before .before .before in
+    form-extent _ _ _ (kind .before .before .is-operation .ensures) (kind .before .if1 .left) _ (kind .kind-fits .ensures) _ _ (c .before .before .if2 .left)
+    (c .before .extent-fits .ensures) (c .byte2 .ensures)
 
 pub form-fault-spec : {M : Type 1} → statement M
 form-fault-spec =
     tie.close
     (tie.spec
+    is-operation-requires
     operation-fits-requires
     byte-requires
+    returns
     kind-fits-requires
+    returns-2
     extent-fits-requires
     byte-requires-2
-    byte-requires-3
-    is-operation-requires
-    byte-requires-4
-    returns)
+    returns-3)

@@ -1,53 +1,65 @@
-use mathlib.Core.List.{[]}
-use mathlib.Core.Path.{_≡_, sym, _∙_}
+use mathlib.Core.Path.{_≡_, sym}
 use mathlib.Core.Bool.{false}
-use Prim.Native.Nat.{_≤_, _-_}
+use mathlib.Core.List.{[]}
+use Prim.Native.Nat.{ℕ, _≤_, _<_}
 use native.Mathlib.Omega.{arith}
-use borrow.Author.Needs.{needs}
-use Rattle.finite.specs.Below.{anyBelow, any-none, any-more, any-in}
+use Rattle.finite.specs.Below.{any-not}
 use Rattle.model.specs.Refusal.{otherClassAt}
 use Rattle.model.specs.Table.{OFF, decode}
+use Rattle.table.proofs.Laws.{class-more, class-found}
+use borrow.Author.Needs.{needs}
 use Rattle.table.proofs.table_faults.any_other_class.Statement.{statement}
 use Rattle.table.proofs.table_faults.any_other_class.Tie as tie
 use Rattle.table.proofs.table_faults.any_other_class.Reads as reads
 use Rattle.table.proofs.table_faults.any_other_class.Lts as lts
-use Rattle.table.proofs.table_faults.other_class_at.Reads as other-class-at-reads
+use Rattle.rows.proofs.bytes.read_class.Reads as read-class-reads
+use Rattle.table.proofs.table_faults.is_of_reference.Reads as is-of-reference-reads
 
 abbrev Inv-loop : tie.InvT-loop
-Inv-loop rows i r j₀ j = (j ≤ i) × (anyBelow j (otherClassAt (decode rows [] OFF 0) i) ≡ false)
+Inv-loop rows i r j₀ j = (j ≤ i) × ((k : ℕ) → j ≤ k → k < i → otherClassAt (decode rows [] OFF 0) i k ≡ false)
 
 abbrev μ-loop : tie.MeasureT-loop
-μ-loop rows i r j₀ j = i - j
+μ-loop rows i r j₀ j = j
 
--- src/table_faults.rt:35:5
+-- src/table_faults.rt:67:5
 loop-holds : tie.Need-loop-holds Inv-loop μ-loop
-loop-holds c = (search needs, any-none _)
+loop-holds c = (search needs, λ k l m. absurd (omega arith))
 
--- src/table_faults.rt:36:12
-other-class-at-requires : tie.Need-other-class-at-requires Inv-loop μ-loop
-other-class-at-requires c κs = search needs
+-- src/table_faults.rt:68:13
+sub-j : tie.Need-sub-j Inv-loop μ-loop
+sub-j c = search needs
 
--- src/table_faults.rt:37:13
+-- src/table_faults.rt:69:12
+is-of-reference-requires : tie.Need-is-of-reference-requires Inv-loop μ-loop
+is-of-reference-requires c κs = search needs
+
+-- src/table_faults.rt:70:20
+read-class-requires : tie.Need-read-class-requires Inv-loop μ-loop
+read-class-requires c κs = search needs
+
+-- src/table_faults.rt:70:13
 returns : tie.Need-returns Inv-loop μ-loop
-returns c = sym (any-in _ _ _ (c .before .before .loop-test .taken) (sym (c .before .other-class-at .ensures) ∙ c .if1 .taken))
+returns c =
+    let found = c .before .before in
+    let at-loop = found .before .before .before in
+    let start = at-loop .before .before in
+    class-found _ _ _ _ _ _ (start .pre .0) (found .before .is-of-reference .ensures) (found .if1 .taken) (c .before .read-class .ensures) (omega arith)
+    (start .pre .1)
+    (at-loop .loop .inv .1)
 
--- src/table_faults.rt:35:9
-add-j : tie.Need-add-j Inv-loop μ-loop
-add-j c = search needs
-
--- src/table_faults.rt:35:5
+-- src/table_faults.rt:67:5
 loop-less : tie.Need-loop-less Inv-loop μ-loop
 loop-less c = search needs
 
--- src/table_faults.rt:35:5
+-- src/table_faults.rt:67:5
 loop-again : tie.Need-loop-again Inv-loop μ-loop
-loop-again c = (search needs, any-more _ _ (c .before .before .before .loop .inv .1) (sym (c .before .other-class-at .ensures) ∙ c .if1 .left))
+loop-again c =
+    let at-loop = c .before .before .before in
+    (search needs, class-more _ _ _ _ _ (at-loop .before .before .pre .0) (c .before .is-of-reference .ensures) (c .if1 .left) (at-loop .loop .inv .1))
 
--- src/table_faults.rt:32:1
+-- src/table_faults.rt:62:1
 returns-2 : tie.Need-returns-2 Inv-loop μ-loop
-returns-2 c =
-    let done : c .before .loop .j ≡ c .before .before .before .args .i = omega arith in
-    sym (rw done at (c .before .loop .inv .1))
+returns-2 c = sym (any-not _ _ (λ k l. c .before .loop .inv .1 k (omega arith) l))
 
 pub any-other-class-spec : {M : Type 1} → statement M
 any-other-class-spec =
@@ -56,9 +68,10 @@ any-other-class-spec =
     Inv-loop
     μ-loop
     loop-holds
-    other-class-at-requires
+    sub-j
+    is-of-reference-requires
+    read-class-requires
     returns
-    add-j
     loop-less
     loop-again
     returns-2)

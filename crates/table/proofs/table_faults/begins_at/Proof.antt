@@ -1,67 +1,53 @@
-use Rattle.finite.specs.Logic.{_and_, _or_}
-use Rattle.table.proofs.Laws.{begins-start, begins-none, begins-some}
-use mathlib.Core.Path.{_≡_, sym, _∙_}
+use Rattle.finite.specs.Logic.{_or_}
+use Rattle.table.proofs.Laws.{begins-none, begins-some}
 use borrow.Author.Tests.{not-true, not-false}
 use borrow.Author.Needs.{needs}
 use Rattle.table.proofs.table_faults.begins_at.Statement.{statement}
 use Rattle.table.proofs.table_faults.begins_at.Tie as tie
 use Rattle.table.proofs.table_faults.begins_at.Reads as reads
 use Rattle.table.proofs.table_faults.begins_at.Lts as lts
-use Rattle.rows.proofs.bytes.read_start.Reads as read-start-reads
 use Rattle.rows.proofs.bytes.read_row.Reads as read-row-reads
 use Rattle.table.proofs.table_faults.any_outside.Reads as any-outside-reads
+use Rattle.table.proofs.table_faults.is_outside.Reads as is-outside-reads
 use Rattle.table.proofs.table_faults.is_rival.Reads as is-rival-reads
-use Rattle.table.proofs.table_faults.outside_at.Reads as outside-at-reads
 
-read-start-requires : tie.Need-read-start-requires
-read-start-requires c κs = search needs
-
-read-start-requires-2 : tie.Need-read-start-requires-2
-read-start-requires-2 c κs = search needs
-
-returns : tie.Need-returns
-returns c = begins-start _ _ _ (λ e. c .if1 .taken (c .before .before .read-start .ensures ∙ e ∙ sym (c .before .read-start2 .ensures)))
-
--- src/table_faults.rt:207:9
+-- src/table_faults.rt:245:9
 read-row-requires : tie.Need-read-row-requires
 read-row-requires c κs = search needs
 
--- src/table_faults.rt:208:9
-read-row-requires-2 : tie.Need-read-row-requires-2
-read-row-requires-2 c κs = search needs
-
--- src/table_faults.rt:209:9
+-- src/table_faults.rt:246:9
 is-rival-requires : tie.Need-is-rival-requires
 is-rival-requires c κs = search needs
 
--- src/table_faults.rt:210:9
-returns-2 : tie.Need-returns-2
-returns-2 c = begins-none _ _ _ _ _ _ (c .before .before .before .read-row .ensures) (c .before .before .read-row2 .ensures) (c .before .is-rival .ensures) (not-true _ (c .if2 .taken))
+-- src/table_faults.rt:247:9
+returns : tie.Need-returns
+returns c =
+    begins-none _ _ _ _ _ _ (c .before .before .before .before .pre) (c .before .before .read-row .ensures) (c .before .is-rival .ensures)
+    (not-true _ (c .if1 .taken))
 
--- src/table_faults.rt:212:7
+-- src/table_faults.rt:249:7
 any-outside-requires : tie.Need-any-outside-requires
 any-outside-requires c κs = search needs
 
--- src/table_faults.rt:212:33
-outside-at-requires : tie.Need-outside-at-requires
-outside-at-requires c κs = search needs
+-- src/table_faults.rt:249:36
+is-outside-requires : tie.Need-is-outside-requires
+is-outside-requires c κs = search needs
 
--- src/table_faults.rt:204:1
-returns-3 : tie.Need-returns-3
+-- src/table_faults.rt:241:1
+returns-2 : tie.Need-returns-2
 unfolding _or_
-returns-3 c = begins-some _ _ _ _ _ _ _ _ (c .before .before .before .before .before .read-row .ensures) (c .before .before .before .before .read-row2 .ensures) (c .before .before .before .is-rival .ensures) (not-false _ (c .before .before .if2 .left)) (c .before .any-outside .ensures) (c .outside-at .ensures)
+returns-2 c =
+    let late = c .before .before in
+    begins-some _ _ _ _ _ _ _ _ (late .before .before .before .before .pre) (late .before .before .read-row .ensures) (late .before .is-rival .ensures)
+    (not-false _ (late .if1 .left)) (c .before .any-outside .ensures) (c .is-outside .ensures)
 
 pub begins-at-spec : {M : Type 1} → statement M
 begins-at-spec =
     tie.close
     (tie.spec
-    read-start-requires
-    read-start-requires-2
-    returns
     read-row-requires
-    read-row-requires-2
     is-rival-requires
-    returns-2
+    returns
     any-outside-requires
-    outside-at-requires
-    returns-3)
+    is-outside-requires
+    returns-2)

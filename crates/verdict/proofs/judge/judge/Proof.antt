@@ -55,7 +55,7 @@ settle-requires : tie.Need-settle-requires
 settle-requires c κs =
     let pre = c .before .before .before .before .before .before .before .before .before .before .before .before .before .before .pre in
     let start = c .before .before .before .before .cycle-start .ensures in
-    (pre .1, pre .2, known-kept (omega arith) (pre .3) (edges-held (c .before .before .before .before .before .before .before .before .fill-edges .ensures) (start .1) .1))
+    (pre .1, pre .2, known-kept (omega arith) (omega arith) (pre .3) (edges-held (c .before .before .before .before .before .before .before .before .fill-edges .ensures) (start .1) .1))
 
 -- src/judge.rt:73:1
 same-length-3 : tie.Need-same-length-3

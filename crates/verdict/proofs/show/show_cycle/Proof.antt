@@ -53,7 +53,7 @@ write-edges-requires c κs =
       omega (arith, asked .0, pre .3 .0),
       search needs,
       search needs,
-      known-kept (omega arith) (pre .3) (fill .1),
+      known-kept (omega arith) (omega arith) (pre .3) (fill .1),
       rows-below _ _ _ _ _ _ _ refl (pre .3 .0) (pre .4) fill (pre .5) (pre .0) size _ _ rows,
     )
 

@@ -15,7 +15,8 @@ use Rattle.verdict.proofs.show.next_of.Reads as next-of-reads
 use Rattle.verdict.proofs.show.wide.Reads as wide-reads
 
 abbrev Inv-loop : tie.InvT-loop
-Inv-loop rows p mode n src x size w c₀ i₀ c i = (i ≤ size) × (length c ≡ length c₀) × Numbered (stepNumber (decode rows p mode n) (sourceIn src) x size c₀) i c₀ c
+Inv-loop rows p mode n src x size w c₀ i₀ c i =
+    (i ≤ size) × (length c ≡ length c₀) × Numbered (stepNumber (decode rows p mode n) (sourceIn src) x size c₀) i c₀ c
 
 abbrev μ-loop : tie.MeasureT-loop
 μ-loop rows p mode n src x size w c₀ i₀ c i = size - i

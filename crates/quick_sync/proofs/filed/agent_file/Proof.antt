@@ -1,0 +1,15 @@
+use Rattle.quick_sync.specs.Filed.{agentFile}
+use mathlib.Core.Path.{refl}
+use native.Mathlib.Omega.{arith}
+use Rattle.quick_sync.proofs.filed.agent_file.Statement.{statement}
+use Rattle.quick_sync.proofs.filed.agent_file.Tie as tie
+use Rattle.quick_sync.proofs.filed.agent_file.Reads as reads
+use Rattle.quick_sync.proofs.filed.agent_file.Lts as lts
+
+-- src/filed.rt:25:1
+returns : tie.Need-returns
+unfolding agentFile
+returns c = (refl, omega arith)
+
+pub agent-file-spec : {M : Type 1} → statement M
+agent-file-spec = tie.close (tie.spec returns)

@@ -1,0 +1,15 @@
+use Rattle.quick_sync.specs.Filed.{startFile}
+use mathlib.Core.Path.{refl}
+use native.Mathlib.Omega.{arith}
+use Rattle.quick_sync.proofs.filed.start_file.Statement.{statement}
+use Rattle.quick_sync.proofs.filed.start_file.Tie as tie
+use Rattle.quick_sync.proofs.filed.start_file.Reads as reads
+use Rattle.quick_sync.proofs.filed.start_file.Lts as lts
+
+-- src/filed.rt:18:1
+returns : tie.Need-returns
+unfolding startFile
+returns c = (refl, omega arith)
+
+pub start-file-spec : {M : Type 1} → statement M
+start-file-spec = tie.close (tie.spec returns)

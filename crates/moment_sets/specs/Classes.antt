@@ -162,12 +162,12 @@ holding-at bs s x r b e f =
     let z : (3 * x + 1) % 3 ≡ 1 = omega arith in
     rw (q, z, ← e) f
 
-pub releases-at : (bs : List ℕ) (x : ℕ) (r : Row) (b : Bool) → r ≡ rowOf bs x → b ≡ releases r → b ≡ releasesAt bs (3 * x + 1)
+pub releases-at : (bs : List ℕ) (x : ℕ) (b : Bool) → b ≡ releases (rowOf bs x) → b ≡ releasesAt bs (3 * x + 1)
 unfolding releasesAt _and_
-releases-at bs x r b e f =
+releases-at bs x b e =
     let q : (3 * x + 1) / 3 ≡ x = omega arith in
     let z : (3 * x + 1) % 3 ≡ 1 = omega arith in
-    rw (z, q, ← e) f
+    rw (z, q) e
 
 pub holding-only : (bs : List ℕ) (s m : ℕ) → holdingAt bs s m ≡ true → part m ≡ AT
 unfolding holdingAt holdingOf

@@ -21,7 +21,8 @@ fn releases_at(rows: &[u8], x: usize) -> bool
     requires { ⌜ x < ROWS ⌝ }
     ensures { λ b. ⌜ b ≡ releasesAt (now (rows .entry)) (3 * x + 1) ⌝ }
 {
-    rows::kinds::releases(rows::bytes::read_row(rows, x as u16))
+    let o = rows::bytes::row_byte(rows, x as u16, 2);
+    (o == rows::kinds::RELEASE) | (o == rows::kinds::BOTH)
 }
 
 // The own moments of release rows.

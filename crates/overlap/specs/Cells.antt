@@ -3,7 +3,7 @@ use mathlib.Core.Path.{_≡_, refl, sym, ap, _∙_}
 use mathlib.Core.Bool.{Bool, true, false}
 use mathlib.Core.List.{List}
 use mathlib.Core.Logic.{_⊎_, inl, inr, ⊎-elim}
-use Prim.Native.Nat.{ℕ, _+_, _*_, _/_, _%_, _≤_, _<_}
+use Prim.Native.Nat.{ℕ, _+_, _-_, _*_, _/_, _%_, _≤_, _<_}
 use native.Mathlib.Omega.{arith}
 use native.Mathlib.Decide.{decLt, ℕ-discrete}
 use lib.ListN.{length}
@@ -33,9 +33,9 @@ cell b = b / LONGEST % COUNT
 abbrev pub cellBit : ℕ → ℕ → ℕ
 cellBit c y = (CELLS + c * GRID) * 64 + y
 
--- a row is put into cell c: it has bytes, and the cell is that of its start or its end, or it has more bytes than a cell
+-- a row is put into cell c: it has bytes, and the cell is that of its first or its last byte, or it has more bytes than a cell
 abbrev pub InCell : Row → ℕ → Type 0
-InCell r c = (0 < r .size) × (c < COUNT) × ((LONGEST < r .size) ⊎ ((c ≡ cell (r .start)) ⊎ (c ≡ cell (r .start + r .size))))
+InCell r c = (0 < r .size) × (c < COUNT) × ((LONGEST < r .size) ⊎ ((c ≡ cell (r .start)) ⊎ (c ≡ cell (r .start + r .size - 1))))
 
 -- row y was put into the cells that p tells, and no bit was turned off
 pub record Added (y : ℕ) (p : ℕ → Type 0) (w u : List ℕ) : Type 0 where
@@ -60,13 +60,13 @@ touch-cell r b e = go (inside-out (r .start) (r .size) b e) (decLt LONGEST (r .s
   where
     go : (r .start ≤ b) × (b < r .start + r .size) → Dec (LONGEST < r .size) → Dec (b / LONGEST ≡ r .start / LONGEST)
         → (0 < r .size) × (b / LONGEST % COUNT < COUNT)
-        × ((LONGEST < r .size) ⊎ ((b / LONGEST % COUNT ≡ r .start / LONGEST % COUNT) ⊎ (b / LONGEST % COUNT ≡ (r .start + r .size) / LONGEST % COUNT)))
+        × ((LONGEST < r .size) ⊎ ((b / LONGEST % COUNT ≡ r .start / LONGEST % COUNT) ⊎ (b / LONGEST % COUNT ≡ (r .start + r .size - 1) / LONGEST % COUNT)))
     go h (yes l) d = let p = h .0 in let q = h .1 in (omega arith, omega arith, inl l)
     go h (no l) (yes s) = let p = h .0 in let q = h .1 in (omega arith, omega arith, inr (inl (ap (λ (z : ℕ). z % COUNT) s)))
     go h (no l) (no s) =
         let p = h .0 in
         let q = h .1 in
-        let f : b / LONGEST ≡ (r .start + r .size) / LONGEST = omega arith in
+        let f : b / LONGEST ≡ (r .start + r .size - 1) / LONGEST = omega arith in
         (omega arith, omega arith, inr (inr (ap (λ (z : ℕ). z % COUNT) f)))
 
 -- ---- laws: rows that share a byte
@@ -74,7 +74,7 @@ touch-cell r b e = go (inside-out (r .start) (r .size) b e) (decLt LONGEST (r .s
 module _ (bs : List ℕ) (n : ℕ) (w : List ℕ) (held : Celled bs n w) (x y : ℕ) (r : Row) (er : r ≡ rowOf bs x) where
   -- row y is in one of the two cells of row x
   near : r .size ≤ LONGEST → y < n → sharing bs x y ≡ true
-      → either w (CELLS + cell (r .start) * GRID) (CELLS + cell (r .start + r .size) * GRID) y ≡ true
+      → either w (CELLS + cell (r .start) * GRID) (CELLS + cell (r .start + r .size - 1) * GRID) y ≡ true
   unfolding sharing either
   near s l e =
       let o = overlap-is (rowOf bs x) (rowOf bs y) .0 e in
@@ -89,14 +89,14 @@ module _ (bs : List ℕ) (n : ℕ) (w : List ℕ) (held : Celled bs n w) (x y : 
       start : {c : ℕ} → c ≡ cell (rowOf bs x .start) → c ≡ cell (r .start)
       start d = rw er d
 
-      end : {c : ℕ} → c ≡ cell (rowOf bs x .start + rowOf bs x .size) → c ≡ cell (r .start + r .size)
+      end : {c : ℕ} → c ≡ cell (rowOf bs x .start + rowOf bs x .size - 1) → c ≡ cell (r .start + r .size - 1)
       end d = rw er d
 
       at : {c d : ℕ} → c ≡ d → bit w (cellBit c y) ≡ true → bit w (cellBit d y) ≡ true
       at d e = rw (← d) e
 
   -- so a row that is in neither shares no byte
-  pub far : {a b : ℕ} → a ≡ CELLS + cell (r .start) * GRID → b ≡ CELLS + cell (r .start + r .size) * GRID → r .size ≤ LONGEST → y < n
+  pub far : {a b : ℕ} → a ≡ CELLS + cell (r .start) * GRID → b ≡ CELLS + cell (r .start + r .size - 1) * GRID → r .size ≤ LONGEST → y < n
       → either w a b y ≡ false → sharing bs x y ≡ false
   far p q s l e = not-so _ (λ t. not-both (near s l t) (rw (p, q) at e))
 
@@ -136,9 +136,9 @@ pub bare-cell : {r q : Row} {c : ℕ} → r ≡ q → r .size ≡ 0 → InCell q
 bare-cell e z h = let k = ap (λ (y : Row). y .size) e in let l = h .0 in omega arith
 
 -- a row of at most a cell's bytes is in two
-pub two-cells : {r q : Row} {a b c : ℕ} → r ≡ q → r .size ≤ LONGEST → a ≡ cell (r .start) → b ≡ cell (r .start + r .size) → InCell q c → ((c ≡ a) ⊎ (c ≡ b))
+pub two-cells : {r q : Row} {a b c : ℕ} → r ≡ q → r .size ≤ LONGEST → a ≡ cell (r .start) → b ≡ cell (r .start + r .size - 1) → InCell q c → ((c ≡ a) ⊎ (c ≡ b))
 two-cells {r} {q} {a} {b} {c} e s f g h =
-    ⊎-elim (λ w. absurd (wide w)) (λ d. ⊎-elim (λ k. inl (k ∙ ap (λ (y : Row). cell (y .start)) (sym e) ∙ sym f)) (λ k. inr (k ∙ ap (λ (y : Row). cell (y .start + y .size)) (sym e) ∙ sym g)) d)
+    ⊎-elim (λ w. absurd (wide w)) (λ d. ⊎-elim (λ k. inl (k ∙ ap (λ (y : Row). cell (y .start)) (sym e) ∙ sym f)) (λ k. inr (k ∙ ap (λ (y : Row). cell (y .start + y .size - 1)) (sym e) ∙ sym g)) d)
     (h .2)
   where
     wide : LONGEST < q .size → ⊥

@@ -32,7 +32,7 @@ fn put_everywhere(w: &mut [u64], y: usize)
     }
 }
 
-// Puts row y into the cells that it has bytes in. A row of at most 16 bytes has them in the cells of its start and of its end; a longer one,
+// Puts row y into the cells that it has bytes in. A row of at most 16 bytes has them in the cells of its first and of its last; a longer one,
 // which no table has that is admitted, goes into all.
 fn put_row(rows: &[u8], y: usize, w: &mut [u64])
     requires { ⌜ (y < ROWS) × (WORK ≤ length (now w)) ⌝ }
@@ -48,7 +48,7 @@ fn put_row(rows: &[u8], y: usize, w: &mut [u64])
     }
     let start = q.start as u32;
     area::grid::put(w, area::CELLS, cell(start), y);
-    area::grid::put(w, area::CELLS, cell(start + (q.size as u32)), y);
+    area::grid::put(w, area::CELLS, cell(start + (q.size as u32) - 1), y);
 }
 
 // The rows of each cell, of n rows.

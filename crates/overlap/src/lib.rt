@@ -48,7 +48,7 @@ fn ask_near(rows: &[u8], n: usize, x: usize, r: Row, w: &mut [u64])
 {
     let start = r.start as u32;
     let a = area::CELLS + cells::cell(start) * area::GRID;
-    let b = area::CELLS + cells::cell(start + (r.size as u32)) * area::GRID;
+    let b = area::CELLS + cells::cell(start + (r.size as u32) - 1) * area::GRID;
     let mut y = walk::next(w, a, b, 0, n);
     while y < n {
         let s = shares(rows, x, r, y);

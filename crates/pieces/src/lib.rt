@@ -2,8 +2,9 @@
 // two of which the second is empty. Every entry point is opened here.
 ghost use mathlib.Core.Path.{_≡_};
 ghost use mathlib.Core.List.{_++_};
-ghost use Prim.Native.Nat.{min};
-ghost use lib.ListN.{getD};
+ghost use Prim.Native.Nat.{_+_, _≤_, min};
+ghost use lib.ListN.{length};
+ghost use lib.Seq.{paste};
 ghost use Rattle.model.specs.Table.{rowBytes};
 ghost use Rattle.pieces.specs.Pieces.{AREA, rowsBoth, countBoth, piecesFault, earlyFault, areaOf, admissionBoth, rowPart, rowPlace};
 ghost use Rattle.pieces.specs.Entry.{refusalOf, doorBoth};
@@ -63,14 +64,14 @@ pub fn early_fault(first: &[u8], second: &[u8]) -> u8
 
 // ---- the rows of both
 
-// Byte k of the rows of both.
-fn byte_both(rows: &[u8], second: &[u8], k: usize) -> u8
-    ensures { λ r. ⌜ r ≡ getD (now (rows .entry) ++ now (second .entry)) k 0 ⌝ }
+// Puts the first n bytes of s into t, from byte `at` on. No test in the loop, so that it can compile to a block copy.
+fn put(t: &mut [u8], at: usize, s: &[u8], n: usize)
+    requires { ⌜ (at + n ≤ length (now t)) × (n ≤ length (now s)) ⌝ }
+    ensures { λ _. ⌜ now (t .exit) ≡ paste (now (t .entry)) at (now (s .entry)) n ⌝ }
 {
-    if k < rows.len() {
-        return rows[k];
+    for k in 0..n {
+        t[at + k] = s[k];
     }
-    bytes::byte_at(second, k - rows.len())
 }
 
 // So many bytes, or all that there may be.
@@ -86,11 +87,10 @@ pub fn join_rows(first: &[u8], second: &[u8]) -> [u8; AREA]
 {
     let rows = bytes::row_bytes(first);
     let mut all = [0u8; AREA];
-    let size = rows.len() + second.len();
-    let end = at_most(size);
-    for k in 0..end {
-        all[k] = byte_both(rows, second, k);
-    }
+    let head = at_most(rows.len());
+    let end = at_most(rows.len() + second.len());
+    put(&mut all, 0, rows, head);
+    put(&mut all, head, second, end - head);
     all
 }
 

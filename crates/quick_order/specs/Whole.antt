@@ -3,13 +3,14 @@ use mathlib.Core.Path.{_≡_, refl, sym, ap, ap₂, subst, _∙_}
 use mathlib.Core.Bool.{Bool, true, false, not}
 use mathlib.Core.Logic.{_⊎_, inl, inr, ⊎-elim}
 use mathlib.Core.List.{List}
-use Prim.Native.Nat.{ℕ, _+_, _-_, _*_, _≤_, _<_}
+use Prim.Native.Nat.{ℕ, zero, suc, _+_, _-_, _*_, _≤_, _<_}
 use native.Mathlib.Nat.{eq-or-lt-of-le}
 use native.Mathlib.Omega.{arith}
 use native.Mathlib.Numerals.{add-one}
+use lib.Bits.{bitAnd, and-comm}
 use lib.Dec.{eqb, ltb, leb}
 use lib.ListN.{length}
-use borrow.Author.Tests.{lt-ltb, le-leb, lt-leb, leb-true}
+use borrow.Author.Tests.{lt-ltb, le-leb, lt-leb, leb-true, eqb-true}
 use Rattle.finite.specs.Logic.{_and_, _or_, which, bool-ext, not-both, not-so, or-cases, or-left, or-right, or-off, and-true, and-false-left, split, and-on}
 use Rattle.finite.specs.Below.{anyBelow, any-in, any-out, any-not}
 use Rattle.bits.specs.Within.{Within, within-trans, within-widen}
@@ -18,6 +19,7 @@ use Rattle.bits.specs.Stage.{Holds, Added, holds-cong, holds-kept}
 use Rattle.model.specs.declared.Mode.{Mode}
 use Rattle.model.specs.declared.Row.{Row}
 use Rattle.model.specs.Limits.{ROWS, WORK, CLASS-SETS}
+use Rattle.model.specs.Row.{holds}
 use Rattle.model.specs.Table.{Table, rowOf, dependency, dependsOf, decode}
 use Rattle.model.specs.Moment.{programOrder}
 use Rattle.model.specs.Happens.{holding, interThread, live, interThreadBy, happens}
@@ -27,7 +29,7 @@ use Rattle.area.specs.Synced.{Synced, synced-kept}
 use Rattle.order.specs.Sets.{interBy}
 use Rattle.sets.specs.Own.{ClosedOwn}
 use Rattle.hubs.specs.Quiet.{inter-order}
-use Rattle.hubs.specs.Wider.{lessBy, sharedBy, covered, shared-more, covered-out}
+use Rattle.hubs.specs.Wider.{lessBy, sharedBy, covered, less-on, less-off, shared-more, covered-out}
 use Rattle.moment_sets.specs.Regions.{CLASSES, HOPS, HOPS-END, JOINED, DEPENDS, HOLD, CONCERN-END, RELEASING, TOUCHED-END}
 use Rattle.moment_sets.specs.Known.{Set, Based, Setup, rows-kept, set-kept, based-kept, setup-hops, setup-happens}
 use Rattle.moment_sets.specs.Program.{Begun, decode-rows}
@@ -232,6 +234,26 @@ pub shared-next : (b : List ℕ) (p : List (List ℕ)) (mode : Mode) (n s x c k 
     → lessBy s c k ≡ sharedBy (decode b p mode n) s (x + 1)
 shared-next b p mode n s x c k e f =
     ap₂ (lessBy s) e (f ∙ ap (λ (r : Row). r .classes) (sym (row-is b p mode n x))) ∙ shared-more (decode b p mode n) s x
+
+holds-is : (k s : ℕ) → holds k s ≡ true → bitAnd k s ≡ s
+unfolding holds
+holds-is k s e = eqb-true (bitAnd k s) s e
+
+less-same : (s k : ℕ) → lessBy s s k ≡ s
+less-same s k = ⊎-elim (λ e. sym (less-on s s k e) ∙ and-comm s k ∙ holds-is k s e) (λ e. sym (less-off s s k e)) (which (holds k s))
+
+shared-on : (t : Table) (s x d : ℕ) → sharedBy t s x ≡ s → sharedBy t s (d + x) ≡ s
+shared-on t s x zero e = let q : 0 + x ≡ x = omega arith in ap (sharedBy t s) q ∙ e
+shared-on t s x (suc d) e =
+    let q : suc d + x ≡ (d + x) + 1 = omega arith in
+    let k = t .row (d + x) .classes in
+    ap (sharedBy t s) q ∙ sym (shared-more t s (d + x)) ∙ ap (λ (c : ℕ). lessBy s c k) (shared-on t s x d e) ∙ less-same s k
+
+-- once only s is left, no row takes more away
+pub shared-stays : (t : Table) (s x n c : ℕ) → x ≤ n → c ≡ sharedBy t s x → c ≡ s → c ≡ sharedBy t s n
+shared-stays t s x n c l e q =
+    let m : (n - x) + x ≡ n = omega (arith, l) in
+    q ∙ sym (shared-on t s x (n - x) (sym e ∙ q)) ∙ ap (sharedBy t s) m
 
 pub covered-is : (b : List ℕ) (p : List (List ℕ)) (mode : Mode) (n s c : ℕ) (l : Bool) → c ≡ sharedBy (decode b p mode n) s n → l ≡ live (decode b p mode n) c
     → (not (eqb c s) and l) ≡ covered (decode b p mode n) s

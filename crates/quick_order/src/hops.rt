@@ -21,7 +21,8 @@ fn acquires_at(rows: &[u8], x: usize, h: bool) -> bool
     if !h {
         return false;
     }
-    rows::kinds::acquires(rows::bytes::read_row(rows, x as u16))
+    let o = rows::bytes::row_byte(rows, x as u16, 2);
+    (o == rows::kinds::ACQUIRE) | (o == rows::kinds::BOTH)
 }
 
 // The hops of row x, whose words are clear: case 1 where h, case 2 where k, case 3 where a, case 4 where d.

@@ -43,13 +43,16 @@ fn less_by(s: u8, c: u8, k: u8) -> u8
     if rows::kinds::holds(k, s) { c & k } else { c }
 }
 
-// The classes that all rows have that hold all of s. The last class set has all classes.
+// The classes that all rows have that hold all of s. The last class set has all classes. Once only s is left, no row takes more away.
 fn shared_by(rows: &[u8], n: usize, s: u8) -> u8
     requires { ⌜ n ≤ ROWS ⌝ }
     ensures { λ c. ⌜ ((p : List (List ℕ)) (mode : Mode) → c ≡ sharedBy (decode (now (rows .entry)) p mode n) s n) ⌝ }
 {
     let mut c = cases::CLASS_SETS;
     for x in 0..n {
+        if c == s {
+            return c;
+        }
         c = less_by(s, c, rows::bytes::read_classes(rows, x as u16));
     }
     c

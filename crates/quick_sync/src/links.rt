@@ -8,7 +8,7 @@ ghost use Rattle.finite.specs.Below.{anyBelow};
 ghost use Rattle.bits.specs.Fill.{rowFill};
 ghost use Rattle.bits.specs.Stage.{Made};
 ghost use Rattle.model.specs.Limits.{ROWS, WORK};
-ghost use Rattle.model.specs.Row.{writes};
+ghost use Rattle.model.specs.Row.{releases, writes};
 ghost use Rattle.model.specs.Table.{rowOf, decode};
 ghost use Rattle.model.specs.Scope.{mutually};
 ghost use Rattle.model.specs.Synchronizes.{takesFrom};
@@ -20,6 +20,7 @@ ghost use Rattle.quick_sync.specs.Rows.{atomicOf};
 ghost use Rattle.quick_sync.specs.Filed.{Filed, byAgent, every};
 use crate::filed;
 use crate::meets;
+use crate::mutual;
 use crate::product;
 use crate::product::ROWS_GRID;
 use model::Mode;
@@ -42,6 +43,15 @@ pub const HANDS: usize = GETS + ROWS_GRID;
 
 // ---- from a release to the writers
 
+// Whether row a is a release, by its order alone: most rows are none, and the rest of them is not read.
+pub fn releases_at(rows: &[u8], a: usize) -> bool
+    requires { ⌜ a < ROWS ⌝ }
+    ensures { λ r. ⌜ r ≡ releases (rowOf (now (rows .entry)) a) ⌝ }
+{
+    let o = bytes::row_byte(rows, a as u16, 2);
+    (o == kinds::RELEASE) | (o == kinds::BOTH)
+}
+
 // M5: whether the release a, which is r, heads what row x carries. Most rows have another agent.
 fn heads_of(rows: &[u8], p: Places, mode: Mode, n: usize, a: usize, r: Row, x: usize) -> bool
     requires { ⌜ (x < ROWS) × (r ≡ rowOf (now rows) a) ⌝ }
@@ -61,10 +71,10 @@ fn heads_row(rows: &[u8], p: Places, mode: Mode, n: usize, a: usize, agents: &[u
     requires { ⌜ (n ≤ ROWS) × (a < n) × (WORK ≤ length (now w)) × Filed (byAgent (now rows)) every n (now agents) ⌝ }
     ensures { λ _. ⌜ now (w .exit) ≡ rowFill (released (decode (now (rows .entry)) p mode n) a) (now (w .entry)) (HEADS * 64 + a * (GRID * 64)) n ⌝ }
 {
-    let r = bytes::read_row(rows, a as u16);
-    if !kinds::releases(r) {
+    if !releases_at(rows, a) {
         return;
     }
+    let r = bytes::read_row(rows, a as u16);
     if !kinds::is_barrier(r) {
         let own = kinds::is_atomic(r);
         area::grid::put_if(w, HEADS, a, a, own);
@@ -113,8 +123,7 @@ fn takes_row(rows: &[u8], p: Places, mode: Mode, n: usize, x: usize, w: &mut [u6
     requires { ⌜ (n ≤ ROWS) × (x < n) × (WORK ≤ length (now w)) × Sequenced (decode (now rows) p mode n) n (now w) ⌝ }
     ensures { λ _. ⌜ now (w .exit) ≡ rowFill (takesFrom (decode (now (rows .entry)) p mode n) x) (now (w .entry)) (TAKES * 64 + x * (GRID * 64)) n ⌝ }
 {
-    let r = bytes::read_row(rows, x as u16);
-    if !kinds::writes(r) {
+    if !mutual::writes_at(rows, x) {
         return;
     }
     let at = area::MUTUAL + x * area::GRID;
@@ -157,10 +166,10 @@ fn gets_row(rows: &[u8], p: Places, mode: Mode, n: usize, y: usize, agents: &[u6
     requires { ⌜ (n ≤ ROWS) × (y < n) × (WORK ≤ length (now w)) × Filed (byAgent (now rows)) every n (now agents) ⌝ }
     ensures { λ _. ⌜ now (w .exit) ≡ rowFill (gotten (decode (now (rows .entry)) p mode n) y) (now (w .entry)) (GETS * 64 + y * (GRID * 64)) n ⌝ }
 {
-    let q = bytes::read_row(rows, y as u16);
-    if !(kinds::is_atomic(q) & kinds::reads(q)) {
+    if !(mutual::atomic_at(rows, y) & mutual::reads_at(rows, y)) {
         return;
     }
+    let q = bytes::read_row(rows, y as u16);
     let at = filed::agent_file(q.agent) * area::GRID;
     let mut b = walk::next(agents, at, at, y, n);
     while b < n {

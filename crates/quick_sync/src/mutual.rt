@@ -6,7 +6,7 @@ ghost use lib.ListN.{length};
 ghost use Rattle.bits.specs.Fill.{rowFill};
 ghost use Rattle.bits.specs.Stage.{Holds, Made};
 ghost use Rattle.model.specs.Limits.{ROWS, WORK};
-ghost use Rattle.model.specs.Row.{writes};
+ghost use Rattle.model.specs.Row.{atomic, reads, writes};
 ghost use Rattle.model.specs.Table.{rowOf, decode};
 ghost use Rattle.model.specs.Scope.{mutually};
 ghost use Rattle.model.specs.Synchronizes.{sequence};
@@ -24,6 +24,32 @@ use rows::bytes;
 use rows::kinds;
 use rows::scopes;
 use sets::walk;
+
+// ---- what a row's kind alone says of it: most rows are asked no more
+
+pub fn atomic_at(rows: &[u8], i: usize) -> bool
+    requires { ⌜ i < ROWS ⌝ }
+    ensures { λ b. ⌜ b ≡ atomic (rowOf (now (rows .entry)) i) ⌝ }
+{
+    let k = bytes::read_kind(rows, i as u16);
+    (kinds::ATOMIC_READ <= k) & (k <= kinds::RMW)
+}
+
+pub fn reads_at(rows: &[u8], i: usize) -> bool
+    requires { ⌜ i < ROWS ⌝ }
+    ensures { λ b. ⌜ b ≡ reads (rowOf (now (rows .entry)) i) ⌝ }
+{
+    let k = bytes::read_kind(rows, i as u16);
+    (k == kinds::PLAIN_READ) | (k == kinds::ATOMIC_READ) | (k == kinds::RMW)
+}
+
+pub fn writes_at(rows: &[u8], i: usize) -> bool
+    requires { ⌜ i < ROWS ⌝ }
+    ensures { λ b. ⌜ b ≡ writes (rowOf (now (rows .entry)) i) ⌝ }
+{
+    let k = bytes::read_kind(rows, i as u16);
+    (k == kinds::PLAIN_WRITE) | (k == kinds::ATOMIC_WRITE) | (k == kinds::RMW)
+}
 
 // ---- M3
 
@@ -53,10 +79,10 @@ fn mutual_row(rows: &[u8], p: Places, mode: Mode, n: usize, i: usize, starts: &[
     ensures { λ _. ⌜ Pairs (mutually (decode (now (rows .entry)) p mode n)) n ((i + 1) * ROWS) (now (w .exit))
         × Within MUTUAL MUTUAL-END (now (w .entry)) (now (w .exit)) ⌝ }
 {
-    let r = bytes::read_row(rows, i as u16);
-    if !kinds::is_atomic(r) {
+    if !atomic_at(rows, i) {
         return;
     }
+    let r = bytes::read_row(rows, i as u16);
     let at = filed::start_file(r.start) * area::GRID;
     let mut j = walk::next(starts, at, at, i + 1, n);
     while j < n {
@@ -166,11 +192,11 @@ fn sequence_row(rows: &[u8], p: Places, mode: Mode, n: usize, a: usize, w: &mut 
     requires { ⌜ (n ≤ ROWS) × (a < n) × (WORK ≤ length (now w)) × Holds MUTUAL GRID n (mutually (decode (now rows) p mode n)) (now w) ⌝ }
     ensures { λ _. ⌜ now (w .exit) ≡ rowFill (sequence (decode (now (rows .entry)) p mode n) a) (now (w .entry)) (SEQUENCE * 64 + a * (GRID * 64)) n ⌝ }
 {
-    let h = bytes::read_row(rows, a as u16);
-    if !kinds::writes(h) {
+    if !writes_at(rows, a) {
         area::grid::put(w, area::SEQUENCE, a, a);
         return;
     }
+    let h = bytes::read_row(rows, a as u16);
     let first = first_break(rows, p, mode, n, a, h, w);
     let at = area::MUTUAL + a * area::GRID;
     let mut x = walk::next_or(w, at, a, 0, n);

@@ -209,8 +209,7 @@ fn sync_row(rows: &[u8], p: &[[u16; 4]], mode: Mode, n: usize, level: u16, a: us
     requires { ⌜ (n ≤ ROWS) × (a < n) × (WORK ≤ length (now w)) × Level (now rows) n level × Turn (now rows) (now p) mode n a (now w) ⌝ }
     ensures { λ _. ⌜ Turn (now (rows .entry)) (now (p .entry)) mode n (a + 1) (now (w .exit)) × Within SYNC UNKNOWN-END (now (w .entry)) (now (w .exit)) ⌝ }
 {
-    let r = bytes::read_row(rows, a as u16);
-    if !kinds::releases(r) {
+    if !links::releases_at(rows, a) {
         return;
     }
     let links = links::LINKS + a * area::GRID;
@@ -218,6 +217,7 @@ fn sync_row(rows: &[u8], p: &[[u16; 4]], mode: Mode, n: usize, level: u16, a: us
     if n <= walk::next(w, links, passed, 0, n) {
         return;
     }
+    let r = bytes::read_row(rows, a as u16);
     sync_release(rows, p, mode, n, level, a, r, w);
 }
 

@@ -22,7 +22,7 @@ use Rattle.sets.proofs.walk.next.Reads as next-reads
 abbrev Inv-loop : tie.InvT-loop
 Inv-loop rows n x r w₀ start a b y₀ w y =
     (y ≤ n) × (length w ≡ length w₀) × Celled rows n w × (r ≡ rowOf rows x) × (0 < r .size) × (a ≡ CELLS + cell (r .start) * GRID)
-    × (b ≡ CELLS + cell (r .start + r .size) * GRID) × (cell (r .start) < COUNT) × (cell (r .start + r .size) < COUNT)
+    × (b ≡ CELLS + cell (r .start + r .size - 1) * GRID) × (cell (r .start) < COUNT) × (cell (r .start + r .size - 1) < COUNT)
     × (w ≡ rowFill (sharing rows x) w₀ (OVERLAP * 64 + x * (GRID * 64)) y)
 
 abbrev μ-loop : tie.MeasureT-loop
@@ -51,6 +51,10 @@ cast-cell c = search needs
 -- src/lib.rt:44:39
 add-cell : tie.Need-add-cell Inv-loop μ-loop
 add-cell c = search needs
+
+-- src/lib.rt:51:41
+sub-cell : tie.Need-sub-cell Inv-loop μ-loop
+sub-cell c = search needs
 
 -- src/lib.rt:44:27
 cell-requires-2 : tie.Need-cell-requires-2 Inv-loop μ-loop
@@ -150,6 +154,7 @@ ask-near-spec =
     add-a
     cast-cell
     add-cell
+    sub-cell
     cell-requires-2
     mul-b
     add-b

@@ -56,6 +56,10 @@ cast-cell c = search needs
 add-cell : tie.Need-add-cell
 add-cell c = search needs
 
+-- src/cells.rt:51:36
+sub-cell : tie.Need-sub-cell
+sub-cell c = search needs
+
 -- src/cells.rt:51:37
 cell-requires-2 : tie.Need-cell-requires-2
 cell-requires-2 c κs = search needs
@@ -93,6 +97,7 @@ put-row-spec =
     put-requires
     cast-cell
     add-cell
+    sub-cell
     cell-requires-2
     put-requires-2
     same-length-2

@@ -1,3 +1,5 @@
+use mathlib.Core.Path.{sym}
+use Rattle.model.specs.Row.{atomic, reads as rowReads}
 use mathlib.Core.Path.{_≡_, refl, ap, _∙_}
 use Prim.Native.Nat.{_+_, _-_, _*_, _≤_}
 use native.Mathlib.Omega.{arith}
@@ -22,8 +24,8 @@ use Rattle.area.proofs.grid.put_if.Reads as put-if-reads
 use Rattle.quick_sync.proofs.filed.agent_file.Reads as agent-file-reads
 use Rattle.quick_sync.proofs.links.gets_of.Reads as gets-of-reads
 use Rattle.rows.proofs.bytes.read_row.Reads as read-row-reads
-use Rattle.rows.proofs.kinds.is_atomic.Reads as is-atomic-reads
-use Rattle.rows.proofs.kinds.reads.Reads as reads-reads
+use Rattle.quick_sync.proofs.mutual.atomic_at.Reads as atomic-at-reads
+use Rattle.quick_sync.proofs.mutual.reads_at.Reads as reads-at-reads
 use Rattle.sets.proofs.walk.next.Reads as next-reads
 
 abbrev Inv-loop : tie.InvT-loop
@@ -34,6 +36,17 @@ Inv-loop rows p mode n y agents w₀ q at b₀ w b =
 abbrev μ-loop : tie.MeasureT-loop
 μ-loop rows p mode n y agents w₀ q at b₀ w b = n - b
 
+atomic-at-requires : tie.Need-atomic-at-requires Inv-loop μ-loop
+atomic-at-requires c κs = search needs
+
+reads-at-requires : tie.Need-reads-at-requires Inv-loop μ-loop
+reads-at-requires c κs = search needs
+
+-- src/links.rt:175:9
+returns : tie.Need-returns Inv-loop μ-loop
+unfolding _and_
+returns c = row-off _ _ _ _ (λ m l. gotten-none _ _ _ _ _ _ _ _ refl (c .before .before .atomic-at .ensures) (c .before .reads-at .ensures) (c .if1 .taken) m)
+
 -- src/links.rt:173:35
 cast-read-row : tie.Need-cast-read-row Inv-loop μ-loop
 cast-read-row c = search needs
@@ -41,19 +54,6 @@ cast-read-row c = search needs
 -- src/links.rt:173:9
 read-row-requires : tie.Need-read-row-requires Inv-loop μ-loop
 read-row-requires c κs = search needs
-
--- src/links.rt:174:10
-is-atomic-requires : tie.Need-is-atomic-requires Inv-loop μ-loop
-is-atomic-requires c κs = search needs
-
--- src/links.rt:174:32
-reads-requires : tie.Need-reads-requires Inv-loop μ-loop
-reads-requires c κs = search needs
-
--- src/links.rt:175:9
-returns : tie.Need-returns Inv-loop μ-loop
-unfolding _and_
-returns c = row-off _ _ _ _ (λ m l. gotten-none _ _ _ _ _ _ _ _ (c .before .before .before .read-row .ensures) (c .before .before .is-atomic .ensures) (c .before .reads .ensures) (c .if1 .taken) m)
 
 -- src/links.rt:177:14
 agent-file-requires : tie.Need-agent-file-requires Inv-loop μ-loop
@@ -71,7 +71,7 @@ next-requires c κs = search needs
 loop-holds : tie.Need-loop-holds Inv-loop μ-loop
 loop-holds c =
     let pre = c .before .before .before .before .before .before .before .before .before .pre in
-    let row = c .before .before .before .before .before .read-row .ensures in
+    let row = c .before .before .read-row .ensures in
     let file = c .before .agent-file .ensures in
     let at = ap (λ (z : ℕ). z * GRID) (file .0) in
     let next = c .next .ensures in
@@ -112,7 +112,7 @@ loop-again c =
     let put = c .before .before .before .put-if in
     let inv = c .before .before .before .before .before .before .before .loop .inv in
     let next = c .next2 .ensures in
-    let d = gotten-on _ _ _ _ _ _ _ _ _ _ (inv .2) (c .before .before .before .before .before .before .before .before .before .before .before .before .is-atomic .ensures) (c .before .before .before .before .before .before .before .before .before .before .before .reads .ensures) (c .before .before .before .before .before .before .before .before .before .before .if1 .left) (c .before .before .before .before .before .gets-of .ensures) in
+    let d = gotten-on _ _ _ _ _ _ _ _ _ _ (inv .2) (c .before .before .before .before .before .before .before .before .before .before .before .before .before .atomic-at .ensures ∙ sym (ap atomic (inv .2))) (c .before .before .before .before .before .before .before .before .before .before .before .before .reads-at .ensures ∙ sym (ap rowReads (inv .2))) (c .before .before .before .before .before .before .before .before .before .before .before .if1 .left) (c .before .before .before .before .before .gets-of .ensures) in
     let e = rowFill-put _ _ _ (put .last .0) _ _ _ _ (inv .6) d (omega arith) (put .ensures) in (
       next .high,
       ap length e ∙ length-rowFill _ _ _ _,
@@ -137,11 +137,11 @@ gets-row-spec =
     (tie.spec
     Inv-loop
     μ-loop
+    atomic-at-requires
+    reads-at-requires
+    returns
     cast-read-row
     read-row-requires
-    is-atomic-requires
-    reads-requires
-    returns
     agent-file-requires
     mul-at
     next-requires

@@ -1,4 +1,5 @@
-use mathlib.Core.Path.{_≡_, refl, ap, _∙_}
+use Rattle.model.specs.Row.{releases}
+use mathlib.Core.Path.{_≡_, refl, sym, ap, _∙_}
 use Prim.Native.Nat.{_+_, _-_, _*_, _≤_}
 use native.Mathlib.Omega.{arith}
 use lib.ListN.{length}
@@ -23,7 +24,7 @@ use Rattle.quick_sync.proofs.links.heads_of.Reads as heads-of-reads
 use Rattle.rows.proofs.bytes.read_row.Reads as read-row-reads
 use Rattle.rows.proofs.kinds.is_atomic.Reads as is-atomic-reads
 use Rattle.rows.proofs.kinds.is_barrier.Reads as is-barrier-reads
-use Rattle.rows.proofs.kinds.releases.Reads as releases-reads
+use Rattle.quick_sync.proofs.links.releases_at.Reads as releases-at-reads
 use Rattle.sets.proofs.walk.next.Reads as next-reads
 
 abbrev Inv-loop : tie.InvT-loop
@@ -34,6 +35,13 @@ Inv-loop rows p mode n a agents w₀ r at x₀ w x =
 abbrev μ-loop : tie.MeasureT-loop
 μ-loop rows p mode n a agents w₀ r at x₀ w x = n - x
 
+releases-at-requires : tie.Need-releases-at-requires Inv-loop μ-loop
+releases-at-requires c κs = search needs
+
+-- src/links.rt:72:9
+returns : tie.Need-returns Inv-loop μ-loop
+returns c = row-off _ _ _ _ (λ m l. released-none _ _ _ _ _ _ _ refl (c .before .releases-at .ensures) (c .if1 .taken) m)
+
 -- src/links.rt:70:35
 cast-read-row : tie.Need-cast-read-row Inv-loop μ-loop
 cast-read-row c = search needs
@@ -41,14 +49,6 @@ cast-read-row c = search needs
 -- src/links.rt:70:9
 read-row-requires : tie.Need-read-row-requires Inv-loop μ-loop
 read-row-requires c κs = search needs
-
--- src/links.rt:71:9
-releases-requires : tie.Need-releases-requires Inv-loop μ-loop
-releases-requires c κs = search needs
-
--- src/links.rt:72:9
-returns : tie.Need-returns Inv-loop μ-loop
-returns c = row-off _ _ _ _ (λ m l. released-none _ _ _ _ _ _ _ (c .before .before .read-row .ensures) (c .before .releases .ensures) (c .if1 .taken) m)
 
 -- src/links.rt:74:9
 is-barrier-requires : tie.Need-is-barrier-requires Inv-loop μ-loop
@@ -70,9 +70,11 @@ same-length c = search needs
 returns-2 : tie.Need-returns-2 Inv-loop μ-loop
 returns-2 c =
     let put = c .before .before .put-if in
+    let row = c .before .before .before .before .before .before .before .read-row .ensures in
+    let release = c .before .before .before .before .before .before .before .before .before .releases-at .ensures ∙ sym (ap releases row) in
     put .ensures
     ∙ row-one-if _ _ _ _ _ _ _ (c .before .before .before .before .before .before .before .before .before .before .before .before .before .pre .1) (omega arith)
-    (λ m l. released-own _ _ _ _ _ _ _ _ _ (c .before .before .before .before .before .before .before .before .before .read-row .ensures) (c .before .before .before .before .before .before .before .before .releases .ensures) (c .before .before .before .before .before .before .before .if1 .left) (c .before .before .before .before .before .before .is-barrier .ensures) (c .before .before .before .before .before .if2 .taken) (c .before .before .before .before .is-atomic .ensures) m)
+    (λ m l. released-own _ _ _ _ _ _ _ _ _ row release (c .before .before .before .before .before .before .before .before .if1 .left) (c .before .before .before .before .before .before .is-barrier .ensures) (c .before .before .before .before .before .if2 .taken) (c .before .before .before .before .is-atomic .ensures) m)
 
 -- src/links.rt:79:14
 agent-file-requires : tie.Need-agent-file-requires Inv-loop μ-loop
@@ -90,7 +92,7 @@ next-requires c κs = search needs
 loop-holds : tie.Need-loop-holds Inv-loop μ-loop
 loop-holds c =
     let pre = c .before .before .before .before .before .before .before .before .before .before .pre in
-    let row = c .before .before .before .before .before .before .read-row .ensures in
+    let row = c .before .before .before .before .read-row .ensures in
     let file = c .before .agent-file .ensures in
     let at = ap (λ (z : ℕ). z * GRID) (file .0) in
     let next = c .next .ensures in
@@ -130,7 +132,7 @@ loop-again c =
     let put = c .before .before .before .put-if2 in
     let inv = c .before .before .before .before .before .before .before .loop .inv in
     let next = c .next2 .ensures in
-    let d = released-on _ _ _ _ _ _ _ _ _ (inv .2) (c .before .before .before .before .before .before .before .before .before .before .before .before .before .releases .ensures) (c .before .before .before .before .before .before .before .before .before .before .before .before .if1 .left) (c .before .before .before .before .before .heads-of .ensures) in
+    let d = released-on _ _ _ _ _ _ _ _ _ (inv .2) (c .before .before .before .before .before .before .before .before .before .before .before .before .before .before .releases-at .ensures ∙ sym (ap releases (inv .2))) (c .before .before .before .before .before .before .before .before .before .before .before .before .before .if1 .left) (c .before .before .before .before .before .heads-of .ensures) in
     let e = rowFill-put _ _ _ (put .last .0) _ _ _ _ (inv .6) d (omega arith) (put .ensures) in (
       next .high,
       ap length e ∙ length-rowFill _ _ _ _,
@@ -155,10 +157,10 @@ heads-row-spec =
     (tie.spec
     Inv-loop
     μ-loop
+    releases-at-requires
+    returns
     cast-read-row
     read-row-requires
-    releases-requires
-    returns
     is-barrier-requires
     is-atomic-requires
     put-if-requires

@@ -24,8 +24,7 @@ use Rattle.quick_sync.proofs.links.takes_row.Lts as lts
 use Rattle.area.proofs.grid.put_if.Reads as put-if-reads
 use Rattle.quick_sync.proofs.links.takes_of.Reads as takes-of-reads
 use Rattle.sets.proofs.walk.next.Reads as next-reads
-use Rattle.rows.proofs.bytes.read_row.Reads as read-row-reads
-use Rattle.rows.proofs.kinds.writes.Reads as writes-reads
+use Rattle.quick_sync.proofs.mutual.writes_at.Reads as writes-at-reads
 
 abbrev Inv-loop : tie.InvT-loop
 Inv-loop rows p mode n x w₀ at y₀ w y =
@@ -35,21 +34,12 @@ Inv-loop rows p mode n x w₀ at y₀ w y =
 abbrev μ-loop : tie.MeasureT-loop
 μ-loop rows p mode n x w₀ at y₀ w y = n - y
 
--- src/links.rt:109:35
-cast-read-row : tie.Need-cast-read-row Inv-loop μ-loop
-cast-read-row c = search needs
-
--- src/links.rt:109:9
-read-row-requires : tie.Need-read-row-requires Inv-loop μ-loop
-read-row-requires c κs = search needs
-
--- src/links.rt:110:9
-writes-requires : tie.Need-writes-requires Inv-loop μ-loop
-writes-requires c κs = search needs
+writes-at-requires : tie.Need-writes-at-requires Inv-loop μ-loop
+writes-at-requires c κs = search needs
 
 -- src/links.rt:111:9
 returns : tie.Need-returns Inv-loop μ-loop
-returns c = row-off _ _ _ _ (λ m l. takes-none _ _ _ _ _ _ _ (c .before .before .read-row .ensures) (c .before .writes .ensures) (c .if1 .taken) m)
+returns c = row-off _ _ _ _ (λ m l. takes-none _ _ _ _ _ _ _ refl (c .before .writes-at .ensures) (c .if1 .taken) m)
 
 -- src/links.rt:113:29
 mul-at : tie.Need-mul-at Inv-loop μ-loop
@@ -66,9 +56,9 @@ next-requires c κs = search needs
 -- src/links.rt:115:5
 loop-holds : tie.Need-loop-holds Inv-loop μ-loop
 loop-holds c =
-    let pre = c .before .before .before .before .before .before .before .pre in
+    let pre = c .before .before .before .before .before .before .pre in
     let next = c .next .ensures in
-    let g = sym (ap writes (c .before .before .before .before .read-row .ensures)) ∙ sym (c .before .before .before .writes .ensures) ∙ not-false _ (c .before .before .if1 .left) in
+    let g = sym (c .before .before .before .writes-at .ensures) ∙ not-false _ (c .before .before .if1 .left) in
     (next .high, refl, pre .3, g, λ l. walked (pre .3 .mutuals) _ _ (pre .1) l (next .hit l), fill-pass _ _ _ _ _ _ (next .low) (λ m l q. sym (takes-apart _ _ _ _ _ _ (walked (pre .3 .mutuals) _ _ (pre .1) (omega (arith, next .high)) (next .miss m l q)))) (rowFill-none _ _ _))
 
 -- src/links.rt:116:13
@@ -94,7 +84,7 @@ loop-less c = search needs
 -- src/links.rt:115:5
 loop-again : tie.Need-loop-again Inv-loop μ-loop
 loop-again c =
-    let pre = c .before .before .before .before .before .before .before .before .before .before .before .before .before .before .before .before .before .pre in
+    let pre = c .before .before .before .before .before .before .before .before .before .before .before .before .before .before .before .before .pre in
     let next = c .next2 .ensures in
     let put = c .before .before .before .before .put-if in
     let inv = c .before .before .before .before .before .before .before .before .before .loop .inv in
@@ -108,7 +98,7 @@ same-length c = search needs
 
 -- src/links.rt:105:1
 returns-2 : tie.Need-returns-2 Inv-loop μ-loop
-returns-2 c = let e : c .before .loop .y ≡ c .before .before .before .before .before .before .before .before .before .args .n = omega arith in rw e at (c .before .loop .inv .5)
+returns-2 c = let e : c .before .loop .y ≡ c .before .before .before .before .before .before .before .before .args .n = omega arith in rw e at (c .before .loop .inv .5)
 
 pub takes-row-spec : {M : Type 1} → statement M
 takes-row-spec =
@@ -116,9 +106,7 @@ takes-row-spec =
     (tie.spec
     Inv-loop
     μ-loop
-    cast-read-row
-    read-row-requires
-    writes-requires
+    writes-at-requires
     returns
     mul-at
     add-at

@@ -23,7 +23,7 @@ use Rattle.area.proofs.grid.put_if.Reads as put-if-reads
 use Rattle.quick_sync.proofs.filed.start_file.Reads as start-file-reads
 use Rattle.quick_sync.proofs.mutual.mutual_of.Reads as mutual-of-reads
 use Rattle.rows.proofs.bytes.read_row.Reads as read-row-reads
-use Rattle.rows.proofs.kinds.is_atomic.Reads as is-atomic-reads
+use Rattle.quick_sync.proofs.mutual.atomic_at.Reads as atomic-at-reads
 use Rattle.sets.proofs.walk.next.Reads as next-reads
 
 abbrev Inv-loop : tie.InvT-loop
@@ -35,6 +35,15 @@ Inv-loop rows p mode n i starts w₀ r at j₀ w j =
 abbrev μ-loop : tie.MeasureT-loop
 μ-loop rows p mode n i starts w₀ r at j₀ w j = n - j
 
+atomic-at-requires : tie.Need-atomic-at-requires Inv-loop μ-loop
+atomic-at-requires c κs = search needs
+
+-- src/mutual.rt:65:9
+returns : tie.Need-returns Inv-loop μ-loop
+returns c =
+    let pre = c .before .before .before .before .before .pre in
+    (pairs-plain _ _ _ _ (pre .0) _ (pre .1) _ _ refl (c .before .atomic-at .ensures) (c .if1 .taken) (pre .4), within-refl _ _ _)
+
 -- src/mutual.rt:63:35
 cast-read-row : tie.Need-cast-read-row Inv-loop μ-loop
 cast-read-row c = search needs
@@ -42,16 +51,6 @@ cast-read-row c = search needs
 -- src/mutual.rt:63:9
 read-row-requires : tie.Need-read-row-requires Inv-loop μ-loop
 read-row-requires c κs = search needs
-
--- src/mutual.rt:64:9
-is-atomic-requires : tie.Need-is-atomic-requires Inv-loop μ-loop
-is-atomic-requires c κs = search needs
-
--- src/mutual.rt:65:9
-returns : tie.Need-returns Inv-loop μ-loop
-returns c =
-    let pre = c .before .before .before .before .before .before .pre in
-    (pairs-plain _ _ _ _ (pre .0) _ (pre .1) _ _ (c .before .before .read-row .ensures) (c .before .is-atomic .ensures) (c .if1 .taken) (pre .4), within-refl _ _ _)
 
 -- src/mutual.rt:67:14
 start-file-requires : tie.Need-start-file-requires Inv-loop μ-loop
@@ -73,7 +72,7 @@ next-requires c κs = search needs
 loop-holds : tie.Need-loop-holds Inv-loop μ-loop
 loop-holds c =
     let pre = c .before .before .before .before .before .before .before .before .pre in
-    let row = c .before .before .before .before .read-row .ensures in
+    let row = c .before .before .read-row .ensures in
     let file = c .before .start-file .ensures in
     let at = ap (λ (z : ℕ). z * GRID) (file .0) in
     let next = c .next .ensures in
@@ -138,10 +137,10 @@ mutual-row-spec =
     (tie.spec
     Inv-loop
     μ-loop
+    atomic-at-requires
+    returns
     cast-read-row
     read-row-requires
-    is-atomic-requires
-    returns
     start-file-requires
     mul-at
     add-next

@@ -26,7 +26,7 @@ use Rattle.quick_sync.proofs.mutual.first_break.Reads as first-break-re
 use Rattle.quick_sync.proofs.mutual.sequence_of.Reads as sequence-of-reads
 use Rattle.sets.proofs.walk.next_or.Reads as next-or-reads
 use Rattle.rows.proofs.bytes.read_row.Reads as read-row-reads
-use Rattle.rows.proofs.kinds.writes.Reads as writes-reads
+use Rattle.quick_sync.proofs.mutual.writes_at.Reads as writes-at-reads
 
 abbrev Inv-loop : tie.InvT-loop
 Inv-loop rows p mode n a w₀ h first at x₀ w x =
@@ -37,17 +37,8 @@ Inv-loop rows p mode n a w₀ h first at x₀ w x =
 abbrev μ-loop : tie.MeasureT-loop
 μ-loop rows p mode n a w₀ h first at x₀ w x = n - x
 
--- src/mutual.rt:151:35
-cast-read-row : tie.Need-cast-read-row Inv-loop μ-loop
-cast-read-row c = search needs
-
--- src/mutual.rt:151:9
-read-row-requires : tie.Need-read-row-requires Inv-loop μ-loop
-read-row-requires c κs = search needs
-
--- src/mutual.rt:152:9
-writes-requires : tie.Need-writes-requires Inv-loop μ-loop
-writes-requires c κs = search needs
+writes-at-requires : tie.Need-writes-at-requires Inv-loop μ-loop
+writes-at-requires c κs = search needs
 
 -- src/mutual.rt:153:9
 put-requires : tie.Need-put-requires Inv-loop μ-loop
@@ -59,13 +50,22 @@ same-length c = search needs
 
 -- src/mutual.rt:154:9
 returns : tie.Need-returns Inv-loop μ-loop
-returns c = c .before .before .put .ensures ∙ row-one _ _ _ _ _ _ (c .before .before .before .before .before .before .before .before .before .pre .1) (omega arith) (λ m l. sequence-alone _ _ _ _ _ _ _ (c .before .before .before .before .before .before .read-row .ensures) (c .before .before .before .before .before .writes .ensures) (c .before .before .before .before .if1 .taken) m)
+returns c = c .before .before .put .ensures ∙ row-one _ _ _ _ _ _ (c .before .before .before .before .before .before .before .before .pre .1) (omega arith) (λ m l. sequence-alone _ _ _ _ _ _ _ refl (c .before .before .before .before .before .writes-at .ensures) (c .before .before .before .before .if1 .taken) m)
+
+-- src/mutual.rt:151:35
+cast-read-row : tie.Need-cast-read-row Inv-loop μ-loop
+cast-read-row c = search needs
+
+-- src/mutual.rt:151:9
+read-row-requires : tie.Need-read-row-requires Inv-loop μ-loop
+read-row-requires c κs = search needs
 
 -- src/mutual.rt:156:9
 first-break-requires : tie.Need-first-break-requires Inv-loop μ-loop
 first-break-requires c κs =
     let pre = c .before .before .before .before .before .before .pre in
-    (search needs, pre .1, search needs, c .before .before .before .read-row .ensures, sym (c .before .before .writes .ensures) ∙ not-false _ (c .before .if1 .left), pre .3)
+    let row = c .before .read-row .ensures in
+    (search needs, pre .1, search needs, row, ap writes row ∙ sym (c .before .before .before .writes-at .ensures) ∙ not-false _ (c .before .before .if1 .left), pre .3)
 
 -- src/mutual.rt:157:29
 mul-at : tie.Need-mul-at Inv-loop μ-loop
@@ -84,7 +84,8 @@ loop-holds : tie.Need-loop-holds Inv-loop μ-loop
 loop-holds c =
     let pre = c .before .before .before .before .before .before .before .before .before .pre in
     let next = c .next-or .ensures in
-    (next .high, refl, c .before .before .before .before .before .before .read-row .ensures, sym (c .before .before .before .before .before .writes .ensures) ∙ not-false _ (c .before .before .before .before .if1 .left), c .before .before .first-break .ensures, pre .3, λ l d. walked (pre .3) _ _ (pre .1) l (next .hit l d), fill-pass _ _ _ _ _ _ (next .low) (λ m l q. sequence-apart _ _ _ _ _ _ (next .miss m l q .1) (walked (pre .3) _ _ (pre .1) (omega (arith, next .high)) (next .miss m l q .0))) (rowFill-none _ _ _))
+    let row = c .before .before .before .before .read-row .ensures in
+    (next .high, refl, row, ap writes row ∙ sym (c .before .before .before .before .before .before .writes-at .ensures) ∙ not-false _ (c .before .before .before .before .before .if1 .left), c .before .before .first-break .ensures, pre .3, λ l d. walked (pre .3) _ _ (pre .1) l (next .hit l d), fill-pass _ _ _ _ _ _ (next .low) (λ m l q. sequence-apart _ _ _ _ _ _ (next .miss m l q .1) (walked (pre .3) _ _ (pre .1) (omega (arith, next .high)) (next .miss m l q .0))) (rowFill-none _ _ _))
 
 -- src/mutual.rt:160:13
 sequence-of-requires : tie.Need-sequence-of-requires Inv-loop μ-loop
@@ -131,12 +132,12 @@ sequence-row-spec =
     (tie.spec
     Inv-loop
     μ-loop
-    cast-read-row
-    read-row-requires
-    writes-requires
+    writes-at-requires
     put-requires
     same-length
     returns
+    cast-read-row
+    read-row-requires
     first-break-requires
     mul-at
     add-at

@@ -1,4 +1,5 @@
-use mathlib.Core.Path.{sym, _∙_}
+use Rattle.model.specs.Row.{releases}
+use mathlib.Core.Path.{refl, sym, ap, _∙_}
 use borrow.Author.Tests.{not-false}
 use Rattle.quick_sync.specs.Near.{turn-none, turn-bare}
 use borrow.Author.Needs.{needs}
@@ -9,25 +10,16 @@ use Rattle.quick_sync.proofs.sync.sync_row.Lts as lts
 use Rattle.quick_sync.proofs.sync.sync_release.Reads as sync-release-reads
 use Rattle.sets.proofs.walk.next.Reads as next-reads
 use Rattle.rows.proofs.bytes.read_row.Reads as read-row-reads
-use Rattle.rows.proofs.kinds.releases.Reads as releases-reads
+use Rattle.quick_sync.proofs.links.releases_at.Reads as releases-at-reads
 
--- src/sync.rt:194:35
-cast-read-row : tie.Need-cast-read-row
-cast-read-row c = search needs
-
--- src/sync.rt:194:9
-read-row-requires : tie.Need-read-row-requires
-read-row-requires c κs = search needs
-
--- src/sync.rt:195:9
-releases-requires : tie.Need-releases-requires
-releases-requires c κs = search needs
+releases-at-requires : tie.Need-releases-at-requires
+releases-at-requires c κs = search needs
 
 -- src/sync.rt:196:9
 returns : tie.Need-returns
 returns c =
-    let pre = c .before .before .before .before .before .pre in
-    turn-none _ _ _ _ _ (pre .0) (pre .1) _ _ (c .before .before .read-row .ensures) (c .before .releases .ensures) (c .if1 .taken) (pre .4)
+    let pre = c .before .before .before .before .pre in
+    turn-none _ _ _ _ _ (pre .0) (pre .1) _ _ refl (c .before .releases-at .ensures) (c .if1 .taken) (pre .4)
 
 -- src/sync.rt:198:32
 mul-links : tie.Need-mul-links
@@ -56,14 +48,24 @@ same-length c = search needs
 -- src/sync.rt:201:9
 returns-2 : tie.Need-returns-2
 returns-2 c =
-    let pre = c .before .before .before .before .before .before .before .before .pre in
+    let pre = c .before .before .before .before .before .before .before .pre in
     turn-bare _ _ _ _ _ (pre .0) (pre .1) _ (c .if2 .taken) (c .before .next .ensures) (pre .4)
+
+-- src/sync.rt:194:35
+cast-read-row : tie.Need-cast-read-row
+cast-read-row c = search needs
+
+-- src/sync.rt:194:9
+read-row-requires : tie.Need-read-row-requires
+read-row-requires c κs = search needs
 
 -- src/sync.rt:203:5
 sync-release-requires : tie.Need-sync-release-requires
 sync-release-requires c κs =
     let pre = c .before .before .before .before .before .before .before .before .before .pre in
-    (pre .0, pre .1, pre .2, c .before .before .before .before .before .before .read-row .ensures, sym (c .before .before .before .before .before .releases .ensures) ∙ not-false _ (c .before .before .before .before .if1 .left), pre .3, pre .4)
+    let row = c .before .read-row .ensures in
+    let release = ap releases row ∙ sym (c .before .before .before .before .before .before .releases-at .ensures) ∙ not-false _ (c .before .before .before .before .before .if1 .left) in
+    (pre .0, pre .1, pre .2, row, release, pre .3, pre .4)
 
 -- src/sync.rt:190:1
 same-length-2 : tie.Need-same-length-2
@@ -77,9 +79,7 @@ pub sync-row-spec : {M : Type 1} → statement M
 sync-row-spec =
     tie.close
     (tie.spec
-    cast-read-row
-    read-row-requires
-    releases-requires
+    releases-at-requires
     returns
     mul-links
     add-links
@@ -88,6 +88,8 @@ sync-row-spec =
     next-requires
     same-length
     returns-2
+    cast-read-row
+    read-row-requires
     sync-release-requires
     same-length-2
     returns-3)

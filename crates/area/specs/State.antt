@@ -11,7 +11,8 @@ use Rattle.model.specs.Table.{Table}
 use Rattle.model.specs.Scope.{mutually}
 use Rattle.model.specs.Happens.{happens}
 use Rattle.model.specs.Edge.{beforeNth}
-use Rattle.area.specs.Regions.{MUTUAL, HAPPENS, HAPPENS-END, STEP-END, LOCATION, LOCATION-END, LOCATED-END, OVERLAP, OVERLAP-END, CELLS, GRID, MOMENTS, PAIR, PAIRS}
+use Rattle.area.specs.Regions.{MUTUAL, HAPPENS, HAPPENS-END, STEP-END, LOCATION, LOCATION-END, LOCATED-END, OVERLAP, OVERLAP-END}
+use Rattle.area.specs.Regions.{CELLS, GRID, MOMENTS, PAIR, PAIRS}
 
 -- ---- definitions
 

@@ -127,7 +127,8 @@ module _ {n : ℕ} {w : List ℕ} where
       }
 
 -- one bit
-module _ {n : ℕ} (w : List ℕ) (x y : ℕ) (b c : Bool) {u : List ℕ} (fits : n ≤ ROWS) (room : EDGE-END ≤ length w) (l : x < n) (m : y < n) (e : u ≡ setBitIf b w (edgeBit x y))
+module _ {n : ℕ} (w : List ℕ) (x y : ℕ) (b c : Bool) {u : List ℕ} (fits : n ≤ ROWS) (room : EDGE-END ≤ length w) (l : x < n) (m : y < n)
+    (e : u ≡ setBitIf b w (edgeBit x y))
     (h : (bit w (edgeBit x y) or b) ≡ (bit w (edgeBit x y) or c)) where
   put-same : rel u EDGE GRID x y ≡ (rel w EDGE GRID x y or (eqb x x and (eqb y y and c)))
   unfolding rel _and_
@@ -139,7 +140,10 @@ module _ {n : ℕ} (w : List ℕ) (x y : ℕ) (b c : Bool) {u : List ℕ} (fits 
   put-other i j p q d f = rw e (setBitIf-other b w (edgeBit x y) (edgeBit i j) (λ k. d (omega arith) (omega arith))) ∙ sym (or-off _ _ f)
 
   edged-put : Edged n (λ i j. eqb i x and (eqb j y and c)) w u
-  edged-put = record { cell = λ i j p q. go i j p q (ℕ-discrete i x) (ℕ-discrete j y); frame = within-put EDGE EDGE-END (edgeBit x y) b (omega arith) (omega arith) e }
+  edged-put = record {
+    cell = λ i j p q. go i j p q (ℕ-discrete i x) (ℕ-discrete j y);
+    frame = within-put EDGE EDGE-END (edgeBit x y) b (omega arith) (omega arith) e;
+  }
     where
       go : (i j : ℕ) → i < n → j < n → Dec (i ≡ x) → Dec (j ≡ y) → rel u EDGE GRID i j ≡ (rel w EDGE GRID i j or (eqb i x and (eqb j y and c)))
       go i j p q (yes d) (yes f) = rw (d, f) put-same
@@ -154,7 +158,8 @@ module _ {n : ℕ} (x : ℕ) (p : ℕ → Bool) where
   row-none w = added-none EDGE EDGE-END w (λ i j k l. and-false-right _ _ (below-none j (p j)))
 
   -- a bit more: what is put is the test, or the test where the bit is not set yet
-  module _ {w₀ w u : List ℕ} (y k : ℕ) (b : Bool) (fits : n ≤ ROWS) (room : EDGE-END ≤ length w) (l : x < n) (m : y < n) (f : Edged n (fromUpto x y p) w₀ w) (q : k ≡ edgeBit x y)
+  module _ {w₀ w u : List ℕ} (y k : ℕ) (b : Bool) (fits : n ≤ ROWS) (room : EDGE-END ≤ length w) (l : x < n) (m : y < n)
+      (f : Edged n (fromUpto x y p) w₀ w) (q : k ≡ edgeBit x y)
       (e : u ≡ setBitIf b w k) where
     row-put : (bit w k or b) ≡ (bit w k or p y) → Edged n (fromUpto x (y + 1) p) w₀ u
     unfolding fromUpto
@@ -263,7 +268,9 @@ module _ (t : Table) (source : ℕ → ℕ) where
     pub source-none : (y s : ℕ) → s ≡ source y → n ≤ s → Edged n (into y (readsFrom t source)) w w
     unfolding into readsFrom
     source-none y s e l =
-        added-none EDGE EDGE-END w (λ i j k m. at-one j y _ _ (λ d. and-false-right _ _ (ne-eqb (source j) i (λ q. absurd (let f : source j ≡ s = ap source d ∙ sym e in omega arith)))) ∙ and-false-right _ _ refl)
+        added-none EDGE EDGE-END w (λ i j k m. at-one j y _ _
+        (λ d. and-false-right _ _ (ne-eqb (source j) i (λ q. absurd (let f : source j ≡ s = ap source d ∙ sym e in omega arith))))
+        ∙ and-false-right _ _ refl)
 
     pub sources-none : Edged n (intoBelow 0 (readsFrom t source)) w w
     unfolding intoBelow
@@ -289,8 +296,13 @@ module _ (t : Table) (source : ℕ → ℕ) where
       }
     where
       empty : Holds EDGE GRID n (λ i j. false) v
-      empty = record { fits = omega arith; cell = λ i j d c. rw e (bit-zeros-in w EDGE (EDGE-END - EDGE) (edgeBit i j) (omega arith) (omega arith) (omega arith)) }
+      empty = record {
+        fits = omega arith;
+        cell = λ i j d c. rw e
+            (bit-zeros-in w EDGE (EDGE-END - EDGE) (edgeBit i j) (omega arith) (omega arith) (omega arith));
+      }
 
       same : (i j : ℕ) → i < n → (false or (ltb i n and (beforeSome t i j or follows t i j or fromReads t source i j)) or readsFrom t source i j)
           ≡ (beforeSome t i j or follows t i j or readsFrom t source i j or fromReads t source i j)
-      same i j d = ap (λ (v : Bool). v or readsFrom t source i j) (or-fresh false _ refl ∙ below-all i n _ d) ∙ (or-last (beforeSome t i j) (follows t i j) (readsFrom t source i j) (fromReads t source i j))
+      same i j d = ap (λ (v : Bool). v or readsFrom t source i j) (or-fresh false _ refl ∙ below-all i n _ d)
+          ∙ (or-last (beforeSome t i j) (follows t i j) (readsFrom t source i j) (fromReads t source i j))

@@ -64,7 +64,8 @@ module _ (t : Table) (source : ℕ → ℕ) where
   -- nor where z comes before y at no byte
   pub over-apart : (y z : ℕ) → Sized t → z < t .rows → false ≡ beforeSome t z y → LONGEST ≡ overNth t source y z
   unfolding overNth overwritesNth overwrites
-  over-apart y z s l e = sym (least-off (overwritesNth t source y z) LONGEST (λ k m. and-false-right _ _ (not-so (before t z y (nth t y k)) (λ h. not-both (some-before t z y (nth t y k) (s z l) h) (sym e)))))
+  over-apart y z s l e = sym (least-off (overwritesNth t source y z) LONGEST
+      (λ k m. and-false-right _ _ (not-so (before t z y (nth t y k)) (λ h. not-both (some-before t z y (nth t y k) (s z l) h) (sym e)))))
 
   -- nor where they share no byte
   overwriting-apart : (y z : ℕ) → overlaps t y z ≡ false → overwriting t source y z ≡ false
@@ -87,7 +88,8 @@ module _ (t : Table) (source : ℕ → ℕ) where
   unfolding overWriter overwriting
   unread-none y n s r a b q e f c d h =
       let g : (reads (t .row y) and ltb (source y) (t .rows)) ≡ false = rw (← e, ← f, ← q, ← c, ← d) (not-out _ h) in
-      q ∙ sym (least-off (λ z. ltb (overNth t source y z) LONGEST) (t .rows) (λ z l. le-ltb (overNth t source y z) LONGEST (let k = over-none y z (unread-off y z g) in omega arith)))
+      q ∙ sym (least-off (λ z. ltb (overNth t source y z) LONGEST) (t .rows)
+      (λ z l. le-ltb (overNth t source y z) LONGEST (let k = over-none y z (unread-off y z g) in omega arith)))
 
   -- ---- laws: what the searches compare
 

@@ -133,7 +133,8 @@ pub fn edge_number(
 // Ruled out: one that leaves a bit of an earlier stage set; one that writes a word outside the edges' region.
 pub fn fill_edges(rows: &[u8], p: Places, mode: Mode, n: usize, src: &[u16], w: &mut [u64])
     requires { ⌜ (n ≤ length (now src)) × Ready (decode (now rows) p mode n) n (now w) ⌝ }
-    ensures { λ _. ⌜ Made EDGE EDGE-END EDGE GRID n (edge (decode (now (rows .entry)) p mode n) (sourceIn (now (src .entry)))) (now (w .entry)) (now (w .exit)) ⌝ }
+    ensures { λ _. let t = decode (now (rows .entry)) p mode n in
+        ⌜ Made EDGE EDGE-END EDGE GRID n (edge t (sourceIn (now (src .entry)))) (now (w .entry)) (now (w .exit)) ⌝ }
 {
     bits::clear(w, area::EDGE, area::EDGE_END);
     for x in 0..n {

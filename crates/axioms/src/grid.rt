@@ -98,7 +98,8 @@ fn from_shared(
 // Edge 4 from the reader x, which read the initial value: to the other writers over its bytes.
 fn from_initial(rows: &[u8], p: Places, mode: Mode, n: usize, src: &[u16], x: usize, w: &mut [u64])
     requires { ⌜ (x < n) × (reads (rowOf (now rows) x) ≡ true) × (eqb (sourceIn (now src) x) INITIAL ≡ true) × Ready (decode (now rows) p mode n) n (now w) ⌝ }
-    ensures { λ _. ⌜ Edged n (fromUpto x n (fromReads (decode (now (rows .entry)) p mode n) (sourceIn (now (src .entry))) x)) (now (w .entry)) (now (w .exit)) ⌝ }
+    ensures { λ _. let t = decode (now (rows .entry)) p mode n in
+        ⌜ Edged n (fromUpto x n (fromReads t (sourceIn (now (src .entry))) x)) (now (w .entry)) (now (w .exit)) ⌝ }
 {
     let at = area::OVERLAP + x * area::GRID;
     let mut y = walk::next(w, at, at, 0, n);
@@ -121,7 +122,8 @@ fn from_any(
     w: &mut [u64],
 )
     requires { ⌜ (n ≤ ROWS) × (WORK ≤ length (now w)) × (x < n) × (n ≤ length (now src)) × (r ≡ rowOf (now rows) x) ⌝ }
-    ensures { λ _. ⌜ Edged n (fromUpto x n (fromReads (decode (now (rows .entry)) p mode n) (sourceIn (now (src .entry))) x)) (now (w .entry)) (now (w .exit)) ⌝ }
+    ensures { λ _. let t = decode (now (rows .entry)) p mode n in
+        ⌜ Edged n (fromUpto x n (fromReads t (sourceIn (now (src .entry))) x)) (now (w .entry)) (now (w .exit)) ⌝ }
 {
     for y in 0..n {
         let q = bytes::read_row(rows, y as u16);
@@ -133,7 +135,8 @@ fn from_any(
 // Edge 4 from x: none where it doesn't read. A fill may hand in a source that is neither a row nor the initial value.
 fn from_row(rows: &[u8], p: Places, mode: Mode, n: usize, src: &[u16], x: usize, w: &mut [u64])
     requires { ⌜ (x < n) × (n ≤ length (now src)) × Ready (decode (now rows) p mode n) n (now w) ⌝ }
-    ensures { λ _. ⌜ Edged n (fromUpto x n (fromReads (decode (now (rows .entry)) p mode n) (sourceIn (now (src .entry))) x)) (now (w .entry)) (now (w .exit)) ⌝ }
+    ensures { λ _. let t = decode (now (rows .entry)) p mode n in
+        ⌜ Edged n (fromUpto x n (fromReads t (sourceIn (now (src .entry))) x)) (now (w .entry)) (now (w .exit)) ⌝ }
 {
     let r = bytes::read_row(rows, x as u16);
     if !kinds::reads(r) {

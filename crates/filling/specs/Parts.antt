@@ -89,7 +89,8 @@ module _ (t : Table) (source : ℕ → ℕ) (n : ℕ) (l : List ℕ) (b : Bool) 
       → (the-variants.Filled ≡ fillAnswer (filledOr none t source)) × (d ≡ sourcesAfter (filledOr none t source) c) × Within EDGE LAYERS-END w u
   unfolding fillAnswer
   all-filled c d w u h room written f =
-      let e : d ≡ sourcesAfter (filled (tabulate source (t .rows))) c = written-filled source l c d n room listed written ∙ ap (λ (k : ℕ). sourcesAfter (filled (tabulate source k)) c) all in
+      let e : d ≡ sourcesAfter (filled (tabulate source (t .rows))) c = written-filled source l c d n room listed written
+      ∙ ap (λ (k : ℕ). sourcesAfter (filled (tabulate source k)) c) all in
       (rw (on h) refl, e ∙ ap (λ (o : Outcome). sourcesAfter o c) (sym (on h)), f)
 
 -- ---- laws: a race, or what comes next

@@ -136,7 +136,8 @@ sources-either n false x y f g = g
 
 sources-chosen : (t : Table) (source : ℕ → ℕ) → Sources (t .rows) (outcome.filledOr outcome.none t source)
 unfolding outcome.filledOr
-sources-chosen t source = sources-either (t .rows) (outcome.sourcesFit t source and consistent t source) _ _ (sources-filled source (t .rows)) (sources-none (t .rows))
+sources-chosen t source = sources-either (t .rows) (outcome.sourcesFit t source and consistent t source) _ _
+    (sources-filled source (t .rows)) (sources-none (t .rows))
 
 sources-outcome : (t : Table) (source : ℕ → ℕ) → Sources (t .rows) (outcome.outcome t source)
 unfolding outcome.outcome outcome.racingOr

@@ -43,7 +43,8 @@ outcome-same t a b same = ap (λ (o : Outcome). racingOr o t) (filled-same t (ch
 -- located, settled, wiped
 pub rows-filled : (b : List ℕ) (p : List (List ℕ)) (mode : Mode) (n : ℕ) (src w v u z c d : List ℕ) (r : FillAnswer) → Listed (sourceOf b) n src
     → WORK ≤ length w → Within MUTUAL LOCATED-END w v
-    → (r ≡ fillAnswer (outcome (decode b p mode n) (sourceIn src))) × (d ≡ sourcesAfter (outcome (decode b p mode n) (sourceIn src)) c) × Within EDGE LAYERS-END v u
+    → (r ≡ fillAnswer (outcome (decode b p mode n) (sourceIn src))) × (d ≡ sourcesAfter (outcome (decode b p mode n) (sourceIn src)) c)
+    × Within EDGE LAYERS-END v u
     → z ≡ zeros u 0 WORK
     → (r ≡ fillAnswer (outcome (decode b p mode n) (sourceOf b))) × (z ≡ wiped w) × (d ≡ sourcesAfter (outcome (decode b p mode n) (sourceOf b)) c)
 unfolding decode
@@ -66,7 +67,8 @@ unfolding outcome racingOr workAfter
 outcome-wiped t source w = go (ltb (raceRow t) (t .rows))
   where
     go : (b : Bool)
-        → workAfter (cond b (race (raceRow t) (racePartner t (raceRow t)) (raceByte t (raceRow t) (racePartner t (raceRow t)))) (filledOr none t (chosen t source))) w ≡ wiped w
+        → workAfter (cond b (race (raceRow t) (racePartner t (raceRow t)) (raceByte t (raceRow t) (racePartner t (raceRow t))))
+        (filledOr none t (chosen t source))) w ≡ wiped w
     go true = refl
     go false = filled-wiped t (chosen t source) w
 
@@ -85,7 +87,8 @@ module _ (chains : Bool) (f s w c : List ℕ) (a : Admission) (e : a ≡ doorBot
   filled-refused x h q =
       left-same fillAnswer workAfter sourcesAfter (fill-both chains (length w) (length c) f s ∙ opened-refused refused _ a _ e x h q) (refl, refl, refl)
 
-  module _ {g n : ℕ} (h : a ≡ Admitted g n) (all : List ℕ) (p : List (List ℕ)) (mode : Mode) (copy : all ≡ areaOf (rowBytes f ++ s)) (places : p ≡ placesOf f) (modes : mode ≡ modeOf chains f) where
+  module _ {g n : ℕ} (h : a ≡ Admitted g n) (all : List ℕ) (p : List (List ℕ)) (mode : Mode) (copy : all ≡ areaOf (rowBytes f ++ s))
+      (places : p ≡ placesOf f) (modes : mode ≡ modeOf chains f) where
     abbrev pub outcomeRows : Outcome
     outcomeRows = outcome (decode (take (n * ROW-BYTES) all) p mode n) (sourceOf (take (n * ROW-BYTES) all))
 
@@ -93,7 +96,8 @@ module _ (chains : Bool) (f s w c : List ℕ) (a : Admission) (e : a ≡ doorBot
     told-is =
         let k = door-admits SOURCES true f s (length w) (length c) a e h in
         fill-both chains (length w) (length c) f s ∙ opened-admitted refused _ a _ e h
-        ∙ sym (ap₂ outcome (table-both true f s a (k .2) h chains all p mode copy places modes) (sources-both true f s a (k .2) h chains all p mode copy places modes))
+        ∙ sym (ap₂ outcome (table-both true f s a (k .2) h chains all p mode copy places modes)
+        (sources-both true f s a (k .2) h chains all p mode copy places modes))
 
     pub filled-outcome : (r : FillAnswer) (u d : List ℕ) → (r ≡ fillAnswer outcomeRows) × (u ≡ wiped w) × (d ≡ sourcesAfter outcomeRows c)
         → Filled told r w u c d

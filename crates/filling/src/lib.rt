@@ -51,9 +51,10 @@ pub fn fill_by(
     work: &mut [u64],
     sources: &mut [u16],
 ) -> FillAnswer
-    ensures { λ r. ⌜ (r ≡ fillAnswer (fillBoth chains (now (first .entry)) (now (second .entry)) (length (now (work .entry))) (length (now (sources .entry)))))
-        × (now (work .exit) ≡ workAfter (fillBoth chains (now (first .entry)) (now (second .entry)) (length (now (work .entry))) (length (now (sources .entry)))) (now (work .entry)))
-        × (now (sources .exit) ≡ sourcesAfter (fillBoth chains (now (first .entry)) (now (second .entry)) (length (now (work .entry))) (length (now (sources .entry)))) (now (sources .entry))) ⌝ }
+    ensures { λ r. let answer = fillBoth chains (now (first .entry)) (now (second .entry)) (length (now (work .entry))) (length (now (sources .entry))) in
+        ⌜ (r ≡ fillAnswer answer)
+        × (now (work .exit) ≡ workAfter answer (now (work .entry)))
+        × (now (sources .exit) ≡ sourcesAfter answer (now (sources .entry))) ⌝ }
 {
     let a = pieces::open_both(
         first,
@@ -90,18 +91,20 @@ pub fn fill_both(
     work: &mut [u64],
     sources: &mut [u16],
 ) -> FillAnswer
-    ensures { λ r. ⌜ (r ≡ fillAnswer (fillBoth chains (now (first .entry)) (now (second .entry)) (length (now (work .entry))) (length (now (sources .entry)))))
-        × (now (work .exit) ≡ workAfter (fillBoth chains (now (first .entry)) (now (second .entry)) (length (now (work .entry))) (length (now (sources .entry)))) (now (work .entry)))
-        × (now (sources .exit) ≡ sourcesAfter (fillBoth chains (now (first .entry)) (now (second .entry)) (length (now (work .entry))) (length (now (sources .entry)))) (now (sources .entry))) ⌝ }
+    ensures { λ r. let answer = fillBoth chains (now (first .entry)) (now (second .entry)) (length (now (work .entry))) (length (now (sources .entry))) in
+        ⌜ (r ≡ fillAnswer answer)
+        × (now (work .exit) ≡ workAfter answer (now (work .entry)))
+        × (now (sources .exit) ≡ sourcesAfter answer (now (sources .entry))) ⌝ }
 {
     fill_by(first, second, chains, true, work, sources)
 }
 
 // Fills the blanks of a table in one piece.
 pub fn fill(table: &[u8], chains: bool, work: &mut [u64], sources: &mut [u16]) -> FillAnswer
-    ensures { λ r. ⌜ (r ≡ fillAnswer (fill chains (now (table .entry)) (length (now (work .entry))) (length (now (sources .entry)))))
-        × (now (work .exit) ≡ workAfter (fill chains (now (table .entry)) (length (now (work .entry))) (length (now (sources .entry)))) (now (work .entry)))
-        × (now (sources .exit) ≡ sourcesAfter (fill chains (now (table .entry)) (length (now (work .entry))) (length (now (sources .entry)))) (now (sources .entry))) ⌝ }
+    ensures { λ r. let answer = fill chains (now (table .entry)) (length (now (work .entry))) (length (now (sources .entry))) in
+        ⌜ (r ≡ fillAnswer answer)
+        × (now (work .exit) ≡ workAfter answer (now (work .entry)))
+        × (now (sources .exit) ≡ sourcesAfter answer (now (sources .entry))) ⌝ }
 {
     fill_both(table, &table[..0], chains, work, sources)
 }
@@ -114,9 +117,10 @@ pub fn fill_by_flags(
     work: &mut [u64],
     sources: &mut [u16],
 ) -> FillAnswer
-    ensures { λ r. ⌜ (r ≡ fillAnswer (fill chains (now (table .entry)) (length (now (work .entry))) (length (now (sources .entry)))))
-        × (now (work .exit) ≡ workAfter (fill chains (now (table .entry)) (length (now (work .entry))) (length (now (sources .entry)))) (now (work .entry)))
-        × (now (sources .exit) ≡ sourcesAfter (fill chains (now (table .entry)) (length (now (work .entry))) (length (now (sources .entry)))) (now (sources .entry))) ⌝ }
+    ensures { λ r. let answer = fill chains (now (table .entry)) (length (now (work .entry))) (length (now (sources .entry))) in
+        ⌜ (r ≡ fillAnswer answer)
+        × (now (work .exit) ≡ workAfter answer (now (work .entry)))
+        × (now (sources .exit) ≡ sourcesAfter answer (now (sources .entry))) ⌝ }
 {
     fill_by(table, &table[..0], chains, false, work, sources)
 }

@@ -42,7 +42,8 @@ pub fn is_consistent(
 // Whether a check admits the sources, and the table with them is consistent.
 fn is_filled(rows: &[u8], p: Places, mode: Mode, n: usize, src: &[u16], w: &mut [u64]) -> bool
     requires { ⌜ (n ≤ length (now src)) × Ready (decode (now rows) p mode n) n (now w) ⌝ }
-    ensures { λ b. ⌜ (b ≡ (sourcesFit (decode (now (rows .entry)) p mode n) (sourceIn (now (src .entry))) and consistent (decode (now (rows .entry)) p mode n) (sourceIn (now (src .entry)))))
+    ensures { λ b. let t = decode (now (rows .entry)) p mode n in
+        ⌜ (b ≡ (sourcesFit t (sourceIn (now (src .entry))) and consistent t (sourceIn (now (src .entry)))))
         × Within EDGE LAYERS-END (now (w .entry)) (now (w .exit)) ⌝ }
 {
     if !choice::sources::sources_fit(rows, p, mode, n, src) {
@@ -73,8 +74,9 @@ fn choose_sources(
     out: &mut [u16],
 ) -> FillAnswer
     requires { ⌜ (SOURCES ≤ length (now out)) × (n ≤ length (now src)) × Ready (decode (now rows) p mode n) n (now w) ⌝ }
-    ensures { λ r. ⌜ (r ≡ fillAnswer (filledOr none (decode (now (rows .entry)) p mode n) (chosen (decode (now (rows .entry)) p mode n) (sourceIn (now (src .entry))))))
-        × (now (out .exit) ≡ sourcesAfter (filledOr none (decode (now (rows .entry)) p mode n) (chosen (decode (now (rows .entry)) p mode n) (sourceIn (now (src .entry))))) (now (out .entry)))
+    ensures { λ r. let t = decode (now (rows .entry)) p mode n in
+        ⌜ (r ≡ fillAnswer (filledOr none t (chosen t (sourceIn (now (src .entry))))))
+        × (now (out .exit) ≡ sourcesAfter (filledOr none t (chosen t (sourceIn (now (src .entry))))) (now (out .entry)))
         × Within EDGE LAYERS-END (now (w .entry)) (now (w .exit)) ⌝ }
 {
     let list = choice::blanks::choose(rows, p, mode, n, src, w);

@@ -308,13 +308,15 @@ module _ (n : ℕ) (e f : ℕ → ℕ → Bool) (agree : (i j : ℕ) → i < n �
   size-out : (x : ℕ) → n ≤ x → cycleSize n e x ≡ cycleSize n f x
   unfolding cycleSize walk
   size-out x h =
-      ap suc (least-cong (λ k. walk n e x (suc k) x) (λ k. walk n f x (suc k) x) n (λ k l. any-cong (λ w. e x w and walk n e x k w) (λ w. f x w and walk n f x k w) n (next-out x k x h)))
+      ap suc (least-cong (λ k. walk n e x (suc k) x) (λ k. walk n f x (suc k) x) n
+      (λ k l. any-cong (λ w. e x w and walk n e x k w) (λ w. f x w and walk n f x k w) n (next-out x k x h)))
 
   trail-out : (x k z : ℕ) → n ≤ x → trail n e x k z ≡ trail n f x k z
   unfolding trail
   trail-out x zero z h = refl
   trail-out x (suc k) z h =
-      ap (λ (l : List ℕ). z ∷ l) (trail-out x k _ h ∙ ap (trail n f x k) (least-cong (λ w. e z w and walk n e x k w) (λ w. f z w and walk n f x k w) n (next-out x k z h)))
+      ap (λ (l : List ℕ). z ∷ l) (trail-out x k _ h
+      ∙ ap (trail n f x k) (least-cong (λ w. e z w and walk n e x k w) (λ w. f z w and walk n f x k w) n (next-out x k z h)))
 
   pub cycle-cong : cycle n e ≡ cycle n f
   unfolding cycle cycleStart

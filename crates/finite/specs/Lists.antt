@@ -35,7 +35,8 @@ module _ {A : Type 0} (f : ℕ → A) where
   pub getD-tabulate : (n k : ℕ) (d : A) → k < n → getD (tabulate f n) k d ≡ f k
   unfolding tabulate
   getD-tabulate zero k d h = absurd (not-suc-le-zero h)
-  getD-tabulate (suc n) k d h = ⊎-elim (λ e. rw e (getD-at (tabulate f n) (f n) [] d n len)) (λ l. List·getD-append (tabulate f n) (f n ∷ []) d k (rw len l) ∙ getD-tabulate n k d l) (below-cases h)
+  getD-tabulate (suc n) k d h = ⊎-elim (λ e. rw e (getD-at (tabulate f n) (f n) [] d n len))
+      (λ l. List·getD-append (tabulate f n) (f n ∷ []) d k (rw len l) ∙ getD-tabulate n k d l) (below-cases h)
     where
       len : length (tabulate f n) ≡ n
       len = length-tabulate n
@@ -84,4 +85,5 @@ written-all l c d size whole room h = ext-getD 0 d (l ++ drop (length l) c) (h .
     at k (no b) =
         let p : length l + (k - length l) ≡ k = omega arith in
         h .rest k (omega arith)
-        ∙ sym (ap (λ (i : ℕ). getD (l ++ drop (length l) c) i 0) (sym p) ∙ getD-append-add l (drop (length l) c) (k - length l) 0 ∙ getD-drop (length l) c (k - length l) 0 ∙ ap (λ (i : ℕ). getD c i 0) p)
+        ∙ sym (ap (λ (i : ℕ). getD (l ++ drop (length l) c) i 0) (sym p) ∙ getD-append-add l (drop (length l) c) (k - length l) 0
+        ∙ getD-drop (length l) c (k - length l) 0 ∙ ap (λ (i : ℕ). getD c i 0) p)

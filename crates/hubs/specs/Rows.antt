@@ -82,7 +82,10 @@ order-trans t m k j e f =
     let z = split (split (u .0) .0) in
     let l = ltb-true m k (c .0) in
     let o = ltb-true k j (z .0) in
-    and-true (and-true (and-true (lt-ltb m j (omega arith)) (eq-eqb (t .row (rowIn m) .agent) (t .row (rowIn j) .agent) (eqb-true (t .row (rowIn m) .agent) (t .row (rowIn k) .agent) (c .1) ∙ eqb-true (t .row (rowIn k) .agent) (t .row (rowIn j) .agent) (z .1)))) (b .1)) (u .1)
+    and-true (and-true (and-true (lt-ltb m j (omega arith))
+    (eq-eqb (t .row (rowIn m) .agent) (t .row (rowIn j) .agent)
+    (eqb-true (t .row (rowIn m) .agent) (t .row (rowIn k) .agent) (c .1)
+    ∙ eqb-true (t .row (rowIn k) .agent) (t .row (rowIn j) .agent) (z .1)))) (b .1)) (u .1)
 
 -- of two moments behind one, the earlier is before the later
 pub order-both : (t : Table) (m k j : ℕ) → programOrder t m k ≡ true → programOrder t m j ≡ true → k < j → programOrder t k j ≡ true
@@ -92,7 +95,10 @@ order-both t m k j e f l =
     let c = split (split (a .0) .0) in
     let u = split f in
     let z = split (split (u .0) .0) in
-    and-true (and-true (and-true (lt-ltb k j l) (eq-eqb (t .row (rowIn k) .agent) (t .row (rowIn j) .agent) (sym (eqb-true (t .row (rowIn m) .agent) (t .row (rowIn k) .agent) (c .1)) ∙ eqb-true (t .row (rowIn m) .agent) (t .row (rowIn j) .agent) (z .1)))) (a .1)) (u .1)
+    and-true (and-true (and-true (lt-ltb k j l)
+    (eq-eqb (t .row (rowIn k) .agent) (t .row (rowIn j) .agent)
+    (sym (eqb-true (t .row (rowIn m) .agent) (t .row (rowIn k) .agent) (c .1))
+    ∙ eqb-true (t .row (rowIn m) .agent) (t .row (rowIn j) .agent) (z .1)))) (a .1)) (u .1)
 
 -- ---- laws: a class set
 
@@ -296,6 +302,7 @@ module _ (t : Table) (s : ℕ) where
           ap (λ (c : ℕ). through (step t s) (3 * t .rows) m c) (sym (at-moment (t .rows) k))
           ∙ through-first (step t s) (3 * t .rows) (hubRow t dep s) (columnAt (t .rows)) (t .rows) hubs m (rowIn i) (behind-row m i e) (behind-hub m i e)
           (rw at (from-behind m i on e)) other (t .rows + k)
-          ∙ ap (λ (c : ℕ). eqb c (columnAt (t .rows) (t .rows + k)) or through (hop (step t s) (hubRow t dep s) (columnAt (t .rows))) (t .rows) (rowIn i) (t .rows + k)) at
+          ∙ ap (λ (c : ℕ). eqb c (columnAt (t .rows) (t .rows + k)) or through (hop (step t s) (hubRow t dep s) (columnAt (t .rows)))
+          (t .rows) (rowIn i) (t .rows + k)) at
           ∙ ap (λ (c : ℕ). eqb i c or through (hop (step t s) (hubRow t dep s) (columnAt (t .rows))) (t .rows) (rowIn i) (t .rows + k)) (at-moment (t .rows) k)
           ∙ ap (λ (b : Bool). eqb i k or b) (closed-is (rowIn i) k (behind-row m i e))

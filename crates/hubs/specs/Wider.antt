@@ -103,7 +103,8 @@ wider-meets c s x h e = meets-swap c x ∙ meets-wider c s x h (meets-swap x s �
 
 -- ---- laws: direct cases
 
-module _ (t : Table) (s c : ℕ) (sub : holds c s ≡ true) (all : (x : ℕ) → x < t .rows → holds (t .row x .classes) s ≡ true → holds (t .row x .classes) c ≡ true) where
+module _ (t : Table) (s c : ℕ) (sub : holds c s ≡ true)
+    (all : (x : ℕ) → x < t .rows → holds (t .row x .classes) s ≡ true → holds (t .row x .classes) c ≡ true) where
   holding-wider : (m : ℕ) → m < 3 * t .rows → holding t s m ≡ true → holding t c m ≡ true
   unfolding holding holdingOf
   holding-wider m l e = let a = split e in and-true (a .0) (all (rowIn m) (omega arith) (a .1))
@@ -191,7 +192,8 @@ shared-is t s (suc n) l = go (shared-is t s n l) (which (holds (t .row n .classe
         (record {
           low = omega (arith, h .low, and-le-l (sharedBy t s n) (t .row n .classes));
           sub = holds-both (sharedBy t s n) (t .row n .classes) s (h .sub) e;
-          all = λ x o f. ⊎-elim (λ q. rw q (holds-right (sharedBy t s n) (t .row n .classes))) (λ q. holds-left (t .row x .classes) (sharedBy t s n) (t .row n .classes) (h .all x q f)) (below-cases o);
+          all = λ x o f. ⊎-elim (λ q. rw q (holds-right (sharedBy t s n) (t .row n .classes)))
+              (λ q. holds-left (t .row x .classes) (sharedBy t s n) (t .row n .classes) (h .all x q f)) (below-cases o);
         })
     go h (inr e) = rw e
         (record { low = h .low; sub = h .sub; all = λ x o f. ⊎-elim (λ q. not-both f (rw q e)) (λ q. h .all x q f) (below-cases o) })

@@ -169,7 +169,8 @@ codes-right hosts agents r e =
     let k = split (o .0) in
     record { kind = k .0; agent = k .1; order = o .1; scope = s .1; classes = c .1; flags = f .1; class = g .1 }
 
-form-passed : (a b c d : Bool) → _≡_ {A = ℕ} (cond a (cond b 0 20) (cond c (cond d 0 7) 6)) 0 → ((a ≡ true) × (b ≡ true)) ⊎ ((a ≡ false) × (c ≡ true) × (d ≡ true))
+form-passed : (a b c d : Bool) → _≡_ {A = ℕ} (cond a (cond b 0 20) (cond c (cond d 0 7) 6)) 0 → ((a ≡ true) × (b ≡ true))
+    ⊎ ((a ≡ false) × (c ≡ true) × (d ≡ true))
 form-passed true true c d e = inl (refl, refl)
 form-passed true false c d e = absurd (omega arith)
 form-passed false b true true e = inr (refl, refl, refl)
@@ -233,7 +234,8 @@ module _ {blanks : Bool} {s : List ℕ} (h : Sound blanks s) where
     pub row-right : RowRight s r (sourceOf (rowBytes s) i)
     unfolding rowFaultAt rowFault
     row-right =
-        let p = row-passed (codesFit (hasHosts s) (agentsAt s) r) (agentFits (agentKind (placesOf s) (r .agent)) r) (formFault r (sourceOf (rowBytes s) i)) (h .row i l) in
+        let p = row-passed (codesFit (hasHosts s) (agentsAt s) r) (agentFits (agentKind (placesOf s) (r .agent)) r)
+        (formFault r (sourceOf (rowBytes s) i)) (h .row i l) in
         record { codes = codes-right (hasHosts s) (agentsAt s) r (p .0); agent = p .1; form = p .2 }
 
     -- 20; or 6 and 7
@@ -254,7 +256,8 @@ module _ {blanks : Bool} {s : List ℕ} (h : Sound blanks s) where
     pub among-right : AmongRight blanks s i
     unfolding tableFault
     among-right =
-        let p = table-passed (classTaken (tableOf s) i) (sourceBroken blanks (tableOf s) (sourcesOf s) i) (rankTaken (tableOf s) i) (instanceBroken (tableOf s) i)
+        let p = table-passed (classTaken (tableOf s) i) (sourceBroken blanks (tableOf s) (sourcesOf s) i) (rankTaken (tableOf s) i)
+        (instanceBroken (tableOf s) i)
         (unfit (tableOf s) i) (h .among i l) in
         record { class = p .0; source = p .1; rank = p .2; instance = p .3; run = p .4 }
 
@@ -264,14 +267,16 @@ module _ {blanks : Bool} {s : List ℕ} (h : Sound blanks s) where
     access-size a =
         ⊎-elim (λ n. not-both a (not-out (access r) n))
         (λ t. (leb-true 1 (r .size) (split (split t .0) .0), leb-true (r .size) LONGEST (split (split t .0) .1)))
-        (or-cases (not (access r)) (leb 1 (r .size) and leb (r .size) LONGEST and leb (r .start + r .size) BYTES) (split (kind-right (access-no-operation r a) .1) .0))
+        (or-cases (not (access r)) (leb 1 (r .size) and leb (r .size) LONGEST and leb (r .start + r .size) BYTES)
+        (split (kind-right (access-no-operation r a) .1) .0))
 
     -- and they end where a byte's number does
     pub access-end : access r ≡ true → r .start + r .size ≤ BYTES
     unfolding extentFits
     access-end a =
         ⊎-elim (λ n. not-both a (not-out (access r) n)) (λ t. leb-true (r .start + r .size) BYTES (split t .1))
-        (or-cases (not (access r)) (leb 1 (r .size) and leb (r .size) LONGEST and leb (r .start + r .size) BYTES) (split (kind-right (access-no-operation r a) .1) .0))
+        (or-cases (not (access r)) (leb 1 (r .size) and leb (r .size) LONGEST and leb (r .start + r .size) BYTES)
+        (split (kind-right (access-no-operation r a) .1) .0))
 
     -- so no row has more than LONGEST bytes: 20 of an operation, 6 of any other that is no access
     pub size-fits : r .size ≤ LONGEST

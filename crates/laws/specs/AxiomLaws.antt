@@ -98,7 +98,8 @@ module _ (t : Table) (source : ℕ → ℕ) where
     reader-bound = least-is (isOverwritten t source) (t .rows) .bound
 
     pub overwrite-shown : overReader t source < t .rows
-        → FirstOverwrite t source (overReader t source) (overWriter t source (overReader t source)) (overByte t source (overReader t source) (overWriter t source (overReader t source)))
+        → FirstOverwrite t source (overReader t source) (overWriter t source (overReader t source))
+        (overByte t source (overReader t source) (overWriter t source (overReader t source)))
     overwrite-shown l = record { reader = l; writer = reader-hit l; broken = nth-hit y z (writer-hit y (reader-hit l)); first = first }
       where
         y : ℕ
@@ -110,7 +111,8 @@ module _ (t : Table) (source : ℕ → ℕ) where
         same : (u v c : ℕ) → y ≡ u → v < t .rows → overwrites t source u v c ≡ true → (z < v) ⊎ ((z ≡ v) × (overByte t source y z ≤ c))
         same u v c e m h =
             let k : overwrites t source y v c ≡ true = subst (λ (a : ℕ). overwrites t source a v c ≡ true) (sym e) h in
-            ⊎-elim (λ q. inr (q, nth-low y z c l (subst (λ (a : ℕ). overwrites t source y a c ≡ true) (sym q) k) .1)) (λ q. inl q) (eq-or-lt-of-le (writer-low y v c l k))
+            ⊎-elim (λ q. inr (q, nth-low y z c l (subst (λ (a : ℕ). overwrites t source y a c ≡ true) (sym q) k) .1)) (λ q. inl q)
+            (eq-or-lt-of-le (writer-low y v c l k))
 
         first : (u v c : ℕ) → u < t .rows → v < t .rows → overwrites t source u v c ≡ true
             → (y < u) ⊎ ((y ≡ u) × ((z < v) ⊎ ((z ≡ v) × (overByte t source y z ≤ c))))

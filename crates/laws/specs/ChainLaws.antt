@@ -281,7 +281,8 @@ module _ (t : Table) (scoped : Scoped t) (off : t .chains ≡ false) where
         reading r =
             let f : anyBelow (t .rows) (visibleVia t d y b c) ≡ true = rw r at e in
             let w = any-out (visibleVia t d y b c) (t .rows) f in
-            rw r (any-in (singleShown t x y b (availableAt t c)) (3 * t .rows) (visibleAt t (w .0)) (visible-below t (w .0) (w .1)) (shown-single d c (w .0) l h (w .1) (w .2)))
+            rw r (any-in (singleShown t x y b (availableAt t c)) (3 * t .rows) (visibleAt t (w .0)) (visible-below t (w .0) (w .1))
+            (shown-single d c (w .0) l h (w .1) (w .2)))
 
         writing : reads (t .row y) ≡ false
             → cond (reads (t .row y)) (anyBelow (3 * t .rows) (singleShown t x y b (availableAt t c))) (happens t (availableAt t c) (itself y)) ≡ true
@@ -334,7 +335,8 @@ module _ (t : Table) (scoped : Scoped t) (off : t .chains ≡ false) where
         → anyBelow (t .rows) (availableVia t x y b) ≡ true
     unfolding byDomain availableVia
     build zero c l n k h i a e = absurd (omega arith)
-    build (suc d) c l n k h i a e = any-in (availableVia t x y b) (t .rows) c k (and-true a (any-in (byDomain t x y b c) DEVICE d (omega arith) (and-true (and-true h i) e)))
+    build (suc d) c l n k h i a e = any-in (availableVia t x y b) (t .rows) c k
+        (and-true a (any-in (byDomain t x y b c) DEVICE d (omega arith) (and-true (and-true h i) e)))
 
     available-single : (m : ℕ) → singleAvailable t x b m ≡ true → availability t m ≡ true
     unfolding singleAvailable
@@ -358,7 +360,8 @@ module _ (t : Table) (scoped : Scoped t) (off : t .chains ≡ false) where
     back-writing m lm r e h f =
         let l = available-scope t m (available-single m e) in
         let n = scoped (rowIn m) (omega arith) in
-        let g : happens t (availableAt t (rowIn m)) (itself y) ≡ true = subst (λ (k : ℕ). happens t k (itself y) ≡ true) (sym (available-moment t m (available-single m e))) f in
+        let g : happens t (availableAt t (rowIn m)) (itself y) ≡ true = subst (λ (k : ℕ). happens t k (itself y) ≡ true)
+        (sym (available-moment t m (available-single m e))) f in
         back-carried (t .row (rowIn m) .scope) m lm l n e (omega arith) h (rw r g)
 
     back-reading : (m v : ℕ) → m < 3 * t .rows → v < 3 * t .rows → reads (t .row y) ≡ true → singleAvailable t x b m ≡ true → shareMoment t x y m ≡ true
@@ -375,7 +378,8 @@ module _ (t : Table) (scoped : Scoped t) (off : t .chains ≡ false) where
             → anyBelow (t .rows) (availableVia t x y b) ≡ true
         by d l n km kv s =
             back-carried d m lm l n e km s
-            (rw r (any-in (visibleVia t d y b (rowIn m)) (t .rows) (rowIn v) (omega arith) (and-true (and-true (in-domain-y d v l n f kv s) hap) (last-to y b (rowIn v) (omega arith) (single-last y b v f)))))
+            (rw r (any-in (visibleVia t d y b (rowIn m)) (t .rows) (rowIn v) (omega arith)
+            (and-true (and-true (in-domain-y d v l n f kv s) hap) (last-to y b (rowIn v) (omega arith) (single-last y b v f)))))
 
         go : Dec (t .row (rowIn v) .scope < t .row (rowIn m) .scope) → anyBelow (t .rows) (availableVia t x y b) ≡ true
         go (yes q) = by (t .row (rowIn v) .scope) (visible-scope t v (visible-single v f)) (scoped (rowIn v) (omega arith)) (omega arith) (omega arith) g
@@ -411,15 +415,21 @@ module _ (t : Table) (scoped : Scoped t) (off : t .chains ≡ false) where
 
 module _ (c : Bool) (t : Table) where
   pub happens-under : (m n : ℕ) → happens (under c t) m n ≡ happens t m n
-  unfolding happens interThreadBy interThread live holdsAll step bySync toRelease fromAcquire bySystem holding concerns programOrder sameAgent synchronizes syncControl passes arrives joins upTo syncBarriers carriesOver syncToBarrier carriesIn syncFromBarrier carriesOut syncAtomics trails leads takesFrom sequence ends follows mutually
+  unfolding happens interThreadBy interThread live holdsAll step bySync toRelease fromAcquire bySystem holding concerns programOrder
+      sameAgent synchronizes syncControl passes arrives joins upTo syncBarriers carriesOver syncToBarrier carriesIn syncFromBarrier
+      carriesOut syncAtomics trails leads takesFrom sequence ends follows mutually
   happens-under m n = refl
 
   L1-under : (x y : ℕ) → L1 (under c t) x y ≡ L1 t x y
-  unfolding L1 happens interThreadBy interThread live holdsAll step bySync toRelease fromAcquire bySystem holding concerns programOrder sameAgent synchronizes syncControl passes arrives joins upTo syncBarriers carriesOver syncToBarrier carriesIn syncFromBarrier carriesOut syncAtomics trails leads takesFrom sequence ends follows mutually
+  unfolding L1 happens interThreadBy interThread live holdsAll step bySync toRelease fromAcquire bySystem holding concerns programOrder
+      sameAgent synchronizes syncControl passes arrives joins upTo syncBarriers carriesOver syncToBarrier carriesIn syncFromBarrier
+      carriesOut syncAtomics trails leads takesFrom sequence ends follows mutually
   L1-under x y = refl
 
   L2-under : (x y : ℕ) → L2 (under c t) x y ≡ L2 t x y
-  unfolding L2 happens interThreadBy interThread live holdsAll step bySync toRelease fromAcquire bySystem holding concerns programOrder sameAgent synchronizes syncControl passes arrives joins upTo syncBarriers carriesOver syncToBarrier carriesIn syncFromBarrier carriesOut syncAtomics trails leads takesFrom sequence ends follows mutually
+  unfolding L2 happens interThreadBy interThread live holdsAll step bySync toRelease fromAcquire bySystem holding concerns programOrder
+      sameAgent synchronizes syncControl passes arrives joins upTo syncBarriers carriesOver syncToBarrier carriesIn syncFromBarrier
+      carriesOut syncAtomics trails leads takesFrom sequence ends follows mutually
   L2-under x y = refl
 
   L4-under : (x y : ℕ) → L4 (under c t) x y ≡ L4 t x y
@@ -427,7 +437,10 @@ module _ (c : Bool) (t : Table) where
   L4-under x y = refl
 
   L5-under : (x y : ℕ) → L5 (under c t) x y ≡ L5 t x y
-  unfolding L5 reachesBy carriedBy metFrom seenBy thence availableKind visibleKind domainKind onHost happens interThreadBy interThread live holdsAll step bySync toRelease fromAcquire bySystem holding concerns programOrder sameAgent synchronizes syncControl passes arrives joins upTo syncBarriers carriesOver syncToBarrier carriesIn syncFromBarrier carriesOut syncAtomics trails leads takesFrom sequence ends follows mutually
+  unfolding L5 reachesBy carriedBy metFrom seenBy thence availableKind visibleKind domainKind onHost happens interThreadBy interThread live
+      holdsAll step bySync toRelease fromAcquire bySystem holding concerns programOrder sameAgent synchronizes syncControl passes arrives
+      joins upTo syncBarriers carriesOver syncToBarrier carriesIn syncFromBarrier carriesOut syncAtomics trails leads takesFrom sequence
+      ends follows mutually
   L5-under x y = refl
 
   first-under : (x b a : ℕ) → firstAvailable (under c t) x b a ≡ firstAvailable t x b a
@@ -465,7 +478,8 @@ module _ (t : Table) where
       let r = any-out (λ a. firstAvailable no-chains x b a and availabilityChain no-chains a c) (t .rows) e in
       let q : r .0 ≡ c = ⊎-elim (λ h. h) (λ h. not-both (h .0) refl) (availability-chain-is no-chains (r .0) c .0 (split (r .2) .1)) in
       any-in (λ a. firstAvailable with-chains x b a and availabilityChain with-chains a c) (t .rows) (r .0) (r .1)
-      (and-true (first-under true t x b (r .0) ∙ sym (first-under false t x b (r .0)) ∙ split (r .2) .0) (availability-chain-is with-chains (r .0) c .1 (inl q)))
+      (and-true (first-under true t x b (r .0) ∙ sym (first-under false t x b (r .0)) ∙ split (r .2) .0)
+      (availability-chain-is with-chains (r .0) c .1 (inl q)))
 
   visible-grows : (y b w : ℕ) → visibleTo no-chains y b w ≡ true → visibleTo with-chains y b w ≡ true
   unfolding visibleTo visibleBy
@@ -494,7 +508,8 @@ module _ (t : Table) where
           let w = any-out (visibleVia no-chains d y b c) (t .rows) f in
           let g = split (w .2) in
           let h = split (g .0) in
-          rw r (any-in (visibleVia with-chains d y b c) (t .rows) (w .0) (w .1) (and-true (and-true (domain-same d y (w .0) (h .0)) (happens-same m _ (h .1))) (visible-grows y b (w .0) (g .1))))
+          rw r (any-in (visibleVia with-chains d y b c) (t .rows) (w .0) (w .1)
+          (and-true (and-true (domain-same d y (w .0) (h .0)) (happens-same m _ (h .1))) (visible-grows y b (w .0) (g .1))))
 
       writing : reads (t .row y) ≡ false → reaches with-chains d y b c ≡ true
       writing r = let f : happens no-chains m (itself y) ≡ true = rw r at e in rw r (happens-same m (itself y) f)
@@ -508,7 +523,8 @@ module _ (t : Table) where
       let g = split (k .2) in
       and-true (split e .0)
       (any-in (availableVia with-chains x y b) (t .rows) (c .0) (c .1) (and-true (available-grows x b (c .0) (h .0))
-      (any-in (byDomain with-chains x y b (c .0)) DEVICE (k .0) (k .1) (and-true (and-true (split (g .0) .0) (domain-same (suc (k .0)) x (c .0) (split (g .0) .1))) (met-grows (suc (k .0)) y b (c .0) (g .1))))))
+      (any-in (byDomain with-chains x y b (c .0)) DEVICE (k .0) (k .1)
+      (and-true (and-true (split (g .0) .0) (domain-same (suc (k .0)) x (c .0) (split (g .0) .1))) (met-grows (suc (k .0)) y b (c .0) (g .1))))))
 
   -- WHATEVER IS ORDERED WITHOUT CHAINS IS ORDERED WITH THEM
   pub before-grows : (x y b : ℕ) → before no-chains x y b ≡ true → before with-chains x y b ≡ true

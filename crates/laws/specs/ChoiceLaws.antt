@@ -59,7 +59,9 @@ plain-not-atomic r e = not-so _ (λ a. let k = eqb-true (r .kind) PLAIN-READ e i
 writer-accesses : (r : Row) → writes r ≡ true → access r ≡ true
 unfolding writes access
 writer-accesses r e =
-    ⊎-elim (λ f. ⊎-elim (λ g. let k = eqb-true (r .kind) PLAIN-WRITE g in le-leb (r .kind) RMW (omega arith)) (λ g. let k = eqb-true (r .kind) ATOMIC-WRITE g in le-leb (r .kind) RMW (omega arith)) (or-cases (eqb (r .kind) PLAIN-WRITE) (eqb (r .kind) ATOMIC-WRITE) f))
+    ⊎-elim (λ f. ⊎-elim (λ g. let k = eqb-true (r .kind) PLAIN-WRITE g in le-leb (r .kind) RMW (omega arith)) (λ g.
+    let k = eqb-true (r .kind) ATOMIC-WRITE g in
+    le-leb (r .kind) RMW (omega arith)) (or-cases (eqb (r .kind) PLAIN-WRITE) (eqb (r .kind) ATOMIC-WRITE) f))
     (λ f. let k = eqb-true (r .kind) RMW f in le-leb (r .kind) RMW (omega arith))
     (or-cases (eqb (r .kind) PLAIN-WRITE or eqb (r .kind) ATOMIC-WRITE) (eqb (r .kind) RMW) e)
 
@@ -67,7 +69,8 @@ plain-not-writes : (r : Row) → plainRead r ≡ true → writes r ≡ true → 
 unfolding plainRead writes
 plain-not-writes r p e =
     let k = eqb-true (r .kind) PLAIN-READ p in
-    ⊎-elim (λ f. ⊎-elim (λ g. let j = eqb-true (r .kind) PLAIN-WRITE g in omega arith) (λ g. let j = eqb-true (r .kind) ATOMIC-WRITE g in omega arith) (or-cases (eqb (r .kind) PLAIN-WRITE) (eqb (r .kind) ATOMIC-WRITE) f))
+    ⊎-elim (λ f. ⊎-elim (λ g. let j = eqb-true (r .kind) PLAIN-WRITE g in omega arith) (λ g. let j = eqb-true (r .kind) ATOMIC-WRITE g in
+    omega arith) (or-cases (eqb (r .kind) PLAIN-WRITE) (eqb (r .kind) ATOMIC-WRITE) f))
     (λ f. let j = eqb-true (r .kind) RMW f in omega arith)
     (or-cases (eqb (r .kind) PLAIN-WRITE or eqb (r .kind) ATOMIC-WRITE) (eqb (r .kind) RMW) e)
 
@@ -75,7 +78,8 @@ plain-not-writes r p e =
 atomic-ranked : (r : Row) → atomic r ≡ true → writes r ≡ true → ranked r ≡ true
 unfolding atomic writes ranked
 atomic-ranked r a e =
-    ⊎-elim (λ f. ⊎-elim (λ g. let j = eqb-true (r .kind) PLAIN-WRITE g in let l = leb-true ATOMIC-READ (r .kind) (split a .0) in absurd (omega arith)) (λ g. or-left _ g) (or-cases (eqb (r .kind) PLAIN-WRITE) (eqb (r .kind) ATOMIC-WRITE) f))
+    ⊎-elim (λ f. ⊎-elim (λ g. let j = eqb-true (r .kind) PLAIN-WRITE g in let l = leb-true ATOMIC-READ (r .kind) (split a .0) in
+    absurd (omega arith)) (λ g. or-left _ g) (or-cases (eqb (r .kind) PLAIN-WRITE) (eqb (r .kind) ATOMIC-WRITE) f))
     (λ f. or-right (eqb (r .kind) ATOMIC-WRITE) f)
     (or-cases (eqb (r .kind) PLAIN-WRITE or eqb (r .kind) ATOMIC-WRITE) (eqb (r .kind) RMW) e)
 
@@ -143,7 +147,9 @@ candidate-out t y s e =
     record {
       row = ltb-true s (t .rows) (c .0);
       writer = split (split (b .0) .0) .1;
-      each = λ k l h. ⊎-elim (λ g. g) (λ g. not-both (and-true h (not-in g)) (any-off (λ j. touches (t .row y) (nth t y j) and not (before t s y (nth t y j))) LONGEST (not-out _ (b .1)) k l)) (which (before t s y (nth t y k)));
+      each = λ k l h. ⊎-elim (λ g. g) (λ g. not-both (and-true h (not-in g))
+          (any-off (λ j. touches (t .row y) (nth t y j) and not (before t s y (nth t y j))) LONGEST (not-out _ (b .1)) k l))
+          (which (before t s y (nth t y k)));
       alone = λ z l. any-off (between t y s) (t .rows) (not-out _ (a .1)) z l;
     }
 
@@ -196,11 +202,13 @@ module _ (t : Table) (fair : Fair t) (free : NoRace t) where
     -- y has a first byte
     first-byte : touches (t .row y) (nth t y 0) ≡ true
     unfolding touches
-    first-byte = let n = fair .nonempty y yl (plain-accesses (t .row y) py) in inside-in (t .row y .start) (t .row y .size) (t .row y .start + 0) (omega arith) (omega arith)
+    first-byte = let n = fair .nonempty y yl (plain-accesses (t .row y) py) in
+        inside-in (t .row y .start) (t .row y .size) (t .row y .start + 0) (omega arith) (omega arith)
 
     between-order : (s z : ℕ) → writes (t .row z) ≡ true → before t s z (nth t y 0) ≡ true → before t z y (nth t y 0) ≡ true → between t y s z ≡ true
     unfolding between overwritesBetween
-    between-order s z w a b = and-true w (or-right _ (any-in (λ k. before t s z (nth t y k) and before t z y (nth t y k)) LONGEST 0 (omega arith) (and-true a b)))
+    between-order s z w a b = and-true w (or-right _
+        (any-in (λ k. before t s z (nth t y k) and before t z y (nth t y k)) LONGEST 0 (omega arith) (and-true a b)))
 
     between-follow : (s z b : ℕ) → z < t .rows → writes (t .row z) ≡ true → follows t s z ≡ true → before t z y b ≡ true → between t y s z ≡ true
     unfolding between
@@ -268,7 +276,9 @@ module _ (t : Table) (fair : Fair t) (free : NoRace t) where
           bad z l w h =
               let b = before-some t z y h in
               let c = common-out (t .row z) (t .row y) (b .0) (before-common t z y (b .0) (b .1)) in
-              con .0 (two-cycle t source z y l yl (edge-order t source z y h) (edge-from t source y z (from-initial z e w (λ q. before-ne t z y (b .0) (b .1) (sym q)) (overlap-is (t .row y) (t .row z) .1 (b .0, c .3, c .2)))))
+              con .0 (two-cycle t source z y l yl (edge-order t source z y h)
+              (edge-from t source y z (from-initial z e w (λ q. before-ne t z y (b .0) (b .1) (sym q))
+              (overlap-is (t .row y) (t .row z) .1 (b .0, c .3, c .2)))))
 
       -- a read of a row: the row is a candidate, and so what `choice` names
       module _ (fits : writerFits t y (source y) ≡ true) where
@@ -306,9 +316,11 @@ module _ (t : Table) (fair : Fair t) (free : NoRace t) where
         source-before : (b : ℕ) → touches (t .row y) b ≡ true → before t (source y) y b ≡ true
         source-before b h =
             ⊎-elim (λ e. e)
-            (λ e. absurd (con .0 (two-cycle t source y (source y) yl source-row (edge-order t source y (source y) (some-before t y (source y) b (fair .sized y yl) e)) reads-edge)))
+            (λ e. absurd (con .0 (two-cycle t source y (source y) yl source-row
+            (edge-order t source y (source y) (some-before t y (source y) b (fair .sized y yl) e)) reads-edge)))
             (either-way t free (source y) y b source-row yl source-ne
-            (common-in (t .row (source y)) (t .row y) b (writer-accesses (t .row (source y)) source-writes) (plain-accesses (t .row y) py) (source-touches b h) h)
+            (common-in (t .row (source y)) (t .row y) b (writer-accesses (t .row (source y)) source-writes) (plain-accesses (t .row y) py)
+            (source-touches b h) h)
             (inl source-writes) not-mutual)
 
         source-written : written t y ≡ true
@@ -329,7 +341,8 @@ module _ (t : Table) (fair : Fair t) (free : NoRace t) where
             let r = source-row in
             let n = fair .few in
             edge-from t source y z
-            (and-true (and-true (not-in (ne-eqb y z (λ q. plain-not-writes (t .row y) py (subst (λ (v : ℕ). writes (t .row v) ≡ true) (sym q) w)))) (plain-reads (t .row y) py))
+            (and-true (and-true (not-in (ne-eqb y z
+            (λ q. plain-not-writes (t .row y) py (subst (λ (v : ℕ). writes (t .row v) ≡ true) (sym q) w)))) (plain-reads (t .row y) py))
             (rw (ne-eqb (source y) INITIAL (λ q. absurd (omega arith))) f))
 
         broken : (z b : ℕ) → writes (t .row z) ≡ true → before t (source y) z b ≡ true → before t z y b ≡ true → overwrites t source y z b ≡ true
@@ -338,7 +351,8 @@ module _ (t : Table) (fair : Fair t) (free : NoRace t) where
 
         nothing-between : (z : ℕ) → z < t .rows → between t y (source y) z ≡ false
         unfolding between overwritesBetween
-        nothing-between z l = not-so _ (λ h. ⊎-elim (λ a. follow (split h .0) a) (λ a. hide (split h .0) a) (or-cases (follows t (source y) z and beforeSome t z y) _ (split h .1)))
+        nothing-between z l = not-so _ (λ h. ⊎-elim (λ a. follow (split h .0) a) (λ a. hide (split h .0) a)
+            (or-cases (follows t (source y) z and beforeSome t z y) _ (split h .1)))
           where
             follow : writes (t .row z) ≡ true → (follows t (source y) z and beforeSome t z y) ≡ true → ⊥
             follow w a = con .0 (two-cycle t source y z yl l (from-follow z w (split a .0)) (edge-order t source z y (split a .1)))

@@ -84,8 +84,10 @@ module _ {s f g : List ℕ} (ff : Filling s f) (fg : Filling s g) (same : (i : �
 
   byte-same : (i j : ℕ) → i < rowsAt s → (j ≡ 12) ⊎ (j ≡ 13)
       → getD f (rowsBegin s + (i * ROW-BYTES + j)) 0 ≡ getD g (rowsBegin s + (i * ROW-BYTES + j)) 0
-  byte-same i j l (inl e) = rw e (sym (bytes-at s f i 12 (begin-kept ff) (rows-kept ff) l (omega arith)) ∙ source-bytes i l .0 ∙ bytes-at s g i 12 (begin-kept fg) (rows-kept fg) l (omega arith))
-  byte-same i j l (inr e) = rw e (sym (bytes-at s f i 13 (begin-kept ff) (rows-kept ff) l (omega arith)) ∙ source-bytes i l .1 ∙ bytes-at s g i 13 (begin-kept fg) (rows-kept fg) l (omega arith))
+  byte-same i j l (inl e) = rw e (sym (bytes-at s f i 12 (begin-kept ff) (rows-kept ff) l (omega arith)) ∙ source-bytes i l .0
+      ∙ bytes-at s g i 12 (begin-kept fg) (rows-kept fg) l (omega arith))
+  byte-same i j l (inr e) = rw e (sym (bytes-at s f i 13 (begin-kept ff) (rows-kept ff) l (omega arith)) ∙ source-bytes i l .1
+      ∙ bytes-at s g i 13 (begin-kept fg) (rows-kept fg) l (omega arith))
 
   -- a byte of no blank's source
   other-same : (k : ℕ) → ((i : ℕ) → i < rowsAt s → blankAt s i ≡ true → (k ≡ sourceBegin s i) ⊎ (k ≡ sourceBegin s i + 1) → ⊥) → getD f k 0 ≡ getD g k 0
@@ -107,7 +109,8 @@ module _ {s f g : List ℕ} (ff : Filling s f) (fg : Filling s g) (same : (i : �
       inner : (k : ℕ) → b ≤ k → (row k < rowsAt s → blankAt s (row k) ≡ true → (col k ≡ 12) ⊎ (col k ≡ 13) → ⊥) → getD f k 0 ≡ getD g k 0
       inner k l n =
           other-same k
-          (λ i m h. ⊎-elim (λ e. n (r i e m) (subst (λ (z : ℕ). blankAt s z ≡ true) (q i e) h) (inl (omega arith))) (λ e. n (r′ i e m) (subst (λ (z : ℕ). blankAt s z ≡ true) (q′ i e) h) (inr (omega arith))))
+          (λ i m h. ⊎-elim (λ e. n (r i e m) (subst (λ (z : ℕ). blankAt s z ≡ true) (q i e) h) (inl (omega arith)))
+          (λ e. n (r′ i e m) (subst (λ (z : ℕ). blankAt s z ≡ true) (q′ i e) h) (inr (omega arith))))
         where
           q : (i : ℕ) → k ≡ b + (i * ROW-BYTES + 12) → i ≡ row k
           q i e = omega arith
@@ -147,7 +150,9 @@ kind-any r a b e = rw e refl
 reads-accesses : (r : Row) → reads r ≡ true → access r ≡ true
 unfolding reads access
 reads-accesses r e =
-    ⊎-elim (λ f. ⊎-elim (λ g. let k = eqb-true (r .kind) PLAIN-READ g in le-leb (r .kind) RMW (omega arith)) (λ g. let k = eqb-true (r .kind) ATOMIC-READ g in le-leb (r .kind) RMW (omega arith)) (or-cases (eqb (r .kind) PLAIN-READ) (eqb (r .kind) ATOMIC-READ) f))
+    ⊎-elim (λ f. ⊎-elim (λ g. let k = eqb-true (r .kind) PLAIN-READ g in le-leb (r .kind) RMW (omega arith)) (λ g.
+    let k = eqb-true (r .kind) ATOMIC-READ g in
+    le-leb (r .kind) RMW (omega arith)) (or-cases (eqb (r .kind) PLAIN-READ) (eqb (r .kind) ATOMIC-READ) f))
     (λ f. let k = eqb-true (r .kind) RMW f in le-leb (r .kind) RMW (omega arith))
     (or-cases (eqb (r .kind) PLAIN-READ or eqb (r .kind) ATOMIC-READ) (eqb (r .kind) RMW) e)
 
@@ -208,7 +213,8 @@ module _ {s f : List ℕ} (fl : Filling s f) where
 
   named-kept : dependenciesNamed f ≡ dependenciesNamed s
   unfolding dependenciesNamed
-  named-kept = rw (count-kept fl) (ap not (any-cong (namesNone (dependencyBytes f) (rowsAt f)) (namesNone (dependencyBytes s) (rowsAt s)) _ (λ k l. none-kept k)))
+  named-kept = rw (count-kept fl) (ap not (any-cong (namesNone (dependencyBytes f) (rowsAt f)) (namesNone (dependencyBytes s) (rowsAt s)) _
+      (λ k l. none-kept k)))
 
   hosts-fault-kept : hostsFault f ≡ hostsFault s
   unfolding hostsFault
@@ -222,7 +228,8 @@ module _ {s f : List ℕ} (fl : Filling s f) where
   unfolding rowFaultAt sourcesOf
   row-fault-kept i =
       rw (hosts-kept fl, places-kept fl, agents-kept fl, row-kept fl i)
-      (⊎-elim (λ e. fault-any (hasHosts s) (placesOf s) (agentsAt s) (rowOf (rowBytes s) i) (sourceOf (rowBytes f) i) (sourceOf (rowBytes s) i) (blank-reads s i e)) (λ n. rw (source-kept fl i n) refl) (which (blankAt s i)))
+      (⊎-elim (λ e. fault-any (hasHosts s) (placesOf s) (agentsAt s) (rowOf (rowBytes s) i) (sourceOf (rowBytes f) i)
+      (sourceOf (rowBytes s) i) (blank-reads s i e)) (λ n. rw (source-kept fl i n) refl) (which (blankAt s i)))
 
   -- the sources of a filling are those that a check admits
   abbrev pub Admits : Type 0
@@ -242,7 +249,8 @@ module _ {s f : List ℕ} (fl : Filling s f) where
 
   pub sound-filling : Sound false f → Admits
   sound-filling h i l =
-      subst (λ (t : Table). sourceBroken false t (sourcesOf f) i ≡ false) (table-kept fl) (among-right h i (subst (λ (n : ℕ). i < n) (sym (rows-kept fl)) l) .source)
+      subst (λ (t : Table). sourceBroken false t (sourcesOf f) i ≡ false) (table-kept fl)
+      (among-right h i (subst (λ (n : ℕ). i < n) (sym (rows-kept fl)) l) .source)
 
 -- ---- the filled bytes are a filling
 
@@ -349,7 +357,8 @@ module _ (s : List ℕ) (bytes : Bytes s) (h : Sound true s) (source : ℕ → �
       go (yes l) d = head-at k l
       go (no l) (yes m) =
           place-at k (omega arith) m
-          ∙ byte-other ((k - begin) / ROW-BYTES) ((k - begin) % ROW-BYTES) (λ r b c. n ((k - begin) / ROW-BYTES) r b (⊎-elim (λ e. inl (omega arith)) (λ e. inr (omega arith)) c)) (getD s k 0)
+          ∙ byte-other ((k - begin) / ROW-BYTES) ((k - begin) % ROW-BYTES)
+          (λ r b c. n ((k - begin) / ROW-BYTES) r b (⊎-elim (λ e. inl (omega arith)) (λ e. inr (omega arith)) c)) (getD s k 0)
       go (no l) (no m) = past-at k (omega arith)
 
   filled-begin : rowsBegin f ≡ rowsBegin s
@@ -365,7 +374,8 @@ module _ (s : List ℕ) (bytes : Bytes s) (h : Sound true s) (source : ℕ → �
   unfolding sourcesOf sourceOf
   filled-source i l b =
       pair-is (rowBytes f) i 12
-      ∙ ap₂ (λ (x y : ℕ). x * 256 + y) (bytes-at s f i 12 filled-begin filled-rows l (omega arith) ∙ row-at i 12 l (omega arith) ∙ byte-12 i l b _) (bytes-at s f i 13 filled-begin filled-rows l (omega arith) ∙ row-at i 13 l (omega arith) ∙ byte-13 i l b _)
+      ∙ ap₂ (λ (x y : ℕ). x * 256 + y) (bytes-at s f i 12 filled-begin filled-rows l (omega arith) ∙ row-at i 12 l (omega arith)
+      ∙ byte-12 i l b _) (bytes-at s f i 13 filled-begin filled-rows l (omega arith) ∙ row-at i 13 l (omega arith) ∙ byte-13 i l b _)
       ∙ omega arith
 
   pub filled-filling : Filling s f

@@ -131,16 +131,23 @@ module _ {s f : List ℕ} (fl : Filling s f) where
   unfolding threeAt
   three-kept a l e =
       let b = begin-plain s e in
-      rw
-      (pair-head (HEADER + a * PLACE-BYTES + 0) (omega arith), pair-head (HEADER + a * PLACE-BYTES + 2) (omega arith), pair-head (HEADER + a * PLACE-BYTES + 4) (omega arith))
+      rw (
+        pair-head (HEADER + a * PLACE-BYTES + 0) (omega arith),
+        pair-head (HEADER + a * PLACE-BYTES + 2) (omega arith),
+        pair-head (HEADER + a * PLACE-BYTES + 4) (omega arith),
+      )
       refl
 
   four-kept : (a : ℕ) → a < agentsAt s → hasHosts s ≡ true → fourAt f a ≡ fourAt s a
   unfolding fourAt
   four-kept a l e =
       let b = begin-hosts s e in
-      rw
-      (pair-head (HEADER + a * HOSTS-PLACE-BYTES + 0) (omega arith), pair-head (HEADER + a * HOSTS-PLACE-BYTES + 2) (omega arith), pair-head (HEADER + a * HOSTS-PLACE-BYTES + 4) (omega arith), pair-head (HEADER + a * HOSTS-PLACE-BYTES + 6) (omega arith))
+      rw (
+        pair-head (HEADER + a * HOSTS-PLACE-BYTES + 0) (omega arith),
+        pair-head (HEADER + a * HOSTS-PLACE-BYTES + 2) (omega arith),
+        pair-head (HEADER + a * HOSTS-PLACE-BYTES + 4) (omega arith),
+        pair-head (HEADER + a * HOSTS-PLACE-BYTES + 6) (omega arith),
+      )
       refl
 
   place-kept : (a : ℕ) → a < agentsAt s → placeAt f a ≡ placeAt s a
@@ -179,7 +186,8 @@ module _ {s f : List ℕ} (fl : Filling s f) where
   pair-kept : (i k : ℕ) → k + 1 < ROW-BYTES → (k + 1 < 12) ⊎ (13 < k) → pairOf (rowBytes f) i k ≡ pairOf (rowBytes s) i k
   pair-kept i k h o =
       pair-is (rowBytes f) i k
-      ∙ ap₂ (λ (x y : ℕ). x * 256 + y) (byte-kept i k (omega arith) (⊎-elim (λ p. inl (omega arith)) (λ p. inr p) o)) (byte-kept i (k + 1) h (⊎-elim (λ p. inl p) (λ p. inr (omega arith)) o))
+      ∙ ap₂ (λ (x y : ℕ). x * 256 + y) (byte-kept i k (omega arith) (⊎-elim (λ p. inl (omega arith)) (λ p. inr p) o))
+      (byte-kept i (k + 1) h (⊎-elim (λ p. inl p) (λ p. inr (omega arith)) o))
       ∙ sym (pair-is (rowBytes s) i k)
 
   pub row-kept : (i : ℕ) → rowOf (rowBytes f) i ≡ rowOf (rowBytes s) i
@@ -207,12 +215,14 @@ module _ {s f : List ℕ} (fl : Filling s f) where
   pub source-kept : (i : ℕ) → blankAt s i ≡ false → sourcesOf f i ≡ sourcesOf s i
   unfolding sourcesOf sourceOf
   source-kept i n =
-      pair-is (rowBytes f) i 12 ∙ ap₂ (λ (x y : ℕ). x * 256 + y) (byte-whole i 12 (omega arith) n) (byte-whole i 13 (omega arith) n) ∙ sym (pair-is (rowBytes s) i 12)
+      pair-is (rowBytes f) i 12 ∙ ap₂ (λ (x y : ℕ). x * 256 + y) (byte-whole i 12 (omega arith) n) (byte-whole i 13 (omega arith) n)
+      ∙ sym (pair-is (rowBytes s) i 12)
 
   atomic-no-blank : (i : ℕ) → atomic (rowOf (rowBytes s) i) ≡ true → blankAt s i ≡ false
   unfolding blankAt blank tableOf tableUnder decode
   atomic-no-blank i a =
-      ⊎-elim (λ t. absurd (atomic-not-blank (rowOf (rowBytes s) i) a (split t .0))) (λ n. n) (which (plainRead (rowOf (rowBytes s) i) and eqb (sourcesOf s i) BLANK))
+      ⊎-elim (λ t. absurd (atomic-not-blank (rowOf (rowBytes s) i) a (split t .0))) (λ n. n)
+      (which (plainRead (rowOf (rowBytes s) i) and eqb (sourcesOf s i) BLANK))
 
   atomic-kept : (i : ℕ) → atomicSource (rowBytes f) i ≡ atomicSource (rowBytes s) i
   unfolding atomicSource sourcesOf

@@ -28,7 +28,8 @@ module _ (t : Table) (s : ℕ) where
   step-live m n p q e =
       ⊎-elim
       (λ d. inl (⊎-elim
-      (λ a. ⊎-elim (λ b. holding-live m p (split (split b .0) .0)) (λ b. holding-live n q (split (split (split b .0) .0) .0)) (or-cases (bySync t s m n) (toRelease t s m n) a))
+      (λ a. ⊎-elim (λ b. holding-live m p (split (split b .0) .0)) (λ b. holding-live n q (split (split (split b .0) .0) .0))
+      (or-cases (bySync t s m n) (toRelease t s m n) a))
       (λ a. holding-live m p (split (split (split a .0) .0) .0))
       (or-cases (bySync t s m n or toRelease t s m n) (fromAcquire t s m n) d)))
       (λ d. inr d)

@@ -62,8 +62,14 @@ module _ (t : Table) (none : NoHosts t) where
 
   pub happens-is₁ : (m n : ℕ) → m < 3 * t .rows → n < 3 * t .rows → (happens t m n ≡ true) ↔ HappensBefore₁ t m n
   happens-is₁ m n p q = (
-    λ e. ⊎-elim (λ h. inl h) (λ w. inr (w .0, w .1, w .2, reach-cong (step t (w .0)) (step₁ t (w .0)) (3 * t .rows) (λ i j l k. step-is (w .0) i j) p q (w .3))) (happens-is t m n p q .0 e),
-    λ d. happens-is t m n p q .1 (⊎-elim (λ h. inl h) (λ w. inr (w .0, w .1, w .2, reach-cong (step₁ t (w .0)) (step t (w .0)) (3 * t .rows) (λ i j l k. sym (step-is (w .0) i j)) p q (w .3))) d),
+    λ e. ⊎-elim (λ h. inl h) (λ w. inr (
+      w .0,
+      w .1,
+      w .2,
+      reach-cong (step t (w .0)) (step₁ t (w .0)) (3 * t .rows) (λ i j l k. step-is (w .0) i j) p q (w .3),
+    )) (happens-is t m n p q .0 e),
+    λ d. happens-is t m n p q .1 (⊎-elim (λ h. inl h)
+        (λ w. inr (w .0, w .1, w .2, reach-cong (step₁ t (w .0)) (step t (w .0)) (3 * t .rows) (λ i j l k. sym (step-is (w .0) i j)) p q (w .3))) d),
   )
 
   no-reach : (x y : ℕ) → Reach (t .depends) (t .rows) x y → ⊥
@@ -77,7 +83,8 @@ module _ (t : Table) (none : NoHosts t) where
   -- a row that is no operation makes nothing available to a domain
   kind-operation : (r : Row) (k : ℕ) → AVAILABLE-HOST ≤ k → k ≤ DEVICE-TO-HOST → operation r ≡ false → eqb (r .kind) k ≡ false
   unfolding operation
-  kind-operation r k l m e = not-so _ (λ h. let q = eqb-true (r .kind) k h in not-both (and-true (le-leb AVAILABLE-HOST (r .kind) (omega arith)) (le-leb (r .kind) DEVICE-TO-HOST (omega arith))) e)
+  kind-operation r k l m e = not-so _ (λ h. let q = eqb-true (r .kind) k h in
+      not-both (and-true (le-leb AVAILABLE-HOST (r .kind) (omega arith)) (le-leb (r .kind) DEVICE-TO-HOST (omega arith))) e)
 
   available-kind : (x : ℕ) → (AVAILABLE-HOST ≤ availableKind t x) × (availableKind t x ≤ DEVICE-TO-HOST)
   unfolding availableKind
@@ -89,7 +96,8 @@ module _ (t : Table) (none : NoHosts t) where
 
   no-way : (x y a : ℕ) → a < t .rows → reachesBy t x y a ≡ false
   unfolding reachesBy thence
-  no-way x y a l = and-false-left _ _ (and-false-left _ _ (kind-operation (t .row a) (availableKind t x) (available-kind x .0) (available-kind x .1) (none .rows a l)))
+  no-way x y a l = and-false-left _ _ (and-false-left _ _
+      (kind-operation (t .row a) (availableKind t x) (available-kind x .0) (available-kind x .1) (none .rows a l)))
 
   no-L5 : (x y : ℕ) → L5 t x y ≡ false
   unfolding L5
@@ -125,7 +133,9 @@ module _ {blanks : Bool} {s : List ℕ} (h : Sound blanks s) (old : hasHosts s �
 
   no-operation : (i : ℕ) → i < rowsAt s → operation (rowOf (rowBytes s) i) ≡ false
   unfolding codesFit operation
-  no-operation i l = not-so _ (λ e. ⊎-elim (λ k. clash (leb-true (rowOf (rowBytes s) i .kind) CONTROL k) (leb-true AVAILABLE-HOST (rowOf (rowBytes s) i .kind) (split e .0))) (λ k. not-both (split k .0) old) (or-cases (leb (rowOf (rowBytes s) i .kind) CONTROL) _ (row-right h i l .codes .kind)))
+  no-operation i l = not-so _ (λ e. ⊎-elim (λ k. clash (leb-true (rowOf (rowBytes s) i .kind) CONTROL k)
+      (leb-true AVAILABLE-HOST (rowOf (rowBytes s) i .kind) (split e .0))) (λ k. not-both (split k .0) old)
+      (or-cases (leb (rowOf (rowBytes s) i .kind) CONTROL) _ (row-right h i l .codes .kind)))
     where
       clash : {n : ℕ} → n ≤ CONTROL → AVAILABLE-HOST ≤ n → ⊥
       clash p q = omega arith
@@ -144,7 +154,8 @@ module _ {blanks : Bool} {s : List ℕ} (h : Sound blanks s) (old : hasHosts s �
     where
       go : Dec (a < AGENTS) → getD (getD (tabulate (slotAt s) AGENTS) a []) 3 0 ≡ 0
       go (yes l) = ap (λ (p : List ℕ). getD p 3 0) (getD-tabulate (slotAt s) AGENTS a [] l) ∙ fourth a
-      go (no l) = ap (λ (p : List ℕ). getD p 3 0) (List·getD-eq-default (tabulate (slotAt s) AGENTS) [] (subst (λ (n : ℕ). n ≤ a) (sym (length-tabulate (slotAt s) AGENTS)) (omega arith)))
+      go (no l) = ap (λ (p : List ℕ). getD p 3 0)
+          (List·getD-eq-default (tabulate (slotAt s) AGENTS) [] (subst (λ (n : ℕ). n ≤ a) (sym (length-tabulate (slotAt s) AGENTS)) (omega arith)))
 
   -- VERSIONS 1 AND 2 ARE AS BEFORE
   pub no-hosts : (chains : Bool) → NoHosts (tableUnder chains s)

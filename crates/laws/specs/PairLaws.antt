@@ -108,11 +108,14 @@ unfolding shares
 shares-sym p scope a b = rw (instance-sym p scope a b) (and-swap (shader p a) (shader p b) (oneInstance p scope b a))
   where
     and-swap : (x y z : Bool) → (x and y and z) ≡ (y and x and z)
-    and-swap x y z = bool-ext (x and y and z) (y and x and z) (λ e. and-true (and-true (split (split e .0) .1) (split (split e .0) .0)) (split e .1)) (λ e. and-true (and-true (split (split e .0) .1) (split (split e .0) .0)) (split e .1))
+    and-swap x y z = bool-ext (x and y and z) (y and x and z)
+        (λ e. and-true (and-true (split (split e .0) .1) (split (split e .0) .0)) (split e .1))
+        (λ e. and-true (and-true (split (split e .0) .1) (split (split e .0) .0)) (split e .1))
 
 together-sym : (p : List (List ℕ)) (r q : Row) → together p r q ≡ true → together p q r ≡ true
 unfolding together
-together-sym p r q e = and-true (sym (shares-sym p (q .scope) (r .agent) (q .agent)) ∙ split e .1) (sym (shares-sym p (r .scope) (r .agent) (q .agent)) ∙ split e .0)
+together-sym p r q e = and-true (sym (shares-sym p (q .scope) (r .agent) (q .agent)) ∙ split e .1)
+    (sym (shares-sym p (r .scope) (r .agent) (q .agent)) ∙ split e .0)
 
 location-sym : (r q : Row) → sameLocation r q ≡ sameLocation q r
 unfolding sameLocation
@@ -142,7 +145,8 @@ module _ (t : Table) where
   conflict-in x y b n c w =
       let d = common-out (t .row x) (t .row y) b c in
       and-true (not-in (ne-eqb x y n))
-      (and-true (and-true (and-true (d .0) (d .1)) (⊎-elim (λ e. or-left _ e) (λ e. or-right (writes (t .row x)) e) w)) (overlap-is (t .row x) (t .row y) .1 (b, d .2, d .3)))
+      (and-true (and-true (and-true (d .0) (d .1)) (⊎-elim (λ e. or-left _ e) (λ e. or-right (writes (t .row x)) e) w))
+      (overlap-is (t .row x) (t .row y) .1 (b, d .2, d .3)))
 
   -- where no pair races, two rows of which one writes are mutually-ordered or ordered at each byte that they share
   pub either-way : ((x y : ℕ) → x < y → y < t .rows → Races t x y → ⊥) → (x y b : ℕ) → x < t .rows → y < t .rows → (x ≡ y → ⊥)
@@ -154,5 +158,8 @@ module _ (t : Table) where
       go : before t x y b ≡ false → before t y x b ≡ false → Dec (x < y) → ⊥
       go e g (yes k) = free x y k m (conflict-in x y b n c w, f, (b, (c, e, g)))
       go e g (no k) =
-          free y x (omega arith) l
-          (conflict-in y x b (λ q. n (sym q)) (common-sym (t .row x) (t .row y) b c) (⊎-elim (λ h. inr h) (λ h. inl h) w), mutually-not x y f, (b, (common-sym (t .row x) (t .row y) b c, g, e)))
+          free y x (omega arith) l (
+            conflict-in y x b (λ q. n (sym q)) (common-sym (t .row x) (t .row y) b c) (⊎-elim (λ h. inr h) (λ h. inl h) w),
+            mutually-not x y f,
+            (b, (common-sym (t .row x) (t .row y) b c, g, e)),
+          )

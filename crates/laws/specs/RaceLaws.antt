@@ -151,7 +151,13 @@ module _ (t : Table) where
         byte-below = nth-low x y (pair .1 .2 .0) l (pair .1 .2 .1)
 
         first : (u v : ℕ) → u < v → v < t .rows → Races t u v → (x < u) ⊎ ((x ≡ u) × (y ≤ v))
-        first u v p q r = ⊎-elim (λ e. inr (e, subst (λ (z : ℕ). racePartner t z ≤ v) (sym e) (partner-low u v p q r))) (λ m. inl m) (eq-or-lt-of-le (row-low u v p q r))
+        first u v p q r = ⊎-elim (λ e. inr (e, subst (λ (z : ℕ). racePartner t z ≤ v) (sym e) (partner-low u v p q r))) (λ m. inl m)
+            (eq-or-lt-of-le (row-low u v p q r))
 
     pub race-none : (raceRow t ≡ t .rows) ↔ ((x y : ℕ) → x < y → y < t .rows → Races t x y → ⊥)
-    race-none = (λ e x y l m r. let p = row-low x y l m r in omega arith, λ f. ⊎-elim (λ e. e) (λ l. let s = race-shown l in absurd (f _ _ (s .below) (s .rows) (s .racing))) (eq-or-lt-of-le race-row-bound))
+    race-none = (
+      λ e x y l m r. let p = row-low x y l m r in
+          omega arith,
+      λ f. ⊎-elim (λ e. e) (λ l. let s = race-shown l in
+          absurd (f _ _ (s .below) (s .rows) (s .racing))) (eq-or-lt-of-le race-row-bound),
+    )

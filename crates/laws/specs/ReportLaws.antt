@@ -98,7 +98,8 @@ module _ (t : Table) (x y : ℕ) where
           let lo = g .0 in
           let hi = g .1 in
           let q : t .row x .start + (b - t .row x .start) ≡ b = omega arith in
-          at b (subst (λ (z : ℕ). (not (common (t .row x) (t .row y) z) or before t x y z or before t y x z) ≡ true) q (all-out p LONGEST e (b - t .row x .start) (omega arith))) c
+          at b (subst (λ (z : ℕ). (not (common (t .row x) (t .row y) z) or before t x y z or before t y x z) ≡ true) q
+          (all-out p LONGEST e (b - t .row x .start) (omega arith))) c
 
       forth : (conflict t x y and not (mutually t x y) and allBelow LONGEST p) ≡ true → (conflict t x y ≡ true) × (mutually t x y ≡ false) × Throughout t x y
       forth e = let a = split e in let b = split (a .0) in (b .0, not-out _ (b .1), byte (a .1))
@@ -149,12 +150,15 @@ module _ (t : Table) where
 
       back : ((x y : ℕ) → x < y → y < t .rows → conflict t x y ≡ true → races t x y ≡ true) → racing t ≡ conflicting t
       back f =
-          let a : countPairs (t .rows) (conflictMutual t) ≡ 0 = pairs-off (conflictMutual t) (t .rows) (λ x y l h. one-none _ (let w = only x y (f x y l h) in omega arith)) in
-          let b : countPairs (t .rows) (conflictOrdered t) ≡ 0 = pairs-off (conflictOrdered t) (t .rows) (λ x y l h. one-none _ (let w = only x y (f x y l h) in omega arith)) in
+          let a : countPairs (t .rows) (conflictMutual t) ≡ 0 = pairs-off (conflictMutual t) (t .rows)
+          (λ x y l h. one-none _ (let w = only x y (f x y l h) in omega arith)) in
+          let b : countPairs (t .rows) (conflictOrdered t) ≡ 0 = pairs-off (conflictOrdered t) (t .rows)
+          (λ x y l h. one-none _ (let w = only x y (f x y l h) in omega arith)) in
           let s = adds-up in
           omega arith
         where
           only : (x y : ℕ) → (conflict t x y ≡ true → races t x y ≡ true) → one (conflictMutual t x y) + one (conflictOrdered t x y) ≡ 0
           only x y g =
               let w = one-way t x y in
-              ⊎-elim (λ c. let p : one (races t x y) ≡ one (conflict t x y) = ap one (g c ∙ sym c) in omega arith) (λ c. let p = one-off c in omega arith) (which (conflict t x y))
+              ⊎-elim (λ c. let p : one (races t x y) ≡ one (conflict t x y) = ap one (g c ∙ sym c) in omega arith) (λ c.
+              let p = one-off c in omega arith) (which (conflict t x y))

@@ -62,7 +62,8 @@ module _ (member : ℕ → Bool) (rank : ℕ → ℕ) (n : ℕ) where
       unfolding some aged
       hit =
           let w : age (rank x) c < RUN = f .2 x xl xm in
-          least-hit (some c) RUN (any-in (some c) RUN (age (rank x) c) w (any-in (aged c (age (rank x) c)) n x xl (and-true xm (eq-eqb (age (rank x) c) (age (rank x) c) refl))))
+          least-hit (some c) RUN (any-in (some c) RUN (age (rank x) c) w
+          (any-in (aged c (age (rank x) c)) n x xl (and-true xm (eq-eqb (age (rank x) c) (age (rank x) c) refl))))
 
       first : (m : ℕ) × (m < n) × (aged c low m ≡ true)
       unfolding some

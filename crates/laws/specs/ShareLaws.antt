@@ -101,7 +101,8 @@ one-all : (n d : ℕ) → n ≤ d → d ≤ MOST → 0 < d → quotient n d ≡ 
 unfolding quotient
 one-all n d h k l e =
     ⊎-elim (λ q. q)
-    (λ m. absurd (below-one (subst (λ (x : Float). T (le x (round binary64 false 65534 MOST))) e (round-mono binary64 n d 65534 MOST l (lit< tt) (omega arith)))))
+    (λ m. absurd (below-one (subst (λ (x : Float). T (le x (round binary64 false 65534 MOST))) e
+    (round-mono binary64 n d 65534 MOST l (lit< tt) (omega arith)))))
     (eq-or-lt-of-le h)
 
 module _ (n d : ℕ) (fits : d ≤ MOST) (some : 0 < d) where

@@ -166,7 +166,8 @@ module _ (t : Table) where
         go (inl e) =
             record {
               one = λ x y p n. let w = three x y y e p (self x y p) in rw e (ranks-counted (w .0) (w .1) .one _ _ (w .3) (w .2) (λ h. n (sym h)));
-              chain = λ x y z p q a b. let w = three x y z e p q in rw e (ranks-counted (w .0) (w .1) .chain _ _ _ (w .4) (w .3) (w .2) (rw e at b) (rw e at a));
+              chain = λ x y z p q a b. let w = three x y z e p q in
+                  rw e (ranks-counted (w .0) (w .1) .chain _ _ _ (w .4) (w .3) (w .2) (rw e at b) (rw e at a));
             }
         go (inr e) =
             record {

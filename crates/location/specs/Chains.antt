@@ -111,7 +111,8 @@ module _ (p : List (List ℕ)) (r q s u : Row) where
 
   -- the domain that is found, by the number that byDomain counts it by
   meet-out : (m n : ℕ) → meetIn p (widest m n) r q s u ≡ true
-      → (k : ℕ) × (k < DEVICE) × (suc k ≤ m) × (suc k ≤ n) × (shares p (suc k) (r .agent) (q .agent) ≡ true) × (shares p (suc k) (r .agent) (s .agent) ≡ true) × (shares p (suc k) (q .agent) (u .agent) ≡ true)
+      → (k : ℕ) × (k < DEVICE) × (suc k ≤ m) × (suc k ≤ n) × (shares p (suc k) (r .agent) (q .agent) ≡ true)
+      × (shares p (suc k) (r .agent) (s .agent) ≡ true) × (shares p (suc k) (q .agent) (u .agent) ≡ true)
   unfolding meetIn widest
   meet-out m n e =
       let f = split e in
@@ -133,7 +134,8 @@ module _ (t : Table) (x y b c : ℕ) where
       let k = meet-out (t .places) (t .row x) (t .row y) (t .row c) (t .row w) (t .row c .scope) (t .row w .scope) (f .1) in
       any-in (byDomain t x y b c) DEVICE (k .0) (k .1)
       (and-true (and-true (k .4) (and-true (le-leb (suc (k .0)) (t .row c .scope) (k .2)) (k .5)))
-      (rw r (any-in (visibleVia t (suc (k .0)) y b c) (t .rows) w l (and-true (and-true (and-true (le-leb (suc (k .0)) (t .row w .scope) (k .3)) (k .6)) (f .0)) v))))
+      (rw r (any-in (visibleVia t (suc (k .0)) y b c) (t .rows) w l
+      (and-true (and-true (and-true (le-leb (suc (k .0)) (t .row w .scope) (k .3)) (k .6)) (f .0)) v))))
 
   ends-reader-there : reads (t .row y) ≡ true → anyBelow (t .rows) (shownBy t x y b c) ≡ true → anyBelow DEVICE (byDomain t x y b c) ≡ true
   unfolding shownBy startsWith visibleTo visibleBy visibilityChain
@@ -145,7 +147,8 @@ module _ (t : Table) (x y b c : ℕ) where
       (λ h.
       let w = any-out (startsWith t x y c (v .0)) (t .rows) (split h .1) in
       let g = split (w .2) in
-      domain-shown (w .0) (w .1) r (g .1) (any-in (visibleBy t y b (w .0)) (t .rows) (v .0) (v .1) (and-true (f .0) (or-right (eqb (w .0) (v .0)) (and-true (split h .0) (g .0))))))
+      domain-shown (w .0) (w .1) r (g .1) (any-in (visibleBy t y b (w .0)) (t .rows) (v .0) (v .1)
+      (and-true (f .0) (or-right (eqb (w .0) (v .0)) (and-true (split h .0) (g .0))))))
       (or-cases (seen t x y c (v .0)) (t .chains and anyBelow (t .rows) (startsWith t x y c (v .0))) (f .1))
 
   seen-of : (k w : ℕ) → k < DEVICE → shares (t .places) (suc k) (t .row x .agent) (t .row y .agent) ≡ true → inDomain t (suc k) x c ≡ true
@@ -193,7 +196,8 @@ module _ (t : Table) (x y b c : ℕ) where
       let h : happens t (availableAt t c) (itself y) ≡ true = rw r at (f .1) in
       let g = split (f .0) in
       and-true h
-      (meet-in (t .places) (t .row x) (t .row y) (t .row c) (t .row y) (t .row c .scope) DEVICE (k .0) l (leb-true (suc (k .0)) (t .row c .scope) (split (g .1) .0)) (omega arith) (g .0)
+      (meet-in (t .places) (t .row x) (t .row y) (t .row c) (t .row y) (t .row c .scope) DEVICE (k .0) l
+      (leb-true (suc (k .0)) (t .row c .scope) (split (g .1) .0)) (omega arith) (g .0)
       (split (g .1) .1) (shares-right (t .places) (suc (k .0)) (t .row x .agent) (t .row y .agent) (omega arith) (omega arith) (g .0)))
 
   pub ends-is : endsAt t x y b c ≡ anyBelow DEVICE (byDomain t x y b c)
@@ -213,12 +217,14 @@ module _ (t : Table) (x y b : ℕ) where
       ⊎-elim
       (λ h.
       any-in (availableVia t x y b) (t .rows) (a .0) (a .1)
-      (and-true (any-in (availableBy t x b (a .0)) (t .rows) (a .0) (a .1) (and-true (f .0) (or-left _ (eq-eqb (a .0) (a .0) refl)))) (sym (ends-is t x y b (a .0)) ∙ h)))
+      (and-true (any-in (availableBy t x b (a .0)) (t .rows) (a .0) (a .1) (and-true (f .0) (or-left _ (eq-eqb (a .0) (a .0) refl))))
+      (sym (ends-is t x y b (a .0)) ∙ h)))
       (λ h.
       let c = any-out (endsWith t x y b (a .0)) (t .rows) (split h .1) in
       let g = split (c .2) in
       any-in (availableVia t x y b) (t .rows) (c .0) (c .1)
-      (and-true (any-in (availableBy t x b (c .0)) (t .rows) (a .0) (a .1) (and-true (f .0) (or-right (eqb (a .0) (c .0)) (and-true (split h .0) (g .0))))) (sym (ends-is t x y b (c .0)) ∙ g .1)))
+      (and-true (any-in (availableBy t x b (c .0)) (t .rows) (a .0) (a .1)
+      (and-true (f .0) (or-right (eqb (a .0) (c .0)) (and-true (split h .0) (g .0))))) (sym (ends-is t x y b (c .0)) ∙ g .1)))
       (or-cases (endsAt t x y b (a .0)) (t .chains and anyBelow (t .rows) (endsWith t x y b (a .0))) (f .1))
 
   firsts-back : anyBelow (t .rows) (availableVia t x y b) ≡ true → anyBelow (t .rows) (carriedBy t x y b) ≡ true
@@ -378,9 +384,11 @@ module _ (t : List ℕ) (p : List (List ℕ)) (mode : Mode) (n x y b : ℕ) wher
   unfolding shownBy
   shown-off c v q h k eq eh ek off = not-so _ told
     where
-      some : (seen (decode t p mode n) x y c v or (decode t p mode n .chains and anyBelow (decode t p mode n .rows) (startsWith (decode t p mode n) x y c v))) ≡ true
+      some : (seen (decode t p mode n) x y c v
+          or (decode t p mode n .chains and anyBelow (decode t p mode n .rows) (startsWith (decode t p mode n) x y c v))) ≡ true
           → (mode .chains or h or k) ≡ true
-      some e = ⊎-elim (λ g. ⊎-elim (λ f. or-left k (or-right (mode .chains) f)) (λ f. or-right (mode .chains or h) f) (seen-bits c v h k eh ek g)) (λ g. or-left k (or-left h (chains-of (split g .0)))) (or-cases _ _ e)
+      some e = ⊎-elim (λ g. ⊎-elim (λ f. or-left k (or-right (mode .chains) f)) (λ f. or-right (mode .chains or h) f)
+          (seen-bits c v h k eh ek g)) (λ g. or-left k (or-left h (chains-of (split g .0)))) (or-cases _ _ e)
 
       told : shownBy (decode t p mode n) x y b c v ≡ true → ⊥
       told e = not-both (and-true (some (split e .1)) (rw eq (last-tells v (split e .0) .0))) off
@@ -395,7 +403,8 @@ module _ (t : List ℕ) (p : List (List ℕ)) (mode : Mode) (n x y b : ℕ) wher
       → shownBy (decode t p mode n) x y b i v ≡ false
   shown-out i v k q s h g eq es ek eh eg off =
       let e = available-of i k s es ek in
-      shown-off i v q h g eq (eh ∙ ap (λ (m : ℕ). happens (decode t p mode n) m (3 * v)) e) (eg ∙ ap (λ (m : ℕ). happens (decode t p mode n) m (3 * v + 2)) e) off
+      shown-off i v q h g eq (eh ∙ ap (λ (m : ℕ). happens (decode t p mode n) m (3 * v)) e)
+      (eg ∙ ap (λ (m : ℕ). happens (decode t p mode n) m (3 * v + 2)) e) off
 
   pub shown-none : (c : ℕ) → anyBelow (y + 1) (shownBy (decode t p mode n) x y b c) ≡ false → anyBelow n (shownBy (decode t p mode n) x y b c) ≡ false
   unfolding shownBy

@@ -174,7 +174,8 @@ unfolding rel depends
 depends-none {n} mode w small room e =
     record {
       fits = omega arith;
-      cell = λ i j p q. rw e (bit-zeros-in w SYSTEM (SYSTEM-END - SYSTEM) ((SYSTEM + i * GRID) * 64 + j) (omega arith) (omega arith) (omega arith) ∙ sym (any-none _));
+      cell = λ i j p q. rw e (bit-zeros-in w SYSTEM (SYSTEM-END - SYSTEM) ((SYSTEM + i * GRID) * 64 + j) (omega arith) (omega arith)
+          (omega arith) ∙ sym (any-none _));
     }
 
 pub depends-more : (mode : Mode) (k i j : ℕ) → (depends mode k i j or nthDepends mode k i j) ≡ depends mode (k + 1) i j
@@ -357,7 +358,9 @@ module _ (b : List ℕ) (p : List (List ℕ)) (mode : Mode) (n : ℕ) (none : un
   no-way : (x y a : ℕ) → a < n → reachesBy (decode b p mode n) x y a ≡ false
   unfolding reachesBy thence availableKind decode
   no-way x y a l =
-      and-false-left _ _ (and-false-left _ _ (not-so _ (λ e. let k = available-kinds (onHost (decode b p mode n) x) (rowOf b a .kind) e in not-both (operation-kind (rowOf b a) _ (k .3) (k .4) (eq-eqb (rowOf b a .kind) _ refl)) (no-operation a l))))
+      and-false-left _ _ (and-false-left _ _
+      (not-so _ (λ e. let k = available-kinds (onHost (decode b p mode n) x) (rowOf b a .kind) e in
+      not-both (operation-kind (rowOf b a) _ (k .3) (k .4) (eq-eqb (rowOf b a .kind) _ refl)) (no-operation a l))))
 
   no-fifth : (x y : ℕ) → L5 (decode b p mode n) x y ≡ false
   unfolding L5 decode
@@ -374,7 +377,8 @@ module _ (b : List ℕ) (p : List (List ℕ)) (mode : Mode) (n : ℕ) (none : un
       record {
         holds = record {
           fits = omega arith;
-          cell = λ i j h g. rw e (bit-zeros-in w HOSTED (HOSTED-END - HOSTED) ((HOSTED + i * GRID) * 64 + j) (omega arith) (omega arith) (omega arith) ∙ sym (no-hosted i j h g));
+          cell = λ i j h g. rw e (bit-zeros-in w HOSTED (HOSTED-END - HOSTED) ((HOSTED + i * GRID) * 64 + j) (omega arith) (omega arith)
+              (omega arith) ∙ sym (no-hosted i j h g));
         };
         frame = within-widen HOSTED REACHED-END (omega arith) (omega arith) (within-cleared HOSTED HOSTED-END (omega arith) e);
       }
@@ -417,5 +421,6 @@ made-hosted f g h m =
       holds = m .holds;
       frame = within-trans
           (within-trans (within-widen HOSTED REACHED-END (omega arith) (omega arith) f) (within-widen HOSTED REACHED-END (omega arith) (omega arith) g))
-          (within-trans (within-widen HOSTED REACHED-END (omega arith) (omega arith) h) (within-widen HOSTED REACHED-END (omega arith) (omega arith) (m .frame)));
+          (within-trans (within-widen HOSTED REACHED-END (omega arith) (omega arith) h)
+          (within-widen HOSTED REACHED-END (omega arith) (omega arith) (m .frame)));
     }

@@ -70,7 +70,8 @@ module _ (t : Table) (x y : ℕ) (r q : Row) (er : r ≡ t .row x) (eq : q ≡ t
   hosted-is k e = rw (← er, ← eq, share-common x y r q (r .start + k) e) refl
 
   -- a, c, g and d are what L1, L2, L4 with L5, and L3 tell
-  module _ (k : ℕ) (h a c g : Bool) (apart : (not (eqb x y) and common r q (r .start + k)) ≡ true) (happening : h ≡ happens t (itself x) (itself y)) (hosting : g ≡ hosted t x y) where
+  module _ (k : ℕ) (h a c g : Bool) (apart : (not (eqb x y) and common r q (r .start + k)) ≡ true)
+      (happening : h ≡ happens t (itself x) (itself y)) (hosting : g ≡ hosted t x y) where
     first-is : a ≡ (eqb (r .agent) (q .agent) and sameReference r q and h) → a ≡ L1 t x y
     unfolding L1 sameAgent
     first-is f = rw (← er, ← eq, ← happening) f
@@ -83,7 +84,17 @@ module _ (t : Table) (x y : ℕ) (r q : Row) (er : r ≡ t .row x) (eq : q ≡ t
         → (a or c or g or d) ≡ beforeNth t x y k
     unfolding beforeNth before _and_
     told d e f l =
-        rw (← er, ← eq, apart, ← first-is e, ← second-is f, ← l, or-assoc (a or c or d) (L4 t x y) (L5 t x y), ← hosted-is k apart, ← hosting) (or-last (a or c) g d)
+        rw (
+          ← er,
+          ← eq,
+          apart,
+          ← first-is e,
+          ← second-is f,
+          ← l,
+          or-assoc (a or c or d) (L4 t x y) (L5 t x y),
+          ← hosted-is k apart,
+          ← hosting,
+        ) (or-last (a or c) g d)
 
     pub before-first : a ≡ (eqb (r .agent) (q .agent) and sameReference r q and h) → c ≡ (pureRead r q and h) → (a or c or g) ≡ true
         → true ≡ beforeNth t x y k
@@ -126,6 +137,7 @@ made-placed h r m =
       placed = record { mutuals = ordered-kept (omega arith) (m .frame) (r .reaching .ordered) .mutuals; location = m .cube };
       frame =
           within-trans
-          (within-trans (within-widen LOCATION LOCATED-END (omega arith) (omega arith) (h .frame)) (within-widen LOCATION LOCATED-END (omega arith) (omega arith) (r .frame)))
+          (within-trans (within-widen LOCATION LOCATED-END (omega arith) (omega arith) (h .frame))
+          (within-widen LOCATION LOCATED-END (omega arith) (omega arith) (r .frame)))
           (within-widen LOCATION LOCATED-END (omega arith) (omega arith) (m .frame));
     }

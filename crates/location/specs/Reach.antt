@@ -69,13 +69,15 @@ module _ (t : List ℕ) (p : List (List ℕ)) (mode : Mode) (n : ℕ) where
   unfolding availabilityOf makesAvailable rowOf
   broadens-off a c off =
       not-so _
-      (λ e. not-both (split (split (split (split (sym (broadens-row a c _ _ _ _ _ _ _ refl refl refl refl (available-small (rowOf t c)) refl refl refl) ∙ e) .0) .0) .0) .0) off)
+      (λ e. not-both (split (split (split (split
+      (sym (broadens-row a c _ _ _ _ _ _ _ refl refl refl refl (available-small (rowOf t c)) refl refl refl) ∙ e) .0) .0) .0) .0) off)
 
   pub narrows-off : (j v : ℕ) → meets (byteOf t j 5) 4 ≡ false → narrows (decode t p mode n) j v ≡ false
   unfolding visibilityOf makesVisible rowOf
   narrows-off j v off =
       not-so _
-      (λ e. not-both (split (split (split (split (sym (narrows-row j v _ _ _ _ _ _ _ refl refl refl refl (visible-small (rowOf t j)) refl refl refl) ∙ e) .0) .0) .0) .0) off)
+      (λ e. not-both (split (split (split (split
+      (sym (narrows-row j v _ _ _ _ _ _ _ refl refl refl refl (visible-small (rowOf t j)) refl refl refl) ∙ e) .0) .0) .0) .0) off)
 
   -- ---- laws: with chains
 
@@ -107,10 +109,15 @@ reach-both {n = n} o f g =
         out = λ e. holds-kept (λ h. omega arith) (g .frame) (f .holds);
         back = λ e. g .holds;
       };
-      frame = within-trans (within-widen REACH-OUT REACH-IN-END (omega arith) (omega arith) (f .frame)) (within-widen REACH-OUT REACH-IN-END (omega arith) (omega arith) (g .frame));
+      frame = within-trans (within-widen REACH-OUT REACH-IN-END (omega arith) (omega arith) (f .frame))
+          (within-widen REACH-OUT REACH-IN-END (omega arith) (omega arith) (g .frame));
     }
 
 -- a change in the bits of pairs keeps it
 pub reaching-kept : {t : Table} {n : ℕ} {w u : List ℕ} → Within LOCATION LOCATION-END w u → Reaching t n w → Reaching t n u
 reaching-kept f r =
-    record { ordered = ordered-kept (omega arith) f (r .ordered); out = λ e. holds-kept (λ h. omega arith) f (r .out e); back = λ e. holds-kept (λ h. omega arith) f (r .back e) }
+    record {
+      ordered = ordered-kept (omega arith) f (r .ordered);
+      out = λ e. holds-kept (λ h. omega arith) f (r .out e);
+      back = λ e. holds-kept (λ h. omega arith) f (r .back e);
+    }

@@ -138,7 +138,8 @@ fn seen_at(
 // moment c happens before one of its own.
 pub fn may_show(rows: &[u8], mode: Mode, q: Row, c: usize, v: usize, w: &[u64]) -> bool
     requires { ⌜ (c < 3 * ROWS) × (v < ROWS) × (WORK ≤ length (now w)) ⌝ }
-    ensures { λ d. ⌜ d ≡ ((mode .chains or rel (now (w .entry)) HAPPENS MOMENTS c (3 * v) or rel (now (w .entry)) HAPPENS MOMENTS c (3 * v + 2)) and maySee (now (rows .entry)) q v) ⌝ }
+    ensures { λ d. let before = rel (now (w .entry)) HAPPENS MOMENTS c in
+        ⌜ d ≡ ((mode .chains or before (3 * v) or before (3 * v + 2)) and maySee (now (rows .entry)) q v) ⌝ }
 {
     if !(mode.chains
         | happens::happens_bit(w, c, 3 * v)
@@ -223,7 +224,8 @@ pub fn starts_at(
     requires { ⌜ (n ≤ ROWS) × (WORK ≤ length (now w)) × (x < n) × (y < n)
         × (r ≡ rowOf (now rows) x) × (q ≡ rowOf (now rows) y) × Reaching (decode (now rows) p mode n) n (now w) × (i < n) × (v < n)
         × (s ≡ rowOf (now rows) i) ⌝ }
-    ensures { λ d. ⌜ d ≡ (seen (decode (now (rows .entry)) p mode n) x y i v or (mode .chains and anyBelow n (startsWith (decode (now (rows .entry)) p mode n) x y i v))) ⌝ }
+    ensures { λ d. let t = decode (now (rows .entry)) p mode n in
+        ⌜ d ≡ (seen t x y i v or (mode .chains and anyBelow n (startsWith t x y i v))) ⌝ }
 {
     if seen_at(rows, p, mode, n, x, y, r, q, i, s, v, w) {
         return true;
@@ -422,7 +424,8 @@ fn ends_from(
 ) -> bool
     requires { ⌜ (n ≤ ROWS) × (WORK ≤ length (now w)) × (x < n) × (y < n)
         × (r ≡ rowOf (now rows) x) × (q ≡ rowOf (now rows) y) × Reaching (decode (now rows) p mode n) n (now w) × (a < n) × (s ≡ rowOf (now rows) a) ⌝ }
-    ensures { λ d. ⌜ d ≡ (endsAt (decode (now (rows .entry)) p mode n) x y b a or (mode .chains and anyBelow n (endsWith (decode (now (rows .entry)) p mode n) x y b a))) ⌝ }
+    ensures { λ d. let t = decode (now (rows .entry)) p mode n in
+        ⌜ d ≡ (endsAt t x y b a or (mode .chains and anyBelow n (endsWith t x y b a))) ⌝ }
 {
     if ends_at(rows, p, mode, n, x, y, r, q, b, a, s, w) {
         return true;

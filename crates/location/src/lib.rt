@@ -53,7 +53,8 @@ pub fn before_at(
 // The bits of a pair. Rows that share no byte cost one test, and no bit is set.
 fn fill_pair(rows: &[u8], p: Places, mode: Mode, n: usize, x: usize, y: usize, w: &mut [u64])
     requires { ⌜ (n ≤ ROWS) × (WORK ≤ length (now w)) × (x < n) × (y < n) × Prepared (decode (now rows) p mode n) n (now w) ⌝ }
-    ensures { λ _. ⌜ now (w .exit) ≡ rowFill (beforeNth (decode (now (rows .entry)) p mode n) x y) (now (w .entry)) (LOCATION * 64 + x * PAIRS + y * PAIR) PAIR ⌝ }
+    ensures { λ _. let t = decode (now (rows .entry)) p mode n in
+        ⌜ now (w .exit) ≡ rowFill (beforeNth t x y) (now (w .entry)) (LOCATION * 64 + x * PAIRS + y * PAIR) PAIR ⌝ }
 {
     let r = rows::bytes::read_row(rows, x as u16);
     let q = rows::bytes::read_row(rows, y as u16);

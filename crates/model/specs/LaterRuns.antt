@@ -68,23 +68,58 @@ abbrev pub hosts : List Run
 hosts =
     record { ask = asCheck; table = upload; gives = checked raceFree }
     -- the read blank
-    ∷ record { ask = asFill; table = hosted three (write 0 0 1 ∷ perform 7 ∷ perform 11 ∷ perform 10 ∷ read 2 7 255 254 ∷ []) each; gives = filling (filled (65535 ∷ 65535 ∷ 65535 ∷ 65535 ∷ 0 ∷ [])) }
+    ∷ record {
+      ask = asFill;
+      table = hosted three (write 0 0 1 ∷ perform 7 ∷ perform 11 ∷ perform 10 ∷ read 2 7 255 254 ∷ []) each;
+      gives = filling (filled (65535 ∷ 65535 ∷ 65535 ∷ 65535 ∷ 0 ∷ []));
+    }
     -- without the domain operation
-    ∷ record { ask = asCheck; table = hosted three (write 0 0 1 ∷ perform 7 ∷ perform 10 ∷ read 2 7 0 0 ∷ []) (dependency₁ 0 1 ∷ dependency₁ 1 2 ∷ dependency₁ 2 3 ∷ []); gives = checked (race 0 3 0) }
+    ∷ record {
+      ask = asCheck;
+      table = hosted three (write 0 0 1 ∷ perform 7 ∷ perform 10 ∷ read 2 7 0 0 ∷ [])
+          (dependency₁ 0 1 ∷ dependency₁ 1 2 ∷ dependency₁ 2 3 ∷ []);
+      gives = checked (race 0 3 0);
+    }
     -- with the other domain operation
     ∷ record { ask = asCheck; table = hosted three (write 0 0 1 ∷ perform 7 ∷ perform 12 ∷ perform 10 ∷ read 2 7 0 0 ∷ []) each; gives = checked (race 0 4 0) }
     -- program order between the queue agent's own rows serves as well
-    ∷ record { ask = asCheck; table = hosted three (write 0 0 1 ∷ perform 7 ∷ perform 11 ∷ perform 10 ∷ read 2 7 0 0 ∷ []) (dependency₁ 0 1 ∷ dependency₁ 3 4 ∷ []); gives = checked raceFree }
+    ∷ record {
+      ask = asCheck;
+      table = hosted three (write 0 0 1 ∷ perform 7 ∷ perform 11 ∷ perform 10 ∷ read 2 7 0 0 ∷ [])
+          (dependency₁ 0 1 ∷ dependency₁ 3 4 ∷ []);
+      gives = checked raceFree;
+    }
     -- closing happens-before over program order: the dependency is of the host's next row
-    ∷ record { ask = asCheck; table = hosted three (write 0 0 1 ∷ write 0 8 1 ∷ perform 7 ∷ perform 11 ∷ perform 10 ∷ read 2 7 0 0 ∷ []) (dependency₁ 1 2 ∷ dependency₁ 2 3 ∷ dependency₁ 3 4 ∷ dependency₁ 4 5 ∷ []); gives = checked (race 0 5 0) }
+    ∷ record {
+      ask = asCheck;
+      table = hosted three (write 0 0 1 ∷ write 0 8 1 ∷ perform 7 ∷ perform 11 ∷ perform 10 ∷ read 2 7 0 0 ∷ [])
+          (dependency₁ 1 2 ∷ dependency₁ 2 3 ∷ dependency₁ 3 4 ∷ dependency₁ 4 5 ∷ []);
+      gives = checked (race 0 5 0);
+    }
     -- from the device to the host
     ∷ record { ask = asCheck; table = hosted three (write 2 0 1 ∷ perform 8 ∷ perform 12 ∷ perform 9 ∷ read 0 7 0 0 ∷ []) each; gives = checked raceFree }
     -- a private host read, and a shader's write after it
-    ∷ record { ask = asCheck; table = hosted three (read 0 1 255 255 ∷ perform 10 ∷ write 2 0 7 ∷ []) (dependency₁ 0 1 ∷ dependency₁ 1 2 ∷ []); gives = checked raceFree }
+    ∷ record {
+      ask = asCheck;
+      table = hosted three (read 0 1 255 255 ∷ perform 10 ∷ write 2 0 7 ∷ [])
+          (dependency₁ 0 1 ∷ dependency₁ 1 2 ∷ []);
+      gives = checked raceFree;
+    }
     -- a write after a write needs no visibility operation
-    ∷ record { ask = asCheck; table = hosted three (write 0 0 1 ∷ perform 7 ∷ perform 11 ∷ write 2 0 7 ∷ []) (dependency₁ 0 1 ∷ dependency₁ 1 2 ∷ dependency₁ 2 3 ∷ []); gives = checked raceFree }
+    ∷ record {
+      ask = asCheck;
+      table = hosted three (write 0 0 1 ∷ perform 7 ∷ perform 11 ∷ write 2 0 7 ∷ [])
+          (dependency₁ 0 1 ∷ dependency₁ 1 2 ∷ dependency₁ 2 3 ∷ []);
+      gives = checked raceFree;
+    }
     -- between two shader agents nothing needs to be carried
-    ∷ record { ask = asCheck; table = hosted (agent 0 0 ∷ agent 0 2 ∷ agent 5 0 ∷ []) (write 0 0 1 ∷ perform 8 ∷ perform 10 ∷ read 2 7 0 0 ∷ []) (dependency₁ 0 1 ∷ dependency₁ 1 2 ∷ dependency₁ 2 3 ∷ []); gives = checked raceFree }
+    ∷ record {
+      ask = asCheck;
+      table = hosted (agent 0 0 ∷ agent 0 2 ∷ agent 5 0 ∷ [])
+          (write 0 0 1 ∷ perform 8 ∷ perform 10 ∷ read 2 7 0 0 ∷ []) (dependency₁ 0 1 ∷ dependency₁ 1 2 ∷ dependency₁ 2 3 ∷ []);
+      gives =
+          checked raceFree;
+    }
     -- refusals: a fourth number over 2; a dependency that names no row; a host agent's operation; a field outside an operation's layout
     ∷ record { ask = asCheck; table = hosted (agent 0 3 ∷ []) (write 0 0 1 ∷ []) []; gives = checked (refused 16 0) }
     ∷ record { ask = asCheck; table = hosted three (write 0 0 1 ∷ []) (dependency₁ 0 1 ∷ []); gives = checked (refused 18 0) }
@@ -157,7 +192,8 @@ level =
 abbrev pub astray : List ℕ
 astray =
     old (place 0 0 ∷ place 1 0 ∷ place 0 1 ∷ [])
-    (set (set out 3 2) 5 3 ∷ release 0 4 1 1 1 4 ∷ acquire 1 4 1 1 1 4 1 ∷ fence 1 1 4 5 4 ∷ release 1 4 4 1 1 8 ∷ acquire 2 4 4 1 1 8 4 ∷ fence 2 1 3 5 4 ∷ back ∷ [])
+    (set (set out 3 2) 5 3 ∷ release 0 4 1 1 1 4 ∷ acquire 1 4 1 1 1 4 1 ∷ fence 1 1 4 5 4 ∷ release 1 4 4 1 1 8 ∷ acquire 2 4 4 1
+    1 8 4 ∷ fence 2 1 3 5 4 ∷ back ∷ [])
 
 -- whether the write is location-ordered before the read at byte 0, by the table and the row of the read; off and on
 pub record Pair : Type 0 where

@@ -89,7 +89,8 @@ pub set-made : (a n : ℕ) (p : ℕ → Bool) (w v u : List ℕ) → n ≤ ROWS 
 set-made a n p w v u few room cleared filled =
     record {
       set = record { fits = omega arith; cell = λ j l. rw filled (rowFill-in p v (a * 64) (3 * n) j (omega (arith, len)) l ∙ or-fresh _ _ (zero j l)) };
-      frame = within-trans {w = w} {u = v} (within-cleared a (a + MOMENTS) (omega arith) cleared) (rw filled (within-rowFill a (a + MOMENTS) p v (a * 64) (3 * n) (omega arith) (omega arith)));
+      frame = within-trans {w = w} {u = v} (within-cleared a (a + MOMENTS) (omega arith) cleared)
+          (rw filled (within-rowFill a (a + MOMENTS) p v (a * 64) (3 * n) (omega arith) (omega arith)));
     }
   where
     len : length v ≡ length w
@@ -121,7 +122,8 @@ touch-turn bs q a x w v u f g =
     let c = setBitIf (touches (single q) r 1) b (a * 64 + (3 * x + 1)) in
     let one = rowFill-put p w v b (a * 64) (3 * x) (a * 64 + 3 * x) (touches (single q) r 0) f (same (3 * x) 0 (omega arith) (omega arith)) refl refl in
     let two = rowFill-put p w b c (a * 64) (3 * x + 1) (a * 64 + (3 * x + 1)) (touches (single q) r 1) one (same (3 * x + 1) 1 refl (omega arith)) refl refl in
-    let three = rowFill-put p w c u (a * 64) (3 * x + 1 + 1) (a * 64 + (3 * x + 2)) (touches (single q) r 2) two (same (3 * x + 1 + 1) 2 (omega arith) (omega arith)) (omega arith) g in
+    let three = rowFill-put p w c u (a * 64) (3 * x + 1 + 1) (a * 64 + (3 * x + 2)) (touches (single q) r 2) two
+    (same (3 * x + 1 + 1) 2 (omega arith) (omega arith)) (omega arith) g in
     let z : 3 * x + 1 + 1 + 1 ≡ 3 * (x + 1) = omega arith in
     subst (λ (k : ℕ). u ≡ rowFill p w (a * 64) k) z three
   where
@@ -243,14 +245,16 @@ unfolding inSet
 meets-split c s l =
     meets-low c s l
     ∙ same-out _ _ (split (all-out (λ c. same-bool (meets c s) (anyBelow 4 (inSet s c)) and same-bool (meets s c) (anyBelow 4 (setIn s c))) 16
-    (all-out (λ s. allBelow 16 (λ c. same-bool (meets c s) (anyBelow 4 (inSet s c)) and same-bool (meets s c) (anyBelow 4 (setIn s c)))) 16 computed s l) (c % 16) (omega arith)) .0)
+    (all-out (λ s. allBelow 16 (λ c. same-bool (meets c s) (anyBelow 4 (inSet s c)) and same-bool (meets s c) (anyBelow 4 (setIn s c)))) 16
+    computed s l) (c % 16) (omega arith)) .0)
     ∙ any-cong (λ q. bitOf s q and meets (c % 16) (single q)) (λ q. bitOf s q and meets c (single q)) 4
     (λ q o. ap (λ (z : Bool). bitOf s q and z) (sym (meets-low c (single q) (single-low q))))
 
 class-split : (c s : ℕ) → s < 16 → c < 16 → meets s c ≡ anyBelow 4 (setIn s c)
 class-split c s l o =
     same-out _ _ (split (all-out (λ c. same-bool (meets c s) (anyBelow 4 (inSet s c)) and same-bool (meets s c) (anyBelow 4 (setIn s c))) 16
-    (all-out (λ s. allBelow 16 (λ c. same-bool (meets c s) (anyBelow 4 (inSet s c)) and same-bool (meets s c) (anyBelow 4 (setIn s c)))) 16 computed s l) c o) .1)
+    (all-out (λ s. allBelow 16 (λ c. same-bool (meets c s) (anyBelow 4 (inSet s c)) and same-bool (meets s c) (anyBelow 4 (setIn s c)))) 16
+    computed s l) c o) .1)
 
 or-swap : (a b : Bool) → (a or b) ≡ (b or a)
 unfolding _or_
@@ -321,7 +325,8 @@ release-set t n s w u h r made =
     let few : 3 * n ≤ 64 * MOMENTS = h .fits in
     record {
       fits = h .fits;
-      cell = λ m l. made .cell m (omega arith) ∙ ap (λ (z : Bool). z and bit w (RELEASING * 64 + m)) (h .cell m l) ∙ ap (λ (z : Bool). holding t s m and z) (r .cell m l)
+      cell = λ m l. made .cell m (omega arith) ∙ ap (λ (z : Bool). z and bit w (RELEASING * 64 + m)) (h .cell m l)
+          ∙ ap (λ (z : Bool). holding t s m and z) (r .cell m l)
           ∙ held-own t s m (releases (t .row (m / 3)));
     }
 
@@ -333,9 +338,12 @@ concern-set t n s w u l h c made =
     let few : 3 * n ≤ 64 * MOMENTS = h .fits in
     record {
       fits = h .fits;
-      cell = λ m o. made .cell m (omega arith) ∙ ap (λ (z : Bool). z or anyBelow 4 (λ q. bitOf s q and (bit w ((TOUCHED + q * MOMENTS) * 64 + m) and bit w ((TOUCHED + q * MOMENTS) * 64 + m)))) (h .cell m o)
+      cell = λ m o. made .cell m (omega arith)
+          ∙ ap (λ (z : Bool). z or anyBelow 4
+          (λ q. bitOf s q and (bit w ((TOUCHED + q * MOMENTS) * 64 + m) and bit w ((TOUCHED + q * MOMENTS) * 64 + m)))) (h .cell m o)
           ∙ ap (λ (z : Bool). holdingOf s (t .row (m / 3)) (m % 3) or z)
-          (any-cong (λ q. bitOf s q and (bit w ((TOUCHED + q * MOMENTS) * 64 + m) and bit w ((TOUCHED + q * MOMENTS) * 64 + m))) (λ q. bitOf s q and touches (single q) (t .row (m / 3)) (m % 3)) 4
+          (any-cong (λ q. bitOf s q and (bit w ((TOUCHED + q * MOMENTS) * 64 + m) and bit w ((TOUCHED + q * MOMENTS) * 64 + m)))
+          (λ q. bitOf s q and touches (single q) (t .row (m / 3)) (m % 3)) 4
           (λ q z. ap (λ (b : Bool). bitOf s q and b) (and-same _ ∙ c .cell q m z o)))
           ∙ concerns-split s (t .row (m / 3)) (m % 3) l;
     }
@@ -388,7 +396,8 @@ joins-off w x h = sym (and-false-left _ _ h)
 touch-kept : (s c : ℕ) (w v : List ℕ) (m : ℕ) → Within CONCERN CONCERN-END w v → touchBits s c v m ≡ touchBits s c w m
 unfolding touchBits
 touch-kept s c w v m f =
-    any-cong (λ q. bitOf s q and both v (TOUCHED + q * MOMENTS) (TOUCHED + q * MOMENTS) m) (λ q. bitOf s q and both w (TOUCHED + q * MOMENTS) (TOUCHED + q * MOMENTS) m) c
+    any-cong (λ q. bitOf s q and both v (TOUCHED + q * MOMENTS) (TOUCHED + q * MOMENTS) m)
+    (λ q. bitOf s q and both w (TOUCHED + q * MOMENTS) (TOUCHED + q * MOMENTS) m) c
     (λ q l. ap (λ (z : Bool). bitOf s q and z) (both-kept f (TOUCHED + q * MOMENTS) m (omega arith)))
 
 pub touch-made : (r o : Row) (q c a x : ℕ) (d e f : Bool) (w v z u : List ℕ) → r ≡ o → c ≡ single q → d ≡ touches c r 0 → v ≡ setBitIf d w (a * 64 + 3 * x)

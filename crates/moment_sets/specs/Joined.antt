@@ -119,7 +119,8 @@ module _ (w v u : List ℕ) (x y : ℕ) (b : Bool) (l : x < ROWS) (o : y < ROWS)
   spread-more =
       record {
         cell = λ m k. go m k (ℕ-discrete m (3 * y + 1));
-        frame = within-trans (s .frame) (within-put (JOINED + x * MOMENTS) (JOINED + x * MOMENTS + MOMENTS) ((JOINED + x * MOMENTS) * 64 + (3 * y + 1)) b (omega arith) (omega arith) put);
+        frame = within-trans (s .frame) (within-put (JOINED + x * MOMENTS) (JOINED + x * MOMENTS + MOMENTS)
+            ((JOINED + x * MOMENTS) * 64 + (3 * y + 1)) b (omega arith) (omega arith) put);
       }
     where
       go : (m : ℕ) → m < 64 * MOMENTS → Dec (m ≡ 3 * y + 1)
@@ -282,7 +283,8 @@ depends-none mode n w v few room cleared =
     record {
       depends = record {
         fits = omega arith;
-        cell = λ x m l o. rw cleared (bit-zeros-in w DEPENDS (DEPENDS-END - DEPENDS) ((DEPENDS + x * MOMENTS) * 64 + m) (omega arith) (omega arith) (omega arith))
+        cell = λ x m l o. rw cleared (bit-zeros-in w DEPENDS (DEPENDS-END - DEPENDS) ((DEPENDS + x * MOMENTS) * 64 + m) (omega arith)
+            (omega arith) (omega arith))
             ∙ sym (and-false-right _ _ (any-none _));
       };
       frame = within-refl DEPENDS DEPENDS-END v;

@@ -62,20 +62,26 @@ module _ (t : Table) where
       A x = t .row x .agent
 
       forth : (leb (m + 1) k and eqb (t .row (rowIn k) .agent) (t .row (rowIn m) .agent) and momentIn (t .rows) (t .row (rowIn k)) k) ≡ true
-          → (ltb m k and eqb (t .row (rowIn m) .agent) (t .row (rowIn k) .agent) and momentIn (t .rows) (t .row (rowIn m)) m and momentIn (t .rows) (t .row (rowIn k)) k) ≡ true
+          → (ltb m k and eqb (t .row (rowIn m) .agent) (t .row (rowIn k) .agent) and momentIn (t .rows) (t .row (rowIn m)) m and momentIn
+          (t .rows) (t .row (rowIn k)) k) ≡ true
       forth h =
           let a = split h in
           let b = split (a .0) in
           let l : m + 1 ≤ k = leb-true (m + 1) k (b .0) in
-          and-true (and-true (and-true (lt-ltb m k (omega arith)) (eq-eqb (t .row (rowIn m) .agent) (t .row (rowIn k) .agent) (sym (eqb-true (t .row (rowIn k) .agent) (t .row (rowIn m) .agent) (b .1))))) e) (a .1)
+          and-true (and-true (and-true (lt-ltb m k (omega arith))
+          (eq-eqb (t .row (rowIn m) .agent) (t .row (rowIn k) .agent)
+          (sym (eqb-true (t .row (rowIn k) .agent) (t .row (rowIn m) .agent) (b .1))))) e) (a .1)
 
-      back : (ltb m k and eqb (t .row (rowIn m) .agent) (t .row (rowIn k) .agent) and momentIn (t .rows) (t .row (rowIn m)) m and momentIn (t .rows) (t .row (rowIn k)) k) ≡ true
+      back : (ltb m k and eqb (t .row (rowIn m) .agent) (t .row (rowIn k) .agent) and momentIn (t .rows) (t .row (rowIn m)) m and momentIn
+          (t .rows) (t .row (rowIn k)) k) ≡ true
           → (leb (m + 1) k and eqb (t .row (rowIn k) .agent) (t .row (rowIn m) .agent) and momentIn (t .rows) (t .row (rowIn k)) k) ≡ true
       back h =
           let a = split h in
           let b = split (split (a .0) .0) in
           let l : m < k = ltb-true m k (b .0) in
-          and-true (and-true (le-leb (m + 1) k (omega arith)) (eq-eqb (t .row (rowIn k) .agent) (t .row (rowIn m) .agent) (sym (eqb-true (t .row (rowIn m) .agent) (t .row (rowIn k) .agent) (b .1))))) (a .1)
+          and-true (and-true (le-leb (m + 1) k (omega arith))
+          (eq-eqb (t .row (rowIn k) .agent) (t .row (rowIn m) .agent)
+          (sym (eqb-true (t .row (rowIn m) .agent) (t .row (rowIn k) .agent) (b .1))))) (a .1)
 
   -- a moment that is not there
   order-off : (m k : ℕ) → moment t m ≡ false → programOrder t m k ≡ false
@@ -87,7 +93,8 @@ module _ (t : Table) where
   unfolding passedBy
   passed-other m a k h =
       ap (λ (b : Bool). b and eqb (t .row (rowIn k) .agent) a and moment t k)
-      (bool-ext (leb (m + 1) k) (leb m k) (λ e. let l = leb-true (m + 1) k e in le-leb m k (omega arith)) (λ e. let l = leb-true m k e in le-leb (m + 1) k (omega arith)))
+      (bool-ext (leb (m + 1) k) (leb m k) (λ e. let l = leb-true (m + 1) k e in le-leb m k (omega arith)) (λ e. let l = leb-true m k e in
+      le-leb (m + 1) k (omega arith)))
 
   passed-new : (m : ℕ) → moment t m ≡ true → passedBy t m (t .row (rowIn m) .agent) m ≡ true
   unfolding passedBy
@@ -106,7 +113,8 @@ module _ (t : Table) where
   passed-none : (n a k : ℕ) → t .rows ≡ n → passedBy t (3 * n) a k ≡ false
   unfolding passedBy moment momentIn
   passed-none n a k same =
-      not-so _ (λ h. let u = split h in let l = leb-true (3 * n) k (split (u .0) .0) in let o = ltb-true (rowIn k) (t .rows) (split (u .1) .0) in absurd (omega arith))
+      not-so _ (λ h. let u = split h in let l = leb-true (3 * n) k (split (u .0) .0) in
+      let o = ltb-true (rowIn k) (t .rows) (split (u .1) .0) in absurd (omega arith))
 
 -- ---- laws: a moment
 
@@ -204,7 +212,8 @@ unfolding passRow
 row-frame r x w u l small made =
     rw made
     (within-trans (pass-frame (momentOf r 2) (r .agent) (3 * x + 2) w (omega arith) small)
-    (within-trans (pass-frame (momentOf r 1) (r .agent) (3 * x + 1) _ (omega arith) small) (pass-frame (momentOf r 0) (r .agent) (3 * x) _ (omega arith) small)))
+    (within-trans (pass-frame (momentOf r 1) (r .agent) (3 * x + 1) _ (omega arith) small)
+    (pass-frame (momentOf r 0) (r .agent) (3 * x) _ (omega arith) small)))
 
 module _ (b : List ℕ) (p : List (List ℕ)) (mode : Mode) (n x : ℕ) (l : x < n) where
   moment-is : (m k : ℕ) → m ≡ 3 * x + k → k < 3 → momentOf (rowOf b x) k ≡ moment (decode b p mode n) m
@@ -232,11 +241,13 @@ module _ (b : List ℕ) (p : List (List ℕ)) (mode : Mode) (n x : ℕ) (l : x <
       let e₂ : 3 * x + 3 ≡ 3 * x + 2 + 1 = omega arith in
       let e₁ : 3 * x + 2 ≡ 3 * x + 1 + 1 = omega arith in
       let h₂ =
-      pass-turn (decode b p mode n) n (3 * x + 2) (r .agent) w w₂ few room (omega arith) small (agent-is (3 * x + 2) 2 refl (omega arith)) (subst (λ (z : ℕ). Passed (decode b p mode n) n z w) e₂ h)
+      pass-turn (decode b p mode n) n (3 * x + 2) (r .agent) w w₂ few room (omega arith) small (agent-is (3 * x + 2) 2 refl (omega arith))
+      (subst (λ (z : ℕ). Passed (decode b p mode n) n z w) e₂ h)
       (momentOf r 2) (moment-is (3 * x + 2) 2 refl (omega arith)) refl
       in
       let h₁ =
-      pass-turn (decode b p mode n) n (3 * x + 1) (r .agent) w₂ w₁ few (omega arith) (omega arith) small (agent-is (3 * x + 1) 1 refl (omega arith)) (subst (λ (z : ℕ). Passed (decode b p mode n) n z w₂) e₁ h₂)
+      pass-turn (decode b p mode n) n (3 * x + 1) (r .agent) w₂ w₁ few (omega arith) (omega arith) small
+      (agent-is (3 * x + 1) 1 refl (omega arith)) (subst (λ (z : ℕ). Passed (decode b p mode n) n z w₂) e₁ h₂)
       (momentOf r 1) (moment-is (3 * x + 1) 1 refl (omega arith)) refl
       in
       pass-turn (decode b p mode n) n (3 * x) (r .agent) w₁ u few (omega arith) (omega arith) small (agent-is (3 * x) 0 (omega arith) (omega arith)) h₁
@@ -269,7 +280,8 @@ begun-made t n w v x u few room cleared frame p copied =
     record {
       order = record { fits = omega arith; cell = λ m k l o. within-bit f ((ORDER + m * MOMENTS) * 64 + k) (λ h. omega arith) ∙ p .done m k (omega arith) l o };
       happens = record { fits = omega arith; cell = cell };
-      frame = within-trans g (within-trans (within-widen HAPPENS AGENTS-END (omega arith) (omega arith) frame) (within-widen HAPPENS AGENTS-END (omega arith) (omega arith) f));
+      frame = within-trans g (within-trans (within-widen HAPPENS AGENTS-END (omega arith) (omega arith) frame)
+          (within-widen HAPPENS AGENTS-END (omega arith) (omega arith) f));
     }
   where
     g : Within HAPPENS AGENTS-END w v

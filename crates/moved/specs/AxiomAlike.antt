@@ -47,7 +47,8 @@ module _ {t u : Table} {π : Renumbering (t .rows)} (M : Alike t u π) where
     -- ---- axiom A
 
     cycles : anyBelow (u .rows) (onCycle (u .rows) (edge u b)) ≡ anyBelow (t .rows) (onCycle (t .rows) (edge t a))
-    cycles = subst (λ (n : ℕ). anyBelow n (onCycle n (edge u b)) ≡ anyBelow (t .rows) (onCycle (t .rows) (edge t a))) (sym (M .rows)) (some-cycle-to π (edge t a) (edge u b) edge-alike)
+    cycles = subst (λ (n : ℕ). anyBelow n (onCycle n (edge u b)) ≡ anyBelow (t .rows) (onCycle (t .rows) (edge t a))) (sym (M .rows))
+        (some-cycle-to π (edge t a) (edge u b) edge-alike)
 
     pub cyclic-alike : ltb (cycleRow u b) (u .rows) ≡ ltb (cycleRow t a) (t .rows)
     unfolding cycleRow cycleStart
@@ -66,7 +67,8 @@ module _ {t u : Table} {π : Renumbering (t .rows)} (M : Alike t u π) where
 
     over-nth : (y z : ℕ) → overNth u b (π .to y) (π .to z) ≡ overNth t a y z
     unfolding overNth overwritesNth
-    over-nth y z = least-cong (λ k. overwrites u b (π .to y) (π .to z) (nth u (π .to y) k)) (λ k. overwrites t a y z (nth t y k)) LONGEST (λ k l. rw (M .row y) (overwrites-alike y z (nth t y k)))
+    over-nth y z = least-cong (λ k. overwrites u b (π .to y) (π .to z) (nth u (π .to y) k)) (λ k. overwrites t a y z (nth t y k)) LONGEST
+        (λ k l. rw (M .row y) (overwrites-alike y z (nth t y k)))
 
     overwriting-alike : (y z : ℕ) → overwriting u b (π .to y) (π .to z) ≡ overwriting t a y z
     unfolding overwriting

@@ -60,7 +60,12 @@ module _ {t u : Table} {π : Renumbering (t .rows)} (M : Alike t u π) where
   between-alike : (y s z : ℕ) → between u (π .to y) (π .to s) (π .to z) ≡ between t y s z
   unfolding between
   between-alike y s z =
-      rw (M .row z, follows-alike M s z, some-alike M z y, any-cong (overwritesBetween u (π .to y) (π .to s) (π .to z)) (overwritesBetween t y s z) LONGEST (λ k l. hides-alike y s z k)) refl
+      rw (
+        M .row z,
+        follows-alike M s z,
+        some-alike M z y,
+        any-cong (overwritesBetween u (π .to y) (π .to s) (π .to z)) (overwritesBetween t y s z) LONGEST (λ k l. hides-alike y s z k),
+      ) refl
 
   candidate-alike : (y s : ℕ) → candidate u (π .to y) (π .to s) ≡ candidate t y s
   unfolding candidate

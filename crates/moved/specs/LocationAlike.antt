@@ -113,7 +113,13 @@ module _ {t u : Table} {π : Renumbering (t .rows)} (M : Alike t u π) where
   met-alike : (d y b c : ℕ) → reaches u d (π .to y) b (π .to c) ≡ reaches t d y b c
   unfolding reaches
   met-alike d y b c =
-      rw (M .row y, some-row M (visibleVia t d y b c) (visibleVia u d (π .to y) b (π .to c)) (shown-alike d y b c), available-at c, at y, happens-alike M (availableAt t c) (itself y)) refl
+      rw (
+        M .row y,
+        some-row M (visibleVia t d y b c) (visibleVia u d (π .to y) b (π .to c)) (shown-alike d y b c),
+        available-at c,
+        at y,
+        happens-alike M (availableAt t c) (itself y),
+      ) refl
 
   by-domain-alike : (x y b c k : ℕ) → byDomain u (π .to x) (π .to y) b (π .to c) k ≡ byDomain t x y b c k
   unfolding byDomain
@@ -175,8 +181,14 @@ module _ {t u : Table} {π : Renumbering (t .rows)} (M : Alike t u π) where
   reaches-alike : (x y a : ℕ) → reachesBy u (π .to x) (π .to y) (π .to a) ≡ reachesBy t x y a
   unfolding reachesBy
   reaches-alike x y a =
-      rw
-      (available-alike x, thence-alike (availableKind t x) x a, host-alike x, host-alike y, met-from-alike y a, some-row M (carriedBy t x y a) (carriedBy u (π .to x) (π .to y) (π .to a)) (carried-by-alike x y a))
+      rw (
+        available-alike x,
+        thence-alike (availableKind t x) x a,
+        host-alike x,
+        host-alike y,
+        met-from-alike y a,
+        some-row M (carriedBy t x y a) (carriedBy u (π .to x) (π .to y) (π .to a)) (carried-by-alike x y a),
+      )
       refl
 
   L5-alike : (x y : ℕ) → L5 u (π .to x) (π .to y) ≡ L5 t x y

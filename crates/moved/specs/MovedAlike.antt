@@ -94,16 +94,23 @@ module _ {blanks : Bool} {s s′ : List ℕ} {π : Renumbering (rowsAt s)} (m : 
   unfolding threeAt
   three-same a l e =
       let b = begin-plain s e in
-      rw
-      (pair-head (HEADER + a * PLACE-BYTES + 0) (omega arith), pair-head (HEADER + a * PLACE-BYTES + 2) (omega arith), pair-head (HEADER + a * PLACE-BYTES + 4) (omega arith))
+      rw (
+        pair-head (HEADER + a * PLACE-BYTES + 0) (omega arith),
+        pair-head (HEADER + a * PLACE-BYTES + 2) (omega arith),
+        pair-head (HEADER + a * PLACE-BYTES + 4) (omega arith),
+      )
       refl
 
   four-same : (a : ℕ) → a < agentsAt s → hasHosts s ≡ true → fourAt s′ a ≡ fourAt s a
   unfolding fourAt
   four-same a l e =
       let b = begin-hosts s e in
-      rw
-      (pair-head (HEADER + a * HOSTS-PLACE-BYTES + 0) (omega arith), pair-head (HEADER + a * HOSTS-PLACE-BYTES + 2) (omega arith), pair-head (HEADER + a * HOSTS-PLACE-BYTES + 4) (omega arith), pair-head (HEADER + a * HOSTS-PLACE-BYTES + 6) (omega arith))
+      rw (
+        pair-head (HEADER + a * HOSTS-PLACE-BYTES + 0) (omega arith),
+        pair-head (HEADER + a * HOSTS-PLACE-BYTES + 2) (omega arith),
+        pair-head (HEADER + a * HOSTS-PLACE-BYTES + 4) (omega arith),
+        pair-head (HEADER + a * HOSTS-PLACE-BYTES + 6) (omega arith),
+      )
       refl
 
   place-same : (a : ℕ) → a < agentsAt s → placeAt s′ a ≡ placeAt s a
@@ -145,7 +152,8 @@ module _ {blanks : Bool} {s s′ : List ℕ} {π : Renumbering (rowsAt s)} (m : 
   pair-same : (i k : ℕ) → k + 1 < ROW-BYTES → (k + 1 < 12) ⊎ (13 < k) → pairOf (rowBytes s′) (π .to i) k ≡ pairOf (rowBytes s) i k
   pair-same i k l o =
       pair-is (rowBytes s′) (π .to i) k
-      ∙ ap₂ (λ (x y : ℕ). x * 256 + y) (byte-same i k (omega arith) (⊎-elim (λ p. inl (omega arith)) (λ p. inr p) o)) (byte-same i (k + 1) l (⊎-elim (λ p. inl p) (λ p. inr (omega arith)) o))
+      ∙ ap₂ (λ (x y : ℕ). x * 256 + y) (byte-same i k (omega arith) (⊎-elim (λ p. inl (omega arith)) (λ p. inr p) o))
+      (byte-same i (k + 1) l (⊎-elim (λ p. inl p) (λ p. inr (omega arith)) o))
       ∙ sym (pair-is (rowBytes s) i k)
 
   row-same : (i : ℕ) → rowOf (rowBytes s′) (π .to i) ≡ rowOf (rowBytes s) i
@@ -189,7 +197,8 @@ module _ {blanks : Bool} {s s′ : List ℕ} {π : Renumbering (rowsAt s)} (m : 
       at false e = sym stays
 
       go : Dec (i < rowsAt s)
-          → cond (atomic (rowOf (rowBytes s) i)) (sourceOf (rowBytes s′) (π .to i)) INITIAL ≡ π .to (cond (atomic (rowOf (rowBytes s) i)) (sourceOf (rowBytes s) i) INITIAL)
+          → cond (atomic (rowOf (rowBytes s) i)) (sourceOf (rowBytes s′) (π .to i)) INITIAL ≡ π .to
+          (cond (atomic (rowOf (rowBytes s) i)) (sourceOf (rowBytes s) i) INITIAL)
       go (yes l) = at (atomic (rowOf (rowBytes s) i)) (m .sources i l)
       go (no l) = rw (past-plain i (omega arith)) (sym stays)
 
@@ -201,11 +210,21 @@ module _ {blanks : Bool} {s s′ : List ℕ} {π : Renumbering (rowsAt s)} (m : 
 
   depends-same : (chains : Bool) (x y : ℕ) → dependsOf (modeOf chains s′) (π .to x) (π .to y) ≡ dependsOf (modeOf chains s) x y
   unfolding dependsOf dependency modeOf
-  depends-same chains x y = rw (m .count) (any-cong (dependency (modeOf chains s′) (π .to x) (π .to y)) (dependency (modeOf chains s) x y) (dependencyCount (dependencyBytes s)) same)
+  depends-same chains x y = rw (m .count) (any-cong (dependency (modeOf chains s′) (π .to x) (π .to y)) (dependency (modeOf chains s) x y)
+      (dependencyCount (dependencyBytes s)) same)
     where
       same : (k : ℕ) → k < dependencyCount (dependencyBytes s) → dependency (modeOf chains s′) (π .to x) (π .to y) k ≡ dependency (modeOf chains s) x y k
       same k l =
-          rw (listed (dependencyFrom (dependencyBytes s′)) k l, listed (dependencyTo (dependencyBytes s′)) k l, listed (dependencyFrom (dependencyBytes s)) k l, listed (dependencyTo (dependencyBytes s)) k l, m .first k l, m .second k l, eqb-to π (dependencyFrom (dependencyBytes s) k) x, eqb-to π (dependencyTo (dependencyBytes s) k) y) refl
+          rw (
+            listed (dependencyFrom (dependencyBytes s′)) k l,
+            listed (dependencyTo (dependencyBytes s′)) k l,
+            listed (dependencyFrom (dependencyBytes s)) k l,
+            listed (dependencyTo (dependencyBytes s)) k l,
+            m .first k l,
+            m .second k l,
+            eqb-to π (dependencyFrom (dependencyBytes s) k) x,
+            eqb-to π (dependencyTo (dependencyBytes s) k) y,
+          ) refl
 
   -- ---- the order of an agent's rows
 

@@ -106,7 +106,8 @@ testsBy l k s s′ = undoes (rowsAt s) l k and undoes (rowsAt s) k l and isMoved
 abbrev tests : List ℕ → List ℕ → Bool
 tests s s′ = testsBy there here s s′
 
-pub moved-hold : map (λ (p : List ℕ × List ℕ). tests (p .0) (p .1)) ((P, P′) ∷ (hidden, hidden′) ∷ (early, early′) ∷ (blanked, blanked′) ∷ []) ≡ true ∷ true ∷ true ∷ true ∷ []
+pub moved-hold : map (λ (p : List ℕ × List ℕ). tests (p .0) (p .1))
+    ((P, P′) ∷ (hidden, hidden′) ∷ (early, early′) ∷ (blanked, blanked′) ∷ []) ≡ true ∷ true ∷ true ∷ true ∷ []
 unfolding tested
 moved-hold = refl
 

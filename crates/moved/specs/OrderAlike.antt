@@ -83,7 +83,13 @@ module _ {t u : Table} {π : Renumbering (t .rows)} (M : Alike t u π) where
 
   barriers-alike : (a b : ℕ) → syncBarriers u (π .to a) (π .to b) ≡ syncBarriers t a b
   unfolding syncBarriers
-  barriers-alike a b = rw (eqb-to π a b, M .row a, M .row b, some-row M (carriesOver t a b) (carriesOver u (π .to a) (π .to b)) (over-alike a b), M .places) refl
+  barriers-alike a b = rw (
+    eqb-to π a b,
+    M .row a,
+    M .row b,
+    some-row M (carriesOver t a b) (carriesOver u (π .to a) (π .to b)) (over-alike a b),
+    M .places,
+  ) refl
 
   -- x is program-ordered before y, or is y
   upto-alike : (x y : ℕ) → upTo u (π .to x) (π .to y) ≡ upTo t x y

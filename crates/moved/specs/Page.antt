@@ -42,7 +42,8 @@ module _ (chains : Bool) (s s′ : List ℕ) (π : Renumbering (rowsAt s)) (move
   check-alike fit fit′ well well′ =
       let h = admitted-sound false s well in
       let h′ = admitted-sound false s′ well′ in
-      rw (fit, fit′, well, well′) (verdict-alike (moved-alike moved h h′ chains) (few-of chains h) (sized-of chains h) (sized-of chains h′) (sourcesOf s) (sourcesOf s′) (sources-moved moved h h′ chains))
+      rw (fit, fit′, well, well′) (verdict-alike (moved-alike moved h h′ chains) (few-of chains h) (sized-of chains h) (sized-of chains h′)
+      (sourcesOf s) (sourcesOf s′) (sources-moved moved h h′ chains))
 
   module _ (bytes : Bytes s) (fit : buffersFit SOURCES work buffer ≡ true) (fit′ : buffersFit SOURCES work′ buffer′ ≡ true)
       (well : admission true s ≡ Admitted (agentsAt s) (rowsAt s)) (well′ : admission true s′ ≡ Admitted (agentsAt s′) (rowsAt s′)) where
@@ -59,7 +60,8 @@ module _ (chains : Bool) (s s′ : List ℕ) (π : Renumbering (rowsAt s)) (move
     unfolding fill admittedFill
     fill-is = rw (fit, well) (outcome-is (tableUnder chains s) (sourcesOf s))
 
-    fill-is′ : fill chains s′ work′ buffer′ ≡ said (racing (tableUnder chains s′)) (passing (tableUnder chains s′) (sourcesOf s′)) (tableUnder chains s′) (sourcesOf s′)
+    fill-is′ : fill chains s′ work′ buffer′ ≡ said (racing (tableUnder chains s′)) (passing (tableUnder chains s′) (sourcesOf s′))
+        (tableUnder chains s′) (sourcesOf s′)
     unfolding fill admittedFill
     fill-is′ = rw (fit′, well′) (outcome-is (tableUnder chains s′) (sourcesOf s′))
 
@@ -73,7 +75,8 @@ module _ (chains : Bool) (s s′ : List ℕ) (π : Renumbering (rowsAt s)) (move
     calm e = free-of (tableUnder chains s) (sized-of chains h) e
 
     passing-alike : racing (tableUnder chains s) ≡ false → passing (tableUnder chains s′) (sourcesOf s′) ≡ passing (tableUnder chains s) (sourcesOf s)
-    passing-alike e = passes-alike alike (few-of chains h) (sized-of chains h) (sized-of chains h′) (sourcesOf s) (sourcesOf s′) (sources-moved moved h h′ chains) (fair chains s bytes well) (calm e)
+    passing-alike e = passes-alike alike (few-of chains h) (sized-of chains h) (sized-of chains h′) (sourcesOf s) (sourcesOf s′)
+        (sources-moved moved h h′ chains) (fair chains s bytes well) (calm e)
 
     -- FILL SAYS RACE, NONE OR FILLED OF BOTH ALIKE
     pub fill-alike : fillWord (fill chains s′ work′ buffer′) ≡ fillWord (fill chains s work buffer)
@@ -81,13 +84,15 @@ module _ (chains : Bool) (s s′ : List ℕ) (π : Renumbering (rowsAt s)) (move
         ap fillWord fill-is′ ∙ settled-word _ _ _ _ _ _ ∙ go (which (racing (tableUnder chains s))) ∙ sym (settled-word _ _ _ _ _ _) ∙ ap fillWord (sym fill-is)
       where
         go : (racing (tableUnder chains s) ≡ true) ⊎ (racing (tableUnder chains s) ≡ false)
-            → cond (racing (tableUnder chains s′)) race (cond (passing (tableUnder chains s′) (sourcesOf s′)) filled none) ≡ cond (racing (tableUnder chains s)) race (cond (passing (tableUnder chains s) (sourcesOf s)) filled none)
+            → cond (racing (tableUnder chains s′)) race (cond (passing (tableUnder chains s′) (sourcesOf s′)) filled none) ≡ cond
+            (racing (tableUnder chains s)) race (cond (passing (tableUnder chains s) (sourcesOf s)) filled none)
         go (inl e) = rw (races-alike, e) refl
         go (inr e) = rw (races-alike, passing-alike e) refl
 
     -- AND THE SOURCES THAT IT WRITES FOR ONE ARE THE OTHER'S, MOVED AND RENUMBERED
     pub fill-sources : (l : List ℕ) → fill chains s work buffer ≡ Fill.filled l
-        → (l′ : List ℕ) × (fill chains s′ work′ buffer′ ≡ Fill.filled l′) × (length l ≡ rowsAt s) × (length l′ ≡ rowsAt s) × ((i : ℕ) → i < rowsAt s → getD l′ (π .to i) 0 ≡ π .to (getD l i 0))
+        → (l′ : List ℕ) × (fill chains s′ work′ buffer′ ≡ Fill.filled l′) × (length l ≡ rowsAt s) × (length l′ ≡ rowsAt s)
+        × ((i : ℕ) → i < rowsAt s → getD l′ (π .to i) 0 ≡ π .to (getD l i 0))
     fill-sources l e =
         let p = said-filled _ _ _ _ _ _ (sym fill-is ∙ e) in (
           tabulate (chosen (tableUnder chains s′) (sourcesOf s′)) (tableUnder chains s′ .rows),
@@ -101,13 +106,17 @@ module _ (chains : Bool) (s s′ : List ℕ) (π : Renumbering (rowsAt s)) (move
             → tabulate (chosen (tableUnder chains s) (sourcesOf s)) (tableUnder chains s .rows) ≡ l
             → getD (tabulate (chosen (tableUnder chains s′) (sourcesOf s′)) (tableUnder chains s′ .rows)) (π .to i) 0 ≡ π .to (getD l i 0)
         at i m e q =
-            getD-tabulate (chosen (tableUnder chains s′) (sourcesOf s′)) (tableUnder chains s′ .rows) (π .to i) 0 (to-rows chains s′ (subst (λ (n : ℕ). π .to i < n) (sym (rows-same moved h h′)) (to-below π i m)))
-            ∙ chosen-moved alike (few-of chains h) (sized-of chains h) (sized-of chains h′) (sourcesOf s) (sourcesOf s′) (sources-moved moved h h′ chains) (fair chains s bytes well) (calm e) i (to-rows chains s m)
-            ∙ ap (π .to) (sym (getD-tabulate (chosen (tableUnder chains s) (sourcesOf s)) (tableUnder chains s .rows) i 0 (to-rows chains s m)) ∙ ap (λ (v : List ℕ). getD v i 0) q)
+            getD-tabulate (chosen (tableUnder chains s′) (sourcesOf s′)) (tableUnder chains s′ .rows) (π .to i) 0
+            (to-rows chains s′ (subst (λ (n : ℕ). π .to i < n) (sym (rows-same moved h h′)) (to-below π i m)))
+            ∙ chosen-moved alike (few-of chains h) (sized-of chains h) (sized-of chains h′) (sourcesOf s) (sourcesOf s′)
+            (sources-moved moved h h′ chains) (fair chains s bytes well) (calm e) i (to-rows chains s m)
+            ∙ ap (π .to) (sym (getD-tabulate (chosen (tableUnder chains s) (sourcesOf s)) (tableUnder chains s .rows) i 0
+            (to-rows chains s m)) ∙ ap (λ (v : List ℕ). getD v i 0) q)
 
     -- as they stand in the lent source buffers afterwards
     pub fill-written : (c c′ l : List ℕ) → fill chains s work buffer ≡ Fill.filled l
-        → (i : ℕ) → i < rowsAt s → getD (sourcesAfter (fill chains s′ work′ buffer′) c′) (π .to i) 0 ≡ π .to (getD (sourcesAfter (fill chains s work buffer) c) i 0)
+        → (i : ℕ) → i < rowsAt s → getD (sourcesAfter (fill chains s′ work′ buffer′) c′) (π .to i) 0 ≡ π .to
+        (getD (sourcesAfter (fill chains s work buffer) c) i 0)
     unfolding sourcesAfter
     fill-written c c′ l e i m =
         let f = fill-sources l e in

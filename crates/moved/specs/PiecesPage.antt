@@ -48,5 +48,6 @@ module _ (chains : Bool) (f s f′ s′ : List ℕ) (z : piecesFault f s ≡ 0) 
       → getD (sourcesAfter (fillBoth chains f′ s′ work′ buffer′) c′) (π .to i) 0 ≡ π .to (getD (sourcesAfter (fillBoth chains f s work buffer) c) i 0)
   written-pieces bytes fit fit′ well well′ c c′ l e i m =
       ap (λ (o : Outcome). getD (sourcesAfter o c′) (π .to i) 0) (fill-joined f′ s′ z′ work′ buffer′ chains)
-      ∙ fill-written chains (joined f s) (joined f′ s′) π moved work buffer work′ buffer′ bytes fit fit′ well well′ c c′ l (sym (fill-joined f s z work buffer chains) ∙ e) i m
+      ∙ fill-written chains (joined f s) (joined f′ s′) π moved work buffer work′ buffer′ bytes fit fit′ well well′ c c′ l
+      (sym (fill-joined f s z work buffer chains) ∙ e) i m
       ∙ ap (λ (o : Outcome). π .to (getD (sourcesAfter o c) i 0)) (sym (fill-joined f s z work buffer chains))

@@ -34,8 +34,11 @@ module _ (t : Table) where
       let c = conflict-out x y (r .0) in
       let b = r .2 .0 in
       let o = r .2 .1 in
-      let s = common-sym (t .row x) (t .row y) b (o .0) in
-      (conflict-in t y x b (λ q. c .0 (sym q)) s (⊎-elim (λ h. inr h) (λ h. inl h) (c .1)), not-so _ (λ e. not-both (mutually-sym t y x e) (r .1)), (b, (s, o .2, o .1)))
+      let s = common-sym (t .row x) (t .row y) b (o .0) in (
+        conflict-in t y x b (λ q. c .0 (sym q)) s (⊎-elim (λ h. inr h) (λ h. inl h) (c .1)),
+        not-so _ (λ e. not-both (mutually-sym t y x e) (r .1)),
+        (b, (s, o .2, o .1)),
+      )
 
   -- two different rows of the table race
   abbrev pub SomeRace : Type 0
@@ -75,14 +78,18 @@ module _ {t u : Table} {π : Renumbering (t .rows)} (M : Alike t u π) where
   here : (x y : ℕ) → Races u (π .to x) (π .to y) → Races t x y
   here x y r =
       let b = r .2 .0 in
-      let o = r .2 .1 in
-      (sym (conflict-alike x y) ∙ r .0, sym (mutually-alike M x y) ∙ r .1, (b, (sym (common-alike x y b) ∙ o .0, sym (before-alike M x y b) ∙ o .1, sym (before-alike M y x b) ∙ o .2)))
+      let o = r .2 .1 in (
+        sym (conflict-alike x y) ∙ r .0,
+        sym (mutually-alike M x y) ∙ r .1,
+        (b, (sym (common-alike x y b) ∙ o .0, sym (before-alike M x y b) ∙ o .1, sym (before-alike M y x b) ∙ o .2)),
+      )
 
   pub some-there : SomeRace t → SomeRace u
   some-there r =
       let l = r .2 in
       let m = r .3 in
-      some-either u (π .to (r .0)) (π .to (r .1)) (rw (M .rows) (to-below π (r .0) (omega arith))) (rw (M .rows) (to-below π (r .1) m)) (λ q. let e = one-to-one π (r .0) (r .1) q in omega arith) (there (r .0) (r .1) (r .4))
+      some-either u (π .to (r .0)) (π .to (r .1)) (rw (M .rows) (to-below π (r .0) (omega arith))) (rw (M .rows) (to-below π (r .1) m))
+      (λ q. let e = one-to-one π (r .0) (r .1) q in omega arith) (there (r .0) (r .1) (r .4))
 
   pub some-here : SomeRace u → SomeRace t
   some-here r =

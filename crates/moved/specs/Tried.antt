@@ -89,7 +89,8 @@ module _ (s s′ : List ℕ) (π : Renumbering (rowsAt s)) where
         order = order;
       }
     where
-      a : ((allBelow (rowsBegin s) (sameHead s s′ (π .to)) and allBelow (rowsAt s) (sameRow s s′ (π .to))) ≡ true) × (allBelow (rowsAt s) (ordered s s′ (π .to)) ≡ true)
+      a : ((allBelow (rowsBegin s) (sameHead s s′ (π .to)) and allBelow (rowsAt s) (sameRow s s′ (π .to))) ≡ true)
+          × (allBelow (rowsAt s) (ordered s s′ (π .to)) ≡ true)
       a = split (split e .1)
 
       d : sameDependencies s s′ (π .to) ≡ true
@@ -107,10 +108,12 @@ module _ (s s′ : List ℕ) (π : Renumbering (rowsAt s)) where
       fields : (i k : ℕ) → i < rowsAt s → k < ROW-BYTES → (k < 12) ⊎ (13 < k)
           → getD s′ (rowsBegin s + (π .to i * ROW-BYTES + k)) 0 ≡ getD s (rowsBegin s + (i * ROW-BYTES + k)) 0
       fields i k l m o =
-          ⊎-elim (λ h. let p = leb-true 12 k (split h .0) in let q = leb-true k 13 (split h .1) in absurd (⊎-elim (λ v. omega arith) (λ v. omega arith) o)) (λ h. eqb-true _ _ h)
+          ⊎-elim (λ h. let p = leb-true 12 k (split h .0) in let q = leb-true k 13 (split h .1) in
+          absurd (⊎-elim (λ v. omega arith) (λ v. omega arith) o)) (λ h. eqb-true _ _ h)
           (or-cases (leb 12 k and leb k 13) _ (all-out (sameByte s s′ (π .to) i) ROW-BYTES (split (rows i l) .0) k m))
 
       order : (i j : ℕ) → i < j → j < rowsAt s → rowOf (rowBytes s) i .agent ≡ rowOf (rowBytes s) j .agent → π .to i < π .to j
       order i j l m q =
           ⊎-elim (λ h. not-both (eq-eqb _ _ q) (not-out _ h)) (λ h. ltb-true _ _ h)
-          (or-cases (not (eqb (rowOf (rowBytes s) i .agent) (rowOf (rowBytes s) j .agent))) _ (all-out (inOrder s s′ (π .to) j) j (all-out (ordered s s′ (π .to)) (rowsAt s) (a .1) j m) i l))
+          (or-cases (not (eqb (rowOf (rowBytes s) i .agent) (rowOf (rowBytes s) j .agent))) _
+          (all-out (inOrder s s′ (π .to) j) j (all-out (ordered s s′ (π .to)) (rowsAt s) (a .1) j m) i l))

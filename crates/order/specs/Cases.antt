@@ -60,9 +60,11 @@ step-told s from to r q x y b o v d f e g h = rw (← e, ← g, ← h) f
 module _ (b : List ℕ) (p : List (List ℕ)) (mode : Mode) (n : ℕ) where
   pub step-is : (s m k : ℕ)
       → step₁ (decode b p mode n) s m k
-      ≡ stepRows s (part m) (part k) (rowOf b (rowIn m)) (rowOf b (rowIn k)) (synchronizes (decode b p mode n) (rowIn m) (rowIn k)) (programOrder (decode b p mode n) m k)
+      ≡ stepRows s (part m) (part k) (rowOf b (rowIn m)) (rowOf b (rowIn k)) (synchronizes (decode b p mode n) (rowIn m) (rowIn k))
+      (programOrder (decode b p mode n) m k)
   unfolding step₁ bySync toRelease fromAcquire holding concerns decode
-  step-is s m k = sym (steps-are s (part m) (part k) (rowOf b (rowIn m)) (rowOf b (rowIn k)) (synchronizes (decode b p mode n) (rowIn m) (rowIn k)) (programOrder (decode b p mode n) m k))
+  step-is s m k = sym (steps-are s (part m) (part k) (rowOf b (rowIn m)) (rowOf b (rowIn k))
+      (synchronizes (decode b p mode n) (rowIn m) (rowIn k)) (programOrder (decode b p mode n) m k))
 
   -- the test on rows, with the bit of the work area
   pub step-read : (w : List ℕ) (s m k : ℕ) (v d : Bool) → Synced (decode b p mode n) n w → m < 3 * n → k < 3 * n → v ≡ rel w SYNC GRID (m / 3) (k / 3)

@@ -195,7 +195,11 @@ pub steps-made : (b : List ℕ) (p : List (List ℕ)) (mode : Mode) (n s : ℕ) 
 unfolding rel
 steps-made b p mode n s w v u few room y cleared h =
     record {
-      holds = record { fits = omega arith; cell = λ i j l o. bool-ext _ _ (λ e. clean i j l o (or-cases _ _ (h .grown .sound p mode z i j l o e))) (λ e. full i j l o e (step-ends b p _ n s i j e)) };
+      holds = record {
+        fits = omega arith;
+        cell = λ i j l o. bool-ext _ _
+            (λ e. clean i j l o (or-cases _ _ (h .grown .sound p mode z i j l o e))) (λ e. full i j l o e (step-ends b p _ n s i j e));
+      };
       frame = within-trans wiped (h .grown .frame);
     }
   where

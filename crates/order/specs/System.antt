@@ -121,14 +121,16 @@ pub all-more : (mode : Mode) (n c : ℕ) {w v u : List ℕ} → Added STEP STEP-
     → Added STEP STEP-END STEP MOMENTS (3 * n) (systemBy mode c) v u → Added STEP STEP-END STEP MOMENTS (3 * n) (systemTo mode (c + 1)) w u
 all-more mode n c {w} f g =
     record {
-      cell = λ m k p q. g .cell m k p q ∙ ap (λ (b : Bool). b or systemBy mode c m k) (f .cell m k p q) ∙ or-assoc _ _ _ ∙ ap (λ (b : Bool). rel w STEP MOMENTS m k or b) (to-more mode c m k);
+      cell = λ m k p q. g .cell m k p q ∙ ap (λ (b : Bool). b or systemBy mode c m k) (f .cell m k p q) ∙ or-assoc _ _ _
+          ∙ ap (λ (b : Bool). rel w STEP MOMENTS m k or b) (to-more mode c m k);
       frame = within-trans (f .frame) (g .frame);
     }
 
 -- after the three direct cases that go by rows
 pub step-made : (b : List ℕ) (p : List (List ℕ)) (mode : Mode) (n s : ℕ) {w v u : List ℕ}
     → Made STEP STEP-END STEP MOMENTS (3 * n) (step₁ (decode b p mode n) s) w v
-    → Added STEP STEP-END STEP MOMENTS (3 * n) (systemTo mode (mode .dependencies)) v u → Made STEP STEP-END STEP MOMENTS (3 * n) (step (decode b p mode n) s) w u
+    → Added STEP STEP-END STEP MOMENTS (3 * n) (systemTo mode (mode .dependencies)) v u
+    → Made STEP STEP-END STEP MOMENTS (3 * n) (step (decode b p mode n) s) w u
 step-made b p mode n s f g = record { holds = holds-cong (λ m k l o. both m k) (holds-added (f .holds) g); frame = within-trans (f .frame) (g .frame) }
   where
     both : (m k : ℕ) → (step₁ (decode b p mode n) s m k or systemTo mode (mode .dependencies) m k) ≡ step (decode b p mode n) s m k

@@ -42,8 +42,10 @@ fn is_step(s: u8, from: u8, to: u8, r: Row, q: Row, synced: bool, ordered: bool)
 // row is read.
 fn step_of(rows: &[u8], n: usize, s: u8, m: usize, k: usize, synced: bool) -> bool
     requires { ⌜ (n ≤ ROWS) × (m < 3 * n) × (k < 3 * n) ⌝ }
-    ensures { λ d. ⌜ ((p : List (List ℕ)) (mode : Mode) → d ≡ stepRows s (m % 3) (k % 3) (rowOf (now (rows .entry)) (m / 3)) (rowOf (now (rows .entry)) (k / 3)) synced
-        (programOrder (decode (now (rows .entry)) p mode n) m k)) ⌝ }
+    ensures { λ d. let r = rowOf (now (rows .entry)) (m / 3) in
+        let q = rowOf (now (rows .entry)) (k / 3) in
+        ⌜ ((p : List (List ℕ)) (mode : Mode)
+        → d ≡ stepRows s (m % 3) (k % 3) r q synced (programOrder (decode (now (rows .entry)) p mode n) m k)) ⌝ }
 {
     let ordered = moments::ordered_at(rows, n, m, k);
     if !(synced | ordered) {

@@ -105,7 +105,8 @@ pub bare : (bs : List ℕ) (x y : ℕ) (r : Row) → r ≡ rowOf bs x → r .siz
 unfolding sharing touches
 bare bs x y r er z =
     not-so _
-    (λ t. let o = overlap-is (rowOf bs x) (rowOf bs y) .0 t in let h = inside-out _ _ _ (o .1) in let q = ap (λ (k : Row). k .size) er in omega (arith, h .0, h .1, q, z))
+    (λ t. let o = overlap-is (rowOf bs x) (rowOf bs y) .0 t in let h = inside-out _ _ _ (o .1) in let q = ap (λ (k : Row). k .size) er in
+    omega (arith, h .0, h .1, q, z))
 
 -- ---- laws: putting
 
@@ -126,7 +127,8 @@ pub added-put : {y : ℕ} {p : ℕ → Type 0} {w v u : List ℕ} (q : ℕ → T
 added-put {y} {p} {w} {v} {u} q c l room k a e f =
     rw e
     (record {
-      mine = λ d h. ⊎-elim (λ g. setBit-kept v (cellBit c y) (cellBit d y) (omega arith) (a .mine d g)) (λ g. rw g (setBit-same v (cellBit c y) (omega arith))) (f d h);
+      mine = λ d h. ⊎-elim (λ g. setBit-kept v (cellBit c y) (cellBit d y) (omega arith) (a .mine d g))
+          (λ g. rw g (setBit-same v (cellBit c y) (omega arith))) (f d h);
       kept = λ j h. setBit-kept v (cellBit c y) j (omega arith) (a .kept j h);
       frame = within-trans (a .frame) (within-setBit CELLS CELLS-END v (cellBit c y) (omega arith) (omega arith));
     })
@@ -138,7 +140,8 @@ bare-cell e z h = let k = ap (λ (y : Row). y .size) e in let l = h .0 in omega 
 -- a row of at most a cell's bytes is in two
 pub two-cells : {r q : Row} {a b c : ℕ} → r ≡ q → r .size ≤ LONGEST → a ≡ cell (r .start) → b ≡ cell (r .start + r .size - 1) → InCell q c → ((c ≡ a) ⊎ (c ≡ b))
 two-cells {r} {q} {a} {b} {c} e s f g h =
-    ⊎-elim (λ w. absurd (wide w)) (λ d. ⊎-elim (λ k. inl (k ∙ ap (λ (y : Row). cell (y .start)) (sym e) ∙ sym f)) (λ k. inr (k ∙ ap (λ (y : Row). cell (y .start + y .size - 1)) (sym e) ∙ sym g)) d)
+    ⊎-elim (λ w. absurd (wide w)) (λ d. ⊎-elim (λ k. inl (k ∙ ap (λ (y : Row). cell (y .start)) (sym e) ∙ sym f))
+    (λ k. inr (k ∙ ap (λ (y : Row). cell (y .start + y .size - 1)) (sym e) ∙ sym g)) d)
     (h .2)
   where
     wide : LONGEST < q .size → ⊥

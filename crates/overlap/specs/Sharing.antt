@@ -48,12 +48,16 @@ size-byte bs y e = e
 pub touch-shares : (bs : List ℕ) (x y z : ℕ) (r : Row) {a b : Bool} → r ≡ rowOf bs x → 0 < r .size → a ≡ mayTouch (rowOf bs y) (r .start) (r .start + r .size)
     → z ≡ rowOf bs y .size → b ≡ ltb 0 z → (a and b) ≡ sharing bs x y
 unfolding sharing mayTouch overlap isShared
-touch-shares bs x y z r {a} {b} er l ea ez eb = rw (← er, ea, eb, ez) (go (rowOf bs y) (decLt (max (r .start) (rowOf bs y .start)) (min (r .start + r .size) (rowOf bs y .start + rowOf bs y .size))))
+touch-shares bs x y z r {a} {b} er l ea ez eb =
+    rw (← er, ea, eb, ez) (go (rowOf bs y) (decLt (max (r .start) (rowOf bs y .start))
+    (min (r .start + r .size) (rowOf bs y .start + rowOf bs y .size))))
   where
     go : (q : Row) → Dec (max (r .start) (q .start) < min (r .start + r .size) (q .start + q .size))
-        → (ltb (r .start) (q .start + q .size) and ltb (q .start) (r .start + r .size) and ltb 0 (q .size)) ≡ isShared (lowestShared (r .start) (r .size) (q .start) (q .size))
+        → (ltb (r .start) (q .start + q .size) and ltb (q .start) (r .start + r .size) and ltb 0 (q .size)) ≡ isShared
+        (lowestShared (r .start) (r .size) (q .start) (q .size))
     go q (yes d) =
-        and-true (and-true (lt-ltb (r .start) (q .start + q .size) (omega arith)) (lt-ltb (q .start) (r .start + r .size) (omega arith))) (lt-ltb 0 (q .size) (omega arith))
+        and-true (and-true (lt-ltb (r .start) (q .start + q .size) (omega arith)) (lt-ltb (q .start) (r .start + r .size) (omega arith)))
+        (lt-ltb 0 (q .size) (omega arith))
         ∙ ap isShared (start-shared (r .start) (r .size) (q .start) (q .size) _ _ refl refl d)
     go q (no d) =
         not-so _

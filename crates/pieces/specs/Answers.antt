@@ -58,7 +58,8 @@ module _ (chains : Bool) where
 
     pub none-check : (f : List ℕ) → checkBoth chains f [] work buffer ≡ check chains f work buffer
     unfolding checkBoth
-    none-check f = none-door verdicts.refused (λ t. check chains t work buffer) verdictOf false CYCLE work buffer check-opens f (same-verdict f) (λ e. check-short e f)
+    none-check f = none-door verdicts.refused (λ t. check chains t work buffer) verdictOf false CYCLE work buffer check-opens f
+        (same-verdict f) (λ e. check-short e f)
 
     -- ---- report
 
@@ -89,7 +90,8 @@ module _ (chains : Bool) where
 
     pub none-report : (f : List ℕ) → reportBoth chains f [] work buffer ≡ report chains f work buffer
     unfolding reportBoth
-    none-report f = none-door told.Refused (λ t. report chains t work buffer) reportOfTable false CYCLE work buffer report-opens f (same-report f) (λ e. report-short e f)
+    none-report f = none-door told.Refused (λ t. report chains t work buffer) reportOfTable false CYCLE work buffer report-opens f
+        (same-report f) (λ e. report-short e f)
 
 -- ---- fill
 

@@ -133,7 +133,8 @@ module _ (blanks : Bool) (f s : List ℕ) (a : Admission) (e : a ≡ admissionBo
   pub few-both : n ≤ ROWS
   few-both = rw all-both (rows-fit sound-both)
 
-  module _ (chains : Bool) (all : List ℕ) (p : List (List ℕ)) (mode : Mode) (copy : all ≡ areaOf (rowBytes f ++ s)) (places : p ≡ placesOf f) (modes : mode ≡ modeOf chains f) where
+  module _ (chains : Bool) (all : List ℕ) (p : List (List ℕ)) (mode : Mode) (copy : all ≡ areaOf (rowBytes f ++ s))
+      (places : p ≡ placesOf f) (modes : mode ≡ modeOf chains f) where
     front : take (n * ROW-BYTES) all ≡ rowBytes (joined f s)
     front = joined-front f s all n pieces-right (all-both ∙ joined-rows f s pieces-right) copy
 
@@ -165,11 +166,13 @@ unfolding tableOf
 table-false t = refl
 
 -- the same behind refusal 11
-module _ (needs : ℕ) (blanks : Bool) (f s : List ℕ) (work buffer : ℕ) (a : Admission) (e : a ≡ doorBoth needs blanks f s work buffer) {g n : ℕ} (h : a ≡ Admitted g n) where
+module _ (needs : ℕ) (blanks : Bool) (f s : List ℕ) (work buffer : ℕ) (a : Admission)
+    (e : a ≡ doorBoth needs blanks f s work buffer) {g n : ℕ} (h : a ≡ Admitted g n) where
   pub door-few : n ≤ ROWS
   door-few = few-both blanks f s a (door-admits needs blanks f s work buffer a e h .2) h
 
-  module _ (chains : Bool) (all : List ℕ) (p : List (List ℕ)) (mode : Mode) (copy : all ≡ areaOf (rowBytes f ++ s)) (places : p ≡ placesOf f) (modes : mode ≡ modeOf chains f) where
+  module _ (chains : Bool) (all : List ℕ) (p : List (List ℕ)) (mode : Mode) (copy : all ≡ areaOf (rowBytes f ++ s))
+      (places : p ≡ placesOf f) (modes : mode ≡ modeOf chains f) where
     pub door-rows : (WORK ≤ work) × (needs ≤ buffer) × RowsOf blanks (take (n * ROW-BYTES) all) p mode n
     door-rows =
         let k = door-admits needs blanks f s work buffer a e h in
@@ -249,9 +252,11 @@ zeros-wiped w room = ext-getD 0 (zeros w 0 WORK) (replicate WORK 0 ++ drop WORK 
     long = length-append blank (drop WORK w) ∙ rw (front, length-drop WORK w) (omega arith)
 
     at : (k : ℕ) → Dec (k < WORK) → getD (zeros w 0 WORK) k 0 ≡ getD (blank ++ drop WORK w) k 0
-    at k (yes l) = zeros-in w 0 WORK k (omega arith) (omega arith) (omega arith) ∙ sym (List·getD-append blank (drop WORK w) 0 k (rw front l) ∙ getD-zeros WORK k)
+    at k (yes l) = zeros-in w 0 WORK k (omega arith) (omega arith) (omega arith)
+        ∙ sym (List·getD-append blank (drop WORK w) 0 k (rw front l) ∙ getD-zeros WORK k)
     at k (no l) =
         let p : length blank + (k - WORK) ≡ k = rw front (omega arith) in
         let q : WORK + (k - WORK) ≡ k = omega arith in
         zeros-out w 0 WORK k (λ h. omega arith)
-        ∙ sym (ap (λ (i : ℕ). getD (blank ++ drop WORK w) i 0) (sym p) ∙ getD-append-add blank (drop WORK w) (k - WORK) 0 ∙ getD-drop WORK w (k - WORK) 0 ∙ ap (λ (i : ℕ). getD w i 0) q)
+        ∙ sym (ap (λ (i : ℕ). getD (blank ++ drop WORK w) i 0) (sym p) ∙ getD-append-add blank (drop WORK w) (k - WORK) 0
+        ∙ getD-drop WORK w (k - WORK) 0 ∙ ap (λ (i : ℕ). getD w i 0) q)

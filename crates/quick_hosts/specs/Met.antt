@@ -97,7 +97,8 @@ row-added {n} m p {w} {u} small room l e =
         → bit (rowFill p w (MET * 64 + m * (GRID * 64)) n) ((MET + i * GRID) * 64 + j) ≡ (bit w ((MET + i * GRID) * 64 + j) or (eqb i m and p j))
     go i j a c (yes d) =
         let k : (MET + i * GRID) * 64 + j ≡ MET * 64 + m * (GRID * 64) + j = omega arith in
-        rw (k, eq-eqb i m d) (rowFill-in p w (MET * 64 + m * (GRID * 64)) n j (omega arith) c ∙ ap (λ (b : Bool). bit w (MET * 64 + m * (GRID * 64) + j) or b) (sym (and-on _ _ refl)))
+        rw (k, eq-eqb i m d) (rowFill-in p w (MET * 64 + m * (GRID * 64)) n j (omega arith) c
+        ∙ ap (λ (b : Bool). bit w (MET * 64 + m * (GRID * 64) + j) or b) (sym (and-on _ _ refl)))
     go i j a c (no d) =
         rowFill-out p w (MET * 64 + m * (GRID * 64)) n ((MET + i * GRID) * 64 + j) (λ h. omega arith) ∙ sym (or-off _ _ (and-false-left _ _ (ne-eqb i m d)))
 
@@ -163,7 +164,8 @@ module _ (t : Table) (m : ℕ) where
         → u ≡ joinRow w (MET + m * GRID) (REACHED + i * GRID) GRID
         → MetMore n (only m (λ y. seenAfter t m y i)) w u
     unfolding only
-    seen-some i small room l k e s f = more-cong (λ a y p q. ap (λ (b : Bool). eqb a m and b) (show-some i y e)) (row-joined m i (seenFrom t) small room l k (s .seeing) f)
+    seen-some i small room l k e s f = more-cong (λ a y p q. ap (λ (b : Bool). eqb a m and b) (show-some i y e))
+        (row-joined m i (seenFrom t) small room l k (s .seeing) f)
 
     -- one row after the other
     pub upto-none : MetMore n (only m (seenUpto t m 0)) w w
@@ -217,7 +219,8 @@ module _ (t : Table) (m : ℕ) where
     pub below-more : {v u : List ℕ} → MetMore n (metBelow t m) w v → MetMore n (only m (metBy t m)) v u → MetMore n (metBelow t (m + 1)) w u
     unfolding metBelow only
     below-more f g =
-        more-cong (λ a y p q. ap (λ (b : Bool). (ltb a m and metBy t a y) or b) (at-one a m _ _ (λ e. ap (λ (k : ℕ). metBy t k y) (sym e))) ∙ turn a m _) (more-trans f g)
+        more-cong (λ a y p q. ap (λ (b : Bool). (ltb a m and metBy t a y) or b) (at-one a m _ _ (λ e. ap (λ (k : ℕ). metBy t k y) (sym e)))
+        ∙ turn a m _) (more-trans f g)
 
 module _ (t : Table) {n : ℕ} {w : List ℕ} where
   pub below-none : MetMore n (metBelow t 0) w w
@@ -236,7 +239,11 @@ module _ (t : Table) {n : ℕ} {w : List ℕ} where
       }
     where
       empty : Holds MET GRID n (λ i j. false) v
-      empty = record { fits = omega arith; cell = λ i j d c. rw e (bit-zeros-in x MET (MET-END - MET) ((MET + i * GRID) * 64 + j) (omega arith) (omega arith) (omega arith)) }
+      empty = record {
+        fits = omega arith;
+        cell = λ i j d c. rw e
+            (bit-zeros-in x MET (MET-END - MET) ((MET + i * GRID) * 64 + j) (omega arith) (omega arith) (omega arith));
+      }
 
       same : (i j : ℕ) → i < n → (false or (ltb i n and metBy t i j)) ≡ metBy t i j
       same i j d = or-fresh false _ refl ∙ and-on _ _ (lt-ltb i n d)
@@ -290,5 +297,6 @@ made-all f g h m =
       holds = m .holds;
       frame = within-trans
           (within-trans (within-widen HOSTED REACHED-END (omega arith) (omega arith) f) (within-widen HOSTED REACHED-END (omega arith) (omega arith) g))
-          (within-trans (within-widen HOSTED REACHED-END (omega arith) (omega arith) h) (within-widen HOSTED REACHED-END (omega arith) (omega arith) (m .frame)));
+          (within-trans (within-widen HOSTED REACHED-END (omega arith) (omega arith) h)
+          (within-widen HOSTED REACHED-END (omega arith) (omega arith) (m .frame)));
     }

@@ -99,7 +99,8 @@ module _ (t : Table) (x y k a : ℕ) (reader : reads (t .row y) ≡ true) where
       let c = any-out (endsWith t x y b a) (t .rows) (split h .1) in
       let v = ends-out (c .0) (split (c .2) .1) in
       any-in (shownNth t x y a k) (t .rows) (v .0) (v .1)
-      (and-true (v .2) (or-right (linked t x y a (v .0)) (and-true (split h .0) (any-in (linkedWith t x y a (v .0)) (t .rows) (c .0) (c .1) (and-true (split (c .2) .0) (v .3)))))))
+      (and-true (v .2) (or-right (linked t x y a (v .0))
+      (and-true (split h .0) (any-in (linkedWith t x y a (v .0)) (t .rows) (c .0) (c .1) (and-true (split (c .2) .0) (v .3)))))))
       (or-cases (endsAt t x y b a) (t .chains and anyBelow (t .rows) (endsWith t x y b a)) e)
 
   shown-back : anyBelow (t .rows) (shownNth t x y a k) ≡ true → (endsAt t x y b a or (t .chains and anyBelow (t .rows) (endsWith t x y b a))) ≡ true
@@ -112,7 +113,8 @@ module _ (t : Table) (x y k a : ℕ) (reader : reads (t .row y) ≡ true) where
       (λ h.
       let c = any-out (linkedWith t x y a (v .0)) (t .rows) (split h .1) in
       let g = split (c .2) in
-      or-right (endsAt t x y b a) (and-true (split h .0) (any-in (endsWith t x y b a) (t .rows) (c .0) (c .1) (and-true (g .0) (ends-in (c .0) (v .0) (v .1) (f .0) (g .1))))))
+      or-right (endsAt t x y b a) (and-true (split h .0)
+      (any-in (endsWith t x y b a) (t .rows) (c .0) (c .1) (and-true (g .0) (ends-in (c .0) (v .0) (v .1) (f .0) (g .1))))))
       (or-cases (linked t x y a (v .0)) (t .chains and anyBelow (t .rows) (linkedWith t x y a (v .0))) (f .1))
 
   carried-reader : carriedNth t x y k a ≡ (firstAvailable t x b a and anyBelow (t .rows) (shownNth t x y a k))
@@ -227,7 +229,8 @@ module _ (t : List ℕ) (p : List (List ℕ)) (mode : Mode) (n x y : ℕ) where
   shown-low a k f m g q s w o la eq es em lm off lf ln =
       any-not _ g
       (λ v l.
-      shown-skip a v k m q s _ _ eq es em (o .happening .cell (3 * a + m) (3 * v) (omega arith) (omega arith)) (o .happening .cell (3 * a + m) (3 * v + 2) (omega arith) (omega arith))
+      shown-skip a v k m q s _ _ eq es em (o .happening .cell (3 * a + m) (3 * v) (omega arith) (omega arith))
+      (o .happening .cell (3 * a + m) (3 * v + 2) (omega arith) (omega arith))
       (and-false-left _ _ (off v (omega arith))))
 
   -- no row after y is a last element

@@ -67,7 +67,9 @@ pub third-silent : (t : Table) (x y f : ℕ) → t .rows ≤ f → anyBelow f (p
 third-silent t x y f l e b = ⊎-elim told (λ o. L3-off t x y b (t .row x) (t .row y) refl refl o) (which (publicWrite (t .row x) (t .row y)))
   where
     told : publicWrite (t .row x) (t .row y) ≡ true → L3 t x y b ≡ false
-    told o = sym (L3-on t x y b (t .row x) (t .row y) _ refl refl o refl) ∙ carried-below t x y b (t .rows) (public-writes (t .row x) (t .row y) o) (not-so _ (λ h. not-both (any-wider (publishes t x) (t .rows) f l h) e))
+    told o = sym (L3-on t x y b (t .row x) (t .row y) _ refl refl o refl)
+        ∙ carried-below t x y b (t .rows) (public-writes (t .row x) (t .row y) o)
+        (not-so _ (λ h. not-both (any-wider (publishes t x) (t .rows) f l h) e))
 
 module _ (t : Table) (x y : ℕ) (r q : Row) (er : r ≡ t .row x) (eq : q ≡ t .row y) where
   module _ (h a c g : Bool) (happening : h ≡ happens t (itself x) (itself y)) (hosting : g ≡ hosted t x y)
@@ -82,7 +84,8 @@ module _ (t : Table) (x y : ℕ) (r q : Row) (er : r ≡ t .row x) (eq : q ≡ t
     -- what is told once orders none, and neither does L3
     pub pair-none : (a or c or g) ≡ false → ((b : ℕ) → L3 t x y b ≡ false) → (k : ℕ) → beforeNth t x y k ≡ false
     pair-none o e k =
-        ⊎-elim (λ s. sym (before-third t x y r q er eq k h a c g s happening hosting (L3 t x y (r .start + k)) ea ec o refl) ∙ e (r .start + k)) (λ s. before-off t x y r q er eq k s)
+        ⊎-elim (λ s. sym (before-third t x y r q er eq k h a c g s happening hosting (L3 t x y (r .start + k)) ea ec o refl)
+        ∙ e (r .start + k)) (λ s. before-off t x y r q er eq k s)
         (which (not (eqb x y) and common r q (r .start + k)))
 
     -- what is told once orders none, and the first is a write that L3 speaks of
@@ -107,7 +110,8 @@ filled-cong p q w u at f e = e ∙ rowFill-cong p q w at PAIR (λ k l. f k)
 
 -- the bits that L3 alone may set, from the set of their bytes
 pub third-filled : (t : Table) (x y m : ℕ) (r q : Row) (w u : List ℕ) (at : ℕ) → r ≡ t .row x → q ≡ t .row y
-    → Mask PAIR (λ k. sharedNth x y r q k and anyBelow (t .rows) (carriedNth t x y k)) m → u ≡ rowFill (bitOf m) w at PAIR → u ≡ rowFill (carriedBytes t x y) w at PAIR
+    → Mask PAIR (λ k. sharedNth x y r q k and anyBelow (t .rows) (carriedNth t x y k)) m → u ≡ rowFill (bitOf m) w at PAIR
+    → u ≡ rowFill (carriedBytes t x y) w at PAIR
 unfolding carriedBytes
 third-filled t x y m r q w u at er eq h e = put-filled w u at (mask-cong (carriedBytes t x y) (λ k l. rw (er, eq) refl) h) e
 

@@ -49,7 +49,8 @@ made-prepared {n = n} h o m =
       };
       frame =
           within-trans
-          (within-trans (within-widen HOSTED LOCATED-END (omega arith) (omega arith) (h .frame)) (within-widen HOSTED LOCATED-END (omega arith) (omega arith) (o .frame)))
+          (within-trans (within-widen HOSTED LOCATED-END (omega arith) (omega arith) (h .frame))
+          (within-widen HOSTED LOCATED-END (omega arith) (omega arith) (o .frame)))
           (within-widen HOSTED LOCATED-END (omega arith) (omega arith) (m .frame));
     }
 
@@ -64,5 +65,6 @@ made-located p m =
         overlapping = holds-kept (λ h. omega arith) (m .frame) (p .prepared .overlapping);
       };
       frame =
-          within-trans (within-widen LOCATION LOCATED-END (omega arith) (omega arith) (p .frame)) (within-widen LOCATION LOCATED-END (omega arith) (omega arith) (m .frame));
+          within-trans (within-widen LOCATION LOCATED-END (omega arith) (omega arith) (p .frame))
+          (within-widen LOCATION LOCATED-END (omega arith) (omega arith) (m .frame));
     }

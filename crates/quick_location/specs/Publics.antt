@@ -87,7 +87,8 @@ module _ (t s : List ℕ) (n x at : ℕ) (r : Row) (h : Publics t n s) (er : r �
     -- what the first elements so far carry, they carry with the rows that are passed over
     pub carried-pass : (y m : ℕ) {j f : ℕ} → Next s at at j n f → Mask PAIR (λ k. anyBelow j (carriedNth T x y k)) m
         → Mask PAIR (λ k. anyBelow f (carriedNth T x y k)) m
-    carried-pass y m {j} {f} w e = mask-cong _ (λ k l. sym (any-pass (carriedNth T x y k) j f (w .low) (λ a b c. carried-none T x y k a (none-between w a b c)))) e
+    carried-pass y m {j} {f} w e = mask-cong _
+        (λ k l. sym (any-pass (carriedNth T x y k) j f (w .low) (λ a b c. carried-none T x y k a (none-between w a b c)))) e
 
   -- no row before the first of the set from x on is a first element of x
   pub from-off : (f : ℕ) → Next s at at x n f → (p : List (List ℕ)) (mode : Mode) → anyBelow f (publishes (decode t p mode n) x) ≡ false

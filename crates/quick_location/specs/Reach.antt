@@ -42,7 +42,8 @@ pub moments-below : (w : List ℕ) (c f : ℕ) (b : Bool) → b ≡ false → Le
     → (v : ℕ) → v < f / 3 → (b or rel w HAPPENS MOMENTS c (3 * v) or rel w HAPPENS MOMENTS c (3 * v + 2)) ≡ false
 unfolding rel
 moments-below w c f b e h v l =
-    or-none (or-none e (least-below w (HAPPENS + c * MOMENTS) MOMENTS f h (3 * v) (omega arith))) (least-below w (HAPPENS + c * MOMENTS) MOMENTS f h (3 * v + 2) (omega arith))
+    or-none (or-none e (least-below w (HAPPENS + c * MOMENTS) MOMENTS f h (3 * v) (omega arith)))
+    (least-below w (HAPPENS + c * MOMENTS) MOMENTS f h (3 * v + 2) (omega arith))
 
 module _ (t : List ℕ) (p : List (List ℕ)) (mode : Mode) (n : ℕ) where
   -- ---- laws: one step

@@ -237,7 +237,8 @@ fn last_bytes(
 // A row before which there is, without chains, no last element for what moment c makes available: it happens before none of theirs.
 fn lasts_from(mode: Mode, c: usize, w: &[u64]) -> usize
     requires { ⌜ (c < 3 * ROWS) × (WORK ≤ length (now w)) ⌝ }
-    ensures { λ f. ⌜ ((v : ℕ) → v < f → (mode .chains or rel (now (w .entry)) HAPPENS MOMENTS c (3 * v) or rel (now (w .entry)) HAPPENS MOMENTS c (3 * v + 2)) ≡ false) ⌝ }
+    ensures { λ f. let before = rel (now (w .entry)) HAPPENS MOMENTS c in
+        ⌜ ((v : ℕ) → v < f → (mode .chains or before (3 * v) or before (3 * v + 2)) ≡ false) ⌝ }
 {
     if mode.chains {
         return 0;

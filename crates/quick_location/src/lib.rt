@@ -55,7 +55,8 @@ fn fill_third(
     requires { ⌜ (n ≤ ROWS) × (WORK ≤ length (now w)) × (x < n) × (y < n) × (r ≡ rowOf (now rows) x) × (q ≡ rowOf (now rows) y)
         × Reaching (decode (now rows) p mode n) n (now w) × (f ≤ n)
         × (anyBelow f (publishes (decode (now rows) p mode n) x) ≡ false) × (writes r ≡ true) × Publics (now rows) n (now publics) ⌝ }
-    ensures { λ _. ⌜ now (w .exit) ≡ rowFill (carriedBytes (decode (now (rows .entry)) p mode n) x y) (now (w .entry)) (LOCATION * 64 + x * PAIRS + y * PAIR) PAIR ⌝ }
+    ensures { λ _. let t = decode (now (rows .entry)) p mode n in
+        ⌜ now (w .exit) ≡ rowFill (carriedBytes t x y) (now (w .entry)) (LOCATION * 64 + x * PAIRS + y * PAIR) PAIR ⌝ }
 {
     let both = masks::shared(x, y, r, q);
     let m = elements::carried_bytes(rows, p, mode, n, x, y, r, q, f, both, publics, w);
@@ -78,7 +79,8 @@ fn fill_pair(
 )
     requires { ⌜ (n ≤ ROWS) × (WORK ≤ length (now w)) × (x < n) × (y < n) × (r ≡ rowOf (now rows) x) × Prepared (decode (now rows) p mode n) n (now w)
         × (f ≤ n) × (anyBelow f (publishes (decode (now rows) p mode n) x) ≡ false) × Publics (now rows) n (now publics) ⌝ }
-    ensures { λ _. ⌜ now (w .exit) ≡ rowFill (beforeNth (decode (now (rows .entry)) p mode n) x y) (now (w .entry)) (LOCATION * 64 + x * PAIRS + y * PAIR) PAIR ⌝ }
+    ensures { λ _. let t = decode (now (rows .entry)) p mode n in
+        ⌜ now (w .exit) ≡ rowFill (beforeNth t x y) (now (w .entry)) (LOCATION * 64 + x * PAIRS + y * PAIR) PAIR ⌝ }
 {
     if !quick_hosts::is_near(rows, x, r, y) {
         return;

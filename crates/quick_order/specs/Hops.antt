@@ -199,7 +199,8 @@ module _ (bs : List ℕ) (t : Table) (n s x : ℕ) (dep h k q : Bool) (w u : Lis
   sync-is : (m : ℕ) → m < 3 * n → both w (JOINED + x * MOMENTS) HOLD m ≡ (synchronizes t x (rowIn m) and holding t s m)
   unfolding both rel
   sync-is m o =
-      ap (λ (z : Bool). z and bit w (HOLD * 64 + m)) (p .based .joined .cell x m l o) ∙ ap (λ (z : Bool). syncsTo t x m and z) (p .ready .hold .cell m o) ∙ syncs-held t s x m
+      ap (λ (z : Bool). z and bit w (HOLD * 64 + m)) (p .based .joined .cell x m l o)
+      ∙ ap (λ (z : Bool). syncsTo t x m and z) (p .ready .hold .cell m o) ∙ syncs-held t s x m
 
   release-is : (m : ℕ) → m < 3 * n → both w (ORDER + (3 * x + 1) * MOMENTS) RELEASE m ≡ (programOrder t (itself x) m and releaseAt t s m)
   unfolding both rel
@@ -231,7 +232,8 @@ module _ (bs : List ℕ) (t : Table) (n s x : ℕ) (dep h k q : Bool) (w u : Lis
   hop-cell m o =
       hop-bits x h (h or dep and k) (h and q) dep w u (omega arith) (p .room) made m (omega arith) (clear m (omega arith))
       ∙ rw (sync-is m o, release-is m o, concern-is m o, depend-is m o, step-is t s x m, hold-is, on-is, acq-is)
-      (share (holding t s (itself x)) dep (concerns t s (itself x)) (acquires (t .row x)) (synchronizes t x (rowIn m)) (holding t s m) (releaseAt t s m) (concerns t s m)
+      (share (holding t s (itself x)) dep (concerns t s (itself x)) (acquires (t .row x)) (synchronizes t x (rowIn m)) (holding t s m)
+      (releaseAt t s m) (concerns t s m)
       (programOrder t (itself x) m) (dependsTo t x m) (holding-concerns t s (itself x)) (λ e. p .told x (rowIn m) (depends-out t x m e)))
 
 -- ---- laws: the row is cleared first
@@ -245,7 +247,8 @@ module _ (bs : List ℕ) (dep h : Bool) (x : ℕ) (w v : List ℕ) (l : x < ROWS
   unfolding rel
   cleared j o =
       ap (λ (z : List ℕ). bit z ((HOPS + x * MOMENTS) * 64 + j)) clear
-      ∙ bit-zeros-in w (HOPS + x * MOMENTS) (HOPS + x * MOMENTS + MOMENTS - (HOPS + x * MOMENTS)) ((HOPS + x * MOMENTS) * 64 + j) (omega arith) (omega arith) (omega arith)
+      ∙ bit-zeros-in w (HOPS + x * MOMENTS) (HOPS + x * MOMENTS + MOMENTS - (HOPS + x * MOMENTS)) ((HOPS + x * MOMENTS) * 64 + j)
+      (omega arith) (omega arith) (omega arith)
 
   still : {t : Table} {n s : ℕ} → Setup bs t n s dep w → Setup bs t n s dep v
   still p = setup-hops (within-widen HOPS HOPS-END (omega arith) (omega arith) before) p

@@ -91,11 +91,13 @@ drop-or a b c d e = or-off (a or b) false refl ∙ ap (λ (z : Bool). a or z) e
 module _ (h : Bool) (j m : ℕ) (w u : List ℕ) (l : m < 3 * ROWS) (room : WORK ≤ length w) (made : u ≡ sourceWords h j m w) where
   source-on : j < NONE → u ≡ setBitIf (not h) (joinRow w (HAPPENS + m * MOMENTS) (HOPS + j / 3 * MOMENTS) MOMENTS) ((HAPPENS + m * MOMENTS) * 64 + j)
   unfolding sourceWords
-  source-on o = made ∙ ap (λ (b : Bool). cond b (setBitIf (not h) (joinRow w (HAPPENS + m * MOMENTS) (HOPS + j / 3 * MOMENTS) MOMENTS) ((HAPPENS + m * MOMENTS) * 64 + j)) w) (lt-ltb j NONE o)
+  source-on o = made ∙ ap (λ (b : Bool). cond b
+      (setBitIf (not h) (joinRow w (HAPPENS + m * MOMENTS) (HOPS + j / 3 * MOMENTS) MOMENTS) ((HAPPENS + m * MOMENTS) * 64 + j)) w) (lt-ltb j NONE o)
 
   source-off : NONE ≤ j → u ≡ w
   unfolding sourceWords
-  source-off o = made ∙ ap (λ (b : Bool). cond b (setBitIf (not h) (joinRow w (HAPPENS + m * MOMENTS) (HOPS + j / 3 * MOMENTS) MOMENTS) ((HAPPENS + m * MOMENTS) * 64 + j)) w) (le-ltb j NONE o)
+  source-off o = made ∙ ap (λ (b : Bool). cond b
+      (setBitIf (not h) (joinRow w (HAPPENS + m * MOMENTS) (HOPS + j / 3 * MOMENTS) MOMENTS) ((HAPPENS + m * MOMENTS) * 64 + j)) w) (le-ltb j NONE o)
 
   source-frame : Within (HAPPENS + m * MOMENTS) (HAPPENS + m * MOMENTS + MOMENTS) w u
   source-frame = go (decLt j NONE)
@@ -105,7 +107,8 @@ module _ (h : Bool) (j m : ℕ) (w u : List ℕ) (l : m < 3 * ROWS) (room : WORK
           subst (λ (z : List ℕ). Within (HAPPENS + m * MOMENTS) (HAPPENS + m * MOMENTS + MOMENTS) w z) (sym (source-on o))
           (within-trans (within-joinRow w (HAPPENS + m * MOMENTS) (HOPS + j / 3 * MOMENTS) MOMENTS)
           (within-setBitIf (HAPPENS + m * MOMENTS) (HAPPENS + m * MOMENTS + MOMENTS) (not h) _ ((HAPPENS + m * MOMENTS) * 64 + j) (omega arith) (omega arith)))
-      go (no o) = subst (λ (z : List ℕ). Within (HAPPENS + m * MOMENTS) (HAPPENS + m * MOMENTS + MOMENTS) w z) (sym (source-off (omega arith))) (within-refl _ _ w)
+      go (no o) = subst (λ (z : List ℕ). Within (HAPPENS + m * MOMENTS) (HAPPENS + m * MOMENTS + MOMENTS) w z)
+          (sym (source-off (omega arith))) (within-refl _ _ w)
 
   source-bit : (k : ℕ) → k < NONE → j < NONE → rel u HAPPENS MOMENTS m k ≡ ((rel w HAPPENS MOMENTS m k or rel w HOPS MOMENTS (j / 3) k) or (not h and eqb j k))
   unfolding rel
@@ -295,10 +298,12 @@ sources-row bs t n s x dep w v u p closed l g a d =
     let p₁ = f₁ .len in
     let f₂ = one-frame (3 * x + 1) (d .held) (d .one) (d .two) (omega arith) (omega arith) (d .itself) in
     let a₁ = sources-more bs t n s (3 * x) dep false w v (d .one) p closed (omega arith) g a (hub-not v dep (3 * x) (λ e. absurd (omega arith))) (d .before) in
-    let a₂ = sources-more bs t n s (3 * x + 1) dep (d .held) w (d .one) (d .two) p closed (omega arith) g₁ a₁ (hub-own (d .one) dep x (d .held) (d .held-is)) (d .itself) in
+    let a₂ = sources-more bs t n s (3 * x + 1) dep (d .held) w (d .one) (d .two) p closed (omega arith) g₁ a₁
+    (hub-own (d .one) dep x (d .held) (d .held-is)) (d .itself) in
     let e : 3 * x + 1 + 1 ≡ 3 * x + 2 = omega arith in
     let a₃ =
-    sources-more bs t n s (3 * x + 2) dep false w (d .two) u p closed (omega arith) (within-trans g₁ f₂) (subst (λ (k : ℕ). SourcesAdded t s n k w (d .two)) e a₂)
+    sources-more bs t n s (3 * x + 2) dep false w (d .two) u p closed (omega arith) (within-trans g₁ f₂)
+    (subst (λ (k : ℕ). SourcesAdded t s n k w (d .two)) e a₂)
     (hub-not (d .two) dep (3 * x + 2) (λ z. absurd (omega arith))) (d .after)
     in
     let z : 3 * x + 2 + 1 ≡ 3 * (x + 1) = omega arith in

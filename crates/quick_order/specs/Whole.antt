@@ -79,7 +79,8 @@ onward-out : (t : Table) (s m k : ℕ) → onward t s m k ≡ true
     → (programOrder t m k ≡ true) ⊎ ((j : ℕ) × (s ≤ j) × (j < CLASS-SETS) × (interThreadBy t m k j ≡ true))
 unfolding onward
 onward-out t s m k e =
-    ⊎-elim inl (λ a. let r = any-out (λ j. leb s j and interThreadBy t m k j) CLASS-SETS a in let b = split (r .2) in inr (r .0, leb-true s (r .0) (b .0), r .1, b .1))
+    ⊎-elim inl (λ a. let r = any-out (λ j. leb s j and interThreadBy t m k j) CLASS-SETS a in let b = split (r .2) in
+    inr (r .0, leb-true s (r .0) (b .0), r .1, b .1))
     (or-cases (programOrder t m k) _ e)
 
 onward-order : (t : Table) (s m k : ℕ) → programOrder t m k ≡ true → onward t s m k ≡ true
@@ -96,7 +97,8 @@ onward-more t s m k l = bool-ext _ _ forth back
   where
     forth : (onward t (s + 1) m k or interThreadBy t m k s) ≡ true → onward t s m k ≡ true
     forth e =
-        ⊎-elim (λ a. ⊎-elim (onward-order t s m k) (λ r. let o = r .1 in onward-in t s m k (r .0) (omega (arith, o)) (r .2) (r .3)) (onward-out t (s + 1) m k a))
+        ⊎-elim (λ a. ⊎-elim (onward-order t s m k) (λ r. let o = r .1 in
+        onward-in t s m k (r .0) (omega (arith, o)) (r .2) (r .3)) (onward-out t (s + 1) m k a))
         (λ a. onward-in t s m k s (omega arith) l a) (or-cases (onward t (s + 1) m k) _ e)
 
     back : onward t s m k ≡ true → (onward t (s + 1) m k or interThreadBy t m k s) ≡ true
@@ -133,20 +135,24 @@ started-made b p mode n w v x y z a u few synced begun joined depends releasing 
           };
       happens = holds-cong (λ i j l o. onward-none (decode b p mode n) i j) (holds-kept (λ h. absurd (omega arith)) after (begun .happens));
       frame = within-trans (within-widen MUTUAL LOCATED-END (omega arith) (omega arith) (synced .1))
-          (within-trans (within-widen MUTUAL LOCATED-END (omega arith) (omega arith) (begun .frame)) (within-widen MUTUAL LOCATED-END (omega arith) (omega arith) after));
+          (within-trans (within-widen MUTUAL LOCATED-END (omega arith) (omega arith) (begun .frame))
+          (within-widen MUTUAL LOCATED-END (omega arith) (omega arith) after));
     }
   where
     now : Synced (decode b p mode n) n x
     now = synced-kept (omega arith) (begun .frame) (synced .0)
 
     last : Within RELEASING TOUCHED-END z u
-    last = within-trans (within-widen RELEASING TOUCHED-END (omega arith) (omega arith) (releasing .frame)) (within-widen RELEASING TOUCHED-END (omega arith) (omega arith) (touched .frame))
+    last = within-trans (within-widen RELEASING TOUCHED-END (omega arith) (omega arith) (releasing .frame))
+        (within-widen RELEASING TOUCHED-END (omega arith) (omega arith) (touched .frame))
 
     late : Within DEPENDS TOUCHED-END y u
-    late = within-trans (within-widen DEPENDS TOUCHED-END (omega arith) (omega arith) (depends .frame)) (within-widen DEPENDS TOUCHED-END (omega arith) (omega arith) last)
+    late = within-trans (within-widen DEPENDS TOUCHED-END (omega arith) (omega arith) (depends .frame))
+        (within-widen DEPENDS TOUCHED-END (omega arith) (omega arith) last)
 
     after : Within JOINED TOUCHED-END x u
-    after = within-trans (within-widen JOINED TOUCHED-END (omega arith) (omega arith) (joined .frame)) (within-widen JOINED TOUCHED-END (omega arith) (omega arith) late)
+    after = within-trans (within-widen JOINED TOUCHED-END (omega arith) (omega arith) (joined .frame))
+        (within-widen JOINED TOUCHED-END (omega arith) (omega arith) late)
 
 -- ---- laws: the closure of a class set
 
@@ -179,7 +185,8 @@ module _ (bs : List ℕ) (t : Table) (n s : ℕ) (dep : Bool) (w v x : List ℕ)
       still = set-kept (λ q. absurd (omega arith)) (release .frame) (h .hold)
 
   pub grown-made : (y z u : List ℕ) → HopsMade t dep s n n x y → ClosedOwn y z HOPS n
-      → ((bs : List ℕ) (t : Table) (s : ℕ) → Setup bs t n s dep z → Closed t dep s n z → Added HAPPENS HAPPENS-END HAPPENS MOMENTS (3 * n) (interThread t s) z u)
+      → ((bs : List ℕ) (t : Table) (s : ℕ) → Setup bs t n s dep z → Closed t dep s n z
+      → Added HAPPENS HAPPENS-END HAPPENS MOMENTS (3 * n) (interThread t s) z u)
       → Within HAPPENS HAPPENS-END z u → Grown t n s w u
   grown-made y z u hops closed add frame =
       record {
@@ -295,7 +302,11 @@ module _ (b : List ℕ) (n s : ℕ) (dep : Bool) (w : List ℕ) (few : n ≤ ROW
   -- no row holds all of it
   pub reached-off : live (decode b p mode n) (s + 1) ≡ false → Reached (decode b p mode n) n s w
   reached-off l =
-      record { based = h .based; happens = reached-more (decode b p mode n) n s w low (λ i j o q e. not-both e (inter-off (decode b p mode n) s i j l)) (h .happens) }
+      record {
+        based = h .based;
+        happens = reached-more (decode b p mode n) n s w low
+            (λ i j o q e. not-both e (inter-off (decode b p mode n) s i j l)) (h .happens);
+      }
 
   -- a wider class set covers it
   pub reached-covered : covered (decode b p mode n) (s + 1) ≡ true → Reached (decode b p mode n) n s w
@@ -342,7 +353,8 @@ module _ (b : List ℕ) (n s : ℕ) (dep : Bool) (w : List ℕ) (few : n ≤ ROW
           based = kept;
           happens = reached-more (decode b p mode n) n s v low
               (λ i j l o e. onward-order (decode b p mode n) (s + 1) i j
-              (inter-order (decode b p mode n) (s + 1) (quiet-is (decode b p mode n) n (s + 1) v r few (kept .joined) hold none) (free-is b p mode n dep d off) i j
+              (inter-order (decode b p mode n) (s + 1) (quiet-is (decode b p mode n) n (s + 1) v r few (kept .joined) hold none)
+              (free-is b p mode n dep d off) i j
               (omega (arith, r)) (omega (arith, r)) (inter-out (decode b p mode n) s i j e))) still;
         }
 
@@ -355,7 +367,8 @@ module _ (b : List ℕ) (n s : ℕ) (dep : Bool) (w : List ℕ) (few : n ≤ ROW
               record {
                 fits = h .happens .fits;
                 cell = λ i j o q. g .cell i j o q ∙ ap (λ (z : Bool). z or interThread (decode b p mode n) (s + 1) i j) (still .cell i j o q)
-                    ∙ ap (λ (z : Bool). onward (decode b p mode n) (s + 1) i j or z) (inter-on (decode b p mode n) s i j l) ∙ onward-more (decode b p mode n) s i j low;
+                    ∙ ap (λ (z : Bool). onward (decode b p mode n) (s + 1) i j or z) (inter-on (decode b p mode n) s i j l)
+                    ∙ onward-more (decode b p mode n) s i j low;
               };
         }
 

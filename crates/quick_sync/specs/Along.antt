@@ -276,7 +276,8 @@ module _ (b : List ℕ) (n dst src : ℕ) (few : n ≤ ROWS) (t : Target dst src
         done : (x k : ℕ) → a ≤ x → x < n → k < 64 * GRID → Dec (x ≡ a) → grid u dst x k ≡ times n (ahead (decode b [] OFF n)) (grid u src) x k
         done x k m o q (yes i) = rw i (own-row k q)
         done x k m o q (no i) =
-            rest x k o i q ∙ held x k o q ∙ h .done x k (omega arith) o q ∙ sym (prod-cong b n (grid u src) (grid w src) k (λ c y. before c k y q ∙ source c k y q) _ x)
+            rest x k o i q ∙ held x k o q ∙ h .done x k (omega arith) o q
+            ∙ sym (prod-cong b n (grid u src) (grid w src) k (λ c y. before c k y q ∙ source c k y q) _ x)
 
   -- all rows were gone by
   pub along-made : {w u : List ℕ} → Within PASSED UP-TO-END w u → Along b n dst src 0 u
@@ -285,7 +286,8 @@ module _ (b : List ℕ) (n dst src : ℕ) (few : n ≤ ROWS) (t : Target dst src
       record {
         holds = record {
           fits = omega arith;
-          cell = λ i j p q. h .done i j (omega arith) p (omega arith) ∙ prod-cong b n (grid u src) (grid w src) j (λ c m. kept src (t .before) f c j (omega arith) (omega arith)) _ i;
+          cell = λ i j p q. h .done i j (omega arith) p (omega arith)
+              ∙ prod-cong b n (grid u src) (grid w src) j (λ c m. kept src (t .before) f c j (omega arith) (omega arith)) _ i;
         };
         frame = f;
       }

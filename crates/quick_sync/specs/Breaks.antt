@@ -149,7 +149,8 @@ reads-alone r e = rw e refl
 write-alone : (r : Row) → atomic r ≡ true → writes r ≡ true → rmw r ≡ false → r .kind ≡ ATOMIC-WRITE
 unfolding writes rmw
 write-alone r e w m =
-    ⊎-elim (λ h. ⊎-elim (λ g. absurd (omega (arith, kind-atomic r e .0, eqb-true (r .kind) 1 g))) (λ g. eqb-true (r .kind) ATOMIC-WRITE g) (or-cases (eqb (r .kind) 1) (eqb (r .kind) ATOMIC-WRITE) h))
+    ⊎-elim (λ h. ⊎-elim (λ g. absurd (omega (arith, kind-atomic r e .0, eqb-true (r .kind) 1 g))) (λ g. eqb-true (r .kind) ATOMIC-WRITE g)
+    (or-cases (eqb (r .kind) 1) (eqb (r .kind) ATOMIC-WRITE) h))
     (λ h. not-both h m) (or-cases (eqb (r .kind) 1 or eqb (r .kind) ATOMIC-WRITE) (eqb (r .kind) RMW) w)
 
 breaks-alone : (r : Row) → r .kind ≡ ATOMIC-WRITE → (writes r ≡ true) × (not (continues r) ≡ true)
@@ -175,7 +176,8 @@ module _ (b : List ℕ) (p : List (List ℕ)) (mode : Mode) (n : ℕ) where
   ends-is a x z = swap (follows (decode b p mode n) a z) (not (later (mode .counted) (rowOf b z .rank) (rowOf b x .rank))) (not (continues (rowOf b z)))
     where
       swap : (u v w : Bool) → (u and v and w) ≡ (u and w and v)
-      swap u v w = bool-ext _ _ (λ e. let s = split e in let o = split (s .0) in and-true (and-true (o .0) (s .1)) (o .1)) (λ e. let s = split e in let o = split (s .0) in and-true (and-true (o .0) (s .1)) (o .1))
+      swap u v w = bool-ext _ _ (λ e. let s = split e in let o = split (s .0) in and-true (and-true (o .0) (s .1)) (o .1)) (λ e.
+          let s = split e in let o = split (s .0) in and-true (and-true (o .0) (s .1)) (o .1))
 
   -- of a row that follows the head: z ends the sequence before it exactly when z breaks it no later
   ends-at : (a x z : ℕ) → rowOf b x .rank < COUNTS → rowOf b a .rank < COUNTS → follows (decode b p mode n) a x ≡ true
@@ -185,17 +187,23 @@ module _ (b : List ℕ) (p : List (List ℕ)) (mode : Mode) (n : ℕ) where
     where
       on : breaks (decode b p mode n) a z ≡ true
           → ends (decode b p mode n) a x z
-          ≡ leb (cond (breaks (decode b p mode n) a z) (since (mode .counted) (rowOf b z .rank) (rowOf b a .rank)) COUNTS) (since (mode .counted) (rowOf b x .rank) (rowOf b a .rank))
+          ≡ leb (cond (breaks (decode b p mode n) a z) (since (mode .counted) (rowOf b z .rank) (rowOf b a .rank)) COUNTS)
+          (since (mode .counted) (rowOf b x .rank) (rowOf b a .rank))
       on e =
-          ends-is a x z ∙ and-on _ _ e ∙ sym (since-is (mode .counted) (rowOf b z .rank) (rowOf b x .rank) (rowOf b a .rank) lx la (follows-later a z (breaks-follows a z e)) (follows-later a x f))
-          ∙ ap (λ (u : Bool). leb (cond u (since (mode .counted) (rowOf b z .rank) (rowOf b a .rank)) COUNTS) (since (mode .counted) (rowOf b x .rank) (rowOf b a .rank))) (sym e)
+          ends-is a x z ∙ and-on _ _ e ∙ sym
+          (since-is (mode .counted) (rowOf b z .rank) (rowOf b x .rank) (rowOf b a .rank) lx la
+          (follows-later a z (breaks-follows a z e)) (follows-later a x f))
+          ∙ ap (λ (u : Bool). leb (cond u (since (mode .counted) (rowOf b z .rank) (rowOf b a .rank)) COUNTS)
+          (since (mode .counted) (rowOf b x .rank) (rowOf b a .rank))) (sym e)
 
       off : breaks (decode b p mode n) a z ≡ false
           → ends (decode b p mode n) a x z
-          ≡ leb (cond (breaks (decode b p mode n) a z) (since (mode .counted) (rowOf b z .rank) (rowOf b a .rank)) COUNTS) (since (mode .counted) (rowOf b x .rank) (rowOf b a .rank))
+          ≡ leb (cond (breaks (decode b p mode n) a z) (since (mode .counted) (rowOf b z .rank) (rowOf b a .rank)) COUNTS)
+          (since (mode .counted) (rowOf b x .rank) (rowOf b a .rank))
       off e =
           ends-is a x z ∙ and-false-left _ _ e ∙ sym (lt-leb COUNTS _ (since-small (mode .counted) (rowOf b x .rank) (rowOf b a .rank) lx))
-          ∙ ap (λ (u : Bool). leb (cond u (since (mode .counted) (rowOf b z .rank) (rowOf b a .rank)) COUNTS) (since (mode .counted) (rowOf b x .rank) (rowOf b a .rank))) (sym e)
+          ∙ ap (λ (u : Bool). leb (cond u (since (mode .counted) (rowOf b z .rank) (rowOf b a .rank)) COUNTS)
+          (since (mode .counted) (rowOf b x .rank) (rowOf b a .rank))) (sym e)
 
   ended-is : (a x : ℕ) → rowOf b x .rank < COUNTS → rowOf b a .rank < COUNTS → follows (decode b p mode n) a x ≡ true
       → anyBelow n (ends (decode b p mode n) a x) ≡ leb (firstBreak (decode b p mode n) a n) (since (mode .counted) (rowOf b x .rank) (rowOf b a .rank))
@@ -233,7 +241,8 @@ module _ (b : List ℕ) (p : List (List ℕ)) (mode : Mode) (n : ℕ) where
 
   pub break-here : (a z k r s : ℕ) (h : Row) (y : Bool) → mutually (decode b p mode n) a z ≡ true → h ≡ rowOf b a → writes h ≡ true
       → k ≡ rowOf b z .kind → k ≡ ATOMIC-WRITE
-      → r ≡ rowOf b z .rank → y ≡ later (mode .counted) r (h .rank) → not y ≡ false → s ≡ since (mode .counted) r (h .rank) → s ≡ breakAt (decode b p mode n) a z
+      → r ≡ rowOf b z .rank → y ≡ later (mode .counted) r (h .rank) → not y ≡ false → s ≡ since (mode .counted) r (h .rank)
+      → s ≡ breakAt (decode b p mode n) a z
   unfolding breaks follows laterWriter decode
   break-here a z k r s h y m eh w ek e er ey f es =
       es ∙ ap (λ (u : ℕ). since (mode .counted) u (h .rank)) er ∙ ap (λ (u : Row). since (mode .counted) (rowOf b z .rank) (u .rank)) eh
@@ -261,7 +270,8 @@ module _ (b : List ℕ) (p : List (List ℕ)) (mode : Mode) (n : ℕ) where
   -- the sequence of a row that doesn't write
   pub sequence-alone : (a : ℕ) (h : Row) (u : Bool) → h ≡ rowOf b a → u ≡ writes h → not u ≡ true → (x : ℕ) → sequence (decode b p mode n) a x ≡ eqb a x
   unfolding sequence follows laterWriter decode
-  sequence-alone a h u eh eu e x = or-off _ _ (and-false-left _ _ (and-false-right _ _ (and-false-left _ _ (and-false-right _ _ (rw (← eh, ← eu) (not-out u e))))))
+  sequence-alone a h u eh eu e x = or-off _ _
+      (and-false-left _ _ (and-false-right _ _ (and-false-left _ _ (and-false-right _ _ (rw (← eh, ← eu) (not-out u e))))))
 
   module _ (a x : ℕ) (m : mutually (decode b p mode n) a x ≡ true) where
     different : eqb a x ≡ false
@@ -270,7 +280,8 @@ module _ (b : List ℕ) (p : List (List ℕ)) (mode : Mode) (n : ℕ) where
 
     pub sequence-read : (k : ℕ) → k ≡ rowOf b x .kind → k ≡ ATOMIC-READ → false ≡ sequence (decode b p mode n) a x
     unfolding follows laterWriter decode
-    sequence-read k ek e = sym (sequence-other a x different (and-false-right _ _ (and-false-left _ _ (and-false-left _ _ (reads-alone (rowOf b x) (sym ek ∙ e))))))
+    sequence-read k ek e = sym (sequence-other a x different
+        (and-false-right _ _ (and-false-left _ _ (and-false-left _ _ (reads-alone (rowOf b x) (sym ek ∙ e))))))
 
     pub sequence-earlier : (k : ℕ) (h : Row) (y : Bool) → h ≡ rowOf b a → k ≡ rowOf b x .rank → y ≡ later (mode .counted) k (h .rank) → not y ≡ true
         → false ≡ sequence (decode b p mode n) a x
@@ -288,6 +299,8 @@ module _ (b : List ℕ) (p : List (List ℕ)) (mode : Mode) (n : ℕ) where
         → f ≡ firstBreak (decode b p mode n) a n → ltb s f ≡ sequence (decode b p mode n) a x
     unfolding follows laterWriter decode
     sequence-within k r s f h y eh w lh ek d er lr ey g es ef =
-        ltb-leb s f ∙ ap not (ap₂ leb ef (es ∙ ap (λ (u : ℕ). since (mode .counted) u (h .rank)) er ∙ ap (λ (u : Row). since (mode .counted) (rowOf b x .rank) (u .rank)) eh))
+        ltb-leb s f ∙ ap not (ap₂ leb ef (es ∙ ap (λ (u : ℕ). since (mode .counted) u (h .rank)) er
+        ∙ ap (λ (u : Row). since (mode .counted) (rowOf b x .rank) (u .rank)) eh))
         ∙ sequence-held (subst (λ (u : ℕ). u < COUNTS) er lr) (subst (λ (u : Row). u .rank < COUNTS) eh lh)
-        (and-true m (and-true (and-true (writes-other (rowOf b x) (mutual-second a x m) (λ q. d (ek ∙ q))) (sym (ap writes eh) ∙ w)) (rw (← er, ← eh, ← ey) (not-false y g))))
+        (and-true m (and-true (and-true (writes-other (rowOf b x) (mutual-second a x m) (λ q. d (ek ∙ q))) (sym (ap writes eh) ∙ w))
+        (rw (← er, ← eh, ← ey) (not-false y g))))

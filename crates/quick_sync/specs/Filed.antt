@@ -65,7 +65,8 @@ filed-none key p s l = record { room = l; found = λ y h. absurd (omega arith) }
 -- one more row
 pub filed-more : {key : ℕ → ℕ} {p : ℕ → Bool} {s u : List ℕ} (y k : ℕ) (b : Bool) → y < ROWS → k < FILES → k ≡ key y → b ≡ p y → u ≡ setBitIf b s (fileBit k y)
     → Filed key p y s → Filed key p (y + 1) u
-filed-more {key} {p} {s} {u} y k b few l ek eb e f = rw e (record { room = rw (length-setBitIf b s (fileBit k y)) (f .room); found = λ z h g. go z h g (ℕ-discrete z y) })
+filed-more {key} {p} {s} {u} y k b few l ek eb e f =
+    rw e (record { room = rw (length-setBitIf b s (fileBit k y)) (f .room); found = λ z h g. go z h g (ℕ-discrete z y) })
   where
     go : (z : ℕ) → z < y + 1 → p z ≡ true → Dec (z ≡ y) → bit (setBitIf b s (fileBit k y)) (fileBit (key z) z) ≡ true
     go z h g (yes d) =

@@ -85,8 +85,10 @@ pub row-of-copy : {a n i : ℕ} {r : ℕ → ℕ → Bool} {w v x u : List ℕ} 
 unfolding rel
 row-of-copy {a} {n} {i} {r} {w} {v} {x} {u} e few room h l m is ev ex d =
     record {
-      cell = λ k q. d .cell ((a + i * GRID) * 64 + k) ∙ ap₂ (λ (y z : Bool). y and not z) (put k q (ℕ-discrete k e)) (eqb-moved ((a + i * GRID) * 64) k i) ∙ sym (is k);
-      frame = within-trans copied (within-trans (rw ex (within-setBit (a + i * GRID) (a + i * GRID + GRID) v ((a + i * GRID) * 64 + e) (omega arith) (omega arith)))
+      cell = λ k q. d .cell ((a + i * GRID) * 64 + k)
+          ∙ ap₂ (λ (y z : Bool). y and not z) (put k q (ℕ-discrete k e)) (eqb-moved ((a + i * GRID) * 64) k i) ∙ sym (is k);
+      frame = within-trans copied (within-trans
+          (rw ex (within-setBit (a + i * GRID) (a + i * GRID + GRID) v ((a + i * GRID) * 64 + e) (omega arith) (omega arith)))
           (within-widen (a + i * GRID) (a + i * GRID + GRID) (omega arith) (omega arith) (d .frame)));
     }
   where

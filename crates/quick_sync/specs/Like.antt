@@ -175,9 +175,11 @@ module _ (b : List ℕ) (p : List (List ℕ)) (n c e : ℕ) (kc : rowOf b c .kin
   mates d = rw (← facts .2) (sym (shares-peer p _ _ _ (facts .3) (rowOf b d .agent)))
 
   itself : (not (eqb c e) and sameInstance (rowOf b c) (rowOf b e) and shares p (rowOf b c .class) (rowOf b c .agent) (rowOf b e .agent))
-      ≡ ((not (eqb e e) and sameInstance (rowOf b e) (rowOf b e) and shares p (rowOf b e .class) (rowOf b e .agent) (rowOf b e .agent) or eqb e e) and not (eqb e c))
+      ≡ ((not (eqb e e) and sameInstance (rowOf b e) (rowOf b e) and shares p (rowOf b e .class) (rowOf b e .agent)
+      (rowOf b e .agent) or eqb e e) and not (eqb e c))
   itself =
-      rw (eq-eqb e e refl, sym (same e) ∙ met, facts .3, eqb-turn c e) (own (not (eqb e c)) (sameInstance (rowOf b e) (rowOf b e)) (shares p (rowOf b e .class) (rowOf b e .agent) (rowOf b e .agent)))
+      rw (eq-eqb e e refl, sym (same e) ∙ met, facts .3, eqb-turn c e)
+      (own (not (eqb e c)) (sameInstance (rowOf b e) (rowOf b e)) (shares p (rowOf b e .class) (rowOf b e .agent) (rowOf b e .agent)))
     where
       met : sameInstance (rowOf b e) (rowOf b e) ≡ true
       met = of-itself (rowOf b e) (facts .0)
@@ -188,7 +190,8 @@ module _ (b : List ℕ) (p : List (List ℕ)) (n c e : ℕ) (kc : rowOf b c .kin
   joins-like d = go (ℕ-discrete d e)
     where
       go : Dec (d ≡ e) → (not (eqb c d) and sameInstance (rowOf b c) (rowOf b d) and shares p (rowOf b c .class) (rowOf b c .agent) (rowOf b d .agent))
-          ≡ ((not (eqb e d) and sameInstance (rowOf b e) (rowOf b d) and shares p (rowOf b e .class) (rowOf b e .agent) (rowOf b d .agent) or eqb d e) and not (eqb d c))
+          ≡ ((not (eqb e d) and sameInstance (rowOf b e) (rowOf b d) and shares p (rowOf b e .class) (rowOf b e .agent)
+          (rowOf b d .agent) or eqb d e) and not (eqb d c))
       go (yes q) = rw q itself
       go (no q) =
           rw (ne-eqb d e q, ne-eqb e d (λ z. q (sym z)), same d, mates d, eqb-turn c d)

@@ -221,7 +221,8 @@ module _ (t : Table) where
   unfolding handed times byWay gotten handsTo
   handed-is x b =
       any-cong _ _ (t .rows)
-      (λ y l. bool-ext _ _ (λ e. let s = split e in and-true (s .0) (split (s .1) .1)) (λ e. let s = split e in and-true (s .0) (and-true (and-true (takes-atomic x y (s .0)) (takes-reads x y (s .0))) (s .1))))
+      (λ y l. bool-ext _ _ (λ e. let s = split e in and-true (s .0) (split (s .1) .1)) (λ e. let s = split e in
+      and-true (s .0) (and-true (and-true (takes-atomic x y (s .0)) (takes-reads x y (s .0))) (s .1))))
 
   led-is : (a b : ℕ) → led t a b ≡ (releases (t .row a) and anyBelow (t .rows) (hands t a b))
   unfolding led times byWay released hands
@@ -324,8 +325,11 @@ module _ (t : Table) where
     of-by r e =
         let s = split e in
         let u = split (s .0) in
-        let v = split (u .0) in
-        (v .0, ⊎-elim (λ h. or-left _ (four-is a b la lb ∙ link (u .1) (s .1) h)) (λ h. or-right _ (by-passing (u .1) (s .1) h)) (or-cases (led t a b) _ (v .1)))
+        let v = split (u .0) in (
+          v .0,
+          ⊎-elim (λ h. or-left _ (four-is a b la lb ∙ link (u .1) (s .1) h)) (λ h. or-right _ (by-passing (u .1) (s .1) h))
+              (or-cases (led t a b) _ (v .1)),
+        )
 
     -- M5 by products
     pub sync-is : synchronizes t a b ≡ (releases (t .row a) and syncBy t a b)

@@ -121,7 +121,8 @@ pub peer-self : (b : List ℕ) (p : List (List ℕ)) (n a : ℕ) → Peer b p n 
 peer-self b p n a = record { same = λ k q. refl }
 
 -- row e, which has the scope of row a, which is r
-module _ (b : List ℕ) (p : List (List ℕ)) (n a e : ℕ) (r : Row) (x g : ℕ) (er : r ≡ rowOf b a) (ex : x ≡ byteOf b e 3) (qx : x ≡ r .scope) (eg : g ≡ rowOf b e .agent) where
+module _ (b : List ℕ) (p : List (List ℕ)) (n a e : ℕ) (r : Row) (x g : ℕ) (er : r ≡ rowOf b a) (ex : x ≡ byteOf b e 3) (qx : x ≡ r .scope)
+    (eg : g ≡ rowOf b e .agent) where
   scope-is : rowOf b e .scope ≡ rowOf b a .scope
   scope-is = sym (scope-byte b e) ∙ sym ex ∙ qx ∙ ap (λ (z : Row). z .scope) er
 
@@ -141,7 +142,8 @@ module _ (b : List ℕ) (p : List (List ℕ)) (n a e : ℕ) (r : Row) (x g : ℕ
       go : (k : ℕ) → k < n → (z : Bool) → acquires (rowOf b k) ≡ z → near b p e k ≡ near b p a k
       go k q false o = near-off b p e k o ∙ sym (near-off b p a k o)
       go k q true o =
-          near-is b p e k s (scope-is ∙ sym scope) (sym (lev .all k q o l)) ∙ ap (λ (z : Bool). acquires (rowOf b k) and (z and z)) (sym (shares-peer p s _ _ shared (rowOf b k .agent)))
+          near-is b p e k s (scope-is ∙ sym scope) (sym (lev .all k q o l))
+          ∙ ap (λ (z : Bool). acquires (rowOf b k) and (z and z)) (sym (shares-peer p s _ _ shared (rowOf b k .agent)))
           ∙ sym (near-is b p a k s (sym scope) (sym (lev .all k q o l)))
 
 -- ---- laws: what is learnt
@@ -150,7 +152,10 @@ pub learnt-kept : {b : List ℕ} {p : List (List ℕ)} {n c d : ℕ} {w u : List
     → Learnt b p n w → Learnt b p n u
 unfolding rel
 learnt-kept {b} {p} {n} {c} {d} {w} {u} few off f h =
-    record { cell = λ e k q m. at GOOD (omega arith) (omega arith) e k q m ∙ h .cell e k q m ∙ ap (λ (z : Bool). z and near b p e k) (sym (at COVER (omega arith) (omega arith) e k q m)) }
+    record {
+      cell = λ e k q m. at GOOD (omega arith) (omega arith) e k q m ∙ h .cell e k q m
+          ∙ ap (λ (z : Bool). z and near b p e k) (sym (at COVER (omega arith) (omega arith) e k q m));
+    }
   where
     at : (x : ℕ) → COVER ≤ x → x + ROWS-GRID ≤ GOOD-END → (e k : ℕ) → e < n → k < n → grid u x e k ≡ grid w x e k
     at x lo hi e k q m = within-bit f ((x + e * GRID) * 64 + k) (λ o. out o (decLt c GOOD-END))
@@ -291,7 +296,8 @@ learning-done {b} {p} {n} {a} {e} {j} {w} {v} {u} few la le l z h =
     record {
       learnt = h .learnt;
       known = λ k q o. known k q o (grid w COVER e k) refl;
-      frame = within-trans (within-widen COVER UNKNOWN-END (omega arith) (omega arith) (z .frame)) (within-widen COVER UNKNOWN-END (omega arith) (omega arith) (h .frame));
+      frame = within-trans (within-widen COVER UNKNOWN-END (omega arith) (omega arith) (z .frame))
+          (within-widen COVER UNKNOWN-END (omega arith) (omega arith) (h .frame));
     }
   where
     known : (k : ℕ) → k < n → either w (LINKS + a * GRID) (PASSED + a * GRID) k ≡ true → (x : Bool) → grid w COVER e k ≡ x → grid u COVER e k ≡ true
@@ -310,7 +316,8 @@ pub drawn : (a e : ℕ) (w : List ℕ) {v x u : List ℕ} → a < ROWS → e < R
 unfolding rel both
 drawn a e w {v} {x} {u} la le room ev ex d =
     record {
-      cell = λ k q. d .cell ((SYNC + a * GRID) * 64 + k) ∙ ap₂ (λ (y z : Bool). y and not z) (second k q ∙ ap₂ _or_ (first k q) (later k q)) (eqb-moved ((SYNC + a * GRID) * 64) k a);
+      cell = λ k q. d .cell ((SYNC + a * GRID) * 64 + k)
+          ∙ ap₂ (λ (y z : Bool). y and not z) (second k q ∙ ap₂ _or_ (first k q) (later k q)) (eqb-moved ((SYNC + a * GRID) * 64) k a);
       frame = within-trans one (within-trans two (within-widen (SYNC + a * GRID) (SYNC + a * GRID + GRID) (omega arith) (omega arith) (d .frame)));
     }
   where
@@ -431,7 +438,8 @@ module _ (b : List ℕ) (p : List (List ℕ)) (mode : Mode) (n a : ℕ) (few : n
         ∙ ap₂ _and_
         (ap₂ _or_ (ap₂ _or_ (sync-zero k q) (ap₂ _and_ (linked-v .links .cell a k la q) (good k q))) (ap₂ _and_ (linked-v .passing .cell a k la q) (good k q)))
         (ap not (eqb-turn k a))
-        ∙ mixed (led (decode b p mode n) a k) (passed (decode b p mode n) a k) (grid v COVER e k) (acquires (rowOf b k)) (together p (rowOf b a) (rowOf b k)) (not (eqb a k)) (covered-by k q)
+        ∙ mixed (led (decode b p mode n) a k) (passed (decode b p mode n) a k) (grid v COVER e k) (acquires (rowOf b k))
+        (together p (rowOf b a) (rowOf b k)) (not (eqb a k)) (covered-by k q)
         ∙ sym (sync-near k q)
 
     other : (x k : ℕ) → x < n → (x ≡ a → ⊥) → k < n → grid u SYNC x k ≡ grid w SYNC x k
@@ -446,7 +454,8 @@ module _ (b : List ℕ) (p : List (List ℕ)) (mode : Mode) (n a : ℕ) (few : n
         learnt = learnt-kept few (λ z. omega arith) (d .frame) (o .learnt);
         syncs = rows-of-more few (t .syncs) other cell la;
       },
-      within-trans (within-widen SYNC UNKNOWN-END (omega arith) (omega arith) (o .frame)) (within-widen SYNC UNKNOWN-END (omega arith) (omega arith) (d .frame)),
+      within-trans (within-widen SYNC UNKNOWN-END (omega arith) (omega arith) (o .frame))
+          (within-widen SYNC UNKNOWN-END (omega arith) (omega arith) (d .frame)),
     )
 
 -- ---- laws: all rows

@@ -70,7 +70,8 @@ beyond k c j p q = omega arith
 -- the pair of i and j, the lesser first
 pub pairs-put : {r : ℕ → ℕ → Bool} {n : ℕ} {w v u : List ℕ} (i j : ℕ) (b : Bool) → ((x y : ℕ) → r x y ≡ r y x) → n ≤ ROWS → WORK ≤ length w → i < j
     → j < n → b ≡ r i j
-    → v ≡ setBitIf b w ((MUTUAL + i * GRID) * 64 + j) → u ≡ setBitIf b v ((MUTUAL + j * GRID) * 64 + i) → Pairs r n (i * ROWS + j) w → Pairs r n (i * ROWS + (j + 1)) u
+    → v ≡ setBitIf b w ((MUTUAL + i * GRID) * 64 + j) → u ≡ setBitIf b v ((MUTUAL + j * GRID) * 64 + i) → Pairs r n (i * ROWS + j) w
+    → Pairs r n (i * ROWS + (j + 1)) u
 unfolding rel _and_
 pairs-put {r} {n} {w} {v} {u} i j b swap few room l m eb ev eu h = record { cell = cell }
   where
@@ -125,7 +126,8 @@ pairs-put {r} {n} {w} {v} {u} i j b swap few room l m eb ev eu h = record { cell
 
             same : Dec (turn x y < i * ROWS + j) → ltb (turn x y) (i * ROWS + j) ≡ ltb (turn x y) (i * ROWS + (j + 1))
             same (yes a) = lt-ltb _ _ a ∙ sym (lt-ltb (turn x y) (i * ROWS + (j + 1)) (omega arith))
-            same (no a) = le-ltb (turn x y) (i * ROWS + j) (omega (arith, a)) ∙ sym (le-ltb (turn x y) (i * ROWS + (j + 1)) (beyond (turn x y) (i * ROWS) j a apart))
+            same (no a) = le-ltb (turn x y) (i * ROWS + j) (omega (arith, a))
+                ∙ sym (le-ltb (turn x y) (i * ROWS + (j + 1)) (beyond (turn x y) (i * ROWS) j a apart))
 
 -- ---- laws: M3
 

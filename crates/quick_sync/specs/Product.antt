@@ -132,7 +132,8 @@ pub rows-none : (w : List ℕ) {v : List ℕ} {c a b n : ℕ} → n ≤ ROWS →
 unfolding rel
 rows-none w {v} {c} {a} {b} {n} few room e =
     record {
-      cell = λ x k p q. rw e (bit-zeros-in w c (c + ROWS-GRID - c) ((c + x * GRID) * 64 + k) (omega arith) (omega arith) (omega arith)) ∙ sym (and-false-left _ _ (le-ltb x 0 (omega arith)));
+      cell = λ x k p q. rw e (bit-zeros-in w c (c + ROWS-GRID - c) ((c + x * GRID) * 64 + k) (omega arith) (omega arith) (omega arith))
+          ∙ sym (and-false-left _ _ (le-ltb x 0 (omega arith)));
       frame = within-refl c (c + ROWS-GRID) v;
     }
 
@@ -150,7 +151,8 @@ rows-more {w} {v} {u} {c} {a} {b} {n} {i} few l offa offb h r =
 
     same : (k : ℕ) → k < 64 * GRID → times n (grid v a) (grid v b) i k ≡ times n (grid w a) (grid w b) i k
     same k q =
-        times-cong n (grid v a) (grid v b) (grid w a) (grid w b) i k (λ j m. kept a offa i j (omega arith) (omega arith)) (λ j m. kept b offb j k (omega arith) q)
+        times-cong n (grid v a) (grid v b) (grid w a) (grid w b) i k (λ j m. kept a offa i j (omega arith) (omega arith))
+        (λ j m. kept b offb j k (omega arith) q)
 
     other : (x k : ℕ) → x < n → k < 64 * GRID → (x ≡ i → ⊥) → grid u c x k ≡ grid v c x k
     other x k p q d = within-bit (r .frame) ((c + x * GRID) * 64 + k) (λ m. omega arith)
@@ -174,7 +176,11 @@ pub made-times : {w v u : List ℕ} {c a b n : ℕ} → n ≤ ROWS → c + ROWS-
 unfolding rel _and_
 made-times {w} {v} {u} {c} {a} {b} {n} few room e offa offb h =
     record {
-      holds = record { fits = omega arith; cell = λ i k p q. h .cell i k p (omega arith) ∙ ap (λ (z : Bool). z and times n (grid v a) (grid v b) i k) (lt-ltb i n p) ∙ same i k p q };
+      holds = record {
+        fits = omega arith;
+        cell = λ i k p q. h .cell i k p (omega arith)
+            ∙ ap (λ (z : Bool). z and times n (grid v a) (grid v b) i k) (lt-ltb i n p) ∙ same i k p q;
+      };
       frame = within-trans cleared (h .frame);
     }
   where
@@ -186,7 +192,8 @@ made-times {w} {v} {u} {c} {a} {b} {n} few room e offa offb h =
 
     same : (i k : ℕ) → i < n → k < n → times n (grid v a) (grid v b) i k ≡ times n (grid w a) (grid w b) i k
     same i k p q =
-        times-cong n (grid v a) (grid v b) (grid w a) (grid w b) i k (λ j m. kept a offa i j (omega arith) (omega arith)) (λ j m. kept b offb j k (omega arith) (omega arith))
+        times-cong n (grid v a) (grid v b) (grid w a) (grid w b) i k (λ j m. kept a offa i j (omega arith) (omega arith))
+        (λ j m. kept b offb j k (omega arith) (omega arith))
 
 -- of what two grids hold
 pub times-held : {w u : List ℕ} {x y c a b n : ℕ} {r s : ℕ → ℕ → Bool} → Holds a GRID n r w → Holds b GRID n s w

@@ -94,7 +94,9 @@ module _ (b : List ℕ) (p : List (List ℕ)) (mode : Mode) (n : ℕ) where
   pub mutual-reference : (i j : ℕ) (r : Row) → r ≡ rowOf b i → (rowOf b j .reference ≡ r .reference → ⊥) → false ≡ mutually (decode b p mode n) i j
   unfolding mutually mutualRows sameLocation decode
   mutual-reference i j r er h =
-      sym (and-false-right _ _ (and-false-left _ _ (and-false-right _ _ (and-false-right _ _ (ne-eqb (rowOf b i .reference) (rowOf b j .reference) (λ e. h (sym e ∙ ap (λ (z : Row). z .reference) (sym er))))))))
+      sym (and-false-right _ _ (and-false-left _ _
+      (and-false-right _ _ (and-false-right _ _
+      (ne-eqb (rowOf b i .reference) (rowOf b j .reference) (λ e. h (sym e ∙ ap (λ (z : Row). z .reference) (sym er))))))))
 
   pub mutual-start : (i j : ℕ) (r : Row) → r ≡ rowOf b i → (rowOf b j .start ≡ r .start → ⊥) → false ≡ mutually (decode b p mode n) i j
   unfolding mutually decode
@@ -139,20 +141,23 @@ module _ (b : List ℕ) (p : List (List ℕ)) (mode : Mode) (n : ℕ) where
     pub takes-here : (s k : ℕ) (v : Bool) → writes (rowOf b x) ≡ true → k ≡ rowOf b y .kind → (k ≡ ATOMIC-WRITE → ⊥) → s ≡ sourceOf b y → s < n
         → v ≡ sequence (decode b p mode n) x s → v ≡ takesFrom (decode b p mode n) x y
     takes-here s k v g ek h es l ev =
-        sym (and-on _ _ (and-true g (reads-other (rowOf b y) reader (λ q. h (ek ∙ q))))) ∙ takes-on b p mode n x y s (rowOf b x) (rowOf b y) v m (source s es) l refl refl ev
+        sym (and-on _ _ (and-true g (reads-other (rowOf b y) reader (λ q. h (ek ∙ q)))))
+        ∙ takes-on b p mode n x y s (rowOf b x) (rowOf b y) v m (source s es) l refl refl ev
 
   -- rows of two agents
   pub heads-apart : (a x : ℕ) (r : Row) → r ≡ rowOf b a → (rowOf b x .agent ≡ r .agent → ⊥) → false ≡ heads (decode b p mode n) a x
   unfolding heads leads sameAgent decode
   heads-apart a x r er h =
       sym (or-none (and-false-right _ _ (ne-eqb a x (λ e. h (ap (λ (i : ℕ). rowOf b i .agent) (sym e) ∙ ap (λ (z : Row). z .agent) (sym er)))))
-      (and-false-right _ _ (and-false-left _ _ (and-false-right _ _ (ne-eqb (rowOf b a .agent) (rowOf b x .agent) (λ e. h (sym e ∙ ap (λ (z : Row). z .agent) (sym er))))))))
+      (and-false-right _ _ (and-false-left _ _
+      (and-false-right _ _ (ne-eqb (rowOf b a .agent) (rowOf b x .agent) (λ e. h (sym e ∙ ap (λ (z : Row). z .agent) (sym er))))))))
 
   pub gets-apart : (c y : ℕ) (q : Row) → q ≡ rowOf b y → (rowOf b c .agent ≡ q .agent → ⊥) → false ≡ gets (decode b p mode n) c y
   unfolding gets trails sameAgent decode
   gets-apart c y q eq h =
       sym (or-none (and-false-right _ _ (ne-eqb c y (λ e. h (ap (λ (i : ℕ). rowOf b i .agent) e ∙ ap (λ (z : Row). z .agent) (sym eq)))))
-      (and-false-right _ _ (and-false-left _ _ (and-false-right _ _ (ne-eqb (rowOf b y .agent) (rowOf b c .agent) (λ e. h (sym e ∙ ap (λ (z : Row). z .agent) (sym eq))))))))
+      (and-false-right _ _ (and-false-left _ _
+      (and-false-right _ _ (ne-eqb (rowOf b y .agent) (rowOf b c .agent) (λ e. h (sym e ∙ ap (λ (z : Row). z .agent) (sym eq))))))))
 
   -- row c by its kind, agent and classes alone: where it is row y, so are its own
   own-atomic : (c y : ℕ) (q : Row) → q ≡ rowOf b y → (atomic q and eqb c y) ≡ (atomic (rowOf b c) and eqb c y)
@@ -171,12 +176,14 @@ module _ (b : List ℕ) (p : List (List ℕ)) (mode : Mode) (n : ℕ) where
   pub released-back : (a x : ℕ) → x < a → released (decode b p mode n) a x ≡ false
   unfolding released heads leads
   released-back a x l =
-      and-false-right _ _ (or-none (and-false-right _ _ (ne-eqb a x (λ e. absurd (omega arith)))) (and-false-right _ _ (and-false-left _ _ (and-false-left _ _ (le-ltb a x (omega arith))))))
+      and-false-right _ _ (or-none (and-false-right _ _ (ne-eqb a x (λ e. absurd (omega arith))))
+      (and-false-right _ _ (and-false-left _ _ (and-false-left _ _ (le-ltb a x (omega arith))))))
 
   pub gotten-back : (y c : ℕ) → c < y → gotten (decode b p mode n) y c ≡ false
   unfolding gotten gets trails
   gotten-back y c l =
-      and-false-right _ _ (or-none (and-false-right _ _ (ne-eqb c y (λ e. absurd (omega arith)))) (and-false-right _ _ (and-false-left _ _ (and-false-left _ _ (le-ltb y c (omega arith))))))
+      and-false-right _ _ (or-none (and-false-right _ _ (ne-eqb c y (λ e. absurd (omega arith))))
+      (and-false-right _ _ (and-false-left _ _ (and-false-left _ _ (le-ltb y c (omega arith))))))
 
   -- a release that is no barrier heads itself, if anything
   pub released-own : (a : ℕ) (r : Row) (u v z : Bool) → r ≡ rowOf b a → u ≡ releases r → not u ≡ false → v ≡ barrier r → not v ≡ true → z ≡ atomic r
@@ -208,7 +215,8 @@ module _ (b : List ℕ) (p : List (List ℕ)) (mode : Mode) (n : ℕ) where
   -- without atomics no release is linked to an acquire
   pub led-none : anyBelow n (atomicOf b) ≡ false → (a c : ℕ) → led (decode b p mode n) a c ≡ false
   unfolding led handed gotten times byWay atomicOf decode
-  led-none e a c = any-not _ n (λ x l. and-false-right _ _ (any-not _ n (λ y k. and-false-right _ _ (and-false-left _ _ (and-false-left _ _ (any-off _ n e y k))))))
+  led-none e a c = any-not _ n (λ x l. and-false-right _ _
+      (any-not _ n (λ y k. and-false-right _ _ (and-false-left _ _ (and-false-left _ _ (any-off _ n e y k))))))
 
   -- ---- laws: control barriers
 

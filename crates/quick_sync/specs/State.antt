@@ -75,7 +75,8 @@ module _ (b : List ℕ) (p : List (List ℕ)) (mode : Mode) (n : ℕ) where
       → Made PASSED UP-TO-END UP-TO GRID n (times n (ahead (decode b [] OFF n)) (grid v ALONE)) v x
       → Made JOINS MEETS JOINS GRID n (joins (decode b p OFF n)) x y
       → Made MEETS (MEETS + ROWS-GRID) MEETS GRID n (times n (grid y JOINS) (grid y UP-TO)) y z
-      → Made PASSED UP-TO-END PASSED GRID n (times n (ahead (decode b [] OFF n)) (grid z MEETS)) z u → Made ALONE UP-TO-END PASSED GRID n (passed (decode b p mode n)) w u
+      → Made PASSED UP-TO-END PASSED GRID n (times n (ahead (decode b [] OFF n)) (grid z MEETS)) z u
+      → Made ALONE UP-TO-END PASSED GRID n (passed (decode b p mode n)) w u
   unfolding passed metBy decode
   passed-made {w} {v} {x} {y} {z} {u} al up jo me pa =
       let few : n ≤ 64 * GRID = al .holds .fits in
@@ -88,13 +89,15 @@ module _ (b : List ℕ) (p : List (List ℕ)) (mode : Mode) (n : ℕ) where
         frame = within-trans (within-widen ALONE UP-TO-END (omega arith) (omega arith) (al .frame))
             (within-trans (within-widen ALONE UP-TO-END (omega arith) (omega arith) (up .frame))
             (within-trans (within-widen ALONE UP-TO-END (omega arith) (omega arith) (jo .frame))
-            (within-trans (within-widen ALONE UP-TO-END (omega arith) (omega arith) (me .frame)) (within-widen ALONE UP-TO-END (omega arith) (omega arith) (pa .frame)))));
+            (within-trans (within-widen ALONE UP-TO-END (omega arith) (omega arith) (me .frame))
+            (within-widen ALONE UP-TO-END (omega arith) (omega arith) (pa .frame)))));
       }
 
   pub links-made : {w v x y z u : List ℕ} → Made HEADS TAKES HEADS GRID n (released (decode b p mode n)) w v
       → Made TAKES GETS TAKES GRID n (takesFrom (decode b p mode n)) v x
       → Made GETS HANDS GETS GRID n (gotten (decode b p mode n)) x y → Made HANDS (HANDS + ROWS-GRID) HANDS GRID n (times n (grid y TAKES) (grid y GETS)) y z
-      → Made LINKS (LINKS + ROWS-GRID) LINKS GRID n (times n (grid z HEADS) (grid z HANDS)) z u → Made LINKS HANDS-END LINKS GRID n (led (decode b p mode n)) w u
+      → Made LINKS (LINKS + ROWS-GRID) LINKS GRID n (times n (grid z HEADS) (grid z HANDS)) z u
+      → Made LINKS HANDS-END LINKS GRID n (led (decode b p mode n)) w u
   unfolding led handed decode
   links-made {w} {v} {x} {y} {z} {u} a g c d e =
       let few : n ≤ 64 * GRID = a .holds .fits in
@@ -109,7 +112,8 @@ module _ (b : List ℕ) (p : List (List ℕ)) (mode : Mode) (n : ℕ) where
         frame = within-trans (within-widen LINKS HANDS-END (omega arith) (omega arith) (a .frame))
             (within-trans (within-widen LINKS HANDS-END (omega arith) (omega arith) (g .frame))
             (within-trans (within-widen LINKS HANDS-END (omega arith) (omega arith) (c .frame))
-            (within-trans (within-widen LINKS HANDS-END (omega arith) (omega arith) (d .frame)) (within-widen LINKS HANDS-END (omega arith) (omega arith) (e .frame)))));
+            (within-trans (within-widen LINKS HANDS-END (omega arith) (omega arith) (d .frame))
+            (within-widen LINKS HANDS-END (omega arith) (omega arith) (e .frame)))));
       }
 
 pub linked-made : {t : Table} {n : ℕ} {w v u : List ℕ} → Made LINKS HANDS-END LINKS GRID n (led t) w v
@@ -118,7 +122,8 @@ linked-made {n = n} l f =
     let few : n ≤ 64 * GRID = l .holds .fits in
     record {
       linked = record { links = holds-kept (λ h. absurd (omega arith)) (f .frame) (l .holds); passing = f .holds };
-      frame = within-trans (within-widen HAPPENS HAPPENS-END (omega arith) (omega arith) (l .frame)) (within-widen HAPPENS HAPPENS-END (omega arith) (omega arith) (f .frame));
+      frame = within-trans (within-widen HAPPENS HAPPENS-END (omega arith) (omega arith) (l .frame))
+          (within-widen HAPPENS HAPPENS-END (omega arith) (omega arith) (f .frame));
     }
 
 pub synced-made : {t : Table} {n : ℕ} {w v x y u : List ℕ} → Made MUTUAL MUTUAL-END MUTUAL GRID n (mutually t) w v
@@ -129,5 +134,6 @@ synced-made m s l y =
       record { mutuals = k .mutuals; syncs = y .holds },
       within-trans (within-widen MUTUAL HAPPENS-END (omega arith) (omega arith) (m .frame))
           (within-trans (within-widen MUTUAL HAPPENS-END (omega arith) (omega arith) (s .frame))
-          (within-trans (within-widen MUTUAL HAPPENS-END (omega arith) (omega arith) (l .frame)) (within-widen MUTUAL HAPPENS-END (omega arith) (omega arith) (y .frame)))),
+          (within-trans (within-widen MUTUAL HAPPENS-END (omega arith) (omega arith) (l .frame))
+          (within-widen MUTUAL HAPPENS-END (omega arith) (omega arith) (y .frame)))),
     )

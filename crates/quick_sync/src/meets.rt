@@ -84,7 +84,8 @@ fn along_row(rows: &[u8], n: usize, dst: usize, src: usize, a: usize, w: &mut [u
 // The grid at dst becomes the product of program order from barriers and the grid at src: from the last row on, an agent at a time.
 fn fill_along(rows: &[u8], n: usize, dst: usize, src: usize, w: &mut [u64])
     requires { ⌜ (n ≤ ROWS) × (WORK ≤ length (now w)) × Target dst src ⌝ }
-    ensures { λ _. ⌜ Made PASSED UP-TO-END dst GRID n (times n (ahead (decode (now (rows .entry)) [] OFF n)) (grid (now (w .entry)) src)) (now (w .entry)) (now (w .exit)) ⌝ }
+    ensures { λ _. let passing = times n (ahead (decode (now (rows .entry)) [] OFF n)) (grid (now (w .entry)) src) in
+        ⌜ Made PASSED UP-TO-END dst GRID n passing (now (w .entry)) (now (w .exit)) ⌝ }
 {
     bits::clear(w, AGENTS, AGENTS_END);
     bits::clear(w, dst, dst + ROWS_GRID);

@@ -55,7 +55,8 @@ unset-bit w at k a l e =
     let r : (at + k) % 64 ≡ at % 64 + k = omega arith in
     let z : getD w (at / 64) 0 / 2 ^ (at % 64) % 65536 ≡ 0 = eqb-true _ 0 e in
     let y : getD w (at / 64) 0 / 2 ^ (at % 64 + k) % 2 ≡ 0 =
-    ap (λ (m : ℕ). getD w (at / 64) 0 / m % 2) (pow-add 2 (at % 64) k) ∙ ap (λ (m : ℕ). m % 2) (sym (div-div-eq-div-mul (getD w (at / 64) 0) (2 ^ (at % 64)) (2 ^ k)))
+    ap (λ (m : ℕ). getD w (at / 64) 0 / m % 2) (pow-add 2 (at % 64) k)
+    ∙ ap (λ (m : ℕ). m % 2) (sym (div-div-eq-div-mul (getD w (at / 64) 0) (2 ^ (at % 64)) (2 ^ k)))
     ∙ even (getD w (at / 64) 0 / 2 ^ (at % 64)) k z l in
     rw (q, r, y) refl
 

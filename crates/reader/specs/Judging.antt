@@ -45,7 +45,17 @@ module _ (b : List ℕ) (p : List (List ℕ)) (mode : Mode) (n s case m k : ℕ)
       → (d or (eqb case 4 and e)) ≡ direct (decode b p mode n) s case m k
   unfolding programOrder decode
   direct-told r q v o d e er eq ev eo ed ee =
-      rw (direct-is b p mode n s case m k, ed, ee, ev, eo, er, eq, asked-once s (m % 3) (k % 3) (rowOf b (m / 3)) (rowOf b (k / 3)) (synchronizes (decode b p mode n) (m / 3) (k / 3)) (orderedRows n m k (rowOf b (m / 3)) (rowOf b (k / 3))) case) refl
+      rw (
+        direct-is b p mode n s case m k,
+        ed,
+        ee,
+        ev,
+        eo,
+        er,
+        eq,
+        asked-once s (m % 3) (k % 3) (rowOf b (m / 3)) (rowOf b (k / 3)) (synchronizes (decode b p mode n) (m / 3) (k / 3))
+            (orderedRows n m k (rowOf b (m / 3)) (rowOf b (k / 3))) case,
+      ) refl
 
 -- ---- laws: a chain
 
@@ -122,11 +132,13 @@ module _ (b : List ℕ) (p : List (List ℕ)) (mode : Mode) (n m k : ℕ) (r : R
 
     pub chain-on : (d : Bool) → not fits ≡ false → d ≡ leadsTo (decode b p mode n) s m k steps → d ≡ accepts (decode b p mode n) m k r steps
     unfolding accepts chainHolds leadsTo
-    chain-on d f g = rw h (g ∙ sym (ap (λ (z : Bool). z and not (anyBelow (length steps) (broken (decode b p mode n) s m steps))) (and-on _ _ (not-false fits f))))
+    chain-on d f g = rw h (g ∙ sym (ap (λ (z : Bool). z and not (anyBelow (length steps) (broken (decode b p mode n) s m steps)))
+        (and-on _ _ (not-false fits f))))
 
 -- ---- laws: the rows of an admitted table
 
-module _ (b : List ℕ) (p : List (List ℕ)) (mode : Mode) (n m k : ℕ) (r : Reason) (steps : List ℕ) (x y : Bool) (ex : x ≡ moment (decode b p mode n) m) (ey : y ≡ moment (decode b p mode n) k) where
+module _ (b : List ℕ) (p : List (List ℕ)) (mode : Mode) (n m k : ℕ) (r : Reason) (steps : List ℕ) (x y : Bool)
+    (ex : x ≡ moment (decode b p mode n) m) (ey : y ≡ moment (decode b p mode n) k) where
   abbrev two : Bool
   two = x and y and not (eqb m k)
 

@@ -60,7 +60,8 @@ some-to false false t o i w k = refl
 -- an atomic is no barrier
 lone : (r : Row) → atomic r ≡ true → barrier r ≡ false
 unfolding atomic barrier
-lone r e = let l : r .kind ≤ RMW = leb-true (r .kind) RMW (split e .1) in or-none (ne-eqb (r .kind) BARRIER (λ h. omega arith)) (ne-eqb (r .kind) CONTROL (λ h. omega arith))
+lone r e = let l : r .kind ≤ RMW = leb-true (r .kind) RMW (split e .1) in
+    or-none (ne-eqb (r .kind) BARRIER (λ h. omega arith)) (ne-eqb (r .kind) CONTROL (λ h. omega arith))
 
 -- the tests of two rows that were read, b's rows a and c
 module _ (b : List ℕ) (p : List (List ℕ)) (mode : Mode) (n a c : ℕ) (r q : Row) (er : r ≡ rowOf b a) (eq : q ≡ rowOf b c)
@@ -107,13 +108,15 @@ module _ (b : List ℕ) (p : List (List ℕ)) (mode : Mode) (n a c : ℕ) (r q :
   pub sync-from : (d : Bool) → (u and y) ≡ true → d ≡ o → (near and d) ≡ synchronizes (decode b p mode n) a c
   sync-from d g₁ e =
       let z = split g₁ in
-      let m : (near and o) ≡ some x y u v near (eqb a c) t o i w k = rw (z .0, z .1, no-atomic-r (z .0), no-barrier-q (z .1)) (some-from near (eqb a c) t o i w k) in
+      let m : (near and o) ≡ some x y u v near (eqb a c) t o i w k = rw (z .0, z .1, no-atomic-r (z .0), no-barrier-q (z .1))
+      (some-from near (eqb a c) t o i w k) in
       ap (λ (s : Bool). near and s) e ∙ m ∙ cases
 
   pub sync-to : (d : Bool) → (x and v) ≡ true → d ≡ i → (near and d) ≡ synchronizes (decode b p mode n) a c
   sync-to d g₁ e =
       let z = split g₁ in
-      let m : (near and i) ≡ some x y u v near (eqb a c) t o i w k = rw (z .0, z .1, no-barrier-r (z .0), no-atomic-q (z .1)) (some-to near (eqb a c) t o i w k) in
+      let m : (near and i) ≡ some x y u v near (eqb a c) t o i w k = rw (z .0, z .1, no-barrier-r (z .0), no-atomic-q (z .1))
+      (some-to near (eqb a c) t o i w k) in
       ap (λ (s : Bool). near and s) e ∙ m ∙ cases
 
   pub sync-over : (d z : Bool) → (x and y) ≡ false → (u and y) ≡ false → (x and v) ≡ false → d ≡ w → z ≡ k

@@ -44,7 +44,8 @@ case-told s from to d r q x y b o v f e g h = rw (← e, ← g, ← h) f
 module _ (b : List ℕ) (p : List (List ℕ)) (mode : Mode) (n : ℕ) where
   case-is : (s m k : ℕ)
       → lowestCase (decode b p mode n) s m k
-      ≡ lowestRows s (part m) (part k) (rowOf b (rowIn m)) (rowOf b (rowIn k)) (synchronizes (decode b p mode n) (rowIn m) (rowIn k)) (programOrder (decode b p mode n) m k)
+      ≡ lowestRows s (part m) (part k) (rowOf b (rowIn m)) (rowOf b (rowIn k)) (synchronizes (decode b p mode n) (rowIn m) (rowIn k))
+      (programOrder (decode b p mode n) m k)
   unfolding lowestCase bySync toRelease fromAcquire holding concerns lowestRows decode
   case-is s m k = rw (case-one _ _ _ _ _ _ _, case-two _ _ _ _ _ _ _, case-three _ _ _ _ _ _ _) refl
 

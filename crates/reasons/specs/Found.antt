@@ -58,7 +58,8 @@ module _ {t : Table} {n s x : ℕ} {w : List ℕ} (all : n ≡ t .rows) (h : Lay
         let k : suc (least (3 * n) (by t n s x z)) < 3 * n = least-apart (3 * n) (step t s) x z o l apart (sym has-is ∙ f) in
         let q : suc j < 3 * n = subst (λ (i : ℕ). suc i < 3 * n) (sym first) k in
         let i : least (3 * n) (inLayer w CHAINS MOMENTS z) < 3 * n = subst (λ (i : ℕ). i < 3 * n) e (omega arith) in
-        let hit : inLayer w CHAINS MOMENTS z j ≡ true = subst (λ (i : ℕ). inLayer w CHAINS MOMENTS z i ≡ true) (sym e) (least-is (inLayer w CHAINS MOMENTS z) (3 * n) .hit i) in
+        let hit : inLayer w CHAINS MOMENTS z j ≡ true = subst (λ (i : ℕ). inLayer w CHAINS MOMENTS z i ≡ true) (sym e)
+        (least-is (inLayer w CHAINS MOMENTS z) (3 * n) .hit i) in
         let g : walk (3 * n) (rel w STEP MOMENTS) x (suc j) z ≡ true = sym (h .layers .cell (suc j) z (omega arith) l) ∙ hit in
         (omega arith, omega arith, subst (λ (i : ℕ). walk (3 * n) (rel w STEP MOMENTS) x i z ≡ true) (sym (add-one j)) g)
 
@@ -83,4 +84,5 @@ pub set-has : (t : Table) (c z x : ℕ) → c ≡ least CLASS-SETS (hasChainBy t
 unfolding hasChainBy
 set-has t c z x e l =
     let o : least CLASS-SETS (hasChainBy t z x) < CLASS-SETS = subst (λ (i : ℕ). i < CLASS-SETS) e l in
-    subst (λ (i : ℕ). hasChain t i z x ≡ true) (sym (add-one c)) (subst (λ (i : ℕ). hasChain t (suc i) z x ≡ true) (sym e) (least-is (hasChainBy t z x) CLASS-SETS .hit o))
+    subst (λ (i : ℕ). hasChain t i z x ≡ true) (sym (add-one c))
+    (subst (λ (i : ℕ). hasChain t (suc i) z x ≡ true) (sym e) (least-is (hasChainBy t z x) CLASS-SETS .hit o))

@@ -100,7 +100,8 @@ module _ (t : Table) (m k : ℕ) where
 
 -- the class set was found, and then the layer of the first moment
 module _ {t : Table} {n m k i : ℕ} {u : List ℕ} (all : n ≡ t .rows) (few : n ≤ ROWS) (l : m < 3 * n) (o : k < 3 * n) (apart : m ≡ k → ⊥)
-    (f : i ≡ least CLASS-SETS (hasChainBy t m k)) (s : i < CLASS-SETS) (h : Layered t n (i + 1) k u) (j : ℕ) (e : j ≡ least (3 * n) (inLayer u CHAINS MOMENTS m)) where
+    (f : i ≡ least CLASS-SETS (hasChainBy t m k)) (s : i < CLASS-SETS) (h : Layered t n (i + 1) k u) (j : ℕ)
+    (e : j ≡ least (3 * n) (inLayer u CHAINS MOMENTS m)) where
   -- what `write_steps` asks
   pub steps-asked : (j + 1 ≤ CHAIN) × (j + 1 ≤ 3 * n) × (walk (3 * n) (rel u STEP MOMENTS) k (j + 1) m ≡ true)
   steps-asked = size-fits all h m l j e few o apart (set-has t i m k f s)

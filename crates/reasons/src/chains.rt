@@ -76,8 +76,10 @@ fn case_of(s: u8, from: u8, to: u8, r: Row, q: Row, synced: bool, ordered: bool)
 // The same of moments m and k of a table.
 fn case_at(rows: &[u8], n: usize, s: u8, m: usize, k: usize, synced: bool) -> u16
     requires { ⌜ (n ≤ ROWS) × (m < 3 * n) × (k < 3 * n) ⌝ }
-    ensures { λ d. ⌜ (d ≤ 4) × ((p : List (List ℕ)) (mode : Mode) → d ≡ lowestRows s (m % 3) (k % 3) (rowOf (now (rows .entry)) (m / 3)) (rowOf (now (rows .entry)) (k / 3)) synced
-        (programOrder (decode (now (rows .entry)) p mode n) m k)) ⌝ }
+    ensures { λ d. let r = rowOf (now (rows .entry)) (m / 3) in
+        let q = rowOf (now (rows .entry)) (k / 3) in
+        ⌜ (d ≤ 4) × ((p : List (List ℕ)) (mode : Mode)
+        → d ≡ lowestRows s (m % 3) (k % 3) r q synced (programOrder (decode (now (rows .entry)) p mode n) m k)) ⌝ }
 {
     let ordered = moments::ordered_at(rows, n, m, k);
     let r = rows::bytes::read_row(rows, (m / 3) as u16);

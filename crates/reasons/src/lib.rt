@@ -108,9 +108,10 @@ pub fn derive_both(
     work: &mut [u64],
     chain: &mut [u16],
 ) -> DeriveAnswer
-    ensures { λ r. ⌜ (r ≡ deriveAnswer (deriveBoth (now (first .entry)) (now (second .entry)) m k (length (now (work .entry))) (length (now (chain .entry)))))
-        × (now (work .exit) ≡ workAfter (deriveBoth (now (first .entry)) (now (second .entry)) m k (length (now (work .entry))) (length (now (chain .entry)))) (now (work .entry)))
-        × (now (chain .exit) ≡ chainAfter (deriveBoth (now (first .entry)) (now (second .entry)) m k (length (now (work .entry))) (length (now (chain .entry)))) (now (chain .entry))) ⌝ }
+    ensures { λ r. let answer = deriveBoth (now (first .entry)) (now (second .entry)) m k (length (now (work .entry))) (length (now (chain .entry))) in
+        ⌜ (r ≡ deriveAnswer answer)
+        × (now (work .exit) ≡ workAfter answer (now (work .entry)))
+        × (now (chain .exit) ≡ chainAfter answer (now (chain .entry))) ⌝ }
 {
     let a = pieces::open_both(first, second, true, model::CHAIN, work.len(), chain.len());
     let Admission::Admitted {
@@ -140,9 +141,10 @@ pub fn derive(
     work: &mut [u64],
     chain: &mut [u16],
 ) -> DeriveAnswer
-    ensures { λ r. ⌜ (r ≡ deriveAnswer (derive (now (table .entry)) first second (length (now (work .entry))) (length (now (chain .entry)))))
-        × (now (work .exit) ≡ workAfter (derive (now (table .entry)) first second (length (now (work .entry))) (length (now (chain .entry)))) (now (work .entry)))
-        × (now (chain .exit) ≡ chainAfter (derive (now (table .entry)) first second (length (now (work .entry))) (length (now (chain .entry)))) (now (chain .entry))) ⌝ }
+    ensures { λ r. let answer = derive (now (table .entry)) first second (length (now (work .entry))) (length (now (chain .entry))) in
+        ⌜ (r ≡ deriveAnswer answer)
+        × (now (work .exit) ≡ workAfter answer (now (work .entry)))
+        × (now (chain .exit) ≡ chainAfter answer (now (chain .entry))) ⌝ }
 {
     derive_both(table, &table[..0], first, second, work, chain)
 }

@@ -36,9 +36,11 @@ answered a b t e f = f ∙ ap (λ (c : CheckAnswer). reportAnswer c t) (sym e)
 -- located, judged, answered, wiped
 pub rows-reported : (b : List ℕ) (p : List (List ℕ)) (mode : Mode) (n : ℕ) (src w v u z c d : List ℕ) (a : CheckAnswer) (r : ReportAnswer)
     → Listed (sourceOf b) n src → WORK ≤ length w → Within MUTUAL LOCATED-END w v
-    → (a ≡ checkAnswer (verdict (decode b p mode n) (sourceIn src))) × (d ≡ cycleAfter (verdict (decode b p mode n) (sourceIn src)) c) × Within EDGE LAYERS-END v u
+    → (a ≡ checkAnswer (verdict (decode b p mode n) (sourceIn src))) × (d ≡ cycleAfter (verdict (decode b p mode n) (sourceIn src)) c)
+    × Within EDGE LAYERS-END v u
     → r ≡ reportAnswer a (decode b p mode n) → z ≡ zeros u 0 WORK
-    → (r ≡ reportAnswer (checkAnswer (verdict (decode b p mode n) (sourceOf b))) (decode b p mode n)) × (z ≡ wiped w) × (d ≡ cycleAfter (verdict (decode b p mode n) (sourceOf b)) c)
+    → (r ≡ reportAnswer (checkAnswer (verdict (decode b p mode n) (sourceOf b))) (decode b p mode n)) × (z ≡ wiped w)
+    × (d ≡ cycleAfter (verdict (decode b p mode n) (sourceOf b)) c)
 rows-reported b p mode n src w v u z c d a r list room f j q e =
     let k = judged b p mode n src w v u z c d a list room f j e in
     (q ∙ ap (λ (y : CheckAnswer). reportAnswer y (decode b p mode n)) (k .0), k .1, k .2)
@@ -58,12 +60,14 @@ module _ (chains : Bool) (f s w c : List ℕ) where
         let k = said-refused chains f s w c a e x h q in
         (sym (report-both chains (length w) (length c) f s ∙ opened-refused told.Refused _ a _ e x h q), k .1, k .2)
 
-    module _ {g n : ℕ} (h : a ≡ Admitted g n) (all : List ℕ) (p : List (List ℕ)) (mode : Mode) (copy : all ≡ areaOf (rowBytes f ++ s)) (places : p ≡ placesOf f) (modes : mode ≡ modeOf chains f) where
+    module _ {g n : ℕ} (h : a ≡ Admitted g n) (all : List ℕ) (p : List (List ℕ)) (mode : Mode) (copy : all ≡ areaOf (rowBytes f ++ s))
+        (places : p ≡ placesOf f) (modes : mode ≡ modeOf chains f) where
       abbrev rows : List ℕ
       rows = take (n * ROW-BYTES) all
 
       pub reported-rows : (r : ReportAnswer) (x d : List ℕ)
-          → (r ≡ reportAnswer (checkAnswer (verdict (decode rows p mode n) (sourceOf rows))) (decode rows p mode n)) × (x ≡ wiped w) × (d ≡ cycleAfter (verdict (decode rows p mode n) (sourceOf rows)) c)
+          → (r ≡ reportAnswer (checkAnswer (verdict (decode rows p mode n) (sourceOf rows))) (decode rows p mode n)) × (x ≡ wiped w)
+          × (d ≡ cycleAfter (verdict (decode rows p mode n) (sourceOf rows)) c)
           → Reported r x d
       reported-rows r x d j =
           let k = door-admits CYCLE false f s (length w) (length c) a e h in
@@ -78,5 +82,6 @@ module _ (chains : Bool) (f s w c : List ℕ) where
 
 -- one piece is two of which the second is empty
 pub reported-one : (chains : Bool) (s w c : List ℕ) (r : ReportAnswer) (x d : List ℕ) → Reported chains s [] w c r x d
-    → (r ≡ report chains s (length w) (length c)) × (x ≡ workAfter (check chains s (length w) (length c)) w) × (d ≡ cycleAfter (check chains s (length w) (length c)) c)
+    → (r ≡ report chains s (length w) (length c)) × (x ≡ workAfter (check chains s (length w) (length c)) w)
+    × (d ≡ cycleAfter (check chains s (length w) (length c)) c)
 reported-one chains s w c r x d h = rw (← none-report chains (length w) (length c) s, ← none-check chains (length w) (length c) s) h

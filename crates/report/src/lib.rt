@@ -58,9 +58,10 @@ fn report_rows(
     cycle: &mut [u16],
 ) -> ReportAnswer
     requires { ⌜ (WORK ≤ length (now work)) × (CYCLE ≤ length (now cycle)) × RowsOf false (now rows) p mode n ⌝ }
-    ensures { λ r. ⌜ (r ≡ reportAnswer (checkAnswer (verdict (decode (now (rows .entry)) p mode n) (sourceOf (now (rows .entry))))) (decode (now (rows .entry)) p mode n))
+    ensures { λ r. let t = decode (now (rows .entry)) p mode n in
+        ⌜ (r ≡ reportAnswer (checkAnswer (verdict t (sourceOf (now (rows .entry))))) t)
         × (now (work .exit) ≡ wiped (now (work .entry)))
-        × (now (cycle .exit) ≡ cycleAfter (verdict (decode (now (rows .entry)) p mode n) (sourceOf (now (rows .entry)))) (now (cycle .entry))) ⌝ }
+        × (now (cycle .exit) ≡ cycleAfter (verdict t (sourceOf (now (rows .entry)))) (now (cycle .entry))) ⌝ }
 {
     let src = choice::sources::read_sources(rows, n);
     verdict::judge::locate(rows, p, mode, n, work);
@@ -80,9 +81,10 @@ pub fn report_both(
     work: &mut [u64],
     cycle: &mut [u16],
 ) -> ReportAnswer
-    ensures { λ r. ⌜ (r ≡ reportBoth chains (now (first .entry)) (now (second .entry)) (length (now (work .entry))) (length (now (cycle .entry))))
-        × (now (work .exit) ≡ workAfter (checkBoth chains (now (first .entry)) (now (second .entry)) (length (now (work .entry))) (length (now (cycle .entry)))) (now (work .entry)))
-        × (now (cycle .exit) ≡ cycleAfter (checkBoth chains (now (first .entry)) (now (second .entry)) (length (now (work .entry))) (length (now (cycle .entry)))) (now (cycle .entry))) ⌝ }
+    ensures { λ r. let judged = checkBoth chains (now (first .entry)) (now (second .entry)) (length (now (work .entry))) (length (now (cycle .entry))) in
+        ⌜ (r ≡ reportBoth chains (now (first .entry)) (now (second .entry)) (length (now (work .entry))) (length (now (cycle .entry))))
+        × (now (work .exit) ≡ workAfter judged (now (work .entry)))
+        × (now (cycle .exit) ≡ cycleAfter judged (now (cycle .entry))) ⌝ }
 {
     let a = pieces::open_both(first, second, false, model::CYCLE, work.len(), cycle.len());
     let Admission::Admitted {
@@ -106,9 +108,10 @@ pub fn report_both(
 
 // Reports on one recorded run in one piece.
 pub fn report(table: &[u8], chains: bool, work: &mut [u64], cycle: &mut [u16]) -> ReportAnswer
-    ensures { λ r. ⌜ (r ≡ report chains (now (table .entry)) (length (now (work .entry))) (length (now (cycle .entry))))
-        × (now (work .exit) ≡ workAfter (check chains (now (table .entry)) (length (now (work .entry))) (length (now (cycle .entry)))) (now (work .entry)))
-        × (now (cycle .exit) ≡ cycleAfter (check chains (now (table .entry)) (length (now (work .entry))) (length (now (cycle .entry)))) (now (cycle .entry))) ⌝ }
+    ensures { λ r. let judged = check chains (now (table .entry)) (length (now (work .entry))) (length (now (cycle .entry))) in
+        ⌜ (r ≡ report chains (now (table .entry)) (length (now (work .entry))) (length (now (cycle .entry))))
+        × (now (work .exit) ≡ workAfter judged (now (work .entry)))
+        × (now (cycle .exit) ≡ cycleAfter judged (now (cycle .entry))) ⌝ }
 {
     report_both(table, &table[..0], chains, work, cycle)
 }

@@ -77,7 +77,8 @@ module _ (s from to : ℕ) (r q : Row) (b o : Bool) where
     unfolding caseRows
     asked-once =
         ap
-        (λ (a : Bool). a or (eqb case 2 and (holdingOf s q to and releases q and concernsOf s r from and o)) or (eqb case 3 and (holdingOf s r from and acquires r and concernsOf s q to and o)))
+        (λ (a : Bool). a or (eqb case 2 and (holdingOf s q to and releases q and concernsOf s r from and o))
+        or (eqb case 3 and (holdingOf s r from and acquires r and concernsOf s q to and o)))
         (once (eqb case 1) (holdingOf s r from and holdingOf s q to) b)
 
 -- ---- laws: of a table
@@ -86,7 +87,8 @@ module _ (b : List ℕ) (p : List (List ℕ)) (mode : Mode) (n : ℕ) where
   -- a direct case by its number: one of the three, or the one that goes by dependencies
   pub direct-is : (s case m k : ℕ)
       → direct (decode b p mode n) s case m k
-      ≡ (caseRows case s (part m) (part k) (rowOf b (rowIn m)) (rowOf b (rowIn k)) (synchronizes (decode b p mode n) (rowIn m) (rowIn k)) (programOrder (decode b p mode n) m k)
+      ≡ (caseRows case s (part m) (part k) (rowOf b (rowIn m)) (rowOf b (rowIn k)) (synchronizes (decode b p mode n) (rowIn m) (rowIn k))
+      (programOrder (decode b p mode n) m k)
       or (eqb case 4 and bySystem (decode b p mode n) m k))
   unfolding direct bySync toRelease fromAcquire holding concerns caseRows decode
   direct-is s case m k = refl

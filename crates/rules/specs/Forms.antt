@@ -35,7 +35,8 @@ trailRows b y r q = ltb y b and eqb (q .agent) (r .agent) and classIn q (r .clas
 -- a row that is no control barrier is met by none
 pub never-passed : (t : Table) (a b c : ℕ) → control (t .row c) ≡ false → passes t a b c ≡ false
 unfolding passes arrives joins sameInstance
-never-passed t a b c e = not-so _ (λ h. let d = any-out (arrives t b c) (t .rows) (split h .1) in not-both (split (split (split (split (split (d .2) .1) .0) .1) .0) .0) e)
+never-passed t a b c e = not-so _ (λ h. let d = any-out (arrives t b c) (t .rows) (split h .1) in
+    not-both (split (split (split (split (split (d .2) .1) .0) .1) .0) .0) e)
 
 -- tests that pass, left out
 with-true : (a b c : Bool) → (a and b and c) ≡ (true and a and b and true and c)

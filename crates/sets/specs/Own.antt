@@ -290,7 +290,8 @@ pub rounds-skip : (w₀ w : List ℕ) (base n k x : ℕ) → k < n → n ≤ ROW
 unfolding throughOwn rel
 rounds-skip w₀ w base n k x kn few r least far =
     record {
-      cells = λ i j h b. rw add-one (r .cells i j h b ∙ sym (or-off _ _ (and-false-right _ _ (sym (r .cells k j kn b) ∙ least-empty w (base + k * MOMENTS) MOMENTS x least far j b))));
+      cells = λ i j h b. rw add-one (r .cells i j h b
+          ∙ sym (or-off _ _ (and-false-right _ _ (sym (r .cells k j kn b) ∙ least-empty w (base + k * MOMENTS) MOMENTS x least far j b))));
       frame = r .frame;
     }
 

@@ -138,7 +138,12 @@ module _ (w : List ℕ) (a b : ℕ) where
 module _ (w : List ℕ) (a i j n k : ℕ) (s : Next w a a j n k) where
   -- it is gone by, or not reached yet
   pub or-next : (i < j ⊎ k ≤ i) → NextOr w a i j n k
-  or-next o = record { low = s .low; high = s .high; hit = λ l d. s .hit l; miss = λ m p q. (s .miss m p q, λ e. ⊎-elim (λ l. omega arith) (λ l. omega arith) o) }
+  or-next o = record {
+    low = s .low;
+    high = s .high;
+    hit = λ l d. s .hit l;
+    miss = λ m p q. (s .miss m p q, λ e. ⊎-elim (λ l. omega arith) (λ l. omega arith) o);
+  }
 
   pub or-here : j ≤ i → i < k → NextOr w a i j n i
   or-here l h =

@@ -157,9 +157,10 @@ pub extern "C" fn stramashly_check(
     work: &mut [u64],
     cycle: &mut [u16],
 ) -> u64
-    ensures { λ r. ⌜ (r ≡ packCheck (checkAnswer (check (isOn chains) (now (table .entry)) (length (now (work .entry))) (length (now (cycle .entry))))))
-        × (now (work .exit) ≡ workAfter (check (isOn chains) (now (table .entry)) (length (now (work .entry))) (length (now (cycle .entry)))) (now (work .entry)))
-        × (now (cycle .exit) ≡ cycleAfter (check (isOn chains) (now (table .entry)) (length (now (work .entry))) (length (now (cycle .entry)))) (now (cycle .entry))) ⌝ }
+    ensures { λ r. let answer = check (isOn chains) (now (table .entry)) (length (now (work .entry))) (length (now (cycle .entry))) in
+        ⌜ (r ≡ packCheck (checkAnswer answer))
+        × (now (work .exit) ≡ workAfter answer (now (work .entry)))
+        × (now (cycle .exit) ≡ cycleAfter answer (now (cycle .entry))) ⌝ }
 {
     pack_check(verdict::check::check(table, !(chains == 0), work, cycle))
 }
@@ -173,9 +174,10 @@ pub extern "C" fn stramashly_check_by_flags(
     work: &mut [u64],
     cycle: &mut [u16],
 ) -> u64
-    ensures { λ r. ⌜ (r ≡ packCheck (checkAnswer (check (isOn chains) (now (table .entry)) (length (now (work .entry))) (length (now (cycle .entry))))))
-        × (now (work .exit) ≡ workAfter (check (isOn chains) (now (table .entry)) (length (now (work .entry))) (length (now (cycle .entry)))) (now (work .entry)))
-        × (now (cycle .exit) ≡ cycleAfter (check (isOn chains) (now (table .entry)) (length (now (work .entry))) (length (now (cycle .entry)))) (now (cycle .entry))) ⌝ }
+    ensures { λ r. let answer = check (isOn chains) (now (table .entry)) (length (now (work .entry))) (length (now (cycle .entry))) in
+        ⌜ (r ≡ packCheck (checkAnswer answer))
+        × (now (work .exit) ≡ workAfter answer (now (work .entry)))
+        × (now (cycle .exit) ≡ cycleAfter answer (now (cycle .entry))) ⌝ }
 {
     pack_check(verdict::check::check_by_flags(table, !(chains == 0), work, cycle))
 }
@@ -189,9 +191,10 @@ pub extern "C" fn stramashly_fill(
     work: &mut [u64],
     sources: &mut [u16],
 ) -> u64
-    ensures { λ r. ⌜ (r ≡ packFill (fillAnswer (fill (isOn chains) (now (table .entry)) (length (now (work .entry))) (length (now (sources .entry))))) (rowsAt (now (table .entry))))
-        × (now (work .exit) ≡ Fill.workAfter (fill (isOn chains) (now (table .entry)) (length (now (work .entry))) (length (now (sources .entry)))) (now (work .entry)))
-        × (now (sources .exit) ≡ sourcesAfter (fill (isOn chains) (now (table .entry)) (length (now (work .entry))) (length (now (sources .entry)))) (now (sources .entry))) ⌝ }
+    ensures { λ r. let answer = fill (isOn chains) (now (table .entry)) (length (now (work .entry))) (length (now (sources .entry))) in
+        ⌜ (r ≡ packFill (fillAnswer answer) (rowsAt (now (table .entry))))
+        × (now (work .exit) ≡ Fill.workAfter answer (now (work .entry)))
+        × (now (sources .exit) ≡ sourcesAfter answer (now (sources .entry))) ⌝ }
 {
     let answer = filling::fill(table, !(chains == 0), work, sources);
     pack_fill(answer, bytes::rows_at(table))
@@ -206,9 +209,10 @@ pub extern "C" fn stramashly_fill_by_flags(
     work: &mut [u64],
     sources: &mut [u16],
 ) -> u64
-    ensures { λ r. ⌜ (r ≡ packFill (fillAnswer (fill (isOn chains) (now (table .entry)) (length (now (work .entry))) (length (now (sources .entry))))) (rowsAt (now (table .entry))))
-        × (now (work .exit) ≡ Fill.workAfter (fill (isOn chains) (now (table .entry)) (length (now (work .entry))) (length (now (sources .entry)))) (now (work .entry)))
-        × (now (sources .exit) ≡ sourcesAfter (fill (isOn chains) (now (table .entry)) (length (now (work .entry))) (length (now (sources .entry)))) (now (sources .entry))) ⌝ }
+    ensures { λ r. let answer = fill (isOn chains) (now (table .entry)) (length (now (work .entry))) (length (now (sources .entry))) in
+        ⌜ (r ≡ packFill (fillAnswer answer) (rowsAt (now (table .entry))))
+        × (now (work .exit) ≡ Fill.workAfter answer (now (work .entry)))
+        × (now (sources .exit) ≡ sourcesAfter answer (now (sources .entry))) ⌝ }
 {
     let answer = filling::fill_by_flags(table, !(chains == 0), work, sources);
     pack_fill(answer, bytes::rows_at(table))
@@ -224,9 +228,10 @@ pub extern "C" fn stramashly_derive(
     work: &mut [u64],
     chain: &mut [u16],
 ) -> u64
-    ensures { λ r. ⌜ (r ≡ packDerive (deriveAnswer (derive (now (table .entry)) first second (length (now (work .entry))) (length (now (chain .entry))))))
-        × (now (work .exit) ≡ Derivation.workAfter (derive (now (table .entry)) first second (length (now (work .entry))) (length (now (chain .entry)))) (now (work .entry)))
-        × (now (chain .exit) ≡ chainAfter (derive (now (table .entry)) first second (length (now (work .entry))) (length (now (chain .entry)))) (now (chain .entry))) ⌝ }
+    ensures { λ r. let answer = derive (now (table .entry)) first second (length (now (work .entry))) (length (now (chain .entry))) in
+        ⌜ (r ≡ packDerive (deriveAnswer answer))
+        × (now (work .exit) ≡ Derivation.workAfter answer (now (work .entry)))
+        × (now (chain .exit) ≡ chainAfter answer (now (chain .entry))) ⌝ }
 {
     pack_derive(reasons::derive(table, first, second, work, chain))
 }
@@ -257,9 +262,10 @@ pub extern "C" fn stramashly_report(
     work: &mut [u64],
     cycle: &mut [u16],
 ) -> u64
-    ensures { λ r. ⌜ (r ≡ packReport (report (isOn chains) (now (table .entry)) (length (now (work .entry))) (length (now (cycle .entry)))))
-        × (now (work .exit) ≡ workAfter (check (isOn chains) (now (table .entry)) (length (now (work .entry))) (length (now (cycle .entry)))) (now (work .entry)))
-        × (now (cycle .exit) ≡ cycleAfter (check (isOn chains) (now (table .entry)) (length (now (work .entry))) (length (now (cycle .entry)))) (now (cycle .entry))) ⌝ }
+    ensures { λ r. let judged = check (isOn chains) (now (table .entry)) (length (now (work .entry))) (length (now (cycle .entry))) in
+        ⌜ (r ≡ packReport (report (isOn chains) (now (table .entry)) (length (now (work .entry))) (length (now (cycle .entry)))))
+        × (now (work .exit) ≡ workAfter judged (now (work .entry)))
+        × (now (cycle .exit) ≡ cycleAfter judged (now (cycle .entry))) ⌝ }
 {
     pack_report(report::report(table, !(chains == 0), work, cycle))
 }
@@ -287,8 +293,9 @@ pub extern "C" fn stramashly_write(
     dependencies: &[u16],
     out: &mut [u8],
 ) -> u64
-    ensures { λ r. ⌜ (r ≡ packWrite (partsAnswer version (now (places .entry)) (now (rows .entry)) (now (dependencies .entry)) (length (now (out .entry)))))
-        × (now (out .exit) ≡ bufferAfter (partsAnswer version (now (places .entry)) (now (rows .entry)) (now (dependencies .entry)) (length (now (out .entry)))) (partsTable version (now (places .entry)) (now (rows .entry)) (now (dependencies .entry))) (now (out .entry))) ⌝ }
+    ensures { λ r. let answer = partsAnswer version (now (places .entry)) (now (rows .entry)) (now (dependencies .entry)) (length (now (out .entry))) in
+        let table = partsTable version (now (places .entry)) (now (rows .entry)) (now (dependencies .entry)) in
+        ⌜ (r ≡ packWrite answer) × (now (out .exit) ≡ bufferAfter answer table (now (out .entry))) ⌝ }
 {
     pack_write(writer::parts::write_parts(version, places, rows, dependencies, out))
 }
@@ -333,9 +340,10 @@ pub extern "C" fn stramashly_check2(
     work: &mut [u64],
     cycle: &mut [u16],
 ) -> u64
-    ensures { λ r. ⌜ (r ≡ packCheck (checkAnswer (checkBoth (isOn chains) (now (first .entry)) (now (second .entry)) (length (now (work .entry))) (length (now (cycle .entry))))))
-        × (now (work .exit) ≡ workAfter (checkBoth (isOn chains) (now (first .entry)) (now (second .entry)) (length (now (work .entry))) (length (now (cycle .entry)))) (now (work .entry)))
-        × (now (cycle .exit) ≡ cycleAfter (checkBoth (isOn chains) (now (first .entry)) (now (second .entry)) (length (now (work .entry))) (length (now (cycle .entry)))) (now (cycle .entry))) ⌝ }
+    ensures { λ r. let answer = checkBoth (isOn chains) (now (first .entry)) (now (second .entry)) (length (now (work .entry))) (length (now (cycle .entry))) in
+        ⌜ (r ≡ packCheck (checkAnswer answer))
+        × (now (work .exit) ≡ workAfter answer (now (work .entry)))
+        × (now (cycle .exit) ≡ cycleAfter answer (now (cycle .entry))) ⌝ }
 {
     pack_check(verdict::check::check_both(first, second, !(chains == 0), work, cycle))
 }
@@ -350,9 +358,11 @@ pub extern "C" fn stramashly_fill2(
     work: &mut [u64],
     sources: &mut [u16],
 ) -> u64
-    ensures { λ r. ⌜ (r ≡ packFill (fillAnswer (fillBoth (isOn chains) (now (first .entry)) (now (second .entry)) (length (now (work .entry))) (length (now (sources .entry))))) (countBoth (now (first .entry)) (now (second .entry))))
-        × (now (work .exit) ≡ Fill.workAfter (fillBoth (isOn chains) (now (first .entry)) (now (second .entry)) (length (now (work .entry))) (length (now (sources .entry)))) (now (work .entry)))
-        × (now (sources .exit) ≡ sourcesAfter (fillBoth (isOn chains) (now (first .entry)) (now (second .entry)) (length (now (work .entry))) (length (now (sources .entry)))) (now (sources .entry))) ⌝ }
+    ensures { λ r. let answer = fillBoth (isOn chains) (now (first .entry)) (now (second .entry))
+        (length (now (work .entry))) (length (now (sources .entry))) in
+        ⌜ (r ≡ packFill (fillAnswer answer) (countBoth (now (first .entry)) (now (second .entry))))
+        × (now (work .exit) ≡ Fill.workAfter answer (now (work .entry)))
+        × (now (sources .exit) ≡ sourcesAfter answer (now (sources .entry))) ⌝ }
 {
     let answer = filling::fill_both(first, second, !(chains == 0), work, sources);
     pack_fill(answer, pieces::count_both(first, second))
@@ -368,9 +378,10 @@ pub extern "C" fn stramashly_report2(
     work: &mut [u64],
     cycle: &mut [u16],
 ) -> u64
-    ensures { λ r. ⌜ (r ≡ packReport (reportBoth (isOn chains) (now (first .entry)) (now (second .entry)) (length (now (work .entry))) (length (now (cycle .entry)))))
-        × (now (work .exit) ≡ workAfter (checkBoth (isOn chains) (now (first .entry)) (now (second .entry)) (length (now (work .entry))) (length (now (cycle .entry)))) (now (work .entry)))
-        × (now (cycle .exit) ≡ cycleAfter (checkBoth (isOn chains) (now (first .entry)) (now (second .entry)) (length (now (work .entry))) (length (now (cycle .entry)))) (now (cycle .entry))) ⌝ }
+    ensures { λ r. let judged = checkBoth (isOn chains) (now (first .entry)) (now (second .entry)) (length (now (work .entry))) (length (now (cycle .entry))) in
+        ⌜ (r ≡ packReport (reportBoth (isOn chains) (now (first .entry)) (now (second .entry)) (length (now (work .entry))) (length (now (cycle .entry)))))
+        × (now (work .exit) ≡ workAfter judged (now (work .entry)))
+        × (now (cycle .exit) ≡ cycleAfter judged (now (cycle .entry))) ⌝ }
 {
     pack_report(report::report_both(first, second, !(chains == 0), work, cycle))
 }
@@ -386,9 +397,10 @@ pub extern "C" fn stramashly_derive2(
     work: &mut [u64],
     chain: &mut [u16],
 ) -> u64
-    ensures { λ r. ⌜ (r ≡ packDerive (deriveAnswer (deriveBoth (now (first .entry)) (now (second .entry)) m k (length (now (work .entry))) (length (now (chain .entry))))))
-        × (now (work .exit) ≡ Derivation.workAfter (deriveBoth (now (first .entry)) (now (second .entry)) m k (length (now (work .entry))) (length (now (chain .entry)))) (now (work .entry)))
-        × (now (chain .exit) ≡ chainAfter (deriveBoth (now (first .entry)) (now (second .entry)) m k (length (now (work .entry))) (length (now (chain .entry)))) (now (chain .entry))) ⌝ }
+    ensures { λ r. let answer = deriveBoth (now (first .entry)) (now (second .entry)) m k (length (now (work .entry))) (length (now (chain .entry))) in
+        ⌜ (r ≡ packDerive (deriveAnswer answer))
+        × (now (work .exit) ≡ Derivation.workAfter answer (now (work .entry)))
+        × (now (chain .exit) ≡ chainAfter answer (now (chain .entry))) ⌝ }
 {
     pack_derive(reasons::derive_both(first, second, m, k, work, chain))
 }

@@ -281,7 +281,8 @@ module _ (b : List ℕ) (p : List (List ℕ)) where
       apart-class k ek d = sym (apart-is ∙ inside _ (not-in (and-false-left _ _ (and-false-left _ _ (ne-eqb (r .class) (byteOf b j 6) (λ q. d (ek ∙ sym q)))))))
 
       pub apart-agent : (g : ℕ) → g ≡ rowOf b j .agent → g ≡ r .agent → true ≡ apartAt (decode b p OFF 0) i j
-      apart-agent g eg q = sym (apart-is ∙ inside _ (not-in (and-false-left _ _ (and-false-right _ _ (rw (eq-eqb (r .agent) (rowOf b j .agent) (sym q ∙ eg)) refl)))))
+      apart-agent g eg q = sym (apart-is ∙ inside _
+          (not-in (and-false-left _ _ (and-false-right _ _ (rw (eq-eqb (r .agent) (rowOf b j .agent) (sym q ∙ eg)) refl)))))
 
       pub apart-scope : (k g : ℕ) (s : Bool) → k ≡ byteOf b j 6 → k ≡ r .class → g ≡ rowOf b j .agent → (g ≡ r .agent → ⊥)
           → s ≡ shares p (r .class) (r .agent) g
@@ -533,7 +534,8 @@ module _ (f : ℕ → ℕ) (n : ℕ) (next : Admission) (i : ℕ) (e : i ≡ lea
 
 -- ---- the rows' admission: i is the first row that is faulty by itself, j the first among the others
 
-module _ (blanks hosts : Bool) (agents : ℕ) (b : List ℕ) (p : List (List ℕ)) (mode : Mode) (n i : ℕ) (e : i ≡ least n (faulty (rowFaultIn hosts p agents b))) where
+module _ (blanks hosts : Bool) (agents : ℕ) (b : List ℕ) (p : List (List ℕ)) (mode : Mode) (n i : ℕ)
+    (e : i ≡ least n (faulty (rowFaultIn hosts p agents b))) where
   pub rows-early : (r : ℕ) → i < n → r ≡ rowFaultIn hosts p agents b i → rowsAdmission blanks hosts agents b p mode n ≡ Refused r i
   unfolding rowsAdmission
   rows-early r h q = first-hit _ n _ i e r h q

@@ -69,7 +69,8 @@ overwrite-answered t source next o e = rw e (go (ltb y (t .rows)))
     z = overWriter t source y
 
     go : (b : Bool)
-        → overwriteOr (cond b (over.At y z (overByte t source y z)) over.Nothing) (checkAnswer next) ≡ checkAnswer (cond b (overwritten y z (overByte t source y z)) next)
+        → overwriteOr (cond b (over.At y z (overByte t source y z)) over.Nothing) (checkAnswer next) ≡ checkAnswer
+        (cond b (overwritten y z (overByte t source y z)) next)
     go true = refl
     go false = refl
 

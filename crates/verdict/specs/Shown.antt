@@ -77,7 +77,8 @@ module _ (f : ℕ → ℕ) (k n size x i : ℕ) (c d : List ℕ) (h : Numbered f
   step-is t source a b e p q r = rw (r, p, q, numbered-row f k i c d (omega arith) h) (go (decLt (i + 1) size))
     where
       go : Dec (i + 1 < size)
-          → edgeNumber t source (getD c i 0) (cond (ltb (i + 1) size) (getD d (i + 1) 0) x) ≡ edgeNumber t source (getD c i 0) (cond (ltb (i + 1) size) (getD c (i + 1) 0) x)
+          → edgeNumber t source (getD c i 0) (cond (ltb (i + 1) size) (getD d (i + 1) 0) x) ≡ edgeNumber t source (getD c i 0)
+          (cond (ltb (i + 1) size) (getD c (i + 1) 0) x)
       go (yes z) = rw (numbered-row f k (i + 1) c d (omega arith) h) refl
       go (no z) = rw (le-ltb (i + 1) size (omega arith)) refl
 
@@ -159,7 +160,8 @@ shown-buffer rows edges c d e f room few same cleared written numbered =
         after j m =
             let p : length first + (j - CYCLE) ≡ j = rw first-length (omega arith) in
             let q : CYCLE + (j - CYCLE) ≡ j = omega arith in
-            ap (λ (i : ℕ). getD (first ++ drop CYCLE c) i 0) (sym p) ∙ getD-append-add first (drop CYCLE c) (j - CYCLE) 0 ∙ getD-drop CYCLE c (j - CYCLE) 0 ∙ ap (λ (i : ℕ). getD c i 0) q
+            ap (λ (i : ℕ). getD (first ++ drop CYCLE c) i 0) (sym p) ∙ getD-append-add first (drop CYCLE c) (j - CYCLE) 0
+            ∙ getD-drop CYCLE c (j - CYCLE) 0 ∙ ap (λ (i : ℕ). getD c i 0) q
 
     at : (k : ℕ) → Dec (k < CYCLE-EDGES) → Dec (k < CYCLE) → getD f k 0 ≡ getD (first ++ drop CYCLE c) k 0
     at k (yes l) d = row-at k l ∙ sym (number-low rows edges k l) ∙ sym (left k (omega arith))
@@ -201,7 +203,8 @@ module _ (t : Table) (source : ℕ → ℕ) (n x j : ℕ) (w u : List ℕ) (all 
     pub rows-below : (i : ℕ) → i < j + 1 → getD f i 0 < n
     rows-below i m =
         let k : i < length (cycleRows t source) = subst (λ (v : ℕ). i < v) size-is m in
-        rw (rows-written .front i k) (subst (λ (r : List ℕ). getD r i 0 < n) rows-are (shown-below n (edge t source) (subst (λ (v : ℕ). v < n) start l) i (subst (λ (r : List ℕ). i < length r) (sym rows-are) k)))
+        rw (rows-written .front i k) (subst (λ (r : List ℕ). getD r i 0 < n) rows-are
+        (shown-below n (edge t source) (subst (λ (v : ℕ). v < n) start l) i (subst (λ (r : List ℕ). i < length r) (sym rows-are) k)))
 
     pub shown-is : (c g : List ℕ) → CYCLE ≤ length c → d ≡ zeros c 0 CYCLE → Numbered (stepNumber t source x (j + 1) f) (j + 1) f g
         → (j + 1 ≡ length (cycleRows t source)) × (g ≡ cycleAfter (cyclic (cycleRows t source) (cycleEdges t source)) c) × Within LAYERS LAYERS-END w u
@@ -209,10 +212,13 @@ module _ (t : Table) (source : ℕ → ℕ) (n x j : ℕ) (w u : List ℕ) (all 
     shown-is c g room cleared numbered =
         let k = size-asked .0 in
         let z = size-is in
-        let m : Numbered (stepNumber t source x (length (cycleRows t source)) f) (length (cycleRows t source)) f g = subst (λ (v : ℕ). Numbered (stepNumber t source x v f) v f g) size-is numbered in
-        let a : Numbered (λ i. getD (along (edgeNumber t source) x (cycleRows t source)) i 0) (length (cycleRows t source)) f g = steps-along t source x (cycleRows t source) d f g rows-written m in (
+        let m : Numbered (stepNumber t source x (length (cycleRows t source)) f) (length (cycleRows t source)) f g = subst
+        (λ (v : ℕ). Numbered (stepNumber t source x v f) v f g) size-is numbered in
+        let a : Numbered (λ i. getD (along (edgeNumber t source) x (cycleRows t source)) i 0)
+        (length (cycleRows t source)) f g = steps-along t source x (cycleRows t source) d f g rows-written m in (
           size-is,
           subst (λ (y : ℕ). g ≡ cycleAfter (cyclic (cycleRows t source) (along (edgeNumber t source) y (cycleRows t source))) c) q
-              (shown-buffer (cycleRows t source) (along (edgeNumber t source) x (cycleRows t source)) c d f g room (omega arith) (length-along (edgeNumber t source) x (cycleRows t source)) cleared rows-written a),
+              (shown-buffer (cycleRows t source) (along (edgeNumber t source) x (cycleRows t source)) c d f g room (omega arith)
+              (length-along (edgeNumber t source) x (cycleRows t source)) cleared rows-written a),
           within-widen LAYERS LAYERS-END (omega arith) (omega arith) (filled .1),
         )

@@ -34,7 +34,8 @@ use Rattle.pieces.specs.Answers.{check-both}
 -- stages that stay inside the area's own part, and the part cleared after them
 pub wiped-after : (w v u z : List ℕ) → WORK ≤ length w → Within MUTUAL LOCATED-END w v → Within EDGE LAYERS-END v u → z ≡ zeros u 0 WORK → z ≡ wiped w
 wiped-after w v u z room a b e =
-    e ∙ zeros-within 0 WORK w u (omega arith) (within-trans (within-widen 0 WORK (omega arith) (omega arith) a) (within-widen 0 WORK (omega arith) (omega arith) b)) ∙ zeros-wiped w room
+    e ∙ zeros-within 0 WORK w u (omega arith)
+    (within-trans (within-widen 0 WORK (omega arith) (omega arith) a) (within-widen 0 WORK (omega arith) (omega arith) b)) ∙ zeros-wiped w room
 
 -- ---- the rows of an admitted table
 
@@ -56,7 +57,8 @@ verdict-is b p mode n src l = verdict-same (decode b p mode n) (sourceIn src) (s
 -- the calls of a verdict, one after the other
 pub judged : (b : List ℕ) (p : List (List ℕ)) (mode : Mode) (n : ℕ) (src w v u z c d : List ℕ) (r : CheckAnswer)
     → Listed (sourceOf b) n src → WORK ≤ length w → Within MUTUAL LOCATED-END w v
-    → (r ≡ checkAnswer (verdict (decode b p mode n) (sourceIn src))) × (d ≡ cycleAfter (verdict (decode b p mode n) (sourceIn src)) c) × Within EDGE LAYERS-END v u → z ≡ zeros u 0 WORK
+    → (r ≡ checkAnswer (verdict (decode b p mode n) (sourceIn src))) × (d ≡ cycleAfter (verdict (decode b p mode n) (sourceIn src)) c)
+    × Within EDGE LAYERS-END v u → z ≡ zeros u 0 WORK
     → (r ≡ checkAnswer (verdict (decode b p mode n) (sourceOf b))) × (z ≡ wiped w) × (d ≡ cycleAfter (verdict (decode b p mode n) (sourceOf b)) c)
 judged b p mode n src w v u z c d r list room f j e =
     let q = verdict-is b p mode n src list in
@@ -70,7 +72,10 @@ unfolding verdict cyclicOr overwrittenOr raceOr workAfter
 verdict-wipes t source w = go (ltb (cycleRow t source) (t .rows)) (ltb (overReader t source) (t .rows)) (ltb (raceRow t) (t .rows))
   where
     go : (a b c : Bool)
-        → workAfter (cond a (cyclic (cycleRows t source) (cycleEdges t source)) (cond b (overwritten (overReader t source) (overWriter t source (overReader t source)) (overByte t source (overReader t source) (overWriter t source (overReader t source)))) (cond c (race (raceRow t) (racePartner t (raceRow t)) (raceByte t (raceRow t) (racePartner t (raceRow t)))) raceFree))) w
+        → workAfter (cond a (cyclic (cycleRows t source) (cycleEdges t source))
+        (cond b (overwritten (overReader t source) (overWriter t source (overReader t source))
+        (overByte t source (overReader t source) (overWriter t source (overReader t source))))
+        (cond c (race (raceRow t) (racePartner t (raceRow t)) (raceByte t (raceRow t) (racePartner t (raceRow t)))) raceFree))) w
         ≡ wiped w
     go true b c = refl
     go false true c = refl
@@ -90,7 +95,8 @@ module _ (chains : Bool) (f s w c : List ℕ) (a : Admission) (e : a ≡ doorBot
   said-refused x h q =
       left-same checkAnswer workAfter cycleAfter (check-both chains (length w) (length c) f s ∙ opened-refused refused _ a _ e x h q) (refl, refl, refl)
 
-  module _ {g n : ℕ} (h : a ≡ Admitted g n) (all : List ℕ) (p : List (List ℕ)) (mode : Mode) (copy : all ≡ areaOf (rowBytes f ++ s)) (places : p ≡ placesOf f) (modes : mode ≡ modeOf chains f) where
+  module _ {g n : ℕ} (h : a ≡ Admitted g n) (all : List ℕ) (p : List (List ℕ)) (mode : Mode) (copy : all ≡ areaOf (rowBytes f ++ s))
+      (places : p ≡ placesOf f) (modes : mode ≡ modeOf chains f) where
     abbrev pub verdictRows : Verdict
     verdictRows = verdict (decode (take (n * ROW-BYTES) all) p mode n) (sourceOf (take (n * ROW-BYTES) all))
 
@@ -98,7 +104,8 @@ module _ (chains : Bool) (f s w c : List ℕ) (a : Admission) (e : a ≡ doorBot
     told-is =
         let k = door-admits CYCLE false f s (length w) (length c) a e h in
         check-both chains (length w) (length c) f s ∙ opened-admitted refused _ a _ e h
-        ∙ sym (ap₂ verdict (table-both false f s a (k .2) h chains all p mode copy places modes) (sources-both false f s a (k .2) h chains all p mode copy places modes))
+        ∙ sym (ap₂ verdict (table-both false f s a (k .2) h chains all p mode copy places modes)
+        (sources-both false f s a (k .2) h chains all p mode copy places modes))
 
     pub said-verdict : (r : CheckAnswer) (x d : List ℕ) → (r ≡ checkAnswer verdictRows) × (x ≡ wiped w) × (d ≡ cycleAfter verdictRows c) → Said told r w x c d
     said-verdict r x d j = left-same checkAnswer workAfter cycleAfter told-is (j .0, j .1 ∙ sym (verdict-wipes _ _ w), j .2)

@@ -48,9 +48,10 @@ pub fn check_by(
     work: &mut [u64],
     cycle: &mut [u16],
 ) -> CheckAnswer
-    ensures { λ r. ⌜ (r ≡ checkAnswer (checkBoth chains (now (first .entry)) (now (second .entry)) (length (now (work .entry))) (length (now (cycle .entry)))))
-        × (now (work .exit) ≡ workAfter (checkBoth chains (now (first .entry)) (now (second .entry)) (length (now (work .entry))) (length (now (cycle .entry)))) (now (work .entry)))
-        × (now (cycle .exit) ≡ cycleAfter (checkBoth chains (now (first .entry)) (now (second .entry)) (length (now (work .entry))) (length (now (cycle .entry)))) (now (cycle .entry))) ⌝ }
+    ensures { λ r. let answer = checkBoth chains (now (first .entry)) (now (second .entry)) (length (now (work .entry))) (length (now (cycle .entry))) in
+        ⌜ (r ≡ checkAnswer answer)
+        × (now (work .exit) ≡ workAfter answer (now (work .entry)))
+        × (now (cycle .exit) ≡ cycleAfter answer (now (cycle .entry))) ⌝ }
 {
     let a = pieces::open_both(first, second, false, model::CYCLE, work.len(), cycle.len());
     let Admission::Admitted {
@@ -80,9 +81,10 @@ pub fn check_both(
     work: &mut [u64],
     cycle: &mut [u16],
 ) -> CheckAnswer
-    ensures { λ r. ⌜ (r ≡ checkAnswer (checkBoth chains (now (first .entry)) (now (second .entry)) (length (now (work .entry))) (length (now (cycle .entry)))))
-        × (now (work .exit) ≡ workAfter (checkBoth chains (now (first .entry)) (now (second .entry)) (length (now (work .entry))) (length (now (cycle .entry)))) (now (work .entry)))
-        × (now (cycle .exit) ≡ cycleAfter (checkBoth chains (now (first .entry)) (now (second .entry)) (length (now (work .entry))) (length (now (cycle .entry)))) (now (cycle .entry))) ⌝ }
+    ensures { λ r. let answer = checkBoth chains (now (first .entry)) (now (second .entry)) (length (now (work .entry))) (length (now (cycle .entry))) in
+        ⌜ (r ≡ checkAnswer answer)
+        × (now (work .exit) ≡ workAfter answer (now (work .entry)))
+        × (now (cycle .exit) ≡ cycleAfter answer (now (cycle .entry))) ⌝ }
 {
     check_by(first, second, chains, true, work, cycle)
 }
@@ -90,9 +92,10 @@ pub fn check_both(
 // Judges one recorded run in one piece.
 // Ruled out: one that answers race-free to every table.
 pub fn check(table: &[u8], chains: bool, work: &mut [u64], cycle: &mut [u16]) -> CheckAnswer
-    ensures { λ r. ⌜ (r ≡ checkAnswer (check chains (now (table .entry)) (length (now (work .entry))) (length (now (cycle .entry)))))
-        × (now (work .exit) ≡ workAfter (check chains (now (table .entry)) (length (now (work .entry))) (length (now (cycle .entry)))) (now (work .entry)))
-        × (now (cycle .exit) ≡ cycleAfter (check chains (now (table .entry)) (length (now (work .entry))) (length (now (cycle .entry)))) (now (cycle .entry))) ⌝ }
+    ensures { λ r. let answer = check chains (now (table .entry)) (length (now (work .entry))) (length (now (cycle .entry))) in
+        ⌜ (r ≡ checkAnswer answer)
+        × (now (work .exit) ≡ workAfter answer (now (work .entry)))
+        × (now (cycle .exit) ≡ cycleAfter answer (now (cycle .entry))) ⌝ }
 {
     check_both(table, &table[..0], chains, work, cycle)
 }
@@ -105,9 +108,10 @@ pub fn check_by_flags(
     work: &mut [u64],
     cycle: &mut [u16],
 ) -> CheckAnswer
-    ensures { λ r. ⌜ (r ≡ checkAnswer (check chains (now (table .entry)) (length (now (work .entry))) (length (now (cycle .entry)))))
-        × (now (work .exit) ≡ workAfter (check chains (now (table .entry)) (length (now (work .entry))) (length (now (cycle .entry)))) (now (work .entry)))
-        × (now (cycle .exit) ≡ cycleAfter (check chains (now (table .entry)) (length (now (work .entry))) (length (now (cycle .entry)))) (now (cycle .entry))) ⌝ }
+    ensures { λ r. let answer = check chains (now (table .entry)) (length (now (work .entry))) (length (now (cycle .entry))) in
+        ⌜ (r ≡ checkAnswer answer)
+        × (now (work .exit) ≡ workAfter answer (now (work .entry)))
+        × (now (cycle .exit) ≡ cycleAfter answer (now (cycle .entry))) ⌝ }
 {
     check_by(table, &table[..0], chains, false, work, cycle)
 }

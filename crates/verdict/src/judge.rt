@@ -83,7 +83,8 @@ fn overwrite_answer(o: axioms::overwritten::Overwrite) -> CheckAnswer
 // The verdict where no edges make a cycle: overwritten, else a race, else race-free.
 fn settle(rows: &[u8], p: Places, mode: Mode, n: usize, src: &[u16], w: &[u64]) -> CheckAnswer
     requires { ⌜ (n ≤ length (now src)) × Bounded (decode (now rows) p mode n) × Ready (decode (now rows) p mode n) n (now w) ⌝ }
-    ensures { λ r. ⌜ r ≡ checkAnswer (overwrittenOr (raceOr raceFree (decode (now (rows .entry)) p mode n)) (decode (now (rows .entry)) p mode n) (sourceIn (now (src .entry)))) ⌝ }
+    ensures { λ r. let t = decode (now (rows .entry)) p mode n in
+        ⌜ r ≡ checkAnswer (overwrittenOr (raceOr raceFree t) t (sourceIn (now (src .entry)))) ⌝ }
 {
     let o = axioms::overwritten::first_overwrite(rows, p, mode, n, src, w);
     let axioms::overwritten::Overwrite::Nothing = o else {

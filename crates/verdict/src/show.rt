@@ -57,7 +57,8 @@ fn write_edges(
 )
     requires { ⌜ (x < n) × (size ≤ CYCLE-EDGES) × (CYCLE ≤ length (now c)) × (n ≤ length (now src)) × Ready (decode (now rows) p mode n) n (now w)
         × ((i : ℕ) → i < size → getD (now c) i 0 < n) ⌝ }
-    ensures { λ _. ⌜ Numbered (stepNumber (decode (now (rows .entry)) p mode n) (sourceIn (now (src .entry))) x size (now (c .entry))) size (now (c .entry)) (now (c .exit)) ⌝ }
+    ensures { λ _. let t = decode (now (rows .entry)) p mode n in
+        ⌜ Numbered (stepNumber t (sourceIn (now (src .entry))) x size (now (c .entry))) size (now (c .entry)) (now (c .exit)) ⌝ }
 {
     for i in 0..size {
         let a = wide(c[i]);
@@ -82,8 +83,9 @@ pub fn show_cycle(
     requires { ⌜ (x < n) × (CYCLE ≤ length (now c)) × (n ≤ length (now src)) × Ready (decode (now rows) p mode n) n (now w)
         × Holds EDGE GRID n (edge (decode (now rows) p mode n) (sourceIn (now src))) (now w)
         × (x ≡ cycleRow (decode (now rows) p mode n) (sourceIn (now src))) ⌝ }
-    ensures { λ r. ⌜ (r ≡ length (cycleRows (decode (now (rows .entry)) p mode n) (sourceIn (now (src .entry)))))
-        × (now (c .exit) ≡ cycleAfter (cyclic (cycleRows (decode (now (rows .entry)) p mode n) (sourceIn (now (src .entry)))) (cycleEdges (decode (now (rows .entry)) p mode n) (sourceIn (now (src .entry))))) (now (c .entry)))
+    ensures { λ r. let t = decode (now (rows .entry)) p mode n in
+        ⌜ (r ≡ length (cycleRows t (sourceIn (now (src .entry)))))
+        × (now (c .exit) ≡ cycleAfter (cyclic (cycleRows t (sourceIn (now (src .entry)))) (cycleEdges t (sourceIn (now (src .entry))))) (now (c .entry)))
         × Within LAYERS LAYERS-END (now (w .entry)) (now (w .exit)) ⌝ }
 {
     walks::fill_layers(w, area::EDGE, area::LAYERS, area::GRID, n, x);

@@ -86,7 +86,8 @@ module _ (steps layers stride n : ℕ) (fits : n ≤ 64 * stride) (below : steps
     -- a row before the one that is filled, or after it
     other : (a z : ℕ) → (k < a → suc k < a) → z < n → rel w₂ layers stride a z ≡ rel w₁ layers stride a z
     unfolding rel
-    other a z far b = rw e (rowFill-out (reaches w₁ steps layers stride n k) w₁ (after layers stride k) n ((layers + a * stride) * 64 + z) (λ h. go h (decLt k a)))
+    other a z far b = rw e (rowFill-out (reaches w₁ steps layers stride n k) w₁ (after layers stride k) n ((layers + a * stride) * 64 + z)
+        (λ h. go h (decLt k a)))
       where
         go : after layers stride k ≤ (layers + a * stride) * 64 + z → Dec (k < a) → after layers stride k + n ≤ (layers + a * stride) * 64 + z
         go h (yes q) =
@@ -102,7 +103,8 @@ module _ (steps layers stride n : ℕ) (fits : n ≤ 64 * stride) (below : steps
           rest = λ a z h m b. other a z (λ q. omega arith) b ∙ p .rest a z (omega arith) m b;
           frame = let s = row in
               within-trans (p .frame)
-              (rw e (within-rowFill layers (layers + n * stride + stride) (reaches w₁ steps layers stride n k) w₁ (after layers stride k) n (omega arith) (omega arith)));
+              (rw e (within-rowFill layers (layers + n * stride + stride) (reaches w₁ steps layers stride n k) w₁ (after layers stride k) n
+              (omega arith) (omega arith)));
         }
       where
         go : (a z : ℕ) → z < n → a ≤ k + 1 → Dec (a ≡ suc k) → rel w₂ layers stride a z ≡ walk n (rel w₀ steps stride) x a z
@@ -155,7 +157,10 @@ module _ (steps layers stride n : ℕ) (fits : n ≤ 64 * stride) (below : steps
 
     pub rounds-done : {u : List ℕ} → Rounds steps layers stride n x w u n → Layers steps layers stride n x u × Within layers (layers + n * stride + stride) w₀ u
     rounds-done {u} p = (
-      record { cell = λ k z l m. p .cells k z l m ∙ walk-cong n (rel w steps stride) (rel u steps stride) (λ i j s t. sym (steps-stay _ _ (p .frame) i j s t)) x k z m },
+      record {
+        cell = λ k z l m. p .cells k z l m
+            ∙ walk-cong n (rel w steps stride) (rel u steps stride) (λ i j s t. sym (steps-stay _ _ (p .frame) i j s t)) x k z m;
+      },
       within-trans empty
           (within-trans (rw e (within-setBit layers (layers + n * stride + stride) v (layers * 64 + x) (omega arith) (omega arith))) (p .frame)),
     )

@@ -56,7 +56,8 @@ module _ (n : ℕ) (e : ℕ → ℕ → Bool) (x : ℕ) where
       λ f. let b : i + 0 ≡ i = omega arith in rw b at (h .tail f 0 ∙ ap (λ (l : List ℕ). getD l 0 0) (along-trail f k z (h .walks))),
       record {
         walks = next-hit k z (h .walks) .1;
-        tail = λ f j. let b : i + 1 + j ≡ i + suc j = omega arith in rw b (h .tail f (suc j) ∙ ap (λ (l : List ℕ). getD l (suc j) 0) (along-trail f k z (h .walks)));
+        tail = λ f j. let b : i + 1 + j ≡ i + suc j = omega arith in
+            rw b (h .tail f (suc j) ∙ ap (λ (l : List ℕ). getD l (suc j) 0) (along-trail f k z (h .walks)));
       },
     )
 

@@ -84,17 +84,21 @@ take-none (x ∷ l) = refl
 front : (f : ℕ → ℕ) (m n : ℕ) → n ≤ m → take n (tabulate f m) ≡ tabulate f n
 front f m n h =
     ext-getD 0 (take n (tabulate f m)) (tabulate f n) (long ∙ sym (length-tabulate f n))
-    (λ i q. let s : i < n = subst (λ (x : ℕ). i < x) long q in getD-take n (tabulate f m) i 0 s ∙ getD-tabulate f m i 0 (omega arith) ∙ sym (getD-tabulate f n i 0 s))
+    (λ i q. let s : i < n = subst (λ (x : ℕ). i < x) long q in
+    getD-take n (tabulate f m) i 0 s ∙ getD-tabulate f m i 0 (omega arith) ∙ sym (getD-tabulate f n i 0 s))
   where
     long : length (take n (tabulate f m)) ≡ n
     long = length-take n (tabulate f m) ∙ rw (length-tabulate f m) (omega arith)
 
 -- lists of their lengths, copied into t₀ one after the other
 copied : (t₀ h P R D : List ℕ) (a b c : ℕ) → length t₀ ≡ 2570 → length h ≡ HEADER → HEADER + a + b + c ≤ 2570 → a ≤ length P → b ≤ length R → c ≤ length D
-    → take (HEADER + a + b + c) (paste (paste (paste (paste t₀ 0 h HEADER) HEADER P a) (HEADER + a) R b) (HEADER + a + b) D c) ≡ h ++ take a P ++ take b R ++ take c D
+    → take (HEADER + a + b + c) (paste (paste (paste (paste t₀ 0 h HEADER) HEADER P a) (HEADER + a) R b) (HEADER + a + b) D c) ≡ h ++ take a
+    P ++ take b R ++ take c D
 copied t₀ h P R D a b c n₀ nh m la lb lc =
     take-paste t₃ (HEADER + a + b) D c (let q = n₃ in omega arith) lc
-    ∙ ap (λ (x : List ℕ). x ++ take c D) (take-paste t₂ (HEADER + a) R b (let q = n₂ in omega arith) lb ∙ ap (λ (x : List ℕ). x ++ take b R) (take-paste t₁ HEADER P a (let q = n₁ in omega arith) la ∙ ap (λ (x : List ℕ). x ++ take a P) first))
+    ∙ ap (λ (x : List ℕ). x ++ take c D) (take-paste t₂ (HEADER + a) R b (let q = n₂ in
+    omega arith) lb ∙ ap (λ (x : List ℕ). x ++ take b R)
+    (take-paste t₁ HEADER P a (let q = n₁ in omega arith) la ∙ ap (λ (x : List ℕ). x ++ take a P) first))
   where
     t₁ : List ℕ
     t₁ = paste t₀ 0 h HEADER
@@ -117,8 +121,10 @@ copied t₀ h P R D a b c n₀ nh m la lb lc =
     first : take HEADER t₁ ≡ h
     first = take-paste t₀ 0 h HEADER (omega arith) (omega arith) ∙ ap (λ (x : List ℕ). x ++ take HEADER h) (take-none t₀) ∙ take-all HEADER h (omega arith)
 
-module _ (version agents : ℕ) (p : List (List ℕ)) (rows : ℕ) (l : List Entry) (d : Dependencies) (a : agents ≤ AGENTS) (r : rows ≤ ROWS) (n : d .count ≤ DEPENDENCIES)
-    (size places after : ℕ) (es : size ≡ tableSize version agents rows (d .count)) (ep : places ≡ placesSize version agents) (ea : after ≡ dependenciesSize version (d .count)) where
+module _ (version agents : ℕ) (p : List (List ℕ)) (rows : ℕ) (l : List Entry) (d : Dependencies) (a : agents ≤ AGENTS) (r : rows ≤ ROWS)
+    (n : d .count ≤ DEPENDENCIES)
+    (size places after : ℕ) (es : size ≡ tableSize version agents rows (d .count)) (ep : places ≡ placesSize version agents)
+    (ea : after ≡ dependenciesSize version (d .count)) where
   pub table-made : (t₀ h P R D t₁ t₂ t₃ t₄ : List ℕ) (hosts : Bool) → h ≡ headerList version agents rows size → t₁ ≡ paste t₀ 0 h HEADER
       → hosts ≡ withHosts version → P ≡ tabulate (placeByte hosts p) 256 → t₂ ≡ paste t₁ HEADER P places
       → R ≡ tabulate (entryByte l) 2048 → t₃ ≡ paste t₂ (HEADER + places) R (ROW-BYTES * rows)
@@ -133,7 +139,19 @@ module _ (version agents : ℕ) (p : List (List ℕ)) (rows : ℕ) (l : List Ent
       let Rl : length R ≡ 2048 = ap length eR ∙ length-tabulate (entryByte l) 2048 in
       let Dl : length D ≡ 258 = ap length eD ∙ length-tabulate (dependencyByte d) 258 in
       let made = copied t₀ h P R D places (ROW-BYTES * rows) after long hl (omega arith) (omega arith) (omega arith) (omega arith) in
-      rw (← ea, ← ep, e₄, e₃, e₂, e₁) (made ∙ rw (eP, eR, eD, eb, front (placeByte (withHosts version) p) 256 places few, front (entryByte l) 2048 (ROW-BYTES * rows) (omega arith), front (dependencyByte d) 258 after less, eh, es, ep, ea) refl)
+      rw (← ea, ← ep, e₄, e₃, e₂, e₁) (made ∙ rw (
+        eP,
+        eR,
+        eD,
+        eb,
+        front (placeByte (withHosts version) p) 256 places few,
+        front (entryByte l) 2048 (ROW-BYTES * rows) (omega arith),
+        front (dependencyByte d) 258 after less,
+        eh,
+        es,
+        ep,
+        ea,
+      ) refl)
 
 -- ---- the answer and the buffer
 
@@ -149,13 +167,15 @@ written-both w n t o u f e g h =
     let k : u ≡ t ++ drop n o = g ∙ ap (λ (x : List ℕ). x ++ take n f ++ drop (0 + n) o) (take-none o) ∙ rw (z, h) refl in
     (sym e, rw e k)
 
-module _ (version agents : ℕ) (p : List (List ℕ)) (rows : ℕ) (l : List Entry) (d : Dependencies) (room k : ℕ) (e : k ≡ valuesFault version agents p rows (d .count)) where
+module _ (version agents : ℕ) (p : List (List ℕ)) (rows : ℕ) (l : List Entry) (d : Dependencies) (room k : ℕ)
+    (e : k ≡ valuesFault version agents p rows (d .count)) where
   pub values-refused : (k ≡ 0 → ⊥) → writeAnswer version agents p rows l d room ≡ Answer.Refused k 0
   unfolding writeAnswer
   values-refused n = rw (← e, ne-eqb k 0 n) refl
 
   -- values that pass, and what was made of them
-  module _ (z : k ≡ 0) (t : List ℕ) (size : ℕ) (n : size ≡ tableSize version agents rows (d .count)) (made : take (tableSize version agents rows (d .count)) t ≡ encode version agents p rows l d) where
+  module _ (z : k ≡ 0) (t : List ℕ) (size : ℕ) (n : size ≡ tableSize version agents rows (d .count))
+      (made : take (tableSize version agents rows (d .count)) t ≡ encode version agents p rows l d) where
     fits : Fits version agents p rows (d .count)
     fits = values-fit version agents p rows (d .count) (sym e ∙ z)
 
@@ -198,7 +218,8 @@ module _ (w : WriteAnswer) (a : Admission) (size room : ℕ) (e : w ≡ writtenA
 
 -- ---- values out of lent parts
 
-module _ (version : ℕ) (P B Q : List ℕ) {a : ℕ} {p : List (List ℕ)} {n : ℕ} {l : List Entry} {d : Dependencies} (ea : a ≡ agentsIn P) (ep : p ≡ placesIn P) (en : n ≡ rowsIn B) (el : l ≡ entriesIn B)
+module _ (version : ℕ) (P B Q : List ℕ) {a : ℕ} {p : List (List ℕ)} {n : ℕ} {l : List Entry} {d : Dependencies} (ea : a ≡ agentsIn P)
+    (ep : p ≡ placesIn P) (en : n ≡ rowsIn B) (el : l ≡ entriesIn B)
     (ed : d ≡ dependenciesIn Q) where
   answer-same : (room : ℕ) → writeAnswer version a p n l d room ≡ partsAnswer version P B Q room
   unfolding partsAnswer

@@ -109,7 +109,8 @@ first-number f n next k i h e = go (which (ltb (least n (faulty f)) n))
     T b = cond b (Refused (f m) m) next ≡ Refused k i
 
     go : (ltb m n ≡ true) ⊎ (ltb m n ≡ false) → (ofTable k ≡ true) ⊎ (next ≡ Refused k i)
-    go (inl l) = inl (subst (λ (x : ℕ). ofTable x ≡ true) (ap number-of (subst T l e)) (numbered-out (f m) (h m) (fault-out f m (least-is (faulty f) n .hit (ltb-true m n l)))))
+    go (inl l) = inl (subst (λ (x : ℕ). ofTable x ≡ true) (ap number-of (subst T l e))
+        (numbered-out (f m) (h m) (fault-out f m (least-is (faulty f) n .hit (ltb-true m n l)))))
     go (inr l) = inr (subst T l e)
 
 pub admission-number : (blanks : Bool) (s : List ℕ) (k i : ℕ) → ofTable (headerFault s) ≡ true ⊎ headerFault s ≡ 0 → admission blanks s ≡ Refused k i
@@ -127,7 +128,8 @@ admission-number blanks s k i h e = go (which (eqb (headerFault s) 0))
     late (inl t) = t
     late (inr q) =
         ⊎-elim (λ t. t) (λ r. not-admitted (sym r))
-        (first-number (tableFault blanks (tableOf s) (sourcesOf s)) (rowsAt s) (Admitted (agentsAt s) (rowsAt s)) k i (among-numbered blanks (tableOf s) (sourcesOf s)) q)
+        (first-number (tableFault blanks (tableOf s) (sourcesOf s)) (rowsAt s) (Admitted (agentsAt s) (rowsAt s)) k i
+        (among-numbered blanks (tableOf s) (sourcesOf s)) q)
 
     go : (eqb (headerFault s) 0 ≡ true) ⊎ (eqb (headerFault s) 0 ≡ false) → ofTable k ≡ true
     go (inl z) = late (first-number (rowFaultAt s) (rowsAt s) among k i (row-numbered s) (subst T z e))
@@ -214,7 +216,8 @@ module _ (size room : ℕ) where
   room-long h = rw (le-leb size room h) refl
 
   room-written : (m : ℕ) → roomAnswer size room ≡ Answer.Written m → (m ≡ size) × (size ≤ room)
-  room-written m e = ⊎-elim (λ h. let l = leb-true size room h in (sym (ap said-bytes (sym (room-long l) ∙ e)), l)) (λ h. not-written (sym (room-short (leb-false size room h)) ∙ e)) (which (leb size room))
+  room-written m e = ⊎-elim (λ h. let l = leb-true size room h in
+      (sym (ap said-bytes (sym (room-long l) ∙ e)), l)) (λ h. not-written (sym (room-short (leb-false size room h)) ∙ e)) (which (leb size room))
 
   room-refused : (k i : ℕ) → roomAnswer size room ≡ Answer.Refused k i → (room < size) × (k ≡ 13) × (i ≡ 0)
   room-refused k i e =
@@ -223,10 +226,14 @@ module _ (size room : ℕ) where
 
 -- values that are refused; a table that is; or one that is admitted
 judged : (f : ℕ) (a : Admission) (v w : WriteAnswer) → w ≡ cond (eqb f 0) (writtenAs a v) (Answer.Refused f 0)
-    → ((f ≡ 0 → ⊥) × (w ≡ Answer.Refused f 0)) ⊎ (((f ≡ 0) × ((k : ℕ) × (i : ℕ) × (a ≡ Refused k i) × (w ≡ Answer.Refused k i))) ⊎ ((f ≡ 0) × ((x : ℕ) × (n : ℕ) × (a ≡ Admitted x n)) × (w ≡ v)))
+    → ((f ≡ 0 → ⊥) × (w ≡ Answer.Refused f 0))
+    ⊎ (((f ≡ 0) × ((k : ℕ) × (i : ℕ) × (a ≡ Refused k i) × (w ≡ Answer.Refused k i)))
+    ⊎ ((f ≡ 0) × ((x : ℕ) × (n : ℕ) × (a ≡ Admitted x n)) × (w ≡ v)))
 unfolding writtenAs
-judged f (Refused k i) v w e = ⊎-elim (λ z. inr (inl (eqb-true f 0 z, (k, i, refl, e ∙ rw z refl)))) (λ z. inl (eqb-false f 0 z, e ∙ rw z refl)) (which (eqb f 0))
-judged f (Admitted x n) v w e = ⊎-elim (λ z. inr (inr (eqb-true f 0 z, (x, n, refl), e ∙ rw z refl))) (λ z. inl (eqb-false f 0 z, e ∙ rw z refl)) (which (eqb f 0))
+judged f (Refused k i) v w e = ⊎-elim (λ z. inr (inl (eqb-true f 0 z, (k, i, refl, e ∙ rw z refl))))
+    (λ z. inl (eqb-false f 0 z, e ∙ rw z refl)) (which (eqb f 0))
+judged f (Admitted x n) v w e = ⊎-elim (λ z. inr (inr (eqb-true f 0 z, (x, n, refl), e ∙ rw z refl)))
+    (λ z. inl (eqb-false f 0 z, e ∙ rw z refl)) (which (eqb f 0))
 
 module _ (version agents : ℕ) (p : List (List ℕ)) (rows : ℕ) (l : List Entry) (d : Dependencies) (room : ℕ) where
   abbrev F : ℕ
@@ -264,7 +271,8 @@ module _ (version agents : ℕ) (p : List (List ℕ)) (rows : ℕ) (l : List Ent
       → ((F ≡ 0 → ⊥) × (F ≡ k)) ⊎ (((F ≡ 0) × (admission true t ≡ Refused k i)) ⊎ ((F ≡ 0) × Admits t × (room < size) × (k ≡ 13) × (i ≡ 0)))
   refused-out k i w =
       ⊎-elim (λ c. inl (c .0, ap said-number (sym (c .1) ∙ w)))
-      (⊎-elim (λ c. let q = sym (c .1 .3) ∙ w in inr (inl (c .0, c .1 .2 ∙ same (ap said-number q) (ap said-row q)))) (λ c. let r = room-refused size room k i (sym (c .2) ∙ w) in inr (inr (c .0, c .1, r .0, r .1, r .2))))
+      (⊎-elim (λ c. let q = sym (c .1 .3) ∙ w in inr (inl (c .0, c .1 .2 ∙ same (ap said-number q) (ap said-row q)))) (λ c.
+      let r = room-refused size room k i (sym (c .2) ∙ w) in inr (inr (c .0, c .1, r .0, r .1, r .2))))
       (judged F (admission true t) (roomAnswer size room) (writeAnswer version agents p rows l d room) answer-is)
     where
       same : {a b x y : ℕ} → a ≡ x → b ≡ y → Refused a b ≡ Refused x y

@@ -72,7 +72,8 @@ module _ (h P R D : List ℕ) (a b c : ℕ) (ha : length h ≡ a) (hb : length P
       ∙ subst (λ (x : ℕ). getD (h ++ P) (x + k) 0 ≡ getD P k 0) ha (getD-append-add h P k 0)
 
   at-third : take c (drop (a + b) (h ++ P ++ R ++ D)) ≡ R
-  at-third = ap (take c) (drop-append-le (a + b) (h ++ P ++ R) D (let q = three in omega arith) ∙ ap (λ (x : List ℕ). x ++ D) (drop-at (h ++ P) R (a + b) two)) ∙ take-at R D c hc
+  at-third = ap (take c) (drop-append-le (a + b) (h ++ P ++ R) D (let q = three in
+      omega arith) ∙ ap (λ (x : List ℕ). x ++ D) (drop-at (h ++ P) R (a + b) two)) ∙ take-at R D c hc
 
   at-fourth : drop (a + b + c) (h ++ P ++ R ++ D) ≡ D
   at-fourth = drop-at (h ++ P ++ R) D (a + b + c) three
@@ -111,8 +112,13 @@ module _ (rows : ℕ) (l : List Entry) (i : ℕ) (below : i < rows) (fit : Entry
   unfolding pairOf pairAt rowsPart
   pair-back k h =
       let q : i * ROW-BYTES + k + 1 ≡ i * ROW-BYTES + (k + 1) = omega arith in
-      rw
-      (q, getD-tabulate (entryByte l) (ROW-BYTES * rows) (i * ROW-BYTES + k) 0 (omega arith), getD-tabulate (entryByte l) (ROW-BYTES * rows) (i * ROW-BYTES + (k + 1)) 0 (omega arith), entry-at l i k (omega arith), entry-at l i (k + 1) h)
+      rw (
+        q,
+        getD-tabulate (entryByte l) (ROW-BYTES * rows) (i * ROW-BYTES + k) 0 (omega arith),
+        getD-tabulate (entryByte l) (ROW-BYTES * rows) (i * ROW-BYTES + (k + 1)) 0 (omega arith),
+        entry-at l i k (omega arith),
+        entry-at l i (k + 1) h,
+      )
       refl
 
   row-back : rowOf (rowsPart rows l) i ≡ e .row
@@ -216,13 +222,15 @@ module _ (version agents : ℕ) (p : List (List ℕ)) (rows : ℕ) (l : List Ent
   header-byte : (k : ℕ) → k < HEADER → getD (encode version agents p rows l d) k 0 ≡ getD h k 0
   unfolding encode
   header-byte k m =
-      at-first h (placesPart version agents p) (rowsPart rows l) (dependenciesPart version d) HEADER (placesSize version agents) (ROW-BYTES * rows) (header-length version agents rows size)
+      at-first h (placesPart version agents p) (rowsPart rows l) (dependenciesPart version d) HEADER (placesSize version agents)
+      (ROW-BYTES * rows) (header-length version agents rows size)
       (places-length version agents p) (rows-length rows l) k m
 
   place-byte : (k : ℕ) → k < placesSize version agents → getD (encode version agents p rows l d) (HEADER + k) 0 ≡ placeByte (withHosts version) p k
   unfolding encode placesPart
   place-byte k m =
-      at-second h (placesPart version agents p) (rowsPart rows l) (dependenciesPart version d) HEADER (placesSize version agents) (ROW-BYTES * rows) (header-length version agents rows size)
+      at-second h (placesPart version agents p) (rowsPart rows l) (dependenciesPart version d) HEADER (placesSize version agents)
+      (ROW-BYTES * rows) (header-length version agents rows size)
       (places-length version agents p) (rows-length rows l) k m
       ∙ getD-tabulate (placeByte (withHosts version) p) (placesSize version agents) k 0 m
 
@@ -258,14 +266,16 @@ module _ (version agents : ℕ) (p : List (List ℕ)) (rows : ℕ) (l : List Ent
   unfolding rowBytes encode
   encode-part =
       rw (encode-begin, encode-rows)
-      (at-third h (placesPart version agents p) (rowsPart rows l) (dependenciesPart version d) HEADER (placesSize version agents) (ROW-BYTES * rows) (header-length version agents rows size)
+      (at-third h (placesPart version agents p) (rowsPart rows l) (dependenciesPart version d) HEADER (placesSize version agents)
+      (ROW-BYTES * rows) (header-length version agents rows size)
       (places-length version agents p) (rows-length rows l))
 
   encode-after : dependencyBytes (encode version agents p rows l d) ≡ dependenciesPart version d
   unfolding dependencyBytes encode
   encode-after =
       rw encode-end
-      (at-fourth h (placesPart version agents p) (rowsPart rows l) (dependenciesPart version d) HEADER (placesSize version agents) (ROW-BYTES * rows) (header-length version agents rows size)
+      (at-fourth h (placesPart version agents p) (rowsPart rows l) (dependenciesPart version d) HEADER (placesSize version agents)
+      (ROW-BYTES * rows) (header-length version agents rows size)
       (places-length version agents p) (rows-length rows l))
 
   after-byte : (k : ℕ) → k < dependenciesSize version (d .count) → getD (dependencyBytes (encode version agents p rows l d)) k 0 ≡ dependencyByte d k
@@ -291,7 +301,8 @@ module _ (version agents : ℕ) (p : List (List ℕ)) (rows : ℕ) (l : List Ent
         with-count : withHosts version ≡ true → pairAt (dependencyBytes (encode version agents p rows l d)) 0 ≡ d .count
         with-count e =
             let n = after-hosts version (d .count) e in
-            half-pair (dependencyBytes (encode version agents p rows l d)) 0 (d .count) (typed .count) refl (after-byte 0 (omega arith)) (after-byte 1 (omega arith))
+            half-pair (dependencyBytes (encode version agents p rows l d)) 0 (d .count) (typed .count) refl (after-byte 0 (omega arith))
+            (after-byte 1 (omega arith))
 
         without : withHosts version ≡ false → pairAt (dependencyBytes (encode version agents p rows l d)) 0 ≡ d .count
         without e = ap (λ (x : List ℕ). pairAt x 0) (encode-after ∙ part-none version d e) ∙ pair-none ∙ sym (after-none f e)
@@ -301,16 +312,20 @@ module _ (version agents : ℕ) (p : List (List ℕ)) (rows : ℕ) (l : List Ent
     from-hosts e k m =
         let n = after-hosts version (d .count) e in
         half-pair (dependencyBytes (encode version agents p rows l d)) (2 + k * DEPENDENCY-BYTES) (getD (d .first) k 0) (typed .first k m) (omega arith)
-        (after-byte (2 + k * DEPENDENCY-BYTES) (omega arith) ∙ ap (λ (v : ℕ). half v (2 + k * DEPENDENCY-BYTES)) (number-first d k (2 + k * DEPENDENCY-BYTES) (omega arith) (omega arith)))
-        (after-byte (2 + k * DEPENDENCY-BYTES + 1) (omega arith) ∙ ap (λ (v : ℕ). half v (2 + k * DEPENDENCY-BYTES + 1)) (number-first d k (2 + k * DEPENDENCY-BYTES + 1) (omega arith) (omega arith)))
+        (after-byte (2 + k * DEPENDENCY-BYTES) (omega arith)
+        ∙ ap (λ (v : ℕ). half v (2 + k * DEPENDENCY-BYTES)) (number-first d k (2 + k * DEPENDENCY-BYTES) (omega arith) (omega arith)))
+        (after-byte (2 + k * DEPENDENCY-BYTES + 1) (omega arith)
+        ∙ ap (λ (v : ℕ). half v (2 + k * DEPENDENCY-BYTES + 1)) (number-first d k (2 + k * DEPENDENCY-BYTES + 1) (omega arith) (omega arith)))
 
     to-hosts : withHosts version ≡ true → (k : ℕ) → k < d .count → dependencyTo (dependencyBytes (encode version agents p rows l d)) k ≡ getD (d .second) k 0
     unfolding dependencyTo dependencyEnd dependencyByte
     to-hosts e k m =
         let n = after-hosts version (d .count) e in
         half-pair (dependencyBytes (encode version agents p rows l d)) (4 + k * DEPENDENCY-BYTES) (getD (d .second) k 0) (typed .second k m) (omega arith)
-        (after-byte (4 + k * DEPENDENCY-BYTES) (omega arith) ∙ ap (λ (v : ℕ). half v (4 + k * DEPENDENCY-BYTES)) (number-second d k (4 + k * DEPENDENCY-BYTES) (omega arith) (omega arith)))
-        (after-byte (4 + k * DEPENDENCY-BYTES + 1) (omega arith) ∙ ap (λ (v : ℕ). half v (4 + k * DEPENDENCY-BYTES + 1)) (number-second d k (4 + k * DEPENDENCY-BYTES + 1) (omega arith) (omega arith)))
+        (after-byte (4 + k * DEPENDENCY-BYTES) (omega arith)
+        ∙ ap (λ (v : ℕ). half v (4 + k * DEPENDENCY-BYTES)) (number-second d k (4 + k * DEPENDENCY-BYTES) (omega arith) (omega arith)))
+        (after-byte (4 + k * DEPENDENCY-BYTES + 1) (omega arith)
+        ∙ ap (λ (v : ℕ). half v (4 + k * DEPENDENCY-BYTES + 1)) (number-second d k (4 + k * DEPENDENCY-BYTES + 1) (omega arith) (omega arith)))
 
     pub encode-from : (k : ℕ) → k < d .count → dependencyFrom (dependencyBytes (encode version agents p rows l d)) k ≡ getD (d .first) k 0
     encode-from k m = ⊎-elim (λ e. from-hosts e k m) (λ e. absurd (let z = after-none f e in omega arith)) (which (withHosts version))
@@ -322,21 +337,24 @@ module _ (version agents : ℕ) (p : List (List ℕ)) (rows : ℕ) (l : List Ent
 
     -- number m of agent x, whose first byte is byte q of the places
     place-pair : (x m q : ℕ) → x < agents → q % 2 ≡ 0 → q + 1 < placesSize version agents → placeNumber (withHosts version) p q ≡ numberOf p x m
-        → placeNumber (withHosts version) p (q + 1) ≡ numberOf p x m → (at : ℕ) → at ≡ HEADER + q → pairAt (encode version agents p rows l d) at ≡ numberOf p x m
+        → placeNumber (withHosts version) p (q + 1) ≡ numberOf p x m → (at : ℕ) → at ≡ HEADER + q
+        → pairAt (encode version agents p rows l d) at ≡ numberOf p x m
     unfolding placeByte
     place-pair x m q b e w u v at r =
         let n : HEADER + q + 1 ≡ HEADER + (q + 1) = omega arith in
         rw r
         (half-pair (encode version agents p rows l d) (HEADER + q) (numberOf p x m) (typed .number x m b) (omega arith)
         (place-byte q (omega arith) ∙ (ap (λ (y : ℕ). half y q) u ∙ half-at (numberOf p x m) q (HEADER + q) (omega arith)))
-        (ap (λ (y : ℕ). getD (encode version agents p rows l d) y 0) n ∙ place-byte (q + 1) w ∙ (ap (λ (y : ℕ). half y (q + 1)) v ∙ half-at (numberOf p x m) (q + 1) (HEADER + q + 1) (omega arith))))
+        (ap (λ (y : ℕ). getD (encode version agents p rows l d) y 0) n ∙ place-byte (q + 1) w
+        ∙ (ap (λ (y : ℕ). half y (q + 1)) v ∙ half-at (numberOf p x m) (q + 1) (HEADER + q + 1) (omega arith))))
 
     place-four : withHosts version ≡ true → (x m at : ℕ) → x < agents → m < 4 → at ≡ HEADER + (x * HOSTS-PLACE-BYTES + 2 * m)
         → pairAt (encode version agents p rows l d) at ≡ numberOf p x m
     place-four e x m at b c r =
         let n = places-hosts version agents e in
         place-pair x m (x * HOSTS-PLACE-BYTES + 2 * m) b (omega arith) (omega arith)
-        (subst (λ (y : ℕ). placeNumber (withHosts version) p y ≡ numberOf p x m) (plus-none (x * HOSTS-PLACE-BYTES + 2 * m)) (rw e (number-four p x m 0 (omega arith) c)))
+        (subst (λ (y : ℕ). placeNumber (withHosts version) p y ≡ numberOf p x m) (plus-none (x * HOSTS-PLACE-BYTES + 2 * m))
+        (rw e (number-four p x m 0 (omega arith) c)))
         (rw e (number-four p x m 1 (omega arith) c)) at r
 
     place-three : withHosts version ≡ false → (x m at : ℕ) → x < agents → m < 3 → at ≡ HEADER + (x * PLACE-BYTES + 2 * m)
@@ -344,7 +362,8 @@ module _ (version agents : ℕ) (p : List (List ℕ)) (rows : ℕ) (l : List Ent
     place-three e x m at b c r =
         let n = places-plain version agents e in
         place-pair x m (x * PLACE-BYTES + 2 * m) b (omega arith) (omega arith)
-        (subst (λ (y : ℕ). placeNumber (withHosts version) p y ≡ numberOf p x m) (plus-none (x * PLACE-BYTES + 2 * m)) (rw e (number-three p x m 0 (omega arith) c)))
+        (subst (λ (y : ℕ). placeNumber (withHosts version) p y ≡ numberOf p x m) (plus-none (x * PLACE-BYTES + 2 * m))
+        (rw e (number-three p x m 0 (omega arith) c)))
         (rw e (number-three p x m 1 (omega arith) c)) at r
 
     slot : (x : ℕ) → x < agents → x < AGENTS
@@ -353,17 +372,25 @@ module _ (version agents : ℕ) (p : List (List ℕ)) (rows : ℕ) (l : List Ent
     four-back : withHosts version ≡ true → (x : ℕ) → x < agents → fourAt (encode version agents p rows l d) x ≡ getD p x []
     unfolding fourAt numberOf
     four-back e x b =
-        rw
-        (place-four e x 0 (HEADER + x * HOSTS-PLACE-BYTES + 0) b (omega arith) (omega arith), place-four e x 1 (HEADER + x * HOSTS-PLACE-BYTES + 2) b (omega arith) (omega arith), place-four e x 2 (HEADER + x * HOSTS-PLACE-BYTES + 4) b (omega arith) (omega arith), place-four e x 3 (HEADER + x * HOSTS-PLACE-BYTES + 6) b (omega arith) (omega arith))
+        rw (
+          place-four e x 0 (HEADER + x * HOSTS-PLACE-BYTES + 0) b (omega arith) (omega arith),
+          place-four e x 1 (HEADER + x * HOSTS-PLACE-BYTES + 2) b (omega arith) (omega arith),
+          place-four e x 2 (HEADER + x * HOSTS-PLACE-BYTES + 4) b (omega arith) (omega arith),
+          place-four e x 3 (HEADER + x * HOSTS-PLACE-BYTES + 6) b (omega arith) (omega arith),
+        )
         (four-of (getD p x []) (typed .four x (slot x b)))
 
     -- without host agents the fourth number is 0
     three-back : withHosts version ≡ false → (x : ℕ) → x < agents → threeAt (encode version agents p rows l d) x ≡ getD p x []
     unfolding threeAt numberOf agentKind
     three-back e x b =
-        rw
-        (place-three e x 0 (HEADER + x * PLACE-BYTES + 0) b (omega arith) (omega arith), place-three e x 1 (HEADER + x * PLACE-BYTES + 2) b (omega arith) (omega arith), place-three e x 2 (HEADER + x * PLACE-BYTES + 4) b (omega arith) (omega arith))
-        (ap (λ (y : ℕ). getD (getD p x []) 0 0 ∷ getD (getD p x []) 1 0 ∷ getD (getD p x []) 2 0 ∷ y ∷ []) (sym (number-plain f e x b)) ∙ four-of (getD p x []) (typed .four x (slot x b)))
+        rw (
+          place-three e x 0 (HEADER + x * PLACE-BYTES + 0) b (omega arith) (omega arith),
+          place-three e x 1 (HEADER + x * PLACE-BYTES + 2) b (omega arith) (omega arith),
+          place-three e x 2 (HEADER + x * PLACE-BYTES + 4) b (omega arith) (omega arith),
+        )
+        (ap (λ (y : ℕ). getD (getD p x []) 0 0 ∷ getD (getD p x []) 1 0 ∷ getD (getD p x []) 2 0 ∷ y ∷ []) (sym (number-plain f e x b))
+        ∙ four-of (getD p x []) (typed .four x (slot x b)))
 
     pub encode-place : (x : ℕ) → x < agents → placeAt (encode version agents p rows l d) x ≡ getD p x []
     unfolding placeAt
@@ -387,7 +414,8 @@ module _ (version agents : ℕ) (p : List (List ℕ)) (rows : ℕ) (l : List Ent
 
     encode-size : sizeOf (encode version agents p rows l d) ≡ tableSize version agents rows (d .count)
     unfolding sizeOf tableSize dependenciesSize
-    encode-size = rw (encode-hosts, count-at (encode version agents p rows l d), encode-count, encode-end) (end-either (withHosts version) (HEADER + placesSize version agents + ROW-BYTES * rows) (d .count))
+    encode-size = rw (encode-hosts, count-at (encode version agents p rows l d), encode-count, encode-end)
+        (end-either (withHosts version) (HEADER + placesSize version agents + ROW-BYTES * rows) (d .count))
 
     encode-quad : countAt (encode version agents p rows l d) + 4 ≡ tableSize version agents rows (d .count)
     unfolding countAt quadAt pairAt headerList
@@ -398,7 +426,8 @@ module _ (version agents : ℕ) (p : List (List ℕ)) (rows : ℕ) (l : List Ent
 
     encode-known : agentsKnown (encode version agents p rows l d) ≡ true
     unfolding agentsKnown kindOver agentKind
-    encode-known = rw encode-agents (not-in (any-not (kindOver (placesOf (encode version agents p rows l d))) agents (λ x b. rw (encode-slot x b) (le-ltb QUEUE (agentKind p x) (kind-least x b)))))
+    encode-known = rw encode-agents (not-in (any-not (kindOver (placesOf (encode version agents p rows l d))) agents
+        (λ x b. rw (encode-slot x b) (le-ltb QUEUE (agentKind p x) (kind-least x b)))))
       where
         kind-least : (x : ℕ) → x < agents → agentKind p x ≤ QUEUE
         kind-least x b = ⊎-elim (λ e. number-hosts f e x b) (λ e. let z = number-plain f e x b in omega arith) (which (withHosts version))

@@ -52,7 +52,8 @@ module _ (version agents : ℕ) (p q : List (List ℕ)) (rows : ℕ) (l m : List
     where
       byte : (k : ℕ) → k < placesSize version agents → placeByte (withHosts version) p k ≡ placeByte (withHosts version) q k
       byte k h =
-          ⊎-elim (λ w. rw w (byte-hosts k (let n = places-hosts version agents w in omega arith))) (λ w. rw w (byte-plain k (let n = places-plain version agents w in omega arith)))
+          ⊎-elim (λ w. rw w (byte-hosts k (let n = places-hosts version agents w in omega arith)))
+          (λ w. rw w (byte-plain k (let n = places-plain version agents w in omega arith)))
           (which (withHosts version))
 
   entry-same : (k : ℕ) → k < ROW-BYTES * rows → entryByte l k ≡ entryByte m k
@@ -71,10 +72,16 @@ module _ (version agents : ℕ) (p q : List (List ℕ)) (rows : ℕ) (l m : List
       i = (k - 2) / DEPENDENCY-BYTES
 
       go : Dec (k < 2)
-          → half (cond (ltb k 2) (d .count) (cond (ltb ((k - 2) % DEPENDENCY-BYTES) 2) (getD (d .first) ((k - 2) / DEPENDENCY-BYTES) 0) (getD (d .second) ((k - 2) / DEPENDENCY-BYTES) 0))) k
-          ≡ half (cond (ltb k 2) (e .count) (cond (ltb ((k - 2) % DEPENDENCY-BYTES) 2) (getD (e .first) ((k - 2) / DEPENDENCY-BYTES) 0) (getD (e .second) ((k - 2) / DEPENDENCY-BYTES) 0))) k
+          → half (cond (ltb k 2) (d .count) (cond (ltb ((k - 2) % DEPENDENCY-BYTES) 2) (getD (d .first) ((k - 2) / DEPENDENCY-BYTES) 0)
+          (getD (d .second) ((k - 2) / DEPENDENCY-BYTES) 0))) k
+          ≡ half (cond (ltb k 2) (e .count) (cond (ltb ((k - 2) % DEPENDENCY-BYTES) 2) (getD (e .first) ((k - 2) / DEPENDENCY-BYTES) 0)
+          (getD (e .second) ((k - 2) / DEPENDENCY-BYTES) 0))) k
       go (yes a) = rw (lt-ltb k 2 a, same .count) refl
-      go (no a) = rw (le-ltb k 2 (omega arith), same .first ((k - 2) / DEPENDENCY-BYTES) (omega arith), same .second ((k - 2) / DEPENDENCY-BYTES) (omega arith)) refl
+      go (no a) = rw (
+        le-ltb k 2 (omega arith),
+        same .first ((k - 2) / DEPENDENCY-BYTES) (omega arith),
+        same .second ((k - 2) / DEPENDENCY-BYTES) (omega arith),
+      ) refl
 
   after-same : dependenciesPart version d ≡ dependenciesPart version e
   unfolding dependenciesPart
@@ -84,7 +91,8 @@ module _ (version agents : ℕ) (p q : List (List ℕ)) (rows : ℕ) (l m : List
     where
       byte : (k : ℕ) → k < dependenciesSize version (d .count) → dependencyByte d k ≡ dependencyByte e k
       byte k h =
-          ⊎-elim (λ w. dependency-same k (let n = after-hosts version (d .count) w in omega arith)) (λ w. absurd (let n = after-plain version (d .count) w in omega arith))
+          ⊎-elim (λ w. dependency-same k (let n = after-hosts version (d .count) w in omega arith))
+          (λ w. absurd (let n = after-plain version (d .count) w in omega arith))
           (which (withHosts version))
 
   pub encode-alike : encode version agents p rows l d ≡ encode version agents q rows m e

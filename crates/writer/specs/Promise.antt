@@ -83,7 +83,8 @@ module _ (version agents : ℕ) (p : List (List ℕ)) (rows : ℕ) (l : List Ent
       (n ∙ sym e, let h = o .3 in omega arith)
 
   pub written-buffer : (out : List ℕ)
-      → (take m (bufferAfter (writeAnswer version agents p rows l d room) t out) ≡ t) × (drop m (bufferAfter (writeAnswer version agents p rows l d room) t out) ≡ drop m out)
+      → (take m (bufferAfter (writeAnswer version agents p rows l d room) t out) ≡ t)
+      × (drop m (bufferAfter (writeAnswer version agents p rows l d room) t out) ≡ drop m out)
   unfolding bufferAfter
   written-buffer out = rw w (take-at t (drop m out) m (written-size .0), drop-at t (drop m out) m (written-size .0))
 
@@ -91,7 +92,8 @@ module _ (version agents : ℕ) (p : List (List ℕ)) (rows : ℕ) (l : List Ent
 
 -- a refusal writes nothing
 pub refused-buffer : (version agents : ℕ) (p : List (List ℕ)) (rows : ℕ) (l : List Entry) (d : Dependencies) (room k i : ℕ)
-    → writeAnswer version agents p rows l d room ≡ Answer.Refused k i → (out : List ℕ) → bufferAfter (writeAnswer version agents p rows l d room) (encode version agents p rows l d) out ≡ out
+    → writeAnswer version agents p rows l d room ≡ Answer.Refused k i → (out : List ℕ)
+    → bufferAfter (writeAnswer version agents p rows l d room) (encode version agents p rows l d) out ≡ out
 unfolding bufferAfter
 refused-buffer version agents p rows l d room k i w out = rw w refl
 
@@ -105,7 +107,8 @@ module _ (s : List ℕ) (bytes : Bytes s) (admits : Admits s) where
   read-written room h =
       let sound = admitted-sound true s (admits .2) in
       let n = length-same sound in
-      admitted-in (versionAt s) (agentsAt s) (placesOf s) (rowsAt s) (entriesOf s) (dependenciesOf s) room (fit-values (read-fits sound)) (subst Admits (sym (written-again sound bytes)) admits)
+      admitted-in (versionAt s) (agentsAt s) (placesOf s) (rowsAt s) (entriesOf s) (dependenciesOf s) room (fit-values (read-fits sound))
+      (subst Admits (sym (written-again sound bytes)) admits)
       ∙ room-long _ room (omega arith) ∙ ap Answer.Written (sym n)
 
   pub read-same : encode (versionAt s) (agentsAt s) (placesOf s) (rowsAt s) (entriesOf s) (dependenciesOf s) ≡ s
@@ -194,7 +197,8 @@ module _ (version agents : ℕ) (p : List (List ℕ)) (rows : ℕ) (l : List Ent
       there : writeAnswer version agents p rows l d room ≡ Answer.Refused 13 0 → (fault ≡ 0) × Admits u × (room < length u)
       there w =
           ⊎-elim (λ c. not-both (eq-eqb fault 13 (c .1)) (fault-apart version agents p rows l d room .1))
-          (⊎-elim (λ c. not-both (table-number (c .0) 13 0 (c .1)) thirteen) (λ c. (c .0, c .1, let e = n in let h = c .2 in omega arith))) (refused-out version agents p rows l d room 13 0 w)
+          (⊎-elim (λ c. not-both (table-number (c .0) 13 0 (c .1)) thirteen) (λ c. (c .0, c .1, let e = n in let h = c .2 in omega arith)))
+          (refused-out version agents p rows l d room 13 0 w)
 
       back : (fault ≡ 0) × Admits u × (room < length u) → writeAnswer version agents p rows l d room ≡ Answer.Refused 13 0
       back c =

@@ -160,7 +160,8 @@ module _ {blanks : Bool} {s : List ℕ} (sound : Sound blanks s) where
 
   size-same : sizeOf s ≡ tableSize (versionAt s) (agentsAt s) (rowsAt s) (dependencyCount (dependencyBytes s))
   unfolding sizeOf tableSize dependenciesSize
-  size-same = rw (hosts-same, count-at s, end-same) (end-either (hasHosts s) (HEADER + placesSize (versionAt s) (agentsAt s) + ROW-BYTES * rowsAt s) (dependencyCount (dependencyBytes s)))
+  size-same = rw (hosts-same, count-at s, end-same)
+      (end-either (hasHosts s) (HEADER + placesSize (versionAt s) (agentsAt s) + ROW-BYTES * rowsAt s) (dependencyCount (dependencyBytes s)))
 
   pub length-same : length s ≡ tableSize (versionAt s) (agentsAt s) (rowsAt s) (dependencyCount (dependencyBytes s))
   length-same = length-is sound ∙ size-same
@@ -175,7 +176,8 @@ module _ {blanks : Bool} {s : List ℕ} (sound : Sound blanks s) where
   unfolding dependencyCount dependencyBytes pairAt
   no-rest h =
       let n : length (drop (rowsEnd s) s) ≡ 0 = rest ∙ after-plain (versionAt s) (dependencyCount (dependencyBytes s)) (hosts-same ∙ h) in
-      ap₂ (λ (x y : ℕ). x * 256 + y) (List·getD-eq-default (drop (rowsEnd s) s) 0 {n = 0} (omega arith)) (List·getD-eq-default (drop (rowsEnd s) s) 0 {n = 1} (omega arith))
+      ap₂ (λ (x y : ℕ). x * 256 + y) (List·getD-eq-default (drop (rowsEnd s) s) 0 {n = 0} (omega arith))
+      (List·getD-eq-default (drop (rowsEnd s) s) 0 {n = 1} (omega arith))
 
   -- ---- refusals 2, 3, 16 and 17 don't hold of what was read
 
@@ -199,14 +201,16 @@ module _ {blanks : Bool} {s : List ℕ} (sound : Sound blanks s) where
       off : hasHosts s ≡ false → not (anyBelow (agentsAt s) (λ a. ltb (cond (withHosts (versionAt s)) QUEUE SHADER) (agentKind (placesOf s) a))) ≡ true
       off h =
           let e : withHosts (versionAt s) ≡ false = hosts-same ∙ h in
-          rw e (not-in (any-not (λ a. ltb SHADER (agentKind (placesOf s) a)) (agentsAt s) (λ a b. le-ltb SHADER (agentKind (placesOf s) a) (let z = fourth-none h a b in omega arith))))
+          rw e (not-in (any-not (λ a. ltb SHADER (agentKind (placesOf s) a)) (agentsAt s)
+          (λ a b. le-ltb SHADER (agentKind (placesOf s) a) (let z = fourth-none h a b in omega arith))))
 
   read-few : dependenciesFit (versionAt s) (dependencyCount (dependencyBytes s)) ≡ true
   unfolding dependenciesFit
   read-few = ⊎-elim on off (which (hasHosts s))
     where
       on : hasHosts s ≡ true → leb (dependencyCount (dependencyBytes s)) (cond (withHosts (versionAt s)) DEPENDENCIES 0) ≡ true
-      on h = let e : withHosts (versionAt s) ≡ true = hosts-same ∙ h in rw e (le-leb (dependencyCount (dependencyBytes s)) DEPENDENCIES (dependencies-fit sound))
+      on h = let e : withHosts (versionAt s) ≡ true = hosts-same ∙ h in
+          rw e (le-leb (dependencyCount (dependencyBytes s)) DEPENDENCIES (dependencies-fit sound))
 
       off : hasHosts s ≡ false → leb (dependencyCount (dependencyBytes s)) (cond (withHosts (versionAt s)) DEPENDENCIES 0) ≡ true
       off h =
@@ -223,12 +227,14 @@ module _ {blanks : Bool} {s : List ℕ} (sound : Sound blanks s) where
     abbrev d : Dependencies
     d = dependenciesOf s
 
-    count-is : tableSize (versionAt s) (agentsAt s) (rowsAt s) (dependencyCount (dependencyBytes s)) - 4 ≡ (getD s 0 0 * 256 + getD s 1 0) * 65536 + (getD s 2 0 * 256 + getD s 3 0)
+    count-is : tableSize (versionAt s) (agentsAt s) (rowsAt s)
+        (dependencyCount (dependencyBytes s)) - 4 ≡ (getD s 0 0 * 256 + getD s 1 0) * 65536 + (getD s 2 0 * 256 + getD s 3 0)
     unfolding countAt quadAt pairAt
     count-is = let e = is-count in let n = size-same in omega arith
 
     header-same : (k : ℕ) → k < HEADER
-        → getD (headerList (versionAt s) (agentsAt s) (rowsAt s) (tableSize (versionAt s) (agentsAt s) (rowsAt s) (dependencyCount (dependencyBytes s)))) k 0 ≡ getD s k 0
+        → getD (headerList (versionAt s) (agentsAt s) (rowsAt s)
+        (tableSize (versionAt s) (agentsAt s) (rowsAt s) (dependencyCount (dependencyBytes s)))) k 0 ≡ getD s k 0
     unfolding headerList versionAt zeroAt agentsAt rowsAt
     header-same zero h = rw count-is (let a = small 0 in let b = small 1 in let c = small 2 in let e = small 3 in omega arith)
     header-same (suc zero) h = rw count-is (let a = small 0 in let b = small 1 in let c = small 2 in let e = small 3 in omega arith)
@@ -240,12 +246,14 @@ module _ {blanks : Bool} {s : List ℕ} (sound : Sound blanks s) where
     header-same (suc (suc (suc (suc (suc (suc (suc zero))))))) h = sym is-zero
     header-same (suc (suc (suc (suc (suc (suc (suc (suc k)))))))) h = absurd (omega arith)
 
-    header-part : headerList (versionAt s) (agentsAt s) (rowsAt s) (tableSize (versionAt s) (agentsAt s) (rowsAt s) (dependencyCount (dependencyBytes s))) ≡ take HEADER s
+    header-part : headerList (versionAt s) (agentsAt s) (rowsAt s)
+        (tableSize (versionAt s) (agentsAt s) (rowsAt s) (dependencyCount (dependencyBytes s))) ≡ take HEADER s
     header-part =
         let n = header-length (versionAt s) (agentsAt s) (rowsAt s) (tableSize (versionAt s) (agentsAt s) (rowsAt s) (dependencyCount (dependencyBytes s))) in
         let m = length-take HEADER s in
         let long = is-long in
-        ext-getD 0 (headerList (versionAt s) (agentsAt s) (rowsAt s) (tableSize (versionAt s) (agentsAt s) (rowsAt s) (dependencyCount (dependencyBytes s)))) (take HEADER s) (omega arith)
+        ext-getD 0 (headerList (versionAt s) (agentsAt s) (rowsAt s)
+        (tableSize (versionAt s) (agentsAt s) (rowsAt s) (dependencyCount (dependencyBytes s)))) (take HEADER s) (omega arith)
         (λ k l. let b : k < HEADER = subst (λ (x : ℕ). k < x) n l in header-same k b ∙ sym (getD-take HEADER s k 0 b))
 
     -- number m of agent x
@@ -299,7 +307,8 @@ module _ {blanks : Bool} {s : List ℕ} (sound : Sound blanks s) where
         let n = length-same in
         let a = length-take (placesSize (versionAt s) (agentsAt s)) (drop HEADER s) in
         let b = length-drop HEADER s in
-        tabulated (placeByte (withHosts (versionAt s)) (placesOf s)) (take (placesSize (versionAt s) (agentsAt s)) (drop HEADER s)) (placesSize (versionAt s) (agentsAt s)) (omega arith)
+        tabulated (placeByte (withHosts (versionAt s)) (placesOf s)) (take (placesSize (versionAt s) (agentsAt s)) (drop HEADER s))
+        (placesSize (versionAt s) (agentsAt s)) (omega arith)
         (λ k l. place-same k l ∙ sym (getD-take (placesSize (versionAt s) (agentsAt s)) (drop HEADER s) k 0 l ∙ getD-drop HEADER s k 0))
 
     -- the rows
@@ -341,13 +350,25 @@ module _ {blanks : Bool} {s : List ℕ} (sound : Sound blanks s) where
     number-at k l = go (decLt k 2)
       where
         late : 2 ≤ k → Dec ((k - 2) % DEPENDENCY-BYTES < 2)
-            → half (cond (ltb ((k - 2) % DEPENDENCY-BYTES) 2) (getD (tabulate (dependencyFrom (dependencyBytes s)) DEPENDENCIES) ((k - 2) / DEPENDENCY-BYTES) 0) (getD (tabulate (dependencyTo (dependencyBytes s)) DEPENDENCIES) ((k - 2) / DEPENDENCY-BYTES) 0)) k ≡ getD (dependencyBytes s) k 0
-        late a (yes c) = rw (lt-ltb ((k - 2) % DEPENDENCY-BYTES) 2 c, getD-tabulate (dependencyFrom (dependencyBytes s)) DEPENDENCIES ((k - 2) / DEPENDENCY-BYTES) 0 (omega arith)) (from-same k a c)
-        late a (no c) = rw (le-ltb ((k - 2) % DEPENDENCY-BYTES) 2 (omega arith), getD-tabulate (dependencyTo (dependencyBytes s)) DEPENDENCIES ((k - 2) / DEPENDENCY-BYTES) 0 (omega arith)) (to-same k a (omega arith))
+            → half (cond (ltb ((k - 2) % DEPENDENCY-BYTES) 2)
+            (getD (tabulate (dependencyFrom (dependencyBytes s)) DEPENDENCIES) ((k - 2) / DEPENDENCY-BYTES) 0)
+            (getD (tabulate (dependencyTo (dependencyBytes s)) DEPENDENCIES) ((k - 2) / DEPENDENCY-BYTES) 0)) k ≡ getD (dependencyBytes s) k 0
+        late a (yes c) = rw (
+          lt-ltb ((k - 2) % DEPENDENCY-BYTES) 2 c,
+          getD-tabulate (dependencyFrom (dependencyBytes s)) DEPENDENCIES ((k - 2) / DEPENDENCY-BYTES) 0 (omega arith),
+        ) (from-same k a c)
+        late a (no c) = rw (
+          le-ltb ((k - 2) % DEPENDENCY-BYTES) 2 (omega arith),
+          getD-tabulate (dependencyTo (dependencyBytes s)) DEPENDENCIES ((k - 2) / DEPENDENCY-BYTES) 0 (omega arith),
+        ) (to-same k a (omega arith))
 
         go : Dec (k < 2)
-            → half (cond (ltb k 2) (pairAt (dependencyBytes s) 0) (cond (ltb ((k - 2) % DEPENDENCY-BYTES) 2) (getD (tabulate (dependencyFrom (dependencyBytes s)) DEPENDENCIES) ((k - 2) / DEPENDENCY-BYTES) 0) (getD (tabulate (dependencyTo (dependencyBytes s)) DEPENDENCIES) ((k - 2) / DEPENDENCY-BYTES) 0))) k ≡ getD (dependencyBytes s) k 0
-        go (yes a) = let e : 0 + k % 2 ≡ k = omega arith in rw (lt-ltb k 2 a) (half-of (dependencyBytes s) after-small 0 k ∙ ap (λ (x : ℕ). getD (dependencyBytes s) x 0) e)
+            → half (cond (ltb k 2) (pairAt (dependencyBytes s) 0)
+            (cond (ltb ((k - 2) % DEPENDENCY-BYTES) 2)
+            (getD (tabulate (dependencyFrom (dependencyBytes s)) DEPENDENCIES) ((k - 2) / DEPENDENCY-BYTES) 0)
+            (getD (tabulate (dependencyTo (dependencyBytes s)) DEPENDENCIES) ((k - 2) / DEPENDENCY-BYTES) 0))) k ≡ getD (dependencyBytes s) k 0
+        go (yes a) = let e : 0 + k % 2 ≡ k = omega arith in
+            rw (lt-ltb k 2 a) (half-of (dependencyBytes s) after-small 0 k ∙ ap (λ (x : ℕ). getD (dependencyBytes s) x 0) e)
         go (no a) = rw (le-ltb k 2 (omega arith)) (late (omega arith) (decLt ((k - 2) % DEPENDENCY-BYTES) 2))
 
     after-part : dependenciesPart (versionAt s) (dependenciesOf s) ≡ drop (HEADER + placesSize (versionAt s) (agentsAt s) + ROW-BYTES * rowsAt s) s
@@ -355,7 +376,8 @@ module _ {blanks : Bool} {s : List ℕ} (sound : Sound blanks s) where
     after-part =
         let few = dependencies-fit sound in
         let most = after-most (versionAt s) (dependencyCount (dependencyBytes s)) few in
-        tabulated (dependencyByte (dependenciesOf s)) (dependencyBytes s) (dependenciesSize (versionAt s) (dependencyCount (dependencyBytes s))) rest (λ k l. number-at k (omega arith))
+        tabulated (dependencyByte (dependenciesOf s)) (dependencyBytes s)
+        (dependenciesSize (versionAt s) (dependencyCount (dependencyBytes s))) rest (λ k l. number-at k (omega arith))
         ∙ after-is
       where
         after-is : dependencyBytes s ≡ drop (HEADER + placesSize (versionAt s) (agentsAt s) + ROW-BYTES * rowsAt s) s

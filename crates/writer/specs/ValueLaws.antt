@@ -49,7 +49,8 @@ module _ (version : ℕ) where
   after-plain n h = rw h refl
 
   pub places-most : (agents : ℕ) → agents ≤ AGENTS → placesSize version agents ≤ 256
-  places-most agents a = ⊎-elim (λ h. let e = places-hosts agents h in omega arith) (λ h. let e = places-plain agents h in omega arith) (which (withHosts version))
+  places-most agents a = ⊎-elim (λ h. let e = places-hosts agents h in omega arith) (λ h. let e = places-plain agents h in
+      omega arith) (which (withHosts version))
 
   pub after-most : (n : ℕ) → n ≤ DEPENDENCIES → dependenciesSize version n ≤ 258
   after-most n a = ⊎-elim (λ h. let e = after-hosts n h in omega arith) (λ h. let e = after-plain n h in omega arith) (which (withHosts version))
@@ -64,7 +65,8 @@ module _ (version : ℕ) where
 
 -- where the rows begin, and where the table ends, with host agents or without
 pub begin-either : (hosts : Bool) (agents : ℕ)
-    → _≡_ {A = ℕ} (cond hosts (HEADER + HOSTS-PLACE-BYTES * agents) (HEADER + PLACE-BYTES * agents)) (HEADER + cond hosts (HOSTS-PLACE-BYTES * agents) (PLACE-BYTES * agents))
+    → _≡_ {A = ℕ} (cond hosts (HEADER + HOSTS-PLACE-BYTES * agents) (HEADER + PLACE-BYTES * agents))
+    (HEADER + cond hosts (HOSTS-PLACE-BYTES * agents) (PLACE-BYTES * agents))
 begin-either true agents = refl
 begin-either false agents = refl
 
@@ -96,8 +98,15 @@ unfolding encode tableSize
 encode-length version agents p rows l d =
     let h : List ℕ = headerList version agents rows (HEADER + placesSize version agents + ROW-BYTES * rows + dependenciesSize version (d .count)) in
     let s : List ℕ = placesPart version agents p in
-    rw
-    (length-append (h ++ s ++ rowsPart rows l) (dependenciesPart version d), length-append (h ++ s) (rowsPart rows l), length-append h s, header-length version agents rows (HEADER + placesSize version agents + ROW-BYTES * rows + dependenciesSize version (d .count)), places-length version agents p, rows-length rows l, after-length version d)
+    rw (
+      length-append (h ++ s ++ rowsPart rows l) (dependenciesPart version d),
+      length-append (h ++ s) (rowsPart rows l),
+      length-append h s,
+      header-length version agents rows (HEADER + placesSize version agents + ROW-BYTES * rows + dependenciesSize version (d .count)),
+      places-length version agents p,
+      rows-length rows l,
+      after-length version d,
+    )
     refl
 
 -- ---- values that pass

@@ -121,8 +121,8 @@ pub fn write(
     d: Dependencies,
     out: &mut [u8],
 ) -> WriteAnswer
-    ensures { λ r. ⌜ (r ≡ writeAnswer version agents p count entries d (length (now (out .entry))))
-        × (now (out .exit) ≡ bufferAfter (writeAnswer version agents p count entries d (length (now (out .entry)))) (encode version agents p count entries d) (now (out .entry))) ⌝ }
+    ensures { λ r. let answer = writeAnswer version agents p count entries d (length (now (out .entry))) in
+        ⌜ (r ≡ answer) × (now (out .exit) ≡ bufferAfter answer (encode version agents p count entries d) (now (out .entry))) ⌝ }
 {
     let fault = values_fault(version, agents, p, count, d.count);
     if fault != 0 {

@@ -94,8 +94,9 @@ pub fn write_parts(
     dependencies: &[u16],
     out: &mut [u8],
 ) -> WriteAnswer
-    ensures { λ r. ⌜ (r ≡ partsAnswer version (now (places .entry)) (now (rows .entry)) (now (dependencies .entry)) (length (now (out .entry))))
-        × (now (out .exit) ≡ bufferAfter (partsAnswer version (now (places .entry)) (now (rows .entry)) (now (dependencies .entry)) (length (now (out .entry)))) (partsTable version (now (places .entry)) (now (rows .entry)) (now (dependencies .entry))) (now (out .entry))) ⌝ }
+    ensures { λ r. let answer = partsAnswer version (now (places .entry)) (now (rows .entry)) (now (dependencies .entry)) (length (now (out .entry))) in
+        let table = partsTable version (now (places .entry)) (now (rows .entry)) (now (dependencies .entry)) in
+        ⌜ (r ≡ answer) × (now (out .exit) ≡ bufferAfter answer table (now (out .entry))) ⌝ }
 {
     let agents = agents_in(places);
     let p = places_in(places);

@@ -64,7 +64,8 @@ returns-2 c =
     let at-mark = at-join .before .before .before .before .before .before .before in
     let at-clear = at-mark .before .before .before .before in
     let start = at-clear .before .before .before in
-    start-law _ _ _ _ (start .pre .0) (start .pre .1) (at-clear .clear .ensures) (at-mark .mark-rows .ensures) _ _ _ (at-join .join-row .ensures) (at-close .close-marked .ensures)
+    start-law _ _ _ _ (start .pre .0) (start .pre .1) (at-clear .clear .ensures) (at-mark .mark-rows .ensures) _ _ _
+    (at-join .join-row .ensures) (at-close .close-marked .ensures)
     (c .first-looped .ensures)
 
 pub cycle-start-spec : {M : Type 1} → statement M

@@ -29,7 +29,8 @@ get-requires c κs = search needs
 -- src/lib.rt:24:13
 returns : tie.Need-returns Inv-loop μ-loop
 unfolding looped rel
-returns c = sym (least-found _ _ _ (c .before .before .before .loop .inv .1) (sym (c .before .get .ensures) ∙ c .if1 .taken) (c .before .before .loop-test .taken))
+returns c = sym (least-found _ _ _ (c .before .before .before .loop .inv .1) (sym (c .before .get .ensures) ∙ c .if1 .taken)
+    (c .before .before .loop-test .taken))
 
 -- src/lib.rt:22:9
 add-x : tie.Need-add-x Inv-loop μ-loop

@@ -47,8 +47,13 @@ same-length-2 c = search needs
 -- src/lib.rt:20:1
 returns : tie.Need-returns
 returns c =
-    let pre = c .before .before .before .before .before .before .before .before .before .before .before .before .before .before .before .before .before .before .before .before .pre in
-    rows-filled _ _ _ _ _ _ _ _ _ _ _ _ (c .before .before .before .before .before .before .before .before .before .before .before .before .before .before .before .before .read-sources .ensures) (pre .0) (c .before .before .before .before .before .before .before .before .before .before .before .before .before .before .locate-by .ensures .1) (c .before .before .before .before .before .before .before .before .settle .ensures) (c .before .before .clear .ensures)
+    let pre = c .before .before .before .before .before .before .before .before .before .before .before .before .before .before .before
+    .before .before .before .before .before .pre in
+    rows-filled _ _ _ _ _ _ _ _ _ _ _ _ (c .before .before .before .before .before .before .before .before .before .before .before .before
+    .before .before .before .before .read-sources .ensures) (pre .0)
+    (c .before .before .before .before .before .before .before .before .before .before .before .before .before
+    .before .locate-by .ensures .1) (c .before .before .before .before .before .before .before .before .settle .ensures)
+    (c .before .before .clear .ensures)
 
 pub fill-rows-spec : {M : Type 1} → statement M
 fill-rows-spec =

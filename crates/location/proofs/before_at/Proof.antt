@@ -92,8 +92,10 @@ returns-3 c =
     let s = c .before .before .before .before .before .before .before .before .before .before .before in
     let h = c .before .before .before .before .before .happens-bit .ensures ∙ s .pre .7 .reaching .ordered .happening .cell _ _ (omega arith) (omega arith) in
     let g = c .before .before .before .before .grid-bit .ensures ∙ s .pre .7 .hosting .cell _ _ (s .pre .2) (s .pre .3) in
-    let e = sym (c .before .before .before .before .before .before .before .common-of .ensures) ∙ not-false _ (c .before .before .before .before .before .before .if1 .left) in
-    before-third _ _ _ _ _ (s .pre .5) (s .pre .6) _ _ _ _ _ e h g _ (c .before .before .before .l1 .ensures) (c .before .before .l2 .ensures) (c .before .if2 .left) (c .l3 .ensures)
+    let e = sym (c .before .before .before .before .before .before .before .common-of .ensures)
+    ∙ not-false _ (c .before .before .before .before .before .before .if1 .left) in
+    before-third _ _ _ _ _ (s .pre .5) (s .pre .6) _ _ _ _ _ e h g _ (c .before .before .before .l1 .ensures)
+    (c .before .before .l2 .ensures) (c .before .if2 .left) (c .l3 .ensures)
 
 pub before-at-spec : {M : Type 1} → statement M
 before-at-spec =

@@ -20,7 +20,8 @@ use Rattle.location.proofs.hosted.make_hosted.Reads as make-hosted-read
 use Rattle.location.proofs.reach.make_reach.Reads as make-reach-reads
 
 abbrev Inv-loop : tie.InvT-loop
-Inv-loop rows p mode n w₀ x₀ w x = (x ≤ n) × (length w ≡ length w₀) × Prepared (decode rows p mode n) n w × (w ≡ cubeFill (beforeNth (decode rows p mode n)) w₀ (LOCATION * 64) PAIRS PAIR n x)
+Inv-loop rows p mode n w₀ x₀ w x = (x ≤ n) × (length w ≡ length w₀) × Prepared (decode rows p mode n) n w
+    × (w ≡ cubeFill (beforeNth (decode rows p mode n)) w₀ (LOCATION * 64) PAIRS PAIR n x)
 
 abbrev μ-loop : tie.MeasureT-loop
 μ-loop rows p mode n w₀ x₀ w x = n - x
@@ -45,7 +46,9 @@ loop-holds : tie.Need-loop-holds Inv-loop μ-loop
 loop-holds c = (
   search needs,
   refl,
-  prepared-kept (within-cleared LOCATION LOCATION-END (omega arith) (c .before .before .clear .ensures)) (made-prepared (c .before .before .before .before .before .before .before .before .before .before .make-hosted .ensures .holds) (c .before .before .before .before .before .before .make-reach .ensures)),
+  prepared-kept (within-cleared LOCATION LOCATION-END (omega arith) (c .before .before .clear .ensures))
+      (made-prepared (c .before .before .before .before .before .before .before .before .before .before .make-hosted .ensures .holds)
+      (c .before .before .before .before .before .before .make-reach .ensures)),
   cubeFill-none _ _ _ _ _ _,
 )
 
@@ -85,7 +88,8 @@ returns c =
     let r = c .before .before .before .before .before .before .before .before .make-reach .ensures in
     let e : c .before .loop .x ≡ s .args .n = omega arith in
     made-placed h r
-    (made-cube LOCATION LOCATION-END PAIRS PAIR _ _ _ _ _ (omega arith) (omega arith) (omega arith) (omega (arith, h .frame .len, r .frame .len, s .pre .1)) (c .before .before .before .before .clear .ensures)
+    (made-cube LOCATION LOCATION-END PAIRS PAIR _ _ _ _ _ (omega arith) (omega arith) (omega arith)
+    (omega (arith, h .frame .len, r .frame .len, s .pre .1)) (c .before .before .before .before .clear .ensures)
     (rw e at (c .before .loop .inv .3)))
 
 pub fill-location-spec : {M : Type 1} → statement M

@@ -52,7 +52,8 @@ returns : tie.Need-returns Inv-loop μ-loop
 unfolding decode
 returns c =
     row-off _ _ _ _
-    (pair-off _ _ _ _ _ (c .before .before .before .read-row .ensures) (c .before .before .read-row2 .ensures) (sym (c .before .may-share .ensures) ∙ not-true _ (c .if1 .taken)))
+    (pair-off _ _ _ _ _ (c .before .before .before .read-row .ensures) (c .before .before .read-row2 .ensures)
+    (sym (c .before .may-share .ensures) ∙ not-true _ (c .if1 .taken)))
 
 -- src/lib.rt:63:5
 loop-holds : tie.Need-loop-holds Inv-loop μ-loop

@@ -54,7 +54,9 @@ returns c =
     let at-fill = at-close .before .before .before .before in
     let tested = at-fill .before .before in
     let start = tested .before .before .before .before in
-    added-set _ _ _ _ _ (start .args .w .now) _ _ _ (start .pre .0) (start .pre .1) (sym (tested .before .is-live .ensures _ _) ∙ tested .if1 .taken) (at-fill .fill-step .ensures) (at-close .close .ensures) (at-join .join-row .ensures)
+    added-set _ _ _ _ _ (start .args .w .now) _ _ _ (start .pre .0) (start .pre .1)
+    (sym (tested .before .is-live .ensures _ _) ∙ tested .if1 .taken) (at-fill .fill-step .ensures) (at-close .close .ensures)
+    (at-join .join-row .ensures)
 
 -- src/lib.rt:53:1
 returns-2 : tie.Need-returns-2

@@ -101,7 +101,9 @@ same-length c = search needs
 returns : tie.Need-returns Inv-loop2 μ-loop2 Inv-loop μ-loop
 returns c p mode =
     let e : c .before .loop .m ≡ 3 * c .before .before .before .before .before .before .before .before .args .n = omega arith in
-    made-cong (λ m k l h. order-is _ _ _ _ _ _ m k) (made-filled HAPPENS HAPPENS-END MOMENTS _ _ _ _ _ (omega arith) (omega arith) (omega arith) (c .before .before .before .before .clear .ensures) (rw e at (c .before .loop .inv .2)))
+    made-cong (λ m k l h. order-is _ _ _ _ _ _ m k)
+    (made-filled HAPPENS HAPPENS-END MOMENTS _ _ _ _ _ (omega arith) (omega arith) (omega arith)
+    (c .before .before .before .before .clear .ensures) (rw e at (c .before .loop .inv .2)))
 
 pub fill-order-spec : {M : Type 1} → statement M
 fill-order-spec =

@@ -39,7 +39,8 @@ loop-holds : tie.Need-loop-holds Inv-loop μ-loop
 loop-holds c =
     let at-synced = c .before .before .before .before .before .before in
     let synced = at-synced .make-synced .ensures in
-    let order = c .before .before .fill-order .ensures (at-synced .before .before .before .before .args .p) (at-synced .before .before .before .before .args .mode) in
+    let order = c .before .before .fill-order .ensures (at-synced .before .before .before .before .args .p)
+    (at-synced .before .before .before .before .args .mode) in
     (search needs, refl, synced-kept (omega arith) (order .frame) (synced .synced), holds-cong (λ m k l h. upTo-none _ m k) (order .holds), within-refl _ _ _)
 
 -- src/lib.rt:80:9
@@ -58,8 +59,13 @@ loop-less c = search needs
 loop-again : tie.Need-loop-again Inv-loop μ-loop
 loop-again c =
     let added = c .before .before .add-set .ensures in
-    let inv = c .before .before .before .before .before .loop .inv in
-    (search needs, added .frame .len ∙ inv .1, synced-kept (omega arith) (added .frame) (inv .2), holds-cong (λ m k l h. upTo-more _ _ m k) (holds-added (inv .3) added), within-trans (inv .4) (added .frame))
+    let inv = c .before .before .before .before .before .loop .inv in (
+      search needs,
+      added .frame .len ∙ inv .1,
+      synced-kept (omega arith) (added .frame) (inv .2),
+      holds-cong (λ m k l h. upTo-more _ _ m k) (holds-added (inv .3) added),
+      within-trans (inv .4) (added .frame),
+    )
 
 -- src/lib.rt:73:1
 same-length : tie.Need-same-length Inv-loop μ-loop

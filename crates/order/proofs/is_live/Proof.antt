@@ -33,7 +33,8 @@ holds-at-requires c κs = search needs
 -- src/lib.rt:50:13
 returns-2 : tie.Need-returns-2 Inv-loop μ-loop
 returns-2 c =
-    λ p mode. sym (live-other _ p _ _ _ (c .before .before .before .loop .inv .2) ∙ any-in _ _ _ (c .before .before .loop-test .taken) (sym (c .before .holds-at .ensures) ∙ c .if2 .taken))
+    λ p mode. sym (live-other _ p _ _ _ (c .before .before .before .loop .inv .2)
+    ∙ any-in _ _ _ (c .before .before .loop-test .taken) (sym (c .before .holds-at .ensures) ∙ c .if2 .taken))
 
 -- src/lib.rt:48:9
 add-i : tie.Need-add-i Inv-loop μ-loop

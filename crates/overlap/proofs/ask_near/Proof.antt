@@ -90,7 +90,8 @@ loop-holds c =
       b,
       rw (first .0) at (first .1),
       rw (last .0) at (last .1),
-      fill-pass _ _ _ _ _ _ (next .low) (λ m l q. far _ _ _ (pre .6) _ m _ (pre .3) a b (pre .5) (omega (arith, next .high)) (next .miss m l q)) (rowFill-none _ _ _),
+      fill-pass _ _ _ _ _ _ (next .low) (λ m l q. far _ _ _ (pre .6) _ m _ (pre .3) a b (pre .5) (omega (arith, next .high))
+          (next .miss m l q)) (rowFill-none _ _ _),
     )
 
 -- src/lib.rt:47:13
@@ -120,7 +121,8 @@ loop-again c =
     let next = c .next2 .ensures in
     let put = c .before .before .before .before .put-if in
     let inv = c .before .before .before .before .before .before .before .before .loop .inv in
-    let e = rowFill-put _ _ _ (put .last .0) _ _ _ _ (inv .9) (c .before .before .before .before .before .before .shares .ensures) (omega arith) (put .ensures) in
+    let e = rowFill-put _ _ _ (put .last .0) _ _ _ _ (inv .9) (c .before .before .before .before .before .before .shares .ensures)
+    (omega arith) (put .ensures) in
     let k = celled-kept _ _ (pre .0) (omega arith) (within-put OVERLAP OVERLAP-END _ _ (omega arith) (omega arith) (put .ensures)) (inv .2) in (
       next .high,
       ap length e ∙ length-rowFill _ _ _ _,
@@ -140,7 +142,8 @@ same-length c = search needs
 
 -- src/lib.rt:38:1
 returns : tie.Need-returns Inv-loop μ-loop
-returns c = let e : c .before .loop .y ≡ c .before .before .before .before .before .before .before .before .before .before .args .n = omega arith in rw e at (c .before .loop .inv .9)
+returns c = let e : c .before .loop .y ≡ c .before .before .before .before .before .before .before .before .before .before .args .n = omega
+    arith in rw e at (c .before .loop .inv .9)
 
 pub ask-near-spec : {M : Type 1} → statement M
 ask-near-spec =

@@ -34,8 +34,13 @@ clear-requires c κs = search needs
 loop-holds : tie.Need-loop-holds Inv-loop μ-loop
 loop-holds c =
     let pre = c .before .before .before .before .before .before .before .before .before .before .pre in
-    let cells = c .before .before .before .before .before .before .fill-cells .ensures in
-    (search needs, refl, celled-kept _ _ (pre .0) (omega arith) (within-cleared OVERLAP OVERLAP-END (omega arith) (c .before .before .clear .ensures)) (cells .0), gridFill-none _ _ _ _ _)
+    let cells = c .before .before .before .before .before .before .fill-cells .ensures in (
+      search needs,
+      refl,
+      celled-kept _ _ (pre .0) (omega arith)
+          (within-cleared OVERLAP OVERLAP-END (omega arith) (c .before .before .clear .ensures)) (cells .0),
+      gridFill-none _ _ _ _ _,
+    )
 
 -- src/lib.rt:42:9
 overlap-row-requires : tie.Need-overlap-row-requires Inv-loop μ-loop
@@ -69,7 +74,8 @@ returns c =
     let s = c .before .before .before .before .before .before .before .before .before .before .before .before in
     let cells = c .before .before .before .before .before .before .before .before .fill-cells .ensures .1 in
     let e : c .before .loop .x ≡ s .args .n = omega arith in
-    let m = made-filled OVERLAP OVERLAP-END GRID _ _ _ _ _ (omega arith) (omega arith) (omega (arith, cells .len, s .pre .1)) (c .before .before .before .before .clear .ensures) (rw e at (c .before .loop .inv .3)) in
+    let m = made-filled OVERLAP OVERLAP-END GRID _ _ _ _ _ (omega arith) (omega arith) (omega (arith, cells .len, s .pre .1))
+    (c .before .before .before .before .clear .ensures) (rw e at (c .before .loop .inv .3)) in
     made-after CELLS OVERLAP-END (omega arith) (omega arith) (within-widen CELLS OVERLAP-END (omega arith) (omega arith) cells) m
 
 pub fill-overlaps-spec : {M : Type 1} → statement M

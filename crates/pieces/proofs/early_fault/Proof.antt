@@ -53,7 +53,12 @@ returns-2 : tie.Need-returns-2
 returns-2 c =
     let at = c .before .before .before .before .before in
     early-second _ _ _ _ (at .before .pieces-fault .ensures) (at .if1 .left)
-    (rw (← c .before .before .before .before .read-places .ensures, ← c .before .before .before .dependency-bytes .ensures, ← c .before .before .rows-both .ensures, ← c .before .agents-at .ensures) (c .hosts-fault .ensures))
+    (rw (
+      ← c .before .before .before .before .read-places .ensures,
+      ← c .before .before .before .dependency-bytes .ensures,
+      ← c .before .before .rows-both .ensures,
+      ← c .before .agents-at .ensures,
+    ) (c .hosts-fault .ensures))
 
 pub early-fault-spec : {M : Type 1} → statement M
 early-fault-spec =

@@ -59,14 +59,16 @@ part-result-start c = search needs
 part-result-end : tie.Need-part-result-end
 part-result-end c =
     let early = c .before .before .before in
-    first-end _ _ _ _ _ _ (early .before .early-fault .ensures) (early .if1 .left) (c .before .before .rows-at .ensures) (c .before .if2 .taken) (c .rows-begin .ensures .0)
+    first-end _ _ _ _ _ _ (early .before .early-fault .ensures) (early .if1 .left) (c .before .before .rows-at .ensures)
+    (c .before .if2 .taken) (c .rows-begin .ensures .0)
 
 -- src/lib.rt:91:9
 returns-2 : tie.Need-returns-2
 returns-2 c =
     let at = c .before in
     let early = at .before .before .before in
-    sym (part-first _ _ _ _ (early .before .early-fault .ensures) (early .if1 .left) _ (at .before .before .rows-at .ensures) (at .before .if2 .taken) ∙ rw (← at .rows-begin .ensures .0) (simp add-sub-cancel-left))
+    sym (part-first _ _ _ _ (early .before .early-fault .ensures) (early .if1 .left) _ (at .before .before .rows-at .ensures)
+    (at .before .if2 .taken) ∙ rw (← at .rows-begin .ensures .0) (simp add-sub-cancel-left))
 
 -- src/lib.rt:93:12
 rows-both-requires : tie.Need-rows-both-requires
@@ -99,7 +101,8 @@ returns-3 : tie.Need-returns-3
 returns-3 c =
     let at = c .before .before in
     let early = at .before .before .before in
-    sym (part-second _ _ _ _ (early .before .early-fault .ensures) (early .if1 .left) _ (at .before .before .rows-at .ensures) _ (at .rows-both .ensures) (at .before .if2 .left) (c .before .if3 .taken) ∙ simp add-sub-cancel-left)
+    sym (part-second _ _ _ _ (early .before .early-fault .ensures) (early .if1 .left) _ (at .before .before .rows-at .ensures) _
+    (at .rows-both .ensures) (at .before .if2 .left) (c .before .if3 .taken) ∙ simp add-sub-cancel-left)
 
 -- src/lib.rt:98:5
 slice-aggregate-result-2 : tie.Need-slice-aggregate-result-2
@@ -110,7 +113,8 @@ returns-4 : tie.Need-returns-4
 returns-4 c =
     let at = c .before .before in
     let early = at .before .before .before in
-    sym (part-past _ _ _ _ (early .before .early-fault .ensures) (early .if1 .left) _ (at .before .before .rows-at .ensures) _ (at .rows-both .ensures) (at .before .if2 .left) (c .before .if3 .left))
+    sym (part-past _ _ _ _ (early .before .early-fault .ensures) (early .if1 .left) _ (at .before .before .rows-at .ensures) _
+    (at .rows-both .ensures) (at .before .if2 .left) (c .before .if3 .left))
 
 pub row-part-spec : {M : Type 1} → statement M
 row-part-spec =

@@ -46,7 +46,8 @@ cast-t12 c = search needs
 returns-2 : tie.Need-returns-2
 returns-2 c =
     let early = c .before .before .before in
-    place-first _ _ _ _ (early .before .early-fault .ensures) (early .if1 .left) _ (c .before .before .rows-at .ensures) _ (c .rows-begin .ensures .0) (c .before .if2 .taken)
+    place-first _ _ _ _ (early .before .early-fault .ensures) (early .if1 .left) _ (c .before .before .rows-at .ensures) _
+    (c .rows-begin .ensures .0) (c .before .if2 .taken)
 
 -- src/lib.rt:140:12
 rows-both-requires : tie.Need-rows-both-requires
@@ -60,20 +61,23 @@ mul-at-2 c = search needs
 cast-t15 : tie.Need-cast-t15
 cast-t15 c =
     let early = c .before .before .before .before in
-    let l = second-fits _ _ _ _ (early .before .early-fault .ensures) (early .if1 .left) _ (c .before .before .before .rows-at .ensures) _ (c .before .rows-both .ensures) (c .before .before .if2 .left) (c .if3 .taken) in
+    let l = second-fits _ _ _ _ (early .before .early-fault .ensures) (early .if1 .left) _ (c .before .before .before .rows-at .ensures) _
+    (c .before .rows-both .ensures) (c .before .before .if2 .left) (c .if3 .taken) in
     omega arith
 
 -- src/lib.rt:142:9
 returns-3 : tie.Need-returns-3
 returns-3 c =
     let early = c .before .before .before .before in
-    place-second _ _ _ _ (early .before .early-fault .ensures) (early .if1 .left) _ (c .before .before .before .rows-at .ensures) _ (c .before .rows-both .ensures) (c .before .before .if2 .left) (c .if3 .taken)
+    place-second _ _ _ _ (early .before .early-fault .ensures) (early .if1 .left) _ (c .before .before .before .rows-at .ensures) _
+    (c .before .rows-both .ensures) (c .before .before .if2 .left) (c .if3 .taken)
 
 -- src/lib.rt:128:1
 returns-4 : tie.Need-returns-4
 returns-4 c =
     let early = c .before .before .before .before in
-    place-past _ _ _ _ (early .before .early-fault .ensures) (early .if1 .left) _ (c .before .before .before .rows-at .ensures) _ (c .before .rows-both .ensures) (c .before .before .if2 .left) (c .if3 .left)
+    place-past _ _ _ _ (early .before .early-fault .ensures) (early .if1 .left) _ (c .before .before .before .rows-at .ensures) _
+    (c .before .rows-both .ensures) (c .before .before .if2 .left) (c .if3 .left)
 
 pub row-place-spec : {M : Type 1} → statement M
 row-place-spec =

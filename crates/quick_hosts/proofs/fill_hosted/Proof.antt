@@ -31,7 +31,13 @@ clear-requires c κs = search needs
 
 -- src/lib.rt:73:5
 loop-holds : tie.Need-loop-holds Inv-loop μ-loop
-loop-holds c = (search needs, refl, sources-kept (within-cleared HOSTED HOSTED-END (omega arith) (c .before .before .clear .ensures)) (c .before .before .before .before .before .before .pre .2), gridFill-none _ _ _ _ _)
+loop-holds c = (
+  search needs,
+  refl,
+  sources-kept (within-cleared HOSTED HOSTED-END (omega arith) (c .before .before .clear .ensures))
+      (c .before .before .before .before .before .before .pre .2),
+  gridFill-none _ _ _ _ _,
+)
 
 -- src/lib.rt:74:9
 hosted-row-requires : tie.Need-hosted-row-requires Inv-loop μ-loop
@@ -50,8 +56,12 @@ loop-again : tie.Need-loop-again Inv-loop μ-loop
 loop-again c =
     let row = c .before .before .hosted-row in
     let inv = c .before .before .before .before .before .loop .inv in
-    let e = gridFill-more _ _ _ _ _ _ _ _ (inv .3) (row .ensures) in
-    (search needs, ap length e ∙ length-gridFill _ _ _ _ _ _, sources-kept (within-row HOSTED HOSTED-END _ _ _ (omega arith) (omega arith) (row .ensures)) (inv .2), e)
+    let e = gridFill-more _ _ _ _ _ _ _ _ (inv .3) (row .ensures) in (
+      search needs,
+      ap length e ∙ length-gridFill _ _ _ _ _ _,
+      sources-kept (within-row HOSTED HOSTED-END _ _ _ (omega arith) (omega arith) (row .ensures)) (inv .2),
+      e,
+    )
 
 -- src/lib.rt:68:1
 same-length : tie.Need-same-length Inv-loop μ-loop
@@ -61,7 +71,8 @@ same-length c = search needs
 returns : tie.Need-returns Inv-loop μ-loop
 returns c =
     let e : c .before .loop .x ≡ c .before .before .before .before .before .before .before .before .args .n = omega arith in
-    made-filled HOSTED HOSTED-END GRID _ _ _ _ _ (omega arith) (omega arith) (omega arith) (c .before .before .before .before .clear .ensures) (rw e at (c .before .loop .inv .3))
+    made-filled HOSTED HOSTED-END GRID _ _ _ _ _ (omega arith) (omega arith) (omega arith)
+    (c .before .before .before .before .clear .ensures) (rw e at (c .before .loop .inv .3))
 
 pub fill-hosted-spec : {M : Type 1} → statement M
 fill-hosted-spec =

@@ -48,7 +48,8 @@ writes-requires c κs = search needs
 -- src/lib.rt:69:9
 returns : tie.Need-returns Inv-loop μ-loop
 unfolding decode _or_
-returns c = idle-row _ _ _ (c .before .before .before .read-row .ensures) _ _ _ _ _ (c .before .before .reads .ensures) (c .before .writes .ensures) (c .if1 .taken)
+returns c = idle-row _ _ _ (c .before .before .before .read-row .ensures) _ _ _ _ _ (c .before .before .reads .ensures)
+    (c .before .writes .ensures) (c .if1 .taken)
 
 -- src/lib.rt:71:5
 loop-holds : tie.Need-loop-holds Inv-loop μ-loop
@@ -75,8 +76,13 @@ loop-again : tie.Need-loop-again Inv-loop μ-loop
 loop-again c =
     let put = c .before .before .put-if in
     let inv = c .before .before .before .before .before .before .before .loop .inv in
-    let e = rowFill-put _ _ _ (put .last .0) _ _ _ _ (inv .4) (c .before .before .before .before .hosted-with .ensures) (omega arith) (put .ensures) in
-    (search needs, ap length e ∙ length-rowFill _ _ _ _, inv .2, sources-kept (within-put HOSTED HOSTED-END _ _ (omega arith) (omega arith) (put .ensures)) (inv .3), e)
+    let e = rowFill-put _ _ _ (put .last .0) _ _ _ _ (inv .4) (c .before .before .before .before .hosted-with .ensures) (omega arith) (put .ensures) in (
+      search needs,
+      ap length e ∙ length-rowFill _ _ _ _,
+      inv .2,
+      sources-kept (within-put HOSTED HOSTED-END _ _ (omega arith) (omega arith) (put .ensures)) (inv .3),
+      e,
+    )
 
 -- src/lib.rt:63:1
 same-length : tie.Need-same-length Inv-loop μ-loop
@@ -84,7 +90,8 @@ same-length c = search needs
 
 -- src/lib.rt:63:1
 returns-2 : tie.Need-returns-2 Inv-loop μ-loop
-returns-2 c = let e : c .before .loop .y ≡ c .before .before .before .before .before .before .before .before .args .n = omega arith in rw e at (c .before .loop .inv .4)
+returns-2 c = let e : c .before .loop .y ≡ c .before .before .before .before .before .before .before .before .args .n = omega arith in
+    rw e at (c .before .loop .inv .4)
 
 pub hosted-row-spec : {M : Type 1} → statement M
 hosted-row-spec =

@@ -33,7 +33,9 @@ l4-requires c κs = search needs
 returns-2 : tie.Need-returns-2
 returns-2 c =
     let s = c .before .before .before .before .before .before .before in
-    hosted-fourth _ _ _ _ _ (s .pre .5) _ _ (s .pre .1) (s .pre .2) _ _ _ _ (s .pre .3) refl (sym (c .before .before .before .before .is-near .ensures) ∙ not-false _ (c .before .before .before .if1 .left)) (c .before .before .grid-bit .ensures) (c .before .l4 .ensures) (c .if2 .taken)
+    hosted-fourth _ _ _ _ _ (s .pre .5) _ _ (s .pre .1) (s .pre .2) _ _ _ _ (s .pre .3) refl
+    (sym (c .before .before .before .before .is-near .ensures) ∙ not-false _ (c .before .before .before .if1 .left))
+    (c .before .before .grid-bit .ensures) (c .before .l4 .ensures) (c .if2 .taken)
 
 -- src/lib.rt:48:5
 l5-requires : tie.Need-l5-requires
@@ -43,7 +45,9 @@ l5-requires c κs = search needs
 returns-3 : tie.Need-returns-3
 returns-3 c =
     let s = c .before .before .before .before .before .before .before .before in
-    hosted-fifth _ _ _ _ _ (s .pre .5) _ _ (s .pre .1) (s .pre .2) _ _ _ _ (s .pre .3) refl (sym (c .before .before .before .before .before .is-near .ensures) ∙ not-false _ (c .before .before .before .before .if1 .left)) (c .before .before .before .grid-bit .ensures) (c .before .before .l4 .ensures) _ _ (c .before .if2 .left) refl (c .l5 .ensures)
+    hosted-fifth _ _ _ _ _ (s .pre .5) _ _ (s .pre .1) (s .pre .2) _ _ _ _ (s .pre .3) refl
+    (sym (c .before .before .before .before .before .is-near .ensures) ∙ not-false _ (c .before .before .before .before .if1 .left))
+    (c .before .before .before .grid-bit .ensures) (c .before .before .l4 .ensures) _ _ (c .before .if2 .left) refl (c .l5 .ensures)
 
 pub hosted-with-spec : {M : Type 1} → statement M
 hosted-with-spec =

@@ -49,7 +49,8 @@ loop-holds : tie.Need-loop-holds Inv-loop μ-loop
 loop-holds c = (
   search needs,
   refl,
-  prepared-kept (within-cleared LOCATION LOCATION-END (omega arith) (c .before .before .before .before .before .clear .ensures)) (c .before .before .before .before .before .before .before .before .before .prepare .ensures .prepared),
+  prepared-kept (within-cleared LOCATION LOCATION-END (omega arith) (c .before .before .before .before .before .clear .ensures))
+      (c .before .before .before .before .before .before .before .before .before .prepare .ensures .prepared),
   cubeFill-none _ _ _ _ _ _,
   c .before .fill-publics .ensures,
 )
@@ -94,7 +95,8 @@ returns c =
     let h = c .before .before .before .before .before .before .before .before .before .before .before .prepare .ensures in
     let e : c .before .loop .x ≡ s .args .n = omega arith in
     made-located h
-    (made-cube LOCATION LOCATION-END PAIRS PAIR _ _ _ _ _ (omega arith) (omega arith) (omega arith) (omega (arith, h .frame .len, s .pre .1)) (c .before .before .before .before .before .before .before .clear .ensures)
+    (made-cube LOCATION LOCATION-END PAIRS PAIR _ _ _ _ _ (omega arith) (omega arith) (omega arith)
+    (omega (arith, h .frame .len, s .pre .1)) (c .before .before .before .before .before .before .before .clear .ensures)
     (rw e at (c .before .loop .inv .3)))
 
 pub fill-location-spec : {M : Type 1} → statement M

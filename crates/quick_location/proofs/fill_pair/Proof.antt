@@ -28,7 +28,8 @@ is-near-requires c κs = search needs
 -- src/lib.rt:84:9
 returns : tie.Need-returns
 unfolding decode
-returns c = row-off _ _ _ _ (pair-off _ _ _ _ _ (c .before .before .before .before .before .pre .4) refl (sym (c .before .is-near .ensures) ∙ not-true _ (c .if1 .taken)))
+returns c = row-off _ _ _ _ (pair-off _ _ _ _ _ (c .before .before .before .before .before .pre .4) refl
+    (sym (c .before .is-near .ensures) ∙ not-true _ (c .if1 .taken)))
 
 -- src/lib.rt:86:35
 cast-read-row : tie.Need-cast-read-row
@@ -83,10 +84,13 @@ returns-2 : tie.Need-returns-2
 unfolding decode _or_
 returns-2 c =
     let s = c .before .before .before .before .before .before .before .before .before .before .before .before .before .before .before .before .before in
-    let h = c .before .before .before .before .before .before .before .before .before .happens-bit .ensures ∙ s .pre .5 .reaching .ordered .happening .cell _ _ (omega (arith, s .pre .2)) (omega (arith, s .pre .3)) in
+    let h = c .before .before .before .before .before .before .before .before .before .happens-bit .ensures
+    ∙ s .pre .5 .reaching .ordered .happening .cell _ _ (omega (arith, s .pre .2)) (omega (arith, s .pre .3)) in
     let g = c .before .before .before .before .before .before .before .grid-bit .ensures ∙ s .pre .5 .hosting .cell _ _ (s .pre .2) (s .pre .3) in
     let q = c .before .before .before .before .before .before .before .before .before .before .before .read-row .ensures in
-    filled-cong _ _ _ _ _ (pair-shared _ _ _ _ _ (s .pre .4) q _ _ _ _ h g (c .before .before .before .before .before .before .l1 .ensures) (c .before .before .before .before .before .l2 .ensures) (c .before .before .before .before .if2 .taken)) (c .before .before .fill-shared .ensures)
+    filled-cong _ _ _ _ _ (pair-shared _ _ _ _ _ (s .pre .4) q _ _ _ _ h g (c .before .before .before .before .before .before .l1 .ensures)
+    (c .before .before .before .before .before .l2 .ensures) (c .before .before .before .before .if2 .taken))
+    (c .before .before .fill-shared .ensures)
 
 -- src/lib.rt:94:9
 same-length-2 : tie.Need-same-length-2
@@ -97,10 +101,12 @@ returns-3 : tie.Need-returns-3
 unfolding decode _or_
 returns-3 c =
     let s = c .before .before .before .before .before .before .before .before .before .before .before .before .before .before in
-    let h = c .before .before .before .before .before .before .happens-bit .ensures ∙ s .pre .5 .reaching .ordered .happening .cell _ _ (omega (arith, s .pre .2)) (omega (arith, s .pre .3)) in
+    let h = c .before .before .before .before .before .before .happens-bit .ensures
+    ∙ s .pre .5 .reaching .ordered .happening .cell _ _ (omega (arith, s .pre .2)) (omega (arith, s .pre .3)) in
     let g = c .before .before .before .before .grid-bit .ensures ∙ s .pre .5 .hosting .cell _ _ (s .pre .2) (s .pre .3) in
     let q = c .before .before .before .before .before .before .before .before .read-row .ensures in
-    row-off _ _ _ _ (pair-none _ _ _ _ _ (s .pre .4) q _ _ _ _ h g (c .before .before .before .l1 .ensures) (c .before .before .l2 .ensures) (c .before .if2 .left) (third-silent _ _ _ _ (c .if3 .taken) (s .pre .7)))
+    row-off _ _ _ _ (pair-none _ _ _ _ _ (s .pre .4) q _ _ _ _ h g (c .before .before .before .l1 .ensures) (c .before .before .l2 .ensures)
+    (c .before .if2 .left) (third-silent _ _ _ _ (c .if3 .taken) (s .pre .7)))
 
 -- src/lib.rt:96:9
 public-write-requires : tie.Need-public-write-requires
@@ -115,16 +121,30 @@ returns-4 : tie.Need-returns-4
 unfolding decode _or_
 returns-4 c =
     let s = c .before .before .before .before .before .before .before .before .before .before .before .before .before .before .before .before in
-    let h = c .before .before .before .before .before .before .before .before .happens-bit .ensures ∙ s .pre .5 .reaching .ordered .happening .cell _ _ (omega (arith, s .pre .2)) (omega (arith, s .pre .3)) in
+    let h = c .before .before .before .before .before .before .before .before .happens-bit .ensures
+    ∙ s .pre .5 .reaching .ordered .happening .cell _ _ (omega (arith, s .pre .2)) (omega (arith, s .pre .3)) in
     let g = c .before .before .before .before .before .before .grid-bit .ensures ∙ s .pre .5 .hosting .cell _ _ (s .pre .2) (s .pre .3) in
     let q = c .before .before .before .before .before .before .before .before .before .before .read-row .ensures in
-    row-off _ _ _ _ (pair-none _ _ _ _ _ (s .pre .4) q _ _ _ _ h g (c .before .before .before .before .before .l1 .ensures) (c .before .before .before .before .l2 .ensures) (c .before .before .before .if2 .left) (λ b. L3-off _ _ _ b _ _ (s .pre .4) q (sym (c .before .public-write .ensures) ∙ not-true _ (c .if4 .taken))))
+    row-off _ _ _ _ (pair-none _ _ _ _ _ (s .pre .4) q _ _ _ _ h g (c .before .before .before .before .before .l1 .ensures)
+    (c .before .before .before .before .l2 .ensures) (c .before .before .before .if2 .left)
+    (λ b. L3-off _ _ _ b _ _ (s .pre .4) q (sym (c .before .public-write .ensures) ∙ not-true _ (c .if4 .taken))))
 
 -- src/lib.rt:99:5
 fill-third-requires : tie.Need-fill-third-requires
 fill-third-requires c κs =
-    let s = c .before .before .before .before .before .before .before .before .before .before .before .before .before .before .before .before .before in
-    (s .pre .0, s .pre .1, s .pre .2, s .pre .3, s .pre .4, c .before .before .before .before .before .before .before .before .before .before .before .read-row .ensures, s .pre .5 .reaching, s .pre .6, s .pre .7, public-writes _ _ (sym (c .before .before .public-write .ensures) ∙ not-false _ (c .before .if4 .left)), s .pre .8)
+    let s = c .before .before .before .before .before .before .before .before .before .before .before .before .before .before .before .before .before in (
+      s .pre .0,
+      s .pre .1,
+      s .pre .2,
+      s .pre .3,
+      s .pre .4,
+      c .before .before .before .before .before .before .before .before .before .before .before .read-row .ensures,
+      s .pre .5 .reaching,
+      s .pre .6,
+      s .pre .7,
+      public-writes _ _ (sym (c .before .before .public-write .ensures) ∙ not-false _ (c .before .if4 .left)),
+      s .pre .8,
+    )
 
 -- src/lib.rt:67:1
 same-length-4 : tie.Need-same-length-4
@@ -134,11 +154,19 @@ same-length-4 c = search needs
 returns-5 : tie.Need-returns-5
 unfolding decode _or_
 returns-5 c =
-    let s = c .before .before .before .before .before .before .before .before .before .before .before .before .before .before .before .before .before .before .before .before in
-    let h = c .before .before .before .before .before .before .before .before .before .before .before .before .happens-bit .ensures ∙ s .pre .5 .reaching .ordered .happening .cell _ _ (omega (arith, s .pre .2)) (omega (arith, s .pre .3)) in
-    let g = c .before .before .before .before .before .before .before .before .before .before .grid-bit .ensures ∙ s .pre .5 .hosting .cell _ _ (s .pre .2) (s .pre .3) in
+    let s = c .before .before .before .before .before .before .before .before .before .before .before .before .before .before .before
+    .before .before .before .before .before in
+    let h = c .before .before .before .before .before .before .before .before .before .before .before .before .happens-bit .ensures
+    ∙ s .pre .5 .reaching .ordered .happening .cell _ _ (omega (arith, s .pre .2)) (omega (arith, s .pre .3)) in
+    let g = c .before .before .before .before .before .before .before .before .before .before .grid-bit .ensures
+    ∙ s .pre .5 .hosting .cell _ _ (s .pre .2) (s .pre .3) in
     let q = c .before .before .before .before .before .before .before .before .before .before .before .before .before .before .read-row .ensures in
-    filled-cong _ _ _ _ _ (pair-third _ _ _ _ _ (s .pre .4) q _ _ _ _ h g (c .before .before .before .before .before .before .before .before .before .l1 .ensures) (c .before .before .before .before .before .before .before .before .l2 .ensures) (c .before .before .before .before .before .before .before .if2 .left) (sym (c .before .before .before .before .before .public-write .ensures) ∙ not-false _ (c .before .before .before .before .if4 .left))) (c .before .before .fill-third .ensures)
+    filled-cong _ _ _ _ _ (pair-third _ _ _ _ _ (s .pre .4) q _ _ _ _ h g
+    (c .before .before .before .before .before .before .before .before .before .l1 .ensures)
+    (c .before .before .before .before .before .before .before .before .l2 .ensures)
+    (c .before .before .before .before .before .before .before .if2 .left)
+    (sym (c .before .before .before .before .before .public-write .ensures)
+    ∙ not-false _ (c .before .before .before .before .if4 .left))) (c .before .before .fill-third .ensures)
 
 pub fill-pair-spec : {M : Type 1} → statement M
 fill-pair-spec =

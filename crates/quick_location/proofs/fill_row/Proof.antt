@@ -70,8 +70,15 @@ loop-holds : tie.Need-loop-holds Inv-loop μ-loop
 loop-holds c =
     let pre = c .before .before .before .before .before .before .before .before .before .pre in
     let next = c .next .ensures in
-    let first = c .before .before .first-from .ensures in
-    (next .high, refl, c .before .before .before .before .before .read-row .ensures, pre .3, row-pass _ _ (pre .3) (pre .2) next (gridFill-none _ _ _ _ _), first .0, first .1 _ _)
+    let first = c .before .before .first-from .ensures in (
+      next .high,
+      refl,
+      c .before .before .before .before .before .read-row .ensures,
+      pre .3,
+      row-pass _ _ (pre .3) (pre .2) next (gridFill-none _ _ _ _ _),
+      first .0,
+      first .1 _ _,
+    )
 
 -- src/lib.rt:116:9
 fill-pair-requires : tie.Need-fill-pair-requires Inv-loop μ-loop
@@ -106,7 +113,8 @@ same-length c = search needs
 
 -- src/lib.rt:103:1
 returns-2 : tie.Need-returns-2 Inv-loop μ-loop
-returns-2 c = let e : c .before .loop .y ≡ c .before .before .before .before .before .before .before .before .before .before .before .args .n = omega arith in rw e at (c .before .loop .inv .4)
+returns-2 c = let e : c .before .loop .y ≡ c .before .before .before .before .before .before .before .before .before .before
+    .before .args .n = omega arith in rw e at (c .before .loop .inv .4)
 
 pub fill-row-spec : {M : Type 1} → statement M
 fill-row-spec =

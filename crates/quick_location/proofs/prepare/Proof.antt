@@ -36,7 +36,8 @@ returns : tie.Need-returns
 returns c =
     let s = c .before .before .before .before .before .before .before .before .before .before .before .before .before .before in
     made-prepared (c .before .before .before .before .before .before .before .before .before .before .make-hosted .ensures)
-    (table-sharing (s .args .rows .now) (s .args .p) (s .args .mode) (c .before .before .before .before .before .before .fill-overlaps .ensures)) (c .before .before .make-reach .ensures)
+    (table-sharing (s .args .rows .now) (s .args .p) (s .args .mode)
+    (c .before .before .before .before .before .before .fill-overlaps .ensures)) (c .before .before .make-reach .ensures)
 
 pub prepare-spec : {M : Type 1} → statement M
 prepare-spec =

@@ -50,8 +50,11 @@ returns c =
     let concern = at-concern .fill-concern .ensures in
     let hops = at-hops .fill-hops .ensures in
     let closed = at-close .close-own .ensures in
-    let added = at-sources .add-sources .ensures in
-    (closed-frame _ _ _ _ _ _ _ _ (pre .0) release concern (hops .0) closed (added .0), λ t h. grown-made _ t _ _ _ _ _ _ (pre .0) (pre .1) h low release concern _ _ _ (hops .2 t _ (setup-made _ t _ _ _ _ _ _ (pre .0) (pre .1) h low release concern)) closed (added .1) (added .0))
+    let added = at-sources .add-sources .ensures in (
+      closed-frame _ _ _ _ _ _ _ _ (pre .0) release concern (hops .0) closed (added .0),
+      λ t h. grown-made _ t _ _ _ _ _ _ (pre .0) (pre .1) h low release concern _ _ _
+          (hops .2 t _ (setup-made _ t _ _ _ _ _ _ (pre .0) (pre .1) h low release concern)) closed (added .1) (added .0),
+    )
 
 pub close-set-spec : {M : Type 1} → statement M
 close-set-spec =

@@ -21,7 +21,8 @@ use Rattle.quick_order.proofs.start.Reads as start-reads
 abbrev Inv-loop : tie.InvT-loop
 Inv-loop rows n w₀ dep s₀ w s =
     (s ≤ CLASS-SETS) × Within HAPPENS CONCERN-END w₀ w
-    × ((p : List (List ℕ)) (mode : Mode) → dep ≡ ltb 0 (mode .dependencies) → Reached (decode rows p mode n) n CLASS-SETS w₀ → Reached (decode rows p mode n) n (CLASS-SETS - s) w)
+    × ((p : List (List ℕ)) (mode : Mode) → dep ≡ ltb 0 (mode .dependencies) → Reached (decode rows p mode n) n CLASS-SETS w₀
+    → Reached (decode rows p mode n) n (CLASS-SETS - s) w)
 
 abbrev μ-loop : tie.MeasureT-loop
 μ-loop rows n w₀ dep s₀ w s = CLASS-SETS - s
@@ -73,8 +74,10 @@ returns : tie.Need-returns Inv-loop μ-loop
 returns c =
     let e : CLASS-SETS - c .before .loop .s ≡ 0 = omega arith in
     let inv = c .before .loop .inv in
-    let started = c .before .before .before .before .before .start .ensures in
-    (ordered-made e (inv .2 _ _ refl (reached-start started)), within-trans (started .frame) (within-widen MUTUAL LOCATED-END (omega arith) (omega arith) (inv .1)))
+    let started = c .before .before .before .before .before .start .ensures in (
+      ordered-made e (inv .2 _ _ refl (reached-start started)),
+      within-trans (started .frame) (within-widen MUTUAL LOCATED-END (omega arith) (omega arith) (inv .1)),
+    )
 
 pub happens-before-spec : {M : Type 1} → statement M
 happens-before-spec =

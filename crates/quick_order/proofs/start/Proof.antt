@@ -48,7 +48,9 @@ returns c =
     let at-joined = at-depends .before .before .before .before in
     let at-order = at-joined .before .before .before .before in
     let at-synced = at-order .before .before .before .before in
-    started-made _ _ _ _ _ _ _ _ _ _ _ (at-synced .before .before .before .before .pre .0) (at-synced .make-synced .ensures) (at-order .fill-order .ensures _ _) (at-joined .fill-joined .ensures) (at-depends .fill-depends .ensures) (at-releasing .fill-releasing .ensures) (at-touched .fill-classes .ensures)
+    started-made _ _ _ _ _ _ _ _ _ _ _ (at-synced .before .before .before .before .pre .0) (at-synced .make-synced .ensures)
+    (at-order .fill-order .ensures _ _) (at-joined .fill-joined .ensures) (at-depends .fill-depends .ensures)
+    (at-releasing .fill-releasing .ensures) (at-touched .fill-classes .ensures)
 
 pub start-spec : {M : Type 1} → statement M
 start-spec =

@@ -41,7 +41,8 @@ returns-3 : tie.Need-returns-3
 unfolding decode
 returns-3 c =
     let s = c .before .before .before .before .before .before in
-    c .get .ensures ∙ before-bit _ _ _ _ _ _ _ _ (s .pre .3 .3) (s .pre .0) (s .pre .1) (ap (λ (z : Row). z .start) (s .pre .2)) (search needs) (search needs) (omega arith)
+    c .get .ensures ∙ before-bit _ _ _ _ _ _ _ _ (s .pre .3 .3) (s .pre .0) (s .pre .1) (ap (λ (z : Row). z .start) (s .pre .2))
+    (search needs) (search needs) (omega arith)
 
 pub before-byte-spec : {M : Type 1} → statement M
 before-byte-spec = tie.close (tie.spec cast-start returns cast-k returns-2 get-requires returns-3)

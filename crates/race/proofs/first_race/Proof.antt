@@ -83,8 +83,14 @@ next-requires c κs = search needs
 -- src/lib.rt:135:9
 loop-holds : tie.Need-loop-holds Inv-loop2 μ-loop2 Inv-loop μ-loop Inv-pairs μ-pairs
 loop-holds c =
-    let next = c .next .ensures in
-    (omega (arith, next .low), next .high, c .before .before .before .before .before .pairs .inv .1, row-pass _ _ _ _ _ _ (c .before .before .before .before .before .before .before .before .pre .1 .3 .overlapping) (c .before .before .before .before .pairs-test .taken) next (row-starts _ _), search needs)
+    let next = c .next .ensures in (
+      omega (arith, next .low),
+      next .high,
+      c .before .before .before .before .before .pairs .inv .1,
+      row-pass _ _ _ _ _ _ (c .before .before .before .before .before .before .before .before .pre .1 .3 .overlapping)
+          (c .before .before .before .before .pairs-test .taken) next (row-starts _ _),
+      search needs,
+    )
 
 -- src/lib.rt:137:42
 add-next-2 : tie.Need-add-next-2 Inv-loop2 μ-loop2 Inv-loop μ-loop Inv-pairs μ-pairs
@@ -105,7 +111,13 @@ read-row-requires-2 c κs = search needs
 
 -- src/lib.rt:139:17
 may-race-requires : tie.Need-may-race-requires Inv-loop2 μ-loop2 Inv-loop μ-loop Inv-pairs μ-pairs
-may-race-requires c κs = (c .before .before .before .before .before .before .before .before .pairs-test .taken, c .before .before .loop-test .taken, c .before .before .before .before .before .before .before .read-row .ensures, c .read-row2 .ensures, c .before .before .before .before .before .before .before .before .before .before .before .before .pre .1)
+may-race-requires c κs = (
+  c .before .before .before .before .before .before .before .before .pairs-test .taken,
+  c .before .before .loop-test .taken,
+  c .before .before .before .before .before .before .before .read-row .ensures,
+  c .read-row2 .ensures,
+  c .before .before .before .before .before .before .before .before .before .before .before .before .pre .1,
+)
 
 -- src/lib.rt:135:9
 loop-less : tie.Need-loop-less Inv-loop2 μ-loop2 Inv-loop μ-loop Inv-pairs μ-pairs
@@ -117,8 +129,15 @@ unfolding decode
 loop-again c =
     let inv = c .before .before .before .before .before .loop .inv in
     let next = c .before .before .before .next2 .ensures in
-    let e = least-more _ _ (inv .3) (pair-off _ _ _ (sym (c .before .may-race .ensures) ∙ not-true _ (c .if1 .taken))) in
-    (omega (arith, inv .0, next .low), next .high, inv .2, row-pass _ _ _ _ _ _ (c .before .before .before .before .before .before .before .before .before .before .before .before .before .before .pre .1 .3 .overlapping) (c .before .before .before .before .before .before .before .before .before .before .pairs-test .taken) next e, inv .4)
+    let e = least-more _ _ (inv .3) (pair-off _ _ _ (sym (c .before .may-race .ensures) ∙ not-true _ (c .if1 .taken))) in (
+      omega (arith, inv .0, next .low),
+      next .high,
+      inv .2,
+      row-pass _ _ _ _ _ _ (c .before .before .before .before .before .before .before .before .before .before .before .before .before
+          .before .pre .1 .3 .overlapping) (c .before .before .before .before .before .before .before .before .before
+          .before .pairs-test .taken) next e,
+      inv .4,
+    )
 
 -- src/lib.rt:142:17
 lowest-byte-requires :
@@ -128,16 +147,25 @@ lowest-byte-requires c κs = search needs
 -- src/lib.rt:143:17
 loop2-holds : tie.Need-loop2-holds Inv-loop2 μ-loop2 Inv-loop μ-loop Inv-pairs μ-pairs
 unfolding decode
-loop2-holds c = none-starts _ _ _ _ _ _ (c .before .before .before .before .before .before .before .before .before .before .read-row .ensures) (c .before .before .before .read-row2 .ensures) (c .lowest-byte .ensures)
+loop2-holds c = none-starts _ _ _ _ _ _ (c .before .before .before .before .before .before .before .before .before
+    .before .read-row .ensures) (c .before .before .before .read-row2 .ensures) (c .lowest-byte .ensures)
 
 -- src/lib.rt:147:20
 unordered-at-requires :
     tie.Need-unordered-at-requires Inv-loop2 μ-loop2 Inv-loop μ-loop Inv-pairs μ-pairs
-unordered-at-requires c κs = (c .before .before .before .before .before .before .before .before .before .before .before .before .before .pairs-test .taken, c .before .before .before .before .before .before .before .loop-test .taken, c .before .before .before .before .before .before .before .before .before .before .before .before .read-row .ensures, c .before .before .before .before .before .read-row2 .ensures, c .before .before .before .before .before .before .before .before .before .before .before .before .before .before .before .before .before .pre .1)
+unordered-at-requires c κs = (
+  c .before .before .before .before .before .before .before .before .before .before .before .before
+      .before .pairs-test .taken,
+  c .before .before .before .before .before .before .before .loop-test .taken,
+  c .before .before .before .before .before .before .before .before .before .before .before .before .read-row .ensures,
+  c .before .before .before .before .before .read-row2 .ensures,
+  c .before .before .before .before .before .before .before .before .before .before .before .before .before .before .before .before .before .pre .1,
+)
 
 -- src/lib.rt:150:17
 add-b : tie.Need-add-b Inv-loop2 μ-loop2 Inv-loop μ-loop Inv-pairs μ-pairs
-add-b c = let l = c .before .before .if2 .left in let m = c .before .before .before .before .before .before .before .before .before .before .loop .inv .4 in search needs
+add-b c = let l = c .before .before .if2 .left in
+    let m = c .before .before .before .before .before .before .before .before .before .before .loop .inv .4 in search needs
 
 -- src/lib.rt:143:17
 loop2-less : tie.Need-loop2-less Inv-loop2 μ-loop2 Inv-loop μ-loop Inv-pairs μ-pairs
@@ -149,18 +177,28 @@ loop2-again c = none-more _ _ _ _ (c .before .before .before .loop2 .inv) (sym (
 
 -- src/lib.rt:154:28
 cast-t28 : tie.Need-cast-t28 Inv-loop2 μ-loop2 Inv-loop μ-loop Inv-pairs μ-pairs
-cast-t28 c = let l = c .before .before .before .before .before .before .before .before .before .before .before .before .before .before .pairs-test .taken in let k = c .before .before .before .before .before .before .before .before .loop-test .taken in let m = c .before .before .before .before .before .before .before .before .before .before .before .before .before .before .before .before .before .before .pre .1 .0 in search needs
+cast-t28 c = let l = c .before .before .before .before .before .before .before .before .before .before .before .before .before
+    .before .pairs-test .taken in let k = c .before .before .before .before .before .before .before .before .loop-test .taken in
+    let m = c .before .before .before .before .before .before .before .before .before .before .before .before .before .before .before
+    .before .before .before .pre .1 .0 in search needs
 
 -- src/lib.rt:155:29
 cast-t29 : tie.Need-cast-t29 Inv-loop2 μ-loop2 Inv-loop μ-loop Inv-pairs μ-pairs
-cast-t29 c = let l = c .before .before .before .before .before .before .before .before .before .before .before .before .before .before .pairs-test .taken in let k = c .before .before .before .before .before .before .before .before .loop-test .taken in let m = c .before .before .before .before .before .before .before .before .before .before .before .before .before .before .before .before .before .before .pre .1 .0 in search needs
+cast-t29 c = let l = c .before .before .before .before .before .before .before .before .before .before .before .before .before
+    .before .pairs-test .taken in let k = c .before .before .before .before .before .before .before .before .loop-test .taken in
+    let m = c .before .before .before .before .before .before .before .before .before .before .before .before .before .before .before
+    .before .before .before .pre .1 .0 in search needs
 
 -- src/lib.rt:156:27
 cast-t30 : tie.Need-cast-t30 Inv-loop2 μ-loop2 Inv-loop μ-loop Inv-pairs μ-pairs
 unfolding decode
 cast-t30 c =
     let may = sym (c .before .before .before .before .before .before .may-race .ensures) ∙ not-false _ (c .before .before .before .before .before .if1 .left) in
-    let f = race-ends _ _ _ (c .before .before .before .before .before .before .before .before .before .before .before .before .before .before .before .before .before .before .before .pre .0) _ (c .before .before .before .before .before .before .before .before .before .before .before .before .before .before .read-row .ensures) (c .before .before .before .before .before .before .before .before .before .before .before .before .before .before .before .pairs-test .taken) may in
+    let f = race-ends _ _ _ (c .before .before .before .before .before .before .before .before .before .before .before .before .before
+    .before .before .before .before .before .before .pre .0) _
+    (c .before .before .before .before .before .before .before .before .before .before .before .before .before
+    .before .read-row .ensures) (c .before .before .before .before .before .before .before .before .before .before .before .before
+    .before .before .before .pairs-test .taken) may in
     let l = c .before .if4 .taken in
     search needs
 
@@ -179,9 +217,16 @@ loop-again-2 c =
     (at .if2 .came)
     in
     let inv = c .before .before .before .before .before .before .before .before .before .loop .inv in
-    let none = pair-none _ _ _ (c .before .before .before .before .before .before .before .before .before .before .before .before .before .before .before .before .before .before .pre .1 .2) (c .before .before .before .before .before .before .before .before .before .before .before .before .before .before .pairs-test .taken) _ _ (c .before .before .before .before .before .before .before .before .before .before .before .before .before .read-row .ensures) (found .0) (c .if4 .left) in
+    let none = pair-none _ _ _ (c .before .before .before .before .before .before .before .before .before .before .before .before .before
+    .before .before .before .before .before .pre .1 .2)
+    (c .before .before .before .before .before .before .before .before .before .before .before .before .before
+    .before .pairs-test .taken) _ _ (c .before .before .before .before .before .before .before .before .before .before .before .before
+    .before .read-row .ensures) (found .0) (c .if4 .left) in
     let next = c .before .before .before .before .before .before .before .next2 .ensures in
-    let more = row-pass _ _ _ _ _ _ (c .before .before .before .before .before .before .before .before .before .before .before .before .before .before .before .before .before .before .pre .1 .3 .overlapping) (c .before .before .before .before .before .before .before .before .before .before .before .before .before .before .pairs-test .taken) next (least-more _ _ (inv .3) none) in
+    let more = row-pass _ _ _ _ _ _ (c .before .before .before .before .before .before .before .before .before .before .before .before
+    .before .before .before .before .before .before .pre .1 .3 .overlapping)
+    (c .before .before .before .before .before .before .before .before .before .before .before .before .before
+    .before .pairs-test .taken) next (least-more _ _ (inv .3) none) in
     (omega (arith, inv .0, next .low), next .high, inv .2, more, inv .4)
 
 -- src/lib.rt:129:17
@@ -196,8 +241,12 @@ pairs-less c = search needs
 pairs-again : tie.Need-pairs-again Inv-loop2 μ-loop2 Inv-loop μ-loop Inv-pairs μ-pairs
 unfolding decode
 pairs-again c =
-    let e : c .before .loop .next ≡ c .before .before .before .before .before .before .before .before .before .before .args .n = omega arith in
-    (search needs, c .before .loop .inv .2, least-more _ _ (c .before .before .before .before .before .before .before .pairs .inv .2) (row-off _ _ _ refl (rw e at (c .before .loop .inv .3))))
+    let e : c .before .loop .next ≡ c .before .before .before .before .before .before .before .before .before .before .args .n = omega arith in (
+      search needs,
+      c .before .loop .inv .2,
+      least-more _ _ (c .before .before .before .before .before .before .before .pairs .inv .2)
+          (row-off _ _ _ refl (rw e at (c .before .loop .inv .3))),
+    )
 
 -- src/lib.rt:124:1
 returns : tie.Need-returns Inv-loop2 μ-loop2 Inv-loop μ-loop Inv-pairs μ-pairs
@@ -218,10 +267,14 @@ returns-2 c =
     in
     let inv = c .before .before .before .before .before .before .before .before .before .before .loop .inv in
     let may = sym (c .before .before .before .before .before .before .may-race .ensures) ∙ not-false _ (c .before .before .before .before .before .if1 .left) in
-    let sized = c .before .before .before .before .before .before .before .before .before .before .before .before .before .before .before .before .before .before .before .pre .1 .2 in
+    let sized = c .before .before .before .before .before .before .before .before .before .before .before .before .before .before .before
+    .before .before .before .before .pre .1 .2 in
     let row = c .before .before .before .before .before .before .before .before .before .before .before .before .before .before .before .pairs-test .taken in
     let hit = found .1 (c .before .if4 .taken) in
-    race-found _ _ _ _ (c .before .before .before .before .before .before .before .before .before .before .before .before .before .before .before .before .pairs .inv .2) row (inv .3) (c .before .before .before .before .before .before .before .before .before .loop-test .taken) (pair-on _ _ _ sized row _ (inv .0) may (found .0) hit)
+    race-found _ _ _ _ (c .before .before .before .before .before .before .before .before .before .before .before .before .before .before
+    .before .before .pairs .inv .2) row (inv .3)
+    (c .before .before .before .before .before .before .before .before .before .loop-test .taken)
+    (pair-on _ _ _ sized row _ (inv .0) may (found .0) hit)
     (race-byte _ _ _ sized row _ (found .0) hit)
 
 pub first-race-spec : {M : Type 1} → statement M

@@ -49,7 +49,8 @@ returns-2 : tie.Need-returns-2
 unfolding lowestByte byteOr
 returns-2 c =
     let r = c .before .before .before .before .before .args .r in
-    sym (ap (λ (z : Shared). byteOr z (r .start + r .size)) (sym (c .before .before .before .before .lowest-shared .ensures) ∙ c .before .before .enum-told .given .1))
+    sym (ap (λ (z : Shared). byteOr z (r .start + r .size))
+    (sym (c .before .before .before .before .lowest-shared .ensures) ∙ c .before .before .enum-told .given .1))
 
 pub lowest-byte-spec : {M : Type 1} → statement M
 lowest-byte-spec =

@@ -64,20 +64,25 @@ array-share-prefix-all c =
 -- src/lib.rt:173:16
 slice-aggregate-judge-rows : tie.Need-slice-aggregate-judge-rows
 slice-aggregate-judge-rows c =
-    let few = few-both _ _ _ _ (c .before .before .before .before .before .before .before .admit-both .ensures) (c .before .before .before .before .before .a .given .1) in
+    let few = few-both _ _ _ _ (c .before .before .before .before .before .before .before .admit-both .ensures)
+    (c .before .before .before .before .before .a .given .1) in
     front-length _ _ _ (c .before .join-rows .ensures) (omega arith)
 
 -- src/lib.rt:173:5
 judge-rows-requires : tie.Need-judge-rows-requires
 judge-rows-requires c κs =
     let at = c .before in
-    rows-both _ _ _ _ (at .before .before .before .before .before .before .admit-both .ensures) (at .before .before .before .before .a .given .1) _ _ _ _ (at .join-rows .ensures) (at .before .before .read-places .ensures) (at .before .read-mode .ensures)
+    rows-both _ _ _ _ (at .before .before .before .before .before .before .admit-both .ensures)
+    (at .before .before .before .before .a .given .1) _ _ _ _ (at .join-rows .ensures) (at .before .before .read-places .ensures)
+    (at .before .read-mode .ensures)
 
 -- src/lib.rt:150:1
 returns-2 : tie.Need-returns-2
 returns-2 c =
     let at = c .before .before in
-    both-judged _ _ _ (at .before .before .before .before .before .before .admit-both .ensures) _ _ _ _ (at .before .before .before .before .a .given .1) _ _ _ (at .join-rows .ensures) (at .before .before .read-places .ensures) (at .before .read-mode .ensures) _ (c .judge-rows .ensures)
+    both-judged _ _ _ (at .before .before .before .before .before .before .admit-both .ensures) _ _ _ _
+    (at .before .before .before .before .a .given .1) _ _ _ (at .join-rows .ensures) (at .before .before .read-places .ensures)
+    (at .before .read-mode .ensures) _ (c .judge-rows .ensures)
 
 pub accepts-both-spec : {M : Type 1} → statement M
 accepts-both-spec =

@@ -42,7 +42,8 @@ is-step-requires c κs = search needs
 returns : tie.Need-returns Inv-loop μ-loop
 returns c =
     let inv = c .before .before .before .before .loop .inv in
-    leads-broken _ _ _ _ _ _ _ _ _ (c .before .before .before .loop-test .taken) (broken-is _ _ _ _ _ _ _ _ _ _ (inv .1) (c .before .is-step .ensures) ∙ c .if1 .taken)
+    leads-broken _ _ _ _ _ _ _ _ _ (c .before .before .before .loop-test .taken)
+    (broken-is _ _ _ _ _ _ _ _ _ _ (inv .1) (c .before .is-step .ensures) ∙ c .if1 .taken)
 
 -- src/lib.rt:69:13
 mul-m : tie.Need-mul-m Inv-loop μ-loop

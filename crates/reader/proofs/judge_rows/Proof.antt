@@ -29,22 +29,27 @@ is-accepted-requires : tie.Need-is-accepted-requires
 unfolding _and_
 is-accepted-requires c κs =
     let there = c .before in
-    let start = there .before .before .before .before in
-    (few (start .pre), first-low _ _ _ _ _ _ _ _ (there .before .is-there .ensures) (c .if1 .left), second-low _ _ _ _ (start .args .m) _ (there .before .is-there .result) _ (there .is-there2 .ensures) (c .if1 .left))
+    let start = there .before .before .before .before in (
+      few (start .pre),
+      first-low _ _ _ _ _ _ _ _ (there .before .is-there .ensures) (c .if1 .left),
+      second-low _ _ _ _ (start .args .m) _ (there .before .is-there .result) _ (there .is-there2 .ensures) (c .if1 .left),
+    )
 
 -- src/lib.rt:143:9
 returns-2 : tie.Need-returns-2
 unfolding _and_
 returns-2 c =
     let there = c .before .before .before in
-    judged-accepted _ _ _ _ _ _ _ _ _ _ (there .before .is-there .ensures) (there .is-there2 .ensures) (c .before .before .if1 .left) _ (c .before .is-accepted .ensures) (c .if2 .taken)
+    judged-accepted _ _ _ _ _ _ _ _ _ _ (there .before .is-there .ensures) (there .is-there2 .ensures) (c .before .before .if1 .left) _
+    (c .before .is-accepted .ensures) (c .if2 .taken)
 
 -- src/lib.rt:126:1
 returns-3 : tie.Need-returns-3
 unfolding _and_
 returns-3 c =
     let there = c .before .before .before in
-    judged-other _ _ _ _ _ _ _ _ _ _ (there .before .is-there .ensures) (there .is-there2 .ensures) (c .before .before .if1 .left) _ (c .before .is-accepted .ensures) (c .if2 .left)
+    judged-other _ _ _ _ _ _ _ _ _ _ (there .before .is-there .ensures) (there .is-there2 .ensures) (c .before .before .if1 .left) _
+    (c .before .is-accepted .ensures) (c .if2 .left)
 
 pub judge-rows-spec : {M : Type 1} → statement M
 judge-rows-spec =

@@ -39,7 +39,9 @@ same-length c = search needs
 returns-2 : tie.Need-returns-2
 returns-2 c =
     let set = c .before .before .before .find-set .ensures in
-    told-none _ _ _ (sym (c .before .before .before .before .before .before .before .before .before .before .ordered-at .ensures _ _) ∙ c .before .before .before .before .before .before .before .before .before .if1 .left) _ (set .0) _ (c .if2 .taken) (c .before .before .before .before .before .before .before .make-synced .ensures .frame) (set .1)
+    told-none _ _ _ (sym (c .before .before .before .before .before .before .before .before .before .before .ordered-at .ensures _ _)
+    ∙ c .before .before .before .before .before .before .before .before .before .if1 .left) _ (set .0) _ (c .if2 .taken)
+    (c .before .before .before .before .before .before .before .make-synced .ensures .frame) (set .1)
 
 -- src/lib.rt:68:36
 mul-layer-of : tie.Need-mul-layer-of
@@ -61,7 +63,8 @@ add-write-steps c = search needs
 write-steps-requires : tie.Need-write-steps-requires
 unfolding decode
 write-steps-requires c κs =
-    let pre = c .before .before .before .before .before .before .before .before .before .before .before .before .before .before .before .before .before .before .pre in
+    let pre = c .before .before .before .before .before .before .before .before .before .before .before .before .before .before .before
+    .before .before .before .pre in
     let set = c .before .before .before .before .before .before .before .find-set .ensures in
     let less = c .before .before .before .before .if2 .left in
     let held = set .2 less in
@@ -90,12 +93,18 @@ same-length-3 c = search needs
 returns-3 : tie.Need-returns-3
 unfolding decode
 returns-3 c =
-    let pre = c .before .before .before .before .before .before .before .before .before .before .before .before .before .before .before .before .before .before .before .before .before .pre in
+    let pre = c .before .before .before .before .before .before .before .before .before .before .before .before .before .before .before
+    .before .before .before .before .before .before .pre in
     let set = c .before .before .before .before .before .before .before .before .before .before .find-set .ensures in
     let less = c .before .before .before .before .before .before .before .if2 .left in
     let made = c .before .before .before .before .before .before .before .before .before .before .before .before .before .before .make-synced .ensures in
     let written = c .before .before .write-steps .ensures _ _ (synced-kept (omega arith) (set .1) (made .synced)) in
-    told-chain refl (pre .0) (pre .3) (pre .4) (pre .5) (set .0) less (set .2 less) _ (c .before .before .before .before .before .layer-of .ensures .0) (sym (c .before .before .before .before .before .before .before .before .before .before .before .before .before .before .before .before .before .ordered-at .ensures _ _) ∙ c .before .before .before .before .before .before .before .before .before .before .before .before .before .before .before .before .if1 .left) (pre .2) (made .frame) (set .1) written
+    told-chain refl (pre .0) (pre .3) (pre .4) (pre .5) (set .0) less (set .2 less) _
+    (c .before .before .before .before .before .layer-of .ensures .0)
+    (sym (c .before .before .before .before .before .before .before .before .before .before .before .before .before .before .before
+    .before .before .ordered-at .ensures _ _)
+    ∙ c .before .before .before .before .before .before .before .before .before .before .before .before .before .before .before
+    .before .if1 .left) (pre .2) (made .frame) (set .1) written
 
 pub derive-moments-spec : {M : Type 1} → statement M
 derive-moments-spec =

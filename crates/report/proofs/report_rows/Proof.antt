@@ -56,8 +56,13 @@ same-length-2 c = search needs
 -- src/lib.rt:52:1
 returns : tie.Need-returns
 returns c =
-    let pre = c .before .before .before .before .before .before .before .before .before .before .before .before .before .before .before .before .before .before .before .before .before .before .pre in
-    rows-reported _ _ _ _ _ _ _ _ _ _ _ _ _ (c .before .before .before .before .before .before .before .before .before .before .before .before .before .before .before .before .before .before .read-sources .ensures) (pre .0) (c .before .before .before .before .before .before .before .before .before .before .before .before .before .before .before .before .locate .ensures .1) (c .before .before .before .before .before .before .before .before .before .before .judge .ensures) (c .before .before .before .before .answer .ensures) (c .before .before .clear .ensures)
+    let pre = c .before .before .before .before .before .before .before .before .before .before .before .before .before .before .before
+    .before .before .before .before .before .before .before .pre in
+    rows-reported _ _ _ _ _ _ _ _ _ _ _ _ _ (c .before .before .before .before .before .before .before .before .before .before .before
+    .before .before .before .before .before .before .before .read-sources .ensures) (pre .0)
+    (c .before .before .before .before .before .before .before .before .before .before .before .before .before .before .before
+    .before .locate .ensures .1) (c .before .before .before .before .before .before .before .before .before .before .judge .ensures)
+    (c .before .before .before .before .answer .ensures) (c .before .before .clear .ensures)
 
 pub report-rows-spec : {M : Type 1} → statement M
 report-rows-spec =

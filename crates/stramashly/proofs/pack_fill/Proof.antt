@@ -52,7 +52,8 @@ returns c = c .pack .ensures ∙ sym (ap (λ (a : FillAnswer). packFill a (c .be
 -- src/lib.rt:39:1
 returns-2 : tie.Need-returns-2
 unfolding packFill
-returns-2 c = c .pack2 .ensures ∙ sym (ap (λ (a : FillAnswer). packFill a (c .before .before .before .before .args .rows)) (c .before .before .answer2 .given .1))
+returns-2 c = c .pack2 .ensures ∙ sym (ap (λ (a : FillAnswer). packFill a (c .before .before .before .before .args .rows))
+    (c .before .before .answer2 .given .1))
 
 -- src/lib.rt:39:1
 returns-3 : tie.Need-returns-3

@@ -40,7 +40,8 @@ pack-requires-2 c κs = search needs
 
 -- src/lib.rt:279:9
 returns-2 : tie.Need-returns-2
-returns-2 c = row-end _ _ _ (c .before .before .before .before .before .if1 .left) _ (c .before .before .before .before .next-at .ensures) _ (c .before .before .before .step-at .ensures) _ (c .before .enum-told .given .1) (c .pack2 .ensures)
+returns-2 c = row-end _ _ _ (c .before .before .before .before .before .if1 .left) _ (c .before .before .before .before .next-at .ensures) _
+    (c .before .before .before .step-at .ensures) _ (c .before .enum-told .given .1) (c .pack2 .ensures)
 
 -- src/lib.rt:281:26
 row-bytes-requires : tie.Need-row-bytes-requires
@@ -64,7 +65,11 @@ same-length c = search needs
 
 -- src/lib.rt:268:1
 returns-3 : tie.Need-returns-3
-returns-3 c = row-put _ _ _ (c .before .before .before .before .before .before .before .before .before .before .before .before .if1 .left) _ (c .before .before .before .before .before .before .before .before .before .before .before .next-at .ensures) _ (c .before .before .before .before .before .before .before .before .before .before .step-at .ensures) _ _ _ _ _ (c .before .before .before .before .before .before .before .before .step .given .1) (c .before .before .before .before .before .row-bytes .ensures) (c .before .before .before .put .ensures) (c .pack3 .ensures)
+returns-3 c = row-put _ _ _ (c .before .before .before .before .before .before .before .before .before .before .before .before .if1 .left) _
+    (c .before .before .before .before .before .before .before .before .before .before .before .next-at .ensures) _
+    (c .before .before .before .before .before .before .before .before .before .before .step-at .ensures) _ _ _ _ _
+    (c .before .before .before .before .before .before .before .before .step .given .1)
+    (c .before .before .before .before .before .row-bytes .ensures) (c .before .before .before .put .ensures) (c .pack3 .ensures)
 
 pub stramashly-row-spec : {M : Type 1} → statement M
 stramashly-row-spec =

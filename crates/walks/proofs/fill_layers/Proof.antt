@@ -47,8 +47,12 @@ loop-holds : tie.Need-loop-holds Inv-loop μ-loop
 loop-holds c =
     let at-put = c .before .before in
     let at-clear = at-put .before .before .before .before in
-    let start = at-clear .before .before .before in
-    (search needs, refl, rounds-none _ _ _ _ (start .pre .0 .0) (start .pre .1) _ _ _ _ (start .pre .2) (start .pre .0 .1) (at-clear .clear .ensures) (at-put .put .ensures))
+    let start = at-clear .before .before .before in (
+      search needs,
+      refl,
+      rounds-none _ _ _ _ (start .pre .0 .0) (start .pre .1) _ _ _ _ (start .pre .2) (start .pre .0 .1)
+          (at-clear .clear .ensures) (at-put .put .ensures),
+    )
 
 mul-at : tie.Need-mul-at Inv-loop μ-loop
 mul-at c =
@@ -99,7 +103,9 @@ loop-again : tie.Need-loop-again Inv-loop μ-loop
 loop-again c =
     let at-loop = c .before .before .before .before .before .before .before .before in
     let start = at-loop .before .before .before .before .before .before .before .before .before .before in
-    let more = rounds-more _ _ _ _ (start .pre .0 .0) (start .pre .1) _ _ _ _ _ (search needs) (c .before .before .before .before .before .before .before .loop-test .taken) (at-loop .loop .inv .2) (c .before .before .fill-after .ensures) in
+    let more = rounds-more _ _ _ _ (start .pre .0 .0) (start .pre .1) _ _ _ _ _ (search needs)
+    (c .before .before .before .before .before .before .before .loop-test .taken) (at-loop .loop .inv .2)
+    (c .before .before .fill-after .ensures) in
     (search needs, more .frame .len, more)
 
 same-length-2 : tie.Need-same-length-2 Inv-loop μ-loop
@@ -111,7 +117,8 @@ returns-2 c =
     let at-clear = at-put .before .before .before .before in
     let start = at-clear .before .before .before in
     let e : c .before .loop .k ≡ start .args .n = omega arith in
-    rounds-done _ _ _ _ (start .pre .0 .0) (start .pre .1) _ _ _ _ (start .pre .2) (start .pre .0 .1) (at-clear .clear .ensures) (at-put .put .ensures) (rw e at (c .before .loop .inv .2))
+    rounds-done _ _ _ _ (start .pre .0 .0) (start .pre .1) _ _ _ _ (start .pre .2) (start .pre .0 .1) (at-clear .clear .ensures)
+    (at-put .put .ensures) (rw e at (c .before .loop .inv .2))
 
 pub fill-layers-spec : {M : Type 1} → statement M
 fill-layers-spec =

@@ -40,7 +40,11 @@ get-requires : tie.Need-get-requires Inv-loop μ-loop
 get-requires c κs = let a = c .before .before .before .args in omega (arith, row-apart (c .before .loop .j) (a .n) (a .stride) (c .loop-test .taken))
 
 returns : tie.Need-returns Inv-loop μ-loop
-returns c = (sym (least-found _ _ _ (c .before .before .before .loop .inv .1) (in-layer-bit _ _ _ _ _ ∙ sym (c .before .get .ensures) ∙ c .if1 .taken) (c .before .before .loop-test .taken)), search needs)
+returns c = (
+  sym (least-found _ _ _ (c .before .before .before .loop .inv .1)
+      (in-layer-bit _ _ _ _ _ ∙ sym (c .before .get .ensures) ∙ c .if1 .taken) (c .before .before .loop-test .taken)),
+  search needs,
+)
 
 add-j : tie.Need-add-j Inv-loop μ-loop
 add-j c = search needs

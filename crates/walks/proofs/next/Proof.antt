@@ -24,7 +24,15 @@ add-first-both-2 : tie.Need-add-first-both-2
 add-first-both-2 c = omega (arith, mul-le-mul-right (c .before .args .stride) (c .before .pre .2))
 
 first-both-requires : tie.Need-first-both-requires
-first-both-requires c κs = (omega (arith, row-apart (c .before .args .z) (c .before .args .n) (c .before .args .stride) (c .before .pre .3)), omega (arith, mul-le-mul-right (c .before .args .stride) (c .before .pre .2)), omega arith)
+first-both-requires c κs = (
+  omega (
+    arith,
+    row-apart (c .before .args .z) (c .before .args .n) (c .before .args .stride)
+        (c .before .pre .3),
+  ),
+  omega (arith, mul-le-mul-right (c .before .args .stride) (c .before .pre .2)),
+  omega arith,
+)
 
 returns : tie.Need-returns
 unfolding both stepBit rel

@@ -35,12 +35,14 @@ table-size-requires c κs = search needs
 -- src/lib.rt:135:26
 array-share-prefix-t : tie.Need-array-share-prefix-t
 array-share-prefix-t c =
-    let k = few-bytes _ _ _ _ _ _ 0 _ (c .before .before .before .values-fault .ensures) (c .before .before .if1 .left) _ _ (c .table-size .ensures .0) (c .before .encode-table .ensures) in
+    let k = few-bytes _ _ _ _ _ _ 0 _ (c .before .before .before .values-fault .ensures) (c .before .before .if1 .left) _ _
+    (c .table-size .ensures .0) (c .before .encode-table .ensures) in
     search needs
 
 -- src/lib.rt:135:26
 slice-aggregate-admit : tie.Need-slice-aggregate-admit
-slice-aggregate-admit c = front-size _ _ _ _ _ _ 0 _ (c .before .before .before .before .values-fault .ensures) (c .before .before .before .if1 .left) _ _ (c .before .table-size .ensures .0) (c .before .before .encode-table .ensures)
+slice-aggregate-admit c = front-size _ _ _ _ _ _ 0 _ (c .before .before .before .before .values-fault .ensures)
+    (c .before .before .before .if1 .left) _ _ (c .before .table-size .ensures .0) (c .before .before .encode-table .ensures)
 
 -- src/lib.rt:135:9
 admit-requires : tie.Need-admit-requires
@@ -59,11 +61,21 @@ refused-requires c κs = search needs
 
 -- src/lib.rt:137:9
 returns-2 : tie.Need-returns-2
-returns-2 c = refused-out _ _ _ _ (answer-is _ _ _ _ _ _ _ _ (c .before .before .before .before .before .before .before .before .values-fault .ensures) (c .before .before .before .before .before .before .before .if1 .left) _ _ (c .before .before .before .before .before .table-size .ensures .0) (c .before .before .before .before .before .before .encode-table .ensures) _ (c .before .before .before .admit .ensures)) _ _ _ _ _ (c .refused .ensures) (c .before .enum-told2 .given .1)
+returns-2 c = refused-out _ _ _ _ (answer-is _ _ _ _ _ _ _ _
+    (c .before .before .before .before .before .before .before .before .values-fault .ensures)
+    (c .before .before .before .before .before .before .before .if1 .left) _ _
+    (c .before .before .before .before .before .table-size .ensures .0)
+    (c .before .before .before .before .before .before .encode-table .ensures) _ (c .before .before .before .admit .ensures)) _ _ _ _ _
+    (c .refused .ensures) (c .before .enum-told2 .given .1)
 
 -- src/lib.rt:140:9
 returns-3 : tie.Need-returns-3
-returns-3 c = refused-both _ _ _ _ _ (short-is _ _ _ _ (answer-is _ _ _ _ _ _ _ _ (c .before .before .before .before .before .before .before .before .values-fault .ensures) (c .before .before .before .before .before .before .before .if1 .left) _ _ (c .before .before .before .before .before .table-size .ensures .0) (c .before .before .before .before .before .before .encode-table .ensures) _ (c .before .before .before .admit .ensures)) _ _ (c .before .enum-told .given .1) (c .if2 .taken))
+returns-3 c = refused-both _ _ _ _ _ (short-is _ _ _ _
+    (answer-is _ _ _ _ _ _ _ _ (c .before .before .before .before .before .before .before .before .values-fault .ensures)
+    (c .before .before .before .before .before .before .before .if1 .left) _ _
+    (c .before .before .before .before .before .table-size .ensures .0)
+    (c .before .before .before .before .before .before .encode-table .ensures) _ (c .before .before .before .admit .ensures)) _ _
+    (c .before .enum-told .given .1) (c .if2 .taken))
 
 -- src/lib.rt:142:25
 slice-aggregate-put : tie.Need-slice-aggregate-put
@@ -72,13 +84,19 @@ slice-aggregate-put c = search needs
 -- src/lib.rt:142:5
 put-requires : tie.Need-put-requires
 put-requires c κs =
-    let k = few-bytes _ _ _ _ _ _ 0 _ (c .before .before .before .before .before .before .before .before .before .before .values-fault .ensures) (c .before .before .before .before .before .before .before .before .before .if1 .left) _ _ (c .before .before .before .before .before .before .before .table-size .ensures .0) (c .before .before .before .before .before .before .before .before .encode-table .ensures) in
+    let k = few-bytes _ _ _ _ _ _ 0 _ (c .before .before .before .before .before .before .before .before .before
+    .before .values-fault .ensures) (c .before .before .before .before .before .before .before .before .before .if1 .left) _ _
+    (c .before .before .before .before .before .before .before .table-size .ensures .0)
+    (c .before .before .before .before .before .before .before .before .encode-table .ensures) in
     (omega (arith, c .before .before .if2 .left), search needs)
 
 -- src/lib.rt:143:35
 cast-t22 : tie.Need-cast-t22
 cast-t22 c =
-    let k = few-bytes _ _ _ _ _ _ 0 _ (c .before .before .before .before .before .before .before .before .before .before .before .before .before .values-fault .ensures) (c .before .before .before .before .before .before .before .before .before .before .before .before .if1 .left) _ _ (c .before .before .before .before .before .before .before .before .before .before .table-size .ensures .0) (c .before .before .before .before .before .before .before .before .before .before .before .encode-table .ensures) in
+    let k = few-bytes _ _ _ _ _ _ 0 _ (c .before .before .before .before .before .before .before .before .before .before .before .before
+    .before .values-fault .ensures) (c .before .before .before .before .before .before .before .before .before .before .before
+    .before .if1 .left) _ _ (c .before .before .before .before .before .before .before .before .before .before .table-size .ensures .0)
+    (c .before .before .before .before .before .before .before .before .before .before .before .encode-table .ensures) in
     omega arith
 
 -- src/lib.rt:114:1
@@ -87,7 +105,18 @@ same-length c = search needs
 
 -- src/lib.rt:114:1
 returns-4 : tie.Need-returns-4
-returns-4 c = written-both _ _ _ _ _ _ (long-is _ _ _ _ (answer-is _ _ _ _ _ _ _ _ (c .before .before .before .before .before .before .before .before .before .before .before .before .before .values-fault .ensures) (c .before .before .before .before .before .before .before .before .before .before .before .before .if1 .left) _ _ (c .before .before .before .before .before .before .before .before .before .before .table-size .ensures .0) (c .before .before .before .before .before .before .before .before .before .before .before .encode-table .ensures) _ (c .before .before .before .before .before .before .before .before .admit .ensures)) _ _ (c .before .before .before .before .before .before .enum-told .given .1) (c .before .before .before .before .before .if2 .left)) (c .before .before .put .ensures) (front-is _ _ _ _ _ _ 0 _ (c .before .before .before .before .before .before .before .before .before .before .before .before .before .values-fault .ensures) (c .before .before .before .before .before .before .before .before .before .before .before .before .if1 .left) _ _ (c .before .before .before .before .before .before .before .before .before .before .table-size .ensures .0) (c .before .before .before .before .before .before .before .before .before .before .before .encode-table .ensures))
+returns-4 c = written-both _ _ _ _ _ _ (long-is _ _ _ _
+    (answer-is _ _ _ _ _ _ _ _ (c .before .before .before .before .before .before .before .before .before .before .before .before
+    .before .values-fault .ensures) (c .before .before .before .before .before .before .before .before .before .before .before
+    .before .if1 .left) _ _ (c .before .before .before .before .before .before .before .before .before .before .table-size .ensures .0)
+    (c .before .before .before .before .before .before .before .before .before .before .before .encode-table .ensures) _
+    (c .before .before .before .before .before .before .before .before .admit .ensures)) _ _
+    (c .before .before .before .before .before .before .enum-told .given .1) (c .before .before .before .before .before .if2 .left))
+    (c .before .before .put .ensures) (front-is _ _ _ _ _ _ 0 _
+    (c .before .before .before .before .before .before .before .before .before .before .before .before .before .values-fault .ensures)
+    (c .before .before .before .before .before .before .before .before .before .before .before .before .if1 .left) _ _
+    (c .before .before .before .before .before .before .before .before .before .before .table-size .ensures .0)
+    (c .before .before .before .before .before .before .before .before .before .before .before .encode-table .ensures))
 
 pub write-spec : {M : Type 1} → statement M
 write-spec =

@@ -62,8 +62,10 @@ number-requires-4 c κs = search needs
 -- src/edges.rt:107:1
 returns : tie.Need-returns
 returns c =
-    number-is _ _ _ _ _ _ _ _ _ _ _ _ (c .before .before .before .before .before .before .before .before-some .ensures) (c .before .before .before .before .before .before .follows-at .ensures) (c .before .before .before .before .before .reads-from-at .ensures)
-    (c .before .before .before .before .from-reads-at .ensures) (c .number4 .ensures) (c .before .number3 .ensures) (c .before .before .number2 .ensures) (c .before .before .before .number .ensures)
+    number-is _ _ _ _ _ _ _ _ _ _ _ _ (c .before .before .before .before .before .before .before .before-some .ensures)
+    (c .before .before .before .before .before .before .follows-at .ensures) (c .before .before .before .before .before .reads-from-at .ensures)
+    (c .before .before .before .before .from-reads-at .ensures) (c .number4 .ensures) (c .before .number3 .ensures)
+    (c .before .before .number2 .ensures) (c .before .before .before .number .ensures)
 
 pub edge-number-spec : {M : Type 1} → statement M
 edge-number-spec =

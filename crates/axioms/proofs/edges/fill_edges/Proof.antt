@@ -30,11 +30,19 @@ clear-requires c κs = search needs
 
 -- src/edges.rt:176:5
 loop-holds : tie.Need-loop-holds Inv-loop μ-loop
-loop-holds c = (search needs, refl, located-kept (omega arith) (omega arith) (within-cleared EDGE EDGE-END (omega arith) ((c .before .before) .clear .ensures)) ((c .before .before .before .before .before .before .before) .pre .1 .3), rows-none _ _)
+loop-holds c = (
+  search needs,
+  refl,
+  located-kept (omega arith) (omega arith)
+      (within-cleared EDGE EDGE-END (omega arith) ((c .before .before) .clear .ensures))
+      ((c .before .before .before .before .before .before .before) .pre .1 .3),
+  rows-none _ _,
+)
 
 -- src/edges.rt:177:9
 edge-row-requires : tie.Need-edge-row-requires Inv-loop μ-loop
-edge-row-requires c κs = let s = (c .before .before .before .before .before .before .before .before .before .before) .pre in let inv = (c .before .before) .loop .inv in (search needs, s .0, (s .1 .0, search needs, s .1 .2, inv .2))
+edge-row-requires c κs = let s = (c .before .before .before .before .before .before .before .before .before .before) .pre in
+    let inv = (c .before .before) .loop .inv in (search needs, s .0, (s .1 .0, search needs, s .1 .2, inv .2))
 
 -- src/edges.rt:176:9
 add-x : tie.Need-add-x Inv-loop μ-loop
@@ -63,8 +71,10 @@ same-length c = search needs
 -- src/edges.rt:171:1
 returns : tie.Need-returns Inv-loop μ-loop
 returns c =
-    let e : (c .before .before .before .before .before) .loop .x ≡ (c .before .before .before .before .before .before .before .before .before .before .before .before .before) .args .n = omega arith in
-    made-edges _ _ (omega arith) (omega arith) ((c .before .before .before .before .before .before .before .before) .clear .ensures) (rw e at ((c .before .before .before .before .before) .loop .inv .3)) ((c .before .before) .add-sources .ensures)
+    let e : (c .before .before .before .before .before) .loop .x ≡ (c .before .before .before .before .before .before .before .before
+    .before .before .before .before .before) .args .n = omega arith in
+    made-edges _ _ (omega arith) (omega arith) ((c .before .before .before .before .before .before .before .before) .clear .ensures)
+    (rw e at ((c .before .before .before .before .before) .loop .inv .3)) ((c .before .before) .add-sources .ensures)
 
 pub fill-edges-spec : {M : Type 1} → statement M
 fill-edges-spec =

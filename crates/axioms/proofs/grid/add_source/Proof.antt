@@ -48,7 +48,10 @@ same-length c = search needs
 -- src/grid.rt:193:1
 returns-2 : tie.Need-returns-2
 unfolding decode
-returns-2 c = source-put _ _ _ _ _ _ (omega arith) (omega arith) (omega arith) (omega arith) ((c .before .before .before .before .before .before .before .before) .source-at .ensures) ((c .before .before .before .before) .reads .ensures ∙ ap reads ((c .before .before .before .before .before) .read-row .ensures)) refl ((c .before .before) .put-if .ensures)
+returns-2 c = source-put _ _ _ _ _ _ (omega arith) (omega arith) (omega arith) (omega arith)
+    ((c .before .before .before .before .before .before .before .before) .source-at .ensures)
+    ((c .before .before .before .before) .reads .ensures ∙ ap reads ((c .before .before .before .before .before) .read-row .ensures)) refl
+    ((c .before .before) .put-if .ensures)
 
 pub add-source-spec : {M : Type 1} → statement M
 add-source-spec =

@@ -48,7 +48,8 @@ same-length c = search needs
 
 -- src/grid.rt:215:1
 returns : tie.Need-returns Inv-loop μ-loop
-returns c = let e : (c .before) .loop .y ≡ (c .before .before .before .before .before) .args .n = omega arith in sources-all _ _ (rw e at ((c .before) .loop .inv .2))
+returns c = let e : (c .before) .loop .y ≡ (c .before .before .before .before .before) .args .n = omega arith in
+    sources-all _ _ (rw e at ((c .before) .loop .inv .2))
 
 pub add-sources-spec : {M : Type 1} → statement M
 add-sources-spec =

@@ -64,8 +64,14 @@ loop-holds : tie.Need-loop-holds Inv-loop μ-loop
 loop-holds c =
     let pre = c .before .before .before .before .before .before .pre in
     let held = pre .2 .3 .mutuals in
-    let next = c .before .before .next .ensures in
-    (next .high, refl, c .read-row .ensures, pre .2 .3, λ l. walked held _ _ (pre .1) l (next .hit l), row-walk _ _ held (pre .1) next (after-apart _ _ _) (row-none _ _ _))
+    let next = c .before .before .next .ensures in (
+      next .high,
+      refl,
+      c .read-row .ensures,
+      pre .2 .3,
+      λ l. walked held _ _ (pre .1) l (next .hit l),
+      row-walk _ _ held (pre .1) next (after-apart _ _ _) (row-none _ _ _),
+    )
 
 -- src/grid.rt:76:13
 lacks-after-requires : tie.Need-lacks-after-requires Inv-loop μ-loop
@@ -97,7 +103,8 @@ loop-again c =
     let pre = c .before .before .before .before .before .before .before .before .before .before .before .before .before .before .before .before .pre in
     let put = c .before .before .before .before .put-if in
     let inv = c .before .before .before .before .before .before .before .before .before .loop .inv in
-    let e = row-lacks _ _ _ _ _ (pre .2 .0) (omega (arith, inv .1, pre .2 .1)) (pre .0) (omega arith) (inv .5) refl (put .ensures) (c .before .before .before .before .before .before .lacks-after .ensures) in
+    let e = row-lacks _ _ _ _ _ (pre .2 .0) (omega (arith, inv .1, pre .2 .1)) (pre .0) (omega arith) (inv .5) refl (put .ensures)
+    (c .before .before .before .before .before .before .lacks-after .ensures) in
     let kept = located-kept (omega arith) (omega arith) (within-put EDGE EDGE-END _ _ (omega arith) (omega arith) (put .ensures)) (inv .3) in
     let held = kept .mutuals in
     let next = c .next2 .ensures in
@@ -109,7 +116,8 @@ same-length-2 c = search needs
 
 -- src/grid.rt:65:1
 returns-2 : tie.Need-returns-2 Inv-loop μ-loop
-returns-2 c = let e : c .before .loop .y ≡ c .before .before .before .before .before .before .before .before .args .n = omega arith in rw e at (c .before .loop .inv .5)
+returns-2 c = let e : c .before .loop .y ≡ c .before .before .before .before .before .before .before .before .args .n = omega arith in
+    rw e at (c .before .loop .inv .5)
 
 pub after-row-spec : {M : Type 1} → statement M
 after-row-spec =

@@ -54,7 +54,8 @@ loop-again : tie.Need-loop-again Inv-loop μ-loop
 loop-again c =
     let put = (c .before .before) .put-if in
     let inv = (c .before .before .before .before .before .before .before) .loop .inv in
-    let e = row-exact _ _ _ _ _ (omega arith) (omega arith) (omega arith) (omega arith) (inv .2) refl (put .ensures) ((c .before .before .before .before) .from-reads-at .ensures) in
+    let e = row-exact _ _ _ _ _ (omega arith) (omega arith) (omega arith) (omega arith) (inv .2) refl (put .ensures)
+    ((c .before .before .before .before) .from-reads-at .ensures) in
     (search needs, e .frame .len, e)
 
 -- src/grid.rt:147:1

@@ -46,12 +46,18 @@ loop-holds : tie.Need-loop-holds Inv-loop μ-loop
 loop-holds c =
     let pre = c .before .before .before .before .before .pre in
     let shared = pre .3 .3 .overlapping in
-    let next = c .next .ensures in
-    (next .high, refl, pre .3 .3, λ l. walked shared _ _ (pre .0) l (next .hit l), row-walk _ _ shared (pre .0) next (λ m o. from-apart _ _ _ m (pre .2) o) (row-none _ _ _))
+    let next = c .next .ensures in (
+      next .high,
+      refl,
+      pre .3 .3,
+      λ l. walked shared _ _ (pre .0) l (next .hit l),
+      row-walk _ _ shared (pre .0) next (λ m o. from-apart _ _ _ m (pre .2) o) (row-none _ _ _),
+    )
 
 -- src/grid.rt:158:13
 from-shared-requires : tie.Need-from-shared-requires Inv-loop μ-loop
-from-shared-requires c κs = let pre = c .before .before .before .before .before .before .before .pre in (search needs, pre .1, pre .2, c .before .loop .inv .3 (c .loop-test .taken))
+from-shared-requires c κs = let pre = c .before .before .before .before .before .before .before .pre in
+    (search needs, pre .1, pre .2, c .before .loop .inv .3 (c .loop-test .taken))
 
 -- src/grid.rt:159:9
 put-if-requires : tie.Need-put-if-requires Inv-loop μ-loop
@@ -75,11 +81,17 @@ loop-again c =
     let pre = c .before .before .before .before .before .before .before .before .before .before .before .before .before .before .pre in
     let put = c .before .before .before .before .put-if in
     let inv = c .before .before .before .before .before .before .before .before .loop .inv in
-    let e = row-exact _ _ _ _ _ (omega arith) (omega arith) (omega arith) (omega arith) (inv .4) refl (put .ensures) (c .before .before .before .before .before .before .from-shared .ensures) in
+    let e = row-exact _ _ _ _ _ (omega arith) (omega arith) (omega arith) (omega arith) (inv .4) refl (put .ensures)
+    (c .before .before .before .before .before .before .from-shared .ensures) in
     let kept = located-kept (omega arith) (omega arith) (within-put EDGE EDGE-END _ _ (omega arith) (omega arith) (put .ensures)) (inv .2) in
     let shared = kept .overlapping in
-    let next = c .next2 .ensures in
-    (next .high, e .frame .len, kept, λ l. walked shared _ _ (pre .0) l (next .hit l), row-walk _ _ shared (pre .0) next (λ m o. from-apart _ _ _ m (pre .2) o) e)
+    let next = c .next2 .ensures in (
+      next .high,
+      e .frame .len,
+      kept,
+      λ l. walked shared _ _ (pre .0) l (next .hit l),
+      row-walk _ _ shared (pre .0) next (λ m o. from-apart _ _ _ m (pre .2) o) e,
+    )
 
 -- src/grid.rt:143:1
 same-length : tie.Need-same-length Inv-loop μ-loop

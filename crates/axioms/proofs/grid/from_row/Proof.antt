@@ -60,7 +60,14 @@ same-length c = search needs
 -- src/grid.rt:197:9
 returns-2 : tie.Need-returns-2
 unfolding decode
-returns-2 c = row-cong _ _ _ (λ m l. from-after _ _ _ _ _ _ _ ((c .before .before .before .before .before .before .before) .source-at .ensures) ((c .before .before .before .before .before .before .before .before .before .before) .read-row .ensures) ((c .before .before .before .before .before .before .before .before .before) .reads .ensures) ((c .before .before .before .before .before .before .before .before) .if1 .left) ((c .before .before .before .before .before) .if2 .taken) ((c .before .before .before .before .before .before .before .before .before .before .before .before .before .before) .pre .2 .0) m) ((c .before .before) .after-row .ensures)
+returns-2 c = row-cong _ _ _ (λ m l. from-after _ _ _ _ _ _ _
+    ((c .before .before .before .before .before .before .before) .source-at .ensures)
+    ((c .before .before .before .before .before .before .before .before .before .before) .read-row .ensures)
+    ((c .before .before .before .before .before .before .before .before .before) .reads .ensures)
+    ((c .before .before .before .before .before .before .before .before) .if1 .left)
+    ((c .before .before .before .before .before) .if2 .taken)
+    ((c .before .before .before .before .before .before .before .before .before .before .before .before .before .before) .pre .2 .0) m)
+    ((c .before .before) .after-row .ensures)
 
 -- src/grid.rt:199:8
 is-initial-requires : tie.Need-is-initial-requires
@@ -70,8 +77,11 @@ is-initial-requires c κs = search needs
 from-initial-requires : tie.Need-from-initial-requires
 from-initial-requires c κs =
     let pre = c .before .before .before .before .before .before .before .before .before .before .before .before .pre in
-    let read = ap reads (sym (c .before .before .before .before .before .before .before .before .read-row .ensures)) ∙ sym (c .before .before .before .before .before .before .before .reads .ensures) ∙ not-false _ (c .before .before .before .before .before .before .if1 .left) in
-    let initial = ap (λ (v : ℕ). eqb v INITIAL) (sym (c .before .before .before .before .before .source-at .ensures)) ∙ sym (c .before .before .is-initial .ensures) ∙ c .before .if3 .taken in
+    let read = ap reads (sym (c .before .before .before .before .before .before .before .before .read-row .ensures))
+    ∙ sym (c .before .before .before .before .before .before .before .reads .ensures)
+    ∙ not-false _ (c .before .before .before .before .before .before .if1 .left) in
+    let initial = ap (λ (v : ℕ). eqb v INITIAL) (sym (c .before .before .before .before .before .source-at .ensures))
+    ∙ sym (c .before .before .is-initial .ensures) ∙ c .before .if3 .taken in
     (pre .0, read, initial, pre .2)
 
 -- src/grid.rt:201:9

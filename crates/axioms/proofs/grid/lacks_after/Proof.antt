@@ -35,7 +35,8 @@ returns-2 : tie.Need-returns-2
 unfolding decode _and_
 returns-2 c =
     let pre = c .before .before .before .before .before .before .pre in
-    lacks-other _ _ _ (c .before .before .before .get .ensures) (c .before .before .if1 .left) (after-on _ _ _ _ _ _ _ (pre .4) (pre .3) (c .before .read-row .ensures) (c .is-later-writer .ensures))
+    lacks-other _ _ _ (c .before .before .before .get .ensures) (c .before .before .if1 .left)
+    (after-on _ _ _ _ _ _ _ (pre .4) (pre .3) (c .before .read-row .ensures) (c .is-later-writer .ensures))
 
 pub lacks-after-spec : {M : Type 1} → statement M
 lacks-after-spec =

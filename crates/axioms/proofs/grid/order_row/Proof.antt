@@ -46,7 +46,8 @@ loop-holds c =
 
 -- src/grid.rt:36:13
 before-some-requires : tie.Need-before-some-requires Inv-loop μ-loop
-before-some-requires c κs = let pre = c .before .before .before .before .before .before .before .pre in (pre .0, search needs, (pre .1 .0, search needs, pre .1 .2, c .before .before .loop .inv .2))
+before-some-requires c κs = let pre = c .before .before .before .before .before .before .before .pre in
+    (pre .0, search needs, (pre .1 .0, search needs, pre .1 .2, c .before .before .loop .inv .2))
 
 -- src/grid.rt:37:9
 put-if-requires : tie.Need-put-if-requires Inv-loop μ-loop
@@ -70,7 +71,8 @@ loop-again c =
     let pre = c .before .before .before .before .before .before .before .before .before .before .before .before .before .before .pre in
     let put = c .before .before .before .before .put-if in
     let inv = c .before .before .before .before .before .before .before .before .before .loop .inv in
-    let e = row-exact _ _ _ _ _ (omega arith) (omega arith) (omega arith) (omega arith) (inv .3) refl (put .ensures) (c .before .before .before .before .before .before .before-some .ensures) in
+    let e = row-exact _ _ _ _ _ (omega arith) (omega arith) (omega arith) (omega arith) (inv .3) refl (put .ensures)
+    (c .before .before .before .before .before .before .before-some .ensures) in
     let kept = located-kept (omega arith) (omega arith) (within-put EDGE EDGE-END _ _ (omega arith) (omega arith) (put .ensures)) (inv .2) in
     let next = c .next2 .ensures in
     (next .high, e .frame .len, kept, row-walk _ _ (kept .overlapping) (pre .0) next (some-apart _ _) e)

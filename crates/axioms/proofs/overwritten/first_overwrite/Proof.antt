@@ -45,14 +45,16 @@ read-row-requires c κs = search needs
 cast-t12 : tie.Need-cast-t12
 unfolding decode
 cast-t12 c =
-    let l = writer-below _ _ _ _ _ refl (c .before .before .before .before .over-reader .ensures) (c .before .before .over-writer .ensures) (c .before .before .before .if1 .left) in
+    let l = writer-below _ _ _ _ _ refl (c .before .before .before .before .over-reader .ensures) (c .before .before .over-writer .ensures)
+    (c .before .before .before .if1 .left) in
     search needs
 
 -- src/overwritten.rt:139:17
 cast-t13 : tie.Need-cast-t13
 unfolding decode
 cast-t13 c =
-    let l = writer-below _ _ _ _ _ refl (c .before .before .before .before .over-reader .ensures) (c .before .before .over-writer .ensures) (c .before .before .before .if1 .left) in
+    let l = writer-below _ _ _ _ _ refl (c .before .before .before .before .over-reader .ensures) (c .before .before .over-writer .ensures)
+    (c .before .before .before .if1 .left) in
     search needs
 
 -- src/overwritten.rt:140:26
@@ -61,7 +63,8 @@ unfolding decode
 cast-t14 c =
     let s = c .before .before .before .before .before .before .before .before in
     let at = c .before in
-    let d = byte-below _ _ (s .pre .1) _ _ _ _ refl (at .before .before .before .over-reader .ensures) (at .before .over-writer .ensures) (at .over-nth .ensures) (at .before .before .if1 .left) in
+    let d = byte-below _ _ (s .pre .1) _ _ _ _ refl (at .before .before .before .over-reader .ensures) (at .before .over-writer .ensures)
+    (at .over-nth .ensures) (at .before .before .if1 .left) in
     let l = d .0 in
     search needs
 
@@ -71,7 +74,8 @@ unfolding decode
 add-t15 c =
     let s = c .before .before .before .before .before .before .before .before .before in
     let at = c .before .before in
-    let d = byte-below _ _ (s .pre .1) _ _ _ _ refl (at .before .before .before .over-reader .ensures) (at .before .over-writer .ensures) (at .over-nth .ensures) (at .before .before .if1 .left) in
+    let d = byte-below _ _ (s .pre .1) _ _ _ _ refl (at .before .before .before .over-reader .ensures) (at .before .over-writer .ensures)
+    (at .over-nth .ensures) (at .before .before .if1 .left) in
     let l = d .1 _ (c .before .read-row .ensures) in
     search needs
 

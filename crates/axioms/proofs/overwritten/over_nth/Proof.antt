@@ -33,7 +33,9 @@ is-unset-requires c κs = search needs
 -- src/overwritten.rt:80:9
 returns : tie.Need-returns Inv-loop μ-loop
 unfolding decode
-returns c = let s = c .before .before .before .before .before in over-apart _ _ _ _ (s .pre .3 .2) (s .pre .1) (some-unset _ _ _ _ _ _ (s .pre .3 .3) (s .pre .1) (s .pre .0) refl (sym (c .before .is-unset .ensures) ∙ c .if1 .taken))
+returns c = let s = c .before .before .before .before .before in
+    over-apart _ _ _ _ (s .pre .3 .2) (s .pre .1)
+    (some-unset _ _ _ _ _ _ (s .pre .3 .3) (s .pre .1) (s .pre .0) refl (sym (c .before .is-unset .ensures) ∙ c .if1 .taken))
 
 -- src/overwritten.rt:82:9
 may-overwrite-requires : tie.Need-may-overwrite-requires Inv-loop μ-loop
@@ -77,12 +79,15 @@ cast-overwrites-at c = search needs
 
 -- src/overwritten.rt:90:12
 overwrites-at-requires : tie.Need-overwrites-at-requires Inv-loop μ-loop
-overwrites-at-requires c κs = let m = sym (c .before .before .before .before .before .before .before .before .may-overwrite .ensures) ∙ not-false _ (c .before .before .before .before .before .before .before .if2 .left) in let pre = c .before .before .before .before .before .before .before .before .before .before .before .before .before .before .pre in search needs
+overwrites-at-requires c κs = let m = sym (c .before .before .before .before .before .before .before .before .may-overwrite .ensures)
+    ∙ not-false _ (c .before .before .before .before .before .before .before .if2 .left) in
+    let pre = c .before .before .before .before .before .before .before .before .before .before .before .before .before .before .pre in search needs
 
 -- src/overwritten.rt:91:13
 returns-3 : tie.Need-returns-3 Inv-loop μ-loop
 unfolding overNth
-returns-3 c = sym (least-found _ _ _ (c .before .before .before .before .loop .inv .1) (sym (c .before .overwrites-at .ensures) ∙ c .if3 .taken) (c .before .before .before .loop-test .taken))
+returns-3 c = sym (least-found _ _ _ (c .before .before .before .before .loop .inv .1)
+    (sym (c .before .overwrites-at .ensures) ∙ c .if3 .taken) (c .before .before .before .loop-test .taken))
 
 -- src/overwritten.rt:89:9
 add-k : tie.Need-add-k Inv-loop μ-loop

@@ -30,7 +30,8 @@ over-writer-requires c κs = search needs
 -- src/overwritten.rt:113:13
 returns : tie.Need-returns Inv-loop μ-loop
 unfolding overReader decode
-returns c = sym (least-found _ _ _ (c .before .before .before .loop .inv .1) (overwritten-is _ _ _ _ _ refl (c .before .over-writer .ensures) .0 (c .if1 .taken)) (c .before .before .loop-test .taken))
+returns c = sym (least-found _ _ _ (c .before .before .before .loop .inv .1)
+    (overwritten-is _ _ _ _ _ refl (c .before .over-writer .ensures) .0 (c .if1 .taken)) (c .before .before .loop-test .taken))
 
 -- src/overwritten.rt:111:9
 add-y : tie.Need-add-y Inv-loop μ-loop
@@ -43,7 +44,11 @@ loop-less c = search needs
 -- src/overwritten.rt:111:5
 loop-again : tie.Need-loop-again Inv-loop μ-loop
 unfolding decode
-loop-again c = (search needs, least-more _ _ (c .before .before .before .loop .inv .1) (overwritten-is _ _ _ _ _ refl (c .before .over-writer .ensures) .1 (c .if1 .left)))
+loop-again c = (
+  search needs,
+  least-more _ _ (c .before .before .before .loop .inv .1)
+      (overwritten-is _ _ _ _ _ refl (c .before .over-writer .ensures) .1 (c .if1 .left)),
+)
 
 -- src/overwritten.rt:107:1
 returns-2 : tie.Need-returns-2 Inv-loop μ-loop

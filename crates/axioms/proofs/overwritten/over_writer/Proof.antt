@@ -52,7 +52,8 @@ is-row-requires c κs = search needs
 -- src/overwritten.rt:114:9
 returns : tie.Need-returns Inv-loop μ-loop
 unfolding decode _and_
-returns c = unread-none _ _ _ _ _ _ _ _ refl (c .before .before .before .before .read-row .ensures) (c .before .before .before .source-at .ensures) (c .before .before .reads .ensures) (c .before .is-row .ensures) (c .if1 .taken)
+returns c = unread-none _ _ _ _ _ _ _ _ refl (c .before .before .before .before .read-row .ensures)
+    (c .before .before .before .source-at .ensures) (c .before .before .reads .ensures) (c .before .is-row .ensures) (c .if1 .taken)
 
 -- src/overwritten.rt:116:30
 mul-at : tie.Need-mul-at Inv-loop μ-loop
@@ -80,7 +81,8 @@ over-nth-requires c κs = search needs
 -- src/overwritten.rt:120:13
 returns-2 : tie.Need-returns-2 Inv-loop μ-loop
 unfolding overWriter decode
-returns-2 c = sym (least-found _ _ _ (c .before .before .before .loop .inv .1) (overwriting-is _ _ _ _ _ (c .before .over-nth .ensures) .0 (c .if2 .taken)) (c .before .before .loop-test .taken))
+returns-2 c = sym (least-found _ _ _ (c .before .before .before .loop .inv .1)
+    (overwriting-is _ _ _ _ _ (c .before .over-nth .ensures) .0 (c .if2 .taken)) (c .before .before .loop-test .taken))
 
 -- src/overwritten.rt:122:35
 add-next : tie.Need-add-next Inv-loop μ-loop
@@ -100,13 +102,15 @@ unfolding decode
 loop-again c =
     let pre = c .before .before .before .before .before .before .before .before .before .before .before .before .before .before .pre in
     let next = c .next2 .ensures in
-    let e = least-more _ _ (c .before .before .before .before .loop .inv .1) (overwriting-is _ _ _ _ _ (c .before .before .over-nth .ensures) .1 (c .before .if2 .left)) in
+    let e = least-more _ _ (c .before .before .before .before .loop .inv .1)
+    (overwriting-is _ _ _ _ _ (c .before .before .over-nth .ensures) .1 (c .before .if2 .left)) in
     (next .high, writer-pass _ _ _ _ _ _ _ (pre .2 .3 .overlapping) (pre .0) next e)
 
 -- src/overwritten.rt:99:1
 returns-3 : tie.Need-returns-3 Inv-loop μ-loop
 unfolding overWriter decode
-returns-3 c = let e : c .before .loop .z ≡ c .before .before .before .before .before .before .before .before .before .before .before .args .n = omega arith in sym (rw e at (c .before .loop .inv .1))
+returns-3 c = let e : c .before .loop .z ≡ c .before .before .before .before .before .before .before .before .before .before
+    .before .args .n = omega arith in sym (rw e at (c .before .loop .inv .1))
 
 pub over-writer-spec : {M : Type 1} → statement M
 over-writer-spec =

@@ -37,7 +37,8 @@ returns : tie.Need-returns
 unfolding decode _and_
 returns c =
     let s = c .before .before .before .before .before .before in
-    overwrites-on _ _ _ _ _ _ _ _ _ (s .pre .4) (s .pre .3) (ap (λ (v : Row). v .start + s .args .k) (s .pre .6)) (c .before .before-byte .ensures) (c .before-byte2 .ensures)
+    overwrites-on _ _ _ _ _ _ _ _ _ (s .pre .4) (s .pre .3) (ap (λ (v : Row). v .start + s .args .k) (s .pre .6))
+    (c .before .before-byte .ensures) (c .before-byte2 .ensures)
 
 pub overwrites-at-spec : {M : Type 1} → statement M
 overwrites-at-spec =

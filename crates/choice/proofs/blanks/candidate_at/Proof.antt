@@ -56,7 +56,8 @@ unfolding decode
 returns-3 c =
     let at-fit = c .before .before .before .before in
     let d = fit-told _ _ _ _ _ _ _ _ (at-fit .before .of-row .ensures) (at-fit .writer-fits .ensures) in
-    fitting _ _ _ _ d _ (c .before .before .some-miss .ensures) (not-false _ (c .before .before .before .if1 .left)) (c .before .if2 .left) _ (c .some-between .ensures)
+    fitting _ _ _ _ d _ (c .before .before .some-miss .ensures) (not-false _ (c .before .before .before .if1 .left))
+    (c .before .if2 .left) _ (c .some-between .ensures)
 
 pub candidate-at-spec : {M : Type 1} → statement M
 candidate-at-spec =

@@ -27,7 +27,11 @@ candidate-at-requires c κs = search needs
 
 -- src/blanks.rt:75:13
 returns : tie.Need-returns Inv-loop μ-loop
-returns c = (sym (least-found _ _ _ (c .before .before .before .loop .inv .1) (sym (c .before .candidate-at .ensures) ∙ c .if1 .taken) (c .before .before .loop-test .taken)), omega arith)
+returns c = (
+  sym (least-found _ _ _ (c .before .before .before .loop .inv .1) (sym (c .before .candidate-at .ensures) ∙ c .if1 .taken)
+      (c .before .before .loop-test .taken)),
+  omega arith,
+)
 
 -- src/blanks.rt:73:9
 add-s : tie.Need-add-s Inv-loop μ-loop

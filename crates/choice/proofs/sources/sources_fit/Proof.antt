@@ -40,7 +40,8 @@ returns : tie.Need-returns Inv-loop μ-loop
 unfolding brokenIn
 returns c =
     let start = c .before .before .before .before .before .before .before in
-    broken-some _ _ _ _ (start .args .src .now) (any-in _ _ _ (c .before .before .before .loop-test .taken) (sym (c .before .is-broken .ensures) ∙ c .if1 .taken))
+    broken-some _ _ _ _ (start .args .src .now)
+    (any-in _ _ _ (c .before .before .before .loop-test .taken) (sym (c .before .is-broken .ensures) ∙ c .if1 .taken))
 
 -- src/sources.rt:42:9
 add-i : tie.Need-add-i Inv-loop μ-loop

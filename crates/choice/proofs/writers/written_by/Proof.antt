@@ -37,7 +37,8 @@ before-some-requires c κs = search needs
 -- src/writers.rt:19:1
 returns-2 : tie.Need-returns-2
 unfolding writtenBy decode
-returns-2 c = and-go _ _ _ _ (c .before .before .writes .ensures ∙ ap writes (c .before .before .before .read-row .ensures)) (not-false _ (c .before .if1 .left)) (c .before-some .ensures)
+returns-2 c = and-go _ _ _ _ (c .before .before .writes .ensures ∙ ap writes (c .before .before .before .read-row .ensures))
+    (not-false _ (c .before .if1 .left)) (c .before-some .ensures)
 
 pub written-by-spec : {M : Type 1} → statement M
 written-by-spec =

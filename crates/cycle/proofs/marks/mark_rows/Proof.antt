@@ -51,7 +51,8 @@ loop-again : tie.Need-loop-again Inv-loop μ-loop
 loop-again c =
     let inv = c .before .before .before .before .before .before .before .loop .inv in
     let put = c .before .before .put-if in
-    let e = swept-more _ _ _ _ _ _ _ (omega arith) (omega arith) (omega arith) (inv .0) (inv .2) (c .before .before .before .before .may-loop .ensures) (put .ensures) in
+    let e = swept-more _ _ _ _ _ _ _ (omega arith) (omega arith) (omega arith) (inv .0) (inv .2)
+    (c .before .before .before .before .may-loop .ensures) (put .ensures) in
     (search needs, e .frame .len, e)
 
 -- src/marks.rt:28:1

@@ -55,7 +55,9 @@ returns-2 c =
     let told = c .before .before .before .before .before .before .before .is-filled .ensures in
     let few = pre .2 .0 in
     let room = pre .0 in
-    all-filled _ _ _ _ _ refl (c .before .before .before .before .before .before .before .before .before .before .choose .ensures) (told .0) _ _ _ _ (not-false _ (c .before .before .before .before .if1 .left)) (omega arith) (c .before .before .write-sources .ensures) (told .1)
+    all-filled _ _ _ _ _ refl (c .before .before .before .before .before .before .before .before .before .before .choose .ensures)
+    (told .0) _ _ _ _ (not-false _ (c .before .before .before .before .if1 .left)) (omega arith)
+    (c .before .before .write-sources .ensures) (told .1)
 
 pub choose-sources-spec : {M : Type 1} → statement M
 choose-sources-spec =

@@ -34,8 +34,12 @@ returns c =
 -- src/settle.rt:30:5
 over-reader-requires : tie.Need-over-reader-requires
 over-reader-requires c κs =
-    let pre = c .before .before .before .before .before .before .before .before .before .before .before .before .before .pre in
-    (pre .0, known-kept (omega arith) (omega arith) (pre .1) (edges-held (c .before .before .before .before .before .before .before .before .fill-edges .ensures) (c .before .before .before .before .cycle-start .ensures .1) .1))
+    let pre = c .before .before .before .before .before .before .before .before .before .before .before .before .before .pre in (
+      pre .0,
+      known-kept (omega arith) (omega arith) (pre .1)
+          (edges-held (c .before .before .before .before .before .before .before .before .fill-edges .ensures)
+          (c .before .before .before .before .cycle-start .ensures .1) .1),
+    )
 
 -- src/settle.rt:21:1
 same-length-2 : tie.Need-same-length-2
@@ -46,7 +50,8 @@ returns-2 : tie.Need-returns-2
 unfolding decode
 returns-2 c =
     let start = c .before .before .before .before .before .cycle-start .ensures in
-    acyclic-told _ _ _ _ _ _ _ refl (c .before .before .before .before .before .before .before .before .before .fill-edges .ensures) (start .0) (start .1) (c .before .before .if1 .left) _ (c .over-reader .ensures)
+    acyclic-told _ _ _ _ _ _ _ refl (c .before .before .before .before .before .before .before .before .before .fill-edges .ensures)
+    (start .0) (start .1) (c .before .before .if1 .left) _ (c .over-reader .ensures)
 
 pub is-consistent-spec : {M : Type 1} → statement M
 is-consistent-spec =

@@ -29,8 +29,11 @@ same-length c = search needs
 -- src/settle.rt:34:1
 returns-2 : tie.Need-returns-2
 returns-2 c =
-    let told = c .before .before .is-consistent .ensures in
-    (and-go _ _ _ _ (c .before .before .before .before .before .sources-fit .ensures) (not-false _ (c .before .before .before .before .if1 .left)) (told .0), told .1)
+    let told = c .before .before .is-consistent .ensures in (
+      and-go _ _ _ _ (c .before .before .before .before .before .sources-fit .ensures)
+          (not-false _ (c .before .before .before .before .if1 .left)) (told .0),
+      told .1,
+    )
 
 pub is-filled-spec : {M : Type 1} → statement M
 is-filled-spec =

@@ -45,7 +45,8 @@ same-length-3 c = search needs
 
 -- src/settle.rt:99:1
 returns-2 : tie.Need-returns-2
-returns-2 c = unraced _ _ _ (c .before .before .before .before .before .before .before .before .before .first-race .ensures) _ _ _ _ _ (c .before .before .before .before .before .before .before .enum-told .given .1) (c .before .before .before .before .choose-sources .ensures)
+returns-2 c = unraced _ _ _ (c .before .before .before .before .before .before .before .before .before .first-race .ensures) _ _ _ _ _
+    (c .before .before .before .before .before .before .before .enum-told .given .1) (c .before .before .before .before .choose-sources .ensures)
 
 pub settle-spec : {M : Type 1} → statement M
 settle-spec =

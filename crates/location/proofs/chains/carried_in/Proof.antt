@@ -52,7 +52,8 @@ returns-2 : tie.Need-returns-2
 returns-2 c =
     let s = c .before .before .before .before .before .before .before .before in
     let k = c .before .before .available-part .ensures in
-    sym (carried-row _ _ _ _ _ _ _ _ _ _ _ _ (s .pre .4) (c .before .before .before .read-row .ensures) (k .0) (k .1) (c .before .available-at .ensures) ∙ and-false-left _ _ (not-true _ (c .if2 .taken)))
+    sym (carried-row _ _ _ _ _ _ _ _ _ _ _ _ (s .pre .4) (c .before .before .before .read-row .ensures) (k .0) (k .1)
+    (c .before .available-at .ensures) ∙ and-false-left _ _ (not-true _ (c .if2 .taken)))
 
 -- src/chains.rt:427:5
 ends-from-requires : tie.Need-ends-from-requires
@@ -63,7 +64,8 @@ returns-3 : tie.Need-returns-3
 returns-3 c =
     let s = c .before .before .before .before .before .before .before .before .before in
     let k = c .before .before .before .available-part .ensures in
-    c .ends-from .ensures ∙ sym (carried-row _ _ _ _ _ _ _ _ _ _ _ _ (s .pre .4) (c .before .before .before .before .read-row .ensures) (k .0) (k .1) (c .before .before .available-at .ensures) ∙ and-on _ _ (not-false _ (c .before .if2 .left)))
+    c .ends-from .ensures ∙ sym (carried-row _ _ _ _ _ _ _ _ _ _ _ _ (s .pre .4) (c .before .before .before .before .read-row .ensures)
+    (k .0) (k .1) (c .before .before .available-at .ensures) ∙ and-on _ _ (not-false _ (c .before .if2 .left)))
 
 pub carried-in-spec : {M : Type 1} → statement M
 carried-in-spec =

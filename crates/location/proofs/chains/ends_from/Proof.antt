@@ -29,7 +29,8 @@ some-end-requires c κs =
 
 -- src/chains.rt:375:1
 returns-3 : tie.Need-returns-3
-returns-3 c = or-other _ _ _ _ (sym (c .before .before .before .before .ends-at .ensures) ∙ c .before .before .before .if1 .left) (not-false _ (c .before .if2 .left)) (c .some-end .ensures)
+returns-3 c = or-other _ _ _ _ (sym (c .before .before .before .before .ends-at .ensures) ∙ c .before .before .before .if1 .left)
+    (not-false _ (c .before .if2 .left)) (c .some-end .ensures)
 
 pub ends-from-spec : {M : Type 1} → statement M
 ends-from-spec =

@@ -35,7 +35,11 @@ happens-bit-requires-2 c κs = search needs
 -- src/chains.rt:141:9
 returns : tie.Need-returns
 unfolding _or_
-returns c = rw (← c .before .before .before .happens-bit .ensures, ← c .before .happens-bit2 .ensures) (sym (and-false-left (c .before .before .before .before .before .before .args .mode .chains or c .before .before .before .happens-bit .result or c .before .happens-bit2 .result) _ (not-true (c .before .before .before .before .before .before .args .mode .chains or c .before .before .before .happens-bit .result or c .before .happens-bit2 .result) (c .if1 .taken))))
+returns c = rw (← c .before .before .before .happens-bit .ensures, ← c .before .happens-bit2 .ensures)
+    (sym (and-false-left (c .before .before .before .before .before .before .args .mode .chains
+    or c .before .before .before .happens-bit .result or c .before .happens-bit2 .result) _
+    (not-true (c .before .before .before .before .before .before .args .mode .chains or c .before .before .before .happens-bit .result
+    or c .before .happens-bit2 .result) (c .if1 .taken))))
 
 -- src/chains.rt:143:45
 cast-row-byte : tie.Need-cast-row-byte
@@ -62,8 +66,16 @@ returns-2 : tie.Need-returns-2
 unfolding maySee _and_ _or_
 returns-2 c =
     let s = c .before .before .before .before .before .before .before .before .before .before in
-    let e : maySee (s .args .rows .now) (s .args .q) (s .args .v) ≡ (eqb (c .before .before .before .row-byte .result) (s .args .q .agent) and c .meets .result) = cc in
-    rw (← c .before .before .before .before .before .before .before .happens-bit .ensures, ← c .before .before .before .before .before .happens-bit2 .ensures) (sym (and-on (s .args .mode .chains or c .before .before .before .before .before .before .before .happens-bit .result or c .before .before .before .before .before .happens-bit2 .result) _ (not-false (s .args .mode .chains or c .before .before .before .before .before .before .before .happens-bit .result or c .before .before .before .before .before .happens-bit2 .result) (c .before .before .before .before .if1 .left)) ∙ e))
+    let e : maySee (s .args .rows .now) (s .args .q)
+    (s .args .v) ≡ (eqb (c .before .before .before .row-byte .result) (s .args .q .agent) and c .meets .result) = cc in
+    rw (
+      ← c .before .before .before .before .before .before .before .happens-bit .ensures,
+      ← c .before .before .before .before .before .happens-bit2 .ensures,
+    )
+    (sym (and-on (s .args .mode .chains or c .before .before .before .before .before .before .before .happens-bit .result
+    or c .before .before .before .before .before .happens-bit2 .result) _
+    (not-false (s .args .mode .chains or c .before .before .before .before .before .before .before .happens-bit .result
+    or c .before .before .before .before .before .happens-bit2 .result) (c .before .before .before .before .if1 .left)) ∙ e))
 
 pub may-show-spec : {M : Type 1} → statement M
 may-show-spec =

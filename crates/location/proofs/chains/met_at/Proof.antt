@@ -59,7 +59,8 @@ returns-2 c =
     let s = c .before .before .before .before .before .before .before in
     let k = c .before .before .before .before .available-part .ensures in
     let h = c .before .before .before .happens-bit .ensures ∙ s .pre .6 .ordered .happening .cell _ _ (omega (arith, k .1)) (omega arith) in
-    sym (sym (met-row _ _ _ _ _ _ _ _ _ _ _ _ _ _ (s .pre .4) (s .pre .5) (s .pre .8) (k .0) h (c .before .widest .ensures) (c .meet-in .ensures)) ∙ and-on _ _ (not-false _ (c .before .before .if1 .left)))
+    sym (sym (met-row _ _ _ _ _ _ _ _ _ _ _ _ _ _ (s .pre .4) (s .pre .5) (s .pre .8) (k .0) h (c .before .widest .ensures)
+    (c .meet-in .ensures)) ∙ and-on _ _ (not-false _ (c .before .before .if1 .left)))
 
 pub met-at-spec : {M : Type 1} → statement M
 met-at-spec =

@@ -58,7 +58,8 @@ returns c =
     let k = c .before .before .before .available-part .ensures in
     let m = c .before .before .visible-part .ensures in
     let h = c .before .happens-bit .ensures ∙ s .pre .6 .ordered .happening .cell _ _ (omega (arith, k .1)) (omega (arith, m .1)) in
-    sym (seen-row _ _ _ _ _ _ _ _ _ _ _ _ _ _ _ _ _ (s .pre .4) (s .pre .5) (s .pre .9) (c .before .before .before .before .read-row .ensures) (k .0) (m .0) h refl refl ∙ and-false-left _ _ (not-true _ (c .if1 .taken)))
+    sym (seen-row _ _ _ _ _ _ _ _ _ _ _ _ _ _ _ _ _ (s .pre .4) (s .pre .5) (s .pre .9)
+    (c .before .before .before .before .read-row .ensures) (k .0) (m .0) h refl refl ∙ and-false-left _ _ (not-true _ (c .if1 .taken)))
 
 -- src/chains.rt:129:16
 widest-requires : tie.Need-widest-requires
@@ -75,7 +76,9 @@ returns-2 c =
     let k = c .before .before .before .before .before .available-part .ensures in
     let m = c .before .before .before .before .visible-part .ensures in
     let h = c .before .before .before .happens-bit .ensures ∙ s .pre .6 .ordered .happening .cell _ _ (omega (arith, k .1)) (omega (arith, m .1)) in
-    sym (seen-row _ _ _ _ _ _ _ _ _ _ _ _ _ _ _ _ _ (s .pre .4) (s .pre .5) (s .pre .9) (c .before .before .before .before .before .before .read-row .ensures) (k .0) (m .0) h (c .before .widest .ensures) (c .meet-in .ensures) ∙ and-on _ _ (not-false _ (c .before .before .if1 .left)))
+    sym (seen-row _ _ _ _ _ _ _ _ _ _ _ _ _ _ _ _ _ (s .pre .4) (s .pre .5) (s .pre .9)
+    (c .before .before .before .before .before .before .read-row .ensures) (k .0) (m .0) h (c .before .widest .ensures)
+    (c .meet-in .ensures) ∙ and-on _ _ (not-false _ (c .before .before .if1 .left)))
 
 pub seen-at-spec : {M : Type 1} → statement M
 seen-at-spec =

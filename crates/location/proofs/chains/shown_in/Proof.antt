@@ -38,7 +38,8 @@ returns c =
     let k = c .before .before .available-part .ensures in
     let h = s .pre .6 .ordered .happening .cell in
     sym
-    (shown-out _ _ _ _ _ _ _ _ _ _ _ _ _ _ (s .pre .5) (s .pre .9) (k .0) (h _ _ (omega (arith, k .1)) (omega arith)) (h _ _ (omega (arith, k .1)) (omega arith))
+    (shown-out _ _ _ _ _ _ _ _ _ _ _ _ _ _ (s .pre .5) (s .pre .9) (k .0) (h _ _ (omega (arith, k .1)) (omega arith))
+    (h _ _ (omega (arith, k .1)) (omega arith))
     (sym (c .before .may-show .ensures) ∙ not-true _ (c .if1 .taken)))
 
 -- src/chains.rt:251:41
@@ -70,7 +71,8 @@ returns-2 : tie.Need-returns-2
 returns-2 c =
     let s = c .before .before .before .before .before .before .before .before .before in
     let k = c .before .before .visible-part .ensures in
-    sym (shown-row _ _ _ _ _ _ _ _ _ _ _ _ _ (s .pre .5) (c .before .before .before .read-row .ensures) (k .0) (k .1) (c .before .visible-at .ensures) ∙ and-false-left _ _ (not-true _ (c .if2 .taken)))
+    sym (shown-row _ _ _ _ _ _ _ _ _ _ _ _ _ (s .pre .5) (c .before .before .before .read-row .ensures) (k .0) (k .1)
+    (c .before .visible-at .ensures) ∙ and-false-left _ _ (not-true _ (c .if2 .taken)))
 
 -- src/chains.rt:255:5
 starts-at-requires : tie.Need-starts-at-requires
@@ -81,7 +83,8 @@ returns-3 : tie.Need-returns-3
 returns-3 c =
     let s = c .before .before .before .before .before .before .before .before .before .before in
     let k = c .before .before .before .visible-part .ensures in
-    c .starts-at .ensures ∙ sym (shown-row _ _ _ _ _ _ _ _ _ _ _ _ _ (s .pre .5) (c .before .before .before .before .read-row .ensures) (k .0) (k .1) (c .before .before .visible-at .ensures) ∙ and-on _ _ (not-false _ (c .before .if2 .left)))
+    c .starts-at .ensures ∙ sym (shown-row _ _ _ _ _ _ _ _ _ _ _ _ _ (s .pre .5) (c .before .before .before .before .read-row .ensures)
+    (k .0) (k .1) (c .before .before .visible-at .ensures) ∙ and-on _ _ (not-false _ (c .before .if2 .left)))
 
 pub shown-in-spec : {M : Type 1} → statement M
 shown-in-spec =

@@ -29,7 +29,8 @@ some-start-requires c κs =
 
 -- src/chains.rt:201:1
 returns-3 : tie.Need-returns-3
-returns-3 c = or-other _ _ _ _ (sym (c .before .before .before .before .seen-at .ensures) ∙ c .before .before .before .if1 .left) (not-false _ (c .before .if2 .left)) (c .some-start .ensures)
+returns-3 c = or-other _ _ _ _ (sym (c .before .before .before .before .seen-at .ensures) ∙ c .before .before .before .if1 .left)
+    (not-false _ (c .before .if2 .left)) (c .some-start .ensures)
 
 pub starts-at-spec : {M : Type 1} → statement M
 starts-at-spec =

@@ -28,7 +28,8 @@ is-onward-requires c κs = search needs
 
 -- src/domains.rt:215:1
 returns-2 : tie.Need-returns-2
-returns-2 c = rw (← c .before .available-kind .ensures) (c .is-onward .ensures ∙ sym (and-on _ _ (sym (c .before .before .before .writes .ensures) ∙ not-false _ (c .before .before .if1 .left))))
+returns-2 c = rw (← c .before .available-kind .ensures)
+    (c .is-onward .ensures ∙ sym (and-on _ _ (sym (c .before .before .before .writes .ensures) ∙ not-false _ (c .before .before .if1 .left))))
 
 pub l5-spec : {M : Type 1} → statement M
 l5-spec =

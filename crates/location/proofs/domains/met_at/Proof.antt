@@ -47,7 +47,10 @@ returns-2 : tie.Need-returns-2
 unfolding operationAt
 returns-2 c =
     let s = c .before .before .before .before .before .before .before .before .before in
-    met-read _ _ _ _ _ (s .pre .4) _ _ _ _ _ (s .pre .1) (s .pre .2) (sym (c .before .before .before .before .before .before .operation-at .ensures) ∙ not-false _ (c .before .before .before .before .before .if1 .left)) (c .before .before .before .before .read-row .ensures) (sym (c .before .before .before .reads .ensures) ∙ c .before .before .if2 .taken) (c .before .visible-kind .ensures) (c .is-seen .ensures)
+    met-read _ _ _ _ _ (s .pre .4) _ _ _ _ _ (s .pre .1) (s .pre .2)
+    (sym (c .before .before .before .before .before .before .operation-at .ensures)
+    ∙ not-false _ (c .before .before .before .before .before .if1 .left)) (c .before .before .before .before .read-row .ensures)
+    (sym (c .before .before .before .reads .ensures) ∙ c .before .before .if2 .taken) (c .before .visible-kind .ensures) (c .is-seen .ensures)
 
 -- src/domains.rt:158:27
 mul-happens-bit : tie.Need-mul-happens-bit
@@ -74,7 +77,10 @@ returns-3 : tie.Need-returns-3
 unfolding operationAt
 returns-3 c =
     let s = c .before .before .before .before .before .before .before .before in
-    met-other _ _ _ _ _ (s .pre .4) _ _ _ _ (s .pre .1) (s .pre .2) (sym (c .before .before .before .before .before .operation-at .ensures) ∙ not-false _ (c .before .before .before .before .if1 .left)) (c .before .before .before .read-row .ensures) (sym (c .before .before .reads .ensures) ∙ c .before .if2 .left) (c .happens-bit .ensures)
+    met-other _ _ _ _ _ (s .pre .4) _ _ _ _ (s .pre .1) (s .pre .2)
+    (sym (c .before .before .before .before .before .operation-at .ensures)
+    ∙ not-false _ (c .before .before .before .before .if1 .left)) (c .before .before .before .read-row .ensures)
+    (sym (c .before .before .reads .ensures) ∙ c .before .if2 .left) (c .happens-bit .ensures)
 
 pub met-at-spec : {M : Type 1} → statement M
 met-at-spec =

@@ -31,7 +31,8 @@ is-available-requires c κs = search needs
 returns : tie.Need-returns
 returns c =
     let s = c .before .before .before .before .before in
-    reached-off _ _ _ _ _ (s .pre .4 .ordered) _ _ _ (c .before .before .row-byte .ensures) (sym (c .before .is-available .ensures) ∙ not-true _ (c .if1 .taken))
+    reached-off _ _ _ _ _ (s .pre .4 .ordered) _ _ _ (c .before .before .row-byte .ensures)
+    (sym (c .before .is-available .ensures) ∙ not-true _ (c .if1 .taken))
 
 -- src/domains.rt:188:47
 cast-read-agent : tie.Need-cast-read-agent
@@ -54,7 +55,11 @@ returns-2 : tie.Need-returns-2
 unfolding rowOf
 returns-2 c =
     let s = c .before .before .before .before .before .before .before .before .before in
-    reached-here _ _ _ _ _ (s .pre .4 .ordered) (s .pre .4 .meeting) _ _ _ _ _ _ (s .pre .1) (s .pre .2) (c .before .before .before .before .before .before .row-byte .ensures) (sym (c .before .before .before .before .before .is-available .ensures) ∙ not-false _ (c .before .before .before .before .if1 .left)) (c .before .before .before .read-agent .ensures) (c .before .before .is-host .ensures) (c .before .if2 .taken) (c .grid-bit .ensures)
+    reached-here _ _ _ _ _ (s .pre .4 .ordered) (s .pre .4 .meeting) _ _ _ _ _ _ (s .pre .1) (s .pre .2)
+    (c .before .before .before .before .before .before .row-byte .ensures)
+    (sym (c .before .before .before .before .before .is-available .ensures)
+    ∙ not-false _ (c .before .before .before .before .if1 .left)) (c .before .before .before .read-agent .ensures)
+    (c .before .before .is-host .ensures) (c .before .if2 .taken) (c .grid-bit .ensures)
 
 -- src/domains.rt:192:35
 out-of-requires : tie.Need-out-of-requires
@@ -69,7 +74,11 @@ returns-3 : tie.Need-returns-3
 unfolding rowOf
 returns-3 c =
     let s = c .before .before .before .before .before .before .before .before .before .before in
-    reached-over _ _ _ _ _ (s .pre .4 .ordered) (s .pre .4 .meeting) _ _ _ _ _ _ _ (s .pre .1) (s .pre .2) (c .before .before .before .before .before .before .before .row-byte .ensures) (sym (c .before .before .before .before .before .before .is-available .ensures) ∙ not-false _ (c .before .before .before .before .before .if1 .left)) (c .before .before .before .before .read-agent .ensures) (c .before .before .before .is-host .ensures) (c .before .before .if2 .left) (c .before .out-of .ensures) (c .is-onward .ensures)
+    reached-over _ _ _ _ _ (s .pre .4 .ordered) (s .pre .4 .meeting) _ _ _ _ _ _ _ (s .pre .1) (s .pre .2)
+    (c .before .before .before .before .before .before .before .row-byte .ensures)
+    (sym (c .before .before .before .before .before .before .is-available .ensures)
+    ∙ not-false _ (c .before .before .before .before .before .if1 .left)) (c .before .before .before .before .read-agent .ensures)
+    (c .before .before .before .is-host .ensures) (c .before .before .if2 .left) (c .before .out-of .ensures) (c .is-onward .ensures)
 
 pub reached-at-spec : {M : Type 1} → statement M
 reached-at-spec =

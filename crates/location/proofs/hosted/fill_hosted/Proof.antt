@@ -40,7 +40,13 @@ clear-requires c κs = search needs
 
 -- src/hosted.rt:97:5
 loop-holds : tie.Need-loop-holds Inv-loop2 μ-loop2 Inv-loop μ-loop
-loop-holds c = (search needs, refl, sources-kept (within-cleared HOSTED HOSTED-END (omega arith) (c .before .before .clear .ensures)) (c .before .before .before .before .before .before .pre .2), gridFill-none _ _ _ _ _)
+loop-holds c = (
+  search needs,
+  refl,
+  sources-kept (within-cleared HOSTED HOSTED-END (omega arith) (c .before .before .clear .ensures))
+      (c .before .before .before .before .before .before .pre .2),
+  gridFill-none _ _ _ _ _,
+)
 
 -- src/hosted.rt:98:9
 loop2-holds : tie.Need-loop2-holds Inv-loop2 μ-loop2 Inv-loop μ-loop
@@ -94,7 +100,8 @@ same-length c = search needs
 returns : tie.Need-returns Inv-loop2 μ-loop2 Inv-loop μ-loop
 returns c =
     let e : c .before .loop .x ≡ c .before .before .before .before .before .before .before .before .args .n = omega arith in
-    made-filled HOSTED HOSTED-END GRID _ _ _ _ _ (omega arith) (omega arith) (omega arith) (c .before .before .before .before .clear .ensures) (rw e at (c .before .loop .inv .3))
+    made-filled HOSTED HOSTED-END GRID _ _ _ _ _ (omega arith) (omega arith) (omega arith)
+    (c .before .before .before .before .clear .ensures) (rw e at (c .before .loop .inv .3))
 
 pub fill-hosted-spec : {M : Type 1} → statement M
 fill-hosted-spec =

@@ -36,7 +36,8 @@ may-share-requires c κs = search needs
 returns : tie.Need-returns
 returns c =
     let s = c .before .before .before .before .before .before in
-    hosted-off _ _ _ _ _ (s .pre .4) _ _ _ _ (c .before .before .before .read-row .ensures) (c .before .before .read-row2 .ensures) (sym (c .before .may-share .ensures) ∙ not-true _ (c .if1 .taken))
+    hosted-off _ _ _ _ _ (s .pre .4) _ _ _ _ (c .before .before .before .read-row .ensures) (c .before .before .read-row2 .ensures)
+    (sym (c .before .may-share .ensures) ∙ not-true _ (c .if1 .taken))
 
 -- src/hosted.rt:83:9
 grid-bit-requires : tie.Need-grid-bit-requires
@@ -50,7 +51,11 @@ l4-requires c κs = search needs
 returns-2 : tie.Need-returns-2
 returns-2 c =
     let s = c .before .before .before .before .before .before .before .before .before in
-    hosted-fourth _ _ _ _ _ (s .pre .4) _ _ (s .pre .1) (s .pre .2) _ _ _ _ (c .before .before .before .before .before .before .read-row .ensures) (c .before .before .before .before .before .read-row2 .ensures) (sym (c .before .before .before .before .may-share .ensures) ∙ not-false _ (c .before .before .before .if1 .left)) (c .before .before .grid-bit .ensures) (c .before .l4 .ensures) (c .if2 .taken)
+    hosted-fourth _ _ _ _ _ (s .pre .4) _ _ (s .pre .1) (s .pre .2) _ _ _ _
+    (c .before .before .before .before .before .before .read-row .ensures)
+    (c .before .before .before .before .before .read-row2 .ensures)
+    (sym (c .before .before .before .before .may-share .ensures) ∙ not-false _ (c .before .before .before .if1 .left))
+    (c .before .before .grid-bit .ensures) (c .before .l4 .ensures) (c .if2 .taken)
 
 -- src/hosted.rt:87:5
 l5-requires : tie.Need-l5-requires
@@ -60,7 +65,11 @@ l5-requires c κs = search needs
 returns-3 : tie.Need-returns-3
 returns-3 c =
     let s = c .before .before .before .before .before .before .before .before .before .before in
-    hosted-fifth _ _ _ _ _ (s .pre .4) _ _ (s .pre .1) (s .pre .2) _ _ _ _ (c .before .before .before .before .before .before .before .read-row .ensures) (c .before .before .before .before .before .before .read-row2 .ensures) (sym (c .before .before .before .before .before .may-share .ensures) ∙ not-false _ (c .before .before .before .before .if1 .left)) (c .before .before .before .grid-bit .ensures) (c .before .before .l4 .ensures) _ _ (c .before .if2 .left) refl (c .l5 .ensures)
+    hosted-fifth _ _ _ _ _ (s .pre .4) _ _ (s .pre .1) (s .pre .2) _ _ _ _
+    (c .before .before .before .before .before .before .before .read-row .ensures)
+    (c .before .before .before .before .before .before .read-row2 .ensures)
+    (sym (c .before .before .before .before .before .may-share .ensures) ∙ not-false _ (c .before .before .before .before .if1 .left))
+    (c .before .before .before .grid-bit .ensures) (c .before .before .l4 .ensures) _ _ (c .before .if2 .left) refl (c .l5 .ensures)
 
 pub hosted-at-spec : {M : Type 1} → statement M
 hosted-at-spec =

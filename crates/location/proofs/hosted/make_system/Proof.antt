@@ -64,7 +64,9 @@ returns c =
     let s = c .before .before .before .before .before .before .before .before .before .before .before in
     let inv = c .before .before .before .before .before .loop .inv in
     let e : c .before .before .before .before .before .loop .k ≡ s .args .mode .dependencies = omega arith in
-    made-system _ (s .pre .0) e (within-trans (within-cleared SYSTEM SYSTEM-END (omega arith) (c .before .before .before .before .before .before .before .before .clear .ensures)) (inv .3)) (inv .2) (c .before .before .close .ensures)
+    made-system _ (s .pre .0) e (within-trans
+    (within-cleared SYSTEM SYSTEM-END (omega arith) (c .before .before .before .before .before .before .before .before .clear .ensures))
+    (inv .3)) (inv .2) (c .before .before .close .ensures)
 
 pub make-system-spec : {M : Type 1} → statement M
 make-system-spec =

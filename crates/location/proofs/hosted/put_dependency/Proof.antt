@@ -44,7 +44,9 @@ same-length c = search needs
 returns-3 : tie.Need-returns-3
 returns-3 c =
     let s = c .before .before .before .before .before .before .before .before .before .before .before in
-    added-depends _ _ _ _ _ (c .before .before .before .before .before .before .before .dependency-end .ensures) (c .before .before .before .before .before .before .dependency-end2 .ensures) _ _ (s .pre .0) (s .pre .1) (c .before .before .before .before .before .if1 .left) (c .before .before .before .before .if2 .left) (c .before .before .put .ensures)
+    added-depends _ _ _ _ _ (c .before .before .before .before .before .before .before .dependency-end .ensures)
+    (c .before .before .before .before .before .before .dependency-end2 .ensures) _ _ (s .pre .0) (s .pre .1)
+    (c .before .before .before .before .before .if1 .left) (c .before .before .before .before .if2 .left) (c .before .before .put .ensures)
 
 pub put-dependency-spec : {M : Type 1} → statement M
 put-dependency-spec =

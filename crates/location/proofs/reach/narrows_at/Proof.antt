@@ -87,7 +87,9 @@ returns-2 c =
     let k = c .before .before .before .before .visible-part .ensures in
     let m = c .before .before .before .visible-part2 .ensures in
     let h = c .happens-bit .ensures ∙ s .pre .4 .happening .cell _ _ (omega (arith, k .1)) (omega (arith, m .1)) in
-    sym (narrows-row _ _ _ _ _ _ _ _ _ _ _ _ _ (c .before .before .before .before .before .before .read-row .ensures) (c .before .before .before .before .before .read-row2 .ensures) (k .0) (m .0) (k .1) (c .before .before .visibility-of .ensures) (c .before .is-broader .ensures) h)
+    sym (narrows-row _ _ _ _ _ _ _ _ _ _ _ _ _ (c .before .before .before .before .before .before .read-row .ensures)
+    (c .before .before .before .before .before .read-row2 .ensures) (k .0) (m .0) (k .1) (c .before .before .visibility-of .ensures)
+    (c .before .is-broader .ensures) h)
 
 pub narrows-at-spec : {M : Type 1} → statement M
 narrows-at-spec =

@@ -23,7 +23,9 @@ same-length c = search needs
 
 -- src/reach.rt:116:1
 returns : tie.Need-returns
-returns c = made-closed REACH-IN REACH-IN-END (omega (arith, c .before .before .before .before .before .before .before .before .before .before .pre .0)) (c .before .before .before .before .before .before .fill-in .ensures) (c .before .before .close .ensures)
+returns c = made-closed REACH-IN REACH-IN-END
+    (omega (arith, c .before .before .before .before .before .before .before .before .before .before .pre .0))
+    (c .before .before .before .before .before .before .fill-in .ensures) (c .before .before .close .ensures)
 
 pub reach-in-spec : {M : Type 1} → statement M
 reach-in-spec = tie.close (tie.spec fill-in-requires close-requires same-length returns)

@@ -82,7 +82,8 @@ returns c =
     let at-loop = c .before in
     let start = c .before .before .before .before .before .before .before .before in
     let e : at-loop .loop .x ≡ start .args .n = omega arith in
-    set-made RELEASING _ _ (start .args .w .now) _ _ (search needs) (search needs) (at-loop .before .before .before .clear .ensures) (rw e at (at-loop .loop .inv .2))
+    set-made RELEASING _ _ (start .args .w .now) _ _ (search needs) (search needs) (at-loop .before .before .before .clear .ensures)
+    (rw e at (at-loop .loop .inv .2))
 
 pub fill-releasing-spec : {M : Type 1} → statement M
 fill-releasing-spec =

@@ -56,7 +56,8 @@ returns-3 c =
     let tested = at-put .before .before in
     let read = tested .before .before in
     let start = read .before .before in
-    depend-put _ _ _ _ _ _ (read .before .first-at .ensures) (read .second-at .ensures) _ (search needs) (search needs) (omega arith) (omega arith) (at-put .put .ensures)
+    depend-put _ _ _ _ _ _ (read .before .first-at .ensures) (read .second-at .ensures) _ (search needs) (search needs) (omega arith)
+    (omega arith) (at-put .put .ensures)
 
 pub put-dependency-spec : {M : Type 1} → statement M
 put-dependency-spec =

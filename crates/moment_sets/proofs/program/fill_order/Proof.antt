@@ -32,8 +32,13 @@ clear-requires c κs = search needs
 -- src/program.rt:47:5
 loop-holds : tie.Need-loop-holds Inv-loop μ-loop
 loop-holds c =
-    let start = c .before .before .before .before .before .before in
-    (search needs, refl, within-refl _ _ _, λ p mode. order-start _ _ (start .args .w .now) _ (search needs) (search needs) (c .before .before .clear .ensures) p mode)
+    let start = c .before .before .before .before .before .before in (
+      search needs,
+      refl,
+      within-refl _ _ _,
+      λ p mode. order-start _ _ (start .args .w .now) _ (search needs) (search needs)
+          (c .before .before .clear .ensures) p mode,
+    )
 
 -- src/program.rt:48:24
 sub-pass-row : tie.Need-sub-pass-row Inv-loop μ-loop
@@ -61,8 +66,13 @@ loop-again c =
     let at-loop = c .before .before .before .before .before in
     let inv = at-loop .loop .inv in
     let made = c .before .before .pass-row .ensures in
-    let frame = order-frame _ _ (at-loop .loop .j) _ _ (at-loop .loop .w) _ (search needs) (omega (arith, inv .1)) (search needs) refl made (inv .2) in
-    (search needs, frame .len, frame, λ p mode. order-turn _ _ (at-loop .loop .j) _ (at-loop .loop .w) (at-loop .loop .w) _ (search needs) (omega (arith, inv .1)) (search needs) refl made p mode (inv .3 p mode))
+    let frame = order-frame _ _ (at-loop .loop .j) _ _ (at-loop .loop .w) _ (search needs) (omega (arith, inv .1)) (search needs) refl made (inv .2) in (
+      search needs,
+      frame .len,
+      frame,
+      λ p mode. order-turn _ _ (at-loop .loop .j) _ (at-loop .loop .w) (at-loop .loop .w) _ (search needs)
+          (omega (arith, inv .1)) (search needs) refl made p mode (inv .3 p mode),
+    )
 
 -- src/program.rt:54:9
 sub-join-row : tie.Need-sub-join-row Inv-loop μ-loop
@@ -84,7 +94,8 @@ returns c =
     let start = c .before .before .before .before .before .before .before .before .before .before .before .before in
     let e : at-loop .loop .j ≡ start .args .n = omega arith in
     let inv = at-loop .loop .inv in
-    λ p mode. order-end _ _ (start .args .w .now) _ (search needs) (search needs) (at-loop .before .before .before .clear .ensures) p mode _ _ _ e (inv .2) (inv .3 p mode) (at-join .join-row .ensures)
+    λ p mode. order-end _ _ (start .args .w .now) _ (search needs) (search needs)
+    (at-loop .before .before .before .clear .ensures) p mode _ _ _ e (inv .2) (inv .3 p mode) (at-join .join-row .ensures)
 
 pub fill-order-spec : {M : Type 1} → statement M
 fill-order-spec =

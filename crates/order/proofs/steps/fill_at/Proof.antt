@@ -43,7 +43,9 @@ loop-less c = search needs
 -- src/steps.rt:99:5
 loop-again : tie.Need-loop-again Inv-loop μ-loop
 loop-again c =
-    let made = row-more _ _ _ _ _ _ _ _ _ (omega arith) (omega arith) (c .before .before .before .before .before .before .before .before .before .loop .inv .2) (c .before .before .before .before .before .before .fill-cell .ensures) (c .before .before .fill-cell2 .ensures) in
+    let made = row-more _ _ _ _ _ _ _ _ _ (omega arith) (omega arith)
+    (c .before .before .before .before .before .before .before .before .before .loop .inv .2)
+    (c .before .before .before .before .before .before .fill-cell .ensures) (c .before .before .fill-cell2 .ensures) in
     (search needs, made .grown .frame .len, made)
 
 -- src/steps.rt:95:1

@@ -70,7 +70,8 @@ returns : tie.Need-returns Inv-loop μ-loop
 returns c =
     let start = c .before .before .before .before .before .before .before .before in
     let e : c .before .loop .j ≡ start .args .n = omega arith in
-    steps-made _ _ _ _ _ _ _ _ (omega arith) (omega arith) (start .pre .2) (c .before .before .before .before .clear .ensures) (rw e at (c .before .loop .inv .2))
+    steps-made _ _ _ _ _ _ _ _ (omega arith) (omega arith) (start .pre .2) (c .before .before .before .before .clear .ensures)
+    (rw e at (c .before .loop .inv .2))
 
 pub fill-cases-spec : {M : Type 1} → statement M
 fill-cases-spec =

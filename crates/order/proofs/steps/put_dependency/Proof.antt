@@ -64,7 +64,8 @@ returns-3 c =
     let tested = at-put .before .before in
     let read = tested .before .before in
     let start = read .before .before .before in
-    added-put _ _ _ _ _ _ (read .before .first-at .ensures) (read .second-at .ensures) _ _ (start .pre .0) (start .pre .1) (omega arith) (omega arith) (omega arith) (at-put .put .ensures)
+    added-put _ _ _ _ _ _ (read .before .first-at .ensures) (read .second-at .ensures) _ _ (start .pre .0) (start .pre .1) (omega arith)
+    (omega arith) (omega arith) (at-put .put .ensures)
 
 pub put-dependency-spec : {M : Type 1} → statement M
 put-dependency-spec =

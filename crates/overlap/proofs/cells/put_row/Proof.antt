@@ -75,12 +75,18 @@ same-length-2 c = search needs
 -- src/cells.rt:37:1
 returns-3 : tie.Need-returns-3
 returns-3 c =
-    let s = c .before .before .before .before .before .before .before .before .before .before .before .before .before .before .before .before .before .before .before in
-    let row = c .before .before .before .before .before .before .before .before .before .before .before .before .before .before .before .before .read-row .ensures in
+    let s = c .before .before .before .before .before .before .before .before .before .before .before .before .before .before .before
+    .before .before .before .before in
+    let row = c .before .before .before .before .before .before .before .before .before .before .before .before .before .before .before
+    .before .read-row .ensures in
     let first = c .before .before .before .before .before .before .before .before .before .cell .ensures in
     let last = c .before .before .before .cell2 .ensures in
-    let one = added-put (λ d. d ≡ c .before .before .before .before .before .before .before .before .before .cell .result) _ (s .pre .0) (s .pre .1) (first .1) (added-none _ (λ d. ⊥) _ (λ d h. h)) (c .before .before .before .before .before .before .before .before .put .ensures) (λ d h. inr h) in
-    added-put _ _ (s .pre .0) (omega (arith, one .frame .len, s .pre .1)) (last .1) one (c .before .before .put2 .ensures) (λ d h. two-cells row (c .before .before .before .before .before .before .before .before .before .before .before .before .if2 .left) (first .0) (last .0) h)
+    let one = added-put (λ d. d ≡ c .before .before .before .before .before .before .before .before .before .cell .result) _ (s .pre .0)
+    (s .pre .1) (first .1) (added-none _ (λ d. ⊥) _ (λ d h. h))
+    (c .before .before .before .before .before .before .before .before .put .ensures) (λ d h. inr h) in
+    added-put _ _ (s .pre .0) (omega (arith, one .frame .len, s .pre .1)) (last .1) one (c .before .before .put2 .ensures)
+    (λ d h. two-cells row (c .before .before .before .before .before .before .before .before .before .before .before .before .if2 .left)
+    (first .0) (last .0) h)
 
 pub put-row-spec : {M : Type 1} → statement M
 put-row-spec =

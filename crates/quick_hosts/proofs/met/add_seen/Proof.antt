@@ -49,7 +49,9 @@ same-length-2 c = search needs
 returns-2 : tie.Need-returns-2
 returns-2 c =
     let s = c .before .before .before .before .before .before .before .before .before in
-    seen-some _ _ _ (s .pre .0) (s .pre .1) (s .pre .2) (s .pre .3) (sym (c .before .before .before .before .before .shows-at .ensures) ∙ not-false _ (c .before .before .before .before .if1 .left)) (s .pre .4) (c .before .before .join-row .ensures)
+    seen-some _ _ _ (s .pre .0) (s .pre .1) (s .pre .2) (s .pre .3)
+    (sym (c .before .before .before .before .before .shows-at .ensures) ∙ not-false _ (c .before .before .before .before .if1 .left))
+    (s .pre .4) (c .before .before .join-row .ensures)
 
 pub add-seen-spec : {M : Type 1} → statement M
 add-seen-spec =

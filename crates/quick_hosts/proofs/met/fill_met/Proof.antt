@@ -31,7 +31,14 @@ clear-requires c κs = search needs
 
 -- src/met.rt:152:5
 loop-holds : tie.Need-loop-holds Inv-loop μ-loop
-loop-holds c = (search needs, refl, seeing-kept (within-cleared MET MET-END (omega arith) (c .before .before .clear .ensures)) (seeing-made (c .before .before .before .before .before .before .before .before .before .before .pre .2) (c .before .before .before .before .before .before .fill-seen .ensures)), below-none _)
+loop-holds c = (
+  search needs,
+  refl,
+  seeing-kept (within-cleared MET MET-END (omega arith) (c .before .before .clear .ensures))
+      (seeing-made (c .before .before .before .before .before .before .before .before .before .before .pre .2)
+      (c .before .before .before .before .before .before .fill-seen .ensures)),
+  below-none _,
+)
 
 -- src/met.rt:153:9
 met-row-requires : tie.Need-met-row-requires Inv-loop μ-loop

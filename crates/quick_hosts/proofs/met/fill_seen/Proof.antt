@@ -32,7 +32,14 @@ clear-requires c κs = search needs
 
 -- src/met.rt:100:5
 loop-holds : tie.Need-loop-holds Inv-loop μ-loop
-loop-holds c = (search needs, refl, ordered-kept (omega arith) (within-cleared REACHED REACHED-END (omega arith) (c .before .before .clear .ensures)) (c .before .before .before .before .before .before .pre .2), gridFill-none _ _ _ _ _)
+loop-holds c = (
+  search needs,
+  refl,
+  ordered-kept (omega arith)
+      (within-cleared REACHED REACHED-END (omega arith) (c .before .before .clear .ensures))
+      (c .before .before .before .before .before .before .pre .2),
+  gridFill-none _ _ _ _ _,
+)
 
 -- src/met.rt:101:9
 seen-row-requires : tie.Need-seen-row-requires Inv-loop μ-loop
@@ -51,8 +58,12 @@ loop-again : tie.Need-loop-again Inv-loop μ-loop
 loop-again c =
     let row = c .before .before .seen-row in
     let inv = c .before .before .before .before .before .loop .inv in
-    let e = gridFill-more _ _ _ _ _ _ _ _ (inv .3) (row .ensures) in
-    (search needs, ap length e ∙ length-gridFill _ _ _ _ _ _, ordered-kept (omega arith) (within-row REACHED REACHED-END _ _ _ (omega arith) (omega arith) (row .ensures)) (inv .2), e)
+    let e = gridFill-more _ _ _ _ _ _ _ _ (inv .3) (row .ensures) in (
+      search needs,
+      ap length e ∙ length-gridFill _ _ _ _ _ _,
+      ordered-kept (omega arith) (within-row REACHED REACHED-END _ _ _ (omega arith) (omega arith) (row .ensures)) (inv .2),
+      e,
+    )
 
 -- src/met.rt:95:1
 same-length : tie.Need-same-length Inv-loop μ-loop
@@ -62,7 +73,8 @@ same-length c = search needs
 returns : tie.Need-returns Inv-loop μ-loop
 returns c =
     let e : c .before .loop .i ≡ c .before .before .before .before .before .before .before .before .args .n = omega arith in
-    made-filled REACHED REACHED-END GRID _ _ _ _ _ (omega arith) (omega arith) (omega arith) (c .before .before .before .before .clear .ensures) (rw e at (c .before .loop .inv .3))
+    made-filled REACHED REACHED-END GRID _ _ _ _ _ (omega arith) (omega arith) (omega arith)
+    (c .before .before .before .before .clear .ensures) (rw e at (c .before .loop .inv .3))
 
 pub fill-seen-spec : {M : Type 1} → statement M
 fill-seen-spec =

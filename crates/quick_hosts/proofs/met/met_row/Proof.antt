@@ -39,7 +39,13 @@ once-row-requires c κs = search needs
 
 -- src/met.rt:115:5
 loop-holds : tie.Need-loop-holds Inv-loop μ-loop
-loop-holds c = let s = c .before .before .before .before .before .before .before .before in (search needs, refl, seeing-kept (within-row MET MET-END _ _ _ (omega arith) (omega (arith, s .pre .0, s .pre .2)) (c .before .before .once-row .ensures)) (s .pre .3), upto-none _ _)
+loop-holds c = let s = c .before .before .before .before .before .before .before .before in (
+  search needs,
+  refl,
+  seeing-kept (within-row MET MET-END _ _ _ (omega arith) (omega (arith, s .pre .0, s .pre .2))
+      (c .before .before .once-row .ensures)) (s .pre .3),
+  upto-none _ _,
+)
 
 -- src/met.rt:116:9
 add-seen-requires : tie.Need-add-seen-requires Inv-loop μ-loop
@@ -70,7 +76,10 @@ unfolding operationAt decode
 returns-2 c =
     let s = c .before .before .before .before .before .before .before .before .before .before in
     let e : c .before .loop .i ≡ s .args .n = omega arith in
-    met-all _ _ (s .pre .0) (s .pre .1) (s .pre .2) (sym (c .before .before .before .before .before .before .before .operation-at .ensures) ∙ not-false _ (c .before .before .before .before .before .before .if1 .left)) (c .before .before .before .before .once-row .ensures) (rw e at (c .before .loop .inv .3))
+    met-all _ _ (s .pre .0) (s .pre .1) (s .pre .2)
+    (sym (c .before .before .before .before .before .before .before .operation-at .ensures)
+    ∙ not-false _ (c .before .before .before .before .before .before .if1 .left)) (c .before .before .before .before .once-row .ensures)
+    (rw e at (c .before .loop .inv .3))
 
 pub met-row-spec : {M : Type 1} → statement M
 met-row-spec =

@@ -49,8 +49,12 @@ loop-again : tie.Need-loop-again Inv-loop μ-loop
 loop-again c =
     let put = c .before .before .put-if in
     let inv = c .before .before .before .before .before .before .before .loop .inv in
-    let e = rowFill-put _ _ _ (put .last .0) _ _ _ _ (inv .3) (c .before .before .before .before .once-at .ensures) (omega arith) (put .ensures) in
-    (search needs, ap length e ∙ length-rowFill _ _ _ _, ordered-kept (omega arith) (within-put MET MET-END _ _ (omega arith) (omega arith) (put .ensures)) (inv .2), e)
+    let e = rowFill-put _ _ _ (put .last .0) _ _ _ _ (inv .3) (c .before .before .before .before .once-at .ensures) (omega arith) (put .ensures) in (
+      search needs,
+      ap length e ∙ length-rowFill _ _ _ _,
+      ordered-kept (omega arith) (within-put MET MET-END _ _ (omega arith) (omega arith) (put .ensures)) (inv .2),
+      e,
+    )
 
 -- src/met.rt:43:1
 same-length : tie.Need-same-length Inv-loop μ-loop

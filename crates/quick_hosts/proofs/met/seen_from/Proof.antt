@@ -34,7 +34,8 @@ visible-kind-requires c κs = search needs
 returns-2 : tie.Need-returns-2
 returns-2 c =
     let s = c .before .before .before .before .before .before .before in
-    seen-other _ _ _ _ _ (s .pre .5) _ _ _ _ _ (s .pre .3) (c .before .before .read-agent .ensures) (c .before .visible-kind .ensures) (not-true _ (c .if2 .taken))
+    seen-other _ _ _ _ _ (s .pre .5) _ _ _ _ _ (s .pre .3) (c .before .before .read-agent .ensures) (c .before .visible-kind .ensures)
+    (not-true _ (c .if2 .taken))
 
 -- src/met.rt:67:27
 mul-happens-bit : tie.Need-mul-happens-bit
@@ -60,7 +61,10 @@ happens-bit-requires c κs = search needs
 returns-3 : tie.Need-returns-3
 returns-3 c =
     let s = c .before .before .before .before .before .before .before .before in
-    seen-on _ _ _ _ _ (s .pre .5) _ _ _ _ _ (s .pre .3) (c .before .before .before .read-agent .ensures) (c .before .before .visible-kind .ensures) _ _ (s .pre .1) (s .pre .2) (c .before .before .before .before .before .reads-at .ensures) (not-false _ (c .before .before .before .before .if1 .left)) (not-false _ (c .before .if2 .left)) (c .happens-bit .ensures)
+    seen-on _ _ _ _ _ (s .pre .5) _ _ _ _ _ (s .pre .3) (c .before .before .before .read-agent .ensures)
+    (c .before .before .visible-kind .ensures) _ _ (s .pre .1) (s .pre .2)
+    (c .before .before .before .before .before .reads-at .ensures) (not-false _ (c .before .before .before .before .if1 .left))
+    (not-false _ (c .before .if2 .left)) (c .happens-bit .ensures)
 
 pub seen-from-spec : {M : Type 1} → statement M
 seen-from-spec =

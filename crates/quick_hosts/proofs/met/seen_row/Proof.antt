@@ -65,8 +65,13 @@ loop-again : tie.Need-loop-again Inv-loop μ-loop
 loop-again c =
     let put = c .before .before .put-if in
     let inv = c .before .before .before .before .before .before .before .loop .inv in
-    let e = rowFill-put _ _ _ (put .last .0) _ _ _ _ (inv .4) (c .before .before .before .before .seen-from .ensures) (omega arith) (put .ensures) in
-    (search needs, ap length e ∙ length-rowFill _ _ _ _, inv .2, ordered-kept (omega arith) (within-put REACHED REACHED-END _ _ (omega arith) (omega arith) (put .ensures)) (inv .3), e)
+    let e = rowFill-put _ _ _ (put .last .0) _ _ _ _ (inv .4) (c .before .before .before .before .seen-from .ensures) (omega arith) (put .ensures) in (
+      search needs,
+      ap length e ∙ length-rowFill _ _ _ _,
+      inv .2,
+      ordered-kept (omega arith) (within-put REACHED REACHED-END _ _ (omega arith) (omega arith) (put .ensures)) (inv .3),
+      e,
+    )
 
 -- src/met.rt:80:1
 same-length : tie.Need-same-length Inv-loop μ-loop

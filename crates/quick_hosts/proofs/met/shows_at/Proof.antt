@@ -47,7 +47,8 @@ returns-2 : tie.Need-returns-2
 unfolding _or_
 returns-2 c =
     let s = c .before .before .before .before .before in
-    shows-on _ _ _ _ _ (s .pre .4) _ _ _ _ (s .pre .1) (s .pre .2) (c .before .before .read-kind .ensures) (not-false _ (c .before .if1 .left)) (c .happens-bit .ensures)
+    shows-on _ _ _ _ _ (s .pre .4) _ _ _ _ (s .pre .1) (s .pre .2) (c .before .before .read-kind .ensures)
+    (not-false _ (c .before .if1 .left)) (c .happens-bit .ensures)
 
 pub shows-at-spec : {M : Type 1} → statement M
 shows-at-spec =

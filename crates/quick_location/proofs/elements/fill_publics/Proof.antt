@@ -77,9 +77,14 @@ unfolding rowOf
 loop-again c =
     let put = c .before .before .put-if .ensures in
     let inv = c .before .before .before .before .before .before .before .before .before .loop .inv in
-    let at = c .before .before .before .before .before .before .set-at .ensures ∙ ap setAt (c .before .before .before .before .before .before .before .read-agent .ensures) in
-    let flags = c .before .before .before .meets .ensures ∙ ap (λ (f : ℕ). meets f 2) (c .before .before .before .before .before .row-byte .ensures) in
-    (search needs, ap length put ∙ length-setBitIf _ _ _ ∙ inv .1, publics-more _ _ (inv .2) (omega arith) (ap (λ (k : ℕ). k * 64 + c .before .before .before .before .before .before .before .before .before .loop .a) at) flags put)
+    let at = c .before .before .before .before .before .before .set-at .ensures
+    ∙ ap setAt (c .before .before .before .before .before .before .before .read-agent .ensures) in
+    let flags = c .before .before .before .meets .ensures ∙ ap (λ (f : ℕ). meets f 2) (c .before .before .before .before .before .row-byte .ensures) in (
+      search needs,
+      ap length put ∙ length-setBitIf _ _ _ ∙ inv .1,
+      publics-more _ _ (inv .2) (omega arith)
+          (ap (λ (k : ℕ). k * 64 + c .before .before .before .before .before .before .before .before .before .loop .a) at) flags put,
+    )
 
 -- src/elements.rt:293:1
 same-length : tie.Need-same-length Inv-loop μ-loop

@@ -48,7 +48,8 @@ returns-2 c =
     let s = c .before .before .before .before .before .before .before .before .before in
     let e = sym (c .before .before .before .before .before .is-first .ensures _ _) ∙ not-false _ (c .before .before .before .before .if1 .left) in
     let f = sym (c .before .before .reads .ensures) ∙ c .before .if2 .taken in
-    reader-bytes _ _ _ _ _ _ _ _ _ _ _ (s .pre .4) (s .pre .5) (c .before .before .before .before .before .before .read-row .ensures) e f (c .lasts-bytes .ensures)
+    reader-bytes _ _ _ _ _ _ _ _ _ _ _ (s .pre .4) (s .pre .5) (c .before .before .before .before .before .before .read-row .ensures) e f
+    (c .lasts-bytes .ensures)
 
 -- src/elements.rt:357:9
 is-met-requires : tie.Need-is-met-requires
@@ -65,9 +66,12 @@ returns-3 c =
 returns-4 : tie.Need-returns-4
 returns-4 c =
     let s = c .before .before .before .before .before .before .before .before .before .before in
-    let e = sym (c .before .before .before .before .before .before .is-first .ensures _ _) ∙ not-false _ (c .before .before .before .before .before .if1 .left) in
+    let e = sym (c .before .before .before .before .before .before .is-first .ensures _ _)
+    ∙ not-false _ (c .before .before .before .before .before .if1 .left) in
     let f = sym (c .before .before .before .reads .ensures) ∙ c .before .before .if2 .left in
-    other-bytes _ _ _ _ _ _ _ _ _ _ _ (s .pre .4) (s .pre .5) (c .before .before .before .before .before .before .before .read-row .ensures) e f (sym (c .before .is-met .ensures) ∙ not-false _ (c .if3 .left)) (c .before .before .before .before .covered .ensures)
+    other-bytes _ _ _ _ _ _ _ _ _ _ _ (s .pre .4) (s .pre .5)
+    (c .before .before .before .before .before .before .before .read-row .ensures) e f
+    (sym (c .before .is-met .ensures) ∙ not-false _ (c .if3 .left)) (c .before .before .before .before .covered .ensures)
 
 pub first-bytes-spec : {M : Type 1} → statement M
 first-bytes-spec =

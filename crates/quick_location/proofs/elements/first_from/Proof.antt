@@ -17,7 +17,11 @@ writes-requires c κs = search needs
 
 -- src/elements.rt:326:9
 returns : tie.Need-returns
-returns c = (search needs, λ p mode. publishes-none _ p mode _ _ _ _ (c .before .before .before .before .pre .2) (sym (c .before .writes .ensures) ∙ not-true _ (c .if1 .taken)))
+returns c = (
+  search needs,
+  λ p mode. publishes-none _ p mode _ _ _ _ (c .before .before .before .before .pre .2)
+      (sym (c .before .writes .ensures) ∙ not-true _ (c .if1 .taken)),
+)
 
 -- src/elements.rt:328:9
 set-at-requires : tie.Need-set-at-requires

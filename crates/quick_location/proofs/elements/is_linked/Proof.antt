@@ -34,7 +34,8 @@ some-linked-requires c κs =
 -- src/elements.rt:82:1
 returns-3 : tie.Need-returns-3
 unfolding linkedFrom linked decode
-returns-3 c = or-other _ _ _ _ (sym (c .before .before .before .before .starts-at .ensures) ∙ c .before .before .before .if1 .left) (not-false _ (c .before .if2 .left)) (c .some-linked .ensures)
+returns-3 c = or-other _ _ _ _ (sym (c .before .before .before .before .starts-at .ensures) ∙ c .before .before .before .if1 .left)
+    (not-false _ (c .before .if2 .left)) (c .some-linked .ensures)
 
 pub is-linked-spec : {M : Type 1} → statement M
 is-linked-spec =

@@ -34,7 +34,8 @@ some-met-requires c κs =
 -- src/elements.rt:159:1
 returns-3 : tie.Need-returns-3
 unfolding metFrom decode
-returns-3 c = or-other _ _ _ _ (sym (c .before .before .before .before .met-at .ensures) ∙ c .before .before .before .if1 .left) (not-false _ (c .before .if2 .left)) (c .some-met .ensures)
+returns-3 c = or-other _ _ _ _ (sym (c .before .before .before .before .met-at .ensures) ∙ c .before .before .before .if1 .left)
+    (not-false _ (c .before .if2 .left)) (c .some-met .ensures)
 
 pub is-met-spec : {M : Type 1} → statement M
 is-met-spec = tie.close (tie.spec met-at-requires returns returns-2 some-met-requires returns-3)

@@ -42,7 +42,8 @@ returns c =
     let m = c .before .before .available-part .ensures in
     let h = s .pre .6 .ordered .happening .cell in
     mask-zero _ _
-    (λ k. shown-skip _ _ _ _ _ _ _ _ k _ _ _ _ _ (s .pre .5) (s .pre .9) (m .0) (h _ _ (omega (arith, m .1)) (omega arith)) (h _ _ (omega (arith, m .1)) (omega arith))
+    (λ k. shown-skip _ _ _ _ _ _ _ _ k _ _ _ _ _ (s .pre .5) (s .pre .9) (m .0) (h _ _ (omega (arith, m .1)) (omega arith))
+    (h _ _ (omega (arith, m .1)) (omega arith))
     (sym (c .before .may-show .ensures) ∙ not-true _ (c .if1 .taken)))
 
 -- src/elements.rt:209:35
@@ -91,7 +92,8 @@ unfolding _and_
 returns-2 c =
     let s = c .before .before .before .before .before .before .before .before .before .before in
     let m = c .before .before .before .visible-part .ensures in
-    let e = before-row _ _ _ _ 0 _ _ _ _ _ _ _ (s .pre .5) (c .before .before .before .before .read-row .ensures) (m .0) (m .1) (c .before .before .visibility-of .ensures) (c .before .is-ordered .ensures) in
+    let e = before-row _ _ _ _ 0 _ _ _ _ _ _ _ (s .pre .5) (c .before .before .before .before .read-row .ensures) (m .0) (m .1)
+    (c .before .before .visibility-of .ensures) (c .before .is-ordered .ensures) in
     mask-zero _ _ (λ k. shown-none _ _ _ _ k _ (e ∙ not-true _ (c .if2 .taken)))
 
 -- src/elements.rt:214:9
@@ -113,8 +115,10 @@ returns-4 c =
     let s = c .before .before .before .before .before .before .before .before .before .before .before .before .before in
     let u = c .before .before .before .before .before .before .before .read-row .ensures in
     let m = c .before .before .before .before .before .before .visible-part .ensures in
-    let e = before-row _ _ _ _ 0 _ _ _ _ _ _ _ (s .pre .5) u (m .0) (m .1) (c .before .before .before .before .before .visibility-of .ensures) (c .before .before .before .before .is-ordered .ensures) in
-    shown-bytes _ _ _ _ _ _ _ _ _ _ _ _ (s .pre .4) (s .pre .5) u (e ∙ not-false _ (c .before .before .before .if2 .left)) (sym (c .before .before .is-linked .ensures) ∙ not-false _ (c .before .if3 .left)) (c .covered .ensures)
+    let e = before-row _ _ _ _ 0 _ _ _ _ _ _ _ (s .pre .5) u (m .0) (m .1)
+    (c .before .before .before .before .before .visibility-of .ensures) (c .before .before .before .before .is-ordered .ensures) in
+    shown-bytes _ _ _ _ _ _ _ _ _ _ _ _ (s .pre .4) (s .pre .5) u (e ∙ not-false _ (c .before .before .before .if2 .left))
+    (sym (c .before .before .is-linked .ensures) ∙ not-false _ (c .before .if3 .left)) (c .covered .ensures)
 
 pub last-bytes-spec : {M : Type 1} → statement M
 last-bytes-spec =

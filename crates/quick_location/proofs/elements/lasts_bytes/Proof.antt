@@ -42,7 +42,8 @@ returns : tie.Need-returns Inv-loop μ-loop
 returns c =
     let s = c .before .before .before .before .before in
     let m = c .before .before .available-part .ensures in
-    lasts-none _ _ _ _ _ _ _ _ (s .pre .3) (λ k. shown-low _ _ _ _ _ _ _ k _ _ _ _ _ _ (s .pre .6 .ordered) (s .pre .7) (s .pre .5) (s .pre .8) (m .0) (m .1) (c .before .lasts-from .ensures) (omega arith) (omega (arith, s .pre .3)))
+    lasts-none _ _ _ _ _ _ _ _ (s .pre .3) (λ k. shown-low _ _ _ _ _ _ _ k _ _ _ _ _ _ (s .pre .6 .ordered) (s .pre .7) (s .pre .5)
+    (s .pre .8) (m .0) (m .1) (c .before .lasts-from .ensures) (omega arith) (omega (arith, s .pre .3)))
 
 -- src/elements.rt:268:17
 add-v-end : tie.Need-add-v-end Inv-loop μ-loop
@@ -52,8 +53,11 @@ add-v-end c = search needs
 loop-holds : tie.Need-loop-holds Inv-loop μ-loop
 loop-holds c =
     let s = c .before .before .before .before .before in
-    let m = c .before .before .available-part .ensures in
-    (search needs, mask-zero _ _ (λ k. shown-low _ _ _ _ _ _ _ k _ _ _ _ _ _ (s .pre .6 .ordered) (s .pre .7) (s .pre .5) (s .pre .8) (m .0) (m .1) (c .before .lasts-from .ensures) (omega arith) (omega (arith, c .if1 .left, s .pre .3))))
+    let m = c .before .before .available-part .ensures in (
+      search needs,
+      mask-zero _ _ (λ k. shown-low _ _ _ _ _ _ _ k _ _ _ _ _ _ (s .pre .6 .ordered) (s .pre .7) (s .pre .5) (s .pre .8) (m .0)
+          (m .1) (c .before .lasts-from .ensures) (omega arith) (omega (arith, c .if1 .left, s .pre .3))),
+    )
 
 -- src/elements.rt:269:17
 last-bytes-requires : tie.Need-last-bytes-requires Inv-loop μ-loop

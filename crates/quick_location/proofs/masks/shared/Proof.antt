@@ -26,7 +26,8 @@ is-access-requires-2 c κs = search needs
 -- src/masks.rt:70:9
 returns-2 : tie.Need-returns-2
 unfolding _and_
-returns-2 c = mask-zero _ _ (shared-none _ _ _ _ (ap₂ _and_ (sym (c .before .before .is-access .ensures)) (sym (c .before .is-access2 .ensures)) ∙ not-true _ (c .if2 .taken)))
+returns-2 c = mask-zero _ _ (shared-none _ _ _ _
+    (ap₂ _and_ (sym (c .before .before .is-access .ensures)) (sym (c .before .is-access2 .ensures)) ∙ not-true _ (c .if2 .taken)))
 
 -- src/masks.rt:72:5
 touched-requires : tie.Need-touched-requires
@@ -39,7 +40,9 @@ touched-requires-2 c κs = search needs
 -- src/masks.rt:63:1
 returns-3 : tie.Need-returns-3
 unfolding _and_
-returns-3 c = shared-both _ _ _ _ (c .before .before .before .before .before .if1 .left) (ap₂ _and_ (sym (c .before .before .before .before .is-access .ensures)) (sym (c .before .before .before .is-access2 .ensures)) ∙ not-false _ (c .before .before .if2 .left)) (mask-and (c .before .touched .ensures) (c .touched2 .ensures))
+returns-3 c = shared-both _ _ _ _ (c .before .before .before .before .before .if1 .left)
+    (ap₂ _and_ (sym (c .before .before .before .before .is-access .ensures)) (sym (c .before .before .before .is-access2 .ensures))
+    ∙ not-false _ (c .before .before .if2 .left)) (mask-and (c .before .touched .ensures) (c .touched2 .ensures))
 
 pub shared-spec : {M : Type 1} → statement M
 shared-spec =

@@ -67,7 +67,8 @@ returns-2 c =
     let k = c .before .before .before .available-part .ensures in
     let m = c .before .before .available-part2 .ensures in
     let h = c .before .happens-bit .ensures ∙ s .pre .4 .happening .cell _ _ (omega (arith, k .1)) (omega (arith, m .1)) in
-    sym (broadens-row _ _ _ _ _ _ _ _ _ _ _ _ _ (s .pre .5) (c .before .before .before .before .read-row .ensures) (k .0) (m .0) (m .1) refl refl h ∙ and-false-right _ _ (not-true _ (c .if2 .taken)))
+    sym (broadens-row _ _ _ _ _ _ _ _ _ _ _ _ _ (s .pre .5) (c .before .before .before .before .read-row .ensures) (k .0) (m .0)
+    (m .1) refl refl h ∙ and-false-right _ _ (not-true _ (c .if2 .taken)))
 
 -- src/reach.rt:38:33
 cast-availability-of : tie.Need-cast-availability-of
@@ -89,7 +90,8 @@ returns-3 c =
     let k = c .before .before .before .before .before .available-part .ensures in
     let m = c .before .before .before .before .available-part2 .ensures in
     let h = c .before .before .before .happens-bit .ensures ∙ s .pre .4 .happening .cell _ _ (omega (arith, k .1)) (omega (arith, m .1)) in
-    broadens-on _ _ _ _ _ _ _ _ _ _ _ _ _ (s .pre .5) (c .before .before .before .before .before .before .read-row .ensures) (k .0) (m .0) (m .1) (c .before .availability-of .ensures) (c .is-broader .ensures) h (not-false _ (c .before .before .if2 .left))
+    broadens-on _ _ _ _ _ _ _ _ _ _ _ _ _ (s .pre .5) (c .before .before .before .before .before .before .read-row .ensures) (k .0) (m .0)
+    (m .1) (c .before .availability-of .ensures) (c .is-broader .ensures) h (not-false _ (c .before .before .if2 .left))
 
 pub broadens-at-spec : {M : Type 1} → statement M
 broadens-at-spec =

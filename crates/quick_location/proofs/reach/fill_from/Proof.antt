@@ -73,11 +73,18 @@ returns : tie.Need-returns Inv-loop μ-loop
 returns c =
     let s = c .before .before .before .before .before .before .before in
     let k = c .before .before .before .available-part .ensures in
-    broadens-none _ _ _ _ _ (s .pre .3) (s .pre .0) _ _ _ _ _ (s .pre .2) (c .before .before .before .before .read-row .ensures) (k .0) (k .1) (c .before .first-both .ensures) (c .if1 .taken)
+    broadens-none _ _ _ _ _ (s .pre .3) (s .pre .0) _ _ _ _ _ (s .pre .2) (c .before .before .before .before .read-row .ensures) (k .0)
+    (k .1) (c .before .first-both .ensures) (c .if1 .taken)
 
 -- src/reach.rt:85:5
 loop-holds : tie.Need-loop-holds Inv-loop μ-loop
-loop-holds c = (search needs, refl, c .before .before .before .before .read-row .ensures, c .before .before .before .before .before .before .before .pre .3, rowFill-none _ _ _)
+loop-holds c = (
+  search needs,
+  refl,
+  c .before .before .before .before .read-row .ensures,
+  c .before .before .before .before .before .before .before .pre .3,
+  rowFill-none _ _ _,
+)
 
 -- src/reach.rt:86:13
 broadens-at-requires : tie.Need-broadens-at-requires Inv-loop μ-loop
@@ -100,8 +107,13 @@ loop-again : tie.Need-loop-again Inv-loop μ-loop
 loop-again c =
     let put = c .before .before .put-if in
     let inv = c .before .before .before .before .before .before .before .loop .inv in
-    let e = rowFill-put _ _ _ (put .last .0) _ _ _ _ (inv .4) (c .before .before .before .before .broadens-at .ensures) (omega arith) (put .ensures) in
-    (search needs, ap length e ∙ length-rowFill _ _ _ _, inv .2, ordered-kept (omega arith) (within-put REACH-OUT REACH-OUT-END _ _ (omega arith) (omega arith) (put .ensures)) (inv .3), e)
+    let e = rowFill-put _ _ _ (put .last .0) _ _ _ _ (inv .4) (c .before .before .before .before .broadens-at .ensures) (omega arith) (put .ensures) in (
+      search needs,
+      ap length e ∙ length-rowFill _ _ _ _,
+      inv .2,
+      ordered-kept (omega arith) (within-put REACH-OUT REACH-OUT-END _ _ (omega arith) (omega arith) (put .ensures)) (inv .3),
+      e,
+    )
 
 -- src/reach.rt:76:1
 same-length-2 : tie.Need-same-length-2 Inv-loop μ-loop
@@ -109,7 +121,8 @@ same-length-2 c = search needs
 
 -- src/reach.rt:76:1
 returns-2 : tie.Need-returns-2 Inv-loop μ-loop
-returns-2 c = let e : c .before .loop .c ≡ c .before .before .before .before .before .before .before .before .before .args .n = omega arith in rw e at (c .before .loop .inv .4)
+returns-2 c = let e : c .before .loop .c ≡ c .before .before .before .before .before .before .before .before .before .args .n = omega
+    arith in rw e at (c .before .loop .inv .4)
 
 pub fill-from-spec : {M : Type 1} → statement M
 fill-from-spec =

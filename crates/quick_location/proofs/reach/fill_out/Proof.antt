@@ -32,7 +32,14 @@ clear-requires c κs = search needs
 
 -- src/reach.rt:96:5
 loop-holds : tie.Need-loop-holds Inv-loop μ-loop
-loop-holds c = (search needs, refl, ordered-kept (omega arith) (within-cleared REACH-OUT REACH-OUT-END (omega arith) (c .before .before .clear .ensures)) (c .before .before .before .before .before .before .pre .2), gridFill-none _ _ _ _ _)
+loop-holds c = (
+  search needs,
+  refl,
+  ordered-kept (omega arith)
+      (within-cleared REACH-OUT REACH-OUT-END (omega arith) (c .before .before .clear .ensures))
+      (c .before .before .before .before .before .before .pre .2),
+  gridFill-none _ _ _ _ _,
+)
 
 -- src/reach.rt:97:9
 fill-from-requires : tie.Need-fill-from-requires Inv-loop μ-loop
@@ -51,8 +58,12 @@ loop-again : tie.Need-loop-again Inv-loop μ-loop
 loop-again c =
     let row = c .before .before .fill-from in
     let inv = c .before .before .before .before .before .loop .inv in
-    let e = gridFill-more _ _ _ _ _ _ _ _ (inv .3) (row .ensures) in
-    (search needs, ap length e ∙ length-gridFill _ _ _ _ _ _, ordered-kept (omega arith) (within-row REACH-OUT REACH-OUT-END _ _ _ (omega arith) (omega arith) (row .ensures)) (inv .2), e)
+    let e = gridFill-more _ _ _ _ _ _ _ _ (inv .3) (row .ensures) in (
+      search needs,
+      ap length e ∙ length-gridFill _ _ _ _ _ _,
+      ordered-kept (omega arith) (within-row REACH-OUT REACH-OUT-END _ _ _ (omega arith) (omega arith) (row .ensures)) (inv .2),
+      e,
+    )
 
 -- src/reach.rt:91:1
 same-length : tie.Need-same-length Inv-loop μ-loop
@@ -62,7 +73,8 @@ same-length c = search needs
 returns : tie.Need-returns Inv-loop μ-loop
 returns c =
     let e : c .before .loop .a ≡ c .before .before .before .before .before .before .before .before .args .n = omega arith in
-    made-filled REACH-OUT REACH-OUT-END GRID _ _ _ _ _ (omega arith) (omega arith) (omega arith) (c .before .before .before .before .clear .ensures) (rw e at (c .before .loop .inv .3))
+    made-filled REACH-OUT REACH-OUT-END GRID _ _ _ _ _ (omega arith) (omega arith) (omega arith)
+    (c .before .before .before .before .clear .ensures) (rw e at (c .before .loop .inv .3))
 
 pub fill-out-spec : {M : Type 1} → statement M
 fill-out-spec =

@@ -73,11 +73,18 @@ returns : tie.Need-returns Inv-loop μ-loop
 returns c =
     let s = c .before .before .before .before .before .before .before in
     let k = c .before .before .before .visible-part .ensures in
-    narrows-none _ _ _ _ _ (s .pre .3) (s .pre .0) _ _ _ _ _ (s .pre .2) (c .before .before .before .before .read-row .ensures) (k .0) (k .1) (c .before .first-both .ensures) (c .if1 .taken)
+    narrows-none _ _ _ _ _ (s .pre .3) (s .pre .0) _ _ _ _ _ (s .pre .2) (c .before .before .before .before .read-row .ensures) (k .0)
+    (k .1) (c .before .first-both .ensures) (c .if1 .taken)
 
 -- src/reach.rt:101:5
 loop-holds : tie.Need-loop-holds Inv-loop μ-loop
-loop-holds c = (search needs, refl, c .before .before .before .before .read-row .ensures, c .before .before .before .before .before .before .before .pre .3, rowFill-none _ _ _)
+loop-holds c = (
+  search needs,
+  refl,
+  c .before .before .before .before .read-row .ensures,
+  c .before .before .before .before .before .before .before .pre .3,
+  rowFill-none _ _ _,
+)
 
 -- src/reach.rt:102:13
 narrows-at-requires : tie.Need-narrows-at-requires Inv-loop μ-loop
@@ -100,8 +107,13 @@ loop-again : tie.Need-loop-again Inv-loop μ-loop
 loop-again c =
     let put = c .before .before .put-if in
     let inv = c .before .before .before .before .before .before .before .loop .inv in
-    let e = rowFill-put _ _ _ (put .last .0) _ _ _ _ (inv .4) (c .before .before .before .before .narrows-at .ensures) (omega arith) (put .ensures) in
-    (search needs, ap length e ∙ length-rowFill _ _ _ _, inv .2, ordered-kept (omega arith) (within-put REACH-IN REACH-IN-END _ _ (omega arith) (omega arith) (put .ensures)) (inv .3), e)
+    let e = rowFill-put _ _ _ (put .last .0) _ _ _ _ (inv .4) (c .before .before .before .before .narrows-at .ensures) (omega arith) (put .ensures) in (
+      search needs,
+      ap length e ∙ length-rowFill _ _ _ _,
+      inv .2,
+      ordered-kept (omega arith) (within-put REACH-IN REACH-IN-END _ _ (omega arith) (omega arith) (put .ensures)) (inv .3),
+      e,
+    )
 
 -- src/reach.rt:92:1
 same-length-2 : tie.Need-same-length-2 Inv-loop μ-loop
@@ -109,7 +121,8 @@ same-length-2 c = search needs
 
 -- src/reach.rt:92:1
 returns-2 : tie.Need-returns-2 Inv-loop μ-loop
-returns-2 c = let e : c .before .loop .v ≡ c .before .before .before .before .before .before .before .before .before .args .n = omega arith in rw e at (c .before .loop .inv .4)
+returns-2 c = let e : c .before .loop .v ≡ c .before .before .before .before .before .before .before .before .before .args .n = omega
+    arith in rw e at (c .before .loop .inv .4)
 
 pub fill-to-spec : {M : Type 1} → statement M
 fill-to-spec =

@@ -58,7 +58,8 @@ returns c =
     let k = c .before .before .before .visible-part .ensures in
     let m = c .before .before .visible-part2 .ensures in
     let h = c .before .happens-bit .ensures ∙ s .pre .4 .happening .cell _ _ (omega (arith, k .1)) (omega (arith, m .1)) in
-    sym (narrows-row _ _ _ _ _ _ _ _ _ _ _ _ _ (s .pre .5) (c .before .before .before .before .read-row .ensures) (k .0) (m .0) (k .1) refl refl h ∙ and-false-right _ _ (not-true _ (c .if1 .taken)))
+    sym (narrows-row _ _ _ _ _ _ _ _ _ _ _ _ _ (s .pre .5) (c .before .before .before .before .read-row .ensures) (k .0) (m .0)
+    (k .1) refl refl h ∙ and-false-right _ _ (not-true _ (c .if1 .taken)))
 
 -- src/reach.rt:52:31
 cast-visibility-of : tie.Need-cast-visibility-of
@@ -80,7 +81,8 @@ returns-2 c =
     let k = c .before .before .before .before .before .visible-part .ensures in
     let m = c .before .before .before .before .visible-part2 .ensures in
     let h = c .before .before .before .happens-bit .ensures ∙ s .pre .4 .happening .cell _ _ (omega (arith, k .1)) (omega (arith, m .1)) in
-    narrows-on _ _ _ _ _ _ _ _ _ _ _ _ _ (s .pre .5) (c .before .before .before .before .before .before .read-row .ensures) (k .0) (m .0) (k .1) (c .before .visibility-of .ensures) (c .is-broader .ensures) h (not-false _ (c .before .before .if1 .left))
+    narrows-on _ _ _ _ _ _ _ _ _ _ _ _ _ (s .pre .5) (c .before .before .before .before .before .before .read-row .ensures) (k .0) (m .0)
+    (k .1) (c .before .visibility-of .ensures) (c .is-broader .ensures) h (not-false _ (c .before .before .if1 .left))
 
 pub narrows-at-spec : {M : Type 1} → statement M
 narrows-at-spec =

@@ -23,7 +23,9 @@ same-length c = search needs
 
 -- src/reach.rt:108:1
 returns : tie.Need-returns
-returns c = made-closed REACH-OUT REACH-OUT-END (omega (arith, c .before .before .before .before .before .before .before .before .before .before .pre .0)) (c .before .before .before .before .before .before .fill-out .ensures) (c .before .before .close .ensures)
+returns c = made-closed REACH-OUT REACH-OUT-END
+    (omega (arith, c .before .before .before .before .before .before .before .before .before .before .pre .0))
+    (c .before .before .before .before .before .before .fill-out .ensures) (c .before .before .close .ensures)
 
 pub reach-out-spec : {M : Type 1} → statement M
 reach-out-spec = tie.close (tie.spec fill-out-requires close-requires same-length returns)

@@ -44,8 +44,12 @@ loop-again c =
     let at-loop = at-call .before .before .before in
     let inv = at-loop .loop .inv in
     let below = at-call .before .before .loop-test .taken in
-    let made = at-call .hop-at .ensures in
-    (search needs, hops-frame _ _ _ _ _ _ _ (search needs) below (inv .1) made, rest-more _ _ _ _ _ _ _ (search needs) below (inv .1) made (inv .2), λ t s p. hops-more _ _ _ _ _ _ _ (search needs) below (inv .1) made t s p (inv .3 t s p))
+    let made = at-call .hop-at .ensures in (
+      search needs,
+      hops-frame _ _ _ _ _ _ _ (search needs) below (inv .1) made,
+      rest-more _ _ _ _ _ _ _ (search needs) below (inv .1) made (inv .2),
+      λ t s p. hops-more _ _ _ _ _ _ _ (search needs) below (inv .1) made t s p (inv .3 t s p),
+    )
 
 -- src/hops.rt:60:1
 same-length : tie.Need-same-length Inv-loop μ-loop

@@ -85,7 +85,8 @@ returns c =
     let at-if = at-read .before .before .before in
     let at-held = at-if .before in
     let at-clear = at-held .before .before .before .before in
-    hop-made-at _ _ _ _ _ _ (search needs) (search needs) (at-clear .clear .ensures) (at-held .get .ensures) _ _ _ (at-read .before .get2 .ensures) (at-read .acquires-at .ensures) (at-call .hop-row .ensures)
+    hop-made-at _ _ _ _ _ _ (search needs) (search needs) (at-clear .clear .ensures) (at-held .get .ensures) _ _ _
+    (at-read .before .get2 .ensures) (at-read .acquires-at .ensures) (at-call .hop-row .ensures)
 
 -- src/hops.rt:45:1
 same-length-2 : tie.Need-same-length-2

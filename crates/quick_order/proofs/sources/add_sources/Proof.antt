@@ -45,8 +45,11 @@ loop-again c =
     let at-loop = at-call .before .before .before in
     let inv = at-loop .loop .inv in
     let len = inv .1 .len in
-    let made = at-call .add-row .ensures in
-    (search needs, sources-frame _ _ _ _ _ (search needs) (omega (arith, len)) (inv .1) made, λ bs t s p q. sources-row bs t _ s _ _ _ _ _ p q (search needs) (inv .1) (inv .2 bs t s p q) made)
+    let made = at-call .add-row .ensures in (
+      search needs,
+      sources-frame _ _ _ _ _ (search needs) (omega (arith, len)) (inv .1) made,
+      λ bs t s p q. sources-row bs t _ s _ _ _ _ _ p q (search needs) (inv .1) (inv .2 bs t s p q) made,
+    )
 
 -- src/sources.rt:68:1
 same-length : tie.Need-same-length Inv-loop μ-loop

@@ -43,7 +43,8 @@ first-both-requires c κs = search needs
 
 -- src/sources.rt:29:1
 returns-3 : tie.Need-returns-3
-returns-3 c = source-first _ _ _ _ (c .before .before .before .if1 .left) (sym (c .before .before .get .ensures) ∙ not-false _ (c .before .if2 .left)) (c .first-both .ensures)
+returns-3 c = source-first _ _ _ _ (c .before .before .before .if1 .left)
+    (sym (c .before .before .get .ensures) ∙ not-false _ (c .before .if2 .left)) (c .first-both .ensures)
 
 pub source-of-spec : {M : Type 1} → statement M
 source-of-spec =

@@ -51,8 +51,12 @@ loop-again : tie.Need-loop-again Inv-loop μ-loop
 unfolding byAgent
 loop-again c =
     let file = c .before .before .before .before .agent-file .ensures in
-    let inv = c .before .before .before .before .before .before .before .loop .inv in
-    (search needs, put-length _ _ _ (c .before .before .put-if .ensures) ∙ inv .1, filed-more _ _ _ (search needs) (file .1) (file .0 ∙ ap agentFile (c .before .before .before .before .before .read-agent .ensures)) refl (c .before .before .put-if .ensures) (inv .2))
+    let inv = c .before .before .before .before .before .before .before .loop .inv in (
+      search needs,
+      put-length _ _ _ (c .before .before .put-if .ensures) ∙ inv .1,
+      filed-more _ _ _ (search needs) (file .1)
+          (file .0 ∙ ap agentFile (c .before .before .before .before .before .read-agent .ensures)) refl (c .before .before .put-if .ensures) (inv .2),
+    )
 
 -- src/filed.rt:44:1
 same-length : tie.Need-same-length Inv-loop μ-loop

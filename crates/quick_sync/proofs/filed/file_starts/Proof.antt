@@ -60,8 +60,12 @@ unfolding byStart atomicOf
 loop-again c =
     let row = c .before .before .before .before .before .before .read-row .ensures in
     let file = c .before .before .before .start-file .ensures in
-    let inv = c .before .before .before .before .before .before .before .before .loop .inv in
-    (search needs, put-length _ _ _ (c .before .before .put-if .ensures) ∙ inv .1, filed-more _ _ _ (search needs) (file .1) (file .0 ∙ ap (λ (r : Row). startFile (r .start)) row) (c .before .before .before .before .before .is-atomic .ensures ∙ ap atomic row) (c .before .before .put-if .ensures) (inv .2))
+    let inv = c .before .before .before .before .before .before .before .before .loop .inv in (
+      search needs,
+      put-length _ _ _ (c .before .before .put-if .ensures) ∙ inv .1,
+      filed-more _ _ _ (search needs) (file .1) (file .0 ∙ ap (λ (r : Row). startFile (r .start)) row)
+          (c .before .before .before .before .before .is-atomic .ensures ∙ ap atomic row) (c .before .before .put-if .ensures) (inv .2),
+    )
 
 -- src/filed.rt:32:1
 same-length : tie.Need-same-length Inv-loop μ-loop

@@ -59,7 +59,8 @@ same-length c = search needs
 returns : tie.Need-returns Inv-loop μ-loop
 returns c =
     let e : c .before .loop .y ≡ c .before .before .before .before .before .before .before .before .before .args .n = omega arith in
-    made-filled GETS HANDS GRID _ _ _ _ _ (omega arith) (omega arith) (omega arith) (c .before .before .before .before .clear .ensures) (rw e at (c .before .loop .inv .2))
+    made-filled GETS HANDS GRID _ _ _ _ _ (omega arith) (omega arith) (omega arith) (c .before .before .before .before .clear .ensures)
+    (rw e at (c .before .loop .inv .2))
 
 pub fill-gets-spec : {M : Type 1} → statement M
 fill-gets-spec =

@@ -52,7 +52,8 @@ slice-aggregate-link-rows c = search needs
 
 -- src/links.rt:235:5
 link-rows-requires : tie.Need-link-rows-requires
-link-rows-requires c κs = let pre = c .before .before .before .before .before .before .before .before .before .pre in (pre .0, pre .1, pre .2, c .before .before .before .file-agents .ensures)
+link-rows-requires c κs = let pre = c .before .before .before .before .before .before .before .before .before .pre in
+    (pre .0, pre .1, pre .2, c .before .before .before .file-agents .ensures)
 
 -- src/links.rt:225:1
 same-length-2 : tie.Need-same-length-2

@@ -48,7 +48,10 @@ class-in-requires c κs = search needs
 returns-2 : tie.Need-returns-2
 unfolding _and_ _or_
 returns-2 c =
-    gets-told _ _ _ _ _ _ _ (c .before .before .before .before .before .before .before .before .before .pre .1) (c .before .before .before .is-atomic .ensures) (c .before .before .barrier-at .ensures) (c .before .before .before .before .before .before .before .read-agent .ensures) (c .before .before .before .before .read-classes .ensures) (c .class-in .ensures)
+    gets-told _ _ _ _ _ _ _ (c .before .before .before .before .before .before .before .before .before .pre .1)
+    (c .before .before .before .is-atomic .ensures) (c .before .before .barrier-at .ensures)
+    (c .before .before .before .before .before .before .before .read-agent .ensures)
+    (c .before .before .before .before .read-classes .ensures) (c .class-in .ensures)
 
 pub gets-of-spec : {M : Type 1} → statement M
 gets-of-spec =

@@ -112,7 +112,12 @@ loop-again c =
     let put = c .before .before .before .put-if in
     let inv = c .before .before .before .before .before .before .before .loop .inv in
     let next = c .next2 .ensures in
-    let d = gotten-on _ _ _ _ _ _ _ _ _ _ (inv .2) (c .before .before .before .before .before .before .before .before .before .before .before .before .before .atomic-at .ensures ∙ sym (ap atomic (inv .2))) (c .before .before .before .before .before .before .before .before .before .before .before .before .reads-at .ensures ∙ sym (ap rowReads (inv .2))) (c .before .before .before .before .before .before .before .before .before .before .before .if1 .left) (c .before .before .before .before .before .gets-of .ensures) in
+    let d = gotten-on _ _ _ _ _ _ _ _ _ _ (inv .2)
+    (c .before .before .before .before .before .before .before .before .before .before .before .before .before .atomic-at .ensures
+    ∙ sym (ap atomic (inv .2))) (c .before .before .before .before .before .before .before .before .before .before .before
+    .before .reads-at .ensures ∙ sym (ap rowReads (inv .2)))
+    (c .before .before .before .before .before .before .before .before .before .before .before .if1 .left)
+    (c .before .before .before .before .before .gets-of .ensures) in
     let e = rowFill-put _ _ _ (put .last .0) _ _ _ _ (inv .6) d (omega arith) (put .ensures) in (
       next .high,
       ap length e ∙ length-rowFill _ _ _ _,
@@ -129,7 +134,8 @@ same-length c = search needs
 
 -- src/links.rt:161:1
 returns-2 : tie.Need-returns-2 Inv-loop μ-loop
-returns-2 c = let e : c .before .loop .b ≡ c .before .before .before .before .before .before .before .before .before .before .before .args .n = omega arith in rw e at (c .before .loop .inv .6)
+returns-2 c = let e : c .before .loop .b ≡ c .before .before .before .before .before .before .before .before .before .before
+    .before .args .n = omega arith in rw e at (c .before .loop .inv .6)
 
 pub gets-row-spec : {M : Type 1} → statement M
 gets-row-spec =

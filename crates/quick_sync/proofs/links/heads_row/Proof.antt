@@ -74,7 +74,9 @@ returns-2 c =
     let release = c .before .before .before .before .before .before .before .before .before .releases-at .ensures ∙ sym (ap releases row) in
     put .ensures
     ∙ row-one-if _ _ _ _ _ _ _ (c .before .before .before .before .before .before .before .before .before .before .before .before .before .pre .1) (omega arith)
-    (λ m l. released-own _ _ _ _ _ _ _ _ _ row release (c .before .before .before .before .before .before .before .before .if1 .left) (c .before .before .before .before .before .before .is-barrier .ensures) (c .before .before .before .before .before .if2 .taken) (c .before .before .before .before .is-atomic .ensures) m)
+    (λ m l. released-own _ _ _ _ _ _ _ _ _ row release (c .before .before .before .before .before .before .before .before .if1 .left)
+    (c .before .before .before .before .before .before .is-barrier .ensures) (c .before .before .before .before .before .if2 .taken)
+    (c .before .before .before .before .is-atomic .ensures) m)
 
 -- src/links.rt:79:14
 agent-file-requires : tie.Need-agent-file-requires Inv-loop μ-loop
@@ -132,7 +134,11 @@ loop-again c =
     let put = c .before .before .before .put-if2 in
     let inv = c .before .before .before .before .before .before .before .loop .inv in
     let next = c .next2 .ensures in
-    let d = released-on _ _ _ _ _ _ _ _ _ (inv .2) (c .before .before .before .before .before .before .before .before .before .before .before .before .before .before .releases-at .ensures ∙ sym (ap releases (inv .2))) (c .before .before .before .before .before .before .before .before .before .before .before .before .before .if1 .left) (c .before .before .before .before .before .heads-of .ensures) in
+    let d = released-on _ _ _ _ _ _ _ _ _ (inv .2)
+    (c .before .before .before .before .before .before .before .before .before .before .before .before .before
+    .before .releases-at .ensures ∙ sym (ap releases (inv .2)))
+    (c .before .before .before .before .before .before .before .before .before .before .before .before .before .if1 .left)
+    (c .before .before .before .before .before .heads-of .ensures) in
     let e = rowFill-put _ _ _ (put .last .0) _ _ _ _ (inv .6) d (omega arith) (put .ensures) in (
       next .high,
       ap length e ∙ length-rowFill _ _ _ _,
@@ -149,7 +155,8 @@ same-length-2 c = search needs
 
 -- src/links.rt:58:1
 returns-3 : tie.Need-returns-3 Inv-loop μ-loop
-returns-3 c = let e : c .before .loop .x ≡ c .before .before .before .before .before .before .before .before .before .before .before .before .args .n = omega arith in rw e at (c .before .loop .inv .6)
+returns-3 c = let e : c .before .loop .x ≡ c .before .before .before .before .before .before .before .before .before .before .before
+    .before .args .n = omega arith in rw e at (c .before .loop .inv .6)
 
 pub heads-row-spec : {M : Type 1} → statement M
 heads-row-spec =

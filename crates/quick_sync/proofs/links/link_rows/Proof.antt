@@ -41,7 +41,11 @@ same-length c = search needs
 -- src/links.rt:213:1
 returns : tie.Need-returns
 returns c =
-    links-made _ _ _ _ (c .before .before .before .before .before .before .before .before .before .before .before .before .before .before .before .before .before .before .fill-heads .ensures) (c .before .before .before .before .before .before .before .before .before .before .before .before .before .before .fill-takes .ensures) (c .before .before .before .before .before .before .before .before .before .before .fill-gets .ensures) (c .before .before .before .before .before .before .multiply .ensures) (c .before .before .multiply2 .ensures)
+    links-made _ _ _ _ (c .before .before .before .before .before .before .before .before .before .before .before .before .before .before
+    .before .before .before .before .fill-heads .ensures)
+    (c .before .before .before .before .before .before .before .before .before .before .before .before .before
+    .before .fill-takes .ensures) (c .before .before .before .before .before .before .before .before .before
+    .before .fill-gets .ensures) (c .before .before .before .before .before .before .multiply .ensures) (c .before .before .multiply2 .ensures)
 
 pub link-rows-spec : {M : Type 1} → statement M
 link-rows-spec =

@@ -37,7 +37,8 @@ cast-k c = search needs
 
 -- src/links.rt:99:9
 returns-2 : tie.Need-returns-2
-returns-2 c = takes-far _ _ _ _ _ _ (c .before .before .before .before .before .before .before .pre .5) _ (c .before .before .read-source .ensures) (c .if2 .taken)
+returns-2 c = takes-far _ _ _ _ _ _ (c .before .before .before .before .before .before .before .pre .5) _
+    (c .before .before .read-source .ensures) (c .if2 .taken)
 
 -- src/links.rt:101:5
 get-requires : tie.Need-get-requires
@@ -48,7 +49,9 @@ returns-3 : tie.Need-returns-3
 returns-3 c =
     let pre = c .before .before .before .before .before .before .before .before .pre in
     let l = c .before .if2 .left in
-    takes-here _ _ _ _ _ _ (pre .5) _ _ _ (pre .4) (c .before .before .before .before .before .read-kind .ensures) (c .before .before .before .before .if1 .left) (c .before .before .before .read-source .ensures) l (c .get .ensures ∙ holds-bit (pre .6 .sequences) _ _ _ (omega arith) (pre .1) l)
+    takes-here _ _ _ _ _ _ (pre .5) _ _ _ (pre .4) (c .before .before .before .before .before .read-kind .ensures)
+    (c .before .before .before .before .if1 .left) (c .before .before .before .read-source .ensures) l
+    (c .get .ensures ∙ holds-bit (pre .6 .sequences) _ _ _ (omega arith) (pre .1) l)
 
 pub takes-of-spec : {M : Type 1} → statement M
 takes-of-spec =

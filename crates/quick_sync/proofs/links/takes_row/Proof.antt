@@ -58,12 +58,27 @@ loop-holds : tie.Need-loop-holds Inv-loop μ-loop
 loop-holds c =
     let pre = c .before .before .before .before .before .before .pre in
     let next = c .next .ensures in
-    let g = sym (c .before .before .before .writes-at .ensures) ∙ not-false _ (c .before .before .if1 .left) in
-    (next .high, refl, pre .3, g, λ l. walked (pre .3 .mutuals) _ _ (pre .1) l (next .hit l), fill-pass _ _ _ _ _ _ (next .low) (λ m l q. sym (takes-apart _ _ _ _ _ _ (walked (pre .3 .mutuals) _ _ (pre .1) (omega (arith, next .high)) (next .miss m l q)))) (rowFill-none _ _ _))
+    let g = sym (c .before .before .before .writes-at .ensures) ∙ not-false _ (c .before .before .if1 .left) in (
+      next .high,
+      refl,
+      pre .3,
+      g,
+      λ l. walked (pre .3 .mutuals) _ _ (pre .1) l (next .hit l),
+      fill-pass _ _ _ _ _ _ (next .low) (λ m l q. sym
+          (takes-apart _ _ _ _ _ _ (walked (pre .3 .mutuals) _ _ (pre .1) (omega (arith, next .high)) (next .miss m l q)))) (rowFill-none _ _ _),
+    )
 
 -- src/links.rt:116:13
 takes-of-requires : tie.Need-takes-of-requires Inv-loop μ-loop
-takes-of-requires c κs = (search needs, search needs, search needs, search needs, c .before .before .loop .inv .3, c .before .before .loop .inv .4 (c .before .loop-test .taken), c .before .before .loop .inv .2)
+takes-of-requires c κs = (
+  search needs,
+  search needs,
+  search needs,
+  search needs,
+  c .before .before .loop .inv .3,
+  c .before .before .loop .inv .4 (c .before .loop-test .taken),
+  c .before .before .loop .inv .2,
+)
 
 -- src/links.rt:117:9
 put-if-requires : tie.Need-put-if-requires Inv-loop μ-loop
@@ -88,9 +103,17 @@ loop-again c =
     let next = c .next2 .ensures in
     let put = c .before .before .before .before .put-if in
     let inv = c .before .before .before .before .before .before .before .before .before .loop .inv in
-    let e = rowFill-put _ _ _ (put .last .0) _ _ _ _ (inv .5) (c .before .before .before .before .before .before .takes-of .ensures) (omega arith) (put .ensures) in
-    let k = sequenced-kept (omega arith) (within-put TAKES GETS _ _ (omega arith) (omega arith) (put .ensures)) (inv .2) in
-    (next .high, ap length e ∙ length-rowFill _ _ _ _, k, inv .3, λ l. walked (k .mutuals) _ _ (pre .1) l (next .hit l), fill-pass _ _ _ _ _ _ (next .low) (λ m l q. sym (takes-apart _ _ _ _ _ _ (walked (k .mutuals) _ _ (pre .1) (omega (arith, next .high)) (next .miss m l q)))) e)
+    let e = rowFill-put _ _ _ (put .last .0) _ _ _ _ (inv .5) (c .before .before .before .before .before .before .takes-of .ensures)
+    (omega arith) (put .ensures) in
+    let k = sequenced-kept (omega arith) (within-put TAKES GETS _ _ (omega arith) (omega arith) (put .ensures)) (inv .2) in (
+      next .high,
+      ap length e ∙ length-rowFill _ _ _ _,
+      k,
+      inv .3,
+      λ l. walked (k .mutuals) _ _ (pre .1) l (next .hit l),
+      fill-pass _ _ _ _ _ _ (next .low) (λ m l q. sym
+          (takes-apart _ _ _ _ _ _ (walked (k .mutuals) _ _ (pre .1) (omega (arith, next .high)) (next .miss m l q)))) e,
+    )
 
 -- src/links.rt:105:1
 same-length : tie.Need-same-length Inv-loop μ-loop
@@ -98,7 +121,8 @@ same-length c = search needs
 
 -- src/links.rt:105:1
 returns-2 : tie.Need-returns-2 Inv-loop μ-loop
-returns-2 c = let e : c .before .loop .y ≡ c .before .before .before .before .before .before .before .before .args .n = omega arith in rw e at (c .before .loop .inv .5)
+returns-2 c = let e : c .before .loop .y ≡ c .before .before .before .before .before .before .before .before .args .n = omega arith in
+    rw e at (c .before .loop .inv .5)
 
 pub takes-row-spec : {M : Type 1} → statement M
 takes-row-spec =

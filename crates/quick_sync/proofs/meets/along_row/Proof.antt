@@ -58,8 +58,11 @@ add-join-row-2 c = search needs
 join-row-requires-2 : tie.Need-join-row-requires-2
 join-row-requires-2 c κs =
     let pre = c .before .before .before .before .before .before .before .before .before .before .pre in
-    let long = joined-length _ _ _ _ (c .before .before .before .before .before .join-row .ensures) in
-    (omega (arith, pre .0, pre .1, pre .2, long, pre .3 .high), omega (arith, pre .2, long), target-apart (pre .3) _ _ (search needs) (omega (arith, pre .0, pre .1)))
+    let long = joined-length _ _ _ _ (c .before .before .before .before .before .join-row .ensures) in (
+      omega (arith, pre .0, pre .1, pre .2, long, pre .3 .high),
+      omega (arith, pre .2, long),
+      target-apart (pre .3) _ _ (search needs) (omega (arith, pre .0, pre .1)),
+    )
 
 -- src/meets.rt:72:1
 same-length : tie.Need-same-length
@@ -69,7 +72,11 @@ same-length c = search needs
 returns : tie.Need-returns
 returns c =
     let pre = c .before .before .before .before .before .before .before .before .before .before .before .before .before .pre in
-    along-put _ _ _ _ (pre .0) (pre .3) _ _ (pre .1) (c .before .before .before .before .before .before .before .before .before .before .read-agent .ensures) (search needs) (pre .2) (pre .4) (c .before .before .before .before .before .before .before .before .join-row .ensures) (sym (c .before .before .before .before .before .barrier-at .ensures) ∙ c .before .before .before .before .if1 .taken) (c .before .before .join-row2 .ensures)
+    along-put _ _ _ _ (pre .0) (pre .3) _ _ (pre .1)
+    (c .before .before .before .before .before .before .before .before .before .before .read-agent .ensures) (search needs) (pre .2)
+    (pre .4) (c .before .before .before .before .before .before .before .before .join-row .ensures)
+    (sym (c .before .before .before .before .before .barrier-at .ensures) ∙ c .before .before .before .before .if1 .taken)
+    (c .before .before .join-row2 .ensures)
 
 -- src/meets.rt:72:1
 same-length-2 : tie.Need-same-length-2
@@ -79,7 +86,8 @@ same-length-2 c = search needs
 returns-2 : tie.Need-returns-2
 returns-2 c =
     let pre = c .before .before .before .before .before .before .before .before .before .pre in
-    along-bare _ _ _ _ (pre .0) (pre .3) _ _ (pre .1) (c .before .before .before .before .before .before .read-agent .ensures) (search needs) (pre .2) (pre .4) (c .before .before .before .before .join-row .ensures) (sym (c .before .barrier-at .ensures) ∙ c .if1 .left)
+    along-bare _ _ _ _ (pre .0) (pre .3) _ _ (pre .1) (c .before .before .before .before .before .before .read-agent .ensures)
+    (search needs) (pre .2) (pre .4) (c .before .before .before .before .join-row .ensures) (sym (c .before .barrier-at .ensures) ∙ c .if1 .left)
 
 pub along-row-spec : {M : Type 1} → statement M
 along-row-spec =

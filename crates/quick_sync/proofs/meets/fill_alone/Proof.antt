@@ -51,7 +51,8 @@ loop-again : tie.Need-loop-again Inv-loop μ-loop
 loop-again c =
     let put = c .before .before .put-if in
     let inv = c .before .before .before .before .before .before .loop .inv in
-    let e = gridFill-more _ _ _ _ _ _ _ _ (inv .2) (alone-row _ _ _ _ _ _ _ _ (omega arith) (omega arith) (c .before .before .before .before .barrier-at .ensures) (put .ensures)) in
+    let e = gridFill-more _ _ _ _ _ _ _ _ (inv .2)
+    (alone-row _ _ _ _ _ _ _ _ (omega arith) (omega arith) (c .before .before .before .before .barrier-at .ensures) (put .ensures)) in
     (search needs, ap length e ∙ length-gridFill _ _ _ _ _ _, e)
 
 -- src/meets.rt:59:1
@@ -62,7 +63,8 @@ same-length c = search needs
 returns : tie.Need-returns Inv-loop μ-loop
 returns c =
     let e : c .before .loop .a ≡ c .before .before .before .before .before .before .before .before .args .n = omega arith in
-    made-filled ALONE JOINS GRID _ _ _ _ _ (omega arith) (omega arith) (omega arith) (c .before .before .before .before .clear .ensures) (rw e at (c .before .loop .inv .2))
+    made-filled ALONE JOINS GRID _ _ _ _ _ (omega arith) (omega arith) (omega arith) (c .before .before .before .before .clear .ensures)
+    (rw e at (c .before .loop .inv .2))
 
 pub fill-alone-spec : {M : Type 1} → statement M
 fill-alone-spec =

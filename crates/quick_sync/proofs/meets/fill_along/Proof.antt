@@ -34,8 +34,14 @@ clear-requires-2 c κs = search needs
 -- src/meets.rt:90:5
 loop-holds : tie.Need-loop-holds Inv-loop μ-loop
 loop-holds c =
-    let pre = c .before .before .before .before .before .before .before .before .before .before .pre in
-    (search needs, refl, along-at _ (omega arith) (along-none _ _ _ _ (pre .0) (pre .2) _ (pre .1) (c .before .before .before .before .before .before .clear .ensures) (c .before .before .clear2 .ensures) .0), within-refl _ _ _)
+    let pre = c .before .before .before .before .before .before .before .before .before .before .pre in (
+      search needs,
+      refl,
+      along-at _ (omega arith)
+          (along-none _ _ _ _ (pre .0) (pre .2) _ (pre .1) (c .before .before .before .before .before .before .clear .ensures)
+          (c .before .before .clear2 .ensures) .0),
+      within-refl _ _ _,
+    )
 
 -- src/meets.rt:91:38
 sub-along-row : tie.Need-sub-along-row Inv-loop μ-loop
@@ -76,7 +82,9 @@ returns : tie.Need-returns Inv-loop μ-loop
 returns c =
     let pre = c .before .before .before .before .before .before .before .before .before .before .before .before .pre in
     let e : c .before .loop .i ≡ c .before .before .before .before .before .before .before .before .before .before .before .before .args .n = omega arith in
-    let none = along-none (c .before .before .before .before .before .before .before .before .before .before .before .before .args .rows .now) _ _ _ (pre .0) (pre .2) _ (pre .1) (c .before .before .before .before .before .before .before .before .clear .ensures) (c .before .before .before .before .clear2 .ensures) in
+    let none = along-none (c .before .before .before .before .before .before .before .before .before .before .before
+    .before .args .rows .now) _ _ _ (pre .0) (pre .2) _ (pre .1)
+    (c .before .before .before .before .before .before .before .before .clear .ensures) (c .before .before .before .before .clear2 .ensures) in
     along-made _ _ _ _ (pre .0) (pre .2) (within-trans (none .1) (c .before .loop .inv .3)) (along-at 0 (omega arith) (c .before .loop .inv .2))
 
 pub fill-along-spec : {M : Type 1} → statement M

@@ -45,8 +45,12 @@ loop-less c = search needs
 loop-again : tie.Need-loop-again Inv-loop μ-loop
 loop-again c =
     let row = c .before .before .joins-row .ensures in
-    let inv = c .before .before .before .before .before .loop .inv in
-    (search needs, row .frame .len ∙ inv .1, rows-of-row (search needs) (inv .2) row (search needs), within-trans (inv .3) (within-widen JOINS MEETS (omega arith) (omega arith) (row .frame)))
+    let inv = c .before .before .before .before .before .loop .inv in (
+      search needs,
+      row .frame .len ∙ inv .1,
+      rows-of-row (search needs) (inv .2) row (search needs),
+      within-trans (inv .3) (within-widen JOINS MEETS (omega arith) (omega arith) (row .frame)),
+    )
 
 -- src/meets.rt:175:1
 same-length : tie.Need-same-length Inv-loop μ-loop

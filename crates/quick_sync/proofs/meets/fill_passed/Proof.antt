@@ -32,7 +32,9 @@ same-length c = search needs
 returns : tie.Need-returns
 returns c =
     let pre = c .before .before .before .before .before .before .before .before .pre in
-    cleared-made ALONE UP-TO-END PASSED _ (omega arith) (omega arith) (omega (arith, pre .1)) (pre .0) (c .before .before .clear .ensures) (passed-none _ _ _ _ (sym (c .before .before .before .before .before .has-control .ensures) ∙ not-true _ (c .before .before .before .before .if1 .taken)))
+    cleared-made ALONE UP-TO-END PASSED _ (omega arith) (omega arith) (omega (arith, pre .1)) (pre .0) (c .before .before .clear .ensures)
+    (passed-none _ _ _ _ (sym (c .before .before .before .before .before .has-control .ensures)
+    ∙ not-true _ (c .before .before .before .before .if1 .taken)))
 
 -- src/meets.rt:209:5
 fill-alone-requires : tie.Need-fill-alone-requires
@@ -64,7 +66,11 @@ same-length-2 c = search needs
 
 -- src/meets.rt:201:1
 returns-2 : tie.Need-returns-2
-returns-2 c = passed-made _ _ _ _ (c .before .before .before .before .before .before .before .before .before .before .before .before .before .before .before .before .before .before .before .fill-alone .ensures) (c .before .before .before .before .before .before .before .before .before .before .before .before .before .before .before .fill-along .ensures) (c .before .before .before .before .before .before .before .before .before .before .fill-joins .ensures) (c .before .before .before .before .before .before .multiply .ensures) (c .before .before .fill-along2 .ensures)
+returns-2 c = passed-made _ _ _ _ (c .before .before .before .before .before .before .before .before .before .before .before .before
+    .before .before .before .before .before .before .before .fill-alone .ensures)
+    (c .before .before .before .before .before .before .before .before .before .before .before .before .before .before
+    .before .fill-along .ensures) (c .before .before .before .before .before .before .before .before .before .before .fill-joins .ensures)
+    (c .before .before .before .before .before .before .multiply .ensures) (c .before .before .fill-along2 .ensures)
 
 pub fill-passed-spec : {M : Type 1} → statement M
 fill-passed-spec =

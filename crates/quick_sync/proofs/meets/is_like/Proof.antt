@@ -48,7 +48,9 @@ shares-in-requires c κs = search needs
 -- src/meets.rt:123:1
 returns-3 : tie.Need-returns-3
 returns-3 c =
-    like-on _ _ _ _ _ (c .before .before .before .before .before .before .before .before .pre .1) _ _ _ _ (c .before .before .before .before .before .before .is-of-instance .ensures) (c .before .before .before .before .before .if1 .left) (c .before .before .before .before .row-byte .ensures) (c .before .before .if2 .left) (c .before .read-agent .ensures) (c .shares-in .ensures)
+    like-on _ _ _ _ _ (c .before .before .before .before .before .before .before .before .pre .1) _ _ _ _
+    (c .before .before .before .before .before .before .is-of-instance .ensures) (c .before .before .before .before .before .if1 .left)
+    (c .before .before .before .before .row-byte .ensures) (c .before .before .if2 .left) (c .before .read-agent .ensures) (c .shares-in .ensures)
 
 pub is-like-spec : {M : Type 1} → statement M
 is-like-spec =

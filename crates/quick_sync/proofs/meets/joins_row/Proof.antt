@@ -99,11 +99,18 @@ same-length-2 c = search needs
 -- src/meets.rt:152:1
 returns-3 : tie.Need-returns-3
 returns-3 c =
-    let pre = c .before .before .before .before .before .before .before .before .before .before .before .before .before .before .before .before .before .before .before .pre in
+    let pre = c .before .before .before .before .before .before .before .before .before .before .before .before .before .before .before
+    .before .before .before .before .pre in
     let like = c .before .before .before .before .before .before .before .before .before .before .before .before .before .like-of .ensures in
     let other = c .before .before .before .before .before .before .before .before .before .before .before .before .if2 .left in
-    let is-control = sym (ap (λ (q : Row). q .kind) (c .before .before .before .before .before .before .before .before .before .before .before .before .before .before .before .before .read-row .ensures)) ∙ c .before .before .before .before .before .before .before .before .before .before .before .before .before .before .if1 .left in
-    row-of-copy _ (pre .0) (omega (arith, pre .2)) (pre .3) (pre .1) (omega (arith, like .0, other)) (joins-like _ _ _ _ _ is-control (like .1 (omega (arith, like .0, other)))) (c .before .before .before .before .before .before .before .before .before .before .join-row .ensures) (c .before .before .before .before .before .before .put .ensures) (c .before .before .drop-bit .ensures)
+    let is-control = sym (ap (λ (q : Row). q .kind)
+    (c .before .before .before .before .before .before .before .before .before .before .before .before .before .before .before
+    .before .read-row .ensures)) ∙ c .before .before .before .before .before .before .before .before .before .before .before .before
+    .before .before .if1 .left in
+    row-of-copy _ (pre .0) (omega (arith, pre .2)) (pre .3) (pre .1) (omega (arith, like .0, other))
+    (joins-like _ _ _ _ _ is-control (like .1 (omega (arith, like .0, other))))
+    (c .before .before .before .before .before .before .before .before .before .before .join-row .ensures)
+    (c .before .before .before .before .before .before .put .ensures) (c .before .before .drop-bit .ensures)
 
 pub joins-row-spec : {M : Type 1} → statement M
 joins-row-spec =

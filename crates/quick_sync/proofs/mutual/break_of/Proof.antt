@@ -35,7 +35,8 @@ is-later-requires c κs = search needs
 
 -- src/mutual.rt:88:9
 returns-2 : tie.Need-returns-2
-returns-2 c = break-earlier _ _ _ _ _ _ _ _ _ (c .before .before .before .before .before .before .pre .1) (c .before .before .read-rank .ensures) (c .before .is-later .ensures) (c .if2 .taken)
+returns-2 c = break-earlier _ _ _ _ _ _ _ _ _ (c .before .before .before .before .before .before .pre .1)
+    (c .before .before .read-rank .ensures) (c .before .is-later .ensures) (c .if2 .taken)
 
 -- src/mutual.rt:90:5
 since-of-requires : tie.Need-since-of-requires
@@ -49,7 +50,9 @@ cast-result c = search needs
 returns-3 : tie.Need-returns-3
 returns-3 c =
     let pre = c .before .before .before .before .before .before .before .pre in
-    break-here _ _ _ _ _ _ _ _ _ _ _ (pre .3) (pre .1) (pre .2) (c .before .before .before .before .before .read-kind .ensures) (c .before .before .before .before .if1 .left) (c .before .before .before .read-rank .ensures) (c .before .before .is-later .ensures) (c .before .if2 .left) (c .since-of .ensures)
+    break-here _ _ _ _ _ _ _ _ _ _ _ (pre .3) (pre .1) (pre .2) (c .before .before .before .before .before .read-kind .ensures)
+    (c .before .before .before .before .if1 .left) (c .before .before .before .read-rank .ensures)
+    (c .before .before .is-later .ensures) (c .before .if2 .left) (c .since-of .ensures)
 
 pub break-of-spec : {M : Type 1} → statement M
 break-of-spec =

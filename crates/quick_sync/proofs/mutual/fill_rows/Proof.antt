@@ -29,7 +29,13 @@ clear-requires c κs = search needs
 
 -- src/mutual.rt:83:5
 loop-holds : tie.Need-loop-holds Inv-loop μ-loop
-loop-holds c = (search needs, refl, pairs-none _ _ _ (c .before .before .before .before .before .before .before .pre .0) (c .before .before .before .before .before .before .before .pre .1) (c .before .before .clear .ensures), within-refl _ _ _)
+loop-holds c = (
+  search needs,
+  refl,
+  pairs-none _ _ _ (c .before .before .before .before .before .before .before .pre .0)
+      (c .before .before .before .before .before .before .before .pre .1) (c .before .before .clear .ensures),
+  within-refl _ _ _,
+)
 
 -- src/mutual.rt:84:9
 mutual-row-requires : tie.Need-mutual-row-requires Inv-loop μ-loop

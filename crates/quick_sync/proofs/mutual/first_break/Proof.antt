@@ -38,12 +38,21 @@ next-requires c κs = search needs
 loop-holds : tie.Need-loop-holds Inv-loop μ-loop
 loop-holds c =
     let pre = c .before .before .before .pre in
-    let next = c .next .ensures in
-    (next .high, first-pass _ _ _ _ _ (next .low) (λ m l q. break-apart _ _ _ _ _ _ (walked (pre .5) _ _ (pre .1) (omega (arith, next .high)) (next .miss m l q))) (first-none _ _), λ l. walked (pre .5) _ _ (pre .1) l (next .hit l))
+    let next = c .next .ensures in (
+      next .high,
+      first-pass _ _ _ _ _ (next .low)
+          (λ m l q. break-apart _ _ _ _ _ _ (walked (pre .5) _ _ (pre .1) (omega (arith, next .high)) (next .miss m l q))) (first-none _ _),
+      λ l. walked (pre .5) _ _ (pre .1) l (next .hit l),
+    )
 
 -- src/mutual.rt:103:13
 break-of-requires : tie.Need-break-of-requires Inv-loop μ-loop
-break-of-requires c κs = (search needs, c .before .before .before .before .before .pre .3, c .before .before .before .before .before .pre .4, c .before .loop .inv .2 (c .loop-test .taken))
+break-of-requires c κs = (
+  search needs,
+  c .before .before .before .before .before .pre .3,
+  c .before .before .before .before .before .pre .4,
+  c .before .loop .inv .2 (c .loop-test .taken),
+)
 
 -- src/mutual.rt:104:9
 at-most-requires : tie.Need-at-most-requires Inv-loop μ-loop
@@ -66,8 +75,12 @@ loop-again : tie.Need-loop-again Inv-loop μ-loop
 loop-again c =
     let pre = c .before .before .before .before .before .before .before .before .pre in
     let next = c .next2 .ensures in
-    let e = first-more _ _ _ _ _ _ (c .before .before .before .before .loop .inv .1) (c .before .before .break-of .ensures) (c .before .at-most .ensures) in
-    (next .high, first-pass _ _ _ _ _ (next .low) (λ m l q. break-apart _ _ _ _ _ _ (walked (pre .5) _ _ (pre .1) (omega (arith, next .high)) (next .miss m l q))) e, λ l. walked (pre .5) _ _ (pre .1) l (next .hit l))
+    let e = first-more _ _ _ _ _ _ (c .before .before .before .before .loop .inv .1) (c .before .before .break-of .ensures) (c .before .at-most .ensures) in (
+      next .high,
+      first-pass _ _ _ _ _ (next .low)
+          (λ m l q. break-apart _ _ _ _ _ _ (walked (pre .5) _ _ (pre .1) (omega (arith, next .high)) (next .miss m l q))) e,
+      λ l. walked (pre .5) _ _ (pre .1) l (next .hit l),
+    )
 
 -- src/mutual.rt:94:1
 returns : tie.Need-returns Inv-loop μ-loop

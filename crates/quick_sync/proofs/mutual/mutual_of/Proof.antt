@@ -33,7 +33,8 @@ read-start-requires : tie.Need-read-start-requires
 read-start-requires c κs = search needs
 
 returns-2 : tie.Need-returns-2
-returns-2 c = mutual-start _ _ _ _ _ _ _ (c .before .before .before .before .before .before .before .pre .1) (λ e. c .if2 .taken (c .before .before .read-start .ensures ∙ e))
+returns-2 c = mutual-start _ _ _ _ _ _ _ (c .before .before .before .before .before .before .before .pre .1)
+    (λ e. c .if2 .taken (c .before .before .read-start .ensures ∙ e))
 
 -- src/mutual.rt:31:35
 cast-read-row : tie.Need-cast-read-row
@@ -49,7 +50,8 @@ same-location-requires c κs = search needs
 
 -- src/mutual.rt:33:9
 returns-3 : tie.Need-returns-3
-returns-3 c = mutual-location _ _ _ _ _ _ _ _ _ (c .before .before .before .before .before .before .before .before .before .before .pre .1) (c .before .before .read-row .ensures) (c .before .same-location .ensures) (c .if3 .taken)
+returns-3 c = mutual-location _ _ _ _ _ _ _ _ _ (c .before .before .before .before .before .before .before .before .before .before .pre .1)
+    (c .before .before .read-row .ensures) (c .before .same-location .ensures) (c .if3 .taken)
 
 -- src/mutual.rt:35:17
 is-mutual-requires : tie.Need-is-mutual-requires

@@ -108,14 +108,17 @@ loop-less c = search needs
 -- src/mutual.rt:69:5
 loop-again : tie.Need-loop-again Inv-loop μ-loop
 loop-again c =
-    let pre = c .before .before .before .before .before .before .before .before .before .before .before .before .before .before .before .before .before .before .before .before .pre in
+    let pre = c .before .before .before .before .before .before .before .before .before .before .before .before .before .before .before
+    .before .before .before .before .before .pre in
     let first = c .before .before .before .before .before .before .before .put-if in
     let second = c .before .before .before .put-if2 in
     let inv = c .before .before .before .before .before .before .before .before .before .before .before .loop .inv in
     let l = c .before .before .before .before .before .before .before .before .before .before .loop-test .taken in
     let next = c .next2 .ensures in
-    let e = pairs-put _ _ _ (mutual-swap _ _ _ _) (pre .0) (omega (arith, pre .2, inv .2)) (inv .0) l (c .before .before .before .before .before .before .before .before .before .mutual-of .ensures) (first .ensures) (second .ensures) (inv .7) in
-    let f = within-trans (within-put MUTUAL MUTUAL-END _ _ (omega (arith, pre .0, l)) (omega (arith, pre .0, pre .1, l)) (first .ensures)) (within-put MUTUAL MUTUAL-END _ _ (omega (arith, pre .0, l)) (omega (arith, pre .0, pre .1, l)) (second .ensures)) in
+    let e = pairs-put _ _ _ (mutual-swap _ _ _ _) (pre .0) (omega (arith, pre .2, inv .2)) (inv .0) l
+    (c .before .before .before .before .before .before .before .before .before .mutual-of .ensures) (first .ensures) (second .ensures) (inv .7) in
+    let f = within-trans (within-put MUTUAL MUTUAL-END _ _ (omega (arith, pre .0, l)) (omega (arith, pre .0, pre .1, l)) (first .ensures))
+    (within-put MUTUAL MUTUAL-END _ _ (omega (arith, pre .0, l)) (omega (arith, pre .0, pre .1, l)) (second .ensures)) in
     let over = pairs-over _ _ _ _ (pre .0) _ (pre .1) _ _ (omega (arith, inv .0)) (next .low) (next .high)
     (λ m k q. start-apart _ _ _ _ (inv .4) _ m _ _ (inv .3) (inv .5) (omega (arith, next .high)) (next .miss m k q)) e in
     (omega (arith, next .low, inv .0), next .high, f .len ∙ inv .2, inv .3, inv .4, inv .5, inv .6, over, within-trans (inv .8) f)

@@ -24,7 +24,8 @@ read-kind-requires c κs = search needs
 
 -- src/mutual.rt:121:9
 returns-2 : tie.Need-returns-2
-returns-2 c = sequence-read _ _ _ _ _ _ (c .before .before .before .before .pre .4 (c .before .before .if1 .left)) _ (c .before .read-kind .ensures) (c .if2 .taken)
+returns-2 c = sequence-read _ _ _ _ _ _ (c .before .before .before .before .pre .4 (c .before .before .if1 .left)) _
+    (c .before .read-kind .ensures) (c .if2 .taken)
 
 -- src/mutual.rt:123:36
 cast-read-rank : tie.Need-cast-read-rank
@@ -40,7 +41,9 @@ is-later-requires c κs = search needs
 
 -- src/mutual.rt:125:9
 returns-3 : tie.Need-returns-3
-returns-3 c = sequence-earlier _ _ _ _ _ _ (c .before .before .before .before .before .before .before .pre .4 (c .before .before .before .before .before .if1 .left)) _ _ _ (c .before .before .before .before .before .before .before .pre .1) (c .before .before .read-rank .ensures) (c .before .is-later .ensures) (c .if3 .taken)
+returns-3 c = sequence-earlier _ _ _ _ _ _ (c .before .before .before .before .before .before .before .pre .4
+    (c .before .before .before .before .before .if1 .left)) _ _ _ (c .before .before .before .before .before .before .before .pre .1)
+    (c .before .before .read-rank .ensures) (c .before .is-later .ensures) (c .if3 .taken)
 
 -- src/mutual.rt:127:6
 since-of-requires : tie.Need-since-of-requires
@@ -54,7 +57,10 @@ cast-result c = search needs
 returns-4 : tie.Need-returns-4
 returns-4 c =
     let pre = c .before .before .before .before .before .before .before .before .pre in
-    sequence-within _ _ _ _ _ _ (pre .4 (c .before .before .before .before .before .before .if1 .left)) _ _ _ _ _ _ (pre .1) (pre .2) (search needs) (c .before .before .before .before .before .read-kind .ensures) (c .before .before .before .before .if2 .left) (c .before .before .before .read-rank .ensures) (search needs) (c .before .before .is-later .ensures) (c .before .if3 .left) (c .since-of .ensures) (pre .3)
+    sequence-within _ _ _ _ _ _ (pre .4 (c .before .before .before .before .before .before .if1 .left)) _ _ _ _ _ _ (pre .1) (pre .2)
+    (search needs) (c .before .before .before .before .before .read-kind .ensures) (c .before .before .before .before .if2 .left)
+    (c .before .before .before .read-rank .ensures) (search needs) (c .before .before .is-later .ensures) (c .before .if3 .left)
+    (c .since-of .ensures) (pre .3)
 
 pub sequence-of-spec : {M : Type 1} → statement M
 sequence-of-spec =

@@ -50,7 +50,10 @@ same-length c = search needs
 
 -- src/mutual.rt:154:9
 returns : tie.Need-returns Inv-loop μ-loop
-returns c = c .before .before .put .ensures ∙ row-one _ _ _ _ _ _ (c .before .before .before .before .before .before .before .before .pre .1) (omega arith) (λ m l. sequence-alone _ _ _ _ _ _ _ refl (c .before .before .before .before .before .writes-at .ensures) (c .before .before .before .before .if1 .taken) m)
+returns c = c .before .before .put .ensures ∙ row-one _ _ _ _ _ _
+    (c .before .before .before .before .before .before .before .before .pre .1) (omega arith)
+    (λ m l. sequence-alone _ _ _ _ _ _ _ refl (c .before .before .before .before .before .writes-at .ensures)
+    (c .before .before .before .before .if1 .taken) m)
 
 -- src/mutual.rt:151:35
 cast-read-row : tie.Need-cast-read-row Inv-loop μ-loop
@@ -64,8 +67,15 @@ read-row-requires c κs = search needs
 first-break-requires : tie.Need-first-break-requires Inv-loop μ-loop
 first-break-requires c κs =
     let pre = c .before .before .before .before .before .before .pre in
-    let row = c .before .read-row .ensures in
-    (search needs, pre .1, search needs, row, ap writes row ∙ sym (c .before .before .before .writes-at .ensures) ∙ not-false _ (c .before .before .if1 .left), pre .3)
+    let row = c .before .read-row .ensures in (
+      search needs,
+      pre .1,
+      search needs,
+      row,
+      ap writes row ∙ sym (c .before .before .before .writes-at .ensures)
+          ∙ not-false _ (c .before .before .if1 .left),
+      pre .3,
+    )
 
 -- src/mutual.rt:157:29
 mul-at : tie.Need-mul-at Inv-loop μ-loop
@@ -84,8 +94,18 @@ loop-holds : tie.Need-loop-holds Inv-loop μ-loop
 loop-holds c =
     let pre = c .before .before .before .before .before .before .before .before .before .pre in
     let next = c .next-or .ensures in
-    let row = c .before .before .before .before .read-row .ensures in
-    (next .high, refl, row, ap writes row ∙ sym (c .before .before .before .before .before .before .writes-at .ensures) ∙ not-false _ (c .before .before .before .before .before .if1 .left), c .before .before .first-break .ensures, pre .3, λ l d. walked (pre .3) _ _ (pre .1) l (next .hit l d), fill-pass _ _ _ _ _ _ (next .low) (λ m l q. sequence-apart _ _ _ _ _ _ (next .miss m l q .1) (walked (pre .3) _ _ (pre .1) (omega (arith, next .high)) (next .miss m l q .0))) (rowFill-none _ _ _))
+    let row = c .before .before .before .before .read-row .ensures in (
+      next .high,
+      refl,
+      row,
+      ap writes row ∙ sym (c .before .before .before .before .before .before .writes-at .ensures)
+          ∙ not-false _ (c .before .before .before .before .before .if1 .left),
+      c .before .before .first-break .ensures,
+      pre .3,
+      λ l d. walked (pre .3) _ _ (pre .1) l (next .hit l d),
+      fill-pass _ _ _ _ _ _ (next .low) (λ m l q. sequence-apart _ _ _ _ _ _ (next .miss m l q .1)
+          (walked (pre .3) _ _ (pre .1) (omega (arith, next .high)) (next .miss m l q .0))) (rowFill-none _ _ _),
+    )
 
 -- src/mutual.rt:160:13
 sequence-of-requires : tie.Need-sequence-of-requires Inv-loop μ-loop
@@ -110,13 +130,24 @@ loop-less c = search needs
 -- src/mutual.rt:159:5
 loop-again : tie.Need-loop-again Inv-loop μ-loop
 loop-again c =
-    let pre = c .before .before .before .before .before .before .before .before .before .before .before .before .before .before .before .before .before .before .pre in
+    let pre = c .before .before .before .before .before .before .before .before .before .before .before .before .before .before .before
+    .before .before .before .pre in
     let next = c .next-or2 .ensures in
     let put = c .before .before .before .before .put-if in
     let inv = c .before .before .before .before .before .before .before .before .loop .inv in
-    let e = rowFill-put _ _ _ (put .last .0) _ _ _ _ (inv .7) (c .before .before .before .before .before .before .sequence-of .ensures) (omega arith) (put .ensures) in
-    let k = holds-kept (λ h. omega arith) (within-put SEQUENCE SEQUENCE-END _ _ (omega arith) (omega arith) (put .ensures)) (inv .5) in
-    (next .high, ap length e ∙ length-rowFill _ _ _ _, inv .2, inv .3, inv .4, k, λ l d. walked k _ _ (pre .1) l (next .hit l d), fill-pass _ _ _ _ _ _ (next .low) (λ m l q. sequence-apart _ _ _ _ _ _ (next .miss m l q .1) (walked k _ _ (pre .1) (omega (arith, next .high)) (next .miss m l q .0))) e)
+    let e = rowFill-put _ _ _ (put .last .0) _ _ _ _ (inv .7) (c .before .before .before .before .before .before .sequence-of .ensures)
+    (omega arith) (put .ensures) in
+    let k = holds-kept (λ h. omega arith) (within-put SEQUENCE SEQUENCE-END _ _ (omega arith) (omega arith) (put .ensures)) (inv .5) in (
+      next .high,
+      ap length e ∙ length-rowFill _ _ _ _,
+      inv .2,
+      inv .3,
+      inv .4,
+      k,
+      λ l d. walked k _ _ (pre .1) l (next .hit l d),
+      fill-pass _ _ _ _ _ _ (next .low) (λ m l q. sequence-apart _ _ _ _ _ _ (next .miss m l q .1)
+          (walked k _ _ (pre .1) (omega (arith, next .high)) (next .miss m l q .0))) e,
+    )
 
 -- src/mutual.rt:147:1
 same-length-2 : tie.Need-same-length-2 Inv-loop μ-loop
@@ -124,7 +155,8 @@ same-length-2 c = search needs
 
 -- src/mutual.rt:147:1
 returns-2 : tie.Need-returns-2 Inv-loop μ-loop
-returns-2 c = let e : c .before .loop .x ≡ c .before .before .before .before .before .before .before .before .before .before .before .args .n = omega arith in rw e at (c .before .loop .inv .7)
+returns-2 c = let e : c .before .loop .x ≡ c .before .before .before .before .before .before .before .before .before .before
+    .before .args .n = omega arith in rw e at (c .before .loop .inv .7)
 
 pub sequence-row-spec : {M : Type 1} → statement M
 sequence-row-spec =

@@ -61,7 +61,8 @@ returns : tie.Need-returns Inv-loop μ-loop
 returns c =
     let pre = c .before .before .before .before .before .before .before .pre in
     let e : c .before .loop .i ≡ c .before .before .before .before .before .before .before .args .n = omega arith in
-    made-times (pre .0) (omega (arith, pre .1, pre .2)) (c .before .before .before .before .clear .ensures) (pre .5) (pre .6) (rw e at (c .before .loop .inv .2))
+    made-times (pre .0) (omega (arith, pre .1, pre .2)) (c .before .before .before .before .clear .ensures) (pre .5) (pre .6)
+    (rw e at (c .before .loop .inv .2))
 
 pub multiply-spec : {M : Type 1} → statement M
 multiply-spec =

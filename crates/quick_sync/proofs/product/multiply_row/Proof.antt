@@ -58,8 +58,12 @@ add-join-row-2 c = search needs
 join-row-requires : tie.Need-join-row-requires Inv-loop μ-loop
 join-row-requires c κs =
     let start = c .before .before .before .before .before .before in
-    let pre = start .pre in
-    (search needs, search needs, λ h. let g : start .args .b + ROWS-GRID ≤ start .args .c = pre .7 (omega (arith, pre .0, pre .1)) in omega (arith, c .before .loop-test .taken, pre .0))
+    let pre = start .pre in (
+      search needs,
+      search needs,
+      λ h. let g : start .args .b + ROWS-GRID ≤ start .args .c = pre .7 (omega (arith, pre .0, pre .1)) in
+          omega (arith, c .before .loop-test .taken, pre .0),
+    )
 
 -- src/product.rt:24:35
 add-next : tie.Need-add-next Inv-loop μ-loop
@@ -79,7 +83,8 @@ loop-again c =
     let pre = c .before .before .before .before .before .before .before .before .before .before .before .pre in
     let inv = c .before .before .before .before .before .before .before .loop .inv in
     let l = c .before .before .before .before .before .before .loop-test .taken in
-    let e = row-join (omega (arith, pre .0, pre .1)) (omega (arith, pre .0, l)) (omega (arith, pre .2, pre .3)) (pre .7) (inv .4 l) (inv .3) (c .before .before .before .before .join-row .ensures) in
+    let e = row-join (omega (arith, pre .0, pre .1)) (omega (arith, pre .0, l)) (omega (arith, pre .2, pre .3)) (pre .7) (inv .4 l) (inv .3)
+    (c .before .before .before .before .join-row .ensures) in
     let r = row-next _ _ (pre .6) (omega (arith, pre .0, pre .1)) (pre .0) refl e (c .next2 .ensures) in
     (c .next2 .ensures .high, e .frame .len, refl, r .0, r .1)
 

@@ -67,7 +67,8 @@ same-length c = search needs
 returns : tie.Need-returns
 returns c =
     let pre = c .before .before .before .before .before .before .before .before .before .before .before .before .before .pre in
-    drawn _ _ _ (pre .0) (pre .1) (pre .2) (c .before .before .before .before .before .before .before .before .before .before .meet-row .ensures) (c .before .before .before .before .before .before .meet-row2 .ensures) (c .before .before .drop-bit .ensures)
+    drawn _ _ _ (pre .0) (pre .1) (pre .2) (c .before .before .before .before .before .before .before .before .before
+    .before .meet-row .ensures) (c .before .before .before .before .before .before .meet-row2 .ensures) (c .before .before .drop-bit .ensures)
 
 pub draw-row-spec : {M : Type 1} → statement M
 draw-row-spec =

@@ -36,8 +36,14 @@ level-of-requires c κs = search needs
 -- src/sync.rt:214:5
 loop-holds : tie.Need-loop-holds Inv-loop μ-loop
 loop-holds c =
-    let pre = c .before .before .before .before .before .before .before .before .before .before .before .pre in
-    (search needs, refl, c .level-of .ensures, turn-first _ (pre .0) (pre .1) (pre .2) (c .before .before .before .before .before .before .before .clear .ensures) (c .before .before .before .clear2 .ensures) .0, within-refl SYNC UNKNOWN-END _)
+    let pre = c .before .before .before .before .before .before .before .before .before .before .before .pre in (
+      search needs,
+      refl,
+      c .level-of .ensures,
+      turn-first _ (pre .0) (pre .1) (pre .2) (c .before .before .before .before .before .before .before .clear .ensures)
+          (c .before .before .before .clear2 .ensures) .0,
+      within-refl SYNC UNKNOWN-END _,
+    )
 
 -- src/sync.rt:215:24
 slice-aggregate-sync-row : tie.Need-slice-aggregate-sync-row Inv-loop μ-loop
@@ -71,8 +77,11 @@ returns : tie.Need-returns Inv-loop μ-loop
 returns c =
     let pre = c .before .before .before .before .before .before .before .before .before .before .before .before .before .pre in
     let inv = c .before .loop .inv in
-    let e : c .before .loop .a ≡ c .before .before .before .before .before .before .before .before .before .before .before .before .before .args .n = omega arith in
-    let first = turn-first _ (pre .0) (pre .1) (pre .2) (c .before .before .before .before .before .before .before .before .before .clear .ensures) (c .before .before .before .before .before .clear2 .ensures) in
+    let e : c .before .loop .a ≡ c .before .before .before .before .before .before .before .before .before .before .before .before
+    .before .args .n = omega arith in
+    let first = turn-first _ (pre .0) (pre .1) (pre .2)
+    (c .before .before .before .before .before .before .before .before .before .clear .ensures)
+    (c .before .before .before .before .before .clear2 .ensures) in
     sync-made (pre .0) (rw e at (inv .3)) (within-trans (first .1) (inv .4))
 
 pub fill-sync-spec : {M : Type 1} → statement M

@@ -38,7 +38,8 @@ row-byte-requires c κs = search needs
 -- src/sync.rt:70:13
 returns : tie.Need-returns Inv-loop μ-loop
 unfolding _and_
-returns c = sym (any-in _ _ _ (c .before .before .before .loop-test .taken) (off-is _ _ _ _ _ (c .before .before .acquires-at .ensures) (c .before .row-byte .ensures) (c .if1 .taken)))
+returns c = sym (any-in _ _ _ (c .before .before .before .loop-test .taken)
+    (off-is _ _ _ _ _ (c .before .before .acquires-at .ensures) (c .before .row-byte .ensures) (c .if1 .taken)))
 
 -- src/sync.rt:68:9
 add-b : tie.Need-add-b Inv-loop μ-loop
@@ -51,7 +52,11 @@ loop-less c = search needs
 -- src/sync.rt:68:5
 loop-again : tie.Need-loop-again Inv-loop μ-loop
 unfolding _and_
-loop-again c = (search needs, any-more _ _ (c .before .before .before .before .loop .inv .1) (off-is _ _ _ _ _ (c .before .before .acquires-at .ensures) (c .before .row-byte .ensures) (c .if1 .left)))
+loop-again c = (
+  search needs,
+  any-more _ _ (c .before .before .before .before .loop .inv .1)
+      (off-is _ _ _ _ _ (c .before .before .acquires-at .ensures) (c .before .row-byte .ensures) (c .if1 .left)),
+)
 
 -- src/sync.rt:64:1
 returns-2 : tie.Need-returns-2 Inv-loop μ-loop

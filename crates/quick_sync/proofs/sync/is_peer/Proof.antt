@@ -33,7 +33,9 @@ read-agent-requires c κs = search needs
 
 -- src/sync.rt:102:9
 returns-2 : tie.Need-returns-2
-returns-2 c h = peer-agent _ _ _ _ _ _ _ _ (c .before .before .before .before .before .before .before .pre .1) (c .before .before .before .before .before .row-byte .ensures) (c .before .before .before .if1 .left) (c .before .before .read-agent .ensures) (c .if2 .taken)
+returns-2 c h = peer-agent _ _ _ _ _ _ _ _ (c .before .before .before .before .before .before .before .pre .1)
+    (c .before .before .before .before .before .row-byte .ensures) (c .before .before .before .if1 .left)
+    (c .before .before .read-agent .ensures) (c .if2 .taken)
 
 -- src/sync.rt:104:18
 cast-if3 : tie.Need-cast-if3
@@ -51,7 +53,9 @@ shares-in-requires c κs = search needs
 returns-4 : tie.Need-returns-4
 returns-4 c h =
     let pre = c .before .before .before .before .before .before .before .before .before .before .pre in
-    peer-scope _ _ _ _ _ _ _ _ (pre .1) (c .before .before .before .before .before .before .before .before .row-byte .ensures) (c .before .before .before .before .before .before .if1 .left) (c .before .before .before .before .before .read-agent .ensures) _ _ (omega arith) (pre .2) (c .before .if3 .left) (c .shares-in .ensures) h
+    peer-scope _ _ _ _ _ _ _ _ (pre .1) (c .before .before .before .before .before .before .before .before .row-byte .ensures)
+    (c .before .before .before .before .before .before .if1 .left) (c .before .before .before .before .before .read-agent .ensures) _ _
+    (omega arith) (pre .2) (c .before .if3 .left) (c .shares-in .ensures) h
 
 pub is-peer-spec : {M : Type 1} → statement M
 is-peer-spec =

@@ -21,7 +21,17 @@ fill-sequence-requires c κs = search needs
 
 -- src/sync.rt:91:5
 make-linked-requires : tie.Need-make-linked-requires
-make-linked-requires c κs = let m = c .before .before .before .before .before .before .before .fill-mutual .ensures in let s = c .before .before .before .fill-sequence .ensures in (c .before .before .before .before .before .before .before .before .before .before .before .pre .0, omega (arith, m .frame .len, s .frame .len, c .before .before .before .before .before .before .before .before .before .before .before .pre .1), sequenced-made m s)
+make-linked-requires c κs = let m = c .before .before .before .before .before .before .before .fill-mutual .ensures in
+    let s = c .before .before .before .fill-sequence .ensures in (
+      c .before .before .before .before .before .before .before .before .before .before .before .pre .0,
+      omega (
+        arith,
+        m .frame .len,
+        s .frame .len,
+        c .before .before .before .before .before .before .before .before .before .before .before .pre .1,
+      ),
+      sequenced-made m s,
+    )
 
 -- src/sync.rt:92:5
 fill-sync-requires : tie.Need-fill-sync-requires
@@ -33,7 +43,9 @@ same-length c = search needs
 
 -- src/sync.rt:85:1
 returns : tie.Need-returns
-returns c = synced-made (c .before .before .before .before .before .before .before .before .before .before .before .before .before .before .fill-mutual .ensures) (c .before .before .before .before .before .before .before .before .before .before .fill-sequence .ensures) (c .before .before .before .before .before .before .make-linked .ensures) (c .before .before .fill-sync .ensures)
+returns c = synced-made (c .before .before .before .before .before .before .before .before .before .before .before .before .before
+    .before .fill-mutual .ensures) (c .before .before .before .before .before .before .before .before .before
+    .before .fill-sequence .ensures) (c .before .before .before .before .before .before .make-linked .ensures) (c .before .before .fill-sync .ensures)
 
 pub make-synced-spec : {M : Type 1} → statement M
 make-synced-spec =

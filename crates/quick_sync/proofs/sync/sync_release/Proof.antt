@@ -30,7 +30,8 @@ returns : tie.Need-returns
 returns c =
     let pre = c .before .before .before .before .before .before .before .before .before .before .before .pre in
     let peer = c .before .before .before .before .before .before .before .before .peer-of .ensures in
-    turn-drawn _ _ _ _ _ (pre .0) (pre .1) _ (omega (arith, pre .1, peer .0)) _ (pre .3) (pre .4) (pre .6) (peer .1) (c .before .before .before .before .before .before .learn-row .ensures) (c .before .before .draw-row .ensures)
+    turn-drawn _ _ _ _ _ (pre .0) (pre .1) _ (omega (arith, pre .1, peer .0)) _ (pre .3) (pre .4) (pre .6) (peer .1)
+    (c .before .before .before .before .before .before .learn-row .ensures) (c .before .before .draw-row .ensures)
 
 pub sync-release-spec : {M : Type 1} → statement M
 sync-release-spec =

@@ -64,7 +64,8 @@ sync-release-requires : tie.Need-sync-release-requires
 sync-release-requires c κs =
     let pre = c .before .before .before .before .before .before .before .before .before .pre in
     let row = c .before .read-row .ensures in
-    let release = ap releases row ∙ sym (c .before .before .before .before .before .before .releases-at .ensures) ∙ not-false _ (c .before .before .before .before .before .if1 .left) in
+    let release = ap releases row ∙ sym (c .before .before .before .before .before .before .releases-at .ensures)
+    ∙ not-false _ (c .before .before .before .before .before .if1 .left) in
     (pre .0, pre .1, pre .2, row, release, pre .3, pre .4)
 
 -- src/sync.rt:190:1

@@ -44,7 +44,8 @@ returns : tie.Need-returns
 returns c =
     let w = c .before .before .args .w .now in
     let k = c .before .before .args .k in
-    dropped _ _ _ (c .before .before .pre) (ap (λ (x : ℕ). set w (k / 64) (bitXor (getD w (k / 64) 0) (bitAnd (getD w (k / 64) 0) x))) (one-shl (k % 64) (omega arith)))
+    dropped _ _ _ (c .before .before .pre) (ap (λ (x : ℕ). set w (k / 64) (bitXor (getD w (k / 64) 0) (bitAnd (getD w (k / 64) 0) x)))
+    (one-shl (k % 64) (omega arith)))
 
 pub drop-bit-spec : {M : Type 1} → statement M
 drop-bit-spec =

@@ -102,7 +102,8 @@ same-length c = search needs
 
 -- src/words.rt:27:1
 returns : tie.Need-returns
-returns c = lessened _ _ _ _ _ _ _ _ (c .before .before .before .before .before .before .before .before .before .pre .0) (c .before .before .before .before .less-word .ensures) (c .less-word2 .ensures) refl
+returns c = lessened _ _ _ _ _ _ _ _ (c .before .before .before .before .before .before .before .before .before .pre .0)
+    (c .before .before .before .before .less-word .ensures) (c .less-word2 .ensures) refl
 
 pub set-less-spec : {M : Type 1} → statement M
 set-less-spec =

@@ -25,7 +25,8 @@ is-unset-requires c κs = search needs
 
 -- src/pair.rt:49:9
 returns : tie.Need-returns Inv-loop μ-loop
-returns c = some-unset _ _ _ _ _ _ (c .before .before .before .before .pre .2 .3) (c .before .before .before .before .pre .0) (c .before .before .before .before .pre .1) refl (sym (c .before .is-unset .ensures) ∙ c .if1 .taken)
+returns c = some-unset _ _ _ _ _ _ (c .before .before .before .before .pre .2 .3) (c .before .before .before .before .pre .0)
+    (c .before .before .before .before .pre .1) refl (sym (c .before .is-unset .ensures) ∙ c .if1 .taken)
 
 -- src/pair.rt:51:5
 loop-holds : tie.Need-loop-holds Inv-loop μ-loop
@@ -38,7 +39,10 @@ get-requires c κs = search needs
 -- src/pair.rt:53:13
 returns-2 : tie.Need-returns-2 Inv-loop μ-loop
 unfolding orderBit
-returns-2 c = sym (any-in _ _ _ (c .before .before .loop-test .taken) (sym (c .before .get .ensures) ∙ c .if2 .taken)) ∙ some-bits _ _ _ _ _ (c .before .before .before .before .before .before .before .before .pre .2 .3) (c .before .before .before .before .before .before .before .before .pre .0) (c .before .before .before .before .before .before .before .before .pre .1)
+returns-2 c = sym (any-in _ _ _ (c .before .before .loop-test .taken) (sym (c .before .get .ensures) ∙ c .if2 .taken))
+    ∙ some-bits _ _ _ _ _ (c .before .before .before .before .before .before .before .before .pre .2 .3)
+    (c .before .before .before .before .before .before .before .before .pre .0)
+    (c .before .before .before .before .before .before .before .before .pre .1)
 
 -- src/pair.rt:51:9
 add-k : tie.Need-add-k Inv-loop μ-loop
@@ -55,7 +59,9 @@ loop-again c = (search needs, any-more _ _ (c .before .before .before .loop .inv
 
 -- src/pair.rt:35:1
 returns-3 : tie.Need-returns-3 Inv-loop μ-loop
-returns-3 c = let e : c .before .loop .k ≡ PAIR = omega arith in sym (rw e at (c .before .loop .inv .1)) ∙ some-bits _ _ _ _ _ (c .before .before .before .before .before .before .pre .2 .3) (c .before .before .before .before .before .before .pre .0) (c .before .before .before .before .before .before .pre .1)
+returns-3 c = let e : c .before .loop .k ≡ PAIR = omega arith in
+    sym (rw e at (c .before .loop .inv .1)) ∙ some-bits _ _ _ _ _ (c .before .before .before .before .before .before .pre .2 .3)
+    (c .before .before .before .before .before .before .pre .0) (c .before .before .before .before .before .before .pre .1)
 
 pub before-some-spec : {M : Type 1} → statement M
 before-some-spec =

@@ -36,7 +36,8 @@ takes-from-requires c κs = search needs
 -- src/sync.rt:81:13
 returns : tie.Need-returns Inv-loop μ-loop
 unfolding carriesIn _and_
-returns c = sym (any-in _ _ _ (c .before .before .before .loop-test .taken) (both (c .before .before .trails-at .ensures _ _ _) (c .before .takes-from .ensures) (c .if1 .taken)))
+returns c = sym (any-in _ _ _ (c .before .before .before .loop-test .taken)
+    (both (c .before .before .trails-at .ensures _ _ _) (c .before .takes-from .ensures) (c .if1 .taken)))
 
 -- src/sync.rt:79:9
 add-y : tie.Need-add-y Inv-loop μ-loop
@@ -49,7 +50,11 @@ loop-less c = search needs
 -- src/sync.rt:79:5
 loop-again : tie.Need-loop-again Inv-loop μ-loop
 unfolding carriesIn _and_
-loop-again c = (search needs, any-more _ _ (c .before .before .before .before .loop .inv .1) (both (c .before .before .trails-at .ensures _ _ _) (c .before .takes-from .ensures) (c .if1 .left)))
+loop-again c = (
+  search needs,
+  any-more _ _ (c .before .before .before .before .loop .inv .1)
+      (both (c .before .before .trails-at .ensures _ _ _) (c .before .takes-from .ensures) (c .if1 .left)),
+)
 
 -- src/sync.rt:75:1
 returns-2 : tie.Need-returns-2 Inv-loop μ-loop

@@ -60,7 +60,10 @@ is-end-requires c κs = search needs
 -- src/sync.rt:26:13
 returns : tie.Need-returns Inv-loop μ-loop
 returns c =
-    let t = ends-told _ _ _ _ _ _ _ _ _ _ _ _ (c .before .before .before .mutual-at .ensures) (c .before .before .before .before .before .before .before .read-row .ensures) (c .before .before .before .before .before .before .read-row2 .ensures) (c .before .before .read-row3 .ensures) (c .before .is-end .ensures) in
+    let t = ends-told _ _ _ _ _ _ _ _ _ _ _ _ (c .before .before .before .mutual-at .ensures)
+    (c .before .before .before .before .before .before .before .read-row .ensures)
+    (c .before .before .before .before .before .before .read-row2 .ensures) (c .before .before .read-row3 .ensures)
+    (c .before .is-end .ensures) in
     sym (any-in _ _ _ (c .before .before .before .before .loop-test .taken) (t ∙ c .if1 .taken))
 
 -- src/sync.rt:22:9
@@ -74,7 +77,10 @@ loop-less c = search needs
 -- src/sync.rt:22:5
 loop-again : tie.Need-loop-again Inv-loop μ-loop
 loop-again c =
-    let t = ends-told _ _ _ _ _ _ _ _ _ _ _ _ (c .before .before .before .mutual-at .ensures) (c .before .before .before .before .before .before .before .read-row .ensures) (c .before .before .before .before .before .before .read-row2 .ensures) (c .before .before .read-row3 .ensures) (c .before .is-end .ensures) in
+    let t = ends-told _ _ _ _ _ _ _ _ _ _ _ _ (c .before .before .before .mutual-at .ensures)
+    (c .before .before .before .before .before .before .before .read-row .ensures)
+    (c .before .before .before .before .before .before .read-row2 .ensures) (c .before .before .read-row3 .ensures)
+    (c .before .is-end .ensures) in
     (search needs, any-more _ _ (c .before .before .before .before .before .loop .inv .1) (t ∙ c .if1 .left))
 
 -- src/sync.rt:16:1

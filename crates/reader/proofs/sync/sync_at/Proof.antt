@@ -48,7 +48,8 @@ returns : tie.Need-returns
 unfolding _and_
 returns c =
     let read = c .before .before .before in
-    sync-off _ _ _ _ _ _ _ _ _ _ (read .before .read-row .ensures) (read .read-row2 .ensures) (c .before .before .releases .ensures) (c .before .acquires .ensures) (c .if1 .taken)
+    sync-off _ _ _ _ _ _ _ _ _ _ (read .before .read-row .ensures) (read .read-row2 .ensures) (c .before .before .releases .ensures)
+    (c .before .acquires .ensures) (c .if1 .taken)
 
 -- src/sync.rt:110:9
 is-atomic-requires : tie.Need-is-atomic-requires
@@ -69,7 +70,9 @@ returns-2 c =
     let told = c .before .before in
     let tested = told .before .before in
     let read = tested .before .before .before in
-    sync-atomics _ _ _ _ _ _ _ _ (read .before .read-row .ensures) (read .read-row2 .ensures) _ _ _ _ _ _ _ (tested .before .before .releases .ensures) (tested .before .acquires .ensures) (told .before .is-atomic .ensures) (told .is-atomic2 .ensures) refl refl refl (tested .if1 .left) _ (c .before .if2 .taken) (c .takes-from .ensures)
+    sync-atomics _ _ _ _ _ _ _ _ (read .before .read-row .ensures) (read .read-row2 .ensures) _ _ _ _ _ _ _
+    (tested .before .before .releases .ensures) (tested .before .acquires .ensures) (told .before .is-atomic .ensures)
+    (told .is-atomic2 .ensures) refl refl refl (tested .if1 .left) _ (c .before .if2 .taken) (c .takes-from .ensures)
 
 -- src/sync.rt:115:9
 is-barrier-requires : tie.Need-is-barrier-requires
@@ -95,7 +98,10 @@ returns-3 c =
     let told = near .before .before .before .before in
     let tested = told .before .before in
     let read = tested .before .before .before in
-    sync-from _ _ _ _ _ _ _ _ (read .before .read-row .ensures) (read .read-row2 .ensures) _ _ _ _ _ _ _ (tested .before .before .releases .ensures) (tested .before .acquires .ensures) (told .before .is-atomic .ensures) (told .is-atomic2 .ensures) (near .before .before .is-barrier .ensures) (near .before .is-barrier2 .ensures) (near .together .ensures) (tested .if1 .left) _ (c .before .if3 .taken) (c .is-carried-out .ensures)
+    sync-from _ _ _ _ _ _ _ _ (read .before .read-row .ensures) (read .read-row2 .ensures) _ _ _ _ _ _ _
+    (tested .before .before .releases .ensures) (tested .before .acquires .ensures) (told .before .is-atomic .ensures)
+    (told .is-atomic2 .ensures) (near .before .before .is-barrier .ensures) (near .before .is-barrier2 .ensures)
+    (near .together .ensures) (tested .if1 .left) _ (c .before .if3 .taken) (c .is-carried-out .ensures)
 
 -- src/sync.rt:122:23
 is-carried-in-requires : tie.Need-is-carried-in-requires
@@ -109,7 +115,10 @@ returns-4 c =
     let told = near .before .before .before .before in
     let tested = told .before .before in
     let read = tested .before .before .before in
-    sync-to _ _ _ _ _ _ _ _ (read .before .read-row .ensures) (read .read-row2 .ensures) _ _ _ _ _ _ _ (tested .before .before .releases .ensures) (tested .before .acquires .ensures) (told .before .is-atomic .ensures) (told .is-atomic2 .ensures) (near .before .before .is-barrier .ensures) (near .before .is-barrier2 .ensures) (near .together .ensures) (tested .if1 .left) _ (c .before .if4 .taken) (c .is-carried-in .ensures)
+    sync-to _ _ _ _ _ _ _ _ (read .before .read-row .ensures) (read .read-row2 .ensures) _ _ _ _ _ _ _
+    (tested .before .before .releases .ensures) (tested .before .acquires .ensures) (told .before .is-atomic .ensures)
+    (told .is-atomic2 .ensures) (near .before .before .is-barrier .ensures) (near .before .is-barrier2 .ensures)
+    (near .together .ensures) (tested .if1 .left) _ (c .before .if4 .taken) (c .is-carried-in .ensures)
 
 -- src/sync.rt:124:37
 is-carried-over-requires : tie.Need-is-carried-over-requires
@@ -127,7 +136,11 @@ returns-5 c =
     let told = near .before .before .before .before in
     let tested = told .before .before in
     let read = tested .before .before .before in
-    sync-over _ _ _ _ _ _ _ _ (read .before .read-row .ensures) (read .read-row2 .ensures) _ _ _ _ _ _ _ (tested .before .before .releases .ensures) (tested .before .acquires .ensures) (told .before .is-atomic .ensures) (told .is-atomic2 .ensures) (near .before .before .is-barrier .ensures) (near .before .is-barrier2 .ensures) (near .together .ensures) (tested .if1 .left) _ _ (near .before .before .before .if2 .left) (c .before .before .before .if3 .left) (c .before .before .if4 .left) (c .before .is-carried-over .ensures) (c .is-passed .ensures)
+    sync-over _ _ _ _ _ _ _ _ (read .before .read-row .ensures) (read .read-row2 .ensures) _ _ _ _ _ _ _
+    (tested .before .before .releases .ensures) (tested .before .acquires .ensures) (told .before .is-atomic .ensures)
+    (told .is-atomic2 .ensures) (near .before .before .is-barrier .ensures) (near .before .is-barrier2 .ensures)
+    (near .together .ensures) (tested .if1 .left) _ _ (near .before .before .before .if2 .left) (c .before .before .before .if3 .left)
+    (c .before .before .if4 .left) (c .before .is-carried-over .ensures) (c .is-passed .ensures)
 
 pub sync-at-spec : {M : Type 1} → statement M
 sync-at-spec =

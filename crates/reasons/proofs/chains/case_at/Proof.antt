@@ -44,8 +44,11 @@ case-of-requires c κs = search needs
 -- src/chains.rt:95:1
 returns : tie.Need-returns
 returns c =
-    let e = c .case-of .ensures in
-    (rw e (case-small _ _ _ _ _ _ _), λ p mode. case-told _ _ _ _ _ _ _ _ _ _ _ e (c .before .before .read-row .ensures) (c .before .read-row2 .ensures) (c .before .before .before .ordered-at .ensures p mode))
+    let e = c .case-of .ensures in (
+      rw e (case-small _ _ _ _ _ _ _),
+      λ p mode. case-told _ _ _ _ _ _ _ _ _ _ _ e (c .before .before .read-row .ensures)
+          (c .before .read-row2 .ensures) (c .before .before .before .ordered-at .ensures p mode),
+    )
 
 pub case-at-spec : {M : Type 1} → statement M
 case-at-spec =

@@ -61,8 +61,12 @@ unfolding decode
 returns c =
     let start = c .before .before .before .before .before .before .before .before .before .before .before in
     let inv = c .before .before .before .before .before .before .before .before .loop .inv in
-    let made = c .before .before .before .before .before .make-layers .ensures in
-    (set-found refl (made .layered) _ _ (start .pre .2) (c .before .layer-of .ensures .0) (inv .2) (c .before .before .before .before .before .before .before .loop-test .taken) (c .if1 .taken), within-trans (inv .4) (made .frame), λ h. made .layered)
+    let made = c .before .before .before .before .before .make-layers .ensures in (
+      set-found refl (made .layered) _ _ (start .pre .2) (c .before .layer-of .ensures .0) (inv .2)
+          (c .before .before .before .before .before .before .before .loop-test .taken) (c .if1 .taken),
+      within-trans (inv .4) (made .frame),
+      λ h. made .layered,
+    )
 
 -- src/chains.rt:42:9
 add-c : tie.Need-add-c Inv-loop μ-loop
@@ -78,8 +82,13 @@ unfolding decode
 loop-again c =
     let start = c .before .before .before .before .before .before .before .before .before .before .before in
     let inv = c .before .before .before .before .before .before .before .before .loop .inv in
-    let made = c .before .before .before .before .before .make-layers .ensures in
-    (search needs, made .frame .len ∙ inv .1, set-missed refl (made .layered) _ _ (start .pre .2) (c .before .layer-of .ensures .0) (inv .2) (c .if1 .left), synced-kept (omega arith) (made .frame) (inv .3), within-trans (inv .4) (made .frame))
+    let made = c .before .before .before .before .before .make-layers .ensures in (
+      search needs,
+      made .frame .len ∙ inv .1,
+      set-missed refl (made .layered) _ _ (start .pre .2) (c .before .layer-of .ensures .0) (inv .2) (c .if1 .left),
+      synced-kept (omega arith) (made .frame) (inv .3),
+      within-trans (inv .4) (made .frame),
+    )
 
 -- src/chains.rt:29:1
 same-length-2 : tie.Need-same-length-2 Inv-loop μ-loop

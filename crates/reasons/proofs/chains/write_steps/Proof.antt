@@ -25,7 +25,8 @@ use Rattle.reasons.proofs.chains.step_number.Reads as step-number-reads
 abbrev Inv-loop : tie.InvT-loop
 Inv-loop rows n s first second size w c₀ z₀ i₀ c z i =
     (i ≤ size) × (z < 3 * n) × (length c ≡ length c₀) × Left (3 * n) (rel w STEP MOMENTS) second size first i (size - i) z
-    × ((p : List (List ℕ)) (mode : Mode) → Synced (decode rows p mode n) n w → Written (along (stepNumber (decode rows p mode n) s) second (trail (3 * n) (rel w STEP MOMENTS) second size first)) i c₀ c)
+    × ((p : List (List ℕ)) (mode : Mode) → Synced (decode rows p mode n) n w
+    → Written (along (stepNumber (decode rows p mode n) s) second (trail (3 * n) (rel w STEP MOMENTS) second size first)) i c₀ c)
 
 abbrev μ-loop : tie.MeasureT-loop
 μ-loop rows n s first second size w c₀ z₀ i₀ c z i = size - i
@@ -81,8 +82,14 @@ loop-again : tie.Need-loop-again Inv-loop μ-loop
 loop-again c =
     let start = c .before .before .before .before .before .before .before in
     let inv = c .before .before .before .loop .inv in
-    let more = left-more _ _ _ _ _ _ _ _ (c .before .before .loop-test .taken) (inv .3) (c .before .next .ensures ∙ next-is (start .pre .6) _ _ (omega arith)) in
-    (search needs, more .0, simp length-set (inv .2), more .2, λ p mode h. written-more _ _ (omega arith) (more .1 _ ∙ sym (c .step-number .ensures p mode h)) (inv .4 p mode h))
+    let more = left-more _ _ _ _ _ _ _ _ (c .before .before .loop-test .taken) (inv .3)
+    (c .before .next .ensures ∙ next-is (start .pre .6) _ _ (omega arith)) in (
+      search needs,
+      more .0,
+      simp length-set (inv .2),
+      more .2,
+      λ p mode h. written-more _ _ (omega arith) (more .1 _ ∙ sym (c .step-number .ensures p mode h)) (inv .4 p mode h),
+    )
 
 -- src/chains.rt:120:1
 same-length : tie.Need-same-length Inv-loop μ-loop

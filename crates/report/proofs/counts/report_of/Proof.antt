@@ -40,12 +40,17 @@ enum-told c = search needs
 -- src/counts.rt:72:9
 returns : tie.Need-returns
 unfolding decode
-returns c = counted-none _ _ _ _ _ _ _ refl (c .before .before .before .before .before .before .count-pairs .ensures) (c .before .before .before .before .before .count-pairs2 .ensures) (c .before .before .before .before .count-pairs3 .ensures) (c .before .before .before .count-pairs4 .ensures) (c .before .before .share .ensures) (c .enum-told .given .1)
+returns c = counted-none _ _ _ _ _ _ _ refl (c .before .before .before .before .before .before .count-pairs .ensures)
+    (c .before .before .before .before .before .count-pairs2 .ensures) (c .before .before .before .before .count-pairs3 .ensures)
+    (c .before .before .before .count-pairs4 .ensures) (c .before .before .share .ensures) (c .enum-told .given .1)
 
 -- src/counts.rt:62:1
 returns-2 : tie.Need-returns-2
 unfolding decode
-returns-2 c = counted-some _ _ _ _ _ _ _ refl (c .before .before .before .before .before .before .before .count-pairs .ensures) (c .before .before .before .before .before .before .count-pairs2 .ensures) (c .before .before .before .before .before .count-pairs3 .ensures) (c .before .before .before .before .count-pairs4 .ensures) (c .before .before .before .share .ensures) _ (c .before .s .given .1)
+returns-2 c = counted-some _ _ _ _ _ _ _ refl (c .before .before .before .before .before .before .before .count-pairs .ensures)
+    (c .before .before .before .before .before .before .count-pairs2 .ensures)
+    (c .before .before .before .before .before .count-pairs3 .ensures) (c .before .before .before .before .count-pairs4 .ensures)
+    (c .before .before .before .share .ensures) _ (c .before .s .given .1)
 
 pub report-of-spec : {M : Type 1} → statement M
 report-of-spec =

@@ -25,7 +25,8 @@ read-source-requires c κs = search needs
 -- src/bytes.rt:77:9
 returns : tie.Need-returns
 unfolding atomicSource
-returns c = simp (ap atomic (sym (c .before .before .before .read-row .ensures)) ∙ sym (c .before .before .is-atomic .ensures) ∙ c .before .if1 .taken) (c .read-source .ensures)
+returns c = simp (ap atomic (sym (c .before .before .before .read-row .ensures)) ∙ sym (c .before .before .is-atomic .ensures)
+    ∙ c .before .if1 .taken) (c .read-source .ensures)
 
 -- src/bytes.rt:72:1
 returns-2 : tie.Need-returns-2

@@ -38,7 +38,8 @@ read-kind-requires c κs = search needs
 
 -- src/scopes.rt:242:1
 returns-3 : tie.Need-returns-3
-returns-3 c = instance-here _ _ _ _ _ _ (c .before .before .before .before .row-byte .ensures) (omega arith) (c .before .before .row-byte2 .ensures) (omega arith) (c .read-kind .ensures)
+returns-3 c = instance-here _ _ _ _ _ _ (c .before .before .before .before .row-byte .ensures) (omega arith)
+    (c .before .before .row-byte2 .ensures) (omega arith) (c .read-kind .ensures)
 
 pub is-of-instance-spec : {M : Type 1} → statement M
 is-of-instance-spec =

@@ -31,7 +31,8 @@ read-four-requires c κs = search needs
 -- src/scopes.rt:80:9
 returns-2 : tie.Need-returns-2
 unfolding slotAt placeAt
-returns-2 c = rw (← c .before .before .before .before .agents-at .ensures) (simp (lt-ltb _ _ (c .before .before .before .if1 .left), sym (c .before .before .has-hosts .ensures) ∙ c .before .if2 .taken) (cc))
+returns-2 c = rw (← c .before .before .before .before .agents-at .ensures)
+    (simp (lt-ltb _ _ (c .before .before .before .if1 .left), sym (c .before .before .has-hosts .ensures) ∙ c .before .if2 .taken) (cc))
 
 -- src/scopes.rt:82:5
 read-three-requires : tie.Need-read-three-requires
@@ -40,7 +41,8 @@ read-three-requires c κs = search needs
 -- src/scopes.rt:73:1
 returns-3 : tie.Need-returns-3
 unfolding slotAt placeAt
-returns-3 c = rw (← c .before .before .before .before .agents-at .ensures) (simp (lt-ltb _ _ (c .before .before .before .if1 .left), sym (c .before .before .has-hosts .ensures) ∙ c .before .if2 .left) (cc))
+returns-3 c = rw (← c .before .before .before .before .agents-at .ensures)
+    (simp (lt-ltb _ _ (c .before .before .before .if1 .left), sym (c .before .before .has-hosts .ensures) ∙ c .before .if2 .left) (cc))
 
 pub read-place-spec : {M : Type 1} → statement M
 read-place-spec =

@@ -45,7 +45,8 @@ returns-4 c p e f = shares-apart p _ _ _ _ _ e f (c .before .before .before .if1
 -- src/scopes.rt:209:9
 returns-5 : tie.Need-returns-5
 unfolding _and_ _or_
-returns-5 c p e f = shares-family p _ _ _ _ _ e f (c .before .before .before .before .if1 .left) (c .before .before .before .if2 .left) (c .before .before .if3 .left) (c .before .if4 .left) (c .if5 .taken)
+returns-5 c p e f = shares-family p _ _ _ _ _ e f (c .before .before .before .before .if1 .left) (c .before .before .before .if2 .left)
+    (c .before .before .if3 .left) (c .before .if4 .left) (c .if5 .taken)
 
 -- src/scopes.rt:211:8
 array-read-if6 : tie.Need-array-read-if6
@@ -58,7 +59,8 @@ array-read-if6-2 c = search needs
 -- src/scopes.rt:212:9
 returns-6 : tie.Need-returns-6
 unfolding _and_ _or_
-returns-6 c p e f = shares-parted p _ _ _ _ _ e f (c .before .before .before .before .before .if1 .left) (c .before .before .before .before .if2 .left) (c .before .before .before .if3 .left) (c .before .if5 .left) (c .if6 .taken)
+returns-6 c p e f = shares-parted p _ _ _ _ _ e f (c .before .before .before .before .before .if1 .left)
+    (c .before .before .before .before .if2 .left) (c .before .before .before .if3 .left) (c .before .if5 .left) (c .if6 .taken)
 
 -- src/scopes.rt:214:51
 array-read-result : tie.Need-array-read-result
@@ -71,7 +73,9 @@ array-read-result-2 c = search needs
 -- src/scopes.rt:193:1
 returns-7 : tie.Need-returns-7
 unfolding _and_ _or_
-returns-7 c p e f = shares-rest p _ _ _ _ _ e f (c .before .before .before .before .before .if1 .left) (c .before .before .before .before .if2 .left) (c .before .before .before .if3 .left) (c .before .if5 .left) (c .before .before .if4 .left) (c .if6 .left)
+returns-7 c p e f = shares-rest p _ _ _ _ _ e f (c .before .before .before .before .before .if1 .left)
+    (c .before .before .before .before .if2 .left) (c .before .before .before .if3 .left) (c .before .if5 .left)
+    (c .before .before .if4 .left) (c .if6 .left)
 
 pub shares-at-spec : {M : Type 1} → statement M
 shares-at-spec =

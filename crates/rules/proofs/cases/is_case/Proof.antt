@@ -39,7 +39,8 @@ concerns-of-requires c κs = search needs
 -- src/cases.rt:54:9
 returns-2 : tie.Need-returns-2
 unfolding _and_
-returns-2 c = told-two _ _ _ _ _ _ _ _ (c .before .before .before .if2 .taken) (c .before .before .holding-of3 .ensures) (c .before .releases .ensures) (c .concerns-of .ensures)
+returns-2 c = told-two _ _ _ _ _ _ _ _ (c .before .before .before .if2 .taken) (c .before .before .holding-of3 .ensures)
+    (c .before .releases .ensures) (c .concerns-of .ensures)
 
 -- src/cases.rt:57:16
 holding-of-requires-4 : tie.Need-holding-of-requires-4
@@ -56,7 +57,8 @@ concerns-of-requires-2 c κs = search needs
 -- src/cases.rt:57:9
 returns-3 : tie.Need-returns-3
 unfolding _and_
-returns-3 c = told-three _ _ _ _ _ _ _ _ (c .before .before .before .if3 .taken) (c .before .before .holding-of4 .ensures) (c .before .acquires .ensures) (c .concerns-of2 .ensures)
+returns-3 c = told-three _ _ _ _ _ _ _ _ (c .before .before .before .if3 .taken) (c .before .before .holding-of4 .ensures)
+    (c .before .acquires .ensures) (c .concerns-of2 .ensures)
 
 -- src/cases.rt:47:1
 returns-4 : tie.Need-returns-4

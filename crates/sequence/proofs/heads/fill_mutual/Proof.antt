@@ -88,7 +88,8 @@ same-length c = search needs
 returns : tie.Need-returns Inv-loop2 μ-loop2 Inv-loop μ-loop
 returns c =
     let e : c .before .loop .i ≡ c .before .before .before .before .before .before .before .before .args .n = omega arith in
-    made-filled MUTUAL MUTUAL-END GRID _ _ _ _ _ (omega arith) (omega arith) (omega arith) (c .before .before .before .before .clear .ensures) (rw e at (c .before .loop .inv .2))
+    made-filled MUTUAL MUTUAL-END GRID _ _ _ _ _ (omega arith) (omega arith) (omega arith)
+    (c .before .before .before .before .clear .ensures) (rw e at (c .before .loop .inv .2))
 
 pub fill-mutual-spec : {M : Type 1} → statement M
 fill-mutual-spec =

@@ -68,7 +68,9 @@ returns c =
     let start = c .before .before .before .before .before .before .before .before .before .before in
     let z = c .before .before .before .before .before .loop .z in
     let f = c .before .before .before .get .ensures ∙ holds-bit (start .pre .4) _ (start .args .a) z (omega arith) (omega arith) (omega arith) in
-    let t = ends-told _ _ _ _ _ _ _ _ _ _ _ _ f (c .before .before .before .before .before .before .before .read-row .ensures) (c .before .before .before .before .before .before .read-row2 .ensures) (c .before .before .read-row3 .ensures) (c .before .is-end .ensures) in
+    let t = ends-told _ _ _ _ _ _ _ _ _ _ _ _ f (c .before .before .before .before .before .before .before .read-row .ensures)
+    (c .before .before .before .before .before .before .read-row2 .ensures) (c .before .before .read-row3 .ensures)
+    (c .before .is-end .ensures) in
     sym (any-in _ _ z (c .before .before .before .before .loop-test .taken) (t ∙ c .if1 .taken))
 
 -- src/heads.rt:62:9
@@ -87,7 +89,9 @@ loop-again c =
       search needs,
       λ p k.
           let f = c .before .before .before .get .ensures ∙ holds-bit k _ (start .args .a) z (omega arith) (omega arith) (omega arith) in
-          let t = ends-told _ _ _ _ _ _ _ _ _ _ _ _ f (c .before .before .before .before .before .before .before .read-row .ensures) (c .before .before .before .before .before .before .read-row2 .ensures) (c .before .before .read-row3 .ensures) (c .before .is-end .ensures) in
+          let t = ends-told _ _ _ _ _ _ _ _ _ _ _ _ f (c .before .before .before .before .before .before .before .read-row .ensures)
+          (c .before .before .before .before .before .before .read-row2 .ensures) (c .before .before .read-row3 .ensures)
+          (c .before .is-end .ensures) in
           any-more _ _ (c .before .before .before .before .before .loop .inv .1 p k) (t ∙ c .if1 .left),
     )
 

@@ -18,7 +18,12 @@ fill-sequence-requires c κs = search needs
 
 -- src/sync.rt:111:5
 fill-sync-requires : tie.Need-fill-sync-requires
-fill-sync-requires c κs = (search needs, search needs, sequenced-made (c .before .before .before .before .before .before .before .fill-mutual .ensures) (c .before .before .before .fill-sequence .ensures))
+fill-sync-requires c κs = (
+  search needs,
+  search needs,
+  sequenced-made (c .before .before .before .before .before .before .before .fill-mutual .ensures)
+      (c .before .before .before .fill-sequence .ensures),
+)
 
 -- src/sync.rt:105:1
 same-length : tie.Need-same-length

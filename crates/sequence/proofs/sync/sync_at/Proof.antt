@@ -43,7 +43,8 @@ returns : tie.Need-returns
 unfolding _and_
 returns c =
     let read = c .before .before .before in
-    sync-off _ _ _ _ _ _ _ _ _ _ (read .before .read-row .ensures) (read .read-row2 .ensures) (c .before .before .releases .ensures) (c .before .acquires .ensures) (c .if1 .taken)
+    sync-off _ _ _ _ _ _ _ _ _ _ (read .before .read-row .ensures) (read .read-row2 .ensures) (c .before .before .releases .ensures)
+    (c .before .acquires .ensures) (c .if1 .taken)
 
 -- src/sync.rt:81:5
 sync-atomics-requires : tie.Need-sync-atomics-requires
@@ -71,7 +72,10 @@ unfolding _and_ _or_
 returns-2 c =
     let tested = c .before .before .before .before .before in
     let read = tested .before .before .before in
-    sync-on _ _ _ _ _ _ _ _ _ _ _ _ _ _ _ (read .before .read-row .ensures) (read .read-row2 .ensures) (tested .before .before .releases .ensures) (tested .before .acquires .ensures) (tested .if1 .left) (c .before .before .before .before .sync-atomics .ensures) (c .before .before .before .sync-from-barrier .ensures) (c .before .before .sync-to-barrier .ensures) (c .before .sync-barriers .ensures) (c .sync-control .ensures)
+    sync-on _ _ _ _ _ _ _ _ _ _ _ _ _ _ _ (read .before .read-row .ensures) (read .read-row2 .ensures)
+    (tested .before .before .releases .ensures) (tested .before .acquires .ensures) (tested .if1 .left)
+    (c .before .before .before .before .sync-atomics .ensures) (c .before .before .before .sync-from-barrier .ensures)
+    (c .before .before .sync-to-barrier .ensures) (c .before .sync-barriers .ensures) (c .sync-control .ensures)
 
 pub sync-at-spec : {M : Type 1} → statement M
 sync-at-spec =

@@ -44,7 +44,8 @@ returns : tie.Need-returns
 unfolding _and_
 returns c =
     let read = c .before .before .before .before in
-    from-off _ _ _ _ _ _ _ _ _ _ _ (read .before .read-row .ensures) (read .read-row2 .ensures) (c .before .before .before .is-barrier .ensures) (c .before .before .is-atomic .ensures) (c .before .together .ensures) (c .if1 .taken)
+    from-off _ _ _ _ _ _ _ _ _ _ _ (read .before .read-row .ensures) (read .read-row2 .ensures)
+    (c .before .before .before .is-barrier .ensures) (c .before .before .is-atomic .ensures) (c .before .together .ensures) (c .if1 .taken)
 
 -- src/sync.rt:39:5
 is-carried-out-requires : tie.Need-is-carried-out-requires
@@ -56,7 +57,9 @@ unfolding _and_
 returns-2 c =
     let tested = c .before in
     let read = tested .before .before .before .before in
-    from-on _ _ _ _ _ _ _ _ _ _ _ _ (read .before .read-row .ensures) (read .read-row2 .ensures) (tested .before .before .before .is-barrier .ensures) (tested .before .before .is-atomic .ensures) (tested .before .together .ensures) (tested .if1 .left) (c .is-carried-out .ensures)
+    from-on _ _ _ _ _ _ _ _ _ _ _ _ (read .before .read-row .ensures) (read .read-row2 .ensures)
+    (tested .before .before .before .is-barrier .ensures) (tested .before .before .is-atomic .ensures)
+    (tested .before .together .ensures) (tested .if1 .left) (c .is-carried-out .ensures)
 
 pub sync-from-barrier-spec : {M : Type 1} → statement M
 sync-from-barrier-spec =

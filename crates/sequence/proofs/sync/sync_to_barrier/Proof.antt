@@ -44,7 +44,8 @@ returns : tie.Need-returns
 unfolding _and_
 returns c =
     let read = c .before .before .before .before in
-    to-off _ _ _ _ _ _ _ _ _ _ _ (read .before .read-row .ensures) (read .read-row2 .ensures) (c .before .before .before .is-atomic .ensures) (c .before .before .is-barrier .ensures) (c .before .together .ensures) (c .if1 .taken)
+    to-off _ _ _ _ _ _ _ _ _ _ _ (read .before .read-row .ensures) (read .read-row2 .ensures)
+    (c .before .before .before .is-atomic .ensures) (c .before .before .is-barrier .ensures) (c .before .together .ensures) (c .if1 .taken)
 
 -- src/sync.rt:52:5
 is-carried-in-requires : tie.Need-is-carried-in-requires
@@ -56,7 +57,9 @@ unfolding _and_
 returns-2 c =
     let tested = c .before in
     let read = tested .before .before .before .before in
-    to-on _ _ _ _ _ _ _ _ _ _ _ _ (read .before .read-row .ensures) (read .read-row2 .ensures) (tested .before .before .before .is-atomic .ensures) (tested .before .before .is-barrier .ensures) (tested .before .together .ensures) (tested .if1 .left) (c .is-carried-in .ensures)
+    to-on _ _ _ _ _ _ _ _ _ _ _ _ (read .before .read-row .ensures) (read .read-row2 .ensures)
+    (tested .before .before .before .is-atomic .ensures) (tested .before .before .is-barrier .ensures)
+    (tested .before .together .ensures) (tested .if1 .left) (c .is-carried-in .ensures)
 
 pub sync-to-barrier-spec : {M : Type 1} → statement M
 sync-to-barrier-spec =

@@ -39,8 +39,11 @@ loop-holds c =
     let at-hi = c .before .before in
     let at-lo = at-hi .before .before in
     let pre = at-lo .before .before .before .pre in
-    let next = c .next-row .ensures in
-    (next .high, rounds-next _ _ _ _ _ _ _ (pre .2) (pre .4) (pre .5) (rounds-none _ _ _) _ next, off-made _ _ _ _ _ _ (pre .2) (pre .4) (pre .5) (within-refl _ _ _) _ _ (at-lo .rows-of .ensures) (at-hi .rows-of2 .ensures))
+    let next = c .next-row .ensures in (
+      next .high,
+      rounds-next _ _ _ _ _ _ _ (pre .2) (pre .4) (pre .5) (rounds-none _ _ _) _ next,
+      off-made _ _ _ _ _ _ (pre .2) (pre .4) (pre .5) (within-refl _ _ _) _ _ (at-lo .rows-of .ensures) (at-hi .rows-of2 .ensures),
+    )
 
 -- src/own.rt:64:24
 mul-a : tie.Need-mul-a Inv-loop μ-loop
@@ -101,7 +104,8 @@ loop-again c =
     let e =
     ⊎-elim
     (λ v. rounds-more (a .w .now) (at-loop .loop .w) (at-if .if1 .w) (a .base) (a .n) (at-loop .loop .k) below (pre .2) (inv .1) (rw (v .5) (v .2 .ensures)))
-    (λ v. rw (v .1) (rounds-skip (a .w .now) (at-loop .loop .w) (a .base) (a .n) (at-loop .loop .k) _ below (pre .2) (inv .1) (at-if .before .first-both .ensures) (v .0 .left)))
+    (λ v. rw (v .1) (rounds-skip (a .w .now) (at-loop .loop .w) (a .base) (a .n) (at-loop .loop .k) _ below (pre .2) (inv .1)
+    (at-if .before .first-both .ensures) (v .0 .left)))
     (at-if .if1 .came)
     in
     (next .high, rounds-next _ _ _ _ _ _ _ (pre .2) (pre .4) (pre .5) e _ next, inv .2)

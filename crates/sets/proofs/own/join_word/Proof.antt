@@ -57,7 +57,8 @@ loop-again c =
     let pre = at-loop .before .before .pre in
     let inv = at-loop .loop .inv in
     let low = at-join .before .lowest .ensures in
-    word-more _ _ _ _ _ _ _ _ inv (pre .3) (pre .2) _ _ _ (low .0) (low .1) (c .but-lowest .ensures) (pre .5 .inside _ (inv .sub _ (low .0 .hit))) (at-join .join-at .ensures)
+    word-more _ _ _ _ _ _ _ _ inv (pre .3) (pre .2) _ _ _ (low .0) (low .1) (c .but-lowest .ensures)
+    (pre .5 .inside _ (inv .sub _ (low .0 .hit))) (at-join .join-at .ensures)
 
 -- src/own.rt:32:1
 same-length : tie.Need-same-length Inv-loop μ-loop

@@ -54,7 +54,8 @@ returns-2 : tie.Need-returns-2
 returns-2 c =
     let a = c .before .before .before .before .before .before .before .args in
     let far : 64 ≤ a .j = search needs in
-    next-second (a .w .now) (a .a) (a .b) (a .j) (a .n) (search needs) _ _ (a .j - 64) (search needs) (omega arith) (λ m p q. absurd (omega arith)) (c .before .from-bit .ensures .0) (c .at-most .ensures)
+    next-second (a .w .now) (a .a) (a .b) (a .j) (a .n) (search needs) _ _ (a .j - 64) (search needs) (omega arith)
+    (λ m p q. absurd (omega arith)) (c .before .from-bit .ensures .0) (c .at-most .ensures)
 
 -- src/walk.rt:42:22
 mul-from-bit-3 : tie.Need-mul-from-bit-3
@@ -125,7 +126,9 @@ returns-4 : tie.Need-returns-4
 returns-4 c =
     let a = c .before .before .before .before .before .before .before .before .before .before .before .args in
     let near : a .j < 64 = search needs in
-    next-second (a .w .now) (a .a) (a .b) (a .j) (a .n) (search needs) _ _ 0 (search needs) (omega arith) (none-first (a .w .now) (a .a) (a .b) (a .j) (a .n) (search needs) _ (c .before .before .before .before .if3 .left) (c .before .before .before .before .before .from-bit2 .ensures .0)) (c .before .from-bit3 .ensures .0) (c .at-most3 .ensures)
+    next-second (a .w .now) (a .a) (a .b) (a .j) (a .n) (search needs) _ _ 0 (search needs) (omega arith)
+    (none-first (a .w .now) (a .a) (a .b) (a .j) (a .n) (search needs) _ (c .before .before .before .before .if3 .left)
+    (c .before .before .before .before .before .from-bit2 .ensures .0)) (c .before .from-bit3 .ensures .0) (c .at-most3 .ensures)
 
 pub next-spec : {M : Type 1} → statement M
 next-spec =

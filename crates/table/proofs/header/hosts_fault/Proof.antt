@@ -38,13 +38,15 @@ any-names-none-requires c κs = search needs
 returns-3 : tie.Need-returns-3
 returns-3 c =
     let at = c .before .before .before .before in
-    hosts-18 _ _ _ _ _ (at .before .any-kind-over .ensures) (at .if1 .left) _ (c .before .before .before .pair-at .ensures) (c .before .before .if2 .left) _ (c .before .any-names-none .ensures) (c .if3 .taken)
+    hosts-18 _ _ _ _ _ (at .before .any-kind-over .ensures) (at .if1 .left) _ (c .before .before .before .pair-at .ensures)
+    (c .before .before .if2 .left) _ (c .before .any-names-none .ensures) (c .if3 .taken)
 
 -- src/header.rt:91:1
 returns-4 : tie.Need-returns-4
 returns-4 c =
     let at = c .before .before .before .before in
-    hosts-pass _ _ _ _ _ (at .before .any-kind-over .ensures) (at .if1 .left) _ (c .before .before .before .pair-at .ensures) (c .before .before .if2 .left) _ (c .before .any-names-none .ensures) (c .if3 .left)
+    hosts-pass _ _ _ _ _ (at .before .any-kind-over .ensures) (at .if1 .left) _ (c .before .before .before .pair-at .ensures)
+    (c .before .before .if2 .left) _ (c .before .any-names-none .ensures) (c .if3 .left)
 
 pub hosts-fault-spec : {M : Type 1} → statement M
 hosts-fault-spec =

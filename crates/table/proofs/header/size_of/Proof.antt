@@ -40,7 +40,11 @@ add-result-2 c = search needs
 -- src/header.rt:31:9
 returns : tie.Need-returns
 unfolding sizeOf
-returns c = rw (sym (c .before .before .has-hosts .ensures) ∙ c .before .if1 .taken, ← c .before .before .before .rows-end .ensures .0, ← c .pair-at .ensures) refl
+returns c = rw (
+  sym (c .before .before .has-hosts .ensures) ∙ c .before .if1 .taken,
+  ← c .before .before .before .rows-end .ensures .0,
+  ← c .pair-at .ensures,
+) refl
 
 -- src/header.rt:26:1
 returns-2 : tie.Need-returns-2

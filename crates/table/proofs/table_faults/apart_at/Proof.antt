@@ -27,7 +27,8 @@ row-byte-requires c κs = search needs
 returns-2 : tie.Need-returns-2
 returns-2 c =
     let pre = c .before .before .before .before .before .before .pre in
-    apart-class _ _ _ _ _ (pre .0) (pre .1) _ (c .before .before .before .before .is-of-instance .ensures) (c .before .before .before .if1 .left) _ (c .before .before .row-byte .ensures) (c .if2 .taken)
+    apart-class _ _ _ _ _ (pre .0) (pre .1) _ (c .before .before .before .before .is-of-instance .ensures)
+    (c .before .before .before .if1 .left) _ (c .before .before .row-byte .ensures) (c .if2 .taken)
 
 -- src/table_faults.rt:147:9
 read-agent-requires : tie.Need-read-agent-requires
@@ -37,7 +38,8 @@ read-agent-requires c κs = search needs
 returns-3 : tie.Need-returns-3
 returns-3 c =
     let pre = c .before .before .before .before .before .before .before .before .before .pre in
-    apart-agent _ _ _ _ _ (pre .0) (pre .1) _ (c .before .before .before .before .before .before .before .is-of-instance .ensures) (c .before .before .before .before .before .before .if1 .left) _ (c .before .before .read-agent .ensures) (c .if3 .taken)
+    apart-agent _ _ _ _ _ (pre .0) (pre .1) _ (c .before .before .before .before .before .before .before .is-of-instance .ensures)
+    (c .before .before .before .before .before .before .if1 .left) _ (c .before .before .read-agent .ensures) (c .if3 .taken)
 
 -- src/table_faults.rt:151:6
 shares-from-requires : tie.Need-shares-from-requires
@@ -47,7 +49,10 @@ shares-from-requires c κs = search needs
 returns-4 : tie.Need-returns-4
 returns-4 c =
     let pre = c .before .before .before .before .before .before .before .before .before .before .pre in
-    apart-scope _ _ _ _ _ (pre .0) (pre .1) _ (c .before .before .before .before .before .before .before .before .is-of-instance .ensures) (c .before .before .before .before .before .before .before .if1 .left) _ _ _ (c .before .before .before .before .before .before .row-byte .ensures) (c .before .before .before .before .if2 .left) (c .before .before .before .read-agent .ensures) (c .before .if3 .left) (c .shares-from .ensures)
+    apart-scope _ _ _ _ _ (pre .0) (pre .1) _ (c .before .before .before .before .before .before .before .before .is-of-instance .ensures)
+    (c .before .before .before .before .before .before .before .if1 .left) _ _ _
+    (c .before .before .before .before .before .before .row-byte .ensures) (c .before .before .before .before .if2 .left)
+    (c .before .before .before .read-agent .ensures) (c .before .if3 .left) (c .shares-from .ensures)
 
 pub apart-at-spec : {M : Type 1} → statement M
 apart-at-spec =

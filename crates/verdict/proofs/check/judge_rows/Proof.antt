@@ -46,8 +46,13 @@ same-length-2 c = search needs
 -- src/check.rt:17:1
 returns : tie.Need-returns
 returns c =
-    let pre = c .before .before .before .before .before .before .before .before .before .before .before .before .before .before .before .before .before .before .before .before .pre in
-    judged _ _ _ _ _ _ _ _ _ _ _ _ (c .before .before .before .before .before .before .before .before .before .before .before .before .before .before .before .before .read-sources .ensures) (pre .0) (c .before .before .before .before .before .before .before .before .before .before .before .before .before .before .locate-by .ensures .1) (c .before .before .before .before .before .before .before .before .judge .ensures) (c .before .before .clear .ensures)
+    let pre = c .before .before .before .before .before .before .before .before .before .before .before .before .before .before .before
+    .before .before .before .before .before .pre in
+    judged _ _ _ _ _ _ _ _ _ _ _ _ (c .before .before .before .before .before .before .before .before .before .before .before .before
+    .before .before .before .before .read-sources .ensures) (pre .0)
+    (c .before .before .before .before .before .before .before .before .before .before .before .before .before
+    .before .locate-by .ensures .1) (c .before .before .before .before .before .before .before .before .judge .ensures)
+    (c .before .before .clear .ensures)
 
 pub judge-rows-spec : {M : Type 1} → statement M
 judge-rows-spec =

@@ -25,15 +25,27 @@ show-cycle-requires : tie.Need-show-cycle-requires
 unfolding decode
 show-cycle-requires c κs =
     let pre = c .before .before .before .before .before .before .before .before .before .before .before .before .before .before .before .pre in
-    let asked = show-asked _ _ _ _ _ _ _ refl (c .before .before .before .before .before .before .before .before .before .fill-edges .ensures) (c .before .before .before .before .before .cycle-start .ensures .0) (c .before .before .before .before .before .cycle-start .ensures .1) (pre .3) (c .before .before .if1 .taken) in
+    let asked = show-asked _ _ _ _ _ _ _ refl
+    (c .before .before .before .before .before .before .before .before .before .fill-edges .ensures)
+    (c .before .before .before .before .before .cycle-start .ensures .0)
+    (c .before .before .before .before .before .cycle-start .ensures .1) (pre .3) (c .before .before .if1 .taken) in
     (asked .0, pre .0, pre .1, asked .1, asked .2, asked .3)
 
 -- src/judge.rt:90:43
 cast-t20 : tie.Need-cast-t20
 unfolding decode
 cast-t20 c =
-    let few = rows-few _ _ _ _ refl (start-found _ _ _ _ _ _ refl (c .before .before .before .before .before .before .before .before .before .before .before .before .before .before .fill-edges .ensures) (c .before .before .before .before .before .before .before .before .before .before .cycle-start .ensures .0)) (c .before .before .before .before .before .before .before .if1 .taken) in
-    omega (arith, few, c .before .before .before .before .show-cycle .ensures .0, c .before .before .before .before .before .before .before .before .before .before .before .before .before .before .before .before .before .before .before .before .pre .3 .0)
+    let few = rows-few _ _ _ _ refl (start-found _ _ _ _ _ _ refl
+    (c .before .before .before .before .before .before .before .before .before .before .before .before .before
+    .before .fill-edges .ensures) (c .before .before .before .before .before .before .before .before .before
+    .before .cycle-start .ensures .0)) (c .before .before .before .before .before .before .before .if1 .taken) in
+    omega (
+      arith,
+      few,
+      c .before .before .before .before .show-cycle .ensures .0,
+      c .before .before .before .before .before .before .before .before .before .before .before .before .before .before .before .before
+          .before .before .before .before .pre .3 .0,
+    )
 
 -- src/judge.rt:90:9
 same-length : tie.Need-same-length
@@ -48,14 +60,22 @@ returns : tie.Need-returns
 unfolding decode
 returns c =
     let show = c .before .before .before .before .show-cycle .ensures in
-    judge-cyclic _ _ _ _ _ _ _ refl (c .before .before .before .before .before .before .before .before .before .before .before .before .before .before .fill-edges .ensures) (c .before .before .before .before .before .before .before .before .before .before .cycle-start .ensures .0) (c .before .before .before .before .before .before .before .before .before .before .cycle-start .ensures .1) _ _ _ _ (c .before .before .before .before .before .before .before .if1 .taken) (show .0) (show .1) (show .2)
+    judge-cyclic _ _ _ _ _ _ _ refl (c .before .before .before .before .before .before .before .before .before .before .before .before
+    .before .before .fill-edges .ensures)
+    (c .before .before .before .before .before .before .before .before .before .before .cycle-start .ensures .0)
+    (c .before .before .before .before .before .before .before .before .before .before .cycle-start .ensures .1) _ _ _ _
+    (c .before .before .before .before .before .before .before .if1 .taken) (show .0) (show .1) (show .2)
 
 -- src/judge.rt:92:5
 settle-requires : tie.Need-settle-requires
 settle-requires c κs =
     let pre = c .before .before .before .before .before .before .before .before .before .before .before .before .before .before .pre in
-    let start = c .before .before .before .before .cycle-start .ensures in
-    (pre .1, pre .2, known-kept (omega arith) (omega arith) (pre .3) (edges-held (c .before .before .before .before .before .before .before .before .fill-edges .ensures) (start .1) .1))
+    let start = c .before .before .before .before .cycle-start .ensures in (
+      pre .1,
+      pre .2,
+      known-kept (omega arith) (omega arith) (pre .3)
+          (edges-held (c .before .before .before .before .before .before .before .before .fill-edges .ensures) (start .1) .1),
+    )
 
 -- src/judge.rt:73:1
 same-length-3 : tie.Need-same-length-3
@@ -66,7 +86,8 @@ returns-2 : tie.Need-returns-2
 unfolding decode
 returns-2 c =
     let start = c .before .before .before .before .before .cycle-start .ensures in
-    judge-on _ _ _ _ _ _ _ refl (c .before .before .before .before .before .before .before .before .before .fill-edges .ensures) (start .0) (start .1) _ _ (c .before .before .if1 .left) (c .settle .ensures)
+    judge-on _ _ _ _ _ _ _ refl (c .before .before .before .before .before .before .before .before .before .fill-edges .ensures) (start .0)
+    (start .1) _ _ (c .before .before .if1 .left) (c .settle .ensures)
 
 pub judge-spec : {M : Type 1} → statement M
 judge-spec =

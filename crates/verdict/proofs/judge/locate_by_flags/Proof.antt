@@ -29,7 +29,8 @@ same-length c = search needs
 returns : tie.Need-returns
 returns c =
     let s = c .before .before .before .before .before .before .before .before .before .before .before .before .before .before in
-    located-by-flags (c .before .before .before .before .before .before .before .before .before .before .happens-before .ensures) (c .before .before .before .before .before .before .fill-location .ensures)
+    located-by-flags (c .before .before .before .before .before .before .before .before .before .before .happens-before .ensures)
+    (c .before .before .before .before .before .before .fill-location .ensures)
     (table-sharing (s .args .rows .now) (s .args .p) (s .args .mode) (c .before .before .fill-overlaps .ensures))
 
 pub locate-by-flags-spec : {M : Type 1} → statement M

@@ -38,7 +38,8 @@ race-answer-requires c κs = search needs
 
 -- src/judge.rt:61:1
 returns-2 : tie.Need-returns-2
-returns-2 c = settle-on _ _ _ _ _ (c .before .before .before .before .first-overwrite .ensures) (c .before .before .enum-told .given .1) (c .before .first-race .ensures) (c .race-answer .ensures)
+returns-2 c = settle-on _ _ _ _ _ (c .before .before .before .before .first-overwrite .ensures) (c .before .before .enum-told .given .1)
+    (c .before .first-race .ensures) (c .race-answer .ensures)
 
 pub settle-spec : {M : Type 1} → statement M
 settle-spec =

@@ -44,8 +44,10 @@ write-rows-requires c κs =
 write-edges-requires : tie.Need-write-edges-requires
 unfolding decode
 write-edges-requires c κs =
-    let pre = c .before .before .before .before .before .before .before .before .before .before .before .before .before .before .before .before .before .before .before .before .before .pre in
-    let fill = c .before .before .before .before .before .before .before .before .before .before .before .before .before .before .before .fill-layers .ensures in
+    let pre = c .before .before .before .before .before .before .before .before .before .before .before .before .before .before .before
+    .before .before .before .before .before .before .pre in
+    let fill = c .before .before .before .before .before .before .before .before .before .before .before .before .before .before
+    .before .fill-layers .ensures in
     let size = c .before .before .before .before .before .before .before .before .before .before .before .layer-of .ensures .0 in
     let asked = size-asked _ _ _ _ _ _ _ refl (pre .3 .0) (pre .4) fill (pre .5) (pre .0) size in
     let rows = c .before .before .before .before .write-rows .ensures in (
@@ -69,8 +71,10 @@ same-length-2 c = search needs
 returns : tie.Need-returns
 unfolding decode
 returns c =
-    let pre = c .before .before .before .before .before .before .before .before .before .before .before .before .before .before .before .before .before .before .before .before .before .before .before .before .pre in
-    let fill = c .before .before .before .before .before .before .before .before .before .before .before .before .before .before .before .before .before .before .fill-layers .ensures in
+    let pre = c .before .before .before .before .before .before .before .before .before .before .before .before .before .before .before
+    .before .before .before .before .before .before .before .before .before .pre in
+    let fill = c .before .before .before .before .before .before .before .before .before .before .before .before .before .before .before
+    .before .before .before .fill-layers .ensures in
     let size = c .before .before .before .before .before .before .before .before .before .before .before .before .before .before .layer-of .ensures .0 in
     let rows = c .before .before .before .before .before .before .before .write-rows .ensures in
     let clear = c .before .before .before .before .before .before .before .before .before .before .before .before .clear-numbers .ensures in

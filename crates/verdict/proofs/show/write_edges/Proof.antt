@@ -46,7 +46,8 @@ edge-number-requires : tie.Need-edge-number-requires Inv-loop μ-loop
 edge-number-requires c κs =
     let pre = c .before .before .before .before .before .before .before .before .before .before .pre in
     let inv = c .before .before .before .before .before .loop .inv in (
-      row-below _ _ _ _ (c .before .before .before .before .before .before .before .before .before .before .args .x) _ _ _ (inv .2) (pre .1) (omega arith) (pre .5) _ (c .before .before .wide .ensures),
+      row-below _ _ _ _ (c .before .before .before .before .before .before .before .before .before .before .args .x) _ _ _ (inv .2) (pre .1)
+          (omega arith) (pre .5) _ (c .before .before .wide .ensures),
       next-below _ _ _ _ _ _ _ _ (inv .2) (pre .1) (omega arith) (pre .5) (pre .0) _ (c .next-of .ensures),
       pre .3,
       pre .4,
@@ -77,7 +78,9 @@ loop-again : tie.Need-loop-again Inv-loop μ-loop
 loop-again c =
     let pre = c .before .before .before .before .before .before .before .before .before .before .before .pre in
     let inv = c .before .before .before .before .before .before .loop .inv in
-    let e = step-is _ _ (c .before .before .before .before .before .before .before .before .before .before .before .args .n) _ _ _ _ _ (inv .2) (pre .1) (omega arith) _ _ _ _ _ (c .before .before .before .wide .ensures) (c .before .next-of .ensures) (c .edge-number .ensures) in
+    let e = step-is _ _ (c .before .before .before .before .before .before .before .before .before .before .before .args .n) _ _ _ _ _
+    (inv .2) (pre .1) (omega arith) _ _ _ _ _ (c .before .before .before .wide .ensures) (c .before .next-of .ensures)
+    (c .edge-number .ensures) in
     let more = numbered-more _ _ _ _ _ _ (omega arith) refl e (inv .2) in
     (search needs, more .len, more)
 

@@ -115,10 +115,22 @@ put-requires-4 c κs = search needs
 -- src/encode.rt:197:1
 returns : tie.Need-returns
 returns c =
-    let start = c .before .before .before .before .before .before .before .before .before .before .before .before .before .before .before .before .before .before .before .before .before .before .before .before in
-    table-made _ _ _ _ _ _ (start .pre .0) (start .pre .1) (start .pre .2) _ _ _ (c .before .before .before .before .before .before .before .before .before .before .before .before .before .before .before .before .before .before .before .before .before .before .before .table-size .ensures .0) (c .before .before .before .before .before .before .before .before .before .before .before .before .before .before .before .before .before .before .before .before .before .before .places-size .ensures .0) (c .before .before .before .before .before .before .before .before .before .before .before .before .before .before .before .before .before .before .before .before .before .dependencies-size .ensures .0)
-    (replicate 2570 0) _ _ _ _ _ _ _ _ _ (c .before .before .before .before .before .before .before .before .before .before .before .before .before .before .before .before .before .before .before .header-bytes .ensures) (c .before .before .before .before .before .before .before .before .before .before .before .before .before .before .before .before .before .put .ensures)
-    (c .before .before .before .before .before .before .before .before .before .before .before .before .before .before .with-hosts .ensures) (c .before .before .before .before .before .before .before .before .before .before .before .before .before .place-bytes .ensures) (c .before .before .before .before .before .before .before .before .before .before .before .put2 .ensures)
+    let start = c .before .before .before .before .before .before .before .before .before .before .before .before .before .before .before
+    .before .before .before .before .before .before .before .before .before in
+    table-made _ _ _ _ _ _ (start .pre .0) (start .pre .1) (start .pre .2) _ _ _
+    (c .before .before .before .before .before .before .before .before .before .before .before .before .before .before .before .before
+    .before .before .before .before .before .before .before .table-size .ensures .0)
+    (c .before .before .before .before .before .before .before .before .before .before .before .before .before .before .before .before
+    .before .before .before .before .before .before .places-size .ensures .0)
+    (c .before .before .before .before .before .before .before .before .before .before .before .before .before .before .before .before
+    .before .before .before .before .before .dependencies-size .ensures .0)
+    (replicate 2570 0) _ _ _ _ _ _ _ _ _ (c .before .before .before .before .before .before .before .before .before .before .before .before
+    .before .before .before .before .before .before .before .header-bytes .ensures)
+    (c .before .before .before .before .before .before .before .before .before .before .before .before .before .before .before .before
+    .before .put .ensures)
+    (c .before .before .before .before .before .before .before .before .before .before .before .before .before .before .with-hosts .ensures)
+    (c .before .before .before .before .before .before .before .before .before .before .before .before .before .place-bytes .ensures)
+    (c .before .before .before .before .before .before .before .before .before .before .before .put2 .ensures)
     (c .before .before .before .before .before .before .before .before .entry-bytes .ensures) (c .before .before .before .before .before .before .put3 .ensures)
     (c .before .before .before .dependency-bytes .ensures) (c .before .put4 .ensures) (length-replicate {A = ℕ} 2570 0)
 

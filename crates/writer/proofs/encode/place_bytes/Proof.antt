@@ -48,8 +48,11 @@ loop-less c = search needs
 -- src/encode.rt:109:5
 loop-again : tie.Need-loop-again Inv-loop μ-loop
 loop-again c =
-    let at-loop = c .before .before .before in
-    (omega arith, simp length-set (at-loop .loop .inv .1), tab-more _ _ _ _ (omega arith) (at-loop .loop .inv .2) (byte-place _ _ _ _ (c .before .place-number .ensures) (c .half .ensures)))
+    let at-loop = c .before .before .before in (
+      omega arith,
+      simp length-set (at-loop .loop .inv .1),
+      tab-more _ _ _ _ (omega arith) (at-loop .loop .inv .2) (byte-place _ _ _ _ (c .before .place-number .ensures) (c .half .ensures)),
+    )
 
 -- src/encode.rt:105:1
 returns : tie.Need-returns Inv-loop μ-loop

@@ -41,7 +41,10 @@ same-length c = search needs
 
 -- src/parts.rt:90:1
 returns : tie.Need-returns
-returns c = parts-out _ _ _ _ (c .before .before .before .before .before .before .before .before .agents-in .ensures) (c .before .before .before .before .before .before .before .places-in .ensures) (c .before .before .before .before .before .before .rows-in .ensures) (c .before .before .before .before .before .entries-in .ensures) (c .before .before .before .before .dependencies-in .ensures) _ _ _ _ (c .before .before .write .ensures)
+returns c = parts-out _ _ _ _ (c .before .before .before .before .before .before .before .before .agents-in .ensures)
+    (c .before .before .before .before .before .before .before .places-in .ensures)
+    (c .before .before .before .before .before .before .rows-in .ensures) (c .before .before .before .before .before .entries-in .ensures)
+    (c .before .before .before .before .dependencies-in .ensures) _ _ _ _ (c .before .before .write .ensures)
 
 pub write-parts-spec : {M : Type 1} → statement M
 write-parts-spec =

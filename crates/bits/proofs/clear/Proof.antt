@@ -7,8 +7,6 @@ use lib.ListN.{length, length-set}
 use Rattle.bits.specs.Bit.{zeros, zeros-more}
 use Rattle.bits.proofs.clear.Statement.{statement}
 use Rattle.bits.proofs.clear.Tie as tie
-use Rattle.bits.proofs.clear.Reads as reads
-use Rattle.bits.proofs.clear.Lts as lts
 
 abbrev Inv-loop : tie.InvT-loop
 Inv-loop w₀ from to i₀ w i = (from ≤ i) × (i ≤ to) × (length w ≡ length w₀) × (w ≡ zeros w₀ from (i - from))
@@ -20,27 +18,12 @@ loop-holds : tie.Need-loop-holds Inv-loop μ-loop
 unfolding zeros
 loop-holds c = let e : c .args .from - c .args .from ≡ 0 = omega arith in (search needs, search needs, refl, rw e refl)
 
-mul-w : tie.Need-mul-w Inv-loop μ-loop
-mul-w c = search needs
-
-slice-write-w : tie.Need-slice-write-w Inv-loop μ-loop
-slice-write-w c = search needs
-
-add-i : tie.Need-add-i Inv-loop μ-loop
-add-i c = search needs
-
-loop-less : tie.Need-loop-less Inv-loop μ-loop
-loop-less c = search needs
-
 loop-again : tie.Need-loop-again Inv-loop μ-loop
 loop-again c =
     let inv = c .before .loop .inv in
     let a = c .before .before .args in
     let e = zeros-more (a .w .now) (c .before .loop .w) (a .from) (c .before .loop .i) (inv .0) (inv .3) in
     (search needs, search needs, simp length-set (inv .2), e)
-
-same-length : tie.Need-same-length Inv-loop μ-loop
-same-length c = search needs
 
 returns : tie.Need-returns Inv-loop μ-loop
 returns c =
@@ -50,14 +33,5 @@ returns c =
 pub clear-spec : {M : Type 1} → statement M
 clear-spec =
     tie.close
-    (tie.spec
-    Inv-loop
-    μ-loop
-    loop-holds
-    mul-w
-    slice-write-w
-    add-i
-    loop-less
-    loop-again
-    same-length
-    returns)
+    (tie.spec Inv-loop μ-loop loop-holds (λ c. search needs) (λ c. search needs) (λ c. search needs) (λ c. search needs) loop-again
+    (λ c. search needs) returns)

@@ -8,10 +8,6 @@ use Rattle.bits.specs.Matrix.{rel, row-apart, rows-apart}
 use Rattle.bits.proofs.Rounds.{Phase, phase-none, phase-skip, phase-join, Rounds, rounds-none, rounds-more, rounds-closed}
 use Rattle.bits.proofs.close.Statement.{statement}
 use Rattle.bits.proofs.close.Tie as tie
-use Rattle.bits.proofs.close.Reads as reads
-use Rattle.bits.proofs.close.Lts as lts
-use Rattle.bits.proofs.get.Reads as get-reads
-use Rattle.bits.proofs.join_row.Reads as join-row-reads
 
 abbrev Inv-loop2 : tie.InvT-loop2
 Inv-loop2 w₀ base n stride k src i₀ w i = Phase w₀ w base n stride k i
@@ -82,12 +78,6 @@ join-row-requires c κs =
     let row-k = row-apart k (a .n) (a .stride) (at-loop2 .before .loop-test .taken) in
     (omega (arith, row-i), omega (arith, row-k), rows-apart (a .base) k i (a .stride))
 
-add-i : tie.Need-add-i Inv-loop2 μ-loop2 Inv-loop μ-loop
-add-i c = search needs
-
-loop2-less : tie.Need-loop2-less Inv-loop2 μ-loop2 Inv-loop μ-loop
-loop2-less c = search needs
-
 loop2-again : tie.Need-loop2-again Inv-loop2 μ-loop2 Inv-loop μ-loop
 unfolding rel
 loop2-again c =
@@ -110,12 +100,6 @@ loop2-again c =
     (λ v. rw (v .1) (phase-skip (at-loop .loop .w) w (a .base) (a .n) (a .stride) k i inv below-i below-k fits (test ∙ v .0 .left)))
     (c .if1 .came)
 
-add-k : tie.Need-add-k Inv-loop2 μ-loop2 Inv-loop μ-loop
-add-k c = search needs
-
-loop-less : tie.Need-loop-less Inv-loop2 μ-loop2 Inv-loop μ-loop
-loop-less c = search needs
-
 loop-again : tie.Need-loop-again Inv-loop2 μ-loop2 Inv-loop μ-loop
 loop-again c =
     let e : c .before .loop2 .i ≡ c .before .before .before .before .before .args .n = omega arith in
@@ -123,9 +107,6 @@ loop-again c =
     let fits = at-loop .before .before .pre .2 in
     rounds-more _ (at-loop .loop .w) (c .before .loop2 .w) _ _ _ (at-loop .loop .k) (c .before .before .loop-test .taken) fits (at-loop .loop .inv)
     (rw e at (c .before .loop2 .inv))
-
-same-length : tie.Need-same-length Inv-loop2 μ-loop2 Inv-loop μ-loop
-same-length c = search needs
 
 returns : tie.Need-returns Inv-loop2 μ-loop2 Inv-loop μ-loop
 returns c =
@@ -135,26 +116,6 @@ returns c =
 pub close-spec : {M : Type 1} → statement M
 close-spec =
     tie.close
-    (tie.spec
-    Inv-loop2
-    μ-loop2
-    Inv-loop
-    μ-loop
-    loop-holds
-    mul-src
-    add-src
-    loop2-holds
-    mul-dst
-    add-dst
-    mul-get
-    add-get
-    get-requires
-    join-row-requires
-    add-i
-    loop2-less
-    loop2-again
-    add-k
-    loop-less
-    loop-again
-    same-length
-    returns)
+    (tie.spec Inv-loop2 μ-loop2 Inv-loop μ-loop loop-holds mul-src add-src loop2-holds mul-dst add-dst mul-get add-get get-requires
+    join-row-requires (λ c. search needs) (λ c. search needs) loop2-again (λ c. search needs) (λ c. search needs) loop-again
+    (λ c. search needs) returns)

@@ -13,9 +13,6 @@ use Rattle.walks.specs.Left.{Left, along-first, left-none, left-more}
 use borrow.Author.Needs.{needs}
 use Rattle.cycle.proofs.write_rows.Statement.{statement}
 use Rattle.cycle.proofs.write_rows.Tie as tie
-use Rattle.cycle.proofs.write_rows.Reads as reads
-use Rattle.cycle.proofs.write_rows.Lts as lts
-use Rattle.walks.proofs.next.Reads as next-reads
 
 abbrev Inv-loop : tie.InvT-loop
 Inv-loop w n x size c₀ z₀ i₀ c z i =
@@ -29,30 +26,6 @@ loop-holds c =
     let start = c .before .before in
     (search needs, start .pre .2, refl, written-none _ _, left-none _ _ _ _ _ (start .pre .6))
 
-cast-c : tie.Need-cast-c Inv-loop μ-loop
-cast-c c = search needs
-
-mul-c : tie.Need-mul-c Inv-loop μ-loop
-mul-c c = search needs
-
-slice-write-c : tie.Need-slice-write-c Inv-loop μ-loop
-slice-write-c c = search needs
-
-sub-next : tie.Need-sub-next Inv-loop μ-loop
-sub-next c = search needs
-
-sub-next-2 : tie.Need-sub-next-2 Inv-loop μ-loop
-sub-next-2 c = search needs
-
-next-requires : tie.Need-next-requires Inv-loop μ-loop
-next-requires c κs = search needs
-
-add-i : tie.Need-add-i Inv-loop μ-loop
-add-i c = search needs
-
-loop-less : tie.Need-loop-less Inv-loop μ-loop
-loop-less c = search needs
-
 loop-again : tie.Need-loop-again Inv-loop μ-loop
 loop-again c =
     let at-loop = c .before .before in
@@ -63,9 +36,6 @@ loop-again c =
     let row = sym (ap (λ (l : List ℕ). getD l (at-loop .loop .i) 0) (along-first _ _)) ∙ more .1 (λ a b. a) in
     (search needs, more .0, simp length-set (inv .2), written-more _ _ (search needs) row (inv .3), more .2)
 
-same-length : tie.Need-same-length Inv-loop μ-loop
-same-length c = search needs
-
 returns : tie.Need-returns Inv-loop μ-loop
 returns c =
     let e : c .before .loop .i ≡ c .before .before .before .before .args .size = omega arith in
@@ -74,18 +44,5 @@ returns c =
 pub write-rows-spec : {M : Type 1} → statement M
 write-rows-spec =
     tie.close
-    (tie.spec
-    Inv-loop
-    μ-loop
-    loop-holds
-    cast-c
-    mul-c
-    slice-write-c
-    sub-next
-    sub-next-2
-    next-requires
-    add-i
-    loop-less
-    loop-again
-    same-length
-    returns)
+    (tie.spec Inv-loop μ-loop loop-holds (λ c. search needs) (λ c. search needs) (λ c. search needs) (λ c. search needs) (λ c. search needs)
+    (λ c κs. search needs) (λ c. search needs) (λ c. search needs) loop-again (λ c. search needs) returns)

@@ -5,31 +5,11 @@ use mathlib.Core.Path.{sym}
 use borrow.Author.Needs.{needs}
 use Rattle.filling.proofs.fill.Statement.{statement}
 use Rattle.filling.proofs.fill.Tie as tie
-use Rattle.filling.proofs.fill.Reads as reads
-use Rattle.filling.proofs.fill.Lts as lts
-use Rattle.filling.proofs.fill_both.Reads as fill-both-reads
 
--- src/lib.rt:77:22
-slice-aggregate-fill-both : tie.Need-slice-aggregate-fill-both
-slice-aggregate-fill-both c = search needs
-
--- src/lib.rt:77:5
-fill-both-requires : tie.Need-fill-both-requires
-fill-both-requires c κs = search needs
-
--- src/lib.rt:72:1
-same-length : tie.Need-same-length
-same-length c = search needs
-
--- src/lib.rt:72:1
-same-length-2 : tie.Need-same-length-2
-same-length-2 c = search needs
-
--- src/lib.rt:72:1
 returns : tie.Need-returns
 returns c = left-same fillAnswer workAfter sourcesAfter (sym (none-fill _ _ _ _)) (c .before .before .before .before .fill-both .ensures)
 
 pub fill-spec : {M : Type 1} → statement M
 fill-spec =
     tie.close
-    (tie.spec slice-aggregate-fill-both fill-both-requires same-length same-length-2 returns)
+    (tie.spec (λ c. search needs) (λ c κs. search needs) (λ c. search needs) (λ c. search needs) returns)

@@ -12,12 +12,6 @@ use mathlib.Core.Path.{_≡_, refl, ap, _∙_}
 use borrow.Author.Needs.{needs}
 use Rattle.location.proofs.fill_location.Statement.{statement}
 use Rattle.location.proofs.fill_location.Tie as tie
-use Rattle.location.proofs.fill_location.Reads as reads
-use Rattle.location.proofs.fill_location.Lts as lts
-use Rattle.bits.proofs.clear.Reads as clear-reads
-use Rattle.location.proofs.fill_row.Reads as fill-row-reads
-use Rattle.location.proofs.hosted.make_hosted.Reads as make-hosted-reads
-use Rattle.location.proofs.reach.make_reach.Reads as make-reach-reads
 
 abbrev Inv-loop : tie.InvT-loop
 Inv-loop rows p mode n w₀ x₀ w x = (x ≤ n) × (length w ≡ length w₀) × Prepared (decode rows p mode n) n w
@@ -26,22 +20,12 @@ Inv-loop rows p mode n w₀ x₀ w x = (x ≤ n) × (length w ≡ length w₀) �
 abbrev μ-loop : tie.MeasureT-loop
 μ-loop rows p mode n w₀ x₀ w x = n - x
 
--- src/lib.rt:88:5
-make-hosted-requires : tie.Need-make-hosted-requires Inv-loop μ-loop
-make-hosted-requires c κs = search needs
-
--- src/lib.rt:91:5
 make-reach-requires : tie.Need-make-reach-requires Inv-loop μ-loop
 make-reach-requires c κs =
     let s = c .before .before .before .before .before .before .before in
     let f = c .before .before .before .make-hosted .ensures .frame in
     (s .pre .0, omega (arith, f .len, s .pre .1), ordered-kept (omega arith) f (s .pre .2))
 
--- src/lib.rt:89:5
-clear-requires : tie.Need-clear-requires Inv-loop μ-loop
-clear-requires c κs = search needs
-
--- src/lib.rt:90:5
 loop-holds : tie.Need-loop-holds Inv-loop μ-loop
 loop-holds c = (
   search needs,
@@ -52,19 +36,6 @@ loop-holds c = (
   cubeFill-none _ _ _ _ _ _,
 )
 
--- src/lib.rt:91:9
-fill-row-requires : tie.Need-fill-row-requires Inv-loop μ-loop
-fill-row-requires c κs = search needs
-
--- src/lib.rt:90:9
-add-x : tie.Need-add-x Inv-loop μ-loop
-add-x c = search needs
-
--- src/lib.rt:90:5
-loop-less : tie.Need-loop-less Inv-loop μ-loop
-loop-less c = search needs
-
--- src/lib.rt:90:5
 loop-again : tie.Need-loop-again Inv-loop μ-loop
 loop-again c =
     let row = c .before .before .fill-row in
@@ -76,11 +47,6 @@ loop-again c =
       e,
     )
 
--- src/lib.rt:84:1
-same-length : tie.Need-same-length Inv-loop μ-loop
-same-length c = search needs
-
--- src/lib.rt:84:1
 returns : tie.Need-returns Inv-loop μ-loop
 returns c =
     let s = c .before .before .before .before .before .before .before .before .before .before .before .before .before .before .before .before in
@@ -95,16 +61,5 @@ returns c =
 pub fill-location-spec : {M : Type 1} → statement M
 fill-location-spec =
     tie.close
-    (tie.spec
-    Inv-loop
-    μ-loop
-    make-hosted-requires
-    make-reach-requires
-    clear-requires
-    loop-holds
-    fill-row-requires
-    add-x
-    loop-less
-    loop-again
-    same-length
-    returns)
+    (tie.spec Inv-loop μ-loop (λ c κs. search needs) make-reach-requires (λ c κs. search needs) loop-holds (λ c κs. search needs)
+    (λ c. search needs) (λ c. search needs) loop-again (λ c. search needs) returns)

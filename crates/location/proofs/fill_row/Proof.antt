@@ -10,9 +10,6 @@ use Rattle.location.specs.Order.{Prepared, prepared-kept, within-row}
 use borrow.Author.Needs.{needs}
 use Rattle.location.proofs.fill_row.Statement.{statement}
 use Rattle.location.proofs.fill_row.Tie as tie
-use Rattle.location.proofs.fill_row.Reads as reads
-use Rattle.location.proofs.fill_row.Lts as lts
-use Rattle.location.proofs.fill_pair.Reads as fill-pair-reads
 
 abbrev Inv-loop : tie.InvT-loop
 Inv-loop rows p mode n x w₀ y₀ w y =
@@ -22,23 +19,9 @@ Inv-loop rows p mode n x w₀ y₀ w y =
 abbrev μ-loop : tie.MeasureT-loop
 μ-loop rows p mode n x w₀ y₀ w y = n - y
 
--- src/lib.rt:71:5
 loop-holds : tie.Need-loop-holds Inv-loop μ-loop
 loop-holds c = (search needs, refl, c .before .before .pre .3, gridFill-none _ _ _ _ _)
 
--- src/lib.rt:72:9
-fill-pair-requires : tie.Need-fill-pair-requires Inv-loop μ-loop
-fill-pair-requires c κs = search needs
-
--- src/lib.rt:71:9
-add-y : tie.Need-add-y Inv-loop μ-loop
-add-y c = search needs
-
--- src/lib.rt:71:5
-loop-less : tie.Need-loop-less Inv-loop μ-loop
-loop-less c = search needs
-
--- src/lib.rt:71:5
 loop-again : tie.Need-loop-again Inv-loop μ-loop
 loop-again c =
     let pair = c .before .before .fill-pair in
@@ -50,11 +33,6 @@ loop-again c =
       e,
     )
 
--- src/lib.rt:67:1
-same-length : tie.Need-same-length Inv-loop μ-loop
-same-length c = search needs
-
--- src/lib.rt:67:1
 returns : tie.Need-returns Inv-loop μ-loop
 returns c =
     let e : c .before .loop .y ≡ c .before .before .before .before .args .n = omega arith in
@@ -63,13 +41,5 @@ returns c =
 pub fill-row-spec : {M : Type 1} → statement M
 fill-row-spec =
     tie.close
-    (tie.spec
-    Inv-loop
-    μ-loop
-    loop-holds
-    fill-pair-requires
-    add-y
-    loop-less
-    loop-again
-    same-length
+    (tie.spec Inv-loop μ-loop loop-holds (λ c κs. search needs) (λ c. search needs) (λ c. search needs) loop-again (λ c. search needs)
     returns)

@@ -13,11 +13,6 @@ use Rattle.bits.specs.Stage.{made-filled}
 use borrow.Author.Needs.{needs}
 use Rattle.order.proofs.fill_order.Statement.{statement}
 use Rattle.order.proofs.fill_order.Tie as tie
-use Rattle.order.proofs.fill_order.Reads as reads
-use Rattle.order.proofs.fill_order.Lts as lts
-use Rattle.bits.proofs.clear.Reads as clear-reads
-use Rattle.area.proofs.moments.put_if.Reads as put-if-reads
-use Rattle.rules.proofs.moments.ordered_at.Reads as ordered-at-reads
 
 abbrev Inv-loop2 : tie.InvT-loop2
 Inv-loop2 rows n w₀ m k₀ m-end k-end w k =
@@ -33,43 +28,12 @@ Inv-loop rows n w₀ m₀ m-end w m =
 abbrev μ-loop : tie.MeasureT-loop
 μ-loop rows n w₀ m₀ m-end w m = 3 * n - m
 
--- src/lib.rt:29:5
-clear-requires : tie.Need-clear-requires Inv-loop2 μ-loop2 Inv-loop μ-loop
-clear-requires c κs = search needs
-
--- src/lib.rt:30:17
-mul-m-end : tie.Need-mul-m-end Inv-loop2 μ-loop2 Inv-loop μ-loop
-mul-m-end c = search needs
-
--- src/lib.rt:30:5
 loop-holds : tie.Need-loop-holds Inv-loop2 μ-loop2 Inv-loop μ-loop
 loop-holds c = (search needs, refl, gridFill-none _ _ _ _ _)
 
--- src/lib.rt:31:21
-mul-k-end : tie.Need-mul-k-end Inv-loop2 μ-loop2 Inv-loop μ-loop
-mul-k-end c = search needs
-
--- src/lib.rt:31:9
 loop2-holds : tie.Need-loop2-holds Inv-loop2 μ-loop2 Inv-loop μ-loop
 loop2-holds c = (search needs, refl, rowFill-none _ _ _)
 
--- src/lib.rt:32:17
-ordered-at-requires : tie.Need-ordered-at-requires Inv-loop2 μ-loop2 Inv-loop μ-loop
-ordered-at-requires c κs = search needs
-
--- src/lib.rt:33:13
-put-if-requires : tie.Need-put-if-requires Inv-loop2 μ-loop2 Inv-loop μ-loop
-put-if-requires c κs = search needs
-
--- src/lib.rt:31:13
-add-k : tie.Need-add-k Inv-loop2 μ-loop2 Inv-loop μ-loop
-add-k c = search needs
-
--- src/lib.rt:31:9
-loop2-less : tie.Need-loop2-less Inv-loop2 μ-loop2 Inv-loop μ-loop
-loop2-less c = search needs
-
--- src/lib.rt:31:9
 loop2-again : tie.Need-loop2-again Inv-loop2 μ-loop2 Inv-loop μ-loop
 loop2-again c =
     let put = c .before .before .put-if in
@@ -77,15 +41,6 @@ loop2-again c =
     let e = rowFill-put _ _ _ (put .last .0) _ _ _ _ (inv .2) (c .before .before .before .before .ordered-at .ensures [] OFF) (omega arith) (put .ensures) in
     (search needs, ap length e ∙ length-rowFill _ _ _ _, e)
 
--- src/lib.rt:30:9
-add-m : tie.Need-add-m Inv-loop2 μ-loop2 Inv-loop μ-loop
-add-m c = search needs
-
--- src/lib.rt:30:5
-loop-less : tie.Need-loop-less Inv-loop2 μ-loop2 Inv-loop μ-loop
-loop-less c = search needs
-
--- src/lib.rt:30:5
 loop-again : tie.Need-loop-again Inv-loop2 μ-loop2 Inv-loop μ-loop
 loop-again c =
     let inv = c .before .loop2 .inv in
@@ -93,11 +48,6 @@ loop-again c =
     let e : c .before .loop2 .k ≡ 3 * c .before .before .before .before .before .before .before .before .before .before .args .n = omega arith in
     (search needs, inv .1 ∙ out .1, gridFill-more _ _ _ _ _ _ _ _ (out .2) (rw e at (inv .2)))
 
--- src/lib.rt:24:1
-same-length : tie.Need-same-length Inv-loop2 μ-loop2 Inv-loop μ-loop
-same-length c = search needs
-
--- src/lib.rt:24:1
 returns : tie.Need-returns Inv-loop2 μ-loop2 Inv-loop μ-loop
 returns c p mode =
     let e : c .before .loop .m ≡ 3 * c .before .before .before .before .before .before .before .before .args .n = omega arith in
@@ -108,23 +58,6 @@ returns c p mode =
 pub fill-order-spec : {M : Type 1} → statement M
 fill-order-spec =
     tie.close
-    (tie.spec
-    Inv-loop2
-    μ-loop2
-    Inv-loop
-    μ-loop
-    clear-requires
-    mul-m-end
-    loop-holds
-    mul-k-end
-    loop2-holds
-    ordered-at-requires
-    put-if-requires
-    add-k
-    loop2-less
-    loop2-again
-    add-m
-    loop-less
-    loop-again
-    same-length
-    returns)
+    (tie.spec Inv-loop2 μ-loop2 Inv-loop μ-loop (λ c κs. search needs) (λ c. search needs) loop-holds (λ c. search needs) loop2-holds
+    (λ c κs. search needs) (λ c κs. search needs) (λ c. search needs) (λ c. search needs) loop2-again (λ c. search needs)
+    (λ c. search needs) loop-again (λ c. search needs) returns)

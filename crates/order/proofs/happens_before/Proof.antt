@@ -12,11 +12,6 @@ use Rattle.order.specs.Sets.{upTo, upTo-none, upTo-more, ordered-made}
 use borrow.Author.Needs.{needs}
 use Rattle.order.proofs.happens_before.Statement.{statement}
 use Rattle.order.proofs.happens_before.Tie as tie
-use Rattle.order.proofs.happens_before.Reads as reads
-use Rattle.order.proofs.happens_before.Lts as lts
-use Rattle.order.proofs.add_set.Reads as add-set-reads
-use Rattle.order.proofs.fill_order.Reads as fill-order-reads
-use Rattle.sequence.proofs.sync.make_synced.Reads as make-synced-reads
 
 abbrev Inv-loop : tie.InvT-loop
 Inv-loop rows p mode n w₀ s₀ w s =
@@ -26,15 +21,6 @@ Inv-loop rows p mode n w₀ s₀ w s =
 abbrev μ-loop : tie.MeasureT-loop
 μ-loop rows p mode n w₀ s₀ w s = CLASS-SETS - s
 
--- src/lib.rt:77:5
-make-synced-requires : tie.Need-make-synced-requires Inv-loop μ-loop
-make-synced-requires c κs = search needs
-
--- src/lib.rt:78:5
-fill-order-requires : tie.Need-fill-order-requires Inv-loop μ-loop
-fill-order-requires c κs = search needs
-
--- src/lib.rt:79:5
 loop-holds : tie.Need-loop-holds Inv-loop μ-loop
 loop-holds c =
     let at-synced = c .before .before .before .before .before .before in
@@ -43,19 +29,6 @@ loop-holds c =
     (at-synced .before .before .before .before .args .mode) in
     (search needs, refl, synced-kept (omega arith) (order .frame) (synced .synced), holds-cong (λ m k l h. upTo-none _ m k) (order .holds), within-refl _ _ _)
 
--- src/lib.rt:80:9
-add-set-requires : tie.Need-add-set-requires Inv-loop μ-loop
-add-set-requires c κs = search needs
-
--- src/lib.rt:79:9
-add-s : tie.Need-add-s Inv-loop μ-loop
-add-s c = search needs
-
--- src/lib.rt:79:5
-loop-less : tie.Need-loop-less Inv-loop μ-loop
-loop-less c = search needs
-
--- src/lib.rt:79:5
 loop-again : tie.Need-loop-again Inv-loop μ-loop
 loop-again c =
     let added = c .before .before .add-set .ensures in
@@ -67,11 +40,6 @@ loop-again c =
       within-trans (inv .4) (added .frame),
     )
 
--- src/lib.rt:73:1
-same-length : tie.Need-same-length Inv-loop μ-loop
-same-length c = search needs
-
--- src/lib.rt:73:1
 returns : tie.Need-returns Inv-loop μ-loop
 returns c =
     let e : c .before .loop .s ≡ CLASS-SETS = omega arith in
@@ -83,15 +51,5 @@ returns c =
 pub happens-before-spec : {M : Type 1} → statement M
 happens-before-spec =
     tie.close
-    (tie.spec
-    Inv-loop
-    μ-loop
-    make-synced-requires
-    fill-order-requires
-    loop-holds
-    add-set-requires
-    add-s
-    loop-less
-    loop-again
-    same-length
-    returns)
+    (tie.spec Inv-loop μ-loop (λ c κs. search needs) (λ c κs. search needs) loop-holds (λ c κs. search needs) (λ c. search needs)
+    (λ c. search needs) loop-again (λ c. search needs) returns)

@@ -8,9 +8,6 @@ use Rattle.order.specs.Cases.{live-first, live-other}
 use borrow.Author.Needs.{needs}
 use Rattle.order.proofs.is_live.Statement.{statement}
 use Rattle.order.proofs.is_live.Tie as tie
-use Rattle.order.proofs.is_live.Reads as reads
-use Rattle.order.proofs.is_live.Lts as lts
-use Rattle.rules.proofs.cases.holds_at.Reads as holds-at-reads
 
 abbrev Inv-loop : tie.InvT-loop
 Inv-loop rows n s i₀ i = (i ≤ n) × (anyBelow i (holdsAt rows s) ≡ false) × (s ≡ 1 → ⊥)
@@ -18,39 +15,22 @@ Inv-loop rows n s i₀ i = (i ≤ n) × (anyBelow i (holdsAt rows s) ≡ false) 
 abbrev μ-loop : tie.MeasureT-loop
 μ-loop rows n s i₀ i = n - i
 
--- src/lib.rt:46:9
 returns : tie.Need-returns Inv-loop μ-loop
 returns c = λ p mode. sym (live-first _ p _ _ _ (c .if1 .taken))
 
--- src/lib.rt:48:5
 loop-holds : tie.Need-loop-holds Inv-loop μ-loop
 loop-holds c = (search needs, any-none _, c .if1 .left)
 
--- src/lib.rt:49:12
-holds-at-requires : tie.Need-holds-at-requires Inv-loop μ-loop
-holds-at-requires c κs = search needs
-
--- src/lib.rt:50:13
 returns-2 : tie.Need-returns-2 Inv-loop μ-loop
 returns-2 c =
     λ p mode. sym (live-other _ p _ _ _ (c .before .before .before .loop .inv .2)
     ∙ any-in _ _ _ (c .before .before .loop-test .taken) (sym (c .before .holds-at .ensures) ∙ c .if2 .taken))
 
--- src/lib.rt:48:9
-add-i : tie.Need-add-i Inv-loop μ-loop
-add-i c = search needs
-
--- src/lib.rt:48:5
-loop-less : tie.Need-loop-less Inv-loop μ-loop
-loop-less c = search needs
-
--- src/lib.rt:48:5
 loop-again : tie.Need-loop-again Inv-loop μ-loop
 loop-again c =
     let inv = c .before .before .before .loop .inv in
     (search needs, any-more _ _ (inv .1) (sym (c .before .holds-at .ensures) ∙ c .if2 .left), inv .2)
 
--- src/lib.rt:41:1
 returns-3 : tie.Need-returns-3 Inv-loop μ-loop
 returns-3 c =
     let e : c .before .loop .i ≡ c .before .before .before .before .args .n = omega arith in
@@ -60,14 +40,5 @@ returns-3 c =
 pub is-live-spec : {M : Type 1} → statement M
 is-live-spec =
     tie.close
-    (tie.spec
-    Inv-loop
-    μ-loop
-    returns
-    loop-holds
-    holds-at-requires
-    returns-2
-    add-i
-    loop-less
-    loop-again
+    (tie.spec Inv-loop μ-loop returns loop-holds (λ c κs. search needs) returns-2 (λ c. search needs) (λ c. search needs) loop-again
     returns-3)

@@ -9,10 +9,6 @@ use mathlib.Core.Path.{_≡_, refl, ap, _∙_}
 use borrow.Author.Needs.{needs}
 use Rattle.overlap.proofs.ask_all.Statement.{statement}
 use Rattle.overlap.proofs.ask_all.Tie as tie
-use Rattle.overlap.proofs.ask_all.Reads as reads
-use Rattle.overlap.proofs.ask_all.Lts as lts
-use Rattle.area.proofs.grid.put_if.Reads as put-if-reads
-use Rattle.overlap.proofs.shares.Reads as shares-reads
 
 abbrev Inv-loop : tie.InvT-loop
 Inv-loop rows n x r w₀ y₀ w y =
@@ -21,27 +17,9 @@ Inv-loop rows n x r w₀ y₀ w y =
 abbrev μ-loop : tie.MeasureT-loop
 μ-loop rows n x r w₀ y₀ w y = n - y
 
--- src/lib.rt:28:5
 loop-holds : tie.Need-loop-holds Inv-loop μ-loop
 loop-holds c = (search needs, refl, c .before .before .pre .3, c .before .before .pre .4, rowFill-none _ _ _)
 
--- src/lib.rt:29:13
-shares-requires : tie.Need-shares-requires Inv-loop μ-loop
-shares-requires c κs = search needs
-
--- src/lib.rt:30:9
-put-if-requires : tie.Need-put-if-requires Inv-loop μ-loop
-put-if-requires c κs = search needs
-
--- src/lib.rt:28:9
-add-y : tie.Need-add-y Inv-loop μ-loop
-add-y c = search needs
-
--- src/lib.rt:28:5
-loop-less : tie.Need-loop-less Inv-loop μ-loop
-loop-less c = search needs
-
--- src/lib.rt:28:5
 loop-again : tie.Need-loop-again Inv-loop μ-loop
 loop-again c =
     let put = c .before .before .put-if in
@@ -49,25 +27,11 @@ loop-again c =
     let e = rowFill-put _ _ _ (put .last .0) _ _ _ _ (inv .4) (c .before .before .before .before .shares .ensures) (omega arith) (put .ensures) in
     (search needs, ap length e ∙ length-rowFill _ _ _ _, inv .2, inv .3, e)
 
--- src/lib.rt:23:1
-same-length : tie.Need-same-length Inv-loop μ-loop
-same-length c = search needs
-
--- src/lib.rt:23:1
 returns : tie.Need-returns Inv-loop μ-loop
 returns c = let e : c .before .loop .y ≡ c .before .before .before .before .args .n = omega arith in rw e at (c .before .loop .inv .4)
 
 pub ask-all-spec : {M : Type 1} → statement M
 ask-all-spec =
     tie.close
-    (tie.spec
-    Inv-loop
-    μ-loop
-    loop-holds
-    shares-requires
-    put-if-requires
-    add-y
-    loop-less
-    loop-again
-    same-length
-    returns)
+    (tie.spec Inv-loop μ-loop loop-holds (λ c κs. search needs) (λ c κs. search needs) (λ c. search needs) (λ c. search needs) loop-again
+    (λ c. search needs) returns)

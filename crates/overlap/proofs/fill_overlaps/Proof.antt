@@ -11,10 +11,6 @@ use mathlib.Core.Path.{_≡_, refl, ap, _∙_}
 use borrow.Author.Needs.{needs}
 use Rattle.overlap.proofs.fill_overlaps.Statement.{statement}
 use Rattle.overlap.proofs.fill_overlaps.Tie as tie
-use Rattle.overlap.proofs.fill_overlaps.Reads as reads
-use Rattle.overlap.proofs.fill_overlaps.Lts as lts
-use Rattle.bits.proofs.clear.Reads as clear-reads
-use Rattle.overlap.proofs.overlap_row.Reads as overlap-row-reads
 
 abbrev Inv-loop : tie.InvT-loop
 Inv-loop rows n w₀ x₀ w x = (x ≤ n) × (length w ≡ length w₀) × Celled rows n w × (w ≡ gridFill (sharing rows) w₀ (OVERLAP * 64) (GRID * 64) n x)
@@ -22,15 +18,6 @@ Inv-loop rows n w₀ x₀ w x = (x ≤ n) × (length w ≡ length w₀) × Celle
 abbrev μ-loop : tie.MeasureT-loop
 μ-loop rows n w₀ x₀ w x = n - x
 
--- src/lib.rt:77:5
-fill-cells-requires : tie.Need-fill-cells-requires Inv-loop μ-loop
-fill-cells-requires c κs = search needs
-
--- src/lib.rt:40:5
-clear-requires : tie.Need-clear-requires Inv-loop μ-loop
-clear-requires c κs = search needs
-
--- src/lib.rt:41:5
 loop-holds : tie.Need-loop-holds Inv-loop μ-loop
 loop-holds c =
     let pre = c .before .before .before .before .before .before .before .before .before .before .pre in
@@ -42,19 +29,6 @@ loop-holds c =
       gridFill-none _ _ _ _ _,
     )
 
--- src/lib.rt:42:9
-overlap-row-requires : tie.Need-overlap-row-requires Inv-loop μ-loop
-overlap-row-requires c κs = search needs
-
--- src/lib.rt:41:9
-add-x : tie.Need-add-x Inv-loop μ-loop
-add-x c = search needs
-
--- src/lib.rt:41:5
-loop-less : tie.Need-loop-less Inv-loop μ-loop
-loop-less c = search needs
-
--- src/lib.rt:41:5
 loop-again : tie.Need-loop-again Inv-loop μ-loop
 loop-again c =
     let pre = c .before .before .before .before .before .before .before .before .before .before .before .before .before .before .before .before .pre in
@@ -64,11 +38,6 @@ loop-again c =
     let f = row-within OVERLAP OVERLAP-END _ _ _ (omega arith) (omega arith) (row .ensures) in
     (search needs, ap length e ∙ length-gridFill _ _ _ _ _ _, celled-kept _ _ (pre .0) (omega arith) f (inv .2), e)
 
--- src/lib.rt:36:1
-same-length : tie.Need-same-length Inv-loop μ-loop
-same-length c = search needs
-
--- src/lib.rt:36:1
 returns : tie.Need-returns Inv-loop μ-loop
 returns c =
     let s = c .before .before .before .before .before .before .before .before .before .before .before .before in
@@ -81,15 +50,5 @@ returns c =
 pub fill-overlaps-spec : {M : Type 1} → statement M
 fill-overlaps-spec =
     tie.close
-    (tie.spec
-    Inv-loop
-    μ-loop
-    fill-cells-requires
-    clear-requires
-    loop-holds
-    overlap-row-requires
-    add-x
-    loop-less
-    loop-again
-    same-length
-    returns)
+    (tie.spec Inv-loop μ-loop (λ c κs. search needs) (λ c κs. search needs) loop-holds (λ c κs. search needs) (λ c. search needs)
+    (λ c. search needs) loop-again (λ c. search needs) returns)

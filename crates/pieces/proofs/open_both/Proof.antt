@@ -4,23 +4,14 @@ use Rattle.pieces.specs.Entry.{door-short, door-wide}
 use borrow.Author.Needs.{needs}
 use Rattle.pieces.proofs.open_both.Statement.{statement}
 use Rattle.pieces.proofs.open_both.Tie as tie
-use Rattle.pieces.proofs.open_both.Reads as reads
-use Rattle.pieces.proofs.open_both.Lts as lts
-use Rattle.pieces.proofs.admit_both.Reads as admit-both-reads
 
--- src/lib.rt:136:9
 returns : tie.Need-returns
 unfolding _and_
 returns c = door-short _ _ _ _ _ _ (c .if1 .taken)
 
--- src/lib.rt:138:5
-admit-both-requires : tie.Need-admit-both-requires
-admit-both-requires c κs = search needs
-
--- src/lib.rt:125:1
 returns-2 : tie.Need-returns-2
 unfolding _and_
 returns-2 c = c .admit-both .ensures ∙ door-wide _ _ _ _ _ _ (c .before .if1 .left)
 
 pub open-both-spec : {M : Type 1} → statement M
-open-both-spec = tie.close (tie.spec returns admit-both-requires returns-2)
+open-both-spec = tie.close (tie.spec returns (λ c κs. search needs) returns-2)

@@ -12,10 +12,6 @@ use mathlib.Core.Path.{_≡_, refl, ap, _∙_}
 use borrow.Author.Needs.{needs}
 use Rattle.quick_hosts.proofs.fill_hosted.Statement.{statement}
 use Rattle.quick_hosts.proofs.fill_hosted.Tie as tie
-use Rattle.quick_hosts.proofs.fill_hosted.Reads as reads
-use Rattle.quick_hosts.proofs.fill_hosted.Lts as lts
-use Rattle.bits.proofs.clear.Reads as clear-reads
-use Rattle.quick_hosts.proofs.hosted_row.Reads as hosted-row-reads
 
 abbrev Inv-loop : tie.InvT-loop
 Inv-loop rows p mode n w₀ x₀ w x =
@@ -25,11 +21,6 @@ Inv-loop rows p mode n w₀ x₀ w x =
 abbrev μ-loop : tie.MeasureT-loop
 μ-loop rows p mode n w₀ x₀ w x = n - x
 
--- src/lib.rt:72:5
-clear-requires : tie.Need-clear-requires Inv-loop μ-loop
-clear-requires c κs = search needs
-
--- src/lib.rt:73:5
 loop-holds : tie.Need-loop-holds Inv-loop μ-loop
 loop-holds c = (
   search needs,
@@ -39,19 +30,6 @@ loop-holds c = (
   gridFill-none _ _ _ _ _,
 )
 
--- src/lib.rt:74:9
-hosted-row-requires : tie.Need-hosted-row-requires Inv-loop μ-loop
-hosted-row-requires c κs = search needs
-
--- src/lib.rt:73:9
-add-x : tie.Need-add-x Inv-loop μ-loop
-add-x c = search needs
-
--- src/lib.rt:73:5
-loop-less : tie.Need-loop-less Inv-loop μ-loop
-loop-less c = search needs
-
--- src/lib.rt:73:5
 loop-again : tie.Need-loop-again Inv-loop μ-loop
 loop-again c =
     let row = c .before .before .hosted-row in
@@ -63,11 +41,6 @@ loop-again c =
       e,
     )
 
--- src/lib.rt:68:1
-same-length : tie.Need-same-length Inv-loop μ-loop
-same-length c = search needs
-
--- src/lib.rt:68:1
 returns : tie.Need-returns Inv-loop μ-loop
 returns c =
     let e : c .before .loop .x ≡ c .before .before .before .before .before .before .before .before .args .n = omega arith in
@@ -77,14 +50,5 @@ returns c =
 pub fill-hosted-spec : {M : Type 1} → statement M
 fill-hosted-spec =
     tie.close
-    (tie.spec
-    Inv-loop
-    μ-loop
-    clear-requires
-    loop-holds
-    hosted-row-requires
-    add-x
-    loop-less
-    loop-again
-    same-length
-    returns)
+    (tie.spec Inv-loop μ-loop (λ c κs. search needs) loop-holds (λ c κs. search needs) (λ c. search needs) (λ c. search needs) loop-again
+    (λ c. search needs) returns)

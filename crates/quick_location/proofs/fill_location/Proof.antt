@@ -13,12 +13,6 @@ use Rattle.quick_location.specs.Publics.{Publics}
 use borrow.Author.Needs.{needs}
 use Rattle.quick_location.proofs.fill_location.Statement.{statement}
 use Rattle.quick_location.proofs.fill_location.Tie as tie
-use Rattle.quick_location.proofs.fill_location.Reads as reads
-use Rattle.quick_location.proofs.fill_location.Lts as lts
-use Rattle.bits.proofs.clear.Reads as clear-reads
-use Rattle.quick_location.proofs.elements.fill_publics.Reads as fill-publics-reads
-use Rattle.quick_location.proofs.fill_row.Reads as fill-row-reads
-use Rattle.quick_location.proofs.prepare.Reads as prepare-reads
 
 abbrev Inv-loop : tie.InvT-loop
 Inv-loop rows p mode n w₀ publics x₀ w x =
@@ -28,23 +22,6 @@ Inv-loop rows p mode n w₀ publics x₀ w x =
 abbrev μ-loop : tie.MeasureT-loop
 μ-loop rows p mode n w₀ publics x₀ w x = n - x
 
--- src/lib.rt:136:5
-prepare-requires : tie.Need-prepare-requires Inv-loop μ-loop
-prepare-requires c κs = search needs
-
--- src/lib.rt:137:5
-clear-requires : tie.Need-clear-requires Inv-loop μ-loop
-clear-requires c κs = search needs
-
--- src/lib.rt:139:37
-slice-aggregate-fill-publics : tie.Need-slice-aggregate-fill-publics Inv-loop μ-loop
-slice-aggregate-fill-publics c = search needs
-
--- src/lib.rt:139:5
-fill-publics-requires : tie.Need-fill-publics-requires Inv-loop μ-loop
-fill-publics-requires c κs = search needs
-
--- src/lib.rt:140:5
 loop-holds : tie.Need-loop-holds Inv-loop μ-loop
 loop-holds c = (
   search needs,
@@ -55,23 +32,6 @@ loop-holds c = (
   c .before .fill-publics .ensures,
 )
 
--- src/lib.rt:141:39
-slice-aggregate-fill-row : tie.Need-slice-aggregate-fill-row Inv-loop μ-loop
-slice-aggregate-fill-row c = search needs
-
--- src/lib.rt:141:9
-fill-row-requires : tie.Need-fill-row-requires Inv-loop μ-loop
-fill-row-requires c κs = search needs
-
--- src/lib.rt:140:9
-add-x : tie.Need-add-x Inv-loop μ-loop
-add-x c = search needs
-
--- src/lib.rt:140:5
-loop-less : tie.Need-loop-less Inv-loop μ-loop
-loop-less c = search needs
-
--- src/lib.rt:140:5
 loop-again : tie.Need-loop-again Inv-loop μ-loop
 loop-again c =
     let row = c .before .before .fill-row in
@@ -84,11 +44,6 @@ loop-again c =
       inv .4,
     )
 
--- src/lib.rt:132:1
-same-length : tie.Need-same-length Inv-loop μ-loop
-same-length c = search needs
-
--- src/lib.rt:132:1
 returns : tie.Need-returns Inv-loop μ-loop
 returns c =
     let s = c .before .before .before .before .before .before .before .before .before .before .before .before .before .before .before in
@@ -102,18 +57,5 @@ returns c =
 pub fill-location-spec : {M : Type 1} → statement M
 fill-location-spec =
     tie.close
-    (tie.spec
-    Inv-loop
-    μ-loop
-    prepare-requires
-    clear-requires
-    slice-aggregate-fill-publics
-    fill-publics-requires
-    loop-holds
-    slice-aggregate-fill-row
-    fill-row-requires
-    add-x
-    loop-less
-    loop-again
-    same-length
-    returns)
+    (tie.spec Inv-loop μ-loop (λ c κs. search needs) (λ c κs. search needs) (λ c. search needs) (λ c κs. search needs) loop-holds
+    (λ c. search needs) (λ c κs. search needs) (λ c. search needs) (λ c. search needs) loop-again (λ c. search needs) returns)

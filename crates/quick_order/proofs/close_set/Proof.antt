@@ -4,39 +4,7 @@ use Rattle.quick_order.specs.Whole.{closed-frame, setup-made, grown-made
 use borrow.Author.Needs.{needs}
 use Rattle.quick_order.proofs.close_set.Statement.{statement}
 use Rattle.quick_order.proofs.close_set.Tie as tie
-use Rattle.quick_order.proofs.close_set.Reads as reads
-use Rattle.quick_order.proofs.close_set.Lts as lts
-use Rattle.moment_sets.proofs.classes.fill_concern.Reads as fill-concern-reads
-use Rattle.moment_sets.proofs.classes.fill_release.Reads as fill-release-reads
-use Rattle.quick_order.proofs.hops.fill_hops.Reads as fill-hops-reads
-use Rattle.quick_order.proofs.sources.add_sources.Reads as add-sources-reads
-use Rattle.sets.proofs.own.close_own.Reads as close-own-reads
 
--- src/lib.rt:66:5
-fill-release-requires : tie.Need-fill-release-requires
-fill-release-requires c κs = search needs
-
--- src/lib.rt:67:5
-fill-concern-requires : tie.Need-fill-concern-requires
-fill-concern-requires c κs = search needs
-
--- src/lib.rt:68:5
-fill-hops-requires : tie.Need-fill-hops-requires
-fill-hops-requires c κs = search needs
-
--- src/lib.rt:69:5
-close-own-requires : tie.Need-close-own-requires
-close-own-requires c κs = search needs
-
--- src/lib.rt:70:5
-add-sources-requires : tie.Need-add-sources-requires
-add-sources-requires c κs = search needs
-
--- src/lib.rt:61:1
-same-length : tie.Need-same-length
-same-length c = search needs
-
--- src/lib.rt:61:1
 returns : tie.Need-returns
 returns c =
     let at-sources = c .before .before in
@@ -59,11 +27,5 @@ returns c =
 pub close-set-spec : {M : Type 1} → statement M
 close-set-spec =
     tie.close
-    (tie.spec
-    fill-release-requires
-    fill-concern-requires
-    fill-hops-requires
-    close-own-requires
-    add-sources-requires
-    same-length
-    returns)
+    (tie.spec (λ c κs. search needs) (λ c κs. search needs) (λ c κs. search needs) (λ c κs. search needs) (λ c κs. search needs)
+    (λ c. search needs) returns)

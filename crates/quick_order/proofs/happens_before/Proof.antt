@@ -13,10 +13,6 @@ use mathlib.Core.Path.{_≡_, refl}
 use borrow.Author.Needs.{needs}
 use Rattle.quick_order.proofs.happens_before.Statement.{statement}
 use Rattle.quick_order.proofs.happens_before.Tie as tie
-use Rattle.quick_order.proofs.happens_before.Reads as reads
-use Rattle.quick_order.proofs.happens_before.Lts as lts
-use Rattle.quick_order.proofs.add_set.Reads as add-set-reads
-use Rattle.quick_order.proofs.start.Reads as start-reads
 
 abbrev Inv-loop : tie.InvT-loop
 Inv-loop rows n w₀ dep s₀ w s =
@@ -27,35 +23,9 @@ Inv-loop rows n w₀ dep s₀ w s =
 abbrev μ-loop : tie.MeasureT-loop
 μ-loop rows n w₀ dep s₀ w s = CLASS-SETS - s
 
--- src/lib.rt:113:5
-start-requires : tie.Need-start-requires Inv-loop μ-loop
-start-requires c κs = search needs
-
--- src/lib.rt:115:5
 loop-holds : tie.Need-loop-holds Inv-loop μ-loop
 loop-holds c = (search needs, within-refl _ _ _, λ p mode e h. h)
 
--- src/lib.rt:116:9
-sub-add-set : tie.Need-sub-add-set Inv-loop μ-loop
-sub-add-set c = search needs
-
--- src/lib.rt:116:9
-sub-add-set-2 : tie.Need-sub-add-set-2 Inv-loop μ-loop
-sub-add-set-2 c = search needs
-
--- src/lib.rt:116:9
-add-set-requires : tie.Need-add-set-requires Inv-loop μ-loop
-add-set-requires c κs = search needs
-
--- src/lib.rt:115:9
-add-s : tie.Need-add-s Inv-loop μ-loop
-add-s c = search needs
-
--- src/lib.rt:115:5
-loop-less : tie.Need-loop-less Inv-loop μ-loop
-loop-less c = search needs
-
--- src/lib.rt:115:5
 loop-again : tie.Need-loop-again Inv-loop μ-loop
 loop-again c =
     let added = c .before .before .add-set .ensures in
@@ -65,11 +35,6 @@ loop-again c =
     let less : CLASS-SETS - 1 - s ≡ CLASS-SETS - (s + 1) = omega arith in
     (search needs, within-trans (inv .1) (added .0), λ p mode e h. reached-as less (added .1 p mode e (reached-as more (inv .2 p mode e h))))
 
--- src/lib.rt:109:1
-same-length : tie.Need-same-length Inv-loop μ-loop
-same-length c = search needs
-
--- src/lib.rt:109:1
 returns : tie.Need-returns Inv-loop μ-loop
 returns c =
     let e : CLASS-SETS - c .before .loop .s ≡ 0 = omega arith in
@@ -82,16 +47,5 @@ returns c =
 pub happens-before-spec : {M : Type 1} → statement M
 happens-before-spec =
     tie.close
-    (tie.spec
-    Inv-loop
-    μ-loop
-    start-requires
-    loop-holds
-    sub-add-set
-    sub-add-set-2
-    add-set-requires
-    add-s
-    loop-less
-    loop-again
-    same-length
-    returns)
+    (tie.spec Inv-loop μ-loop (λ c κs. search needs) loop-holds (λ c. search needs) (λ c. search needs) (λ c κs. search needs)
+    (λ c. search needs) (λ c. search needs) loop-again (λ c. search needs) returns)

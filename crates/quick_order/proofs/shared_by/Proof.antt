@@ -9,10 +9,6 @@ use Rattle.hubs.specs.Wider.{sharedBy, shared-none}
 use Rattle.quick_order.specs.Whole.{shared-next, shared-stays}
 use Rattle.quick_order.proofs.shared_by.Statement.{statement}
 use Rattle.quick_order.proofs.shared_by.Tie as tie
-use Rattle.quick_order.proofs.shared_by.Reads as reads
-use Rattle.quick_order.proofs.shared_by.Lts as lts
-use Rattle.quick_order.proofs.less_by.Reads as less-by-reads
-use Rattle.rows.proofs.bytes.read_classes.Reads as read-classes-reads
 
 abbrev Inv-loop : tie.InvT-loop
 Inv-loop rows n s c₀ x₀ c x = (x ≤ n) × ((p : List (List ℕ)) (mode : Mode) → c ≡ sharedBy (decode rows p mode n) s x)
@@ -20,43 +16,19 @@ Inv-loop rows n s c₀ x₀ c x = (x ≤ n) × ((p : List (List ℕ)) (mode : Mo
 abbrev μ-loop : tie.MeasureT-loop
 μ-loop rows n s c₀ x₀ c x = n - x
 
--- src/lib.rt:52:5
 loop-holds : tie.Need-loop-holds Inv-loop μ-loop
 loop-holds c = (search needs, λ p mode. shared-none (decode _ p mode _) _)
 
--- src/lib.rt:54:13
 returns : tie.Need-returns Inv-loop μ-loop
 returns c =
     let inv = c .before .before .loop .inv in
     λ p mode. shared-stays _ _ _ _ _ (inv .0) (inv .1 p mode) (c .if1 .taken)
 
--- src/lib.rt:56:59
-cast-read-classes : tie.Need-cast-read-classes Inv-loop μ-loop
-cast-read-classes c = search needs
-
--- src/lib.rt:56:27
-read-classes-requires : tie.Need-read-classes-requires Inv-loop μ-loop
-read-classes-requires c κs = search needs
-
--- src/lib.rt:56:9
-less-by-requires : tie.Need-less-by-requires Inv-loop μ-loop
-less-by-requires c κs = search needs
-
--- src/lib.rt:52:9
-add-x : tie.Need-add-x Inv-loop μ-loop
-add-x c = search needs
-
--- src/lib.rt:52:5
-loop-less : tie.Need-loop-less Inv-loop μ-loop
-loop-less c = search needs
-
--- src/lib.rt:52:5
 loop-again : tie.Need-loop-again Inv-loop μ-loop
 loop-again c =
     let inv = c .before .before .before .before .loop .inv in
     (search needs, λ p mode. c .less-by .ensures ∙ shared-next _ p mode _ _ _ _ _ (inv .1 p mode) (c .before .read-classes .ensures))
 
--- src/lib.rt:47:1
 returns-2 : tie.Need-returns-2 Inv-loop μ-loop
 returns-2 c =
     let e : c .before .loop .x ≡ c .before .before .before .args .n = omega arith in
@@ -65,15 +37,5 @@ returns-2 c =
 pub shared-by-spec : {M : Type 1} → statement M
 shared-by-spec =
     tie.close
-    (tie.spec
-    Inv-loop
-    μ-loop
-    loop-holds
-    returns
-    cast-read-classes
-    read-classes-requires
-    less-by-requires
-    add-x
-    loop-less
-    loop-again
-    returns-2)
+    (tie.spec Inv-loop μ-loop loop-holds returns (λ c. search needs) (λ c κs. search needs) (λ c κs. search needs) (λ c. search needs)
+    (λ c. search needs) loop-again returns-2)

@@ -13,13 +13,6 @@ use mathlib.Core.Path.{_≡_, refl, sym, _∙_}
 use borrow.Author.Needs.{needs}
 use Rattle.race.proofs.first_race.Statement.{statement}
 use Rattle.race.proofs.first_race.Tie as tie
-use Rattle.race.proofs.first_race.Reads as reads
-use Rattle.race.proofs.first_race.Lts as lts
-use Rattle.race.proofs.lowest_byte.Reads as lowest-byte-reads
-use Rattle.race.proofs.may_race.Reads as may-race-reads
-use Rattle.race.proofs.unordered_at.Reads as unordered-at-reads
-use Rattle.rows.proofs.bytes.read_row.Reads as read-row-reads
-use Rattle.sets.proofs.walk.next.Reads as next-reads
 
 abbrev Inv-loop2 : tie.InvT-loop2
 Inv-loop2 rows p mode n w answer x r start end at next y q b₀ b = NoneBelow (decode rows p mode n) x y b
@@ -40,47 +33,9 @@ Inv-pairs rows p mode n w answer₀ x₀ answer x = (x ≤ n) × (answer ≡ Not
 abbrev μ-pairs : tie.MeasureT-pairs
 μ-pairs rows p mode n w answer₀ x₀ answer x = n - x
 
--- src/lib.rt:129:5
 pairs-holds : tie.Need-pairs-holds Inv-loop2 μ-loop2 Inv-loop μ-loop Inv-pairs μ-pairs
 pairs-holds c = (search needs, refl, least-none _)
 
--- src/lib.rt:130:45
-cast-read-row : tie.Need-cast-read-row Inv-loop2 μ-loop2 Inv-loop μ-loop Inv-pairs μ-pairs
-cast-read-row c = search needs
-
--- src/lib.rt:130:13
-read-row-requires : tie.Need-read-row-requires Inv-loop2 μ-loop2 Inv-loop μ-loop Inv-pairs μ-pairs
-read-row-requires c κs = search needs
-
--- src/lib.rt:131:21
-cast-start : tie.Need-cast-start Inv-loop2 μ-loop2 Inv-loop μ-loop Inv-pairs μ-pairs
-cast-start c = search needs
-
--- src/lib.rt:132:28
-cast-end : tie.Need-cast-end Inv-loop2 μ-loop2 Inv-loop μ-loop Inv-pairs μ-pairs
-cast-end c = search needs
-
--- src/lib.rt:132:19
-add-end : tie.Need-add-end Inv-loop2 μ-loop2 Inv-loop μ-loop Inv-pairs μ-pairs
-add-end c = search needs
-
--- src/lib.rt:133:34
-mul-at : tie.Need-mul-at Inv-loop2 μ-loop2 Inv-loop μ-loop Inv-pairs μ-pairs
-mul-at c = search needs
-
--- src/lib.rt:133:18
-add-at : tie.Need-add-at Inv-loop2 μ-loop2 Inv-loop μ-loop Inv-pairs μ-pairs
-add-at c = search needs
-
--- src/lib.rt:134:46
-add-next : tie.Need-add-next Inv-loop2 μ-loop2 Inv-loop μ-loop Inv-pairs μ-pairs
-add-next c = search needs
-
--- src/lib.rt:134:13
-next-requires : tie.Need-next-requires Inv-loop2 μ-loop2 Inv-loop μ-loop Inv-pairs μ-pairs
-next-requires c κs = search needs
-
--- src/lib.rt:135:9
 loop-holds : tie.Need-loop-holds Inv-loop2 μ-loop2 Inv-loop μ-loop Inv-pairs μ-pairs
 loop-holds c =
     let next = c .next .ensures in (
@@ -92,24 +47,6 @@ loop-holds c =
       search needs,
     )
 
--- src/lib.rt:137:42
-add-next-2 : tie.Need-add-next-2 Inv-loop2 μ-loop2 Inv-loop μ-loop Inv-pairs μ-pairs
-add-next-2 c = search needs
-
--- src/lib.rt:137:13
-next-requires-2 : tie.Need-next-requires-2 Inv-loop2 μ-loop2 Inv-loop μ-loop Inv-pairs μ-pairs
-next-requires-2 c κs = search needs
-
--- src/lib.rt:138:49
-cast-read-row-2 : tie.Need-cast-read-row-2 Inv-loop2 μ-loop2 Inv-loop μ-loop Inv-pairs μ-pairs
-cast-read-row-2 c = search needs
-
--- src/lib.rt:138:17
-read-row-requires-2 :
-    tie.Need-read-row-requires-2 Inv-loop2 μ-loop2 Inv-loop μ-loop Inv-pairs μ-pairs
-read-row-requires-2 c κs = search needs
-
--- src/lib.rt:139:17
 may-race-requires : tie.Need-may-race-requires Inv-loop2 μ-loop2 Inv-loop μ-loop Inv-pairs μ-pairs
 may-race-requires c κs = (
   c .before .before .before .before .before .before .before .before .pairs-test .taken,
@@ -119,11 +56,6 @@ may-race-requires c κs = (
   c .before .before .before .before .before .before .before .before .before .before .before .before .pre .1,
 )
 
--- src/lib.rt:135:9
-loop-less : tie.Need-loop-less Inv-loop2 μ-loop2 Inv-loop μ-loop Inv-pairs μ-pairs
-loop-less c = search needs
-
--- src/lib.rt:135:9
 loop-again : tie.Need-loop-again Inv-loop2 μ-loop2 Inv-loop μ-loop Inv-pairs μ-pairs
 unfolding decode
 loop-again c =
@@ -139,18 +71,11 @@ loop-again c =
       inv .4,
     )
 
--- src/lib.rt:142:17
-lowest-byte-requires :
-    tie.Need-lowest-byte-requires Inv-loop2 μ-loop2 Inv-loop μ-loop Inv-pairs μ-pairs
-lowest-byte-requires c κs = search needs
-
--- src/lib.rt:143:17
 loop2-holds : tie.Need-loop2-holds Inv-loop2 μ-loop2 Inv-loop μ-loop Inv-pairs μ-pairs
 unfolding decode
 loop2-holds c = none-starts _ _ _ _ _ _ (c .before .before .before .before .before .before .before .before .before
     .before .read-row .ensures) (c .before .before .before .read-row2 .ensures) (c .lowest-byte .ensures)
 
--- src/lib.rt:147:20
 unordered-at-requires :
     tie.Need-unordered-at-requires Inv-loop2 μ-loop2 Inv-loop μ-loop Inv-pairs μ-pairs
 unordered-at-requires c κs = (
@@ -162,34 +87,25 @@ unordered-at-requires c κs = (
   c .before .before .before .before .before .before .before .before .before .before .before .before .before .before .before .before .before .pre .1,
 )
 
--- src/lib.rt:150:17
 add-b : tie.Need-add-b Inv-loop2 μ-loop2 Inv-loop μ-loop Inv-pairs μ-pairs
 add-b c = let l = c .before .before .if2 .left in
     let m = c .before .before .before .before .before .before .before .before .before .before .loop .inv .4 in search needs
 
--- src/lib.rt:143:17
-loop2-less : tie.Need-loop2-less Inv-loop2 μ-loop2 Inv-loop μ-loop Inv-pairs μ-pairs
-loop2-less c = search needs
-
--- src/lib.rt:143:17
 loop2-again : tie.Need-loop2-again Inv-loop2 μ-loop2 Inv-loop μ-loop Inv-pairs μ-pairs
 loop2-again c = none-more _ _ _ _ (c .before .before .before .loop2 .inv) (sym (c .before .unordered-at .ensures) ∙ c .if3 .left)
 
--- src/lib.rt:154:28
 cast-t28 : tie.Need-cast-t28 Inv-loop2 μ-loop2 Inv-loop μ-loop Inv-pairs μ-pairs
 cast-t28 c = let l = c .before .before .before .before .before .before .before .before .before .before .before .before .before
     .before .pairs-test .taken in let k = c .before .before .before .before .before .before .before .before .loop-test .taken in
     let m = c .before .before .before .before .before .before .before .before .before .before .before .before .before .before .before
     .before .before .before .pre .1 .0 in search needs
 
--- src/lib.rt:155:29
 cast-t29 : tie.Need-cast-t29 Inv-loop2 μ-loop2 Inv-loop μ-loop Inv-pairs μ-pairs
 cast-t29 c = let l = c .before .before .before .before .before .before .before .before .before .before .before .before .before
     .before .pairs-test .taken in let k = c .before .before .before .before .before .before .before .before .loop-test .taken in
     let m = c .before .before .before .before .before .before .before .before .before .before .before .before .before .before .before
     .before .before .before .pre .1 .0 in search needs
 
--- src/lib.rt:156:27
 cast-t30 : tie.Need-cast-t30 Inv-loop2 μ-loop2 Inv-loop μ-loop Inv-pairs μ-pairs
 unfolding decode
 cast-t30 c =
@@ -202,11 +118,6 @@ cast-t30 c =
     let l = c .before .if4 .taken in
     search needs
 
--- src/lib.rt:135:9
-loop-less-2 : tie.Need-loop-less-2 Inv-loop2 μ-loop2 Inv-loop μ-loop Inv-pairs μ-pairs
-loop-less-2 c = search needs
-
--- src/lib.rt:135:9
 loop-again-2 : tie.Need-loop-again-2 Inv-loop2 μ-loop2 Inv-loop μ-loop Inv-pairs μ-pairs
 unfolding decode
 loop-again-2 c =
@@ -229,15 +140,6 @@ loop-again-2 c =
     .before .pairs-test .taken) next (least-more _ _ (inv .3) none) in
     (omega (arith, inv .0, next .low), next .high, inv .2, more, inv .4)
 
--- src/lib.rt:129:17
-add-x : tie.Need-add-x Inv-loop2 μ-loop2 Inv-loop μ-loop Inv-pairs μ-pairs
-add-x c = search needs
-
--- src/lib.rt:129:5
-pairs-less : tie.Need-pairs-less Inv-loop2 μ-loop2 Inv-loop μ-loop Inv-pairs μ-pairs
-pairs-less c = search needs
-
--- src/lib.rt:129:5
 pairs-again : tie.Need-pairs-again Inv-loop2 μ-loop2 Inv-loop μ-loop Inv-pairs μ-pairs
 unfolding decode
 pairs-again c =
@@ -248,14 +150,12 @@ pairs-again c =
           (row-off _ _ _ refl (rw e at (c .before .loop .inv .3))),
     )
 
--- src/lib.rt:124:1
 returns : tie.Need-returns Inv-loop2 μ-loop2 Inv-loop μ-loop Inv-pairs μ-pairs
 unfolding decode
 returns c =
     let e : c .before .pairs .x ≡ c .before .before .before .before .args .n = omega arith in
     c .before .pairs .inv .1 ∙ race-none _ _ refl (rw e at (c .before .pairs .inv .2))
 
--- src/lib.rt:124:1
 returns-2 : tie.Need-returns-2 Inv-loop2 μ-loop2 Inv-loop μ-loop Inv-pairs μ-pairs
 unfolding decode
 returns-2 c =
@@ -280,44 +180,8 @@ returns-2 c =
 pub first-race-spec : {M : Type 1} → statement M
 first-race-spec =
     tie.close
-    (tie.spec
-    Inv-loop2
-    μ-loop2
-    Inv-loop
-    μ-loop
-    Inv-pairs
-    μ-pairs
-    pairs-holds
-    cast-read-row
-    read-row-requires
-    cast-start
-    cast-end
-    add-end
-    mul-at
-    add-at
-    add-next
-    next-requires
-    loop-holds
-    add-next-2
-    next-requires-2
-    cast-read-row-2
-    read-row-requires-2
-    may-race-requires
-    loop-less
-    loop-again
-    lowest-byte-requires
-    loop2-holds
-    unordered-at-requires
-    add-b
-    loop2-less
-    loop2-again
-    cast-t28
-    cast-t29
-    cast-t30
-    loop-less-2
-    loop-again-2
-    add-x
-    pairs-less
-    pairs-again
-    returns
-    returns-2)
+    (tie.spec Inv-loop2 μ-loop2 Inv-loop μ-loop Inv-pairs μ-pairs pairs-holds (λ c. search needs) (λ c κs. search needs) (λ c. search needs)
+    (λ c. search needs) (λ c. search needs) (λ c. search needs) (λ c. search needs) (λ c. search needs) (λ c κs. search needs) loop-holds
+    (λ c. search needs) (λ c κs. search needs) (λ c. search needs) (λ c κs. search needs) may-race-requires (λ c. search needs) loop-again
+    (λ c κs. search needs) loop2-holds unordered-at-requires add-b (λ c. search needs) loop2-again cast-t28 cast-t29 cast-t30
+    (λ c. search needs) loop-again-2 (λ c. search needs) (λ c. search needs) pairs-again returns returns-2)

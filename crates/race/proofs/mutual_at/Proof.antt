@@ -4,19 +4,11 @@ use mathlib.Core.Path.{_∙_}
 use borrow.Author.Needs.{needs}
 use Rattle.race.proofs.mutual_at.Statement.{statement}
 use Rattle.race.proofs.mutual_at.Tie as tie
-use Rattle.race.proofs.mutual_at.Reads as reads
-use Rattle.race.proofs.mutual_at.Lts as lts
-use Rattle.area.proofs.grid.get.Reads as get-reads
 
--- src/lib.rt:30:5
-get-requires : tie.Need-get-requires
-get-requires c κs = search needs
-
--- src/lib.rt:18:1
 returns : tie.Need-returns
 returns c =
     let s = c .before .before .before in
     c .get .ensures ∙ holds-bit (s .pre .2 .3 .mutuals) _ _ _ (omega arith) (s .pre .0) (s .pre .1)
 
 pub mutual-at-spec : {M : Type 1} → statement M
-mutual-at-spec = tie.close (tie.spec get-requires returns)
+mutual-at-spec = tie.close (tie.spec (λ c κs. search needs) returns)

@@ -11,9 +11,6 @@ use Rattle.reader.specs.Judging.{stands-first, stands-next, step-low, br
 use borrow.Author.Needs.{needs}
 use Rattle.reader.proofs.is_chain.Statement.{statement}
 use Rattle.reader.proofs.is_chain.Tie as tie
-use Rattle.reader.proofs.is_chain.Reads as reads
-use Rattle.reader.proofs.is_chain.Lts as lts
-use Rattle.reader.proofs.is_step.Reads as is-step-reads
 
 abbrev Inv-loop : tie.InvT-loop
 Inv-loop rows p mode n s first second steps m₀ i₀ i-end m i =
@@ -22,46 +19,15 @@ Inv-loop rows p mode n s first second steps m₀ i₀ i-end m i =
 abbrev μ-loop : tie.MeasureT-loop
 μ-loop rows p mode n s first second steps m₀ i₀ i-end m i = length steps - i
 
--- src/lib.rt:65:5
 loop-holds : tie.Need-loop-holds Inv-loop μ-loop
 loop-holds c = (search needs, stands-first _ _, search needs, any-none _)
 
--- src/lib.rt:66:39
-mul-is-step : tie.Need-mul-is-step Inv-loop μ-loop
-mul-is-step c = search needs
-
--- src/lib.rt:66:39
-shared-slice-read-is-step : tie.Need-shared-slice-read-is-step Inv-loop μ-loop
-shared-slice-read-is-step c = search needs
-
--- src/lib.rt:66:13
-is-step-requires : tie.Need-is-step-requires Inv-loop μ-loop
-is-step-requires c κs = search needs
-
--- src/lib.rt:67:13
 returns : tie.Need-returns Inv-loop μ-loop
 returns c =
     let inv = c .before .before .before .before .loop .inv in
     leads-broken _ _ _ _ _ _ _ _ _ (c .before .before .before .loop-test .taken)
     (broken-is _ _ _ _ _ _ _ _ _ _ (inv .1) (c .before .is-step .ensures) ∙ c .if1 .taken)
 
--- src/lib.rt:69:13
-mul-m : tie.Need-mul-m Inv-loop μ-loop
-mul-m c = search needs
-
--- src/lib.rt:69:13
-shared-slice-read-m : tie.Need-shared-slice-read-m Inv-loop μ-loop
-shared-slice-read-m c = search needs
-
--- src/lib.rt:65:9
-add-i : tie.Need-add-i Inv-loop μ-loop
-add-i c = search needs
-
--- src/lib.rt:65:5
-loop-less : tie.Need-loop-less Inv-loop μ-loop
-loop-less c = search needs
-
--- src/lib.rt:65:5
 loop-again : tie.Need-loop-again Inv-loop μ-loop
 loop-again c =
     let inv = c .before .before .before .before .before .loop .inv in (
@@ -71,7 +37,6 @@ loop-again c =
       any-more _ _ (inv .3) (broken-is _ _ _ _ _ _ _ _ _ _ (inv .1) (c .before .before .is-step .ensures) ∙ c .before .if1 .left),
     )
 
--- src/lib.rt:60:1
 returns-2 : tie.Need-returns-2 Inv-loop μ-loop
 returns-2 c =
     let e : c .before .loop .i ≡ length (c .before .before .before .before .args .steps .now) = omega arith in
@@ -80,17 +45,5 @@ returns-2 c =
 pub is-chain-spec : {M : Type 1} → statement M
 is-chain-spec =
     tie.close
-    (tie.spec
-    Inv-loop
-    μ-loop
-    loop-holds
-    mul-is-step
-    shared-slice-read-is-step
-    is-step-requires
-    returns
-    mul-m
-    shared-slice-read-m
-    add-i
-    loop-less
-    loop-again
-    returns-2)
+    (tie.spec Inv-loop μ-loop loop-holds (λ c. search needs) (λ c. search needs) (λ c κs. search needs) returns (λ c. search needs)
+    (λ c. search needs) (λ c. search needs) (λ c. search needs) loop-again returns-2)

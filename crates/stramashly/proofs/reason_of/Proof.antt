@@ -2,15 +2,11 @@ use borrow.Author.Tests.{eq-eqb, ne-eqb}
 use Rattle.stramashly.specs.Packed.{reasonOf}
 use Rattle.stramashly.proofs.reason_of.Statement.{statement}
 use Rattle.stramashly.proofs.reason_of.Tie as tie
-use Rattle.stramashly.proofs.reason_of.Reads as reads
-use Rattle.stramashly.proofs.reason_of.Lts as lts
 
--- src/lib.rt:87:9
 returns : tie.Need-returns
 unfolding reasonOf
 returns c = simp (eq-eqb _ _ (c .if1 .taken))
 
--- src/lib.rt:83:1
 returns-2 : tie.Need-returns-2
 unfolding reasonOf
 returns-2 c = simp (ne-eqb _ _ (c .if1 .left))

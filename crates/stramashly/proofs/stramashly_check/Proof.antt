@@ -3,28 +3,7 @@ use Rattle.stramashly.specs.Packed.{packCheck}
 use borrow.Author.Needs.{needs}
 use Rattle.stramashly.proofs.stramashly_check.Statement.{statement}
 use Rattle.stramashly.proofs.stramashly_check.Tie as tie
-use Rattle.stramashly.proofs.stramashly_check.Reads as reads
-use Rattle.stramashly.proofs.stramashly_check.Lts as lts
-use Rattle.stramashly.proofs.pack_check.Reads as pack-check-reads
-use Rattle.verdict.proofs.check.check.Reads as check-reads
 
--- src/lib.rt:43:16
-check-requires : tie.Need-check-requires
-check-requires c κs = search needs
-
--- src/lib.rt:43:5
-pack-check-requires : tie.Need-pack-check-requires
-pack-check-requires c κs = search needs
-
--- src/lib.rt:37:1
-same-length : tie.Need-same-length
-same-length c = search needs
-
--- src/lib.rt:37:1
-same-length-2 : tie.Need-same-length-2
-same-length-2 c = search needs
-
--- src/lib.rt:37:1
 returns : tie.Need-returns
 returns c =
     let checked = c .before .before .before .before .before .check .ensures in
@@ -32,4 +11,4 @@ returns c =
 
 pub stramashly-check-spec : {M : Type 1} → statement M
 stramashly-check-spec =
-    tie.close (tie.spec check-requires pack-check-requires same-length same-length-2 returns)
+    tie.close (tie.spec (λ c κs. search needs) (λ c κs. search needs) (λ c. search needs) (λ c. search needs) returns)

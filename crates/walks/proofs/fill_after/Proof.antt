@@ -10,10 +10,6 @@ use Rattle.walks.proofs.Rounds.{turn-test}
 use borrow.Author.Needs.{needs}
 use Rattle.walks.proofs.fill_after.Statement.{statement}
 use Rattle.walks.proofs.fill_after.Tie as tie
-use Rattle.walks.proofs.fill_after.Reads as reads
-use Rattle.walks.proofs.fill_after.Lts as lts
-use Rattle.bits.proofs.put_if.Reads as put-if-reads
-use Rattle.walks.proofs.next.Reads as next-reads
 
 abbrev Inv-loop : tie.InvT-loop
 Inv-loop w₀ steps layers stride n k at z₀ w z =
@@ -37,9 +33,6 @@ mul-at-2 c = let a = c .before .args in omega (arith, row-apart (a .k) (a .n) (a
 loop-holds : tie.Need-loop-holds Inv-loop μ-loop
 loop-holds c = (search needs, refl, rowFill-none _ _ _)
 
-next-requires : tie.Need-next-requires Inv-loop μ-loop
-next-requires c κs = search needs
-
 add-put-if : tie.Need-add-put-if Inv-loop μ-loop
 add-put-if c =
     let start = c .before .before .before .before .before .before in
@@ -49,12 +42,6 @@ put-if-requires : tie.Need-put-if-requires Inv-loop μ-loop
 put-if-requires c κs =
     let start = c .before .before .before .before .before .before in
     omega (arith, row-apart (start .args .k) (start .args .n) (start .args .stride) (start .pre .2))
-
-add-z : tie.Need-add-z Inv-loop μ-loop
-add-z c = search needs
-
-loop-less : tie.Need-loop-less Inv-loop μ-loop
-loop-less c = search needs
 
 loop-again : tie.Need-loop-again Inv-loop μ-loop
 loop-again c =
@@ -67,9 +54,6 @@ loop-again c =
     let e = rowFill-put _ _ _ (put .last .0) _ _ _ _ (inv .2) t refl (put .ensures) in
     (search needs, ap length e ∙ length-rowFill _ _ _ _, e)
 
-same-length : tie.Need-same-length Inv-loop μ-loop
-same-length c = search needs
-
 returns : tie.Need-returns Inv-loop μ-loop
 returns c =
     let e : c .before .loop .z ≡ c .before .before .before .args .n = omega arith in
@@ -78,19 +62,5 @@ returns c =
 pub fill-after-spec : {M : Type 1} → statement M
 fill-after-spec =
     tie.close
-    (tie.spec
-    Inv-loop
-    μ-loop
-    mul-at
-    add-at
-    add-at-2
-    mul-at-2
-    loop-holds
-    next-requires
-    add-put-if
-    put-if-requires
-    add-z
-    loop-less
-    loop-again
-    same-length
-    returns)
+    (tie.spec Inv-loop μ-loop mul-at add-at add-at-2 mul-at-2 loop-holds (λ c κs. search needs) add-put-if put-if-requires
+    (λ c. search needs) (λ c. search needs) loop-again (λ c. search needs) returns)

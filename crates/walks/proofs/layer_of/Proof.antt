@@ -8,9 +8,6 @@ use Rattle.walks.specs.Layers.{inLayer, in-layer-bit}
 use borrow.Author.Needs.{needs}
 use Rattle.walks.proofs.layer_of.Statement.{statement}
 use Rattle.walks.proofs.layer_of.Tie as tie
-use Rattle.walks.proofs.layer_of.Reads as reads
-use Rattle.walks.proofs.layer_of.Lts as lts
-use Rattle.bits.proofs.get.Reads as get-reads
 
 abbrev Inv-loop : tie.InvT-loop
 Inv-loop w layers stride n z j₀ j = (j ≤ n) × (least j (inLayer w layers stride z) ≡ j)
@@ -46,12 +43,6 @@ returns c = (
   search needs,
 )
 
-add-j : tie.Need-add-j Inv-loop μ-loop
-add-j c = search needs
-
-loop-less : tie.Need-loop-less Inv-loop μ-loop
-loop-less c = search needs
-
 loop-again : tie.Need-loop-again Inv-loop μ-loop
 loop-again c = (search needs, least-more _ _ (c .before .before .before .loop .inv .1) (in-layer-bit _ _ _ _ _ ∙ sym (c .before .get .ensures) ∙ c .if1 .left))
 
@@ -63,18 +54,5 @@ returns-2 c =
 pub layer-of-spec : {M : Type 1} → statement M
 layer-of-spec =
     tie.close
-    (tie.spec
-    Inv-loop
-    μ-loop
-    loop-holds
-    mul-get
-    add-get
-    add-get-2
-    mul-get-2
-    add-get-3
-    get-requires
-    returns
-    add-j
-    loop-less
-    loop-again
-    returns-2)
+    (tie.spec Inv-loop μ-loop loop-holds mul-get add-get add-get-2 mul-get-2 add-get-3 get-requires returns (λ c. search needs)
+    (λ c. search needs) loop-again returns-2)

@@ -7,9 +7,6 @@ use Rattle.sets.specs.Meet.{both}
 use Rattle.walks.specs.Layers.{stepBit}
 use Rattle.walks.proofs.next.Statement.{statement}
 use Rattle.walks.proofs.next.Tie as tie
-use Rattle.walks.proofs.next.Reads as reads
-use Rattle.walks.proofs.next.Lts as lts
-use Rattle.sets.proofs.first_both.Reads as first-both-reads
 
 mul-first-both : tie.Need-mul-first-both
 mul-first-both c = omega (arith, row-apart (c .before .args .z) (c .before .args .n) (c .before .args .stride) (c .before .pre .3))
@@ -45,11 +42,4 @@ returns-2 c = least-outside (c .before .before .before .pre .0 .0) (c .before .f
 pub next-spec : {M : Type 1} → statement M
 next-spec =
     tie.close
-    (tie.spec
-    mul-first-both
-    add-first-both
-    mul-first-both-2
-    add-first-both-2
-    first-both-requires
-    returns
-    returns-2)
+    (tie.spec mul-first-both add-first-both mul-first-both-2 add-first-both-2 first-both-requires returns returns-2)

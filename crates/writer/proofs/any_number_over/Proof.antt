@@ -7,9 +7,6 @@ use mathlib.Core.Path.{_≡_, sym, _∙_}
 use borrow.Author.Needs.{needs}
 use Rattle.writer.proofs.any_number_over.Statement.{statement}
 use Rattle.writer.proofs.any_number_over.Tie as tie
-use Rattle.writer.proofs.any_number_over.Reads as reads
-use Rattle.writer.proofs.any_number_over.Lts as lts
-use Rattle.writer.proofs.number_over.Reads as number-over-reads
 
 abbrev Inv-loop : tie.InvT-loop
 Inv-loop version p agents a₀ a = (a ≤ agents) × (anyBelow a (numberOver version p) ≡ false)
@@ -17,31 +14,15 @@ Inv-loop version p agents a₀ a = (a ≤ agents) × (anyBelow a (numberOver ver
 abbrev μ-loop : tie.MeasureT-loop
 μ-loop version p agents a₀ a = agents - a
 
--- src/lib.rt:68:5
 loop-holds : tie.Need-loop-holds Inv-loop μ-loop
 loop-holds c = (search needs, any-none _)
 
--- src/lib.rt:69:12
-number-over-requires : tie.Need-number-over-requires Inv-loop μ-loop
-number-over-requires c κs = search needs
-
--- src/lib.rt:70:13
 returns : tie.Need-returns Inv-loop μ-loop
 returns c = sym (any-in _ _ _ (c .before .before .loop-test .taken) (sym (c .before .number-over .ensures) ∙ c .if1 .taken))
 
--- src/lib.rt:68:9
-add-a : tie.Need-add-a Inv-loop μ-loop
-add-a c = search needs
-
--- src/lib.rt:68:5
-loop-less : tie.Need-loop-less Inv-loop μ-loop
-loop-less c = search needs
-
--- src/lib.rt:68:5
 loop-again : tie.Need-loop-again Inv-loop μ-loop
 loop-again c = (search needs, any-more _ _ (c .before .before .before .loop .inv .1) (sym (c .before .number-over .ensures) ∙ c .if1 .left))
 
--- src/lib.rt:65:1
 returns-2 : tie.Need-returns-2 Inv-loop μ-loop
 returns-2 c =
     let done : c .before .loop .a ≡ c .before .before .args .agents = omega arith in
@@ -50,13 +31,4 @@ returns-2 c =
 pub any-number-over-spec : {M : Type 1} → statement M
 any-number-over-spec =
     tie.close
-    (tie.spec
-    Inv-loop
-    μ-loop
-    loop-holds
-    number-over-requires
-    returns
-    add-a
-    loop-less
-    loop-again
-    returns-2)
+    (tie.spec Inv-loop μ-loop loop-holds (λ c κs. search needs) returns (λ c. search needs) (λ c. search needs) loop-again returns-2)

@@ -3,10 +3,7 @@ use Rattle.writer.specs.Answer.{countsFit}
 use mathlib.Core.Path.{refl}
 use Rattle.writer.proofs.counts_fit.Statement.{statement}
 use Rattle.writer.proofs.counts_fit.Tie as tie
-use Rattle.writer.proofs.counts_fit.Reads as reads
-use Rattle.writer.proofs.counts_fit.Lts as lts
 
--- src/lib.rt:47:1
 returns : tie.Need-returns
 unfolding countsFit _and_
 returns c = refl

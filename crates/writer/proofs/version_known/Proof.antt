@@ -3,10 +3,7 @@ use Rattle.writer.specs.Answer.{versionKnown}
 use mathlib.Core.Path.{refl}
 use Rattle.writer.proofs.version_known.Statement.{statement}
 use Rattle.writer.proofs.version_known.Tie as tie
-use Rattle.writer.proofs.version_known.Reads as reads
-use Rattle.writer.proofs.version_known.Lts as lts
 
--- src/lib.rt:40:1
 returns : tie.Need-returns
 unfolding versionKnown _and_
 returns c = refl

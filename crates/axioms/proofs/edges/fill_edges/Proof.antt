@@ -11,11 +11,6 @@ use Rattle.axioms.specs.Added.{Edged, outBelow, linked, rows-none, rows-
 use borrow.Author.Needs.{needs}
 use Rattle.axioms.proofs.edges.fill_edges.Statement.{statement}
 use Rattle.axioms.proofs.edges.fill_edges.Tie as tie
-use Rattle.axioms.proofs.edges.fill_edges.Reads as reads
-use Rattle.axioms.proofs.edges.fill_edges.Lts as lts
-use Rattle.axioms.proofs.grid.add_sources.Reads as add-sources-reads
-use Rattle.axioms.proofs.grid.edge_row.Reads as edge-row-reads
-use Rattle.bits.proofs.clear.Reads as clear-reads
 
 abbrev Inv-loop : tie.InvT-loop
 Inv-loop rows p mode n src w₀ x₀ w x =
@@ -24,11 +19,6 @@ Inv-loop rows p mode n src w₀ x₀ w x =
 abbrev μ-loop : tie.MeasureT-loop
 μ-loop rows p mode n src w₀ x₀ w x = n - x
 
--- src/edges.rt:175:5
-clear-requires : tie.Need-clear-requires Inv-loop μ-loop
-clear-requires c κs = search needs
-
--- src/edges.rt:176:5
 loop-holds : tie.Need-loop-holds Inv-loop μ-loop
 loop-holds c = (
   search needs,
@@ -39,20 +29,10 @@ loop-holds c = (
   rows-none _ _,
 )
 
--- src/edges.rt:177:9
 edge-row-requires : tie.Need-edge-row-requires Inv-loop μ-loop
 edge-row-requires c κs = let s = (c .before .before .before .before .before .before .before .before .before .before) .pre in
     let inv = (c .before .before) .loop .inv in (search needs, s .0, (s .1 .0, search needs, s .1 .2, inv .2))
 
--- src/edges.rt:176:9
-add-x : tie.Need-add-x Inv-loop μ-loop
-add-x c = search needs
-
--- src/edges.rt:176:5
-loop-less : tie.Need-loop-less Inv-loop μ-loop
-loop-less c = search needs
-
--- src/edges.rt:176:5
 loop-again : tie.Need-loop-again Inv-loop μ-loop
 loop-again c =
     let row = (c .before .before) .edge-row .ensures in
@@ -60,15 +40,6 @@ loop-again c =
     let e = rows-more _ _ _ (inv .3) row in
     (search needs, e .frame .len, located-kept (omega arith) (omega arith) (row .frame) (inv .2), e)
 
--- src/edges.rt:179:5
-add-sources-requires : tie.Need-add-sources-requires Inv-loop μ-loop
-add-sources-requires c κs = search needs
-
--- src/edges.rt:171:1
-same-length : tie.Need-same-length Inv-loop μ-loop
-same-length c = search needs
-
--- src/edges.rt:171:1
 returns : tie.Need-returns Inv-loop μ-loop
 returns c =
     let e : (c .before .before .before .before .before) .loop .x ≡ (c .before .before .before .before .before .before .before .before
@@ -79,15 +50,5 @@ returns c =
 pub fill-edges-spec : {M : Type 1} → statement M
 fill-edges-spec =
     tie.close
-    (tie.spec
-    Inv-loop
-    μ-loop
-    clear-requires
-    loop-holds
-    edge-row-requires
-    add-x
-    loop-less
-    loop-again
-    add-sources-requires
-    same-length
-    returns)
+    (tie.spec Inv-loop μ-loop (λ c κs. search needs) loop-holds edge-row-requires (λ c. search needs) (λ c. search needs) loop-again
+    (λ c κs. search needs) (λ c. search needs) returns)

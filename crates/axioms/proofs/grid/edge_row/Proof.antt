@@ -4,23 +4,12 @@ use Rattle.axioms.specs.Added.{row-all}
 use borrow.Author.Needs.{needs}
 use Rattle.axioms.proofs.grid.edge_row.Statement.{statement}
 use Rattle.axioms.proofs.grid.edge_row.Tie as tie
-use Rattle.axioms.proofs.grid.edge_row.Reads as reads
-use Rattle.axioms.proofs.grid.edge_row.Lts as lts
-use Rattle.axioms.proofs.grid.after_row.Reads as after-row-reads
-use Rattle.axioms.proofs.grid.from_row.Reads as from-row-reads
-use Rattle.axioms.proofs.grid.order_row.Reads as order-row-reads
 
--- src/grid.rt:187:5
-order-row-requires : tie.Need-order-row-requires
-order-row-requires c κs = search needs
-
--- src/grid.rt:188:5
 after-row-requires : tie.Need-after-row-requires
 after-row-requires c κs = let s = (c .before .before .before .before .before .before .before .before) .pre in
     let o = (c .before .before .before) .order-row .ensures .frame in
     (s .0, s .0, (s .2 .0, omega (arith, s .2 .1, o .len), s .2 .2, located-kept (omega arith) (omega arith) o (s .2 .3)))
 
--- src/grid.rt:189:5
 from-row-requires : tie.Need-from-row-requires
 from-row-requires c κs = let s = (c .before .before .before .before .before .before .before .before .before .before .before .before) .pre in
     let o = (c .before .before .before .before .before .before .before) .order-row .ensures .frame in
@@ -35,11 +24,6 @@ from-row-requires c κs = let s = (c .before .before .before .before .before .be
       ),
     )
 
--- src/grid.rt:183:1
-same-length : tie.Need-same-length
-same-length c = search needs
-
--- src/grid.rt:183:1
 returns : tie.Need-returns
 returns c = row-all _ _ _ ((c .before .before .before .before .before .before .before .before .before .before) .order-row .ensures)
     ((c .before .before .before .before .before .before) .after-row .ensures) ((c .before .before) .from-row .ensures)
@@ -47,4 +31,4 @@ returns c = row-all _ _ _ ((c .before .before .before .before .before .before .b
 pub edge-row-spec : {M : Type 1} → statement M
 edge-row-spec =
     tie.close
-    (tie.spec order-row-requires after-row-requires from-row-requires same-length returns)
+    (tie.spec (λ c κs. search needs) after-row-requires from-row-requires (λ c. search needs) returns)

@@ -15,11 +15,6 @@ use Rattle.axioms.specs.Added.{Edged, fromUpto, row-none, row-exact, row
 use borrow.Author.Needs.{needs}
 use Rattle.axioms.proofs.grid.from_initial.Statement.{statement}
 use Rattle.axioms.proofs.grid.from_initial.Tie as tie
-use Rattle.axioms.proofs.grid.from_initial.Reads as reads
-use Rattle.axioms.proofs.grid.from_initial.Lts as lts
-use Rattle.area.proofs.grid.put_if.Reads as put-if-reads
-use Rattle.axioms.proofs.grid.from_shared.Reads as from-shared-reads
-use Rattle.sets.proofs.walk.next.Reads as next-reads
 
 abbrev Inv-loop : tie.InvT-loop
 Inv-loop rows p mode n src x w₀ at y₀ w y =
@@ -29,19 +24,6 @@ Inv-loop rows p mode n src x w₀ at y₀ w y =
 abbrev μ-loop : tie.MeasureT-loop
 μ-loop rows p mode n src x w₀ at y₀ w y = n - y
 
--- src/grid.rt:155:30
-mul-at : tie.Need-mul-at Inv-loop μ-loop
-mul-at c = search needs
-
--- src/grid.rt:155:14
-add-at : tie.Need-add-at Inv-loop μ-loop
-add-at c = search needs
-
--- src/grid.rt:156:9
-next-requires : tie.Need-next-requires Inv-loop μ-loop
-next-requires c κs = search needs
-
--- src/grid.rt:157:5
 loop-holds : tie.Need-loop-holds Inv-loop μ-loop
 loop-holds c =
     let pre = c .before .before .before .before .before .pre in
@@ -54,28 +36,10 @@ loop-holds c =
       row-walk _ _ shared (pre .0) next (λ m o. from-apart _ _ _ m (pre .2) o) (row-none _ _ _),
     )
 
--- src/grid.rt:158:13
 from-shared-requires : tie.Need-from-shared-requires Inv-loop μ-loop
 from-shared-requires c κs = let pre = c .before .before .before .before .before .before .before .pre in
     (search needs, pre .1, pre .2, c .before .loop .inv .3 (c .loop-test .taken))
 
--- src/grid.rt:159:9
-put-if-requires : tie.Need-put-if-requires Inv-loop μ-loop
-put-if-requires c κs = search needs
-
--- src/grid.rt:160:35
-add-next : tie.Need-add-next Inv-loop μ-loop
-add-next c = search needs
-
--- src/grid.rt:160:9
-next-requires-2 : tie.Need-next-requires-2 Inv-loop μ-loop
-next-requires-2 c κs = search needs
-
--- src/grid.rt:157:5
-loop-less : tie.Need-loop-less Inv-loop μ-loop
-loop-less c = search needs
-
--- src/grid.rt:157:5
 loop-again : tie.Need-loop-again Inv-loop μ-loop
 loop-again c =
     let pre = c .before .before .before .before .before .before .before .before .before .before .before .before .before .before .pre in
@@ -93,29 +57,11 @@ loop-again c =
       row-walk _ _ shared (pre .0) next (λ m o. from-apart _ _ _ m (pre .2) o) e,
     )
 
--- src/grid.rt:143:1
-same-length : tie.Need-same-length Inv-loop μ-loop
-same-length c = search needs
-
--- src/grid.rt:143:1
 returns : tie.Need-returns Inv-loop μ-loop
 returns c = let e : c .before .loop .y ≡ c .before .before .before .before .before .before .before .args .n = omega arith in rw e at (c .before .loop .inv .4)
 
 pub from-initial-spec : {M : Type 1} → statement M
 from-initial-spec =
     tie.close
-    (tie.spec
-    Inv-loop
-    μ-loop
-    mul-at
-    add-at
-    next-requires
-    loop-holds
-    from-shared-requires
-    put-if-requires
-    add-next
-    next-requires-2
-    loop-less
-    loop-again
-    same-length
-    returns)
+    (tie.spec Inv-loop μ-loop (λ c. search needs) (λ c. search needs) (λ c κs. search needs) loop-holds from-shared-requires
+    (λ c κs. search needs) (λ c. search needs) (λ c κs. search needs) (λ c. search needs) loop-again (λ c. search needs) returns)

@@ -6,42 +6,17 @@ use mathlib.Core.Path.{refl, ap}
 use borrow.Author.Needs.{needs}
 use Rattle.axioms.proofs.overwritten.first_overwrite.Statement.{statement}
 use Rattle.axioms.proofs.overwritten.first_overwrite.Tie as tie
-use Rattle.axioms.proofs.overwritten.first_overwrite.Reads as reads
-use Rattle.axioms.proofs.overwritten.first_overwrite.Lts as lts
-use Rattle.axioms.proofs.overwritten.over_nth.Reads as over-nth-reads
-use Rattle.axioms.proofs.overwritten.over_reader.Reads as over-reader-reads
-use Rattle.axioms.proofs.overwritten.over_writer.Reads as over-writer-reads
-use Rattle.rows.proofs.bytes.read_row.Reads as read-row-reads
 
--- src/overwritten.rt:130:9
-over-reader-requires : tie.Need-over-reader-requires
-over-reader-requires c κs = search needs
-
--- src/overwritten.rt:132:9
 returns : tie.Need-returns
 unfolding decode
 returns c = shown-none _ _ _ _ refl (c .before .over-reader .ensures) (c .if1 .taken)
 
--- src/overwritten.rt:134:9
-over-writer-requires : tie.Need-over-writer-requires
-over-writer-requires c κs = search needs
-
--- src/overwritten.rt:135:9
 over-nth-requires : tie.Need-over-nth-requires
 unfolding decode
 over-nth-requires c κs =
     let l = writer-below _ _ _ _ _ refl (c .before .before .over-reader .ensures) (c .over-writer .ensures) (c .before .if1 .left) in
     search needs
 
--- src/overwritten.rt:136:41
-cast-read-row : tie.Need-cast-read-row
-cast-read-row c = search needs
-
--- src/overwritten.rt:136:9
-read-row-requires : tie.Need-read-row-requires
-read-row-requires c κs = search needs
-
--- src/overwritten.rt:138:17
 cast-t12 : tie.Need-cast-t12
 unfolding decode
 cast-t12 c =
@@ -49,7 +24,6 @@ cast-t12 c =
     (c .before .before .before .if1 .left) in
     search needs
 
--- src/overwritten.rt:139:17
 cast-t13 : tie.Need-cast-t13
 unfolding decode
 cast-t13 c =
@@ -57,7 +31,6 @@ cast-t13 c =
     (c .before .before .before .if1 .left) in
     search needs
 
--- src/overwritten.rt:140:26
 cast-t14 : tie.Need-cast-t14
 unfolding decode
 cast-t14 c =
@@ -68,7 +41,6 @@ cast-t14 c =
     let l = d .0 in
     search needs
 
--- src/overwritten.rt:140:15
 add-t15 : tie.Need-add-t15
 unfolding decode
 add-t15 c =
@@ -79,7 +51,6 @@ add-t15 c =
     let l = d .1 _ (c .before .read-row .ensures) in
     search needs
 
--- src/overwritten.rt:126:1
 returns-2 : tie.Need-returns-2
 unfolding decode
 returns-2 c =
@@ -90,15 +61,5 @@ returns-2 c =
 pub first-overwrite-spec : {M : Type 1} → statement M
 first-overwrite-spec =
     tie.close
-    (tie.spec
-    over-reader-requires
-    returns
-    over-writer-requires
-    over-nth-requires
-    cast-read-row
-    read-row-requires
-    cast-t12
-    cast-t13
-    cast-t14
-    add-t15
-    returns-2)
+    (tie.spec (λ c κs. search needs) returns (λ c κs. search needs) over-nth-requires (λ c. search needs) (λ c κs. search needs) cast-t12
+    cast-t13 cast-t14 add-t15 returns-2)

@@ -9,9 +9,6 @@ use mathlib.Core.Path.{_≡_, refl, sym}
 use borrow.Author.Needs.{needs}
 use Rattle.axioms.proofs.overwritten.over_reader.Statement.{statement}
 use Rattle.axioms.proofs.overwritten.over_reader.Tie as tie
-use Rattle.axioms.proofs.overwritten.over_reader.Reads as reads
-use Rattle.axioms.proofs.overwritten.over_reader.Lts as lts
-use Rattle.axioms.proofs.overwritten.over_writer.Reads as over-writer-reads
 
 abbrev Inv-loop : tie.InvT-loop
 Inv-loop rows p mode n src w y₀ y = (y ≤ n) × (least y (isOverwritten (decode rows p mode n) (sourceIn src)) ≡ y)
@@ -19,29 +16,14 @@ Inv-loop rows p mode n src w y₀ y = (y ≤ n) × (least y (isOverwritten (deco
 abbrev μ-loop : tie.MeasureT-loop
 μ-loop rows p mode n src w y₀ y = n - y
 
--- src/overwritten.rt:111:5
 loop-holds : tie.Need-loop-holds Inv-loop μ-loop
 loop-holds c = (search needs, least-none _)
 
--- src/overwritten.rt:112:12
-over-writer-requires : tie.Need-over-writer-requires Inv-loop μ-loop
-over-writer-requires c κs = search needs
-
--- src/overwritten.rt:113:13
 returns : tie.Need-returns Inv-loop μ-loop
 unfolding overReader decode
 returns c = sym (least-found _ _ _ (c .before .before .before .loop .inv .1)
     (overwritten-is _ _ _ _ _ refl (c .before .over-writer .ensures) .0 (c .if1 .taken)) (c .before .before .loop-test .taken))
 
--- src/overwritten.rt:111:9
-add-y : tie.Need-add-y Inv-loop μ-loop
-add-y c = search needs
-
--- src/overwritten.rt:111:5
-loop-less : tie.Need-loop-less Inv-loop μ-loop
-loop-less c = search needs
-
--- src/overwritten.rt:111:5
 loop-again : tie.Need-loop-again Inv-loop μ-loop
 unfolding decode
 loop-again c = (
@@ -50,7 +32,6 @@ loop-again c = (
       (overwritten-is _ _ _ _ _ refl (c .before .over-writer .ensures) .1 (c .if1 .left)),
 )
 
--- src/overwritten.rt:107:1
 returns-2 : tie.Need-returns-2 Inv-loop μ-loop
 unfolding overReader decode
 returns-2 c = let e : c .before .loop .y ≡ c .before .before .before .before .before .args .n = omega arith in sym (rw e at (c .before .loop .inv .1))
@@ -58,13 +39,4 @@ returns-2 c = let e : c .before .loop .y ≡ c .before .before .before .before .
 pub over-reader-spec : {M : Type 1} → statement M
 over-reader-spec =
     tie.close
-    (tie.spec
-    Inv-loop
-    μ-loop
-    loop-holds
-    over-writer-requires
-    returns
-    add-y
-    loop-less
-    loop-again
-    returns-2)
+    (tie.spec Inv-loop μ-loop loop-holds (λ c κs. search needs) returns (λ c. search needs) (λ c. search needs) loop-again returns-2)

@@ -10,9 +10,6 @@ use Rattle.choice.specs.Choice.{chosen-is}
 use borrow.Author.Needs.{needs}
 use Rattle.choice.proofs.blanks.choose.Statement.{statement}
 use Rattle.choice.proofs.blanks.choose.Tie as tie
-use Rattle.choice.proofs.blanks.choose.Reads as reads
-use Rattle.choice.proofs.blanks.choose.Lts as lts
-use Rattle.choice.proofs.blanks.chosen_at.Reads as chosen-at-reads
 
 abbrev Inv-loop : tie.InvT-loop
 Inv-loop rows p mode n src w list₀ i₀ list i = (i ≤ n) × (length list ≡ SOURCES) × Listed (chosen (decode rows p mode n) (at src)) i list
@@ -20,39 +17,9 @@ Inv-loop rows p mode n src w list₀ i₀ list i = (i ≤ n) × (length list ≡
 abbrev μ-loop : tie.MeasureT-loop
 μ-loop rows p mode n src w list₀ i₀ list i = n - i
 
--- src/blanks.rt:115:5
 loop-holds : tie.Need-loop-holds Inv-loop μ-loop
 loop-holds c = (search needs, refl, listed-none _ _ refl)
 
--- src/blanks.rt:116:17
-mul-s : tie.Need-mul-s Inv-loop μ-loop
-mul-s c = search needs
-
--- src/blanks.rt:116:17
-shared-slice-read-s : tie.Need-shared-slice-read-s Inv-loop μ-loop
-shared-slice-read-s c = search needs
-
--- src/blanks.rt:117:13
-chosen-at-requires : tie.Need-chosen-at-requires Inv-loop μ-loop
-chosen-at-requires c κs = search needs
-
--- src/blanks.rt:118:9
-mul-list : tie.Need-mul-list Inv-loop μ-loop
-mul-list c = search needs
-
--- src/blanks.rt:118:9
-array-write-list : tie.Need-array-write-list Inv-loop μ-loop
-array-write-list c = search needs
-
--- src/blanks.rt:115:9
-add-i : tie.Need-add-i Inv-loop μ-loop
-add-i c = search needs
-
--- src/blanks.rt:115:5
-loop-less : tie.Need-loop-less Inv-loop μ-loop
-loop-less c = search needs
-
--- src/blanks.rt:115:5
 loop-again : tie.Need-loop-again Inv-loop μ-loop
 loop-again c =
     let start = c .before .before .before .before .before .before .before in
@@ -60,7 +27,6 @@ loop-again c =
     let e = chosen-is _ (at (start .args .src .now)) _ _ (c .chosen-at .ensures) in
     (search needs, simp length-set (inv .1), listed-more _ _ _ _ (omega arith) e (inv .2))
 
--- src/blanks.rt:110:1
 returns : tie.Need-returns Inv-loop μ-loop
 returns c =
     let e : c .before .loop .i ≡ c .before .before .before .before .before .args .n = omega arith in
@@ -69,16 +35,5 @@ returns c =
 pub choose-spec : {M : Type 1} → statement M
 choose-spec =
     tie.close
-    (tie.spec
-    Inv-loop
-    μ-loop
-    loop-holds
-    mul-s
-    shared-slice-read-s
-    chosen-at-requires
-    mul-list
-    array-write-list
-    add-i
-    loop-less
-    loop-again
-    returns)
+    (tie.spec Inv-loop μ-loop loop-holds (λ c. search needs) (λ c. search needs) (λ c κs. search needs) (λ c. search needs)
+    (λ c. search needs) (λ c. search needs) (λ c. search needs) loop-again returns)

@@ -9,9 +9,6 @@ use Rattle.choice.specs.Sources.{brokenIn, broken-some, broken-none}
 use borrow.Author.Needs.{needs}
 use Rattle.choice.proofs.sources.sources_fit.Statement.{statement}
 use Rattle.choice.proofs.sources.sources_fit.Tie as tie
-use Rattle.choice.proofs.sources.sources_fit.Reads as reads
-use Rattle.choice.proofs.sources.sources_fit.Lts as lts
-use Rattle.choice.proofs.sources.is_broken.Reads as is-broken-reads
 
 abbrev Inv-loop : tie.InvT-loop
 Inv-loop rows n src i₀ i = (i ≤ n) × (anyBelow i (brokenIn (decode rows [] OFF n) src) ≡ false)
@@ -19,23 +16,9 @@ Inv-loop rows n src i₀ i = (i ≤ n) × (anyBelow i (brokenIn (decode rows [] 
 abbrev μ-loop : tie.MeasureT-loop
 μ-loop rows n src i₀ i = n - i
 
--- src/sources.rt:42:5
 loop-holds : tie.Need-loop-holds Inv-loop μ-loop
 loop-holds c = (search needs, any-none _)
 
--- src/sources.rt:43:34
-mul-is-broken : tie.Need-mul-is-broken Inv-loop μ-loop
-mul-is-broken c = search needs
-
--- src/sources.rt:43:34
-shared-slice-read-is-broken : tie.Need-shared-slice-read-is-broken Inv-loop μ-loop
-shared-slice-read-is-broken c = search needs
-
--- src/sources.rt:43:12
-is-broken-requires : tie.Need-is-broken-requires Inv-loop μ-loop
-is-broken-requires c κs = search needs
-
--- src/sources.rt:44:13
 returns : tie.Need-returns Inv-loop μ-loop
 unfolding brokenIn
 returns c =
@@ -43,20 +26,10 @@ returns c =
     broken-some _ _ _ _ (start .args .src .now)
     (any-in _ _ _ (c .before .before .before .loop-test .taken) (sym (c .before .is-broken .ensures) ∙ c .if1 .taken))
 
--- src/sources.rt:42:9
-add-i : tie.Need-add-i Inv-loop μ-loop
-add-i c = search needs
-
--- src/sources.rt:42:5
-loop-less : tie.Need-loop-less Inv-loop μ-loop
-loop-less c = search needs
-
--- src/sources.rt:42:5
 loop-again : tie.Need-loop-again Inv-loop μ-loop
 unfolding brokenIn
 loop-again c = (search needs, any-more _ _ (c .before .before .before .before .loop .inv .1) (sym (c .before .is-broken .ensures) ∙ c .if1 .left))
 
--- src/sources.rt:38:1
 returns-2 : tie.Need-returns-2 Inv-loop μ-loop
 returns-2 c =
     let e : c .before .loop .i ≡ c .before .before .before .before .args .n = omega arith in
@@ -65,15 +38,5 @@ returns-2 c =
 pub sources-fit-spec : {M : Type 1} → statement M
 sources-fit-spec =
     tie.close
-    (tie.spec
-    Inv-loop
-    μ-loop
-    loop-holds
-    mul-is-broken
-    shared-slice-read-is-broken
-    is-broken-requires
-    returns
-    add-i
-    loop-less
-    loop-again
-    returns-2)
+    (tie.spec Inv-loop μ-loop loop-holds (λ c. search needs) (λ c. search needs) (λ c κs. search needs) returns (λ c. search needs)
+    (λ c. search needs) loop-again returns-2)

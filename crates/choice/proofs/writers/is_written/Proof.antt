@@ -8,9 +8,6 @@ use Rattle.model.specs.Fill.{writtenBy, written}
 use borrow.Author.Needs.{needs}
 use Rattle.choice.proofs.writers.is_written.Statement.{statement}
 use Rattle.choice.proofs.writers.is_written.Tie as tie
-use Rattle.choice.proofs.writers.is_written.Reads as reads
-use Rattle.choice.proofs.writers.is_written.Lts as lts
-use Rattle.choice.proofs.writers.written_by.Reads as written-by-reads
 
 abbrev Inv-loop : tie.InvT-loop
 Inv-loop rows p mode n y w z₀ z = (z ≤ n) × (anyBelow z (writtenBy (decode rows p mode n) y) ≡ false)
@@ -18,32 +15,16 @@ Inv-loop rows p mode n y w z₀ z = (z ≤ n) × (anyBelow z (writtenBy (decode 
 abbrev μ-loop : tie.MeasureT-loop
 μ-loop rows p mode n y w z₀ z = n - z
 
--- src/writers.rt:35:5
 loop-holds : tie.Need-loop-holds Inv-loop μ-loop
 loop-holds c = (search needs, any-none _)
 
--- src/writers.rt:36:12
-written-by-requires : tie.Need-written-by-requires Inv-loop μ-loop
-written-by-requires c κs = search needs
-
--- src/writers.rt:37:13
 returns : tie.Need-returns Inv-loop μ-loop
 unfolding written decode
 returns c = sym (any-in _ _ _ (c .before .before .loop-test .taken) (sym (c .before .written-by .ensures) ∙ c .if1 .taken))
 
--- src/writers.rt:35:9
-add-z : tie.Need-add-z Inv-loop μ-loop
-add-z c = search needs
-
--- src/writers.rt:35:5
-loop-less : tie.Need-loop-less Inv-loop μ-loop
-loop-less c = search needs
-
--- src/writers.rt:35:5
 loop-again : tie.Need-loop-again Inv-loop μ-loop
 loop-again c = (search needs, any-more _ _ (c .before .before .before .loop .inv .1) (sym (c .before .written-by .ensures) ∙ c .if1 .left))
 
--- src/writers.rt:31:1
 returns-2 : tie.Need-returns-2 Inv-loop μ-loop
 unfolding written decode
 returns-2 c =
@@ -53,13 +34,4 @@ returns-2 c =
 pub is-written-spec : {M : Type 1} → statement M
 is-written-spec =
     tie.close
-    (tie.spec
-    Inv-loop
-    μ-loop
-    loop-holds
-    written-by-requires
-    returns
-    add-z
-    loop-less
-    loop-again
-    returns-2)
+    (tie.spec Inv-loop μ-loop loop-holds (λ c κs. search needs) returns (λ c. search needs) (λ c. search needs) loop-again returns-2)

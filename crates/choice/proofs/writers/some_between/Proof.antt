@@ -8,9 +8,6 @@ use Rattle.model.specs.Fill.{between}
 use borrow.Author.Needs.{needs}
 use Rattle.choice.proofs.writers.some_between.Statement.{statement}
 use Rattle.choice.proofs.writers.some_between.Tie as tie
-use Rattle.choice.proofs.writers.some_between.Reads as reads
-use Rattle.choice.proofs.writers.some_between.Lts as lts
-use Rattle.choice.proofs.writers.between_at.Reads as between-at-reads
 
 abbrev Inv-loop : tie.InvT-loop
 Inv-loop rows p mode n y s w z₀ z = (z ≤ n) × (anyBelow z (between (decode rows p mode n) y s) ≡ false)
@@ -18,31 +15,15 @@ Inv-loop rows p mode n y s w z₀ z = (z ≤ n) × (anyBelow z (between (decode 
 abbrev μ-loop : tie.MeasureT-loop
 μ-loop rows p mode n y s w z₀ z = n - z
 
--- src/writers.rt:118:5
 loop-holds : tie.Need-loop-holds Inv-loop μ-loop
 loop-holds c = (search needs, any-none _)
 
--- src/writers.rt:119:12
-between-at-requires : tie.Need-between-at-requires Inv-loop μ-loop
-between-at-requires c κs = search needs
-
--- src/writers.rt:120:13
 returns : tie.Need-returns Inv-loop μ-loop
 returns c = sym (any-in _ _ _ (c .before .before .loop-test .taken) (sym (c .before .between-at .ensures) ∙ c .if1 .taken))
 
--- src/writers.rt:118:9
-add-z : tie.Need-add-z Inv-loop μ-loop
-add-z c = search needs
-
--- src/writers.rt:118:5
-loop-less : tie.Need-loop-less Inv-loop μ-loop
-loop-less c = search needs
-
--- src/writers.rt:118:5
 loop-again : tie.Need-loop-again Inv-loop μ-loop
 loop-again c = (search needs, any-more _ _ (c .before .before .before .loop .inv .1) (sym (c .before .between-at .ensures) ∙ c .if1 .left))
 
--- src/writers.rt:114:1
 returns-2 : tie.Need-returns-2 Inv-loop μ-loop
 returns-2 c =
     let e : c .before .loop .z ≡ c .before .before .before .before .args .n = omega arith in
@@ -51,13 +32,4 @@ returns-2 c =
 pub some-between-spec : {M : Type 1} → statement M
 some-between-spec =
     tie.close
-    (tie.spec
-    Inv-loop
-    μ-loop
-    loop-holds
-    between-at-requires
-    returns
-    add-z
-    loop-less
-    loop-again
-    returns-2)
+    (tie.spec Inv-loop μ-loop loop-holds (λ c κs. search needs) returns (λ c. search needs) (λ c. search needs) loop-again returns-2)

@@ -10,10 +10,6 @@ use Rattle.cycle.proofs.Turns.{Rounds, rounds-none, rounds-pass, rounds
 use borrow.Author.Needs.{needs}
 use Rattle.cycle.proofs.marks.close_marked.Statement.{statement}
 use Rattle.cycle.proofs.marks.close_marked.Tie as tie
-use Rattle.cycle.proofs.marks.close_marked.Reads as reads
-use Rattle.cycle.proofs.marks.close_marked.Lts as lts
-use Rattle.cycle.proofs.marks.join_marked.Reads as join-marked-reads
-use Rattle.sets.proofs.walk.next.Reads as next-reads
 
 abbrev Inv-loop : tie.InvT-loop
 Inv-loop w₀ n k₀ w k = (k ≤ n) × (length w ≡ length w₀) × (k < n → marked w₀ k ≡ true) × Rounds w₀ w n k
@@ -21,34 +17,12 @@ Inv-loop w₀ n k₀ w k = (k ≤ n) × (length w ≡ length w₀) × (k < n →
 abbrev μ-loop : tie.MeasureT-loop
 μ-loop w₀ n k₀ w k = n - k
 
--- src/marks.rt:61:9
-next-requires : tie.Need-next-requires Inv-loop μ-loop
-next-requires c κs = search needs
-
--- src/marks.rt:62:5
 loop-holds : tie.Need-loop-holds Inv-loop μ-loop
 loop-holds c =
     let pre = c .before .before .before .pre in
     let next = c .next .ensures in
     (next .high, refl, marks-stop (pre .0) (within-refl _ _ _) next, rounds-pass _ _ _ _ _ (pre .0) next (rounds-none _ _))
 
--- src/marks.rt:63:9
-join-marked-requires : tie.Need-join-marked-requires Inv-loop μ-loop
-join-marked-requires c κs = search needs
-
--- src/marks.rt:64:41
-add-next : tie.Need-add-next Inv-loop μ-loop
-add-next c = search needs
-
--- src/marks.rt:64:9
-next-requires-2 : tie.Need-next-requires-2 Inv-loop μ-loop
-next-requires-2 c κs = search needs
-
--- src/marks.rt:62:5
-loop-less : tie.Need-loop-less Inv-loop μ-loop
-loop-less c = search needs
-
--- src/marks.rt:62:5
 loop-again : tie.Need-loop-again Inv-loop μ-loop
 loop-again c =
     let pre = c .before .before .before .before .before .before .before .before .before .before .before .pre in
@@ -58,11 +32,6 @@ loop-again c =
     let next = c .next2 .ensures in
     (next .high, e .frame .len, marks-stop (pre .0) (e .frame) next, rounds-pass _ _ _ _ _ (pre .0) next e)
 
--- src/marks.rt:57:1
-same-length : tie.Need-same-length Inv-loop μ-loop
-same-length c = search needs
-
--- src/marks.rt:57:1
 returns : tie.Need-returns Inv-loop μ-loop
 returns c =
     let e : c .before .loop .k ≡ c .before .before .before .before .before .args .n = omega arith in
@@ -71,15 +40,5 @@ returns c =
 pub close-marked-spec : {M : Type 1} → statement M
 close-marked-spec =
     tie.close
-    (tie.spec
-    Inv-loop
-    μ-loop
-    next-requires
-    loop-holds
-    join-marked-requires
-    add-next
-    next-requires-2
-    loop-less
-    loop-again
-    same-length
-    returns)
+    (tie.spec Inv-loop μ-loop (λ c κs. search needs) loop-holds (λ c κs. search needs) (λ c. search needs) (λ c κs. search needs)
+    (λ c. search needs) loop-again (λ c. search needs) returns)

@@ -13,11 +13,6 @@ use Rattle.cycle.proofs.Turns.{Phase, phase-none, phase-pass, phase-ski
 use borrow.Author.Needs.{needs}
 use Rattle.cycle.proofs.marks.join_marked.Statement.{statement}
 use Rattle.cycle.proofs.marks.join_marked.Tie as tie
-use Rattle.cycle.proofs.marks.join_marked.Reads as reads
-use Rattle.cycle.proofs.marks.join_marked.Lts as lts
-use Rattle.area.proofs.grid.get.Reads as get-reads
-use Rattle.bits.proofs.join_row.Reads as join-row-reads
-use Rattle.sets.proofs.walk.next.Reads as next-reads
 
 abbrev Inv-loop : tie.InvT-loop
 Inv-loop w₀ n k from i₀ w i = (i ≤ n) × (length w ≡ length w₀) × (i < n → marked w₀ i ≡ true) × Phase w₀ w n k i
@@ -25,46 +20,12 @@ Inv-loop w₀ n k from i₀ w i = (i ≤ n) × (length w ≡ length w₀) × (i 
 abbrev μ-loop : tie.MeasureT-loop
 μ-loop w₀ n k from i₀ w i = n - i
 
--- src/marks.rt:45:31
-mul-from : tie.Need-mul-from Inv-loop μ-loop
-mul-from c = search needs
-
--- src/marks.rt:45:16
-add-from : tie.Need-add-from Inv-loop μ-loop
-add-from c = search needs
-
--- src/marks.rt:46:9
-next-requires : tie.Need-next-requires Inv-loop μ-loop
-next-requires c κs = search needs
-
--- src/marks.rt:47:5
 loop-holds : tie.Need-loop-holds Inv-loop μ-loop
 loop-holds c =
     let pre = c .before .before .before .pre in
     let next = c .next .ensures in
     (next .high, refl, marks-stop (pre .0) (within-refl _ _ _) next, phase-pass _ _ _ _ _ (pre .0) (pre .1) (phase-none _ _ _) _ next)
 
--- src/marks.rt:48:12
-get-requires : tie.Need-get-requires Inv-loop μ-loop
-get-requires c κs = search needs
-
--- src/marks.rt:49:46
-mul-join-row : tie.Need-mul-join-row Inv-loop μ-loop
-mul-join-row c = search needs
-
--- src/marks.rt:49:31
-add-join-row : tie.Need-add-join-row Inv-loop μ-loop
-add-join-row c = search needs
-
--- src/marks.rt:49:13
-join-row-requires : tie.Need-join-row-requires Inv-loop μ-loop
-join-row-requires c κs = search needs
-
--- src/marks.rt:51:41
-add-next : tie.Need-add-next Inv-loop μ-loop
-add-next c = search needs
-
--- src/marks.rt:51:9
 next-requires-2 : tie.Need-next-requires-2 Inv-loop μ-loop
 next-requires-2 c κs =
     let len : length (c .before .if1 .w) ≡ length (c .before .before .before .before .before .loop .w) =
@@ -72,11 +33,6 @@ next-requires-2 c κs =
     in
     search needs
 
--- src/marks.rt:47:5
-loop-less : tie.Need-loop-less Inv-loop μ-loop
-loop-less c = search needs
-
--- src/marks.rt:47:5
 loop-again : tie.Need-loop-again Inv-loop μ-loop
 unfolding rel
 loop-again c =
@@ -95,11 +51,6 @@ loop-again c =
     let next = c .next2 .ensures in
     (next .high, e .frame .len, marks-stop (pre .0) (e .frame) next, phase-pass _ _ _ _ _ (pre .0) (pre .1) e _ next)
 
--- src/marks.rt:41:1
-same-length : tie.Need-same-length Inv-loop μ-loop
-same-length c = search needs
-
--- src/marks.rt:41:1
 returns : tie.Need-returns Inv-loop μ-loop
 returns c =
     let e : c .before .loop .i ≡ c .before .before .before .before .before .args .n = omega arith in
@@ -108,20 +59,6 @@ returns c =
 pub join-marked-spec : {M : Type 1} → statement M
 join-marked-spec =
     tie.close
-    (tie.spec
-    Inv-loop
-    μ-loop
-    mul-from
-    add-from
-    next-requires
-    loop-holds
-    get-requires
-    mul-join-row
-    add-join-row
-    join-row-requires
-    add-next
-    next-requires-2
-    loop-less
-    loop-again
-    same-length
-    returns)
+    (tie.spec Inv-loop μ-loop (λ c. search needs) (λ c. search needs) (λ c κs. search needs) loop-holds (λ c κs. search needs)
+    (λ c. search needs) (λ c. search needs) (λ c κs. search needs) (λ c. search needs) next-requires-2 (λ c. search needs) loop-again
+    (λ c. search needs) returns)

@@ -6,48 +6,13 @@ use Rattle.filling.specs.Parts.{unfilled, all-filled}
 use borrow.Author.Needs.{needs}
 use Rattle.filling.proofs.settle.choose_sources.Statement.{statement}
 use Rattle.filling.proofs.settle.choose_sources.Tie as tie
-use Rattle.filling.proofs.settle.choose_sources.Reads as reads
-use Rattle.filling.proofs.settle.choose_sources.Lts as lts
-use Rattle.choice.proofs.blanks.choose.Reads as choose-reads
-use Rattle.filling.proofs.settle.is_filled.Reads as is-filled-reads
-use Rattle.filling.proofs.settle.write_sources.Reads as write-sources-reads
 
--- src/settle.rt:70:16
-choose-requires : tie.Need-choose-requires
-choose-requires c κs = search needs
-
--- src/settle.rt:71:9
-slice-aggregate-chosen : tie.Need-slice-aggregate-chosen
-slice-aggregate-chosen c = search needs
-
--- src/settle.rt:72:9
-is-filled-requires : tie.Need-is-filled-requires
-is-filled-requires c κs = search needs
-
--- src/settle.rt:73:9
-same-length : tie.Need-same-length
-same-length c = search needs
-
--- src/settle.rt:73:9
 returns : tie.Need-returns
 unfolding decode
 returns c =
     let told = c .before .before .before .is-filled .ensures in
     unfilled _ _ _ _ _ refl (c .before .before .before .before .before .before .choose .ensures) (told .0) _ _ _ (not-true _ (c .if1 .taken)) (told .1)
 
--- src/settle.rt:75:5
-write-sources-requires : tie.Need-write-sources-requires
-write-sources-requires c κs = search needs
-
--- src/settle.rt:57:1
-same-length-2 : tie.Need-same-length-2
-same-length-2 c = search needs
-
--- src/settle.rt:57:1
-same-length-3 : tie.Need-same-length-3
-same-length-3 c = search needs
-
--- src/settle.rt:57:1
 returns-2 : tie.Need-returns-2
 unfolding decode
 returns-2 c =
@@ -62,13 +27,5 @@ returns-2 c =
 pub choose-sources-spec : {M : Type 1} → statement M
 choose-sources-spec =
     tie.close
-    (tie.spec
-    choose-requires
-    slice-aggregate-chosen
-    is-filled-requires
-    same-length
-    returns
-    write-sources-requires
-    same-length-2
-    same-length-3
-    returns-2)
+    (tie.spec (λ c κs. search needs) (λ c. search needs) (λ c κs. search needs) (λ c. search needs) returns (λ c κs. search needs)
+    (λ c. search needs) (λ c. search needs) returns-2)

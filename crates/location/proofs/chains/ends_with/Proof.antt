@@ -8,36 +8,13 @@ use Rattle.location.specs.Chains.{ends-row}
 use borrow.Author.Needs.{needs}
 use Rattle.location.proofs.chains.ends_with.Statement.{statement}
 use Rattle.location.proofs.chains.ends_with.Tie as tie
-use Rattle.location.proofs.chains.ends_with.Reads as reads
-use Rattle.location.proofs.chains.ends_with.Lts as lts
-use Rattle.area.proofs.grid.get.Reads as get-reads
-use Rattle.location.proofs.chains.ends_at.Reads as ends-at-reads
-use Rattle.rows.proofs.bytes.read_row.Reads as read-row-reads
 
--- src/chains.rt:366:9
-get-requires : tie.Need-get-requires
-get-requires c κs = search needs
-
--- src/chains.rt:367:9
 returns : tie.Need-returns
 returns c =
     let s = c .before .before .before .before in
     let h = c .before .get .ensures ∙ holds-bit (reach-out _ _ _ _ _ (s .pre .6) (s .pre .9)) _ _ _ (omega arith) (s .pre .7) (s .pre .8) in
     sym (ends-row _ _ _ _ _ _ _ _ _ _ h ∙ and-false-left _ _ (not-true _ (c .if1 .taken)))
 
--- src/chains.rt:369:41
-cast-read-row : tie.Need-cast-read-row
-cast-read-row c = search needs
-
--- src/chains.rt:369:9
-read-row-requires : tie.Need-read-row-requires
-read-row-requires c κs = search needs
-
--- src/chains.rt:370:5
-ends-at-requires : tie.Need-ends-at-requires
-ends-at-requires c κs = search needs
-
--- src/chains.rt:348:1
 returns-2 : tie.Need-returns-2
 returns-2 c =
     let s = c .before .before .before .before .before .before in
@@ -47,4 +24,4 @@ returns-2 c =
 pub ends-with-spec : {M : Type 1} → statement M
 ends-with-spec =
     tie.close
-    (tie.spec get-requires returns cast-read-row read-row-requires ends-at-requires returns-2)
+    (tie.spec (λ c κs. search needs) returns (λ c. search needs) (λ c κs. search needs) (λ c κs. search needs) returns-2)

@@ -5,27 +5,13 @@ use Rattle.location.specs.Chains.{L3-off, L3-on}
 use borrow.Author.Needs.{needs}
 use Rattle.location.proofs.chains.l3.Statement.{statement}
 use Rattle.location.proofs.chains.l3.Tie as tie
-use Rattle.location.proofs.chains.l3.Reads as reads
-use Rattle.location.proofs.chains.l3.Lts as lts
-use Rattle.location.proofs.chains.some_carried.Reads as some-carried-reads
-use Rattle.rules.proofs.pairs.public_write.Reads as public-write-reads
 
--- src/chains.rt:253:9
-public-write-requires : tie.Need-public-write-requires
-public-write-requires c κs = search needs
-
--- src/chains.rt:254:9
 returns : tie.Need-returns
 unfolding decode
 returns c =
     let s = c .before .before .before .before in
     sym (L3-off _ _ _ _ _ _ (s .pre .4) (s .pre .5) (sym (c .before .public-write .ensures) ∙ not-true _ (c .if1 .taken)))
 
--- src/chains.rt:256:5
-some-carried-requires : tie.Need-some-carried-requires
-some-carried-requires c κs = search needs
-
--- src/chains.rt:238:1
 returns-2 : tie.Need-returns-2
 unfolding decode
 returns-2 c =
@@ -33,4 +19,4 @@ returns-2 c =
     L3-on _ _ _ _ _ _ _ (s .pre .4) (s .pre .5) (sym (c .before .before .public-write .ensures) ∙ not-false _ (c .before .if1 .left)) (c .some-carried .ensures)
 
 pub l3-spec : {M : Type 1} → statement M
-l3-spec = tie.close (tie.spec public-write-requires returns some-carried-requires returns-2)
+l3-spec = tie.close (tie.spec (λ c κs. search needs) returns (λ c κs. search needs) returns-2)

@@ -8,9 +8,6 @@ use Rattle.location.specs.Chains.{carriedBy, carried-low}
 use borrow.Author.Needs.{needs}
 use Rattle.location.proofs.chains.some_carried.Statement.{statement}
 use Rattle.location.proofs.chains.some_carried.Tie as tie
-use Rattle.location.proofs.chains.some_carried.Reads as reads
-use Rattle.location.proofs.chains.some_carried.Lts as lts
-use Rattle.location.proofs.chains.carried_in.Reads as carried-in-reads
 
 abbrev Inv-loop : tie.InvT-loop
 Inv-loop rows p mode n x y r q b w a₀ a = (a ≤ n) × (anyBelow a (carriedBy (decode rows p mode n) x y b) ≡ false)
@@ -18,31 +15,15 @@ Inv-loop rows p mode n x y r q b w a₀ a = (a ≤ n) × (anyBelow a (carriedBy 
 abbrev μ-loop : tie.MeasureT-loop
 μ-loop rows p mode n x y r q b w a₀ a = n - a
 
--- src/chains.rt:447:5
 loop-holds : tie.Need-loop-holds Inv-loop μ-loop
 loop-holds c = (search needs, carried-low _ _ _ _ _ _ _)
 
--- src/chains.rt:448:12
-carried-in-requires : tie.Need-carried-in-requires Inv-loop μ-loop
-carried-in-requires c κs = search needs
-
--- src/chains.rt:449:13
 returns : tie.Need-returns Inv-loop μ-loop
 returns c = sym (any-in _ _ _ (c .before .before .loop-test .taken) (sym (c .before .carried-in .ensures) ∙ c .if1 .taken))
 
--- src/chains.rt:447:9
-add-a : tie.Need-add-a Inv-loop μ-loop
-add-a c = search needs
-
--- src/chains.rt:447:5
-loop-less : tie.Need-loop-less Inv-loop μ-loop
-loop-less c = search needs
-
--- src/chains.rt:447:5
 loop-again : tie.Need-loop-again Inv-loop μ-loop
 loop-again c = (search needs, any-more _ _ (c .before .before .before .loop .inv .1) (sym (c .before .carried-in .ensures) ∙ c .if1 .left))
 
--- src/chains.rt:431:1
 returns-2 : tie.Need-returns-2 Inv-loop μ-loop
 returns-2 c =
     let e : c .before .loop .a ≡ c .before .before .before .before .args .n = omega arith in
@@ -51,13 +32,4 @@ returns-2 c =
 pub some-carried-spec : {M : Type 1} → statement M
 some-carried-spec =
     tie.close
-    (tie.spec
-    Inv-loop
-    μ-loop
-    loop-holds
-    carried-in-requires
-    returns
-    add-a
-    loop-less
-    loop-again
-    returns-2)
+    (tie.spec Inv-loop μ-loop loop-holds (λ c κs. search needs) returns (λ c. search needs) (λ c. search needs) loop-again returns-2)

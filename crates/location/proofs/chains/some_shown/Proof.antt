@@ -8,9 +8,6 @@ use Rattle.location.specs.Chains.{shownBy, shown-none}
 use borrow.Author.Needs.{needs}
 use Rattle.location.proofs.chains.some_shown.Statement.{statement}
 use Rattle.location.proofs.chains.some_shown.Tie as tie
-use Rattle.location.proofs.chains.some_shown.Reads as reads
-use Rattle.location.proofs.chains.some_shown.Lts as lts
-use Rattle.location.proofs.chains.shown_in.Reads as shown-in-reads
 
 abbrev Inv-loop : tie.InvT-loop
 Inv-loop rows p mode n x y r q b i s w v₀ v-end v = (v ≤ y + 1) × (anyBelow v (shownBy (decode rows p mode n) x y b i) ≡ false)
@@ -18,37 +15,20 @@ Inv-loop rows p mode n x y r q b i s w v₀ v-end v = (v ≤ y + 1) × (anyBelow
 abbrev μ-loop : tie.MeasureT-loop
 μ-loop rows p mode n x y r q b i s w v₀ v-end v = y + 1 - v
 
--- src/chains.rt:277:17
-add-v-end : tie.Need-add-v-end Inv-loop μ-loop
-add-v-end c = search needs
-
--- src/chains.rt:277:5
 loop-holds : tie.Need-loop-holds Inv-loop μ-loop
 loop-holds c = (search needs, any-none _)
 
--- src/chains.rt:278:12
 shown-in-requires : tie.Need-shown-in-requires Inv-loop μ-loop
 shown-in-requires c κs =
     let s = c .before .before .before .before in
     (s .pre .0, s .pre .1, s .pre .2, s .pre .3, s .pre .4, s .pre .5, s .pre .6, s .pre .7, omega (arith, s .pre .3, c .loop-test .taken), s .pre .8)
 
--- src/chains.rt:279:13
 returns : tie.Need-returns Inv-loop μ-loop
 returns c = sym (any-in _ _ _ (omega arith) (sym (c .before .shown-in .ensures) ∙ c .if1 .taken))
 
--- src/chains.rt:277:9
-add-v : tie.Need-add-v Inv-loop μ-loop
-add-v c = search needs
-
--- src/chains.rt:277:5
-loop-less : tie.Need-loop-less Inv-loop μ-loop
-loop-less c = search needs
-
--- src/chains.rt:277:5
 loop-again : tie.Need-loop-again Inv-loop μ-loop
 loop-again c = (search needs, any-more _ _ (c .before .before .before .loop .inv .1) (sym (c .before .shown-in .ensures) ∙ c .if1 .left))
 
--- src/chains.rt:259:1
 returns-2 : tie.Need-returns-2 Inv-loop μ-loop
 returns-2 c =
     let e : c .before .loop .v ≡ c .before .before .before .before .args .y + 1 = omega arith in
@@ -57,14 +37,5 @@ returns-2 c =
 pub some-shown-spec : {M : Type 1} → statement M
 some-shown-spec =
     tie.close
-    (tie.spec
-    Inv-loop
-    μ-loop
-    add-v-end
-    loop-holds
-    shown-in-requires
-    returns
-    add-v
-    loop-less
-    loop-again
+    (tie.spec Inv-loop μ-loop (λ c. search needs) loop-holds shown-in-requires returns (λ c. search needs) (λ c. search needs) loop-again
     returns-2)

@@ -8,27 +8,13 @@ use Rattle.location.specs.Chains.{starts-row}
 use borrow.Author.Needs.{needs}
 use Rattle.location.proofs.chains.starts_with.Statement.{statement}
 use Rattle.location.proofs.chains.starts_with.Tie as tie
-use Rattle.location.proofs.chains.starts_with.Reads as reads
-use Rattle.location.proofs.chains.starts_with.Lts as lts
-use Rattle.area.proofs.grid.get.Reads as get-reads
-use Rattle.location.proofs.chains.seen_at.Reads as seen-at-reads
 
--- src/chains.rt:168:9
-get-requires : tie.Need-get-requires
-get-requires c κs = search needs
-
--- src/chains.rt:169:9
 returns : tie.Need-returns
 returns c =
     let s = c .before .before .before .before in
     let h = c .before .get .ensures ∙ holds-bit (reach-in _ _ _ _ _ (s .pre .6) (s .pre .11)) _ _ _ (omega arith) (s .pre .9) (s .pre .8) in
     sym (starts-row _ _ _ _ _ _ _ _ _ _ h ∙ and-false-left _ _ (not-true _ (c .if1 .taken)))
 
--- src/chains.rt:171:5
-seen-at-requires : tie.Need-seen-at-requires
-seen-at-requires c κs = search needs
-
--- src/chains.rt:149:1
 returns-2 : tie.Need-returns-2
 returns-2 c =
     let s = c .before .before .before .before .before in
@@ -36,4 +22,4 @@ returns-2 c =
     c .seen-at .ensures ∙ sym (starts-row _ _ _ _ _ _ _ _ _ _ h ∙ and-on _ _ (not-false _ (c .before .if1 .left)))
 
 pub starts-with-spec : {M : Type 1} → statement M
-starts-with-spec = tie.close (tie.spec get-requires returns seen-at-requires returns-2)
+starts-with-spec = tie.close (tie.spec (λ c κs. search needs) returns (λ c κs. search needs) returns-2)

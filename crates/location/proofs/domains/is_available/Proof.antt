@@ -3,10 +3,7 @@ use Rattle.finite.specs.Logic.{_or_}
 use mathlib.Core.Path.{refl}
 use Rattle.location.proofs.domains.is_available.Statement.{statement}
 use Rattle.location.proofs.domains.is_available.Tie as tie
-use Rattle.location.proofs.domains.is_available.Reads as reads
-use Rattle.location.proofs.domains.is_available.Lts as lts
 
--- src/domains.rt:49:1
 returns : tie.Need-returns
 unfolding isAvailable _or_
 returns c = refl

@@ -7,9 +7,6 @@ use mathlib.Core.Path.{_≡_, sym, _∙_}
 use borrow.Author.Needs.{needs}
 use Rattle.location.proofs.domains.is_seen.Statement.{statement}
 use Rattle.location.proofs.domains.is_seen.Tie as tie
-use Rattle.location.proofs.domains.is_seen.Reads as reads
-use Rattle.location.proofs.domains.is_seen.Lts as lts
-use Rattle.location.proofs.domains.seen_at.Reads as seen-at-reads
 
 abbrev Inv-loop : tie.InvT-loop
 Inv-loop rows n kind m y w i₀ i = (i ≤ n) × (anyBelow i (seenBits rows w kind m y) ≡ false)
@@ -17,31 +14,15 @@ Inv-loop rows n kind m y w i₀ i = (i ≤ n) × (anyBelow i (seenBits rows w ki
 abbrev μ-loop : tie.MeasureT-loop
 μ-loop rows n kind m y w i₀ i = n - i
 
--- src/domains.rt:112:5
 loop-holds : tie.Need-loop-holds Inv-loop μ-loop
 loop-holds c = (search needs, any-none _)
 
--- src/domains.rt:113:12
-seen-at-requires : tie.Need-seen-at-requires Inv-loop μ-loop
-seen-at-requires c κs = search needs
-
--- src/domains.rt:114:13
 returns : tie.Need-returns Inv-loop μ-loop
 returns c = sym (any-in _ _ _ (c .before .before .loop-test .taken) (sym (c .before .seen-at .ensures) ∙ c .if1 .taken))
 
--- src/domains.rt:112:9
-add-i : tie.Need-add-i Inv-loop μ-loop
-add-i c = search needs
-
--- src/domains.rt:112:5
-loop-less : tie.Need-loop-less Inv-loop μ-loop
-loop-less c = search needs
-
--- src/domains.rt:112:5
 loop-again : tie.Need-loop-again Inv-loop μ-loop
 loop-again c = (search needs, any-more _ _ (c .before .before .before .loop .inv .1) (sym (c .before .seen-at .ensures) ∙ c .if1 .left))
 
--- src/domains.rt:108:1
 returns-2 : tie.Need-returns-2 Inv-loop μ-loop
 returns-2 c =
     let e : c .before .loop .i ≡ c .before .before .before .before .args .n = omega arith in
@@ -50,13 +31,4 @@ returns-2 c =
 pub is-seen-spec : {M : Type 1} → statement M
 is-seen-spec =
     tie.close
-    (tie.spec
-    Inv-loop
-    μ-loop
-    loop-holds
-    seen-at-requires
-    returns
-    add-i
-    loop-less
-    loop-again
-    returns-2)
+    (tie.spec Inv-loop μ-loop loop-holds (λ c κs. search needs) returns (λ c. search needs) (λ c. search needs) loop-again returns-2)

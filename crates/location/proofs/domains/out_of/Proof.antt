@@ -2,15 +2,11 @@ use Rattle.location.specs.Domains.{outOf}
 use borrow.Author.Tests.{eq-eqb, ne-eqb}
 use Rattle.location.proofs.domains.out_of.Statement.{statement}
 use Rattle.location.proofs.domains.out_of.Tie as tie
-use Rattle.location.proofs.domains.out_of.Reads as reads
-use Rattle.location.proofs.domains.out_of.Lts as lts
 
--- src/domains.rt:56:1
 returns : tie.Need-returns
 unfolding outOf
 returns c = simp (eq-eqb _ _ (c .if1 .taken))
 
--- src/domains.rt:56:1
 returns-2 : tie.Need-returns-2
 unfolding outOf
 returns-2 c = simp (ne-eqb _ _ (c .if1 .left))

@@ -3,23 +3,14 @@ use mathlib.Core.Path.{sym, _∙_}
 use borrow.Author.Needs.{needs}
 use Rattle.location.proofs.domains.visible_kind.Statement.{statement}
 use Rattle.location.proofs.domains.visible_kind.Tie as tie
-use Rattle.location.proofs.domains.visible_kind.Reads as reads
-use Rattle.location.proofs.domains.visible_kind.Lts as lts
-use Rattle.rows.proofs.scopes.is_host.Reads as is-host-reads
 
--- src/domains.rt:41:8
-is-host-requires : tie.Need-is-host-requires
-is-host-requires c κs = search needs
-
--- src/domains.rt:38:1
 returns : tie.Need-returns
 unfolding visibleOf
 returns c = simp (sym (c .before .is-host .ensures) ∙ c .if1 .taken)
 
--- src/domains.rt:38:1
 returns-2 : tie.Need-returns-2
 unfolding visibleOf
 returns-2 c = simp (sym (c .before .is-host .ensures) ∙ c .if1 .left)
 
 pub visible-kind-spec : {M : Type 1} → statement M
-visible-kind-spec = tie.close (tie.spec is-host-requires returns returns-2)
+visible-kind-spec = tie.close (tie.spec (λ c κs. search needs) returns returns-2)

@@ -12,11 +12,6 @@ use mathlib.Core.Path.{_≡_, refl, ap, _∙_}
 use borrow.Author.Needs.{needs}
 use Rattle.location.proofs.hosted.fill_hosted.Statement.{statement}
 use Rattle.location.proofs.hosted.fill_hosted.Tie as tie
-use Rattle.location.proofs.hosted.fill_hosted.Reads as reads
-use Rattle.location.proofs.hosted.fill_hosted.Lts as lts
-use Rattle.bits.proofs.clear.Reads as clear-reads
-use Rattle.area.proofs.grid.put_if.Reads as put-if-reads
-use Rattle.location.proofs.hosted.hosted_at.Reads as hosted-at-reads
 
 abbrev Inv-loop2 : tie.InvT-loop2
 Inv-loop2 rows p mode n w₀ x y₀ w y =
@@ -34,11 +29,6 @@ Inv-loop rows p mode n w₀ x₀ w x =
 abbrev μ-loop : tie.MeasureT-loop
 μ-loop rows p mode n w₀ x₀ w x = n - x
 
--- src/hosted.rt:96:5
-clear-requires : tie.Need-clear-requires Inv-loop2 μ-loop2 Inv-loop μ-loop
-clear-requires c κs = search needs
-
--- src/hosted.rt:97:5
 loop-holds : tie.Need-loop-holds Inv-loop2 μ-loop2 Inv-loop μ-loop
 loop-holds c = (
   search needs,
@@ -48,27 +38,9 @@ loop-holds c = (
   gridFill-none _ _ _ _ _,
 )
 
--- src/hosted.rt:98:9
 loop2-holds : tie.Need-loop2-holds Inv-loop2 μ-loop2 Inv-loop μ-loop
 loop2-holds c = (search needs, refl, c .before .loop .inv .2, rowFill-none _ _ _)
 
--- src/hosted.rt:99:17
-hosted-at-requires : tie.Need-hosted-at-requires Inv-loop2 μ-loop2 Inv-loop μ-loop
-hosted-at-requires c κs = search needs
-
--- src/hosted.rt:100:13
-put-if-requires : tie.Need-put-if-requires Inv-loop2 μ-loop2 Inv-loop μ-loop
-put-if-requires c κs = search needs
-
--- src/hosted.rt:98:13
-add-y : tie.Need-add-y Inv-loop2 μ-loop2 Inv-loop μ-loop
-add-y c = search needs
-
--- src/hosted.rt:98:9
-loop2-less : tie.Need-loop2-less Inv-loop2 μ-loop2 Inv-loop μ-loop
-loop2-less c = search needs
-
--- src/hosted.rt:98:9
 loop2-again : tie.Need-loop2-again Inv-loop2 μ-loop2 Inv-loop μ-loop
 loop2-again c =
     let put = c .before .before .put-if in
@@ -76,15 +48,6 @@ loop2-again c =
     let e = rowFill-put _ _ _ (put .last .0) _ _ _ _ (inv .3) (c .before .before .before .before .hosted-at .ensures) (omega arith) (put .ensures) in
     (search needs, ap length e ∙ length-rowFill _ _ _ _, sources-kept (within-put HOSTED HOSTED-END _ _ (omega arith) (omega arith) (put .ensures)) (inv .2), e)
 
--- src/hosted.rt:97:9
-add-x : tie.Need-add-x Inv-loop2 μ-loop2 Inv-loop μ-loop
-add-x c = search needs
-
--- src/hosted.rt:97:5
-loop-less : tie.Need-loop-less Inv-loop2 μ-loop2 Inv-loop μ-loop
-loop-less c = search needs
-
--- src/hosted.rt:97:5
 loop-again : tie.Need-loop-again Inv-loop2 μ-loop2 Inv-loop μ-loop
 loop-again c =
     let inv = c .before .loop2 .inv in
@@ -92,11 +55,6 @@ loop-again c =
     let e : c .before .loop2 .y ≡ c .before .before .before .before .before .before .before .before .before .before .args .n = omega arith in
     (search needs, inv .1 ∙ out .1, inv .2, gridFill-more _ _ _ _ _ _ _ _ (out .3) (rw e at (inv .3)))
 
--- src/hosted.rt:92:1
-same-length : tie.Need-same-length Inv-loop2 μ-loop2 Inv-loop μ-loop
-same-length c = search needs
-
--- src/hosted.rt:92:1
 returns : tie.Need-returns Inv-loop2 μ-loop2 Inv-loop μ-loop
 returns c =
     let e : c .before .loop .x ≡ c .before .before .before .before .before .before .before .before .args .n = omega arith in
@@ -106,21 +64,5 @@ returns c =
 pub fill-hosted-spec : {M : Type 1} → statement M
 fill-hosted-spec =
     tie.close
-    (tie.spec
-    Inv-loop2
-    μ-loop2
-    Inv-loop
-    μ-loop
-    clear-requires
-    loop-holds
-    loop2-holds
-    hosted-at-requires
-    put-if-requires
-    add-y
-    loop2-less
-    loop2-again
-    add-x
-    loop-less
-    loop-again
-    same-length
-    returns)
+    (tie.spec Inv-loop2 μ-loop2 Inv-loop μ-loop (λ c κs. search needs) loop-holds loop2-holds (λ c κs. search needs) (λ c κs. search needs)
+    (λ c. search needs) (λ c. search needs) loop2-again (λ c. search needs) (λ c. search needs) loop-again (λ c. search needs) returns)

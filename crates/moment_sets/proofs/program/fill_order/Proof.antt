@@ -11,11 +11,6 @@ use mathlib.Core.Path.{_≡_, refl}
 use borrow.Author.Needs.{needs}
 use Rattle.moment_sets.proofs.program.fill_order.Statement.{statement}
 use Rattle.moment_sets.proofs.program.fill_order.Tie as tie
-use Rattle.moment_sets.proofs.program.fill_order.Reads as reads
-use Rattle.moment_sets.proofs.program.fill_order.Lts as lts
-use Rattle.bits.proofs.clear.Reads as clear-reads
-use Rattle.bits.proofs.join_row.Reads as join-row-reads
-use Rattle.moment_sets.proofs.program.pass_row.Reads as pass-row-reads
 
 abbrev Inv-loop : tie.InvT-loop
 Inv-loop rows n w₀ j₀ w j =
@@ -25,11 +20,6 @@ Inv-loop rows n w₀ j₀ w j =
 abbrev μ-loop : tie.MeasureT-loop
 μ-loop rows n w₀ j₀ w j = n - j
 
--- src/program.rt:46:5
-clear-requires : tie.Need-clear-requires Inv-loop μ-loop
-clear-requires c κs = search needs
-
--- src/program.rt:47:5
 loop-holds : tie.Need-loop-holds Inv-loop μ-loop
 loop-holds c =
     let start = c .before .before .before .before .before .before in (
@@ -40,27 +30,6 @@ loop-holds c =
           (c .before .before .clear .ensures) p mode,
     )
 
--- src/program.rt:48:24
-sub-pass-row : tie.Need-sub-pass-row Inv-loop μ-loop
-sub-pass-row c = search needs
-
--- src/program.rt:48:24
-sub-pass-row-2 : tie.Need-sub-pass-row-2 Inv-loop μ-loop
-sub-pass-row-2 c = search needs
-
--- src/program.rt:48:9
-pass-row-requires : tie.Need-pass-row-requires Inv-loop μ-loop
-pass-row-requires c κs = search needs
-
--- src/program.rt:47:9
-add-j : tie.Need-add-j Inv-loop μ-loop
-add-j c = search needs
-
--- src/program.rt:47:5
-loop-less : tie.Need-loop-less Inv-loop μ-loop
-loop-less c = search needs
-
--- src/program.rt:47:5
 loop-again : tie.Need-loop-again Inv-loop μ-loop
 loop-again c =
     let at-loop = c .before .before .before .before .before in
@@ -74,19 +43,6 @@ loop-again c =
           (omega (arith, inv .1)) (search needs) refl made p mode (inv .3 p mode),
     )
 
--- src/program.rt:54:9
-sub-join-row : tie.Need-sub-join-row Inv-loop μ-loop
-sub-join-row c = search needs
-
--- src/program.rt:50:5
-join-row-requires : tie.Need-join-row-requires Inv-loop μ-loop
-join-row-requires c κs = search needs
-
--- src/program.rt:42:1
-same-length : tie.Need-same-length Inv-loop μ-loop
-same-length c = search needs
-
--- src/program.rt:42:1
 returns : tie.Need-returns Inv-loop μ-loop
 returns c =
     let at-join = c .before .before in
@@ -100,18 +56,5 @@ returns c =
 pub fill-order-spec : {M : Type 1} → statement M
 fill-order-spec =
     tie.close
-    (tie.spec
-    Inv-loop
-    μ-loop
-    clear-requires
-    loop-holds
-    sub-pass-row
-    sub-pass-row-2
-    pass-row-requires
-    add-j
-    loop-less
-    loop-again
-    sub-join-row
-    join-row-requires
-    same-length
-    returns)
+    (tie.spec Inv-loop μ-loop (λ c κs. search needs) loop-holds (λ c. search needs) (λ c. search needs) (λ c κs. search needs)
+    (λ c. search needs) (λ c. search needs) loop-again (λ c. search needs) (λ c κs. search needs) (λ c. search needs) returns)

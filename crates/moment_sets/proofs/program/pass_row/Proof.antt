@@ -6,69 +6,7 @@ use Rattle.moment_sets.specs.Program.{row-made}
 use borrow.Author.Needs.{needs}
 use Rattle.moment_sets.proofs.program.pass_row.Statement.{statement}
 use Rattle.moment_sets.proofs.program.pass_row.Tie as tie
-use Rattle.moment_sets.proofs.program.pass_row.Reads as reads
-use Rattle.moment_sets.proofs.program.pass_row.Lts as lts
-use Rattle.rules.proofs.moments.moment_of.Reads as moment-of-reads
-use Rattle.moment_sets.proofs.program.pass_moment.Reads as pass-moment-reads
-use Rattle.rows.proofs.bytes.read_row.Reads as read-row-reads
 
--- src/program.rt:34:41
-cast-read-row : tie.Need-cast-read-row
-cast-read-row c = search needs
-
--- src/program.rt:34:9
-read-row-requires : tie.Need-read-row-requires
-read-row-requires c κs = search needs
-
--- src/program.rt:35:29
-mul-pass-moment : tie.Need-mul-pass-moment
-mul-pass-moment c = search needs
-
--- src/program.rt:35:29
-add-pass-moment : tie.Need-add-pass-moment
-add-pass-moment c = search needs
-
--- src/program.rt:35:40
-moment-of-requires : tie.Need-moment-of-requires
-moment-of-requires c κs = search needs
-
--- src/program.rt:35:5
-pass-moment-requires : tie.Need-pass-moment-requires
-pass-moment-requires c κs = search needs
-
--- src/program.rt:36:29
-mul-pass-moment-2 : tie.Need-mul-pass-moment-2
-mul-pass-moment-2 c = search needs
-
--- src/program.rt:36:29
-add-pass-moment-2 : tie.Need-add-pass-moment-2
-add-pass-moment-2 c = search needs
-
--- src/program.rt:36:40
-moment-of-requires-2 : tie.Need-moment-of-requires-2
-moment-of-requires-2 c κs = search needs
-
--- src/program.rt:36:5
-pass-moment-requires-2 : tie.Need-pass-moment-requires-2
-pass-moment-requires-2 c κs = search needs
-
--- src/program.rt:37:29
-mul-pass-moment-3 : tie.Need-mul-pass-moment-3
-mul-pass-moment-3 c = search needs
-
--- src/program.rt:37:36
-moment-of-requires-3 : tie.Need-moment-of-requires-3
-moment-of-requires-3 c κs = search needs
-
--- src/program.rt:37:5
-pass-moment-requires-3 : tie.Need-pass-moment-requires-3
-pass-moment-requires-3 c κs = search needs
-
--- src/program.rt:30:1
-same-length : tie.Need-same-length
-same-length c = search needs
-
--- src/program.rt:30:1
 returns : tie.Need-returns
 returns c =
     let at-3 = c .before .before in
@@ -83,19 +21,6 @@ returns c =
 pub pass-row-spec : {M : Type 1} → statement M
 pass-row-spec =
     tie.close
-    (tie.spec
-    cast-read-row
-    read-row-requires
-    mul-pass-moment
-    add-pass-moment
-    moment-of-requires
-    pass-moment-requires
-    mul-pass-moment-2
-    add-pass-moment-2
-    moment-of-requires-2
-    pass-moment-requires-2
-    mul-pass-moment-3
-    moment-of-requires-3
-    pass-moment-requires-3
-    same-length
-    returns)
+    (tie.spec (λ c. search needs) (λ c κs. search needs) (λ c. search needs) (λ c. search needs) (λ c κs. search needs)
+    (λ c κs. search needs) (λ c. search needs) (λ c. search needs) (λ c κs. search needs) (λ c κs. search needs) (λ c. search needs)
+    (λ c κs. search needs) (λ c κs. search needs) (λ c. search needs) returns)

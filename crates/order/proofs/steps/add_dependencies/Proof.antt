@@ -8,9 +8,6 @@ use Rattle.order.specs.System.{systemTo, all-none, all-more}
 use borrow.Author.Needs.{needs}
 use Rattle.order.proofs.steps.add_dependencies.Statement.{statement}
 use Rattle.order.proofs.steps.add_dependencies.Tie as tie
-use Rattle.order.proofs.steps.add_dependencies.Reads as reads
-use Rattle.order.proofs.steps.add_dependencies.Lts as lts
-use Rattle.order.proofs.steps.put_dependency.Reads as put-dependency-reads
 
 abbrev Inv-loop : tie.InvT-loop
 Inv-loop mode n w₀ c₀ c-end w c = (c ≤ mode .dependencies) × (length w ≡ length w₀) × Added STEP STEP-END STEP MOMENTS (3 * n) (systemTo mode c) w₀ w
@@ -18,34 +15,15 @@ Inv-loop mode n w₀ c₀ c-end w c = (c ≤ mode .dependencies) × (length w �
 abbrev μ-loop : tie.MeasureT-loop
 μ-loop mode n w₀ c₀ c-end w c = mode .dependencies - c
 
--- src/steps.rt:154:5
 loop-holds : tie.Need-loop-holds Inv-loop μ-loop
 loop-holds c = (search needs, refl, all-none _ _ _)
 
--- src/steps.rt:155:9
-put-dependency-requires : tie.Need-put-dependency-requires Inv-loop μ-loop
-put-dependency-requires c κs = search needs
-
--- src/steps.rt:154:9
-add-c : tie.Need-add-c Inv-loop μ-loop
-add-c c = search needs
-
--- src/steps.rt:154:5
-loop-less : tie.Need-loop-less Inv-loop μ-loop
-loop-less c = search needs
-
--- src/steps.rt:154:5
 loop-again : tie.Need-loop-again Inv-loop μ-loop
 loop-again c =
     let inv = c .before .before .before .before .before .loop .inv in
     let made = all-more _ _ _ (inv .2) (c .before .before .put-dependency .ensures) in
     (search needs, made .frame .len, made)
 
--- src/steps.rt:150:1
-same-length : tie.Need-same-length Inv-loop μ-loop
-same-length c = search needs
-
--- src/steps.rt:150:1
 returns : tie.Need-returns Inv-loop μ-loop
 returns c =
     let e : c .before .loop .c ≡ c .before .before .before .args .mode .dependencies = omega arith in
@@ -54,13 +32,5 @@ returns c =
 pub add-dependencies-spec : {M : Type 1} → statement M
 add-dependencies-spec =
     tie.close
-    (tie.spec
-    Inv-loop
-    μ-loop
-    loop-holds
-    put-dependency-requires
-    add-c
-    loop-less
-    loop-again
-    same-length
+    (tie.spec Inv-loop μ-loop loop-holds (λ c κs. search needs) (λ c. search needs) (λ c. search needs) loop-again (λ c. search needs)
     returns)

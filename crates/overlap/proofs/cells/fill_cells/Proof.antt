@@ -7,10 +7,6 @@ use mathlib.Core.Path.{_≡_}
 use borrow.Author.Needs.{needs}
 use Rattle.overlap.proofs.cells.fill_cells.Statement.{statement}
 use Rattle.overlap.proofs.cells.fill_cells.Tie as tie
-use Rattle.overlap.proofs.cells.fill_cells.Reads as reads
-use Rattle.overlap.proofs.cells.fill_cells.Lts as lts
-use Rattle.bits.proofs.clear.Reads as clear-reads
-use Rattle.overlap.proofs.cells.put_row.Reads as put-row-reads
 
 abbrev Inv-loop : tie.InvT-loop
 Inv-loop rows n w₀ y₀ w y = (y ≤ n) × Celled rows y w × Within CELLS CELLS-END w₀ w
@@ -18,38 +14,15 @@ Inv-loop rows n w₀ y₀ w y = (y ≤ n) × Celled rows y w × Within CELLS CEL
 abbrev μ-loop : tie.MeasureT-loop
 μ-loop rows n w₀ y₀ w y = n - y
 
--- src/cells.rt:59:5
-clear-requires : tie.Need-clear-requires Inv-loop μ-loop
-clear-requires c κs = search needs
-
--- src/cells.rt:60:5
 loop-holds : tie.Need-loop-holds Inv-loop μ-loop
 loop-holds c = (search needs, λ y d l. absurd (omega arith), within-refl _ _ _)
 
--- src/cells.rt:61:9
-put-row-requires : tie.Need-put-row-requires Inv-loop μ-loop
-put-row-requires c κs = search needs
-
--- src/cells.rt:60:9
-add-y : tie.Need-add-y Inv-loop μ-loop
-add-y c = search needs
-
--- src/cells.rt:60:5
-loop-less : tie.Need-loop-less Inv-loop μ-loop
-loop-less c = search needs
-
--- src/cells.rt:60:5
 loop-again : tie.Need-loop-again Inv-loop μ-loop
 loop-again c =
     let inv = c .before .before .before .before .before .loop .inv in
     let row = c .before .before .put-row .ensures in
     (search needs, celled-more _ _ (inv .1) row, within-trans (inv .2) (row .frame))
 
--- src/cells.rt:55:1
-same-length : tie.Need-same-length Inv-loop μ-loop
-same-length c = search needs
-
--- src/cells.rt:55:1
 returns : tie.Need-returns Inv-loop μ-loop
 returns c =
     let e : c .before .loop .y ≡ c .before .before .before .before .before .before .before .before .args .n = omega arith in
@@ -59,14 +32,5 @@ returns c =
 pub fill-cells-spec : {M : Type 1} → statement M
 fill-cells-spec =
     tie.close
-    (tie.spec
-    Inv-loop
-    μ-loop
-    clear-requires
-    loop-holds
-    put-row-requires
-    add-y
-    loop-less
-    loop-again
-    same-length
-    returns)
+    (tie.spec Inv-loop μ-loop (λ c κs. search needs) loop-holds (λ c κs. search needs) (λ c. search needs) (λ c. search needs) loop-again
+    (λ c. search needs) returns)

@@ -9,11 +9,6 @@ use mathlib.Core.Path.{_≡_, refl, _∙_}
 use borrow.Author.Needs.{needs}
 use Rattle.quick_hosts.proofs.met.fill_met.Statement.{statement}
 use Rattle.quick_hosts.proofs.met.fill_met.Tie as tie
-use Rattle.quick_hosts.proofs.met.fill_met.Reads as reads
-use Rattle.quick_hosts.proofs.met.fill_met.Lts as lts
-use Rattle.bits.proofs.clear.Reads as clear-reads
-use Rattle.quick_hosts.proofs.met.fill_seen.Reads as fill-seen-reads
-use Rattle.quick_hosts.proofs.met.met_row.Reads as met-row-reads
 
 abbrev Inv-loop : tie.InvT-loop
 Inv-loop rows p mode n w₀ m₀ w m = (m ≤ n) × (length w ≡ length w₀) × Seeing (decode rows p mode n) n w × MetMore n (metBelow (decode rows p mode n) m) w₀ w
@@ -21,15 +16,6 @@ Inv-loop rows p mode n w₀ m₀ w m = (m ≤ n) × (length w ≡ length w₀) �
 abbrev μ-loop : tie.MeasureT-loop
 μ-loop rows p mode n w₀ m₀ w m = n - m
 
--- src/met.rt:150:5
-fill-seen-requires : tie.Need-fill-seen-requires Inv-loop μ-loop
-fill-seen-requires c κs = search needs
-
--- src/met.rt:151:5
-clear-requires : tie.Need-clear-requires Inv-loop μ-loop
-clear-requires c κs = search needs
-
--- src/met.rt:152:5
 loop-holds : tie.Need-loop-holds Inv-loop μ-loop
 loop-holds c = (
   search needs,
@@ -40,30 +26,12 @@ loop-holds c = (
   below-none _,
 )
 
--- src/met.rt:153:9
-met-row-requires : tie.Need-met-row-requires Inv-loop μ-loop
-met-row-requires c κs = search needs
-
--- src/met.rt:152:9
-add-m : tie.Need-add-m Inv-loop μ-loop
-add-m c = search needs
-
--- src/met.rt:152:5
-loop-less : tie.Need-loop-less Inv-loop μ-loop
-loop-less c = search needs
-
--- src/met.rt:152:5
 loop-again : tie.Need-loop-again Inv-loop μ-loop
 loop-again c =
     let more = c .before .before .met-row .ensures in
     let inv = c .before .before .before .before .before .loop .inv in
     (search needs, more .frame .len ∙ inv .1, seeing-kept (more .frame) (inv .2), below-more _ _ (inv .3) more)
 
--- src/met.rt:146:1
-same-length : tie.Need-same-length Inv-loop μ-loop
-same-length c = search needs
-
--- src/met.rt:146:1
 returns : tie.Need-returns Inv-loop μ-loop
 returns c =
     let s = c .before .before .before .before .before .before .before .before .before .before .before .before in
@@ -74,15 +42,5 @@ returns c =
 pub fill-met-spec : {M : Type 1} → statement M
 fill-met-spec =
     tie.close
-    (tie.spec
-    Inv-loop
-    μ-loop
-    fill-seen-requires
-    clear-requires
-    loop-holds
-    met-row-requires
-    add-m
-    loop-less
-    loop-again
-    same-length
-    returns)
+    (tie.spec Inv-loop μ-loop (λ c κs. search needs) (λ c κs. search needs) loop-holds (λ c κs. search needs) (λ c. search needs)
+    (λ c. search needs) loop-again (λ c. search needs) returns)

@@ -13,10 +13,6 @@ use mathlib.Core.Path.{_≡_, refl, ap, _∙_}
 use borrow.Author.Needs.{needs}
 use Rattle.quick_hosts.proofs.met.fill_seen.Statement.{statement}
 use Rattle.quick_hosts.proofs.met.fill_seen.Tie as tie
-use Rattle.quick_hosts.proofs.met.fill_seen.Reads as reads
-use Rattle.quick_hosts.proofs.met.fill_seen.Lts as lts
-use Rattle.bits.proofs.clear.Reads as clear-reads
-use Rattle.quick_hosts.proofs.met.seen_row.Reads as seen-row-reads
 
 abbrev Inv-loop : tie.InvT-loop
 Inv-loop rows p mode n w₀ i₀ w i =
@@ -26,11 +22,6 @@ Inv-loop rows p mode n w₀ i₀ w i =
 abbrev μ-loop : tie.MeasureT-loop
 μ-loop rows p mode n w₀ i₀ w i = n - i
 
--- src/met.rt:99:5
-clear-requires : tie.Need-clear-requires Inv-loop μ-loop
-clear-requires c κs = search needs
-
--- src/met.rt:100:5
 loop-holds : tie.Need-loop-holds Inv-loop μ-loop
 loop-holds c = (
   search needs,
@@ -41,19 +32,6 @@ loop-holds c = (
   gridFill-none _ _ _ _ _,
 )
 
--- src/met.rt:101:9
-seen-row-requires : tie.Need-seen-row-requires Inv-loop μ-loop
-seen-row-requires c κs = search needs
-
--- src/met.rt:100:9
-add-i : tie.Need-add-i Inv-loop μ-loop
-add-i c = search needs
-
--- src/met.rt:100:5
-loop-less : tie.Need-loop-less Inv-loop μ-loop
-loop-less c = search needs
-
--- src/met.rt:100:5
 loop-again : tie.Need-loop-again Inv-loop μ-loop
 loop-again c =
     let row = c .before .before .seen-row in
@@ -65,11 +43,6 @@ loop-again c =
       e,
     )
 
--- src/met.rt:95:1
-same-length : tie.Need-same-length Inv-loop μ-loop
-same-length c = search needs
-
--- src/met.rt:95:1
 returns : tie.Need-returns Inv-loop μ-loop
 returns c =
     let e : c .before .loop .i ≡ c .before .before .before .before .before .before .before .before .args .n = omega arith in
@@ -79,14 +52,5 @@ returns c =
 pub fill-seen-spec : {M : Type 1} → statement M
 fill-seen-spec =
     tie.close
-    (tie.spec
-    Inv-loop
-    μ-loop
-    clear-requires
-    loop-holds
-    seen-row-requires
-    add-i
-    loop-less
-    loop-again
-    same-length
-    returns)
+    (tie.spec Inv-loop μ-loop (λ c κs. search needs) loop-holds (λ c κs. search needs) (λ c. search needs) (λ c. search needs) loop-again
+    (λ c. search needs) returns)

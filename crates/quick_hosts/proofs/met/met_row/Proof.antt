@@ -11,11 +11,6 @@ use mathlib.Core.Path.{_≡_, refl, sym, _∙_}
 use borrow.Author.Needs.{needs}
 use Rattle.quick_hosts.proofs.met.met_row.Statement.{statement}
 use Rattle.quick_hosts.proofs.met.met_row.Tie as tie
-use Rattle.quick_hosts.proofs.met.met_row.Reads as reads
-use Rattle.quick_hosts.proofs.met.met_row.Lts as lts
-use Rattle.location.proofs.domains.operation_at.Reads as operation-at-reads
-use Rattle.quick_hosts.proofs.met.add_seen.Reads as add-seen-reads
-use Rattle.quick_hosts.proofs.met.once_row.Reads as once-row-reads
 
 abbrev Inv-loop : tie.InvT-loop
 Inv-loop rows p mode n m w₀ i₀ w i =
@@ -24,20 +19,10 @@ Inv-loop rows p mode n m w₀ i₀ w i =
 abbrev μ-loop : tie.MeasureT-loop
 μ-loop rows p mode n m w₀ i₀ w i = n - i
 
--- src/met.rt:111:9
-operation-at-requires : tie.Need-operation-at-requires Inv-loop μ-loop
-operation-at-requires c κs = search needs
-
--- src/met.rt:112:9
 returns : tie.Need-returns Inv-loop μ-loop
 unfolding operationAt decode
 returns c = met-none _ _ (sym (c .before .operation-at .ensures) ∙ not-true _ (c .if1 .taken))
 
--- src/met.rt:114:5
-once-row-requires : tie.Need-once-row-requires Inv-loop μ-loop
-once-row-requires c κs = search needs
-
--- src/met.rt:115:5
 loop-holds : tie.Need-loop-holds Inv-loop μ-loop
 loop-holds c = let s = c .before .before .before .before .before .before .before .before in (
   search needs,
@@ -47,30 +32,12 @@ loop-holds c = let s = c .before .before .before .before .before .before .before
   upto-none _ _,
 )
 
--- src/met.rt:116:9
-add-seen-requires : tie.Need-add-seen-requires Inv-loop μ-loop
-add-seen-requires c κs = search needs
-
--- src/met.rt:115:9
-add-i : tie.Need-add-i Inv-loop μ-loop
-add-i c = search needs
-
--- src/met.rt:115:5
-loop-less : tie.Need-loop-less Inv-loop μ-loop
-loop-less c = search needs
-
--- src/met.rt:115:5
 loop-again : tie.Need-loop-again Inv-loop μ-loop
 loop-again c =
     let more = c .before .before .add-seen .ensures in
     let inv = c .before .before .before .before .before .loop .inv in
     (search needs, more .frame .len ∙ inv .1, seeing-kept (more .frame) (inv .2), upto-more _ _ _ (inv .3) more)
 
--- src/met.rt:107:1
-same-length : tie.Need-same-length Inv-loop μ-loop
-same-length c = search needs
-
--- src/met.rt:107:1
 returns-2 : tie.Need-returns-2 Inv-loop μ-loop
 unfolding operationAt decode
 returns-2 c =
@@ -84,16 +51,5 @@ returns-2 c =
 pub met-row-spec : {M : Type 1} → statement M
 met-row-spec =
     tie.close
-    (tie.spec
-    Inv-loop
-    μ-loop
-    operation-at-requires
-    returns
-    once-row-requires
-    loop-holds
-    add-seen-requires
-    add-i
-    loop-less
-    loop-again
-    same-length
-    returns-2)
+    (tie.spec Inv-loop μ-loop (λ c κs. search needs) returns (λ c κs. search needs) loop-holds (λ c κs. search needs) (λ c. search needs)
+    (λ c. search needs) loop-again (λ c. search needs) returns-2)

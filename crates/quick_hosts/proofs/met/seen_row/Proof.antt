@@ -13,11 +13,6 @@ use mathlib.Core.Path.{_≡_, refl, ap, _∙_}
 use borrow.Author.Needs.{needs}
 use Rattle.quick_hosts.proofs.met.seen_row.Statement.{statement}
 use Rattle.quick_hosts.proofs.met.seen_row.Tie as tie
-use Rattle.quick_hosts.proofs.met.seen_row.Reads as reads
-use Rattle.quick_hosts.proofs.met.seen_row.Lts as lts
-use Rattle.area.proofs.grid.put_if.Reads as put-if-reads
-use Rattle.quick_hosts.proofs.met.seen_from.Reads as seen-from-reads
-use Rattle.rows.proofs.bytes.read_kind.Reads as read-kind-reads
 
 abbrev Inv-loop : tie.InvT-loop
 Inv-loop rows p mode n i w₀ kind y₀ w y =
@@ -27,40 +22,13 @@ Inv-loop rows p mode n i w₀ kind y₀ w y =
 abbrev μ-loop : tie.MeasureT-loop
 μ-loop rows p mode n i w₀ kind y₀ w y = n - y
 
--- src/met.rt:84:39
-cast-read-kind : tie.Need-cast-read-kind Inv-loop μ-loop
-cast-read-kind c = search needs
-
--- src/met.rt:84:9
-read-kind-requires : tie.Need-read-kind-requires Inv-loop μ-loop
-read-kind-requires c κs = search needs
-
--- src/met.rt:86:9
 returns : tie.Need-returns Inv-loop μ-loop
 unfolding decode _or_
 returns c = unseen-row _ _ _ _ _ _ (c .before .read-kind .ensures) (not-true _ (c .if1 .taken))
 
--- src/met.rt:88:5
 loop-holds : tie.Need-loop-holds Inv-loop μ-loop
 loop-holds c = (search needs, refl, c .before .read-kind .ensures, c .before .before .before .before .pre .3, rowFill-none _ _ _)
 
--- src/met.rt:89:13
-seen-from-requires : tie.Need-seen-from-requires Inv-loop μ-loop
-seen-from-requires c κs = search needs
-
--- src/met.rt:90:9
-put-if-requires : tie.Need-put-if-requires Inv-loop μ-loop
-put-if-requires c κs = search needs
-
--- src/met.rt:88:9
-add-y : tie.Need-add-y Inv-loop μ-loop
-add-y c = search needs
-
--- src/met.rt:88:5
-loop-less : tie.Need-loop-less Inv-loop μ-loop
-loop-less c = search needs
-
--- src/met.rt:88:5
 loop-again : tie.Need-loop-again Inv-loop μ-loop
 loop-again c =
     let put = c .before .before .put-if in
@@ -73,28 +41,11 @@ loop-again c =
       e,
     )
 
--- src/met.rt:80:1
-same-length : tie.Need-same-length Inv-loop μ-loop
-same-length c = search needs
-
--- src/met.rt:80:1
 returns-2 : tie.Need-returns-2 Inv-loop μ-loop
 returns-2 c = let e : c .before .loop .y ≡ c .before .before .before .before .before .before .args .n = omega arith in rw e at (c .before .loop .inv .4)
 
 pub seen-row-spec : {M : Type 1} → statement M
 seen-row-spec =
     tie.close
-    (tie.spec
-    Inv-loop
-    μ-loop
-    cast-read-kind
-    read-kind-requires
-    returns
-    loop-holds
-    seen-from-requires
-    put-if-requires
-    add-y
-    loop-less
-    loop-again
-    same-length
-    returns-2)
+    (tie.spec Inv-loop μ-loop (λ c. search needs) (λ c κs. search needs) returns loop-holds (λ c κs. search needs) (λ c κs. search needs)
+    (λ c. search needs) (λ c. search needs) loop-again (λ c. search needs) returns-2)

@@ -10,11 +10,6 @@ use Rattle.quick_location.specs.Publics.{setAt, carried-pass}
 use borrow.Author.Needs.{needs}
 use Rattle.quick_location.proofs.elements.carried_bytes.Statement.{statement}
 use Rattle.quick_location.proofs.elements.carried_bytes.Tie as tie
-use Rattle.quick_location.proofs.elements.carried_bytes.Reads as reads
-use Rattle.quick_location.proofs.elements.carried_bytes.Lts as lts
-use Rattle.quick_location.proofs.elements.first_bytes.Reads as first-bytes-reads
-use Rattle.quick_location.proofs.elements.set_at.Reads as set-at-reads
-use Rattle.sets.proofs.walk.next.Reads as next-reads
 
 abbrev Inv-loop : tie.InvT-loop
 Inv-loop rows p mode n x y r q f both publics w at m₀ a₀ m a =
@@ -23,40 +18,17 @@ Inv-loop rows p mode n x y r q f both publics w at m₀ a₀ m a =
 abbrev μ-loop : tie.MeasureT-loop
 μ-loop rows p mode n x y r q f both publics w at m₀ a₀ m a = n - a
 
--- src/elements.rt:384:9
-set-at-requires : tie.Need-set-at-requires Inv-loop μ-loop
-set-at-requires c κs = search needs
-
--- src/elements.rt:387:5
 loop-holds : tie.Need-loop-holds Inv-loop μ-loop
 loop-holds c =
     let s = c .before .before .before .before in
     (search needs, c .set-at .ensures, mask-zero _ _ (λ k. carried-low _ _ _ _ _ _ k _ _ (s .pre .4) (s .pre .9) (s .pre .8)))
 
--- src/elements.rt:388:17
-first-bytes-requires : tie.Need-first-bytes-requires Inv-loop μ-loop
-first-bytes-requires c κs = search needs
-
--- src/elements.rt:390:13
 returns : tie.Need-returns Inv-loop μ-loop
 returns c =
     let s = c .before .before .before .before .before .before .before .before in
     let j = mask-joined _ _ (c .before .before .before .loop .inv .2) (c .before .first-bytes .ensures) refl in
     mask-full _ (s .pre .10) j (c .if1 .taken) (λ k l. any-wider _ _ _ (omega arith))
 
--- src/elements.rt:392:41
-add-next : tie.Need-add-next Inv-loop μ-loop
-add-next c = search needs
-
--- src/elements.rt:392:9
-next-requires : tie.Need-next-requires Inv-loop μ-loop
-next-requires c κs = search needs
-
--- src/elements.rt:387:5
-loop-less : tie.Need-loop-less Inv-loop μ-loop
-loop-less c = search needs
-
--- src/elements.rt:387:5
 loop-again : tie.Need-loop-again Inv-loop μ-loop
 loop-again c =
     let s = c .before .before .before .before .before .before .before .before .before in
@@ -65,7 +37,6 @@ loop-again c =
     let j = mask-joined _ _ (inv .2) (c .before .before .first-bytes .ensures) refl in
     (next .high, inv .1, carried-pass _ _ _ _ _ _ (s .pre .11) (s .pre .4) (inv .1) _ _ _ _ next j)
 
--- src/elements.rt:364:1
 returns-2 : tie.Need-returns-2 Inv-loop μ-loop
 returns-2 c =
     let s = c .before .before .before .before .before .before in
@@ -75,15 +46,5 @@ returns-2 c =
 pub carried-bytes-spec : {M : Type 1} → statement M
 carried-bytes-spec =
     tie.close
-    (tie.spec
-    Inv-loop
-    μ-loop
-    set-at-requires
-    loop-holds
-    first-bytes-requires
-    returns
-    add-next
-    next-requires
-    loop-less
-    loop-again
-    returns-2)
+    (tie.spec Inv-loop μ-loop (λ c κs. search needs) loop-holds (λ c κs. search needs) returns (λ c. search needs) (λ c κs. search needs)
+    (λ c. search needs) loop-again returns-2)

@@ -4,45 +4,7 @@ use mathlib.Core.Path.{sym}
 use borrow.Author.Needs.{needs}
 use Rattle.quick_location.proofs.elements.is_first.Statement.{statement}
 use Rattle.quick_location.proofs.elements.is_first.Tie as tie
-use Rattle.quick_location.proofs.elements.is_first.Reads as reads
-use Rattle.quick_location.proofs.elements.is_first.Lts as lts
-use Rattle.location.proofs.chains.available_part.Reads as available-part-reads
-use Rattle.rules.proofs.moments.availability_of.Reads as availability-of-reads
-use Rattle.rules.proofs.moments.is_ordered.Reads as is-ordered-reads
 
--- src/elements.rt:315:9
-available-part-requires : tie.Need-available-part-requires
-available-part-requires c κs = search needs
-
--- src/elements.rt:316:33
-cast-availability-of : tie.Need-cast-availability-of
-cast-availability-of c = search needs
-
--- src/elements.rt:316:5
-availability-of-requires : tie.Need-availability-of-requires
-availability-of-requires c κs = search needs
-
--- src/elements.rt:316:67
-mul-is-ordered : tie.Need-mul-is-ordered
-mul-is-ordered c = search needs
-
--- src/elements.rt:316:67
-add-is-ordered : tie.Need-add-is-ordered
-add-is-ordered c = search needs
-
--- src/elements.rt:316:78
-mul-is-ordered-2 : tie.Need-mul-is-ordered-2
-mul-is-ordered-2 c = search needs
-
--- src/elements.rt:316:78
-add-is-ordered-2 : tie.Need-add-is-ordered-2
-add-is-ordered-2 c = search needs
-
--- src/elements.rt:316:44
-is-ordered-requires : tie.Need-is-ordered-requires
-is-ordered-requires c κs = search needs
-
--- src/elements.rt:311:1
 returns : tie.Need-returns
 unfolding _and_
 returns c = λ p mode.
@@ -53,13 +15,5 @@ returns c = λ p mode.
 pub is-first-spec : {M : Type 1} → statement M
 is-first-spec =
     tie.close
-    (tie.spec
-    available-part-requires
-    cast-availability-of
-    availability-of-requires
-    mul-is-ordered
-    add-is-ordered
-    mul-is-ordered-2
-    add-is-ordered-2
-    is-ordered-requires
-    returns)
+    (tie.spec (λ c κs. search needs) (λ c. search needs) (λ c κs. search needs) (λ c. search needs) (λ c. search needs) (λ c. search needs)
+    (λ c. search needs) (λ c κs. search needs) returns)

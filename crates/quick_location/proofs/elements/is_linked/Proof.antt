@@ -6,32 +6,20 @@ use Rattle.quick_location.specs.Elements.{linkedFrom, linked}
 use borrow.Author.Needs.{needs}
 use Rattle.quick_location.proofs.elements.is_linked.Statement.{statement}
 use Rattle.quick_location.proofs.elements.is_linked.Tie as tie
-use Rattle.quick_location.proofs.elements.is_linked.Reads as reads
-use Rattle.quick_location.proofs.elements.is_linked.Lts as lts
-use Rattle.location.proofs.chains.starts_at.Reads as starts-at-reads
-use Rattle.quick_location.proofs.elements.some_linked.Reads as some-linked-reads
 
--- src/elements.rt:100:8
-starts-at-requires : tie.Need-starts-at-requires
-starts-at-requires c κs = search needs
-
--- src/elements.rt:101:9
 returns : tie.Need-returns
 unfolding linkedFrom linked decode
 returns c = or-on _ _ (sym (c .before .starts-at .ensures) ∙ c .if1 .taken)
 
--- src/elements.rt:104:9
 returns-2 : tie.Need-returns-2
 unfolding linkedFrom linked decode
 returns-2 c = or-neither _ _ _ (sym (c .before .before .before .starts-at .ensures) ∙ c .before .before .if1 .left) (not-true _ (c .if2 .taken))
 
--- src/elements.rt:106:5
 some-linked-requires : tie.Need-some-linked-requires
 some-linked-requires c κs =
     let s = c .before .before .before .before .before .before in
     (s .pre .0, s .pre .1, s .pre .2, s .pre .3, s .pre .4, s .pre .5, s .pre .6, s .pre .7, s .pre .8, not-false _ (c .if2 .left))
 
--- src/elements.rt:82:1
 returns-3 : tie.Need-returns-3
 unfolding linkedFrom linked decode
 returns-3 c = or-other _ _ _ _ (sym (c .before .before .before .before .starts-at .ensures) ∙ c .before .before .before .if1 .left)
@@ -39,4 +27,4 @@ returns-3 c = or-other _ _ _ _ (sym (c .before .before .before .before .starts-a
 
 pub is-linked-spec : {M : Type 1} → statement M
 is-linked-spec =
-    tie.close (tie.spec starts-at-requires returns returns-2 some-linked-requires returns-3)
+    tie.close (tie.spec (λ c κs. search needs) returns returns-2 some-linked-requires returns-3)

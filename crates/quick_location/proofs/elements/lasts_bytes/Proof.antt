@@ -9,11 +9,6 @@ use Rattle.quick_location.specs.Elements.{shownNth, shown-low, lasts-non
 use borrow.Author.Needs.{needs}
 use Rattle.quick_location.proofs.elements.lasts_bytes.Statement.{statement}
 use Rattle.quick_location.proofs.elements.lasts_bytes.Tie as tie
-use Rattle.quick_location.proofs.elements.lasts_bytes.Reads as reads
-use Rattle.quick_location.proofs.elements.lasts_bytes.Lts as lts
-use Rattle.location.proofs.chains.available_part.Reads as available-part-reads
-use Rattle.quick_location.proofs.elements.last_bytes.Reads as last-bytes-reads
-use Rattle.quick_location.proofs.elements.lasts_from.Reads as lasts-from-reads
 
 abbrev Inv-loop : tie.InvT-loop
 Inv-loop rows p mode n x y r q a s c w f m₀ v₀ v-end m v = (v ≤ y + 1) × Mask PAIR (λ k. anyBelow v (shownNth (decode rows p mode n) x y a k)) m
@@ -21,23 +16,6 @@ Inv-loop rows p mode n x y r q a s c w f m₀ v₀ v-end m v = (v ≤ y + 1) × 
 abbrev μ-loop : tie.MeasureT-loop
 μ-loop rows p mode n x y r q a s c w f m₀ v₀ v-end m v = y + 1 - v
 
--- src/elements.rt:263:30
-mul-lasts-from : tie.Need-mul-lasts-from Inv-loop μ-loop
-mul-lasts-from c = search needs
-
--- src/elements.rt:263:38
-available-part-requires : tie.Need-available-part-requires Inv-loop μ-loop
-available-part-requires c κs = search needs
-
--- src/elements.rt:263:30
-add-lasts-from : tie.Need-add-lasts-from Inv-loop μ-loop
-add-lasts-from c = search needs
-
--- src/elements.rt:263:9
-lasts-from-requires : tie.Need-lasts-from-requires Inv-loop μ-loop
-lasts-from-requires c κs = search needs
-
--- src/elements.rt:265:9
 returns : tie.Need-returns Inv-loop μ-loop
 returns c =
     let s = c .before .before .before .before .before in
@@ -45,11 +23,6 @@ returns c =
     lasts-none _ _ _ _ _ _ _ _ (s .pre .3) (λ k. shown-low _ _ _ _ _ _ _ k _ _ _ _ _ _ (s .pre .6 .ordered) (s .pre .7) (s .pre .5)
     (s .pre .8) (m .0) (m .1) (c .before .lasts-from .ensures) (omega arith) (omega (arith, s .pre .3)))
 
--- src/elements.rt:268:17
-add-v-end : tie.Need-add-v-end Inv-loop μ-loop
-add-v-end c = search needs
-
--- src/elements.rt:268:5
 loop-holds : tie.Need-loop-holds Inv-loop μ-loop
 loop-holds c =
     let s = c .before .before .before .before .before in
@@ -59,32 +32,20 @@ loop-holds c =
           (m .1) (c .before .lasts-from .ensures) (omega arith) (omega (arith, c .if1 .left, s .pre .3))),
     )
 
--- src/elements.rt:269:17
 last-bytes-requires : tie.Need-last-bytes-requires Inv-loop μ-loop
 last-bytes-requires c κs =
     let s = c .before .before .before .before .before .before .before in
     (s .pre .0, s .pre .1, s .pre .2, s .pre .3, s .pre .4, s .pre .5, s .pre .6, s .pre .7, omega (arith, s .pre .3, c .loop-test .taken), s .pre .8)
 
--- src/elements.rt:271:13
 returns-2 : tie.Need-returns-2 Inv-loop μ-loop
 returns-2 c =
     let s = c .before .before .before .before .before .before .before .before .before in
     let j = mask-joined _ _ (c .before .before .before .loop .inv .1) (c .before .last-bytes .ensures) refl in
     mask-full _ (s .pre .9) j (c .if2 .taken) (λ k l. any-wider _ _ _ (omega (arith, s .pre .3, c .before .before .loop-test .taken)))
 
--- src/elements.rt:268:9
-add-v : tie.Need-add-v Inv-loop μ-loop
-add-v c = search needs
-
--- src/elements.rt:268:5
-loop-less : tie.Need-loop-less Inv-loop μ-loop
-loop-less c = search needs
-
--- src/elements.rt:268:5
 loop-again : tie.Need-loop-again Inv-loop μ-loop
 loop-again c = (search needs, mask-joined _ _ (c .before .before .before .loop .inv .1) (c .before .last-bytes .ensures) refl)
 
--- src/elements.rt:244:1
 returns-3 : tie.Need-returns-3 Inv-loop μ-loop
 returns-3 c =
     let s = c .before .before .before .before .before .before .before in
@@ -94,19 +55,5 @@ returns-3 c =
 pub lasts-bytes-spec : {M : Type 1} → statement M
 lasts-bytes-spec =
     tie.close
-    (tie.spec
-    Inv-loop
-    μ-loop
-    mul-lasts-from
-    available-part-requires
-    add-lasts-from
-    lasts-from-requires
-    returns
-    add-v-end
-    loop-holds
-    last-bytes-requires
-    returns-2
-    add-v
-    loop-less
-    loop-again
-    returns-3)
+    (tie.spec Inv-loop μ-loop (λ c. search needs) (λ c κs. search needs) (λ c. search needs) (λ c κs. search needs) returns
+    (λ c. search needs) loop-holds last-bytes-requires returns-2 (λ c. search needs) (λ c. search needs) loop-again returns-3)

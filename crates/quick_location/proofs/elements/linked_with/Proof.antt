@@ -8,36 +8,13 @@ use Rattle.quick_location.specs.Elements.{linked-row}
 use borrow.Author.Needs.{needs}
 use Rattle.quick_location.proofs.elements.linked_with.Statement.{statement}
 use Rattle.quick_location.proofs.elements.linked_with.Tie as tie
-use Rattle.quick_location.proofs.elements.linked_with.Reads as reads
-use Rattle.quick_location.proofs.elements.linked_with.Lts as lts
-use Rattle.area.proofs.grid.get.Reads as get-reads
-use Rattle.location.proofs.chains.starts_at.Reads as starts-at-reads
-use Rattle.rows.proofs.bytes.read_row.Reads as read-row-reads
 
--- src/elements.rt:49:9
-get-requires : tie.Need-get-requires
-get-requires c κs = search needs
-
--- src/elements.rt:50:9
 returns : tie.Need-returns
 returns c =
     let s = c .before .before .before .before in
     let h = c .before .get .ensures ∙ holds-bit (reach-out _ _ _ _ _ (s .pre .6) (s .pre .10)) _ _ _ (omega arith) (s .pre .7) (s .pre .9) in
     sym (linked-row _ _ _ _ _ _ _ _ _ _ h ∙ and-false-left _ _ (not-true _ (c .if1 .taken)))
 
--- src/elements.rt:52:35
-cast-read-row : tie.Need-cast-read-row
-cast-read-row c = search needs
-
--- src/elements.rt:52:9
-read-row-requires : tie.Need-read-row-requires
-read-row-requires c κs = search needs
-
--- src/elements.rt:53:5
-starts-at-requires : tie.Need-starts-at-requires
-starts-at-requires c κs = search needs
-
--- src/elements.rt:31:1
 returns-2 : tie.Need-returns-2
 returns-2 c =
     let s = c .before .before .before .before .before .before in
@@ -47,4 +24,4 @@ returns-2 c =
 pub linked-with-spec : {M : Type 1} → statement M
 linked-with-spec =
     tie.close
-    (tie.spec get-requires returns cast-read-row read-row-requires starts-at-requires returns-2)
+    (tie.spec (λ c κs. search needs) returns (λ c. search needs) (λ c κs. search needs) (λ c κs. search needs) returns-2)

@@ -9,10 +9,6 @@ use Rattle.quick_location.specs.Reach.{met-low}
 use borrow.Author.Needs.{needs}
 use Rattle.quick_location.proofs.elements.some_met.Statement.{statement}
 use Rattle.quick_location.proofs.elements.some_met.Tie as tie
-use Rattle.quick_location.proofs.elements.some_met.Reads as reads
-use Rattle.quick_location.proofs.elements.some_met.Lts as lts
-use Rattle.quick_location.proofs.elements.met_with.Reads as met-with-reads
-use Rattle.sets.proofs.first_both.Reads as first-both-reads
 
 abbrev Inv-loop : tie.InvT-loop
 Inv-loop rows p mode n x y r q a w at f c₀ c = (c ≤ n) × (anyBelow c (metWith (decode rows p mode n) x y a) ≡ false)
@@ -20,51 +16,22 @@ Inv-loop rows p mode n x y r q a w at f c₀ c = (c ≤ n) × (anyBelow c (metWi
 abbrev μ-loop : tie.MeasureT-loop
 μ-loop rows p mode n x y r q a w at f c₀ c = n - c
 
--- src/elements.rt:155:32
-mul-at : tie.Need-mul-at Inv-loop μ-loop
-mul-at c = search needs
-
--- src/elements.rt:155:14
-add-at : tie.Need-add-at Inv-loop μ-loop
-add-at c = search needs
-
--- src/elements.rt:156:9
-first-both-requires : tie.Need-first-both-requires Inv-loop μ-loop
-first-both-requires c κs = search needs
-
--- src/elements.rt:158:9
 returns : tie.Need-returns Inv-loop μ-loop
 returns c =
     let s = c .before .before .before .before in
     sym (met-low _ _ _ _ _ _ _ _ _ _ (s .pre .6) (s .pre .8) (s .pre .7) (c .before .first-both .ensures) (c .if1 .taken) (omega arith))
 
--- src/elements.rt:160:5
 loop-holds : tie.Need-loop-holds Inv-loop μ-loop
 loop-holds c =
     let s = c .before .before .before .before in
     (search needs, met-low _ _ _ _ _ _ _ _ _ _ (s .pre .6) (s .pre .8) (s .pre .7) (c .before .first-both .ensures) (omega arith) (omega arith))
 
--- src/elements.rt:161:12
-met-with-requires : tie.Need-met-with-requires Inv-loop μ-loop
-met-with-requires c κs = search needs
-
--- src/elements.rt:162:13
 returns-2 : tie.Need-returns-2 Inv-loop μ-loop
 returns-2 c = sym (any-in _ _ _ (c .before .before .loop-test .taken) (sym (c .before .met-with .ensures) ∙ c .if2 .taken))
 
--- src/elements.rt:160:9
-add-c : tie.Need-add-c Inv-loop μ-loop
-add-c c = search needs
-
--- src/elements.rt:160:5
-loop-less : tie.Need-loop-less Inv-loop μ-loop
-loop-less c = search needs
-
--- src/elements.rt:160:5
 loop-again : tie.Need-loop-again Inv-loop μ-loop
 loop-again c = (search needs, any-more _ _ (c .before .before .before .loop .inv .1) (sym (c .before .met-with .ensures) ∙ c .if2 .left))
 
--- src/elements.rt:139:1
 returns-3 : tie.Need-returns-3 Inv-loop μ-loop
 returns-3 c =
     let e : c .before .loop .c ≡ c .before .before .before .before .before .before .args .n = omega arith in
@@ -73,17 +40,5 @@ returns-3 c =
 pub some-met-spec : {M : Type 1} → statement M
 some-met-spec =
     tie.close
-    (tie.spec
-    Inv-loop
-    μ-loop
-    mul-at
-    add-at
-    first-both-requires
-    returns
-    loop-holds
-    met-with-requires
-    returns-2
-    add-c
-    loop-less
-    loop-again
-    returns-3)
+    (tie.spec Inv-loop μ-loop (λ c. search needs) (λ c. search needs) (λ c κs. search needs) returns loop-holds (λ c κs. search needs)
+    returns-2 (λ c. search needs) (λ c. search needs) loop-again returns-3)

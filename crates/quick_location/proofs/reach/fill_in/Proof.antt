@@ -13,10 +13,6 @@ use Rattle.location.specs.Order.{within-row}
 use borrow.Author.Needs.{needs}
 use Rattle.quick_location.proofs.reach.fill_in.Statement.{statement}
 use Rattle.quick_location.proofs.reach.fill_in.Tie as tie
-use Rattle.quick_location.proofs.reach.fill_in.Reads as reads
-use Rattle.quick_location.proofs.reach.fill_in.Lts as lts
-use Rattle.bits.proofs.clear.Reads as clear-reads
-use Rattle.quick_location.proofs.reach.fill_to.Reads as fill-to-reads
 
 abbrev Inv-loop : tie.InvT-loop
 Inv-loop rows p mode n w₀ j₀ w j =
@@ -26,11 +22,6 @@ Inv-loop rows p mode n w₀ j₀ w j =
 abbrev μ-loop : tie.MeasureT-loop
 μ-loop rows p mode n w₀ j₀ w j = n - j
 
--- src/reach.rt:105:5
-clear-requires : tie.Need-clear-requires Inv-loop μ-loop
-clear-requires c κs = search needs
-
--- src/reach.rt:106:5
 loop-holds : tie.Need-loop-holds Inv-loop μ-loop
 loop-holds c = (
   search needs,
@@ -41,19 +32,6 @@ loop-holds c = (
   gridFill-none _ _ _ _ _,
 )
 
--- src/reach.rt:107:9
-fill-to-requires : tie.Need-fill-to-requires Inv-loop μ-loop
-fill-to-requires c κs = search needs
-
--- src/reach.rt:106:9
-add-j : tie.Need-add-j Inv-loop μ-loop
-add-j c = search needs
-
--- src/reach.rt:106:5
-loop-less : tie.Need-loop-less Inv-loop μ-loop
-loop-less c = search needs
-
--- src/reach.rt:106:5
 loop-again : tie.Need-loop-again Inv-loop μ-loop
 loop-again c =
     let row = c .before .before .fill-to in
@@ -65,11 +43,6 @@ loop-again c =
       e,
     )
 
--- src/reach.rt:101:1
-same-length : tie.Need-same-length Inv-loop μ-loop
-same-length c = search needs
-
--- src/reach.rt:101:1
 returns : tie.Need-returns Inv-loop μ-loop
 returns c =
     let e : c .before .loop .j ≡ c .before .before .before .before .before .before .before .before .args .n = omega arith in
@@ -79,14 +52,5 @@ returns c =
 pub fill-in-spec : {M : Type 1} → statement M
 fill-in-spec =
     tie.close
-    (tie.spec
-    Inv-loop
-    μ-loop
-    clear-requires
-    loop-holds
-    fill-to-requires
-    add-j
-    loop-less
-    loop-again
-    same-length
-    returns)
+    (tie.spec Inv-loop μ-loop (λ c κs. search needs) loop-holds (λ c κs. search needs) (λ c. search needs) (λ c. search needs) loop-again
+    (λ c. search needs) returns)

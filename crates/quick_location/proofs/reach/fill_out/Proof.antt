@@ -13,10 +13,6 @@ use Rattle.location.specs.Order.{within-row}
 use borrow.Author.Needs.{needs}
 use Rattle.quick_location.proofs.reach.fill_out.Statement.{statement}
 use Rattle.quick_location.proofs.reach.fill_out.Tie as tie
-use Rattle.quick_location.proofs.reach.fill_out.Reads as reads
-use Rattle.quick_location.proofs.reach.fill_out.Lts as lts
-use Rattle.bits.proofs.clear.Reads as clear-reads
-use Rattle.quick_location.proofs.reach.fill_from.Reads as fill-from-reads
 
 abbrev Inv-loop : tie.InvT-loop
 Inv-loop rows p mode n w₀ a₀ w a =
@@ -26,11 +22,6 @@ Inv-loop rows p mode n w₀ a₀ w a =
 abbrev μ-loop : tie.MeasureT-loop
 μ-loop rows p mode n w₀ a₀ w a = n - a
 
--- src/reach.rt:95:5
-clear-requires : tie.Need-clear-requires Inv-loop μ-loop
-clear-requires c κs = search needs
-
--- src/reach.rt:96:5
 loop-holds : tie.Need-loop-holds Inv-loop μ-loop
 loop-holds c = (
   search needs,
@@ -41,19 +32,6 @@ loop-holds c = (
   gridFill-none _ _ _ _ _,
 )
 
--- src/reach.rt:97:9
-fill-from-requires : tie.Need-fill-from-requires Inv-loop μ-loop
-fill-from-requires c κs = search needs
-
--- src/reach.rt:96:9
-add-a : tie.Need-add-a Inv-loop μ-loop
-add-a c = search needs
-
--- src/reach.rt:96:5
-loop-less : tie.Need-loop-less Inv-loop μ-loop
-loop-less c = search needs
-
--- src/reach.rt:96:5
 loop-again : tie.Need-loop-again Inv-loop μ-loop
 loop-again c =
     let row = c .before .before .fill-from in
@@ -65,11 +43,6 @@ loop-again c =
       e,
     )
 
--- src/reach.rt:91:1
-same-length : tie.Need-same-length Inv-loop μ-loop
-same-length c = search needs
-
--- src/reach.rt:91:1
 returns : tie.Need-returns Inv-loop μ-loop
 returns c =
     let e : c .before .loop .a ≡ c .before .before .before .before .before .before .before .before .args .n = omega arith in
@@ -79,14 +52,5 @@ returns c =
 pub fill-out-spec : {M : Type 1} → statement M
 fill-out-spec =
     tie.close
-    (tie.spec
-    Inv-loop
-    μ-loop
-    clear-requires
-    loop-holds
-    fill-from-requires
-    add-a
-    loop-less
-    loop-again
-    same-length
-    returns)
+    (tie.spec Inv-loop μ-loop (λ c κs. search needs) loop-holds (λ c κs. search needs) (λ c. search needs) (λ c. search needs) loop-again
+    (λ c. search needs) returns)

@@ -10,9 +10,6 @@ use Rattle.quick_order.specs.Hops.{HopsMade, hops-none, hops-frame, hops
 use borrow.Author.Needs.{needs}
 use Rattle.quick_order.proofs.hops.fill_hops.Statement.{statement}
 use Rattle.quick_order.proofs.hops.fill_hops.Tie as tie
-use Rattle.quick_order.proofs.hops.fill_hops.Reads as reads
-use Rattle.quick_order.proofs.hops.fill_hops.Lts as lts
-use Rattle.quick_order.proofs.hops.hop_at.Reads as hop-at-reads
 
 abbrev Inv-loop : tie.InvT-loop
 Inv-loop w₀ rows n dep x₀ w x =
@@ -21,23 +18,9 @@ Inv-loop w₀ rows n dep x₀ w x =
 abbrev μ-loop : tie.MeasureT-loop
 μ-loop w₀ rows n dep x₀ w x = n - x
 
--- src/hops.rt:65:5
 loop-holds : tie.Need-loop-holds Inv-loop μ-loop
 loop-holds c = (search needs, within-refl _ _ _, rest-none _ _, λ t s p. hops-none t _ s _ _ (p .few))
 
--- src/hops.rt:66:9
-hop-at-requires : tie.Need-hop-at-requires Inv-loop μ-loop
-hop-at-requires c κs = search needs
-
--- src/hops.rt:65:9
-add-x : tie.Need-add-x Inv-loop μ-loop
-add-x c = search needs
-
--- src/hops.rt:65:5
-loop-less : tie.Need-loop-less Inv-loop μ-loop
-loop-less c = search needs
-
--- src/hops.rt:65:5
 loop-again : tie.Need-loop-again Inv-loop μ-loop
 loop-again c =
     let at-call = c .before .before in
@@ -51,11 +34,6 @@ loop-again c =
       λ t s p. hops-more _ _ _ _ _ _ _ (search needs) below (inv .1) made t s p (inv .3 t s p),
     )
 
--- src/hops.rt:60:1
-same-length : tie.Need-same-length Inv-loop μ-loop
-same-length c = search needs
-
--- src/hops.rt:60:1
 returns : tie.Need-returns Inv-loop μ-loop
 returns c =
     let e : c .before .loop .x ≡ c .before .before .before .before .args .n = omega arith in
@@ -65,13 +43,5 @@ returns c =
 pub fill-hops-spec : {M : Type 1} → statement M
 fill-hops-spec =
     tie.close
-    (tie.spec
-    Inv-loop
-    μ-loop
-    loop-holds
-    hop-at-requires
-    add-x
-    loop-less
-    loop-again
-    same-length
+    (tie.spec Inv-loop μ-loop loop-holds (λ c κs. search needs) (λ c. search needs) (λ c. search needs) loop-again (λ c. search needs)
     returns)

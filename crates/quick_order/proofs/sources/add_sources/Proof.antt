@@ -10,9 +10,6 @@ use mathlib.Core.Path.{_≡_}
 use borrow.Author.Needs.{needs}
 use Rattle.quick_order.proofs.sources.add_sources.Statement.{statement}
 use Rattle.quick_order.proofs.sources.add_sources.Tie as tie
-use Rattle.quick_order.proofs.sources.add_sources.Reads as reads
-use Rattle.quick_order.proofs.sources.add_sources.Lts as lts
-use Rattle.quick_order.proofs.sources.add_row.Reads as add-row-reads
 
 abbrev Inv-loop : tie.InvT-loop
 Inv-loop w₀ n dep x₀ w x =
@@ -22,23 +19,9 @@ Inv-loop w₀ n dep x₀ w x =
 abbrev μ-loop : tie.MeasureT-loop
 μ-loop w₀ n dep x₀ w x = n - x
 
--- src/sources.rt:74:5
 loop-holds : tie.Need-loop-holds Inv-loop μ-loop
 loop-holds c = (search needs, within-refl _ _ _, λ bs t s p q. sources-none t s _ _)
 
--- src/sources.rt:75:9
-add-row-requires : tie.Need-add-row-requires Inv-loop μ-loop
-add-row-requires c κs = search needs
-
--- src/sources.rt:74:9
-add-x : tie.Need-add-x Inv-loop μ-loop
-add-x c = search needs
-
--- src/sources.rt:74:5
-loop-less : tie.Need-loop-less Inv-loop μ-loop
-loop-less c = search needs
-
--- src/sources.rt:74:5
 loop-again : tie.Need-loop-again Inv-loop μ-loop
 loop-again c =
     let at-call = c .before .before in
@@ -51,11 +34,6 @@ loop-again c =
       λ bs t s p q. sources-row bs t _ s _ _ _ _ _ p q (search needs) (inv .1) (inv .2 bs t s p q) made,
     )
 
--- src/sources.rt:68:1
-same-length : tie.Need-same-length Inv-loop μ-loop
-same-length c = search needs
-
--- src/sources.rt:68:1
 returns : tie.Need-returns Inv-loop μ-loop
 returns c =
     let e : c .before .loop .x ≡ c .before .before .before .args .n = omega arith in
@@ -65,13 +43,5 @@ returns c =
 pub add-sources-spec : {M : Type 1} → statement M
 add-sources-spec =
     tie.close
-    (tie.spec
-    Inv-loop
-    μ-loop
-    loop-holds
-    add-row-requires
-    add-x
-    loop-less
-    loop-again
-    same-length
+    (tie.spec Inv-loop μ-loop loop-holds (λ c κs. search needs) (λ c. search needs) (λ c. search needs) loop-again (λ c. search needs)
     returns)

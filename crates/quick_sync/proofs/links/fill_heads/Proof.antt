@@ -1,21 +1,16 @@
-use mathlib.Core.Path.{_≡_, refl, sym, ap, _∙_}
-use Prim.Native.Nat.{_+_, _-_, _*_, _≤_, _<_}
+use mathlib.Core.Path.{_≡_, refl, ap, _∙_}
+use Prim.Native.Nat.{_-_, _*_, _≤_}
 use native.Mathlib.Omega.{arith}
 use lib.ListN.{length}
 use Rattle.bits.specs.Fill.{gridFill, gridFill-none, gridFill-more, length-gridFill}
 use Rattle.bits.specs.Stage.{made-filled}
-use Rattle.bits.specs.Within.{within-cleared}
-use Rattle.model.specs.Table.{rowOf, decode}
+use Rattle.model.specs.Table.{decode}
 use Rattle.quick_sync.specs.Links.{released}
 use Rattle.area.specs.Regions.{GRID}
 use Rattle.quick_sync.specs.Regions.{HEADS, TAKES}
 use borrow.Author.Needs.{needs}
 use Rattle.quick_sync.proofs.links.fill_heads.Statement.{statement}
 use Rattle.quick_sync.proofs.links.fill_heads.Tie as tie
-use Rattle.quick_sync.proofs.links.fill_heads.Reads as reads
-use Rattle.quick_sync.proofs.links.fill_heads.Lts as lts
-use Rattle.bits.proofs.clear.Reads as clear-reads
-use Rattle.quick_sync.proofs.links.heads_row.Reads as heads-row-reads
 
 abbrev Inv-loop : tie.InvT-loop
 Inv-loop rows p mode n agents w₀ a₀ w a = (a ≤ n) × (length w ≡ length w₀) × (w ≡ gridFill (released (decode rows p mode n)) w₀ (HEADS * 64) (GRID * 64) n a)
@@ -23,27 +18,9 @@ Inv-loop rows p mode n agents w₀ a₀ w a = (a ≤ n) × (length w ≡ length 
 abbrev μ-loop : tie.MeasureT-loop
 μ-loop rows p mode n agents w₀ a₀ w a = n - a
 
--- src/links.rt:66:5
-clear-requires : tie.Need-clear-requires Inv-loop μ-loop
-clear-requires c κs = search needs
-
--- src/links.rt:67:5
 loop-holds : tie.Need-loop-holds Inv-loop μ-loop
 loop-holds c = (search needs, refl, gridFill-none _ _ _ _ _)
 
--- src/links.rt:68:9
-heads-row-requires : tie.Need-heads-row-requires Inv-loop μ-loop
-heads-row-requires c κs = search needs
-
--- src/links.rt:67:9
-add-a : tie.Need-add-a Inv-loop μ-loop
-add-a c = search needs
-
--- src/links.rt:67:5
-loop-less : tie.Need-loop-less Inv-loop μ-loop
-loop-less c = search needs
-
--- src/links.rt:67:5
 loop-again : tie.Need-loop-again Inv-loop μ-loop
 loop-again c =
     let row = c .before .before .heads-row in
@@ -51,11 +28,6 @@ loop-again c =
     let e = gridFill-more _ _ _ _ _ _ _ _ (inv .2) (row .ensures) in
     (search needs, ap length e ∙ length-gridFill _ _ _ _ _ _, e)
 
--- src/links.rt:62:1
-same-length : tie.Need-same-length Inv-loop μ-loop
-same-length c = search needs
-
--- src/links.rt:62:1
 returns : tie.Need-returns Inv-loop μ-loop
 returns c =
     let e : c .before .loop .a ≡ c .before .before .before .before .before .before .before .before .before .args .n = omega arith in
@@ -65,14 +37,5 @@ returns c =
 pub fill-heads-spec : {M : Type 1} → statement M
 fill-heads-spec =
     tie.close
-    (tie.spec
-    Inv-loop
-    μ-loop
-    clear-requires
-    loop-holds
-    heads-row-requires
-    add-a
-    loop-less
-    loop-again
-    same-length
-    returns)
+    (tie.spec Inv-loop μ-loop (λ c κs. search needs) loop-holds (λ c κs. search needs) (λ c. search needs) (λ c. search needs) loop-again
+    (λ c. search needs) returns)

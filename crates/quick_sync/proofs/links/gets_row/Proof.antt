@@ -18,15 +18,6 @@ use Prim.Native.Nat.{_<_}
 use borrow.Author.Needs.{needs}
 use Rattle.quick_sync.proofs.links.gets_row.Statement.{statement}
 use Rattle.quick_sync.proofs.links.gets_row.Tie as tie
-use Rattle.quick_sync.proofs.links.gets_row.Reads as reads
-use Rattle.quick_sync.proofs.links.gets_row.Lts as lts
-use Rattle.area.proofs.grid.put_if.Reads as put-if-reads
-use Rattle.quick_sync.proofs.filed.agent_file.Reads as agent-file-reads
-use Rattle.quick_sync.proofs.links.gets_of.Reads as gets-of-reads
-use Rattle.rows.proofs.bytes.read_row.Reads as read-row-reads
-use Rattle.quick_sync.proofs.mutual.atomic_at.Reads as atomic-at-reads
-use Rattle.quick_sync.proofs.mutual.reads_at.Reads as reads-at-reads
-use Rattle.sets.proofs.walk.next.Reads as next-reads
 
 abbrev Inv-loop : tie.InvT-loop
 Inv-loop rows p mode n y agents w₀ q at b₀ w b =
@@ -36,38 +27,10 @@ Inv-loop rows p mode n y agents w₀ q at b₀ w b =
 abbrev μ-loop : tie.MeasureT-loop
 μ-loop rows p mode n y agents w₀ q at b₀ w b = n - b
 
-atomic-at-requires : tie.Need-atomic-at-requires Inv-loop μ-loop
-atomic-at-requires c κs = search needs
-
-reads-at-requires : tie.Need-reads-at-requires Inv-loop μ-loop
-reads-at-requires c κs = search needs
-
--- src/links.rt:175:9
 returns : tie.Need-returns Inv-loop μ-loop
 unfolding _and_
 returns c = row-off _ _ _ _ (λ m l. gotten-none _ _ _ _ _ _ _ _ refl (c .before .before .atomic-at .ensures) (c .before .reads-at .ensures) (c .if1 .taken) m)
 
--- src/links.rt:173:35
-cast-read-row : tie.Need-cast-read-row Inv-loop μ-loop
-cast-read-row c = search needs
-
--- src/links.rt:173:9
-read-row-requires : tie.Need-read-row-requires Inv-loop μ-loop
-read-row-requires c κs = search needs
-
--- src/links.rt:177:14
-agent-file-requires : tie.Need-agent-file-requires Inv-loop μ-loop
-agent-file-requires c κs = search needs
-
--- src/links.rt:177:14
-mul-at : tie.Need-mul-at Inv-loop μ-loop
-mul-at c = search needs
-
--- src/links.rt:178:9
-next-requires : tie.Need-next-requires Inv-loop μ-loop
-next-requires c κs = search needs
-
--- src/links.rt:179:5
 loop-holds : tie.Need-loop-holds Inv-loop μ-loop
 loop-holds c =
     let pre = c .before .before .before .before .before .before .before .before .before .pre in
@@ -85,27 +48,6 @@ loop-holds c =
       fill-pass _ _ _ _ _ _ (next .low) (λ m l q. gotten-apart _ _ _ _ (pre .3) _ m _ _ row at (omega (arith, next .high)) (next .miss m l q)) start,
     )
 
--- src/links.rt:180:13
-gets-of-requires : tie.Need-gets-of-requires Inv-loop μ-loop
-gets-of-requires c κs = search needs
-
--- src/links.rt:181:9
-put-if-requires : tie.Need-put-if-requires Inv-loop μ-loop
-put-if-requires c κs = search needs
-
--- src/links.rt:182:40
-add-next : tie.Need-add-next Inv-loop μ-loop
-add-next c = search needs
-
--- src/links.rt:182:9
-next-requires-2 : tie.Need-next-requires-2 Inv-loop μ-loop
-next-requires-2 c κs = search needs
-
--- src/links.rt:179:5
-loop-less : tie.Need-loop-less Inv-loop μ-loop
-loop-less c = search needs
-
--- src/links.rt:179:5
 loop-again : tie.Need-loop-again Inv-loop μ-loop
 unfolding _and_
 loop-again c =
@@ -128,11 +70,6 @@ loop-again c =
       fill-pass _ _ _ _ _ _ (next .low) (λ m l q. gotten-apart _ _ _ _ (inv .3) _ m _ _ (inv .2) (inv .4) (omega (arith, next .high)) (next .miss m l q)) e,
     )
 
--- src/links.rt:161:1
-same-length : tie.Need-same-length Inv-loop μ-loop
-same-length c = search needs
-
--- src/links.rt:161:1
 returns-2 : tie.Need-returns-2 Inv-loop μ-loop
 returns-2 c = let e : c .before .loop .b ≡ c .before .before .before .before .before .before .before .before .before .before
     .before .args .n = omega arith in rw e at (c .before .loop .inv .6)
@@ -140,23 +77,6 @@ returns-2 c = let e : c .before .loop .b ≡ c .before .before .before .before .
 pub gets-row-spec : {M : Type 1} → statement M
 gets-row-spec =
     tie.close
-    (tie.spec
-    Inv-loop
-    μ-loop
-    atomic-at-requires
-    reads-at-requires
-    returns
-    cast-read-row
-    read-row-requires
-    agent-file-requires
-    mul-at
-    next-requires
-    loop-holds
-    gets-of-requires
-    put-if-requires
-    add-next
-    next-requires-2
-    loop-less
-    loop-again
-    same-length
-    returns-2)
+    (tie.spec Inv-loop μ-loop (λ c κs. search needs) (λ c κs. search needs) returns (λ c. search needs) (λ c κs. search needs)
+    (λ c κs. search needs) (λ c. search needs) (λ c κs. search needs) loop-holds (λ c κs. search needs) (λ c κs. search needs)
+    (λ c. search needs) (λ c κs. search needs) (λ c. search needs) loop-again (λ c. search needs) returns-2)

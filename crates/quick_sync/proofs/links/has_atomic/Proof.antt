@@ -8,9 +8,6 @@ use Rattle.quick_sync.specs.Rows.{atomicOf, atomic-is}
 use borrow.Author.Needs.{needs}
 use Rattle.quick_sync.proofs.links.has_atomic.Statement.{statement}
 use Rattle.quick_sync.proofs.links.has_atomic.Tie as tie
-use Rattle.quick_sync.proofs.links.has_atomic.Reads as reads
-use Rattle.quick_sync.proofs.links.has_atomic.Lts as lts
-use Rattle.rows.proofs.bytes.read_kind.Reads as read-kind-reads
 
 abbrev Inv-loop : tie.InvT-loop
 Inv-loop rows n y₀ y = (y ≤ n) × (anyBelow y (atomicOf rows) ≡ false)
@@ -18,51 +15,22 @@ Inv-loop rows n y₀ y = (y ≤ n) × (anyBelow y (atomicOf rows) ≡ false)
 abbrev μ-loop : tie.MeasureT-loop
 μ-loop rows n y₀ y = n - y
 
--- src/links.rt:179:5
 loop-holds : tie.Need-loop-holds Inv-loop μ-loop
 loop-holds c = (search needs, any-none _)
 
--- src/links.rt:180:40
-cast-read-kind : tie.Need-cast-read-kind Inv-loop μ-loop
-cast-read-kind c = search needs
-
--- src/links.rt:180:13
-read-kind-requires : tie.Need-read-kind-requires Inv-loop μ-loop
-read-kind-requires c κs = search needs
-
--- src/links.rt:182:13
 returns : tie.Need-returns Inv-loop μ-loop
 unfolding _and_
 returns c = sym (any-in _ _ _ (c .before .before .loop-test .taken) (atomic-is _ _ _ (c .before .read-kind .ensures) (c .if1 .taken)))
 
--- src/links.rt:179:9
-add-y : tie.Need-add-y Inv-loop μ-loop
-add-y c = search needs
-
--- src/links.rt:179:5
-loop-less : tie.Need-loop-less Inv-loop μ-loop
-loop-less c = search needs
-
--- src/links.rt:179:5
 loop-again : tie.Need-loop-again Inv-loop μ-loop
 unfolding _and_
 loop-again c = (search needs, any-more _ _ (c .before .before .before .loop .inv .1) (atomic-is _ _ _ (c .before .read-kind .ensures) (c .if1 .left)))
 
--- src/links.rt:175:1
 returns-2 : tie.Need-returns-2 Inv-loop μ-loop
 returns-2 c = let done : c .before .loop .y ≡ c .before .before .before .args .n = omega arith in sym (rw done at (c .before .loop .inv .1))
 
 pub has-atomic-spec : {M : Type 1} → statement M
 has-atomic-spec =
     tie.close
-    (tie.spec
-    Inv-loop
-    μ-loop
-    loop-holds
-    cast-read-kind
-    read-kind-requires
-    returns
-    add-y
-    loop-less
-    loop-again
-    returns-2)
+    (tie.spec Inv-loop μ-loop loop-holds (λ c. search needs) (λ c κs. search needs) returns (λ c. search needs) (λ c. search needs)
+    loop-again returns-2)

@@ -16,16 +16,6 @@ use Prim.Native.Nat.{_<_}
 use borrow.Author.Needs.{needs}
 use Rattle.quick_sync.proofs.links.heads_row.Statement.{statement}
 use Rattle.quick_sync.proofs.links.heads_row.Tie as tie
-use Rattle.quick_sync.proofs.links.heads_row.Reads as reads
-use Rattle.quick_sync.proofs.links.heads_row.Lts as lts
-use Rattle.area.proofs.grid.put_if.Reads as put-if-reads
-use Rattle.quick_sync.proofs.filed.agent_file.Reads as agent-file-reads
-use Rattle.quick_sync.proofs.links.heads_of.Reads as heads-of-reads
-use Rattle.rows.proofs.bytes.read_row.Reads as read-row-reads
-use Rattle.rows.proofs.kinds.is_atomic.Reads as is-atomic-reads
-use Rattle.rows.proofs.kinds.is_barrier.Reads as is-barrier-reads
-use Rattle.quick_sync.proofs.links.releases_at.Reads as releases-at-reads
-use Rattle.sets.proofs.walk.next.Reads as next-reads
 
 abbrev Inv-loop : tie.InvT-loop
 Inv-loop rows p mode n a agents w₀ r at x₀ w x =
@@ -35,38 +25,9 @@ Inv-loop rows p mode n a agents w₀ r at x₀ w x =
 abbrev μ-loop : tie.MeasureT-loop
 μ-loop rows p mode n a agents w₀ r at x₀ w x = n - x
 
-releases-at-requires : tie.Need-releases-at-requires Inv-loop μ-loop
-releases-at-requires c κs = search needs
-
--- src/links.rt:72:9
 returns : tie.Need-returns Inv-loop μ-loop
 returns c = row-off _ _ _ _ (λ m l. released-none _ _ _ _ _ _ _ refl (c .before .releases-at .ensures) (c .if1 .taken) m)
 
--- src/links.rt:70:35
-cast-read-row : tie.Need-cast-read-row Inv-loop μ-loop
-cast-read-row c = search needs
-
--- src/links.rt:70:9
-read-row-requires : tie.Need-read-row-requires Inv-loop μ-loop
-read-row-requires c κs = search needs
-
--- src/links.rt:74:9
-is-barrier-requires : tie.Need-is-barrier-requires Inv-loop μ-loop
-is-barrier-requires c κs = search needs
-
--- src/links.rt:75:13
-is-atomic-requires : tie.Need-is-atomic-requires Inv-loop μ-loop
-is-atomic-requires c κs = search needs
-
--- src/links.rt:76:9
-put-if-requires : tie.Need-put-if-requires Inv-loop μ-loop
-put-if-requires c κs = search needs
-
--- src/links.rt:77:9
-same-length : tie.Need-same-length Inv-loop μ-loop
-same-length c = search needs
-
--- src/links.rt:77:9
 returns-2 : tie.Need-returns-2 Inv-loop μ-loop
 returns-2 c =
     let put = c .before .before .put-if in
@@ -78,19 +39,6 @@ returns-2 c =
     (c .before .before .before .before .before .before .is-barrier .ensures) (c .before .before .before .before .before .if2 .taken)
     (c .before .before .before .before .is-atomic .ensures) m)
 
--- src/links.rt:79:14
-agent-file-requires : tie.Need-agent-file-requires Inv-loop μ-loop
-agent-file-requires c κs = search needs
-
--- src/links.rt:79:14
-mul-at : tie.Need-mul-at Inv-loop μ-loop
-mul-at c = search needs
-
--- src/links.rt:80:9
-next-requires : tie.Need-next-requires Inv-loop μ-loop
-next-requires c κs = search needs
-
--- src/links.rt:81:5
 loop-holds : tie.Need-loop-holds Inv-loop μ-loop
 loop-holds c =
     let pre = c .before .before .before .before .before .before .before .before .before .before .pre in
@@ -108,27 +56,6 @@ loop-holds c =
       fill-pass _ _ _ _ _ _ (next .low) (λ m l q. released-apart _ _ _ _ (pre .3) _ m _ _ row at (omega (arith, next .high)) (next .miss m l q)) start,
     )
 
--- src/links.rt:82:13
-heads-of-requires : tie.Need-heads-of-requires Inv-loop μ-loop
-heads-of-requires c κs = search needs
-
--- src/links.rt:83:9
-put-if-requires-2 : tie.Need-put-if-requires-2 Inv-loop μ-loop
-put-if-requires-2 c κs = search needs
-
--- src/links.rt:84:40
-add-next : tie.Need-add-next Inv-loop μ-loop
-add-next c = search needs
-
--- src/links.rt:84:9
-next-requires-2 : tie.Need-next-requires-2 Inv-loop μ-loop
-next-requires-2 c κs = search needs
-
--- src/links.rt:81:5
-loop-less : tie.Need-loop-less Inv-loop μ-loop
-loop-less c = search needs
-
--- src/links.rt:81:5
 loop-again : tie.Need-loop-again Inv-loop μ-loop
 loop-again c =
     let put = c .before .before .before .put-if2 in
@@ -149,11 +76,6 @@ loop-again c =
       fill-pass _ _ _ _ _ _ (next .low) (λ m l q. released-apart _ _ _ _ (inv .3) _ m _ _ (inv .2) (inv .4) (omega (arith, next .high)) (next .miss m l q)) e,
     )
 
--- src/links.rt:58:1
-same-length-2 : tie.Need-same-length-2 Inv-loop μ-loop
-same-length-2 c = search needs
-
--- src/links.rt:58:1
 returns-3 : tie.Need-returns-3 Inv-loop μ-loop
 returns-3 c = let e : c .before .loop .x ≡ c .before .before .before .before .before .before .before .before .before .before .before
     .before .args .n = omega arith in rw e at (c .before .loop .inv .6)
@@ -161,27 +83,7 @@ returns-3 c = let e : c .before .loop .x ≡ c .before .before .before .before .
 pub heads-row-spec : {M : Type 1} → statement M
 heads-row-spec =
     tie.close
-    (tie.spec
-    Inv-loop
-    μ-loop
-    releases-at-requires
-    returns
-    cast-read-row
-    read-row-requires
-    is-barrier-requires
-    is-atomic-requires
-    put-if-requires
-    same-length
-    returns-2
-    agent-file-requires
-    mul-at
-    next-requires
-    loop-holds
-    heads-of-requires
-    put-if-requires-2
-    add-next
-    next-requires-2
-    loop-less
-    loop-again
-    same-length-2
-    returns-3)
+    (tie.spec Inv-loop μ-loop (λ c κs. search needs) returns (λ c. search needs) (λ c κs. search needs) (λ c κs. search needs)
+    (λ c κs. search needs) (λ c κs. search needs) (λ c. search needs) returns-2 (λ c κs. search needs) (λ c. search needs)
+    (λ c κs. search needs) loop-holds (λ c κs. search needs) (λ c κs. search needs) (λ c. search needs) (λ c κs. search needs)
+    (λ c. search needs) loop-again (λ c. search needs) returns-3)

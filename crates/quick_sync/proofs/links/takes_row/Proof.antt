@@ -19,12 +19,6 @@ use Rattle.quick_sync.specs.Rows.{row-off, takes-none}
 use borrow.Author.Needs.{needs}
 use Rattle.quick_sync.proofs.links.takes_row.Statement.{statement}
 use Rattle.quick_sync.proofs.links.takes_row.Tie as tie
-use Rattle.quick_sync.proofs.links.takes_row.Reads as reads
-use Rattle.quick_sync.proofs.links.takes_row.Lts as lts
-use Rattle.area.proofs.grid.put_if.Reads as put-if-reads
-use Rattle.quick_sync.proofs.links.takes_of.Reads as takes-of-reads
-use Rattle.sets.proofs.walk.next.Reads as next-reads
-use Rattle.quick_sync.proofs.mutual.writes_at.Reads as writes-at-reads
 
 abbrev Inv-loop : tie.InvT-loop
 Inv-loop rows p mode n x w₀ at y₀ w y =
@@ -34,26 +28,9 @@ Inv-loop rows p mode n x w₀ at y₀ w y =
 abbrev μ-loop : tie.MeasureT-loop
 μ-loop rows p mode n x w₀ at y₀ w y = n - y
 
-writes-at-requires : tie.Need-writes-at-requires Inv-loop μ-loop
-writes-at-requires c κs = search needs
-
--- src/links.rt:111:9
 returns : tie.Need-returns Inv-loop μ-loop
 returns c = row-off _ _ _ _ (λ m l. takes-none _ _ _ _ _ _ _ refl (c .before .writes-at .ensures) (c .if1 .taken) m)
 
--- src/links.rt:113:29
-mul-at : tie.Need-mul-at Inv-loop μ-loop
-mul-at c = search needs
-
--- src/links.rt:113:14
-add-at : tie.Need-add-at Inv-loop μ-loop
-add-at c = search needs
-
--- src/links.rt:114:9
-next-requires : tie.Need-next-requires Inv-loop μ-loop
-next-requires c κs = search needs
-
--- src/links.rt:115:5
 loop-holds : tie.Need-loop-holds Inv-loop μ-loop
 loop-holds c =
     let pre = c .before .before .before .before .before .before .pre in
@@ -68,7 +45,6 @@ loop-holds c =
           (takes-apart _ _ _ _ _ _ (walked (pre .3 .mutuals) _ _ (pre .1) (omega (arith, next .high)) (next .miss m l q)))) (rowFill-none _ _ _),
     )
 
--- src/links.rt:116:13
 takes-of-requires : tie.Need-takes-of-requires Inv-loop μ-loop
 takes-of-requires c κs = (
   search needs,
@@ -80,23 +56,6 @@ takes-of-requires c κs = (
   c .before .before .loop .inv .2,
 )
 
--- src/links.rt:117:9
-put-if-requires : tie.Need-put-if-requires Inv-loop μ-loop
-put-if-requires c κs = search needs
-
--- src/links.rt:118:35
-add-next : tie.Need-add-next Inv-loop μ-loop
-add-next c = search needs
-
--- src/links.rt:118:9
-next-requires-2 : tie.Need-next-requires-2 Inv-loop μ-loop
-next-requires-2 c κs = search needs
-
--- src/links.rt:115:5
-loop-less : tie.Need-loop-less Inv-loop μ-loop
-loop-less c = search needs
-
--- src/links.rt:115:5
 loop-again : tie.Need-loop-again Inv-loop μ-loop
 loop-again c =
     let pre = c .before .before .before .before .before .before .before .before .before .before .before .before .before .before .before .before .pre in
@@ -115,11 +74,6 @@ loop-again c =
           (takes-apart _ _ _ _ _ _ (walked (k .mutuals) _ _ (pre .1) (omega (arith, next .high)) (next .miss m l q)))) e,
     )
 
--- src/links.rt:105:1
-same-length : tie.Need-same-length Inv-loop μ-loop
-same-length c = search needs
-
--- src/links.rt:105:1
 returns-2 : tie.Need-returns-2 Inv-loop μ-loop
 returns-2 c = let e : c .before .loop .y ≡ c .before .before .before .before .before .before .before .before .args .n = omega arith in
     rw e at (c .before .loop .inv .5)
@@ -127,20 +81,6 @@ returns-2 c = let e : c .before .loop .y ≡ c .before .before .before .before .
 pub takes-row-spec : {M : Type 1} → statement M
 takes-row-spec =
     tie.close
-    (tie.spec
-    Inv-loop
-    μ-loop
-    writes-at-requires
-    returns
-    mul-at
-    add-at
-    next-requires
-    loop-holds
-    takes-of-requires
-    put-if-requires
-    add-next
-    next-requires-2
-    loop-less
-    loop-again
-    same-length
+    (tie.spec Inv-loop μ-loop (λ c κs. search needs) returns (λ c. search needs) (λ c. search needs) (λ c κs. search needs) loop-holds
+    takes-of-requires (λ c κs. search needs) (λ c. search needs) (λ c κs. search needs) (λ c. search needs) loop-again (λ c. search needs)
     returns-2)

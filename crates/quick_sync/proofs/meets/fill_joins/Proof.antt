@@ -1,5 +1,5 @@
 use mathlib.Core.Path.{_≡_, refl, _∙_}
-use Prim.Native.Nat.{_-_, _≤_, _<_}
+use Prim.Native.Nat.{_-_, _≤_}
 use native.Mathlib.Omega.{arith}
 use lib.ListN.{length}
 use Rattle.bits.specs.Within.{Within, within-refl, within-trans, within-widen, within-cleared}
@@ -10,10 +10,6 @@ use Rattle.quick_sync.specs.Grids.{RowsOf, rows-of-none, rows-of-row, ro
 use borrow.Author.Needs.{needs}
 use Rattle.quick_sync.proofs.meets.fill_joins.Statement.{statement}
 use Rattle.quick_sync.proofs.meets.fill_joins.Tie as tie
-use Rattle.quick_sync.proofs.meets.fill_joins.Reads as reads
-use Rattle.quick_sync.proofs.meets.fill_joins.Lts as lts
-use Rattle.bits.proofs.clear.Reads as clear-reads
-use Rattle.quick_sync.proofs.meets.joins_row.Reads as joins-row-reads
 
 abbrev Inv-loop : tie.InvT-loop
 Inv-loop rows p n w₀ c₀ w c = (c ≤ n) × (length w ≡ length w₀) × RowsOf JOINS n c (joins (decode rows p OFF n)) w × Within JOINS MEETS w₀ w
@@ -21,27 +17,9 @@ Inv-loop rows p n w₀ c₀ w c = (c ≤ n) × (length w ≡ length w₀) × Row
 abbrev μ-loop : tie.MeasureT-loop
 μ-loop rows p n w₀ c₀ w c = n - c
 
--- src/meets.rt:179:5
-clear-requires : tie.Need-clear-requires Inv-loop μ-loop
-clear-requires c κs = search needs
-
--- src/meets.rt:180:5
 loop-holds : tie.Need-loop-holds Inv-loop μ-loop
 loop-holds c = (search needs, refl, rows-of-none _ JOINS _ (search needs) (omega arith) (c .before .before .clear .ensures), within-refl _ _ _)
 
--- src/meets.rt:181:9
-joins-row-requires : tie.Need-joins-row-requires Inv-loop μ-loop
-joins-row-requires c κs = search needs
-
--- src/meets.rt:180:9
-add-c : tie.Need-add-c Inv-loop μ-loop
-add-c c = search needs
-
--- src/meets.rt:180:5
-loop-less : tie.Need-loop-less Inv-loop μ-loop
-loop-less c = search needs
-
--- src/meets.rt:180:5
 loop-again : tie.Need-loop-again Inv-loop μ-loop
 loop-again c =
     let row = c .before .before .joins-row .ensures in
@@ -52,11 +30,6 @@ loop-again c =
       within-trans (inv .3) (within-widen JOINS MEETS (omega arith) (omega arith) (row .frame)),
     )
 
--- src/meets.rt:175:1
-same-length : tie.Need-same-length Inv-loop μ-loop
-same-length c = search needs
-
--- src/meets.rt:175:1
 returns : tie.Need-returns Inv-loop μ-loop
 returns c =
     let e : c .before .loop .c ≡ c .before .before .before .before .before .before .before .before .args .n = omega arith in
@@ -68,14 +41,5 @@ returns c =
 pub fill-joins-spec : {M : Type 1} → statement M
 fill-joins-spec =
     tie.close
-    (tie.spec
-    Inv-loop
-    μ-loop
-    clear-requires
-    loop-holds
-    joins-row-requires
-    add-c
-    loop-less
-    loop-again
-    same-length
-    returns)
+    (tie.spec Inv-loop μ-loop (λ c κs. search needs) loop-holds (λ c κs. search needs) (λ c. search needs) (λ c. search needs) loop-again
+    (λ c. search needs) returns)

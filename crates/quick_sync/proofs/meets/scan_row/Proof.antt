@@ -1,5 +1,5 @@
 use mathlib.Core.Path.{_≡_, refl, ap, _∙_}
-use Prim.Native.Nat.{_+_, _-_, _*_, _≤_, _<_}
+use Prim.Native.Nat.{_+_, _-_, _*_, _≤_}
 use native.Mathlib.Omega.{arith}
 use lib.ListN.{length}
 use Rattle.bits.specs.Fill.{rowFill, rowFill-none, rowFill-put, length-rowFill}
@@ -10,10 +10,6 @@ use Rattle.quick_sync.specs.Regions.{JOINS}
 use borrow.Author.Needs.{needs}
 use Rattle.quick_sync.proofs.meets.scan_row.Statement.{statement}
 use Rattle.quick_sync.proofs.meets.scan_row.Tie as tie
-use Rattle.quick_sync.proofs.meets.scan_row.Reads as reads
-use Rattle.quick_sync.proofs.meets.scan_row.Lts as lts
-use Rattle.area.proofs.grid.put_if.Reads as put-if-reads
-use Rattle.quick_sync.proofs.meets.joins_of.Reads as joins-of-reads
 
 abbrev Inv-loop : tie.InvT-loop
 Inv-loop rows p n c r w₀ d₀ w d = (d ≤ n) × (length w ≡ length w₀) × (w ≡ rowFill (joins (decode rows p OFF n) c) w₀ (JOINS * 64 + c * (GRID * 64)) d)
@@ -21,27 +17,9 @@ Inv-loop rows p n c r w₀ d₀ w d = (d ≤ n) × (length w ≡ length w₀) ×
 abbrev μ-loop : tie.MeasureT-loop
 μ-loop rows p n c r w₀ d₀ w d = n - d
 
--- src/meets.rt:116:5
 loop-holds : tie.Need-loop-holds Inv-loop μ-loop
 loop-holds c = (search needs, refl, rowFill-none _ _ _)
 
--- src/meets.rt:117:13
-joins-of-requires : tie.Need-joins-of-requires Inv-loop μ-loop
-joins-of-requires c κs = search needs
-
--- src/meets.rt:118:9
-put-if-requires : tie.Need-put-if-requires Inv-loop μ-loop
-put-if-requires c κs = search needs
-
--- src/meets.rt:116:9
-add-d : tie.Need-add-d Inv-loop μ-loop
-add-d c = search needs
-
--- src/meets.rt:116:5
-loop-less : tie.Need-loop-less Inv-loop μ-loop
-loop-less c = search needs
-
--- src/meets.rt:116:5
 loop-again : tie.Need-loop-again Inv-loop μ-loop
 loop-again c =
     let put = c .before .before .put-if in
@@ -49,11 +27,6 @@ loop-again c =
     let e = rowFill-put _ _ _ (put .last .0) _ _ _ _ (inv .2) (c .before .before .before .before .joins-of .ensures) (omega arith) (put .ensures) in
     (search needs, ap length e ∙ length-rowFill _ _ _ _, e)
 
--- src/meets.rt:112:1
-same-length : tie.Need-same-length Inv-loop μ-loop
-same-length c = search needs
-
--- src/meets.rt:112:1
 returns : tie.Need-returns Inv-loop μ-loop
 returns c =
     let e : c .before .loop .d ≡ c .before .before .before .before .args .n = omega arith in
@@ -62,14 +35,5 @@ returns c =
 pub scan-row-spec : {M : Type 1} → statement M
 scan-row-spec =
     tie.close
-    (tie.spec
-    Inv-loop
-    μ-loop
-    loop-holds
-    joins-of-requires
-    put-if-requires
-    add-d
-    loop-less
-    loop-again
-    same-length
-    returns)
+    (tie.spec Inv-loop μ-loop loop-holds (λ c κs. search needs) (λ c κs. search needs) (λ c. search needs) (λ c. search needs) loop-again
+    (λ c. search needs) returns)

@@ -11,10 +11,6 @@ use Rattle.quick_sync.specs.Pairs.{Pairs, pairs-none, mutual-made}
 use borrow.Author.Needs.{needs}
 use Rattle.quick_sync.proofs.mutual.fill_rows.Statement.{statement}
 use Rattle.quick_sync.proofs.mutual.fill_rows.Tie as tie
-use Rattle.quick_sync.proofs.mutual.fill_rows.Reads as reads
-use Rattle.quick_sync.proofs.mutual.fill_rows.Lts as lts
-use Rattle.bits.proofs.clear.Reads as clear-reads
-use Rattle.quick_sync.proofs.mutual.mutual_row.Reads as mutual-row-reads
 
 abbrev Inv-loop : tie.InvT-loop
 Inv-loop rows p mode n starts w₀ i₀ w i =
@@ -23,11 +19,6 @@ Inv-loop rows p mode n starts w₀ i₀ w i =
 abbrev μ-loop : tie.MeasureT-loop
 μ-loop rows p mode n starts w₀ i₀ w i = n - i
 
--- src/mutual.rt:82:5
-clear-requires : tie.Need-clear-requires Inv-loop μ-loop
-clear-requires c κs = search needs
-
--- src/mutual.rt:83:5
 loop-holds : tie.Need-loop-holds Inv-loop μ-loop
 loop-holds c = (
   search needs,
@@ -37,30 +28,12 @@ loop-holds c = (
   within-refl _ _ _,
 )
 
--- src/mutual.rt:84:9
-mutual-row-requires : tie.Need-mutual-row-requires Inv-loop μ-loop
-mutual-row-requires c κs = search needs
-
--- src/mutual.rt:83:9
-add-i : tie.Need-add-i Inv-loop μ-loop
-add-i c = search needs
-
--- src/mutual.rt:83:5
-loop-less : tie.Need-loop-less Inv-loop μ-loop
-loop-less c = search needs
-
--- src/mutual.rt:83:5
 loop-again : tie.Need-loop-again Inv-loop μ-loop
 loop-again c =
     let row = c .before .before .mutual-row .ensures in
     let inv = c .before .before .before .before .before .loop .inv in
     (search needs, row .1 .len ∙ inv .1, row .0, within-trans (inv .3) (row .1))
 
--- src/mutual.rt:78:1
-same-length : tie.Need-same-length Inv-loop μ-loop
-same-length c = search needs
-
--- src/mutual.rt:78:1
 returns : tie.Need-returns Inv-loop μ-loop
 returns c =
     let s = c .before .before .before .before .before .before .before .before .before in
@@ -70,14 +43,5 @@ returns c =
 pub fill-rows-spec : {M : Type 1} → statement M
 fill-rows-spec =
     tie.close
-    (tie.spec
-    Inv-loop
-    μ-loop
-    clear-requires
-    loop-holds
-    mutual-row-requires
-    add-i
-    loop-less
-    loop-again
-    same-length
-    returns)
+    (tie.spec Inv-loop μ-loop (λ c κs. search needs) loop-holds (λ c κs. search needs) (λ c. search needs) (λ c. search needs) loop-again
+    (λ c. search needs) returns)

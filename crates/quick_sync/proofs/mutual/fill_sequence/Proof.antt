@@ -1,12 +1,12 @@
-use mathlib.Core.Path.{_≡_, refl, sym, ap, _∙_}
-use Prim.Native.Nat.{_+_, _-_, _*_, _≤_, _<_}
+use mathlib.Core.Path.{_≡_, refl, ap, _∙_}
+use Prim.Native.Nat.{_-_, _*_, _≤_}
 use native.Mathlib.Omega.{arith}
 use lib.ListN.{length}
 use Rattle.bits.specs.Fill.{gridFill, gridFill-none, gridFill-more, length-gridFill}
 use Rattle.bits.specs.Stage.{made-filled}
 use Rattle.bits.specs.Within.{within-cleared}
-use Rattle.model.specs.Table.{rowOf, decode}
-use Rattle.bits.specs.Stage.{Holds, holds-bit, holds-kept}
+use Rattle.model.specs.Table.{decode}
+use Rattle.bits.specs.Stage.{Holds, holds-kept}
 use Rattle.model.specs.Scope.{mutually}
 use Rattle.model.specs.Synchronizes.{sequence}
 use Rattle.area.specs.Regions.{MUTUAL, SEQUENCE, SEQUENCE-END, GRID}
@@ -14,10 +14,6 @@ use Rattle.quick_sync.specs.Rows.{within-row}
 use borrow.Author.Needs.{needs}
 use Rattle.quick_sync.proofs.mutual.fill_sequence.Statement.{statement}
 use Rattle.quick_sync.proofs.mutual.fill_sequence.Tie as tie
-use Rattle.quick_sync.proofs.mutual.fill_sequence.Reads as reads
-use Rattle.quick_sync.proofs.mutual.fill_sequence.Lts as lts
-use Rattle.bits.proofs.clear.Reads as clear-reads
-use Rattle.quick_sync.proofs.mutual.sequence_row.Reads as sequence-row-reads
 
 abbrev Inv-loop : tie.InvT-loop
 Inv-loop rows p mode n w₀ a₀ w a =
@@ -27,11 +23,6 @@ Inv-loop rows p mode n w₀ a₀ w a =
 abbrev μ-loop : tie.MeasureT-loop
 μ-loop rows p mode n w₀ a₀ w a = n - a
 
--- src/mutual.rt:194:5
-clear-requires : tie.Need-clear-requires Inv-loop μ-loop
-clear-requires c κs = search needs
-
--- src/mutual.rt:195:5
 loop-holds : tie.Need-loop-holds Inv-loop μ-loop
 loop-holds c = (
   search needs,
@@ -42,19 +33,6 @@ loop-holds c = (
   gridFill-none _ _ _ _ _,
 )
 
--- src/mutual.rt:196:9
-sequence-row-requires : tie.Need-sequence-row-requires Inv-loop μ-loop
-sequence-row-requires c κs = search needs
-
--- src/mutual.rt:195:9
-add-a : tie.Need-add-a Inv-loop μ-loop
-add-a c = search needs
-
--- src/mutual.rt:195:5
-loop-less : tie.Need-loop-less Inv-loop μ-loop
-loop-less c = search needs
-
--- src/mutual.rt:195:5
 loop-again : tie.Need-loop-again Inv-loop μ-loop
 loop-again c =
     let row = c .before .before .sequence-row in
@@ -66,11 +44,6 @@ loop-again c =
       e,
     )
 
--- src/mutual.rt:190:1
-same-length : tie.Need-same-length Inv-loop μ-loop
-same-length c = search needs
-
--- src/mutual.rt:190:1
 returns : tie.Need-returns Inv-loop μ-loop
 returns c =
     let e : c .before .loop .a ≡ c .before .before .before .before .before .before .before .before .args .n = omega arith in
@@ -80,14 +53,5 @@ returns c =
 pub fill-sequence-spec : {M : Type 1} → statement M
 fill-sequence-spec =
     tie.close
-    (tie.spec
-    Inv-loop
-    μ-loop
-    clear-requires
-    loop-holds
-    sequence-row-requires
-    add-a
-    loop-less
-    loop-again
-    same-length
-    returns)
+    (tie.spec Inv-loop μ-loop (λ c κs. search needs) loop-holds (λ c κs. search needs) (λ c. search needs) (λ c. search needs) loop-again
+    (λ c. search needs) returns)

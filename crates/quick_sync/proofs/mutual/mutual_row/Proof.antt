@@ -17,14 +17,6 @@ use Prim.Native.Nat.{ℕ}
 use borrow.Author.Needs.{needs}
 use Rattle.quick_sync.proofs.mutual.mutual_row.Statement.{statement}
 use Rattle.quick_sync.proofs.mutual.mutual_row.Tie as tie
-use Rattle.quick_sync.proofs.mutual.mutual_row.Reads as reads
-use Rattle.quick_sync.proofs.mutual.mutual_row.Lts as lts
-use Rattle.area.proofs.grid.put_if.Reads as put-if-reads
-use Rattle.quick_sync.proofs.filed.start_file.Reads as start-file-reads
-use Rattle.quick_sync.proofs.mutual.mutual_of.Reads as mutual-of-reads
-use Rattle.rows.proofs.bytes.read_row.Reads as read-row-reads
-use Rattle.quick_sync.proofs.mutual.atomic_at.Reads as atomic-at-reads
-use Rattle.sets.proofs.walk.next.Reads as next-reads
 
 abbrev Inv-loop : tie.InvT-loop
 Inv-loop rows p mode n i starts w₀ r at j₀ w j =
@@ -35,40 +27,11 @@ Inv-loop rows p mode n i starts w₀ r at j₀ w j =
 abbrev μ-loop : tie.MeasureT-loop
 μ-loop rows p mode n i starts w₀ r at j₀ w j = n - j
 
-atomic-at-requires : tie.Need-atomic-at-requires Inv-loop μ-loop
-atomic-at-requires c κs = search needs
-
--- src/mutual.rt:65:9
 returns : tie.Need-returns Inv-loop μ-loop
 returns c =
     let pre = c .before .before .before .before .before .pre in
     (pairs-plain _ _ _ _ (pre .0) _ (pre .1) _ _ refl (c .before .atomic-at .ensures) (c .if1 .taken) (pre .4), within-refl _ _ _)
 
--- src/mutual.rt:63:35
-cast-read-row : tie.Need-cast-read-row Inv-loop μ-loop
-cast-read-row c = search needs
-
--- src/mutual.rt:63:9
-read-row-requires : tie.Need-read-row-requires Inv-loop μ-loop
-read-row-requires c κs = search needs
-
--- src/mutual.rt:67:14
-start-file-requires : tie.Need-start-file-requires Inv-loop μ-loop
-start-file-requires c κs = search needs
-
--- src/mutual.rt:67:14
-mul-at : tie.Need-mul-at Inv-loop μ-loop
-mul-at c = search needs
-
--- src/mutual.rt:68:44
-add-next : tie.Need-add-next Inv-loop μ-loop
-add-next c = search needs
-
--- src/mutual.rt:68:9
-next-requires : tie.Need-next-requires Inv-loop μ-loop
-next-requires c κs = search needs
-
--- src/mutual.rt:69:5
 loop-holds : tie.Need-loop-holds Inv-loop μ-loop
 loop-holds c =
     let pre = c .before .before .before .before .before .before .before .before .pre in
@@ -81,31 +44,6 @@ loop-holds c =
     (λ m l q. start-apart _ _ _ _ (pre .3) _ m _ _ row at (omega (arith, next .high)) (next .miss m l q)) own in
     (omega (arith, next .low), next .high, refl, row, pre .3, at, rw (file .0) at (file .1), over, within-refl _ _ _)
 
--- src/mutual.rt:70:13
-mutual-of-requires : tie.Need-mutual-of-requires Inv-loop μ-loop
-mutual-of-requires c κs = search needs
-
--- src/mutual.rt:71:9
-put-if-requires : tie.Need-put-if-requires Inv-loop μ-loop
-put-if-requires c κs = search needs
-
--- src/mutual.rt:72:9
-put-if-requires-2 : tie.Need-put-if-requires-2 Inv-loop μ-loop
-put-if-requires-2 c κs = search needs
-
--- src/mutual.rt:73:40
-add-next-2 : tie.Need-add-next-2 Inv-loop μ-loop
-add-next-2 c = search needs
-
--- src/mutual.rt:73:9
-next-requires-2 : tie.Need-next-requires-2 Inv-loop μ-loop
-next-requires-2 c κs = search needs
-
--- src/mutual.rt:69:5
-loop-less : tie.Need-loop-less Inv-loop μ-loop
-loop-less c = search needs
-
--- src/mutual.rt:69:5
 loop-again : tie.Need-loop-again Inv-loop μ-loop
 loop-again c =
     let pre = c .before .before .before .before .before .before .before .before .before .before .before .before .before .before .before
@@ -123,11 +61,6 @@ loop-again c =
     (λ m k q. start-apart _ _ _ _ (inv .4) _ m _ _ (inv .3) (inv .5) (omega (arith, next .high)) (next .miss m k q)) e in
     (omega (arith, next .low, inv .0), next .high, f .len ∙ inv .2, inv .3, inv .4, inv .5, inv .6, over, within-trans (inv .8) f)
 
--- src/mutual.rt:50:1
-same-length : tie.Need-same-length Inv-loop μ-loop
-same-length c = search needs
-
--- src/mutual.rt:50:1
 returns-2 : tie.Need-returns-2 Inv-loop μ-loop
 returns-2 c =
     let pre = c .before .before .before .before .before .before .before .before .before .before .pre in
@@ -137,24 +70,6 @@ returns-2 c =
 pub mutual-row-spec : {M : Type 1} → statement M
 mutual-row-spec =
     tie.close
-    (tie.spec
-    Inv-loop
-    μ-loop
-    atomic-at-requires
-    returns
-    cast-read-row
-    read-row-requires
-    start-file-requires
-    mul-at
-    add-next
-    next-requires
-    loop-holds
-    mutual-of-requires
-    put-if-requires
-    put-if-requires-2
-    add-next-2
-    next-requires-2
-    loop-less
-    loop-again
-    same-length
-    returns-2)
+    (tie.spec Inv-loop μ-loop (λ c κs. search needs) returns (λ c. search needs) (λ c κs. search needs) (λ c κs. search needs)
+    (λ c. search needs) (λ c. search needs) (λ c κs. search needs) loop-holds (λ c κs. search needs) (λ c κs. search needs)
+    (λ c κs. search needs) (λ c. search needs) (λ c κs. search needs) (λ c. search needs) loop-again (λ c. search needs) returns-2)

@@ -3,19 +3,10 @@ use Rattle.model.specs.Row.{reads}
 use borrow.Author.Needs.{needs}
 use Rattle.quick_sync.proofs.mutual.reads_at.Statement.{statement}
 use Rattle.quick_sync.proofs.mutual.reads_at.Tie as tie
-use Rattle.quick_sync.proofs.mutual.reads_at.Reads as reads-of
-use Rattle.quick_sync.proofs.mutual.reads_at.Lts as lts
-use Rattle.rows.proofs.bytes.read_kind.Reads as read-kind-reads
-
-cast-read-kind : tie.Need-cast-read-kind
-cast-read-kind c = search needs
-
-read-kind-requires : tie.Need-read-kind-requires
-read-kind-requires c κs = search needs
 
 returns : tie.Need-returns
 unfolding reads _or_
 returns c = cc
 
 pub reads-at-spec : {M : Type 1} → statement M
-reads-at-spec = tie.close (tie.spec cast-read-kind read-kind-requires returns)
+reads-at-spec = tie.close (tie.spec (λ c. search needs) (λ c κs. search needs) returns)

@@ -18,15 +18,6 @@ use Rattle.quick_sync.specs.Breaks.{firstBreak, sequence-alone, sequence
 use borrow.Author.Needs.{needs}
 use Rattle.quick_sync.proofs.mutual.sequence_row.Statement.{statement}
 use Rattle.quick_sync.proofs.mutual.sequence_row.Tie as tie
-use Rattle.quick_sync.proofs.mutual.sequence_row.Reads as reads
-use Rattle.quick_sync.proofs.mutual.sequence_row.Lts as lts
-use Rattle.area.proofs.grid.put.Reads as put-reads
-use Rattle.area.proofs.grid.put_if.Reads as put-if-reads
-use Rattle.quick_sync.proofs.mutual.first_break.Reads as first-break-reads
-use Rattle.quick_sync.proofs.mutual.sequence_of.Reads as sequence-of-reads
-use Rattle.sets.proofs.walk.next_or.Reads as next-or-reads
-use Rattle.rows.proofs.bytes.read_row.Reads as read-row-reads
-use Rattle.quick_sync.proofs.mutual.writes_at.Reads as writes-at-reads
 
 abbrev Inv-loop : tie.InvT-loop
 Inv-loop rows p mode n a w₀ h first at x₀ w x =
@@ -37,33 +28,12 @@ Inv-loop rows p mode n a w₀ h first at x₀ w x =
 abbrev μ-loop : tie.MeasureT-loop
 μ-loop rows p mode n a w₀ h first at x₀ w x = n - x
 
-writes-at-requires : tie.Need-writes-at-requires Inv-loop μ-loop
-writes-at-requires c κs = search needs
-
--- src/mutual.rt:153:9
-put-requires : tie.Need-put-requires Inv-loop μ-loop
-put-requires c κs = search needs
-
--- src/mutual.rt:154:9
-same-length : tie.Need-same-length Inv-loop μ-loop
-same-length c = search needs
-
--- src/mutual.rt:154:9
 returns : tie.Need-returns Inv-loop μ-loop
 returns c = c .before .before .put .ensures ∙ row-one _ _ _ _ _ _
     (c .before .before .before .before .before .before .before .before .pre .1) (omega arith)
     (λ m l. sequence-alone _ _ _ _ _ _ _ refl (c .before .before .before .before .before .writes-at .ensures)
     (c .before .before .before .before .if1 .taken) m)
 
--- src/mutual.rt:151:35
-cast-read-row : tie.Need-cast-read-row Inv-loop μ-loop
-cast-read-row c = search needs
-
--- src/mutual.rt:151:9
-read-row-requires : tie.Need-read-row-requires Inv-loop μ-loop
-read-row-requires c κs = search needs
-
--- src/mutual.rt:156:9
 first-break-requires : tie.Need-first-break-requires Inv-loop μ-loop
 first-break-requires c κs =
     let pre = c .before .before .before .before .before .before .pre in
@@ -77,19 +47,6 @@ first-break-requires c κs =
       pre .3,
     )
 
--- src/mutual.rt:157:29
-mul-at : tie.Need-mul-at Inv-loop μ-loop
-mul-at c = search needs
-
--- src/mutual.rt:157:14
-add-at : tie.Need-add-at Inv-loop μ-loop
-add-at c = search needs
-
--- src/mutual.rt:158:9
-next-or-requires : tie.Need-next-or-requires Inv-loop μ-loop
-next-or-requires c κs = search needs
-
--- src/mutual.rt:159:5
 loop-holds : tie.Need-loop-holds Inv-loop μ-loop
 loop-holds c =
     let pre = c .before .before .before .before .before .before .before .before .before .pre in
@@ -107,27 +64,9 @@ loop-holds c =
           (walked (pre .3) _ _ (pre .1) (omega (arith, next .high)) (next .miss m l q .0))) (rowFill-none _ _ _),
     )
 
--- src/mutual.rt:160:13
 sequence-of-requires : tie.Need-sequence-of-requires Inv-loop μ-loop
 sequence-of-requires c κs = let inv = c .before .loop .inv in (search needs, inv .2, inv .3, inv .4, inv .6 (c .loop-test .taken))
 
--- src/mutual.rt:161:9
-put-if-requires : tie.Need-put-if-requires Inv-loop μ-loop
-put-if-requires c κs = search needs
-
--- src/mutual.rt:162:37
-add-next-or : tie.Need-add-next-or Inv-loop μ-loop
-add-next-or c = search needs
-
--- src/mutual.rt:162:9
-next-or-requires-2 : tie.Need-next-or-requires-2 Inv-loop μ-loop
-next-or-requires-2 c κs = search needs
-
--- src/mutual.rt:159:5
-loop-less : tie.Need-loop-less Inv-loop μ-loop
-loop-less c = search needs
-
--- src/mutual.rt:159:5
 loop-again : tie.Need-loop-again Inv-loop μ-loop
 loop-again c =
     let pre = c .before .before .before .before .before .before .before .before .before .before .before .before .before .before .before
@@ -149,11 +88,6 @@ loop-again c =
           (walked k _ _ (pre .1) (omega (arith, next .high)) (next .miss m l q .0))) e,
     )
 
--- src/mutual.rt:147:1
-same-length-2 : tie.Need-same-length-2 Inv-loop μ-loop
-same-length-2 c = search needs
-
--- src/mutual.rt:147:1
 returns-2 : tie.Need-returns-2 Inv-loop μ-loop
 returns-2 c = let e : c .before .loop .x ≡ c .before .before .before .before .before .before .before .before .before .before
     .before .args .n = omega arith in rw e at (c .before .loop .inv .7)
@@ -161,25 +95,7 @@ returns-2 c = let e : c .before .loop .x ≡ c .before .before .before .before .
 pub sequence-row-spec : {M : Type 1} → statement M
 sequence-row-spec =
     tie.close
-    (tie.spec
-    Inv-loop
-    μ-loop
-    writes-at-requires
-    put-requires
-    same-length
-    returns
-    cast-read-row
-    read-row-requires
-    first-break-requires
-    mul-at
-    add-at
-    next-or-requires
-    loop-holds
-    sequence-of-requires
-    put-if-requires
-    add-next-or
-    next-or-requires-2
-    loop-less
-    loop-again
-    same-length-2
-    returns-2)
+    (tie.spec Inv-loop μ-loop (λ c κs. search needs) (λ c κs. search needs) (λ c. search needs) returns (λ c. search needs)
+    (λ c κs. search needs) first-break-requires (λ c. search needs) (λ c. search needs) (λ c κs. search needs) loop-holds
+    sequence-of-requires (λ c κs. search needs) (λ c. search needs) (λ c κs. search needs) (λ c. search needs) loop-again
+    (λ c. search needs) returns-2)

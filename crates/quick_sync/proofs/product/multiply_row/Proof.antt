@@ -8,10 +8,6 @@ use Rattle.quick_sync.specs.Product.{grid, RowTimes, row-none, row-next,
 use borrow.Author.Needs.{needs}
 use Rattle.quick_sync.proofs.product.multiply_row.Statement.{statement}
 use Rattle.quick_sync.proofs.product.multiply_row.Tie as tie
-use Rattle.quick_sync.proofs.product.multiply_row.Reads as reads
-use Rattle.quick_sync.proofs.product.multiply_row.Lts as lts
-use Rattle.bits.proofs.join_row.Reads as join-row-reads
-use Rattle.sets.proofs.walk.next.Reads as next-reads
 
 abbrev Inv-loop : tie.InvT-loop
 Inv-loop w₀ c a b n i at j₀ w j = (j ≤ n) × (length w ≡ length w₀) × (at ≡ a + i * GRID) × RowTimes w₀ w c a b i j × (j < n → grid w₀ a i j ≡ true)
@@ -19,42 +15,12 @@ Inv-loop w₀ c a b n i at j₀ w j = (j ≤ n) × (length w ≡ length w₀) ×
 abbrev μ-loop : tie.MeasureT-loop
 μ-loop w₀ c a b n i at j₀ w j = n - j
 
--- src/product.rt:20:18
-mul-at : tie.Need-mul-at Inv-loop μ-loop
-mul-at c = search needs
-
--- src/product.rt:20:14
-add-at : tie.Need-add-at Inv-loop μ-loop
-add-at c = search needs
-
--- src/product.rt:21:9
-next-requires : tie.Need-next-requires Inv-loop μ-loop
-next-requires c κs = search needs
-
--- src/product.rt:22:5
 loop-holds : tie.Need-loop-holds Inv-loop μ-loop
 loop-holds c =
     let pre = c .before .before .before .pre in
     let r = row-next _ _ (pre .6) (omega (arith, pre .0, pre .1)) (pre .0) refl (row-none _ _ _ _ _) (c .next .ensures) in
     (c .next .ensures .high, refl, refl, r .0, r .1)
 
--- src/product.rt:23:31
-mul-join-row : tie.Need-mul-join-row Inv-loop μ-loop
-mul-join-row c = search needs
-
--- src/product.rt:23:27
-add-join-row : tie.Need-add-join-row Inv-loop μ-loop
-add-join-row c = search needs
-
--- src/product.rt:23:51
-mul-join-row-2 : tie.Need-mul-join-row-2 Inv-loop μ-loop
-mul-join-row-2 c = search needs
-
--- src/product.rt:23:47
-add-join-row-2 : tie.Need-add-join-row-2 Inv-loop μ-loop
-add-join-row-2 c = search needs
-
--- src/product.rt:23:9
 join-row-requires : tie.Need-join-row-requires Inv-loop μ-loop
 join-row-requires c κs =
     let start = c .before .before .before .before .before .before in
@@ -65,19 +31,6 @@ join-row-requires c κs =
           omega (arith, c .before .loop-test .taken, pre .0),
     )
 
--- src/product.rt:24:35
-add-next : tie.Need-add-next Inv-loop μ-loop
-add-next c = search needs
-
--- src/product.rt:24:9
-next-requires-2 : tie.Need-next-requires-2 Inv-loop μ-loop
-next-requires-2 c κs = search needs
-
--- src/product.rt:22:5
-loop-less : tie.Need-loop-less Inv-loop μ-loop
-loop-less c = search needs
-
--- src/product.rt:22:5
 loop-again : tie.Need-loop-again Inv-loop μ-loop
 loop-again c =
     let pre = c .before .before .before .before .before .before .before .before .before .before .before .pre in
@@ -88,32 +41,12 @@ loop-again c =
     let r = row-next _ _ (pre .6) (omega (arith, pre .0, pre .1)) (pre .0) refl e (c .next2 .ensures) in
     (c .next2 .ensures .high, e .frame .len, refl, r .0, r .1)
 
--- src/product.rt:15:1
-same-length : tie.Need-same-length Inv-loop μ-loop
-same-length c = search needs
-
--- src/product.rt:15:1
 returns : tie.Need-returns Inv-loop μ-loop
 returns c = let e : c .before .loop .j ≡ c .before .before .before .before .before .args .n = omega arith in rw e at (c .before .loop .inv .3)
 
 pub multiply-row-spec : {M : Type 1} → statement M
 multiply-row-spec =
     tie.close
-    (tie.spec
-    Inv-loop
-    μ-loop
-    mul-at
-    add-at
-    next-requires
-    loop-holds
-    mul-join-row
-    add-join-row
-    mul-join-row-2
-    add-join-row-2
-    join-row-requires
-    add-next
-    next-requires-2
-    loop-less
-    loop-again
-    same-length
-    returns)
+    (tie.spec Inv-loop μ-loop (λ c. search needs) (λ c. search needs) (λ c κs. search needs) loop-holds (λ c. search needs)
+    (λ c. search needs) (λ c. search needs) (λ c. search needs) join-row-requires (λ c. search needs) (λ c κs. search needs)
+    (λ c. search needs) loop-again (λ c. search needs) returns)

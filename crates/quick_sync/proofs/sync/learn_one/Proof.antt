@@ -2,29 +2,7 @@ use Rattle.quick_sync.specs.Near.{learnt-one}
 use borrow.Author.Needs.{needs}
 use Rattle.quick_sync.proofs.sync.learn_one.Statement.{statement}
 use Rattle.quick_sync.proofs.sync.learn_one.Tie as tie
-use Rattle.quick_sync.proofs.sync.learn_one.Reads as reads
-use Rattle.quick_sync.proofs.sync.learn_one.Lts as lts
-use Rattle.area.proofs.grid.put.Reads as put-reads
-use Rattle.area.proofs.grid.put_if.Reads as put-if-reads
-use Rattle.quick_sync.proofs.sync.near_of.Reads as near-of-reads
 
--- src/sync.rt:148:9
-near-of-requires : tie.Need-near-of-requires
-near-of-requires c κs = search needs
-
--- src/sync.rt:149:5
-put-if-requires : tie.Need-put-if-requires
-put-if-requires c κs = search needs
-
--- src/sync.rt:150:5
-put-requires : tie.Need-put-requires
-put-requires c κs = search needs
-
--- src/sync.rt:134:1
-same-length : tie.Need-same-length
-same-length c = search needs
-
--- src/sync.rt:134:1
 returns : tie.Need-returns
 returns c =
     let pre = c .before .before .before .before .before .before .before .before .before .before .before .pre in
@@ -34,4 +12,4 @@ returns c =
 
 pub learn-one-spec : {M : Type 1} → statement M
 learn-one-spec =
-    tie.close (tie.spec near-of-requires put-if-requires put-requires same-length returns)
+    tie.close (tie.spec (λ c κs. search needs) (λ c κs. search needs) (λ c κs. search needs) (λ c. search needs) returns)

@@ -1,5 +1,5 @@
 use Rattle.reader.specs.Syncing.{both}
-use mathlib.Core.Path.{_≡_, sym, _∙_}
+use mathlib.Core.Path.{_≡_, sym}
 use mathlib.Core.Bool.{false}
 use Prim.Native.Nat.{_-_, _≤_}
 use native.Mathlib.Omega.{arith}
@@ -10,10 +10,6 @@ use Rattle.model.specs.Synchronizes.{carriesOut}
 use borrow.Author.Needs.{needs}
 use Rattle.reader.proofs.sync.is_carried_out.Statement.{statement}
 use Rattle.reader.proofs.sync.is_carried_out.Tie as tie
-use Rattle.reader.proofs.sync.is_carried_out.Reads as reads
-use Rattle.reader.proofs.sync.is_carried_out.Lts as lts
-use Rattle.reader.proofs.sync.takes_from.Reads as takes-from-reads
-use Rattle.rules.proofs.carriers.leads_at.Reads as leads-at-reads
 
 abbrev Inv-loop : tie.InvT-loop
 Inv-loop rows p mode n a b x₀ x = (x ≤ n) × (anyBelow x (carriesOut (decode rows p mode n) a b) ≡ false)
@@ -21,33 +17,14 @@ Inv-loop rows p mode n a b x₀ x = (x ≤ n) × (anyBelow x (carriesOut (decode
 abbrev μ-loop : tie.MeasureT-loop
 μ-loop rows p mode n a b x₀ x = n - x
 
--- src/sync.rt:66:5
 loop-holds : tie.Need-loop-holds Inv-loop μ-loop
 loop-holds c = (search needs, any-none _)
 
--- src/sync.rt:67:12
-leads-at-requires : tie.Need-leads-at-requires Inv-loop μ-loop
-leads-at-requires c κs = search needs
-
--- src/sync.rt:67:45
-takes-from-requires : tie.Need-takes-from-requires Inv-loop μ-loop
-takes-from-requires c κs = search needs
-
--- src/sync.rt:68:13
 returns : tie.Need-returns Inv-loop μ-loop
 unfolding carriesOut _and_
 returns c = sym (any-in _ _ _ (c .before .before .before .loop-test .taken)
     (both (c .before .before .leads-at .ensures _ _ _) (c .before .takes-from .ensures) (c .if1 .taken)))
 
--- src/sync.rt:66:9
-add-x : tie.Need-add-x Inv-loop μ-loop
-add-x c = search needs
-
--- src/sync.rt:66:5
-loop-less : tie.Need-loop-less Inv-loop μ-loop
-loop-less c = search needs
-
--- src/sync.rt:66:5
 loop-again : tie.Need-loop-again Inv-loop μ-loop
 unfolding carriesOut _and_
 loop-again c = (
@@ -56,7 +33,6 @@ loop-again c = (
       (both (c .before .before .leads-at .ensures _ _ _) (c .before .takes-from .ensures) (c .if1 .left)),
 )
 
--- src/sync.rt:62:1
 returns-2 : tie.Need-returns-2 Inv-loop μ-loop
 returns-2 c =
     let e : c .before .loop .x ≡ c .before .before .before .args .n = omega arith in
@@ -65,14 +41,5 @@ returns-2 c =
 pub is-carried-out-spec : {M : Type 1} → statement M
 is-carried-out-spec =
     tie.close
-    (tie.spec
-    Inv-loop
-    μ-loop
-    loop-holds
-    leads-at-requires
-    takes-from-requires
-    returns
-    add-x
-    loop-less
-    loop-again
-    returns-2)
+    (tie.spec Inv-loop μ-loop loop-holds (λ c κs. search needs) (λ c κs. search needs) returns (λ c. search needs) (λ c. search needs)
+    loop-again returns-2)

@@ -14,10 +14,6 @@ use Rattle.reasons.specs.Found.{set-found, set-missed}
 use borrow.Author.Needs.{needs}
 use Rattle.reasons.proofs.chains.find_set.Statement.{statement}
 use Rattle.reasons.proofs.chains.find_set.Tie as tie
-use Rattle.reasons.proofs.chains.find_set.Reads as reads
-use Rattle.reasons.proofs.chains.find_set.Lts as lts
-use Rattle.walks.proofs.layer_of.Reads as layer-of-reads
-use Rattle.reasons.proofs.layers.make_layers.Reads as make-layers-reads
 
 abbrev Inv-loop : tie.InvT-loop
 Inv-loop rows p mode n first second w₀ c₀ w c =
@@ -27,35 +23,9 @@ Inv-loop rows p mode n first second w₀ c₀ w c =
 abbrev μ-loop : tie.MeasureT-loop
 μ-loop rows p mode n first second w₀ c₀ w c = CLASS-SETS - c
 
--- src/chains.rt:42:5
 loop-holds : tie.Need-loop-holds Inv-loop μ-loop
 loop-holds c = (search needs, refl, least-none _, c .before .before .pre .4, within-refl _ _ _)
 
--- src/chains.rt:43:41
-add-make-layers : tie.Need-add-make-layers Inv-loop μ-loop
-add-make-layers c = search needs
-
--- src/chains.rt:43:9
-make-layers-requires : tie.Need-make-layers-requires Inv-loop μ-loop
-make-layers-requires c κs = search needs
-
--- src/chains.rt:44:37
-mul-layer-of : tie.Need-mul-layer-of Inv-loop μ-loop
-mul-layer-of c = search needs
-
--- src/chains.rt:44:13
-layer-of-requires : tie.Need-layer-of-requires Inv-loop μ-loop
-layer-of-requires c κs = search needs
-
--- src/chains.rt:45:16
-mul-if1 : tie.Need-mul-if1 Inv-loop μ-loop
-mul-if1 c = search needs
-
--- src/chains.rt:46:13
-same-length : tie.Need-same-length Inv-loop μ-loop
-same-length c = search needs
-
--- src/chains.rt:46:13
 returns : tie.Need-returns Inv-loop μ-loop
 unfolding decode
 returns c =
@@ -68,15 +38,6 @@ returns c =
       λ h. made .layered,
     )
 
--- src/chains.rt:42:9
-add-c : tie.Need-add-c Inv-loop μ-loop
-add-c c = search needs
-
--- src/chains.rt:42:5
-loop-less : tie.Need-loop-less Inv-loop μ-loop
-loop-less c = search needs
-
--- src/chains.rt:42:5
 loop-again : tie.Need-loop-again Inv-loop μ-loop
 unfolding decode
 loop-again c =
@@ -90,11 +51,6 @@ loop-again c =
       within-trans (inv .4) (made .frame),
     )
 
--- src/chains.rt:29:1
-same-length-2 : tie.Need-same-length-2 Inv-loop μ-loop
-same-length-2 c = search needs
-
--- src/chains.rt:29:1
 returns-2 : tie.Need-returns-2 Inv-loop μ-loop
 returns-2 c =
     let e : c .before .loop .c ≡ CLASS-SETS = omega arith in
@@ -104,19 +60,5 @@ returns-2 c =
 pub find-set-spec : {M : Type 1} → statement M
 find-set-spec =
     tie.close
-    (tie.spec
-    Inv-loop
-    μ-loop
-    loop-holds
-    add-make-layers
-    make-layers-requires
-    mul-layer-of
-    layer-of-requires
-    mul-if1
-    same-length
-    returns
-    add-c
-    loop-less
-    loop-again
-    same-length-2
-    returns-2)
+    (tie.spec Inv-loop μ-loop loop-holds (λ c. search needs) (λ c κs. search needs) (λ c. search needs) (λ c κs. search needs)
+    (λ c. search needs) (λ c. search needs) returns (λ c. search needs) (λ c. search needs) loop-again (λ c. search needs) returns-2)

@@ -8,9 +8,6 @@ use Rattle.report.specs.Counts.{counts, pairs-turn}
 use borrow.Author.Needs.{needs}
 use Rattle.report.proofs.counts.count_pairs.Statement.{statement}
 use Rattle.report.proofs.counts.count_pairs.Tie as tie
-use Rattle.report.proofs.counts.count_pairs.Reads as reads
-use Rattle.report.proofs.counts.count_pairs.Lts as lts
-use Rattle.report.proofs.counts.count_below.Reads as count-below-reads
 
 abbrev Inv-loop : tie.InvT-loop
 Inv-loop c rows p mode n w sum₀ y₀ sum y = (y ≤ n) × (sum ≤ y * ROWS) × (sum ≡ countPairs y (counts c (decode rows p mode n)))
@@ -18,33 +15,14 @@ Inv-loop c rows p mode n w sum₀ y₀ sum y = (y ≤ n) × (sum ≤ y * ROWS) �
 abbrev μ-loop : tie.MeasureT-loop
 μ-loop c rows p mode n w sum₀ y₀ sum y = n - y
 
--- src/counts.rt:43:5
 loop-holds : tie.Need-loop-holds Inv-loop μ-loop
 loop-holds c = (search needs, search needs, sym (pairs-none _))
 
--- src/counts.rt:44:16
-count-below-requires : tie.Need-count-below-requires Inv-loop μ-loop
-count-below-requires c κs = search needs
-
--- src/counts.rt:44:9
-add-sum : tie.Need-add-sum Inv-loop μ-loop
-add-sum c = search needs
-
--- src/counts.rt:43:9
-add-y : tie.Need-add-y Inv-loop μ-loop
-add-y c = search needs
-
--- src/counts.rt:43:5
-loop-less : tie.Need-loop-less Inv-loop μ-loop
-loop-less c = search needs
-
--- src/counts.rt:43:5
 loop-again : tie.Need-loop-again Inv-loop μ-loop
 loop-again c =
     let inv = c .before .before .loop .inv in
     (search needs, search needs, pairs-turn _ _ _ _ _ (inv .2) (c .count-below .ensures .0) refl)
 
--- src/counts.rt:38:1
 returns : tie.Need-returns Inv-loop μ-loop
 returns c =
     let e : c .before .loop .y ≡ c .before .before .before .before .args .n = omega arith in
@@ -53,13 +31,5 @@ returns c =
 pub count-pairs-spec : {M : Type 1} → statement M
 count-pairs-spec =
     tie.close
-    (tie.spec
-    Inv-loop
-    μ-loop
-    loop-holds
-    count-below-requires
-    add-sum
-    add-y
-    loop-less
-    loop-again
+    (tie.spec Inv-loop μ-loop loop-holds (λ c κs. search needs) (λ c. search needs) (λ c. search needs) (λ c. search needs) loop-again
     returns)

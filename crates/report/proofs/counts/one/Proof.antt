@@ -3,15 +3,11 @@ use mathlib.Core.Path.{sym, ap}
 use Rattle.finite.specs.Count.{one}
 use Rattle.report.proofs.counts.one.Statement.{statement}
 use Rattle.report.proofs.counts.one.Tie as tie
-use Rattle.report.proofs.counts.one.Reads as reads
-use Rattle.report.proofs.counts.one.Lts as lts
 
--- src/counts.rt:16:1
 returns : tie.Need-returns
 unfolding one
 returns c = (sym (ap one (c .if1 .taken)), search needs)
 
--- src/counts.rt:16:1
 returns-2 : tie.Need-returns-2
 unfolding one
 returns-2 c = (sym (ap one (c .if1 .left)), search needs)

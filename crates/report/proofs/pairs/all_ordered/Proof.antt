@@ -11,9 +11,6 @@ use Rattle.report.specs.Counts.{all-none, all-more, all-miss}
 use borrow.Author.Needs.{needs}
 use Rattle.report.proofs.pairs.all_ordered.Statement.{statement}
 use Rattle.report.proofs.pairs.all_ordered.Tie as tie
-use Rattle.report.proofs.pairs.all_ordered.Reads as reads
-use Rattle.report.proofs.pairs.all_ordered.Lts as lts
-use Rattle.report.proofs.pairs.ordered_nth.Reads as ordered-nth-reads
 
 abbrev Inv-loop : tie.InvT-loop
 Inv-loop rows p mode n x y r q w k₀ k = (k ≤ LONGEST) × (allBelow k (orderedNth (decode rows p mode n) x y) ≡ true)
@@ -21,31 +18,15 @@ Inv-loop rows p mode n x y r q w k₀ k = (k ≤ LONGEST) × (allBelow k (ordere
 abbrev μ-loop : tie.MeasureT-loop
 μ-loop rows p mode n x y r q w k₀ k = LONGEST - k
 
--- src/pairs.rt:58:5
 loop-holds : tie.Need-loop-holds Inv-loop μ-loop
 loop-holds c = (search needs, all-none _)
 
--- src/pairs.rt:59:13
-ordered-nth-requires : tie.Need-ordered-nth-requires Inv-loop μ-loop
-ordered-nth-requires c κs = search needs
-
--- src/pairs.rt:60:13
 returns : tie.Need-returns Inv-loop μ-loop
 returns c = sym (all-miss _ LONGEST (c .before .before .before .loop .k) (omega arith) (sym (c .before .ordered-nth .ensures) ∙ not-true _ (c .if1 .taken)))
 
--- src/pairs.rt:58:9
-add-k : tie.Need-add-k Inv-loop μ-loop
-add-k c = search needs
-
--- src/pairs.rt:58:5
-loop-less : tie.Need-loop-less Inv-loop μ-loop
-loop-less c = search needs
-
--- src/pairs.rt:58:5
 loop-again : tie.Need-loop-again Inv-loop μ-loop
 loop-again c = (search needs, all-more _ _ (c .before .before .before .loop .inv .1) (sym (c .before .ordered-nth .ensures) ∙ not-false _ (c .if1 .left)))
 
--- src/pairs.rt:45:1
 returns-2 : tie.Need-returns-2 Inv-loop μ-loop
 returns-2 c =
     let e : c .before .loop .k ≡ LONGEST = omega arith in
@@ -54,13 +35,4 @@ returns-2 c =
 pub all-ordered-spec : {M : Type 1} → statement M
 all-ordered-spec =
     tie.close
-    (tie.spec
-    Inv-loop
-    μ-loop
-    loop-holds
-    ordered-nth-requires
-    returns
-    add-k
-    loop-less
-    loop-again
-    returns-2)
+    (tie.spec Inv-loop μ-loop loop-holds (λ c κs. search needs) returns (λ c. search needs) (λ c. search needs) loop-again returns-2)

@@ -9,9 +9,6 @@ use Rattle.report.specs.Counts.{open-found, open-none}
 use borrow.Author.Needs.{needs}
 use Rattle.report.proofs.pairs.some_open.Statement.{statement}
 use Rattle.report.proofs.pairs.some_open.Tie as tie
-use Rattle.report.proofs.pairs.some_open.Reads as reads
-use Rattle.report.proofs.pairs.some_open.Lts as lts
-use Rattle.report.proofs.pairs.open_nth.Reads as open-nth-reads
 
 abbrev Inv-loop : tie.InvT-loop
 Inv-loop rows p mode n x y r q w k₀ k = (k ≤ LONGEST) × (least k (unorderedNth (decode rows p mode n) x y) ≡ k)
@@ -19,44 +16,19 @@ Inv-loop rows p mode n x y r q w k₀ k = (k ≤ LONGEST) × (least k (unordered
 abbrev μ-loop : tie.MeasureT-loop
 μ-loop rows p mode n x y r q w k₀ k = LONGEST - k
 
--- src/pairs.rt:99:5
 loop-holds : tie.Need-loop-holds Inv-loop μ-loop
 loop-holds c = (search needs, least-none _)
 
--- src/pairs.rt:100:12
-open-nth-requires : tie.Need-open-nth-requires Inv-loop μ-loop
-open-nth-requires c κs = search needs
-
--- src/pairs.rt:101:13
 returns : tie.Need-returns Inv-loop μ-loop
 returns c = open-found _ _ _ _ (c .before .before .before .loop .inv .1) (sym (c .before .open-nth .ensures) ∙ c .if1 .taken) (omega arith)
 
--- src/pairs.rt:99:9
-add-k : tie.Need-add-k Inv-loop μ-loop
-add-k c = search needs
-
--- src/pairs.rt:99:5
-loop-less : tie.Need-loop-less Inv-loop μ-loop
-loop-less c = search needs
-
--- src/pairs.rt:99:5
 loop-again : tie.Need-loop-again Inv-loop μ-loop
 loop-again c = (search needs, least-more _ _ (c .before .before .before .loop .inv .1) (sym (c .before .open-nth .ensures) ∙ c .if1 .left))
 
--- src/pairs.rt:86:1
 returns-2 : tie.Need-returns-2 Inv-loop μ-loop
 returns-2 c = open-none _ _ _ _ (omega arith) (c .before .loop .inv .1)
 
 pub some-open-spec : {M : Type 1} → statement M
 some-open-spec =
     tie.close
-    (tie.spec
-    Inv-loop
-    μ-loop
-    loop-holds
-    open-nth-requires
-    returns
-    add-k
-    loop-less
-    loop-again
-    returns-2)
+    (tie.spec Inv-loop μ-loop loop-holds (λ c κs. search needs) returns (λ c. search needs) (λ c. search needs) loop-again returns-2)

@@ -10,9 +10,6 @@ use Rattle.rows.proofs.Laws.{tab-none, tab-more, tab-all}
 use borrow.Author.Needs.{needs}
 use Rattle.rows.proofs.bytes.read_ends.Statement.{statement}
 use Rattle.rows.proofs.bytes.read_ends.Tie as tie
-use Rattle.rows.proofs.bytes.read_ends.Reads as reads
-use Rattle.rows.proofs.bytes.read_ends.Lts as lts
-use Rattle.rows.proofs.bytes.pair_at.Reads as pair-at-reads
 
 abbrev Inv-loop : tie.InvT-loop
 Inv-loop d at ends₀ k₀ ends k = (k ≤ DEPENDENCIES) × (length ends ≡ DEPENDENCIES) × (take k ends ≡ tabulate (dependencyEnd d at) k)
@@ -20,46 +17,15 @@ Inv-loop d at ends₀ k₀ ends k = (k ≤ DEPENDENCIES) × (length ends ≡ DEP
 abbrev μ-loop : tie.MeasureT-loop
 μ-loop d at ends₀ k₀ ends k = DEPENDENCIES - k
 
--- src/bytes.rt:115:5
 loop-holds : tie.Need-loop-holds Inv-loop μ-loop
 loop-holds c = (search needs, refl, tab-none _ (replicate 64 0))
 
--- src/bytes.rt:116:46
-mul-pair-at : tie.Need-mul-pair-at Inv-loop μ-loop
-mul-pair-at c = search needs
-
--- src/bytes.rt:116:30
-add-pair-at : tie.Need-add-pair-at Inv-loop μ-loop
-add-pair-at c = search needs
-
--- src/bytes.rt:116:19
-pair-at-requires : tie.Need-pair-at-requires Inv-loop μ-loop
-pair-at-requires c κs = search needs
-
--- src/bytes.rt:116:9
-mul-ends : tie.Need-mul-ends Inv-loop μ-loop
-mul-ends c = search needs
-
--- src/bytes.rt:116:9
-array-write-ends : tie.Need-array-write-ends Inv-loop μ-loop
-array-write-ends c = search needs
-
--- src/bytes.rt:115:9
-add-k : tie.Need-add-k Inv-loop μ-loop
-add-k c = search needs
-
--- src/bytes.rt:115:5
-loop-less : tie.Need-loop-less Inv-loop μ-loop
-loop-less c = search needs
-
--- src/bytes.rt:115:5
 loop-again : tie.Need-loop-again Inv-loop μ-loop
 unfolding dependencyEnd
 loop-again c =
     let at-loop = c .before .before in
     (omega arith, simp length-set (at-loop .loop .inv .1), tab-more _ _ _ _ (omega arith) (at-loop .loop .inv .2) (cc))
 
--- src/bytes.rt:111:1
 returns : tie.Need-returns Inv-loop μ-loop
 returns c =
     let done : c .before .loop .k ≡ DEPENDENCIES = omega arith in
@@ -68,16 +34,5 @@ returns c =
 pub read-ends-spec : {M : Type 1} → statement M
 read-ends-spec =
     tie.close
-    (tie.spec
-    Inv-loop
-    μ-loop
-    loop-holds
-    mul-pair-at
-    add-pair-at
-    pair-at-requires
-    mul-ends
-    array-write-ends
-    add-k
-    loop-less
-    loop-again
-    returns)
+    (tie.spec Inv-loop μ-loop loop-holds (λ c. search needs) (λ c. search needs) (λ c κs. search needs) (λ c. search needs)
+    (λ c. search needs) (λ c. search needs) (λ c. search needs) loop-again returns)

@@ -2,18 +2,10 @@ use Rattle.model.specs.Table.{rowOf}
 use borrow.Author.Needs.{needs}
 use Rattle.rows.proofs.bytes.read_reference.Statement.{statement}
 use Rattle.rows.proofs.bytes.read_reference.Tie as tie
-use Rattle.rows.proofs.bytes.read_reference.Reads as reads
-use Rattle.rows.proofs.bytes.read_reference.Lts as lts
-use Rattle.rows.proofs.bytes.row_pair.Reads as row-pair-reads
 
--- src/bytes.rt:106:5
-row-pair-requires : tie.Need-row-pair-requires
-row-pair-requires c κs = search needs
-
--- src/bytes.rt:103:1
 returns : tie.Need-returns
 unfolding rowOf
 returns c = cc
 
 pub read-reference-spec : {M : Type 1} → statement M
-read-reference-spec = tie.close (tie.spec row-pair-requires returns)
+read-reference-spec = tie.close (tie.spec (λ c κs. search needs) returns)

@@ -3,10 +3,7 @@ use Rattle.finite.specs.Logic.{_or_}
 use Rattle.model.specs.Row.{acquires}
 use Rattle.rows.proofs.kinds.acquires.Statement.{statement}
 use Rattle.rows.proofs.kinds.acquires.Tie as tie
-use Rattle.rows.proofs.kinds.acquires.Reads as reads
-use Rattle.rows.proofs.kinds.acquires.Lts as lts
 
--- src/kinds.rt:84:1
 returns : tie.Need-returns
 unfolding acquires _or_
 returns c = refl

@@ -2,10 +2,7 @@ use mathlib.Core.Path.{refl}
 use Rattle.model.specs.Row.{access}
 use Rattle.rows.proofs.kinds.is_access.Statement.{statement}
 use Rattle.rows.proofs.kinds.is_access.Tie as tie
-use Rattle.rows.proofs.kinds.is_access.Reads as reads
-use Rattle.rows.proofs.kinds.is_access.Lts as lts
 
--- src/kinds.rt:32:1
 returns : tie.Need-returns
 unfolding access
 returns c = refl

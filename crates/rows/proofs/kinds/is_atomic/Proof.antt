@@ -3,10 +3,7 @@ use Rattle.finite.specs.Logic.{_and_}
 use Rattle.model.specs.Row.{atomic}
 use Rattle.rows.proofs.kinds.is_atomic.Statement.{statement}
 use Rattle.rows.proofs.kinds.is_atomic.Tie as tie
-use Rattle.rows.proofs.kinds.is_atomic.Reads as reads
-use Rattle.rows.proofs.kinds.is_atomic.Lts as lts
 
--- src/kinds.rt:26:1
 returns : tie.Need-returns
 unfolding atomic _and_
 returns c = refl

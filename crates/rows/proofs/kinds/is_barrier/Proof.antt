@@ -3,10 +3,7 @@ use Rattle.finite.specs.Logic.{_or_}
 use Rattle.model.specs.Row.{barrier}
 use Rattle.rows.proofs.kinds.is_barrier.Statement.{statement}
 use Rattle.rows.proofs.kinds.is_barrier.Tie as tie
-use Rattle.rows.proofs.kinds.is_barrier.Reads as reads
-use Rattle.rows.proofs.kinds.is_barrier.Lts as lts
 
--- src/kinds.rt:38:1
 returns : tie.Need-returns
 unfolding barrier _or_
 returns c = refl

@@ -2,10 +2,7 @@ use mathlib.Core.Path.{refl}
 use Rattle.model.specs.Row.{control}
 use Rattle.rows.proofs.kinds.is_control.Statement.{statement}
 use Rattle.rows.proofs.kinds.is_control.Tie as tie
-use Rattle.rows.proofs.kinds.is_control.Reads as reads
-use Rattle.rows.proofs.kinds.is_control.Lts as lts
 
--- src/kinds.rt:50:1
 returns : tie.Need-returns
 unfolding control
 returns c = refl

@@ -3,10 +3,7 @@ use Rattle.finite.specs.Logic.{_and_}
 use Rattle.model.specs.Row.{operation}
 use Rattle.rows.proofs.kinds.is_operation.Statement.{statement}
 use Rattle.rows.proofs.kinds.is_operation.Tie as tie
-use Rattle.rows.proofs.kinds.is_operation.Reads as reads
-use Rattle.rows.proofs.kinds.is_operation.Lts as lts
 
--- src/kinds.rt:50:1
 returns : tie.Need-returns
 unfolding operation _and_
 returns c = refl

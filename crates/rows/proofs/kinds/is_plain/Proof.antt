@@ -2,10 +2,7 @@ use mathlib.Core.Path.{refl}
 use Rattle.model.specs.Row.{plain}
 use Rattle.rows.proofs.kinds.is_plain.Statement.{statement}
 use Rattle.rows.proofs.kinds.is_plain.Tie as tie
-use Rattle.rows.proofs.kinds.is_plain.Reads as reads
-use Rattle.rows.proofs.kinds.is_plain.Lts as lts
 
--- src/kinds.rt:20:1
 returns : tie.Need-returns
 unfolding plain
 returns c = refl

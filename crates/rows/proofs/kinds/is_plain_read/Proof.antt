@@ -2,10 +2,7 @@ use mathlib.Core.Path.{refl}
 use Rattle.model.specs.Row.{plainRead}
 use Rattle.rows.proofs.kinds.is_plain_read.Statement.{statement}
 use Rattle.rows.proofs.kinds.is_plain_read.Tie as tie
-use Rattle.rows.proofs.kinds.is_plain_read.Reads as reads
-use Rattle.rows.proofs.kinds.is_plain_read.Lts as lts
 
--- src/kinds.rt:44:1
 returns : tie.Need-returns
 unfolding plainRead
 returns c = refl

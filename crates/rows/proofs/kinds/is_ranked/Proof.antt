@@ -3,10 +3,7 @@ use Rattle.finite.specs.Logic.{_or_}
 use Rattle.model.specs.Row.{ranked}
 use Rattle.rows.proofs.kinds.is_ranked.Statement.{statement}
 use Rattle.rows.proofs.kinds.is_ranked.Tie as tie
-use Rattle.rows.proofs.kinds.is_ranked.Reads as reads
-use Rattle.rows.proofs.kinds.is_ranked.Lts as lts
 
--- src/kinds.rt:68:1
 returns : tie.Need-returns
 unfolding ranked _or_
 returns c = refl

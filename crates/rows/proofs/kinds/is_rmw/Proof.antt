@@ -2,10 +2,7 @@ use mathlib.Core.Path.{refl}
 use Rattle.model.specs.Row.{rmw}
 use Rattle.rows.proofs.kinds.is_rmw.Statement.{statement}
 use Rattle.rows.proofs.kinds.is_rmw.Tie as tie
-use Rattle.rows.proofs.kinds.is_rmw.Reads as reads
-use Rattle.rows.proofs.kinds.is_rmw.Lts as lts
 
--- src/kinds.rt:50:1
 returns : tie.Need-returns
 unfolding rmw
 returns c = refl

@@ -3,10 +3,7 @@ use Rattle.finite.specs.Logic.{_or_}
 use Rattle.model.specs.Row.{reads}
 use Rattle.rows.proofs.kinds.reads.Statement.{statement}
 use Rattle.rows.proofs.kinds.reads.Tie as tie
-use Rattle.rows.proofs.kinds.reads.Reads as reads
-use Rattle.rows.proofs.kinds.reads.Lts as lts
 
--- src/kinds.rt:56:1
 returns : tie.Need-returns
 unfolding reads _or_
 returns c = refl

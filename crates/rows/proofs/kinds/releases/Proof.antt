@@ -3,10 +3,7 @@ use Rattle.finite.specs.Logic.{_or_}
 use Rattle.model.specs.Row.{releases}
 use Rattle.rows.proofs.kinds.releases.Statement.{statement}
 use Rattle.rows.proofs.kinds.releases.Tie as tie
-use Rattle.rows.proofs.kinds.releases.Reads as reads
-use Rattle.rows.proofs.kinds.releases.Lts as lts
 
--- src/kinds.rt:90:1
 returns : tie.Need-returns
 unfolding releases _or_
 returns c = refl

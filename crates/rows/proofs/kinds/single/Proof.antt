@@ -2,25 +2,19 @@ use borrow.Author.Tests.{eq-eqb, ne-eqb}
 use Rattle.model.specs.Row.{single}
 use Rattle.rows.proofs.kinds.single.Statement.{statement}
 use Rattle.rows.proofs.kinds.single.Tie as tie
-use Rattle.rows.proofs.kinds.single.Reads as reads
-use Rattle.rows.proofs.kinds.single.Lts as lts
 
--- src/kinds.rt:117:9
 returns : tie.Need-returns
 unfolding single
 returns c = simp (eq-eqb _ _ (c .if1 .taken))
 
--- src/kinds.rt:120:9
 returns-2 : tie.Need-returns-2
 unfolding single
 returns-2 c = simp (ne-eqb _ _ (c .before .if1 .left), eq-eqb _ _ (c .if2 .taken))
 
--- src/kinds.rt:123:9
 returns-3 : tie.Need-returns-3
 unfolding single
 returns-3 c = simp (ne-eqb _ _ (c .before .before .if1 .left), ne-eqb _ _ (c .before .if2 .left), eq-eqb _ _ (c .if3 .taken))
 
--- src/kinds.rt:113:1
 returns-4 : tie.Need-returns-4
 unfolding single
 returns-4 c = simp (ne-eqb _ _ (c .before .before .if1 .left), ne-eqb _ _ (c .before .if2 .left), ne-eqb _ _ (c .if3 .left))

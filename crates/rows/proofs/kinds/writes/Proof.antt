@@ -3,10 +3,7 @@ use Rattle.finite.specs.Logic.{_or_}
 use Rattle.model.specs.Row.{writes}
 use Rattle.rows.proofs.kinds.writes.Statement.{statement}
 use Rattle.rows.proofs.kinds.writes.Tie as tie
-use Rattle.rows.proofs.kinds.writes.Reads as reads
-use Rattle.rows.proofs.kinds.writes.Lts as lts
 
--- src/kinds.rt:62:1
 returns : tie.Need-returns
 unfolding writes _or_
 returns c = refl

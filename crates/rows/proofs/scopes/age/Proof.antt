@@ -5,15 +5,7 @@ use Rattle.model.specs.Scope.{age}
 use borrow.Author.Needs.{needs}
 use Rattle.rows.proofs.scopes.age.Statement.{statement}
 use Rattle.rows.proofs.scopes.age.Tie as tie
-use Rattle.rows.proofs.scopes.age.Reads as reads
-use Rattle.rows.proofs.scopes.age.Lts as lts
-use Rattle.std.proofs.num.wrapping_sub_u16.Reads as wrapping-sub-u16-reads
 
--- src/lib.rt:8:5
-wrapping-sub-u16-requires : tie.Need-wrapping-sub-u16-requires
-wrapping-sub-u16-requires c κs = search needs
-
--- src/lib.rt:5:1
 -- the difference is the remainder that it leaves
 difference : (r a b : ℕ) → r < 65536 → b < 65536 → (r + b) % 65536 ≡ a → r ≡ (a + 65536 - b) % 65536
 difference r a b p q e = omega arith
@@ -23,4 +15,4 @@ unfolding age
 returns c = difference (c .wrapping-sub-u16 .result) (c .before .args .a) (c .before .args .b) (omega arith) (omega arith) (c .wrapping-sub-u16 .ensures)
 
 pub age-spec : {M : Type 1} → statement M
-age-spec = tie.close (tie.spec wrapping-sub-u16-requires returns)
+age-spec = tie.close (tie.spec (λ c κs. search needs) returns)

@@ -10,9 +10,6 @@ use Rattle.model.specs.Limits.{AGENTS}
 use Rattle.rows.proofs.Laws.{tab-none, tab-more, tab-all}
 use Rattle.rows.proofs.scopes.read_places.Statement.{statement}
 use Rattle.rows.proofs.scopes.read_places.Tie as tie
-use Rattle.rows.proofs.scopes.read_places.Reads as reads
-use Rattle.rows.proofs.scopes.read_places.Lts as lts
-use Rattle.rows.proofs.scopes.read_place.Reads as read-place-reads
 
 abbrev Inv-loop : tie.InvT-loop
 Inv-loop s p₀ a₀ p a = (a ≤ AGENTS) × (length p ≡ AGENTS) × (take a p ≡ tabulate (slotAt s) a)
@@ -20,41 +17,14 @@ Inv-loop s p₀ a₀ p a = (a ≤ AGENTS) × (length p ≡ AGENTS) × (take a p 
 abbrev μ-loop : tie.MeasureT-loop
 μ-loop s p₀ a₀ p a = AGENTS - a
 
--- src/scopes.rt:48:5
 loop-holds : tie.Need-loop-holds Inv-loop μ-loop
 loop-holds c = (search needs, refl, tab-none _ [])
 
--- src/scopes.rt:49:35
-cast-read-place : tie.Need-cast-read-place Inv-loop μ-loop
-cast-read-place c = search needs
-
--- src/scopes.rt:49:13
-read-place-requires : tie.Need-read-place-requires Inv-loop μ-loop
-read-place-requires c κs = search needs
-
--- src/scopes.rt:50:9
-mul-p : tie.Need-mul-p Inv-loop μ-loop
-mul-p c = search needs
-
--- src/scopes.rt:50:9
-array-set-from-p : tie.Need-array-set-from-p Inv-loop μ-loop
-array-set-from-p c = search needs
-
--- src/scopes.rt:48:9
-add-a : tie.Need-add-a Inv-loop μ-loop
-add-a c = search needs
-
--- src/scopes.rt:48:5
-loop-less : tie.Need-loop-less Inv-loop μ-loop
-loop-less c = search needs
-
--- src/scopes.rt:48:5
 loop-again : tie.Need-loop-again Inv-loop μ-loop
 loop-again c =
     let at-loop = c .before .before in
     (omega arith, simp length-set (at-loop .loop .inv .1), tab-more _ _ _ _ (omega arith) (at-loop .loop .inv .2) (cc))
 
--- src/scopes.rt:43:1
 returns : tie.Need-returns Inv-loop μ-loop
 unfolding placesOf
 returns c =
@@ -64,15 +34,5 @@ returns c =
 pub read-places-spec : {M : Type 1} → statement M
 read-places-spec =
     tie.close
-    (tie.spec
-    Inv-loop
-    μ-loop
-    loop-holds
-    cast-read-place
-    read-place-requires
-    mul-p
-    array-set-from-p
-    add-a
-    loop-less
-    loop-again
-    returns)
+    (tie.spec Inv-loop μ-loop loop-holds (λ c. search needs) (λ c κs. search needs) (λ c. search needs) (λ c. search needs)
+    (λ c. search needs) (λ c. search needs) loop-again returns)

@@ -3,10 +3,7 @@ use Rattle.finite.specs.Logic.{_and_}
 use Rattle.model.specs.Scope.{sameLocation}
 use Rattle.rows.proofs.scopes.same_location.Statement.{statement}
 use Rattle.rows.proofs.scopes.same_location.Tie as tie
-use Rattle.rows.proofs.scopes.same_location.Reads as reads
-use Rattle.rows.proofs.scopes.same_location.Lts as lts
 
--- src/scopes.rt:86:1
 returns : tie.Need-returns
 unfolding sameLocation _and_
 returns c = refl

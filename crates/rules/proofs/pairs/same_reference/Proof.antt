@@ -2,10 +2,7 @@ use mathlib.Core.Path.{refl}
 use Rattle.model.specs.Location.{sameReference}
 use Rattle.rules.proofs.pairs.same_reference.Statement.{statement}
 use Rattle.rules.proofs.pairs.same_reference.Tie as tie
-use Rattle.rules.proofs.pairs.same_reference.Reads as reads
-use Rattle.rules.proofs.pairs.same_reference.Lts as lts
 
--- src/pairs.rt:15:1
 returns : tie.Need-returns
 unfolding sameReference
 returns c = refl

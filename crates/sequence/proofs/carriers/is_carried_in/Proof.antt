@@ -8,9 +8,6 @@ use Rattle.model.specs.Synchronizes.{carriesIn}
 use borrow.Author.Needs.{needs}
 use Rattle.sequence.proofs.carriers.is_carried_in.Statement.{statement}
 use Rattle.sequence.proofs.carriers.is_carried_in.Tie as tie
-use Rattle.sequence.proofs.carriers.is_carried_in.Reads as reads
-use Rattle.sequence.proofs.carriers.is_carried_in.Lts as lts
-use Rattle.sequence.proofs.carriers.carries_in_at.Reads as carries-in-at-reads
 
 abbrev Inv-loop : tie.InvT-loop
 Inv-loop rows p mode n a b w y₀ y = (y ≤ n) × (anyBelow y (carriesIn (decode rows p mode n) a b) ≡ false)
@@ -18,31 +15,15 @@ Inv-loop rows p mode n a b w y₀ y = (y ≤ n) × (anyBelow y (carriesIn (decod
 abbrev μ-loop : tie.MeasureT-loop
 μ-loop rows p mode n a b w y₀ y = n - y
 
--- src/carriers.rt:113:5
 loop-holds : tie.Need-loop-holds Inv-loop μ-loop
 loop-holds c = (search needs, any-none _)
 
--- src/carriers.rt:114:12
-carries-in-at-requires : tie.Need-carries-in-at-requires Inv-loop μ-loop
-carries-in-at-requires c κs = search needs
-
--- src/carriers.rt:115:13
 returns : tie.Need-returns Inv-loop μ-loop
 returns c = sym (any-in _ _ _ (c .before .before .loop-test .taken) (sym (c .before .carries-in-at .ensures) ∙ c .if1 .taken))
 
--- src/carriers.rt:113:9
-add-y : tie.Need-add-y Inv-loop μ-loop
-add-y c = search needs
-
--- src/carriers.rt:113:5
-loop-less : tie.Need-loop-less Inv-loop μ-loop
-loop-less c = search needs
-
--- src/carriers.rt:113:5
 loop-again : tie.Need-loop-again Inv-loop μ-loop
 loop-again c = (search needs, any-more _ _ (c .before .before .before .loop .inv .1) (sym (c .before .carries-in-at .ensures) ∙ c .if1 .left))
 
--- src/carriers.rt:109:1
 returns-2 : tie.Need-returns-2 Inv-loop μ-loop
 returns-2 c =
     let e : c .before .loop .y ≡ c .before .before .before .before .args .n = omega arith in
@@ -51,13 +32,4 @@ returns-2 c =
 pub is-carried-in-spec : {M : Type 1} → statement M
 is-carried-in-spec =
     tie.close
-    (tie.spec
-    Inv-loop
-    μ-loop
-    loop-holds
-    carries-in-at-requires
-    returns
-    add-y
-    loop-less
-    loop-again
-    returns-2)
+    (tie.spec Inv-loop μ-loop loop-holds (λ c κs. search needs) returns (λ c. search needs) (λ c. search needs) loop-again returns-2)

@@ -8,9 +8,6 @@ use Rattle.model.specs.Synchronizes.{carriesOut}
 use borrow.Author.Needs.{needs}
 use Rattle.sequence.proofs.carriers.is_carried_out.Statement.{statement}
 use Rattle.sequence.proofs.carriers.is_carried_out.Tie as tie
-use Rattle.sequence.proofs.carriers.is_carried_out.Reads as reads
-use Rattle.sequence.proofs.carriers.is_carried_out.Lts as lts
-use Rattle.sequence.proofs.carriers.carries_out_at.Reads as carries-out-at-reads
 
 abbrev Inv-loop : tie.InvT-loop
 Inv-loop rows p mode n a b w x₀ x = (x ≤ n) × (anyBelow x (carriesOut (decode rows p mode n) a b) ≡ false)
@@ -18,31 +15,15 @@ Inv-loop rows p mode n a b w x₀ x = (x ≤ n) × (anyBelow x (carriesOut (deco
 abbrev μ-loop : tie.MeasureT-loop
 μ-loop rows p mode n a b w x₀ x = n - x
 
--- src/carriers.rt:89:5
 loop-holds : tie.Need-loop-holds Inv-loop μ-loop
 loop-holds c = (search needs, any-none _)
 
--- src/carriers.rt:90:12
-carries-out-at-requires : tie.Need-carries-out-at-requires Inv-loop μ-loop
-carries-out-at-requires c κs = search needs
-
--- src/carriers.rt:91:13
 returns : tie.Need-returns Inv-loop μ-loop
 returns c = sym (any-in _ _ _ (c .before .before .loop-test .taken) (sym (c .before .carries-out-at .ensures) ∙ c .if1 .taken))
 
--- src/carriers.rt:89:9
-add-x : tie.Need-add-x Inv-loop μ-loop
-add-x c = search needs
-
--- src/carriers.rt:89:5
-loop-less : tie.Need-loop-less Inv-loop μ-loop
-loop-less c = search needs
-
--- src/carriers.rt:89:5
 loop-again : tie.Need-loop-again Inv-loop μ-loop
 loop-again c = (search needs, any-more _ _ (c .before .before .before .loop .inv .1) (sym (c .before .carries-out-at .ensures) ∙ c .if1 .left))
 
--- src/carriers.rt:85:1
 returns-2 : tie.Need-returns-2 Inv-loop μ-loop
 returns-2 c =
     let e : c .before .loop .x ≡ c .before .before .before .before .args .n = omega arith in
@@ -51,13 +32,4 @@ returns-2 c =
 pub is-carried-out-spec : {M : Type 1} → statement M
 is-carried-out-spec =
     tie.close
-    (tie.spec
-    Inv-loop
-    μ-loop
-    loop-holds
-    carries-out-at-requires
-    returns
-    add-x
-    loop-less
-    loop-again
-    returns-2)
+    (tie.spec Inv-loop μ-loop loop-holds (λ c κs. search needs) returns (λ c. search needs) (λ c. search needs) loop-again returns-2)

@@ -8,9 +8,6 @@ use Rattle.model.specs.Synchronizes.{carriesOver}
 use borrow.Author.Needs.{needs}
 use Rattle.sequence.proofs.carriers.is_carried_over.Statement.{statement}
 use Rattle.sequence.proofs.carriers.is_carried_over.Tie as tie
-use Rattle.sequence.proofs.carriers.is_carried_over.Reads as reads
-use Rattle.sequence.proofs.carriers.is_carried_over.Lts as lts
-use Rattle.sequence.proofs.carriers.carries_over_at.Reads as carries-over-at-reads
 
 abbrev Inv-loop : tie.InvT-loop
 Inv-loop rows p mode n a b w x₀ x = (x ≤ n) × (anyBelow x (carriesOver (decode rows p mode n) a b) ≡ false)
@@ -18,31 +15,15 @@ Inv-loop rows p mode n a b w x₀ x = (x ≤ n) × (anyBelow x (carriesOver (dec
 abbrev μ-loop : tie.MeasureT-loop
 μ-loop rows p mode n a b w x₀ x = n - x
 
--- src/carriers.rt:145:5
 loop-holds : tie.Need-loop-holds Inv-loop μ-loop
 loop-holds c = (search needs, any-none _)
 
--- src/carriers.rt:146:12
-carries-over-at-requires : tie.Need-carries-over-at-requires Inv-loop μ-loop
-carries-over-at-requires c κs = search needs
-
--- src/carriers.rt:147:13
 returns : tie.Need-returns Inv-loop μ-loop
 returns c = sym (any-in _ _ _ (c .before .before .loop-test .taken) (sym (c .before .carries-over-at .ensures) ∙ c .if1 .taken))
 
--- src/carriers.rt:145:9
-add-x : tie.Need-add-x Inv-loop μ-loop
-add-x c = search needs
-
--- src/carriers.rt:145:5
-loop-less : tie.Need-loop-less Inv-loop μ-loop
-loop-less c = search needs
-
--- src/carriers.rt:145:5
 loop-again : tie.Need-loop-again Inv-loop μ-loop
 loop-again c = (search needs, any-more _ _ (c .before .before .before .loop .inv .1) (sym (c .before .carries-over-at .ensures) ∙ c .if1 .left))
 
--- src/carriers.rt:141:1
 returns-2 : tie.Need-returns-2 Inv-loop μ-loop
 returns-2 c =
     let e : c .before .loop .x ≡ c .before .before .before .before .args .n = omega arith in
@@ -51,13 +32,4 @@ returns-2 c =
 pub is-carried-over-spec : {M : Type 1} → statement M
 is-carried-over-spec =
     tie.close
-    (tie.spec
-    Inv-loop
-    μ-loop
-    loop-holds
-    carries-over-at-requires
-    returns
-    add-x
-    loop-less
-    loop-again
-    returns-2)
+    (tie.spec Inv-loop μ-loop loop-holds (λ c κs. search needs) returns (λ c. search needs) (λ c. search needs) loop-again returns-2)

@@ -2,21 +2,7 @@ use Rattle.area.specs.Synced.{sequenced-made, synced-made}
 use borrow.Author.Needs.{needs}
 use Rattle.sequence.proofs.sync.make_synced.Statement.{statement}
 use Rattle.sequence.proofs.sync.make_synced.Tie as tie
-use Rattle.sequence.proofs.sync.make_synced.Reads as reads
-use Rattle.sequence.proofs.sync.make_synced.Lts as lts
-use Rattle.sequence.proofs.heads.fill_mutual.Reads as fill-mutual-reads
-use Rattle.sequence.proofs.heads.fill_sequence.Reads as fill-sequence-reads
-use Rattle.sequence.proofs.sync.fill_sync.Reads as fill-sync-reads
 
--- src/sync.rt:109:5
-fill-mutual-requires : tie.Need-fill-mutual-requires
-fill-mutual-requires c κs = search needs
-
--- src/sync.rt:110:5
-fill-sequence-requires : tie.Need-fill-sequence-requires
-fill-sequence-requires c κs = search needs
-
--- src/sync.rt:111:5
 fill-sync-requires : tie.Need-fill-sync-requires
 fill-sync-requires c κs = (
   search needs,
@@ -25,11 +11,6 @@ fill-sync-requires c κs = (
       (c .before .before .before .fill-sequence .ensures),
 )
 
--- src/sync.rt:105:1
-same-length : tie.Need-same-length
-same-length c = search needs
-
--- src/sync.rt:105:1
 returns : tie.Need-returns
 returns c =
     let at-sync = c .before .before in
@@ -40,4 +21,4 @@ returns c =
 pub make-synced-spec : {M : Type 1} → statement M
 make-synced-spec =
     tie.close
-    (tie.spec fill-mutual-requires fill-sequence-requires fill-sync-requires same-length returns)
+    (tie.spec (λ c κs. search needs) (λ c κs. search needs) fill-sync-requires (λ c. search needs) returns)

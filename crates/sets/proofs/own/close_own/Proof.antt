@@ -8,12 +8,6 @@ use Rattle.sets.specs.Own.{Off, Rounds, rounds-none, rounds-more, rounds
 use borrow.Author.Needs.{needs}
 use Rattle.sets.proofs.own.close_own.Statement.{statement}
 use Rattle.sets.proofs.own.close_own.Tie as tie
-use Rattle.sets.proofs.own.close_own.Reads as reads
-use Rattle.sets.proofs.own.close_own.Lts as lts
-use Rattle.sets.proofs.first_both.Reads as first-both-reads
-use Rattle.sets.proofs.held.next_row.Reads as next-row-reads
-use Rattle.sets.proofs.held.rows_of.Reads as rows-of-reads
-use Rattle.sets.proofs.own.join_own.Reads as join-own-reads
 
 abbrev Inv-loop : tie.InvT-loop
 Inv-loop w₀ base n at all lo hi k₀ w k = (k ≤ n) × Rounds w₀ w base n k × Off lo hi w₀ base n
@@ -21,19 +15,6 @@ Inv-loop w₀ base n at all lo hi k₀ w k = (k ≤ n) × Rounds w₀ w base n k
 abbrev μ-loop : tie.MeasureT-loop
 μ-loop w₀ base n at all lo hi k₀ w k = n - k
 
--- src/own.rt:60:9
-rows-of-requires : tie.Need-rows-of-requires Inv-loop μ-loop
-rows-of-requires c κs = search needs
-
--- src/own.rt:61:9
-rows-of-requires-2 : tie.Need-rows-of-requires-2 Inv-loop μ-loop
-rows-of-requires-2 c κs = search needs
-
--- src/own.rt:62:9
-next-row-requires : tie.Need-next-row-requires Inv-loop μ-loop
-next-row-requires c κs = search needs
-
--- src/own.rt:63:5
 loop-holds : tie.Need-loop-holds Inv-loop μ-loop
 loop-holds c =
     let at-hi = c .before .before in
@@ -45,23 +26,6 @@ loop-holds c =
       off-made _ _ _ _ _ _ (pre .2) (pre .4) (pre .5) (within-refl _ _ _) _ _ (at-lo .rows-of .ensures) (at-hi .rows-of2 .ensures),
     )
 
--- src/own.rt:64:24
-mul-a : tie.Need-mul-a Inv-loop μ-loop
-mul-a c = search needs
-
--- src/own.rt:64:17
-add-a : tie.Need-add-a Inv-loop μ-loop
-add-a c = search needs
-
--- src/own.rt:65:12
-first-both-requires : tie.Need-first-both-requires Inv-loop μ-loop
-first-both-requires c κs = search needs
-
--- src/own.rt:65:56
-mul-if1 : tie.Need-mul-if1 Inv-loop μ-loop
-mul-if1 c = search needs
-
--- src/own.rt:66:13
 join-own-requires : tie.Need-join-own-requires Inv-loop μ-loop
 join-own-requires c κs =
     let at-loop = c .before .before .before .before .before in
@@ -70,11 +34,6 @@ join-own-requires c κs =
     let len = inv .1 .frame .len in
     (omega (arith, len, pre .0), pre .1, pre .2, search needs, off-kept (inv .0) (pre .2) (inv .1) (inv .2))
 
--- src/own.rt:68:40
-add-next-row : tie.Need-add-next-row Inv-loop μ-loop
-add-next-row c = search needs
-
--- src/own.rt:68:9
 next-row-requires-2 : tie.Need-next-row-requires-2 Inv-loop μ-loop
 next-row-requires-2 c κs =
     let at-if = c .before in
@@ -86,11 +45,6 @@ next-row-requires-2 c κs =
     in
     (omega (arith, e, len, pre .3), search needs, search needs)
 
--- src/own.rt:63:5
-loop-less : tie.Need-loop-less Inv-loop μ-loop
-loop-less c = search needs
-
--- src/own.rt:63:5
 loop-again : tie.Need-loop-again Inv-loop μ-loop
 loop-again c =
     let at-if = c .before .before in
@@ -110,11 +64,6 @@ loop-again c =
     in
     (next .high, rounds-next _ _ _ _ _ _ _ (pre .2) (pre .4) (pre .5) e _ next, inv .2)
 
--- src/own.rt:55:1
-same-length : tie.Need-same-length Inv-loop μ-loop
-same-length c = search needs
-
--- src/own.rt:55:1
 returns : tie.Need-returns Inv-loop μ-loop
 returns c =
     let e : c .before .loop .k ≡ c .before .before .before .before .before .before .before .before .before .args .n = omega arith in
@@ -123,21 +72,6 @@ returns c =
 pub close-own-spec : {M : Type 1} → statement M
 close-own-spec =
     tie.close
-    (tie.spec
-    Inv-loop
-    μ-loop
-    rows-of-requires
-    rows-of-requires-2
-    next-row-requires
-    loop-holds
-    mul-a
-    add-a
-    first-both-requires
-    mul-if1
-    join-own-requires
-    add-next-row
-    next-row-requires-2
-    loop-less
-    loop-again
-    same-length
-    returns)
+    (tie.spec Inv-loop μ-loop (λ c κs. search needs) (λ c κs. search needs) (λ c κs. search needs) loop-holds (λ c. search needs)
+    (λ c. search needs) (λ c κs. search needs) (λ c. search needs) join-own-requires (λ c. search needs) next-row-requires-2
+    (λ c. search needs) loop-again (λ c. search needs) returns)

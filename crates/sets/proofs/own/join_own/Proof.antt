@@ -3,15 +3,10 @@ use Rattle.sets.specs.Own.{round-made}
 use borrow.Author.Needs.{needs}
 use Rattle.sets.proofs.own.join_own.Statement.{statement}
 use Rattle.sets.proofs.own.join_own.Tie as tie
-use Rattle.sets.proofs.own.join_own.Reads as reads
-use Rattle.sets.proofs.own.join_own.Lts as lts
-use Rattle.sets.proofs.own.join_word.Reads as join-word-reads
 
--- src/own.rt:49:5
 join-word-requires : tie.Need-join-word-requires
 join-word-requires c κs = (search needs, search needs, search needs, search needs, search needs, c .before .before .pre .4 .low)
 
--- src/own.rt:50:5
 join-word-requires-2 : tie.Need-join-word-requires-2
 join-word-requires-2 c κs =
     let at-one = c .before .before .before in
@@ -19,11 +14,6 @@ join-word-requires-2 c κs =
     let len = at-one .join-word .ensures .frame .len in
     (omega (arith, len, pre .0), search needs, search needs, search needs, search needs, pre .4 .high)
 
--- src/own.rt:45:1
-same-length : tie.Need-same-length
-same-length c = search needs
-
--- src/own.rt:45:1
 returns : tie.Need-returns
 returns c =
     let at-two = c .before .before in
@@ -32,4 +22,4 @@ returns c =
     round-made _ _ _ _ _ _ _ _ (pre .3) (pre .2) (pre .4) (at-one .join-word .ensures) (at-two .join-word2 .ensures)
 
 pub join-own-spec : {M : Type 1} → statement M
-join-own-spec = tie.close (tie.spec join-word-requires join-word-requires-2 same-length returns)
+join-own-spec = tie.close (tie.spec join-word-requires join-word-requires-2 (λ c. search needs) returns)

@@ -4,11 +4,6 @@ use Rattle.sets.specs.Own.{JoinedTo, word-none, word-more, word-all}
 use borrow.Author.Needs.{needs}
 use Rattle.sets.proofs.own.join_word.Statement.{statement}
 use Rattle.sets.proofs.own.join_word.Tie as tie
-use Rattle.sets.proofs.own.join_word.Reads as reads
-use Rattle.sets.proofs.own.join_word.Lts as lts
-use Rattle.sets.proofs.but_lowest.Reads as but-lowest-reads
-use Rattle.sets.proofs.lowest.Reads as lowest-reads
-use Rattle.sets.proofs.own.join_at.Reads as join-at-reads
 
 abbrev Inv-loop : tie.InvT-loop
 Inv-loop w₀ base n k rows from x₀ w x = JoinedTo w₀ w base n k rows from x
@@ -16,23 +11,9 @@ Inv-loop w₀ base n k rows from x₀ w x = JoinedTo w₀ w base n k rows from x
 abbrev μ-loop : tie.MeasureT-loop
 μ-loop w₀ base n k rows from x₀ w x = x
 
--- src/own.rt:37:5
 loop-holds : tie.Need-loop-holds Inv-loop μ-loop
 loop-holds c = word-none _ _ _ _ _ _
 
--- src/own.rt:38:40
-lowest-requires : tie.Need-lowest-requires Inv-loop μ-loop
-lowest-requires c κs = search needs
-
--- src/own.rt:38:40
-cast-join-at : tie.Need-cast-join-at Inv-loop μ-loop
-cast-join-at c = search needs
-
--- src/own.rt:38:32
-add-join-at : tie.Need-add-join-at Inv-loop μ-loop
-add-join-at c = search needs
-
--- src/own.rt:38:9
 join-at-requires : tie.Need-join-at-requires Inv-loop μ-loop
 join-at-requires c κs =
     let at-loop = c .before .before .before in
@@ -41,15 +22,9 @@ join-at-requires c κs =
     let len = inv .frame .len in
     (omega (arith, len, pre .0), pre .1, pre .2, pre .3, pre .5 .inside _ (inv .sub _ (c .lowest .ensures .0 .hit)))
 
--- src/own.rt:39:9
-but-lowest-requires : tie.Need-but-lowest-requires Inv-loop μ-loop
-but-lowest-requires c κs = search needs
-
--- src/own.rt:37:5
 loop-less : tie.Need-loop-less Inv-loop μ-loop
 loop-less c = c .but-lowest .ensures .less
 
--- src/own.rt:37:5
 loop-again : tie.Need-loop-again Inv-loop μ-loop
 loop-again c =
     let at-join = c .before .before .before in
@@ -60,11 +35,6 @@ loop-again c =
     word-more _ _ _ _ _ _ _ _ inv (pre .3) (pre .2) _ _ _ (low .0) (low .1) (c .but-lowest .ensures)
     (pre .5 .inside _ (inv .sub _ (low .0 .hit))) (at-join .join-at .ensures)
 
--- src/own.rt:32:1
-same-length : tie.Need-same-length Inv-loop μ-loop
-same-length c = search needs
-
--- src/own.rt:32:1
 returns : tie.Need-returns Inv-loop μ-loop
 returns c =
     let e : c .before .loop .x ≡ 0 = omega (arith, c .loop-test .left) in
@@ -73,16 +43,5 @@ returns c =
 pub join-word-spec : {M : Type 1} → statement M
 join-word-spec =
     tie.close
-    (tie.spec
-    Inv-loop
-    μ-loop
-    loop-holds
-    lowest-requires
-    cast-join-at
-    add-join-at
-    join-at-requires
-    but-lowest-requires
-    loop-less
-    loop-again
-    same-length
-    returns)
+    (tie.spec Inv-loop μ-loop loop-holds (λ c κs. search needs) (λ c. search needs) (λ c. search needs) join-at-requires
+    (λ c κs. search needs) loop-less loop-again (λ c. search needs) returns)

@@ -8,10 +8,6 @@ use Rattle.model.specs.Refusal.{namesNone}
 use borrow.Author.Needs.{needs}
 use Rattle.table.proofs.header.any_names_none.Statement.{statement}
 use Rattle.table.proofs.header.any_names_none.Tie as tie
-use Rattle.table.proofs.header.any_names_none.Reads as reads
-use Rattle.table.proofs.header.any_names_none.Lts as lts
-use Rattle.rows.proofs.bytes.pair_at.Reads as pair-at-reads
-use Rattle.table.proofs.header.names_none.Reads as names-none-reads
 
 abbrev Inv-loop : tie.InvT-loop
 Inv-loop d rows count k₀ k = (k ≤ count) × (anyBelow k (namesNone d rows) ≡ false)
@@ -19,36 +15,16 @@ Inv-loop d rows count k₀ k = (k ≤ count) × (anyBelow k (namesNone d rows) �
 abbrev μ-loop : tie.MeasureT-loop
 μ-loop d rows count k₀ k = count - k
 
--- src/header.rt:78:9
-pair-at-requires : tie.Need-pair-at-requires Inv-loop μ-loop
-pair-at-requires c κs = search needs
-
--- src/header.rt:79:5
 loop-holds : tie.Need-loop-holds Inv-loop μ-loop
 loop-holds c = (search needs, any-none _)
 
--- src/header.rt:80:12
-names-none-requires : tie.Need-names-none-requires Inv-loop μ-loop
-names-none-requires c κs = search needs
-
--- src/header.rt:81:13
 returns : tie.Need-returns Inv-loop μ-loop
 unfolding dependencyCount
 returns c = sym (any-in _ _ _ (omega (arith, c .before .before .before .before .pair-at .ensures)) (sym (c .before .names-none .ensures) ∙ c .if1 .taken))
 
--- src/header.rt:79:9
-add-k : tie.Need-add-k Inv-loop μ-loop
-add-k c = search needs
-
--- src/header.rt:79:5
-loop-less : tie.Need-loop-less Inv-loop μ-loop
-loop-less c = search needs
-
--- src/header.rt:79:5
 loop-again : tie.Need-loop-again Inv-loop μ-loop
 loop-again c = (search needs, any-more _ _ (c .before .before .before .loop .inv .1) (sym (c .before .names-none .ensures) ∙ c .if1 .left))
 
--- src/header.rt:75:1
 returns-2 : tie.Need-returns-2 Inv-loop μ-loop
 unfolding dependencyCount
 returns-2 c =
@@ -58,14 +34,5 @@ returns-2 c =
 pub any-names-none-spec : {M : Type 1} → statement M
 any-names-none-spec =
     tie.close
-    (tie.spec
-    Inv-loop
-    μ-loop
-    pair-at-requires
-    loop-holds
-    names-none-requires
-    returns
-    add-k
-    loop-less
-    loop-again
-    returns-2)
+    (tie.spec Inv-loop μ-loop (λ c κs. search needs) loop-holds (λ c κs. search needs) returns (λ c. search needs) (λ c. search needs)
+    loop-again returns-2)

@@ -10,10 +10,6 @@ use Rattle.table.proofs.Laws.{class-more, class-found}
 use borrow.Author.Needs.{needs}
 use Rattle.table.proofs.table_faults.any_other_class.Statement.{statement}
 use Rattle.table.proofs.table_faults.any_other_class.Tie as tie
-use Rattle.table.proofs.table_faults.any_other_class.Reads as reads
-use Rattle.table.proofs.table_faults.any_other_class.Lts as lts
-use Rattle.rows.proofs.bytes.read_class.Reads as read-class-reads
-use Rattle.table.proofs.table_faults.is_of_reference.Reads as is-of-reference-reads
 
 abbrev Inv-loop : tie.InvT-loop
 Inv-loop rows i r j₀ j = (j ≤ i) × ((k : ℕ) → j ≤ k → k < i → otherClassAt (decode rows [] OFF 0) i k ≡ false)
@@ -21,23 +17,9 @@ Inv-loop rows i r j₀ j = (j ≤ i) × ((k : ℕ) → j ≤ k → k < i → oth
 abbrev μ-loop : tie.MeasureT-loop
 μ-loop rows i r j₀ j = j
 
--- src/table_faults.rt:67:5
 loop-holds : tie.Need-loop-holds Inv-loop μ-loop
 loop-holds c = (search needs, λ k l m. absurd (omega arith))
 
--- src/table_faults.rt:68:13
-sub-j : tie.Need-sub-j Inv-loop μ-loop
-sub-j c = search needs
-
--- src/table_faults.rt:69:12
-is-of-reference-requires : tie.Need-is-of-reference-requires Inv-loop μ-loop
-is-of-reference-requires c κs = search needs
-
--- src/table_faults.rt:70:20
-read-class-requires : tie.Need-read-class-requires Inv-loop μ-loop
-read-class-requires c κs = search needs
-
--- src/table_faults.rt:70:13
 returns : tie.Need-returns Inv-loop μ-loop
 returns c =
     let found = c .before .before in
@@ -47,31 +29,16 @@ returns c =
     (start .pre .1)
     (at-loop .loop .inv .1)
 
--- src/table_faults.rt:67:5
-loop-less : tie.Need-loop-less Inv-loop μ-loop
-loop-less c = search needs
-
--- src/table_faults.rt:67:5
 loop-again : tie.Need-loop-again Inv-loop μ-loop
 loop-again c =
     let at-loop = c .before .before .before in
     (search needs, class-more _ _ _ _ _ (at-loop .before .before .pre .0) (c .before .is-of-reference .ensures) (c .if1 .left) (at-loop .loop .inv .1))
 
--- src/table_faults.rt:62:1
 returns-2 : tie.Need-returns-2 Inv-loop μ-loop
 returns-2 c = sym (any-not _ _ (λ k l. c .before .loop .inv .1 k (omega arith) l))
 
 pub any-other-class-spec : {M : Type 1} → statement M
 any-other-class-spec =
     tie.close
-    (tie.spec
-    Inv-loop
-    μ-loop
-    loop-holds
-    sub-j
-    is-of-reference-requires
-    read-class-requires
-    returns
-    loop-less
-    loop-again
-    returns-2)
+    (tie.spec Inv-loop μ-loop loop-holds (λ c. search needs) (λ c κs. search needs) (λ c κs. search needs) returns (λ c. search needs)
+    loop-again returns-2)

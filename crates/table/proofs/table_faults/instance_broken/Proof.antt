@@ -12,10 +12,6 @@ use Rattle.table.proofs.Laws.{instance-none}
 use borrow.Author.Needs.{needs}
 use Rattle.table.proofs.table_faults.instance_broken.Statement.{statement}
 use Rattle.table.proofs.table_faults.instance_broken.Tie as tie
-use Rattle.table.proofs.table_faults.instance_broken.Reads as reads
-use Rattle.table.proofs.table_faults.instance_broken.Lts as lts
-use Rattle.rows.proofs.scopes.place_in.Reads as place-in-reads
-use Rattle.table.proofs.table_faults.apart_at.Reads as apart-at-reads
 
 abbrev Inv-loop : tie.InvT-loop
 Inv-loop rows p i r x j₀ j = (j ≤ i) × (anyBelow j (apartAt (decode rows p OFF 0) i) ≡ false) × (r .kind ≡ CONTROL) × IsPlace p (r .agent) x
@@ -23,42 +19,21 @@ Inv-loop rows p i r x j₀ j = (j ≤ i) × (anyBelow j (apartAt (decode rows p 
 abbrev μ-loop : tie.MeasureT-loop
 μ-loop rows p i r x j₀ j = i - j
 
--- src/table_faults.rt:197:9
 returns : tie.Need-returns Inv-loop μ-loop
 returns c = instance-none _ _ _ (λ e. c .if1 .taken (ap (λ (q : Row). q .kind) (c .before .before .before .pre) ∙ e))
 
--- src/table_faults.rt:199:9
-place-in-requires : tie.Need-place-in-requires Inv-loop μ-loop
-place-in-requires c κs = search needs
-
--- src/table_faults.rt:200:5
 loop-holds : tie.Need-loop-holds Inv-loop μ-loop
 loop-holds c = (search needs, any-none _, search needs, c .place-in .ensures)
 
--- src/table_faults.rt:201:12
-apart-at-requires : tie.Need-apart-at-requires Inv-loop μ-loop
-apart-at-requires c κs = search needs
-
--- src/table_faults.rt:202:13
 returns-2 : tie.Need-returns-2 Inv-loop μ-loop
 unfolding instanceBroken
 returns-2 c = sym (any-in _ _ _ (c .before .before .loop-test .taken) (sym (c .before .apart-at .ensures) ∙ c .if2 .taken))
 
--- src/table_faults.rt:200:9
-add-j : tie.Need-add-j Inv-loop μ-loop
-add-j c = search needs
-
--- src/table_faults.rt:200:5
-loop-less : tie.Need-loop-less Inv-loop μ-loop
-loop-less c = search needs
-
--- src/table_faults.rt:200:5
 loop-again : tie.Need-loop-again Inv-loop μ-loop
 loop-again c =
     let inv = c .before .before .before .loop .inv in
     (search needs, any-more _ _ (inv .1) (sym (c .before .apart-at .ensures) ∙ c .if2 .left), inv .2, inv .3)
 
--- src/table_faults.rt:192:1
 returns-3 : tie.Need-returns-3 Inv-loop μ-loop
 unfolding instanceBroken
 returns-3 c =
@@ -68,15 +43,5 @@ returns-3 c =
 pub instance-broken-spec : {M : Type 1} → statement M
 instance-broken-spec =
     tie.close
-    (tie.spec
-    Inv-loop
-    μ-loop
-    returns
-    place-in-requires
-    loop-holds
-    apart-at-requires
-    returns-2
-    add-j
-    loop-less
-    loop-again
-    returns-3)
+    (tie.spec Inv-loop μ-loop returns (λ c κs. search needs) loop-holds (λ c κs. search needs) returns-2 (λ c. search needs)
+    (λ c. search needs) loop-again returns-3)

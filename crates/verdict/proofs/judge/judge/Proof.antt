@@ -5,22 +5,7 @@ use Rattle.verdict.specs.Answers.{show-asked, rows-few, start-found, jud
 use borrow.Author.Needs.{needs}
 use Rattle.verdict.proofs.judge.judge.Statement.{statement}
 use Rattle.verdict.proofs.judge.judge.Tie as tie
-use Rattle.verdict.proofs.judge.judge.Reads as reads
-use Rattle.verdict.proofs.judge.judge.Lts as lts
-use Rattle.axioms.proofs.edges.fill_edges.Reads as fill-edges-reads
-use Rattle.cycle.proofs.cycle_start.Reads as cycle-start-reads
-use Rattle.verdict.proofs.judge.settle.Reads as settle-reads
-use Rattle.verdict.proofs.show.show_cycle.Reads as show-cycle-reads
 
--- src/judge.rt:86:5
-fill-edges-requires : tie.Need-fill-edges-requires
-fill-edges-requires c κs = search needs
-
--- src/judge.rt:87:9
-cycle-start-requires : tie.Need-cycle-start-requires
-cycle-start-requires c κs = search needs
-
--- src/judge.rt:89:13
 show-cycle-requires : tie.Need-show-cycle-requires
 unfolding decode
 show-cycle-requires c κs =
@@ -31,7 +16,6 @@ show-cycle-requires c κs =
     (c .before .before .before .before .before .cycle-start .ensures .1) (pre .3) (c .before .before .if1 .taken) in
     (asked .0, pre .0, pre .1, asked .1, asked .2, asked .3)
 
--- src/judge.rt:90:43
 cast-t20 : tie.Need-cast-t20
 unfolding decode
 cast-t20 c =
@@ -47,15 +31,6 @@ cast-t20 c =
           .before .before .before .before .pre .3 .0,
     )
 
--- src/judge.rt:90:9
-same-length : tie.Need-same-length
-same-length c = search needs
-
--- src/judge.rt:90:9
-same-length-2 : tie.Need-same-length-2
-same-length-2 c = search needs
-
--- src/judge.rt:90:9
 returns : tie.Need-returns
 unfolding decode
 returns c =
@@ -66,7 +41,6 @@ returns c =
     (c .before .before .before .before .before .before .before .before .before .before .cycle-start .ensures .1) _ _ _ _
     (c .before .before .before .before .before .before .before .if1 .taken) (show .0) (show .1) (show .2)
 
--- src/judge.rt:92:5
 settle-requires : tie.Need-settle-requires
 settle-requires c κs =
     let pre = c .before .before .before .before .before .before .before .before .before .before .before .before .before .before .pre in
@@ -77,11 +51,6 @@ settle-requires c κs =
           (edges-held (c .before .before .before .before .before .before .before .before .fill-edges .ensures) (start .1) .1),
     )
 
--- src/judge.rt:73:1
-same-length-3 : tie.Need-same-length-3
-same-length-3 c = search needs
-
--- src/judge.rt:73:1
 returns-2 : tie.Need-returns-2
 unfolding decode
 returns-2 c =
@@ -92,14 +61,5 @@ returns-2 c =
 pub judge-spec : {M : Type 1} → statement M
 judge-spec =
     tie.close
-    (tie.spec
-    fill-edges-requires
-    cycle-start-requires
-    show-cycle-requires
-    cast-t20
-    same-length
-    same-length-2
-    returns
-    settle-requires
-    same-length-3
-    returns-2)
+    (tie.spec (λ c κs. search needs) (λ c κs. search needs) show-cycle-requires cast-t20 (λ c. search needs) (λ c. search needs) returns
+    settle-requires (λ c. search needs) returns-2)

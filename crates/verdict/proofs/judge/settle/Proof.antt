@@ -2,41 +2,10 @@ use Rattle.verdict.specs.Answers.{settle-over, settle-on}
 use borrow.Author.Needs.{needs}
 use Rattle.verdict.proofs.judge.settle.Statement.{statement}
 use Rattle.verdict.proofs.judge.settle.Tie as tie
-use Rattle.verdict.proofs.judge.settle.Reads as reads
-use Rattle.verdict.proofs.judge.settle.Lts as lts
-use Rattle.axioms.proofs.overwritten.first_overwrite.Reads as first-overwrite-reads
-use Rattle.race.proofs.first_race.Reads as first-race-reads
-use Rattle.verdict.proofs.judge.overwrite_answer.Reads as overwrite-answer-reads
-use Rattle.verdict.proofs.judge.race_answer.Reads as race-answer-reads
 
--- src/judge.rt:65:9
-first-overwrite-requires : tie.Need-first-overwrite-requires
-first-overwrite-requires c κs = search needs
-
-enum-told : tie.Need-enum-told
-enum-told c = search needs
-
--- src/judge.rt:67:9
-enum-told-2 : tie.Need-enum-told-2
-enum-told-2 c = search needs
-
--- src/judge.rt:67:9
-overwrite-answer-requires : tie.Need-overwrite-answer-requires
-overwrite-answer-requires c κs = search needs
-
--- src/judge.rt:67:9
 returns : tie.Need-returns
 returns c = settle-over _ _ _ _ _ (c .before .before .before .first-overwrite .ensures) (c .before .enum-told2 .given .1) (c .overwrite-answer .ensures)
 
--- src/judge.rt:69:17
-first-race-requires : tie.Need-first-race-requires
-first-race-requires c κs = search needs
-
--- src/judge.rt:69:5
-race-answer-requires : tie.Need-race-answer-requires
-race-answer-requires c κs = search needs
-
--- src/judge.rt:61:1
 returns-2 : tie.Need-returns-2
 returns-2 c = settle-on _ _ _ _ _ (c .before .before .before .before .first-overwrite .ensures) (c .before .before .enum-told .given .1)
     (c .before .first-race .ensures) (c .race-answer .ensures)
@@ -44,12 +13,5 @@ returns-2 c = settle-on _ _ _ _ _ (c .before .before .before .before .first-over
 pub settle-spec : {M : Type 1} → statement M
 settle-spec =
     tie.close
-    (tie.spec
-    first-overwrite-requires
-    enum-told
-    enum-told-2
-    overwrite-answer-requires
-    returns
-    first-race-requires
-    race-answer-requires
-    returns-2)
+    (tie.spec (λ c κs. search needs) (λ c. search needs) (λ c. search needs) (λ c κs. search needs) returns (λ c κs. search needs)
+    (λ c κs. search needs) returns-2)

@@ -10,10 +10,6 @@ use Prim.Native.Nat.{ℕ, _≤_, _-_}
 use borrow.Author.Needs.{needs}
 use Rattle.writer.proofs.encode.place_bytes.Statement.{statement}
 use Rattle.writer.proofs.encode.place_bytes.Tie as tie
-use Rattle.writer.proofs.encode.place_bytes.Reads as reads
-use Rattle.writer.proofs.encode.place_bytes.Lts as lts
-use Rattle.writer.proofs.encode.half.Reads as half-reads
-use Rattle.writer.proofs.encode.place_number.Reads as place-number-reads
 
 abbrev Inv-loop : tie.InvT-loop
 Inv-loop hosts p b₀ k₀ b k = (k ≤ 256) × (length b ≡ 256) × (take k b ≡ tabulate (placeByte hosts p) k)
@@ -21,31 +17,9 @@ Inv-loop hosts p b₀ k₀ b k = (k ≤ 256) × (length b ≡ 256) × (take k b 
 abbrev μ-loop : tie.MeasureT-loop
 μ-loop hosts p b₀ k₀ b k = 256 - k
 
--- src/encode.rt:109:5
 loop-holds : tie.Need-loop-holds Inv-loop μ-loop
 loop-holds c = (search needs, length-replicate {A = ℕ} 256 0, tab-none _ [])
 
--- src/encode.rt:110:22
-place-number-requires : tie.Need-place-number-requires Inv-loop μ-loop
-place-number-requires c κs = search needs
-
--- src/encode.rt:110:13
-half-requires : tie.Need-half-requires Inv-loop μ-loop
-half-requires c κs = search needs
-
--- src/encode.rt:111:9
-array-write-b : tie.Need-array-write-b Inv-loop μ-loop
-array-write-b c = search needs
-
--- src/encode.rt:109:9
-add-k : tie.Need-add-k Inv-loop μ-loop
-add-k c = search needs
-
--- src/encode.rt:109:5
-loop-less : tie.Need-loop-less Inv-loop μ-loop
-loop-less c = search needs
-
--- src/encode.rt:109:5
 loop-again : tie.Need-loop-again Inv-loop μ-loop
 loop-again c =
     let at-loop = c .before .before .before in (
@@ -54,7 +28,6 @@ loop-again c =
       tab-more _ _ _ _ (omega arith) (at-loop .loop .inv .2) (byte-place _ _ _ _ (c .before .place-number .ensures) (c .half .ensures)),
     )
 
--- src/encode.rt:105:1
 returns : tie.Need-returns Inv-loop μ-loop
 returns c =
     let done : c .before .loop .k ≡ 256 = omega arith in
@@ -63,14 +36,5 @@ returns c =
 pub place-bytes-spec : {M : Type 1} → statement M
 place-bytes-spec =
     tie.close
-    (tie.spec
-    Inv-loop
-    μ-loop
-    loop-holds
-    place-number-requires
-    half-requires
-    array-write-b
-    add-k
-    loop-less
-    loop-again
-    returns)
+    (tie.spec Inv-loop μ-loop loop-holds (λ c κs. search needs) (λ c κs. search needs) (λ c. search needs) (λ c. search needs)
+    (λ c. search needs) loop-again returns)

@@ -2,10 +2,7 @@ use Rattle.writer.specs.Encode.{withHosts}
 use mathlib.Core.Path.{refl}
 use Rattle.writer.proofs.encode.with_hosts.Statement.{statement}
 use Rattle.writer.proofs.encode.with_hosts.Tie as tie
-use Rattle.writer.proofs.encode.with_hosts.Reads as reads
-use Rattle.writer.proofs.encode.with_hosts.Lts as lts
 
--- src/encode.rt:37:1
 returns : tie.Need-returns
 unfolding withHosts
 returns c = refl

@@ -3,15 +3,11 @@ use borrow.Author.Tests.{lt-ltb, le-ltb}
 use Rattle.writer.specs.Parts.{capped}
 use Rattle.writer.proofs.parts.capped.Statement.{statement}
 use Rattle.writer.proofs.parts.capped.Tie as tie
-use Rattle.writer.proofs.parts.capped.Reads as reads
-use Rattle.writer.proofs.parts.capped.Lts as lts
 
--- src/parts.rt:18:1
 returns : tie.Need-returns
 unfolding capped
 returns c = (simp (lt-ltb _ _ (c .if1 .taken)), omega arith)
 
--- src/parts.rt:18:1
 returns-2 : tie.Need-returns-2
 unfolding capped
 returns-2 c = (simp (le-ltb _ _ (c .if1 .left)), omega arith)

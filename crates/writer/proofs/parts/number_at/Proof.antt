@@ -3,24 +3,9 @@ use mathlib.Core.Path.{sym}
 use borrow.Author.Needs.{needs}
 use Rattle.writer.proofs.parts.number_at.Statement.{statement}
 use Rattle.writer.proofs.parts.number_at.Tie as tie
-use Rattle.writer.proofs.parts.number_at.Reads as reads
-use Rattle.writer.proofs.parts.number_at.Lts as lts
 
--- src/parts.rt:27:22
-mul-result : tie.Need-mul-result
-mul-result c = search needs
-
--- src/parts.rt:27:22
-shared-slice-read-result : tie.Need-shared-slice-read-result
-shared-slice-read-result c = search needs
-
--- src/parts.rt:24:1
-returns : tie.Need-returns
-returns c = search needs
-
--- src/parts.rt:24:1
 returns-2 : tie.Need-returns-2
 returns-2 c = sym (List·getD-eq-default (c .before .args .q .now) 0 (c .if1 .left))
 
 pub number-at-spec : {M : Type 1} → statement M
-number-at-spec = tie.close (tie.spec mul-result shared-slice-read-result returns returns-2)
+number-at-spec = tie.close (tie.spec (λ c. search needs) (λ c. search needs) (λ c. search needs) returns-2)

@@ -10,9 +10,6 @@ use Prim.Native.Nat.{_≤_, _-_}
 use borrow.Author.Needs.{needs}
 use Rattle.writer.proofs.parts.places_in.Statement.{statement}
 use Rattle.writer.proofs.parts.places_in.Tie as tie
-use Rattle.writer.proofs.parts.places_in.Reads as reads
-use Rattle.writer.proofs.parts.places_in.Lts as lts
-use Rattle.writer.proofs.parts.place_in.Reads as place-in-reads
 
 abbrev Inv-loop : tie.InvT-loop
 Inv-loop q p₀ a₀ p a = (a ≤ AGENTS) × (length p ≡ AGENTS) × (take a p ≡ tabulate (placeIn q) a)
@@ -20,41 +17,14 @@ Inv-loop q p₀ a₀ p a = (a ≤ AGENTS) × (length p ≡ AGENTS) × (take a p 
 abbrev μ-loop : tie.MeasureT-loop
 μ-loop q p₀ a₀ p a = AGENTS - a
 
--- src/parts.rt:54:5
 loop-holds : tie.Need-loop-holds Inv-loop μ-loop
 loop-holds c = (search needs, refl, tab-none _ [])
 
--- src/parts.rt:55:33
-cast-place-in : tie.Need-cast-place-in Inv-loop μ-loop
-cast-place-in c = search needs
-
--- src/parts.rt:55:13
-place-in-requires : tie.Need-place-in-requires Inv-loop μ-loop
-place-in-requires c κs = search needs
-
--- src/parts.rt:56:9
-mul-p : tie.Need-mul-p Inv-loop μ-loop
-mul-p c = search needs
-
--- src/parts.rt:56:9
-array-set-from-p : tie.Need-array-set-from-p Inv-loop μ-loop
-array-set-from-p c = search needs
-
--- src/parts.rt:54:9
-add-a : tie.Need-add-a Inv-loop μ-loop
-add-a c = search needs
-
--- src/parts.rt:54:5
-loop-less : tie.Need-loop-less Inv-loop μ-loop
-loop-less c = search needs
-
--- src/parts.rt:54:5
 loop-again : tie.Need-loop-again Inv-loop μ-loop
 loop-again c =
     let at-loop = c .before .before in
     (omega arith, simp length-set (at-loop .loop .inv .1), tab-more _ _ _ _ (omega arith) (at-loop .loop .inv .2) (c .place-in .ensures))
 
--- src/parts.rt:49:1
 returns : tie.Need-returns Inv-loop μ-loop
 unfolding placesIn
 returns c =
@@ -64,15 +34,5 @@ returns c =
 pub places-in-spec : {M : Type 1} → statement M
 places-in-spec =
     tie.close
-    (tie.spec
-    Inv-loop
-    μ-loop
-    loop-holds
-    cast-place-in
-    place-in-requires
-    mul-p
-    array-set-from-p
-    add-a
-    loop-less
-    loop-again
-    returns)
+    (tie.spec Inv-loop μ-loop loop-holds (λ c. search needs) (λ c κs. search needs) (λ c. search needs) (λ c. search needs)
+    (λ c. search needs) (λ c. search needs) loop-again returns)

@@ -1,12 +1,12 @@
 // The four edges between rows. Some code reads none of the rows, places or number of rows that it is given: they say which table
 // its contract is about.
 ghost use mathlib.Core.Path.{_≡_};
-ghost use Prim.Native.Nat.{ℕ, _*_, _≤_, _<_};
+ghost use Prim.Native.Nat.{_≤_, _<_};
 ghost use lib.ListN.{length};
 ghost use Rattle.bits.specs.Stage.{Made};
 ghost use Rattle.model.specs.Table.{rowOf, decode};
 ghost use Rattle.model.specs.Scope.{follows};
-ghost use Rattle.model.specs.Edge.{beforeSome, readsFrom, fromReads, edgeNumber, edge};
+ghost use Rattle.model.specs.Edge.{readsFrom, fromReads, edgeNumber, edge};
 ghost use Rattle.area.specs.Regions.{EDGE, EDGE-END, GRID};
 ghost use Rattle.race.specs.Bytes.{Ready};
 ghost use Rattle.axioms.specs.Sources.{sourceIn};

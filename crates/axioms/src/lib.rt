@@ -1,7 +1,7 @@
 // The axioms: the edges between rows, which axiom A asks to have no cycle, and the overwritten reads that axiom B rules out.
 // The sources of all rows are a lent slice of their own: a check lends the table's, a fill those that it chose.
 ghost use mathlib.Core.Path.{_≡_};
-ghost use Prim.Native.Nat.{ℕ, _<_};
+ghost use Prim.Native.Nat.{_<_};
 ghost use lib.ListN.{length};
 ghost use Rattle.axioms.specs.Sources.{sourceIn};
 use model::Source;

@@ -1,7 +1,7 @@
 // Axiom B: the first reader whose source is overwritten before it, the writer and the byte.
 ghost use mathlib.Core.Path.{_≡_};
-ghost use mathlib.Core.Bool.{Bool, true};
-ghost use Prim.Native.Nat.{ℕ, _≤_, _<_};
+ghost use mathlib.Core.Bool.{true};
+ghost use Prim.Native.Nat.{_≤_, _<_};
 ghost use lib.ListN.{length};
 ghost use Rattle.model.specs.Limits.{ROWS};
 ghost use Rattle.model.specs.Table.{rowOf, decode};

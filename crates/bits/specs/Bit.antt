@@ -174,10 +174,6 @@ pub bit-zeros-in : (w : List ℕ) (from n k : ℕ) → from + n ≤ length w →
 unfolding bit
 bit-zeros-in w from n k l a b = ap (λ (x : ℕ). bitOf x (k % 64)) (zeros-in w from n (k / 64) l (omega arith) (omega arith)) ∙ bitOf-zero (k % 64)
 
-pub bit-zeros-out : (w : List ℕ) (from n k : ℕ) → (64 * from ≤ k → 64 * (from + n) ≤ k) → bit (zeros w from n) k ≡ bit w k
-bit-zeros-out w from n k h =
-    bit-word (zeros w from n) w k (zeros-out w from n (k / 64) (λ a. let g : 64 * (from + n) ≤ k = h (omega arith) in omega arith))
-
 -- a turn of the loop that clears
 pub zeros-more : (w₀ w : List ℕ) (from i : ℕ) → from ≤ i → w ≡ zeros w₀ from (i - from) → set w i 0 ≡ zeros w₀ from (i + 1 - from)
 unfolding zeros

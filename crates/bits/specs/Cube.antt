@@ -123,11 +123,6 @@ pub cube-bit : {a row m n : ℕ} {r : ℕ → ℕ → ℕ → Bool} {w : List �
     → bit w k ≡ r i j b
 cube-bit h k i j b e x y z = rw e (h .cell i j b x y z)
 
--- relations that agree
-pub cube-cong : {a row m n : ℕ} {r s : ℕ → ℕ → ℕ → Bool} {w : List ℕ} → ((i j b : ℕ) → i < n → j < n → b < m → r i j b ≡ s i j b)
-    → Cube a row m n r w → Cube a row m n s w
-cube-cong e h = record { fits = h .fits; cell = λ i j b x y z. h .cell i j b x y z ∙ e i j b x y z }
-
 -- a change elsewhere keeps what a region holds
 pub cube-kept : {a row m n c d : ℕ} {r : ℕ → ℕ → ℕ → Bool} {w u : List ℕ} → (c * 64 < a * 64 + n * row → d ≤ a) → Within c d w u
     → Cube a row m n r w → Cube a row m n r u

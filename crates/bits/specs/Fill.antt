@@ -1,7 +1,7 @@
 -- A relation that is written bit by bit from a test: the mirror of the loops on lists, and what bits it leaves.
 -- One law serves every such loop. Assumes nothing.
 use mathlib.Core.Path.{_≡_, refl, ap, _∙_}
-use mathlib.Core.Bool.{Bool, true, false}
+use mathlib.Core.Bool.{Bool, false}
 use mathlib.Core.List.{List}
 use Prim.Native.Nat.{ℕ, zero, suc, _+_, _*_, _≤_, _<_}
 use native.Mathlib.Omega.{arith}
@@ -10,7 +10,7 @@ use native.Mathlib.Numerals.{add-one}
 use native.Mathlib.Decide.{ℕ-discrete}
 use lib.ListN.{length}
 use Rattle.finite.specs.Logic.{_or_}
-use Rattle.bits.specs.Bit.{bit, setBit, setBitIf, length-setBitIf, setBitIf-same, setBitIf-other}
+use Rattle.bits.specs.Bit.{bit, setBitIf, length-setBitIf, setBitIf-same, setBitIf-other}
 use Rattle.bits.specs.Within.{Within, within-refl, within-trans, within-setBitIf}
 use Rattle.bits.specs.Matrix.{row-apart}
 
@@ -123,11 +123,6 @@ within-gridFill a b p w at step n (suc r) s l m =
 pub rowFill-none : (p : ℕ → Bool) (w : List ℕ) (at : ℕ) → w ≡ rowFill p w at 0
 unfolding rowFill
 rowFill-none p w at = refl
-
-pub rowFill-set : (p : ℕ → Bool) (w₀ w u : List ℕ) (at n k : ℕ) → w ≡ rowFill p w₀ at n → p n ≡ true → k ≡ at + n → u ≡ setBit w k
-    → u ≡ rowFill p w₀ at (n + 1)
-unfolding rowFill setBitIf
-rowFill-set p w₀ w u at n k e b q s = rw (add-one, b, s, q, e)
 
 pub rowFill-skip : (p : ℕ → Bool) (w₀ w u : List ℕ) (at n : ℕ) → w ≡ rowFill p w₀ at n → p n ≡ false → u ≡ w → u ≡ rowFill p w₀ at (n + 1)
 unfolding rowFill setBitIf

@@ -9,10 +9,10 @@ use native.Mathlib.Nat.{mul-assoc}
 use lib.ListN.{length}
 use Rattle.finite.specs.Logic.{_or_, or-off}
 use Rattle.finite.specs.Closure.{through, through-cong}
-use Rattle.bits.specs.Bit.{bit, setBitIf, zeros, length-zeros, bit-zeros-in, joinRow, bit-joinRow}
-use Rattle.bits.specs.Within.{Within, within-refl, within-trans, within-widen, within-bit, within-joinRow, within-put, within-cleared}
+use Rattle.bits.specs.Bit.{bit, zeros, length-zeros, bit-zeros-in, joinRow, bit-joinRow}
+use Rattle.bits.specs.Within.{Within, within-refl, within-trans, within-widen, within-bit, within-joinRow, within-cleared}
 use Rattle.bits.specs.Matrix.{rel, Closed, row-apart, place}
-use Rattle.bits.specs.Fill.{or-fresh, rowFill, gridFill, gridFill-in, within-rowFill, within-gridFill}
+use Rattle.bits.specs.Fill.{or-fresh, gridFill, gridFill-in, within-gridFill}
 
 -- ---- definitions
 
@@ -64,18 +64,6 @@ holds-kept {a} {stride} {n} {c} {d} {r} {w} {u} off f h =
         let t : n ≤ 64 * stride = h .fits in
         let g : d ≤ a = off (omega arith) in
         omega arith
-
--- a bit that is set elsewhere, in c..d
-pub holds-put : {a stride n : ℕ} {r : ℕ → ℕ → Bool} {w u : List ℕ} (c d k : ℕ) (b : Bool) → (c < a + n * stride → d ≤ a) → 64 * c ≤ k
-    → k < 64 * d → u ≡ setBitIf b w k
-    → Holds a stride n r w → Holds a stride n r u
-holds-put c d k b off l m e h = holds-kept off (within-put c d k b l m e) h
-
--- a row of bits that is filled elsewhere, in c..d
-pub holds-row : {a stride n : ℕ} {r : ℕ → ℕ → Bool} {w u : List ℕ} (c d : ℕ) (p : ℕ → Bool) (at m : ℕ) → (c < a + n * stride → d ≤ a)
-    → 64 * c ≤ at → at + m ≤ 64 * d
-    → u ≡ rowFill p w at m → Holds a stride n r w → Holds a stride n r u
-holds-row {w = w} c d p at m off l h e k = holds-kept off (rw e (within-rowFill c d p w at m l h)) k
 
 -- ---- laws: cleared, then filled from a test
 

@@ -1,7 +1,7 @@
 // Bits in a lent list of 64-bit words: bit k is bit k % 64 of word k / 64. Matrices of bits: row i starts at word
 // base + i * stride. These are stages over a work area, so each asks for the room that it uses; nothing else is assumed.
 ghost use mathlib.Core.Path.{_≡_};
-ghost use Prim.Native.Nat.{ℕ, _+_, _-_, _*_, _≤_, _<_};
+ghost use Prim.Native.Nat.{_+_, _-_, _*_, _≤_, _<_};
 ghost use lib.ListN.{length};
 ghost use Rattle.bits.specs.Bit.{bit, setBit, setBitIf, zeros, joinRow};
 ghost use Rattle.bits.specs.Matrix.{AREA-LIMIT, Closed};

@@ -15,7 +15,7 @@ use Rattle.model.specs.declared.Admission.the-variants.{Admitted, Refused}
 use Rattle.model.specs.declared.FillAnswer.{FillAnswer}
 use Rattle.model.specs.declared.FillAnswer.the-variants
 use Rattle.model.specs.Limits.{WORK, SOURCES}
-use Rattle.model.specs.Table.{Table, ROW-BYTES, rowBytes, placesOf, modeOf, sourceOf, decode, tableUnder, sourcesOf}
+use Rattle.model.specs.Table.{Table, ROW-BYTES, rowBytes, placesOf, modeOf, sourceOf, decode}
 use Rattle.model.specs.Race.{raceRow, racePartner, raceByte}
 use Rattle.model.specs.Edge.{consistent}
 use Rattle.model.specs.Check.{wiped}
@@ -26,7 +26,7 @@ use Rattle.axioms.specs.Sources.{sourceIn}
 use Rattle.choice.specs.Sources.{Listed}
 use Rattle.verdict.specs.Whole.{wiped-after}
 use Rattle.pieces.specs.declared.Refusal.{Refusal}
-use Rattle.pieces.specs.Pieces.{areaOf, joined, fillBoth}
+use Rattle.pieces.specs.Pieces.{areaOf, fillBoth}
 use Rattle.pieces.specs.Entry.{refusalOf, doorBoth, Left, left-same, opened-refused, opened-admitted, door-admits, table-both, sources-both}
 use Rattle.pieces.specs.Answers.{fill-both}
 

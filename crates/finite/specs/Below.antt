@@ -1,6 +1,6 @@
 -- Tests on the numbers below a bound: some, all, the least, the first pair; and what each says.
 -- Each recurses on the bound, so that a loop that counts up goes one `suc` at a time. Assumes nothing.
-use mathlib.Core.Path.{_≡_, refl, sym, ap, subst, _∙_}
+use mathlib.Core.Path.{_≡_, refl, sym, _∙_}
 use mathlib.Core.Bool.{Bool, true, false, not}
 use mathlib.Core.Logic.{_⊎_, inl, inr, ⊎-elim}
 use Prim.Native.Nat.{ℕ, zero, suc, _+_, _≤_, _<_}
@@ -10,7 +10,7 @@ use native.Mathlib.Decide.{decLt, ℕ-discrete}
 use native.Mathlib.Omega.{arith}
 use lib.Dec.{ltb, eqb}
 use borrow.Author.Tests.{ltb-true, ltb-false, lt-ltb, le-ltb, eqb-true, eq-eqb, ne-eqb}
-use Rattle.finite.specs.Logic.{_and_, _or_, which, bool-ext, not-both, and-left, and-right, and-true, or-cases, or-left, or-right, or-false}
+use Rattle.finite.specs.Logic.{_and_, _or_, which, bool-ext, not-both, and-left, and-right, and-true, or-cases, or-left, or-right}
 use Rattle.finite.specs.Logic.{or-none, or-off}
 
 -- ---- definitions

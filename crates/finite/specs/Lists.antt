@@ -4,7 +4,6 @@ use mathlib.Core.Logic.{⊎-elim}
 use mathlib.Core.List.{List, [], _∷_, _++_}
 use Prim.Native.Nat.{ℕ, zero, suc, _+_, _-_, _≤_, _<_}
 use native.Mathlib.Nat.{not-suc-le-zero}
-use native.Mathlib.Numerals.{add-one}
 use native.Mathlib.Omega.{arith}
 use native.Mathlib.Decide.{decLt, ℕ-discrete}
 use lib.ListN.{length, getD, set, drop, length-set, length-append, length-drop, List·getD-append}
@@ -40,15 +39,6 @@ module _ {A : Type 0} (f : ℕ → A) where
     where
       len : length (tabulate f n) ≡ n
       len = length-tabulate n
-
-  -- a loop that appends one at a time
-  pub tabulate-none : tabulate f 0 ≡ []
-  unfolding tabulate
-  tabulate-none = refl
-
-  pub tabulate-more : (n : ℕ) → tabulate f (n + 1) ≡ tabulate f n ++ (f n ∷ [])
-  unfolding tabulate
-  tabulate-more n = rw add-one refl
 
 -- functions that agree below the bound
 pub tabulate-cong : {A : Type 0} (f g : ℕ → A) (n : ℕ) → ((k : ℕ) → k < n → f k ≡ g k) → tabulate f n ≡ tabulate g n

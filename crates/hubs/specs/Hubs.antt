@@ -7,8 +7,7 @@ use Prim.Native.Nat.{ℕ, zero, suc, _≤_, _<_}
 use native.Mathlib.Omega.{arith}
 use lib.Dec.{eqb}
 use borrow.Author.Tests.{eqb-true, eq-eqb}
-use Rattle.finite.specs.Logic.{_and_, _or_, which, bool-ext, split, and-true, or-cases, or-left, or-right}
-use Rattle.finite.specs.Below.{anyBelow, any-in, any-out}
+use Rattle.finite.specs.Logic.{_and_, _or_, bool-ext, split, and-true, or-cases, or-left, or-right}
 use Rattle.finite.specs.Closure.{Reach, one, more, through, through-reach}
 
 -- ---- definitions
@@ -29,10 +28,6 @@ hop r hub at x c = hub x and r (at x) (at c)
 unfoldable pub throughOwn : (ℕ → ℕ → Bool) → (ℕ → ℕ) → ℕ → ℕ → ℕ → Bool
 throughOwn r own zero x m = r x m
 throughOwn r own (suc k) x m = throughOwn r own k x m or (throughOwn r own k x (own k) and throughOwn r own k k m)
-
--- by way of the hub x, in one step to it and one or more from it
-unfoldable pub byHub : (ℕ → ℕ → Bool) → (ℕ → Bool) → (ℕ → ℕ) → ℕ → ℕ → ℕ → ℕ → Bool
-byHub r hub at n i c x = hub x and r i (at x) and through (hop r hub at) n x c
 
 -- ---- laws
 
@@ -81,51 +76,6 @@ module _ (r : ℕ → ℕ → Bool) (bound : ℕ) (hub : ℕ → Bool) (at : ℕ
       bool-ext _ _
       (λ e. let q = through-reach (hop r hub at) n x c .0 e in and-true (hops-hub q) (through-reach r bound (at x) (at c) .1 (hops-reach q)))
       (λ e. let s = split e in through-reach (hop r hub at) n x c .1 (from-hub x c (s .0) (through-reach r bound (at x) (at c) .0 (s .1))))
-
-  -- ---- from any number
-
-  by-hub : (i c x : ℕ) → hub x ≡ true → r i (at x) ≡ true → Reach (hop r hub at) n x c → byHub r hub at n i c x ≡ true
-  unfolding byHub
-  by-hub i c x e f q = and-true (and-true e f) (through-reach (hop r hub at) n x c .1 q)
-
-  hub-by : (i c x : ℕ) → byHub r hub at n i c x ≡ true → (r i (at x) ≡ true) × Reach (hop r hub at) n x c
-  unfolding byHub
-  hub-by i c x e = let s = split e in (split (s .0) .1, through-reach (hop r hub at) n x c .0 (s .1))
-
-  reach-by : (i m c : ℕ) → m < bound → r i m ≡ true → Reach r bound m (at c) → (r i (at c) ≡ true) ⊎ ((x : ℕ) × (x < n) × (byHub r hub at n i c x ≡ true))
-  reach-by i m c l f (one g) = go (h .skip i m (at c) l f g)
-    where
-      go : (r i (at c) ≡ true) ⊎ ((y : ℕ) × (y < n) × (hub y ≡ true) × (at y ≡ m)) → (r i (at c) ≡ true) ⊎ ((x : ℕ) × (x < n) × (byHub r hub at n i c x ≡ true))
-      go (inl d) = inl d
-      go (inr (y, k, u, v)) = inr (y, k, by-hub i c y u (rw v f) (one (hop-in y c u (rw v g))))
-  reach-by i m c l f (more {m = a} g k q) = go (h .skip i m a l f g) (λ d. reach-by i a c k d q)
-    where
-      go : (r i a ≡ true) ⊎ ((y : ℕ) × (y < n) × (hub y ≡ true) × (at y ≡ m))
-          → (r i a ≡ true → (r i (at c) ≡ true) ⊎ ((x : ℕ) × (x < n) × (byHub r hub at n i c x ≡ true)))
-          → (r i (at c) ≡ true) ⊎ ((x : ℕ) × (x < n) × (byHub r hub at n i c x ≡ true))
-      go (inl d) s = s d
-      go (inr (y, o, u, v)) s = inr (y, o, by-hub i c y u (rw v f) (reach-hops y a c u k (rw v g) q))
-
-  any-reach : (i c : ℕ) → Reach r bound i (at c) → (r i (at c) ≡ true) ⊎ ((x : ℕ) × (x < n) × (byHub r hub at n i c x ≡ true))
-  any-reach i c (one e) = inl e
-  any-reach i c (more {m = m} e l q) = reach-by i m c l e q
-
-  -- from any number: a direct step, or one to a hub and hops from there
-  pub through-from : (i c : ℕ) → through r bound i (at c) ≡ (r i (at c) or anyBelow n (byHub r hub at n i c))
-  through-from i c = bool-ext _ _ forth back
-    where
-      forth : through r bound i (at c) ≡ true → (r i (at c) or anyBelow n (byHub r hub at n i c)) ≡ true
-      forth e =
-          ⊎-elim (λ d. or-left _ d) (λ d. or-right (r i (at c)) (any-in (byHub r hub at n i c) n (d .0) (d .1) (d .2)))
-          (any-reach i c (through-reach r bound i (at c) .0 e))
-
-      some : (x : ℕ) × (x < n) × (byHub r hub at n i c x ≡ true) → through r bound i (at c) ≡ true
-      some (x, l, e) = let s = hub-by i c x e in through-reach r bound i (at c) .1 (more (s .0) (h .inside x l) (hops-reach (s .1)))
-
-      back : (r i (at c) or anyBelow n (byHub r hub at n i c)) ≡ true → through r bound i (at c) ≡ true
-      back e =
-          ⊎-elim (λ d. through-reach r bound i (at c) .1 (one d)) (λ d. some (any-out (byHub r hub at n i c) n d))
-          (or-cases (r i (at c)) (anyBelow n (byHub r hub at n i c)) e)
 
   -- ---- from a number with a first hub
 

@@ -61,10 +61,6 @@ own m e = omega arith
 
 -- ---- laws: program order
 
-pub order-low : (t : Table) (m k : ℕ) → programOrder t m k ≡ true → m < k
-unfolding programOrder orderedRows
-order-low t m k e = ltb-true m k (split (split (split e .0) .0) .0)
-
 pub order-ends : (t : Table) (m k : ℕ) → programOrder t m k ≡ true → (m < 3 * t .rows) × (k < 3 * t .rows)
 unfolding programOrder orderedRows momentIn
 order-ends t m k e =

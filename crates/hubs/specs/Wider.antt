@@ -14,11 +14,10 @@ use Rattle.finite.specs.Logic.{_and_, _or_, which, not-both, not-so, not-in, no
 use Rattle.finite.specs.Below.{below-cases}
 use Rattle.finite.specs.Closure.{Reach, one, more, through-reach}
 use Rattle.model.specs.declared.Row.{Row}
-use Rattle.model.specs.Row.{plain, access, holds, meets, classIn, single, releases, acquires}
+use Rattle.model.specs.Row.{access, holds, meets, classIn, single}
 use Rattle.model.specs.Limits.{CLASS-SETS}
 use Rattle.model.specs.Table.{Table}
-use Rattle.model.specs.Moment.{AT, rowIn, part, classesOf, programOrder}
-use Rattle.model.specs.Synchronizes.{synchronizes}
+use Rattle.model.specs.Moment.{AT, rowIn, part, classesOf}
 use Rattle.model.specs.Happens.{holdingOf, concernsOf, holding, concerns, bySync, toRelease, fromAcquire, bySystem, step, live, interThread}
 use Rattle.hubs.specs.Rows.{step-cases}
 

@@ -1,26 +1,26 @@
 -- What a table that is admitted is known to be. Assumes nothing.
-use mathlib.Core.Path.{_≡_, refl, sym, ap, _∙_, subst}
+use mathlib.Core.Path.{_≡_, refl, ap, _∙_, subst}
 use mathlib.Core.Bool.{Bool, true, false, not, cond}
 use mathlib.Core.List.{List}
 use mathlib.Core.Logic.{_⊎_, inl, inr, ⊎-elim}
-use Prim.Native.Nat.{ℕ, zero, suc, _+_, _≤_, _<_}
+use Prim.Native.Nat.{ℕ, _+_, _≤_, _<_}
 use native.Mathlib.Omega.{arith}
 use native.Mathlib.Decide.{decLt}
 use lib.ListN.{length}
 use lib.Dec.{ltb, leb, eqb}
 use borrow.Author.Tests.{eqb-true, leb-true, ltb-false, eq-eqb, le-ltb}
 use Rattle.finite.specs.Logic.{_and_, _or_, split, which, not-both, not-out, or-cases}
-use Rattle.finite.specs.Below.{least, least-is, least-hit, any-not}
+use Rattle.finite.specs.Below.{least, least-is}
 use Rattle.model.specs.declared.Row.{Row}
 use Rattle.model.specs.declared.Admission.{Admission}
 use Rattle.model.specs.declared.Admission.the-variants.{Admitted, Refused}
 use Rattle.model.specs.Limits.{AGENTS, ROWS, DEPENDENCIES, LONGEST, BYTES}
 use Rattle.model.specs.Row.{RMW, CONTROL, AVAILABLE-HOST, BOTH, access, control, operation}
 use Rattle.model.specs.Scope.{DEVICE, agentKind}
-use Rattle.model.specs.Table.{Table, HEADER, agentsAt, rowsAt, hasHosts, sizeOf, rowBytes, dependencyBytes, rowOf, sourceOf, dependencyCount, placesOf}
-use Rattle.model.specs.Table.{tableOf, sourcesOf, decode}
+use Rattle.model.specs.Table.{HEADER, agentsAt, rowsAt, hasHosts, sizeOf, rowBytes, dependencyBytes, rowOf, sourceOf, dependencyCount, placesOf}
+use Rattle.model.specs.Table.{tableOf, sourcesOf}
 use Rattle.model.specs.Refusal.{CLASSES, FLAGS, CLASS, headerFault, versionFits, limitsFit, lengthFits, agentsKnown, dependenciesFew}
-use Rattle.model.specs.Refusal.{dependenciesNamed, hostsFault, agentFits, operationFits, formFault, codesFit, kindFits, bytesFit, barrierFits}
+use Rattle.model.specs.Refusal.{dependenciesNamed, hostsFault, agentFits, operationFits, formFault, codesFit, kindFits, bytesFit}
 use Rattle.model.specs.Refusal.{extentFits, rowFault, classTaken, sourceBroken, rankTaken, instanceBroken, unfit, tableFault, faulty, firstFault}
 use Rattle.model.specs.Refusal.{rowFaultAt, admission}
 

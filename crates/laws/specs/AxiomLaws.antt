@@ -1,26 +1,23 @@
 -- The tests of Edge.antt decide the axioms A and B as Words.antt states them, and what is shown is the least break. Assumes nothing.
-use mathlib.Core.Path.{_≡_, refl, sym, ap, _∙_, subst}
-use mathlib.Core.Bool.{Bool, true, false, not}
+use mathlib.Core.Path.{_≡_, refl, sym, _∙_, subst}
+use mathlib.Core.Bool.{true}
 use mathlib.Core.Logic.{_⊎_, inl, inr, ⊎-elim, _↔_}
-use Prim.Native.Nat.{ℕ, zero, suc, _+_, _-_, _≤_, _<_}
+use Prim.Native.Nat.{ℕ, _-_, _≤_, _<_}
 use native.Mathlib.Omega.{arith}
 use native.Mathlib.Nat.{eq-or-lt-of-le}
-use lib.Dec.{ltb, leb, eqb}
 use borrow.Author.Tests.{ltb-true, lt-ltb, eqb-true, eq-eqb}
 use Rattle.finite.specs.Logic.{_and_, split, and-true}
-use Rattle.finite.specs.Below.{least, least-is, least-low}
+use Rattle.finite.specs.Below.{least-is, least-low}
 use Rattle.finite.specs.Closure.{reach-cong}
 use Rattle.finite.specs.Cycle.{cycle-exists, cycle-none}
-use Rattle.model.specs.declared.Row.{Row}
 use Rattle.model.specs.Limits.{LONGEST}
-use Rattle.model.specs.Row.{reads, writes}
 use Rattle.model.specs.Table.{Table}
 use Rattle.model.specs.Location.{common, before}
 use Rattle.model.specs.Race.{nth}
 use Rattle.model.specs.Edge.{readsFrom, fromReads, edge, cycleRow, overwrites, overwritesNth, overNth, overwriting, overWriter, isOverwritten}
 use Rattle.model.specs.Edge.{overReader, overByte, consistent}
 use Rattle.model.specs.Words.{Cyclic, Overwritten, Consistent}
-use Rattle.laws.specs.RaceLaws.{Sized, touched, common-left, common-right}
+use Rattle.laws.specs.RaceLaws.{Sized, touched, common-right}
 
 -- ---- definitions
 

@@ -17,12 +17,12 @@ use Rattle.model.specs.Table.{Table, rowBytes, rowOf, modeOf, dependency, depen
 use Rattle.model.specs.Refusal.{codesFit}
 use Rattle.laws.specs.AdmissionLaws.{Sound, row-right}
 use Rattle.model.specs.Scope.{DEVICE, INVOCATION, agree, oneInstance, shares, mutually, follows}
-use Rattle.model.specs.Moment.{BEFORE, AFTER, rowIn, part, itself, availabilityOf, visibilityOf, orderedRows, availability, visibility, moment}
+use Rattle.model.specs.Moment.{BEFORE, AFTER, rowIn, part, itself, availabilityOf, visibilityOf, orderedRows, availability, visibility}
 use Rattle.model.specs.Moment.{sameAgent, programOrder}
 use Rattle.model.specs.Synchronizes.{ends, sequence, takesFrom, leads, trails, syncAtomics, carriesOut, syncFromBarrier, carriesIn, syncToBarrier}
 use Rattle.model.specs.Synchronizes.{carriesOver, syncControl, passes, arrives, joins, upTo, syncBarriers, synchronizes}
 use Rattle.model.specs.Happens.{holding, concerns, bySync, toRelease, fromAcquire, bySystem, step, interThread, holdsAll, live, interThreadBy, happens}
-use Rattle.model.specs.Location.{coversOf, publicWrite, L1, L2, availableAt, visibleAt, firstAvailable, lastVisible, broader, broadens, narrows}
+use Rattle.model.specs.Location.{coversOf, publicWrite, L1, L2, availableAt, visibleAt, firstAvailable, lastVisible, broadens, narrows}
 use Rattle.model.specs.Location.{availabilityChain, visibilityChain, availableBy, availableFrom, visibleBy, visibleTo, inDomain, visibleVia, reaches}
 use Rattle.model.specs.Location.{availableVia, byDomain, L3, systemBefore, L4, thence, onHost, availableKind, visibleKind, domainKind, seenBy, metFrom}
 use Rattle.model.specs.Location.{carriedBy, reachesBy, L5, before}
@@ -450,14 +450,6 @@ module _ (c : Bool) (t : Table) where
   last-under : (y b v : ℕ) → lastVisible (under c t) y b v ≡ lastVisible t y b v
   unfolding lastVisible visibleAt visibility programOrder
   last-under y b v = refl
-
-  available-under : (i : ℕ) → availableAt (under c t) i ≡ availableAt t i
-  unfolding availableAt
-  available-under i = refl
-
-  visible-under : (i : ℕ) → visibleAt (under c t) i ≡ visibleAt t i
-  unfolding visibleAt
-  visible-under i = refl
 
   domain-under : (d x i : ℕ) → inDomain (under c t) d x i ≡ inDomain t d x i
   unfolding inDomain

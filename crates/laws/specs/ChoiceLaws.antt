@@ -1,20 +1,19 @@
 -- Why a blank has at most one source: in a table where no pair races, a source that leaves the table well formed and consistent is
 -- the one that `choice` names. Assumes nothing.
-use mathlib.Core.Path.{_≡_, refl, sym, ap, ap₂, _∙_, subst}
-use mathlib.Core.Bool.{Bool, true, false, not, cond}
-use mathlib.Core.List.{List, []}
-use mathlib.Core.Logic.{_⊎_, inl, inr, ⊎-elim, _↔_}
-use Prim.Native.Nat.{ℕ, zero, suc, _+_, _-_, _≤_, _<_}
+use mathlib.Core.Path.{_≡_, refl, sym, subst}
+use mathlib.Core.Bool.{true, false, not}
+use mathlib.Core.Logic.{_⊎_, inl, inr, ⊎-elim}
+use Prim.Native.Nat.{ℕ, _+_, _-_, _≤_, _<_}
 use native.Mathlib.Omega.{arith}
 use native.Mathlib.Decide.{decLt, ℕ-discrete}
-use lib.Dec.{ltb, leb, eqb}
+use lib.Dec.{eqb}
 use borrow.Author.Tests.{eqb-true, eqb-false, eq-eqb, ne-eqb, ltb-true, lt-ltb, leb-true, le-leb}
 use Rattle.finite.specs.Logic.{_and_, _or_, split, and-true, or-cases, or-left, or-right, which, not-both, not-so, not-in, not-out}
-use Rattle.finite.specs.Below.{anyBelow, any-in, any-out, any-off, any-not, least, least-unique}
-use Rattle.finite.specs.Closure.{Reach, one, more}
+use Rattle.finite.specs.Below.{anyBelow, any-in, any-out, any-off, any-not, least-unique}
+use Rattle.finite.specs.Closure.{one, more}
 use Rattle.model.specs.declared.Row.{Row}
 use Rattle.model.specs.Limits.{ROWS, LONGEST, INITIAL}
-use Rattle.model.specs.Row.{PLAIN-READ, PLAIN-WRITE, ATOMIC-READ, ATOMIC-WRITE, RMW, access, atomic, plainRead, reads, writes, ranked, inside, touches}
+use Rattle.model.specs.Row.{PLAIN-READ, PLAIN-WRITE, ATOMIC-READ, ATOMIC-WRITE, RMW, access, atomic, plainRead, reads, writes, ranked, touches}
 use Rattle.model.specs.Row.{covers, overlap}
 use Rattle.model.specs.Table.{Table}
 use Rattle.model.specs.Scope.{mutualRows, mutually, later, laterWriter, follows}
@@ -24,9 +23,9 @@ use Rattle.model.specs.Edge.{beforeNth, beforeSome, readsFrom, fromReads, edge,
 use Rattle.laws.specs.WriterLaws.{Rivals, Ordered}
 use Rattle.model.specs.Refusal.{writerFits, sameRank, sameRankAt, rankTaken}
 use Rattle.model.specs.Fill.{unorderedAt, writtenBy, written, overwritesBetween, between, candidate, choice}
-use Rattle.model.specs.Words.{Races, Cyclic, Overwritten, Consistent}
+use Rattle.model.specs.Words.{Races, Cyclic, Consistent}
 use Rattle.laws.specs.RaceLaws.{Sized, touched}
-use Rattle.laws.specs.PairLaws.{inside-in, inside-out, overlap-is, common-in, common-out, common-sym, either-way, mutually-sym, mutual-sym}
+use Rattle.laws.specs.PairLaws.{inside-in, inside-out, overlap-is, common-in, common-out, either-way, mutually-sym, mutual-sym}
 
 -- ---- definitions
 

@@ -2,27 +2,26 @@
 -- sources are. Assumes nothing.
 use mathlib.Core.Path.{_≡_, refl, sym, ap, ap₂, _∙_, subst}
 use mathlib.Core.Bool.{Bool, true, false, not, cond}
-use mathlib.Core.List.{List, []}
-use mathlib.Core.Logic.{_⊎_, inl, inr, ⊎-elim, _↔_}
-use Prim.Native.Nat.{ℕ, zero, suc, _+_, _-_, _*_, _/_, _%_, _≤_, _<_}
+use mathlib.Core.List.{List}
+use mathlib.Core.Logic.{_⊎_, inl, inr, ⊎-elim}
+use Prim.Native.Nat.{ℕ, _+_, _-_, _*_, _/_, _%_, _≤_, _<_}
 use native.Mathlib.Omega.{arith}
 use native.Mathlib.Decide.{decLt, ℕ-discrete}
 use lib.ListN.{length, getD, List·getD-eq-default}
 use lib.Seq.{ext-getD}
-use lib.Dec.{ltb, leb, eqb}
-use borrow.Author.Tests.{eqb-true, eqb-false, eq-eqb, ne-eqb, ltb-true, lt-ltb, le-ltb, leb-true, le-leb}
-use Rattle.finite.specs.Logic.{_and_, _or_, split, and-true, or-cases, or-left, or-right, which, not-both, not-so, not-in, not-out}
+use lib.Dec.{ltb, eqb}
+use borrow.Author.Tests.{eqb-true, ne-eqb, ltb-true, lt-ltb, le-ltb, le-leb}
+use Rattle.finite.specs.Logic.{_and_, _or_, split, and-true, or-cases, or-left, which, not-both, not-so}
 use Rattle.finite.specs.Below.{any-cong}
 use Rattle.finite.specs.Lists.{tabulate, length-tabulate, getD-tabulate}
 use Rattle.model.specs.declared.Row.{Row}
-use Rattle.model.specs.declared.Admission.the-variants.{Admitted}
-use Rattle.model.specs.Limits.{INITIAL, BLANK, ROWS}
+use Rattle.model.specs.Limits.{INITIAL}
 use Rattle.model.specs.Row.{PLAIN-READ, ATOMIC-READ, RMW, access, plainRead, reads, operation}
 use Rattle.model.specs.Table.{Table, HEADER, ROW-BYTES, pairAt, quadAt, countAt, versionAt, zeroAt, agentsAt, rowsAt, hasHosts, placesOf, rowsBegin}
-use Rattle.model.specs.Table.{rowsEnd, sizeOf, rowBytes, byteOf, pairOf, rowOf, sourceOf, decode, tableUnder, tableOf, sourcesOf, dependencyBytes}
+use Rattle.model.specs.Table.{rowsEnd, sizeOf, rowBytes, byteOf, rowOf, sourceOf, decode, tableUnder, tableOf, sourcesOf, dependencyBytes}
 use Rattle.model.specs.Refusal.{versionFits, limitsFit, lengthFits, agentsKnown, dependenciesFew, namesNone, dependenciesNamed, hostsFault}
 use Rattle.model.specs.Refusal.{headerFault, kindFits, formFault, rowFault, rowFaultAt, sourceBroken, tableFault}
-use Rattle.model.specs.Fill.{blank, chosen}
+use Rattle.model.specs.Fill.{blank}
 use Rattle.model.specs.Words.{blankAt, sourceBegin, Filling}
 use Rattle.laws.specs.AdmissionLaws.{Sound, length-is, rows-fit, among-right, access-no-operation}
 use Rattle.laws.specs.FillingLaws.{begin-header, head-kept, version-kept, hosts-kept, agents-kept, rows-kept, begin-kept, places-kept, row-kept}

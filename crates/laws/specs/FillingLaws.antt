@@ -1,21 +1,19 @@
 -- A filling changes no order and no race: what the rules of order read of the filled bytes is what they read of the table with its
 -- blanks. Assumes nothing.
-use mathlib.Core.Path.{_≡_, refl, sym, ap, ap₂, _∙_, subst, fun-ext}
+use mathlib.Core.Path.{_≡_, refl, sym, ap, ap₂, _∙_, fun-ext}
 use mathlib.Core.Bool.{Bool, true, false, cond}
 use mathlib.Core.List.{List, [], _∷_}
 use mathlib.Core.Logic.{_⊎_, inl, inr, ⊎-elim}
-use Prim.Native.Nat.{ℕ, zero, suc, _+_, _*_, _≤_, _<_}
+use Prim.Native.Nat.{ℕ, _+_, _*_, _≤_, _<_}
 use native.Mathlib.Omega.{arith}
 use native.Mathlib.Decide.{decLt}
-use lib.ListN.{length, getD, take, drop, length-take, List·getD-eq-default}
+use lib.ListN.{getD, take, drop, length-take, List·getD-eq-default}
 use lib.Seq.{getD-drop, getD-take}
 use lib.Dec.{ltb, leb, eqb}
 use borrow.Author.Tests.{eqb-true, leb-true, le-ltb}
 use Rattle.finite.specs.Logic.{_and_, _or_, split, which, not-both}
-use Rattle.finite.specs.Below.{any-cong}
-use Rattle.finite.specs.Lists.{tabulate, tabulate-cong}
+use Rattle.finite.specs.Lists.{tabulate-cong}
 use Rattle.model.specs.declared.Row.{Row}
-use Rattle.model.specs.declared.Mode.{Mode}
 use Rattle.model.specs.Limits.{AGENTS, DEPENDENCIES, INITIAL, BLANK}
 use Rattle.model.specs.Row.{PLAIN-READ, ATOMIC-READ, atomic, plainRead}
 use Rattle.model.specs.Table.{Table, HEADER, PLACE-BYTES, HOSTS-PLACE-BYTES, DEPENDENCY-BYTES, ROW-BYTES, pairAt, versionAt, agentsAt, rowsAt}
@@ -25,7 +23,7 @@ use Rattle.model.specs.Table.{tableUnder, tableOf, sourcesOf, modeOf, COUNTED}
 use Rattle.model.specs.Location.{before}
 use Rattle.model.specs.Race.{conflict, races, unordered}
 use Rattle.model.specs.Fill.{blank}
-use Rattle.model.specs.Words.{Races, blankAt, sourceBegin, Filling}
+use Rattle.model.specs.Words.{blankAt, sourceBegin, Filling}
 
 -- an atomic row has no blank
 atomic-not-blank : (r : Row) → atomic r ≡ true → plainRead r ≡ true → ⊥

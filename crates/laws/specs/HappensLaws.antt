@@ -1,9 +1,9 @@
 -- Happens-before is what M6 and M7 say, for any number of rows: program order, or for some class set the transitive closure of the
 -- direct cases. Assumes nothing.
-use mathlib.Core.Path.{_≡_, refl, sym, ap, _∙_}
-use mathlib.Core.Bool.{Bool, true, false, not}
+use mathlib.Core.Path.{_≡_, refl}
+use mathlib.Core.Bool.{Bool, true, false}
 use mathlib.Core.Logic.{_⊎_, inl, inr, ⊎-elim, _↔_}
-use Prim.Native.Nat.{ℕ, zero, suc, _+_, _-_, _*_, _/_, _≤_, _<_}
+use Prim.Native.Nat.{ℕ, zero, suc, _-_, _*_, _/_, _≤_, _<_}
 use native.Mathlib.Omega.{arith}
 use lib.Dec.{eqb}
 use Rattle.finite.specs.Logic.{_and_, _or_, split, and-true, or-cases, or-left, or-right, which, not-both}
@@ -12,8 +12,8 @@ use Rattle.finite.specs.Closure.{Reach, one, more, through, through-reach}
 use Rattle.model.specs.Limits.{CLASS-SETS}
 use Rattle.model.specs.Row.{holds}
 use Rattle.model.specs.Table.{Table}
-use Rattle.model.specs.Moment.{rowIn, programOrder}
-use Rattle.model.specs.Happens.{holdingOf, holding, bySync, toRelease, fromAcquire, bySystem, direct, step, interThread, holdsAll, live, interThreadBy, happens}
+use Rattle.model.specs.Moment.{programOrder}
+use Rattle.model.specs.Happens.{holdingOf, holding, bySync, toRelease, fromAcquire, bySystem, step, interThread, holdsAll, live, interThreadBy, happens}
 use Rattle.model.specs.Words.{HappensBefore}
 
 -- ---- a direct case needs a row that holds the class set, unless it is the fourth, which the first class set has too

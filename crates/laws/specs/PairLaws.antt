@@ -1,25 +1,24 @@
 -- Laws of pairs of rows: what is symmetric, and what it means that no pair races. Assumes nothing.
-use mathlib.Core.Path.{_≡_, refl, sym, ap, ap₂, _∙_, subst}
+use mathlib.Core.Path.{_≡_, refl, sym, ap, _∙_, subst}
 use mathlib.Core.Bool.{Bool, true, false, not, cond}
 use mathlib.Core.List.{List, []}
 use mathlib.Core.Logic.{_⊎_, inl, inr, ⊎-elim, _↔_}
-use Prim.Native.Nat.{ℕ, zero, suc, _+_, _-_, _≤_, _<_}
+use Prim.Native.Nat.{ℕ, _+_, _-_, _≤_, _<_}
 use native.Mathlib.Omega.{arith}
 use native.Mathlib.Decide.{decLt}
-use lib.Dec.{ltb, leb, eqb}
+use lib.Dec.{ltb, eqb}
 use lib.ListN.{getD}
-use borrow.Author.Tests.{eqb-true, eqb-false, eq-eqb, ne-eqb, ltb-true, lt-ltb, leb-true, le-leb}
-use Rattle.finite.specs.Logic.{_and_, _or_, split, and-true, or-cases, or-left, or-right, which, not-both, not-in, not-out, bool-ext}
+use borrow.Author.Tests.{eqb-true, eq-eqb, ne-eqb, ltb-true, lt-ltb, leb-true, le-leb}
+use Rattle.finite.specs.Logic.{_and_, _or_, split, and-true, or-left, or-right, which, not-both, not-in, bool-ext}
 use Rattle.finite.specs.Below.{least, least-is, least-low}
 use Rattle.model.specs.declared.Row.{Row}
-use Rattle.model.specs.declared.Shared.{Shared}
 use Rattle.model.specs.declared.Shared.the-variants.{At, Nothing}
-use Rattle.model.specs.Row.{access, atomic, writes, inside, touches, lowestShared, isShared, overlap}
+use Rattle.model.specs.Row.{access, writes, inside, touches, lowestShared, isShared, overlap}
 use Rattle.model.specs.Table.{Table}
-use Rattle.model.specs.Scope.{DEVICE, FAMILY, WORKGROUP, SUBGROUP, INVOCATION, shader, agree, oneInstance, shares, together, sameLocation, mutualRows, mutually}
+use Rattle.model.specs.Scope.{shader, agree, oneInstance, shares, together, sameLocation, mutualRows, mutually}
 use Rattle.model.specs.Location.{common, before}
 use Rattle.model.specs.Race.{clash, conflict}
-use Rattle.model.specs.Words.{Unordered, Races}
+use Rattle.model.specs.Words.{Races}
 
 -- ---- bytes
 

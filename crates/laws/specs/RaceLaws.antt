@@ -1,22 +1,19 @@
 -- The tests of Race.antt decide what Words.antt calls a race, and what is shown is the first one. Assumes nothing.
-use mathlib.Core.Path.{_≡_, refl, sym, ap, _∙_, subst}
-use mathlib.Core.Bool.{Bool, true, false, not}
+use mathlib.Core.Path.{_≡_, sym, subst}
+use mathlib.Core.Bool.{true}
 use mathlib.Core.Logic.{_⊎_, inl, inr, ⊎-elim, _↔_}
-use Prim.Native.Nat.{ℕ, zero, suc, _+_, _-_, _≤_, _<_}
+use Prim.Native.Nat.{ℕ, _+_, _-_, _≤_, _<_}
 use native.Mathlib.Omega.{arith}
 use native.Mathlib.Nat.{eq-or-lt-of-le}
-use native.Mathlib.Decide.{decLt}
-use lib.Dec.{ltb, leb, eqb}
-use borrow.Author.Tests.{ltb-true, ltb-false, leb-true, lt-ltb, le-ltb}
-use Rattle.finite.specs.Logic.{_and_, _or_, split, and-true, which, not-both, not-in, not-out}
-use Rattle.finite.specs.Below.{least, least-is, least-low}
+use borrow.Author.Tests.{ltb-true, leb-true, lt-ltb}
+use Rattle.finite.specs.Logic.{_and_, _or_, split, and-true, not-in, not-out}
+use Rattle.finite.specs.Below.{least-is, least-low}
 use Rattle.model.specs.declared.Row.{Row}
 use Rattle.model.specs.Limits.{LONGEST}
-use Rattle.model.specs.Row.{access, inside, touches}
+use Rattle.model.specs.Row.{inside, touches}
 use Rattle.model.specs.Table.{Table}
-use Rattle.model.specs.Scope.{mutually}
-use Rattle.model.specs.Location.{common, before}
-use Rattle.model.specs.Race.{nth, conflict, unordered, unorderedNth, raceNth, races, racesAbove, racePartner, hasRace, raceRow, raceByte}
+use Rattle.model.specs.Location.{common}
+use Rattle.model.specs.Race.{nth, unordered, unorderedNth, raceNth, races, racesAbove, racePartner, hasRace, raceRow, raceByte}
 use Rattle.model.specs.Words.{Unordered, Races}
 
 -- ---- definitions

@@ -6,7 +6,7 @@ use Prim.Native.Nat.{ℕ, _-_, _≤_, _<_}
 use native.Mathlib.Omega.{arith}
 use lib.Dec.{ltb, eqb}
 use borrow.Author.Tests.{lt-ltb, ltb-true, eq-eqb, eqb-true}
-use Rattle.finite.specs.Logic.{_and_, _or_, split, and-true, which, not-in, not-out, not-both}
+use Rattle.finite.specs.Logic.{_and_, split, and-true, which, not-in, not-out, not-both}
 use Rattle.finite.specs.Below.{anyBelow, any-in, any-out, any-off, any-not, least, least-low, least-hit}
 use Rattle.model.specs.Limits.{COUNTS, RUN}
 use Rattle.model.specs.Scope.{age}

@@ -1,19 +1,17 @@
 -- What is said of a table reads the sources of its own rows alone, so that an engine may hold them in a list of that length.
 -- Assumes nothing.
-use mathlib.Core.Path.{_≡_, refl, sym, ap, ap₂, _∙_, subst}
+use mathlib.Core.Path.{_≡_, refl, ap, ap₂, _∙_}
 use mathlib.Core.Bool.{Bool, true, false, not, cond}
 use mathlib.Core.List.{List, [], _∷_}
-use mathlib.Core.Logic.{_⊎_, inl, inr, ⊎-elim}
-use Prim.Native.Nat.{ℕ, zero, suc, _+_, _≤_, _<_}
+use Prim.Native.Nat.{ℕ, suc, _<_}
 use native.Mathlib.Omega.{arith}
 use lib.ListN.{length, getD}
-use lib.Dec.{ltb, leb, eqb}
-use borrow.Author.Tests.{ltb-true, ltb-false}
-use Rattle.finite.specs.Logic.{_and_, _or_, which}
-use Rattle.finite.specs.Below.{anyBelow, least, any-cong, least-cong, least-is}
-use Rattle.finite.specs.Lists.{tabulate, tabulate-cong}
-use Rattle.finite.specs.Walk.{along, cycle}
-use Rattle.finite.specs.Cycle.{Canonical, cycle-canonical, cycleStart-cong, cycle-cong}
+use lib.Dec.{ltb}
+use borrow.Author.Tests.{ltb-true}
+use Rattle.finite.specs.Below.{any-cong, least-cong}
+use Rattle.finite.specs.Lists.{tabulate-cong}
+use Rattle.finite.specs.Walk.{along}
+use Rattle.finite.specs.Cycle.{cycle-canonical, cycleStart-cong, cycle-cong}
 use Rattle.model.specs.Table.{Table}
 use Rattle.model.specs.Limits.{LONGEST}
 use Rattle.model.specs.Edge.{readsFrom, fromReads, edgeNumber, edge, cycleRow, cycleRows, cycleEdges, overwrites, overwritesNth, overNth, overwriting}
@@ -21,7 +19,7 @@ use Rattle.model.specs.Edge.{overWriter, isOverwritten, overReader, overByte, c
 use Rattle.model.specs.Check as Check
 use Rattle.model.specs.Check.{Verdict, cyclicOr, overwrittenOr, verdict}
 use Rattle.model.specs.Refusal.{sourceBroken}
-use Rattle.model.specs.Fill.{Outcome, blank, chosen, sourcesFit, filledOr, outcome}
+use Rattle.model.specs.Fill.{Outcome, sourcesFit, filledOr}
 
 -- ---- a list of steps, by a test that agrees below a bound
 

@@ -3,7 +3,7 @@ use mathlib.Core.Path.{_≡_, refl, sym, ap, _∙_}
 use mathlib.Core.Bool.{Bool, true, false, cond}
 use mathlib.Core.Logic.{_⊎_, inl, inr, ⊎-elim}
 use mathlib.Core.List.{List}
-use Prim.Native.Nat.{ℕ, zero, suc, _+_, _-_, _*_, _/_, _%_, _≤_, _<_, min}
+use Prim.Native.Nat.{ℕ, suc, _+_, _-_, _*_, _/_, _%_, _≤_, _<_, min}
 use native.Mathlib.Omega.{arith}
 use native.Mathlib.Decide.{decLt}
 use lib.Dec.{leb, eqb}
@@ -16,7 +16,7 @@ use Rattle.model.specs.declared.Row.{Row}
 use Rattle.model.specs.Row.{plain, reads, meets, makesAvailable, makesVisible}
 use Rattle.model.specs.Table.{Table, byteOf, rowOf, decode}
 use Rattle.model.specs.Scope.{DEVICE, shares}
-use Rattle.model.specs.Moment.{BEFORE, AFTER, rowIn, part, itself, availabilityOf, visibilityOf, orderedRows, availability, visibility, programOrder}
+use Rattle.model.specs.Moment.{BEFORE, AFTER, part, itself, availabilityOf, visibilityOf, orderedRows, availability, visibility, programOrder}
 use Rattle.model.specs.Happens.{happens}
 use Rattle.model.specs.Location.{coversOf, publicWrite, availableAt, visibleAt, firstAvailable, lastVisible, broadens, narrows, availabilityChain}
 use Rattle.model.specs.Location.{visibilityChain, availableBy, availableFrom, visibleBy, visibleTo, inDomain, visibleVia, reaches, byDomain}

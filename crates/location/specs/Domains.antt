@@ -25,7 +25,6 @@ use Rattle.model.specs.Row.{AVAILABLE-HOST, AVAILABLE-DEVICE, VISIBLE-HOST, VIS
 use Rattle.model.specs.Table.{Table, byteOf, rowOf, dependency, dependsOf, decode}
 use Rattle.model.specs.Scope.{host}
 use Rattle.model.specs.Moment.{itself}
-use Rattle.model.specs.Happens.{happens}
 use Rattle.model.specs.Location.{systemBefore, L4, thence, onHost, availableKind, visibleKind, domainKind, seenBy, metFrom, carriedBy, reachesBy, L5}
 use Rattle.area.specs.Regions.{HAPPENS, MOMENTS, GRID, HOSTED, HOSTED-END, SYSTEM, SYSTEM-END, MET, MET-END, REACHED, REACHED-END}
 use Rattle.area.specs.State.{Ordered, ordered-kept}

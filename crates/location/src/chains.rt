@@ -12,7 +12,7 @@ ghost use Rattle.bits.specs.Matrix.{rel};
 ghost use Rattle.model.specs.Limits.{ROWS, WORK};
 ghost use Rattle.model.specs.Table.{rowOf, decode};
 ghost use Rattle.model.specs.Location.{L3};
-ghost use Rattle.area.specs.Regions.{HAPPENS, MOMENTS, GRID};
+ghost use Rattle.area.specs.Regions.{HAPPENS, MOMENTS};
 ghost use Rattle.location.specs.Chains.{availablePart, visiblePart, mayAvail, maySee, availableRows, visibleRows, widest, meetIn};
 ghost use Rattle.location.specs.Chains.{seen, metAtOnce, startsWith, shownBy, endsAt, endsWith, carriedBy};
 ghost use Rattle.location.specs.Reach.{Reaching};

@@ -1,6 +1,6 @@
 // Happens-before, as the work area's bits say.
 ghost use mathlib.Core.Path.{_≡_};
-ghost use Prim.Native.Nat.{_+_, _*_, _≤_, _<_};
+ghost use Prim.Native.Nat.{_*_, _≤_, _<_};
 ghost use lib.ListN.{length};
 ghost use Rattle.bits.specs.Matrix.{rel};
 ghost use Rattle.model.specs.Limits.{ROWS, WORK};

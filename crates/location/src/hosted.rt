@@ -1,7 +1,7 @@
 // L4 and L5 for every two rows that may share a byte, as bits: whatever the byte, they tell the same.
 ghost use mathlib.Core.Path.{_≡_};
 ghost use mathlib.Core.Bool.{not};
-ghost use Prim.Native.Nat.{_+_, _*_, _≤_, _<_};
+ghost use Prim.Native.Nat.{_≤_, _<_};
 ghost use lib.ListN.{length, getD};
 ghost use Rattle.finite.specs.Logic.{_and_};
 ghost use Rattle.finite.specs.Below.{anyBelow};

@@ -1,8 +1,8 @@
 -- The four edges, and the axioms A and B. The sources of all rows are a parameter: a check reads the table's, a fill those that
 -- it chose.
-use mathlib.Core.Bool.{Bool, true, false, not, cond}
+use mathlib.Core.Bool.{Bool, not, cond}
 use mathlib.Core.List.{List}
-use Prim.Native.Nat.{ℕ, _+_}
+use Prim.Native.Nat.{ℕ}
 use lib.Dec.{ltb, eqb}
 use Rattle.finite.specs.Logic.{_and_, _or_}
 use Rattle.finite.specs.Below.{anyBelow, least}

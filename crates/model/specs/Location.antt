@@ -1,5 +1,5 @@
 -- L1 to L3, and with host agents L4 and L5: location order at a byte.
-use mathlib.Core.Bool.{Bool, true, false, not, cond, Bool·beq}
+use mathlib.Core.Bool.{Bool, not, cond, Bool·beq}
 use Prim.Native.Nat.{ℕ, suc, _+_, _*_}
 use lib.Dec.{ltb, leb, eqb}
 use Rattle.finite.specs.Logic.{_and_, _or_}

@@ -1,6 +1,6 @@
 -- M1: the moments of a row (a term of our own) and program order.
 -- Moment 3 × row + 0, 1 or 2 is the one before, at or after the row.
-use mathlib.Core.Bool.{Bool, true, false, not, cond}
+use mathlib.Core.Bool.{Bool, not, cond}
 use Prim.Native.Nat.{ℕ, _+_, _*_, _/_, _%_}
 use lib.Dec.{ltb, eqb}
 use Rattle.finite.specs.Logic.{_and_, _or_}

@@ -1,7 +1,7 @@
 -- Reasons: derivations that one moment happens before another, when one is accepted, and the one that is found.
 -- A derivation is the word program order, or a class set and a chain of steps; each step names the direct case of M6 that it uses
 -- and the moment that it reaches.
-use mathlib.Core.Bool.{Bool, true, false, not, cond}
+use mathlib.Core.Bool.{Bool, true, not, cond}
 use mathlib.Core.List.{List, _++_}
 use Prim.Native.Nat.{ℕ, suc, _+_, _-_, _*_, _/_, _%_}
 use lib.ListN.{length, getD, drop}

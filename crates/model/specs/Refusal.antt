@@ -1,5 +1,5 @@
 -- The refusals 1 to 11, 14 and 15, and with host agents 16 to 20, in their order. `blanks` says whether a blank is allowed: in a fill, not in a check.
-use mathlib.Core.Bool.{Bool, true, false, not, cond, Bool·beq}
+use mathlib.Core.Bool.{Bool, not, cond, Bool·beq}
 use mathlib.Core.List.{List}
 use Prim.Native.Nat.{ℕ, _+_, _%_}
 use lib.ListN.{length}
@@ -15,7 +15,7 @@ use Rattle.model.specs.Row.{executionOf, sameInstance, operation, plainR
 use Rattle.model.specs.Row.{makesAvailable, makesVisible, covers}
 use Rattle.model.specs.Table.{Table, HEADER, FIRST, HOSTS, countAt, versionAt, agentsAt, rowsAt, zeroAt, hasHosts, sizeOf, rowBytes}
 use Rattle.model.specs.Table.{dependencyBytes, rowOf, sourceOf, placesOf, dependencyCount, dependencyFrom, dependencyTo, tableOf, sourcesOf}
-use Rattle.model.specs.Scope.{INVOCATION, DEVICE, HOST, QUEUE, agentKind, shares, sameLocation, mutualRows, mutually, age}
+use Rattle.model.specs.Scope.{INVOCATION, DEVICE, HOST, QUEUE, agentKind, shares, sameLocation, mutualRows, age}
 
 -- ---- 11: the lent buffers, by their lengths; `needs` is what the second one must hold
 

@@ -4,7 +4,7 @@ use Prim.Native.Nat.{ℕ, _+_}
 use lib.Dec.{ltb, leb, eqb}
 use lib.Bits.{bitAnd}
 use Rattle.finite.specs.Logic.{_and_, _or_}
-use Rattle.finite.specs.Below.{anyBelow, least}
+use Rattle.finite.specs.Below.{least}
 use Rattle.model.specs.declared.Row.{Row}
 use Rattle.model.specs.declared.Shared.{Shared}
 use Rattle.model.specs.declared.Shared.the-variants.{At, Nothing}

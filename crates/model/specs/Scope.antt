@@ -1,5 +1,5 @@
 -- M2 and M3: scopes, mutually-ordered atomics, scoped modification order.
-use mathlib.Core.Bool.{Bool, true, false, not, cond}
+use mathlib.Core.Bool.{Bool, not, cond}
 use mathlib.Core.List.{List, []}
 use Prim.Native.Nat.{ℕ, _+_, _-_, _%_}
 use lib.ListN.{getD}

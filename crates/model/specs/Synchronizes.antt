@@ -1,5 +1,5 @@
 -- M4 and M5: release sequences and synchronizes-with.
-use mathlib.Core.Bool.{Bool, true, false, not}
+use mathlib.Core.Bool.{Bool, not}
 use Prim.Native.Nat.{ℕ}
 use lib.Dec.{ltb, leb, eqb}
 use Rattle.finite.specs.Logic.{_and_, _or_}

@@ -1,5 +1,5 @@
 -- The table: its bytes, and the rows, places and sources that stand in them. The only page that knows where a byte stands.
-use mathlib.Core.Bool.{Bool, true, false, cond}
+use mathlib.Core.Bool.{Bool, false, cond}
 use mathlib.Core.List.{List, [], _∷_}
 use Prim.Native.Nat.{ℕ, _+_, _*_}
 use lib.ListN.{getD, take, drop}

@@ -5,13 +5,13 @@ use mathlib.Core.Bool.{Bool, true, false}
 use Prim.Native.Nat.{ℕ, _+_, _*_, _/_, _%_, _≤_, _<_}
 use native.Mathlib.Omega.{arith}
 use native.Mathlib.Decide.{decLt, ℕ-discrete}
-use lib.Dec.{ltb, leb, eqb}
+use lib.Dec.{ltb, leb}
 use borrow.Author.Tests.{ltb-true, leb-true, lt-ltb, le-leb}
 use Rattle.finite.specs.Logic.{_and_, bool-ext}
 use Rattle.finite.specs.Below.{anyBelow}
 use Rattle.finite.specs.Closure.{through}
 use Rattle.model.specs.Table.{Table}
-use Rattle.moved.specs.Renumber.{Renumbering, moment-to, opened, row-of, eqb-to, any-to, thrice, through-to}
+use Rattle.moved.specs.Renumber.{Renumbering, moment-to, opened, row-of, any-to, thrice, through-to}
 
 -- row x of t is row `to x` of u, its atomic source and its dependencies renumbered, and each agent's rows keep their order
 pub record Alike (t u : Table) (π : Renumbering (t .rows)) : Type 0 where
@@ -102,18 +102,10 @@ module _ {t u : Table} {π : Renumbering (t .rows)} (M : Alike t u π) where
       bool-ext (ltb (mo m) (mo k)) (ltb m k) (λ e. lt-ltb m k (moment-kept-back m k q (ltb-true (mo m) (mo k) e)))
       (λ e. lt-ltb (mo m) (mo k) (moment-kept m k q (ltb-true m k e)))
 
-  pub eqb-moment : (m k : ℕ) → eqb (mo m) (mo k) ≡ eqb m k
-  unfolding thrice
-  eqb-moment m k = eqb-to (thrice π) m k
-
   -- ---- some row, some moment, a path of moments
 
   pub some-row : (p q : ℕ → Bool) → ((k : ℕ) → q (π .to k) ≡ p k) → anyBelow (u .rows) q ≡ anyBelow (t .rows) p
   some-row p q f = rw (M .rows) (any-to π p q f)
-
-  pub some-moment : (p q : ℕ → Bool) → ((m : ℕ) → q (mo m) ≡ p m) → anyBelow (3 * u .rows) q ≡ anyBelow (3 * t .rows) p
-  unfolding thrice
-  some-moment p q f = rw (M .rows) (any-to (thrice π) p q f)
 
   pub moment-path : (r d : ℕ → ℕ → Bool) → ((m k : ℕ) → d (mo m) (mo k) ≡ r m k) → (m k : ℕ)
       → through d (3 * u .rows) (mo m) (mo k) ≡ through r (3 * t .rows) m k

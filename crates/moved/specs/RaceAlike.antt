@@ -16,7 +16,6 @@ use Rattle.model.specs.Race.{clash, conflict, hasRace, raceRow}
 use Rattle.model.specs.Words.{Races}
 use Rattle.laws.specs.RaceLaws.{Sized, race-shown, race-none}
 use Rattle.laws.specs.PairLaws.{common-sym, mutually-sym, conflict-in}
-use Rattle.laws.specs.ChoiceLaws.{NoRace}
 use Rattle.moved.specs.Renumber.{Renumbering, one-to-one, to-below, back-below, eqb-to}
 use Rattle.moved.specs.Alike.{Alike}
 use Rattle.moved.specs.OrderAlike.{mutually-alike}
@@ -102,6 +101,3 @@ module _ {t u : Table} {π : Renumbering (t .rows)} (M : Alike t u π) where
   -- A RACE IS SAID OF BOTH OR OF NEITHER
   pub race-alike : Sized t → Sized u → ltb (raceRow u) (u .rows) ≡ ltb (raceRow t) (t .rows)
   race-alike p q = bool-ext _ _ (λ e. race-said t p .1 (some-here (race-said u q .0 e))) (λ e. race-said u q .1 (some-there (race-said t p .0 e)))
-
-  pub none-alike : NoRace t → NoRace u
-  none-alike f x y l m r = let s = some-here (x, y, l, m, r) in f (s .0) (s .1) (s .2) (s .3) (s .4)

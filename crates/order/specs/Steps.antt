@@ -1,6 +1,6 @@
 -- The three direct cases that go by rows, of a class set, set bit by bit in a cleared region: those from and to each row that holds
 -- all of the set. That a bit set is such a case is said apart from which are set, so that a bit may be set twice. Assumes nothing.
-use mathlib.Core.Path.{_≡_, refl, sym, _∙_}
+use mathlib.Core.Path.{_≡_, sym, _∙_}
 use mathlib.Core.Bool.{Bool, true, false}
 use mathlib.Core.Logic.{_⊎_, inl, inr}
 use mathlib.Core.List.{List}
@@ -8,7 +8,7 @@ use Prim.Native.Nat.{ℕ, _+_, _-_, _*_, _/_, _%_, _≤_, _<_}
 use native.Mathlib.Omega.{arith}
 use native.Mathlib.Decide.{ℕ-discrete}
 use lib.ListN.{length}
-use Rattle.finite.specs.Logic.{_or_, which, not-both, bool-ext, or-cases, or-left, or-right}
+use Rattle.finite.specs.Logic.{_or_, not-both, bool-ext, or-cases, or-left, or-right}
 use Rattle.bits.specs.Bit.{setBitIf, setBitIf-same, setBitIf-other, zeros, bit-zeros-in}
 use Rattle.bits.specs.Matrix.{rel}
 use Rattle.bits.specs.Within.{Within, within-refl, within-trans, within-put, within-cleared}

@@ -13,8 +13,8 @@ use Rattle.finite.specs.Logic.{_and_, _or_, split, and-true, and-false-right, n
 use Rattle.finite.specs.Below.{anyBelow, any-none}
 use Rattle.bits.specs.Bit.{setBit, setBit-same, setBit-other}
 use Rattle.bits.specs.Matrix.{rel}
-use Rattle.bits.specs.Within.{Within, within-trans, within-setBit}
-use Rattle.bits.specs.Stage.{Holds, Made, Added, holds-cong, holds-added, added-none}
+use Rattle.bits.specs.Within.{within-trans, within-setBit}
+use Rattle.bits.specs.Stage.{Made, Added, holds-cong, holds-added, added-none}
 use Rattle.model.specs.declared.Mode.{Mode}
 use Rattle.model.specs.Limits.{ROWS, WORK}
 use Rattle.model.specs.Table.{dependency, dependsOf, decode}

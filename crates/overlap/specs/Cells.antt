@@ -1,6 +1,6 @@
 -- The rows with bytes in each cell, and that rows that share a byte share its cell. Assumes nothing.
-use mathlib.Core.Path.{_≡_, refl, sym, ap, _∙_}
-use mathlib.Core.Bool.{Bool, true, false}
+use mathlib.Core.Path.{_≡_, sym, ap, _∙_}
+use mathlib.Core.Bool.{true, false}
 use mathlib.Core.List.{List}
 use mathlib.Core.Logic.{_⊎_, inl, inr, ⊎-elim}
 use Prim.Native.Nat.{ℕ, _+_, _-_, _*_, _/_, _%_, _≤_, _<_}
@@ -8,11 +8,11 @@ use native.Mathlib.Omega.{arith}
 use native.Mathlib.Decide.{decLt, ℕ-discrete}
 use lib.ListN.{length}
 use Rattle.finite.specs.Logic.{_or_, or-left, or-right, not-so, not-both}
-use Rattle.bits.specs.Bit.{bit, setBit, length-setBit, setBit-same, setBit-other}
+use Rattle.bits.specs.Bit.{bit, setBit, setBit-same, setBit-other}
 use Rattle.bits.specs.Within.{Within, within-refl, within-trans, within-setBit, within-bit}
 use Rattle.model.specs.declared.Row.{Row}
 use Rattle.model.specs.Limits.{ROWS, WORK, LONGEST}
-use Rattle.model.specs.Row.{touches, overlap}
+use Rattle.model.specs.Row.{touches}
 use Rattle.model.specs.Table.{rowOf}
 use Rattle.laws.specs.PairLaws.{inside-out, overlap-is}
 use Rattle.area.specs.Regions.{CELLS, CELLS-END, GRID}
@@ -48,10 +48,6 @@ abbrev pub Celled : List ℕ → ℕ → List ℕ → Type 0
 Celled bs n w = (y c : ℕ) → y < n → InCell (rowOf bs y) c → bit w (cellBit c y) ≡ true
 
 -- ---- laws: a byte's cell
-
-cell-small : (b : ℕ) → cell b < COUNT
-unfolding cell
-cell-small b = omega arith
 
 -- a row is put into the cell of each of its bytes
 touch-cell : (r : Row) (b : ℕ) → touches r b ≡ true → InCell r (cell b)

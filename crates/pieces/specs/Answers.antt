@@ -1,7 +1,7 @@
 -- The five kinds of answer to two pieces: each a refusal at the door or what the joined table gets, and with an empty second piece the one
 -- of the first piece alone, for all bytes. Assumes nothing.
-use mathlib.Core.Path.{_≡_, refl, sym, ap, ap₂, _∙_}
-use mathlib.Core.Bool.{Bool, true, false, cond}
+use mathlib.Core.Path.{_≡_, refl, ap, ap₂, _∙_}
+use mathlib.Core.Bool.{Bool, true, false}
 use mathlib.Core.List.{List, []}
 use Prim.Native.Nat.{ℕ}
 use Rattle.model.specs.declared.Admission.{Admission}

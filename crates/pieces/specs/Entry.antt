@@ -3,7 +3,7 @@
 use mathlib.Core.Path.{_≡_, refl, sym, ap, _∙_}
 use mathlib.Core.Bool.{Bool, true, false, not, cond}
 use mathlib.Core.List.{List, [], _++_}
-use Prim.Native.Nat.{ℕ, zero, suc, _+_, _-_, _*_, _≤_, _<_}
+use Prim.Native.Nat.{ℕ, _+_, _-_, _*_, _≤_, _<_}
 use native.Mathlib.Omega.{arith}
 use native.Mathlib.Decide.{decLt, ℕ-discrete}
 use lib.ListN.{length, getD, take, drop, replicate, length-append, length-drop, length-replicate, List·getD-append}
@@ -18,14 +18,14 @@ use Rattle.model.specs.declared.Admission.the-variants.{Admitted, Refused}
 use Rattle.model.specs.Limits.{ROWS, WORK, LONGEST, BYTES}
 use Rattle.model.specs.Row.{access}
 use Rattle.model.specs.Table.{ROW-BYTES, rowsAt, rowBytes, placesOf, modeOf, rowOf, sourceOf, decode, tableUnder, tableOf, sourcesOf}
-use Rattle.model.specs.Refusal.{buffersFit, headerFault, admission}
+use Rattle.model.specs.Refusal.{buffersFit, admission}
 use Rattle.model.specs.Check.{wiped}
 use Rattle.laws.specs.AdmissionLaws.{not-admitted, Sound, sound-admitted, admitted-sound, rows-fit, size-fits, access-end}
 use Rattle.table.specs.Rows.{shapeFault}
 use Rattle.table.proofs.Laws.{shape-refused, header-refused}
 use Rattle.pieces.specs.declared.Refusal.{Refusal}
-use Rattle.pieces.specs.Pieces.{AREA, areaOf, rowsBoth, piecesFault, joined, ofBoth, admissionBoth}
-use Rattle.pieces.specs.PiecesLaws.{getD-zeros, both-fit, joined-rows, joined-places, joined-mode, joined-front, of-joined, of-refused}
+use Rattle.pieces.specs.Pieces.{areaOf, piecesFault, joined, ofBoth, admissionBoth}
+use Rattle.pieces.specs.PiecesLaws.{getD-zeros, joined-rows, joined-places, joined-mode, joined-front, of-joined, of-refused}
 use Rattle.pieces.specs.PiecesLaws.{none-fault, none-admission}
 
 -- ---- definitions

@@ -1,13 +1,13 @@
 -- A table in two pieces: the first an ordinary table f, the second only rows s, to be added after its rows. What the two are joined to,
 -- what they are refused for, and what is answered of them: that of the joined table.
-use mathlib.Core.Bool.{Bool, true, false, cond}
+use mathlib.Core.Bool.{Bool, cond}
 use mathlib.Core.List.{List, [], _∷_, _++_}
 use Prim.Native.Nat.{ℕ, _+_, _-_, _*_, _/_, _%_}
 use lib.ListN.{length, getD, take, drop}
 use lib.Dec.{ltb, leb, eqb}
 use Rattle.finite.specs.Lists.{tabulate}
 use Rattle.model.specs.declared.Admission.{Admission}
-use Rattle.model.specs.declared.Admission.the-variants.{Admitted, Refused}
+use Rattle.model.specs.declared.Admission.the-variants.{Refused}
 use Rattle.model.specs.declared.Reason.{Reason}
 use Rattle.model.specs.declared.ReportAnswer.{ReportAnswer}
 use Rattle.model.specs.declared.ReportAnswer.the-variants as told

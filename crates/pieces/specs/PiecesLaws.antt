@@ -6,7 +6,7 @@ use mathlib.Core.List.{List, [], _∷_, _++_, append-nil, append-assoc}
 use Prim.Native.Nat.{ℕ, zero, suc, _+_, _-_, _*_, _/_, _%_, _≤_, _<_, min}
 use native.Mathlib.Omega.{arith}
 use native.Mathlib.Decide.{decLt, ℕ-discrete}
-use lib.ListN.{length, getD, set, take, drop, replicate, length-replicate, List·getD-eq-default, length-append, length-drop, length-take}
+use lib.ListN.{length, getD, set, take, drop, replicate, length-replicate, List·getD-eq-default, length-append, length-drop}
 use lib.ListN.{List·getD-append}
 use lib.Seq.{ext-getD, take-add, getD-drop, getD-take, getD-append-add, drop-append-add, drop-append-le, drop-drop}
 use lib.Seq.{take-append-le, take-take, length-take-le, take-at, drop-at, paste, paste-suc, length-paste, length-paste-head}
@@ -14,19 +14,16 @@ use lib.Dec.{ltb, leb, eqb}
 use borrow.Author.Tests.{eqb-true, leb-true, eq-eqb, ne-eqb, le-leb, lt-ltb, le-ltb}
 use Rattle.finite.specs.Logic.{_and_, split, and-true, not-both, which}
 use Rattle.finite.specs.Lists.{tabulate, length-tabulate, getD-tabulate, tabulate-cong}
-use Rattle.model.specs.declared.Mode.{Mode}
-use Rattle.model.specs.declared.Admission.{Admission}
-use Rattle.model.specs.declared.Admission.the-variants.{Admitted, Refused}
+use Rattle.model.specs.declared.Admission.the-variants.{Refused}
 use Rattle.model.specs.Limits.{AGENTS, ROWS}
-use Rattle.model.specs.Table.{HEADER, ROW-BYTES, PLACE-BYTES, HOSTS-PLACE-BYTES, DEPENDENCY-BYTES, FIRST, HOSTS, pairAt, quadAt, countAt, versionAt}
+use Rattle.model.specs.Table.{HEADER, ROW-BYTES, PLACE-BYTES, HOSTS-PLACE-BYTES, DEPENDENCY-BYTES, pairAt, quadAt, countAt, versionAt}
 use Rattle.model.specs.Table.{zeroAt, agentsAt, rowsAt, hasHosts, threeAt, fourAt, placeAt, slotAt, placesOf, rowsBegin, rowsEnd, sizeOf, rowBytes}
 use Rattle.model.specs.Table.{dependencyBytes, modeOf, tableUnder, sourcesOf}
 use Rattle.model.specs.Refusal.{versionFits, limitsFit, lengthFits, hostsFault, headerFault, admission}
 use Rattle.table.specs.Rows.{shapeFault, hostsFaultIn, rowsAdmission}
-use Rattle.table.proofs.Laws.{hosts-is, shape-refused, shape-passed, header-refused, header-passed}
+use Rattle.table.proofs.Laws.{hosts-is, shape-passed, header-refused, header-passed}
 use Rattle.pieces.specs.Pieces.{AREA, areaOf, rowsBoth, piecesFault, headerOf, placeBytes, joined, ofBoth, admissionBoth, earlyFault, rowPart}
 use Rattle.pieces.specs.Pieces.{rowPlace, partAt}
-use Rattle.pieces.specs.declared.RowPlace.{RowPlace}
 use Rattle.pieces.specs.declared.RowPlace.the-variants as place
 
 -- ---- a first piece that is not refused for 1 to 4

@@ -1,16 +1,14 @@
 -- What is promised of a table in two pieces, in the words of docs/RULES.md: a page to read beside Pieces.antt. Assumes nothing.
-use mathlib.Core.Path.{_≡_, refl, sym, ap, _∙_}
+use mathlib.Core.Path.{_≡_, refl, sym}
 use mathlib.Core.Bool.{Bool, true, false, cond}
 use mathlib.Core.List.{List, [], _++_}
 use Prim.Native.Nat.{ℕ, _+_, _*_, _/_, _%_, _≤_, _<_}
 use lib.ListN.{length, take, drop}
-use lib.Dec.{leb, eqb}
-use borrow.Author.Tests.{eq-eqb, ne-eqb, le-leb, lt-leb}
-use Rattle.model.specs.declared.Mode.{Mode}
+use borrow.Author.Tests.{ne-eqb, le-leb, lt-leb}
 use Rattle.model.specs.declared.Reason.{Reason}
 use Rattle.model.specs.Limits.{ROWS, CYCLE, SOURCES, CHAIN}
-use Rattle.model.specs.Table.{ROW-BYTES, versionAt, agentsAt, rowsAt, placesOf, modeOf, rowBytes, dependencyBytes}
-use Rattle.model.specs.Refusal.{buffersFit, hostsFault}
+use Rattle.model.specs.Table.{ROW-BYTES, versionAt, agentsAt, rowsAt, placesOf, rowBytes, dependencyBytes}
+use Rattle.model.specs.Refusal.{buffersFit}
 use Rattle.model.specs.Check.{check}
 use Rattle.model.specs.Fill.{fill}
 use Rattle.model.specs.Report.{report}

@@ -7,7 +7,7 @@ use Prim.Native.Nat.{ℕ, _+_, _*_, _/_, _%_, _≤_, _<_}
 use native.Mathlib.Omega.{arith}
 use native.Mathlib.Decide.{ℕ-discrete}
 use lib.ListN.{length}
-use Rattle.finite.specs.Logic.{_or_, or-right, which, not-both, not-so, and-false-right}
+use Rattle.finite.specs.Logic.{_or_, or-right, which, not-both, and-false-right}
 use Rattle.bits.specs.Bit.{bit, setBitIf, length-setBitIf, setBitIf-same, setBitIf-other}
 use Rattle.model.specs.declared.Mode.{Mode}
 use Rattle.model.specs.declared.Row.{Row}

@@ -7,7 +7,7 @@ use Prim.Native.Nat.{ℕ, _<_}
 use native.Mathlib.Omega.{arith}
 use lib.Dec.{eqb}
 use borrow.Author.Tests.{eqb-true, eq-eqb, leb-true}
-use Rattle.finite.specs.Logic.{_and_, _or_, which, bool-ext, not-so, not-in, split, and-true, or-cases, or-left, or-right}
+use Rattle.finite.specs.Logic.{_and_, _or_, bool-ext, not-so, not-in, split, and-true, or-cases, or-left, or-right}
 use Rattle.finite.specs.Below.{anyBelow, any-in, any-out, any-cong}
 use Rattle.model.specs.declared.Row.{Row}
 use Rattle.model.specs.Row.{atomic, barrier, control, sameInstance, reads, releases, acquires}

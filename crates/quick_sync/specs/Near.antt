@@ -9,7 +9,7 @@ use native.Mathlib.Decide.{decLt, ℕ-discrete}
 use lib.ListN.{length}
 use lib.Dec.{eqb}
 use borrow.Author.Tests.{eqb-true, not-false}
-use Rattle.finite.specs.Logic.{_and_, _or_, which, and-false-left, not-both, or-left, or-right, and-on}
+use Rattle.finite.specs.Logic.{_and_, _or_, and-false-left, not-both, or-left, or-right, and-on}
 use Rattle.finite.specs.Below.{anyBelow, any-off}
 use Rattle.bits.specs.Bit.{bit, zeros, bit-zeros-in, setBit, setBit-same, setBit-other, setBitIf, setBitIf-same, setBitIf-other}
 use Rattle.bits.specs.Within.{Within, within-refl, within-trans, within-widen, within-bit, within-setBit, within-setBitIf, within-cleared}

@@ -1,7 +1,7 @@
 // M5: synchronizes-with, as bits; and the stages that it takes, in order.
 ghost use mathlib.Core.Path.{_≡_};
 ghost use mathlib.Core.Bool.{true};
-ghost use Prim.Native.Nat.{ℕ, _+_, _*_, _≤_, _<_};
+ghost use Prim.Native.Nat.{_+_, _*_, _≤_, _<_};
 ghost use lib.ListN.{length};
 ghost use Rattle.finite.specs.Below.{anyBelow};
 ghost use Rattle.bits.specs.Stage.{Made};
@@ -12,9 +12,8 @@ ghost use Rattle.model.specs.Table.{rowOf, decode};
 ghost use Rattle.model.specs.Synchronizes.{synchronizes};
 ghost use Rattle.area.specs.Regions.{MUTUAL, SYNC, HAPPENS-END, GRID};
 ghost use Rattle.area.specs.Synced.{Sequenced, Synced};
-ghost use Rattle.quick_sync.specs.Regions.{LINKS, PASSED, COVER, GOOD-END, UNKNOWN-END};
+ghost use Rattle.quick_sync.specs.Regions.{LINKS, PASSED, COVER, UNKNOWN-END};
 ghost use Rattle.quick_sync.specs.State.{Linked, MadeLinked};
-ghost use Rattle.sets.specs.Walk.{either};
 ghost use Rattle.quick_sync.specs.Near.{near, offScope, Level, Peer, Learnt, LearntOne, LearntRow, Drawn, Turn};
 use crate::links;
 use crate::meets;

@@ -12,7 +12,7 @@ use Rattle.model.specs.declared.Row.{Row}
 use Rattle.model.specs.declared.Shared.{Shared}
 use Rattle.model.specs.declared.Shared.the-variants.{At, Nothing}
 use Rattle.model.specs.Limits.{ROWS, WORK, BYTES}
-use Rattle.model.specs.Row.{access, touches, lowestShared, overlap}
+use Rattle.model.specs.Row.{access, touches, lowestShared}
 use Rattle.model.specs.Table.{Table}
 use Rattle.model.specs.Scope.{mutually}
 use Rattle.model.specs.Location.{common, before}

@@ -1,7 +1,7 @@
 // Races: the first pair of rows that races, and its lowest byte with no location order either way. Some code reads none of the
 // rows, places or number of rows that it is given: they say which table its contract is about.
 ghost use mathlib.Core.Path.{_≡_};
-ghost use Prim.Native.Nat.{ℕ, _+_, _≤_, _<_};
+ghost use Prim.Native.Nat.{_+_, _<_};
 ghost use Rattle.model.specs.Table.{rowOf, decode};
 ghost use Rattle.model.specs.Scope.{mutually};
 ghost use Rattle.model.specs.Location.{before};

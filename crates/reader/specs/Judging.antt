@@ -2,7 +2,7 @@
 use mathlib.Core.Path.{_≡_, refl, sym, ap, _∙_}
 use mathlib.Core.Bool.{Bool, true, false, not}
 use mathlib.Core.List.{List, _++_}
-use Prim.Native.Nat.{ℕ, _+_, _-_, _*_, _/_, _%_, _≤_, _<_}
+use Prim.Native.Nat.{ℕ, _+_, _-_, _*_, _/_, _%_, _<_}
 use native.Mathlib.Omega.{arith}
 use lib.ListN.{length, getD, take}
 use lib.Dec.{ltb, leb, eqb}
@@ -17,8 +17,8 @@ use Rattle.model.specs.declared.Reason.{Reason}
 use Rattle.model.specs.declared.Reason.the-variants as reason
 use Rattle.model.specs.declared.AcceptAnswer.{AcceptAnswer}
 use Rattle.model.specs.declared.AcceptAnswer.the-variants as accept
-use Rattle.model.specs.Limits.{ROWS, CHAIN, CASE, CLASS-SETS}
-use Rattle.model.specs.Table.{Table, ROW-BYTES, rowBytes, placesOf, modeOf, rowOf, decode, tableUnder, tableOf}
+use Rattle.model.specs.Limits.{CHAIN, CASE, CLASS-SETS}
+use Rattle.model.specs.Table.{Table, ROW-BYTES, rowBytes, placesOf, modeOf, rowOf, decode}
 use Rattle.model.specs.Moment.{moment, momentIn, orderedRows, programOrder}
 use Rattle.model.specs.Synchronizes.{synchronizes}
 use Rattle.model.specs.Happens.{bySystem, direct}

@@ -2,7 +2,7 @@
 use mathlib.Core.Path.{_≡_, refl, sym, ap, subst, _∙_}
 use mathlib.Core.Bool.{Bool, true, false, not, cond}
 use mathlib.Core.List.{List, _++_}
-use Prim.Native.Nat.{ℕ, zero, suc, _+_, _-_, _*_, _/_, _≤_, _<_}
+use Prim.Native.Nat.{ℕ, suc, _+_, _-_, _*_, _/_, _≤_, _<_}
 use native.Mathlib.Omega.{arith}
 use native.Mathlib.Numerals.{add-one}
 use lib.ListN.{length, take, drop}
@@ -22,11 +22,11 @@ use Rattle.model.specs.declared.Admission.the-variants.{Admitted, Refused}
 use Rattle.model.specs.declared.DeriveAnswer.{DeriveAnswer}
 use Rattle.model.specs.declared.DeriveAnswer.the-variants
 use Rattle.model.specs.Limits.{ROWS, WORK, CHAIN, CLASS-SETS}
-use Rattle.model.specs.Table.{Table, ROW-BYTES, rowBytes, placesOf, modeOf, rowOf, decode, tableUnder, tableOf}
+use Rattle.model.specs.Table.{Table, ROW-BYTES, rowBytes, placesOf, modeOf, rowOf, decode}
 use Rattle.model.specs.Moment.{momentIn, moment, programOrder}
 use Rattle.model.specs.Happens.{step}
 use Rattle.model.specs.Check.{wiped}
-use Rattle.model.specs.Reason.{twoMoments, chainSize, stepNumber, chain, hasChainBy, Derived, refused, word, chained, notBefore, chainOr, ours}
+use Rattle.model.specs.Reason.{twoMoments, chainSize, stepNumber, chain, hasChainBy, Derived, word, chained, notBefore, chainOr, ours}
 use Rattle.model.specs.Reason.{derivedOf, deriveAnswer, chainAfter, workAfter}
 use Rattle.area.specs.Regions.{MUTUAL, SYNC-END, HAPPENS, STEP, CHAINS, CHAINS-END, MOMENTS}
 use Rattle.pieces.specs.declared.Refusal.{Refusal}

@@ -3,7 +3,7 @@
 use mathlib.Core.Path.{_≡_, refl, sym, ap, ap₂, _∙_}
 use mathlib.Core.Bool.{Bool, false}
 use mathlib.Core.List.{List, [], _++_}
-use Prim.Native.Nat.{ℕ, _*_, _≤_, _<_}
+use Prim.Native.Nat.{ℕ, _*_, _≤_}
 use lib.ListN.{length, take}
 use Rattle.bits.specs.Bit.{zeros}
 use Rattle.bits.specs.Within.{Within}
@@ -14,15 +14,15 @@ use Rattle.model.specs.declared.CheckAnswer.{CheckAnswer}
 use Rattle.model.specs.declared.ReportAnswer.{ReportAnswer}
 use Rattle.model.specs.declared.ReportAnswer.the-variants as told
 use Rattle.model.specs.Limits.{WORK, CYCLE}
-use Rattle.model.specs.Table.{Table, ROW-BYTES, rowBytes, placesOf, modeOf, sourceOf, decode, tableUnder, sourcesOf}
+use Rattle.model.specs.Table.{Table, ROW-BYTES, rowBytes, placesOf, modeOf, sourceOf, decode}
 use Rattle.model.specs.Check.{verdict, check, checkAnswer, cycleAfter, workAfter, wiped}
 use Rattle.model.specs.Report.{reportAnswer, report}
 use Rattle.area.specs.Regions.{MUTUAL, LOCATED-END, EDGE, LAYERS-END}
 use Rattle.axioms.specs.Sources.{sourceIn}
 use Rattle.choice.specs.Sources.{Listed}
-use Rattle.verdict.specs.Whole.{judged, said-refused, said-verdict, verdictRows}
+use Rattle.verdict.specs.Whole.{judged, said-refused, said-verdict}
 use Rattle.pieces.specs.declared.Refusal.{Refusal}
-use Rattle.pieces.specs.Pieces.{areaOf, joined, checkBoth, reportBoth}
+use Rattle.pieces.specs.Pieces.{areaOf, checkBoth, reportBoth}
 use Rattle.pieces.specs.Entry.{refusalOf, doorBoth, opened-refused, opened-admitted, door-admits, table-both, sources-both}
 use Rattle.pieces.specs.Answers.{report-both, none-check, none-report}
 

@@ -1,13 +1,13 @@
 -- What two agents share, from the numbers of their places one after the other: those that a scope doesn't go by are not asked.
 -- Assumes nothing.
-use mathlib.Core.Path.{_≡_, refl, sym, ap, subst, _∙_}
+use mathlib.Core.Path.{_≡_, refl, sym, _∙_}
 use mathlib.Core.Bool.{Bool, true, false, not, true≢false}
 use mathlib.Core.List.{List}
 use Prim.Native.Nat.{ℕ, _<_}
 use native.Mathlib.Omega.{arith}
 use lib.Dec.{eqb}
 use lib.ListN.{getD}
-use borrow.Author.Tests.{ne-eqb, eq-eqb, eqb-true}
+use borrow.Author.Tests.{ne-eqb, eq-eqb}
 use Rattle.finite.specs.Logic.{_and_, _or_, and-false-left, and-false-right, or-none}
 use Rattle.model.specs.Scope.{SHADER, INVOCATION, SUBGROUP, WORKGROUP, FAMILY, DEVICE, agentKind, shader, agree, oneInstance, shares}
 use Rattle.rows.specs.Places.{IsPlace}

@@ -1,9 +1,9 @@
 -- Moments that are not program-ordered, by their numbers or agents alone. Assumes nothing.
-use mathlib.Core.Path.{_≡_, refl, sym, _∙_}
-use mathlib.Core.Bool.{Bool, true, false, not}
+use mathlib.Core.Path.{_≡_, refl, sym}
+use mathlib.Core.Bool.{true, false, not}
 use mathlib.Core.List.{List}
 use Prim.Native.Nat.{ℕ, _≤_}
-use lib.Dec.{ltb, eqb}
+use lib.Dec.{eqb}
 use borrow.Author.Tests.{le-ltb}
 use Rattle.finite.specs.Logic.{_and_, split, not-both, not-so, not-out}
 use Rattle.model.specs.declared.Mode.{Mode}

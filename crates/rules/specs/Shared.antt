@@ -59,10 +59,6 @@ module _ (a m b n : ℕ) where
 
   -- ---- laws: what it says
 
-  out-low : (d : ℕ) → d < a → inBoth a m b n d ≡ false
-  unfolding inBoth
-  out-low d l = not-so (inside a m d and inside b n d) (λ t. let g = inside-out a m d (split t .0) .0 in omega arith)
-
   -- a byte that both cover, and none lower, is given; and only such a byte
   shared-at : (c : ℕ) → inBoth a m b n c ≡ true → ((d : ℕ) → d < c → inBoth a m b n d ≡ false) → lowestShared a m b n ≡ At c
   unfolding inBoth

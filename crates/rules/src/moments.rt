@@ -1,7 +1,7 @@
 // M1: the moments of a row, and program order between moments. Moment 3 × row + 0, 1 or 2 is the one before, at or after the row.
 ghost use mathlib.Core.Path.{_≡_};
 ghost use mathlib.Core.List.{List};
-ghost use Prim.Native.Nat.{ℕ, _+_, _*_, _/_, _%_, _<_};
+ghost use Prim.Native.Nat.{ℕ, _*_, _/_, _%_, _<_};
 ghost use Rattle.model.specs.declared.Mode.{Mode};
 ghost use Rattle.model.specs.Limits.{ROWS};
 ghost use Rattle.model.specs.Table.{decode};

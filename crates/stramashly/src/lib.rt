@@ -1,7 +1,6 @@
 // The functions that C and Rust link. Each is the proved function of the same name with its answer packed into one number.
 ghost use mathlib.Core.Path.{_≡_};
 ghost use mathlib.Core.Bool.{true};
-ghost use Prim.Native.Nat.{ℕ, _≤_};
 ghost use lib.ListN.{length};
 ghost use Rattle.model.specs.Check.{check, checkAnswer, cycleAfter, workAfter};
 ghost use Rattle.model.specs.Fill.{fill, fillAnswer, sourcesAfter};

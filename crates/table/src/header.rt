@@ -1,6 +1,5 @@
 // Refusals 1 to 4, and 16 to 18: what the header tells, the table's length, its agents and its dependencies.
 ghost use mathlib.Core.Path.{_≡_};
-ghost use mathlib.Core.Bool.{not};
 ghost use Rattle.finite.specs.Below.{anyBelow};
 ghost use Rattle.model.specs.Table.{sizeOf, dependencyCount};
 ghost use Rattle.model.specs.Refusal.{versionFits, limitsFit, lengthFits, kindOver, namesNone, headerFault};

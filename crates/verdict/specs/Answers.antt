@@ -1,20 +1,18 @@
 -- What the searches of a check found, as its answer, and what the calls of a check come to. Assumes nothing.
-use mathlib.Core.Path.{_≡_, refl, sym, ap, subst, _∙_}
+use mathlib.Core.Path.{_≡_, refl, sym, ap, _∙_}
 use mathlib.Core.Bool.{Bool, true, false, cond}
 use mathlib.Core.List.{List}
-use mathlib.Core.Logic.{_⊎_, inl, inr, ⊎-elim}
-use Prim.Native.Nat.{ℕ, _+_, _*_, _≤_, _<_}
+use Prim.Native.Nat.{ℕ, _*_, _≤_, _<_}
 use native.Mathlib.Omega.{arith}
 use lib.ListN.{length}
 use lib.Dec.{ltb}
 use borrow.Author.Tests.{lt-ltb, le-ltb}
-use Rattle.finite.specs.Logic.{which}
 use Rattle.model.specs.declared.CheckAnswer.{CheckAnswer}
 use Rattle.model.specs.declared.CheckAnswer.the-variants
 use Rattle.model.specs.Table.{Table}
 use Rattle.model.specs.Race.{raceRow, racePartner, raceByte}
 use Rattle.model.specs.Edge.{edge, overReader, overWriter, overByte, cycleRow, cycleRows, cycleEdges}
-use Rattle.model.specs.Check.{Verdict, refused, cyclic, overwritten, race, raceFree, raceOr, overwrittenOr, cyclicOr, verdict, checkAnswer, cycleAfter}
+use Rattle.model.specs.Check.{Verdict, cyclic, overwritten, race, raceFree, raceOr, overwrittenOr, cyclicOr, verdict, checkAnswer, cycleAfter}
 use Rattle.finite.specs.Walk.{cycleStart}
 use Rattle.finite.specs.Cycle.{cycle-canonical}
 use Rattle.bits.specs.Matrix.{rel}

@@ -2,7 +2,7 @@
 use mathlib.Core.Path.{_≡_, refl, sym, ap, ap₂, _∙_}
 use mathlib.Core.Bool.{Bool, true, false, cond}
 use mathlib.Core.List.{List, _++_}
-use Prim.Native.Nat.{ℕ, _*_, _≤_, _<_}
+use Prim.Native.Nat.{ℕ, _*_, _≤_}
 use native.Mathlib.Omega.{arith}
 use lib.ListN.{length, take}
 use lib.Dec.{ltb}
@@ -14,7 +14,7 @@ use Rattle.model.specs.declared.Admission.the-variants.{Admitted, Refused}
 use Rattle.model.specs.declared.CheckAnswer.{CheckAnswer}
 use Rattle.model.specs.declared.CheckAnswer.the-variants
 use Rattle.model.specs.Limits.{WORK, CYCLE}
-use Rattle.model.specs.Table.{Table, ROW-BYTES, rowBytes, placesOf, modeOf, rowOf, sourceOf, decode, tableUnder, sourcesOf}
+use Rattle.model.specs.Table.{Table, ROW-BYTES, rowBytes, placesOf, modeOf, sourceOf, decode}
 use Rattle.model.specs.Race.{raceRow, racePartner, raceByte}
 use Rattle.model.specs.Edge.{cycleRow, cycleRows, cycleEdges, overReader, overWriter, overByte}
 use Rattle.model.specs.Check.{Verdict, refused, cyclic, overwritten, race, raceFree, raceOr, overwrittenOr, cyclicOr, verdict, checkAnswer, cycleAfter}
@@ -26,7 +26,7 @@ use Rattle.race.specs.Bytes.{Ready, Bounded}
 use Rattle.axioms.specs.Sources.{sourceIn}
 use Rattle.choice.specs.Sources.{Listed}
 use Rattle.pieces.specs.declared.Refusal.{Refusal}
-use Rattle.pieces.specs.Pieces.{areaOf, joined, checkBoth}
+use Rattle.pieces.specs.Pieces.{areaOf, checkBoth}
 use Rattle.pieces.specs.Entry.{RowsOf, refusalOf, doorBoth, few, row-ends, row-sizes, Left, left-same, zeros-wiped, opened-refused, opened-admitted}
 use Rattle.pieces.specs.Entry.{door-admits, table-both, sources-both}
 use Rattle.pieces.specs.Answers.{check-both}

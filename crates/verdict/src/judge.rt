@@ -1,6 +1,6 @@
 // The verdict on a table whose rows are known to be well formed: stages over the work area, one after the other.
 ghost use mathlib.Core.Path.{_≡_};
-ghost use Prim.Native.Nat.{ℕ, _+_, _≤_, _<_};
+ghost use Prim.Native.Nat.{_≤_, _<_};
 ghost use lib.ListN.{length};
 ghost use Rattle.model.specs.Limits.{ROWS, WORK, CYCLE};
 ghost use Rattle.model.specs.Table.{decode};

@@ -1,6 +1,5 @@
 // The cycle that a check shows, in the lent buffer: its rows from place 0, its edge numbers from place CYCLE_EDGES, other places zero.
 ghost use mathlib.Core.Path.{_≡_};
-ghost use mathlib.Core.List.{List};
 ghost use mathlib.Core.Bool.{cond};
 ghost use Prim.Native.Nat.{ℕ, _+_, _≤_, _<_};
 ghost use lib.ListN.{length, getD};

@@ -1,10 +1,9 @@
 // The writer: places, rows and dependencies, as values, become a table in a lent buffer.
 ghost use mathlib.Core.Path.{_≡_};
-ghost use Prim.Native.Nat.{_≤_};
-ghost use lib.ListN.{length, take};
+ghost use lib.ListN.{length};
 ghost use Rattle.finite.specs.Below.{anyBelow};
-ghost use Rattle.writer.specs.Encode.{encode, tableSize};
-ghost use Rattle.writer.specs.Answer.{versionKnown, countsFit, numberOver, numbersFit, dependenciesFit, valuesFault, writtenAs, writeAnswer, bufferAfter};
+ghost use Rattle.writer.specs.Encode.{encode};
+ghost use Rattle.writer.specs.Answer.{versionKnown, countsFit, numberOver, dependenciesFit, valuesFault, writtenAs, writeAnswer, bufferAfter};
 use model::Admission;
 use model::Places;
 use model::Row;

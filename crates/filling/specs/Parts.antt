@@ -18,7 +18,8 @@ use Rattle.model.specs.declared.FillAnswer.the-variants
 use Rattle.model.specs.Table.{Table}
 use Rattle.model.specs.Race.{raceRow, racePartner, raceByte}
 use Rattle.model.specs.Edge.{edge, cycleRow, overReader, consistent}
-use Rattle.model.specs.Fill.{Outcome, race, none, filled, chosen, sourcesFit, filledOr, racingOr, outcome, fillAnswer, sourcesAfter}
+use Rattle.model.specs.Check.{raceOr}
+use Rattle.model.specs.Fill.{Outcome, race, none, filled, chosen, sourcesFit, filledOr, outcome, fillAnswer, sourcesAfter}
 use Rattle.laws.specs.SourceLaws.{consistent-same, fits-same}
 use Rattle.area.specs.Regions.{EDGE, EDGE-END, GRID, LAYERS, LAYERS-END}
 use Rattle.race.specs.declared.Found.{Found}
@@ -117,7 +118,7 @@ module _ (t : Table) (source : ℕ → ℕ) (f : Found) (e : f ≡ foundRace t) 
 
   pub raced : {i j k : ℕ} (r : FillAnswer) (c w : List ℕ) → f ≡ found.At i j k → r ≡ raceAnswer f
       → (r ≡ fillAnswer (outcome t source)) × (c ≡ sourcesAfter (outcome t source) c) × Within EDGE LAYERS-END w w
-  unfolding raceAnswer foundRace raceOf outcome racingOr fillAnswer sourcesAfter
+  unfolding raceAnswer foundRace raceOf outcome raceOr fillAnswer sourcesAfter
   raced {i} {j} {k} r c w h g = go (ltb x (t .rows)) (sym e ∙ h) (g ∙ ap raceAnswer e)
     where
       go : (b : Bool) → pair b ≡ found.At i j k → r ≡ raceAnswer (pair b)
@@ -126,7 +127,7 @@ module _ (t : Table) (source : ℕ → ℕ) (f : Found) (e : f ≡ foundRace t) 
       go false q p = not-nothing q
 
   pub raceless : f ≡ found.Nothing → outcome t source ≡ filledOr none t (chosen t source)
-  unfolding foundRace raceOf outcome racingOr
+  unfolding foundRace raceOf outcome raceOr
   raceless h = go (ltb x (t .rows)) (sym e ∙ h)
     where
       go : (b : Bool) → pair b ≡ found.Nothing → next b ≡ filledOr none t (chosen t source)

@@ -19,7 +19,7 @@ use Rattle.model.specs.declared.FillAnswer.{FillAnswer}
 use Rattle.model.specs.declared.FillAnswer.the-variants as fills
 use Rattle.model.specs.Limits.{WORK, CYCLE, SOURCES}
 use Rattle.model.specs.Table.{Table, rowsAt, tableUnder, decode, sourcesOf}
-use Rattle.model.specs.Refusal.{buffersFit, admission}
+use Rattle.model.specs.Refusal.{buffersFit, admission, whenAdmitted}
 use Rattle.model.specs.Check as verdict
 use Rattle.model.specs.Check.{Verdict, check, checkAnswer, cycleAfter, cycleNumber}
 use Rattle.model.specs.Fill as outcome
@@ -60,14 +60,14 @@ unfolding buffersFit
 fits needs w c long = and-true (le-leb WORK (length w) (long .0)) (le-leb needs (length c) (long .1))
 
 abbrev saidOf : Bool → List ℕ → Verdict
-saidOf chains s = verdict.admitted (admission false s) (verdict.verdict (tableUnder chains s) (sourcesOf s))
+saidOf chains s = whenAdmitted verdict.refused (admission false s) (verdict.verdict (tableUnder chains s) (sourcesOf s))
 
 check-is : (chains : Bool) (s w c : List ℕ) → LongEnough CYCLE w c → check chains s (length w) (length c) ≡ saidOf chains s
 unfolding check
 check-is chains s w c long = rw (fits CYCLE w c long) refl
 
 abbrev filledOf : Bool → List ℕ → Outcome
-filledOf chains s = outcome.admittedFill (admission true s) (outcome.outcome (tableUnder chains s) (sourcesOf s))
+filledOf chains s = whenAdmitted outcome.refused (admission true s) (outcome.outcome (tableUnder chains s) (sourcesOf s))
 
 fill-is : (chains : Bool) (s w c : List ℕ) → LongEnough SOURCES w c → fill chains s (length w) (length c) ≡ filledOf chains s
 unfolding fill
@@ -140,14 +140,14 @@ sources-chosen t source = sources-either (t .rows) (outcome.sourcesFit t source 
     (sources-filled source (t .rows)) (sources-none (t .rows))
 
 sources-outcome : (t : Table) (source : ℕ → ℕ) → Sources (t .rows) (outcome.outcome t source)
-unfolding outcome.outcome outcome.racingOr
+unfolding outcome.outcome verdict.raceOr
 sources-outcome t source = sources-either (t .rows) (ltb (raceRow t) (t .rows)) _ _ (sources-race (t .rows) _ _ _) (sources-chosen t (outcome.chosen t source))
 
 sources-same : (chains : Bool) (s : List ℕ) → Sources (rowsAt s) (filledOf chains s)
-unfolding outcome.admittedFill tableUnder decode
+unfolding whenAdmitted tableUnder decode
 sources-same chains s = go (admission true s)
   where
-    go : (a : Admission) → Sources (rowsAt s) (outcome.admittedFill a (outcome.outcome (tableUnder chains s) (sourcesOf s)))
+    go : (a : Admission) → Sources (rowsAt s) (whenAdmitted outcome.refused a (outcome.outcome (tableUnder chains s) (sourcesOf s)))
     go (Refused m i) = sources-refused (rowsAt s) m i
     go (Admitted a n) = sources-outcome (tableUnder chains s) (sourcesOf s)
 

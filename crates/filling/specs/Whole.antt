@@ -18,16 +18,17 @@ use Rattle.model.specs.Limits.{WORK, SOURCES}
 use Rattle.model.specs.Table.{Table, ROW-BYTES, rowBytes, placesOf, modeOf, sourceOf, decode}
 use Rattle.model.specs.Race.{raceRow, racePartner, raceByte}
 use Rattle.model.specs.Edge.{consistent}
-use Rattle.model.specs.Check.{wiped}
-use Rattle.model.specs.Fill.{Outcome, refused, race, none, filled, blank, chosen, sourcesFit, filledOr, racingOr, outcome, fillAnswer, sourcesAfter, workAfter}
+use Rattle.model.specs.Check.{raceOr, wiped}
+use Rattle.model.specs.Fill.{Outcome, refused, race, none, filled, blank, chosen, sourcesFit, filledOr, outcome, fillAnswer, sourcesAfter, workAfter}
 use Rattle.laws.specs.SourceLaws.{filled-same}
 use Rattle.area.specs.Regions.{MUTUAL, LOCATED-END, EDGE, LAYERS-END}
 use Rattle.axioms.specs.Sources.{sourceIn}
 use Rattle.choice.specs.Sources.{Listed}
 use Rattle.verdict.specs.Whole.{wiped-after}
-use Rattle.pieces.specs.declared.Refusal.{Refusal}
+use Rattle.model.specs.declared.Refusal.{Refusal}
+use Rattle.model.specs.Refusal.{refusalOf}
 use Rattle.pieces.specs.Pieces.{areaOf, fillBoth}
-use Rattle.pieces.specs.Entry.{refusalOf, doorBoth, Left, left-same, opened-refused, opened-admitted, door-admits, table-both, sources-both}
+use Rattle.pieces.specs.Entry.{doorBoth, Left, left-same, when-refused, when-admitted, door-admits, table-both, sources-both}
 use Rattle.pieces.specs.Answers.{fill-both}
 
 -- ---- laws: the rows of an admitted table
@@ -38,7 +39,7 @@ chosen-same t a b i e = rw e refl
 
 outcome-same : (t : Table) (a b : ℕ → ℕ) → ((i : ℕ) → i < t .rows → a i ≡ b i) → outcome t a ≡ outcome t b
 unfolding outcome
-outcome-same t a b same = ap (λ (o : Outcome). racingOr o t) (filled-same t (chosen t a) (chosen t b) (λ i l. chosen-same t a b i (same i l)) none)
+outcome-same t a b same = ap (λ (o : Outcome). raceOr race o t) (filled-same t (chosen t a) (chosen t b) (λ i l. chosen-same t a b i (same i l)) none)
 
 -- located, settled, wiped
 pub rows-filled : (b : List ℕ) (p : List (List ℕ)) (mode : Mode) (n : ℕ) (src w v u z c d : List ℕ) (r : FillAnswer) → Listed (sourceOf b) n src
@@ -63,7 +64,7 @@ filled-wiped t source w = go (sourcesFit t source and consistent t source)
     go false = refl
 
 outcome-wiped : (t : Table) (source : ℕ → ℕ) (w : List ℕ) → workAfter (outcome t source) w ≡ wiped w
-unfolding outcome racingOr workAfter
+unfolding outcome raceOr workAfter
 outcome-wiped t source w = go (ltb (raceRow t) (t .rows))
   where
     go : (b : Bool)
@@ -85,7 +86,7 @@ module _ (chains : Bool) (f s w c : List ℕ) (a : Admission) (e : a ≡ doorBot
   pub filled-refused : {n i : ℕ} (x : Refusal) → a ≡ Refused n i → x ≡ refusalOf a → Filled told (the-variants.Refused (x .number) (x .row)) w w c c
   unfolding fillAnswer workAfter sourcesAfter
   filled-refused x h q =
-      left-same fillAnswer workAfter sourcesAfter (fill-both chains (length w) (length c) f s ∙ opened-refused refused _ a _ e x h q) (refl, refl, refl)
+      left-same fillAnswer workAfter sourcesAfter (fill-both chains (length w) (length c) f s ∙ when-refused refused _ a _ e x h q) (refl, refl, refl)
 
   module _ {g n : ℕ} (h : a ≡ Admitted g n) (all : List ℕ) (p : List (List ℕ)) (mode : Mode) (copy : all ≡ areaOf (rowBytes f ++ s))
       (places : p ≡ placesOf f) (modes : mode ≡ modeOf chains f) where
@@ -95,7 +96,7 @@ module _ (chains : Bool) (f s w c : List ℕ) (a : Admission) (e : a ≡ doorBot
     told-is : told ≡ outcomeRows
     told-is =
         let k = door-admits SOURCES true f s (length w) (length c) a e h in
-        fill-both chains (length w) (length c) f s ∙ opened-admitted refused _ a _ e h
+        fill-both chains (length w) (length c) f s ∙ when-admitted refused _ a _ e h
         ∙ sym (ap₂ outcome (table-both true f s a (k .2) h chains all p mode copy places modes)
         (sources-both true f s a (k .2) h chains all p mode copy places modes))
 

@@ -69,7 +69,7 @@ pub fn fill_by(
         rows: count,
     } = a
     else {
-        let x = pieces::refusal_of(a);
+        let x = model::refusal_of(a);
         return FillAnswer::Refused {
             number: x.number,
             row: x.row,

@@ -5,8 +5,6 @@ use Prim.Native.Nat.{ℕ, _+_, _-_}
 use lib.ListN.{length, getD, drop, replicate}
 use lib.Dec.{ltb}
 use Rattle.finite.specs.Lists.{tabulate}
-use Rattle.model.specs.declared.Admission.{Admission}
-use Rattle.model.specs.declared.Admission.the-variants.{Admitted, Refused}
 use Rattle.model.specs.declared.CheckAnswer.{CheckAnswer}
 use Rattle.model.specs.declared.CheckAnswer.the-variants.{Cycle, Overwritten, Race, RaceFree}
 use Rattle.model.specs.declared.CheckAnswer.the-variants
@@ -14,7 +12,16 @@ use Rattle.model.specs.Limits.{WORK, CYCLE, CYCLE-EDGES}
 use Rattle.model.specs.Table.{Table, tableUnder, sourcesOf}
 use Rattle.model.specs.Race.{raceRow, racePartner, raceByte}
 use Rattle.model.specs.Edge.{cycleRow, cycleRows, cycleEdges, overReader, overWriter, overByte}
-use Rattle.model.specs.Refusal.{buffersFit, admission}
+use Rattle.model.specs.Refusal.{buffersFit, admission, whenAdmitted}
+
+-- ---- of any kind of answer
+
+-- the first race as `said` of its rows and byte; else what comes next
+unfoldable pub raceOr : {A : Type 0} → (ℕ → ℕ → ℕ → A) → A → Table → A
+raceOr said next t =
+    let x = raceRow t in
+    let y = racePartner t x in
+    cond (ltb x (t .rows)) (said x y (raceByte t x y)) next
 
 -- ---- the verdict, in the words of docs/RULES.md and with all that is shown
 
@@ -29,13 +36,6 @@ pub data Verdict : Type 0 where
   race : ℕ → ℕ → ℕ → Verdict
   raceFree : Verdict
 
--- the first race; else what comes next
-unfoldable pub raceOr : Verdict → Table → Verdict
-raceOr next t =
-    let x = raceRow t in
-    let y = racePartner t x in
-    cond (ltb x (t .rows)) (race x y (raceByte t x y)) next
-
 -- the least Y, Z, b that break axiom B; else what comes next
 unfoldable pub overwrittenOr : Verdict → Table → (ℕ → ℕ) → Verdict
 overwrittenOr next t source =
@@ -49,16 +49,12 @@ cyclicOr next t source = cond (ltb (cycleRow t source) (t .rows)) (cyclic (cycle
 
 -- of a table that is admitted
 unfoldable pub verdict : Table → (ℕ → ℕ) → Verdict
-verdict t source = cyclicOr (overwrittenOr (raceOr raceFree t) t source) t source
-
-unfoldable pub admitted : Admission → Verdict → Verdict
-admitted (Refused n i) v = refused n i
-admitted (Admitted a n) v = v
+verdict t source = cyclicOr (overwrittenOr (raceOr race raceFree t) t source) t source
 
 -- of any bytes, on a device with or without chains, with a work area and a cycle buffer of such lengths
 unfoldable pub check : Bool → List ℕ → ℕ → ℕ → Verdict
 check chains s work buffer =
-    cond (buffersFit CYCLE work buffer) (admitted (admission false s) (verdict (tableUnder chains s) (sourcesOf s))) (refused 11 0)
+    cond (buffersFit CYCLE work buffer) (whenAdmitted refused (admission false s) (verdict (tableUnder chains s) (sourcesOf s))) (refused 11 0)
 
 -- ---- what comes back
 

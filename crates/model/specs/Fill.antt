@@ -4,12 +4,10 @@ use mathlib.Core.Bool.{Bool, true, false, not, cond}
 use mathlib.Core.List.{List, _++_}
 use Prim.Native.Nat.{ℕ, _+_}
 use lib.ListN.{length, drop}
-use lib.Dec.{ltb, eqb}
+use lib.Dec.{eqb}
 use Rattle.finite.specs.Logic.{_and_, _or_}
 use Rattle.finite.specs.Below.{anyBelow, least}
 use Rattle.finite.specs.Lists.{tabulate}
-use Rattle.model.specs.declared.Admission.{Admission}
-use Rattle.model.specs.declared.Admission.the-variants.{Admitted, Refused}
 use Rattle.model.specs.declared.FillAnswer.{FillAnswer}
 use Rattle.model.specs.declared.FillAnswer.the-variants.{Race, None, Filled}
 use Rattle.model.specs.declared.FillAnswer.the-variants
@@ -18,10 +16,10 @@ use Rattle.model.specs.Row.{plainRead, writes, touches}
 use Rattle.model.specs.Table.{Table, tableUnder, sourcesOf}
 use Rattle.model.specs.Scope.{follows}
 use Rattle.model.specs.Location.{before}
-use Rattle.model.specs.Race.{nth, raceRow, racePartner, raceByte}
+use Rattle.model.specs.Race.{nth}
 use Rattle.model.specs.Edge.{beforeSome, consistent}
-use Rattle.model.specs.Refusal.{buffersFit, admission, writerFits, sourceBroken}
-use Rattle.model.specs.Check.{wiped}
+use Rattle.model.specs.Refusal.{buffersFit, admission, whenAdmitted, writerFits, sourceBroken}
+use Rattle.model.specs.Check.{raceOr, wiped}
 
 -- ---- the source of a blank
 
@@ -80,24 +78,14 @@ pub data Outcome : Type 0 where
 unfoldable pub filledOr : Outcome → Table → (ℕ → ℕ) → Outcome
 filledOr next t source = cond (sourcesFit t source and consistent t source) (filled (tabulate source (t .rows))) next
 
-unfoldable pub racingOr : Outcome → Table → Outcome
-racingOr next t =
-    let x = raceRow t in
-    let y = racePartner t x in
-    cond (ltb x (t .rows)) (race x y (raceByte t x y)) next
-
 -- of a table that is admitted
 unfoldable pub outcome : Table → (ℕ → ℕ) → Outcome
-outcome t source = racingOr (filledOr none t (chosen t source)) t
-
-unfoldable pub admittedFill : Admission → Outcome → Outcome
-admittedFill (Refused n i) o = refused n i
-admittedFill (Admitted a n) o = o
+outcome t source = raceOr race (filledOr none t (chosen t source)) t
 
 -- of any bytes, on a device with or without chains, with a work area and a source buffer of such lengths
 unfoldable pub fill : Bool → List ℕ → ℕ → ℕ → Outcome
 fill chains s work buffer =
-    cond (buffersFit SOURCES work buffer) (admittedFill (admission true s) (outcome (tableUnder chains s) (sourcesOf s))) (refused 11 0)
+    cond (buffersFit SOURCES work buffer) (whenAdmitted refused (admission true s) (outcome (tableUnder chains s) (sourcesOf s))) (refused 11 0)
 
 -- ---- what comes back
 

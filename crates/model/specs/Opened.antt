@@ -64,11 +64,11 @@ unfolding
     Refusal.formFault Refusal.rowFault Refusal.otherClass Refusal.otherClassAt Refusal.classTaken Refusal.writerFits Refusal.sourceFits
     Refusal.sourceBroken Refusal.sameRank Refusal.sameRankAt Refusal.rankTaken Refusal.apart Refusal.apartAt Refusal.instanceBroken Refusal.rival
     Refusal.outside Refusal.outsideAt Refusal.begins Refusal.unfit Refusal.tableFault Refusal.faulty Refusal.firstFault Refusal.rowFaultAt
-    Refusal.admission
-    Check.raceOr Check.overwrittenOr Check.cyclicOr Check.verdict Check.admitted Check.check Check.checkAnswer
+    Refusal.admission Refusal.whenAdmitted
+    Check.raceOr Check.overwrittenOr Check.cyclicOr Check.verdict Check.check Check.checkAnswer
     Fill.unorderedAt Fill.writtenBy Fill.written Fill.overwritesBetween Fill.between Fill.candidate Fill.choice Fill.blank Fill.chosen Fill.sourcesFit
-    Fill.filledOr Fill.racingOr Fill.outcome Fill.admittedFill Fill.fill
-    Reason.judge Reason.admittedReader Reason.judged Reason.twoMoments Reason.accepts
+    Fill.filledOr Fill.outcome Fill.fill
+    Reason.judge Reason.judged Reason.twoMoments Reason.accepts
     Report.conflictMutual Report.orderedAt Report.orderedNth Report.conflictOrdered Report.conflicting Report.mutuals Report.ordered Report.racing
     Report.quotient Report.shareOf Report.reportOf Report.withShare Report.counted Report.reportAnswer Report.report
 opened = tt

@@ -9,8 +9,6 @@ use lib.Dec.{ltb, leb, eqb}
 use Rattle.finite.specs.Logic.{_and_, _or_}
 use Rattle.finite.specs.Below.{anyBelow, least}
 use Rattle.finite.specs.Walk.{walk, trail, along}
-use Rattle.model.specs.declared.Admission.{Admission}
-use Rattle.model.specs.declared.Admission.the-variants.{Admitted, Refused}
 use Rattle.model.specs.declared.Reason.{Reason}
 use Rattle.model.specs.declared.Reason.the-variants as reason
 use Rattle.model.specs.declared.AcceptAnswer.{AcceptAnswer}
@@ -21,7 +19,7 @@ use Rattle.model.specs.Limits.{CHAIN, CASE, CLASS-SETS}
 use Rattle.model.specs.Table.{Table, tableOf}
 use Rattle.model.specs.Moment.{moment, programOrder}
 use Rattle.model.specs.Happens.{bySync, toRelease, fromAcquire, direct, step}
-use Rattle.model.specs.Refusal.{buffersFit, admission}
+use Rattle.model.specs.Refusal.{buffersFit, admission, whenAdmitted}
 use Rattle.model.specs.Check.{wiped}
 
 -- ---- a step is one number: CASE × its case, 1 to 3 in M6's order, 4 for system synchronization, + the moment that it reaches
@@ -78,13 +76,9 @@ pub data Judged : Type 0 where
 unfoldable pub judged : Table → ℕ → ℕ → Reason → List ℕ → Judged
 judged t m k r steps = cond (twoMoments t m k) (cond (accepts t m k r steps) accepted notAccepted) (refused 12 0)
 
-unfoldable pub admittedReader : Admission → Judged → Judged
-admittedReader (Refused n i) j = refused n i
-admittedReader (Admitted a n) j = j
-
 -- of any bytes and any derivation: a fill's refusals come first
 unfoldable pub judge : List ℕ → ℕ → ℕ → Reason → List ℕ → Judged
-judge s m k r steps = admittedReader (admission true s) (judged (tableOf s) m k r steps)
+judge s m k r steps = whenAdmitted Judged.refused (admission true s) (judged (tableOf s) m k r steps)
 
 unfoldable pub acceptAnswer : Judged → AcceptAnswer
 acceptAnswer (refused n i) = accept.Refused n i
@@ -138,14 +132,10 @@ ours t m k = cond (programOrder t m k) word (chainOr notBefore t m k (least CLAS
 unfoldable pub derivedOf : Table → ℕ → ℕ → Derived
 derivedOf t m k = cond (twoMoments t m k) (ours t m k) (refused 12 0)
 
-unfoldable pub admittedDerive : Admission → Derived → Derived
-admittedDerive (Refused n i) d = refused n i
-admittedDerive (Admitted a n) d = d
-
 -- of any bytes and numbers, with a work area and a chain buffer of such lengths
 unfoldable pub derive : List ℕ → ℕ → ℕ → ℕ → ℕ → Derived
 derive s m k work buffer =
-    cond (buffersFit CHAIN work buffer) (admittedDerive (admission true s) (derivedOf (tableOf s) m k)) (refused 11 0)
+    cond (buffersFit CHAIN work buffer) (whenAdmitted Derived.refused (admission true s) (derivedOf (tableOf s) m k)) (refused 11 0)
 
 -- ---- what comes back
 

@@ -8,6 +8,7 @@ use Rattle.finite.specs.Logic.{_and_, _or_}
 use Rattle.finite.specs.Below.{anyBelow, least}
 use Rattle.model.specs.declared.Row.{Row}
 use Rattle.model.specs.declared.Admission.{Admission}
+use Rattle.model.specs.declared.Refusal.{Refusal}
 use Rattle.model.specs.declared.Admission.the-variants.{Admitted, Refused}
 use Rattle.model.specs.Limits.{AGENTS, ROWS, WORK, DEPENDENCIES, LONGEST, BYTES, ATOMIC-SHORT, ATOMIC-LONG, RUN, INITIAL, BLANK}
 use Rattle.model.specs.Row.{CONTROL, ATOMIC-READ, ATOMIC-WRITE, RELAXED, ACQUIRE, RELEASE, BOTH, plain, atomic, access, barrier, control}
@@ -227,3 +228,15 @@ admission blanks s =
     cond (eqb (headerFault s) 0)
     (firstFault (rowFaultAt s) (rowsAt s) (firstFault (tableFault blanks (tableOf s) (sourcesOf s)) (rowsAt s) (Admitted (agentsAt s) (rowsAt s))))
     (Refused (headerFault s) 0)
+
+-- ---- what is said of it
+
+-- a refusal's number and row; an admission has neither
+unfoldable pub refusalOf : Admission → Refusal
+refusalOf (Refused n i) = record { number = n; row = i }
+refusalOf (Admitted a n) = record { number = 0; row = 0 }
+
+-- a refusal as `refused` of its number and row, else v, whatever kind of answer it is
+unfoldable pub whenAdmitted : {A : Type 0} → (ℕ → ℕ → A) → Admission → A → A
+whenAdmitted refused (Refused n i) v = refused n i
+whenAdmitted refused (Admitted a n) v = v

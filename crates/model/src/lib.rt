@@ -2,6 +2,7 @@
 ghost use mathlib.Core.Path.{_≡_};
 ghost use lib.Dec.{eqb, ltb};
 ghost use Rattle.model.specs.Limits.{INITIAL, BLANK};
+ghost use Rattle.model.specs.Refusal.{refusalOf};
 
 // ---- limits
 
@@ -105,6 +106,25 @@ pub enum Shared {
 pub enum Admission {
     Admitted { agents: u8, rows: u8 },
     Refused { number: u8, row: u16 },
+}
+
+// The number and the row of a refusal.
+pub struct Refusal {
+    pub number: u8,
+    pub row: u16,
+}
+
+// Takes them out. An admission has neither, and is not handed to it: the caller has let it go by `let else`.
+pub fn refusal_of(a: Admission) -> Refusal
+    ensures { λ r. ⌜ r ≡ refusalOf a ⌝ }
+{
+    match a {
+        Admission::Refused { number, row } => Refusal {
+            number: number,
+            row: row,
+        },
+        Admission::Admitted { agents: _, rows: _ } => Refusal { number: 0, row: 0 },
+    }
 }
 
 pub enum CheckAnswer {

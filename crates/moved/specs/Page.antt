@@ -13,9 +13,9 @@ use Rattle.model.specs.declared.Admission.the-variants.{Admitted}
 use Rattle.model.specs.Limits.{CYCLE, SOURCES}
 use Rattle.model.specs.Table.{Table, agentsAt, rowsAt, tableUnder, sourcesOf}
 use Rattle.model.specs.Race.{raceRow, racePartner, raceByte}
-use Rattle.model.specs.Refusal.{buffersFit, admission}
-use Rattle.model.specs.Check.{admitted, check}
-use Rattle.model.specs.Fill.{Outcome, chosen, admittedFill, fill, sourcesAfter}
+use Rattle.model.specs.Refusal.{buffersFit, admission, whenAdmitted}
+use Rattle.model.specs.Check.{check}
+use Rattle.model.specs.Fill.{Outcome, chosen, fill, sourcesAfter}
 use Rattle.model.specs.Fill as Fill
 use Rattle.model.specs.Words.{WellFormed}
 use Rattle.laws.specs.AdmissionLaws.{Sound, admitted-sound}
@@ -38,7 +38,7 @@ module _ (chains : Bool) (s s′ : List ℕ) (π : Renumbering (rowsAt s)) (move
   -- CHECK, WHERE NOTHING IS BLANK, SAYS RACE-FREE, RACE OR INCONSISTENT OF BOTH ALIKE
   pub check-alike : buffersFit CYCLE work buffer ≡ true → buffersFit CYCLE work′ buffer′ ≡ true → WellFormed s → WellFormed s′
       → checkWord (check chains s′ work′ buffer′) ≡ checkWord (check chains s work buffer)
-  unfolding check admitted
+  unfolding check whenAdmitted
   check-alike fit fit′ well well′ =
       let h = admitted-sound false s well in
       let h′ = admitted-sound false s′ well′ in
@@ -57,12 +57,12 @@ module _ (chains : Bool) (s s′ : List ℕ) (π : Renumbering (rowsAt s)) (move
     said p q t a = settled p q (raceRow t) (racePartner t (raceRow t)) (raceByte t (raceRow t) (racePartner t (raceRow t))) (tabulate (chosen t a) (t .rows))
 
     fill-is : fill chains s work buffer ≡ said (racing (tableUnder chains s)) (passing (tableUnder chains s) (sourcesOf s)) (tableUnder chains s) (sourcesOf s)
-    unfolding fill admittedFill
+    unfolding fill whenAdmitted
     fill-is = rw (fit, well) (outcome-is (tableUnder chains s) (sourcesOf s))
 
     fill-is′ : fill chains s′ work′ buffer′ ≡ said (racing (tableUnder chains s′)) (passing (tableUnder chains s′) (sourcesOf s′))
         (tableUnder chains s′) (sourcesOf s′)
-    unfolding fill admittedFill
+    unfolding fill whenAdmitted
     fill-is′ = rw (fit′, well′) (outcome-is (tableUnder chains s′) (sourcesOf s′))
 
     alike : Alike (tableUnder chains s) (tableUnder chains s′) (of-table chains s π)

@@ -11,18 +11,18 @@ use Rattle.model.specs.declared.ReportAnswer.{ReportAnswer}
 use Rattle.model.specs.declared.ReportAnswer.the-variants as told
 use Rattle.model.specs.Limits.{CYCLE, SOURCES, CHAIN}
 use Rattle.model.specs.Table.{Table, tableUnder, tableOf, sourcesOf}
-use Rattle.model.specs.Refusal.{buffersFit, admission}
-use Rattle.model.specs.Check.{Verdict, verdict, admitted, check, checkAnswer}
+use Rattle.model.specs.Refusal.{buffersFit, admission, whenAdmitted}
+use Rattle.model.specs.Check.{Verdict, verdict, check, checkAnswer}
 use Rattle.model.specs.Check as verdicts
-use Rattle.model.specs.Fill.{Outcome, outcome, admittedFill, fill}
+use Rattle.model.specs.Fill.{Outcome, outcome, fill}
 use Rattle.model.specs.Fill as outcomes
-use Rattle.model.specs.Reason.{Judged, judged, admittedReader, judge, Derived, derivedOf, admittedDerive, derive}
+use Rattle.model.specs.Reason.{Judged, judged, judge, Derived, derivedOf, derive}
 use Rattle.model.specs.Reason as reasons
 use Rattle.model.specs.Report.{reportAnswer, report}
 use Rattle.table.specs.Rows.{shapeFault}
 use Rattle.pieces.specs.Pieces.{joined, admissionBoth, checkBoth, fillBoth, reportBoth, deriveBoth, judgeBoth}
 use Rattle.pieces.specs.PiecesLaws.{none-table, none-sources}
-use Rattle.pieces.specs.Entry.{opened, doorBoth, both-opened, door-opened, none-one, none-door}
+use Rattle.pieces.specs.Entry.{doorBoth, both-opened, door-opened, none-one, none-door}
 
 none-table-of : (f : List ℕ) → shapeFault f ≡ 0 → tableOf (joined f []) ≡ tableOf f
 unfolding tableOf
@@ -35,15 +35,10 @@ module _ (chains : Bool) where
   abbrev pub verdictOf : List ℕ → Verdict
   verdictOf t = verdict (tableUnder chains t) (sourcesOf t)
 
-  admitted-is : (a : Admission) (v : Verdict) → admitted a v ≡ opened verdicts.refused v a
-  unfolding admitted opened
-  admitted-is (Refused n i) v = refl
-  admitted-is (Admitted g n) v = refl
-
   module _ (work buffer : ℕ) where
-    check-opens : buffersFit CYCLE work buffer ≡ true → (t : List ℕ) → check chains t work buffer ≡ opened verdicts.refused (verdictOf t) (admission false t)
+    check-opens : buffersFit CYCLE work buffer ≡ true → (t : List ℕ) → check chains t work buffer ≡ whenAdmitted verdicts.refused (admission false t) (verdictOf t)
     unfolding check
-    check-opens e t = rw e (admitted-is (admission false t) (verdictOf t))
+    check-opens e t = rw e refl
 
     pub check-short : buffersFit CYCLE work buffer ≡ false → (t : List ℕ) → check chains t work buffer ≡ verdicts.refused 11 0
     unfolding check
@@ -52,7 +47,7 @@ module _ (chains : Bool) where
     same-verdict : (f : List ℕ) → shapeFault f ≡ 0 → verdictOf (joined f []) ≡ verdictOf f
     same-verdict f z = ap₂ verdict (none-table f z chains) (none-sources f z)
 
-    pub check-both : (f s : List ℕ) → checkBoth chains f s work buffer ≡ opened verdicts.refused (verdictOf (joined f s)) (doorBoth CYCLE false f s work buffer)
+    pub check-both : (f s : List ℕ) → checkBoth chains f s work buffer ≡ whenAdmitted verdicts.refused (doorBoth CYCLE false f s work buffer) (verdictOf (joined f s))
     unfolding checkBoth
     check-both f s = door-opened verdicts.refused (λ t. check chains t work buffer) verdictOf false CYCLE work buffer check-opens f s
 
@@ -67,12 +62,12 @@ module _ (chains : Bool) where
     abbrev pub reportOfTable : List ℕ → ReportAnswer
     reportOfTable t = reportAnswer (checkAnswer (verdictOf t)) (tableUnder chains t)
 
-    report-opens : buffersFit CYCLE work buffer ≡ true → (t : List ℕ) → report chains t work buffer ≡ opened told.Refused (reportOfTable t) (admission false t)
-    unfolding report reportAnswer checkAnswer opened
+    report-opens : buffersFit CYCLE work buffer ≡ true → (t : List ℕ) → report chains t work buffer ≡ whenAdmitted told.Refused (admission false t) (reportOfTable t)
+    unfolding report reportAnswer checkAnswer whenAdmitted
     report-opens e t = ap (λ (v : Verdict). reportAnswer (checkAnswer v) (tableUnder chains t)) (check-opens e t) ∙ go (admission false t)
       where
         go : (a : Admission)
-            → reportAnswer (checkAnswer (opened verdicts.refused (verdictOf t) a)) (tableUnder chains t) ≡ opened told.Refused (reportOfTable t) a
+            → reportAnswer (checkAnswer (whenAdmitted verdicts.refused a (verdictOf t))) (tableUnder chains t) ≡ whenAdmitted told.Refused a (reportOfTable t)
         go (Refused n i) = refl
         go (Admitted g n) = refl
 
@@ -84,7 +79,7 @@ module _ (chains : Bool) where
     same-report f z = ap₂ (λ (v : Verdict) (t : Table). reportAnswer (checkAnswer v) t) (same-verdict f z) (none-table f z chains)
 
     pub report-both : (f s : List ℕ)
-        → reportBoth chains f s work buffer ≡ opened told.Refused (reportOfTable (joined f s)) (doorBoth CYCLE false f s work buffer)
+        → reportBoth chains f s work buffer ≡ whenAdmitted told.Refused (doorBoth CYCLE false f s work buffer) (reportOfTable (joined f s))
     unfolding reportBoth
     report-both f s = door-opened told.Refused (λ t. report chains t work buffer) reportOfTable false CYCLE work buffer report-opens f s
 
@@ -100,21 +95,16 @@ module _ (chains : Bool) where
   abbrev pub outcomeOf : List ℕ → Outcome
   outcomeOf t = outcome (tableUnder chains t) (sourcesOf t)
 
-  filled-is : (a : Admission) (v : Outcome) → admittedFill a v ≡ opened outcomes.refused v a
-  unfolding admittedFill opened
-  filled-is (Refused n i) v = refl
-  filled-is (Admitted g n) v = refl
-
   module _ (work buffer : ℕ) where
-    fill-opens : buffersFit SOURCES work buffer ≡ true → (t : List ℕ) → fill chains t work buffer ≡ opened outcomes.refused (outcomeOf t) (admission true t)
+    fill-opens : buffersFit SOURCES work buffer ≡ true → (t : List ℕ) → fill chains t work buffer ≡ whenAdmitted outcomes.refused (admission true t) (outcomeOf t)
     unfolding fill
-    fill-opens e t = rw e (filled-is (admission true t) (outcomeOf t))
+    fill-opens e t = rw e refl
 
     pub fill-short : buffersFit SOURCES work buffer ≡ false → (t : List ℕ) → fill chains t work buffer ≡ outcomes.refused 11 0
     unfolding fill
     fill-short e t = rw e refl
 
-    pub fill-both : (f s : List ℕ) → fillBoth chains f s work buffer ≡ opened outcomes.refused (outcomeOf (joined f s)) (doorBoth SOURCES true f s work buffer)
+    pub fill-both : (f s : List ℕ) → fillBoth chains f s work buffer ≡ whenAdmitted outcomes.refused (doorBoth SOURCES true f s work buffer) (outcomeOf (joined f s))
     unfolding fillBoth
     fill-both f s = door-opened outcomes.refused (λ t. fill chains t work buffer) outcomeOf true SOURCES work buffer fill-opens f s
 
@@ -130,23 +120,18 @@ abbrev pub not-derived : ℕ → ℕ → Derived
 not-derived n i = reasons.refused n i
 
 module _ (m k : ℕ) where
-  derived-is : (a : Admission) (v : Derived) → admittedDerive a v ≡ opened not-derived v a
-  unfolding admittedDerive opened
-  derived-is (Refused n i) v = refl
-  derived-is (Admitted g n) v = refl
-
   module _ (work buffer : ℕ) where
     derive-opens : buffersFit CHAIN work buffer ≡ true → (t : List ℕ)
-        → derive t m k work buffer ≡ opened not-derived (derivedOf (tableOf t) m k) (admission true t)
+        → derive t m k work buffer ≡ whenAdmitted not-derived (admission true t) (derivedOf (tableOf t) m k)
     unfolding derive
-    derive-opens e t = rw e (derived-is (admission true t) (derivedOf (tableOf t) m k))
+    derive-opens e t = rw e refl
 
     pub derive-short : buffersFit CHAIN work buffer ≡ false → (t : List ℕ) → derive t m k work buffer ≡ reasons.refused 11 0
     unfolding derive
     derive-short e t = rw e refl
 
     pub derive-both : (f s : List ℕ)
-        → deriveBoth f s m k work buffer ≡ opened not-derived (derivedOf (tableOf (joined f s)) m k) (doorBoth CHAIN true f s work buffer)
+        → deriveBoth f s m k work buffer ≡ whenAdmitted not-derived (doorBoth CHAIN true f s work buffer) (derivedOf (tableOf (joined f s)) m k)
     unfolding deriveBoth
     derive-both f s = door-opened not-derived (λ t. derive t m k work buffer) (λ t. derivedOf (tableOf t) m k) true CHAIN work buffer derive-opens f s
 
@@ -162,15 +147,11 @@ abbrev pub not-judged : ℕ → ℕ → Judged
 not-judged n i = reasons.refused n i
 
 module _ (m k : ℕ) (why : Reason) (steps : List ℕ) where
-  judge-opens : (t : List ℕ) → judge t m k why steps ≡ opened not-judged (judged (tableOf t) m k why steps) (admission true t)
-  unfolding judge admittedReader opened
-  judge-opens t = go (admission true t)
-    where
-      go : (a : Admission) → admittedReader a (judged (tableOf t) m k why steps) ≡ opened not-judged (judged (tableOf t) m k why steps) a
-      go (Refused n i) = refl
-      go (Admitted g n) = refl
+  judge-opens : (t : List ℕ) → judge t m k why steps ≡ whenAdmitted not-judged (admission true t) (judged (tableOf t) m k why steps)
+  unfolding judge
+  judge-opens t = refl
 
-  pub judge-both : (f s : List ℕ) → judgeBoth f s m k why steps ≡ opened not-judged (judged (tableOf (joined f s)) m k why steps) (admissionBoth true f s)
+  pub judge-both : (f s : List ℕ) → judgeBoth f s m k why steps ≡ whenAdmitted not-judged (admissionBoth true f s) (judged (tableOf (joined f s)) m k why steps)
   unfolding judgeBoth
   judge-both f s = both-opened not-judged (λ t. judge t m k why steps) (λ t. judged (tableOf t) m k why steps) true judge-opens f s
 

@@ -18,31 +18,21 @@ use Rattle.model.specs.declared.Admission.the-variants.{Admitted, Refused}
 use Rattle.model.specs.Limits.{ROWS, WORK, LONGEST, BYTES}
 use Rattle.model.specs.Row.{access}
 use Rattle.model.specs.Table.{ROW-BYTES, rowsAt, rowBytes, placesOf, modeOf, rowOf, sourceOf, decode, tableUnder, tableOf, sourcesOf}
-use Rattle.model.specs.Refusal.{buffersFit, admission}
+use Rattle.model.specs.Refusal.{buffersFit, admission, refusalOf, whenAdmitted}
 use Rattle.model.specs.Check.{wiped}
 use Rattle.laws.specs.AdmissionLaws.{not-admitted, Sound, sound-admitted, admitted-sound, rows-fit, size-fits, access-end}
 use Rattle.table.specs.Rows.{shapeFault}
 use Rattle.table.proofs.Laws.{shape-refused, header-refused}
-use Rattle.pieces.specs.declared.Refusal.{Refusal}
+use Rattle.model.specs.declared.Refusal.{Refusal}
 use Rattle.pieces.specs.Pieces.{areaOf, piecesFault, joined, ofBoth, admissionBoth}
 use Rattle.pieces.specs.PiecesLaws.{getD-zeros, joined-rows, joined-places, joined-mode, joined-front, of-joined, of-refused}
 use Rattle.pieces.specs.PiecesLaws.{none-fault, none-admission}
 
 -- ---- definitions
 
--- a refusal's number and row; an admission has none
-unfoldable pub refusalOf : Admission → Refusal
-refusalOf (Refused n i) = record { number = n; row = i }
-refusalOf (Admitted a n) = record { number = 0; row = 0 }
-
 -- refusal 11, by the lengths of the lent buffers, then the pair's
 unfoldable pub doorBoth : ℕ → Bool → List ℕ → List ℕ → ℕ → ℕ → Admission
 doorBoth needs blanks f s work buffer = cond (buffersFit needs work buffer) (admissionBoth blanks f s) (Refused 11 0)
-
--- a refusal, or else v, in the words of any kind of answer
-unfoldable pub opened : {A : Type 0} → (ℕ → ℕ → A) → A → Admission → A
-opened refused v (Refused n i) = refused n i
-opened refused v (Admitted a n) = v
 
 -- b are the bytes of the n rows of some table that is admitted, p its places, and mode what it goes by beside them
 pub record RowsOf (blanks : Bool) (b : List ℕ) (p : List (List ℕ)) (mode : Mode) (n : ℕ) : Type 0 where
@@ -69,13 +59,13 @@ module _ {blanks : Bool} {b : List ℕ} {p : List (List ℕ)} {mode : Mode} {n :
 -- ---- laws: an admission taken apart
 
 module _ {A : Type 0} (refused : ℕ → ℕ → A) (v : A) (a b : Admission) (e : a ≡ b) where
-  pub opened-refused : {n i : ℕ} (x : Refusal) → a ≡ Refused n i → x ≡ refusalOf a → opened refused v b ≡ refused (x .number) (x .row)
-  unfolding opened refusalOf
-  opened-refused x h q = rw (← e, q, h) refl
+  pub when-refused : {n i : ℕ} (x : Refusal) → a ≡ Refused n i → x ≡ refusalOf a → whenAdmitted refused b v ≡ refused (x .number) (x .row)
+  unfolding whenAdmitted refusalOf
+  when-refused x h q = rw (← e, q, h) refl
 
-  pub opened-admitted : {g n : ℕ} → a ≡ Admitted g n → opened refused v b ≡ v
-  unfolding opened
-  opened-admitted h = rw (← e, h) refl
+  pub when-admitted : {g n : ℕ} → a ≡ Admitted g n → whenAdmitted refused b v ≡ v
+  unfolding whenAdmitted
+  when-admitted h = rw (← e, h) refl
 
 -- refusal 11, from the two lengths
 pub door-short : (needs : ℕ) (blanks : Bool) (f s : List ℕ) (work buffer : ℕ) → not (leb WORK work and leb needs buffer) ≡ true
@@ -181,42 +171,42 @@ module _ (needs : ℕ) (blanks : Bool) (f s : List ℕ) (work buffer : ℕ) (a :
 -- ---- laws: the answer to two pieces, by what they are refused for
 
 module _ {A : Type 0} (refused : ℕ → ℕ → A) (one v : List ℕ → A) (blanks : Bool) where
-  pub both-opened : ((t : List ℕ) → one t ≡ opened refused (v t) (admission blanks t)) → (f s : List ℕ)
-      → ofBoth refused one f s ≡ opened refused (v (joined f s)) (admissionBoth blanks f s)
-  unfolding ofBoth admissionBoth opened
+  pub both-opened : ((t : List ℕ) → one t ≡ whenAdmitted refused (admission blanks t) (v t)) → (f s : List ℕ)
+      → ofBoth refused one f s ≡ whenAdmitted refused (admissionBoth blanks f s) (v (joined f s))
+  unfolding ofBoth admissionBoth whenAdmitted
   both-opened is f s = go (eqb (piecesFault f s) 0) (piecesFault f s)
     where
-      go : (b : Bool) (h : ℕ) → cond b (one (joined f s)) (refused h 0) ≡ opened refused (v (joined f s)) (cond b (admission blanks (joined f s)) (Refused h 0))
+      go : (b : Bool) (h : ℕ) → cond b (one (joined f s)) (refused h 0) ≡ whenAdmitted refused (cond b (admission blanks (joined f s)) (Refused h 0)) (v (joined f s))
       go true h = is (joined f s)
       go false h = refl
 
   -- with refusal 11 before it
-  pub door-opened : (needs work buffer : ℕ) → (buffersFit needs work buffer ≡ true → (t : List ℕ) → one t ≡ opened refused (v t) (admission blanks t))
+  pub door-opened : (needs work buffer : ℕ) → (buffersFit needs work buffer ≡ true → (t : List ℕ) → one t ≡ whenAdmitted refused (admission blanks t) (v t))
       → (f s : List ℕ)
-      → cond (buffersFit needs work buffer) (ofBoth refused one f s) (refused 11 0) ≡ opened refused (v (joined f s)) (doorBoth needs blanks f s work buffer)
-  unfolding doorBoth opened
+      → cond (buffersFit needs work buffer) (ofBoth refused one f s) (refused 11 0) ≡ whenAdmitted refused (doorBoth needs blanks f s work buffer) (v (joined f s))
+  unfolding doorBoth whenAdmitted
   door-opened needs work buffer is f s = go (buffersFit needs work buffer) (λ e. both-opened (is e) f s)
     where
-      go : (b : Bool) → (b ≡ true → ofBoth refused one f s ≡ opened refused (v (joined f s)) (admissionBoth blanks f s))
-          → cond b (ofBoth refused one f s) (refused 11 0) ≡ opened refused (v (joined f s)) (cond b (admissionBoth blanks f s) (Refused 11 0))
+      go : (b : Bool) → (b ≡ true → ofBoth refused one f s ≡ whenAdmitted refused (admissionBoth blanks f s) (v (joined f s)))
+          → cond b (ofBoth refused one f s) (refused 11 0) ≡ whenAdmitted refused (cond b (admissionBoth blanks f s) (Refused 11 0)) (v (joined f s))
       go true k = k refl
       go false k = refl
 
   -- one piece is two of which the second is empty
-  pub none-one : ((t : List ℕ) → one t ≡ opened refused (v t) (admission blanks t)) → (f : List ℕ) → (shapeFault f ≡ 0 → v (joined f []) ≡ v f)
+  pub none-one : ((t : List ℕ) → one t ≡ whenAdmitted refused (admission blanks t) (v t)) → (f : List ℕ) → (shapeFault f ≡ 0 → v (joined f []) ≡ v f)
       → ofBoth refused one f [] ≡ one f
-  unfolding opened
+  unfolding whenAdmitted
   none-one is f same = go (ℕ-discrete (shapeFault f) 0)
     where
       go : Dec (shapeFault f ≡ 0) → ofBoth refused one f [] ≡ one f
       go (yes z) =
-          of-joined f [] (none-fault f ∙ z) refused one ∙ is (joined f []) ∙ ap (λ (x : A). opened refused x (admission blanks (joined f []))) (same z)
-          ∙ ap (opened refused (v f)) (none-admission f z blanks) ∙ sym (is f)
+          of-joined f [] (none-fault f ∙ z) refused one ∙ is (joined f []) ∙ ap (λ (x : A). whenAdmitted refused (admission blanks (joined f [])) x) (same z)
+          ∙ ap (λ (a : Admission). whenAdmitted refused a (v f)) (none-admission f z blanks) ∙ sym (is f)
       go (no d) =
           of-refused refused one f [] (shapeFault f) (sym (none-fault f)) d
-          ∙ sym (is f ∙ ap (opened refused (v f)) (header-refused blanks f (shapeFault f) (shape-refused f (shapeFault f) refl d) d))
+          ∙ sym (is f ∙ ap (λ (a : Admission). whenAdmitted refused a (v f)) (header-refused blanks f (shapeFault f) (shape-refused f (shapeFault f) refl d) d))
 
-  pub none-door : (needs work buffer : ℕ) → (buffersFit needs work buffer ≡ true → (t : List ℕ) → one t ≡ opened refused (v t) (admission blanks t))
+  pub none-door : (needs work buffer : ℕ) → (buffersFit needs work buffer ≡ true → (t : List ℕ) → one t ≡ whenAdmitted refused (admission blanks t) (v t))
       → (f : List ℕ) → (shapeFault f ≡ 0 → v (joined f []) ≡ v f) → (buffersFit needs work buffer ≡ false → one f ≡ refused 11 0)
       → cond (buffersFit needs work buffer) (ofBoth refused one f []) (refused 11 0) ≡ one f
   none-door needs work buffer is f same short = go (buffersFit needs work buffer) (λ e. none-one (is e) f same) short

@@ -7,7 +7,7 @@ ghost use lib.ListN.{length};
 ghost use lib.Seq.{paste};
 ghost use Rattle.model.specs.Table.{rowBytes};
 ghost use Rattle.pieces.specs.Pieces.{AREA, rowsBoth, countBoth, piecesFault, earlyFault, areaOf, admissionBoth, rowPart, rowPlace};
-ghost use Rattle.pieces.specs.Entry.{refusalOf, doorBoth};
+ghost use Rattle.pieces.specs.Entry.{doorBoth};
 use model::Admission;
 use rows::bytes;
 use rows::pick;
@@ -182,23 +182,4 @@ pub fn open_both(
         return Admission::Refused { number: 11, row: 0 };
     }
     admit_both(first, second, blanks)
-}
-
-// The number and the row of a refusal.
-pub struct Refusal {
-    pub number: u8,
-    pub row: u16,
-}
-
-// An admission is not handed to it.
-pub fn refusal_of(a: Admission) -> Refusal
-    ensures { λ r. ⌜ r ≡ refusalOf a ⌝ }
-{
-    match a {
-        Admission::Refused { number, row } => Refusal {
-            number: number,
-            row: row,
-        },
-        Admission::Admitted { agents: _, rows: _ } => Refusal { number: 0, row: 0 },
-    }
 }

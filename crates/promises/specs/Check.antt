@@ -17,8 +17,8 @@ use Rattle.model.specs.Scope.{mutually}
 use Rattle.model.specs.Location.{common, before}
 use Rattle.model.specs.Race.{conflict, raceRow, racePartner, raceByte}
 use Rattle.model.specs.Edge.{edge, edgeNumber, cycleRow, cycleRows, cycleEdges, overReader, overWriter, overByte}
-use Rattle.model.specs.Refusal.{buffersFit}
-use Rattle.model.specs.Check.{cyclic, overwritten, race, raceFree, raceOr, overwrittenOr, cyclicOr, verdict, admitted, check}
+use Rattle.model.specs.Refusal.{buffersFit, whenAdmitted}
+use Rattle.model.specs.Check.{cyclic, overwritten, race, raceFree, raceOr, overwrittenOr, cyclicOr, verdict, check}
 use Rattle.model.specs.Words.{Races, Cyclic, Overwritten, Consistent, WellFormed}
 use Rattle.laws.specs.AdmissionLaws.{admitted-sound, size-fits}
 use Rattle.laws.specs.RaceLaws.{Sized, FirstRace, race-shown, race-none}
@@ -97,7 +97,7 @@ module _ (chains : Bool) (s : List ℕ) (work buffer : ℕ) (fit : buffersFit CY
   -- ---- laws: what the searches find decides
 
   check-is : check chains s work buffer ≡ decided found
-  unfolding check verdict cyclicOr overwrittenOr raceOr admitted decided
+  unfolding check verdict cyclicOr overwrittenOr raceOr whenAdmitted decided
   check-is = rw (fit, well) refl
 
   acyclic : (Cyclic t source → ⊥) → ltb (cycleRow t source) (t .rows) ≡ false

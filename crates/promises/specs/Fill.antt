@@ -18,8 +18,9 @@ use Rattle.model.specs.Limits.{SOURCES}
 use Rattle.model.specs.Table.{Table, agentsAt, rowsAt, decode, tableUnder, sourcesOf}
 use Rattle.model.specs.Race.{raceRow, racePartner, raceByte}
 use Rattle.model.specs.Edge.{consistent}
-use Rattle.model.specs.Refusal.{buffersFit, admission}
-use Rattle.model.specs.Fill.{Outcome, race, none, filled, chosen, sourcesFit, filledOr, racingOr, outcome, admittedFill, fill}
+use Rattle.model.specs.Refusal.{buffersFit, admission, whenAdmitted}
+use Rattle.model.specs.Check.{raceOr}
+use Rattle.model.specs.Fill.{Outcome, race, none, filled, chosen, sourcesFit, filledOr, outcome, fill}
 use Rattle.model.specs.Words.{Unordered, Races, blankAt, Filling}
 use Rattle.laws.specs.AdmissionLaws.{admitted-sound, size-fits}
 use Rattle.laws.specs.RaceLaws.{Sized, FirstRace, race-shown, race-none}
@@ -48,7 +49,7 @@ module _ (chains : Bool) (s : List ℕ) (work buffer : ℕ) (fit : buffersFit SO
   said = settled found passes (raceRow T) (racePartner T (raceRow T)) (raceByte T (raceRow T) (racePartner T (raceRow T))) (tabulate sources (T .rows))
 
   fill-is : fill chains s work buffer ≡ said
-  unfolding fill outcome filledOr racingOr admittedFill settled
+  unfolding fill outcome filledOr raceOr whenAdmitted settled
   fill-is = rw (fit, well) refl
 
   sized : Sized T

@@ -25,11 +25,11 @@ use Rattle.model.specs.Moment.{AT, part, momentOf, momentIn, moment, orderedRow
 use Rattle.model.specs.Happens.{holding, holdingOf, bySync, toRelease, fromAcquire, bySystem, direct, step}
 use Rattle.model.specs.Words.{HappensBefore}
 use Rattle.laws.specs.AdmissionLaws.{admitted-sound, rows-fit}
-use Rattle.model.specs.Refusal.{buffersFit, admission}
+use Rattle.model.specs.Refusal.{buffersFit, admission, whenAdmitted}
 use Rattle.model.specs.Reason.{caseIn, reached, stepTo, stepHolds, stands, broken, chainHolds, accepts, twoMoments}
 use Rattle.model.specs.Reason.{hasChain, chainSize, lowestCase, stepNumber, chain, hasChainBy, chainOr, ours}
-use Rattle.model.specs.Reason.{Judged, accepted, notAccepted, judged, admittedReader, judge}
-use Rattle.model.specs.Reason.{Derived, word, chained, notBefore, refused, derivedOf, admittedDerive, derive}
+use Rattle.model.specs.Reason.{Judged, accepted, notAccepted, judged, judge}
+use Rattle.model.specs.Reason.{Derived, word, chained, notBefore, refused, derivedOf, derive}
 
 -- ---- definitions
 
@@ -330,7 +330,7 @@ module _ (s : List ℕ) (m k : ℕ) {a n : ℕ} (admits : admission true s ≡ A
   -- ---- what the reader accepts
 
   reads : (r : Reason) (l : List ℕ) → (judge s m k r l ≡ accepted) ↔ (accepts (tableOf s) m k r l ≡ true)
-  unfolding judge admittedReader judged
+  unfolding judge whenAdmitted judged
   reads r l = (λ h. taken (which (accepts (tableOf s) m k r l)) (rw (admits, two) at h), λ h. rw (admits, two, h) refl)
     where
       taken : (accepts (tableOf s) m k r l ≡ true) ⊎ (accepts (tableOf s) m k r l ≡ false) → cond (accepts (tableOf s) m k r l) accepted notAccepted ≡ accepted
@@ -385,7 +385,7 @@ module _ (s : List ℕ) (m k : ℕ) {a n : ℕ} (admits : admission true s ≡ A
 
   module _ (work buffer : ℕ) (room : buffersFit CHAIN work buffer ≡ true) where
     derives-ours : derive s m k work buffer ≡ ours (tableOf s) m k
-    unfolding derive admittedDerive derivedOf
+    unfolding derive whenAdmitted derivedOf
     derives-ours = rw (room, admits, two) refl
 
     said : (d : Derived) → derive s m k work buffer ≡ d → Said (tableOf s) m k (rows-within s admits) two d

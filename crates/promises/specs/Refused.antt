@@ -17,21 +17,16 @@ use Rattle.model.specs.Table.{Table, agentsAt, rowsAt, tableUnder, tableOf, sou
 use Rattle.model.specs.Moment.{programOrder}
 use Rattle.model.specs.Race.{raceRow}
 use Rattle.model.specs.Edge.{cycleRow, overReader, consistent}
-use Rattle.model.specs.Refusal.{buffersFit, admission}
-use Rattle.model.specs.Check.{Verdict, raceOr, overwrittenOr, cyclicOr, verdict, admitted, check}
-use Rattle.model.specs.Fill.{Outcome, filledOr, racingOr, outcome, chosen, sourcesFit, admittedFill, fill}
-use Rattle.model.specs.Reason.{Judged, Derived, twoMoments, accepts, judged, admittedReader, judge}
-use Rattle.model.specs.Reason.{chainOr, hasChainBy, ours, derivedOf, admittedDerive, derive}
+use Rattle.model.specs.Refusal.{buffersFit, admission, whenAdmitted}
+use Rattle.model.specs.Check.{Verdict, raceOr, overwrittenOr, cyclicOr, verdict, check}
+use Rattle.model.specs.Fill.{Outcome, filledOr, outcome, chosen, sourcesFit, fill}
+use Rattle.model.specs.Reason.{Judged, Derived, twoMoments, accepts, judged, judge}
+use Rattle.model.specs.Reason.{chainOr, hasChainBy, ours, derivedOf, derive}
 use Rattle.laws.specs.AdmissionLaws.{admitted-sound, sound-admitted}
 use Rattle.promises.specs.Cases
 use Rattle.promises.specs.Outcomes
 
 -- ---- definitions
-
--- the refusal of a table; what is said of one that is admitted
-abbrev given : {W : Type 0} → (ℕ → ℕ → W) → Admission → W → W
-given refused (Refused n i) v = refused n i
-given refused (Admitted a r) v = v
 
 abbrev Admits : Admission → Type 0
 Admits a = (x : ℕ) × (y : ℕ) × (a ≡ Admitted x y)
@@ -72,7 +67,8 @@ module _ {W : Type 0} (refused : ℕ → ℕ → W) (same : (n i m j : ℕ) → 
   )
 
   -- by the admission of the table
-  by-table : (a : Admission) (v : W) → (given refused a v ≡ refused n i) ↔ ((a ≡ Refused n i) ⊎ (Admits a × (v ≡ refused n i)))
+  by-table : (a : Admission) (v : W) → (whenAdmitted refused a v ≡ refused n i) ↔ ((a ≡ Refused n i) ⊎ (Admits a × (v ≡ refused n i)))
+  unfolding whenAdmitted
   by-table (Refused m j) v = (
     λ e. let s = same m j n i e in inl (rw (s .0, s .1) refl),
     λ h. ⊎-elim
@@ -86,7 +82,7 @@ module _ {W : Type 0} (refused : ℕ → ℕ → W) (same : (n i m j : ℕ) → 
   )
 
   -- and by that alone, where what is said of an admitted table is no refusal
-  by-table-alone : (a : Admission) (v : W) → (v ≡ refused n i → ⊥) → (given refused a v ≡ refused n i) ↔ (a ≡ Refused n i)
+  by-table-alone : (a : Admission) (v : W) → (v ≡ refused n i → ⊥) → (whenAdmitted refused a v ≡ refused n i) ↔ (a ≡ Refused n i)
   by-table-alone a v never = (λ e. ⊎-elim (λ p. p) (λ p. absurd (never (p .1))) (by-table a v .0 e), λ e. by-table a v .1 (inl e))
 
 -- an admitted table has the agents and rows that stand in its header
@@ -95,7 +91,7 @@ counts-is s p = sound-admitted true s (admitted-sound true s (p .2))
 
 module _ {W : Type 0} (refused : ℕ → ℕ → W) (same : (n i m j : ℕ) → refused n i ≡ refused m j → (n ≡ m) × (i ≡ j)) (n i : ℕ) (s : List ℕ) (m k : ℕ) where
   -- by the admission of the table or by 12, where what is said of two moments is no refusal
-  by-moments : (v : W) → (v ≡ refused n i → ⊥) → (given refused (admission true s) (cond (twoMoments (tableOf s) m k) v (refused 12 0)) ≡ refused n i)
+  by-moments : (v : W) → (v ≡ refused n i → ⊥) → (whenAdmitted refused (admission true s) (cond (twoMoments (tableOf s) m k) v (refused 12 0)) ≡ refused n i)
       ↔ ((admission true s ≡ Refused n i) ⊎ ((admission true s ≡ Admitted (agentsAt s) (rowsAt s)) × (twoMoments (tableOf s) m k ≡ false) × (n ≡ 12) × (i ≡ 0)))
   by-moments v never = (
     λ e. ⊎-elim (λ p. inl p) (λ p. inr (twelve (p .0) (tested .0 (p .1)))) (table .0 e),
@@ -108,7 +104,7 @@ module _ {W : Type 0} (refused : ℕ → ℕ → W) (same : (n i m j : ℕ) → 
       tested : (cond two v (refused 12 0) ≡ refused n i) ↔ (((two ≡ false) × (n ≡ 12) × (i ≡ 0)) ⊎ ((two ≡ true) × (v ≡ refused n i)))
       tested = by-test refused same n i 12 two v
 
-      table : (given refused (admission true s) (cond two v (refused 12 0)) ≡ refused n i)
+      table : (whenAdmitted refused (admission true s) (cond two v (refused 12 0)) ≡ refused n i)
           ↔ ((admission true s ≡ Refused n i) ⊎ (Admits (admission true s) × (cond two v (refused 12 0) ≡ refused n i)))
       table = by-table refused same n i (admission true s) (cond two v (refused 12 0))
 
@@ -121,11 +117,6 @@ module _ {W : Type 0} (refused : ℕ → ℕ → W) (same : (n i m j : ℕ) → 
 
 same-verdict : (n i m j : ℕ) → Verdict.refused n i ≡ Verdict.refused m j → (n ≡ m) × (i ≡ j)
 same-verdict n i m j e = (ap Cases.first e, ap Cases.second e)
-
-given-verdict : (a : Admission) (v : Verdict) → admitted a v ≡ given Verdict.refused a v
-unfolding admitted
-given-verdict (Refused n i) v = refl
-given-verdict (Admitted x y) v = refl
 
 no-verdict : (t : Table) (source : ℕ → ℕ) (n i : ℕ) → verdict t source ≡ Verdict.refused n i → ⊥
 unfolding verdict cyclicOr overwrittenOr raceOr
@@ -141,22 +132,16 @@ pub check-refused : (chains : Bool) (s : List ℕ) (work buffer n i : ℕ) → (
     ↔ (((buffersFit CYCLE work buffer ≡ false) × (n ≡ 11) × (i ≡ 0)) ⊎ ((buffersFit CYCLE work buffer ≡ true) × (admission false s ≡ Refused n i)))
 unfolding check
 check-refused chains s work buffer n i =
-    rw (given-verdict (admission false s) (verdict (tableUnder chains s) (sourcesOf s)))
-    (later-words (by-test Verdict.refused same-verdict n i 11 (buffersFit CYCLE work buffer) _)
-    (by-table-alone Verdict.refused same-verdict n i (admission false s) _ (no-verdict (tableUnder chains s) (sourcesOf s) n i)))
+    later-words (by-test Verdict.refused same-verdict n i 11 (buffersFit CYCLE work buffer) _)
+    (by-table-alone Verdict.refused same-verdict n i (admission false s) _ (no-verdict (tableUnder chains s) (sourcesOf s) n i))
 
 -- ---- a fill
 
 same-outcome : (n i m j : ℕ) → Outcome.refused n i ≡ Outcome.refused m j → (n ≡ m) × (i ≡ j)
 same-outcome n i m j e = (ap Outcomes.first e, ap Outcomes.second e)
 
-given-outcome : (a : Admission) (v : Outcome) → admittedFill a v ≡ given Outcome.refused a v
-unfolding admittedFill
-given-outcome (Refused n i) v = refl
-given-outcome (Admitted x y) v = refl
-
 no-outcome : (t : Table) (source : ℕ → ℕ) (n i : ℕ) → outcome t source ≡ Outcome.refused n i → ⊥
-unfolding outcome racingOr filledOr
+unfolding outcome raceOr filledOr
 no-outcome t source n i e =
     let z : Outcomes.tag (outcome t source) ≡ 0 = ap Outcomes.tag e in
     let p : 1 ≤ Outcomes.tag (outcome t source) =
@@ -169,9 +154,8 @@ pub fill-refused : (chains : Bool) (s : List ℕ) (work buffer n i : ℕ) → (f
     ↔ (((buffersFit SOURCES work buffer ≡ false) × (n ≡ 11) × (i ≡ 0)) ⊎ ((buffersFit SOURCES work buffer ≡ true) × (admission true s ≡ Refused n i)))
 unfolding fill
 fill-refused chains s work buffer n i =
-    rw (given-outcome (admission true s) (outcome (tableUnder chains s) (sourcesOf s)))
-    (later-words (by-test Outcome.refused same-outcome n i 11 (buffersFit SOURCES work buffer) _)
-    (by-table-alone Outcome.refused same-outcome n i (admission true s) _ (no-outcome (tableUnder chains s) (sourcesOf s) n i)))
+    later-words (by-test Outcome.refused same-outcome n i 11 (buffersFit SOURCES work buffer) _)
+    (by-table-alone Outcome.refused same-outcome n i (admission true s) _ (no-outcome (tableUnder chains s) (sourcesOf s) n i))
 
 -- ---- a derivation that is read
 
@@ -193,11 +177,6 @@ judged-row Judged.notAccepted = 0
 same-judged : (n i m j : ℕ) → Judged.refused n i ≡ Judged.refused m j → (n ≡ m) × (i ≡ j)
 same-judged n i m j e = (ap judged-number e, ap judged-row e)
 
-given-judged : (a : Admission) (v : Judged) → admittedReader a v ≡ given Judged.refused a v
-unfolding admittedReader
-given-judged (Refused n i) v = refl
-given-judged (Admitted x y) v = refl
-
 no-judged : (b : Bool) (n i : ℕ) → cond b Judged.accepted Judged.notAccepted ≡ Judged.refused n i → ⊥
 no-judged true n i e = let z : _≡_ {A = ℕ} 1 0 = ap judged-tag e in omega arith
 no-judged false n i e = let z : _≡_ {A = ℕ} 2 0 = ap judged-tag e in omega arith
@@ -206,8 +185,7 @@ pub judge-refused : (s : List ℕ) (m k : ℕ) (r : Reason) (l : List ℕ) (n i 
     ↔ ((admission true s ≡ Refused n i) ⊎ ((admission true s ≡ Admitted (agentsAt s) (rowsAt s)) × (twoMoments (tableOf s) m k ≡ false) × (n ≡ 12) × (i ≡ 0)))
 unfolding judge judged
 judge-refused s m k r l n i =
-    rw (given-judged (admission true s) (judged (tableOf s) m k r l))
-    (by-moments Judged.refused same-judged n i s m k _ (no-judged (accepts (tableOf s) m k r l) n i))
+    by-moments Judged.refused same-judged n i s m k _ (no-judged (accepts (tableOf s) m k r l) n i)
 
 -- ---- a derivation that is asked for
 
@@ -232,11 +210,6 @@ derived-row Derived.notBefore = 0
 same-derived : (n i m j : ℕ) → Derived.refused n i ≡ Derived.refused m j → (n ≡ m) × (i ≡ j)
 same-derived n i m j e = (ap derived-number e, ap derived-row e)
 
-given-derived : (a : Admission) (v : Derived) → admittedDerive a v ≡ given Derived.refused a v
-unfolding admittedDerive
-given-derived (Refused n i) v = refl
-given-derived (Admitted x y) v = refl
-
 no-derived : (t : Table) (m k n i : ℕ) → ours t m k ≡ Derived.refused n i → ⊥
 unfolding ours chainOr
 no-derived t m k n i e =
@@ -252,6 +225,5 @@ pub derive-refused : (s : List ℕ) (m k work buffer n i : ℕ) → (derive s m 
     × ((admission true s ≡ Refused n i) ⊎ ((admission true s ≡ Admitted (agentsAt s) (rowsAt s)) × (twoMoments (tableOf s) m k ≡ false) × (n ≡ 12) × (i ≡ 0)))))
 unfolding derive derivedOf
 derive-refused s m k work buffer n i =
-    rw (given-derived (admission true s) (derivedOf (tableOf s) m k))
-    (later-words (by-test Derived.refused same-derived n i 11 (buffersFit CHAIN work buffer) _)
-    (by-moments Derived.refused same-derived n i s m k _ (no-derived (tableOf s) m k n i)))
+    later-words (by-test Derived.refused same-derived n i 11 (buffersFit CHAIN work buffer) _)
+    (by-moments Derived.refused same-derived n i s m k _ (no-derived (tableOf s) m k n i))

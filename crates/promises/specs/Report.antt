@@ -22,8 +22,8 @@ use Rattle.model.specs.Table.{Table, tableUnder, sourcesOf, decode}
 use Rattle.model.specs.Scope.{mutually}
 use Rattle.model.specs.Race.{conflict, races, raceRow, racePartner, raceByte}
 use Rattle.model.specs.Edge.{cycleRow, overReader}
-use Rattle.model.specs.Refusal.{buffersFit}
-use Rattle.model.specs.Check.{Verdict, refused, cyclic, overwritten, race, raceFree, raceOr, overwrittenOr, cyclicOr, verdict, admitted, check, checkAnswer}
+use Rattle.model.specs.Refusal.{buffersFit, whenAdmitted}
+use Rattle.model.specs.Check.{Verdict, refused, cyclic, overwritten, race, raceFree, raceOr, overwrittenOr, cyclicOr, verdict, check, checkAnswer}
 use Rattle.model.specs.Report.{conflictMutual, conflictOrdered, conflicting, mutuals, ordered, racing}
 use Rattle.model.specs.Report.{quotient, shareOf, reportOf, withShare, counted, reportAnswer, report}
 use Rattle.model.specs.Words.{Races, Consistent, WellFormed}
@@ -157,8 +157,8 @@ module _ (chains : Bool) (s : List ℕ) (work buffer : ℕ) (fit : buffersFit CY
   few = rows-fit (admitted-sound false s well)
 
   module _ (c : Consistent t source) where
-    checked : check chains s work buffer ≡ raceOr raceFree t
-    unfolding check admitted verdict cyclicOr overwrittenOr
+    checked : check chains s work buffer ≡ raceOr race raceFree t
+    unfolding check whenAdmitted verdict cyclicOr overwrittenOr
     checked = rw (fit, well, acyclic, unbroken) refl
       where
         acyclic : ltb (cycleRow t source) (t .rows) ≡ false

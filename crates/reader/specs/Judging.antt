@@ -23,9 +23,10 @@ use Rattle.model.specs.Moment.{moment, momentIn, orderedRows, programOrder}
 use Rattle.model.specs.Synchronizes.{synchronizes}
 use Rattle.model.specs.Happens.{bySystem, direct}
 use Rattle.model.specs.Reason.{stands, stepHolds, broken, chainHolds, accepts, twoMoments, judged, acceptAnswer}
-use Rattle.pieces.specs.declared.Refusal.{Refusal}
+use Rattle.model.specs.declared.Refusal.{Refusal}
+use Rattle.model.specs.Refusal.{refusalOf}
 use Rattle.pieces.specs.Pieces.{areaOf, joined, admissionBoth, judgeBoth}
-use Rattle.pieces.specs.Entry.{refusalOf, opened-refused, opened-admitted, table-both, table-false}
+use Rattle.pieces.specs.Entry.{when-refused, when-admitted, table-both, table-false}
 use Rattle.pieces.specs.Answers.{not-judged, judge-both}
 use Rattle.rules.specs.Cases.{caseRows, direct-is, asked-once}
 
@@ -161,11 +162,11 @@ module _ (f s : List ℕ) (a : Admission) (e : a ≡ admissionBoth true f s) (m 
   pub both-refused : {c i : ℕ} (x : Refusal) → a ≡ Refused c i → x ≡ refusalOf a
       → accept.Refused (x .number) (x .row) ≡ acceptAnswer (judgeBoth f s m k r steps)
   unfolding acceptAnswer
-  both-refused x h q = sym (ap acceptAnswer (judge-both m k r steps f s ∙ opened-refused not-judged _ a _ e x h q))
+  both-refused x h q = sym (ap acceptAnswer (judge-both m k r steps f s ∙ when-refused not-judged _ a _ e x h q))
 
   pub both-judged : {g n : ℕ} (h : a ≡ Admitted g n) (all : List ℕ) (p : List (List ℕ)) (mode : Mode) → all ≡ areaOf (rowBytes f ++ s)
       → p ≡ placesOf f → mode ≡ modeOf false f
       → (x : AcceptAnswer) → x ≡ acceptAnswer (judged (decode (take (n * ROW-BYTES) all) p mode n) m k r steps) → x ≡ acceptAnswer (judgeBoth f s m k r steps)
   both-judged h all p mode copy places modes x j =
       let t = table-both true f s a e h false all p mode copy places modes ∙ table-false (joined f s) in
-      j ∙ ap acceptAnswer (ap (λ (y : Table). judged y m k r steps) t ∙ sym (judge-both m k r steps f s ∙ opened-admitted not-judged _ a _ e h))
+      j ∙ ap acceptAnswer (ap (λ (y : Table). judged y m k r steps) t ∙ sym (judge-both m k r steps f s ∙ when-admitted not-judged _ a _ e h))

@@ -166,7 +166,7 @@ pub fn accepts_both(
         rows: count,
     } = a
     else {
-        let x = pieces::refusal_of(a);
+        let x = model::refusal_of(a);
         return AcceptAnswer::Refused {
             number: x.number,
             row: x.row,

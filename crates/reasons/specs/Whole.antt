@@ -29,9 +29,10 @@ use Rattle.model.specs.Check.{wiped}
 use Rattle.model.specs.Reason.{twoMoments, chainSize, stepNumber, chain, hasChainBy, Derived, word, chained, notBefore, chainOr, ours}
 use Rattle.model.specs.Reason.{derivedOf, deriveAnswer, chainAfter, workAfter}
 use Rattle.area.specs.Regions.{MUTUAL, SYNC-END, HAPPENS, STEP, CHAINS, CHAINS-END, MOMENTS}
-use Rattle.pieces.specs.declared.Refusal.{Refusal}
+use Rattle.model.specs.declared.Refusal.{Refusal}
+use Rattle.model.specs.Refusal.{refusalOf}
 use Rattle.pieces.specs.Pieces.{areaOf, joined, deriveBoth}
-use Rattle.pieces.specs.Entry.{refusalOf, doorBoth, Left, left-same, zeros-wiped, opened-refused, opened-admitted, door-admits, table-both, table-false}
+use Rattle.pieces.specs.Entry.{doorBoth, Left, left-same, zeros-wiped, when-refused, when-admitted, door-admits, table-both, table-false}
 use Rattle.pieces.specs.Answers.{not-derived, derive-both}
 use Rattle.walks.specs.Layers.{inLayer}
 use Rattle.reasons.specs.Layers.{Layered}
@@ -174,7 +175,7 @@ module _ (f s : List ℕ) (m k : ℕ) (w c : List ℕ) (a : Admission) (e : a �
   pub told-refused : {n i : ℕ} (x : Refusal) → a ≡ Refused n i → x ≡ refusalOf a → Told told (the-variants.Refused (x .number) (x .row)) w w c c
   unfolding deriveAnswer workAfter chainAfter
   told-refused x h q =
-      left-same deriveAnswer workAfter chainAfter (derive-both m k (length w) (length c) f s ∙ opened-refused not-derived _ a _ e x h q) (refl, refl, refl)
+      left-same deriveAnswer workAfter chainAfter (derive-both m k (length w) (length c) f s ∙ when-refused not-derived _ a _ e x h q) (refl, refl, refl)
 
   pub told-rows : {g n : ℕ} (h : a ≡ Admitted g n) (all : List ℕ) (p : List (List ℕ)) (mode : Mode) → all ≡ areaOf (rowBytes f ++ s) → p ≡ placesOf f
       → mode ≡ modeOf false f
@@ -183,5 +184,5 @@ module _ (f s : List ℕ) (m k : ℕ) (w c : List ℕ) (a : Admission) (e : a �
       let q = door-admits CHAIN true f s (length w) (length c) a e h in
       let t = table-both true f s a (q .2) h false all p mode copy places modes ∙ table-false (joined f s) in
       left-same deriveAnswer workAfter chainAfter
-      (derive-both m k (length w) (length c) f s ∙ opened-admitted not-derived _ a _ e h ∙ sym (ap (λ (y : Table). derivedOf y m k) t))
+      (derive-both m k (length w) (length c) f s ∙ when-admitted not-derived _ a _ e h ∙ sym (ap (λ (y : Table). derivedOf y m k) t))
       j

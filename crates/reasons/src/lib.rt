@@ -119,7 +119,7 @@ pub fn derive_both(
         rows: count,
     } = a
     else {
-        let x = pieces::refusal_of(a);
+        let x = model::refusal_of(a);
         return DeriveAnswer::Refused {
             number: x.number,
             row: x.row,

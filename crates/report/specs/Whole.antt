@@ -21,9 +21,10 @@ use Rattle.area.specs.Regions.{MUTUAL, LOCATED-END, EDGE, LAYERS-END}
 use Rattle.axioms.specs.Sources.{sourceIn}
 use Rattle.choice.specs.Sources.{Listed}
 use Rattle.verdict.specs.Whole.{judged, said-refused, said-verdict}
-use Rattle.pieces.specs.declared.Refusal.{Refusal}
+use Rattle.model.specs.declared.Refusal.{Refusal}
+use Rattle.model.specs.Refusal.{refusalOf}
 use Rattle.pieces.specs.Pieces.{areaOf, checkBoth, reportBoth}
-use Rattle.pieces.specs.Entry.{refusalOf, doorBoth, opened-refused, opened-admitted, door-admits, table-both, sources-both}
+use Rattle.pieces.specs.Entry.{doorBoth, when-refused, when-admitted, door-admits, table-both, sources-both}
 use Rattle.pieces.specs.Answers.{report-both, none-check, none-report}
 
 -- ---- laws: a check's answer as a report's
@@ -58,7 +59,7 @@ module _ (chains : Bool) (f s w c : List ℕ) where
     pub reported-refused : {n i : ℕ} (x : Refusal) → a ≡ Refused n i → x ≡ refusalOf a → Reported (told.Refused (x .number) (x .row)) w c
     reported-refused x h q =
         let k = said-refused chains f s w c a e x h q in
-        (sym (report-both chains (length w) (length c) f s ∙ opened-refused told.Refused _ a _ e x h q), k .1, k .2)
+        (sym (report-both chains (length w) (length c) f s ∙ when-refused told.Refused _ a _ e x h q), k .1, k .2)
 
     module _ {g n : ℕ} (h : a ≡ Admitted g n) (all : List ℕ) (p : List (List ℕ)) (mode : Mode) (copy : all ≡ areaOf (rowBytes f ++ s))
         (places : p ≡ placesOf f) (modes : mode ≡ modeOf chains f) where
@@ -75,7 +76,7 @@ module _ (chains : Bool) (f s w c : List ℕ) where
           let o = sources-both false f s a (k .2) h chains all p mode copy places modes in
           let z = said-verdict chains f s w c a e h all p mode copy places modes _ x d (refl, j .1, j .2) in (
             j .0 ∙ ap₂ (λ (y : Table) (source : ℕ → ℕ). reportAnswer (checkAnswer (verdict y source)) y) t o
-                ∙ sym (report-both chains (length w) (length c) f s ∙ opened-admitted told.Refused _ a _ e h),
+                ∙ sym (report-both chains (length w) (length c) f s ∙ when-admitted told.Refused _ a _ e h),
             z .1,
             z .2,
           )

@@ -92,7 +92,7 @@ pub fn report_both(
         rows: count,
     } = a
     else {
-        let x = pieces::refusal_of(a);
+        let x = model::refusal_of(a);
         return ReportAnswer::Refused {
             number: x.number,
             row: x.row,

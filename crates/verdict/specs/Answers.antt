@@ -46,7 +46,7 @@ overwriteOr over.Nothing next = next
 
 -- ---- laws: the searches
 
-pub race-answered : (t : Table) (f : Found) → f ≡ foundRace t → raceAnswer f ≡ checkAnswer (raceOr raceFree t)
+pub race-answered : (t : Table) (f : Found) → f ≡ foundRace t → raceAnswer f ≡ checkAnswer (raceOr race raceFree t)
 unfolding raceAnswer foundRace raceOf raceOr checkAnswer
 race-answered t f e = rw e (go (ltb (raceRow t) (t .rows)))
   where
@@ -80,11 +80,11 @@ settle-over t source next o r e f g = g ∙ rw f refl ∙ overwrite-answered t s
 
 pub settle-on : (t : Table) (source : ℕ → ℕ) (o : Overwrite) (f : Found) (r : CheckAnswer) → o ≡ foundOverwrite t source → o ≡ over.Nothing
     → f ≡ foundRace t → r ≡ raceAnswer f
-    → r ≡ checkAnswer (overwrittenOr (raceOr raceFree t) t source)
+    → r ≡ checkAnswer (overwrittenOr (raceOr race raceFree t) t source)
 unfolding overwriteOr
 settle-on t source o f r e none h g =
-    let a : overwriteOr o (checkAnswer (raceOr raceFree t)) ≡ checkAnswer (raceOr raceFree t) = rw none refl in
-    g ∙ race-answered t f h ∙ sym a ∙ overwrite-answered t source (raceOr raceFree t) o e
+    let a : overwriteOr o (checkAnswer (raceOr race raceFree t)) ≡ checkAnswer (raceOr race raceFree t) = rw none refl in
+    g ∙ race-answered t f h ∙ sym a ∙ overwrite-answered t source (raceOr race raceFree t) o e
 
 -- ---- laws: the verdict
 
@@ -95,12 +95,12 @@ unfolding verdict cyclicOr
 verdict-cyclic t source n x e q l = rw (lt-ltb (cycleRow t source) (t .rows) (rw (← q, ← e) l)) refl
 
 pub verdict-on : (t : Table) (source : ℕ → ℕ) (n x : ℕ) → n ≡ t .rows → x ≡ cycleRow t source → n ≤ x
-    → verdict t source ≡ overwrittenOr (raceOr raceFree t) t source
+    → verdict t source ≡ overwrittenOr (raceOr race raceFree t) t source
 unfolding verdict cyclicOr
 verdict-on t source n x e q l = rw (le-ltb (cycleRow t source) (t .rows) (rw (← q, ← e) l)) refl
 
 -- a verdict that is no cycle leaves the cycle buffer alone
-race-keeps : (t : Table) (c : List ℕ) → cycleAfter (raceOr raceFree t) c ≡ c
+race-keeps : (t : Table) (c : List ℕ) → cycleAfter (raceOr race raceFree t) c ≡ c
 unfolding raceOr cycleAfter
 race-keeps t c = go (ltb (raceRow t) (t .rows))
   where
@@ -108,7 +108,7 @@ race-keeps t c = go (ltb (raceRow t) (t .rows))
     go true = refl
     go false = refl
 
-pub settled-keeps : (t : Table) (source : ℕ → ℕ) (c : List ℕ) → cycleAfter (overwrittenOr (raceOr raceFree t) t source) c ≡ c
+pub settled-keeps : (t : Table) (source : ℕ → ℕ) (c : List ℕ) → cycleAfter (overwrittenOr (raceOr race raceFree t) t source) c ≡ c
 unfolding overwrittenOr cycleAfter
 settled-keeps t source c = go (ltb y (t .rows))
   where
@@ -118,7 +118,7 @@ settled-keeps t source c = go (ltb y (t .rows))
     z : ℕ
     z = overWriter t source y
 
-    go : (b : Bool) → cycleAfter (cond b (overwritten y z (overByte t source y z)) (raceOr raceFree t)) c ≡ c
+    go : (b : Bool) → cycleAfter (cond b (overwritten y z (overByte t source y z)) (raceOr race raceFree t)) c ≡ c
     go true = refl
     go false = race-keeps t c
 
@@ -180,7 +180,7 @@ module _ (t : Table) (source : ℕ → ℕ) (n x : ℕ) (w v u : List ℕ) (all 
         within-trans (edges-held made frame .1) (within-widen EDGE LAYERS-END (omega arith) (omega arith) f),
       )
 
-  pub judge-on : (r : CheckAnswer) (c : List ℕ) → n ≤ x → r ≡ checkAnswer (overwrittenOr (raceOr raceFree t) t source)
+  pub judge-on : (r : CheckAnswer) (c : List ℕ) → n ≤ x → r ≡ checkAnswer (overwrittenOr (raceOr race raceFree t) t source)
       → (r ≡ checkAnswer (verdict t source)) × (c ≡ cycleAfter (verdict t source) c) × Within EDGE LAYERS-END w u
   judge-on r c l e =
       let q = verdict-on t source n x all row l in

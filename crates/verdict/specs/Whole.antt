@@ -25,9 +25,10 @@ use Rattle.area.specs.State.{Located}
 use Rattle.race.specs.Bytes.{Ready, Bounded}
 use Rattle.axioms.specs.Sources.{sourceIn}
 use Rattle.choice.specs.Sources.{Listed}
-use Rattle.pieces.specs.declared.Refusal.{Refusal}
+use Rattle.model.specs.declared.Refusal.{Refusal}
+use Rattle.model.specs.Refusal.{refusalOf}
 use Rattle.pieces.specs.Pieces.{areaOf, checkBoth}
-use Rattle.pieces.specs.Entry.{RowsOf, refusalOf, doorBoth, few, row-ends, row-sizes, Left, left-same, zeros-wiped, opened-refused, opened-admitted}
+use Rattle.pieces.specs.Entry.{RowsOf, doorBoth, few, row-ends, row-sizes, Left, left-same, zeros-wiped, when-refused, when-admitted}
 use Rattle.pieces.specs.Entry.{door-admits, table-both, sources-both}
 use Rattle.pieces.specs.Answers.{check-both}
 
@@ -93,7 +94,7 @@ module _ (chains : Bool) (f s w c : List ℕ) (a : Admission) (e : a ≡ doorBot
   pub said-refused : {n i : ℕ} (x : Refusal) → a ≡ Refused n i → x ≡ refusalOf a → Said told (the-variants.Refused (x .number) (x .row)) w w c c
   unfolding checkAnswer workAfter cycleAfter
   said-refused x h q =
-      left-same checkAnswer workAfter cycleAfter (check-both chains (length w) (length c) f s ∙ opened-refused refused _ a _ e x h q) (refl, refl, refl)
+      left-same checkAnswer workAfter cycleAfter (check-both chains (length w) (length c) f s ∙ when-refused refused _ a _ e x h q) (refl, refl, refl)
 
   module _ {g n : ℕ} (h : a ≡ Admitted g n) (all : List ℕ) (p : List (List ℕ)) (mode : Mode) (copy : all ≡ areaOf (rowBytes f ++ s))
       (places : p ≡ placesOf f) (modes : mode ≡ modeOf chains f) where
@@ -103,7 +104,7 @@ module _ (chains : Bool) (f s w c : List ℕ) (a : Admission) (e : a ≡ doorBot
     pub told-is : told ≡ verdictRows
     told-is =
         let k = door-admits CYCLE false f s (length w) (length c) a e h in
-        check-both chains (length w) (length c) f s ∙ opened-admitted refused _ a _ e h
+        check-both chains (length w) (length c) f s ∙ when-admitted refused _ a _ e h
         ∙ sym (ap₂ verdict (table-both false f s a (k .2) h chains all p mode copy places modes)
         (sources-both false f s a (k .2) h chains all p mode copy places modes))
 

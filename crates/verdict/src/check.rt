@@ -59,7 +59,7 @@ pub fn check_by(
         rows: count,
     } = a
     else {
-        let x = pieces::refusal_of(a);
+        let x = model::refusal_of(a);
         return CheckAnswer::Refused {
             number: x.number,
             row: x.row,

@@ -4,7 +4,7 @@ ghost use Prim.Native.Nat.{_≤_, _<_};
 ghost use lib.ListN.{length};
 ghost use Rattle.model.specs.Limits.{ROWS, WORK, CYCLE};
 ghost use Rattle.model.specs.Table.{decode};
-ghost use Rattle.model.specs.Check.{verdict, raceFree, raceOr, overwrittenOr, checkAnswer, cycleAfter};
+ghost use Rattle.model.specs.Check.{verdict, race, raceFree, raceOr, overwrittenOr, checkAnswer, cycleAfter};
 ghost use Rattle.bits.specs.Within.{Within};
 ghost use Rattle.area.specs.Regions.{MUTUAL, LOCATED-END, EDGE, LAYERS-END};
 ghost use Rattle.area.specs.State.{Located};
@@ -84,7 +84,7 @@ fn overwrite_answer(o: axioms::overwritten::Overwrite) -> CheckAnswer
 fn settle(rows: &[u8], p: Places, mode: Mode, n: usize, src: &[u16], w: &[u64]) -> CheckAnswer
     requires { ⌜ (n ≤ length (now src)) × Bounded (decode (now rows) p mode n) × Ready (decode (now rows) p mode n) n (now w) ⌝ }
     ensures { λ r. let t = decode (now (rows .entry)) p mode n in
-        ⌜ r ≡ checkAnswer (overwrittenOr (raceOr raceFree t) t (sourceIn (now (src .entry)))) ⌝ }
+        ⌜ r ≡ checkAnswer (overwrittenOr (raceOr race raceFree t) t (sourceIn (now (src .entry)))) ⌝ }
 {
     let o = axioms::overwritten::first_overwrite(rows, p, mode, n, src, w);
     let axioms::overwritten::Overwrite::Nothing = o else {

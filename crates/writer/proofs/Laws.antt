@@ -11,8 +11,9 @@ use borrow.Author.Tests.{eq-eqb, ne-eqb, le-leb, lt-leb, lt-ltb, le-ltb}
 use Rattle.finite.specs.Lists.{tabulate, length-tabulate, getD-tabulate}
 use Rattle.model.specs.declared.Admission.{Admission}
 use Rattle.model.specs.declared.Admission.the-variants.{Admitted, Refused}
+use Rattle.model.specs.declared.Refusal.{Refusal}
 use Rattle.model.specs.Limits.{AGENTS, ROWS, DEPENDENCIES}
-use Rattle.model.specs.Refusal.{admission}
+use Rattle.model.specs.Refusal.{admission, refusalOf, whenAdmitted}
 use Rattle.model.specs.Table.{HEADER, DEPENDENCY-BYTES, ROW-BYTES}
 use Rattle.writer.specs.declared.Entry.{Entry}
 use Rattle.writer.specs.declared.Dependencies.{Dependencies}
@@ -21,7 +22,7 @@ use Rattle.writer.specs.declared.WriteAnswer.the-variants as Answer
 use Rattle.writer.specs.Encode.{half, withHosts, placesSize, dependenciesSize, tableSize, headerList, numberOf, placeNumber, placeByte, rowList}
 use Rattle.writer.specs.Encode.{nothing, entryAt, entryByte, dependencyNumber, dependencyByte, placesPart, rowsPart, dependenciesPart, encode}
 use Rattle.writer.specs.Encode.{entriesIn}
-use Rattle.writer.specs.Answer.{valuesFault, writtenAs, roomAnswer, writeAnswer, bufferAfter}
+use Rattle.writer.specs.Answer.{valuesFault, roomAnswer, writeAnswer, bufferAfter}
 use Rattle.writer.specs.Parts.{agentsIn, placesIn, rowsIn, dependenciesIn, partsAnswer, partsTable}
 use Rattle.writer.specs.ValueLaws.{Fits, places-most, after-most, size-most, header-length, encode-length, values-fit, agents-few, rows-few, after-few}
 
@@ -189,24 +190,24 @@ module _ (version agents : ℕ) (p : List (List ℕ)) (rows : ℕ) (l : List Ent
     front-size = n ∙ sym (ap length front-is ∙ encode-length version agents p rows l d)
 
     module _ (a : Admission) (q : a ≡ admission true (take size t)) where
-      pub answer-is : writeAnswer version agents p rows l d room ≡ writtenAs a (roomAnswer size room)
+      pub answer-is : writeAnswer version agents p rows l d room ≡ whenAdmitted Answer.Refused a (roomAnswer size room)
       unfolding writeAnswer
       answer-is = rw (← e, eq-eqb k 0 z, ← n, q, front-is) refl
 
-module _ (w : WriteAnswer) (a : Admission) (size room : ℕ) (e : w ≡ writtenAs a (roomAnswer size room)) where
+module _ (w : WriteAnswer) (a : Admission) (size room : ℕ) (e : w ≡ whenAdmitted Answer.Refused a (roomAnswer size room)) where
   -- a table that is refused
-  pub refused-out : (r : WriteAnswer) (k i : ℕ) (t o : List ℕ) → r ≡ writtenAs a (Answer.Written 0) → a ≡ Refused k i → (r ≡ w) × (o ≡ bufferAfter w t o)
-  unfolding writtenAs
-  refused-out r k i t o f q =
-      let v : w ≡ Answer.Refused k i = e ∙ ap (λ (x : Admission). writtenAs x (roomAnswer size room)) q in
-      let u : r ≡ Answer.Refused k i = f ∙ ap (λ (x : Admission). writtenAs x (Answer.Written 0)) q in
-      (u ∙ sym v, refused-both w k i t o v .1)
+  pub refused-out : (x : Refusal) (k i : ℕ) (t o : List ℕ) → x ≡ refusalOf a → a ≡ Refused k i
+      → (Answer.Refused (x .number) (x .row) ≡ w) × (o ≡ bufferAfter w t o)
+  unfolding whenAdmitted refusalOf
+  refused-out x k i t o f q =
+      let v : w ≡ Answer.Refused k i = e ∙ ap (λ (y : Admission). whenAdmitted Answer.Refused y (roomAnswer size room)) q in
+      (rw (f, q) (sym v), refused-both w k i t o v .1)
 
   -- one that is admitted
   module _ (x n : ℕ) (q : a ≡ Admitted x n) where
     open-is : w ≡ roomAnswer size room
-    unfolding writtenAs
-    open-is = e ∙ ap (λ (y : Admission). writtenAs y (roomAnswer size room)) q
+    unfolding whenAdmitted
+    open-is = e ∙ ap (λ (y : Admission). whenAdmitted Answer.Refused y (roomAnswer size room)) q
 
     pub short-is : room < size → w ≡ Answer.Refused 13 0
     unfolding roomAnswer

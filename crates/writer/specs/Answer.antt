@@ -6,12 +6,10 @@ use lib.ListN.{drop}
 use lib.Dec.{ltb, leb, eqb}
 use Rattle.finite.specs.Logic.{_and_}
 use Rattle.finite.specs.Below.{anyBelow}
-use Rattle.model.specs.declared.Admission.{Admission}
-use Rattle.model.specs.declared.Admission.the-variants.{Admitted, Refused}
 use Rattle.model.specs.Limits.{AGENTS, ROWS, DEPENDENCIES}
 use Rattle.model.specs.Scope.{SHADER, QUEUE, agentKind}
 use Rattle.model.specs.Table.{FIRST, HOSTS}
-use Rattle.model.specs.Refusal.{admission}
+use Rattle.model.specs.Refusal.{admission, whenAdmitted}
 use Rattle.writer.specs.declared.Entry.{Entry}
 use Rattle.writer.specs.declared.Dependencies.{Dependencies}
 use Rattle.writer.specs.declared.WriteAnswer.{WriteAnswer}
@@ -46,11 +44,6 @@ valuesFault version agents p rows n =
 
 -- ---- then what a fill refuses the table for, 18 before the rows' own; last 13, where the buffer has too little room
 
--- a table that is admitted gets the answer w
-unfoldable pub writtenAs : Admission → WriteAnswer → WriteAnswer
-writtenAs (Refused k i) w = Answer.Refused k i
-writtenAs (Admitted a n) w = w
-
 -- 13
 unfoldable pub roomAnswer : ℕ → ℕ → WriteAnswer
 roomAnswer size room = cond (leb size room) (Answer.Written size) (Answer.Refused 13 0)
@@ -58,7 +51,7 @@ roomAnswer size room = cond (leb size room) (Answer.Written size) (Answer.Refuse
 unfoldable pub writeAnswer : ℕ → ℕ → List (List ℕ) → ℕ → List Entry → Dependencies → ℕ → WriteAnswer
 writeAnswer version agents p rows l d room =
     cond (eqb (valuesFault version agents p rows (d .count)) 0)
-    (writtenAs (admission true (encode version agents p rows l d)) (roomAnswer (tableSize version agents rows (d .count)) room))
+    (whenAdmitted Answer.Refused (admission true (encode version agents p rows l d)) (roomAnswer (tableSize version agents rows (d .count)) room))
     (Answer.Refused (valuesFault version agents p rows (d .count)) 0)
 
 -- the buffer: the table, then what was there; untouched where the writing is refused

@@ -15,14 +15,15 @@ use Rattle.model.specs.declared.Row.{Row}
 use Rattle.model.specs.Scope.{agentKind}
 use Rattle.model.specs.Table.{agentsAt, rowsAt, hasHosts, rowBytes, rowOf, sourceOf, placesOf, tableOf, sourcesOf, Table}
 use Rattle.model.specs.Refusal.{codesFit, agentFits, operationFits, kindFits, extentFits, formFault, rowFault, classTaken, sourceBroken, rankTaken}
-use Rattle.model.specs.Refusal.{instanceBroken, unfit, tableFault, faulty, firstFault, rowFaultAt, headerFault, admission}
+use Rattle.model.specs.Refusal.{instanceBroken, unfit, tableFault, faulty, firstFault, rowFaultAt, headerFault, admission, whenAdmitted}
 use Rattle.model.specs.Row.{operation}
+use Rattle.laws.specs.AdmissionLaws.{not-admitted}
 use Rattle.writer.specs.declared.Entry.{Entry}
 use Rattle.writer.specs.declared.Dependencies.{Dependencies}
 use Rattle.writer.specs.declared.WriteAnswer.{WriteAnswer}
 use Rattle.writer.specs.declared.WriteAnswer.the-variants as Answer
 use Rattle.writer.specs.Encode.{tableSize, encode}
-use Rattle.writer.specs.Answer.{versionKnown, countsFit, numbersFit, dependenciesFit, valuesFault, writtenAs, roomAnswer, writeAnswer}
+use Rattle.writer.specs.Answer.{versionKnown, countsFit, numbersFit, dependenciesFit, valuesFault, roomAnswer, writeAnswer}
 
 -- ---- definitions
 
@@ -81,13 +82,6 @@ among-numbered blanks t source i =
 abbrev number-of : Admission → ℕ
 number-of (Refused k i) = k
 number-of (Admitted a n) = 0
-
-pub not-admitted : {A : Type 0} {k i a n : ℕ} → Refused k i ≡ Admitted a n → A
-not-admitted e = let z : _≡_ {A = ℕ} 0 1 = ap which-one e in absurd (omega arith)
-  where
-    which-one : Admission → ℕ
-    which-one (Refused k i) = 0
-    which-one (Admitted a n) = 1
 
 numbered-out : (k : ℕ) → numbered k ≡ true → eqb k 0 ≡ false → ofTable k ≡ true
 unfolding numbered
@@ -225,11 +219,11 @@ module _ (size room : ℕ) where
       (λ h. let l = leb-false size room h in let q = sym e ∙ room-short l in (l, ap said-number q, ap said-row q)) (which (leb size room))
 
 -- values that are refused; a table that is; or one that is admitted
-judged : (f : ℕ) (a : Admission) (v w : WriteAnswer) → w ≡ cond (eqb f 0) (writtenAs a v) (Answer.Refused f 0)
+judged : (f : ℕ) (a : Admission) (v w : WriteAnswer) → w ≡ cond (eqb f 0) (whenAdmitted Answer.Refused a v) (Answer.Refused f 0)
     → ((f ≡ 0 → ⊥) × (w ≡ Answer.Refused f 0))
     ⊎ (((f ≡ 0) × ((k : ℕ) × (i : ℕ) × (a ≡ Refused k i) × (w ≡ Answer.Refused k i)))
     ⊎ ((f ≡ 0) × ((x : ℕ) × (n : ℕ) × (a ≡ Admitted x n)) × (w ≡ v)))
-unfolding writtenAs
+unfolding whenAdmitted
 judged f (Refused k i) v w e = ⊎-elim (λ z. inr (inl (eqb-true f 0 z, (k, i, refl, e ∙ rw z refl))))
     (λ z. inl (eqb-false f 0 z, e ∙ rw z refl)) (which (eqb f 0))
 judged f (Admitted x n) v w e = ⊎-elim (λ z. inr (inr (eqb-true f 0 z, (x, n, refl), e ∙ rw z refl)))
@@ -245,7 +239,7 @@ module _ (version agents : ℕ) (p : List (List ℕ)) (rows : ℕ) (l : List Ent
   abbrev size : ℕ
   size = tableSize version agents rows (d .count)
 
-  answer-is : writeAnswer version agents p rows l d room ≡ cond (eqb F 0) (writtenAs (admission true t) (roomAnswer size room)) (Answer.Refused F 0)
+  answer-is : writeAnswer version agents p rows l d room ≡ cond (eqb F 0) (whenAdmitted Answer.Refused (admission true t) (roomAnswer size room)) (Answer.Refused F 0)
   unfolding writeAnswer
   answer-is = refl
 
@@ -254,11 +248,11 @@ module _ (version agents : ℕ) (p : List (List ℕ)) (rows : ℕ) (l : List Ent
   values-in n = answer-is ∙ rw (ne-eqb F 0 n) refl
 
   pub table-in : (k i : ℕ) → F ≡ 0 → admission true t ≡ Refused k i → writeAnswer version agents p rows l d room ≡ Answer.Refused k i
-  unfolding writtenAs
+  unfolding whenAdmitted
   table-in k i z q = answer-is ∙ rw (eq-eqb F 0 z, q) refl
 
   pub admitted-in : F ≡ 0 → Admits t → writeAnswer version agents p rows l d room ≡ roomAnswer size room
-  unfolding writtenAs
+  unfolding whenAdmitted
   admitted-in z a = answer-is ∙ rw (eq-eqb F 0 z, a .2) refl
 
   pub written-out : (m : ℕ) → writeAnswer version agents p rows l d room ≡ Answer.Written m → (F ≡ 0) × Admits t × (m ≡ size) × (size ≤ room)

@@ -3,7 +3,7 @@ ghost use mathlib.Core.Path.{_≡_};
 ghost use lib.ListN.{length};
 ghost use Rattle.finite.specs.Below.{anyBelow};
 ghost use Rattle.writer.specs.Encode.{encode};
-ghost use Rattle.writer.specs.Answer.{versionKnown, countsFit, numberOver, dependenciesFit, valuesFault, writtenAs, writeAnswer, bufferAfter};
+ghost use Rattle.writer.specs.Answer.{versionKnown, countsFit, numberOver, dependenciesFit, valuesFault, writeAnswer, bufferAfter};
 use model::Admission;
 use model::Places;
 use model::Row;
@@ -96,18 +96,6 @@ fn values_fault(version: u8, agents: u8, p: Places, rows: u8, n: u16) -> u8
 
 // ---- writing
 
-fn refused(a: Admission) -> WriteAnswer
-    ensures { λ r. ⌜ r ≡ writtenAs a (WriteAnswer.Written 0) ⌝ }
-{
-    match a {
-        Admission::Refused { number, row } => WriteAnswer::Refused {
-            number: number,
-            row: row,
-        },
-        Admission::Admitted { agents: _, rows: _ } => WriteAnswer::Written { bytes: 0 },
-    }
-}
-
 // Writes the table of these values, of which those past their counts don't matter. A fill admits what is written.
 // Ruled out: one that writes a part of the table before it refuses; one that clears the buffer after the table; one that refuses
 // a blank, or a short buffer before what is wrong with a row.
@@ -134,7 +122,11 @@ pub fn write(
     let size = encode::table_size(version, agents, count, d.count);
     let a = table::admit(&t[..size], true);
     let Admission::Admitted { agents: _, rows: _ } = a else {
-        return refused(a);
+        let x = model::refusal_of(a);
+        return WriteAnswer::Refused {
+            number: x.number,
+            row: x.row,
+        };
     };
     if out.len() < size {
         return WriteAnswer::Refused { number: 13, row: 0 };

@@ -30,7 +30,7 @@ returns-2 c = refused-out _ _ _ _ (answer-is _ _ _ _ _ _ _ _
     (c .before .before .before .before .before .before .before .if1 .left) _ _
     (c .before .before .before .before .before .table-size .ensures .0)
     (c .before .before .before .before .before .before .encode-table .ensures) _ (c .before .before .before .admit .ensures)) _ _ _ _ _
-    (c .refused .ensures) (c .before .enum-told2 .given .1)
+    (c .refusal-of .ensures) (c .before .enum-told2 .given .1)
 
 returns-3 : tie.Need-returns-3
 returns-3 c = refused-both _ _ _ _ _ (short-is _ _ _ _

@@ -1,8 +1,8 @@
 use mathlib.Core.Path.{sym, ap}
-use Rattle.pieces.specs.Entry.{refusalOf}
+use Rattle.model.specs.Refusal.{refusalOf}
 use borrow.Author.Needs.{needs}
-use Rattle.pieces.proofs.refusal_of.Statement.{statement}
-use Rattle.pieces.proofs.refusal_of.Tie as tie
+use Rattle.model.proofs.refusal_of.Statement.{statement}
+use Rattle.model.proofs.refusal_of.Tie as tie
 
 returns : tie.Need-returns
 unfolding refusalOf

@@ -471,7 +471,7 @@ module _ (f : List ℕ) where
 
 -- it lies in its piece
 pub first-end : (f s : List ℕ) (n h r b : ℕ) → h ≡ earlyFault f s → h ≡ 0 → r ≡ rowsAt f → n < r → b ≡ rowsBegin f → b + ROW-BYTES * n + ROW-BYTES ≤ length f
-first-end f s n h r b e z q l v = let a = shape-end f (first-right f s (early-pieces f s h e z)) in omega arith
+first-end f s n h r b fault-is passed rows-are below-n begin-is = let a = shape-end f (first-right f s (early-pieces f s h fault-is passed)) in omega arith
 
 pub second-end : (f s : List ℕ) (n r b : ℕ) → r ≡ rowsAt f → r ≤ n → b ≡ rowsBoth f s → n < b → ROW-BYTES * (n - r) + ROW-BYTES ≤ length s
 unfolding rowsBoth

@@ -166,11 +166,11 @@ module _ (t : Table) where
   pub race-found : (x y b : ℕ) → least x (hasRace t) ≡ x → x < t .rows → least y (racesAbove t x) ≡ y → y < t .rows → racesAbove t x y ≡ true
       → b ≡ raceByte t x y → _≡_ {A = Found} (At x y b) (foundRace t)
   unfolding foundRace raceOf raceRow racePartner hasRace
-  race-found x y b h l g m on e =
-      let q : least (t .rows) (racesAbove t x) ≡ y = least-found (racesAbove t x) y (t .rows) g on m in
-      let o : ltb (least (t .rows) (racesAbove t x)) (t .rows) ≡ true = rw q (lt-ltb y (t .rows) m) in
-      let f : least (t .rows) (λ z. ltb (least (t .rows) (racesAbove t z)) (t .rows)) ≡ x = least-found _ x (t .rows) h o l in
-      rw (f, q, lt-ltb x (t .rows) l, e) refl
+  race-found x y b first-x below-x first-y below-y on byte-is =
+      let q : least (t .rows) (racesAbove t x) ≡ y = least-found (racesAbove t x) y (t .rows) first-y on below-y in
+      let o : ltb (least (t .rows) (racesAbove t x)) (t .rows) ≡ true = rw q (lt-ltb y (t .rows) below-y) in
+      let f : least (t .rows) (λ z. ltb (least (t .rows) (racesAbove t z)) (t .rows)) ≡ x = least-found _ x (t .rows) first-x o below-x in
+      rw (f, q, lt-ltb x (t .rows) below-x, byte-is) refl
 
   pub race-none : (n : ℕ) → n ≡ t .rows → least n (hasRace t) ≡ n → _≡_ {A = Found} Nothing (foundRace t)
   unfolding foundRace raceOf raceRow

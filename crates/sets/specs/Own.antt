@@ -176,9 +176,9 @@ module _ (w₀ w : List ℕ) (base n k x from y : ℕ) (p : JoinedTo w₀ w base
 
       on : (a j : ℕ) → a < n → from ≤ a → a < from + 64 → bitOf x (a - from) ≡ true → bitOf z (a - from) ≡ false → j < 64 * MOMENTS → Dec (a ≡ from + t)
           → rel u base MOMENTS a j ≡ turn (rel w₀ base MOMENTS) k a j
-      on a j o q r e f b (yes g) = subst (λ (i : ℕ). rel u base MOMENTS i j ≡ turn (rel w₀ base MOMENTS) k i j) (sym g) (here j b)
-      on a j o q r e f b (no g) =
-          took .other a j g b ∙ p .on a j o q r e (sym (drop .same t (a - from) low (λ h. g (omega arith))) ∙ f) b
+      on a j below-a past near was gone below-j (yes g) = subst (λ (i : ℕ). rel u base MOMENTS i j ≡ turn (rel w₀ base MOMENTS) k i j) (sym g) (here j below-j)
+      on a j below-a past near was gone below-j (no g) =
+          took .other a j g below-j ∙ p .on a j below-a past near was (sym (drop .same t (a - from) low (λ h. g (omega arith))) ∙ gone) below-j
 
       off : (a j : ℕ) → a < n → (from ≤ a → a < from + 64 → bitOf x (a - from) ≡ true → bitOf z (a - from) ≡ true) → j < 64 * MOMENTS → Dec (a ≡ from + t)
           → rel u base MOMENTS a j ≡ rel w₀ base MOMENTS a j

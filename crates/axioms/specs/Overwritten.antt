@@ -7,7 +7,7 @@ use native.Mathlib.Omega.{arith}
 use lib.Dec.{ltb}
 use borrow.Author.Tests.{lt-ltb, le-ltb, ltb-true}
 use Rattle.finite.specs.Logic.{_and_, split, and-true, and-false-left, and-false-right, not-so, not-out, not-both}
-use Rattle.finite.specs.Below.{least, least-is}
+use Rattle.finite.specs.Below.{least, least-is, least-off, least-pass}
 use Rattle.bits.specs.Stage.{Holds}
 use Rattle.sets.specs.Walk.{Next}
 use Rattle.model.specs.declared.Row.{Row}
@@ -23,7 +23,6 @@ use Rattle.laws.specs.PairLaws.{inside-out, common-out}
 use Rattle.area.specs.Regions.{OVERLAP, GRID}
 use Rattle.area.specs.State.{overlaps}
 use Rattle.race.specs.Bytes.{Bounded, before-apart, overlaps-sym, passed}
-use Rattle.race.specs.First.{least-off, least-pass}
 use Rattle.axioms.specs.declared.overwritten.Overwrite.{Overwrite}
 use Rattle.axioms.specs.declared.overwritten.Overwrite.the-variants.{At, Nothing}
 

@@ -1,16 +1,15 @@
 -- The first race as an answer, and the turns of its search. Assumes nothing.
 use mathlib.Core.Path.{_≡_, refl, subst}
-use mathlib.Core.Bool.{Bool, true, false, cond}
+use mathlib.Core.Bool.{true, false, cond}
 use mathlib.Core.Logic.{⊎-elim}
 use mathlib.Core.List.{List}
 use Prim.Native.Nat.{ℕ, _+_, _-_, _*_, _≤_, _<_}
 use native.Mathlib.Omega.{arith}
 use native.Mathlib.Numerals.{add-one}
-use native.Mathlib.Decide.{decLt}
 use lib.Dec.{ltb}
 use borrow.Author.Tests.{lt-ltb, le-ltb}
 use Rattle.finite.specs.Logic.{_and_, split, and-true, and-false-left, and-false-right, not-so, not-both}
-use Rattle.finite.specs.Below.{least, least-is, least-found, least-unique, below-cases}
+use Rattle.finite.specs.Below.{least, least-off, least-pass, least-found, least-unique, below-cases}
 use Rattle.model.specs.declared.Row.{Row}
 use Rattle.model.specs.Limits.{LONGEST, BYTES}
 use Rattle.model.specs.Row.{touches}
@@ -46,22 +45,6 @@ abbrev pub Searched : Table → ℕ → ℕ → ℕ → ℕ → Type 0
 Searched t x y e b = NoneBelow t x y b × (b < e → unordered t x y b ≡ true)
 
 -- ---- laws: the byte search of a pair
-
--- none passes
-pub least-off : (p : ℕ → Bool) (n : ℕ) → ((k : ℕ) → k < n → p k ≡ false) → least n p ≡ n
-least-off p n f = go (decLt (least n p) n)
-  where
-    go : Dec (least n p < n) → least n p ≡ n
-    go (yes l) = not-both (least-is p n .hit l) (f (least n p) l)
-    go (no l) = omega (arith, least-is p n .bound)
-
--- numbers that are passed over
-pub least-pass : (p : ℕ → Bool) (j k : ℕ) → least j p ≡ j → ((m : ℕ) → j ≤ m → m < k → p m ≡ false) → least k p ≡ k
-least-pass p j k e f = least-off p k (λ m h. go m h (decLt m j))
-  where
-    go : (m : ℕ) → m < k → Dec (m < j) → p m ≡ false
-    go m h (yes l) = least-is p j .miss m (omega arith)
-    go m h (no l) = f m (omega arith) h
 
 module _ (t : Table) (x y : ℕ) where
   unordered-common : (b : ℕ) → unordered t x y b ≡ true → common (t .row x) (t .row y) b ≡ true

@@ -21,7 +21,7 @@ use Rattle.model.specs.Moment.{itself}
 use Rattle.area.specs.Regions.{MOMENTS}
 use Rattle.hubs.specs.Hubs.{throughOwn}
 use Rattle.sets.specs.Lowest.{Lowest, Dropped}
-use Rattle.sets.specs.Held.{NextRow, RowsOf}
+use Rattle.sets.specs.Held.{NextRow, Below, RowsOf}
 use Rattle.sets.specs.Meet.{both, least-empty}
 
 -- ---- definitions
@@ -49,10 +49,6 @@ pub record Taken (w u : List ℕ) (base n k i : ℕ) : Type 0 where
   pub here : (j : ℕ) → j < 64 * MOMENTS → rel u base MOMENTS i j ≡ turn (rel w base MOMENTS) k i j
   pub other : (a j : ℕ) → (a ≡ i → ⊥) → j < 64 * MOMENTS → rel u base MOMENTS a j ≡ rel w base MOMENTS a j
   pub frame : Within base (base + n * MOMENTS) w u
-
--- the bits of x are rows, counted from `from`, that are below n
-pub record Below (x from n : ℕ) : Type 0 where
-  pub inside : (b : ℕ) → bitOf x b ≡ true → from + b < n
 
 -- u is w after the rows from + b have, where b is a bit of x
 pub record Joined (w u : List ℕ) (base n k x from : ℕ) : Type 0 where
@@ -257,8 +253,8 @@ module _ (w₀ w : List ℕ) (base n at : ℕ) (all : Bool) (few : n ≤ ROWS) (
   pub off-made : (lo hi : ℕ) → RowsOf w at all 0 n lo → RowsOf w at all 64 n hi → Off lo hi w₀ base n
   off-made lo hi a b =
       record {
-        low = record { inside = a .inside };
-        high = record { inside = b .inside };
+        low = a .below;
+        high = b .below;
         empty = λ x j l p q o. go x j l p q o (decLt x 64);
       }
     where

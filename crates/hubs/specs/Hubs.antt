@@ -70,7 +70,7 @@ module _ (r : ℕ → ℕ → Bool) (bound : ℕ) (hub : ℕ → Bool) (at : ℕ
   from-hub x c e (one f) = one (hop-in x c e f)
   from-hub x c e (more {m = m} f l q) = reach-hops x m c e l f q
 
-  -- THE HUB FACT: from a hub, the closure of the relation is the closure of the hops
+  -- the hub fact: from a hub, the closure of the relation is the closure of the hops
   pub through-hops : (x c : ℕ) → through (hop r hub at) n x c ≡ (hub x and through r bound (at x) (at c))
   through-hops x c =
       bool-ext _ _

@@ -259,11 +259,13 @@ module _ (t : Table) (source : ℕ → ℕ) where
         → k ≡ edgeBit s y → u ≡ setBitIf b w k
         → Edged n (into y (readsFrom t source)) w u
     unfolding into readsFrom
-    source-put y s k b fits room l m e g q h = edged-cong (λ i j d c. same i j) (edged-put w s y b b fits room l m (rw q at h) refl)
+    source-put y s k b fits room below-s below-y source-is reads-is place-is put =
+        edged-cong (λ i j d c. same i j) (edged-put w s y b b fits room below-s below-y (rw place-is at put) refl)
       where
         same : (i j : ℕ) → (eqb i s and (eqb j y and b)) ≡ (eqb j y and (reads (t .row j) and eqb (source j) i))
         same i j =
-            and-flip _ _ ∙ and-assoc (eqb j y) b (eqb i s) ∙ at-one j y _ _ (λ d. rw (d, ← e, g) (ap (λ (v : Bool). reads (t .row y) and v) (eqb-swap i s)))
+            and-flip _ _ ∙ and-assoc (eqb j y) b (eqb i s)
+            ∙ at-one j y _ _ (λ d. rw (d, ← source-is, reads-is) (ap (λ (v : Bool). reads (t .row y) and v) (eqb-swap i s)))
 
     pub source-none : (y s : ℕ) → s ≡ source y → n ≤ s → Edged n (into y (readsFrom t source)) w w
     unfolding into readsFrom

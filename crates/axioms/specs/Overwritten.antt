@@ -7,7 +7,7 @@ use native.Mathlib.Omega.{arith}
 use lib.Dec.{ltb}
 use borrow.Author.Tests.{lt-ltb, le-ltb, ltb-true}
 use Rattle.finite.specs.Logic.{_and_, split, and-true, and-false-left, and-false-right, not-so, not-out, not-both}
-use Rattle.finite.specs.Below.{least, least-is}
+use Rattle.finite.specs.Below.{least, least-is, least-off, least-pass}
 use Rattle.bits.specs.Stage.{Holds}
 use Rattle.sets.specs.Walk.{Next}
 use Rattle.model.specs.declared.Row.{Row}
@@ -23,7 +23,6 @@ use Rattle.laws.specs.PairLaws.{inside-out, common-out}
 use Rattle.area.specs.Regions.{OVERLAP, GRID}
 use Rattle.area.specs.State.{overlaps}
 use Rattle.race.specs.Bytes.{Bounded, before-apart, overlaps-sym, passed}
-use Rattle.race.specs.First.{least-off, least-pass}
 use Rattle.axioms.specs.declared.overwritten.Overwrite.{Overwrite}
 use Rattle.axioms.specs.declared.overwritten.Overwrite.the-variants.{At, Nothing}
 
@@ -51,7 +50,7 @@ module _ (t : Table) (source : ℕ → ℕ) where
   pub overwrites-on : (y z k s b : ℕ) (a c : Bool) → mayOverwrite y z ≡ true → s ≡ source y → b ≡ t .row y .start + k → a ≡ before t s z b → c ≡ before t z y b
       → (a and c) ≡ overwritesNth t source y z k
   unfolding overwritesNth overwrites mayOverwrite _and_
-  overwrites-on y z k s b a c m o q e f = rw (m, e, f, q, o) refl
+  overwrites-on y z k s b a c may source-is byte-is first-is second-is = rw (may, first-is, second-is, byte-is, source-is) refl
 
   overwrites-off : (y z k : ℕ) → mayOverwrite y z ≡ false → overwritesNth t source y z k ≡ false
   unfolding overwritesNth overwrites mayOverwrite
@@ -86,9 +85,9 @@ module _ (t : Table) (source : ℕ → ℕ) where
   pub unread-none : (y n s : ℕ) (r : Row) (a b : Bool) → n ≡ t .rows → r ≡ t .row y → s ≡ source y → a ≡ reads r → b ≡ ltb s n → not (a and b) ≡ true
       → n ≡ overWriter t source y
   unfolding overWriter overwriting
-  unread-none y n s r a b q e f c d h =
-      let g : (reads (t .row y) and ltb (source y) (t .rows)) ≡ false = rw (← e, ← f, ← q, ← c, ← d) (not-out _ h) in
-      q ∙ sym (least-off (λ z. ltb (overNth t source y z) LONGEST) (t .rows)
+  unread-none y n s r a b rows-are row-is source-is reads-is below-is unread =
+      let g : (reads (t .row y) and ltb (source y) (t .rows)) ≡ false = rw (← row-is, ← source-is, ← rows-are, ← reads-is, ← below-is) (not-out _ unread) in
+      rows-are ∙ sym (least-off (λ z. ltb (overNth t source y z) LONGEST) (t .rows)
       (λ z l. le-ltb (overNth t source y z) LONGEST (let k = over-none y z (unread-off y z g) in omega arith)))
 
   -- ---- laws: what the searches compare
@@ -113,7 +112,7 @@ module _ (t : Table) (source : ℕ → ℕ) where
       → b ≡ t .row y .start + k → y < n
       → _≡_ {A = Overwrite} (At y z b) foundOverwrite
   unfolding foundOverwrite overwriteOf overByte
-  shown-at y z k b n q e f g h l = rw (← e, ← f, ← g, ← q, lt-ltb y n l, h) refl
+  shown-at y z k b n rows-are reader-is writer-is nth-is byte-is below = rw (← reader-is, ← writer-is, ← nth-is, ← rows-are, lt-ltb y n below, byte-is) refl
 
   reader-on : (y : ℕ) → y ≡ overReader t source → y < t .rows → overWriter t source y < t .rows
   unfolding overReader isOverwritten
@@ -146,8 +145,8 @@ module _ (t : Table) (source : ℕ → ℕ) where
 
   pub byte-below : Bounded t → (y z k n : ℕ) → n ≡ t .rows → y ≡ overReader t source → z ≡ overWriter t source y → k ≡ overNth t source y z → y < n
       → (k < LONGEST) × ((r : Row) → r ≡ t .row y → r .start + k < BYTES)
-  byte-below bounded y z k n q e f g l =
-      let h = writer-on y z f (let j = reader-on y e (omega arith) in omega arith) in
+  byte-below bounded y z k n rows-are reader-is writer-is nth-is below =
+      let h = writer-on y z writer-is (let j = reader-on y reader-is (omega arith) in omega arith) in
       let o = over-touched y z (nth t y (overNth t source y z)) (byte-on y z h) in
       let a = bounded y (omega arith) (o .0) in
       let d = o .1 in

@@ -52,21 +52,22 @@ cubeFill-out p w at row m n (suc r) k s h =
 pub cubeFill-in : (p : ℕ → ℕ → ℕ → Bool) (w : List ℕ) (at row m n r i j b : ℕ) → n * m ≤ row → at + r * row ≤ 64 * length w → i < r → j < n → b < m
     → bit (cubeFill p w at row m n r) (at + i * row + j * m + b) ≡ (bit w (at + i * row + j * m + b) or p i j b)
 unfolding cubeFill
-cubeFill-in p w at row m n zero i j b s l x y z = absurd (omega arith)
-cubeFill-in p w at row m n (suc r) i j b s l x y z = go (ℕ-discrete i r) (λ h. cubeFill-in p w at row m n r i j b s (omega (arith, suc-mul r row)) h y z)
+cubeFill-in p w at row m n zero i j b fits room below-i below-j below-b = absurd (omega arith)
+cubeFill-in p w at row m n (suc r) i j b fits room below-i below-j below-b =
+    go (ℕ-discrete i r) (λ h. cubeFill-in p w at row m n r i j b fits (omega (arith, suc-mul r row)) h below-j below-b)
   where
     g : List ℕ
     g = cubeFill p w at row m n r
 
     pair : j * m + m ≤ n * m
-    pair = row-apart j n m y
+    pair = row-apart j n m below-j
 
     go : Dec (i ≡ r) → (i < r → bit g (at + i * row + j * m + b) ≡ (bit w (at + i * row + j * m + b) or p i j b))
         → bit (gridFill (p r) g (at + r * row) m m n) (at + i * row + j * m + b) ≡ (bit w (at + i * row + j * m + b) or p i j b)
     go (yes e) ih =
         rw e
-        (gridFill-in (p r) g (at + r * row) m m n j b (omega arith) (rw length-cubeFill (omega (arith, suc-mul r row))) y z
-        ∙ ap (λ (x : Bool). x or p r j b) (cubeFill-out p w at row m n r (at + r * row + j * m + b) s (λ h. omega arith)))
+        (gridFill-in (p r) g (at + r * row) m m n j b (omega arith) (rw length-cubeFill (omega (arith, suc-mul r row))) below-j below-b
+        ∙ ap (λ (x : Bool). x or p r j b) (cubeFill-out p w at row m n r (at + r * row + j * m + b) fits (λ h. omega arith)))
     go (no e) ih =
         let q : i * row + row ≤ r * row = row-apart i r row (omega arith) in
         gridFill-out (p r) g (at + r * row) m m n (at + i * row + j * m + b) (omega arith) (λ h. absurd (omega (arith, pair))) ∙ ih (omega arith)
@@ -121,7 +122,7 @@ made-cube a b row m n r w v u fits inside order room cleared filled =
 pub cube-bit : {a row m n : ℕ} {r : ℕ → ℕ → ℕ → Bool} {w : List ℕ} → Cube a row m n r w → (k i j b : ℕ) → k ≡ a * 64 + i * row + j * m + b
     → i < n → j < n → b < m
     → bit w k ≡ r i j b
-cube-bit h k i j b e x y z = rw e (h .cell i j b x y z)
+cube-bit held k i j b place-is below-i below-j below-b = rw place-is (held .cell i j b below-i below-j below-b)
 
 -- a change elsewhere keeps what a region holds
 pub cube-kept : {a row m n c d : ℕ} {r : ℕ → ℕ → ℕ → Bool} {w u : List ℕ} → (c * 64 < a * 64 + n * row → d ≤ a) → Within c d w u

@@ -67,6 +67,10 @@ within-rowFill a b p w at zero l m = within-refl a b w
 within-rowFill a b p w at (suc n) l m =
     within-trans (within-rowFill a b p w at n l (omega arith)) (within-setBitIf a b (p n) (rowFill p w at n) (at + n) (omega arith) (omega arith))
 
+-- the same of what was filled
+pub within-row : {w u : List ℕ} (a b : ℕ) (p : ℕ → Bool) (at n : ℕ) → 64 * a ≤ at → at + n ≤ 64 * b → u ≡ rowFill p w at n → Within a b w u
+within-row {w} a b p at n l m e = rw e (within-rowFill a b p w at n l m)
+
 -- tests that agree write the same
 pub rowFill-cong : (p q : ℕ → Bool) (w : List ℕ) (at n : ℕ) → ((m : ℕ) → m < n → p m ≡ q m) → rowFill p w at n ≡ rowFill q w at n
 unfolding rowFill

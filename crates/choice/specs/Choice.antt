@@ -76,15 +76,15 @@ module _ (t : Table) (y : ℕ) (f : Bool) (d : f ≡ written t y) where
 -- row i is r, and has the source s
 module _ (t : Table) (i s v : ℕ) (r : Row) (a c : Bool) where
   told : r ≡ t .row i → v ≡ s → a ≡ plainRead r → c ≡ eqb v BLANK → (a and c) ≡ (plainRead (t .row i) and eqb s BLANK)
-  told d e f g = rw (g, f, d, e) refl
+  told row-is source-is plain-is blank-is = rw (blank-is, plain-is, row-is, source-is) refl
 
   pub blank-told : r ≡ t .row i → v ≡ s → a ≡ plainRead r → c ≡ eqb v BLANK → (a and c) ≡ true → (k : ℕ) → k ≡ choice t i → k ≡ chosenFrom t i s
   unfolding chosenFrom
-  blank-told d e f g h k l = rw (sym (told d e f g) ∙ h) l
+  blank-told row-is source-is plain-is blank-is is-blank k choice-is = rw (sym (told row-is source-is plain-is blank-is) ∙ is-blank) choice-is
 
   pub own-told : r ≡ t .row i → v ≡ s → a ≡ plainRead r → c ≡ eqb v BLANK → (a and c) ≡ false → s ≡ chosenFrom t i s
   unfolding chosenFrom
-  own-told d e f g h = rw (sym (told d e f g) ∙ h) refl
+  own-told row-is source-is plain-is blank-is no-blank = rw (sym (told row-is source-is plain-is blank-is) ∙ no-blank) refl
 
 pub chosen-is : (t : Table) (source : ℕ → ℕ) (i c : ℕ) → c ≡ chosenFrom t i (source i) → c ≡ chosen t source i
 unfolding chosenFrom chosen blank

@@ -70,12 +70,12 @@ swept-more n z x w₀ w u b fits room e top s ask put =
 
     go : (i : ℕ) → x ≤ i → i < n → bit u (MARKS * 64 + i) ≡ false → (y : ℕ) → y < n → bit w₀ ((EDGE + i * GRID) * 64 + y) ≡ true → Dec (i ≡ x)
         → (i < y) × (bit u (MARKS * 64 + y) ≡ false)
-    go i a l h y m t (yes q) =
-        let r = ask .rises (here (rw q at h)) y (omega arith) (same y m ∙ rw q at t) in
+    go i past below-i unmarked y below-y edge (yes q) =
+        let r = ask .rises (here (rw q at unmarked)) y (omega arith) (same y below-y ∙ rw q at edge) in
         let f = r .0 in
         (omega arith, other y f ∙ r .1)
-    go i a l h y m t (no q) =
-        let r = s .rises i (omega arith) l (sym (other i (omega arith)) ∙ h) y m t in
+    go i past below-i unmarked y below-y edge (no q) =
+        let r = s .rises i (omega arith) below-i (sym (other i (omega arith)) ∙ unmarked) y below-y edge in
         let f = r .0 in
         (f, other y (omega arith) ∙ r .1)
 

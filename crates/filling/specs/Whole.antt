@@ -49,9 +49,9 @@ pub rows-filled : (b : List ℕ) (p : List (List ℕ)) (mode : Mode) (n : ℕ) (
     → z ≡ zeros u 0 WORK
     → (r ≡ fillAnswer (outcome (decode b p mode n) (sourceOf b))) × (z ≡ wiped w) × (d ≡ sourcesAfter (outcome (decode b p mode n) (sourceOf b)) c)
 unfolding decode
-rows-filled b p mode n src w v u z c d r listed room f a e =
+rows-filled b p mode n src w v u z c d r listed room located told cleared =
     let o = outcome-same (decode b p mode n) (sourceIn src) (sourceOf b) (λ i m. listed .each i m) in
-    (a .0 ∙ ap fillAnswer o, wiped-after w v u z room f (a .2) e, a .1 ∙ ap (λ (y : Outcome). sourcesAfter y c) o)
+    (told .0 ∙ ap fillAnswer o, wiped-after w v u z room located (told .2) cleared, told .1 ∙ ap (λ (y : Outcome). sourcesAfter y c) o)
 
 -- ---- laws: no outcome of such a table is a refusal
 

@@ -137,6 +137,22 @@ module _ (p : ℕ → Bool) where
       go (yes l) = not-both (least-is n .hit (omega arith)) (f (least n p) l)
       go (no l) = omega (arith, low)
 
+  -- none passes
+  pub least-off : (n : ℕ) → ((k : ℕ) → k < n → p k ≡ false) → least n p ≡ n
+  least-off n f = go (decLt (least n p) n)
+    where
+      go : Dec (least n p < n) → least n p ≡ n
+      go (yes l) = not-both (least-is n .hit l) (f (least n p) l)
+      go (no l) = omega (arith, least-is n .bound)
+
+  -- numbers that are passed over
+  pub least-pass : (j k : ℕ) → least j p ≡ j → ((m : ℕ) → j ≤ m → m < k → p m ≡ false) → least k p ≡ k
+  least-pass j k e f = least-off k (λ m h. go m h (decLt m j))
+    where
+      go : (m : ℕ) → m < k → Dec (m < j) → p m ≡ false
+      go m h (yes l) = least-is j .miss m (omega arith)
+      go m h (no l) = f m (omega arith) h
+
   -- a loop that found nothing so far
   pub least-none : least 0 p ≡ 0
   unfolding least
@@ -177,11 +193,7 @@ module _ {m n k : ℕ} {p : ℕ → Bool} (low : n ≤ m) (h : Least m p k) wher
   least-inside l = sym (least-unique p n k l (h .hit (omega arith)) (h .miss))
 
   pub least-outside : n ≤ k → n ≡ least n p
-  least-outside l = go (decLt (least n p) n)
-    where
-      go : Dec (least n p < n) → n ≡ least n p
-      go (yes o) = not-both (least-is p n .hit o) (h .miss (least n p) (omega arith))
-      go (no o) = let b = least-is p n .bound in omega arith
+  least-outside l = sym (least-off p n (λ j o. h .miss j (omega arith)))
 
 -- ---- whether the least is below the bound
 

@@ -98,7 +98,7 @@ module _ (r : ℕ → ℕ → Bool) where
   complete n {i} {j} (one e) = direct n i j e
   complete n {i} {j} (more {m = m} e l q) = meet n i m j l (direct n i m e) (complete n q)
 
-  -- THE CLOSURE FACT: Warshall's recursion is the transitive closure, for any relation and any bound
+  -- the closure fact: Warshall's recursion is the transitive closure, for any relation and any bound
   pub through-reach : (n i j : ℕ) → (through r n i j ≡ true) ↔ Reach r n i j
   through-reach n i j = (sound n n i j (omega arith), complete n)
 

@@ -152,7 +152,7 @@ module _ (n : ℕ) (e : ℕ → ℕ → Bool) where
       let b = s .1 in
       (s .0, omega arith, omega arith, s .2)
 
-  -- n STEPS ARE ENOUGH; c bounds the length of the way that is cut
+  -- n steps are enough; c bounds the length of the way that is cut
   enough : (c : ℕ) {x z : ℕ} {l : List ℕ} → length l ≤ c → z < n → 1 ≤ length l → Way n e x z l → (m : List ℕ) × (1 ≤ length m) × (length m ≤ n) × Way n e x z m
   enough zero h b s p = absurd (omega arith)
   enough (suc c) {x} {z} {l} h b s p = go (decLt n (length l)) (λ m. enough c {l = m})

@@ -70,7 +70,7 @@ module _ (r : ℕ → ℕ → Bool) (bound : ℕ) (hub : ℕ → Bool) (at : ℕ
   from-hub x c e (one f) = one (hop-in x c e f)
   from-hub x c e (more {m = m} f l q) = reach-hops x m c e l f q
 
-  -- THE HUB FACT: from a hub, the closure of the relation is the closure of the hops
+  -- the hub fact: from a hub, the closure of the relation is the closure of the hops
   pub through-hops : (x c : ℕ) → through (hop r hub at) n x c ≡ (hub x and through r bound (at x) (at c))
   through-hops x c =
       bool-ext _ _
@@ -125,7 +125,8 @@ through-own r s own at n e h (suc k) x c l o =
 pub own-cong : (r s : ℕ → ℕ → Bool) (own : ℕ → ℕ) (n bound : ℕ) → ((k : ℕ) → k < n → own k < bound) → ((x m : ℕ) → x < n → m < bound → r x m ≡ s x m)
     → (k x m : ℕ) → k ≤ n → x < n → m < bound → throughOwn r own k x m ≡ throughOwn s own k x m
 unfolding throughOwn
-own-cong r s own n bound e h zero x m l o q = h x m o q
-own-cong r s own n bound e h (suc k) x m l o q =
-    let f : (y j : ℕ) → y < n → j < bound → throughOwn r own k y j ≡ throughOwn s own k y j = λ y j. own-cong r s own n bound e h k y j (omega arith) in
-    rw (f x m o q, f x (own k) o (e k (omega arith)), f k m (omega arith) q) refl
+own-cong r s own n bound own-below agree zero x m up-to below-x below-m = agree x m below-x below-m
+own-cong r s own n bound own-below agree (suc k) x m up-to below-x below-m =
+    let f : (y j : ℕ) → y < n → j < bound → throughOwn r own k y j ≡ throughOwn s own k y j =
+    λ y j. own-cong r s own n bound own-below agree k y j (omega arith) in
+    rw (f x m below-x below-m, f x (own k) below-x (own-below k (omega arith)), f k m (omega arith) below-m) refl

@@ -5,12 +5,11 @@ use mathlib.Core.List.{List}
 use mathlib.Core.Logic.{_⊎_, inl, inr, ⊎-elim}
 use Prim.Native.Nat.{ℕ, _+_, _≤_, _<_}
 use native.Mathlib.Omega.{arith}
-use native.Mathlib.Decide.{decLt}
 use lib.ListN.{length}
 use lib.Dec.{ltb, leb, eqb}
 use borrow.Author.Tests.{eqb-true, leb-true, ltb-false, eq-eqb, le-ltb}
 use Rattle.finite.specs.Logic.{_and_, _or_, split, which, not-both, not-out, or-cases}
-use Rattle.finite.specs.Below.{least, least-is}
+use Rattle.finite.specs.Below.{least, least-is, least-off}
 use Rattle.model.specs.declared.Row.{Row}
 use Rattle.model.specs.declared.Admission.{Admission}
 use Rattle.model.specs.declared.Admission.the-variants.{Admitted, Refused}
@@ -85,17 +84,9 @@ not-false false q = not-both refl q
 module _ (f : ℕ → ℕ) (n : ℕ) where
   first-none : (next : Admission) → ((i : ℕ) → i < n → f i ≡ 0) → firstFault f n next ≡ next
   unfolding firstFault faulty
-  first-none next h = rw stop (simp (le-ltb n n (omega arith)))
-    where
-      p : ℕ → Bool
-      p i = not (eqb (f i) 0)
-
-      go : Dec (least n p < n) → least n p ≡ n
-      go (yes l) = not-both (eq-eqb _ _ (h (least n p) l)) (not-out _ (least-is p n .hit l))
-      go (no l) = let b : least n p ≤ n = least-is p n .bound in omega arith
-
-      stop : least n p ≡ n
-      stop = go (decLt (least n p) n)
+  first-none next h =
+      let stop = least-off (λ i. not (eqb (f i) 0)) n (λ i l. rw (eq-eqb (f i) 0 (h i l)) refl) in
+      rw stop (simp (le-ltb n n (omega arith)))
 
   first-admits : (next : Admission) {a r : ℕ} → firstFault f n next ≡ Admitted a r → ((i : ℕ) → i < n → f i ≡ 0) × (next ≡ Admitted a r)
   unfolding firstFault faulty

@@ -365,7 +365,7 @@ module _ (t : Table) (fair : Fair t) (free : NoRace t) where
         unfolding candidate
         source-candidate = and-true (and-true fits (not-in no-miss)) (not-in (any-not (between t y (source y)) (t .rows) nothing-between))
 
-      -- A CONSISTENT SOURCE OF A BLANK IS THE ONE THAT `choice` NAMES
+      -- a consistent source of a blank is the one that `choice` names
       pub choice-forced : (source y ≡ INITIAL) ⊎ (writerFits t y (source y) ≡ true) → source y ≡ choice t y
       unfolding choice
       choice-forced (inl e) = rw (initial-unwritten e) e

@@ -17,14 +17,15 @@ use Rattle.finite.specs.Lists.{tabulate, length-tabulate, getD-tabulate}
 use Rattle.model.specs.declared.Row.{Row}
 use Rattle.model.specs.Limits.{INITIAL}
 use Rattle.model.specs.Row.{PLAIN-READ, ATOMIC-READ, RMW, access, plainRead, reads, operation}
-use Rattle.model.specs.Table.{Table, HEADER, ROW-BYTES, pairAt, quadAt, countAt, versionAt, zeroAt, agentsAt, rowsAt, hasHosts, placesOf, rowsBegin}
+use Rattle.model.specs.Table.{Table, HEADER, ROW-BYTES, pairAt, quadAt, countAt, zeroAt, agentsAt, rowsAt, hasHosts, placesOf, rowsBegin}
 use Rattle.model.specs.Table.{rowsEnd, sizeOf, rowBytes, byteOf, rowOf, sourceOf, decode, tableUnder, tableOf, sourcesOf, dependencyBytes}
 use Rattle.model.specs.Refusal.{versionFits, limitsFit, lengthFits, agentsKnown, dependenciesFew, namesNone, dependenciesNamed, hostsFault}
 use Rattle.model.specs.Refusal.{headerFault, kindFits, formFault, rowFault, rowFaultAt, sourceBroken, tableFault}
 use Rattle.model.specs.Fill.{blank}
 use Rattle.model.specs.Words.{blankAt, sourceBegin, Filling}
 use Rattle.laws.specs.AdmissionLaws.{Sound, length-is, rows-fit, among-right, access-no-operation}
-use Rattle.laws.specs.FillingLaws.{begin-header, head-kept, version-kept, hosts-kept, agents-kept, rows-kept, begin-kept, places-kept, row-kept}
+use Rattle.laws.specs.HeadLaws.{begin-header, rows-same, begin-same}
+use Rattle.laws.specs.FillingLaws.{head-kept, version-kept, hosts-kept, agents-kept, rows-kept, begin-kept, places-kept, row-kept}
 use Rattle.laws.specs.FillingLaws.{end-kept, rows-end-kept, count-kept, from-kept, to-kept, source-kept, table-kept, bytes-at, bytes-past}
 use Rattle.laws.specs.FillingLaws.{pair-is}
 
@@ -361,12 +362,10 @@ module _ (s : List ℕ) (bytes : Bytes s) (h : Sound true s) (source : ℕ → �
       go (no l) (no m) = past-at k (omega arith)
 
   filled-begin : rowsBegin f ≡ rowsBegin s
-  unfolding rowsBegin hasHosts versionAt agentsAt
-  filled-begin = let b = begin-header s in rw (head-at 4 (omega arith), head-at 5 (omega arith)) refl
+  filled-begin = begin-same s f head-at
 
   filled-rows : rowsAt f ≡ rowsAt s
-  unfolding rowsAt
-  filled-rows = let b = begin-header s in head-at 6 (omega arith)
+  filled-rows = rows-same s f head-at
 
   -- a blank gets its source
   pub filled-source : (i : ℕ) → i < rowsAt s → blankAt s i ≡ true → sourcesOf f i ≡ source i

@@ -2,28 +2,29 @@
 -- blanks. Assumes nothing.
 use mathlib.Core.Path.{_≡_, refl, sym, ap, ap₂, _∙_, fun-ext}
 use mathlib.Core.Bool.{Bool, true, false, cond}
-use mathlib.Core.List.{List, [], _∷_}
+use mathlib.Core.List.{List}
 use mathlib.Core.Logic.{_⊎_, inl, inr, ⊎-elim}
 use Prim.Native.Nat.{ℕ, _+_, _*_, _≤_, _<_}
 use native.Mathlib.Omega.{arith}
 use native.Mathlib.Decide.{decLt}
 use lib.ListN.{getD, take, drop, length-take, List·getD-eq-default}
 use lib.Seq.{getD-drop, getD-take}
-use lib.Dec.{ltb, leb, eqb}
-use borrow.Author.Tests.{eqb-true, leb-true, le-ltb}
+use lib.Dec.{leb, eqb}
+use borrow.Author.Tests.{eqb-true, leb-true}
 use Rattle.finite.specs.Logic.{_and_, _or_, split, which, not-both}
 use Rattle.finite.specs.Lists.{tabulate-cong}
 use Rattle.model.specs.declared.Row.{Row}
-use Rattle.model.specs.Limits.{AGENTS, DEPENDENCIES, INITIAL, BLANK}
+use Rattle.model.specs.Limits.{DEPENDENCIES, INITIAL, BLANK}
 use Rattle.model.specs.Row.{PLAIN-READ, ATOMIC-READ, atomic, plainRead}
-use Rattle.model.specs.Table.{Table, HEADER, PLACE-BYTES, HOSTS-PLACE-BYTES, DEPENDENCY-BYTES, ROW-BYTES, pairAt, versionAt, agentsAt, rowsAt}
-use Rattle.model.specs.Table.{hasHosts, threeAt, fourAt, placeAt, slotAt, placesOf, rowsBegin, rowsEnd, rowBytes, dependencyBytes, byteOf, pairOf}
+use Rattle.model.specs.Table.{Table, DEPENDENCY-BYTES, ROW-BYTES, pairAt, versionAt, agentsAt, rowsAt}
+use Rattle.model.specs.Table.{hasHosts, placesOf, rowsBegin, rowsEnd, rowBytes, dependencyBytes, byteOf, pairOf}
 use Rattle.model.specs.Table.{rowOf, sourceOf, atomicSource, dependencyCount, dependencyEnd, dependencyFrom, dependencyTo, dependsOf, decode}
 use Rattle.model.specs.Table.{tableUnder, tableOf, sourcesOf, modeOf, COUNTED}
 use Rattle.model.specs.Location.{before}
 use Rattle.model.specs.Race.{conflict, races, unordered}
 use Rattle.model.specs.Fill.{blank}
 use Rattle.model.specs.Words.{blankAt, sourceBegin, Filling}
+use Rattle.laws.specs.HeadLaws.{version-same, hosts-same, agents-same, rows-same, begin-same, places-same, counted-same}
 
 -- an atomic row has no blank
 atomic-not-blank : (r : Row) → atomic r ≡ true → plainRead r ≡ true → ⊥
@@ -32,18 +33,6 @@ atomic-not-blank r a p =
     let k : r .kind ≡ PLAIN-READ = eqb-true (r .kind) PLAIN-READ p in
     let l : ATOMIC-READ ≤ r .kind = leb-true ATOMIC-READ (r .kind) (split a .0) in
     omega arith
-
--- where the rows begin
-pub begin-hosts : (s : List ℕ) → hasHosts s ≡ true → rowsBegin s ≡ HEADER + HOSTS-PLACE-BYTES * agentsAt s
-unfolding rowsBegin
-begin-hosts s e = rw e refl
-
-pub begin-plain : (s : List ℕ) → hasHosts s ≡ false → rowsBegin s ≡ HEADER + PLACE-BYTES * agentsAt s
-unfolding rowsBegin
-begin-plain s e = rw e refl
-
-pub begin-header : (s : List ℕ) → HEADER ≤ rowsBegin s
-begin-header s = ⊎-elim (λ e. let b = begin-hosts s e in omega arith) (λ e. let b = begin-plain s e in omega arith) (which (hasHosts s))
 
 -- byte k of row i, in the bytes of the table; past the rows there is none
 pub bytes-past : (g : List ℕ) (i k : ℕ) → rowsAt g ≤ i → byteOf (rowBytes g) i k ≡ 0
@@ -98,80 +87,26 @@ module _ {s f : List ℕ} (fl : Filling s f) where
 
   -- ---- the header and the places
 
-  header-byte : (k : ℕ) → k < HEADER → getD f k 0 ≡ getD s k 0
-  header-byte k l = let b = begin-header s in head-kept k (omega arith)
-
   pub version-kept : versionAt f ≡ versionAt s
-  unfolding versionAt
-  version-kept = header-byte 4 (omega arith)
+  version-kept = version-same s f head-kept
 
   pub hosts-kept : hasHosts f ≡ hasHosts s
-  unfolding hasHosts
-  hosts-kept = rw version-kept refl
+  hosts-kept = hosts-same s f head-kept
 
   pub agents-kept : agentsAt f ≡ agentsAt s
-  unfolding agentsAt
-  agents-kept = header-byte 5 (omega arith)
+  agents-kept = agents-same s f head-kept
 
   pub rows-kept : rowsAt f ≡ rowsAt s
-  unfolding rowsAt
-  rows-kept = header-byte 6 (omega arith)
+  rows-kept = rows-same s f head-kept
 
   pub begin-kept : rowsBegin f ≡ rowsBegin s
-  unfolding rowsBegin
-  begin-kept = rw (hosts-kept, agents-kept) refl
-
-  pair-head : (k : ℕ) → k + 1 < rowsBegin s → pairAt f k ≡ pairAt s k
-  unfolding pairAt
-  pair-head k h = rw (head-kept k (omega arith), head-kept (k + 1) h) refl
-
-  three-kept : (a : ℕ) → a < agentsAt s → hasHosts s ≡ false → threeAt f a ≡ threeAt s a
-  unfolding threeAt
-  three-kept a l e =
-      let b = begin-plain s e in
-      rw (
-        pair-head (HEADER + a * PLACE-BYTES + 0) (omega arith),
-        pair-head (HEADER + a * PLACE-BYTES + 2) (omega arith),
-        pair-head (HEADER + a * PLACE-BYTES + 4) (omega arith),
-      )
-      refl
-
-  four-kept : (a : ℕ) → a < agentsAt s → hasHosts s ≡ true → fourAt f a ≡ fourAt s a
-  unfolding fourAt
-  four-kept a l e =
-      let b = begin-hosts s e in
-      rw (
-        pair-head (HEADER + a * HOSTS-PLACE-BYTES + 0) (omega arith),
-        pair-head (HEADER + a * HOSTS-PLACE-BYTES + 2) (omega arith),
-        pair-head (HEADER + a * HOSTS-PLACE-BYTES + 4) (omega arith),
-        pair-head (HEADER + a * HOSTS-PLACE-BYTES + 6) (omega arith),
-      )
-      refl
-
-  place-kept : (a : ℕ) → a < agentsAt s → placeAt f a ≡ placeAt s a
-  unfolding placeAt
-  place-kept a l = rw hosts-kept (⊎-elim at-hosts at-plain (which (hasHosts s)))
-    where
-      at-hosts : hasHosts s ≡ true → cond (hasHosts s) (fourAt f a) (threeAt f a) ≡ cond (hasHosts s) (fourAt s a) (threeAt s a)
-      at-hosts e = rw e (four-kept a l e)
-
-      at-plain : hasHosts s ≡ false → cond (hasHosts s) (fourAt f a) (threeAt f a) ≡ cond (hasHosts s) (fourAt s a) (threeAt s a)
-      at-plain e = rw e (three-kept a l e)
-
-  slot-kept : (a : ℕ) → slotAt f a ≡ slotAt s a
-  unfolding slotAt
-  slot-kept a = rw agents-kept (go (decLt a (agentsAt s)))
-    where
-      go : Dec (a < agentsAt s) → cond (ltb a (agentsAt s)) (placeAt f a) (0 ∷ 0 ∷ 0 ∷ 0 ∷ []) ≡ cond (ltb a (agentsAt s)) (placeAt s a) (0 ∷ 0 ∷ 0 ∷ 0 ∷ [])
-      go (yes l) = rw (place-kept a l) refl
-      go (no l) = simp (le-ltb a (agentsAt s) (omega arith))
+  begin-kept = begin-same s f head-kept
 
   pub places-kept : placesOf f ≡ placesOf s
-  unfolding placesOf
-  places-kept = tabulate-cong (slotAt f) (slotAt s) AGENTS (λ a l. slot-kept a)
+  places-kept = places-same s f head-kept
 
   counted-kept : leb COUNTED (versionAt f) ≡ leb COUNTED (versionAt s)
-  counted-kept = rw version-kept refl
+  counted-kept = counted-same s f head-kept
 
   -- ---- the rows
 
@@ -275,7 +210,7 @@ module _ {s f : List ℕ} (fl : Filling s f) where
 
   -- ---- what the rules of order read
 
-  -- A FILLING CHANGES NOTHING THAT THE RULES OF ORDER READ
+  -- a filling changes nothing that the rules of order read
   pub under-kept : (chains : Bool) → tableUnder chains f ≡ tableUnder chains s
   unfolding tableUnder decode
   under-kept chains =

@@ -1,4 +1,5 @@
 pub mod HappensLaws
+pub mod HeadLaws
 pub mod FillingLaws
 pub mod AdmissionLaws
 pub mod RaceLaws

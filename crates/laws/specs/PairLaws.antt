@@ -151,14 +151,14 @@ module _ (t : Table) where
   pub either-way : ((x y : ℕ) → x < y → y < t .rows → Races t x y → ⊥) → (x y b : ℕ) → x < t .rows → y < t .rows → (x ≡ y → ⊥)
       → common (t .row x) (t .row y) b ≡ true → (writes (t .row x) ≡ true) ⊎ (writes (t .row y) ≡ true) → mutually t x y ≡ false
       → (before t x y b ≡ true) ⊎ (before t y x b ≡ true)
-  either-way free x y b l m n c w f =
+  either-way free x y b below-x below-y apart shared one-writes not-mutual =
       ⊎-elim (λ e. inl e) (λ e. ⊎-elim (λ g. inr g) (λ g. absurd (go e g (decLt x y))) (which (before t y x b))) (which (before t x y b))
     where
       go : before t x y b ≡ false → before t y x b ≡ false → Dec (x < y) → ⊥
-      go e g (yes k) = free x y k m (conflict-in x y b n c w, f, (b, (c, e, g)))
+      go e g (yes k) = free x y k below-y (conflict-in x y b apart shared one-writes, not-mutual, (b, (shared, e, g)))
       go e g (no k) =
-          free y x (omega arith) l (
-            conflict-in y x b (λ q. n (sym q)) (common-sym (t .row x) (t .row y) b c) (⊎-elim (λ h. inr h) (λ h. inl h) w),
-            mutually-not x y f,
-            (b, (common-sym (t .row x) (t .row y) b c, g, e)),
+          free y x (omega arith) below-x (
+            conflict-in y x b (λ q. apart (sym q)) (common-sym (t .row x) (t .row y) b shared) (⊎-elim (λ h. inr h) (λ h. inl h) one-writes),
+            mutually-not x y not-mutual,
+            (b, (common-sym (t .row x) (t .row y) b shared, g, e)),
           )

@@ -39,7 +39,7 @@ module _ (later : ℕ → ℕ → Bool) (passes : ℕ → Type 0) (key : ℕ →
       go a b p q n (no l) (no m) = absurd (n (own a b p q (omega arith)))
 
       over : (a b c : ℕ) → passes a → passes b → passes c → key b < key a → key c < key b → later a c ≡ true
-      over a b c p q r x y = by-key a c p r ∙ lt-ltb (key c) (key a) (omega arith)
+      over a b c passes-a passes-b passes-c b-below-a c-below-b = by-key a c passes-a passes-c ∙ lt-ltb (key c) (key a) (omega arith)
 
 -- ---- laws: both versions compare by a key
 

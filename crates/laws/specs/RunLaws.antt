@@ -76,7 +76,7 @@ module _ (member : ℕ → Bool) (rank : ℕ → ℕ) (n : ℕ) where
       -- from the member that lies first in the run, each other lies no further
       closer : (a b : ℕ) → a < COUNTS → b < COUNTS → c < COUNTS → age a c < RUN → age b c ≤ age a c → age a b < RUN
       unfolding age
-      closer a b p q r s t = omega arith
+      closer a b small-a small-b small-c in-run nearer = omega arith
 
       pub fits-in : fits ≡ true
       unfolding fits beginsRun outsideRun aged _and_

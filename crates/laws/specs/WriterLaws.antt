@@ -127,15 +127,15 @@ module _ (t : Table) where
         yz = q .4
 
         from : (i : ℕ) → i < t .rows → ranked (t .row i) ≡ true → x ≤ i → y ≤ i → z ≤ i → sameLocation (t .row i) (t .row x) ≡ true → Three x y z
-        from i l r a b d e =
-            let w = run i l c r in
-            let ey = same-trans (t .row i) (t .row x) (t .row y) e xy in
+        from i below-i is-ranked from-x from-y from-z same =
+            let w = run i below-i c is-ranked in
+            let ey = same-trans (t .row i) (t .row x) (t .row y) same xy in
             let ez = same-trans (t .row i) (t .row y) (t .row z) ey yz in (
               w .0,
               w .1,
-              (small x xl, w .2 x a (member i x (p .2) e)),
-              (small y yl, w .2 y b (member i y (p .3) ey)),
-              (small z zl, w .2 z d (member i z (q .3) ez)),
+              (small x xl, w .2 x from-x (member i x (p .2) same)),
+              (small y yl, w .2 y from-y (member i y (p .3) ey)),
+              (small z zl, w .2 z from-z (member i z (q .3) ez)),
             )
 
         at-x : y ≤ x → z ≤ x → Three x y z

@@ -403,7 +403,8 @@ touch-kept s c w v m f =
 pub touch-made : (r o : Row) (q c a x : ℕ) (d e f : Bool) (w v z u : List ℕ) → r ≡ o → c ≡ single q → d ≡ touches c r 0 → v ≡ setBitIf d w (a * 64 + 3 * x)
     → e ≡ touches c r 1 → z ≡ setBitIf e v (a * 64 + (3 * x + 1)) → f ≡ touches c r 2 → u ≡ setBitIf f z (a * 64 + (3 * x + 2)) → u ≡ touchWords o q a x w
 unfolding touchWords
-touch-made r o q c a x d e f w v z u same of g b k h i j = rw (← same, ← of, ← g, ← k, ← i, ← b, ← h) j
+touch-made r o q c a x d e f w v z u same of first-is first-put second-is second-put third-is third-put =
+    rw (← same, ← of, ← first-is, ← second-is, ← third-is, ← first-put, ← second-put) third-put
 
 pub release-made : (w v u : List ℕ) → WORK ≤ length w → v ≡ zeros w RELEASE (RELEASE + MOMENTS - RELEASE)
     → u ≡ meetRow v RELEASE HOLD RELEASING MOMENTS → ReleaseMade w u

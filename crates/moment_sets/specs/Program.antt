@@ -322,7 +322,8 @@ pass-skip b a m w e = rw e refl
 pub row-made : (r q : Row) (x : ℕ) (d e f : Bool) (w v z u : List ℕ) → r ≡ q → d ≡ momentOf r 2 → v ≡ passWords d (r .agent) (3 * x + 2) w
     → e ≡ momentOf r 1 → z ≡ passWords e (r .agent) (3 * x + 1) v → f ≡ momentOf r 0 → u ≡ passWords f (r .agent) (3 * x) z → u ≡ passRow q x w
 unfolding passRow
-row-made r q x d e f w v z u s a b c g h i = rw (← s, ← a, ← c, ← h, ← b, ← g) i
+row-made r q x d e f w v z u same last-is last-put middle-is middle-put first-is first-put =
+    rw (← same, ← last-is, ← middle-is, ← first-is, ← last-put, ← middle-put) first-put
 
 module _ (b : List ℕ) (n j x : ℕ) (w v u : List ℕ) (few : n ≤ ROWS) (room : WORK ≤ length v) (l : j < n) (is : x ≡ n - 1 - j)
     (made : (u ≡ passRow (rowOf b x) x v) × (rowOf b x .agent < NUMBERS)) where

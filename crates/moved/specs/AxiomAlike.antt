@@ -91,7 +91,7 @@ module _ {t u : Table} {π : Renumbering (t .rows)} (M : Alike t u π) where
     unfolding overReader
     unread-alike = least-stops (u .rows) (isOverwritten u b) ∙ ap not readers ∙ sym (least-stops (t .rows) (isOverwritten t a))
 
-    -- CONSISTENT OF BOTH OR OF NEITHER
+    -- consistent of both or of neither
     pub consistent-alike : consistent u b ≡ consistent t a
     unfolding consistent
     consistent-alike = ap₂ _and_ acyclic-alike unread-alike

@@ -101,7 +101,7 @@ module _ {t u : Table} {π : Renumbering (t .rows)} (M : Alike t u π) where
       unfolding blank
       blank-plain i e = split e .0
 
-      -- THE CHOSEN SOURCES ARE THE OTHER'S, RENUMBERED
+      -- the chosen sources are the other's, renumbered
       pub chosen-alike : (i : ℕ) → i < t .rows → chosen u b (π .to i) ≡ π .to (chosen t a i)
       unfolding chosen
       chosen-alike i l = rw (blank-alike i l) (go (which (blank t a i)))

@@ -1,24 +1,24 @@
 -- A table whose bytes are moved is alike: the only page of the proof that knows where a byte stands. Assumes nothing.
 use mathlib.Core.Path.{_≡_, refl, sym, ap₂, _∙_}
 use mathlib.Core.Bool.{Bool, true, false, cond}
-use mathlib.Core.List.{List, [], _∷_}
+use mathlib.Core.List.{List}
 use mathlib.Core.Logic.{_⊎_, inl, inr, ⊎-elim}
 use Prim.Native.Nat.{ℕ, _+_, _*_, _≤_, _<_}
 use native.Mathlib.Omega.{arith}
 use native.Mathlib.Decide.{decLt}
 use lib.ListN.{getD}
-use lib.Dec.{ltb, leb}
-use borrow.Author.Tests.{le-ltb}
-use Rattle.finite.specs.Logic.{_and_, which}
+use lib.Dec.{leb}
+use Rattle.finite.specs.Logic.{_and_}
 use Rattle.finite.specs.Below.{any-cong}
-use Rattle.finite.specs.Lists.{tabulate, tabulate-cong, getD-tabulate}
-use Rattle.model.specs.Limits.{AGENTS, DEPENDENCIES, INITIAL, ROWS}
+use Rattle.finite.specs.Lists.{tabulate, getD-tabulate}
+use Rattle.model.specs.Limits.{DEPENDENCIES, INITIAL, ROWS}
 use Rattle.model.specs.Row.{atomic}
-use Rattle.model.specs.Table.{HEADER, PLACE-BYTES, ROW-BYTES, COUNTED, HOSTS-PLACE-BYTES, pairAt, versionAt, agentsAt, rowsAt, hasHosts, threeAt}
-use Rattle.model.specs.Table.{fourAt, placeAt, slotAt, placesOf, modeOf, rowsBegin, rowBytes, dependencyBytes, byteOf, pairOf, rowOf, sourceOf}
+use Rattle.model.specs.Table.{ROW-BYTES, COUNTED, versionAt, rowsAt}
+use Rattle.model.specs.Table.{placesOf, modeOf, rowsBegin, rowBytes, dependencyBytes, byteOf, pairOf, rowOf, sourceOf}
 use Rattle.model.specs.Table.{atomicSource, dependencyCount, dependencyFrom, dependencyTo, dependency, dependsOf, decode, tableUnder, sourcesOf}
 use Rattle.laws.specs.AdmissionLaws.{Sound, dependencies-fit, rows-fit, size-fits}
-use Rattle.laws.specs.FillingLaws.{begin-hosts, begin-plain, begin-header, bytes-at, bytes-past, pair-is}
+use Rattle.laws.specs.HeadLaws as header
+use Rattle.laws.specs.FillingLaws.{bytes-at, bytes-past, pair-is}
 use Rattle.laws.specs.RaceLaws.{Sized}
 use Rattle.moved.specs.Renumber.{Renumbering, to-below, eqb-to}
 use Rattle.moved.specs.Moved.{Moved}
@@ -60,80 +60,17 @@ of-table chains s π =
 module _ {blanks : Bool} {s s′ : List ℕ} {π : Renumbering (rowsAt s)} (m : Moved s s′ π) (h : Sound blanks s) (h′ : Sound blanks s′) where
   -- ---- the header and the places
 
-  header-same : (k : ℕ) → k < HEADER → getD s′ k 0 ≡ getD s k 0
-  header-same k l = let b = begin-header s in m .head k (omega arith)
-
-  version-same : versionAt s′ ≡ versionAt s
-  unfolding versionAt
-  version-same = header-same 4 (omega arith)
-
-  hosts-same : hasHosts s′ ≡ hasHosts s
-  unfolding hasHosts
-  hosts-same = rw version-same refl
-
   counted-same : leb COUNTED (versionAt s′) ≡ leb COUNTED (versionAt s)
-  counted-same = rw version-same refl
-
-  agents-same : agentsAt s′ ≡ agentsAt s
-  unfolding agentsAt
-  agents-same = header-same 5 (omega arith)
+  counted-same = header.counted-same s s′ (m .head)
 
   pub rows-same : rowsAt s′ ≡ rowsAt s
-  unfolding rowsAt
-  rows-same = header-same 6 (omega arith)
+  rows-same = header.rows-same s s′ (m .head)
 
   begin-same : rowsBegin s′ ≡ rowsBegin s
-  unfolding rowsBegin
-  begin-same = rw (hosts-same, agents-same) refl
-
-  pair-head : (k : ℕ) → k + 1 < rowsBegin s → pairAt s′ k ≡ pairAt s k
-  unfolding pairAt
-  pair-head k l = rw (m .head k (omega arith), m .head (k + 1) l) refl
-
-  three-same : (a : ℕ) → a < agentsAt s → hasHosts s ≡ false → threeAt s′ a ≡ threeAt s a
-  unfolding threeAt
-  three-same a l e =
-      let b = begin-plain s e in
-      rw (
-        pair-head (HEADER + a * PLACE-BYTES + 0) (omega arith),
-        pair-head (HEADER + a * PLACE-BYTES + 2) (omega arith),
-        pair-head (HEADER + a * PLACE-BYTES + 4) (omega arith),
-      )
-      refl
-
-  four-same : (a : ℕ) → a < agentsAt s → hasHosts s ≡ true → fourAt s′ a ≡ fourAt s a
-  unfolding fourAt
-  four-same a l e =
-      let b = begin-hosts s e in
-      rw (
-        pair-head (HEADER + a * HOSTS-PLACE-BYTES + 0) (omega arith),
-        pair-head (HEADER + a * HOSTS-PLACE-BYTES + 2) (omega arith),
-        pair-head (HEADER + a * HOSTS-PLACE-BYTES + 4) (omega arith),
-        pair-head (HEADER + a * HOSTS-PLACE-BYTES + 6) (omega arith),
-      )
-      refl
-
-  place-same : (a : ℕ) → a < agentsAt s → placeAt s′ a ≡ placeAt s a
-  unfolding placeAt
-  place-same a l = rw hosts-same (⊎-elim at-hosts at-plain (which (hasHosts s)))
-    where
-      at-hosts : hasHosts s ≡ true → cond (hasHosts s) (fourAt s′ a) (threeAt s′ a) ≡ cond (hasHosts s) (fourAt s a) (threeAt s a)
-      at-hosts e = rw e (four-same a l e)
-
-      at-plain : hasHosts s ≡ false → cond (hasHosts s) (fourAt s′ a) (threeAt s′ a) ≡ cond (hasHosts s) (fourAt s a) (threeAt s a)
-      at-plain e = rw e (three-same a l e)
-
-  slot-same : (a : ℕ) → slotAt s′ a ≡ slotAt s a
-  unfolding slotAt
-  slot-same a = rw agents-same (go (decLt a (agentsAt s)))
-    where
-      go : Dec (a < agentsAt s) → cond (ltb a (agentsAt s)) (placeAt s′ a) (0 ∷ 0 ∷ 0 ∷ 0 ∷ []) ≡ cond (ltb a (agentsAt s)) (placeAt s a) (0 ∷ 0 ∷ 0 ∷ 0 ∷ [])
-      go (yes l) = rw (place-same a l) refl
-      go (no l) = simp (le-ltb a (agentsAt s) (omega arith))
+  begin-same = header.begin-same s s′ (m .head)
 
   places-same : placesOf s′ ≡ placesOf s
-  unfolding placesOf
-  places-same = tabulate-cong (slotAt s′) (slotAt s) AGENTS (λ a l. slot-same a)
+  places-same = header.places-same s s′ (m .head)
 
   -- ---- the rows
 
@@ -236,7 +173,7 @@ module _ {blanks : Bool} {s s′ : List ℕ} {π : Renumbering (rowsAt s)} (m : 
       go (no p) (yes d) = let e = π .others j (omega arith) in let f = to-below π i d in omega arith
       go (no p) (no d) = let e = π .others j (omega arith) in let f = π .others i (omega arith) in omega arith
 
-  -- A MOVED TABLE IS ALIKE, WITH CHAINS AND WITHOUT
+  -- a moved table is alike, with chains and without
   pub moved-alike : (chains : Bool) → Alike (tableUnder chains s) (tableUnder chains s′) (of-table chains s π)
   unfolding tableUnder decode modeOf
   moved-alike chains =

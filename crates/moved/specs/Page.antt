@@ -35,7 +35,7 @@ use Rattle.moved.specs.VerdictAlike.{race, none, filled}
 -- ---- the theorems
 
 module _ (chains : Bool) (s s′ : List ℕ) (π : Renumbering (rowsAt s)) (moved : Moved s s′ π) (work buffer work′ buffer′ : ℕ) where
-  -- CHECK, WHERE NOTHING IS BLANK, SAYS RACE-FREE, RACE OR INCONSISTENT OF BOTH ALIKE
+  -- check, where nothing is blank, says race-free, race or inconsistent of both alike
   pub check-alike : buffersFit CYCLE work buffer ≡ true → buffersFit CYCLE work′ buffer′ ≡ true → WellFormed s → WellFormed s′
       → checkWord (check chains s′ work′ buffer′) ≡ checkWord (check chains s work buffer)
   unfolding check whenAdmitted
@@ -78,7 +78,7 @@ module _ (chains : Bool) (s s′ : List ℕ) (π : Renumbering (rowsAt s)) (move
     passing-alike e = passes-alike alike (few-of chains h) (sized-of chains h) (sized-of chains h′) (sourcesOf s) (sourcesOf s′)
         (sources-moved moved h h′ chains) (fair chains s bytes well) (calm e)
 
-    -- FILL SAYS RACE, NONE OR FILLED OF BOTH ALIKE
+    -- fill says race, none or filled of both alike
     pub fill-alike : fillWord (fill chains s′ work′ buffer′) ≡ fillWord (fill chains s work buffer)
     fill-alike =
         ap fillWord fill-is′ ∙ settled-word _ _ _ _ _ _ ∙ go (which (racing (tableUnder chains s))) ∙ sym (settled-word _ _ _ _ _ _) ∙ ap fillWord (sym fill-is)
@@ -89,7 +89,7 @@ module _ (chains : Bool) (s s′ : List ℕ) (π : Renumbering (rowsAt s)) (move
         go (inl e) = rw (races-alike, e) refl
         go (inr e) = rw (races-alike, passing-alike e) refl
 
-    -- AND THE SOURCES THAT IT WRITES FOR ONE ARE THE OTHER'S, MOVED AND RENUMBERED
+    -- and the sources that it writes for one are the other's, moved and renumbered
     pub fill-sources : (l : List ℕ) → fill chains s work buffer ≡ Fill.filled l
         → (l′ : List ℕ) × (fill chains s′ work′ buffer′ ≡ Fill.filled l′) × (length l ≡ rowsAt s) × (length l′ ≡ rowsAt s)
         × ((i : ℕ) → i < rowsAt s → getD l′ (π .to i) 0 ≡ π .to (getD l i 0))

@@ -98,6 +98,6 @@ module _ {t u : Table} {π : Renumbering (t .rows)} (M : Alike t u π) where
       (λ q. let e : r .0 ≡ r .1 = sym (π .to-back (r .0)) ∙ ap (π .to) q ∙ π .to-back (r .1) in omega arith)
       (here (π .back (r .0)) (π .back (r .1)) (rw (π .to-back (r .0), π .to-back (r .1)) (r .4)))
 
-  -- A RACE IS SAID OF BOTH OR OF NEITHER
+  -- a race is said of both or of neither
   pub race-alike : Sized t → Sized u → ltb (raceRow u) (u .rows) ≡ ltb (raceRow t) (t .rows)
   race-alike p q = bool-ext _ _ (λ e. race-said t p .1 (some-here (race-said u q .0 e))) (λ e. race-said u q .1 (some-there (race-said t p .0 e)))

@@ -79,10 +79,10 @@ module _ (b : List ℕ) (p : List (List ℕ)) (mode : Mode) (n : ℕ) where
 pub ordered-made : {t : Table} {n : ℕ} {w v x u : List ℕ} → MadeSynced t n w v
     → Made HAPPENS HAPPENS-END HAPPENS MOMENTS (3 * n) (programOrder t) v x → Synced t n u
     → Holds HAPPENS MOMENTS (3 * n) (upTo t CLASS-SETS) u → Within HAPPENS STEP-END x u → MadeOrdered t n w u
-ordered-made {t} m o k h f =
+ordered-made {t} synced program kept closed frame =
     record {
-      ordered = record { mutuals = k .mutuals; happening = holds-cong (λ i j p q. upTo-all t i j) h };
-      frame = within-trans (within-widen MUTUAL STEP-END (omega arith) (omega arith) (m .frame))
-          (within-trans (within-widen MUTUAL STEP-END (omega arith) (omega arith) (o .frame))
-          (within-widen MUTUAL STEP-END (omega arith) (omega arith) f));
+      ordered = record { mutuals = kept .mutuals; happening = holds-cong (λ i j p q. upTo-all t i j) closed };
+      frame = within-trans (within-widen MUTUAL STEP-END (omega arith) (omega arith) (synced .frame))
+          (within-trans (within-widen MUTUAL STEP-END (omega arith) (omega arith) (program .frame))
+          (within-widen MUTUAL STEP-END (omega arith) (omega arith) frame));
     }

@@ -122,9 +122,9 @@ cell-made b n s m k i c d w u few room l o e f at put =
     sound : (p : List (List ℕ)) (mode : Mode) → Synced (decode b p mode n) n w → (x y : ℕ) → x < 3 * n → y < 3 * n → rel u STEP MOMENTS x y ≡ true
         → Dec (x ≡ m) → Dec (y ≡ k)
         → (rel w STEP MOMENTS x y or step₁ (decode b p mode n) s x y) ≡ true
-    sound p mode t x y q r h (yes a) (yes z) = rw (a, z, ← is p mode t, ← one) (rw (a, z) at h)
-    sound p mode t x y q r h (yes a) (no z) = or-left _ (sym (rest x y q r (λ v. z (v .1))) ∙ h)
-    sound p mode t x y q r h (no a) z = or-left _ (sym (rest x y q r (λ v. a (v .0))) ∙ h)
+    sound p mode synced x y below-x below-y on (yes a) (yes z) = rw (a, z, ← is p mode synced, ← one) (rw (a, z) at on)
+    sound p mode synced x y below-x below-y on (yes a) (no z) = or-left _ (sym (rest x y below-x below-y (λ v. z (v .1))) ∙ on)
+    sound p mode synced x y below-x below-y on (no a) z = or-left _ (sym (rest x y below-x below-y (λ v. a (v .0))) ∙ on)
 
 -- ---- laws: the moments at the other end
 
@@ -133,25 +133,26 @@ row-none b n s m w = record { grown = grown-none b n s w; from = λ p mode y j l
 
 pub row-more : (b : List ℕ) (n s m k : ℕ) (w v x u : List ℕ) → m < 3 * n → k < 3 * n → RowMade b n s m k w v → CellMade b n s m k v x → CellMade b n s k m x u
     → RowMade b n s m (k + 1) w u
-row-more b n s m k w v x u l o h c d =
+row-more b n s m k w v x u below-m below-k made there back =
     record {
-      grown = grown-more (h .grown) both;
+      grown = grown-more (made .grown) both;
       from = λ p mode y j q e. from p mode y j q e (ℕ-discrete j k);
       to = λ p mode y j q e. to p mode y j q e (ℕ-discrete j k);
     }
   where
     both : Grown b n s v u
-    both = grown-more (c .grown) (d .grown)
+    both = grown-more (there .grown) (back .grown)
 
     from : (p : List (List ℕ)) (mode : Mode) → Synced (decode b p mode n) n w → (j : ℕ) → j < k + 1 → step₁ (decode b p mode n) s m j ≡ true → Dec (j ≡ k)
         → rel u STEP MOMENTS m j ≡ true
-    from p mode y j q e (yes a) = rw a (d .grown .kept m k l o (c .set p mode (synced-on p mode (h .grown) y) (rw a at e)))
-    from p mode y j q e (no a) = both .kept m j l (omega arith) (h .from p mode y j (omega arith) e)
+    from p mode synced j below-j stepped (yes a) =
+        rw a (back .grown .kept m k below-m below-k (there .set p mode (synced-on p mode (made .grown) synced) (rw a at stepped)))
+    from p mode synced j below-j stepped (no a) = both .kept m j below-m (omega arith) (made .from p mode synced j (omega arith) stepped)
 
     to : (p : List (List ℕ)) (mode : Mode) → Synced (decode b p mode n) n w → (j : ℕ) → j < k + 1 → step₁ (decode b p mode n) s j m ≡ true → Dec (j ≡ k)
         → rel u STEP MOMENTS j m ≡ true
-    to p mode y j q e (yes a) = rw a (d .set p mode (synced-on p mode (grown-more (h .grown) (c .grown)) y) (rw a at e))
-    to p mode y j q e (no a) = both .kept j m (omega arith) l (h .to p mode y j (omega arith) e)
+    to p mode synced j below-j stepped (yes a) = rw a (back .set p mode (synced-on p mode (grown-more (made .grown) (there .grown)) synced) (rw a at stepped))
+    to p mode synced j below-j stepped (no a) = both .kept j m (omega arith) below-m (made .to p mode synced j (omega arith) stepped)
 
 -- ---- laws: the rows that hold all of the set
 
@@ -168,13 +169,15 @@ rows-more b n s j w v u o h r =
   where
     from : (p : List (List ℕ)) (mode : Mode) → Synced (decode b p mode n) n w → (i k : ℕ) → i < j + 1 → k < 3 * n → holdsAt b s i ≡ true
         → step₁ (decode b p mode n) s (3 * i + 1) k ≡ true → Dec (i ≡ j) → rel u STEP MOMENTS (3 * i + 1) k ≡ true
-    from p mode y i k l q a e (yes z) = rw z (r .from p mode (synced-on p mode (h .grown) y) k q (rw z at e))
-    from p mode y i k l q a e (no z) = r .grown .kept (3 * i + 1) k (omega arith) q (h .from p mode y i k (omega arith) q a e)
+    from p mode synced i k below-i below-k held stepped (yes z) = rw z (r .from p mode (synced-on p mode (h .grown) synced) k below-k (rw z at stepped))
+    from p mode synced i k below-i below-k held stepped (no z) =
+        r .grown .kept (3 * i + 1) k (omega arith) below-k (h .from p mode synced i k (omega arith) below-k held stepped)
 
     to : (p : List (List ℕ)) (mode : Mode) → Synced (decode b p mode n) n w → (i k : ℕ) → i < j + 1 → k < 3 * n → holdsAt b s i ≡ true
         → step₁ (decode b p mode n) s k (3 * i + 1) ≡ true → Dec (i ≡ j) → rel u STEP MOMENTS k (3 * i + 1) ≡ true
-    to p mode y i k l q a e (yes z) = rw z (r .to p mode (synced-on p mode (h .grown) y) k q (rw z at e))
-    to p mode y i k l q a e (no z) = r .grown .kept k (3 * i + 1) q (omega arith) (h .to p mode y i k (omega arith) q a e)
+    to p mode synced i k below-i below-k held stepped (yes z) = rw z (r .to p mode (synced-on p mode (h .grown) synced) k below-k (rw z at stepped))
+    to p mode synced i k below-i below-k held stepped (no z) =
+        r .grown .kept k (3 * i + 1) below-k (omega arith) (h .to p mode synced i k (omega arith) below-k held stepped)
 
 -- a row that does not hold all of s
 pub rows-skip : (b : List ℕ) (n s j : ℕ) (w v u : List ℕ) → holdsAt b s j ≡ false → RowsMade b n s j w v → u ≡ v → RowsMade b n s (j + 1) w u

@@ -94,7 +94,7 @@ module _ (bs : List ℕ) (n : ℕ) (w : List ℕ) (held : Celled bs n w) (x y : 
   -- so a row that is in neither shares no byte
   pub far : {a b : ℕ} → a ≡ CELLS + cell (r .start) * GRID → b ≡ CELLS + cell (r .start + r .size - 1) * GRID → r .size ≤ LONGEST → y < n
       → either w a b y ≡ false → sharing bs x y ≡ false
-  far p q s l e = not-so _ (λ t. not-both (near s l t) (rw (p, q) at e))
+  far first-is last-is short below-y neither = not-so _ (λ t. not-both (near short below-y t) (rw (first-is, last-is) at neither))
 
 -- a row without bytes shares none
 pub bare : (bs : List ℕ) (x y : ℕ) (r : Row) → r ≡ rowOf bs x → r .size ≡ 0 → sharing bs x y ≡ false
@@ -120,13 +120,13 @@ added-none y p w f = record { mine = λ c h. absurd (f c h); kept = λ k e. e; f
 -- one more
 pub added-put : {y : ℕ} {p : ℕ → Type 0} {w v u : List ℕ} (q : ℕ → Type 0) (c : ℕ) → y < ROWS → WORK ≤ length v → c < COUNT → Added y p w v
     → u ≡ setBit v (cellBit c y) → ((d : ℕ) → q d → (p d ⊎ (d ≡ c))) → Added y q w u
-added-put {y} {p} {w} {v} {u} q c l room k a e f =
-    rw e
+added-put {y} {p} {w} {v} {u} q c small room below-c added put either =
+    rw put
     (record {
-      mine = λ d h. ⊎-elim (λ g. setBit-kept v (cellBit c y) (cellBit d y) (omega arith) (a .mine d g))
-          (λ g. rw g (setBit-same v (cellBit c y) (omega arith))) (f d h);
-      kept = λ j h. setBit-kept v (cellBit c y) j (omega arith) (a .kept j h);
-      frame = within-trans (a .frame) (within-setBit CELLS CELLS-END v (cellBit c y) (omega arith) (omega arith));
+      mine = λ d h. ⊎-elim (λ g. setBit-kept v (cellBit c y) (cellBit d y) (omega arith) (added .mine d g))
+          (λ g. rw g (setBit-same v (cellBit c y) (omega arith))) (either d h);
+      kept = λ j h. setBit-kept v (cellBit c y) j (omega arith) (added .kept j h);
+      frame = within-trans (added .frame) (within-setBit CELLS CELLS-END v (cellBit c y) (omega arith) (omega arith));
     })
 
 -- a row without bytes is in no cell
@@ -135,13 +135,13 @@ bare-cell e z h = let k = ap (λ (y : Row). y .size) e in let l = h .0 in omega 
 
 -- a row of at most a cell's bytes is in two
 pub two-cells : {r q : Row} {a b c : ℕ} → r ≡ q → r .size ≤ LONGEST → a ≡ cell (r .start) → b ≡ cell (r .start + r .size - 1) → InCell q c → ((c ≡ a) ⊎ (c ≡ b))
-two-cells {r} {q} {a} {b} {c} e s f g h =
-    ⊎-elim (λ w. absurd (wide w)) (λ d. ⊎-elim (λ k. inl (k ∙ ap (λ (y : Row). cell (y .start)) (sym e) ∙ sym f))
-    (λ k. inr (k ∙ ap (λ (y : Row). cell (y .start + y .size - 1)) (sym e) ∙ sym g)) d)
-    (h .2)
+two-cells {r} {q} {a} {b} {c} same short first-is last-is within =
+    ⊎-elim (λ w. absurd (wide w)) (λ d. ⊎-elim (λ k. inl (k ∙ ap (λ (y : Row). cell (y .start)) (sym same) ∙ sym first-is))
+    (λ k. inr (k ∙ ap (λ (y : Row). cell (y .start + y .size - 1)) (sym same) ∙ sym last-is)) d)
+    (within .2)
   where
     wide : LONGEST < q .size → ⊥
-    wide w = let k = ap (λ (y : Row). y .size) e in omega arith
+    wide w = let k = ap (λ (y : Row). y .size) same in omega arith
 
 -- some of what was put
 pub added-some : {y : ℕ} {p q : ℕ → Type 0} {w u : List ℕ} → Added y p w u → ((c : ℕ) → q c → p c) → Added y q w u

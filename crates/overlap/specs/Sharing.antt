@@ -2,7 +2,7 @@
 use mathlib.Core.Path.{_≡_, refl, ap, _∙_}
 use mathlib.Core.Bool.{Bool}
 use mathlib.Core.List.{List}
-use Prim.Native.Nat.{ℕ, _+_, _*_, _≤_, _<_, max, min}
+use Prim.Native.Nat.{ℕ, _+_, _≤_, _<_, max, min}
 use native.Mathlib.Omega.{arith}
 use native.Mathlib.Decide.{decLt}
 use lib.Dec.{ltb}
@@ -14,7 +14,6 @@ use Rattle.model.specs.declared.Mode.{Mode}
 use Rattle.model.specs.Row.{lowestShared, isShared, overlap}
 use Rattle.model.specs.Table.{byteOf, rowOf, decode}
 use Rattle.bits.specs.Within.{Within, within-widen, within-trans}
-use Rattle.bits.specs.Fill.{rowFill, within-rowFill}
 use Rattle.bits.specs.Stage.{Made, made-cong}
 use Rattle.area.specs.Regions.{OVERLAP, OVERLAP-END, CELLS, GRID}
 use Rattle.area.specs.State.{overlaps}
@@ -33,10 +32,6 @@ table-sharing bs p mode m = made-cong (λ i j a b. refl) m
 pub made-after : {a b base stride n : ℕ} {r : ℕ → ℕ → Bool} {w v u : List ℕ} (c d : ℕ) → c ≤ a → b ≤ d → Within c d w v → Made a b base stride n r v u
     → Made c d base stride n r w u
 made-after c d l h f m = record { holds = m .holds; frame = within-trans f (within-widen c d l h (m .frame)) }
-
--- the frame of a row of bits that is filled
-pub row-within : {w u : List ℕ} (c d : ℕ) (p : ℕ → Bool) (at n : ℕ) → 64 * c ≤ at → at + n ≤ 64 * d → u ≡ rowFill p w at n → Within c d w u
-row-within {w} c d p at n l h e = rw e (within-rowFill c d p w at n l h)
 
 -- ---- laws: three bytes
 

@@ -95,7 +95,7 @@ door-admits needs blanks f s work buffer a {g} {n} e h = go (buffersFit needs wo
 -- ---- laws: two pieces that are admitted
 
 decode-same : (b c : List ℕ) (p q : List (List ℕ)) (g h : Mode) (n m : ℕ) → b ≡ c → p ≡ q → g ≡ h → n ≡ m → decode b p g n ≡ decode c q h m
-decode-same b c p q g h n m e f k l = rw (e, f, k, l) refl
+decode-same b c p q g h n m same-bytes same-places same-mode same-rows = rw (same-bytes, same-places, same-mode, same-rows) refl
 
 module _ (blanks : Bool) (f s : List ℕ) (a : Admission) (e : a ≡ admissionBoth blanks f s) {g n : ℕ} (h : a ≡ Admitted g n) where
   pieces-right : piecesFault f s ≡ 0

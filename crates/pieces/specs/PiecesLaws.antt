@@ -6,10 +6,10 @@ use mathlib.Core.List.{List, [], _∷_, _++_, append-nil, append-assoc}
 use Prim.Native.Nat.{ℕ, zero, suc, _+_, _-_, _*_, _/_, _%_, _≤_, _<_, min}
 use native.Mathlib.Omega.{arith}
 use native.Mathlib.Decide.{decLt, ℕ-discrete}
-use lib.ListN.{length, getD, set, take, drop, replicate, length-replicate, List·getD-eq-default, length-append, length-drop}
+use lib.ListN.{length, getD, take, drop, replicate, length-replicate, List·getD-eq-default, length-append, length-drop}
 use lib.ListN.{List·getD-append}
 use lib.Seq.{ext-getD, take-add, getD-drop, getD-take, getD-append-add, drop-append-add, drop-append-le, drop-drop}
-use lib.Seq.{take-append-le, take-take, length-take-le, take-at, drop-at, paste, paste-suc, length-paste, length-paste-head}
+use lib.Seq.{take-append-le, take-take, length-take-le, take-at, drop-at, paste, length-paste, length-paste-head}
 use lib.Dec.{ltb, leb, eqb}
 use borrow.Author.Tests.{eqb-true, leb-true, eq-eqb, ne-eqb, le-leb, lt-ltb, le-ltb}
 use Rattle.finite.specs.Logic.{_and_, split, and-true, not-both, which}
@@ -471,7 +471,7 @@ module _ (f : List ℕ) where
 
 -- it lies in its piece
 pub first-end : (f s : List ℕ) (n h r b : ℕ) → h ≡ earlyFault f s → h ≡ 0 → r ≡ rowsAt f → n < r → b ≡ rowsBegin f → b + ROW-BYTES * n + ROW-BYTES ≤ length f
-first-end f s n h r b e z q l v = let a = shape-end f (first-right f s (early-pieces f s h e z)) in omega arith
+first-end f s n h r b fault-is passed rows-are below-n begin-is = let a = shape-end f (first-right f s (early-pieces f s h fault-is passed)) in omega arith
 
 pub second-end : (f s : List ℕ) (n r b : ℕ) → r ≡ rowsAt f → r ≤ n → b ≡ rowsBoth f s → n < b → ROW-BYTES * (n - r) + ROW-BYTES ≤ length s
 unfolding rowsBoth
@@ -606,13 +606,6 @@ pub record Copied (x : List ℕ) (k : ℕ) (a : List ℕ) : Type 0 where
   pub size : length a ≡ AREA
   pub front : (i : ℕ) → i < k → getD a i 0 ≡ getD x i 0
   pub back : (i : ℕ) → k ≤ i → getD a i 0 ≡ 0
-
--- a turn of the loop that copies
-pub paste-more : (d : List ℕ) (at : ℕ) (s u : List ℕ) (k : ℕ) → at + k < length d → k < length s → u ≡ paste d at s k
-    → set u (at + k) (getD s k 0) ≡ paste d at s (k + 1)
-paste-more d at s u k hd hs e =
-    let next : k + 1 ≡ suc k = omega arith in
-    rw (e, next) (paste-suc d at s k 0 hd hs)
 
 -- what a copy leaves before its place, puts there, and leaves past it
 module _ (d : List ℕ) (at : ℕ) (s : List ℕ) (n : ℕ) (hd : at + n ≤ length d) (hs : n ≤ length s) where

@@ -2,9 +2,7 @@
 // two of which the second is empty. Every entry point is opened here.
 ghost use mathlib.Core.Path.{_≡_};
 ghost use mathlib.Core.List.{_++_};
-ghost use Prim.Native.Nat.{_+_, _≤_, min};
-ghost use lib.ListN.{length};
-ghost use lib.Seq.{paste};
+ghost use Prim.Native.Nat.{_+_, min};
 ghost use Rattle.model.specs.Table.{rowBytes};
 ghost use Rattle.pieces.specs.Pieces.{AREA, rowsBoth, countBoth, piecesFault, earlyFault, areaOf, admissionBoth, rowPart, rowPlace};
 ghost use Rattle.pieces.specs.Entry.{doorBoth};
@@ -64,16 +62,6 @@ pub fn early_fault(first: &[u8], second: &[u8]) -> u8
 
 // ---- the rows of both
 
-// Puts the first n bytes of s into t, from byte `at` on. No test in the loop, so that it can compile to a block copy.
-fn put(t: &mut [u8], at: usize, s: &[u8], n: usize)
-    requires { ⌜ (at + n ≤ length (now t)) × (n ≤ length (now s)) ⌝ }
-    ensures { λ _. ⌜ now (t .exit) ≡ paste (now (t .entry)) at (now (s .entry)) n ⌝ }
-{
-    for k in 0..n {
-        t[at + k] = s[k];
-    }
-}
-
 // So many bytes, or all that there may be.
 fn at_most(size: usize) -> usize
     ensures { λ r. ⌜ r ≡ min size AREA ⌝ }
@@ -89,8 +77,8 @@ pub fn join_rows(first: &[u8], second: &[u8]) -> [u8; AREA]
     let mut all = [0u8; AREA];
     let head = at_most(rows.len());
     let end = at_most(rows.len() + second.len());
-    put(&mut all, 0, rows, head);
-    put(&mut all, head, second, end - head);
+    bytes::put(&mut all, 0, rows, head);
+    bytes::put(&mut all, head, second, end - head);
     all
 }
 

@@ -111,10 +111,10 @@ meet-bit : (x a b j : ℕ) (q : Bool) (w v u : List ℕ) → x < ROWS → WORK �
     → Within (HOPS + x * MOMENTS) (HOPS + x * MOMENTS + MOMENTS) w v → u ≡ meetIf q v (HOPS + x * MOMENTS) a b MOMENTS
     → rel u HOPS MOMENTS x j ≡ (rel v HOPS MOMENTS x j or (q and both w a b j))
 unfolding rel
-meet-bit x a b j q w v u l room o p r f e =
-    let len : length v ≡ length w = f .len in
-    ap (λ (z : List ℕ). bit z ((HOPS + x * MOMENTS) * 64 + j)) e ∙ bit-meetIf q v (HOPS + x * MOMENTS) a b MOMENTS j (omega arith) o
-    ∙ ap (λ (z : Bool). bit v ((HOPS + x * MOMENTS) * 64 + j) or (q and z)) (both-kept f a b j (λ h. off a p h) (λ h. off b r h))
+meet-bit x a b j q w v u small room below-j apart-a apart-b frame met =
+    let len : length v ≡ length w = frame .len in
+    ap (λ (z : List ℕ). bit z ((HOPS + x * MOMENTS) * 64 + j)) met ∙ bit-meetIf q v (HOPS + x * MOMENTS) a b MOMENTS j (omega arith) below-j
+    ∙ ap (λ (z : Bool). bit v ((HOPS + x * MOMENTS) * 64 + j) or (q and z)) (both-kept frame a b j (λ h. off a apart-a h) (λ h. off b apart-b h))
   where
     off : (c : ℕ) → (HOPS < c + MOMENTS → HOPS-END ≤ c) → 64 * (HOPS + x * MOMENTS) ≤ c * 64 + j → 64 * (HOPS + x * MOMENTS + MOMENTS) ≤ c * 64 + j
     off c g h = let z : HOPS-END ≤ c = g (omega arith) in omega arith
@@ -160,7 +160,8 @@ module _ (x : ℕ) (h k a d : Bool) (w u : List ℕ) (l : x < ROWS) (room : WORK
 hop-off : (dep h k q : Bool) (x : ℕ) (w u : List ℕ) → x < ROWS → WORK ≤ length w → u ≡ hopWords x h (h or dep and k) (h and q) dep w → dep ≡ false → h ≡ false
     → (j : ℕ) → j < 64 * MOMENTS → rel w HOPS MOMENTS x j ≡ false → rel u HOPS MOMENTS x j ≡ false
 unfolding _and_ _or_
-hop-off dep h k q x w u l room made e f j o c = hop-bits x h (h or dep and k) (h and q) dep w u l room made j o c ∙ rw (f, e) refl
+hop-off dep h k q x w u small room made no-dep not-held j below-j clear =
+    hop-bits x h (h or dep and k) (h and q) dep w u small room made j below-j clear ∙ rw (not-held, no-dep) refl
 
 no-hops : (t : Table) (dep : Bool) (s x m : ℕ) → (holding t s (itself x) or dep) ≡ false → hopRow t dep s x m ≡ false
 unfolding hopRow hubRow

@@ -256,28 +256,28 @@ sources-none t s n w = record { done = λ i k l. absurd (omega arith); left = λ
 sources-more : (bs : List ℕ) (t : Table) (n s m : ℕ) (dep h : Bool) (w v u : List ℕ) → Setup bs t n s dep w → Closed t dep s n w → m < 3 * n
     → Within HAPPENS HAPPENS-END w v → SourcesAdded t s n m w v → h ≡ hubBit v dep m → Sourced m h v u → SourcesAdded t s n (m + 1) w u
 unfolding rel
-sources-more bs t n s m dep h w v u p closed l g a told d =
+sources-more bs t n s m dep h w v u setup closed below-m frame added told sourced =
     record {
       done = λ i k o q r. here i k o q r (ℕ-discrete i m);
-      left = λ i k o q r. within-bit f ((HAPPENS + i * MOMENTS) * 64 + k) (λ z. omega arith) ∙ a .left i k (omega arith) q r;
+      left = λ i k o q r. within-bit f ((HAPPENS + i * MOMENTS) * 64 + k) (λ z. omega arith) ∙ added .left i k (omega arith) q r;
     }
   where
     now : Setup bs t n s dep v
-    now = setup-happens g p
+    now = setup-happens frame setup
 
     few : n ≤ ROWS
-    few = p .few
+    few = setup .few
 
     f : Within (HAPPENS + m * MOMENTS) (HAPPENS + m * MOMENTS + MOMENTS) v u
-    f = source-frame h (d .source) m v u (omega arith) (now .room) (d .made)
+    f = source-frame h (sourced .source) m v u (omega arith) (now .room) (sourced .made)
 
     one : (k : ℕ) → k < 3 * n → rel u HAPPENS MOMENTS m k ≡ (rel v HAPPENS MOMENTS m k or interThread t s m k)
-    one = source-cell bs t n s m dep v u now (rows-kept (λ h. omega arith) g closed) l h told d
+    one = source-cell bs t n s m dep v u now (rows-kept (λ h. omega arith) frame closed) below-m h told sourced
 
     here : (i k : ℕ) → i < m + 1 → i < 3 * n → k < 3 * n → Dec (i ≡ m)
         → bit u ((HAPPENS + i * MOMENTS) * 64 + k) ≡ (bit w ((HAPPENS + i * MOMENTS) * 64 + k) or interThread t s i k)
-    here i k o q r (yes e) = rw e (one k r ∙ ap (λ (z : Bool). z or interThread t s m k) (a .left m k (omega arith) l r))
-    here i k o q r (no e) = within-bit f ((HAPPENS + i * MOMENTS) * 64 + k) (λ z. omega arith) ∙ a .done i k (omega arith) q r
+    here i k o q r (yes e) = rw e (one k r ∙ ap (λ (z : Bool). z or interThread t s m k) (added .left m k (omega arith) below-m r))
+    here i k o q r (no e) = within-bit f ((HAPPENS + i * MOMENTS) * 64 + k) (λ z. omega arith) ∙ added .done i k (omega arith) q r
 
 -- no own moment, no hub's
 hub-not : (w : List ℕ) (dep : Bool) (m : ℕ) → (m % 3 ≡ 1 → ⊥) → false ≡ hubBit w dep m
@@ -290,21 +290,22 @@ hub-own w dep x h e = rw (eq-eqb ((3 * x + 1) % 3) 1 (omega arith)) e
 
 pub sources-row : (bs : List ℕ) (t : Table) (n s x : ℕ) (dep : Bool) (w v u : List ℕ) → Setup bs t n s dep w → Closed t dep s n w → x < n
     → Within HAPPENS HAPPENS-END w v → SourcesAdded t s n (3 * x) w v → RowSourced x dep v u → SourcesAdded t s n (3 * (x + 1)) w u
-sources-row bs t n s x dep w v u p closed l g a d =
-    let few : n ≤ ROWS = p .few in
-    let room : WORK ≤ length v = setup-happens g p .room in
-    let f₁ = one-frame (3 * x) false v (d .one) (omega arith) room (d .before) in
-    let g₁ = within-trans g f₁ in
+sources-row bs t n s x dep w v u setup closed below-x frame added sourced =
+    let few : n ≤ ROWS = setup .few in
+    let room : WORK ≤ length v = setup-happens frame setup .room in
+    let f₁ = one-frame (3 * x) false v (sourced .one) (omega arith) room (sourced .before) in
+    let g₁ = within-trans frame f₁ in
     let p₁ = f₁ .len in
-    let f₂ = one-frame (3 * x + 1) (d .held) (d .one) (d .two) (omega arith) (omega arith) (d .itself) in
-    let a₁ = sources-more bs t n s (3 * x) dep false w v (d .one) p closed (omega arith) g a (hub-not v dep (3 * x) (λ e. absurd (omega arith))) (d .before) in
-    let a₂ = sources-more bs t n s (3 * x + 1) dep (d .held) w (d .one) (d .two) p closed (omega arith) g₁ a₁
-    (hub-own (d .one) dep x (d .held) (d .held-is)) (d .itself) in
+    let f₂ = one-frame (3 * x + 1) (sourced .held) (sourced .one) (sourced .two) (omega arith) (omega arith) (sourced .itself) in
+    let a₁ = sources-more bs t n s (3 * x) dep false w v (sourced .one) setup closed (omega arith) frame added
+    (hub-not v dep (3 * x) (λ e. absurd (omega arith))) (sourced .before) in
+    let a₂ = sources-more bs t n s (3 * x + 1) dep (sourced .held) w (sourced .one) (sourced .two) setup closed (omega arith) g₁ a₁
+    (hub-own (sourced .one) dep x (sourced .held) (sourced .held-is)) (sourced .itself) in
     let e : 3 * x + 1 + 1 ≡ 3 * x + 2 = omega arith in
     let a₃ =
-    sources-more bs t n s (3 * x + 2) dep false w (d .two) u p closed (omega arith) (within-trans g₁ f₂)
-    (subst (λ (k : ℕ). SourcesAdded t s n k w (d .two)) e a₂)
-    (hub-not (d .two) dep (3 * x + 2) (λ z. absurd (omega arith))) (d .after)
+    sources-more bs t n s (3 * x + 2) dep false w (sourced .two) u setup closed (omega arith) (within-trans g₁ f₂)
+    (subst (λ (k : ℕ). SourcesAdded t s n k w (sourced .two)) e a₂)
+    (hub-not (sourced .two) dep (3 * x + 2) (λ z. absurd (omega arith))) (sourced .after)
     in
     let z : 3 * x + 2 + 1 ≡ 3 * (x + 1) = omega arith in
     subst (λ (k : ℕ). SourcesAdded t s n k w u) z a₃

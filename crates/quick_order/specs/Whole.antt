@@ -215,11 +215,12 @@ module _ (bs : List ℕ) (t : Table) (n s : ℕ) (dep : Bool) (w v x : List ℕ)
 -- no word outside happens-before and the regions behind it changed
 pub closed-frame : (n s : ℕ) (w v x y z u : List ℕ) → n ≤ ROWS → ReleaseMade w v → ConcernMade s v x → Within HOPS HOPS-END x y
     → ClosedOwn y z HOPS n → Within HAPPENS HAPPENS-END z u → Within HAPPENS CONCERN-END w u
-closed-frame n s w v x y z u few a b c d e =
-    within-trans (within-widen HAPPENS CONCERN-END (omega arith) (omega arith) (a .frame))
-    (within-trans (within-widen HAPPENS CONCERN-END (omega arith) (omega arith) (b .frame))
-    (within-trans (within-widen HAPPENS CONCERN-END (omega arith) (omega arith) c)
-    (within-trans (within-widen HAPPENS CONCERN-END (omega arith) (omega arith) (d .frame)) (within-widen HAPPENS CONCERN-END (omega arith) (omega arith) e))))
+closed-frame n s w v x y z u few released concerned hopped closed happened =
+    within-trans (within-widen HAPPENS CONCERN-END (omega arith) (omega arith) (released .frame))
+    (within-trans (within-widen HAPPENS CONCERN-END (omega arith) (omega arith) (concerned .frame))
+    (within-trans (within-widen HAPPENS CONCERN-END (omega arith) (omega arith) hopped)
+    (within-trans (within-widen HAPPENS CONCERN-END (omega arith) (omega arith) (closed .frame))
+    (within-widen HAPPENS CONCERN-END (omega arith) (omega arith) happened))))
 
 -- ---- laws: dependencies
 

@@ -54,7 +54,7 @@ Apart c a = a < c + ROWS-GRID → a + ROWS-GRID ≤ c
 pub grid-kept : {x y c : ℕ} {w u : List ℕ} (a : ℕ) → Within x y w u → c ≤ x → y ≤ c + ROWS-GRID → Apart c a → (i j : ℕ) → i < ROWS → j < 64 * GRID
     → grid u a i j ≡ grid w a i j
 unfolding rel
-grid-kept {x} {y} {c} a f l m off i j p q = within-bit f ((a + i * GRID) * 64 + j) (λ h. out h)
+grid-kept {x} {y} {c} a frame low high off i j below-i below-j = within-bit frame ((a + i * GRID) * 64 + j) (λ h. out h)
   where
     out : 64 * x ≤ (a + i * GRID) * 64 + j → 64 * y ≤ (a + i * GRID) * 64 + j
     out h = go (decLt a (c + ROWS-GRID))
@@ -99,26 +99,26 @@ turn x y z g v e f = rw (e, f) (or-assoc x y z)
 pub row-join : {w v u : List ℕ} {c a b i j : ℕ} → i < ROWS → j < ROWS → c + ROWS-GRID ≤ length w → Apart c b → grid w a i j ≡ true → RowTimes w v c a b i j
     → u ≡ joinRow v (c + i * GRID) (b + j * GRID) GRID → RowTimes w u c a b i (j + 1)
 unfolding times byWay anyBelow rel
-row-join {w} {v} {u} {c} {a} {b} {i} {j} p q room off e h s =
+row-join {w} {v} {u} {c} {a} {b} {i} {j} below-i below-j room off taken done joined =
     record {
       cell = cell;
-      frame = within-trans (h .frame) (rw s (within-joinRow v (c + i * GRID) (b + j * GRID) GRID));
+      frame = within-trans (done .frame) (rw joined (within-joinRow v (c + i * GRID) (b + j * GRID) GRID));
     }
   where
     long : length v ≡ length w
-    long = h .frame .len
+    long = done .frame .len
 
     kept : (k : ℕ) → k < 64 * GRID → grid v b j k ≡ grid w b j k
-    kept k l = grid-kept b (h .frame) (omega arith) (omega arith) off j k q l
+    kept k l = grid-kept b (done .frame) (omega arith) (omega arith) off j k below-j l
 
     cell : (k : ℕ) → k < 64 * GRID → bit u ((c + i * GRID) * 64 + k)
         ≡ (bit w ((c + i * GRID) * 64 + k) or anyBelow (j + 1) (λ m. bit w ((a + i * GRID) * 64 + m) and bit w ((b + m * GRID) * 64 + k)))
     cell k l =
-        rw (s, add-one j)
+        rw (joined, add-one j)
         (bit-joinRow v (c + i * GRID) (b + j * GRID) GRID k (omega arith) l
-        ∙ ap (λ (z : Bool). z or bit v ((b + j * GRID) * 64 + k)) (h .cell k l)
+        ∙ ap (λ (z : Bool). z or bit v ((b + j * GRID) * 64 + k)) (done .cell k l)
         ∙ turn (bit w ((c + i * GRID) * 64 + k)) (anyBelow j (λ m. bit w ((a + i * GRID) * 64 + m) and bit w ((b + m * GRID) * 64 + k)))
-        (bit w ((b + j * GRID) * 64 + k)) (bit w ((a + i * GRID) * 64 + j)) (bit v ((b + j * GRID) * 64 + k)) e (kept k l))
+        (bit w ((b + j * GRID) * 64 + k)) (bit w ((a + i * GRID) * 64 + j)) (bit v ((b + j * GRID) * 64 + k)) taken (kept k l))
 
 -- ---- laws: all rows
 

@@ -3,7 +3,7 @@
 use mathlib.Core.Path.{_≡_, refl, sym, ap, _∙_}
 use mathlib.Core.Bool.{Bool, true, false, not}
 use mathlib.Core.List.{List}
-use Prim.Native.Nat.{ℕ, zero, suc, _+_, _*_, _≤_, _<_}
+use Prim.Native.Nat.{ℕ, zero, suc, _+_, _≤_, _<_}
 use native.Mathlib.Omega.{arith}
 use native.Mathlib.Decide.{ℕ-discrete}
 use lib.Dec.{eqb, leb, ltb}
@@ -11,8 +11,7 @@ use borrow.Author.Tests.{ne-eqb, eq-eqb, leb-true, le-ltb, not-false}
 use Rattle.finite.specs.Logic.{_and_, _or_, not-out, split, and-true, and-false-left, and-false-right, or-left, or-right, or-off, or-none, and-on}
 use Rattle.finite.specs.Below.{anyBelow, any-off, any-not}
 use Rattle.bits.specs.Bit.{setBit, setBitIf}
-use Rattle.bits.specs.Fill.{rowFill, within-rowFill}
-use Rattle.bits.specs.Within.{Within}
+use Rattle.bits.specs.Fill.{rowFill}
 use Rattle.model.specs.declared.Mode.{Mode}
 use Rattle.model.specs.declared.Row.{Row}
 use Rattle.model.specs.Row.{PLAIN-READ, ATOMIC-READ, ATOMIC-WRITE, RMW, CONTROL, atomic, barrier, control, sameInstance, reads, writes, releases, classIn}
@@ -63,10 +62,6 @@ pub row-one-if : (q : ℕ → Bool) (w : List ℕ) (at n a k : ℕ) (z : Bool) �
 unfolding setBitIf _and_
 row-one-if q w at n a k true l e h = row-one q w at n a k l e h
 row-one-if q w at n a k false l e h = row-off q w at n h
-
--- it stays within the words of its bits
-pub within-row : {w u : List ℕ} (a b : ℕ) (q : ℕ → Bool) (at n : ℕ) → 64 * a ≤ at → at + n ≤ 64 * b → u ≡ rowFill q w at n → Within a b w u
-within-row {w} a b q at n l m e = rw e (within-rowFill a b q w at n l m)
 
 -- ---- laws: M3
 

@@ -99,21 +99,21 @@ module _ (b : List ℕ) (p : List (List ℕ)) (mode : Mode) (n : ℕ) where
       → Made LINKS (LINKS + ROWS-GRID) LINKS GRID n (times n (grid z HEADS) (grid z HANDS)) z u
       → Made LINKS HANDS-END LINKS GRID n (led (decode b p mode n)) w u
   unfolding led handed decode
-  links-made {w} {v} {x} {y} {z} {u} a g c d e =
-      let few : n ≤ 64 * GRID = a .holds .fits in
-      let by = holds-kept (λ h. absurd (omega arith)) (c .frame) (g .holds) in
-      let hz = times-held by (c .holds) d in
-      let ax = holds-kept (λ h. absurd (omega arith)) (g .frame) (a .holds) in
-      let ay = holds-kept (λ h. absurd (omega arith)) (c .frame) ax in
-      let az = holds-kept (λ h. absurd (omega arith)) (d .frame) ay in
-      let l = times-held az (hz .holds) e in
+  links-made {w} {v} {x} {y} {z} {u} heads takes gets hands links =
+      let few : n ≤ 64 * GRID = heads .holds .fits in
+      let by = holds-kept (λ h. absurd (omega arith)) (gets .frame) (takes .holds) in
+      let hz = times-held by (gets .holds) hands in
+      let ax = holds-kept (λ h. absurd (omega arith)) (takes .frame) (heads .holds) in
+      let ay = holds-kept (λ h. absurd (omega arith)) (gets .frame) ax in
+      let az = holds-kept (λ h. absurd (omega arith)) (hands .frame) ay in
+      let l = times-held az (hz .holds) links in
       record {
         holds = l .holds;
-        frame = within-trans (within-widen LINKS HANDS-END (omega arith) (omega arith) (a .frame))
-            (within-trans (within-widen LINKS HANDS-END (omega arith) (omega arith) (g .frame))
-            (within-trans (within-widen LINKS HANDS-END (omega arith) (omega arith) (c .frame))
-            (within-trans (within-widen LINKS HANDS-END (omega arith) (omega arith) (d .frame))
-            (within-widen LINKS HANDS-END (omega arith) (omega arith) (e .frame)))));
+        frame = within-trans (within-widen LINKS HANDS-END (omega arith) (omega arith) (heads .frame))
+            (within-trans (within-widen LINKS HANDS-END (omega arith) (omega arith) (takes .frame))
+            (within-trans (within-widen LINKS HANDS-END (omega arith) (omega arith) (gets .frame))
+            (within-trans (within-widen LINKS HANDS-END (omega arith) (omega arith) (hands .frame))
+            (within-widen LINKS HANDS-END (omega arith) (omega arith) (links .frame)))));
       }
 
 pub linked-made : {t : Table} {n : ℕ} {w v u : List ℕ} → Made LINKS HANDS-END LINKS GRID n (led t) w v

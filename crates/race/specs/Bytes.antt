@@ -81,9 +81,9 @@ before-high t x y b a s l e h = sym (not-so (before t x y b) (λ d. let g = befo
 pub before-bit : (t : Table) (n : ℕ) (w : List ℕ) (x y b a m : ℕ) → Located t n w → x < n → y < n → a ≡ t .row x .start → a ≤ b → b - a < PAIR
     → m ≡ LOCATION * 64 + x * PAIRS + y * PAIR + (b - a) → bit w m ≡ before t x y b
 unfolding beforeNth
-before-bit t n w x y b a m h l k e o s q =
+before-bit t n w x y b a m located below-x below-y start-is past near place-is =
     let g : t .row x .start + (b - a) ≡ b = omega arith in
-    subst (λ (z : ℕ). bit w m ≡ before t x y z) g (cube-bit (h .location) m x y (b - a) q l k s)
+    subst (λ (z : ℕ). bit w m ≡ before t x y z) g (cube-bit (located .location) m x y (b - a) place-is below-x below-y near)
 
 -- ---- laws: where the search of a pair starts
 

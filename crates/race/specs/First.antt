@@ -1,16 +1,15 @@
 -- The first race as an answer, and the turns of its search. Assumes nothing.
 use mathlib.Core.Path.{_≡_, refl, subst}
-use mathlib.Core.Bool.{Bool, true, false, cond}
+use mathlib.Core.Bool.{true, false, cond}
 use mathlib.Core.Logic.{⊎-elim}
 use mathlib.Core.List.{List}
 use Prim.Native.Nat.{ℕ, _+_, _-_, _*_, _≤_, _<_}
 use native.Mathlib.Omega.{arith}
 use native.Mathlib.Numerals.{add-one}
-use native.Mathlib.Decide.{decLt}
 use lib.Dec.{ltb}
 use borrow.Author.Tests.{lt-ltb, le-ltb}
 use Rattle.finite.specs.Logic.{_and_, split, and-true, and-false-left, and-false-right, not-so, not-both}
-use Rattle.finite.specs.Below.{least, least-is, least-found, least-unique, below-cases}
+use Rattle.finite.specs.Below.{least, least-off, least-pass, least-found, least-unique, below-cases}
 use Rattle.model.specs.declared.Row.{Row}
 use Rattle.model.specs.Limits.{LONGEST, BYTES}
 use Rattle.model.specs.Row.{touches}
@@ -46,22 +45,6 @@ abbrev pub Searched : Table → ℕ → ℕ → ℕ → ℕ → Type 0
 Searched t x y e b = NoneBelow t x y b × (b < e → unordered t x y b ≡ true)
 
 -- ---- laws: the byte search of a pair
-
--- none passes
-pub least-off : (p : ℕ → Bool) (n : ℕ) → ((k : ℕ) → k < n → p k ≡ false) → least n p ≡ n
-least-off p n f = go (decLt (least n p) n)
-  where
-    go : Dec (least n p < n) → least n p ≡ n
-    go (yes l) = not-both (least-is p n .hit l) (f (least n p) l)
-    go (no l) = omega (arith, least-is p n .bound)
-
--- numbers that are passed over
-pub least-pass : (p : ℕ → Bool) (j k : ℕ) → least j p ≡ j → ((m : ℕ) → j ≤ m → m < k → p m ≡ false) → least k p ≡ k
-least-pass p j k e f = least-off p k (λ m h. go m h (decLt m j))
-  where
-    go : (m : ℕ) → m < k → Dec (m < j) → p m ≡ false
-    go m h (yes l) = least-is p j .miss m (omega arith)
-    go m h (no l) = f m (omega arith) h
 
 module _ (t : Table) (x y : ℕ) where
   unordered-common : (b : ℕ) → unordered t x y b ≡ true → common (t .row x) (t .row y) b ≡ true
@@ -166,11 +149,11 @@ module _ (t : Table) where
   pub race-found : (x y b : ℕ) → least x (hasRace t) ≡ x → x < t .rows → least y (racesAbove t x) ≡ y → y < t .rows → racesAbove t x y ≡ true
       → b ≡ raceByte t x y → _≡_ {A = Found} (At x y b) (foundRace t)
   unfolding foundRace raceOf raceRow racePartner hasRace
-  race-found x y b h l g m on e =
-      let q : least (t .rows) (racesAbove t x) ≡ y = least-found (racesAbove t x) y (t .rows) g on m in
-      let o : ltb (least (t .rows) (racesAbove t x)) (t .rows) ≡ true = rw q (lt-ltb y (t .rows) m) in
-      let f : least (t .rows) (λ z. ltb (least (t .rows) (racesAbove t z)) (t .rows)) ≡ x = least-found _ x (t .rows) h o l in
-      rw (f, q, lt-ltb x (t .rows) l, e) refl
+  race-found x y b first-x below-x first-y below-y on byte-is =
+      let q : least (t .rows) (racesAbove t x) ≡ y = least-found (racesAbove t x) y (t .rows) first-y on below-y in
+      let o : ltb (least (t .rows) (racesAbove t x)) (t .rows) ≡ true = rw q (lt-ltb y (t .rows) below-y) in
+      let f : least (t .rows) (λ z. ltb (least (t .rows) (racesAbove t z)) (t .rows)) ≡ x = least-found _ x (t .rows) first-x o below-x in
+      rw (f, q, lt-ltb x (t .rows) below-x, byte-is) refl
 
   pub race-none : (n : ℕ) → n ≡ t .rows → least n (hasRace t) ≡ n → _≡_ {A = Found} Nothing (foundRace t)
   unfolding foundRace raceOf raceRow

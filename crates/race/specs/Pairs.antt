@@ -69,7 +69,7 @@ some-bits t n w x y h l m = any-cong (λ k. bit w (LOCATION * 64 + x * PAIRS + y
 pub some-unset : (t : Table) (n : ℕ) (w : List ℕ) (x y at : ℕ) → Located t n w → x < n → y < n → at ≡ LOCATION * 64 + x * PAIRS + y * PAIR
     → unsetAt w at ≡ true → false ≡ beforeSome t x y
 unfolding orderBit
-some-unset t n w x y at h l m q e = sym (any-not (orderBit w x y) PAIR none) ∙ some-bits t n w x y h l m
+some-unset t n w x y at located below-x below-y place-is unset = sym (any-not (orderBit w x y) PAIR none) ∙ some-bits t n w x y located below-x below-y
   where
     none : (k : ℕ) → k < PAIR → orderBit w x y k ≡ false
-    none k o = subst (λ (z : ℕ). bit w (z + k) ≡ false) q (unset-bit w at k (omega arith) o e)
+    none k o = subst (λ (z : ℕ). bit w (z + k) ≡ false) place-is (unset-bit w at k (omega arith) o unset)

@@ -42,9 +42,9 @@ pub rows-reported : (b : List ℕ) (p : List (List ℕ)) (mode : Mode) (n : ℕ)
     → r ≡ reportAnswer a (decode b p mode n) → z ≡ zeros u 0 WORK
     → (r ≡ reportAnswer (checkAnswer (verdict (decode b p mode n) (sourceOf b))) (decode b p mode n)) × (z ≡ wiped w)
     × (d ≡ cycleAfter (verdict (decode b p mode n) (sourceOf b)) c)
-rows-reported b p mode n src w v u z c d a r list room f j q e =
-    let k = judged b p mode n src w v u z c d a list room f j e in
-    (q ∙ ap (λ (y : CheckAnswer). reportAnswer y (decode b p mode n)) (k .0), k .1, k .2)
+rows-reported b p mode n src w v u z c d a r listed room located told answered cleared =
+    let k = judged b p mode n src w v u z c d a listed room located told cleared in
+    (answered ∙ ap (λ (y : CheckAnswer). reportAnswer y (decode b p mode n)) (k .0), k .1, k .2)
 
 -- ---- laws: the entry point
 

@@ -6,8 +6,8 @@ use Prim.Native.Nat.{ℕ, zero, suc, _≤_, _<_, _+_, _-_, _*_}
 use native.Mathlib.Nat.{le-of-eq}
 use native.Mathlib.Numerals.{add-one}
 use native.Mathlib.Omega.{arith}
-use lib.ListN.{length, List·getD-eq-default, take, drop, set, length-drop, drop-of-length-le}
-use lib.Seq.{take-suc-set, take-all}
+use lib.ListN.{length, getD, List·getD-eq-default, take, drop, set, length-drop, drop-of-length-le}
+use lib.Seq.{take-suc-set, take-all, paste, paste-suc}
 use Rattle.finite.specs.Lists.{tabulate}
 use Rattle.model.specs.Table.{HEADER, PLACE-BYTES, HOSTS-PLACE-BYTES, ROW-BYTES, pairAt, agentsAt, hasHosts, dependencyBytes, rowsEnd, quadAt, rowsAt}
 use Rattle.model.specs.Table.{rowsBegin, rowBytes}
@@ -80,3 +80,9 @@ module _ {A : Type 0} (f : ℕ → A) where
 
   pub tab-all : (l : List A) (i : ℕ) → length l ≡ i → take i l ≡ tabulate f i → l ≡ tabulate f i
   tab-all l i h e = sym (take-all i l (le-of-eq h)) ∙ e
+
+-- ---- a loop that copies
+
+pub paste-more : (d : List ℕ) (at : ℕ) (s u : List ℕ) (k : ℕ) → at + k < length d → k < length s → u ≡ paste d at s k
+    → set u (at + k) (getD s k 0) ≡ paste d at s (k + 1)
+paste-more d at s u k hd hs e = rw (e, add-one k) (paste-suc d at s k 0 hd hs)

@@ -1,7 +1,8 @@
-// Numbers, rows and sources out of the bytes of a table. Each reader is total: past the end a byte is 0.
+// Numbers, rows and sources out of the bytes of a table, and copying bytes. Each reader is total: past the end a byte is 0.
 ghost use mathlib.Core.Path.{_≡_};
 ghost use Prim.Native.Nat.{_+_, _*_, _≤_, _<_};
 ghost use lib.ListN.{getD, length};
+ghost use lib.Seq.{paste};
 ghost use Rattle.finite.specs.Lists.{tabulate};
 ghost use Rattle.model.specs.Limits.{DEPENDENCIES};
 ghost use Rattle.model.specs.Table.{pairAt, quadAt, agentsAt, rowsAt, hasHosts, rowsBegin, rowsEnd, rowBytes, dependencyBytes, dependencyEnd};
@@ -277,4 +278,14 @@ pub fn atomic_source(rows: &[u8], i: u16) -> Source
         return read_source(rows, i);
     }
     Source::INITIAL
+}
+
+// Puts the first n bytes of s into t, from byte `at` on. No test in the loop, so that it can compile to a block copy.
+pub fn put(t: &mut [u8], at: usize, s: &[u8], n: usize)
+    requires { ⌜ (at + n ≤ length (now t)) × (n ≤ length (now s)) ⌝ }
+    ensures { λ _. ⌜ now (t .exit) ≡ paste (now (t .entry)) at (now (s .entry)) n ⌝ }
+{
+    for k in 0..n {
+        t[at + k] = s[k];
+    }
 }

@@ -40,14 +40,18 @@ pub record NextRow (w : List ℕ) (at : ℕ) (all : Bool) (i n r : ℕ) : Type 0
   pub hit : all ≡ false → r < n → Has w at r
   pub miss : (x : ℕ) → i ≤ x → x < r → (all ≡ false) × (bit w (at * 64 + itself x) ≡ false)
 
+-- the bits of x are rows, counted from `from`, that are below n
+pub record Below (x from n : ℕ) : Type 0 where
+  pub inside : (b : ℕ) → bitOf x b ≡ true → from + b < n
+
 -- x has as its bits rows from `from` on, 64 at most, all below n: those that have a moment in the set are; where `all`, all are
 pub record RowsOf (w : List ℕ) (at : ℕ) (all : Bool) (from n x : ℕ) : Type 0 where
-  pub inside : (b : ℕ) → bitOf x b ≡ true → from + b < n
+  pub below : Below x from n
   pub rest : (b : ℕ) → b < 64 → from + b < n → bitOf x b ≡ false → (all ≡ false) × (bit w (at * 64 + itself (from + b)) ≡ false)
 
 -- the same of rows below i
 pub record RowsTo (w : List ℕ) (at : ℕ) (all : Bool) (from n i x : ℕ) : Type 0 where
-  pub inside : (b : ℕ) → bitOf x b ≡ true → from + b < n
+  pub below : Below x from n
   pub rest : (b : ℕ) → b < 64 → from + b < i → bitOf x b ≡ false → (all ≡ false) × (bit w (at * 64 + itself (from + b)) ≡ false)
 
 -- bits of words m to i are off
@@ -165,25 +169,25 @@ row-next w at i n k r all l few off h e =
 -- ---- laws: rows as bits of a word
 
 pub to-none : (w : List ℕ) (at from n i : ℕ) (all : Bool) → i ≡ min from n → RowsTo w at all from n i 0
-to-none w at from n i all e = record { inside = λ b h. not-both h (bitOf-zero b); rest = λ b l o. absurd (omega arith) }
+to-none w at from n i all e = record { below = record { inside = λ b h. not-both h (bitOf-zero b) }; rest = λ b l o. absurd (omega arith) }
 
 module _ (w : List ℕ) (at from n i x : ℕ) (all : Bool) (h : RowsTo w at all from n i x) where
   pub to-next : (r : ℕ) → NextRow w at all i n r → RowsTo w at all from n r x
-  to-next r next = record { inside = h .inside; rest = λ b l o e. go b l o e (decLt (from + b) i) }
+  to-next r next = record { below = h .below; rest = λ b l o e. go b l o e (decLt (from + b) i) }
     where
       go : (b : ℕ) → b < 64 → from + b < r → bitOf x b ≡ false → Dec (from + b < i) → (all ≡ false) × (bit w (at * 64 + itself (from + b)) ≡ false)
       go b l o e (yes q) = h .rest b l q e
       go b l o e (no q) = next .miss (from + b) (omega arith) o
 
   to-more : from ≤ i → i < n → RowsTo w at all from n (i + 1) (bitOr x (2 ^ (i - from)))
-  to-more l m = record { inside = λ b e. in-it b e (ℕ-discrete b (i - from)); rest = λ b k o e. out b k o e (ℕ-discrete b (i - from)) }
+  to-more l m = record { below = record { inside = λ b e. in-it b e (ℕ-discrete b (i - from)) }; rest = λ b k o e. out b k o e (ℕ-discrete b (i - from)) }
     where
       other : (b : ℕ) → (b ≡ i - from → ⊥) → bitOf (bitOr x (2 ^ (i - from))) b ≡ bitOf x b
       other b d = bitOf-or x (2 ^ (i - from)) b ∙ or-off _ _ (bitOf-pow-other (i - from) b d)
 
       in-it : (b : ℕ) → bitOf (bitOr x (2 ^ (i - from))) b ≡ true → Dec (b ≡ i - from) → from + b < n
       in-it b e (yes q) = omega arith
-      in-it b e (no q) = h .inside b (sym (other b q) ∙ e)
+      in-it b e (no q) = h .below .inside b (sym (other b q) ∙ e)
 
       out : (b : ℕ) → b < 64 → from + b < i + 1 → bitOf (bitOr x (2 ^ (i - from))) b ≡ false → Dec (b ≡ i - from)
           → (all ≡ false) × (bit w (at * 64 + itself (from + b)) ≡ false)
@@ -195,4 +199,4 @@ module _ (w : List ℕ) (at from n i x : ℕ) (all : Bool) (h : RowsTo w at all 
   to-put l m s = subst (λ (z : ℕ). RowsTo w at all from n (i + 1) (bitOr x z)) (sym (one-shl (i - from) (omega arith))) (to-more l m)
 
   pub to-all : min (from + 64) n ≤ i → RowsOf w at all from n x
-  to-all l = record { inside = h .inside; rest = λ b k o e. h .rest b k (omega arith) e }
+  to-all l = record { below = h .below; rest = λ b k o e. h .rest b k (omega arith) e }

@@ -21,7 +21,7 @@ use Rattle.model.specs.Moment.{itself}
 use Rattle.area.specs.Regions.{MOMENTS}
 use Rattle.hubs.specs.Hubs.{throughOwn}
 use Rattle.sets.specs.Lowest.{Lowest, Dropped}
-use Rattle.sets.specs.Held.{NextRow, RowsOf}
+use Rattle.sets.specs.Held.{NextRow, Below, RowsOf}
 use Rattle.sets.specs.Meet.{both, least-empty}
 
 -- ---- definitions
@@ -49,10 +49,6 @@ pub record Taken (w u : List ℕ) (base n k i : ℕ) : Type 0 where
   pub here : (j : ℕ) → j < 64 * MOMENTS → rel u base MOMENTS i j ≡ turn (rel w base MOMENTS) k i j
   pub other : (a j : ℕ) → (a ≡ i → ⊥) → j < 64 * MOMENTS → rel u base MOMENTS a j ≡ rel w base MOMENTS a j
   pub frame : Within base (base + n * MOMENTS) w u
-
--- the bits of x are rows, counted from `from`, that are below n
-pub record Below (x from n : ℕ) : Type 0 where
-  pub inside : (b : ℕ) → bitOf x b ≡ true → from + b < n
 
 -- u is w after the rows from + b have, where b is a bit of x
 pub record Joined (w u : List ℕ) (base n k x from : ℕ) : Type 0 where
@@ -176,9 +172,9 @@ module _ (w₀ w : List ℕ) (base n k x from y : ℕ) (p : JoinedTo w₀ w base
 
       on : (a j : ℕ) → a < n → from ≤ a → a < from + 64 → bitOf x (a - from) ≡ true → bitOf z (a - from) ≡ false → j < 64 * MOMENTS → Dec (a ≡ from + t)
           → rel u base MOMENTS a j ≡ turn (rel w₀ base MOMENTS) k a j
-      on a j o q r e f b (yes g) = subst (λ (i : ℕ). rel u base MOMENTS i j ≡ turn (rel w₀ base MOMENTS) k i j) (sym g) (here j b)
-      on a j o q r e f b (no g) =
-          took .other a j g b ∙ p .on a j o q r e (sym (drop .same t (a - from) low (λ h. g (omega arith))) ∙ f) b
+      on a j below-a past near was gone below-j (yes g) = subst (λ (i : ℕ). rel u base MOMENTS i j ≡ turn (rel w₀ base MOMENTS) k i j) (sym g) (here j below-j)
+      on a j below-a past near was gone below-j (no g) =
+          took .other a j g below-j ∙ p .on a j below-a past near was (sym (drop .same t (a - from) low (λ h. g (omega arith))) ∙ gone) below-j
 
       off : (a j : ℕ) → a < n → (from ≤ a → a < from + 64 → bitOf x (a - from) ≡ true → bitOf z (a - from) ≡ true) → j < 64 * MOMENTS → Dec (a ≡ from + t)
           → rel u base MOMENTS a j ≡ rel w₀ base MOMENTS a j
@@ -257,8 +253,8 @@ module _ (w₀ w : List ℕ) (base n at : ℕ) (all : Bool) (few : n ≤ ROWS) (
   pub off-made : (lo hi : ℕ) → RowsOf w at all 0 n lo → RowsOf w at all 64 n hi → Off lo hi w₀ base n
   off-made lo hi a b =
       record {
-        low = record { inside = a .inside };
-        high = record { inside = b .inside };
+        low = a .below;
+        high = b .below;
         empty = λ x j l p q o. go x j l p q o (decLt x 64);
       }
     where

@@ -5,7 +5,8 @@ ghost use lib.ListN.{length};
 ghost use Rattle.bits.specs.Matrix.{AREA-LIMIT};
 ghost use Rattle.model.specs.Limits.{ROWS};
 ghost use Rattle.area.specs.Regions.{MOMENTS};
-ghost use Rattle.sets.specs.Own.{Taken, Below, Joined, Off, Round, Rest, ClosedOwn};
+ghost use Rattle.sets.specs.Held.{Below};
+ghost use Rattle.sets.specs.Own.{Taken, Joined, Off, Round, Rest, ClosedOwn};
 use crate::held;
 
 // The bits of a word.

@@ -41,4 +41,5 @@ module _ (s : List ℕ) (i : ℕ) (out : List ℕ) where
     pub row-put : (r : ℕ) (w : Row) (c : Source) (b u : List ℕ) → x ≡ step.Row w c → b ≡ rowList w (c .0) → u ≡ paste out 0 b 16 → r ≡ packed 14 next 0 0
         → (r ≡ rowAnswer s i (length out)) × (u ≡ rowAfter s i out)
     unfolding rowAnswer rowAfter packStep stepPut
-    row-put r w c b u q k g p = rw (le-leb ROW-BYTES (length out) h, ← e, ← n, q) (p, g ∙ front out b (rowList w (c .0)) k (sixteen w (c .0)))
+    row-put r w c b u row-is bytes-are pasted answer-is =
+        rw (le-leb ROW-BYTES (length out) h, ← e, ← n, row-is) (answer-is, pasted ∙ front out b (rowList w (c .0)) bytes-are (sixteen w (c .0)))

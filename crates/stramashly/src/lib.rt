@@ -323,7 +323,7 @@ pub extern "C" fn stramashly_row(table: &[u8], at: u16, row: &mut [u8]) -> u64
     let Step::Row { row: r, source } = step else {
         return pack(15, next, 0, 0);
     };
-    encode::put(row, 0, &encode::row_bytes(r, source), 16);
+    bytes::put(row, 0, &encode::row_bytes(r, source), 16);
     pack(14, next, 0, 0)
 }
 

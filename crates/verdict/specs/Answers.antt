@@ -76,15 +76,15 @@ pub settle-over : (t : Table) (source : ℕ → ℕ) (next : Verdict) (o : Overw
     → o ≡ over.At y z b → r ≡ overwriteAnswer o
     → r ≡ checkAnswer (overwrittenOr next t source)
 unfolding overwriteAnswer overwriteOr
-settle-over t source next o r e f g = g ∙ rw f refl ∙ overwrite-answered t source next o e
+settle-over t source next o r over-is found answered = answered ∙ rw found refl ∙ overwrite-answered t source next o over-is
 
 pub settle-on : (t : Table) (source : ℕ → ℕ) (o : Overwrite) (f : Found) (r : CheckAnswer) → o ≡ foundOverwrite t source → o ≡ over.Nothing
     → f ≡ foundRace t → r ≡ raceAnswer f
     → r ≡ checkAnswer (overwrittenOr (raceOr race raceFree t) t source)
 unfolding overwriteOr
-settle-on t source o f r e none h g =
+settle-on t source o f r over-is none race-is answered =
     let a : overwriteOr o (checkAnswer (raceOr race raceFree t)) ≡ checkAnswer (raceOr race raceFree t) = rw none refl in
-    g ∙ race-answered t f h ∙ sym a ∙ overwrite-answered t source (raceOr race raceFree t) o e
+    answered ∙ race-answered t f race-is ∙ sym a ∙ overwrite-answered t source (raceOr race raceFree t) o over-is
 
 -- ---- laws: the verdict
 

@@ -61,9 +61,9 @@ pub judged : (b : List ℕ) (p : List (List ℕ)) (mode : Mode) (n : ℕ) (src w
     → (r ≡ checkAnswer (verdict (decode b p mode n) (sourceIn src))) × (d ≡ cycleAfter (verdict (decode b p mode n) (sourceIn src)) c)
     × Within EDGE LAYERS-END v u → z ≡ zeros u 0 WORK
     → (r ≡ checkAnswer (verdict (decode b p mode n) (sourceOf b))) × (z ≡ wiped w) × (d ≡ cycleAfter (verdict (decode b p mode n) (sourceOf b)) c)
-judged b p mode n src w v u z c d r list room f j e =
-    let q = verdict-is b p mode n src list in
-    (j .0 ∙ ap checkAnswer q, wiped-after w v u z room f (j .2) e, j .1 ∙ ap (λ (y : Verdict). cycleAfter y c) q)
+judged b p mode n src w v u z c d r listed room located told cleared =
+    let q = verdict-is b p mode n src listed in
+    (told .0 ∙ ap checkAnswer q, wiped-after w v u z room located (told .2) cleared, told .1 ∙ ap (λ (y : Verdict). cycleAfter y c) q)
 
 -- ---- the entry point
 

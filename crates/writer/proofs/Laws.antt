@@ -4,9 +4,8 @@ use mathlib.Core.Bool.{Bool, true}
 use mathlib.Core.List.{List, [], _∷_, _++_}
 use Prim.Native.Nat.{ℕ, _+_, _-_, _*_, _/_, _%_, _≤_, _<_}
 use native.Mathlib.Omega.{arith}
-use native.Mathlib.Numerals.{add-one}
-use lib.ListN.{length, getD, take, drop, set, length-take, List·getD-eq-default}
-use lib.Seq.{paste, paste-suc, length-paste, take-paste, take-all, ext-getD, getD-take}
+use lib.ListN.{length, getD, take, drop, length-take, List·getD-eq-default}
+use lib.Seq.{paste, length-paste, take-paste, take-all, ext-getD, getD-take}
 use borrow.Author.Tests.{eq-eqb, ne-eqb, le-leb, lt-leb, lt-ltb, le-ltb}
 use Rattle.finite.specs.Lists.{tabulate, length-tabulate, getD-tabulate}
 use Rattle.model.specs.declared.Admission.{Admission}
@@ -68,12 +67,6 @@ pub byte-entry : (l : List Entry) (k : ℕ) (b : List ℕ) → b ≡ rowList (ge
     → getD b (k % ROW-BYTES) 0 ≡ entryByte l k
 unfolding entryByte entryAt
 byte-entry l k b e = ap (λ (x : List ℕ). getD x (k % ROW-BYTES) 0) e
-
--- ---- a loop that copies
-
-pub paste-more : (d : List ℕ) (at : ℕ) (s u : List ℕ) (k : ℕ) → at + k < length d → k < length s → u ≡ paste d at s k
-    → set u (at + k) (getD s k 0) ≡ paste d at s (k + 1)
-paste-more d at s u k hd hs e = rw (e, add-one k) (paste-suc d at s k 0 hd hs)
 
 -- ---- four copies, one after the other, make the table
 

@@ -340,13 +340,13 @@ module _ (version agents : ℕ) (p : List (List ℕ)) (rows : ℕ) (l : List Ent
         → placeNumber (withHosts version) p (q + 1) ≡ numberOf p x m → (at : ℕ) → at ≡ HEADER + q
         → pairAt (encode version agents p rows l d) at ≡ numberOf p x m
     unfolding placeByte
-    place-pair x m q b e w u v at r =
+    place-pair x m q below-x even below-q first-is second-is at place-is =
         let n : HEADER + q + 1 ≡ HEADER + (q + 1) = omega arith in
-        rw r
-        (half-pair (encode version agents p rows l d) (HEADER + q) (numberOf p x m) (typed .number x m b) (omega arith)
-        (place-byte q (omega arith) ∙ (ap (λ (y : ℕ). half y q) u ∙ half-at (numberOf p x m) q (HEADER + q) (omega arith)))
-        (ap (λ (y : ℕ). getD (encode version agents p rows l d) y 0) n ∙ place-byte (q + 1) w
-        ∙ (ap (λ (y : ℕ). half y (q + 1)) v ∙ half-at (numberOf p x m) (q + 1) (HEADER + q + 1) (omega arith))))
+        rw place-is
+        (half-pair (encode version agents p rows l d) (HEADER + q) (numberOf p x m) (typed .number x m below-x) (omega arith)
+        (place-byte q (omega arith) ∙ (ap (λ (y : ℕ). half y q) first-is ∙ half-at (numberOf p x m) q (HEADER + q) (omega arith)))
+        (ap (λ (y : ℕ). getD (encode version agents p rows l d) y 0) n ∙ place-byte (q + 1) below-q
+        ∙ (ap (λ (y : ℕ). half y (q + 1)) second-is ∙ half-at (numberOf p x m) (q + 1) (HEADER + q + 1) (omega arith))))
 
     place-four : withHosts version ≡ true → (x m at : ℕ) → x < agents → m < 4 → at ≡ HEADER + (x * HOSTS-PLACE-BYTES + 2 * m)
         → pairAt (encode version agents p rows l d) at ≡ numberOf p x m

@@ -1,8 +1,7 @@
 // The bytes of a table, made of its values.
 ghost use mathlib.Core.Path.{_≡_};
 ghost use Prim.Native.Nat.{_+_, _*_, _<_, _≤_};
-ghost use lib.ListN.{length, take};
-ghost use lib.Seq.{paste};
+ghost use lib.ListN.{take};
 ghost use Rattle.finite.specs.Lists.{tabulate};
 ghost use Rattle.writer.specs.Encode.{half, withHosts, placesSize, dependenciesSize, tableSize, headerList, numberOf, placeNumber, placeByte};
 ghost use Rattle.writer.specs.Encode.{rowList, entryByte, dependencyNumber, dependencyByte, encode};
@@ -183,16 +182,6 @@ fn dependency_bytes(d: Dependencies) -> [u8; AFTER]
 
 // ---- the table
 
-// Puts the first n bytes of s into t, from byte `at` on.
-pub fn put(t: &mut [u8], at: usize, s: &[u8], n: usize)
-    requires { ⌜ (at + n ≤ length (now t)) × (n ≤ length (now s)) ⌝ }
-    ensures { λ _. ⌜ now (t .exit) ≡ paste (now (t .entry)) at (now (s .entry)) n ⌝ }
-{
-    for k in 0..n {
-        t[at + k] = s[k];
-    }
-}
-
 // The table, and zeros after it.
 pub fn encode_table(
     version: u8,
@@ -210,15 +199,15 @@ pub fn encode_table(
     let rows = bytes::ROW_BYTES * (count as usize);
     let after = dependencies_size(version, d.count);
     let mut t = [0u8; TABLE];
-    put(&mut t, 0, &header_bytes(version, agents, count, size), 8);
-    put(
+    bytes::put(&mut t, 0, &header_bytes(version, agents, count, size), 8);
+    bytes::put(
         &mut t,
         bytes::HEADER,
         &place_bytes(with_hosts(version), p),
         places,
     );
-    put(&mut t, bytes::HEADER + places, &entry_bytes(entries), rows);
-    put(
+    bytes::put(&mut t, bytes::HEADER + places, &entry_bytes(entries), rows);
+    bytes::put(
         &mut t,
         bytes::HEADER + places + rows,
         &dependency_bytes(d),

@@ -131,6 +131,6 @@ pub fn write(
     if out.len() < size {
         return WriteAnswer::Refused { number: 13, row: 0 };
     }
-    encode::put(out, 0, &t, size);
+    bytes::put(out, 0, &t, size);
     WriteAnswer::Written { bytes: size as u16 }
 }

@@ -1,9 +1,9 @@
-use Rattle.overlap.specs.Sharing.{sharing, made-after, row-within}
+use Rattle.overlap.specs.Sharing.{sharing, made-after}
 use Rattle.overlap.specs.Cells.{Celled, celled-kept}
 use Rattle.bits.specs.Within.{within-cleared, within-widen}
 use Rattle.area.specs.Regions.{OVERLAP, OVERLAP-END, CELLS, GRID}
 use Rattle.bits.specs.Stage.{made-filled}
-use Rattle.bits.specs.Fill.{gridFill, gridFill-none, gridFill-more, length-gridFill}
+use Rattle.bits.specs.Fill.{within-row, gridFill, gridFill-none, gridFill-more, length-gridFill}
 use lib.ListN.{length}
 use native.Mathlib.Omega.{arith}
 use Prim.Native.Nat.{_-_, _*_, _≤_}
@@ -35,7 +35,7 @@ loop-again c =
     let row = c .before .before .overlap-row in
     let inv = c .before .before .before .before .before .loop .inv in
     let e = gridFill-more _ _ _ _ _ _ _ _ (inv .3) (row .ensures) in
-    let f = row-within OVERLAP OVERLAP-END _ _ _ (omega arith) (omega arith) (row .ensures) in
+    let f = within-row OVERLAP OVERLAP-END _ _ _ (omega arith) (omega arith) (row .ensures) in
     (search needs, ap length e ∙ length-gridFill _ _ _ _ _ _, celled-kept _ _ (pre .0) (omega arith) f (inv .2), e)
 
 returns : tie.Need-returns Inv-loop μ-loop

@@ -2,7 +2,7 @@ use mathlib.Core.Path.{_≡_, refl, ap, _∙_}
 use Prim.Native.Nat.{_-_, _*_, _≤_}
 use native.Mathlib.Omega.{arith}
 use lib.ListN.{length}
-use Rattle.bits.specs.Fill.{gridFill, gridFill-none, gridFill-more, length-gridFill}
+use Rattle.bits.specs.Fill.{within-row, gridFill, gridFill-none, gridFill-more, length-gridFill}
 use Rattle.bits.specs.Stage.{made-filled}
 use Rattle.bits.specs.Within.{within-cleared}
 use Rattle.model.specs.Table.{decode}
@@ -10,7 +10,6 @@ use Rattle.bits.specs.Stage.{Holds, holds-kept}
 use Rattle.model.specs.Scope.{mutually}
 use Rattle.model.specs.Synchronizes.{sequence}
 use Rattle.area.specs.Regions.{MUTUAL, SEQUENCE, SEQUENCE-END, GRID}
-use Rattle.quick_sync.specs.Rows.{within-row}
 use borrow.Author.Needs.{needs}
 use Rattle.quick_sync.proofs.mutual.fill_sequence.Statement.{statement}
 use Rattle.quick_sync.proofs.mutual.fill_sequence.Tie as tie

@@ -1,13 +1,13 @@
 use denote.Ref.{now}
-use Rattle.pieces.specs.PiecesLaws.{paste-more}
+use Rattle.rows.proofs.Laws.{paste-more}
 use lib.Seq.{paste, paste-zero}
 use lib.ListN.{length, length-set}
 use native.Mathlib.Omega.{arith}
 use mathlib.Core.Path.{_≡_, refl}
 use Prim.Native.Nat.{_≤_, _-_}
 use borrow.Author.Needs.{needs}
-use Rattle.pieces.proofs.put.Statement.{statement}
-use Rattle.pieces.proofs.put.Tie as tie
+use Rattle.rows.proofs.bytes.put.Statement.{statement}
+use Rattle.rows.proofs.bytes.put.Tie as tie
 
 abbrev Inv-loop : tie.InvT-loop
 Inv-loop t₀ at s n k₀ t k = (k ≤ n) × (length t ≡ length t₀) × (t ≡ paste t₀ at s k)

@@ -9,13 +9,14 @@ use Rattle.finite.specs.Closure.{Reach, one, more, through-reach}
 use Rattle.model.specs.Table.{Table}
 use Rattle.model.specs.Moment.{rowIn, programOrder}
 use Rattle.model.specs.Happens.{bySync, toRelease, fromAcquire, bySystem, step, interThread}
-use Rattle.hubs.specs.Rows.{order-trans, step-cases}
+use Rattle.laws.specs.CaseLaws.{step-out}
+use Rattle.hubs.specs.Rows.{order-trans}
 
 module _ (t : Table) (s : ℕ) (none : (m k : ℕ) → m < 3 * t .rows → k < 3 * t .rows → bySync t s m k ≡ false)
     (free : (a b : ℕ) → t .depends a b ≡ false) where
   step-order : (m k : ℕ) → m < 3 * t .rows → k < 3 * t .rows → step t s m k ≡ true → programOrder t m k ≡ true
   unfolding toRelease fromAcquire bySystem
-  step-order m k l o e = go (step-cases t s m k e)
+  step-order m k l o e = go (step-out t s m k e)
     where
       go : (bySync t s m k ≡ true) ⊎ ((toRelease t s m k ≡ true) ⊎ ((fromAcquire t s m k ≡ true) ⊎ (bySystem t m k ≡ true))) → programOrder t m k ≡ true
       go (inl a) = not-both a (none m k l o)

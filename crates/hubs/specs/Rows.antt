@@ -9,13 +9,14 @@ use native.Mathlib.Omega.{arith}
 use native.Mathlib.Decide.{decLt, ℕ-discrete}
 use lib.Dec.{eqb, ltb}
 use borrow.Author.Tests.{eqb-true, eq-eqb, ltb-true, lt-ltb, le-ltb}
-use Rattle.finite.specs.Logic.{_and_, _or_, which, not-both, not-so, split, and-true, or-cases, or-left, or-right}
+use Rattle.finite.specs.Logic.{_and_, _or_, which, not-both, not-so, split, and-true, or-left, or-right}
 use Rattle.finite.specs.Closure.{Reach, one, more, through, through-reach}
 use Rattle.model.specs.Row.{releases, acquires}
 use Rattle.model.specs.Table.{Table}
 use Rattle.model.specs.Moment.{AT, rowIn, part, itself, momentIn, orderedRows, programOrder}
 use Rattle.model.specs.Synchronizes.{synchronizes}
 use Rattle.model.specs.Happens.{holdingOf, concernsOf, holding, concerns, bySync, toRelease, fromAcquire, bySystem, step, interThread}
+use Rattle.laws.specs.CaseLaws.{step-cases, step-out}
 use Rattle.hubs.specs.Hubs.{Hubs, hop, throughOwn, through-own, through-hops, through-first}
 
 -- ---- definitions
@@ -108,23 +109,11 @@ module _ (t : Table) (s : ℕ) where
   unfolding holding concerns concernsOf
   holding-concerns m e = or-right _ e
 
-  pub step-cases : (i j : ℕ) → step t s i j ≡ true
-      → (bySync t s i j ≡ true) ⊎ ((toRelease t s i j ≡ true) ⊎ ((fromAcquire t s i j ≡ true) ⊎ (bySystem t i j ≡ true)))
-  unfolding step
-  step-cases i j e =
-      ⊎-elim
-      (λ a. ⊎-elim (λ b. ⊎-elim (λ c. inl c) (λ c. inr (inl c)) (or-cases (bySync t s i j) (toRelease t s i j) b)) (λ b. inr (inr (inl b)))
-      (or-cases (bySync t s i j or toRelease t s i j) (fromAcquire t s i j) a))
-      (λ a. inr (inr (inr a)))
-      (or-cases (bySync t s i j or toRelease t s i j or fromAcquire t s i j) (bySystem t i j) e)
-
   step-release : (i j : ℕ) → toRelease t s i j ≡ true → step t s i j ≡ true
-  unfolding step
-  step-release i j e = or-left _ (or-left _ (or-right _ e))
+  step-release i j e = rw (step-cases t s i j) (or-left _ (or-left _ (or-right _ e)))
 
   step-acquire : (i j : ℕ) → fromAcquire t s i j ≡ true → step t s i j ≡ true
-  unfolding step
-  step-acquire i j e = or-left _ (or-right _ e)
+  step-acquire i j e = rw (step-cases t s i j) (or-left _ (or-right _ e))
 
   -- ---- hubs, where `dep` says that the table has dependencies
 
@@ -146,7 +135,7 @@ module _ (t : Table) (s : ℕ) where
     -- from it: case 2 alone
     out-release : (m j : ℕ) → hubMoment t dep s m ≡ false → step t s m j ≡ true → toRelease t s m j ≡ true
     unfolding bySync fromAcquire
-    out-release m j off e = go (step-cases m j e)
+    out-release m j off e = go (step-out t s m j e)
       where
         go : ((holding t s m and holding t s j and synchronizes t (rowIn m) (rowIn j)) ≡ true) ⊎ ((toRelease t s m j ≡ true)
             ⊎ (((holding t s m and acquires (t .row (rowIn m)) and concerns t s j and programOrder t m j) ≡ true) ⊎ (bySystem t m j ≡ true)))
@@ -159,7 +148,7 @@ module _ (t : Table) (s : ℕ) where
     -- to it: case 3 alone
     into-acquire : (i m : ℕ) → hubMoment t dep s m ≡ false → step t s i m ≡ true → fromAcquire t s i m ≡ true
     unfolding bySync toRelease
-    into-acquire i m off e = go (step-cases i m e)
+    into-acquire i m off e = go (step-out t s i m e)
       where
         go : ((holding t s i and holding t s m and synchronizes t (rowIn i) (rowIn m)) ≡ true)
             ⊎ (((holding t s m and releases (t .row (rowIn m)) and concerns t s i and programOrder t i m) ≡ true)

@@ -19,7 +19,7 @@ use Rattle.model.specs.Limits.{CLASS-SETS}
 use Rattle.model.specs.Table.{Table}
 use Rattle.model.specs.Moment.{AT, rowIn, part, classesOf}
 use Rattle.model.specs.Happens.{holdingOf, concernsOf, holding, concerns, bySync, toRelease, fromAcquire, bySystem, step, live, interThread}
-use Rattle.hubs.specs.Rows.{step-cases}
+use Rattle.laws.specs.CaseLaws.{step-cases, step-out}
 
 -- ---- definitions
 
@@ -124,10 +124,11 @@ module _ (t : Table) (s c : ℕ) (sub : holds c s ≡ true)
       go (inr a) = or-right _ (holding-wider m l a)
 
   step-wider : (m k : ℕ) → m < 3 * t .rows → k < 3 * t .rows → step t s m k ≡ true → step t c m k ≡ true
-  unfolding step bySync toRelease fromAcquire
-  step-wider m k l o e = go (step-cases t s m k e)
+  unfolding bySync toRelease fromAcquire
+  step-wider m k l o e = rw (step-cases t c m k) (go (step-out t s m k e))
     where
-      go : (bySync t s m k ≡ true) ⊎ ((toRelease t s m k ≡ true) ⊎ ((fromAcquire t s m k ≡ true) ⊎ (bySystem t m k ≡ true))) → step t c m k ≡ true
+      go : (bySync t s m k ≡ true) ⊎ ((toRelease t s m k ≡ true) ⊎ ((fromAcquire t s m k ≡ true) ⊎ (bySystem t m k ≡ true)))
+          → (bySync t c m k or toRelease t c m k or fromAcquire t c m k or bySystem t m k) ≡ true
       go (inl a) =
           let u = split a in
           let v = split (u .0) in

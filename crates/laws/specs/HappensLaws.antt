@@ -15,6 +15,7 @@ use Rattle.model.specs.Table.{Table}
 use Rattle.model.specs.Moment.{programOrder}
 use Rattle.model.specs.Happens.{holdingOf, holding, bySync, toRelease, fromAcquire, bySystem, step, interThread, holdsAll, live, interThreadBy, happens}
 use Rattle.model.specs.Words.{HappensBefore}
+use Rattle.laws.specs.CaseLaws.{step-last, step-out}
 
 -- ---- a direct case needs a row that holds the class set, unless it is the fourth, which the first class set has too
 
@@ -24,20 +25,18 @@ module _ (t : Table) (s : ℕ) where
   holding-live m l h = or-right (eqb s 1) (any-in (λ i. holds (t .row i .classes) s) (t .rows) (m / 3) (omega arith) (split h .1))
 
   step-live : (m n : ℕ) → m < 3 * t .rows → n < 3 * t .rows → step t s m n ≡ true → (live t s ≡ true) ⊎ (bySystem t m n ≡ true)
-  unfolding step bySync toRelease fromAcquire
-  step-live m n p q e =
-      ⊎-elim
-      (λ d. inl (⊎-elim
-      (λ a. ⊎-elim (λ b. holding-live m p (split (split b .0) .0)) (λ b. holding-live n q (split (split (split b .0) .0) .0))
-      (or-cases (bySync t s m n) (toRelease t s m n) a))
-      (λ a. holding-live m p (split (split (split a .0) .0) .0))
-      (or-cases (bySync t s m n or toRelease t s m n) (fromAcquire t s m n) d)))
-      (λ d. inr d)
-      (or-cases (bySync t s m n or toRelease t s m n or fromAcquire t s m n) (bySystem t m n) e)
+  unfolding bySync toRelease fromAcquire
+  step-live m n p q e = go (step-out t s m n e)
+    where
+      go : (bySync t s m n ≡ true) ⊎ ((toRelease t s m n ≡ true) ⊎ ((fromAcquire t s m n ≡ true) ⊎ (bySystem t m n ≡ true)))
+          → (live t s ≡ true) ⊎ (bySystem t m n ≡ true)
+      go (inl a) = inl (holding-live m p (split (split a .0) .0))
+      go (inr (inl a)) = inl (holding-live n q (split (split (split a .0) .0) .0))
+      go (inr (inr (inl a))) = inl (holding-live m p (split (split (split a .0) .0) .0))
+      go (inr (inr (inr a))) = inr a
 
   system-step : (m n : ℕ) → bySystem t m n ≡ true → step t 1 m n ≡ true
-  unfolding step
-  system-step m n e = or-right _ e
+  system-step m n e = rw (step-last t 1 m n) (or-right _ e)
 
   -- a class set that isn't live reaches no more than the first one
   module _ (off : live t s ≡ false) where

@@ -22,9 +22,10 @@ use Rattle.model.specs.Table.{Table, pairAt, agentsAt, rowsAt, hasHosts, threeA
 use Rattle.model.specs.Table.{dependencyBytes, rowOf, dependencyCount, dependsOf, decode, modeOf, tableUnder}
 use Rattle.model.specs.Scope.{SHADER, agentKind, shader, oneInstance, shares}
 use Rattle.model.specs.Moment.{rowIn, programOrder}
-use Rattle.model.specs.Happens.{bySync, toRelease, fromAcquire, bySystem, step, happens}
+use Rattle.model.specs.Happens.{bySystem, ROW-CASES, nthCase, step, happens}
 use Rattle.model.specs.Location.{L1, L2, L3, systemBefore, L4, thence, availableKind, onHost, reachesBy, L5, common, before}
 use Rattle.model.specs.Refusal.{codesFit}
+use Rattle.laws.specs.CaseLaws.{step-last}
 use Rattle.laws.specs.HappensLaws.{happens-is}
 use Rattle.laws.specs.AdmissionLaws.{Sound, length-is, row-right}
 
@@ -32,7 +33,7 @@ use Rattle.laws.specs.AdmissionLaws.{Sound, length-is, row-right}
 
 -- M6's three direct cases alone
 unfoldable pub step₁ : Table → ℕ → ℕ → ℕ → Bool
-step₁ t s m n = bySync t s m n or toRelease t s m n or fromAcquire t s m n
+step₁ t s m n = anyBelow ROW-CASES (nthCase t s m n)
 
 -- M6 and M7 with these
 abbrev pub HappensBefore₁ : Table → ℕ → ℕ → Type 0
@@ -57,8 +58,8 @@ module _ (t : Table) (none : NoHosts t) where
   no-system m n = and-false-right _ _ (none .alone (rowIn m) (rowIn n))
 
   pub step-is : (s m n : ℕ) → step t s m n ≡ step₁ t s m n
-  unfolding step step₁
-  step-is s m n = or-off _ _ (no-system m n)
+  unfolding step₁
+  step-is s m n = step-last t s m n ∙ or-off _ _ (no-system m n)
 
   pub happens-is₁ : (m n : ℕ) → m < 3 * t .rows → n < 3 * t .rows → (happens t m n ≡ true) ↔ HappensBefore₁ t m n
   happens-is₁ m n p q = (

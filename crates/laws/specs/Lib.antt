@@ -1,3 +1,4 @@
+pub mod CaseLaws
 pub mod HappensLaws
 pub mod HeadLaws
 pub mod FillingLaws

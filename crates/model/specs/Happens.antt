@@ -46,14 +46,26 @@ fromAcquire t s m n = holding t s m and acquires (t .row (rowIn m)) and concerns
 unfoldable pub bySystem : Table → ℕ → ℕ → Bool
 bySystem t m n = eqb (part m) AT and eqb (part n) AT and t .depends (rowIn m) (rowIn n)
 
--- a direct case by its number
+-- the direct cases are numbers 1 to CASES; 1 to ROW-CASES go by rows, and the last by dependencies
+abbrev pub ROW-CASES : ℕ
+ROW-CASES = 3
+
+abbrev pub CASES : ℕ
+CASES = 4
+
+-- a direct case by its number: here, and nowhere else, they are listed
 unfoldable pub direct : Table → ℕ → ℕ → ℕ → ℕ → Bool
 direct t s case m n =
     (eqb case 1 and bySync t s m n) or (eqb case 2 and toRelease t s m n) or (eqb case 3 and fromAcquire t s m n)
     or (eqb case 4 and bySystem t m n)
 
+-- direct case k + 1
+unfoldable pub nthCase : Table → ℕ → ℕ → ℕ → ℕ → Bool
+nthCase t s m n k = direct t s (suc k) m n
+
+-- M6: some direct case
 unfoldable pub step : Table → ℕ → ℕ → ℕ → Bool
-step t s m n = bySync t s m n or toRelease t s m n or fromAcquire t s m n or bySystem t m n
+step t s m n = anyBelow CASES (nthCase t s m n)
 
 -- M6: inter-thread order for the class set s, the transitive closure of the direct cases
 unfoldable pub interThread : Table → ℕ → ℕ → ℕ → Bool

@@ -47,7 +47,7 @@ unfolding
     Synchronizes.carriesOver Synchronizes.syncBarriers Synchronizes.upTo Synchronizes.joins Synchronizes.arrives Synchronizes.passes
     Synchronizes.syncControl Synchronizes.synchronizes
     Happens.holdingOf Happens.concernsOf Happens.holding Happens.concerns Happens.bySync Happens.toRelease Happens.fromAcquire Happens.bySystem
-    Happens.step Happens.interThread Happens.holdsAll Happens.live Happens.interThreadBy Happens.happens
+    Happens.direct Happens.nthCase Happens.step Happens.interThread Happens.holdsAll Happens.live Happens.interThreadBy Happens.happens
     Location.sameReference Location.coversOf Location.pureRead Location.publicWrite Location.L1 Location.L2 Location.availableAt Location.visibleAt
     Location.firstAvailable Location.lastVisible Location.broader Location.broadens Location.narrows Location.availabilityChain
     Location.visibilityChain Location.availableBy Location.availableFrom Location.visibleBy Location.visibleTo Location.inDomain Location.visibleVia

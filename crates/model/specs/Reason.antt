@@ -18,7 +18,7 @@ use Rattle.model.specs.declared.DeriveAnswer.the-variants as derived
 use Rattle.model.specs.Limits.{CHAIN, CASE, CLASS-SETS}
 use Rattle.model.specs.Table.{Table, tableOf}
 use Rattle.model.specs.Moment.{moment, programOrder}
-use Rattle.model.specs.Happens.{bySync, toRelease, fromAcquire, direct, step}
+use Rattle.model.specs.Happens.{ROW-CASES, direct, nthCase, step}
 use Rattle.model.specs.Refusal.{buffersFit, admission, whenAdmitted}
 use Rattle.model.specs.Check.{wiped}
 
@@ -96,9 +96,9 @@ module _ (t : Table) where
   unfoldable pub chainSize : ℕ → ℕ → ℕ → ℕ
   chainSize s m k = suc (least (3 * t .rows) (λ j. walk (3 * t .rows) (step t s) k (suc j) m))
 
-  -- the lowest case that leads from moment m to moment k
+  -- the lowest case that leads from moment m to moment k; taken where a step is known to hold, so the last isn't asked
   unfoldable pub lowestCase : ℕ → ℕ → ℕ → ℕ
-  lowestCase s m k = cond (bySync t s m k) 1 (cond (toRelease t s m k) 2 (cond (fromAcquire t s m k) 3 4))
+  lowestCase s m k = suc (least ROW-CASES (nthCase t s m k))
 
   unfoldable pub stepNumber : ℕ → ℕ → ℕ → ℕ
   stepNumber s m k = stepTo (lowestCase s m k) k

@@ -13,7 +13,8 @@ use Rattle.model.specs.Scope.{mutually, follows}
 use Rattle.model.specs.Moment.{momentIn, orderedRows, availability, visibility, sameAgent, programOrder}
 use Rattle.model.specs.Synchronizes.{ends, sequence, takesFrom, leads, trails, syncAtomics, carriesOut, syncFromBarrier, carriesIn, syncToBarrier}
 use Rattle.model.specs.Synchronizes.{carriesOver, syncBarriers, upTo, joins, arrives, passes, syncControl, synchronizes}
-use Rattle.model.specs.Happens.{holding, concerns, bySync, toRelease, fromAcquire, bySystem, step, interThread, holdsAll, live, interThreadBy, happens}
+use Rattle.model.specs.Happens.{holding, concerns, bySync, toRelease, fromAcquire, bySystem, CASES, direct, nthCase, step, interThread}
+use Rattle.model.specs.Happens.{holdsAll, live, interThreadBy, happens}
 use Rattle.moved.specs.Renumber.{Renumbering, row-of, part-of, eqb-to, ltb-to}
 use Rattle.moved.specs.Alike.{Alike, and-left-so, ltb-kept, leb-kept, mo, row-at, ltb-moment, some-row, moment-path}
 
@@ -164,9 +165,13 @@ module _ {t u : Table} {π : Renumbering (t .rows)} (M : Alike t u π) where
   unfolding bySystem
   system-alike m k = rw (part-of (π .to) m, part-of (π .to) k, row-of (π .to) m, row-of (π .to) k, M .depends (m / 3) (k / 3)) refl
 
+  case-alike : (s m k c : ℕ) → nthCase u s (mo M m) (mo M k) c ≡ nthCase t s m k c
+  unfolding nthCase direct
+  case-alike s m k c = rw (sync-alike s m k, release-alike s m k, acquire-alike s m k, system-alike m k) refl
+
   step-alike : (s m k : ℕ) → step u s (mo M m) (mo M k) ≡ step t s m k
   unfolding step
-  step-alike s m k = rw (sync-alike s m k, release-alike s m k, acquire-alike s m k, system-alike m k) refl
+  step-alike s m k = any-cong (nthCase u s (mo M m) (mo M k)) (nthCase t s m k) CASES (λ c l. case-alike s m k c)
 
   inter-alike : (s m k : ℕ) → interThread u s (mo M m) (mo M k) ≡ interThread t s m k
   unfolding interThread

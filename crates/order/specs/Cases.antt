@@ -10,23 +10,24 @@ use Rattle.area.specs.Regions.{SYNC, GRID}
 use Rattle.area.specs.Synced.{Synced}
 use borrow.Author.Tests.{eqb-true, eq-eqb, ne-eqb}
 use Rattle.finite.specs.Logic.{_and_, _or_, split, and-false-right, not-out, or-cases, or-left, or-none, or-false}
-use Rattle.finite.specs.Below.{anyBelow}
+use Rattle.finite.specs.Below.{anyBelow, any-cong}
 use Rattle.model.specs.declared.Mode.{Mode}
 use Rattle.model.specs.declared.Row.{Row}
 use Rattle.model.specs.Row.{releases, acquires}
 use Rattle.model.specs.Table.{decode, rowOf}
 use Rattle.model.specs.Moment.{AT, rowIn, part, programOrder}
 use Rattle.model.specs.Synchronizes.{synchronizes}
-use Rattle.model.specs.Happens.{holdingOf, concernsOf, holding, concerns, bySync, toRelease, fromAcquire, holdsAll, live}
+use Rattle.model.specs.Happens.{holdingOf, concernsOf, holding, bySync, toRelease, fromAcquire, ROW-CASES, holdsAll, live}
+use Rattle.laws.specs.CaseLaws.{row-cases}
 use Rattle.laws.specs.HostLaws.{step₁}
-use Rattle.rules.specs.Cases.{holdsAt, caseRows, case-one, case-two, case-three}
+use Rattle.rules.specs.Cases.{holdsAt, nthCaseRows, case-one, case-two, case-three, nth-is}
 
 -- ---- definitions
 
 -- M6: one of these from the moment `from` of r to the moment `to` of q; b says that r synchronizes-with q, o that the one moment is
 -- program-ordered before the other
 unfoldable pub stepRows : ℕ → ℕ → ℕ → Row → Row → Bool → Bool → Bool
-stepRows s from to r q b o = caseRows 1 s from to r q b o or caseRows 2 s from to r q b o or caseRows 3 s from to r q b o
+stepRows s from to r q b o = anyBelow ROW-CASES (nthCaseRows s from to r q b o)
 
 -- ---- laws: of two rows
 
@@ -35,7 +36,7 @@ module _ (s from to : ℕ) (r q : Row) (b o : Bool) where
   steps-are : stepRows s from to r q b o
       ≡ (holdingOf s r from and holdingOf s q to and b or holdingOf s q to and releases q and concernsOf s r from and o
       or holdingOf s r from and acquires r and concernsOf s q to and o)
-  unfolding stepRows
+  unfolding stepRows anyBelow nthCaseRows _or_
   steps-are = rw (case-one s from to r q b o, case-two s from to r q b o, case-three s from to r q b o) refl
 
   -- neither moment holds all of s: none of them
@@ -62,9 +63,8 @@ module _ (b : List ℕ) (p : List (List ℕ)) (mode : Mode) (n : ℕ) where
       → step₁ (decode b p mode n) s m k
       ≡ stepRows s (part m) (part k) (rowOf b (rowIn m)) (rowOf b (rowIn k)) (synchronizes (decode b p mode n) (rowIn m) (rowIn k))
       (programOrder (decode b p mode n) m k)
-  unfolding step₁ bySync toRelease fromAcquire holding concerns decode
-  step-is s m k = sym (steps-are s (part m) (part k) (rowOf b (rowIn m)) (rowOf b (rowIn k))
-      (synchronizes (decode b p mode n) (rowIn m) (rowIn k)) (programOrder (decode b p mode n) m k))
+  unfolding step₁ stepRows
+  step-is s m k = any-cong _ _ ROW-CASES (nth-is b p mode n s m k)
 
   -- the test on rows, with the bit of the work area
   pub step-read : (w : List ℕ) (s m k : ℕ) (v d : Bool) → Synced (decode b p mode n) n w → m < 3 * n → k < 3 * n → v ≡ rel w SYNC GRID (m / 3) (k / 3)
@@ -80,7 +80,7 @@ module _ (b : List ℕ) (p : List (List ℕ)) (mode : Mode) (n : ℕ) where
   pub step-ends : (s m k : ℕ) → step₁ (decode b p mode n) s m k ≡ true
       → ((m % 3 ≡ AT) × (holdsAt b s (m / 3) ≡ true)) ⊎ ((k % 3 ≡ AT) × (holdsAt b s (k / 3) ≡ true))
   unfolding step₁ bySync toRelease fromAcquire
-  step-ends s m k h = go (or-cases _ _ h)
+  step-ends s m k h = go (or-cases _ _ (rw (row-cases (decode b p mode n) s m k) at h))
     where
       inner : (bySync (decode b p mode n) s m k ≡ true) ⊎ (toRelease (decode b p mode n) s m k ≡ true)
           → ((m % 3 ≡ AT) × (holdsAt b s (m / 3) ≡ true)) ⊎ ((k % 3 ≡ AT) × (holdsAt b s (k / 3) ≡ true))

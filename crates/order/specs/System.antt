@@ -20,6 +20,7 @@ use Rattle.model.specs.Limits.{ROWS, WORK}
 use Rattle.model.specs.Table.{dependency, dependsOf, decode}
 use Rattle.model.specs.Moment.{AT, rowIn, part}
 use Rattle.model.specs.Happens.{bySystem, step}
+use Rattle.laws.specs.CaseLaws.{step-last}
 use Rattle.laws.specs.HostLaws.{step₁}
 use Rattle.area.specs.Regions.{STEP, STEP-END, MOMENTS}
 
@@ -55,8 +56,8 @@ to-all b p mode n m k = refl
 
 step-more : (b : List ℕ) (p : List (List ℕ)) (mode : Mode) (n s m k : ℕ)
     → (step₁ (decode b p mode n) s m k or bySystem (decode b p mode n) m k) ≡ step (decode b p mode n) s m k
-unfolding step step₁
-step-more b p mode n s m k = refl
+unfolding step₁
+step-more b p mode n s m k = sym (step-last (decode b p mode n) s m k)
 
 -- ---- laws: one bit
 

@@ -33,9 +33,12 @@ fn is_step(s: u8, from: u8, to: u8, r: Row, q: Row, synced: bool, ordered: bool)
     if !(h | g) {
         return false;
     }
-    cases::is_case(1, s, from, to, r, q, synced, ordered)
-        | cases::is_case(2, s, from, to, r, q, synced, ordered)
-        | cases::is_case(3, s, from, to, r, q, synced, ordered)
+    for k in 0..cases::ROW_CASES {
+        if cases::is_case(k + 1, s, from, to, r, q, synced, ordered) {
+            return true;
+        }
+    }
+    false
 }
 
 // M6: one of them for the class set s from moment m to moment k. Most pairs neither synchronize nor are program-ordered, and no whole

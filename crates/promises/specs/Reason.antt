@@ -12,7 +12,7 @@ use lib.ListN.{length, getD}
 use lib.Dec.{ltb, eqb}
 use borrow.Author.Tests.{ltb-true, lt-ltb, le-ltb, leb-true, le-leb, eqb-true, eqb-false, eq-eqb, ne-eqb}
 use Rattle.finite.specs.Logic.{_and_, _or_, which, split, and-true, or-cases, or-left, or-right, not-both, not-in, not-out}
-use Rattle.finite.specs.Below.{least, any-off, any-not, Least, least-is, least-hit}
+use Rattle.finite.specs.Below.{anyBelow, least, any-off, any-not, Least, least-is, least-hit}
 use Rattle.finite.specs.Closure.{Reach, one, more}
 use Rattle.finite.specs.Walk.{walk, trail, along}
 use Rattle.finite.specs.Cycle.{Way, there, onward, length-trail, length-along, trail-way, walk-reach, least-apart}
@@ -22,8 +22,9 @@ use Rattle.model.specs.declared.Reason.the-variants.{ProgramOrder, Chain}
 use Rattle.model.specs.Limits.{ROWS, CHAIN, CASE, CLASS-SETS}
 use Rattle.model.specs.Table.{Table, tableUnder, tableOf, decode}
 use Rattle.model.specs.Moment.{AT, part, momentOf, momentIn, moment, orderedRows, programOrder}
-use Rattle.model.specs.Happens.{holding, holdingOf, bySync, toRelease, fromAcquire, bySystem, direct, step}
+use Rattle.model.specs.Happens.{holding, holdingOf, bySync, toRelease, fromAcquire, bySystem, ROW-CASES, direct, nthCase, step}
 use Rattle.model.specs.Words.{HappensBefore}
+use Rattle.laws.specs.CaseLaws.{step-cases, step-out}
 use Rattle.laws.specs.AdmissionLaws.{admitted-sound, rows-fit}
 use Rattle.model.specs.Refusal.{buffersFit, admission, whenAdmitted}
 use Rattle.model.specs.Reason.{caseIn, reached, stepTo, stepHolds, stands, broken, chainHolds, accepts, twoMoments}
@@ -57,6 +58,18 @@ or-is {a} {b} f g = (
 case-is : (c n : ℕ) {b : Bool} → ((eqb c n and b) ≡ true) ↔ ((c ≡ n) × (b ≡ true))
 case-is c n = (λ e. (eqb-true c n (split e .0), split e .1), λ e. and-true (eq-eqb c n (e .0)) (e .1))
 
+-- some number up to n passes: n does, where none below it does
+least-last : (p : ℕ → Bool) (n : ℕ) → anyBelow (suc n) p ≡ true → p (least n p) ≡ true
+unfolding anyBelow
+least-last p n e = go (decLt (least n p) n)
+  where
+    go : Dec (least n p < n) → p (least n p) ≡ true
+    go (yes l) = least-is p n .hit l
+    go (no l) =
+        let b = least-is p n .bound in
+        let q : least n p ≡ n = omega arith in
+        rw q (⊎-elim (λ h. absurd (l (least-hit p n h .0))) (λ h. h) (or-cases (anyBelow n p) (p n) e))
+
 module _ (t : Table) (s m : ℕ) where
   -- a step holds exactly if the moment that it reaches is there, and the direct case that it names, 1 to 4, leads to it
   pub step-exactly : (x : ℕ) → (stepHolds t s m x ≡ true) ↔ ((moment t (reached x) ≡ true)
@@ -74,8 +87,9 @@ module _ (t : Table) (s m : ℕ) where
 
   -- a step that holds is one of those that inter-thread order is the closure of
   step-is : (x : ℕ) → stepHolds t s m x ≡ true → step t s m (reached x) ≡ true
-  unfolding stepHolds direct step
-  step-is x h = or-map (or-map (or-map (λ e. split e .1) (λ e. split e .1)) (λ e. split e .1)) (λ e. split e .1) (split h .1)
+  unfolding stepHolds direct
+  step-is x h = rw (step-cases t s m (reached x))
+      (or-map (or-map (or-map (λ e. split e .1) (λ e. split e .1)) (λ e. split e .1)) (λ e. split e .1) (split h .1))
     where
       or-map : {a b c d : Bool} → (a ≡ true → c ≡ true) → (b ≡ true → d ≡ true) → (a or b) ≡ true → (c or d) ≡ true
       or-map {a} {b} {c} {d} f g e = ⊎-elim (λ p. or-left d (f p)) (λ p. or-right c (g p)) (or-cases a b e)
@@ -94,20 +108,14 @@ module _ (t : Table) (s m : ℕ) where
   ordered k e = split e .1
 
   moment-there : (k : ℕ) → k < 3 * t .rows → step t s m k ≡ true → moment t k ≡ true
-  unfolding step bySync toRelease fromAcquire bySystem
-  moment-there k l h = last (or-cases (bySync t s m k or toRelease t s m k or fromAcquire t s m k) (bySystem t m k) h)
+  unfolding bySync toRelease fromAcquire bySystem
+  moment-there k l h = go (step-out t s m k h)
     where
-      inner : (bySync t s m k ≡ true) ⊎ (toRelease t s m k ≡ true) → moment t k ≡ true
-      inner (inl e) = own k l (split (split e .0) .1)
-      inner (inr e) = own k l (split (split (split e .0) .0) .0)
-
-      go : ((bySync t s m k or toRelease t s m k) ≡ true) ⊎ (fromAcquire t s m k ≡ true) → moment t k ≡ true
-      go (inl e) = inner (or-cases _ _ e)
-      go (inr e) = ordered k (split e .1)
-
-      last : ((bySync t s m k or toRelease t s m k or fromAcquire t s m k) ≡ true) ⊎ (bySystem t m k ≡ true) → moment t k ≡ true
-      last (inl e) = go (or-cases _ _ e)
-      last (inr e) = row-there k l (split (split e .0) .1)
+      go : (bySync t s m k ≡ true) ⊎ ((toRelease t s m k ≡ true) ⊎ ((fromAcquire t s m k ≡ true) ⊎ (bySystem t m k ≡ true))) → moment t k ≡ true
+      go (inl e) = own k l (split (split e .0) .1)
+      go (inr (inl e)) = own k l (split (split (split e .0) .0) .0)
+      go (inr (inr (inl e))) = ordered k (split e .1)
+      go (inr (inr (inr e))) = row-there k l (split (split e .0) .1)
 
 -- ---- laws: a chain
 
@@ -194,30 +202,16 @@ module _ (t : Table) (s : ℕ) where
   leads-reach {m} b (next {x = x} h done) = one (step-is t s m x h)
   leads-reach {m} b (next {x = x} h (next g p)) = more (step-is t s m x h) (below (reached x) (step-there t s m x h)) (leads-reach (omega arith) (next g p))
 
-  -- where no other case leads to a moment, the fourth does
-  fourth : (m k : ℕ) → bySync t s m k ≡ false → toRelease t s m k ≡ false → fromAcquire t s m k ≡ false → step t s m k ≡ true → bySystem t m k ≡ true
-  unfolding step _or_
-  fourth m k x y z h = rw (x, y, z) at h
-
   -- a step by the lowest case that leads to a moment holds
   lowest-holds : (m k : ℕ) → k < CASE → moment t k ≡ true → step t s m k ≡ true → stepHolds t s m (stepNumber t s m k) ≡ true
-  unfolding stepHolds stepNumber lowestCase step direct
-  lowest-holds m k b here h = go (which (bySync t s m k)) (which (toRelease t s m k)) (which (fromAcquire t s m k))
+  unfolding stepHolds stepNumber lowestCase step nthCase
+  lowest-holds m k b here h = by (lowestCase t s m k) (least-last (nthCase t s m k) ROW-CASES h)
     where
       by : (case : ℕ) → direct t s case m k ≡ true → stepHolds t s m (stepTo case k) ≡ true
       by case d =
           let a : caseIn (stepTo case k) ≡ case = omega arith in
           let r : reached (stepTo case k) ≡ k = omega arith in
           rw (a, r) (and-true here d)
-
-      go : (bySync t s m k ≡ true) ⊎ (bySync t s m k ≡ false)
-          → (toRelease t s m k ≡ true) ⊎ (toRelease t s m k ≡ false)
-          → (fromAcquire t s m k ≡ true) ⊎ (fromAcquire t s m k ≡ false)
-          → stepHolds t s m (stepTo (cond (bySync t s m k) 1 (cond (toRelease t s m k) 2 (cond (fromAcquire t s m k) 3 4))) k) ≡ true
-      go (inl x) y z = rw x (by 1 (or-left _ (or-left _ (or-left _ (and-true (eq-eqb 1 1 refl) x)))))
-      go (inr x) (inl y) z = rw (x, y) (by 2 (or-left _ (or-left _ (or-right _ (and-true (eq-eqb 2 2 refl) y)))))
-      go (inr x) (inr y) (inl z) = rw (x, y, z) (by 3 (or-left _ (or-right _ (and-true (eq-eqb 3 3 refl) z))))
-      go (inr x) (inr y) (inr z) = rw (x, y, z) (by 4 (or-right _ (and-true (eq-eqb 4 4 refl) (fourth m k x y z h))))
 
   hop : (z w : ℕ) {k : ℕ} {l : List ℕ} → t .rows ≤ ROWS → w < 3 * t .rows → step t s z w ≡ true → Leads t s w l k → Leads t s z (stepNumber t s z w ∷ l) k
   unfolding stepNumber

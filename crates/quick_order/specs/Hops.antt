@@ -19,6 +19,7 @@ use Rattle.model.specs.Table.{Table, rowOf}
 use Rattle.model.specs.Moment.{rowIn, itself, programOrder}
 use Rattle.model.specs.Synchronizes.{synchronizes}
 use Rattle.model.specs.Happens.{holding, concerns, bySync, toRelease, fromAcquire, bySystem, step}
+use Rattle.laws.specs.CaseLaws.{step-cases}
 use Rattle.area.specs.Regions.{MOMENTS}
 use Rattle.sets.specs.Meet.{meetIf, both, within-meetIf, bit-meetIf}
 use Rattle.sets.specs.Own.{ClosedOwn, Rest}
@@ -174,11 +175,11 @@ step-is : (t : Table) (s x m : ℕ)
     → step t s (itself x) m
     ≡ (holding t s (itself x) and holding t s m and synchronizes t x (rowIn m) or releaseAt t s m and concerns t s (itself x) and programOrder t (itself x) m
     or holding t s (itself x) and acquires (t .row x) and concerns t s m and programOrder t (itself x) m or dependsTo t x m)
-unfolding step bySync toRelease fromAcquire bySystem releaseAt dependsTo _and_
+unfolding bySync toRelease fromAcquire bySystem releaseAt dependsTo _and_
 step-is t s x m =
     let e : (3 * x + 1) / 3 ≡ x = omega arith in
     let f : eqb ((3 * x + 1) % 3) 1 ≡ true = eq-eqb ((3 * x + 1) % 3) 1 (omega arith) in
-    rw (e, f) refl
+    step-cases t s (itself x) m ∙ rw (e, f) refl
 
 depends-out : (t : Table) (x m : ℕ) → dependsTo t x m ≡ true → t .depends x (rowIn m) ≡ true
 unfolding dependsTo

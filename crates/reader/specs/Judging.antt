@@ -21,7 +21,7 @@ use Rattle.model.specs.Limits.{CHAIN, CASE, CLASS-SETS}
 use Rattle.model.specs.Table.{Table, ROW-BYTES, rowBytes, placesOf, modeOf, rowOf, decode}
 use Rattle.model.specs.Moment.{moment, momentIn, orderedRows, programOrder}
 use Rattle.model.specs.Synchronizes.{synchronizes}
-use Rattle.model.specs.Happens.{bySystem, direct}
+use Rattle.model.specs.Happens.{bySystem, CASES, direct}
 use Rattle.model.specs.Reason.{stands, stepHolds, broken, chainHolds, accepts, twoMoments, judged, acceptAnswer}
 use Rattle.model.specs.declared.Refusal.{Refusal}
 use Rattle.model.specs.Refusal.{refusalOf}
@@ -43,7 +43,7 @@ module _ (b : List ℕ) (p : List (List ℕ)) (mode : Mode) (n s case m k : ℕ)
   pub direct-told : (r q : Row) (v o d e : Bool) → r ≡ rowOf b (m / 3) → q ≡ rowOf b (k / 3)
       → v ≡ (eqb case 1 and synchronizes (decode b p mode n) (m / 3) (k / 3))
       → o ≡ orderedRows n m k r q → d ≡ caseRows case s (m % 3) (k % 3) r q v o → e ≡ bySystem (decode b p mode n) m k
-      → (d or (eqb case 4 and e)) ≡ direct (decode b p mode n) s case m k
+      → (d or (eqb case CASES and e)) ≡ direct (decode b p mode n) s case m k
   unfolding programOrder decode
   direct-told r q v o d e er eq ev eo ed ee =
       rw (

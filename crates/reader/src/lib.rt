@@ -62,7 +62,7 @@ fn is_direct(rows: &[u8], p: Places, mode: Mode, n: usize, s: u8, case: u16, m: 
     let b = is_synced(rows, p, mode, n, case, m, k);
     let o = moments::is_ordered(n, m as usize, k as usize, r, q);
     cases::is_case(case, s, (m % 3) as u8, (k % 3) as u8, r, q, b, o)
-        | (case == 4) & is_system(mode, m, k)
+        | (case == cases::CASES) & is_system(mode, m, k)
 }
 
 // Whether the step x, CASE × its case + the moment that it reaches, holds from moment m for the class set s.

@@ -1,9 +1,10 @@
 -- The lowest direct case on rows that are decoded already, and that it is the table's. Assumes nothing.
-use mathlib.Core.Path.{_≡_, refl, _∙_}
-use mathlib.Core.Bool.{Bool, true, false, cond}
+use mathlib.Core.Path.{_≡_, refl, ap, _∙_}
+use mathlib.Core.Bool.{Bool}
 use mathlib.Core.List.{List}
-use Prim.Native.Nat.{ℕ, _+_, _*_, _/_, _%_, _≤_, _<_}
+use Prim.Native.Nat.{ℕ, suc, _+_, _*_, _/_, _%_, _≤_, _<_}
 use native.Mathlib.Omega.{arith}
+use Rattle.finite.specs.Below.{least, least-is, least-cong}
 use Rattle.bits.specs.Bit.{bit}
 use Rattle.bits.specs.Stage.{holds-bit}
 use Rattle.model.specs.declared.Mode.{Mode}
@@ -12,30 +13,24 @@ use Rattle.model.specs.Limits.{CASE}
 use Rattle.model.specs.Table.{decode, rowOf}
 use Rattle.model.specs.Moment.{rowIn, part, programOrder}
 use Rattle.model.specs.Synchronizes.{synchronizes}
-use Rattle.model.specs.Happens.{holding, concerns, bySync, toRelease, fromAcquire}
+use Rattle.model.specs.Happens.{ROW-CASES, CASES}
 use Rattle.model.specs.Reason.{lowestCase, stepNumber}
-use Rattle.rules.specs.Cases.{caseRows, case-one, case-two, case-three}
+use Rattle.rules.specs.Cases.{nthCaseRows, nth-is}
 use Rattle.area.specs.Regions.{SYNC, GRID}
 use Rattle.area.specs.Synced.{Synced}
 
 -- ---- definitions
 
--- M6: the lowest case that leads from the moment `from` of r to the moment `to` of q, 4 if none of the three that go by rows does; b
+-- M6: the lowest case that leads from the moment `from` of r to the moment `to` of q, the last if none of those that go by rows does; b
 -- says that r synchronizes-with q, o that the one moment is program-ordered before the other
 unfoldable pub lowestRows : ℕ → ℕ → ℕ → Row → Row → Bool → Bool → ℕ
-lowestRows s from to r q b o = cond (caseRows 1 s from to r q b o) 1 (cond (caseRows 2 s from to r q b o) 2 (cond (caseRows 3 s from to r q b o) 3 4))
+lowestRows s from to r q b o = suc (least ROW-CASES (nthCaseRows s from to r q b o))
 
 -- ---- laws
 
-pub case-small : (s from to : ℕ) (r q : Row) (b o : Bool) → lowestRows s from to r q b o ≤ 4
+pub case-small : (s from to : ℕ) (r q : Row) (b o : Bool) → lowestRows s from to r q b o ≤ CASES
 unfolding lowestRows
-case-small s from to r q b o = go (caseRows 1 s from to r q b o) (caseRows 2 s from to r q b o) (caseRows 3 s from to r q b o)
-  where
-    go : (x y z : Bool) → cond {A = ℕ} x 1 (cond y 2 (cond z 3 4)) ≤ 4
-    go true y z = omega arith
-    go false true z = omega arith
-    go false false true = omega arith
-    go false false false = omega arith
+case-small s from to r q b o = let h = least-is (nthCaseRows s from to r q b o) ROW-CASES .bound in omega arith
 
 -- on rows and order that were read
 pub case-told : (s from to d : ℕ) (r q x y : Row) (b o v : Bool) → d ≡ lowestRows s from to r q b o → r ≡ x → q ≡ y → o ≡ v → d ≡ lowestRows s from to x y b v
@@ -46,8 +41,8 @@ module _ (b : List ℕ) (p : List (List ℕ)) (mode : Mode) (n : ℕ) where
       → lowestCase (decode b p mode n) s m k
       ≡ lowestRows s (part m) (part k) (rowOf b (rowIn m)) (rowOf b (rowIn k)) (synchronizes (decode b p mode n) (rowIn m) (rowIn k))
       (programOrder (decode b p mode n) m k)
-  unfolding lowestCase bySync toRelease fromAcquire holding concerns lowestRows decode
-  case-is s m k = rw (case-one _ _ _ _ _ _ _, case-two _ _ _ _ _ _ _, case-three _ _ _ _ _ _ _) refl
+  unfolding lowestCase lowestRows
+  case-is s m k = ap suc (least-cong _ _ ROW-CASES (nth-is b p mode n s m k))
 
   -- the number of a step, with the bit of the work area
   pub number-is : (w : List ℕ) (s m k i d : ℕ) (v : Bool) → Synced (decode b p mode n) n w → m < 3 * n → k < 3 * n

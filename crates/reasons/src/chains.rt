@@ -13,6 +13,7 @@ ghost use Rattle.model.specs.declared.Mode.{Mode};
 ghost use Rattle.model.specs.Limits.{ROWS, WORK, CHAIN, CLASS-SETS};
 ghost use Rattle.model.specs.Table.{decode, rowOf};
 ghost use Rattle.model.specs.Moment.{programOrder};
+ghost use Rattle.model.specs.Happens.{CASES};
 ghost use Rattle.model.specs.Reason.{hasChainBy, stepNumber};
 ghost use Rattle.area.specs.Regions.{HAPPENS, STEP, CHAINS, CHAINS-END, MOMENTS};
 ghost use Rattle.area.specs.Synced.{Synced};
@@ -23,7 +24,6 @@ use crate::layers;
 use model::Mode;
 use model::Places;
 use model::Row;
-use rows::pick;
 use rules::cases;
 use rules::moments;
 
@@ -58,19 +58,17 @@ pub fn find_set(
 
 // ---- its steps
 
-// M6: the lowest case from the moment `from` of r to the moment `to` of q, where there is one: a dependency if it is none of the three
-// that go by rows.
+// M6: the lowest case from the moment `from` of r to the moment `to` of q, where there is one: a dependency if it is none of those that
+// go by rows.
 fn case_of(s: u8, from: u8, to: u8, r: Row, q: Row, synced: bool, ordered: bool) -> u16
     ensures { λ d. ⌜ d ≡ lowestRows s from to r q synced ordered ⌝ }
 {
-    let sync = cases::is_case(1, s, from, to, r, q, synced, ordered);
-    let release = cases::is_case(2, s, from, to, r, q, synced, ordered);
-    let acquire = cases::is_case(3, s, from, to, r, q, synced, ordered);
-    pick::number(
-        sync,
-        1,
-        pick::number(release, 2, pick::number(acquire, 3, 4)),
-    )
+    for k in 0..cases::ROW_CASES {
+        if cases::is_case(k + 1, s, from, to, r, q, synced, ordered) {
+            return k + 1;
+        }
+    }
+    cases::CASES
 }
 
 // The same of moments m and k of a table.
@@ -78,7 +76,7 @@ fn case_at(rows: &[u8], n: usize, s: u8, m: usize, k: usize, synced: bool) -> u1
     requires { ⌜ (n ≤ ROWS) × (m < 3 * n) × (k < 3 * n) ⌝ }
     ensures { λ d. let r = rowOf (now (rows .entry)) (m / 3) in
         let q = rowOf (now (rows .entry)) (k / 3) in
-        ⌜ (d ≤ 4) × ((p : List (List ℕ)) (mode : Mode)
+        ⌜ (d ≤ CASES) × ((p : List (List ℕ)) (mode : Mode)
         → d ≡ lowestRows s (m % 3) (k % 3) r q synced (programOrder (decode (now (rows .entry)) p mode n) m k)) ⌝ }
 {
     let ordered = moments::ordered_at(rows, n, m, k);

@@ -2,17 +2,18 @@
 use mathlib.Core.Path.{_≡_, refl, sym, ap, _∙_}
 use mathlib.Core.Bool.{Bool, true, false, cond}
 use mathlib.Core.List.{List}
-use Prim.Native.Nat.{ℕ}
+use Prim.Native.Nat.{ℕ, suc, _<_}
+use native.Mathlib.Omega.{arith}
 use lib.Dec.{eqb}
 use borrow.Author.Tests.{ne-eqb}
-use Rattle.finite.specs.Logic.{_and_, _or_, or-off}
+use Rattle.finite.specs.Logic.{_and_, _or_, and-false-left, or-off}
 use Rattle.model.specs.declared.Mode.{Mode}
 use Rattle.model.specs.declared.Row.{Row}
 use Rattle.model.specs.Row.{access, holds, meets, classIn, releases, acquires}
 use Rattle.model.specs.Table.{decode, rowOf}
 use Rattle.model.specs.Moment.{AT, rowIn, part, classesOf, programOrder}
 use Rattle.model.specs.Synchronizes.{synchronizes}
-use Rattle.model.specs.Happens.{holdingOf, concernsOf, holding, concerns, bySync, toRelease, fromAcquire, bySystem, direct}
+use Rattle.model.specs.Happens.{holdingOf, concernsOf, holding, concerns, bySync, toRelease, fromAcquire, bySystem, ROW-CASES, CASES, direct, nthCase}
 
 -- ---- definitions
 
@@ -31,6 +32,10 @@ caseRows case s from to r q b o =
     (eqb case 1 and (holdingOf s r from and holdingOf s q to and b))
     or (eqb case 2 and (holdingOf s q to and releases q and concernsOf s r from and o))
     or (eqb case 3 and (holdingOf s r from and acquires r and concernsOf s q to and o))
+
+-- direct case k + 1 of these
+unfoldable pub nthCaseRows : ℕ → ℕ → ℕ → Row → Row → Bool → Bool → ℕ → Bool
+nthCaseRows s from to r q b o k = caseRows (suc k) s from to r q b o
 
 -- ---- laws: of two rows
 
@@ -89,6 +94,14 @@ module _ (b : List ℕ) (p : List (List ℕ)) (mode : Mode) (n : ℕ) where
       → direct (decode b p mode n) s case m k
       ≡ (caseRows case s (part m) (part k) (rowOf b (rowIn m)) (rowOf b (rowIn k)) (synchronizes (decode b p mode n) (rowIn m) (rowIn k))
       (programOrder (decode b p mode n) m k)
-      or (eqb case 4 and bySystem (decode b p mode n) m k))
+      or (eqb case CASES and bySystem (decode b p mode n) m k))
   unfolding direct bySync toRelease fromAcquire holding concerns caseRows decode
   direct-is s case m k = refl
+
+  -- one of the three
+  pub nth-is : (s m k c : ℕ) → c < ROW-CASES
+      → nthCase (decode b p mode n) s m k c
+      ≡ nthCaseRows s (part m) (part k) (rowOf b (rowIn m)) (rowOf b (rowIn k)) (synchronizes (decode b p mode n) (rowIn m) (rowIn k))
+      (programOrder (decode b p mode n) m k) c
+  unfolding nthCase nthCaseRows
+  nth-is s m k c l = direct-is s (suc c) m k ∙ or-off _ _ (and-false-left _ _ (ne-eqb (suc c) CASES (λ e. absurd (omega arith))))

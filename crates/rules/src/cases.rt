@@ -11,6 +11,11 @@ use rows::pick;
 // M6: the class sets are the numbers 1 to 15.
 pub const CLASS_SETS: u8 = 15;
 
+// M6: the direct cases are the numbers 1 to CASES; 1 to ROW_CASES go by rows, and the last by dependencies.
+pub const ROW_CASES: u16 = 3;
+
+pub const CASES: u16 = 4;
+
 // M6: whether moment k is the atomic or barrier r itself, holding all of s.
 pub fn holding_of(s: u8, r: Row, k: u8) -> bool
     ensures { λ b. ⌜ b ≡ holdingOf s r k ⌝ }

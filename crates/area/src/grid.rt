@@ -2,8 +2,8 @@
 ghost use mathlib.Core.Path.{_≡_};
 ghost use Prim.Native.Nat.{_+_, _*_, _≤_, _<_};
 ghost use lib.ListN.{length};
-ghost use Rattle.bits.specs.Bit.{bit, setBit, setBitIf};
-ghost use Rattle.bits.specs.Matrix.{AREA-LIMIT};
+ghost use Rattle.bits.specs.Bit.{bit, setBit, setBitIf, joinRow};
+ghost use Rattle.bits.specs.Matrix.{AREA-LIMIT, Closed};
 ghost use Rattle.area.specs.Regions.{GRID};
 
 // The word where row i of the grid at word `base` begins.
@@ -39,4 +39,23 @@ pub fn put_if(w: &mut [u64], base: usize, i: usize, j: usize, b: bool)
     ensures { λ _. ⌜ now (w .exit) ≡ setBitIf b (now (w .entry)) ((base + i * GRID) * 64 + j) ⌝ }
 {
     bits::put_if(w, (base + i * super::GRID) * 64 + j, b);
+}
+
+// Row i of the grid at word `dst` takes in row j of the grid at word `src`.
+// Ruled out: one that exchanges the two rows; one that joins to the row after it.
+pub fn join(w: &mut [u64], dst: usize, i: usize, src: usize, j: usize)
+    requires { ⌜ (dst + i * GRID + GRID ≤ length (now w)) × (src + j * GRID + GRID ≤ length (now w))
+        × (src + j * GRID < dst + i * GRID → src + j * GRID + GRID ≤ dst + i * GRID) ⌝ }
+    ensures { λ _. ⌜ now (w .exit) ≡ joinRow (now (w .entry)) (dst + i * GRID) (src + j * GRID) GRID ⌝ }
+{
+    bits::join_row(w, dst + i * super::GRID, src + j * super::GRID, super::GRID);
+}
+
+// The transitive closure of the first n rows of the grid at word `base`, in place.
+// Ruled out: one that takes the bits of a row for its words; one that closes all rows of the grid.
+pub fn close(w: &mut [u64], base: usize, n: usize)
+    requires { ⌜ (base + n * GRID ≤ length (now w)) × (base + n * GRID ≤ AREA-LIMIT) × (n ≤ 64 * GRID) ⌝ }
+    ensures { λ _. ⌜ Closed (now (w .entry)) (now (w .exit)) base n GRID ⌝ }
+{
+    bits::close(w, base, n, super::GRID);
 }

@@ -15,7 +15,7 @@ pub const PAIR: usize = 16;
 pub const PAIRS: usize = 2048;
 
 // Words of a grid over rows, over moments, and of the bits of all pairs.
-const ROWS_GRID: usize = 256;
+pub const ROWS_GRID: usize = 256;
 
 const MOMENTS_GRID: usize = 2304;
 

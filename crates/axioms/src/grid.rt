@@ -30,7 +30,7 @@ fn order_row(rows: &[u8], p: Places, mode: Mode, n: usize, x: usize, w: &mut [u6
     requires { ⌜ (x < n) × Ready (decode (now rows) p mode n) n (now w) ⌝ }
     ensures { λ _. ⌜ Edged n (fromUpto x n (beforeSome (decode (now (rows .entry)) p mode n) x)) (now (w .entry)) (now (w .exit)) ⌝ }
 {
-    let at = area::OVERLAP + x * area::GRID;
+    let at = area::grid::at(area::OVERLAP, x);
     let mut y = walk::next(w, at, at, 0, n);
     while y < n {
         let b = race::pair::before_some(rows, p, mode, n, x, y, w);
@@ -65,7 +65,7 @@ fn after_row(rows: &[u8], p: Places, mode: Mode, n: usize, x: usize, s: usize, w
     requires { ⌜ (x < n) × (s < n) × Ready (decode (now rows) p mode n) n (now w) ⌝ }
     ensures { λ _. ⌜ Edged n (fromUpto x n (after (decode (now (rows .entry)) p mode n) x s)) (now (w .entry)) (now (w .exit)) ⌝ }
 {
-    let at = area::MUTUAL + s * area::GRID;
+    let at = area::grid::at(area::MUTUAL, s);
     let mut y = walk::next(w, at, at, 0, n);
     if n <= y {
         return;
@@ -101,7 +101,7 @@ fn from_initial(rows: &[u8], p: Places, mode: Mode, n: usize, src: &[u16], x: us
     ensures { λ _. let t = decode (now (rows .entry)) p mode n in
         ⌜ Edged n (fromUpto x n (fromReads t (sourceIn (now (src .entry))) x)) (now (w .entry)) (now (w .exit)) ⌝ }
 {
-    let at = area::OVERLAP + x * area::GRID;
+    let at = area::grid::at(area::OVERLAP, x);
     let mut y = walk::next(w, at, at, 0, n);
     while y < n {
         let b = from_shared(rows, p, mode, n, src, x, y);

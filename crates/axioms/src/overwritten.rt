@@ -113,7 +113,7 @@ pub fn over_writer(
     if !(rows::kinds::reads(r) & s.is_row(n as u16)) {
         return n;
     }
-    let at = area::OVERLAP + y * area::GRID;
+    let at = area::grid::at(area::OVERLAP, y);
     let mut z = walk::next(w, at, at, 0, n);
     while z < n {
         if over_nth(rows, p, mode, n, src, y, z, w) < area::PAIR {

@@ -30,7 +30,7 @@ pub fn fill_releasing(w: &mut [u64], rows: &[u8], n: usize)
     requires { ⌜ (n ≤ ROWS) × (WORK ≤ length (now w)) ⌝ }
     ensures { λ _. ⌜ MadeSet RELEASING n (releasesAt (now (rows .entry))) (now (w .entry)) (now (w .exit)) ⌝ }
 {
-    bits::clear(w, crate::RELEASING, crate::RELEASING + area::MOMENTS);
+    area::moments::clear(w, crate::RELEASING);
     for x in 0..n {
         let b = releases_at(rows, x);
         bits::put_if(w, crate::RELEASING * 64 + (3 * x + 1), b);
@@ -62,7 +62,7 @@ fn fill_touched(w: &mut [u64], rows: &[u8], n: usize, q: u8, a: usize)
     requires { ⌜ (n ≤ ROWS) × (a < TOUCHED-END) × (a + 6 ≤ length (now w)) ⌝ }
     ensures { λ _. ⌜ MadeSet a n (touchesAt (now (rows .entry)) q) (now (w .entry)) (now (w .exit)) ⌝ }
 {
-    bits::clear(w, a, a + area::MOMENTS);
+    area::moments::clear(w, a);
     for x in 0..n {
         put_touched(w, rows, q, a, x);
     }
@@ -74,7 +74,8 @@ pub fn fill_classes(w: &mut [u64], rows: &[u8], n: usize)
     ensures { λ _. ⌜ MadeTouched (now (rows .entry)) n CLASSES (now (w .entry)) (now (w .exit)) ⌝ }
 {
     for q in 0..CLASSES {
-        fill_touched(w, rows, n, q, crate::TOUCHED + (q as usize) * area::MOMENTS);
+        let a = area::moments::at(crate::TOUCHED, q as usize);
+        fill_touched(w, rows, n, q, a);
     }
 }
 
@@ -97,7 +98,7 @@ pub fn fill_hold(w: &mut [u64], rows: &[u8], n: usize, s: u8)
     requires { ⌜ (n ≤ ROWS) × (WORK ≤ length (now w)) ⌝ }
     ensures { λ _. ⌜ MadeSet HOLD n (holdingAt (now (rows .entry)) s) (now (w .entry)) (now (w .exit)) ⌝ }
 {
-    bits::clear(w, crate::HOLD, crate::HOLD + area::MOMENTS);
+    area::moments::clear(w, crate::HOLD);
     for x in 0..n {
         let b = hold_at(rows, s, x);
         bits::put_if(w, crate::HOLD * 64 + (3 * x + 1), b);
@@ -109,14 +110,8 @@ pub fn fill_release(w: &mut [u64])
     requires { ⌜ WORK ≤ length (now w) ⌝ }
     ensures { λ _. ⌜ ReleaseMade (now (w .entry)) (now (w .exit)) ⌝ }
 {
-    bits::clear(w, crate::RELEASE, crate::RELEASE + area::MOMENTS);
-    sets::meet_row(
-        w,
-        crate::RELEASE,
-        crate::HOLD,
-        crate::RELEASING,
-        area::MOMENTS,
-    );
+    area::moments::clear(w, crate::RELEASE);
+    sets::moments::meet(w, crate::RELEASE, crate::HOLD, crate::RELEASING);
 }
 
 // M6: the moments that concern s: those that hold all of it, and those of a class in it.
@@ -124,12 +119,12 @@ pub fn fill_concern(w: &mut [u64], s: u8)
     requires { ⌜ WORK ≤ length (now w) ⌝ }
     ensures { λ _. ⌜ ConcernMade s (now (w .entry)) (now (w .exit)) ⌝ }
 {
-    bits::clear(w, crate::CONCERN, crate::CONCERN + area::MOMENTS);
-    bits::join_row(w, crate::CONCERN, crate::HOLD, area::MOMENTS);
+    area::moments::clear(w, crate::CONCERN);
+    area::moments::join(w, crate::CONCERN, 0, crate::HOLD, 0);
     for q in 0..CLASSES {
         let b = (s >> q) % 2 == 1;
-        let a = crate::TOUCHED + (q as usize) * area::MOMENTS;
-        sets::meet_if(w, b, crate::CONCERN, a, a, area::MOMENTS);
+        let a = area::moments::at(crate::TOUCHED, q as usize);
+        sets::moments::meet_if(w, b, crate::CONCERN, a, a);
     }
 }
 
@@ -141,13 +136,8 @@ fn joins_holder(w: &[u64], x: usize) -> bool
     if !bits::get(w, crate::HOLD * 64 + (3 * x + 1)) {
         return false;
     }
-    sets::first_both(
-        w,
-        crate::JOINED + x * area::MOMENTS,
-        crate::HOLD,
-        area::MOMENTS,
-    )
-        < 64 * area::MOMENTS
+    let joined = area::moments::at(crate::JOINED, x);
+    sets::moments::first_both(w, joined, crate::HOLD) < sets::moments::END
 }
 
 // Whether some row does.

@@ -13,7 +13,7 @@ fn spread_row(w: &mut [u64], n: usize, x: usize)
     requires { ⌜ (n ≤ ROWS) × (x < n) × (WORK ≤ length (now w)) ⌝ }
     ensures { λ _. ⌜ Spread (now (w .entry)) (now (w .exit)) x n ⌝ }
 {
-    let at = area::SYNC + x * area::GRID;
+    let at = area::grid::at(area::SYNC, x);
     let mut y = walk::next(w, at, at, 0, n);
     while y < n {
         area::moments::put_if(w, crate::JOINED, x, 3 * y + 1, true);

@@ -16,9 +16,9 @@ fn pass_moment(w: &mut [u64], a: u8, m: usize, b: bool)
     ensures { λ _. ⌜ (now (w .exit) ≡ passWords b a m (now (w .entry))) × (a < NUMBERS) ⌝ }
 {
     if b {
-        let passed = crate::AGENTS + (a as usize) * area::MOMENTS;
-        bits::join_row(w, crate::ORDER + m * area::MOMENTS, passed, area::MOMENTS);
-        bits::put(w, passed * 64 + m);
+        let a = a as usize;
+        area::moments::join(w, crate::ORDER, m, crate::AGENTS, a);
+        area::moments::put(w, crate::AGENTS, a, m);
     }
 }
 

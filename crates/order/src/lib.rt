@@ -60,7 +60,7 @@ pub fn add_set(rows: &[u8], p: Places, mode: Mode, n: usize, s: u8, w: &mut [u64
 {
     if is_live(rows, n, s + 1) {
         steps::fill_step(rows, p, mode, n, s + 1, w);
-        bits::close(w, area::STEP, 3 * n, area::MOMENTS);
+        area::moments::close(w, area::STEP, 3 * n);
         bits::join_row(
             w,
             area::HAPPENS,

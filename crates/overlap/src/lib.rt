@@ -47,8 +47,8 @@ fn ask_near(rows: &[u8], n: usize, x: usize, r: Row, w: &mut [u64])
     ensures { λ _. ⌜ now (w .exit) ≡ rowFill (sharing (now (rows .entry)) x) (now (w .entry)) (OVERLAP * 64 + x * (GRID * 64)) n ⌝ }
 {
     let start = r.start as u32;
-    let a = area::CELLS + cells::cell(start) * area::GRID;
-    let b = area::CELLS + cells::cell(start + (r.size as u32) - 1) * area::GRID;
+    let a = area::grid::at(area::CELLS, cells::cell(start));
+    let b = area::grid::at(area::CELLS, cells::cell(start + (r.size as u32) - 1));
     let mut y = walk::next(w, a, b, 0, n);
     while y < n {
         let s = shares(rows, x, r, y);

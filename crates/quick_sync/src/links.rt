@@ -22,7 +22,7 @@ use crate::filed;
 use crate::meets;
 use crate::mutual;
 use crate::product;
-use crate::product::ROWS_GRID;
+use area::ROWS_GRID;
 use model::Mode;
 use model::Places;
 use model::Row;
@@ -80,7 +80,7 @@ fn heads_row(rows: &[u8], p: Places, mode: Mode, n: usize, a: usize, agents: &[u
         area::grid::put_if(w, HEADS, a, a, own);
         return;
     }
-    let at = filed::agent_file(r.agent) * area::GRID;
+    let at = area::grid::at(0, filed::agent_file(r.agent));
     let mut x = walk::next(agents, at, at, a, n);
     while x < n {
         let b = heads_of(rows, p, mode, n, a, r, x);
@@ -126,7 +126,7 @@ fn takes_row(rows: &[u8], p: Places, mode: Mode, n: usize, x: usize, w: &mut [u6
     if !mutual::writes_at(rows, x) {
         return;
     }
-    let at = area::MUTUAL + x * area::GRID;
+    let at = area::grid::at(area::MUTUAL, x);
     let mut y = walk::next(w, at, at, 0, n);
     while y < n {
         let b = takes_of(rows, p, mode, n, x, y, w);
@@ -170,7 +170,7 @@ fn gets_row(rows: &[u8], p: Places, mode: Mode, n: usize, y: usize, agents: &[u6
         return;
     }
     let q = bytes::read_row(rows, y as u16);
-    let at = filed::agent_file(q.agent) * area::GRID;
+    let at = area::grid::at(0, filed::agent_file(q.agent));
     let mut b = walk::next(agents, at, at, y, n);
     while b < n {
         let d = gets_of(rows, p, mode, n, y, q, b);

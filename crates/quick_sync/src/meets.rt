@@ -22,8 +22,8 @@ ghost use Rattle.quick_sync.specs.Along.{Along, Target, alone};
 ghost use Rattle.quick_sync.specs.Like.{likeAt};
 use crate::links::LINKS;
 use crate::product;
-use crate::product::ROWS_GRID;
 use crate::words;
+use area::ROWS_GRID;
 use model::Mode;
 use model::Places;
 use model::Row;
@@ -74,10 +74,10 @@ fn along_row(rows: &[u8], n: usize, dst: usize, src: usize, a: usize, w: &mut [u
     requires { ⌜ (n ≤ ROWS) × (a < n) × (WORK ≤ length (now w)) × Target dst src × Along (now rows) n dst src (a + 1) (now w) ⌝ }
     ensures { λ _. ⌜ Along (now (rows .entry)) n dst src a (now (w .exit)) × Within PASSED UP-TO-END (now (w .entry)) (now (w .exit)) ⌝ }
 {
-    let own = AGENTS + (bytes::read_agent(rows, a as u16) as usize) * area::GRID;
-    bits::join_row(w, own, src + a * area::GRID, area::GRID);
+    let agent = bytes::read_agent(rows, a as u16) as usize;
+    area::grid::join(w, AGENTS, agent, src, a);
     if barrier_at(rows, a) {
-        bits::join_row(w, dst + a * area::GRID, own, area::GRID);
+        area::grid::join(w, dst, a, AGENTS, agent);
     }
 }
 
@@ -164,14 +164,9 @@ fn joins_row(rows: &[u8], p: &[[u16; 4]], n: usize, c: usize, w: &mut [u64])
         scan_row(rows, p, n, c, r, w);
         return;
     }
-    bits::join_row(
-        w,
-        JOINS + c * area::GRID,
-        JOINS + e * area::GRID,
-        area::GRID,
-    );
+    area::grid::join(w, JOINS, c, JOINS, e);
     area::grid::put(w, JOINS, c, e);
-    words::drop_bit(w, (JOINS + c * area::GRID) * 64 + c);
+    words::drop_bit(w, area::grid::at(JOINS, c) * 64 + c);
 }
 
 fn fill_joins(rows: &[u8], p: &[[u16; 4]], n: usize, w: &mut [u64])

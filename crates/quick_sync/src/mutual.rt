@@ -83,7 +83,7 @@ fn mutual_row(rows: &[u8], p: Places, mode: Mode, n: usize, i: usize, starts: &[
         return;
     }
     let r = bytes::read_row(rows, i as u16);
-    let at = filed::start_file(r.start) * area::GRID;
+    let at = area::grid::at(0, filed::start_file(r.start));
     let mut j = walk::next(starts, at, at, i + 1, n);
     while j < n {
         let b = mutual_of(rows, p, mode, n, i, r, j);
@@ -147,7 +147,7 @@ fn first_break(rows: &[u8], p: Places, mode: Mode, n: usize, a: usize, h: Row, w
         × Holds MUTUAL GRID n (mutually (decode (now rows) p mode n)) (now w) ⌝ }
     ensures { λ f. ⌜ f ≡ firstBreak (decode (now (rows .entry)) p mode n) a n ⌝ }
 {
-    let at = area::MUTUAL + a * area::GRID;
+    let at = area::grid::at(area::MUTUAL, a);
     let mut first = NEVER;
     let mut z = walk::next(w, at, at, 0, n);
     while z < n {
@@ -198,7 +198,7 @@ fn sequence_row(rows: &[u8], p: Places, mode: Mode, n: usize, a: usize, w: &mut 
     }
     let h = bytes::read_row(rows, a as u16);
     let first = first_break(rows, p, mode, n, a, h, w);
-    let at = area::MUTUAL + a * area::GRID;
+    let at = area::grid::at(area::MUTUAL, a);
     let mut x = walk::next_or(w, at, a, 0, n);
     while x < n {
         let b = sequence_of(rows, p, mode, n, a, h, first, x);

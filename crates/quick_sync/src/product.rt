@@ -7,19 +7,16 @@ ghost use Rattle.area.specs.Regions.{GRID, ROWS-GRID};
 ghost use Rattle.quick_sync.specs.Product.{grid, times, Apart, RowTimes};
 use sets::walk;
 
-// The words of a grid.
-pub const ROWS_GRID: usize = model::ROWS * area::GRID;
-
 // Joins to row i of the grid at c the rows of the grid at b that row i of the grid at a has. Most rows have few.
 fn multiply_row(w: &mut [u64], c: usize, a: usize, b: usize, n: usize, i: usize)
     requires { ⌜ (n ≤ ROWS) × (i < n) × (WORK ≤ length (now w)) × (c + ROWS-GRID ≤ WORK) × (a + ROWS-GRID ≤ WORK) × (b + ROWS-GRID ≤ WORK)
         × Apart c a × Apart c b ⌝ }
     ensures { λ _. ⌜ RowTimes (now (w .entry)) (now (w .exit)) c a b i n ⌝ }
 {
-    let at = a + i * area::GRID;
+    let at = area::grid::at(a, i);
     let mut j = walk::next(w, at, at, 0, n);
     while j < n {
-        bits::join_row(w, c + i * area::GRID, b + j * area::GRID, area::GRID);
+        area::grid::join(w, c, i, b, j);
         j = walk::next(w, at, at, j + 1, n);
     }
 }
@@ -31,7 +28,7 @@ pub fn multiply(w: &mut [u64], c: usize, a: usize, b: usize, n: usize)
         × Apart c a × Apart c b ⌝ }
     ensures { λ _. ⌜ Made c (c + ROWS-GRID) c GRID n (times n (grid (now (w .entry)) a) (grid (now (w .entry)) b)) (now (w .entry)) (now (w .exit)) ⌝ }
 {
-    bits::clear(w, c, c + ROWS_GRID);
+    bits::clear(w, c, c + area::ROWS_GRID);
     for i in 0..n {
         multiply_row(w, c, a, b, n, i);
     }

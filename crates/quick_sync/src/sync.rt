@@ -18,8 +18,8 @@ ghost use Rattle.quick_sync.specs.Near.{near, offScope, Level, Peer, Lea
 use crate::links;
 use crate::meets;
 use crate::mutual;
-use crate::product::ROWS_GRID;
 use crate::words;
+use area::ROWS_GRID;
 use model::Mode;
 use model::Places;
 use model::Row;
@@ -155,13 +155,10 @@ fn learn_row(rows: &[u8], p: &[[u16; 4]], n: usize, a: usize, r: Row, e: usize, 
         × Peer (now rows) (now p) n a e × Learnt (now rows) (now p) n (now w) ⌝ }
     ensures { λ _. ⌜ LearntRow (now (rows .entry)) (now (p .entry)) n a e (now (w .entry)) (now (w .exit)) ⌝ }
 {
-    words::set_less(
-        w,
-        UNKNOWN,
-        links::LINKS + a * area::GRID,
-        meets::PASSED + a * area::GRID,
-        COVER + e * area::GRID,
-    );
+    let links = area::grid::at(links::LINKS, a);
+    let passed = area::grid::at(meets::PASSED, a);
+    let known = area::grid::at(COVER, e);
+    words::set_less(w, UNKNOWN, links, passed, known);
     let mut b = walk::next(w, UNKNOWN, UNKNOWN, 0, n);
     while b < n {
         learn_one(rows, p, n, a, r, e, b, w);
@@ -176,10 +173,12 @@ fn draw_row(w: &mut [u64], a: usize, e: usize)
     requires { ⌜ (a < ROWS) × (e < ROWS) × (WORK ≤ length (now w)) ⌝ }
     ensures { λ _. ⌜ Drawn a e (now (w .entry)) (now (w .exit)) ⌝ }
 {
-    let at = area::SYNC + a * area::GRID;
-    let good = GOOD + e * area::GRID;
-    sets::meet_row(w, at, links::LINKS + a * area::GRID, good, area::GRID);
-    sets::meet_row(w, at, meets::PASSED + a * area::GRID, good, area::GRID);
+    let at = area::grid::at(area::SYNC, a);
+    let good = area::grid::at(GOOD, e);
+    let links = area::grid::at(links::LINKS, a);
+    let passed = area::grid::at(meets::PASSED, a);
+    sets::grid::meet(w, at, links, good);
+    sets::grid::meet(w, at, passed, good);
     words::drop_bit(w, at * 64 + a);
 }
 
@@ -211,8 +210,8 @@ fn sync_row(rows: &[u8], p: &[[u16; 4]], mode: Mode, n: usize, level: u16, a: us
     if !links::releases_at(rows, a) {
         return;
     }
-    let links = links::LINKS + a * area::GRID;
-    let passed = meets::PASSED + a * area::GRID;
+    let links = area::grid::at(links::LINKS, a);
+    let passed = area::grid::at(meets::PASSED, a);
     if n <= walk::next(w, links, passed, 0, n) {
         return;
     }

@@ -130,7 +130,7 @@ pub fn first_race(rows: &[u8], p: Places, mode: Mode, n: usize, w: &[u64]) -> Fo
         let r = rows::bytes::read_row(rows, x as u16);
         let start = r.start as u32;
         let end = start + (r.size as u32);
-        let at = area::OVERLAP + x * area::GRID;
+        let at = area::grid::at(area::OVERLAP, x);
         let mut next = walk::next(w, at, at, x + 1, n);
         while next < n {
             let y = next;

@@ -4,11 +4,10 @@ ghost use lib.ListN.{length};
 ghost use Rattle.model.specs.Limits.{ROWS};
 ghost use Rattle.area.specs.Regions.{MOMENTS};
 ghost use Rattle.sets.specs.Held.{NextOf, NextRow, RowsOf};
+use crate::moments::END;
 
-// The bits of a word, and those of a set of moments.
+// The bits of a word.
 const WORD: usize = 64;
-
-const END: usize = WORD * area::MOMENTS;
 
 // The first bit from word m on of the set at word `at`; END where there is none.
 fn next_word(w: &[u64], at: usize, m: usize) -> usize

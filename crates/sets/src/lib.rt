@@ -7,7 +7,9 @@ ghost use Rattle.bits.specs.Matrix.{AREA-LIMIT};
 ghost use Rattle.sets.specs.Lowest.{Lowest, Dropped};
 ghost use Rattle.sets.specs.Meet.{meetRow, meetIf, both};
 
+pub mod grid; // what two rows of a grid over rows share
 pub mod held; // the moments of a set, and the rows that have one
+pub mod moments; // what two sets of moments share
 pub mod own; // the closure of a relation that leads from rows to moments
 pub mod walk; // the bits of a row, one after the other
 

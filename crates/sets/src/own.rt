@@ -8,6 +8,7 @@ ghost use Rattle.area.specs.Regions.{MOMENTS};
 ghost use Rattle.sets.specs.Held.{Below};
 ghost use Rattle.sets.specs.Own.{Taken, Joined, Off, Round, Rest, ClosedOwn};
 use crate::held;
+use crate::moments;
 
 // The bits of a word.
 const WORD: usize = 64;
@@ -19,13 +20,9 @@ fn join_at(w: &mut [u64], base: usize, n: usize, k: usize, i: usize)
     ensures { λ _. ⌜ Taken (now (w .entry)) (now (w .exit)) base n k i ⌝ }
 {
     let m = 3 * k + 1;
-    if (w[base + i * area::MOMENTS + m / WORD] >> (m % WORD)) % 2 == 1 {
-        bits::join_row(
-            w,
-            base + i * area::MOMENTS,
-            base + k * area::MOMENTS,
-            area::MOMENTS,
-        );
+    let at = area::moments::at(base, i);
+    if (w[at + m / WORD] >> (m % WORD)) % 2 == 1 {
+        area::moments::join(w, base, i, base, k);
     }
 }
 
@@ -62,8 +59,8 @@ pub fn close_own(w: &mut [u64], base: usize, n: usize, at: usize, all: bool)
     let hi = held::rows_of(w, at, all, WORD, n);
     let mut k = held::next_row(w, at, all, 0, n);
     while k < n {
-        let a = base + k * area::MOMENTS;
-        if crate::first_both(w, a, a, area::MOMENTS) < WORD * area::MOMENTS {
+        let a = area::moments::at(base, k);
+        if moments::first_both(w, a, a) < moments::END {
             join_own(w, base, n, k, lo, hi);
         }
         k = held::next_row(w, at, all, k + 1, n);

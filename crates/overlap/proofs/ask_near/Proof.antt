@@ -24,12 +24,12 @@ abbrev μ-loop : tie.MeasureT-loop
 
 loop-holds : tie.Need-loop-holds Inv-loop μ-loop
 loop-holds c =
-    let pre = c .before .before .before .before .before .before .before .before .pre in
+    let pre = c .before .before .before .before .before .before .before .before .before .before .pre in
     let next = c .next .ensures in
-    let first = c .before .before .before .before .cell .ensures in
-    let last = c .before .before .cell2 .ensures in
-    let a = ap (λ (z : ℕ). CELLS + z * GRID) (first .0) in
-    let b = ap (λ (z : ℕ). CELLS + z * GRID) (last .0) in (
+    let first = c .before .before .before .before .before .before .cell .ensures in
+    let last = c .before .before .before .cell2 .ensures in
+    let a = c .before .before .before .before .before .at .ensures ∙ ap (λ (z : ℕ). CELLS + z * GRID) (first .0) in
+    let b = c .before .before .at2 .ensures ∙ ap (λ (z : ℕ). CELLS + z * GRID) (last .0) in (
       next .high,
       refl,
       pre .6,
@@ -45,7 +45,7 @@ loop-holds c =
 
 loop-again : tie.Need-loop-again Inv-loop μ-loop
 loop-again c =
-    let pre = c .before .before .before .before .before .before .before .before .before .before .before .before .before .before .before .before .before .pre in
+    let pre = c .before .before .before .before .before .before .before .before .before .before .before .before .before .before .before .before .before .before .before .pre in
     let next = c .next2 .ensures in
     let put = c .before .before .before .before .put-if in
     let inv = c .before .before .before .before .before .before .before .before .loop .inv in
@@ -65,13 +65,12 @@ loop-again c =
     )
 
 returns : tie.Need-returns Inv-loop μ-loop
-returns c = let e : c .before .loop .y ≡ c .before .before .before .before .before .before .before .before .before .before .args .n = omega
+returns c = let e : c .before .loop .y ≡ c .before .before .before .before .before .before .before .before .before .before .before .before .args .n = omega
     arith in rw e at (c .before .loop .inv .9)
 
 pub ask-near-spec : {M : Type 1} → statement M
 ask-near-spec =
     tie.close
-    (tie.spec Inv-loop μ-loop (λ c. search needs) (λ c κs. search needs) (λ c. search needs) (λ c. search needs) (λ c. search needs)
-    (λ c. search needs) (λ c. search needs) (λ c κs. search needs) (λ c. search needs) (λ c. search needs) (λ c κs. search needs) loop-holds
-    (λ c κs. search needs) (λ c κs. search needs) (λ c. search needs) (λ c κs. search needs) (λ c. search needs) loop-again
-    (λ c. search needs) returns)
+    (tie.spec Inv-loop μ-loop (λ c. search needs) (λ c κs. search needs) (λ c κs. search needs) (λ c. search needs) (λ c. search needs)
+    (λ c. search needs) (λ c κs. search needs) (λ c κs. search needs) (λ c κs. search needs) loop-holds (λ c κs. search needs)
+    (λ c κs. search needs) (λ c. search needs) (λ c κs. search needs) (λ c. search needs) loop-again (λ c. search needs) returns)

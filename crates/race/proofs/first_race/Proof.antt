@@ -38,53 +38,53 @@ pairs-holds c = (search needs, refl, least-none _)
 
 loop-holds : tie.Need-loop-holds Inv-loop2 μ-loop2 Inv-loop μ-loop Inv-pairs μ-pairs
 loop-holds c =
-    let next = c .next .ensures in (
+    let next = rw (c .before .at .ensures) at (c .next .ensures) in (
       omega (arith, next .low),
       next .high,
-      c .before .before .before .before .before .pairs .inv .1,
-      row-pass _ _ _ _ _ _ (c .before .before .before .before .before .before .before .before .pre .1 .3 .overlapping)
-          (c .before .before .before .before .pairs-test .taken) next (row-starts _ _),
+      c .before .before .before .before .before .before .pairs .inv .1,
+      row-pass _ _ _ _ _ _ (c .before .before .before .before .before .before .before .before .before .pre .1 .3 .overlapping)
+          (c .before .before .before .before .before .pairs-test .taken) next (row-starts _ _),
       search needs,
     )
 
 may-race-requires : tie.Need-may-race-requires Inv-loop2 μ-loop2 Inv-loop μ-loop Inv-pairs μ-pairs
 may-race-requires c κs = (
-  c .before .before .before .before .before .before .before .before .pairs-test .taken,
+  c .before .before .before .before .before .before .before .before .before .pairs-test .taken,
   c .before .before .loop-test .taken,
-  c .before .before .before .before .before .before .before .read-row .ensures,
+  c .before .before .before .before .before .before .before .before .read-row .ensures,
   c .read-row2 .ensures,
-  c .before .before .before .before .before .before .before .before .before .before .before .before .pre .1,
+  c .before .before .before .before .before .before .before .before .before .before .before .before .before .pre .1,
 )
 
 loop-again : tie.Need-loop-again Inv-loop2 μ-loop2 Inv-loop μ-loop Inv-pairs μ-pairs
 unfolding decode
 loop-again c =
     let inv = c .before .before .before .before .before .loop .inv in
-    let next = c .before .before .before .next2 .ensures in
+    let next = rw (c .before .before .before .before .before .before .before .at .ensures) at (c .before .before .before .next2 .ensures) in
     let e = least-more _ _ (inv .3) (pair-off _ _ _ (sym (c .before .may-race .ensures) ∙ not-true _ (c .if1 .taken))) in (
       omega (arith, inv .0, next .low),
       next .high,
       inv .2,
-      row-pass _ _ _ _ _ _ (c .before .before .before .before .before .before .before .before .before .before .before .before .before
-          .before .pre .1 .3 .overlapping) (c .before .before .before .before .before .before .before .before .before
+      row-pass _ _ _ _ _ _ (c .before .before .before .before .before .before .before .before .before .before .before .before .before .before
+          .before .pre .1 .3 .overlapping) (c .before .before .before .before .before .before .before .before .before .before
           .before .pairs-test .taken) next e,
       inv .4,
     )
 
 loop2-holds : tie.Need-loop2-holds Inv-loop2 μ-loop2 Inv-loop μ-loop Inv-pairs μ-pairs
 unfolding decode
-loop2-holds c = none-starts _ _ _ _ _ _ (c .before .before .before .before .before .before .before .before .before
+loop2-holds c = none-starts _ _ _ _ _ _ (c .before .before .before .before .before .before .before .before .before .before
     .before .read-row .ensures) (c .before .before .before .read-row2 .ensures) (c .lowest-byte .ensures)
 
 unordered-at-requires :
     tie.Need-unordered-at-requires Inv-loop2 μ-loop2 Inv-loop μ-loop Inv-pairs μ-pairs
 unordered-at-requires c κs = (
-  c .before .before .before .before .before .before .before .before .before .before .before .before
+  c .before .before .before .before .before .before .before .before .before .before .before .before .before
       .before .pairs-test .taken,
   c .before .before .before .before .before .before .before .loop-test .taken,
-  c .before .before .before .before .before .before .before .before .before .before .before .before .read-row .ensures,
+  c .before .before .before .before .before .before .before .before .before .before .before .before .before .read-row .ensures,
   c .before .before .before .before .before .read-row2 .ensures,
-  c .before .before .before .before .before .before .before .before .before .before .before .before .before .before .before .before .before .pre .1,
+  c .before .before .before .before .before .before .before .before .before .before .before .before .before .before .before .before .before .before .pre .1,
 )
 
 add-b : tie.Need-add-b Inv-loop2 μ-loop2 Inv-loop μ-loop Inv-pairs μ-pairs
@@ -95,25 +95,25 @@ loop2-again : tie.Need-loop2-again Inv-loop2 μ-loop2 Inv-loop μ-loop Inv-pairs
 loop2-again c = none-more _ _ _ _ (c .before .before .before .loop2 .inv) (sym (c .before .unordered-at .ensures) ∙ c .if3 .left)
 
 cast-t28 : tie.Need-cast-t28 Inv-loop2 μ-loop2 Inv-loop μ-loop Inv-pairs μ-pairs
-cast-t28 c = let l = c .before .before .before .before .before .before .before .before .before .before .before .before .before
+cast-t28 c = let l = c .before .before .before .before .before .before .before .before .before .before .before .before .before .before
     .before .pairs-test .taken in let k = c .before .before .before .before .before .before .before .before .loop-test .taken in
-    let m = c .before .before .before .before .before .before .before .before .before .before .before .before .before .before .before
+    let m = c .before .before .before .before .before .before .before .before .before .before .before .before .before .before .before .before
     .before .before .before .pre .1 .0 in search needs
 
 cast-t29 : tie.Need-cast-t29 Inv-loop2 μ-loop2 Inv-loop μ-loop Inv-pairs μ-pairs
-cast-t29 c = let l = c .before .before .before .before .before .before .before .before .before .before .before .before .before
+cast-t29 c = let l = c .before .before .before .before .before .before .before .before .before .before .before .before .before .before
     .before .pairs-test .taken in let k = c .before .before .before .before .before .before .before .before .loop-test .taken in
-    let m = c .before .before .before .before .before .before .before .before .before .before .before .before .before .before .before
+    let m = c .before .before .before .before .before .before .before .before .before .before .before .before .before .before .before .before
     .before .before .before .pre .1 .0 in search needs
 
 cast-t30 : tie.Need-cast-t30 Inv-loop2 μ-loop2 Inv-loop μ-loop Inv-pairs μ-pairs
 unfolding decode
 cast-t30 c =
     let may = sym (c .before .before .before .before .before .before .may-race .ensures) ∙ not-false _ (c .before .before .before .before .before .if1 .left) in
-    let f = race-ends _ _ _ (c .before .before .before .before .before .before .before .before .before .before .before .before .before
+    let f = race-ends _ _ _ (c .before .before .before .before .before .before .before .before .before .before .before .before .before .before
     .before .before .before .before .before .before .pre .0) _
-    (c .before .before .before .before .before .before .before .before .before .before .before .before .before
-    .before .read-row .ensures) (c .before .before .before .before .before .before .before .before .before .before .before .before
+    (c .before .before .before .before .before .before .before .before .before .before .before .before .before .before
+    .before .read-row .ensures) (c .before .before .before .before .before .before .before .before .before .before .before .before .before
     .before .before .before .pairs-test .taken) may in
     let l = c .before .if4 .taken in
     search needs
@@ -128,25 +128,25 @@ loop-again-2 c =
     (at .if2 .came)
     in
     let inv = c .before .before .before .before .before .before .before .before .before .loop .inv in
-    let none = pair-none _ _ _ (c .before .before .before .before .before .before .before .before .before .before .before .before .before
+    let none = pair-none _ _ _ (c .before .before .before .before .before .before .before .before .before .before .before .before .before .before
     .before .before .before .before .before .pre .1 .2)
-    (c .before .before .before .before .before .before .before .before .before .before .before .before .before
-    .before .pairs-test .taken) _ _ (c .before .before .before .before .before .before .before .before .before .before .before .before
+    (c .before .before .before .before .before .before .before .before .before .before .before .before .before .before
+    .before .pairs-test .taken) _ _ (c .before .before .before .before .before .before .before .before .before .before .before .before .before
     .before .read-row .ensures) (found .0) (c .if4 .left) in
-    let next = c .before .before .before .before .before .before .before .next2 .ensures in
-    let more = row-pass _ _ _ _ _ _ (c .before .before .before .before .before .before .before .before .before .before .before .before
+    let next = rw (c .before .before .before .before .before .before .before .before .before .before .before .at .ensures) at (c .before .before .before .before .before .before .before .next2 .ensures) in
+    let more = row-pass _ _ _ _ _ _ (c .before .before .before .before .before .before .before .before .before .before .before .before .before
     .before .before .before .before .before .before .pre .1 .3 .overlapping)
-    (c .before .before .before .before .before .before .before .before .before .before .before .before .before
+    (c .before .before .before .before .before .before .before .before .before .before .before .before .before .before
     .before .pairs-test .taken) next (least-more _ _ (inv .3) none) in
     (omega (arith, inv .0, next .low), next .high, inv .2, more, inv .4)
 
 pairs-again : tie.Need-pairs-again Inv-loop2 μ-loop2 Inv-loop μ-loop Inv-pairs μ-pairs
 unfolding decode
 pairs-again c =
-    let e : c .before .loop .next ≡ c .before .before .before .before .before .before .before .before .before .before .args .n = omega arith in (
+    let e : c .before .loop .next ≡ c .before .before .before .before .before .before .before .before .before .before .before .args .n = omega arith in (
       search needs,
       c .before .loop .inv .2,
-      least-more _ _ (c .before .before .before .before .before .before .before .pairs .inv .2)
+      least-more _ _ (c .before .before .before .before .before .before .before .before .pairs .inv .2)
           (row-off _ _ _ refl (rw e at (c .before .loop .inv .3))),
     )
 
@@ -167,11 +167,11 @@ returns-2 c =
     in
     let inv = c .before .before .before .before .before .before .before .before .before .before .loop .inv in
     let may = sym (c .before .before .before .before .before .before .may-race .ensures) ∙ not-false _ (c .before .before .before .before .before .if1 .left) in
-    let sized = c .before .before .before .before .before .before .before .before .before .before .before .before .before .before .before
+    let sized = c .before .before .before .before .before .before .before .before .before .before .before .before .before .before .before .before
     .before .before .before .before .pre .1 .2 in
-    let row = c .before .before .before .before .before .before .before .before .before .before .before .before .before .before .before .pairs-test .taken in
+    let row = c .before .before .before .before .before .before .before .before .before .before .before .before .before .before .before .before .pairs-test .taken in
     let hit = found .1 (c .before .if4 .taken) in
-    race-found _ _ _ _ (c .before .before .before .before .before .before .before .before .before .before .before .before .before .before
+    race-found _ _ _ _ (c .before .before .before .before .before .before .before .before .before .before .before .before .before .before .before
     .before .before .pairs .inv .2) row (inv .3)
     (c .before .before .before .before .before .before .before .before .before .loop-test .taken)
     (pair-on _ _ _ sized row _ (inv .0) may (found .0) hit)
@@ -181,7 +181,7 @@ pub first-race-spec : {M : Type 1} → statement M
 first-race-spec =
     tie.close
     (tie.spec Inv-loop2 μ-loop2 Inv-loop μ-loop Inv-pairs μ-pairs pairs-holds (λ c. search needs) (λ c κs. search needs) (λ c. search needs)
-    (λ c. search needs) (λ c. search needs) (λ c. search needs) (λ c. search needs) (λ c. search needs) (λ c κs. search needs) loop-holds
-    (λ c. search needs) (λ c κs. search needs) (λ c. search needs) (λ c κs. search needs) may-race-requires (λ c. search needs) loop-again
+    (λ c. search needs) (λ c. search needs) (λ c κs. search needs) (λ c. search needs) (λ c κs. search needs) loop-holds (λ c. search needs)
+    (λ c κs. search needs) (λ c. search needs) (λ c κs. search needs) may-race-requires (λ c. search needs) loop-again
     (λ c κs. search needs) loop2-holds unordered-at-requires add-b (λ c. search needs) loop2-again cast-t28 cast-t29 cast-t30
     (λ c. search needs) loop-again-2 (λ c. search needs) (λ c. search needs) pairs-again returns returns-2)

@@ -26,9 +26,9 @@ abbrev μ-loop : tie.MeasureT-loop
 
 loop-holds : tie.Need-loop-holds Inv-loop μ-loop
 loop-holds c =
-    let pre = c .before .before .before .before .before .pre in
+    let pre = c .before .before .before .before .before .before .pre in
     let shared = pre .3 .3 .overlapping in
-    let next = c .next .ensures in (
+    let next = rw (c .before .before .at .ensures) at (c .next .ensures) in (
       next .high,
       refl,
       pre .3 .3,
@@ -37,19 +37,19 @@ loop-holds c =
     )
 
 from-shared-requires : tie.Need-from-shared-requires Inv-loop μ-loop
-from-shared-requires c κs = let pre = c .before .before .before .before .before .before .before .pre in
+from-shared-requires c κs = let pre = c .before .before .before .before .before .before .before .before .pre in
     (search needs, pre .1, pre .2, c .before .loop .inv .3 (c .loop-test .taken))
 
 loop-again : tie.Need-loop-again Inv-loop μ-loop
 loop-again c =
-    let pre = c .before .before .before .before .before .before .before .before .before .before .before .before .before .before .pre in
+    let pre = c .before .before .before .before .before .before .before .before .before .before .before .before .before .before .before .pre in
     let put = c .before .before .before .before .put-if in
     let inv = c .before .before .before .before .before .before .before .before .loop .inv in
     let e = row-exact _ _ _ _ _ (omega arith) (omega arith) (omega arith) (omega arith) (inv .4) refl (put .ensures)
     (c .before .before .before .before .before .before .from-shared .ensures) in
     let kept = located-kept (omega arith) (omega arith) (within-put EDGE EDGE-END _ _ (omega arith) (omega arith) (put .ensures)) (inv .2) in
     let shared = kept .overlapping in
-    let next = c .next2 .ensures in (
+    let next = rw (c .before .before .before .before .before .before .before .before .before .before .before .at .ensures) at (c .next2 .ensures) in (
       next .high,
       e .frame .len,
       kept,
@@ -58,10 +58,10 @@ loop-again c =
     )
 
 returns : tie.Need-returns Inv-loop μ-loop
-returns c = let e : c .before .loop .y ≡ c .before .before .before .before .before .before .before .args .n = omega arith in rw e at (c .before .loop .inv .4)
+returns c = let e : c .before .loop .y ≡ c .before .before .before .before .before .before .before .before .args .n = omega arith in rw e at (c .before .loop .inv .4)
 
 pub from-initial-spec : {M : Type 1} → statement M
 from-initial-spec =
     tie.close
-    (tie.spec Inv-loop μ-loop (λ c. search needs) (λ c. search needs) (λ c κs. search needs) loop-holds from-shared-requires
-    (λ c κs. search needs) (λ c. search needs) (λ c κs. search needs) (λ c. search needs) loop-again (λ c. search needs) returns)
+    (tie.spec Inv-loop μ-loop (λ c κs. search needs) (λ c κs. search needs) loop-holds from-shared-requires (λ c κs. search needs)
+    (λ c. search needs) (λ c κs. search needs) (λ c. search needs) loop-again (λ c. search needs) returns)

@@ -24,8 +24,8 @@ returns c = unread-none _ _ _ _ _ _ _ _ refl (c .before .before .before .before 
 
 loop-holds : tie.Need-loop-holds Inv-loop μ-loop
 loop-holds c =
-    let pre = c .before .before .before .before .before .before .before .before .before .pre in
-    let next = c .next .ensures in
+    let pre = c .before .before .before .before .before .before .before .before .before .before .pre in
+    let next = rw (c .before .at .ensures) at (c .next .ensures) in
     (next .high, writer-pass _ _ _ _ _ _ _ (pre .2 .3 .overlapping) (pre .0) next (least-none _))
 
 returns-2 : tie.Need-returns-2 Inv-loop μ-loop
@@ -36,20 +36,20 @@ returns-2 c = sym (least-found _ _ _ (c .before .before .before .loop .inv .1)
 loop-again : tie.Need-loop-again Inv-loop μ-loop
 unfolding decode
 loop-again c =
-    let pre = c .before .before .before .before .before .before .before .before .before .before .before .before .before .before .pre in
-    let next = c .next2 .ensures in
+    let pre = c .before .before .before .before .before .before .before .before .before .before .before .before .before .before .before .pre in
+    let next = rw (c .before .before .before .before .before .before .at .ensures) at (c .next2 .ensures) in
     let e = least-more _ _ (c .before .before .before .before .loop .inv .1)
     (overwriting-is _ _ _ _ _ (c .before .before .over-nth .ensures) .1 (c .before .if2 .left)) in
     (next .high, writer-pass _ _ _ _ _ _ _ (pre .2 .3 .overlapping) (pre .0) next e)
 
 returns-3 : tie.Need-returns-3 Inv-loop μ-loop
 unfolding overWriter decode
-returns-3 c = let e : c .before .loop .z ≡ c .before .before .before .before .before .before .before .before .before .before
+returns-3 c = let e : c .before .loop .z ≡ c .before .before .before .before .before .before .before .before .before .before .before
     .before .args .n = omega arith in sym (rw e at (c .before .loop .inv .1))
 
 pub over-writer-spec : {M : Type 1} → statement M
 over-writer-spec =
     tie.close
     (tie.spec Inv-loop μ-loop (λ c. search needs) (λ c κs. search needs) (λ c κs. search needs) (λ c κs. search needs) (λ c. search needs)
-    (λ c κs. search needs) returns (λ c. search needs) (λ c. search needs) (λ c κs. search needs) loop-holds (λ c κs. search needs)
-    returns-2 (λ c. search needs) (λ c κs. search needs) (λ c. search needs) loop-again returns-3)
+    (λ c κs. search needs) returns (λ c κs. search needs) (λ c κs. search needs) loop-holds (λ c κs. search needs) returns-2
+    (λ c. search needs) (λ c κs. search needs) (λ c. search needs) loop-again returns-3)

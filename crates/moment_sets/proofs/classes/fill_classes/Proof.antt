@@ -19,9 +19,9 @@ loop-holds c = (search needs, touched-none _ _ _ (search needs))
 loop-again : tie.Need-loop-again Inv-loop μ-loop
 loop-again c =
     let at-call = c .before .before in
-    let at-loop = at-call .before .before .before in
+    let at-loop = at-call .before .before .before .before in
     let inv = at-loop .loop .inv .1 in
-    (search needs, touched-more _ _ _ _ _ _ (search needs) (search needs) inv (at-call .fill-touched .ensures))
+    (search needs, touched-more _ _ _ _ _ _ (search needs) (search needs) inv (rw (at-call .before .before .at .ensures) at (at-call .fill-touched .ensures)))
 
 returns : tie.Need-returns Inv-loop μ-loop
 returns c =
@@ -31,5 +31,5 @@ returns c =
 pub fill-classes-spec : {M : Type 1} → statement M
 fill-classes-spec =
     tie.close
-    (tie.spec Inv-loop μ-loop loop-holds (λ c. search needs) (λ c. search needs) (λ c. search needs) (λ c κs. search needs)
-    (λ c. search needs) (λ c. search needs) loop-again (λ c. search needs) returns)
+    (tie.spec Inv-loop μ-loop loop-holds (λ c. search needs) (λ c κs. search needs) (λ c κs. search needs) (λ c. search needs)
+    (λ c. search needs) loop-again (λ c. search needs) returns)

@@ -21,9 +21,9 @@ loop-again : tie.Need-loop-again Inv-loop μ-loop
 unfolding bitOf
 loop-again c =
     let at-meet = c .before .before in
-    let at-loop = at-meet .before .before .before in
+    let at-loop = at-meet .before .before .before .before in
     let inv = at-loop .loop .inv .1 in
-    (search needs, touch-more _ _ _ _ _ _ (search needs) (search needs) inv refl (at-meet .meet-if .ensures))
+    (search needs, touch-more _ _ _ _ _ _ (search needs) (search needs) inv refl (rw (at-meet .before .before .at .ensures) at (at-meet .meet-if .ensures)))
 
 returns : tie.Need-returns Inv-loop μ-loop
 returns c =
@@ -31,11 +31,10 @@ returns c =
     let at-join = at-loop .before .before .before in
     let at-clear = at-join .before .before .before .before in
     let e : at-loop .loop .q ≡ CLASSES = omega arith in
-    concern-made _ _ _ _ _ _ e (search needs) (at-clear .clear .ensures) (at-join .join-row .ensures) (at-loop .loop .inv .1)
+    concern-made _ _ _ _ _ _ e (search needs) (at-clear .clear .ensures) (at-join .join .ensures) (at-loop .loop .inv .1)
 
 pub fill-concern-spec : {M : Type 1} → statement M
 fill-concern-spec =
     tie.close
-    (tie.spec Inv-loop μ-loop (λ c. search needs) (λ c κs. search needs) (λ c κs. search needs) loop-holds (λ c. search needs)
-    (λ c. search needs) (λ c. search needs) (λ c. search needs) (λ c κs. search needs) (λ c. search needs) (λ c. search needs) loop-again
-    (λ c. search needs) returns)
+    (tie.spec Inv-loop μ-loop (λ c κs. search needs) (λ c κs. search needs) loop-holds (λ c. search needs) (λ c. search needs)
+    (λ c κs. search needs) (λ c κs. search needs) (λ c. search needs) (λ c. search needs) loop-again (λ c. search needs) returns)

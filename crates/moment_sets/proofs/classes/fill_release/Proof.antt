@@ -7,8 +7,8 @@ returns : tie.Need-returns
 returns c =
     let at-meet = c .before .before in
     let at-clear = at-meet .before .before .before .before in
-    release-made _ _ _ (search needs) (at-clear .clear .ensures) (at-meet .meet-row .ensures)
+    release-made _ _ _ (search needs) (at-clear .clear .ensures) (at-meet .meet .ensures)
 
 pub fill-release-spec : {M : Type 1} → statement M
 fill-release-spec =
-    tie.close (tie.spec (λ c. search needs) (λ c κs. search needs) (λ c κs. search needs) (λ c. search needs) returns)
+    tie.close (tie.spec (λ c κs. search needs) (λ c κs. search needs) (λ c. search needs) returns)

@@ -1,9 +1,11 @@
 use Rattle.moment_sets.specs.Classes.{touchesAt, touch-turn, set-made}
+use Rattle.bits.specs.Bit.{zeros}
 use Rattle.bits.specs.Fill.{rowFill, rowFill-none, length-rowFill}
 use lib.ListN.{length}
 use native.Mathlib.Omega.{arith}
+use native.Mathlib.Nat.{add-sub-cancel-left}
 use Prim.Native.Nat.{_-_, _*_, _≤_}
-use mathlib.Core.Path.{_≡_, refl, ap, _∙_}
+use mathlib.Core.Path.{_≡_, refl, sym, ap, _∙_}
 use borrow.Author.Needs.{needs}
 use Rattle.moment_sets.proofs.classes.fill_touched.Statement.{statement}
 use Rattle.moment_sets.proofs.classes.fill_touched.Tie as tie
@@ -29,10 +31,11 @@ returns c =
     let at-loop = c .before in
     let start = c .before .before .before .before .before .before .before .before in
     let e : at-loop .loop .x ≡ start .args .n = omega arith in
-    set-made _ _ _ (start .args .w .now) _ _ (search needs) (search needs) (at-loop .before .before .before .clear .ensures) (rw e at (at-loop .loop .inv .2))
+    set-made _ _ _ (start .args .w .now) _ _ (search needs) (search needs) (at-loop .before .before .before .clear .ensures ∙ ap (zeros _ _) (sym (add-sub-cancel-left _ _)))
+    (rw e at (at-loop .loop .inv .2))
 
 pub fill-touched-spec : {M : Type 1} → statement M
 fill-touched-spec =
     tie.close
-    (tie.spec Inv-loop μ-loop (λ c. search needs) (λ c κs. search needs) loop-holds (λ c κs. search needs) (λ c. search needs)
-    (λ c. search needs) loop-again (λ c. search needs) returns)
+    (tie.spec Inv-loop μ-loop (λ c κs. search needs) loop-holds (λ c κs. search needs) (λ c. search needs) (λ c. search needs) loop-again
+    (λ c. search needs) returns)

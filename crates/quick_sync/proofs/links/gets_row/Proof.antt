@@ -3,6 +3,7 @@ use Rattle.model.specs.Row.{atomic, reads as rowReads}
 use mathlib.Core.Path.{_≡_, refl, ap, _∙_}
 use Prim.Native.Nat.{_+_, _-_, _*_, _≤_}
 use native.Mathlib.Omega.{arith}
+use native.Mathlib.Nat.{zero-add}
 use lib.ListN.{length}
 use Rattle.finite.specs.Logic.{_and_}
 use Rattle.bits.specs.Fill.{rowFill, rowFill-put, length-rowFill}
@@ -33,10 +34,10 @@ returns c = row-off _ _ _ _ (λ m l. gotten-none _ _ _ _ _ _ _ _ refl (c .before
 
 loop-holds : tie.Need-loop-holds Inv-loop μ-loop
 loop-holds c =
-    let pre = c .before .before .before .before .before .before .before .before .before .pre in
-    let row = c .before .before .read-row .ensures in
-    let file = c .before .agent-file .ensures in
-    let at = ap (λ (z : ℕ). z * GRID) (file .0) in
+    let pre = c .before .before .before .before .before .before .before .before .before .before .pre in
+    let row = c .before .before .before .read-row .ensures in
+    let file = c .before .before .agent-file .ensures in
+    let at = c .before .at .ensures ∙ zero-add _ ∙ ap (λ (z : ℕ). z * GRID) (file .0) in
     let next = c .next .ensures in
     let start = row-off _ _ _ _ (λ m l. gotten-back _ _ _ _ _ _ l) in (
       next .high,
@@ -55,10 +56,10 @@ loop-again c =
     let inv = c .before .before .before .before .before .before .before .loop .inv in
     let next = c .next2 .ensures in
     let d = gotten-on _ _ _ _ _ _ _ _ _ _ (inv .2)
-    (c .before .before .before .before .before .before .before .before .before .before .before .before .before .atomic-at .ensures
-    ∙ sym (ap atomic (inv .2))) (c .before .before .before .before .before .before .before .before .before .before .before
+    (c .before .before .before .before .before .before .before .before .before .before .before .before .before .before .atomic-at .ensures
+    ∙ sym (ap atomic (inv .2))) (c .before .before .before .before .before .before .before .before .before .before .before .before
     .before .reads-at .ensures ∙ sym (ap rowReads (inv .2)))
-    (c .before .before .before .before .before .before .before .before .before .before .before .if1 .left)
+    (c .before .before .before .before .before .before .before .before .before .before .before .before .if1 .left)
     (c .before .before .before .before .before .gets-of .ensures) in
     let e = rowFill-put _ _ _ (put .last .0) _ _ _ _ (inv .6) d (omega arith) (put .ensures) in (
       next .high,
@@ -71,12 +72,12 @@ loop-again c =
     )
 
 returns-2 : tie.Need-returns-2 Inv-loop μ-loop
-returns-2 c = let e : c .before .loop .b ≡ c .before .before .before .before .before .before .before .before .before .before
+returns-2 c = let e : c .before .loop .b ≡ c .before .before .before .before .before .before .before .before .before .before .before
     .before .args .n = omega arith in rw e at (c .before .loop .inv .6)
 
 pub gets-row-spec : {M : Type 1} → statement M
 gets-row-spec =
     tie.close
     (tie.spec Inv-loop μ-loop (λ c κs. search needs) (λ c κs. search needs) returns (λ c. search needs) (λ c κs. search needs)
-    (λ c κs. search needs) (λ c. search needs) (λ c κs. search needs) loop-holds (λ c κs. search needs) (λ c κs. search needs)
+    (λ c κs. search needs) (λ c κs. search needs) (λ c κs. search needs) loop-holds (λ c κs. search needs) (λ c κs. search needs)
     (λ c. search needs) (λ c κs. search needs) (λ c. search needs) loop-again (λ c. search needs) returns-2)

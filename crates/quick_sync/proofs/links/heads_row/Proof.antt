@@ -2,6 +2,7 @@ use Rattle.model.specs.Row.{releases}
 use mathlib.Core.Path.{_≡_, refl, sym, ap, _∙_}
 use Prim.Native.Nat.{_+_, _-_, _*_, _≤_}
 use native.Mathlib.Omega.{arith}
+use native.Mathlib.Nat.{zero-add}
 use lib.ListN.{length}
 use Rattle.bits.specs.Fill.{rowFill, rowFill-put, length-rowFill}
 use Rattle.model.specs.Table.{rowOf, decode}
@@ -41,10 +42,10 @@ returns-2 c =
 
 loop-holds : tie.Need-loop-holds Inv-loop μ-loop
 loop-holds c =
-    let pre = c .before .before .before .before .before .before .before .before .before .before .pre in
-    let row = c .before .before .before .before .read-row .ensures in
-    let file = c .before .agent-file .ensures in
-    let at = ap (λ (z : ℕ). z * GRID) (file .0) in
+    let pre = c .before .before .before .before .before .before .before .before .before .before .before .pre in
+    let row = c .before .before .before .before .before .read-row .ensures in
+    let file = c .before .before .agent-file .ensures in
+    let at = c .before .at .ensures ∙ zero-add _ ∙ ap (λ (z : ℕ). z * GRID) (file .0) in
     let next = c .next .ensures in
     let start = row-off _ _ _ _ (λ m l. released-back _ _ _ _ _ _ l) in (
       next .high,
@@ -62,9 +63,9 @@ loop-again c =
     let inv = c .before .before .before .before .before .before .before .loop .inv in
     let next = c .next2 .ensures in
     let d = released-on _ _ _ _ _ _ _ _ _ (inv .2)
-    (c .before .before .before .before .before .before .before .before .before .before .before .before .before
+    (c .before .before .before .before .before .before .before .before .before .before .before .before .before .before
     .before .releases-at .ensures ∙ sym (ap releases (inv .2)))
-    (c .before .before .before .before .before .before .before .before .before .before .before .before .before .if1 .left)
+    (c .before .before .before .before .before .before .before .before .before .before .before .before .before .before .if1 .left)
     (c .before .before .before .before .before .heads-of .ensures) in
     let e = rowFill-put _ _ _ (put .last .0) _ _ _ _ (inv .6) d (omega arith) (put .ensures) in (
       next .high,
@@ -77,13 +78,13 @@ loop-again c =
     )
 
 returns-3 : tie.Need-returns-3 Inv-loop μ-loop
-returns-3 c = let e : c .before .loop .x ≡ c .before .before .before .before .before .before .before .before .before .before .before
+returns-3 c = let e : c .before .loop .x ≡ c .before .before .before .before .before .before .before .before .before .before .before .before
     .before .args .n = omega arith in rw e at (c .before .loop .inv .6)
 
 pub heads-row-spec : {M : Type 1} → statement M
 heads-row-spec =
     tie.close
     (tie.spec Inv-loop μ-loop (λ c κs. search needs) returns (λ c. search needs) (λ c κs. search needs) (λ c κs. search needs)
-    (λ c κs. search needs) (λ c κs. search needs) (λ c. search needs) returns-2 (λ c κs. search needs) (λ c. search needs)
+    (λ c κs. search needs) (λ c κs. search needs) (λ c. search needs) returns-2 (λ c κs. search needs) (λ c κs. search needs)
     (λ c κs. search needs) loop-holds (λ c κs. search needs) (λ c κs. search needs) (λ c. search needs) (λ c κs. search needs)
     (λ c. search needs) loop-again (λ c. search needs) returns-3)

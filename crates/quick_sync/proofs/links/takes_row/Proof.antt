@@ -33,9 +33,9 @@ returns c = row-off _ _ _ _ (λ m l. takes-none _ _ _ _ _ _ _ refl (c .before .w
 
 loop-holds : tie.Need-loop-holds Inv-loop μ-loop
 loop-holds c =
-    let pre = c .before .before .before .before .before .before .pre in
-    let next = c .next .ensures in
-    let g = sym (c .before .before .before .writes-at .ensures) ∙ not-false _ (c .before .before .if1 .left) in (
+    let pre = c .before .before .before .before .before .before .before .pre in
+    let next = rw (c .before .before .at .ensures) at (c .next .ensures) in
+    let g = sym (c .before .before .before .before .writes-at .ensures) ∙ not-false _ (c .before .before .before .if1 .left) in (
       next .high,
       refl,
       pre .3,
@@ -58,8 +58,8 @@ takes-of-requires c κs = (
 
 loop-again : tie.Need-loop-again Inv-loop μ-loop
 loop-again c =
-    let pre = c .before .before .before .before .before .before .before .before .before .before .before .before .before .before .before .before .pre in
-    let next = c .next2 .ensures in
+    let pre = c .before .before .before .before .before .before .before .before .before .before .before .before .before .before .before .before .before .pre in
+    let next = rw (c .before .before .before .before .before .before .before .before .before .before .before .before .at .ensures) at (c .next2 .ensures) in
     let put = c .before .before .before .before .put-if in
     let inv = c .before .before .before .before .before .before .before .before .before .loop .inv in
     let e = rowFill-put _ _ _ (put .last .0) _ _ _ _ (inv .5) (c .before .before .before .before .before .before .takes-of .ensures)
@@ -75,12 +75,11 @@ loop-again c =
     )
 
 returns-2 : tie.Need-returns-2 Inv-loop μ-loop
-returns-2 c = let e : c .before .loop .y ≡ c .before .before .before .before .before .before .before .before .args .n = omega arith in
+returns-2 c = let e : c .before .loop .y ≡ c .before .before .before .before .before .before .before .before .before .args .n = omega arith in
     rw e at (c .before .loop .inv .5)
 
 pub takes-row-spec : {M : Type 1} → statement M
 takes-row-spec =
     tie.close
-    (tie.spec Inv-loop μ-loop (λ c κs. search needs) returns (λ c. search needs) (λ c. search needs) (λ c κs. search needs) loop-holds
-    takes-of-requires (λ c κs. search needs) (λ c. search needs) (λ c κs. search needs) (λ c. search needs) loop-again (λ c. search needs)
-    returns-2)
+    (tie.spec Inv-loop μ-loop (λ c κs. search needs) returns (λ c κs. search needs) (λ c κs. search needs) loop-holds takes-of-requires
+    (λ c κs. search needs) (λ c. search needs) (λ c κs. search needs) (λ c. search needs) loop-again (λ c. search needs) returns-2)

@@ -5,10 +5,10 @@ use borrow.Author.Needs.{needs}
 use Rattle.quick_sync.proofs.meets.along_row.Statement.{statement}
 use Rattle.quick_sync.proofs.meets.along_row.Tie as tie
 
-join-row-requires-2 : tie.Need-join-row-requires-2
-join-row-requires-2 c κs =
+join-requires-2 : tie.Need-join-requires-2
+join-requires-2 c κs =
     let pre = c .before .before .before .before .before .before .before .before .before .before .pre in
-    let long = joined-length _ _ _ _ (c .before .before .before .before .before .join-row .ensures) in (
+    let long = joined-length _ _ _ _ (c .before .before .before .before .before .join .ensures) in (
       omega (arith, pre .0, pre .1, pre .2, long, pre .3 .high),
       omega (arith, pre .2, long),
       target-apart (pre .3) _ _ (search needs) (omega (arith, pre .0, pre .1)),
@@ -19,19 +19,18 @@ returns c =
     let pre = c .before .before .before .before .before .before .before .before .before .before .before .before .before .pre in
     along-put _ _ _ _ (pre .0) (pre .3) _ _ (pre .1)
     (c .before .before .before .before .before .before .before .before .before .before .read-agent .ensures) (search needs) (pre .2)
-    (pre .4) (c .before .before .before .before .before .before .before .before .join-row .ensures)
+    (pre .4) (c .before .before .before .before .before .before .before .before .join .ensures)
     (sym (c .before .before .before .before .before .barrier-at .ensures) ∙ c .before .before .before .before .if1 .taken)
-    (c .before .before .join-row2 .ensures)
+    (c .before .before .join2 .ensures)
 
 returns-2 : tie.Need-returns-2
 returns-2 c =
     let pre = c .before .before .before .before .before .before .before .before .before .pre in
     along-bare _ _ _ _ (pre .0) (pre .3) _ _ (pre .1) (c .before .before .before .before .before .before .read-agent .ensures)
-    (search needs) (pre .2) (pre .4) (c .before .before .before .before .join-row .ensures) (sym (c .before .barrier-at .ensures) ∙ c .if1 .left)
+    (search needs) (pre .2) (pre .4) (c .before .before .before .before .join .ensures) (sym (c .before .barrier-at .ensures) ∙ c .if1 .left)
 
 pub along-row-spec : {M : Type 1} → statement M
 along-row-spec =
     tie.close
-    (tie.spec (λ c. search needs) (λ c κs. search needs) (λ c. search needs) (λ c. search needs) (λ c. search needs) (λ c. search needs)
-    (λ c. search needs) (λ c κs. search needs) (λ c κs. search needs) (λ c. search needs) (λ c. search needs) join-row-requires-2
+    (tie.spec (λ c. search needs) (λ c κs. search needs) (λ c. search needs) (λ c κs. search needs) (λ c κs. search needs) join-requires-2
     (λ c. search needs) returns (λ c. search needs) returns-2)

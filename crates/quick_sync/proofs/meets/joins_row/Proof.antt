@@ -20,22 +20,23 @@ returns-2 c =
 
 returns-3 : tie.Need-returns-3
 returns-3 c =
-    let pre = c .before .before .before .before .before .before .before .before .before .before .before .before .before .before .before
+    let pre = c .before .before .before .before .before .before .before .before .before .before .before .before .before .before .before .before
     .before .before .before .before .pre in
-    let like = c .before .before .before .before .before .before .before .before .before .before .before .before .before .like-of .ensures in
-    let other = c .before .before .before .before .before .before .before .before .before .before .before .before .if2 .left in
+    let like = c .before .before .before .before .before .before .before .before .before .before .before .before .before .before .like-of .ensures in
+    let other = c .before .before .before .before .before .before .before .before .before .before .before .before .before .if2 .left in
     let is-control = sym (ap (λ (q : Row). q .kind)
-    (c .before .before .before .before .before .before .before .before .before .before .before .before .before .before .before
-    .before .read-row .ensures)) ∙ c .before .before .before .before .before .before .before .before .before .before .before .before
+    (c .before .before .before .before .before .before .before .before .before .before .before .before .before .before .before .before
+    .before .read-row .ensures)) ∙ c .before .before .before .before .before .before .before .before .before .before .before .before .before
     .before .before .if1 .left in
     row-of-copy _ (pre .0) (omega (arith, pre .2)) (pre .3) (pre .1) (omega (arith, like .0, other))
     (joins-like _ _ _ _ _ is-control (like .1 (omega (arith, like .0, other))))
-    (c .before .before .before .before .before .before .before .before .before .before .join-row .ensures)
-    (c .before .before .before .before .before .before .put .ensures) (c .before .before .drop-bit .ensures)
+    (c .before .before .before .before .before .before .before .before .before .before .before .join .ensures)
+    (c .before .before .before .before .before .before .before .put .ensures)
+    (rw (c .before .before .before .at .ensures) at (c .before .before .drop-bit .ensures))
 
 pub joins-row-spec : {M : Type 1} → statement M
 joins-row-spec =
     tie.close
     (tie.spec (λ c. search needs) (λ c κs. search needs) returns (λ c κs. search needs) (λ c κs. search needs) (λ c. search needs) returns-2
-    (λ c. search needs) (λ c. search needs) (λ c. search needs) (λ c. search needs) (λ c κs. search needs) (λ c κs. search needs)
-    (λ c. search needs) (λ c. search needs) (λ c. search needs) (λ c. search needs) (λ c κs. search needs) (λ c. search needs) returns-3)
+    (λ c κs. search needs) (λ c κs. search needs) (λ c κs. search needs) (λ c. search needs) (λ c. search needs) (λ c κs. search needs)
+    (λ c. search needs) returns-3)

@@ -19,8 +19,8 @@ abbrev μ-loop : tie.MeasureT-loop
 
 loop-holds : tie.Need-loop-holds Inv-loop μ-loop
 loop-holds c =
-    let pre = c .before .before .before .pre in
-    let next = c .next .ensures in (
+    let pre = c .before .before .before .before .pre in
+    let next = rw (c .before .at .ensures) at (c .next .ensures) in (
       next .high,
       first-pass _ _ _ _ _ (next .low)
           (λ m l q. break-apart _ _ _ _ _ _ (walked (pre .5) _ _ (pre .1) (omega (arith, next .high)) (next .miss m l q))) (first-none _ _),
@@ -30,15 +30,15 @@ loop-holds c =
 break-of-requires : tie.Need-break-of-requires Inv-loop μ-loop
 break-of-requires c κs = (
   search needs,
-  c .before .before .before .before .before .pre .3,
-  c .before .before .before .before .before .pre .4,
+  c .before .before .before .before .before .before .pre .3,
+  c .before .before .before .before .before .before .pre .4,
   c .before .loop .inv .2 (c .loop-test .taken),
 )
 
 loop-again : tie.Need-loop-again Inv-loop μ-loop
 loop-again c =
-    let pre = c .before .before .before .before .before .before .before .before .pre in
-    let next = c .next2 .ensures in
+    let pre = c .before .before .before .before .before .before .before .before .before .pre in
+    let next = rw (c .before .before .before .before .before .before .at .ensures) at (c .next2 .ensures) in
     let e = first-more _ _ _ _ _ _ (c .before .before .before .before .loop .inv .1) (c .before .before .break-of .ensures) (c .before .at-most .ensures) in (
       next .high,
       first-pass _ _ _ _ _ (next .low)
@@ -47,10 +47,10 @@ loop-again c =
     )
 
 returns : tie.Need-returns Inv-loop μ-loop
-returns c = let e : c .before .loop .z ≡ c .before .before .before .before .before .args .n = omega arith in rw e at (c .before .loop .inv .1)
+returns c = let e : c .before .loop .z ≡ c .before .before .before .before .before .before .args .n = omega arith in rw e at (c .before .loop .inv .1)
 
 pub first-break-spec : {M : Type 1} → statement M
 first-break-spec =
     tie.close
-    (tie.spec Inv-loop μ-loop (λ c. search needs) (λ c. search needs) (λ c κs. search needs) loop-holds break-of-requires
-    (λ c κs. search needs) (λ c. search needs) (λ c κs. search needs) (λ c. search needs) loop-again returns)
+    (tie.spec Inv-loop μ-loop (λ c κs. search needs) (λ c κs. search needs) loop-holds break-of-requires (λ c κs. search needs)
+    (λ c. search needs) (λ c κs. search needs) (λ c. search needs) loop-again returns)

@@ -2,6 +2,7 @@ use mathlib.Core.Path.{ap}
 use mathlib.Core.Path.{_≡_, refl, _∙_}
 use Prim.Native.Nat.{_+_, _-_, _*_, _≤_, _<_}
 use native.Mathlib.Omega.{arith}
+use native.Mathlib.Nat.{zero-add}
 use lib.ListN.{length}
 use Rattle.bits.specs.Within.{Within, within-refl, within-trans, within-put}
 use Rattle.model.specs.Limits.{ROWS}
@@ -34,19 +35,25 @@ returns c =
 
 loop-holds : tie.Need-loop-holds Inv-loop μ-loop
 loop-holds c =
-    let pre = c .before .before .before .before .before .before .before .before .pre in
-    let row = c .before .before .read-row .ensures in
-    let file = c .before .start-file .ensures in
-    let at = ap (λ (z : ℕ). z * GRID) (file .0) in
+    let pre = c .before .before .before .before .before .before .before .before .before .pre in
+    let row = c .before .before .before .read-row .ensures in
+    let file = c .before .before .start-file .ensures in
+    let at = c .before .at .ensures ∙ zero-add _ ∙ ap (λ (z : ℕ). z * GRID) (file .0) in
     let next = c .next .ensures in
     let own = pairs-own _ _ _ _ (pre .0) _ (pre .1) (pre .4) in
     let over = pairs-over _ _ _ _ (pre .0) _ (pre .1) _ _ (omega arith) (next .low) (next .high)
     (λ m l q. start-apart _ _ _ _ (pre .3) _ m _ _ row at (omega (arith, next .high)) (next .miss m l q)) own in
     (omega (arith, next .low), next .high, refl, row, pre .3, at, rw (file .0) at (file .1), over, within-refl _ _ _)
 
+next-requires-2 : tie.Need-next-requires-2 Inv-loop μ-loop
+next-requires-2 c κs =
+    let pre = c .before .before .before .before .before .before .before .before .before .before .before .before .before .before .before
+    .before .before .before .before .before .pre in
+    (pre .0, search needs, search needs, search needs)
+
 loop-again : tie.Need-loop-again Inv-loop μ-loop
 loop-again c =
-    let pre = c .before .before .before .before .before .before .before .before .before .before .before .before .before .before .before
+    let pre = c .before .before .before .before .before .before .before .before .before .before .before .before .before .before .before .before
     .before .before .before .before .before .pre in
     let first = c .before .before .before .before .before .before .before .put-if in
     let second = c .before .before .before .put-if2 in
@@ -63,13 +70,13 @@ loop-again c =
 
 returns-2 : tie.Need-returns-2 Inv-loop μ-loop
 returns-2 c =
-    let pre = c .before .before .before .before .before .before .before .before .before .before .pre in
-    let e : c .before .loop .j ≡ c .before .before .before .before .before .before .before .before .before .before .args .n = omega arith in
+    let pre = c .before .before .before .before .before .before .before .before .before .before .before .pre in
+    let e : c .before .loop .j ≡ c .before .before .before .before .before .before .before .before .before .before .before .args .n = omega arith in
     (pairs-row _ _ _ _ (pre .0) _ (pre .1) (rw e at (c .before .loop .inv .7)), c .before .loop .inv .8)
 
 pub mutual-row-spec : {M : Type 1} → statement M
 mutual-row-spec =
     tie.close
     (tie.spec Inv-loop μ-loop (λ c κs. search needs) returns (λ c. search needs) (λ c κs. search needs) (λ c κs. search needs)
-    (λ c. search needs) (λ c. search needs) (λ c κs. search needs) loop-holds (λ c κs. search needs) (λ c κs. search needs)
-    (λ c κs. search needs) (λ c. search needs) (λ c κs. search needs) (λ c. search needs) loop-again (λ c. search needs) returns-2)
+    (λ c κs. search needs) (λ c. search needs) (λ c κs. search needs) loop-holds (λ c κs. search needs) (λ c κs. search needs)
+    (λ c κs. search needs) (λ c. search needs) next-requires-2 (λ c. search needs) loop-again (λ c. search needs) returns-2)

@@ -49,15 +49,15 @@ first-break-requires c κs =
 
 loop-holds : tie.Need-loop-holds Inv-loop μ-loop
 loop-holds c =
-    let pre = c .before .before .before .before .before .before .before .before .before .pre in
-    let next = c .next-or .ensures in
-    let row = c .before .before .before .before .read-row .ensures in (
+    let pre = c .before .before .before .before .before .before .before .before .before .before .pre in
+    let next = rw (c .before .before .at .ensures) at (c .next-or .ensures) in
+    let row = c .before .before .before .before .before .read-row .ensures in (
       next .high,
       refl,
       row,
-      ap writes row ∙ sym (c .before .before .before .before .before .before .writes-at .ensures)
-          ∙ not-false _ (c .before .before .before .before .before .if1 .left),
-      c .before .before .first-break .ensures,
+      ap writes row ∙ sym (c .before .before .before .before .before .before .before .writes-at .ensures)
+          ∙ not-false _ (c .before .before .before .before .before .before .if1 .left),
+      c .before .before .before .first-break .ensures,
       pre .3,
       λ l d. walked (pre .3) _ _ (pre .1) l (next .hit l d),
       fill-pass _ _ _ _ _ _ (next .low) (λ m l q. sequence-apart _ _ _ _ _ _ (next .miss m l q .1)
@@ -69,9 +69,9 @@ sequence-of-requires c κs = let inv = c .before .loop .inv in (search needs, in
 
 loop-again : tie.Need-loop-again Inv-loop μ-loop
 loop-again c =
-    let pre = c .before .before .before .before .before .before .before .before .before .before .before .before .before .before .before
+    let pre = c .before .before .before .before .before .before .before .before .before .before .before .before .before .before .before .before
     .before .before .before .pre in
-    let next = c .next-or2 .ensures in
+    let next = rw (c .before .before .before .before .before .before .before .before .before .before .before .at .ensures) at (c .next-or2 .ensures) in
     let put = c .before .before .before .before .put-if in
     let inv = c .before .before .before .before .before .before .before .before .loop .inv in
     let e = rowFill-put _ _ _ (put .last .0) _ _ _ _ (inv .7) (c .before .before .before .before .before .before .sequence-of .ensures)
@@ -89,13 +89,12 @@ loop-again c =
     )
 
 returns-2 : tie.Need-returns-2 Inv-loop μ-loop
-returns-2 c = let e : c .before .loop .x ≡ c .before .before .before .before .before .before .before .before .before .before
+returns-2 c = let e : c .before .loop .x ≡ c .before .before .before .before .before .before .before .before .before .before .before
     .before .args .n = omega arith in rw e at (c .before .loop .inv .7)
 
 pub sequence-row-spec : {M : Type 1} → statement M
 sequence-row-spec =
     tie.close
     (tie.spec Inv-loop μ-loop (λ c κs. search needs) (λ c κs. search needs) (λ c. search needs) returns (λ c. search needs)
-    (λ c κs. search needs) first-break-requires (λ c. search needs) (λ c. search needs) (λ c κs. search needs) loop-holds
-    sequence-of-requires (λ c κs. search needs) (λ c. search needs) (λ c κs. search needs) (λ c. search needs) loop-again
-    (λ c. search needs) returns-2)
+    (λ c κs. search needs) first-break-requires (λ c κs. search needs) (λ c κs. search needs) loop-holds sequence-of-requires
+    (λ c κs. search needs) (λ c. search needs) (λ c κs. search needs) (λ c. search needs) loop-again (λ c. search needs) returns-2)

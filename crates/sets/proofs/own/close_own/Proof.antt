@@ -28,7 +28,7 @@ loop-holds c =
 
 join-own-requires : tie.Need-join-own-requires Inv-loop μ-loop
 join-own-requires c κs =
-    let at-loop = c .before .before .before .before .before in
+    let at-loop = c .before .before .before .before .before .before in
     let pre = at-loop .before .before .before .before .before .before .before .before .pre in
     let inv = at-loop .loop .inv in
     let len = inv .1 .frame .len in
@@ -37,7 +37,7 @@ join-own-requires c κs =
 next-row-requires-2 : tie.Need-next-row-requires-2 Inv-loop μ-loop
 next-row-requires-2 c κs =
     let at-if = c .before in
-    let at-loop = at-if .before .before .before .before in
+    let at-loop = at-if .before .before .before .before .before in
     let pre = at-loop .before .before .before .before .before .before .before .before .pre in
     let len = at-loop .loop .inv .1 .frame .len in
     let e : length (at-if .if1 .w) ≡ length (at-loop .loop .w) =
@@ -48,18 +48,18 @@ next-row-requires-2 c κs =
 loop-again : tie.Need-loop-again Inv-loop μ-loop
 loop-again c =
     let at-if = c .before .before in
-    let at-loop = at-if .before .before .before .before in
+    let at-loop = at-if .before .before .before .before .before in
     let start = at-loop .before .before .before .before .before .before .before .before in
     let a = start .args in
     let pre = start .pre in
     let inv = at-loop .loop .inv in
-    let below = at-if .before .before .before .loop-test .taken in
+    let below = at-if .before .before .before .before .loop-test .taken in
     let next = c .next-row2 .ensures in
     let e =
     ⊎-elim
     (λ v. rounds-more (a .w .now) (at-loop .loop .w) (at-if .if1 .w) (a .base) (a .n) (at-loop .loop .k) below (pre .2) (inv .1) (rw (v .5) (v .2 .ensures)))
     (λ v. rw (v .1) (rounds-skip (a .w .now) (at-loop .loop .w) (a .base) (a .n) (at-loop .loop .k) _ below (pre .2) (inv .1)
-    (at-if .before .first-both .ensures) (v .0 .left)))
+    (rw (at-if .before .before .before .at .ensures) at (at-if .before .first-both .ensures)) (v .0 .left)))
     (at-if .if1 .came)
     in
     (next .high, rounds-next _ _ _ _ _ _ _ (pre .2) (pre .4) (pre .5) e _ next, inv .2)
@@ -72,6 +72,6 @@ returns c =
 pub close-own-spec : {M : Type 1} → statement M
 close-own-spec =
     tie.close
-    (tie.spec Inv-loop μ-loop (λ c κs. search needs) (λ c κs. search needs) (λ c κs. search needs) loop-holds (λ c. search needs)
-    (λ c. search needs) (λ c κs. search needs) (λ c. search needs) join-own-requires (λ c. search needs) next-row-requires-2
-    (λ c. search needs) loop-again (λ c. search needs) returns)
+    (tie.spec Inv-loop μ-loop (λ c κs. search needs) (λ c κs. search needs) (λ c κs. search needs) loop-holds (λ c κs. search needs)
+    (λ c κs. search needs) join-own-requires (λ c. search needs) next-row-requires-2 (λ c. search needs) loop-again (λ c. search needs)
+    returns)

@@ -17,7 +17,7 @@ use Rattle.finite.specs.Closure.{through, through-none}
 use Rattle.bits.specs.Bit.{bit, setBit, setBit-same, setBit-other, zeros, bit-zeros-in}
 use Rattle.bits.specs.Within.{Within, within-refl, within-trans, within-widen, within-setBit, within-cleared}
 use Rattle.bits.specs.Matrix.{rel, Closed}
-use Rattle.bits.specs.Stage.{Holds, Made, Added, holds-kept, holds-cong, holds-closed, within-closed}
+use Rattle.bits.specs.Stage.{Holds, Made, Added, holds-kept, holds-closed, within-closed}
 use Rattle.model.specs.declared.Mode.{Mode}
 use Rattle.model.specs.declared.Row.{Row}
 use Rattle.model.specs.Limits.{ROWS, WORK}
@@ -26,10 +26,11 @@ use Rattle.model.specs.Table.{Table, byteOf, rowOf, dependency, dependsOf, deco
 use Rattle.model.specs.Scope.{host}
 use Rattle.model.specs.Moment.{itself}
 use Rattle.model.specs.Location.{systemBefore, L4, thence, onHost, availableKind, visibleKind, domainKind, seenBy, metFrom, carriedBy, reachesBy, L5}
-use Rattle.area.specs.Regions.{HAPPENS, MOMENTS, GRID, HOSTED, HOSTED-END, SYSTEM, SYSTEM-END, MET, MET-END, REACHED, REACHED-END}
+use Rattle.area.specs.Regions.{HAPPENS, MOMENTS, GRID, HOSTED, HOSTED-END, SYSTEM, SYSTEM-END, MET, REACHED, REACHED-END}
 use Rattle.area.specs.State.{Ordered, ordered-kept}
 use Rattle.rules.specs.Shared.{mayShare}
 use Rattle.location.specs.Order.{hosted}
+use Rattle.location.specs.Given.{Given, given-kept}
 
 -- ---- definitions: tests over bytes and bits
 
@@ -384,25 +385,32 @@ module _ (b : List ℕ) (p : List (List ℕ)) (mode : Mode) (n : ℕ) (none : un
 
 -- ---- laws: the stages, one after the other
 
-pub system-is : (b : List ℕ) (p : List (List ℕ)) (mode : Mode) (n : ℕ) {w u : List ℕ}
-    → Made SYSTEM SYSTEM-END SYSTEM GRID n (through (dependsOf mode) n) w u → Holds SYSTEM GRID n (systemBefore (decode b p mode n)) u
-unfolding systemBefore decode
-system-is b p mode n m = holds-cong (λ i j h g. refl) (m .holds)
+module _ {b : List ℕ} {p : List (List ℕ)} {mode : Mode} {n : ℕ} where
+  -- what rows meet was made, whatever words after it were worked in
+  pub given-meeting : {d : ℕ} {w v u : List ℕ} → Given Ordered b p mode n w → Within SYSTEM SYSTEM-END w v
+      → Made MET d MET GRID n (metBy (decode b p mode n)) v u → Given Meeting b p mode n u
+  given-meeting o f m =
+      let g = given-kept (omega arith) (m .frame) (given-kept (omega arith) f o) in
+      record { few = g .few; room = g .room; holds = record { ordered = g .holds; meeting = m .holds } }
 
-pub meeting-made : {t : Table} {n : ℕ} {w u : List ℕ} → Ordered t n w → Made MET MET-END MET GRID n (metBy t) w u → Meeting t n u
-meeting-made o m = record { ordered = ordered-kept (omega arith) (m .frame) o; meeting = m .holds }
+  pub given-sources : {d : ℕ} {w x v u : List ℕ} → Given Ordered b p mode n w → Made SYSTEM SYSTEM-END SYSTEM GRID n (through (dependsOf mode) n) w x
+      → Within MET d x v → Made REACHED REACHED-END REACHED GRID n (reached (decode b p mode n)) v u → Given Sources b p mode n u
+  unfolding systemBefore decode
+  given-sources o s f m =
+      let g = given-kept (omega arith) (m .frame) (given-kept (omega arith) f (given-kept (omega arith) (s .frame) o)) in
+      let few = o .few in
+      record {
+        few = g .few;
+        room = g .room;
+        holds = record {
+          ordered = g .holds;
+          system = holds-kept (λ h. absurd (omega arith)) (m .frame) (holds-kept (λ h. absurd (omega arith)) f (s .holds));
+          reaching = m .holds;
+        };
+      }
 
 pub meeting-kept : {t : Table} {n : ℕ} {w u : List ℕ} → Within REACHED REACHED-END w u → Meeting t n w → Meeting t n u
 meeting-kept f s = record { ordered = ordered-kept (omega arith) f (s .ordered); meeting = holds-kept (λ h. omega arith) f (s .meeting) }
-
-pub sources-made : (t : Table) (n : ℕ) {w u : List ℕ} → Ordered t n w → Holds SYSTEM GRID n (systemBefore t) w
-    → Made REACHED REACHED-END REACHED GRID n (reached t) w u → Sources t n u
-sources-made t n o h m =
-    record {
-      ordered = ordered-kept (omega arith) (m .frame) o;
-      system = holds-kept (λ h. omega arith) (m .frame) h;
-      reaching = m .holds;
-    }
 
 pub sources-kept : {t : Table} {n : ℕ} {w u : List ℕ} → Within HOSTED HOSTED-END w u → Sources t n w → Sources t n u
 sources-kept f s =
@@ -412,10 +420,9 @@ sources-kept f s =
       reaching = holds-kept (λ h. omega arith) f (s .reaching);
     }
 
-pub made-hosted : {n : ℕ} {r : ℕ → ℕ → Bool} {w v x z u : List ℕ} → Within SYSTEM SYSTEM-END w v → Within MET MET-END v x → Within REACHED REACHED-END x z
-    → Made HOSTED HOSTED-END HOSTED GRID n r z u
-    → Made HOSTED REACHED-END HOSTED GRID n r w u
-made-hosted f g h m =
+pub made-hosted : {n d : ℕ} {r : ℕ → ℕ → Bool} {w v x z u : List ℕ} → d ≤ REACHED-END → Within SYSTEM SYSTEM-END w v → Within MET d v x
+    → Within REACHED REACHED-END x z → Made HOSTED HOSTED-END HOSTED GRID n r z u → Made HOSTED REACHED-END HOSTED GRID n r w u
+made-hosted l f g h m =
     record {
       holds = m .holds;
       frame = within-trans

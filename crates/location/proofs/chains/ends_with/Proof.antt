@@ -11,14 +11,16 @@ use Rattle.location.proofs.chains.ends_with.Tie as tie
 
 returns : tie.Need-returns
 returns c =
-    let s = c .before .before .before .before in
-    let h = c .before .get .ensures ∙ holds-bit (reach-out _ _ _ _ _ (s .pre .6) (s .pre .9)) _ _ _ (omega arith) (s .pre .7) (s .pre .8) in
+    let pre = c .before .before .before .before .pre in
+    let h = c .before .get .ensures
+    ∙ holds-bit (reach-out _ _ _ _ _ (pre .pair .reaching) (pre .chains)) _ _ _ (omega arith) (pre .row) (pre .next) in
     sym (ends-row _ _ _ _ _ _ _ _ _ _ h ∙ and-false-left _ _ (not-true _ (c .if1 .taken)))
 
 returns-2 : tie.Need-returns-2
 returns-2 c =
-    let s = c .before .before .before .before .before .before in
-    let h = c .before .before .before .get .ensures ∙ holds-bit (reach-out _ _ _ _ _ (s .pre .6) (s .pre .9)) _ _ _ (omega arith) (s .pre .7) (s .pre .8) in
+    let pre = c .before .before .before .before .before .before .pre in
+    let h = c .before .before .before .get .ensures
+    ∙ holds-bit (reach-out _ _ _ _ _ (pre .pair .reaching) (pre .chains)) _ _ _ (omega arith) (pre .row) (pre .next) in
     c .ends-at .ensures ∙ sym (ends-row _ _ _ _ _ _ _ _ _ _ h ∙ and-on _ _ (not-false _ (c .before .before .if1 .left)))
 
 pub ends-with-spec : {M : Type 1} → statement M

@@ -9,17 +9,18 @@ use Rattle.location.proofs.chains.met_at.Tie as tie
 
 returns : tie.Need-returns
 returns c =
-    let s = c .before .before .before .before .before in
+    let e = c .before .before .before .before .before .pre in
     let k = c .before .before .available-part .ensures in
-    let h = c .before .happens-bit .ensures ∙ s .pre .6 .ordered .happening .cell _ _ (omega (arith, k .1)) (omega arith) in
-    sym (sym (met-row _ _ _ _ _ _ _ _ _ _ _ _ _ _ (s .pre .4) (s .pre .5) (s .pre .8) (k .0) h refl refl) ∙ and-false-left _ _ (not-true _ (c .if1 .taken)))
+    let h = c .before .happens-bit .ensures ∙ e .pair .reaching .ordered .happening .cell _ _ (omega (arith, k .1)) (omega arith) in
+    sym (sym (met-row _ _ _ _ _ _ _ _ _ _ _ _ _ _ (e .pair .first-is) (e .pair .second-is) (e .row-is) (k .0) h refl refl)
+    ∙ and-false-left _ _ (not-true _ (c .if1 .taken)))
 
 returns-2 : tie.Need-returns-2
 returns-2 c =
-    let s = c .before .before .before .before .before .before .before in
+    let e = c .before .before .before .before .before .before .before .pre in
     let k = c .before .before .before .before .available-part .ensures in
-    let h = c .before .before .before .happens-bit .ensures ∙ s .pre .6 .ordered .happening .cell _ _ (omega (arith, k .1)) (omega arith) in
-    sym (sym (met-row _ _ _ _ _ _ _ _ _ _ _ _ _ _ (s .pre .4) (s .pre .5) (s .pre .8) (k .0) h (c .before .widest .ensures)
+    let h = c .before .before .before .happens-bit .ensures ∙ e .pair .reaching .ordered .happening .cell _ _ (omega (arith, k .1)) (omega arith) in
+    sym (sym (met-row _ _ _ _ _ _ _ _ _ _ _ _ _ _ (e .pair .first-is) (e .pair .second-is) (e .row-is) (k .0) h (c .before .widest .ensures)
     (c .meet-in .ensures)) ∙ and-on _ _ (not-false _ (c .before .before .if1 .left)))
 
 pub met-at-spec : {M : Type 1} → statement M

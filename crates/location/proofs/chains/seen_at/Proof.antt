@@ -9,20 +9,20 @@ use Rattle.location.proofs.chains.seen_at.Tie as tie
 
 returns : tie.Need-returns
 returns c =
-    let s = c .before .before .before .before .before .before .before in
+    let e = c .before .before .before .before .before .before .before .pre .element in
     let k = c .before .before .before .available-part .ensures in
     let m = c .before .before .visible-part .ensures in
-    let h = c .before .happens-bit .ensures ∙ s .pre .6 .ordered .happening .cell _ _ (omega (arith, k .1)) (omega (arith, m .1)) in
-    sym (seen-row _ _ _ _ _ _ _ _ _ _ _ _ _ _ _ _ _ (s .pre .4) (s .pre .5) (s .pre .9)
+    let h = c .before .happens-bit .ensures ∙ e .pair .reaching .ordered .happening .cell _ _ (omega (arith, k .1)) (omega (arith, m .1)) in
+    sym (seen-row _ _ _ _ _ _ _ _ _ _ _ _ _ _ _ _ _ (e .pair .first-is) (e .pair .second-is) (e .row-is)
     (c .before .before .before .before .read-row .ensures) (k .0) (m .0) h refl refl ∙ and-false-left _ _ (not-true _ (c .if1 .taken)))
 
 returns-2 : tie.Need-returns-2
 returns-2 c =
-    let s = c .before .before .before .before .before .before .before .before .before in
+    let e = c .before .before .before .before .before .before .before .before .before .pre .element in
     let k = c .before .before .before .before .before .available-part .ensures in
     let m = c .before .before .before .before .visible-part .ensures in
-    let h = c .before .before .before .happens-bit .ensures ∙ s .pre .6 .ordered .happening .cell _ _ (omega (arith, k .1)) (omega (arith, m .1)) in
-    sym (seen-row _ _ _ _ _ _ _ _ _ _ _ _ _ _ _ _ _ (s .pre .4) (s .pre .5) (s .pre .9)
+    let h = c .before .before .before .happens-bit .ensures ∙ e .pair .reaching .ordered .happening .cell _ _ (omega (arith, k .1)) (omega (arith, m .1)) in
+    sym (seen-row _ _ _ _ _ _ _ _ _ _ _ _ _ _ _ _ _ (e .pair .first-is) (e .pair .second-is) (e .row-is)
     (c .before .before .before .before .before .before .read-row .ensures) (k .0) (m .0) h (c .before .widest .ensures)
     (c .meet-in .ensures) ∙ and-on _ _ (not-false _ (c .before .before .if1 .left)))
 

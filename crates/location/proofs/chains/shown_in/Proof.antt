@@ -9,26 +9,26 @@ use Rattle.location.proofs.chains.shown_in.Tie as tie
 
 returns : tie.Need-returns
 returns c =
-    let s = c .before .before .before .before .before in
+    let e = c .before .before .before .before .before .pre .element in
     let k = c .before .before .available-part .ensures in
-    let h = s .pre .6 .ordered .happening .cell in
+    let h = e .pair .reaching .ordered .happening .cell in
     sym
-    (shown-out _ _ _ _ _ _ _ _ _ _ _ _ _ _ (s .pre .5) (s .pre .9) (k .0) (h _ _ (omega (arith, k .1)) (omega arith))
+    (shown-out _ _ _ _ _ _ _ _ _ _ _ _ _ _ (e .pair .second-is) (e .row-is) (k .0) (h _ _ (omega (arith, k .1)) (omega arith))
     (h _ _ (omega (arith, k .1)) (omega arith))
     (sym (c .before .may-show .ensures) ∙ not-true _ (c .if1 .taken)))
 
 returns-2 : tie.Need-returns-2
 returns-2 c =
-    let s = c .before .before .before .before .before .before .before .before .before in
+    let pair = c .before .before .before .before .before .before .before .before .before .pre .element .pair in
     let k = c .before .before .visible-part .ensures in
-    sym (shown-row _ _ _ _ _ _ _ _ _ _ _ _ _ (s .pre .5) (c .before .before .before .read-row .ensures) (k .0) (k .1)
+    sym (shown-row _ _ _ _ _ _ _ _ _ _ _ _ _ (pair .second-is) (c .before .before .before .read-row .ensures) (k .0) (k .1)
     (c .before .visible-at .ensures) ∙ and-false-left _ _ (not-true _ (c .if2 .taken)))
 
 returns-3 : tie.Need-returns-3
 returns-3 c =
-    let s = c .before .before .before .before .before .before .before .before .before .before in
+    let pair = c .before .before .before .before .before .before .before .before .before .before .pre .element .pair in
     let k = c .before .before .before .visible-part .ensures in
-    c .starts-at .ensures ∙ sym (shown-row _ _ _ _ _ _ _ _ _ _ _ _ _ (s .pre .5) (c .before .before .before .before .read-row .ensures)
+    c .starts-at .ensures ∙ sym (shown-row _ _ _ _ _ _ _ _ _ _ _ _ _ (pair .second-is) (c .before .before .before .before .read-row .ensures)
     (k .0) (k .1) (c .before .before .visible-at .ensures) ∙ and-on _ _ (not-false _ (c .before .if2 .left)))
 
 pub shown-in-spec : {M : Type 1} → statement M

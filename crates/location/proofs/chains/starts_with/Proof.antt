@@ -11,14 +11,16 @@ use Rattle.location.proofs.chains.starts_with.Tie as tie
 
 returns : tie.Need-returns
 returns c =
-    let s = c .before .before .before .before in
-    let h = c .before .get .ensures ∙ holds-bit (reach-in _ _ _ _ _ (s .pre .6) (s .pre .11)) _ _ _ (omega arith) (s .pre .9) (s .pre .8) in
+    let pre = c .before .before .before .before .pre in
+    let h = c .before .get .ensures
+    ∙ holds-bit (reach-in _ _ _ _ _ (pre .element .pair .reaching) (pre .chains)) _ _ _ (omega arith) (pre .next) (pre .last) in
     sym (starts-row _ _ _ _ _ _ _ _ _ _ h ∙ and-false-left _ _ (not-true _ (c .if1 .taken)))
 
 returns-2 : tie.Need-returns-2
 returns-2 c =
-    let s = c .before .before .before .before .before in
-    let h = c .before .before .get .ensures ∙ holds-bit (reach-in _ _ _ _ _ (s .pre .6) (s .pre .11)) _ _ _ (omega arith) (s .pre .9) (s .pre .8) in
+    let pre = c .before .before .before .before .before .pre in
+    let h = c .before .before .get .ensures
+    ∙ holds-bit (reach-in _ _ _ _ _ (pre .element .pair .reaching) (pre .chains)) _ _ _ (omega arith) (pre .next) (pre .last) in
     c .seen-at .ensures ∙ sym (starts-row _ _ _ _ _ _ _ _ _ _ h ∙ and-on _ _ (not-false _ (c .before .if1 .left)))
 
 pub starts-with-spec : {M : Type 1} → statement M

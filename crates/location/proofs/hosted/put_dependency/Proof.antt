@@ -12,9 +12,9 @@ returns-2 c = added-nothing _ _ _ _ _ (c .before .before .before .dependency-end
 
 returns-3 : tie.Need-returns-3
 returns-3 c =
-    let s = c .before .before .before .before .before .before .before .before .before .before .before in
+    let pre = c .before .before .before .before .before .before .before .before .before .before .before .pre in
     added-depends _ _ _ _ _ (c .before .before .before .before .before .before .before .dependency-end .ensures)
-    (c .before .before .before .before .before .before .dependency-end2 .ensures) _ _ (s .pre .0) (s .pre .1)
+    (c .before .before .before .before .before .before .dependency-end2 .ensures) _ _ (pre .few) (pre .room)
     (c .before .before .before .before .before .if1 .left) (c .before .before .before .before .if2 .left) (c .before .before .put .ensures)
 
 pub put-dependency-spec : {M : Type 1} → statement M

@@ -13,10 +13,10 @@ returns c = sym (broadens-off _ _ _ _ _ _ (sym (c .before .has-flag .ensures) �
 returns-2 : tie.Need-returns-2
 unfolding _and_
 returns-2 c =
-    let s = c .before .before .before .before .before .before .before .before .before .before .before in
+    let pre = c .before .before .before .before .before .before .before .before .before .before .before .pre in
     let k = c .before .before .before .before .available-part .ensures in
     let m = c .before .before .before .available-part2 .ensures in
-    let h = c .happens-bit .ensures ∙ s .pre .4 .happening .cell _ _ (omega (arith, k .1)) (omega (arith, m .1)) in
+    let h = c .happens-bit .ensures ∙ pre .holds .happening .cell _ _ (omega (arith, k .1)) (omega (arith, m .1)) in
     sym (broadens-row _ _ _ _ _ _ _ _ _ _ _ _ _ (c .before .before .before .before .before .before .read-row .ensures)
     (c .before .before .before .before .before .read-row2 .ensures) (k .0) (m .0) (m .1) (c .before .before .availability-of .ensures)
     (c .before .is-broader .ensures) h)

@@ -7,7 +7,7 @@ use Rattle.location.proofs.reach.reach_in.Tie as tie
 
 returns : tie.Need-returns
 returns c = made-closed REACH-IN REACH-IN-END
-    (omega (arith, c .before .before .before .before .before .before .before .before .before .before .pre .0))
+    (omega (arith, c .before .before .before .before .before .before .before .before .before .before .pre .few))
     (c .before .before .before .before .before .before .fill-in .ensures) (c .before .before .close .ensures)
 
 pub reach-in-spec : {M : Type 1} → statement M

@@ -7,7 +7,7 @@ use Rattle.location.proofs.reach.reach_out.Tie as tie
 
 returns : tie.Need-returns
 returns c = made-closed REACH-OUT REACH-OUT-END
-    (omega (arith, c .before .before .before .before .before .before .before .before .before .before .pre .0))
+    (omega (arith, c .before .before .before .before .before .before .before .before .before .before .pre .few))
     (c .before .before .before .before .before .before .fill-out .ensures) (c .before .before .close .ensures)
 
 pub reach-out-spec : {M : Type 1} → statement M

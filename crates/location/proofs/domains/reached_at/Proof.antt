@@ -9,14 +9,14 @@ use Rattle.location.proofs.domains.reached_at.Tie as tie
 returns : tie.Need-returns
 returns c =
     let pre = c .before .before .before .before .before .pre in
-    reached-off _ _ _ _ _ (pre .holds .ordered) _ _ _ (c .before .before .row-byte .ensures)
+    reached-off pre (c .before .before .row-byte .ensures)
     (sym (c .before .is-available .ensures) ∙ not-true _ (c .if1 .taken))
 
 returns-2 : tie.Need-returns-2
 unfolding rowOf
 returns-2 c =
     let pre = c .before .before .before .before .before .before .before .before .before .pre in
-    reached-here _ _ _ _ _ (pre .holds .ordered) (pre .holds .meeting) _ _ _ _ _ _ (pre .first) (pre .second)
+    reached-here pre
     (c .before .before .before .before .before .before .row-byte .ensures)
     (sym (c .before .before .before .before .before .is-available .ensures)
     ∙ not-false _ (c .before .before .before .before .if1 .left)) (c .before .before .before .read-agent .ensures)
@@ -26,7 +26,7 @@ returns-3 : tie.Need-returns-3
 unfolding rowOf
 returns-3 c =
     let pre = c .before .before .before .before .before .before .before .before .before .before .pre in
-    reached-over _ _ _ _ _ (pre .holds .ordered) (pre .holds .meeting) _ _ _ _ _ _ _ (pre .first) (pre .second)
+    reached-over pre
     (c .before .before .before .before .before .before .before .row-byte .ensures)
     (sym (c .before .before .before .before .before .before .is-available .ensures)
     ∙ not-false _ (c .before .before .before .before .before .if1 .left)) (c .before .before .before .before .read-agent .ensures)

@@ -10,7 +10,7 @@ returns : tie.Need-returns
 returns c =
     let pre = c .before .before .before .before .before .before .before .before .pre in
     made-unhosted _ _ _ _ (sym (c .before .before .before .before .before .is-unhosted .ensures)
-    ∙ c .before .before .before .before .if1 .taken) _ _ (pre .few) (pre .room) (c .before .before .clear .ensures)
+    ∙ c .before .before .before .before .if1 .taken) pre (c .before .before .clear .ensures)
 
 fill-met-requires : tie.Need-fill-met-requires
 fill-met-requires c κs =

@@ -19,7 +19,7 @@ abbrev μ-loop : tie.MeasureT-loop
 loop-holds : tie.Need-loop-holds Inv-loop μ-loop
 loop-holds c =
     let pre = c .before .before .before .before .before .pre in
-    (search needs, refl, depends-none _ _ (pre .few) (pre .room) (c .before .before .clear .ensures), within-refl _ _ _)
+    (search needs, refl, depends-none _ pre (c .before .before .clear .ensures), within-refl _ _ _)
 
 loop-again : tie.Need-loop-again Inv-loop μ-loop
 loop-again c =

@@ -22,6 +22,10 @@ use Rattle.model.specs.Location.{coversOf, publicWrite, availableAt, visibleAt,
 use Rattle.model.specs.Location.{visibilityChain, availableBy, availableFrom, visibleBy, visibleTo, inDomain, visibleVia, reaches, byDomain}
 use Rattle.model.specs.Location.{availableVia, L3}
 use Rattle.laws.specs.ChainLaws.{shares-wider, shares-right}
+use Rattle.bits.specs.Bit.{bit}
+use Rattle.bits.specs.Matrix.{rel}
+use Rattle.area.specs.Regions.{HAPPENS, MOMENTS, GRID, REACH-OUT, REACH-IN}
+use Rattle.location.specs.Given.{Pair, Element, happens-is, reach-out, reach-in}
 
 -- ---- definitions
 
@@ -354,10 +358,6 @@ module _ (t : List ℕ) (p : List (List ℕ)) (mode : Mode) (n x y b : ℕ) wher
   unfolding firstAvailable availableAfter
   first-tells a e = after-tells t p mode n x y a (split e .0)
 
-  pub carried-off : (a : ℕ) (r : Row) → r ≡ rowOf t x → mayAvail t r a ≡ false → carriedBy (decode t p mode n) x y b a ≡ false
-  unfolding carriedBy
-  carried-off a r er off = not-so _ (λ e. not-both (rw er (first-tells a (split e .0) .0)) off)
-
   pub carried-low : anyBelow x (carriedBy (decode t p mode n) x y b) ≡ false
   unfolding carriedBy
   carried-low = any-not _ x (λ a l. not-so _ (λ e. let h = first-tells a (split e .0) .1 in omega arith))
@@ -395,16 +395,16 @@ module _ (t : List ℕ) (p : List (List ℕ)) (mode : Mode) (n x y b : ℕ) wher
 
   available-of : (i k : ℕ) (s : Row) → s ≡ rowOf t i → k ≡ availablePart s → 3 * i + k ≡ availableAt (decode t p mode n) i
   unfolding decode availableAt availablePart
-  available-of i k s es ek = rw (ek, es) refl
+  available-of i k s row-is part-is = rw (part-is, row-is) refl
 
   pub shown-out : (i v k : ℕ) (q s : Row) (h g : Bool) → q ≡ rowOf t y → s ≡ rowOf t i → k ≡ availablePart s
       → h ≡ happens (decode t p mode n) (3 * i + k) (3 * v)
       → g ≡ happens (decode t p mode n) (3 * i + k) (3 * v + 2) → ((mode .chains or h or g) and maySee t q v) ≡ false
       → shownBy (decode t p mode n) x y b i v ≡ false
-  shown-out i v k q s h g eq es ek eh eg off =
-      let e = available-of i k s es ek in
-      shown-off i v q h g eq (eh ∙ ap (λ (m : ℕ). happens (decode t p mode n) m (3 * v)) e)
-      (eg ∙ ap (λ (m : ℕ). happens (decode t p mode n) m (3 * v + 2)) e) off
+  shown-out i v k q s h g second-is row-is part-is before after off =
+      let e = available-of i k s row-is part-is in
+      shown-off i v q h g second-is (before ∙ ap (λ (m : ℕ). happens (decode t p mode n) m (3 * v)) e)
+      (after ∙ ap (λ (m : ℕ). happens (decode t p mode n) m (3 * v + 2)) e) off
 
   pub shown-none : (c : ℕ) → anyBelow (y + 1) (shownBy (decode t p mode n) x y b c) ≡ false → anyBelow n (shownBy (decode t p mode n) x y b c) ≡ false
   unfolding shownBy
@@ -414,49 +414,86 @@ module _ (t : List ℕ) (p : List (List ℕ)) (mode : Mode) (n x y b : ℕ) wher
       go v (yes l) = any-off _ (y + 1) e v l
       go v (no l) = not-so _ (λ u. let h = last-tells v (split u .0) .1 in omega arith)
 
-  pub ends-row : (a c : ℕ) (h : Bool) → h ≡ through (broadens (decode t p mode n)) n a c
-      → endsWith (decode t p mode n) x y b a c ≡ (h and endsAt (decode t p mode n) x y b c)
-  unfolding endsWith decode
-  ends-row a c h e = rw e refl
+-- ---- laws: what is asked of a pair
 
-  pub shown-row : (c v k : ℕ) (q u : Row) (h : Bool) → q ≡ rowOf t y → u ≡ rowOf t v → k ≡ visiblePart u → k < 3 → h ≡ visibleRows n y q (3 * v + k) u b
-      → shownBy (decode t p mode n) x y b c v
-      ≡ (h and (seen (decode t p mode n) x y c v or (mode .chains and anyBelow n (startsWith (decode t p mode n) x y c v))))
-  unfolding shownBy decode
-  shown-row c v k q u h eq eu ek l e =
-      let o : h ≡ lastVisible (decode t p mode n) y b v = e ∙ last-row v k q u eq eu ek l in
-      rw o refl
+module _ {t : List ℕ} {p : List (List ℕ)} {mode : Mode} {n x y : ℕ} {r q : Row} {w : List ℕ} (pair : Pair t p mode n x y r q w) where
+  pub carried-off : (b a : ℕ) → mayAvail t r a ≡ false → carriedBy (decode t p mode n) x y b a ≡ false
+  unfolding carriedBy
+  carried-off b a off = not-so _ (λ e. not-both (rw (pair .first-is) (first-tells t p mode n x y b a (split e .0) .0)) off)
 
-  pub carried-row : (a k : ℕ) (r s : Row) (h : Bool) → r ≡ rowOf t x → s ≡ rowOf t a → k ≡ availablePart s → k < 3 → h ≡ availableRows n x r (3 * a + k) s b
+  pub carried-row : (b a : ℕ) {k : ℕ} {s : Row} {h : Bool} → s ≡ rowOf t a → (k ≡ availablePart s) × (k < 3) → h ≡ availableRows n x r (3 * a + k) s b
       → carriedBy (decode t p mode n) x y b a
       ≡ (h and (endsAt (decode t p mode n) x y b a or (mode .chains and anyBelow n (endsWith (decode t p mode n) x y b a))))
   unfolding carriedBy decode
-  carried-row a k r s h er es ek l e =
-      let o : h ≡ firstAvailable (decode t p mode n) x b a = e ∙ first-row a k r s er es ek l in
+  carried-row b a {k} {s} {h} row-is part told =
+      let o : h ≡ firstAvailable (decode t p mode n) x b a = told ∙ first-row t p mode n x y b a k r s (pair .first-is) row-is (part .0) (part .1) in
       rw o refl
 
--- ---- laws: two elements over the rows
+  pub shown-row : (b c v : ℕ) {k : ℕ} {u : Row} {h : Bool} → u ≡ rowOf t v → (k ≡ visiblePart u) × (k < 3) → h ≡ visibleRows n y q (3 * v + k) u b
+      → shownBy (decode t p mode n) x y b c v
+      ≡ (h and (seen (decode t p mode n) x y c v or (mode .chains and anyBelow n (startsWith (decode t p mode n) x y c v))))
+  unfolding shownBy decode
+  shown-row b c v {k} {u} {h} row-is part told =
+      let o : h ≡ lastVisible (decode t p mode n) y b v = told ∙ last-row t p mode n x y b v k q u (pair .second-is) row-is (part .0) (part .1) in
+      rw o refl
 
-module _ (t : List ℕ) (p : List (List ℕ)) (mode : Mode) (n x y : ℕ) where
-  pub seen-row : (i j k m g : ℕ) (r q s u : Row) (h d : Bool) → r ≡ rowOf t x → q ≡ rowOf t y → s ≡ rowOf t i → u ≡ rowOf t j → k ≡ availablePart s
-      → m ≡ visiblePart u
-      → h ≡ happens (decode t p mode n) (3 * i + k) (3 * j + m) → g ≡ widest (s .scope) (u .scope) → d ≡ meetIn p g r q s u
-      → seen (decode t p mode n) x y i j ≡ (h and d)
-  unfolding seen decode availableAt visibleAt availablePart visiblePart
-  seen-row i j k m g r q s u h d er eq es eu ek em eh eg ed =
-      let a : k ≡ cond (plain (rowOf t i)) AFTER BEFORE = ek ∙ ap availablePart es in
-      let c : m ≡ cond (plain (rowOf t j)) BEFORE AFTER = em ∙ ap visiblePart eu in
-      rw (ed, eg, er, eq, es, eu, eh, a, c) refl
+  pub ends-row : {h : Bool} (b a c : ℕ) → mode .chains ≡ true → a < n → c < n → h ≡ bit w ((REACH-OUT + a * GRID) * 64 + c)
+      → endsWith (decode t p mode n) x y b a c ≡ (h and endsAt (decode t p mode n) x y b c)
+  unfolding endsWith decode
+  ends-row b a c chains l m e = rw (reach-out pair a c chains l m e) refl
 
-  pub met-row : (i k g : ℕ) (r q s : Row) (h d : Bool) → r ≡ rowOf t x → q ≡ rowOf t y → s ≡ rowOf t i → k ≡ availablePart s
-      → h ≡ happens (decode t p mode n) (3 * i + k) (3 * y + 1) → g ≡ widest (s .scope) DEVICE → d ≡ meetIn p g r q s q
-      → (h and d) ≡ metAtOnce (decode t p mode n) x y i
-  unfolding metAtOnce decode availableAt availablePart
-  met-row i k g r q s h d er eq es ek eh eg ed =
-      let a : k ≡ cond (plain (rowOf t i)) AFTER BEFORE = ek ∙ ap availablePart es in
-      rw (ed, eg, er, eq, es, eh, a) refl
-
-  pub starts-row : (c v j : ℕ) (h : Bool) → h ≡ through (narrows (decode t p mode n)) n j v
+  pub starts-row : {h : Bool} (c v j : ℕ) → mode .chains ≡ true → v < n → j < n → h ≡ bit w ((REACH-IN + j * GRID) * 64 + v)
       → startsWith (decode t p mode n) x y c v j ≡ (h and seen (decode t p mode n) x y c j)
   unfolding startsWith decode
-  starts-row c v j h e = rw e refl
+  starts-row c v j chains l m e = rw (reach-in pair j v chains m l e) refl
+
+-- ---- laws: what is asked of an element
+
+module _ {t : List ℕ} {p : List (List ℕ)} {mode : Mode} {n x y i : ℕ} {r q s : Row} {w : List ℕ} (element : Element t p mode n x y r q i s w) where
+  -- k is the row's one moment that makes available
+  module _ {k : ℕ} (part : (k ≡ availablePart s) × (k < 3)) where
+    part-is : k ≡ cond (plain (rowOf t i)) AFTER BEFORE
+    unfolding availablePart
+    part-is = part .0 ∙ ap availablePart (element .row-is)
+
+    low : 3 * i + k < 3 * n
+    low = omega (arith, part .1, element .row)
+
+    pub shown-skip : (b v : ℕ) → v < n
+        → ((mode .chains or rel w HAPPENS MOMENTS (3 * i + k) (3 * v) or rel w HAPPENS MOMENTS (3 * i + k) (3 * v + 2)) and maySee t q v) ≡ false
+        → shownBy (decode t p mode n) x y b i v ≡ false
+    shown-skip b v l off =
+        shown-out t p mode n x y b i v k q s _ _ (element .pair .second-is) (element .row-is) (part .0)
+        (happens-is (element .pair) _ _ low (omega arith) refl) (happens-is (element .pair) _ _ low (omega arith) refl) off
+
+    pub seen-row : {m g : ℕ} {u : Row} {h d : Bool} (j : ℕ) → j < n → u ≡ rowOf t j → (m ≡ visiblePart u) × (m < 3)
+        → h ≡ rel w HAPPENS MOMENTS (3 * i + k) (3 * j + m) → g ≡ widest (s .scope) (u .scope) → d ≡ meetIn p g r q s u
+        → seen (decode t p mode n) x y i j ≡ (h and d)
+    unfolding seen decode availableAt visibleAt visiblePart
+    seen-row {m} j l other-is other before scope-is met =
+        let c : m ≡ cond (plain (rowOf t j)) BEFORE AFTER = other .0 ∙ ap visiblePart other-is in
+        rw (
+          met,
+          scope-is,
+          element .pair .first-is,
+          element .pair .second-is,
+          element .row-is,
+          other-is,
+          happens-is (element .pair) (3 * i + k) (3 * j + m) low (omega (arith, l, other .1)) before,
+          part-is,
+          c,
+        ) refl
+
+    pub met-row : {g : ℕ} {h d : Bool} → h ≡ rel w HAPPENS MOMENTS (3 * i + k) (3 * y + 1) → g ≡ widest (s .scope) DEVICE → d ≡ meetIn p g r q s q
+        → metAtOnce (decode t p mode n) x y i ≡ (h and d)
+    unfolding metAtOnce decode availableAt
+    met-row before scope-is met =
+        rw (
+          met,
+          scope-is,
+          element .pair .first-is,
+          element .pair .second-is,
+          element .row-is,
+          happens-is (element .pair) (3 * i + k) (3 * y + 1) low (omega (arith, element .pair .second)) before,
+          part-is,
+        ) refl

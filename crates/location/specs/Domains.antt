@@ -7,7 +7,7 @@ use Prim.Native.Nat.{ℕ, _+_, _-_, _*_, _≤_, _<_}
 use native.Mathlib.Omega.{arith}
 use native.Mathlib.Decide.{ℕ-discrete}
 use native.Mathlib.Numerals.{add-one}
-use lib.ListN.{length, getD}
+use lib.ListN.{getD}
 use lib.Dec.{eqb}
 use borrow.Author.Tests.{eq-eqb, ne-eqb, eqb-true, le-leb}
 use Rattle.finite.specs.Logic.{_and_, _or_, split, and-true, and-false-left, and-false-right, or-right, or-none, or-off, not-both, not-so, not-out}
@@ -20,7 +20,7 @@ use Rattle.bits.specs.Matrix.{rel, Closed}
 use Rattle.bits.specs.Stage.{Holds, Made, Added, holds-kept, holds-closed, within-closed}
 use Rattle.model.specs.declared.Mode.{Mode}
 use Rattle.model.specs.declared.Row.{Row}
-use Rattle.model.specs.Limits.{ROWS, WORK}
+use Rattle.model.specs.Limits.{ROWS}
 use Rattle.model.specs.Row.{AVAILABLE-HOST, AVAILABLE-DEVICE, VISIBLE-HOST, VISIBLE-DEVICE, HOST-TO-DEVICE, DEVICE-TO-HOST, operation, reads, writes}
 use Rattle.model.specs.Table.{Table, byteOf, rowOf, dependency, dependsOf, decode}
 use Rattle.model.specs.Scope.{host}

@@ -1,5 +1,5 @@
+pub mod Given
 pub mod Chains
 pub mod Reach
-pub mod Given
 pub mod Order
 pub mod Domains

@@ -1,7 +1,6 @@
 // From where to where chains of more than one element lead, as bits, on a device that has them.
 ghost use mathlib.Core.Path.{_≡_};
 ghost use Prim.Native.Nat.{_+_, _*_, _<_};
-ghost use Rattle.finite.specs.Closure.{through};
 ghost use Rattle.bits.specs.Stage.{Made};
 ghost use Rattle.model.specs.Limits.{ROWS};
 ghost use Rattle.model.specs.Row.{meets};
@@ -101,27 +100,7 @@ fn fill_in(rows: &[u8], p: Places, mode: Mode, n: usize, w: &mut [u64])
 
 // ---- chains of steps
 
-// From the first element of an availability chain to its last.
-fn reach_out(rows: &[u8], p: Places, mode: Mode, n: usize, w: &mut [u64])
-    requires { ⌜ Given Ordered (now rows) p mode n (now w) ⌝ }
-    ensures { λ _. let t = decode (now (rows .entry)) p mode n in
-        ⌜ Made REACH-OUT REACH-OUT-END REACH-OUT GRID n (through (broadens t) n) (now (w .entry)) (now (w .exit)) ⌝ }
-{
-    fill_out(rows, p, mode, n, w);
-    bits::close(w, area::REACH_OUT, n, area::GRID);
-}
-
-// From the first element of a visibility chain to its last.
-fn reach_in(rows: &[u8], p: Places, mode: Mode, n: usize, w: &mut [u64])
-    requires { ⌜ Given Ordered (now rows) p mode n (now w) ⌝ }
-    ensures { λ _. let t = decode (now (rows .entry)) p mode n in
-        ⌜ Made REACH-IN REACH-IN-END REACH-IN GRID n (through (narrows t) n) (now (w .entry)) (now (w .exit)) ⌝ }
-{
-    fill_in(rows, p, mode, n, w);
-    bits::close(w, area::REACH_IN, n, area::GRID);
-}
-
-// Both reaches; on a device without chains there is nothing to do, and nothing is written.
+// From the first element of a chain to its last; on a device without chains there is nothing to do, and nothing is written.
 // Ruled out: one that lets a chain go on with an equal scope; one that leaves out what three elements make together.
 pub fn make_reach(rows: &[u8], p: Places, mode: Mode, n: usize, w: &mut [u64])
     requires { ⌜ Given Ordered (now rows) p mode n (now w) ⌝ }
@@ -130,6 +109,8 @@ pub fn make_reach(rows: &[u8], p: Places, mode: Mode, n: usize, w: &mut [u64])
     if !mode.chains {
         return;
     }
-    reach_out(rows, p, mode, n, w);
-    reach_in(rows, p, mode, n, w);
+    fill_out(rows, p, mode, n, w);
+    bits::close(w, area::REACH_OUT, n, area::GRID);
+    fill_in(rows, p, mode, n, w);
+    bits::close(w, area::REACH_IN, n, area::GRID);
 }

@@ -32,13 +32,7 @@ loop-holds : tie.Need-loop-holds Inv-loop μ-loop
 loop-holds c = (search needs, refl, c .before .before .before .before .before .before .pre .holds, rowFill-none _ _ _)
 
 before-at-requires : tie.Need-before-at-requires Inv-loop μ-loop
-before-at-requires c κs =
-    record {
-      given = record { few = search needs; room = search needs; first = search needs; second = search needs; holds = c .before .before .loop .inv .2 };
-      byte = search needs;
-      first-is = search needs;
-      second-is = search needs;
-    }
+before-at-requires c κs = record { given = search needs; byte = search needs; first-is = search needs; second-is = search needs }
 
 loop-again : tie.Need-loop-again Inv-loop μ-loop
 loop-again c =

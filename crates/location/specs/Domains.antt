@@ -414,11 +414,12 @@ sources-kept f s =
 
 pub made-hosted : {n d : ℕ} {r : ℕ → ℕ → Bool} {w v x z u : List ℕ} → d ≤ REACHED-END → Within SYSTEM SYSTEM-END w v → Within MET d v x
     → Within REACHED REACHED-END x z → Made HOSTED HOSTED-END HOSTED GRID n r z u → Made HOSTED REACHED-END HOSTED GRID n r w u
-made-hosted l f g h m =
+made-hosted low system met reached m =
     record {
       holds = m .holds;
       frame = within-trans
-          (within-trans (within-widen HOSTED REACHED-END (omega arith) (omega arith) f) (within-widen HOSTED REACHED-END (omega arith) (omega arith) g))
-          (within-trans (within-widen HOSTED REACHED-END (omega arith) (omega arith) h)
+          (within-trans (within-widen HOSTED REACHED-END (omega arith) (omega arith) system)
+          (within-widen HOSTED REACHED-END (omega arith) (omega arith) met))
+          (within-trans (within-widen HOSTED REACHED-END (omega arith) (omega arith) reached)
           (within-widen HOSTED REACHED-END (omega arith) (omega arith) (m .frame)));
     }

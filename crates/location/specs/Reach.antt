@@ -8,7 +8,7 @@ use lib.Dec.{ltb}
 use Rattle.finite.specs.Logic.{_and_, split, not-both, not-so}
 use Rattle.finite.specs.Closure.{through}
 use Rattle.bits.specs.Within.{Within, within-refl, within-trans, within-widen}
-use Rattle.bits.specs.Matrix.{Closed}
+use Rattle.bits.specs.Matrix.{rel, Closed}
 use Rattle.bits.specs.Stage.{Made, holds-kept, holds-closed, within-closed}
 use Rattle.model.specs.declared.Mode.{Mode}
 use Rattle.model.specs.declared.Row.{Row}
@@ -18,9 +18,9 @@ use Rattle.model.specs.Scope.{shares}
 use Rattle.model.specs.Moment.{BEFORE, AFTER, availabilityOf, visibilityOf, availability, visibility}
 use Rattle.model.specs.Happens.{happens}
 use Rattle.model.specs.Location.{availableAt, visibleAt, broader, broadens, narrows}
-use Rattle.area.specs.Regions.{LOCATION, LOCATION-END, GRID, REACH-OUT, REACH-OUT-END, REACH-IN, REACH-IN-END}
+use Rattle.area.specs.Regions.{LOCATION, LOCATION-END, HAPPENS, MOMENTS, GRID, REACH-OUT, REACH-OUT-END, REACH-IN, REACH-IN-END}
 use Rattle.area.specs.State.{Ordered, ordered-kept}
-use Rattle.location.specs.Given.{Given, Reaching, given-kept}
+use Rattle.location.specs.Given.{Given, GivenRows, Reaching, given-kept}
 use Rattle.location.specs.Chains.{availablePart, visiblePart, available-small, visible-small}
 
 -- ---- definitions
@@ -41,23 +41,23 @@ module _ (t : List ℕ) (p : List (List ℕ)) (mode : Mode) (n : ℕ) where
       → g ≡ availabilityOf u m → d ≡ broaderRows p s u → h ≡ happens (decode t p mode n) (3 * a + k) (3 * c + m)
       → broadens (decode t p mode n) a c ≡ (g and d and h)
   unfolding broadens broader broaderRows availability decode availableAt availablePart
-  broadens-row a c k m s u g d h es eu ek em l eg ed eh =
-      let i : k ≡ cond (plain (rowOf t a)) AFTER BEFORE = ek ∙ ap availablePart es in
-      let j : m ≡ cond (plain (rowOf t c)) AFTER BEFORE = em ∙ ap availablePart eu in
+  broadens-row a c k m s u g d h first-is second-is from to small makes broader-is before =
+      let i : k ≡ cond (plain (rowOf t a)) AFTER BEFORE = from ∙ ap availablePart first-is in
+      let j : m ≡ cond (plain (rowOf t c)) AFTER BEFORE = to ∙ ap availablePart second-is in
       let e : (3 * c + m) / 3 ≡ c = omega arith in
       let f : (3 * c + m) % 3 ≡ m = omega arith in
-      rw (eg, ed, eh, es, eu, ← i, ← j, e, f) refl
+      rw (makes, broader-is, before, first-is, second-is, ← i, ← j, e, f) refl
 
   pub narrows-row : (j v k m : ℕ) (u s : Row) (g d h : Bool) → u ≡ rowOf t j → s ≡ rowOf t v → k ≡ visiblePart u → m ≡ visiblePart s → k < 3
       → g ≡ visibilityOf u k → d ≡ broaderRows p s u → h ≡ happens (decode t p mode n) (3 * j + k) (3 * v + m)
       → narrows (decode t p mode n) j v ≡ (g and d and h)
   unfolding narrows broader broaderRows visibility decode visibleAt visiblePart
-  narrows-row j v k m u s g d h eu es ek em l eg ed eh =
-      let i : k ≡ cond (plain (rowOf t j)) BEFORE AFTER = ek ∙ ap visiblePart eu in
-      let o : m ≡ cond (plain (rowOf t v)) BEFORE AFTER = em ∙ ap visiblePart es in
+  narrows-row j v k m u s g d h first-is second-is from to small makes broader-is before =
+      let i : k ≡ cond (plain (rowOf t j)) BEFORE AFTER = from ∙ ap visiblePart first-is in
+      let o : m ≡ cond (plain (rowOf t v)) BEFORE AFTER = to ∙ ap visiblePart second-is in
       let e : (3 * j + k) / 3 ≡ j = omega arith in
       let f : (3 * j + k) % 3 ≡ k = omega arith in
-      rw (eg, ed, eh, es, eu, ← i, ← o, e, f) refl
+      rw (makes, broader-is, before, second-is, first-is, ← i, ← o, e, f) refl
 
   -- a row that one byte rules out
   pub broadens-off : (a c : ℕ) → meets (byteOf t c 5) 2 ≡ false → broadens (decode t p mode n) a c ≡ false
@@ -74,12 +74,28 @@ module _ (t : List ℕ) (p : List (List ℕ)) (mode : Mode) (n : ℕ) where
       (λ e. not-both (split (split (split (split
       (sym (narrows-row j v _ _ _ _ _ _ _ refl refl refl refl (visible-small (rowOf t j)) refl refl refl) ∙ e) .0) .0) .0) .0) off)
 
-  -- ---- laws: how they are made
+-- the same of two rows whose bits are read
+module _ {t : List ℕ} {p : List (List ℕ)} {mode : Mode} {n a c k m : ℕ} {s u : Row} {w : List ℕ} {g d h : Bool} (given : GivenRows Ordered t p mode n a c w)
+    (first-is : s ≡ rowOf t a) (second-is : u ≡ rowOf t c) where
+  pub broadens-is : (k ≡ availablePart s) × (k < 3) → (m ≡ availablePart u) × (m < 3) → g ≡ availabilityOf u m → d ≡ broaderRows p s u
+      → h ≡ rel w HAPPENS MOMENTS (3 * a + k) (3 * c + m) → broadens (decode t p mode n) a c ≡ (g and d and h)
+  broadens-is from to makes broader-is before =
+      broadens-row t p mode n a c k m s u g d h first-is second-is (from .0) (to .0) (to .1) makes broader-is
+      (before ∙ given .holds .happening .cell _ _ (omega (arith, from .1, given .first)) (omega (arith, to .1, given .second)))
 
-  pub reach-none : {w : List ℕ} → mode .chains ≡ false → Given Ordered t p mode n w → MadeReach (decode t p mode n) n w w
-  unfolding decode
-  reach-none off g =
-      record { reaching = record { ordered = g .holds; out = λ e. not-both e off; back = λ e. not-both e off }; frame = within-refl _ _ _ }
+  pub narrows-is : (k ≡ visiblePart s) × (k < 3) → (m ≡ visiblePart u) × (m < 3) → g ≡ visibilityOf s k → d ≡ broaderRows p u s
+      → h ≡ rel w HAPPENS MOMENTS (3 * a + k) (3 * c + m) → narrows (decode t p mode n) a c ≡ (g and d and h)
+  narrows-is from to makes broader-is before =
+      narrows-row t p mode n a c k m s u g d h first-is second-is (from .0) (to .0) (from .1) makes broader-is
+      (before ∙ given .holds .happening .cell _ _ (omega (arith, from .1, given .first)) (omega (arith, to .1, given .second)))
+
+-- ---- laws: how they are made
+
+pub reach-none : {t : List ℕ} {p : List (List ℕ)} {mode : Mode} {n : ℕ} {w : List ℕ} → mode .chains ≡ false → Given Ordered t p mode n w
+    → MadeReach (decode t p mode n) n w w
+unfolding decode
+reach-none off g =
+    record { reaching = record { ordered = g .holds; out = λ e. not-both e off; back = λ e. not-both e off }; frame = within-refl _ _ _ }
 
 made-closed : {n : ℕ} {r : ℕ → ℕ → Bool} {w v u : List ℕ} (a b : ℕ) → a + n * GRID ≤ b → Made a b a GRID n r w v → Closed v u a n GRID
     → Made a b a GRID n (through r n) w u

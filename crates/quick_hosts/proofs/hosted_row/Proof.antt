@@ -28,7 +28,9 @@ returns c = idle-row _ _ _ (c .before .before .before .read-row .ensures) _ _ _ 
     (c .before .writes .ensures) (c .if1 .taken)
 
 loop-holds : tie.Need-loop-holds Inv-loop μ-loop
-loop-holds c = (search needs, refl, c .before .before .before .read-row .ensures, c .before .before .before .before .before .before .pre .holds, rowFill-none _ _ _)
+loop-holds c =
+    let pre = c .before .before .before .before .before .before .pre in
+    (search needs, refl, c .before .before .before .read-row .ensures, pre .holds, rowFill-none _ _ _)
 
 hosted-with-requires : tie.Need-hosted-with-requires Inv-loop μ-loop
 hosted-with-requires c κs = record { given = search needs; first-is = search needs }

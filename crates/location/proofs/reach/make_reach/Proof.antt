@@ -5,7 +5,7 @@ use Rattle.location.proofs.reach.make_reach.Statement.{statement}
 use Rattle.location.proofs.reach.make_reach.Tie as tie
 
 returns : tie.Need-returns
-returns c = reach-none _ _ _ _ (not-true _ (c .if1 .taken)) (c .before .before .before .before .pre)
+returns c = reach-none (not-true _ (c .if1 .taken)) (c .before .before .before .before .pre)
 
 fill-in-requires : tie.Need-fill-in-requires
 fill-in-requires c κs =

@@ -36,7 +36,8 @@ module _ (chains : Bool) where
   verdictOf t = verdict (tableUnder chains t) (sourcesOf t)
 
   module _ (work buffer : ℕ) where
-    check-opens : buffersFit CYCLE work buffer ≡ true → (t : List ℕ) → check chains t work buffer ≡ whenAdmitted verdicts.refused (admission false t) (verdictOf t)
+    check-opens : buffersFit CYCLE work buffer ≡ true → (t : List ℕ)
+        → check chains t work buffer ≡ whenAdmitted verdicts.refused (admission false t) (verdictOf t)
     unfolding check
     check-opens e t = rw e refl
 
@@ -47,7 +48,8 @@ module _ (chains : Bool) where
     same-verdict : (f : List ℕ) → shapeFault f ≡ 0 → verdictOf (joined f []) ≡ verdictOf f
     same-verdict f z = ap₂ verdict (none-table f z chains) (none-sources f z)
 
-    pub check-both : (f s : List ℕ) → checkBoth chains f s work buffer ≡ whenAdmitted verdicts.refused (doorBoth CYCLE false f s work buffer) (verdictOf (joined f s))
+    pub check-both : (f s : List ℕ) → checkBoth chains f s work buffer
+        ≡ whenAdmitted verdicts.refused (doorBoth CYCLE false f s work buffer) (verdictOf (joined f s))
     unfolding checkBoth
     check-both f s = door-opened verdicts.refused (λ t. check chains t work buffer) verdictOf false CYCLE work buffer check-opens f s
 
@@ -62,7 +64,8 @@ module _ (chains : Bool) where
     abbrev pub reportOfTable : List ℕ → ReportAnswer
     reportOfTable t = reportAnswer (checkAnswer (verdictOf t)) (tableUnder chains t)
 
-    report-opens : buffersFit CYCLE work buffer ≡ true → (t : List ℕ) → report chains t work buffer ≡ whenAdmitted told.Refused (admission false t) (reportOfTable t)
+    report-opens : buffersFit CYCLE work buffer ≡ true → (t : List ℕ)
+        → report chains t work buffer ≡ whenAdmitted told.Refused (admission false t) (reportOfTable t)
     unfolding report reportAnswer checkAnswer whenAdmitted
     report-opens e t = ap (λ (v : Verdict). reportAnswer (checkAnswer v) (tableUnder chains t)) (check-opens e t) ∙ go (admission false t)
       where
@@ -96,7 +99,8 @@ module _ (chains : Bool) where
   outcomeOf t = outcome (tableUnder chains t) (sourcesOf t)
 
   module _ (work buffer : ℕ) where
-    fill-opens : buffersFit SOURCES work buffer ≡ true → (t : List ℕ) → fill chains t work buffer ≡ whenAdmitted outcomes.refused (admission true t) (outcomeOf t)
+    fill-opens : buffersFit SOURCES work buffer ≡ true → (t : List ℕ)
+        → fill chains t work buffer ≡ whenAdmitted outcomes.refused (admission true t) (outcomeOf t)
     unfolding fill
     fill-opens e t = rw e refl
 
@@ -104,7 +108,8 @@ module _ (chains : Bool) where
     unfolding fill
     fill-short e t = rw e refl
 
-    pub fill-both : (f s : List ℕ) → fillBoth chains f s work buffer ≡ whenAdmitted outcomes.refused (doorBoth SOURCES true f s work buffer) (outcomeOf (joined f s))
+    pub fill-both : (f s : List ℕ) → fillBoth chains f s work buffer
+        ≡ whenAdmitted outcomes.refused (doorBoth SOURCES true f s work buffer) (outcomeOf (joined f s))
     unfolding fillBoth
     fill-both f s = door-opened outcomes.refused (λ t. fill chains t work buffer) outcomeOf true SOURCES work buffer fill-opens f s
 

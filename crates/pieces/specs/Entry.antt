@@ -176,14 +176,16 @@ module _ {A : Type 0} (refused : ℕ → ℕ → A) (one v : List ℕ → A) (bl
   unfolding ofBoth admissionBoth whenAdmitted
   both-opened is f s = go (eqb (piecesFault f s) 0) (piecesFault f s)
     where
-      go : (b : Bool) (h : ℕ) → cond b (one (joined f s)) (refused h 0) ≡ whenAdmitted refused (cond b (admission blanks (joined f s)) (Refused h 0)) (v (joined f s))
+      go : (b : Bool) (h : ℕ) → cond b (one (joined f s)) (refused h 0)
+          ≡ whenAdmitted refused (cond b (admission blanks (joined f s)) (Refused h 0)) (v (joined f s))
       go true h = is (joined f s)
       go false h = refl
 
   -- with refusal 11 before it
   pub door-opened : (needs work buffer : ℕ) → (buffersFit needs work buffer ≡ true → (t : List ℕ) → one t ≡ whenAdmitted refused (admission blanks t) (v t))
       → (f s : List ℕ)
-      → cond (buffersFit needs work buffer) (ofBoth refused one f s) (refused 11 0) ≡ whenAdmitted refused (doorBoth needs blanks f s work buffer) (v (joined f s))
+      → cond (buffersFit needs work buffer) (ofBoth refused one f s) (refused 11 0)
+      ≡ whenAdmitted refused (doorBoth needs blanks f s work buffer) (v (joined f s))
   unfolding doorBoth whenAdmitted
   door-opened needs work buffer is f s = go (buffersFit needs work buffer) (λ e. both-opened (is e) f s)
     where

@@ -239,7 +239,8 @@ module _ (version agents : ℕ) (p : List (List ℕ)) (rows : ℕ) (l : List Ent
   abbrev size : ℕ
   size = tableSize version agents rows (d .count)
 
-  answer-is : writeAnswer version agents p rows l d room ≡ cond (eqb F 0) (whenAdmitted Answer.Refused (admission true t) (roomAnswer size room)) (Answer.Refused F 0)
+  answer-is : writeAnswer version agents p rows l d room
+      ≡ cond (eqb F 0) (whenAdmitted Answer.Refused (admission true t) (roomAnswer size room)) (Answer.Refused F 0)
   unfolding writeAnswer
   answer-is = refl
 

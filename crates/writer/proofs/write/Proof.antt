@@ -48,8 +48,8 @@ put-requires c κs =
     (c .before .before .before .before .before .before .before .before .encode-table .ensures) in
     (omega (arith, c .before .before .if2 .left), search needs)
 
-cast-t22 : tie.Need-cast-t22
-cast-t22 c =
+cast-t23 : tie.Need-cast-t23
+cast-t23 c =
     let k = few-bytes _ _ _ _ _ _ 0 _ (c .before .before .before .before .before .before .before .before .before .before .before .before
     .before .values-fault .ensures) (c .before .before .before .before .before .before .before .before .before .before .before
     .before .if1 .left) _ _ (c .before .before .before .before .before .before .before .before .before .before .table-size .ensures .0)
@@ -75,4 +75,4 @@ write-spec =
     tie.close
     (tie.spec (λ c κs. search needs) returns encode-table-requires (λ c κs. search needs) array-share-prefix-t slice-aggregate-admit
     (λ c κs. search needs) (λ c. search needs) (λ c. search needs) (λ c κs. search needs) returns-2 returns-3 (λ c. search needs)
-    put-requires cast-t22 (λ c. search needs) returns-4)
+    put-requires cast-t23 (λ c. search needs) returns-4)

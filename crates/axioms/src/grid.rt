@@ -2,7 +2,7 @@
 // mutually-ordered, passes over the others, so that few pairs are asked.
 ghost use mathlib.Core.Path.{_≡_};
 ghost use mathlib.Core.Bool.{true, not};
-ghost use Prim.Native.Nat.{_+_, _*_, _≤_, _<_};
+ghost use Prim.Native.Nat.{_≤_, _<_};
 ghost use lib.ListN.{length};
 ghost use lib.Dec.{eqb};
 ghost use Rattle.finite.specs.Logic.{_and_};
@@ -12,7 +12,6 @@ ghost use Rattle.model.specs.Row.{reads};
 ghost use Rattle.model.specs.Table.{rowOf, decode};
 ghost use Rattle.model.specs.Scope.{mutually};
 ghost use Rattle.model.specs.Edge.{beforeSome, readsFrom, fromReads};
-ghost use Rattle.area.specs.Regions.{GRID};
 ghost use Rattle.area.specs.State.{overlaps};
 ghost use Rattle.race.specs.Bytes.{Ready};
 ghost use Rattle.axioms.specs.Sources.{sourceIn};

@@ -41,7 +41,7 @@ pub fn cycle_start(w: &mut [u64], n: usize) -> usize
     if n <= walk::next(w, marks::MARKS, marks::MARKS, 0, n) {
         return n;
     }
-    bits::join_row(w, area::LAYERS, area::EDGE, n * area::GRID);
+    bits::join_row(w, area::LAYERS, area::EDGE, area::grid::at(0, n));
     marks::close_marked(w, n);
     first_looped(w, n)
 }
@@ -56,6 +56,6 @@ pub fn write_rows(w: &[u64], n: usize, x: usize, size: usize, c: &mut [u16])
     let mut z = x;
     for i in 0..size {
         c[i] = z as u16;
-        z = walks::next(w, area::EDGE, area::LAYERS, area::GRID, n, size - i - 1, z);
+        z = walks::grid::next(w, area::EDGE, area::LAYERS, n, size - i - 1, z);
     }
 }

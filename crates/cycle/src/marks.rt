@@ -5,21 +5,22 @@ ghost use lib.ListN.{length};
 ghost use Rattle.model.specs.Limits.{ROWS, WORK};
 ghost use Rattle.area.specs.Regions.{GRID};
 ghost use Rattle.cycle.specs.Marks.{Asked, Marked, Round, ClosedMarked};
+use sets::grid;
 use sets::walk;
 
 // The word where the marks stand.
-pub const MARKS: usize = area::LAYERS + model::ROWS * area::GRID;
+pub const MARKS: usize = area::LAYERS + area::ROWS_GRID;
 
 // Whether an edge leads from row x back, or to itself, or to a marked row.
 fn may_loop(w: &[u64], x: usize) -> bool
     requires { ⌜ (x < ROWS) × (WORK ≤ length (now w)) ⌝ }
     ensures { λ b. ⌜ Asked (now (w .entry)) x b ⌝ }
 {
-    let at = area::EDGE + x * area::GRID;
-    if sets::first_both(w, at, at, area::GRID) <= x {
+    let at = area::grid::at(area::EDGE, x);
+    if grid::first_both(w, at, at) <= x {
         return true;
     }
-    sets::first_both(w, at, MARKS, area::GRID) < 64 * area::GRID
+    grid::first_both(w, at, MARKS) < grid::END
 }
 
 // Marks each row that lies on a cycle, and few others: from the last row down, so that those that follow a row are marked before it.
@@ -41,11 +42,10 @@ fn join_marked(w: &mut [u64], n: usize, k: usize)
     requires { ⌜ (n ≤ ROWS) × (k < n) × (WORK ≤ length (now w)) ⌝ }
     ensures { λ _. ⌜ Round (now (w .entry)) (now (w .exit)) n k ⌝ }
 {
-    let from = area::LAYERS + k * area::GRID;
     let mut i = walk::next(w, MARKS, MARKS, 0, n);
     while i < n {
         if area::grid::get(w, area::LAYERS, i, k) {
-            bits::join_row(w, area::LAYERS + i * area::GRID, from, area::GRID);
+            area::grid::join(w, area::LAYERS, i, area::LAYERS, k);
         }
         i = walk::next(w, MARKS, MARKS, i + 1, n);
     }

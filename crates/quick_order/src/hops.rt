@@ -30,14 +30,14 @@ fn hop_row(w: &mut [u64], x: usize, h: bool, k: bool, a: bool, d: bool)
     requires { ⌜ (x < ROWS) × (WORK ≤ length (now w)) ⌝ }
     ensures { λ _. ⌜ now (w .exit) ≡ hopWords x h k a d (now (w .entry)) ⌝ }
 {
-    let hops = moment_sets::HOPS + x * area::MOMENTS;
-    let order = moment_sets::ORDER + (3 * x + 1) * area::MOMENTS;
-    let joined = moment_sets::JOINED + x * area::MOMENTS;
-    let depends = moment_sets::DEPENDS + x * area::MOMENTS;
-    sets::meet_if(w, h, hops, joined, moment_sets::HOLD, area::MOMENTS);
-    sets::meet_if(w, k, hops, order, moment_sets::RELEASE, area::MOMENTS);
-    sets::meet_if(w, a, hops, order, moment_sets::CONCERN, area::MOMENTS);
-    sets::meet_if(w, d, hops, depends, depends, area::MOMENTS);
+    let hops = area::moments::at(moment_sets::HOPS, x);
+    let order = area::moments::at(moment_sets::ORDER, 3 * x + 1);
+    let joined = area::moments::at(moment_sets::JOINED, x);
+    let depends = area::moments::at(moment_sets::DEPENDS, x);
+    sets::moments::meet_if(w, h, hops, joined, moment_sets::HOLD);
+    sets::moments::meet_if(w, k, hops, order, moment_sets::RELEASE);
+    sets::moments::meet_if(w, a, hops, order, moment_sets::CONCERN);
+    sets::moments::meet_if(w, d, hops, depends, depends);
 }
 
 // The hops of row x, of the class set whose sets the work area holds; `dep` says that there are dependencies. Without, only a row that
@@ -47,8 +47,7 @@ fn hop_at(w: &mut [u64], rows: &[u8], x: usize, dep: bool)
     requires { ⌜ (x < ROWS) × (WORK ≤ length (now w)) ⌝ }
     ensures { λ _. ⌜ HopAt (now (rows .entry)) dep x (now (w .entry)) (now (w .exit)) ⌝ }
 {
-    let hops = moment_sets::HOPS + x * area::MOMENTS;
-    bits::clear(w, hops, hops + area::MOMENTS);
+    area::moments::clear(w, area::moments::at(moment_sets::HOPS, x));
     let h = bits::get(w, moment_sets::HOLD * 64 + (3 * x + 1));
     if h | dep {
         let k = bits::get(w, moment_sets::CONCERN * 64 + (3 * x + 1));

@@ -11,9 +11,7 @@ ghost use Rattle.model.specs.Happens.{interThread};
 ghost use Rattle.area.specs.Regions.{HAPPENS, HAPPENS-END, MOMENTS};
 ghost use Rattle.moment_sets.specs.Known.{Setup};
 ghost use Rattle.quick_order.specs.Sources.{Source, Sourced, RowSourced, Closed};
-
-// No moment's number.
-const NONE: usize = 384;
+use sets::moments::END;
 
 // The moment whose row's hops m leads to; h says that it is a hub's own.
 fn source_of(w: &[u64], m: usize, h: bool) -> usize
@@ -24,14 +22,10 @@ fn source_of(w: &[u64], m: usize, h: bool) -> usize
         return m;
     }
     if !bits::get(w, moment_sets::CONCERN * 64 + m) {
-        return NONE;
+        return END;
     }
-    sets::first_both(
-        w,
-        moment_sets::ORDER + m * area::MOMENTS,
-        moment_sets::RELEASE,
-        area::MOMENTS,
-    )
+    let order = area::moments::at(moment_sets::ORDER, m);
+    sets::moments::first_both(w, order, moment_sets::RELEASE)
 }
 
 // Adds to m's row of happens-before what the class set orders after it; h says that m is a hub's own.
@@ -40,13 +34,8 @@ fn add_source(w: &mut [u64], m: usize, h: bool)
     ensures { λ _. ⌜ Sourced m h (now (w .entry)) (now (w .exit)) ⌝ }
 {
     let j = source_of(w, m, h);
-    if j < NONE {
-        bits::join_row(
-            w,
-            area::HAPPENS + m * area::MOMENTS,
-            moment_sets::HOPS + j / 3 * area::MOMENTS,
-            area::MOMENTS,
-        );
+    if j < END {
+        area::moments::join(w, area::HAPPENS, m, moment_sets::HOPS, j / 3);
         area::moments::put_if(w, area::HAPPENS, m, j, !h);
     }
 }

@@ -48,7 +48,7 @@ pub fn find_set(
 {
     for c in 0..cases::CLASS_SETS {
         layers::make_layers(rows, p, mode, n, c + 1, second, w);
-        let j = walks::layer_of(w, area::CHAINS, area::MOMENTS, 3 * n, first);
+        let j = walks::moments::layer_of(w, area::CHAINS, 3 * n, first);
         if j < 3 * n {
             return c;
         }
@@ -117,15 +117,7 @@ pub fn write_steps(
 {
     let mut z = first;
     for i in 0..size {
-        let y = walks::next(
-            w,
-            area::STEP,
-            area::CHAINS,
-            area::MOMENTS,
-            3 * n,
-            size - i - 1,
-            z,
-        );
+        let y = walks::moments::next(w, area::STEP, area::CHAINS, 3 * n, size - i - 1, z);
         c[i] = step_number(rows, n, s, z, y, w);
         z = y;
     }

@@ -16,5 +16,5 @@ pub fn make_layers(rows: &[u8], p: Places, mode: Mode, n: usize, s: u8, x: usize
     ensures { λ _. ⌜ MadeLayered (decode (now (rows .entry)) p mode n) n s x (now (w .entry)) (now (w .exit)) ⌝ }
 {
     order::steps::fill_step(rows, p, mode, n, s, w);
-    walks::fill_layers(w, area::STEP, area::CHAINS, area::MOMENTS, 3 * n, x);
+    walks::moments::fill_layers(w, area::STEP, area::CHAINS, 3 * n, x);
 }

@@ -56,7 +56,7 @@ fn derive_moments(
     if rules::cases::CLASS_SETS <= set {
         return DeriveAnswer::NotBefore;
     }
-    let size = walks::layer_of(w, area::CHAINS, area::MOMENTS, 3 * n, first) + 1;
+    let size = walks::moments::layer_of(w, area::CHAINS, 3 * n, first) + 1;
     chains::write_steps(rows, n, set + 1, first, second, size, w, c);
     DeriveAnswer::Chain {
         classes: set + 1,

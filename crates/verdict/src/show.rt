@@ -87,8 +87,8 @@ pub fn show_cycle(
         × (now (c .exit) ≡ cycleAfter (cyclic (cycleRows t (sourceIn (now (src .entry)))) (cycleEdges t (sourceIn (now (src .entry))))) (now (c .entry)))
         × Within LAYERS LAYERS-END (now (w .entry)) (now (w .exit)) ⌝ }
 {
-    walks::fill_layers(w, area::EDGE, area::LAYERS, area::GRID, n, x);
-    let size = walks::layer_of(w, area::LAYERS, area::GRID, n, x) + 1;
+    walks::grid::fill_layers(w, area::EDGE, area::LAYERS, n, x);
+    let size = walks::grid::layer_of(w, area::LAYERS, n, x) + 1;
     clear_numbers(c);
     cycle::write_rows(w, n, x, size, c);
     write_edges(rows, p, mode, n, src, x, size, w, c);

@@ -8,9 +8,12 @@ ghost use Rattle.bits.specs.Within.{Within};
 ghost use Rattle.bits.specs.Fill.{rowFill};
 ghost use Rattle.walks.specs.Layers.{Room, stepBit, reaches, inLayer, after, Layers};
 
+pub mod grid; // along a grid over rows
+pub mod moments; // along a grid over moments
+
 // The least number that a step from z leads to and that is in layer k; n where there is none.
 // Ruled out: one that gives the last such number; one that reads the steps that lead to z.
-pub fn next(
+fn next(
     w: &[u64],
     steps: usize,
     layers: usize,
@@ -40,7 +43,7 @@ fn fill_after(w: &mut [u64], steps: usize, layers: usize, stride: usize, n: usiz
 
 // Layer k becomes the numbers from which k steps lead to x, for each k up to n. After an empty layer there are none to add.
 // Ruled out: one that leaves old bits in the layers; one that begins with x in layer 1; one that goes along the steps from x.
-pub fn fill_layers(w: &mut [u64], steps: usize, layers: usize, stride: usize, n: usize, x: usize)
+fn fill_layers(w: &mut [u64], steps: usize, layers: usize, stride: usize, n: usize, x: usize)
     requires { ⌜ Room layers stride n (length (now w)) × (steps + n * stride ≤ layers) × (x < n) ⌝ }
     ensures { λ _. ⌜ Layers steps layers stride n x (now (w .exit)) × Within layers (layers + n * stride + stride) (now (w .entry)) (now (w .exit)) ⌝ }
 {
@@ -57,7 +60,7 @@ pub fn fill_layers(w: &mut [u64], steps: usize, layers: usize, stride: usize, n:
 
 // The least j for which z is in layer j + 1; n where there is none.
 // Ruled out: one that finds z in layer 0, by no step at all; one that gives a longer way.
-pub fn layer_of(w: &[u64], layers: usize, stride: usize, n: usize, z: usize) -> usize
+fn layer_of(w: &[u64], layers: usize, stride: usize, n: usize, z: usize) -> usize
     requires { ⌜ Room layers stride n (length (now w)) × (z < n) ⌝ }
     ensures { λ r. ⌜ (r ≡ least n (inLayer (now (w .entry)) layers stride z)) × (r ≤ n) ⌝ }
 {

@@ -133,7 +133,8 @@ loop-again-2 c =
     (c .before .before .before .before .before .before .before .before .before .before .before .before .before .before
     .before .pairs-test .taken) _ _ (c .before .before .before .before .before .before .before .before .before .before .before .before .before
     .before .read-row .ensures) (found .0) (c .if4 .left) in
-    let next = rw (c .before .before .before .before .before .before .before .before .before .before .before .at .ensures) at (c .before .before .before .before .before .before .before .next2 .ensures) in
+    let begins = c .before .before .before .before .before .before .before .before .before .before .before .at .ensures in
+    let next = rw begins at (c .before .before .before .before .before .before .before .next2 .ensures) in
     let more = row-pass _ _ _ _ _ _ (c .before .before .before .before .before .before .before .before .before .before .before .before .before
     .before .before .before .before .before .before .pre .1 .3 .overlapping)
     (c .before .before .before .before .before .before .before .before .before .before .before .before .before .before
@@ -169,7 +170,8 @@ returns-2 c =
     let may = sym (c .before .before .before .before .before .before .may-race .ensures) ∙ not-false _ (c .before .before .before .before .before .if1 .left) in
     let sized = c .before .before .before .before .before .before .before .before .before .before .before .before .before .before .before .before
     .before .before .before .before .pre .1 .2 in
-    let row = c .before .before .before .before .before .before .before .before .before .before .before .before .before .before .before .before .pairs-test .taken in
+    let row = c .before .before .before .before .before .before .before .before .before .before .before .before .before .before
+    .before .before .pairs-test .taken in
     let hit = found .1 (c .before .if4 .taken) in
     race-found _ _ _ _ (c .before .before .before .before .before .before .before .before .before .before .before .before .before .before .before
     .before .before .pairs .inv .2) row (inv .3)

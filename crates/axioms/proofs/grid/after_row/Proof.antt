@@ -57,7 +57,8 @@ loop-again c =
     (c .before .before .before .before .before .before .lacks-after .ensures) in
     let kept = located-kept (omega arith) (omega arith) (within-put EDGE EDGE-END _ _ (omega arith) (omega arith) (put .ensures)) (inv .3) in
     let held = kept .mutuals in
-    let next = rw (c .before .before .before .before .before .before .before .before .before .before .before .before .before .before .at .ensures) at (c .next2 .ensures) in
+    let begins = c .before .before .before .before .before .before .before .before .before .before .before .before .before .before .at .ensures in
+    let next = rw begins at (c .next2 .ensures) in
     (next .high, e .frame .len, inv .2, kept, λ l. walked held _ _ (pre .1) l (next .hit l), row-walk _ _ held (pre .1) next (after-apart _ _ _) e)
 
 returns-2 : tie.Need-returns-2 Inv-loop μ-loop

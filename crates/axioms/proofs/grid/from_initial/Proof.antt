@@ -58,7 +58,8 @@ loop-again c =
     )
 
 returns : tie.Need-returns Inv-loop μ-loop
-returns c = let e : c .before .loop .y ≡ c .before .before .before .before .before .before .before .before .args .n = omega arith in rw e at (c .before .loop .inv .4)
+returns c = let e : c .before .loop .y ≡ c .before .before .before .before .before .before .before .before .args .n = omega arith in
+    rw e at (c .before .loop .inv .4)
 
 pub from-initial-spec : {M : Type 1} → statement M
 from-initial-spec =

@@ -15,10 +15,10 @@ use Rattle.cycle.proofs.marks.join_marked.Statement.{statement}
 use Rattle.cycle.proofs.marks.join_marked.Tie as tie
 
 abbrev Inv-loop : tie.InvT-loop
-Inv-loop w₀ n k from i₀ w i = (i ≤ n) × (length w ≡ length w₀) × (i < n → marked w₀ i ≡ true) × Phase w₀ w n k i
+Inv-loop w₀ n k i₀ w i = (i ≤ n) × (length w ≡ length w₀) × (i < n → marked w₀ i ≡ true) × Phase w₀ w n k i
 
 abbrev μ-loop : tie.MeasureT-loop
-μ-loop w₀ n k from i₀ w i = n - i
+μ-loop w₀ n k i₀ w i = n - i
 
 loop-holds : tie.Need-loop-holds Inv-loop μ-loop
 loop-holds c =
@@ -59,6 +59,5 @@ returns c =
 pub join-marked-spec : {M : Type 1} → statement M
 join-marked-spec =
     tie.close
-    (tie.spec Inv-loop μ-loop (λ c. search needs) (λ c. search needs) (λ c κs. search needs) loop-holds (λ c κs. search needs)
-    (λ c. search needs) (λ c. search needs) (λ c κs. search needs) (λ c. search needs) next-requires-2 (λ c. search needs) loop-again
-    (λ c. search needs) returns)
+    (tie.spec Inv-loop μ-loop (λ c κs. search needs) loop-holds (λ c κs. search needs) (λ c κs. search needs) (λ c. search needs)
+    next-requires-2 (λ c. search needs) loop-again (λ c. search needs) returns)

@@ -9,9 +9,11 @@ returns : tie.Need-returns
 returns c = asked-on _ _
 
 returns-2 : tie.Need-returns-2
-returns-2 c = asked-rest _ _ _ _ _ (c .before .before .first-both .ensures) (c .before .if1 .left) (c .first-both2 .ensures) refl
+returns-2 c =
+    let at = c .before .before .before .at .ensures in
+    asked-rest _ _ _ _ _ (rw at at (c .before .before .first-both .ensures)) (c .before .if1 .left) (rw at at (c .first-both2 .ensures)) refl
 
 pub may-loop-spec : {M : Type 1} → statement M
 may-loop-spec =
     tie.close
-    (tie.spec (λ c. search needs) (λ c. search needs) (λ c κs. search needs) returns (λ c κs. search needs) (λ c. search needs) returns-2)
+    (tie.spec (λ c κs. search needs) (λ c κs. search needs) returns (λ c κs. search needs) returns-2)

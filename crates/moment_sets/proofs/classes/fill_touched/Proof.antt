@@ -31,7 +31,8 @@ returns c =
     let at-loop = c .before in
     let start = c .before .before .before .before .before .before .before .before in
     let e : at-loop .loop .x ≡ start .args .n = omega arith in
-    set-made _ _ _ (start .args .w .now) _ _ (search needs) (search needs) (at-loop .before .before .before .clear .ensures ∙ ap (zeros _ _) (sym (add-sub-cancel-left _ _)))
+    set-made _ _ _ (start .args .w .now) _ _ (search needs) (search needs)
+    (at-loop .before .before .before .clear .ensures ∙ ap (zeros _ _) (sym (add-sub-cancel-left _ _)))
     (rw e at (at-loop .loop .inv .2))
 
 pub fill-touched-spec : {M : Type 1} → statement M

@@ -9,7 +9,8 @@ returns : tie.Need-returns
 returns c = joins-off _ _ (sym (c .before .get .ensures) ∙ not-true _ (c .if1 .taken))
 
 returns-2 : tie.Need-returns-2
-returns-2 c = joins-on _ _ _ (sym (c .before .before .before .get .ensures) ∙ not-false _ (c .before .before .if1 .left)) (rw (c .before .at .ensures) at (c .first-both .ensures))
+returns-2 c = joins-on _ _ _ (sym (c .before .before .before .get .ensures) ∙ not-false _ (c .before .before .if1 .left))
+    (rw (c .before .at .ensures) at (c .first-both .ensures))
 
 pub joins-holder-spec : {M : Type 1} → statement M
 joins-holder-spec =

@@ -22,6 +22,10 @@ use Rattle.model.specs.Location.{coversOf, publicWrite, availableAt, visibleAt,
 use Rattle.model.specs.Location.{visibilityChain, availableBy, availableFrom, visibleBy, visibleTo, inDomain, visibleVia, reaches, byDomain}
 use Rattle.model.specs.Location.{availableVia, L3}
 use Rattle.laws.specs.ChainLaws.{shares-wider, shares-right}
+use Rattle.bits.specs.Bit.{bit}
+use Rattle.bits.specs.Matrix.{rel}
+use Rattle.area.specs.Regions.{HAPPENS, MOMENTS, GRID, REACH-OUT, REACH-IN}
+use Rattle.location.specs.Given.{Pair, Element, happens-is, reach-out, reach-in}
 
 -- ---- definitions
 
@@ -103,11 +107,11 @@ module _ (p : List (List ℕ)) (r q s u : Row) where
   meet-in : (m n k : ℕ) → k < DEVICE → suc k ≤ m → suc k ≤ n → shares p (suc k) (r .agent) (q .agent) ≡ true → shares p (suc k) (r .agent) (s .agent) ≡ true
       → shares p (suc k) (q .agent) (u .agent) ≡ true → meetIn p (widest m n) r q s u ≡ true
   unfolding meetIn widest
-  meet-in m n k l e f a c d =
+  meet-in m n k small first second shared near far =
       and-true (and-true (and-true (le-leb 1 (min (min m n) DEVICE) (omega arith))
-      (shares-wider p (suc k) (min (min m n) DEVICE) (r .agent) (q .agent) (omega arith) (omega arith) (omega arith) a))
-      (shares-wider p (suc k) (min (min m n) DEVICE) (r .agent) (s .agent) (omega arith) (omega arith) (omega arith) c))
-      (shares-wider p (suc k) (min (min m n) DEVICE) (q .agent) (u .agent) (omega arith) (omega arith) (omega arith) d)
+      (shares-wider p (suc k) (min (min m n) DEVICE) (r .agent) (q .agent) (omega arith) (omega arith) (omega arith) shared))
+      (shares-wider p (suc k) (min (min m n) DEVICE) (r .agent) (s .agent) (omega arith) (omega arith) (omega arith) near))
+      (shares-wider p (suc k) (min (min m n) DEVICE) (q .agent) (u .agent) (omega arith) (omega arith) (omega arith) far)
 
   -- the domain that is found, by the number that byDomain counts it by
   meet-out : (m n : ℕ) → meetIn p (widest m n) r q s u ≡ true
@@ -129,13 +133,13 @@ module _ (t : Table) (x y b c : ℕ) where
   domain-shown : (w : ℕ) → w < t .rows → reads (t .row y) ≡ true → seen t x y c w ≡ true → visibleTo t y b w ≡ true
       → anyBelow DEVICE (byDomain t x y b c) ≡ true
   unfolding seen byDomain inDomain reaches visibleVia
-  domain-shown w l r e v =
+  domain-shown w low reader e last =
       let f = split e in
       let k = meet-out (t .places) (t .row x) (t .row y) (t .row c) (t .row w) (t .row c .scope) (t .row w .scope) (f .1) in
       any-in (byDomain t x y b c) DEVICE (k .0) (k .1)
       (and-true (and-true (k .4) (and-true (le-leb (suc (k .0)) (t .row c .scope) (k .2)) (k .5)))
-      (rw r (any-in (visibleVia t (suc (k .0)) y b c) (t .rows) w l
-      (and-true (and-true (and-true (le-leb (suc (k .0)) (t .row w .scope) (k .3)) (k .6)) (f .0)) v))))
+      (rw reader (any-in (visibleVia t (suc (k .0)) y b c) (t .rows) w low
+      (and-true (and-true (and-true (le-leb (suc (k .0)) (t .row w .scope) (k .3)) (k .6)) (f .0)) last))))
 
   ends-reader-there : reads (t .row y) ≡ true → anyBelow (t .rows) (shownBy t x y b c) ≡ true → anyBelow DEVICE (byDomain t x y b c) ≡ true
   unfolding shownBy startsWith visibleTo visibleBy visibilityChain
@@ -154,10 +158,10 @@ module _ (t : Table) (x y b c : ℕ) where
   seen-of : (k w : ℕ) → k < DEVICE → shares (t .places) (suc k) (t .row x .agent) (t .row y .agent) ≡ true → inDomain t (suc k) x c ≡ true
       → inDomain t (suc k) y w ≡ true → happens t (availableAt t c) (visibleAt t w) ≡ true → seen t x y c w ≡ true
   unfolding seen inDomain
-  seen-of k w l a d e h =
-      and-true h
-      (meet-in (t .places) (t .row x) (t .row y) (t .row c) (t .row w) (t .row c .scope) (t .row w .scope) k l (leb-true (suc k) (t .row c .scope) (split d .0))
-      (leb-true (suc k) (t .row w .scope) (split e .0)) a (split d .1) (split e .1))
+  seen-of k w small shared near far before =
+      and-true before
+      (meet-in (t .places) (t .row x) (t .row y) (t .row c) (t .row w) (t .row c .scope) (t .row w .scope) k small
+      (leb-true (suc k) (t .row c .scope) (split near .0)) (leb-true (suc k) (t .row w .scope) (split far .0)) shared (split near .1) (split far .1))
 
   ends-reader-back : reads (t .row y) ≡ true → anyBelow DEVICE (byDomain t x y b c) ≡ true → anyBelow (t .rows) (shownBy t x y b c) ≡ true
   unfolding byDomain reaches visibleVia visibleTo visibleBy visibilityChain shownBy startsWith
@@ -200,7 +204,7 @@ module _ (t : Table) (x y b c : ℕ) where
       (leb-true (suc (k .0)) (t .row c .scope) (split (g .1) .0)) (omega arith) (g .0)
       (split (g .1) .1) (shares-right (t .places) (suc (k .0)) (t .row x .agent) (t .row y .agent) (omega arith) (omega arith) (g .0)))
 
-  pub ends-is : endsAt t x y b c ≡ anyBelow DEVICE (byDomain t x y b c)
+  ends-is : endsAt t x y b c ≡ anyBelow DEVICE (byDomain t x y b c)
   unfolding endsAt
   ends-is =
       ⊎-elim
@@ -242,7 +246,7 @@ module _ (t : Table) (x y b : ℕ) where
       (λ q. or-right (endsAt t x y b (a .0)) (and-true (split q .0) (any-in (endsWith t x y b (a .0)) (t .rows) (c .0) (c .1) (and-true (split q .1) h))))
       (or-cases (eqb (a .0) (c .0)) (t .chains and through (broadens t) (t .rows) (a .0) (c .0)) (g .1))))
 
-  pub firsts-is : anyBelow (t .rows) (carriedBy t x y b) ≡ anyBelow (t .rows) (availableVia t x y b)
+  firsts-is : anyBelow (t .rows) (carriedBy t x y b) ≡ anyBelow (t .rows) (availableVia t x y b)
   firsts-is = bool-ext (anyBelow (t .rows) (carriedBy t x y b)) (anyBelow (t .rows) (availableVia t x y b)) firsts-there firsts-back
 
   pub L3-off : (r q : Row) → r ≡ t .row x → q ≡ t .row y → publicWrite r q ≡ false → L3 t x y b ≡ false
@@ -289,22 +293,22 @@ module _ (t : List ℕ) (p : List (List ℕ)) (mode : Mode) (n x y : ℕ) where
   pub after-row : (a k : ℕ) (r s : Row) (g d : Bool) → r ≡ rowOf t x → s ≡ rowOf t a → k ≡ availablePart s → k < 3 → g ≡ availabilityOf s k
       → d ≡ orderedRows n (itself x) (3 * a + k) r s → availableAfter (decode t p mode n) x a ≡ (g and d)
   unfolding decode availableAfter availability programOrder availableAt availablePart
-  after-row a k r s g d er es ek l eg ed =
+  after-row a k r s g d first-is row-is part-is small makes ordered =
       let e : (3 * x + 1) / 3 ≡ x = omega arith in
       let f : (3 * a + k) / 3 ≡ a = omega arith in
       let h : (3 * a + k) % 3 ≡ k = omega arith in
-      let q : k ≡ cond (plain (rowOf t a)) AFTER BEFORE = ek ∙ ap availablePart es in
-      rw (eg, ed, er, es, ← q, e, f, h) refl
+      let q : k ≡ cond (plain (rowOf t a)) AFTER BEFORE = part-is ∙ ap availablePart row-is in
+      rw (makes, ordered, first-is, row-is, ← q, e, f, h) refl
 
   pub before-row : (v k : ℕ) (q s : Row) (g d : Bool) → q ≡ rowOf t y → s ≡ rowOf t v → k ≡ visiblePart s → k < 3 → g ≡ visibilityOf s k
       → d ≡ orderedRows n (3 * v + k) (itself y) s q → visibleBefore (decode t p mode n) y v ≡ (g and d)
   unfolding decode visibleBefore visibility programOrder visibleAt visiblePart
-  before-row v k q s g d eq es ek l eg ed =
+  before-row v k q s g d second-is row-is part-is small makes ordered =
       let e : (3 * y + 1) / 3 ≡ y = omega arith in
       let f : (3 * v + k) / 3 ≡ v = omega arith in
       let h : (3 * v + k) % 3 ≡ k = omega arith in
-      let o : k ≡ cond (plain (rowOf t v)) BEFORE AFTER = ek ∙ ap visiblePart es in
-      rw (eg, ed, eq, es, ← o, e, f, h) refl
+      let o : k ≡ cond (plain (rowOf t v)) BEFORE AFTER = part-is ∙ ap visiblePart row-is in
+      rw (makes, ordered, second-is, row-is, ← o, e, f, h) refl
 
   -- two bytes, and the number of the row, tell of an element
   pub after-tells : (a : ℕ) → availableAfter (decode t p mode n) x a ≡ true → (mayAvail t (rowOf t x) a ≡ true) × (x ≤ a)
@@ -331,32 +335,28 @@ module _ (t : List ℕ) (p : List (List ℕ)) (mode : Mode) (n x y b : ℕ) wher
   chains-of e = e
 
   -- a first element, by the row's one moment
-  pub first-row : (a k : ℕ) (r s : Row) → r ≡ rowOf t x → s ≡ rowOf t a → k ≡ availablePart s → k < 3
+  first-row : (a k : ℕ) (r s : Row) → r ≡ rowOf t x → s ≡ rowOf t a → k ≡ availablePart s → k < 3
       → availableRows n x r (3 * a + k) s b ≡ firstAvailable (decode t p mode n) x b a
   unfolding decode firstAvailable availability programOrder availableRows availableAt availablePart
-  first-row a k r s er es ek l =
+  first-row a k r s first-is row-is part-is small =
       let e : (3 * x + 1) / 3 ≡ x = omega arith in
       let f : (3 * a + k) / 3 ≡ a = omega arith in
-      let q : k ≡ cond (plain (rowOf t a)) AFTER BEFORE = ek ∙ ap availablePart es in
-      rw (er, es, ← q, e, f) refl
+      let q : k ≡ cond (plain (rowOf t a)) AFTER BEFORE = part-is ∙ ap availablePart row-is in
+      rw (first-is, row-is, ← q, e, f) refl
 
-  pub last-row : (v k : ℕ) (q s : Row) → q ≡ rowOf t y → s ≡ rowOf t v → k ≡ visiblePart s → k < 3
+  last-row : (v k : ℕ) (q s : Row) → q ≡ rowOf t y → s ≡ rowOf t v → k ≡ visiblePart s → k < 3
       → visibleRows n y q (3 * v + k) s b ≡ lastVisible (decode t p mode n) y b v
   unfolding decode lastVisible visibility programOrder visibleRows visibleAt visiblePart
-  last-row v k q s eq es ek l =
+  last-row v k q s second-is row-is part-is small =
       let e : (3 * y + 1) / 3 ≡ y = omega arith in
       let f : (3 * v + k) / 3 ≡ v = omega arith in
-      let o : k ≡ cond (plain (rowOf t v)) BEFORE AFTER = ek ∙ ap visiblePart es in
-      rw (eq, es, ← o, e, f) refl
+      let o : k ≡ cond (plain (rowOf t v)) BEFORE AFTER = part-is ∙ ap visiblePart row-is in
+      rw (second-is, row-is, ← o, e, f) refl
 
   -- a row that two bytes rule out, and no row before x
   first-tells : (a : ℕ) → firstAvailable (decode t p mode n) x b a ≡ true → (mayAvail t (rowOf t x) a ≡ true) × (x ≤ a)
   unfolding firstAvailable availableAfter
   first-tells a e = after-tells t p mode n x y a (split e .0)
-
-  pub carried-off : (a : ℕ) (r : Row) → r ≡ rowOf t x → mayAvail t r a ≡ false → carriedBy (decode t p mode n) x y b a ≡ false
-  unfolding carriedBy
-  carried-off a r er off = not-so _ (λ e. not-both (rw er (first-tells a (split e .0) .0)) off)
 
   pub carried-low : anyBelow x (carriedBy (decode t p mode n) x y b) ≡ false
   unfolding carriedBy
@@ -370,7 +370,7 @@ module _ (t : List ℕ) (p : List (List ℕ)) (mode : Mode) (n x y b : ℕ) wher
   seen-bits : (c v : ℕ) (h k : Bool) → h ≡ happens (decode t p mode n) (availableAt (decode t p mode n) c) (3 * v)
       → k ≡ happens (decode t p mode n) (availableAt (decode t p mode n) c) (3 * v + 2) → seen (decode t p mode n) x y c v ≡ true → (h ≡ true) ⊎ (k ≡ true)
   unfolding seen visibleAt
-  seen-bits c v h k eh ek g = ⊎-elim (λ l. inl (eh ∙ at-zero l)) (λ l. inr (ek ∙ at-two l)) (which (plain (decode t p mode n .row v)))
+  seen-bits c v h k before after g = ⊎-elim (λ l. inl (before ∙ at-zero l)) (λ l. inr (after ∙ at-two l)) (which (plain (decode t p mode n .row v)))
     where
       at-zero : plain (decode t p mode n .row v) ≡ true → happens (decode t p mode n) (availableAt (decode t p mode n) c) (3 * v) ≡ true
       at-zero l = let e : 3 * v + 0 ≡ 3 * v = omega arith in rw (l, e) at (split g .0)
@@ -382,29 +382,20 @@ module _ (t : List ℕ) (p : List (List ℕ)) (mode : Mode) (n x y b : ℕ) wher
       → k ≡ happens (decode t p mode n) (availableAt (decode t p mode n) c) (3 * v + 2) → ((mode .chains or h or k) and maySee t q v) ≡ false
       → shownBy (decode t p mode n) x y b c v ≡ false
   unfolding shownBy
-  shown-off c v q h k eq eh ek off = not-so _ told
+  shown-off c v q h k second-is before after off = not-so _ told
     where
       some : (seen (decode t p mode n) x y c v
           or (decode t p mode n .chains and anyBelow (decode t p mode n .rows) (startsWith (decode t p mode n) x y c v))) ≡ true
           → (mode .chains or h or k) ≡ true
       some e = ⊎-elim (λ g. ⊎-elim (λ f. or-left k (or-right (mode .chains) f)) (λ f. or-right (mode .chains or h) f)
-          (seen-bits c v h k eh ek g)) (λ g. or-left k (or-left h (chains-of (split g .0)))) (or-cases _ _ e)
+          (seen-bits c v h k before after g)) (λ g. or-left k (or-left h (chains-of (split g .0)))) (or-cases _ _ e)
 
       told : shownBy (decode t p mode n) x y b c v ≡ true → ⊥
-      told e = not-both (and-true (some (split e .1)) (rw eq (last-tells v (split e .0) .0))) off
+      told e = not-both (and-true (some (split e .1)) (rw second-is (last-tells v (split e .0) .0))) off
 
   available-of : (i k : ℕ) (s : Row) → s ≡ rowOf t i → k ≡ availablePart s → 3 * i + k ≡ availableAt (decode t p mode n) i
   unfolding decode availableAt availablePart
-  available-of i k s es ek = rw (ek, es) refl
-
-  pub shown-out : (i v k : ℕ) (q s : Row) (h g : Bool) → q ≡ rowOf t y → s ≡ rowOf t i → k ≡ availablePart s
-      → h ≡ happens (decode t p mode n) (3 * i + k) (3 * v)
-      → g ≡ happens (decode t p mode n) (3 * i + k) (3 * v + 2) → ((mode .chains or h or g) and maySee t q v) ≡ false
-      → shownBy (decode t p mode n) x y b i v ≡ false
-  shown-out i v k q s h g eq es ek eh eg off =
-      let e = available-of i k s es ek in
-      shown-off i v q h g eq (eh ∙ ap (λ (m : ℕ). happens (decode t p mode n) m (3 * v)) e)
-      (eg ∙ ap (λ (m : ℕ). happens (decode t p mode n) m (3 * v + 2)) e) off
+  available-of i k s row-is part-is = rw (part-is, row-is) refl
 
   pub shown-none : (c : ℕ) → anyBelow (y + 1) (shownBy (decode t p mode n) x y b c) ≡ false → anyBelow n (shownBy (decode t p mode n) x y b c) ≡ false
   unfolding shownBy
@@ -414,49 +405,88 @@ module _ (t : List ℕ) (p : List (List ℕ)) (mode : Mode) (n x y b : ℕ) wher
       go v (yes l) = any-off _ (y + 1) e v l
       go v (no l) = not-so _ (λ u. let h = last-tells v (split u .0) .1 in omega arith)
 
-  pub ends-row : (a c : ℕ) (h : Bool) → h ≡ through (broadens (decode t p mode n)) n a c
-      → endsWith (decode t p mode n) x y b a c ≡ (h and endsAt (decode t p mode n) x y b c)
-  unfolding endsWith decode
-  ends-row a c h e = rw e refl
+-- ---- laws: what is asked of a pair
 
-  pub shown-row : (c v k : ℕ) (q u : Row) (h : Bool) → q ≡ rowOf t y → u ≡ rowOf t v → k ≡ visiblePart u → k < 3 → h ≡ visibleRows n y q (3 * v + k) u b
-      → shownBy (decode t p mode n) x y b c v
-      ≡ (h and (seen (decode t p mode n) x y c v or (mode .chains and anyBelow n (startsWith (decode t p mode n) x y c v))))
-  unfolding shownBy decode
-  shown-row c v k q u h eq eu ek l e =
-      let o : h ≡ lastVisible (decode t p mode n) y b v = e ∙ last-row v k q u eq eu ek l in
-      rw o refl
+module _ {t : List ℕ} {p : List (List ℕ)} {mode : Mode} {n x y : ℕ} {r q : Row} {w : List ℕ} (pair : Pair t p mode n x y r q w) where
+  pub carried-off : (b a : ℕ) → mayAvail t r a ≡ false → carriedBy (decode t p mode n) x y b a ≡ false
+  unfolding carriedBy
+  carried-off b a off = not-so _ (λ e. not-both (rw (pair .first-is) (first-tells t p mode n x y b a (split e .0) .0)) off)
 
-  pub carried-row : (a k : ℕ) (r s : Row) (h : Bool) → r ≡ rowOf t x → s ≡ rowOf t a → k ≡ availablePart s → k < 3 → h ≡ availableRows n x r (3 * a + k) s b
+  pub carried-row : (b a : ℕ) {k : ℕ} {s : Row} {h : Bool} → s ≡ rowOf t a → (k ≡ availablePart s) × (k < 3) → h ≡ availableRows n x r (3 * a + k) s b
       → carriedBy (decode t p mode n) x y b a
       ≡ (h and (endsAt (decode t p mode n) x y b a or (mode .chains and anyBelow n (endsWith (decode t p mode n) x y b a))))
   unfolding carriedBy decode
-  carried-row a k r s h er es ek l e =
-      let o : h ≡ firstAvailable (decode t p mode n) x b a = e ∙ first-row a k r s er es ek l in
+  carried-row b a {k} {s} {h} row-is part told =
+      let o : h ≡ firstAvailable (decode t p mode n) x b a = told ∙ first-row t p mode n x y b a k r s (pair .first-is) row-is (part .0) (part .1) in
       rw o refl
 
--- ---- laws: two elements over the rows
+  pub shown-row : (b c v : ℕ) {k : ℕ} {u : Row} {h : Bool} → u ≡ rowOf t v → (k ≡ visiblePart u) × (k < 3) → h ≡ visibleRows n y q (3 * v + k) u b
+      → shownBy (decode t p mode n) x y b c v
+      ≡ (h and (seen (decode t p mode n) x y c v or (mode .chains and anyBelow n (startsWith (decode t p mode n) x y c v))))
+  unfolding shownBy decode
+  shown-row b c v {k} {u} {h} row-is part told =
+      let o : h ≡ lastVisible (decode t p mode n) y b v = told ∙ last-row t p mode n x y b v k q u (pair .second-is) row-is (part .0) (part .1) in
+      rw o refl
 
-module _ (t : List ℕ) (p : List (List ℕ)) (mode : Mode) (n x y : ℕ) where
-  pub seen-row : (i j k m g : ℕ) (r q s u : Row) (h d : Bool) → r ≡ rowOf t x → q ≡ rowOf t y → s ≡ rowOf t i → u ≡ rowOf t j → k ≡ availablePart s
-      → m ≡ visiblePart u
-      → h ≡ happens (decode t p mode n) (3 * i + k) (3 * j + m) → g ≡ widest (s .scope) (u .scope) → d ≡ meetIn p g r q s u
-      → seen (decode t p mode n) x y i j ≡ (h and d)
-  unfolding seen decode availableAt visibleAt availablePart visiblePart
-  seen-row i j k m g r q s u h d er eq es eu ek em eh eg ed =
-      let a : k ≡ cond (plain (rowOf t i)) AFTER BEFORE = ek ∙ ap availablePart es in
-      let c : m ≡ cond (plain (rowOf t j)) BEFORE AFTER = em ∙ ap visiblePart eu in
-      rw (ed, eg, er, eq, es, eu, eh, a, c) refl
+  pub ends-row : {h : Bool} (b a c : ℕ) → mode .chains ≡ true → a < n → c < n → h ≡ bit w ((REACH-OUT + a * GRID) * 64 + c)
+      → endsWith (decode t p mode n) x y b a c ≡ (h and endsAt (decode t p mode n) x y b c)
+  unfolding endsWith decode
+  ends-row b a c chains l m e = rw (reach-out pair a c chains l m e) refl
 
-  pub met-row : (i k g : ℕ) (r q s : Row) (h d : Bool) → r ≡ rowOf t x → q ≡ rowOf t y → s ≡ rowOf t i → k ≡ availablePart s
-      → h ≡ happens (decode t p mode n) (3 * i + k) (3 * y + 1) → g ≡ widest (s .scope) DEVICE → d ≡ meetIn p g r q s q
-      → (h and d) ≡ metAtOnce (decode t p mode n) x y i
-  unfolding metAtOnce decode availableAt availablePart
-  met-row i k g r q s h d er eq es ek eh eg ed =
-      let a : k ≡ cond (plain (rowOf t i)) AFTER BEFORE = ek ∙ ap availablePart es in
-      rw (ed, eg, er, eq, es, eh, a) refl
-
-  pub starts-row : (c v j : ℕ) (h : Bool) → h ≡ through (narrows (decode t p mode n)) n j v
+  pub starts-row : {h : Bool} (c v j : ℕ) → mode .chains ≡ true → v < n → j < n → h ≡ bit w ((REACH-IN + j * GRID) * 64 + v)
       → startsWith (decode t p mode n) x y c v j ≡ (h and seen (decode t p mode n) x y c j)
   unfolding startsWith decode
-  starts-row c v j h e = rw e refl
+  starts-row c v j chains l m e = rw (reach-in pair j v chains m l e) refl
+
+-- ---- laws: what is asked of an element
+
+module _ {t : List ℕ} {p : List (List ℕ)} {mode : Mode} {n x y i : ℕ} {r q s : Row} {w : List ℕ} (element : Element t p mode n x y r q i s w) where
+  -- k is the row's one moment that makes available
+  module _ {k : ℕ} (part : (k ≡ availablePart s) × (k < 3)) where
+    part-is : k ≡ cond (plain (rowOf t i)) AFTER BEFORE
+    unfolding availablePart
+    part-is = part .0 ∙ ap availablePart (element .row-is)
+
+    low : 3 * i + k < 3 * n
+    low = omega (arith, part .1, element .row)
+
+    pub shown-skip : (b v : ℕ) → v < n
+        → ((mode .chains or rel w HAPPENS MOMENTS (3 * i + k) (3 * v) or rel w HAPPENS MOMENTS (3 * i + k) (3 * v + 2)) and maySee t q v) ≡ false
+        → shownBy (decode t p mode n) x y b i v ≡ false
+    shown-skip b v l off =
+        let e = available-of t p mode n x y b i k s (element .row-is) (part .0) in
+        shown-off t p mode n x y b i v q _ _ (element .pair .second-is)
+        (happens-is (element .pair) _ _ low (omega arith) refl ∙ ap (λ (m : ℕ). happens (decode t p mode n) m (3 * v)) e)
+        (happens-is (element .pair) _ _ low (omega arith) refl ∙ ap (λ (m : ℕ). happens (decode t p mode n) m (3 * v + 2)) e) off
+
+    pub seen-row : {m g : ℕ} {u : Row} {h d : Bool} (j : ℕ) → j < n → u ≡ rowOf t j → (m ≡ visiblePart u) × (m < 3)
+        → h ≡ rel w HAPPENS MOMENTS (3 * i + k) (3 * j + m) → g ≡ widest (s .scope) (u .scope) → d ≡ meetIn p g r q s u
+        → seen (decode t p mode n) x y i j ≡ (h and d)
+    unfolding seen decode availableAt visibleAt visiblePart
+    seen-row {m} j l other-is other before scope-is met =
+        let c : m ≡ cond (plain (rowOf t j)) BEFORE AFTER = other .0 ∙ ap visiblePart other-is in
+        rw (
+          met,
+          scope-is,
+          element .pair .first-is,
+          element .pair .second-is,
+          element .row-is,
+          other-is,
+          happens-is (element .pair) (3 * i + k) (3 * j + m) low (omega (arith, l, other .1)) before,
+          part-is,
+          c,
+        ) refl
+
+    pub met-row : {g : ℕ} {h d : Bool} → h ≡ rel w HAPPENS MOMENTS (3 * i + k) (3 * y + 1) → g ≡ widest (s .scope) DEVICE → d ≡ meetIn p g r q s q
+        → metAtOnce (decode t p mode n) x y i ≡ (h and d)
+    unfolding metAtOnce decode availableAt
+    met-row before scope-is met =
+        rw (
+          met,
+          scope-is,
+          element .pair .first-is,
+          element .pair .second-is,
+          element .row-is,
+          happens-is (element .pair) (3 * i + k) (3 * y + 1) low (omega (arith, element .pair .second)) before,
+          part-is,
+        ) refl

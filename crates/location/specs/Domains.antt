@@ -7,7 +7,7 @@ use Prim.Native.Nat.{ℕ, _+_, _-_, _*_, _≤_, _<_}
 use native.Mathlib.Omega.{arith}
 use native.Mathlib.Decide.{ℕ-discrete}
 use native.Mathlib.Numerals.{add-one}
-use lib.ListN.{length, getD}
+use lib.ListN.{getD}
 use lib.Dec.{eqb}
 use borrow.Author.Tests.{eq-eqb, ne-eqb, eqb-true, le-leb}
 use Rattle.finite.specs.Logic.{_and_, _or_, split, and-true, and-false-left, and-false-right, or-right, or-none, or-off, not-both, not-so, not-out}
@@ -17,19 +17,20 @@ use Rattle.finite.specs.Closure.{through, through-none}
 use Rattle.bits.specs.Bit.{bit, setBit, setBit-same, setBit-other, zeros, bit-zeros-in}
 use Rattle.bits.specs.Within.{Within, within-refl, within-trans, within-widen, within-setBit, within-cleared}
 use Rattle.bits.specs.Matrix.{rel, Closed}
-use Rattle.bits.specs.Stage.{Holds, Made, Added, holds-kept, holds-cong, holds-closed, within-closed}
+use Rattle.bits.specs.Stage.{Holds, Made, Added, holds-kept, holds-closed, within-closed}
 use Rattle.model.specs.declared.Mode.{Mode}
 use Rattle.model.specs.declared.Row.{Row}
-use Rattle.model.specs.Limits.{ROWS, WORK}
+use Rattle.model.specs.Limits.{ROWS}
 use Rattle.model.specs.Row.{AVAILABLE-HOST, AVAILABLE-DEVICE, VISIBLE-HOST, VISIBLE-DEVICE, HOST-TO-DEVICE, DEVICE-TO-HOST, operation, reads, writes}
 use Rattle.model.specs.Table.{Table, byteOf, rowOf, dependency, dependsOf, decode}
 use Rattle.model.specs.Scope.{host}
 use Rattle.model.specs.Moment.{itself}
 use Rattle.model.specs.Location.{systemBefore, L4, thence, onHost, availableKind, visibleKind, domainKind, seenBy, metFrom, carriedBy, reachesBy, L5}
-use Rattle.area.specs.Regions.{HAPPENS, MOMENTS, GRID, HOSTED, HOSTED-END, SYSTEM, SYSTEM-END, MET, MET-END, REACHED, REACHED-END}
+use Rattle.area.specs.Regions.{HAPPENS, MOMENTS, GRID, HOSTED, HOSTED-END, SYSTEM, SYSTEM-END, MET, REACHED, REACHED-END}
 use Rattle.area.specs.State.{Ordered, ordered-kept}
 use Rattle.rules.specs.Shared.{mayShare}
 use Rattle.location.specs.Order.{hosted}
+use Rattle.location.specs.Given.{Room, Given, GivenRows, given-kept}
 
 -- ---- definitions: tests over bytes and bits
 
@@ -133,15 +134,15 @@ domain-kinds false = (omega arith, omega arith)
 place-apart : (i j x y : ℕ) → j < ROWS → y < ROWS → (SYSTEM + x * GRID) * 64 + y ≡ (SYSTEM + i * GRID) * 64 + j → (i ≡ x) × (j ≡ y)
 place-apart i j x y p q e = (omega arith, omega arith)
 
-module _ (mode : Mode) (n k : ℕ) (i j : ℕ) (ei : i ≡ getD (mode .first) k 0) (ej : j ≡ getD (mode .second) k 0) where
+module _ (mode : Mode) (n k : ℕ) {i j : ℕ} (first-is : i ≡ getD (mode .first) k 0) (second-is : j ≡ getD (mode .second) k 0) where
   dependency-is : (x y : ℕ) → nthDepends mode k x y ≡ (eqb i x and eqb j y)
   unfolding nthDepends dependency
-  dependency-is x y = rw (ei, ej) refl
+  dependency-is x y = rw (first-is, second-is) refl
 
-  pub added-depends : (w u : List ℕ) → n ≤ ROWS → WORK ≤ length w → i < n → j < n → u ≡ setBit w ((SYSTEM + i * GRID) * 64 + j)
+  pub added-depends : {w u : List ℕ} → Room n w → i < n → j < n → u ≡ setBit w ((SYSTEM + i * GRID) * 64 + j)
       → Added SYSTEM SYSTEM-END SYSTEM GRID n (nthDepends mode k) w u
   unfolding rel
-  added-depends w u small room li lj e =
+  added-depends {w} given first second e =
       record {
         cell = λ x y p q. rw (e, dependency-is x y) (go x y p q (ℕ-discrete i x) (ℕ-discrete j y));
         frame = rw e (within-setBit SYSTEM SYSTEM-END w ((SYSTEM + i * GRID) * 64 + j) (omega arith) (omega arith));
@@ -167,10 +168,9 @@ module _ (mode : Mode) (n k : ℕ) (i j : ℕ) (ei : i ≡ getD (mode .first) k 
       out x y p q a c = let g : n ≤ j = off (omega arith) in omega arith
 
 -- one dependency more
-pub depends-none : {n : ℕ} {v : List ℕ} (mode : Mode) (w : List ℕ) → n ≤ ROWS → WORK ≤ length w → v ≡ zeros w SYSTEM (SYSTEM-END - SYSTEM)
-    → Holds SYSTEM GRID n (depends mode 0) v
+pub depends-none : {n : ℕ} {w v : List ℕ} (mode : Mode) → Room n w → v ≡ zeros w SYSTEM (SYSTEM-END - SYSTEM) → Holds SYSTEM GRID n (depends mode 0) v
 unfolding rel depends
-depends-none {n} mode w small room e =
+depends-none {n} {w} mode given e =
     record {
       fits = omega arith;
       cell = λ i j p q. rw e (bit-zeros-in w SYSTEM (SYSTEM-END - SYSTEM) ((SYSTEM + i * GRID) * 64 + j) (omega arith) (omega arith)
@@ -190,65 +190,61 @@ made-system mode small e f h c =
 
 -- ---- laws: what y meets, and what reaches it
 
-module _ (b : List ℕ) (p : List (List ℕ)) (mode : Mode) (n : ℕ) (w : List ℕ) (o : Ordered (decode b p mode n) n w) where
-  thence-is : (kind x i : ℕ) → x < n → i < n → thenceBits b w kind x i ≡ thence (decode b p mode n) kind x i
-  unfolding thenceBits thence decode rowOf
-  thence-is kind x i l m = ap (λ (c : Bool). eqb (byteOf b i 0) kind and c) (o .happening .cell (itself x) (itself i) (omega arith) (omega arith))
+thence-is : (b : List ℕ) (p : List (List ℕ)) (mode : Mode) (n : ℕ) (w : List ℕ) → Ordered (decode b p mode n) n w → (kind x i : ℕ) → x < n → i < n
+    → thenceBits b w kind x i ≡ thence (decode b p mode n) kind x i
+unfolding thenceBits thence decode rowOf
+thence-is b p mode n w o kind x i first second =
+    ap (λ (c : Bool). eqb (byteOf b i 0) kind and c) (o .happening .cell (itself x) (itself i) (omega arith) (omega arith))
 
-  seen-is : (m y i : ℕ) → m < n → y < n → i < n
-      → seenBits b w (visibleKind (decode b p mode n) y) m y i ≡ seenBy (decode b p mode n) y m i
+module _ {b : List ℕ} {p : List (List ℕ)} {mode : Mode} {n m y : ℕ} {w : List ℕ} (given : GivenRows Ordered b p mode n m y w) where
+  seen-is : (i : ℕ) → i < n → seenBits b w (visibleKind (decode b p mode n) y) m y i ≡ seenBy (decode b p mode n) y m i
   unfolding seenBits seenBy
-  seen-is m y i k l h =
-      rw (thence-is (visibleKind (decode b p mode n) y) m i k h, o .happening .cell (itself i) (itself y) (omega arith) (omega arith)) refl
-
-  visible-is : (y : ℕ) → visibleKind (decode b p mode n) y ≡ visibleOf p (rowOf b y .agent)
-  unfolding visibleKind visibleOf onHost decode
-  visible-is y = refl
-
-  some-seen : (m y kind : ℕ) (q : Row) → m < n → y < n → q ≡ rowOf b y → kind ≡ visibleOf p (q .agent)
-      → anyBelow n (seenBits b w kind m y) ≡ anyBelow n (seenBy (decode b p mode n) y m)
-  some-seen m y kind q l k eq ek = rw (ek, eq, ← visible-is y) (any-cong _ _ n (λ i h. seen-is m y i l k h))
+  seen-is i l =
+      rw (
+        thence-is b p mode n w (given .holds) (visibleKind (decode b p mode n) y) m i (given .first) l,
+        given .holds .happening .cell (itself i) (itself y) (omega arith) (omega arith),
+      ) refl
 
   -- m is no operation; it is one and y reads; it is one and y doesn't
-  pub met-off : (m y : ℕ) → operation (rowOf b m) ≡ false → false ≡ metBy (decode b p mode n) m y
+  pub met-off : operation (rowOf b m) ≡ false → false ≡ metBy (decode b p mode n) m y
   unfolding metBy decode
-  met-off m y e = sym (and-false-left _ _ e)
+  met-off none = sym (and-false-left _ _ none)
 
-  pub met-read : (m y kind : ℕ) (q : Row) (d : Bool) → m < n → y < n → operation (rowOf b m) ≡ true → q ≡ rowOf b y → reads q ≡ true
-      → kind ≡ visibleOf p (q .agent)
+  pub met-read : {kind : ℕ} {q : Row} {d : Bool} → operation (rowOf b m) ≡ true → q ≡ rowOf b y → reads q ≡ true → kind ≡ visibleOf p (q .agent)
       → d ≡ anyBelow n (seenBits b w kind m y) → d ≡ metBy (decode b p mode n) m y
-  unfolding metBy metFrom decode _and_
-  met-read m y kind q d l k e eq er ek ed = rw (e, ← eq, er) (ed ∙ some-seen m y kind q l k eq ek)
+  unfolding metBy metFrom visibleKind visibleOf onHost decode _and_
+  met-read {kind} some second-is reader kind-is told =
+      let e : kind ≡ visibleKind (decode b p mode n) y = rw second-is at kind-is in
+      rw (some, ← second-is, reader) (told ∙ rw e (any-cong _ _ n (λ i l. seen-is i l)))
 
-  pub met-other : (m y : ℕ) (q : Row) (d : Bool) → m < n → y < n → operation (rowOf b m) ≡ true → q ≡ rowOf b y → reads q ≡ false
-      → d ≡ rel w HAPPENS MOMENTS (itself m) (itself y) → d ≡ metBy (decode b p mode n) m y
+  pub met-other : {q : Row} {d : Bool} → operation (rowOf b m) ≡ true → q ≡ rowOf b y → reads q ≡ false → d ≡ rel w HAPPENS MOMENTS (itself m) (itself y)
+      → d ≡ metBy (decode b p mode n) m y
   unfolding metBy metFrom decode _and_
-  met-other m y q d l k e eq er ed = rw (e, ← eq, er) (ed ∙ o .happening .cell (itself m) (itself y) (omega arith) (omega arith))
+  met-other some second-is other told =
+      rw (some, ← second-is, other) (told ∙ given .holds .happening .cell (itself m) (itself y) (omega arith) (omega arith))
+
+module _ {b : List ℕ} {p : List (List ℕ)} {mode : Mode} {n a y : ℕ} {w : List ℕ} (given : GivenRows Meeting b p mode n a y w) where
+  over-is : (kind d : ℕ) → d < n → onwardBits b w MET kind a y d ≡ overBy (decode b p mode n) kind a y d
+  unfolding onwardBits overBy
+  over-is kind d l =
+      rw (thence-is b p mode n w (given .holds .ordered) kind a d (given .first) l, given .holds .meeting .cell d y l (given .second)) refl
 
   -- a makes nothing available; it does so to y's domain; it does so to the other
-  pub reached-off : (a y kind : ℕ) → kind ≡ byteOf b a 0 → isAvailable kind ≡ false → false ≡ reached (decode b p mode n) a y
-  unfolding reached decode rowOf
-  reached-off a y kind ek e = sym (and-false-left _ _ (rw (← ek) e))
+  module _ {kind : ℕ} (kind-is : kind ≡ byteOf b a 0) where
+    pub reached-off : isAvailable kind ≡ false → false ≡ reached (decode b p mode n) a y
+    unfolding reached decode rowOf
+    reached-off none = sym (and-false-left _ _ (rw (← kind-is) none))
 
-  module _ (meets : Holds MET GRID n (metBy (decode b p mode n)) w) where
-    over-is : (kind a y d : ℕ) → a < n → y < n → d < n → onwardBits b w MET kind a y d ≡ overBy (decode b p mode n) kind a y d
-    unfolding onwardBits overBy
-    over-is kind a y d l k h = rw (thence-is kind a d l h, meets .cell d y h k) refl
+    module _ {g : ℕ} {h : Bool} (some : isAvailable kind ≡ true) (agent-is : g ≡ byteOf b y 1) (host-is : h ≡ host p g) where
+      pub reached-here : {d : Bool} → Bool·beq (eqb kind AVAILABLE-HOST) h ≡ true → d ≡ rel w MET GRID a y → d ≡ reached (decode b p mode n) a y
+      unfolding reached onHost decode rowOf _and_
+      reached-here same told = rw (← kind-is, some, ← agent-is, ← host-is, same) (told ∙ given .holds .meeting .cell a y (given .first) (given .second))
 
-    some-over : (kind out a y : ℕ) → a < n → y < n → out ≡ outOf kind
-        → anyBelow n (onwardBits b w MET out a y) ≡ anyBelow n (overBy (decode b p mode n) (outOf kind) a y)
-    some-over kind out a y l k e = rw e (any-cong _ _ n (λ d h. over-is (outOf kind) a y d l k h))
-
-    pub reached-here : (a y kind g : ℕ) (h d : Bool) → a < n → y < n → kind ≡ byteOf b a 0 → isAvailable kind ≡ true → g ≡ byteOf b y 1
-        → h ≡ host p g → Bool·beq (eqb kind AVAILABLE-HOST) h ≡ true → d ≡ rel w MET GRID a y → d ≡ reached (decode b p mode n) a y
-    unfolding reached onHost decode rowOf _and_
-    reached-here a y kind g h d l k ek e eg eh f ed = rw (← ek, e, ← eg, ← eh, f) (ed ∙ meets .cell a y l k)
-
-    pub reached-over : (a y kind g out : ℕ) (h d : Bool) → a < n → y < n → kind ≡ byteOf b a 0 → isAvailable kind ≡ true → g ≡ byteOf b y 1
-        → h ≡ host p g → Bool·beq (eqb kind AVAILABLE-HOST) h ≡ false → out ≡ outOf kind → d ≡ anyBelow n (onwardBits b w MET out a y)
-        → d ≡ reached (decode b p mode n) a y
-    unfolding reached onHost decode rowOf _and_
-    reached-over a y kind g out h d l k ek e eg eh f eo ed = rw (← ek, e, ← eg, ← eh, f) (ed ∙ some-over kind out a y l k eo)
+      pub reached-over : {out : ℕ} {d : Bool} → Bool·beq (eqb kind AVAILABLE-HOST) h ≡ false → out ≡ outOf kind
+          → d ≡ anyBelow n (onwardBits b w MET out a y) → d ≡ reached (decode b p mode n) a y
+      unfolding reached onHost decode rowOf _and_
+      reached-over other out-is told =
+          rw (← kind-is, some, ← agent-is, ← host-is, other) (told ∙ rw out-is (any-cong _ _ n (λ d l. over-is (outOf kind) d l)))
 
 -- ---- laws: L5 by what reaches y
 
@@ -288,56 +284,53 @@ module _ (t : Table) (x y : ℕ) where
   unfolding reachesBy
   sent-is a = and-when _ _ _ (λ e. reached-is a (thence-kind _ a e))
 
-module _ (b : List ℕ) (p : List (List ℕ)) (mode : Mode) (n : ℕ) (w : List ℕ) (s : Sources (decode b p mode n) n w) where
-  available-is : (x : ℕ) → availableKind (decode b p mode n) x ≡ availableOf p (rowOf b x .agent)
-  unfolding availableKind availableOf onHost decode
-  available-is x = refl
-
-  onward-is : (x y a : ℕ) → x < n → y < n → a < n
-      → onwardBits b w REACHED (availableKind (decode b p mode n) x) x y a ≡ reachesBy (decode b p mode n) x y a
+module _ {b : List ℕ} {p : List (List ℕ)} {mode : Mode} {n x y : ℕ} {w : List ℕ} (given : GivenRows Sources b p mode n x y w) where
+  onward-is : (a : ℕ) → a < n → onwardBits b w REACHED (availableKind (decode b p mode n) x) x y a ≡ reachesBy (decode b p mode n) x y a
   unfolding onwardBits
-  onward-is x y a l k h =
-      rw (thence-is b p mode n w (s .ordered) (availableKind (decode b p mode n) x) x a l h, s .reaching .cell a y h k) (sent-is (decode b p mode n) x y a)
+  onward-is a l =
+      rw (
+        thence-is b p mode n w (given .holds .ordered) (availableKind (decode b p mode n) x) x a (given .first) l,
+        given .holds .reaching .cell a y l (given .second),
+      ) (sent-is (decode b p mode n) x y a)
 
-  some-onward : (x y kind : ℕ) (r : Row) → x < n → y < n → r ≡ rowOf b x → kind ≡ availableOf p (r .agent)
-      → anyBelow n (onwardBits b w REACHED kind x y) ≡ anyBelow n (reachesBy (decode b p mode n) x y)
-  some-onward x y kind r l k er ek = rw (ek, er, ← available-is x) (any-cong _ _ n (λ a h. onward-is x y a l k h))
+  module _ {r : Row} (first-is : r ≡ rowOf b x) where
+    available-is : availableOf p (r .agent) ≡ availableKind (decode b p mode n) x
+    unfolding availableKind availableOf onHost decode
+    available-is = rw first-is refl
 
-  -- L5, for a row that writes
-  fifth-is : (x y kind : ℕ) (r : Row) → x < n → y < n → r ≡ rowOf b x → kind ≡ availableOf p (r .agent)
-      → (writes r and anyBelow n (onwardBits b w REACHED kind x y)) ≡ L5 (decode b p mode n) x y
-  unfolding L5 decode
-  fifth-is x y kind r l k er ek = rw (some-onward x y kind r l k er ek, er) refl
+    -- L5, for a row that writes
+    fifth-is : {kind : ℕ} → kind ≡ availableOf p (r .agent)
+        → (writes r and anyBelow n (onwardBits b w REACHED kind x y)) ≡ L5 (decode b p mode n) x y
+    unfolding L5 decode
+    fifth-is kind-is = rw (kind-is, available-is, any-cong _ _ n (λ a l. onward-is a l), first-is) refl
 
-  fourth-is : (x y : ℕ) (r : Row) (g : Bool) → x < n → y < n → r ≡ rowOf b x → g ≡ rel w SYSTEM GRID x y
-      → (reads r and not (writes r) and g) ≡ L4 (decode b p mode n) x y
-  unfolding L4 decode
-  fourth-is x y r g l k er eg = rw (eg ∙ s .system .cell x y l k, er) refl
+    fourth-is : {g : Bool} → g ≡ rel w SYSTEM GRID x y → (reads r and not (writes r) and g) ≡ L4 (decode b p mode n) x y
+    unfolding L4 decode
+    fourth-is system-is = rw (system-is ∙ given .holds .system .cell x y (given .first) (given .second), first-is) refl
 
-  -- a pair that shares no byte; one that does
-  pub hosted-off : (x y : ℕ) (r q : Row) → r ≡ rowOf b x → q ≡ rowOf b y → mayShare x y r q ≡ false → false ≡ hosted (decode b p mode n) x y
-  unfolding hosted decode
-  hosted-off x y r q er eq e = sym (and-false-left _ _ (rw (← er, ← eq) e))
+    -- a pair that shares no byte; one that does
+    module _ {q : Row} (second-is : q ≡ rowOf b y) where
+      pub hosted-off : mayShare x y r q ≡ false → false ≡ hosted (decode b p mode n) x y
+      unfolding hosted decode
+      hosted-off apart = sym (and-false-left _ _ (rw (← first-is, ← second-is) apart))
 
-  module _ (x y : ℕ) (l : x < n) (k : y < n) (r q : Row) (g c : Bool) (er : r ≡ rowOf b x) (eq : q ≡ rowOf b y) (shares : mayShare x y r q ≡ true)
-      (eg : g ≡ rel w SYSTEM GRID x y)
-      (ec : c ≡ (reads r and not (writes r) and g)) where
-    shared-is : mayShare x y (decode b p mode n .row x) (decode b p mode n .row y) ≡ true
-    unfolding decode
-    shared-is = rw (← er, ← eq) shares
+      module _ {g c : Bool} (near : mayShare x y r q ≡ true) (system-is : g ≡ rel w SYSTEM GRID x y) (fourth : c ≡ (reads r and not (writes r) and g)) where
+        shared-is : mayShare x y (decode b p mode n .row x) (decode b p mode n .row y) ≡ true
+        unfolding decode
+        shared-is = rw (← first-is, ← second-is) near
 
-    on-is : hosted (decode b p mode n) x y ≡ (c or L5 (decode b p mode n) x y)
-    unfolding hosted
-    on-is = and-on _ _ shared-is ∙ ap (λ (a : Bool). a or L5 (decode b p mode n) x y) (sym (ec ∙ fourth-is x y r g l k er eg))
+        on-is : hosted (decode b p mode n) x y ≡ (c or L5 (decode b p mode n) x y)
+        unfolding hosted
+        on-is = and-on _ _ shared-is ∙ ap (λ (a : Bool). a or L5 (decode b p mode n) x y) (sym (fourth ∙ fourth-is system-is))
 
-    pub hosted-fourth : c ≡ true → true ≡ hosted (decode b p mode n) x y
-    unfolding _or_
-    hosted-fourth e = rw (on-is, e) refl
+        pub hosted-fourth : c ≡ true → true ≡ hosted (decode b p mode n) x y
+        unfolding _or_
+        hosted-fourth on = rw (on-is, on) refl
 
-    pub hosted-fifth : (kind : ℕ) (d : Bool) → c ≡ false → kind ≡ availableOf p (r .agent)
-        → d ≡ (writes r and anyBelow n (onwardBits b w REACHED kind x y)) → d ≡ hosted (decode b p mode n) x y
-    unfolding _or_
-    hosted-fifth kind d e ek ed = rw (on-is, e) (ed ∙ fifth-is x y kind r l k er ek)
+        pub hosted-fifth : {kind : ℕ} {d : Bool} → c ≡ false → kind ≡ availableOf p (r .agent)
+            → d ≡ (writes r and anyBelow n (onwardBits b w REACHED kind x y)) → d ≡ hosted (decode b p mode n) x y
+        unfolding _or_
+        hosted-fifth off kind-is told = rw (on-is, off) (told ∙ fifth-is kind-is)
 
 -- ---- laws: without dependencies and operations there is neither L4 nor L5
 
@@ -369,10 +362,10 @@ module _ (b : List ℕ) (p : List (List ℕ)) (mode : Mode) (n : ℕ) (none : un
   unfolding hosted
   no-hosted x y l k = and-false-right _ _ (or-none (no-fourth x y l k) (no-fifth x y))
 
-  pub made-unhosted : (w v : List ℕ) → n ≤ ROWS → WORK ≤ length w → v ≡ zeros w HOSTED (HOSTED-END - HOSTED)
+  pub made-unhosted : {w v : List ℕ} → Given Ordered b p mode n w → v ≡ zeros w HOSTED (HOSTED-END - HOSTED)
       → Made HOSTED REACHED-END HOSTED GRID n (hosted (decode b p mode n)) w v
   unfolding rel
-  made-unhosted w v small room e =
+  made-unhosted {w} given e =
       record {
         holds = record {
           fits = omega arith;
@@ -384,25 +377,32 @@ module _ (b : List ℕ) (p : List (List ℕ)) (mode : Mode) (n : ℕ) (none : un
 
 -- ---- laws: the stages, one after the other
 
-pub system-is : (b : List ℕ) (p : List (List ℕ)) (mode : Mode) (n : ℕ) {w u : List ℕ}
-    → Made SYSTEM SYSTEM-END SYSTEM GRID n (through (dependsOf mode) n) w u → Holds SYSTEM GRID n (systemBefore (decode b p mode n)) u
-unfolding systemBefore decode
-system-is b p mode n m = holds-cong (λ i j h g. refl) (m .holds)
+module _ {b : List ℕ} {p : List (List ℕ)} {mode : Mode} {n : ℕ} where
+  -- what rows meet was made, whatever words after it were worked in
+  pub given-meeting : {d : ℕ} {w v u : List ℕ} → Given Ordered b p mode n w → Within SYSTEM SYSTEM-END w v
+      → Made MET d MET GRID n (metBy (decode b p mode n)) v u → Given Meeting b p mode n u
+  given-meeting o f m =
+      let g = given-kept (omega arith) (m .frame) (given-kept (omega arith) f o) in
+      record { few = g .few; room = g .room; holds = record { ordered = g .holds; meeting = m .holds } }
 
-pub meeting-made : {t : Table} {n : ℕ} {w u : List ℕ} → Ordered t n w → Made MET MET-END MET GRID n (metBy t) w u → Meeting t n u
-meeting-made o m = record { ordered = ordered-kept (omega arith) (m .frame) o; meeting = m .holds }
+  pub given-sources : {d : ℕ} {w x v u : List ℕ} → Given Ordered b p mode n w → Made SYSTEM SYSTEM-END SYSTEM GRID n (through (dependsOf mode) n) w x
+      → Within MET d x v → Made REACHED REACHED-END REACHED GRID n (reached (decode b p mode n)) v u → Given Sources b p mode n u
+  unfolding systemBefore decode
+  given-sources o s f m =
+      let g = given-kept (omega arith) (m .frame) (given-kept (omega arith) f (given-kept (omega arith) (s .frame) o)) in
+      let few = o .few in
+      record {
+        few = g .few;
+        room = g .room;
+        holds = record {
+          ordered = g .holds;
+          system = holds-kept (λ h. absurd (omega arith)) (m .frame) (holds-kept (λ h. absurd (omega arith)) f (s .holds));
+          reaching = m .holds;
+        };
+      }
 
 pub meeting-kept : {t : Table} {n : ℕ} {w u : List ℕ} → Within REACHED REACHED-END w u → Meeting t n w → Meeting t n u
 meeting-kept f s = record { ordered = ordered-kept (omega arith) f (s .ordered); meeting = holds-kept (λ h. omega arith) f (s .meeting) }
-
-pub sources-made : (t : Table) (n : ℕ) {w u : List ℕ} → Ordered t n w → Holds SYSTEM GRID n (systemBefore t) w
-    → Made REACHED REACHED-END REACHED GRID n (reached t) w u → Sources t n u
-sources-made t n o h m =
-    record {
-      ordered = ordered-kept (omega arith) (m .frame) o;
-      system = holds-kept (λ h. omega arith) (m .frame) h;
-      reaching = m .holds;
-    }
 
 pub sources-kept : {t : Table} {n : ℕ} {w u : List ℕ} → Within HOSTED HOSTED-END w u → Sources t n w → Sources t n u
 sources-kept f s =
@@ -412,14 +412,14 @@ sources-kept f s =
       reaching = holds-kept (λ h. omega arith) f (s .reaching);
     }
 
-pub made-hosted : {n : ℕ} {r : ℕ → ℕ → Bool} {w v x z u : List ℕ} → Within SYSTEM SYSTEM-END w v → Within MET MET-END v x → Within REACHED REACHED-END x z
-    → Made HOSTED HOSTED-END HOSTED GRID n r z u
-    → Made HOSTED REACHED-END HOSTED GRID n r w u
-made-hosted f g h m =
+pub made-hosted : {n d : ℕ} {r : ℕ → ℕ → Bool} {w v x z u : List ℕ} → d ≤ REACHED-END → Within SYSTEM SYSTEM-END w v → Within MET d v x
+    → Within REACHED REACHED-END x z → Made HOSTED HOSTED-END HOSTED GRID n r z u → Made HOSTED REACHED-END HOSTED GRID n r w u
+made-hosted low system met reached m =
     record {
       holds = m .holds;
       frame = within-trans
-          (within-trans (within-widen HOSTED REACHED-END (omega arith) (omega arith) f) (within-widen HOSTED REACHED-END (omega arith) (omega arith) g))
-          (within-trans (within-widen HOSTED REACHED-END (omega arith) (omega arith) h)
+          (within-trans (within-widen HOSTED REACHED-END (omega arith) (omega arith) system)
+          (within-widen HOSTED REACHED-END (omega arith) (omega arith) met))
+          (within-trans (within-widen HOSTED REACHED-END (omega arith) (omega arith) reached)
           (within-widen HOSTED REACHED-END (omega arith) (omega arith) (m .frame)));
     }

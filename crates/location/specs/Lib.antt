@@ -1,3 +1,4 @@
+pub mod Given
 pub mod Chains
 pub mod Reach
 pub mod Order

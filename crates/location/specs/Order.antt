@@ -22,7 +22,8 @@ use Rattle.model.specs.Edge.{beforeNth}
 use Rattle.area.specs.Regions.{LOCATION, LOCATION-END, HOSTED, REACHED-END, LOCATED-END, GRID, PAIR, PAIRS}
 use Rattle.area.specs.State.{ordered-kept, MadePlaced}
 use Rattle.rules.specs.Shared.{mayShare, inside-out}
-use Rattle.location.specs.Reach.{Reaching, MadeReach, reaching-kept}
+use Rattle.location.specs.Given.{Reaching}
+use Rattle.location.specs.Reach.{MadeReach, reaching-kept}
 
 -- ---- definitions
 

@@ -10,12 +10,12 @@ ghost use Rattle.finite.specs.Logic.{_and_, _or_};
 ghost use Rattle.finite.specs.Below.{anyBelow};
 ghost use Rattle.bits.specs.Matrix.{rel};
 ghost use Rattle.model.specs.Limits.{ROWS, WORK};
-ghost use Rattle.model.specs.Table.{rowOf, decode};
+ghost use Rattle.model.specs.Table.{decode};
 ghost use Rattle.model.specs.Location.{L3};
 ghost use Rattle.area.specs.Regions.{HAPPENS, MOMENTS};
 ghost use Rattle.location.specs.Chains.{availablePart, visiblePart, mayAvail, maySee, availableRows, visibleRows, widest, meetIn};
 ghost use Rattle.location.specs.Chains.{seen, metAtOnce, startsWith, shownBy, endsAt, endsWith, carriedBy};
-ghost use Rattle.location.specs.Reach.{Reaching};
+ghost use Rattle.location.specs.Given.{Pair, Element};
 use crate::happens;
 use model::Mode;
 use model::Places;
@@ -120,9 +120,7 @@ fn seen_at(
     j: usize,
     w: &[u64],
 ) -> bool
-    requires { ⌜ (n ≤ ROWS) × (WORK ≤ length (now w)) × (x < n) × (y < n)
-        × (r ≡ rowOf (now rows) x) × (q ≡ rowOf (now rows) y) × Reaching (decode (now rows) p mode n) n (now w) × (i < n) × (j < n)
-        × (s ≡ rowOf (now rows) i) ⌝ }
+    requires { ⌜ record { element : Element (now rows) p mode n x y r q i s (now w); last : j < n } ⌝ }
     ensures { λ d. ⌜ d ≡ seen (decode (now (rows .entry)) p mode n) x y i j ⌝ }
 {
     let u = rows::bytes::read_row(rows, j as u16);
@@ -167,9 +165,7 @@ fn starts_with(
     j: usize,
     w: &[u64],
 ) -> bool
-    requires { ⌜ (n ≤ ROWS) × (WORK ≤ length (now w)) × (x < n) × (y < n)
-        × (r ≡ rowOf (now rows) x) × (q ≡ rowOf (now rows) y) × Reaching (decode (now rows) p mode n) n (now w) × (i < n) × (v < n) × (j < n)
-        × (s ≡ rowOf (now rows) i) × (mode .chains ≡ true) ⌝ }
+    requires { ⌜ record { element : Element (now rows) p mode n x y r q i s (now w); last : v < n; next : j < n; chains : mode .chains ≡ true } ⌝ }
     ensures { λ d. ⌜ d ≡ startsWith (decode (now (rows .entry)) p mode n) x y i v j ⌝ }
 {
     if !area::grid::get(w, area::REACH_IN, j, v) {
@@ -193,9 +189,7 @@ fn some_start(
     v: usize,
     w: &[u64],
 ) -> bool
-    requires { ⌜ (n ≤ ROWS) × (WORK ≤ length (now w)) × (x < n) × (y < n)
-        × (r ≡ rowOf (now rows) x) × (q ≡ rowOf (now rows) y) × Reaching (decode (now rows) p mode n) n (now w) × (i < n) × (v < n)
-        × (s ≡ rowOf (now rows) i) × (mode .chains ≡ true) ⌝ }
+    requires { ⌜ record { element : Element (now rows) p mode n x y r q i s (now w); last : v < n; chains : mode .chains ≡ true } ⌝ }
     ensures { λ d. ⌜ d ≡ anyBelow n (startsWith (decode (now (rows .entry)) p mode n) x y i v) ⌝ }
 {
     for j in 0..n {
@@ -221,9 +215,7 @@ pub fn starts_at(
     v: usize,
     w: &[u64],
 ) -> bool
-    requires { ⌜ (n ≤ ROWS) × (WORK ≤ length (now w)) × (x < n) × (y < n)
-        × (r ≡ rowOf (now rows) x) × (q ≡ rowOf (now rows) y) × Reaching (decode (now rows) p mode n) n (now w) × (i < n) × (v < n)
-        × (s ≡ rowOf (now rows) i) ⌝ }
+    requires { ⌜ record { element : Element (now rows) p mode n x y r q i s (now w); last : v < n } ⌝ }
     ensures { λ d. let t = decode (now (rows .entry)) p mode n in
         ⌜ d ≡ (seen t x y i v or (mode .chains and anyBelow n (startsWith t x y i v))) ⌝ }
 {
@@ -252,9 +244,7 @@ fn shown_in(
     v: usize,
     w: &[u64],
 ) -> bool
-    requires { ⌜ (n ≤ ROWS) × (WORK ≤ length (now w)) × (x < n) × (y < n)
-        × (r ≡ rowOf (now rows) x) × (q ≡ rowOf (now rows) y) × Reaching (decode (now rows) p mode n) n (now w) × (i < n) × (v < n)
-        × (s ≡ rowOf (now rows) i) ⌝ }
+    requires { ⌜ record { element : Element (now rows) p mode n x y r q i s (now w); last : v < n } ⌝ }
     ensures { λ d. ⌜ d ≡ shownBy (decode (now (rows .entry)) p mode n) x y b i v ⌝ }
 {
     if !may_show(rows, mode, q, 3 * i + available_part(s), v, w) {
@@ -282,8 +272,7 @@ fn some_shown(
     s: Row,
     w: &[u64],
 ) -> bool
-    requires { ⌜ (n ≤ ROWS) × (WORK ≤ length (now w)) × (x < n) × (y < n)
-        × (r ≡ rowOf (now rows) x) × (q ≡ rowOf (now rows) y) × Reaching (decode (now rows) p mode n) n (now w) × (i < n) × (s ≡ rowOf (now rows) i) ⌝ }
+    requires { ⌜ Element (now rows) p mode n x y r q i s (now w) ⌝ }
     ensures { λ d. ⌜ d ≡ anyBelow n (shownBy (decode (now (rows .entry)) p mode n) x y b i) ⌝ }
 {
     for v in 0..y + 1 {
@@ -308,8 +297,7 @@ pub fn met_at(
     s: Row,
     w: &[u64],
 ) -> bool
-    requires { ⌜ (n ≤ ROWS) × (WORK ≤ length (now w)) × (x < n) × (y < n)
-        × (r ≡ rowOf (now rows) x) × (q ≡ rowOf (now rows) y) × Reaching (decode (now rows) p mode n) n (now w) × (i < n) × (s ≡ rowOf (now rows) i) ⌝ }
+    requires { ⌜ Element (now rows) p mode n x y r q i s (now w) ⌝ }
     ensures { λ d. ⌜ d ≡ metAtOnce (decode (now (rows .entry)) p mode n) x y i ⌝ }
 {
     if !happens::happens_bit(w, 3 * i + available_part(s), 3 * y + 1) {
@@ -333,8 +321,7 @@ fn ends_at(
     s: Row,
     w: &[u64],
 ) -> bool
-    requires { ⌜ (n ≤ ROWS) × (WORK ≤ length (now w)) × (x < n) × (y < n)
-        × (r ≡ rowOf (now rows) x) × (q ≡ rowOf (now rows) y) × Reaching (decode (now rows) p mode n) n (now w) × (i < n) × (s ≡ rowOf (now rows) i) ⌝ }
+    requires { ⌜ Element (now rows) p mode n x y r q i s (now w) ⌝ }
     ensures { λ d. ⌜ d ≡ endsAt (decode (now (rows .entry)) p mode n) x y b i ⌝ }
 {
     if rows::kinds::reads(q) {
@@ -370,8 +357,7 @@ fn ends_with(
     c: usize,
     w: &[u64],
 ) -> bool
-    requires { ⌜ (n ≤ ROWS) × (WORK ≤ length (now w)) × (x < n) × (y < n)
-        × (r ≡ rowOf (now rows) x) × (q ≡ rowOf (now rows) y) × Reaching (decode (now rows) p mode n) n (now w) × (a < n) × (c < n) × (mode .chains ≡ true) ⌝ }
+    requires { ⌜ record { pair : Pair (now rows) p mode n x y r q (now w); row : a < n; next : c < n; chains : mode .chains ≡ true } ⌝ }
     ensures { λ d. ⌜ d ≡ endsWith (decode (now (rows .entry)) p mode n) x y b a c ⌝ }
 {
     if !area::grid::get(w, area::REACH_OUT, a, c) {
@@ -395,8 +381,7 @@ fn some_end(
     a: usize,
     w: &[u64],
 ) -> bool
-    requires { ⌜ (n ≤ ROWS) × (WORK ≤ length (now w)) × (x < n) × (y < n)
-        × (r ≡ rowOf (now rows) x) × (q ≡ rowOf (now rows) y) × Reaching (decode (now rows) p mode n) n (now w) × (a < n) × (mode .chains ≡ true) ⌝ }
+    requires { ⌜ record { pair : Pair (now rows) p mode n x y r q (now w); row : a < n; chains : mode .chains ≡ true } ⌝ }
     ensures { λ d. ⌜ d ≡ anyBelow n (endsWith (decode (now (rows .entry)) p mode n) x y b a) ⌝ }
 {
     for c in 0..n {
@@ -422,8 +407,7 @@ fn ends_from(
     s: Row,
     w: &[u64],
 ) -> bool
-    requires { ⌜ (n ≤ ROWS) × (WORK ≤ length (now w)) × (x < n) × (y < n)
-        × (r ≡ rowOf (now rows) x) × (q ≡ rowOf (now rows) y) × Reaching (decode (now rows) p mode n) n (now w) × (a < n) × (s ≡ rowOf (now rows) a) ⌝ }
+    requires { ⌜ Element (now rows) p mode n x y r q a s (now w) ⌝ }
     ensures { λ d. let t = decode (now (rows .entry)) p mode n in
         ⌜ d ≡ (endsAt t x y b a or (mode .chains and anyBelow n (endsWith t x y b a))) ⌝ }
 {
@@ -450,8 +434,7 @@ fn carried_in(
     a: usize,
     w: &[u64],
 ) -> bool
-    requires { ⌜ (n ≤ ROWS) × (WORK ≤ length (now w)) × (x < n) × (y < n)
-        × (r ≡ rowOf (now rows) x) × (q ≡ rowOf (now rows) y) × Reaching (decode (now rows) p mode n) n (now w) × (a < n) ⌝ }
+    requires { ⌜ record { pair : Pair (now rows) p mode n x y r q (now w); row : a < n } ⌝ }
     ensures { λ d. ⌜ d ≡ carriedBy (decode (now (rows .entry)) p mode n) x y b a ⌝ }
 {
     if !may_avail(rows, r, a) {
@@ -477,8 +460,7 @@ fn some_carried(
     b: u32,
     w: &[u64],
 ) -> bool
-    requires { ⌜ (n ≤ ROWS) × (WORK ≤ length (now w)) × (x < n) × (y < n)
-        × (r ≡ rowOf (now rows) x) × (q ≡ rowOf (now rows) y) × Reaching (decode (now rows) p mode n) n (now w) ⌝ }
+    requires { ⌜ Pair (now rows) p mode n x y r q (now w) ⌝ }
     ensures { λ d. ⌜ d ≡ anyBelow n (carriedBy (decode (now (rows .entry)) p mode n) x y b) ⌝ }
 {
     for a in x..n {
@@ -502,8 +484,7 @@ pub fn l3(
     b: u32,
     w: &[u64],
 ) -> bool
-    requires { ⌜ (n ≤ ROWS) × (WORK ≤ length (now w)) × (x < n) × (y < n)
-        × (r ≡ rowOf (now rows) x) × (q ≡ rowOf (now rows) y) × Reaching (decode (now rows) p mode n) n (now w) ⌝ }
+    requires { ⌜ Pair (now rows) p mode n x y r q (now w) ⌝ }
     ensures { λ d. ⌜ d ≡ L3 (decode (now (rows .entry)) p mode n) x y b ⌝ }
 {
     if !pairs::public_write(r, q) {

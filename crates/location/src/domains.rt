@@ -14,6 +14,7 @@ ghost use Rattle.area.specs.Regions.{MET, MET-END, REACHED, REACHED-END, GRID};
 ghost use Rattle.area.specs.State.{Ordered};
 ghost use Rattle.location.specs.Domains.{thenceBits, seenBits, onwardBits, operationAt, availableOf, visibleOf, isAvailable, outOf, metBy};
 ghost use Rattle.location.specs.Domains.{reached, Meeting};
+ghost use Rattle.location.specs.Given.{Given, GivenRows};
 use crate::happens;
 use model::Mode;
 use model::Places;
@@ -146,7 +147,7 @@ fn is_onward(rows: &[u8], n: usize, base: usize, kind: u8, x: usize, y: usize, w
 
 // A reader meets it by way of a visibility operation, any other at once.
 fn met_at(rows: &[u8], p: Places, mode: Mode, n: usize, m: usize, y: usize, w: &[u64]) -> bool
-    requires { ⌜ (n ≤ ROWS) × (m < n) × (y < n) × (WORK ≤ length (now w)) × Ordered (decode (now rows) p mode n) n (now w) ⌝ }
+    requires { ⌜ GivenRows Ordered (now rows) p mode n m y (now w) ⌝ }
     ensures { λ d. ⌜ d ≡ metBy (decode (now (rows .entry)) p mode n) m y ⌝ }
 {
     if !operation_at(rows, m) {
@@ -162,7 +163,7 @@ fn met_at(rows: &[u8], p: Places, mode: Mode, n: usize, m: usize, y: usize, w: &
 // The same for every operation and row.
 // Ruled out: one where a reader meets it with no visibility operation; one that asks for one of the other domain.
 pub fn fill_met(rows: &[u8], p: Places, mode: Mode, n: usize, w: &mut [u64])
-    requires { ⌜ (n ≤ ROWS) × (WORK ≤ length (now w)) × Ordered (decode (now rows) p mode n) n (now w) ⌝ }
+    requires { ⌜ Given Ordered (now rows) p mode n (now w) ⌝ }
     ensures { λ _. ⌜ Made MET MET-END MET GRID n (metBy (decode (now (rows .entry)) p mode n)) (now (w .entry)) (now (w .exit)) ⌝ }
 {
     bits::clear(w, area::MET, area::MET_END);
@@ -178,8 +179,7 @@ pub fn fill_met(rows: &[u8], p: Places, mode: Mode, n: usize, w: &mut [u64])
 
 // Where the operation's domain is not row y's, another operation must carry it.
 fn reached_at(rows: &[u8], p: Places, mode: Mode, n: usize, a: usize, y: usize, w: &[u64]) -> bool
-    requires { ⌜ (n ≤ ROWS) × (a < n) × (y < n) × (WORK ≤ length (now w))
-        × Meeting (decode (now rows) p mode n) n (now w) ⌝ }
+    requires { ⌜ GivenRows Meeting (now rows) p mode n a y (now w) ⌝ }
     ensures { λ d. ⌜ d ≡ reached (decode (now (rows .entry)) p mode n) a y ⌝ }
 {
     let kind = rows::bytes::row_byte(rows, a as u16, KIND);
@@ -197,7 +197,7 @@ fn reached_at(rows: &[u8], p: Places, mode: Mode, n: usize, a: usize, y: usize, 
 // Ruled out: one that carries from the host's domain to the device's what was made available to the device's; one where what is
 // made available to a domain is met in the other with nothing to carry it.
 pub fn fill_reached(rows: &[u8], p: Places, mode: Mode, n: usize, w: &mut [u64])
-    requires { ⌜ (n ≤ ROWS) × (WORK ≤ length (now w)) × Meeting (decode (now rows) p mode n) n (now w) ⌝ }
+    requires { ⌜ Given Meeting (now rows) p mode n (now w) ⌝ }
     ensures { λ _. ⌜ Made REACHED REACHED-END REACHED GRID n (reached (decode (now (rows .entry)) p mode n)) (now (w .entry)) (now (w .exit)) ⌝ }
 {
     bits::clear(w, area::REACHED, area::REACHED_END);

@@ -2,18 +2,19 @@
 ghost use mathlib.Core.Path.{_≡_};
 ghost use mathlib.Core.Bool.{not};
 ghost use Prim.Native.Nat.{_≤_, _<_};
-ghost use lib.ListN.{length, getD};
+ghost use lib.ListN.{getD};
 ghost use Rattle.finite.specs.Logic.{_and_};
 ghost use Rattle.finite.specs.Below.{anyBelow};
 ghost use Rattle.finite.specs.Closure.{through};
 ghost use Rattle.bits.specs.Stage.{Made, Added};
-ghost use Rattle.model.specs.Limits.{ROWS, WORK};
+ghost use Rattle.model.specs.Limits.{ROWS};
 ghost use Rattle.model.specs.Row.{reads, writes};
 ghost use Rattle.model.specs.Table.{dependsOf, decode};
 ghost use Rattle.area.specs.Regions.{HOSTED, HOSTED-END, SYSTEM, SYSTEM-END, REACHED-END, GRID};
 ghost use Rattle.area.specs.State.{Ordered};
 ghost use Rattle.location.specs.Order.{hosted};
 ghost use Rattle.location.specs.Domains.{operationAt, unhosted, nthDepends, Sources};
+ghost use Rattle.location.specs.Given.{Room, Given, GivenRows};
 use crate::domains;
 use model::Mode;
 use model::Places;
@@ -32,7 +33,7 @@ fn dependency_end(ends: [u16; 64], k: u16) -> u16
 
 // Adds the k-th dependency. One that names no row adds nothing.
 fn put_dependency(mode: Mode, n: usize, k: u16, w: &mut [u64])
-    requires { ⌜ (n ≤ ROWS) × (WORK ≤ length (now w)) ⌝ }
+    requires { ⌜ Room n (now w) ⌝ }
     ensures { λ _. ⌜ Added SYSTEM SYSTEM-END SYSTEM GRID n (nthDepends mode k) (now (w .entry)) (now (w .exit)) ⌝ }
 {
     let first = mode.first;
@@ -51,7 +52,7 @@ fn put_dependency(mode: Mode, n: usize, k: u16, w: &mut [u64])
 // Which rows system-synchronize, by one dependency or by several in a row.
 // Ruled out: one that takes a dependency as going both ways; one that leaves out what two dependencies make together.
 pub fn make_system(mode: Mode, n: usize, w: &mut [u64])
-    requires { ⌜ (n ≤ ROWS) × (WORK ≤ length (now w)) ⌝ }
+    requires { ⌜ Room n (now w) ⌝ }
     ensures { λ _. ⌜ Made SYSTEM SYSTEM-END SYSTEM GRID n (through (dependsOf mode) n) (now (w .entry)) (now (w .exit)) ⌝ }
 {
     bits::clear(w, area::SYSTEM, area::SYSTEM_END);
@@ -72,7 +73,7 @@ pub fn l4(r: Row, s: bool) -> bool
 
 // Rows that share no byte are not asked.
 fn hosted_at(rows: &[u8], p: Places, mode: Mode, n: usize, x: usize, y: usize, w: &[u64]) -> bool
-    requires { ⌜ (n ≤ ROWS) × (x < n) × (y < n) × (WORK ≤ length (now w)) × Sources (decode (now rows) p mode n) n (now w) ⌝ }
+    requires { ⌜ GivenRows Sources (now rows) p mode n x y (now w) ⌝ }
     ensures { λ d. ⌜ d ≡ hosted (decode (now (rows .entry)) p mode n) x y ⌝ }
 {
     let r = rows::bytes::read_row(rows, x as u16);
@@ -90,7 +91,7 @@ fn hosted_at(rows: &[u8], p: Places, mode: Mode, n: usize, x: usize, y: usize, w
 // The same for every two rows.
 // Ruled out: one that orders a row before itself; one that exchanges the two rows of a pair.
 pub fn fill_hosted(rows: &[u8], p: Places, mode: Mode, n: usize, w: &mut [u64])
-    requires { ⌜ (n ≤ ROWS) × (WORK ≤ length (now w)) × Sources (decode (now rows) p mode n) n (now w) ⌝ }
+    requires { ⌜ Given Sources (now rows) p mode n (now w) ⌝ }
     ensures { λ _. ⌜ Made HOSTED HOSTED-END HOSTED GRID n (hosted (decode (now (rows .entry)) p mode n)) (now (w .entry)) (now (w .exit)) ⌝ }
 {
     bits::clear(w, area::HOSTED, area::HOSTED_END);
@@ -129,7 +130,7 @@ pub fn is_unhosted(rows: &[u8], mode: Mode, n: usize) -> bool
 // Ruled out: one that leaves a bit of an earlier stage set where there is nothing to ask; one that passes over L4 where there are
 // dependencies but no operation.
 pub fn make_hosted(rows: &[u8], p: Places, mode: Mode, n: usize, w: &mut [u64])
-    requires { ⌜ (n ≤ ROWS) × (WORK ≤ length (now w)) × Ordered (decode (now rows) p mode n) n (now w) ⌝ }
+    requires { ⌜ Given Ordered (now rows) p mode n (now w) ⌝ }
     ensures { λ _. ⌜ Made HOSTED REACHED-END HOSTED GRID n (hosted (decode (now (rows .entry)) p mode n)) (now (w .entry)) (now (w .exit)) ⌝ }
 {
     if is_unhosted(rows, mode, n) {

@@ -1,14 +1,13 @@
 // Location order at each byte of each pair of rows, as bits in a lent work area.
 ghost use mathlib.Core.Path.{_≡_};
-ghost use Prim.Native.Nat.{_+_, _*_, _≤_, _<_};
-ghost use lib.ListN.{length};
+ghost use Prim.Native.Nat.{_+_, _*_, _<_};
 ghost use Rattle.bits.specs.Fill.{rowFill, gridFill};
-ghost use Rattle.model.specs.Limits.{ROWS, WORK};
 ghost use Rattle.model.specs.Table.{rowOf, decode};
 ghost use Rattle.model.specs.Edge.{beforeNth};
 ghost use Rattle.area.specs.Regions.{LOCATION, PAIR, PAIRS};
 ghost use Rattle.area.specs.State.{Ordered, MadePlaced};
 ghost use Rattle.location.specs.Order.{Prepared};
+ghost use Rattle.location.specs.Given.{Given, GivenRow, GivenRows};
 use model::Mode;
 use model::Places;
 use model::Row;
@@ -33,8 +32,12 @@ pub fn before_at(
     k: usize,
     w: &[u64],
 ) -> bool
-    requires { ⌜ (n ≤ ROWS) × (WORK ≤ length (now w)) × (x < n) × (y < n) × (k < PAIR)
-        × (r ≡ rowOf (now rows) x) × (q ≡ rowOf (now rows) y) × Prepared (decode (now rows) p mode n) n (now w) ⌝ }
+    requires { ⌜ record {
+      given : GivenRows Prepared (now rows) p mode n x y (now w);
+      byte : k < PAIR;
+      first-is : r ≡ rowOf (now rows) x;
+      second-is : q ≡ rowOf (now rows) y;
+    } ⌝ }
     ensures { λ d. ⌜ d ≡ beforeNth (decode (now (rows .entry)) p mode n) x y k ⌝ }
 {
     let start = r.start as u32;
@@ -52,7 +55,7 @@ pub fn before_at(
 
 // The bits of a pair. Rows that share no byte cost one test, and no bit is set.
 fn fill_pair(rows: &[u8], p: Places, mode: Mode, n: usize, x: usize, y: usize, w: &mut [u64])
-    requires { ⌜ (n ≤ ROWS) × (WORK ≤ length (now w)) × (x < n) × (y < n) × Prepared (decode (now rows) p mode n) n (now w) ⌝ }
+    requires { ⌜ GivenRows Prepared (now rows) p mode n x y (now w) ⌝ }
     ensures { λ _. let t = decode (now (rows .entry)) p mode n in
         ⌜ now (w .exit) ≡ rowFill (beforeNth t x y) (now (w .entry)) (LOCATION * 64 + x * PAIRS + y * PAIR) PAIR ⌝ }
 {
@@ -69,7 +72,7 @@ fn fill_pair(rows: &[u8], p: Places, mode: Mode, n: usize, x: usize, y: usize, w
 
 // The bits of row x's pairs.
 fn fill_row(rows: &[u8], p: Places, mode: Mode, n: usize, x: usize, w: &mut [u64])
-    requires { ⌜ (n ≤ ROWS) × (WORK ≤ length (now w)) × (x < n) × Prepared (decode (now rows) p mode n) n (now w) ⌝ }
+    requires { ⌜ GivenRow Prepared (now rows) p mode n x (now w) ⌝ }
     ensures { λ _. ⌜ now (w .exit) ≡ gridFill (beforeNth (decode (now (rows .entry)) p mode n) x) (now (w .entry)) (LOCATION * 64 + x * PAIRS) PAIR PAIR n ⌝ }
 {
     for y in 0..n {
@@ -80,7 +83,7 @@ fn fill_row(rows: &[u8], p: Places, mode: Mode, n: usize, x: usize, w: &mut [u64
 // Location order of all pairs of n rows: bit k of a pair tells of the first row's k-th byte.
 // Ruled out: one that counts a pair's bytes from the second row's start; one that leaves a bit of an earlier stage set.
 pub fn fill_location(rows: &[u8], p: Places, mode: Mode, n: usize, w: &mut [u64])
-    requires { ⌜ (n ≤ ROWS) × (WORK ≤ length (now w)) × Ordered (decode (now rows) p mode n) n (now w) ⌝ }
+    requires { ⌜ Given Ordered (now rows) p mode n (now w) ⌝ }
     ensures { λ _. ⌜ MadePlaced (decode (now (rows .entry)) p mode n) n (now (w .entry)) (now (w .exit)) ⌝ }
 {
     hosted::make_hosted(rows, p, mode, n, w);

@@ -1,16 +1,15 @@
 // From where to where chains of more than one element lead, as bits, on a device that has them.
 ghost use mathlib.Core.Path.{_≡_};
-ghost use Prim.Native.Nat.{_+_, _*_, _≤_, _<_};
-ghost use lib.ListN.{length};
-ghost use Rattle.finite.specs.Closure.{through};
+ghost use Prim.Native.Nat.{_+_, _*_, _<_};
 ghost use Rattle.bits.specs.Stage.{Made};
-ghost use Rattle.model.specs.Limits.{ROWS, WORK};
+ghost use Rattle.model.specs.Limits.{ROWS};
 ghost use Rattle.model.specs.Row.{meets};
 ghost use Rattle.model.specs.Table.{byteOf, decode};
 ghost use Rattle.model.specs.Location.{broadens, narrows};
 ghost use Rattle.area.specs.Regions.{REACH-OUT, REACH-OUT-END, REACH-IN, REACH-IN-END, GRID};
 ghost use Rattle.area.specs.State.{Ordered};
 ghost use Rattle.location.specs.Reach.{broaderRows, MadeReach};
+ghost use Rattle.location.specs.Given.{Given, GivenRows};
 use crate::chains;
 use crate::happens;
 use model::Mode;
@@ -37,7 +36,7 @@ pub fn is_broader(p: Places, s: Row, u: Row) -> bool
 
 // Whether row c may come right after row a in an availability chain. Most rows make nothing available, as one byte tells.
 fn broadens_at(rows: &[u8], p: Places, mode: Mode, n: usize, a: usize, c: usize, w: &[u64]) -> bool
-    requires { ⌜ (n ≤ ROWS) × (a < n) × (c < n) × (WORK ≤ length (now w)) × Ordered (decode (now rows) p mode n) n (now w) ⌝ }
+    requires { ⌜ GivenRows Ordered (now rows) p mode n a c (now w) ⌝ }
     ensures { λ d. ⌜ d ≡ broadens (decode (now (rows .entry)) p mode n) a c ⌝ }
 {
     if !has_flag(rows, c, chains::AVAILABLE) {
@@ -54,7 +53,7 @@ fn broadens_at(rows: &[u8], p: Places, mode: Mode, n: usize, a: usize, c: usize,
 
 // Whether row v may come right after row j in a visibility chain.
 fn narrows_at(rows: &[u8], p: Places, mode: Mode, n: usize, j: usize, v: usize, w: &[u64]) -> bool
-    requires { ⌜ (n ≤ ROWS) × (j < n) × (v < n) × (WORK ≤ length (now w)) × Ordered (decode (now rows) p mode n) n (now w) ⌝ }
+    requires { ⌜ GivenRows Ordered (now rows) p mode n j v (now w) ⌝ }
     ensures { λ d. ⌜ d ≡ narrows (decode (now (rows .entry)) p mode n) j v ⌝ }
 {
     if !has_flag(rows, j, chains::VISIBLE) {
@@ -73,7 +72,7 @@ fn narrows_at(rows: &[u8], p: Places, mode: Mode, n: usize, j: usize, v: usize, 
 
 // The steps of availability chains, from an element to the next.
 fn fill_out(rows: &[u8], p: Places, mode: Mode, n: usize, w: &mut [u64])
-    requires { ⌜ (n ≤ ROWS) × (WORK ≤ length (now w)) × Ordered (decode (now rows) p mode n) n (now w) ⌝ }
+    requires { ⌜ Given Ordered (now rows) p mode n (now w) ⌝ }
     ensures { λ _. ⌜ Made REACH-OUT REACH-OUT-END REACH-OUT GRID n (broadens (decode (now (rows .entry)) p mode n)) (now (w .entry)) (now (w .exit)) ⌝ }
 {
     bits::clear(w, area::REACH_OUT, area::REACH_OUT_END);
@@ -87,7 +86,7 @@ fn fill_out(rows: &[u8], p: Places, mode: Mode, n: usize, w: &mut [u64])
 
 // The steps of visibility chains.
 fn fill_in(rows: &[u8], p: Places, mode: Mode, n: usize, w: &mut [u64])
-    requires { ⌜ (n ≤ ROWS) × (WORK ≤ length (now w)) × Ordered (decode (now rows) p mode n) n (now w) ⌝ }
+    requires { ⌜ Given Ordered (now rows) p mode n (now w) ⌝ }
     ensures { λ _. ⌜ Made REACH-IN REACH-IN-END REACH-IN GRID n (narrows (decode (now (rows .entry)) p mode n)) (now (w .entry)) (now (w .exit)) ⌝ }
 {
     bits::clear(w, area::REACH_IN, area::REACH_IN_END);
@@ -101,35 +100,17 @@ fn fill_in(rows: &[u8], p: Places, mode: Mode, n: usize, w: &mut [u64])
 
 // ---- chains of steps
 
-// From the first element of an availability chain to its last.
-fn reach_out(rows: &[u8], p: Places, mode: Mode, n: usize, w: &mut [u64])
-    requires { ⌜ (n ≤ ROWS) × (WORK ≤ length (now w)) × Ordered (decode (now rows) p mode n) n (now w) ⌝ }
-    ensures { λ _. let t = decode (now (rows .entry)) p mode n in
-        ⌜ Made REACH-OUT REACH-OUT-END REACH-OUT GRID n (through (broadens t) n) (now (w .entry)) (now (w .exit)) ⌝ }
-{
-    fill_out(rows, p, mode, n, w);
-    bits::close(w, area::REACH_OUT, n, area::GRID);
-}
-
-// From the first element of a visibility chain to its last.
-fn reach_in(rows: &[u8], p: Places, mode: Mode, n: usize, w: &mut [u64])
-    requires { ⌜ (n ≤ ROWS) × (WORK ≤ length (now w)) × Ordered (decode (now rows) p mode n) n (now w) ⌝ }
-    ensures { λ _. let t = decode (now (rows .entry)) p mode n in
-        ⌜ Made REACH-IN REACH-IN-END REACH-IN GRID n (through (narrows t) n) (now (w .entry)) (now (w .exit)) ⌝ }
-{
-    fill_in(rows, p, mode, n, w);
-    bits::close(w, area::REACH_IN, n, area::GRID);
-}
-
-// Both reaches; on a device without chains there is nothing to do, and nothing is written.
+// From the first element of a chain to its last; on a device without chains there is nothing to do, and nothing is written.
 // Ruled out: one that lets a chain go on with an equal scope; one that leaves out what three elements make together.
 pub fn make_reach(rows: &[u8], p: Places, mode: Mode, n: usize, w: &mut [u64])
-    requires { ⌜ (n ≤ ROWS) × (WORK ≤ length (now w)) × Ordered (decode (now rows) p mode n) n (now w) ⌝ }
+    requires { ⌜ Given Ordered (now rows) p mode n (now w) ⌝ }
     ensures { λ _. ⌜ MadeReach (decode (now (rows .entry)) p mode n) n (now (w .entry)) (now (w .exit)) ⌝ }
 {
     if !mode.chains {
         return;
     }
-    reach_out(rows, p, mode, n, w);
-    reach_in(rows, p, mode, n, w);
+    fill_out(rows, p, mode, n, w);
+    bits::close(w, area::REACH_OUT, n, area::GRID);
+    fill_in(rows, p, mode, n, w);
+    bits::close(w, area::REACH_IN, n, area::GRID);
 }

@@ -27,10 +27,11 @@ use Rattle.model.specs.Table.{Table, rowOf, decode}
 use Rattle.model.specs.Moment.{itself}
 use Rattle.model.specs.Happens.{happens}
 use Rattle.model.specs.Location.{thence, onHost, visibleKind, seenBy, metFrom}
-use Rattle.area.specs.Regions.{HAPPENS, MOMENTS, HOSTED, HOSTED-END, SYSTEM, SYSTEM-END, MET, MET-END, REACHED, REACHED-END, GRID}
+use Rattle.area.specs.Regions.{HAPPENS, MOMENTS, MET, MET-END, REACHED, REACHED-END, GRID}
 use Rattle.area.specs.State.{Ordered, ordered-kept}
+use Rattle.location.specs.Given.{GivenRows}
 use Rattle.location.specs.Order.{row-off}
-use Rattle.location.specs.Domains.{metBy, visibleOf, Meeting}
+use Rattle.location.specs.Domains.{metBy, visibleOf}
 
 -- ---- definitions
 
@@ -160,13 +161,6 @@ module _ (t : Table) (m : ℕ) where
     unfolding only
     seen-none i e = added-none MET MET-END w (λ a y p q. and-false-right _ _ (show-none i y e))
 
-    pub seen-some : {u : List ℕ} (i : ℕ) → n ≤ ROWS → WORK ≤ length w → m < n → i < n → shows t m i ≡ true → Seeing t n w
-        → u ≡ joinRow w (MET + m * GRID) (REACHED + i * GRID) GRID
-        → MetMore n (only m (λ y. seenAfter t m y i)) w u
-    unfolding only
-    seen-some i small room l k e s f = more-cong (λ a y p q. ap (λ (b : Bool). eqb a m and b) (show-some i y e))
-        (row-joined m i (seenFrom t) small room l k (s .seeing) f)
-
     -- one row after the other
     pub upto-none : MetMore n (only m (seenUpto t m 0)) w w
     unfolding only seenUpto
@@ -250,53 +244,49 @@ module _ (t : Table) {n : ℕ} {w : List ℕ} where
 
 -- ---- laws: what is told from bytes and bits
 
-module _ (b : List ℕ) (p : List (List ℕ)) (mode : Mode) (n : ℕ) (w : List ℕ) (o : Ordered (decode b p mode n) n w) where
-  pub once-off : (m y : ℕ) (d : Bool) → d ≡ reads (rowOf b y) → d ≡ true → false ≡ atOnce (decode b p mode n) m y
-  unfolding atOnce decode _and_
-  once-off m y d e h = rw (← e, h) refl
+-- the readers that see it by way of row i join those that meet it
+pub seen-some : {b : List ℕ} {p : List (List ℕ)} {mode : Mode} {n m i to from : ℕ} {w u : List ℕ} → GivenRows Seeing b p mode n m i w
+    → shows (decode b p mode n) m i ≡ true → to ≡ MET + m * GRID → from ≡ REACHED + i * GRID → u ≡ joinRow w to from GRID
+    → MetMore n (only m (λ y. seenAfter (decode b p mode n) m y i)) w u
+unfolding only
+seen-some {b} {p} {mode} {n} {m} {i} {to} {from} {w} {u} given shown to-is from-is joined =
+    let e : u ≡ joinRow w (MET + m * GRID) (REACHED + i * GRID) GRID = rw (to-is, from-is) at joined in
+    more-cong (λ a y l k. ap (λ (c : Bool). eqb a m and c) (show-some (decode b p mode n) m i y shown))
+    (row-joined m i (seenFrom (decode b p mode n)) (given .few) (given .room) (given .first) (given .second) (given .holds .seeing) e)
 
-  pub once-on : (m y : ℕ) (d g : Bool) → m < n → y < n → d ≡ reads (rowOf b y) → d ≡ false → g ≡ rel w HAPPENS MOMENTS (itself m) (itself y)
-      → g ≡ atOnce (decode b p mode n) m y
-  unfolding atOnce decode _and_
-  once-on m y d g k l e h f = rw (← e, h) (f ∙ o .happening .cell (itself m) (itself y) (omega arith) (omega arith))
+module _ {b : List ℕ} {p : List (List ℕ)} {mode : Mode} {n x y : ℕ} {w : List ℕ} (given : GivenRows Ordered b p mode n x y w) where
+  before-is : {g : Bool} → g ≡ rel w HAPPENS MOMENTS (itself x) (itself y) → g ≡ happens (decode b p mode n) (itself x) (itself y)
+  before-is e = e ∙ given .holds .happening .cell (itself x) (itself y) (omega (arith, given .first)) (omega (arith, given .second))
 
-  -- y doesn't read; row i is no visibility operation of y's domain; it is
-  pub seen-off : (i y : ℕ) (d : Bool) → d ≡ reads (rowOf b y) → d ≡ false → false ≡ seenFrom (decode b p mode n) i y
+  pub once-off : {d : Bool} → d ≡ reads (rowOf b y) → d ≡ true → false ≡ atOnce (decode b p mode n) x y
+  unfolding atOnce decode _and_
+  once-off reads-is reader = rw (← reads-is, reader) refl
+
+  pub once-on : {d g : Bool} → d ≡ reads (rowOf b y) → d ≡ false → g ≡ rel w HAPPENS MOMENTS (itself x) (itself y) → g ≡ atOnce (decode b p mode n) x y
+  unfolding atOnce decode _and_
+  once-on reads-is other before = rw (← reads-is, other) (before-is before)
+
+  -- y doesn't read; row x is no visibility operation of y's domain; it is
+  pub seen-off : {d : Bool} → d ≡ reads (rowOf b y) → d ≡ false → false ≡ seenFrom (decode b p mode n) x y
   unfolding seenFrom decode
-  seen-off i y d e h = sym (and-false-left _ _ (sym e ∙ h))
+  seen-off reads-is other = sym (and-false-left _ _ (sym reads-is ∙ other))
 
-  module _ (i y kind a k : ℕ) (ei : kind ≡ rowOf b i .kind) (ea : a ≡ rowOf b y .agent) (ek : k ≡ visibleOf p a) where
-    pub seen-other : eqb kind k ≡ false → false ≡ seenFrom (decode b p mode n) i y
+  module _ {kind a k : ℕ} (kind-is : kind ≡ rowOf b x .kind) (agent-is : a ≡ rowOf b y .agent) (visible-is : k ≡ visibleOf p a) where
+    pub seen-other : eqb kind k ≡ false → false ≡ seenFrom (decode b p mode n) x y
     unfolding seenFrom visibleKind visibleOf onHost decode
-    seen-other e = sym (and-false-right _ _ (and-false-left _ _ (rw (← ei, ← ea, ← ek) e)))
+    seen-other other = sym (and-false-right _ _ (and-false-left _ _ (rw (← kind-is, ← agent-is, ← visible-is) other)))
 
-    pub seen-on : (d g : Bool) → i < n → y < n → d ≡ reads (rowOf b y) → d ≡ true → eqb kind k ≡ true → g ≡ rel w HAPPENS MOMENTS (itself i) (itself y)
-        → g ≡ seenFrom (decode b p mode n) i y
+    pub seen-on : {d g : Bool} → d ≡ reads (rowOf b y) → d ≡ true → eqb kind k ≡ true → g ≡ rel w HAPPENS MOMENTS (itself x) (itself y)
+        → g ≡ seenFrom (decode b p mode n) x y
     unfolding seenFrom visibleKind visibleOf onHost decode _and_
-    seen-on d g l m ed h e f = rw (← ed, h, ← ei, ← ea, ← ek, e) (f ∙ o .happening .cell (itself i) (itself y) (omega arith) (omega arith))
+    seen-on reads-is reader same before = rw (← reads-is, reader, ← kind-is, ← agent-is, ← visible-is, same) (before-is before)
 
-  pub shows-off : (m i kind : ℕ) → kind ≡ rowOf b i .kind → (eqb kind VISIBLE-HOST or eqb kind VISIBLE-DEVICE) ≡ false → false ≡ shows (decode b p mode n) m i
-  unfolding shows decode
-  shows-off m i kind e h = sym (and-false-left _ _ (rw (← e) h))
+  module _ {kind : ℕ} (kind-is : kind ≡ rowOf b y .kind) where
+    pub shows-off : (eqb kind VISIBLE-HOST or eqb kind VISIBLE-DEVICE) ≡ false → false ≡ shows (decode b p mode n) x y
+    unfolding shows decode
+    shows-off other = sym (and-false-left _ _ (rw (← kind-is) other))
 
-  pub shows-on : (m i kind : ℕ) (g : Bool) → m < n → i < n → kind ≡ rowOf b i .kind → (eqb kind VISIBLE-HOST or eqb kind VISIBLE-DEVICE) ≡ true
-      → g ≡ rel w HAPPENS MOMENTS (itself m) (itself i) → g ≡ shows (decode b p mode n) m i
-  unfolding shows decode _and_
-  shows-on m i kind g l k e h f = rw (← e, h) (f ∙ o .happening .cell (itself m) (itself i) (omega arith) (omega arith))
-
--- ---- laws: the stages, one after the other
-
-pub meeting-met : {t : Table} {n : ℕ} {w u : List ℕ} → Ordered t n w → Made MET REACHED-END MET GRID n (metBy t) w u → Meeting t n u
-meeting-met o m = record { ordered = ordered-kept (omega arith) (m .frame) o; meeting = m .holds }
-
-pub made-all : {n : ℕ} {r : ℕ → ℕ → Bool} {w v x z u : List ℕ} → Within SYSTEM SYSTEM-END w v → Within MET REACHED-END v x → Within REACHED REACHED-END x z
-    → Made HOSTED HOSTED-END HOSTED GRID n r z u
-    → Made HOSTED REACHED-END HOSTED GRID n r w u
-made-all f g h m =
-    record {
-      holds = m .holds;
-      frame = within-trans
-          (within-trans (within-widen HOSTED REACHED-END (omega arith) (omega arith) f) (within-widen HOSTED REACHED-END (omega arith) (omega arith) g))
-          (within-trans (within-widen HOSTED REACHED-END (omega arith) (omega arith) h)
-          (within-widen HOSTED REACHED-END (omega arith) (omega arith) (m .frame)));
-    }
+    pub shows-on : {g : Bool} → (eqb kind VISIBLE-HOST or eqb kind VISIBLE-DEVICE) ≡ true → g ≡ rel w HAPPENS MOMENTS (itself x) (itself y)
+        → g ≡ shows (decode b p mode n) x y
+    unfolding shows decode _and_
+    shows-on visible before = rw (← kind-is, visible) (before-is before)

@@ -1,14 +1,14 @@
 // L4 and L5 for every two rows, as bits: what `location::hosted` says. A pair that shares no byte costs three bytes of a row.
 ghost use mathlib.Core.Path.{_≡_};
-ghost use Prim.Native.Nat.{_+_, _*_, _≤_, _<_};
-ghost use lib.ListN.{length};
+ghost use Prim.Native.Nat.{_+_, _*_, _<_};
 ghost use Rattle.bits.specs.Fill.{rowFill};
 ghost use Rattle.bits.specs.Stage.{Made};
-ghost use Rattle.model.specs.Limits.{ROWS, WORK};
+ghost use Rattle.model.specs.Limits.{ROWS};
 ghost use Rattle.model.specs.Table.{rowOf, decode};
 ghost use Rattle.area.specs.Regions.{HOSTED, HOSTED-END, REACHED-END, GRID};
 ghost use Rattle.area.specs.State.{Ordered};
 ghost use Rattle.rules.specs.Shared.{mayShare};
+ghost use Rattle.location.specs.Given.{Given, GivenRow, GivenRows};
 ghost use Rattle.location.specs.Order.{hosted};
 ghost use Rattle.location.specs.Domains.{Sources};
 use location::domains;
@@ -40,7 +40,7 @@ fn hosted_with(
     y: usize,
     w: &[u64],
 ) -> bool
-    requires { ⌜ (n ≤ ROWS) × (x < n) × (y < n) × (r ≡ rowOf (now rows) x) × (WORK ≤ length (now w)) × Sources (decode (now rows) p mode n) n (now w) ⌝ }
+    requires { ⌜ record { given : GivenRows Sources (now rows) p mode n x y (now w); first-is : r ≡ rowOf (now rows) x } ⌝ }
     ensures { λ d. ⌜ d ≡ hosted (decode (now (rows .entry)) p mode n) x y ⌝ }
 {
     if !is_near(rows, x, r, y) {
@@ -55,7 +55,7 @@ fn hosted_with(
 
 // The same for row x and every row. Where x neither reads nor writes nothing is asked.
 fn hosted_row(rows: &[u8], p: Places, mode: Mode, n: usize, x: usize, w: &mut [u64])
-    requires { ⌜ (n ≤ ROWS) × (WORK ≤ length (now w)) × (x < n) × Sources (decode (now rows) p mode n) n (now w) ⌝ }
+    requires { ⌜ GivenRow Sources (now rows) p mode n x (now w) ⌝ }
     ensures { λ _. ⌜ now (w .exit) ≡ rowFill (hosted (decode (now (rows .entry)) p mode n) x) (now (w .entry)) (HOSTED * 64 + x * (GRID * 64)) n ⌝ }
 {
     let r = bytes::read_row(rows, x as u16);
@@ -71,7 +71,7 @@ fn hosted_row(rows: &[u8], p: Places, mode: Mode, n: usize, x: usize, w: &mut [u
 // The same for every two rows.
 // Ruled out: one that orders a row before itself; one that exchanges the two rows of a pair.
 fn fill_hosted(rows: &[u8], p: Places, mode: Mode, n: usize, w: &mut [u64])
-    requires { ⌜ (n ≤ ROWS) × (WORK ≤ length (now w)) × Sources (decode (now rows) p mode n) n (now w) ⌝ }
+    requires { ⌜ Given Sources (now rows) p mode n (now w) ⌝ }
     ensures { λ _. ⌜ Made HOSTED HOSTED-END HOSTED GRID n (hosted (decode (now (rows .entry)) p mode n)) (now (w .entry)) (now (w .exit)) ⌝ }
 {
     bits::clear(w, area::HOSTED, area::HOSTED_END);
@@ -84,7 +84,7 @@ fn fill_hosted(rows: &[u8], p: Places, mode: Mode, n: usize, w: &mut [u64])
 // Ruled out: one that leaves a bit of an earlier stage set where there is nothing to ask; one that passes over L4 where there are
 // dependencies but no operation.
 pub fn make_hosted(rows: &[u8], p: Places, mode: Mode, n: usize, w: &mut [u64])
-    requires { ⌜ (n ≤ ROWS) × (WORK ≤ length (now w)) × Ordered (decode (now rows) p mode n) n (now w) ⌝ }
+    requires { ⌜ Given Ordered (now rows) p mode n (now w) ⌝ }
     ensures { λ _. ⌜ Made HOSTED REACHED-END HOSTED GRID n (hosted (decode (now (rows .entry)) p mode n)) (now (w .entry)) (now (w .exit)) ⌝ }
 {
     if hosted::is_unhosted(rows, mode, n) {

@@ -1,15 +1,15 @@
 // What rows meet of what operations leave in their domains, as bits: what `location::domains::fill_met` says. Which readers see
 // something by way of a visibility operation is asked once, whatever operation comes before it; their bits are then joined.
 ghost use mathlib.Core.Path.{_≡_};
-ghost use Prim.Native.Nat.{_+_, _*_, _≤_, _<_};
-ghost use lib.ListN.{length};
+ghost use Prim.Native.Nat.{_+_, _*_, _<_};
 ghost use Rattle.bits.specs.Fill.{rowFill};
 ghost use Rattle.bits.specs.Stage.{Made};
-ghost use Rattle.model.specs.Limits.{ROWS, WORK};
+ghost use Rattle.model.specs.Limits.{ROWS};
 ghost use Rattle.model.specs.Row.{reads};
 ghost use Rattle.model.specs.Table.{rowOf, decode};
 ghost use Rattle.area.specs.Regions.{MET, REACHED, REACHED-END, GRID};
 ghost use Rattle.area.specs.State.{Ordered};
+ghost use Rattle.location.specs.Given.{Given, GivenRow, GivenRows};
 ghost use Rattle.location.specs.Domains.{metBy};
 ghost use Rattle.quick_hosts.specs.Met.{atOnce, seenFrom, seenAfter, shows, only, Seeing, MetMore};
 use location::domains;
@@ -31,7 +31,7 @@ fn reads_at(rows: &[u8], y: usize) -> bool
 // ---- rows that meet it at once
 
 fn once_at(rows: &[u8], p: Places, mode: Mode, n: usize, m: usize, y: usize, w: &[u64]) -> bool
-    requires { ⌜ (n ≤ ROWS) × (m < n) × (y < n) × (WORK ≤ length (now w)) × Ordered (decode (now rows) p mode n) n (now w) ⌝ }
+    requires { ⌜ GivenRows Ordered (now rows) p mode n m y (now w) ⌝ }
     ensures { λ d. ⌜ d ≡ atOnce (decode (now (rows .entry)) p mode n) m y ⌝ }
 {
     if reads_at(rows, y) {
@@ -41,7 +41,7 @@ fn once_at(rows: &[u8], p: Places, mode: Mode, n: usize, m: usize, y: usize, w: 
 }
 
 fn once_row(rows: &[u8], p: Places, mode: Mode, n: usize, m: usize, w: &mut [u64])
-    requires { ⌜ (n ≤ ROWS) × (WORK ≤ length (now w)) × (m < n) × Ordered (decode (now rows) p mode n) n (now w) ⌝ }
+    requires { ⌜ GivenRow Ordered (now rows) p mode n m (now w) ⌝ }
     ensures { λ _. ⌜ now (w .exit) ≡ rowFill (atOnce (decode (now (rows .entry)) p mode n) m) (now (w .entry)) (MET * 64 + m * (GRID * 64)) n ⌝ }
 {
     for y in 0..n {
@@ -63,8 +63,7 @@ fn seen_from(
     y: usize,
     w: &[u64],
 ) -> bool
-    requires { ⌜ (n ≤ ROWS) × (i < n) × (y < n) × (kind ≡ rowOf (now rows) i .kind) × (WORK ≤ length (now w))
-        × Ordered (decode (now rows) p mode n) n (now w) ⌝ }
+    requires { ⌜ record { given : GivenRows Ordered (now rows) p mode n i y (now w); kind-is : kind ≡ rowOf (now rows) i .kind } ⌝ }
     ensures { λ d. ⌜ d ≡ seenFrom (decode (now (rows .entry)) p mode n) i y ⌝ }
 {
     if !reads_at(rows, y) {
@@ -79,7 +78,7 @@ fn seen_from(
 
 // The same for row i and every row. What is no visibility operation is not asked.
 fn seen_row(rows: &[u8], p: Places, mode: Mode, n: usize, i: usize, w: &mut [u64])
-    requires { ⌜ (n ≤ ROWS) × (WORK ≤ length (now w)) × (i < n) × Ordered (decode (now rows) p mode n) n (now w) ⌝ }
+    requires { ⌜ GivenRow Ordered (now rows) p mode n i (now w) ⌝ }
     ensures { λ _. ⌜ now (w .exit) ≡ rowFill (seenFrom (decode (now (rows .entry)) p mode n) i) (now (w .entry)) (REACHED * 64 + i * (GRID * 64)) n ⌝ }
 {
     let kind = bytes::read_kind(rows, i as u16);
@@ -94,7 +93,7 @@ fn seen_row(rows: &[u8], p: Places, mode: Mode, n: usize, i: usize, w: &mut [u64
 
 // The same for every two rows. The grid is that of a later stage.
 fn fill_seen(rows: &[u8], p: Places, mode: Mode, n: usize, w: &mut [u64])
-    requires { ⌜ (n ≤ ROWS) × (WORK ≤ length (now w)) × Ordered (decode (now rows) p mode n) n (now w) ⌝ }
+    requires { ⌜ Given Ordered (now rows) p mode n (now w) ⌝ }
     ensures { λ _. ⌜ Made REACHED REACHED-END REACHED GRID n (seenFrom (decode (now (rows .entry)) p mode n)) (now (w .entry)) (now (w .exit)) ⌝ }
 {
     bits::clear(w, area::REACHED, area::REACHED_END);
@@ -105,7 +104,7 @@ fn fill_seen(rows: &[u8], p: Places, mode: Mode, n: usize, w: &mut [u64])
 
 // Whether row i makes visible from a domain, after m.
 fn shows_at(rows: &[u8], p: Places, mode: Mode, n: usize, m: usize, i: usize, w: &[u64]) -> bool
-    requires { ⌜ (n ≤ ROWS) × (m < n) × (i < n) × (WORK ≤ length (now w)) × Ordered (decode (now rows) p mode n) n (now w) ⌝ }
+    requires { ⌜ GivenRows Ordered (now rows) p mode n m i (now w) ⌝ }
     ensures { λ d. ⌜ d ≡ shows (decode (now (rows .entry)) p mode n) m i ⌝ }
 {
     let kind = bytes::read_kind(rows, i as u16);
@@ -117,25 +116,22 @@ fn shows_at(rows: &[u8], p: Places, mode: Mode, n: usize, m: usize, i: usize, w:
 
 // Adds the readers that meet it by way of row i.
 fn add_seen(rows: &[u8], p: Places, mode: Mode, n: usize, m: usize, i: usize, w: &mut [u64])
-    requires { ⌜ (n ≤ ROWS) × (WORK ≤ length (now w)) × (m < n) × (i < n) × Seeing (decode (now rows) p mode n) n (now w) ⌝ }
+    requires { ⌜ GivenRows Seeing (now rows) p mode n m i (now w) ⌝ }
     ensures { λ _. ⌜ MetMore n (only m (λ y. seenAfter (decode (now (rows .entry)) p mode n) m y i)) (now (w .entry)) (now (w .exit)) ⌝ }
 {
     if !shows_at(rows, p, mode, n, m, i, w) {
         return;
     }
-    bits::join_row(
-        w,
-        area::MET + m * area::GRID,
-        area::REACHED + i * area::GRID,
-        area::GRID,
-    );
+    let to = area::grid::at(area::MET, m);
+    let from = area::grid::at(area::REACHED, i);
+    bits::join_row(w, to, from, area::GRID);
 }
 
 // ---- all of them
 
 // Adds what rows meet of what row m leaves, where m is an operation.
 fn met_row(rows: &[u8], p: Places, mode: Mode, n: usize, m: usize, w: &mut [u64])
-    requires { ⌜ (n ≤ ROWS) × (WORK ≤ length (now w)) × (m < n) × Seeing (decode (now rows) p mode n) n (now w) ⌝ }
+    requires { ⌜ GivenRow Seeing (now rows) p mode n m (now w) ⌝ }
     ensures { λ _. ⌜ MetMore n (only m (metBy (decode (now (rows .entry)) p mode n) m)) (now (w .entry)) (now (w .exit)) ⌝ }
 {
     if !domains::operation_at(rows, m) {
@@ -150,7 +146,7 @@ fn met_row(rows: &[u8], p: Places, mode: Mode, n: usize, m: usize, w: &mut [u64]
 // The same for every operation.
 // Ruled out: one where a reader meets it with no visibility operation; one that asks for one of the other domain.
 pub fn fill_met(rows: &[u8], p: Places, mode: Mode, n: usize, w: &mut [u64])
-    requires { ⌜ (n ≤ ROWS) × (WORK ≤ length (now w)) × Ordered (decode (now rows) p mode n) n (now w) ⌝ }
+    requires { ⌜ Given Ordered (now rows) p mode n (now w) ⌝ }
     ensures { λ _. ⌜ Made MET REACHED-END MET GRID n (metBy (decode (now (rows .entry)) p mode n)) (now (w .entry)) (now (w .exit)) ⌝ }
 {
     fill_seen(rows, p, mode, n, w);

@@ -14,13 +14,13 @@ use Rattle.model.specs.declared.Mode.{Mode}
 use Rattle.model.specs.declared.Row.{Row}
 use Rattle.model.specs.Row.{reads, writes}
 use Rattle.model.specs.Table.{Table, rowOf, decode}
-use Rattle.model.specs.Happens.{happens}
 use Rattle.model.specs.Location.{coversOf, firstAvailable, lastVisible, broadens}
 use Rattle.location.specs.Chains.{mayAvail, maySee, availableAfter, visibleBefore, availablePart, after-tells, before-tells, seen, metAtOnce}
-use Rattle.location.specs.Chains.{startsWith, shownBy, endsAt, endsWith, carriedBy, shown-out}
+use Rattle.location.specs.Chains.{startsWith, shownBy, endsAt, endsWith, carriedBy, shown-skip}
+use Rattle.location.specs.Given.{Pair, Element, reach-out}
+use Rattle.bits.specs.Bit.{bit}
 use Rattle.bits.specs.Matrix.{rel}
-use Rattle.area.specs.Regions.{HAPPENS, MOMENTS, PAIR}
-use Rattle.area.specs.State.{Ordered}
+use Rattle.area.specs.Regions.{HAPPENS, MOMENTS, PAIR, REACH-OUT, GRID}
 use Rattle.quick_location.specs.Masks.{Mask, mask-zero, mask-cong, mask-and, any-wider, coveredNth}
 
 -- ---- definitions
@@ -194,49 +194,24 @@ module _ (t : List ℕ) (p : List (List ℕ)) (mode : Mode) (n x : ℕ) where
   unfolding publishes decode
   publishes-none m r er e = any-not _ m (λ a l. and-false-left _ _ (rw (← er) e))
 
-module _ (t : List ℕ) (p : List (List ℕ)) (mode : Mode) (n x y : ℕ) where
+module _ {t : List ℕ} {p : List (List ℕ)} {mode : Mode} {n x y : ℕ} {r q : Row} {w : List ℕ} (pair : Pair t p mode n x y r q w) where
   abbrev T : Table
   T = decode t p mode n
 
-  pub linked-row : (a v c : ℕ) (h : Bool) → h ≡ through (broadens T) n a c
-      → linkedWith T x y a v c
-      ≡ (h and (seen T x y c v or (mode .chains and anyBelow n (startsWith T x y c v))))
+  pub linked-row : {h : Bool} (a v c : ℕ) → mode .chains ≡ true → a < n → c < n → h ≡ bit w ((REACH-OUT + a * GRID) * 64 + c)
+      → linkedWith T x y a v c ≡ (h and (seen T x y c v or (mode .chains and anyBelow n (startsWith T x y c v))))
   unfolding linkedWith linked decode
-  linked-row a v c h e = rw e refl
+  linked-row a v c chains first second e = rw (reach-out pair a c chains first second e) refl
 
-  pub met-row : (a c : ℕ) (h : Bool) → h ≡ through (broadens T) n a c
+  pub met-row : {h : Bool} (a c : ℕ) → mode .chains ≡ true → a < n → c < n → h ≡ bit w ((REACH-OUT + a * GRID) * 64 + c)
       → metWith T x y a c ≡ (h and metAtOnce T x y c)
   unfolding metWith decode
-  met-row a c h e = rw e refl
-
-  -- a last element that two bytes, or without chains two bits, rule out
-  pub shown-skip : (a v k m : ℕ) (q s : Row) (h g : Bool) → q ≡ rowOf t y → s ≡ rowOf t a → m ≡ availablePart s → h ≡ happens T (3 * a + m) (3 * v)
-      → g ≡ happens T (3 * a + m) (3 * v + 2) → ((mode .chains or h or g) and maySee t q v) ≡ false → shownNth T x y a k v ≡ false
-  unfolding shownNth shownBy linkedFrom linked lastVisible visibleBefore decode
-  shown-skip a v k m q s h g eq es em eh eg off = not-so _ told
-    where
-      told : shownNth T x y a k v ≡ true → ⊥
-      told e =
-          ⊎-elim
-          (λ l. not-both (and-true (split e .0) l) (shown-out t p mode n x y (T .row x .start + k) a v m q s h g eq es em eh eg off))
-          (λ l. not-both (and-true (or-left g (or-left h (split l .0))) (rw eq (before-tells t p mode n x y v (split (split e .0) .0) .0))) off)
-          (or-cases (linked T x y a v) (T .chains and anyBelow (T .rows) (linkedWith T x y a v)) (split e .1))
-
-  -- nor do rows before a bound below which those bits rule all out
-  pub shown-low : (a k f m g : ℕ) (q s : Row) (w : List ℕ) → Ordered T n w → a < n → q ≡ rowOf t y → s ≡ rowOf t a → m ≡ availablePart s → m < 3
-      → ((v : ℕ) → v < f → (mode .chains or rel w HAPPENS MOMENTS (3 * a + m) (3 * v) or rel w HAPPENS MOMENTS (3 * a + m) (3 * v + 2)) ≡ false)
-      → g ≤ f → g ≤ n → anyBelow g (shownNth T x y a k) ≡ false
-  shown-low a k f m g q s w o la eq es em lm off lf ln =
-      any-not _ g
-      (λ v l.
-      shown-skip a v k m q s _ _ eq es em (o .happening .cell (3 * a + m) (3 * v) (omega arith) (omega arith))
-      (o .happening .cell (3 * a + m) (3 * v + 2) (omega arith) (omega arith))
-      (and-false-left _ _ (off v (omega arith))))
+  met-row a c chains first second e = rw (reach-out pair a c chains first second e) refl
 
   -- no row after y is a last element
-  pub shown-all : (a k : ℕ) → y < n → anyBelow (y + 1) (shownNth T x y a k) ≡ anyBelow n (shownNth T x y a k)
+  shown-all : (a k : ℕ) → anyBelow (y + 1) (shownNth T x y a k) ≡ anyBelow n (shownNth T x y a k)
   unfolding shownNth lastVisible visibleBefore
-  shown-all a k l = bool-ext _ _ (any-wider (shownNth T x y a k) (y + 1) n (omega arith)) back
+  shown-all a k = bool-ext _ _ (any-wider (shownNth T x y a k) (y + 1) n (omega (arith, pair .second))) back
     where
       back : anyBelow n (shownNth T x y a k) ≡ true → anyBelow (y + 1) (shownNth T x y a k) ≡ true
       back e =
@@ -245,43 +220,69 @@ module _ (t : List ℕ) (p : List (List ℕ)) (mode : Mode) (n x y : ℕ) where
           any-in (shownNth T x y a k) (y + 1) (v .0) (omega arith) (v .2)
 
   -- nothing is carried before the first element
-  pub carried-low : (k m : ℕ) (r : Row) → r ≡ rowOf t x → writes r ≡ true → anyBelow m (publishes T x) ≡ false → anyBelow m (carriedNth T x y k) ≡ false
+  pub carried-low : (k m : ℕ) → writes r ≡ true → anyBelow m (publishes T x) ≡ false → anyBelow m (carriedNth T x y k) ≡ false
   unfolding decode carriedNth
-  carried-low k m r er e f = carried-below T x y (T .row x .start + k) m (rw (← er) e) f
+  carried-low k m write none = carried-below T x y (T .row x .start + k) m (rw (← pair .first-is) write) none
 
   -- ---- laws: sets of bytes
 
-  pub shown-bytes : (a v m : ℕ) (r q u : Row) → r ≡ rowOf t x → q ≡ rowOf t y → u ≡ rowOf t v → visibleBefore T y v ≡ true
-      → linkedFrom T x y a v ≡ true → Mask PAIR (coveredNth u q (r .start)) m → Mask PAIR (λ k. shownNth T x y a k v) m
+  pub shown-bytes : (a v : ℕ) {m : ℕ} {u : Row} → u ≡ rowOf t v → visibleBefore T y v ≡ true → linkedFrom T x y a v ≡ true
+      → Mask PAIR (coveredNth u q (r .start)) m → Mask PAIR (λ k. shownNth T x y a k v) m
   unfolding decode
-  shown-bytes a v m r q u er eq eu e f h = mask-cong _ (λ k l. rw (er, eq, eu) (shown-covers T x y a k v e f)) h
+  shown-bytes a v row-is last led = mask-cong _ (λ k l. rw (pair .first-is, pair .second-is, row-is) (shown-covers T x y a k v last led))
 
   -- all last elements were asked: those up to y's row
-  pub lasts-bytes : (a v c m : ℕ) (s : ℕ → Bool) → y < n → v ≡ y + 1 → Mask PAIR s c → Mask PAIR (λ k. anyBelow v (shownNth T x y a k)) m
+  pub lasts-bytes : (a v c m : ℕ) (s : ℕ → Bool) → v ≡ y + 1 → Mask PAIR s c → Mask PAIR (λ k. anyBelow v (shownNth T x y a k)) m
       → Mask PAIR (λ k. s k and anyBelow n (shownNth T x y a k)) (bitAnd c m)
-  lasts-bytes a v c m s l e f g = mask-cong _ (λ k h. rw e (ap (λ (z : Bool). s k and z) (shown-all a k l))) (mask-and f g)
+  lasts-bytes a v c m s all covers shown = mask-cong _ (λ k h. rw all (ap (λ (z : Bool). s k and z) (shown-all a k))) (mask-and covers shown)
 
   -- the same where none of them was asked
-  pub lasts-none : (a : ℕ) (s : ℕ → Bool) → y < n → ((k : ℕ) → anyBelow (y + 1) (shownNth T x y a k) ≡ false)
+  pub lasts-none : (a : ℕ) (s : ℕ → Bool) → ((k : ℕ) → anyBelow (y + 1) (shownNth T x y a k) ≡ false)
       → Mask PAIR (λ k. s k and anyBelow n (shownNth T x y a k)) 0
-  lasts-none a s l e = mask-zero PAIR _ (λ k. and-false-right _ _ (sym (shown-all a k l) ∙ e k))
+  lasts-none a s none = mask-zero PAIR _ (λ k. and-false-right _ _ (sym (shown-all a k) ∙ none k))
 
-  pub reader-bytes : (a m : ℕ) (r q s : Row) → r ≡ rowOf t x → q ≡ rowOf t y → s ≡ rowOf t a → availableAfter T x a ≡ true → reads q ≡ true
-      → Mask PAIR (λ k. coveredNth s r (r .start) k and anyBelow n (shownNth T x y a k)) m → Mask PAIR (λ k. carriedNth T x y k a) m
+  pub other-none : (a k : ℕ) → reads q ≡ false → metFrom T x y a ≡ false → carriedNth T x y k a ≡ false
+  unfolding decode
+  other-none a k other unmet = carried-other T x y k a (rw (← pair .second-is) other) ∙ and-false-right _ _ unmet
+
+module _ {t : List ℕ} {p : List (List ℕ)} {mode : Mode} {n x y a : ℕ} {r q s : Row} {w : List ℕ} (element : Element t p mode n x y r q a s w) where
+  -- m is a's one moment that makes available
+  module _ {m : ℕ} (part : (m ≡ availablePart s) × (m < 3)) where
+    -- a last element that two bytes, or without chains two bits, rule out
+    pub bytes-skip : (k v : ℕ) → v < n
+        → ((mode .chains or rel w HAPPENS MOMENTS (3 * a + m) (3 * v) or rel w HAPPENS MOMENTS (3 * a + m) (3 * v + 2)) and maySee t q v) ≡ false
+        → shownNth (decode t p mode n) x y a k v ≡ false
+    unfolding shownNth shownBy linkedFrom linked lastVisible visibleBefore decode
+    bytes-skip k v l off = not-so _ told
+      where
+        told : shownNth (decode t p mode n) x y a k v ≡ true → ⊥
+        told e =
+            ⊎-elim
+            (λ g. not-both (and-true (split e .0) g) (shown-skip element part ((decode t p mode n) .row x .start + k) v l off))
+            (λ g. not-both (and-true (or-left _ (or-left _ (split g .0)))
+            (rw (element .pair .second-is) (before-tells t p mode n x y v (split (split e .0) .0) .0))) off)
+            (or-cases (linked (decode t p mode n) x y a v) _ (split e .1))
+
+    -- nor do rows before a bound below which those bits rule all out
+    pub bytes-low : (k f g : ℕ)
+        → ((v : ℕ) → v < f → (mode .chains or rel w HAPPENS MOMENTS (3 * a + m) (3 * v) or rel w HAPPENS MOMENTS (3 * a + m) (3 * v + 2)) ≡ false)
+        → g ≤ f → g ≤ n → anyBelow g (shownNth (decode t p mode n) x y a k) ≡ false
+    bytes-low k f g off below few = any-not _ g (λ v l. bytes-skip k v (omega arith) (and-false-left _ _ (off v (omega arith))))
+
+  pub reader-bytes : {m : ℕ} → availableAfter (decode t p mode n) x a ≡ true → reads q ≡ true
+      → Mask PAIR (λ k. coveredNth s r (r .start) k and anyBelow n (shownNth (decode t p mode n) x y a k)) m
+      → Mask PAIR (λ k. carriedNth (decode t p mode n) x y k a) m
   unfolding decode coveredNth _and_
-  reader-bytes a m r q s er eq es e f h =
+  reader-bytes first reader =
       mask-cong _
-      (λ k l. rw (er, es) (sym (rw (first-covers T x y (rowOf t x .start + k) a, e) at (carried-reader T x y k a (rw (← eq) f)))))
-      h
+      (λ k l. rw (element .pair .first-is, element .row-is)
+      (sym (rw (first-covers (decode t p mode n) x y (rowOf t x .start + k) a, first)
+      at (carried-reader (decode t p mode n) x y k a (rw (← element .pair .second-is) reader)))))
 
-  pub other-bytes : (a m : ℕ) (r q s : Row) → r ≡ rowOf t x → q ≡ rowOf t y → s ≡ rowOf t a → availableAfter T x a ≡ true → reads q ≡ false
-      → metFrom T x y a ≡ true → Mask PAIR (coveredNth s r (r .start)) m → Mask PAIR (λ k. carriedNth T x y k a) m
+  pub other-bytes : {m : ℕ} → availableAfter (decode t p mode n) x a ≡ true → reads q ≡ false → metFrom (decode t p mode n) x y a ≡ true
+      → Mask PAIR (coveredNth s r (r .start)) m
+      → Mask PAIR (λ k. carriedNth (decode t p mode n) x y k a) m
   unfolding decode
-  other-bytes a m r q s er eq es e f g h =
-      mask-cong _
-      (λ k l. rw (er, es) (carried-covers T x y k a (rw (← eq) f) e g))
-      h
-
-  pub other-none : (a k : ℕ) (q : Row) → q ≡ rowOf t y → reads q ≡ false → metFrom T x y a ≡ false → carriedNth T x y k a ≡ false
-  unfolding decode
-  other-none a k q eq f g = carried-other T x y k a (rw (← eq) f) ∙ and-false-right _ _ g
+  other-bytes first other met =
+      mask-cong _ (λ k l. rw (element .pair .first-is, element .row-is)
+      (carried-covers (decode t p mode n) x y k a (rw (← element .pair .second-is) other) first met))

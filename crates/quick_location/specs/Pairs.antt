@@ -12,24 +12,27 @@ use lib.Dec.{eqb}
 use borrow.Author.Tests.{eq-eqb, ne-eqb}
 use Rattle.finite.specs.Logic.{_and_, _or_, which, not-both, not-so, split, and-false-left, and-false-right, not-out}
 use Rattle.bits.specs.Bit.{bitOf}
+use Rattle.bits.specs.Matrix.{rel}
 use Rattle.bits.specs.Fill.{rowFill, gridFill, rowFill-cong}
 use Rattle.sets.specs.Walk.{Next, walked}
+use Rattle.model.specs.declared.Mode.{Mode}
 use Rattle.model.specs.declared.Row.{Row}
 use Rattle.model.specs.Row.{access, writes}
-use Rattle.model.specs.Table.{Table}
+use Rattle.model.specs.Table.{Table, rowOf, decode}
 use Rattle.model.specs.Moment.{itself}
 use Rattle.model.specs.Happens.{happens}
 use Rattle.model.specs.Location.{sameReference, pureRead, publicWrite, common, L3}
 use Rattle.model.specs.Edge.{beforeNth}
 use Rattle.laws.specs.PairLaws.{overlap-is, common-out}
-use Rattle.area.specs.Regions.{OVERLAP, GRID, PAIR}
+use Rattle.area.specs.Regions.{HAPPENS, HOSTED, OVERLAP, MOMENTS, GRID, PAIR}
 use Rattle.area.specs.State.{overlaps}
 use Rattle.finite.specs.Below.{anyBelow}
+use Rattle.location.specs.Given.{GivenRows}
 use Rattle.location.specs.Chains.{L3-off, L3-on}
 use Rattle.quick_location.specs.Masks.{Mask, touchedNth, mask-cong, any-wider, put-filled}
 use Rattle.quick_location.specs.Elements.{publishes, carriedNth, carried-below}
 use Rattle.location.specs.Order.{hosted, before-off, before-first, before-third, row-off}
-use Rattle.quick_location.specs.Prepared.{Prepared}
+use Rattle.quick_location.specs.Prepared.{Ready}
 
 -- ---- definitions
 
@@ -71,36 +74,46 @@ third-silent t x y f l e b = ⊎-elim told (λ o. L3-off t x y b (t .row x) (t .
         ∙ carried-below t x y b (t .rows) (public-writes (t .row x) (t .row y) o)
         (not-so _ (λ h. not-both (any-wider (publishes t x) (t .rows) f l h) e))
 
-module _ (t : Table) (x y : ℕ) (r q : Row) (er : r ≡ t .row x) (eq : q ≡ t .row y) where
-  module _ (h a c g : Bool) (happening : h ≡ happens t (itself x) (itself y)) (hosting : g ≡ hosted t x y)
-      (ea : a ≡ (eqb (r .agent) (q .agent) and sameReference r q and h)) (ec : c ≡ (pureRead r q and h)) where
-    -- what is told once orders each byte that they share
-    pub pair-shared : (a or c or g) ≡ true → (k : ℕ) → sharedNth x y r q k ≡ beforeNth t x y k
-    unfolding sharedNth
-    pair-shared o k =
-        ⊎-elim (λ e. e ∙ before-first t x y r q er eq k h a c g e happening hosting ea ec o) (λ e. e ∙ sym (before-off t x y r q er eq k e))
-        (which (not (eqb x y) and common r q (r .start + k)))
+module _ {b : List ℕ} {p : List (List ℕ)} {mode : Mode} {n x y : ℕ} {r q : Row} {w : List ℕ} {h a c g : Bool} (given : GivenRows Ready b p mode n x y w)
+    (first-is : r ≡ rowOf b x) (second-is : q ≡ rowOf b y) (before : h ≡ rel w HAPPENS MOMENTS (itself x) (itself y))
+    (hosting : g ≡ rel w HOSTED GRID x y) (first : a ≡ (eqb (r .agent) (q .agent) and sameReference r q and h)) (second : c ≡ (pureRead r q and h)) where
+  abbrev T : Table
+  T = decode b p mode n
 
-    -- what is told once orders none, and neither does L3
-    pub pair-none : (a or c or g) ≡ false → ((b : ℕ) → L3 t x y b ≡ false) → (k : ℕ) → beforeNth t x y k ≡ false
-    pair-none o e k =
-        ⊎-elim (λ s. sym (before-third t x y r q er eq k h a c g s happening hosting (L3 t x y (r .start + k)) ea ec o refl)
-        ∙ e (r .start + k)) (λ s. before-off t x y r q er eq k s)
-        (which (not (eqb x y) and common r q (r .start + k)))
+  happens-is : h ≡ happens T (itself x) (itself y)
+  happens-is =
+      before ∙ given .holds .prepared .reaching .ordered .happening .cell _ _ (omega (arith, given .first)) (omega (arith, given .second))
 
-    -- what is told once orders none, and the first is a write that L3 speaks of
-    pub pair-third : (a or c or g) ≡ false → publicWrite r q ≡ true → (k : ℕ) → carriedBytes t x y k ≡ beforeNth t x y k
-    unfolding carriedBytes sharedNth carriedNth _and_
-    pair-third o e k = ⊎-elim there off (which (not (eqb x y) and common r q (r .start + k)))
-      where
-        third : anyBelow (t .rows) (carriedNth t x y k) ≡ L3 t x y (r .start + k)
-        third = L3-on t x y (t .row x .start + k) r q _ er eq e refl ∙ ap (λ (z : Row). L3 t x y (z .start + k)) (sym er)
+  hosted-is : g ≡ hosted T x y
+  hosted-is = hosting ∙ given .holds .prepared .hosting .cell x y (given .first) (given .second)
 
-        there : (not (eqb x y) and common r q (r .start + k)) ≡ true → carriedBytes t x y k ≡ beforeNth t x y k
-        there s = rw (← er, ← eq, s) (before-third t x y r q er eq k h a c g s happening hosting _ ea ec o third)
+  -- what is told once orders each byte that they share
+  pub pair-shared : (a or c or g) ≡ true → (k : ℕ) → sharedNth x y r q k ≡ beforeNth T x y k
+  unfolding sharedNth decode
+  pair-shared told k =
+      ⊎-elim (λ e. e ∙ before-first T x y r q first-is second-is k h a c g e happens-is hosted-is first second told)
+      (λ e. e ∙ sym (before-off T x y r q first-is second-is k e)) (which (not (eqb x y) and common r q (r .start + k)))
 
-        off : (not (eqb x y) and common r q (r .start + k)) ≡ false → carriedBytes t x y k ≡ beforeNth t x y k
-        off s = rw (← er, ← eq, s) (sym (before-off t x y r q er eq k s))
+  -- what is told once orders none, and neither does L3
+  pub pair-none : (a or c or g) ≡ false → ((e : ℕ) → L3 T x y e ≡ false) → (k : ℕ) → beforeNth T x y k ≡ false
+  unfolding decode
+  pair-none untold silent k =
+      ⊎-elim (λ s. sym (before-third T x y r q first-is second-is k h a c g s happens-is hosted-is (L3 T x y (r .start + k)) first second untold refl)
+      ∙ silent (r .start + k)) (λ s. before-off T x y r q first-is second-is k s) (which (not (eqb x y) and common r q (r .start + k)))
+
+  -- what is told once orders none, and the first is a write that L3 speaks of
+  pub pair-third : (a or c or g) ≡ false → publicWrite r q ≡ true → (k : ℕ) → carriedBytes T x y k ≡ beforeNth T x y k
+  unfolding carriedBytes sharedNth carriedNth decode _and_
+  pair-third untold write k = ⊎-elim there off (which (not (eqb x y) and common r q (r .start + k)))
+    where
+      third : anyBelow (T .rows) (carriedNth T x y k) ≡ L3 T x y (r .start + k)
+      third = L3-on T x y (T .row x .start + k) r q _ first-is second-is write refl ∙ ap (λ (z : Row). L3 T x y (z .start + k)) (sym first-is)
+
+      there : (not (eqb x y) and common r q (r .start + k)) ≡ true → carriedBytes T x y k ≡ beforeNth T x y k
+      there s = rw (← first-is, ← second-is, s) (before-third T x y r q first-is second-is k h a c g s happens-is hosted-is _ first second untold third)
+
+      off : (not (eqb x y) and common r q (r .start + k)) ≡ false → carriedBytes T x y k ≡ beforeNth T x y k
+      off s = rw (← first-is, ← second-is, s) (sym (before-off T x y r q first-is second-is k s))
 
 -- ---- laws: the bits of a pair
 
@@ -113,7 +126,7 @@ pub third-filled : (t : Table) (x y m : ℕ) (r q : Row) (w u : List ℕ) (at : 
     → Mask PAIR (λ k. sharedNth x y r q k and anyBelow (t .rows) (carriedNth t x y k)) m → u ≡ rowFill (bitOf m) w at PAIR
     → u ≡ rowFill (carriedBytes t x y) w at PAIR
 unfolding carriedBytes
-third-filled t x y m r q w u at er eq h e = put-filled w u at (mask-cong (carriedBytes t x y) (λ k l. rw (er, eq) refl) h) e
+third-filled t x y m r q w u at first-is second-is h e = put-filled w u at (mask-cong (carriedBytes t x y) (λ k l. rw (first-is, second-is) refl) h) e
 
 -- a row that is no access has no bits
 pub row-none : (t : Table) (x : ℕ) (r : Row) (u : Bool) → r ≡ t .row x → u ≡ access r → not u ≡ true → (y k : ℕ) → beforeNth t x y k ≡ false
@@ -157,9 +170,10 @@ grid-same p w at m j (suc k) l h = go (ℕ-discrete j (suc k)) (λ d. grid-same 
     go (no e) ih = sym (row-off (p k) (gridFill p w at m m k) (at + k * m) m (h k (omega arith) (omega arith))) ∙ ih (omega arith)
 
 -- the pairs that a walk over the rows that share a byte with x passes over
-pub row-pass : {t : Table} {n x j r : ℕ} {v w : List ℕ} (u : List ℕ) (at : ℕ) → Prepared t n w → x < n
-    → Next w (OVERLAP + x * GRID) (OVERLAP + x * GRID) j n r → v ≡ gridFill (beforeNth t x) u at PAIR PAIR j
-    → v ≡ gridFill (beforeNth t x) u at PAIR PAIR r
-row-pass {t} {n} {x} {j} {r} u at o l s e =
+pub row-pass : {t : Table} {n x j r row : ℕ} {v w : List ℕ} (u : List ℕ) (at : ℕ) → Ready t n w → x < n → row ≡ OVERLAP + x * GRID → Next w row row j n r
+    → v ≡ gridFill (beforeNth t x) u at PAIR PAIR j → v ≡ gridFill (beforeNth t x) u at PAIR PAIR r
+row-pass {t} {n} {x} {j} {r} {row} {v} {w} u at ready low row-is next e =
+    let s : Next w (OVERLAP + x * GRID) (OVERLAP + x * GRID) j n r = rw row-is at next in
     let g = s .high in
-    e ∙ sym (grid-same (beforeNth t x) u at PAIR j r (s .low) (λ y a b. pair-apart t x y (walked (o .overlapping) x y l (omega arith) (s .miss y a b))))
+    e ∙ sym (grid-same (beforeNth t x) u at PAIR j r (s .low)
+    (λ y a b. pair-apart t x y (walked (ready .overlapping) x y low (omega arith) (s .miss y a b))))

@@ -36,6 +36,12 @@ pub record Publics (b : List ℕ) (n : ℕ) (s : List ℕ) : Type 0 where
   pub room : PUBLIC-WORDS ≤ length s
   pub there : (a : ℕ) → a < n → meets (byteOf b a 5) 2 ≡ true → bit s (setAt (byteOf b a 1) * 64 + a) ≡ true
 
+-- no row before f is a first element of x; those from f on are in the sets
+pub record Firsts (b : List ℕ) (p : List (List ℕ)) (mode : Mode) (n x f : ℕ) (s : List ℕ) : Type 0 where
+  pub bound : f ≤ n
+  pub none : anyBelow f (publishes (decode b p mode n) x) ≡ false
+  pub publics : Publics b n s
+
 -- ---- laws: the sets are made
 
 pub publics-none : (b s : List ℕ) → PUBLIC-WORDS ≤ length s → Publics b 0 s

@@ -14,10 +14,10 @@ ghost use Rattle.model.specs.Table.{rowOf, decode};
 ghost use Rattle.bits.specs.Matrix.{rel};
 ghost use Rattle.area.specs.Regions.{HAPPENS, MOMENTS, PAIR};
 ghost use Rattle.location.specs.Chains.{availableAfter};
-ghost use Rattle.location.specs.Reach.{Reaching};
+ghost use Rattle.location.specs.Given.{Pair, Element};
 ghost use Rattle.quick_location.specs.Masks.{Mask, coveredNth};
 ghost use Rattle.quick_location.specs.Pairs.{sharedNth};
-ghost use Rattle.quick_location.specs.Publics.{PUBLIC-WORDS, setAt, Publics};
+ghost use Rattle.quick_location.specs.Publics.{PUBLIC-WORDS, setAt, Publics, Firsts};
 ghost use Rattle.quick_location.specs.Elements.{linkedWith, linkedFrom, metWith, metFrom, shownNth, carriedNth, publishes};
 use crate::masks;
 use location::chains;
@@ -45,9 +45,7 @@ fn linked_with(
     c: usize,
     w: &[u64],
 ) -> bool
-    requires { ⌜ (n ≤ ROWS) × (WORK ≤ length (now w)) × (x < n) × (y < n)
-        × (r ≡ rowOf (now rows) x) × (q ≡ rowOf (now rows) y) × Reaching (decode (now rows) p mode n) n (now w) × (a < n) × (v < n) × (c < n)
-        × (mode .chains ≡ true) ⌝ }
+    requires { ⌜ record { pair : Pair (now rows) p mode n x y r q (now w); row : a < n; last : v < n; next : c < n; chains : mode .chains ≡ true } ⌝ }
     ensures { λ d. ⌜ d ≡ linkedWith (decode (now (rows .entry)) p mode n) x y a v c ⌝ }
 {
     if !area::grid::get(w, area::REACH_OUT, a, c) {
@@ -71,11 +69,10 @@ fn some_linked(
     v: usize,
     w: &[u64],
 ) -> bool
-    requires { ⌜ (n ≤ ROWS) × (WORK ≤ length (now w)) × (x < n) × (y < n)
-        × (r ≡ rowOf (now rows) x) × (q ≡ rowOf (now rows) y) × Reaching (decode (now rows) p mode n) n (now w) × (a < n) × (v < n) × (mode .chains ≡ true) ⌝ }
+    requires { ⌜ record { pair : Pair (now rows) p mode n x y r q (now w); row : a < n; last : v < n; chains : mode .chains ≡ true } ⌝ }
     ensures { λ d. ⌜ d ≡ anyBelow n (linkedWith (decode (now (rows .entry)) p mode n) x y a v) ⌝ }
 {
-    let at = area::REACH_OUT + a * area::GRID;
+    let at = area::grid::at(area::REACH_OUT, a);
     let f = sets::first_both(w, at, at, area::GRID);
     if n <= f {
         return false;
@@ -103,9 +100,7 @@ fn is_linked(
     v: usize,
     w: &[u64],
 ) -> bool
-    requires { ⌜ (n ≤ ROWS) × (WORK ≤ length (now w)) × (x < n) × (y < n)
-        × (r ≡ rowOf (now rows) x) × (q ≡ rowOf (now rows) y) × Reaching (decode (now rows) p mode n) n (now w) × (a < n) × (v < n)
-        × (s ≡ rowOf (now rows) a) ⌝ }
+    requires { ⌜ record { element : Element (now rows) p mode n x y r q a s (now w); last : v < n } ⌝ }
     ensures { λ d. ⌜ d ≡ linkedFrom (decode (now (rows .entry)) p mode n) x y a v ⌝ }
 {
     if chains::starts_at(rows, p, mode, n, x, y, r, q, a, s, v, w) {
@@ -131,8 +126,7 @@ fn met_with(
     c: usize,
     w: &[u64],
 ) -> bool
-    requires { ⌜ (n ≤ ROWS) × (WORK ≤ length (now w)) × (x < n) × (y < n)
-        × (r ≡ rowOf (now rows) x) × (q ≡ rowOf (now rows) y) × Reaching (decode (now rows) p mode n) n (now w) × (a < n) × (c < n) × (mode .chains ≡ true) ⌝ }
+    requires { ⌜ record { pair : Pair (now rows) p mode n x y r q (now w); row : a < n; next : c < n; chains : mode .chains ≡ true } ⌝ }
     ensures { λ d. ⌜ d ≡ metWith (decode (now (rows .entry)) p mode n) x y a c ⌝ }
 {
     if !area::grid::get(w, area::REACH_OUT, a, c) {
@@ -154,11 +148,10 @@ fn some_met(
     a: usize,
     w: &[u64],
 ) -> bool
-    requires { ⌜ (n ≤ ROWS) × (WORK ≤ length (now w)) × (x < n) × (y < n)
-        × (r ≡ rowOf (now rows) x) × (q ≡ rowOf (now rows) y) × Reaching (decode (now rows) p mode n) n (now w) × (a < n) × (mode .chains ≡ true) ⌝ }
+    requires { ⌜ record { pair : Pair (now rows) p mode n x y r q (now w); row : a < n; chains : mode .chains ≡ true } ⌝ }
     ensures { λ d. ⌜ d ≡ anyBelow n (metWith (decode (now (rows .entry)) p mode n) x y a) ⌝ }
 {
-    let at = area::REACH_OUT + a * area::GRID;
+    let at = area::grid::at(area::REACH_OUT, a);
     let f = sets::first_both(w, at, at, area::GRID);
     if n <= f {
         return false;
@@ -185,8 +178,7 @@ fn is_met(
     s: Row,
     w: &[u64],
 ) -> bool
-    requires { ⌜ (n ≤ ROWS) × (WORK ≤ length (now w)) × (x < n) × (y < n)
-        × (r ≡ rowOf (now rows) x) × (q ≡ rowOf (now rows) y) × Reaching (decode (now rows) p mode n) n (now w) × (a < n) × (s ≡ rowOf (now rows) a) ⌝ }
+    requires { ⌜ Element (now rows) p mode n x y r q a s (now w) ⌝ }
     ensures { λ d. ⌜ d ≡ metFrom (decode (now (rows .entry)) p mode n) x y a ⌝ }
 {
     if chains::met_at(rows, p, mode, n, x, y, r, q, a, s, w) {
@@ -215,9 +207,7 @@ fn last_bytes(
     v: usize,
     w: &[u64],
 ) -> u64
-    requires { ⌜ (n ≤ ROWS) × (WORK ≤ length (now w)) × (x < n) × (y < n)
-        × (r ≡ rowOf (now rows) x) × (q ≡ rowOf (now rows) y) × Reaching (decode (now rows) p mode n) n (now w) × (a < n) × (v < n)
-        × (s ≡ rowOf (now rows) a) ⌝ }
+    requires { ⌜ record { element : Element (now rows) p mode n x y r q a s (now w); last : v < n } ⌝ }
     ensures { λ m. ⌜ Mask PAIR (λ k. shownNth (decode (now (rows .entry)) p mode n) x y a k v) m ⌝ }
 {
     if !chains::may_show(rows, mode, q, 3 * a + chains::available_part(s), v, w) {
@@ -243,7 +233,7 @@ fn lasts_from(mode: Mode, c: usize, w: &[u64]) -> usize
     if mode.chains {
         return 0;
     }
-    let at = area::HAPPENS + c * area::MOMENTS;
+    let at = area::moments::at(area::HAPPENS, c);
     sets::first_both(w, at, at, area::MOMENTS) / 3
 }
 
@@ -262,9 +252,7 @@ fn lasts_bytes(
     c: u64,
     w: &[u64],
 ) -> u64
-    requires { ⌜ (n ≤ ROWS) × (WORK ≤ length (now w)) × (x < n) × (y < n)
-        × (r ≡ rowOf (now rows) x) × (q ≡ rowOf (now rows) y) × Reaching (decode (now rows) p mode n) n (now w) × (a < n) × (s ≡ rowOf (now rows) a)
-        × Mask PAIR (coveredNth s r (r .start)) c ⌝ }
+    requires { ⌜ record { element : Element (now rows) p mode n x y r q a s (now w); covers : Mask PAIR (coveredNth s r (r .start)) c } ⌝ }
     ensures { λ m. ⌜ Mask PAIR (λ k. coveredNth s r (r .start) k and anyBelow n (shownNth (decode (now (rows .entry)) p mode n) x y a k)) m ⌝ }
 {
     let f = lasts_from(mode, 3 * a + chains::available_part(s), w);
@@ -295,7 +283,7 @@ fn set_at(agent: u8) -> usize
 
 // Each of n rows that has the flag that makes available joins the set of its agent.
 pub fn fill_publics(rows: &[u8], n: usize, publics: &mut [u64])
-    requires { ⌜ (n ≤ ROWS) × (PUBLIC-WORDS ≤ length (now publics)) ⌝ }
+    requires { ⌜ record { few : n ≤ ROWS; room : PUBLIC-WORDS ≤ length (now publics) } ⌝ }
     ensures { λ _. ⌜ Publics (now (rows .entry)) n (now (publics .exit)) ⌝ }
 {
     for a in 0..n {
@@ -313,7 +301,7 @@ pub fn fill_publics(rows: &[u8], n: usize, publics: &mut [u64])
 
 // Whether row a, which is s, is an availability operation of x's agent after x.
 fn is_first(rows: &[u8], n: usize, x: usize, r: Row, a: usize, s: Row) -> bool
-    requires { ⌜ (n ≤ ROWS) × (x < n) × (a < n) × (r ≡ rowOf (now rows) x) × (s ≡ rowOf (now rows) a) ⌝ }
+    requires { ⌜ record { few : n ≤ ROWS; first : x < n; row : a < n; first-is : r ≡ rowOf (now rows) x; row-is : s ≡ rowOf (now rows) a } ⌝ }
     ensures { λ d. ⌜ ((p : List (List ℕ)) (mode : Mode) → d ≡ availableAfter (decode (now (rows .entry)) p mode n) x a) ⌝ }
 {
     let k = chains::available_part(s);
@@ -323,7 +311,7 @@ fn is_first(rows: &[u8], n: usize, x: usize, r: Row, a: usize, s: Row) -> bool
 // A row before which there is no first element of x, n where x doesn't write. No row before x is one.
 // Ruled out: one that passes over x itself.
 pub fn first_from(rows: &[u8], n: usize, x: usize, r: Row, publics: &[u64]) -> usize
-    requires { ⌜ (n ≤ ROWS) × (x < n) × (r ≡ rowOf (now rows) x) × Publics (now rows) n (now publics) ⌝ }
+    requires { ⌜ record { few : n ≤ ROWS; first : x < n; first-is : r ≡ rowOf (now rows) x; publics : Publics (now rows) n (now publics) } ⌝ }
     ensures { λ f. ⌜ (f ≤ n) × ((p : List (List ℕ)) (mode : Mode) → anyBelow f (publishes (decode (now (rows .entry)) p mode n) x) ≡ false) ⌝ }
 {
     if !rows::kinds::writes(r) {
@@ -346,8 +334,7 @@ fn first_bytes(
     a: usize,
     w: &[u64],
 ) -> u64
-    requires { ⌜ (n ≤ ROWS) × (WORK ≤ length (now w)) × (x < n) × (y < n)
-        × (r ≡ rowOf (now rows) x) × (q ≡ rowOf (now rows) y) × Reaching (decode (now rows) p mode n) n (now w) × (a < n) ⌝ }
+    requires { ⌜ record { pair : Pair (now rows) p mode n x y r q (now w); row : a < n } ⌝ }
     ensures { λ m. ⌜ Mask PAIR (λ k. carriedNth (decode (now (rows .entry)) p mode n) x y k a) m ⌝ }
 {
     let s = bytes::read_row(rows, a as u16);
@@ -379,10 +366,12 @@ pub fn carried_bytes(
     publics: &[u64],
     w: &[u64],
 ) -> u64
-    requires { ⌜ (n ≤ ROWS) × (WORK ≤ length (now w)) × (x < n) × (y < n)
-        × (r ≡ rowOf (now rows) x) × (q ≡ rowOf (now rows) y) × Reaching (decode (now rows) p mode n) n (now w)
-        × (f ≤ n) × (anyBelow f (publishes (decode (now rows) p mode n) x) ≡ false) × (writes r ≡ true) × Mask PAIR (sharedNth x y r q) both
-        × Publics (now rows) n (now publics) ⌝ }
+    requires { ⌜ record {
+      pair : Pair (now rows) p mode n x y r q (now w);
+      firsts : Firsts (now rows) p mode n x f (now publics);
+      write : writes r ≡ true;
+      both-is : Mask PAIR (sharedNth x y r q) both;
+    } ⌝ }
     ensures { λ m. ⌜ Mask PAIR (λ k. sharedNth x y r q k and anyBelow n (carriedNth (decode (now (rows .entry)) p mode n) x y k)) m ⌝ }
 {
     let at = set_at(r.agent);

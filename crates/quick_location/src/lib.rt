@@ -1,21 +1,19 @@
 // Location order at each byte of each pair of rows, as bits: what doesn't hang on the byte is asked once a pair, and rows that are no
 // accesses or share no byte aren't asked at all.
 ghost use mathlib.Core.Path.{_≡_};
-ghost use mathlib.Core.Bool.{true, false};
+ghost use mathlib.Core.Bool.{true};
 ghost use Prim.Native.Nat.{_+_, _*_, _≤_, _<_};
 ghost use lib.ListN.{length};
 ghost use Rattle.bits.specs.Fill.{rowFill, gridFill};
-ghost use Rattle.finite.specs.Below.{anyBelow};
 ghost use Rattle.model.specs.Limits.{ROWS, WORK};
 ghost use Rattle.model.specs.Row.{writes};
 ghost use Rattle.model.specs.Table.{rowOf, decode};
 ghost use Rattle.model.specs.Edge.{beforeNth};
 ghost use Rattle.area.specs.Regions.{LOCATION, PAIR, PAIRS};
 ghost use Rattle.area.specs.State.{Ordered, MadeLocated};
-ghost use Rattle.quick_location.specs.Prepared.{Prepared, MadePrepared};
-ghost use Rattle.location.specs.Reach.{Reaching};
-ghost use Rattle.quick_location.specs.Elements.{publishes};
-ghost use Rattle.quick_location.specs.Publics.{Publics};
+ghost use Rattle.quick_location.specs.Prepared.{Ready, MadeReady};
+ghost use Rattle.location.specs.Given.{Given, GivenRow, GivenRows, Pair};
+ghost use Rattle.quick_location.specs.Publics.{Publics, Firsts};
 ghost use Rattle.quick_location.specs.Pairs.{sharedNth, carriedBytes};
 use location::happens;
 use model::Mode;
@@ -52,9 +50,7 @@ fn fill_third(
     publics: &[u64],
     w: &mut [u64],
 )
-    requires { ⌜ (n ≤ ROWS) × (WORK ≤ length (now w)) × (x < n) × (y < n) × (r ≡ rowOf (now rows) x) × (q ≡ rowOf (now rows) y)
-        × Reaching (decode (now rows) p mode n) n (now w) × (f ≤ n)
-        × (anyBelow f (publishes (decode (now rows) p mode n) x) ≡ false) × (writes r ≡ true) × Publics (now rows) n (now publics) ⌝ }
+    requires { ⌜ record { pair : Pair (now rows) p mode n x y r q (now w); firsts : Firsts (now rows) p mode n x f (now publics); write : writes r ≡ true } ⌝ }
     ensures { λ _. let t = decode (now (rows .entry)) p mode n in
         ⌜ now (w .exit) ≡ rowFill (carriedBytes t x y) (now (w .entry)) (LOCATION * 64 + x * PAIRS + y * PAIR) PAIR ⌝ }
 {
@@ -77,8 +73,11 @@ fn fill_pair(
     publics: &[u64],
     w: &mut [u64],
 )
-    requires { ⌜ (n ≤ ROWS) × (WORK ≤ length (now w)) × (x < n) × (y < n) × (r ≡ rowOf (now rows) x) × Prepared (decode (now rows) p mode n) n (now w)
-        × (f ≤ n) × (anyBelow f (publishes (decode (now rows) p mode n) x) ≡ false) × Publics (now rows) n (now publics) ⌝ }
+    requires { ⌜ record {
+      given : GivenRows Ready (now rows) p mode n x y (now w);
+      first-is : r ≡ rowOf (now rows) x;
+      firsts : Firsts (now rows) p mode n x f (now publics);
+    } ⌝ }
     ensures { λ _. let t = decode (now (rows .entry)) p mode n in
         ⌜ now (w .exit) ≡ rowFill (beforeNth t x y) (now (w .entry)) (LOCATION * 64 + x * PAIRS + y * PAIR) PAIR ⌝ }
 {
@@ -103,8 +102,7 @@ fn fill_pair(
 
 // The bits of row x's pairs: those of rows that share no byte with it stay off.
 fn fill_row(rows: &[u8], p: Places, mode: Mode, n: usize, x: usize, publics: &[u64], w: &mut [u64])
-    requires { ⌜ (n ≤ ROWS) × (WORK ≤ length (now w)) × (x < n) × Prepared (decode (now rows) p mode n) n (now w)
-        × Publics (now rows) n (now publics) ⌝ }
+    requires { ⌜ record { given : GivenRow Ready (now rows) p mode n x (now w); publics : Publics (now rows) n (now publics) } ⌝ }
     ensures { λ _. ⌜ now (w .exit) ≡ gridFill (beforeNth (decode (now (rows .entry)) p mode n) x) (now (w .entry)) (LOCATION * 64 + x * PAIRS) PAIR PAIR n ⌝ }
 {
     let r = bytes::read_row(rows, x as u16);
@@ -112,7 +110,7 @@ fn fill_row(rows: &[u8], p: Places, mode: Mode, n: usize, x: usize, publics: &[u
         return;
     }
     let f = elements::first_from(rows, n, x, r, publics);
-    let at = area::OVERLAP + x * area::GRID;
+    let at = area::grid::at(area::OVERLAP, x);
     let mut y = walk::next(w, at, at, 0, n);
     while y < n {
         fill_pair(rows, p, mode, n, x, r, f, y, publics, w);
@@ -122,8 +120,8 @@ fn fill_row(rows: &[u8], p: Places, mode: Mode, n: usize, x: usize, publics: &[u
 
 // What the bits of a pair are made from: L4 and L5, which rows share bytes, and the reach of chains.
 fn prepare(rows: &[u8], p: Places, mode: Mode, n: usize, w: &mut [u64])
-    requires { ⌜ (n ≤ ROWS) × (WORK ≤ length (now w)) × Ordered (decode (now rows) p mode n) n (now w) ⌝ }
-    ensures { λ _. ⌜ MadePrepared (decode (now (rows .entry)) p mode n) n (now (w .entry)) (now (w .exit)) ⌝ }
+    requires { ⌜ Given Ordered (now rows) p mode n (now w) ⌝ }
+    ensures { λ _. ⌜ MadeReady (decode (now (rows .entry)) p mode n) n (now (w .entry)) (now (w .exit)) ⌝ }
 {
     quick_hosts::make_hosted(rows, p, mode, n, w);
     overlap::fill_overlaps(rows, n, w);
@@ -132,7 +130,7 @@ fn prepare(rows: &[u8], p: Places, mode: Mode, n: usize, w: &mut [u64])
 
 // Location order of all pairs of n rows: what `location::fill_location` says.
 pub fn fill_location(rows: &[u8], p: Places, mode: Mode, n: usize, w: &mut [u64])
-    requires { ⌜ (n ≤ ROWS) × (WORK ≤ length (now w)) × Ordered (decode (now rows) p mode n) n (now w) ⌝ }
+    requires { ⌜ Given Ordered (now rows) p mode n (now w) ⌝ }
     ensures { λ _. ⌜ MadeLocated (decode (now (rows .entry)) p mode n) n (now (w .entry)) (now (w .exit)) ⌝ }
 {
     prepare(rows, p, mode, n, w);

@@ -18,7 +18,7 @@ const ALL: u64 = 65535;
 // The bytes from the lo-th on, before the hi-th.
 // Ruled out: one that has the hi-th byte too.
 fn span(lo: usize, hi: usize) -> u64
-    requires { ⌜ (lo ≤ PAIR) × (hi ≤ PAIR) ⌝ }
+    requires { ⌜ record { low : lo ≤ PAIR; high : hi ≤ PAIR } ⌝ }
     ensures { λ m. ⌜ Mask PAIR (spanned lo hi) m ⌝ }
 {
     (ALL << lo) & (ALL >> (area::PAIR - hi))

@@ -1,16 +1,14 @@
 // From where to where chains of more than one element lead, as bits, on a device that has them: what `location::reach` says, by
 // cheaper tests. A moment before nothing, as one that isn't there, costs a look at its bits; where scopes are shared is asked last.
 ghost use mathlib.Core.Path.{_≡_};
-ghost use Prim.Native.Nat.{_+_, _*_, _≤_, _<_};
-ghost use lib.ListN.{length};
-ghost use Rattle.finite.specs.Closure.{through};
+ghost use Prim.Native.Nat.{_+_, _*_, _<_};
 ghost use Rattle.bits.specs.Fill.{rowFill};
 ghost use Rattle.bits.specs.Stage.{Made};
-ghost use Rattle.model.specs.Limits.{ROWS, WORK};
 ghost use Rattle.model.specs.Table.{rowOf, decode};
 ghost use Rattle.model.specs.Location.{broadens, narrows};
 ghost use Rattle.area.specs.Regions.{REACH-OUT, REACH-OUT-END, REACH-IN, REACH-IN-END, GRID};
 ghost use Rattle.area.specs.State.{Ordered};
+ghost use Rattle.location.specs.Given.{Given, GivenRow, GivenRows};
 ghost use Rattle.location.specs.Reach.{MadeReach};
 use location::chains;
 use location::happens;
@@ -33,7 +31,7 @@ fn broadens_at(
     c: usize,
     w: &[u64],
 ) -> bool
-    requires { ⌜ (n ≤ ROWS) × (a < n) × (c < n) × (WORK ≤ length (now w)) × Ordered (decode (now rows) p mode n) n (now w) × (s ≡ rowOf (now rows) a) ⌝ }
+    requires { ⌜ record { given : GivenRows Ordered (now rows) p mode n a c (now w); first-is : s ≡ rowOf (now rows) a } ⌝ }
     ensures { λ d. ⌜ d ≡ broadens (decode (now (rows .entry)) p mode n) a c ⌝ }
 {
     if !location::reach::has_flag(rows, c, chains::AVAILABLE) {
@@ -59,7 +57,7 @@ fn narrows_at(
     v: usize,
     w: &[u64],
 ) -> bool
-    requires { ⌜ (n ≤ ROWS) × (j < n) × (v < n) × (WORK ≤ length (now w)) × Ordered (decode (now rows) p mode n) n (now w) × (u ≡ rowOf (now rows) j) ⌝ }
+    requires { ⌜ record { given : GivenRows Ordered (now rows) p mode n j v (now w); first-is : u ≡ rowOf (now rows) j } ⌝ }
     ensures { λ d. ⌜ d ≡ narrows (decode (now (rows .entry)) p mode n) j v ⌝ }
 {
     let s = bytes::read_row(rows, v as u16);
@@ -75,11 +73,11 @@ fn narrows_at(
 
 // The steps of availability chains from row a.
 fn fill_from(rows: &[u8], p: Places, mode: Mode, n: usize, a: usize, w: &mut [u64])
-    requires { ⌜ (n ≤ ROWS) × (WORK ≤ length (now w)) × (a < n) × Ordered (decode (now rows) p mode n) n (now w) ⌝ }
+    requires { ⌜ GivenRow Ordered (now rows) p mode n a (now w) ⌝ }
     ensures { λ _. ⌜ now (w .exit) ≡ rowFill (broadens (decode (now (rows .entry)) p mode n) a) (now (w .entry)) (REACH-OUT * 64 + a * (GRID * 64)) n ⌝ }
 {
     let s = bytes::read_row(rows, a as u16);
-    let at = area::HAPPENS + (3 * a + chains::available_part(s)) * area::MOMENTS;
+    let at = area::moments::at(area::HAPPENS, 3 * a + chains::available_part(s));
     if 64 * area::MOMENTS <= sets::first_both(w, at, at, area::MOMENTS) {
         return;
     }
@@ -91,11 +89,11 @@ fn fill_from(rows: &[u8], p: Places, mode: Mode, n: usize, a: usize, w: &mut [u6
 
 // The steps of visibility chains from row j.
 fn fill_to(rows: &[u8], p: Places, mode: Mode, n: usize, j: usize, w: &mut [u64])
-    requires { ⌜ (n ≤ ROWS) × (WORK ≤ length (now w)) × (j < n) × Ordered (decode (now rows) p mode n) n (now w) ⌝ }
+    requires { ⌜ GivenRow Ordered (now rows) p mode n j (now w) ⌝ }
     ensures { λ _. ⌜ now (w .exit) ≡ rowFill (narrows (decode (now (rows .entry)) p mode n) j) (now (w .entry)) (REACH-IN * 64 + j * (GRID * 64)) n ⌝ }
 {
     let u = bytes::read_row(rows, j as u16);
-    let at = area::HAPPENS + (3 * j + chains::visible_part(u)) * area::MOMENTS;
+    let at = area::moments::at(area::HAPPENS, 3 * j + chains::visible_part(u));
     if 64 * area::MOMENTS <= sets::first_both(w, at, at, area::MOMENTS) {
         return;
     }
@@ -108,7 +106,7 @@ fn fill_to(rows: &[u8], p: Places, mode: Mode, n: usize, j: usize, w: &mut [u64]
 // ---- all steps
 
 fn fill_out(rows: &[u8], p: Places, mode: Mode, n: usize, w: &mut [u64])
-    requires { ⌜ (n ≤ ROWS) × (WORK ≤ length (now w)) × Ordered (decode (now rows) p mode n) n (now w) ⌝ }
+    requires { ⌜ Given Ordered (now rows) p mode n (now w) ⌝ }
     ensures { λ _. ⌜ Made REACH-OUT REACH-OUT-END REACH-OUT GRID n (broadens (decode (now (rows .entry)) p mode n)) (now (w .entry)) (now (w .exit)) ⌝ }
 {
     bits::clear(w, area::REACH_OUT, area::REACH_OUT_END);
@@ -118,7 +116,7 @@ fn fill_out(rows: &[u8], p: Places, mode: Mode, n: usize, w: &mut [u64])
 }
 
 fn fill_in(rows: &[u8], p: Places, mode: Mode, n: usize, w: &mut [u64])
-    requires { ⌜ (n ≤ ROWS) × (WORK ≤ length (now w)) × Ordered (decode (now rows) p mode n) n (now w) ⌝ }
+    requires { ⌜ Given Ordered (now rows) p mode n (now w) ⌝ }
     ensures { λ _. ⌜ Made REACH-IN REACH-IN-END REACH-IN GRID n (narrows (decode (now (rows .entry)) p mode n)) (now (w .entry)) (now (w .exit)) ⌝ }
 {
     bits::clear(w, area::REACH_IN, area::REACH_IN_END);
@@ -129,34 +127,16 @@ fn fill_in(rows: &[u8], p: Places, mode: Mode, n: usize, w: &mut [u64])
 
 // ---- chains of steps
 
-// From the first element of an availability chain to its last.
-fn reach_out(rows: &[u8], p: Places, mode: Mode, n: usize, w: &mut [u64])
-    requires { ⌜ (n ≤ ROWS) × (WORK ≤ length (now w)) × Ordered (decode (now rows) p mode n) n (now w) ⌝ }
-    ensures { λ _. let t = decode (now (rows .entry)) p mode n in
-        ⌜ Made REACH-OUT REACH-OUT-END REACH-OUT GRID n (through (broadens t) n) (now (w .entry)) (now (w .exit)) ⌝ }
-{
-    fill_out(rows, p, mode, n, w);
-    bits::close(w, area::REACH_OUT, n, area::GRID);
-}
-
-// From the first element of a visibility chain to its last.
-fn reach_in(rows: &[u8], p: Places, mode: Mode, n: usize, w: &mut [u64])
-    requires { ⌜ (n ≤ ROWS) × (WORK ≤ length (now w)) × Ordered (decode (now rows) p mode n) n (now w) ⌝ }
-    ensures { λ _. let t = decode (now (rows .entry)) p mode n in
-        ⌜ Made REACH-IN REACH-IN-END REACH-IN GRID n (through (narrows t) n) (now (w .entry)) (now (w .exit)) ⌝ }
-{
-    fill_in(rows, p, mode, n, w);
-    bits::close(w, area::REACH_IN, n, area::GRID);
-}
-
-// Both reaches: what `location::reach::make_reach` says.
+// From the first element of a chain to its last: what `location::reach::make_reach` says.
 pub fn make_reach(rows: &[u8], p: Places, mode: Mode, n: usize, w: &mut [u64])
-    requires { ⌜ (n ≤ ROWS) × (WORK ≤ length (now w)) × Ordered (decode (now rows) p mode n) n (now w) ⌝ }
+    requires { ⌜ Given Ordered (now rows) p mode n (now w) ⌝ }
     ensures { λ _. ⌜ MadeReach (decode (now (rows .entry)) p mode n) n (now (w .entry)) (now (w .exit)) ⌝ }
 {
     if !mode.chains {
         return;
     }
-    reach_out(rows, p, mode, n, w);
-    reach_in(rows, p, mode, n, w);
+    fill_out(rows, p, mode, n, w);
+    bits::close(w, area::REACH_OUT, n, area::GRID);
+    fill_in(rows, p, mode, n, w);
+    bits::close(w, area::REACH_IN, n, area::GRID);
 }

@@ -1,5 +1,5 @@
+use Rattle.location.specs.Given.{given-kept}
 use Rattle.location.specs.Order.{Prepared, prepared-kept, made-prepared, within-grid, made-placed}
-use Rattle.area.specs.State.{ordered-kept}
 use Rattle.area.specs.Regions.{LOCATION, LOCATION-END, PAIR, PAIRS}
 use Rattle.model.specs.Edge.{beforeNth}
 use Rattle.model.specs.Table.{decode}
@@ -22,9 +22,7 @@ abbrev μ-loop : tie.MeasureT-loop
 
 make-reach-requires : tie.Need-make-reach-requires Inv-loop μ-loop
 make-reach-requires c κs =
-    let s = c .before .before .before .before .before .before .before in
-    let f = c .before .before .before .make-hosted .ensures .frame in
-    (s .pre .0, omega (arith, f .len, s .pre .1), ordered-kept (omega arith) f (s .pre .2))
+    given-kept (omega arith) (c .before .before .before .make-hosted .ensures .frame) (c .before .before .before .before .before .before .before .pre)
 
 loop-holds : tie.Need-loop-holds Inv-loop μ-loop
 loop-holds c = (
@@ -55,7 +53,7 @@ returns c =
     let e : c .before .loop .x ≡ s .args .n = omega arith in
     made-placed h r
     (made-cube LOCATION LOCATION-END PAIRS PAIR _ _ _ _ _ (omega arith) (omega arith) (omega arith)
-    (omega (arith, h .frame .len, r .frame .len, s .pre .1)) (c .before .before .before .before .clear .ensures)
+    (omega (arith, h .frame .len, r .frame .len, s .pre .room)) (c .before .before .before .before .clear .ensures)
     (rw e at (c .before .loop .inv .3)))
 
 pub fill-location-spec : {M : Type 1} → statement M

@@ -29,7 +29,10 @@ returns c =
     (sym (c .before .may-share .ensures) ∙ not-true _ (c .if1 .taken)))
 
 loop-holds : tie.Need-loop-holds Inv-loop μ-loop
-loop-holds c = (search needs, refl, c .before .before .before .before .before .before .pre .4, rowFill-none _ _ _)
+loop-holds c = (search needs, refl, c .before .before .before .before .before .before .pre .holds, rowFill-none _ _ _)
+
+before-at-requires : tie.Need-before-at-requires Inv-loop μ-loop
+before-at-requires c κs = record { given = search needs; byte = search needs; first-is = search needs; second-is = search needs }
 
 loop-again : tie.Need-loop-again Inv-loop μ-loop
 loop-again c =
@@ -51,5 +54,5 @@ pub fill-pair-spec : {M : Type 1} → statement M
 fill-pair-spec =
     tie.close
     (tie.spec Inv-loop μ-loop (λ c. search needs) (λ c κs. search needs) (λ c. search needs) (λ c κs. search needs) (λ c κs. search needs)
-    returns loop-holds (λ c κs. search needs) (λ c κs. search needs) (λ c. search needs) (λ c. search needs) loop-again (λ c. search needs)
+    returns loop-holds before-at-requires (λ c κs. search needs) (λ c. search needs) (λ c. search needs) loop-again (λ c. search needs)
     returns-2)

@@ -28,7 +28,12 @@ returns c = idle-row _ _ _ (c .before .before .before .read-row .ensures) _ _ _ 
     (c .before .writes .ensures) (c .if1 .taken)
 
 loop-holds : tie.Need-loop-holds Inv-loop μ-loop
-loop-holds c = (search needs, refl, c .before .before .before .read-row .ensures, c .before .before .before .before .before .before .pre .3, rowFill-none _ _ _)
+loop-holds c =
+    let pre = c .before .before .before .before .before .before .pre in
+    (search needs, refl, c .before .before .before .read-row .ensures, pre .holds, rowFill-none _ _ _)
+
+hosted-with-requires : tie.Need-hosted-with-requires Inv-loop μ-loop
+hosted-with-requires c κs = record { given = search needs; first-is = search needs }
 
 loop-again : tie.Need-loop-again Inv-loop μ-loop
 loop-again c =
@@ -50,4 +55,4 @@ pub hosted-row-spec : {M : Type 1} → statement M
 hosted-row-spec =
     tie.close
     (tie.spec Inv-loop μ-loop (λ c. search needs) (λ c κs. search needs) (λ c κs. search needs) (λ c κs. search needs) returns loop-holds
-    (λ c κs. search needs) (λ c κs. search needs) (λ c. search needs) (λ c. search needs) loop-again (λ c. search needs) returns-2)
+    hosted-with-requires (λ c κs. search needs) (λ c. search needs) (λ c. search needs) loop-again (λ c. search needs) returns-2)

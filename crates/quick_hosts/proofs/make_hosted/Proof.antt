@@ -1,44 +1,37 @@
-use Rattle.quick_hosts.specs.Met.{meeting-met, made-all}
-use Rattle.location.specs.Domains.{sources-made, system-is, made-unhosted}
-use Rattle.area.specs.State.{ordered-kept}
-use Rattle.bits.specs.Stage.{holds-kept}
-use native.Mathlib.Omega.{arith}
 use mathlib.Core.Path.{sym, _∙_}
+use native.Mathlib.Omega.{arith}
+use Rattle.location.specs.Given.{given-kept}
+use Rattle.location.specs.Domains.{given-meeting, given-sources, made-unhosted, made-hosted}
 use borrow.Author.Needs.{needs}
 use Rattle.quick_hosts.proofs.make_hosted.Statement.{statement}
 use Rattle.quick_hosts.proofs.make_hosted.Tie as tie
 
 returns : tie.Need-returns
 returns c =
-    let s = c .before .before .before .before .before .before .before .before in
+    let pre = c .before .before .before .before .before .before .before .before .pre in
     made-unhosted _ _ _ _ (sym (c .before .before .before .before .before .is-unhosted .ensures)
-    ∙ c .before .before .before .before .if1 .taken) _ _ (s .pre .0) (s .pre .1) (c .before .before .clear .ensures)
+    ∙ c .before .before .before .before .if1 .taken) pre (c .before .before .clear .ensures)
 
 fill-met-requires : tie.Need-fill-met-requires
 fill-met-requires c κs =
-    let s = c .before .before .before .before .before .before .before .before .before in
-    let f = c .before .before .before .make-system .ensures .frame in
-    (s .pre .0, omega (arith, f .len, s .pre .1), ordered-kept (omega arith) f (s .pre .2))
+    given-kept (omega arith) (c .before .before .before .make-system .ensures .frame)
+    (c .before .before .before .before .before .before .before .before .before .pre)
 
 fill-reached-requires : tie.Need-fill-reached-requires
 fill-reached-requires c κs =
-    let s = c .before .before .before .before .before .before .before .before .before .before .before .before .before in
-    let f = c .before .before .before .before .before .before .before .make-system .ensures .frame in
-    let m = c .before .before .before .fill-met .ensures in
-    (s .pre .0, omega (arith, f .len, m .frame .len, s .pre .1), meeting-met (ordered-kept (omega arith) f (s .pre .2)) m)
+    given-meeting (c .before .before .before .before .before .before .before .before .before .before .before .before .before .pre)
+    (c .before .before .before .before .before .before .before .make-system .ensures .frame) (c .before .before .before .fill-met .ensures)
 
 fill-hosted-requires : tie.Need-fill-hosted-requires
 fill-hosted-requires c κs =
-    let s = c .before .before .before .before .before .before .before .before .before .before .before .before .before .before .before .before .before in
-    let h = c .before .before .before .before .before .before .before .before .before .before .before .make-system .ensures in
-    let f = c .before .before .before .before .before .before .before .fill-met .ensures .frame in
-    let m = c .before .before .before .fill-reached .ensures in
-    let o = ordered-kept (omega arith) f (ordered-kept (omega arith) (h .frame) (s .pre .2)) in
-    (s .pre .0, omega (arith, h .frame .len, f .len, m .frame .len, s .pre .1), sources-made _ _ o (holds-kept (λ k. omega arith) f (system-is _ _ _ _ h)) m)
+    given-sources
+    (c .before .before .before .before .before .before .before .before .before .before .before .before .before .before .before .before .before .pre)
+    (c .before .before .before .before .before .before .before .before .before .before .before .make-system .ensures)
+    (c .before .before .before .before .before .before .before .fill-met .ensures .frame) (c .before .before .before .fill-reached .ensures)
 
 returns-2 : tie.Need-returns-2
-returns-2 c = made-all (c .before .before .before .before .before .before .before .before .before .before .before .before .before
-    .before .make-system .ensures .frame) (c .before .before .before .before .before .before .before .before .before
+returns-2 c = made-hosted (omega arith) (c .before .before .before .before .before .before .before .before .before .before .before .before
+    .before .before .make-system .ensures .frame) (c .before .before .before .before .before .before .before .before .before
     .before .fill-met .ensures .frame) (c .before .before .before .before .before .before .fill-reached .ensures .frame)
     (c .before .before .fill-hosted .ensures)
 

@@ -1,5 +1,5 @@
 use Rattle.location.specs.Order.{within-grid}
-use Rattle.quick_location.specs.Prepared.{Prepared, prepared-kept, made-located}
+use Rattle.quick_location.specs.Prepared.{Ready, ready-kept, made-located}
 use Rattle.area.specs.Regions.{LOCATION, LOCATION-END, PAIR, PAIRS}
 use Rattle.model.specs.Edge.{beforeNth}
 use Rattle.model.specs.Table.{decode}
@@ -16,7 +16,7 @@ use Rattle.quick_location.proofs.fill_location.Tie as tie
 
 abbrev Inv-loop : tie.InvT-loop
 Inv-loop rows p mode n w₀ publics x₀ w x =
-    (x ≤ n) × (length w ≡ length w₀) × Prepared (decode rows p mode n) n w
+    (x ≤ n) × (length w ≡ length w₀) × Ready (decode rows p mode n) n w
     × (w ≡ cubeFill (beforeNth (decode rows p mode n)) w₀ (LOCATION * 64) PAIRS PAIR n x) × Publics rows n publics
 
 abbrev μ-loop : tie.MeasureT-loop
@@ -26,11 +26,14 @@ loop-holds : tie.Need-loop-holds Inv-loop μ-loop
 loop-holds c = (
   search needs,
   refl,
-  prepared-kept (within-cleared LOCATION LOCATION-END (omega arith) (c .before .before .before .before .before .clear .ensures))
-      (c .before .before .before .before .before .before .before .before .before .prepare .ensures .prepared),
+  ready-kept (within-cleared LOCATION LOCATION-END (omega arith) (c .before .before .before .before .before .clear .ensures))
+      (c .before .before .before .before .before .before .before .before .before .prepare .ensures .ready),
   cubeFill-none _ _ _ _ _ _,
   c .before .fill-publics .ensures,
 )
+
+fill-row-requires : tie.Need-fill-row-requires Inv-loop μ-loop
+fill-row-requires c κs = record { given = search needs; publics = search needs }
 
 loop-again : tie.Need-loop-again Inv-loop μ-loop
 loop-again c =
@@ -39,7 +42,7 @@ loop-again c =
     let e = cubeFill-more _ _ _ _ _ _ _ _ _ (inv .3) (row .ensures) in (
       search needs,
       ap length e ∙ length-cubeFill _ _ _ _ _ _ _,
-      prepared-kept (within-grid LOCATION LOCATION-END _ _ _ _ (omega arith) (omega arith) (row .ensures)) (inv .2),
+      ready-kept (within-grid LOCATION LOCATION-END _ _ _ _ (omega arith) (omega arith) (row .ensures)) (inv .2),
       e,
       inv .4,
     )
@@ -51,11 +54,11 @@ returns c =
     let e : c .before .loop .x ≡ s .args .n = omega arith in
     made-located h
     (made-cube LOCATION LOCATION-END PAIRS PAIR _ _ _ _ _ (omega arith) (omega arith) (omega arith)
-    (omega (arith, h .frame .len, s .pre .1)) (c .before .before .before .before .before .before .before .clear .ensures)
+    (omega (arith, h .frame .len, s .pre .room)) (c .before .before .before .before .before .before .before .clear .ensures)
     (rw e at (c .before .loop .inv .3)))
 
 pub fill-location-spec : {M : Type 1} → statement M
 fill-location-spec =
     tie.close
     (tie.spec Inv-loop μ-loop (λ c κs. search needs) (λ c κs. search needs) (λ c. search needs) (λ c κs. search needs) loop-holds
-    (λ c. search needs) (λ c κs. search needs) (λ c. search needs) (λ c. search needs) loop-again (λ c. search needs) returns)
+    (λ c. search needs) fill-row-requires (λ c. search needs) (λ c. search needs) loop-again (λ c. search needs) returns)

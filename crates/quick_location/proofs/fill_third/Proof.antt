@@ -7,8 +7,9 @@ use Rattle.quick_location.proofs.fill_third.Tie as tie
 returns : tie.Need-returns
 unfolding decode
 returns c =
-    let s = c .before .before .before .before .before .before .before .before .before .before in
-    third-filled _ _ _ _ _ _ _ _ _ (s .pre .4) (s .pre .5) (c .before .before .before .before .carried-bytes .ensures) (c .before .before .put-bytes .ensures)
+    let pre = c .before .before .before .before .before .before .before .before .before .before .pre in
+    third-filled _ _ _ _ _ _ _ _ _ (pre .pair .first-is) (pre .pair .second-is) (c .before .before .before .before .carried-bytes .ensures)
+    (c .before .before .put-bytes .ensures)
 
 pub fill-third-spec : {M : Type 1} → statement M
 fill-third-spec =

@@ -1,6 +1,6 @@
-use Rattle.quick_location.specs.Prepared.{made-prepared}
+use Rattle.quick_location.specs.Prepared.{made-ready}
 use Rattle.overlap.specs.Sharing.{table-sharing}
-use Rattle.area.specs.State.{ordered-kept}
+use Rattle.location.specs.Given.{given-kept}
 use native.Mathlib.Omega.{arith}
 use borrow.Author.Needs.{needs}
 use Rattle.quick_location.proofs.prepare.Statement.{statement}
@@ -8,15 +8,14 @@ use Rattle.quick_location.proofs.prepare.Tie as tie
 
 make-reach-requires : tie.Need-make-reach-requires
 make-reach-requires c κs =
-    let s = c .before .before .before .before .before .before .before .before .before .before .before in
-    let h = c .before .before .before .before .before .before .before .make-hosted .ensures .frame in
-    let o = c .before .before .before .fill-overlaps .ensures .frame in
-    (s .pre .0, omega (arith, h .len, o .len, s .pre .1), ordered-kept (omega arith) o (ordered-kept (omega arith) h (s .pre .2)))
+    given-kept (omega arith) (c .before .before .before .fill-overlaps .ensures .frame)
+    (given-kept (omega arith) (c .before .before .before .before .before .before .before .make-hosted .ensures .frame)
+    (c .before .before .before .before .before .before .before .before .before .before .before .pre))
 
 returns : tie.Need-returns
 returns c =
     let s = c .before .before .before .before .before .before .before .before .before .before .before .before .before .before in
-    made-prepared (c .before .before .before .before .before .before .before .before .before .before .make-hosted .ensures)
+    made-ready (c .before .before .before .before .before .before .before .before .before .before .make-hosted .ensures)
     (table-sharing (s .args .rows .now) (s .args .p) (s .args .mode)
     (c .before .before .before .before .before .before .fill-overlaps .ensures)) (c .before .before .make-reach .ensures)
 

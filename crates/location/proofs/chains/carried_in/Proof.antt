@@ -7,23 +7,18 @@ use Rattle.location.proofs.chains.carried_in.Statement.{statement}
 use Rattle.location.proofs.chains.carried_in.Tie as tie
 
 returns : tie.Need-returns
-returns c =
-    let s = c .before .before .before .before in
-    sym (carried-off _ _ _ _ _ _ _ _ _ (s .pre .4) (sym (c .before .may-avail .ensures) ∙ not-true _ (c .if1 .taken)))
+returns c = sym (carried-off (c .before .before .before .before .pre .pair) _ _ (sym (c .before .may-avail .ensures) ∙ not-true _ (c .if1 .taken)))
 
 returns-2 : tie.Need-returns-2
 returns-2 c =
-    let s = c .before .before .before .before .before .before .before .before in
-    let k = c .before .before .available-part .ensures in
-    sym (carried-row _ _ _ _ _ _ _ _ _ _ _ _ (s .pre .4) (c .before .before .before .read-row .ensures) (k .0) (k .1)
-    (c .before .available-at .ensures) ∙ and-false-left _ _ (not-true _ (c .if2 .taken)))
+    sym (carried-row (c .before .before .before .before .before .before .before .before .pre .pair) _ _ (c .before .before .before .read-row .ensures)
+    (c .before .before .available-part .ensures) (c .before .available-at .ensures) ∙ and-false-left _ _ (not-true _ (c .if2 .taken)))
 
 returns-3 : tie.Need-returns-3
 returns-3 c =
-    let s = c .before .before .before .before .before .before .before .before .before in
-    let k = c .before .before .before .available-part .ensures in
-    c .ends-from .ensures ∙ sym (carried-row _ _ _ _ _ _ _ _ _ _ _ _ (s .pre .4) (c .before .before .before .before .read-row .ensures)
-    (k .0) (k .1) (c .before .before .available-at .ensures) ∙ and-on _ _ (not-false _ (c .before .if2 .left)))
+    c .ends-from .ensures ∙ sym (carried-row (c .before .before .before .before .before .before .before .before .before .pre .pair) _ _
+    (c .before .before .before .before .read-row .ensures) (c .before .before .before .available-part .ensures)
+    (c .before .before .available-at .ensures) ∙ and-on _ _ (not-false _ (c .before .if2 .left)))
 
 pub carried-in-spec : {M : Type 1} → statement M
 carried-in-spec =

@@ -8,14 +8,14 @@ use Rattle.location.proofs.chains.ends_at.Tie as tie
 returns : tie.Need-returns
 unfolding decode
 returns c =
-    let s = c .before .before .before .before .before in
-    ends-reader _ _ _ _ _ _ _ (s .pre .5) (sym (c .before .before .reads .ensures) ∙ c .before .if1 .taken) (c .some-shown .ensures)
+    let pair = c .before .before .before .before .before .pre .pair in
+    ends-reader _ _ _ _ _ _ _ (pair .second-is) (sym (c .before .before .reads .ensures) ∙ c .before .if1 .taken) (c .some-shown .ensures)
 
 returns-2 : tie.Need-returns-2
 unfolding decode
 returns-2 c =
-    let s = c .before .before .before .before .before in
-    ends-other _ _ _ _ _ _ _ (s .pre .5) (sym (c .before .before .reads .ensures) ∙ c .before .if1 .left) (c .met-at .ensures)
+    let pair = c .before .before .before .before .before .pre .pair in
+    ends-other _ _ _ _ _ _ _ (pair .second-is) (sym (c .before .before .reads .ensures) ∙ c .before .if1 .left) (c .met-at .ensures)
 
 pub ends-at-spec : {M : Type 1} → statement M
 ends-at-spec =

@@ -1,9 +1,6 @@
 use mathlib.Core.Path.{sym, _∙_}
-use native.Mathlib.Omega.{arith}
 use borrow.Author.Tests.{not-true, not-false}
 use Rattle.finite.specs.Logic.{and-false-left, and-on}
-use Rattle.bits.specs.Stage.{holds-bit}
-use Rattle.location.specs.Reach.{reach-out}
 use Rattle.location.specs.Chains.{ends-row}
 use borrow.Author.Needs.{needs}
 use Rattle.location.proofs.chains.ends_with.Statement.{statement}
@@ -11,15 +8,14 @@ use Rattle.location.proofs.chains.ends_with.Tie as tie
 
 returns : tie.Need-returns
 returns c =
-    let s = c .before .before .before .before in
-    let h = c .before .get .ensures ∙ holds-bit (reach-out _ _ _ _ _ (s .pre .6) (s .pre .9)) _ _ _ (omega arith) (s .pre .7) (s .pre .8) in
-    sym (ends-row _ _ _ _ _ _ _ _ _ _ h ∙ and-false-left _ _ (not-true _ (c .if1 .taken)))
+    let pre = c .before .before .before .before .pre in
+    sym (ends-row (pre .pair) _ _ _ (pre .chains) (pre .row) (pre .next) (c .before .get .ensures) ∙ and-false-left _ _ (not-true _ (c .if1 .taken)))
 
 returns-2 : tie.Need-returns-2
 returns-2 c =
-    let s = c .before .before .before .before .before .before in
-    let h = c .before .before .before .get .ensures ∙ holds-bit (reach-out _ _ _ _ _ (s .pre .6) (s .pre .9)) _ _ _ (omega arith) (s .pre .7) (s .pre .8) in
-    c .ends-at .ensures ∙ sym (ends-row _ _ _ _ _ _ _ _ _ _ h ∙ and-on _ _ (not-false _ (c .before .before .if1 .left)))
+    let pre = c .before .before .before .before .before .before .pre in
+    c .ends-at .ensures ∙ sym (ends-row (pre .pair) _ _ _ (pre .chains) (pre .row) (pre .next) (c .before .before .before .get .ensures)
+    ∙ and-on _ _ (not-false _ (c .before .before .if1 .left)))
 
 pub ends-with-spec : {M : Type 1} → statement M
 ends-with-spec =

@@ -9,14 +9,15 @@ use Rattle.location.proofs.chains.l3.Tie as tie
 returns : tie.Need-returns
 unfolding decode
 returns c =
-    let s = c .before .before .before .before in
-    sym (L3-off _ _ _ _ _ _ (s .pre .4) (s .pre .5) (sym (c .before .public-write .ensures) ∙ not-true _ (c .if1 .taken)))
+    let pair = c .before .before .before .before .pre in
+    sym (L3-off _ _ _ _ _ _ (pair .first-is) (pair .second-is) (sym (c .before .public-write .ensures) ∙ not-true _ (c .if1 .taken)))
 
 returns-2 : tie.Need-returns-2
 unfolding decode
 returns-2 c =
-    let s = c .before .before .before .before .before in
-    L3-on _ _ _ _ _ _ _ (s .pre .4) (s .pre .5) (sym (c .before .before .public-write .ensures) ∙ not-false _ (c .before .if1 .left)) (c .some-carried .ensures)
+    let pair = c .before .before .before .before .before .pre in
+    L3-on _ _ _ _ _ _ _ (pair .first-is) (pair .second-is) (sym (c .before .before .public-write .ensures) ∙ not-false _ (c .before .if1 .left))
+    (c .some-carried .ensures)
 
 pub l3-spec : {M : Type 1} → statement M
 l3-spec = tie.close (tie.spec (λ c κs. search needs) returns (λ c κs. search needs) returns-2)

@@ -1,5 +1,4 @@
 use mathlib.Core.Path.{refl, sym, _∙_}
-use native.Mathlib.Omega.{arith}
 use borrow.Author.Tests.{not-true, not-false}
 use Rattle.finite.specs.Logic.{and-false-left, and-on}
 use Rattle.location.specs.Chains.{met-row}
@@ -9,18 +8,14 @@ use Rattle.location.proofs.chains.met_at.Tie as tie
 
 returns : tie.Need-returns
 returns c =
-    let s = c .before .before .before .before .before in
-    let k = c .before .before .available-part .ensures in
-    let h = c .before .happens-bit .ensures ∙ s .pre .6 .ordered .happening .cell _ _ (omega (arith, k .1)) (omega arith) in
-    sym (sym (met-row _ _ _ _ _ _ _ _ _ _ _ _ _ _ (s .pre .4) (s .pre .5) (s .pre .8) (k .0) h refl refl) ∙ and-false-left _ _ (not-true _ (c .if1 .taken)))
+    sym (met-row (c .before .before .before .before .before .pre) (c .before .before .available-part .ensures) (c .before .happens-bit .ensures) refl refl
+    ∙ and-false-left _ _ (not-true _ (c .if1 .taken)))
 
 returns-2 : tie.Need-returns-2
 returns-2 c =
-    let s = c .before .before .before .before .before .before .before in
-    let k = c .before .before .before .before .available-part .ensures in
-    let h = c .before .before .before .happens-bit .ensures ∙ s .pre .6 .ordered .happening .cell _ _ (omega (arith, k .1)) (omega arith) in
-    sym (sym (met-row _ _ _ _ _ _ _ _ _ _ _ _ _ _ (s .pre .4) (s .pre .5) (s .pre .8) (k .0) h (c .before .widest .ensures)
-    (c .meet-in .ensures)) ∙ and-on _ _ (not-false _ (c .before .before .if1 .left)))
+    sym (met-row (c .before .before .before .before .before .before .before .pre) (c .before .before .before .before .available-part .ensures)
+    (c .before .before .before .happens-bit .ensures) (c .before .widest .ensures) (c .meet-in .ensures)
+    ∙ and-on _ _ (not-false _ (c .before .before .if1 .left)))
 
 pub met-at-spec : {M : Type 1} → statement M
 met-at-spec =

@@ -1,5 +1,4 @@
 use mathlib.Core.Path.{refl, sym, _∙_}
-use native.Mathlib.Omega.{arith}
 use borrow.Author.Tests.{not-true, not-false}
 use Rattle.finite.specs.Logic.{and-false-left, and-on}
 use Rattle.location.specs.Chains.{seen-row}
@@ -9,22 +8,17 @@ use Rattle.location.proofs.chains.seen_at.Tie as tie
 
 returns : tie.Need-returns
 returns c =
-    let s = c .before .before .before .before .before .before .before in
-    let k = c .before .before .before .available-part .ensures in
-    let m = c .before .before .visible-part .ensures in
-    let h = c .before .happens-bit .ensures ∙ s .pre .6 .ordered .happening .cell _ _ (omega (arith, k .1)) (omega (arith, m .1)) in
-    sym (seen-row _ _ _ _ _ _ _ _ _ _ _ _ _ _ _ _ _ (s .pre .4) (s .pre .5) (s .pre .9)
-    (c .before .before .before .before .read-row .ensures) (k .0) (m .0) h refl refl ∙ and-false-left _ _ (not-true _ (c .if1 .taken)))
+    let pre = c .before .before .before .before .before .before .before .pre in
+    sym (seen-row (pre .element) (c .before .before .before .available-part .ensures) _ (pre .last) (c .before .before .before .before .read-row .ensures)
+    (c .before .before .visible-part .ensures) (c .before .happens-bit .ensures) refl refl ∙ and-false-left _ _ (not-true _ (c .if1 .taken)))
 
 returns-2 : tie.Need-returns-2
 returns-2 c =
-    let s = c .before .before .before .before .before .before .before .before .before in
-    let k = c .before .before .before .before .before .available-part .ensures in
-    let m = c .before .before .before .before .visible-part .ensures in
-    let h = c .before .before .before .happens-bit .ensures ∙ s .pre .6 .ordered .happening .cell _ _ (omega (arith, k .1)) (omega (arith, m .1)) in
-    sym (seen-row _ _ _ _ _ _ _ _ _ _ _ _ _ _ _ _ _ (s .pre .4) (s .pre .5) (s .pre .9)
-    (c .before .before .before .before .before .before .read-row .ensures) (k .0) (m .0) h (c .before .widest .ensures)
-    (c .meet-in .ensures) ∙ and-on _ _ (not-false _ (c .before .before .if1 .left)))
+    let pre = c .before .before .before .before .before .before .before .before .before .pre in
+    sym (seen-row (pre .element) (c .before .before .before .before .before .available-part .ensures) _ (pre .last)
+    (c .before .before .before .before .before .before .read-row .ensures) (c .before .before .before .before .visible-part .ensures)
+    (c .before .before .before .happens-bit .ensures) (c .before .widest .ensures) (c .meet-in .ensures)
+    ∙ and-on _ _ (not-false _ (c .before .before .if1 .left)))
 
 pub seen-at-spec : {M : Type 1} → statement M
 seen-at-spec =

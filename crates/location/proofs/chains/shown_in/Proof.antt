@@ -1,35 +1,28 @@
 use mathlib.Core.Path.{sym, _∙_}
-use native.Mathlib.Omega.{arith}
 use borrow.Author.Tests.{not-true, not-false}
 use Rattle.finite.specs.Logic.{and-false-left, and-on}
-use Rattle.location.specs.Chains.{shown-out, shown-row}
+use Rattle.location.specs.Chains.{shown-skip, shown-row}
 use borrow.Author.Needs.{needs}
 use Rattle.location.proofs.chains.shown_in.Statement.{statement}
 use Rattle.location.proofs.chains.shown_in.Tie as tie
 
 returns : tie.Need-returns
 returns c =
-    let s = c .before .before .before .before .before in
-    let k = c .before .before .available-part .ensures in
-    let h = s .pre .6 .ordered .happening .cell in
-    sym
-    (shown-out _ _ _ _ _ _ _ _ _ _ _ _ _ _ (s .pre .5) (s .pre .9) (k .0) (h _ _ (omega (arith, k .1)) (omega arith))
-    (h _ _ (omega (arith, k .1)) (omega arith))
+    let pre = c .before .before .before .before .before .pre in
+    sym (shown-skip (pre .element) (c .before .before .available-part .ensures) _ _ (pre .last)
     (sym (c .before .may-show .ensures) ∙ not-true _ (c .if1 .taken)))
 
 returns-2 : tie.Need-returns-2
 returns-2 c =
-    let s = c .before .before .before .before .before .before .before .before .before in
-    let k = c .before .before .visible-part .ensures in
-    sym (shown-row _ _ _ _ _ _ _ _ _ _ _ _ _ (s .pre .5) (c .before .before .before .read-row .ensures) (k .0) (k .1)
-    (c .before .visible-at .ensures) ∙ and-false-left _ _ (not-true _ (c .if2 .taken)))
+    sym (shown-row (c .before .before .before .before .before .before .before .before .before .pre .element .pair) _ _ _
+    (c .before .before .before .read-row .ensures) (c .before .before .visible-part .ensures) (c .before .visible-at .ensures)
+    ∙ and-false-left _ _ (not-true _ (c .if2 .taken)))
 
 returns-3 : tie.Need-returns-3
 returns-3 c =
-    let s = c .before .before .before .before .before .before .before .before .before .before in
-    let k = c .before .before .before .visible-part .ensures in
-    c .starts-at .ensures ∙ sym (shown-row _ _ _ _ _ _ _ _ _ _ _ _ _ (s .pre .5) (c .before .before .before .before .read-row .ensures)
-    (k .0) (k .1) (c .before .before .visible-at .ensures) ∙ and-on _ _ (not-false _ (c .before .if2 .left)))
+    c .starts-at .ensures ∙ sym (shown-row (c .before .before .before .before .before .before .before .before .before .before .pre .element .pair) _ _ _
+    (c .before .before .before .before .read-row .ensures) (c .before .before .before .visible-part .ensures)
+    (c .before .before .visible-at .ensures) ∙ and-on _ _ (not-false _ (c .before .if2 .left)))
 
 pub shown-in-spec : {M : Type 1} → statement M
 shown-in-spec =

@@ -20,8 +20,8 @@ loop-holds c = (search needs, any-none _)
 
 shown-in-requires : tie.Need-shown-in-requires Inv-loop μ-loop
 shown-in-requires c κs =
-    let s = c .before .before .before .before in
-    (s .pre .0, s .pre .1, s .pre .2, s .pre .3, s .pre .4, s .pre .5, s .pre .6, s .pre .7, omega (arith, s .pre .3, c .loop-test .taken), s .pre .8)
+    let pre = c .before .before .before .before .pre in
+    record { element = pre; last = omega (arith, pre .pair .second, c .loop-test .taken) }
 
 returns : tie.Need-returns Inv-loop μ-loop
 returns c = sym (any-in _ _ _ (omega arith) (sym (c .before .shown-in .ensures) ∙ c .if1 .taken))

@@ -13,8 +13,8 @@ returns-2 c = or-neither _ _ _ (sym (c .before .before .before .seen-at .ensures
 
 some-start-requires : tie.Need-some-start-requires
 some-start-requires c κs =
-    let s = c .before .before .before .before .before .before in
-    (s .pre .0, s .pre .1, s .pre .2, s .pre .3, s .pre .4, s .pre .5, s .pre .6, s .pre .7, s .pre .8, s .pre .9, not-false _ (c .if2 .left))
+    let pre = c .before .before .before .before .before .before .pre in
+    record { element = pre .element; last = pre .last; chains = not-false _ (c .if2 .left) }
 
 returns-3 : tie.Need-returns-3
 returns-3 c = or-other _ _ _ _ (sym (c .before .before .before .before .seen-at .ensures) ∙ c .before .before .before .if1 .left)

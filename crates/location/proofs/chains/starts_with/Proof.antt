@@ -1,9 +1,6 @@
 use mathlib.Core.Path.{sym, _∙_}
-use native.Mathlib.Omega.{arith}
 use borrow.Author.Tests.{not-true, not-false}
 use Rattle.finite.specs.Logic.{and-false-left, and-on}
-use Rattle.bits.specs.Stage.{holds-bit}
-use Rattle.location.specs.Reach.{reach-in}
 use Rattle.location.specs.Chains.{starts-row}
 use borrow.Author.Needs.{needs}
 use Rattle.location.proofs.chains.starts_with.Statement.{statement}
@@ -11,15 +8,15 @@ use Rattle.location.proofs.chains.starts_with.Tie as tie
 
 returns : tie.Need-returns
 returns c =
-    let s = c .before .before .before .before in
-    let h = c .before .get .ensures ∙ holds-bit (reach-in _ _ _ _ _ (s .pre .6) (s .pre .11)) _ _ _ (omega arith) (s .pre .9) (s .pre .8) in
-    sym (starts-row _ _ _ _ _ _ _ _ _ _ h ∙ and-false-left _ _ (not-true _ (c .if1 .taken)))
+    let pre = c .before .before .before .before .pre in
+    sym (starts-row (pre .element .pair) _ _ _ (pre .chains) (pre .last) (pre .next) (c .before .get .ensures)
+    ∙ and-false-left _ _ (not-true _ (c .if1 .taken)))
 
 returns-2 : tie.Need-returns-2
 returns-2 c =
-    let s = c .before .before .before .before .before in
-    let h = c .before .before .get .ensures ∙ holds-bit (reach-in _ _ _ _ _ (s .pre .6) (s .pre .11)) _ _ _ (omega arith) (s .pre .9) (s .pre .8) in
-    c .seen-at .ensures ∙ sym (starts-row _ _ _ _ _ _ _ _ _ _ h ∙ and-on _ _ (not-false _ (c .before .if1 .left)))
+    let pre = c .before .before .before .before .before .pre in
+    c .seen-at .ensures ∙ sym (starts-row (pre .element .pair) _ _ _ (pre .chains) (pre .last) (pre .next) (c .before .before .get .ensures)
+    ∙ and-on _ _ (not-false _ (c .before .if1 .left)))
 
 pub starts-with-spec : {M : Type 1} → statement M
 starts-with-spec = tie.close (tie.spec (λ c κs. search needs) returns (λ c κs. search needs) returns-2)

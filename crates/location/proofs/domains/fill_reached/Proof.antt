@@ -33,7 +33,7 @@ loop-holds c = (
   search needs,
   refl,
   meeting-kept (within-cleared REACHED REACHED-END (omega arith) (c .before .before .clear .ensures))
-      (c .before .before .before .before .before .before .pre .2),
+      (c .before .before .before .before .before .before .pre .holds),
   gridFill-none _ _ _ _ _,
 )
 

@@ -7,13 +7,13 @@ use Rattle.location.proofs.domains.met_at.Tie as tie
 
 returns : tie.Need-returns
 unfolding operationAt
-returns c = met-off _ _ _ _ _ (c .before .before .before .before .pre .4) _ _ (sym (c .before .operation-at .ensures) ∙ not-true _ (c .if1 .taken))
+returns c = met-off (c .before .before .before .before .pre) (sym (c .before .operation-at .ensures) ∙ not-true _ (c .if1 .taken))
 
 returns-2 : tie.Need-returns-2
 unfolding operationAt
 returns-2 c =
-    let s = c .before .before .before .before .before .before .before .before .before in
-    met-read _ _ _ _ _ (s .pre .4) _ _ _ _ _ (s .pre .1) (s .pre .2)
+    let pre = c .before .before .before .before .before .before .before .before .before .pre in
+    met-read pre
     (sym (c .before .before .before .before .before .before .operation-at .ensures)
     ∙ not-false _ (c .before .before .before .before .before .if1 .left)) (c .before .before .before .before .read-row .ensures)
     (sym (c .before .before .before .reads .ensures) ∙ c .before .before .if2 .taken) (c .before .visible-kind .ensures) (c .is-seen .ensures)
@@ -21,8 +21,8 @@ returns-2 c =
 returns-3 : tie.Need-returns-3
 unfolding operationAt
 returns-3 c =
-    let s = c .before .before .before .before .before .before .before .before in
-    met-other _ _ _ _ _ (s .pre .4) _ _ _ _ (s .pre .1) (s .pre .2)
+    let pre = c .before .before .before .before .before .before .before .before .pre in
+    met-other pre
     (sym (c .before .before .before .before .before .operation-at .ensures)
     ∙ not-false _ (c .before .before .before .before .if1 .left)) (c .before .before .before .read-row .ensures)
     (sym (c .before .before .reads .ensures) ∙ c .before .if2 .left) (c .happens-bit .ensures)

@@ -8,15 +8,15 @@ use Rattle.location.proofs.domains.reached_at.Tie as tie
 
 returns : tie.Need-returns
 returns c =
-    let s = c .before .before .before .before .before in
-    reached-off _ _ _ _ _ (s .pre .4 .ordered) _ _ _ (c .before .before .row-byte .ensures)
+    let pre = c .before .before .before .before .before .pre in
+    reached-off pre (c .before .before .row-byte .ensures)
     (sym (c .before .is-available .ensures) ∙ not-true _ (c .if1 .taken))
 
 returns-2 : tie.Need-returns-2
 unfolding rowOf
 returns-2 c =
-    let s = c .before .before .before .before .before .before .before .before .before in
-    reached-here _ _ _ _ _ (s .pre .4 .ordered) (s .pre .4 .meeting) _ _ _ _ _ _ (s .pre .1) (s .pre .2)
+    let pre = c .before .before .before .before .before .before .before .before .before .pre in
+    reached-here pre
     (c .before .before .before .before .before .before .row-byte .ensures)
     (sym (c .before .before .before .before .before .is-available .ensures)
     ∙ not-false _ (c .before .before .before .before .if1 .left)) (c .before .before .before .read-agent .ensures)
@@ -25,8 +25,8 @@ returns-2 c =
 returns-3 : tie.Need-returns-3
 unfolding rowOf
 returns-3 c =
-    let s = c .before .before .before .before .before .before .before .before .before .before in
-    reached-over _ _ _ _ _ (s .pre .4 .ordered) (s .pre .4 .meeting) _ _ _ _ _ _ _ (s .pre .1) (s .pre .2)
+    let pre = c .before .before .before .before .before .before .before .before .before .before .pre in
+    reached-over pre
     (c .before .before .before .before .before .before .before .row-byte .ensures)
     (sym (c .before .before .before .before .before .before .is-available .ensures)
     ∙ not-false _ (c .before .before .before .before .before .if1 .left)) (c .before .before .before .before .read-agent .ensures)

@@ -34,7 +34,7 @@ loop-holds c = (
   search needs,
   refl,
   sources-kept (within-cleared HOSTED HOSTED-END (omega arith) (c .before .before .clear .ensures))
-      (c .before .before .before .before .before .before .pre .2),
+      (c .before .before .before .before .before .before .pre .holds),
   gridFill-none _ _ _ _ _,
 )
 

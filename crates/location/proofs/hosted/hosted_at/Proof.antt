@@ -7,14 +7,14 @@ use Rattle.location.proofs.hosted.hosted_at.Tie as tie
 
 returns : tie.Need-returns
 returns c =
-    let s = c .before .before .before .before .before .before in
-    hosted-off _ _ _ _ _ (s .pre .4) _ _ _ _ (c .before .before .before .read-row .ensures) (c .before .before .read-row2 .ensures)
+    let pre = c .before .before .before .before .before .before .pre in
+    hosted-off pre (c .before .before .before .read-row .ensures) (c .before .before .read-row2 .ensures)
     (sym (c .before .may-share .ensures) ∙ not-true _ (c .if1 .taken))
 
 returns-2 : tie.Need-returns-2
 returns-2 c =
-    let s = c .before .before .before .before .before .before .before .before .before in
-    hosted-fourth _ _ _ _ _ (s .pre .4) _ _ (s .pre .1) (s .pre .2) _ _ _ _
+    let pre = c .before .before .before .before .before .before .before .before .before .pre in
+    hosted-fourth pre
     (c .before .before .before .before .before .before .read-row .ensures)
     (c .before .before .before .before .before .read-row2 .ensures)
     (sym (c .before .before .before .before .may-share .ensures) ∙ not-false _ (c .before .before .before .if1 .left))
@@ -22,12 +22,12 @@ returns-2 c =
 
 returns-3 : tie.Need-returns-3
 returns-3 c =
-    let s = c .before .before .before .before .before .before .before .before .before .before in
-    hosted-fifth _ _ _ _ _ (s .pre .4) _ _ (s .pre .1) (s .pre .2) _ _ _ _
+    let pre = c .before .before .before .before .before .before .before .before .before .before .pre in
+    hosted-fifth pre
     (c .before .before .before .before .before .before .before .read-row .ensures)
     (c .before .before .before .before .before .before .read-row2 .ensures)
     (sym (c .before .before .before .before .before .may-share .ensures) ∙ not-false _ (c .before .before .before .before .if1 .left))
-    (c .before .before .before .grid-bit .ensures) (c .before .before .l4 .ensures) _ _ (c .before .if2 .left) refl (c .l5 .ensures)
+    (c .before .before .before .grid-bit .ensures) (c .before .before .l4 .ensures) (c .before .if2 .left) refl (c .l5 .ensures)
 
 pub hosted-at-spec : {M : Type 1} → statement M
 hosted-at-spec =

@@ -18,8 +18,8 @@ abbrev μ-loop : tie.MeasureT-loop
 
 loop-holds : tie.Need-loop-holds Inv-loop μ-loop
 loop-holds c =
-    let s = c .before .before .before .before .before in
-    (search needs, refl, depends-none _ _ (s .pre .0) (s .pre .1) (c .before .before .clear .ensures), within-refl _ _ _)
+    let pre = c .before .before .before .before .before .pre in
+    (search needs, refl, depends-none _ pre (c .before .before .clear .ensures), within-refl _ _ _)
 
 loop-again : tie.Need-loop-again Inv-loop μ-loop
 loop-again c =
@@ -32,7 +32,7 @@ returns c =
     let s = c .before .before .before .before .before .before .before .before .before .before .before in
     let inv = c .before .before .before .before .before .loop .inv in
     let e : c .before .before .before .before .before .loop .k ≡ s .args .mode .dependencies = omega arith in
-    made-system _ (s .pre .0) e (within-trans
+    made-system _ (s .pre .few) e (within-trans
     (within-cleared SYSTEM SYSTEM-END (omega arith) (c .before .before .before .before .before .before .before .before .clear .ensures))
     (inv .3)) (inv .2) (c .before .before .close .ensures)
 

@@ -1,8 +1,7 @@
 use mathlib.Core.Path.{sym, _∙_}
-use native.Mathlib.Omega.{arith}
 use borrow.Author.Tests.{not-true}
 use Rattle.finite.specs.Logic.{_and_}
-use Rattle.location.specs.Reach.{broadens-row, broadens-off}
+use Rattle.location.specs.Reach.{broadens-is, broadens-off}
 use borrow.Author.Needs.{needs}
 use Rattle.location.proofs.reach.broadens_at.Statement.{statement}
 use Rattle.location.proofs.reach.broadens_at.Tie as tie
@@ -13,13 +12,10 @@ returns c = sym (broadens-off _ _ _ _ _ _ (sym (c .before .has-flag .ensures) �
 returns-2 : tie.Need-returns-2
 unfolding _and_
 returns-2 c =
-    let s = c .before .before .before .before .before .before .before .before .before .before .before in
-    let k = c .before .before .before .before .available-part .ensures in
-    let m = c .before .before .before .available-part2 .ensures in
-    let h = c .happens-bit .ensures ∙ s .pre .4 .happening .cell _ _ (omega (arith, k .1)) (omega (arith, m .1)) in
-    sym (broadens-row _ _ _ _ _ _ _ _ _ _ _ _ _ (c .before .before .before .before .before .before .read-row .ensures)
-    (c .before .before .before .before .before .read-row2 .ensures) (k .0) (m .0) (m .1) (c .before .before .availability-of .ensures)
-    (c .before .is-broader .ensures) h)
+    sym (broadens-is (c .before .before .before .before .before .before .before .before .before .before .before .pre)
+    (c .before .before .before .before .before .before .read-row .ensures) (c .before .before .before .before .before .read-row2 .ensures)
+    (c .before .before .before .before .available-part .ensures) (c .before .before .before .available-part2 .ensures)
+    (c .before .before .availability-of .ensures) (c .before .is-broader .ensures) (c .happens-bit .ensures))
 
 pub broadens-at-spec : {M : Type 1} → statement M
 broadens-at-spec =

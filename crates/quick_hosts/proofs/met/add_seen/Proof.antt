@@ -1,6 +1,6 @@
-use Rattle.quick_hosts.specs.Met.{seen-none, seen-some}
-use borrow.Author.Tests.{not-true, not-false}
 use mathlib.Core.Path.{sym, _∙_}
+use borrow.Author.Tests.{not-true, not-false}
+use Rattle.quick_hosts.specs.Met.{seen-none, seen-some}
 use borrow.Author.Needs.{needs}
 use Rattle.quick_hosts.proofs.met.add_seen.Statement.{statement}
 use Rattle.quick_hosts.proofs.met.add_seen.Tie as tie
@@ -10,13 +10,13 @@ returns c = seen-none _ _ _ (sym (c .before .shows-at .ensures) ∙ not-true _ (
 
 returns-2 : tie.Need-returns-2
 returns-2 c =
-    let s = c .before .before .before .before .before .before .before .before .before in
-    seen-some _ _ _ (s .pre .0) (s .pre .1) (s .pre .2) (s .pre .3)
-    (sym (c .before .before .before .before .before .shows-at .ensures) ∙ not-false _ (c .before .before .before .before .if1 .left))
-    (s .pre .4) (c .before .before .join-row .ensures)
+    seen-some (c .before .before .before .before .before .before .before .before .before .before .before .pre)
+    (sym (c .before .before .before .before .before .before .before .shows-at .ensures)
+    ∙ not-false _ (c .before .before .before .before .before .before .if1 .left))
+    (c .before .before .before .before .before .at .ensures) (c .before .before .before .before .at2 .ensures) (c .before .before .join-row .ensures)
 
 pub add-seen-spec : {M : Type 1} → statement M
 add-seen-spec =
     tie.close
-    (tie.spec (λ c κs. search needs) (λ c. search needs) returns (λ c. search needs) (λ c. search needs) (λ c. search needs)
-    (λ c. search needs) (λ c κs. search needs) (λ c. search needs) returns-2)
+    (tie.spec (λ c κs. search needs) (λ c. search needs) returns (λ c κs. search needs) (λ c κs. search needs) (λ c κs. search needs)
+    (λ c. search needs) returns-2)

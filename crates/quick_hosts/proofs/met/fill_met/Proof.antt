@@ -21,7 +21,7 @@ loop-holds c = (
   search needs,
   refl,
   seeing-kept (within-cleared MET MET-END (omega arith) (c .before .before .clear .ensures))
-      (seeing-made (c .before .before .before .before .before .before .before .before .before .before .pre .2)
+      (seeing-made (c .before .before .before .before .before .before .before .before .before .before .pre .holds)
       (c .before .before .before .before .before .before .fill-seen .ensures)),
   below-none _,
 )
@@ -37,7 +37,7 @@ returns c =
     let s = c .before .before .before .before .before .before .before .before .before .before .before .before in
     let f = c .before .before .before .before .before .before .before .before .fill-seen .ensures .frame in
     let e : c .before .loop .m ≡ s .args .n = omega arith in
-    made-met _ (s .pre .0) (omega (arith, f .len, s .pre .1)) f (c .before .before .before .before .clear .ensures) (rw e at (c .before .loop .inv .3))
+    made-met _ (s .pre .few) (omega (arith, f .len, s .pre .room)) f (c .before .before .before .before .clear .ensures) (rw e at (c .before .loop .inv .3))
 
 pub fill-met-spec : {M : Type 1} → statement M
 fill-met-spec =

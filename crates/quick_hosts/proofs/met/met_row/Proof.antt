@@ -24,11 +24,11 @@ unfolding operationAt decode
 returns c = met-none _ _ (sym (c .before .operation-at .ensures) ∙ not-true _ (c .if1 .taken))
 
 loop-holds : tie.Need-loop-holds Inv-loop μ-loop
-loop-holds c = let s = c .before .before .before .before .before .before .before .before in (
+loop-holds c = let pre = c .before .before .before .before .before .before .before .before .pre in (
   search needs,
   refl,
-  seeing-kept (within-row MET MET-END _ _ _ (omega arith) (omega (arith, s .pre .0, s .pre .2))
-      (c .before .before .once-row .ensures)) (s .pre .3),
+  seeing-kept (within-row MET MET-END _ _ _ (omega arith) (omega (arith, pre .few, pre .row))
+      (c .before .before .once-row .ensures)) (pre .holds),
   upto-none _ _,
 )
 
@@ -43,7 +43,7 @@ unfolding operationAt decode
 returns-2 c =
     let s = c .before .before .before .before .before .before .before .before .before .before in
     let e : c .before .loop .i ≡ s .args .n = omega arith in
-    met-all _ _ (s .pre .0) (s .pre .1) (s .pre .2)
+    met-all _ _ (s .pre .few) (s .pre .room) (s .pre .row)
     (sym (c .before .before .before .before .before .before .before .operation-at .ensures)
     ∙ not-false _ (c .before .before .before .before .before .before .if1 .left)) (c .before .before .before .before .once-row .ensures)
     (rw e at (c .before .loop .inv .3))

@@ -5,19 +5,19 @@ use Rattle.quick_hosts.proofs.met.seen_from.Statement.{statement}
 use Rattle.quick_hosts.proofs.met.seen_from.Tie as tie
 
 returns : tie.Need-returns
-returns c = seen-off _ _ _ _ _ (c .before .before .before .before .pre .5) _ _ _ (c .before .reads-at .ensures) (not-true _ (c .if1 .taken))
+returns c = seen-off (c .before .before .before .before .pre .given) (c .before .reads-at .ensures) (not-true _ (c .if1 .taken))
 
 returns-2 : tie.Need-returns-2
 returns-2 c =
-    let s = c .before .before .before .before .before .before .before in
-    seen-other _ _ _ _ _ (s .pre .5) _ _ _ _ _ (s .pre .3) (c .before .before .read-agent .ensures) (c .before .visible-kind .ensures)
+    let pre = c .before .before .before .before .before .before .before .pre in
+    seen-other (pre .given) (pre .kind-is) (c .before .before .read-agent .ensures) (c .before .visible-kind .ensures)
     (not-true _ (c .if2 .taken))
 
 returns-3 : tie.Need-returns-3
 returns-3 c =
-    let s = c .before .before .before .before .before .before .before .before in
-    seen-on _ _ _ _ _ (s .pre .5) _ _ _ _ _ (s .pre .3) (c .before .before .before .read-agent .ensures)
-    (c .before .before .visible-kind .ensures) _ _ (s .pre .1) (s .pre .2)
+    let pre = c .before .before .before .before .before .before .before .before .pre in
+    seen-on (pre .given) (pre .kind-is) (c .before .before .before .read-agent .ensures)
+    (c .before .before .visible-kind .ensures)
     (c .before .before .before .before .before .reads-at .ensures) (not-false _ (c .before .before .before .before .if1 .left))
     (not-false _ (c .before .if2 .left)) (c .happens-bit .ensures)
 

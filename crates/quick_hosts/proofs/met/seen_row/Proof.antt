@@ -27,7 +27,10 @@ unfolding decode _or_
 returns c = unseen-row _ _ _ _ _ _ (c .before .read-kind .ensures) (not-true _ (c .if1 .taken))
 
 loop-holds : tie.Need-loop-holds Inv-loop μ-loop
-loop-holds c = (search needs, refl, c .before .read-kind .ensures, c .before .before .before .before .pre .3, rowFill-none _ _ _)
+loop-holds c = (search needs, refl, c .before .read-kind .ensures, c .before .before .before .before .pre .holds, rowFill-none _ _ _)
+
+seen-from-requires : tie.Need-seen-from-requires Inv-loop μ-loop
+seen-from-requires c κs = record { given = search needs; kind-is = search needs }
 
 loop-again : tie.Need-loop-again Inv-loop μ-loop
 loop-again c =
@@ -47,5 +50,5 @@ returns-2 c = let e : c .before .loop .y ≡ c .before .before .before .before .
 pub seen-row-spec : {M : Type 1} → statement M
 seen-row-spec =
     tie.close
-    (tie.spec Inv-loop μ-loop (λ c. search needs) (λ c κs. search needs) returns loop-holds (λ c κs. search needs) (λ c κs. search needs)
+    (tie.spec Inv-loop μ-loop (λ c. search needs) (λ c κs. search needs) returns loop-holds seen-from-requires (λ c κs. search needs)
     (λ c. search needs) (λ c. search needs) loop-again (λ c. search needs) returns-2)

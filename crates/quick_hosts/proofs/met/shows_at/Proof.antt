@@ -7,13 +7,12 @@ use Rattle.quick_hosts.proofs.met.shows_at.Tie as tie
 
 returns : tie.Need-returns
 unfolding _or_
-returns c = shows-off _ _ _ _ _ (c .before .before .before .before .pre .4) _ _ _ (c .before .read-kind .ensures) (not-true _ (c .if1 .taken))
+returns c = shows-off (c .before .before .before .before .pre) (c .before .read-kind .ensures) (not-true _ (c .if1 .taken))
 
 returns-2 : tie.Need-returns-2
 unfolding _or_
 returns-2 c =
-    let s = c .before .before .before .before .before in
-    shows-on _ _ _ _ _ (s .pre .4) _ _ _ _ (s .pre .1) (s .pre .2) (c .before .before .read-kind .ensures)
+    shows-on (c .before .before .before .before .before .pre) (c .before .before .read-kind .ensures)
     (not-false _ (c .before .if1 .left)) (c .happens-bit .ensures)
 
 pub shows-at-spec : {M : Type 1} → statement M

@@ -20,28 +20,28 @@ abbrev μ-loop : tie.MeasureT-loop
 
 loop-holds : tie.Need-loop-holds Inv-loop μ-loop
 loop-holds c =
-    let s = c .before .before .before .before in
-    (search needs, c .set-at .ensures, mask-zero _ _ (λ k. carried-low _ _ _ _ _ _ k _ _ (s .pre .4) (s .pre .9) (s .pre .8)))
+    let pre = c .before .before .before .before .pre in
+    (search needs, c .set-at .ensures, mask-zero _ _ (λ k. carried-low (pre .pair) k _ (pre .write) (pre .firsts .none)))
 
 returns : tie.Need-returns Inv-loop μ-loop
 returns c =
-    let s = c .before .before .before .before .before .before .before .before in
+    let pre = c .before .before .before .before .before .before .before .before .pre in
     let j = mask-joined _ _ (c .before .before .before .loop .inv .2) (c .before .first-bytes .ensures) refl in
-    mask-full _ (s .pre .10) j (c .if1 .taken) (λ k l. any-wider _ _ _ (omega arith))
+    mask-full _ (pre .both-is) j (c .if1 .taken) (λ k l. any-wider _ _ _ (omega arith))
 
 loop-again : tie.Need-loop-again Inv-loop μ-loop
 loop-again c =
-    let s = c .before .before .before .before .before .before .before .before .before in
+    let pre = c .before .before .before .before .before .before .before .before .before .pre in
     let inv = c .before .before .before .before .loop .inv in
     let next = c .next .ensures in
     let j = mask-joined _ _ (inv .2) (c .before .before .first-bytes .ensures) refl in
-    (next .high, inv .1, carried-pass _ _ _ _ _ _ (s .pre .11) (s .pre .4) (inv .1) _ _ _ _ next j)
+    (next .high, inv .1, carried-pass _ _ _ _ _ _ (pre .firsts .publics) (pre .pair .first-is) (inv .1) _ _ _ _ next j)
 
 returns-2 : tie.Need-returns-2 Inv-loop μ-loop
 returns-2 c =
     let s = c .before .before .before .before .before .before in
     let e : c .before .loop .a ≡ s .args .n = omega arith in
-    mask-and (s .pre .10) (rw e at (c .before .loop .inv .2))
+    mask-and (s .pre .both-is) (rw e at (c .before .loop .inv .2))
 
 pub carried-bytes-spec : {M : Type 1} → statement M
 carried-bytes-spec =

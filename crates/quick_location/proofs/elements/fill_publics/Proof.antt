@@ -17,7 +17,7 @@ abbrev μ-loop : tie.MeasureT-loop
 μ-loop rows n publics₀ a₀ publics a = n - a
 
 loop-holds : tie.Need-loop-holds Inv-loop μ-loop
-loop-holds c = (search needs, refl, publics-none _ _ (c .before .before .pre .1))
+loop-holds c = (search needs, refl, publics-none _ _ (c .before .before .pre .room))
 
 loop-again : tie.Need-loop-again Inv-loop μ-loop
 unfolding rowOf

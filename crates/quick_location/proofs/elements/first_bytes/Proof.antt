@@ -11,26 +11,24 @@ returns c = mask-zero _ _ (λ k. carried-none _ _ _ k _ (sym (c .before .is-firs
 
 returns-2 : tie.Need-returns-2
 returns-2 c =
-    let s = c .before .before .before .before .before .before .before .before .before in
+    let pre = c .before .before .before .before .before .before .before .before .before .pre in
     let e = sym (c .before .before .before .before .before .is-first .ensures _ _) ∙ not-false _ (c .before .before .before .before .if1 .left) in
-    let f = sym (c .before .before .reads .ensures) ∙ c .before .if2 .taken in
-    reader-bytes _ _ _ _ _ _ _ _ _ _ _ (s .pre .4) (s .pre .5) (c .before .before .before .before .before .before .read-row .ensures) e f
-    (c .lasts-bytes .ensures)
+    reader-bytes (record { pair = pre .pair; row = pre .row; row-is = c .before .before .before .before .before .before .read-row .ensures }) e
+    (sym (c .before .before .reads .ensures) ∙ c .before .if2 .taken) (c .lasts-bytes .ensures)
 
 returns-3 : tie.Need-returns-3
 returns-3 c =
-    let s = c .before .before .before .before .before .before .before .before .before .before in
     let f = sym (c .before .before .before .reads .ensures) ∙ c .before .before .if2 .left in
-    mask-zero _ _ (λ k. other-none _ _ _ _ _ _ _ k _ (s .pre .5) f (sym (c .before .is-met .ensures) ∙ not-true _ (c .if3 .taken)))
+    mask-zero _ _ (λ k. other-none (c .before .before .before .before .before .before .before .before .before .before .pre .pair) _ k f
+    (sym (c .before .is-met .ensures) ∙ not-true _ (c .if3 .taken)))
 
 returns-4 : tie.Need-returns-4
 returns-4 c =
-    let s = c .before .before .before .before .before .before .before .before .before .before in
+    let pre = c .before .before .before .before .before .before .before .before .before .before .pre in
     let e = sym (c .before .before .before .before .before .before .is-first .ensures _ _)
     ∙ not-false _ (c .before .before .before .before .before .if1 .left) in
     let f = sym (c .before .before .before .reads .ensures) ∙ c .before .before .if2 .left in
-    other-bytes _ _ _ _ _ _ _ _ _ _ _ (s .pre .4) (s .pre .5)
-    (c .before .before .before .before .before .before .before .read-row .ensures) e f
+    other-bytes (record { pair = pre .pair; row = pre .row; row-is = c .before .before .before .before .before .before .before .read-row .ensures }) e f
     (sym (c .before .is-met .ensures) ∙ not-false _ (c .if3 .left)) (c .before .before .before .before .covered .ensures)
 
 pub first-bytes-spec : {M : Type 1} → statement M

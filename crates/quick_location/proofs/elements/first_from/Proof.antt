@@ -9,14 +9,14 @@ use Rattle.quick_location.proofs.elements.first_from.Tie as tie
 returns : tie.Need-returns
 returns c = (
   search needs,
-  λ p mode. publishes-none _ p mode _ _ _ _ (c .before .before .before .before .pre .2)
+  λ p mode. publishes-none _ p mode _ _ _ _ (c .before .before .before .before .pre .first-is)
       (sym (c .before .writes .ensures) ∙ not-true _ (c .if1 .taken)),
 )
 
 returns-2 : tie.Need-returns-2
 returns-2 c =
-    let s = c .before .before .before .before .before .before in
-    (c .next .ensures .high, from-off _ _ _ _ _ _ (s .pre .3) (s .pre .2) (c .before .set-at .ensures) _ (c .next .ensures))
+    let pre = c .before .before .before .before .before .before .pre in
+    (c .next .ensures .high, from-off _ _ _ _ _ _ (pre .publics) (pre .first-is) (c .before .set-at .ensures) _ (c .next .ensures))
 
 pub first-from-spec : {M : Type 1} → statement M
 first-from-spec =

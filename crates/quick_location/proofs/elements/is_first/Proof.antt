@@ -8,9 +8,9 @@ use Rattle.quick_location.proofs.elements.is_first.Tie as tie
 returns : tie.Need-returns
 unfolding _and_
 returns c = λ p mode.
-    let s = c .before .before .before .before in
+    let pre = c .before .before .before .before .pre in
     let k = c .before .before .available-part .ensures in
-    sym (after-row _ p mode _ _ 0 _ _ _ _ _ _ (s .pre .3) (s .pre .4) (k .0) (k .1) (c .before .availability-of .ensures) (c .is-ordered .ensures))
+    sym (after-row _ p mode _ _ 0 _ _ _ _ _ _ (pre .first-is) (pre .row-is) (k .0) (k .1) (c .before .availability-of .ensures) (c .is-ordered .ensures))
 
 pub is-first-spec : {M : Type 1} → statement M
 is-first-spec =

@@ -5,7 +5,7 @@ use Rattle.finite.specs.Below.{anyBelow}
 use Rattle.model.specs.Table.{decode}
 use Rattle.area.specs.Regions.{PAIR}
 use Rattle.quick_location.specs.Masks.{Mask, mask-zero, mask-joined, mask-full, any-wider}
-use Rattle.quick_location.specs.Elements.{shownNth, shown-low, lasts-none, lasts-bytes}
+use Rattle.quick_location.specs.Elements.{shownNth, bytes-low, lasts-none, lasts-bytes}
 use borrow.Author.Needs.{needs}
 use Rattle.quick_location.proofs.elements.lasts_bytes.Statement.{statement}
 use Rattle.quick_location.proofs.elements.lasts_bytes.Tie as tie
@@ -18,30 +18,28 @@ abbrev μ-loop : tie.MeasureT-loop
 
 returns : tie.Need-returns Inv-loop μ-loop
 returns c =
-    let s = c .before .before .before .before .before in
-    let m = c .before .before .available-part .ensures in
-    lasts-none _ _ _ _ _ _ _ _ (s .pre .3) (λ k. shown-low _ _ _ _ _ _ _ k _ _ _ _ _ _ (s .pre .6 .ordered) (s .pre .7) (s .pre .5)
-    (s .pre .8) (m .0) (m .1) (c .before .lasts-from .ensures) (omega arith) (omega (arith, s .pre .3)))
+    let pre = c .before .before .before .before .before .pre in
+    lasts-none (pre .element .pair) _ _ (λ k. bytes-low (pre .element) (c .before .before .available-part .ensures) k _ _
+    (c .before .lasts-from .ensures) (omega arith) (omega (arith, pre .element .pair .second)))
 
 loop-holds : tie.Need-loop-holds Inv-loop μ-loop
 loop-holds c =
-    let s = c .before .before .before .before .before in
-    let m = c .before .before .available-part .ensures in (
+    let pre = c .before .before .before .before .before .pre in (
       search needs,
-      mask-zero _ _ (λ k. shown-low _ _ _ _ _ _ _ k _ _ _ _ _ _ (s .pre .6 .ordered) (s .pre .7) (s .pre .5) (s .pre .8) (m .0)
-          (m .1) (c .before .lasts-from .ensures) (omega arith) (omega (arith, c .if1 .left, s .pre .3))),
+      mask-zero _ _ (λ k. bytes-low (pre .element) (c .before .before .available-part .ensures) k _ _ (c .before .lasts-from .ensures)
+          (omega arith) (omega (arith, c .if1 .left, pre .element .pair .second))),
     )
 
 last-bytes-requires : tie.Need-last-bytes-requires Inv-loop μ-loop
 last-bytes-requires c κs =
-    let s = c .before .before .before .before .before .before .before in
-    (s .pre .0, s .pre .1, s .pre .2, s .pre .3, s .pre .4, s .pre .5, s .pre .6, s .pre .7, omega (arith, s .pre .3, c .loop-test .taken), s .pre .8)
+    let pre = c .before .before .before .before .before .before .before .pre in
+    record { element = pre .element; last = omega (arith, pre .element .pair .second, c .loop-test .taken) }
 
 returns-2 : tie.Need-returns-2 Inv-loop μ-loop
 returns-2 c =
-    let s = c .before .before .before .before .before .before .before .before .before in
+    let pre = c .before .before .before .before .before .before .before .before .before .pre in
     let j = mask-joined _ _ (c .before .before .before .loop .inv .1) (c .before .last-bytes .ensures) refl in
-    mask-full _ (s .pre .9) j (c .if2 .taken) (λ k l. any-wider _ _ _ (omega (arith, s .pre .3, c .before .before .loop-test .taken)))
+    mask-full _ (pre .covers) j (c .if2 .taken) (λ k l. any-wider _ _ _ (omega (arith, pre .element .pair .second, c .before .before .loop-test .taken)))
 
 loop-again : tie.Need-loop-again Inv-loop μ-loop
 loop-again c = (search needs, mask-joined _ _ (c .before .before .before .loop .inv .1) (c .before .last-bytes .ensures) refl)
@@ -50,7 +48,7 @@ returns-3 : tie.Need-returns-3 Inv-loop μ-loop
 returns-3 c =
     let s = c .before .before .before .before .before .before .before in
     let e : c .before .loop .v ≡ s .args .y + 1 = omega arith in
-    lasts-bytes _ _ _ _ _ _ _ _ _ _ _ (s .pre .3) e (s .pre .9) (c .before .loop .inv .1)
+    lasts-bytes (s .pre .element .pair) _ _ _ _ _ e (s .pre .covers) (c .before .loop .inv .1)
 
 pub lasts-bytes-spec : {M : Type 1} → statement M
 lasts-bytes-spec =

@@ -8,7 +8,7 @@ returns : tie.Need-returns
 returns c = λ v l. absurd (omega arith)
 
 returns-2 : tie.Need-returns-2
-returns-2 c = moments-below _ _ _ _ (c .before .if1 .left) (c .first-both .ensures)
+returns-2 c = moments-below _ _ _ _ _ (c .before .before .if1 .left) (c .before .at .ensures) (c .first-both .ensures)
 
 pub lasts-from-spec : {M : Type 1} → statement M
-lasts-from-spec = tie.close (tie.spec returns (λ c. search needs) (λ c. search needs) (λ c κs. search needs) returns-2)
+lasts-from-spec = tie.close (tie.spec returns (λ c κs. search needs) (λ c κs. search needs) returns-2)

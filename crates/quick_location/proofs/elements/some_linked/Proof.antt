@@ -18,13 +18,16 @@ abbrev μ-loop : tie.MeasureT-loop
 
 returns : tie.Need-returns Inv-loop μ-loop
 returns c =
-    let s = c .before .before .before .before in
-    sym (linked-low _ _ _ _ _ _ _ _ _ _ (s .pre .6) (s .pre .9) (s .pre .7) (c .before .first-both .ensures) (c .if1 .taken) (omega arith) _)
+    let pre = c .before .before .before .before .before .pre in
+    sym (linked-low (pre .pair) _ _ _ _ (pre .chains) (pre .row) (c .before .before .at .ensures) (c .before .first-both .ensures)
+    (c .if1 .taken) (omega arith) _)
 
 loop-holds : tie.Need-loop-holds Inv-loop μ-loop
 loop-holds c =
-    let s = c .before .before .before .before in
-    (search needs, linked-low _ _ _ _ _ _ _ _ _ _ (s .pre .6) (s .pre .9) (s .pre .7) (c .before .first-both .ensures) (omega arith) (omega arith) _)
+    let pre = c .before .before .before .before .before .pre in (
+      search needs,
+      linked-low (pre .pair) _ _ _ _ (pre .chains) (pre .row) (c .before .before .at .ensures) (c .before .first-both .ensures) (omega arith) (omega arith) _,
+    )
 
 returns-2 : tie.Need-returns-2 Inv-loop μ-loop
 returns-2 c = sym (any-in _ _ _ (c .before .before .loop-test .taken) (sym (c .before .linked-with .ensures) ∙ c .if2 .taken))
@@ -34,11 +37,11 @@ loop-again c = (search needs, any-more _ _ (c .before .before .before .loop .inv
 
 returns-3 : tie.Need-returns-3 Inv-loop μ-loop
 returns-3 c =
-    let e : c .before .loop .c ≡ c .before .before .before .before .before .before .args .n = omega arith in
+    let e : c .before .loop .c ≡ c .before .before .before .before .before .before .before .args .n = omega arith in
     sym (rw e at (c .before .loop .inv .1))
 
 pub some-linked-spec : {M : Type 1} → statement M
 some-linked-spec =
     tie.close
-    (tie.spec Inv-loop μ-loop (λ c. search needs) (λ c. search needs) (λ c κs. search needs) returns loop-holds (λ c κs. search needs)
-    returns-2 (λ c. search needs) (λ c. search needs) loop-again returns-3)
+    (tie.spec Inv-loop μ-loop (λ c κs. search needs) (λ c κs. search needs) returns loop-holds (λ c κs. search needs) returns-2
+    (λ c. search needs) (λ c. search needs) loop-again returns-3)

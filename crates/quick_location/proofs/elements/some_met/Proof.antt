@@ -18,13 +18,15 @@ abbrev μ-loop : tie.MeasureT-loop
 
 returns : tie.Need-returns Inv-loop μ-loop
 returns c =
-    let s = c .before .before .before .before in
-    sym (met-low _ _ _ _ _ _ _ _ _ _ (s .pre .6) (s .pre .8) (s .pre .7) (c .before .first-both .ensures) (c .if1 .taken) (omega arith))
+    let pre = c .before .before .before .before .before .pre in
+    sym (met-low (pre .pair) _ _ _ _ (pre .chains) (pre .row) (c .before .before .at .ensures) (c .before .first-both .ensures) (c .if1 .taken) (omega arith))
 
 loop-holds : tie.Need-loop-holds Inv-loop μ-loop
 loop-holds c =
-    let s = c .before .before .before .before in
-    (search needs, met-low _ _ _ _ _ _ _ _ _ _ (s .pre .6) (s .pre .8) (s .pre .7) (c .before .first-both .ensures) (omega arith) (omega arith))
+    let pre = c .before .before .before .before .before .pre in (
+      search needs,
+      met-low (pre .pair) _ _ _ _ (pre .chains) (pre .row) (c .before .before .at .ensures) (c .before .first-both .ensures) (omega arith) (omega arith),
+    )
 
 returns-2 : tie.Need-returns-2 Inv-loop μ-loop
 returns-2 c = sym (any-in _ _ _ (c .before .before .loop-test .taken) (sym (c .before .met-with .ensures) ∙ c .if2 .taken))
@@ -34,11 +36,11 @@ loop-again c = (search needs, any-more _ _ (c .before .before .before .loop .inv
 
 returns-3 : tie.Need-returns-3 Inv-loop μ-loop
 returns-3 c =
-    let e : c .before .loop .c ≡ c .before .before .before .before .before .before .args .n = omega arith in
+    let e : c .before .loop .c ≡ c .before .before .before .before .before .before .before .args .n = omega arith in
     sym (rw e at (c .before .loop .inv .1))
 
 pub some-met-spec : {M : Type 1} → statement M
 some-met-spec =
     tie.close
-    (tie.spec Inv-loop μ-loop (λ c. search needs) (λ c. search needs) (λ c κs. search needs) returns loop-holds (λ c κs. search needs)
-    returns-2 (λ c. search needs) (λ c. search needs) loop-again returns-3)
+    (tie.spec Inv-loop μ-loop (λ c κs. search needs) (λ c κs. search needs) returns loop-holds (λ c κs. search needs) returns-2
+    (λ c. search needs) (λ c. search needs) loop-again returns-3)

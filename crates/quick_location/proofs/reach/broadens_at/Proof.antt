@@ -1,8 +1,7 @@
 use mathlib.Core.Path.{refl, sym, _∙_}
-use native.Mathlib.Omega.{arith}
 use borrow.Author.Tests.{not-true, not-false}
 use Rattle.finite.specs.Logic.{_and_, and-false-right}
-use Rattle.location.specs.Reach.{broadens-row, broadens-off}
+use Rattle.location.specs.Reach.{broadens-is, broadens-off}
 use Rattle.quick_location.specs.Reach.{broadens-on}
 use borrow.Author.Needs.{needs}
 use Rattle.quick_location.proofs.reach.broadens_at.Statement.{statement}
@@ -13,22 +12,17 @@ returns c = sym (broadens-off _ _ _ _ _ _ (sym (c .before .has-flag .ensures) �
 
 returns-2 : tie.Need-returns-2
 returns-2 c =
-    let s = c .before .before .before .before .before .before .before .before .before in
-    let k = c .before .before .before .available-part .ensures in
-    let m = c .before .before .available-part2 .ensures in
-    let h = c .before .happens-bit .ensures ∙ s .pre .4 .happening .cell _ _ (omega (arith, k .1)) (omega (arith, m .1)) in
-    sym (broadens-row _ _ _ _ _ _ _ _ _ _ _ _ _ (s .pre .5) (c .before .before .before .before .read-row .ensures) (k .0) (m .0)
-    (m .1) refl refl h ∙ and-false-right _ _ (not-true _ (c .if2 .taken)))
+    let pre = c .before .before .before .before .before .before .before .before .before .pre in
+    sym (broadens-is (pre .given) (pre .first-is) (c .before .before .before .before .read-row .ensures) (c .before .before .before .available-part .ensures)
+    (c .before .before .available-part2 .ensures) refl refl (c .before .happens-bit .ensures) ∙ and-false-right _ _ (not-true _ (c .if2 .taken)))
 
 returns-3 : tie.Need-returns-3
 unfolding _and_
 returns-3 c =
-    let s = c .before .before .before .before .before .before .before .before .before .before .before in
-    let k = c .before .before .before .before .before .available-part .ensures in
-    let m = c .before .before .before .before .available-part2 .ensures in
-    let h = c .before .before .before .happens-bit .ensures ∙ s .pre .4 .happening .cell _ _ (omega (arith, k .1)) (omega (arith, m .1)) in
-    broadens-on _ _ _ _ _ _ _ _ _ _ _ _ _ (s .pre .5) (c .before .before .before .before .before .before .read-row .ensures) (k .0) (m .0)
-    (m .1) (c .before .availability-of .ensures) (c .is-broader .ensures) h (not-false _ (c .before .before .if2 .left))
+    let pre = c .before .before .before .before .before .before .before .before .before .before .before .pre in
+    broadens-on (pre .given) (pre .first-is) (c .before .before .before .before .before .before .read-row .ensures)
+    (c .before .before .before .before .before .available-part .ensures) (c .before .before .before .before .available-part2 .ensures)
+    (c .before .availability-of .ensures) (c .is-broader .ensures) (c .before .before .before .happens-bit .ensures) (not-false _ (c .before .before .if2 .left))
 
 pub broadens-at-spec : {M : Type 1} → statement M
 broadens-at-spec =

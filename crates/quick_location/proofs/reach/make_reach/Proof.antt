@@ -1,24 +1,27 @@
-use native.Mathlib.Omega.{arith}
 use borrow.Author.Tests.{not-true}
-use Rattle.area.specs.State.{ordered-kept}
-use Rattle.location.specs.Reach.{reach-none, reach-both}
+use Rattle.location.specs.Reach.{reach-none, reach-first, reach-both}
 use borrow.Author.Needs.{needs}
 use Rattle.quick_location.proofs.reach.make_reach.Statement.{statement}
 use Rattle.quick_location.proofs.reach.make_reach.Tie as tie
 
 returns : tie.Need-returns
-returns c = reach-none _ _ _ _ _ (not-true _ (c .if1 .taken)) (c .before .before .before .before .pre .2)
+returns c = reach-none (not-true _ (c .if1 .taken)) (c .before .before .before .before .pre)
 
-reach-in-requires : tie.Need-reach-in-requires
-reach-in-requires c κs =
-    let s = c .before .before .before .before .before .before .before .before .before in
-    let f = c .before .before .before .reach-out .ensures .frame in
-    (s .pre .0, omega (arith, f .len, s .pre .1), ordered-kept (omega arith) f (s .pre .2))
+fill-in-requires : tie.Need-fill-in-requires
+fill-in-requires c κs =
+    reach-first (c .before .before .before .before .before .before .before .before .before .before .before .before .before .pre)
+    (c .before .before .before .before .before .before .before .fill-out .ensures) (c .before .before .before .close .ensures)
 
 returns-2 : tie.Need-returns-2
-returns-2 c = reach-both (c .before .before .before .before .before .before .before .before .before .before .before .before .pre .2)
-    (c .before .before .before .before .before .before .reach-out .ensures) (c .before .before .reach-in .ensures)
+returns-2 c =
+    reach-both
+    (c .before .before .before .before .before .before .before .before .before .before .before .before .before
+    .before .before .before .before .before .before .before .pre)
+    (c .before .before .before .before .before .before .before .before .before .before .before .before .before .before .fill-out .ensures)
+    (c .before .before .before .before .before .before .before .before .before .before .close .ensures)
+    (c .before .before .before .before .before .before .fill-in .ensures) (c .before .before .close2 .ensures)
 
 pub make-reach-spec : {M : Type 1} → statement M
 make-reach-spec =
-    tie.close (tie.spec returns (λ c κs. search needs) reach-in-requires (λ c. search needs) returns-2)
+    tie.close
+    (tie.spec returns (λ c κs. search needs) (λ c κs. search needs) fill-in-requires (λ c κs. search needs) (λ c. search needs) returns-2)

@@ -1,8 +1,7 @@
 use mathlib.Core.Path.{refl, sym, _∙_}
-use native.Mathlib.Omega.{arith}
 use borrow.Author.Tests.{not-true, not-false}
 use Rattle.finite.specs.Logic.{_and_, and-false-right}
-use Rattle.location.specs.Reach.{narrows-row}
+use Rattle.location.specs.Reach.{narrows-is}
 use Rattle.quick_location.specs.Reach.{narrows-on}
 use borrow.Author.Needs.{needs}
 use Rattle.quick_location.proofs.reach.narrows_at.Statement.{statement}
@@ -10,22 +9,17 @@ use Rattle.quick_location.proofs.reach.narrows_at.Tie as tie
 
 returns : tie.Need-returns
 returns c =
-    let s = c .before .before .before .before .before .before .before in
-    let k = c .before .before .before .visible-part .ensures in
-    let m = c .before .before .visible-part2 .ensures in
-    let h = c .before .happens-bit .ensures ∙ s .pre .4 .happening .cell _ _ (omega (arith, k .1)) (omega (arith, m .1)) in
-    sym (narrows-row _ _ _ _ _ _ _ _ _ _ _ _ _ (s .pre .5) (c .before .before .before .before .read-row .ensures) (k .0) (m .0)
-    (k .1) refl refl h ∙ and-false-right _ _ (not-true _ (c .if1 .taken)))
+    let pre = c .before .before .before .before .before .before .before .pre in
+    sym (narrows-is (pre .given) (pre .first-is) (c .before .before .before .before .read-row .ensures) (c .before .before .before .visible-part .ensures)
+    (c .before .before .visible-part2 .ensures) refl refl (c .before .happens-bit .ensures) ∙ and-false-right _ _ (not-true _ (c .if1 .taken)))
 
 returns-2 : tie.Need-returns-2
 unfolding _and_
 returns-2 c =
-    let s = c .before .before .before .before .before .before .before .before .before in
-    let k = c .before .before .before .before .before .visible-part .ensures in
-    let m = c .before .before .before .before .visible-part2 .ensures in
-    let h = c .before .before .before .happens-bit .ensures ∙ s .pre .4 .happening .cell _ _ (omega (arith, k .1)) (omega (arith, m .1)) in
-    narrows-on _ _ _ _ _ _ _ _ _ _ _ _ _ (s .pre .5) (c .before .before .before .before .before .before .read-row .ensures) (k .0) (m .0)
-    (k .1) (c .before .visibility-of .ensures) (c .is-broader .ensures) h (not-false _ (c .before .before .if1 .left))
+    let pre = c .before .before .before .before .before .before .before .before .before .pre in
+    narrows-on (pre .given) (pre .first-is) (c .before .before .before .before .before .before .read-row .ensures)
+    (c .before .before .before .before .before .visible-part .ensures) (c .before .before .before .before .visible-part2 .ensures)
+    (c .before .visibility-of .ensures) (c .is-broader .ensures) (c .before .before .before .happens-bit .ensures) (not-false _ (c .before .before .if1 .left))
 
 pub narrows-at-spec : {M : Type 1} → statement M
 narrows-at-spec =

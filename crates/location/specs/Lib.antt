@@ -1,3 +1,4 @@
+pub mod Filling
 pub mod Given
 pub mod Chains
 pub mod Reach

@@ -1,70 +1,43 @@
-use Rattle.model.specs.Location.{narrows}
-use Rattle.area.specs.State.{Ordered, ordered-kept}
-use Rattle.area.specs.Regions.{REACH-IN, REACH-IN-END, GRID}
-use Rattle.model.specs.Table.{decode}
-use Rattle.bits.specs.Stage.{made-filled}
-use Rattle.bits.specs.Fill.{rowFill, gridFill, rowFill-none, rowFill-put, gridFill-none, gridFill-more, length-rowFill}
-use Rattle.bits.specs.Within.{within-put, within-cleared}
-use lib.ListN.{length}
+use Prim.Native.Nat.{_-_}
 use native.Mathlib.Omega.{arith}
-use Prim.Native.Nat.{_+_, _-_, _*_, _≤_}
-use mathlib.Core.Path.{_≡_, refl, ap, _∙_}
+use Rattle.model.specs.Table.{decode}
+use Rattle.model.specs.Location.{narrows}
+use Rattle.area.specs.Regions.{REACH-IN, REACH-IN-END}
+use Rattle.area.specs.State.{Ordered, ordered-kept}
+use Rattle.location.specs.Filling.{RowFilled, GridFilled, row-begun, row-more, grid-begun, grid-row, grid-done}
 use borrow.Author.Needs.{needs}
 use Rattle.location.proofs.reach.fill_in.Statement.{statement}
 use Rattle.location.proofs.reach.fill_in.Tie as tie
 
 abbrev Inv-loop2 : tie.InvT-loop2
-Inv-loop2 rows p mode n w₀ j v₀ w v =
-    (v ≤ n) × (length w ≡ length w₀) × Ordered (decode rows p mode n) n w
-    × (w ≡ rowFill (narrows (decode rows p mode n) j) w₀ (REACH-IN * 64 + j * (GRID * 64)) v)
+Inv-loop2 rows p mode n w₀ j v₀ w v = RowFilled (Ordered (decode rows p mode n) n) REACH-IN n j (narrows (decode rows p mode n) j) w₀ w v
 
 abbrev μ-loop2 : tie.MeasureT-loop2
 μ-loop2 rows p mode n w₀ j v₀ w v = n - v
 
 abbrev Inv-loop : tie.InvT-loop
-Inv-loop rows p mode n w₀ j₀ w j =
-    (j ≤ n) × (length w ≡ length w₀) × Ordered (decode rows p mode n) n w
-    × (w ≡ gridFill (narrows (decode rows p mode n)) w₀ (REACH-IN * 64) (GRID * 64) n j)
+Inv-loop rows p mode n w₀ j₀ w j = GridFilled (Ordered (decode rows p mode n) n) REACH-IN n (narrows (decode rows p mode n)) w₀ w j
 
 abbrev μ-loop : tie.MeasureT-loop
 μ-loop rows p mode n w₀ j₀ w j = n - j
 
 loop-holds : tie.Need-loop-holds Inv-loop2 μ-loop2 Inv-loop μ-loop
-loop-holds c = (
-  search needs,
-  refl,
-  ordered-kept (omega arith)
-      (within-cleared REACH-IN REACH-IN-END (omega arith) (c .before .before .clear .ensures))
-      (c .before .before .before .before .before .before .pre .holds),
-  gridFill-none _ _ _ _ _,
-)
+loop-holds c = grid-begun REACH-IN-END (omega arith) (ordered-kept (omega arith)) (c .before .before .clear .ensures) (c .before .before .before .before .before .before .pre .holds)
 
 loop2-holds : tie.Need-loop2-holds Inv-loop2 μ-loop2 Inv-loop μ-loop
-loop2-holds c = (search needs, refl, c .before .loop .inv .2, rowFill-none _ _ _)
+loop2-holds c = row-begun (c .before .loop .inv .holds)
 
 loop2-again : tie.Need-loop2-again Inv-loop2 μ-loop2 Inv-loop μ-loop
 loop2-again c =
-    let put = c .before .before .put-if in
-    let inv = c .before .before .before .before .before .before .before .loop2 .inv in
-    let e = rowFill-put _ _ _ (put .last .0) _ _ _ _ (inv .3) (c .before .before .before .before .narrows-at .ensures) (omega arith) (put .ensures) in (
-      search needs,
-      ap length e ∙ length-rowFill _ _ _ _,
-      ordered-kept (omega arith) (within-put REACH-IN REACH-IN-END _ _ (omega arith) (omega arith) (put .ensures)) (inv .2),
-      e,
-    )
+    row-more REACH-IN-END (omega arith) (omega arith) (omega arith) (omega arith) (ordered-kept (omega arith))
+    (c .before .before .before .before .before .before .before .loop2 .inv) (c .before .before .before .before .narrows-at .ensures) (c .before .before .put-if .ensures)
 
 loop-again : tie.Need-loop-again Inv-loop2 μ-loop2 Inv-loop μ-loop
-loop-again c =
-    let inv = c .before .loop2 .inv in
-    let out = c .before .before .before .loop .inv in
-    let e : c .before .loop2 .v ≡ c .before .before .before .before .before .before .before .before .before .before .args .n = omega arith in
-    (search needs, inv .1 ∙ out .1, inv .2, gridFill-more _ _ _ _ _ _ _ _ (out .3) (rw e at (inv .3)))
+loop-again c = grid-row (omega arith) (omega arith) (c .before .before .before .loop .inv) (c .before .loop2 .inv)
 
 returns : tie.Need-returns Inv-loop2 μ-loop2 Inv-loop μ-loop
 returns c =
-    let e : c .before .loop .j ≡ c .before .before .before .before .before .before .before .before .args .n = omega arith in
-    made-filled REACH-IN REACH-IN-END GRID _ _ _ _ _ (omega arith) (omega arith) (omega arith)
-    (c .before .before .before .before .clear .ensures) (rw e at (c .before .loop .inv .3))
+    grid-done REACH-IN-END (omega arith) (omega arith) (omega arith) (omega arith) (c .before .before .before .before .clear .ensures) (c .before .loop .inv)
 
 pub fill-in-spec : {M : Type 1} → statement M
 fill-in-spec =

@@ -1,53 +1,32 @@
 use Rattle.quick_hosts.specs.Met.{seenFrom}
-use Rattle.location.specs.Order.{within-row}
-use Rattle.area.specs.Regions.{REACHED, REACHED-END, GRID}
+use Rattle.area.specs.Regions.{REACHED, REACHED-END}
 use Rattle.area.specs.State.{Ordered, ordered-kept}
 use Rattle.model.specs.Table.{decode}
-use Rattle.bits.specs.Stage.{made-filled}
-use Rattle.bits.specs.Fill.{gridFill, gridFill-none, gridFill-more, length-gridFill}
-use Rattle.bits.specs.Within.{within-cleared}
-use lib.ListN.{length}
 use native.Mathlib.Omega.{arith}
-use Prim.Native.Nat.{_-_, _*_, _≤_}
-use mathlib.Core.Path.{_≡_, refl, ap, _∙_}
+use Prim.Native.Nat.{_-_}
+use Rattle.location.specs.Filling.{GridFilled, grid-begun, grid-more, grid-done}
 use borrow.Author.Needs.{needs}
 use Rattle.quick_hosts.proofs.met.fill_seen.Statement.{statement}
 use Rattle.quick_hosts.proofs.met.fill_seen.Tie as tie
 
 abbrev Inv-loop : tie.InvT-loop
 Inv-loop rows p mode n w₀ i₀ w i =
-    (i ≤ n) × (length w ≡ length w₀) × Ordered (decode rows p mode n) n w
-    × (w ≡ gridFill (seenFrom (decode rows p mode n)) w₀ (REACHED * 64) (GRID * 64) n i)
+    GridFilled (Ordered (decode rows p mode n) n) REACHED n (seenFrom (decode rows p mode n)) w₀ w i
 
 abbrev μ-loop : tie.MeasureT-loop
 μ-loop rows p mode n w₀ i₀ w i = n - i
 
 loop-holds : tie.Need-loop-holds Inv-loop μ-loop
-loop-holds c = (
-  search needs,
-  refl,
-  ordered-kept (omega arith)
-      (within-cleared REACHED REACHED-END (omega arith) (c .before .before .clear .ensures))
-      (c .before .before .before .before .before .before .pre .holds),
-  gridFill-none _ _ _ _ _,
-)
+loop-holds c = grid-begun REACHED-END (omega arith) (ordered-kept (omega arith)) (c .before .before .clear .ensures) (c .before .before .before .before .before .before .pre .holds)
 
 loop-again : tie.Need-loop-again Inv-loop μ-loop
 loop-again c =
-    let row = c .before .before .seen-row in
-    let inv = c .before .before .before .before .before .loop .inv in
-    let e = gridFill-more _ _ _ _ _ _ _ _ (inv .3) (row .ensures) in (
-      search needs,
-      ap length e ∙ length-gridFill _ _ _ _ _ _,
-      ordered-kept (omega arith) (within-row REACHED REACHED-END _ _ _ (omega arith) (omega arith) (row .ensures)) (inv .2),
-      e,
-    )
+    grid-more REACHED-END (omega arith) (omega arith) (omega arith) (ordered-kept (omega arith)) (c .before .before .before .before .before .loop .inv)
+    (c .before .before .seen-row .ensures)
 
 returns : tie.Need-returns Inv-loop μ-loop
 returns c =
-    let e : c .before .loop .i ≡ c .before .before .before .before .before .before .before .before .args .n = omega arith in
-    made-filled REACHED REACHED-END GRID _ _ _ _ _ (omega arith) (omega arith) (omega arith)
-    (c .before .before .before .before .clear .ensures) (rw e at (c .before .loop .inv .3))
+    grid-done REACHED-END (omega arith) (omega arith) (omega arith) (omega arith) (c .before .before .before .before .clear .ensures) (c .before .loop .inv)
 
 pub fill-seen-spec : {M : Type 1} → statement M
 fill-seen-spec =

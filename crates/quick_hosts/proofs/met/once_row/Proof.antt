@@ -1,41 +1,31 @@
 use Rattle.quick_hosts.specs.Met.{atOnce}
-use Rattle.area.specs.Regions.{MET, MET-END, GRID}
+use Rattle.area.specs.Regions.{MET, MET-END}
 use Rattle.area.specs.State.{Ordered, ordered-kept}
 use Rattle.model.specs.Table.{decode}
-use Rattle.bits.specs.Fill.{rowFill, rowFill-none, rowFill-put, length-rowFill}
-use Rattle.bits.specs.Within.{within-put}
-use lib.ListN.{length}
 use native.Mathlib.Omega.{arith}
-use Prim.Native.Nat.{_+_, _-_, _*_, _≤_}
-use mathlib.Core.Path.{_≡_, refl, ap, _∙_}
+use Prim.Native.Nat.{_-_}
+use Rattle.location.specs.Filling.{RowFilled, row-begun, row-more, row-done}
 use borrow.Author.Needs.{needs}
 use Rattle.quick_hosts.proofs.met.once_row.Statement.{statement}
 use Rattle.quick_hosts.proofs.met.once_row.Tie as tie
 
 abbrev Inv-loop : tie.InvT-loop
 Inv-loop rows p mode n m w₀ y₀ w y =
-    (y ≤ n) × (length w ≡ length w₀) × Ordered (decode rows p mode n) n w
-    × (w ≡ rowFill (atOnce (decode rows p mode n) m) w₀ (MET * 64 + m * (GRID * 64)) y)
+    RowFilled (Ordered (decode rows p mode n) n) MET n m (atOnce (decode rows p mode n) m) w₀ w y
 
 abbrev μ-loop : tie.MeasureT-loop
 μ-loop rows p mode n m w₀ y₀ w y = n - y
 
 loop-holds : tie.Need-loop-holds Inv-loop μ-loop
-loop-holds c = (search needs, refl, c .before .before .pre .holds, rowFill-none _ _ _)
+loop-holds c = row-begun (c .before .before .pre .holds)
 
 loop-again : tie.Need-loop-again Inv-loop μ-loop
 loop-again c =
-    let put = c .before .before .put-if in
-    let inv = c .before .before .before .before .before .before .before .loop .inv in
-    let e = rowFill-put _ _ _ (put .last .0) _ _ _ _ (inv .3) (c .before .before .before .before .once-at .ensures) (omega arith) (put .ensures) in (
-      search needs,
-      ap length e ∙ length-rowFill _ _ _ _,
-      ordered-kept (omega arith) (within-put MET MET-END _ _ (omega arith) (omega arith) (put .ensures)) (inv .2),
-      e,
-    )
+    row-more MET-END (omega arith) (omega arith) (omega arith) (omega arith) (ordered-kept (omega arith)) (c .before .before .before .before .before .before .before .loop .inv)
+    (c .before .before .before .before .once-at .ensures) (c .before .before .put-if .ensures)
 
 returns : tie.Need-returns Inv-loop μ-loop
-returns c = let e : c .before .loop .y ≡ c .before .before .before .before .args .n = omega arith in rw e at (c .before .loop .inv .3)
+returns c = row-done (omega arith) (c .before .loop .inv)
 
 pub once-row-spec : {M : Type 1} → statement M
 once-row-spec =

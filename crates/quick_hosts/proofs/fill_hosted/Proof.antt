@@ -17,7 +17,9 @@ abbrev μ-loop : tie.MeasureT-loop
 μ-loop rows p mode n w₀ x₀ w x = n - x
 
 loop-holds : tie.Need-loop-holds Inv-loop μ-loop
-loop-holds c = grid-begun HOSTED-END (omega arith) sources-kept (c .before .before .clear .ensures) (c .before .before .before .before .before .before .pre .holds)
+loop-holds c =
+    grid-begun HOSTED-END (omega arith) sources-kept (c .before .before .clear .ensures)
+    (c .before .before .before .before .before .before .pre .holds)
 
 loop-again : tie.Need-loop-again Inv-loop μ-loop
 loop-again c =

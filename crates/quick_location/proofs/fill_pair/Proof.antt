@@ -68,8 +68,8 @@ returns-5 c =
     (c .before .before .before .before .before .before .before .before .before .before .before .before .before .before .read-row .ensures)
     (c .before .before .before .before .before .before .before .before .before .before .before .before .happens-bit .ensures)
     (c .before .before .before .before .before .before .before .before .before .before .grid-bit .ensures)
-    (c .before .before .before .before .before .before .before .before .before .l1 .ensures) (c .before .before .before .before .before .before .before .before .l2 .ensures)
-    (c .before .before .before .before .before .before .before .if2 .left)
+    (c .before .before .before .before .before .before .before .before .before .l1 .ensures)
+    (c .before .before .before .before .before .before .before .before .l2 .ensures) (c .before .before .before .before .before .before .before .if2 .left)
     (sym (c .before .before .before .before .before .public-write .ensures)
     ∙ not-false _ (c .before .before .before .before .if4 .left))) (c .before .before .fill-third .ensures)
 

@@ -17,7 +17,9 @@ abbrev μ-loop : tie.MeasureT-loop
 μ-loop rows p mode n w₀ i₀ w i = n - i
 
 loop-holds : tie.Need-loop-holds Inv-loop μ-loop
-loop-holds c = grid-begun REACHED-END (omega arith) (ordered-kept (omega arith)) (c .before .before .clear .ensures) (c .before .before .before .before .before .before .pre .holds)
+loop-holds c =
+    grid-begun REACHED-END (omega arith) (ordered-kept (omega arith)) (c .before .before .clear .ensures)
+    (c .before .before .before .before .before .before .pre .holds)
 
 loop-again : tie.Need-loop-again Inv-loop μ-loop
 loop-again c =

@@ -21,7 +21,8 @@ loop-holds c = row-begun (c .before .before .pre .holds)
 
 loop-again : tie.Need-loop-again Inv-loop μ-loop
 loop-again c =
-    row-more MET-END (omega arith) (omega arith) (omega arith) (omega arith) (ordered-kept (omega arith)) (c .before .before .before .before .before .before .before .loop .inv)
+    row-more MET-END (omega arith) (omega arith) (omega arith) (omega arith) (ordered-kept (omega arith))
+    (c .before .before .before .before .before .before .before .loop .inv)
     (c .before .before .before .before .once-at .ensures) (c .before .before .put-if .ensures)
 
 returns : tie.Need-returns Inv-loop μ-loop

@@ -22,7 +22,8 @@ returns-3 c =
     let pre = c .before .before .before .before .before .before .before .before .before .before .before .pre in
     broadens-on (pre .given) (pre .first-is) (c .before .before .before .before .before .before .read-row .ensures)
     (c .before .before .before .before .before .available-part .ensures) (c .before .before .before .before .available-part2 .ensures)
-    (c .before .availability-of .ensures) (c .is-broader .ensures) (c .before .before .before .happens-bit .ensures) (not-false _ (c .before .before .if2 .left))
+    (c .before .availability-of .ensures) (c .is-broader .ensures) (c .before .before .before .happens-bit .ensures)
+    (not-false _ (c .before .before .if2 .left))
 
 pub broadens-at-spec : {M : Type 1} → statement M
 broadens-at-spec =

@@ -1,22 +1,19 @@
-use mathlib.Core.Path.{_≡_, refl, ap, _∙_}
-use Prim.Native.Nat.{_+_, _-_, _*_, _≤_}
+use mathlib.Core.Path.{_≡_}
+use Prim.Native.Nat.{_-_}
 use native.Mathlib.Omega.{arith}
-use lib.ListN.{length}
-use Rattle.bits.specs.Fill.{rowFill, rowFill-none, rowFill-put, length-rowFill}
-use Rattle.bits.specs.Within.{within-put}
 use Rattle.model.specs.Table.{rowOf, decode}
 use Rattle.model.specs.Location.{broadens}
-use Rattle.area.specs.Regions.{REACH-OUT, REACH-OUT-END, GRID}
+use Rattle.area.specs.Regions.{REACH-OUT, REACH-OUT-END}
 use Rattle.area.specs.State.{Ordered, ordered-kept}
 use Rattle.quick_location.specs.Reach.{broadens-none}
+use Rattle.location.specs.Filling.{RowFilled, row-begun, row-more, row-done}
 use borrow.Author.Needs.{needs}
 use Rattle.quick_location.proofs.reach.fill_from.Statement.{statement}
 use Rattle.quick_location.proofs.reach.fill_from.Tie as tie
 
 abbrev Inv-loop : tie.InvT-loop
 Inv-loop rows p mode n a w₀ s at c₀ w c =
-    (c ≤ n) × (length w ≡ length w₀) × (s ≡ rowOf rows a) × Ordered (decode rows p mode n) n w
-    × (w ≡ rowFill (broadens (decode rows p mode n) a) w₀ (REACH-OUT * 64 + a * (GRID * 64)) c)
+    (s ≡ rowOf rows a) × RowFilled (Ordered (decode rows p mode n) n) REACH-OUT n a (broadens (decode rows p mode n) a) w₀ w c
 
 abbrev μ-loop : tie.MeasureT-loop
 μ-loop rows p mode n a w₀ s at c₀ w c = n - c
@@ -27,29 +24,25 @@ returns c =
     (c .before .before .before .before .available-part .ensures) (c .before .before .before .at .ensures) (c .before .first-both .ensures) (c .if1 .taken)
 
 loop-holds : tie.Need-loop-holds Inv-loop μ-loop
-loop-holds c =
-    let pre = c .before .before .before .before .before .before .before .before .pre in
-    (search needs, refl, c .before .before .before .before .before .read-row .ensures, pre .holds, rowFill-none _ _ _)
+loop-holds c = (
+  c .before .before .before .before .before .read-row .ensures,
+  row-begun
+      (c .before .before .before .before .before .before .before .before .pre .holds),
+)
 
 broadens-at-requires : tie.Need-broadens-at-requires Inv-loop μ-loop
 broadens-at-requires c κs = record { given = search needs; first-is = search needs }
 
 loop-again : tie.Need-loop-again Inv-loop μ-loop
 loop-again c =
-    let put = c .before .before .put-if in
-    let inv = c .before .before .before .before .before .before .before .loop .inv in
-    let e = rowFill-put _ _ _ (put .last .0) _ _ _ _ (inv .4) (c .before .before .before .before .broadens-at .ensures) (omega arith) (put .ensures) in (
-      search needs,
-      ap length e ∙ length-rowFill _ _ _ _,
-      inv .2,
-      ordered-kept (omega arith) (within-put REACH-OUT REACH-OUT-END _ _ (omega arith) (omega arith) (put .ensures)) (inv .3),
-      e,
+    let inv = c .before .before .before .before .before .before .before .loop .inv in (
+      inv .0,
+      row-more REACH-OUT-END (omega arith) (omega arith) (omega arith) (omega arith) (ordered-kept (omega arith)) (inv .1)
+          (c .before .before .before .before .broadens-at .ensures) (c .before .before .put-if .ensures),
     )
 
 returns-2 : tie.Need-returns-2 Inv-loop μ-loop
-returns-2 c =
-    let e : c .before .loop .c ≡ c .before .before .before .before .before .before .before .before .before .before .args .n = omega arith in
-    rw e at (c .before .loop .inv .4)
+returns-2 c = row-done (omega arith) (c .before .loop .inv .1)
 
 pub fill-from-spec : {M : Type 1} → statement M
 fill-from-spec =

@@ -1,53 +1,34 @@
-use mathlib.Core.Path.{_≡_, refl, ap, _∙_}
-use Prim.Native.Nat.{_-_, _*_, _≤_}
+use Prim.Native.Nat.{_-_}
 use native.Mathlib.Omega.{arith}
-use lib.ListN.{length}
-use Rattle.bits.specs.Fill.{gridFill, gridFill-none, gridFill-more, length-gridFill}
-use Rattle.bits.specs.Stage.{made-filled}
-use Rattle.bits.specs.Within.{within-cleared}
 use Rattle.model.specs.Table.{decode}
 use Rattle.model.specs.Location.{broadens}
-use Rattle.area.specs.Regions.{REACH-OUT, REACH-OUT-END, GRID}
+use Rattle.area.specs.Regions.{REACH-OUT, REACH-OUT-END}
 use Rattle.area.specs.State.{Ordered, ordered-kept}
-use Rattle.location.specs.Order.{within-row}
+use Rattle.location.specs.Filling.{GridFilled, grid-begun, grid-more, grid-done}
 use borrow.Author.Needs.{needs}
 use Rattle.quick_location.proofs.reach.fill_out.Statement.{statement}
 use Rattle.quick_location.proofs.reach.fill_out.Tie as tie
 
 abbrev Inv-loop : tie.InvT-loop
 Inv-loop rows p mode n w₀ a₀ w a =
-    (a ≤ n) × (length w ≡ length w₀) × Ordered (decode rows p mode n) n w
-    × (w ≡ gridFill (broadens (decode rows p mode n)) w₀ (REACH-OUT * 64) (GRID * 64) n a)
+    GridFilled (Ordered (decode rows p mode n) n) REACH-OUT n (broadens (decode rows p mode n)) w₀ w a
 
 abbrev μ-loop : tie.MeasureT-loop
 μ-loop rows p mode n w₀ a₀ w a = n - a
 
 loop-holds : tie.Need-loop-holds Inv-loop μ-loop
-loop-holds c = (
-  search needs,
-  refl,
-  ordered-kept (omega arith)
-      (within-cleared REACH-OUT REACH-OUT-END (omega arith) (c .before .before .clear .ensures))
-      (c .before .before .before .before .before .before .pre .holds),
-  gridFill-none _ _ _ _ _,
-)
+loop-holds c =
+    grid-begun REACH-OUT-END (omega arith) (ordered-kept (omega arith)) (c .before .before .clear .ensures)
+    (c .before .before .before .before .before .before .pre .holds)
 
 loop-again : tie.Need-loop-again Inv-loop μ-loop
 loop-again c =
-    let row = c .before .before .fill-from in
-    let inv = c .before .before .before .before .before .loop .inv in
-    let e = gridFill-more _ _ _ _ _ _ _ _ (inv .3) (row .ensures) in (
-      search needs,
-      ap length e ∙ length-gridFill _ _ _ _ _ _,
-      ordered-kept (omega arith) (within-row REACH-OUT REACH-OUT-END _ _ _ (omega arith) (omega arith) (row .ensures)) (inv .2),
-      e,
-    )
+    grid-more REACH-OUT-END (omega arith) (omega arith) (omega arith) (ordered-kept (omega arith)) (c .before .before .before .before .before .loop .inv)
+    (c .before .before .fill-from .ensures)
 
 returns : tie.Need-returns Inv-loop μ-loop
 returns c =
-    let e : c .before .loop .a ≡ c .before .before .before .before .before .before .before .before .args .n = omega arith in
-    made-filled REACH-OUT REACH-OUT-END GRID _ _ _ _ _ (omega arith) (omega arith) (omega arith)
-    (c .before .before .before .before .clear .ensures) (rw e at (c .before .loop .inv .3))
+    grid-done REACH-OUT-END (omega arith) (omega arith) (omega arith) (omega arith) (c .before .before .before .before .clear .ensures) (c .before .loop .inv)
 
 pub fill-out-spec : {M : Type 1} → statement M
 fill-out-spec =

@@ -1,22 +1,19 @@
-use mathlib.Core.Path.{_≡_, refl, ap, _∙_}
-use Prim.Native.Nat.{_+_, _-_, _*_, _≤_}
+use mathlib.Core.Path.{_≡_}
+use Prim.Native.Nat.{_-_}
 use native.Mathlib.Omega.{arith}
-use lib.ListN.{length}
-use Rattle.bits.specs.Fill.{rowFill, rowFill-none, rowFill-put, length-rowFill}
-use Rattle.bits.specs.Within.{within-put}
 use Rattle.model.specs.Table.{rowOf, decode}
 use Rattle.model.specs.Location.{narrows}
-use Rattle.area.specs.Regions.{REACH-IN, REACH-IN-END, GRID}
+use Rattle.area.specs.Regions.{REACH-IN, REACH-IN-END}
 use Rattle.area.specs.State.{Ordered, ordered-kept}
 use Rattle.quick_location.specs.Reach.{narrows-none}
+use Rattle.location.specs.Filling.{RowFilled, row-begun, row-more, row-done}
 use borrow.Author.Needs.{needs}
 use Rattle.quick_location.proofs.reach.fill_to.Statement.{statement}
 use Rattle.quick_location.proofs.reach.fill_to.Tie as tie
 
 abbrev Inv-loop : tie.InvT-loop
 Inv-loop rows p mode n j w₀ u at v₀ w v =
-    (v ≤ n) × (length w ≡ length w₀) × (u ≡ rowOf rows j) × Ordered (decode rows p mode n) n w
-    × (w ≡ rowFill (narrows (decode rows p mode n) j) w₀ (REACH-IN * 64 + j * (GRID * 64)) v)
+    (u ≡ rowOf rows j) × RowFilled (Ordered (decode rows p mode n) n) REACH-IN n j (narrows (decode rows p mode n) j) w₀ w v
 
 abbrev μ-loop : tie.MeasureT-loop
 μ-loop rows p mode n j w₀ u at v₀ w v = n - v
@@ -27,29 +24,25 @@ returns c =
     (c .before .before .before .before .visible-part .ensures) (c .before .before .before .at .ensures) (c .before .first-both .ensures) (c .if1 .taken)
 
 loop-holds : tie.Need-loop-holds Inv-loop μ-loop
-loop-holds c =
-    let pre = c .before .before .before .before .before .before .before .before .pre in
-    (search needs, refl, c .before .before .before .before .before .read-row .ensures, pre .holds, rowFill-none _ _ _)
+loop-holds c = (
+  c .before .before .before .before .before .read-row .ensures,
+  row-begun
+      (c .before .before .before .before .before .before .before .before .pre .holds),
+)
 
 narrows-at-requires : tie.Need-narrows-at-requires Inv-loop μ-loop
 narrows-at-requires c κs = record { given = search needs; first-is = search needs }
 
 loop-again : tie.Need-loop-again Inv-loop μ-loop
 loop-again c =
-    let put = c .before .before .put-if in
-    let inv = c .before .before .before .before .before .before .before .loop .inv in
-    let e = rowFill-put _ _ _ (put .last .0) _ _ _ _ (inv .4) (c .before .before .before .before .narrows-at .ensures) (omega arith) (put .ensures) in (
-      search needs,
-      ap length e ∙ length-rowFill _ _ _ _,
-      inv .2,
-      ordered-kept (omega arith) (within-put REACH-IN REACH-IN-END _ _ (omega arith) (omega arith) (put .ensures)) (inv .3),
-      e,
+    let inv = c .before .before .before .before .before .before .before .loop .inv in (
+      inv .0,
+      row-more REACH-IN-END (omega arith) (omega arith) (omega arith) (omega arith) (ordered-kept (omega arith)) (inv .1)
+          (c .before .before .before .before .narrows-at .ensures) (c .before .before .put-if .ensures),
     )
 
 returns-2 : tie.Need-returns-2 Inv-loop μ-loop
-returns-2 c =
-    let e : c .before .loop .v ≡ c .before .before .before .before .before .before .before .before .before .before .args .n = omega arith in
-    rw e at (c .before .loop .inv .4)
+returns-2 c = row-done (omega arith) (c .before .loop .inv .1)
 
 pub fill-to-spec : {M : Type 1} → statement M
 fill-to-spec =

@@ -3,7 +3,6 @@
 ghost use Prim.Native.Nat.{_≤_, _<_};
 ghost use lib.ListN.{length};
 ghost use Rattle.model.specs.Limits.{ROWS, WORK};
-ghost use Rattle.area.specs.Regions.{GRID};
 ghost use Rattle.cycle.specs.Marks.{Asked, Marked, Round, ClosedMarked};
 use sets::grid;
 use sets::walk;

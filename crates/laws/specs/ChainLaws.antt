@@ -260,9 +260,10 @@ module _ (t : Table) (scoped : Scoped t) (off : t .chains ≡ false) where
     shared : (d c m : ℕ) → 1 ≤ d → c < t .rows → rowIn m ≡ c → leb d (t .row c .scope) ≡ true
         → shares (t .places) d (t .row x .agent) (t .row y .agent) ≡ true → shareMoment t x y m ≡ true
     unfolding shareMoment
-    shared d c m l k e f h =
-        subst (λ (i : ℕ). shares (t .places) (t .row i .scope) (t .row x .agent) (t .row y .agent) ≡ true) (sym e)
-        (shares-wider (t .places) d (t .row c .scope) (t .row x .agent) (t .row y .agent) l (leb-true d (t .row c .scope) f) (scoped c k) h)
+    shared d c m positive row-there row-is wide sharing =
+        subst (λ (i : ℕ). shares (t .places) (t .row i .scope) (t .row x .agent) (t .row y .agent) ≡ true) (sym row-is)
+        (shares-wider (t .places) d (t .row c .scope) (t .row x .agent) (t .row y .agent) positive (leb-true d (t .row c .scope) wide)
+        (scoped c row-there) sharing)
 
     shown-single : (d c w : ℕ) → 1 ≤ d → shares (t .places) d (t .row x .agent) (t .row y .agent) ≡ true → w < t .rows
         → visibleVia t d y b c w ≡ true → singleShown t x y b (availableAt t c) (visibleAt t w) ≡ true
@@ -317,27 +318,29 @@ module _ (t : Table) (scoped : Scoped t) (off : t .chains ≡ false) where
     in-domain-x : (d m : ℕ) → 1 ≤ d → d ≤ DEVICE → singleAvailable t x b m ≡ true → d ≤ t .row (rowIn m) .scope → shares (t .places) d X Y ≡ true
         → inDomain t d x (rowIn m) ≡ true
     unfolding singleAvailable inDomain
-    in-domain-x d m l n e k h =
-        let q : t .row (rowIn (itself x)) .agent ≡ t .row (rowIn m) .agent = order-agent t (itself x) m (split (split e .0) .1) in
+    in-domain-x d m positive most available wide sharing =
+        let q : t .row (rowIn (itself x)) .agent ≡ t .row (rowIn m) .agent = order-agent t (itself x) m (split (split available .0) .1) in
         let r : X ≡ t .row (rowIn m) .agent = ap (λ (i : ℕ). t .row i .agent) (sym (itself-row t x)) ∙ q in
-        and-true (le-leb d (t .row (rowIn m) .scope) k) (subst (λ (a : ℕ). shares (t .places) d X a ≡ true) r (shares-left (t .places) d X Y l n h))
+        and-true (le-leb d (t .row (rowIn m) .scope) wide)
+        (subst (λ (a : ℕ). shares (t .places) d X a ≡ true) r (shares-left (t .places) d X Y positive most sharing))
 
     in-domain-y : (d m : ℕ) → 1 ≤ d → d ≤ DEVICE → singleVisible t y b m ≡ true → d ≤ t .row (rowIn m) .scope → shares (t .places) d X Y ≡ true
         → inDomain t d y (rowIn m) ≡ true
     unfolding singleVisible inDomain
-    in-domain-y d m l n e k h =
-        let q : t .row (rowIn m) .agent ≡ t .row (rowIn (itself y)) .agent = order-agent t m (itself y) (split (split e .0) .1) in
+    in-domain-y d m positive most visible wide sharing =
+        let q : t .row (rowIn m) .agent ≡ t .row (rowIn (itself y)) .agent = order-agent t m (itself y) (split (split visible .0) .1) in
         let r : Y ≡ t .row (rowIn m) .agent = ap (λ (i : ℕ). t .row i .agent) (sym (itself-row t y)) ∙ sym q in
-        and-true (le-leb d (t .row (rowIn m) .scope) k) (subst (λ (a : ℕ). shares (t .places) d Y a ≡ true) r (shares-right (t .places) d X Y l n h))
+        and-true (le-leb d (t .row (rowIn m) .scope) wide)
+        (subst (λ (a : ℕ). shares (t .places) d Y a ≡ true) r (shares-right (t .places) d X Y positive most sharing))
 
     -- c makes available to a domain of scope d
     build : (d c : ℕ) → 1 ≤ d → d ≤ DEVICE → c < t .rows → shares (t .places) d X Y ≡ true → inDomain t d x c ≡ true → availableFrom t x b c ≡ true
         → reaches t d y b c ≡ true
         → anyBelow (t .rows) (availableVia t x y b) ≡ true
     unfolding byDomain availableVia
-    build zero c l n k h i a e = absurd (omega arith)
-    build (suc d) c l n k h i a e = any-in (availableVia t x y b) (t .rows) c k
-        (and-true a (any-in (byDomain t x y b c) DEVICE d (omega arith) (and-true (and-true h i) e)))
+    build zero c positive most row-there sharing inside available reached = absurd (omega arith)
+    build (suc d) c positive most row-there sharing inside available reached = any-in (availableVia t x y b) (t .rows) c row-there
+        (and-true available (any-in (byDomain t x y b c) DEVICE d (omega arith) (and-true (and-true sharing inside) reached)))
 
     available-single : (m : ℕ) → singleAvailable t x b m ≡ true → availability t m ≡ true
     unfolding singleAvailable
@@ -351,40 +354,47 @@ module _ (t : Table) (scoped : Scoped t) (off : t .chains ≡ false) where
     back-carried : (d m : ℕ) → m < 3 * t .rows → 1 ≤ d → d ≤ DEVICE → singleAvailable t x b m ≡ true → d ≤ t .row (rowIn m) .scope
         → shares (t .places) d X Y ≡ true
         → reaches t d y b (rowIn m) ≡ true → anyBelow (t .rows) (availableVia t x y b) ≡ true
-    back-carried d m lm l n e k h f =
-        build d (rowIn m) l n (omega arith) h (in-domain-x d m l n e k h) (first-from x b (rowIn m) (omega arith) (single-first x b m e)) f
+    back-carried d m moment-there positive most available wide sharing reached =
+        build d (rowIn m) positive most (omega arith) sharing (in-domain-x d m positive most available wide sharing)
+        (first-from x b (rowIn m) (omega arith) (single-first x b m available)) reached
 
     back-writing : (m : ℕ) → m < 3 * t .rows → reads (t .row y) ≡ false → singleAvailable t x b m ≡ true → shareMoment t x y m ≡ true
         → happens t m (itself y) ≡ true
         → anyBelow (t .rows) (availableVia t x y b) ≡ true
     unfolding shareMoment reaches
-    back-writing m lm r e h f =
-        let l = available-scope t m (available-single m e) in
-        let n = scoped (rowIn m) (omega arith) in
+    back-writing m moment-there no-read available sharing earlier =
+        let positive = available-scope t m (available-single m available) in
+        let most = scoped (rowIn m) (omega arith) in
         let g : happens t (availableAt t (rowIn m)) (itself y) ≡ true = subst (λ (k : ℕ). happens t k (itself y) ≡ true)
-        (sym (available-moment t m (available-single m e))) f in
-        back-carried (t .row (rowIn m) .scope) m lm l n e (omega arith) h (rw r g)
+        (sym (available-moment t m (available-single m available))) earlier in
+        back-carried (t .row (rowIn m) .scope) m moment-there positive most available (omega arith) sharing (rw no-read g)
 
     back-reading : (m v : ℕ) → m < 3 * t .rows → v < 3 * t .rows → reads (t .row y) ≡ true → singleAvailable t x b m ≡ true → shareMoment t x y m ≡ true
         → singleVisible t y b v ≡ true → shareMoment t x y v ≡ true → happens t m v ≡ true → anyBelow (t .rows) (availableVia t x y b) ≡ true
     unfolding shareMoment reaches visibleVia
-    back-reading m v lm lv r e h f g o = go (decLt (t .row (rowIn v) .scope) (t .row (rowIn m) .scope))
+    back-reading m v first-there second-there a-read available first-shares visible second-shares earlier =
+        go (decLt (t .row (rowIn v) .scope) (t .row (rowIn m) .scope))
       where
         hap : happens t (availableAt t (rowIn m)) (visibleAt t (rowIn v)) ≡ true
         hap =
-            subst (λ (k : ℕ). happens t k (visibleAt t (rowIn v)) ≡ true) (sym (available-moment t m (available-single m e)))
-            (subst (λ (k : ℕ). happens t m k ≡ true) (sym (visible-moment t v (visible-single v f))) o)
+            subst (λ (k : ℕ). happens t k (visibleAt t (rowIn v)) ≡ true) (sym (available-moment t m (available-single m available)))
+            (subst (λ (k : ℕ). happens t m k ≡ true) (sym (visible-moment t v (visible-single v visible))) earlier)
 
         by : (d : ℕ) → 1 ≤ d → d ≤ DEVICE → d ≤ t .row (rowIn m) .scope → d ≤ t .row (rowIn v) .scope → shares (t .places) d X Y ≡ true
             → anyBelow (t .rows) (availableVia t x y b) ≡ true
-        by d l n km kv s =
-            back-carried d m lm l n e km s
-            (rw r (any-in (visibleVia t d y b (rowIn m)) (t .rows) (rowIn v) (omega arith)
-            (and-true (and-true (in-domain-y d v l n f kv s) hap) (last-to y b (rowIn v) (omega arith) (single-last y b v f)))))
+        by d positive most first-wide second-wide sharing =
+            back-carried d m first-there positive most available first-wide sharing
+            (rw a-read (any-in (visibleVia t d y b (rowIn m)) (t .rows) (rowIn v) (omega arith)
+            (and-true (and-true (in-domain-y d v positive most visible second-wide sharing) hap)
+            (last-to y b (rowIn v) (omega arith) (single-last y b v visible)))))
 
         go : Dec (t .row (rowIn v) .scope < t .row (rowIn m) .scope) → anyBelow (t .rows) (availableVia t x y b) ≡ true
-        go (yes q) = by (t .row (rowIn v) .scope) (visible-scope t v (visible-single v f)) (scoped (rowIn v) (omega arith)) (omega arith) (omega arith) g
-        go (no q) = by (t .row (rowIn m) .scope) (available-scope t m (available-single m e)) (scoped (rowIn m) (omega arith)) (omega arith) (omega arith) h
+        go (yes q) =
+            by (t .row (rowIn v) .scope) (visible-scope t v (visible-single v visible)) (scoped (rowIn v) (omega arith)) (omega arith) (omega arith)
+            second-shares
+        go (no q) =
+            by (t .row (rowIn m) .scope) (available-scope t m (available-single m available)) (scoped (rowIn m) (omega arith)) (omega arith) (omega arith)
+            first-shares
 
     back : Single t x y b ≡ true → L3 t x y b ≡ true
     unfolding L3 Single singleCarried singleMet singleShown

@@ -59,7 +59,7 @@ pub fn make_system(mode: Mode, n: usize, w: &mut [u64])
     for k in 0..mode.dependencies {
         put_dependency(mode, n, k, w);
     }
-    bits::close(w, area::SYSTEM, n, area::GRID);
+    area::grid::close(w, area::SYSTEM, n);
 }
 
 // L4 of r, where s tells whether it system-synchronizes.

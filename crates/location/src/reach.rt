@@ -110,7 +110,7 @@ pub fn make_reach(rows: &[u8], p: Places, mode: Mode, n: usize, w: &mut [u64])
         return;
     }
     fill_out(rows, p, mode, n, w);
-    bits::close(w, area::REACH_OUT, n, area::GRID);
+    area::grid::close(w, area::REACH_OUT, n);
     fill_in(rows, p, mode, n, w);
-    bits::close(w, area::REACH_IN, n, area::GRID);
+    area::grid::close(w, area::REACH_IN, n);
 }

@@ -69,7 +69,8 @@ module _ (b : List ℕ) (p : List (List ℕ)) (mode : Mode) (n : ℕ) where
   -- the test on rows, with the bit of the work area
   pub step-read : (w : List ℕ) (s m k : ℕ) (v d : Bool) → Synced (decode b p mode n) n w → m < 3 * n → k < 3 * n → v ≡ rel w SYNC GRID (m / 3) (k / 3)
       → d ≡ stepRows s (m % 3) (k % 3) (rowOf b (m / 3)) (rowOf b (k / 3)) v (programOrder (decode b p mode n) m k) → d ≡ step₁ (decode b p mode n) s m k
-  step-read w s m k v d h l o e f = rw (step-is s m k, ← (e ∙ h .syncs .cell (m / 3) (k / 3) (omega arith) (omega arith))) f
+  step-read w s m k v d synced first-there second-there bit-is tested =
+      rw (step-is s m k, ← (bit-is ∙ synced .syncs .cell (m / 3) (k / 3) (omega arith) (omega arith))) tested
 
   -- a moment that holds all of s is the own moment of a row that does
   own : (s m : ℕ) → holding (decode b p mode n) s m ≡ true → (m % 3 ≡ AT) × (holdsAt b s (m / 3) ≡ true)

@@ -167,10 +167,12 @@ module _ (t : Table) (s : ℕ) where
 
   chain-in : (m k : ℕ) (l : List ℕ) → 1 ≤ s → s ≤ CLASS-SETS → 1 ≤ length l → length l ≤ CHAIN → Leads t s m l k → chainHolds t s m k l ≡ true
   unfolding chainHolds broken
-  chain-in m k l a b c d p =
+  chain-in m k l positive a-set some few leads =
       and-true
-      (and-true (and-true (and-true (and-true (lt-ltb _ _ a) (le-leb _ _ b)) (lt-ltb _ _ c)) (le-leb _ _ d)) (eq-eqb _ _ (leads-end p)))
-      (not-in (any-not (broken t s m l) (length l) (λ i q. ap not (leads-each p i q))))
+      (and-true
+      (and-true (and-true (and-true (lt-ltb _ _ positive) (le-leb _ _ a-set)) (lt-ltb _ _ some)) (le-leb _ _ few))
+      (eq-eqb _ _ (leads-end leads)))
+      (not-in (any-not (broken t s m l) (length l) (λ i q. ap not (leads-each leads i q))))
 
 -- ---- what is accepted: the word where program order holds, or a chain whose steps hold in the table for its one class set and lead from
 -- the first moment to the second

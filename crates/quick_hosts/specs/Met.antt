@@ -245,14 +245,13 @@ module _ (t : Table) {n : ℕ} {w : List ℕ} where
 -- ---- laws: what is told from bytes and bits
 
 -- the readers that see it by way of row i join those that meet it
-pub seen-some : {b : List ℕ} {p : List (List ℕ)} {mode : Mode} {n m i to from : ℕ} {w u : List ℕ} → GivenRows Seeing b p mode n m i w
-    → shows (decode b p mode n) m i ≡ true → to ≡ MET + m * GRID → from ≡ REACHED + i * GRID → u ≡ joinRow w to from GRID
+pub seen-some : {b : List ℕ} {p : List (List ℕ)} {mode : Mode} {n m i : ℕ} {w u : List ℕ} → GivenRows Seeing b p mode n m i w
+    → shows (decode b p mode n) m i ≡ true → u ≡ joinRow w (MET + m * GRID) (REACHED + i * GRID) GRID
     → MetMore n (only m (λ y. seenAfter (decode b p mode n) m y i)) w u
 unfolding only
-seen-some {b} {p} {mode} {n} {m} {i} {to} {from} {w} {u} given shown to-is from-is joined =
-    let e : u ≡ joinRow w (MET + m * GRID) (REACHED + i * GRID) GRID = rw (to-is, from-is) at joined in
+seen-some {b} {p} {mode} {n} {m} {i} given shown joined =
     more-cong (λ a y l k. ap (λ (c : Bool). eqb a m and c) (show-some (decode b p mode n) m i y shown))
-    (row-joined m i (seenFrom (decode b p mode n)) (given .few) (given .room) (given .first) (given .second) (given .holds .seeing) e)
+    (row-joined m i (seenFrom (decode b p mode n)) (given .few) (given .room) (given .first) (given .second) (given .holds .seeing) joined)
 
 module _ {b : List ℕ} {p : List (List ℕ)} {mode : Mode} {n x y : ℕ} {w : List ℕ} (given : GivenRows Ordered b p mode n x y w) where
   before-is : {g : Bool} → g ≡ rel w HAPPENS MOMENTS (itself x) (itself y) → g ≡ happens (decode b p mode n) (itself x) (itself y)

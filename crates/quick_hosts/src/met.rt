@@ -122,9 +122,7 @@ fn add_seen(rows: &[u8], p: Places, mode: Mode, n: usize, m: usize, i: usize, w:
     if !shows_at(rows, p, mode, n, m, i, w) {
         return;
     }
-    let to = area::grid::at(area::MET, m);
-    let from = area::grid::at(area::REACHED, i);
-    bits::join_row(w, to, from, area::GRID);
+    area::grid::join(w, area::MET, m, area::REACHED, i);
 }
 
 // ---- all of them

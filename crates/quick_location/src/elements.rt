@@ -73,7 +73,7 @@ fn some_linked(
     ensures { λ d. ⌜ d ≡ anyBelow n (linkedWith (decode (now (rows .entry)) p mode n) x y a v) ⌝ }
 {
     let at = area::grid::at(area::REACH_OUT, a);
-    let f = sets::first_both(w, at, at, area::GRID);
+    let f = sets::grid::first_both(w, at, at);
     if n <= f {
         return false;
     }
@@ -152,7 +152,7 @@ fn some_met(
     ensures { λ d. ⌜ d ≡ anyBelow n (metWith (decode (now (rows .entry)) p mode n) x y a) ⌝ }
 {
     let at = area::grid::at(area::REACH_OUT, a);
-    let f = sets::first_both(w, at, at, area::GRID);
+    let f = sets::grid::first_both(w, at, at);
     if n <= f {
         return false;
     }
@@ -234,7 +234,7 @@ fn lasts_from(mode: Mode, c: usize, w: &[u64]) -> usize
         return 0;
     }
     let at = area::moments::at(area::HAPPENS, c);
-    sets::first_both(w, at, at, area::MOMENTS) / 3
+    sets::moments::first_both(w, at, at) / 3
 }
 
 // The bytes of c, which are those that the first element a covers, that y sees by way of some last element. No row after y is one.

@@ -78,7 +78,7 @@ fn fill_from(rows: &[u8], p: Places, mode: Mode, n: usize, a: usize, w: &mut [u6
 {
     let s = bytes::read_row(rows, a as u16);
     let at = area::moments::at(area::HAPPENS, 3 * a + chains::available_part(s));
-    if 64 * area::MOMENTS <= sets::first_both(w, at, at, area::MOMENTS) {
+    if sets::moments::END <= sets::moments::first_both(w, at, at) {
         return;
     }
     for c in 0..n {
@@ -94,7 +94,7 @@ fn fill_to(rows: &[u8], p: Places, mode: Mode, n: usize, j: usize, w: &mut [u64]
 {
     let u = bytes::read_row(rows, j as u16);
     let at = area::moments::at(area::HAPPENS, 3 * j + chains::visible_part(u));
-    if 64 * area::MOMENTS <= sets::first_both(w, at, at, area::MOMENTS) {
+    if sets::moments::END <= sets::moments::first_both(w, at, at) {
         return;
     }
     for v in 0..n {
@@ -136,7 +136,7 @@ pub fn make_reach(rows: &[u8], p: Places, mode: Mode, n: usize, w: &mut [u64])
         return;
     }
     fill_out(rows, p, mode, n, w);
-    bits::close(w, area::REACH_OUT, n, area::GRID);
+    area::grid::close(w, area::REACH_OUT, n);
     fill_in(rows, p, mode, n, w);
-    bits::close(w, area::REACH_IN, n, area::GRID);
+    area::grid::close(w, area::REACH_IN, n);
 }

@@ -50,6 +50,7 @@ module _ (b : List ℕ) (p : List (List ℕ)) (mode : Mode) (n : ℕ) where
       → d ≡ lowestRows s (m % 3) (k % 3) (rowOf b (m / 3)) (rowOf b (k / 3)) v (programOrder (decode b p mode n) m k)
       → CASE * d + k ≡ stepNumber (decode b p mode n) s m k
   unfolding stepNumber
-  number-is w s m k i d v h l o at e f =
-      let g : v ≡ synchronizes (decode b p mode n) (m / 3) (k / 3) = e ∙ holds-bit (h .syncs) i (m / 3) (k / 3) at (omega arith) (omega arith) in
-      rw (case-is s m k, ← g, ← f) refl
+  number-is w s m k i d v synced first-there second-there at bit-is lowest =
+      let g : v ≡ synchronizes (decode b p mode n) (m / 3) (k / 3) =
+      bit-is ∙ holds-bit (synced .syncs) i (m / 3) (k / 3) at (omega arith) (omega arith) in
+      rw (case-is s m k, ← g, ← lowest) refl

@@ -10,13 +10,11 @@ returns c = seen-none _ _ _ (sym (c .before .shows-at .ensures) ∙ not-true _ (
 
 returns-2 : tie.Need-returns-2
 returns-2 c =
-    seen-some (c .before .before .before .before .before .before .before .before .before .before .before .pre)
-    (sym (c .before .before .before .before .before .before .before .shows-at .ensures)
-    ∙ not-false _ (c .before .before .before .before .before .before .if1 .left))
-    (c .before .before .before .before .before .at .ensures) (c .before .before .before .before .at2 .ensures) (c .before .before .join-row .ensures)
+    seen-some (c .before .before .before .before .before .before .before .before .before .pre)
+    (sym (c .before .before .before .before .before .shows-at .ensures) ∙ not-false _ (c .before .before .before .before .if1 .left))
+    (c .before .before .join .ensures)
 
 pub add-seen-spec : {M : Type 1} → statement M
 add-seen-spec =
     tie.close
-    (tie.spec (λ c κs. search needs) (λ c. search needs) returns (λ c κs. search needs) (λ c κs. search needs) (λ c κs. search needs)
-    (λ c. search needs) returns-2)
+    (tie.spec (λ c κs. search needs) (λ c. search needs) returns (λ c κs. search needs) (λ c. search needs) returns-2)

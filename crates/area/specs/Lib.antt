@@ -1,3 +1,4 @@
 pub mod Regions
 pub mod State
 pub mod Synced
+pub mod Mask

@@ -6,6 +6,10 @@ ghost use lib.ListN.{length};
 ghost use Rattle.bits.specs.Bit.{bit, setBitIf};
 ghost use Rattle.model.specs.Limits.{ROWS, WORK};
 ghost use Rattle.area.specs.Regions.{LOCATION, PAIR, PAIRS};
+ghost use Rattle.area.specs.Mask.{maskAt};
+
+// As many as PAIR bits can say.
+const MASKS: u64 = 65536;
 
 // The first bit of rows x and y.
 // Ruled out: one that exchanges the two rows; one that takes a pair's words for its bits.
@@ -26,6 +30,16 @@ pub fn get(w: &[u64], x: usize, y: usize, k: usize) -> bool
         w,
         super::LOCATION * 64 + x * super::PAIRS + y * super::PAIR + k,
     )
+}
+
+// All bits of rows x and y at once, the first the lowest: they stand in one word.
+// Ruled out: one that has the bits of the whole word; one that has those of rows y and x.
+pub fn mask(w: &[u64], x: usize, y: usize) -> u64
+    requires { ⌜ (x < ROWS) × (y < ROWS) × (WORK ≤ length (now w)) ⌝ }
+    ensures { λ m. ⌜ m ≡ maskAt (now (w .entry)) (LOCATION * 64 + x * PAIRS + y * PAIR) ⌝ }
+{
+    let first = at(x, y);
+    (w[first / 64] >> (first % 64)) % MASKS
 }
 
 // Sets it where b.

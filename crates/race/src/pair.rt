@@ -11,14 +11,13 @@ ghost use Rattle.race.specs.Pairs.{unsetAt};
 use model::Mode;
 use model::Places;
 
-// Whether none of the bits of rows x and y is set: they stand in one word.
+// Whether none of the bits of rows x and y is set.
 // Ruled out: one that looks at the whole word; one that looks at the bits of rows y and x.
 pub fn is_unset(w: &[u64], x: usize, y: usize) -> bool
     requires { ⌜ (x < ROWS) × (y < ROWS) × (WORK ≤ length (now w)) ⌝ }
     ensures { λ b. ⌜ b ≡ unsetAt (now (w .entry)) (LOCATION * 64 + x * PAIRS + y * PAIR) ⌝ }
 {
-    let at = area::pairs::at(x, y);
-    (w[at / 64] >> (at % 64)) % 65536 == 0
+    area::pairs::mask(w, x, y) == 0
 }
 
 // Edge 1: whether x is location-ordered before y at some byte.

@@ -8,5 +8,4 @@ unfolding unsetAt
 returns c = cc
 
 pub is-unset-spec : {M : Type 1} → statement M
-is-unset-spec =
-    tie.close (tie.spec (λ c κs. search needs) (λ c. search needs) (λ c. search needs) (λ c. search needs) returns)
+is-unset-spec = tie.close (tie.spec (λ c κs. search needs) returns)

@@ -353,7 +353,7 @@ concern-set t n s w u l h c made =
 pub quiet-is : (t : Table) (n s : ℕ) (w : List ℕ) → t .rows ≡ n → n ≤ ROWS → Rows JOINED n (3 * n) (syncsTo t) w → Set HOLD (3 * n) (holding t s) w
     → anyBelow n (joinsHolder w) ≡ false → (m k : ℕ) → m < 3 * t .rows → k < 3 * t .rows → bySync t s m k ≡ false
 unfolding bySync joinsHolder both syncsTo rel
-quiet-is t n s w same few joined hold none m k l o = not-so _ (λ h. go h)
+quiet-is t n s w same few joined hold none m k below-m below-k = not-so _ (λ h. go h)
   where
     go : (holding t s m and holding t s k and synchronizes t (m / 3) (k / 3)) ≡ true → ⊥
     go h =
@@ -403,8 +403,8 @@ touch-kept s c w v m f =
 pub touch-made : (r o : Row) (q c a x : ℕ) (d e f : Bool) (w v z u : List ℕ) → r ≡ o → c ≡ single q → d ≡ touches c r 0 → v ≡ setBitIf d w (a * 64 + 3 * x)
     → e ≡ touches c r 1 → z ≡ setBitIf e v (a * 64 + (3 * x + 1)) → f ≡ touches c r 2 → u ≡ setBitIf f z (a * 64 + (3 * x + 2)) → u ≡ touchWords o q a x w
 unfolding touchWords
-touch-made r o q c a x d e f w v z u same of first-is first-put second-is second-put third-is third-put =
-    rw (← same, ← of, ← first-is, ← second-is, ← third-is, ← first-put, ← second-put) third-put
+touch-made r o q c a x d e f w v z u same class-is first-is first-put second-is second-put third-is third-put =
+    rw (← same, ← class-is, ← first-is, ← second-is, ← third-is, ← first-put, ← second-put) third-put
 
 pub release-made : (w v u : List ℕ) → WORK ≤ length w → v ≡ zeros w RELEASE (RELEASE + MOMENTS - RELEASE)
     → u ≡ meetRow v RELEASE HOLD RELEASING MOMENTS → ReleaseMade w u
@@ -434,12 +434,12 @@ pub concern-made : (s c : ℕ) (w v x u : List ℕ) → c ≡ CLASSES → WORK �
     → x ≡ joinRow v CONCERN HOLD MOMENTS
     → TouchTo s c x u → ConcernMade s w u
 unfolding _or_
-concern-made s c w v x u all room cleared joined h =
+concern-made s c w v x u all room cleared joined touched =
     record {
       cell = λ m l.
-          h .cell m l ∙ ap (λ (z : Bool). z or touchBits s c x m) (begun m l) ∙ ap (λ (z : Bool). bit w (HOLD * 64 + m) or z) (touch-kept s c w x m g)
+          touched .cell m l ∙ ap (λ (z : Bool). z or touchBits s c x m) (begun m l) ∙ ap (λ (z : Bool). bit w (HOLD * 64 + m) or z) (touch-kept s c w x m g)
           ∙ ap (λ (k : ℕ). bit w (HOLD * 64 + m) or touchBits s k w m) all;
-      frame = within-trans g (h .frame);
+      frame = within-trans g (touched .frame);
     }
   where
     f : Within CONCERN CONCERN-END w v
@@ -460,14 +460,14 @@ concern-made s c w v x u all room cleared joined h =
 pub touch-more : (s q : ℕ) (b : Bool) (w v u : List ℕ) → WORK ≤ length w → q < CLASSES → TouchTo s q w v → b ≡ bitOf s q
     → u ≡ meetIf b v CONCERN (TOUCHED + q * MOMENTS) (TOUCHED + q * MOMENTS) MOMENTS → TouchTo s (q + 1) w u
 unfolding touchBits anyBelow
-touch-more s q b w v u room l h e met =
+touch-more s q b w v u room below-q touched bit-is met =
     record {
       cell = λ m o.
-          let len : length v ≡ length w = h .frame .len in
+          let len : length v ≡ length w = touched .frame .len in
           ap (λ (z : List ℕ). bit z (CONCERN * 64 + m)) met ∙ bit-meetIf b v CONCERN (TOUCHED + q * MOMENTS) (TOUCHED + q * MOMENTS) MOMENTS m (omega arith) o
-          ∙ ap (λ (z : Bool). z or (b and both v (TOUCHED + q * MOMENTS) (TOUCHED + q * MOMENTS) m)) (h .cell m o)
-          ∙ ap (λ (z : Bool). (bit w (CONCERN * 64 + m) or touchBits s q w m) or (b and z)) (both-kept (h .frame) (TOUCHED + q * MOMENTS) m (omega arith))
-          ∙ ap (λ (z : Bool). (bit w (CONCERN * 64 + m) or touchBits s q w m) or (z and both w (TOUCHED + q * MOMENTS) (TOUCHED + q * MOMENTS) m)) e
+          ∙ ap (λ (z : Bool). z or (b and both v (TOUCHED + q * MOMENTS) (TOUCHED + q * MOMENTS) m)) (touched .cell m o)
+          ∙ ap (λ (z : Bool). (bit w (CONCERN * 64 + m) or touchBits s q w m) or (b and z)) (both-kept (touched .frame) (TOUCHED + q * MOMENTS) m (omega arith))
+          ∙ ap (λ (z : Bool). (bit w (CONCERN * 64 + m) or touchBits s q w m) or (z and both w (TOUCHED + q * MOMENTS) (TOUCHED + q * MOMENTS) m)) bit-is
           ∙ or-assoc _ _ _ ∙ ap (λ (z : Bool). bit w (CONCERN * 64 + m) or z) (rw add-one refl);
-      frame = within-trans (h .frame) (rw met (within-meetIf b v CONCERN (TOUCHED + q * MOMENTS) (TOUCHED + q * MOMENTS) MOMENTS));
+      frame = within-trans (touched .frame) (rw met (within-meetIf b v CONCERN (TOUCHED + q * MOMENTS) (TOUCHED + q * MOMENTS) MOMENTS));
     }

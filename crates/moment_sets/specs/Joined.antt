@@ -255,7 +255,7 @@ module _ (mode : Mode) (n c x y : ℕ) (w : List ℕ) (ex : x ≡ getD (mode .fi
   pub depend-put : (u : List ℕ) → n ≤ ROWS → WORK ≤ length w → x < n → y < n → u ≡ setBit w ((DEPENDS + x * MOMENTS) * 64 + (3 * y + 1))
       → DependAdded mode n c w u
   unfolding rel
-  depend-put u few room l o put =
+  depend-put u few room below-x below-y put =
       record {
         cell = λ i m p q. go i m p q (ℕ-discrete i x) (ℕ-discrete m (3 * y + 1));
         frame = rw put (within-setBit DEPENDS DEPENDS-END w ((DEPENDS + x * MOMENTS) * 64 + (3 * y + 1)) (omega arith) (omega arith));

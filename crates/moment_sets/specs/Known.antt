@@ -100,14 +100,14 @@ set-kept {a} {m} {c} {d} off f h = record { fits = h .fits; cell = λ j l. withi
 
 -- in a class set's own words, in its hops or in happens-before
 pub based-kept : {t : Table} {n c d : ℕ} {w u : List ℕ} → n ≤ ROWS → HOLD ≤ c → d ≤ CONCERN-END → Within c d w u → Based t n w → Based t n u
-based-kept few l m f b =
+based-kept few low high frame based =
     record {
-      mutuals = holds-kept (λ h. absurd (omega arith)) f (b .mutuals);
-      order = rows-kept (λ h. absurd (omega arith)) f (b .order);
-      joined = rows-kept (λ h. absurd (omega arith)) f (b .joined);
-      depends = rows-kept (λ h. absurd (omega arith)) f (b .depends);
-      releasing = set-kept (λ h. omega arith) f (b .releasing);
-      touched = rows-kept (λ h. omega arith) f (b .touched);
+      mutuals = holds-kept (λ h. absurd (omega arith)) frame (based .mutuals);
+      order = rows-kept (λ h. absurd (omega arith)) frame (based .order);
+      joined = rows-kept (λ h. absurd (omega arith)) frame (based .joined);
+      depends = rows-kept (λ h. absurd (omega arith)) frame (based .depends);
+      releasing = set-kept (λ h. omega arith) frame (based .releasing);
+      touched = rows-kept (λ h. omega arith) frame (based .touched);
     }
 
 based-hops : {t : Table} {n : ℕ} {w u : List ℕ} → n ≤ ROWS → Within HOPS HOPS-END w u → Based t n w → Based t n u

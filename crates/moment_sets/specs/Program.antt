@@ -232,7 +232,7 @@ module _ (b : List ℕ) (p : List (List ℕ)) (mode : Mode) (n x : ℕ) (l : x <
   pub row-turn : (w u : List ℕ) → n ≤ ROWS → WORK ≤ length w → rowOf b x .agent < NUMBERS → Passed (decode b p mode n) n (3 * x + 3) w
       → u ≡ passRow (rowOf b x) x w → Passed (decode b p mode n) n (3 * x) u
   unfolding passRow
-  row-turn w u few room small h made =
+  row-turn w u few room small passed made =
       let r = rowOf b x in
       let w₂ = passWords (momentOf r 2) (r .agent) (3 * x + 2) w in
       let f₂ = pass-frame (momentOf r 2) (r .agent) (3 * x + 2) w (omega arith) small .len in
@@ -242,7 +242,7 @@ module _ (b : List ℕ) (p : List (List ℕ)) (mode : Mode) (n x : ℕ) (l : x <
       let e₁ : 3 * x + 2 ≡ 3 * x + 1 + 1 = omega arith in
       let h₂ =
       pass-turn (decode b p mode n) n (3 * x + 2) (r .agent) w w₂ few room (omega arith) small (agent-is (3 * x + 2) 2 refl (omega arith))
-      (subst (λ (z : ℕ). Passed (decode b p mode n) n z w) e₂ h)
+      (subst (λ (z : ℕ). Passed (decode b p mode n) n z w) e₂ passed)
       (momentOf r 2) (moment-is (3 * x + 2) 2 refl (omega arith)) refl
       in
       let h₁ =
@@ -276,9 +276,12 @@ passed-start t n w v same few room cleared =
 pub begun-made : (t : Table) (n : ℕ) (w v x u : List ℕ) → n ≤ ROWS → WORK ≤ length w → v ≡ zeros w HAPPENS (AGENTS-END - HAPPENS)
     → Within ORDER AGENTS-END v x → Passed t n 0 x → u ≡ joinRow x HAPPENS ORDER (ORDER-END - ORDER) → Begun t n w u
 unfolding rel _or_
-begun-made t n w v x u few room cleared frame p copied =
+begun-made t n w v x u few room cleared frame passed copied =
     record {
-      order = record { fits = omega arith; cell = λ m k l o. within-bit f ((ORDER + m * MOMENTS) * 64 + k) (λ h. omega arith) ∙ p .done m k (omega arith) l o };
+      order = record {
+        fits = omega arith;
+        cell = λ m k l o. within-bit f ((ORDER + m * MOMENTS) * 64 + k) (λ h. omega arith) ∙ passed .done m k (omega arith) l o;
+      };
       happens = record { fits = omega arith; cell = cell };
       frame = within-trans g (within-trans (within-widen HAPPENS AGENTS-END (omega arith) (omega arith) frame)
           (within-widen HAPPENS AGENTS-END (omega arith) (omega arith) f));
@@ -306,7 +309,7 @@ begun-made t n w v x u few room cleared frame p copied =
         ∙ ap (λ (z : ℕ). bit (joinRow x HAPPENS ORDER (ORDER-END - ORDER)) z) d
         ∙ bit-joinRow x HAPPENS ORDER (ORDER-END - ORDER) (m * MOMENTS * 64 + k) (omega (arith, len)) (omega arith)
         ∙ ap (λ (z : Bool). z or bit x (ORDER * 64 + (m * MOMENTS * 64 + k))) (ap (λ (z : ℕ). bit x z) (sym d) ∙ empty m k l o)
-        ∙ ap (λ (z : ℕ). bit x z) e ∙ p .done m k (omega arith) l (omega arith)
+        ∙ ap (λ (z : ℕ). bit x z) e ∙ passed .done m k (omega arith) l (omega arith)
 
 -- ---- laws: the code
 

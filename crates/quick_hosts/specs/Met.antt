@@ -107,10 +107,10 @@ row-added {n} m p {w} {u} small room l e =
 row-joined : {n : ℕ} (m i : ℕ) (p : ℕ → ℕ → Bool) {w u : List ℕ} → n ≤ ROWS → WORK ≤ length w → m < n → i < n → Holds REACHED GRID n p w
     → u ≡ joinRow w (MET + m * GRID) (REACHED + i * GRID) GRID → MetMore n (only m (p i)) w u
 unfolding only rel
-row-joined {n} m i p {w} {u} small room l k h e =
+row-joined {n} m i p {w} {u} small room below-m below-i holds joined =
     record {
-      cell = λ a j b c. rw e (go a j b c (ℕ-discrete a m));
-      frame = rw e (within-widen MET MET-END (omega arith) (omega arith) (within-joinRow w (MET + m * GRID) (REACHED + i * GRID) GRID));
+      cell = λ a j b c. rw joined (go a j b c (ℕ-discrete a m));
+      frame = rw joined (within-widen MET MET-END (omega arith) (omega arith) (within-joinRow w (MET + m * GRID) (REACHED + i * GRID) GRID));
     }
   where
     go : (a j : ℕ) → a < n → j < n → Dec (a ≡ m)
@@ -118,7 +118,7 @@ row-joined {n} m i p {w} {u} small room l k h e =
     go a j b c (yes d) =
         rw (d, eq-eqb m m refl)
         (bit-joinRow w (MET + m * GRID) (REACHED + i * GRID) GRID j (omega arith) (omega arith)
-        ∙ ap (λ (v : Bool). bit w ((MET + m * GRID) * 64 + j) or v) (h .cell i j k c ∙ sym (and-on _ _ refl)))
+        ∙ ap (λ (v : Bool). bit w ((MET + m * GRID) * 64 + j) or v) (holds .cell i j below-i c ∙ sym (and-on _ _ refl)))
     go a j b c (no d) =
         within-bit (within-joinRow w (MET + m * GRID) (REACHED + i * GRID) GRID) ((MET + a * GRID) * 64 + j) (λ g. omega arith)
         ∙ sym (or-off _ _ (and-false-left _ _ (ne-eqb a m d)))
@@ -206,8 +206,9 @@ module _ (t : Table) (m : ℕ) where
     pub met-all : {v u : List ℕ} → n ≤ ROWS → WORK ≤ length w → m < n → operation (t .row m) ≡ true → v ≡ rowFill (atOnce t m) w (MET * 64 + m * (GRID * 64)) n
         → MetMore n (only m (seenUpto t m (t .rows))) v u → MetMore n (only m (metBy t m)) w u
     unfolding only
-    met-all small room l e f g =
-        more-cong (λ a y p q. and-or (eqb a m) _ _ ∙ ap (λ (b : Bool). eqb a m and b) (met-is y e)) (more-trans (row-added m (atOnce t m) small room l f) g)
+    met-all small room below-m an-operation filled added =
+        more-cong (λ a y p q. and-or (eqb a m) _ _ ∙ ap (λ (b : Bool). eqb a m and b) (met-is y an-operation))
+        (more-trans (row-added m (atOnce t m) small room below-m filled) added)
 
     -- one operation after the other
     pub below-more : {v u : List ℕ} → MetMore n (metBelow t m) w v → MetMore n (only m (metBy t m)) v u → MetMore n (metBelow t (m + 1)) w u
@@ -225,17 +226,17 @@ module _ (t : Table) {n : ℕ} {w : List ℕ} where
   pub made-met : {x v u : List ℕ} → n ≤ ROWS → WORK ≤ length x → Within REACHED REACHED-END w x → v ≡ zeros x MET (MET-END - MET) → MetMore n (metBelow t n) v u
       → Made MET REACHED-END MET GRID n (metBy t) w u
   unfolding metBelow rel
-  made-met {x} {v} small room d e f =
+  made-met {x} {v} small room before cleared added =
       record {
-        holds = holds-cong (λ i j d c. same i j d) (holds-added empty f);
-        frame = within-trans (within-widen MET REACHED-END (omega arith) (omega arith) d)
-            (within-widen MET REACHED-END (omega arith) (omega arith) (within-trans (within-cleared MET MET-END (omega arith) e) (f .frame)));
+        holds = holds-cong (λ i j d c. same i j d) (holds-added empty added);
+        frame = within-trans (within-widen MET REACHED-END (omega arith) (omega arith) before)
+            (within-widen MET REACHED-END (omega arith) (omega arith) (within-trans (within-cleared MET MET-END (omega arith) cleared) (added .frame)));
       }
     where
       empty : Holds MET GRID n (λ i j. false) v
       empty = record {
         fits = omega arith;
-        cell = λ i j d c. rw e
+        cell = λ i j d c. rw cleared
             (bit-zeros-in x MET (MET-END - MET) ((MET + i * GRID) * 64 + j) (omega arith) (omega arith) (omega arith));
       }
 

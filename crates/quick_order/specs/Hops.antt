@@ -325,10 +325,11 @@ module _ (bs : List ℕ) (dep : Bool) (n x : ℕ) (w v u : List ℕ) (few : n �
       kept i o = within-bit (a .frame) (HOLD * 64 + (3 * i + 1)) (λ z. omega arith)
 
       go : (i j : ℕ) → i < x + 1 → dep ≡ false → bit u (HOLD * 64 + itself i) ≡ false → j < 64 * MOMENTS → Dec (i ≡ x) → rel u HOPS MOMENTS i j ≡ false
-      go i j o e h b (yes q) =
-          let off = subst (λ (z : ℕ). bit v (HOLD * 64 + itself z) ≡ false) q (sym (kept i o) ∙ h) in
-          subst (λ (z : ℕ). rel u HOPS MOMENTS z j ≡ false) (sym q) (a .none e off j b)
-      go i j o e h b (no q) = other i j (omega arith) b ∙ r .empty i j (omega arith) e (sym (kept i o) ∙ h) b
+      go i j below-i no-dep not-held below-j (yes q) =
+          let off = subst (λ (z : ℕ). bit v (HOLD * 64 + itself z) ≡ false) q (sym (kept i below-i) ∙ not-held) in
+          subst (λ (z : ℕ). rel u HOPS MOMENTS z j ≡ false) (sym q) (a .none no-dep off j below-j)
+      go i j below-i no-dep not-held below-j (no q) =
+          other i j (omega arith) below-j ∙ r .empty i j (omega arith) no-dep (sym (kept i below-i) ∙ not-held) below-j
 
 -- ---- laws: closed
 

@@ -244,12 +244,13 @@ module _ (b : List ℕ) (p : List (List ℕ)) (mode : Mode) (n : ℕ) where
       → r ≡ rowOf b z .rank → y ≡ later (mode .counted) r (h .rank) → not y ≡ false → s ≡ since (mode .counted) r (h .rank)
       → s ≡ breakAt (decode b p mode n) a z
   unfolding breaks follows laterWriter decode
-  break-here a z k r s h y m eh w ek e er ey f es =
-      es ∙ ap (λ (u : ℕ). since (mode .counted) u (h .rank)) er ∙ ap (λ (u : Row). since (mode .counted) (rowOf b z .rank) (u .rank)) eh
-      ∙ break-at a z (and-true (and-true m (and-true (and-true (only .0) (sym (ap writes eh) ∙ w)) (rw (← er, ← eh, ← ey) (not-false y f)))) (only .1))
+  break-here a z k r s h y ordered head-is head-writes kind-is is-write rank-is later-is comes-later place-is =
+      place-is ∙ ap (λ (u : ℕ). since (mode .counted) u (h .rank)) rank-is ∙ ap (λ (u : Row). since (mode .counted) (rowOf b z .rank) (u .rank)) head-is
+      ∙ break-at a z (and-true (and-true ordered (and-true (and-true (only .0) (sym (ap writes head-is) ∙ head-writes))
+      (rw (← rank-is, ← head-is, ← later-is) (not-false y comes-later)))) (only .1))
     where
       only : (writes (rowOf b z) ≡ true) × (not (continues (rowOf b z)) ≡ true)
-      only = breaks-alone (rowOf b z) (sym ek ∙ e)
+      only = breaks-alone (rowOf b z) (sym kind-is ∙ is-write)
 
   -- ---- laws: what is in a sequence
 
@@ -298,9 +299,9 @@ module _ (b : List ℕ) (p : List (List ℕ)) (mode : Mode) (n : ℕ) where
         → r ≡ rowOf b x .rank → r < COUNTS → y ≡ later (mode .counted) r (h .rank) → not y ≡ false → s ≡ since (mode .counted) r (h .rank)
         → f ≡ firstBreak (decode b p mode n) a n → ltb s f ≡ sequence (decode b p mode n) a x
     unfolding follows laterWriter decode
-    sequence-within k r s f h y eh w lh ek d er lr ey g es ef =
-        ltb-leb s f ∙ ap not (ap₂ leb ef (es ∙ ap (λ (u : ℕ). since (mode .counted) u (h .rank)) er
-        ∙ ap (λ (u : Row). since (mode .counted) (rowOf b x .rank) (u .rank)) eh))
-        ∙ sequence-held (subst (λ (u : ℕ). u < COUNTS) er lr) (subst (λ (u : Row). u .rank < COUNTS) eh lh)
-        (and-true m (and-true (and-true (writes-other (rowOf b x) (mutual-second a x m) (λ q. d (ek ∙ q))) (sym (ap writes eh) ∙ w))
-        (rw (← er, ← eh, ← ey) (not-false y g))))
+    sequence-within k r s f h y head-is head-writes head-small kind-is no-read rank-is rank-small later-is comes-later place-is break-is =
+        ltb-leb s f ∙ ap not (ap₂ leb break-is (place-is ∙ ap (λ (u : ℕ). since (mode .counted) u (h .rank)) rank-is
+        ∙ ap (λ (u : Row). since (mode .counted) (rowOf b x .rank) (u .rank)) head-is))
+        ∙ sequence-held (subst (λ (u : ℕ). u < COUNTS) rank-is rank-small) (subst (λ (u : Row). u .rank < COUNTS) head-is head-small)
+        (and-true m (and-true (and-true (writes-other (rowOf b x) (mutual-second a x m) (λ q. no-read (kind-is ∙ q))) (sym (ap writes head-is) ∙ head-writes))
+        (rw (← rank-is, ← head-is, ← later-is) (not-false y comes-later))))

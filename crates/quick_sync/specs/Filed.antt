@@ -65,14 +65,14 @@ filed-none key p s l = record { room = l; found = λ y h. absurd (omega arith) }
 -- one more row
 pub filed-more : {key : ℕ → ℕ} {p : ℕ → Bool} {s u : List ℕ} (y k : ℕ) (b : Bool) → y < ROWS → k < FILES → k ≡ key y → b ≡ p y → u ≡ setBitIf b s (fileBit k y)
     → Filed key p y s → Filed key p (y + 1) u
-filed-more {key} {p} {s} {u} y k b few l ek eb e f =
-    rw e (record { room = rw (length-setBitIf b s (fileBit k y)) (f .room); found = λ z h g. go z h g (ℕ-discrete z y) })
+filed-more {key} {p} {s} {u} y k b few below-k key-is bit-is put filed =
+    rw put (record { room = rw (length-setBitIf b s (fileBit k y)) (filed .room); found = λ z h g. go z h g (ℕ-discrete z y) })
   where
     go : (z : ℕ) → z < y + 1 → p z ≡ true → Dec (z ≡ y) → bit (setBitIf b s (fileBit k y)) (fileBit (key z) z) ≡ true
     go z h g (yes d) =
-        let on : b ≡ true = eb ∙ ap p (sym d) ∙ g in
-        rw (d, ← ek) (setBitIf-same b s (fileBit k y) (omega (arith, f .room)) ∙ or-right (bit s (fileBit k y)) on)
-    go z h g (no d) = setBitIf-other b s (fileBit k y) (fileBit (key z) z) (λ q. d (omega arith)) ∙ f .found z (omega arith) g
+        let on : b ≡ true = bit-is ∙ ap p (sym d) ∙ g in
+        rw (d, ← key-is) (setBitIf-same b s (fileBit k y) (omega (arith, filed .room)) ∙ or-right (bit s (fileBit k y)) on)
+    go z h g (no d) = setBitIf-other b s (fileBit k y) (fileBit (key z) z) (λ q. d (omega arith)) ∙ filed .found z (omega arith) g
 
 pub put-length : (s : List ℕ) {u : List ℕ} (b : Bool) (k : ℕ) → u ≡ setBitIf b s k → length u ≡ length s
 put-length s b k e = ap length e ∙ length-setBitIf b s k
@@ -89,11 +89,11 @@ module _ (bs : List ℕ) (p : List (List ℕ)) (mode : Mode) (n : ℕ) {s : List
   pub start-apart : Filed (byStart bs) (atomicOf bs) n s → (i j a : ℕ) (r : Row) → r ≡ rowOf bs i → a ≡ startFile (r .start) * GRID → j < n
       → either s a a j ≡ false → mutually (decode bs p mode n) i j ≡ false
   unfolding byStart atomicOf
-  start-apart f i j a r er ea l h = ⊎-elim (λ g. at g (ℕ-discrete (rowOf bs j .start) (r .start))) none (which (atomic (rowOf bs j)))
+  start-apart filed i j a r row-is set-is below-j absent = ⊎-elim (λ g. at g (ℕ-discrete (rowOf bs j .start) (r .start))) none (which (atomic (rowOf bs j)))
     where
       at : atomic (rowOf bs j) ≡ true → Dec (rowOf bs j .start ≡ r .start) → mutually (decode bs p mode n) i j ≡ false
-      at g (yes d) = absurd (unfiled f a j (ea ∙ ap (λ (z : ℕ). startFile z * GRID) (sym d)) l g h)
-      at g (no d) = sym (mutual-start bs p mode n i j r er d)
+      at g (yes d) = absurd (unfiled filed a j (set-is ∙ ap (λ (z : ℕ). startFile z * GRID) (sym d)) below-j g absent)
+      at g (no d) = sym (mutual-start bs p mode n i j r row-is d)
 
       none : atomic (rowOf bs j) ≡ false → mutually (decode bs p mode n) i j ≡ false
       none g = mutual-swap bs p mode n i j ∙ mutual-none bs p mode n j (rowOf bs j) false refl (sym g) refl i

@@ -45,12 +45,15 @@ rows-of-none w a n few room e =
 pub rows-of-more : {a n i : ℕ} {r : ℕ → ℕ → Bool} {w u : List ℕ} → n ≤ ROWS → RowsOf a n i r w
     → ((x k : ℕ) → x < n → (x ≡ i → ⊥) → k < n → grid u a x k ≡ grid w a x k)
     → ((k : ℕ) → k < n → grid u a i k ≡ r i k) → i < n → RowsOf a n (i + 1) r u
-rows-of-more {a} {n} {i} {r} {w} {u} few h other here l =
-    record { done = λ x k p q. done x k p q (ℕ-discrete x i); left = λ x k p q s. other x k q (λ e. absurd (omega arith)) s ∙ h .left x k (omega arith) q s }
+rows-of-more {a} {n} {i} {r} {w} {u} few so-far other here below-i =
+    record {
+      done = λ x k p q. done x k p q (ℕ-discrete x i);
+      left = λ x k p q s. other x k q (λ e. absurd (omega arith)) s ∙ so-far .left x k (omega arith) q s;
+    }
   where
     done : (x k : ℕ) → x < i + 1 → k < n → Dec (x ≡ i) → grid u a x k ≡ r x k
     done x k p q (yes e) = rw e (here k q)
-    done x k p q (no e) = other x k (omega arith) e q ∙ h .done x k (omega arith) q
+    done x k p q (no e) = other x k (omega arith) e q ∙ so-far .done x k (omega arith) q
 
 -- by a change of its words alone
 pub rows-of-row : {a n i : ℕ} {r : ℕ → ℕ → Bool} {w u : List ℕ} → n ≤ ROWS → RowsOf a n i r w → RowOf a n i (r i) w u → i < n → RowsOf a n (i + 1) r u
@@ -69,13 +72,13 @@ row-of-none {a} {n} {i} {r} {w} h l none = record { cell = λ k q. h .left i k (
 pub row-of-fill : {a n i : ℕ} {r : ℕ → ℕ → Bool} {w u : List ℕ} → n ≤ ROWS → a + ROWS-GRID ≤ length w → RowsOf a n i r w → i < n
     → u ≡ rowFill (r i) w (a * 64 + i * (GRID * 64)) n → RowOf a n i (r i) w u
 unfolding rel
-row-of-fill {a} {n} {i} {r} {w} {u} few room h l e =
+row-of-fill {a} {n} {i} {r} {w} {u} few room so-far below-i filled =
     record {
       cell = λ k q.
           let z : (a + i * GRID) * 64 + k ≡ a * 64 + i * (GRID * 64) + k = omega arith in
-          let f : bit w (a * 64 + i * (GRID * 64) + k) ≡ false = rw (← z) (h .left i k (omega arith) l q) in
-          rw (e, z) (rowFill-in (r i) w (a * 64 + i * (GRID * 64)) n k (omega arith) q ∙ or-fresh _ _ f);
-      frame = rw e (within-rowFill (a + i * GRID) (a + i * GRID + GRID) (r i) w (a * 64 + i * (GRID * 64)) n (omega arith) (omega arith));
+          let f : bit w (a * 64 + i * (GRID * 64) + k) ≡ false = rw (← z) (so-far .left i k (omega arith) below-i q) in
+          rw (filled, z) (rowFill-in (r i) w (a * 64 + i * (GRID * 64)) n k (omega arith) q ∙ or-fresh _ _ f);
+      frame = rw filled (within-rowFill (a + i * GRID) (a + i * GRID + GRID) (r i) w (a * 64 + i * (GRID * 64)) n (omega arith) (omega arith));
     }
 
 -- one that is copied from an earlier row, with that row and without itself
@@ -83,28 +86,28 @@ pub row-of-copy : {a n i : ℕ} {r : ℕ → ℕ → Bool} {w v x u : List ℕ} 
     → ((k : ℕ) → r i k ≡ ((r e k or eqb k e) and not (eqb k i))) → v ≡ joinRow w (a + i * GRID) (a + e * GRID) GRID → x ≡ setBit v ((a + i * GRID) * 64 + e)
     → Dropped x u ((a + i * GRID) * 64 + i) → RowOf a n i (r i) w u
 unfolding rel
-row-of-copy {a} {n} {i} {r} {w} {v} {x} {u} e few room h l m is ev ex d =
+row-of-copy {a} {n} {i} {r} {w} {v} {x} {u} e few room so-far below-i earlier copy-is joined bit-set dropped =
     record {
-      cell = λ k q. d .cell ((a + i * GRID) * 64 + k)
-          ∙ ap₂ (λ (y z : Bool). y and not z) (put k q (ℕ-discrete k e)) (eqb-moved ((a + i * GRID) * 64) k i) ∙ sym (is k);
+      cell = λ k q. dropped .cell ((a + i * GRID) * 64 + k)
+          ∙ ap₂ (λ (y z : Bool). y and not z) (put k q (ℕ-discrete k e)) (eqb-moved ((a + i * GRID) * 64) k i) ∙ sym (copy-is k);
       frame = within-trans copied (within-trans
-          (rw ex (within-setBit (a + i * GRID) (a + i * GRID + GRID) v ((a + i * GRID) * 64 + e) (omega arith) (omega arith)))
-          (within-widen (a + i * GRID) (a + i * GRID + GRID) (omega arith) (omega arith) (d .frame)));
+          (rw bit-set (within-setBit (a + i * GRID) (a + i * GRID + GRID) v ((a + i * GRID) * 64 + e) (omega arith) (omega arith)))
+          (within-widen (a + i * GRID) (a + i * GRID + GRID) (omega arith) (omega arith) (dropped .frame)));
     }
   where
     copied : Within (a + i * GRID) (a + i * GRID + GRID) w v
-    copied = rw ev (within-joinRow w (a + i * GRID) (a + e * GRID) GRID)
+    copied = rw joined (within-joinRow w (a + i * GRID) (a + e * GRID) GRID)
 
     long : length v ≡ length w
     long = copied .len
 
     put : (k : ℕ) → k < n → Dec (k ≡ e) → bit x ((a + i * GRID) * 64 + k) ≡ (r e k or eqb k e)
-    put k q (yes z) = rw (ex, z) (setBit-same v ((a + i * GRID) * 64 + e) (omega (arith, long))) ∙ sym (or-right (r e k) (eq-eqb k e z))
+    put k q (yes z) = rw (bit-set, z) (setBit-same v ((a + i * GRID) * 64 + e) (omega (arith, long))) ∙ sym (or-right (r e k) (eq-eqb k e z))
     put k q (no z) =
         let set : bit x ((a + i * GRID) * 64 + k) ≡ bit v ((a + i * GRID) * 64 + k) =
-        rw ex (setBit-other v ((a + i * GRID) * 64 + e) ((a + i * GRID) * 64 + k) (λ y. z (omega arith)))
+        rw bit-set (setBit-other v ((a + i * GRID) * 64 + e) ((a + i * GRID) * 64 + k) (λ y. z (omega arith)))
         in
         let join : bit v ((a + i * GRID) * 64 + k) ≡ (bit w ((a + i * GRID) * 64 + k) or bit w ((a + e * GRID) * 64 + k)) =
-        rw ev (bit-joinRow w (a + i * GRID) (a + e * GRID) GRID k (omega arith) (omega arith))
+        rw joined (bit-joinRow w (a + i * GRID) (a + e * GRID) GRID k (omega arith) (omega arith))
         in
-        set ∙ join ∙ or-fresh _ _ (h .left i k (omega arith) l q) ∙ h .done e k m q ∙ sym (or-off _ _ (ne-eqb k e z))
+        set ∙ join ∙ or-fresh _ _ (so-far .left i k (omega arith) below-i q) ∙ so-far .done e k earlier q ∙ sym (or-off _ _ (ne-eqb k e z))

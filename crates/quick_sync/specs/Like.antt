@@ -134,7 +134,8 @@ module _ (b : List ℕ) (p : List (List ℕ)) (n c d : ℕ) (r : Row) (er : r �
       → s ≡ shares p (r .class) (r .agent) g
       → s ≡ joins (decode b p OFF n) c d
   unfolding _and_
-  joins-on v s g ev h e eg es = sym (joins-is ∙ rw (ne-eqb c d e, ← ev, not-false v h, ← eg, ← es) refl)
+  joins-on v s g instance-is of-instance apart agent-is told =
+      sym (joins-is ∙ rw (ne-eqb c d apart, ← instance-is, not-false v of-instance, ← agent-is, ← told) refl)
 
 -- row e beside row c, which is r
 module _ (b : List ℕ) (p : List (List ℕ)) (c e : ℕ) (r : Row) (er : r ≡ rowOf b c) where
@@ -151,7 +152,9 @@ module _ (b : List ℕ) (p : List (List ℕ)) (c e : ℕ) (r : Row) (er : r ≡ 
   pub like-on : (v s : Bool) (k g : ℕ) → v ≡ ofInstance (r .start) (rowOf b e) → not v ≡ false → k ≡ byteOf b e 6 → k ≡ r .class → g ≡ rowOf b e .agent
       → s ≡ shares p (r .class) (r .agent) g → s ≡ likeAt b p c e
   unfolding _and_
-  like-on v s k g ev h ek q eg es = sym (like-is ∙ rw (← ev, not-false v h, eq-eqb (r .class) (byteOf b e 6) (sym q ∙ ek), ← eg, ← es) refl)
+  like-on v s k g instance-is of-instance class-is same-class agent-is told =
+      sym (like-is
+      ∙ rw (← instance-is, not-false v of-instance, eq-eqb (r .class) (byteOf b e 6) (sym same-class ∙ class-is), ← agent-is, ← told) refl)
 
 -- row e, which is like the control barrier c
 module _ (b : List ℕ) (p : List (List ℕ)) (n c e : ℕ) (kc : rowOf b c .kind ≡ CONTROL) (k : likeAt b p c e ≡ true) where

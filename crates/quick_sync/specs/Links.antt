@@ -92,7 +92,7 @@ module _ (t : Table) where
 
     hands-in : (x y : ℕ) → x < t .rows → y < t .rows → heads t a x ≡ true → takesFrom t x y ≡ true → gets t b y ≡ true → anyBelow (t .rows) (hands t a b) ≡ true
     unfolding hands handsTo
-    hands-in x y lx ly h k g = any-in _ (t .rows) x lx (and-true h (any-in _ (t .rows) y ly (and-true k g)))
+    hands-in x y below-x below-y headed taken got = any-in _ (t .rows) x below-x (and-true headed (any-in _ (t .rows) y below-y (and-true taken got)))
 
     linked-in : not (eqb a b) ≡ true → together (t .places) (t .row a) (t .row b) ≡ true → anyBelow (t .rows) (hands t a b) ≡ true → linked t a b ≡ true
     unfolding linked
@@ -182,15 +182,17 @@ module _ (t : Table) where
         → ((atomic (t .row b) ≡ true) × (b ≡ y)) ⊎ ((barrier (t .row b) ≡ true) × (trails t b y ≡ true))
         → (syncAtomics t a b or syncFromBarrier t a b or syncToBarrier t a b or syncBarriers t a b) ≡ true
     unfolding syncAtomics syncFromBarrier carriesOut syncToBarrier carriesIn syncBarriers carriesOver
-    back d s x y lx ly (inl h) k (inl g) =
-        or-left _ (or-left _ (or-left _ (and-true (and-true (h .0) (g .0)) (rw (h .1, g .1) k))))
-    back d s x y lx ly (inr h) k (inl g) =
-        or-left _ (or-left _ (or-right _ (and-true (and-true (and-true (h .0) (g .0)) s) (any-in _ (t .rows) x lx (and-true (h .1) (rw (g .1) k))))))
-    back d s x y lx ly (inl h) k (inr g) =
-        or-left _ (or-right _ (and-true (and-true (and-true (h .0) (g .0)) s) (any-in _ (t .rows) y ly (and-true (g .1) (rw (h .1) k)))))
-    back d s x y lx ly (inr h) k (inr g) =
-        or-right _ (and-true (and-true (and-true (and-true d (h .0)) (g .0)) s)
-        (any-in _ (t .rows) x lx (and-true (h .1) (any-in _ (t .rows) y ly (and-true (g .1) k)))))
+    back distinct shared x y below-x below-y (inl headed) taken (inl got) =
+        or-left _ (or-left _ (or-left _ (and-true (and-true (headed .0) (got .0)) (rw (headed .1, got .1) taken))))
+    back distinct shared x y below-x below-y (inr headed) taken (inl got) =
+        or-left _ (or-left _ (or-right _ (and-true (and-true (and-true (headed .0) (got .0)) shared)
+        (any-in _ (t .rows) x below-x (and-true (headed .1) (rw (got .1) taken))))))
+    back distinct shared x y below-x below-y (inl headed) taken (inr got) =
+        or-left _ (or-right _ (and-true (and-true (and-true (headed .0) (got .0)) shared)
+        (any-in _ (t .rows) y below-y (and-true (got .1) (rw (headed .1) taken)))))
+    back distinct shared x y below-x below-y (inr headed) taken (inr got) =
+        or-right _ (and-true (and-true (and-true (and-true distinct (headed .0)) (got .0)) shared)
+        (any-in _ (t .rows) x below-x (and-true (headed .1) (any-in _ (t .rows) y below-y (and-true (got .1) taken)))))
 
     linked-cases : linked t a b ≡ true → (syncAtomics t a b or syncFromBarrier t a b or syncToBarrier t a b or syncBarriers t a b) ≡ true
     unfolding linked hands handsTo

@@ -131,20 +131,20 @@ module _ (b : List ℕ) (p : List (List ℕ)) (n a e : ℕ) (r : Row) (x g : ℕ
   peer-agent h = record { same = λ k q. rw (scope-is, sym eg ∙ h ∙ ap (λ (z : Row). z .agent) er) refl }
 
   pub peer-scope : (s : ℕ) (v : Bool) → s < 256 → Level b n s → s ≡ r .scope → v ≡ shares p (r .scope) (r .agent) g → v ≡ true → Peer b p n a e
-  peer-scope s v l lev qs ev h = record { same = λ k q. go k q (acquires (rowOf b k)) refl }
+  peer-scope s v is-scope level same-scope told holds = record { same = λ k q. go k q (acquires (rowOf b k)) refl }
     where
       scope : s ≡ rowOf b a .scope
-      scope = qs ∙ ap (λ (z : Row). z .scope) er
+      scope = same-scope ∙ ap (λ (z : Row). z .scope) er
 
       shared : shares p s (rowOf b a .agent) (rowOf b e .agent) ≡ true
-      shared = rw (qs, ← er, ← eg) (sym ev ∙ h)
+      shared = rw (same-scope, ← er, ← eg) (sym told ∙ holds)
 
       go : (k : ℕ) → k < n → (z : Bool) → acquires (rowOf b k) ≡ z → near b p e k ≡ near b p a k
       go k q false o = near-off b p e k o ∙ sym (near-off b p a k o)
       go k q true o =
-          near-is b p e k s (scope-is ∙ sym scope) (sym (lev .all k q o l))
+          near-is b p e k s (scope-is ∙ sym scope) (sym (level .all k q o is-scope))
           ∙ ap (λ (z : Bool). acquires (rowOf b k) and (z and z)) (sym (shares-peer p s _ _ shared (rowOf b k .agent)))
-          ∙ sym (near-is b p a k s (sym scope) (sym (lev .all k q o l)))
+          ∙ sym (near-is b p a k s (sym scope) (sym (level .all k q o is-scope)))
 
 -- ---- laws: what is learnt
 
@@ -292,17 +292,17 @@ bare = refl
 pub learning-done : {b : List ℕ} {p : List (List ℕ)} {n a e j : ℕ} {w v u : List ℕ} → n ≤ ROWS → a < n → e < n → n ≤ j
     → Lessened w v UNKNOWN (LINKS + a * GRID) (PASSED + a * GRID) (COVER + e * GRID) → Learning b p n e v u j → LearntRow b p n a e w u
 unfolding rel
-learning-done {b} {p} {n} {a} {e} {j} {w} {v} {u} few la le l z h =
+learning-done {b} {p} {n} {a} {e} {j} {w} {v} {u} few below-a below-e past-n lessened learning =
     record {
-      learnt = h .learnt;
+      learnt = learning .learnt;
       known = λ k q o. known k q o (grid w COVER e k) refl;
-      frame = within-trans (within-widen COVER UNKNOWN-END (omega arith) (omega arith) (z .frame))
-          (within-widen COVER UNKNOWN-END (omega arith) (omega arith) (h .frame));
+      frame = within-trans (within-widen COVER UNKNOWN-END (omega arith) (omega arith) (lessened .frame))
+          (within-widen COVER UNKNOWN-END (omega arith) (omega arith) (learning .frame));
     }
   where
     known : (k : ℕ) → k < n → either w (LINKS + a * GRID) (PASSED + a * GRID) k ≡ true → (x : Bool) → grid w COVER e k ≡ x → grid u COVER e k ≡ true
-    known k q o true c = h .more k q (within-bit (z .frame) ((COVER + e * GRID) * 64 + k) (λ m. absurd (omega arith)) ∙ c)
-    known k q o false c = h .known k (omega arith) q (z .cell k (omega arith) ∙ rw (o, c) bare)
+    known k q o true c = learning .more k q (within-bit (lessened .frame) ((COVER + e * GRID) * 64 + k) (λ m. absurd (omega arith)) ∙ c)
+    known k q o false c = learning .known k (omega arith) q (lessened .cell k (omega arith) ∙ rw (o, c) bare)
 
 -- what doesn't change Learnt for the rows to be asked
 pub learnt-todo : {b : List ℕ} {p : List (List ℕ)} {n : ℕ} {w v : List ℕ} {x y z : ℕ} → n ≤ ROWS → Lessened w v UNKNOWN x y z → Learnt b p n w → Learnt b p n v
@@ -314,29 +314,29 @@ pub drawn : (a e : ℕ) (w : List ℕ) {v x u : List ℕ} → a < ROWS → e < R
     → v ≡ meetRow w (SYNC + a * GRID) (LINKS + a * GRID) (GOOD + e * GRID) GRID → x ≡ meetRow v (SYNC + a * GRID) (PASSED + a * GRID) (GOOD + e * GRID) GRID
     → Dropped x u ((SYNC + a * GRID) * 64 + a) → Drawn a e w u
 unfolding rel both
-drawn a e w {v} {x} {u} la le room ev ex d =
+drawn a e w {v} {x} {u} below-a below-e room links-met passed-met dropped =
     record {
-      cell = λ k q. d .cell ((SYNC + a * GRID) * 64 + k)
+      cell = λ k q. dropped .cell ((SYNC + a * GRID) * 64 + k)
           ∙ ap₂ (λ (y z : Bool). y and not z) (second k q ∙ ap₂ _or_ (first k q) (later k q)) (eqb-moved ((SYNC + a * GRID) * 64) k a);
-      frame = within-trans one (within-trans two (within-widen (SYNC + a * GRID) (SYNC + a * GRID + GRID) (omega arith) (omega arith) (d .frame)));
+      frame = within-trans one (within-trans two (within-widen (SYNC + a * GRID) (SYNC + a * GRID + GRID) (omega arith) (omega arith) (dropped .frame)));
     }
   where
     one : Within (SYNC + a * GRID) (SYNC + a * GRID + GRID) w v
-    one = rw ev (within-meetRow w (SYNC + a * GRID) (LINKS + a * GRID) (GOOD + e * GRID) GRID)
+    one = rw links-met (within-meetRow w (SYNC + a * GRID) (LINKS + a * GRID) (GOOD + e * GRID) GRID)
 
     two : Within (SYNC + a * GRID) (SYNC + a * GRID + GRID) v x
-    two = rw ex (within-meetRow v (SYNC + a * GRID) (PASSED + a * GRID) (GOOD + e * GRID) GRID)
+    two = rw passed-met (within-meetRow v (SYNC + a * GRID) (PASSED + a * GRID) (GOOD + e * GRID) GRID)
 
     long : length v ≡ length w
     long = one .len
 
     first : (k : ℕ) → k < 64 * GRID → bit v ((SYNC + a * GRID) * 64 + k)
         ≡ (bit w ((SYNC + a * GRID) * 64 + k) or (bit w ((LINKS + a * GRID) * 64 + k) and bit w ((GOOD + e * GRID) * 64 + k)))
-    first k q = rw ev (bit-meetRow w (SYNC + a * GRID) (LINKS + a * GRID) (GOOD + e * GRID) GRID k (omega (arith, room)) q)
+    first k q = rw links-met (bit-meetRow w (SYNC + a * GRID) (LINKS + a * GRID) (GOOD + e * GRID) GRID k (omega (arith, room)) q)
 
     second : (k : ℕ) → k < 64 * GRID → bit x ((SYNC + a * GRID) * 64 + k)
         ≡ (bit v ((SYNC + a * GRID) * 64 + k) or (bit v ((PASSED + a * GRID) * 64 + k) and bit v ((GOOD + e * GRID) * 64 + k)))
-    second k q = rw ex (bit-meetRow v (SYNC + a * GRID) (PASSED + a * GRID) (GOOD + e * GRID) GRID k (omega (arith, long, room)) q)
+    second k q = rw passed-met (bit-meetRow v (SYNC + a * GRID) (PASSED + a * GRID) (GOOD + e * GRID) GRID k (omega (arith, long, room)) q)
 
     kept : (y k : ℕ) → SYNC-END * 64 ≤ y * 64 + k → bit v (y * 64 + k) ≡ bit w (y * 64 + k)
     kept y k o = within-bit one (y * 64 + k) (λ z. omega arith)
@@ -463,27 +463,27 @@ module _ (b : List ℕ) (p : List (List ℕ)) (mode : Mode) (n a : ℕ) (few : n
 cleared-sync : {n : ℕ} (w : List ℕ) {v u : List ℕ} → v ≡ zeros w SYNC (SYNC-END - SYNC) → Within COVER GOOD-END v u → n ≤ ROWS → WORK ≤ length w
     → (x j : ℕ) → x < n → j < n → grid u SYNC x j ≡ false
 unfolding rel
-cleared-sync w e c few room x j q o =
-    within-bit c ((SYNC + x * GRID) * 64 + j) (λ m. absurd (omega arith))
-    ∙ rw e (bit-zeros-in w SYNC (SYNC-END - SYNC) ((SYNC + x * GRID) * 64 + j) (omega arith) (omega arith) (omega arith))
+cleared-sync w cleared kept few room x j below-x below-j =
+    within-bit kept ((SYNC + x * GRID) * 64 + j) (λ m. absurd (omega arith))
+    ∙ rw cleared (bit-zeros-in w SYNC (SYNC-END - SYNC) ((SYNC + x * GRID) * 64 + j) (omega arith) (omega arith) (omega arith))
 
 pub turn-first : {b : List ℕ} {p : List (List ℕ)} {mode : Mode} {n : ℕ} (w : List ℕ) {v u : List ℕ} → n ≤ ROWS → WORK ≤ length w
     → Linked (decode b p mode n) n w
     → v ≡ zeros w SYNC (SYNC-END - SYNC) → u ≡ zeros v COVER (GOOD-END - COVER) → Turn b p mode n 0 u × Within SYNC UNKNOWN-END w u
-turn-first {b} {p} {mode} {n} w {v} {u} few room k e f =
-    let cv = within-cleared SYNC SYNC-END (omega arith) e in
-    let cu = within-cleared COVER GOOD-END (omega arith) f in
+turn-first {b} {p} {mode} {n} w {v} {u} few room linked sync-cleared cover-cleared =
+    let cv = within-cleared SYNC SYNC-END (omega arith) sync-cleared in
+    let cu = within-cleared COVER GOOD-END (omega arith) cover-cleared in
     let long : length v ≡ length w = cv .len in (
       record {
-        linked = linked-kept (λ h. absurd (omega arith)) cu (linked-kept (λ h. omega arith) cv k);
-        learnt = learnt-none b p n v few (omega arith) f;
+        linked = linked-kept (λ h. absurd (omega arith)) cu (linked-kept (λ h. omega arith) cv linked);
+        learnt = learnt-none b p n v few (omega arith) cover-cleared;
         syncs = record { done = λ x j p q. absurd (omega arith); left = λ x j p q o. zero x j q o cu };
       },
       within-trans (within-widen SYNC UNKNOWN-END (omega arith) (omega arith) cv) (within-widen SYNC UNKNOWN-END (omega arith) (omega arith) cu),
     )
   where
     zero : (x j : ℕ) → x < n → j < n → Within COVER GOOD-END v u → grid u SYNC x j ≡ false
-    zero x j q o c = cleared-sync w e c few room x j q o
+    zero x j q o c = cleared-sync w sync-cleared c few room x j q o
 
 pub sync-made : {b : List ℕ} {p : List (List ℕ)} {mode : Mode} {n : ℕ} {w u : List ℕ} → n ≤ ROWS → Turn b p mode n n u → Within SYNC UNKNOWN-END w u
     → Made SYNC UNKNOWN-END SYNC GRID n (synchronizes (decode b p mode n)) w u

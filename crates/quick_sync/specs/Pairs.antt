@@ -73,7 +73,7 @@ pub pairs-put : {r : ℕ → ℕ → Bool} {n : ℕ} {w v u : List ℕ} (i j : �
     → v ≡ setBitIf b w ((MUTUAL + i * GRID) * 64 + j) → u ≡ setBitIf b v ((MUTUAL + j * GRID) * 64 + i) → Pairs r n (i * ROWS + j) w
     → Pairs r n (i * ROWS + (j + 1)) u
 unfolding rel _and_
-pairs-put {r} {n} {w} {v} {u} i j b swap few room l m eb ev eu h = record { cell = cell }
+pairs-put {r} {n} {w} {v} {u} i j b swap few room lesser below-j bit-is first-put second-put so-far = record { cell = cell }
   where
     first : ℕ
     first = (MUTUAL + i * GRID) * 64 + j
@@ -82,29 +82,29 @@ pairs-put {r} {n} {w} {v} {u} i j b swap few room l m eb ev eu h = record { cell
     second = (MUTUAL + j * GRID) * 64 + i
 
     long : length v ≡ length w
-    long = ap length ev ∙ length-setBitIf b w first
+    long = ap length first-put ∙ length-setBitIf b w first
 
     after : (k : ℕ) → bit u k ≡ bit (setBitIf b v second) k
-    after k = ap (λ (z : List ℕ). bit z k) eu
+    after k = ap (λ (z : List ℕ). bit z k) second-put
 
     before : (k : ℕ) → bit v k ≡ bit (setBitIf b w first) k
-    before k = ap (λ (z : List ℕ). bit z k) ev
+    before k = ap (λ (z : List ℕ). bit z k) first-put
 
     other : (k : ℕ) → (k ≡ first → ⊥) → (k ≡ second → ⊥) → bit u k ≡ bit w k
     other k p q = after k ∙ setBitIf-other b v second k q ∙ before k ∙ setBitIf-other b w first k p
 
     new : (x y : ℕ) → x < n → y < n → turn x y ≡ i * ROWS + j → bit w ((MUTUAL + x * GRID) * 64 + y) ≡ false
-    new x y p q e = h .cell x y p q ∙ and-false-left _ _ (le-ltb (turn x y) (i * ROWS + j) (omega arith))
+    new x y p q e = so-far .cell x y p q ∙ and-false-left _ _ (le-ltb (turn x y) (i * ROWS + j) (omega arith))
 
     at-first : bit u first ≡ b
     at-first =
         after first ∙ setBitIf-other b v second first (λ e. absurd (omega arith)) ∙ before first ∙ setBitIf-same b w first (omega arith)
-        ∙ or-fresh _ _ (new i j (omega arith) m (omega arith))
+        ∙ or-fresh _ _ (new i j (omega arith) below-j (omega arith))
 
     at-second : bit u second ≡ b
     at-second =
         after second ∙ setBitIf-same b v second (omega (arith, long))
-        ∙ or-fresh _ _ (before second ∙ setBitIf-other b w first second (λ e. absurd (omega arith)) ∙ new j i m (omega arith) (omega arith))
+        ∙ or-fresh _ _ (before second ∙ setBitIf-other b w first second (λ e. absurd (omega arith)) ∙ new j i below-j (omega arith) (omega arith))
 
     cell : (x y : ℕ) → x < n → y < n → bit u ((MUTUAL + x * GRID) * 64 + y) ≡ (ltb (turn x y) (i * ROWS + (j + 1)) and r x y)
     cell x y p q = go (ℕ-discrete ((MUTUAL + x * GRID) * 64 + y) first) (ℕ-discrete ((MUTUAL + x * GRID) * 64 + y) second)
@@ -114,12 +114,12 @@ pairs-put {r} {n} {w} {v} {u} i j b swap few room l m eb ev eu h = record { cell
         go (yes e) o =
             let ex : x ≡ i = omega arith in
             let ey : y ≡ j = omega arith in
-            rw (ex, ey, lt-ltb (turn i j) (i * ROWS + (j + 1)) (omega arith)) (at-first ∙ eb)
+            rw (ex, ey, lt-ltb (turn i j) (i * ROWS + (j + 1)) (omega arith)) (at-first ∙ bit-is)
         go (no d) (yes e) =
             let ex : x ≡ j = omega arith in
             let ey : y ≡ i = omega arith in
-            rw (ex, ey, lt-ltb (turn j i) (i * ROWS + (j + 1)) (omega arith)) (at-second ∙ eb ∙ swap i j)
-        go (no d) (no e) = other _ d e ∙ h .cell x y p q ∙ ap (λ (z : Bool). z and r x y) (same (decLt (turn x y) (i * ROWS + j)))
+            rw (ex, ey, lt-ltb (turn j i) (i * ROWS + (j + 1)) (omega arith)) (at-second ∙ bit-is ∙ swap i j)
+        go (no d) (no e) = other _ d e ∙ so-far .cell x y p q ∙ ap (λ (z : Bool). z and r x y) (same (decLt (turn x y) (i * ROWS + j)))
           where
             apart : turn x y ≡ i * ROWS + j → ⊥
             apart z = ⊎-elim (λ s. d (rw (s .0, s .1) refl)) (λ s. e (rw (s .0, s .1) refl)) (pair-of x y i j (omega arith) (omega arith) (omega arith) z)
@@ -159,7 +159,7 @@ module _ (b : List ℕ) (p : List (List ℕ)) (mode : Mode) (n : ℕ) where
     -- rows that it is not mutually-ordered with
     pub pairs-over : (j k : ℕ) → i < j → j ≤ k → k ≤ n → ((m : ℕ) → j ≤ m → m < k → mutually (decode b p mode n) i m ≡ false)
         → Pairs (mutually (decode b p mode n)) n (i * ROWS + j) w → Pairs (mutually (decode b p mode n)) n (i * ROWS + k) w
-    pairs-over j k lj lk hk none = pairs-pass _ (omega arith) (λ x y lx ly lo hi. go x y lx ly lo hi (decLt x y))
+    pairs-over j k after-i low high none = pairs-pass _ (omega arith) (λ x y lx ly lo hi. go x y lx ly lo hi (decLt x y))
       where
         go : (x y : ℕ) → x < n → y < n → i * ROWS + j ≤ turn x y → turn x y < i * ROWS + k → Dec (x < y) → mutually (decode b p mode n) x y ≡ false
         go x y lx ly lo hi (yes d) = let e : x ≡ i = omega arith in rw e (none y (omega arith) (omega arith))

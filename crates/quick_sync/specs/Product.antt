@@ -81,14 +81,14 @@ row-pass {w} {u} {c} {a} {b} {i} {j} k l none h =
 pub row-next : {w u : List ℕ} {c a b i j n : ℕ} (at k : ℕ) → Apart c a → i < ROWS → n ≤ ROWS → at ≡ a + i * GRID → RowTimes w u c a b i j → Next u at at j n k
     → RowTimes w u c a b i k × (k < n → grid w a i k ≡ true)
 unfolding rel
-row-next {w} {u} {c} {a} {b} {i} {j} {n} at k off p few e h s =
-    let o = s .high in (
-      row-pass k (s .low) (λ m l q. sym (read m (omega arith)) ∙ once u at m (s .miss m l q)) h,
-      λ l. sym (read k (omega arith)) ∙ once u at k (s .hit l),
+row-next {w} {u} {c} {a} {b} {i} {j} {n} at k off below-i few at-is done next =
+    let o = next .high in (
+      row-pass k (next .low) (λ m l q. sym (read m (omega arith)) ∙ once u at m (next .miss m l q)) done,
+      λ l. sym (read k (omega arith)) ∙ once u at k (next .hit l),
     )
   where
     read : (m : ℕ) → m < ROWS → bit u (at * 64 + m) ≡ grid w a i m
-    read m q = rw e (grid-kept a (h .frame) (omega arith) (omega arith) off i m p (omega arith))
+    read m q = rw at-is (grid-kept a (done .frame) (omega arith) (omega arith) off i m below-i (omega arith))
 
 -- or from the left: the last comes last
 turn : (x y z : Bool) (g v : Bool) → g ≡ true → v ≡ z → ((x or y) or v) ≡ (x or (y or (g and z)))
@@ -140,31 +140,32 @@ rows-none w {v} {c} {a} {b} {n} few room e =
 pub rows-more : {w v u : List ℕ} {c a b n i : ℕ} → n ≤ ROWS → i < n → Apart c a → Apart c b → RowsTimes w v c a b n i → RowTimes v u c a b i n
     → RowsTimes w u c a b n (i + 1)
 unfolding rel _or_ _and_
-rows-more {w} {v} {u} {c} {a} {b} {n} {i} few l offa offb h r =
+rows-more {w} {v} {u} {c} {a} {b} {n} {i} few below-i off-a off-b done row-made =
     record {
       cell = λ x k p q. cell x k p q (ℕ-discrete x i);
-      frame = within-trans (h .frame) (within-widen c (c + ROWS-GRID) (omega arith) (omega arith) (r .frame));
+      frame = within-trans (done .frame) (within-widen c (c + ROWS-GRID) (omega arith) (omega arith) (row-made .frame));
     }
   where
     kept : (g : ℕ) → Apart c g → (x j : ℕ) → x < ROWS → j < 64 * GRID → grid v g x j ≡ grid w g x j
-    kept g off x j p q = grid-kept g (h .frame) (omega arith) (omega arith) off x j p q
+    kept g off x j p q = grid-kept g (done .frame) (omega arith) (omega arith) off x j p q
 
     same : (k : ℕ) → k < 64 * GRID → times n (grid v a) (grid v b) i k ≡ times n (grid w a) (grid w b) i k
     same k q =
-        times-cong n (grid v a) (grid v b) (grid w a) (grid w b) i k (λ j m. kept a offa i j (omega arith) (omega arith))
-        (λ j m. kept b offb j k (omega arith) q)
+        times-cong n (grid v a) (grid v b) (grid w a) (grid w b) i k (λ j m. kept a off-a i j (omega arith) (omega arith))
+        (λ j m. kept b off-b j k (omega arith) q)
 
     other : (x k : ℕ) → x < n → k < 64 * GRID → (x ≡ i → ⊥) → grid u c x k ≡ grid v c x k
-    other x k p q d = within-bit (r .frame) ((c + x * GRID) * 64 + k) (λ m. omega arith)
+    other x k p q d = within-bit (row-made .frame) ((c + x * GRID) * 64 + k) (λ m. omega arith)
 
     cell : (x k : ℕ) → x < n → k < 64 * GRID → Dec (x ≡ i) → grid u c x k ≡ (ltb x (i + 1) and times n (grid w a) (grid w b) x k)
     cell x k p q (yes e) =
         rw (e, lt-ltb i (i + 1) (omega arith))
-        (r .cell k q ∙ ap₂ _or_ (h .cell i k l q ∙ and-false-left _ _ (le-ltb i i (omega arith))) (same k q) ∙ start (times n (grid w a) (grid w b) i k))
+        (row-made .cell k q ∙ ap₂ _or_ (done .cell i k below-i q ∙ and-false-left _ _ (le-ltb i i (omega arith))) (same k q)
+        ∙ start (times n (grid w a) (grid w b) i k))
       where
         start : (z : Bool) → (false or z) ≡ (true and z)
         start z = refl
-    cell x k p q (no d) = other x k p q d ∙ h .cell x k p q ∙ ap (λ (z : Bool). z and times n (grid w a) (grid w b) x k) (later (decLt x i))
+    cell x k p q (no d) = other x k p q d ∙ done .cell x k p q ∙ ap (λ (z : Bool). z and times n (grid w a) (grid w b) x k) (later (decLt x i))
       where
         later : Dec (x < i) → ltb x i ≡ ltb x (i + 1)
         later (yes m) = lt-ltb x i m ∙ sym (lt-ltb x (i + 1) (omega arith))
@@ -174,26 +175,26 @@ rows-more {w} {v} {u} {c} {a} {b} {n} {i} few l offa offb h r =
 pub made-times : {w v u : List ℕ} {c a b n : ℕ} → n ≤ ROWS → c + ROWS-GRID ≤ length w → v ≡ zeros w c (c + ROWS-GRID - c) → Apart c a → Apart c b
     → RowsTimes v u c a b n n → Made c (c + ROWS-GRID) c GRID n (times n (grid w a) (grid w b)) w u
 unfolding rel _and_
-made-times {w} {v} {u} {c} {a} {b} {n} few room e offa offb h =
+made-times {w} {v} {u} {c} {a} {b} {n} few room cleared off-a off-b done =
     record {
       holds = record {
         fits = omega arith;
-        cell = λ i k p q. h .cell i k p (omega arith)
+        cell = λ i k p q. done .cell i k p (omega arith)
             ∙ ap (λ (z : Bool). z and times n (grid v a) (grid v b) i k) (lt-ltb i n p) ∙ same i k p q;
       };
-      frame = within-trans cleared (h .frame);
+      frame = within-trans before (done .frame);
     }
   where
-    cleared : Within c (c + ROWS-GRID) w v
-    cleared = within-cleared c (c + ROWS-GRID) (omega arith) e
+    before : Within c (c + ROWS-GRID) w v
+    before = within-cleared c (c + ROWS-GRID) (omega arith) cleared
 
     kept : (g : ℕ) → Apart c g → (x j : ℕ) → x < ROWS → j < 64 * GRID → grid v g x j ≡ grid w g x j
-    kept g off x j p q = grid-kept g cleared (omega arith) (omega arith) off x j p q
+    kept g off x j p q = grid-kept g before (omega arith) (omega arith) off x j p q
 
     same : (i k : ℕ) → i < n → k < n → times n (grid v a) (grid v b) i k ≡ times n (grid w a) (grid w b) i k
     same i k p q =
-        times-cong n (grid v a) (grid v b) (grid w a) (grid w b) i k (λ j m. kept a offa i j (omega arith) (omega arith))
-        (λ j m. kept b offb j k (omega arith) (omega arith))
+        times-cong n (grid v a) (grid v b) (grid w a) (grid w b) i k (λ j m. kept a off-a i j (omega arith) (omega arith))
+        (λ j m. kept b off-b j k (omega arith) (omega arith))
 
 -- of what two grids hold
 pub times-held : {w u : List ℕ} {x y c a b n : ℕ} {r s : ℕ → ℕ → Bool} → Holds a GRID n r w → Holds b GRID n s w

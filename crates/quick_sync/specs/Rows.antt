@@ -135,9 +135,9 @@ module _ (b : List ℕ) (p : List (List ℕ)) (mode : Mode) (n : ℕ) where
 
     pub takes-here : (s k : ℕ) (v : Bool) → writes (rowOf b x) ≡ true → k ≡ rowOf b y .kind → (k ≡ ATOMIC-WRITE → ⊥) → s ≡ sourceOf b y → s < n
         → v ≡ sequence (decode b p mode n) x s → v ≡ takesFrom (decode b p mode n) x y
-    takes-here s k v g ek h es l ev =
-        sym (and-on _ _ (and-true g (reads-other (rowOf b y) reader (λ q. h (ek ∙ q)))))
-        ∙ takes-on b p mode n x y s (rowOf b x) (rowOf b y) v m (source s es) l refl refl ev
+    takes-here s k v writer kind-is no-write source-is below-s told =
+        sym (and-on _ _ (and-true writer (reads-other (rowOf b y) reader (λ q. no-write (kind-is ∙ q)))))
+        ∙ takes-on b p mode n x y s (rowOf b x) (rowOf b y) v m (source s source-is) below-s refl refl told
 
   -- rows of two agents
   pub heads-apart : (a x : ℕ) (r : Row) → r ≡ rowOf b a → (rowOf b x .agent ≡ r .agent → ⊥) → false ≡ heads (decode b p mode n) a x
@@ -165,7 +165,8 @@ module _ (b : List ℕ) (p : List (List ℕ)) (mode : Mode) (n : ℕ) where
   pub gets-told : (c y : ℕ) (q : Row) {u v w : Bool} {a s : ℕ} → q ≡ rowOf b y → u ≡ atomic q → v ≡ barrier (rowOf b c) → a ≡ rowOf b c .agent
       → s ≡ rowOf b c .classes → w ≡ classIn q s → ((u and eqb c y) or (v and (ltb y c and eqb (q .agent) a and w))) ≡ gets (decode b p mode n) c y
   unfolding gets trails sameAgent decode
-  gets-told c y q {u} {v} {w} {a} {s} eq eu ev ea es ew = rw (eu, ev, ea, ew, es, own-atomic c y q eq, eq) refl
+  gets-told c y q {u} {v} {w} {a} {s} row-is atomic-is barrier-is agent-is classes-is class-is =
+      rw (atomic-is, barrier-is, agent-is, class-is, classes-is, own-atomic c y q row-is, row-is) refl
 
   -- an earlier row
   pub released-back : (a x : ℕ) → x < a → released (decode b p mode n) a x ≡ false
@@ -184,9 +185,10 @@ module _ (b : List ℕ) (p : List (List ℕ)) (mode : Mode) (n : ℕ) where
   pub released-own : (a : ℕ) (r : Row) (u v z : Bool) → r ≡ rowOf b a → u ≡ releases r → not u ≡ false → v ≡ barrier r → not v ≡ true → z ≡ atomic r
       → (x : ℕ) → released (decode b p mode n) a x ≡ (z and eqb a x)
   unfolding released heads decode
-  released-own a r u v z er eu h ev g ez x =
-      and-on _ _ (sym (ap releases er) ∙ sym eu ∙ not-false u h) ∙ or-off _ _ (and-false-left _ _ (sym (ap barrier er) ∙ sym ev ∙ not-out v g))
-      ∙ ap (λ (k : Bool). k and eqb a x) (sym (ez ∙ ap atomic er))
+  released-own a r u v z row-is release-is releasing barrier-is no-barrier atomic-is x =
+      and-on _ _ (sym (ap releases row-is) ∙ sym release-is ∙ not-false u releasing)
+      ∙ or-off _ _ (and-false-left _ _ (sym (ap barrier row-is) ∙ sym barrier-is ∙ not-out v no-barrier))
+      ∙ ap (λ (k : Bool). k and eqb a x) (sym (atomic-is ∙ ap atomic row-is))
 
   pub released-none : (a : ℕ) (r : Row) (u : Bool) → r ≡ rowOf b a → u ≡ releases r → not u ≡ true → (x : ℕ) → released (decode b p mode n) a x ≡ false
   unfolding released decode
@@ -205,7 +207,7 @@ module _ (b : List ℕ) (p : List (List ℕ)) (mode : Mode) (n : ℕ) where
   pub gotten-on : (y c : ℕ) (r : Row) (u v d : Bool) → r ≡ rowOf b y → u ≡ atomic r → v ≡ reads r → not (u and v) ≡ false → d ≡ gets (decode b p mode n) c y
       → d ≡ gotten (decode b p mode n) y c
   unfolding gotten decode
-  gotten-on y c r u v d er eu ev h ed = ed ∙ sym (and-on _ _ (rw (← er, ← eu, ← ev) (not-false (u and v) h)))
+  gotten-on y c r u v d row-is atomic-is reads-is reading told = told ∙ sym (and-on _ _ (rw (← row-is, ← atomic-is, ← reads-is) (not-false (u and v) reading)))
 
   -- without atomics no release is linked to an acquire
   pub led-none : anyBelow n (atomicOf b) ≡ false → (a c : ℕ) → led (decode b p mode n) a c ≡ false

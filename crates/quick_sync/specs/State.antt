@@ -51,22 +51,22 @@ linked-kept {n = n} {c = c} {d = d} l f k =
 pub sync-passed : (b : List ℕ) (p : List (List ℕ)) (mode : Mode) (n : ℕ) {w : List ℕ} (a c : ℕ) → a < n → c < n → Linked (decode b p mode n) n w
     → either w (LINKS + a * GRID) (PASSED + a * GRID) c ≡ false → synchronizes (decode b p mode n) a c ≡ false
 unfolding either rel
-sync-passed b p mode n {w} a c la lc k e =
-    let s = or-false (bit w ((LINKS + a * GRID) * 64 + c)) (bit w ((PASSED + a * GRID) * 64 + c)) e in
-    sync-unlinked b p mode n a c la lc (sym (k .links .cell a c la lc) ∙ s .0) (sym (k .passing .cell a c la lc) ∙ s .1)
+sync-passed b p mode n {w} a c below-a below-c linked neither =
+    let s = or-false (bit w ((LINKS + a * GRID) * 64 + c)) (bit w ((PASSED + a * GRID) * 64 + c)) neither in
+    sync-unlinked b p mode n a c below-a below-c (sym (linked .links .cell a c below-a below-c) ∙ s .0) (sym (linked .passing .cell a c below-a below-c) ∙ s .1)
 
 -- a grid that holds nothing, and is cleared
 pub cleared-made : (c d a n : ℕ) {r : ℕ → ℕ → Bool} {w u : List ℕ} → c ≤ a → a + ROWS-GRID ≤ d → a + ROWS-GRID ≤ length w → n ≤ ROWS
     → u ≡ zeros w a (a + ROWS-GRID - a) → ((i j : ℕ) → r i j ≡ false)
     → Made c d a GRID n r w u
 unfolding rel
-cleared-made c d a n {r} {w} {u} l o room few e none =
+cleared-made c d a n {r} {w} {u} low high room few cleared none =
     record {
       holds = record {
         fits = omega arith;
-        cell = λ i j p q. rw (e, none i j) (bit-zeros-in w a (a + ROWS-GRID - a) ((a + i * GRID) * 64 + j) (omega arith) (omega arith) (omega arith));
+        cell = λ i j p q. rw (cleared, none i j) (bit-zeros-in w a (a + ROWS-GRID - a) ((a + i * GRID) * 64 + j) (omega arith) (omega arith) (omega arith));
       };
-      frame = within-widen c d l o (within-cleared a (a + ROWS-GRID) (omega arith) e);
+      frame = within-widen c d low high (within-cleared a (a + ROWS-GRID) (omega arith) cleared);
     }
 
 -- the stages in order
@@ -78,19 +78,19 @@ module _ (b : List ℕ) (p : List (List ℕ)) (mode : Mode) (n : ℕ) where
       → Made PASSED UP-TO-END PASSED GRID n (times n (ahead (decode b [] OFF n)) (grid z MEETS)) z u
       → Made ALONE UP-TO-END PASSED GRID n (passed (decode b p mode n)) w u
   unfolding passed metBy decode
-  passed-made {w} {v} {x} {y} {z} {u} al up jo me pa =
-      let few : n ≤ 64 * GRID = al .holds .fits in
-      let ux = made-cong (λ i k l m. alone-times b p mode n i k m) (times-right (λ i j. ahead-any b p mode n i j) (al .holds) up) in
-      let uy = holds-kept (λ h. omega arith) (jo .frame) (ux .holds) in
-      let mz = times-held (holds-cong (λ i j l m. joins-any b p mode n i j) (jo .holds)) uy me in
-      let pu = times-right (λ i j. ahead-any b p mode n i j) (mz .holds) pa in
+  passed-made {w} {v} {x} {y} {z} {u} alone-made upto-made joins-made meets-made passes-made =
+      let few : n ≤ 64 * GRID = alone-made .holds .fits in
+      let ux = made-cong (λ i k l m. alone-times b p mode n i k m) (times-right (λ i j. ahead-any b p mode n i j) (alone-made .holds) upto-made) in
+      let uy = holds-kept (λ h. omega arith) (joins-made .frame) (ux .holds) in
+      let mz = times-held (holds-cong (λ i j l m. joins-any b p mode n i j) (joins-made .holds)) uy meets-made in
+      let pu = times-right (λ i j. ahead-any b p mode n i j) (mz .holds) passes-made in
       record {
         holds = pu .holds;
-        frame = within-trans (within-widen ALONE UP-TO-END (omega arith) (omega arith) (al .frame))
-            (within-trans (within-widen ALONE UP-TO-END (omega arith) (omega arith) (up .frame))
-            (within-trans (within-widen ALONE UP-TO-END (omega arith) (omega arith) (jo .frame))
-            (within-trans (within-widen ALONE UP-TO-END (omega arith) (omega arith) (me .frame))
-            (within-widen ALONE UP-TO-END (omega arith) (omega arith) (pa .frame)))));
+        frame = within-trans (within-widen ALONE UP-TO-END (omega arith) (omega arith) (alone-made .frame))
+            (within-trans (within-widen ALONE UP-TO-END (omega arith) (omega arith) (upto-made .frame))
+            (within-trans (within-widen ALONE UP-TO-END (omega arith) (omega arith) (joins-made .frame))
+            (within-trans (within-widen ALONE UP-TO-END (omega arith) (omega arith) (meets-made .frame))
+            (within-widen ALONE UP-TO-END (omega arith) (omega arith) (passes-made .frame)))));
       }
 
   pub links-made : {w v x y z u : List ℕ} → Made HEADS TAKES HEADS GRID n (released (decode b p mode n)) w v

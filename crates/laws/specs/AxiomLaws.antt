@@ -16,18 +16,8 @@ use Rattle.model.specs.Location.{common, before}
 use Rattle.model.specs.Race.{nth}
 use Rattle.model.specs.Edge.{readsFrom, fromReads, edge, cycleRow, overwrites, overwritesNth, overNth, overwriting, overWriter, isOverwritten}
 use Rattle.model.specs.Edge.{overReader, overByte, consistent}
-use Rattle.model.specs.Words.{Cyclic, Overwritten, Consistent}
+use Rattle.model.specs.Words.{Cyclic, Overwritten, FirstOverwrite, Consistent}
 use Rattle.laws.specs.RaceLaws.{Sized, touched, common-right}
-
--- ---- definitions
-
--- y, z and b are the least that break axiom B, in that order
-pub record FirstOverwrite (t : Table) (source : ℕ → ℕ) (y z b : ℕ) : Type 0 where
-  pub reader : y < t .rows
-  pub writer : z < t .rows
-  pub broken : overwrites t source y z b ≡ true
-  pub first : (u v c : ℕ) → u < t .rows → v < t .rows → overwrites t source u v c ≡ true
-      → (y < u) ⊎ ((y ≡ u) × ((z < v) ⊎ ((z ≡ v) × (b ≤ c))))
 
 -- ---- axiom A
 

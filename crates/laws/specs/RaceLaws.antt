@@ -14,22 +14,13 @@ use Rattle.model.specs.Row.{inside, touches}
 use Rattle.model.specs.Table.{Table}
 use Rattle.model.specs.Location.{common}
 use Rattle.model.specs.Race.{nth, unordered, unorderedNth, raceNth, races, racesAbove, racePartner, hasRace, raceRow, raceByte}
-use Rattle.model.specs.Words.{Unordered, Races}
+use Rattle.model.specs.Words.{Unordered, Races, FirstRace}
 
 -- ---- definitions
 
 -- no row has more than LONGEST bytes, as refusal 7 sees to
 abbrev pub Sized : Table → Type 0
 Sized t = (i : ℕ) → i < t .rows → t .row i .size ≤ LONGEST
-
--- x and y are the first pair that races, in row order, and b is its lowest byte with no order
-pub record FirstRace (t : Table) (x y b : ℕ) : Type 0 where
-  pub below : x < y
-  pub rows : y < t .rows
-  pub racing : Races t x y
-  pub open-byte : Unordered t x y b
-  pub first : (u v : ℕ) → u < v → v < t .rows → Races t u v → (x < u) ⊎ ((x ≡ u) × (y ≤ v))
-  pub lowest : (c : ℕ) → Unordered t x y c → b ≤ c
 
 -- ---- bytes
 

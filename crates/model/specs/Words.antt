@@ -34,6 +34,15 @@ Unordered t x y b = (common (t .row x) (t .row y) b ≡ true) × (before t x y b
 abbrev pub Races : Table → ℕ → ℕ → Type 0
 Races t x y = (conflict t x y ≡ true) × (mutually t x y ≡ false) × ((b : ℕ) × Unordered t x y b)
 
+-- x and y are the first pair that races, in row order, and b is its lowest byte with no order
+pub record FirstRace (t : Table) (x y b : ℕ) : Type 0 where
+  pub below : x < y
+  pub rows : y < t .rows
+  pub racing : Races t x y
+  pub open-byte : Unordered t x y b
+  pub first : (u v : ℕ) → u < v → v < t .rows → Races t u v → (x < u) ⊎ ((x ≡ u) × (y ≤ v))
+  pub lowest : (c : ℕ) → Unordered t x y c → b ≤ c
+
 -- axiom A is broken: a path of edges leads from a row back to it
 abbrev pub Cyclic : Table → (ℕ → ℕ) → Type 0
 Cyclic t source = (x : ℕ) × (x < t .rows) × Reach (edge t source) (t .rows) x x
@@ -41,6 +50,14 @@ Cyclic t source = (x : ℕ) × (x < t .rows) × Reach (edge t source) (t .rows) 
 -- axiom B is broken: a writer z overwrites the source of a reader y before y at b
 abbrev pub Overwritten : Table → (ℕ → ℕ) → Type 0
 Overwritten t source = (y : ℕ) × (z : ℕ) × (b : ℕ) × (y < t .rows) × (z < t .rows) × (overwrites t source y z b ≡ true)
+
+-- y, z and b are the least that break axiom B, in that order
+pub record FirstOverwrite (t : Table) (source : ℕ → ℕ) (y z b : ℕ) : Type 0 where
+  pub reader : y < t .rows
+  pub writer : z < t .rows
+  pub broken : overwrites t source y z b ≡ true
+  pub first : (u v c : ℕ) → u < t .rows → v < t .rows → overwrites t source u v c ≡ true
+      → (y < u) ⊎ ((y ≡ u) × ((z < v) ⊎ ((z ≡ v) × (b ≤ c))))
 
 abbrev pub Consistent : Table → (ℕ → ℕ) → Type 0
 Consistent t source = (Cyclic t source → ⊥) × (Overwritten t source → ⊥)

@@ -19,10 +19,10 @@ use Rattle.model.specs.Race.{conflict, raceRow, racePartner, raceByte}
 use Rattle.model.specs.Edge.{edge, edgeNumber, cycleRow, cycleRows, cycleEdges, overReader, overWriter, overByte}
 use Rattle.model.specs.Refusal.{buffersFit, whenAdmitted}
 use Rattle.model.specs.Check.{cyclic, overwritten, race, raceFree, raceOr, overwrittenOr, cyclicOr, verdict, check}
-use Rattle.model.specs.Words.{Races, Cyclic, Overwritten, Consistent, WellFormed}
+use Rattle.model.specs.Words.{Races, Cyclic, Overwritten, Consistent, WellFormed, FirstRace, FirstOverwrite}
 use Rattle.laws.specs.AdmissionLaws.{admitted-sound, size-fits}
-use Rattle.laws.specs.RaceLaws.{Sized, FirstRace, race-shown, race-none}
-use Rattle.laws.specs.AxiomLaws.{FirstOverwrite, cyclic-is, overwrite-shown, overwritten-is}
+use Rattle.laws.specs.RaceLaws.{Sized, race-shown, race-none}
+use Rattle.laws.specs.AxiomLaws.{cyclic-is, overwrite-shown, overwritten-is}
 use Rattle.promises.specs.Searches.{stuck}
 use Rattle.promises.specs.Cases.{Tests, decided, said-cyclic, said-overwritten, said-race, said-free, say-cyclic, say-overwritten, say-race, say-free}
 

@@ -21,9 +21,9 @@ use Rattle.model.specs.Edge.{consistent}
 use Rattle.model.specs.Refusal.{buffersFit, admission, whenAdmitted}
 use Rattle.model.specs.Check.{raceOr}
 use Rattle.model.specs.Fill.{Outcome, race, none, filled, chosen, sourcesFit, filledOr, outcome, fill}
-use Rattle.model.specs.Words.{Unordered, Races, blankAt, Filling}
+use Rattle.model.specs.Words.{Unordered, Races, blankAt, Filling, FirstRace}
 use Rattle.laws.specs.AdmissionLaws.{admitted-sound, size-fits}
-use Rattle.laws.specs.RaceLaws.{Sized, FirstRace, race-shown, race-none}
+use Rattle.laws.specs.RaceLaws.{Sized, race-shown, race-none}
 use Rattle.laws.specs.ChoiceLaws.{NoRace}
 use Rattle.laws.specs.FillingLaws.{under-kept}
 use Rattle.laws.specs.FilledLaws.{Bytes, fillings-same}

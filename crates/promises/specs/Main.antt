@@ -26,7 +26,7 @@ use Rattle.model.specs.Limits.{WORK, CYCLE, SOURCES, CHAIN, CLASS-SETS}
 use Rattle.model.specs.Table.{Table, agentsAt, rowsAt, tableUnder, tableOf, sourcesOf}
 use Rattle.model.specs.{Scope.mutually, Moment.moment, Moment.programOrder, Location.common, Location.before, Race.conflict}
 use Rattle.model.specs.Happens.{bySync, toRelease, fromAcquire, bySystem}
-use Rattle.model.specs.Edge.{edge, edgeNumber, cycleRow, overwrites}
+use Rattle.model.specs.Edge.{edge, edgeNumber, cycleRow}
 use Rattle.model.specs.Refusal.{buffersFit, admission}
 use Rattle.model.specs.Check.{Verdict, check, checkAnswer, cycleNumber, cycleAfter, workAfter}
 use Rattle.model.specs.Fill.{Outcome, fill, fillAnswer, sourcesAfter}
@@ -34,7 +34,7 @@ use Rattle.model.specs.Fill as Fill
 use Rattle.model.specs.Reason.{Judged, Derived, caseIn, reached, stands, stepHolds, twoMoments, judge, acceptAnswer, derive, deriveAnswer, chainAfter}
 use Rattle.model.specs.Reason as Derivation
 use Rattle.model.specs.Report.{report}
-use Rattle.model.specs.Words.{HappensBefore, Unordered, Races, Cyclic, Overwritten, Consistent, WellFormed, ConsistentBytes, blankAt, Filling}
+use Rattle.model.specs.Words.{HappensBefore, Unordered, Races, FirstRace, Cyclic, Overwritten, FirstOverwrite, Consistent, WellFormed, ConsistentBytes, blankAt, Filling}
 use Rattle.laws.specs.ChainLaws.{ordered-more}
 use Rattle.promises.specs as beside
 use Rattle.promises.specs.Answers
@@ -88,10 +88,8 @@ module _ (chains : Bool) (s : List ℕ) (work buffer : ℕ) where
     cycle-shown = beside.Check.shows-cycle chains s work buffer fit well
 
     -- the reader, writer and byte shown break B, and are the least in that order
-    pub overwritten-shown : (y z b : ℕ) → check chains s work buffer ≡ Verdict.overwritten y z b
-        → (y < t .rows) × (z < t .rows) × (overwrites t source y z b ≡ true)
-        × ((u v c : ℕ) → u < t .rows → v < t .rows → overwrites t source u v c ≡ true → (y < u) ⊎ ((y ≡ u) × ((z < v) ⊎ ((z ≡ v) × (b ≤ c)))))
-    overwritten-shown y z b e = let f = beside.Check.shows-overwritten chains s work buffer fit well y z b e in (f .reader, f .writer, f .broken, f .first)
+    pub overwritten-shown : (y z b : ℕ) → check chains s work buffer ≡ Verdict.overwritten y z b → FirstOverwrite t source y z b
+    overwritten-shown = beside.Check.shows-overwritten chains s work buffer fit well
 
     -- of a consistent table, race-free exactly when every conflicting pair is mutually-ordered or ordered at every shared byte
     pub race-free-said : Consistent t source → (check chains s work buffer ≡ Verdict.raceFree)
@@ -105,10 +103,8 @@ module _ (chains : Bool) (s : List ℕ) (work buffer : ℕ) where
     race-said = beside.Check.says-race chains s work buffer fit well
 
     -- the pair shown is the first that races, in row order, and the byte is its lowest without order
-    pub race-shown : (x y b : ℕ) → check chains s work buffer ≡ Verdict.race x y b → (x < y) × (y < t .rows) × Races t x y × Unordered t x y b
-        × ((u v : ℕ) → u < v → v < t .rows → Races t u v → (x < u) ⊎ ((x ≡ u) × (y ≤ v))) × ((c : ℕ) → Unordered t x y c → b ≤ c)
-    race-shown x y b e =
-        let f = beside.Check.shows-race chains s work buffer fit well x y b e in (f .below, f .rows, f .racing, f .open-byte, f .first, f .lowest)
+    pub race-shown : (x y b : ℕ) → check chains s work buffer ≡ Verdict.race x y b → FirstRace t x y b
+    race-shown = beside.Check.shows-race chains s work buffer fit well
 
   -- ---- fill, of a table that it doesn't refuse
 
@@ -119,10 +115,8 @@ module _ (chains : Bool) (s : List ℕ) (work buffer : ℕ) where
     fill-race-said = beside.Fill.says-race chains s work buffer fit well
 
     -- shown as by a check
-    pub fill-race-shown : (x y b : ℕ) → fill chains s work buffer ≡ Outcome.race x y b → (x < y) × (y < t .rows) × Races t x y × Unordered t x y b
-        × ((u v : ℕ) → u < v → v < t .rows → Races t u v → (x < u) ⊎ ((x ≡ u) × (y ≤ v))) × ((c : ℕ) → Unordered t x y c → b ≤ c)
-    fill-race-shown x y b e =
-        let f = beside.Fill.shows-race chains s work buffer fit well x y b e in (f .below, f .rows, f .racing, f .open-byte, f .first, f .lowest)
+    pub fill-race-shown : (x y b : ℕ) → fill chains s work buffer ≡ Outcome.race x y b → FirstRace t x y b
+    fill-race-shown = beside.Fill.shows-race chains s work buffer fit well
 
     -- each number of the table is a byte, as those of a lent `&[u8]` are
     module _ (bytes : (k : ℕ) → getD s k 0 < 256) where

@@ -45,7 +45,7 @@ marks-stop {k = k} {w = w} few f next l = sym (marks-same few f k) ∙ once w MA
 pub marks-pass : {n j k : ℕ} {w₀ w : List ℕ} → n ≤ ROWS → Within LAYERS (LAYERS + n * GRID) w₀ w → Next w MARKS MARKS j n k → (m : ℕ) → j ≤ m → m < k
     → marked w₀ m ≡ false
 unfolding marked
-marks-pass {w = w} few f next m a b = sym (marks-same few f m) ∙ once w MARKS m (next .miss m a b)
+marks-pass {w = w} few kept next m past before = sym (marks-same few kept m) ∙ once w MARKS m (next .miss m past before)
 
 -- ---- a turn within a round
 
@@ -158,21 +158,27 @@ rounds-pass w₀ w n k z few next r =
 
 pub rounds-more : (w₀ w u : List ℕ) (n k : ℕ) → n ≤ ROWS → k < n → marked w₀ k ≡ true → Rounds w₀ w n k → Round w u n k → Rounds w₀ u n (k + 1)
 unfolding through leaving
-rounds-more w₀ w u n k few kn mk r p =
+rounds-more w₀ w u n k few below-k marked-k rounds round =
     record {
-      cells = λ i j l b m. p .cells i j l b ∙ cell i j l b m;
-      still = λ i j l b m. p .cells i j l b ∙ or-off _ _ (and-false-left _ _ (and-false-left _ _ (same i ∙ m))) ∙ r .still i j l b m;
-      frame = within-trans (r .frame) (p .frame);
+      cells = λ i j l b m. round .cells i j l b ∙ cell i j l b m;
+      still = λ i j l b m. round .cells i j l b ∙ or-off _ _ (and-false-left _ _ (and-false-left _ _ (same i ∙ m))) ∙ rounds .still i j l b m;
+      frame = within-trans (rounds .frame) (round .frame);
     }
   where
     same : (i : ℕ) → marked w i ≡ marked w₀ i
-    same i = marks-same few (r .frame) i
+    same i = marks-same few (rounds .frame) i
 
     cell : (i j : ℕ) → i < n → j < 64 * GRID → marked w₀ i ≡ true
         → (rel w LAYERS GRID i j or ((marked w i and rel w LAYERS GRID i k) and rel w LAYERS GRID k j))
         ≡ through (λ c d. marked w₀ c and rel w₀ LAYERS GRID c d) (k + 1) i j
     cell i j l b m =
-        rw (add-one, and-on (marked w i) (rel w LAYERS GRID i k) (same i ∙ m), r .cells i j l b m, r .cells i k l (omega arith) m, r .cells k j kn b mk) refl
+        rw (
+          add-one,
+          and-on (marked w i) (rel w LAYERS GRID i k) (same i ∙ m),
+          rounds .cells i j l b m,
+          rounds .cells i k l (omega arith) m,
+          rounds .cells k j below-k b marked-k,
+        ) refl
 
 pub rounds-all : {w₀ w : List ℕ} {n : ℕ} → Rounds w₀ w n n → ClosedMarked w₀ w n
 rounds-all r = record { cells = r .cells; still = r .still; frame = r .frame }

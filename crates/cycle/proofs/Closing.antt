@@ -30,9 +30,10 @@ module _ (n : ℕ) (e : ℕ → ℕ → Bool) where
   -- a cycle stays where each row that lies on one keeps its steps
   keep : (s : ℕ → ℕ → Bool) → ((i j : ℕ) → i < n → j < n → Reach e n i i → e i j ≡ true → s i j ≡ true)
       → (i x : ℕ) → i < n → x < n → Reach e n x i → Reach e n i x → Reach s n i x
-  keep s h i x l m back (one d) = one (h i x l m (more d m back) d)
-  keep s h i x l m back (more {m = z} d k p) =
-      more (h i z l k (reach-trans e n i x i m (more d k p) back) d) k (keep s h z x k m (reach-trans e n x i z l back (one d)) p)
+  keep s stays i x below-i below-x back (one step) = one (stays i x below-i below-x (more step below-x back) step)
+  keep s stays i x below-i below-x back (more {m = z} step below-z way) =
+      more (stays i z below-i below-z (reach-trans e n i x i below-x (more step below-z way) back) step) below-z
+      (keep s stays z x below-z below-x (reach-trans e n x i z below-i back (one step)) way)
 
   -- no step is added where each is one of e
   fewer : (s : ℕ → ℕ → Bool) → ((i j : ℕ) → i < n → j < n → s i j ≡ true → e i j ≡ true) → (i x : ℕ) → i < n → x < n → Reach s n i x → Reach e n i x

@@ -51,10 +51,10 @@ swept-none n w = record { rises = λ i a b. absurd (omega arith); frame = within
 pub swept-more : (n z x : ℕ) (w₀ w u : List ℕ) (b : Bool) → n ≤ ROWS → LAYERS-END ≤ length w → x + 1 ≡ z → z ≤ n → Swept n z w₀ w → Asked w x b
     → u ≡ setBitIf b w (MARKS * 64 + x) → Swept n x w₀ u
 unfolding rel marked
-swept-more n z x w₀ w u b fits room e top s ask put =
+swept-more n z x w₀ w u b fits room next-is top swept ask put =
     record {
       rises = λ i a l h y m t. go i a l h y m t (ℕ-discrete i x);
-      frame = within-trans (s .frame) (within-put MARKS LAYERS-END (MARKS * 64 + x) b (omega arith) (omega arith) put);
+      frame = within-trans (swept .frame) (within-put MARKS LAYERS-END (MARKS * 64 + x) b (omega arith) (omega arith) put);
     }
   where
     other : (y : ℕ) → x < y → bit u (MARKS * 64 + y) ≡ bit w (MARKS * 64 + y)
@@ -66,7 +66,7 @@ swept-more n z x w₀ w u b fits room e top s ask put =
         or-false (bit w (MARKS * 64 + x)) b (sym (setBitIf-same b w (MARKS * 64 + x) (omega arith)) ∙ g) .1
 
     same : (y : ℕ) → y < n → bit w ((EDGE + x * GRID) * 64 + y) ≡ bit w₀ ((EDGE + x * GRID) * 64 + y)
-    same y m = within-bit (s .frame) ((EDGE + x * GRID) * 64 + y) (λ l. absurd (omega arith))
+    same y m = within-bit (swept .frame) ((EDGE + x * GRID) * 64 + y) (λ l. absurd (omega arith))
 
     go : (i : ℕ) → x ≤ i → i < n → bit u (MARKS * 64 + i) ≡ false → (y : ℕ) → y < n → bit w₀ ((EDGE + i * GRID) * 64 + y) ≡ true → Dec (i ≡ x)
         → (i < y) × (bit u (MARKS * 64 + y) ≡ false)
@@ -75,7 +75,7 @@ swept-more n z x w₀ w u b fits room e top s ask put =
         let f = r .0 in
         (omega arith, other y f ∙ r .1)
     go i past below-i unmarked y below-y edge (no q) =
-        let r = s .rises i (omega arith) below-i (sym (other i (omega arith)) ∙ unmarked) y below-y edge in
+        let r = swept .rises i (omega arith) below-i (sym (other i (omega arith)) ∙ unmarked) y below-y edge in
         let f = r .0 in
         (f, other y (omega arith) ∙ r .1)
 
@@ -83,11 +83,11 @@ swept-more n z x w₀ w u b fits room e top s ask put =
 
 -- from a row with no mark each way leads to a later row
 later : (n : ℕ) (w u : List ℕ) → Swept n 0 w u → (x y : ℕ) → x < n → y < n → marked u x ≡ false → Reach (rel w EDGE GRID) n x y → x < y
-later n w u s x y l m h (one e) = s .rises x (omega arith) l h y m e .0
-later n w u s x y l m h (more {m = z} e k p) =
-    let r = s .rises x (omega arith) l h z k e in
+later n w u swept x y below-x below-y unmarked (one edge) = swept .rises x (omega arith) below-x unmarked y below-y edge .0
+later n w u swept x y below-x below-y unmarked (more {m = z} edge below-z way) =
+    let r = swept .rises x (omega arith) below-x unmarked z below-z edge in
     let f = r .0 in
-    let g = later n w u s z y k m (r .1) p in
+    let g = later n w u swept z y below-z below-y (r .1) way in
     omega arith
 
 pub swept-all : (n : ℕ) (w u : List ℕ) → Swept n 0 w u → Marked n w u

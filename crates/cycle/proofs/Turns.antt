@@ -45,7 +45,7 @@ marks-stop {k = k} {w = w} few f next l = sym (marks-same few f k) ∙ once w MA
 pub marks-pass : {n j k : ℕ} {w₀ w : List ℕ} → n ≤ ROWS → Within LAYERS (LAYERS + n * GRID) w₀ w → Next w MARKS MARKS j n k → (m : ℕ) → j ≤ m → m < k
     → marked w₀ m ≡ false
 unfolding marked
-marks-pass {w = w} few f next m a b = sym (marks-same few f m) ∙ once w MARKS m (next .miss m a b)
+marks-pass {w = w} few kept next m past before = sym (marks-same few kept m) ∙ once w MARKS m (next .miss m past before)
 
 -- ---- a turn within a round
 
@@ -53,43 +53,43 @@ pub phase-none : (w : List ℕ) (n k : ℕ) → Phase w w n k 0
 phase-none w n k =
     record { done = λ a j h l b. absurd (omega arith); left = λ a j h l b. refl; frame = within-refl LAYERS (LAYERS + n * GRID) w }
 
-module _ (w₀ w : List ℕ) (n k i : ℕ) (few : n ≤ ROWS) (kn : k < n) (p : Phase w₀ w n k i) where
+module _ (w₀ w : List ℕ) (n k i : ℕ) (few : n ≤ ROWS) (below-k : k < n) (phase : Phase w₀ w n k i) where
   -- rows that take in nothing
   over : (z : ℕ) → i ≤ z → ((a : ℕ) → i ≤ a → a < z → a < n → leaving w₀ a k ≡ false) → Phase w₀ w n k z
   over z l off =
       record {
         done = λ a j h s b. go a j h s b (decLt a i);
-        left = λ a j h s b. p .left a j (omega arith) s b;
-        frame = p .frame;
+        left = λ a j h s b. phase .left a j (omega arith) s b;
+        frame = phase .frame;
       }
     where
       go : (a j : ℕ) → a < z → a < n → j < 64 * GRID → Dec (a < i) → rel w LAYERS GRID a j ≡ turn w₀ k a j
-      go a j h s b (yes o) = p .done a j o s b
-      go a j h s b (no o) = p .left a j (omega arith) s b ∙ sym (or-off _ _ (and-false-left _ _ (off a (omega arith) h s)))
+      go a j h s b (yes o) = phase .done a j o s b
+      go a j h s b (no o) = phase .left a j (omega arith) s b ∙ sym (or-off _ _ (and-false-left _ _ (off a (omega arith) h s)))
 
   pub phase-pass : (z : ℕ) → Next w MARKS MARKS i n z → Phase w₀ w n k z
   unfolding leaving
-  phase-pass z next = over z (next .low) (λ a h l s. and-false-left _ _ (marks-pass few (p .frame) next a h l))
+  phase-pass z next = over z (next .low) (λ a h l s. and-false-left _ _ (marks-pass few (phase .frame) next a h l))
 
   pub phase-skip : i < n → rel w LAYERS GRID i k ≡ false → Phase w₀ w n k (i + 1)
   unfolding leaving
   phase-skip below e = over (i + 1) (omega arith) (λ a h l s. and-false-right _ _ (none a (omega arith)))
     where
       none : (a : ℕ) → a ≡ i → rel w₀ LAYERS GRID a k ≡ false
-      none a q = rw q (sym (p .left i k (omega arith) below (omega arith)) ∙ e)
+      none a q = rw q (sym (phase .left i k (omega arith) below (omega arith)) ∙ e)
 
   -- row k is the same at any time of round k
   row-k : (j : ℕ) → j < 64 * GRID → rel w LAYERS GRID k j ≡ rel w₀ LAYERS GRID k j
   row-k j b = go (decLt k i)
     where
       go : Dec (k < i) → rel w LAYERS GRID k j ≡ rel w₀ LAYERS GRID k j
-      go (yes l) = p .done k j l kn b ∙ absorb (rel w₀ LAYERS GRID k j) (leaving w₀ k k)
-      go (no l) = p .left k j (omega arith) kn b
+      go (yes l) = phase .done k j l below-k b ∙ absorb (rel w₀ LAYERS GRID k j) (leaving w₀ k k)
+      go (no l) = phase .left k j (omega arith) below-k b
 
   -- row k is joined to the marked row i, and no other row changes
-  module _ (u : List ℕ) (below : i < n) (room : LAYERS + n * GRID ≤ length w) (e : u ≡ joinRow w (LAYERS + i * GRID) (LAYERS + k * GRID) GRID) where
+  module _ (u : List ℕ) (below : i < n) (room : LAYERS + n * GRID ≤ length w) (put : u ≡ joinRow w (LAYERS + i * GRID) (LAYERS + k * GRID) GRID) where
     row : Within (LAYERS + i * GRID) (LAYERS + i * GRID + GRID) w u
-    row = rw e (within-joinRow w (LAYERS + i * GRID) (LAYERS + k * GRID) GRID)
+    row = rw put (within-joinRow w (LAYERS + i * GRID) (LAYERS + k * GRID) GRID)
 
     other : (a j : ℕ) → (a ≡ i → ⊥) → j < 64 * GRID → rel u LAYERS GRID a j ≡ rel w LAYERS GRID a j
     unfolding rel
@@ -101,22 +101,22 @@ module _ (w₀ w : List ℕ) (n k i : ℕ) (few : n ≤ ROWS) (kn : k < n) (p : 
 
     joined : (j : ℕ) → j < 64 * GRID → rel u LAYERS GRID i j ≡ (rel w LAYERS GRID i j or rel w LAYERS GRID k j)
     unfolding rel
-    joined j b = rw e (bit-joinRow w (LAYERS + i * GRID) (LAYERS + k * GRID) GRID j (omega arith) b)
+    joined j b = rw put (bit-joinRow w (LAYERS + i * GRID) (LAYERS + k * GRID) GRID j (omega arith) b)
 
     pub phase-join : marked w₀ i ≡ true → rel w LAYERS GRID i k ≡ true → Phase w₀ u n k (i + 1)
     unfolding leaving
-    phase-join m t =
+    phase-join marked-i leads =
         record {
           done = λ a j h l b. go a j h l b (ℕ-discrete a i);
-          left = λ a j h l b. other a j (omega arith) b ∙ p .left a j (omega arith) l b;
-          frame = within-trans (p .frame) (within-widen LAYERS (LAYERS + n * GRID) (omega arith) (omega arith) row);
+          left = λ a j h l b. other a j (omega arith) b ∙ phase .left a j (omega arith) l b;
+          frame = within-trans (phase .frame) (within-widen LAYERS (LAYERS + n * GRID) (omega arith) (omega arith) row);
         }
       where
         go : (a j : ℕ) → a < i + 1 → a < n → j < 64 * GRID → Dec (a ≡ i) → rel u LAYERS GRID a j ≡ turn w₀ k a j
         go a j h l b (yes q) =
-            let f : (marked w₀ i and rel w₀ LAYERS GRID i k) ≡ true = and-true m (sym (p .left i k (omega arith) below (omega arith)) ∙ t) in
-            rw q (joined j b ∙ ap₂ _or_ (p .left i j (omega arith) below b) (row-k j b) ∙ through-on _ _ _ f)
-        go a j h l b (no q) = other a j q b ∙ p .done a j (omega arith) l b
+            let f : (marked w₀ i and rel w₀ LAYERS GRID i k) ≡ true = and-true marked-i (sym (phase .left i k (omega arith) below (omega arith)) ∙ leads) in
+            rw q (joined j b ∙ ap₂ _or_ (phase .left i j (omega arith) below b) (row-k j b) ∙ through-on _ _ _ f)
+        go a j h l b (no q) = other a j q b ∙ phase .done a j (omega arith) l b
 
 pub phase-all : {w₀ w : List ℕ} {n k : ℕ} → Phase w₀ w n k n → Round w₀ w n k
 phase-all p = record { cells = λ i j l b. p .done i j l l b; frame = p .frame }
@@ -158,21 +158,27 @@ rounds-pass w₀ w n k z few next r =
 
 pub rounds-more : (w₀ w u : List ℕ) (n k : ℕ) → n ≤ ROWS → k < n → marked w₀ k ≡ true → Rounds w₀ w n k → Round w u n k → Rounds w₀ u n (k + 1)
 unfolding through leaving
-rounds-more w₀ w u n k few kn mk r p =
+rounds-more w₀ w u n k few below-k marked-k rounds round =
     record {
-      cells = λ i j l b m. p .cells i j l b ∙ cell i j l b m;
-      still = λ i j l b m. p .cells i j l b ∙ or-off _ _ (and-false-left _ _ (and-false-left _ _ (same i ∙ m))) ∙ r .still i j l b m;
-      frame = within-trans (r .frame) (p .frame);
+      cells = λ i j l b m. round .cells i j l b ∙ cell i j l b m;
+      still = λ i j l b m. round .cells i j l b ∙ or-off _ _ (and-false-left _ _ (and-false-left _ _ (same i ∙ m))) ∙ rounds .still i j l b m;
+      frame = within-trans (rounds .frame) (round .frame);
     }
   where
     same : (i : ℕ) → marked w i ≡ marked w₀ i
-    same i = marks-same few (r .frame) i
+    same i = marks-same few (rounds .frame) i
 
     cell : (i j : ℕ) → i < n → j < 64 * GRID → marked w₀ i ≡ true
         → (rel w LAYERS GRID i j or ((marked w i and rel w LAYERS GRID i k) and rel w LAYERS GRID k j))
         ≡ through (λ c d. marked w₀ c and rel w₀ LAYERS GRID c d) (k + 1) i j
     cell i j l b m =
-        rw (add-one, and-on (marked w i) (rel w LAYERS GRID i k) (same i ∙ m), r .cells i j l b m, r .cells i k l (omega arith) m, r .cells k j kn b mk) refl
+        rw (
+          add-one,
+          and-on (marked w i) (rel w LAYERS GRID i k) (same i ∙ m),
+          rounds .cells i j l b m,
+          rounds .cells i k l (omega arith) m,
+          rounds .cells k j below-k b marked-k,
+        ) refl
 
 pub rounds-all : {w₀ w : List ℕ} {n : ℕ} → Rounds w₀ w n n → ClosedMarked w₀ w n
 rounds-all r = record { cells = r .cells; still = r .still; frame = r .frame }

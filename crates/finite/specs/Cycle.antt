@@ -56,10 +56,10 @@ swap-low c (yes q) h k m = omega arith
 swap-low c (no q) h k m = omega arith
 
 swap-one : (c : ℕ) {a b n : ℕ} (d : Dec (a ≡ n)) (f : Dec (b ≡ n)) → (a ≡ c → ⊥) → (b ≡ c → ⊥) → swap c d ≡ swap c f → a ≡ b
-swap-one c (yes p) (yes q) h k m = omega arith
-swap-one c (yes p) (no q) h k m = omega arith
-swap-one c (no p) (yes q) h k m = omega arith
-swap-one c (no p) (no q) h k m = m
+swap-one c (yes p) (yes q) first-apart second-apart equal = omega arith
+swap-one c (yes p) (no q) first-apart second-apart equal = omega arith
+swap-one c (no p) (yes q) first-apart second-apart equal = omega arith
+swap-one c (no p) (no q) first-apart second-apart equal = equal
 
 pub twice : (n : ℕ) (f : ℕ → ℕ) → ((k : ℕ) → k ≤ n → f k < n) → (i : ℕ) × (j : ℕ) × (i < j) × (j ≤ n) × (f i ≡ f j)
 twice zero f h = absurd (not-suc-le-zero (h 0 (omega arith)))
@@ -385,13 +385,13 @@ module _ (n : ℕ) (e : ℕ → ℕ → Bool) where
   -- and so has one that passes any number twice, its end among them
   cut : {x z : ℕ} {l : List ℕ} → Way n e x z l → (z ≡ x → ⊥) → (i j : ℕ) → i < j → j ≤ length l → getD l i x ≡ getD l j x
       → (m : List ℕ) × (1 ≤ length m) × (length m < length l) × Way n e x z m
-  cut {x} {z} {l} p apart i j h k q = go (decLt j (length l))
+  cut {x} {z} {l} way apart i j earlier inside equal = go (decLt j (length l))
     where
       go : Dec (j < length l) → (m : List ℕ) × (1 ≤ length m) × (length m < length l) × Way n e x z m
-      go (yes s) = shorter n e p i j h s (sym (passed-in x l i (omega arith)) ∙ q ∙ passed-in x l j s)
+      go (yes s) = shorter n e way i j earlier s (sym (passed-in x l i (omega arith)) ∙ equal ∙ passed-in x l j s)
       go (no s) =
           let t : j ≡ length l = omega arith in
-          ends p apart i (omega arith) (sym (passed-in x l i (omega arith)) ∙ q ∙ ap (λ (v : ℕ). getD l v x) t ∙ passed-end x l)
+          ends way apart i (omega arith) (sym (passed-in x l i (omega arith)) ∙ equal ∙ ap (λ (v : ℕ). getD l v x) t ∙ passed-end x l)
 
   -- the fewest steps from z to x
   pub least-apart : (x z : ℕ) → x < n → z < n → (z ≡ x → ⊥) → anyBelow n (λ j. walk n e x (suc j) z) ≡ true

@@ -157,12 +157,12 @@ module _ (t : Table) (fair : Fair t) (free : NoRace t) where
   ranked-apart : (x y : ℕ) → x < y → y < t .rows → mutually t x y ≡ true → writes (t .row x) ≡ true → writes (t .row y) ≡ true
       → t .row x .rank ≡ t .row y .rank → ⊥
   unfolding rankTaken sameRankAt sameRank mutually mutualRows
-  ranked-apart x y l m u wx wy e =
-      let q = split u .1 in
+  ranked-apart x y earlier below-y ordered writes-x writes-y same-rank =
+      let q = split ordered .1 in
       let c = split (split (split q .0) .0) in
       let same : mutualRows (t .places) (t .row y) (t .row x) ≡ true = mutual-sym (t .places) (t .row x) (t .row y) q in
-      let taken = any-in (sameRankAt t y) y x l (and-true (and-true (atomic-ranked (t .row x) (c .0) wx) (eq-eqb _ _ e)) same) in
-      not-both (and-true (atomic-ranked (t .row y) (c .1) wy) taken) (fair .ranks y m)
+      let taken = any-in (sameRankAt t y) y x earlier (and-true (and-true (atomic-ranked (t .row x) (c .0) writes-x) (eq-eqb _ _ same-rank)) same) in
+      not-both (and-true (atomic-ranked (t .row y) (c .1) writes-y) taken) (fair .ranks y below-y)
 
   mutually-ne : (x y : ℕ) → mutually t x y ≡ true → x ≡ y → ⊥
   unfolding mutually
@@ -175,25 +175,26 @@ module _ (t : Table) (fair : Fair t) (free : NoRace t) where
 
   rivals : (x y : ℕ) → x < t .rows → y < t .rows → mutually t x y ≡ true → writes (t .row x) ≡ true → writes (t .row y) ≡ true → Rivals t x y
   unfolding mutually mutualRows
-  rivals x y l m u wx wy =
-      let q = split (split (split u .1) .0) in
+  rivals x y below-x below-y ordered writes-x writes-y =
+      let q = split (split (split ordered .1) .0) in
       let c = split (q .0) in
-      (l, m, atomic-ranked (t .row x) (c .0) wx, atomic-ranked (t .row y) (c .1) wy, q .1)
+      (below-x, below-y, atomic-ranked (t .row x) (c .0) writes-x, atomic-ranked (t .row y) (c .1) writes-y, q .1)
 
   pub follows-total : (x y : ℕ) → x < t .rows → y < t .rows → mutually t x y ≡ true → writes (t .row x) ≡ true → writes (t .row y) ≡ true
       → (follows t x y ≡ true) ⊎ (follows t y x ≡ true)
-  follows-total x y l m u wx wy = go (ℕ-discrete (t .row x .rank) (t .row y .rank))
+  follows-total x y below-x below-y ordered writes-x writes-y = go (ℕ-discrete (t .row x .rank) (t .row y .rank))
     where
       apart : t .row x .rank ≡ t .row y .rank → Dec (x < y) → Dec (y < x) → ⊥
-      apart e (yes a) d = ranked-apart x y a m u wx wy e
-      apart e (no a) (yes b) = ranked-apart y x b l (mutually-sym t x y u) wy wx (sym e)
-      apart e (no a) (no b) = mutually-ne x y u (omega arith)
+      apart e (yes a) d = ranked-apart x y a below-y ordered writes-x writes-y e
+      apart e (no a) (yes b) = ranked-apart y x b below-x (mutually-sym t x y ordered) writes-y writes-x (sym e)
+      apart e (no a) (no b) = mutually-ne x y ordered (omega arith)
 
       go : Dec (t .row x .rank ≡ t .row y .rank) → (follows t x y ≡ true) ⊎ (follows t y x ≡ true)
       go (yes e) = absurd (apart e (decLt x y) (decLt y x))
       go (no n) =
-          ⊎-elim (λ h. inl (follows-in x y u wx wy (h .0))) (λ h. inr (follows-in y x (mutually-sym t x y u) wy wx (h .1)))
-          (fair .order .one x y (rivals x y l m u wx wy) n)
+          ⊎-elim (λ h. inl (follows-in x y ordered writes-x writes-y (h .0)))
+          (λ h. inr (follows-in y x (mutually-sym t x y ordered) writes-y writes-x (h .1)))
+          (fair .order .one x y (rivals x y below-x below-y ordered writes-x writes-y) n)
 
   -- ---- a blank y
 

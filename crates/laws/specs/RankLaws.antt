@@ -34,9 +34,11 @@ module _ (later : ℕ → ℕ → Bool) (passes : ℕ → Type 0) (key : ℕ →
     where
       go : (a b : ℕ) → passes a → passes b → (a ≡ b → ⊥) → Dec (key b < key a) → Dec (key a < key b)
           → ((later a b ≡ true) × (later b a ≡ false)) ⊎ ((later a b ≡ false) × (later b a ≡ true))
-      go a b p q n (yes l) d = inl (by-key a b p q ∙ lt-ltb (key b) (key a) l, by-key b a q p ∙ le-ltb (key a) (key b) (omega arith))
-      go a b p q n (no l) (yes m) = inr (by-key a b p q ∙ le-ltb (key b) (key a) (omega arith), by-key b a q p ∙ lt-ltb (key a) (key b) m)
-      go a b p q n (no l) (no m) = absurd (n (own a b p q (omega arith)))
+      go a b passes-a passes-b apart (yes l) d =
+          inl (by-key a b passes-a passes-b ∙ lt-ltb (key b) (key a) l, by-key b a passes-b passes-a ∙ le-ltb (key a) (key b) (omega arith))
+      go a b passes-a passes-b apart (no l) (yes m) =
+          inr (by-key a b passes-a passes-b ∙ le-ltb (key b) (key a) (omega arith), by-key b a passes-b passes-a ∙ lt-ltb (key a) (key b) m)
+      go a b passes-a passes-b apart (no l) (no m) = absurd (apart (own a b passes-a passes-b (omega arith)))
 
       over : (a b c : ℕ) → passes a → passes b → passes c → key b < key a → key c < key b → later a c ≡ true
       over a b c passes-a passes-b passes-c b-below-a c-below-b = by-key a c passes-a passes-c ∙ lt-ltb (key c) (key a) (omega arith)

@@ -44,17 +44,17 @@ regroup n a b d =
 -- dividing two floats of the values n and d rounds n / d
 div-is : (x y : Float) (n d : ℕ) → 0 < d → HasValue x false n 1 → HasValue y false d 1 → div binary64 x y ≡ round binary64 false n d
 unfolding div
-div-is nan y n d l h k = absurd h
-div-is (inf s) y n d l h k = absurd h
-div-is (fin s m e) nan n d l h k = absurd k
-div-is (fin s m e) (inf t) n d l h k = absurd k
-div-is (fin s m e) (fin t m' e') n d l h k =
-    let p : m * up e ≡ n * down e = sym (mul-one _) ∙ h .1 in
-    let q : m' * up e' ≡ d * down e' = sym (mul-one _) ∙ k .1 in
-    let some : 0 < m' * up e' = subst (λ (z : ℕ). 0 < z) (sym q) (mul-pos l (down-pos e')) in
+div-is nan y n d nonzero over-is under-is = absurd over-is
+div-is (inf s) y n d nonzero over-is under-is = absurd over-is
+div-is (fin s m e) nan n d nonzero over-is under-is = absurd under-is
+div-is (fin s m e) (inf t) n d nonzero over-is under-is = absurd under-is
+div-is (fin s m e) (fin t m' e') n d nonzero over-is under-is =
+    let p : m * up e ≡ n * down e = sym (mul-one _) ∙ over-is .1 in
+    let q : m' * up e' ≡ d * down e' = sym (mul-one _) ∙ under-is .1 in
+    let some : 0 < m' * up e' = subst (λ (z : ℕ). 0 < z) (sym q) (mul-pos nonzero (down-pos e')) in
     let apart : m' ≡ 0 → ⊥ = below m' (first-pos m' (up e') some) in
-    simp (ne-eqb m' 0 apart, h .0, k .0)
-    (round-same binary64 false (m * up e * down e') (m' * up e' * down e) n d (mul-pos some (down-pos e)) l
+    simp (ne-eqb m' 0 apart, over-is .0, under-is .0)
+    (round-same binary64 false (m * up e * down e') (m' * up e' * down e) n d (mul-pos some (down-pos e)) nonzero
     (ap (λ (z : ℕ). z * down e' * d) p ∙ regroup n (down e) (down e') d ∙ ap (λ (z : ℕ). n * (z * down e)) (sym q)))
 
 -- both counts are floats exactly, so that the division alone rounds

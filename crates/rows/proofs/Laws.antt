@@ -76,7 +76,7 @@ module _ {A : Type 0} (f : ℕ → A) where
 
   pub tab-more : (l : List A) (i : ℕ) (v : A) → i < length l → take i l ≡ tabulate f i → v ≡ f i → take (i + 1) (set l i v) ≡ tabulate f (i + 1)
   unfolding tabulate
-  tab-more l i v h e q = rw add-one (take-suc-set l i v h ∙ cc)
+  tab-more l i v inside stored value-is = rw add-one (take-suc-set l i v inside ∙ cc)
 
   pub tab-all : (l : List A) (i : ℕ) → length l ≡ i → take i l ≡ tabulate f i → l ≡ tabulate f i
   tab-all l i h e = sym (take-all i l (le-of-eq h)) ∙ e

@@ -61,7 +61,7 @@ module _ (b : List ℕ) (p : List (List ℕ)) (mode : Mode) (n : ℕ) where
   -- the test on decoded rows, as code has it
   pub ends-told : (a x z : ℕ) (m : Bool) (h r q : Row) (v : Bool) → m ≡ mutually (decode b p mode n) a z → h ≡ rowOf b a → r ≡ rowOf b x
       → q ≡ rowOf b z → v ≡ endRows (mode .counted) m h r q → ends (decode b p mode n) a x z ≡ v
-  ends-told a x z m h r q v em eh er eq e = rw (ends-is a x z) cc
+  ends-told a x z m h r q v mutual-is head-is row-is other-is told = rw (ends-is a x z) cc
 
   -- M4, where the cheap test fails, and where it passes
   pub sequence-off : (a x : ℕ) → follows (decode b p mode n) a x ≡ false → eqb a x ≡ sequence (decode b p mode n) a x
@@ -85,70 +85,81 @@ module _ (b : List ℕ) (p : List (List ℕ)) (mode : Mode) (n : ℕ) where
   pub takes-on : (x y s : ℕ) (r q : Row) (v : Bool) → mutually (decode b p mode n) x y ≡ true → s ≡ atomicSource b y → s < n → r ≡ rowOf b x
       → q ≡ rowOf b y → v ≡ sequence (decode b p mode n) x s → (writes r and reads q and v) ≡ takesFrom (decode b p mode n) x y
   unfolding takesFrom decode
-  takes-on x y s r q v m e l er eq ev = rw (m, ← e, lt-ltb s n l, ← er, ← eq, ← ev) (with-true (writes r) (reads q) v)
+  takes-on x y s r q v ordered source-is source-there first-is second-is sequence-is =
+      rw (ordered, ← source-is, lt-ltb s n source-there, ← first-is, ← second-is, ← sequence-is) (with-true (writes r) (reads q) v)
 
   -- M5: where the cheap tests on the rows fail, and where they pass
   pub from-off : (a c : ℕ) (r q : Row) (x y z : Bool) → r ≡ rowOf b a → q ≡ rowOf b c
       → x ≡ barrier r → y ≡ atomic q → z ≡ together p r q → not (x and y and z) ≡ true
       → false ≡ syncFromBarrier (decode b p mode n) a c
   unfolding syncFromBarrier decode
-  from-off a c r q x y z er eq ex ey ez f = sym (and-false-left _ _ (rw (← er, ← eq, ← ex, ← ey, ← ez) (not-out (x and y and z) f)))
+  from-off a c r q x y z first-is second-is barrier-is atomic-is together-is tests-fail =
+      sym (and-false-left _ _ (rw (← first-is, ← second-is, ← barrier-is, ← atomic-is, ← together-is) (not-out (x and y and z) tests-fail)))
 
   pub from-on : (a c : ℕ) (r q : Row) (x y z v : Bool) → r ≡ rowOf b a → q ≡ rowOf b c
       → x ≡ barrier r → y ≡ atomic q → z ≡ together p r q → not (x and y and z) ≡ false
       → v ≡ anyBelow n (carriesOut (decode b p mode n) a c) → v ≡ syncFromBarrier (decode b p mode n) a c
   unfolding syncFromBarrier decode
-  from-on a c r q x y z v er eq ex ey ez f h = h ∙ sym (and-on _ _ (rw (← er, ← eq, ← ex, ← ey, ← ez) (not-false (x and y and z) f)))
+  from-on a c r q x y z v first-is second-is barrier-is atomic-is together-is tests-pass told =
+      told ∙ sym (and-on _ _ (rw (← first-is, ← second-is, ← barrier-is, ← atomic-is, ← together-is) (not-false (x and y and z) tests-pass)))
 
   pub to-off : (a c : ℕ) (r q : Row) (x y z : Bool) → r ≡ rowOf b a → q ≡ rowOf b c
       → x ≡ atomic r → y ≡ barrier q → z ≡ together p r q → not (x and y and z) ≡ true
       → false ≡ syncToBarrier (decode b p mode n) a c
   unfolding syncToBarrier decode
-  to-off a c r q x y z er eq ex ey ez f = sym (and-false-left _ _ (rw (← er, ← eq, ← ex, ← ey, ← ez) (not-out (x and y and z) f)))
+  to-off a c r q x y z first-is second-is atomic-is barrier-is together-is tests-fail =
+      sym (and-false-left _ _ (rw (← first-is, ← second-is, ← atomic-is, ← barrier-is, ← together-is) (not-out (x and y and z) tests-fail)))
 
   pub to-on : (a c : ℕ) (r q : Row) (x y z v : Bool) → r ≡ rowOf b a → q ≡ rowOf b c
       → x ≡ atomic r → y ≡ barrier q → z ≡ together p r q → not (x and y and z) ≡ false
       → v ≡ anyBelow n (carriesIn (decode b p mode n) a c) → v ≡ syncToBarrier (decode b p mode n) a c
   unfolding syncToBarrier decode
-  to-on a c r q x y z v er eq ex ey ez f h = h ∙ sym (and-on _ _ (rw (← er, ← eq, ← ex, ← ey, ← ez) (not-false (x and y and z) f)))
+  to-on a c r q x y z v first-is second-is atomic-is barrier-is together-is tests-pass told =
+      told ∙ sym (and-on _ _ (rw (← first-is, ← second-is, ← atomic-is, ← barrier-is, ← together-is) (not-false (x and y and z) tests-pass)))
 
   pub over-off : (a c : ℕ) (r q : Row) (x y z : Bool) → r ≡ rowOf b a → q ≡ rowOf b c
       → x ≡ barrier r → y ≡ barrier q → z ≡ together p r q → not (not (eqb a c) and x and y and z) ≡ true
       → false ≡ syncBarriers (decode b p mode n) a c
   unfolding syncBarriers decode
-  over-off a c r q x y z er eq ex ey ez f =
-      sym (and-false-left _ _ (rw (← er, ← eq, ← ex, ← ey, ← ez) (not-out (not (eqb a c) and x and y and z) f)))
+  over-off a c r q x y z first-is second-is first-barrier second-barrier together-is tests-fail =
+      sym (and-false-left _ _ (rw (← first-is, ← second-is, ← first-barrier, ← second-barrier, ← together-is)
+      (not-out (not (eqb a c) and x and y and z) tests-fail)))
 
   pub over-on : (a c : ℕ) (r q : Row) (x y z v : Bool) → r ≡ rowOf b a → q ≡ rowOf b c
       → x ≡ barrier r → y ≡ barrier q → z ≡ together p r q → not (not (eqb a c) and x and y and z) ≡ false
       → v ≡ anyBelow n (carriesOver (decode b p mode n) a c) → v ≡ syncBarriers (decode b p mode n) a c
   unfolding syncBarriers decode
-  over-on a c r q x y z v er eq ex ey ez f h =
-      h ∙ sym (and-on _ _ (rw (← er, ← eq, ← ex, ← ey, ← ez) (not-false (not (eqb a c) and x and y and z) f)))
+  over-on a c r q x y z v first-is second-is first-barrier second-barrier together-is tests-pass told =
+      told ∙ sym (and-on _ _ (rw (← first-is, ← second-is, ← first-barrier, ← second-barrier, ← together-is)
+      (not-false (not (eqb a c) and x and y and z) tests-pass)))
 
   pub control-off : (a c : ℕ) (r q : Row) (x y z : Bool) → r ≡ rowOf b a → q ≡ rowOf b c
       → x ≡ barrier r → y ≡ barrier q → z ≡ together p r q → not (not (eqb a c) and x and y and z) ≡ true
       → false ≡ syncControl (decode b p mode n) a c
   unfolding syncControl decode
-  control-off a c r q x y z er eq ex ey ez f =
-      sym (and-false-left _ _ (rw (← er, ← eq, ← ex, ← ey, ← ez) (not-out (not (eqb a c) and x and y and z) f)))
+  control-off a c r q x y z first-is second-is first-barrier second-barrier together-is tests-fail =
+      sym (and-false-left _ _ (rw (← first-is, ← second-is, ← first-barrier, ← second-barrier, ← together-is)
+      (not-out (not (eqb a c) and x and y and z) tests-fail)))
 
   pub control-on : (a c : ℕ) (r q : Row) (x y z v : Bool) → r ≡ rowOf b a → q ≡ rowOf b c
       → x ≡ barrier r → y ≡ barrier q → z ≡ together p r q → not (not (eqb a c) and x and y and z) ≡ false
       → v ≡ anyBelow n (passes (decode b p mode n) a c) → v ≡ syncControl (decode b p mode n) a c
   unfolding syncControl decode
-  control-on a c r q x y z v er eq ex ey ez f h =
-      h ∙ sym (and-on _ _ (rw (← er, ← eq, ← ex, ← ey, ← ez) (not-false (not (eqb a c) and x and y and z) f)))
+  control-on a c r q x y z v first-is second-is first-barrier second-barrier together-is tests-pass told =
+      told ∙ sym (and-on _ _ (rw (← first-is, ← second-is, ← first-barrier, ← second-barrier, ← together-is)
+      (not-false (not (eqb a c) and x and y and z) tests-pass)))
 
   pub sync-off : (a c : ℕ) (r q : Row) (x y : Bool) → r ≡ rowOf b a → q ≡ rowOf b c → x ≡ releases r → y ≡ acquires q
       → not (x and y) ≡ true → false ≡ synchronizes (decode b p mode n) a c
   unfolding synchronizes decode
-  sync-off a c r q x y er eq ex ey f = sym (and-false-left _ _ (rw (← er, ← eq, ← ex, ← ey) (not-out (x and y) f)))
+  sync-off a c r q x y first-is second-is releases-is acquires-is tests-fail =
+      sym (and-false-left _ _ (rw (← first-is, ← second-is, ← releases-is, ← acquires-is) (not-out (x and y) tests-fail)))
 
   pub sync-on : (a c : ℕ) (r q : Row) (x y v₁ v₂ v₃ v₄ v₅ : Bool) → r ≡ rowOf b a → q ≡ rowOf b c → x ≡ releases r → y ≡ acquires q
       → not (x and y) ≡ false → v₁ ≡ syncAtomics (decode b p mode n) a c → v₂ ≡ syncFromBarrier (decode b p mode n) a c
       → v₃ ≡ syncToBarrier (decode b p mode n) a c → v₄ ≡ syncBarriers (decode b p mode n) a c → v₅ ≡ syncControl (decode b p mode n) a c
       → (v₁ or v₂ or v₃ or v₄ or v₅) ≡ synchronizes (decode b p mode n) a c
   unfolding synchronizes decode
-  sync-on a c r q x y v₁ v₂ v₃ v₄ v₅ er eq ex ey f h₁ h₂ h₃ h₄ h₅ =
-      rw (h₁, h₂, h₃, h₄, h₅) (sym (and-on _ _ (rw (← er, ← eq, ← ex, ← ey) (not-false (x and y) f))))
+  sync-on a c r q x y v₁ v₂ v₃ v₄ v₅ first-is second-is releases-is acquires-is tests-pass atomics-is from-is to-is barriers-is control-is =
+      rw (atomics-is, from-is, to-is, barriers-is, control-is)
+      (sym (and-on _ _ (rw (← first-is, ← second-is, ← releases-is, ← acquires-is) (not-false (x and y) tests-pass))))

@@ -108,7 +108,7 @@ word-none w at m i l e h =
     record { low = omega arith; high = omega arith; hit = λ o. absurd (omega arith); miss = λ b p q. h .miss b p (omega arith) }
 
 pub word-here : (w : List ℕ) (at m i k : ℕ) → m ≤ i → i < MOMENTS → Bare w at m i → k < 64 → Lowest (getD w (at + i) 0) k → NextOf w at (64 * m) (i * 64 + k)
-word-here w at m i k l o h s low =
+word-here w at m i k past word-there bare in-word low =
     record { low = omega arith; high = omega arith; hit = λ q. hit; miss = λ b p q. go b p q (decLt b (64 * i)) }
   where
     hit : bit w (at * 64 + (i * 64 + k)) ≡ true
@@ -117,7 +117,7 @@ word-here w at m i k l o h s low =
         word-bit w at i (i * 64 + k) (omega arith) ∙ ap (λ (z : ℕ). bitOf (getD w (at + i) 0) z) e ∙ low .hit
 
     go : (b : ℕ) → 64 * m ≤ b → b < i * 64 + k → Dec (b < 64 * i) → bit w (at * 64 + b) ≡ false
-    go b p q (yes v) = h .miss b p v
+    go b p q (yes v) = bare .miss b p v
     go b p q (no v) = word-bit w at i b (omega arith) ∙ low .miss (b % 64) (omega arith)
 
 -- ---- laws: from a bit on
@@ -157,13 +157,13 @@ pub row-all : (w : List ℕ) (at i n : ℕ) (all : Bool) → i ≤ n → all ≡
 row-all w at i n all l e = record { low = omega arith; high = l; hit = λ o. not-both e o; miss = λ x p q. absurd (omega arith) }
 
 pub row-next : (w : List ℕ) (at i n k r : ℕ) (all : Bool) → i ≤ n → n ≤ ROWS → all ≡ false → NextOf w at (3 * i) k → r ≡ min (k / 3) n → NextRow w at all i n r
-row-next w at i n k r all l few off h e =
-    let o = h .low in
+row-next w at i n k r all fits few off next row-is =
+    let o = next .low in
     record {
       low = omega arith;
       high = omega arith;
-      hit = λ _ q. record { moment = k; of-row = omega arith; on = h .hit (omega arith) };
-      miss = λ x p q. (off, h .miss (itself x) (omega arith) (omega arith));
+      hit = λ _ q. record { moment = k; of-row = omega arith; on = next .hit (omega arith) };
+      miss = λ x p q. (off, next .miss (itself x) (omega arith) (omega arith));
     }
 
 -- ---- laws: rows as bits of a word

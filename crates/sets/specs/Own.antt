@@ -135,37 +135,37 @@ word-none w base n k x from =
       frame = within-refl base (base + n * MOMENTS) w;
     }
 
-module _ (w₀ w : List ℕ) (base n k x from y : ℕ) (p : JoinedTo w₀ w base n k x from y) (kn : k < n) (few : n ≤ ROWS) where
+module _ (w₀ w : List ℕ) (base n k x from y : ℕ) (joined : JoinedTo w₀ w base n k x from y) (below-k : k < n) (few : n ≤ ROWS) where
   -- row k is the same at any time of its round
   row-k : (j : ℕ) → j < 64 * MOMENTS → rel w base MOMENTS k j ≡ rel w₀ base MOMENTS k j
   row-k j b = go (decLt k from) (decLt k (from + 64)) (which (bitOf x (k - from))) (which (bitOf y (k - from)))
     where
       go : Dec (k < from) → Dec (k < from + 64) → (bitOf x (k - from) ≡ true) ⊎ (bitOf x (k - from) ≡ false)
           → (bitOf y (k - from) ≡ true) ⊎ (bitOf y (k - from) ≡ false) → rel w base MOMENTS k j ≡ rel w₀ base MOMENTS k j
-      go (yes l) c d e = p .off k j kn (λ q. absurd (omega arith)) b
-      go (no l) (no c) d e = p .off k j kn (λ q r. absurd (omega arith)) b
-      go (no l) (yes c) (inr d) e = p .off k j kn (λ q r s. not-both s d) b
-      go (no l) (yes c) (inl d) (inl e) = p .off k j kn (λ q r s. e) b
-      go (no l) (yes c) (inl d) (inr e) = p .on k j kn (omega arith) c d e b ∙ absorb (rel w₀ base MOMENTS k j) (rel w₀ base MOMENTS k (itself k))
+      go (yes l) c d e = joined .off k j below-k (λ q. absurd (omega arith)) b
+      go (no l) (no c) d e = joined .off k j below-k (λ q r. absurd (omega arith)) b
+      go (no l) (yes c) (inr d) e = joined .off k j below-k (λ q r s. not-both s d) b
+      go (no l) (yes c) (inl d) (inl e) = joined .off k j below-k (λ q r s. e) b
+      go (no l) (yes c) (inl d) (inr e) = joined .on k j below-k (omega arith) c d e b ∙ absorb (rel w₀ base MOMENTS k j) (rel w₀ base MOMENTS k (itself k))
 
   pub word-more : (t z : ℕ) (u : List ℕ) → Lowest y t → t < 64 → Dropped y z → from + t < n → Taken w u base n k (from + t) → JoinedTo w₀ u base n k x from z
-  word-more t z u low s drop l took =
+  word-more t z u low in-word drop row-there took =
       record {
         sub = λ b h. sub b h (ℕ-discrete b t);
         on = λ a j o q r e f b. on a j o q r e f b (ℕ-discrete a (from + t));
         off = λ a j o h b. off a j o h b (ℕ-discrete a (from + t));
-        frame = within-trans (p .frame) (took .frame);
+        frame = within-trans (joined .frame) (took .frame);
       }
     where
       sub : (b : ℕ) → bitOf z b ≡ true → Dec (b ≡ t) → bitOf x b ≡ true
       sub b h (yes e) = not-both h (ap (λ (i : ℕ). bitOf z i) e ∙ drop .gone t low)
-      sub b h (no e) = p .sub b (sym (drop .same t b low e) ∙ h)
+      sub b h (no e) = joined .sub b (sym (drop .same t b low e) ∙ h)
 
       d : from + t - from ≡ t
       d = omega arith
 
       as-was : (j : ℕ) → j < 64 * MOMENTS → rel w base MOMENTS (from + t) j ≡ rel w₀ base MOMENTS (from + t) j
-      as-was j b = p .off (from + t) j l (λ q r e. ap (λ (i : ℕ). bitOf y i) d ∙ low .hit) b
+      as-was j b = joined .off (from + t) j row-there (λ q r e. ap (λ (i : ℕ). bitOf y i) d ∙ low .hit) b
 
       here : (j : ℕ) → j < 64 * MOMENTS → rel u base MOMENTS (from + t) j ≡ turn (rel w₀ base MOMENTS) k (from + t) j
       here j b = took .here j b ∙ rw (as-was j b, as-was (itself k) (omega arith), row-k j b) refl
@@ -174,14 +174,14 @@ module _ (w₀ w : List ℕ) (base n k x from y : ℕ) (p : JoinedTo w₀ w base
           → rel u base MOMENTS a j ≡ turn (rel w₀ base MOMENTS) k a j
       on a j below-a past near was gone below-j (yes g) = subst (λ (i : ℕ). rel u base MOMENTS i j ≡ turn (rel w₀ base MOMENTS) k i j) (sym g) (here j below-j)
       on a j below-a past near was gone below-j (no g) =
-          took .other a j g below-j ∙ p .on a j below-a past near was (sym (drop .same t (a - from) low (λ h. g (omega arith))) ∙ gone) below-j
+          took .other a j g below-j ∙ joined .on a j below-a past near was (sym (drop .same t (a - from) low (λ h. g (omega arith))) ∙ gone) below-j
 
       off : (a j : ℕ) → a < n → (from ≤ a → a < from + 64 → bitOf x (a - from) ≡ true → bitOf z (a - from) ≡ true) → j < 64 * MOMENTS → Dec (a ≡ from + t)
           → rel u base MOMENTS a j ≡ rel w₀ base MOMENTS a j
       off a j o h b (yes g) =
           let v : a - from ≡ t = omega arith in
-          not-both (h (omega arith) (omega arith) (ap (λ (i : ℕ). bitOf x i) v ∙ p .sub t (low .hit))) (ap (λ (i : ℕ). bitOf z i) v ∙ drop .gone t low)
-      off a j o h b (no g) = took .other a j g b ∙ p .off a j o (λ q r e. sym (drop .same t (a - from) low (λ v. g (omega arith))) ∙ h q r e) b
+          not-both (h (omega arith) (omega arith) (ap (λ (i : ℕ). bitOf x i) v ∙ joined .sub t (low .hit))) (ap (λ (i : ℕ). bitOf z i) v ∙ drop .gone t low)
+      off a j o h b (no g) = took .other a j g b ∙ joined .off a j o (λ q r e. sym (drop .same t (a - from) low (λ v. g (omega arith))) ∙ h q r e) b
 
 pub word-all : {w u : List ℕ} {base n k x from y : ℕ} → y ≡ 0 → JoinedTo w u base n k x from y → Joined w u base n k x from
 word-all {w} {u} {base} {n} {k} {x} {from} {y} e p =
@@ -194,22 +194,23 @@ word-all {w} {u} {base} {n} {k} {x} {from} {y} e p =
 -- both words
 pub round-made : (w v u : List ℕ) (base n k lo hi : ℕ) → k < n → n ≤ ROWS → Off lo hi w base n → Joined w v base n k lo 0 → Joined v u base n k hi 64
     → Round w u base n k
-round-made w v u base n k lo hi kn few o p q =
-    record { cells = λ i j l b. go i j l b (decLt i 64); frame = within-trans (p .frame) (q .frame) }
+round-made w v u base n k lo hi below-k few rest-off low-joined high-joined =
+    record { cells = λ i j l b. go i j l b (decLt i 64); frame = within-trans (low-joined .frame) (high-joined .frame) }
   where
     lone : (a : ℕ) → a - 0 ≡ a
     lone a = omega arith
 
     late : (a j : ℕ) → a < n → 64 ≤ a → j < 64 * MOMENTS → rel v base MOMENTS a j ≡ rel w base MOMENTS a j
-    late a j l h b = p .off a j l (λ c d. absurd (omega arith)) b
+    late a j l h b = low-joined .off a j l (λ c d. absurd (omega arith)) b
 
     row : (j : ℕ) → j < 64 * MOMENTS → rel v base MOMENTS k j ≡ rel w base MOMENTS k j
     row j b = at (decLt k 64) (which (bitOf lo (k - 0)))
       where
         at : Dec (k < 64) → (bitOf lo (k - 0) ≡ true) ⊎ (bitOf lo (k - 0) ≡ false) → rel v base MOMENTS k j ≡ rel w base MOMENTS k j
-        at (no l) e = late k j kn (omega arith) b
-        at (yes l) (inl e) = p .on k j kn (omega arith) (omega arith) e b ∙ absorb (rel w base MOMENTS k j) (rel w base MOMENTS k (itself k))
-        at (yes l) (inr e) = p .off k j kn (λ c d. e) b
+        at (no l) e = late k j below-k (omega arith) b
+        at (yes l) (inl e) =
+            low-joined .on k j below-k (omega arith) (omega arith) e b ∙ absorb (rel w base MOMENTS k j) (rel w base MOMENTS k (itself k))
+        at (yes l) (inr e) = low-joined .off k j below-k (λ c d. e) b
 
     -- an empty row takes in nothing
     none : (i j : ℕ) → rel w base MOMENTS i (itself k) ≡ false → rel w base MOMENTS i j ≡ turn (rel w base MOMENTS) k i j
@@ -217,21 +218,21 @@ round-made w v u base n k lo hi kn few o p q =
 
     first : (i j : ℕ) → i < n → i < 64 → j < 64 * MOMENTS → (bitOf lo (i - 0) ≡ true) ⊎ (bitOf lo (i - 0) ≡ false)
         → rel v base MOMENTS i j ≡ turn (rel w base MOMENTS) k i j
-    first i j l h b (inl e) = p .on i j l (omega arith) (omega arith) e b
+    first i j l h b (inl e) = low-joined .on i j l (omega arith) (omega arith) e b
     first i j l h b (inr e) =
-        p .off i j l (λ c d. e) b
-        ∙ none i j (o .empty i (itself k) l (λ c. ap (λ (z : ℕ). bitOf lo z) (sym (lone i)) ∙ e) (λ c. absurd (omega arith)) (omega arith))
+        low-joined .off i j l (λ c d. e) b
+        ∙ none i j (rest-off .empty i (itself k) l (λ c. ap (λ (z : ℕ). bitOf lo z) (sym (lone i)) ∙ e) (λ c. absurd (omega arith)) (omega arith))
 
     second : (i j : ℕ) → i < n → 64 ≤ i → j < 64 * MOMENTS → (bitOf hi (i - 64) ≡ true) ⊎ (bitOf hi (i - 64) ≡ false)
         → rel u base MOMENTS i j ≡ turn (rel w base MOMENTS) k i j
     second i j l h b (inl e) =
-        q .on i j l h (omega arith) e b ∙ rw (late i j l h b, late i (itself k) l h (omega arith), row j b) refl
+        high-joined .on i j l h (omega arith) e b ∙ rw (late i j l h b, late i (itself k) l h (omega arith), row j b) refl
     second i j l h b (inr e) =
-        q .off i j l (λ c d. e) b ∙ late i j l h b
-        ∙ none i j (o .empty i (itself k) l (λ c. absurd (omega arith)) (λ c. e) (omega arith))
+        high-joined .off i j l (λ c d. e) b ∙ late i j l h b
+        ∙ none i j (rest-off .empty i (itself k) l (λ c. absurd (omega arith)) (λ c. e) (omega arith))
 
     go : (i j : ℕ) → i < n → j < 64 * MOMENTS → Dec (i < 64) → rel u base MOMENTS i j ≡ turn (rel w base MOMENTS) k i j
-    go i j l b (yes h) = q .off i j l (λ c. absurd (omega arith)) b ∙ first i j l h b (which (bitOf lo (i - 0)))
+    go i j l b (yes h) = high-joined .off i j l (λ c. absurd (omega arith)) b ∙ first i j l h b (which (bitOf lo (i - 0)))
     go i j l b (no h) = second i j l (omega arith) b (which (bitOf hi (i - 64)))
 
 -- ---- laws: rows that are passed over
@@ -263,8 +264,9 @@ module _ (w₀ w : List ℕ) (base n at : ℕ) (all : Bool) (few : n ≤ ROWS) (
 
       go : (x j : ℕ) → x < n → (x < 64 → bitOf lo x ≡ false) → (64 ≤ x → bitOf hi (x - 64) ≡ false) → j < 64 * MOMENTS → Dec (x < 64)
           → rel w₀ base MOMENTS x j ≡ false
-      go x j l p q o (yes h) = gone x (0 + x) j (omega arith) l (a .rest x h (omega arith) (p h)) o
-      go x j l p q o (no h) = gone x (64 + (x - 64)) j (omega arith) l (b .rest (x - 64) (omega arith) (omega arith) (q (omega arith))) o
+      go x j below-x low-clear high-clear below-j (yes h) = gone x (0 + x) j (omega arith) below-x (a .rest x h (omega arith) (low-clear h)) below-j
+      go x j below-x low-clear high-clear below-j (no h) =
+          gone x (64 + (x - 64)) j (omega arith) below-x (b .rest (x - 64) (omega arith) (omega arith) (high-clear (omega arith))) below-j
 
 -- ---- laws: rounds
 
@@ -274,21 +276,22 @@ rounds-none w₀ base n = record { cells = λ i j h b. refl; frame = within-refl
 
 pub rounds-more : (w₀ w u : List ℕ) (base n k : ℕ) → k < n → n ≤ ROWS → Rounds w₀ w base n k → Round w u base n k → Rounds w₀ u base n (k + 1)
 unfolding throughOwn
-rounds-more w₀ w u base n k kn few r p =
+rounds-more w₀ w u base n k below-k few rounds round =
     record {
-      cells = λ i j h b. rw add-one (p .cells i j h b ∙ rw (r .cells i j h b, r .cells i (itself k) h (omega arith), r .cells k j kn b) refl);
-      frame = within-trans (r .frame) (p .frame);
+      cells = λ i j h b. rw add-one (round .cells i j h b
+          ∙ rw (rounds .cells i j h b, rounds .cells i (itself k) h (omega arith), rounds .cells k j below-k b) refl);
+      frame = within-trans (rounds .frame) (round .frame);
     }
 
 -- a row that is empty: its round changes nothing
 pub rounds-skip : (w₀ w : List ℕ) (base n k x : ℕ) → k < n → n ≤ ROWS → Rounds w₀ w base n k
     → Least (64 * MOMENTS) (both w (base + k * MOMENTS) (base + k * MOMENTS)) x → 64 * MOMENTS ≤ x → Rounds w₀ w base n (k + 1)
 unfolding throughOwn rel
-rounds-skip w₀ w base n k x kn few r least far =
+rounds-skip w₀ w base n k x below-k few rounds least far =
     record {
-      cells = λ i j h b. rw add-one (r .cells i j h b
-          ∙ sym (or-off _ _ (and-false-right _ _ (sym (r .cells k j kn b) ∙ least-empty w (base + k * MOMENTS) MOMENTS x least far j b))));
-      frame = r .frame;
+      cells = λ i j h b. rw add-one (rounds .cells i j h b
+          ∙ sym (or-off _ _ (and-false-right _ _ (sym (rounds .cells k j below-k b) ∙ least-empty w (base + k * MOMENTS) MOMENTS x least far j b))));
+      frame = rounds .frame;
     }
 
 -- rows that are empty stay so

@@ -98,7 +98,7 @@ module _ (w : List ℕ) (a b : ℕ) where
   pub next-end : (j n : ℕ) → j ≤ n → n ≤ j → Next w a b j n n
   next-end j n l h = record { low = l; high = omega arith; hit = λ k. absurd (omega arith); miss = λ m p q. absurd (omega arith) }
 
-  module _ (j n : ℕ) (l : j ≤ n) where
+  module _ (j n : ℕ) (fits : j ≤ n) where
     -- in the first word
     pub next-first : (k r : ℕ) → k < 64 → FromBit (bitOr (getD w a 0) (getD w b 0)) j k → r ≡ min k n → Next w a b j n r
     next-first k r h f e =
@@ -113,8 +113,8 @@ module _ (w : List ℕ) (a b : ℕ) where
     -- in the second, where nothing of the first is left
     pub next-second : (k r i : ℕ) → n ≤ 128 → j ≤ 64 + i → ((m : ℕ) → j ≤ m → m < 64 + i → either w a b m ≡ false)
         → FromBit (bitOr (getD w (a + 1) 0) (getD w (b + 1) 0)) i k → r ≡ min (64 + k) n → Next w a b j n r
-    next-second k r i s g none f e =
-        let o = f .low in
+    next-second k r i two-words past none found result-is =
+        let o = found .low in
         record {
           low = omega arith;
           high = omega arith;
@@ -123,11 +123,11 @@ module _ (w : List ℕ) (a b : ℕ) where
         }
       where
         hit : r ≡ 64 + k → 64 + k < n → either w a b r ≡ true
-        hit q h = let d : 64 + k - 64 ≡ k = omega arith in rw (q, second-word (64 + k) (omega arith) (omega arith), d) (f .hit (omega arith))
+        hit q h = let d : 64 + k - 64 ≡ k = omega arith in rw (q, second-word (64 + k) (omega arith) (omega arith), d) (found .hit (omega arith))
 
         miss : (m : ℕ) → j ≤ m → m < r → Dec (m < 64 + i) → either w a b m ≡ false
         miss m p q (yes h) = none m p h
-        miss m p q (no h) = second-word m (omega arith) (omega arith) ∙ f .miss (m - 64) (omega arith) (omega arith) (omega arith)
+        miss m p q (no h) = second-word m (omega arith) (omega arith) ∙ found .miss (m - 64) (omega arith) (omega arith) (omega arith)
 
     -- the first word has nothing from j on
     pub none-first : (k : ℕ) → 64 ≤ k → FromBit (bitOr (getD w a 0) (getD w b 0)) j k → (m : ℕ) → j ≤ m → m < 64 → either w a b m ≡ false

@@ -102,40 +102,40 @@ module _ (b : List ℕ) where
   -- none from row j on, and row j - 1 is of another reference
   pub class-more : (i j : ℕ) (r : Row) (v : Bool) → r ≡ rowOf b i → v ≡ ofReference (r .reference) (rowOf b (j - 1)) → v ≡ false
       → ((k : ℕ) → j ≤ k → k < i → otherClassAt bare i k ≡ false) → (k : ℕ) → j - 1 ≤ k → k < i → otherClassAt bare i k ≡ false
-  class-more i j r v er ev h f k l m = go (ℕ-discrete k (j - 1))
+  class-more i j r v row-is told missed later-off k past below-i = go (ℕ-discrete k (j - 1))
     where
       off : otherClassAt bare i (j - 1) ≡ false
-      off = class-off i (j - 1) (ap (λ (q : Row). ofReference (q .reference) (rowOf b (j - 1))) (sym er) ∙ sym ev ∙ h)
+      off = class-off i (j - 1) (ap (λ (q : Row). ofReference (q .reference) (rowOf b (j - 1))) (sym row-is) ∙ sym told ∙ missed)
 
       go : Dec (k ≡ j - 1) → otherClassAt bare i k ≡ false
       go (yes e) = rw e off
-      go (no e) = f k (omega arith) m
+      go (no e) = later-off k (omega arith) below-i
 
   -- none from row j on, and row j - 1 is of row i's reference: its class tells
   pub class-found : (i j : ℕ) (r : Row) (v : Bool) (c : ℕ) → r ≡ rowOf b i → v ≡ ofReference (r .reference) (rowOf b (j - 1)) → v ≡ true
       → c ≡ rowOf b (j - 1) .class → j - 1 < i → anyBelow i (classTaken bare) ≡ false
       → ((k : ℕ) → j ≤ k → k < i → otherClassAt bare i k ≡ false) → not (eqb c (r .class)) ≡ anyBelow i (otherClassAt bare i)
-  class-found i j r v c er ev h ec l none f = go (ℕ-discrete c (r .class))
+  class-found i j r v c row-is told hit class-read below-i none later-off = go (ℕ-discrete c (r .class))
     where
       here : ofReference (rowOf b i .reference) (rowOf b (j - 1)) ≡ true
-      here = ap (λ (q : Row). ofReference (q .reference) (rowOf b (j - 1))) (sym er) ∙ sym ev ∙ h
+      here = ap (λ (q : Row). ofReference (q .reference) (rowOf b (j - 1))) (sym row-is) ∙ sym told ∙ hit
 
       class-is : r .class ≡ rowOf b i .class
-      class-is = ap (λ (q : Row). q .class) er
+      class-is = ap (λ (q : Row). q .class) row-is
 
       all : rowOf b (j - 1) .class ≡ rowOf b i .class → (k : ℕ) → k < i → otherClassAt bare i k ≡ false
       all q k m = at (decLt k (j - 1)) (ℕ-discrete k (j - 1))
         where
           at : Dec (k < j - 1) → Dec (k ≡ j - 1) → otherClassAt bare i k ≡ false
-          at (yes o) d = class-before i (j - 1) k here q (any-off (classTaken bare) i none (j - 1) l) o
+          at (yes o) d = class-before i (j - 1) k here q (any-off (classTaken bare) i none (j - 1) below-i) o
           at (no o) (yes e) = rw e (class-same i (j - 1) q)
-          at (no o) (no e) = f k (omega arith) m
+          at (no o) (no e) = later-off k (omega arith) m
 
       go : Dec (c ≡ r .class) → not (eqb c (r .class)) ≡ anyBelow i (otherClassAt bare i)
-      go (yes e) = ap not (eq-eqb c (r .class) e) ∙ sym (any-not (otherClassAt bare i) i (all (sym ec ∙ e ∙ class-is)))
+      go (yes e) = ap not (eq-eqb c (r .class) e) ∙ sym (any-not (otherClassAt bare i) i (all (sym class-read ∙ e ∙ class-is)))
       go (no e) =
           ap not (ne-eqb c (r .class) e)
-          ∙ sym (any-in (otherClassAt bare i) i (j - 1) l (class-hit i (j - 1) here (λ q. e (ec ∙ q ∙ sym class-is))))
+          ∙ sym (any-in (otherClassAt bare i) i (j - 1) below-i (class-hit i (j - 1) here (λ q. e (class-read ∙ q ∙ sym class-is))))
 
 byte-class : (b : List ℕ) (j : ℕ) → byteOf b j 6 ≡ rowOf b j .class
 unfolding rowOf
@@ -234,10 +234,10 @@ module _ (b : List ℕ) where
   pub begins-some : (i m : ℕ) (r f : Row) (x y z : Bool) → r ≡ rowOf b i → f ≡ rowOf b m → x ≡ rival r f → x ≡ true
       → y ≡ anyBelow i (outsideIn b r f) → z ≡ outside r f r → not (y or z) ≡ begins (decode b [] OFF 0) i m
   unfolding begins decode _and_
-  begins-some i m r f x y z er ef ex h ey ez =
-      let some : y ≡ anyBelow i (outsideAt (decode b [] OFF 0) i m) = ey ∙ outside-any i m r f er ef in
-      let last : z ≡ outsideAt (decode b [] OFF 0) i m i = ez ∙ outside-last i m r f er ef in
-      rw (some, last, ← er, ← ef, ← ex, h) refl
+  begins-some i m r f x y z row-is first-is rival-is a-rival any-is own-is =
+      let some : y ≡ anyBelow i (outsideAt (decode b [] OFF 0) i m) = any-is ∙ outside-any i m r f row-is first-is in
+      let last : z ≡ outsideAt (decode b [] OFF 0) i m i = own-is ∙ outside-last i m r f row-is first-is in
+      rw (some, last, ← row-is, ← first-is, ← rival-is, a-rival) refl
 
 module _ (b : List ℕ) (p : List (List ℕ)) where
   pub rank-off : (i j : ℕ) (r : Row) (x : Bool) → r ≡ rowOf b i → x ≡ eqb (pairOf b j 14) (r .rank) → not x ≡ true → false ≡ sameRankAt (decode b p OFF 0) i j
@@ -262,19 +262,19 @@ module _ (b : List ℕ) (p : List (List ℕ)) where
   rank-some i r x y er ex h ey = ey ∙ rw (← er, ← ex, h) refl
 
   -- row j beside row i, which is the control barrier r
-  module _ (i j : ℕ) (r : Row) (er : r ≡ rowOf b i) (e : r .kind ≡ CONTROL) where
+  module _ (i j : ℕ) (r : Row) (row-is : r ≡ rowOf b i) (is-control : r .kind ≡ CONTROL) where
     apart-is : apartAt (decode b p OFF 0) i j
         ≡ (ofInstance (r .start) (rowOf b j)
         and not (eqb (r .class) (rowOf b j .class) and not (eqb (r .agent) (rowOf b j .agent)) and shares p (r .class) (r .agent) (rowOf b j .agent)))
     unfolding apartAt apart sameInstance control ofInstance decode _and_
-    apart-is = rw (← er, e) refl
+    apart-is = rw (← row-is, is-control) refl
 
     pub apart-other : (v : Bool) → v ≡ ofInstance (r .start) (rowOf b j) → not v ≡ true → false ≡ apartAt (decode b p OFF 0) i j
     apart-other v ev h = sym (apart-is ∙ and-false-left _ _ (sym ev ∙ not-out v h))
 
-    module _ (v : Bool) (ev : v ≡ ofInstance (r .start) (rowOf b j)) (h : not v ≡ false) where
+    module _ (v : Bool) (told : v ≡ ofInstance (r .start) (rowOf b j)) (of-it : not v ≡ false) where
       inside : (z : Bool) → z ≡ true → (ofInstance (r .start) (rowOf b j) and z) ≡ true
-      inside z q = and-true (sym ev ∙ not-false v h) q
+      inside z q = and-true (sym told ∙ not-false v of-it) q
 
       pub apart-class : (k : ℕ) → k ≡ byteOf b j 6 → (k ≡ r .class → ⊥) → true ≡ apartAt (decode b p OFF 0) i j
       unfolding rowOf
@@ -288,10 +288,10 @@ module _ (b : List ℕ) (p : List (List ℕ)) where
           → s ≡ shares p (r .class) (r .agent) g
           → not s ≡ apartAt (decode b p OFF 0) i j
       unfolding _and_
-      apart-scope k g s ek q eg d es =
-          let c : eqb (r .class) (rowOf b j .class) ≡ true = eq-eqb _ _ (sym q ∙ ek ∙ class-is) in
-          let a : eqb (r .agent) (rowOf b j .agent) ≡ false = ne-eqb _ _ (λ z. d (eg ∙ sym z)) in
-          sym (apart-is ∙ rw (← ev, not-false v h, c, a, ← eg, ← es) refl)
+      apart-scope k g s class-read same-class agent-read other-agent shares-is =
+          let c : eqb (r .class) (rowOf b j .class) ≡ true = eq-eqb _ _ (sym same-class ∙ class-read ∙ class-is) in
+          let a : eqb (r .agent) (rowOf b j .agent) ≡ false = ne-eqb _ _ (λ z. other-agent (agent-read ∙ sym z)) in
+          sym (apart-is ∙ rw (← told, not-false v of-it, c, a, ← agent-read, ← shares-is) refl)
         where
           class-is : byteOf b j 6 ≡ rowOf b j .class
           class-is = byte-class b j

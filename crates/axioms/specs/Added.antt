@@ -127,22 +127,22 @@ module _ {n : ℕ} {w : List ℕ} where
       }
 
 -- one bit
-module _ {n : ℕ} (w : List ℕ) (x y : ℕ) (b c : Bool) {u : List ℕ} (fits : n ≤ ROWS) (room : EDGE-END ≤ length w) (l : x < n) (m : y < n)
-    (e : u ≡ setBitIf b w (edgeBit x y))
-    (h : (bit w (edgeBit x y) or b) ≡ (bit w (edgeBit x y) or c)) where
+module _ {n : ℕ} (w : List ℕ) (x y : ℕ) (b c : Bool) {u : List ℕ} (fits : n ≤ ROWS) (room : EDGE-END ≤ length w) (below-x : x < n) (below-y : y < n)
+    (put : u ≡ setBitIf b w (edgeBit x y))
+    (alike : (bit w (edgeBit x y) or b) ≡ (bit w (edgeBit x y) or c)) where
   put-same : rel u EDGE GRID x y ≡ (rel w EDGE GRID x y or (eqb x x and (eqb y y and c)))
   unfolding rel _and_
-  put-same = rw (eq-eqb x x refl, eq-eqb y y refl, e) (setBitIf-same b w (edgeBit x y) (omega arith) ∙ h)
+  put-same = rw (eq-eqb x x refl, eq-eqb y y refl, put) (setBitIf-same b w (edgeBit x y) (omega arith) ∙ alike)
 
   put-other : (i j : ℕ) → i < n → j < n → ((i ≡ x) → (j ≡ y) → ⊥) → (eqb i x and (eqb j y and c)) ≡ false
       → rel u EDGE GRID i j ≡ (rel w EDGE GRID i j or (eqb i x and (eqb j y and c)))
   unfolding rel
-  put-other i j p q d f = rw e (setBitIf-other b w (edgeBit x y) (edgeBit i j) (λ k. d (omega arith) (omega arith))) ∙ sym (or-off _ _ f)
+  put-other i j p q d f = rw put (setBitIf-other b w (edgeBit x y) (edgeBit i j) (λ k. d (omega arith) (omega arith))) ∙ sym (or-off _ _ f)
 
   edged-put : Edged n (λ i j. eqb i x and (eqb j y and c)) w u
   edged-put = record {
     cell = λ i j p q. go i j p q (ℕ-discrete i x) (ℕ-discrete j y);
-    frame = within-put EDGE EDGE-END (edgeBit x y) b (omega arith) (omega arith) e;
+    frame = within-put EDGE EDGE-END (edgeBit x y) b (omega arith) (omega arith) put;
   }
     where
       go : (i j : ℕ) → i < n → j < n → Dec (i ≡ x) → Dec (j ≡ y) → rel u EDGE GRID i j ≡ (rel w EDGE GRID i j or (eqb i x and (eqb j y and c)))
@@ -158,12 +158,12 @@ module _ {n : ℕ} (x : ℕ) (p : ℕ → Bool) where
   row-none w = added-none EDGE EDGE-END w (λ i j k l. and-false-right _ _ (below-none j (p j)))
 
   -- a bit more: what is put is the test, or the test where the bit is not set yet
-  module _ {w₀ w u : List ℕ} (y k : ℕ) (b : Bool) (fits : n ≤ ROWS) (room : EDGE-END ≤ length w) (l : x < n) (m : y < n)
-      (f : Edged n (fromUpto x y p) w₀ w) (q : k ≡ edgeBit x y)
-      (e : u ≡ setBitIf b w k) where
+  module _ {w₀ w u : List ℕ} (y k : ℕ) (b : Bool) (fits : n ≤ ROWS) (room : EDGE-END ≤ length w) (below-x : x < n) (below-y : y < n)
+      (edged : Edged n (fromUpto x y p) w₀ w) (place-is : k ≡ edgeBit x y)
+      (put : u ≡ setBitIf b w k) where
     row-put : (bit w k or b) ≡ (bit w k or p y) → Edged n (fromUpto x (y + 1) p) w₀ u
     unfolding fromUpto
-    row-put h = edged-cong (λ i j d c. step i j) (edged-trans f (edged-put w x y b (p y) fits room l m (rw q at e) (rw q at h)))
+    row-put h = edged-cong (λ i j d c. step i j) (edged-trans edged (edged-put w x y b (p y) fits room below-x below-y (rw place-is at put) (rw place-is at h)))
       where
         step : (i j : ℕ) → ((eqb i x and (ltb j y and p j)) or (eqb i x and (eqb j y and p y))) ≡ (eqb i x and (ltb j (y + 1) and p j))
         step i j =
@@ -189,7 +189,7 @@ module _ {n : ℕ} (x : ℕ) (p : ℕ → Bool) where
   -- by a walk over row s of a grid
   pub row-walk : {w₀ w : List ℕ} {a s y z : ℕ} {r : ℕ → ℕ → Bool} → Holds a GRID n r w → s < n → Next w (a + s * GRID) (a + s * GRID) y n z
       → ((m : ℕ) → r s m ≡ false → p m ≡ false) → Edged n (fromUpto x y p) w₀ w → Edged n (fromUpto x z p) w₀ w
-  row-walk {y = y} {z} h l next off f = row-over y z (next .low) (passed h l next off) f
+  row-walk {y = y} {z} holds below-s next off edged = row-over y z (next .low) (passed holds below-s next off) edged
 
   pub row-empty : (w : List ℕ) → ((m : ℕ) → m < n → p m ≡ false) → Edged n (fromUpto x n p) w w
   row-empty w h = row-over 0 n (omega arith) (λ m a b. h m b) (row-none w)
@@ -216,9 +216,9 @@ module _ (t : Table) (x s y : ℕ) where
 pub from-after : (t : Table) (source : ℕ → ℕ) (x s n : ℕ) (r : Row) (a : Bool) → s ≡ source x → r ≡ t .row x → a ≡ reads r → not a ≡ false → s < n → n ≤ ROWS
     → (m : ℕ) → after t x s m ≡ fromReads t source x m
 unfolding after
-from-after t source x s n r a es er ea ha l fits m =
-    ap (λ (v : Bool). v and follows t s m) (sym (and-on-right (not (eqb x m)) a (not-false a ha)))
-    ∙ from-source t source x m s r (t .row m) es er refl a (follows t s m) (ne-eqb s INITIAL (λ q. omega arith)) ea refl
+from-after t source x s n r a source-is row-is reads-is reader below-s fits m =
+    ap (λ (v : Bool). v and follows t s m) (sym (and-on-right (not (eqb x m)) a (not-false a reader)))
+    ∙ from-source t source x m s r (t .row m) source-is row-is refl a (follows t s m) (ne-eqb s INITIAL (λ q. omega arith)) reads-is refl
 
 module _ (t : Table) (source : ℕ → ℕ) where
   after-self : (x y : ℕ) → after t x x y ≡ follows t x y
@@ -291,16 +291,16 @@ module _ (t : Table) (source : ℕ → ℕ) where
   pub made-edges : {n : ℕ} {w v y u : List ℕ} → n ≤ ROWS → EDGE-END ≤ length w → v ≡ zeros w EDGE (EDGE-END - EDGE) → Edged n (outBelow n (linked t source)) v y
       → Edged n (readsFrom t source) y u → Made EDGE EDGE-END EDGE GRID n (edge t source) w u
   unfolding outBelow linked edge rel
-  made-edges {n} {w} {v} fits room e f g =
+  made-edges {n} {w} {v} fits room cleared links-added sources-added =
       record {
-        holds = holds-cong (λ i j d c. same i j d) (holds-added (holds-added empty f) g);
-        frame = within-trans (within-cleared EDGE EDGE-END (omega arith) e) (within-trans (f .frame) (g .frame));
+        holds = holds-cong (λ i j d c. same i j d) (holds-added (holds-added empty links-added) sources-added);
+        frame = within-trans (within-cleared EDGE EDGE-END (omega arith) cleared) (within-trans (links-added .frame) (sources-added .frame));
       }
     where
       empty : Holds EDGE GRID n (λ i j. false) v
       empty = record {
         fits = omega arith;
-        cell = λ i j d c. rw e
+        cell = λ i j d c. rw cleared
             (bit-zeros-in w EDGE (EDGE-END - EDGE) (edgeBit i j) (omega arith) (omega arith) (omega arith));
       }
 

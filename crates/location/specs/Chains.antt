@@ -463,7 +463,7 @@ module _ {t : List ℕ} {p : List (List ℕ)} {mode : Mode} {n x y i : ℕ} {r q
         → h ≡ rel w HAPPENS MOMENTS (3 * i + k) (3 * j + m) → g ≡ widest (s .scope) (u .scope) → d ≡ meetIn p g r q s u
         → seen (decode t p mode n) x y i j ≡ (h and d)
     unfolding seen decode availableAt visibleAt visiblePart
-    seen-row {m} j l other-is other before scope-is met =
+    seen-row {m} j below-j other-is other before scope-is met =
         let c : m ≡ cond (plain (rowOf t j)) BEFORE AFTER = other .0 ∙ ap visiblePart other-is in
         rw (
           met,
@@ -472,7 +472,7 @@ module _ {t : List ℕ} {p : List (List ℕ)} {mode : Mode} {n x y i : ℕ} {r q
           element .pair .second-is,
           element .row-is,
           other-is,
-          happens-is (element .pair) (3 * i + k) (3 * j + m) low (omega (arith, l, other .1)) before,
+          happens-is (element .pair) (3 * i + k) (3 * j + m) low (omega (arith, below-j, other .1)) before,
           part-is,
           c,
         ) refl

@@ -185,8 +185,8 @@ pub made-system : {n k : ℕ} {w v u : List ℕ} (mode : Mode) → n ≤ ROWS �
     → Holds SYSTEM GRID n (depends mode k) v
     → Closed v u SYSTEM n GRID → Made SYSTEM SYSTEM-END SYSTEM GRID n (through (dependsOf mode) n) w u
 unfolding depends dependsOf
-made-system mode small e f h c =
-    record { holds = holds-closed (rw e at h) c; frame = within-trans f (within-closed (omega arith) c) }
+made-system mode small count-is kept holds closed =
+    record { holds = holds-closed (rw count-is at holds) closed; frame = within-trans kept (within-closed (omega arith) closed) }
 
 -- ---- laws: what y meets, and what reaches it
 
@@ -414,12 +414,12 @@ sources-kept f s =
 
 pub made-hosted : {n d : ℕ} {r : ℕ → ℕ → Bool} {w v x z u : List ℕ} → d ≤ REACHED-END → Within SYSTEM SYSTEM-END w v → Within MET d v x
     → Within REACHED REACHED-END x z → Made HOSTED HOSTED-END HOSTED GRID n r z u → Made HOSTED REACHED-END HOSTED GRID n r w u
-made-hosted low system met reached m =
+made-hosted low system met reached made =
     record {
-      holds = m .holds;
+      holds = made .holds;
       frame = within-trans
           (within-trans (within-widen HOSTED REACHED-END (omega arith) (omega arith) system)
           (within-widen HOSTED REACHED-END (omega arith) (omega arith) met))
           (within-trans (within-widen HOSTED REACHED-END (omega arith) (omega arith) reached)
-          (within-widen HOSTED REACHED-END (omega arith) (omega arith) (m .frame)));
+          (within-widen HOSTED REACHED-END (omega arith) (omega arith) (made .frame)));
     }

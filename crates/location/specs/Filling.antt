@@ -37,13 +37,13 @@ row-begun h = record { most = omega arith; same = refl; holds = h; filled = rowF
 pub row-more : {held : List ℕ → Type 0} {a n i j : ℕ} {p : ℕ → Bool} {w₀ w u : List ℕ} {b : Bool} (d : ℕ) → n ≤ ROWS → i < n → j < n → a + ROWS * GRID ≤ d
     → (Within a d w u → held w → held u) → RowFilled held a n i p w₀ w j → b ≡ p j → u ≡ setBitIf b w ((a + i * GRID) * 64 + j)
     → RowFilled held a n i p w₀ u (j + 1)
-row-more {a = a} {i = i} {j = j} {p = p} {w₀ = w₀} {w = w} {u = u} {b = b} d few first second room kept r told put =
+row-more {a = a} {i = i} {j = j} {p = p} {w₀ = w₀} {w = w} {u = u} {b = b} d few first second room kept filled-row told put =
     let e : u ≡ rowFill p w₀ (a * 64 + i * (GRID * 64)) (j + 1) =
-    rowFill-put p w₀ w u (a * 64 + i * (GRID * 64)) j ((a + i * GRID) * 64 + j) b (r .filled) told (omega arith) put in
+    rowFill-put p w₀ w u (a * 64 + i * (GRID * 64)) j ((a + i * GRID) * 64 + j) b (filled-row .filled) told (omega arith) put in
     record {
       most = omega arith;
       same = ap length e ∙ length-rowFill p w₀ _ (j + 1);
-      holds = kept (within-put a d ((a + i * GRID) * 64 + j) b (omega arith) (omega arith) put) (r .holds);
+      holds = kept (within-put a d ((a + i * GRID) * 64 + j) b (omega arith) (omega arith) put) (filled-row .holds);
       filled = e;
     }
 
@@ -63,12 +63,12 @@ grid-begun {a = a} d l kept e h =
 pub grid-more : {held : List ℕ → Type 0} {a n i : ℕ} {p : ℕ → ℕ → Bool} {w₀ w u : List ℕ} (d : ℕ) → n ≤ ROWS → i < n → a + ROWS * GRID ≤ d
     → (Within a d w u → held w → held u) → GridFilled held a n p w₀ w i → u ≡ rowFill (p i) w (a * 64 + i * (GRID * 64)) n
     → GridFilled held a n p w₀ u (i + 1)
-grid-more {a = a} {n = n} {i = i} {p = p} {w₀ = w₀} {w = w} {u = u} d few first room kept g row =
-    let e : u ≡ gridFill p w₀ (a * 64) (GRID * 64) n (i + 1) = gridFill-more p w₀ w u (a * 64) (GRID * 64) n i (g .filled) row in
+grid-more {a = a} {n = n} {i = i} {p = p} {w₀ = w₀} {w = w} {u = u} d few first room kept filled-grid row =
+    let e : u ≡ gridFill p w₀ (a * 64) (GRID * 64) n (i + 1) = gridFill-more p w₀ w u (a * 64) (GRID * 64) n i (filled-grid .filled) row in
     record {
       most = omega arith;
       same = ap length e ∙ length-gridFill p w₀ _ _ n (i + 1);
-      holds = kept (rw row (within-rowFill a d (p i) w (a * 64 + i * (GRID * 64)) n (omega arith) (omega arith))) (g .holds);
+      holds = kept (rw row (within-rowFill a d (p i) w (a * 64 + i * (GRID * 64)) n (omega arith) (omega arith))) (filled-grid .holds);
       filled = e;
     }
 
@@ -85,6 +85,6 @@ grid-row first all g r =
 
 pub grid-done : {held : List ℕ → Type 0} {a n i : ℕ} {p : ℕ → ℕ → Bool} {w v u : List ℕ} (d : ℕ) → n ≤ ROWS → n ≤ i → a + ROWS * GRID ≤ d → d ≤ length w
     → v ≡ zeros w a (d - a) → GridFilled held a n p v u i → Made a d a GRID n p w u
-grid-done {a = a} {n = n} {i = i} {p = p} {w = w} {v = v} {u = u} d few all room long cleared g =
-    let e : i ≡ n = omega (arith, all, g .most) in
-    made-filled a d GRID n p w v u (omega arith) (omega arith) long cleared (rw e at (g .filled))
+grid-done {a = a} {n = n} {i = i} {p = p} {w = w} {v = v} {u = u} d few all room long cleared filled-grid =
+    let e : i ≡ n = omega (arith, all, filled-grid .most) in
+    made-filled a d GRID n p w v u (omega arith) (omega arith) long cleared (rw e at (filled-grid .filled))

@@ -46,8 +46,8 @@ module _ (chains : Bool) (f s f′ s′ : List ℕ) (z : piecesFault f s ≡ 0) 
       → admission true (joined f′ s′) ≡ Admitted (agentsAt (joined f′ s′)) (rowsAt (joined f′ s′))
       → (c c′ l : List ℕ) → fillBoth chains f s work buffer ≡ Fill.filled l → (i : ℕ) → i < rowsAt (joined f s)
       → getD (sourcesAfter (fillBoth chains f′ s′ work′ buffer′) c′) (π .to i) 0 ≡ π .to (getD (sourcesAfter (fillBoth chains f s work buffer) c) i 0)
-  written-pieces bytes fit fit′ well well′ c c′ l e i m =
+  written-pieces bytes fit fit′ well well′ c c′ l filled-is i below-i =
       ap (λ (o : Outcome). getD (sourcesAfter o c′) (π .to i) 0) (fill-joined f′ s′ z′ work′ buffer′ chains)
       ∙ fill-written chains (joined f s) (joined f′ s′) π moved work buffer work′ buffer′ bytes fit fit′ well well′ c c′ l
-      (sym (fill-joined f s z work buffer chains) ∙ e) i m
+      (sym (fill-joined f s z work buffer chains) ∙ filled-is) i below-i
       ∙ ap (λ (o : Outcome). π .to (getD (sourcesAfter o c) i 0)) (sym (fill-joined f s z work buffer chains))

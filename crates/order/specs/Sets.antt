@@ -64,11 +64,11 @@ module _ (b : List ℕ) (p : List (List ℕ)) (mode : Mode) (n : ℕ) where
       → Made STEP STEP-END STEP MOMENTS (3 * n) (step (decode b p mode n) (s + 1)) w v → Closed v x STEP (3 * n) MOMENTS
       → u ≡ joinRow x HAPPENS STEP (HAPPENS-END - HAPPENS)
       → Added HAPPENS STEP-END HAPPENS MOMENTS (3 * n) (interBy (decode b p mode n) s) w u
-  added-set s w v x u small room l made closed joined =
+  added-set s w v x u small room alive made closed joined =
       let a = added-chain HAPPENS STEP-END STEP HAPPENS (HAPPENS-END - HAPPENS) MOMENTS (3 * n) _ w v x u (omega arith) (λ h. omega arith) (omega arith)
       (omega arith, omega arith, omega arith, omega arith) made closed joined
       in
-      record { cell = λ i j q r. rw (← inter-on s i j l) (a .cell i j q r); frame = a .frame }
+      record { cell = λ i j q r. rw (← inter-on s i j alive) (a .cell i j q r); frame = a .frame }
 
   -- no row holds all of the class set: nothing is to be added
   pub added-not : (s : ℕ) (w : List ℕ) → live (decode b p mode n) (s + 1) ≡ false

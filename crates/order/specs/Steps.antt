@@ -78,11 +78,11 @@ grown-more {b} {n} {s} {w} {v} {u} g h =
 -- ---- laws: one bit
 
 -- the bit of m and k is set where d; each other stays
-module _ (n m k i : ℕ) (d : Bool) (w u : List ℕ) (few : n ≤ ROWS) (room : WORK ≤ length w) (l : m < 3 * n) (o : k < 3 * n)
-    (at : i ≡ (STEP + m * MOMENTS) * 64 + k) (put : u ≡ setBitIf d w i) where
+module _ (n m k i : ℕ) (d : Bool) (w u : List ℕ) (few : n ≤ ROWS) (room : WORK ≤ length w) (below-m : m < 3 * n) (below-k : k < 3 * n)
+    (place-is : i ≡ (STEP + m * MOMENTS) * 64 + k) (put : u ≡ setBitIf d w i) where
   same : rel u STEP MOMENTS m k ≡ (rel w STEP MOMENTS m k or d)
   unfolding rel
-  same = rw (put, at) (setBitIf-same d w ((STEP + m * MOMENTS) * 64 + k) (omega arith))
+  same = rw (put, place-is) (setBitIf-same d w ((STEP + m * MOMENTS) * 64 + k) (omega arith))
 
   other : (x y : ℕ) → x < 3 * n → y < 3 * n → ((x ≡ m) × (y ≡ k) → ⊥) → rel u STEP MOMENTS x y ≡ rel w STEP MOMENTS x y
   unfolding rel
@@ -92,7 +92,7 @@ pub cell-made : (b : List ℕ) (n s m k i : ℕ) (c d : Bool) (w u : List ℕ) �
     → c ≡ rel w SYNC GRID (m / 3) (k / 3)
     → ((p : List (List ℕ)) (mode : Mode) → d ≡ stepRows s (m % 3) (k % 3) (rowOf b (m / 3)) (rowOf b (k / 3)) c (programOrder (decode b p mode n) m k))
     → i ≡ (STEP + m * MOMENTS) * 64 + k → u ≡ setBitIf d w i → CellMade b n s m k w u
-cell-made b n s m k i c d w u few room l o e f at put =
+cell-made b n s m k i c d w u few room below-m below-k bit-is tested place-is put =
     record {
       grown = record {
         frame = within-put STEP STEP-END i d (omega arith) (omega arith) put;
@@ -103,21 +103,21 @@ cell-made b n s m k i c d w u few room l o e f at put =
     }
   where
     one : rel u STEP MOMENTS m k ≡ (rel w STEP MOMENTS m k or d)
-    one = same n m k i d w u few room l o at put
+    one = same n m k i d w u few room below-m below-k place-is put
 
     rest : (x y : ℕ) → x < 3 * n → y < 3 * n → ((x ≡ m) × (y ≡ k) → ⊥) → rel u STEP MOMENTS x y ≡ rel w STEP MOMENTS x y
-    rest = other n m k i d w u few room l o at put
+    rest = other n m k i d w u few room below-m below-k place-is put
 
     is : (p : List (List ℕ)) (mode : Mode) → Synced (decode b p mode n) n w → d ≡ step₁ (decode b p mode n) s m k
-    is p mode y = step-read b p _ n w s m k c d y l o e (f p mode)
+    is p mode y = step-read b p _ n w s m k c d y below-m below-k bit-is (tested p mode)
 
     set : (p : List (List ℕ)) (mode : Mode) → Synced (decode b p mode n) n w → step₁ (decode b p mode n) s m k ≡ true → rel u STEP MOMENTS m k ≡ true
     set p mode y h = one ∙ or-right _ (is p mode y ∙ h)
 
     kept : (x y : ℕ) → x < 3 * n → y < 3 * n → rel w STEP MOMENTS x y ≡ true → Dec (x ≡ m) → Dec (y ≡ k) → rel u STEP MOMENTS x y ≡ true
-    kept x y p q h (yes a) (yes z) = rw (a, z) (one ∙ or-left d (rw (a, z) at h))
-    kept x y p q h (yes a) (no z) = rest x y p q (λ t. z (t .1)) ∙ h
-    kept x y p q h (no a) z = rest x y p q (λ t. a (t .0)) ∙ h
+    kept x y below-x below-y on (yes a) (yes z) = rw (a, z) (one ∙ or-left d (rw (a, z) at on))
+    kept x y below-x below-y on (yes a) (no z) = rest x y below-x below-y (λ t. z (t .1)) ∙ on
+    kept x y below-x below-y on (no a) z = rest x y below-x below-y (λ t. a (t .0)) ∙ on
 
     sound : (p : List (List ℕ)) (mode : Mode) → Synced (decode b p mode n) n w → (x y : ℕ) → x < 3 * n → y < 3 * n → rel u STEP MOMENTS x y ≡ true
         → Dec (x ≡ m) → Dec (y ≡ k)
@@ -196,21 +196,21 @@ rows-skip b n s j w v u off h same =
 pub steps-made : (b : List ℕ) (p : List (List ℕ)) (mode : Mode) (n s : ℕ) (w v u : List ℕ) → n ≤ ROWS → WORK ≤ length w → Synced (decode b p mode n) n w
     → v ≡ zeros w STEP (STEP-END - STEP) → RowsMade b n s n v u → Made STEP STEP-END STEP MOMENTS (3 * n) (step₁ (decode b p mode n) s) w u
 unfolding rel
-steps-made b p mode n s w v u few room y cleared h =
+steps-made b p mode n s w v u few room synced cleared made =
     record {
       holds = record {
         fits = omega arith;
         cell = λ i j l o. bool-ext _ _
-            (λ e. clean i j l o (or-cases _ _ (h .grown .sound p mode z i j l o e))) (λ e. full i j l o e (step-ends b p _ n s i j e));
+            (λ e. clean i j l o (or-cases _ _ (made .grown .sound p mode z i j l o e))) (λ e. full i j l o e (step-ends b p _ n s i j e));
       };
-      frame = within-trans wiped (h .grown .frame);
+      frame = within-trans wiped (made .grown .frame);
     }
   where
     wiped : Within STEP STEP-END w v
     wiped = within-cleared STEP STEP-END (omega arith) cleared
 
     z : Synced (decode b p mode n) n v
-    z = synced-kept (omega arith) wiped y
+    z = synced-kept (omega arith) wiped synced
 
     fresh : (i j : ℕ) → i < 3 * n → j < 3 * n → rel v STEP MOMENTS i j ≡ false
     fresh i j l o = rw cleared (bit-zeros-in w STEP (STEP-END - STEP) ((STEP + i * MOMENTS) * 64 + j) (omega arith) (omega arith) (omega arith))
@@ -224,7 +224,7 @@ steps-made b p mode n s w v u few room y cleared h =
         → ((i % 3 ≡ AT) × (holdsAt b s (i / 3) ≡ true)) ⊎ ((j % 3 ≡ AT) × (holdsAt b s (j / 3) ≡ true)) → rel u STEP MOMENTS i j ≡ true
     full i j l o e (inl a) =
         let q : 3 * (i / 3) + 1 ≡ i = let c : i % 3 ≡ 1 = a .0 in omega arith in
-        rw q at (h .from p mode z (i / 3) j (omega arith) o (a .1) (rw q e))
+        rw q at (made .from p mode z (i / 3) j (omega arith) o (a .1) (rw q e))
     full i j l o e (inr a) =
         let q : 3 * (j / 3) + 1 ≡ j = let c : j % 3 ≡ 1 = a .0 in omega arith in
-        rw q at (h .to p mode z (j / 3) i (omega arith) l (a .1) (rw q e))
+        rw q at (made .to p mode z (j / 3) i (omega arith) l (a .1) (rw q e))

@@ -86,11 +86,11 @@ module _ (mode : Mode) (n c x y : ℕ) (w : List ℕ) (ex : x ≡ getD (mode .fi
   pub past-second : n ≤ y → Added STEP STEP-END STEP MOMENTS (3 * n) (systemBy mode c) w w
   past-second l = added-none STEP STEP-END w (λ m k p q. not-so _ (λ h. let e = alone m k h .1 in omega arith))
 
-  module _ (i : ℕ) (u : List ℕ) (few : n ≤ ROWS) (room : WORK ≤ length w) (l : x < n) (o : y < n)
-      (at : i ≡ (STEP + (3 * x + 1) * MOMENTS) * 64 + (3 * y + 1)) (put : u ≡ setBit w i) where
+  module _ (i : ℕ) (u : List ℕ) (few : n ≤ ROWS) (room : WORK ≤ length w) (below-x : x < n) (below-y : y < n)
+      (place-is : i ≡ (STEP + (3 * x + 1) * MOMENTS) * 64 + (3 * y + 1)) (put : u ≡ setBit w i) where
     same : rel u STEP MOMENTS (3 * x + 1) (3 * y + 1) ≡ true
     unfolding rel
-    same = rw (put, at) (setBit-same w ((STEP + (3 * x + 1) * MOMENTS) * 64 + (3 * y + 1)) (omega arith))
+    same = rw (put, place-is) (setBit-same w ((STEP + (3 * x + 1) * MOMENTS) * 64 + (3 * y + 1)) (omega arith))
 
     other : (m k : ℕ) → m < 3 * n → k < 3 * n → ((m ≡ 3 * x + 1) × (k ≡ 3 * y + 1) → ⊥)
         → rel u STEP MOMENTS m k ≡ (rel w STEP MOMENTS m k or systemBy mode c m k)

@@ -43,8 +43,8 @@ size-byte bs y e = e
 pub touch-shares : (bs : List ℕ) (x y z : ℕ) (r : Row) {a b : Bool} → r ≡ rowOf bs x → 0 < r .size → a ≡ mayTouch (rowOf bs y) (r .start) (r .start + r .size)
     → z ≡ rowOf bs y .size → b ≡ ltb 0 z → (a and b) ≡ sharing bs x y
 unfolding sharing mayTouch overlap isShared
-touch-shares bs x y z r {a} {b} er l ea ez eb =
-    rw (← er, ea, eb, ez) (go (rowOf bs y) (decLt (max (r .start) (rowOf bs y .start))
+touch-shares bs x y z r {a} {b} row-is some touch-is size-is bytes-are =
+    rw (← row-is, touch-is, bytes-are, size-is) (go (rowOf bs y) (decLt (max (r .start) (rowOf bs y .start))
     (min (r .start + r .size) (rowOf bs y .start + rowOf bs y .size))))
   where
     go : (q : Row) → Dec (max (r .start) (q .start) < min (r .start + r .size) (q .start + q .size))

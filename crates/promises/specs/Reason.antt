@@ -231,16 +231,17 @@ module _ (t : Table) (s : ℕ) where
   chain-accepted : t .rows ≤ ROWS → 1 ≤ s → s ≤ CLASS-SETS → (m k : ℕ) → twoMoments t m k ≡ true → hasChain t s m k ≡ true
       → chainHolds t s m k (chain t s m k) ≡ true
   unfolding chain hasChain chainSize twoMoments
-  chain-accepted f a b m k two h =
+  chain-accepted few positive a-set m k two has =
       let d = split two in
       let c = split (d .0) in
-      let hit = least-hit (λ j. walk (3 * t .rows) (step t s) k (suc j) m) (3 * t .rows) h in
-      let size = least-apart (3 * t .rows) (step t s) k m (below k (c .1)) (below m (c .0)) (eqb-false _ _ (not-out _ (d .1))) h in
+      let hit = least-hit (λ j. walk (3 * t .rows) (step t s) k (suc j) m) (3 * t .rows) has in
+      let size = least-apart (3 * t .rows) (step t s) k m (below k (c .1)) (below m (c .0)) (eqb-false _ _ (not-out _ (d .1))) has in
       let l = trail (3 * t .rows) (step t s) k (suc (least (3 * t .rows) (λ j. walk (3 * t .rows) (step t s) k (suc j) m))) m in
       let e : length (along (stepNumber t s) k l) ≡ suc (least (3 * t .rows) (λ j. walk (3 * t .rows) (step t s) k (suc j) m)) =
       length-along (stepNumber t s) k l ∙ length-trail (3 * t .rows) (step t s) k _ m
       in
-      chain-in t s m k (along (stepNumber t s) k l) a b (omega arith) (omega arith) (way-leads f (trail-way (3 * t .rows) (step t s) k _ m (hit .1)))
+      chain-in t s m k (along (stepNumber t s) k l) positive a-set (omega arith) (omega arith)
+      (way-leads few (trail-way (3 * t .rows) (step t s) k _ m (hit .1)))
 
 -- ---- some derivation is accepted exactly where the first moment happens before the second, so none is otherwise
 

@@ -172,8 +172,8 @@ grid-same p w at m j (suc k) l h = go (ℕ-discrete j (suc k)) (λ d. grid-same 
 -- the pairs that a walk over the rows that share a byte with x passes over
 pub row-pass : {t : Table} {n x j r row : ℕ} {v w : List ℕ} (u : List ℕ) (at : ℕ) → Ready t n w → x < n → row ≡ OVERLAP + x * GRID → Next w row row j n r
     → v ≡ gridFill (beforeNth t x) u at PAIR PAIR j → v ≡ gridFill (beforeNth t x) u at PAIR PAIR r
-row-pass {t} {n} {x} {j} {r} {row} {v} {w} u at ready low row-is next e =
+row-pass {t} {n} {x} {j} {r} {row} {v} {w} u at ready low row-is next filled =
     let s : Next w (OVERLAP + x * GRID) (OVERLAP + x * GRID) j n r = rw row-is at next in
     let g = s .high in
-    e ∙ sym (grid-same (beforeNth t x) u at PAIR j r (s .low)
+    filled ∙ sym (grid-same (beforeNth t x) u at PAIR j r (s .low)
     (λ y a b. pair-apart t x y (walked (ready .overlapping) x y low (omega arith) (s .miss y a b))))

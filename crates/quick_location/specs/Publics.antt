@@ -58,17 +58,17 @@ stays-on c s k j l e = go (ℕ-discrete j k)
 -- a turn of the loop
 pub publics-more : {b s u : List ℕ} {n : ℕ} (k : ℕ) (c : Bool) → Publics b n s → n < ROWS → k ≡ setAt (byteOf b n 1) * 64 + n
     → c ≡ meets (byteOf b n 5) 2 → u ≡ setBitIf c s k → Publics b (n + 1) u
-publics-more {b} {s} {u} {n} k c h l ek ec eu =
-    rw eu (record { room = rw length-setBitIf (h .room); there = λ a m e. go a m e (ℕ-discrete a n) })
+publics-more {b} {s} {u} {n} k c publics few place-is flag-is put =
+    rw put (record { room = rw length-setBitIf (publics .room); there = λ a m e. go a m e (ℕ-discrete a n) })
   where
     inside : k < 64 * length s
-    inside = let r = h .room in omega arith
+    inside = let r = publics .room in omega arith
 
     go : (a : ℕ) → a < n + 1 → meets (byteOf b a 5) 2 ≡ true → Dec (a ≡ n) → bit (setBitIf c s k) (setAt (byteOf b a 1) * 64 + a) ≡ true
     go a m e (yes q) =
-        let f : setAt (byteOf b a 1) * 64 + a ≡ k = rw q (sym ek) in
-        ap (bit (setBitIf c s k)) f ∙ setBitIf-same c s k inside ∙ or-right (bit s k) (ec ∙ ap (λ (i : ℕ). meets (byteOf b i 5) 2) (sym q) ∙ e)
-    go a m e (no q) = stays-on c s k _ inside (h .there a (omega arith) e)
+        let f : setAt (byteOf b a 1) * 64 + a ≡ k = rw q (sym place-is) in
+        ap (bit (setBitIf c s k)) f ∙ setBitIf-same c s k inside ∙ or-right (bit s k) (flag-is ∙ ap (λ (i : ℕ). meets (byteOf b i 5) 2) (sym q) ∙ e)
+    go a m e (no q) = stays-on c s k _ inside (publics .there a (omega arith) e)
 
 -- ---- laws: rows that a walk over the set of r's agent passes over
 

@@ -64,10 +64,10 @@ module _ {t : List ℕ} {p : List (List ℕ)} {mode : Mode} {n a : ℕ} {w : Lis
   silent : (k f at : ℕ) → k < 3 → at ≡ HAPPENS + (3 * a + k) * MOMENTS → Least (64 * MOMENTS) (both w at at) f → 64 * MOMENTS ≤ f → (m : ℕ) → m < 3 * n
       → false ≡ happens (decode t p mode n) (3 * a + k) m
   unfolding rel
-  silent k f at small at-is least far m l =
+  silent k f at small at-is least far m below-m =
       let h : Least (64 * MOMENTS) (both w (HAPPENS + (3 * a + k) * MOMENTS) (HAPPENS + (3 * a + k) * MOMENTS)) f = rw at-is at least in
       sym (least-empty w (HAPPENS + (3 * a + k) * MOMENTS) MOMENTS f h far m (omega (arith, given .few)))
-      ∙ given .holds .happening .cell (3 * a + k) m (omega (arith, given .row)) l
+      ∙ given .holds .happening .cell (3 * a + k) m (omega (arith, given .row)) below-m
 
   module _ {k f at : ℕ} {s : Row} (base : ℕ) (row-is : s ≡ rowOf t a) where
     pub broadens-none : (k ≡ availablePart s) × (k < 3) → at ≡ HAPPENS + (3 * a + k) * MOMENTS → Least (64 * MOMENTS) (both w at at) f → 64 * MOMENTS ≤ f

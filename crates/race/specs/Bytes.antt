@@ -107,4 +107,4 @@ module _ (r q : Row) where
 -- numbers between two stops of a walk over row x of a grid: they have no bit, so a test that asks for it doesn't pass
 pub passed : {a n x j k : ℕ} {r : ℕ → ℕ → Bool} {w : List ℕ} {p : ℕ → Bool} → Holds a GRID n r w → x < n → Next w (a + x * GRID) (a + x * GRID) j n k
     → ((m : ℕ) → r x m ≡ false → p m ≡ false) → (m : ℕ) → j ≤ m → m < k → p m ≡ false
-passed {x = x} h l next off m a b = off m (walked h x m l (omega (arith, next .high)) (next .miss m a b))
+passed {x = x} holds below-x next off m from-j below-k = off m (walked holds x m below-x (omega (arith, next .high)) (next .miss m from-j below-k))

@@ -45,15 +45,15 @@ module _ (b : List ℕ) (p : List (List ℕ)) (mode : Mode) (n s case m k : ℕ)
       → o ≡ orderedRows n m k r q → d ≡ caseRows case s (m % 3) (k % 3) r q v o → e ≡ bySystem (decode b p mode n) m k
       → (d or (eqb case CASES and e)) ≡ direct (decode b p mode n) s case m k
   unfolding programOrder decode
-  direct-told r q v o d e er eq ev eo ed ee =
+  direct-told r q v o d e first-is second-is sync-is order-is case-is system-is =
       rw (
         direct-is b p mode n s case m k,
-        ed,
-        ee,
-        ev,
-        eo,
-        er,
-        eq,
+        case-is,
+        system-is,
+        sync-is,
+        order-is,
+        first-is,
+        second-is,
         asked-once s (m % 3) (k % 3) (rowOf b (m / 3)) (rowOf b (k / 3)) (synchronizes (decode b p mode n) (m / 3) (k / 3))
             (orderedRows n m k (rowOf b (m / 3)) (rowOf b (k / 3))) case,
       ) refl
@@ -167,6 +167,6 @@ module _ (f s : List ℕ) (a : Admission) (e : a ≡ admissionBoth true f s) (m 
   pub both-judged : {g n : ℕ} (h : a ≡ Admitted g n) (all : List ℕ) (p : List (List ℕ)) (mode : Mode) → all ≡ areaOf (rowBytes f ++ s)
       → p ≡ placesOf f → mode ≡ modeOf false f
       → (x : AcceptAnswer) → x ≡ acceptAnswer (judged (decode (take (n * ROW-BYTES) all) p mode n) m k r steps) → x ≡ acceptAnswer (judgeBoth f s m k r steps)
-  both-judged h all p mode copy places modes x j =
-      let t = table-both true f s a e h false all p mode copy places modes ∙ table-false (joined f s) in
-      j ∙ ap acceptAnswer (ap (λ (y : Table). judged y m k r steps) t ∙ sym (judge-both m k r steps f s ∙ when-admitted not-judged _ a _ e h))
+  both-judged admitted all p mode copy places modes x judged-is =
+      let t = table-both true f s a e admitted false all p mode copy places modes ∙ table-false (joined f s) in
+      judged-is ∙ ap acceptAnswer (ap (λ (y : Table). judged y m k r steps) t ∙ sym (judge-both m k r steps f s ∙ when-admitted not-judged _ a _ e admitted))

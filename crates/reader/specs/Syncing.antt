@@ -64,9 +64,9 @@ lone r e = let l : r .kind ≤ RMW = leb-true (r .kind) RMW (split e .1) in
     or-none (ne-eqb (r .kind) BARRIER (λ h. omega arith)) (ne-eqb (r .kind) CONTROL (λ h. omega arith))
 
 -- the tests of two rows that were read, b's rows a and c
-module _ (b : List ℕ) (p : List (List ℕ)) (mode : Mode) (n a c : ℕ) (r q : Row) (er : r ≡ rowOf b a) (eq : q ≡ rowOf b c)
-    (g h x y u v near : Bool) (eg : g ≡ releases r) (eh : h ≡ acquires q) (ex : x ≡ atomic r) (ey : y ≡ atomic q) (eu : u ≡ barrier r) (ev : v ≡ barrier q)
-    (en : near ≡ together p r q) (f : not (g and h) ≡ false) where
+module _ (b : List ℕ) (p : List (List ℕ)) (mode : Mode) (n a c : ℕ) (r q : Row) (first-is : r ≡ rowOf b a) (second-is : q ≡ rowOf b c)
+    (g h x y u v near : Bool) (release-is : g ≡ releases r) (acquire-is : h ≡ acquires q) (atomic-r : x ≡ atomic r) (atomic-q : y ≡ atomic q)
+    (barrier-r : u ≡ barrier r) (barrier-q : v ≡ barrier q) (near-is : near ≡ together p r q) (both-on : not (g and h) ≡ false) where
   abbrev t : Bool
   t = takesFrom (decode b p mode n) a c
 
@@ -85,13 +85,15 @@ module _ (b : List ℕ) (p : List (List ℕ)) (mode : Mode) (n a c : ℕ) (r q :
   -- a release and an acquire: one of the five cases
   cases : some x y u v near (eqb a c) t o i w k ≡ synchronizes (decode b p mode n) a c
   unfolding synchronizes syncAtomics syncFromBarrier syncToBarrier syncBarriers syncControl decode
-  cases = rw (← er, ← eq, ← eg, ← eh, ← ex, ← ey, ← eu, ← ev, ← en) (sym (and-on (g and h) _ (not-false (g and h) f)))
+  cases =
+      rw (← first-is, ← second-is, ← release-is, ← acquire-is, ← atomic-r, ← atomic-q, ← barrier-r, ← barrier-q, ← near-is)
+      (sym (and-on (g and h) _ (not-false (g and h) both-on)))
 
   no-barrier-r : x ≡ true → u ≡ false
-  no-barrier-r e = eu ∙ lone r (sym ex ∙ e)
+  no-barrier-r e = barrier-r ∙ lone r (sym atomic-r ∙ e)
 
   no-barrier-q : y ≡ true → v ≡ false
-  no-barrier-q e = ev ∙ lone q (sym ey ∙ e)
+  no-barrier-q e = barrier-q ∙ lone q (sym atomic-q ∙ e)
 
   no-atomic-r : u ≡ true → x ≡ false
   no-atomic-r e = not-so x (λ k. not-both e (no-barrier-r k))
@@ -121,6 +123,6 @@ module _ (b : List ℕ) (p : List (List ℕ)) (mode : Mode) (n a c : ℕ) (r q :
 
   pub sync-over : (d z : Bool) → (x and y) ≡ false → (u and y) ≡ false → (x and v) ≡ false → d ≡ w → z ≡ k
       → ((not (eqb a c) and u and v and near and d) or (not (eqb a c) and u and v and near and z)) ≡ synchronizes (decode b p mode n) a c
-  sync-over d z f₁ f₂ f₃ e g₁ =
-      ap₂ (λ (s m : Bool). (not (eqb a c) and u and v and near and s) or (not (eqb a c) and u and v and near and m)) e g₁
-      ∙ some-last x y u v near (eqb a c) t o i w k f₁ f₂ f₃ ∙ cases
+  sync-over d z no-atomics not-from not-to over-is passes-is =
+      ap₂ (λ (s m : Bool). (not (eqb a c) and u and v and near and s) or (not (eqb a c) and u and v and near and m)) over-is passes-is
+      ∙ some-last x y u v near (eqb a c) t o i w k no-atomics not-from not-to ∙ cases

@@ -65,18 +65,18 @@ module _ {t : Table} {n s x : ℕ} {w : List ℕ} (all : n ≡ t .rows) (h : Lay
 
 -- ---- laws: the class sets in turn
 
-module _ {t : Table} {n x c : ℕ} {w : List ℕ} (all : n ≡ t .rows) (h : Layered t n (c + 1) x w) (z j : ℕ) (l : z < 3 * n)
-    (e : j ≡ least (3 * n) (inLayer w CHAINS MOMENTS z)) (none : least c (hasChainBy t z x) ≡ c) where
+module _ {t : Table} {n x c : ℕ} {w : List ℕ} (all : n ≡ t .rows) (layered : Layered t n (c + 1) x w) (z j : ℕ) (below-z : z < 3 * n)
+    (layer-is : j ≡ least (3 * n) (inLayer w CHAINS MOMENTS z)) (none : least c (hasChainBy t z x) ≡ c) where
   pub set-found : c < CLASS-SETS → j < 3 * n → c ≡ least CLASS-SETS (hasChainBy t z x)
   unfolding hasChainBy
   set-found o q =
-      let f : hasChain t (suc c) z x ≡ true = subst (λ (i : ℕ). hasChain t i z x ≡ true) (add-one c) (chain-found all h z l j e q) in
+      let f : hasChain t (suc c) z x ≡ true = subst (λ (i : ℕ). hasChain t i z x ≡ true) (add-one c) (chain-found all layered z below-z j layer-is q) in
       sym (least-found (hasChainBy t z x) c CLASS-SETS none f o)
 
   pub set-missed : 3 * n ≤ j → least (c + 1) (hasChainBy t z x) ≡ c + 1
   unfolding hasChainBy
   set-missed q =
-      let f : hasChain t (suc c) z x ≡ false = subst (λ (i : ℕ). hasChain t i z x ≡ false) (add-one c) (chain-missed all h z l j e q) in
+      let f : hasChain t (suc c) z x ≡ false = subst (λ (i : ℕ). hasChain t i z x ≡ false) (add-one c) (chain-missed all layered z below-z j layer-is q) in
       least-more (hasChainBy t z x) c none f
 
 -- the class set that was found has a chain

@@ -100,20 +100,21 @@ module _ (t : Table) (m k : ℕ) where
     chain-told size c d l a g = rw (found l) (ap (λ (q : ℕ). the-variants.Chain (i + 1) q) a, g)
 
 -- the class set was found, and then the layer of the first moment
-module _ {t : Table} {n m k i : ℕ} {u : List ℕ} (all : n ≡ t .rows) (few : n ≤ ROWS) (l : m < 3 * n) (o : k < 3 * n) (apart : m ≡ k → ⊥)
-    (f : i ≡ least CLASS-SETS (hasChainBy t m k)) (s : i < CLASS-SETS) (h : Layered t n (i + 1) k u) (j : ℕ)
-    (e : j ≡ least (3 * n) (inLayer u CHAINS MOMENTS m)) where
+module _ {t : Table} {n m k i : ℕ} {u : List ℕ} (all : n ≡ t .rows) (few : n ≤ ROWS) (below-m : m < 3 * n) (below-k : k < 3 * n) (apart : m ≡ k → ⊥)
+    (set-is : i ≡ least CLASS-SETS (hasChainBy t m k)) (a-set : i < CLASS-SETS) (layered : Layered t n (i + 1) k u) (j : ℕ)
+    (layer-is : j ≡ least (3 * n) (inLayer u CHAINS MOMENTS m)) where
   -- what `write_steps` asks
   pub steps-asked : (j + 1 ≤ CHAIN) × (j + 1 ≤ 3 * n) × (walk (3 * n) (rel u STEP MOMENTS) k (j + 1) m ≡ true)
-  steps-asked = size-fits all h m l j e few o apart (set-has t i m k f s)
+  steps-asked = size-fits all layered m below-m j layer-is few below-k apart (set-has t i m k set-is a-set)
 
   pub told-chain : {w v c d : List ℕ} → programOrder t m k ≡ false → CHAIN ≤ length c → Within MUTUAL SYNC-END w v → Within HAPPENS CHAINS-END v u
       → Written (along (stepNumber t (i + 1)) k (trail (3 * n) (rel u STEP MOMENTS) k (j + 1) m)) (j + 1) c d
       → Framed (ours t m k) (the-variants.Chain (i + 1) (j + 1)) c d w u
-  told-chain {c = c} {d} g room p q z =
+  told-chain {c = c} {d} not-program room synced searched written =
       let a = steps-asked .0 in
-      let r = chain-told t m k g i f (j + 1) c d s (chain-length all h l j e) (chain-written all h l j e (steps-asked .2) (omega arith) z) in
-      (r .0, r .1, both p q)
+      let r = chain-told t m k not-program i set-is (j + 1) c d a-set (chain-length all layered below-m j layer-is)
+      (chain-written all layered below-m j layer-is (steps-asked .2) (omega arith) written) in
+      (r .0, r .1, both synced searched)
 
 -- ---- laws: two numbers
 
@@ -159,11 +160,12 @@ module _ (t : Table) (m k : ℕ) where
   pub rows-derived : (r : DeriveAnswer) (w v u c d : List ℕ) → WORK ≤ length w → twoMoments t m k ≡ true
       → (r ≡ deriveAnswer (ours t m k)) × (d ≡ chainAfter (ours t m k) c) × Within MUTUAL CHAINS-END w v
       → u ≡ zeros v 0 WORK → Told (derivedOf t m k) r w u c d
-  rows-derived r w v u c d room e a z =
-      left-same deriveAnswer workAfter chainAfter (two-told t m k e) (
-        a .0,
-        z ∙ zeros-within 0 WORK w v (omega arith) (within-widen 0 WORK (omega arith) (omega arith) (a .2)) ∙ zeros-wiped w room ∙ sym (ours-wiped t m k w),
-        a .1,
+  rows-derived r w v u c d room two derived cleared =
+      left-same deriveAnswer workAfter chainAfter (two-told t m k two) (
+        derived .0,
+        cleared ∙ zeros-within 0 WORK w v (omega arith) (within-widen 0 WORK (omega arith) (omega arith) (derived .2)) ∙ zeros-wiped w room
+            ∙ sym (ours-wiped t m k w),
+        derived .1,
       )
 
 -- ---- laws: the entry point
@@ -180,9 +182,9 @@ module _ (f s : List ℕ) (m k : ℕ) (w c : List ℕ) (a : Admission) (e : a �
   pub told-rows : {g n : ℕ} (h : a ≡ Admitted g n) (all : List ℕ) (p : List (List ℕ)) (mode : Mode) → all ≡ areaOf (rowBytes f ++ s) → p ≡ placesOf f
       → mode ≡ modeOf false f
       → (r : DeriveAnswer) (u d : List ℕ) → Told (derivedOf (decode (take (n * ROW-BYTES) all) p mode n) m k) r w u c d → Told told r w u c d
-  told-rows h all p mode copy places modes r u d j =
-      let q = door-admits CHAIN true f s (length w) (length c) a e h in
-      let t = table-both true f s a (q .2) h false all p mode copy places modes ∙ table-false (joined f s) in
+  told-rows admitted all p mode copy places modes r u d derived =
+      let q = door-admits CHAIN true f s (length w) (length c) a e admitted in
+      let t = table-both true f s a (q .2) admitted false all p mode copy places modes ∙ table-false (joined f s) in
       left-same deriveAnswer workAfter chainAfter
-      (derive-both m k (length w) (length c) f s ∙ when-admitted not-derived _ a _ e h ∙ sym (ap (λ (y : Table). derivedOf y m k) t))
-      j
+      (derive-both m k (length w) (length c) f s ∙ when-admitted not-derived _ a _ e admitted ∙ sym (ap (λ (y : Table). derivedOf y m k) t))
+      derived

@@ -88,11 +88,11 @@ front f m n h =
 copied : (t₀ h P R D : List ℕ) (a b c : ℕ) → length t₀ ≡ 2570 → length h ≡ HEADER → HEADER + a + b + c ≤ 2570 → a ≤ length P → b ≤ length R → c ≤ length D
     → take (HEADER + a + b + c) (paste (paste (paste (paste t₀ 0 h HEADER) HEADER P a) (HEADER + a) R b) (HEADER + a + b) D c) ≡ h ++ take a
     P ++ take b R ++ take c D
-copied t₀ h P R D a b c n₀ nh m la lb lc =
-    take-paste t₃ (HEADER + a + b) D c (let q = n₃ in omega arith) lc
+copied t₀ h P R D a b c long header-long room first-long second-long third-long =
+    take-paste t₃ (HEADER + a + b) D c (let q = n₃ in omega arith) third-long
     ∙ ap (λ (x : List ℕ). x ++ take c D) (take-paste t₂ (HEADER + a) R b (let q = n₂ in
-    omega arith) lb ∙ ap (λ (x : List ℕ). x ++ take b R)
-    (take-paste t₁ HEADER P a (let q = n₁ in omega arith) la ∙ ap (λ (x : List ℕ). x ++ take a P) first))
+    omega arith) second-long ∙ ap (λ (x : List ℕ). x ++ take b R)
+    (take-paste t₁ HEADER P a (let q = n₁ in omega arith) first-long ∙ ap (λ (x : List ℕ). x ++ take a P) first))
   where
     t₁ : List ℕ
     t₁ = paste t₀ 0 h HEADER
@@ -104,47 +104,47 @@ copied t₀ h P R D a b c n₀ nh m la lb lc =
     t₃ = paste t₂ (HEADER + a) R b
 
     n₁ : length t₁ ≡ 2570
-    n₁ = length-paste t₀ 0 h HEADER (omega arith) (omega arith) ∙ n₀
+    n₁ = length-paste t₀ 0 h HEADER (omega arith) (omega arith) ∙ long
 
     n₂ : length t₂ ≡ 2570
-    n₂ = length-paste t₁ HEADER P a (let q = n₁ in omega arith) la ∙ n₁
+    n₂ = length-paste t₁ HEADER P a (let q = n₁ in omega arith) first-long ∙ n₁
 
     n₃ : length t₃ ≡ 2570
-    n₃ = length-paste t₂ (HEADER + a) R b (let q = n₂ in omega arith) lb ∙ n₂
+    n₃ = length-paste t₂ (HEADER + a) R b (let q = n₂ in omega arith) second-long ∙ n₂
 
     first : take HEADER t₁ ≡ h
     first = take-paste t₀ 0 h HEADER (omega arith) (omega arith) ∙ ap (λ (x : List ℕ). x ++ take HEADER h) (take-none t₀) ∙ take-all HEADER h (omega arith)
 
-module _ (version agents : ℕ) (p : List (List ℕ)) (rows : ℕ) (l : List Entry) (d : Dependencies) (a : agents ≤ AGENTS) (r : rows ≤ ROWS)
-    (n : d .count ≤ DEPENDENCIES)
-    (size places after : ℕ) (es : size ≡ tableSize version agents rows (d .count)) (ep : places ≡ placesSize version agents)
-    (ea : after ≡ dependenciesSize version (d .count)) where
+module _ (version agents : ℕ) (p : List (List ℕ)) (rows : ℕ) (l : List Entry) (d : Dependencies) (few-agents : agents ≤ AGENTS) (few-rows : rows ≤ ROWS)
+    (few-dependencies : d .count ≤ DEPENDENCIES)
+    (size places after : ℕ) (size-is : size ≡ tableSize version agents rows (d .count)) (places-size : places ≡ placesSize version agents)
+    (after-size : after ≡ dependenciesSize version (d .count)) where
   pub table-made : (t₀ h P R D t₁ t₂ t₃ t₄ : List ℕ) (hosts : Bool) → h ≡ headerList version agents rows size → t₁ ≡ paste t₀ 0 h HEADER
       → hosts ≡ withHosts version → P ≡ tabulate (placeByte hosts p) 256 → t₂ ≡ paste t₁ HEADER P places
       → R ≡ tabulate (entryByte l) 2048 → t₃ ≡ paste t₂ (HEADER + places) R (ROW-BYTES * rows)
       → D ≡ tabulate (dependencyByte d) 258 → t₄ ≡ paste t₃ (HEADER + places + ROW-BYTES * rows) D after → length t₀ ≡ 2570
       → take (tableSize version agents rows (d .count)) t₄ ≡ encode version agents p rows l d
   unfolding tableSize encode placesPart rowsPart dependenciesPart
-  table-made t₀ h P R D t₁ t₂ t₃ t₄ hosts eh e₁ eb eP e₂ eR e₃ eD e₄ long =
-      let few : places ≤ 256 = rw ep (places-most version agents a) in
-      let less : after ≤ 258 = rw ea (after-most version (d .count) n) in
-      let hl : length h ≡ HEADER = ap length eh ∙ header-length version agents rows size in
-      let Pl : length P ≡ 256 = ap length eP ∙ length-tabulate (placeByte hosts p) 256 in
-      let Rl : length R ≡ 2048 = ap length eR ∙ length-tabulate (entryByte l) 2048 in
-      let Dl : length D ≡ 258 = ap length eD ∙ length-tabulate (dependencyByte d) 258 in
+  table-made t₀ h P R D t₁ t₂ t₃ t₄ hosts header-is header-put hosts-are places-are places-put rows-are rows-put dependencies-are dependencies-put long =
+      let few : places ≤ 256 = rw places-size (places-most version agents few-agents) in
+      let less : after ≤ 258 = rw after-size (after-most version (d .count) few-dependencies) in
+      let hl : length h ≡ HEADER = ap length header-is ∙ header-length version agents rows size in
+      let Pl : length P ≡ 256 = ap length places-are ∙ length-tabulate (placeByte hosts p) 256 in
+      let Rl : length R ≡ 2048 = ap length rows-are ∙ length-tabulate (entryByte l) 2048 in
+      let Dl : length D ≡ 258 = ap length dependencies-are ∙ length-tabulate (dependencyByte d) 258 in
       let made = copied t₀ h P R D places (ROW-BYTES * rows) after long hl (omega arith) (omega arith) (omega arith) (omega arith) in
-      rw (← ea, ← ep, e₄, e₃, e₂, e₁) (made ∙ rw (
-        eP,
-        eR,
-        eD,
-        eb,
+      rw (← after-size, ← places-size, dependencies-put, rows-put, places-put, header-put) (made ∙ rw (
+        places-are,
+        rows-are,
+        dependencies-are,
+        hosts-are,
         front (placeByte (withHosts version) p) 256 places few,
         front (entryByte l) 2048 (ROW-BYTES * rows) (omega arith),
         front (dependencyByte d) 258 after less,
-        eh,
-        es,
-        ep,
-        ea,
+        header-is,
+        size-is,
+        places-size,
+        after-size,
       ) refl)
 
 -- ---- the answer and the buffer
@@ -212,16 +212,16 @@ module _ (w : WriteAnswer) (a : Admission) (size room : ℕ) (e : w ≡ whenAdmi
 
 -- ---- values out of lent parts
 
-module _ (version : ℕ) (P B Q : List ℕ) {a : ℕ} {p : List (List ℕ)} {n : ℕ} {l : List Entry} {d : Dependencies} (ea : a ≡ agentsIn P)
-    (ep : p ≡ placesIn P) (en : n ≡ rowsIn B) (el : l ≡ entriesIn B)
-    (ed : d ≡ dependenciesIn Q) where
+module _ (version : ℕ) (P B Q : List ℕ) {a : ℕ} {p : List (List ℕ)} {n : ℕ} {l : List Entry} {d : Dependencies} (agents-are : a ≡ agentsIn P)
+    (places-are : p ≡ placesIn P) (rows-are : n ≡ rowsIn B) (entries-are : l ≡ entriesIn B)
+    (dependencies-are : d ≡ dependenciesIn Q) where
   answer-same : (room : ℕ) → writeAnswer version a p n l d room ≡ partsAnswer version P B Q room
   unfolding partsAnswer
-  answer-same room = rw (← ea, ← ep, ← en, ← el, ← ed) refl
+  answer-same room = rw (← agents-are, ← places-are, ← rows-are, ← entries-are, ← dependencies-are) refl
 
   table-same : encode version a p n l d ≡ partsTable version P B Q
   unfolding partsTable
-  table-same = rw (← ea, ← ep, ← en, ← el, ← ed) refl
+  table-same = rw (← agents-are, ← places-are, ← rows-are, ← entries-are, ← dependencies-are) refl
 
   pub parts-out : (out u : List ℕ) (r : WriteAnswer) (room : ℕ)
       → (r ≡ writeAnswer version a p n l d room) × (u ≡ bufferAfter (writeAnswer version a p n l d room) (encode version a p n l d) out)

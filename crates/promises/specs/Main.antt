@@ -34,7 +34,8 @@ use Rattle.model.specs.Fill as Fill
 use Rattle.model.specs.Reason.{Judged, Derived, caseIn, reached, stands, stepHolds, twoMoments, judge, acceptAnswer, derive, deriveAnswer, chainAfter}
 use Rattle.model.specs.Reason as Derivation
 use Rattle.model.specs.Report.{report}
-use Rattle.model.specs.Words.{HappensBefore, Unordered, Races, FirstRace, Cyclic, Overwritten, FirstOverwrite, Consistent, WellFormed, ConsistentBytes, blankAt, Filling}
+use Rattle.model.specs.Words.{HappensBefore, Unordered, Races, FirstRace, Cyclic, Overwritten, FirstOverwrite, Consistent}
+use Rattle.model.specs.Words.{WellFormed, ConsistentBytes, blankAt, Filling}
 use Rattle.laws.specs.ChainLaws.{ordered-more}
 use Rattle.promises.specs as beside
 use Rattle.promises.specs.Answers

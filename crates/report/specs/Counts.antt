@@ -107,27 +107,28 @@ share-some n d h k f = rw (ne-eqb d 0 f) (ap Of (divided n d h k (positive d f))
     positive (suc m) g = omega arith
 
 -- the four counts of the table's n rows, and the share
-module _ (t : Table) (n c m o r : ℕ) (s : Share) (all : n ≡ t .rows) (cs : c ≡ countPairs n (counts Conflicting t)) (ms : m ≡ countPairs n (counts Mutuals t))
-    (os : o ≡ countPairs n (counts Ordered t)) (rs : r ≡ countPairs n (counts Racing t)) (h : s ≡ shareOf r c) where
+module _ (t : Table) (n c m o r : ℕ) (s : Share) (all : n ≡ t .rows) (conflicting-counted : c ≡ countPairs n (counts Conflicting t))
+    (mutuals-counted : m ≡ countPairs n (counts Mutuals t)) (ordered-counted : o ≡ countPairs n (counts Ordered t))
+    (racing-counted : r ≡ countPairs n (counts Racing t)) (share-is : s ≡ shareOf r c) where
   conflicting-is : c ≡ conflicting t
   unfolding conflicting counts
-  conflicting-is = cs ∙ rw all refl
+  conflicting-is = conflicting-counted ∙ rw all refl
 
   mutuals-is : m ≡ mutuals t
   unfolding mutuals counts
-  mutuals-is = ms ∙ rw all refl
+  mutuals-is = mutuals-counted ∙ rw all refl
 
   ordered-is : o ≡ ordered t
   unfolding ordered counts
-  ordered-is = os ∙ rw all refl
+  ordered-is = ordered-counted ∙ rw all refl
 
   racing-is : r ≡ racing t
   unfolding racing counts
-  racing-is = rs ∙ rw all refl
+  racing-is = racing-counted ∙ rw all refl
 
   shared : withShare s t ≡ counted t
   unfolding counted
-  shared = rw (← racing-is, ← conflicting-is, h) refl
+  shared = rw (← racing-is, ← conflicting-is, share-is) refl
 
   pub counted-none : s ≡ NoPairs → told.NoPairs ≡ counted t
   unfolding withShare
@@ -142,4 +143,5 @@ module _ (t : Table) (n c m o r : ℕ) (s : Share) (all : n ≡ t .rows) (cs : c
 pub ordered-told : (t : Table) (x y k b : ℕ) (r q : Row) (d e f : Bool) → r ≡ t .row x → q ≡ t .row y → b ≡ r .start + k → d ≡ common r q b
     → e ≡ before t x y b → f ≡ before t y x b → (not d or e or f) ≡ orderedNth t x y k
 unfolding orderedNth orderedAt
-ordered-told t x y k b r q d e f er eq eb ed ee ef = rw (ed, ee, ef, eb, er, eq) refl
+ordered-told t x y k b r q d e f first-is second-is byte-is common-is before-is after-is =
+    rw (common-is, before-is, after-is, byte-is, first-is, second-is) refl

@@ -173,21 +173,21 @@ shown-buffer rows edges c d e f room few same cleared written numbered =
 -- ---- laws: the calls that show a cycle, one after the other
 
 -- w is the area before the layers are made, u after; n rows, the cycle's lowest row is x, and it is in layer j + 1 again
-module _ (t : Table) (source : ℕ → ℕ) (n x j : ℕ) (w u : List ℕ) (all : n ≡ t .rows) (few : n ≤ ROWS) (h : Holds EDGE GRID n (edge t source) w)
-    (filled : Layers EDGE LAYERS GRID n x u × Within LAYERS (LAYERS + n * GRID + GRID) w u) (q : x ≡ cycleRow t source) (l : x < n)
-    (e : j ≡ least n (inLayer u LAYERS GRID x)) where
+module _ (t : Table) (source : ℕ → ℕ) (n x j : ℕ) (w u : List ℕ) (all : n ≡ t .rows) (few : n ≤ ROWS) (holds : Holds EDGE GRID n (edge t source) w)
+    (filled : Layers EDGE LAYERS GRID n x u × Within LAYERS (LAYERS + n * GRID + GRID) w u) (row-is : x ≡ cycleRow t source) (below-x : x < n)
+    (layer-is : j ≡ least n (inLayer u LAYERS GRID x)) where
   held : Holds EDGE GRID n (edge t source) u
-  held = holds-kept (λ l. absurd (omega arith)) (filled .1) h
+  held = holds-kept (λ l. absurd (omega arith)) (filled .1) holds
 
   start : x ≡ cycleStart n (edge t source)
   unfolding cycleRow
-  start = rw all q
+  start = rw all row-is
 
   sized : j + 1 ≡ cycleSize n (rel u EDGE GRID) x
-  sized = layer-size (filled .0) l e
+  sized = layer-size (filled .0) below-x layer-is
 
   pub size-asked : (j + 1 ≤ n) × (walk n (rel u EDGE GRID) x (j + 1) x ≡ true)
-  size-asked = held-walk held start l sized
+  size-asked = held-walk held start below-x sized
 
   rows-are : cycle n (edge t source) ≡ cycleRows t source
   unfolding cycleRows
@@ -204,7 +204,7 @@ module _ (t : Table) (source : ℕ → ℕ) (n x j : ℕ) (w u : List ℕ) (all 
     rows-below i m =
         let k : i < length (cycleRows t source) = subst (λ (v : ℕ). i < v) size-is m in
         rw (rows-written .front i k) (subst (λ (r : List ℕ). getD r i 0 < n) rows-are
-        (shown-below n (edge t source) (subst (λ (v : ℕ). v < n) start l) i (subst (λ (r : List ℕ). i < length r) (sym rows-are) k)))
+        (shown-below n (edge t source) (subst (λ (v : ℕ). v < n) start below-x) i (subst (λ (r : List ℕ). i < length r) (sym rows-are) k)))
 
     pub shown-is : (c g : List ℕ) → CYCLE ≤ length c → d ≡ zeros c 0 CYCLE → Numbered (stepNumber t source x (j + 1) f) (j + 1) f g
         → (j + 1 ≡ length (cycleRows t source)) × (g ≡ cycleAfter (cyclic (cycleRows t source) (cycleEdges t source)) c) × Within LAYERS LAYERS-END w u
@@ -217,7 +217,7 @@ module _ (t : Table) (source : ℕ → ℕ) (n x j : ℕ) (w u : List ℕ) (all 
         let a : Numbered (λ i. getD (along (edgeNumber t source) x (cycleRows t source)) i 0)
         (length (cycleRows t source)) f g = steps-along t source x (cycleRows t source) d f g rows-written m in (
           size-is,
-          subst (λ (y : ℕ). g ≡ cycleAfter (cyclic (cycleRows t source) (along (edgeNumber t source) y (cycleRows t source))) c) q
+          subst (λ (y : ℕ). g ≡ cycleAfter (cyclic (cycleRows t source) (along (edgeNumber t source) y (cycleRows t source))) c) row-is
               (shown-buffer (cycleRows t source) (along (edgeNumber t source) x (cycleRows t source)) c d f g room (omega arith)
               (length-along (edgeNumber t source) x (cycleRows t source)) cleared rows-written a),
           within-widen LAYERS LAYERS-END (omega arith) (omega arith) (filled .1),

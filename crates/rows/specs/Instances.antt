@@ -34,7 +34,7 @@ instance-first b s j x v ex l e h = sym (and-false-right _ _ (ne-eqb s _ (λ q. 
 pub instance-here : (b : List ℕ) (s j x y k : ℕ) → x ≡ byteOf b j 9 → x ≡ s % 256 → y ≡ byteOf b j 8 → y ≡ s / 256 → k ≡ rowOf b j .kind
     → eqb k CONTROL ≡ ofInstance s (rowOf b j)
 unfolding ofInstance control
-instance-here b s j x y k ex lx ey ly ek =
+instance-here b s j x y k low-is low-alike high-is high-alike kind-is =
     let z = start-is b j in
-    let q : s ≡ rowOf b j .start = omega (arith, ex, lx, ey, ly, z) in
-    ap (λ (m : ℕ). eqb m CONTROL) ek ∙ sym (and-on-right _ _ (eq-eqb s _ q))
+    let q : s ≡ rowOf b j .start = omega (arith, low-is, low-alike, high-is, high-alike, z) in
+    ap (λ (m : ℕ). eqb m CONTROL) kind-is ∙ sym (and-on-right _ _ (eq-eqb s _ q))

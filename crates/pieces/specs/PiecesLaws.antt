@@ -24,6 +24,7 @@ use Rattle.table.specs.Rows.{shapeFault, hostsFaultIn, rowsAdmission}
 use Rattle.table.proofs.Laws.{hosts-is, shape-passed, header-refused, header-passed}
 use Rattle.pieces.specs.Pieces.{AREA, areaOf, rowsBoth, piecesFault, headerOf, placeBytes, joined, ofBoth, admissionBoth, earlyFault, rowPart}
 use Rattle.pieces.specs.Pieces.{rowPlace, partAt}
+use Rattle.pieces.specs.declared.RowPlace.{RowPlace}
 use Rattle.pieces.specs.declared.RowPlace.the-variants as place
 
 -- ---- a first piece that is not refused for 1 to 4
@@ -564,6 +565,10 @@ part-at f s n = go (eqb (earlyFault f s) 0) (ltb n (rowsAt f)) (ltb n (rowsBoth 
     go true false false = refl
     go false b c = refl
 
+pub place-nothing : (f s : List ℕ) (w : RowPlace) → w ≡ place.Neither → partAt f s w ≡ []
+unfolding partAt
+place-nothing f s w e = ap (partAt f s) e
+
 module _ (f s : List ℕ) (n h : ℕ) (e : h ≡ earlyFault f s) where
   pub place-refused : (h ≡ 0 → ⊥) → place.Neither ≡ rowPlace f s n
   unfolding rowPlace
@@ -585,6 +590,48 @@ module _ (f s : List ℕ) (n h : ℕ) (e : h ≡ earlyFault f s) where
       pub place-past : b ≤ n → place.Neither ≡ rowPlace f s n
       unfolding rowPlace
       place-past l = rw (← e, z, ← q, ← w, le-ltb n r k, le-ltb n b l) refl
+
+-- a part that isn't empty is held; an empty one is nowhere
+module _ (f s : List ℕ) (n : ℕ) (x : List ℕ) (is : x ≡ rowPart f s n) where
+  empty-length : x ≡ [] → length x ≡ 0
+  empty-length e = ap length e
+
+  pub held-passed : (length x ≡ 0 → ⊥) → earlyFault f s ≡ 0
+  held-passed d = go (ℕ-discrete (earlyFault f s) 0)
+    where
+      go : Dec (earlyFault f s ≡ 0) → earlyFault f s ≡ 0
+      go (yes z) = z
+      go (no r) = absurd (d (empty-length (is ∙ part-refused f s n (earlyFault f s) refl r)))
+
+  pub held-below : (length x ≡ 0 → ⊥) → n < rowsBoth f s
+  held-below d = go (decLt n (rowsBoth f s))
+    where
+      go : Dec (n < rowsBoth f s) → n < rowsBoth f s
+      go (yes l) = l
+      go (no h) = absurd (d (empty-length (is ∙ part-none f s n (omega arith))))
+
+  held-length : earlyFault f s ≡ 0 → n < rowsBoth f s → length x ≡ ROW-BYTES
+  held-length z l = go (decLt n (rowsAt f))
+    where
+      long : (a : ℕ) (y : List ℕ) → a + ROW-BYTES ≤ length y → length (take ROW-BYTES (drop a y)) ≡ ROW-BYTES
+      long a y h = length-take-le ROW-BYTES (drop a y) (rw (length-drop a y) (omega arith))
+
+      go : Dec (n < rowsAt f) → length x ≡ ROW-BYTES
+      go (yes h) =
+          ap length (is ∙ part-first f s n 0 (sym z) refl (rowsAt f) refl h)
+          ∙ long (rowsBegin f + ROW-BYTES * n) f (first-end f s n 0 (rowsAt f) (rowsBegin f) (sym z) refl refl h refl)
+      go (no h) =
+          let k : rowsAt f ≤ n = omega arith in
+          ap length (is ∙ part-second f s n 0 (sym z) refl (rowsAt f) refl (rowsBoth f s) refl k l)
+          ∙ long (ROW-BYTES * (n - rowsAt f)) s (second-end f s n (rowsAt f) (rowsBoth f s) refl k refl l)
+
+  pub place-empty : length x ≡ 0 → place.Neither ≡ rowPlace f s n
+  place-empty e = go (ℕ-discrete (earlyFault f s) 0) (decLt n (rowsBoth f s))
+    where
+      go : Dec (earlyFault f s ≡ 0) → Dec (n < rowsBoth f s) → place.Neither ≡ rowPlace f s n
+      go (yes z) (yes l) = absurd (let q = held-length z l in omega arith)
+      go (yes z) (no h) = place-past f s n 0 (sym z) refl (rowsAt f) refl (rowsBoth f s) refl (let k = rows-less f s in omega arith) (omega arith)
+      go (no d) b = place-refused f s n (earlyFault f s) refl d
 
 -- ---- the rows of both, copied
 

@@ -1,13 +1,13 @@
 -- What is promised of a table in two pieces, in the words of docs/RULES.md: a page to read beside Pieces.antt. Assumes nothing.
-use mathlib.Core.Path.{_≡_, refl, sym}
+use mathlib.Core.Path.{_≡_, refl, sym, _∙_}
 use mathlib.Core.Bool.{Bool, true, false, cond}
 use mathlib.Core.List.{List, [], _++_}
-use Prim.Native.Nat.{ℕ, _+_, _*_, _/_, _%_, _≤_, _<_}
+use Prim.Native.Nat.{ℕ, _+_, _-_, _*_, _/_, _%_, _≤_, _<_}
 use lib.ListN.{length, take, drop}
 use borrow.Author.Tests.{ne-eqb, le-leb, lt-leb}
 use Rattle.model.specs.declared.Reason.{Reason}
 use Rattle.model.specs.Limits.{ROWS, CYCLE, SOURCES, CHAIN}
-use Rattle.model.specs.Table.{ROW-BYTES, versionAt, agentsAt, rowsAt, placesOf, rowBytes, dependencyBytes}
+use Rattle.model.specs.Table.{ROW-BYTES, versionAt, agentsAt, rowsAt, rowsBegin, placesOf, rowBytes, dependencyBytes}
 use Rattle.model.specs.Refusal.{buffersFit}
 use Rattle.model.specs.Check.{check}
 use Rattle.model.specs.Fill.{fill}
@@ -15,8 +15,11 @@ use Rattle.model.specs.Report.{report}
 use Rattle.model.specs.Reason.{derive, judge}
 use Rattle.table.specs.Rows.{shapeFault}
 use Rattle.pieces.specs.Pieces.{rowsBoth, piecesFault, joined, ofBoth, checkBoth, fillBoth, reportBoth, deriveBoth, judgeBoth, earlyFault, rowPart}
+use Rattle.pieces.specs.Pieces.{rowPlace, partAt}
+use Rattle.pieces.specs.declared.RowPlace.the-variants as place
 use Rattle.pieces.specs.PiecesLaws.{joined-version, joined-agents, joined-rows, joined-places, joined-bytes, joined-dependencies, joined-length}
-use Rattle.pieces.specs.PiecesLaws.{joined-shape, of-joined, part-joined, part-none, part-refused}
+use Rattle.pieces.specs.PiecesLaws.{joined-shape, of-joined, part-joined, part-none, part-refused, part-at, place-first, place-second}
+use Rattle.pieces.specs.PiecesLaws.{place-nothing}
 use Rattle.pieces.specs.Answers.{check-short, fill-short, report-short, derive-short, none-check, none-fill, none-report, none-derive, none-judge}
 
 -- ---- the refusals of a pair, in their order: 1 to 4 of the first piece, then 40, then 3
@@ -128,7 +131,20 @@ pub record Part (f s : List ℕ) (n : ℕ) : Type 0 where
   pub past : rowsBoth f s ≤ n → rowPart f s n ≡ []
   -- pairs refused before 5 hold no rows
   pub refused : (earlyFault f s ≡ 0 → ⊥) → rowPart f s n ≡ []
+  -- the place that C is told is that part's: a row in the first piece, one in the second, or nowhere
+  pub at : rowPart f s n ≡ partAt f s (rowPlace f s n)
+  pub first : earlyFault f s ≡ 0 → n < rowsAt f → rowPlace f s n ≡ place.First (rowsBegin f + ROW-BYTES * n)
+  pub second : earlyFault f s ≡ 0 → rowsAt f ≤ n → n < rowsBoth f s → rowPlace f s n ≡ place.Second (ROW-BYTES * (n - rowsAt f))
+  pub nowhere : rowPlace f s n ≡ place.Neither → rowPart f s n ≡ []
 
 pub part-is : (f s : List ℕ) (n : ℕ) → Part f s n
 part-is f s n =
-    record { held = λ z l. part-joined f s n z l; past = λ l. part-none f s n l; refused = λ d. part-refused f s n (earlyFault f s) refl d }
+    record {
+      held = λ z l. part-joined f s n z l;
+      past = λ l. part-none f s n l;
+      refused = λ d. part-refused f s n (earlyFault f s) refl d;
+      at = part-at f s n;
+      first = λ z l. sym (place-first f s n 0 (sym z) refl (rowsAt f) refl (rowsBegin f) refl l);
+      second = λ z k l. sym (place-second f s n 0 (sym z) refl (rowsAt f) refl (rowsBoth f s) refl k l);
+      nowhere = λ e. part-at f s n ∙ place-nothing f s (rowPlace f s n) e;
+    }

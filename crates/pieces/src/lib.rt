@@ -113,10 +113,12 @@ pub enum RowPlace {
 }
 
 // The place of that part, for a caller that can be handed no part of a slice.
-pub fn row_place(first: &[u8], second: &[u8], n: u16) -> RowPlace
+// Ruled out: one that gives a place where the part is empty; one whose place in the second piece counts the first piece's rows.
+pub fn row_place<'a>(first: &'a [u8], second: &'a [u8], n: u16) -> RowPlace
     ensures { λ r. ⌜ r ≡ rowPlace (now (first .entry)) (now (second .entry)) n ⌝ }
 {
-    if early_fault(first, second) != 0 {
+    let part = row_part(first, second, n);
+    if part.len() == 0 {
         return RowPlace::Neither;
     }
     let i = n as usize;
@@ -125,11 +127,8 @@ pub fn row_place(first: &[u8], second: &[u8], n: u16) -> RowPlace
         let at = bytes::rows_begin(first) + bytes::ROW_BYTES * i;
         return RowPlace::First { at: at as u16 };
     }
-    if i < rows_both(first, second) {
-        let at = bytes::ROW_BYTES * (i - rows);
-        return RowPlace::Second { at: at as u16 };
-    }
-    RowPlace::Neither
+    let at = bytes::ROW_BYTES * (i - rows);
+    RowPlace::Second { at: at as u16 }
 }
 
 // ---- opening a table

@@ -98,9 +98,9 @@ fn fill_along(rows: &[u8], n: usize, dst: usize, src: usize, w: &mut [u64])
 
 // M5: whether the control barrier c, which is r, and row d join. Most rows are of no instance, or of another, and no place is asked of
 // them.
-fn joins_of(rows: &[u8], p: &[[u16; 4]], n: usize, c: usize, r: Row, d: usize) -> bool
+fn joins_of(rows: &[u8], p: Places, n: usize, c: usize, r: Row, d: usize) -> bool
     requires { ⌜ (d < ROWS) × (r ≡ rowOf (now rows) c) × (r .kind ≡ CONTROL) ⌝ }
-    ensures { λ b. ⌜ b ≡ joins (decode (now (rows .entry)) (now (p .entry)) OFF n) c d ⌝ }
+    ensures { λ b. ⌜ b ≡ joins (decode (now (rows .entry)) p OFF n) c d ⌝ }
 {
     if !scopes::is_of_instance(rows, r.start, d as u16) {
         return false;
@@ -108,12 +108,12 @@ fn joins_of(rows: &[u8], p: &[[u16; 4]], n: usize, c: usize, r: Row, d: usize) -
     if c == d {
         return false;
     }
-    scopes::shares_in(p, r.class, r.agent, bytes::read_agent(rows, d as u16))
+    scopes::shares_scope(p, r.class, r.agent, bytes::read_agent(rows, d as u16))
 }
 
-fn scan_row(rows: &[u8], p: &[[u16; 4]], n: usize, c: usize, r: Row, w: &mut [u64])
+fn scan_row(rows: &[u8], p: Places, n: usize, c: usize, r: Row, w: &mut [u64])
     requires { ⌜ (n ≤ ROWS) × (c < n) × (WORK ≤ length (now w)) × (r ≡ rowOf (now rows) c) × (r .kind ≡ CONTROL) ⌝ }
-    ensures { λ _. ⌜ now (w .exit) ≡ rowFill (joins (decode (now (rows .entry)) (now (p .entry)) OFF n) c) (now (w .entry)) (JOINS * 64 + c * (GRID * 64)) n ⌝ }
+    ensures { λ _. ⌜ now (w .exit) ≡ rowFill (joins (decode (now (rows .entry)) p OFF n) c) (now (w .entry)) (JOINS * 64 + c * (GRID * 64)) n ⌝ }
 {
     for d in 0..n {
         let b = joins_of(rows, p, n, c, r, d);
@@ -122,9 +122,9 @@ fn scan_row(rows: &[u8], p: &[[u16; 4]], n: usize, c: usize, r: Row, w: &mut [u6
 }
 
 // Whether row e joins what row c, which is the control barrier r, joins: it is of its instance, has its execution scope, and shares it.
-fn is_like(rows: &[u8], p: &[[u16; 4]], c: usize, r: Row, e: usize) -> bool
+fn is_like(rows: &[u8], p: Places, c: usize, r: Row, e: usize) -> bool
     requires { ⌜ (e < ROWS) × (r ≡ rowOf (now rows) c) ⌝ }
-    ensures { λ b. ⌜ b ≡ likeAt (now (rows .entry)) (now (p .entry)) c e ⌝ }
+    ensures { λ b. ⌜ b ≡ likeAt (now (rows .entry)) p c e ⌝ }
 {
     if !scopes::is_of_instance(rows, r.start, e as u16) {
         return false;
@@ -132,13 +132,13 @@ fn is_like(rows: &[u8], p: &[[u16; 4]], c: usize, r: Row, e: usize) -> bool
     if bytes::row_byte(rows, e as u16, 6) != r.class {
         return false;
     }
-    scopes::shares_in(p, r.class, r.agent, bytes::read_agent(rows, e as u16))
+    scopes::shares_scope(p, r.class, r.agent, bytes::read_agent(rows, e as u16))
 }
 
 // The last row before c that is; c where none is.
-fn like_of(rows: &[u8], p: &[[u16; 4]], c: usize, r: Row) -> usize
+fn like_of(rows: &[u8], p: Places, c: usize, r: Row) -> usize
     requires { ⌜ (c < ROWS) × (r ≡ rowOf (now rows) c) ⌝ }
-    ensures { λ e. ⌜ (e ≤ c) × (e < c → likeAt (now (rows .entry)) (now (p .entry)) c e ≡ true) ⌝ }
+    ensures { λ e. ⌜ (e ≤ c) × (e < c → likeAt (now (rows .entry)) p c e ≡ true) ⌝ }
 {
     let mut e = c;
     while 0 < e {
@@ -151,9 +151,9 @@ fn like_of(rows: &[u8], p: &[[u16; 4]], c: usize, r: Row) -> usize
 }
 
 // M5 for row c and every row. One that is like an earlier row joins that row, and what it joins.
-fn joins_row(rows: &[u8], p: &[[u16; 4]], n: usize, c: usize, w: &mut [u64])
-    requires { ⌜ (n ≤ ROWS) × (c < n) × (WORK ≤ length (now w)) × RowsOf JOINS n c (joins (decode (now rows) (now p) OFF n)) (now w) ⌝ }
-    ensures { λ _. ⌜ RowOf JOINS n c (joins (decode (now (rows .entry)) (now (p .entry)) OFF n) c) (now (w .entry)) (now (w .exit)) ⌝ }
+fn joins_row(rows: &[u8], p: Places, n: usize, c: usize, w: &mut [u64])
+    requires { ⌜ (n ≤ ROWS) × (c < n) × (WORK ≤ length (now w)) × RowsOf JOINS n c (joins (decode (now rows) p OFF n)) (now w) ⌝ }
+    ensures { λ _. ⌜ RowOf JOINS n c (joins (decode (now (rows .entry)) p OFF n) c) (now (w .entry)) (now (w .exit)) ⌝ }
 {
     let r = bytes::read_row(rows, c as u16);
     if r.kind != kinds::CONTROL {
@@ -169,9 +169,9 @@ fn joins_row(rows: &[u8], p: &[[u16; 4]], n: usize, c: usize, w: &mut [u64])
     words::drop_bit(w, area::grid::at(JOINS, c) * 64 + c);
 }
 
-fn fill_joins(rows: &[u8], p: &[[u16; 4]], n: usize, w: &mut [u64])
+fn fill_joins(rows: &[u8], p: Places, n: usize, w: &mut [u64])
     requires { ⌜ (n ≤ ROWS) × (WORK ≤ length (now w)) ⌝ }
-    ensures { λ _. ⌜ Made JOINS MEETS JOINS GRID n (joins (decode (now (rows .entry)) (now (p .entry)) OFF n)) (now (w .entry)) (now (w .exit)) ⌝ }
+    ensures { λ _. ⌜ Made JOINS MEETS JOINS GRID n (joins (decode (now (rows .entry)) p OFF n)) (now (w .entry)) (now (w .exit)) ⌝ }
 {
     bits::clear(w, JOINS, MEETS);
     for c in 0..n {
@@ -205,7 +205,7 @@ pub fn fill_passed(rows: &[u8], p: Places, mode: Mode, n: usize, w: &mut [u64])
     }
     fill_alone(rows, n, w);
     fill_along(rows, n, UP_TO, ALONE, w);
-    fill_joins(rows, &p, n, w);
+    fill_joins(rows, p, n, w);
     product::multiply(w, MEETS, JOINS, UP_TO, n);
     fill_along(rows, n, PASSED, MEETS, w);
 }

@@ -89,9 +89,9 @@ fn level_of(rows: &[u8], n: usize) -> u16
 
 // Whether row e is known to share scopes with the acquires that row a, which is r, shares them with: it has its scope, and its agent, or
 // shares the one scope that there is.
-fn is_peer(rows: &[u8], p: &[[u16; 4]], n: usize, level: u16, a: usize, r: Row, e: usize) -> bool
+fn is_peer(rows: &[u8], p: Places, n: usize, level: u16, a: usize, r: Row, e: usize) -> bool
     requires { ⌜ (e < ROWS) × (r ≡ rowOf (now rows) a) × Level (now rows) n level ⌝ }
-    ensures { λ b. ⌜ (b ≡ true → Peer (now (rows .entry)) (now (p .entry)) n a e) ⌝ }
+    ensures { λ b. ⌜ (b ≡ true → Peer (now (rows .entry)) p n a e) ⌝ }
 {
     if bytes::row_byte(rows, e as u16, 3) != r.scope {
         return false;
@@ -103,13 +103,13 @@ fn is_peer(rows: &[u8], p: &[[u16; 4]], n: usize, level: u16, a: usize, r: Row, 
     if level != (r.scope as u16) {
         return false;
     }
-    scopes::shares_in(p, r.scope, r.agent, g)
+    scopes::shares_scope(p, r.scope, r.agent, g)
 }
 
 // The first such row, which may be row a itself.
-fn peer_of(rows: &[u8], p: &[[u16; 4]], n: usize, level: u16, a: usize, r: Row) -> usize
+fn peer_of(rows: &[u8], p: Places, n: usize, level: u16, a: usize, r: Row) -> usize
     requires { ⌜ (a < ROWS) × (r ≡ rowOf (now rows) a) × Level (now rows) n level ⌝ }
-    ensures { λ e. ⌜ (e ≤ a) × Peer (now (rows .entry)) (now (p .entry)) n a e ⌝ }
+    ensures { λ e. ⌜ (e ≤ a) × Peer (now (rows .entry)) p n a e ⌝ }
 {
     for e in 0..a {
         if is_peer(rows, p, n, level, a, r, e) {
@@ -121,28 +121,19 @@ fn peer_of(rows: &[u8], p: &[[u16; 4]], n: usize, level: u16, a: usize, r: Row) 
 
 // ---- the acquires that a row shares scopes with, as they are asked for
 
-fn near_of(rows: &[u8], p: &[[u16; 4]], a: usize, r: Row, b: usize) -> bool
+fn near_of(rows: &[u8], p: Places, a: usize, r: Row, b: usize) -> bool
     requires { ⌜ (b < ROWS) × (r ≡ rowOf (now rows) a) ⌝ }
-    ensures { λ d. ⌜ d ≡ near (now (rows .entry)) (now (p .entry)) a b ⌝ }
+    ensures { λ d. ⌜ d ≡ near (now (rows .entry)) p a b ⌝ }
 {
     let q = bytes::read_row(rows, b as u16);
-    kinds::acquires(q) & scopes::together_in(p, r, q)
+    kinds::acquires(q) & scopes::together(p, r, q)
 }
 
 // Notes for row e, a peer of row a, which is r, whether row b is such an acquire.
-fn learn_one(
-    rows: &[u8],
-    p: &[[u16; 4]],
-    n: usize,
-    a: usize,
-    r: Row,
-    e: usize,
-    b: usize,
-    w: &mut [u64],
-)
+fn learn_one(rows: &[u8], p: Places, n: usize, a: usize, r: Row, e: usize, b: usize, w: &mut [u64])
     requires { ⌜ (n ≤ ROWS) × (e < n) × (b < n) × (WORK ≤ length (now w)) × (r ≡ rowOf (now rows) a)
-        × Peer (now rows) (now p) n a e × Learnt (now rows) (now p) n (now w) ⌝ }
-    ensures { λ _. ⌜ LearntOne (now (rows .entry)) (now (p .entry)) n e b (now (w .entry)) (now (w .exit)) ⌝ }
+        × Peer (now rows) p n a e × Learnt (now rows) p n (now w) ⌝ }
+    ensures { λ _. ⌜ LearntOne (now (rows .entry)) p n e b (now (w .entry)) (now (w .exit)) ⌝ }
 {
     let d = near_of(rows, p, a, r, b);
     area::grid::put_if(w, GOOD, e, b, d);
@@ -150,10 +141,10 @@ fn learn_one(
 }
 
 // The same of all rows that row a is linked to, or passes to, and that are not known yet.
-fn learn_row(rows: &[u8], p: &[[u16; 4]], n: usize, a: usize, r: Row, e: usize, w: &mut [u64])
+fn learn_row(rows: &[u8], p: Places, n: usize, a: usize, r: Row, e: usize, w: &mut [u64])
     requires { ⌜ (n ≤ ROWS) × (a < n) × (e < n) × (WORK ≤ length (now w)) × (r ≡ rowOf (now rows) a)
-        × Peer (now rows) (now p) n a e × Learnt (now rows) (now p) n (now w) ⌝ }
-    ensures { λ _. ⌜ LearntRow (now (rows .entry)) (now (p .entry)) n a e (now (w .entry)) (now (w .exit)) ⌝ }
+        × Peer (now rows) p n a e × Learnt (now rows) p n (now w) ⌝ }
+    ensures { λ _. ⌜ LearntRow (now (rows .entry)) p n a e (now (w .entry)) (now (w .exit)) ⌝ }
 {
     let links = area::grid::at(links::LINKS, a);
     let passed = area::grid::at(meets::PASSED, a);
@@ -185,7 +176,7 @@ fn draw_row(w: &mut [u64], a: usize, e: usize)
 // M5 for the release a, which is r and linked to some row, or passes to one.
 fn sync_release(
     rows: &[u8],
-    p: &[[u16; 4]],
+    p: Places,
     mode: Mode,
     n: usize,
     level: u16,
@@ -194,8 +185,8 @@ fn sync_release(
     w: &mut [u64],
 )
     requires { ⌜ (n ≤ ROWS) × (a < n) × (WORK ≤ length (now w)) × (r ≡ rowOf (now rows) a) × (releases r ≡ true) × Level (now rows) n level
-        × Turn (now rows) (now p) mode n a (now w) ⌝ }
-    ensures { λ _. ⌜ Turn (now (rows .entry)) (now (p .entry)) mode n (a + 1) (now (w .exit)) × Within SYNC UNKNOWN-END (now (w .entry)) (now (w .exit)) ⌝ }
+        × Turn (now rows) p mode n a (now w) ⌝ }
+    ensures { λ _. ⌜ Turn (now (rows .entry)) p mode n (a + 1) (now (w .exit)) × Within SYNC UNKNOWN-END (now (w .entry)) (now (w .exit)) ⌝ }
 {
     let e = peer_of(rows, p, n, level, a, r);
     learn_row(rows, p, n, a, r, e, w);
@@ -203,9 +194,9 @@ fn sync_release(
 }
 
 // M5 for row a and every row. Few rows release, and are linked, or pass to others.
-fn sync_row(rows: &[u8], p: &[[u16; 4]], mode: Mode, n: usize, level: u16, a: usize, w: &mut [u64])
-    requires { ⌜ (n ≤ ROWS) × (a < n) × (WORK ≤ length (now w)) × Level (now rows) n level × Turn (now rows) (now p) mode n a (now w) ⌝ }
-    ensures { λ _. ⌜ Turn (now (rows .entry)) (now (p .entry)) mode n (a + 1) (now (w .exit)) × Within SYNC UNKNOWN-END (now (w .entry)) (now (w .exit)) ⌝ }
+fn sync_row(rows: &[u8], p: Places, mode: Mode, n: usize, level: u16, a: usize, w: &mut [u64])
+    requires { ⌜ (n ≤ ROWS) × (a < n) × (WORK ≤ length (now w)) × Level (now rows) n level × Turn (now rows) p mode n a (now w) ⌝ }
+    ensures { λ _. ⌜ Turn (now (rows .entry)) p mode n (a + 1) (now (w .exit)) × Within SYNC UNKNOWN-END (now (w .entry)) (now (w .exit)) ⌝ }
 {
     if !links::releases_at(rows, a) {
         return;
@@ -228,7 +219,7 @@ pub fn fill_sync(rows: &[u8], p: Places, mode: Mode, n: usize, w: &mut [u64])
     bits::clear(w, COVER, GOOD_END);
     let level = level_of(rows, n);
     for a in 0..n {
-        sync_row(rows, &p, mode, n, level, a, w);
+        sync_row(rows, p, mode, n, level, a, w);
     }
 }
 

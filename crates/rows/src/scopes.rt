@@ -135,7 +135,7 @@ pub fn is_host(p: Places, a: u8) -> bool
     agent_kind(p, a) == HOST
 }
 
-// The place of agent a, zeros for an agent that there is no slot for. Places are lent, since all of them by value would be copied.
+// The place of agent a, zeros for an agent that there is no slot for.
 pub fn place_in(p: &[[u16; 4]], a: u8) -> [u16; 4]
     ensures { λ x. ⌜ IsPlace (now (p .entry)) a x ⌝ }
 {
@@ -143,10 +143,14 @@ pub fn place_in(p: &[[u16; 4]], a: u8) -> [u16; 4]
     if i < p.len() { p[i] } else { [0; 4] }
 }
 
-// Whether two agents, whose places are x and y, share the scope: it asks no number that the scope doesn't go by.
-fn shares_at(scope: u8, a: u8, b: u8, x: [u16; 4], y: [u16; 4]) -> bool
-    ensures { λ r. ⌜ ((p : List (List ℕ)) → IsPlace p a x → IsPlace p b y → r ≡ shares p scope a b) ⌝ }
+// Whether two agents share the scope, by their places among all: scopes hold between shader agents only. It asks no number that the scope
+// doesn't go by.
+// Ruled out: one that takes queues for shader agents; one that compares workgroups of two families.
+pub fn shares_scope(p: Places, scope: u8, a: u8, b: u8) -> bool
+    ensures { λ r. ⌜ r ≡ shares p scope a b ⌝ }
 {
+    let x = place_in(&p, a);
+    let y = place_in(&p, b);
     if (y[3] != SHADER) | (x[3] != SHADER) {
         return false;
     }
@@ -168,41 +172,11 @@ fn shares_at(scope: u8, a: u8, b: u8, x: [u16; 4], y: [u16; 4]) -> bool
     (scope == WORKGROUP) | (scope == SUBGROUP) & (x[2] == y[2])
 }
 
-// The same of an agent whose place was taken out and another.
-pub fn shares_from(p: &[[u16; 4]], scope: u8, a: u8, x: [u16; 4], b: u8) -> bool
-    requires { ⌜ IsPlace (now p) a x ⌝ }
-    ensures { λ r. ⌜ r ≡ shares (now (p .entry)) scope a b ⌝ }
-{
-    shares_at(scope, a, b, x, place_in(p, b))
-}
-
-// Whether two agents share the scope: scopes hold between shader agents only.
-pub fn shares_in(p: &[[u16; 4]], scope: u8, a: u8, b: u8) -> bool
-    ensures { λ r. ⌜ r ≡ shares (now (p .entry)) scope a b ⌝ }
-{
-    shares_at(scope, a, b, place_in(p, a), place_in(p, b))
-}
-
 // Whether the agents of two rows share both rows' scopes.
-pub fn together_in(p: &[[u16; 4]], r: Row, q: Row) -> bool
-    ensures { λ b. ⌜ b ≡ together (now (p .entry)) r q ⌝ }
-{
-    let x = place_in(p, r.agent);
-    let y = place_in(p, q.agent);
-    shares_at(r.scope, r.agent, q.agent, x, y) & shares_at(q.scope, r.agent, q.agent, x, y)
-}
-
-// The same of places by value.
-pub fn shares_scope(p: Places, scope: u8, a: u8, b: u8) -> bool
-    ensures { λ r. ⌜ r ≡ shares p scope a b ⌝ }
-{
-    shares_in(&p, scope, a, b)
-}
-
 pub fn together(p: Places, r: Row, q: Row) -> bool
     ensures { λ b. ⌜ b ≡ together p r q ⌝ }
 {
-    together_in(&p, r, q)
+    shares_scope(p, r.scope, r.agent, q.agent) & shares_scope(p, q.scope, r.agent, q.agent)
 }
 
 // ---- control barriers

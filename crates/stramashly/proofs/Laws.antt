@@ -6,14 +6,16 @@ use native.Mathlib.Omega.{arith}
 use lib.ListN.{length, take, drop}
 use lib.Seq.{paste, take-all}
 use borrow.Author.Tests.{le-leb, lt-leb}
+use lib.Ieee.{Float}
+use Rattle.model.specs.declared.ReportAnswer.{ReportAnswer}
 use Rattle.model.specs.declared.Row.{Row}
 use Rattle.model.specs.declared.Source.{Source}
 use Rattle.model.specs.Table.{ROW-BYTES}
 use Rattle.writer.specs.Encode.{rowList}
-use Rattle.stepping.specs.declared.Step.{Step}
-use Rattle.stepping.specs.declared.Step.the-variants as step
-use Rattle.stepping.specs.Steps.{stepAt, nextAt}
-use Rattle.stramashly.specs.Packed.{packed, packStep, stepPut, rowAnswer, rowAfter}
+use Rattle.stepping.specs.declared.Stepped.{Stepped}
+use Rattle.stepping.specs.declared.Stepped.the-variants as step
+use Rattle.stepping.specs.Steps.{steppedAt}
+use Rattle.stramashly.specs.Packed.{packed, packStep, stepPut, rowAnswer, rowAfter, shareAfter}
 
 -- a buffer whose front is replaced by a row's bytes
 nothing : (o : List ℕ) → take 0 o ≡ []
@@ -27,19 +29,21 @@ sixteen r n = refl
 front : (o b l : List ℕ) → b ≡ l → length l ≡ 16 → paste o 0 b 16 ≡ l ++ drop 16 o
 front o b l e n = rw e (ap (λ (x : List ℕ). x ++ take 16 l ++ drop (0 + 16) o) (nothing o) ∙ ap (λ (x : List ℕ). x ++ drop 16 o) (take-all 16 l (omega arith)))
 
+pub row-put : (x : Stepped) (o : List ℕ) (w : Row) (c : Source) (n : ℕ) (b u : List ℕ) → x ≡ step.Row w c n → b ≡ rowList w (c .0) → u ≡ paste o 0 b 16 → u ≡ stepPut x o
+unfolding stepPut
+row-put x o w c n b u row-is bytes-are pasted = rw row-is (pasted ∙ front o b (rowList w (c .0)) bytes-are (sixteen w (c .0)))
+
 module _ (s : List ℕ) (i : ℕ) (out : List ℕ) where
   -- a buffer that is too short
   pub row-short : (r : ℕ) → length out < ROW-BYTES → r ≡ packed 4 11 0 0 → (r ≡ rowAnswer s i (length out)) × (out ≡ rowAfter s i out)
   unfolding rowAnswer rowAfter
   row-short r h e = rw (lt-leb ROW-BYTES (length out) h) (e, refl)
 
-  module _ (h : ROW-BYTES ≤ length out) (next : ℕ) (n : next ≡ nextAt s i) (x : Step) (e : x ≡ stepAt s i) where
-    pub row-end : (r : ℕ) → x ≡ step.End → r ≡ packed 15 next 0 0 → (r ≡ rowAnswer s i (length out)) × (out ≡ rowAfter s i out)
-    unfolding rowAnswer rowAfter packStep stepPut
-    row-end r q p = rw (le-leb ROW-BYTES (length out) h, ← e, ← n, q) (p, refl)
+  pub row-stepped : ROW-BYTES ≤ length out → (x : Stepped) → x ≡ steppedAt s i → (r : ℕ) (u : List ℕ) → r ≡ packStep x → u ≡ stepPut x out
+      → (r ≡ rowAnswer s i (length out)) × (u ≡ rowAfter s i out)
+  unfolding rowAnswer rowAfter
+  row-stepped h x e r u p q = rw (le-leb ROW-BYTES (length out) h) (p ∙ ap packStep e, q ∙ ap (λ (z : Stepped). stepPut z out) e)
 
-    pub row-put : (r : ℕ) (w : Row) (c : Source) (b u : List ℕ) → x ≡ step.Row w c → b ≡ rowList w (c .0) → u ≡ paste out 0 b 16 → r ≡ packed 14 next 0 0
-        → (r ≡ rowAnswer s i (length out)) × (u ≡ rowAfter s i out)
-    unfolding rowAnswer rowAfter packStep stepPut
-    row-put r w c b u row-is bytes-are pasted answer-is =
-        rw (le-leb ROW-BYTES (length out) h, ← e, ← n, row-is) (answer-is, pasted ∙ front out b (rowList w (c .0)) bytes-are (sixteen w (c .0)))
+-- what is left of the number lent for the share, of an answer that is another by name
+pub share-told : {a b : ReportAnswer} (x : Float) {y : Float} → y ≡ shareAfter a x → a ≡ b → y ≡ shareAfter b x
+share-told x e q = e ∙ ap (λ (z : ReportAnswer). shareAfter z x) q

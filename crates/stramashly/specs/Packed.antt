@@ -4,7 +4,7 @@ use mathlib.Core.List.{List, _++_}
 use Prim.Native.Nat.{ℕ, _+_, _*_}
 use lib.Dec.{leb, eqb}
 use lib.ListN.{length, drop}
-use lib.Ieee.{Float, nan}
+use lib.Ieee.{Float}
 use Rattle.model.specs.declared.CheckAnswer.{CheckAnswer}
 use Rattle.model.specs.declared.CheckAnswer.the-variants
 use Rattle.model.specs.declared.FillAnswer.{FillAnswer}
@@ -17,8 +17,6 @@ use Rattle.model.specs.declared.AcceptAnswer.{AcceptAnswer}
 use Rattle.model.specs.declared.AcceptAnswer.the-variants as accept
 use Rattle.pieces.specs.declared.RowPlace.{RowPlace}
 use Rattle.pieces.specs.declared.RowPlace.the-variants as place
-use Rattle.model.specs.declared.Share.{Share}
-use Rattle.model.specs.declared.Share.the-variants as share
 use Rattle.model.specs.declared.Report.{Report}
 use Rattle.model.specs.declared.ReportAnswer.{ReportAnswer}
 use Rattle.model.specs.declared.ReportAnswer.the-variants as told
@@ -28,9 +26,9 @@ use Rattle.model.specs.Table.{ROW-BYTES}
 use Rattle.writer.specs.declared.WriteAnswer.{WriteAnswer}
 use Rattle.writer.specs.declared.WriteAnswer.the-variants as written
 use Rattle.writer.specs.Encode.{rowList}
-use Rattle.stepping.specs.declared.Step.{Step}
-use Rattle.stepping.specs.declared.Step.the-variants as step
-use Rattle.stepping.specs.Steps.{stepAt, nextAt}
+use Rattle.stepping.specs.declared.Stepped.{Stepped}
+use Rattle.stepping.specs.declared.Stepped.the-variants as step
+use Rattle.stepping.specs.Steps.{steppedAt}
 
 unfoldable pub packed : ℕ → ℕ → ℕ → ℕ → ℕ
 packed code a b c = code * 281474976710656 + a * 4294967296 + b * 65536 + c
@@ -70,18 +68,21 @@ packAccept (accept.Refused n i) = packed 4 n i 0
 packAccept accept.Accepted = packed 10 0 0 0
 packAccept accept.NotAccepted = packed 11 0 0 0
 
--- the codes: 2, 3, 4 as a check's; 7 a report (a is the mutually-ordered pairs, b the ordered, c the racing; with no conflicting pair, none)
+-- the codes: 2, 3, 4 as a check's; 7 a report (a is the mutually-ordered pairs, b the ordered, c the racing), 18 no pair conflicts
 unfoldable pub packReport : ReportAnswer → ℕ
 packReport (told.Refused n i) = packed 4 n i 0
 packReport (told.Cycle l) = packed 3 l 0 0
 packReport (told.Overwritten y z b) = packed 2 y z b
-packReport told.NoPairs = packed 7 0 0 0
+packReport told.NoPairs = packed 18 0 0 0
 packReport (told.Report r) = packed 7 (r .mutuals) (r .ordered) (r .racing)
 
--- a share as C has it: not a number where there is none
-unfoldable pub floatOf : Share → Float
-floatOf (share.Of f) = f
-floatOf share.NoPairs = nan
+-- the number lent for the share, as the report leaves it: the report's own, where there is one
+unfoldable pub shareAfter : ReportAnswer → Float → Float
+shareAfter (told.Refused n i) x = x
+shareAfter (told.Cycle l) x = x
+shareAfter (told.Overwritten y z b) x = x
+shareAfter told.NoPairs x = x
+shareAfter (told.Report r) x = r .share
 
 -- a switch, where a caller can hand in any number
 abbrev pub isOn : ℕ → Bool
@@ -97,22 +98,24 @@ unfoldable pub packOpen : Admission → ℕ
 packOpen (admit.Refused n i) = packed 4 n i 0
 packOpen (admit.Admitted a n) = packed 13 n a 0
 
--- the codes: 14 a row, 15 the end (a is the next place)
-unfoldable pub packStep : Step → ℕ → ℕ
-packStep (step.Row r s) next = packed 14 next 0 0
-packStep step.End next = packed 15 next 0 0
+-- the codes: 4 refused, as above; 14 a row, 15 the end (a is the next place)
+unfoldable pub packStep : Stepped → ℕ
+packStep (step.Refused n i) = packed 4 n i 0
+packStep (step.Row r s next) = packed 14 next 0 0
+packStep (step.End next) = packed 15 next 0 0
 
--- the row's bytes at the front of the lent buffer; the end leaves it alone
-unfoldable pub stepPut : Step → List ℕ → List ℕ
-stepPut (step.Row r s) out = rowList r (s .0) ++ drop ROW-BYTES out
-stepPut step.End out = out
+-- the row's bytes at the front of the lent buffer; a refusal and the end leave it alone
+unfoldable pub stepPut : Stepped → List ℕ → List ℕ
+stepPut (step.Refused n i) out = out
+stepPut (step.Row r s next) out = rowList r (s .0) ++ drop ROW-BYTES out
+stepPut (step.End next) out = out
 
 -- a buffer that a row has no room in is refused, with 11, and left alone
 unfoldable pub rowAnswer : List ℕ → ℕ → ℕ → ℕ
-rowAnswer s i room = cond (leb ROW-BYTES room) (packStep (stepAt s i) (nextAt s i)) (packed 4 11 0 0)
+rowAnswer s i room = cond (leb ROW-BYTES room) (packStep (steppedAt s i)) (packed 4 11 0 0)
 
 unfoldable pub rowAfter : List ℕ → ℕ → List ℕ → List ℕ
-rowAfter s i out = cond (leb ROW-BYTES (length out)) (stepPut (stepAt s i) out) out
+rowAfter s i out = cond (leb ROW-BYTES (length out)) (stepPut (steppedAt s i) out) out
 
 -- the codes: 16 a row's place (a is its piece, 0 or 1, b the first of its sixteen bytes there), 17 no row
 unfoldable pub packPlace : RowPlace → ℕ

@@ -1,19 +1,20 @@
 // The functions that C and Rust link. Each is the proved function of the same name with its answer packed into one number.
 ghost use mathlib.Core.Path.{_≡_};
 ghost use mathlib.Core.Bool.{true};
+ghost use Prim.Native.Nat.{_≤_};
 ghost use lib.ListN.{length};
 ghost use Rattle.model.specs.Check.{check, checkAnswer, cycleAfter, workAfter};
 ghost use Rattle.model.specs.Fill.{fill, fillAnswer, sourcesAfter};
 ghost use Rattle.model.specs.Fill as Fill;
 ghost use Rattle.model.specs.Reason.{derive, deriveAnswer, chainAfter, judge, acceptAnswer};
 ghost use Rattle.model.specs.Reason as Derivation;
-ghost use Rattle.model.specs.Report.{report, shareOf};
-ghost use Rattle.model.specs.Table.{rowsAt};
+ghost use Rattle.model.specs.Report.{report};
+ghost use Rattle.model.specs.Table.{ROW-BYTES, rowsAt};
 ghost use Rattle.model.specs.Refusal.{admission};
 ghost use Rattle.writer.specs.Answer.{bufferAfter};
 ghost use Rattle.writer.specs.Parts.{partsAnswer, partsTable};
-ghost use Rattle.stramashly.specs.Packed.{packed, packPlace, packCheck, packFill, packDerive, packAccept, packReport, reasonOf, isOn, floatOf};
-ghost use Rattle.stramashly.specs.Packed.{packWrite, packOpen, rowAnswer, rowAfter};
+ghost use Rattle.stramashly.specs.Packed.{packed, packPlace, packCheck, packFill, packDerive, packAccept, packReport, shareAfter, reasonOf, isOn};
+ghost use Rattle.stramashly.specs.Packed.{packWrite, packOpen, packStep, stepPut, rowAnswer, rowAfter};
 ghost use Rattle.pieces.specs.Pieces.{countBoth, checkBoth, fillBoth, reportBoth, deriveBoth, judgeBoth, rowPlace};
 use model::AcceptAnswer;
 use model::Admission;
@@ -22,10 +23,9 @@ use model::DeriveAnswer;
 use model::FillAnswer;
 use model::Reason;
 use model::ReportAnswer;
-use model::Share;
 use pieces::RowPlace;
 use rows::bytes;
-use stepping::Step;
+use stepping::Stepped;
 use writer::WriteAnswer;
 use writer::encode;
 
@@ -105,9 +105,19 @@ fn pack_report(answer: ReportAnswer) -> u64
             writer,
             byte,
         } => pack(2, reader, writer, byte),
-        ReportAnswer::NoPairs => pack(7, 0, 0, 0),
+        ReportAnswer::NoPairs => pack(18, 0, 0, 0),
         ReportAnswer::Report(r) => pack(7, r.mutuals, r.ordered, r.racing),
     }
+}
+
+// The report's own share, where there is a report; else what was there stays.
+fn put_share(answer: ReportAnswer, share: &mut f64)
+    ensures { λ _. ⌜ now (share .exit) ≡ shareAfter answer (now (share .entry)) ⌝ }
+{
+    let ReportAnswer::Report(r) = answer else {
+        return;
+    };
+    *share = r.share;
 }
 
 fn pack_write(answer: WriteAnswer) -> u64
@@ -126,6 +136,36 @@ fn pack_open(answer: Admission) -> u64
         Admission::Refused { number, row } => pack(4, number as u16, row, 0),
         Admission::Admitted { agents, rows } => pack(13, rows as u16, agents as u16, 0),
     }
+}
+
+fn pack_step(step: Stepped) -> u64
+    ensures { λ r. ⌜ r ≡ packStep step ⌝ }
+{
+    match step {
+        Stepped::Refused { number, row } => pack(4, number as u16, row, 0),
+        Stepped::Row {
+            row: _,
+            source: _,
+            next,
+        } => pack(14, next, 0, 0),
+        Stepped::End { next } => pack(15, next, 0, 0),
+    }
+}
+
+// The row's bytes, where a row is given; else what was there stays.
+fn put_row(step: Stepped, out: &mut [u8])
+    requires { ⌜ ROW-BYTES ≤ length (now out) ⌝ }
+    ensures { λ _. ⌜ now (out .exit) ≡ stepPut step (now (out .entry)) ⌝ }
+{
+    let Stepped::Row {
+        row,
+        source,
+        next: _,
+    } = step
+    else {
+        return;
+    };
+    bytes::put(out, 0, &encode::row_bytes(row, source), 16);
 }
 
 fn pack_place(place: RowPlace) -> u64
@@ -251,35 +291,27 @@ pub extern "C" fn stramashly_accepts(
     pack_accept(reader::accepts(table, first, second, reason_of(classes), steps))
 }
 
-// How bad a recorded run was: `report::report`, packed, with the pairs that are mutually-ordered, ordered and racing; they add up to the
-// conflicting ones.
-// Ruled out: one that packs the conflicting pairs in place of the racing ones; one whose code is that of race-free.
+// How bad a recorded run was: `report::report`, packed, with the pairs that are mutually-ordered, ordered and racing, which add up to the
+// conflicting ones; and the report's share, in the number lent for it.
+// Ruled out: one that packs the conflicting pairs in place of the racing ones; one that writes a share where no pair conflicts.
 #[no_mangle]
 pub extern "C" fn stramashly_report(
     table: &[u8],
     chains: u8,
     work: &mut [u64],
     cycle: &mut [u16],
+    share: &mut f64,
 ) -> u64
     ensures { λ r. let judged = check (isOn chains) (now (table .entry)) (length (now (work .entry))) (length (now (cycle .entry))) in
-        ⌜ (r ≡ packReport (report (isOn chains) (now (table .entry)) (length (now (work .entry))) (length (now (cycle .entry)))))
+        let told = report (isOn chains) (now (table .entry)) (length (now (work .entry))) (length (now (cycle .entry))) in
+        ⌜ (r ≡ packReport told)
         × (now (work .exit) ≡ workAfter judged (now (work .entry)))
-        × (now (cycle .exit) ≡ cycleAfter judged (now (cycle .entry))) ⌝ }
+        × (now (cycle .exit) ≡ cycleAfter judged (now (cycle .entry)))
+        × (now (share .exit) ≡ shareAfter told (now (share .entry))) ⌝ }
 {
-    pack_report(report::report(table, !(chains == 0), work, cycle))
-}
-
-// The racing share of the conflicting pairs: `report::counts::share`; where no pair conflicts it is not a number.
-// Ruled out: one that gives 0.0 where no pair conflicts; one that divides the other way round.
-#[no_mangle]
-pub extern "C" fn stramashly_share(racing: u16, conflicting: u16) -> f64
-    ensures { λ r. ⌜ r ≡ floatOf (shareOf racing conflicting) ⌝ }
-{
-    let s = report::counts::share(racing, conflicting);
-    let Share::Of(part) = s else {
-        return 0.0 / 0.0;
-    };
-    part
+    let answer = report::report(table, !(chains == 0), work, cycle);
+    put_share(answer, share);
+    pack_report(answer)
 }
 
 // Writes a table of values: `writer::parts::write_parts`, packed.
@@ -308,8 +340,9 @@ pub extern "C" fn stramashly_open(table: &[u8]) -> u64
     pack_open(stepping::opening(table))
 }
 
-// The row at a place of a table, as its sixteen bytes, or the end, and the next place: `stepping::step_at` and `stepping::next_at`.
-// Ruled out: one that writes a part of a row into a short buffer; one that leaves the end.
+// The row at a place of a table, as its sixteen bytes, or the end, and the next place: `stepping::step_from`, packed. What a fill refuses,
+// 11 aside, gets that refusal at every place.
+// Ruled out: one that gives a row of a table that a fill refuses; one that writes a part of a row into a short buffer; one that leaves the end.
 #[no_mangle]
 pub extern "C" fn stramashly_row(table: &[u8], at: u16, row: &mut [u8]) -> u64
     ensures { λ r. ⌜ (r ≡ rowAnswer (now (table .entry)) at (length (now (row .entry))))
@@ -318,13 +351,9 @@ pub extern "C" fn stramashly_row(table: &[u8], at: u16, row: &mut [u8]) -> u64
     if row.len() < bytes::ROW_BYTES {
         return pack(4, 11, 0, 0);
     }
-    let next = stepping::next_at(table, at);
-    let step = stepping::step_at(table, at);
-    let Step::Row { row: r, source } = step else {
-        return pack(15, next, 0, 0);
-    };
-    bytes::put(row, 0, &encode::row_bytes(r, source), 16);
-    pack(14, next, 0, 0)
+    let step = stepping::step_from(table, at);
+    put_row(step, row);
+    pack_step(step)
 }
 
 // ---- a table in two pieces
@@ -367,8 +396,8 @@ pub extern "C" fn stramashly_fill2(
     pack_fill(answer, pieces::count_both(first, second))
 }
 
-// How bad a recorded run in two pieces was: `report::report_both`, packed.
-// Ruled out: one that counts the pairs of each piece by itself.
+// How bad a recorded run in two pieces was: `report::report_both`, packed; and the report's share, in the number lent for it.
+// Ruled out: one that counts the pairs of each piece by itself; one that writes a share where no pair conflicts.
 #[no_mangle]
 pub extern "C" fn stramashly_report2(
     first: &[u8],
@@ -376,13 +405,18 @@ pub extern "C" fn stramashly_report2(
     chains: u8,
     work: &mut [u64],
     cycle: &mut [u16],
+    share: &mut f64,
 ) -> u64
     ensures { λ r. let judged = checkBoth (isOn chains) (now (first .entry)) (now (second .entry)) (length (now (work .entry))) (length (now (cycle .entry))) in
-        ⌜ (r ≡ packReport (reportBoth (isOn chains) (now (first .entry)) (now (second .entry)) (length (now (work .entry))) (length (now (cycle .entry)))))
+        let told = reportBoth (isOn chains) (now (first .entry)) (now (second .entry)) (length (now (work .entry))) (length (now (cycle .entry))) in
+        ⌜ (r ≡ packReport told)
         × (now (work .exit) ≡ workAfter judged (now (work .entry)))
-        × (now (cycle .exit) ≡ cycleAfter judged (now (cycle .entry))) ⌝ }
+        × (now (cycle .exit) ≡ cycleAfter judged (now (cycle .entry)))
+        × (now (share .exit) ≡ shareAfter told (now (share .entry))) ⌝ }
 {
-    pack_report(report::report_both(first, second, !(chains == 0), work, cycle))
+    let answer = report::report_both(first, second, !(chains == 0), work, cycle);
+    put_share(answer, share);
+    pack_report(answer)
 }
 
 // Why moment m happens before moment k in a table in two pieces: `reasons::derive_both`, packed.
@@ -423,7 +457,7 @@ pub extern "C" fn stramashly_accepts2(
 // Where row n of a table in two pieces has its sixteen bytes: `pieces::row_place`, packed. Nothing is copied.
 // Ruled out: one that gives a place in a pair that is refused before 5; one that counts the second piece's rows from 0.
 #[no_mangle]
-pub extern "C" fn stramashly_row2(first: &[u8], second: &[u8], n: u16) -> u64
+pub extern "C" fn stramashly_row2<'a>(first: &'a [u8], second: &'a [u8], n: u16) -> u64
     ensures { λ r. ⌜ r ≡ packPlace (rowPlace (now (first .entry)) (now (second .entry)) n) ⌝ }
 {
     pack_place(pieces::row_place(first, second, n))

@@ -37,7 +37,7 @@ pub fn admit_rows(
     }
     let j = table_faults::first_table_fault(rows, p, mode, n, blanks);
     if j < n {
-        let number = table_faults::table_fault(rows, &p, mode, n, blanks, j);
+        let number = table_faults::table_fault(rows, p, mode, n, blanks, j);
         return Admission::Refused {
             number: number,
             row: j,

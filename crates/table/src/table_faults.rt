@@ -13,7 +13,6 @@ ghost use Rattle.model.specs.Table.{ROW-BYTES, pairOf, rowOf, OFF, decode, sour
 ghost use Rattle.model.specs.Refusal.{otherClassAt, classTaken, writerFits, sourceFits, sourceBroken};
 ghost use Rattle.model.specs.Refusal.{sameRank, sameRankAt, rankTaken, apartAt, instanceBroken};
 ghost use Rattle.model.specs.Refusal.{rival, outside, begins, unfit, tableFault, faulty};
-ghost use Rattle.rows.specs.Places.{IsPlace};
 ghost use Rattle.table.specs.Rows.{ofReference, outsideIn};
 use model::Mode;
 use model::Places;
@@ -136,20 +135,20 @@ pub fn same_rank(r: Row, q: Row) -> bool
     kinds::is_ranked(q) & (q.rank == r.rank)
 }
 
-// Whether two rows, if they are different rows, are mutually-ordered. Places are lent, since all of them by value would be copied.
-fn is_mutual_in(p: &[[u16; 4]], r: Row, q: Row) -> bool
-    ensures { λ b. ⌜ b ≡ mutualRows (now (p .entry)) r q ⌝ }
+// Whether two rows, if they are different rows, are mutually-ordered.
+fn is_mutual_in(p: Places, r: Row, q: Row) -> bool
+    ensures { λ b. ⌜ b ≡ mutualRows p r q ⌝ }
 {
     kinds::is_atomic(r)
         & kinds::is_atomic(q)
         & scopes::same_location(r, q)
-        & scopes::together_in(p, r, q)
+        & scopes::together(p, r, q)
 }
 
 // Few rows have one start, and no place is asked of the others.
-pub fn same_rank_at(rows: &[u8], p: &[[u16; 4]], i: u16, r: Row, j: u16) -> bool
+pub fn same_rank_at(rows: &[u8], p: Places, i: u16, r: Row, j: u16) -> bool
     requires { ⌜ r ≡ rowOf (now rows) i ⌝ }
-    ensures { λ b. ⌜ b ≡ sameRankAt (decode (now (rows .entry)) (now (p .entry)) OFF 0) i j ⌝ }
+    ensures { λ b. ⌜ b ≡ sameRankAt (decode (now (rows .entry)) p OFF 0) i j ⌝ }
 {
     if !has_pair(rows, j, START, r.start) {
         return false;
@@ -159,9 +158,9 @@ pub fn same_rank_at(rows: &[u8], p: &[[u16; 4]], i: u16, r: Row, j: u16) -> bool
 }
 
 // Few rows have one rank, and nothing more is asked of the others.
-pub fn any_same_rank(rows: &[u8], p: &[[u16; 4]], i: u16, r: Row) -> bool
+pub fn any_same_rank(rows: &[u8], p: Places, i: u16, r: Row) -> bool
     requires { ⌜ r ≡ rowOf (now rows) i ⌝ }
-    ensures { λ b. ⌜ b ≡ anyBelow i (sameRankAt (decode (now (rows .entry)) (now (p .entry)) OFF 0) i) ⌝ }
+    ensures { λ b. ⌜ b ≡ anyBelow i (sameRankAt (decode (now (rows .entry)) p OFF 0) i) ⌝ }
 {
     for j in 0..i {
         if !has_pair(rows, j, RANK, r.rank) {
@@ -174,9 +173,9 @@ pub fn any_same_rank(rows: &[u8], p: &[[u16; 4]], i: u16, r: Row) -> bool
     false
 }
 
-pub fn rank_taken(rows: &[u8], p: &[[u16; 4]], i: u16, r: Row) -> bool
+pub fn rank_taken(rows: &[u8], p: Places, i: u16, r: Row) -> bool
     requires { ⌜ r ≡ rowOf (now rows) i ⌝ }
-    ensures { λ b. ⌜ b ≡ rankTaken (decode (now (rows .entry)) (now (p .entry)) OFF 0) i ⌝ }
+    ensures { λ b. ⌜ b ≡ rankTaken (decode (now (rows .entry)) p OFF 0) i ⌝ }
 {
     if !kinds::is_ranked(r) {
         return false;
@@ -186,11 +185,11 @@ pub fn rank_taken(rows: &[u8], p: &[[u16; 4]], i: u16, r: Row) -> bool
 
 // ---- 14
 
-// Row j is of the instance of row i, which is r and whose agent has the place x, and the two differ in execution scope, have one
+// Row j is of the instance of row i, which is r, and the two differ in execution scope, have one
 // agent, or don't share that scope. Most rows are of another instance, and no place is asked of them.
-pub fn apart_at(rows: &[u8], p: &[[u16; 4]], i: u16, r: Row, x: [u16; 4], j: u16) -> bool
-    requires { ⌜ (r ≡ rowOf (now rows) i) × (r .kind ≡ CONTROL) × IsPlace (now p) (r .agent) x ⌝ }
-    ensures { λ b. ⌜ b ≡ apartAt (decode (now (rows .entry)) (now (p .entry)) OFF 0) i j ⌝ }
+pub fn apart_at(rows: &[u8], p: Places, i: u16, r: Row, j: u16) -> bool
+    requires { ⌜ (r ≡ rowOf (now rows) i) × (r .kind ≡ CONTROL) ⌝ }
+    ensures { λ b. ⌜ b ≡ apartAt (decode (now (rows .entry)) p OFF 0) i j ⌝ }
 {
     if !scopes::is_of_instance(rows, r.start, j) {
         return false;
@@ -202,19 +201,18 @@ pub fn apart_at(rows: &[u8], p: &[[u16; 4]], i: u16, r: Row, x: [u16; 4], j: u16
     if g == r.agent {
         return true;
     }
-    !scopes::shares_from(p, r.class, r.agent, x, g)
+    !scopes::shares_scope(p, r.class, r.agent, g)
 }
 
-pub fn instance_broken(rows: &[u8], p: &[[u16; 4]], i: u16, r: Row) -> bool
+pub fn instance_broken(rows: &[u8], p: Places, i: u16, r: Row) -> bool
     requires { ⌜ r ≡ rowOf (now rows) i ⌝ }
-    ensures { λ b. ⌜ b ≡ instanceBroken (decode (now (rows .entry)) (now (p .entry)) OFF 0) i ⌝ }
+    ensures { λ b. ⌜ b ≡ instanceBroken (decode (now (rows .entry)) p OFF 0) i ⌝ }
 {
     if r.kind != kinds::CONTROL {
         return false;
     }
-    let x = scopes::place_in(p, r.agent);
     for j in 0..i {
-        if apart_at(rows, p, i, r, x, j) {
+        if apart_at(rows, p, i, r, j) {
             return true;
         }
     }
@@ -302,9 +300,9 @@ pub fn is_unfit(rows: &[u8], mode: Mode, i: u16, r: Row) -> bool
 
 // Refusals 8 to 10, 14 and 15 of row i, or 0. No earlier row has refusal 8.
 // Ruled out: of two rows of one rank the earlier is refused; a row passes that reads from itself.
-pub fn table_fault(rows: &[u8], p: &[[u16; 4]], mode: Mode, n: u16, blanks: bool, i: u16) -> u8
+pub fn table_fault(rows: &[u8], p: Places, mode: Mode, n: u16, blanks: bool, i: u16) -> u8
     requires { ⌜ anyBelow i (classTaken (decode (now rows) [] OFF 0)) ≡ false ⌝ }
-    ensures { λ r. ⌜ r ≡ tableFault blanks (decode (now (rows .entry)) (now (p .entry)) mode n) (sourceOf (now (rows .entry))) i ⌝ }
+    ensures { λ r. ⌜ r ≡ tableFault blanks (decode (now (rows .entry)) p mode n) (sourceOf (now (rows .entry))) i ⌝ }
 {
     let r = bytes::read_row(rows, i);
     let run = pick::byte(is_unfit(rows, mode, i, r), 15, 0);
@@ -320,7 +318,7 @@ pub fn first_table_fault(rows: &[u8], p: Places, mode: Mode, n: u16, blanks: boo
     ensures { λ i. ⌜ i ≡ least n (faulty (tableFault blanks (decode (now (rows .entry)) p mode n) (sourceOf (now (rows .entry))))) ⌝ }
 {
     for i in 0..n {
-        if table_fault(rows, &p, mode, n, blanks, i) != 0 {
+        if table_fault(rows, p, mode, n, blanks, i) != 0 {
             return i;
         }
     }

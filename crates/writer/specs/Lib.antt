@@ -6,4 +6,5 @@ pub mod ReadLaws
 pub mod AnswerLaws
 pub mod PastLaws
 pub mod Parts
+pub mod PartsLaws
 pub mod Promise

@@ -14,9 +14,10 @@ use lib.Seq.{take-at, drop-at}
 use lib.Dec.{eqb, ltb}
 use borrow.Author.Tests.{eq-eqb, lt-ltb, le-ltb}
 use Rattle.finite.specs.Logic.{_and_, _or_, which, not-both}
+use Rattle.model.specs.declared.Admission.{Admission}
 use Rattle.model.specs.declared.Admission.the-variants.{Admitted, Refused}
 use Rattle.model.specs.Limits.{ROWS}
-use Rattle.model.specs.Table.{ROW-BYTES, versionAt, agentsAt, rowsAt, placeAt, placesOf, rowBytes, rowOf, sourcesOf, dependencyBytes, dependencyCount}
+use Rattle.model.specs.Table.{ROW-BYTES, versionAt, agentsAt, rowsAt, placeAt, placesOf, rowBytes, rowOf, sourceOf, sourcesOf, dependencyBytes, dependencyCount}
 use Rattle.model.specs.Table.{dependencyFrom, dependencyTo}
 use Rattle.model.specs.Refusal.{dependenciesNamed, headerFault, admission}
 use Rattle.laws.specs.FilledLaws.{Bytes}
@@ -24,13 +25,14 @@ use Rattle.laws.specs.AdmissionLaws.{sound-admitted, admitted-sound}
 use Rattle.writer.specs.declared.Entry.{Entry}
 use Rattle.writer.specs.declared.Dependencies.{Dependencies}
 use Rattle.writer.specs.declared.WriteAnswer.the-variants as Answer
-use Rattle.writer.specs.Encode.{entryAt, tableSize, rowsPart, encode, entriesIn, entriesOf, dependenciesOf}
-use Rattle.writer.specs.Parts.{capped, rowsIn}
+use Rattle.writer.specs.Encode.{rowList, entryAt, tableSize, rowsPart, encode, entriesIn, entriesOf, dependenciesOf}
+use Rattle.writer.specs.Parts.{capped, agentsIn, placesIn, rowsIn, dependenciesIn, partsAnswer, partsTable}
+use Rattle.writer.specs.PartsLaws.{Numbers, parts-typed}
 use Rattle.writer.specs.Answer.{versionKnown, countsFit, numbersFit, dependenciesFit, valuesFault, writeAnswer, bufferAfter}
 use Rattle.writer.specs.ValueLaws.{Fits, values-fit, fit-values, encode-length}
 use Rattle.writer.specs.EncodeLaws.{Typed, encode-version, encode-agents, encode-rows, encode-row, encode-source, encode-count, encode-from}
 use Rattle.writer.specs.EncodeLaws.{encode-to, encode-place, encode-fault}
-use Rattle.writer.specs.ReadLaws.{rows-same, length-same, read-fits, written-again}
+use Rattle.writer.specs.ReadLaws.{rows-same, length-same, read-fits, row-again, written-again}
 use Rattle.writer.specs.AnswerLaws.{ofTable, Admits, admission-number, room-short, room-long, values-in, table-in, admitted-in, written-out}
 use Rattle.writer.specs.AnswerLaws.{refused-out, fault-apart, fault-version, fault-limits, fault-numbers, fault-dependencies}
 use Rattle.writer.specs.PastLaws.{Alike, encode-alike, answer-alike}
@@ -113,6 +115,18 @@ module _ (s : List ℕ) (bytes : Bytes s) (admits : Admits s) where
 
   pub read-same : encode (versionAt s) (agentsAt s) (placesOf s) (rowsAt s) (entriesOf s) (dependenciesOf s) ≡ s
   read-same = written-again (admitted-sound true s (admits .2)) bytes
+
+-- row i of a table that a fill admits, read and written, is its own sixteen bytes
+pub row-bytes-again : (s : List ℕ) → Bytes s → (a n : ℕ) → admission true s ≡ Admitted a n → (i : ℕ) → i < n
+    → rowList (rowOf (rowBytes s) i) (sourceOf (rowBytes s) i) ≡ take ROW-BYTES (drop (ROW-BYTES * i) (rowBytes s))
+row-bytes-again s small a n e i l =
+    let sound = admitted-sound true s e in
+    let c : n ≡ rowsAt s = ap counted (sym e ∙ sound-admitted true s sound) in
+    row-again sound small i (subst (λ (m : ℕ). i < m) c l)
+  where
+    counted : Admission → ℕ
+    counted (Admitted x y) = y
+    counted (Refused x y) = 0
 
 -- ---- each answer exactly for its case
 
@@ -244,3 +258,49 @@ rows-whole b few = go (decLt (length b / ROW-BYTES) 255) few
 -- rows that are handed over as their sixteen bytes are written as these
 pub parts-rows : (b : List ℕ) → Bytes b → rowsIn b ≤ ROWS → rowsPart (rowsIn b) (entriesIn b) ≡ take (ROW-BYTES * rowsIn b) b
 parts-rows b bytes few = rows-same b bytes (rowsIn b) few (rows-whole b few)
+
+-- ---- the same of what `write_parts` is lent, by its own types: bytes and 16-bit numbers. Nothing else is assumed
+
+module _ (version : ℕ) (places rows dependencies : List ℕ) (sixteen : Numbers places) (eight : Bytes rows) (ends : Numbers dependencies) where
+  typed-parts : Typed (agentsIn places) (placesIn places) (rowsIn rows) (entriesIn rows) (dependenciesIn dependencies)
+  typed-parts = parts-typed places rows dependencies sixteen eight ends
+
+  module _ (room m : ℕ) (w : partsAnswer version places rows dependencies room ≡ Answer.Written m) where
+    -- a fill admits what was written, with these counts
+    pub parts-admitted : admission true (partsTable version places rows dependencies) ≡ Admitted (agentsIn places) (rowsIn rows)
+    unfolding partsAnswer partsTable
+    parts-admitted = written-admitted version _ _ _ _ _ typed-parts room m w
+
+    pub parts-version : versionAt (partsTable version places rows dependencies) ≡ version
+    unfolding partsTable
+    parts-version = encode-version version _ _ _ _ _
+
+    -- the same places, rows, sources and dependencies
+    pub parts-place : (a : ℕ) → a < agentsIn places → placeAt (partsTable version places rows dependencies) a ≡ getD (placesIn places) a []
+    unfolding partsAnswer partsTable
+    parts-place = written-place version _ _ _ _ _ typed-parts room m w
+
+    pub parts-row : (i : ℕ) → i < rowsIn rows → rowOf (rowBytes (partsTable version places rows dependencies)) i ≡ entryAt (entriesIn rows) i .row
+    unfolding partsAnswer partsTable
+    parts-row = written-row version _ _ _ _ _ typed-parts room m w
+
+    pub parts-source : (i : ℕ) → i < rowsIn rows → sourcesOf (partsTable version places rows dependencies) i ≡ entryAt (entriesIn rows) i .source .0
+    unfolding partsAnswer partsTable
+    parts-source = written-source version _ _ _ _ _ typed-parts room m w
+
+    pub parts-count : dependencyCount (dependencyBytes (partsTable version places rows dependencies)) ≡ dependenciesIn dependencies .count
+    unfolding partsAnswer partsTable
+    parts-count = written-count version _ _ _ _ _ typed-parts room m w
+
+    pub parts-dependency : (k : ℕ) → k < dependenciesIn dependencies .count
+        → (dependencyFrom (dependencyBytes (partsTable version places rows dependencies)) k ≡ getD (dependenciesIn dependencies .first) k 0)
+        × (dependencyTo (dependencyBytes (partsTable version places rows dependencies)) k ≡ getD (dependenciesIn dependencies .second) k 0)
+    unfolding partsAnswer partsTable
+    parts-dependency = written-dependency version _ _ _ _ _ typed-parts room m w
+
+    pub parts-buffer : (out : List ℕ)
+        → (take m (bufferAfter (partsAnswer version places rows dependencies room) (partsTable version places rows dependencies) out)
+        ≡ partsTable version places rows dependencies)
+        × (drop m (bufferAfter (partsAnswer version places rows dependencies room) (partsTable version places rows dependencies) out) ≡ drop m out)
+    unfolding partsAnswer partsTable
+    parts-buffer = written-buffer version _ _ _ _ _ typed-parts room m w

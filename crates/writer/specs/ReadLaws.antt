@@ -13,6 +13,7 @@ use borrow.Author.Tests.{eqb-true, leb-true, le-leb, lt-ltb, le-ltb}
 use Rattle.finite.specs.Logic.{split, which, not-in}
 use Rattle.finite.specs.Below.{anyBelow, any-not}
 use Rattle.finite.specs.Lists.{tabulate, length-tabulate, getD-tabulate}
+use Rattle.model.specs.declared.Row.{Row}
 use Rattle.model.specs.Limits.{AGENTS, ROWS, DEPENDENCIES}
 use Rattle.model.specs.Scope.{SHADER, QUEUE, agentKind}
 use Rattle.model.specs.Table.{HEADER, PLACE-BYTES, HOSTS-PLACE-BYTES, DEPENDENCY-BYTES, ROW-BYTES, pairAt, quadAt, countAt, versionAt, zeroAt}
@@ -71,6 +72,10 @@ unfolding dependencyBytes
 drop-is s = refl
 
 -- ---- rows, in their bytes alone
+
+row-long : (r : Row) (n : ℕ) → length (rowList r n) ≡ ROW-BYTES
+unfolding rowList
+row-long r n = refl
 
 module _ (b : List ℕ) (row-small : Bytes b) where
   pair-high : (i k : ℕ) → pairOf b i k / 256 % 256 ≡ getD b (i * ROW-BYTES + k) 0
@@ -325,6 +330,27 @@ module _ {blanks : Bool} {s : List ℕ} (sound : Sound blanks s) where
         let b = length-drop (rowsBegin s) s in
         rows-same (rowBytes s) row-small (rowsAt s) (rows-fit sound) (omega arith) ∙ take-all (ROW-BYTES * rowsAt s) (rowBytes s) (omega arith)
         ∙ ap (λ (x : ℕ). take (ROW-BYTES * rowsAt s) (drop x s)) begin-same
+
+    rows-long : length (rowBytes s) ≡ ROW-BYTES * rowsAt s
+    unfolding tableSize rowBytes
+    rows-long =
+        let n = length-same in
+        let e = begin-same in
+        let a = length-take (ROW-BYTES * rowsAt s) (drop (rowsBegin s) s) in
+        let b = length-drop (rowsBegin s) s in
+        omega arith
+
+    -- row i, written, is its own sixteen bytes
+    pub row-again : (i : ℕ) → i < rowsAt s → rowList (rowOf (rowBytes s) i) (sourceOf (rowBytes s) i) ≡ take ROW-BYTES (drop (ROW-BYTES * i) (rowBytes s))
+    row-again i l =
+        let m = length-take ROW-BYTES (drop (ROW-BYTES * i) (rowBytes s)) in
+        let n = length-drop (ROW-BYTES * i) (rowBytes s) in
+        let r = rows-long in
+        let e : i * ROW-BYTES ≡ ROW-BYTES * i = omega arith in
+        let g = row-long (rowOf (rowBytes s) i) (sourceOf (rowBytes s) i) in
+        ext-getD 0 (rowList (rowOf (rowBytes s) i) (sourceOf (rowBytes s) i)) (take ROW-BYTES (drop (ROW-BYTES * i) (rowBytes s))) (omega arith)
+        (λ k h. list-same (rowBytes s) row-small i k (omega arith) ∙ ap (λ (j : ℕ). getD (rowBytes s) (j + k) 0) e
+        ∙ sym (getD-take ROW-BYTES (drop (ROW-BYTES * i) (rowBytes s)) k 0 (omega arith) ∙ getD-drop (ROW-BYTES * i) (rowBytes s) k 0))
 
     -- the dependencies
     after-small : Bytes (dependencyBytes s)

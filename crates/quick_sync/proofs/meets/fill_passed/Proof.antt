@@ -17,13 +17,13 @@ returns c =
 
 returns-2 : tie.Need-returns-2
 returns-2 c = passed-made _ _ _ _ (c .before .before .before .before .before .before .before .before .before .before .before .before
-    .before .before .before .before .before .before .before .fill-alone .ensures)
+    .before .before .before .before .before .before .fill-alone .ensures)
     (c .before .before .before .before .before .before .before .before .before .before .before .before .before .before
-    .before .fill-along .ensures) (c .before .before .before .before .before .before .before .before .before .before .fill-joins .ensures)
+    .fill-along .ensures) (c .before .before .before .before .before .before .before .before .before .before .fill-joins .ensures)
     (c .before .before .before .before .before .before .multiply .ensures) (c .before .before .fill-along2 .ensures)
 
 pub fill-passed-spec : {M : Type 1} → statement M
 fill-passed-spec =
     tie.close
     (tie.spec (λ c κs. search needs) (λ c κs. search needs) (λ c. search needs) returns (λ c κs. search needs) (λ c κs. search needs)
-    (λ c. search needs) (λ c κs. search needs) (λ c κs. search needs) (λ c κs. search needs) (λ c. search needs) returns-2)
+    (λ c κs. search needs) (λ c κs. search needs) (λ c κs. search needs) (λ c. search needs) returns-2)

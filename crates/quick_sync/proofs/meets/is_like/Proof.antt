@@ -13,7 +13,7 @@ returns-3 : tie.Need-returns-3
 returns-3 c =
     like-on _ _ _ _ _ (c .before .before .before .before .before .before .before .before .pre .1) _ _ _ _
     (c .before .before .before .before .before .before .is-of-instance .ensures) (c .before .before .before .before .before .if1 .left)
-    (c .before .before .before .before .row-byte .ensures) (c .before .before .if2 .left) (c .before .read-agent .ensures) (c .shares-in .ensures)
+    (c .before .before .before .before .row-byte .ensures) (c .before .before .if2 .left) (c .before .read-agent .ensures) (c .shares-scope .ensures)
 
 pub is-like-spec : {M : Type 1} → statement M
 is-like-spec =

@@ -17,7 +17,7 @@ returns-3 : tie.Need-returns-3
 returns-3 c =
     let pre = c .before .before .before .before .before .before .pre in
     joins-on _ _ _ _ _ _ (pre .1) (pre .2) _ _ _ (c .before .before .before .before .is-of-instance .ensures)
-    (c .before .before .before .if1 .left) (c .before .before .if2 .left) (c .before .read-agent .ensures) (c .shares-in .ensures)
+    (c .before .before .before .if1 .left) (c .before .before .if2 .left) (c .before .read-agent .ensures) (c .shares-scope .ensures)
 
 pub joins-of-spec : {M : Type 1} → statement M
 joins-of-spec =

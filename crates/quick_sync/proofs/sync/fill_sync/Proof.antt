@@ -11,10 +11,10 @@ use Rattle.quick_sync.proofs.sync.fill_sync.Statement.{statement}
 use Rattle.quick_sync.proofs.sync.fill_sync.Tie as tie
 
 abbrev Inv-loop : tie.InvT-loop
-Inv-loop rows mode n w₀ p level a₀ w a = (a ≤ n) × (length w ≡ length w₀) × Level rows n level × Turn rows p mode n a w × Within SYNC UNKNOWN-END w₀ w
+Inv-loop rows p mode n w₀ level a₀ w a = (a ≤ n) × (length w ≡ length w₀) × Level rows n level × Turn rows p mode n a w × Within SYNC UNKNOWN-END w₀ w
 
 abbrev μ-loop : tie.MeasureT-loop
-μ-loop rows mode n w₀ p level a₀ w a = n - a
+μ-loop rows p mode n w₀ level a₀ w a = n - a
 
 loop-holds : tie.Need-loop-holds Inv-loop μ-loop
 loop-holds c =
@@ -30,7 +30,7 @@ loop-holds c =
 loop-again : tie.Need-loop-again Inv-loop μ-loop
 loop-again c =
     let row = c .before .before .sync-row .ensures in
-    let inv = c .before .before .before .before .before .before .loop .inv in
+    let inv = c .before .before .before .before .before .loop .inv in
     (search needs, row .1 .len ∙ inv .1, inv .2, row .0, within-trans (inv .4) (row .1))
 
 returns : tie.Need-returns Inv-loop μ-loop
@@ -47,5 +47,5 @@ returns c =
 pub fill-sync-spec : {M : Type 1} → statement M
 fill-sync-spec =
     tie.close
-    (tie.spec Inv-loop μ-loop (λ c κs. search needs) (λ c κs. search needs) (λ c κs. search needs) loop-holds (λ c. search needs)
+    (tie.spec Inv-loop μ-loop (λ c κs. search needs) (λ c κs. search needs) (λ c κs. search needs) loop-holds
     (λ c κs. search needs) (λ c. search needs) (λ c. search needs) loop-again (λ c. search needs) returns)

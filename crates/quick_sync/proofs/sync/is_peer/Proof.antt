@@ -22,7 +22,7 @@ returns-4 c h =
     let pre = c .before .before .before .before .before .before .before .before .before .before .pre in
     peer-scope _ _ _ _ _ _ _ _ (pre .1) (c .before .before .before .before .before .before .before .before .row-byte .ensures)
     (c .before .before .before .before .before .before .if1 .left) (c .before .before .before .before .before .read-agent .ensures) _ _
-    (omega arith) (pre .2) (c .before .if3 .left) (c .shares-in .ensures) h
+    (omega arith) (pre .2) (c .before .if3 .left) (c .shares-scope .ensures) h
 
 pub is-peer-spec : {M : Type 1} → statement M
 is-peer-spec =

@@ -26,7 +26,7 @@ returns-4 c =
     apart-scope _ _ _ _ _ (pre .0) (pre .1) _ (c .before .before .before .before .before .before .before .before .is-of-instance .ensures)
     (c .before .before .before .before .before .before .before .if1 .left) _ _ _
     (c .before .before .before .before .before .before .row-byte .ensures) (c .before .before .before .before .if2 .left)
-    (c .before .before .before .read-agent .ensures) (c .before .if3 .left) (c .shares-from .ensures)
+    (c .before .before .before .read-agent .ensures) (c .before .if3 .left) (c .shares-scope .ensures)
 
 pub apart-at-spec : {M : Type 1} → statement M
 apart-at-spec =

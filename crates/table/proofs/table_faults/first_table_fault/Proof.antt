@@ -10,26 +10,26 @@ use Rattle.table.proofs.table_faults.first_table_fault.Statement.{state
 use Rattle.table.proofs.table_faults.first_table_fault.Tie as tie
 
 abbrev Inv-loop : tie.InvT-loop
-Inv-loop rows mode n blanks p i₀ i = (i ≤ n) × (least i (faulty (tableFault blanks (decode rows p mode n) (sourceOf rows))) ≡ i)
+Inv-loop rows p mode n blanks i₀ i = (i ≤ n) × (least i (faulty (tableFault blanks (decode rows p mode n) (sourceOf rows))) ≡ i)
 
 abbrev μ-loop : tie.MeasureT-loop
-μ-loop rows mode n blanks p i₀ i = n - i
+μ-loop rows p mode n blanks i₀ i = n - i
 
 loop-holds : tie.Need-loop-holds Inv-loop μ-loop
 loop-holds c = (search needs, least-none _)
 
 table-fault-requires : tie.Need-table-fault-requires Inv-loop μ-loop
-table-fault-requires c κs = classes-clear _ _ _ _ _ _ _ (sym (c .before .before .loop .inv .1))
+table-fault-requires c κs = classes-clear _ _ _ _ _ _ _ (sym (c .before .loop .inv .1))
 
 returns : tie.Need-returns Inv-loop μ-loop
 returns c =
-    let at-test = c .before .before .before in
+    let at-test = c .before .before in
     sym (least-found _ _ _ (at-test .before .loop .inv .1) (fault-here _ _ _ (c .before .table-fault .ensures) (c .if1 .taken)) (at-test .loop-test .taken))
 
 loop-again : tie.Need-loop-again Inv-loop μ-loop
 loop-again c = (
   search needs,
-  least-more _ _ (c .before .before .before .before .loop .inv .1)
+  least-more _ _ (c .before .before .before .loop .inv .1)
       (fault-none _ _ _ (c .before .table-fault .ensures) (c .if1 .left)),
 )
 
@@ -41,5 +41,5 @@ returns-2 c =
 pub first-table-fault-spec : {M : Type 1} → statement M
 first-table-fault-spec =
     tie.close
-    (tie.spec Inv-loop μ-loop loop-holds (λ c. search needs) table-fault-requires returns (λ c. search needs) (λ c. search needs) loop-again
+    (tie.spec Inv-loop μ-loop loop-holds table-fault-requires returns (λ c. search needs) (λ c. search needs) loop-again
     returns-2)

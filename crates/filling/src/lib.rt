@@ -7,6 +7,7 @@ ghost use Rattle.model.specs.Limits.{WORK, SOURCES};
 ghost use Rattle.model.specs.Table.{decode, sourceOf};
 ghost use Rattle.model.specs.Check.{wiped};
 ghost use Rattle.model.specs.Fill.{fill, outcome, fillAnswer, sourcesAfter, workAfter};
+ghost use Rattle.laws.specs.FilledLaws.{Bytes};
 ghost use Rattle.pieces.specs.Pieces.{fillBoth};
 ghost use Rattle.pieces.specs.Entry.{RowsOf};
 use model::Admission;
@@ -99,13 +100,22 @@ pub fn fill_both(
     fill_by(first, second, chains, true, work, sources)
 }
 
-// Fills the blanks of a table in one piece.
+// The first byte of a table, 0 where it has none. Asked for what it ensures: the numbers of whatever table is lent are bytes.
+fn first_byte(table: &[u8]) -> u8
+    ensures { λ r. ⌜ Bytes (now (table .entry)) ⌝ }
+{
+    if 0 < table.len() { table[0] } else { 0 }
+}
+
+// Fills the blanks of a table in one piece. That the table's numbers are bytes is ensured too, for whoever reads what a fill means.
 pub fn fill(table: &[u8], chains: bool, work: &mut [u64], sources: &mut [u16]) -> FillAnswer
     ensures { λ r. let answer = fill chains (now (table .entry)) (length (now (work .entry))) (length (now (sources .entry))) in
         ⌜ (r ≡ fillAnswer answer)
         × (now (work .exit) ≡ workAfter answer (now (work .entry)))
-        × (now (sources .exit) ≡ sourcesAfter answer (now (sources .entry))) ⌝ }
+        × (now (sources .exit) ≡ sourcesAfter answer (now (sources .entry)))
+        × Bytes (now (table .entry)) ⌝ }
 {
+    first_byte(table);
     fill_both(table, &table[..0], chains, work, sources)
 }
 

@@ -123,6 +123,11 @@ module _ (chains : Bool) (s f : List ℕ) (h : Filling s f) where
   pub same-bytes : (x y b : ℕ) → Unordered (tableUnder chains f) x y b ≡ Unordered (tableUnder chains s) x y b
   same-bytes x y b = ap (λ (u : Table). Unordered u x y b) (under-kept h chains)
 
+-- so no filling cures a race
+pub no-cure : (chains : Bool) (s f : List ℕ) → Filling s f → (x y b : ℕ) → (Races (tableUnder chains f) x y ≡ Races (tableUnder chains s) x y)
+    × (Unordered (tableUnder chains f) x y b ≡ Unordered (tableUnder chains s) x y b)
+no-cure chains s f h x y b = (same-races chains s f h x y, same-bytes chains s f h x y b)
+
 -- ---- the outcome depends on the table and the switch alone: refused or not, with any buffers that are long enough
 
 pub same-outcome : (chains : Bool) (s : List ℕ) (work buffer work′ buffer′ : ℕ)

@@ -1,4 +1,14 @@
 pub mod Main
+pub mod Terms
+pub mod CheckExactly
+pub mod FillExactly
+pub mod ReportExactly
+pub mod ReasonExactly
+pub mod Bridges
+pub mod Bounds
+pub mod RequestLaws
+pub mod Requests
+pub mod Callers
 pub mod Refused
 pub mod Check
 pub mod Fill

@@ -11,6 +11,7 @@ ghost use Rattle.model.specs.Reason as Derivation;
 ghost use Rattle.model.specs.Report.{report};
 ghost use Rattle.model.specs.Table.{ROW-BYTES, rowsAt};
 ghost use Rattle.model.specs.Refusal.{admission};
+ghost use Rattle.laws.specs.FilledLaws.{Bytes};
 ghost use Rattle.writer.specs.Answer.{bufferAfter};
 ghost use Rattle.writer.specs.Parts.{partsAnswer, partsTable};
 ghost use Rattle.stramashly.specs.Packed.{packed, packPlace, packCheck, packFill, packDerive, packAccept, packReport, shareAfter, reasonOf, isOn};
@@ -233,7 +234,8 @@ pub extern "C" fn stramashly_fill(
     ensures { λ r. let answer = fill (isOn chains) (now (table .entry)) (length (now (work .entry))) (length (now (sources .entry))) in
         ⌜ (r ≡ packFill (fillAnswer answer) (rowsAt (now (table .entry))))
         × (now (work .exit) ≡ Fill.workAfter answer (now (work .entry)))
-        × (now (sources .exit) ≡ sourcesAfter answer (now (sources .entry))) ⌝ }
+        × (now (sources .exit) ≡ sourcesAfter answer (now (sources .entry)))
+        × Bytes (now (table .entry)) ⌝ }
 {
     let answer = filling::fill(table, !(chains == 0), work, sources);
     pack_fill(answer, bytes::rows_at(table))

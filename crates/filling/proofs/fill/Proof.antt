@@ -7,9 +7,11 @@ use Rattle.filling.proofs.fill.Statement.{statement}
 use Rattle.filling.proofs.fill.Tie as tie
 
 returns : tie.Need-returns
-returns c = left-same fillAnswer workAfter sourcesAfter (sym (none-fill _ _ _ _)) (c .before .before .before .before .fill-both .ensures)
+returns c =
+    let left = left-same fillAnswer workAfter sourcesAfter (sym (none-fill _ _ _ _)) (c .before .before .before .before .fill-both .ensures) in
+    (left .0, left .1, left .2, c .before .before .before .before .before .before .before .before .first-byte .ensures)
 
 pub fill-spec : {M : Type 1} → statement M
 fill-spec =
     tie.close
-    (tie.spec (λ c. search needs) (λ c κs. search needs) (λ c. search needs) (λ c. search needs) returns)
+    (tie.spec (λ c κs. search needs) (λ c. search needs) (λ c κs. search needs) (λ c. search needs) (λ c. search needs) returns)

@@ -1,0 +1,5 @@
+pub mod Main
+pub mod Reading
+pub mod Numbers
+pub mod Given
+pub mod Rows

@@ -4,69 +4,42 @@ ghost use mathlib.Core.Path.{_≡_};
 ghost use Prim.Native.Nat.{_≤_, _<_};
 ghost use lib.ListN.{length};
 ghost use Rattle.bits.specs.Stage.{Made};
-ghost use Rattle.model.specs.Table.{rowOf, decode};
+ghost use Rattle.run.specs.Layout.{tableIn, rowsIn};
+ghost use Rattle.model.specs.Table.{rowOf};
 ghost use Rattle.model.specs.Scope.{follows};
 ghost use Rattle.model.specs.Edge.{readsFrom, fromReads, edgeNumber, edge};
 ghost use Rattle.area.specs.Regions.{EDGE, EDGE-END, GRID};
 ghost use Rattle.race.specs.Bytes.{Ready};
 ghost use Rattle.axioms.specs.Sources.{sourceIn};
-use model::Mode;
-use model::Places;
 use model::Row;
 use rows::pick;
+use run::Run;
 
 // Edge 2: whether y, which is q, follows x, which is r, in their scoped modification order.
 // Ruled out: one that goes from the later rank to the earlier; one that holds of rows whose scopes are not shared.
-pub fn follows_at(
-    rows: &[u8],
-    p: Places,
-    mode: Mode,
-    n: usize,
-    x: usize,
-    y: usize,
-    r: Row,
-    q: Row,
-    w: &[u64],
-) -> bool
-    requires { ⌜ (x < n) × (y < n) × (r ≡ rowOf (now rows) x) × (q ≡ rowOf (now rows) y) × Ready (decode (now rows) p mode n) n (now w) ⌝ }
-    ensures { λ d. ⌜ d ≡ follows (decode (now (rows .entry)) p mode n) x y ⌝ }
+pub fn follows_at(t: &Run, n: usize, x: usize, y: usize, r: Row, q: Row, w: &[u64]) -> bool
+    requires { ⌜ (x < n) × (y < n) × (r ≡ rowOf (rowsIn (now t)) x) × (q ≡ rowOf (rowsIn (now t)) y) × Ready (tableIn (now t) n) n (now w) ⌝ }
+    ensures { λ d. ⌜ d ≡ follows (tableIn (now (t .entry)) n) x y ⌝ }
 {
-    race::mutual_at(rows, p, mode, n, x, y, w) & rows::scopes::is_later_writer(mode.counted, q, r)
+    race::mutual_at(t, n, x, y, w) & rows::scopes::is_later_writer(run::counted(t), q, r)
 }
 
 // Edge 2 from a source: a fill may hand in a number that is no row, so the rows are compared and not the bits.
-pub fn follows_source(
-    rows: &[u8],
-    p: Places,
-    mode: Mode,
-    n: usize,
-    x: u16,
-    y: usize,
-    q: Row,
-) -> bool
-    requires { ⌜ q ≡ rowOf (now rows) y ⌝ }
-    ensures { λ d. ⌜ d ≡ follows (decode (now (rows .entry)) p mode n) x y ⌝ }
+pub fn follows_source(t: &Run, n: usize, x: u16, y: usize, q: Row) -> bool
+    requires { ⌜ q ≡ rowOf (rowsIn (now t)) y ⌝ }
+    ensures { λ d. ⌜ d ≡ follows (tableIn (now (t .entry)) n) x y ⌝ }
 {
-    let r = rows::bytes::read_row(rows, x);
+    let r = run::row(t, x);
     !(x as usize == y)
-        & rows::scopes::is_mutual(p, r, q)
-        & rows::scopes::is_later_writer(mode.counted, q, r)
+        & rows::scopes::is_mutual(run::places(t), r, q)
+        & rows::scopes::is_later_writer(run::counted(t), q, r)
 }
 
 // Edge 3: whether x is the source of the reader y, which is q.
 // Ruled out: one that goes from the reader to its source; one that holds of a y that does not read.
-pub fn reads_from_at(
-    rows: &[u8],
-    p: Places,
-    mode: Mode,
-    n: usize,
-    src: &[u16],
-    x: usize,
-    y: usize,
-    q: Row,
-) -> bool
-    requires { ⌜ (y < n) × (n ≤ length (now src)) × (q ≡ rowOf (now rows) y) ⌝ }
-    ensures { λ d. ⌜ d ≡ readsFrom (decode (now (rows .entry)) p mode n) (sourceIn (now (src .entry))) x y ⌝ }
+pub fn reads_from_at(t: &Run, n: usize, src: &[u16], x: usize, y: usize, q: Row) -> bool
+    requires { ⌜ (y < n) × (n ≤ length (now src)) × (q ≡ rowOf (rowsIn (now t)) y) ⌝ }
+    ensures { λ d. ⌜ d ≡ readsFrom (tableIn (now (t .entry)) n) (sourceIn (now (src .entry))) x y ⌝ }
 {
     let s = crate::source_at(src, y);
     rows::kinds::reads(q) & (s.0 as usize == x)
@@ -75,49 +48,30 @@ pub fn reads_from_at(
 // Edge 4, from-reads: whether the reader y, which is r, goes to another row z, which is q: one that follows y's source, or any
 // writer over its bytes if it read the initial value.
 // Ruled out: one that leads from an RMW to itself; one that asks what follows y instead of y's source.
-pub fn from_reads_at(
-    rows: &[u8],
-    p: Places,
-    mode: Mode,
-    n: usize,
-    src: &[u16],
-    y: usize,
-    z: usize,
-    r: Row,
-    q: Row,
-) -> bool
-    requires { ⌜ (y < n) × (n ≤ length (now src)) × (r ≡ rowOf (now rows) y) × (q ≡ rowOf (now rows) z) ⌝ }
-    ensures { λ d. ⌜ d ≡ fromReads (decode (now (rows .entry)) p mode n) (sourceIn (now (src .entry))) y z ⌝ }
+pub fn from_reads_at(t: &Run, n: usize, src: &[u16], y: usize, z: usize, r: Row, q: Row) -> bool
+    requires { ⌜ (y < n) × (n ≤ length (now src)) × (r ≡ rowOf (rowsIn (now t)) y) × (q ≡ rowOf (rowsIn (now t)) z) ⌝ }
+    ensures { λ d. ⌜ d ≡ fromReads (tableIn (now (t .entry)) n) (sourceIn (now (src .entry))) y z ⌝ }
 {
     let s = crate::source_at(src, y);
     let apart = !(y == z) & rows::kinds::reads(r);
     if s.is_initial() {
         return apart & (rows::kinds::writes(q) & rules::shared::overlap(r, q));
     }
-    apart & follows_source(rows, p, mode, n, s.0, z, q)
+    apart & follows_source(t, n, s.0, z, q)
 }
 
 // The lowest number of an edge from x to y, and 0 where there is none.
 // Ruled out: one that gives 3 where edge 1 holds too; one that takes x for the reader in edge 3.
-pub fn edge_number(
-    rows: &[u8],
-    p: Places,
-    mode: Mode,
-    n: usize,
-    src: &[u16],
-    x: usize,
-    y: usize,
-    w: &[u64],
-) -> u16
-    requires { ⌜ (x < n) × (y < n) × (n ≤ length (now src)) × Ready (decode (now rows) p mode n) n (now w) ⌝ }
-    ensures { λ e. ⌜ e ≡ edgeNumber (decode (now (rows .entry)) p mode n) (sourceIn (now (src .entry))) x y ⌝ }
+pub fn edge_number(t: &Run, n: usize, src: &[u16], x: usize, y: usize, w: &[u64]) -> u16
+    requires { ⌜ (x < n) × (y < n) × (n ≤ length (now src)) × Ready (tableIn (now t) n) n (now w) ⌝ }
+    ensures { λ e. ⌜ e ≡ edgeNumber (tableIn (now (t .entry)) n) (sourceIn (now (src .entry))) x y ⌝ }
 {
-    let r = rows::bytes::read_row(rows, x as u16);
-    let q = rows::bytes::read_row(rows, y as u16);
-    let location = race::pair::before_some(rows, p, mode, n, x, y, w);
-    let order = follows_at(rows, p, mode, n, x, y, r, q, w);
-    let source = reads_from_at(rows, p, mode, n, src, x, y, q);
-    let reader = from_reads_at(rows, p, mode, n, src, x, y, r, q);
+    let r = run::row(t, x as u16);
+    let q = run::row(t, y as u16);
+    let location = race::pair::before_some(t, n, x, y, w);
+    let order = follows_at(t, n, x, y, r, q, w);
+    let source = reads_from_at(t, n, src, x, y, q);
+    let reader = from_reads_at(t, n, src, x, y, r, q);
     pick::number(
         location,
         1,
@@ -131,14 +85,14 @@ pub fn edge_number(
 
 // The edges between n rows.
 // Ruled out: one that leaves a bit of an earlier stage set; one that writes a word outside the edges' region.
-pub fn fill_edges(rows: &[u8], p: Places, mode: Mode, n: usize, src: &[u16], w: &mut [u64])
-    requires { ⌜ (n ≤ length (now src)) × Ready (decode (now rows) p mode n) n (now w) ⌝ }
-    ensures { λ _. let t = decode (now (rows .entry)) p mode n in
+pub fn fill_edges(t: &Run, n: usize, src: &[u16], w: &mut [u64])
+    requires { ⌜ (n ≤ length (now src)) × Ready (tableIn (now t) n) n (now w) ⌝ }
+    ensures { λ _. let t = tableIn (now (t .entry)) n in
         ⌜ Made EDGE EDGE-END EDGE GRID n (edge t (sourceIn (now (src .entry)))) (now (w .entry)) (now (w .exit)) ⌝ }
 {
     bits::clear(w, area::EDGE, area::EDGE_END);
     for x in 0..n {
-        crate::grid::edge_row(rows, p, mode, n, src, x, w);
+        crate::grid::edge_row(t, n, src, x, w);
     }
-    crate::grid::add_sources(rows, p, mode, n, src, w);
+    crate::grid::add_sources(t, n, src, w);
 }

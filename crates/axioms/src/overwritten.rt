@@ -4,32 +4,24 @@ ghost use mathlib.Core.Bool.{true};
 ghost use Prim.Native.Nat.{_≤_, _<_};
 ghost use lib.ListN.{length};
 ghost use Rattle.model.specs.Limits.{ROWS};
-ghost use Rattle.model.specs.Table.{rowOf, decode};
+ghost use Rattle.run.specs.Layout.{tableIn, rowsIn};
+ghost use Rattle.model.specs.Table.{rowOf};
 ghost use Rattle.model.specs.Edge.{overwritesNth, overNth, overWriter, overReader};
 ghost use Rattle.area.specs.Regions.{PAIR};
 ghost use Rattle.race.specs.Bytes.{Ready, Bounded};
 ghost use Rattle.axioms.specs.Sources.{sourceIn};
 ghost use Rattle.axioms.specs.Overwritten.{mayOverwrite, foundOverwrite};
-use model::Mode;
-use model::Places;
 use model::Row;
+use run::Run;
 use sets::walk;
 
 // Whether y reads, z writes, and y's source is a row.
-fn may_overwrite(
-    rows: &[u8],
-    p: Places,
-    mode: Mode,
-    n: usize,
-    src: &[u16],
-    y: usize,
-    z: usize,
-) -> bool
+fn may_overwrite(t: &Run, n: usize, src: &[u16], y: usize, z: usize) -> bool
     requires { ⌜ (n ≤ ROWS) × (y < n) × (z < n) × (n ≤ length (now src)) ⌝ }
-    ensures { λ d. ⌜ d ≡ mayOverwrite (decode (now (rows .entry)) p mode n) (sourceIn (now (src .entry))) y z ⌝ }
+    ensures { λ d. ⌜ d ≡ mayOverwrite (tableIn (now (t .entry)) n) (sourceIn (now (src .entry))) y z ⌝ }
 {
-    let r = rows::bytes::read_row(rows, y as u16);
-    let q = rows::bytes::read_row(rows, z as u16);
+    let r = run::row(t, y as u16);
+    let q = run::row(t, z as u16);
     let s = crate::source_at(src, y);
     rows::kinds::reads(r) & rows::kinds::writes(q) & s.is_row(n as u16)
 }
@@ -37,9 +29,7 @@ fn may_overwrite(
 // Axiom B at y's k-th byte: whether z comes after y's source s, which is o, and before y. The rows r and q are y's and z's.
 // Ruled out: one that asks for z before the source; one that counts the byte from z's start.
 pub fn overwrites_at(
-    rows: &[u8],
-    p: Places,
-    mode: Mode,
+    t: &Run,
     n: usize,
     src: &[u16],
     y: usize,
@@ -52,42 +42,32 @@ pub fn overwrites_at(
     w: &[u64],
 ) -> bool
     requires { ⌜ (y < n) × (z < n) × (k < PAIR) × (s ≡ sourceIn (now src) y)
-        × (mayOverwrite (decode (now rows) p mode n) (sourceIn (now src)) y z ≡ true)
-        × (o ≡ rowOf (now rows) s) × (r ≡ rowOf (now rows) y) × (q ≡ rowOf (now rows) z) × Ready (decode (now rows) p mode n) n (now w) ⌝ }
-    ensures { λ d. ⌜ d ≡ overwritesNth (decode (now (rows .entry)) p mode n) (sourceIn (now (src .entry))) y z k ⌝ }
+        × (mayOverwrite (tableIn (now t) n) (sourceIn (now src)) y z ≡ true)
+        × (o ≡ rowOf (rowsIn (now t)) s) × (r ≡ rowOf (rowsIn (now t)) y) × (q ≡ rowOf (rowsIn (now t)) z) × Ready (tableIn (now t) n) n (now w) ⌝ }
+    ensures { λ d. ⌜ d ≡ overwritesNth (tableIn (now (t .entry)) n) (sourceIn (now (src .entry))) y z k ⌝ }
 {
     let b = (r.start as u32) + (k as u32);
-    race::before_byte(rows, p, mode, n, s, z, o, b, w)
-        & race::before_byte(rows, p, mode, n, z, y, q, b, w)
+    race::before_byte(t, n, s, z, o, b, w) & race::before_byte(t, n, z, y, q, b, w)
 }
 
 // Axiom B: which of y's bytes is the lowest that z overwrites, and PAIR where none is.
 // Ruled out: one that says 0 where none is; one that stops at the lowest byte that y and z share.
-pub fn over_nth(
-    rows: &[u8],
-    p: Places,
-    mode: Mode,
-    n: usize,
-    src: &[u16],
-    y: usize,
-    z: usize,
-    w: &[u64],
-) -> usize
-    requires { ⌜ (y < n) × (z < n) × (n ≤ length (now src)) × Ready (decode (now rows) p mode n) n (now w) ⌝ }
-    ensures { λ k. ⌜ k ≡ overNth (decode (now (rows .entry)) p mode n) (sourceIn (now (src .entry))) y z ⌝ }
+pub fn over_nth(t: &Run, n: usize, src: &[u16], y: usize, z: usize, w: &[u64]) -> usize
+    requires { ⌜ (y < n) × (z < n) × (n ≤ length (now src)) × Ready (tableIn (now t) n) n (now w) ⌝ }
+    ensures { λ k. ⌜ k ≡ overNth (tableIn (now (t .entry)) n) (sourceIn (now (src .entry))) y z ⌝ }
 {
     if race::pair::is_unset(w, z, y) {
         return area::PAIR;
     }
-    if !may_overwrite(rows, p, mode, n, src, y, z) {
+    if !may_overwrite(t, n, src, y, z) {
         return area::PAIR;
     }
     let s = crate::source_at(src, y);
-    let o = rows::bytes::read_row(rows, s.0);
-    let r = rows::bytes::read_row(rows, y as u16);
-    let q = rows::bytes::read_row(rows, z as u16);
+    let o = run::row(t, s.0);
+    let r = run::row(t, y as u16);
+    let q = run::row(t, z as u16);
     for k in 0..area::PAIR {
-        if overwrites_at(rows, p, mode, n, src, y, z, s.0 as usize, o, r, q, k, w) {
+        if overwrites_at(t, n, src, y, z, s.0 as usize, o, r, q, k, w) {
             return k;
         }
     }
@@ -96,19 +76,11 @@ pub fn over_nth(
 
 // Axiom B: the first writer that overwrites y's source before y, and n where none does. It shares a byte with y.
 // Ruled out: one that gives a later writer with a lower byte; one that says 0 where none does.
-pub fn over_writer(
-    rows: &[u8],
-    p: Places,
-    mode: Mode,
-    n: usize,
-    src: &[u16],
-    y: usize,
-    w: &[u64],
-) -> usize
-    requires { ⌜ (y < n) × (n ≤ length (now src)) × Ready (decode (now rows) p mode n) n (now w) ⌝ }
-    ensures { λ z. ⌜ z ≡ overWriter (decode (now (rows .entry)) p mode n) (sourceIn (now (src .entry))) y ⌝ }
+pub fn over_writer(t: &Run, n: usize, src: &[u16], y: usize, w: &[u64]) -> usize
+    requires { ⌜ (y < n) × (n ≤ length (now src)) × Ready (tableIn (now t) n) n (now w) ⌝ }
+    ensures { λ z. ⌜ z ≡ overWriter (tableIn (now (t .entry)) n) (sourceIn (now (src .entry))) y ⌝ }
 {
-    let r = rows::bytes::read_row(rows, y as u16);
+    let r = run::row(t, y as u16);
     let s = crate::source_at(src, y);
     if !(rows::kinds::reads(r) & s.is_row(n as u16)) {
         return n;
@@ -116,7 +88,7 @@ pub fn over_writer(
     let at = area::grid::at(area::OVERLAP, y);
     let mut z = walk::next(w, at, at, 0, n);
     while z < n {
-        if over_nth(rows, p, mode, n, src, y, z, w) < area::PAIR {
+        if over_nth(t, n, src, y, z, w) < area::PAIR {
             return z;
         }
         z = walk::next(w, at, at, z + 1, n);
@@ -126,12 +98,12 @@ pub fn over_writer(
 
 // Axiom B: the first reader whose source is overwritten, and n where B holds.
 // Ruled out: one that gives the reader of the first writer; one that passes over the last row.
-pub fn over_reader(rows: &[u8], p: Places, mode: Mode, n: usize, src: &[u16], w: &[u64]) -> usize
-    requires { ⌜ (n ≤ length (now src)) × Ready (decode (now rows) p mode n) n (now w) ⌝ }
-    ensures { λ y. ⌜ y ≡ overReader (decode (now (rows .entry)) p mode n) (sourceIn (now (src .entry))) ⌝ }
+pub fn over_reader(t: &Run, n: usize, src: &[u16], w: &[u64]) -> usize
+    requires { ⌜ (n ≤ length (now src)) × Ready (tableIn (now t) n) n (now w) ⌝ }
+    ensures { λ y. ⌜ y ≡ overReader (tableIn (now (t .entry)) n) (sourceIn (now (src .entry))) ⌝ }
 {
     for y in 0..n {
-        if over_writer(rows, p, mode, n, src, y, w) < n {
+        if over_writer(t, n, src, y, w) < n {
             return y;
         }
     }
@@ -145,24 +117,17 @@ pub enum Overwrite {
 
 // Axiom B: the reader, writer and byte that break it, least in that order.
 // Ruled out: one that shows the source where the writer must stand; one that shows the byte as counted from the reader's start.
-pub fn first_overwrite(
-    rows: &[u8],
-    p: Places,
-    mode: Mode,
-    n: usize,
-    src: &[u16],
-    w: &[u64],
-) -> Overwrite
-    requires { ⌜ (n ≤ length (now src)) × Bounded (decode (now rows) p mode n) × Ready (decode (now rows) p mode n) n (now w) ⌝ }
-    ensures { λ r. ⌜ r ≡ foundOverwrite (decode (now (rows .entry)) p mode n) (sourceIn (now (src .entry))) ⌝ }
+pub fn first_overwrite(t: &Run, n: usize, src: &[u16], w: &[u64]) -> Overwrite
+    requires { ⌜ (n ≤ length (now src)) × Bounded (tableIn (now t) n) × Ready (tableIn (now t) n) n (now w) ⌝ }
+    ensures { λ r. ⌜ r ≡ foundOverwrite (tableIn (now (t .entry)) n) (sourceIn (now (src .entry))) ⌝ }
 {
-    let y = over_reader(rows, p, mode, n, src, w);
+    let y = over_reader(t, n, src, w);
     if n <= y {
         return Overwrite::Nothing;
     }
-    let z = over_writer(rows, p, mode, n, src, y, w);
-    let k = over_nth(rows, p, mode, n, src, y, z, w);
-    let r = rows::bytes::read_row(rows, y as u16);
+    let z = over_writer(t, n, src, y, w);
+    let k = over_nth(t, n, src, y, z, w);
+    let r = run::row(t, y as u16);
     Overwrite::At {
         reader: y as u16,
         writer: z as u16,

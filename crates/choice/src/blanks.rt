@@ -4,56 +4,37 @@ ghost use Prim.Native.Nat.{_≤_, _<_};
 ghost use lib.ListN.{length, getD};
 ghost use Rattle.finite.specs.Below.{anyBelow, least};
 ghost use Rattle.model.specs.Limits.{LONGEST};
-ghost use Rattle.model.specs.Table.{rowOf, decode};
+ghost use Rattle.run.specs.Layout.{tableIn, rowsIn};
+ghost use Rattle.model.specs.Table.{rowOf};
 ghost use Rattle.model.specs.Fill.{unorderedAt, candidate, choice, chosen};
 ghost use Rattle.race.specs.Bytes.{Ready};
 ghost use Rattle.choice.specs.Sources.{Listed};
 ghost use Rattle.choice.specs.Choice.{chosenFrom};
 use crate::writers;
-use model::Mode;
-use model::Places;
 use model::Row;
 use model::Source;
+use run::Run;
 
 // ---- candidates
 
 // Whether s, which is q, is not ordered before y, which is r, at y's k-th byte.
-fn misses_at(
-    rows: &[u8],
-    p: Places,
-    mode: Mode,
-    n: usize,
-    y: usize,
-    s: usize,
-    r: Row,
-    q: Row,
-    k: usize,
-    w: &[u64],
-) -> bool
-    requires { ⌜ (y < n) × (s < n) × (r ≡ rowOf (now rows) y) × (q ≡ rowOf (now rows) s) × (k < LONGEST) × Ready (decode (now rows) p mode n) n (now w) ⌝ }
-    ensures { λ b. ⌜ b ≡ unorderedAt (decode (now (rows .entry)) p mode n) y s k ⌝ }
+fn misses_at(t: &Run, n: usize, y: usize, s: usize, r: Row, q: Row, k: usize, w: &[u64]) -> bool
+    requires { ⌜ (y < n) × (s < n) × (r ≡ rowOf (rowsIn (now t)) y) × (q ≡ rowOf (rowsIn (now t)) s) × (k < LONGEST) × Ready (tableIn (now t) n) n (now w) ⌝ }
+    ensures { λ b. ⌜ b ≡ unorderedAt (tableIn (now (t .entry)) n) y s k ⌝ }
 {
     let b = (r.start as u32) + (k as u32);
-    rows::kinds::touches(r, b) & !race::before_byte(rows, p, mode, n, s, y, q, b, w)
+    rows::kinds::touches(r, b) & !race::before_byte(t, n, s, y, q, b, w)
 }
 
 // Whether s is not ordered before y at some byte of y.
-pub fn some_miss(
-    rows: &[u8],
-    p: Places,
-    mode: Mode,
-    n: usize,
-    y: usize,
-    s: usize,
-    w: &[u64],
-) -> bool
-    requires { ⌜ (y < n) × (s < n) × Ready (decode (now rows) p mode n) n (now w) ⌝ }
-    ensures { λ b. ⌜ b ≡ anyBelow LONGEST (unorderedAt (decode (now (rows .entry)) p mode n) y s) ⌝ }
+pub fn some_miss(t: &Run, n: usize, y: usize, s: usize, w: &[u64]) -> bool
+    requires { ⌜ (y < n) × (s < n) × Ready (tableIn (now t) n) n (now w) ⌝ }
+    ensures { λ b. ⌜ b ≡ anyBelow LONGEST (unorderedAt (tableIn (now (t .entry)) n) y s) ⌝ }
 {
-    let r = rows::bytes::read_row(rows, y as u16);
-    let q = rows::bytes::read_row(rows, s as u16);
+    let r = run::row(t, y as u16);
+    let q = run::row(t, s as u16);
     for k in 0..area::PAIR {
-        if misses_at(rows, p, mode, n, y, s, r, q, k, w) {
+        if misses_at(t, n, y, s, r, q, k, w) {
             return true;
         }
     }
@@ -61,35 +42,27 @@ pub fn some_miss(
 }
 
 // Whether y may have read s: s covers y, comes before y at each byte, and nothing comes between.
-pub fn candidate_at(
-    rows: &[u8],
-    p: Places,
-    mode: Mode,
-    n: usize,
-    y: usize,
-    s: usize,
-    w: &[u64],
-) -> bool
-    requires { ⌜ (y < n) × (s < n) × Ready (decode (now rows) p mode n) n (now w) ⌝ }
-    ensures { λ b. ⌜ b ≡ candidate (decode (now (rows .entry)) p mode n) y s ⌝ }
+pub fn candidate_at(t: &Run, n: usize, y: usize, s: usize, w: &[u64]) -> bool
+    requires { ⌜ (y < n) × (s < n) × Ready (tableIn (now t) n) n (now w) ⌝ }
+    ensures { λ b. ⌜ b ≡ candidate (tableIn (now (t .entry)) n) y s ⌝ }
 {
     let from = Source::of_row(s as u16);
-    if !table::table_faults::writer_fits(rows, n as u16, y as u16, from) {
+    if !table::table_faults::writer_fits(run::rows_of(t), n as u16, y as u16, from) {
         return false;
     }
-    if some_miss(rows, p, mode, n, y, s, w) {
+    if some_miss(t, n, y, s, w) {
         return false;
     }
-    !writers::some_between(rows, p, mode, n, y, s, w)
+    !writers::some_between(t, n, y, s, w)
 }
 
 // The first row that y may have read; n where there is none.
-pub fn first_candidate(rows: &[u8], p: Places, mode: Mode, n: usize, y: usize, w: &[u64]) -> usize
-    requires { ⌜ (y < n) × Ready (decode (now rows) p mode n) n (now w) ⌝ }
-    ensures { λ s. ⌜ (s ≡ least n (candidate (decode (now (rows .entry)) p mode n) y)) × (s ≤ n) ⌝ }
+pub fn first_candidate(t: &Run, n: usize, y: usize, w: &[u64]) -> usize
+    requires { ⌜ (y < n) × Ready (tableIn (now t) n) n (now w) ⌝ }
+    ensures { λ s. ⌜ (s ≡ least n (candidate (tableIn (now (t .entry)) n) y)) × (s ≤ n) ⌝ }
 {
     for s in 0..n {
-        if candidate_at(rows, p, mode, n, y, s, w) {
+        if candidate_at(t, n, y, s, w) {
             return s;
         }
     }
@@ -99,25 +72,25 @@ pub fn first_candidate(rows: &[u8], p: Places, mode: Mode, n: usize, y: usize, w
 // ---- choices
 
 // The source that the blank y must have: the initial value where no writer comes before it; n where it can have none.
-pub fn choice_of(rows: &[u8], p: Places, mode: Mode, n: usize, y: usize, w: &[u64]) -> u16
-    requires { ⌜ (y < n) × Ready (decode (now rows) p mode n) n (now w) ⌝ }
-    ensures { λ s. ⌜ s ≡ choice (decode (now (rows .entry)) p mode n) y ⌝ }
+pub fn choice_of(t: &Run, n: usize, y: usize, w: &[u64]) -> u16
+    requires { ⌜ (y < n) × Ready (tableIn (now t) n) n (now w) ⌝ }
+    ensures { λ s. ⌜ s ≡ choice (tableIn (now (t .entry)) n) y ⌝ }
 {
-    if !writers::is_written(rows, p, mode, n, y, w) {
+    if !writers::is_written(t, n, y, w) {
         return Source::INITIAL.0;
     }
-    first_candidate(rows, p, mode, n, y, w) as u16
+    first_candidate(t, n, y, w) as u16
 }
 
 // The source of row i, which has s: its choice where it is a blank, else s.
-fn chosen_at(rows: &[u8], p: Places, mode: Mode, n: usize, i: usize, s: u16, w: &[u64]) -> u16
-    requires { ⌜ (i < n) × Ready (decode (now rows) p mode n) n (now w) ⌝ }
-    ensures { λ c. ⌜ c ≡ chosenFrom (decode (now (rows .entry)) p mode n) i s ⌝ }
+fn chosen_at(t: &Run, n: usize, i: usize, s: u16, w: &[u64]) -> u16
+    requires { ⌜ (i < n) × Ready (tableIn (now t) n) n (now w) ⌝ }
+    ensures { λ c. ⌜ c ≡ chosenFrom (tableIn (now (t .entry)) n) i s ⌝ }
 {
-    let r = rows::bytes::read_row(rows, i as u16);
+    let r = run::row(t, i as u16);
     let own = Source::of_row(s);
     if rows::kinds::is_plain_read(r) & own.is_blank() {
-        return choice_of(rows, p, mode, n, i, w);
+        return choice_of(t, n, i, w);
     }
     s
 }
@@ -125,14 +98,14 @@ fn chosen_at(rows: &[u8], p: Places, mode: Mode, n: usize, i: usize, s: u16, w: 
 // Each blank's choice, and every other row's own source.
 // Ruled out: one that chooses for a plain read that names its source; one that takes for a blank a writer that was overwritten
 // before it at any byte.
-pub fn choose(rows: &[u8], p: Places, mode: Mode, n: usize, src: &[u16], w: &[u64]) -> [u16; 128]
-    requires { ⌜ (n ≤ length (now src)) × Ready (decode (now rows) p mode n) n (now w) ⌝ }
-    ensures { λ r. ⌜ Listed (chosen (decode (now (rows .entry)) p mode n) (λ i. getD (now (src .entry)) i 0)) n r ⌝ }
+pub fn choose(t: &Run, n: usize, src: &[u16], w: &[u64]) -> [u16; 128]
+    requires { ⌜ (n ≤ length (now src)) × Ready (tableIn (now t) n) n (now w) ⌝ }
+    ensures { λ r. ⌜ Listed (chosen (tableIn (now (t .entry)) n) (λ i. getD (now (src .entry)) i 0)) n r ⌝ }
 {
     let mut list = [0u16; 128];
     for i in 0..n {
         let s = src[i];
-        let c = chosen_at(rows, p, mode, n, i, s, w);
+        let c = chosen_at(t, n, i, s, w);
         list[i] = c;
     }
     list

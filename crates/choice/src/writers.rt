@@ -4,36 +4,36 @@ ghost use Prim.Native.Nat.{_<_};
 ghost use Rattle.finite.specs.Logic.{_and_};
 ghost use Rattle.finite.specs.Below.{anyBelow};
 ghost use Rattle.model.specs.Limits.{LONGEST};
-ghost use Rattle.model.specs.Table.{rowOf, decode};
+ghost use Rattle.run.specs.Layout.{tableIn, rowsIn};
+ghost use Rattle.model.specs.Table.{rowOf};
 ghost use Rattle.model.specs.Scope.{follows};
 ghost use Rattle.model.specs.Edge.{beforeSome};
 ghost use Rattle.model.specs.Fill.{writtenBy, written, overwritesBetween, between};
 ghost use Rattle.race.specs.Bytes.{Ready};
-use model::Mode;
-use model::Places;
 use model::Row;
+use run::Run;
 
 // ---- before a row
 
 // Whether z is a writer that is ordered before y.
-fn written_by(rows: &[u8], p: Places, mode: Mode, n: usize, y: usize, z: usize, w: &[u64]) -> bool
-    requires { ⌜ (y < n) × (z < n) × Ready (decode (now rows) p mode n) n (now w) ⌝ }
-    ensures { λ b. ⌜ b ≡ writtenBy (decode (now (rows .entry)) p mode n) y z ⌝ }
+fn written_by(t: &Run, n: usize, y: usize, z: usize, w: &[u64]) -> bool
+    requires { ⌜ (y < n) × (z < n) × Ready (tableIn (now t) n) n (now w) ⌝ }
+    ensures { λ b. ⌜ b ≡ writtenBy (tableIn (now (t .entry)) n) y z ⌝ }
 {
-    let r = rows::bytes::read_row(rows, z as u16);
+    let r = run::row(t, z as u16);
     if !rows::kinds::writes(r) {
         return false;
     }
-    race::pair::before_some(rows, p, mode, n, z, y, w)
+    race::pair::before_some(t, n, z, y, w)
 }
 
 // Whether some writer is ordered before y.
-pub fn is_written(rows: &[u8], p: Places, mode: Mode, n: usize, y: usize, w: &[u64]) -> bool
-    requires { ⌜ (y < n) × Ready (decode (now rows) p mode n) n (now w) ⌝ }
-    ensures { λ b. ⌜ b ≡ written (decode (now (rows .entry)) p mode n) y ⌝ }
+pub fn is_written(t: &Run, n: usize, y: usize, w: &[u64]) -> bool
+    requires { ⌜ (y < n) × Ready (tableIn (now t) n) n (now w) ⌝ }
+    ensures { λ b. ⌜ b ≡ written (tableIn (now (t .entry)) n) y ⌝ }
 {
     for z in 0..n {
-        if written_by(rows, p, mode, n, y, z, w) {
+        if written_by(t, n, y, z, w) {
             return true;
         }
     }
@@ -44,9 +44,7 @@ pub fn is_written(rows: &[u8], p: Places, mode: Mode, n: usize, y: usize, w: &[u
 
 // Whether z, which is v, overwrites s, which is q, before y, which is r, at y's k-th byte.
 fn hides_at(
-    rows: &[u8],
-    p: Places,
-    mode: Mode,
+    t: &Run,
     n: usize,
     y: usize,
     s: usize,
@@ -57,34 +55,24 @@ fn hides_at(
     k: usize,
     w: &[u64],
 ) -> bool
-    requires { ⌜ (y < n) × (s < n) × (z < n) × (r ≡ rowOf (now rows) y) × (q ≡ rowOf (now rows) s) × (v ≡ rowOf (now rows) z) × (k < LONGEST)
-        × Ready (decode (now rows) p mode n) n (now w) ⌝ }
-    ensures { λ b. ⌜ b ≡ overwritesBetween (decode (now (rows .entry)) p mode n) y s z k ⌝ }
+    requires { ⌜ (y < n) × (s < n) × (z < n) × (r ≡ rowOf (rowsIn (now t)) y) × (q ≡ rowOf (rowsIn (now t)) s) × (v ≡ rowOf (rowsIn (now t)) z) × (k < LONGEST)
+        × Ready (tableIn (now t) n) n (now w) ⌝ }
+    ensures { λ b. ⌜ b ≡ overwritesBetween (tableIn (now (t .entry)) n) y s z k ⌝ }
 {
     let b = (r.start as u32) + (k as u32);
-    race::before_byte(rows, p, mode, n, s, z, q, b, w)
-        & race::before_byte(rows, p, mode, n, z, y, v, b, w)
+    race::before_byte(t, n, s, z, q, b, w) & race::before_byte(t, n, z, y, v, b, w)
 }
 
 // Whether z overwrites s before y at some byte of y.
-pub fn some_hidden(
-    rows: &[u8],
-    p: Places,
-    mode: Mode,
-    n: usize,
-    y: usize,
-    s: usize,
-    z: usize,
-    w: &[u64],
-) -> bool
-    requires { ⌜ (y < n) × (s < n) × (z < n) × Ready (decode (now rows) p mode n) n (now w) ⌝ }
-    ensures { λ b. ⌜ b ≡ anyBelow LONGEST (overwritesBetween (decode (now (rows .entry)) p mode n) y s z) ⌝ }
+pub fn some_hidden(t: &Run, n: usize, y: usize, s: usize, z: usize, w: &[u64]) -> bool
+    requires { ⌜ (y < n) × (s < n) × (z < n) × Ready (tableIn (now t) n) n (now w) ⌝ }
+    ensures { λ b. ⌜ b ≡ anyBelow LONGEST (overwritesBetween (tableIn (now (t .entry)) n) y s z) ⌝ }
 {
-    let r = rows::bytes::read_row(rows, y as u16);
-    let q = rows::bytes::read_row(rows, s as u16);
-    let v = rows::bytes::read_row(rows, z as u16);
+    let r = run::row(t, y as u16);
+    let q = run::row(t, s as u16);
+    let v = run::row(t, z as u16);
     for k in 0..area::PAIR {
-        if hides_at(rows, p, mode, n, y, s, z, r, q, v, k, w) {
+        if hides_at(t, n, y, s, z, r, q, v, k, w) {
             return true;
         }
     }
@@ -92,61 +80,37 @@ pub fn some_hidden(
 }
 
 // Whether z follows s in their scoped modification order, and is ordered before y.
-fn overtakes(
-    rows: &[u8],
-    p: Places,
-    mode: Mode,
-    n: usize,
-    y: usize,
-    s: usize,
-    z: usize,
-    w: &[u64],
-) -> bool
-    requires { ⌜ (y < n) × (s < n) × (z < n) × Ready (decode (now rows) p mode n) n (now w) ⌝ }
-    ensures { λ b. ⌜ b ≡ (follows (decode (now (rows .entry)) p mode n) s z and beforeSome (decode (now (rows .entry)) p mode n) z y) ⌝ }
+fn overtakes(t: &Run, n: usize, y: usize, s: usize, z: usize, w: &[u64]) -> bool
+    requires { ⌜ (y < n) × (s < n) × (z < n) × Ready (tableIn (now t) n) n (now w) ⌝ }
+    ensures { λ b. ⌜ b ≡ (follows (tableIn (now (t .entry)) n) s z and beforeSome (tableIn (now (t .entry)) n) z y) ⌝ }
 {
-    if !sequence::heads::follows_at(rows, p, mode, n, s, z, w) {
+    let q = run::row(t, s as u16);
+    let v = run::row(t, z as u16);
+    if !axioms::edges::follows_at(t, n, s, z, q, v, w) {
         return false;
     }
-    race::pair::before_some(rows, p, mode, n, z, y, w)
+    race::pair::before_some(t, n, z, y, w)
 }
 
 // Whether the writer z comes between s and y: in scoped order, or at a byte.
-pub fn between_at(
-    rows: &[u8],
-    p: Places,
-    mode: Mode,
-    n: usize,
-    y: usize,
-    s: usize,
-    z: usize,
-    w: &[u64],
-) -> bool
-    requires { ⌜ (y < n) × (s < n) × (z < n) × Ready (decode (now rows) p mode n) n (now w) ⌝ }
-    ensures { λ b. ⌜ b ≡ between (decode (now (rows .entry)) p mode n) y s z ⌝ }
+pub fn between_at(t: &Run, n: usize, y: usize, s: usize, z: usize, w: &[u64]) -> bool
+    requires { ⌜ (y < n) × (s < n) × (z < n) × Ready (tableIn (now t) n) n (now w) ⌝ }
+    ensures { λ b. ⌜ b ≡ between (tableIn (now (t .entry)) n) y s z ⌝ }
 {
-    let v = rows::bytes::read_row(rows, z as u16);
+    let v = run::row(t, z as u16);
     if !rows::kinds::writes(v) {
         return false;
     }
-    overtakes(rows, p, mode, n, y, s, z, w) | some_hidden(rows, p, mode, n, y, s, z, w)
+    overtakes(t, n, y, s, z, w) | some_hidden(t, n, y, s, z, w)
 }
 
 // Whether some writer comes between s and y.
-pub fn some_between(
-    rows: &[u8],
-    p: Places,
-    mode: Mode,
-    n: usize,
-    y: usize,
-    s: usize,
-    w: &[u64],
-) -> bool
-    requires { ⌜ (y < n) × (s < n) × Ready (decode (now rows) p mode n) n (now w) ⌝ }
-    ensures { λ b. ⌜ b ≡ anyBelow n (between (decode (now (rows .entry)) p mode n) y s) ⌝ }
+pub fn some_between(t: &Run, n: usize, y: usize, s: usize, w: &[u64]) -> bool
+    requires { ⌜ (y < n) × (s < n) × Ready (tableIn (now t) n) n (now w) ⌝ }
+    ensures { λ b. ⌜ b ≡ anyBelow n (between (tableIn (now (t .entry)) n) y s) ⌝ }
 {
     for z in 0..n {
-        if between_at(rows, p, mode, n, y, s, z, w) {
+        if between_at(t, n, y, s, z, w) {
             return true;
         }
     }

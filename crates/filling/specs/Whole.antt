@@ -1,9 +1,9 @@
 -- What the calls of a fill come to, from the rows of an admitted table and from the bytes of two pieces. Assumes nothing.
 use mathlib.Core.Path.{_≡_, refl, sym, ap, ap₂, _∙_}
 use mathlib.Core.Bool.{Bool, true, false, cond}
-use mathlib.Core.List.{List, _++_}
-use Prim.Native.Nat.{ℕ, _*_, _≤_, _<_}
-use lib.ListN.{length, take}
+use mathlib.Core.List.{List}
+use Prim.Native.Nat.{ℕ, _≤_, _<_}
+use lib.ListN.{length}
 use lib.Dec.{ltb}
 use Rattle.finite.specs.Logic.{_and_}
 use Rattle.finite.specs.Lists.{tabulate}
@@ -15,7 +15,7 @@ use Rattle.model.specs.declared.Admission.the-variants.{Admitted, Refused}
 use Rattle.model.specs.declared.FillAnswer.{FillAnswer}
 use Rattle.model.specs.declared.FillAnswer.the-variants
 use Rattle.model.specs.Limits.{WORK, SOURCES}
-use Rattle.model.specs.Table.{Table, ROW-BYTES, rowBytes, placesOf, modeOf, sourceOf, decode}
+use Rattle.model.specs.Table.{Table, sourceOf, decode}
 use Rattle.model.specs.Race.{raceRow, racePartner, raceByte}
 use Rattle.model.specs.Edge.{consistent}
 use Rattle.model.specs.Check.{raceOr, wiped}
@@ -27,8 +27,10 @@ use Rattle.choice.specs.Sources.{Listed}
 use Rattle.verdict.specs.Whole.{wiped-after}
 use Rattle.model.specs.declared.Refusal.{Refusal}
 use Rattle.model.specs.Refusal.{refusalOf}
-use Rattle.pieces.specs.Pieces.{areaOf, fillBoth}
-use Rattle.pieces.specs.Entry.{doorBoth, Left, left-same, when-refused, when-admitted, door-admits, table-both, sources-both}
+use Rattle.pieces.specs.Pieces.{fillBoth}
+use Rattle.pieces.specs.Entry.{doorBoth, Left, left-same, when-refused, when-admitted}
+use Rattle.run.specs.Layout.{rowsIn, tableIn}
+use Rattle.door.specs.Opened.{Entered}
 use Rattle.pieces.specs.Answers.{fill-both}
 
 -- ---- laws: the rows of an admitted table
@@ -88,18 +90,14 @@ module _ (chains : Bool) (f s w c : List ℕ) (a : Admission) (e : a ≡ doorBot
   filled-refused x h q =
       left-same fillAnswer workAfter sourcesAfter (fill-both chains (length w) (length c) f s ∙ when-refused refused _ a _ e x h q) (refl, refl, refl)
 
-  module _ {g n : ℕ} (h : a ≡ Admitted g n) (all : List ℕ) (p : List (List ℕ)) (mode : Mode) (copy : all ≡ areaOf (rowBytes f ++ s))
-      (places : p ≡ placesOf f) (modes : mode ≡ modeOf chains f) where
-    abbrev pub outcomeRows : Outcome
-    outcomeRows = outcome (decode (take (n * ROW-BYTES) all) p mode n) (sourceOf (take (n * ROW-BYTES) all))
+  module _ {g n : ℕ} (h : a ≡ Admitted g n) (t : List ℕ) (opened : Entered SOURCES true chains f s (length w) (length c) t n) where
+    abbrev pub outcomeRun : Outcome
+    outcomeRun = outcome (tableIn t n) (sourceOf (rowsIn t))
 
-    told-is : told ≡ outcomeRows
+    told-is : told ≡ outcomeRun
     told-is =
-        let k = door-admits SOURCES true f s (length w) (length c) a e h in
-        fill-both chains (length w) (length c) f s ∙ when-admitted refused _ a _ e h
-        ∙ sym (ap₂ outcome (table-both true f s a (k .2) h chains all p mode copy places modes)
-        (sources-both true f s a (k .2) h chains all p mode copy places modes))
+        fill-both chains (length w) (length c) f s ∙ when-admitted refused _ a _ e h ∙ sym (ap₂ outcome (opened .table) (opened .sources))
 
-    pub filled-outcome : (r : FillAnswer) (u d : List ℕ) → (r ≡ fillAnswer outcomeRows) × (u ≡ wiped w) × (d ≡ sourcesAfter outcomeRows c)
+    pub filled-outcome : (r : FillAnswer) (u d : List ℕ) → (r ≡ fillAnswer outcomeRun) × (u ≡ wiped w) × (d ≡ sourcesAfter outcomeRun c)
         → Filled told r w u c d
     filled-outcome r u d j = left-same fillAnswer workAfter sourcesAfter told-is (j .0, j .1 ∙ sym (outcome-wiped _ _ w), j .2)

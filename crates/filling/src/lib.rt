@@ -4,37 +4,28 @@ ghost use mathlib.Core.Bool.{true};
 ghost use Prim.Native.Nat.{_≤_};
 ghost use lib.ListN.{length};
 ghost use Rattle.model.specs.Limits.{WORK, SOURCES};
-ghost use Rattle.model.specs.Table.{decode, sourceOf};
+ghost use Rattle.model.specs.Table.{sourceOf};
 ghost use Rattle.model.specs.Check.{wiped};
 ghost use Rattle.model.specs.Fill.{fill, outcome, fillAnswer, sourcesAfter, workAfter};
 ghost use Rattle.laws.specs.FilledLaws.{Bytes};
 ghost use Rattle.pieces.specs.Pieces.{fillBoth};
-ghost use Rattle.pieces.specs.Entry.{RowsOf};
+ghost use Rattle.run.specs.Layout.{rowsIn, tableIn};
+ghost use Rattle.door.specs.Opened.{RunOf};
 use model::Admission;
 use model::FillAnswer;
-use model::Mode;
-use model::Places;
+use run::Run;
 
 pub mod settle; // the search for a race, the choice and its tests, one after the other
 
-// Fills the n rows of a table that is admitted, by the engine that `quick` says; the work area's words end as zeros.
-fn fill_rows(
-    rows: &[u8],
-    p: Places,
-    mode: Mode,
-    n: usize,
-    quick: bool,
-    work: &mut [u64],
-    sources: &mut [u16],
-) -> FillAnswer
-    requires { ⌜ (WORK ≤ length (now work)) × (SOURCES ≤ length (now sources)) × RowsOf true (now rows) p mode n ⌝ }
-    ensures { λ r. ⌜ (r ≡ fillAnswer (outcome (decode (now (rows .entry)) p mode n) (sourceOf (now (rows .entry)))))
-        × (now (work .exit) ≡ wiped (now (work .entry)))
-        × (now (sources .exit) ≡ sourcesAfter (outcome (decode (now (rows .entry)) p mode n) (sourceOf (now (rows .entry)))) (now (sources .entry))) ⌝ }
+// Fills a run of n rows, by the engine that `quick` says; the work area's words end as zeros.
+fn fill_run(t: &Run, n: usize, quick: bool, work: &mut [u64], sources: &mut [u16]) -> FillAnswer
+    requires { ⌜ (WORK ≤ length (now work)) × (SOURCES ≤ length (now sources)) × RunOf true (now t) n ⌝ }
+    ensures { λ r. let o = outcome (tableIn (now (t .entry)) n) (sourceOf (rowsIn (now (t .entry)))) in
+        ⌜ (r ≡ fillAnswer o) × (now (work .exit) ≡ wiped (now (work .entry))) × (now (sources .exit) ≡ sourcesAfter o (now (sources .entry))) ⌝ }
 {
-    let src = choice::sources::read_sources(rows, n);
-    verdict::judge::locate_by(quick, rows, p, mode, n, work);
-    let r = settle::settle(rows, p, mode, n, &src, work, sources);
+    let src = choice::sources::read_sources(run::rows_of(t), n);
+    verdict::judge::locate_by(quick, t, n, work);
+    let r = settle::settle(t, n, &src, work, sources);
     bits::clear(work, 0, model::WORK);
     r
 }
@@ -57,13 +48,16 @@ pub fn fill_by(
         × (now (work .exit) ≡ workAfter answer (now (work .entry)))
         × (now (sources .exit) ≡ sourcesAfter answer (now (sources .entry))) ⌝ }
 {
-    let a = pieces::open_both(
+    let mut t = [0u8; run::SIZE];
+    let a = door::enter(
         first,
         second,
+        chains,
         true,
         model::SOURCES,
         work.len(),
         sources.len(),
+        &mut t,
     );
     let Admission::Admitted {
         agents: _,
@@ -76,12 +70,7 @@ pub fn fill_by(
             row: x.row,
         };
     };
-    let n = count as usize;
-    let p = rows::scopes::read_places(first);
-    let mode = rows::scopes::read_mode(first, chains);
-    let all = pieces::join_rows(first, second);
-    let end = n * rows::bytes::ROW_BYTES;
-    fill_rows(&all[..end], p, mode, n, quick, work, sources)
+    fill_run(&t, count as usize, quick, work, sources)
 }
 
 // The same by the quick engine.

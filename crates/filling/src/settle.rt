@@ -5,7 +5,7 @@ ghost use lib.ListN.{length};
 ghost use Rattle.finite.specs.Logic.{_and_};
 ghost use Rattle.finite.specs.Lists.{Written};
 ghost use Rattle.model.specs.Limits.{SOURCES};
-ghost use Rattle.model.specs.Table.{decode};
+ghost use Rattle.run.specs.Layout.{tableIn};
 ghost use Rattle.model.specs.Edge.{consistent};
 ghost use Rattle.model.specs.Fill.{chosen, sourcesFit, none, filledOr, outcome, fillAnswer, sourcesAfter};
 ghost use Rattle.bits.specs.Within.{Within};
@@ -14,42 +14,34 @@ ghost use Rattle.race.specs.Bytes.{Ready, Bounded};
 ghost use Rattle.axioms.specs.Sources.{sourceIn};
 ghost use Rattle.filling.specs.Parts.{raceAnswer};
 use model::FillAnswer;
-use model::Mode;
-use model::Places;
+use run::Run;
 
 // Whether the edges have no cycle and no read's source is overwritten.
 // Ruled out: one that says yes of a cycle of edges where nothing is overwritten; one that writes over location order.
-pub fn is_consistent(
-    rows: &[u8],
-    p: Places,
-    mode: Mode,
-    n: usize,
-    src: &[u16],
-    w: &mut [u64],
-) -> bool
-    requires { ⌜ (n ≤ length (now src)) × Ready (decode (now rows) p mode n) n (now w) ⌝ }
-    ensures { λ b. ⌜ (b ≡ consistent (decode (now (rows .entry)) p mode n) (sourceIn (now (src .entry))))
+pub fn is_consistent(t: &Run, n: usize, src: &[u16], w: &mut [u64]) -> bool
+    requires { ⌜ (n ≤ length (now src)) × Ready (tableIn (now t) n) n (now w) ⌝ }
+    ensures { λ b. ⌜ (b ≡ consistent (tableIn (now (t .entry)) n) (sourceIn (now (src .entry))))
         × Within EDGE LAYERS-END (now (w .entry)) (now (w .exit)) ⌝ }
 {
-    axioms::edges::fill_edges(rows, p, mode, n, src, w);
+    axioms::edges::fill_edges(t, n, src, w);
     let x = cycle::cycle_start(w, n);
     if x != n {
         return false;
     }
-    axioms::overwritten::over_reader(rows, p, mode, n, src, w) == n
+    axioms::overwritten::over_reader(t, n, src, w) == n
 }
 
 // Whether a check admits the sources, and the table with them is consistent.
-fn is_filled(rows: &[u8], p: Places, mode: Mode, n: usize, src: &[u16], w: &mut [u64]) -> bool
-    requires { ⌜ (n ≤ length (now src)) × Ready (decode (now rows) p mode n) n (now w) ⌝ }
-    ensures { λ b. let t = decode (now (rows .entry)) p mode n in
+fn is_filled(t: &Run, n: usize, src: &[u16], w: &mut [u64]) -> bool
+    requires { ⌜ (n ≤ length (now src)) × Ready (tableIn (now t) n) n (now w) ⌝ }
+    ensures { λ b. let t = tableIn (now (t .entry)) n in
         ⌜ (b ≡ (sourcesFit t (sourceIn (now (src .entry))) and consistent t (sourceIn (now (src .entry)))))
         × Within EDGE LAYERS-END (now (w .entry)) (now (w .exit)) ⌝ }
 {
-    if !choice::sources::sources_fit(rows, p, mode, n, src) {
+    if !choice::sources::sources_fit(run::rows_of(t), run::places(t), run::mode(t), n, src) {
         return false;
     }
-    is_consistent(rows, p, mode, n, src, w)
+    is_consistent(t, n, src, w)
 }
 
 // The first n numbers of out become the list's.
@@ -64,24 +56,16 @@ pub fn write_sources(list: &[u16], n: usize, out: &mut [u16])
 }
 
 // The answer where there is no race: the chosen sources in out, if they fill the table.
-fn choose_sources(
-    rows: &[u8],
-    p: Places,
-    mode: Mode,
-    n: usize,
-    src: &[u16],
-    w: &mut [u64],
-    out: &mut [u16],
-) -> FillAnswer
-    requires { ⌜ (SOURCES ≤ length (now out)) × (n ≤ length (now src)) × Ready (decode (now rows) p mode n) n (now w) ⌝ }
-    ensures { λ r. let t = decode (now (rows .entry)) p mode n in
+fn choose_sources(t: &Run, n: usize, src: &[u16], w: &mut [u64], out: &mut [u16]) -> FillAnswer
+    requires { ⌜ (SOURCES ≤ length (now out)) × (n ≤ length (now src)) × Ready (tableIn (now t) n) n (now w) ⌝ }
+    ensures { λ r. let t = tableIn (now (t .entry)) n in
         ⌜ (r ≡ fillAnswer (filledOr none t (chosen t (sourceIn (now (src .entry))))))
         × (now (out .exit) ≡ sourcesAfter (filledOr none t (chosen t (sourceIn (now (src .entry))))) (now (out .entry)))
         × Within EDGE LAYERS-END (now (w .entry)) (now (w .exit)) ⌝ }
 {
-    let list = choice::blanks::choose(rows, p, mode, n, src, w);
+    let list = choice::blanks::choose(t, n, src, w);
     let chosen: &[u16] = &list;
-    if !is_filled(rows, p, mode, n, chosen, w) {
+    if !is_filled(t, n, chosen, w) {
         return FillAnswer::None;
     }
     write_sources(chosen, n, out);
@@ -108,23 +92,15 @@ fn race_answer(f: race::Found) -> FillAnswer
 
 // The answer, from location order and the sources; those that fill the table in out.
 // Ruled out: one that fills a table that has a race; one that writes to out where the answer is no fill.
-pub fn settle(
-    rows: &[u8],
-    p: Places,
-    mode: Mode,
-    n: usize,
-    src: &[u16],
-    w: &mut [u64],
-    out: &mut [u16],
-) -> FillAnswer
-    requires { ⌜ (SOURCES ≤ length (now out)) × (n ≤ length (now src)) × Bounded (decode (now rows) p mode n) × Ready (decode (now rows) p mode n) n (now w) ⌝ }
-    ensures { λ r. ⌜ (r ≡ fillAnswer (outcome (decode (now (rows .entry)) p mode n) (sourceIn (now (src .entry)))))
-        × (now (out .exit) ≡ sourcesAfter (outcome (decode (now (rows .entry)) p mode n) (sourceIn (now (src .entry)))) (now (out .entry)))
+pub fn settle(t: &Run, n: usize, src: &[u16], w: &mut [u64], out: &mut [u16]) -> FillAnswer
+    requires { ⌜ (SOURCES ≤ length (now out)) × (n ≤ length (now src)) × Bounded (tableIn (now t) n) × Ready (tableIn (now t) n) n (now w) ⌝ }
+    ensures { λ r. ⌜ (r ≡ fillAnswer (outcome (tableIn (now (t .entry)) n) (sourceIn (now (src .entry)))))
+        × (now (out .exit) ≡ sourcesAfter (outcome (tableIn (now (t .entry)) n) (sourceIn (now (src .entry)))) (now (out .entry)))
         × Within EDGE LAYERS-END (now (w .entry)) (now (w .exit)) ⌝ }
 {
-    let f = race::first_race(rows, p, mode, n, w);
+    let f = race::first_race(t, n, w);
     let race::Found::Nothing = f else {
         return race_answer(f);
     };
-    choose_sources(rows, p, mode, n, src, w, out)
+    choose_sources(t, n, src, w, out)
 }

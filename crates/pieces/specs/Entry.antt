@@ -34,12 +34,12 @@ use Rattle.pieces.specs.PiecesLaws.{none-fault, none-admission}
 unfoldable pub doorBoth : ℕ → Bool → List ℕ → List ℕ → ℕ → ℕ → Admission
 doorBoth needs blanks f s work buffer = cond (buffersFit needs work buffer) (admissionBoth blanks f s) (Refused 11 0)
 
--- b are the bytes of the n rows of some table that is admitted, p its places, and mode what it goes by beside them
+-- b begins with the bytes of the n rows of some table that is admitted, and has zeros past them; p its places, and mode what it goes by beside them
 pub record RowsOf (blanks : Bool) (b : List ℕ) (p : List (List ℕ)) (mode : Mode) (n : ℕ) : Type 0 where
   pub table : List ℕ
   pub chains : Bool
   pub sound : Sound blanks table
-  pub rows : b ≡ rowBytes table
+  pub rows : rowOf b ≡ rowOf (rowBytes table)
   pub places : p ≡ placesOf table
   pub modes : mode ≡ modeOf chains table
   pub all : n ≡ rowsAt table
@@ -98,7 +98,7 @@ decode-same : (b c : List ℕ) (p q : List (List ℕ)) (g h : Mode) (n m : ℕ) 
 decode-same b c p q g h n m same-bytes same-places same-mode same-rows = rw (same-bytes, same-places, same-mode, same-rows) refl
 
 module _ (blanks : Bool) (f s : List ℕ) (a : Admission) (e : a ≡ admissionBoth blanks f s) {g n : ℕ} (h : a ≡ Admitted g n) where
-  pieces-right : piecesFault f s ≡ 0
+  pub pieces-right : piecesFault f s ≡ 0
   unfolding admissionBoth
   pieces-right = go (ℕ-discrete (piecesFault f s) 0)
     where
@@ -110,10 +110,10 @@ module _ (blanks : Bool) (f s : List ℕ) (a : Admission) (e : a ≡ admissionBo
   unfolding admissionBoth
   admits = sym (of-joined f s pieces-right Refused (admission blanks)) ∙ sym e ∙ h
 
-  sound-both : Sound blanks (joined f s)
+  pub sound-both : Sound blanks (joined f s)
   sound-both = admitted-sound blanks (joined f s) admits
 
-  all-both : n ≡ rowsAt (joined f s)
+  pub all-both : n ≡ rowsAt (joined f s)
   all-both = ap rows-in (sym admits ∙ sound-admitted blanks (joined f s) sound-both)
     where
       rows-in : Admission → ℕ
@@ -135,7 +135,7 @@ module _ (blanks : Bool) (f s : List ℕ) (a : Admission) (e : a ≡ admissionBo
           table = joined f s;
           chains = chains;
           sound = sound-both;
-          rows = front;
+          rows = ap rowOf front;
           places = places ∙ sym (joined-places f s pieces-right);
           modes = modes ∙ sym (joined-mode f s pieces-right chains);
           all = all-both;

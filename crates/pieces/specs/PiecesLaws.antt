@@ -662,18 +662,18 @@ module _ (d : List ℕ) (at : ℕ) (s : List ℕ) (n : ℕ) (hd : at + n ≤ len
   before-long : length (take at d) ≡ at
   before-long = length-take-le at d (omega arith)
 
-  paste-before : (i : ℕ) → i < at → getD (paste d at s n) i 0 ≡ getD d i 0
+  pub paste-before : (i : ℕ) → i < at → getD (paste d at s n) i 0 ≡ getD d i 0
   paste-before i l =
       both-first (take at d ++ take n s) (drop (at + n) d) i (rw front-long (omega arith))
       ∙ both-first (take at d) (take n s) i (rw before-long l) ∙ getD-take at d i 0 l
 
-  paste-within : (i : ℕ) → at ≤ i → i < at + n → getD (paste d at s n) i 0 ≡ getD s (i - at) 0
+  pub paste-within : (i : ℕ) → at ≤ i → i < at + n → getD (paste d at s n) i 0 ≡ getD s (i - at) 0
   paste-within i h l =
       both-first (take at d ++ take n s) (drop (at + n) d) i (rw front-long l)
       ∙ both-second (take at d) (take n s) i (rw before-long h)
       ∙ ap (λ (j : ℕ). getD (take n s) (i - j) 0) before-long ∙ getD-take n s (i - at) 0 (omega arith)
 
-  paste-past : (i : ℕ) → at + n ≤ i → getD (paste d at s n) i 0 ≡ getD d i 0
+  pub paste-past : (i : ℕ) → at + n ≤ i → getD (paste d at s n) i 0 ≡ getD d i 0
   paste-past i l =
       let e : at + n + (i - (at + n)) ≡ i = omega arith in
       both-second (take at d ++ take n s) (drop (at + n) d) i (rw front-long l)

@@ -2,53 +2,35 @@
 // rows, places or number of rows that it is given: they say which table its contract is about.
 ghost use mathlib.Core.Path.{_≡_};
 ghost use Prim.Native.Nat.{_+_, _<_};
-ghost use Rattle.model.specs.Table.{rowOf, decode};
+ghost use Rattle.run.specs.Layout.{tableIn, rowsIn};
+ghost use Rattle.model.specs.Table.{rowOf};
 ghost use Rattle.model.specs.Scope.{mutually};
 ghost use Rattle.model.specs.Location.{before};
 ghost use Rattle.model.specs.Race.{unordered};
 ghost use Rattle.race.specs.Bytes.{Ready, Bounded, mayRace, lowestByte};
 ghost use Rattle.race.specs.First.{foundRace};
-use model::Mode;
-use model::Places;
 use model::Row;
 use model::Shared;
 use rules::shared;
+use run::Run;
 use sets::walk;
 
 pub mod pair; // edge 1, by all bits of a pair
 
 // Whether x and y are mutually-ordered, as the work area's bits say.
 // Ruled out: one that says yes of a row and itself; one that reads the bit of x and y + 1.
-pub fn mutual_at(
-    rows: &[u8],
-    p: Places,
-    mode: Mode,
-    n: usize,
-    x: usize,
-    y: usize,
-    w: &[u64],
-) -> bool
-    requires { ⌜ (x < n) × (y < n) × Ready (decode (now rows) p mode n) n (now w) ⌝ }
-    ensures { λ d. ⌜ d ≡ mutually (decode (now (rows .entry)) p mode n) x y ⌝ }
+pub fn mutual_at(t: &Run, n: usize, x: usize, y: usize, w: &[u64]) -> bool
+    requires { ⌜ (x < n) × (y < n) × Ready (tableIn (now t) n) n (now w) ⌝ }
+    ensures { λ d. ⌜ d ≡ mutually (tableIn (now (t .entry)) n) x y ⌝ }
 {
     area::grid::get(w, area::MUTUAL, x, y)
 }
 
 // Whether x, which is r, is location-ordered before y at byte b, for any b: no byte outside the bits of a pair is one of x's.
 // Ruled out: one that counts the bits from y's start; one that reads another pair's bit where b is no byte of x.
-pub fn before_byte(
-    rows: &[u8],
-    p: Places,
-    mode: Mode,
-    n: usize,
-    x: usize,
-    y: usize,
-    r: Row,
-    b: u32,
-    w: &[u64],
-) -> bool
-    requires { ⌜ (x < n) × (y < n) × (r ≡ rowOf (now rows) x) × Ready (decode (now rows) p mode n) n (now w) ⌝ }
-    ensures { λ d. ⌜ d ≡ before (decode (now (rows .entry)) p mode n) x y b ⌝ }
+pub fn before_byte(t: &Run, n: usize, x: usize, y: usize, r: Row, b: u32, w: &[u64]) -> bool
+    requires { ⌜ (x < n) × (y < n) × (r ≡ rowOf (rowsIn (now t)) x) × Ready (tableIn (now t) n) n (now w) ⌝ }
+    ensures { λ d. ⌜ d ≡ before (tableIn (now (t .entry)) n) x y b ⌝ }
 {
     let start = r.start as u32;
     if b < start {
@@ -64,9 +46,7 @@ pub fn before_byte(
 // Whether b is a byte of x and y, which are r and q, with no location order either way.
 // Ruled out: one that asks for order one way only; one that holds of a byte of one row alone.
 pub fn unordered_at(
-    rows: &[u8],
-    p: Places,
-    mode: Mode,
+    t: &Run,
     n: usize,
     x: usize,
     y: usize,
@@ -75,31 +55,21 @@ pub fn unordered_at(
     b: u32,
     w: &[u64],
 ) -> bool
-    requires { ⌜ (x < n) × (y < n) × (r ≡ rowOf (now rows) x) × (q ≡ rowOf (now rows) y) × Ready (decode (now rows) p mode n) n (now w) ⌝ }
-    ensures { λ d. ⌜ d ≡ unordered (decode (now (rows .entry)) p mode n) x y b ⌝ }
+    requires { ⌜ (x < n) × (y < n) × (r ≡ rowOf (rowsIn (now t)) x) × (q ≡ rowOf (rowsIn (now t)) y) × Ready (tableIn (now t) n) n (now w) ⌝ }
+    ensures { λ d. ⌜ d ≡ unordered (tableIn (now (t .entry)) n) x y b ⌝ }
 {
     rules::pairs::common(r, q, b)
-        & !before_byte(rows, p, mode, n, x, y, r, b, w)
-        & !before_byte(rows, p, mode, n, y, x, q, b, w)
+        & !before_byte(t, n, x, y, r, b, w)
+        & !before_byte(t, n, y, x, q, b, w)
 }
 
 // Whether x and y, which are r and q, conflict and are not mutually-ordered.
 // Ruled out: one that holds of two reads; one that holds of mutually-ordered rows.
-pub fn may_race(
-    rows: &[u8],
-    p: Places,
-    mode: Mode,
-    n: usize,
-    x: usize,
-    y: usize,
-    r: Row,
-    q: Row,
-    w: &[u64],
-) -> bool
-    requires { ⌜ (x < n) × (y < n) × (r ≡ rowOf (now rows) x) × (q ≡ rowOf (now rows) y) × Ready (decode (now rows) p mode n) n (now w) ⌝ }
-    ensures { λ d. ⌜ d ≡ mayRace (decode (now (rows .entry)) p mode n) x y ⌝ }
+pub fn may_race(t: &Run, n: usize, x: usize, y: usize, r: Row, q: Row, w: &[u64]) -> bool
+    requires { ⌜ (x < n) × (y < n) × (r ≡ rowOf (rowsIn (now t)) x) × (q ≡ rowOf (rowsIn (now t)) y) × Ready (tableIn (now t) n) n (now w) ⌝ }
+    ensures { λ d. ⌜ d ≡ mayRace (tableIn (now (t .entry)) n) x y ⌝ }
 {
-    !(x == y) & shared::clash(r, q) & !mutual_at(rows, p, mode, n, x, y, w)
+    !(x == y) & shared::clash(r, q) & !mutual_at(t, n, x, y, w)
 }
 
 // Where the byte search of a pair starts: the lowest byte that r and q share, and r's end where there is none.
@@ -121,13 +91,13 @@ pub enum Found {
 // The first pair in row order that races, then its lowest shared byte with no order: the lower row, the higher, the byte. Rows that
 // share no byte are passed over.
 // Ruled out: one that shows the rows exchanged; one that shows the lowest shared byte, ordered or not.
-pub fn first_race(rows: &[u8], p: Places, mode: Mode, n: usize, w: &[u64]) -> Found
-    requires { ⌜ Bounded (decode (now rows) p mode n) × Ready (decode (now rows) p mode n) n (now w) ⌝ }
-    ensures { λ r. ⌜ r ≡ foundRace (decode (now (rows .entry)) p mode n) ⌝ }
+pub fn first_race(t: &Run, n: usize, w: &[u64]) -> Found
+    requires { ⌜ Bounded (tableIn (now t) n) × Ready (tableIn (now t) n) n (now w) ⌝ }
+    ensures { λ r. ⌜ r ≡ foundRace (tableIn (now (t .entry)) n) ⌝ }
 {
     let mut answer = Found::Nothing;
     'pairs: for x in 0..n {
-        let r = rows::bytes::read_row(rows, x as u16);
+        let r = run::row(t, x as u16);
         let start = r.start as u32;
         let end = start + (r.size as u32);
         let at = area::grid::at(area::OVERLAP, x);
@@ -135,8 +105,8 @@ pub fn first_race(rows: &[u8], p: Places, mode: Mode, n: usize, w: &[u64]) -> Fo
         while next < n {
             let y = next;
             next = walk::next(w, at, at, y + 1, n);
-            let q = rows::bytes::read_row(rows, y as u16);
-            if !may_race(rows, p, mode, n, x, y, r, q, w) {
+            let q = run::row(t, y as u16);
+            if !may_race(t, n, x, y, r, q, w) {
                 continue;
             }
             let mut b = lowest_byte(r, q);
@@ -144,7 +114,7 @@ pub fn first_race(rows: &[u8], p: Places, mode: Mode, n: usize, w: &[u64]) -> Fo
                 if end <= b {
                     break end;
                 }
-                if unordered_at(rows, p, mode, n, x, y, r, q, b, w) {
+                if unordered_at(t, n, x, y, r, q, b, w) {
                     break b;
                 }
                 b += 1;

@@ -1,10 +1,10 @@
 -- What the reader's calls come to: direct cases by their number, a chain, and the answer from the bytes of a table. Assumes nothing.
 use mathlib.Core.Path.{_≡_, refl, sym, ap, _∙_}
 use mathlib.Core.Bool.{Bool, true, false, not}
-use mathlib.Core.List.{List, _++_}
+use mathlib.Core.List.{List}
 use Prim.Native.Nat.{ℕ, _+_, _-_, _*_, _/_, _%_, _<_}
 use native.Mathlib.Omega.{arith}
-use lib.ListN.{length, getD, take}
+use lib.ListN.{length, getD}
 use lib.Dec.{ltb, leb, eqb}
 use borrow.Author.Tests.{ltb-true, ne-eqb, not-false}
 use Rattle.finite.specs.Logic.{_and_, _or_, split, and-false-left, and-false-right, not-out, and-on, and-on-right}
@@ -17,16 +17,18 @@ use Rattle.model.specs.declared.Reason.{Reason}
 use Rattle.model.specs.declared.Reason.the-variants as reason
 use Rattle.model.specs.declared.AcceptAnswer.{AcceptAnswer}
 use Rattle.model.specs.declared.AcceptAnswer.the-variants as accept
-use Rattle.model.specs.Limits.{CHAIN, CASE, CLASS-SETS}
-use Rattle.model.specs.Table.{Table, ROW-BYTES, rowBytes, placesOf, modeOf, rowOf, decode}
+use Rattle.model.specs.Limits.{WORK, CHAIN, CASE, CLASS-SETS}
+use Rattle.model.specs.Table.{Table, rowOf, decode}
 use Rattle.model.specs.Moment.{moment, momentIn, orderedRows, programOrder}
 use Rattle.model.specs.Synchronizes.{synchronizes}
 use Rattle.model.specs.Happens.{bySystem, CASES, direct}
 use Rattle.model.specs.Reason.{stands, stepHolds, broken, chainHolds, accepts, twoMoments, judged, acceptAnswer}
 use Rattle.model.specs.declared.Refusal.{Refusal}
-use Rattle.model.specs.Refusal.{refusalOf}
-use Rattle.pieces.specs.Pieces.{areaOf, joined, admissionBoth, judgeBoth}
-use Rattle.pieces.specs.Entry.{when-refused, when-admitted, table-both, table-false}
+use Rattle.model.specs.Refusal.{buffersFit, refusalOf}
+use Rattle.pieces.specs.Pieces.{joined, admissionBoth, judgeBoth}
+use Rattle.pieces.specs.Entry.{doorBoth, when-refused, when-admitted, table-false}
+use Rattle.run.specs.Layout.{rowsIn, placesIn, modeIn, tableIn}
+use Rattle.door.specs.Opened.{Entered}
 use Rattle.pieces.specs.Answers.{not-judged, judge-both}
 use Rattle.rules.specs.Cases.{caseRows, direct-is, asked-once}
 
@@ -158,15 +160,23 @@ module _ (b : List ℕ) (p : List (List ℕ)) (mode : Mode) (n m k : ℕ) (r : R
 
 -- ---- laws: the entry point
 
-module _ (f s : List ℕ) (a : Admission) (e : a ≡ admissionBoth true f s) (m k : ℕ) (r : Reason) (steps : List ℕ) where
+-- the reader takes no buffers, so that no length is short
+no-buffers : (f s : List ℕ) → doorBoth 0 true f s WORK 0 ≡ admissionBoth true f s
+unfolding doorBoth buffersFit _and_
+no-buffers f s = refl
+
+module _ (f s : List ℕ) (a : Admission) (e : a ≡ doorBoth 0 true f s WORK 0) (m k : ℕ) (r : Reason) (steps : List ℕ) where
   pub both-refused : {c i : ℕ} (x : Refusal) → a ≡ Refused c i → x ≡ refusalOf a
       → accept.Refused (x .number) (x .row) ≡ acceptAnswer (judgeBoth f s m k r steps)
   unfolding acceptAnswer
-  both-refused x h q = sym (ap acceptAnswer (judge-both m k r steps f s ∙ when-refused not-judged _ a _ e x h q))
+  both-refused x h q = sym (ap acceptAnswer (judge-both m k r steps f s ∙ when-refused not-judged _ a _ (e ∙ no-buffers f s) x h q))
 
-  pub both-judged : {g n : ℕ} (h : a ≡ Admitted g n) (all : List ℕ) (p : List (List ℕ)) (mode : Mode) → all ≡ areaOf (rowBytes f ++ s)
-      → p ≡ placesOf f → mode ≡ modeOf false f
-      → (x : AcceptAnswer) → x ≡ acceptAnswer (judged (decode (take (n * ROW-BYTES) all) p mode n) m k r steps) → x ≡ acceptAnswer (judgeBoth f s m k r steps)
-  both-judged admitted all p mode copy places modes x judged-is =
-      let t = table-both true f s a e admitted false all p mode copy places modes ∙ table-false (joined f s) in
-      judged-is ∙ ap acceptAnswer (ap (λ (y : Table). judged y m k r steps) t ∙ sym (judge-both m k r steps f s ∙ when-admitted not-judged _ a _ e admitted))
+  pub both-judged : {g n : ℕ} (h : a ≡ Admitted g n) (t : List ℕ) → Entered 0 true false f s WORK 0 t n → (b : List ℕ) (p : List (List ℕ)) (mode : Mode)
+      → b ≡ rowsIn t → p ≡ placesIn t → mode ≡ modeIn t
+      → (x : AcceptAnswer) → x ≡ acceptAnswer (judged (decode b p mode n) m k r steps) → x ≡ acceptAnswer (judgeBoth f s m k r steps)
+  both-judged {g} {n} admitted t opened b p mode rows places modes x judged-is =
+      let same : decode b p mode n ≡ tableIn t n = rw (rows, places, modes) refl in
+      let whole = same ∙ opened .table ∙ table-false (joined f s) in
+      judged-is
+      ∙ ap acceptAnswer (ap (λ (y : Table). judged y m k r steps) whole ∙ sym (judge-both m k r steps f s
+      ∙ when-admitted not-judged _ a _ (e ∙ no-buffers f s) admitted))

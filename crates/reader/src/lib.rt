@@ -160,7 +160,8 @@ pub fn accepts_both(
 ) -> AcceptAnswer
     ensures { λ r. ⌜ r ≡ acceptAnswer (judgeBoth (now (first .entry)) (now (second .entry)) m k reason (now (steps .entry))) ⌝ }
 {
-    let a = pieces::admit_both(first, second, true);
+    let mut t = [0u8; run::SIZE];
+    let a = door::enter(first, second, false, true, 0, model::WORK, 0, &mut t);
     let Admission::Admitted {
         agents: _,
         rows: count,
@@ -173,11 +174,16 @@ pub fn accepts_both(
         };
     };
     let n = count as usize;
-    let p = rows::scopes::read_places(first);
-    let mode = rows::scopes::read_mode(first, false);
-    let all = pieces::join_rows(first, second);
-    let end = n * bytes::ROW_BYTES;
-    judge_rows(&all[..end], p, mode, n, m, k, reason, steps)
+    judge_rows(
+        run::rows_of(&t),
+        run::places(&t),
+        run::mode(&t),
+        n,
+        m,
+        k,
+        reason,
+        steps,
+    )
 }
 
 // Judges a derivation that the first moment happens before the second in a table in one piece.

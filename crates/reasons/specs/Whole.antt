@@ -5,7 +5,7 @@ use mathlib.Core.List.{List, _++_}
 use Prim.Native.Nat.{ℕ, suc, _+_, _-_, _*_, _/_, _≤_, _<_}
 use native.Mathlib.Omega.{arith}
 use native.Mathlib.Numerals.{add-one}
-use lib.ListN.{length, take, drop}
+use lib.ListN.{length, drop}
 use lib.Dec.{ltb, eqb}
 use borrow.Author.Tests.{ltb-true, eqb-false, lt-ltb, le-ltb}
 use Rattle.finite.specs.Logic.{_and_, split, not-out}
@@ -22,7 +22,7 @@ use Rattle.model.specs.declared.Admission.the-variants.{Admitted, Refused}
 use Rattle.model.specs.declared.DeriveAnswer.{DeriveAnswer}
 use Rattle.model.specs.declared.DeriveAnswer.the-variants
 use Rattle.model.specs.Limits.{ROWS, WORK, CHAIN, CLASS-SETS}
-use Rattle.model.specs.Table.{Table, ROW-BYTES, rowBytes, placesOf, modeOf, rowOf, decode}
+use Rattle.model.specs.Table.{Table, rowOf, decode}
 use Rattle.model.specs.Moment.{momentIn, moment, programOrder}
 use Rattle.model.specs.Happens.{step}
 use Rattle.model.specs.Check.{wiped}
@@ -31,8 +31,10 @@ use Rattle.model.specs.Reason.{derivedOf, deriveAnswer, chainAfter, workAfter}
 use Rattle.area.specs.Regions.{MUTUAL, SYNC-END, HAPPENS, STEP, CHAINS, CHAINS-END, MOMENTS}
 use Rattle.model.specs.declared.Refusal.{Refusal}
 use Rattle.model.specs.Refusal.{refusalOf}
-use Rattle.pieces.specs.Pieces.{areaOf, joined, deriveBoth}
-use Rattle.pieces.specs.Entry.{doorBoth, Left, left-same, zeros-wiped, when-refused, when-admitted, door-admits, table-both, table-false}
+use Rattle.pieces.specs.Pieces.{joined, deriveBoth}
+use Rattle.pieces.specs.Entry.{doorBoth, Left, left-same, zeros-wiped, when-refused, when-admitted, table-false}
+use Rattle.run.specs.Layout.{rowsIn, placesIn, modeIn, tableIn}
+use Rattle.door.specs.Opened.{Entered}
 use Rattle.pieces.specs.Answers.{not-derived, derive-both}
 use Rattle.walks.specs.Layers.{inLayer}
 use Rattle.reasons.specs.Layers.{Layered}
@@ -179,12 +181,13 @@ module _ (f s : List ℕ) (m k : ℕ) (w c : List ℕ) (a : Admission) (e : a �
   told-refused x h q =
       left-same deriveAnswer workAfter chainAfter (derive-both m k (length w) (length c) f s ∙ when-refused not-derived _ a _ e x h q) (refl, refl, refl)
 
-  pub told-rows : {g n : ℕ} (h : a ≡ Admitted g n) (all : List ℕ) (p : List (List ℕ)) (mode : Mode) → all ≡ areaOf (rowBytes f ++ s) → p ≡ placesOf f
-      → mode ≡ modeOf false f
-      → (r : DeriveAnswer) (u d : List ℕ) → Told (derivedOf (decode (take (n * ROW-BYTES) all) p mode n) m k) r w u c d → Told told r w u c d
-  told-rows admitted all p mode copy places modes r u d derived =
-      let q = door-admits CHAIN true f s (length w) (length c) a e admitted in
-      let t = table-both true f s a (q .2) admitted false all p mode copy places modes ∙ table-false (joined f s) in
+  pub told-run : {g n : ℕ} (h : a ≡ Admitted g n) (t : List ℕ) → Entered CHAIN true false f s (length w) (length c) t n → (b : List ℕ) (p : List (List ℕ))
+      (mode : Mode)
+      → b ≡ rowsIn t → p ≡ placesIn t → mode ≡ modeIn t
+      → (r : DeriveAnswer) (u d : List ℕ) → Told (derivedOf (decode b p mode n) m k) r w u c d → Told told r w u c d
+  told-run {g} {n} admitted t opened b p mode rows places modes r u d derived =
+      let same : decode b p mode n ≡ tableIn t n = rw (rows, places, modes) refl in
+      let whole = same ∙ opened .table ∙ table-false (joined f s) in
       left-same deriveAnswer workAfter chainAfter
-      (derive-both m k (length w) (length c) f s ∙ when-admitted not-derived _ a _ e admitted ∙ sym (ap (λ (y : Table). derivedOf y m k) t))
+      (derive-both m k (length w) (length c) f s ∙ when-admitted not-derived _ a _ e admitted ∙ sym (ap (λ (y : Table). derivedOf y m k) whole))
       derived

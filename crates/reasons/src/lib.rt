@@ -113,7 +113,17 @@ pub fn derive_both(
         × (now (work .exit) ≡ workAfter answer (now (work .entry)))
         × (now (chain .exit) ≡ chainAfter answer (now (chain .entry))) ⌝ }
 {
-    let a = pieces::open_both(first, second, true, model::CHAIN, work.len(), chain.len());
+    let mut t = [0u8; run::SIZE];
+    let a = door::enter(
+        first,
+        second,
+        false,
+        true,
+        model::CHAIN,
+        work.len(),
+        chain.len(),
+        &mut t,
+    );
     let Admission::Admitted {
         agents: _,
         rows: count,
@@ -126,11 +136,16 @@ pub fn derive_both(
         };
     };
     let n = count as usize;
-    let p = rows::scopes::read_places(first);
-    let mode = rows::scopes::read_mode(first, false);
-    let all = pieces::join_rows(first, second);
-    let end = n * rows::bytes::ROW_BYTES;
-    derive_rows(&all[..end], p, mode, n, m, k, work, chain)
+    derive_rows(
+        run::rows_of(&t),
+        run::places(&t),
+        run::mode(&t),
+        n,
+        m,
+        k,
+        work,
+        chain,
+    )
 }
 
 // Derives that the first moment happens before the second in a table in one piece.

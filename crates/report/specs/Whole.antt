@@ -2,9 +2,9 @@
 -- both buffers end as a check leaves them. Assumes nothing.
 use mathlib.Core.Path.{_≡_, refl, sym, ap, ap₂, _∙_}
 use mathlib.Core.Bool.{Bool, false}
-use mathlib.Core.List.{List, [], _++_}
-use Prim.Native.Nat.{ℕ, _*_, _≤_}
-use lib.ListN.{length, take}
+use mathlib.Core.List.{List, []}
+use Prim.Native.Nat.{ℕ, _≤_}
+use lib.ListN.{length}
 use Rattle.bits.specs.Bit.{zeros}
 use Rattle.bits.specs.Within.{Within}
 use Rattle.model.specs.declared.Mode.{Mode}
@@ -14,7 +14,7 @@ use Rattle.model.specs.declared.CheckAnswer.{CheckAnswer}
 use Rattle.model.specs.declared.ReportAnswer.{ReportAnswer}
 use Rattle.model.specs.declared.ReportAnswer.the-variants as told
 use Rattle.model.specs.Limits.{WORK, CYCLE}
-use Rattle.model.specs.Table.{Table, ROW-BYTES, rowBytes, placesOf, modeOf, sourceOf, decode}
+use Rattle.model.specs.Table.{Table, sourceOf, decode}
 use Rattle.model.specs.Check.{verdict, check, checkAnswer, cycleAfter, workAfter, wiped}
 use Rattle.model.specs.Report.{reportAnswer, report}
 use Rattle.area.specs.Regions.{MUTUAL, LOCATED-END, EDGE, LAYERS-END}
@@ -23,8 +23,10 @@ use Rattle.choice.specs.Sources.{Listed}
 use Rattle.verdict.specs.Whole.{judged, said-refused, said-verdict}
 use Rattle.model.specs.declared.Refusal.{Refusal}
 use Rattle.model.specs.Refusal.{refusalOf}
-use Rattle.pieces.specs.Pieces.{areaOf, checkBoth, reportBoth}
-use Rattle.pieces.specs.Entry.{doorBoth, when-refused, when-admitted, door-admits, table-both, sources-both}
+use Rattle.pieces.specs.Pieces.{checkBoth, reportBoth}
+use Rattle.pieces.specs.Entry.{doorBoth, when-refused, when-admitted}
+use Rattle.run.specs.Layout.{rowsIn, tableIn}
+use Rattle.door.specs.Opened.{Entered}
 use Rattle.pieces.specs.Answers.{report-both, none-check, none-report}
 
 -- ---- laws: a check's answer as a report's
@@ -61,21 +63,14 @@ module _ (chains : Bool) (f s w c : List ℕ) where
         let k = said-refused chains f s w c a e x h q in
         (sym (report-both chains (length w) (length c) f s ∙ when-refused told.Refused _ a _ e x h q), k .1, k .2)
 
-    module _ {g n : ℕ} (h : a ≡ Admitted g n) (all : List ℕ) (p : List (List ℕ)) (mode : Mode) (copy : all ≡ areaOf (rowBytes f ++ s))
-        (places : p ≡ placesOf f) (modes : mode ≡ modeOf chains f) where
-      abbrev rows : List ℕ
-      rows = take (n * ROW-BYTES) all
-
-      pub reported-rows : (r : ReportAnswer) (x d : List ℕ)
-          → (r ≡ reportAnswer (checkAnswer (verdict (decode rows p mode n) (sourceOf rows))) (decode rows p mode n)) × (x ≡ wiped w)
-          × (d ≡ cycleAfter (verdict (decode rows p mode n) (sourceOf rows)) c)
+    module _ {g n : ℕ} (h : a ≡ Admitted g n) (t : List ℕ) (opened : Entered CYCLE false chains f s (length w) (length c) t n) where
+      pub reported-run : (r : ReportAnswer) (x d : List ℕ)
+          → (r ≡ reportAnswer (checkAnswer (verdict (tableIn t n) (sourceOf (rowsIn t)))) (tableIn t n)) × (x ≡ wiped w)
+          × (d ≡ cycleAfter (verdict (tableIn t n) (sourceOf (rowsIn t))) c)
           → Reported r x d
-      reported-rows r x d j =
-          let k = door-admits CYCLE false f s (length w) (length c) a e h in
-          let t = table-both false f s a (k .2) h chains all p mode copy places modes in
-          let o = sources-both false f s a (k .2) h chains all p mode copy places modes in
-          let z = said-verdict chains f s w c a e h all p mode copy places modes _ x d (refl, j .1, j .2) in (
-            j .0 ∙ ap₂ (λ (y : Table) (source : ℕ → ℕ). reportAnswer (checkAnswer (verdict y source)) y) t o
+      reported-run r x d j =
+          let z = said-verdict chains f s w c a e h t opened _ x d (refl, j .1, j .2) in (
+            j .0 ∙ ap₂ (λ (y : Table) (source : ℕ → ℕ). reportAnswer (checkAnswer (verdict y source)) y) (opened .table) (opened .sources)
                 ∙ sym (report-both chains (length w) (length c) f s ∙ when-admitted told.Refused _ a _ e h),
             z .1,
             z .2,

@@ -4,25 +4,25 @@ ghost use mathlib.Core.Bool.{false};
 ghost use Prim.Native.Nat.{_≤_};
 ghost use lib.ListN.{length};
 ghost use Rattle.model.specs.Limits.{WORK, CYCLE};
-ghost use Rattle.model.specs.Table.{decode, sourceOf};
+ghost use Rattle.model.specs.Table.{sourceOf};
 ghost use Rattle.model.specs.Check.{verdict, check, checkAnswer, cycleAfter, workAfter, wiped};
 ghost use Rattle.model.specs.Report.{reportAnswer, report};
 ghost use Rattle.race.specs.Bytes.{Ready};
 ghost use Rattle.pieces.specs.Pieces.{checkBoth, reportBoth};
-ghost use Rattle.pieces.specs.Entry.{RowsOf};
+ghost use Rattle.run.specs.Layout.{rowsIn, tableIn};
+ghost use Rattle.door.specs.Opened.{RunOf};
 use model::Admission;
 use model::CheckAnswer;
-use model::Mode;
-use model::Places;
 use model::ReportAnswer;
+use run::Run;
 
 pub mod pairs; // what becomes of one pair of rows
 pub mod counts; // the four counts, and the share
 
 // A check's answer c as a report's: itself where the table is inconsistent, else the counts.
-fn answer(c: CheckAnswer, rows: &[u8], p: Places, mode: Mode, n: usize, w: &[u64]) -> ReportAnswer
-    requires { ⌜ Ready (decode (now rows) p mode n) n (now w) ⌝ }
-    ensures { λ r. ⌜ r ≡ reportAnswer c (decode (now (rows .entry)) p mode n) ⌝ }
+fn answer(c: CheckAnswer, t: &Run, n: usize, w: &[u64]) -> ReportAnswer
+    requires { ⌜ Ready (tableIn (now t) n) n (now w) ⌝ }
+    ensures { λ r. ⌜ r ≡ reportAnswer c (tableIn (now (t .entry)) n) ⌝ }
 {
     match c {
         CheckAnswer::Refused { number, row } => ReportAnswer::Refused {
@@ -43,30 +43,23 @@ fn answer(c: CheckAnswer, rows: &[u8], p: Places, mode: Mode, n: usize, w: &[u64
             first: _,
             second: _,
             byte: _,
-        } => counts::report_of(rows, p, mode, n, w),
-        CheckAnswer::RaceFree => counts::report_of(rows, p, mode, n, w),
+        } => counts::report_of(t, n, w),
+        CheckAnswer::RaceFree => counts::report_of(t, n, w),
     }
 }
 
-// The report of the n rows of a table that is admitted.
-fn report_rows(
-    rows: &[u8],
-    p: Places,
-    mode: Mode,
-    n: usize,
-    work: &mut [u64],
-    cycle: &mut [u16],
-) -> ReportAnswer
-    requires { ⌜ (WORK ≤ length (now work)) × (CYCLE ≤ length (now cycle)) × RowsOf false (now rows) p mode n ⌝ }
-    ensures { λ r. let t = decode (now (rows .entry)) p mode n in
-        ⌜ (r ≡ reportAnswer (checkAnswer (verdict t (sourceOf (now (rows .entry))))) t)
+// The report of a run of n rows.
+fn report_run(t: &Run, n: usize, work: &mut [u64], cycle: &mut [u16]) -> ReportAnswer
+    requires { ⌜ (WORK ≤ length (now work)) × (CYCLE ≤ length (now cycle)) × RunOf false (now t) n ⌝ }
+    ensures { λ r. let v = verdict (tableIn (now (t .entry)) n) (sourceOf (rowsIn (now (t .entry)))) in
+        ⌜ (r ≡ reportAnswer (checkAnswer v) (tableIn (now (t .entry)) n))
         × (now (work .exit) ≡ wiped (now (work .entry)))
-        × (now (cycle .exit) ≡ cycleAfter (verdict t (sourceOf (now (rows .entry)))) (now (cycle .entry))) ⌝ }
+        × (now (cycle .exit) ≡ cycleAfter v (now (cycle .entry))) ⌝ }
 {
-    let src = choice::sources::read_sources(rows, n);
-    verdict::judge::locate(rows, p, mode, n, work);
-    let c = verdict::judge::judge(rows, p, mode, n, &src, work, cycle);
-    let r = answer(c, rows, p, mode, n, work);
+    let src = choice::sources::read_sources(run::rows_of(t), n);
+    verdict::judge::locate_by(true, t, n, work);
+    let c = verdict::judge::judge(t, n, &src, work, cycle);
+    let r = answer(c, t, n, work);
     bits::clear(work, 0, model::WORK);
     r
 }
@@ -86,7 +79,17 @@ pub fn report_both(
         × (now (work .exit) ≡ workAfter judged (now (work .entry)))
         × (now (cycle .exit) ≡ cycleAfter judged (now (cycle .entry))) ⌝ }
 {
-    let a = pieces::open_both(first, second, false, model::CYCLE, work.len(), cycle.len());
+    let mut t = [0u8; run::SIZE];
+    let a = door::enter(
+        first,
+        second,
+        chains,
+        false,
+        model::CYCLE,
+        work.len(),
+        cycle.len(),
+        &mut t,
+    );
     let Admission::Admitted {
         agents: _,
         rows: count,
@@ -98,12 +101,7 @@ pub fn report_both(
             row: x.row,
         };
     };
-    let n = count as usize;
-    let p = rows::scopes::read_places(first);
-    let mode = rows::scopes::read_mode(first, chains);
-    let all = pieces::join_rows(first, second);
-    let end = n * rows::bytes::ROW_BYTES;
-    report_rows(&all[..end], p, mode, n, work, cycle)
+    report_run(&t, count as usize, work, cycle)
 }
 
 // Reports on one recorded run in one piece.

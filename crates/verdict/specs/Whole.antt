@@ -1,10 +1,10 @@
 -- What the calls of a check come to, from the rows of an admitted table and from the bytes of two pieces. Assumes nothing.
 use mathlib.Core.Path.{_≡_, refl, sym, ap, ap₂, _∙_}
 use mathlib.Core.Bool.{Bool, true, false, cond}
-use mathlib.Core.List.{List, _++_}
-use Prim.Native.Nat.{ℕ, _*_, _≤_}
+use mathlib.Core.List.{List}
+use Prim.Native.Nat.{ℕ, _≤_}
 use native.Mathlib.Omega.{arith}
-use lib.ListN.{length, take}
+use lib.ListN.{length}
 use lib.Dec.{ltb}
 use Rattle.bits.specs.Bit.{zeros}
 use Rattle.bits.specs.Within.{Within, within-trans, within-widen, zeros-within}
@@ -14,7 +14,7 @@ use Rattle.model.specs.declared.Admission.the-variants.{Admitted, Refused}
 use Rattle.model.specs.declared.CheckAnswer.{CheckAnswer}
 use Rattle.model.specs.declared.CheckAnswer.the-variants
 use Rattle.model.specs.Limits.{WORK, CYCLE}
-use Rattle.model.specs.Table.{Table, ROW-BYTES, rowBytes, placesOf, modeOf, sourceOf, decode}
+use Rattle.model.specs.Table.{Table, sourceOf, decode}
 use Rattle.model.specs.Race.{raceRow, racePartner, raceByte}
 use Rattle.model.specs.Edge.{cycleRow, cycleRows, cycleEdges, overReader, overWriter, overByte}
 use Rattle.model.specs.Check.{Verdict, refused, cyclic, overwritten, race, raceFree, raceOr, overwrittenOr, cyclicOr, verdict, checkAnswer, cycleAfter}
@@ -27,9 +27,10 @@ use Rattle.axioms.specs.Sources.{sourceIn}
 use Rattle.choice.specs.Sources.{Listed}
 use Rattle.model.specs.declared.Refusal.{Refusal}
 use Rattle.model.specs.Refusal.{refusalOf}
-use Rattle.pieces.specs.Pieces.{areaOf, checkBoth}
+use Rattle.pieces.specs.Pieces.{checkBoth}
 use Rattle.pieces.specs.Entry.{RowsOf, doorBoth, few, row-ends, row-sizes, Left, left-same, zeros-wiped, when-refused, when-admitted}
-use Rattle.pieces.specs.Entry.{door-admits, table-both, sources-both}
+use Rattle.run.specs.Layout.{rowsIn, tableIn}
+use Rattle.door.specs.Opened.{Entered}
 use Rattle.pieces.specs.Answers.{check-both}
 
 -- stages that stay inside the area's own part, and the part cleared after them
@@ -96,17 +97,13 @@ module _ (chains : Bool) (f s w c : List ℕ) (a : Admission) (e : a ≡ doorBot
   said-refused x h q =
       left-same checkAnswer workAfter cycleAfter (check-both chains (length w) (length c) f s ∙ when-refused refused _ a _ e x h q) (refl, refl, refl)
 
-  module _ {g n : ℕ} (h : a ≡ Admitted g n) (all : List ℕ) (p : List (List ℕ)) (mode : Mode) (copy : all ≡ areaOf (rowBytes f ++ s))
-      (places : p ≡ placesOf f) (modes : mode ≡ modeOf chains f) where
-    abbrev pub verdictRows : Verdict
-    verdictRows = verdict (decode (take (n * ROW-BYTES) all) p mode n) (sourceOf (take (n * ROW-BYTES) all))
+  module _ {g n : ℕ} (h : a ≡ Admitted g n) (t : List ℕ) (opened : Entered CYCLE false chains f s (length w) (length c) t n) where
+    abbrev pub verdictRun : Verdict
+    verdictRun = verdict (tableIn t n) (sourceOf (rowsIn t))
 
-    pub told-is : told ≡ verdictRows
+    told-is : told ≡ verdictRun
     told-is =
-        let k = door-admits CYCLE false f s (length w) (length c) a e h in
-        check-both chains (length w) (length c) f s ∙ when-admitted refused _ a _ e h
-        ∙ sym (ap₂ verdict (table-both false f s a (k .2) h chains all p mode copy places modes)
-        (sources-both false f s a (k .2) h chains all p mode copy places modes))
+        check-both chains (length w) (length c) f s ∙ when-admitted refused _ a _ e h ∙ sym (ap₂ verdict (opened .table) (opened .sources))
 
-    pub said-verdict : (r : CheckAnswer) (x d : List ℕ) → (r ≡ checkAnswer verdictRows) × (x ≡ wiped w) × (d ≡ cycleAfter verdictRows c) → Said told r w x c d
+    pub said-verdict : (r : CheckAnswer) (x d : List ℕ) → (r ≡ checkAnswer verdictRun) × (x ≡ wiped w) × (d ≡ cycleAfter verdictRun c) → Said told r w x c d
     said-verdict r x d j = left-same checkAnswer workAfter cycleAfter told-is (j .0, j .1 ∙ sym (verdict-wipes _ _ w), j .2)

@@ -4,33 +4,24 @@ ghost use mathlib.Core.Bool.{false};
 ghost use Prim.Native.Nat.{_≤_};
 ghost use lib.ListN.{length};
 ghost use Rattle.model.specs.Limits.{WORK, CYCLE};
-ghost use Rattle.model.specs.Table.{decode, sourceOf};
+ghost use Rattle.model.specs.Table.{sourceOf};
 ghost use Rattle.model.specs.Check.{verdict, check, checkAnswer, cycleAfter, workAfter, wiped};
 ghost use Rattle.pieces.specs.Pieces.{checkBoth};
-ghost use Rattle.pieces.specs.Entry.{RowsOf};
+ghost use Rattle.run.specs.Layout.{rowsIn, tableIn};
+ghost use Rattle.door.specs.Opened.{RunOf};
 use model::Admission;
 use model::CheckAnswer;
-use model::Mode;
-use model::Places;
+use run::Run;
 
-// The verdict on the n rows of a table that is admitted, by the engine that `quick` says.
-fn judge_rows(
-    rows: &[u8],
-    p: Places,
-    mode: Mode,
-    n: usize,
-    quick: bool,
-    work: &mut [u64],
-    cycle: &mut [u16],
-) -> CheckAnswer
-    requires { ⌜ (WORK ≤ length (now work)) × (CYCLE ≤ length (now cycle)) × RowsOf false (now rows) p mode n ⌝ }
-    ensures { λ r. ⌜ (r ≡ checkAnswer (verdict (decode (now (rows .entry)) p mode n) (sourceOf (now (rows .entry)))))
-        × (now (work .exit) ≡ wiped (now (work .entry)))
-        × (now (cycle .exit) ≡ cycleAfter (verdict (decode (now (rows .entry)) p mode n) (sourceOf (now (rows .entry)))) (now (cycle .entry))) ⌝ }
+// The verdict on a run of n rows, by the engine that `quick` says.
+fn judge_run(t: &Run, n: usize, quick: bool, work: &mut [u64], cycle: &mut [u16]) -> CheckAnswer
+    requires { ⌜ (WORK ≤ length (now work)) × (CYCLE ≤ length (now cycle)) × RunOf false (now t) n ⌝ }
+    ensures { λ r. let v = verdict (tableIn (now (t .entry)) n) (sourceOf (rowsIn (now (t .entry)))) in
+        ⌜ (r ≡ checkAnswer v) × (now (work .exit) ≡ wiped (now (work .entry))) × (now (cycle .exit) ≡ cycleAfter v (now (cycle .entry))) ⌝ }
 {
-    let src = choice::sources::read_sources(rows, n);
-    crate::judge::locate_by(quick, rows, p, mode, n, work);
-    let r = crate::judge::judge(rows, p, mode, n, &src, work, cycle);
+    let src = choice::sources::read_sources(run::rows_of(t), n);
+    crate::judge::locate_by(quick, t, n, work);
+    let r = crate::judge::judge(t, n, &src, work, cycle);
     bits::clear(work, 0, model::WORK);
     r
 }
@@ -53,7 +44,17 @@ pub fn check_by(
         × (now (work .exit) ≡ workAfter answer (now (work .entry)))
         × (now (cycle .exit) ≡ cycleAfter answer (now (cycle .entry))) ⌝ }
 {
-    let a = pieces::open_both(first, second, false, model::CYCLE, work.len(), cycle.len());
+    let mut t = [0u8; run::SIZE];
+    let a = door::enter(
+        first,
+        second,
+        chains,
+        false,
+        model::CYCLE,
+        work.len(),
+        cycle.len(),
+        &mut t,
+    );
     let Admission::Admitted {
         agents: _,
         rows: count,
@@ -65,12 +66,7 @@ pub fn check_by(
             row: x.row,
         };
     };
-    let n = count as usize;
-    let p = rows::scopes::read_places(first);
-    let mode = rows::scopes::read_mode(first, chains);
-    let all = pieces::join_rows(first, second);
-    let end = n * rows::bytes::ROW_BYTES;
-    judge_rows(&all[..end], p, mode, n, quick, work, cycle)
+    judge_run(&t, count as usize, quick, work, cycle)
 }
 
 // The same by the quick engine.

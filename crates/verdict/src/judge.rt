@@ -4,6 +4,7 @@ ghost use Prim.Native.Nat.{_≤_, _<_};
 ghost use lib.ListN.{length};
 ghost use Rattle.model.specs.Limits.{ROWS, WORK, CYCLE};
 ghost use Rattle.model.specs.Table.{decode};
+ghost use Rattle.run.specs.Layout.{tableIn};
 ghost use Rattle.model.specs.Check.{verdict, race, raceFree, raceOr, overwrittenOr, checkAnswer, cycleAfter};
 ghost use Rattle.bits.specs.Within.{Within};
 ghost use Rattle.area.specs.Regions.{MUTUAL, LOCATED-END, EDGE, LAYERS-END};
@@ -14,9 +15,10 @@ ghost use Rattle.verdict.specs.Answers.{raceAnswer, overwriteAnswer};
 use model::CheckAnswer;
 use model::Mode;
 use model::Places;
+use run::Run;
 
 // Location order of n rows, by sets of rows and moments in words.
-pub fn locate(rows: &[u8], p: Places, mode: Mode, n: usize, w: &mut [u64])
+fn locate(rows: &[u8], p: Places, mode: Mode, n: usize, w: &mut [u64])
     requires { ⌜ (n ≤ ROWS) × (WORK ≤ length (now w)) ⌝ }
     ensures { λ _. ⌜ Located (decode (now (rows .entry)) p mode n) n (now (w .exit)) × Within MUTUAL LOCATED-END (now (w .entry)) (now (w .exit)) ⌝ }
 {
@@ -25,7 +27,7 @@ pub fn locate(rows: &[u8], p: Places, mode: Mode, n: usize, w: &mut [u64])
 }
 
 // The same by the obvious engine, with a flag for each two moments.
-pub fn locate_by_flags(rows: &[u8], p: Places, mode: Mode, n: usize, w: &mut [u64])
+fn locate_by_flags(rows: &[u8], p: Places, mode: Mode, n: usize, w: &mut [u64])
     requires { ⌜ (n ≤ ROWS) × (WORK ≤ length (now w)) ⌝ }
     ensures { λ _. ⌜ Located (decode (now (rows .entry)) p mode n) n (now (w .exit)) × Within MUTUAL LOCATED-END (now (w .entry)) (now (w .exit)) ⌝ }
 {
@@ -34,11 +36,14 @@ pub fn locate_by_flags(rows: &[u8], p: Places, mode: Mode, n: usize, w: &mut [u6
     overlap::fill_overlaps(rows, n, w);
 }
 
-// Either of them: `quick` says which.
-pub fn locate_by(quick: bool, rows: &[u8], p: Places, mode: Mode, n: usize, w: &mut [u64])
+// Either of them: `quick` says which. The stages below take the rows, places and mode of a run.
+pub fn locate_by(quick: bool, t: &Run, n: usize, w: &mut [u64])
     requires { ⌜ (n ≤ ROWS) × (WORK ≤ length (now w)) ⌝ }
-    ensures { λ _. ⌜ Located (decode (now (rows .entry)) p mode n) n (now (w .exit)) × Within MUTUAL LOCATED-END (now (w .entry)) (now (w .exit)) ⌝ }
+    ensures { λ _. ⌜ Located (tableIn (now (t .entry)) n) n (now (w .exit)) × Within MUTUAL LOCATED-END (now (w .entry)) (now (w .exit)) ⌝ }
 {
+    let rows = run::rows_of(t);
+    let p = run::places(t);
+    let mode = run::mode(t);
     if quick {
         locate(rows, p, mode, n, w);
         return;
@@ -81,38 +86,30 @@ fn overwrite_answer(o: axioms::overwritten::Overwrite) -> CheckAnswer
 }
 
 // The verdict where no edges make a cycle: overwritten, else a race, else race-free.
-fn settle(rows: &[u8], p: Places, mode: Mode, n: usize, src: &[u16], w: &[u64]) -> CheckAnswer
-    requires { ⌜ (n ≤ length (now src)) × Bounded (decode (now rows) p mode n) × Ready (decode (now rows) p mode n) n (now w) ⌝ }
-    ensures { λ r. let t = decode (now (rows .entry)) p mode n in
+fn settle(t: &Run, n: usize, src: &[u16], w: &[u64]) -> CheckAnswer
+    requires { ⌜ (n ≤ length (now src)) × Bounded (tableIn (now t) n) × Ready (tableIn (now t) n) n (now w) ⌝ }
+    ensures { λ r. let t = tableIn (now (t .entry)) n in
         ⌜ r ≡ checkAnswer (overwrittenOr (raceOr race raceFree t) t (sourceIn (now (src .entry)))) ⌝ }
 {
-    let o = axioms::overwritten::first_overwrite(rows, p, mode, n, src, w);
+    let o = axioms::overwritten::first_overwrite(t, n, src, w);
     let axioms::overwritten::Overwrite::Nothing = o else {
         return overwrite_answer(o);
     };
-    race_answer(race::first_race(rows, p, mode, n, w))
+    race_answer(race::first_race(t, n, w))
 }
 
 // The verdict, from location order and the sources; a cycle's numbers in c.
-pub fn judge(
-    rows: &[u8],
-    p: Places,
-    mode: Mode,
-    n: usize,
-    src: &[u16],
-    w: &mut [u64],
-    c: &mut [u16],
-) -> CheckAnswer
-    requires { ⌜ (CYCLE ≤ length (now c)) × (n ≤ length (now src)) × Bounded (decode (now rows) p mode n) × Ready (decode (now rows) p mode n) n (now w) ⌝ }
-    ensures { λ r. ⌜ (r ≡ checkAnswer (verdict (decode (now (rows .entry)) p mode n) (sourceIn (now (src .entry)))))
-        × (now (c .exit) ≡ cycleAfter (verdict (decode (now (rows .entry)) p mode n) (sourceIn (now (src .entry)))) (now (c .entry)))
+pub fn judge(t: &Run, n: usize, src: &[u16], w: &mut [u64], c: &mut [u16]) -> CheckAnswer
+    requires { ⌜ (CYCLE ≤ length (now c)) × (n ≤ length (now src)) × Bounded (tableIn (now t) n) × Ready (tableIn (now t) n) n (now w) ⌝ }
+    ensures { λ r. ⌜ (r ≡ checkAnswer (verdict (tableIn (now (t .entry)) n) (sourceIn (now (src .entry)))))
+        × (now (c .exit) ≡ cycleAfter (verdict (tableIn (now (t .entry)) n) (sourceIn (now (src .entry)))) (now (c .entry)))
         × Within EDGE LAYERS-END (now (w .entry)) (now (w .exit)) ⌝ }
 {
-    axioms::edges::fill_edges(rows, p, mode, n, src, w);
+    axioms::edges::fill_edges(t, n, src, w);
     let x = cycle::cycle_start(w, n);
     if x < n {
-        let size = crate::show::show_cycle(rows, p, mode, n, src, x, w, c);
+        let size = crate::show::show_cycle(t, n, src, x, w, c);
         return CheckAnswer::Cycle { rows: size as u16 };
     }
-    settle(rows, p, mode, n, src, w)
+    settle(t, n, src, w)
 }

@@ -5,7 +5,7 @@ ghost use Prim.Native.Nat.{ℕ, _+_, _≤_, _<_};
 ghost use lib.ListN.{length, getD};
 ghost use lib.Dec.{ltb};
 ghost use Rattle.model.specs.Limits.{CYCLE, CYCLE-EDGES};
-ghost use Rattle.model.specs.Table.{decode};
+ghost use Rattle.run.specs.Layout.{tableIn};
 ghost use Rattle.model.specs.Edge.{edge, cycleRow, cycleRows, cycleEdges};
 ghost use Rattle.model.specs.Check.{cycleAfter, cyclic};
 ghost use Rattle.bits.specs.Bit.{zeros};
@@ -15,8 +15,7 @@ ghost use Rattle.area.specs.Regions.{EDGE, GRID, LAYERS, LAYERS-END};
 ghost use Rattle.race.specs.Bytes.{Ready};
 ghost use Rattle.axioms.specs.Sources.{sourceIn};
 ghost use Rattle.verdict.specs.Shown.{Numbered, stepNumber};
-use model::Mode;
-use model::Places;
+use run::Run;
 
 // The numbers that a cycle is shown in become 0.
 fn clear_numbers(c: &mut [u16])
@@ -43,46 +42,27 @@ fn next_of(c: &[u16], i: usize, size: usize, x: usize) -> usize
 }
 
 // The lowest edge number of each step of the cycle that stands in c and starts at x.
-fn write_edges(
-    rows: &[u8],
-    p: Places,
-    mode: Mode,
-    n: usize,
-    src: &[u16],
-    x: usize,
-    size: usize,
-    w: &[u64],
-    c: &mut [u16],
-)
-    requires { ⌜ (x < n) × (size ≤ CYCLE-EDGES) × (CYCLE ≤ length (now c)) × (n ≤ length (now src)) × Ready (decode (now rows) p mode n) n (now w)
+fn write_edges(t: &Run, n: usize, src: &[u16], x: usize, size: usize, w: &[u64], c: &mut [u16])
+    requires { ⌜ (x < n) × (size ≤ CYCLE-EDGES) × (CYCLE ≤ length (now c)) × (n ≤ length (now src)) × Ready (tableIn (now t) n) n (now w)
         × ((i : ℕ) → i < size → getD (now c) i 0 < n) ⌝ }
-    ensures { λ _. let t = decode (now (rows .entry)) p mode n in
+    ensures { λ _. let t = tableIn (now (t .entry)) n in
         ⌜ Numbered (stepNumber t (sourceIn (now (src .entry))) x size (now (c .entry))) size (now (c .entry)) (now (c .exit)) ⌝ }
 {
     for i in 0..size {
         let a = wide(c[i]);
         let b = next_of(c, i, size, x);
-        let e = axioms::edges::edge_number(rows, p, mode, n, src, a, b, w);
+        let e = axioms::edges::edge_number(t, n, src, a, b, w);
         c[model::CYCLE_EDGES + i] = e;
     }
 }
 
 // Shows the cycle of the edges that starts at its lowest row x, and gives its length.
 // Ruled out: one that leaves an old number after the cycle's rows; one that gives the last step the edge to the row after it.
-pub fn show_cycle(
-    rows: &[u8],
-    p: Places,
-    mode: Mode,
-    n: usize,
-    src: &[u16],
-    x: usize,
-    w: &mut [u64],
-    c: &mut [u16],
-) -> usize
-    requires { ⌜ (x < n) × (CYCLE ≤ length (now c)) × (n ≤ length (now src)) × Ready (decode (now rows) p mode n) n (now w)
-        × Holds EDGE GRID n (edge (decode (now rows) p mode n) (sourceIn (now src))) (now w)
-        × (x ≡ cycleRow (decode (now rows) p mode n) (sourceIn (now src))) ⌝ }
-    ensures { λ r. let t = decode (now (rows .entry)) p mode n in
+pub fn show_cycle(t: &Run, n: usize, src: &[u16], x: usize, w: &mut [u64], c: &mut [u16]) -> usize
+    requires { ⌜ (x < n) × (CYCLE ≤ length (now c)) × (n ≤ length (now src)) × Ready (tableIn (now t) n) n (now w)
+        × Holds EDGE GRID n (edge (tableIn (now t) n) (sourceIn (now src))) (now w)
+        × (x ≡ cycleRow (tableIn (now t) n) (sourceIn (now src))) ⌝ }
+    ensures { λ r. let t = tableIn (now (t .entry)) n in
         ⌜ (r ≡ length (cycleRows t (sourceIn (now (src .entry)))))
         × (now (c .exit) ≡ cycleAfter (cyclic (cycleRows t (sourceIn (now (src .entry)))) (cycleEdges t (sourceIn (now (src .entry))))) (now (c .entry)))
         × Within LAYERS LAYERS-END (now (w .entry)) (now (w .exit)) ⌝ }
@@ -91,6 +71,6 @@ pub fn show_cycle(
     let size = walks::grid::layer_of(w, area::LAYERS, n, x) + 1;
     clear_numbers(c);
     cycle::write_rows(w, n, x, size, c);
-    write_edges(rows, p, mode, n, src, x, size, w, c);
+    write_edges(t, n, src, x, size, w, c);
     size
 }

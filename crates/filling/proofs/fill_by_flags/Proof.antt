@@ -11,5 +11,4 @@ returns c = left-same fillAnswer workAfter sourcesAfter (sym (none-fill _ _ _ _)
 
 pub fill-by-flags-spec : {M : Type 1} → statement M
 fill-by-flags-spec =
-    tie.close
-    (tie.spec (λ c. search needs) (λ c κs. search needs) (λ c. search needs) (λ c. search needs) returns)
+    tie.close (tie.spec (λ c. search needs) (λ c κs. search needs) (λ c. search needs) (λ c. search needs) returns)

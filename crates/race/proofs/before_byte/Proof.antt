@@ -10,19 +10,19 @@ use Rattle.race.proofs.before_byte.Tie as tie
 returns : tie.Need-returns
 unfolding decode
 returns c =
-    let s = c .before .before .before .before in
+    let s = c .before .before .before in
     before-low _ _ _ _ _ (s .pre .3 .2) (s .pre .0) (ap (λ (z : Row). z .start) (s .pre .2)) (c .if1 .taken)
 
 returns-2 : tie.Need-returns-2
 unfolding decode
 returns-2 c =
-    let s = c .before .before .before .before .before in
+    let s = c .before .before .before .before in
     before-high _ _ _ _ _ (s .pre .3 .2) (s .pre .0) (ap (λ (z : Row). z .start) (s .pre .2)) (c .if2 .taken)
 
 returns-3 : tie.Need-returns-3
 unfolding decode
 returns-3 c =
-    let s = c .before .before .before .before .before .before in
+    let s = c .before .before .before .before .before in
     c .get .ensures ∙ before-bit _ _ _ _ _ _ _ _ (s .pre .3 .3) (s .pre .0) (s .pre .1) (ap (λ (z : Row). z .start) (s .pre .2))
     (search needs) (search needs) (omega arith)
 

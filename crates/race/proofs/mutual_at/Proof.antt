@@ -7,7 +7,7 @@ use Rattle.race.proofs.mutual_at.Tie as tie
 
 returns : tie.Need-returns
 returns c =
-    let s = c .before .before .before in
+    let s = c .before .before in
     c .get .ensures ∙ holds-bit (s .pre .2 .3 .mutuals) _ _ _ (omega arith) (s .pre .0) (s .pre .1)
 
 pub mutual-at-spec : {M : Type 1} → statement M

@@ -1,43 +1,25 @@
-use native.Mathlib.Omega.{arith}
-use Rattle.pieces.specs.PiecesLaws.{copy-length, front-length}
-use Rattle.pieces.specs.Entry.{door-few, door-rows}
-use Rattle.reasons.specs.Whole.{told-refused, told-rows}
+use Rattle.reasons.specs.Whole.{told-refused, told-run}
 use borrow.Author.Needs.{needs}
 use Rattle.reasons.proofs.derive_both.Statement.{statement}
 use Rattle.reasons.proofs.derive_both.Tie as tie
 
 returns : tie.Need-returns
-returns c = told-refused _ _ _ _ _ _ _ (c .before .before .before .open-both .ensures) _ (c .before .enum-told .given .1) (c .refusal-of .ensures)
-
-array-share-prefix-all : tie.Need-array-share-prefix-all
-array-share-prefix-all c =
-    let few = door-few _ _ _ _ _ _ _ (c .before .before .before .before .before .before .open-both .ensures) (c .before .before .before .before .a .given .1) in
-    let long = copy-length _ _ (c .join-rows .ensures) in
-    omega arith
-
-slice-aggregate-derive-rows : tie.Need-slice-aggregate-derive-rows
-slice-aggregate-derive-rows c =
-    let few = door-few _ _ _ _ _ _ _ (c .before .before .before .before .before .before .before .open-both .ensures)
-    (c .before .before .before .before .before .a .given .1) in
-    front-length _ _ _ (c .before .join-rows .ensures) (omega arith)
+returns c = told-refused _ _ _ _ _ _ _ (c .before .before .before .before .enter .ensures .0) _ (c .before .enum-told .given .1) (c .refusal-of .ensures)
 
 derive-rows-requires : tie.Need-derive-rows-requires
 derive-rows-requires c κs =
-    let at = c .before .before .before in
-    door-rows _ _ _ _ _ _ _ (at .before .before .before .before .before .before .open-both .ensures)
-    (at .before .before .before .before .a .given .1) _ _ _ _ (at .join-rows .ensures) (at .before .before .read-places .ensures)
-    (at .before .read-mode .ensures)
+    let opened = c .before .before .before .before .before .before .before .before .before .before .before .before .enter .ensures .1 _ _ (c .before .before .before .before .before .before .before .before .before .a .given .1) in
+    rw (c .before .before .before .before .before .before .rows-of .ensures, c .before .before .before .before .places .ensures, c .before .before .mode .ensures) ((opened .room, opened .space, opened .run))
 
 returns-2 : tie.Need-returns-2
 returns-2 c =
-    let at = c .before .before .before .before .before .before .before .before in
-    told-rows _ _ _ _ _ _ _ (at .before .before .before .before .before .before .open-both .ensures)
-    (at .before .before .before .before .a .given .1) _ _ _ (at .join-rows .ensures) (at .before .before .read-places .ensures)
-    (at .before .read-mode .ensures) _ _ _ (c .before .before .before .before .derive-rows .ensures)
+    let admitted = c .before .before .before .before .before .before .before .before .before .before .before .before .before .before .a .given .1 in
+    let entered = c .before .before .before .before .before .before .before .before .before .before .before .before .before .before .before .before .before .enter .ensures in
+    told-run _ _ _ _ _ _ _ (entered .0) admitted _ (entered .1 _ _ admitted) _ _ _ (c .before .before .before .before .before .before .before .before .before .before .before .rows-of .ensures) (c .before .before .before .before .before .before .before .before .before .places .ensures) (c .before .before .before .before .before .before .before .mode .ensures) _ _ _ (c .before .before .before .before .derive-rows .ensures)
 
 pub derive-both-spec : {M : Type 1} → statement M
 derive-both-spec =
     tie.close
-    (tie.spec (λ c κs. search needs) (λ c. search needs) (λ c. search needs) (λ c κs. search needs) returns (λ c. search needs)
-    (λ c κs. search needs) (λ c κs. search needs) (λ c κs. search needs) (λ c. search needs) array-share-prefix-all
-    slice-aggregate-derive-rows derive-rows-requires (λ c. search needs) (λ c. search needs) returns-2)
+    (tie.spec (λ c. search needs) (λ c κs. search needs) (λ c. search needs) (λ c. search needs) (λ c κs. search needs) returns
+    (λ c. search needs) (λ c κs. search needs) (λ c κs. search needs) (λ c κs. search needs) derive-rows-requires (λ c. search needs)
+    (λ c. search needs) returns-2)

@@ -10,4 +10,5 @@ unfolding follows decode _and_
 returns c = cc
 
 pub follows-at-spec : {M : Type 1} → statement M
-follows-at-spec = tie.close (tie.spec (λ c κs. search needs) (λ c κs. search needs) returns)
+follows-at-spec =
+    tie.close (tie.spec (λ c κs. search needs) (λ c κs. search needs) (λ c κs. search needs) returns)

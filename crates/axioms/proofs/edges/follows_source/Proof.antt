@@ -11,4 +11,5 @@ returns c = cc
 
 pub follows-source-spec : {M : Type 1} → statement M
 follows-source-spec =
-    tie.close (tie.spec (λ c κs. search needs) (λ c κs. search needs) (λ c κs. search needs) returns)
+    tie.close
+    (tie.spec (λ c κs. search needs) (λ c κs. search needs) (λ c κs. search needs) (λ c κs. search needs) (λ c κs. search needs) returns)

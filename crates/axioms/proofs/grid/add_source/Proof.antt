@@ -8,14 +8,14 @@ use Rattle.axioms.proofs.grid.add_source.Statement.{statement}
 use Rattle.axioms.proofs.grid.add_source.Tie as tie
 
 returns : tie.Need-returns
-returns c = source-none _ _ _ _ ((c .before .before) .source-at .ensures) (c .if1 .taken)
+returns c = source-none _ _ _ _ (c .before .before .source-at .ensures) (c .if1 .taken)
 
 returns-2 : tie.Need-returns-2
 unfolding decode
 returns-2 c = source-put _ _ _ _ _ _ (omega arith) (omega arith) (omega arith) (omega arith)
-    ((c .before .before .before .before .before .before .before .before) .source-at .ensures)
-    ((c .before .before .before .before) .reads .ensures ∙ ap reads ((c .before .before .before .before .before) .read-row .ensures)) refl
-    ((c .before .before) .put-if .ensures)
+    (c .before .before .before .before .before .before .before .before .source-at .ensures)
+    (c .before .before .before .before .reads .ensures ∙ ap reads (c .before .before .before .before .before .row .ensures)) refl
+    (c .before .before .put-if .ensures)
 
 pub add-source-spec : {M : Type 1} → statement M
 add-source-spec =

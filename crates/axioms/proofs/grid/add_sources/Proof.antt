@@ -1,3 +1,4 @@
+use Rattle.run.specs.Layout.{tableIn}
 use mathlib.Core.Path.{_≡_, refl}
 use Prim.Native.Nat.{_-_, _≤_}
 use native.Mathlib.Omega.{arith}
@@ -11,23 +12,23 @@ use Rattle.axioms.proofs.grid.add_sources.Statement.{statement}
 use Rattle.axioms.proofs.grid.add_sources.Tie as tie
 
 abbrev Inv-loop : tie.InvT-loop
-Inv-loop rows p mode n src w₀ y₀ w y = (y ≤ n) × (length w ≡ length w₀) × Edged n (intoBelow y (readsFrom (decode rows p mode n) (sourceIn src))) w₀ w
+Inv-loop t n src w₀ y₀ w y = (y ≤ n) × (length w ≡ length w₀) × Edged n (intoBelow y (readsFrom (tableIn t n) (sourceIn src))) w₀ w
 
 abbrev μ-loop : tie.MeasureT-loop
-μ-loop rows p mode n src w₀ y₀ w y = n - y
+μ-loop t n src w₀ y₀ w y = n - y
 
 loop-holds : tie.Need-loop-holds Inv-loop μ-loop
 loop-holds c = (search needs, refl, sources-none _ _)
 
 loop-again : tie.Need-loop-again Inv-loop μ-loop
 loop-again c =
-    let inv = (c .before .before .before .before .before) .loop .inv in
-    let e = sources-more _ _ _ (inv .2) ((c .before .before) .add-source .ensures) in
+    let inv = c .before .before .before .before .before .loop .inv in
+    let e = sources-more _ _ _ (inv .2) (c .before .before .add-source .ensures) in
     (search needs, e .frame .len, e)
 
 returns : tie.Need-returns Inv-loop μ-loop
-returns c = let e : (c .before) .loop .y ≡ (c .before .before .before .before .before) .args .n = omega arith in
-    sources-all _ _ (rw e at ((c .before) .loop .inv .2))
+returns c = let e : c .before .loop .y ≡ c .before .before .before .before .args .n = omega arith in
+    sources-all _ _ (rw e at (c .before .loop .inv .2))
 
 pub add-sources-spec : {M : Type 1} → statement M
 add-sources-spec =

@@ -1,3 +1,4 @@
+use Rattle.run.specs.Layout.{tableIn}
 use mathlib.Core.Path.{_≡_, refl}
 use mathlib.Core.Bool.{true}
 use Prim.Native.Nat.{_-_, _≤_, _<_}
@@ -17,16 +18,16 @@ use Rattle.axioms.proofs.grid.from_initial.Statement.{statement}
 use Rattle.axioms.proofs.grid.from_initial.Tie as tie
 
 abbrev Inv-loop : tie.InvT-loop
-Inv-loop rows p mode n src x w₀ at y₀ w y =
-    (y ≤ n) × (length w ≡ length w₀) × Located (decode rows p mode n) n w × (y < n → overlaps (decode rows p mode n) x y ≡ true)
-    × Edged n (fromUpto x y (fromReads (decode rows p mode n) (sourceIn src) x)) w₀ w
+Inv-loop t n src x w₀ at y₀ w y =
+    (y ≤ n) × (length w ≡ length w₀) × Located (tableIn t n) n w × (y < n → overlaps (tableIn t n) x y ≡ true)
+    × Edged n (fromUpto x y (fromReads (tableIn t n) (sourceIn src) x)) w₀ w
 
 abbrev μ-loop : tie.MeasureT-loop
-μ-loop rows p mode n src x w₀ at y₀ w y = n - y
+μ-loop t n src x w₀ at y₀ w y = n - y
 
 loop-holds : tie.Need-loop-holds Inv-loop μ-loop
 loop-holds c =
-    let pre = c .before .before .before .before .before .before .pre in
+    let pre = c .before .before .before .before .before .pre in
     let shared = pre .3 .3 .overlapping in
     let next = rw (c .before .before .at .ensures) at (c .next .ensures) in (
       next .high,
@@ -37,12 +38,12 @@ loop-holds c =
     )
 
 from-shared-requires : tie.Need-from-shared-requires Inv-loop μ-loop
-from-shared-requires c κs = let pre = c .before .before .before .before .before .before .before .before .pre in
+from-shared-requires c κs = let pre = c .before .before .before .before .before .before .before .pre in
     (search needs, pre .1, pre .2, c .before .loop .inv .3 (c .loop-test .taken))
 
 loop-again : tie.Need-loop-again Inv-loop μ-loop
 loop-again c =
-    let pre = c .before .before .before .before .before .before .before .before .before .before .before .before .before .before .before .pre in
+    let pre = c .before .before .before .before .before .before .before .before .before .before .before .before .before .before .pre in
     let put = c .before .before .before .before .put-if in
     let inv = c .before .before .before .before .before .before .before .before .loop .inv in
     let e = row-exact _ _ _ _ _ (omega arith) (omega arith) (omega arith) (omega arith) (inv .4) refl (put .ensures)
@@ -58,7 +59,7 @@ loop-again c =
     )
 
 returns : tie.Need-returns Inv-loop μ-loop
-returns c = let e : c .before .loop .y ≡ c .before .before .before .before .before .before .before .before .args .n = omega arith in
+returns c = let e : c .before .loop .y ≡ c .before .before .before .before .before .before .before .args .n = omega arith in
     rw e at (c .before .loop .inv .4)
 
 pub from-initial-spec : {M : Type 1} → statement M

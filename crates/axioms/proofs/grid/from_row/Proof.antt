@@ -13,23 +13,23 @@ use Rattle.axioms.proofs.grid.from_row.Tie as tie
 
 returns : tie.Need-returns
 unfolding decode
-returns c = row-empty _ _ _ (λ m l. sym (from-unread _ _ _ _ _ _ ((c .before .before) .read-row .ensures) ((c .before) .reads .ensures) (c .if1 .taken)))
+returns c = row-empty _ _ _ (λ m l. sym (from-unread _ _ _ _ _ _ (c .before .before .row .ensures) (c .before .reads .ensures) (c .if1 .taken)))
 
 returns-2 : tie.Need-returns-2
 unfolding decode
 returns-2 c = row-cong _ _ _ (λ m l. from-after _ _ _ _ _ _ _
-    ((c .before .before .before .before .before .before .before) .source-at .ensures)
-    ((c .before .before .before .before .before .before .before .before .before .before) .read-row .ensures)
-    ((c .before .before .before .before .before .before .before .before .before) .reads .ensures)
-    ((c .before .before .before .before .before .before .before .before) .if1 .left)
-    ((c .before .before .before .before .before) .if2 .taken)
-    ((c .before .before .before .before .before .before .before .before .before .before .before .before .before .before) .pre .2 .0) m)
-    ((c .before .before) .after-row .ensures)
+    (c .before .before .before .before .before .before .before .source-at .ensures)
+    (c .before .before .before .before .before .before .before .before .before .before .row .ensures)
+    (c .before .before .before .before .before .before .before .before .before .reads .ensures)
+    (c .before .before .before .before .before .before .before .before .if1 .left)
+    (c .before .before .before .before .before .if2 .taken)
+    (c .before .before .before .before .before .before .before .before .before .before .before .before .before .pre .2 .0) m)
+    (c .before .before .after-row .ensures)
 
 from-initial-requires : tie.Need-from-initial-requires
 from-initial-requires c κs =
-    let pre = c .before .before .before .before .before .before .before .before .before .before .before .before .pre in
-    let read = ap reads (sym (c .before .before .before .before .before .before .before .before .read-row .ensures))
+    let pre = c .before .before .before .before .before .before .before .before .before .before .before .pre in
+    let read = ap reads (sym (c .before .before .before .before .before .before .before .before .row .ensures))
     ∙ sym (c .before .before .before .before .before .before .before .reads .ensures)
     ∙ not-false _ (c .before .before .before .before .before .before .if1 .left) in
     let initial = ap (λ (v : ℕ). eqb v INITIAL) (sym (c .before .before .before .before .before .source-at .ensures))

@@ -12,10 +12,11 @@ returns-2 : tie.Need-returns-2
 unfolding decode _and_
 returns-2 c =
     let pre = c .before .before .before .before .before .before .pre in
-    lacks-other _ _ _ (c .before .before .before .get .ensures) (c .before .before .if1 .left)
-    (after-on _ _ _ _ _ _ _ (pre .4) (pre .3) (c .before .read-row .ensures) (c .is-later-writer .ensures))
+    lacks-other _ _ _ (c .before .before .before .before .get .ensures) (c .before .before .before .if1 .left)
+    (after-on _ _ _ _ _ _ _ (pre .4) (pre .3) (c .before .row .ensures) (rw (c .before .before .counted .ensures) at (c .is-later-writer .ensures)))
 
 pub lacks-after-spec : {M : Type 1} → statement M
 lacks-after-spec =
     tie.close
-    (tie.spec (λ c κs. search needs) returns (λ c. search needs) (λ c κs. search needs) (λ c κs. search needs) returns-2)
+    (tie.spec (λ c κs. search needs) returns (λ c κs. search needs) (λ c. search needs) (λ c κs. search needs) (λ c κs. search needs)
+    returns-2)

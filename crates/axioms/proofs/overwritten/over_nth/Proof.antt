@@ -1,3 +1,4 @@
+use Rattle.run.specs.Layout.{tableIn}
 use Rattle.race.specs.Pairs.{some-unset}
 use Rattle.axioms.specs.Overwritten.{over-none, over-apart}
 use Rattle.axioms.specs.Sources.{sourceIn}
@@ -14,22 +15,19 @@ use Rattle.axioms.proofs.overwritten.over_nth.Statement.{statement}
 use Rattle.axioms.proofs.overwritten.over_nth.Tie as tie
 
 abbrev Inv-loop : tie.InvT-loop
-Inv-loop rows p mode n src y z w s o r q k₀ k = (k ≤ PAIR) × (least k (overwritesNth (decode rows p mode n) (sourceIn src) y z) ≡ k)
+Inv-loop t n src y z w s o r q k₀ k = (k ≤ PAIR) × (least k (overwritesNth (tableIn t n) (sourceIn src) y z) ≡ k)
 
 abbrev μ-loop : tie.MeasureT-loop
-μ-loop rows p mode n src y z w s o r q k₀ k = PAIR - k
+μ-loop t n src y z w s o r q k₀ k = PAIR - k
 
 returns : tie.Need-returns Inv-loop μ-loop
 unfolding decode
-returns c = let s = c .before .before .before .before .before in
+returns c = let s = c .before .before .before .before in
     over-apart _ _ _ _ (s .pre .3 .2) (s .pre .1)
     (some-unset _ _ _ _ _ _ (s .pre .3 .3) (s .pre .1) (s .pre .0) refl (sym (c .before .is-unset .ensures) ∙ c .if1 .taken))
 
 returns-2 : tie.Need-returns-2 Inv-loop μ-loop
 returns-2 c = over-none _ _ _ _ (sym (c .before .may-overwrite .ensures) ∙ not-true _ (c .if2 .taken))
-
-cast-read-row-2 : tie.Need-cast-read-row-2 Inv-loop μ-loop
-cast-read-row-2 c = let s = (c .before .before .before .before .before .before .before .before .before .before) .pre in search (needs, s .1, s .3 .0)
 
 loop-holds : tie.Need-loop-holds Inv-loop μ-loop
 loop-holds c = (search needs, least-none _)
@@ -37,7 +35,7 @@ loop-holds c = (search needs, least-none _)
 overwrites-at-requires : tie.Need-overwrites-at-requires Inv-loop μ-loop
 overwrites-at-requires c κs = let m = sym (c .before .before .before .before .before .before .before .before .may-overwrite .ensures)
     ∙ not-false _ (c .before .before .before .before .before .before .before .if2 .left) in
-    let pre = c .before .before .before .before .before .before .before .before .before .before .before .before .before .before .pre in search needs
+    let pre = c .before .before .before .before .before .before .before .before .before .before .before .before .before .pre in search needs
 
 returns-3 : tie.Need-returns-3 Inv-loop μ-loop
 unfolding overNth
@@ -55,5 +53,5 @@ pub over-nth-spec : {M : Type 1} → statement M
 over-nth-spec =
     tie.close
     (tie.spec Inv-loop μ-loop (λ c κs. search needs) returns (λ c κs. search needs) returns-2 (λ c κs. search needs) (λ c κs. search needs)
-    (λ c. search needs) (λ c κs. search needs) cast-read-row-2 (λ c κs. search needs) loop-holds (λ c. search needs) overwrites-at-requires
-    returns-3 (λ c. search needs) (λ c. search needs) loop-again returns-4)
+    (λ c. search needs) (λ c κs. search needs) (λ c. search needs) (λ c κs. search needs) loop-holds (λ c. search needs)
+    overwrites-at-requires returns-3 (λ c. search needs) (λ c. search needs) loop-again returns-4)

@@ -1,3 +1,4 @@
+use Rattle.run.specs.Layout.{tableIn}
 use Rattle.axioms.specs.Overwritten.{overwritten-is}
 use Rattle.axioms.specs.Sources.{sourceIn}
 use Rattle.model.specs.Edge.{isOverwritten, overReader}
@@ -11,10 +12,10 @@ use Rattle.axioms.proofs.overwritten.over_reader.Statement.{statement}
 use Rattle.axioms.proofs.overwritten.over_reader.Tie as tie
 
 abbrev Inv-loop : tie.InvT-loop
-Inv-loop rows p mode n src w y₀ y = (y ≤ n) × (least y (isOverwritten (decode rows p mode n) (sourceIn src)) ≡ y)
+Inv-loop t n src w y₀ y = (y ≤ n) × (least y (isOverwritten (tableIn t n) (sourceIn src)) ≡ y)
 
 abbrev μ-loop : tie.MeasureT-loop
-μ-loop rows p mode n src w y₀ y = n - y
+μ-loop t n src w y₀ y = n - y
 
 loop-holds : tie.Need-loop-holds Inv-loop μ-loop
 loop-holds c = (search needs, least-none _)
@@ -34,7 +35,7 @@ loop-again c = (
 
 returns-2 : tie.Need-returns-2 Inv-loop μ-loop
 unfolding overReader decode
-returns-2 c = let e : c .before .loop .y ≡ c .before .before .before .before .before .args .n = omega arith in sym (rw e at (c .before .loop .inv .1))
+returns-2 c = let e : c .before .loop .y ≡ c .before .before .before .before .args .n = omega arith in sym (rw e at (c .before .loop .inv .1))
 
 pub over-reader-spec : {M : Type 1} → statement M
 over-reader-spec =

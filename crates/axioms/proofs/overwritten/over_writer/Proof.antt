@@ -1,3 +1,4 @@
+use Rattle.run.specs.Layout.{tableIn}
 use Rattle.axioms.specs.Overwritten.{unread-none, overwriting-is, writer-pass}
 use Rattle.axioms.specs.Sources.{sourceIn}
 use Rattle.finite.specs.Logic.{_and_}
@@ -12,19 +13,19 @@ use Rattle.axioms.proofs.overwritten.over_writer.Statement.{statement}
 use Rattle.axioms.proofs.overwritten.over_writer.Tie as tie
 
 abbrev Inv-loop : tie.InvT-loop
-Inv-loop rows p mode n src y w at z₀ z = (z ≤ n) × (least z (overwriting (decode rows p mode n) (sourceIn src) y) ≡ z)
+Inv-loop t n src y w at z₀ z = (z ≤ n) × (least z (overwriting (tableIn t n) (sourceIn src) y) ≡ z)
 
 abbrev μ-loop : tie.MeasureT-loop
-μ-loop rows p mode n src y w at z₀ z = n - z
+μ-loop t n src y w at z₀ z = n - z
 
 returns : tie.Need-returns Inv-loop μ-loop
 unfolding decode _and_
-returns c = unread-none _ _ _ _ _ _ _ _ refl (c .before .before .before .before .read-row .ensures)
+returns c = unread-none _ _ _ _ _ _ _ _ refl (c .before .before .before .before .row .ensures)
     (c .before .before .before .source-at .ensures) (c .before .before .reads .ensures) (c .before .is-row .ensures) (c .if1 .taken)
 
 loop-holds : tie.Need-loop-holds Inv-loop μ-loop
 loop-holds c =
-    let pre = c .before .before .before .before .before .before .before .before .before .before .pre in
+    let pre = c .before .before .before .before .before .before .before .before .before .pre in
     let next = rw (c .before .at .ensures) at (c .next .ensures) in
     (next .high, writer-pass _ _ _ _ _ _ _ (pre .2 .3 .overlapping) (pre .0) next (least-none _))
 
@@ -36,7 +37,7 @@ returns-2 c = sym (least-found _ _ _ (c .before .before .before .loop .inv .1)
 loop-again : tie.Need-loop-again Inv-loop μ-loop
 unfolding decode
 loop-again c =
-    let pre = c .before .before .before .before .before .before .before .before .before .before .before .before .before .before .before .pre in
+    let pre = c .before .before .before .before .before .before .before .before .before .before .before .before .before .before .pre in
     let next = rw (c .before .before .before .before .before .before .at .ensures) at (c .next2 .ensures) in
     let e = least-more _ _ (c .before .before .before .before .loop .inv .1)
     (overwriting-is _ _ _ _ _ (c .before .before .over-nth .ensures) .1 (c .before .if2 .left)) in
@@ -44,8 +45,7 @@ loop-again c =
 
 returns-3 : tie.Need-returns-3 Inv-loop μ-loop
 unfolding overWriter decode
-returns-3 c = let e : c .before .loop .z ≡ c .before .before .before .before .before .before .before .before .before .before .before
-    .before .args .n = omega arith in sym (rw e at (c .before .loop .inv .1))
+returns-3 c = let e : c .before .loop .z ≡ c .before .before .before .before .before .before .before .before .before .before .before .args .n = omega arith in sym (rw e at (c .before .loop .inv .1))
 
 pub over-writer-spec : {M : Type 1} → statement M
 over-writer-spec =

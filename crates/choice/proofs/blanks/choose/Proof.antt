@@ -1,3 +1,4 @@
+use Rattle.run.specs.Layout.{tableIn}
 use mathlib.Core.Path.{_≡_, refl}
 use Prim.Native.Nat.{_-_, _≤_}
 use native.Mathlib.Omega.{arith}
@@ -12,24 +13,24 @@ use Rattle.choice.proofs.blanks.choose.Statement.{statement}
 use Rattle.choice.proofs.blanks.choose.Tie as tie
 
 abbrev Inv-loop : tie.InvT-loop
-Inv-loop rows p mode n src w list₀ i₀ list i = (i ≤ n) × (length list ≡ SOURCES) × Listed (chosen (decode rows p mode n) (at src)) i list
+Inv-loop t n src w list₀ i₀ list i = (i ≤ n) × (length list ≡ SOURCES) × Listed (chosen (tableIn t n) (at src)) i list
 
 abbrev μ-loop : tie.MeasureT-loop
-μ-loop rows p mode n src w list₀ i₀ list i = n - i
+μ-loop t n src w list₀ i₀ list i = n - i
 
 loop-holds : tie.Need-loop-holds Inv-loop μ-loop
 loop-holds c = (search needs, refl, listed-none _ _ refl)
 
 loop-again : tie.Need-loop-again Inv-loop μ-loop
 loop-again c =
-    let start = c .before .before .before .before .before .before .before in
+    let start = c .before .before .before .before .before .before in
     let inv = c .before .before .before .loop .inv in
     let e = chosen-is _ (at (start .args .src .now)) _ _ (c .chosen-at .ensures) in
     (search needs, simp length-set (inv .1), listed-more _ _ _ _ (omega arith) e (inv .2))
 
 returns : tie.Need-returns Inv-loop μ-loop
 returns c =
-    let e : c .before .loop .i ≡ c .before .before .before .before .before .args .n = omega arith in
+    let e : c .before .loop .i ≡ c .before .before .before .before .args .n = omega arith in
     rw e at (c .before .loop .inv .2)
 
 pub choose-spec : {M : Type 1} → statement M

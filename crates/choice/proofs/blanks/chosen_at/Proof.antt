@@ -7,13 +7,13 @@ use Rattle.choice.proofs.blanks.chosen_at.Tie as tie
 
 returns : tie.Need-returns
 unfolding decode _and_
-returns c = blank-told _ _ _ _ _ _ _ (c .before .before .before .before .before .read-row .ensures)
+returns c = blank-told _ _ _ _ _ _ _ (c .before .before .before .before .before .row .ensures)
     (c .before .before .before .before .of-row .ensures) (c .before .before .before .is-plain-read .ensures)
     (c .before .before .is-blank .ensures) (c .before .if1 .taken) _ (c .choice-of .ensures)
 
 returns-2 : tie.Need-returns-2
 unfolding decode _and_
-returns-2 c = own-told _ _ _ _ _ _ _ (c .before .before .before .before .read-row .ensures) (c .before .before .before .of-row .ensures)
+returns-2 c = own-told _ _ _ _ _ _ _ (c .before .before .before .before .row .ensures) (c .before .before .before .of-row .ensures)
     (c .before .before .is-plain-read .ensures) (c .before .is-blank .ensures) (c .if1 .left)
 
 pub chosen-at-spec : {M : Type 1} → statement M

@@ -1,3 +1,4 @@
+use Rattle.run.specs.Layout.{tableIn}
 use mathlib.Core.Path.{_≡_, sym, _∙_}
 use Prim.Native.Nat.{_-_, _≤_}
 use native.Mathlib.Omega.{arith}
@@ -9,10 +10,10 @@ use Rattle.choice.proofs.blanks.first_candidate.Statement.{statement}
 use Rattle.choice.proofs.blanks.first_candidate.Tie as tie
 
 abbrev Inv-loop : tie.InvT-loop
-Inv-loop rows p mode n y w s₀ s = (s ≤ n) × (least s (candidate (decode rows p mode n) y) ≡ s)
+Inv-loop t n y w s₀ s = (s ≤ n) × (least s (candidate (tableIn t n) y) ≡ s)
 
 abbrev μ-loop : tie.MeasureT-loop
-μ-loop rows p mode n y w s₀ s = n - s
+μ-loop t n y w s₀ s = n - s
 
 loop-holds : tie.Need-loop-holds Inv-loop μ-loop
 loop-holds c = (search needs, least-none _)
@@ -29,7 +30,7 @@ loop-again c = (search needs, least-more _ _ (c .before .before .before .loop .i
 
 returns-2 : tie.Need-returns-2 Inv-loop μ-loop
 returns-2 c =
-    let e : c .before .loop .s ≡ c .before .before .before .before .args .n = omega arith in
+    let e : c .before .loop .s ≡ c .before .before .before .args .n = omega arith in
     (sym (rw e at (c .before .loop .inv .1)), omega arith)
 
 pub first-candidate-spec : {M : Type 1} → statement M

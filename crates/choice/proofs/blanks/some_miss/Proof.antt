@@ -1,3 +1,4 @@
+use Rattle.run.specs.Layout.{tableIn}
 use mathlib.Core.Path.{_≡_, sym, _∙_}
 use Prim.Native.Nat.{_-_, _≤_}
 use native.Mathlib.Omega.{arith}
@@ -11,10 +12,10 @@ use Rattle.choice.proofs.blanks.some_miss.Statement.{statement}
 use Rattle.choice.proofs.blanks.some_miss.Tie as tie
 
 abbrev Inv-loop : tie.InvT-loop
-Inv-loop rows p mode n y s w r q k₀ k = (k ≤ LONGEST) × (anyBelow k (unorderedAt (decode rows p mode n) y s) ≡ false)
+Inv-loop t n y s w r q k₀ k = (k ≤ LONGEST) × (anyBelow k (unorderedAt (tableIn t n) y s) ≡ false)
 
 abbrev μ-loop : tie.MeasureT-loop
-μ-loop rows p mode n y s w r q k₀ k = LONGEST - k
+μ-loop t n y s w r q k₀ k = LONGEST - k
 
 loop-holds : tie.Need-loop-holds Inv-loop μ-loop
 loop-holds c = (search needs, any-none _)

@@ -11,13 +11,13 @@ use Rattle.choice.proofs.writers.between_at.Tie as tie
 
 returns : tie.Need-returns
 unfolding between decode
-returns c = and-stop _ _ _ (c .before .writes .ensures ∙ ap writes (c .before .before .read-row .ensures)) (not-true _ (c .if1 .taken))
+returns c = and-stop _ _ _ (c .before .writes .ensures ∙ ap writes (c .before .before .row .ensures)) (not-true _ (c .if1 .taken))
 
 returns-2 : tie.Need-returns-2
 unfolding decode _or_
 returns-2 c =
     let at-writes = c .before .before .before in
-    let d = at-writes .writes .ensures ∙ ap writes (at-writes .before .read-row .ensures) in
+    let d = at-writes .writes .ensures ∙ ap writes (at-writes .before .row .ensures) in
     writer-told _ _ _ _ _ _ _ d (not-false _ (c .before .before .if1 .left)) (c .before .overtakes .ensures) (c .some-hidden .ensures)
 
 pub between-at-spec : {M : Type 1} → statement M

@@ -1,3 +1,4 @@
+use Rattle.run.specs.Layout.{tableIn}
 use mathlib.Core.Path.{_≡_, sym, _∙_}
 use Prim.Native.Nat.{_-_, _≤_}
 use native.Mathlib.Omega.{arith}
@@ -10,10 +11,10 @@ use Rattle.choice.proofs.writers.is_written.Statement.{statement}
 use Rattle.choice.proofs.writers.is_written.Tie as tie
 
 abbrev Inv-loop : tie.InvT-loop
-Inv-loop rows p mode n y w z₀ z = (z ≤ n) × (anyBelow z (writtenBy (decode rows p mode n) y) ≡ false)
+Inv-loop t n y w z₀ z = (z ≤ n) × (anyBelow z (writtenBy (tableIn t n) y) ≡ false)
 
 abbrev μ-loop : tie.MeasureT-loop
-μ-loop rows p mode n y w z₀ z = n - z
+μ-loop t n y w z₀ z = n - z
 
 loop-holds : tie.Need-loop-holds Inv-loop μ-loop
 loop-holds c = (search needs, any-none _)
@@ -28,7 +29,7 @@ loop-again c = (search needs, any-more _ _ (c .before .before .before .loop .inv
 returns-2 : tie.Need-returns-2 Inv-loop μ-loop
 unfolding written decode
 returns-2 c =
-    let e : c .before .loop .z ≡ c .before .before .before .before .args .n = omega arith in
+    let e : c .before .loop .z ≡ c .before .before .before .args .n = omega arith in
     sym (rw e at (c .before .loop .inv .1))
 
 pub is-written-spec : {M : Type 1} → statement M

@@ -11,4 +11,7 @@ returns-2 : tie.Need-returns-2
 returns-2 c = and-go _ _ _ _ (c .before .before .follows-at .ensures) (not-false _ (c .before .if1 .left)) (c .before-some .ensures)
 
 pub overtakes-spec : {M : Type 1} → statement M
-overtakes-spec = tie.close (tie.spec (λ c κs. search needs) returns (λ c κs. search needs) returns-2)
+overtakes-spec =
+    tie.close
+    (tie.spec (λ c. search needs) (λ c κs. search needs) (λ c. search needs) (λ c κs. search needs) (λ c κs. search needs) returns
+    (λ c κs. search needs) returns-2)

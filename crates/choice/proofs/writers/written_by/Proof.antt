@@ -10,11 +10,11 @@ use Rattle.choice.proofs.writers.written_by.Tie as tie
 
 returns : tie.Need-returns
 unfolding writtenBy decode
-returns c = and-stop _ _ _ (c .before .writes .ensures ∙ ap writes (c .before .before .read-row .ensures)) (not-true _ (c .if1 .taken))
+returns c = and-stop _ _ _ (c .before .writes .ensures ∙ ap writes (c .before .before .row .ensures)) (not-true _ (c .if1 .taken))
 
 returns-2 : tie.Need-returns-2
 unfolding writtenBy decode
-returns-2 c = and-go _ _ _ _ (c .before .before .writes .ensures ∙ ap writes (c .before .before .before .read-row .ensures))
+returns-2 c = and-go _ _ _ _ (c .before .before .writes .ensures ∙ ap writes (c .before .before .before .row .ensures))
     (not-false _ (c .before .if1 .left)) (c .before-some .ensures)
 
 pub written-by-spec : {M : Type 1} → statement M

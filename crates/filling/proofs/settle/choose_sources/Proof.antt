@@ -16,7 +16,7 @@ returns c =
 returns-2 : tie.Need-returns-2
 unfolding decode
 returns-2 c =
-    let pre = c .before .before .before .before .before .before .before .before .before .before .before .before .before .before .before .before .pre in
+    let pre = c .before .before .before .before .before .before .before .before .before .before .before .before .before .before .before .pre in
     let told = c .before .before .before .before .before .before .before .is-filled .ensures in
     let few = pre .2 .0 in
     let room = pre .0 in

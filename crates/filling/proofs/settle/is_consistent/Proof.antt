@@ -15,7 +15,7 @@ returns c =
 
 over-reader-requires : tie.Need-over-reader-requires
 over-reader-requires c κs =
-    let pre = c .before .before .before .before .before .before .before .before .before .before .before .before .before .pre in (
+    let pre = c .before .before .before .before .before .before .before .before .before .before .before .before .pre in (
       pre .0,
       known-kept (omega arith) (omega arith) (pre .1)
           (edges-held (c .before .before .before .before .before .before .before .before .fill-edges .ensures)

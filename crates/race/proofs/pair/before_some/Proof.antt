@@ -10,14 +10,14 @@ use Rattle.race.proofs.pair.before_some.Statement.{statement}
 use Rattle.race.proofs.pair.before_some.Tie as tie
 
 abbrev Inv-loop : tie.InvT-loop
-Inv-loop rows n x y w k₀ k = (k ≤ PAIR) × (anyBelow k (orderBit w x y) ≡ false)
+Inv-loop t n x y w k₀ k = (k ≤ PAIR) × (anyBelow k (orderBit w x y) ≡ false)
 
 abbrev μ-loop : tie.MeasureT-loop
-μ-loop rows n x y w k₀ k = PAIR - k
+μ-loop t n x y w k₀ k = PAIR - k
 
 returns : tie.Need-returns Inv-loop μ-loop
-returns c = some-unset _ _ _ _ _ _ (c .before .before .before .before .pre .2 .3) (c .before .before .before .before .pre .0)
-    (c .before .before .before .before .pre .1) refl (sym (c .before .is-unset .ensures) ∙ c .if1 .taken)
+returns c = some-unset _ _ _ _ _ _ (c .before .before .before .pre .2 .3) (c .before .before .before .pre .0)
+    (c .before .before .before .pre .1) refl (sym (c .before .is-unset .ensures) ∙ c .if1 .taken)
 
 loop-holds : tie.Need-loop-holds Inv-loop μ-loop
 loop-holds c = (search needs, any-none _)
@@ -25,9 +25,9 @@ loop-holds c = (search needs, any-none _)
 returns-2 : tie.Need-returns-2 Inv-loop μ-loop
 unfolding orderBit
 returns-2 c = sym (any-in _ _ _ (c .before .before .loop-test .taken) (sym (c .before .get .ensures) ∙ c .if2 .taken))
-    ∙ some-bits _ _ _ _ _ (c .before .before .before .before .before .before .before .before .pre .2 .3)
-    (c .before .before .before .before .before .before .before .before .pre .0)
-    (c .before .before .before .before .before .before .before .before .pre .1)
+    ∙ some-bits _ _ _ _ _ (c .before .before .before .before .before .before .before .pre .2 .3)
+    (c .before .before .before .before .before .before .before .pre .0)
+    (c .before .before .before .before .before .before .before .pre .1)
 
 loop-again : tie.Need-loop-again Inv-loop μ-loop
 unfolding orderBit
@@ -35,8 +35,8 @@ loop-again c = (search needs, any-more _ _ (c .before .before .before .loop .inv
 
 returns-3 : tie.Need-returns-3 Inv-loop μ-loop
 returns-3 c = let e : c .before .loop .k ≡ PAIR = omega arith in
-    sym (rw e at (c .before .loop .inv .1)) ∙ some-bits _ _ _ _ _ (c .before .before .before .before .before .before .pre .2 .3)
-    (c .before .before .before .before .before .before .pre .0) (c .before .before .before .before .before .before .pre .1)
+    sym (rw e at (c .before .loop .inv .1)) ∙ some-bits _ _ _ _ _ (c .before .before .before .before .before .pre .2 .3)
+    (c .before .before .before .before .before .pre .0) (c .before .before .before .before .before .pre .1)
 
 pub before-some-spec : {M : Type 1} → statement M
 before-some-spec =

@@ -1,3 +1,4 @@
+use Rattle.run.specs.Layout.{tableIn}
 use mathlib.Core.Path.{_≡_, refl, sym}
 use Prim.Native.Nat.{_-_, _≤_}
 use native.Mathlib.Omega.{arith}
@@ -9,10 +10,10 @@ use Rattle.report.proofs.counts.count_below.Statement.{statement}
 use Rattle.report.proofs.counts.count_below.Tie as tie
 
 abbrev Inv-loop : tie.InvT-loop
-Inv-loop c rows p mode n y w q count₀ x₀ count x = (x ≤ y) × (count ≤ x) × (count ≡ countBelow x (under (counts c (decode rows p mode n)) y))
+Inv-loop c t n y w q count₀ x₀ count x = (x ≤ y) × (count ≤ x) × (count ≡ countBelow x (under (counts c (tableIn t n)) y))
 
 abbrev μ-loop : tie.MeasureT-loop
-μ-loop c rows p mode n y w q count₀ x₀ count x = y - x
+μ-loop c t n y w q count₀ x₀ count x = y - x
 
 loop-holds : tie.Need-loop-holds Inv-loop μ-loop
 loop-holds c = (search needs, search needs, sym (count-none _))
@@ -24,7 +25,7 @@ loop-again c =
 
 returns : tie.Need-returns Inv-loop μ-loop
 returns c =
-    let e : c .before .loop .x ≡ c .before .before .before .before .before .args .y = omega arith in
+    let e : c .before .loop .x ≡ c .before .before .before .before .args .y = omega arith in
     (rw e at (c .before .loop .inv .2), search needs)
 
 pub count-below-spec : {M : Type 1} → statement M

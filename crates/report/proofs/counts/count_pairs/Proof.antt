@@ -1,3 +1,4 @@
+use Rattle.run.specs.Layout.{tableIn}
 use mathlib.Core.Path.{_≡_, refl, sym}
 use Prim.Native.Nat.{_-_, _*_, _≤_}
 use native.Mathlib.Omega.{arith}
@@ -10,10 +11,10 @@ use Rattle.report.proofs.counts.count_pairs.Statement.{statement}
 use Rattle.report.proofs.counts.count_pairs.Tie as tie
 
 abbrev Inv-loop : tie.InvT-loop
-Inv-loop c rows p mode n w sum₀ y₀ sum y = (y ≤ n) × (sum ≤ y * ROWS) × (sum ≡ countPairs y (counts c (decode rows p mode n)))
+Inv-loop c t n w sum₀ y₀ sum y = (y ≤ n) × (sum ≤ y * ROWS) × (sum ≡ countPairs y (counts c (tableIn t n)))
 
 abbrev μ-loop : tie.MeasureT-loop
-μ-loop c rows p mode n w sum₀ y₀ sum y = n - y
+μ-loop c t n w sum₀ y₀ sum y = n - y
 
 loop-holds : tie.Need-loop-holds Inv-loop μ-loop
 loop-holds c = (search needs, search needs, sym (pairs-none _))
@@ -25,7 +26,7 @@ loop-again c =
 
 returns : tie.Need-returns Inv-loop μ-loop
 returns c =
-    let e : c .before .loop .y ≡ c .before .before .before .before .args .n = omega arith in
+    let e : c .before .loop .y ≡ c .before .before .before .args .n = omega arith in
     rw e at (c .before .loop .inv .2)
 
 pub count-pairs-spec : {M : Type 1} → statement M

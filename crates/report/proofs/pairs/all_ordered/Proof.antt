@@ -1,3 +1,4 @@
+use Rattle.run.specs.Layout.{tableIn}
 use mathlib.Core.Path.{_≡_, sym, _∙_}
 use mathlib.Core.Bool.{true}
 use Prim.Native.Nat.{_-_, _≤_}
@@ -13,10 +14,10 @@ use Rattle.report.proofs.pairs.all_ordered.Statement.{statement}
 use Rattle.report.proofs.pairs.all_ordered.Tie as tie
 
 abbrev Inv-loop : tie.InvT-loop
-Inv-loop rows p mode n x y r q w k₀ k = (k ≤ LONGEST) × (allBelow k (orderedNth (decode rows p mode n) x y) ≡ true)
+Inv-loop t n x y r q w k₀ k = (k ≤ LONGEST) × (allBelow k (orderedNth (tableIn t n) x y) ≡ true)
 
 abbrev μ-loop : tie.MeasureT-loop
-μ-loop rows p mode n x y r q w k₀ k = LONGEST - k
+μ-loop t n x y r q w k₀ k = LONGEST - k
 
 loop-holds : tie.Need-loop-holds Inv-loop μ-loop
 loop-holds c = (search needs, all-none _)

@@ -1,3 +1,4 @@
+use Rattle.run.specs.Layout.{tableIn}
 use mathlib.Core.Path.{_≡_, sym, _∙_}
 use Prim.Native.Nat.{_-_, _≤_}
 use native.Mathlib.Omega.{arith}
@@ -11,10 +12,10 @@ use Rattle.report.proofs.pairs.some_open.Statement.{statement}
 use Rattle.report.proofs.pairs.some_open.Tie as tie
 
 abbrev Inv-loop : tie.InvT-loop
-Inv-loop rows p mode n x y r q w k₀ k = (k ≤ LONGEST) × (least k (unorderedNth (decode rows p mode n) x y) ≡ k)
+Inv-loop t n x y r q w k₀ k = (k ≤ LONGEST) × (least k (unorderedNth (tableIn t n) x y) ≡ k)
 
 abbrev μ-loop : tie.MeasureT-loop
-μ-loop rows p mode n x y r q w k₀ k = LONGEST - k
+μ-loop t n x y r q w k₀ k = LONGEST - k
 
 loop-holds : tie.Need-loop-holds Inv-loop μ-loop
 loop-holds c = (search needs, least-none _)

@@ -1,43 +1,24 @@
-use native.Mathlib.Omega.{arith}
-use Rattle.pieces.specs.PiecesLaws.{copy-length, front-length}
-use Rattle.pieces.specs.Entry.{door-few, door-rows}
 use Rattle.verdict.specs.Whole.{said-refused, said-verdict}
 use borrow.Author.Needs.{needs}
 use Rattle.verdict.proofs.check.check_by.Statement.{statement}
 use Rattle.verdict.proofs.check.check_by.Tie as tie
 
 returns : tie.Need-returns
-returns c = said-refused _ _ _ _ _ _ (c .before .before .before .open-both .ensures) _ (c .before .enum-told .given .1) (c .refusal-of .ensures)
+returns c = said-refused _ _ _ _ _ _ (c .before .before .before .before .enter .ensures .0) _ (c .before .enum-told .given .1) (c .refusal-of .ensures)
 
-array-share-prefix-all : tie.Need-array-share-prefix-all
-array-share-prefix-all c =
-    let few = door-few _ _ _ _ _ _ _ (c .before .before .before .before .before .before .open-both .ensures) (c .before .before .before .before .a .given .1) in
-    let long = copy-length _ _ (c .join-rows .ensures) in
-    omega arith
-
-slice-aggregate-judge-rows : tie.Need-slice-aggregate-judge-rows
-slice-aggregate-judge-rows c =
-    let few = door-few _ _ _ _ _ _ _ (c .before .before .before .before .before .before .before .open-both .ensures)
-    (c .before .before .before .before .before .a .given .1) in
-    front-length _ _ _ (c .before .join-rows .ensures) (omega arith)
-
-judge-rows-requires : tie.Need-judge-rows-requires
-judge-rows-requires c κs =
-    let at = c .before .before .before in
-    door-rows _ _ _ _ _ _ _ (at .before .before .before .before .before .before .open-both .ensures)
-    (at .before .before .before .before .a .given .1) _ _ _ _ (at .join-rows .ensures) (at .before .before .read-places .ensures)
-    (at .before .read-mode .ensures)
+judge-run-requires : tie.Need-judge-run-requires
+judge-run-requires c κs =
+    let opened = c .before .before .before .before .before .before .before .enter .ensures .1 _ _ (c .before .before .before .before .a .given .1) in
+    (opened .room, opened .space, opened .run)
 
 returns-2 : tie.Need-returns-2
 returns-2 c =
-    let at = c .before .before .before .before .before .before .before .before in
-    said-verdict _ _ _ _ _ _ (at .before .before .before .before .before .before .open-both .ensures)
-    (at .before .before .before .before .a .given .1) _ _ _ (at .join-rows .ensures) (at .before .before .read-places .ensures)
-    (at .before .read-mode .ensures) _ _ _ (c .before .before .before .before .judge-rows .ensures)
+    let admitted = c .before .before .before .before .before .before .before .before .before .a .given .1 in
+    let entered = c .before .before .before .before .before .before .before .before .before .before .before .before .enter .ensures in
+    said-verdict _ _ _ _ _ _ (entered .0) admitted _ (entered .1 _ _ admitted) _ _ _ (c .before .before .before .before .judge-run .ensures)
 
 pub check-by-spec : {M : Type 1} → statement M
 check-by-spec =
     tie.close
-    (tie.spec (λ c κs. search needs) (λ c. search needs) (λ c. search needs) (λ c κs. search needs) returns (λ c. search needs)
-    (λ c κs. search needs) (λ c κs. search needs) (λ c κs. search needs) (λ c. search needs) array-share-prefix-all
-    slice-aggregate-judge-rows judge-rows-requires (λ c. search needs) (λ c. search needs) returns-2)
+    (tie.spec (λ c. search needs) (λ c κs. search needs) (λ c. search needs) (λ c. search needs) (λ c κs. search needs) returns
+    (λ c. search needs) judge-run-requires (λ c. search needs) (λ c. search needs) returns-2)

@@ -9,41 +9,37 @@ use Rattle.verdict.proofs.judge.judge.Tie as tie
 show-cycle-requires : tie.Need-show-cycle-requires
 unfolding decode
 show-cycle-requires c κs =
-    let pre = c .before .before .before .before .before .before .before .before .before .before .before .before .before .before .before .pre in
+    let pre = c .before .before .before .before .before .before .before .before .before .before .before .before .before .before .pre in
     let asked = show-asked _ _ _ _ _ _ _ refl
     (c .before .before .before .before .before .before .before .before .before .fill-edges .ensures)
     (c .before .before .before .before .before .cycle-start .ensures .0)
     (c .before .before .before .before .before .cycle-start .ensures .1) (pre .3) (c .before .before .if1 .taken) in
     (asked .0, pre .0, pre .1, asked .1, asked .2, asked .3)
 
-cast-t20 : tie.Need-cast-t20
+cast-t18 : tie.Need-cast-t18
 unfolding decode
-cast-t20 c =
+cast-t18 c =
     let few = rows-few _ _ _ _ refl (start-found _ _ _ _ _ _ refl
-    (c .before .before .before .before .before .before .before .before .before .before .before .before .before
-    .before .fill-edges .ensures) (c .before .before .before .before .before .before .before .before .before
-    .before .cycle-start .ensures .0)) (c .before .before .before .before .before .before .before .if1 .taken) in
+    (c .before .before .before .before .before .before .before .before .before .before .before .before .before .before .fill-edges .ensures) (c .before .before .before .before .before .before .before .before .before .before .cycle-start .ensures .0)) (c .before .before .before .before .before .before .before .if1 .taken) in
     omega (
       arith,
       few,
       c .before .before .before .before .show-cycle .ensures .0,
-      c .before .before .before .before .before .before .before .before .before .before .before .before .before .before .before .before
-          .before .before .before .before .pre .3 .0,
+      c .before .before .before .before .before .before .before .before .before .before .before .before .before .before .before .before .before .before .before .pre .3 .0,
     )
 
 returns : tie.Need-returns
 unfolding decode
 returns c =
     let show = c .before .before .before .before .show-cycle .ensures in
-    judge-cyclic _ _ _ _ _ _ _ refl (c .before .before .before .before .before .before .before .before .before .before .before .before
-    .before .before .fill-edges .ensures)
+    judge-cyclic _ _ _ _ _ _ _ refl (c .before .before .before .before .before .before .before .before .before .before .before .before .before .before .fill-edges .ensures)
     (c .before .before .before .before .before .before .before .before .before .before .cycle-start .ensures .0)
     (c .before .before .before .before .before .before .before .before .before .before .cycle-start .ensures .1) _ _ _ _
     (c .before .before .before .before .before .before .before .if1 .taken) (show .0) (show .1) (show .2)
 
 settle-requires : tie.Need-settle-requires
 settle-requires c κs =
-    let pre = c .before .before .before .before .before .before .before .before .before .before .before .before .before .before .pre in
+    let pre = c .before .before .before .before .before .before .before .before .before .before .before .before .before .pre in
     let start = c .before .before .before .before .cycle-start .ensures in (
       pre .1,
       pre .2,
@@ -61,5 +57,5 @@ returns-2 c =
 pub judge-spec : {M : Type 1} → statement M
 judge-spec =
     tie.close
-    (tie.spec (λ c κs. search needs) (λ c κs. search needs) show-cycle-requires cast-t20 (λ c. search needs) (λ c. search needs) returns
+    (tie.spec (λ c κs. search needs) (λ c κs. search needs) show-cycle-requires cast-t18 (λ c. search needs) (λ c. search needs) returns
     settle-requires (λ c. search needs) returns-2)

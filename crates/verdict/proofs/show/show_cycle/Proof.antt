@@ -10,7 +10,7 @@ use Rattle.verdict.proofs.show.show_cycle.Tie as tie
 write-rows-requires : tie.Need-write-rows-requires
 unfolding decode
 write-rows-requires c κs =
-    let pre = c .before .before .before .before .before .before .before .before .before .before .before .before .before .before .before .before .pre in
+    let pre = c .before .before .before .before .before .before .before .before .before .before .before .before .before .before .before .pre in
     let fill = c .before .before .before .before .before .before .before .before .before .before .fill-layers .ensures in
     let size = c .before .before .before .before .before .before .layer-of .ensures .0 in
     let asked = size-asked _ _ _ _ _ _ _ refl (pre .3 .0) (pre .4) fill (pre .5) (pre .0) size in
@@ -19,10 +19,8 @@ write-rows-requires c κs =
 write-edges-requires : tie.Need-write-edges-requires
 unfolding decode
 write-edges-requires c κs =
-    let pre = c .before .before .before .before .before .before .before .before .before .before .before .before .before .before .before
-    .before .before .before .before .before .before .pre in
-    let fill = c .before .before .before .before .before .before .before .before .before .before .before .before .before .before
-    .before .fill-layers .ensures in
+    let pre = c .before .before .before .before .before .before .before .before .before .before .before .before .before .before .before .before .before .before .before .before .pre in
+    let fill = c .before .before .before .before .before .before .before .before .before .before .before .before .before .before .before .fill-layers .ensures in
     let size = c .before .before .before .before .before .before .before .before .before .before .before .layer-of .ensures .0 in
     let asked = size-asked _ _ _ _ _ _ _ refl (pre .3 .0) (pre .4) fill (pre .5) (pre .0) size in
     let rows = c .before .before .before .before .write-rows .ensures in (
@@ -37,10 +35,8 @@ write-edges-requires c κs =
 returns : tie.Need-returns
 unfolding decode
 returns c =
-    let pre = c .before .before .before .before .before .before .before .before .before .before .before .before .before .before .before
-    .before .before .before .before .before .before .before .before .before .pre in
-    let fill = c .before .before .before .before .before .before .before .before .before .before .before .before .before .before .before
-    .before .before .before .fill-layers .ensures in
+    let pre = c .before .before .before .before .before .before .before .before .before .before .before .before .before .before .before .before .before .before .before .before .before .before .before .pre in
+    let fill = c .before .before .before .before .before .before .before .before .before .before .before .before .before .before .before .before .before .before .fill-layers .ensures in
     let size = c .before .before .before .before .before .before .before .before .before .before .before .before .before .before .layer-of .ensures .0 in
     let rows = c .before .before .before .before .before .before .before .write-rows .ensures in
     let clear = c .before .before .before .before .before .before .before .before .before .before .before .before .clear-numbers .ensures in

@@ -1,3 +1,4 @@
+use Rattle.run.specs.Layout.{tableIn}
 use mathlib.Core.Path.{_≡_, refl}
 use Prim.Native.Nat.{_-_, _≤_}
 use native.Mathlib.Omega.{arith}
@@ -10,20 +11,20 @@ use Rattle.verdict.proofs.show.write_edges.Statement.{statement}
 use Rattle.verdict.proofs.show.write_edges.Tie as tie
 
 abbrev Inv-loop : tie.InvT-loop
-Inv-loop rows p mode n src x size w c₀ i₀ c i =
-    (i ≤ size) × (length c ≡ length c₀) × Numbered (stepNumber (decode rows p mode n) (sourceIn src) x size c₀) i c₀ c
+Inv-loop t n src x size w c₀ i₀ c i =
+    (i ≤ size) × (length c ≡ length c₀) × Numbered (stepNumber (tableIn t n) (sourceIn src) x size c₀) i c₀ c
 
 abbrev μ-loop : tie.MeasureT-loop
-μ-loop rows p mode n src x size w c₀ i₀ c i = size - i
+μ-loop t n src x size w c₀ i₀ c i = size - i
 
 loop-holds : tie.Need-loop-holds Inv-loop μ-loop
 loop-holds c = (search needs, refl, numbered-none _ _)
 
 edge-number-requires : tie.Need-edge-number-requires Inv-loop μ-loop
 edge-number-requires c κs =
-    let pre = c .before .before .before .before .before .before .before .before .before .before .pre in
+    let pre = c .before .before .before .before .before .before .before .before .before .pre in
     let inv = c .before .before .before .before .before .loop .inv in (
-      row-below _ _ _ _ (c .before .before .before .before .before .before .before .before .before .before .args .x) _ _ _ (inv .2) (pre .1)
+      row-below _ _ _ _ (c .before .before .before .before .before .before .before .before .before .args .x) _ _ _ (inv .2) (pre .1)
           (omega arith) (pre .5) _ (c .before .before .wide .ensures),
       next-below _ _ _ _ _ _ _ _ (inv .2) (pre .1) (omega arith) (pre .5) (pre .0) _ (c .next-of .ensures),
       pre .3,
@@ -32,9 +33,9 @@ edge-number-requires c κs =
 
 loop-again : tie.Need-loop-again Inv-loop μ-loop
 loop-again c =
-    let pre = c .before .before .before .before .before .before .before .before .before .before .before .pre in
+    let pre = c .before .before .before .before .before .before .before .before .before .before .pre in
     let inv = c .before .before .before .before .before .before .loop .inv in
-    let e = step-is _ _ (c .before .before .before .before .before .before .before .before .before .before .before .args .n) _ _ _ _ _
+    let e = step-is _ _ (c .before .before .before .before .before .before .before .before .before .before .args .n) _ _ _ _ _
     (inv .2) (pre .1) (omega arith) _ _ _ _ _ (c .before .before .before .wide .ensures) (c .before .next-of .ensures)
     (c .edge-number .ensures) in
     let more = numbered-more _ _ _ _ _ _ (omega arith) refl e (inv .2) in
@@ -42,7 +43,7 @@ loop-again c =
 
 returns : tie.Need-returns Inv-loop μ-loop
 returns c =
-    let e : c .before .loop .i ≡ c .before .before .before .before .before .before .args .size = omega arith in
+    let e : c .before .loop .i ≡ c .before .before .before .before .before .args .size = omega arith in
     rw e at (c .before .loop .inv .2)
 
 pub write-edges-spec : {M : Type 1} → statement M

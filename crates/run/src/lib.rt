@@ -1,0 +1,95 @@
+// A table as bytes with fixed places, made once and lent everywhere.
+ghost use mathlib.Core.Path.{_≡_};
+ghost use lib.ListN.{drop};
+ghost use Rattle.model.specs.Table.{rowOf};
+ghost use Rattle.run.specs.Layout.{placesIn, modeIn, rowsIn};
+use model::Mode;
+use model::Places;
+use model::Row;
+use rows::bytes;
+use rows::scopes;
+
+pub const SIZE: usize = 2570;
+
+pub const DEPENDS: usize = 264;
+
+pub const ROWS_AT: usize = 522;
+
+pub type Run = [u8; 2570];
+
+// ---- over the bytes of a run as a slice, for what makes one
+
+// All from a place on.
+fn part(s: &[u8], at: usize) -> &[u8]
+    ensures { λ r. ⌜ now r ≡ drop at (now (s .entry)) ⌝ }
+{
+    if s.len() <= at {
+        return &s[..0];
+    }
+    &s[at..]
+}
+
+pub fn rows_in(s: &[u8]) -> &[u8]
+    ensures { λ r. ⌜ now r ≡ rowsIn (now (s .entry)) ⌝ }
+{
+    part(s, ROWS_AT)
+}
+
+pub fn places_in(s: &[u8]) -> Places
+    ensures { λ r. ⌜ r ≡ placesIn (now (s .entry)) ⌝ }
+{
+    scopes::read_places(s)
+}
+
+pub fn mode_in(s: &[u8]) -> Mode
+    ensures { λ r. ⌜ r ≡ modeIn (now (s .entry)) ⌝ }
+{
+    let d = part(s, DEPENDS);
+    Mode {
+        counted: bytes::byte_at(s, 1) != 0,
+        chains: bytes::byte_at(s, 2) != 0,
+        dependencies: bytes::pair_at(d, 0),
+        first: bytes::read_ends(d, 2),
+        second: bytes::read_ends(d, 4),
+    }
+}
+
+// ---- of a run: all rows, all places and the mode, for what takes them so
+
+pub fn rows_of(t: &Run) -> &[u8]
+    ensures { λ r. ⌜ now r ≡ rowsIn (now (t .entry)) ⌝ }
+{
+    rows_in(t)
+}
+
+pub fn places(t: &Run) -> Places
+    ensures { λ r. ⌜ r ≡ placesIn (now (t .entry)) ⌝ }
+{
+    places_in(t)
+}
+
+pub fn mode(t: &Run) -> Mode
+    ensures { λ r. ⌜ r ≡ modeIn (now (t .entry)) ⌝ }
+{
+    mode_in(t)
+}
+
+// ---- one of them
+
+pub fn counted(t: &Run) -> bool
+    ensures { λ r. ⌜ r ≡ modeIn (now (t .entry)) .counted ⌝ }
+{
+    bytes::byte_at(t, 1) != 0
+}
+
+pub fn row(t: &Run, i: u16) -> Row
+    ensures { λ r. ⌜ r ≡ rowOf (rowsIn (now (t .entry))) i ⌝ }
+{
+    bytes::read_row(rows_of(t), i)
+}
+
+pub fn start(t: &Run, i: u16) -> u16
+    ensures { λ r. ⌜ r ≡ rowOf (rowsIn (now (t .entry))) i .start ⌝ }
+{
+    bytes::read_start(rows_of(t), i)
+}

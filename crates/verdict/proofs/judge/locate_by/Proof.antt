@@ -1,0 +1,15 @@
+use borrow.Author.Needs.{needs}
+use Rattle.verdict.proofs.judge.locate_by.Statement.{statement}
+use Rattle.verdict.proofs.judge.locate_by.Tie as tie
+
+returns : tie.Need-returns
+returns c = rw (c .before .before .before .before .before .before .before .rows-of .ensures, c .before .before .before .before .before .before .places .ensures, c .before .before .before .before .before .mode .ensures) at (c .before .before .locate .ensures)
+
+returns-2 : tie.Need-returns-2
+returns-2 c = rw (c .before .before .before .before .before .before .before .rows-of .ensures, c .before .before .before .before .before .before .places .ensures, c .before .before .before .before .before .mode .ensures) at (c .before .before .locate-by-flags .ensures)
+
+pub locate-by-spec : {M : Type 1} → statement M
+locate-by-spec =
+    tie.close
+    (tie.spec (λ c κs. search needs) (λ c κs. search needs) (λ c κs. search needs) (λ c κs. search needs) (λ c. search needs) returns
+    (λ c κs. search needs) (λ c. search needs) returns-2)

@@ -8,4 +8,5 @@ pub mod PastLaws
 pub mod Parts
 pub mod Read
 pub mod PartsLaws
+pub mod BackLaws
 pub mod Promise

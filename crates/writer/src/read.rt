@@ -102,7 +102,12 @@ fn put_entries(out: &mut [u8], entries: [Entry; 128], n: u8)
     requires { ⌜ (n ≤ ROWS) × (ROW-BYTES * n ≤ length (now out)) ⌝ }
     ensures { λ _. ⌜ now (out .exit) ≡ fronted (rowsPart n entries) (now (out .entry)) ⌝ }
 {
-    bytes::put(out, 0, &encode::entry_bytes(entries), bytes::ROW_BYTES * (n as usize));
+    bytes::put(
+        out,
+        0,
+        &encode::entry_bytes(entries),
+        bytes::ROW_BYTES * (n as usize),
+    );
 }
 
 // Number k of the dependencies, which have two each.

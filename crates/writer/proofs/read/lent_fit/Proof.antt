@@ -3,10 +3,7 @@ use Rattle.finite.specs.Logic.{_and_}
 use Rattle.writer.specs.Read.{lentFit}
 use Rattle.writer.proofs.read.lent_fit.Statement.{statement}
 use Rattle.writer.proofs.read.lent_fit.Tie as tie
-use Rattle.writer.proofs.read.lent_fit.Reads as reads
-use Rattle.writer.proofs.read.lent_fit.Lts as lts
 
--- src/read.rt:84:1
 returns : tie.Need-returns
 unfolding lentFit _and_
 returns c = refl

@@ -29,6 +29,7 @@
  *  15  the end               row           the place, which stays
  *  16  a row's place         row2          piece       first byte
  *  17  no row                row2
+ *  18  no conflicting pair   report
  *
  * Parts that the table above leaves empty are 0. A byte is its number among
  * the 65,536 that a table speaks of.
@@ -45,6 +46,8 @@
  *   filled         the first a numbers of the source buffer are the rows'
  *                  sources; later numbers are as they were. Any other answer
  *                  leaves this buffer alone.
+ *   report         the number lent for the share is the racing pairs' part of
+ *                  the conflicting ones. Any other answer leaves it alone.
  *   a derivation   the first b numbers of the chain buffer are the steps; later
  *                  numbers are as they were. Any other answer leaves this
  *                  buffer alone.
@@ -150,7 +153,8 @@ enum stramashly_code {
   STRAMASHLY_ROW = 14,
   STRAMASHLY_END = 15,
   STRAMASHLY_ROW_PLACE = 16,
-  STRAMASHLY_NO_ROW = 17
+  STRAMASHLY_NO_ROW = 17,
+  STRAMASHLY_NO_PAIRS = 18
 };
 
 /* Part a of a refusal: which rule of form is broken. Part b is the row that
@@ -229,16 +233,15 @@ uint64_t stramashly_accepts(const uint8_t *table, size_t table_len,
                             uint16_t first, uint16_t second, uint8_t classes,
                             const uint16_t *steps, size_t steps_len);
 
-/* Counts the conflicting pairs of a table: report, or check's answer to a
- * refused or inconsistent table, in the same buffers. */
+/* Counts the conflicting pairs of a table: report, no conflicting pair, or
+ * check's answer to a refused or inconsistent table, in the same buffers. Beside a
+ * report it writes the racing share to *share, which must be good for one number:
+ * the racing pairs divided by the conflicting ones, rounded once. It is 0.0
+ * exactly when nothing races and 1.0 exactly when every conflicting pair does.
+ * Where no pair conflicts there is no share. */
 uint64_t stramashly_report(const uint8_t *table, size_t table_len, uint8_t chains,
                            uint64_t *work, size_t work_len,
-                           uint16_t *cycle, size_t cycle_len);
-
-/* The racing share: the one division, rounded once. It is 0.0 exactly when
- * nothing races and 1.0 exactly when every conflicting pair does. Where nothing
- * conflicts there is no share: then it is not a number. */
-double stramashly_share(uint16_t racing, uint16_t conflicting);
+                           uint16_t *cycle, size_t cycle_len, double *share);
 
 /* Writes a table of values: written or refused. Of each agent there are
  * STRAMASHLY_PLACE_NUMBERS numbers: family, workgroup, subgroup, and 0 shader, 1
@@ -260,9 +263,10 @@ uint64_t stramashly_write(uint8_t version,
  * it for, its buffers aside. Nothing is written. */
 uint64_t stramashly_open(const uint8_t *table, size_t table_len);
 
-/* The row at a place of an opened table, or the end. Places begin with 0; part a is
- * the next one. A buffer of fewer than STRAMASHLY_ROW_BYTES bytes is refused
- * (BUFFER). Of bytes that weren't opened it gives what stands where the row would. */
+/* The row at a place of a table, or the end. Places begin with 0; part a is the
+ * next one. A buffer of fewer than STRAMASHLY_ROW_BYTES bytes is refused (BUFFER),
+ * then what stramashly_open refuses, with its number and row, whatever the place.
+ * Each call admits the table anew. */
 uint64_t stramashly_row(const uint8_t *table, size_t table_len, uint16_t at,
                         uint8_t *row, size_t row_len);
 
@@ -280,7 +284,7 @@ uint64_t stramashly_fill2(const uint8_t *first, size_t first_len,
 uint64_t stramashly_report2(const uint8_t *first, size_t first_len,
                             const uint8_t *second, size_t second_len, uint8_t chains,
                             uint64_t *work, size_t work_len,
-                            uint16_t *cycle, size_t cycle_len);
+                            uint16_t *cycle, size_t cycle_len, double *share);
 
 /* Why moment m happens before moment k. */
 uint64_t stramashly_derive2(const uint8_t *first, size_t first_len,

@@ -64,9 +64,11 @@ static uint64_t fill(uint8_t chains) {
                          STRAMASHLY_SOURCE_NUMBERS);
 }
 
+static double share;
+
 static uint64_t report(uint8_t chains) {
   return stramashly_report(chained, put_hex(chained, widened), chains, work, STRAMASHLY_WORK_WORDS,
-                           cycle, STRAMASHLY_CYCLE_NUMBERS);
+                           cycle, STRAMASHLY_CYCLE_NUMBERS, &share);
 }
 
 static void test_fill_and_report(void) {
@@ -75,8 +77,10 @@ static void test_fill_and_report(void) {
   expect(are_sources_kept(), "and keeps the source buffer");
   expect(fill(STRAMASHLY_CHAINS) == packed(STRAMASHLY_FILLED, 6, 0, 0), "on, it fills");
   expect(sources[2] == 1 && sources[4] == 3 && sources[5] == 0, "the sources");
-  expect(report(0) == packed(STRAMASHLY_REPORT, 2, 0, 1), "off, one pair races");
-  expect(report(STRAMASHLY_CHAINS) == packed(STRAMASHLY_REPORT, 2, 1, 0), "on, it is ordered");
+  expect(report(0) == packed(STRAMASHLY_REPORT, 2, 0, 1) && share == 1.0 / 3.0,
+         "off, one pair of three races");
+  expect(report(STRAMASHLY_CHAINS) == packed(STRAMASHLY_REPORT, 2, 1, 0) && share == 0.0,
+         "on, it is ordered");
 }
 
 /* P, which needs no chains, and what is refused either way. */

@@ -5,7 +5,7 @@
 #include "stramashly.h"
 
 /* Where rows begin in table P, and the fields that the tests change. */
-enum { ROWS_AT = 20, ROW_BYTES = 16, FLAGS = 5, SOURCE = 12, TABLE_BYTES = 84 };
+enum { ROWS_AT = 20, ROW_BYTES = 16, FLAGS = 5, LENGTH = 7, SOURCE = 12, TABLE_BYTES = 84 };
 
 /* What the buffers hold before a call. */
 enum { ORIGINAL = 0x7777 };

@@ -76,9 +76,12 @@ static void test_others(void) {
                                    4 * STRAMASHLY_STEP_CASE + 10, 4 * STRAMASHLY_STEP_CASE + 13};
   size_t size = put_hex(hosted, upload), source = HOST_ROWS_AT + 4 * ROW_BYTES + SOURCE;
   unsigned place, right = 0;
+  double share = 1.0;
   prepare();
   expect(stramashly_report(hosted, size, 0, work, STRAMASHLY_WORK_WORDS, cycle,
-                           STRAMASHLY_CYCLE_NUMBERS) == packed(STRAMASHLY_REPORT, 0, 1, 0),
+                           STRAMASHLY_CYCLE_NUMBERS,
+                           &share) == packed(STRAMASHLY_REPORT, 0, 1, 0) &&
+             share == 0.0,
          "one pair, ordered");
   expect(stramashly_derive(hosted, size, 1, 13, work, STRAMASHLY_WORK_WORDS, chain,
                            STRAMASHLY_CHAIN_NUMBERS) == packed(STRAMASHLY_DERIVATION, 1, 4, 0),

@@ -52,6 +52,7 @@ static int are_rows_shown(void) {
 
 static void test_every_cut(void) {
   size_t rows;
+  double share;
   for (rows = 0; rows <= 4; rows++) {
     prepare();
     cut(rows);
@@ -59,9 +60,11 @@ static void test_every_cut(void) {
     expect(is_work_cleared() && is_cycle_kept(), "its buffers");
     expect(are_rows_shown(), "each row from its piece");
     prepare();
+    share = 1.0;
     expect(stramashly_report2(first, first_len, second, second_len, 0, work,
-                              STRAMASHLY_WORK_WORDS, cycle, STRAMASHLY_CYCLE_NUMBERS) ==
-               packed(STRAMASHLY_REPORT, 1, 1, 0),
+                              STRAMASHLY_WORK_WORDS, cycle, STRAMASHLY_CYCLE_NUMBERS,
+                              &share) == packed(STRAMASHLY_REPORT, 1, 1, 0) &&
+               share == 0.0,
            "its report");
     expect(stramashly_derive2(first, first_len, second, second_len, 3, 8, work,
                               STRAMASHLY_WORK_WORDS, chain, STRAMASHLY_CHAIN_NUMBERS) ==

@@ -77,13 +77,47 @@ static void test_steps(void) {
   expect(stramashly_row(table, sizeof table, 0, row, STRAMASHLY_ROW_BYTES - 1) ==
              refused(STRAMASHLY_REFUSAL_BUFFER, 0),
          "a buffer that is too short for a row");
-  table[ROWS_AT] = 7;
-  expect(stramashly_open(table, sizeof table) == refused(STRAMASHLY_REFUSAL_CODE, 0), "what a fill refuses");
-  expect(stramashly_open(table, 7) == refused(STRAMASHLY_REFUSAL_SHORT, 0), "isn't opened");
+}
+
+/* Bytes that open refuses give that refusal at every place, and no byte is
+ * written, however long the buffer is. */
+static void expect_no_row(const uint8_t *bytes, size_t size, uint64_t refusal, const char *what) {
+  uint8_t row[2 * STRAMASHLY_ROW_BYTES];
+  size_t byte;
+  unsigned at;
+  int holds = stramashly_open(bytes, size) == refusal;
+  memset(row, 0x77, sizeof row);
+  for (at = 0; at <= 65535; at += at < 300 ? 1 : 1087)
+    holds &= stramashly_row(bytes, size, (uint16_t)at, row, at % 2 ? sizeof row : STRAMASHLY_ROW_BYTES) == refusal;
+  for (byte = 0; byte < sizeof row; byte++) holds &= row[byte] == 0x77;
+  holds &= stramashly_row(bytes, size, 0, row, STRAMASHLY_ROW_BYTES - 1) ==
+           refused(STRAMASHLY_REFUSAL_BUFFER, 0);
+  expect(holds, what);
+}
+
+static void test_no_steps(void) {
+  static const uint8_t version_nine[8] = {0, 0, 0, 0, 9, 0, 1, 0};
+  static const uint8_t seven[7] = {0, 0, 0, 3, 1, 0, 5};
+  expect_no_row(version_nine, sizeof version_nine, refused(STRAMASHLY_REFUSAL_VERSION, 0),
+                "eight bytes of version 9 have no row");
+  expect_no_row(seven, sizeof seven, refused(STRAMASHLY_REFUSAL_SHORT, 0), "nor have seven bytes");
+  expect_no_row(NULL, 0, refused(STRAMASHLY_REFUSAL_SHORT, 0), "nor has nothing");
+  prepare();
+  table[ROWS_AT + LENGTH] = 17;
+  expect_no_row(table, sizeof table, refused(STRAMASHLY_REFUSAL_EXTENT, 0),
+                "nor has P with a row of 17 bytes");
+  prepare();
+  table[ROWS_AT + 3 * ROW_BYTES] = 7;
+  expect_no_row(table, sizeof table, refused(STRAMASHLY_REFUSAL_CODE, 3),
+                "nor has P with a last row that there is not");
+  prepare();
+  expect_no_row(table, sizeof table - 1, refused(STRAMASHLY_REFUSAL_LENGTH, 0),
+                "nor has P without its last byte");
 }
 
 void test_writer(void) {
   test_written();
   test_parts();
   test_steps();
+  test_no_steps();
 }

@@ -25,6 +25,8 @@ use Rattle.model.specs.declared.Admission.the-variants as admit
 use Rattle.model.specs.Table.{ROW-BYTES}
 use Rattle.writer.specs.declared.WriteAnswer.{WriteAnswer}
 use Rattle.writer.specs.declared.WriteAnswer.the-variants as written
+use Rattle.writer.specs.declared.ReadAnswer.{ReadAnswer}
+use Rattle.writer.specs.declared.ReadAnswer.the-variants as read
 use Rattle.writer.specs.Encode.{rowList}
 use Rattle.stepping.specs.declared.Stepped.{Stepped}
 use Rattle.stepping.specs.declared.Stepped.the-variants as step
@@ -92,6 +94,11 @@ isOn switch = not (eqb switch 0)
 unfoldable pub packWrite : WriteAnswer → ℕ
 packWrite (written.Refused n i) = packed 4 n i 0
 packWrite (written.Written m) = packed 12 m 0 0
+
+-- the codes: 4 refused, as above; 19 read (a is 256 times the version and the number of agents, b the number of rows, c that of dependencies)
+unfoldable pub packRead : ReadAnswer → ℕ
+packRead (read.Refused n i) = packed 4 n i 0
+packRead (read.Read version agents rows m) = packed 19 (version * 256 + agents) rows m
 
 -- the codes: 4 refused, as above; 13 opened (a is the number of rows, b that of agents)
 unfoldable pub packOpen : Admission → ℕ

@@ -14,8 +14,9 @@ ghost use Rattle.model.specs.Refusal.{admission};
 ghost use Rattle.laws.specs.FilledLaws.{Bytes};
 ghost use Rattle.writer.specs.Answer.{bufferAfter};
 ghost use Rattle.writer.specs.Parts.{partsAnswer, partsTable};
+ghost use Rattle.writer.specs.Read.{readAnswer, placesAfter, rowsAfter, dependenciesAfter};
 ghost use Rattle.stramashly.specs.Packed.{packed, packPlace, packCheck, packFill, packDerive, packAccept, packReport, shareAfter, reasonOf, isOn};
-ghost use Rattle.stramashly.specs.Packed.{packWrite, packOpen, packStep, stepPut, rowAnswer, rowAfter};
+ghost use Rattle.stramashly.specs.Packed.{packWrite, packRead, packOpen, packStep, stepPut, rowAnswer, rowAfter};
 ghost use Rattle.pieces.specs.Pieces.{countBoth, checkBoth, fillBoth, reportBoth, deriveBoth, judgeBoth, rowPlace};
 use model::AcceptAnswer;
 use model::Admission;
@@ -27,6 +28,7 @@ use model::ReportAnswer;
 use pieces::RowPlace;
 use rows::bytes;
 use stepping::Stepped;
+use writer::ReadAnswer;
 use writer::WriteAnswer;
 use writer::encode;
 
@@ -127,6 +129,25 @@ fn pack_write(answer: WriteAnswer) -> u64
     match answer {
         WriteAnswer::Refused { number, row } => pack(4, number as u16, row, 0),
         WriteAnswer::Written { bytes } => pack(12, bytes, 0, 0),
+    }
+}
+
+fn pack_read(answer: ReadAnswer) -> u64
+    ensures { λ r. ⌜ r ≡ packRead answer ⌝ }
+{
+    match answer {
+        ReadAnswer::Refused { number, row } => pack(4, number as u16, row, 0),
+        ReadAnswer::Read {
+            version,
+            agents,
+            rows,
+            dependencies,
+        } => pack(
+            19,
+            (version as u16) * 256 + (agents as u16),
+            rows as u16,
+            dependencies,
+        ),
     }
 }
 
@@ -332,6 +353,25 @@ pub extern "C" fn stramashly_write(
         ⌜ (r ≡ packWrite answer) × (now (out .exit) ≡ bufferAfter answer table (now (out .entry))) ⌝ }
 {
     pack_write(writer::parts::write_parts(version, places, rows, dependencies, out))
+}
+
+// The values of a table, in the front of lent parts: `writer::read::read_parts`, packed. `stramashly_write` of them gives the table again.
+// Ruled out: one that gives a value of a table that a fill refuses; one whose number has the rows in the place of the dependencies.
+#[no_mangle]
+pub extern "C" fn stramashly_read(
+    table: &[u8],
+    places: &mut [u16],
+    rows: &mut [u8],
+    dependencies: &mut [u16],
+) -> u64
+    ensures { λ r. let s = now (table .entry) in
+        let answer = readAnswer s (length (now (places .entry))) (length (now (rows .entry))) (length (now (dependencies .entry))) in
+        ⌜ (r ≡ packRead answer)
+        × (now (places .exit) ≡ placesAfter answer s (now (places .entry)))
+        × (now (rows .exit) ≡ rowsAfter answer s (now (rows .entry)))
+        × (now (dependencies .exit) ≡ dependenciesAfter answer s (now (dependencies .entry))) ⌝ }
+{
+    pack_read(writer::read::read_parts(table, places, rows, dependencies))
 }
 
 // Whether a table can be stepped through: `stepping::opening`, packed.

@@ -1,28 +1,33 @@
 -- Laws that the writer's proofs cite. Assumes nothing.
 use mathlib.Core.Path.{_≡_, refl, sym, ap, ap₂, subst, _∙_}
-use mathlib.Core.Bool.{Bool, true}
+use mathlib.Core.Bool.{Bool, true, false}
 use mathlib.Core.List.{List, [], _∷_, _++_}
 use Prim.Native.Nat.{ℕ, _+_, _-_, _*_, _/_, _%_, _≤_, _<_}
 use native.Mathlib.Omega.{arith}
-use lib.ListN.{length, getD, take, drop, length-take, List·getD-eq-default}
+use lib.ListN.{length, getD, set, take, drop, length-take, List·getD-eq-default}
 use lib.Seq.{paste, length-paste, take-paste, take-all, ext-getD, getD-take}
-use borrow.Author.Tests.{eq-eqb, ne-eqb, le-leb, lt-leb, lt-ltb, le-ltb}
-use Rattle.finite.specs.Lists.{tabulate, length-tabulate, getD-tabulate}
+use borrow.Author.Tests.{eq-eqb, ne-eqb, le-leb, lt-leb, lt-ltb, le-ltb, leb-true}
+use Rattle.finite.specs.Logic.{split}
+use Rattle.finite.specs.Lists.{tabulate, length-tabulate, getD-tabulate, Written, written-more, written-all}
 use Rattle.model.specs.declared.Admission.{Admission}
 use Rattle.model.specs.declared.Admission.the-variants.{Admitted, Refused}
 use Rattle.model.specs.declared.Refusal.{Refusal}
 use Rattle.model.specs.Limits.{AGENTS, ROWS, DEPENDENCIES}
 use Rattle.model.specs.Refusal.{admission, refusalOf, whenAdmitted}
-use Rattle.model.specs.Table.{HEADER, DEPENDENCY-BYTES, ROW-BYTES}
+use Rattle.model.specs.Table.{HEADER, DEPENDENCY-BYTES, ROW-BYTES, versionAt, agentsAt, rowsAt, placesOf, dependencyBytes, dependencyCount}
+use Rattle.laws.specs.AdmissionLaws.{Sound, sound-admitted, admitted-sound, agents-fit, rows-fit, dependencies-fit}
 use Rattle.writer.specs.declared.Entry.{Entry}
 use Rattle.writer.specs.declared.Dependencies.{Dependencies}
 use Rattle.writer.specs.declared.WriteAnswer.{WriteAnswer}
 use Rattle.writer.specs.declared.WriteAnswer.the-variants as Answer
 use Rattle.writer.specs.Encode.{half, withHosts, placesSize, dependenciesSize, tableSize, headerList, numberOf, placeNumber, placeByte, rowList}
 use Rattle.writer.specs.Encode.{nothing, entryAt, entryByte, dependencyNumber, dependencyByte, placesPart, rowsPart, dependenciesPart, encode}
-use Rattle.writer.specs.Encode.{entriesIn}
+use Rattle.writer.specs.Encode.{entriesIn, entriesOf, dependenciesOf}
 use Rattle.writer.specs.Answer.{valuesFault, roomAnswer, writeAnswer, bufferAfter}
-use Rattle.writer.specs.Parts.{agentsIn, placesIn, rowsIn, dependenciesIn, partsAnswer, partsTable}
+use Rattle.writer.specs.Parts.{PLACE-NUMBERS, agentsIn, placesIn, rowsIn, dependenciesIn, partsAnswer, partsTable}
+use Rattle.writer.specs.declared.ReadAnswer.{ReadAnswer}
+use Rattle.writer.specs.declared.ReadAnswer.the-variants as Given
+use Rattle.writer.specs.Read.{placeNumberAt, placeNumbers, endOf, endNumbers, fronted, lentFit, readAnswer, placesAfter, rowsAfter, dependenciesAfter}
 use Rattle.writer.specs.ValueLaws.{Fits, places-most, after-most, size-most, header-length, encode-length, values-fit, agents-few, rows-few, after-few}
 
 -- ---- a byte of a number of two bytes
@@ -227,3 +232,113 @@ module _ (version : ℕ) (P B Q : List ℕ) {a : ℕ} {p : List (List ℕ)} {n :
       → (r ≡ writeAnswer version a p n l d room) × (u ≡ bufferAfter (writeAnswer version a p n l d room) (encode version a p n l d) out)
       → (r ≡ partsAnswer version P B Q room) × (u ≡ bufferAfter (partsAnswer version P B Q room) (partsTable version P B Q) out)
   parts-out out u r room h = (h .0 ∙ answer-same room, h .1 ∙ ap₂ (λ (x : WriteAnswer) (y : List ℕ). bufferAfter x y out) (answer-same room) table-same)
+
+-- ---- values into lent parts
+
+module _ (f : ℕ → ℕ) (n : ℕ) {c d : List ℕ} where
+  pub number-put : (i v : ℕ) → i < n → n ≤ length c → v ≡ f i → Written (tabulate f n) i c d → Written (tabulate f n) (i + 1) c (set d i v)
+  number-put i v l room e h = written-more i v (omega arith) (getD-tabulate f n i 0 l ∙ sym e) h
+
+  pub numbers-put : n ≤ length c → Written (tabulate f n) n c d → d ≡ fronted (tabulate f n) c
+  unfolding fronted
+  numbers-put room h = written-all (tabulate f n) c d n (sym (length-tabulate f n)) room h
+
+pub place-number-is : (p : List (List ℕ)) (k : ℕ) {v : ℕ} → v ≡ numberOf p (k / PLACE-NUMBERS) (k % PLACE-NUMBERS) → v ≡ placeNumberAt p k
+unfolding placeNumberAt
+place-number-is p k e = e
+
+pub end-first : (d : Dependencies) (k : ℕ) → k % 2 ≡ 0 → endOf d k ≡ getD (d .first) (k / 2) 0
+unfolding endOf
+end-first d k h = rw (eq-eqb (k % 2) 0 h) refl
+
+pub end-second : (d : Dependencies) (k : ℕ) → (k % 2 ≡ 0 → ⊥) → endOf d k ≡ getD (d .second) (k / 2) 0
+unfolding endOf
+end-second d k h = rw (ne-eqb (k % 2) 0 h) refl
+
+pub entries-put : (l : List Entry) (n : ℕ) (out u b : List ℕ) → n ≤ ROWS → b ≡ tabulate (entryByte l) 2048 → u ≡ paste out 0 b (ROW-BYTES * n)
+    → u ≡ fronted (rowsPart n l) out
+unfolding fronted rowsPart
+entries-put l n out u b few bytes e =
+    let z : 0 + ROW-BYTES * n ≡ ROW-BYTES * n = omega arith in
+    e ∙ ap (λ (x : List ℕ). x ++ take (ROW-BYTES * n) b ++ drop (0 + ROW-BYTES * n) out) (take-none out)
+    ∙ rw (z, bytes, front (entryByte l) 2048 (ROW-BYTES * n) (omega arith), length-tabulate (entryByte l) (ROW-BYTES * n)) refl
+
+-- ---- what a reader gives
+
+module _ (s : List ℕ) (P B D : ℕ) where
+  pub parts-short : lentFit P B D ≡ false → readAnswer s P B D ≡ Given.Refused 11 0
+  unfolding readAnswer
+  parts-short h = rw h refl
+
+  -- a table that is refused
+  pub table-refused : (a : Admission) (x : Refusal) (k i : ℕ) → lentFit P B D ≡ true → a ≡ admission true s → a ≡ Refused k i → x ≡ refusalOf a
+      → readAnswer s P B D ≡ Given.Refused (x .number) (x .row)
+  unfolding readAnswer whenAdmitted refusalOf
+  table-refused a x k i fit e q f = rw (fit, ← e, f, q) refl
+
+  -- one that is admitted
+  module _ (fit : lentFit P B D ≡ true) (a : Admission) (x n : ℕ) (e : a ≡ admission true s) (q : a ≡ Admitted x n) where
+    sound : Sound true s
+    sound = admitted-sound true s (sym e ∙ q)
+
+    same : Admitted x n ≡ Admitted (agentsAt s) (rowsAt s)
+    same = sym q ∙ e ∙ sound-admitted true s sound
+
+    agents-are : x ≡ agentsAt s
+    agents-are = ap first-count same
+      where
+        first-count : Admission → ℕ
+        first-count (Admitted y m) = y
+        first-count (Refused k i) = 0
+
+    rows-are : n ≡ rowsAt s
+    rows-are = ap second-count same
+      where
+        second-count : Admission → ℕ
+        second-count (Admitted y m) = m
+        second-count (Refused k i) = 0
+
+    pub places-room : PLACE-NUMBERS * x ≤ P
+    unfolding lentFit
+    places-room =
+        let l = agents-fit sound in
+        let r = agents-are in
+        let h = leb-true (PLACE-NUMBERS * AGENTS) P (split (split fit .0) .0) in
+        omega arith
+
+    pub rows-room : (n ≤ ROWS) × (ROW-BYTES * n ≤ B)
+    unfolding lentFit
+    rows-room =
+        let l = rows-fit sound in
+        let r = rows-are in
+        let h = leb-true (ROW-BYTES * ROWS) B (split (split fit .0) .1) in
+        (omega arith, omega arith)
+
+    module _ (d : Dependencies) (h : d ≡ dependenciesOf s) where
+      count-is : d .count ≡ dependencyCount (dependencyBytes s)
+      unfolding dependenciesOf
+      count-is = ap (λ (y : Dependencies). y .count) h
+
+      pub ends-room : (d .count ≤ DEPENDENCIES) × (2 * d .count ≤ D)
+      unfolding lentFit
+      ends-room =
+          let l = dependencies-fit sound in
+          let r = count-is in
+          let g = leb-true (2 * DEPENDENCIES) D (split fit .1) in
+          (omega arith, omega arith)
+
+      pub read-is : (v : ℕ) → v ≡ getD s 4 0 → readAnswer s P B D ≡ Given.Read v x n (d .count)
+      unfolding readAnswer whenAdmitted versionAt
+      read-is v g = rw (fit, ← e, q, g, agents-are, rows-are, count-is) refl
+
+pub given-refused : (w : ReadAnswer) (k i : ℕ) (s p b d : List ℕ) → w ≡ Given.Refused k i
+    → (Given.Refused k i ≡ w) × (p ≡ placesAfter w s p) × (b ≡ rowsAfter w s b) × (d ≡ dependenciesAfter w s d)
+unfolding placesAfter rowsAfter dependenciesAfter
+given-refused w k i s p b d e = (sym e, rw e refl, rw e refl, rw e refl)
+
+pub given-read : (w : ReadAnswer) (v x n m : ℕ) (s p p′ b b′ c c′ : List ℕ) (q : List (List ℕ)) (l : List Entry) (d : Dependencies)
+    → w ≡ Given.Read v x n m → q ≡ placesOf s → l ≡ entriesOf s → d ≡ dependenciesOf s
+    → p′ ≡ fronted (placeNumbers q x) p → b′ ≡ fronted (rowsPart n l) b → c′ ≡ fronted (endNumbers d) c
+    → (Given.Read v x n m ≡ w) × (p′ ≡ placesAfter w s p) × (b′ ≡ rowsAfter w s b) × (c′ ≡ dependenciesAfter w s c)
+unfolding placesAfter rowsAfter dependenciesAfter
+given-read w v x n m s p p′ b b′ c c′ q l d e f g h i j k = (sym e, rw (e, ← f) i, rw (e, ← g) j, rw (e, ← h) k)

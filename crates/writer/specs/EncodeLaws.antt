@@ -162,7 +162,7 @@ module _ (p : List (List ℕ)) (x m j : ℕ) (two : j < 2) where
       let n : (x * PLACE-BYTES + 2 * m + j) % PLACE-BYTES / 2 ≡ m = omega arith in
       rw (d, n) refl
 
-four-of : (q : List ℕ) → length q ≡ 4 → getD q 0 0 ∷ getD q 1 0 ∷ getD q 2 0 ∷ getD q 3 0 ∷ [] ≡ q
+pub four-of : (q : List ℕ) → length q ≡ 4 → getD q 0 0 ∷ getD q 1 0 ∷ getD q 2 0 ∷ getD q 3 0 ∷ [] ≡ q
 four-of (a ∷ b ∷ c ∷ d ∷ []) e = refl
 four-of [] e = absurd (omega arith)
 four-of (a ∷ []) e = absurd (omega arith)
@@ -262,7 +262,7 @@ module _ (version agents : ℕ) (p : List (List ℕ)) (rows : ℕ) (l : List Ent
   unfolding rowsEnd
   encode-end = rw (encode-begin, encode-rows) refl
 
-  encode-part : rowBytes (encode version agents p rows l d) ≡ rowsPart rows l
+  pub encode-part : rowBytes (encode version agents p rows l d) ≡ rowsPart rows l
   unfolding rowBytes encode
   encode-part =
       rw (encode-begin, encode-rows)
@@ -404,7 +404,7 @@ module _ (version agents : ℕ) (p : List (List ℕ)) (rows : ℕ) (l : List Ent
             → cond (withHosts version) (fourAt (encode version agents p rows l d) x) (threeAt (encode version agents p rows l d) x) ≡ getD p x []
         off e = rw e (three-back e x b)
 
-    encode-slot : (x : ℕ) → x < agents → getD (placesOf (encode version agents p rows l d)) x [] ≡ getD p x []
+    pub encode-slot : (x : ℕ) → x < agents → getD (placesOf (encode version agents p rows l d)) x [] ≡ getD p x []
     unfolding placesOf slotAt
     encode-slot x b =
         let few = agents-few f in

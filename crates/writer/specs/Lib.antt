@@ -6,5 +6,7 @@ pub mod ReadLaws
 pub mod AnswerLaws
 pub mod PastLaws
 pub mod Parts
+pub mod Read
 pub mod PartsLaws
+pub mod BackLaws
 pub mod Promise

@@ -30,11 +30,20 @@ capped-most n most = go (decLt n most)
 
 -- ---- places
 
-module _ (q : List ℕ) (small : Numbers q) where
+module _ (q : List ℕ) where
   place-long : (a : ℕ) → length (placeIn q a) ≡ 4
   unfolding placeIn
   place-long a = refl
 
+  pub place-is : (a : ℕ) → a < AGENTS → getD (placesIn q) a [] ≡ placeIn q a
+  unfolding placesIn
+  place-is a l = getD-tabulate (placeIn q) AGENTS a [] l
+
+  place-none : (a : ℕ) → AGENTS ≤ a → getD (placesIn q) a [] ≡ []
+  unfolding placesIn
+  place-none a h = List·getD-eq-default (tabulate (placeIn q) AGENTS) [] {n = a} (let n = length-tabulate (placeIn q) AGENTS in omega arith)
+
+module _ (q : List ℕ) (small : Numbers q) where
   place-small : (a m : ℕ) → getD (placeIn q a) m 0 < 65536
   unfolding placeIn
   place-small a zero = small _
@@ -43,21 +52,13 @@ module _ (q : List ℕ) (small : Numbers q) where
   place-small a (suc (suc (suc zero))) = small _
   place-small a (suc (suc (suc (suc m)))) = omega arith
 
-  slot-is : (a : ℕ) → a < AGENTS → getD (placesIn q) a [] ≡ placeIn q a
-  unfolding placesIn
-  slot-is a l = getD-tabulate (placeIn q) AGENTS a [] l
-
-  slot-none : (a : ℕ) → AGENTS ≤ a → getD (placesIn q) a [] ≡ []
-  unfolding placesIn
-  slot-none a h = List·getD-eq-default (tabulate (placeIn q) AGENTS) [] {n = a} (let n = length-tabulate (placeIn q) AGENTS in omega arith)
-
   number-small : (a m : ℕ) → numberOf (placesIn q) a m < 65536
   unfolding numberOf
   number-small a m = go (decLt a AGENTS)
     where
       go : Dec (a < AGENTS) → getD (getD (placesIn q) a []) m 0 < 65536
-      go (yes l) = rw (slot-is a l) (place-small a m)
-      go (no h) = rw (slot-none a (omega arith)) (omega arith)
+      go (yes l) = rw (place-is q a l) (place-small a m)
+      go (no h) = rw (place-none q a (omega arith)) (omega arith)
 
 -- ---- rows
 
@@ -138,7 +139,7 @@ pub parts-typed : (q b e : List ℕ) → Numbers q → Bytes b → Numbers e →
 unfolding dependenciesIn
 parts-typed q b e places rows dependencies =
     record {
-      four = λ a l. ap length (slot-is q places a l) ∙ place-long q places a;
+      four = λ a l. ap length (place-is q a l) ∙ place-long q a;
       number = λ a m l. number-small q places a m;
       entry = λ i l. entries-typed b rows i;
       count = let h = capped-most (length e / 2) 65535 in omega arith;

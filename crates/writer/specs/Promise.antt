@@ -21,21 +21,26 @@ use Rattle.model.specs.Table.{ROW-BYTES, versionAt, agentsAt, rowsAt, placeAt, 
 use Rattle.model.specs.Table.{dependencyFrom, dependencyTo}
 use Rattle.model.specs.Refusal.{dependenciesNamed, headerFault, admission}
 use Rattle.laws.specs.FilledLaws.{Bytes}
-use Rattle.laws.specs.AdmissionLaws.{sound-admitted, admitted-sound}
+use Rattle.laws.specs.AdmissionLaws.{Sound, sound-admitted, admitted-sound}
 use Rattle.writer.specs.declared.Entry.{Entry}
 use Rattle.writer.specs.declared.Dependencies.{Dependencies}
 use Rattle.writer.specs.declared.WriteAnswer.the-variants as Answer
 use Rattle.writer.specs.Encode.{rowList, entryAt, tableSize, rowsPart, encode, entriesIn, entriesOf, dependenciesOf}
-use Rattle.writer.specs.Parts.{capped, agentsIn, placesIn, rowsIn, dependenciesIn, partsAnswer, partsTable}
+use Rattle.writer.specs.Parts.{PLACE-NUMBERS, capped, agentsIn, placesIn, rowsIn, dependenciesIn, partsAnswer, partsTable}
 use Rattle.writer.specs.PartsLaws.{Numbers, parts-typed}
 use Rattle.writer.specs.Answer.{versionKnown, countsFit, numbersFit, dependenciesFit, valuesFault, writeAnswer, bufferAfter}
-use Rattle.writer.specs.ValueLaws.{Fits, values-fit, fit-values, encode-length}
+use Rattle.writer.specs.ValueLaws.{Fits, values-fit, fit-values, rows-length, encode-length}
 use Rattle.writer.specs.EncodeLaws.{Typed, encode-version, encode-agents, encode-rows, encode-row, encode-source, encode-count, encode-from}
 use Rattle.writer.specs.EncodeLaws.{encode-to, encode-place, encode-fault}
 use Rattle.writer.specs.ReadLaws.{rows-same, length-same, read-fits, row-again, written-again}
 use Rattle.writer.specs.AnswerLaws.{ofTable, Admits, admission-number, room-short, room-long, values-in, table-in, admitted-in, written-out}
 use Rattle.writer.specs.AnswerLaws.{refused-out, fault-apart, fault-version, fault-limits, fault-numbers, fault-dependencies}
 use Rattle.writer.specs.PastLaws.{Alike, encode-alike, answer-alike}
+use Rattle.writer.specs.declared.ReadAnswer.{ReadAnswer}
+use Rattle.writer.specs.declared.ReadAnswer.the-variants as Given
+use Rattle.writer.specs.Read.{placeNumbers, endNumbers, lentFit, readAnswer, placesAfter, rowsAfter, dependenciesAfter}
+use Rattle.writer.specs.BackLaws.{given-out, given-in, places-after, rows-after, dependencies-after, fronted-front, fronted-rest, numbers-long}
+use Rattle.writer.specs.BackLaws.{ends-long, rows-given, count-is, table-again, answer-again, places-back, rows-back, count-back, ends-back}
 
 -- ---- what was written
 
@@ -304,3 +309,132 @@ module _ (version : ℕ) (places rows dependencies : List ℕ) (sixteen : Number
         × (drop m (bufferAfter (partsAnswer version places rows dependencies room) (partsTable version places rows dependencies) out) ≡ drop m out)
     unfolding partsAnswer partsTable
     parts-buffer = written-buffer version _ _ _ _ _ typed-parts room m w
+
+    -- and `read_parts` gives it back, in parts that are long enough, whatever they held: the version, the counts, and the numbers and
+    -- bytes that were handed over
+    module _ (p b e : List ℕ) (fit : lentFit (length p) (length b) (length e) ≡ true) where
+      abbrev written : List ℕ
+      written = partsTable version places rows dependencies
+
+      abbrev given : ReadAnswer
+      given = readAnswer written (length p) (length b) (length e)
+
+      fitting : Fits version (agentsIn places) (placesIn places) (rowsIn rows) (dependenciesIn dependencies .count)
+      unfolding partsAnswer
+      fitting = values-fit version _ _ _ _ (written-out version _ _ _ _ _ room m w .0)
+
+      pub parts-given : given ≡ Given.Read version (agentsIn places) (rowsIn rows) (dependenciesIn dependencies .count)
+      unfolding partsTable
+      parts-given =
+          given-in written (length p) (length b) (length e) 0 0 0 0 fit (admitted-sound true written parts-admitted)
+          ∙ rw (
+            encode-version version _ _ _ _ _,
+            encode-agents version _ _ _ _ _,
+            encode-rows version _ _ _ _ _,
+            encode-count version _ _ _ _ _ fitting typed-parts,
+          ) refl
+
+      pub parts-places-given : take (PLACE-NUMBERS * agentsIn places) (placesAfter given written p) ≡ take (PLACE-NUMBERS * agentsIn places) places
+      unfolding partsTable
+      parts-places-given =
+          ap (λ (x : List ℕ). take (PLACE-NUMBERS * agentsIn places) x) (places-after written _ _ _ _ parts-given p)
+          ∙ fronted-front (placeNumbers (placesOf written) (agentsIn places)) p _ (numbers-long (placesOf written) (agentsIn places))
+          ∙ places-back version places rows dependencies eight typed-parts fitting
+
+      pub parts-rows-given : take (ROW-BYTES * rowsIn rows) (rowsAfter given written b) ≡ take (ROW-BYTES * rowsIn rows) rows
+      unfolding partsTable
+      parts-rows-given =
+          ap (λ (x : List ℕ). take (ROW-BYTES * rowsIn rows) x) (rows-after written _ _ _ _ parts-given b)
+          ∙ fronted-front (rowsPart (rowsIn rows) (entriesOf written)) b _ (rows-length (rowsIn rows) (entriesOf written))
+          ∙ rows-back version places rows dependencies eight typed-parts fitting
+
+      pub parts-dependencies-given : take (2 * dependenciesIn dependencies .count) (dependenciesAfter given written e)
+          ≡ take (2 * dependenciesIn dependencies .count) dependencies
+      unfolding partsTable
+      parts-dependencies-given =
+          let long = ends-long (dependenciesOf written)
+          ∙ ap (λ (x : ℕ). 2 * x) (count-back version places rows dependencies eight typed-parts fitting)
+          in
+          ap (λ (x : List ℕ). take (2 * dependenciesIn dependencies .count) x) (dependencies-after written _ _ _ _ parts-given e)
+          ∙ fronted-front (endNumbers (dependenciesOf written)) e _ long ∙ ends-back version places rows dependencies eight typed-parts fitting
+
+-- ---- what `read_parts` gives of any bytes, into parts that held p, b and e
+
+module _ (s p b e : List ℕ) where
+  abbrev back : ReadAnswer
+  back = readAnswer s (length p) (length b) (length e)
+
+  -- a refusal writes nothing
+  pub unread-parts : (k i : ℕ) → back ≡ Given.Refused k i → (placesAfter back s p ≡ p) × (rowsAfter back s b ≡ b) × (dependenciesAfter back s e ≡ e)
+  unfolding placesAfter rowsAfter dependenciesAfter
+  unread-parts k i r = rw r (refl, refl, refl)
+
+  module _ (v a n m : ℕ) (r : back ≡ Given.Read v a n m) where
+    abbrev P : List ℕ
+    P = take (PLACE-NUMBERS * a) (placesAfter back s p)
+
+    abbrev B : List ℕ
+    B = take (ROW-BYTES * n) (rowsAfter back s b)
+
+    abbrev E : List ℕ
+    E = take (2 * m) (dependenciesAfter back s e)
+
+    read-sound : Sound true s
+    read-sound = given-out s (length p) (length b) (length e) v a n m r .0
+
+    -- a fill admits the table, and these are its version and counts
+    pub read-counts : (v ≡ versionAt s) × (a ≡ agentsAt s) × (n ≡ rowsAt s) × (m ≡ dependencyCount (dependencyBytes s))
+    read-counts = let o = given-out s (length p) (length b) (length e) v a n m r in (o .1, o .2, o .3, o .4)
+
+    pub read-admitted : admission true s ≡ Admitted a n
+    read-admitted = sound-admitted true s read-sound ∙ rw (← read-counts .1, ← read-counts .2) refl
+
+    ends-count : length (endNumbers (dependenciesOf s)) ≡ 2 * m
+    unfolding dependenciesOf
+    ends-count = ends-long (dependenciesOf s) ∙ ap (λ (x : ℕ). 2 * x) (sym (read-counts .3))
+
+    places-front : P ≡ placeNumbers (placesOf s) (agentsAt s)
+    places-front =
+        ap (λ (x : List ℕ). take (PLACE-NUMBERS * a) x) (places-after s v a n m r p)
+        ∙ fronted-front (placeNumbers (placesOf s) a) p _ (numbers-long (placesOf s) a)
+        ∙ ap (λ (x : ℕ). placeNumbers (placesOf s) x) (read-counts .1)
+
+    rows-front : B ≡ rowsPart (rowsAt s) (entriesOf s)
+    rows-front =
+        ap (λ (x : List ℕ). take (ROW-BYTES * n) x) (rows-after s v a n m r b)
+        ∙ fronted-front (rowsPart n (entriesOf s)) b _ (rows-length n (entriesOf s))
+        ∙ ap (λ (x : ℕ). rowsPart x (entriesOf s)) (read-counts .2)
+
+    ends-front : E ≡ endNumbers (dependenciesOf s)
+    ends-front =
+        ap (λ (x : List ℕ). take (2 * m) x) (dependencies-after s v a n m r e)
+        ∙ fronted-front (endNumbers (dependenciesOf s)) e _ ends-count
+
+    -- what stood after the values stays
+    pub read-rest : (drop (PLACE-NUMBERS * a) (placesAfter back s p) ≡ drop (PLACE-NUMBERS * a) p)
+        × (drop (ROW-BYTES * n) (rowsAfter back s b) ≡ drop (ROW-BYTES * n) b)
+        × (drop (2 * m) (dependenciesAfter back s e) ≡ drop (2 * m) e)
+    read-rest = (
+      ap (λ (x : List ℕ). drop (PLACE-NUMBERS * a) x) (places-after s v a n m r p)
+          ∙ fronted-rest (placeNumbers (placesOf s) a) p _ (numbers-long (placesOf s) a),
+      ap (λ (x : List ℕ). drop (ROW-BYTES * n) x) (rows-after s v a n m r b)
+          ∙ fronted-rest (rowsPart n (entriesOf s)) b _ (rows-length n (entriesOf s)),
+      ap (λ (x : List ℕ). drop (2 * m) x) (dependencies-after s v a n m r e)
+          ∙ fronted-rest (endNumbers (dependenciesOf s)) e _ ends-count,
+    )
+
+    module _ (bytes : Bytes s) where
+      -- the rows are their own sixteen bytes each
+      pub read-rows : B ≡ rowBytes s
+      read-rows = rows-front ∙ rows-given read-sound bytes
+
+      -- `write_parts` of what was read gives the same bytes, and so it does with a buffer that is long enough
+      pub read-again : partsTable v P B E ≡ s
+      read-again =
+          ap (λ (x : ℕ). partsTable x P B E) (read-counts .0) ∙ rw (places-front, rows-front, ends-front) (table-again read-sound bytes)
+
+      pub read-written-again : (room : ℕ) → length s ≤ room → partsAnswer v P B E room ≡ Answer.Written (length s)
+      read-written-again room h =
+          ap (λ (x : ℕ). partsAnswer x P B E room) (read-counts .0)
+          ∙ rw (places-front, rows-front, ends-front) (answer-again read-sound bytes room)
+          ∙ read-written s bytes (_, _, sound-admitted true s read-sound) room h

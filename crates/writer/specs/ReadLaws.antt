@@ -54,7 +54,7 @@ half-of s small q k = go (decLt (k % 2) 1)
 part-small : (s : List ℕ) → Bytes s → (n : ℕ) → Bytes (drop n s)
 part-small s small n k = subst (λ (x : ℕ). x < 256) (sym (getD-drop n s k 0)) (small (n + k))
 
-front-small : (s : List ℕ) → Bytes s → (n : ℕ) → Bytes (take n s)
+pub front-small : (s : List ℕ) → Bytes s → (n : ℕ) → Bytes (take n s)
 front-small s small n k = go (decLt k n)
   where
     go : Dec (k < n) → getD (take n s) k 0 < 256
@@ -62,7 +62,7 @@ front-small s small n k = go (decLt k n)
     go (no l) = let e = List·getD-eq-default (take n s) 0 {n = k} (let m = length-take n s in omega arith) in omega arith
 
 -- a list is its elements
-tabulated : (f : ℕ → ℕ) (u : List ℕ) (n : ℕ) → length u ≡ n → ((k : ℕ) → k < n → f k ≡ getD u k 0) → tabulate f n ≡ u
+pub tabulated : (f : ℕ → ℕ) (u : List ℕ) (n : ℕ) → length u ≡ n → ((k : ℕ) → k < n → f k ≡ getD u k 0) → tabulate f n ≡ u
 tabulated f u n e h =
     ext-getD 0 (tabulate f n) u (length-tabulate f n ∙ sym e)
     (λ k l. let m : k < n = subst (λ (x : ℕ). k < x) (length-tabulate f n) l in getD-tabulate f n k 0 m ∙ h k m)
@@ -186,7 +186,7 @@ module _ {blanks : Bool} {s : List ℕ} (sound : Sound blanks s) where
 
   -- ---- refusals 2, 3, 16 and 17 don't hold of what was read
 
-  slot-is : (x : ℕ) → x < agentsAt s → getD (placesOf s) x [] ≡ placeAt s x
+  pub slot-is : (x : ℕ) → x < agentsAt s → getD (placesOf s) x [] ≡ placeAt s x
   unfolding placesOf slotAt
   slot-is x h =
       let few = agents-fit sound in
@@ -317,7 +317,7 @@ module _ {blanks : Bool} {s : List ℕ} (sound : Sound blanks s) where
         (λ k l. place-same k l ∙ sym (getD-take (placesSize (versionAt s) (agentsAt s)) (drop HEADER s) k 0 l ∙ getD-drop HEADER s k 0))
 
     -- the rows
-    row-small : Bytes (rowBytes s)
+    pub row-small : Bytes (rowBytes s)
     unfolding rowBytes
     row-small = front-small (drop (rowsBegin s) s) (part-small s small (rowsBegin s)) (ROW-BYTES * rowsAt s)
 
@@ -331,7 +331,7 @@ module _ {blanks : Bool} {s : List ℕ} (sound : Sound blanks s) where
         rows-same (rowBytes s) row-small (rowsAt s) (rows-fit sound) (omega arith) ∙ take-all (ROW-BYTES * rowsAt s) (rowBytes s) (omega arith)
         ∙ ap (λ (x : ℕ). take (ROW-BYTES * rowsAt s) (drop x s)) begin-same
 
-    rows-long : length (rowBytes s) ≡ ROW-BYTES * rowsAt s
+    pub rows-long : length (rowBytes s) ≡ ROW-BYTES * rowsAt s
     unfolding tableSize rowBytes
     rows-long =
         let n = length-same in

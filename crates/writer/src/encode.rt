@@ -84,7 +84,7 @@ fn header_bytes(version: u8, agents: u8, rows: u8, size: usize) -> [u8; 8]
     ]
 }
 
-fn number_of(p: Places, a: usize, m: usize) -> u16
+pub fn number_of(p: Places, a: usize, m: usize) -> u16
     requires { ⌜ m < 4 ⌝ }
     ensures { λ r. ⌜ r ≡ numberOf p a m ⌝ }
 {
@@ -141,7 +141,7 @@ pub fn row_bytes(r: Row, s: Source) -> [u8; 16]
     ]
 }
 
-fn entry_bytes(entries: [Entry; 128]) -> [u8; ROWS]
+pub fn entry_bytes(entries: [Entry; 128]) -> [u8; ROWS]
     ensures { λ r. ⌜ r ≡ tabulate (entryByte entries) 2048 ⌝ }
 {
     let mut b = [0u8; ROWS];

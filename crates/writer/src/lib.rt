@@ -34,6 +34,19 @@ pub enum WriteAnswer {
     Written { bytes: u16 },
 }
 
+pub enum ReadAnswer {
+    Refused {
+        number: u8,
+        row: u16,
+    },
+    Read {
+        version: u8,
+        agents: u8,
+        rows: u8,
+        dependencies: u16,
+    },
+}
+
 // ---- values that no bytes are made of
 
 // 2

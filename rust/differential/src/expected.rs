@@ -57,7 +57,11 @@ pub(crate) fn of_report(answer: &ReportAnswer, lent: &mut Lent) -> Packed {
         ReportAnswer::Check(answer) => of_check(answer, lent),
         ReportAnswer::Counts(counts) => {
             lent.work[..WORK_WORDS].fill(0);
-            Packed::new(Code::Report, counts.mutual, counts.ordered, counts.racing)
+            let code = match counts.conflicting {
+                0 => Code::NoPairs,
+                _ => Code::Report,
+            };
+            Packed::new(code, counts.mutual, counts.ordered, counts.racing)
         }
     }
 }

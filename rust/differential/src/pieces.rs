@@ -1,6 +1,7 @@
 //! Compares tables in two pieces: check, fill and report with the second
 //! implementation, derivations with those of the joined table, and every row.
 
+use crate::reports::{compare_share, UNWRITTEN};
 use crate::{expected, Comparison, Difference, Lengths};
 use second::{joined, Chains, CheckAnswer, FillAnswer, Pieces};
 use stramashly::{
@@ -82,9 +83,11 @@ impl Comparison {
         let expected = expected::of_report(&answer, &mut self.expected);
         let lent = places.map(|(at, size)| &self.around[at..at + size]);
         let (work, cycle) = (&mut self.ours.work, &mut self.ours.numbers);
-        let packed = report_pieces(chains == Chains::On, lent, work, cycle);
+        let mut share = UNWRITTEN;
+        let packed = report_pieces(chains == Chains::On, lent, work, cycle, &mut share);
         let words = || format!("report2 {} {chains:?}", shown(pieces));
-        self.compare(words, lengths, packed, expected)
+        self.compare(words, lengths, packed, expected)?;
+        compare_share(&answer, share)
     }
 
     /// A derivation in two pieces is that of the joined table, with all that

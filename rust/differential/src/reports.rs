@@ -2,8 +2,8 @@
 //! share.
 
 use crate::{expected, Comparison, Difference, Lengths};
-use second::{Chains, Counts, ReportAnswer};
-use stramashly::{report_with, share_of, CYCLE_NUMBERS};
+use second::{Chains, ReportAnswer};
+use stramashly::{report_with, CYCLE_NUMBERS};
 use tables::hex;
 
 impl Comparison {
@@ -34,31 +34,28 @@ impl Comparison {
         let at = self.prepare(table, lengths);
         let expected = expected::of_report(&answer, &mut self.expected);
         let lent = &self.around[at..at + table.len()];
-        let packed = report_with(
-            chains == Chains::On,
-            lent,
-            &mut self.ours.work,
-            &mut self.ours.numbers,
-        );
+        let (work, cycle) = (&mut self.ours.work, &mut self.ours.numbers);
+        let mut share = UNWRITTEN;
+        let packed = report_with(chains == Chains::On, lent, work, cycle, &mut share);
         let words = || format!("report {} {chains:?}", hex(table));
         self.compare(words, lengths, packed, expected)?;
-        match answer {
-            ReportAnswer::Counts(counts) => compare_share(counts)?,
-            ReportAnswer::Check(_) => (),
-        }
+        compare_share(&answer, share)?;
         Ok(answer)
     }
 }
 
-/// The counts are the same by now; of no pairs the share is no number.
-fn compare_share(counts: Counts) -> Result<(), Difference> {
-    let share = share_of(counts.racing, counts.conflicting);
-    let is_same = match counts.share() {
-        Some(expected) => share.to_bits() == expected.to_bits(),
-        None => share.is_nan(),
+/// What stands in the place of the share before a report.
+pub(crate) const UNWRITTEN: f64 = 7.25;
+
+/// The share is the report's own; without a report, and of no pairs, nothing is
+/// written.
+pub(crate) fn compare_share(answer: &ReportAnswer, share: f64) -> Result<(), Difference> {
+    let expected = match answer {
+        ReportAnswer::Counts(counts) => counts.share().unwrap_or(UNWRITTEN),
+        ReportAnswer::Check(_) => UNWRITTEN,
     };
-    if is_same {
+    if share.to_bits() == expected.to_bits() {
         return Ok(());
     }
-    Err(Difference(format!("share {share} of {counts:?}")))
+    Err(Difference(format!("share {share} of {answer:?}")))
 }

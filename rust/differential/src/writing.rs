@@ -56,27 +56,32 @@ impl Comparison {
             let words = format!("{ours:?} instead of {answer:?}");
             return Err(Difference(format!("{words}\nrows {}", hex(table))));
         }
-        if let RowsAnswer::Rows(rows) = &answer {
-            self.step_anywhere(table, rows)?;
-        }
+        self.step_anywhere(table, &answer)?;
         Ok(answer)
     }
 
     /// Steps at places in any order, with buffers of any length.
-    fn step_anywhere(&mut self, table: &[u8], rows: &[[u8; ROW_BYTES]]) -> Result<(), Difference> {
+    fn step_anywhere(&mut self, table: &[u8], answer: &RowsAnswer) -> Result<(), Difference> {
         for _ in 0..3 {
+            let rows = match answer {
+                RowsAnswer::Rows(rows) => &rows[..],
+                RowsAnswer::Refused { .. } => &[],
+            };
             let at = self.random.below(rows.len() + 2) as u16;
             let at = self.random.pick(&[at, at, 65534, 65535]);
             let room = self.random.pick(&[0, 1, 15, 16, 16, 17, 40]);
             let mut ours: Vec<u8> = (0..room).map(|_| self.random.word() as u8).collect();
             let mut theirs = ours.clone();
-            let expected = match rows.get(usize::from(at)) {
+            let expected = match (answer, rows.get(usize::from(at))) {
                 _ if room < ROW_BYTES => Packed::new(Code::Refused, 11, 0, 0),
-                Some(row) => {
+                (RowsAnswer::Refused { number, row }, _) => {
+                    Packed::new(Code::Refused, u16::from(*number), *row, 0)
+                }
+                (_, Some(row)) => {
                     theirs[..ROW_BYTES].copy_from_slice(row);
                     Packed::new(Code::Row, at + 1, 0, 0)
                 }
-                None => Packed::new(Code::End, at, 0, 0),
+                (_, None) => Packed::new(Code::End, at, 0, 0),
             };
             let packed = row_in(table, at, &mut ours);
             if packed != expected || ours != theirs {

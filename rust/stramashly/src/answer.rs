@@ -20,7 +20,7 @@ pub enum Code {
     None = 5,
     /// The blanks have their sources.
     Filled = 6,
-    /// The conflicting pairs are counted.
+    /// The conflicting pairs, of which there are some, are counted.
     Report = 7,
     /// A moment happens before another, and this is why.
     Derivation = 8,
@@ -34,14 +34,16 @@ pub enum Code {
     Written = 12,
     /// The table can be stepped through.
     Opened = 13,
-    /// A row of an opened table.
+    /// A row of a table that a fill admits.
     Row = 14,
-    /// An opened table has no further row.
+    /// Such a table has no further row.
     End = 15,
     /// A row's place in a table of two pieces.
     RowPlace = 16,
     /// Neither piece holds the row.
     NoRow = 17,
+    /// No pair of rows conflicts.
+    NoPairs = 18,
 }
 
 /// A packed answer: code × 2^48 + a × 2^32 + b × 2^16 + c.
@@ -76,6 +78,7 @@ impl Packed {
             15 => Code::End,
             16 => Code::RowPlace,
             17 => Code::NoRow,
+            18 => Code::NoPairs,
             _ => return None,
         };
         Some(code)

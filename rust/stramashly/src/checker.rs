@@ -4,7 +4,7 @@ use crate::answer::{foreign, CheckAnswer, Code, FillAnswer, Packed};
 use crate::derivation::{AcceptsAnswer, Derivation, DeriveAnswer};
 use crate::engine::{
     accepts_in, accepts_pieces, check_by_flags, check_pieces, check_with, derive_in, derive_pieces,
-    fill_by_flags, fill_pieces, fill_with, report_pieces, report_with, share_of, Pieces,
+    fill_by_flags, fill_pieces, fill_with, report_pieces, report_with, Pieces,
 };
 use crate::report::{Report, ReportAnswer, Share};
 use crate::{CHAIN_NUMBERS, CYCLE_EDGES, CYCLE_NUMBERS, PROGRAM_ORDER, SOURCE_NUMBERS, WORK_WORDS};
@@ -72,8 +72,10 @@ impl Checker {
 
     /// Counts a table's conflicting pairs, whatever its bytes.
     pub fn report(&mut self, table: &[u8]) -> ReportAnswer<'_> {
-        let packed = report_with(self.chains, table, &mut self.work[..], &mut self.cycle);
-        self.counted(packed)
+        let (work, cycle) = (&mut self.work[..], &mut self.cycle);
+        let mut share = 0.0;
+        let packed = report_with(self.chains, table, work, cycle, &mut share);
+        self.counted(packed, share)
     }
 
     /// Checks a table in two pieces, whatever their bytes.
@@ -90,8 +92,10 @@ impl Checker {
 
     /// Counts the conflicting pairs of a table in two pieces.
     pub fn report_pieces(&mut self, pieces: Pieces) -> ReportAnswer<'_> {
-        let packed = report_pieces(self.chains, pieces, &mut self.work[..], &mut self.cycle);
-        self.counted(packed)
+        let (work, cycle) = (&mut self.work[..], &mut self.cycle);
+        let mut share = 0.0;
+        let packed = report_pieces(self.chains, pieces, work, cycle, &mut share);
+        self.counted(packed, share)
     }
 
     /// Why one moment of a table in two pieces happens before another.
@@ -113,10 +117,11 @@ impl Checker {
         accepted(accepts_pieces(pieces, [first, second], classes, steps))
     }
 
-    /// A report's answer, taken apart.
-    fn counted(&self, packed: Packed) -> ReportAnswer<'_> {
+    /// A report's answer, taken apart, with the share that came beside it.
+    fn counted(&self, packed: Packed, share: f64) -> ReportAnswer<'_> {
         match packed.code() {
-            Some(Code::Report) => ReportAnswer::Report(reported(packed)),
+            Some(Code::Report) => ReportAnswer::Report(reported(packed, Share::Of(share))),
+            Some(Code::NoPairs) => ReportAnswer::Report(reported(packed, Share::NoPairs)),
             Some(Code::Overwritten | Code::Cycle | Code::Refused) => {
                 ReportAnswer::Check(self.checked(packed))
             }
@@ -217,15 +222,10 @@ fn accepted(packed: Packed) -> AcceptsAnswer {
 }
 
 /// A report's counts; the first is the sum of the others.
-fn reported(packed: Packed) -> Report {
+fn reported(packed: Packed, share: Share) -> Report {
     let (mutual, ordered, racing) = (packed.a(), packed.b(), packed.c());
-    let conflicting = mutual + ordered + racing;
-    let share = match conflicting {
-        0 => Share::NoPairs,
-        _ => Share::Of(share_of(racing, conflicting)),
-    };
     Report {
-        conflicting,
+        conflicting: mutual + ordered + racing,
         mutual,
         ordered,
         racing,

@@ -99,7 +99,7 @@ pub use derivation::{AcceptsAnswer, Derivation, DeriveAnswer};
 pub use engine::{
     accepts_in, accepts_pieces, check_by_flags, check_in, check_pieces, check_with, derive_in,
     derive_pieces, fill_by_flags, fill_in, fill_pieces, fill_with, open_in, report_in,
-    report_pieces, report_with, row_in, row_of_pieces, share_of, write_in, Pieces,
+    report_pieces, report_with, row_in, row_of_pieces, write_in, Pieces,
 };
 pub use owned::{
     OwnedCheckAnswer, OwnedDerivation, OwnedDeriveAnswer, OwnedFillAnswer, OwnedReportAnswer,

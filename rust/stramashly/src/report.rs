@@ -31,7 +31,7 @@ pub struct Report {
 /// The racing pairs' part of the conflicting ones.
 #[derive(Clone, Copy, Debug, PartialEq)]
 pub enum Share {
-    /// The one division, rounded once.
+    /// The one division, rounded once, as the library handed it over.
     Of(f64),
     /// No pair conflicts, which isn't the same as none that races.
     NoPairs,

@@ -1,13 +1,15 @@
 //! A table's rows, one after the other.
 
 use crate::answer::{foreign, Code};
-use crate::engine::{open_in, row_in};
+use crate::engine::open_in;
 use crate::writer::{refusal, Refusal, Row};
 use crate::ROW_BYTES;
 use std::iter::FusedIterator;
+use std::slice::ChunksExact;
 
 /// Steps through one table: it holds the bytes that it was lent and its place
-/// in them, and gives rows 0 onward, each once.
+/// in them, and gives rows 0 onward, each once. The table is admitted once, when
+/// it is opened.
 ///
 /// ```
 /// use stramashly::{Row, Rows, TableWriter, INITIAL};
@@ -23,8 +25,7 @@ use std::iter::FusedIterator;
 #[derive(Clone, Debug)]
 pub struct Rows<'a> {
     table: &'a [u8],
-    at: u16,
-    count: u16,
+    rows: ChunksExact<'a, u8>,
 }
 
 impl<'a> Rows<'a> {
@@ -34,8 +35,7 @@ impl<'a> Rows<'a> {
         match packed.code() {
             Some(Code::Opened) => Ok(Rows {
                 table,
-                at: 0,
-                count: packed.a(),
+                rows: row_bytes(table, packed.b(), packed.a()).chunks_exact(ROW_BYTES),
             }),
             Some(Code::Refused) => Err(refusal(packed)),
             _ => foreign(packed),
@@ -52,22 +52,22 @@ impl Iterator for Rows<'_> {
     type Item = Row;
 
     fn next(&mut self) -> Option<Row> {
-        let mut row = [0; ROW_BYTES];
-        let packed = row_in(self.table, self.at, &mut row);
-        self.at = packed.a();
-        match packed.code() {
-            Some(Code::Row) => Some(Row::from_bytes(row)),
-            Some(Code::End) => None,
-            _ => foreign(packed),
-        }
+        let row = self.rows.next()?;
+        row.try_into().map(Row::from_bytes).ok()
     }
 
     fn size_hint(&self) -> (usize, Option<usize>) {
-        let left = usize::from(self.count - self.at);
-        (left, Some(left))
+        self.rows.size_hint()
     }
 }
 
 impl ExactSizeIterator for Rows<'_> {}
 
 impl FusedIterator for Rows<'_> {}
+
+/// The bytes of the rows of an admitted table: they follow its agents.
+fn row_bytes(table: &[u8], agents: u16, rows: u16) -> &[u8] {
+    let place_bytes = if table[4] == 3 { 8 } else { 6 };
+    let start = 8 + usize::from(agents) * place_bytes;
+    &table[start..][..usize::from(rows) * ROW_BYTES]
+}

@@ -75,6 +75,7 @@ fn codes_are_these() {
         ("END", Code::End),
         ("ROW_PLACE", Code::RowPlace),
         ("NO_ROW", Code::NoRow),
+        ("NO_PAIRS", Code::NoPairs),
     ] {
         assert_eq!(header[name], (code as u16).to_string(), "{name}");
         assert_eq!(Packed::new(code, 1, 2, 3).code(), Some(code));

@@ -57,36 +57,69 @@ fn shares_are_written_in_the_fewest_digits() {
     }
 }
 
-/// Every share that there is, and of nothing there is none.
+/// A write; so many reads of it by its own agent, which program order orders; and
+/// so many reads by other agents, which race.
+fn racing_and_ordered(racing: u8, ordered: u8) -> Vec<u8> {
+    let row = |kind, agent, source| Row {
+        kind,
+        agent,
+        length: 1,
+        source,
+        ..Row::default()
+    };
+    let mut writer = TableWriter::new(1);
+    (0..=u16::from(racing)).for_each(|agent| _ = writer.place([0, 0, agent, 0]));
+    writer.row(row(1, 0, INITIAL));
+    (0..ordered).for_each(|_| _ = writer.row(row(0, 0, 0)));
+    (0..racing).for_each(|agent| _ = writer.row(row(0, agent + 1, INITIAL)));
+    writer.write().unwrap()
+}
+
+/// The share that is handed over is the rounded quotient of the counts beside it.
 #[test]
 fn the_share_is_the_division() {
-    for conflicting in 1..=2016_u16 {
-        for racing in 0..=conflicting {
-            let share = share_of(racing, conflicting);
-            assert_eq!(share, f64::from(racing) / f64::from(conflicting));
-            assert_eq!(share == 0.0, racing == 0);
-            assert_eq!(share == 1.0, racing == conflicting);
+    let mut checker = Checker::new();
+    for racing in 0..=31 {
+        for ordered in 0..=40 {
+            let answer = checker.report(&racing_and_ordered(racing, ordered));
+            let ReportAnswer::Report(report) = answer else {
+                panic!("{answer}");
+            };
+            let counts = (report.ordered, report.racing);
+            assert_eq!(counts, (u16::from(ordered), u16::from(racing)));
+            let quotient = f64::from(report.racing) / f64::from(report.conflicting);
+            let expected = match report.conflicting {
+                0 => Share::NoPairs,
+                _ => Share::Of(quotient),
+            };
+            assert_eq!(report.share, expected, "{racing} {ordered}");
         }
     }
-    assert!(share_of(0, 0).is_nan() && share_of(1, 0).is_nan());
-    assert_eq!(share_of(65535, 1), 65535.0);
+}
+
+/// A report and what stands in the place of its share, which was 7.0.
+fn report_beside(name: &str, work: &mut [u64], cycle: &mut [u16]) -> (Packed, f64) {
+    let mut share = 7.0;
+    let packed = report_in(&example(name), work, cycle, &mut share);
+    (packed, share)
 }
 
 #[test]
 fn lent_buffers_hold_what_the_header_says() {
     let mut work = vec![7; WORK_WORDS + 1];
     let mut cycle = vec![9; CYCLE_NUMBERS + 1];
-    let packed = report_in(&example("leak"), &mut work, &mut cycle);
-    assert_eq!(packed, Packed::new(Code::Report, 1, 0, 2));
+    let answer = report_beside("leak", &mut work, &mut cycle);
+    assert_eq!(answer, (Packed::new(Code::Report, 1, 0, 2), 2.0 / 3.0));
     assert!(work[..WORK_WORDS].iter().all(|word| *word == 0) && work[WORK_WORDS] == 7);
     assert!(cycle.iter().all(|number| *number == 9));
-    let packed = report_in(&example("p-initial"), &mut work, &mut cycle);
-    assert_eq!(packed, Packed::new(Code::Cycle, 2, 0, 0));
+    let answer = report_beside("p-initial", &mut work, &mut cycle);
+    assert_eq!(answer, (Packed::new(Code::Cycle, 2, 0, 0), 7.0));
     assert_eq!((cycle[..2].to_vec(), cycle[CYCLE_NUMBERS]), (vec![0, 3], 9));
     let (mut work, mut cycle) = (vec![7; WORK_WORDS], vec![9; CYCLE_NUMBERS]);
-    let refused = Packed::new(Code::Refused, 11, 0, 0);
-    let table = example("leak");
-    assert_eq!(report_in(&table, &mut work[1..], &mut cycle), refused);
-    assert_eq!(report_in(&table, &mut work, &mut cycle[1..]), refused);
+    let refused = (Packed::new(Code::Refused, 11, 0, 0), 7.0);
+    assert_eq!(report_beside("leak", &mut work[1..], &mut cycle), refused);
+    assert_eq!(report_beside("leak", &mut work, &mut cycle[1..]), refused);
     assert!(work.iter().all(|word| *word == 7) && cycle.iter().all(|number| *number == 9));
+    let answer = report_beside("empty", &mut work, &mut cycle);
+    assert_eq!(answer, (Packed::new(Code::NoPairs, 0, 0, 0), 7.0));
 }

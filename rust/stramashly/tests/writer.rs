@@ -129,6 +129,29 @@ fn what_a_fill_refuses_is_not_opened() {
     assert!(Rows::open(&example("fill")).is_ok());
 }
 
+/// Each example that is refused, and what is refused before a row is read: no
+/// place gives a row, and nothing is written.
+#[test]
+fn what_a_fill_refuses_gives_no_row() {
+    let nine = vec![0, 0, 0, 0, 9, 0, 1, 0];
+    let names = ["too-long", "version-4", "odd-atomic", "host-atomic"];
+    let refused = names
+        .map(example)
+        .into_iter()
+        .chain([nine, vec![], vec![0; 7]]);
+    for table in refused {
+        let refusal = Rows::open(&table).unwrap_err();
+        let expected = Packed::new(Code::Refused, refusal.number, refusal.row, 0);
+        for at in (0..300).chain([65534, 65535]) {
+            let mut row = [0xA5; ROW_BYTES + 1];
+            assert_eq!(row_in(&table, at, &mut row), expected, "{at}");
+            assert_eq!(row, [0xA5; ROW_BYTES + 1]);
+        }
+        let short = Packed::new(Code::Refused, 11, 0, 0);
+        assert_eq!(row_in(&table, 0, &mut [0; ROW_BYTES - 1]), short);
+    }
+}
+
 #[test]
 fn parts_that_are_no_whole_ones_count_for_nothing() {
     let mut out = [0; 100];

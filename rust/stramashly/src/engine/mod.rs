@@ -10,7 +10,7 @@ pub use derivation::{accepts_in, derive_in};
 pub use pieces::{
     accepts_pieces, check_pieces, derive_pieces, fill_pieces, report_pieces, row_of_pieces, Pieces,
 };
-pub use report::{report_in, report_with, share_of};
+pub use report::{report_in, report_with};
 pub use writer::{open_in, row_in, write_in};
 
 use crate::answer::Packed;

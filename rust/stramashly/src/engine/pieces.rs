@@ -38,6 +38,7 @@ mod linked {
             work_len: usize,
             cycle: *mut u16,
             cycle_len: usize,
+            share: *mut f64,
         ) -> u64;
 
         pub fn stramashly_derive2(
@@ -129,8 +130,29 @@ pub fn fill_pieces(chains: bool, pieces: Pieces, work: &mut [u64], sources: &mut
 
 /// Counts the conflicting pairs of a table in two pieces, in lent buffers of
 /// any length.
-pub fn report_pieces(chains: bool, pieces: Pieces, work: &mut [u64], cycle: &mut [u16]) -> Packed {
-    ask(linked::stramashly_report2, chains, pieces, work, cycle)
+pub fn report_pieces(
+    chains: bool,
+    [first, second]: Pieces,
+    work: &mut [u64],
+    cycle: &mut [u16],
+    share: &mut f64,
+) -> Packed {
+    // Sound as in `super::ask`; the share is a number of its own.
+    let answer = unsafe {
+        linked::stramashly_report2(
+            first.as_ptr(),
+            first.len(),
+            second.as_ptr(),
+            second.len(),
+            u8::from(chains),
+            work.as_mut_ptr(),
+            work.len(),
+            cycle.as_mut_ptr(),
+            cycle.len(),
+            share,
+        )
+    };
+    Packed(answer)
 }
 
 /// Derives one moment's happening before another in a table in two pieces, in

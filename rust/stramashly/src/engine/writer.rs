@@ -61,8 +61,9 @@ pub fn open_in(table: &[u8]) -> Packed {
     Packed(unsafe { linked::stramashly_open(table.as_ptr(), table.len()) })
 }
 
-/// The row at a place of an opened table into a lent buffer of any length;
-/// one of fewer than 16 bytes is refusal 11.
+/// The row at a place of a table into a lent buffer of any length; one of fewer
+/// than 16 bytes is refusal 11, and what a fill refuses is refused at every place.
+/// Each call admits the table anew: [`Rows`](crate::Rows) does it once.
 pub fn row_in(table: &[u8], at: u16, row: &mut [u8]) -> Packed {
     // Sound as in `super::ask`.
     let answer = unsafe {

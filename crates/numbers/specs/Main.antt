@@ -20,12 +20,13 @@ use Rattle.model.specs.Reason.{derive, deriveAnswer, judge, acceptAnswer}
 use Rattle.model.specs.Report.{report}
 use Rattle.pieces.specs.Pieces.{countBoth, checkBoth, fillBoth, reportBoth, deriveBoth, judgeBoth, rowPlace}
 use Rattle.writer.specs.Parts.{partsAnswer}
+use Rattle.writer.specs.Read.{readAnswer}
 use Rattle.promises.specs.Terms.{Bytes}
 use Rattle.promises.specs.Main.{CheckMeans, FillMeans}
 use Rattle.stramashly.specs.Packed.{packed, packCheck, packFill, packDerive, packAccept, packReport, shareAfter}
-use Rattle.stramashly.specs.Packed.{packOpen, packWrite, packPlace, rowAnswer, rowAfter}
+use Rattle.stramashly.specs.Packed.{packOpen, packWrite, packRead, packPlace, rowAnswer, rowAfter}
 use Rattle.numbers.specs.Reading.{CODE, A, B, C, readCheck, readFill, readDerive, readAccept, readReport}
-use Rattle.numbers.specs.Reading.{readOpen, readRow, readWrite, readPlace}
+use Rattle.numbers.specs.Reading.{readOpen, readRow, readWrite, readValues, readPlace}
 use Rattle.numbers.specs.RowNumbers.{rowSaid}
 use Rattle.numbers.specs as beside
 
@@ -71,6 +72,10 @@ row2-reads = beside.RowNumbers.row2-reads
 pub write-reads : (version : ℕ) (places rows dependencies : List ℕ) (room : ℕ)
     → let a = partsAnswer version places rows dependencies room in readWrite (packWrite a) ≡ a
 write-reads = beside.RowNumbers.write-reads
+
+pub read-reads : (s : List ℕ) (places rows dependencies : ℕ)
+    → let a = readAnswer s places rows dependencies in readValues (packRead a) ≡ a
+read-reads = beside.RowNumbers.read-reads
 
 -- the same of a table in two pieces, f and s
 pub check2-reads : (chains : Bool) (f s : List ℕ) (work buffer : ℕ)

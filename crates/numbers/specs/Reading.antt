@@ -1,7 +1,7 @@
 -- How a packed number is read, and that it is read back as what was packed. Assumes nothing.
 use mathlib.Core.Path.{_≡_, refl, ap}
 use mathlib.Core.Bool.{cond}
-use Prim.Native.Nat.{ℕ, _+_, _/_, _%_, _<_}
+use Prim.Native.Nat.{ℕ, _+_, _*_, _/_, _%_, _<_}
 use native.Mathlib.Omega.{arith}
 use lib.ListN.{length}
 use lib.Dec.{eqb}
@@ -27,11 +27,13 @@ use Rattle.pieces.specs.declared.RowPlace.{RowPlace}
 use Rattle.pieces.specs.declared.RowPlace.the-variants as place
 use Rattle.writer.specs.declared.WriteAnswer.{WriteAnswer}
 use Rattle.writer.specs.declared.WriteAnswer.the-variants as written
+use Rattle.writer.specs.declared.ReadAnswer.{ReadAnswer}
+use Rattle.writer.specs.declared.ReadAnswer.the-variants as values
 use Rattle.stepping.specs.declared.Stepped.{Stepped}
 use Rattle.stepping.specs.declared.Stepped.the-variants as step
 use Rattle.promises.specs.Bounds.{SMALL, SmallVerdict, SmallOutcome, SmallReport, SmallDerived, SmallJudged}
 use Rattle.stramashly.specs.Packed.{packed, PROGRAM-ORDER, packCheck, packFill, packDerive, packAccept, packReport, shareAfter}
-use Rattle.stramashly.specs.Packed.{packWrite, packOpen, packStep, packPlace}
+use Rattle.stramashly.specs.Packed.{packWrite, packRead, packOpen, packStep, packPlace}
 
 -- ---- definitions: the parts of a number, as the header's macros take them
 
@@ -208,6 +210,29 @@ pub write-back : (x : WriteAnswer) → SmallWrite x → readWrite (packWrite x) 
 unfolding writeBy packWrite
 write-back (written.Refused n i) h = let p = reads-back 4 n i 0 (h .0) (h .1) (omega arith) in rw (p .0, p .1, p .2) refl
 write-back (written.Written m) h = let p = reads-back 12 m 0 0 h (omega arith) (omega arith) in rw (p .0, p .1) refl
+
+-- ---- a reader's number: the version and the agents share a part
+
+unfoldable pub valuesBy : ℕ → ℕ → ℕ → ℕ → ReadAnswer
+valuesBy k a b c = cond (eqb k 19) (values.Read (a / 256) (a % 256) b c) (values.Refused a b)
+
+abbrev pub readValues : ℕ → ReadAnswer
+readValues r = valuesBy (CODE r) (A r) (B r) (C r)
+
+abbrev pub SmallValues : ReadAnswer → Type 0
+SmallValues (values.Refused n i) = (n < SMALL) × (i < SMALL)
+SmallValues (values.Read version agents rows n) = (version < 256) × (agents < 256) × (rows < SMALL) × (n < SMALL)
+
+pub values-back : (x : ReadAnswer) → SmallValues x → readValues (packRead x) ≡ x
+unfolding valuesBy packRead
+values-back (values.Refused n i) h = let p = reads-back 4 n i 0 (h .0) (h .1) (omega arith) in rw (p .0, p .1, p .2) refl
+values-back (values.Read version agents rows n) h =
+    let v = h .0 in
+    let a = h .1 in
+    let p = reads-back 19 (version * 256 + agents) rows n (omega arith) (h .2) (h .3) in
+    let q : (version * 256 + agents) / 256 ≡ version = omega arith in
+    let r : (version * 256 + agents) % 256 ≡ agents = omega arith in
+    rw (p .0, p .1, p .2, p .3, q, r) refl
 
 -- ---- the number of a row's place
 

@@ -1,4 +1,4 @@
--- The numbers of the functions about rows and bytes (open, row, row2, write), read back. Assumes nothing.
+-- The numbers of the functions about rows and bytes (open, row, row2, write, read), read back. Assumes nothing.
 use mathlib.Core.Path.{_≡_, refl, sym, ap, _∙_}
 use mathlib.Core.Bool.{Bool, true, false, cond}
 use mathlib.Core.List.{List}
@@ -13,9 +13,9 @@ use Rattle.finite.specs.Logic.{_and_, split}
 use Rattle.model.specs.declared.Admission.{Admission}
 use Rattle.model.specs.declared.Admission.the-variants as admit
 use Rattle.model.specs.Limits.{ROWS, AGENTS}
-use Rattle.model.specs.Table.{HEADER, ROW-BYTES, agentsAt, rowsAt, hasHosts, rowsBegin, rowBytes, rowOf, sourceOf}
-use Rattle.model.specs.Refusal.{versionFits, limitsFit, lengthFits, admission, whenAdmitted}
-use Rattle.laws.specs.AdmissionLaws.{sound-admitted, admitted-sound, agents-fit, rows-fit}
+use Rattle.model.specs.Table.{HEADER, HOSTS, ROW-BYTES, versionAt, agentsAt, rowsAt, hasHosts, rowsBegin, dependencyBytes, dependencyCount}
+use Rattle.model.specs.Refusal.{versionFits, limitsFit, lengthFits, hostsFault, headerFault, admission, whenAdmitted}
+use Rattle.laws.specs.AdmissionLaws.{sound-admitted, admitted-sound, agents-fit, rows-fit, dependencies-fit}
 use Rattle.table.specs.Rows.{shapeFault}
 use Rattle.pieces.specs.declared.RowPlace.{RowPlace}
 use Rattle.pieces.specs.declared.RowPlace.the-variants as place
@@ -28,14 +28,16 @@ use Rattle.writer.specs.declared.WriteAnswer.the-variants as written
 use Rattle.writer.specs.Encode.{withHosts, placesSize, dependenciesSize, tableSize, encode}
 use Rattle.writer.specs.Answer.{versionKnown, countsFit, numbersFit, dependenciesFit, valuesFault, roomAnswer, writeAnswer}
 use Rattle.writer.specs.Parts.{partsAnswer}
+use Rattle.writer.specs.declared.ReadAnswer.the-variants as values
+use Rattle.writer.specs.Read.{lentFit, readAnswer}
 use Rattle.stepping.specs.declared.Stepped.{Stepped}
 use Rattle.stepping.specs.declared.Stepped.the-variants as step
 use Rattle.stepping.specs.Steps.{steppedAt}
 use Rattle.stepping.specs.Promise.{from-refused, from-row, from-end}
 use Rattle.promises.specs.Bounds.{SMALL, admission-small}
-use Rattle.stramashly.specs.Packed.{packed, packOpen, packStep, packWrite, packPlace, rowAnswer}
-use Rattle.numbers.specs.Reading.{CODE, A, B, reads-back, RowSaid, saidOf, SmallAdmission, SmallStep, SmallWrite, SmallPlace, rowBy}
-use Rattle.numbers.specs.Reading.{readOpen, readRow, readWrite, readPlace, open-back, row-back, write-back, place-back}
+use Rattle.stramashly.specs.Packed.{packed, packOpen, packStep, packWrite, packRead, packPlace, rowAnswer}
+use Rattle.numbers.specs.Reading.{CODE, A, B, reads-back, RowSaid, saidOf, SmallAdmission, SmallStep, SmallWrite, SmallValues, SmallPlace, rowBy}
+use Rattle.numbers.specs.Reading.{readOpen, readRow, readWrite, readValues, readPlace, open-back, row-back, write-back, values-back, place-back}
 
 -- ---- an opened table
 
@@ -206,3 +208,35 @@ pub write-reads : (version : ℕ) (places rows dependencies : List ℕ) (room : 
     readWrite (packWrite a) ≡ a
 unfolding partsAnswer
 write-reads version places rows dependencies room = write-back _ (write-fits version _ _ _ _ _ room)
+
+-- ---- the values of a table that were read
+
+header-version : (s : List ℕ) → headerFault s ≡ 0 → versionAt s ≤ HOSTS
+unfolding headerFault versionFits
+header-version s e =
+    leb-true (versionAt s) HOSTS (split (split (go (leb HEADER (length s)) (versionFits s) (limitsFit s) (lengthFits s) (hostsFault s) e) .0) .1)
+  where
+    go : (a b c d : Bool) (n : ℕ) → _≡_ {A = ℕ} (cond a (cond b (cond c (cond d n 4) 3) 2) 1) 0 → b ≡ true
+    go true true c d n q = refl
+    go true false c d n q = absurd (omega arith)
+    go false b c d n q = absurd (omega arith)
+
+read-fits : (s : List ℕ) (places rows dependencies : ℕ) → SmallValues (readAnswer s places rows dependencies)
+unfolding readAnswer whenAdmitted
+read-fits s places rows dependencies = go (lentFit places rows dependencies) (admission true s) refl
+  where
+    go : (b : Bool) (a : Admission) → admission true s ≡ a
+        → SmallValues (cond b
+        (whenAdmitted values.Refused a (values.Read (versionAt s) (agentsAt s) (rowsAt s) (dependencyCount (dependencyBytes s)))) (values.Refused 11 0))
+    go false a e = (omega arith, omega arith)
+    go true (admit.Refused n i) e = admission-fits true s (admit.Refused n i) e
+    go true (admit.Admitted a n) e =
+        let ok = admitted-sound true s e in
+        let x = agents-fit ok in
+        let y = rows-fit ok in
+        let z = dependencies-fit ok in
+        let v = header-version s (ok .header) in
+        (omega arith, omega arith, omega arith, omega arith)
+
+pub read-reads : (s : List ℕ) (places rows dependencies : ℕ) → let a = readAnswer s places rows dependencies in readValues (packRead a) ≡ a
+read-reads s places rows dependencies = values-back _ (read-fits s places rows dependencies)

@@ -1,5 +1,5 @@
 -- The two engines give the same answers. `check` and `check_by_flags` (`verdict`), `fill` and `fill_by_flags` (here) promise their callers
--- `Checked` and `FilledBy`; whoever keeps these promises, on any table and with chains on or off, answers and leaves what every other does.
+-- `Checked` and `FilledBy` by their contracts; whoever keeps these promises, on any table and with chains on or off, answers and leaves what every other does.
 -- Assumes nothing.
 use mathlib.Core.Path.{_≡_, refl, sym, ap, _∙_}
 use mathlib.Core.Bool.{Bool, true, false, cond}
@@ -27,18 +27,8 @@ use Rattle.model.specs.Fill.{Outcome, fill, fillAnswer, sourcesAfter}
 use Rattle.model.specs.Race.{raceRow}
 use Rattle.model.specs.Edge.{consistent}
 use Rattle.pieces.specs.Entry.{left-same}
-use Rattle.verdict.specs.Whole.{Said}
-use Rattle.filling.specs.Whole.{Filled}
-
--- ---- what a caller gets
-
--- of the table s: the answer r; the work area w becomes u, the cycle buffer c becomes d
-abbrev pub Checked : Bool → List ℕ → CheckAnswer → List ℕ → List ℕ → List ℕ → List ℕ → Type 0
-Checked chains s r w u c d = Said (check chains s (length w) (length c)) r w u c d
-
--- the same of a fill, c its source buffer
-abbrev pub FilledBy : Bool → List ℕ → FillAnswer → List ℕ → List ℕ → List ℕ → List ℕ → Type 0
-FilledBy chains s r w u c d = Filled (fill chains s (length w) (length c)) r w u c d
+use Rattle.verdict.specs.Whole.{Said, Checked}
+use Rattle.filling.specs.Whole.{Filled, FilledBy}
 
 -- no buffer is refused for its length (11)
 abbrev pub LongEnough : ℕ → List ℕ → List ℕ → Type 0

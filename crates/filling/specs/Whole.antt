@@ -19,7 +19,7 @@ use Rattle.model.specs.Table.{Table, sourceOf, decode}
 use Rattle.model.specs.Race.{raceRow, racePartner, raceByte}
 use Rattle.model.specs.Edge.{consistent}
 use Rattle.model.specs.Check.{raceOr, wiped}
-use Rattle.model.specs.Fill.{Outcome, refused, race, none, filled, blank, chosen, sourcesFit, filledOr, outcome, fillAnswer, sourcesAfter, workAfter}
+use Rattle.model.specs.Fill.{Outcome, refused, race, none, filled, blank, chosen, sourcesFit, filledOr, outcome, fill, fillAnswer, sourcesAfter, workAfter}
 use Rattle.laws.specs.SourceLaws.{filled-same}
 use Rattle.area.specs.Regions.{MUTUAL, LOCATED-END, EDGE, LAYERS-END}
 use Rattle.axioms.specs.Sources.{sourceIn}
@@ -80,6 +80,14 @@ outcome-wiped t source w = go (ltb (raceRow t) (t .rows))
 -- what comes back, by the outcome
 abbrev pub Filled : Outcome → FillAnswer → List ℕ → List ℕ → List ℕ → List ℕ → Type 0
 Filled o r w u c d = Left fillAnswer workAfter sourcesAfter o r w u c d
+
+-- the fill of the table s: the answer r; the work area w becomes u, the source buffer c becomes d
+abbrev pub FilledBy : Bool → List ℕ → FillAnswer → List ℕ → List ℕ → List ℕ → List ℕ → Type 0
+FilledBy chains s r w u c d = Filled (fill chains s (length w) (length c)) r w u c d
+
+-- the same of a table in two pieces, f and s
+abbrev pub FilledBoth : Bool → List ℕ → List ℕ → FillAnswer → List ℕ → List ℕ → List ℕ → List ℕ → Type 0
+FilledBoth chains f s r w u c d = Filled (fillBoth chains f s (length w) (length c)) r w u c d
 
 module _ (chains : Bool) (f s w c : List ℕ) (a : Admission) (e : a ≡ doorBoth SOURCES true f s (length w) (length c)) where
   abbrev told : Outcome

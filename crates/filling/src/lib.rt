@@ -6,11 +6,11 @@ ghost use lib.ListN.{length};
 ghost use Rattle.model.specs.Limits.{WORK, SOURCES};
 ghost use Rattle.model.specs.Table.{sourceOf};
 ghost use Rattle.model.specs.Check.{wiped};
-ghost use Rattle.model.specs.Fill.{fill, outcome, fillAnswer, sourcesAfter, workAfter};
+ghost use Rattle.model.specs.Fill.{outcome, fillAnswer, sourcesAfter};
 ghost use Rattle.laws.specs.FilledLaws.{Bytes};
-ghost use Rattle.pieces.specs.Pieces.{fillBoth};
 ghost use Rattle.run.specs.Layout.{rowsIn, tableIn};
 ghost use Rattle.door.specs.Opened.{RunOf};
+ghost use Rattle.filling.specs.Whole.{FilledBy, FilledBoth};
 use model::Admission;
 use model::FillAnswer;
 use run::Run;
@@ -30,9 +30,17 @@ fn fill_run(t: &Run, n: usize, quick: bool, work: &mut [u64], sources: &mut [u16
     r
 }
 
+// The first byte of a lent slice, 0 where it has none. Asked for what it ensures: the numbers of whatever slice is lent are bytes.
+fn first_byte(piece: &[u8]) -> u8
+    ensures { λ r. ⌜ Bytes (now (piece .entry)) ⌝ }
+{
+    if 0 < piece.len() { piece[0] } else { 0 }
+}
+
 // Fills the blanks of a table in two pieces, whatever bytes they have, on a device with chains or without: a refusal, a race, none, or the
 // sources of all rows in the lent buffer.
-// Whichever engine `quick` says, the answer is this one.
+// Whichever engine `quick` says, the answer is this one. That the numbers of both pieces are bytes is ensured too, for whoever reads what a
+// fill means.
 // Two wrong programs that the contract rules out: one that leaves a choice in the source buffer where the filled table is not
 // consistent; one that names a race and leaves its bits in the work area.
 pub fn fill_by(
@@ -43,11 +51,12 @@ pub fn fill_by(
     work: &mut [u64],
     sources: &mut [u16],
 ) -> FillAnswer
-    ensures { λ r. let answer = fillBoth chains (now (first .entry)) (now (second .entry)) (length (now (work .entry))) (length (now (sources .entry))) in
-        ⌜ (r ≡ fillAnswer answer)
-        × (now (work .exit) ≡ workAfter answer (now (work .entry)))
-        × (now (sources .exit) ≡ sourcesAfter answer (now (sources .entry))) ⌝ }
+    ensures { λ r. ⌜ FilledBoth chains (now (first .entry)) (now (second .entry)) r
+        (now (work .entry)) (now (work .exit)) (now (sources .entry)) (now (sources .exit))
+        × Bytes (now (first .entry)) × Bytes (now (second .entry)) ⌝ }
 {
+    first_byte(first);
+    first_byte(second);
     let mut t = [0u8; run::SIZE];
     let a = door::enter(
         first,
@@ -81,30 +90,18 @@ pub fn fill_both(
     work: &mut [u64],
     sources: &mut [u16],
 ) -> FillAnswer
-    ensures { λ r. let answer = fillBoth chains (now (first .entry)) (now (second .entry)) (length (now (work .entry))) (length (now (sources .entry))) in
-        ⌜ (r ≡ fillAnswer answer)
-        × (now (work .exit) ≡ workAfter answer (now (work .entry)))
-        × (now (sources .exit) ≡ sourcesAfter answer (now (sources .entry))) ⌝ }
+    ensures { λ r. ⌜ FilledBoth chains (now (first .entry)) (now (second .entry)) r
+        (now (work .entry)) (now (work .exit)) (now (sources .entry)) (now (sources .exit))
+        × Bytes (now (first .entry)) × Bytes (now (second .entry)) ⌝ }
 {
     fill_by(first, second, chains, true, work, sources)
 }
 
-// The first byte of a table, 0 where it has none. Asked for what it ensures: the numbers of whatever table is lent are bytes.
-fn first_byte(table: &[u8]) -> u8
-    ensures { λ r. ⌜ Bytes (now (table .entry)) ⌝ }
-{
-    if 0 < table.len() { table[0] } else { 0 }
-}
-
-// Fills the blanks of a table in one piece. That the table's numbers are bytes is ensured too, for whoever reads what a fill means.
+// Fills the blanks of a table in one piece.
 pub fn fill(table: &[u8], chains: bool, work: &mut [u64], sources: &mut [u16]) -> FillAnswer
-    ensures { λ r. let answer = fill chains (now (table .entry)) (length (now (work .entry))) (length (now (sources .entry))) in
-        ⌜ (r ≡ fillAnswer answer)
-        × (now (work .exit) ≡ workAfter answer (now (work .entry)))
-        × (now (sources .exit) ≡ sourcesAfter answer (now (sources .entry)))
+    ensures { λ r. ⌜ FilledBy chains (now (table .entry)) r (now (work .entry)) (now (work .exit)) (now (sources .entry)) (now (sources .exit))
         × Bytes (now (table .entry)) ⌝ }
 {
-    first_byte(table);
     fill_both(table, &table[..0], chains, work, sources)
 }
 
@@ -116,10 +113,8 @@ pub fn fill_by_flags(
     work: &mut [u64],
     sources: &mut [u16],
 ) -> FillAnswer
-    ensures { λ r. let answer = fill chains (now (table .entry)) (length (now (work .entry))) (length (now (sources .entry))) in
-        ⌜ (r ≡ fillAnswer answer)
-        × (now (work .exit) ≡ workAfter answer (now (work .entry)))
-        × (now (sources .exit) ≡ sourcesAfter answer (now (sources .entry))) ⌝ }
+    ensures { λ r. ⌜ FilledBy chains (now (table .entry)) r (now (work .entry)) (now (work .exit)) (now (sources .entry)) (now (sources .exit))
+        × Bytes (now (table .entry)) ⌝ }
 {
     fill_by(table, &table[..0], chains, false, work, sources)
 }

@@ -7,6 +7,7 @@ use Prim.Native.Nat.{ℕ, _%_, _≤_, _<_}
 use native.Mathlib.Omega.{arith}
 use lib.ListN.{length}
 use lib.Dec.{leb, eqb}
+use lib.Ieee.{Float}
 use borrow.Author.Tests.{leb-true}
 use Rattle.model.specs.declared.Reason.{Reason}
 use Rattle.model.specs.declared.ReportAnswer.{ReportAnswer}
@@ -24,9 +25,9 @@ use Rattle.table.specs.Rows.{shapeFault}
 use Rattle.pieces.specs.Pieces.{rowsBoth, countBoth, piecesFault, joined, ofBoth, checkBoth, fillBoth, reportBoth, deriveBoth, judgeBoth}
 use Rattle.promises.specs.Bounds.{SMALL, SmallVerdict, SmallOutcome, SmallJudged, verdict-small, outcome-small, report-small, derived-small, reader-refusal}
 use Rattle.promises.specs.ReasonExactly as reasons
-use Rattle.stramashly.specs.Packed.{packCheck, packFill, packDerive, packAccept, packReport}
+use Rattle.stramashly.specs.Packed.{packCheck, packFill, packDerive, packAccept, packReport, shareAfter}
 use Rattle.numbers.specs.Reading.{CODE, A, B, C, readCheck, readFill, readDerive, readAccept, readReport}
-use Rattle.numbers.specs.Reading.{reads-back, tellBy, check-back, fill-back, derive-back, accept-back, report-back}
+use Rattle.numbers.specs.Reading.{check-back, fill-back, derive-back, accept-back, report-back}
 use Rattle.numbers.specs.Numbers
 
 -- ---- read back
@@ -39,8 +40,9 @@ pub fill-reads : (chains : Bool) (s : List ℕ) (work buffer : ℕ)
     → readFill (packFill (fillAnswer (fill chains s work buffer)) (rowsAt s)) ≡ fillAnswer (fill chains s work buffer)
 fill-reads chains s work buffer = fill-back (rowsAt s) (fill chains s work buffer) (outcome-small chains s work buffer _ refl)
 
-pub report-reads : (chains : Bool) (s : List ℕ) (work buffer : ℕ) → readReport (packReport (report chains s work buffer)) ≡ report chains s work buffer
-report-reads chains s work buffer = report-back chains s work buffer (report chains s work buffer) refl (report-small chains s work buffer _ refl)
+pub report-reads : (chains : Bool) (s : List ℕ) (work buffer : ℕ) (x : Float)
+    → let a = report chains s work buffer in readReport (packReport a) (shareAfter a x) ≡ a
+report-reads chains s work buffer x = report-back (report chains s work buffer) x (report-small chains s work buffer _ refl)
 
 pub derive-reads : (s : List ℕ) (m k work buffer : ℕ)
     → readDerive (packDerive (deriveAnswer (derive s m k work buffer))) ≡ deriveAnswer (derive s m k work buffer)
@@ -94,10 +96,6 @@ count-small f s = go (leb (rowsBoth f s) ROWS) refl
     go true e = let l = leb-true (rowsBoth f s) ROWS e in omega arith
     go false e = omega arith
 
-report-short : (n : ℕ) → n < SMALL → readReport (packReport (told.Refused n 0)) ≡ told.Refused n 0
-unfolding tellBy packReport
-report-short n l = let p = reads-back 4 n 0 0 l (omega arith) (omega arith) in rw (p .0, p .1, p .2) refl
-
 pub check2-reads : (chains : Bool) (f s : List ℕ) (work buffer : ℕ)
     → readCheck (packCheck (checkAnswer (checkBoth chains f s work buffer))) ≡ checkAnswer (checkBoth chains f s work buffer)
 unfolding checkBoth
@@ -130,14 +128,17 @@ fill2-reads chains f s work buffer =
     few Outcome.none e = tt
     few (Outcome.filled l) e = count-small f s
 
-pub report2-reads : (chains : Bool) (f s : List ℕ) (work buffer : ℕ)
-    → readReport (packReport (reportBoth chains f s work buffer)) ≡ reportBoth chains f s work buffer
+pub report2-reads : (chains : Bool) (f s : List ℕ) (work buffer : ℕ) (x : Float)
+    → let a = reportBoth chains f s work buffer in readReport (packReport a) (shareAfter a x) ≡ a
 unfolding reportBoth
-report2-reads chains f s work buffer =
-    by-buffers Reads (buffersFit CYCLE work buffer) _ _ (by-pieces Reads told.Refused _ f s report-short (report-reads chains (joined f s) work buffer)) (report-short 11 (omega arith))
+report2-reads chains f s work buffer x =
+    by-buffers Reads (buffersFit CYCLE work buffer) _ _ (by-pieces Reads told.Refused _ f s short (report-reads chains (joined f s) work buffer x)) (short 11 (omega arith))
   where
     Reads : ReportAnswer → Type 0
-    Reads a = readReport (packReport a) ≡ a
+    Reads a = readReport (packReport a) (shareAfter a x) ≡ a
+
+    short : (n : ℕ) → n < SMALL → Reads (told.Refused n 0)
+    short n l = report-back (told.Refused n 0) x (l, omega arith)
 
 pub derive2-reads : (f s : List ℕ) (m k work buffer : ℕ)
     → readDerive (packDerive (deriveAnswer (deriveBoth f s m k work buffer))) ≡ deriveAnswer (deriveBoth f s m k work buffer)

@@ -1,36 +1,43 @@
--- The number that a function gives to C, to be read like crates/promises/specs/Main.antt: each proof names a theorem of
--- a page beside this one. The contract of a C function is an equation `r ≡ pack… (…)`; here is what that number says.
+-- What the number that C gets says, to be read like crates/promises/specs/Main.antt: each proof names a theorem of a page
+-- beside this one. The contract of a C function is an equation `r ≡ pack… (…)` (crates/stramashly/specs/Packed.antt).
 --
--- `CODE`, `A`, `B` and `C` (Reading.antt) are the header's macros STRAMASHLY_CODE, _A, _B and _C, and the sum of the
--- three parts is STRAMASHLY_CONFLICTING.
+-- `CODE`, `A`, `B` and `C` (Reading.antt) are the header's macros STRAMASHLY_CODE, _A, _B and _C. `read… r` is the answer
+-- that a number r is read as.
 use mathlib.Core.Path.{_≡_}
-use mathlib.Core.Bool.{Bool}
+use mathlib.Core.Bool.{Bool, true}
 use mathlib.Core.List.{List}
 use mathlib.Core.Logic.{_↔_}
-use Prim.Native.Nat.{ℕ, _+_, _<_}
-use lib.ListN.{length}
+use Prim.Native.Nat.{ℕ, _+_, _*_, _≤_, _<_}
+use lib.ListN.{length, take, drop}
+use lib.Ieee.{Float}
+use Rattle.model.specs.declared.Admission.the-variants.{Admitted, Refused}
 use Rattle.model.specs.declared.{Reason.Reason, Report.Report, ReportAnswer.ReportAnswer}
-use Rattle.model.specs.Table.{rowsAt}
+use Rattle.model.specs.Table.{ROW-BYTES, rowsAt, rowBytes}
+use Rattle.model.specs.Refusal.{admission}
 use Rattle.model.specs.Check.{Verdict, check, checkAnswer}
 use Rattle.model.specs.Fill.{Outcome, fill, fillAnswer}
 use Rattle.model.specs.Reason.{derive, deriveAnswer, judge, acceptAnswer}
-use Rattle.model.specs.Report.{shareOf, report}
-use Rattle.pieces.specs.Pieces.{countBoth, checkBoth, fillBoth, reportBoth, deriveBoth, judgeBoth}
+use Rattle.model.specs.Report.{report}
+use Rattle.pieces.specs.Pieces.{countBoth, checkBoth, fillBoth, reportBoth, deriveBoth, judgeBoth, rowPlace}
+use Rattle.writer.specs.Parts.{partsAnswer}
+use Rattle.writer.specs.Read.{readAnswer}
 use Rattle.promises.specs.Terms.{Bytes}
 use Rattle.promises.specs.Main.{CheckMeans, FillMeans}
-use Rattle.stramashly.specs.Packed.{packed, packCheck, packFill, packDerive, packAccept, packReport, floatOf}
+use Rattle.stramashly.specs.Packed.{packed, packCheck, packFill, packDerive, packAccept, packReport, shareAfter}
+use Rattle.stramashly.specs.Packed.{packOpen, packWrite, packRead, packPlace, rowAnswer, rowAfter}
 use Rattle.numbers.specs.Reading.{CODE, A, B, C, readCheck, readFill, readDerive, readAccept, readReport}
+use Rattle.numbers.specs.Reading.{readOpen, readRow, readWrite, readValues, readPlace}
+use Rattle.numbers.specs.RowNumbers.{rowSaid}
 use Rattle.numbers.specs as beside
 
 -- ==== A number has one reading
 
--- what is packed of a code and parts below 65536 is taken apart again
+-- a code and three parts below 65536 are read back from the number that they are packed in
 pub packed-reads : (code a b c : ℕ) → a < 65536 → b < 65536 → c < 65536 → let r = packed code a b c in
     (CODE r ≡ code) × (A r ≡ a) × (B r ≡ b) × (C r ≡ c)
 packed-reads = beside.Reading.reads-back
 
--- and each function's number is read back as its answer, so that no two answers have one number. A report is read with
--- its share, which is the one that stramashly_share gives for its parts; that no pair conflicts is no report
+-- each function's number is read as its answer, so that no two answers have one number
 pub check-reads : (chains : Bool) (s : List ℕ) (work buffer : ℕ) → let a = checkAnswer (check chains s work buffer) in
     readCheck (packCheck a) ≡ a
 check-reads = beside.Given.check-reads
@@ -39,10 +46,6 @@ pub fill-reads : (chains : Bool) (s : List ℕ) (work buffer : ℕ) → let a = 
     readFill (packFill a (rowsAt s)) ≡ a
 fill-reads = beside.Given.fill-reads
 
-pub report-reads : (chains : Bool) (s : List ℕ) (work buffer : ℕ) → let a = report chains s work buffer in
-    readReport (packReport a) ≡ a
-report-reads = beside.Given.report-reads
-
 pub derive-reads : (s : List ℕ) (m k work buffer : ℕ) → let a = deriveAnswer (derive s m k work buffer) in
     readDerive (packDerive a) ≡ a
 derive-reads = beside.Given.derive-reads
@@ -50,6 +53,29 @@ derive-reads = beside.Given.derive-reads
 pub accept-reads : (s : List ℕ) (m k : ℕ) (r : Reason) (l : List ℕ) → let a = acceptAnswer (judge s m k r l) in
     readAccept (packAccept a) ≡ a
 accept-reads = beside.Given.accept-reads
+
+-- a report is read from the number and the share that was handed out; x is what the share's place held before
+pub report-reads : (chains : Bool) (s : List ℕ) (work buffer : ℕ) (x : Float) → let a = report chains s work buffer in
+    readReport (packReport a) (shareAfter a x) ≡ a
+report-reads = beside.Given.report-reads
+
+-- the functions about rows and bytes. Of a step the number has all but the row, which is in the buffer (row-given)
+pub open-reads : (s : List ℕ) → readOpen (packOpen (admission true s)) ≡ admission true s
+open-reads = beside.RowNumbers.open-reads
+
+pub row-reads : (s : List ℕ) (i room : ℕ) → i < 65536 → readRow (rowAnswer s i room) ≡ rowSaid s i room
+row-reads = beside.RowNumbers.row-reads
+
+pub row2-reads : (f s : List ℕ) (n : ℕ) → readPlace (packPlace (rowPlace f s n)) ≡ rowPlace f s n
+row2-reads = beside.RowNumbers.row2-reads
+
+pub write-reads : (version : ℕ) (places rows dependencies : List ℕ) (room : ℕ)
+    → let a = partsAnswer version places rows dependencies room in readWrite (packWrite a) ≡ a
+write-reads = beside.RowNumbers.write-reads
+
+pub read-reads : (s : List ℕ) (places rows dependencies : ℕ)
+    → let a = readAnswer s places rows dependencies in readValues (packRead a) ≡ a
+read-reads = beside.RowNumbers.read-reads
 
 -- the same of a table in two pieces, f and s
 pub check2-reads : (chains : Bool) (f s : List ℕ) (work buffer : ℕ)
@@ -60,8 +86,8 @@ pub fill2-reads : (chains : Bool) (f s : List ℕ) (work buffer : ℕ)
     → let a = fillAnswer (fillBoth chains f s work buffer) in readFill (packFill a (countBoth f s)) ≡ a
 fill2-reads = beside.Given.fill2-reads
 
-pub report2-reads : (chains : Bool) (f s : List ℕ) (work buffer : ℕ)
-    → let a = reportBoth chains f s work buffer in readReport (packReport a) ≡ a
+pub report2-reads : (chains : Bool) (f s : List ℕ) (work buffer : ℕ) (x : Float)
+    → let a = reportBoth chains f s work buffer in readReport (packReport a) (shareAfter a x) ≡ a
 report2-reads = beside.Given.report2-reads
 
 pub derive2-reads : (f s : List ℕ) (m k work buffer : ℕ)
@@ -72,11 +98,33 @@ pub accept2-reads : (f s : List ℕ) (m k : ℕ) (r : Reason) (l : List ℕ)
     → let a = acceptAnswer (judgeBoth f s m k r l) in readAccept (packAccept a) ≡ a
 accept2-reads = beside.Given.accept2-reads
 
--- of a report r, stramashly_share of the racing and of all conflicting pairs is r's share
-pub share-reads : (chains : Bool) (s : List ℕ) (work buffer : ℕ) (r : Report)
-    → report chains s work buffer ≡ ReportAnswer.Report r
-    → floatOf (shareOf (r .racing) (r .mutuals + r .ordered + r .racing)) ≡ r .share
-share-reads = beside.Reading.share-read
+-- ==== A report's share, and a row's bytes
+
+-- the share that C gets is the report's own; where there is no report, its place stays as it was, x
+pub report-share : (r : Report) (x : Float) → shareAfter (ReportAnswer.Report r) x ≡ r .share
+report-share = beside.Rows.report-share
+
+pub no-pairs : (x : Float) → (packReport ReportAnswer.NoPairs ≡ packed 18 0 0 0) × (shareAfter ReportAnswer.NoPairs x ≡ x)
+no-pairs = beside.Rows.no-pairs
+
+-- steps through a table s, with a buffer `out` that has room for a row
+module _ (s : List ℕ) (i : ℕ) (out : List ℕ) (room : ROW-BYTES ≤ length out) where
+  -- what a fill refuses, short buffers aside, gets that refusal at every place, and nothing is written
+  pub row-refused : (k j : ℕ) → admission true s ≡ Refused k j
+      → (rowAnswer s i (length out) ≡ packed 4 k j 0) × (rowAfter s i out ≡ out)
+  row-refused = beside.Rows.row-refused s i out room
+
+  module _ (a n : ℕ) (e : admission true s ≡ Admitted a n) where
+    -- row i is its own sixteen bytes as they stand in the table, the next place is i + 1, and later bytes stay
+    pub row-given : Bytes s → i < n
+        → (rowAnswer s i (length out) ≡ packed 14 (i + 1) 0 0)
+        × (take ROW-BYTES (rowAfter s i out) ≡ take ROW-BYTES (drop (ROW-BYTES * i) (rowBytes s)))
+        × (drop ROW-BYTES (rowAfter s i out) ≡ drop ROW-BYTES out)
+    row-given = beside.Rows.row-given s i out room a n e
+
+    -- past the rows there is the end, at every further call, and nothing is written
+    pub row-end : n ≤ i → (rowAnswer s i (length out) ≡ packed 15 i 0 0) × (rowAfter s i out ≡ out)
+    row-end = beside.Rows.row-end s i out room a n e
 
 -- ==== What the number of stramashly_check says, exactly
 

@@ -1,12 +1,11 @@
 -- How a packed number is read, and that it is read back as what was packed. Assumes nothing.
-use mathlib.Core.Path.{_≡_, refl, sym, ap, _∙_}
-use mathlib.Core.Bool.{Bool, false, cond}
-use mathlib.Core.List.{List}
-use Prim.Native.Nat.{ℕ, _+_, _/_, _%_, _<_}
+use mathlib.Core.Path.{_≡_, refl, ap}
+use mathlib.Core.Bool.{cond}
+use Prim.Native.Nat.{ℕ, _+_, _*_, _/_, _%_, _<_}
 use native.Mathlib.Omega.{arith}
 use lib.ListN.{length}
 use lib.Dec.{eqb}
-use lib.Ieee.{Float, binary64, round}
+use lib.Ieee.{Float}
 use borrow.Author.Tests.{ne-eqb}
 use Rattle.model.specs.declared.CheckAnswer.{CheckAnswer}
 use Rattle.model.specs.declared.CheckAnswer.the-variants as said
@@ -22,10 +21,19 @@ use Rattle.model.specs.declared.ReportAnswer.the-variants as told
 use Rattle.model.specs.Check.{Verdict, checkAnswer}
 use Rattle.model.specs.Fill.{Outcome, fillAnswer}
 use Rattle.model.specs.Reason.{Judged, Derived, acceptAnswer, deriveAnswer}
-use Rattle.model.specs.Report.{quotient, shareOf, report}
+use Rattle.model.specs.declared.Admission.{Admission}
+use Rattle.model.specs.declared.Admission.the-variants as admit
+use Rattle.pieces.specs.declared.RowPlace.{RowPlace}
+use Rattle.pieces.specs.declared.RowPlace.the-variants as place
+use Rattle.writer.specs.declared.WriteAnswer.{WriteAnswer}
+use Rattle.writer.specs.declared.WriteAnswer.the-variants as written
+use Rattle.writer.specs.declared.ReadAnswer.{ReadAnswer}
+use Rattle.writer.specs.declared.ReadAnswer.the-variants as values
+use Rattle.stepping.specs.declared.Stepped.{Stepped}
+use Rattle.stepping.specs.declared.Stepped.the-variants as step
 use Rattle.promises.specs.Bounds.{SMALL, SmallVerdict, SmallOutcome, SmallReport, SmallDerived, SmallJudged}
-use Rattle.promises.specs.ReportExactly.{adds-up, conflicting-some, share-of-parts}
-use Rattle.stramashly.specs.Packed.{packed, PROGRAM-ORDER, packCheck, packFill, packDerive, packAccept, packReport, floatOf}
+use Rattle.stramashly.specs.Packed.{packed, PROGRAM-ORDER, packCheck, packFill, packDerive, packAccept, packReport, shareAfter}
+use Rattle.stramashly.specs.Packed.{packWrite, packRead, packOpen, packStep, packPlace}
 
 -- ---- definitions: the parts of a number, as the header's macros take them
 
@@ -112,45 +120,135 @@ accept-back (Judged.refused n i) h = let p = reads-back 4 n i 0 (h .0) (h .1) (o
 accept-back Judged.accepted h = let p = reads-back 10 0 0 0 (omega arith) (omega arith) (omega arith) in rw (p .0) refl
 accept-back Judged.notAccepted h = let p = reads-back 11 0 0 0 (omega arith) (omega arith) (omega arith) in rw (p .0) refl
 
--- ---- a report's number
+-- ---- a report's number, with the share that was handed out beside it
 
--- the report of three counts, with the share that `stramashly_share` gives for them
-unfoldable pub reportBy : ℕ → ℕ → ℕ → ReportAnswer
-reportBy a b c = cond (eqb (a + b + c) 0) told.NoPairs
-    (told.Report (record { conflicting = a + b + c; mutuals = a; ordered = b; racing = c; share = floatOf (shareOf c (a + b + c)) }))
+-- the report of three counts and a share
+unfoldable pub reportBy : ℕ → ℕ → ℕ → Float → ReportAnswer
+reportBy a b c x = told.Report (record { conflicting = a + b + c; mutuals = a; ordered = b; racing = c; share = x })
 
-unfoldable pub tellBy : ℕ → ℕ → ℕ → ℕ → ReportAnswer
-tellBy k a b c =
-    cond (eqb k 7) (reportBy a b c) (cond (eqb k 2) (told.Overwritten a b c) (cond (eqb k 3) (told.Cycle a) (told.Refused a b)))
+unfoldable pub tellBy : ℕ → ℕ → ℕ → ℕ → Float → ReportAnswer
+tellBy k a b c x = cond (eqb k 7) (reportBy a b c x)
+    (cond (eqb k 18) told.NoPairs (cond (eqb k 2) (told.Overwritten a b c) (cond (eqb k 3) (told.Cycle a) (told.Refused a b))))
 
-abbrev pub readReport : ℕ → ReportAnswer
-readReport r = tellBy (CODE r) (A r) (B r) (C r)
+abbrev pub readReport : ℕ → Float → ReportAnswer
+readReport r x = tellBy (CODE r) (A r) (B r) (C r) x
 
-share-by : (n d : ℕ) → (d ≡ 0 → ⊥) → floatOf (shareOf n d) ≡ round binary64 false n d
-unfolding floatOf shareOf quotient
-share-by n d f = rw (ne-eqb d 0 f) refl
+made : (r : Report) (d : ℕ) → d ≡ r .conflicting
+    → record { conflicting = d; mutuals = r .mutuals; ordered = r .ordered; racing = r .racing; share = r .share } ≡ r
+made r d e = rw e refl
 
-made : (r : Report) (d : ℕ) (f : Float) → d ≡ r .conflicting → f ≡ r .share
-    → record { conflicting = d; mutuals = r .mutuals; ordered = r .ordered; racing = r .racing; share = f } ≡ r
-made r d f p q = rw (p, q) refl
+pub report-back : (a : ReportAnswer) (x : Float) → SmallReport a → readReport (packReport a) (shareAfter a x) ≡ a
+unfolding tellBy reportBy packReport shareAfter
+report-back (told.Refused n i) x h = let p = reads-back 4 n i 0 (h .0) (h .1) (omega arith) in rw (p .0, p .1, p .2) refl
+report-back (told.Cycle k) x h = let p = reads-back 3 k 0 0 h (omega arith) (omega arith) in rw (p .0, p .1) refl
+report-back (told.Overwritten y z b) x h = let p = reads-back 2 y z b (h .0) (h .1) (h .2) in rw (p .0, p .1, p .2, p .3) refl
+report-back told.NoPairs x h = let p = reads-back 18 0 0 0 (omega arith) (omega arith) (omega arith) in rw (p .0) refl
+report-back (told.Report r) x h =
+    let p = reads-back 7 (r .mutuals) (r .ordered) (r .racing) (h .2) (h .3) (h .4) in
+    rw (p .0, p .1, p .2, p .3) (ap told.Report (made r (r .mutuals + r .ordered + r .racing) (h .1)))
 
-module _ (chains : Bool) (s : List ℕ) (work buffer : ℕ) where
-  -- the share of the parts is the report's
-  pub share-read : (r : Report) → report chains s work buffer ≡ told.Report r → floatOf (shareOf (r .racing) (r .mutuals + r .ordered + r .racing)) ≡ r .share
-  share-read r e =
-      let a = adds-up chains s work buffer r e in
-      let p = conflicting-some chains s work buffer r e in
-      share-by (r .racing) (r .mutuals + r .ordered + r .racing) (λ z. omega arith) ∙ sym (share-of-parts chains s work buffer r e)
+-- ---- the number of an opened table
 
-  pub report-back : (a : ReportAnswer) → report chains s work buffer ≡ a → SmallReport a → readReport (packReport a) ≡ a
-  unfolding tellBy reportBy packReport
-  report-back (told.Refused n i) e h = let p = reads-back 4 n i 0 (h .0) (h .1) (omega arith) in rw (p .0, p .1, p .2) refl
-  report-back (told.Cycle k) e h = let p = reads-back 3 k 0 0 h (omega arith) (omega arith) in rw (p .0, p .1) refl
-  report-back (told.Overwritten y z b) e h = let p = reads-back 2 y z b (h .0) (h .1) (h .2) in rw (p .0, p .1, p .2, p .3) refl
-  report-back told.NoPairs e h = let p = reads-back 7 0 0 0 (omega arith) (omega arith) (omega arith) in rw (p .0, p .1, p .2, p .3) refl
-  report-back (told.Report r) e h =
-      let p = reads-back 7 (r .mutuals) (r .ordered) (r .racing) (h .2) (h .3) (h .4) in
-      let some = h .0 in
-      let sum = h .1 in
-      rw (p .0, p .1, p .2, p .3, ne-eqb (r .mutuals + r .ordered + r .racing) 0 (λ z. omega arith))
-      (ap told.Report (made r (r .mutuals + r .ordered + r .racing) _ sum (share-read r e)))
+unfoldable pub openBy : ℕ → ℕ → ℕ → Admission
+openBy k a b = cond (eqb k 13) (admit.Admitted b a) (admit.Refused a b)
+
+abbrev pub readOpen : ℕ → Admission
+readOpen r = openBy (CODE r) (A r) (B r)
+
+abbrev pub SmallAdmission : Admission → Type 0
+SmallAdmission (admit.Refused n i) = (n < SMALL) × (i < SMALL)
+SmallAdmission (admit.Admitted a n) = (a < SMALL) × (n < SMALL)
+
+pub open-back : (x : Admission) → SmallAdmission x → readOpen (packOpen x) ≡ x
+unfolding openBy packOpen
+open-back (admit.Refused n i) h = let p = reads-back 4 n i 0 (h .0) (h .1) (omega arith) in rw (p .0, p .1, p .2) refl
+open-back (admit.Admitted a n) h = let p = reads-back 13 n a 0 (h .1) (h .0) (omega arith) in rw (p .0, p .1, p .2) refl
+
+-- ---- a step's number: the row itself stands in the buffer
+
+pub data RowSaid : Type 0 where
+  refused : ℕ → ℕ → RowSaid
+  row : ℕ → RowSaid
+  end : ℕ → RowSaid
+
+-- what of a step's answer is in the number
+unfoldable pub saidOf : Stepped → RowSaid
+saidOf (step.Refused n i) = RowSaid.refused n i
+saidOf (step.Row r s next) = RowSaid.row next
+saidOf (step.End next) = RowSaid.end next
+
+unfoldable pub rowBy : ℕ → ℕ → ℕ → RowSaid
+rowBy k a b = cond (eqb k 14) (RowSaid.row a) (cond (eqb k 15) (RowSaid.end a) (RowSaid.refused a b))
+
+abbrev pub readRow : ℕ → RowSaid
+readRow r = rowBy (CODE r) (A r) (B r)
+
+abbrev pub SmallStep : Stepped → Type 0
+SmallStep (step.Refused n i) = (n < SMALL) × (i < SMALL)
+SmallStep (step.Row r s next) = next < SMALL
+SmallStep (step.End next) = next < SMALL
+
+pub row-back : (x : Stepped) → SmallStep x → readRow (packStep x) ≡ saidOf x
+unfolding rowBy packStep saidOf
+row-back (step.Refused n i) h = let p = reads-back 4 n i 0 (h .0) (h .1) (omega arith) in rw (p .0, p .1, p .2) refl
+row-back (step.Row r s next) h = let p = reads-back 14 next 0 0 h (omega arith) (omega arith) in rw (p .0, p .1) refl
+row-back (step.End next) h = let p = reads-back 15 next 0 0 h (omega arith) (omega arith) in rw (p .0, p .1) refl
+
+-- ---- a writer's number
+
+unfoldable pub writeBy : ℕ → ℕ → ℕ → WriteAnswer
+writeBy k a b = cond (eqb k 12) (written.Written a) (written.Refused a b)
+
+abbrev pub readWrite : ℕ → WriteAnswer
+readWrite r = writeBy (CODE r) (A r) (B r)
+
+abbrev pub SmallWrite : WriteAnswer → Type 0
+SmallWrite (written.Refused n i) = (n < SMALL) × (i < SMALL)
+SmallWrite (written.Written m) = m < SMALL
+
+pub write-back : (x : WriteAnswer) → SmallWrite x → readWrite (packWrite x) ≡ x
+unfolding writeBy packWrite
+write-back (written.Refused n i) h = let p = reads-back 4 n i 0 (h .0) (h .1) (omega arith) in rw (p .0, p .1, p .2) refl
+write-back (written.Written m) h = let p = reads-back 12 m 0 0 h (omega arith) (omega arith) in rw (p .0, p .1) refl
+
+-- ---- a reader's number: the version and the agents share a part
+
+unfoldable pub valuesBy : ℕ → ℕ → ℕ → ℕ → ReadAnswer
+valuesBy k a b c = cond (eqb k 19) (values.Read (a / 256) (a % 256) b c) (values.Refused a b)
+
+abbrev pub readValues : ℕ → ReadAnswer
+readValues r = valuesBy (CODE r) (A r) (B r) (C r)
+
+abbrev pub SmallValues : ReadAnswer → Type 0
+SmallValues (values.Refused n i) = (n < SMALL) × (i < SMALL)
+SmallValues (values.Read version agents rows n) = (version < 256) × (agents < 256) × (rows < SMALL) × (n < SMALL)
+
+pub values-back : (x : ReadAnswer) → SmallValues x → readValues (packRead x) ≡ x
+unfolding valuesBy packRead
+values-back (values.Refused n i) h = let p = reads-back 4 n i 0 (h .0) (h .1) (omega arith) in rw (p .0, p .1, p .2) refl
+values-back (values.Read version agents rows n) h =
+    let v = h .0 in
+    let a = h .1 in
+    let p = reads-back 19 (version * 256 + agents) rows n (omega arith) (h .2) (h .3) in
+    let q : (version * 256 + agents) / 256 ≡ version = omega arith in
+    let r : (version * 256 + agents) % 256 ≡ agents = omega arith in
+    rw (p .0, p .1, p .2, p .3, q, r) refl
+
+-- ---- the number of a row's place
+
+unfoldable pub placeBy : ℕ → ℕ → ℕ → RowPlace
+placeBy k a b = cond (eqb k 16) (cond (eqb a 0) (place.First b) (place.Second b)) place.Neither
+
+abbrev pub readPlace : ℕ → RowPlace
+readPlace r = placeBy (CODE r) (A r) (B r)
+
+abbrev pub SmallPlace : RowPlace → Type 0
+SmallPlace (place.First at) = at < SMALL
+SmallPlace (place.Second at) = at < SMALL
+SmallPlace place.Neither = Unit
+
+pub place-back : (x : RowPlace) → SmallPlace x → readPlace (packPlace x) ≡ x
+unfolding placeBy packPlace
+place-back (place.First at) h = let p = reads-back 16 0 at 0 (omega arith) h (omega arith) in rw (p .0, p .1, p .2) refl
+place-back (place.Second at) h = let p = reads-back 16 1 at 0 (omega arith) h (omega arith) in rw (p .0, p .1, p .2) refl
+place-back place.Neither h = let p = reads-back 17 0 0 0 (omega arith) (omega arith) (omega arith) in rw (p .0) refl

@@ -1,5 +1,4 @@
--- What C is handed, in its reader's words: a number can be taken apart again; rows are a table's own sixteen bytes, one step at a time; a
--- report's share is the report's. A page to read beside Packed.antt. Assumes nothing.
+-- What stepping hands to C: a table's own sixteen bytes, a row at a time; and a report's share. Assumes nothing.
 use mathlib.Core.Path.{_≡_, refl, ap, _∙_}
 use mathlib.Core.Bool.{true}
 use mathlib.Core.List.{List}
@@ -22,25 +21,6 @@ use Rattle.stepping.specs.declared.Stepped.the-variants as step
 use Rattle.stepping.specs.Steps.{steppedAt}
 use Rattle.stepping.specs.Promise.{from-refused, from-row, from-end}
 use Rattle.stramashly.specs.Packed.{packed, packReport, shareAfter, packStep, stepPut, rowAnswer, rowAfter}
-
--- ---- a packed answer, taken apart
-
-module _ (code a b c : ℕ) (ha : a < 65536) (hb : b < 65536) (hc : c < 65536) where
-  pub code-of : packed code a b c / 281474976710656 ≡ code
-  unfolding packed
-  code-of = omega arith
-
-  pub first-of : packed code a b c / 4294967296 % 65536 ≡ a
-  unfolding packed
-  first-of = omega arith
-
-  pub second-of : packed code a b c / 65536 % 65536 ≡ b
-  unfolding packed
-  second-of = omega arith
-
-  pub third-of : packed code a b c % 65536 ≡ c
-  unfolding packed
-  third-of = omega arith
 
 -- ---- the report's share is the struct's own; where there is no report, the number lent for it stays
 

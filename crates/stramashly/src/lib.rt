@@ -274,7 +274,8 @@ pub extern "C" fn stramashly_fill_by_flags(
     ensures { λ r. let answer = fill (isOn chains) (now (table .entry)) (length (now (work .entry))) (length (now (sources .entry))) in
         ⌜ (r ≡ packFill (fillAnswer answer) (rowsAt (now (table .entry))))
         × (now (work .exit) ≡ Fill.workAfter answer (now (work .entry)))
-        × (now (sources .exit) ≡ sourcesAfter answer (now (sources .entry))) ⌝ }
+        × (now (sources .exit) ≡ sourcesAfter answer (now (sources .entry)))
+        × Bytes (now (table .entry)) ⌝ }
 {
     let answer = filling::fill_by_flags(table, !(chains == 0), work, sources);
     pack_fill(answer, bytes::rows_at(table))
@@ -432,7 +433,8 @@ pub extern "C" fn stramashly_fill2(
         (length (now (work .entry))) (length (now (sources .entry))) in
         ⌜ (r ≡ packFill (fillAnswer answer) (countBoth (now (first .entry)) (now (second .entry))))
         × (now (work .exit) ≡ Fill.workAfter answer (now (work .entry)))
-        × (now (sources .exit) ≡ sourcesAfter answer (now (sources .entry))) ⌝ }
+        × (now (sources .exit) ≡ sourcesAfter answer (now (sources .entry)))
+        × Bytes (now (first .entry)) × Bytes (now (second .entry)) ⌝ }
 {
     let answer = filling::fill_both(first, second, !(chains == 0), work, sources);
     pack_fill(answer, pieces::count_both(first, second))

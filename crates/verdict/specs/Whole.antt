@@ -17,7 +17,7 @@ use Rattle.model.specs.Limits.{WORK, CYCLE}
 use Rattle.model.specs.Table.{Table, sourceOf, decode}
 use Rattle.model.specs.Race.{raceRow, racePartner, raceByte}
 use Rattle.model.specs.Edge.{cycleRow, cycleRows, cycleEdges, overReader, overWriter, overByte}
-use Rattle.model.specs.Check.{Verdict, refused, cyclic, overwritten, race, raceFree, raceOr, overwrittenOr, cyclicOr, verdict, checkAnswer, cycleAfter}
+use Rattle.model.specs.Check.{Verdict, refused, cyclic, overwritten, race, raceFree, raceOr, overwrittenOr, cyclicOr, verdict, check, checkAnswer, cycleAfter}
 use Rattle.model.specs.Check.{workAfter, wiped}
 use Rattle.laws.specs.SourceLaws.{verdict-same}
 use Rattle.area.specs.Regions.{MUTUAL, LOCATED-END, EDGE, LAYERS-END}
@@ -87,6 +87,14 @@ verdict-wipes t source w = go (ltb (cycleRow t source) (t .rows)) (ltb (overRead
 -- what a check says, and what its buffers hold
 abbrev pub Said : Verdict → CheckAnswer → List ℕ → List ℕ → List ℕ → List ℕ → Type 0
 Said v r w x c d = Left checkAnswer workAfter cycleAfter v r w x c d
+
+-- the check of the table s: the answer r; the work area w becomes x, the cycle buffer c becomes d
+abbrev pub Checked : Bool → List ℕ → CheckAnswer → List ℕ → List ℕ → List ℕ → List ℕ → Type 0
+Checked chains s r w x c d = Said (check chains s (length w) (length c)) r w x c d
+
+-- the same of a table in two pieces, f and s
+abbrev pub CheckedBoth : Bool → List ℕ → List ℕ → CheckAnswer → List ℕ → List ℕ → List ℕ → List ℕ → Type 0
+CheckedBoth chains f s r w x c d = Said (checkBoth chains f s (length w) (length c)) r w x c d
 
 module _ (chains : Bool) (f s w c : List ℕ) (a : Admission) (e : a ≡ doorBoth CYCLE false f s (length w) (length c)) where
   abbrev told : Verdict

@@ -5,10 +5,10 @@ ghost use Prim.Native.Nat.{_≤_};
 ghost use lib.ListN.{length};
 ghost use Rattle.model.specs.Limits.{WORK, CYCLE};
 ghost use Rattle.model.specs.Table.{sourceOf};
-ghost use Rattle.model.specs.Check.{verdict, check, checkAnswer, cycleAfter, workAfter, wiped};
-ghost use Rattle.pieces.specs.Pieces.{checkBoth};
+ghost use Rattle.model.specs.Check.{verdict, checkAnswer, cycleAfter, wiped};
 ghost use Rattle.run.specs.Layout.{rowsIn, tableIn};
 ghost use Rattle.door.specs.Opened.{RunOf};
+ghost use Rattle.verdict.specs.Whole.{Checked, CheckedBoth};
 use model::Admission;
 use model::CheckAnswer;
 use run::Run;
@@ -39,10 +39,8 @@ pub fn check_by(
     work: &mut [u64],
     cycle: &mut [u16],
 ) -> CheckAnswer
-    ensures { λ r. let answer = checkBoth chains (now (first .entry)) (now (second .entry)) (length (now (work .entry))) (length (now (cycle .entry))) in
-        ⌜ (r ≡ checkAnswer answer)
-        × (now (work .exit) ≡ workAfter answer (now (work .entry)))
-        × (now (cycle .exit) ≡ cycleAfter answer (now (cycle .entry))) ⌝ }
+    ensures { λ r. ⌜ CheckedBoth chains (now (first .entry)) (now (second .entry)) r
+        (now (work .entry)) (now (work .exit)) (now (cycle .entry)) (now (cycle .exit)) ⌝ }
 {
     let mut t = [0u8; run::SIZE];
     let a = door::enter(
@@ -77,10 +75,8 @@ pub fn check_both(
     work: &mut [u64],
     cycle: &mut [u16],
 ) -> CheckAnswer
-    ensures { λ r. let answer = checkBoth chains (now (first .entry)) (now (second .entry)) (length (now (work .entry))) (length (now (cycle .entry))) in
-        ⌜ (r ≡ checkAnswer answer)
-        × (now (work .exit) ≡ workAfter answer (now (work .entry)))
-        × (now (cycle .exit) ≡ cycleAfter answer (now (cycle .entry))) ⌝ }
+    ensures { λ r. ⌜ CheckedBoth chains (now (first .entry)) (now (second .entry)) r
+        (now (work .entry)) (now (work .exit)) (now (cycle .entry)) (now (cycle .exit)) ⌝ }
 {
     check_by(first, second, chains, true, work, cycle)
 }
@@ -88,10 +84,7 @@ pub fn check_both(
 // Judges one recorded run in one piece.
 // Ruled out: one that answers race-free to every table.
 pub fn check(table: &[u8], chains: bool, work: &mut [u64], cycle: &mut [u16]) -> CheckAnswer
-    ensures { λ r. let answer = check chains (now (table .entry)) (length (now (work .entry))) (length (now (cycle .entry))) in
-        ⌜ (r ≡ checkAnswer answer)
-        × (now (work .exit) ≡ workAfter answer (now (work .entry)))
-        × (now (cycle .exit) ≡ cycleAfter answer (now (cycle .entry))) ⌝ }
+    ensures { λ r. ⌜ Checked chains (now (table .entry)) r (now (work .entry)) (now (work .exit)) (now (cycle .entry)) (now (cycle .exit)) ⌝ }
 {
     check_both(table, &table[..0], chains, work, cycle)
 }
@@ -104,10 +97,7 @@ pub fn check_by_flags(
     work: &mut [u64],
     cycle: &mut [u16],
 ) -> CheckAnswer
-    ensures { λ r. let answer = check chains (now (table .entry)) (length (now (work .entry))) (length (now (cycle .entry))) in
-        ⌜ (r ≡ checkAnswer answer)
-        × (now (work .exit) ≡ workAfter answer (now (work .entry)))
-        × (now (cycle .exit) ≡ cycleAfter answer (now (cycle .entry))) ⌝ }
+    ensures { λ r. ⌜ Checked chains (now (table .entry)) r (now (work .entry)) (now (work .exit)) (now (cycle .entry)) (now (cycle .exit)) ⌝ }
 {
     check_by(table, &table[..0], chains, false, work, cycle)
 }

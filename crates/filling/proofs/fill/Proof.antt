@@ -8,8 +8,8 @@ use Rattle.filling.proofs.fill.Tie as tie
 
 returns : tie.Need-returns
 returns c =
-    let left = left-same fillAnswer workAfter sourcesAfter (sym (none-fill _ _ _ _)) (c .before .before .before .before .fill-both .ensures) in
-    (left .0, left .1, left .2, c .before .before .before .before .before .before .before .before .first-byte .ensures)
+    let filled = c .before .before .before .before .fill-both .ensures in
+    (left-same fillAnswer workAfter sourcesAfter (sym (none-fill _ _ _ _)) (filled .0), filled .1)
 
 pub fill-spec : {M : Type 1} → statement M
 fill-spec =

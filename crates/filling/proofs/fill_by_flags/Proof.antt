@@ -7,7 +7,9 @@ use Rattle.filling.proofs.fill_by_flags.Statement.{statement}
 use Rattle.filling.proofs.fill_by_flags.Tie as tie
 
 returns : tie.Need-returns
-returns c = left-same fillAnswer workAfter sourcesAfter (sym (none-fill _ _ _ _)) (c .before .before .before .before .fill-by .ensures)
+returns c =
+    let filled = c .before .before .before .before .fill-by .ensures in
+    (left-same fillAnswer workAfter sourcesAfter (sym (none-fill _ _ _ _)) (filled .0), filled .1)
 
 pub fill-by-flags-spec : {M : Type 1} → statement M
 fill-by-flags-spec =

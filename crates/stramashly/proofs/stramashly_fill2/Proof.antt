@@ -7,7 +7,7 @@ use Rattle.stramashly.proofs.stramashly_fill2.Tie as tie
 returns : tie.Need-returns
 returns c =
     let filled = c .before .before .before .before .before .before .fill-both .ensures in
-    (c .pack-fill .ensures ∙ ap₂ packFill (filled .0) (c .before .count-both .ensures), filled .1, filled .2)
+    (c .pack-fill .ensures ∙ ap₂ packFill (filled .0 .0) (c .before .count-both .ensures), filled .0 .1, filled .0 .2, filled .1, filled .2)
 
 pub stramashly-fill2-spec : {M : Type 1} → statement M
 stramashly-fill2-spec =

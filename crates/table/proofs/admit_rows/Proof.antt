@@ -24,5 +24,5 @@ returns-3 c =
 pub admit-rows-spec : {M : Type 1} → statement M
 admit-rows-spec =
     tie.close
-    (tie.spec (λ c κs. search needs) (λ c. search needs) (λ c κs. search needs) returns (λ c κs. search needs)
-    table-fault-requires returns-2 returns-3)
+    (tie.spec (λ c κs. search needs) (λ c. search needs) (λ c κs. search needs) returns (λ c κs. search needs) table-fault-requires
+    returns-2 returns-3)

@@ -54,5 +54,5 @@ pub shares-scope-spec : {M : Type 1} → statement M
 shares-scope-spec =
     tie.close
     (tie.spec (λ c. search needs) (λ c κs. search needs) (λ c. search needs) (λ c κs. search needs) (λ c. search needs) (λ c. search needs)
-    returns returns-2 returns-3 (λ c. search needs) (λ c. search needs) returns-4 returns-5 (λ c. search needs) (λ c. search needs) returns-6
-    (λ c. search needs) (λ c. search needs) returns-7)
+    returns returns-2 returns-3 (λ c. search needs) (λ c. search needs) returns-4 returns-5 (λ c. search needs) (λ c. search needs)
+    returns-6 (λ c. search needs) (λ c. search needs) returns-7)

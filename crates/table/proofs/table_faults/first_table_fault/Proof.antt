@@ -41,5 +41,4 @@ returns-2 c =
 pub first-table-fault-spec : {M : Type 1} → statement M
 first-table-fault-spec =
     tie.close
-    (tie.spec Inv-loop μ-loop loop-holds table-fault-requires returns (λ c. search needs) (λ c. search needs) loop-again
-    returns-2)
+    (tie.spec Inv-loop μ-loop loop-holds table-fault-requires returns (λ c. search needs) (λ c. search needs) loop-again returns-2)

@@ -112,25 +112,9 @@ fn the_front_page_is_right() {
             let words: Vec<&str> = command.split(' ').collect();
             let answer = stramashly_in(&root, &words, b"");
             let shown = shown_below(&lines[place + 1..]);
-            let output = if shown.contains(SHADERS[0]) {
-                answer.output
-            } else {
-                without_shaders(&answer.output)
-            };
-            assert_eq!(output, shown, "{command}");
+            assert_eq!(answer.output, shown, "{command}");
             commands += 1;
         }
     }
     assert!(commands >= 17, "{commands}");
-}
-
-/// How the lines begin that put a change into a shader's words; the front
-/// page may leave them out.
-const SHADERS: [&str; 2] = ["     GLSL: ", "     SPIR-V: "];
-
-fn without_shaders(output: &str) -> String {
-    let lines = output.split_inclusive('\n');
-    lines
-        .filter(|line| !SHADERS.iter().any(|begin| line.starts_with(begin)))
-        .collect()
 }

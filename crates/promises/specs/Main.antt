@@ -132,7 +132,8 @@ module _ (s : List ℕ) (m k : ℕ) where
     derive-means (Derived.chained c l) = beside.ReasonExactly.chain-found s m k work buffer c l
     derive-means Derived.notBefore = beside.ReasonExactly.none-exactly s m k work buffer .0
 
-    pub derive-refuses : (n i : ℕ) → (derive s m k work buffer ≡ Derived.refused n i) ↔ DeriveMeans (Derived.refused n i)
+    pub derive-refuses : (n i : ℕ)
+        → (derive s m k work buffer ≡ Derived.refused n i) ↔ DeriveMeans (Derived.refused n i)
     derive-refuses = beside.ReasonExactly.finder-refused-exactly s m k work buffer
 
     pub not-before-said : (derive s m k work buffer ≡ Derived.notBefore) ↔ DeriveMeans Derived.notBefore

@@ -30,6 +30,8 @@
  *  16  a row's place         row2          piece       first byte
  *  17  no row                row2
  *  18  no conflicting pair   report
+ *  19  read                  read          256 * the version + agents
+ *                                                      rows      dependencies
  *
  * Parts that the table above leaves empty are 0. A byte is its number among
  * the 65,536 that a table speaks of.
@@ -53,6 +55,10 @@
  *                  buffer alone.
  *   written        the first a bytes of the buffer are the table; later bytes
  *                  are as they were
+ *   read           the first numbers of the places, bytes of the rows and
+ *                  numbers of the dependencies are the table's values, as
+ *                  stramashly_write takes them; what stands after them is as it
+ *                  was
  *   a row          the first STRAMASHLY_ROW_BYTES bytes of the buffer are the
  *                  row's; later bytes are as they were. The end leaves it alone.
  *
@@ -105,6 +111,9 @@ extern "C" {
 #define STRAMASHLY_CYCLE_NUMBERS 256
 #define STRAMASHLY_SOURCE_NUMBERS 128
 #define STRAMASHLY_CHAIN_NUMBERS 383
+#define STRAMASHLY_READ_PLACES 128
+#define STRAMASHLY_READ_ROWS 2048
+#define STRAMASHLY_READ_DEPENDENCIES 128
 
 /* Where a cycle's edge numbers begin in the cycle buffer. */
 #define STRAMASHLY_CYCLE_EDGES 128
@@ -154,7 +163,8 @@ enum stramashly_code {
   STRAMASHLY_END = 15,
   STRAMASHLY_ROW_PLACE = 16,
   STRAMASHLY_NO_ROW = 17,
-  STRAMASHLY_NO_PAIRS = 18
+  STRAMASHLY_NO_PAIRS = 18,
+  STRAMASHLY_READ = 19
 };
 
 /* Part a of a refusal: which rule of form is broken. Part b is the row that
@@ -197,6 +207,10 @@ enum stramashly_refusal {
  * those that race. */
 #define STRAMASHLY_CONFLICTING(answer) \
   (STRAMASHLY_A(answer) + STRAMASHLY_B(answer) + STRAMASHLY_C(answer))
+
+/* Of values that were read: the table's version, and how many agents it has. */
+#define STRAMASHLY_READ_VERSION(answer) (STRAMASHLY_A(answer) >> 8)
+#define STRAMASHLY_READ_AGENTS(answer) (STRAMASHLY_A(answer) & 0xFF)
 
 /* Checks a table: race-free, race, overwritten, cycle or refused. */
 uint64_t stramashly_check(const uint8_t *table, size_t table_len, uint8_t chains,
@@ -259,6 +273,17 @@ uint64_t stramashly_write(uint8_t version,
                           const uint16_t *dependencies, size_t dependencies_len,
                           uint8_t *out, size_t out_len);
 
+/* The values of a table, the inverse of stramashly_write: read, or refused. A part
+ * of fewer than STRAMASHLY_READ_PLACES numbers, STRAMASHLY_READ_ROWS bytes or
+ * STRAMASHLY_READ_DEPENDENCIES numbers is refused (BUFFER), then what
+ * stramashly_fill refuses. stramashly_write of what was read gives the same bytes,
+ * and what stramashly_write wrote reads back as it was given. A table is admitted
+ * once, so that this is the way to all rows of one. */
+uint64_t stramashly_read(const uint8_t *table, size_t table_len,
+                         uint16_t *places, size_t places_len,
+                         uint8_t *rows, size_t rows_len,
+                         uint16_t *dependencies, size_t dependencies_len);
+
 /* Whether a table can be stepped through: opened, or what stramashly_fill refuses
  * it for, its buffers aside. Nothing is written. */
 uint64_t stramashly_open(const uint8_t *table, size_t table_len);
@@ -266,7 +291,7 @@ uint64_t stramashly_open(const uint8_t *table, size_t table_len);
 /* The row at a place of a table, or the end. Places begin with 0; part a is the
  * next one. A buffer of fewer than STRAMASHLY_ROW_BYTES bytes is refused (BUFFER),
  * then what stramashly_open refuses, with its number and row, whatever the place.
- * Each call admits the table anew. */
+ * Each call admits the table anew; stramashly_read gives all rows with one. */
 uint64_t stramashly_row(const uint8_t *table, size_t table_len, uint16_t at,
                         uint8_t *row, size_t row_len);
 

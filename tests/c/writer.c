@@ -1,4 +1,4 @@
-/* Tables written from values, and stepped through. */
+/* Tables written from values, read back, and stepped through. */
 #include "common.h"
 
 #include <string.h>
@@ -53,6 +53,69 @@ static void test_parts(void) {
          "no dependencies in version 2");
   expect(stramashly_write(2, host, 4, NULL, 0, NULL, 0, out, ROOM) == refused(STRAMASHLY_REFUSAL_AGENT_KIND, 0),
          "no host agents in version 2");
+}
+
+static uint16_t read_places[STRAMASHLY_READ_PLACES + 1];
+static uint8_t read_rows[STRAMASHLY_READ_ROWS + 1];
+static uint16_t read_dependencies[STRAMASHLY_READ_DEPENDENCIES + 1];
+
+static void prepare_parts(void) {
+  memset(read_places, 0x77, sizeof read_places);
+  memset(read_rows, 0x77, sizeof read_rows);
+  memset(read_dependencies, 0x77, sizeof read_dependencies);
+}
+
+static int are_parts_kept(size_t numbers, size_t bytes, size_t ends) {
+  for (; bytes < sizeof read_rows; bytes++)
+    if (read_rows[bytes] != 0x77) return 0;
+  return all_numbers(read_places, numbers, STRAMASHLY_READ_PLACES + 1, 0x7777) &&
+         all_numbers(read_dependencies, ends, STRAMASHLY_READ_DEPENDENCIES + 1, 0x7777);
+}
+
+/* Bytes of any size, with so many numbers, bytes and numbers too few. */
+static uint64_t read_short(const uint8_t *bytes, size_t size, size_t less, size_t fewer, size_t ends) {
+  return stramashly_read(bytes, size, read_places, STRAMASHLY_READ_PLACES - less, read_rows,
+                         STRAMASHLY_READ_ROWS - fewer, read_dependencies,
+                         STRAMASHLY_READ_DEPENDENCIES - ends);
+}
+
+/* What was read of a table of version 3, written. */
+static void test_read_back(void) {
+  const uint16_t dependency[2] = {0, 3};
+  size_t size = 8 + 16 + 64 + 2 + 4;
+  uint8_t before[8 + 16 + 64 + 2 + 4];
+  uint64_t answer;
+  prepare();
+  prepare_parts();
+  expect(stramashly_write(3, places, 8, table + ROWS_AT, 64, dependency, 2, before, size) ==
+             packed(STRAMASHLY_WRITTEN, 94, 0, 0),
+         "P in version 3, with a dependency");
+  answer = read_short(before, size, 0, 0, 0);
+  expect(answer == packed(STRAMASHLY_READ, 3 * 256 + 2, 4, 1), "is read");
+  expect(STRAMASHLY_READ_VERSION(answer) == 3 && STRAMASHLY_READ_AGENTS(answer) == 2, "its version");
+  expect(memcmp(read_places, places, sizeof places) == 0, "its places");
+  expect(memcmp(read_rows, table + ROWS_AT, 64) == 0, "its rows");
+  expect(read_dependencies[0] == 0 && read_dependencies[1] == 3, "its dependency");
+  expect(are_parts_kept(8, 64, 2), "what stands after them is kept");
+  memset(out, 0x77, sizeof out);
+  expect(stramashly_write(3, read_places, 8, read_rows, 64, read_dependencies, 2, out, ROOM) ==
+             packed(STRAMASHLY_WRITTEN, 94, 0, 0),
+         "what was read is written");
+  expect(memcmp(out, before, size) == 0 && is_kept(size, ROOM), "as the same bytes");
+}
+
+static void test_no_values(void) {
+  const uint64_t buffer = refused(STRAMASHLY_REFUSAL_BUFFER, 0);
+  prepare();
+  prepare_parts();
+  expect(read_short(table, sizeof table, 1, 0, 0) == buffer, "a number too few for places");
+  expect(read_short(table, sizeof table, 0, 1, 0) == buffer, "a byte too few for rows");
+  expect(read_short(table, 7, 0, 0, 1) == buffer, "a number too few, before the table is looked at");
+  expect(read_short(table, 7, 0, 0, 0) == refused(STRAMASHLY_REFUSAL_SHORT, 0), "seven bytes");
+  table[ROWS_AT + ROW_BYTES + LENGTH] = 17;
+  expect(read_short(table, sizeof table, 0, 0, 0) == refused(STRAMASHLY_REFUSAL_EXTENT, 1),
+         "a row of 17 bytes");
+  expect(are_parts_kept(0, 0, 0), "and a refusal writes nothing");
 }
 
 static void test_steps(void) {
@@ -120,4 +183,6 @@ void test_writer(void) {
   test_parts();
   test_steps();
   test_no_steps();
+  test_read_back();
+  test_no_values();
 }

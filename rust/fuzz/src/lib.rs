@@ -1,7 +1,7 @@
 //! What libFuzzer calls with each of its inputs: a check, a fill and a report
-//! of the same bytes, chains off and on, and derivations of some of its
-//! moments, compared with the second implementation, every lent buffer
-//! included. The counters that guide libFuzzer are those of the second
+//! of the same bytes, chains off and on, their rows and values, and derivations
+//! of some of its moments, compared with the second implementation, every lent
+//! buffer included. The counters that guide libFuzzer are those of the second
 //! implementation; the proved library has none.
 
 use differential::{Comparison, Difference, Lengths};
@@ -52,6 +52,7 @@ fn both(comparison: &mut Comparison, input: &[u8]) -> Result<(), Difference> {
             comparison.report_with(chains, input)?;
         }
     }
+    comparison.step_through(input)?;
     moments(comparison, input)
 }
 

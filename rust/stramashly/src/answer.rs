@@ -44,6 +44,8 @@ pub enum Code {
     NoRow = 17,
     /// No pair of rows conflicts.
     NoPairs = 18,
+    /// The table's values.
+    Read = 19,
 }
 
 /// A packed answer: code × 2^48 + a × 2^32 + b × 2^16 + c.
@@ -79,6 +81,7 @@ impl Packed {
             16 => Code::RowPlace,
             17 => Code::NoRow,
             18 => Code::NoPairs,
+            19 => Code::Read,
             _ => return None,
         };
         Some(code)

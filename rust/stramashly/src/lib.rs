@@ -59,7 +59,8 @@
 //! vulkanMemoryModelAvailabilityVisibilityChains, `Checker::new().with_chains(true)`.
 //!
 //! A recorder hands its values to a [`TableWriter`], which gives a table that a
-//! fill admits; [`Rows`] steps through the rows of one.
+//! fill admits; [`TableWriter::read`] has the values of one, and [`Rows`] steps
+//! through its rows.
 //!
 //! A table may come in two pieces, a table and more rows for it, which need not
 //! be copied together: [`Checker::check_pieces`] and its like. The answer is
@@ -98,7 +99,7 @@ pub use checker::Checker;
 pub use derivation::{AcceptsAnswer, Derivation, DeriveAnswer};
 pub use engine::{
     accepts_in, accepts_pieces, check_by_flags, check_in, check_pieces, check_with, derive_in,
-    derive_pieces, fill_by_flags, fill_in, fill_pieces, fill_with, open_in, report_in,
+    derive_pieces, fill_by_flags, fill_in, fill_pieces, fill_with, open_in, read_in, report_in,
     report_pieces, report_with, row_in, row_of_pieces, write_in, Pieces,
 };
 pub use owned::{
@@ -136,6 +137,12 @@ pub const SOURCE_NUMBERS: usize = 128;
 /// Least length of the lent chain buffer, in 16-bit numbers: most steps of a
 /// derivation.
 pub const CHAIN_NUMBERS: usize = 383;
+/// Least lengths of the lent parts of [`read_in`]: numbers of the places.
+pub const READ_PLACES: usize = 4 * MAX_AGENTS;
+/// Bytes of the rows.
+pub const READ_ROWS: usize = ROW_BYTES * MAX_ROWS;
+/// Numbers of the dependencies.
+pub const READ_DEPENDENCIES: usize = 2 * MAX_DEPENDENCIES;
 /// Stands for the word program order in the place of a class set.
 pub const PROGRAM_ORDER: u8 = 16;
 /// A step is so many times its case, plus the moment that it reaches.

@@ -1,15 +1,14 @@
 //! A table's rows, one after the other.
 
 use crate::answer::{foreign, Code};
-use crate::engine::open_in;
+use crate::engine::read_in;
 use crate::writer::{refusal, Refusal, Row};
-use crate::ROW_BYTES;
+use crate::{READ_DEPENDENCIES, READ_PLACES, READ_ROWS, ROW_BYTES};
 use std::iter::FusedIterator;
-use std::slice::ChunksExact;
 
-/// Steps through one table: it holds the bytes that it was lent and its place
-/// in them, and gives rows 0 onward, each once. The table is admitted once, when
-/// it is opened.
+/// Steps through one table: it holds the bytes that it was lent, its rows and its
+/// place in them, and gives rows 0 onward, each once. The table is admitted once,
+/// when it is opened.
 ///
 /// ```
 /// use stramashly::{Row, Rows, TableWriter, INITIAL};
@@ -25,17 +24,23 @@ use std::slice::ChunksExact;
 #[derive(Clone, Debug)]
 pub struct Rows<'a> {
     table: &'a [u8],
-    rows: ChunksExact<'a, u8>,
+    rows: [u8; READ_ROWS],
+    at: usize,
+    count: usize,
 }
 
 impl<'a> Rows<'a> {
     /// Opens a table that a fill admits; else gives its refusal.
     pub fn open(table: &'a [u8]) -> Result<Rows<'a>, Refusal> {
-        let packed = open_in(table);
+        let mut rows = [0; READ_ROWS];
+        let (places, dependencies) = (&mut [0; READ_PLACES], &mut [0; READ_DEPENDENCIES]);
+        let packed = read_in(table, places, &mut rows, dependencies);
         match packed.code() {
-            Some(Code::Opened) => Ok(Rows {
+            Some(Code::Read) => Ok(Rows {
                 table,
-                rows: row_bytes(table, packed.b(), packed.a()).chunks_exact(ROW_BYTES),
+                rows,
+                at: 0,
+                count: packed.b().into(),
             }),
             Some(Code::Refused) => Err(refusal(packed)),
             _ => foreign(packed),
@@ -52,22 +57,20 @@ impl Iterator for Rows<'_> {
     type Item = Row;
 
     fn next(&mut self) -> Option<Row> {
-        let row = self.rows.next()?;
-        row.try_into().map(Row::from_bytes).ok()
+        if self.at == self.count {
+            return None;
+        }
+        let row = self.rows[self.at * ROW_BYTES..].first_chunk()?;
+        self.at += 1;
+        Some(Row::from_bytes(*row))
     }
 
     fn size_hint(&self) -> (usize, Option<usize>) {
-        self.rows.size_hint()
+        let left = self.count - self.at;
+        (left, Some(left))
     }
 }
 
 impl ExactSizeIterator for Rows<'_> {}
 
 impl FusedIterator for Rows<'_> {}
-
-/// The bytes of the rows of an admitted table: they follow its agents.
-fn row_bytes(table: &[u8], agents: u16, rows: u16) -> &[u8] {
-    let place_bytes = if table[4] == 3 { 8 } else { 6 };
-    let start = 8 + usize::from(agents) * place_bytes;
-    &table[start..][..usize::from(rows) * ROW_BYTES]
-}

@@ -1,8 +1,8 @@
 //! Tables made of values.
 
 use crate::answer::{Code, Packed};
-use crate::engine::write_in;
-use crate::{MAX_TABLE_BYTES, ROW_BYTES};
+use crate::engine::{read_in, write_in};
+use crate::{MAX_TABLE_BYTES, READ_DEPENDENCIES, READ_PLACES, READ_ROWS, ROW_BYTES};
 use std::error::Error;
 use std::fmt;
 
@@ -110,6 +110,9 @@ impl Error for Refusal {}
 /// let table = writer.place([0, 0, 0, 0]).row(write).row(read).write().unwrap();
 /// assert_eq!(Checker::new().check(&table), CheckAnswer::RaceFree);
 ///
+/// // Its values again.
+/// assert_eq!(TableWriter::read(&table).as_ref(), Ok(&writer));
+///
 /// writer.row(Row { kind: 9, ..write });
 /// assert_eq!(writer.write().unwrap_err().to_string(), "refused 5 2");
 /// ```
@@ -129,6 +132,31 @@ impl TableWriter {
             places: Vec::new(),
             rows: Vec::new(),
             dependencies: Vec::new(),
+        }
+    }
+
+    /// The values of a table that a fill admits, of which `write` gives the same
+    /// bytes; else its refusal.
+    pub fn read(table: &[u8]) -> Result<TableWriter, Refusal> {
+        let mut places = vec![0; READ_PLACES];
+        let mut rows = vec![0; READ_ROWS];
+        let mut dependencies = vec![0; READ_DEPENDENCIES];
+        let packed = read_in(table, &mut places, &mut rows, &mut dependencies);
+        match packed.code() {
+            Some(Code::Read) => {
+                let [version, agents] = packed.a().to_be_bytes();
+                places.truncate(4 * usize::from(agents));
+                rows.truncate(ROW_BYTES * usize::from(packed.b()));
+                dependencies.truncate(2 * usize::from(packed.c()));
+                Ok(TableWriter {
+                    version,
+                    places,
+                    rows,
+                    dependencies,
+                })
+            }
+            Some(Code::Refused) => Err(refusal(packed)),
+            _ => crate::answer::foreign(packed),
         }
     }
 

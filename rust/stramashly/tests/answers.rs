@@ -159,6 +159,7 @@ fn packed_answers_come_apart() {
     assert_eq!(Packed(16 << 48).code(), Some(Code::RowPlace));
     assert_eq!(Packed(17 << 48).code(), Some(Code::NoRow));
     assert_eq!(Packed(18 << 48).code(), Some(Code::NoPairs));
-    assert_eq!(Packed(19 << 48).code(), None);
+    assert_eq!(Packed(19 << 48).code(), Some(Code::Read));
+    assert_eq!(Packed(20 << 48).code(), None);
     assert_eq!(format!("{packed:?}"), "Packed(1, 1, 2, 65535)");
 }

@@ -39,6 +39,9 @@ fn limits_and_buffers_are_these() {
         ("CYCLE_EDGES", CYCLE_EDGES),
         ("SOURCE_NUMBERS", SOURCE_NUMBERS),
         ("CHAIN_NUMBERS", CHAIN_NUMBERS),
+        ("READ_PLACES", READ_PLACES),
+        ("READ_ROWS", READ_ROWS),
+        ("READ_DEPENDENCIES", READ_DEPENDENCIES),
         ("AGENTS", MAX_AGENTS),
         ("ROWS", MAX_ROWS),
         ("DEPENDENCIES", MAX_DEPENDENCIES),
@@ -76,6 +79,7 @@ fn codes_are_these() {
         ("ROW_PLACE", Code::RowPlace),
         ("NO_ROW", Code::NoRow),
         ("NO_PAIRS", Code::NoPairs),
+        ("READ", Code::Read),
     ] {
         assert_eq!(header[name], (code as u16).to_string(), "{name}");
         assert_eq!(Packed::new(code, 1, 2, 3).code(), Some(code));

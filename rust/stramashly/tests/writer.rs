@@ -24,26 +24,60 @@ fn two_rows() -> TableWriter {
     writer
 }
 
-/// The values of an example of version 1.
-fn values_of(table: &[u8]) -> TableWriter {
-    let mut writer = TableWriter::new(1);
-    let agents = usize::from(table[5]);
-    for place in table[8..][..6 * agents].chunks(6) {
-        let number = |at: usize| u16::from_be_bytes([place[at], place[at + 1]]);
-        writer.place([number(0), number(2), number(4), 0]);
+#[test]
+fn a_table_is_read_and_written_as_it_was() {
+    for name in [
+        "p",
+        "leak",
+        "p-initial",
+        "fill",
+        "empty",
+        "counted",
+        "upload",
+    ] {
+        let table = example(name);
+        let values = TableWriter::read(&table).unwrap();
+        assert_eq!(values.write(), Ok(table), "{name}");
     }
-    Rows::open(table).unwrap().for_each(|row| {
-        writer.row(row);
-    });
-    writer
+    let refusal = TableWriter::read(&example("too-long")).unwrap_err();
+    assert_eq!(refusal, Refusal { number: 7, row: 1 });
+}
+
+/// The front of the lent parts has the values, the rest is kept; a short part is
+/// refusal 11, before the table is looked at, and a refusal writes nothing.
+#[test]
+fn lent_parts_hold_what_the_header_says() {
+    let table = example("upload");
+    let mut places = [7; READ_PLACES + 1];
+    let mut rows = [7; READ_ROWS + 1];
+    let mut dependencies = [7; READ_DEPENDENCIES + 1];
+    let packed = read_in(&table, &mut places, &mut rows, &mut dependencies);
+    assert_eq!(packed, Packed::new(Code::Read, 3 * 256 + 3, 5, 4));
+    assert_eq!(places[..12], [0, 0, 0, 1, 0, 0, 0, 2, 0, 0, 0, 0]);
+    assert_eq!(rows[..80], table[32..112]);
+    assert_eq!(dependencies[..8], [0, 1, 1, 2, 2, 3, 3, 4]);
+    assert!(places[12..].iter().all(|number| *number == 7));
+    assert!(rows[80..].iter().all(|byte| *byte == 7));
+    assert!(dependencies[8..].iter().all(|number| *number == 7));
 }
 
 #[test]
-fn a_table_is_written_as_it_was() {
-    for name in ["p", "leak", "overwritten", "p-initial", "fill", "empty"] {
-        let table = example(name);
-        assert_eq!(values_of(&table).write(), Ok(table), "{name}");
+fn a_refused_reading_writes_nothing() {
+    let (mut places, mut rows) = ([7; READ_PLACES], [7; READ_ROWS]);
+    let mut dependencies = [7; READ_DEPENDENCIES];
+    let short = Packed::new(Code::Refused, 11, 0, 0);
+    for table in [example("upload"), example("too-long"), vec![]] {
+        let (places, rows, ends) = (&mut places, &mut rows, &mut dependencies);
+        assert_eq!(read_in(&table, &mut places[1..], rows, ends), short);
+        assert_eq!(read_in(&table, places, &mut rows[1..], ends), short);
+        assert_eq!(read_in(&table, places, rows, &mut ends[1..]), short);
     }
+    for (table, number, row) in [(example("too-long"), 7, 1), (vec![0; 8], 2, 0)] {
+        let packed = read_in(&table, &mut places, &mut rows, &mut dependencies);
+        assert_eq!(packed, Packed::new(Code::Refused, number, row, 0));
+    }
+    assert_eq!((places, rows), ([7; READ_PLACES], [7; READ_ROWS]));
+    assert_eq!(dependencies, [7; READ_DEPENDENCIES]);
 }
 
 #[test]

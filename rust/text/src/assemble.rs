@@ -3,7 +3,7 @@
 
 use second::table::Row;
 use second::{row_bytes, Values};
-use stramashly::{Refusal, Rows, TableWriter, ROW_BYTES};
+use stramashly::{Refusal, Rows, TableWriter};
 
 /// The bytes of a table: its version, each agent's family, workgroup, subgroup
 /// and sort, the rows with their sources, and pairs of rows of which the second
@@ -15,35 +15,23 @@ pub fn assemble(
     rows: &[Row],
     dependencies: &[[u16; 2]],
 ) -> Result<Vec<u8>, Refusal> {
-    let rows = rows.iter().map(|row| row_bytes(*row));
-    written(version, places, rows, dependencies)
-}
-
-/// A table that a fill admits, made anew of what the proved reader gives; the
-/// refusal of any other.
-pub fn remade(table: &[u8]) -> Result<Vec<u8>, Refusal> {
-    let rows = Rows::open(table)?.map(stramashly::Row::bytes);
-    let values = Values::of(table);
-    written(values.version, &values.places, rows, &values.dependencies)
-}
-
-fn written(
-    version: u8,
-    places: &[[u16; 4]],
-    rows: impl Iterator<Item = [u8; ROW_BYTES]>,
-    dependencies: &[[u16; 2]],
-) -> Result<Vec<u8>, Refusal> {
     let mut writer = TableWriter::new(version);
     for place in places {
         writer.place(*place);
     }
     for row in rows {
-        writer.row(stramashly::Row::from_bytes(row));
+        writer.row(stramashly::Row::from_bytes(row_bytes(*row)));
     }
     for [first, second] in dependencies {
         writer.depend(*first, *second);
     }
     writer.write()
+}
+
+/// A table that a fill admits, made anew of what the proved reader gives; the
+/// refusal of any other.
+pub fn remade(table: &[u8]) -> Result<Vec<u8>, Refusal> {
+    TableWriter::read(table)?.write()
 }
 
 /// The bytes of parts that the writer refuses, for whoever tells why: a check

@@ -11,7 +11,7 @@ pub use pieces::{
     accepts_pieces, check_pieces, derive_pieces, fill_pieces, report_pieces, row_of_pieces, Pieces,
 };
 pub use report::{report_in, report_with};
-pub use writer::{open_in, row_in, write_in};
+pub use writer::{open_in, read_in, row_in, write_in};
 
 use crate::answer::Packed;
 

@@ -1,4 +1,4 @@
-//! The C boundary: a table written, and stepped through.
+//! The C boundary: a table written, read back, and stepped through.
 
 use crate::answer::Packed;
 
@@ -14,6 +14,17 @@ mod linked {
             dependencies_len: usize,
             out: *mut u8,
             out_len: usize,
+        ) -> u64;
+
+        pub fn stramashly_read(
+            table: *const u8,
+            table_len: usize,
+            places: *mut u16,
+            places_len: usize,
+            rows: *mut u8,
+            rows_len: usize,
+            dependencies: *mut u16,
+            dependencies_len: usize,
         ) -> u64;
 
         pub fn stramashly_open(table: *const u8, table_len: usize) -> u64;
@@ -50,6 +61,31 @@ pub fn write_in(
             dependencies.len(),
             out.as_mut_ptr(),
             out.len(),
+        )
+    };
+    Packed(answer)
+}
+
+/// The values of a table, into the front of lent parts of any length: four
+/// numbers for each place, 16 bytes for each row, two numbers for each dependency.
+/// Parts that the largest table has no room in are refusal 11.
+pub fn read_in(
+    table: &[u8],
+    places: &mut [u16],
+    rows: &mut [u8],
+    dependencies: &mut [u16],
+) -> Packed {
+    // Sound as in `super::ask`.
+    let answer = unsafe {
+        linked::stramashly_read(
+            table.as_ptr(),
+            table.len(),
+            places.as_mut_ptr(),
+            places.len(),
+            rows.as_mut_ptr(),
+            rows.len(),
+            dependencies.as_mut_ptr(),
+            dependencies.len(),
         )
     };
     Packed(answer)

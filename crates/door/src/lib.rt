@@ -14,8 +14,10 @@ use model::Admission;
 use rows::bytes;
 use rows::pick;
 
-// The bytes of all dependencies that there may be.
+// The bytes of all dependencies, and of all rows, that there may be.
 const DEPENDS_SIZE: usize = 258;
+
+const AREA: usize = 2048;
 
 fn at_most(size: usize, limit: usize) -> usize
     ensures { λ r. ⌜ r ≡ min size limit ⌝ }
@@ -68,8 +70,8 @@ fn put_rows(first: &[u8], second: &[u8], t: &mut [u8])
         (min (length (rowBytes (now (first .entry))) + length (now (second .entry))) AREA) (now (t .entry)) (now (t .exit)) ⌝ }
 {
     let rows = bytes::row_bytes(first);
-    let head = at_most(rows.len(), pieces::AREA);
-    let end = at_most(rows.len() + second.len(), pieces::AREA);
+    let head = at_most(rows.len(), AREA);
+    let end = at_most(rows.len() + second.len(), AREA);
     bytes::put(t, run::ROWS_AT, rows, head);
     bytes::put(t, run::ROWS_AT + head, second, end - head);
 }

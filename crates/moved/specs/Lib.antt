@@ -8,7 +8,8 @@ pub mod FillAlike
 pub mod Moved
 pub mod MovedAlike
 pub mod VerdictAlike
+pub mod AnswersAlike
+pub mod PiecesAlike
 pub mod Page
-pub mod PiecesPage
 pub mod Tried
 pub mod MovedRuns

@@ -1,132 +1,69 @@
--- The order of the page: of two tables that are both accepted, the second the first with its rows moved, the same is
--- said, with chains and without, whatever buffers that are long enough hold. `check` and `fill` are the definitions that the entry points' contracts name.
-use mathlib.Core.Path.{_≡_, refl, sym, ap, _∙_, subst}
-use mathlib.Core.Bool.{Bool, true, false, cond}
+-- The order of the rows in a table doesn't matter. To be read like crates/promises/specs/Main.antt: each proof names a
+-- theorem of a page beside this one.
+--
+-- `Moved s s′ π` (Moved.antt) says that s′ is the table s with its rows moved: row i of s is row `π .to i` of s′, each
+-- agent's own rows keep their order, sources and dependencies are renumbered. `checkWord` and `fillWord`
+-- (VerdictAlike.antt) keep of an answer its word alone: race-free, race, inconsistent, none, filled.
+-- Both tables are accepted, each with buffers of its own; the switch `chains` is any, and so is the version.
+use mathlib.Core.Path.{_≡_}
+use mathlib.Core.Bool.{Bool}
 use mathlib.Core.List.{List}
-use mathlib.Core.Logic.{_⊎_, inl, inr}
 use Prim.Native.Nat.{ℕ, _<_}
-use native.Mathlib.Omega.{arith}
-use lib.ListN.{length, getD, drop, List·getD-append}
-use Rattle.finite.specs.Logic.{which}
-use Rattle.finite.specs.Lists.{tabulate, length-tabulate, getD-tabulate}
-use Rattle.model.specs.declared.Admission.the-variants.{Admitted}
-use Rattle.model.specs.Limits.{CYCLE, SOURCES}
-use Rattle.model.specs.Table.{Table, agentsAt, rowsAt, tableUnder, sourcesOf}
-use Rattle.model.specs.Race.{raceRow, racePartner, raceByte}
-use Rattle.model.specs.Refusal.{buffersFit, admission, whenAdmitted}
+use lib.ListN.{length, getD}
+use Rattle.model.specs.Table.{rowsAt}
 use Rattle.model.specs.Check.{check}
-use Rattle.model.specs.Fill.{Outcome, chosen, fill, sourcesAfter}
+use Rattle.model.specs.Fill.{fill, sourcesAfter}
 use Rattle.model.specs.Fill as Fill
-use Rattle.model.specs.Words.{WellFormed}
-use Rattle.laws.specs.AdmissionLaws.{Sound, admitted-sound}
-use Rattle.laws.specs.FilledLaws.{Bytes}
-use Rattle.laws.specs.ChoiceLaws.{NoRace}
-use Rattle.promises.specs.Searches.{free-of}
-use Rattle.promises.specs.FillLaws.{fair}
-use Rattle.promises.specs.Outcomes.{settled, said-filled, say-filled}
-use Rattle.moved.specs.Renumber.{Renumbering, to-below}
+use Rattle.promises.specs.Terms.{Bytes, CheckHears, FillHears}
+use Rattle.pieces.specs.Pieces.{piecesFault, joined, checkBoth, fillBoth}
+use Rattle.moved.specs.Renumber.{Renumbering}
 use Rattle.moved.specs.Moved.{Moved}
-use Rattle.moved.specs.Alike.{Alike}
-use Rattle.moved.specs.RaceAlike.{race-alike}
-use Rattle.moved.specs.MovedAlike.{rows-is, rows-same, to-rows, few-of, sized-of, of-table, moved-alike, sources-moved}
-use Rattle.moved.specs.VerdictAlike.{checkWord, fillWord, verdict-alike, chosen-moved, passes-alike, racing, passing, outcome-is, settled-word}
-use Rattle.moved.specs.VerdictAlike.{race, none, filled}
+use Rattle.moved.specs.VerdictAlike.{checkWord, fillWord}
+use Rattle.moved.specs as beside
 
--- ---- the theorems
-
-module _ (chains : Bool) (s s′ : List ℕ) (π : Renumbering (rowsAt s)) (moved : Moved s s′ π) (work buffer work′ buffer′ : ℕ) where
-  -- check, where nothing is blank, says race-free, race or inconsistent of both alike
-  pub check-alike : buffersFit CYCLE work buffer ≡ true → buffersFit CYCLE work′ buffer′ ≡ true → WellFormed s → WellFormed s′
+module _ (chains : Bool) (s s′ : List ℕ) (π : Renumbering (rowsAt s)) (moved : Moved s s′ π)
+    (work buffer work′ buffer′ : ℕ) where
+  -- a check says the same word of both: race-free, race or inconsistent
+  pub check-alike : CheckHears s work buffer → CheckHears s′ work′ buffer′
       → checkWord (check chains s′ work′ buffer′) ≡ checkWord (check chains s work buffer)
-  unfolding check whenAdmitted
-  check-alike fit fit′ well well′ =
-      let h = admitted-sound false s well in
-      let h′ = admitted-sound false s′ well′ in
-      rw (fit, fit′, well, well′) (verdict-alike (moved-alike moved h h′ chains) (few-of chains h) (sized-of chains h) (sized-of chains h′)
-      (sourcesOf s) (sourcesOf s′) (sources-moved moved h h′ chains))
+  check-alike h h′ = beside.AnswersAlike.check-alike chains s s′ π moved work buffer work′ buffer′ (h .0) (h′ .0) (h .1) (h′ .1)
 
-  module _ (bytes : Bytes s) (fit : buffersFit SOURCES work buffer ≡ true) (fit′ : buffersFit SOURCES work′ buffer′ ≡ true)
-      (well : admission true s ≡ Admitted (agentsAt s) (rowsAt s)) (well′ : admission true s′ ≡ Admitted (agentsAt s′) (rowsAt s′)) where
-    h : Sound true s
-    h = admitted-sound true s well
-
-    h′ : Sound true s′
-    h′ = admitted-sound true s′ well′
-
-    abbrev said : Bool → Bool → Table → (ℕ → ℕ) → Outcome
-    said p q t a = settled p q (raceRow t) (racePartner t (raceRow t)) (raceByte t (raceRow t) (racePartner t (raceRow t))) (tabulate (chosen t a) (t .rows))
-
-    fill-is : fill chains s work buffer ≡ said (racing (tableUnder chains s)) (passing (tableUnder chains s) (sourcesOf s)) (tableUnder chains s) (sourcesOf s)
-    unfolding fill whenAdmitted
-    fill-is = rw (fit, well) (outcome-is (tableUnder chains s) (sourcesOf s))
-
-    fill-is′ : fill chains s′ work′ buffer′ ≡ said (racing (tableUnder chains s′)) (passing (tableUnder chains s′) (sourcesOf s′))
-        (tableUnder chains s′) (sourcesOf s′)
-    unfolding fill whenAdmitted
-    fill-is′ = rw (fit′, well′) (outcome-is (tableUnder chains s′) (sourcesOf s′))
-
-    alike : Alike (tableUnder chains s) (tableUnder chains s′) (of-table chains s π)
-    alike = moved-alike moved h h′ chains
-
-    races-alike : racing (tableUnder chains s′) ≡ racing (tableUnder chains s)
-    races-alike = race-alike alike (sized-of chains h) (sized-of chains h′)
-
-    calm : racing (tableUnder chains s) ≡ false → NoRace (tableUnder chains s)
-    calm e = free-of (tableUnder chains s) (sized-of chains h) e
-
-    passing-alike : racing (tableUnder chains s) ≡ false → passing (tableUnder chains s′) (sourcesOf s′) ≡ passing (tableUnder chains s) (sourcesOf s)
-    passing-alike e = passes-alike alike (few-of chains h) (sized-of chains h) (sized-of chains h′) (sourcesOf s) (sourcesOf s′)
-        (sources-moved moved h h′ chains) (fair chains s bytes well) (calm e)
-
-    -- fill says race, none or filled of both alike
+  module _ (bytes : Bytes s) (h : FillHears s work buffer) (h′ : FillHears s′ work′ buffer′) where
+    -- a fill says the same word of both: race, none or filled
     pub fill-alike : fillWord (fill chains s′ work′ buffer′) ≡ fillWord (fill chains s work buffer)
-    fill-alike =
-        ap fillWord fill-is′ ∙ settled-word _ _ _ _ _ _ ∙ go (which (racing (tableUnder chains s))) ∙ sym (settled-word _ _ _ _ _ _) ∙ ap fillWord (sym fill-is)
-      where
-        go : (racing (tableUnder chains s) ≡ true) ⊎ (racing (tableUnder chains s) ≡ false)
-            → cond (racing (tableUnder chains s′)) race (cond (passing (tableUnder chains s′) (sourcesOf s′)) filled none) ≡ cond
-            (racing (tableUnder chains s)) race (cond (passing (tableUnder chains s) (sourcesOf s)) filled none)
-        go (inl e) = rw (races-alike, e) refl
-        go (inr e) = rw (races-alike, passing-alike e) refl
+    fill-alike = beside.AnswersAlike.fill-alike chains s s′ π moved work buffer work′ buffer′ bytes (h .0) (h′ .0) (h .1) (h′ .1)
 
-    -- and the sources that it writes for one are the other's, moved and renumbered
+    -- where it fills, the sources of one are those of the other, moved and renumbered
     pub fill-sources : (l : List ℕ) → fill chains s work buffer ≡ Fill.filled l
-        → (l′ : List ℕ) × (fill chains s′ work′ buffer′ ≡ Fill.filled l′) × (length l ≡ rowsAt s) × (length l′ ≡ rowsAt s)
+        → (l′ : List ℕ) × (fill chains s′ work′ buffer′ ≡ Fill.filled l′)
+        × (length l ≡ rowsAt s) × (length l′ ≡ rowsAt s)
         × ((i : ℕ) → i < rowsAt s → getD l′ (π .to i) 0 ≡ π .to (getD l i 0))
-    fill-sources l e =
-        let p = said-filled _ _ _ _ _ _ (sym fill-is ∙ e) in (
-          tabulate (chosen (tableUnder chains s′) (sourcesOf s′)) (tableUnder chains s′ .rows),
-          fill-is′ ∙ say-filled _ _ _ _ _ _ (races-alike ∙ p .0) (passing-alike (p .0) ∙ p .1),
-          sym (ap length (p .2)) ∙ length-tabulate (chosen (tableUnder chains s) (sourcesOf s)) (tableUnder chains s .rows) ∙ rows-is chains s,
-          length-tabulate (chosen (tableUnder chains s′) (sourcesOf s′)) (tableUnder chains s′ .rows) ∙ rows-is chains s′ ∙ rows-same moved h h′,
-          λ i m. at i m (p .0) (p .2),
-        )
-      where
-        at : (i : ℕ) → i < rowsAt s → racing (tableUnder chains s) ≡ false
-            → tabulate (chosen (tableUnder chains s) (sourcesOf s)) (tableUnder chains s .rows) ≡ l
-            → getD (tabulate (chosen (tableUnder chains s′) (sourcesOf s′)) (tableUnder chains s′ .rows)) (π .to i) 0 ≡ π .to (getD l i 0)
-        at i m e q =
-            getD-tabulate (chosen (tableUnder chains s′) (sourcesOf s′)) (tableUnder chains s′ .rows) (π .to i) 0
-            (to-rows chains s′ (subst (λ (n : ℕ). π .to i < n) (sym (rows-same moved h h′)) (to-below π i m)))
-            ∙ chosen-moved alike (few-of chains h) (sized-of chains h) (sized-of chains h′) (sourcesOf s) (sourcesOf s′)
-            (sources-moved moved h h′ chains) (fair chains s bytes well) (calm e) i (to-rows chains s m)
-            ∙ ap (π .to) (sym (getD-tabulate (chosen (tableUnder chains s) (sourcesOf s)) (tableUnder chains s .rows) i 0
-            (to-rows chains s m)) ∙ ap (λ (v : List ℕ). getD v i 0) q)
+    fill-sources = beside.AnswersAlike.fill-sources chains s s′ π moved work buffer work′ buffer′ bytes (h .0) (h′ .0) (h .1) (h′ .1)
 
-    -- as they stand in the lent source buffers afterwards
-    pub fill-written : (c c′ l : List ℕ) → fill chains s work buffer ≡ Fill.filled l
-        → (i : ℕ) → i < rowsAt s → getD (sourcesAfter (fill chains s′ work′ buffer′) c′) (π .to i) 0 ≡ π .to
-        (getD (sourcesAfter (fill chains s work buffer) c) i 0)
-    unfolding sourcesAfter
-    fill-written c c′ l e i m =
-        let f = fill-sources l e in
-        let n = f .2 in
-        let n′ = f .3 in
-        let w = to-below π i m in
-        ap (λ (o : Outcome). getD (sourcesAfter o c′) (π .to i) 0) (f .1)
-        ∙ written (f .0) c′ (π .to i) (omega arith)
-        ∙ f .4 i m
-        ∙ ap (π .to) (sym (ap (λ (o : Outcome). getD (sourcesAfter o c) i 0) e ∙ written l c i (omega arith)))
-      where
-        written : (l c : List ℕ) (i : ℕ) → i < length l → getD (sourcesAfter (Fill.filled l) c) i 0 ≡ getD l i 0
-        written l c i m = List·getD-append l (drop (length l) c) 0 i m
+    -- and so they stand in the lent source buffers c and c′ afterwards
+    pub fill-written : (c c′ l : List ℕ) → fill chains s work buffer ≡ Fill.filled l → (i : ℕ) → i < rowsAt s
+        → getD (sourcesAfter (fill chains s′ work′ buffer′) c′) (π .to i) 0
+        ≡ π .to (getD (sourcesAfter (fill chains s work buffer) c) i 0)
+    fill-written = beside.AnswersAlike.fill-written chains s s′ π moved work buffer work′ buffer′ bytes (h .0) (h′ .0) (h .1) (h′ .1)
+
+-- the same of tables in two pieces, where the joined tables are each other's with rows moved
+module _ (chains : Bool) (f s f′ s′ : List ℕ) (pair : piecesFault f s ≡ 0) (pair′ : piecesFault f′ s′ ≡ 0)
+    (π : Renumbering (rowsAt (joined f s))) (moved : Moved (joined f s) (joined f′ s′) π)
+    (work buffer work′ buffer′ : ℕ) where
+  pub check-pieces : CheckHears (joined f s) work buffer → CheckHears (joined f′ s′) work′ buffer′
+      → checkWord (checkBoth chains f′ s′ work′ buffer′) ≡ checkWord (checkBoth chains f s work buffer)
+  check-pieces h h′ =
+      beside.PiecesAlike.check-pieces chains f s f′ s′ pair pair′ π moved work buffer work′ buffer′ (h .0) (h′ .0) (h .1) (h′ .1)
+
+  module _ (bytes : Bytes (joined f s)) (h : FillHears (joined f s) work buffer)
+      (h′ : FillHears (joined f′ s′) work′ buffer′) where
+    pub fill-pieces : fillWord (fillBoth chains f′ s′ work′ buffer′) ≡ fillWord (fillBoth chains f s work buffer)
+    fill-pieces =
+        beside.PiecesAlike.fill-pieces chains f s f′ s′ pair pair′ π moved work buffer work′ buffer′ bytes (h .0) (h′ .0) (h .1) (h′ .1)
+
+    pub written-pieces : (c c′ l : List ℕ) → fillBoth chains f s work buffer ≡ Fill.filled l
+        → (i : ℕ) → i < rowsAt (joined f s)
+        → getD (sourcesAfter (fillBoth chains f′ s′ work′ buffer′) c′) (π .to i) 0
+        ≡ π .to (getD (sourcesAfter (fillBoth chains f s work buffer) c) i 0)
+    written-pieces =
+        beside.PiecesAlike.written-pieces chains f s f′ s′ pair pair′ π moved work buffer work′ buffer′ bytes (h .0) (h′ .0) (h .1) (h′ .1)

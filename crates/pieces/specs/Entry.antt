@@ -6,7 +6,7 @@ use mathlib.Core.List.{List, [], _++_}
 use Prim.Native.Nat.{ℕ, _+_, _-_, _*_, _≤_, _<_}
 use native.Mathlib.Omega.{arith}
 use native.Mathlib.Decide.{decLt, ℕ-discrete}
-use lib.ListN.{length, getD, take, drop, replicate, length-append, length-drop, length-replicate, List·getD-append}
+use lib.ListN.{length, getD, drop, replicate, length-append, length-drop, length-replicate, List·getD-append}
 use lib.Seq.{ext-getD, getD-drop, getD-append-add}
 use lib.Dec.{leb, eqb}
 use borrow.Author.Tests.{leb-true, not-false}
@@ -17,15 +17,15 @@ use Rattle.model.specs.declared.Admission.{Admission}
 use Rattle.model.specs.declared.Admission.the-variants.{Admitted, Refused}
 use Rattle.model.specs.Limits.{ROWS, WORK, LONGEST, BYTES}
 use Rattle.model.specs.Row.{access}
-use Rattle.model.specs.Table.{ROW-BYTES, rowsAt, rowBytes, placesOf, modeOf, rowOf, sourceOf, decode, tableUnder, tableOf, sourcesOf}
+use Rattle.model.specs.Table.{rowsAt, rowBytes, placesOf, modeOf, rowOf, tableUnder, tableOf}
 use Rattle.model.specs.Refusal.{buffersFit, admission, refusalOf, whenAdmitted}
 use Rattle.model.specs.Check.{wiped}
 use Rattle.laws.specs.AdmissionLaws.{not-admitted, Sound, sound-admitted, admitted-sound, rows-fit, size-fits, access-end}
 use Rattle.table.specs.Rows.{shapeFault}
 use Rattle.table.proofs.Laws.{shape-refused, header-refused}
 use Rattle.model.specs.declared.Refusal.{Refusal}
-use Rattle.pieces.specs.Pieces.{areaOf, piecesFault, joined, ofBoth, admissionBoth}
-use Rattle.pieces.specs.PiecesLaws.{getD-zeros, joined-rows, joined-places, joined-mode, joined-front, of-joined, of-refused}
+use Rattle.pieces.specs.Pieces.{piecesFault, joined, ofBoth, admissionBoth}
+use Rattle.pieces.specs.PiecesLaws.{getD-zeros, of-joined, of-refused}
 use Rattle.pieces.specs.PiecesLaws.{none-fault, none-admission}
 
 -- ---- definitions
@@ -94,9 +94,6 @@ door-admits needs blanks f s work buffer a {g} {n} e h = go (buffersFit needs wo
 
 -- ---- laws: two pieces that are admitted
 
-decode-same : (b c : List ℕ) (p q : List (List ℕ)) (g h : Mode) (n m : ℕ) → b ≡ c → p ≡ q → g ≡ h → n ≡ m → decode b p g n ≡ decode c q h m
-decode-same b c p q g h n m same-bytes same-places same-mode same-rows = rw (same-bytes, same-places, same-mode, same-rows) refl
-
 module _ (blanks : Bool) (f s : List ℕ) (a : Admission) (e : a ≡ admissionBoth blanks f s) {g n : ℕ} (h : a ≡ Admitted g n) where
   pub pieces-right : piecesFault f s ≡ 0
   unfolding admissionBoth
@@ -120,53 +117,10 @@ module _ (blanks : Bool) (f s : List ℕ) (a : Admission) (e : a ≡ admissionBo
       rows-in (Admitted x y) = y
       rows-in (Refused x y) = 0
 
-  pub few-both : n ≤ ROWS
-  few-both = rw all-both (rows-fit sound-both)
-
-  module _ (chains : Bool) (all : List ℕ) (p : List (List ℕ)) (mode : Mode) (copy : all ≡ areaOf (rowBytes f ++ s))
-      (places : p ≡ placesOf f) (modes : mode ≡ modeOf chains f) where
-    front : take (n * ROW-BYTES) all ≡ rowBytes (joined f s)
-    front = joined-front f s all n pieces-right (all-both ∙ joined-rows f s pieces-right) copy
-
-    -- what the stage below an entry point is handed
-    pub rows-both : RowsOf blanks (take (n * ROW-BYTES) all) p mode n
-    rows-both =
-        record {
-          table = joined f s;
-          chains = chains;
-          sound = sound-both;
-          rows = ap rowOf front;
-          places = places ∙ sym (joined-places f s pieces-right);
-          modes = modes ∙ sym (joined-mode f s pieces-right chains);
-          all = all-both;
-        }
-
-    pub table-both : decode (take (n * ROW-BYTES) all) p mode n ≡ tableUnder chains (joined f s)
-    unfolding tableUnder
-    table-both =
-        decode-same _ _ _ _ _ _ _ _ front (places ∙ sym (joined-places f s pieces-right)) (modes ∙ sym (joined-mode f s pieces-right chains)) all-both
-
-    pub sources-both : sourceOf (take (n * ROW-BYTES) all) ≡ sourcesOf (joined f s)
-    unfolding sourcesOf
-    sources-both = rw front refl
-
 -- what reads no chains asks the table without them
 pub table-false : (t : List ℕ) → tableUnder false t ≡ tableOf t
 unfolding tableOf
 table-false t = refl
-
--- the same behind refusal 11
-module _ (needs : ℕ) (blanks : Bool) (f s : List ℕ) (work buffer : ℕ) (a : Admission)
-    (e : a ≡ doorBoth needs blanks f s work buffer) {g n : ℕ} (h : a ≡ Admitted g n) where
-  pub door-few : n ≤ ROWS
-  door-few = few-both blanks f s a (door-admits needs blanks f s work buffer a e h .2) h
-
-  module _ (chains : Bool) (all : List ℕ) (p : List (List ℕ)) (mode : Mode) (copy : all ≡ areaOf (rowBytes f ++ s))
-      (places : p ≡ placesOf f) (modes : mode ≡ modeOf chains f) where
-    pub door-rows : (WORK ≤ work) × (needs ≤ buffer) × RowsOf blanks (take (n * ROW-BYTES) all) p mode n
-    door-rows =
-        let k = door-admits needs blanks f s work buffer a e h in
-        (k .0, k .1, rows-both blanks f s a (k .2) h chains all p mode copy places modes)
 
 -- ---- laws: the answer to two pieces, by what they are refused for
 

@@ -3,13 +3,13 @@ use mathlib.Core.Path.{_≡_, refl, sym, ap, _∙_, subst}
 use mathlib.Core.Bool.{Bool, true, false, cond}
 use mathlib.Core.Logic.{_⊎_, inl, inr}
 use mathlib.Core.List.{List, [], _∷_, _++_, append-nil, append-assoc}
-use Prim.Native.Nat.{ℕ, zero, suc, _+_, _-_, _*_, _/_, _%_, _≤_, _<_, min}
+use Prim.Native.Nat.{ℕ, zero, suc, _+_, _-_, _*_, _/_, _%_, _≤_, _<_}
 use native.Mathlib.Omega.{arith}
 use native.Mathlib.Decide.{decLt, ℕ-discrete}
-use lib.ListN.{length, getD, take, drop, replicate, length-replicate, List·getD-eq-default, length-append, length-drop}
+use lib.ListN.{length, getD, take, drop, replicate, length-append, length-drop}
 use lib.ListN.{List·getD-append}
 use lib.Seq.{ext-getD, take-add, getD-drop, getD-take, getD-append-add, drop-append-add, drop-append-le, drop-drop}
-use lib.Seq.{take-append-le, take-take, length-take-le, take-at, drop-at, paste, length-paste, length-paste-head}
+use lib.Seq.{take-append-le, take-take, length-take-le, take-at, drop-at, paste, length-paste-head}
 use lib.Dec.{ltb, leb, eqb}
 use borrow.Author.Tests.{eqb-true, leb-true, eq-eqb, ne-eqb, le-leb, lt-ltb, le-ltb}
 use Rattle.finite.specs.Logic.{_and_, split, and-true, not-both, which}
@@ -649,11 +649,6 @@ getD-zeros zero k = refl
 getD-zeros (suc n) zero = refl
 getD-zeros (suc n) (suc k) = getD-zeros n k
 
-pub record Copied (x : List ℕ) (k : ℕ) (a : List ℕ) : Type 0 where
-  pub size : length a ≡ AREA
-  pub front : (i : ℕ) → i < k → getD a i 0 ≡ getD x i 0
-  pub back : (i : ℕ) → k ≤ i → getD a i 0 ≡ 0
-
 -- what a copy leaves before its place, puts there, and leaves past it
 module _ (d : List ℕ) (at : ℕ) (s : List ℕ) (n : ℕ) (hd : at + n ≤ length d) (hs : n ≤ length s) where
   front-long : length (take at d ++ take n s) ≡ at + n
@@ -679,67 +674,6 @@ module _ (d : List ℕ) (at : ℕ) (s : List ℕ) (n : ℕ) (hd : at + n ≤ len
       both-second (take at d ++ take n s) (drop (at + n) d) i (rw front-long l)
       ∙ ap (λ (j : ℕ). getD (drop (at + n) d) (i - j) 0) front-long
       ∙ getD-drop (at + n) d (i - (at + n)) 0 ∙ ap (λ (j : ℕ). getD d j 0) e
-
-pub copied-all : (x a : List ℕ) (k : ℕ) → Copied x k a → (k < AREA → length x ≤ k) → a ≡ areaOf x
-unfolding areaOf
-copied-all x a k c done =
-    ext-getD 0 a (tabulate (λ i. getD x i 0) AREA) (c .size ∙ sym (length-tabulate (λ i. getD x i 0) AREA))
-    (λ i l. at i (subst (λ (m : ℕ). i < m) (c .size) l) (decLt i k))
-  where
-    at : (i : ℕ) → i < AREA → Dec (i < k) → getD a i 0 ≡ getD (tabulate (λ i. getD x i 0) AREA) i 0
-    at i l (yes q) = c .front i q ∙ sym (getD-tabulate (λ i. getD x i 0) AREA i 0 l)
-    at i l (no q) =
-        let h : length x ≤ k = done (omega arith) in
-        let m : length x ≤ i = omega arith in
-        c .back i (omega arith) ∙ sym (List·getD-eq-default x 0 m) ∙ sym (getD-tabulate (λ i. getD x i 0) AREA i 0 l)
-
--- x and then y copied into zeros, as much of both as there is place for
-module _ (x y : List ℕ) (h e : ℕ) (hx : h ≡ min (length x) AREA) (hy : e ≡ min (length x + length y) AREA) where
-  abbrev zeros : List ℕ
-  zeros = replicate AREA 0
-
-  zeros-long : length zeros ≡ AREA
-  zeros-long = length-replicate {A = ℕ} AREA 0
-
-  abbrev one : List ℕ
-  one = paste zeros 0 x h
-
-  one-fits : 0 + h ≤ length zeros
-  one-fits = rw zeros-long (omega arith)
-
-  one-long : length one ≡ AREA
-  one-long = length-paste zeros 0 x h one-fits (omega arith) ∙ zeros-long
-
-  two-fits : h + (e - h) ≤ length one
-  two-fits = rw one-long (omega arith)
-
-  two-copied : Copied (x ++ y) e (paste one h y (e - h))
-  two-copied =
-      record {
-        size = length-paste one h y (e - h) two-fits (omega arith) ∙ one-long;
-        front = λ i l. at i l (decLt i h);
-        back =
-            λ i l.
-            paste-past one h y (e - h) two-fits (omega arith) i (omega arith)
-            ∙ paste-past zeros 0 x h one-fits (omega arith) i (omega arith) ∙ getD-zeros AREA i;
-      }
-    where
-      at : (i : ℕ) → i < e → Dec (i < h) → getD (paste one h y (e - h)) i 0 ≡ getD (x ++ y) i 0
-      at i l (yes q) =
-          let less : i - 0 ≡ i = omega arith in
-          paste-before one h y (e - h) two-fits (omega arith) i q
-          ∙ paste-within zeros 0 x h one-fits (omega arith) i (omega arith) (omega arith)
-          ∙ ap (λ (j : ℕ). getD x j 0) less ∙ sym (both-first x y i (omega arith))
-      at i l (no q) =
-          let same : h ≡ length x = omega arith in
-          paste-within one h y (e - h) two-fits (omega arith) i (omega arith) (omega arith)
-          ∙ ap (λ (j : ℕ). getD y (i - j) 0) same ∙ sym (both-second x y i (omega arith))
-
-  two-all : paste one h y (e - h) ≡ areaOf (x ++ y)
-  two-all = copied-all (x ++ y) (paste one h y (e - h)) e two-copied (λ l. rw (length-append x y) (omega arith))
-
-  pub both-pasted : (a all : List ℕ) → a ≡ paste (replicate AREA 0) 0 x h → all ≡ paste a h y (e - h) → all ≡ areaOf (x ++ y)
-  both-pasted a all p q = q ∙ ap (λ (b : List ℕ). paste b h y (e - h)) p ∙ two-all
 
 -- as many places of a copy as the list has are the list
 take-area : (x : List ℕ) (m : ℕ) → length x ≡ m → m ≤ AREA → take m (areaOf x) ≡ x

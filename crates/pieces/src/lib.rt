@@ -1,19 +1,11 @@
 // A table in two pieces: the first an ordinary table, the second only rows of 16 bytes, to be added after its rows. A table in one piece is
-// two of which the second is empty. Every entry point is opened here.
+// two of which the second is empty.
 ghost use mathlib.Core.Path.{_≡_};
-ghost use mathlib.Core.List.{_++_};
-ghost use Prim.Native.Nat.{_+_, min};
-ghost use Rattle.model.specs.Table.{rowBytes};
-ghost use Rattle.pieces.specs.Pieces.{AREA, rowsBoth, countBoth, piecesFault, earlyFault, areaOf, admissionBoth, rowPart, rowPlace};
-ghost use Rattle.pieces.specs.Entry.{doorBoth};
-use model::Admission;
+ghost use Rattle.pieces.specs.Pieces.{rowsBoth, countBoth, piecesFault, earlyFault, rowPart, rowPlace};
 use rows::bytes;
 use rows::pick;
 use rows::scopes;
 use table::header;
-
-// The bytes of all rows that there may be.
-pub const AREA: usize = 2048;
 
 // ---- the refusals of a pair
 
@@ -60,27 +52,7 @@ pub fn early_fault(first: &[u8], second: &[u8]) -> u8
     header::hosts_fault(p, bytes::agents_at(first), d, n as u8)
 }
 
-// ---- the rows of both
-
-// So many bytes, or all that there may be.
-fn at_most(size: usize) -> usize
-    ensures { λ r. ⌜ r ≡ min size AREA ⌝ }
-{
-    if size < AREA { size } else { AREA }
-}
-
-// The rows of both, one after the other; zeros past them. What a table of so many rows has no place for is left out.
-pub fn join_rows(first: &[u8], second: &[u8]) -> [u8; AREA]
-    ensures { λ r. ⌜ r ≡ areaOf (rowBytes (now (first .entry)) ++ now (second .entry)) ⌝ }
-{
-    let rows = bytes::row_bytes(first);
-    let mut all = [0u8; AREA];
-    let head = at_most(rows.len());
-    let end = at_most(rows.len() + second.len());
-    bytes::put(&mut all, 0, rows, head);
-    bytes::put(&mut all, head, second, end - head);
-    all
-}
+// ---- row n
 
 // Row n as its sixteen bytes, from the piece that holds it and without copying; empty where neither does. A pair that is refused before 5
 // holds no rows.
@@ -129,44 +101,4 @@ pub fn row_place<'a>(first: &'a [u8], second: &'a [u8], n: u16) -> RowPlace
     }
     let at = bytes::ROW_BYTES * (i - rows);
     RowPlace::Second { at: at as u16 }
-}
-
-// ---- opening a table
-
-// What the joined table is refused for, or its counts.
-pub fn admit_both(first: &[u8], second: &[u8], blanks: bool) -> Admission
-    ensures { λ r. ⌜ r ≡ admissionBoth blanks (now (first .entry)) (now (second .entry)) ⌝ }
-{
-    let fault = early_fault(first, second);
-    if fault != 0 {
-        return Admission::Refused {
-            number: fault,
-            row: 0,
-        };
-    }
-    let n = rows_both(first, second);
-    let hosts = bytes::has_hosts(first);
-    let agents = bytes::agents_at(first);
-    let p = scopes::read_places(first);
-    let mode = scopes::read_mode(first, false);
-    let all = join_rows(first, second);
-    let end = n * bytes::ROW_BYTES;
-    table::admit_rows(&all[..end], hosts, p, mode, agents, n as u8, blanks)
-}
-
-// The same with refusal 11 before it, from the lengths of the work area and of another buffer, which must hold so many numbers.
-pub fn open_both(
-    first: &[u8],
-    second: &[u8],
-    blanks: bool,
-    needs: usize,
-    work: usize,
-    buffer: usize,
-) -> Admission
-    ensures { λ r. ⌜ r ≡ doorBoth needs blanks (now (first .entry)) (now (second .entry)) work buffer ⌝ }
-{
-    if !((model::WORK <= work) & (needs <= buffer)) {
-        return Admission::Refused { number: 11, row: 0 };
-    }
-    admit_both(first, second, blanks)
 }

@@ -16,9 +16,9 @@
 --   report::report    is `report …`, and leaves what a check leaves
 --   reasons::derive   is `deriveAnswer (derive …)`, and leaves `workAfter (derive …)` and `chainAfter (derive …)`
 --   reader::accepts   is `acceptAnswer (judge …)`
--- Callers.antt has each case of these answers; crates/stramashly/specs/Promise.antt the number that C gets.
+-- Callers.antt has each case of these answers; crates/numbers/specs/Main.antt the number that C gets.
 -- Throughout, s is the table, any bytes at all; `chains` the switch; work and buffer the lengths of the lent buffers.
--- `Bytes s`, which a fill's meaning asks for, says that its numbers are bytes, as those of a lent `&[u8]` are.
+-- `Bytes s`, which a fill's meaning asks for, says that its numbers are bytes; the contract of every fill ensures it.
 use mathlib.Core.Path.{_≡_}
 use mathlib.Core.Bool.{Bool, true, false}
 use mathlib.Core.List.{List, [], _++_}
@@ -132,7 +132,8 @@ module _ (s : List ℕ) (m k : ℕ) where
     derive-means (Derived.chained c l) = beside.ReasonExactly.chain-found s m k work buffer c l
     derive-means Derived.notBefore = beside.ReasonExactly.none-exactly s m k work buffer .0
 
-    pub derive-refuses : (n i : ℕ) → (derive s m k work buffer ≡ Derived.refused n i) ↔ DeriveMeans (Derived.refused n i)
+    pub derive-refuses : (n i : ℕ)
+        → (derive s m k work buffer ≡ Derived.refused n i) ↔ DeriveMeans (Derived.refused n i)
     derive-refuses = beside.ReasonExactly.finder-refused-exactly s m k work buffer
 
     pub not-before-said : (derive s m k work buffer ≡ Derived.notBefore) ↔ DeriveMeans Derived.notBefore
@@ -143,9 +144,10 @@ module _ (s : List ℕ) (m k : ℕ) where
         ↔ (DeriveHears s m k work buffer × HappensBefore (tableOf s) m k)
     some-found = beside.ReasonExactly.found-exactly s m k work buffer
 
--- ==== Demand 1. A malformed table, or a lent buffer too short, gets the refusal number and row fixed in the rules,
--- with all lent buffers untouched. Every other answer depends on the table alone, whatever was left in the work area,
--- and the part of it set aside for the check comes back as zeros. Here w is the work area, c the other buffer
+-- ==== Demand 1. Any bytes may come. Where a buffer is short or the table is bad, the answer is the refusal that the
+-- rules name, number and row, and no buffer is written to. Otherwise the answer is a matter of the table alone: other
+-- buffers, and whatever they held before, change nothing; and the first WORK words of the work area are left as zeros.
+-- Here w is the work area and c the other buffer
 
 pub demand-1-check : (chains : Bool) (s w c : List ℕ) → let v = check chains s (length w) (length c) in
     ((n : ℕ) × (i : ℕ) × (v ≡ Verdict.refused n i) × CheckRefuses s (length w) (length c) n i
@@ -180,37 +182,37 @@ pub demand-1-derive : (s : List ℕ) (m k : ℕ) (w c : List ℕ) → let d = de
     × (Derivation.workAfter d w ≡ replicate WORK 0 ++ drop WORK w))
 demand-1-derive = beside.ReasonExactly.derive-demand-1
 
--- ==== Demands 2 and 3
+-- ==== Demand 2. The verdict is exact. Demand 3. So is a fill
 
 module _ (chains : Bool) (s : List ℕ) (work buffer : ℕ) where
-  -- inconsistent is said exactly when an axiom is broken, and the break is shown (check-means)
+  -- "cycle" or "overwritten" is said exactly when axiom A or axiom B is broken; check-means has what is then shown
   pub demand-2-inconsistent : SaysInconsistent (check chains s work buffer)
       ↔ (CheckHears s work buffer
       × (Cyclic (tableUnder chains s) (sourcesOf s) ⊎ Overwritten (tableUnder chains s) (sourcesOf s)))
   demand-2-inconsistent = beside.CheckExactly.inconsistent-exactly chains s work buffer
 
-  -- of a consistent table, race-free exactly when every conflicting pair is ordered at every shared byte or is a pair
-  -- of mutually-ordered atomics (check-means); otherwise the first racing pair and its lowest unordered byte are shown
+  -- of a table that breaks neither axiom one of two is said: "race-free", and then each conflicting pair is a pair of
+  -- mutually-ordered atomics or has order at each byte that it shares; or "race", with the first racing pair in row
+  -- order and its lowest byte without order. check-means has the other direction
   pub demand-2-consistent : CheckHears s work buffer → Consistent (tableUnder chains s) (sourcesOf s)
       → ((check chains s work buffer ≡ Verdict.raceFree) × RaceFree (tableUnder chains s))
       ⊎ ((x : ℕ) × (y : ℕ) × (b : ℕ) × (check chains s work buffer ≡ Verdict.race x y b)
       × FirstRace (tableUnder chains s) x y b)
   demand-2-consistent = beside.CheckExactly.consistent-said chains s work buffer
 
-  -- a fill answers race exactly when a pair races; the first such pair and its lowest unordered byte are shown
-  -- (fill-means)
+  -- a fill says "race" exactly when some pair races; fill-means has that it shows the first one and its lowest byte
   pub demand-3-race : ((x : ℕ) × (y : ℕ) × (b : ℕ) × (fill chains s work buffer ≡ Outcome.race x y b))
       ↔ (FillHears s work buffer × SomeRace (tableUnder chains s))
   demand-3-race = beside.FillExactly.some-race-exactly chains s work buffer
 
-  -- when no pair races, it fills every blank exactly when some filling leaves the table well formed and consistent, and
-  -- says there is none exactly when there is none; what it hands back is such a filling, and the only one (fill-means)
+  -- of a table without a race: it fills exactly when there is a filling that is well formed and consistent, and says
+  -- "none" exactly when there isn't; fill-means has that what it hands back is such a filling and the only one
   pub demand-3-filled : Bytes s → FillHears s work buffer → NoRace (tableUnder chains s)
       → (((l : List ℕ) × (fill chains s work buffer ≡ Outcome.filled l)) ↔ ((f : List ℕ) × Good chains s f))
       × ((fill chains s work buffer ≡ Outcome.none) ↔ ((f : List ℕ) → Good chains s f → ⊥))
   demand-3-filled = beside.FillExactly.calm-said chains s work buffer
 
--- no filling cures a race: whatever a filling puts in, the same pairs race, with the same unordered bytes
+-- no filling cures a race: whatever is put in the place of the blanks, the same pairs race, at the same bytes
 pub demand-3-no-cure : (chains : Bool) (s f : List ℕ) → Filling s f → (x y b : ℕ)
     → (Races (tableUnder chains f) x y ≡ Races (tableUnder chains s) x y)
     × (Unordered (tableUnder chains f) x y b ≡ Unordered (tableUnder chains s) x y b)
@@ -253,8 +255,8 @@ chains-order-more = ordered-more
 --
 --   Callers.antt                         each case of an answer's enum, and what is left in the lent buffers
 --   Requests.antt                        change requests 5, 8 and 10: what they left as it was, and the order of ranks
---   crates/stramashly/specs/Promise.antt the number that C gets: it has one reading, and what it says
---   crates/moved/specs/Page.antt         a table with its rows moved is answered alike; PiecesPage.antt, of two pieces
+--   crates/numbers/specs/Main.antt       the number that C gets: it has one reading, and what it says
+--   crates/moved/specs/Page.antt         a table with its rows moved is answered alike, in one piece or two
 --   crates/pieces/specs/Promise.antt     a table in two pieces is answered as the joined one
 --   crates/writer/specs/Promise.antt     what is written reads back, what was read is written again
 --   crates/stepping/specs/Promise.antt   the stepping reader gives rows 0 onward, each once, then the end

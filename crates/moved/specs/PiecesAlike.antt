@@ -1,5 +1,4 @@
--- The order of the page, of tables in two pieces: where the joined tables are each other's with rows moved, the same is said of the pieces.
--- Assumes nothing.
+-- The same of tables in two pieces, by their joined tables: the proofs of Page.antt. Assumes nothing.
 use mathlib.Core.Path.{_≡_, sym, ap, _∙_}
 use mathlib.Core.Bool.{Bool, true}
 use mathlib.Core.List.{List}
@@ -18,7 +17,7 @@ use Rattle.pieces.specs.Promise.{check-joined, fill-joined}
 use Rattle.moved.specs.Renumber.{Renumbering}
 use Rattle.moved.specs.Moved.{Moved}
 use Rattle.moved.specs.VerdictAlike.{checkWord, fillWord}
-use Rattle.moved.specs.Page.{check-alike, fill-alike, fill-written}
+use Rattle.moved.specs.AnswersAlike.{check-alike, fill-alike, fill-written}
 
 module _ (chains : Bool) (f s f′ s′ : List ℕ) (z : piecesFault f s ≡ 0) (z′ : piecesFault f′ s′ ≡ 0)
     (π : Renumbering (rowsAt (joined f s))) (moved : Moved (joined f s) (joined f′ s′) π) (work buffer work′ buffer′ : ℕ) where

@@ -67,9 +67,9 @@ these print no answers: the exit status has it. With --chains, check, fill, repo
 and batch answer for a device that reports vulkanMemoryModelAvailabilityVisibilityChains. -j N
 works in N threads, answers in order. With --then ROWS, check, fill, report, derive and accepts
 add the rows of the file ROWS, 16 bytes each, after those of FILE, and answer for the joined table;
-sources and moments are counted over both. In a batch line `-` is a piece of no bytes. An
-answer is coloured on a terminal unless NO_COLOR is set. Of several files a last line on
-standard error says how many had which answer.
+sources and moments are counted over both. In a batch line of two pieces `-` is a piece of no
+bytes. An answer is coloured on a terminal unless NO_COLOR is set. Of several files a last line
+on standard error says how many had which answer.
 
 Instead of a table's bytes a FILE may hold text, which begins with `stramashly` and a version, or
 JSON lines, which begin with `{`. What is wrong with it is told as FILE:LINE:COLUMN. Where it says

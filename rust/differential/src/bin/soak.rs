@@ -52,8 +52,8 @@ fn compare(seed: u64, count: u64, tally: &mut Tally) -> Result<(), Difference> {
     Ok(())
 }
 
-/// Half of the tables for a check and a report, a third for a fill, the rest damaged; two
-/// pairs of moments of each.
+/// Half of the tables for a check and a report, a third for a fill, the rest damaged; the
+/// rows and values of each, and two pairs of moments.
 fn compare_one(
     random: &mut Random,
     comparison: &mut Comparison,
@@ -79,6 +79,7 @@ fn compare_one(
     } else {
         tally.fill(&comparison.fill_with(chains, &bytes)?);
     }
+    comparison.step_through(&bytes)?;
     compare_moments(random, comparison, tally, &bytes)
 }
 

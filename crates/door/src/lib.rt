@@ -108,6 +108,7 @@ fn admit(first: &[u8], second: &[u8], t: &[u8], blanks: bool) -> Admission
 
 // Refusal 11, from the lengths of the work area and of another buffer, which must hold so many numbers; then every refusal of the pieces; or
 // their counts, and in t, which comes with zeros, their run.
+// Ruled out: one whose switch is always on; one that takes a short buffer where the work area is long enough.
 pub fn enter(
     first: &[u8],
     second: &[u8],

@@ -83,6 +83,7 @@ pub fn fill_by(
 }
 
 // The same by the quick engine.
+// Ruled out: one that takes the pieces the other way round; one that turns the switch round.
 pub fn fill_both(
     first: &[u8],
     second: &[u8],
@@ -98,6 +99,7 @@ pub fn fill_both(
 }
 
 // Fills the blanks of a table in one piece.
+// Ruled out: one that takes the table for its own second piece too; one that turns the switch round.
 pub fn fill(table: &[u8], chains: bool, work: &mut [u64], sources: &mut [u16]) -> FillAnswer
     ensures { λ r. ⌜ FilledBy chains (now (table .entry)) r (now (work .entry)) (now (work .exit)) (now (sources .entry)) (now (sources .exit))
         × Bytes (now (table .entry)) ⌝ }

@@ -1,4 +1,5 @@
--- What a row is: its kind, order, flags, classes and bytes. Nothing else tests a kind's number, an order or a flag.
+-- What a row is: its kind, order, flags, classes and bytes, each test by name. Beside this page the refusals compare codes themselves, and L5
+-- names the kinds of its operations.
 use mathlib.Core.Bool.{Bool, true, false, not, cond}
 use Prim.Native.Nat.{ℕ, _+_}
 use lib.Dec.{ltb, leb, eqb}

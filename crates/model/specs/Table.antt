@@ -1,4 +1,5 @@
--- The table: its bytes, and the rows, places and sources that stand in them. The only page that knows where a byte stands.
+-- The table: its bytes, and the rows, places and sources that stand in them: where each byte stands. A filling (Words) has the place of a source
+-- too; two pieces and the writer have the layout again, for bytes that they make.
 use mathlib.Core.Bool.{Bool, false, cond}
 use mathlib.Core.List.{List, [], _∷_}
 use Prim.Native.Nat.{ℕ, _+_, _*_}

@@ -39,6 +39,7 @@ pub fn pieces_fault(first: &[u8], second: &[u8]) -> u8
 }
 
 // Every refusal before 5, or 0. The dependencies stand in the first piece and may name rows of either.
+// Ruled out: one that counts the agents by the second piece; one that holds dependencies to the first piece's rows, counted twice.
 pub fn early_fault(first: &[u8], second: &[u8]) -> u8
     ensures { λ r. ⌜ r ≡ earlyFault (now (first .entry)) (now (second .entry)) ⌝ }
 {
@@ -56,6 +57,7 @@ pub fn early_fault(first: &[u8], second: &[u8]) -> u8
 
 // Row n as its sixteen bytes, from the piece that holds it and without copying; empty where neither does. A pair that is refused before 5
 // holds no rows.
+// Ruled out: one that shows the second piece's first row for each of its rows; one that goes on to twice the first piece's rows.
 pub fn row_part<'a>(first: &'a [u8], second: &'a [u8], n: u16) -> &'a [u8]
     ensures { λ r. ⌜ now r ≡ rowPart (now (first .entry)) (now (second .entry)) n ⌝ }
 {

@@ -187,6 +187,7 @@ pub fn accepts_both(
 }
 
 // Judges a derivation that the first moment happens before the second in a table in one piece.
+// Ruled out: one that reads from the second moment to the first; one that takes the table for its own second piece too.
 pub fn accepts(table: &[u8], first: u16, second: u16, reason: Reason, steps: &[u16]) -> AcceptAnswer
     ensures { λ r. ⌜ r ≡ acceptAnswer (judge (now (table .entry)) first second reason (now (steps .entry))) ⌝ }
 {

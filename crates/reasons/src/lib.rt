@@ -149,6 +149,7 @@ pub fn derive_both(
 }
 
 // Derives that the first moment happens before the second in a table in one piece.
+// Ruled out: one that derives the second moment before the first; one that takes the table for its own second piece too.
 pub fn derive(
     table: &[u8],
     first: u16,

@@ -105,6 +105,7 @@ pub fn report_both(
 }
 
 // Reports on one recorded run in one piece.
+// Ruled out: one that takes the table for its own second piece too; one that turns the switch round.
 pub fn report(table: &[u8], chains: bool, work: &mut [u64], cycle: &mut [u16]) -> ReportAnswer
     ensures { λ r. let judged = check chains (now (table .entry)) (length (now (work .entry))) (length (now (cycle .entry))) in
         ⌜ (r ≡ report chains (now (table .entry)) (length (now (work .entry))) (length (now (cycle .entry))))

@@ -356,7 +356,7 @@ pub extern "C" fn stramashly_write(
 }
 
 // The values of a table, in the front of lent parts: `writer::read::read_parts`, packed. `stramashly_write` of them gives the table again.
-// Ruled out: one that gives a value of a table that a fill refuses; one whose number has the rows in the place of the dependencies.
+// Ruled out: one whose number has the version and the agents exchanged; one that has the rows in the place of the dependencies.
 #[no_mangle]
 pub extern "C" fn stramashly_read(
     table: &[u8],
@@ -402,7 +402,7 @@ pub extern "C" fn stramashly_row(table: &[u8], at: u16, row: &mut [u8]) -> u64
 // ---- a table in two pieces
 
 // Judges one recorded run in two pieces: `verdict::check_both`, packed.
-// Ruled out: one that judges the first piece alone.
+// Ruled out: one that judges the first piece alone; one that takes the pieces the other way round.
 #[no_mangle]
 pub extern "C" fn stramashly_check2(
     first: &[u8],
@@ -420,7 +420,7 @@ pub extern "C" fn stramashly_check2(
 }
 
 // Fills the blanks of one recorded run in two pieces: `filling::fill_both`, packed, with the number of rows of both where it filled them.
-// Ruled out: one that tells the rows of the first piece alone.
+// Ruled out: one that tells the rows of the first piece alone; one that counts them with the pieces the other way round.
 #[no_mangle]
 pub extern "C" fn stramashly_fill2(
     first: &[u8],
@@ -464,7 +464,7 @@ pub extern "C" fn stramashly_report2(
 }
 
 // Why moment m happens before moment k in a table in two pieces: `reasons::derive_both`, packed.
-// Ruled out: one that refuses a moment of the second piece's rows.
+// Ruled out: one that refuses a moment of the second piece's rows; one that derives moment k before moment m.
 #[no_mangle]
 pub extern "C" fn stramashly_derive2(
     first: &[u8],
@@ -483,7 +483,7 @@ pub extern "C" fn stramashly_derive2(
 }
 
 // Whether a derivation shows it in a table in two pieces: `reader::accepts_both`, packed.
-// Ruled out: one that reads the steps in the first piece alone.
+// Ruled out: one that reads the steps in the first piece alone; one that reads them from moment k to moment m.
 #[no_mangle]
 pub extern "C" fn stramashly_accepts2(
     first: &[u8],

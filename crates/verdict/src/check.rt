@@ -68,6 +68,7 @@ pub fn check_by(
 }
 
 // The same by the quick engine.
+// Ruled out: one that takes the pieces the other way round; one that turns the switch round.
 pub fn check_both(
     first: &[u8],
     second: &[u8],
@@ -82,7 +83,7 @@ pub fn check_both(
 }
 
 // Judges one recorded run in one piece.
-// Ruled out: one that answers race-free to every table.
+// Ruled out: one that answers race-free to every table; one that takes the table for its own second piece too.
 pub fn check(table: &[u8], chains: bool, work: &mut [u64], cycle: &mut [u16]) -> CheckAnswer
     ensures { λ r. ⌜ Checked chains (now (table .entry)) r (now (work .entry)) (now (work .exit)) (now (cycle .entry)) (now (cycle .exit)) ⌝ }
 {

@@ -132,8 +132,8 @@ fn put_ends(out: &mut [u16], d: Dependencies)
 }
 
 // The values of a table that a fill admits, into the front of these parts: `write_parts` of them gives the same bytes.
-// Ruled out: one that writes a part before it refuses; one that clears what stands after the values; one that gives the values of a
-// table that a fill refuses; one that takes a short part where the table is short too.
+// Ruled out: one that gives as many places as there are rows; one that counts rows for dependencies; one that refuses a blank; one that
+// takes a short part for the dependencies where that for the places is long enough.
 pub fn read_parts(
     table: &[u8],
     places: &mut [u16],

@@ -16,4 +16,5 @@ pub mod Report
 pub mod Opened
 pub mod Runs
 pub mod LaterRuns
+pub mod OrderRuns
 pub mod Words

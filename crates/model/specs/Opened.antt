@@ -68,7 +68,7 @@ unfolding
     Check.raceOr Check.overwrittenOr Check.cyclicOr Check.verdict Check.check Check.checkAnswer
     Fill.unorderedAt Fill.writtenBy Fill.written Fill.overwritesBetween Fill.between Fill.candidate Fill.choice Fill.blank Fill.chosen Fill.sourcesFit
     Fill.filledOr Fill.outcome Fill.fill
-    Reason.judge Reason.judged Reason.twoMoments Reason.accepts
+    Reason.judge Reason.judged Reason.twoMoments Reason.accepts Reason.chainHolds Reason.stands Reason.broken Reason.stepHolds
     Report.conflictMutual Report.orderedAt Report.orderedNth Report.conflictOrdered Report.conflicting Report.mutuals Report.ordered Report.racing
     Report.quotient Report.shareOf Report.reportOf Report.withShare Report.counted Report.reportAnswer Report.report
 opened = tt

@@ -6,7 +6,7 @@ use Prim.Native.Nat.{ℕ, _+_, _*_}
 use lib.ListN.{length, set}
 use lib.IntN.{pos, negsuc}
 use lib.Ieee.{Float, fin}
-use Rattle.model.specs.declared.Reason.the-variants.{ProgramOrder}
+use Rattle.model.specs.declared.Reason.the-variants.{ProgramOrder, Chain}
 use Rattle.model.specs.declared.ReportAnswer.{ReportAnswer}
 use Rattle.model.specs.declared.ReportAnswer.the-variants as told
 use Rattle.model.specs.Limits.{WORK, CYCLE, SOURCES}
@@ -34,6 +34,8 @@ pub data Ask : Type 0 where
   asReport : Ask
   -- whether program order leads from the one moment to the other
   asOrder : ℕ → ℕ → Ask
+  -- whether a chain of steps for a class set does
+  asChain : ℕ → ℕ → ℕ → List ℕ → Ask
   -- whether row 0 is location-ordered before this row at byte 0, on a device with or without chains
   asBefore : Bool → ℕ → Ask
 
@@ -49,6 +51,7 @@ answer asCheck s = checked (check false s WORK CYCLE)
 answer asFill s = filling (fill false s WORK SOURCES)
 answer asReport s = reported (report false s WORK CYCLE)
 answer (asOrder m k) s = reasoned (judge s m k ProgramOrder [])
+answer (asChain m k classes steps) s = reasoned (judge s m k (Chain classes) steps)
 answer (asBefore chains y) s = ordered (before (tableUnder chains s) 0 y 0)
 
 -- ---- tables
@@ -62,7 +65,7 @@ abbrev table : List (List ℕ) → List (List ℕ) → List ℕ
 table p r = 0 ∷ 0 ∷ 0 ∷ (4 + 6 * length p + 16 * length r) ∷ 1 ∷ length p ∷ length r ∷ 0 ∷ (joined p ++ joined r)
 
 -- byte k of row i becomes v, in a table of a agents
-abbrev change : ℕ → ℕ → ℕ → ℕ → List ℕ → List ℕ
+abbrev pub change : ℕ → ℕ → ℕ → ℕ → List ℕ → List ℕ
 change a i k v s = set s (8 + 6 * a + 16 * i + k) v
 
 -- agents of one workgroup, in subgroups of their own
@@ -76,7 +79,7 @@ abbrev agent₂ : List ℕ
 agent₂ = 0 ∷ 0 ∷ 0 ∷ 0 ∷ 0 ∷ 2 ∷ []
 
 -- a write of the data
-abbrev write : List ℕ
+abbrev pub write : List ℕ
 write = 1 ∷ 0 ∷ 0 ∷ 0 ∷ 0 ∷ 1 ∷ 0 ∷ 4 ∷ 0 ∷ 0 ∷ 0 ∷ 1 ∷ 255 ∷ 255 ∷ 0 ∷ 0 ∷ []
 
 -- a release of the flag, which makes available
@@ -88,7 +91,7 @@ abbrev acquire : List ℕ
 acquire = 2 ∷ 1 ∷ 1 ∷ 2 ∷ 1 ∷ 5 ∷ 0 ∷ 4 ∷ 0 ∷ 4 ∷ 0 ∷ 2 ∷ 0 ∷ 1 ∷ 0 ∷ 0 ∷ []
 
 -- a read of the data
-abbrev read : List ℕ
+abbrev pub read : List ℕ
 read = 0 ∷ 1 ∷ 0 ∷ 0 ∷ 0 ∷ 1 ∷ 0 ∷ 4 ∷ 0 ∷ 0 ∷ 0 ∷ 1 ∷ 0 ∷ 0 ∷ 0 ∷ 0 ∷ []
 
 -- a relaxed write of the flag by the releasing agent
@@ -218,7 +221,7 @@ out a = 5 ∷ a ∷ 2 ∷ 2 ∷ 1 ∷ 2 ∷ 0 ∷ 0 ∷ 0 ∷ 0 ∷ 0 ∷ 0 ∷ 
 abbrev into : ℕ → List ℕ
 into a = 5 ∷ a ∷ 1 ∷ 2 ∷ 1 ∷ 4 ∷ 0 ∷ 0 ∷ 0 ∷ 0 ∷ 0 ∷ 0 ∷ 255 ∷ 255 ∷ 0 ∷ 0 ∷ []
 
-abbrev two : List (List ℕ) → List ℕ
+abbrev pub two : List (List ℕ) → List ℕ
 two r = table (agent₀ ∷ agent₁ ∷ []) r
 
 abbrev M : List ℕ

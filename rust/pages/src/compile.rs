@@ -204,6 +204,13 @@ impl Program {
         Ok(ready)
     }
 
+    /// A definition with other clauses.
+    pub(crate) fn other(&mut self, full: &str, clauses: &[Clause]) -> Result<Ready, Stop> {
+        let (page, name) = full.split_once('.').unwrap_or((full, ""));
+        let definition = self.page(page)?.definitions[name].clone();
+        self.made_ready(page, &definition, clauses)
+    }
+
     fn made_ready(
         &mut self,
         page: &str,
@@ -231,7 +238,8 @@ impl Program {
         let is_known =
             |kind: &String| NUMBERS.contains(&kind.as_str()) || HELD.contains(&kind.as_str());
         let is_held = types.iter().any(|kind| HELD.contains(&kind.as_str()));
-        let is_worth = made.iter().any(|(_, body)| is_search(body));
+        let is_large = !NUMBERS.contains(&definition.result.as_str());
+        let is_worth = is_large || made.iter().any(|(_, body)| is_search(body));
         let is_kept = is_worth && arity <= MOST_ARGUMENTS && is_held && types.iter().all(is_known);
         Ok(Ready {
             arity,

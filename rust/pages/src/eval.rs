@@ -3,6 +3,7 @@
 
 use crate::compile::Program;
 use crate::native::Native;
+use crate::watch::Watch;
 use crate::value::{Core, Data, Env, Function, Head, Later, Pattern, Ready, Value};
 use std::cell::RefCell;
 use std::collections::HashMap;
@@ -12,11 +13,11 @@ use std::rc::Rc;
 
 /// Why an evaluation ended without a value.
 #[derive(Clone, Debug, PartialEq, Eq)]
-pub struct Stop(pub String);
+pub struct Stop(Box<String>);
 
 impl Stop {
-    pub(crate) fn new(text: String) -> Stop {
-        Stop(text)
+    pub fn new(text: String) -> Stop {
+        Stop(Box::new(text))
     }
 }
 
@@ -58,19 +59,28 @@ impl Hasher for Mixer {
 
 pub(crate) type Map<K, V> = HashMap<K, V, BuildHasherDefault<Mixer>>;
 
+/// What is known of the table that is asked about.
+#[derive(Default)]
+pub(crate) struct Known {
+    kept: Map<[u64; KEY], (Value, Vec<Value>)>,
+    pub(crate) steps: Map<(u64, u64), Vec<u8>>,
+    pub(crate) reached: Map<(u64, u64, u64), Rc<Vec<bool>>>,
+    pub(crate) layers: Map<(u64, u64, u64), Vec<Vec<bool>>>,
+}
+
 /// Evaluates definitions of some pages.
 pub struct Evaluator {
     pub program: Program,
     /// Numbers that a statement about all numbers, or some, is asked about.
     pub bound: u64,
-    kept: Map<[u64; KEY], (Value, Vec<Value>)>,
+    pub(crate) known: Known,
     constants: Vec<Option<Value>>,
     names: Map<Vec<u64>, (u64, Value)>,
-    pub(crate) steps: Map<(u64, u64), Vec<u8>>,
-    pub(crate) reached: Map<(u64, u64, u64), Rc<Vec<bool>>>,
-    pub(crate) layers: Map<(u64, u64, u64), Vec<Vec<bool>>>,
-    calls: u64,
-    depth: usize,
+    pub(crate) watch: Option<Watch>,
+    /// Calls of one question, at most.
+    pub most_calls: u64,
+    pub(crate) calls: u64,
+    pub(crate) depth: usize,
 }
 
 impl Evaluator {
@@ -78,12 +88,11 @@ impl Evaluator {
         Evaluator {
             program,
             bound: 0,
-            kept: Map::default(),
+            known: Known::default(),
             constants: Vec::new(),
             names: Map::default(),
-            steps: Map::default(),
-            reached: Map::default(),
-            layers: Map::default(),
+            watch: None,
+            most_calls: MOST_CALLS,
             calls: 0,
             depth: 0,
         }
@@ -91,12 +100,12 @@ impl Evaluator {
 
     /// Forgets what was kept: for the next table, or other definitions.
     pub fn forget(&mut self) {
-        self.kept.clear();
+        self.known = Known::default();
         self.constants.clear();
         self.names.clear();
-        self.steps.clear();
-        self.reached.clear();
-        self.layers.clear();
+        if let Some(watch) = &mut self.watch {
+            watch.known = Known::default();
+        }
     }
 
     /// What a definition, `crate/Page.name`, gives for these arguments.
@@ -285,7 +294,7 @@ impl Evaluator {
         let rest = given.split_off(ready.arity);
         self.calls += 1;
         self.depth += 1;
-        if self.calls > MOST_CALLS || self.depth > DEEPEST {
+        if self.calls > self.most_calls || self.depth > DEEPEST {
             return Err(Stop::new("too many calls".to_string()));
         }
         let value = match ready.is_kept {
@@ -326,15 +335,24 @@ impl Evaluator {
                 None => return self.called(id, ready, given),
             }
         }
-        if let Some((value, _)) = self.kept.get(&key) {
+        if let Some((value, _)) = self.known.kept.get(&key) {
             return Ok(value.clone());
         }
         let value = self.called(id, ready, given.clone())?;
-        self.kept.insert(key, (value.clone(), given));
+        self.known.kept.insert(key, (value.clone(), given));
         Ok(value)
     }
 
     fn called(&mut self, id: usize, ready: &Ready, given: Vec<Value>) -> Result<Value, Stop> {
+        if !self.watch.as_ref().is_some_and(|watch| watch.is_watched(id)) {
+            return self.run(id, ready, given);
+        }
+        let value = self.run(id, ready, given.clone())?;
+        self.look_at(id, &given, &value);
+        Ok(value)
+    }
+
+    pub(crate) fn run(&mut self, id: usize, ready: &Ready, given: Vec<Value>) -> Result<Value, Stop> {
         if ready.is_plain {
             return self.eval(&ready.clauses[0].1, &Rc::new(given));
         }
@@ -449,6 +467,33 @@ impl Evaluator {
                 return Err(Stop::new("a function".to_string()))
             }
         })
+    }
+
+    /// Whether two values hold the same; that of functions isn't known.
+    pub(crate) fn same(&mut self, one: &Value, two: &Value) -> Result<bool, Stop> {
+        let pairs: Vec<(Value, Value)> = match (self.force(one)?, self.force(two)?) {
+            (Value::Number(one), Value::Number(two)) => return Ok(one == two),
+            (Value::Truth(one), Value::Truth(two)) => return Ok(one == two),
+            (Value::Float(one), Value::Float(two)) => return Ok(one == two),
+            (Value::List(one), Value::List(two)) if one.len() == two.len() => {
+                one.iter().cloned().zip(two.iter().cloned()).collect()
+            }
+            (Value::Data(one), Value::Data(two)) if one.tag == two.tag => {
+                one.fields.iter().cloned().zip(two.fields.iter().cloned()).collect()
+            }
+            (Value::Record(one), Value::Record(two)) => {
+                let second = two.iter().map(|(_, value)| value.clone());
+                one.iter().map(|(_, value)| value.clone()).zip(second).collect()
+            }
+            (Value::Function(_), _) => return Err(Stop::new("a function".to_string())),
+            _ => return Ok(false),
+        };
+        for (one, two) in pairs {
+            if !self.same(&one, &two)? {
+                return Ok(false);
+            }
+        }
+        Ok(true)
     }
 
     /// The numbers of a list.

@@ -14,6 +14,7 @@ mod page;
 mod parse;
 mod relation;
 mod value;
+mod watch;
 
 pub use compile::{Clause, Program};
 pub use eval::{Evaluator, Stop};

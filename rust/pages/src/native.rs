@@ -105,8 +105,8 @@ impl Evaluator {
         Ok(match (native, values.as_slice()) {
             (Suc, [Value::Number(a)]) => Value::Number(a + 1),
             (Not, [Value::Truth(a)]) => Value::Truth(!a),
-            (SameTruth | Same, [Value::Truth(a), Value::Truth(b)]) => Value::Truth(a == b),
-            (Same, [a, b]) => Value::Truth(self.show(a)? == self.show(b)?),
+            (SameTruth, [Value::Truth(a), Value::Truth(b)]) => Value::Truth(a == b),
+            (Same, [a, b]) => Value::Truth(self.same(a, b)?),
             (Length, [Value::List(list)]) => Value::Number(list.len() as u64),
             (Now, [value]) => value.clone(),
             (

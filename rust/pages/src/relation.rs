@@ -44,15 +44,14 @@ impl Evaluator {
         }
         let place = (from * bound + to) as usize;
         let size = (bound * bound) as usize;
-        let known = self
-            .steps
+        let known = self.known.steps
             .entry((name, bound))
             .or_insert_with(|| vec![2; size]);
         if known[place] < 2 {
             return Ok(known[place] == 1);
         }
         let truth = self.truth_of(test, &[from, to])?;
-        if let Some(known) = self.steps.get_mut(&(name, bound)) {
+        if let Some(known) = self.known.steps.get_mut(&(name, bound)) {
             known[place] = u8::from(truth);
         }
         Ok(truth)
@@ -75,7 +74,7 @@ impl Evaluator {
 
     fn reached_from(&mut self, relation: &Relation, from: u64) -> Result<Rc<Vec<bool>>, Stop> {
         let key = (relation.name, relation.bound, from);
-        if let Some(reached) = self.reached.get(&key) {
+        if let Some(reached) = self.known.reached.get(&key) {
             return Ok(reached.clone());
         }
         let mut reached = vec![false; relation.bound as usize];
@@ -89,7 +88,7 @@ impl Evaluator {
             }
         }
         let reached = Rc::new(reached);
-        self.reached.insert(key, reached.clone());
+        self.known.reached.insert(key, reached.clone());
         Ok(reached)
     }
 
@@ -106,7 +105,7 @@ impl Evaluator {
         }
         let key = (relation.name, relation.bound, to);
         let first = || vec![(0..relation.bound).map(|number| number == to).collect()];
-        let mut layers = self.layers.remove(&key).unwrap_or_else(first);
+        let mut layers = self.known.layers.remove(&key).unwrap_or_else(first);
         while layers.len() < steps {
             let last: &Vec<bool> = &layers[layers.len() - 1];
             let mut layer = Vec::with_capacity(last.len());
@@ -116,7 +115,7 @@ impl Evaluator {
             layers.push(layer);
         }
         let truth = self.leads_into(relation, from, &layers[steps - 1]);
-        self.layers.insert(key, layers);
+        self.known.layers.insert(key, layers);
         truth
     }
 

@@ -52,7 +52,7 @@ fn table(random: &mut Random, size: Size) -> Vec<u8> {
 }
 
 /// The examples, the litmus tests, and tables at the limits.
-pub fn examples_and_edges() -> Vec<Case> {
+pub fn fixed() -> Vec<Case> {
     let mut random = Random::new(1);
     let named = examples().into_iter().map(|example| example.bytes);
     let known = litmus().into_iter().map(|litmus| litmus.bytes);

@@ -9,12 +9,16 @@ mod choice;
 mod corpus;
 mod edges;
 mod expected;
+mod mutants;
 
 mod question;
+mod trial;
 
-pub use corpus::{case, examples_and_edges, Case};
+pub use corpus::{case, fixed, Case};
 
+pub use mutants::{mutants, Mutant};
 pub use question::{Argument, Question, Readers, Told};
+pub use trial::Trial;
 
 use std::path::PathBuf;
 use std::thread;

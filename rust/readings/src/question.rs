@@ -1,7 +1,6 @@
 //! Questions, and both who answer them.
 
-use crate::crates;
-use crate::expected;
+use crate::{crates, expected, Case};
 use pages::{Evaluator, Program, Stop, Value};
 use second::State;
 use std::collections::{BTreeMap, HashMap};
@@ -130,6 +129,20 @@ impl Readers {
         };
         self.values.insert(argument.clone(), value.clone());
         value
+    }
+
+    /// The definitions that the questions of these tables lead to.
+    pub fn definitions(&mut self, cases: &[Case]) -> Result<Vec<String>, String> {
+        for case in cases {
+            self.forget();
+            for question in &case.questions {
+                self.compare(question)?;
+            }
+        }
+        let called = self.pages.program.called();
+        let mut called: Vec<String> = called.into_iter().map(str::to_string).collect();
+        called.sort();
+        Ok(called)
     }
 
     /// Asks both; says where they differ.

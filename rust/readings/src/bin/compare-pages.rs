@@ -1,7 +1,7 @@
 //! A long comparison: `compare-pages SEED COUNT` asks the pages and the second
 //! implementation about so many generated tables.
 
-use readings::{case, examples_and_edges, with_room, Readers};
+use readings::{case, fixed, with_room, Readers};
 use std::collections::BTreeMap;
 use std::env;
 use std::process::ExitCode;
@@ -30,7 +30,7 @@ fn compare(seed: u64, count: u64) -> Result<(), String> {
     let mut readers = Readers::new();
     let mut asked: BTreeMap<&str, usize> = BTreeMap::new();
     let generated = (0..count).map(|number| case(seed << 32 | number));
-    for case in examples_and_edges().into_iter().chain(generated) {
+    for case in fixed().into_iter().chain(generated) {
         readers.forget();
         for question in &case.questions {
             if readers.compare(question)?.is_some() {

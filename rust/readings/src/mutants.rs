@@ -1,0 +1,181 @@
+//! Definitions changed in one place: connectives and comparisons exchanged, a
+//! number one more or less, two arguments exchanged, a negation dropped, a case
+//! left out.
+
+use pages::{Clause, Expr, Program, Stop};
+use std::collections::HashMap;
+
+/// A definition with one place changed.
+#[derive(Clone)]
+pub struct Mutant {
+    /// `crate/Page.name`
+    pub definition: String,
+    /// What was changed, as text.
+    pub change: String,
+    pub clauses: Vec<Clause>,
+}
+
+/// The types of arguments by the last name of a definition; none where two
+/// definitions of that name have others.
+type Types = HashMap<String, Vec<String>>;
+
+/// Every mutant of these definitions.
+pub fn mutants(program: &mut Program, definitions: &[String]) -> Result<Vec<Mutant>, Stop> {
+    let mut types = Types::new();
+    let mut all = Vec::new();
+    for definition in definitions {
+        let (kinds, clauses) = program.clauses(definition)?;
+        let name = definition.split_once('.').map_or("", |(_, name)| name);
+        let known = types.entry(name.to_string()).or_insert_with(|| kinds.clone());
+        if *known != kinds {
+            known.clear();
+        }
+        all.push((definition, clauses));
+    }
+    let mut found = Vec::new();
+    for (definition, clauses) in all {
+        for (number, (patterns, body)) in clauses.iter().enumerate() {
+            for (change, body) in changed(body, &types) {
+                let mut clauses = clauses.clone();
+                clauses[number] = (patterns.clone(), body);
+                found.push(Mutant { definition: definition.clone(), change, clauses });
+            }
+            if clauses.len() > 1 {
+                let mut rest = clauses.clone();
+                rest.remove(number);
+                let change = format!("without clause {number}");
+                found.push(Mutant { definition: definition.clone(), change, clauses: rest });
+            }
+        }
+    }
+    Ok(found)
+}
+
+/// The expression with one place changed, in every way.
+fn changed(written: &Expr, types: &Types) -> Vec<(String, Expr)> {
+    let mut all: Vec<(String, Expr)> = here(written, types)
+        .into_iter()
+        .filter(|other| other != written)
+        .map(|other| (format!("{} -> {}", text(written), text(&other)), other))
+        .collect();
+    let mut inside = |part: &Expr, put: &dyn Fn(Expr) -> Expr| {
+        all.extend(changed(part, types).into_iter().map(|(change, part)| (change, put(part))));
+    };
+    match written {
+        Expr::Name(_) | Expr::Number(_) => (),
+        Expr::Apply(head, arguments) => {
+            for place in 0..arguments.len() {
+                inside(&arguments[place], &|part| {
+                    let mut arguments = arguments.clone();
+                    arguments[place] = part;
+                    Expr::Apply(head.clone(), arguments)
+                });
+            }
+        }
+        Expr::Field(of, name) => inside(of, &|part| Expr::Field(Box::new(part), name.clone())),
+        Expr::Record(fields) => {
+            for place in 0..fields.len() {
+                inside(&fields[place].1, &|part| {
+                    let mut fields = fields.clone();
+                    fields[place].1 = part;
+                    Expr::Record(fields)
+                });
+            }
+        }
+        Expr::Function(names, body) => {
+            inside(body, &|part| Expr::Function(names.clone(), Box::new(part)));
+        }
+        Expr::All(names, body) => inside(body, &|part| Expr::All(names.clone(), Box::new(part))),
+        Expr::Some(names, body) => inside(body, &|part| Expr::Some(names.clone(), Box::new(part))),
+        Expr::Let(name, value, body) => {
+            inside(value, &|part| Expr::Let(name.clone(), Box::new(part), body.clone()));
+            inside(body, &|part| Expr::Let(name.clone(), value.clone(), Box::new(part)));
+        }
+    }
+    all
+}
+
+/// The changes of an expression's outermost part.
+fn here(written: &Expr, types: &Types) -> Vec<Expr> {
+    match written {
+        Expr::Number(0) => vec![Expr::Number(1)],
+        Expr::Number(number) => vec![Expr::Number(number + 1), Expr::Number(number - 1)],
+        Expr::Apply(head, arguments) => match &**head {
+            Expr::Name(name) => of_name(name, arguments, types),
+            _ => Vec::new(),
+        },
+        _ => Vec::new(),
+    }
+}
+
+fn of_name(name: &str, arguments: &[Expr], types: &Types) -> Vec<Expr> {
+    let other = |name: &str| Expr::Apply(Box::new(Expr::Name(name.to_string())), arguments.to_vec());
+    let swapped = |place: usize| {
+        let mut arguments = arguments.to_vec();
+        arguments.swap(place, place + 1);
+        Expr::Apply(Box::new(Expr::Name(name.to_string())), arguments)
+    };
+    let only = |place: usize| arguments[place].clone();
+    match (name, arguments.len()) {
+        ("_and_", 2) => vec![other("_or_"), only(0), only(1)],
+        ("_or_", 2) => vec![other("_and_"), only(0), only(1)],
+        ("not" | "suc", 1) => vec![only(0)],
+        ("ltb", 2) => vec![other("leb"), swapped(0)],
+        ("leb", 2) => vec![other("ltb"), swapped(0)],
+        ("eqb", 2) => vec![other("leb")],
+        ("cond", 3) => vec![swapped(1), only(1), only(2)],
+        ("_+_", 2) => vec![other("_-_"), only(0), only(1)],
+        ("_-_", 2) => vec![other("_+_"), only(0)],
+        ("_*_", 2) => vec![other("_+_")],
+        ("_/_", 2) => vec![other("_%_"), only(0)],
+        ("_%_", 2) => vec![other("_/_"), only(0)],
+        ("_++_", 2) => vec![swapped(0), only(0), only(1)],
+        _ => {
+            let last = name.rsplit('.').next().unwrap_or(name);
+            let places = 0..arguments.len().saturating_sub(1);
+            let is_same = |place: &usize| exchangeable(last, *place, arguments.len(), types);
+            places.filter(is_same).map(swapped).collect()
+        }
+    }
+}
+
+/// Whether two arguments, one after the other, have one type. A definition in
+/// a module may be given fewer than it has: then the last ones are meant.
+fn exchangeable(name: &str, place: usize, given: usize, types: &Types) -> bool {
+    let Some(kinds) = types.get(name) else {
+        // A constructor, or a native of none that can be exchanged.
+        return name.chars().next().is_some_and(char::is_uppercase);
+    };
+    let place = place + kinds.len().saturating_sub(given);
+    kinds.get(place).is_some() && kinds.get(place) == kinds.get(place + 1)
+}
+
+/// An expression as text, briefly.
+fn text(written: &Expr) -> String {
+    match written {
+        Expr::Name(name) => name.clone(),
+        Expr::Number(number) => number.to_string(),
+        Expr::Apply(head, arguments) => {
+            let parts: Vec<String> = arguments.iter().map(inner).collect();
+            match head.as_ref() {
+                Expr::Name(name) if parts.len() == 2 && name.starts_with('_') => {
+                    format!("{} {} {}", parts[0], name.trim_matches('_'), parts[1])
+                }
+                head => format!("{} {}", inner(head), parts.join(" ")),
+            }
+        }
+        Expr::Field(of, name) => format!("{} .{name}", text(of)),
+        Expr::Let(name, value, body) => format!("let {name} = {} in {}", text(value), text(body)),
+        Expr::Function(names, body) => format!("λ {}. {}", names.join(" "), text(body)),
+        Expr::All(names, body) => format!("({} : ℕ) → {}", names.join(" "), text(body)),
+        Expr::Some(names, body) => format!("({} : ℕ) × {}", names.join(" "), text(body)),
+        Expr::Record(_) => "record".to_string(),
+    }
+}
+
+fn inner(written: &Expr) -> String {
+    match written {
+        Expr::Name(_) | Expr::Number(_) => text(written),
+        _ => format!("({})", text(written)),
+    }
+}

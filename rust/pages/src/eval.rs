@@ -3,8 +3,8 @@
 
 use crate::compile::Program;
 use crate::native::Native;
-use crate::watch::Watch;
 use crate::value::{Core, Data, Env, Function, Head, Later, Pattern, Ready, Value};
+use crate::watch::Watch;
 use std::cell::RefCell;
 use std::collections::HashMap;
 use std::fmt;
@@ -104,7 +104,7 @@ impl Evaluator {
         self.constants.clear();
         self.names.clear();
         if let Some(watch) = &mut self.watch {
-            watch.known = Known::default();
+            watch.forget();
         }
     }
 
@@ -344,7 +344,11 @@ impl Evaluator {
     }
 
     fn called(&mut self, id: usize, ready: &Ready, given: Vec<Value>) -> Result<Value, Stop> {
-        if !self.watch.as_ref().is_some_and(|watch| watch.is_watched(id)) {
+        if !self
+            .watch
+            .as_ref()
+            .is_some_and(|watch| watch.is_watched(id))
+        {
             return self.run(id, ready, given);
         }
         let value = self.run(id, ready, given.clone())?;
@@ -352,7 +356,12 @@ impl Evaluator {
         Ok(value)
     }
 
-    pub(crate) fn run(&mut self, id: usize, ready: &Ready, given: Vec<Value>) -> Result<Value, Stop> {
+    pub(crate) fn run(
+        &mut self,
+        id: usize,
+        ready: &Ready,
+        given: Vec<Value>,
+    ) -> Result<Value, Stop> {
         if ready.is_plain {
             return self.eval(&ready.clauses[0].1, &Rc::new(given));
         }
@@ -478,12 +487,18 @@ impl Evaluator {
             (Value::List(one), Value::List(two)) if one.len() == two.len() => {
                 one.iter().cloned().zip(two.iter().cloned()).collect()
             }
-            (Value::Data(one), Value::Data(two)) if one.tag == two.tag => {
-                one.fields.iter().cloned().zip(two.fields.iter().cloned()).collect()
-            }
+            (Value::Data(one), Value::Data(two)) if one.tag == two.tag => one
+                .fields
+                .iter()
+                .cloned()
+                .zip(two.fields.iter().cloned())
+                .collect(),
             (Value::Record(one), Value::Record(two)) => {
                 let second = two.iter().map(|(_, value)| value.clone());
-                one.iter().map(|(_, value)| value.clone()).zip(second).collect()
+                one.iter()
+                    .map(|(_, value)| value.clone())
+                    .zip(second)
+                    .collect()
             }
             (Value::Function(_), _) => return Err(Stop::new("a function".to_string())),
             _ => return Ok(false),

@@ -44,7 +44,9 @@ impl Evaluator {
         }
         let place = (from * bound + to) as usize;
         let size = (bound * bound) as usize;
-        let known = self.known.steps
+        let known = self
+            .known
+            .steps
             .entry((name, bound))
             .or_insert_with(|| vec![2; size]);
         if known[place] < 2 {

@@ -9,20 +9,31 @@ use std::collections::HashMap;
 use std::mem;
 use std::rc::Rc;
 
-/// Calls that another definition may take for one value.
+/// Calls that another definition may take for one value, and values of a
+/// definition that are looked at for one table.
 const MOST_CALLS: u64 = 200_000;
+const MOST_LOOKS: usize = 150;
 
 #[derive(Default)]
 pub(crate) struct Watch {
     /// By definition: the others, and whether each has differed.
     others: HashMap<usize, Vec<(usize, Rc<Ready>, bool)>>,
+    looks: HashMap<usize, usize>,
     is_looking: bool,
-    pub(crate) known: Known,
+    known: Known,
 }
 
 impl Watch {
     pub(crate) fn is_watched(&self, id: usize) -> bool {
-        !self.is_looking && self.others.contains_key(&id)
+        !self.is_looking
+            && self.others.contains_key(&id)
+            && self.looks.get(&id).is_none_or(|looks| *looks < MOST_LOOKS)
+    }
+
+    /// For the next table.
+    pub(crate) fn forget(&mut self) {
+        self.known = Known::default();
+        self.looks.clear();
     }
 }
 
@@ -58,6 +69,7 @@ impl Evaluator {
 
     pub(crate) fn look_at(&mut self, id: usize, given: &[Value], value: &Value) {
         let Some(watch) = &mut self.watch else { return };
+        *watch.looks.entry(id).or_default() += 1;
         watch.is_looking = true;
         mem::swap(&mut watch.known, &mut self.known);
         let others = watch.others.get(&id).cloned().unwrap_or_default();
@@ -75,11 +87,19 @@ impl Evaluator {
         watch.is_looking = false;
         mem::swap(&mut watch.known, &mut self.known);
         if let Some(others) = watch.others.get_mut(&id) {
-            differing.into_iter().for_each(|place| others[place].2 = true);
+            differing
+                .into_iter()
+                .for_each(|place| others[place].2 = true);
         }
     }
 
-    fn gives(&mut self, id: usize, other: &Ready, given: &[Value], value: &Value) -> Result<bool, Stop> {
+    fn gives(
+        &mut self,
+        id: usize,
+        other: &Ready,
+        given: &[Value],
+        value: &Value,
+    ) -> Result<bool, Stop> {
         let told = self.run(id, other, given.to_vec())?;
         self.same(&told, value)
     }

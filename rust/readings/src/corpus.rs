@@ -2,7 +2,7 @@
 
 use crate::choice::{chosen, Choice};
 use crate::question::*;
-use second::State;
+use second::{joined, State};
 use tables::{chained, chained_fillable, checkable, damaged, damaged_hosted, examples, fillable};
 use tables::{hosted, hosted_fillable, litmus, Random, Size};
 
@@ -279,19 +279,32 @@ fn of_pieces(random: &mut Random, table: &[u8], questions: &mut Vec<Question>) {
     ask(questions, "stramashly_check2", with(lent(random, CYCLE)));
     ask(questions, "stramashly_fill2", with(lent(random, SOURCES)));
     ask(questions, "stramashly_report2", with(lent(random, CYCLE)));
-    let [m, k] = [0, 1].map(|_| number(moment(random, rows.min(8)) as u64));
-    let lent = vec![m.clone(), k.clone(), work(random), halves(random, CHAIN)];
-    ask(questions, "stramashly_derive2", with(lent));
-    let (classes, steps) = (
-        random.pick(&[1u8, 2, 16]),
-        random.pick(&[&[][..], &[519], &[1028]]),
-    );
-    let claim = vec![m, k, number(classes), Argument::Halves(steps.to_vec())];
-    ask(questions, "stramashly_accepts2", with(claim));
+    of_moments_in_pieces(random, [&first, &second], questions);
     for _ in 0..3 {
         let row = random.below(rows + 2) as u64;
         ask(questions, "stramashly_row2", with(vec![number(row)]));
         ask(questions, ROW_PART, with(vec![number(row)]));
+    }
+}
+
+fn of_moments_in_pieces(random: &mut Random, pieces: [&[u8]; 2], questions: &mut Vec<Question>) {
+    let mut state = State::new();
+    let is_known = joined(pieces).is_ok_and(|table| state.take_in(&table).is_ok());
+    let rows = if is_known { state.row_count() } else { 3 };
+    let [first, second] = [0, 1].map(|_| moment(random, rows));
+    let numbers = [number(first as u64), number(second as u64)];
+    let pair = || {
+        [
+            &pieces.map(|piece| Argument::Bytes(piece.to_vec()))[..],
+            &numbers,
+        ]
+        .concat()
+    };
+    let lent = [pair(), vec![work(random), halves(random, CHAIN)]].concat();
+    ask(questions, "stramashly_derive2", lent);
+    for (classes, steps) in claims(random, &state, first, second).into_iter().take(2) {
+        let claim = vec![number(classes), Argument::Halves(steps)];
+        ask(questions, "stramashly_accepts2", [pair(), claim].concat());
     }
 }
 

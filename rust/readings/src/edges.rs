@@ -1,13 +1,16 @@
-//! Questions that generated tables rarely lead to: numbers at their limits,
-//! and definitions that are asked for by themselves.
+//! Questions that generated tables rarely lead to: rows of every form, numbers
+//! at their limits, and definitions that are asked for by themselves.
 
-use crate::corpus::{asked, Case};
+use crate::corpus::Case;
 use crate::question::*;
-use tables::Random;
+use tables::{Random, Row, Table};
 
 pub fn edges(random: &mut Random) -> Vec<Case> {
     let mut cases = vec![shares(), lowest_shared(), share_of()];
-    cases.push(asked(random, vec![0; 8]));
+    cases.extend((0..14).flat_map(|kind| forms(random, kind)));
+    cases.extend(ranks(random));
+    cases.push(limits());
+    cases.extend(headers(random));
     cases
 }
 
@@ -23,6 +26,26 @@ fn numbers(values: &[u64]) -> Vec<Argument> {
         .iter()
         .map(|value| Argument::Number(*value))
         .collect()
+}
+
+fn open(table: Vec<u8>) -> Question {
+    Question {
+        function: "stramashly_open",
+        arguments: vec![Argument::Bytes(table)],
+    }
+}
+
+fn check(table: Vec<u8>) -> Question {
+    let lent = [
+        Argument::Words(vec![1; 8192]),
+        Argument::Halves(vec![2; 256]),
+    ];
+    let mut arguments = vec![Argument::Bytes(table), Argument::Number(0)];
+    arguments.extend(lent);
+    Question {
+        function: "stramashly_check",
+        arguments,
+    }
 }
 
 /// Every scope of every two of some agents, hosts and queues among them.
@@ -93,4 +116,161 @@ fn share_of() -> Case {
         arguments: numbers(&pair),
     });
     alone(questions.to_vec())
+}
+
+/// A row of a kind that may be as it must, and mostly isn't.
+fn form(random: &mut Random, kind: u8) -> Row {
+    let agent = match kind {
+        0..=6 => random.pick(&[0, 0, 0, 0, 0, 0, 1, 2]),
+        _ => random.pick(&[2, 2, 2, 2, 2, 2, 0, 1]),
+    };
+    let mut row = match kind {
+        0 => Row::read(agent, 65535),
+        1 => Row::write(agent),
+        2 => Row::atomic_read(agent, 65535),
+        3 => Row::atomic_write(agent, 1),
+        4 => Row::rmw(agent, 65535, 1),
+        5 => Row::barrier(agent, 2, 1),
+        6 => Row::control_barrier(agent, 2, 7),
+        _ => Row::queue(agent, kind),
+    };
+    if kind < 2 {
+        row.length = random.pick(&[1, 4, 15, 16]);
+    }
+    if (2..7).contains(&kind) && random.percent(60) {
+        let order = random.pick(&[0, 1, 2, 3]);
+        (row.order, row.classes) = (
+            order,
+            if order == 0 {
+                0
+            } else {
+                random.pick(&[1, 2, 15])
+            },
+        );
+    }
+    for _ in 0..random.pick(&[0, 1, 1, 1, 2]) {
+        change(random, &mut row);
+    }
+    row
+}
+
+fn change(random: &mut Random, row: &mut Row) {
+    match random.below(12) {
+        0 => row.order = random.pick(&[0, 1, 2, 3, 4]),
+        1 => row.scope = random.pick(&[0, 1, 4, 5]),
+        2 => row.classes = random.pick(&[0, 1, 15, 16]),
+        3 | 4 => row.flags = random.pick(&[0, 1, 2, 3, 4, 5, 6, 7, 8]),
+        5 => row.class = random.pick(&[0, 1, 3, 4, 5]),
+        6 => row.length = random.pick(&[0, 1, 2, 3, 4, 8, 16, 17]),
+        7 => row.start = random.pick(&[0, 1, 2, 4, 8, 12, 65520, 65528, 65532, 65535]),
+        8 => row.reference = random.pick(&[0, 1, 65535]),
+        9 => row.source = random.pick(&[0, 1, 2, 65534, 65535]),
+        10 => row.rank = random.pick(&[0, 1, 65535]),
+        _ => row.agent = random.pick(&[0, 1, 2, 3, 255]),
+    }
+}
+
+/// Tables of one or two rows of a kind, thirty to a case.
+fn forms(random: &mut Random, kind: u8) -> Vec<Case> {
+    let case = |random: &mut Random| {
+        let one = |random: &mut Random| {
+            let mut rows = vec![form(random, kind)];
+            if random.percent(40) {
+                let kind = random.pick(&[0, 1, 2, 3, 4, 5, 6, kind, kind]);
+                rows.push(form(random, kind));
+            }
+            let mut bytes = Table::with_sorts(&[0, 1, 2], &rows, &[]).bytes();
+            // Without hosts there are other agents and no dependencies.
+            if random.percent(25) {
+                bytes = Table::new(&[[0, 0, 0]; 3], &rows).bytes();
+            }
+            open(bytes)
+        };
+        alone((0..30).map(|_| one(random)).collect())
+    };
+    (0..8).map(|_| case(random)).collect()
+}
+
+/// Three writers of one location with ranks near the limits, in every version.
+fn ranks(random: &mut Random) -> Vec<Case> {
+    let near = [
+        0, 1, 2, 20_000, 32_767, 32_768, 32_769, 45_000, 65_534, 65_535,
+    ];
+    let one = |random: &mut Random| {
+        let scope = random.pick(&[0, 0, 2, 4]);
+        let row = |agent: u8, rank: u16| Row::atomic_write(agent, rank).scope(scope);
+        let mut rows: Vec<Row> = (0..3).map(|agent| row(agent, random.pick(&near))).collect();
+        let place = random.below(3);
+        match random.below(6) {
+            0 => rows[place].start = 4,
+            1 => rows[place].reference = 9,
+            2 => rows[place] = Row::rmw(place as u8, 65535, random.pick(&near)).scope(scope),
+            _ => (),
+        }
+        let mut table = Table::new(&[[0, 0, 0], [0, 0, 1], [0, 1, 0]], &rows);
+        if random.percent(70) {
+            table = table.counted();
+        }
+        let bytes = table.bytes();
+        [open(bytes.clone()), check(bytes)]
+    };
+    let mut case = |_: u32| alone((0..12).flat_map(|_| one(random)).collect());
+    (0..16).map(&mut case).collect()
+}
+
+/// As many agents, rows and dependencies as there may be, and one more.
+fn limits() -> Case {
+    let mut questions = Vec::new();
+    for agents in [31, 32, 33] {
+        let places = vec![[0, 0, 0]; agents];
+        questions.push(open(
+            Table::new(&places, &[Row::write(30), Row::write(31)]).bytes(),
+        ));
+    }
+    for count in [1, 63, 64, 65, 255, 256] {
+        let pairs = vec![[0, 1]; count];
+        let rows = [Row::write(0), Row::write(0)];
+        questions.push(open(Table::with_sorts(&[0], &rows, &pairs).bytes()));
+    }
+    for rows in [127, 128, 129] {
+        let rows = vec![Row::write(0); rows];
+        questions.push(open(Table::new(&[[0, 0, 0]], &rows).bytes()));
+    }
+    alone(questions)
+}
+
+/// Every byte of two headers with every bit changed, lengths that don't fit.
+fn headers(random: &mut Random) -> Vec<Case> {
+    let rows = [Row::write(0), Row::read(1, 0)];
+    let tables = [
+        Table::new(&[[0, 0, 0], [0, 0, 1]], &rows).bytes(),
+        Table::with_sorts(&[0, 1, 2], &rows, &[[0, 1], [1, 0]]).bytes(),
+    ];
+    let mut cases = Vec::new();
+    for table in tables {
+        let mut questions = Vec::new();
+        let places = (0..32).chain(table.len() - 10..table.len());
+        for (place, bit) in places.flat_map(|place| (0..8).map(move |bit| (place, bit))) {
+            let mut changed = table.clone();
+            changed[place] ^= 1 << bit;
+            questions.push(open(changed));
+        }
+        for length in [
+            0,
+            3,
+            7,
+            8,
+            9,
+            12,
+            table.len() - 1,
+            table.len() + 1,
+            table.len() + 16,
+        ] {
+            let mut changed = table.clone();
+            changed.resize(length, random.word() as u8);
+            questions.push(open(changed));
+        }
+        cases.extend(questions.chunks(40).map(|part| alone(part.to_vec())));
+    }
+    cases
 }

@@ -3,7 +3,7 @@
 //! left out.
 
 use pages::{Clause, Expr, Program, Stop};
-use std::collections::HashMap;
+use std::collections::{HashMap, HashSet};
 
 /// A definition with one place changed.
 #[derive(Clone)]
@@ -15,36 +15,75 @@ pub struct Mutant {
     pub clauses: Vec<Clause>,
 }
 
-/// The types of arguments by the last name of a definition; none where two
-/// definitions of that name have others.
-type Types = HashMap<String, Vec<String>>;
+/// Definitions that stay the same where their last two arguments are
+/// exchanged.
+const SYMMETRIC: [&str; 16] = [
+    "Bool·beq",
+    "agree",
+    "apart",
+    "clash",
+    "conflict",
+    "mutualRows",
+    "mutually",
+    "oneInstance",
+    "overlap",
+    "races",
+    "sameAgent",
+    "sameInstance",
+    "sameLocation",
+    "sameReference",
+    "shares",
+    "together",
+];
+
+/// What is known of the definitions that are changed.
+#[derive(Default)]
+struct Known {
+    /// The types of arguments by the last name of a definition; none where two
+    /// definitions of that name have others.
+    types: HashMap<String, Vec<String>>,
+    /// The names of the number 0.
+    zeros: HashSet<String>,
+}
 
 /// Every mutant of these definitions.
 pub fn mutants(program: &mut Program, definitions: &[String]) -> Result<Vec<Mutant>, Stop> {
-    let mut types = Types::new();
+    let mut known = Known::default();
     let mut all = Vec::new();
     for definition in definitions {
         let (kinds, clauses) = program.clauses(definition)?;
         let name = definition.split_once('.').map_or("", |(_, name)| name);
-        let known = types.entry(name.to_string()).or_insert_with(|| kinds.clone());
-        if *known != kinds {
-            known.clear();
+        let types = known.types.entry(name.to_string());
+        let types = types.or_insert_with(|| kinds.clone());
+        if *types != kinds {
+            types.clear();
+        }
+        if matches!(clauses[..], [(_, Expr::Number(0))]) {
+            known.zeros.insert(name.to_string());
         }
         all.push((definition, clauses));
     }
     let mut found = Vec::new();
     for (definition, clauses) in all {
         for (number, (patterns, body)) in clauses.iter().enumerate() {
-            for (change, body) in changed(body, &types) {
+            for (change, body) in changed(body, &known) {
                 let mut clauses = clauses.clone();
                 clauses[number] = (patterns.clone(), body);
-                found.push(Mutant { definition: definition.clone(), change, clauses });
+                found.push(Mutant {
+                    definition: definition.clone(),
+                    change,
+                    clauses,
+                });
             }
             if clauses.len() > 1 {
                 let mut rest = clauses.clone();
                 rest.remove(number);
                 let change = format!("without clause {number}");
-                found.push(Mutant { definition: definition.clone(), change, clauses: rest });
+                found.push(Mutant {
+                    definition: definition.clone(),
+                    change,
+                    clauses: rest,
+                });
             }
         }
     }
@@ -52,14 +91,18 @@ pub fn mutants(program: &mut Program, definitions: &[String]) -> Result<Vec<Muta
 }
 
 /// The expression with one place changed, in every way.
-fn changed(written: &Expr, types: &Types) -> Vec<(String, Expr)> {
-    let mut all: Vec<(String, Expr)> = here(written, types)
+fn changed(written: &Expr, known: &Known) -> Vec<(String, Expr)> {
+    let mut all: Vec<(String, Expr)> = here(written, known)
         .into_iter()
         .filter(|other| other != written)
         .map(|other| (format!("{} -> {}", text(written), text(&other)), other))
         .collect();
     let mut inside = |part: &Expr, put: &dyn Fn(Expr) -> Expr| {
-        all.extend(changed(part, types).into_iter().map(|(change, part)| (change, put(part))));
+        all.extend(
+            changed(part, known)
+                .into_iter()
+                .map(|(change, part)| (change, put(part))),
+        );
     };
     match written {
         Expr::Name(_) | Expr::Number(_) => (),
@@ -88,28 +131,33 @@ fn changed(written: &Expr, types: &Types) -> Vec<(String, Expr)> {
         Expr::All(names, body) => inside(body, &|part| Expr::All(names.clone(), Box::new(part))),
         Expr::Some(names, body) => inside(body, &|part| Expr::Some(names.clone(), Box::new(part))),
         Expr::Let(name, value, body) => {
-            inside(value, &|part| Expr::Let(name.clone(), Box::new(part), body.clone()));
-            inside(body, &|part| Expr::Let(name.clone(), value.clone(), Box::new(part)));
+            inside(value, &|part| {
+                Expr::Let(name.clone(), Box::new(part), body.clone())
+            });
+            inside(body, &|part| {
+                Expr::Let(name.clone(), value.clone(), Box::new(part))
+            });
         }
     }
     all
 }
 
 /// The changes of an expression's outermost part.
-fn here(written: &Expr, types: &Types) -> Vec<Expr> {
+fn here(written: &Expr, known: &Known) -> Vec<Expr> {
     match written {
         Expr::Number(0) => vec![Expr::Number(1)],
         Expr::Number(number) => vec![Expr::Number(number + 1), Expr::Number(number - 1)],
         Expr::Apply(head, arguments) => match &**head {
-            Expr::Name(name) => of_name(name, arguments, types),
+            Expr::Name(name) => of_name(name, arguments, known),
             _ => Vec::new(),
         },
         _ => Vec::new(),
     }
 }
 
-fn of_name(name: &str, arguments: &[Expr], types: &Types) -> Vec<Expr> {
-    let other = |name: &str| Expr::Apply(Box::new(Expr::Name(name.to_string())), arguments.to_vec());
+fn of_name(name: &str, arguments: &[Expr], known: &Known) -> Vec<Expr> {
+    let other =
+        |name: &str| Expr::Apply(Box::new(Expr::Name(name.to_string())), arguments.to_vec());
     let swapped = |place: usize| {
         let mut arguments = arguments.to_vec();
         arguments.swap(place, place + 1);
@@ -122,6 +170,8 @@ fn of_name(name: &str, arguments: &[Expr], types: &Types) -> Vec<Expr> {
         ("not" | "suc", 1) => vec![only(0)],
         ("ltb", 2) => vec![other("leb"), swapped(0)],
         ("leb", 2) => vec![other("ltb"), swapped(0)],
+        // No number is less than 0, so that `leb` would be the same.
+        ("eqb", 2) if is_zero(&arguments[1], known) => vec![other("ltb")],
         ("eqb", 2) => vec![other("leb")],
         ("cond", 3) => vec![swapped(1), only(1), only(2)],
         ("_+_", 2) => vec![other("_-_"), only(0), only(1)],
@@ -133,16 +183,27 @@ fn of_name(name: &str, arguments: &[Expr], types: &Types) -> Vec<Expr> {
         _ => {
             let last = name.rsplit('.').next().unwrap_or(name);
             let places = 0..arguments.len().saturating_sub(1);
-            let is_same = |place: &usize| exchangeable(last, *place, arguments.len(), types);
+            let is_same = |place: &usize| exchangeable(last, *place, arguments.len(), known);
             places.filter(is_same).map(swapped).collect()
         }
     }
 }
 
+fn is_zero(written: &Expr, known: &Known) -> bool {
+    match written {
+        Expr::Number(number) => *number == 0,
+        Expr::Name(name) => known.zeros.contains(name),
+        _ => false,
+    }
+}
+
 /// Whether two arguments, one after the other, have one type. A definition in
 /// a module may be given fewer than it has: then the last ones are meant.
-fn exchangeable(name: &str, place: usize, given: usize, types: &Types) -> bool {
-    let Some(kinds) = types.get(name) else {
+fn exchangeable(name: &str, place: usize, given: usize, known: &Known) -> bool {
+    if SYMMETRIC.contains(&name) && place + 2 == given {
+        return false;
+    }
+    let Some(kinds) = known.types.get(name) else {
         // A constructor, or a native of none that can be exchanged.
         return name.chars().next().is_some_and(char::is_uppercase);
     };

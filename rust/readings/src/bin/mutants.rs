@@ -46,17 +46,31 @@ fn try_all(count: u64, every: usize) -> Result<(), String> {
     println!("{} definitions, {total} mutants", asked.len());
     let mut trial = Trial::new(readers, all);
     trial.ask(fixed())?;
+    println!(
+        "fixed tables: {} left, {} s",
+        trial.left().count(),
+        began.elapsed().as_secs()
+    );
     for first in (0..count).step_by(ROUND as usize) {
-        let cases: Vec<Case> = (first..first + ROUND).map(|number| case(SEED + number)).collect();
+        let cases: Vec<Case> = (first..first + ROUND)
+            .map(|number| case(SEED + number))
+            .collect();
         let useful = trial.ask(cases)?;
         let left = trial.left().count();
-        println!("tables {first}..: useful {useful:?}, {left} left, {} s", began.elapsed().as_secs());
+        println!(
+            "tables {first}..: useful {useful:?}, {left} left, {} s",
+            began.elapsed().as_secs()
+        );
     }
     for (mutant, differs) in trial.left() {
         let words = if differs { "differs" } else { "gives the same" };
         println!("{} ({words}): {}", mutant.definition, mutant.change);
     }
     let left = trial.left().count();
-    println!("{} of {total} told apart in {} s", total - left, began.elapsed().as_secs());
+    println!(
+        "{} of {total} told apart in {} s",
+        total - left,
+        began.elapsed().as_secs()
+    );
     Ok(())
 }

@@ -188,6 +188,25 @@ impl Program {
         }
     }
 
+    /// An expression of somebody else, with the names of a page and these.
+    pub(crate) fn expression(
+        &mut self,
+        page: &str,
+        text: &str,
+        names: &[&str],
+    ) -> Result<Rc<Core>, Stop> {
+        self.page(page)?;
+        let written = expression(&crate::lex::words(text), &self.operators).map_err(Stop::new)?;
+        let definition = Definition::default();
+        let locals = names.iter().map(|name| name.to_string()).collect();
+        let mut scope = Scope {
+            page,
+            definition: &definition,
+            locals,
+        };
+        self.core(&written, &mut scope)
+    }
+
     pub(crate) fn ready(&mut self, id: usize) -> Result<Rc<Ready>, Stop> {
         if let Some(ready) = &self.ready[id] {
             return Ok(ready.clone());

@@ -115,6 +115,20 @@ impl Evaluator {
         self.call(id, arguments.to_vec())
     }
 
+    /// What an expression is worth, with the names of a page and these values.
+    pub fn expression(
+        &mut self,
+        page: &str,
+        text: &str,
+        given: &[(&str, Value)],
+    ) -> Result<Value, Stop> {
+        (self.calls, self.depth) = (0, 0);
+        let names: Vec<&str> = given.iter().map(|(name, _)| *name).collect();
+        let values = given.iter().map(|(_, value)| value.clone()).collect();
+        let core = self.program.expression(page, text, &names)?;
+        self.eval(&core, &Rc::new(values))
+    }
+
     /// As `ask`, with all that the value holds, as text.
     pub fn told(&mut self, definition: &str, arguments: &[Value]) -> Result<String, Stop> {
         let value = self.ask(definition, arguments)?;

@@ -24,7 +24,11 @@ fn rows_of(table: &[u8]) -> (usize, usize) {
 fn is_moved(one: &[u8], two: &[u8], places: &[usize]) -> bool {
     let (begin, end) = rows_of(one);
     let number = |bytes: &[u8]| u16::from_be_bytes([bytes[0], bytes[1]]);
-    let to = |row: u16| places.get(usize::from(row)).map_or(row, |place| *place as u16);
+    let to = |row: u16| {
+        places
+            .get(usize::from(row))
+            .map_or(row, |place| *place as u16)
+    };
     let row = |table: &[u8], row: usize| table[begin + 16 * row..][..16].to_vec();
     let is_same_row = |from: usize| {
         let (mut before, after) = (row(one, from), row(two, places[from]));
@@ -88,7 +92,11 @@ fn moved_tables() {
                 _ => (),
             }
             let truth = is_moved(&one, &two, &places);
-            assert_eq!(page_says(&mut pages, &one, &two, &places), truth, "{one:?} {two:?} {places:?}");
+            assert_eq!(
+                page_says(&mut pages, &one, &two, &places),
+                truth,
+                "{one:?} {two:?} {places:?}"
+            );
             answers[usize::from(truth)] += 1;
         }
         answers
@@ -99,7 +107,10 @@ fn moved_tables() {
 fn said(row: Row) -> String {
     let small: Vec<String> = row_bytes(row)[..8].iter().map(u8::to_string).collect();
     let (start, reference, rank, source) = (row.start, row.reference, row.rank, row.source);
-    format!("Row {{{} {start} {reference} {rank}}} {{{source}}}", small.join(" "))
+    format!(
+        "Row {{{} {start} {reference} {rank}}} {{{source}}}",
+        small.join(" ")
+    )
 }
 
 /// A reader gives the rows one after the other, and then the end for good.

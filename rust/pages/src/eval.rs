@@ -11,19 +11,23 @@ use std::fmt;
 use std::hash::{BuildHasherDefault, Hasher};
 use std::rc::Rc;
 
-/// Why an evaluation ended without a value.
+/// Why an evaluation ended without a value. Boxed, so that a value is no larger
+/// for it.
 #[derive(Clone, Debug, PartialEq, Eq)]
-pub struct Stop(Box<String>);
+pub struct Stop(Box<Reason>);
+
+#[derive(Clone, Debug, PartialEq, Eq)]
+struct Reason(String);
 
 impl Stop {
     pub fn new(text: String) -> Stop {
-        Stop(Box::new(text))
+        Stop(Box::new(Reason(text)))
     }
 }
 
 impl fmt::Display for Stop {
     fn fmt(&self, formatter: &mut fmt::Formatter) -> fmt::Result {
-        self.0.fmt(formatter)
+        self.0 .0.fmt(formatter)
     }
 }
 
@@ -238,7 +242,7 @@ impl Evaluator {
             Core::Constant(_) | Core::Function(..) | Core::Data(..) => self.eval(core, env),
             _ if is_quick(core) => self.eval(core, env),
             _ => {
-                let later = Later::Todo(core.clone(), env.clone());
+                let later = Later::Todo(core.clone(), env.clone(), self.is_looking());
                 Ok(Value::Later(Rc::new(RefCell::new(later))))
             }
         }
@@ -248,12 +252,15 @@ impl Evaluator {
         let Value::Later(later) = value else {
             return Ok(value.clone());
         };
-        let (core, env) = match &*later.borrow() {
+        let (core, env, looking) = match &*later.borrow() {
             Later::Done(value) => return Ok(value.clone()),
-            Later::Todo(core, env) => (core.clone(), env.clone()),
+            Later::Todo(core, env, looking) => (core.clone(), env.clone(), *looking),
         };
         let value = self.eval(&core, &env)?;
-        *later.borrow_mut() = Later::Done(value.clone());
+        // What the pages' own evaluation will ask for is left to it.
+        if looking || !self.is_looking() {
+            *later.borrow_mut() = Later::Done(value.clone());
+        }
         Ok(value)
     }
 

@@ -46,7 +46,8 @@ pub enum Head {
 }
 
 pub enum Later {
-    Todo(Rc<Core>, Env),
+    /// The last part says whether it came up while others were looked at.
+    Todo(Rc<Core>, Env, bool),
     Done(Value),
 }
 

@@ -63,6 +63,10 @@ impl Evaluator {
         found
     }
 
+    pub(crate) fn is_looking(&self) -> bool {
+        self.watch.as_ref().is_some_and(|watch| watch.is_looking)
+    }
+
     pub fn unwatch(&mut self) {
         self.watch = None;
     }

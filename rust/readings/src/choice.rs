@@ -38,13 +38,11 @@ fn fewest(state: &State, classes: u8, first: usize, second: usize) -> Option<Vec
     distance[second] = Some(0);
     let mut layer = vec![second];
     while distance[first].is_none() && !layer.is_empty() {
-        let mut next = Vec::new();
-        for from in 0..moments {
-            let is_before = |to: &usize| lowest_case(state, classes, from, *to).is_some();
-            if distance[from].is_none() && layer.iter().any(is_before) {
-                next.push(from);
-            }
-        }
+        let is_new = |from: &usize| {
+            let is_before = |to: &usize| lowest_case(state, classes, *from, *to).is_some();
+            distance[*from].is_none() && layer.iter().any(is_before)
+        };
+        let next: Vec<usize> = (0..moments).filter(is_new).collect();
         let steps = distance[layer[0]].map(|steps: usize| steps + 1);
         next.iter().for_each(|from| distance[*from] = steps);
         layer = next;

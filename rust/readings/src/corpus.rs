@@ -39,6 +39,38 @@ fn size(random: &mut Random) -> Size {
 }
 
 fn table(random: &mut Random, size: Size) -> Vec<u8> {
+    let bytes = of_a_generator(random, size);
+    match random.below(6) {
+        0 => with_dependencies(random, &bytes).unwrap_or(bytes),
+        _ => bytes,
+    }
+}
+
+/// A table of another version with its agents as shader agents, and some
+/// dependencies between any rows.
+fn with_dependencies(random: &mut Random, bytes: &[u8]) -> Option<Vec<u8>> {
+    if bytes.len() < 8 || bytes[4] > 2 || rows_of(bytes).1 != bytes.len() || bytes[6] == 0 {
+        return None;
+    }
+    let (begin, end) = rows_of(bytes);
+    let mut all = bytes[..8].to_vec();
+    all[4] = 3;
+    for place in bytes[8..begin].chunks(6) {
+        all.extend(place);
+        all.extend([0, 0]);
+    }
+    all.extend(&bytes[begin..end]);
+    let count = random.pick(&[0, 1, 1, 2, 3]);
+    all.extend([0, count]);
+    for _ in 0..2 * count {
+        all.extend([0, random.below(usize::from(bytes[6])) as u8]);
+    }
+    let following = (all.len() - 4) as u32;
+    all[..4].copy_from_slice(&following.to_be_bytes());
+    Some(all)
+}
+
+fn of_a_generator(random: &mut Random, size: Size) -> Vec<u8> {
     match random.below(16) {
         0..=3 => checkable(random, size).bytes(),
         4..=6 => fillable(random, size).bytes(),
@@ -76,7 +108,7 @@ pub fn asked(random: &mut Random, table: Vec<u8>) -> Case {
     if random.percent(35) {
         of_pieces(random, &table, &mut questions);
     }
-    if random.percent(25) {
+    if random.percent(if table.get(4) == Some(&3) { 50 } else { 20 }) {
         of_writer(random, &table, &mut questions);
     }
     Case { table, questions }
@@ -183,6 +215,7 @@ fn claims(random: &mut Random, state: &State, first: usize, second: usize) -> Ve
         change(random, &mut changed, state.row_count());
         all.push(changed);
     }
+    all.push((random.below(18) as u8, found.1));
     all
 }
 

@@ -135,7 +135,8 @@ fn form(random: &mut Random, kind: u8) -> Row {
         _ => Row::queue(agent, kind),
     };
     if kind < 2 {
-        row.length = random.pick(&[1, 4, 15, 16]);
+        row.length = random.pick(&[1, 2, 4, 15, 16]);
+        row.start = random.pick(&[row.start, row.start, 65520, 65535]);
     }
     if (2..7).contains(&kind) && random.percent(60) {
         let order = random.pick(&[0, 1, 2, 3]);
@@ -239,6 +240,23 @@ fn limits() -> Case {
     alone(questions)
 }
 
+/// A first piece with one row after it.
+fn pieces(first: Vec<u8>) -> [Question; 2] {
+    let row = Table::new(&[], &[Row::write(0)]).bytes().split_off(8);
+    let both = || vec![Argument::Bytes(first.clone()), Argument::Bytes(row.clone())];
+    let lent = [
+        Argument::Number(0),
+        Argument::Words(vec![1; 8192]),
+        Argument::Halves(vec![2; 256]),
+    ];
+    let check = [both(), lent.to_vec()].concat();
+    let row = [both(), numbers(&[1])].concat();
+    [("stramashly_check2", check), ("stramashly_row2", row)].map(|(function, arguments)| Question {
+        function,
+        arguments,
+    })
+}
+
 /// Every byte of two headers with every bit changed, lengths that don't fit.
 fn headers(random: &mut Random) -> Vec<Case> {
     let rows = [Row::write(0), Row::read(1, 0)];
@@ -253,7 +271,10 @@ fn headers(random: &mut Random) -> Vec<Case> {
         for (place, bit) in places.flat_map(|place| (0..8).map(move |bit| (place, bit))) {
             let mut changed = table.clone();
             changed[place] ^= 1 << bit;
-            questions.push(open(changed));
+            questions.push(open(changed.clone()));
+            if place < 8 {
+                questions.extend(pieces(changed));
+            }
         }
         for length in [
             0,
@@ -268,7 +289,8 @@ fn headers(random: &mut Random) -> Vec<Case> {
         ] {
             let mut changed = table.clone();
             changed.resize(length, random.word() as u8);
-            questions.push(open(changed));
+            questions.push(open(changed.clone()));
+            questions.extend(pieces(changed));
         }
         cases.extend(questions.chunks(40).map(|part| alone(part.to_vec())));
     }

@@ -322,7 +322,7 @@ fn place_of(state: &mut State, pieces: [&[u8]; 2], row: u64) -> Told {
     let Some(part) = state.row_of_pieces(pieces, row as usize) else {
         return said(packed("NO_ROW", [0; 3]));
     };
-    let places = pieces.iter().enumerate().filter_map(|(number, piece)| {
+    let mut places = pieces.iter().enumerate().filter_map(|(number, piece)| {
         let inside = piece.as_ptr_range();
         let is_inside = inside.contains(&part.as_ptr());
         is_inside.then(|| {
@@ -332,7 +332,7 @@ fn place_of(state: &mut State, pieces: [&[u8]; 2], row: u64) -> Told {
             )
         })
     });
-    let (number, at) = places.last().expect("a part of a piece");
+    let (number, at) = places.next_back().expect("a part of a piece");
     said(packed("ROW_PLACE", [number, at as u16, 0]))
 }
 

@@ -8,6 +8,7 @@
 mod choice;
 mod corpus;
 mod edges;
+mod equal;
 mod expected;
 mod mutants;
 
@@ -16,6 +17,7 @@ mod trial;
 
 pub use corpus::{case, fixed, Case};
 
+pub use equal::equal;
 pub use mutants::{mutants, Mutant};
 pub use question::{Argument, Question, Readers, Told};
 pub use trial::Trial;

@@ -17,12 +17,14 @@ pub struct Mutant {
 
 /// Definitions that stay the same where their last two arguments are
 /// exchanged.
-const SYMMETRIC: [&str; 16] = [
+const SYMMETRIC: [&str; 20] = [
     "Bool·beq",
     "agree",
     "apart",
     "clash",
+    "common",
     "conflict",
+    "meets",
     "mutualRows",
     "mutually",
     "oneInstance",
@@ -34,6 +36,8 @@ const SYMMETRIC: [&str; 16] = [
     "sameReference",
     "shares",
     "together",
+    "twoMoments",
+    "unordered",
 ];
 
 /// What is known of the definitions that are changed.
@@ -107,7 +111,9 @@ fn changed(written: &Expr, known: &Known) -> Vec<(String, Expr)> {
     match written {
         Expr::Name(_) | Expr::Number(_) => (),
         Expr::Apply(head, arguments) => {
-            for place in 0..arguments.len() {
+            // What stands for a missing element isn't changed.
+            let is_default = |place: usize| place == 2 && text(head) == "getD";
+            for place in (0..arguments.len()).filter(|place| !is_default(*place)) {
                 inside(&arguments[place], &|part| {
                     let mut arguments = arguments.clone();
                     arguments[place] = part;
@@ -130,6 +136,15 @@ fn changed(written: &Expr, known: &Known) -> Vec<(String, Expr)> {
         }
         Expr::All(names, body) => inside(body, &|part| Expr::All(names.clone(), Box::new(part))),
         Expr::Some(names, body) => inside(body, &|part| Expr::Some(names.clone(), Box::new(part))),
+        Expr::Let(name, _, body) if !mentions(body, name) => {
+            inside(body, &|part| {
+                let mut all = written.clone();
+                if let Expr::Let(_, _, body) = &mut all {
+                    **body = part;
+                }
+                all
+            });
+        }
         Expr::Let(name, value, body) => {
             inside(value, &|part| {
                 Expr::Let(name.clone(), Box::new(part), body.clone())
@@ -174,6 +189,7 @@ fn of_name(name: &str, arguments: &[Expr], known: &Known) -> Vec<Expr> {
         ("eqb", 2) if is_zero(&arguments[1], known) => vec![other("ltb")],
         ("eqb", 2) => vec![other("leb")],
         ("cond", 3) => vec![swapped(1), only(1), only(2)],
+        ("_+_", 2) if arguments[1] == Expr::Number(0) => Vec::new(),
         ("_+_", 2) => vec![other("_-_"), only(0), only(1)],
         ("_-_", 2) => vec![other("_+_"), only(0)],
         ("_*_", 2) => vec![other("_+_")],
@@ -186,6 +202,20 @@ fn of_name(name: &str, arguments: &[Expr], known: &Known) -> Vec<Expr> {
             let is_same = |place: &usize| exchangeable(last, *place, arguments.len(), known);
             places.filter(is_same).map(swapped).collect()
         }
+    }
+}
+
+/// Whether a name occurs.
+fn mentions(written: &Expr, name: &str) -> bool {
+    let any = |parts: &[Expr]| parts.iter().any(|part| mentions(part, name));
+    match written {
+        Expr::Name(other) => other == name,
+        Expr::Number(_) => false,
+        Expr::Apply(head, arguments) => mentions(head, name) || any(arguments),
+        Expr::Record(fields) => fields.iter().any(|(_, value)| mentions(value, name)),
+        Expr::Let(_, value, body) => mentions(value, name) || mentions(body, name),
+        Expr::Field(of, _) => mentions(of, name),
+        Expr::Function(_, body) | Expr::All(_, body) | Expr::Some(_, body) => mentions(body, name),
     }
 }
 

@@ -9,31 +9,36 @@ use std::collections::HashMap;
 use std::mem;
 use std::rc::Rc;
 
-/// Calls that another definition may take for one value, and values of a
-/// definition that are looked at for one table.
+/// Calls that another definition may take for one value.
 const MOST_CALLS: u64 = 200_000;
-const MOST_LOOKS: usize = 150;
 
 #[derive(Default)]
 pub(crate) struct Watch {
     /// By definition: the others, and whether each has differed.
     others: HashMap<usize, Vec<(usize, Rc<Ready>, bool)>>,
-    looks: HashMap<usize, usize>,
+    /// How often a definition was called for one table, by whether it said no.
+    calls: HashMap<(usize, bool), usize>,
     is_looking: bool,
     known: Known,
 }
 
 impl Watch {
     pub(crate) fn is_watched(&self, id: usize) -> bool {
-        !self.is_looking
-            && self.others.contains_key(&id)
-            && self.looks.get(&id).is_none_or(|looks| *looks < MOST_LOOKS)
+        !self.is_looking && self.others.contains_key(&id)
+    }
+
+    /// The first calls of a table, and some of the later ones.
+    fn is_looked_at(&mut self, id: usize, value: &Value) -> bool {
+        let is_no = matches!(value, Value::Truth(false));
+        let calls = self.calls.entry((id, is_no)).or_default();
+        *calls += 1;
+        *calls < 50 || *calls % 16 == 0 && *calls < 1000 || *calls % 100 == 0
     }
 
     /// For the next table.
     pub(crate) fn forget(&mut self) {
         self.known = Known::default();
-        self.looks.clear();
+        self.calls.clear();
     }
 }
 
@@ -73,7 +78,9 @@ impl Evaluator {
 
     pub(crate) fn look_at(&mut self, id: usize, given: &[Value], value: &Value) {
         let Some(watch) = &mut self.watch else { return };
-        *watch.looks.entry(id).or_default() += 1;
+        if !watch.is_looked_at(id, value) {
+            return;
+        }
         watch.is_looking = true;
         mem::swap(&mut watch.known, &mut self.known);
         let others = watch.others.get(&id).cloned().unwrap_or_default();

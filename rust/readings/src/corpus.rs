@@ -1,6 +1,7 @@
 //! The questions: tables of every generator, and all that is asked of one.
 
 use crate::choice::{chosen, Choice};
+use crate::handshake::handshake;
 use crate::question::*;
 use second::{joined, State};
 use tables::{chained, chained_fillable, checkable, damaged, damaged_hosted, examples, fillable};
@@ -48,7 +49,7 @@ fn table(random: &mut Random, size: Size) -> Vec<u8> {
 
 /// A table of another version with its agents as shader agents, and some
 /// dependencies between any rows.
-fn with_dependencies(random: &mut Random, bytes: &[u8]) -> Option<Vec<u8>> {
+pub fn with_dependencies(random: &mut Random, bytes: &[u8]) -> Option<Vec<u8>> {
     if bytes.len() < 8 || bytes[4] > 2 || rows_of(bytes).1 != bytes.len() || bytes[6] == 0 {
         return None;
     }
@@ -71,7 +72,8 @@ fn with_dependencies(random: &mut Random, bytes: &[u8]) -> Option<Vec<u8>> {
 }
 
 fn of_a_generator(random: &mut Random, size: Size) -> Vec<u8> {
-    match random.below(16) {
+    match random.below(20) {
+        16.. => handshake(random).bytes(),
         0..=3 => checkable(random, size).bytes(),
         4..=6 => fillable(random, size).bytes(),
         7 | 8 => chained(random, size).bytes(),
@@ -179,8 +181,12 @@ fn of_moments(random: &mut Random, table: &[u8], questions: &mut Vec<Question>) 
         Ok(()) => state.row_count(),
         Err(_) => table.get(6).map_or(0, |rows| usize::from(*rows).min(4)),
     };
+    let ordered = ordered(&state);
     for _ in 0..3 {
-        let [first, second] = [0, 1].map(|_| moment(random, rows));
+        let [first, second] = match ordered.is_empty() || random.percent(40) {
+            true => [0, 1].map(|_| moment(random, rows)),
+            false => random.pick(&ordered),
+        };
         let bytes = || Argument::Bytes(table.to_vec());
         let pair = || vec![bytes(), number(first as u64), number(second as u64)];
         let lent = [pair(), vec![work(random), halves(random, CHAIN)]].concat();
@@ -190,6 +196,16 @@ fn of_moments(random: &mut Random, table: &[u8], questions: &mut Vec<Question>) 
             ask(questions, "stramashly_accepts", [pair(), claim].concat());
         }
     }
+}
+
+/// The pairs that only a chain can order.
+fn ordered(state: &State) -> Vec<[usize; 2]> {
+    let moments = 3 * state.row_count();
+    let pairs = (0..moments).flat_map(|first| (0..moments).map(move |second| [first, second]));
+    let is_chained = |[first, second]: &[usize; 2]| {
+        state.happens_before(*first, *second) && !state.in_program_order(*first, *second)
+    };
+    pairs.filter(is_chained).collect()
 }
 
 /// Mostly a row's own moment; few rows have one before or after them.
@@ -343,7 +359,7 @@ fn of_moments_in_pieces(random: &mut Random, pieces: [&[u8]; 2], questions: &mut
 
 /// The values of a table, at times with something changed, for a buffer of any
 /// length; parts that are no whole ones follow them.
-fn of_writer(random: &mut Random, table: &[u8], questions: &mut Vec<Question>) {
+pub fn of_writer(random: &mut Random, table: &[u8], questions: &mut Vec<Question>) {
     if table.len() < 8 || rows_of(table).1 > table.len() {
         return;
     }

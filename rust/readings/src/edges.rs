@@ -1,7 +1,7 @@
 //! Questions that generated tables rarely lead to: rows of every form, numbers
 //! at their limits, and definitions that are asked for by themselves.
 
-use crate::corpus::Case;
+use crate::corpus::{asked, of_writer, with_dependencies, Case};
 use crate::question::*;
 use tables::{Random, Row, Table};
 
@@ -11,7 +11,36 @@ pub fn edges(random: &mut Random) -> Vec<Case> {
     cases.extend(ranks(random));
     cases.push(limits());
     cases.extend(headers(random));
+    cases.extend(large_numbers(random));
     cases
+}
+
+/// Numbers of two bytes that need both, in every place that has such.
+fn large_numbers(random: &mut Random) -> Vec<Case> {
+    let places = [
+        [65535, 65281, 256],
+        [511, 65280, 65535],
+        [65535, 65281, 257],
+    ];
+    let rows = [
+        Row::write(0).bytes(65520, 16).reference(65535),
+        Row::atomic_write(1, 65535).bytes(65528, 8).reference(65281),
+        Row::atomic_write(0, 65280).bytes(256, 4).reference(511),
+        Row::rmw(2, 1, 65281).bytes(65528, 8).reference(65281),
+        Row::read(1, 0).bytes(65521, 2).reference(65280),
+    ];
+    let plain = Table::new(&places, &rows).bytes();
+    let counted = Table::new(&places, &rows).counted().bytes();
+    let hosted = (0..6).filter_map(|_| with_dependencies(random, &plain));
+    let tables: Vec<Vec<u8>> = [plain.clone(), counted].into_iter().chain(hosted).collect();
+    let case = |table: Vec<u8>| {
+        let mut case = asked(random, table);
+        for _ in 0..12 {
+            of_writer(random, &case.table, &mut case.questions);
+        }
+        case
+    };
+    tables.into_iter().map(case).collect()
 }
 
 fn alone(questions: Vec<Question>) -> Case {

@@ -10,6 +10,7 @@ mod corpus;
 mod edges;
 mod equal;
 mod expected;
+mod handshake;
 mod mutants;
 
 mod question;

@@ -5,7 +5,7 @@ use readings::{case, fixed, with_room, Readers};
 use std::collections::BTreeMap;
 
 /// Generated tables, beside the fixed ones.
-const TABLES: u64 = 3600;
+const TABLES: u64 = 2400;
 
 /// How often each function gave each code, refusals by their numbers.
 #[derive(Default)]

@@ -18,6 +18,40 @@ pub enum Expr {
     Some(Vec<String>, Box<Expr>),
 }
 
+impl Expr {
+    /// The expressions that it is made of.
+    pub fn parts(&self) -> Vec<&Expr> {
+        match self {
+            Expr::Name(_) | Expr::Number(_) => Vec::new(),
+            Expr::Apply(head, arguments) => [&**head].into_iter().chain(arguments).collect(),
+            Expr::Record(fields) => fields.iter().map(|(_, value)| value).collect(),
+            Expr::Let(_, value, body) => vec![value, body],
+            Expr::Field(part, _)
+            | Expr::Function(_, part)
+            | Expr::All(_, part)
+            | Expr::Some(_, part) => vec![part],
+        }
+    }
+
+    /// The same with another part.
+    pub fn with_part(&self, place: usize, other: Expr) -> Expr {
+        let mut whole = self.clone();
+        match &mut whole {
+            Expr::Name(_) | Expr::Number(_) => (),
+            Expr::Apply(head, _) if place == 0 => **head = other,
+            Expr::Apply(_, arguments) => arguments[place - 1] = other,
+            Expr::Record(fields) => fields[place].1 = other,
+            Expr::Let(_, value, _) if place == 0 => **value = other,
+            Expr::Let(_, _, part)
+            | Expr::Field(part, _)
+            | Expr::Function(_, part)
+            | Expr::All(_, part)
+            | Expr::Some(_, part) => **part = other,
+        }
+        whole
+    }
+}
+
 /// How tightly each operator binds, and whether it groups to the right.
 pub type Operators = HashMap<String, (u32, bool)>;
 

@@ -32,7 +32,7 @@ impl Watch {
         let is_no = matches!(value, Value::Truth(false));
         let calls = self.calls.entry((id, is_no)).or_default();
         *calls += 1;
-        *calls < 50 || *calls % 16 == 0 && *calls < 1000 || *calls % 100 == 0
+        *calls < 50 || calls.is_multiple_of(16) && *calls < 1000 || calls.is_multiple_of(100)
     }
 
     /// For the next table.

@@ -160,8 +160,19 @@ fn of_table(random: &mut Random, table: &[u8], questions: &mut Vec<Question>) {
         let lent = |random: &mut Random, needed| {
             vec![bytes(), switch(), work(random), halves(random, needed)]
         };
-        ask(questions, "stramashly_check", lent(random, CYCLE));
-        ask(questions, "stramashly_fill", lent(random, SOURCES));
+        let flags = random.percent(10);
+        let check = if flags {
+            "stramashly_check_by_flags"
+        } else {
+            "stramashly_check"
+        };
+        let fill = if flags {
+            "stramashly_fill_by_flags"
+        } else {
+            "stramashly_fill"
+        };
+        ask(questions, check, lent(random, CYCLE));
+        ask(questions, fill, lent(random, SOURCES));
         ask(questions, "stramashly_report", lent(random, CYCLE));
         let truth = Argument::Truth(*chains != 0);
         ask(
@@ -357,6 +368,21 @@ fn of_moments_in_pieces(random: &mut Random, pieces: [&[u8]; 2], questions: &mut
     }
 }
 
+fn pair(bytes: &[u8]) -> u16 {
+    u16::from_be_bytes([bytes[0], bytes[1]])
+}
+
+/// Four numbers for each agent.
+fn places_of(version: u8, bytes: &[u8]) -> Vec<u16> {
+    let width = if version == 3 { 8 } else { 6 };
+    let mut places = Vec::new();
+    for place in bytes.chunks(width) {
+        places.extend(place.chunks(2).map(pair));
+        places.extend(std::iter::repeat_n(0, 4 - width / 2));
+    }
+    places
+}
+
 /// The values of a table, at times with something changed, for a buffer of any
 /// length; parts that are no whole ones follow them.
 pub fn of_writer(random: &mut Random, table: &[u8], questions: &mut Vec<Question>) {
@@ -364,15 +390,8 @@ pub fn of_writer(random: &mut Random, table: &[u8], questions: &mut Vec<Question
         return;
     }
     let (begin, end) = rows_of(table);
-    let pair = |bytes: &[u8]| u16::from_be_bytes([bytes[0], bytes[1]]);
-    let mut version = table[4];
-    let width = if version == 3 { 8 } else { 6 };
-    let mut places: Vec<u16> = Vec::new();
-    for place in table[8..begin].chunks(width) {
-        places.extend(place.chunks(2).map(pair));
-        places.extend(std::iter::repeat_n(0, 4 - width / 2));
-    }
-    let mut rows = table[begin..end].to_vec();
+    let (mut version, mut rows) = (table[4], table[begin..end].to_vec());
+    let mut places = places_of(version, &table[8..begin]);
     let mut pairs: Vec<u16> = table[end..].chunks_exact(2).skip(1).map(pair).collect();
     match random.below(14) {
         0 => version = random.pick(&[0, 1, 2, 3, 4, 255]),
@@ -386,14 +405,8 @@ pub fn of_writer(random: &mut Random, table: &[u8], questions: &mut Vec<Question
         8 => pairs.push(7),
         _ => (),
     }
-    let room = random.pick(&[
-        table.len(),
-        table.len() + 1,
-        table.len() + 40,
-        table.len() - 1,
-        0,
-        2600,
-    ]);
+    let exact = table.len();
+    let room = random.pick(&[exact, exact + 1, exact + 40, exact - 1, 0, 2600]);
     let room = (0..room).map(|_| random.word() as u8).collect();
     let parts = vec![
         Argument::Halves(places),

@@ -39,7 +39,8 @@ fn refused(number: u8, row: u16) -> String {
 pub fn told(state: &mut State, question: &Question) -> Option<Told> {
     use Argument::*;
     let all = &question.arguments;
-    let name = question.function;
+    // Both engines are held to one definition.
+    let name = question.function.trim_end_matches("_by_flags");
     match (name.strip_suffix('2').unwrap_or(name), &all[..]) {
         ("stramashly_row", [Bytes(first), Bytes(second), Number(row)]) => {
             Some(place_of(state, [first, second], *row))
@@ -94,20 +95,16 @@ fn of_table(
 ) -> Option<Told> {
     use Argument::*;
     match (name, rest) {
-        (
-            "stramashly_check" | "stramashly_check_by_flags",
-            [Number(chains), Words(work), Halves(cycle)],
-        ) => {
+        ("stramashly_check", [Number(chains), Words(work), Halves(cycle)]) => {
             let answer = check(state, *chains, table, work, cycle);
             Some(after_check(&answer, work, cycle))
         }
         ("stramashly_report", [Number(chains), Words(work), Halves(cycle)]) => {
             Some(report(state, *chains, table, work, cycle))
         }
-        (
-            "stramashly_fill" | "stramashly_fill_by_flags",
-            [Number(chains), Words(work), Halves(sources)],
-        ) => fill(state, *chains, table, work, sources),
+        ("stramashly_fill", [Number(chains), Words(work), Halves(sources)]) => {
+            fill(state, *chains, table, work, sources)
+        }
         ("stramashly_derive", [Number(first), Number(second), Words(work), Halves(chain)]) => {
             Some(derive(state, table, [*first, *second], work, chain))
         }
@@ -123,7 +120,6 @@ fn of_table(
             Some(row_at(state, table.ok()?, *at, room))
         }
         (READ_ENTRIES | READ_DEPENDENCIES, []) => Some(said(read_back(name, table.ok()?))),
-        (MOVED, [..]) => None,
         _ => panic!("{name} with {rest:?}"),
     }
 }
@@ -370,48 +366,40 @@ fn of_values(state: &mut State, name: &str, all: &[Argument]) -> Option<Told> {
             "stramashly_write",
             [Number(version), Halves(places), Bytes(rows), Halves(pairs), Bytes(out)],
         ) => {
-            let values = Values {
-                version: *version as u8,
-                places: places
-                    .chunks_exact(4)
-                    .map(|p| [p[0], p[1], p[2], p[3]])
-                    .collect(),
-                rows: rows.chunks_exact(ROW).map(Row::from_bytes).collect(),
-                dependencies: pairs
-                    .chunks_exact(2)
-                    .map(|pair| [pair[0], pair[1]])
-                    .collect(),
-            };
+            let values = values_of(*version, places, rows, pairs);
             Some(written(state, &values, out))
         }
         ("stramashly_share", [Number(racing), Number(conflicting)]) => {
             let share = *racing as f64 / *conflicting as f64;
-            let answer = if *conflicting == 0 {
-                "NaN".to_string()
-            } else {
-                format!("{share:?}")
-            };
-            Some(said(answer))
+            let share = if *conflicting == 0 { f64::NAN } else { share };
+            Some(said(format!("{share:?}")))
         }
         (REPORT, [Truth(chains), Bytes(table), Number(work), Number(cycle)]) => {
             let chains = chains_of(u64::from(*chains));
-            Some(said(reported(&state.report_with(
-                chains,
-                table,
-                *work as usize,
-                *cycle as usize,
-            ))))
+            let answer = state.report_with(chains, table, *work as usize, *cycle as usize);
+            Some(said(reported(&answer)))
         }
         (LOWEST_SHARED, [Number(a), Number(m), Number(b), Number(n)]) => {
             let lowest = (*a..a + m).find(|byte| (*b..b + n).contains(byte));
-            Some(said(
-                lowest.map_or("Nothing".to_string(), |byte| format!("At {byte}")),
-            ))
+            let answer = lowest.map(|byte| format!("At {byte}"));
+            Some(said(answer.unwrap_or_else(|| "Nothing".to_string())))
         }
         (SHARES, [Places(places), Number(scope), Number(a), Number(b)]) => Some(said(
             shares(places, *scope, *a as usize, *b as usize).to_string(),
         )),
         _ => panic!("{name} with {all:?}"),
+    }
+}
+
+/// Whole parts count, and a rest counts for nothing.
+fn values_of(version: u64, places: &[u16], rows: &[u8], pairs: &[u16]) -> Values {
+    let places = places.chunks_exact(4);
+    let pairs = pairs.chunks_exact(2);
+    Values {
+        version: version as u8,
+        places: places.map(|p| [p[0], p[1], p[2], p[3]]).collect(),
+        rows: rows.chunks_exact(ROW).map(Row::from_bytes).collect(),
+        dependencies: pairs.map(|pair| [pair[0], pair[1]]).collect(),
     }
 }
 

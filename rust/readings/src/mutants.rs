@@ -67,91 +67,53 @@ pub fn mutants(program: &mut Program, definitions: &[String]) -> Result<Vec<Muta
         }
         all.push((definition, clauses));
     }
+    let found = all.into_iter().flat_map(|(definition, clauses)| {
+        let changes = changes(&clauses, &known);
+        changes.into_iter().map(|(change, clauses)| Mutant {
+            definition: definition.clone(),
+            change,
+            clauses,
+        })
+    });
+    Ok(found.collect())
+}
+
+/// The clauses with one changed, or left out.
+fn changes(clauses: &[Clause], known: &Known) -> Vec<(String, Vec<Clause>)> {
     let mut found = Vec::new();
-    for (definition, clauses) in all {
-        for (number, (patterns, body)) in clauses.iter().enumerate() {
-            for (change, body) in changed(body, &known) {
-                let mut clauses = clauses.clone();
-                clauses[number] = (patterns.clone(), body);
-                found.push(Mutant {
-                    definition: definition.clone(),
-                    change,
-                    clauses,
-                });
-            }
-            if clauses.len() > 1 {
-                let mut rest = clauses.clone();
-                rest.remove(number);
-                let change = format!("without clause {number}");
-                found.push(Mutant {
-                    definition: definition.clone(),
-                    change,
-                    clauses: rest,
-                });
-            }
+    for (number, (patterns, body)) in clauses.iter().enumerate() {
+        for (change, body) in changed(body, known) {
+            let mut clauses = clauses.to_vec();
+            clauses[number] = (patterns.clone(), body);
+            found.push((change, clauses));
+        }
+        if clauses.len() > 1 {
+            let mut rest = clauses.to_vec();
+            rest.remove(number);
+            found.push((format!("without clause {number}"), rest));
         }
     }
-    Ok(found)
+    found
 }
 
 /// The expression with one place changed, in every way.
 fn changed(written: &Expr, known: &Known) -> Vec<(String, Expr)> {
-    let mut all: Vec<(String, Expr)> = here(written, known)
+    let here = here(written, known)
         .into_iter()
-        .filter(|other| other != written)
-        .map(|other| (format!("{} -> {}", text(written), text(&other)), other))
-        .collect();
-    let mut inside = |part: &Expr, put: &dyn Fn(Expr) -> Expr| {
-        all.extend(
-            changed(part, known)
-                .into_iter()
-                .map(|(change, part)| (change, put(part))),
-        );
-    };
-    match written {
-        Expr::Name(_) | Expr::Number(_) => (),
-        Expr::Apply(head, arguments) => {
-            // What stands for a missing element isn't changed.
-            let is_default = |place: usize| place == 2 && text(head) == "getD";
-            for place in (0..arguments.len()).filter(|place| !is_default(*place)) {
-                inside(&arguments[place], &|part| {
-                    let mut arguments = arguments.clone();
-                    arguments[place] = part;
-                    Expr::Apply(head.clone(), arguments)
-                });
-            }
-        }
-        Expr::Field(of, name) => inside(of, &|part| Expr::Field(Box::new(part), name.clone())),
-        Expr::Record(fields) => {
-            for place in 0..fields.len() {
-                inside(&fields[place].1, &|part| {
-                    let mut fields = fields.clone();
-                    fields[place].1 = part;
-                    Expr::Record(fields)
-                });
-            }
-        }
-        Expr::Function(names, body) => {
-            inside(body, &|part| Expr::Function(names.clone(), Box::new(part)));
-        }
-        Expr::All(names, body) => inside(body, &|part| Expr::All(names.clone(), Box::new(part))),
-        Expr::Some(names, body) => inside(body, &|part| Expr::Some(names.clone(), Box::new(part))),
-        Expr::Let(name, _, body) if !mentions(body, name) => {
-            inside(body, &|part| {
-                let mut all = written.clone();
-                if let Expr::Let(_, _, body) = &mut all {
-                    **body = part;
-                }
-                all
-            });
-        }
-        Expr::Let(name, value, body) => {
-            inside(value, &|part| {
-                Expr::Let(name.clone(), Box::new(part), body.clone())
-            });
-            inside(body, &|part| {
-                Expr::Let(name.clone(), value.clone(), Box::new(part))
-            });
+        .filter(|other| other != written);
+    let here = here.map(|other| (format!("{} -> {}", text(written), text(&other)), other));
+    let mut all: Vec<(String, Expr)> = here.collect();
+    for (place, part) in written.parts().into_iter().enumerate() {
+        let is_left = match written {
+            // What stands for a missing element isn't changed, nor a head.
+            Expr::Apply(head, _) => place > 0 && !(place == 3 && text(head) == "getD"),
+            // What nothing asks for could be anything.
+            Expr::Let(name, _, body) => place > 0 || mentions(body, name),
+            _ => true,
+        };
+        if is_left {
+            let inside = changed(part, known).into_iter();
+            all.extend(inside.map(|(change, part)| (change, written.with_part(place, part))));
         }
     }
     all
@@ -207,16 +169,8 @@ fn of_name(name: &str, arguments: &[Expr], known: &Known) -> Vec<Expr> {
 
 /// Whether a name occurs.
 fn mentions(written: &Expr, name: &str) -> bool {
-    let any = |parts: &[Expr]| parts.iter().any(|part| mentions(part, name));
-    match written {
-        Expr::Name(other) => other == name,
-        Expr::Number(_) => false,
-        Expr::Apply(head, arguments) => mentions(head, name) || any(arguments),
-        Expr::Record(fields) => fields.iter().any(|(_, value)| mentions(value, name)),
-        Expr::Let(_, value, body) => mentions(value, name) || mentions(body, name),
-        Expr::Field(of, _) => mentions(of, name),
-        Expr::Function(_, body) | Expr::All(_, body) | Expr::Some(_, body) => mentions(body, name),
-    }
+    matches!(written, Expr::Name(other) if other == name)
+        || written.parts().into_iter().any(|part| mentions(part, name))
 }
 
 fn is_zero(written: &Expr, known: &Known) -> bool {

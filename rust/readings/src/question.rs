@@ -18,7 +18,6 @@ pub const LOWEST_SHARED: &str = "model/Row.lowestShared";
 pub const SHARES: &str = "model/Scope.shares";
 pub const READ_ENTRIES: &str = "writer/Encode.entriesOf";
 pub const READ_DEPENDENCIES: &str = "writer/Encode.dependenciesOf";
-pub const MOVED: &str = "moved/Moved.Moved";
 
 #[derive(Clone, Debug, PartialEq, Eq, Hash)]
 pub enum Argument {

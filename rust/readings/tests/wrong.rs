@@ -23,27 +23,40 @@ const WRONG: [(&str, &str); 3] = [
     ),
 ];
 
-fn told_apart() -> Result<Vec<bool>, String> {
-    let mut answers = Vec::new();
+/// Generated tables, at most, and how many are asked about at a time.
+const TABLES: u64 = 800;
+const ROUND: u64 = 40;
+
+/// Those that no table tells apart.
+fn left() -> Result<Vec<String>, String> {
+    let mut readers = Readers::new();
+    let mut mutants = Vec::new();
     for (definition, text) in WRONG {
-        let mut readers = Readers::new();
         let program = &mut readers.pages.program;
         let said = program
             .clauses(definition)
             .and_then(|_| program.clause(text));
-        let mutant = Mutant {
+        mutants.push(Mutant {
             definition: definition.to_string(),
             change: text.to_string(),
             clauses: vec![said.map_err(|stop| stop.to_string())?],
-        };
-        let mut trial = Trial::new(readers, vec![mutant]);
-        trial.ask((0..400).map(|number| case(5 << 32 | number)).collect())?;
-        answers.push(trial.left().count() == 0);
+        });
     }
-    Ok(answers)
+    let mut trial = Trial::new(readers, mutants);
+    for first in (0..TABLES).step_by(ROUND as usize) {
+        if trial.left().count() > 0 {
+            trial.ask(
+                (first..first + ROUND)
+                    .map(|number| case(5 << 32 | number))
+                    .collect(),
+            )?;
+        }
+    }
+    let left = trial.left().map(|(mutant, _)| mutant.definition.clone());
+    Ok(left.collect())
 }
 
 #[test]
 fn known_wrong_definitions_are_told_apart() {
-    assert_eq!(with_room(told_apart), Ok(vec![true; WRONG.len()]));
+    assert_eq!(with_room(left), Ok(Vec::new()));
 }

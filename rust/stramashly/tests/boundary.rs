@@ -212,39 +212,45 @@ fn named(line: &str) -> Vec<String> {
         .collect()
 }
 
+/// The types that a module of Python gives to functions.
+fn of_module(text: &str) -> Vec<(String, Vec<String>)> {
+    let values = text
+        .lines()
+        .filter_map(|line| line.trim().split_once(" = "));
+    let names: BTreeMap<&str, &str> = values
+        .filter(|(_, value)| value.contains("ctypes."))
+        .collect();
+    let mut functions = Vec::new();
+    let mut found = Vec::new();
+    for line in text.lines() {
+        let last = named(line);
+        if !last.is_empty() {
+            functions = last;
+        }
+        if let Some((_, value)) = line.split_once(".argtypes = [") {
+            let inside = value.split(']').next().unwrap_or(value).split(", ");
+            let kinds: Vec<String> = inside.map(|kind| of_python(kind.trim(), &names)).collect();
+            found.extend(
+                functions
+                    .iter()
+                    .map(|function| (function.clone(), kinds.clone())),
+            );
+        }
+    }
+    found
+}
+
 #[test]
 fn python_declares_what_is_exported() {
     let exported = exported();
     let mut declared = 0;
     for text in python() {
-        let values = text
-            .lines()
-            .filter_map(|line| line.trim().split_once(" = "));
-        let names: BTreeMap<&str, &str> = values
-            .filter(|(_, value)| value.contains("ctypes."))
-            .collect();
-        let mut functions = Vec::new();
-        for line in text.lines() {
-            let last = named(line);
-            if !last.is_empty() {
-                functions = last;
-            }
-            let Some((_, value)) = line.split_once(".argtypes = [") else {
-                continue;
-            };
-            let inside = value.split(']').next().unwrap_or(value);
-            let kinds: Vec<String> = inside
-                .split(", ")
-                .map(|kind| of_python(kind.trim(), &names))
-                .collect();
-            for function in &functions {
-                let of_c = exported[function]
-                    .iter()
-                    .map(|kind| kind.replace("*const", "*").replace("*mut", "*"));
-                let of_c: Vec<String> = of_c.collect();
-                assert_eq!(kinds, of_c[..of_c.len() - 1], "{function}");
-                declared += 1;
-            }
+        for (function, kinds) in of_module(&text) {
+            let of_c = exported[&function].iter();
+            let of_c = of_c.map(|kind| kind.replace("*const", "*").replace("*mut", "*"));
+            let of_c: Vec<String> = of_c.collect();
+            assert_eq!(kinds, of_c[..of_c.len() - 1], "{function}");
+            declared += 1;
         }
         let results = text.matches(".restype = ctypes.c_uint64").count();
         assert!(results > 0, "functions without a result");

@@ -14,6 +14,9 @@ const CHAIN: usize = 383;
 const ROW: usize = 16;
 const PROGRAM_ORDER: u8 = 16;
 
+/// Handshakes among the fixed tables.
+const HANDSHAKES: usize = 160;
+
 /// A table, and what is asked of it.
 pub struct Case {
     pub table: Vec<u8>,
@@ -41,10 +44,27 @@ fn size(random: &mut Random) -> Size {
 
 fn table(random: &mut Random, size: Size) -> Vec<u8> {
     let bytes = of_a_generator(random, size);
-    match random.below(6) {
-        0 => with_dependencies(random, &bytes).unwrap_or(bytes),
+    match random.below(10) {
+        0..=2 => with_dependencies(random, &bytes).unwrap_or(bytes),
+        3..=5 => without_a_dependency(random, &bytes).unwrap_or(bytes),
         _ => bytes,
     }
+}
+
+/// A table with one dependency fewer.
+fn without_a_dependency(random: &mut Random, bytes: &[u8]) -> Option<Vec<u8>> {
+    if bytes.len() < 8 || bytes[4] != 3 || rows_of(bytes).1 + 6 > bytes.len() {
+        return None;
+    }
+    let (_, end) = rows_of(bytes);
+    let count = (bytes.len() - end - 2) / 4;
+    let mut all = bytes.to_vec();
+    let at = end + 2 + 4 * random.below(count);
+    all.drain(at..at + 4);
+    all[end..end + 2].copy_from_slice(&(count as u16 - 1).to_be_bytes());
+    let following = (all.len() - 4) as u32;
+    all[..4].copy_from_slice(&following.to_be_bytes());
+    Some(all)
 }
 
 /// A table of another version with its agents as shader agents, and some
@@ -93,10 +113,16 @@ pub fn fixed() -> Vec<Case> {
     let mut tables: Vec<Vec<u8>> = named.chain(known).collect();
     tables.retain(|table| table.len() < 600);
     tables.push(Vec::new());
-    let mut cases: Vec<Case> = tables
-        .into_iter()
-        .map(|table| asked(&mut random, table))
-        .collect();
+    let twice = tables.iter().chain(&tables).cloned();
+    let mut cases: Vec<Case> = twice.map(|table| asked(&mut random, table)).collect();
+    for _ in 0..HANDSHAKES {
+        let bytes = handshake(&mut random).bytes();
+        let bytes = match random.below(3) {
+            0 => with_dependencies(&mut random, &bytes).unwrap_or(bytes),
+            _ => bytes,
+        };
+        cases.push(asked(&mut random, bytes));
+    }
     cases.extend(crate::edges::edges(&mut random));
     cases
 }
@@ -192,11 +218,16 @@ fn of_moments(random: &mut Random, table: &[u8], questions: &mut Vec<Question>) 
         Ok(()) => state.row_count(),
         Err(_) => table.get(6).map_or(0, |rows| usize::from(*rows).min(4)),
     };
-    let ordered = ordered(&state);
+    let (ordered, related) = (ordered(&state), related(&state));
     for _ in 0..3 {
-        let [first, second] = match ordered.is_empty() || random.percent(40) {
-            true => [0, 1].map(|_| moment(random, rows)),
-            false => random.pick(&ordered),
+        let [first, second] = match random.below(4) {
+            0 | 1 if !ordered.is_empty() => random.pick(&ordered),
+            2 if !related.is_empty() => {
+                let parts = [0, 1].map(|_| random.pick(&[0, 1, 1, 1, 2]));
+                let [from, to] = random.pick(&related);
+                [3 * from + parts[0], 3 * to + parts[1]]
+            }
+            _ => [0, 1].map(|_| moment(random, rows)),
         };
         let bytes = || Argument::Bytes(table.to_vec());
         let pair = || vec![bytes(), number(first as u64), number(second as u64)];
@@ -217,6 +248,14 @@ fn ordered(state: &State) -> Vec<[usize; 2]> {
         state.happens_before(*first, *second) && !state.in_program_order(*first, *second)
     };
     pairs.filter(is_chained).collect()
+}
+
+/// The rows of dependencies, and each reader with the row that it read from.
+fn related(state: &State) -> Vec<[usize; 2]> {
+    let depends = state.dependencies().iter();
+    let depends = depends.map(|pair| pair.map(usize::from));
+    let read = (0..state.row_count()).filter_map(|row| Some([state.read_from(row)?, row]));
+    depends.chain(read).collect()
 }
 
 /// Mostly a row's own moment; few rows have one before or after them.
@@ -243,6 +282,11 @@ fn claims(random: &mut Random, state: &State, first: usize, second: usize) -> Ve
         all.push(changed);
     }
     all.push((random.below(18) as u8, found.1));
+    all.push((PROGRAM_ORDER, Vec::new()));
+    for case in [0, 1, 2, 3, 4, 5] {
+        let classes = random.pick(&[1, 1, 2, 3, 15]);
+        all.push((classes, vec![512 * case + second as u16 % 512]));
+    }
     all
 }
 

@@ -12,7 +12,129 @@ pub fn edges(random: &mut Random) -> Vec<Case> {
     cases.push(limits());
     cases.extend(headers(random));
     cases.extend(large_numbers(random));
+    cases.extend(controls(random));
+    cases.push(round());
+    cases.push(short_buffers());
+    cases.extend(writers(random));
     cases
+}
+
+/// Control barriers of two agents, with any execution scopes, and accesses of
+/// the reference 0 beside them.
+fn controls(random: &mut Random) -> Vec<Case> {
+    let places = [[0, 0, 0], [0, 0, 1], [0, 1, 0], [1, 0, 0]];
+    let one = |random: &mut Random| {
+        let barrier = |random: &mut Random, agent: u8| {
+            let instance = random.pick(&[7, 7, 7, 8, 6]);
+            Row::control_barrier(agent, random.pick(&[0, 1, 2, 2, 3, 4]), instance)
+        };
+        let mut rows = vec![barrier(random, 0), barrier(random, 1)];
+        if random.percent(40) {
+            let access = Row::write(0).reference(0).class(random.pick(&[0, 2, 3]));
+            rows.insert(random.below(3), access);
+        }
+        let agents = [random.pick(&places), random.pick(&places)];
+        open(Table::new(&agents, &rows).bytes())
+    };
+    let case = |_| alone((0..30).map(|_| one(random)).collect());
+    (0..6).map(case).collect()
+}
+
+/// Two RMWs that read each other, so that a chain may be of any length.
+fn round() -> Case {
+    let rmw = |agent: u8, source, rank| Row::rmw(agent, source, rank).order(3, 1);
+    let table = Table::of_one_workgroup(2, &[rmw(0, 1, 1).make_available(), rmw(1, 0, 2)]).bytes();
+    let steps: Vec<u16> = (0..386)
+        .map(|at| if at == 0 { 1025 } else { [513, 516][at % 2] })
+        .collect();
+    let mut questions = Vec::new();
+    for (classes, count) in [0, 1, 2, 3, 4, 16, 17]
+        .map(|classes| (classes, 2))
+        .into_iter()
+        .chain([0, 1, 3, 190, 191, 381, 382, 383, 384, 385].map(|count| (1, count)))
+    {
+        let second = [4, 1][count % 2];
+        let mut arguments = vec![Argument::Bytes(table.clone())];
+        arguments.extend(numbers(&[0, second, classes]));
+        arguments.push(Argument::Halves(steps[..count].to_vec()));
+        questions.push(Question {
+            function: "stramashly_accepts",
+            arguments,
+        });
+        // Synchronizes-with alone, which an empty class set would let pass.
+        let mut arguments = vec![Argument::Bytes(table.clone())];
+        arguments.extend(numbers(&[1, 4, classes]));
+        arguments.push(Argument::Halves(vec![516]));
+        questions.push(Question {
+            function: "stramashly_accepts",
+            arguments,
+        });
+    }
+    alone(questions)
+}
+
+/// Buffers that are too short for pieces that are no table: 11 comes first.
+fn short_buffers() -> Case {
+    let table = Table::new(&[[0, 0, 0]], &[Row::write(0)]).bytes();
+    let mut questions = Vec::new();
+    for second in [vec![0; 7], vec![0; 16 * 128], Vec::new()] {
+        for (work, buffer) in [(8191, 400), (8192, 100), (8192, 400), (0, 0)] {
+            let pieces = [
+                Argument::Bytes(table.clone()),
+                Argument::Bytes(second.clone()),
+            ];
+            let lent = [
+                Argument::Words(vec![1; work]),
+                Argument::Halves(vec![2; buffer]),
+            ];
+            for (function, between) in [
+                ("stramashly_check2", numbers(&[0])),
+                ("stramashly_fill2", numbers(&[1])),
+                ("stramashly_report2", numbers(&[0])),
+                ("stramashly_derive2", numbers(&[1, 4])),
+            ] {
+                let arguments = [&pieces[..], &between, &lent].concat();
+                questions.push(Question {
+                    function,
+                    arguments,
+                });
+            }
+        }
+    }
+    alone(questions)
+}
+
+/// Values that break several rules at once: which is told first.
+fn writers(random: &mut Random) -> Vec<Case> {
+    let row = Table::new(&[], &[Row::write(0)]).bytes().split_off(8);
+    let one = |random: &mut Random| {
+        let version = random.pick(&[0, 1, 2, 3, 3, 3, 4]);
+        let agents = random.pick(&[0, 1, 31, 32, 33, 256]);
+        let mut places = [0, 0, 0, 0].repeat(agents);
+        if let (true, Some(last)) = (random.percent(50), places.last_mut()) {
+            *last = random.pick(&[1, 2, 3, 65535]);
+        }
+        let rows = row.repeat(random.pick(&[0, 1, 1, 1, 129]));
+        let pairs = [0, 0].repeat(random.pick(&[0, 0, 1, 64, 65, 300]));
+        let room = random.pick(&[0, 100, 700, 2600]);
+        let values = [
+            Argument::Halves(places),
+            Argument::Bytes(rows),
+            Argument::Halves(pairs),
+        ];
+        let arguments = [
+            &numbers(&[version])[..],
+            &values,
+            &[Argument::Bytes(vec![3; room])],
+        ]
+        .concat();
+        Question {
+            function: "stramashly_write",
+            arguments,
+        }
+    };
+    let case = |_| alone((0..25).map(|_| one(random)).collect());
+    (0..6).map(case).collect()
 }
 
 /// Numbers of two bytes that need both, in every place that has such.
@@ -231,9 +353,11 @@ fn ranks(random: &mut Random) -> Vec<Case> {
         let row = |agent: u8, rank: u16| Row::atomic_write(agent, rank).scope(scope);
         let mut rows: Vec<Row> = (0..3).map(|agent| row(agent, random.pick(&near))).collect();
         let place = random.below(3);
-        match random.below(6) {
+        match random.below(8) {
             0 => rows[place].start = 4,
             1 => rows[place].reference = 9,
+            3 => rows[place].length = 8,
+            4 => rows[place] = Row::atomic_read(place as u8, 65535).scope(scope),
             2 => rows[place] = Row::rmw(place as u8, 65535, random.pick(&near)).scope(scope),
             _ => (),
         }
@@ -301,9 +425,7 @@ fn headers(random: &mut Random) -> Vec<Case> {
             let mut changed = table.clone();
             changed[place] ^= 1 << bit;
             questions.push(open(changed.clone()));
-            if place < 8 {
-                questions.extend(pieces(changed));
-            }
+            questions.extend(pieces(changed));
         }
         for length in [
             0,

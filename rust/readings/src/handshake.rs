@@ -27,7 +27,9 @@ pub fn handshake(random: &mut Random) -> Table {
         rows.reverse();
     }
     number(&mut rows);
-    let places = [[0, 0, 0], [0, 0, 1], [0, 1, 0], [1, 0, 0]];
+    // Numbers that differ in their first byte, or in their second.
+    let one = random.pick(&[1, 1, 256]);
+    let places = [[0, 0, 0], [0, 0, one], [0, one, 0], [one, 0, 0]];
     let mut agents = vec![[0, 0, 0]];
     agents.extend((0..2).map(|_| random.pick(&places)));
     let table = Table::new(&agents, &rows);
@@ -39,9 +41,10 @@ pub fn handshake(random: &mut Random) -> Table {
 
 /// A datum written, a flag stored, perhaps a barrier between them.
 fn sender(random: &mut Random) -> Vec<Row> {
-    let mut datum = plain(random, Row::write(0));
-    if random.percent(30) {
-        let scope = random.pick(&[1, 1, 2, 4]);
+    let first = random.pick(&[Row::write(0), Row::write(0), Row::read(0, INITIAL)]);
+    let mut datum = plain(random, first);
+    if datum.writes() && random.percent(30) {
+        let scope = random.pick(&[0, 1, 1, 2, 4]);
         datum = datum.make_available().scope(scope);
     }
     let store = atomic(random, Row::atomic_write(0, 1), &[0, 2, 2]);
@@ -49,14 +52,24 @@ fn sender(random: &mut Random) -> Vec<Row> {
     if random.percent(45) {
         rows.insert(1, barrier(random, 0, 2));
     }
+    if random.percent(20) {
+        let rank = random.pick(&[2, 5]);
+        rows.push(atomic(random, Row::atomic_write(0, rank), &[0, 2]));
+    }
+    // Another reference, or other bytes, made available in its place.
     if random.percent(15) {
-        rows.push(atomic(random, Row::atomic_write(0, 2), &[0, 2]));
+        let other = random.pick(&[(0, 3), (0, 1), (2, 1)]);
+        let write = Row::write(0)
+            .bytes(other.0, 4)
+            .reference(other.1)
+            .class(u8::from(other.1 == 3));
+        rows.insert(1, write.make_available().scope(random.pick(&[1, 2, 4])));
     }
     rows
 }
 
 fn update(random: &mut Random) -> Row {
-    atomic(random, Row::rmw(2, STORE, 2), &[0, 1, 2, 3])
+    atomic(random, Row::rmw(2, STORE, 3), &[0, 1, 2, 3])
 }
 
 /// The flag loaded, perhaps a barrier, the datum read or written.
@@ -64,13 +77,13 @@ fn receiver(random: &mut Random) -> Vec<Row> {
     let from = random.pick(&[STORE, STORE, UPDATE, INITIAL]);
     let load = match random.percent(80) {
         true => atomic(random, Row::atomic_read(1, from), &[0, 1, 1]),
-        false => atomic(random, Row::rmw(1, from, 3), &[0, 1, 3]),
+        false => atomic(random, Row::rmw(1, from, 7), &[0, 1, 3]),
     };
     let source = random.pick(&[DATUM, DATUM, DATUM, BLANK, INITIAL]);
     let row = random.pick(&[Row::read(1, source), Row::read(1, source), Row::write(1)]);
     let mut datum = plain(random, row);
     if datum.reads() && random.percent(30) {
-        let scope = random.pick(&[1, 1, 2, 4]);
+        let scope = random.pick(&[0, 1, 1, 2, 4]);
         datum = datum.make_visible().scope(scope);
     }
     let mut rows = vec![load, datum];
@@ -80,6 +93,17 @@ fn receiver(random: &mut Random) -> Vec<Row> {
     if random.percent(15) {
         rows.push(plain(random, Row::read(1, BLANK)));
     }
+    if random.percent(15) {
+        let start = random.pick(&[0, 2, 8]);
+        let other = Row::read(1, INITIAL)
+            .bytes(start, 2)
+            .reference(random.pick(&[1, 1, 9]));
+        let place = 1 + random.below(rows.len());
+        rows.insert(place, other.make_visible().scope(random.pick(&[1, 2, 4])));
+    }
+    if random.percent(15) {
+        rows.insert(1, atomic(random, Row::atomic_read(1, STORE), &[0, 1]));
+    }
     rows
 }
 
@@ -87,7 +111,7 @@ fn plain(random: &mut Random, row: Row) -> Row {
     let length = random.pick(&[4, 4, 4, 2, 8]);
     let (reference, class) = random.pick(&[(1, 0), (1, 0), (1, 0), (3, 1)]);
     let row = row.bytes(0, length).reference(reference).class(class);
-    match random.percent(8) {
+    match random.percent(12) {
         true => row.private(),
         false => row,
     }
@@ -95,7 +119,7 @@ fn plain(random: &mut Random, row: Row) -> Row {
 
 /// Mostly of the flag's class, in a scope that holds both agents or not.
 fn atomic(random: &mut Random, row: Row, orders: &[u8]) -> Row {
-    let scope = random.pick(&[1, 2, 2, 2, 3, 4]);
+    let scope = random.pick(&[0, 1, 2, 2, 2, 2, 2, 2, 3, 4]);
     let class = if random.percent(85) { 0 } else { 1 };
     let reference = if class == 0 { 2 } else { 4 };
     let row = row
@@ -107,7 +131,7 @@ fn atomic(random: &mut Random, row: Row, orders: &[u8]) -> Row {
 }
 
 fn barrier(random: &mut Random, agent: u8, order: u8) -> Row {
-    let scope = random.pick(&[1, 2, 2, 2, 4]);
+    let scope = random.pick(&[0, 1, 2, 2, 2, 2, 4]);
     let row = match random.percent(65) {
         true => Row::barrier(agent, order, 1),
         false => Row::control_barrier(agent, random.pick(&[2, 2, 4]), 7),
@@ -122,7 +146,7 @@ fn ordered(random: &mut Random, row: Row, orders: &[u8]) -> Row {
     if order == 0 {
         return row.order(0, 0);
     }
-    let mut row = row.order(order, random.pick(&[1, 1, 1, 2, 3, 15]));
+    let mut row = row.order(order, random.pick(&[1, 1, 1, 2, 3, 7, 15]));
     if order >= 2 && random.percent(80) {
         row = row.make_available();
     }

@@ -15,29 +15,30 @@ pub struct Mutant {
     pub clauses: Vec<Clause>,
 }
 
-/// Definitions that stay the same where their last two arguments are
-/// exchanged.
-const SYMMETRIC: [&str; 20] = [
-    "Bool·beq",
-    "agree",
-    "apart",
-    "clash",
-    "common",
-    "conflict",
-    "meets",
-    "mutualRows",
-    "mutually",
-    "oneInstance",
-    "overlap",
-    "races",
-    "sameAgent",
-    "sameInstance",
-    "sameLocation",
-    "sameReference",
-    "shares",
-    "together",
-    "twoMoments",
-    "unordered",
+/// Definitions that stay the same where the argument at this place and the
+/// next are exchanged.
+const SYMMETRIC: [(&str, usize); 21] = [
+    ("Bool·beq", 0),
+    ("agree", 2),
+    ("apart", 1),
+    ("clash", 0),
+    ("common", 0),
+    ("conflict", 1),
+    ("meets", 0),
+    ("mutualRows", 1),
+    ("mutually", 1),
+    ("oneInstance", 2),
+    ("orderedAt", 1),
+    ("overlap", 0),
+    ("races", 1),
+    ("sameAgent", 1),
+    ("sameInstance", 0),
+    ("sameLocation", 0),
+    ("sameReference", 0),
+    ("shares", 2),
+    ("together", 1),
+    ("twoMoments", 1),
+    ("unordered", 1),
 ];
 
 /// What is known of the definitions that are changed.
@@ -184,7 +185,7 @@ fn is_zero(written: &Expr, known: &Known) -> bool {
 /// Whether two arguments, one after the other, have one type. A definition in
 /// a module may be given fewer than it has: then the last ones are meant.
 fn exchangeable(name: &str, place: usize, given: usize, known: &Known) -> bool {
-    if SYMMETRIC.contains(&name) && place + 2 == given {
+    if SYMMETRIC.contains(&(name, place)) {
         return false;
     }
     let Some(kinds) = known.types.get(name) else {

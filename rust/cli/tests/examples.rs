@@ -85,36 +85,3 @@ fn every_answer_is_on_the_page() {
     ];
     assert_eq!(words, all.map(str::to_string).into());
 }
-
-/// What stands below a command: up to the next command or to what isn't
-/// further in.
-fn shown_below(lines: &[&str]) -> String {
-    let is_below = |line: &&&str| {
-        let is_command = line.starts_with("    $ ");
-        line.is_empty() || line.starts_with("    ") && !is_command
-    };
-    let below = lines.iter().take_while(is_below);
-    let shown: String = below
-        .map(|line| format!("{}\n", line.get(4..).unwrap_or_default()))
-        .collect();
-    shown.trim_end().to_string() + "\n"
-}
-
-/// The commands of README.md, each with the lines below it.
-#[test]
-fn the_front_page_is_right() {
-    let root = folder().join("..");
-    let text = fs::read_to_string(root.join("README.md")).unwrap();
-    let lines: Vec<&str> = text.lines().collect();
-    let mut commands = 0;
-    for (place, line) in lines.iter().enumerate() {
-        if let Some(command) = line.strip_prefix("    $ ./stramashly ") {
-            let words: Vec<&str> = command.split(' ').collect();
-            let answer = stramashly_in(&root, &words, b"");
-            let shown = shown_below(&lines[place + 1..]);
-            assert_eq!(answer.output, shown, "{command}");
-            commands += 1;
-        }
-    }
-    assert!(commands >= 17, "{commands}");
-}

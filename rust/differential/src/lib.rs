@@ -7,6 +7,7 @@
 
 mod claim;
 mod expected;
+mod parts;
 mod pieces;
 mod reasons;
 mod reports;
@@ -14,6 +15,7 @@ mod tally;
 mod writing;
 
 pub use claim::Claim;
+pub use parts::{cut, readable};
 pub use pieces::OfPieces;
 pub use reasons::{Derived, Moments, Probed};
 pub use tally::Tally;

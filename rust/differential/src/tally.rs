@@ -1,7 +1,7 @@
 //! Counts of answers, to see that each was reached often enough.
 
 use crate::{Derived, Probed};
-use second::{AcceptsAnswer, CheckAnswer, FillAnswer, ReportAnswer};
+use second::{AcceptsAnswer, CheckAnswer, FillAnswer, ReportAnswer, RowsAnswer, WriteAnswer};
 use std::collections::{BTreeMap, BTreeSet};
 use std::fmt;
 use stramashly::PROGRAM_ORDER;
@@ -49,6 +49,20 @@ impl Tally {
                 self.refusal("report", *number, *row);
             }
             ReportAnswer::Check(_) => self.count("report inconsistent"),
+        }
+    }
+
+    pub fn write(&mut self, answer: &WriteAnswer) {
+        match *answer {
+            WriteAnswer::Written(_) => self.count("write written"),
+            WriteAnswer::Refused { number, row } => self.refusal("write", number, row),
+        }
+    }
+
+    pub fn rows(&mut self, answer: &RowsAnswer) {
+        match *answer {
+            RowsAnswer::Rows(_) => self.count("step through rows"),
+            RowsAnswer::Refused { number, row } => self.refusal("step through", number, row),
         }
     }
 

@@ -1,7 +1,7 @@
 //! Tables in two pieces: every cut, sizes that are no rows, too many rows,
 //! refusals at rows of either piece, and dependencies of both.
 
-use differential::{Comparison, Lengths, Tally};
+use differential::{cut, Comparison, Lengths, Tally};
 use second::{joined, Chains, CheckAnswer, FillAnswer};
 use stramashly::{CYCLE_NUMBERS, WORK_WORDS};
 use tables::{
@@ -14,28 +14,10 @@ const LARGEST: Size = Size {
     most: 128,
 };
 
-/// Where the rows of a table begin and end, by its first bytes.
-fn rows_of(bytes: &[u8]) -> (usize, usize) {
-    let place = if bytes[4] == 3 { 8 } else { 6 };
-    let begin = 8 + place * usize::from(bytes[5]);
-    (begin, begin + 16 * usize::from(bytes[6]))
-}
-
-/// The pieces of a table whose first piece keeps so many rows.
-fn cut(bytes: &[u8], rows: usize) -> [Vec<u8>; 2] {
-    let (begin, end) = rows_of(bytes);
-    let at = begin + 16 * rows;
-    let mut first = [&bytes[..at], &bytes[end..]].concat();
-    let following = (first.len() - 4) as u32;
-    first[..4].copy_from_slice(&following.to_be_bytes());
-    first[6] = rows as u8;
-    [first, bytes[at..end].to_vec()]
-}
-
 /// Every cut of a table, with chains and without.
 fn compare_cuts(comparison: &mut Comparison, bytes: &[u8], tally: &mut Tally) {
     for rows in 0..=usize::from(bytes[6]) {
-        let [first, second] = cut(bytes, rows);
+        let [first, second] = cut(bytes, rows).unwrap();
         assert_eq!(joined([&first, &second]).unwrap(), bytes, "{rows}");
         for chains in [Chains::Off, Chains::On] {
             let answers = comparison.pieces(chains, [&first, &second]).unwrap();
@@ -93,12 +75,12 @@ fn some_cuts_of_the_largest_tables() {
             hosted(&mut random, LARGEST).bytes(),
         ] {
             for rows in [0, 1, 64, 127, 128] {
-                let [first, second] = cut(&bytes, rows);
+                let [first, second] = cut(&bytes, rows).unwrap();
                 let answers = comparison.pieces(Chains::Off, [&first, &second]).unwrap();
                 assert_eq!(answers.check, comparison.check(&bytes).unwrap());
             }
             // One row more than there may be.
-            let [first, mut second] = cut(&bytes, 64);
+            let [first, mut second] = cut(&bytes, 64).unwrap();
             second.extend([0; 16]);
             let answers = comparison.pieces(Chains::Off, [&first, &second]).unwrap();
             assert_eq!(answers.check, CheckAnswer::Refused { number: 3, row: 0 });
@@ -119,12 +101,10 @@ fn damaged_tables_cut() {
             0 => damaged(&mut random, SMALL),
             _ => damaged_hosted(&mut random, SMALL),
         };
-        let is_whole = bytes.len() >= 8 && rows_of(&bytes).1 <= bytes.len();
-        let [first, second] = if is_whole {
-            let rows = random.below(usize::from(bytes[6]) + 1);
-            cut(&bytes, rows)
-        } else {
-            [bytes, vec![0; 16 * random.below(3)]]
+        let rows = bytes.get(6).map_or(0, |rows| usize::from(*rows));
+        let [first, second] = match cut(&bytes, random.below(rows + 1)) {
+            Some(pieces) => pieces,
+            None => [bytes, vec![0; 16 * random.below(3)]],
         };
         let answers = comparison.pieces(Chains::Off, [&first, &second]).unwrap();
         tally.check(&answers.check);
@@ -185,7 +165,7 @@ fn dependencies_of_both_pieces() {
     let mut alone = 0;
     for _ in 0..300 {
         let bytes = hosted(&mut random, SMALL).bytes();
-        let [first, second] = cut(&bytes, usize::from(bytes[6]) / 2);
+        let [first, second] = cut(&bytes, usize::from(bytes[6]) / 2).unwrap();
         let whole = comparison.pieces(Chains::Off, [&first, &second]).unwrap();
         assert_ne!(whole.check, CheckAnswer::Refused { number: 18, row: 0 });
         let part = comparison.pieces(Chains::Off, [&first, &[]]).unwrap();
@@ -209,7 +189,7 @@ fn derivations_of_every_cut() {
         };
         let count = 3 * u16::from(bytes[6]);
         for rows in 0..=usize::from(bytes[6]) {
-            let [first, second] = cut(&bytes, rows);
+            let [first, second] = cut(&bytes, rows).unwrap();
             for _ in 0..30 {
                 let moments = [0, 1].map(|_| random.below(usize::from(count) + 1) as u16);
                 let packed = comparison.derivation_of_pieces([&first, &second], moments);

@@ -1,7 +1,7 @@
 //! The writer and the stepping reader: every refusal, buffers of every length
 //! around the table's, and round trips both ways.
 
-use differential::Comparison;
+use differential::{readable, Comparison};
 use second::table::Row;
 use second::{RowsAnswer, Values, WriteAnswer};
 use std::collections::BTreeMap;
@@ -44,23 +44,6 @@ fn good(random: &mut Random, size: Size) -> Vec<u8> {
         2 => hosted(random, size).bytes(),
         _ => hosted_fillable(random, size).bytes(),
     }
-}
-
-/// A table whose values can be read, however damaged: its header fits.
-fn readable(table: &[u8]) -> bool {
-    if table.len() < 8 || !(1..=3).contains(&table[4]) {
-        return false;
-    }
-    let place = if table[4] == 3 { 8 } else { 6 };
-    let rows_end = 8 + place * usize::from(table[5]) + 16 * usize::from(table[6]);
-    if table[4] < 3 {
-        return table.len() == rows_end;
-    }
-    let count = table.get(rows_end..rows_end + 2);
-    count.is_some_and(|count| {
-        let count = u16::from_be_bytes([count[0], count[1]]);
-        table.len() == rows_end + 2 + 4 * usize::from(count)
-    })
 }
 
 /// Writing what was read from a table that a fill accepts gives its bytes;

@@ -1,13 +1,15 @@
 //! What libFuzzer calls with each of its inputs: a check, a fill and a report
-//! of the same bytes, chains off and on, their rows and values, and derivations
-//! of some of its moments, compared with the second implementation, every lent
-//! buffer included. The counters that guide libFuzzer are those of the second
+//! of the same bytes, chains off and on, derivations of some of its moments,
+//! its rows stepped through, its values read back and written, and the table in two
+//! pieces, compared with the second implementation, every lent buffer
+//! included. The counters that guide libFuzzer are those of the second
 //! implementation; the proved library has none.
 
-use differential::{Comparison, Difference, Lengths};
+use differential::{Comparison, Difference, Lengths, Tally};
 use second::Chains;
 use std::cell::RefCell;
 use stramashly::{CYCLE_NUMBERS, SOURCE_NUMBERS, WORK_WORDS};
+use tables::Random;
 
 thread_local! {
     static COMPARISON: RefCell<Comparison> = RefCell::new(Comparison::new(0));
@@ -52,7 +54,13 @@ fn both(comparison: &mut Comparison, input: &[u8]) -> Result<(), Difference> {
             comparison.report_with(chains, input)?;
         }
     }
-    comparison.step_through(input)?;
+    // The same choices for the same input.
+    let seed = input.iter().fold(0, |sum: u64, byte| {
+        sum.wrapping_mul(31).wrapping_add((*byte).into())
+    });
+    let (random, tally) = (&mut Random::new(seed), &mut Tally::default());
+    comparison.write_and_step(random, input, tally)?;
+    comparison.cut_anywhere(random, Chains::On, input, tally)?;
     moments(comparison, input)
 }
 

@@ -52,8 +52,9 @@ fn compare(seed: u64, count: u64, tally: &mut Tally) -> Result<(), Difference> {
     Ok(())
 }
 
-/// Half of the tables for a check and a report, a third for a fill, the rest damaged; the
-/// rows and values of each, and two pairs of moments.
+/// Half of the tables for a check and a report, a third for a fill, the rest damaged; of each two
+/// pairs of moments, its rows stepped through, its values read back and written, at times the table in two
+/// pieces.
 fn compare_one(
     random: &mut Random,
     comparison: &mut Comparison,
@@ -79,7 +80,10 @@ fn compare_one(
     } else {
         tally.fill(&comparison.fill_with(chains, &bytes)?);
     }
-    comparison.step_through(&bytes)?;
+    comparison.write_and_step(random, &bytes, tally)?;
+    if random.percent(25) {
+        comparison.cut_anywhere(random, chains, &bytes, tally)?;
+    }
     compare_moments(random, comparison, tally, &bytes)
 }
 

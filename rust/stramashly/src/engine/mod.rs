@@ -1,5 +1,6 @@
 //! The C boundary: the only unsafe code. `include/stramashly.h` says what
-//! these functions do; nothing compares the declarations here with it.
+//! these functions do; `tests/boundary.rs` holds its declarations and those
+//! here to the library's source.
 
 mod derivation;
 mod pieces;

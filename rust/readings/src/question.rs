@@ -1,0 +1,196 @@
+//! Questions, and both who answer them.
+
+use crate::{crates, expected, Case};
+use pages::{Evaluator, Program, Stop, Value};
+use second::State;
+use std::collections::{BTreeMap, HashMap};
+use std::fmt;
+use tables::hex;
+
+/// The page of the functions that C links: their contracts.
+pub const LINKED: &str = "stramashly/contracts";
+
+/// Definitions that no linked function leads to, or whose answer it packs so
+/// that a part is lost.
+pub const REPORT: &str = "model/Report.report";
+pub const ROW_PART: &str = "pieces/Pieces.rowPart";
+pub const LOWEST_SHARED: &str = "model/Row.lowestShared";
+pub const SHARES: &str = "model/Scope.shares";
+pub const READ_ENTRIES: &str = "writer/Encode.entriesOf";
+pub const READ_DEPENDENCIES: &str = "writer/Encode.dependenciesOf";
+
+#[derive(Clone, Debug, PartialEq, Eq, Hash)]
+pub enum Argument {
+    Number(u64),
+    Truth(bool),
+    Bytes(Vec<u8>),
+    Halves(Vec<u16>),
+    Words(Vec<u64>),
+    Places(Vec<[u16; 4]>),
+}
+
+/// A function that C links, or a definition by its full name, and what it is
+/// called with.
+#[derive(Clone, Debug, PartialEq, Eq)]
+pub struct Question {
+    pub function: &'static str,
+    pub arguments: Vec<Argument>,
+}
+
+/// An answer, and what each lent buffer holds afterwards.
+#[derive(Clone, Debug, Default, PartialEq, Eq)]
+pub struct Told {
+    pub answer: String,
+    pub left: BTreeMap<String, Vec<u64>>,
+}
+
+/// The pages, and the second implementation.
+pub struct Readers {
+    pub pages: Evaluator,
+    second: State,
+    parts: HashMap<&'static str, Vec<String>>,
+    values: HashMap<Argument, Value>,
+}
+
+impl Readers {
+    pub fn new() -> Readers {
+        Readers {
+            pages: Evaluator::new(Program::new(crates(), true)),
+            second: State::new(),
+            parts: HashMap::new(),
+            values: HashMap::new(),
+        }
+    }
+
+    /// Forgets a table.
+    pub fn forget(&mut self) {
+        self.pages.forget();
+        self.values.clear();
+    }
+
+    /// What the second implementation says; nothing where it gives up.
+    pub fn expected(&mut self, question: &Question) -> Option<Told> {
+        expected::told(&mut self.second, question)
+    }
+
+    /// What the pages say.
+    pub fn told(&mut self, question: &Question) -> Result<Told, Stop> {
+        let function = question.function;
+        let given: Vec<Value> = question.arguments.iter().map(|a| self.value(a)).collect();
+        if function.contains('/') {
+            let answer = self.pages.told(function, &given)?;
+            return Ok(Told {
+                answer,
+                ..Told::default()
+            });
+        }
+        let mut told = Told::default();
+        for part in self.parts_of(function)? {
+            let definition = format!("{LINKED}.{function}:{part}");
+            match part.as_str() {
+                "r" => told.answer = self.pages.told(&definition, &given)?,
+                _ => {
+                    let numbers = self.pages.list_of(&definition, &given)?;
+                    told.left.insert(part, numbers);
+                }
+            }
+        }
+        Ok(told)
+    }
+
+    fn parts_of(&mut self, function: &'static str) -> Result<Vec<String>, Stop> {
+        if let Some(parts) = self.parts.get(function) {
+            return Ok(parts.clone());
+        }
+        let all = self.pages.program.definitions(LINKED)?;
+        let parts = all
+            .iter()
+            .filter_map(|name| name.strip_prefix(function)?.strip_prefix(':'));
+        let parts: Vec<String> = parts.map(str::to_string).collect();
+        self.parts.insert(function, parts.clone());
+        Ok(parts)
+    }
+
+    /// Equal arguments are one value, so that what is known of one is known of the other.
+    fn value(&mut self, argument: &Argument) -> Value {
+        if let Some(value) = self.values.get(argument) {
+            return value.clone();
+        }
+        let value = match argument {
+            Argument::Number(number) => Value::Number(*number),
+            Argument::Truth(truth) => Value::Truth(*truth),
+            Argument::Bytes(bytes) => Value::numbers(bytes),
+            Argument::Halves(halves) => Value::numbers(halves),
+            Argument::Words(words) => Value::numbers(words),
+            Argument::Places(places) => {
+                Value::list(places.iter().map(|place| Value::numbers(place)).collect())
+            }
+        };
+        self.values.insert(argument.clone(), value.clone());
+        value
+    }
+
+    /// The definitions that the questions of these tables lead to.
+    pub fn definitions(&mut self, cases: &[Case]) -> Result<Vec<String>, String> {
+        for case in cases {
+            self.forget();
+            for question in &case.questions {
+                self.compare(question)?;
+            }
+        }
+        let called = self.pages.program.called();
+        let mut called: Vec<String> = called.into_iter().map(str::to_string).collect();
+        called.sort();
+        Ok(called)
+    }
+
+    /// Asks both; says where they differ.
+    pub fn compare(&mut self, question: &Question) -> Result<Option<Told>, String> {
+        let Some(expected) = self.expected(question) else {
+            return Ok(None);
+        };
+        match self.told(question) {
+            Ok(told) if told == expected => Ok(Some(told)),
+            Ok(told) => Err(format!("{question}\n{}", difference(&told, &expected))),
+            Err(stop) => Err(format!("{question}\n{stop} instead of {}", expected.answer)),
+        }
+    }
+}
+
+impl Default for Readers {
+    fn default() -> Readers {
+        Readers::new()
+    }
+}
+
+fn difference(told: &Told, expected: &Told) -> String {
+    if told.answer != expected.answer {
+        return format!("{} instead of {}", told.answer, expected.answer);
+    }
+    for (name, numbers) in &expected.left {
+        let ours = told.left.get(name).map_or(&[][..], |numbers| numbers);
+        let place = (0..numbers.len().max(ours.len())).find(|at| ours.get(*at) != numbers.get(*at));
+        if let Some(place) = place {
+            return format!("{}, but {name} differs at {place}", told.answer);
+        }
+    }
+    "other buffers".to_string()
+}
+
+impl fmt::Display for Question {
+    /// Long buffers are told by their lengths.
+    fn fmt(&self, formatter: &mut fmt::Formatter) -> fmt::Result {
+        write!(formatter, "{}", self.function)?;
+        for argument in &self.arguments {
+            match argument {
+                Argument::Bytes(bytes) => write!(formatter, " {}", hex(bytes))?,
+                Argument::Words(words) => write!(formatter, " {} words", words.len())?,
+                Argument::Halves(halves) if halves.len() > 100 => {
+                    write!(formatter, " {} numbers", halves.len())?;
+                }
+                other => write!(formatter, " {other:?}")?,
+            }
+        }
+        Ok(())
+    }
+}

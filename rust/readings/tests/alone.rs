@@ -1,0 +1,142 @@
+//! Definitions that no linked function leads to: a table whose rows are moved,
+//! and a reader that steps through a table.
+
+use pages::{Evaluator, Program, Value};
+use readings::{crates, with_room};
+use second::{row_bytes, table::Row, RowsAnswer, State};
+use tables::{checkable, fillable, hosted, moved, Random, Size};
+
+const SMALL: Size = Size { least: 2, most: 5 };
+
+fn pages() -> Evaluator {
+    Evaluator::new(Program::new(crates(), true))
+}
+
+/// Where the rows of a table begin and end.
+fn rows_of(table: &[u8]) -> (usize, usize) {
+    let place = if table[4] == 3 { 8 } else { 6 };
+    let begin = 8 + place * usize::from(table[5]);
+    (begin, begin + 16 * usize::from(table[6]))
+}
+
+/// Whether the second table is the first with each row moved to its place, by
+/// the words of docs/RULES.md.
+fn is_moved(one: &[u8], two: &[u8], places: &[usize]) -> bool {
+    let (begin, end) = rows_of(one);
+    let number = |bytes: &[u8]| u16::from_be_bytes([bytes[0], bytes[1]]);
+    let to = |row: u16| {
+        places
+            .get(usize::from(row))
+            .map_or(row, |place| *place as u16)
+    };
+    let row = |table: &[u8], row: usize| table[begin + 16 * row..][..16].to_vec();
+    let is_same_row = |from: usize| {
+        let (mut before, after) = (row(one, from), row(two, places[from]));
+        let source = to(number(&before[12..]));
+        before[12..14].copy_from_slice(&source.to_be_bytes());
+        before == after
+    };
+    let order = |from: usize, other: usize| {
+        row(one, from)[1] != row(one, other)[1] || places[from] < places[other]
+    };
+    let mut ends: Vec<u8> = one[end..].iter().take(2).copied().collect();
+    for end in one[end..].chunks_exact(2).skip(1) {
+        ends.extend(to(number(end)).to_be_bytes());
+    }
+    one[..begin] == two[..begin]
+        && (0..places.len()).all(is_same_row)
+        && (0..places.len()).all(|other| (0..other).all(|from| order(from, other)))
+        && ends == two[end..]
+}
+
+/// Asks the page whether one table is the other with its rows moved.
+fn page_says(pages: &mut Evaluator, one: &[u8], two: &[u8], places: &[usize]) -> bool {
+    pages.forget();
+    pages.bound = one.len() as u64 + 3;
+    let numbers: Vec<u64> = places.iter().map(|place| *place as u64).collect();
+    let given = [("places", Value::numbers(&numbers))];
+    let text = "record { to = λ k. getD places k k }";
+    let renumbering = pages.expression("moved/Moved", text, &given).unwrap();
+    let arguments = [Value::numbers(one), Value::numbers(two), renumbering];
+    match pages.ask("moved/Moved.Moved", &arguments).unwrap() {
+        Value::Truth(truth) => truth,
+        _ => panic!("a statement without a truth"),
+    }
+}
+
+/// Moved tables, and the same with something changed: the page and the words
+/// of the rules agree.
+#[test]
+fn moved_tables() {
+    let answers = with_room(|| {
+        let mut pages = pages();
+        let mut random = Random::new(31);
+        let mut answers = [0, 0];
+        for number in 0..60 {
+            let table = match number % 3 {
+                0 => checkable(&mut random, SMALL),
+                1 => fillable(&mut random, SMALL),
+                _ => hosted(&mut random, SMALL),
+            };
+            let moved = moved(&mut random, &table);
+            let (one, mut two, mut places) = (table.bytes(), moved.table.bytes(), moved.places);
+            match number % 4 {
+                0 | 1 => {
+                    let place = random.below(two.len());
+                    two[place] ^= 1 << random.below(8);
+                }
+                2 => {
+                    let (row, other) = (random.below(places.len()), random.below(places.len()));
+                    places.swap(row, other);
+                }
+                _ => (),
+            }
+            let truth = is_moved(&one, &two, &places);
+            assert_eq!(
+                page_says(&mut pages, &one, &two, &places),
+                truth,
+                "{one:?} {two:?} {places:?}"
+            );
+            answers[usize::from(truth)] += 1;
+        }
+        answers
+    });
+    assert!(answers.iter().all(|count| *count >= 10), "{answers:?}");
+}
+
+fn said(row: Row) -> String {
+    let small: Vec<String> = row_bytes(row)[..8].iter().map(u8::to_string).collect();
+    let (start, reference, rank, source) = (row.start, row.reference, row.rank, row.source);
+    format!(
+        "Row {{{} {start} {reference} {rank}}} {{{source}}}",
+        small.join(" ")
+    )
+}
+
+/// A reader gives the rows one after the other, and then the end for good.
+#[test]
+fn readers_of_rows() {
+    let count = with_room(|| {
+        let mut pages = pages();
+        let mut random = Random::new(32);
+        let mut count = 0;
+        for _ in 0..40 {
+            let table = fillable(&mut random, SMALL).bytes();
+            let RowsAnswer::Rows(rows) = State::new().step_through(&table) else {
+                continue;
+            };
+            pages.forget();
+            let given = [("s", Value::numbers(&table))];
+            for step in 0..rows.len() + 3 {
+                let text = format!("stepsOf (record {{ table = s; at = 0 }}) {step}");
+                let value = pages.expression("stepping/Steps", &text, &given).unwrap();
+                let row = rows.get(step).map(|bytes| said(Row::from_bytes(bytes)));
+                let expected = row.unwrap_or_else(|| "End".to_string());
+                assert_eq!(pages.show(&value).unwrap(), expected, "step {step}");
+                count += 1;
+            }
+        }
+        count
+    });
+    assert!(count > 150, "{count}");
+}

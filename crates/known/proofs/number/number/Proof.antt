@@ -1,0 +1,54 @@
+use mathlib.Core.Path.{_≡_, refl, sym, _∙_}
+use Prim.Native.Nat.{_-_}
+use native.Mathlib.Omega.{arith}
+use lib.ListN.{length}
+use Rattle.model.specs.Limits.{ROWS}
+use Rattle.row_sets.specs.First.{next}
+use Rattle.row_sets.specs.Walk.{Walk, walk-less}
+use Rattle.known.specs.Number.{keyIn, Numbered, number-begin, number-turn, number-end, number-few, step-keys, step-loc}
+use borrow.Author.Needs.{needs}
+use Rattle.known.proofs.number.number.Statement.{statement}
+use Rattle.known.proofs.number.number.Tie as tie
+
+abbrev Inv-loop : tie.InvT-loop
+Inv-loop keys₀ loc₀ rows l₀ left₀ keys loc l left = (length keys ≡ length keys₀) × (length loc ≡ length loc₀) × (Walk left₀ left × Numbered (keyIn rows) left₀ (next left) keys loc l)
+
+abbrev μ-loop : tie.MeasureT-loop
+μ-loop keys₀ loc₀ rows l₀ left₀ keys loc l left = ROWS - next left
+
+loop-holds : tie.Need-loop-holds Inv-loop μ-loop
+loop-holds c = (refl, refl, number-begin _ _ _ _)
+
+first-requires : tie.Need-first-requires Inv-loop μ-loop
+first-requires c κs = sym (c .before .some .ensures) ∙ c .if1 .taken
+
+but-first-requires : tie.Need-but-first-requires Inv-loop μ-loop
+but-first-requires c κs = sym (c .before .before .some .ensures) ∙ c .before .if1 .taken
+
+number-row-requires : tie.Need-number-row-requires Inv-loop μ-loop
+number-row-requires c κs =
+    let low = c .before .before .before .before .before .first .ensures in
+    let inv = c .before .before .before .before .before .before .before .before .loop .inv in
+    let pre = c .before .before .before .before .before .before .before .before .before .before .before .before .pre in
+    (omega (arith, low .bound, inv .0, pre .0), omega (arith, low .bound, inv .1, pre .1), number-few (inv .2 .1) low, low .bound)
+
+loop-less : tie.Need-loop-less Inv-loop μ-loop
+loop-less c = walk-less (c .before .before .before .before .before .before .before .before .before .before .first .ensures) (c .before .before .before .before .before .before .before .before .before .but-first .ensures)
+
+loop-again : tie.Need-loop-again Inv-loop μ-loop
+loop-again c =
+    let step = c .before .before .before .before .number-row .ensures in
+    let inv = c .before .before .before .before .before .before .before .before .before .before .before .before .before .loop .inv in
+    let pre = c .before .before .before .before .before .before .before .before .before .before .before .before .before .before .before .before .before .pre in (
+      step-keys step ∙ inv .0,
+      step-loc step ∙ inv .1,
+      number-turn _ _ (inv .2) (c .before .before .before .before .before .before .before .before .before .before .first .ensures) (c .before .before .before .before .before .before .before .before .before .but-first .ensures) (omega (arith, inv .0, pre .0)) (omega (arith, inv .1, pre .1))
+          (c .before .before .before .before .before .before .before .before .read-row .ensures) (c .before .before .before .before .before .before .before .key .ensures) step,
+    )
+
+returns : tie.Need-returns Inv-loop μ-loop
+returns c = number-end _ _ (sym (c .before .some .ensures) ∙ c .if1 .left) (c .before .before .loop .inv .2 .1)
+
+pub number-spec : {M : Type 1} → statement M
+number-spec =
+    tie.close (tie.spec Inv-loop μ-loop loop-holds (λ c κs. search needs) first-requires but-first-requires (λ c. search needs) (λ c κs. search needs) (λ c κs. search needs) number-row-requires loop-less loop-again (λ c. search needs) (λ c. search needs) returns)

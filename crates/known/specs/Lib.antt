@@ -1,0 +1,9 @@
+pub mod Filed
+pub mod Says
+pub mod Known
+pub mod Makes
+pub mod Share
+pub mod Prepared
+pub mod Number
+pub mod Placed
+pub mod Hears

@@ -1,20 +1,29 @@
-// Numbers for the places of accesses: rows have one number exactly where they have one start, size and reference.
+// Rows that have one location, or one reference: they get one number, and each the set of those with its number.
 ghost use mathlib.Core.Path.{_≡_};
+ghost use mathlib.Core.Bool.{Bool};
 ghost use Prim.Native.Nat.{_+_, _*_, _≤_, _<_};
 ghost use lib.ListN.{length};
 ghost use Rattle.finite.specs.Below.{least};
 ghost use Rattle.model.specs.Limits.{ROWS};
+ghost use Rattle.run.specs.Layout.{rowsIn, tableIn};
+ghost use Rattle.row_sets.specs.Kept.{setAt};
 ghost use Rattle.known.specs.Number.{keyOf, keyIn, keyAt, grown, Step, Numbered};
-ghost use Rattle.known.specs.Placed.{Small, Placed};
+ghost use Rattle.known.specs.Placed.{Small, Placed, Grouped};
+ghost use Rattle.known.specs.Known.{WORDS, ACCESS};
 use model::Row;
 use row_sets::Set;
-use rows::bytes;
+use row_sets::kept;
+use run::Run;
 
-// Start, size and reference as one number.
-fn key(r: Row) -> u64
-    ensures { λ k. ⌜ k ≡ keyOf r ⌝ }
+// Start, size and reference as one number, if `whole`; else the reference alone.
+fn key(r: Row, whole: bool) -> u64
+    ensures { λ k. ⌜ k ≡ keyOf whole r ⌝ }
 {
-    (r.reference as u64) * 16777216 + (r.start as u64) * 256 + (r.size as u64)
+    if whole {
+        (r.reference as u64) * 16777216 + (r.start as u64) * 256 + (r.size as u64)
+    } else {
+        r.reference as u64
+    }
 }
 
 // The first of l keys that is k; l where none is.
@@ -50,23 +59,23 @@ fn number_row(keys: &mut [u64], loc: &mut [u64], i: usize, l: usize, k: u64) -> 
 }
 
 // Numbers the members of x. Gives how many numbers there are.
-pub fn number(keys: &mut [u64], loc: &mut [u64], rows: &[u8], x: Set) -> usize
+fn number(keys: &mut [u64], loc: &mut [u64], t: &Run, x: Set, whole: bool) -> usize
     requires { ⌜ (ROWS ≤ length (now keys)) × (ROWS ≤ length (now loc)) ⌝ }
-    ensures { λ l. ⌜ Numbered (keyIn (now (rows .entry))) x ROWS (now (keys .exit)) (now (loc .exit)) l ⌝ }
+    ensures { λ l. ⌜ Numbered (keyIn whole (rowsIn (now (t .entry)))) x ROWS (now (keys .exit)) (now (loc .exit)) l ⌝ }
 {
     let mut l = 0;
     let mut left = x;
     while row_sets::some(left) {
         let i = row_sets::first(left);
         left = row_sets::but_first(left);
-        let k = key(bytes::read_row(rows, i as u16));
+        let k = key(run::row(t, i as u16), whole);
         l = number_row(keys, loc, i, l, k);
     }
     l
 }
 
 // The sets of the members of x by their numbers, from word `base` on.
-pub fn place(s: &mut [u64], loc: &[u64], base: usize, x: Set)
+fn place(s: &mut [u64], loc: &[u64], base: usize, x: Set)
     requires { ⌜ (base + 2 * ROWS ≤ length (now s)) × (ROWS ≤ length (now loc)) × Small (now loc) x ⌝ }
     ensures { λ _. ⌜ Placed base (now (loc .entry)) x (now (s .entry)) (now (s .exit)) ⌝ }
 {
@@ -76,6 +85,35 @@ pub fn place(s: &mut [u64], loc: &[u64], base: usize, x: Set)
         let i = row_sets::first(left);
         left = row_sets::but_first(left);
         let k = loc[i] as usize;
-        row_sets::kept::put_bit(s, base, k, i);
+        kept::put_bit(s, base, k, i);
     }
+}
+
+// Each member of x gets the set of its number, from word `base` of s on.
+fn spread(s: &mut [u64], by: &[u64], loc: &[u64], base: usize, x: Set)
+    requires { ⌜ (base + 2 * ROWS ≤ length (now s)) × (2 * ROWS ≤ length (now by)) × (ROWS ≤ length (now loc)) × Small (now loc) x ⌝ }
+    ensures { λ _. ⌜ Spread base (now (by .entry)) (now (loc .entry)) x (now (s .entry)) (now (s .exit)) ⌝ }
+{
+    bits::clear(s, base, base + 256);
+    let mut left = x;
+    while row_sets::some(left) {
+        let i = row_sets::first(left);
+        left = row_sets::but_first(left);
+        let k = loc[i] as usize;
+        kept::put(s, base, i, kept::get(by, 0, k));
+    }
+}
+
+// Each access of a run gets the set of the accesses that have its location, if `whole`, or its reference.
+pub fn group(t: &Run, s: &mut [u64], base: usize, whole: bool)
+    requires { ⌜ (ACCESS + 2 ≤ base) × (base + 2 * ROWS ≤ length (now s)) ⌝ }
+    ensures { λ _. ⌜ Grouped base (keyIn whole (rowsIn (now (t .entry)))) (setAt (now (s .entry)) ACCESS) (now (s .entry)) (now (s .exit)) ⌝ }
+{
+    let x = kept::get(s, crate::ACCESS, 0);
+    let mut keys = [0u64; 128];
+    let mut loc = [0u64; 128];
+    let mut by = [0u64; 256];
+    number(&mut keys, &mut loc, t, x, whole);
+    place(&mut by, &loc, 0, x);
+    spread(s, &by, &loc, base, x);
 }

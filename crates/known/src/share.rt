@@ -3,7 +3,7 @@ ghost use Prim.Native.Nat.{_+_, _*_, _≤_, _<_};
 ghost use lib.ListN.{length};
 ghost use Rattle.model.specs.Limits.{AGENTS};
 ghost use Rattle.known.specs.Share.{SCOPES, SHARE, SHARE-END, Level, Takes, Adds, SharedTo, SharedIf, SharesTo};
-ghost use Rattle.known.specs.Hears.{Hears};
+ghost use Rattle.known.specs.Hears.{Hears, HEARS-END, HeardIf, HeardTo, HostsTo, SharesAll};
 use model::Places;
 use row_sets::Set;
 use row_sets::kept;
@@ -89,7 +89,7 @@ fn share_if(s: &mut [u64], p: Places, a: usize)
 }
 
 // The sets of all agents that have rows.
-pub fn share(s: &mut [u64], p: Places)
+fn share(s: &mut [u64], p: Places)
     requires { ⌜ SHARE-END ≤ length (now s) ⌝ }
     ensures { λ _. ⌜ SharesTo p AGENTS (now (s .entry)) (now (s .exit)) ⌝ }
 {
@@ -99,7 +99,7 @@ pub fn share(s: &mut [u64], p: Places)
 }
 
 // The rows whose own scope agent a shares with their agent.
-pub fn hears(s: &[u64], a: usize) -> Set
+fn heard(s: &[u64], a: usize) -> Set
     requires { ⌜ (SHARE-END ≤ length (now s)) × (a < AGENTS) ⌝ }
     ensures { λ x. ⌜ Hears (now (s .entry)) a SCOPES x ⌝ }
 {
@@ -109,4 +109,49 @@ pub fn hears(s: &[u64], a: usize) -> Set
         x = row_sets::or(x, y);
     }
     x
+}
+
+// HEARS of agent a, if it has rows.
+fn hear_if(s: &mut [u64], a: usize)
+    requires { ⌜ (HEARS-END ≤ length (now s)) × (a < AGENTS) ⌝ }
+    ensures { λ _. ⌜ HeardIf a (now (s .entry)) (now (s .exit)) ⌝ }
+{
+    if row_sets::some(kept::get(s, 0, AGENT + a)) {
+        let x = heard(s, a);
+        kept::put(s, crate::HEARS, a, x);
+    }
+}
+
+// HEARS of all agents that have rows.
+fn hear(s: &mut [u64])
+    requires { ⌜ HEARS-END ≤ length (now s) ⌝ }
+    ensures { λ _. ⌜ HeardTo AGENTS (now (s .entry)) (now (s .exit)) ⌝ }
+{
+    for a in 0..model::AGENTS {
+        hear_if(s, a);
+    }
+}
+
+// The rows of host agents.
+fn hosted(s: &[u64], p: Places) -> Set
+    requires { ⌜ SHARE-END ≤ length (now s) ⌝ }
+    ensures { λ x. ⌜ HostsTo p AGENTS (now (s .entry)) x ⌝ }
+{
+    let mut x = row_sets::none();
+    for a in 0..model::AGENTS {
+        let v = kept::get(s, 0, AGENT + a);
+        x = row_sets::or(x, row_sets::only_if(scopes::is_host(p, a as u8), v));
+    }
+    x
+}
+
+// SHARE, ON_HOST and HEARS.
+pub fn fill(s: &mut [u64], p: Places)
+    requires { ⌜ HEARS-END ≤ length (now s) ⌝ }
+    ensures { λ _. ⌜ SharesAll p (now (s .entry)) (now (s .exit)) ⌝ }
+{
+    share(s, p);
+    let hosts = hosted(s, p);
+    kept::put(s, crate::ON_HOST, 0, hosts);
+    hear(s);
 }

@@ -13,6 +13,11 @@ use row_sets::kept;
 // Where the sets of tests begin, in words.
 const TESTS: usize = 184;
 
+// Where the sets of scopes begin, and those of classes, in sets.
+const SCOPE: usize = 52;
+
+const CLASSES: usize = 68;
+
 // The rows of set a or b.
 fn either(s: &[u64], a: usize, b: usize) -> Set
     requires { ⌜ (2 * FILED ≤ length (now s)) × (a < FILED) × (b < FILED) ⌝ }
@@ -75,8 +80,9 @@ fn make_marked(s: &mut [u64])
     ensures { λ _. ⌜ Makes PUBLIC TESTS-END Marked (now (s .entry)) (now (s .exit)) ⌝ }
 {
     let public = four(s, 61, 63, 65, 67);
-    let available = four(s, 62, 63, 66, 67);
-    let visible = four(s, 64, 65, 66, 67);
+    let own = kept::get(s, 0, SCOPE);
+    let available = row_sets::less(four(s, 62, 63, 66, 67), own);
+    let visible = row_sets::less(four(s, 64, 65, 66, 67), own);
     kept::put(s, TESTS, 8, public);
     kept::put(s, TESTS, 9, available);
     kept::put(s, TESTS, 10, visible);
@@ -91,4 +97,42 @@ pub fn make(s: &mut [u64])
     make_kinds(s);
     make_orders(s);
     make_marked(s);
+}
+
+// ---- by classes
+
+// The rows whose semantics have class q.
+fn holding(s: &[u64], q: usize) -> Set
+    requires { ⌜ (2 * FILED ≤ length (now s)) × (q < 4) ⌝ }
+    ensures { λ r. ⌜ ((j : ℕ) → inSet r j ≡ anyBelow 16 (heldBy (now (s .entry)) q j)) ⌝ }
+{
+    let mut a = row_sets::none();
+    for m in 0..16 {
+        let b = crate::ask::holds_class(m, q);
+        a = row_sets::or(a, row_sets::only_if(b, kept::get(s, 0, CLASSES + m)));
+    }
+    a
+}
+
+// HOLDING and CLASSED of class q.
+fn sort_class(s: &mut [u64], q: usize)
+    requires { ⌜ (HEARS-END ≤ length (now s)) × (q < 4) ⌝ }
+    ensures { λ _. ⌜ Sorted q (now (s .entry)) (now (s .exit)) ⌝ }
+{
+    let a = holding(s, q);
+    let b = row_sets::and(kept::get(s, crate::ACCESS, 0), kept::get(s, crate::BY_CLASS, q));
+    kept::put(s, crate::HOLDING, q, a);
+    kept::put(s, crate::CLASSED, q, b);
+}
+
+// PLAIN, HOLDING and CLASSED.
+pub fn sort(s: &mut [u64])
+    requires { ⌜ HEARS-END ≤ length (now s) ⌝ }
+    ensures { λ _. ⌜ SortedAll (now (s .entry)) (now (s .exit)) ⌝ }
+{
+    let plain = either(s, 0, 1);
+    kept::put(s, crate::PLAIN, 0, plain);
+    for q in 0..4 {
+        sort_class(s, q);
+    }
 }

@@ -131,6 +131,13 @@ pub fn drop(a: Set, i: usize) -> Set
     less(a, bit(i))
 }
 
+// The members of a where b holds, else none.
+pub fn only_if(b: bool, a: Set) -> Set
+    ensures { λ r. ⌜ ((j : ℕ) → inSet r j ≡ (b and inSet a j)) ⌝ }
+{
+    if b { a } else { none() }
+}
+
 // ---- members
 
 pub fn has(a: Set, i: usize) -> bool

@@ -1,6 +1,8 @@
 // Where the engine by sets has its grids in the work area: each has a set of rows for each row. What the whole product shares is in `area`;
 // these stand in regions of it that the other engine uses for its own. specs/Regions.antt says the same.
 
+use row_sets::Set;
+
 const GRID: usize = area::ROWS_GRID;
 
 // M3: the atomic writers that follow each in their scoped modification order.
@@ -81,3 +83,16 @@ pub const REACH_VISIBLE: usize = REACH_AT + GRID;
 pub const REACH_AVAILABLE: usize = REACH_VISIBLE + GRID;
 
 pub const REACH_END: usize = REACH_AVAILABLE + GRID;
+
+// ---- what M6 and M7 hand on
+
+// For one class set: its nodes, which are the rows that hold all of it and are releases or acquires, and the ends of dependencies; of these
+// the releases and the acquires; the rows that it concerns, and those whose availability and visibility operations it concerns.
+pub struct Concerned {
+    pub nodes: Set,
+    pub releases: Set,
+    pub acquires: Set,
+    pub at: Set,
+    pub available: Set,
+    pub visible: Set,
+}

@@ -10,13 +10,27 @@ use borrow.Author.Tests.{eqb-true, eq-eqb, ltb-true}
 use Rattle.finite.specs.Logic.{_and_, _or_, bool-ext, split, and-true}
 use Rattle.finite.specs.Below.{anyBelow, any-none, any-in, any-out}
 use Rattle.model.specs.declared.Row.{Row}
-use Rattle.model.specs.Scope.{shares}
+use Rattle.model.specs.Limits.{AGENTS, ROWS}
+use Rattle.model.specs.Scope.{host, shares}
+use Rattle.bits.specs.Within.{Within}
 use Rattle.row_sets.specs.declared.Set.{Set}
 use Rattle.row_sets.specs.Member.{inSet}
+use Rattle.row_sets.specs.Kept.{setAt}
 use Rattle.row_sets.specs.Family.{nth}
-use Rattle.known.specs.Filed.{SCOPE}
+use Rattle.known.specs.Filed.{AGENT, SCOPE}
 use Rattle.known.specs.Says.{Ground, says-scope}
-use Rattle.known.specs.Share.{SCOPES, SHARE}
+use Rattle.known.specs.Share.{SCOPES, SHARE, sharer}
+
+-- ---- the layout, in words
+
+abbrev pub ON-HOST : ℕ
+ON-HOST = 544
+
+abbrev pub HEARS : ℕ
+HEARS = 546
+
+abbrev pub HEARS-END : ℕ
+HEARS-END = 610
 
 -- ---- definitions
 
@@ -27,6 +41,32 @@ hearing s a j q = inSet (nth s 0 (SCOPE + q)) j and inSet (nth s (SHARE + 10 * a
 -- x has the rows that do, of the scopes below q
 pub record Hears (s : List ℕ) (a q : ℕ) (x : Set) : Type 0 where
   pub is : (j : ℕ) → inSet x j ≡ anyBelow q (hearing s a j)
+
+-- where agent a has rows, its set has the rows that it hears; no word outside it changed
+pub record HeardIf (a : ℕ) (s u : List ℕ) : Type 0 where
+  pub is : (j : ℕ) → anyBelow ROWS (inSet (nth s 0 (AGENT + a))) ≡ true → inSet (nth u HEARS a) j ≡ anyBelow SCOPES (hearing s a j)
+  pub frame : Within (HEARS + 2 * a) (HEARS + 2 * a + 2) s u
+
+-- the same of the agents below m
+pub record HeardTo (m : ℕ) (s u : List ℕ) : Type 0 where
+  pub is : (a j : ℕ) → a < m → anyBelow ROWS (inSet (nth s 0 (AGENT + a))) ≡ true → inSet (nth u HEARS a) j ≡ anyBelow SCOPES (hearing s a j)
+  pub frame : Within HEARS HEARS-END s u
+
+-- row j is of agent a, which is a host agent
+unfoldable pub hostBy : List (List ℕ) → List ℕ → ℕ → ℕ → Bool
+hostBy p s j a = host p a and inSet (nth s 0 (AGENT + a)) j
+
+-- x has the rows of host agents below m
+pub record HostsTo (p : List (List ℕ)) (m : ℕ) (s : List ℕ) (x : Set) : Type 0 where
+  pub is : (j : ℕ) → inSet x j ≡ anyBelow m (hostBy p s j)
+
+-- the sets by scopes and places, of rows that are filed
+pub record SharesAll (p : List (List ℕ)) (s u : List ℕ) : Type 0 where
+  pub shares : (a q j : ℕ) → a < AGENTS → anyBelow ROWS (inSet (nth s 0 (AGENT + a))) ≡ true → q < SCOPES
+      → inSet (nth u (SHARE + 10 * a) q) j ≡ anyBelow 32 (sharer p s a q j)
+  pub heard : (a j : ℕ) → a < AGENTS → anyBelow ROWS (inSet (nth s 0 (AGENT + a))) ≡ true → inSet (nth u HEARS a) j ≡ anyBelow SCOPES (hearing u a j)
+  pub hosts : (j : ℕ) → inSet (setAt u ON-HOST) j ≡ anyBelow AGENTS (hostBy p s j)
+  pub frame : Within SHARE HEARS-END s u
 
 -- ---- laws
 

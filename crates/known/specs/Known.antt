@@ -1,149 +1,82 @@
--- What is known of n rows: which are filed where, and what each set of a test says. Assumes nothing.
+-- What every set of a table's rows holds, each in a test of the model. Assumes nothing.
+use mathlib.Core.Path.{_≡_, refl, ap, _∙_}
+use mathlib.Core.Bool.{Bool, true}
 use mathlib.Core.List.{List}
-use Prim.Native.Nat.{ℕ, _≤_}
-use native.Mathlib.Omega.{arith}
+use Prim.Native.Nat.{ℕ, _+_, _*_, _≤_, _<_}
+use lib.ListN.{length}
+use lib.Dec.{eqb}
+use Rattle.finite.specs.Logic.{_and_}
 use Rattle.model.specs.declared.Row.{Row}
-use Rattle.model.specs.Row.{reads, writes, access, atomic, ranked, barrier, acquires, releases, nonPrivate, makesAvailable, makesVisible}
-use Rattle.bits.specs.Within.{Within, within-trans, within-widen}
+use Rattle.model.specs.Row.{access, plain, meets, single, classIn}
+use Rattle.model.specs.Scope.{together, sameLocation}
+use Rattle.model.specs.Location.{sameReference, onHost}
+use Rattle.model.specs.Table.{Table}
+use Rattle.bits.specs.Within.{Within}
+use Rattle.row_sets.specs.declared.Set.{Set}
 use Rattle.row_sets.specs.Kept.{setAt}
-use Rattle.known.specs.Says.{Says, Ground, says-kept, ground-kept}
+use Rattle.row_sets.specs.Family.{nth}
+use Rattle.row_sets.specs.Rows.{Rows}
+use Rattle.placing.specs.Shares.{share, hears}
+use Rattle.known.specs.Says.{Says}
+use Rattle.known.specs.Share.{SCOPES, SHARE}
+use Rattle.known.specs.Tested.{Tested}
+use Rattle.known.specs.Sorted.{Sorted}
+use Rattle.known.specs.Hears.{ON-HOST, HEARS}
+use Rattle.known.specs.Fit.{Fit}
 
--- ---- the layout, in words: after the sets of codes
+-- ---- the layout, in words: after the sets by codes, tests, classes and scopes, a set for each access
 
-abbrev pub READS : ℕ
-READS = 184
+abbrev pub PLACE : ℕ
+PLACE = 610
 
-abbrev pub WRITES : ℕ
-WRITES = 186
+abbrev pub REFERENCE : ℕ
+REFERENCE = 866
 
-abbrev pub ACCESS : ℕ
-ACCESS = 188
-
-abbrev pub ATOMIC : ℕ
-ATOMIC = 190
-
-abbrev pub RANKED : ℕ
-RANKED = 192
-
-abbrev pub BARRIER : ℕ
-BARRIER = 194
-
-abbrev pub ACQUIRES : ℕ
-ACQUIRES = 196
-
-abbrev pub RELEASES : ℕ
-RELEASES = 198
-
-abbrev pub PUBLIC : ℕ
-PUBLIC = 200
-
-abbrev pub AVAILABLE : ℕ
-AVAILABLE = 202
-
-abbrev pub VISIBLE : ℕ
-VISIBLE = 204
-
-abbrev pub TESTS-END : ℕ
-TESTS-END = 206
+abbrev pub WORDS : ℕ
+WORDS = 1122
 
 -- ---- definitions
 
-pub record Accesses (row : ℕ → Row) (n : ℕ) (s : List ℕ) : Type 0 where
-  pub reads : Says row n reads (setAt s READS)
-  pub writes : Says row n writes (setAt s WRITES)
-  pub access : Says row n access (setAt s ACCESS)
+-- row j is an access of row i's location; of its reference
+unfoldable pub samePlace : Table → ℕ → ℕ → Bool
+samePlace t i j = access (t .row j) and sameLocation (t .row i) (t .row j)
 
-pub record Kinds (row : ℕ → Row) (n : ℕ) (s : List ℕ) : Type 0 where
-  pub atomic : Says row n atomic (setAt s ATOMIC)
-  pub ranked : Says row n ranked (setAt s RANKED)
-  pub barrier : Says row n barrier (setAt s BARRIER)
+unfoldable pub sameName : Table → ℕ → ℕ → Bool
+sameName t i j = access (t .row j) and sameReference (t .row i) (t .row j)
 
-pub record Orders (row : ℕ → Row) (n : ℕ) (s : List ℕ) : Type 0 where
-  pub acquires : Says row n acquires (setAt s ACQUIRES)
-  pub releases : Says row n releases (setAt s RELEASES)
+-- the agents of rows i and j share both rows' scopes
+unfoldable pub atTogether : Table → ℕ → ℕ → Bool
+atTogether t i j = together (t .places) (t .row i) (t .row j)
 
-pub record Marked (row : ℕ → Row) (n : ℕ) (s : List ℕ) : Type 0 where
-  pub public : Says row n nonPrivate (setAt s PUBLIC)
-  pub available : Says row n makesAvailable (setAt s AVAILABLE)
-  pub visible : Says row n makesVisible (setAt s VISIBLE)
+-- row j is an access whose class is in the set m
+unfoldable pub classedIn : Table → ℕ → ℕ → Bool
+classedIn t m j = access (t .row j) and classIn (t .row j) m
 
--- each set by a code and each set by a test has the rows that pass, of n, and nothing else
-pub record Known (row : ℕ → Row) (n : ℕ) (s : List ℕ) : Type 0 where
-  pub ground : Ground row n s
-  pub accesses : Accesses row n s
-  pub kinds : Kinds row n s
-  pub orders : Orders row n s
-  pub marked : Marked row n s
+pub record Known (t : Table) (n : ℕ) (s : List ℕ) : Type 0 where
+  -- by a code; by a test of a row; by classes
+  pub tested : Tested (t .row) n s
+  pub sorted : Sorted (t .row) n s
+  -- by a row's agent: the rows of agents that share scope q with it, and those whose own scope it shares
+  pub share : (i q : ℕ) → i < n → q < SCOPES → Rows n (share t (t .row i .agent) q) (nth s (SHARE + 10 * t .row i .agent) q)
+  pub hears : (i : ℕ) → i < n → Rows n (hears t (t .row i .agent)) (nth s HEARS (t .row i .agent))
+  pub hosts : Rows n (onHost t) (setAt s ON-HOST)
+  -- by an access: those of its location, and of its reference
+  pub place : (i : ℕ) → i < n → access (t .row i) ≡ true → Rows n (samePlace t i) (nth s PLACE i)
+  pub reference : (i : ℕ) → i < n → access (t .row i) ≡ true → Rows n (sameName t i) (nth s REFERENCE i)
 
--- what is made of filed rows, within the words a..b
-pub record Makes (a b : ℕ) (k : (ℕ → Row) → ℕ → List ℕ → Type 0) (s u : List ℕ) : Type 0 where
-  pub made : (row : ℕ → Row) (n : ℕ) → Ground row n s → k row n u
-  pub frame : Within a b s u
+-- what is asked of a table and its sets
+pub record Opened (t : Table) (n : ℕ) (s : List ℕ) : Type 0 where
+  pub fit : Fit t
+  pub rows : t .rows ≡ n
+  pub known : Known t n s
+  pub space : WORDS ≤ length s
 
--- ---- laws: a change elsewhere
+-- what makes the sets says
+pub record MadeKnown (t : Table) (n : ℕ) (s u : List ℕ) : Type 0 where
+  pub known : Known t n u
+  pub frame : Within 0 WORDS s u
 
-accesses-kept : {row : ℕ → Row} {n a b : ℕ} {s u : List ℕ} → ATOMIC ≤ a → Within a b s u → Accesses row n s → Accesses row n u
-accesses-kept l f h =
-    record {
-      reads = says-kept READS reads (λ o. absurd (omega arith)) f (h .reads);
-      writes = says-kept WRITES writes (λ o. absurd (omega arith)) f (h .writes);
-      access = says-kept ACCESS access (λ o. absurd (omega arith)) f (h .access);
-    }
+-- ---- laws
 
-kinds-kept : {row : ℕ → Row} {n a b : ℕ} {s u : List ℕ} → ACQUIRES ≤ a → Within a b s u → Kinds row n s → Kinds row n u
-kinds-kept l f h =
-    record {
-      atomic = says-kept ATOMIC atomic (λ o. absurd (omega arith)) f (h .atomic);
-      ranked = says-kept RANKED ranked (λ o. absurd (omega arith)) f (h .ranked);
-      barrier = says-kept BARRIER barrier (λ o. absurd (omega arith)) f (h .barrier);
-    }
-
-orders-kept : {row : ℕ → Row} {n a b : ℕ} {s u : List ℕ} → PUBLIC ≤ a → Within a b s u → Orders row n s → Orders row n u
-orders-kept l f h =
-    record {
-      acquires = says-kept ACQUIRES acquires (λ o. absurd (omega arith)) f (h .acquires);
-      releases = says-kept RELEASES releases (λ o. absurd (omega arith)) f (h .releases);
-    }
-
-marked-kept : {row : ℕ → Row} {n a b : ℕ} {s u : List ℕ} → TESTS-END ≤ a → Within a b s u → Marked row n s → Marked row n u
-marked-kept l f h =
-    record {
-      public = says-kept PUBLIC nonPrivate (λ o. absurd (omega arith)) f (h .public);
-      available = says-kept AVAILABLE makesAvailable (λ o. absurd (omega arith)) f (h .available);
-      visible = says-kept VISIBLE makesVisible (λ o. absurd (omega arith)) f (h .visible);
-    }
-
--- what is known stays so while later words change
-pub known-kept : {row : ℕ → Row} {n a b : ℕ} {s u : List ℕ} → TESTS-END ≤ a → Within a b s u → Known row n s → Known row n u
-known-kept l f h =
-    record {
-      ground = ground-kept (omega arith) f (h .ground);
-      accesses = accesses-kept (omega arith) f (h .accesses);
-      kinds = kinds-kept (omega arith) f (h .kinds);
-      orders = orders-kept (omega arith) f (h .orders);
-      marked = marked-kept l f (h .marked);
-    }
-
--- the four groups, one after the other
-pub known-all : {s u v w z : List ℕ} → Makes READS ATOMIC Accesses s u → Makes ATOMIC ACQUIRES Kinds u v → Makes ACQUIRES PUBLIC Orders v w
-    → Makes PUBLIC TESTS-END Marked w z → Makes READS TESTS-END Known s z
-known-all {s} {u} {v} {w} {z} a b c d = record { made = all; frame = wide }
-  where
-    wide : Within READS TESTS-END s z
-    wide =
-        within-trans
-        (within-trans (within-trans (within-widen READS TESTS-END (omega arith) (omega arith) (a .frame)) (within-widen READS TESTS-END (omega arith) (omega arith) (b .frame)))
-        (within-widen READS TESTS-END (omega arith) (omega arith) (c .frame))) (within-widen READS TESTS-END (omega arith) (omega arith) (d .frame))
-
-    all : (row : ℕ → Row) (n : ℕ) → Ground row n s → Known row n z
-    all row n g =
-        let gu : Ground row n u = ground-kept (omega arith) (a .frame) g in
-        let gv : Ground row n v = ground-kept (omega arith) (b .frame) gu in
-        let gw : Ground row n w = ground-kept (omega arith) (c .frame) gv in
-        record {
-          ground = ground-kept (omega arith) (d .frame) gw;
-          accesses = accesses-kept (omega arith) (d .frame) (accesses-kept (omega arith) (c .frame) (accesses-kept (omega arith) (b .frame) (a .made row n g)));
-          kinds = kinds-kept (omega arith) (d .frame) (kinds-kept (omega arith) (c .frame) (b .made row n gu));
-          orders = orders-kept (omega arith) (d .frame) (c .made row n gv);
-          marked = d .made row n gw;
-        }
+pub says-rows : {row : ℕ → Row} {n : ℕ} {p : Row → Bool} {x : Set} → Says row n p x → Rows n (λ j. p (row j)) x
+says-rows h = record { is = h .is }

@@ -1,9 +1,11 @@
 pub mod Filed
 pub mod Says
-pub mod Known
+pub mod Tested
+pub mod Sorted
 pub mod Makes
 pub mod Share
-pub mod Prepared
 pub mod Number
 pub mod Placed
 pub mod Hears
+pub mod Fit
+pub mod Known

@@ -12,8 +12,8 @@ use Rattle.row_sets.specs.Kept.{Stored}
 use Rattle.row_sets.specs.Family.{nth}
 use Rattle.known.specs.Says.{says-reads, says-writes, says-access, says-atomic, says-ranked, says-barrier, says-acquires, says-releases}
 use Rattle.known.specs.Says.{says-public, says-available, says-visible, says-put, says-kept}
-use Rattle.known.specs.Known.{READS, WRITES, ACCESS, ATOMIC, RANKED, BARRIER, ACQUIRES, RELEASES, PUBLIC, AVAILABLE, VISIBLE, TESTS-END}
-use Rattle.known.specs.Known.{Accesses, Kinds, Orders, Marked, Makes}
+use Rattle.known.specs.Tested.{READS, WRITES, ACCESS, ATOMIC, RANKED, BARRIER, ACQUIRES, RELEASES, PUBLIC, AVAILABLE, VISIBLE, TESTS-END}
+use Rattle.known.specs.Tested.{Accesses, Kinds, Orders, Marked, Makes}
 
 pub accesses-made : {s u v w : List ℕ} (x y z : Set)
     → ((j : ℕ) → inSet x j ≡ (inSet (nth s 0 0) j or inSet (nth s 0 2) j or inSet (nth s 0 4) j))

@@ -1,6 +1,6 @@
 -- Numbers for what rows have in common: members of a set have one number exactly where they have one key. Assumes nothing.
 use mathlib.Core.Path.{_≡_, refl, sym, ap, subst, _∙_}
-use mathlib.Core.Bool.{Bool, true, false}
+use mathlib.Core.Bool.{Bool, true, false, cond}
 use mathlib.Core.List.{List}
 use Prim.Native.Nat.{ℕ, _+_, _*_, _≤_, _<_}
 use native.Mathlib.Omega.{arith}
@@ -41,9 +41,9 @@ pub record Numbered (key : ℕ → ℕ) (x : Set) (m : ℕ) (keys loc : List ℕ
 unfoldable pub grown : ℕ → ℕ → ℕ → Type 0
 grown l f l′ = (f < l → l′ ≡ l) × (l ≤ f → l′ ≡ l + 1)
 
--- of row i in the bytes b
-unfoldable pub keyIn : List ℕ → ℕ → ℕ
-keyIn b i = keyOf (rowOf b i)
+-- of row i in the bytes b, its location or its reference alone
+unfoldable pub keyIn : Bool → List ℕ → ℕ → ℕ
+keyIn whole b i = cond whole (keyOf (rowOf b i)) (rowOf b i .reference)
 
 -- row i got the number of key k
 pub record Step (i l k : ℕ) (keys loc keys′ loc′ : List ℕ) (l′ : ℕ) : Type 0 where
@@ -169,30 +169,29 @@ key-location r q a b c d e =
 
 -- ---- laws: the loop
 
-pub number-begin : (b : List ℕ) (x : Set) (keys loc : List ℕ) → Walk x x × Numbered (keyIn b) x (next x) keys loc 0
-number-begin b x keys loc =
-    walk-begin x (λ m. Numbered (keyIn b) x m keys loc 0) (λ k e n. numbered-skip (keyIn b) x keys loc 0 k e n) (numbered-none (keyIn b) x keys loc)
+pub number-begin : (key : ℕ → ℕ) (x : Set) (keys loc : List ℕ) → Walk x x × Numbered key x (next x) keys loc 0
+number-begin key x keys loc =
+    walk-begin x (λ m. Numbered key x m keys loc 0) (λ k e n. numbered-skip key x keys loc 0 k e n) (numbered-none key x keys loc)
 
-pub number-turn : (b : List ℕ) {x left rest : Set} {keys loc keys′ loc′ : List ℕ} {l l′ i k : ℕ} (r : Row) → Walk x left × Numbered (keyIn b) x (next left) keys loc l
-    → First left i → Rest left rest → ROWS ≤ length keys → ROWS ≤ length loc → r ≡ rowOf b i → k ≡ keyOf r → Step i l k keys loc keys′ loc′ l′
-    → Walk x rest × Numbered (keyIn b) x (next rest) keys′ loc′ l′
-unfolding keyIn
-number-turn b {x} {left} {rest} {keys} {loc} {keys′} {loc′} {l} {l′} {i} {k} r inv f h a c d e s =
-    walk-turn x (λ m. Numbered (keyIn b) x m keys′ loc′ l′) (λ m z n. numbered-skip (keyIn b) x keys′ loc′ l′ m z n) (inv .0) f h done
+pub number-turn : (key : ℕ → ℕ) {x left rest : Set} {keys loc keys′ loc′ : List ℕ} {l l′ i k : ℕ} → Walk x left × Numbered key x (next left) keys loc l
+    → First left i → Rest left rest → ROWS ≤ length keys → ROWS ≤ length loc → k ≡ key i → Step i l k keys loc keys′ loc′ l′
+    → Walk x rest × Numbered key x (next rest) keys′ loc′ l′
+number-turn key {x} {left} {rest} {keys} {loc} {keys′} {loc′} {l} {l′} {i} {k} inv f h a c e s =
+    walk-turn x (λ m. Numbered key x m keys′ loc′ l′) (λ m z n. numbered-skip key x keys′ loc′ l′ m z n) (inv .0) f h done
   where
-    before : Numbered (keyIn b) x i keys loc l
-    before = subst (λ (m : ℕ). Numbered (keyIn b) x m keys loc l) (first-next f) (inv .1)
+    before : Numbered key x i keys loc l
+    before = subst (λ (m : ℕ). Numbered key x m keys loc l) (first-next f) (inv .1)
 
-    done : Numbered (keyIn b) x (i + 1) keys′ loc′ l′
+    done : Numbered key x (i + 1) keys′ loc′ l′
     done =
         let bound = f .bound in
         rw (s .keys-are, s .loc-are)
-        (numbered-more k (least l (keyAt keys k)) l′ before (omega arith) (omega arith) (e ∙ ap keyOf d) refl (s .more))
+        (numbered-more k (least l (keyAt keys k)) l′ before (omega arith) (omega arith) e refl (s .more))
 
-pub number-end : (b : List ℕ) {x : Set} {keys loc : List ℕ} {l : ℕ} (left : Set) → anyBelow ROWS (inSet left) ≡ false → Numbered (keyIn b) x (next left) keys loc l
-    → Numbered (keyIn b) x ROWS keys loc l
-number-end b {x} {keys} {loc} {l} left e n =
-    walk-end x (λ m. Numbered (keyIn b) x m keys loc l) (λ m z o. numbered-skip (keyIn b) x keys loc l m z o) left e n
+pub number-end : (key : ℕ → ℕ) {x : Set} {keys loc : List ℕ} {l : ℕ} (left : Set) → anyBelow ROWS (inSet left) ≡ false → Numbered key x (next left) keys loc l
+    → Numbered key x ROWS keys loc l
+number-end key {x} {keys} {loc} {l} left e n =
+    walk-end x (λ m. Numbered key x m keys loc l) (λ m z o. numbered-skip key x keys loc l m z o) left e n
 
 -- a member's number is no higher than its row
 pub number-few : {key : ℕ → ℕ} {x left : Set} {keys loc : List ℕ} {l i : ℕ} → Numbered key x (next left) keys loc l → First left i → l ≤ i

@@ -39,6 +39,16 @@ pub record Placed (base : ℕ) (loc : List ℕ) (x : Set) (s u : List ℕ) : Typ
   pub is : (k j : ℕ) → k < ROWS → inSet (nth u base k) j ≡ placed loc x k j
   pub frame : Within base (base + 2 * ROWS) s u
 
+-- set i of those from word `base` on is the set of i's number, of those at the front of `by`, where i is a member of x, else empty
+pub record Spread (base : ℕ) (by loc : List ℕ) (x : Set) (s u : List ℕ) : Type 0 where
+  pub is : (i j : ℕ) → i < ROWS → inSet (nth u base i) j ≡ (inSet x i and inSet (nth by 0 (getD loc i 0)) j)
+  pub frame : Within base (base + 2 * ROWS) s u
+
+-- set i of those from word `base` on has the members of x with i's key, where i is one, else none
+pub record Grouped (base : ℕ) (key : ℕ → ℕ) (x : Set) (s u : List ℕ) : Type 0 where
+  pub is : (i j : ℕ) → i < ROWS → inSet (nth u base i) j ≡ (inSet x i and (inSet x j and eqb (key i) (key j)))
+  pub frame : Within base (base + 2 * ROWS) s u
+
 -- ---- laws
 
 and-swap : (a b : Bool) → (a and b) ≡ (b and a)

@@ -33,10 +33,10 @@ SCOPES = 5
 
 -- the sets of an agent, one for each scope, from this word on
 abbrev pub SHARE : ℕ
-SHARE = 206
+SHARE = 224
 
 abbrev pub SHARE-END : ℕ
-SHARE-END = 526
+SHARE-END = 544
 
 -- agents a and b share scope l and those after it, and none before; l is SCOPES where they share none
 pub record Level (p : List (List ℕ)) (a b l : ℕ) : Type 0 where

@@ -42,7 +42,7 @@ pub fn sharing(t: &Run, n: usize, s: &[u64], i: usize, q: usize) -> Set
     requires { ⌜ (i < n) × (q < 5) × Opened (tableIn (now t) n) n (now s) ⌝ }
     ensures { λ x. let t = tableIn (now (t .entry)) n in ⌜ Rows n (share t (t .row i .agent) q) x ⌝ }
 {
-    kept::get(s, crate::SHARE, fields::agent(t, i) * 5 + q)
+    kept::get(s, crate::SHARE + 10 * fields::agent(t, i), q)
 }
 
 // The rows of agents that share row i's scope.

@@ -8,8 +8,8 @@ ghost use Rattle.run.specs.Layout.{rowsIn, tableIn};
 ghost use Rattle.row_sets.specs.Family.{Marks};
 ghost use Rattle.row_sets.specs.Kept.{setAt};
 ghost use Rattle.known.specs.Filed.{Coded, CodedRows, Files, FILED, marks, marksWho, marksHow, marksWhat};
-ghost use Rattle.known.specs.Known.{WORDS, Known, MadeKnown};
 ghost use Rattle.known.specs.Fit.{Fit};
+ghost use Rattle.known.specs.Known.{WORDS, MadeKnown};
 
 pub mod ask; // sets that go by a row
 pub mod fields; // one number of a row
@@ -63,18 +63,18 @@ pub const AVAILABLE: usize = 202;
 
 pub const VISIBLE: usize = 204;
 
-// By agent and scope: the rows of agents that share the scope with the agent.
-pub const SHARE: usize = 206;
-
-pub const PLAIN: usize = 526;
-
-// Rows of agents that execute on the host.
-pub const ON_HOST: usize = 528;
+pub const PLAIN: usize = 206;
 
 // By one class: the rows whose semantics have it, and the accesses whose reference is of it.
-pub const HOLDING: usize = 530;
+pub const HOLDING: usize = 208;
 
-pub const CLASSED: usize = 538;
+pub const CLASSED: usize = 216;
+
+// By agent and scope: the rows of agents that share the scope with the agent.
+pub const SHARE: usize = 224;
+
+// Rows of agents that execute on the host.
+pub const ON_HOST: usize = 544;
 
 // By agent: the rows whose own scope the agent shares.
 pub const HEARS: usize = 546;
@@ -165,8 +165,8 @@ pub fn prepare(t: &Run, n: usize, s: &mut [u64])
 {
     file(t, n, s);
     tests::make(s);
-    share::fill(s, run::places(t));
     tests::sort(s);
+    share::fill(s, run::places(t));
     number::group(t, s, PLACE, true);
     number::group(t, s, REFERENCE, false);
 }

@@ -1,29 +1,32 @@
 // Rows that have one location, or one reference: they get one number, and each the set of those with its number.
 ghost use mathlib.Core.Path.{_≡_};
-ghost use mathlib.Core.Bool.{Bool};
 ghost use Prim.Native.Nat.{_+_, _*_, _≤_, _<_};
 ghost use lib.ListN.{length};
 ghost use Rattle.finite.specs.Below.{least};
 ghost use Rattle.model.specs.Limits.{ROWS};
-ghost use Rattle.run.specs.Layout.{rowsIn, tableIn};
+ghost use Rattle.run.specs.Layout.{rowsIn};
 ghost use Rattle.row_sets.specs.Kept.{setAt};
-ghost use Rattle.known.specs.Number.{keyOf, keyIn, keyAt, grown, Step, Numbered};
-ghost use Rattle.known.specs.Placed.{Small, Placed, Grouped};
-ghost use Rattle.known.specs.Known.{WORDS, ACCESS};
-use model::Row;
+ghost use Rattle.known.specs.Number.{keyIn, keyAt, grown, Step, Numbered};
+ghost use Rattle.known.specs.Placed.{Small, Placed, Spread, Grouped};
+ghost use Rattle.known.specs.Tested.{ACCESS};
 use row_sets::Set;
 use row_sets::kept;
+use rows::bytes;
 use run::Run;
 
-// Start, size and reference as one number, if `whole`; else the reference alone.
-fn key(r: Row, whole: bool) -> u64
-    ensures { λ k. ⌜ k ≡ keyOf whole r ⌝ }
+// Start, size and reference of row i as one number, if `whole`; else its reference alone.
+fn key(t: &Run, i: usize, whole: bool) -> u64
+    requires { ⌜ i < ROWS ⌝ }
+    ensures { λ k. ⌜ k ≡ keyIn whole (rowsIn (now (t .entry))) i ⌝ }
 {
+    let rows = run::rows_of(t);
+    let name = bytes::read_reference(rows, i as u16) as u64;
     if whole {
-        (r.reference as u64) * 16777216 + (r.start as u64) * 256 + (r.size as u64)
-    } else {
-        r.reference as u64
+        let start = bytes::read_start(rows, i as u16) as u64;
+        let size = bytes::row_byte(rows, i as u16, 7) as u64;
+        return name * 16777216 + start * 256 + size;
     }
+    name
 }
 
 // The first of l keys that is k; l where none is.
@@ -68,7 +71,7 @@ fn number(keys: &mut [u64], loc: &mut [u64], t: &Run, x: Set, whole: bool) -> us
     while row_sets::some(left) {
         let i = row_sets::first(left);
         left = row_sets::but_first(left);
-        let k = key(run::row(t, i as u16), whole);
+        let k = key(t, i, whole);
         l = number_row(keys, loc, i, l, k);
     }
     l

@@ -10,7 +10,7 @@ use row_sets::kept;
 use rows::scopes;
 
 // Where the sets of the first agent begin, in words, and where the agents' own do, in sets.
-const SHARE: usize = 206;
+const SHARE: usize = 224;
 
 const AGENT: usize = 16;
 

@@ -3,10 +3,12 @@ ghost use mathlib.Core.Path.{_≡_};
 ghost use Prim.Native.Nat.{ℕ, _*_, _≤_, _<_};
 ghost use lib.ListN.{length};
 ghost use Rattle.finite.specs.Logic.{_or_};
+ghost use Rattle.finite.specs.Below.{anyBelow};
 ghost use Rattle.row_sets.specs.Member.{inSet};
 ghost use Rattle.row_sets.specs.Family.{nth};
 ghost use Rattle.known.specs.Filed.{FILED};
-ghost use Rattle.known.specs.Known.{Makes, Accesses, Kinds, Orders, Marked, Known, READS, ATOMIC, ACQUIRES, PUBLIC, TESTS-END};
+ghost use Rattle.known.specs.Tested.{Makes, Accesses, Kinds, Orders, Marked, Tested, READS, ATOMIC, ACQUIRES, PUBLIC, TESTS-END};
+ghost use Rattle.known.specs.Sorted.{SORTED-END, heldBy, SortsClass, Sorts};
 use row_sets::Set;
 use row_sets::kept;
 
@@ -91,7 +93,7 @@ fn make_marked(s: &mut [u64])
 // All of them, of rows that are filed.
 pub fn make(s: &mut [u64])
     requires { ⌜ TESTS-END ≤ length (now s) ⌝ }
-    ensures { λ _. ⌜ Makes READS TESTS-END Known (now (s .entry)) (now (s .exit)) ⌝ }
+    ensures { λ _. ⌜ Makes READS TESTS-END Tested (now (s .entry)) (now (s .exit)) ⌝ }
 {
     make_accesses(s);
     make_kinds(s);
@@ -116,8 +118,8 @@ fn holding(s: &[u64], q: usize) -> Set
 
 // HOLDING and CLASSED of class q.
 fn sort_class(s: &mut [u64], q: usize)
-    requires { ⌜ (HEARS-END ≤ length (now s)) × (q < 4) ⌝ }
-    ensures { λ _. ⌜ Sorted q (now (s .entry)) (now (s .exit)) ⌝ }
+    requires { ⌜ (SORTED-END ≤ length (now s)) × (q < 4) ⌝ }
+    ensures { λ _. ⌜ SortsClass q (now (s .entry)) (now (s .exit)) ⌝ }
 {
     let a = holding(s, q);
     let b = row_sets::and(kept::get(s, crate::ACCESS, 0), kept::get(s, crate::BY_CLASS, q));
@@ -127,8 +129,8 @@ fn sort_class(s: &mut [u64], q: usize)
 
 // PLAIN, HOLDING and CLASSED.
 pub fn sort(s: &mut [u64])
-    requires { ⌜ HEARS-END ≤ length (now s) ⌝ }
-    ensures { λ _. ⌜ SortedAll (now (s .entry)) (now (s .exit)) ⌝ }
+    requires { ⌜ SORTED-END ≤ length (now s) ⌝ }
+    ensures { λ _. ⌜ Sorts (now (s .entry)) (now (s .exit)) ⌝ }
 {
     let plain = either(s, 0, 1);
     kept::put(s, crate::PLAIN, 0, plain);

@@ -5,3 +5,5 @@ pub mod Kept
 pub mod Family
 pub mod Walk
 pub mod Tasks
+pub mod Rows
+pub mod Sift

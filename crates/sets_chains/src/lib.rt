@@ -1,10 +1,9 @@
 // L3 by sets of rows: what each availability operation makes available, by itself or as the first of an availability chain: to which rows, and
 // to which visibility operations, by themselves or as the last of a visibility chain. The agents of a chain share the domains of the first.
-ghost use Prim.Native.Nat.{_≤_, _<_};
 ghost use Rattle.run.specs.Layout.{tableIn};
-ghost use Rattle.sets_happens.specs.Happens.{Happening};
+ghost use Rattle.grids.specs.Happens.{Happening};
 ghost use Rattle.grids.specs.Given.{Given};
-ghost use Rattle.sets_chains.specs.Available.{MadeAvailable};
+ghost use Rattle.grids.specs.Available.{MadeAvailable};
 use known::fields;
 use row_sets::Set;
 use row_sets::kept;

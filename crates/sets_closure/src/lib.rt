@@ -1,6 +1,7 @@
 // M6 by sets of rows: what a class set concerns, and which class sets are asked.
 ghost use mathlib.Core.Path.{_≡_};
 ghost use Prim.Native.Nat.{_≤_, _<_};
+ghost use Rattle.model.specs.Happens.{holdsAll};
 ghost use Rattle.model.specs.Synchronizes.{synchronizes};
 ghost use Rattle.run.specs.Layout.{tableIn};
 ghost use Rattle.row_sets.specs.Rows.{Rows};
@@ -8,27 +9,21 @@ ghost use Rattle.area.specs.Regions.{SYNC};
 ghost use Rattle.known.specs.Known.{Opened};
 ghost use Rattle.grids.specs.Grid.{Grid};
 ghost use Rattle.grids.specs.Given.{Given};
-ghost use Rattle.sets_closure.specs.Concerned.{Concerns, holdsAll, meetsSome, widest, syncedBy};
+ghost use Rattle.grids.specs.Concerns.{NONE, Told, Concerns};
+ghost use Rattle.sets_closure.specs.Widest.{meetsSome, widest, syncedBy};
 
 pub mod reach; // M6: inter-thread order from the nodes of a class set
 
+use grids::Concerned;
 use row_sets::Set;
 use row_sets::kept;
 use run::Run;
 
-// For one class set: its nodes, the rows that hold all of it and are releases or acquires, and the ends of dependencies; of these the
-// releases and the acquires; the rows that it concerns, and those whose availability and visibility operations it concerns.
-pub struct Concerned {
-    pub nodes: Set,
-    pub releases: Set,
-    pub acquires: Set,
-    pub at: Set,
-    pub available: Set,
-    pub visible: Set,
-}
-
 // Nothing but dependencies, whose ends these are.
-pub fn of_none(ends: Set) -> Concerned {
+pub fn of_none(t: &Run, n: usize, s: &[u64], ends: Set) -> Concerned
+    requires { ⌜ Told (tableIn (now t) n) n ends × Opened (tableIn (now t) n) n (now s) ⌝ }
+    ensures { λ k. ⌜ Concerns (tableIn (now (t .entry)) n) n NONE ends k ⌝ }
+{
     let none = row_sets::none();
     Concerned {
         nodes: ends,
@@ -69,7 +64,7 @@ fn meeting(t: &Run, n: usize, s: &[u64], c: usize) -> Set
 
 // The rows and moments that the class set c concerns.
 pub fn of_classes(t: &Run, n: usize, s: &[u64], ends: Set, c: usize) -> Concerned
-    requires { ⌜ (0 < c) × (c < 16) × Opened (tableIn (now t) n) n (now s) ⌝ }
+    requires { ⌜ (0 < c) × (c < 16) × Told (tableIn (now t) n) n ends × Opened (tableIn (now t) n) n (now s) ⌝ }
     ensures { λ k. ⌜ Concerns (tableIn (now (t .entry)) n) n c ends k ⌝ }
 {
     let holds = holding(t, n, s, c);

@@ -1,17 +1,7 @@
 // M6 by sets of rows: inter-thread order for one class set, from its nodes. What a path goes by, between its ends, are nodes.
-ghost use mathlib.Core.Path.{_≡_};
-ghost use mathlib.Core.Bool.{true};
-ghost use Prim.Native.Nat.{_≤_, _<_};
-ghost use Rattle.model.specs.Synchronizes.{synchronizes};
 ghost use Rattle.run.specs.Layout.{tableIn};
-ghost use Rattle.row_sets.specs.Member.{inSet};
-ghost use Rattle.area.specs.Regions.{SYNC};
-ghost use Rattle.grids.specs.Regions.{DEPENDS, REACH-AT, REACH-END};
-ghost use Rattle.grids.specs.Grid.{Grid};
-ghost use Rattle.grids.specs.Given.{Given};
-ghost use Rattle.sets_closure.specs.Concerned.{Concerns};
-ghost use Rattle.sets_closure.specs.Reach.{Asks, Downward, MadeReach};
-use crate::Concerned;
+ghost use Rattle.grids.specs.Reach.{Asks, MadeReach};
+use grids::Concerned;
 use row_sets::Set;
 use row_sets::kept;
 use run::Run;

@@ -8,8 +8,8 @@ ghost use Rattle.area.specs.Regions.{EDGE, EDGE-END};
 ghost use Rattle.axioms.specs.Sources.{sourceIn};
 ghost use Rattle.grids.specs.Grid.{MadeGrid};
 ghost use Rattle.grids.specs.Given.{Given};
-ghost use Rattle.sets_location.specs.Location.{Placed};
-ghost use Rattle.sets_edges.specs.Edges.{SourcedIn};
+ghost use Rattle.grids.specs.Location.{Judging};
+ghost use Rattle.placing.specs.Judge.{Sourced};
 use row_sets::kept;
 use run::Run;
 
@@ -35,8 +35,8 @@ fn put_reads(n: usize, s: &[u64], source: usize, y: usize, w: &mut [u64]) {
 
 // EDGE, with the sources in `src`.
 pub fn fill_edges(t: &Run, n: usize, src: &[u16], s: &[u64], w: &mut [u64])
-    requires { ⌜ (n ≤ length (now src)) × SourcedIn (tableIn (now t) n) n (now src) × Given (tableIn (now t) n) n (now s) (now w)
-        × Placed (tableIn (now t) n) n (now w) ⌝ }
+    requires { ⌜ (n ≤ length (now src)) × Sourced (tableIn (now t) n) (sourceIn (now src)) × Given (tableIn (now t) n) n (now s) (now w)
+        × Judging (tableIn (now t) n) n (now w) ⌝ }
     ensures { λ _. ⌜ MadeGrid EDGE EDGE-END EDGE n (edge (tableIn (now (t .entry)) n) (sourceIn (now (src .entry)))) (now (w .entry)) (now (w .exit)) ⌝ }
 {
     put_orders(n, w);

@@ -1,24 +1,12 @@
-// M7 by sets of rows: happens-before, program order and inter-thread order for every class set: between rows; from availability operations to
+// M7 by sets of rows: program order, and what inter-thread order for one class set adds to it: between rows; from availability operations to
 // rows, visibility and availability operations; and between visibility operations.
-ghost use mathlib.Core.Path.{_≡_};
-ghost use mathlib.Core.Bool.{true};
-ghost use Prim.Native.Nat.{_≤_, _<_};
-ghost use Rattle.model.specs.Synchronizes.{synchronizes};
 ghost use Rattle.run.specs.Layout.{tableIn};
-ghost use Rattle.row_sets.specs.Rows.{Rows};
-ghost use Rattle.area.specs.Regions.{SYNC};
-ghost use Rattle.grids.specs.Regions.{DEPENDS};
-ghost use Rattle.grids.specs.Grid.{Grid};
 ghost use Rattle.grids.specs.Given.{Given};
-ghost use Rattle.sets_closure.specs.Concerned.{Concerns};
-ghost use Rattle.sets_happens.specs.Happens.{Leading, HappensTo, MadeHappens, MadeOrder};
-
-pub mod system; // dependencies, and their closure
-
+ghost use Rattle.sets_happens.specs.Adds.{Reached, MadeProgram, AddsAt, AddsAvailable, AddsVisible};
+use grids::Concerned;
 use row_sets::Set;
 use row_sets::kept;
 use run::Run;
-use sets_closure::Concerned;
 
 // ---- program order
 
@@ -42,7 +30,10 @@ fn put_available(t: &Run, n: usize, s: &[u64], a: usize, w: &mut [u64]) {
 }
 
 // Program order of every row, and of every availability and visibility operation.
-fn put_program_order(t: &Run, n: usize, s: &[u64], w: &mut [u64]) {
+pub fn put_program_order(t: &Run, n: usize, s: &[u64], w: &mut [u64])
+    requires { ⌜ Given (tableIn (now t) n) n (now s) (now w) ⌝ }
+    ensures { λ _. ⌜ MadeProgram (tableIn (now (t .entry)) n) n (now (w .entry)) (now (w .exit)) ⌝ }
+{
     bits::clear(w, grids::HAPPENS, grids::HAPPENS_END);
     for i in 0..n {
         let after = known::ask::after(t, n, s, i);
@@ -76,7 +67,10 @@ fn by_release(r: Set, w: &[u64]) -> Set {
 }
 
 // From rows: a node's own; of any other row that is concerned, by way of the first release row after it.
-fn add_at(t: &Run, n: usize, s: &[u64], k: Concerned, w: &mut [u64]) {
+pub fn add_at(t: &Run, n: usize, s: &[u64], c: usize, ends: Set, k: Concerned, w: &mut [u64])
+    requires { ⌜ Reached (tableIn (now t) n) n c ends k (now s) (now w) ⌝ }
+    ensures { λ _. ⌜ AddsAt (tableIn (now (t .entry)) n) n c (now (w .entry)) (now (w .exit)) ⌝ }
+{
     let mut left = row_sets::or(k.at, k.nodes);
     while row_sets::some(left) {
         let i = row_sets::first(left);
@@ -105,7 +99,10 @@ fn join_available(a: usize, r: Set, w: &mut [u64]) {
 }
 
 // From availability operations, by way of the first release row behind them, which may be their own.
-fn add_available(t: &Run, n: usize, s: &[u64], k: Concerned, w: &mut [u64]) {
+pub fn add_available(t: &Run, n: usize, s: &[u64], c: usize, ends: Set, k: Concerned, w: &mut [u64])
+    requires { ⌜ Reached (tableIn (now t) n) n c ends k (now s) (now w) ⌝ }
+    ensures { λ _. ⌜ AddsAvailable (tableIn (now (t .entry)) n) n c (now (w .entry)) (now (w .exit)) ⌝ }
+{
     let mut left = k.available;
     while row_sets::some(left) {
         let a = row_sets::first(left);
@@ -116,7 +113,10 @@ fn add_available(t: &Run, n: usize, s: &[u64], k: Concerned, w: &mut [u64]) {
 }
 
 // From visibility operations, by way of the first release row after them.
-fn add_visible(t: &Run, n: usize, s: &[u64], k: Concerned, w: &mut [u64]) {
+pub fn add_visible(t: &Run, n: usize, s: &[u64], c: usize, ends: Set, k: Concerned, w: &mut [u64])
+    requires { ⌜ Reached (tableIn (now t) n) n c ends k (now s) (now w) ⌝ }
+    ensures { λ _. ⌜ AddsVisible (tableIn (now (t .entry)) n) n c (now (w .entry)) (now (w .exit)) ⌝ }
+{
     let mut left = k.visible;
     while row_sets::some(left) {
         let v = row_sets::first(left);
@@ -127,44 +127,4 @@ fn add_visible(t: &Run, n: usize, s: &[u64], k: Concerned, w: &mut [u64]) {
             kept::join(w, grids::VISIBLE_VISIBLE, v, visible);
         }
     }
-}
-
-// All of it for the class set c, if there is any beside program order.
-fn add_inter_thread(t: &Run, n: usize, s: &[u64], c: usize, ends: Set, down: bool, w: &mut [u64]) {
-    let k = sets_closure::of_classes(t, n, s, ends, c);
-    if !(row_sets::some(ends) | sets_closure::is_synced(t, n, s, k, w)) {
-        return;
-    }
-    sets_closure::reach::fill_reach(t, n, s, c, ends, k, down, w);
-    add_at(t, n, s, k, w);
-    add_available(t, n, s, k, w);
-    add_visible(t, n, s, k, w);
-}
-
-// ---- all of it
-
-// The five grids of happens-before: program order, and inter-thread order for the class sets that no other stands for; the last one, of all
-// classes, has the dependencies at least.
-pub fn fill_happens(t: &Run, n: usize, s: &[u64], ends: Set, down: bool, w: &mut [u64])
-    requires { ⌜ Leading (tableIn (now t) n) n ends down (now s) (now w) ⌝ }
-    ensures { λ _. ⌜ MadeHappens (tableIn (now (t .entry)) n) n (now (w .entry)) (now (w .exit)) ⌝ }
-{
-    put_program_order(t, n, s, w);
-    for c in 1..16 {
-        if sets_closure::is_widest(t, n, s, c) {
-            add_inter_thread(t, n, s, c, ends, down, w);
-        }
-    }
-}
-
-// The closure of the dependencies, M6 and M7. Where synchronizes-with and dependencies lead down the page, closures are one pass up it.
-pub fn order(t: &Run, n: usize, s: &[u64], w: &mut [u64])
-    requires { ⌜ Given (tableIn (now t) n) n (now s) (now w) × Grid SYNC n (synchronizes (tableIn (now t) n)) (now w) ⌝ }
-    ensures { λ _. ⌜ MadeOrder (tableIn (now (t .entry)) n) n (now (w .entry)) (now (w .exit)) ⌝ }
-{
-    let ends = system::fill_depends(t, n, w);
-    let depends_down = sets_sync::leads_down(w, grids::DEPENDS, ends);
-    let sync_down = sets_sync::leads_down(w, area::SYNC, known::rows(s, known::RELEASES));
-    system::fill_system(t, n, s, ends, depends_down, w);
-    fill_happens(t, n, s, ends, sync_down & depends_down, w);
 }

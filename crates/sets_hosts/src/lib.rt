@@ -1,15 +1,12 @@
 // L4 and L5 by sets of rows: system synchronization, and the memory domains of the host and of the device. Whatever the byte, they tell the
 // same.
-ghost use mathlib.Core.Path.{_≡_};
-ghost use mathlib.Core.Bool.{true};
-ghost use Prim.Native.Nat.{_≤_, _<_};
 ghost use Rattle.model.specs.Location.{systemBefore};
 ghost use Rattle.run.specs.Layout.{tableIn};
 ghost use Rattle.grids.specs.Regions.{HAPPENS, SYSTEM, MET-END, HOSTED};
 ghost use Rattle.grids.specs.Grid.{Grid, MadeGrid};
 ghost use Rattle.grids.specs.Given.{Given};
-ghost use Rattle.sets_happens.specs.Happens.{happensRows};
-ghost use Rattle.sets_hosts.specs.Hosted.{hostedBy};
+ghost use Rattle.grids.specs.Happens.{happensRows};
+ghost use Rattle.grids.specs.Hosted.{hostedBy};
 use row_sets::Set;
 use row_sets::kept;
 use rows::kinds;

@@ -1,16 +1,8 @@
 // L1 to L5 by sets of rows: SOME, the rows that each access is ordered before at some shared byte, and LOCATION, at which bytes.
-ghost use Prim.Native.Nat.{_<_};
 ghost use Rattle.run.specs.Layout.{tableIn};
-ghost use Rattle.area.specs.Regions.{OVERLAP};
-ghost use Rattle.area.specs.State.{overlaps};
-ghost use Rattle.grids.specs.Regions.{HAPPENS, HOSTED};
-ghost use Rattle.grids.specs.Grid.{Grid};
 ghost use Rattle.grids.specs.Given.{Given};
-ghost use Rattle.sets_happens.specs.Happens.{happensRows};
-ghost use Rattle.sets_hosts.specs.Hosted.{hostedBy};
-ghost use Rattle.sets_location.specs.Location.{Locating, MadeLocation};
+ghost use Rattle.grids.specs.Location.{Locating, MadeLocation};
 
-pub mod masks; // bytes as bits
 pub mod part; // bytes of plain rows
 
 use known::fields;
@@ -42,8 +34,8 @@ fn put_whole(t: &Run, n: usize, x: usize, to: Set, w: &mut [u64]) {
     while row_sets::some(left) {
         let y = row_sets::first(left);
         left = row_sets::but_first(left);
-        let m = masks::shared(t, n, x, y);
-        masks::add(w, x, y, m);
+        let m = sets_bytes::shared(t, n, x, y);
+        sets_bytes::add(w, x, y, m);
     }
 }
 
@@ -53,9 +45,9 @@ fn put_parts(t: &Run, n: usize, s: &[u64], x: usize, to: Set, g: part::Available
     while row_sets::some(left) {
         let y = row_sets::first(left);
         left = row_sets::but_first(left);
-        let met = masks::shared(t, n, x, y) & part::bytes_met(t, n, s, x, y, g, w);
+        let met = sets_bytes::shared(t, n, x, y) & part::bytes_met(t, n, s, x, y, g, w);
         if 0 < met {
-            masks::add(w, x, y, met);
+            sets_bytes::add(w, x, y, met);
             kept::put_bit(w, grids::SOME, x, y);
         }
     }

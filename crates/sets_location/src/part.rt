@@ -1,10 +1,4 @@
 // L3 by sets of rows, where an operation of a plain row covers its own bytes alone, so that a write may be met at some bytes and not at others.
-ghost use Prim.Native.Nat.{_<_};
-ghost use Rattle.run.specs.Layout.{tableIn};
-ghost use Rattle.row_sets.specs.Rows.{Rows};
-ghost use Rattle.known.specs.Known.{Opened};
-ghost use Rattle.grids.specs.Given.{Given};
-use crate::masks;
 use known::fields;
 use row_sets::Set;
 use row_sets::kept;
@@ -80,7 +74,7 @@ fn bytes_of(t: &Run, n: usize, x: usize, rows: Set) -> u64 {
     let mut left = rows;
     let mut m = 0u64;
     while row_sets::some(left) {
-        m |= masks::shared(t, n, x, row_sets::first(left));
+        m |= sets_bytes::shared(t, n, x, row_sets::first(left));
         left = row_sets::but_first(left);
     }
     m
@@ -94,7 +88,7 @@ fn bytes_at_once(t: &Run, n: usize, x: usize, y: usize, g: Available, w: &[u64])
         let a = row_sets::first(left);
         left = row_sets::but_first(left);
         if row_sets::has(kept::get(w, grids::AVAILABLE_TO, a), y) {
-            m |= masks::shared(t, n, x, a);
+            m |= sets_bytes::shared(t, n, x, a);
         }
     }
     m
@@ -110,7 +104,7 @@ fn bytes_seen(t: &Run, n: usize, s: &[u64], x: usize, y: usize, g: Available, w:
     while row_sets::some(left) {
         let a = row_sets::first(left);
         left = row_sets::but_first(left);
-        let own = masks::shared(t, n, x, a);
+        let own = sets_bytes::shared(t, n, x, a);
         let visible = kept::get(w, grids::VISIBLE_BY, a);
         if row_sets::some(row_sets::and(visible, wide)) {
             m |= own;

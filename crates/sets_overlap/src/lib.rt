@@ -9,7 +9,6 @@ ghost use Rattle.area.specs.State.{overlaps};
 ghost use Rattle.known.specs.Known.{Opened};
 ghost use Rattle.grids.specs.Grid.{MadeGrid};
 ghost use Rattle.grids.specs.Given.{Given};
-ghost use Rattle.sets_overlap.specs.Overlap.{firstOf, nearTo};
 use known::fields;
 use row_sets::Set;
 use row_sets::kept;

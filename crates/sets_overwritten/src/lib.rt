@@ -7,18 +7,17 @@ ghost use Rattle.axioms.specs.Sources.{sourceIn};
 ghost use Rattle.axioms.specs.Overwritten.{foundOverwrite};
 ghost use Rattle.race.specs.Bytes.{Bounded};
 ghost use Rattle.grids.specs.Given.{Given};
-ghost use Rattle.sets_location.specs.Location.{Placed};
+ghost use Rattle.grids.specs.Location.{Judging};
 use axioms::overwritten::Overwrite;
 use known::fields;
 use row_sets::kept;
 use run::Run;
-use sets_location::masks;
 
 // The bytes of y at which z overwrites its source before it.
 fn overwrites(t: &Run, n: usize, source: usize, z: usize, y: usize, w: &[u64]) -> u64 {
-    let a = masks::moved(t, n, area::pairs::mask(w, source, z), source, y);
-    let b = masks::moved(t, n, area::pairs::mask(w, z, y), z, y);
-    a & b & masks::shared(t, n, y, y)
+    let a = sets_bytes::moved(t, n, area::pairs::mask(w, source, z), source, y);
+    let b = sets_bytes::moved(t, n, area::pairs::mask(w, z, y), z, y);
+    a & b & sets_bytes::shared(t, n, y, y)
 }
 
 // The first writer that overwrites y's source before y, at the lowest byte.
@@ -44,7 +43,7 @@ fn overwritten_by(t: &Run, n: usize, s: &[u64], source: usize, y: usize, w: &[u6
 
 // The first read whose source, in `src`, is overwritten.
 pub fn first_overwrite(t: &Run, n: usize, src: &[u16], s: &[u64], w: &[u64]) -> Overwrite
-    requires { ⌜ (n ≤ length (now src)) × Bounded (tableIn (now t) n) × Given (tableIn (now t) n) n (now s) (now w) × Placed (tableIn (now t) n) n (now w) ⌝ }
+    requires { ⌜ (n ≤ length (now src)) × Bounded (tableIn (now t) n) × Given (tableIn (now t) n) n (now s) (now w) × Judging (tableIn (now t) n) n (now w) ⌝ }
     ensures { λ r. ⌜ r ≡ foundOverwrite (tableIn (now (t .entry)) n) (sourceIn (now (src .entry))) ⌝ }
 {
     let mut left = known::rows(s, known::READS);

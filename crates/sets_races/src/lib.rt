@@ -5,14 +5,13 @@ ghost use Rattle.run.specs.Layout.{tableIn};
 ghost use Rattle.race.specs.Bytes.{Bounded};
 ghost use Rattle.race.specs.First.{foundRace};
 ghost use Rattle.grids.specs.Given.{Given};
-ghost use Rattle.sets_location.specs.Location.{Placed};
+ghost use Rattle.grids.specs.Location.{Judging};
 ghost use Rattle.sets_races.specs.Counted.{Counted};
 use known::fields;
 use race::Found;
 use row_sets::Set;
 use row_sets::kept;
 use run::Run;
-use sets_location::masks;
 
 // ---- races
 
@@ -29,8 +28,8 @@ fn conflicting(s: &[u64], i: usize, w: &[u64]) -> Set {
 
 // The shared bytes of i and j at which neither is ordered before the other.
 fn unordered(t: &Run, n: usize, i: usize, j: usize, w: &[u64]) -> u64 {
-    let all = masks::shared(t, n, i, j);
-    let ordered = area::pairs::mask(w, i, j) | masks::moved(t, n, area::pairs::mask(w, j, i), j, i);
+    let all = sets_bytes::shared(t, n, i, j);
+    let ordered = area::pairs::mask(w, i, j) | sets_bytes::moved(t, n, area::pairs::mask(w, j, i), j, i);
     all ^ (all & ordered)
 }
 
@@ -54,7 +53,7 @@ fn race_with(t: &Run, n: usize, i: usize, others: Set, w: &[u64]) -> Found {
 
 // The first race: what is mutually-ordered is none.
 pub fn first_race(t: &Run, n: usize, s: &[u64], w: &[u64]) -> Found
-    requires { ⌜ Bounded (tableIn (now t) n) × Given (tableIn (now t) n) n (now s) (now w) × Placed (tableIn (now t) n) n (now w) ⌝ }
+    requires { ⌜ Bounded (tableIn (now t) n) × Given (tableIn (now t) n) n (now s) (now w) × Judging (tableIn (now t) n) n (now w) ⌝ }
     ensures { λ r. ⌜ r ≡ foundRace (tableIn (now (t .entry)) n) ⌝ }
 {
     let mut left = known::rows(s, known::ACCESS);
@@ -93,7 +92,7 @@ fn count_ordered(t: &Run, n: usize, i: usize, others: Set, w: &[u64]) -> u16 {
 
 // The pairs that conflict; of these the mutually-ordered ones, and of the others those that have order at every shared byte.
 pub fn count_pairs(t: &Run, n: usize, s: &[u64], w: &[u64]) -> Counts
-    requires { ⌜ Given (tableIn (now t) n) n (now s) (now w) × Placed (tableIn (now t) n) n (now w) ⌝ }
+    requires { ⌜ Given (tableIn (now t) n) n (now s) (now w) × Judging (tableIn (now t) n) n (now w) ⌝ }
     ensures { λ c. ⌜ Counted (tableIn (now (t .entry)) n) c ⌝ }
 {
     let mut c = Counts {

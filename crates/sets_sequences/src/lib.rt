@@ -9,7 +9,8 @@ ghost use Rattle.run.specs.Layout.{rowsIn, tableIn};
 ghost use Rattle.grids.specs.Regions.{LATER, HEADS, HEADS-END};
 ghost use Rattle.grids.specs.Grid.{Grid, MadeGrid};
 ghost use Rattle.grids.specs.Given.{Given};
-ghost use Rattle.sets_sequences.specs.Heads.{since, Ends, Headed, headedBy};
+ghost use Rattle.grids.specs.Synced.{headedBy};
+ghost use Rattle.sets_sequences.specs.Heads.{since, Ends, Headed};
 
 pub mod taken; // who gets what is read from them
 

@@ -1,22 +1,18 @@
 // M5 by sets of rows: synchronizes-with.
 ghost use mathlib.Core.Path.{_≡_};
 ghost use mathlib.Core.Bool.{true};
-ghost use Prim.Native.Nat.{_+_, _*_, _≤_, _<_};
-ghost use lib.ListN.{length};
-ghost use Rattle.model.specs.Limits.{ROWS};
+ghost use Prim.Native.Nat.{_<_};
 ghost use Rattle.model.specs.Row.{releases};
 ghost use Rattle.model.specs.Table.{rowOf};
-ghost use Rattle.model.specs.Scope.{mutually, follows};
 ghost use Rattle.model.specs.Synchronizes.{synchronizes};
 ghost use Rattle.run.specs.Layout.{rowsIn, tableIn};
 ghost use Rattle.row_sets.specs.Rows.{Rows};
-ghost use Rattle.area.specs.Regions.{MUTUAL, SYNC, SYNC-END};
-ghost use Rattle.grids.specs.Regions.{LATER, TAKEN, PASSED, PASSED-END};
+ghost use Rattle.area.specs.Regions.{SYNC, SYNC-END};
+ghost use Rattle.grids.specs.Regions.{TAKEN, PASSED};
 ghost use Rattle.grids.specs.Grid.{Grid, MadeGrid};
 ghost use Rattle.grids.specs.Given.{Given};
-ghost use Rattle.sets_sequences.specs.Taken.{takenBy};
-ghost use Rattle.sets_control.specs.Passed.{passedBy};
-ghost use Rattle.sets_sync.specs.Sync.{carriedTo, downFrom, Synced};
+ghost use Rattle.grids.specs.Synced.{takenBy, passedBy};
+ghost use Rattle.sets_sync.specs.Sync.{carriedTo};
 use known::fields;
 use row_sets::Set;
 use row_sets::kept;
@@ -62,33 +58,4 @@ pub fn fill_sync(t: &Run, n: usize, s: &[u64], w: &mut [u64])
         let x = sync_row(t, n, s, a, w);
         kept::put(w, area::SYNC, a, x);
     }
-}
-
-// Whether each member of x leads, in the grid at word `base`, to later rows alone.
-pub fn leads_down(w: &[u64], base: usize, x: Set) -> bool
-    requires { ⌜ base + 2 * ROWS ≤ length (now w) ⌝ }
-    ensures { λ b. ⌜ b ≡ downFrom (now (w .entry)) base x ⌝ }
-{
-    let mut left = x;
-    while row_sets::some(left) {
-        let a = row_sets::first(left);
-        left = row_sets::but_first(left);
-        if row_sets::some(row_sets::less(kept::get(w, base, a), row_sets::above(a))) {
-            return false;
-        }
-    }
-    true
-}
-
-// M3 to M5.
-pub fn synchronize(t: &Run, n: usize, s: &[u64], w: &mut [u64])
-    requires { ⌜ Given (tableIn (now t) n) n (now s) (now w) ⌝ }
-    ensures { λ _. ⌜ Synced (tableIn (now (t .entry)) n) n (now (w .entry)) (now (w .exit)) ⌝ }
-{
-    sets_mutual::fill_mutual(t, n, s, w);
-    sets_mutual::later::fill_later(t, n, s, w);
-    sets_sequences::fill_heads(t, n, s, w);
-    sets_sequences::taken::fill_taken(t, n, s, w);
-    sets_control::fill_passed(t, n, s, w);
-    fill_sync(t, n, s, w);
 }

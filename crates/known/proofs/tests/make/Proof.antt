@@ -1,4 +1,4 @@
-use Rattle.known.specs.Known.{known-all}
+use Rattle.known.specs.Tested.{known-all}
 use borrow.Author.Needs.{needs}
 use Rattle.known.proofs.tests.make.Statement.{statement}
 use Rattle.known.proofs.tests.make.Tie as tie

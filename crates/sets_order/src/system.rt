@@ -1,18 +1,17 @@
 // Dependencies by sets of rows: which rows system-synchronize with which.
-ghost use Prim.Native.Nat.{_≤_, _<_};
+ghost use Prim.Native.Nat.{_≤_};
 ghost use lib.ListN.{length};
-ghost use Rattle.model.specs.Location.{systemBefore};
+ghost use Rattle.model.specs.Limits.{WORK};
 ghost use Rattle.run.specs.Layout.{tableIn};
-ghost use Rattle.grids.specs.Regions.{SYSTEM, SYSTEM-END};
-ghost use Rattle.grids.specs.Given.{Given};
-ghost use Rattle.sets_happens.specs.System.{MadeDepends, Depending, MadeSystem};
+ghost use Rattle.known.specs.Fit.{FitRun};
+ghost use Rattle.sets_order.specs.System.{MadeDepends, Depending, MadeSystem};
 use row_sets::Set;
 use row_sets::kept;
 use run::Run;
 
 // DEPENDS. Gives the rows that are an end of a dependency.
 pub fn fill_depends(t: &Run, n: usize, w: &mut [u64]) -> Set
-    requires { ⌜ Fit (tableIn (now t) n) × (WORK ≤ length (now w)) ⌝ }
+    requires { ⌜ FitRun (now t) n × (WORK ≤ length (now w)) ⌝ }
     ensures { λ e. ⌜ MadeDepends (tableIn (now (t .entry)) n) n e (now (w .entry)) (now (w .exit)) ⌝ }
 {
     bits::clear(w, grids::DEPENDS, grids::DEPENDS_END);
@@ -35,7 +34,7 @@ pub fn fill_system(t: &Run, n: usize, s: &[u64], ends: Set, down: bool, w: &mut 
     ensures { λ _. ⌜ MadeSystem (tableIn (now (t .entry)) n) n (now (w .entry)) (now (w .exit)) ⌝ }
 {
     bits::clear(w, grids::SYSTEM, grids::SYSTEM_END);
-    let k = sets_closure::of_none(ends);
+    let k = sets_closure::of_none(t, n, s, ends);
     sets_closure::reach::fill_reach(t, n, s, 16, ends, k, down, w);
     let mut left = ends;
     while row_sets::some(left) {

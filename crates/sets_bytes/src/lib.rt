@@ -5,7 +5,7 @@ ghost use lib.ListN.{length};
 ghost use Rattle.model.specs.Limits.{ROWS, WORK, LONGEST};
 ghost use Rattle.run.specs.Layout.{tableIn};
 ghost use Rattle.known.specs.Fit.{Fit};
-ghost use Rattle.sets_location.specs.Masks.{Mask, sharedBit, movedBit, Adds};
+ghost use Rattle.sets_bytes.specs.Masks.{Mask, sharedBit, movedBit, Adds};
 use known::fields;
 use run::Run;
 

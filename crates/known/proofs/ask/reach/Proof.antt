@@ -1,0 +1,22 @@
+use borrow.Author.Needs.{needs}
+use Rattle.known.proofs.ask.reach.Statement.{statement}
+use Rattle.known.proofs.ask.reach.Tie as tie
+use Rattle.known.proofs.ask.reach.Reads as reads
+use Rattle.known.proofs.ask.reach.Lts as lts
+use Rattle.known.proofs.ask.sharing.Reads as sharing-reads
+use Rattle.known.proofs.fields.scope.Reads as scope-reads
+
+-- src/ask.rt:53:25
+scope-requires : tie.Need-scope-requires
+scope-requires c κs = search needs
+
+-- src/ask.rt:53:5
+sharing-requires : tie.Need-sharing-requires
+sharing-requires c κs = ?
+
+-- src/ask.rt:49:1
+returns : tie.Need-returns
+returns c = ?
+
+pub reach-spec : {M : Type 1} → statement M
+reach-spec = tie.close (tie.spec scope-requires sharing-requires returns)

@@ -9,3 +9,5 @@ pub mod Placed
 pub mod Hears
 pub mod Fit
 pub mod Known
+pub mod Prepared
+pub mod Ask

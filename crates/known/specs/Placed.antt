@@ -2,13 +2,14 @@
 use mathlib.Core.Path.{_≡_, refl, sym, ap, _∙_}
 use mathlib.Core.Bool.{Bool, true, false}
 use mathlib.Core.List.{List}
+use mathlib.Core.Logic.{_⊎_, inl, inr}
 use Prim.Native.Nat.{ℕ, _+_, _-_, _*_, _≤_, _<_}
 use native.Mathlib.Omega.{arith}
 use native.Mathlib.Decide.{decLt, ℕ-discrete}
 use lib.ListN.{length, getD}
 use lib.Dec.{eqb, ltb}
 use borrow.Author.Tests.{eq-eqb, ne-eqb, lt-ltb, le-ltb}
-use Rattle.finite.specs.Logic.{_and_, _or_, and-on, and-false-left, and-false-right}
+use Rattle.finite.specs.Logic.{_and_, _or_, and-on, and-false-left, and-false-right, which, not-both}
 use Rattle.finite.specs.Below.{anyBelow, turn, at-one}
 use Rattle.model.specs.Limits.{ROWS}
 use Rattle.bits.specs.Bit.{zeros, zeros-in}
@@ -18,6 +19,8 @@ use Rattle.row_sets.specs.Member.{inSet, in-none}
 use Rattle.row_sets.specs.First.{First, first-next, Rest, next, none-in}
 use Rattle.row_sets.specs.Kept.{setAt, Stored, added}
 use Rattle.row_sets.specs.Family.{nth, Marks, marks-one}
+use Rattle.row_sets.specs.Filling.{Filled}
+use Rattle.known.specs.Number.{Numbered, same-number, same-key}
 use Rattle.row_sets.specs.Walk.{Walk, walk-begin, walk-turn, walk-end, walk-in}
 
 -- ---- definitions
@@ -39,10 +42,9 @@ pub record Placed (base : ℕ) (loc : List ℕ) (x : Set) (s u : List ℕ) : Typ
   pub is : (k j : ℕ) → k < ROWS → inSet (nth u base k) j ≡ placed loc x k j
   pub frame : Within base (base + 2 * ROWS) s u
 
--- set i of those from word `base` on is the set of i's number, of those at the front of `by`, where i is a member of x, else empty
-pub record Spread (base : ℕ) (by loc : List ℕ) (x : Set) (s u : List ℕ) : Type 0 where
-  pub is : (i j : ℕ) → i < ROWS → inSet (nth u base i) j ≡ (inSet x i and inSet (nth by 0 (getD loc i 0)) j)
-  pub frame : Within base (base + 2 * ROWS) s u
+-- row j is in the set of row i's number, of those at the front of `by`
+unfoldable pub ofNumber : List ℕ → List ℕ → ℕ → ℕ → Bool
+ofNumber by loc i j = inSet (nth by 0 (getD loc i 0)) j
 
 -- set i of those from word `base` on has the members of x with i's key, where i is one, else none
 pub record Grouped (base : ℕ) (key : ℕ → ℕ) (x : Set) (s u : List ℕ) : Type 0 where
@@ -131,3 +133,44 @@ placed-end {base} {loc} {x} {s} {u} left e h w = record { is = λ k j o. all .is
     go k j (no o) =
         and-false-left (ltb j ROWS) (placed loc x k j) (le-ltb j ROWS (omega arith))
         ∙ sym (and-false-left (inSet x j) (eqb (getD loc j 0) k) (in-none x j (omega arith)))
+
+-- ---- laws: groups
+
+pub small-numbered : {key : ℕ → ℕ} {x : Set} {l : ℕ} {keys loc : List ℕ} → Numbered key x ROWS keys loc l → Small loc x
+small-numbered {key} {x} {l} {keys} {loc} n = record { each = λ r e. go r e (decLt r ROWS) }
+  where
+    go : (r : ℕ) → inSet x r ≡ true → Dec (r < ROWS) → getD loc r 0 < ROWS
+    go r e (yes o) = let a = n .low r o e in let b = n .few in omega arith
+    go r e (no o) = not-both e (in-none x r (omega arith))
+
+pub of-number-is : (by loc : List ℕ) (i k : ℕ) (z : Set) → k ≡ getD loc i 0 → z ≡ nth by 0 k → (j : ℕ) → inSet z j ≡ ofNumber by loc i j
+unfolding ofNumber
+of-number-is by loc i k z e f j = ap (λ (y : Set). inSet y j) (f ∙ ap (λ (m : ℕ). nth by 0 m) e)
+
+pub grouped : {base : ℕ} {key : ℕ → ℕ} {x : Set} {l : ℕ} {keys loc empty by s u : List ℕ} → Numbered key x ROWS keys loc l → Placed 0 loc x empty by
+    → Filled base x (ofNumber by loc) s u → Grouped base key x s u
+unfolding ofNumber placed
+grouped {base} {key} {x} {l} {keys} {loc} {empty} {by} {s} {u} n p f =
+    record { is = λ i j o. f .is i j o ∙ go i j o (which (inSet x i)); frame = f .frame }
+  where
+    same : (i j : ℕ) → inSet x i ≡ true → inSet x j ≡ true → i < ROWS → j < ROWS → eqb (getD loc j 0) (getD loc i 0) ≡ eqb (key i) (key j)
+    same i j a b o m = go (ℕ-discrete (key i) (key j))
+      where
+        go : Dec (key i ≡ key j) → eqb (getD loc j 0) (getD loc i 0) ≡ eqb (key i) (key j)
+        go (yes e) = eq-eqb (getD loc j 0) (getD loc i 0) (sym (same-key n i j o m a b e)) ∙ sym (eq-eqb (key i) (key j) e)
+        go (no e) = ne-eqb (getD loc j 0) (getD loc i 0) (λ q. e (same-number n i j o m a b (sym q))) ∙ sym (ne-eqb (key i) (key j) e)
+
+    member : (i j : ℕ) → inSet x i ≡ true → i < ROWS → (inSet x j ≡ true) ⊎ (inSet x j ≡ false)
+        → (inSet x j and eqb (getD loc j 0) (getD loc i 0)) ≡ (inSet x j and eqb (key i) (key j))
+    member i j a o (inl b) = ap (λ (z : Bool). inSet x j and z) (same i j a b o (bound (decLt j ROWS)))
+      where
+        bound : Dec (j < ROWS) → j < ROWS
+        bound (yes m) = m
+        bound (no m) = not-both b (in-none x j (omega arith))
+    member i j a o (inr b) = and-false-left (inSet x j) _ b ∙ sym (and-false-left (inSet x j) _ b)
+
+    go : (i j : ℕ) → i < ROWS → (inSet x i ≡ true) ⊎ (inSet x i ≡ false)
+        → (inSet x i and inSet (nth by 0 (getD loc i 0)) j) ≡ (inSet x i and (inSet x j and eqb (key i) (key j)))
+    go i j o (inl a) =
+        ap (λ (z : Bool). inSet x i and z) (p .is (getD loc i 0) j (small-numbered n .each i a) ∙ member i j a o (which (inSet x j)))
+    go i j o (inr a) = and-false-left (inSet x i) _ a ∙ sym (and-false-left (inSet x i) _ a)

@@ -3,7 +3,8 @@ use mathlib.Core.List.{List}
 use Prim.Native.Nat.{ℕ, _≤_}
 use native.Mathlib.Omega.{arith}
 use Rattle.model.specs.declared.Row.{Row}
-use Rattle.model.specs.Row.{reads, writes, access, atomic, ranked, barrier, acquires, releases, nonPrivate, makesAvailable, makesVisible}
+use Rattle.model.specs.Row.{reads, writes, access, atomic, ranked, barrier, acquires, releases, nonPrivate}
+use Rattle.placing.specs.Elements.{avails, shews}
 use Rattle.bits.specs.Within.{Within, within-trans, within-widen}
 use Rattle.row_sets.specs.Kept.{setAt}
 use Rattle.known.specs.Says.{Says, Ground, says-kept, ground-kept}
@@ -64,8 +65,8 @@ pub record Orders (row : ℕ → Row) (n : ℕ) (s : List ℕ) : Type 0 where
 
 pub record Marked (row : ℕ → Row) (n : ℕ) (s : List ℕ) : Type 0 where
   pub public : Says row n nonPrivate (setAt s PUBLIC)
-  pub available : Says row n makesAvailable (setAt s AVAILABLE)
-  pub visible : Says row n makesVisible (setAt s VISIBLE)
+  pub available : Says row n avails (setAt s AVAILABLE)
+  pub visible : Says row n shews (setAt s VISIBLE)
 
 -- each set by a code and each set by a test has the rows that pass, of n, and nothing else
 pub record Tested (row : ℕ → Row) (n : ℕ) (s : List ℕ) : Type 0 where
@@ -109,8 +110,8 @@ marked-kept : {row : ℕ → Row} {n a b : ℕ} {s u : List ℕ} → TESTS-END �
 marked-kept l f h =
     record {
       public = says-kept PUBLIC nonPrivate (λ o. absurd (omega arith)) f (h .public);
-      available = says-kept AVAILABLE makesAvailable (λ o. absurd (omega arith)) f (h .available);
-      visible = says-kept VISIBLE makesVisible (λ o. absurd (omega arith)) f (h .visible);
+      available = says-kept AVAILABLE avails (λ o. absurd (omega arith)) f (h .available);
+      visible = says-kept VISIBLE shews (λ o. absurd (omega arith)) f (h .visible);
     }
 
 -- what is known stays so while later words change

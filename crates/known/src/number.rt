@@ -6,8 +6,9 @@ ghost use Rattle.finite.specs.Below.{least};
 ghost use Rattle.model.specs.Limits.{ROWS};
 ghost use Rattle.run.specs.Layout.{rowsIn};
 ghost use Rattle.row_sets.specs.Kept.{setAt};
+ghost use Rattle.row_sets.specs.Filling.{Filled};
 ghost use Rattle.known.specs.Number.{keyIn, keyAt, grown, Step, Numbered};
-ghost use Rattle.known.specs.Placed.{Small, Placed, Spread, Grouped};
+ghost use Rattle.known.specs.Placed.{Small, Placed, ofNumber, Grouped};
 ghost use Rattle.known.specs.Tested.{ACCESS};
 use row_sets::Set;
 use row_sets::kept;
@@ -95,7 +96,7 @@ fn place(s: &mut [u64], loc: &[u64], base: usize, x: Set)
 // Each member of x gets the set of its number, from word `base` of s on.
 fn spread(s: &mut [u64], by: &[u64], loc: &[u64], base: usize, x: Set)
     requires { ⌜ (base + 2 * ROWS ≤ length (now s)) × (2 * ROWS ≤ length (now by)) × (ROWS ≤ length (now loc)) × Small (now loc) x ⌝ }
-    ensures { λ _. ⌜ Spread base (now (by .entry)) (now (loc .entry)) x (now (s .entry)) (now (s .exit)) ⌝ }
+    ensures { λ _. ⌜ Filled base x (ofNumber (now (by .entry)) (now (loc .entry))) (now (s .entry)) (now (s .exit)) ⌝ }
 {
     bits::clear(s, base, base + 256);
     let mut left = x;

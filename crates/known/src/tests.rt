@@ -3,12 +3,11 @@ ghost use mathlib.Core.Path.{_≡_};
 ghost use Prim.Native.Nat.{ℕ, _*_, _≤_, _<_};
 ghost use lib.ListN.{length};
 ghost use Rattle.finite.specs.Logic.{_or_};
-ghost use Rattle.finite.specs.Below.{anyBelow};
 ghost use Rattle.row_sets.specs.Member.{inSet};
 ghost use Rattle.row_sets.specs.Family.{nth};
 ghost use Rattle.known.specs.Filed.{FILED};
 ghost use Rattle.known.specs.Tested.{Makes, Accesses, Kinds, Orders, Marked, Tested, READS, ATOMIC, ACQUIRES, PUBLIC, TESTS-END};
-ghost use Rattle.known.specs.Sorted.{SORTED-END, heldBy, SortsClass, Sorts};
+ghost use Rattle.known.specs.Sorted.{SORTED-END, HeldTo, SortsClass, Sorts};
 use row_sets::Set;
 use row_sets::kept;
 
@@ -106,7 +105,7 @@ pub fn make(s: &mut [u64])
 // The rows whose semantics have class q.
 fn holding(s: &[u64], q: usize) -> Set
     requires { ⌜ (2 * FILED ≤ length (now s)) × (q < 4) ⌝ }
-    ensures { λ r. ⌜ ((j : ℕ) → inSet r j ≡ anyBelow 16 (heldBy (now (s .entry)) q j)) ⌝ }
+    ensures { λ r. ⌜ HeldTo (now (s .entry)) q 16 r ⌝ }
 {
     let mut a = row_sets::none();
     for m in 0..16 {

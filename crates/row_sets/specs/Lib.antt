@@ -7,3 +7,4 @@ pub mod Walk
 pub mod Tasks
 pub mod Rows
 pub mod Sift
+pub mod Filling

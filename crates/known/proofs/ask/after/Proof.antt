@@ -1,3 +1,4 @@
+use Rattle.known.specs.Ask.{after-rows}
 use borrow.Author.Needs.{needs}
 use Rattle.known.proofs.ask.after.Statement.{statement}
 use Rattle.known.proofs.ask.after.Tie as tie
@@ -21,7 +22,9 @@ and-requires c κs = search needs
 
 -- src/ask.rt:25:1
 returns : tie.Need-returns
-returns c = ?
+returns c =
+    let pre = c .before .before .before .before .pre in
+    after-rows (pre .1) _ _ _ _ (c .before .before .of-agent .ensures) (c .before .above .ensures) (c .and .ensures)
 
 pub after-spec : {M : Type 1} → statement M
 after-spec = tie.close (tie.spec of-agent-requires above-requires and-requires returns)

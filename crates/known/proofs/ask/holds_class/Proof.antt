@@ -24,7 +24,7 @@ meets-requires c κs = search needs
 
 -- src/ask.rt:88:1
 returns : tie.Need-returns
-returns c = ?
+returns c = cc
 
 pub holds-class-spec : {M : Type 1} → statement M
 holds-class-spec =

@@ -1,3 +1,7 @@
+use mathlib.Core.Path.{_≡_, refl, sym, ap, _∙_}
+use Prim.Native.Nat.{_-_, _≤_}
+use native.Mathlib.Omega.{arith}
+use Rattle.known.specs.Ask.{ClassedTo, classed-none, classed-more, classed-rows}
 use borrow.Author.Needs.{needs}
 use Rattle.known.proofs.ask.of_classes.Statement.{statement}
 use Rattle.known.proofs.ask.of_classes.Tie as tie
@@ -10,10 +14,10 @@ use Rattle.row_sets.proofs.only_if.Reads as only-if-reads
 use Rattle.row_sets.proofs.or.Reads as or-reads
 
 abbrev Inv-loop : tie.InvT-loop
-Inv-loop t n s m a₀ q₀ a q = ?
+Inv-loop t n s m a₀ q₀ a q = (q ≤ 4) × ClassedTo s m q a
 
 abbrev μ-loop : tie.MeasureT-loop
-μ-loop t n s m a₀ q₀ a q = ?
+μ-loop t n s m a₀ q₀ a q = 4 - q
 
 -- src/ask.rt:77:9
 none-requires : tie.Need-none-requires Inv-loop μ-loop
@@ -21,7 +25,7 @@ none-requires c κs = search needs
 
 -- src/ask.rt:78:5
 loop-holds : tie.Need-loop-holds Inv-loop μ-loop
-loop-holds c = ?
+loop-holds c = (search needs, classed-none _ _ _ (c .none .ensures))
 
 -- src/ask.rt:81:31
 holds-class-requires : tie.Need-holds-class-requires Inv-loop μ-loop
@@ -49,11 +53,13 @@ loop-less c = search needs
 
 -- src/ask.rt:78:5
 loop-again : tie.Need-loop-again Inv-loop μ-loop
-loop-again c = ?
+loop-again c = (search needs, classed-more _ _ _ (c .before .before .before .before .before .loop .inv .1) (c .before .before .before .holds-class .ensures) (c .before .before .get .ensures) (c .before .only-if .ensures) (c .or .ensures))
 
 -- src/ask.rt:73:1
 returns : tie.Need-returns Inv-loop μ-loop
-returns c = ?
+returns c =
+    let e : c .before .loop .q ≡ 4 = omega arith in
+    classed-rows (c .before .before .before .before .pre .1) _ _ (rw e at (c .before .loop .inv .1))
 
 pub of-classes-spec : {M : Type 1} → statement M
 of-classes-spec =

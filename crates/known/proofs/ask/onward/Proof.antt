@@ -1,3 +1,4 @@
+use Rattle.known.specs.Ask.{onward-rows}
 use borrow.Author.Needs.{needs}
 use Rattle.known.proofs.ask.onward.Statement.{statement}
 use Rattle.known.proofs.ask.onward.Tie as tie
@@ -21,7 +22,9 @@ less-requires c κs = search needs
 
 -- src/ask.rt:33:1
 returns : tie.Need-returns
-returns c = ?
+returns c =
+    let pre = c .before .before .before .before .pre in
+    onward-rows (pre .1) _ _ _ _ (c .before .before .of-agent .ensures) (c .before .below .ensures) (c .less .ensures)
 
 pub onward-spec : {M : Type 1} → statement M
 onward-spec = tie.close (tie.spec of-agent-requires below-requires less-requires returns)

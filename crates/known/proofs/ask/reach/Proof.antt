@@ -1,3 +1,6 @@
+use Rattle.known.specs.Ask.{scope-low}
+use native.Mathlib.Omega.{arith}
+use Rattle.model.specs.Table.{decode}
 use borrow.Author.Needs.{needs}
 use Rattle.known.proofs.ask.reach.Statement.{statement}
 use Rattle.known.proofs.ask.reach.Tie as tie
@@ -12,11 +15,19 @@ scope-requires c κs = search needs
 
 -- src/ask.rt:53:5
 sharing-requires : tie.Need-sharing-requires
-sharing-requires c κs = ?
+unfolding decode
+sharing-requires c κs =
+    let pre = c .before .before .pre in
+    let a = scope-low (pre .1) _ (pre .0) in
+    let e = c .scope .ensures in
+    (pre .0, omega arith, pre .1)
 
 -- src/ask.rt:49:1
 returns : tie.Need-returns
-returns c = ?
+unfolding decode
+returns c =
+    let f = c .sharing .ensures in
+    rw (c .before .scope .ensures) at f
 
 pub reach-spec : {M : Type 1} → statement M
 reach-spec = tie.close (tie.spec scope-requires sharing-requires returns)

@@ -1,3 +1,4 @@
+use Rattle.known.specs.Ask.{together-rows}
 use borrow.Author.Needs.{needs}
 use Rattle.known.proofs.ask.together.Statement.{statement}
 use Rattle.known.proofs.ask.together.Tie as tie
@@ -21,7 +22,9 @@ and-requires c κs = search needs
 
 -- src/ask.rt:65:1
 returns : tie.Need-returns
-returns c = ?
+returns c =
+    let pre = c .before .before .before .before .pre in
+    together-rows (pre .1) _ _ _ _ (c .before .before .reach .ensures) (c .before .hears .ensures) (c .and .ensures)
 
 pub together-spec : {M : Type 1} → statement M
 together-spec = tie.close (tie.spec reach-requires hears-requires and-requires returns)

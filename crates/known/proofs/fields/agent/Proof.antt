@@ -24,7 +24,7 @@ cast-result c = search needs
 
 -- src/fields.rt:10:1
 returns : tie.Need-returns
-returns c = ?
+returns c = cc
 
 pub agent-spec : {M : Type 1} → statement M
 agent-spec =

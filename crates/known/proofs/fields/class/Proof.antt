@@ -24,7 +24,7 @@ cast-result c = search needs
 
 -- src/fields.rt:32:1
 returns : tie.Need-returns
-returns c = ?
+returns c = cc
 
 pub class-spec : {M : Type 1} → statement M
 class-spec =

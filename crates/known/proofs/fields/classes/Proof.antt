@@ -24,7 +24,7 @@ cast-result c = search needs
 
 -- src/fields.rt:24:1
 returns : tie.Need-returns
-returns c = ?
+returns c = cc
 
 pub classes-spec : {M : Type 1} → statement M
 classes-spec =

@@ -1,3 +1,4 @@
+use Rattle.model.specs.Table.{rowOf}
 use borrow.Author.Needs.{needs}
 use Rattle.known.proofs.fields.end.Statement.{statement}
 use Rattle.known.proofs.fields.end.Tie as tie
@@ -41,7 +42,8 @@ add-result c = search needs
 
 -- src/fields.rt:48:1
 returns : tie.Need-returns
-returns c = ?
+unfolding rowOf
+returns c = (cc, search needs)
 
 pub end-spec : {M : Type 1} → statement M
 end-spec =

@@ -20,7 +20,7 @@ read-rank-requires c κs = search needs
 
 -- src/fields.rt:56:1
 returns : tie.Need-returns
-returns c = ?
+returns c = cc
 
 pub rank-spec : {M : Type 1} → statement M
 rank-spec = tie.close (tie.spec rows-of-requires cast-read-rank read-rank-requires returns)

@@ -1,3 +1,4 @@
+use Rattle.model.specs.Table.{rowOf}
 use borrow.Author.Needs.{needs}
 use Rattle.known.proofs.fields.scope.Statement.{statement}
 use Rattle.known.proofs.fields.scope.Tie as tie
@@ -24,7 +25,8 @@ cast-result c = search needs
 
 -- src/fields.rt:17:1
 returns : tie.Need-returns
-returns c = ?
+unfolding rowOf
+returns c = cc
 
 pub scope-spec : {M : Type 1} → statement M
 scope-spec =

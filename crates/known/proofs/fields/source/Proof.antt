@@ -24,7 +24,7 @@ cast-result c = search needs
 
 -- src/fields.rt:64:1
 returns : tie.Need-returns
-returns c = ?
+returns c = cc
 
 pub source-spec : {M : Type 1} → statement M
 source-spec =

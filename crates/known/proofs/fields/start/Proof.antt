@@ -24,7 +24,7 @@ cast-result c = search needs
 
 -- src/fields.rt:40:1
 returns : tie.Need-returns
-returns c = ?
+returns c = (cc, search needs)
 
 pub start-spec : {M : Type 1} → statement M
 start-spec =

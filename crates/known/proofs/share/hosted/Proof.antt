@@ -1,3 +1,8 @@
+use mathlib.Core.Path.{_≡_, refl, sym, ap, _∙_}
+use Prim.Native.Nat.{_-_, _≤_}
+use native.Mathlib.Omega.{arith}
+use Rattle.model.specs.Limits.{AGENTS}
+use Rattle.known.specs.Hears.{HostsTo, hosts-none, hosts-more}
 use borrow.Author.Needs.{needs}
 use Rattle.known.proofs.share.hosted.Statement.{statement}
 use Rattle.known.proofs.share.hosted.Tie as tie
@@ -10,10 +15,10 @@ use Rattle.row_sets.proofs.or.Reads as or-reads
 use Rattle.rows.proofs.scopes.is_host.Reads as is-host-reads
 
 abbrev Inv-loop : tie.InvT-loop
-Inv-loop s p x₀ a₀ x a = ?
+Inv-loop s p x₀ a₀ x a = (a ≤ AGENTS) × HostsTo p a s x
 
 abbrev μ-loop : tie.MeasureT-loop
-μ-loop s p x₀ a₀ x a = ?
+μ-loop s p x₀ a₀ x a = AGENTS - a
 
 -- src/share.rt:140:9
 none-requires : tie.Need-none-requires Inv-loop μ-loop
@@ -21,7 +26,7 @@ none-requires c κs = search needs
 
 -- src/share.rt:141:5
 loop-holds : tie.Need-loop-holds Inv-loop μ-loop
-loop-holds c = ?
+loop-holds c = (search needs, hosts-none _ _ _ (c .none .ensures))
 
 -- src/share.rt:142:33
 add-get : tie.Need-add-get Inv-loop μ-loop
@@ -57,11 +62,13 @@ loop-less c = search needs
 
 -- src/share.rt:141:5
 loop-again : tie.Need-loop-again Inv-loop μ-loop
-loop-again c = ?
+loop-again c = (search needs, hosts-more _ _ _ (c .before .before .before .before .before .loop .inv .1) (c .before .before .is-host .ensures) (c .before .before .before .get .ensures) (c .before .only-if .ensures) (c .or .ensures))
 
 -- src/share.rt:136:1
 returns : tie.Need-returns Inv-loop μ-loop
-returns c = ?
+returns c =
+    let e : c .before .loop .a ≡ AGENTS = omega arith in
+    rw e at (c .before .loop .inv .1)
 
 pub hosted-spec : {M : Type 1} → statement M
 hosted-spec =

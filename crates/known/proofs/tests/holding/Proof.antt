@@ -1,3 +1,7 @@
+use mathlib.Core.Path.{_≡_, refl, sym, ap, _∙_}
+use Prim.Native.Nat.{_-_, _≤_}
+use native.Mathlib.Omega.{arith}
+use Rattle.known.specs.Sorted.{HeldTo, held-none, held-more}
 use borrow.Author.Needs.{needs}
 use Rattle.known.proofs.tests.holding.Statement.{statement}
 use Rattle.known.proofs.tests.holding.Tie as tie
@@ -10,10 +14,10 @@ use Rattle.row_sets.proofs.only_if.Reads as only-if-reads
 use Rattle.row_sets.proofs.or.Reads as or-reads
 
 abbrev Inv-loop : tie.InvT-loop
-Inv-loop s q a₀ m₀ a m = ?
+Inv-loop s q a₀ m₀ a m = (m ≤ 16) × HeldTo s q m a
 
 abbrev μ-loop : tie.MeasureT-loop
-μ-loop s q a₀ m₀ a m = ?
+μ-loop s q a₀ m₀ a m = 16 - m
 
 -- src/tests.rt:111:9
 none-requires : tie.Need-none-requires Inv-loop μ-loop
@@ -21,7 +25,7 @@ none-requires c κs = search needs
 
 -- src/tests.rt:112:5
 loop-holds : tie.Need-loop-holds Inv-loop μ-loop
-loop-holds c = ?
+loop-holds c = (search needs, held-none _ _ _ (c .none .ensures))
 
 -- src/tests.rt:113:13
 holds-class-requires : tie.Need-holds-class-requires Inv-loop μ-loop
@@ -53,11 +57,13 @@ loop-less c = search needs
 
 -- src/tests.rt:112:5
 loop-again : tie.Need-loop-again Inv-loop μ-loop
-loop-again c = ?
+loop-again c = (search needs, held-more _ _ _ (c .before .before .before .before .before .loop .inv .1) (c .before .before .before .holds-class .ensures) (c .before .before .get .ensures) (c .before .only-if .ensures) (c .or .ensures))
 
 -- src/tests.rt:107:1
 returns : tie.Need-returns Inv-loop μ-loop
-returns c = ?
+returns c =
+    let e : c .before .loop .m ≡ 16 = omega arith in
+    rw e at (c .before .loop .inv .1)
 
 pub holding-spec : {M : Type 1} → statement M
 holding-spec =

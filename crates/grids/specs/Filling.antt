@@ -1,5 +1,5 @@
 -- A grid that was filled from the members of a set holds a relation of the model. Assumes nothing.
-use mathlib.Core.Path.{_≡_, ap, _∙_}
+use mathlib.Core.Path.{_≡_, sym, ap, _∙_}
 use mathlib.Core.Bool.{Bool, true}
 use mathlib.Core.List.{List}
 use Prim.Native.Nat.{ℕ, _+_, _*_, _≤_, _<_}
@@ -14,6 +14,12 @@ use Rattle.row_sets.specs.Family.{nth}
 use Rattle.row_sets.specs.Rows.{Rows, rows-in}
 use Rattle.row_sets.specs.Filling.{Filled}
 use Rattle.grids.specs.Grid.{MadeGrid}
+
+-- a member of a set of rows is one of them, and passes
+pub member-in : {n : ℕ} {p : ℕ → Bool} {x : Set} (i : ℕ) → Rows n p x → inSet x i ≡ true → (i < n) × (p i ≡ true)
+member-in {n} i h e =
+    let a = split (sym (h .is i) ∙ e) in
+    (ltb-true i n (a .0), a .1)
 
 -- a set x, of which row k's set z is put where k is a member: where r leads from no other row, the grid was made to hold r
 pub filled-made : {base n : ℕ} {x : Set} {on : ℕ → Bool} {w u : List ℕ} (r : ℕ → ℕ → Bool) → n ≤ ROWS → Rows n on x

@@ -1,1 +1,2 @@
+pub mod Mutual
 pub mod Later

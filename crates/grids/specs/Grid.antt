@@ -46,6 +46,10 @@ grid-at {i = i} g l e = rows-at e (g .row i l)
 pub grid-in : {base n : ℕ} {r : ℕ → ℕ → Bool} {w : List ℕ} → Grid base n r w → (i j : ℕ) → i < n → j < n → inSet (nth w base i) j ≡ r i j
 grid-in g i j l m = rows-in (g .row i l) j m
 
+-- of all rows, so of some
+pub grid-on : {base n : ℕ} {r : ℕ → ℕ → Bool} {w : List ℕ} (on : ℕ → Bool) → Grid base n r w → GridOn on base n r w
+grid-on on g = record { row = λ i l o. g .row i l }
+
 -- a change elsewhere
 pub grid-kept : {base n c d : ℕ} {r : ℕ → ℕ → Bool} {w u : List ℕ} → (c < base + 2 * n → d ≤ base) → Within c d w u → Grid base n r w → Grid base n r u
 grid-kept {base} {n} {c} {d} off f g = record { row = λ i l. rows-at (set-kept (base + 2 * i) (λ h. let z : d ≤ base = off (omega arith) in omega arith) f) (g .row i l) }

@@ -1,6 +1,7 @@
 pub mod Regions
 pub mod Grid
 pub mod Filling
+pub mod Union
 pub mod Given
 pub mod Synced
 pub mod Concerns

@@ -121,7 +121,10 @@ fn sort_class(s: &mut [u64], q: usize)
     ensures { λ _. ⌜ SortsClass q (now (s .entry)) (now (s .exit)) ⌝ }
 {
     let a = holding(s, q);
-    let b = row_sets::and(kept::get(s, crate::ACCESS, 0), kept::get(s, crate::BY_CLASS, q));
+    let b = row_sets::and(
+        kept::get(s, crate::ACCESS, 0),
+        kept::get(s, crate::BY_CLASS, q),
+    );
     kept::put(s, crate::HOLDING, q, a);
     kept::put(s, crate::CLASSED, q, b);
 }

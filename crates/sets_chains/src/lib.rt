@@ -47,7 +47,10 @@ fn chain_out(t: &Run, n: usize, s: &[u64], q: usize, w: &mut [u64]) {
             row_sets::and(kept::get(w, grids::AVAILABLE_AVAILABLE, a), broad),
             known::ask::reach(t, n, s, a),
         );
-        let all = row_sets::or(next, row_sets::walk::union(w, grids::AVAILABLE_AVAILABLE, next));
+        let all = row_sets::or(
+            next,
+            row_sets::walk::union(w, grids::AVAILABLE_AVAILABLE, next),
+        );
         kept::put(w, grids::AVAILABLE_AVAILABLE, a, all);
     }
 }
@@ -99,7 +102,10 @@ fn visible_by(t: &Run, n: usize, s: &[u64], a: usize, chain: Set, q: usize, w: &
 
 // What a makes available as the first of a chain, itself alone or more.
 fn make_available_by_chains(t: &Run, n: usize, s: &[u64], a: usize, w: &mut [u64]) {
-    let chain = row_sets::or(kept::get(w, grids::AVAILABLE_AVAILABLE, a), row_sets::bit(a));
+    let chain = row_sets::or(
+        kept::get(w, grids::AVAILABLE_AVAILABLE, a),
+        row_sets::bit(a),
+    );
     let at = available_to(t, n, s, a, chain, w);
     let mut visible = row_sets::none();
     for q in 1..BROADEST + 1 {

@@ -102,7 +102,16 @@ fn close(nodes: Set, w: &mut [u64]) {
 
 // REACH_AT, REACH_VISIBLE and REACH_AVAILABLE of the nodes of the class set c; `down` says whether synchronizes-with and dependencies lead
 // down the page.
-pub fn fill_reach(t: &Run, n: usize, s: &[u64], c: usize, ends: Set, k: Concerned, down: bool, w: &mut [u64])
+pub fn fill_reach(
+    t: &Run,
+    n: usize,
+    s: &[u64],
+    c: usize,
+    ends: Set,
+    k: Concerned,
+    down: bool,
+    w: &mut [u64],
+)
     requires { ⌜ Asks (tableIn (now t) n) n c ends k down (now s) (now w) ⌝ }
     ensures { λ _. ⌜ MadeReach (tableIn (now (t .entry)) n) n c ends (now (w .entry)) (now (w .exit)) ⌝ }
 {

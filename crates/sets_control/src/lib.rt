@@ -32,7 +32,10 @@ fn instance(t: &Run, n: usize, s: &[u64], c: usize) -> Set
     while row_sets::some(left) {
         let d = row_sets::first(left);
         left = row_sets::but_first(left);
-        all = row_sets::or(all, row_sets::only_if(fields::start(t, d) == name, row_sets::bit(d)));
+        all = row_sets::or(
+            all,
+            row_sets::only_if(fields::start(t, d) == name, row_sets::bit(d)),
+        );
     }
     all
 }

@@ -29,7 +29,10 @@ fn put_reads(n: usize, s: &[u64], source: usize, y: usize, w: &mut [u64]) {
         kept::put_bit(w, area::EDGE, source, y);
         return;
     }
-    let over = row_sets::and(kept::get(w, area::OVERLAP, y), known::rows(s, known::WRITES));
+    let over = row_sets::and(
+        kept::get(w, area::OVERLAP, y),
+        known::rows(s, known::WRITES),
+    );
     kept::join(w, area::EDGE, y, row_sets::drop(over, y));
 }
 

@@ -15,17 +15,29 @@ use run::Run;
 // The operations that make available to a domain, make visible from it, and carry out of it: `host` says whether it is the host's or the
 // device's.
 fn available(s: &[u64], host: bool) -> Set {
-    let kind = if host { kinds::AVAILABLE_HOST } else { kinds::AVAILABLE_DEVICE };
+    let kind = if host {
+        kinds::AVAILABLE_HOST
+    } else {
+        kinds::AVAILABLE_DEVICE
+    };
     kept::get(s, known::BY_KIND, kind as usize)
 }
 
 fn visible(s: &[u64], host: bool) -> Set {
-    let kind = if host { kinds::VISIBLE_HOST } else { kinds::VISIBLE_DEVICE };
+    let kind = if host {
+        kinds::VISIBLE_HOST
+    } else {
+        kinds::VISIBLE_DEVICE
+    };
     kept::get(s, known::BY_KIND, kind as usize)
 }
 
 fn carrying(s: &[u64], host: bool) -> Set {
-    let kind = if host { kinds::HOST_TO_DEVICE } else { kinds::DEVICE_TO_HOST };
+    let kind = if host {
+        kinds::HOST_TO_DEVICE
+    } else {
+        kinds::DEVICE_TO_HOST
+    };
     kept::get(s, known::BY_KIND, kind as usize)
 }
 

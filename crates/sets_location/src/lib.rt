@@ -57,13 +57,26 @@ fn put_parts(t: &Run, n: usize, s: &[u64], x: usize, to: Set, g: part::Available
 
 // The plain rows that x is, or is program-ordered before, whose availability operations cover some of its bytes.
 fn plain_available(t: &Run, n: usize, s: &[u64], x: usize, w: &[u64]) -> Set {
-    let plain = row_sets::and(known::rows(s, known::AVAILABLE), known::rows(s, known::PLAIN));
-    let here = row_sets::and(kept::get(s, known::REFERENCE, x), kept::get(w, area::OVERLAP, x));
+    let plain = row_sets::and(
+        known::rows(s, known::AVAILABLE),
+        known::rows(s, known::PLAIN),
+    );
+    let here = row_sets::and(
+        kept::get(s, known::REFERENCE, x),
+        kept::get(w, area::OVERLAP, x),
+    );
     row_sets::and(row_sets::and(plain, here), known::ask::onward(t, n, s, x))
 }
 
 // What is made available of x: by atomics and barriers, in `made`, and by plain rows.
-fn made_available(t: &Run, n: usize, s: &[u64], x: usize, made: &[u64], w: &[u64]) -> part::Available {
+fn made_available(
+    t: &Run,
+    n: usize,
+    s: &[u64],
+    x: usize,
+    made: &[u64],
+    w: &[u64],
+) -> part::Available {
     let k = fields::agent(t, x) * 8 + fields::class(t, x);
     let mut to = kept::get(made, 0, k);
     let mut by = kept::get(made, 0, k + 4);
@@ -95,8 +108,20 @@ fn met_whole(t: &Run, n: usize, s: &[u64], x: usize, g: part::Available) -> Set 
 }
 
 // L3 of the public write x, beside what it is ordered before at all shared bytes anyway; the rows `over` share bytes with it.
-fn place_write(t: &Run, n: usize, s: &[u64], x: usize, before: Set, over: Set, made: &[u64], w: &mut [u64]) {
-    let public = row_sets::and(kept::get(s, known::REFERENCE, x), known::rows(s, known::PUBLIC));
+fn place_write(
+    t: &Run,
+    n: usize,
+    s: &[u64],
+    x: usize,
+    before: Set,
+    over: Set,
+    made: &[u64],
+    w: &mut [u64],
+) {
+    let public = row_sets::and(
+        kept::get(s, known::REFERENCE, x),
+        known::rows(s, known::PUBLIC),
+    );
     let target = row_sets::and(public, over);
     let g = made_available(t, n, s, x, made, w);
     let met = row_sets::and(met_whole(t, n, s, x, g), target);
@@ -143,7 +168,10 @@ pub fn fill_location(t: &Run, n: usize, s: &[u64], w: &mut [u64])
     bits::clear(w, area::LOCATION, area::LOCATION_END);
     let mut made = [0u64; MADE];
     let accesses = known::rows(s, known::ACCESS);
-    let wide = row_sets::less(known::rows(s, known::AVAILABLE), known::rows(s, known::PLAIN));
+    let wide = row_sets::less(
+        known::rows(s, known::AVAILABLE),
+        known::rows(s, known::PLAIN),
+    );
     let mut x = n;
     while 0 < x {
         x -= 1;

@@ -34,7 +34,11 @@ fn add_if(b: bool, x: Set, i: usize) -> Set
     requires { ⌜ i < ROWS ⌝ }
     ensures { λ z. ⌜ ((j : ℕ) → inSet z j ≡ (inSet x j or (b and eqb j i))) ⌝ }
 {
-    if b { row_sets::or(x, row_sets::bit(i)) } else { x }
+    if b {
+        row_sets::or(x, row_sets::bit(i))
+    } else {
+        x
+    }
 }
 
 // The members of x whose rank is later than row i's.

@@ -22,7 +22,10 @@ fn overwrites(t: &Run, n: usize, source: usize, z: usize, y: usize, w: &[u64]) -
 
 // The first writer that overwrites y's source before y, at the lowest byte.
 fn overwritten_by(t: &Run, n: usize, s: &[u64], source: usize, y: usize, w: &[u64]) -> Overwrite {
-    let over = row_sets::and(kept::get(w, area::OVERLAP, y), known::rows(s, known::WRITES));
+    let over = row_sets::and(
+        kept::get(w, area::OVERLAP, y),
+        known::rows(s, known::WRITES),
+    );
     let mut left = row_sets::and(kept::get(w, grids::SOME, source), over);
     while row_sets::some(left) {
         let z = row_sets::first(left);

@@ -29,7 +29,8 @@ fn conflicting(s: &[u64], i: usize, w: &[u64]) -> Set {
 // The shared bytes of i and j at which neither is ordered before the other.
 fn unordered(t: &Run, n: usize, i: usize, j: usize, w: &[u64]) -> u64 {
     let all = sets_bytes::shared(t, n, i, j);
-    let ordered = area::pairs::mask(w, i, j) | sets_bytes::moved(t, n, area::pairs::mask(w, j, i), j, i);
+    let ordered = area::pairs::mask(w, i, j)
+        | sets_bytes::moved(t, n, area::pairs::mask(w, j, i), j, i);
     all ^ (all & ordered)
 }
 

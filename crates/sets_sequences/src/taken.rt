@@ -21,7 +21,10 @@ fn getters(t: &Run, n: usize, s: &[u64], y: usize) -> Set
     ensures { λ x. ⌜ Rows n (gets (tableIn (now (t .entry)) n) y) x ⌝ }
 {
     let class = kept::get(s, known::HOLDING, fields::class(t, y));
-    let after = row_sets::and(known::ask::after(t, n, s, y), known::rows(s, known::BARRIER));
+    let after = row_sets::and(
+        known::ask::after(t, n, s, y),
+        known::rows(s, known::BARRIER),
+    );
     row_sets::and(
         row_sets::or(row_sets::and(after, class), row_sets::bit(y)),
         known::rows(s, known::ACQUIRES),

@@ -1,16 +1,16 @@
 // M4 by sets of rows: the heads of the release sequences that each atomic writer is in.
 ghost use mathlib.Core.Path.{_≡_};
-ghost use mathlib.Core.Bool.{true, cond};
 ghost use Prim.Native.Nat.{_≤_, _<_};
-ghost use Rattle.model.specs.Row.{ranked};
-ghost use Rattle.model.specs.Table.{rowOf};
-ghost use Rattle.model.specs.Scope.{age, follows};
-ghost use Rattle.run.specs.Layout.{rowsIn, tableIn};
+ghost use lib.ListN.{length};
+ghost use Rattle.model.specs.Limits.{ROWS, WORK};
+ghost use Rattle.model.specs.Scope.{follows};
+ghost use Rattle.laws.specs.FilledLaws.{Bytes};
+ghost use Rattle.run.specs.Layout.{tableIn};
 ghost use Rattle.grids.specs.Regions.{LATER, HEADS, HEADS-END};
 ghost use Rattle.grids.specs.Grid.{Grid, MadeGrid};
 ghost use Rattle.grids.specs.Given.{Given};
 ghost use Rattle.grids.specs.Synced.{headedBy};
-ghost use Rattle.sets_sequences.specs.Heads.{since, Ends, Headed};
+ghost use Rattle.sets_sequences.specs.Heads.{Ranks, since, Ends, Headed, JoinsIf};
 
 pub mod taken; // who gets what is read from them
 
@@ -33,6 +33,30 @@ fn since(counted: bool, k: u16, h: u16) -> u32
     }
 }
 
+// The first byte of the rows; that they are bytes is known of what is lent.
+fn first_byte(rows: &[u8]) -> u8
+    ensures { λ r. ⌜ Bytes (now (rows .entry)) ⌝ }
+{
+    rows::bytes::byte_at(rows, 0)
+}
+
+// The lower of two.
+fn lower(k: u32, e: u32) -> u32
+    ensures { λ r. ⌜ ((k < e) → r ≡ k) × ((e ≤ k) → r ≡ e) ⌝ }
+{
+    if k < e { k } else { e }
+}
+
+// Row h joins the heads of k, if b.
+fn join_if(b: bool, k: usize, h: usize, w: &mut [u64])
+    requires { ⌜ (k < ROWS) × (h < ROWS) × (WORK ≤ length (now w)) ⌝ }
+    ensures { λ _. ⌜ JoinsIf b k h (now (w .entry)) (now (w .exit)) ⌝ }
+{
+    if b {
+        kept::put_bit(w, grids::HEADS, k, h);
+    }
+}
+
 // Where the sequence that the writer h heads ends: at the first atomic write that follows h and is no RMW.
 fn end_of(t: &Run, n: usize, s: &[u64], h: usize, w: &[u64]) -> u32
     requires { ⌜ (h < n) × Given (tableIn (now t) n) n (now s) (now w) × Grid LATER n (follows (tableIn (now t) n)) (now w) ⌝ }
@@ -46,18 +70,17 @@ fn end_of(t: &Run, n: usize, s: &[u64], h: usize, w: &[u64]) -> u32
     );
     let mut end = NEVER;
     while row_sets::some(left) {
-        let k = since(counted, fields::rank(t, row_sets::first(left)), rank);
-        if k < end {
-            end = k;
-        }
+        let z = row_sets::first(left);
         left = row_sets::but_first(left);
+        let k = since(counted, fields::rank(t, z), rank);
+        end = lower(k, end);
     }
     end
 }
 
 // Row h joins the heads of each RMW that is in its sequence, which ends at `end`.
 fn add_head(t: &Run, n: usize, s: &[u64], h: usize, end: u32, w: &mut [u64])
-    requires { ⌜ (h < n) × Ends (tableIn (now t) n) h end × Given (tableIn (now t) n) n (now s) (now w) × Grid LATER n (follows (tableIn (now t) n)) (now w) ⌝ }
+    requires { ⌜ (h < n) × Ends (tableIn (now t) n) h end × Ranks (tableIn (now t) n) × Given (tableIn (now t) n) n (now s) (now w) × Grid LATER n (follows (tableIn (now t) n)) (now w) ⌝ }
     ensures { λ _. ⌜ Headed (tableIn (now (t .entry)) n) n h (now (w .entry)) (now (w .exit)) ⌝ }
 {
     let counted = run::counted(t);
@@ -69,9 +92,8 @@ fn add_head(t: &Run, n: usize, s: &[u64], h: usize, end: u32, w: &mut [u64])
     while row_sets::some(left) {
         let k = row_sets::first(left);
         left = row_sets::but_first(left);
-        if since(counted, fields::rank(t, k), rank) < end {
-            kept::put_bit(w, grids::HEADS, k, h);
-        }
+        let near = since(counted, fields::rank(t, k), rank) < end;
+        join_if(near, k, h, w);
     }
 }
 
@@ -80,6 +102,7 @@ pub fn fill_heads(t: &Run, n: usize, s: &[u64], w: &mut [u64])
     requires { ⌜ Given (tableIn (now t) n) n (now s) (now w) × Grid LATER n (follows (tableIn (now t) n)) (now w) ⌝ }
     ensures { λ _. ⌜ MadeGrid HEADS HEADS-END HEADS n (headedBy (tableIn (now (t .entry)) n)) (now (w .entry)) (now (w .exit)) ⌝ }
 {
+    first_byte(run::rows_of(t));
     bits::clear(w, grids::HEADS, grids::HEADS_END);
     let mut left = known::rows(s, known::RANKED);
     while row_sets::some(left) {

@@ -186,12 +186,11 @@ module _ (t : Table) (h : ℕ) where
   pub continued-rmw : (k : ℕ) → k < t .rows → continuedBy t h k ≡ true → (follows t h k ≡ true) × (rmw (t .row k) ≡ true)
   unfolding continuedBy
   continued-rmw k l e =
-      let a = split e in
-      (
+      let a = split e in (
         a .0,
         ⊎-elim
-        (λ f. not-both (any-in (ends t h k) (t .rows) k l (ends-in k k (write-closes k (a .0) f) (later-self (t .counted) (t .row k .rank)))) (not-out _ (a .1)))
-        (λ f. f) (follows-ranked k (a .0)),
+            (λ f. not-both (any-in (ends t h k) (t .rows) k l (ends-in k k (write-closes k (a .0) f) (later-self (t .counted) (t .row k .rank)))) (not-out _ (a .1)))
+            (λ f. f) (follows-ranked k (a .0)),
       )
 
   -- an RMW that follows the head is in its sequence where it comes before the end

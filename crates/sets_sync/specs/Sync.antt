@@ -207,8 +207,7 @@ module _ (t : Table) (a b : ℕ) where
           let d = split (h .0) in
           let x = any-out (carriesOver t a b) (t .rows) (k .1) in
           let o = split (x .2) in
-          let y = any-out (carriesIn t (x .0) b) (t .rows) (o .1) in
-          (
+          let y = any-out (carriesIn t (x .0) b) (t .rows) (o .1) in (
             or-left _ (carried-on (d .1) (x .0) (x .1) (taking-ranked t (x .0) (y .0) (in-taking t (x .0) b (y .0) (y .2))) (o .0) (over-in q (h .1) (x .0) (o .1))),
             m .1,
             turned a b (d .0),

@@ -106,9 +106,11 @@ loop-again c =
     let inv = c .before .before .before .before .before .before .before .before .before .before .loop .inv in
     let m = head-member _ _ _ _ (o .rows) says _ (walk-in (inv .1 .0) (c .before .before .before .before .before .before .before .first .ensures)) in
     let k = since-is _ _ _ (c .before .before .before .before .before .before .before .before .before .before .before .before .before .before .before .before .counted .ensures) (c .before .before .before .before .before .rank2 .ensures) (c .before .before .before .before .before .before .before .before .before .before .before .before .before .before .before .rank .ensures) (c .before .before .before .before .since .ensures .0) in
-    let join = c .before .before .join-if .ensures in
-    (join .len ∙ inv .0, head-step _ _ _ (o .rows) (few o) _ (head-walked _ _ _ _ (o .rows) says) _ (inv .1) (c .before .before .before .before .before .before .before .first .ensures) (c .before .before .before .before .before .before .but-first .ensures) (m .0)
-    (near-is _ _ _ _ (pre .2) (m .1) (pre .1) k) join)
+    let join = c .before .before .join-if .ensures in (
+      join .len ∙ inv .0,
+      head-step _ _ _ (o .rows) (few o) _ (head-walked _ _ _ _ (o .rows) says) _ (inv .1) (c .before .before .before .before .before .before .before .first .ensures) (c .before .before .before .before .before .before .but-first .ensures) (m .0)
+          (near-is _ _ _ _ (pre .2) (m .1) (pre .1) k) join,
+    )
 
 -- src/lib.rt:82:1
 same-length : tie.Need-same-length Inv-loop μ-loop

@@ -1,0 +1,12 @@
+pub mod Regions
+pub mod Grid
+pub mod Filling
+pub mod Union
+pub mod Given
+pub mod Synced
+pub mod Concerns
+pub mod Reach
+pub mod Happens
+pub mod Available
+pub mod Hosted
+pub mod Location

@@ -1,0 +1,13 @@
+pub mod Filed
+pub mod Says
+pub mod Tested
+pub mod Sorted
+pub mod Makes
+pub mod Share
+pub mod Number
+pub mod Placed
+pub mod Hears
+pub mod Fit
+pub mod Known
+pub mod Prepared
+pub mod Ask

@@ -1,0 +1,15 @@
+pub mod Shares
+pub mod Domain
+pub mod Union
+pub mod Leads
+pub mod Chains
+pub mod Several
+pub mod Elements
+pub mod Page
+pub mod Whole
+pub mod Right
+pub mod Told
+pub mod Writer
+pub mod Placed
+pub mod Judge
+pub mod Admitted

@@ -1,0 +1,10 @@
+pub mod Word
+pub mod Member
+pub mod First
+pub mod Kept
+pub mod Family
+pub mod Walk
+pub mod Tasks
+pub mod Rows
+pub mod Sift
+pub mod Filling

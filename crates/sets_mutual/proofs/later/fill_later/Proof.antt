@@ -1,0 +1,120 @@
+use mathlib.Core.Path.{_≡_, refl, sym, _∙_}
+use Prim.Native.Nat.{_-_}
+use native.Mathlib.Omega.{arith}
+use lib.ListN.{length}
+use lib.Dec.{ltb}
+use Rattle.finite.specs.Logic.{_and_}
+use Rattle.model.specs.Limits.{ROWS}
+use Rattle.run.specs.Layout.{tableIn}
+use Rattle.model.specs.Table.{decode}
+use Rattle.bits.specs.Within.{within-trans, within-cleared}
+use Rattle.row_sets.specs.First.{next}
+use Rattle.row_sets.specs.Walk.{walk-less, walk-in}
+use Rattle.row_sets.specs.Filling.{Filling, fill-begin, fill-turn, fill-end}
+use Rattle.row_sets.specs.Rows.{rows-at}
+use Rattle.known.specs.Known.{says-rows}
+use Rattle.known.specs.Ask.{few}
+use Rattle.grids.specs.Filling.{member-in, filled-made}
+use Rattle.model.specs.Scope.{follows}
+use Rattle.grids.specs.Regions.{LATER, LATER-END}
+use Rattle.grids.specs.Grid.{grid-kept}
+use Rattle.grids.specs.Given.{given-kept}
+use Rattle.sets_mutual.specs.Later.{later-only}
+use borrow.Author.Needs.{needs}
+use Rattle.sets_mutual.proofs.later.fill_later.Statement.{statement}
+use Rattle.sets_mutual.proofs.later.fill_later.Tie as tie
+use Rattle.sets_mutual.proofs.later.fill_later.Reads as reads
+use Rattle.sets_mutual.proofs.later.fill_later.Lts as lts
+use Rattle.bits.proofs.clear.Reads as clear-reads
+use Rattle.known.proofs.rows.Reads as rows-reads
+use Rattle.row_sets.proofs.but_first.Reads as but-first-reads
+use Rattle.row_sets.proofs.first.Reads as first-reads
+use Rattle.row_sets.proofs.kept.put.Reads as put-reads
+use Rattle.row_sets.proofs.some.Reads as some-reads
+use Rattle.sets_mutual.proofs.later.later_row.Reads as later-row-reads
+
+abbrev Inv-loop : tie.InvT-loop
+Inv-loop t n s w₀ left₀ w left = (length w ≡ length w₀) × Filling LATER left₀ (λ i j. ltb j n and follows (tableIn t n) i j) w₀ left w
+
+abbrev μ-loop : tie.MeasureT-loop
+μ-loop t n s w₀ left₀ w left = ROWS - next left
+
+-- src/later.rt:72:5
+clear-requires : tie.Need-clear-requires Inv-loop μ-loop
+clear-requires c κs = search needs
+
+-- src/later.rt:73:9
+rows-requires : tie.Need-rows-requires Inv-loop μ-loop
+rows-requires c κs = let a = c .before .before .before .before .before .before .pre .0 .opened .space in omega arith
+
+-- src/later.rt:74:5
+loop-holds : tie.Need-loop-holds Inv-loop μ-loop
+loop-holds c = (refl, fill-begin _ _ _ _ (search needs) (c .before .before .before .clear .ensures))
+
+-- src/later.rt:74:11
+some-requires : tie.Need-some-requires Inv-loop μ-loop
+some-requires c κs = search needs
+
+-- src/later.rt:75:13
+first-requires : tie.Need-first-requires Inv-loop μ-loop
+first-requires c κs = sym (c .before .some .ensures) ∙ c .if1 .taken
+
+-- src/later.rt:76:9
+but-first-requires : tie.Need-but-first-requires Inv-loop μ-loop
+but-first-requires c κs = sym (c .before .before .some .ensures) ∙ c .before .if1 .taken
+
+-- src/later.rt:77:13
+later-row-requires : tie.Need-later-row-requires Inv-loop μ-loop
+unfolding decode
+later-row-requires c κs =
+    let pre = c .before .before .before .before .before .before .before .before .before .before .before .before .before .pre in
+    let o = pre .0 .opened in
+    let small = few o in
+    let m = member-in _ (rows-at (c .before .before .before .before .before .before .rows .ensures) (says-rows (o .known .tested .kinds .ranked))) (walk-in (c .before .before .before .before .before .loop .inv .1 .walk) (c .before .before .first .ensures)) in
+    let f = within-trans (within-cleared LATER LATER-END (omega arith) (c .before .before .before .before .before .before .before .before .before .clear .ensures)) (c .before .before .before .before .before .loop .inv .1 .frame) in
+    (m .0, m .1, given-kept f (pre .0), grid-kept (λ h. absurd (omega arith)) f (pre .1))
+
+-- src/later.rt:78:9
+put-requires : tie.Need-put-requires Inv-loop μ-loop
+put-requires c κs = search needs
+
+-- src/later.rt:74:5
+loop-less : tie.Need-loop-less Inv-loop μ-loop
+loop-less c = walk-less (c .before .before .before .before .before .before .before .first .ensures) (c .before .before .before .before .before .before .but-first .ensures)
+
+-- src/later.rt:74:5
+loop-again : tie.Need-loop-again Inv-loop μ-loop
+loop-again c =
+    let inv = c .before .before .before .before .before .before .before .before .before .before .loop .inv in
+    let put = c .before .before .put .ensures in
+    (put .frame .len ∙ inv .0, fill-turn _ _ _ _ (inv .1) (c .before .before .before .before .before .before .before .first .ensures) (c .before .before .before .before .before .before .but-first .ensures) (c .before .before .before .before .later-row .ensures .is) put)
+
+-- src/later.rt:68:1
+same-length : tie.Need-same-length Inv-loop μ-loop
+same-length c = search needs
+
+-- src/later.rt:68:1
+returns : tie.Need-returns Inv-loop μ-loop
+returns c =
+    let o = c .before .before .before .before .before .before .before .before .before .before .pre .0 .opened in
+    filled-made _ (few o) (rows-at (c .before .before .before .rows .ensures) (says-rows (o .known .tested .kinds .ranked))) (λ i j l m e. later-only _ i j e)
+    (fill-end _ _ _ _ (c .before .before .before .before .before .before .clear .ensures) (sym (c .before .some .ensures) ∙ c .if1 .left) (c .before .before .loop .inv .1))
+
+pub fill-later-spec : {M : Type 1} → statement M
+fill-later-spec =
+    tie.close
+    (tie.spec
+    Inv-loop
+    μ-loop
+    clear-requires
+    rows-requires
+    loop-holds
+    some-requires
+    first-requires
+    but-first-requires
+    later-row-requires
+    put-requires
+    loop-less
+    loop-again
+    same-length
+    returns)

@@ -1,0 +1,44 @@
+use native.Mathlib.Omega.{arith}
+use Rattle.model.specs.Table.{decode}
+use Rattle.known.specs.Ask.{few}
+use Rattle.sets_mutual.specs.Later.{later-rows}
+use borrow.Author.Needs.{needs}
+use Rattle.sets_mutual.proofs.later.later_row.Statement.{statement}
+use Rattle.sets_mutual.proofs.later.later_row.Tie as tie
+use Rattle.sets_mutual.proofs.later.later_row.Reads as reads
+use Rattle.sets_mutual.proofs.later.later_row.Lts as lts
+use Rattle.known.proofs.rows.Reads as rows-reads
+use Rattle.row_sets.proofs.and.Reads as and-reads
+use Rattle.row_sets.proofs.kept.get.Reads as get-reads
+use Rattle.sets_mutual.proofs.later.later_than.Reads as later-than-reads
+
+-- src/later.rt:63:33
+get-requires : tie.Need-get-requires
+get-requires c κs =
+    let pre = c .before .before .pre in
+    let a = pre .2 .room in
+    let b = few (pre .2 .opened) in
+    omega (arith, pre .0)
+
+-- src/later.rt:63:64
+rows-requires : tie.Need-rows-requires
+rows-requires c κs = let a = c .before .before .before .pre .2 .opened .space in omega arith
+
+-- src/later.rt:63:9
+and-requires : tie.Need-and-requires
+and-requires c κs = search needs
+
+-- src/later.rt:64:5
+later-than-requires : tie.Need-later-than-requires
+later-than-requires c κs = let b = few (c .before .before .before .before .before .pre .2 .opened) in omega (arith, c .before .before .before .before .before .pre .0)
+
+-- src/later.rt:58:1
+returns : tie.Need-returns
+unfolding decode
+returns c =
+    let pre = c .before .before .before .before .before .before .pre in
+    later-rows (pre .2 .opened) (pre .3) _ _ _ _ _ (pre .0) (pre .1) (c .before .before .before .get .ensures) (c .before .before .rows .ensures) (c .before .and .ensures) (c .later-than .ensures)
+
+pub later-row-spec : {M : Type 1} → statement M
+later-row-spec =
+    tie.close (tie.spec get-requires rows-requires and-requires later-than-requires returns)

@@ -1,0 +1,2 @@
+pub mod Mutual
+pub mod Later

@@ -1,0 +1,115 @@
+// M4 by sets of rows: the heads of the release sequences that each atomic writer is in.
+ghost use mathlib.Core.Path.{_≡_};
+ghost use Prim.Native.Nat.{_≤_, _<_};
+ghost use lib.ListN.{length};
+ghost use Rattle.model.specs.Limits.{ROWS, WORK};
+ghost use Rattle.model.specs.Scope.{follows};
+ghost use Rattle.laws.specs.FilledLaws.{Bytes};
+ghost use Rattle.run.specs.Layout.{tableIn};
+ghost use Rattle.grids.specs.Regions.{LATER, HEADS, HEADS-END};
+ghost use Rattle.grids.specs.Grid.{Grid, MadeGrid};
+ghost use Rattle.grids.specs.Given.{Given};
+ghost use Rattle.grids.specs.Synced.{headedBy};
+ghost use Rattle.sets_sequences.specs.Heads.{Ranks, since, Ends, Headed, JoinsIf};
+
+pub mod taken; // who gets what is read from them
+
+use known::fields;
+use row_sets::kept;
+use rows::kinds;
+use run::Run;
+
+// Later than every rank.
+const NEVER: u32 = 65536;
+
+// How far rank k lies from the head's rank h on.
+fn since(counted: bool, k: u16, h: u16) -> u32
+    ensures { λ r. ⌜ (r ≡ since counted k h) × (r < 65536) ⌝ }
+{
+    if counted {
+        rows::scopes::age(k, h) as u32
+    } else {
+        k as u32
+    }
+}
+
+// The first byte of the rows; that they are bytes is known of what is lent.
+fn first_byte(rows: &[u8]) -> u8
+    ensures { λ r. ⌜ Bytes (now (rows .entry)) ⌝ }
+{
+    rows::bytes::byte_at(rows, 0)
+}
+
+// The lower of two.
+fn lower(k: u32, e: u32) -> u32
+    ensures { λ r. ⌜ ((k < e) → r ≡ k) × ((e ≤ k) → r ≡ e) ⌝ }
+{
+    if k < e { k } else { e }
+}
+
+// Row h joins the heads of k, if b.
+fn join_if(b: bool, k: usize, h: usize, w: &mut [u64])
+    requires { ⌜ (k < ROWS) × (h < ROWS) × (WORK ≤ length (now w)) ⌝ }
+    ensures { λ _. ⌜ JoinsIf b k h (now (w .entry)) (now (w .exit)) ⌝ }
+{
+    if b {
+        kept::put_bit(w, grids::HEADS, k, h);
+    }
+}
+
+// Where the sequence that the writer h heads ends: at the first atomic write that follows h and is no RMW.
+fn end_of(t: &Run, n: usize, s: &[u64], h: usize, w: &[u64]) -> u32
+    requires { ⌜ (h < n) × Given (tableIn (now t) n) n (now s) (now w) × Grid LATER n (follows (tableIn (now t) n)) (now w) ⌝ }
+    ensures { λ e. ⌜ Ends (tableIn (now (t .entry)) n) h e ⌝ }
+{
+    let counted = run::counted(t);
+    let rank = fields::rank(t, h);
+    let mut left = row_sets::and(
+        kept::get(w, grids::LATER, h),
+        kept::get(s, known::BY_KIND, kinds::ATOMIC_WRITE as usize),
+    );
+    let mut end = NEVER;
+    while row_sets::some(left) {
+        let z = row_sets::first(left);
+        left = row_sets::but_first(left);
+        let k = since(counted, fields::rank(t, z), rank);
+        end = lower(k, end);
+    }
+    end
+}
+
+// Row h joins the heads of each RMW that is in its sequence, which ends at `end`.
+fn add_head(t: &Run, n: usize, s: &[u64], h: usize, end: u32, w: &mut [u64])
+    requires { ⌜ (h < n) × Ends (tableIn (now t) n) h end × Ranks (tableIn (now t) n) × Given (tableIn (now t) n) n (now s) (now w) × Grid LATER n (follows (tableIn (now t) n)) (now w) ⌝ }
+    ensures { λ _. ⌜ Headed (tableIn (now (t .entry)) n) n h (now (w .entry)) (now (w .exit)) ⌝ }
+{
+    let counted = run::counted(t);
+    let rank = fields::rank(t, h);
+    let mut left = row_sets::and(
+        kept::get(w, grids::LATER, h),
+        kept::get(s, known::BY_KIND, kinds::RMW as usize),
+    );
+    while row_sets::some(left) {
+        let k = row_sets::first(left);
+        left = row_sets::but_first(left);
+        let near = since(counted, fields::rank(t, k), rank) < end;
+        join_if(near, k, h, w);
+    }
+}
+
+// HEADS: each atomic writer is in its own sequence, and an RMW in those of earlier ones that have not ended.
+pub fn fill_heads(t: &Run, n: usize, s: &[u64], w: &mut [u64])
+    requires { ⌜ Given (tableIn (now t) n) n (now s) (now w) × Grid LATER n (follows (tableIn (now t) n)) (now w) ⌝ }
+    ensures { λ _. ⌜ MadeGrid HEADS HEADS-END HEADS n (headedBy (tableIn (now (t .entry)) n)) (now (w .entry)) (now (w .exit)) ⌝ }
+{
+    first_byte(run::rows_of(t));
+    bits::clear(w, grids::HEADS, grids::HEADS_END);
+    let mut left = known::rows(s, known::RANKED);
+    while row_sets::some(left) {
+        let h = row_sets::first(left);
+        left = row_sets::but_first(left);
+        kept::put_bit(w, grids::HEADS, h, h);
+        let end = end_of(t, n, s, h, w);
+        add_head(t, n, s, h, end, w);
+    }
+}

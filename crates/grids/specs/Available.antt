@@ -1,8 +1,7 @@
 -- What each availability operation makes available, as grids. Assumes nothing.
-use mathlib.Core.Path.{_≡_}
-use mathlib.Core.Bool.{Bool, true, false, not, cond}
+use mathlib.Core.Bool.{Bool}
 use mathlib.Core.List.{List}
-use Prim.Native.Nat.{ℕ, _+_, _*_, _≤_, _<_}
+use Prim.Native.Nat.{ℕ}
 use Rattle.finite.specs.Logic.{_and_}
 use Rattle.model.specs.Table.{Table}
 use Rattle.bits.specs.Within.{Within}

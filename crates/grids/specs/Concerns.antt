@@ -1,8 +1,7 @@
 -- What a class set concerns, as sets of rows. Assumes nothing.
 use mathlib.Core.Path.{_≡_}
-use mathlib.Core.Bool.{Bool, true, false, not, cond}
-use mathlib.Core.List.{List}
-use Prim.Native.Nat.{ℕ, _+_, _*_, _≤_, _<_}
+use mathlib.Core.Bool.{true}
+use Prim.Native.Nat.{ℕ, _<_}
 use Rattle.model.specs.Table.{Table}
 use Rattle.closing.specs.Nodes.{releaser, acquirer, node}
 use Rattle.closing.specs.Direct.{takesPart, availableFor, visibleFor}

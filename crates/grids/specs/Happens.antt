@@ -1,8 +1,8 @@
 -- Happens-before as five relations between rows, each a grid; and what it is made from. Assumes nothing.
 use mathlib.Core.Path.{_≡_}
-use mathlib.Core.Bool.{Bool, true, false, not, cond}
+use mathlib.Core.Bool.{Bool, true}
 use mathlib.Core.List.{List}
-use Prim.Native.Nat.{ℕ, suc, _+_, _*_, _≤_, _<_}
+use Prim.Native.Nat.{ℕ, suc, _+_}
 use Rattle.finite.specs.Logic.{_and_, _or_}
 use Rattle.finite.specs.Below.{anyBelow}
 use Rattle.model.specs.Synchronizes.{synchronizes}

@@ -1,8 +1,6 @@
 -- Location order by sets: what it is made from, what is made, and what edges, axiom B, races and choices are read from. Assumes nothing.
-use mathlib.Core.Path.{_≡_}
-use mathlib.Core.Bool.{Bool, true, false, not, cond}
 use mathlib.Core.List.{List}
-use Prim.Native.Nat.{ℕ, _+_, _*_, _≤_, _<_}
+use Prim.Native.Nat.{ℕ, _≤_}
 use Rattle.model.specs.Limits.{ROWS}
 use Rattle.model.specs.Edge.{beforeNth, beforeSome}
 use Rattle.model.specs.Scope.{mutually, follows}

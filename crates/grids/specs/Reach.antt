@@ -1,8 +1,8 @@
 -- Inter-thread order for one class set from its nodes: what it is made from, and what is made. Assumes nothing.
 use mathlib.Core.Path.{_≡_}
-use mathlib.Core.Bool.{Bool, true, false, not, cond}
+use mathlib.Core.Bool.{Bool, true}
 use mathlib.Core.List.{List}
-use Prim.Native.Nat.{ℕ, _+_, _*_, _≤_, _<_}
+use Prim.Native.Nat.{ℕ}
 use Rattle.model.specs.Synchronizes.{synchronizes}
 use Rattle.model.specs.Table.{Table}
 use Rattle.bits.specs.Within.{Within}

@@ -1,8 +1,8 @@
 -- The rows that a relation leads to from the members of a set. Assumes nothing.
-use mathlib.Core.Path.{_≡_, sym, ap, _∙_}
+use mathlib.Core.Path.{_≡_, sym, _∙_}
 use mathlib.Core.Bool.{Bool, true}
 use mathlib.Core.List.{List}
-use Prim.Native.Nat.{ℕ, _+_, _*_, _≤_, _<_}
+use Prim.Native.Nat.{ℕ, _≤_, _<_}
 use native.Mathlib.Omega.{arith}
 use lib.Dec.{ltb}
 use borrow.Author.Tests.{ltb-true, lt-ltb}
@@ -11,7 +11,6 @@ use Rattle.finite.specs.Below.{anyBelow, any-in, any-out}
 use Rattle.model.specs.Limits.{ROWS}
 use Rattle.row_sets.specs.declared.Set.{Set}
 use Rattle.row_sets.specs.Member.{inSet}
-use Rattle.row_sets.specs.Family.{nth}
 use Rattle.row_sets.specs.Rows.{Rows}
 use Rattle.row_sets.specs.Tasks.{leads}
 use Rattle.grids.specs.Grid.{GridOn}

@@ -1,13 +1,12 @@
 -- What every set of a table's rows holds, each in a test of the model. Assumes nothing.
-use mathlib.Core.Path.{_≡_, refl, ap, _∙_}
+use mathlib.Core.Path.{_≡_}
 use mathlib.Core.Bool.{Bool, true}
 use mathlib.Core.List.{List}
 use Prim.Native.Nat.{ℕ, _+_, _*_, _≤_, _<_}
 use lib.ListN.{length}
-use lib.Dec.{eqb}
 use Rattle.finite.specs.Logic.{_and_}
 use Rattle.model.specs.declared.Row.{Row}
-use Rattle.model.specs.Row.{access, plain, meets, single, classIn}
+use Rattle.model.specs.Row.{access, classIn}
 use Rattle.model.specs.Scope.{together, sameLocation}
 use Rattle.model.specs.Location.{sameReference, onHost}
 use Rattle.model.specs.Table.{Table}

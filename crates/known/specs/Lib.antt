@@ -11,3 +11,4 @@ pub mod Fit
 pub mod Known
 pub mod Prepared
 pub mod Ask
+pub mod Fits

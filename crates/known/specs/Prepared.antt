@@ -1,17 +1,17 @@
 -- What every set holds, from what makes each group of them. Assumes nothing.
-use mathlib.Core.Path.{_≡_, refl, sym, ap, ap₂, _∙_}
-use mathlib.Core.Bool.{Bool, true, false, cond}
+use mathlib.Core.Path.{_≡_, refl, sym, _∙_}
+use mathlib.Core.Bool.{Bool, true, false}
 use mathlib.Core.List.{List}
 use Prim.Native.Nat.{ℕ, _+_, _*_, _≤_, _<_}
 use native.Mathlib.Omega.{arith}
 use lib.Dec.{eqb, ltb}
 use borrow.Author.Tests.{eqb-true, eq-eqb, ltb-true, lt-ltb}
-use Rattle.finite.specs.Logic.{_and_, bool-ext, split, and-true, and-on}
+use Rattle.finite.specs.Logic.{_and_, bool-ext, split, and-true}
 use Rattle.model.specs.declared.Mode.{Mode}
 use Rattle.model.specs.declared.Row.{Row}
-use Rattle.model.specs.Limits.{AGENTS, ROWS, BYTES}
+use Rattle.model.specs.Limits.{ROWS}
 use Rattle.model.specs.Row.{access}
-use Rattle.model.specs.Scope.{host, sameLocation}
+use Rattle.model.specs.Scope.{sameLocation}
 use Rattle.model.specs.Location.{sameReference, onHost}
 use Rattle.model.specs.Table.{Table, rowOf, decode}
 use Rattle.placing.specs.Shares.{share, hears}
@@ -21,16 +21,16 @@ use Rattle.row_sets.specs.Member.{inSet}
 use Rattle.row_sets.specs.Kept.{setAt, set-kept}
 use Rattle.row_sets.specs.Family.{nth}
 use Rattle.row_sets.specs.Rows.{Rows, rows-at}
-use Rattle.known.specs.Filed.{CodedRows, Files, FILED}
-use Rattle.known.specs.Says.{Says, Ground, ground-kept}
+use Rattle.known.specs.Filed.{CodedRows, Files}
+use Rattle.known.specs.Says.{Says}
 use Rattle.known.specs.Tested.{Tested, tested-kept, Makes, READS, ACCESS, TESTS-END}
-use Rattle.known.specs.Sorted.{Sorted, Sorts, sorted-kept, SORTED-END}
+use Rattle.known.specs.Sorted.{Sorts, sorted-kept}
 use Rattle.known.specs.Share.{SCOPES, SHARE, share-says, agent-some}
-use Rattle.known.specs.Hears.{HEARS, HEARS-END, ON-HOST, SharesAll, hears-says, hosts-says}
+use Rattle.known.specs.Hears.{HEARS, ON-HOST, SharesAll, hears-says, hosts-says}
 use Rattle.known.specs.Number.{keyOf, keyIn, key-location}
 use Rattle.known.specs.Placed.{Grouped}
 use Rattle.known.specs.Fit.{Fit}
-use Rattle.known.specs.Known.{PLACE, REFERENCE, WORDS, samePlace, sameName, Known, MadeKnown}
+use Rattle.known.specs.Known.{PLACE, REFERENCE, WORDS, samePlace, sameName, MadeKnown}
 
 -- ---- laws: what rows have in common
 

@@ -19,7 +19,7 @@ use Rattle.row_sets.specs.Kept.{setAt, Stored}
 use Rattle.row_sets.specs.Family.{nth}
 use Rattle.known.specs.Filed.{CLASSES, CLASS}
 use Rattle.known.specs.Says.{Says, Ground, says-kind, says-classes, says-class, says-or, says-and, says-cong, says-put, says-kept}
-use Rattle.known.specs.Tested.{ACCESS, TESTS-END, Tested, tested-kept}
+use Rattle.known.specs.Tested.{ACCESS, Tested, tested-kept}
 
 -- ---- the layout, in words
 

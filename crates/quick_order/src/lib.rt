@@ -11,6 +11,7 @@ ghost use Rattle.model.specs.Limits.{ROWS, WORK, CLASS-SETS};
 ghost use Rattle.model.specs.Table.{Table, decode};
 ghost use Rattle.area.specs.Regions.{MUTUAL, HAPPENS, LOCATED-END};
 ghost use Rattle.area.specs.State.{Ordered};
+ghost use Rattle.area.specs.Synced.{Synced};
 ghost use Rattle.hubs.specs.Wider.{lessBy, sharedBy, covered};
 ghost use Rattle.moment_sets.specs.Regions.{CONCERN-END};
 ghost use Rattle.quick_order.specs.Whole.{Started, Held, Grown, Reached};
@@ -96,10 +97,9 @@ fn add_set(w: &mut [u64], rows: &[u8], n: usize, s: u8, dep: bool)
 
 // What every class set is made from, and program order, which happens-before begins with.
 fn start(rows: &[u8], p: Places, mode: Mode, n: usize, w: &mut [u64])
-    requires { ⌜ (n ≤ ROWS) × (WORK ≤ length (now w)) ⌝ }
+    requires { ⌜ (n ≤ ROWS) × (WORK ≤ length (now w)) × Synced (decode (now rows) p mode n) n (now w) ⌝ }
     ensures { λ _. ⌜ Started (decode (now (rows .entry)) p mode n) n (now (w .entry)) (now (w .exit)) ⌝ }
 {
-    quick_sync::sync::make_synced(rows, p, mode, n, w);
     moment_sets::program::fill_order(rows, n, w);
     moment_sets::joined::fill_joined(w, n);
     moment_sets::joined::fill_depends(w, mode, n);
@@ -107,12 +107,12 @@ fn start(rows: &[u8], p: Places, mode: Mode, n: usize, w: &mut [u64])
     moment_sets::classes::fill_classes(w, rows, n);
 }
 
-// M7: happens-before: program order, or inter-thread order for some class set. Also mutually-ordered rows (M3), which later
-// stages read. What `order::happens_before` says, in words.
+// M7: happens-before: program order, or inter-thread order for some class set, from what synchronizes. Mutually-ordered rows (M3), which
+// later stages read, stay. What `order::happens_before` says, in words.
 // From the last class set down, so that what covers a set is in before it.
 // Ruled out: one that leaves a class set out; one that skips a class set though two of its rows synchronize.
 pub fn happens_before(rows: &[u8], p: Places, mode: Mode, n: usize, w: &mut [u64])
-    requires { ⌜ (n ≤ ROWS) × (WORK ≤ length (now w)) ⌝ }
+    requires { ⌜ (n ≤ ROWS) × (WORK ≤ length (now w)) × Synced (decode (now rows) p mode n) n (now w) ⌝ }
     ensures { λ _. ⌜ Ordered (decode (now (rows .entry)) p mode n) n (now (w .exit)) × Within MUTUAL LOCATED-END (now (w .entry)) (now (w .exit)) ⌝ }
 {
     start(rows, p, mode, n, w);

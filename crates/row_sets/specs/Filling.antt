@@ -1,7 +1,7 @@
 -- A grid of sets, one for each row: a loop over the members of a set that puts one set a turn. Every loop of this shape has its invariant
 -- and its three steps from here. Assumes nothing.
 use mathlib.Core.Path.{_≡_, sym, ap, _∙_}
-use mathlib.Core.Bool.{Bool, true, false}
+use mathlib.Core.Bool.{Bool, false}
 use mathlib.Core.List.{List}
 use Prim.Native.Nat.{ℕ, _+_, _-_, _*_, _≤_, _<_}
 use native.Mathlib.Omega.{arith}

@@ -1,13 +1,12 @@
 -- A set that has the rows of a table that pass a test, and nothing else; and sets made of such sets. Assumes nothing.
 use mathlib.Core.Path.{_≡_, refl, sym, ap, ap₂, _∙_}
 use mathlib.Core.Bool.{Bool, true, false, not}
-use Prim.Native.Nat.{ℕ, _≤_, _<_}
+use Prim.Native.Nat.{ℕ, _<_}
 use native.Mathlib.Omega.{arith}
 use native.Mathlib.Decide.{decLt}
-use lib.Dec.{eqb, ltb}
+use lib.Dec.{ltb}
 use borrow.Author.Tests.{lt-ltb, le-ltb}
 use Rattle.finite.specs.Logic.{_and_, _or_, and-or, and-on, and-false-left, and-false-right}
-use Rattle.model.specs.Limits.{ROWS}
 use Rattle.row_sets.specs.declared.Set.{Set}
 use Rattle.row_sets.specs.Member.{inSet}
 

@@ -1,12 +1,12 @@
 -- Mutually-ordered atomics as sets of rows. Assumes nothing.
-use mathlib.Core.Path.{_≡_, refl, sym, ap, _∙_}
-use mathlib.Core.Bool.{Bool, true, false, not}
+use mathlib.Core.Path.{_≡_, ap, _∙_}
+use mathlib.Core.Bool.{true, not}
 use mathlib.Core.List.{List}
 use Prim.Native.Nat.{ℕ, _+_, _*_, _<_}
-use lib.Dec.{eqb, leb}
+use lib.Dec.{eqb}
 use Rattle.finite.specs.Logic.{_and_, bool-ext, split, and-true, and-right}
 use Rattle.model.specs.Row.{access, atomic}
-use Rattle.model.specs.Scope.{together, sameLocation, mutualRows, mutually}
+use Rattle.model.specs.Scope.{mutualRows, mutually}
 use Rattle.model.specs.Table.{Table}
 use Rattle.laws.specs.PairLaws.{eqb-swap}
 use Rattle.row_sets.specs.declared.Set.{Set}

@@ -7,16 +7,15 @@ use Prim.Native.Nat.{ℕ, _+_, _-_, _*_, _%_, _≤_, _<_}
 use native.Mathlib.Omega.{arith}
 use native.Mathlib.Decide.{decLt, ℕ-discrete}
 use lib.Dec.{eqb, ltb, leb}
-use lib.ListN.{getD, length}
-use borrow.Author.Tests.{eqb-true, eq-eqb, ne-eqb, ltb-true, ltb-false, lt-ltb, le-ltb, leb-true, le-leb, lt-leb}
-use Rattle.finite.specs.Logic.{_and_, _or_, bool-ext, split, and-true, and-on, and-on-right, and-false-left, and-false-right, or-cases, or-left, or-right, or-off, which, not-both, not-so, not-in, not-out}
-use Rattle.finite.specs.Below.{anyBelow, any-in, any-off, any-out}
-use Rattle.model.specs.declared.Row.{Row}
-use Rattle.model.specs.Limits.{ROWS, COUNTS, RUN}
+use lib.ListN.{length}
+use borrow.Author.Tests.{eqb-true, eq-eqb, ne-eqb, ltb-true, lt-ltb, le-ltb, leb-true, le-leb, lt-leb}
+use Rattle.finite.specs.Logic.{_and_, _or_, bool-ext, split, and-true, and-on, and-on-right, and-false-left, and-false-right, or-cases, or-right, or-off, which, not-both, not-so, not-in, not-out}
+use Rattle.finite.specs.Below.{anyBelow, any-in, any-out}
+use Rattle.model.specs.Limits.{ROWS, COUNTS}
 use Rattle.model.specs.Row.{rmw, ranked, atomic, writes, ATOMIC-WRITE, RMW}
 use Rattle.model.specs.Scope.{age, later, laterWriter, mutually, mutualRows, follows}
 use Rattle.model.specs.Synchronizes.{continues, ends, sequence}
-use Rattle.model.specs.Table.{Table, byteOf, pairAt, pairOf, rowOf, decode}
+use Rattle.model.specs.Table.{Table, pairAt, pairOf, rowOf, decode}
 use Rattle.laws.specs.FilledLaws.{Bytes}
 use Rattle.bits.specs.Within.{Within, within-refl, within-trans, within-widen}
 use Rattle.row_sets.specs.declared.Set.{Set}

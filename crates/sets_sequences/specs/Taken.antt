@@ -1,22 +1,21 @@
 -- The acquire rows that get what is read from a sequence: by reader, and the loops that make the grid. Assumes nothing.
 use mathlib.Core.Path.{_≡_, refl, sym, ap, ap₂, subst, _∙_}
-use mathlib.Core.Bool.{Bool, true, false, not}
+use mathlib.Core.Bool.{Bool, true, false}
 use mathlib.Core.List.{List}
-use mathlib.Core.Logic.{_⊎_, inl, inr, ⊎-elim}
-use Prim.Native.Nat.{ℕ, zero, suc, _+_, _*_, _≤_, _<_}
+use mathlib.Core.Logic.{⊎-elim}
+use Prim.Native.Nat.{ℕ, _+_, _*_, _≤_, _<_}
 use native.Mathlib.Omega.{arith}
 use native.Mathlib.Numerals.{add-one}
 use native.Mathlib.Decide.{decLt, ℕ-discrete}
-use lib.Dec.{eqb, ltb, leb}
+use lib.Dec.{eqb, ltb}
 use lib.ListN.{length}
-use borrow.Author.Tests.{eqb-true, eq-eqb, ne-eqb, ltb-true, lt-ltb, le-ltb, leb-true}
-use Rattle.finite.specs.Logic.{_and_, _or_, bool-ext, split, and-true, and-on, and-on-right, and-false-left, and-false-right, or-cases, or-left, or-right, or-off, and-or, which, not-both, not-so, not-in, not-out}
+use borrow.Author.Tests.{eqb-true, eq-eqb, ltb-true, lt-ltb, le-ltb, leb-true}
+use Rattle.finite.specs.Logic.{_and_, _or_, bool-ext, split, and-true, and-on, and-false-left, and-false-right, or-cases, or-left, or-right, or-off, and-or, which, not-so}
 use Rattle.finite.specs.Below.{anyBelow, any-none, any-in, any-off, any-out}
 use Rattle.model.specs.declared.Row.{Row}
 use Rattle.model.specs.Limits.{ROWS, WORK}
 use Rattle.model.specs.Row.{acquires, barrier, atomic, access, reads, writes, ranked, meets, single, classIn}
-use Rattle.model.specs.Scope.{together, sameLocation, mutualRows, mutually}
-use Rattle.model.specs.Moment.{sameAgent}
+use Rattle.model.specs.Scope.{mutualRows, mutually}
 use Rattle.model.specs.Synchronizes.{sequence, trails, takesFrom, carriesIn}
 use Rattle.model.specs.Table.{Table, rowOf, sourceOf, atomicSource}
 use Rattle.laws.specs.PairLaws.{mutually-sym}

@@ -1,1 +1,2 @@
 pub mod Sync
+pub mod Synced

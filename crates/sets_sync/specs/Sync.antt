@@ -1,19 +1,18 @@
 -- Synchronizes-with as sets of rows. Assumes nothing.
-use mathlib.Core.Path.{_≡_, refl, sym, ap, subst, _∙_}
+use mathlib.Core.Path.{_≡_, refl, sym, subst, _∙_}
 use mathlib.Core.Bool.{Bool, true, false, not, cond}
 use mathlib.Core.List.{List}
 use mathlib.Core.Logic.{_⊎_, inl, inr, ⊎-elim}
-use Prim.Native.Nat.{ℕ, _+_, _*_, _≤_, _<_}
+use Prim.Native.Nat.{ℕ, _+_, _*_, _<_}
 use native.Mathlib.Omega.{arith}
-use lib.Dec.{eqb, leb, ltb}
+use lib.Dec.{eqb, leb}
 use borrow.Author.Tests.{eqb-true, eq-eqb, leb-true}
 use Rattle.finite.specs.Logic.{_and_, _or_, bool-ext, split, and-true, or-cases, or-left, or-right, which, not-both, not-so, not-in, not-out}
 use Rattle.finite.specs.Below.{anyBelow, any-in, any-out}
 use Rattle.model.specs.declared.Row.{Row}
 use Rattle.model.specs.Limits.{ROWS}
-use Rattle.model.specs.Row.{barrier, ranked, atomic, writes, acquires, releases, access, classIn}
+use Rattle.model.specs.Row.{barrier, ranked, atomic, writes, acquires, releases, access}
 use Rattle.model.specs.Scope.{together, mutualRows, mutually}
-use Rattle.model.specs.Moment.{sameAgent}
 use Rattle.model.specs.Synchronizes.{leads, takesFrom, carriesOut, carriesIn, carriesOver, syncAtomics, syncFromBarrier, syncToBarrier, syncBarriers, syncControl, synchronizes}
 use Rattle.model.specs.Table.{Table}
 use Rattle.closing.specs.Order.{laterRow}

@@ -13,6 +13,9 @@ ghost use Rattle.grids.specs.Grid.{Grid, MadeGrid};
 ghost use Rattle.grids.specs.Given.{Given};
 ghost use Rattle.grids.specs.Synced.{takenBy, passedBy};
 ghost use Rattle.sets_sync.specs.Sync.{carriedTo};
+
+pub mod all; // M3 to M5
+
 use known::fields;
 use row_sets::Set;
 use row_sets::kept;

@@ -9,6 +9,8 @@ ghost use Rattle.model.specs.Check.{verdict, race, raceFree, raceOr, overwritte
 ghost use Rattle.bits.specs.Within.{Within};
 ghost use Rattle.area.specs.Regions.{MUTUAL, LOCATED-END, EDGE, LAYERS-END};
 ghost use Rattle.area.specs.State.{Located};
+ghost use Rattle.area.specs.Synced.{Synced};
+ghost use Rattle.known.specs.Fit.{FitRun};
 ghost use Rattle.race.specs.Bytes.{Ready, Bounded};
 ghost use Rattle.axioms.specs.Sources.{sourceIn};
 ghost use Rattle.verdict.specs.Answers.{raceAnswer, overwriteAnswer};
@@ -17,9 +19,20 @@ use model::Mode;
 use model::Places;
 use run::Run;
 
-// Location order of n rows, by sets of rows and moments in words.
-fn locate(rows: &[u8], p: Places, mode: Mode, n: usize, w: &mut [u64])
-    requires { ⌜ (n ≤ ROWS) × (WORK ≤ length (now w)) ⌝ }
+// Location order of n rows, by sets of rows and of moments in words.
+fn locate(t: &Run, n: usize, w: &mut [u64])
+    requires { ⌜ FitRun (now t) n × (WORK ≤ length (now w)) ⌝ }
+    ensures { λ _. ⌜ Located (tableIn (now (t .entry)) n) n (now (w .exit)) × Within MUTUAL LOCATED-END (now (w .entry)) (now (w .exit)) ⌝ }
+{
+    let mut s = [0u64; known::WORDS];
+    known::prepare(t, n, &mut s);
+    sets_sync::all::synchronize(t, n, &s, w);
+    place(run::rows_of(t), run::places(t), run::mode(t), n, w);
+}
+
+// The same from what synchronizes.
+fn place(rows: &[u8], p: Places, mode: Mode, n: usize, w: &mut [u64])
+    requires { ⌜ (n ≤ ROWS) × (WORK ≤ length (now w)) × Synced (decode (now rows) p mode n) n (now w) ⌝ }
     ensures { λ _. ⌜ Located (decode (now (rows .entry)) p mode n) n (now (w .exit)) × Within MUTUAL LOCATED-END (now (w .entry)) (now (w .exit)) ⌝ }
 {
     quick_order::happens_before(rows, p, mode, n, w);
@@ -36,19 +49,16 @@ fn locate_by_flags(rows: &[u8], p: Places, mode: Mode, n: usize, w: &mut [u64])
     overlap::fill_overlaps(rows, n, w);
 }
 
-// Either of them: `quick` says which. The stages below take the rows, places and mode of a run.
+// Either of them: `quick` says which. What goes by rows, places and mode takes those of the run.
 pub fn locate_by(quick: bool, t: &Run, n: usize, w: &mut [u64])
-    requires { ⌜ (n ≤ ROWS) × (WORK ≤ length (now w)) ⌝ }
+    requires { ⌜ FitRun (now t) n × (WORK ≤ length (now w)) ⌝ }
     ensures { λ _. ⌜ Located (tableIn (now (t .entry)) n) n (now (w .exit)) × Within MUTUAL LOCATED-END (now (w .entry)) (now (w .exit)) ⌝ }
 {
-    let rows = run::rows_of(t);
-    let p = run::places(t);
-    let mode = run::mode(t);
     if quick {
-        locate(rows, p, mode, n, w);
+        locate(t, n, w);
         return;
     }
-    locate_by_flags(rows, p, mode, n, w);
+    locate_by_flags(run::rows_of(t), run::places(t), run::mode(t), n, w);
 }
 
 fn race_answer(f: race::Found) -> CheckAnswer

@@ -10,11 +10,6 @@ use Rattle.known.specs.Filed.{FILED, Coded, filed, filed-clear, filed-mo
 use borrow.Author.Needs.{needs}
 use Rattle.known.proofs.file.Statement.{statement}
 use Rattle.known.proofs.file.Tie as tie
-use Rattle.known.proofs.file.Reads as reads
-use Rattle.known.proofs.file.Lts as lts
-use Rattle.bits.proofs.clear.Reads as clear-reads
-use Rattle.known.proofs.file_row.Reads as file-row-reads
-use Rattle.run.proofs.row.Reads as row-reads
 
 abbrev Inv-loop : tie.InvT-loop
 Inv-loop t n s₀ i₀ s i = (i ≤ n) × (length s ≡ length s₀) × Family 0 FILED (filed (rowOf (rowsIn t)) i) s × Within 0 (2 * FILED) s₀ s
@@ -22,48 +17,20 @@ Inv-loop t n s₀ i₀ s i = (i ≤ n) × (length s ≡ length s₀) × Family 0
 abbrev μ-loop : tie.MeasureT-loop
 μ-loop t n s₀ i₀ s i = n - i
 
--- src/lib.rt:152:5
-clear-requires : tie.Need-clear-requires Inv-loop μ-loop
-clear-requires c κs = search needs
-
--- src/lib.rt:153:5
 loop-holds : tie.Need-loop-holds Inv-loop μ-loop
 loop-holds c = (search needs, refl, filed-clear _ _ _ (search needs) (c .before .before .clear .ensures), within-refl _ _ _)
 
--- src/lib.rt:154:29
-cast-row : tie.Need-cast-row Inv-loop μ-loop
-cast-row c = search needs
-
--- src/lib.rt:154:13
-row-requires : tie.Need-row-requires Inv-loop μ-loop
-row-requires c κs = search needs
-
--- src/lib.rt:155:9
 file-row-requires : tie.Need-file-row-requires Inv-loop μ-loop
 file-row-requires c κs =
     let pre = c .before .before .before .before .before .before .before .before .before .pre in
     (search needs, search needs, subst Coded (sym (c .before .row .ensures)) (pre .2 .each _ (search needs)))
 
--- src/lib.rt:153:9
-add-i : tie.Need-add-i Inv-loop μ-loop
-add-i c = search needs
-
--- src/lib.rt:153:5
-loop-less : tie.Need-loop-less Inv-loop μ-loop
-loop-less c = search needs
-
--- src/lib.rt:153:5
 loop-again : tie.Need-loop-again Inv-loop μ-loop
 loop-again c =
     let inv = c .before .before .before .before .before .before .loop .inv in
     let f = c .before .before .file-row .ensures in
     (search needs, f .frame .len ∙ inv .1, filed-more _ _ _ _ _ (c .before .before .before .before .row .ensures) (inv .2) f, within-trans (inv .3) (f .frame))
 
--- src/lib.rt:148:1
-same-length : tie.Need-same-length Inv-loop μ-loop
-same-length c = search needs
-
--- src/lib.rt:148:1
 returns : tie.Need-returns Inv-loop μ-loop
 returns c =
     let inv = c .before .loop .inv in
@@ -76,16 +43,5 @@ returns c =
 pub file-spec : {M : Type 1} → statement M
 file-spec =
     tie.close
-    (tie.spec
-    Inv-loop
-    μ-loop
-    clear-requires
-    loop-holds
-    cast-row
-    row-requires
-    file-row-requires
-    add-i
-    loop-less
-    loop-again
-    same-length
-    returns)
+    (tie.spec Inv-loop μ-loop (λ c κs. search needs) loop-holds (λ c. search needs) (λ c κs. search needs) file-row-requires
+    (λ c. search needs) (λ c. search needs) loop-again (λ c. search needs) returns)

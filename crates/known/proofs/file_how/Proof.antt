@@ -8,4 +8,5 @@ returns c = marks-how _ _ (c .before .before .before .before .before .before .be
 
 pub file-how-spec : {M : Type 1} → statement M
 file-how-spec =
-    tie.close (tie.spec (λ c. search needs) (λ c. search needs) (λ c κs. search needs) (λ c. search needs) (λ c. search needs) (λ c κs. search needs) (λ c. search needs) returns)
+    tie.close (tie.spec (λ c. search needs) (λ c. search needs) (λ c κs. search needs) (λ c. search needs) (λ c. search needs) (λ c κs. search needs)
+    (λ c. search needs) returns)

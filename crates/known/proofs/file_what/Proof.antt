@@ -8,4 +8,5 @@ returns c = marks-what _ _ (c .before .before .before .before .before .before .b
 
 pub file-what-spec : {M : Type 1} → statement M
 file-what-spec =
-    tie.close (tie.spec (λ c. search needs) (λ c. search needs) (λ c κs. search needs) (λ c. search needs) (λ c. search needs) (λ c κs. search needs) (λ c. search needs) returns)
+    tie.close (tie.spec (λ c. search needs) (λ c. search needs) (λ c κs. search needs) (λ c. search needs) (λ c. search needs) (λ c κs. search needs)
+    (λ c. search needs) returns)

@@ -1,3 +1,4 @@
+use Rattle.known.specs.Fits.{fit-of}
 use native.Mathlib.Omega.{arith}
 use Rattle.verdict.specs.Answers.{known-kept}
 use Rattle.pieces.specs.Entry.{few}
@@ -11,7 +12,7 @@ read-sources-requires : tie.Need-read-sources-requires
 read-sources-requires c κs = few (c .before .before .before .pre .2)
 
 locate-by-requires : tie.Need-locate-by-requires
-locate-by-requires c κs = (few (c .before .before .before .before .before .pre .2), search needs)
+locate-by-requires c κs = (fit-of (c .before .before .before .before .before .pre .2), search needs)
 
 judge-requires : tie.Need-judge-requires
 judge-requires c κs =

@@ -3,21 +3,12 @@ use Rattle.finite.specs.Logic.{and-on, and-false-left}
 use borrow.Author.Needs.{needs}
 use Rattle.row_sets.proofs.only_if.Statement.{statement}
 use Rattle.row_sets.proofs.only_if.Tie as tie
-use Rattle.row_sets.proofs.only_if.Reads as reads
-use Rattle.row_sets.proofs.only_if.Lts as lts
-use Rattle.row_sets.proofs.none.Reads as none-reads
 
--- src/lib.rt:138:23
-none-requires : tie.Need-none-requires
-none-requires c κs = search needs
-
--- src/lib.rt:135:1
 returns : tie.Need-returns
 returns c = λ j. sym (and-on _ _ (c .if1 .taken))
 
--- src/lib.rt:135:1
 returns-2 : tie.Need-returns-2
 returns-2 c = λ j. c .none .ensures j ∙ sym (and-false-left _ _ (c .before .if1 .left))
 
 pub only-if-spec : {M : Type 1} → statement M
-only-if-spec = tie.close (tie.spec none-requires returns returns-2)
+only-if-spec = tie.close (tie.spec (λ c κs. search needs) returns returns-2)

@@ -5,15 +5,7 @@ use Rattle.sets_mutual.specs.Mutual.{mutual-rows}
 use borrow.Author.Needs.{needs}
 use Rattle.sets_mutual.proofs.mutual_row.Statement.{statement}
 use Rattle.sets_mutual.proofs.mutual_row.Tie as tie
-use Rattle.sets_mutual.proofs.mutual_row.Reads as reads
-use Rattle.sets_mutual.proofs.mutual_row.Lts as lts
-use Rattle.known.proofs.ask.together.Reads as together-reads
-use Rattle.known.proofs.rows.Reads as rows-reads
-use Rattle.row_sets.proofs.and.Reads as and-reads
-use Rattle.row_sets.proofs.drop.Reads as drop-reads
-use Rattle.row_sets.proofs.kept.get.Reads as get-reads
 
--- src/lib.rt:27:30
 get-requires : tie.Need-get-requires
 get-requires c κs =
     let pre = c .before .pre in
@@ -21,30 +13,12 @@ get-requires c κs =
     let b = few (pre .2) in
     omega (arith, pre .0)
 
--- src/lib.rt:27:61
-rows-requires : tie.Need-rows-requires
-rows-requires c κs = search needs
-
--- src/lib.rt:27:9
-and-requires : tie.Need-and-requires
-and-requires c κs = search needs
-
--- src/lib.rt:28:40
-together-requires : tie.Need-together-requires
-together-requires c κs = search needs
-
--- src/lib.rt:28:20
-and-requires-2 : tie.Need-and-requires-2
-and-requires-2 c κs = search needs
-
--- src/lib.rt:28:5
 drop-requires : tie.Need-drop-requires
 drop-requires c κs =
     let pre = c .before .before .before .before .before .before .pre in
     let b = few (pre .2) in
     omega (arith, pre .0)
 
--- src/lib.rt:23:1
 returns : tie.Need-returns
 unfolding decode
 returns c =
@@ -54,11 +28,4 @@ returns c =
 pub mutual-row-spec : {M : Type 1} → statement M
 mutual-row-spec =
     tie.close
-    (tie.spec
-    get-requires
-    rows-requires
-    and-requires
-    together-requires
-    and-requires-2
-    drop-requires
-    returns)
+    (tie.spec get-requires (λ c κs. search needs) (λ c κs. search needs) (λ c κs. search needs) (λ c κs. search needs) drop-requires returns)

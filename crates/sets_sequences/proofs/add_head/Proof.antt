@@ -12,17 +12,6 @@ use Rattle.sets_sequences.specs.Heads.{HeadedTo, kind-rows, head-walked,
 use borrow.Author.Needs.{needs}
 use Rattle.sets_sequences.proofs.add_head.Statement.{statement}
 use Rattle.sets_sequences.proofs.add_head.Tie as tie
-use Rattle.sets_sequences.proofs.add_head.Reads as reads
-use Rattle.sets_sequences.proofs.add_head.Lts as lts
-use Rattle.known.proofs.fields.rank.Reads as rank-reads
-use Rattle.row_sets.proofs.and.Reads as and-reads
-use Rattle.row_sets.proofs.but_first.Reads as but-first-reads
-use Rattle.row_sets.proofs.first.Reads as first-reads
-use Rattle.row_sets.proofs.kept.get.Reads as get-reads
-use Rattle.row_sets.proofs.some.Reads as some-reads
-use Rattle.run.proofs.counted.Reads as counted-reads
-use Rattle.sets_sequences.proofs.join_if.Reads as join-if-reads
-use Rattle.sets_sequences.proofs.since.Reads as since-reads
 
 abbrev Inv-loop : tie.InvT-loop
 Inv-loop t n s h end w₀ counted rank left₀ w left = (length w ≡ length w₀) × (Walk left₀ left × HeadedTo (tableIn t n) n h (next left) w₀ w)
@@ -30,31 +19,15 @@ Inv-loop t n s h end w₀ counted rank left₀ w left = (length w ≡ length w�
 abbrev μ-loop : tie.MeasureT-loop
 μ-loop t n s h end w₀ counted rank left₀ w left = ROWS - next left
 
--- src/lib.rt:86:9
-counted-requires : tie.Need-counted-requires Inv-loop μ-loop
-counted-requires c κs = search needs
-
--- src/lib.rt:87:9
 rank-requires : tie.Need-rank-requires Inv-loop μ-loop
 rank-requires c κs = let b = few (c .before .before .before .pre .3 .opened) in omega (arith, c .before .before .before .pre .0)
 
--- src/lib.rt:89:9
 get-requires : tie.Need-get-requires Inv-loop μ-loop
 get-requires c κs = let b = few (c .before .before .before .before .before .pre .3 .opened) in let r = c .before .before .before .before .before .pre .3 .room in omega (arith, c .before .before .before .before .before .pre .0)
 
--- src/lib.rt:90:38
-cast-get : tie.Need-cast-get Inv-loop μ-loop
-cast-get c = search needs
-
--- src/lib.rt:90:9
 get-requires-2 : tie.Need-get-requires-2 Inv-loop μ-loop
 get-requires-2 c κs = let a = c .before .before .before .before .before .before .pre .3 .opened .space in omega arith
 
--- src/lib.rt:88:9
-and-requires : tie.Need-and-requires Inv-loop μ-loop
-and-requires c κs = search needs
-
--- src/lib.rt:92:5
 loop-holds : tie.Need-loop-holds Inv-loop μ-loop
 unfolding decode
 loop-holds c =
@@ -63,27 +36,15 @@ loop-holds c =
     let says = kind-rows o (pre .4) _ 4 _ _ _ (pre .0) (omega arith) (c .before .before .get .ensures) (c .before .get2 .ensures) (c .and .ensures) in
     (refl, head-begin _ _ _ (o .rows) (few o) _ (head-walked _ _ _ _ (o .rows) says) _)
 
--- src/lib.rt:92:11
-some-requires : tie.Need-some-requires Inv-loop μ-loop
-some-requires c κs = search needs
-
--- src/lib.rt:93:13
 first-requires : tie.Need-first-requires Inv-loop μ-loop
 first-requires c κs = sym (c .before .some .ensures) ∙ c .if1 .taken
 
--- src/lib.rt:94:9
 but-first-requires : tie.Need-but-first-requires Inv-loop μ-loop
 but-first-requires c κs = sym (c .before .before .some .ensures) ∙ c .before .if1 .taken
 
--- src/lib.rt:95:35
 rank-requires-2 : tie.Need-rank-requires-2 Inv-loop μ-loop
 rank-requires-2 c κs = c .before .first .ensures .bound
 
--- src/lib.rt:95:20
-since-requires : tie.Need-since-requires Inv-loop μ-loop
-since-requires c κs = search needs
-
--- src/lib.rt:96:9
 join-if-requires : tie.Need-join-if-requires Inv-loop μ-loop
 join-if-requires c κs =
     let pre = c .before .before .before .before .before .before .before .before .before .before .before .before .before .before .before .before .pre in
@@ -92,11 +53,9 @@ join-if-requires c κs =
     let r = pre .3 .room in
     (c .before .before .before .before .first .ensures .bound, omega (arith, pre .0), omega arith)
 
--- src/lib.rt:92:5
 loop-less : tie.Need-loop-less Inv-loop μ-loop
 loop-less c = walk-less (c .before .before .before .before .before .before .before .first .ensures) (c .before .before .before .before .before .before .but-first .ensures)
 
--- src/lib.rt:92:5
 loop-again : tie.Need-loop-again Inv-loop μ-loop
 unfolding decode
 loop-again c =
@@ -112,11 +71,9 @@ loop-again c =
           (near-is _ _ _ _ (pre .2) (m .1) (pre .1) k) join,
     )
 
--- src/lib.rt:82:1
 same-length : tie.Need-same-length Inv-loop μ-loop
 same-length c = c .before .before .loop .inv .0
 
--- src/lib.rt:82:1
 returns : tie.Need-returns Inv-loop μ-loop
 unfolding decode
 returns c =
@@ -128,23 +85,6 @@ returns c =
 pub add-head-spec : {M : Type 1} → statement M
 add-head-spec =
     tie.close
-    (tie.spec
-    Inv-loop
-    μ-loop
-    counted-requires
-    rank-requires
-    get-requires
-    cast-get
-    get-requires-2
-    and-requires
-    loop-holds
-    some-requires
-    first-requires
-    but-first-requires
-    rank-requires-2
-    since-requires
-    join-if-requires
-    loop-less
-    loop-again
-    same-length
-    returns)
+    (tie.spec Inv-loop μ-loop (λ c κs. search needs) rank-requires get-requires (λ c. search needs) get-requires-2 (λ c κs. search needs)
+    loop-holds (λ c κs. search needs) first-requires but-first-requires rank-requires-2 (λ c κs. search needs) join-if-requires loop-less
+    loop-again same-length returns)

@@ -11,17 +11,6 @@ use Rattle.sets_sequences.specs.Heads.{EndsTo, kind-rows, ends-walked, e
 use borrow.Author.Needs.{needs}
 use Rattle.sets_sequences.proofs.end_of.Statement.{statement}
 use Rattle.sets_sequences.proofs.end_of.Tie as tie
-use Rattle.sets_sequences.proofs.end_of.Reads as reads
-use Rattle.sets_sequences.proofs.end_of.Lts as lts
-use Rattle.known.proofs.fields.rank.Reads as rank-reads
-use Rattle.row_sets.proofs.and.Reads as and-reads
-use Rattle.row_sets.proofs.but_first.Reads as but-first-reads
-use Rattle.row_sets.proofs.first.Reads as first-reads
-use Rattle.row_sets.proofs.kept.get.Reads as get-reads
-use Rattle.row_sets.proofs.some.Reads as some-reads
-use Rattle.run.proofs.counted.Reads as counted-reads
-use Rattle.sets_sequences.proofs.lower.Reads as lower-reads
-use Rattle.sets_sequences.proofs.since.Reads as since-reads
 
 abbrev Inv-loop : tie.InvT-loop
 Inv-loop t n s h w counted rank left₀ end₀ left end = Walk left₀ left × EndsTo (tableIn t n) h (next left) end
@@ -29,66 +18,33 @@ Inv-loop t n s h w counted rank left₀ end₀ left end = Walk left₀ left × E
 abbrev μ-loop : tie.MeasureT-loop
 μ-loop t n s h w counted rank left₀ end₀ left end = ROWS - next left
 
--- src/lib.rt:65:9
-counted-requires : tie.Need-counted-requires Inv-loop μ-loop
-counted-requires c κs = search needs
-
--- src/lib.rt:66:9
 rank-requires : tie.Need-rank-requires Inv-loop μ-loop
 rank-requires c κs = let b = few (c .before .before .before .pre .1 .opened) in omega (arith, c .before .before .before .pre .0)
 
--- src/lib.rt:68:9
 get-requires : tie.Need-get-requires Inv-loop μ-loop
 get-requires c κs = let b = few (c .before .before .before .before .pre .1 .opened) in let r = c .before .before .before .before .pre .1 .room in omega (arith, c .before .before .before .before .pre .0)
 
--- src/lib.rt:69:38
-cast-get : tie.Need-cast-get Inv-loop μ-loop
-cast-get c = search needs
-
--- src/lib.rt:69:9
 get-requires-2 : tie.Need-get-requires-2 Inv-loop μ-loop
 get-requires-2 c κs = let a = c .before .before .before .before .before .pre .1 .opened .space in omega arith
 
--- src/lib.rt:67:9
-and-requires : tie.Need-and-requires Inv-loop μ-loop
-and-requires c κs = search needs
-
--- src/lib.rt:72:5
 loop-holds : tie.Need-loop-holds Inv-loop μ-loop
 unfolding decode
 loop-holds c =
     let o = c .before .before .before .before .before .before .before .pre .1 .opened in
     end-begin _ _ _ (ends-walked _ _ _ _ (o .rows) (kind-rows o (c .before .before .before .before .before .before .before .pre .2) _ 3 _ _ _ (c .before .before .before .before .before .before .before .pre .0) (omega arith) (c .before .before .get .ensures) (c .before .get2 .ensures) (c .and .ensures)))
 
--- src/lib.rt:72:11
-some-requires : tie.Need-some-requires Inv-loop μ-loop
-some-requires c κs = search needs
-
--- src/lib.rt:73:13
 first-requires : tie.Need-first-requires Inv-loop μ-loop
 first-requires c κs = sym (c .before .some .ensures) ∙ c .if1 .taken
 
--- src/lib.rt:74:9
 but-first-requires : tie.Need-but-first-requires Inv-loop μ-loop
 but-first-requires c κs = sym (c .before .before .some .ensures) ∙ c .before .if1 .taken
 
--- src/lib.rt:75:32
 rank-requires-2 : tie.Need-rank-requires-2 Inv-loop μ-loop
 rank-requires-2 c κs = c .before .first .ensures .bound
 
--- src/lib.rt:75:13
-since-requires : tie.Need-since-requires Inv-loop μ-loop
-since-requires c κs = search needs
-
--- src/lib.rt:76:9
-lower-requires : tie.Need-lower-requires Inv-loop μ-loop
-lower-requires c κs = search needs
-
--- src/lib.rt:72:5
 loop-less : tie.Need-loop-less Inv-loop μ-loop
 loop-less c = walk-less (c .before .before .before .before .first .ensures) (c .before .before .before .but-first .ensures)
 
--- src/lib.rt:72:5
 loop-again : tie.Need-loop-again Inv-loop μ-loop
 unfolding decode
 loop-again c =
@@ -99,7 +55,6 @@ loop-again c =
     end-turn _ _ _ (ends-walked _ _ _ _ (o .rows) says) _ _ (c .before .before .before .before .before .before .before .loop .inv) (c .before .before .before .before .first .ensures) (c .before .before .before .but-first .ensures) (m .0) (m .1)
     (since-is _ _ _ (c .before .before .before .before .before .before .before .before .before .before .before .before .counted .ensures) (c .before .before .rank2 .ensures) (c .before .before .before .before .before .before .before .before .before .before .before .rank .ensures) (c .before .since .ensures .0)) (c .before .since .ensures .1) (c .lower .ensures .0) (c .lower .ensures .1)
 
--- src/lib.rt:61:1
 returns : tie.Need-returns Inv-loop μ-loop
 unfolding decode
 returns c =
@@ -110,22 +65,6 @@ returns c =
 pub end-of-spec : {M : Type 1} → statement M
 end-of-spec =
     tie.close
-    (tie.spec
-    Inv-loop
-    μ-loop
-    counted-requires
-    rank-requires
-    get-requires
-    cast-get
-    get-requires-2
-    and-requires
-    loop-holds
-    some-requires
-    first-requires
-    but-first-requires
-    rank-requires-2
-    since-requires
-    lower-requires
-    loop-less
-    loop-again
-    returns)
+    (tie.spec Inv-loop μ-loop (λ c κs. search needs) rank-requires get-requires (λ c. search needs) get-requires-2 (λ c κs. search needs)
+    loop-holds (λ c κs. search needs) first-requires but-first-requires rank-requires-2 (λ c κs. search needs) (λ c κs. search needs)
+    loop-less loop-again returns)

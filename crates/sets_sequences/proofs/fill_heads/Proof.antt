@@ -1,8 +1,7 @@
-use mathlib.Core.Path.{_≡_, refl, sym, _∙_}
+use mathlib.Core.Path.{sym, _∙_}
 use Prim.Native.Nat.{_-_}
 use native.Mathlib.Omega.{arith}
 use Rattle.model.specs.Limits.{ROWS}
-use Rattle.model.specs.Table.{decode}
 use Rattle.run.specs.Layout.{tableIn}
 use Rattle.bits.specs.Within.{Within, within-refl, within-trans, within-widen, within-cleared}
 use Rattle.row_sets.specs.First.{next}
@@ -18,18 +17,6 @@ use Rattle.sets_sequences.specs.Heads.{HeadsTo, heads-begin, heads-turn,
 use borrow.Author.Needs.{needs}
 use Rattle.sets_sequences.proofs.fill_heads.Statement.{statement}
 use Rattle.sets_sequences.proofs.fill_heads.Tie as tie
-use Rattle.sets_sequences.proofs.fill_heads.Reads as reads
-use Rattle.sets_sequences.proofs.fill_heads.Lts as lts
-use Rattle.bits.proofs.clear.Reads as clear-reads
-use Rattle.known.proofs.rows.Reads as rows-reads
-use Rattle.row_sets.proofs.but_first.Reads as but-first-reads
-use Rattle.row_sets.proofs.first.Reads as first-reads
-use Rattle.row_sets.proofs.kept.put_bit.Reads as put-bit-reads
-use Rattle.row_sets.proofs.some.Reads as some-reads
-use Rattle.run.proofs.rows_of.Reads as rows-of-reads
-use Rattle.sets_sequences.proofs.add_head.Reads as add-head-reads
-use Rattle.sets_sequences.proofs.end_of.Reads as end-of-reads
-use Rattle.sets_sequences.proofs.first_byte.Reads as first-byte-reads
 
 abbrev Inv-loop : tie.InvT-loop
 Inv-loop t n s w₀ left₀ w left = Within HEADS HEADS-END w₀ w × (Walk left₀ left × HeadsTo (tableIn t n) n (next left) w)
@@ -37,42 +24,21 @@ Inv-loop t n s w₀ left₀ w left = Within HEADS HEADS-END w₀ w × (Walk left
 abbrev μ-loop : tie.MeasureT-loop
 μ-loop t n s w₀ left₀ w left = ROWS - next left
 
--- src/lib.rt:105:16
-rows-of-requires : tie.Need-rows-of-requires Inv-loop μ-loop
-rows-of-requires c κs = search needs
-
--- src/lib.rt:105:5
-first-byte-requires : tie.Need-first-byte-requires Inv-loop μ-loop
-first-byte-requires c κs = search needs
-
--- src/lib.rt:106:5
-clear-requires : tie.Need-clear-requires Inv-loop μ-loop
-clear-requires c κs = search needs
-
--- src/lib.rt:107:9
 rows-requires : tie.Need-rows-requires Inv-loop μ-loop
 rows-requires c κs = let a = c .before .before .before .before .before .before .before .before .pre .0 .opened .space in omega arith
 
--- src/lib.rt:108:5
 loop-holds : tie.Need-loop-holds Inv-loop μ-loop
 loop-holds c =
     let o = c .before .before .before .before .before .before .before .before .before .pre .0 .opened in
     let small = few o in
     (within-refl _ _ _, heads-begin _ _ small _ (rows-at (c .rows .ensures) (says-rows (o .known .tested .kinds .ranked))) (λ k j l. cleared HEADS _ (search needs) (c .before .before .before .clear .ensures) k j (omega arith)))
 
--- src/lib.rt:108:11
-some-requires : tie.Need-some-requires Inv-loop μ-loop
-some-requires c κs = search needs
-
--- src/lib.rt:109:13
 first-requires : tie.Need-first-requires Inv-loop μ-loop
 first-requires c κs = sym (c .before .some .ensures) ∙ c .if1 .taken
 
--- src/lib.rt:110:9
 but-first-requires : tie.Need-but-first-requires Inv-loop μ-loop
 but-first-requires c κs = sym (c .before .before .some .ensures) ∙ c .before .if1 .taken
 
--- src/lib.rt:111:9
 put-bit-requires : tie.Need-put-bit-requires Inv-loop μ-loop
 put-bit-requires c κs =
     let b = c .before .before .first .ensures .bound in
@@ -81,7 +47,6 @@ put-bit-requires c κs =
     let r = c .before .before .before .before .before .before .before .before .before .before .before .before .before .before .before .pre .0 .room in
     (omega arith, b)
 
--- src/lib.rt:112:13
 end-of-requires : tie.Need-end-of-requires Inv-loop μ-loop
 end-of-requires c κs =
     let pre = c .before .before .before .before .before .before .before .before .before .before .before .before .before .before .before .before .before .before .before .pre in
@@ -92,7 +57,6 @@ end-of-requires c κs =
     let f = within-trans (within-trans (within-cleared HEADS HEADS-END (omega arith) (c .before .before .before .before .before .before .before .before .before .before .before .before .before .clear .ensures)) (c .before .before .before .before .before .before .before .before .before .loop .inv .0)) (within-widen HEADS HEADS-END (omega arith) (omega arith) (c .before .before .before .put-bit .ensures .frame)) in
     (m .0, given-kept f (pre .0), grid-kept (λ h. absurd (omega arith)) f (pre .1))
 
--- src/lib.rt:113:9
 add-head-requires : tie.Need-add-head-requires Inv-loop μ-loop
 add-head-requires c κs =
     let pre = c .before .before .before .before .before .before .before .before .before .before .before .before .before .before .before .before .before .before .before .before .before .pre in
@@ -104,11 +68,9 @@ add-head-requires c κs =
     let bytes = rw (c .before .before .before .before .before .before .before .before .before .before .before .before .before .before .before .before .before .before .rows-of .ensures) at (c .before .before .before .before .before .before .before .before .before .before .before .before .before .before .before .before .before .first-byte .ensures) in
     (m .0, c .before .end-of .ensures, ranks-of _ _ _ _ bytes, given-kept f (pre .0), grid-kept (λ h. absurd (omega arith)) f (pre .1))
 
--- src/lib.rt:108:5
 loop-less : tie.Need-loop-less Inv-loop μ-loop
 loop-less c = walk-less (c .before .before .before .before .before .before .before .before .before .before .before .first .ensures) (c .before .before .before .before .before .before .before .before .before .before .but-first .ensures)
 
--- src/lib.rt:108:5
 loop-again : tie.Need-loop-again Inv-loop μ-loop
 loop-again c =
     let o = c .before .before .before .before .before .before .before .before .before .before .before .before .before .before .before .before .before .before .before .before .before .before .before .before .pre .0 .opened in
@@ -120,13 +82,11 @@ loop-again c =
       heads-turn _ _ (few o) _ (rows-at (c .before .before .before .before .before .before .before .before .before .before .before .before .before .before .before .rows .ensures) (says-rows (o .known .tested .kinds .ranked))) (inv .1) (c .before .before .before .before .before .before .before .before .before .before .before .first .ensures) (c .before .before .before .before .before .before .before .before .before .before .but-first .ensures) put add,
     )
 
--- src/lib.rt:101:1
 same-length : tie.Need-same-length Inv-loop μ-loop
 same-length c =
     let f = within-trans (within-cleared HEADS HEADS-END (omega arith) (c .before .before .before .before .before .before .clear .ensures)) (c .before .before .loop .inv .0) in
     f .len
 
--- src/lib.rt:101:1
 returns : tie.Need-returns Inv-loop μ-loop
 returns c =
     let o = c .before .before .before .before .before .before .before .before .before .before .before .before .pre .0 .opened in
@@ -135,21 +95,6 @@ returns c =
 pub fill-heads-spec : {M : Type 1} → statement M
 fill-heads-spec =
     tie.close
-    (tie.spec
-    Inv-loop
-    μ-loop
-    rows-of-requires
-    first-byte-requires
-    clear-requires
-    rows-requires
-    loop-holds
-    some-requires
-    first-requires
-    but-first-requires
-    put-bit-requires
-    end-of-requires
-    add-head-requires
-    loop-less
-    loop-again
-    same-length
-    returns)
+    (tie.spec Inv-loop μ-loop (λ c κs. search needs) (λ c κs. search needs) (λ c κs. search needs) rows-requires loop-holds
+    (λ c κs. search needs) first-requires but-first-requires put-bit-requires end-of-requires add-head-requires loop-less loop-again
+    same-length returns)

@@ -1,4 +1,4 @@
-use mathlib.Core.Path.{_≡_, sym, _∙_}
+use mathlib.Core.Path.{sym, _∙_}
 use native.Mathlib.Omega.{arith}
 use borrow.Author.Tests.{not-false}
 use Rattle.finite.specs.Logic.{not-out}
@@ -10,30 +10,16 @@ use Rattle.sets_sync.specs.Sync.{carried-own, carried-after}
 use borrow.Author.Needs.{needs}
 use Rattle.sets_sync.proofs.carried.Statement.{statement}
 use Rattle.sets_sync.proofs.carried.Tie as tie
-use Rattle.sets_sync.proofs.carried.Reads as reads
-use Rattle.sets_sync.proofs.carried.Lts as lts
-use Rattle.known.proofs.ask.after.Reads as after-reads
-use Rattle.known.proofs.ask.of_classes.Reads as of-classes-reads
-use Rattle.known.proofs.fields.classes.Reads as classes-reads
-use Rattle.known.proofs.rows.Reads as rows-reads
-use Rattle.row_sets.proofs.and.Reads as and-reads
-use Rattle.row_sets.proofs.has.Reads as has-reads
-use Rattle.row_sets.proofs.kept.get.Reads as get-reads
-use Rattle.row_sets.proofs.walk.union.Reads as union-reads
 
--- src/lib.rt:27:23
 rows-requires : tie.Need-rows-requires
 rows-requires c κs = let a = c .before .before .pre .1 .opened .space in omega arith
 
--- src/lib.rt:27:9
 has-requires : tie.Need-has-requires
 has-requires c κs = let b = few (c .before .before .before .pre .1 .opened) in omega (arith, c .before .before .before .pre .0)
 
--- src/lib.rt:28:9
 get-requires : tie.Need-get-requires
 get-requires c κs = let b = few (c .before .before .before .before .before .pre .1 .opened) in let r = c .before .before .before .before .before .pre .1 .room in omega (arith, c .before .before .before .before .before .pre .0)
 
--- src/lib.rt:28:9
 returns : tie.Need-returns
 unfolding decode
 returns c =
@@ -42,11 +28,9 @@ returns c =
     let e = c .before .before .has .ensures ∙ rows-in (rows-at (c .before .before .before .rows .ensures) (says-rows (o .known .tested .kinds .barrier))) _ (pre .0) in
     carried-own _ _ _ (pre .0) (sym e ∙ not-out _ (c .before .if1 .taken)) (pre .2) (c .get .ensures)
 
--- src/lib.rt:30:51
 classes-requires : tie.Need-classes-requires
 classes-requires c κs = let b = few (c .before .before .before .before .before .pre .1 .opened) in omega (arith, c .before .before .before .before .before .pre .0)
 
--- src/lib.rt:30:9
 of-classes-requires : tie.Need-of-classes-requires
 unfolding decode
 of-classes-requires c κs =
@@ -56,27 +40,15 @@ of-classes-requires c κs =
     let e = c .classes .ensures in
     (omega arith, o)
 
--- src/lib.rt:31:33
 after-requires : tie.Need-after-requires
 after-requires c κs = (c .before .before .before .before .before .before .before .pre .0, c .before .before .before .before .before .before .before .pre .1 .opened)
 
--- src/lib.rt:31:64
 rows-requires-2 : tie.Need-rows-requires-2
 rows-requires-2 c κs = let a = c .before .before .before .before .before .before .before .before .pre .1 .opened .space in omega arith
 
--- src/lib.rt:31:9
-and-requires : tie.Need-and-requires
-and-requires c κs = search needs
-
--- src/lib.rt:32:44
-and-requires-2 : tie.Need-and-requires-2
-and-requires-2 c κs = search needs
-
--- src/lib.rt:32:5
 union-requires : tie.Need-union-requires
 union-requires c κs = let r = c .before .before .before .before .before .before .before .before .before .before .before .pre .1 .room in omega arith
 
--- src/lib.rt:23:1
 returns-2 : tie.Need-returns-2
 unfolding decode
 returns-2 c =
@@ -89,16 +61,5 @@ returns-2 c =
 pub carried-spec : {M : Type 1} → statement M
 carried-spec =
     tie.close
-    (tie.spec
-    rows-requires
-    has-requires
-    get-requires
-    returns
-    classes-requires
-    of-classes-requires
-    after-requires
-    rows-requires-2
-    and-requires
-    and-requires-2
-    union-requires
-    returns-2)
+    (tie.spec rows-requires has-requires get-requires returns classes-requires of-classes-requires after-requires rows-requires-2
+    (λ c κs. search needs) (λ c κs. search needs) union-requires returns-2)

@@ -8,4 +8,5 @@ returns c = step-is _ _ _ _ _ _ _ (c .before .find .ensures .0) (c .grow .ensure
 
 pub number-row-spec : {M : Type 1} → statement M
 number-row-spec =
-    tie.close (tie.spec (λ c κs. search needs) (λ c. search needs) (λ c. search needs) (λ c. search needs) (λ c. search needs) (λ c κs. search needs) (λ c. search needs) (λ c. search needs) returns)
+    tie.close (tie.spec (λ c κs. search needs) (λ c. search needs) (λ c. search needs) (λ c. search needs) (λ c. search needs) (λ c κs. search needs)
+    (λ c. search needs) (λ c. search needs) returns)

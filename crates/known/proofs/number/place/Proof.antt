@@ -55,4 +55,5 @@ returns c =
 
 pub place-spec : {M : Type 1} → statement M
 place-spec =
-    tie.close (tie.spec Inv-loop μ-loop (λ c. search needs) (λ c κs. search needs) loop-holds (λ c κs. search needs) first-requires but-first-requires (λ c. search needs) (λ c. search needs) put-bit-requires loop-less loop-again (λ c. search needs) returns)
+    tie.close (tie.spec Inv-loop μ-loop (λ c. search needs) (λ c κs. search needs) loop-holds (λ c κs. search needs) first-requires but-first-requires
+    (λ c. search needs) (λ c. search needs) put-bit-requires loop-less loop-again (λ c. search needs) returns)

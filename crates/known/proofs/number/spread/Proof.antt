@@ -10,14 +10,6 @@ use Rattle.known.specs.Placed.{ofNumber, of-number-is}
 use borrow.Author.Needs.{needs}
 use Rattle.known.proofs.number.spread.Statement.{statement}
 use Rattle.known.proofs.number.spread.Tie as tie
-use Rattle.known.proofs.number.spread.Reads as reads
-use Rattle.known.proofs.number.spread.Lts as lts
-use Rattle.bits.proofs.clear.Reads as clear-reads
-use Rattle.row_sets.proofs.but_first.Reads as but-first-reads
-use Rattle.row_sets.proofs.first.Reads as first-reads
-use Rattle.row_sets.proofs.kept.get.Reads as get-reads
-use Rattle.row_sets.proofs.kept.put.Reads as put-reads
-use Rattle.row_sets.proofs.some.Reads as some-reads
 
 abbrev Inv-loop : tie.InvT-loop
 Inv-loop s₀ by loc base left₀ s left = (length s ≡ length s₀) × Filling base left₀ (ofNumber by loc) s₀ left s
@@ -25,85 +17,35 @@ Inv-loop s₀ by loc base left₀ s left = (length s ≡ length s₀) × Filling
 abbrev μ-loop : tie.MeasureT-loop
 μ-loop s₀ by loc base left₀ s left = ROWS - next left
 
--- src/number.rt:100:26
-add-clear : tie.Need-add-clear Inv-loop μ-loop
-add-clear c = search needs
-
--- src/number.rt:100:5
-clear-requires : tie.Need-clear-requires Inv-loop μ-loop
-clear-requires c κs = search needs
-
--- src/number.rt:102:5
 loop-holds : tie.Need-loop-holds Inv-loop μ-loop
 loop-holds c = (refl, fill-begin _ _ _ _ (search needs) (c .before .before .clear .ensures))
 
--- src/number.rt:102:11
-some-requires : tie.Need-some-requires Inv-loop μ-loop
-some-requires c κs = search needs
-
--- src/number.rt:103:13
 first-requires : tie.Need-first-requires Inv-loop μ-loop
 first-requires c κs = sym (c .before .some .ensures) ∙ c .if1 .taken
 
--- src/number.rt:104:9
 but-first-requires : tie.Need-but-first-requires Inv-loop μ-loop
 but-first-requires c κs = sym (c .before .before .some .ensures) ∙ c .before .if1 .taken
 
--- src/number.rt:105:17
-mul-k : tie.Need-mul-k Inv-loop μ-loop
-mul-k c = search needs
-
--- src/number.rt:105:17
-shared-slice-read-k : tie.Need-shared-slice-read-k Inv-loop μ-loop
-shared-slice-read-k c = search needs
-
--- src/number.rt:106:31
 get-requires : tie.Need-get-requires Inv-loop μ-loop
 get-requires c κs =
     let low = c .before .before .before .first .ensures in
     let small = c .before .before .before .before .before .before .before .before .before .before .before .before .before .before .pre .3 .each _ (walk-in (c .before .before .before .before .before .before .loop .inv .1 .walk) low) in
     omega (arith, small, c .before .before .before .before .before .before .before .before .before .before .before .before .before .before .pre .1)
 
--- src/number.rt:106:9
-put-requires : tie.Need-put-requires Inv-loop μ-loop
-put-requires c κs = search needs
-
--- src/number.rt:102:5
 loop-less : tie.Need-loop-less Inv-loop μ-loop
 loop-less c = walk-less (c .before .before .before .before .before .before .before .first .ensures) (c .before .before .before .before .before .before .but-first .ensures)
 
--- src/number.rt:102:5
 loop-again : tie.Need-loop-again Inv-loop μ-loop
 loop-again c =
     let inv = c .before .before .before .before .before .before .before .before .before .before .loop .inv in
     let put = c .before .before .put .ensures in
     (put .frame .len ∙ inv .0, fill-turn _ _ _ _ (inv .1) (c .before .before .before .before .before .before .before .first .ensures) (c .before .before .before .before .before .before .but-first .ensures) (of-number-is _ _ _ _ _ refl (c .before .before .before .get .ensures)) put)
 
--- src/number.rt:96:1
-same-length : tie.Need-same-length Inv-loop μ-loop
-same-length c = search needs
-
--- src/number.rt:96:1
 returns : tie.Need-returns Inv-loop μ-loop
 returns c = fill-end _ _ _ _ (c .before .before .before .before .before .clear .ensures) (sym (c .before .some .ensures) ∙ c .if1 .left) (c .before .before .loop .inv .1)
 
 pub spread-spec : {M : Type 1} → statement M
 spread-spec =
     tie.close
-    (tie.spec
-    Inv-loop
-    μ-loop
-    add-clear
-    clear-requires
-    loop-holds
-    some-requires
-    first-requires
-    but-first-requires
-    mul-k
-    shared-slice-read-k
-    get-requires
-    put-requires
-    loop-less
-    loop-again
-    same-length
-    returns)
+    (tie.spec Inv-loop μ-loop (λ c. search needs) (λ c κs. search needs) loop-holds (λ c κs. search needs) first-requires but-first-requires
+    (λ c. search needs) (λ c. search needs) get-requires (λ c κs. search needs) loop-less loop-again (λ c. search needs) returns)

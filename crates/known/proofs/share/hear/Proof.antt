@@ -1,4 +1,4 @@
-use mathlib.Core.Path.{_≡_, refl, sym, ap, _∙_}
+use mathlib.Core.Path.{_≡_, refl, _∙_}
 use Prim.Native.Nat.{_-_, _≤_}
 use native.Mathlib.Omega.{arith}
 use lib.ListN.{length}
@@ -7,9 +7,6 @@ use Rattle.known.specs.Hears.{HeardTo, heard-none, heard-more}
 use borrow.Author.Needs.{needs}
 use Rattle.known.proofs.share.hear.Statement.{statement}
 use Rattle.known.proofs.share.hear.Tie as tie
-use Rattle.known.proofs.share.hear.Reads as reads
-use Rattle.known.proofs.share.hear.Lts as lts
-use Rattle.known.proofs.share.hear_if.Reads as hear-if-reads
 
 abbrev Inv-loop : tie.InvT-loop
 Inv-loop s₀ a₀ s a = (a ≤ AGENTS) × (length s ≡ length s₀) × HeardTo a s₀ s
@@ -17,34 +14,15 @@ Inv-loop s₀ a₀ s a = (a ≤ AGENTS) × (length s ≡ length s₀) × HeardTo
 abbrev μ-loop : tie.MeasureT-loop
 μ-loop s₀ a₀ s a = AGENTS - a
 
--- src/share.rt:130:5
 loop-holds : tie.Need-loop-holds Inv-loop μ-loop
 loop-holds c = (search needs, refl, heard-none _)
 
--- src/share.rt:131:9
-hear-if-requires : tie.Need-hear-if-requires Inv-loop μ-loop
-hear-if-requires c κs = search needs
-
--- src/share.rt:130:9
-add-a : tie.Need-add-a Inv-loop μ-loop
-add-a c = search needs
-
--- src/share.rt:130:5
-loop-less : tie.Need-loop-less Inv-loop μ-loop
-loop-less c = search needs
-
--- src/share.rt:130:5
 loop-again : tie.Need-loop-again Inv-loop μ-loop
 loop-again c =
     let inv = c .before .before .before .before .before .loop .inv in
     let f = c .before .before .hear-if .ensures in
     (search needs, f .frame .len ∙ inv .1, heard-more (search needs) (inv .2) f)
 
--- src/share.rt:126:1
-same-length : tie.Need-same-length Inv-loop μ-loop
-same-length c = search needs
-
--- src/share.rt:126:1
 returns : tie.Need-returns Inv-loop μ-loop
 returns c =
     let e : c .before .loop .a ≡ AGENTS = omega arith in
@@ -53,13 +31,5 @@ returns c =
 pub hear-spec : {M : Type 1} → statement M
 hear-spec =
     tie.close
-    (tie.spec
-    Inv-loop
-    μ-loop
-    loop-holds
-    hear-if-requires
-    add-a
-    loop-less
-    loop-again
-    same-length
+    (tie.spec Inv-loop μ-loop loop-holds (λ c κs. search needs) (λ c. search needs) (λ c. search needs) loop-again (λ c. search needs)
     returns)

@@ -12,4 +12,5 @@ returns-2 c = if-none _ _ _ _ (c .before .before .get .ensures) (sym (c .before 
 
 pub share-if-spec : {M : Type 1} → statement M
 share-if-spec =
-    tie.close (tie.spec (λ c. search needs) (λ c κs. search needs) (λ c κs. search needs) (λ c κs. search needs) (λ c. search needs) returns (λ c. search needs) returns-2)
+    tie.close (tie.spec (λ c. search needs) (λ c κs. search needs) (λ c κs. search needs) (λ c κs. search needs) (λ c. search needs) returns
+    (λ c. search needs) returns-2)

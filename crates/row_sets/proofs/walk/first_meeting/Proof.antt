@@ -50,4 +50,5 @@ returns-2 c = search-end _ _ (meets-off _ _ _ _) _ (sym (c .before .some .ensure
 
 pub first-meeting-spec : {M : Type 1} → statement M
 first-meeting-spec =
-    tie.close (tie.spec Inv-loop μ-loop loop-holds (λ c κs. search needs) first-requires but-first-requires (λ c κs. search needs) (λ c κs. search needs) (λ c κs. search needs) returns loop-less loop-again returns-2)
+    tie.close (tie.spec Inv-loop μ-loop loop-holds (λ c κs. search needs) first-requires but-first-requires (λ c κs. search needs)
+    (λ c κs. search needs) (λ c κs. search needs) returns loop-less loop-again returns-2)

@@ -37,4 +37,5 @@ returns c = gather-end _ _ (leads-off _ _ _) _ _ (sym (c .before .some .ensures)
 
 pub union-spec : {M : Type 1} → statement M
 union-spec =
-    tie.close (tie.spec Inv-loop μ-loop (λ c κs. search needs) loop-holds (λ c κs. search needs) first-requires but-first-requires (λ c κs. search needs) (λ c κs. search needs) loop-less loop-again returns)
+    tie.close (tie.spec Inv-loop μ-loop (λ c κs. search needs) loop-holds (λ c κs. search needs) first-requires but-first-requires
+    (λ c κs. search needs) (λ c κs. search needs) loop-less loop-again returns)

@@ -5,14 +5,7 @@ use Rattle.sets_mutual.specs.Later.{later-rows}
 use borrow.Author.Needs.{needs}
 use Rattle.sets_mutual.proofs.later.later_row.Statement.{statement}
 use Rattle.sets_mutual.proofs.later.later_row.Tie as tie
-use Rattle.sets_mutual.proofs.later.later_row.Reads as reads
-use Rattle.sets_mutual.proofs.later.later_row.Lts as lts
-use Rattle.known.proofs.rows.Reads as rows-reads
-use Rattle.row_sets.proofs.and.Reads as and-reads
-use Rattle.row_sets.proofs.kept.get.Reads as get-reads
-use Rattle.sets_mutual.proofs.later.later_than.Reads as later-than-reads
 
--- src/later.rt:63:33
 get-requires : tie.Need-get-requires
 get-requires c κs =
     let pre = c .before .before .pre in
@@ -20,19 +13,12 @@ get-requires c κs =
     let b = few (pre .2 .opened) in
     omega (arith, pre .0)
 
--- src/later.rt:63:64
 rows-requires : tie.Need-rows-requires
 rows-requires c κs = let a = c .before .before .before .pre .2 .opened .space in omega arith
 
--- src/later.rt:63:9
-and-requires : tie.Need-and-requires
-and-requires c κs = search needs
-
--- src/later.rt:64:5
 later-than-requires : tie.Need-later-than-requires
 later-than-requires c κs = let b = few (c .before .before .before .before .before .pre .2 .opened) in omega (arith, c .before .before .before .before .before .pre .0)
 
--- src/later.rt:58:1
 returns : tie.Need-returns
 unfolding decode
 returns c =
@@ -41,4 +27,4 @@ returns c =
 
 pub later-row-spec : {M : Type 1} → statement M
 later-row-spec =
-    tie.close (tie.spec get-requires rows-requires and-requires later-than-requires returns)
+    tie.close (tie.spec get-requires rows-requires (λ c κs. search needs) later-than-requires returns)

@@ -1,9 +1,8 @@
-use mathlib.Core.Path.{_≡_, refl, sym, _∙_}
+use mathlib.Core.Path.{sym, _∙_}
 use Prim.Native.Nat.{_-_}
 use native.Mathlib.Omega.{arith}
 use Rattle.finite.specs.Logic.{split}
 use Rattle.model.specs.Limits.{ROWS}
-use Rattle.model.specs.Table.{decode}
 use Rattle.run.specs.Layout.{tableIn}
 use Rattle.bits.specs.Within.{Within, within-refl, within-trans, within-cleared}
 use Rattle.row_sets.specs.First.{next}
@@ -20,15 +19,6 @@ use Rattle.sets_sequences.specs.Taken.{TakenTo, taken-begin, taken-step,
 use borrow.Author.Needs.{needs}
 use Rattle.sets_sequences.proofs.taken.fill_taken.Statement.{statement}
 use Rattle.sets_sequences.proofs.taken.fill_taken.Tie as tie
-use Rattle.sets_sequences.proofs.taken.fill_taken.Reads as reads
-use Rattle.sets_sequences.proofs.taken.fill_taken.Lts as lts
-use Rattle.bits.proofs.clear.Reads as clear-reads
-use Rattle.known.proofs.rows.Reads as rows-reads
-use Rattle.row_sets.proofs.and.Reads as and-reads
-use Rattle.row_sets.proofs.but_first.Reads as but-first-reads
-use Rattle.row_sets.proofs.first.Reads as first-reads
-use Rattle.row_sets.proofs.some.Reads as some-reads
-use Rattle.sets_sequences.proofs.taken.take_from.Reads as take-from-reads
 
 abbrev Inv-loop : tie.InvT-loop
 Inv-loop t n s w₀ left₀ w left = Within TAKEN TAKEN-END w₀ w × (Walk left₀ left × TakenTo (tableIn t n) n (next left) w)
@@ -36,42 +26,24 @@ Inv-loop t n s w₀ left₀ w left = Within TAKEN TAKEN-END w₀ w × (Walk left
 abbrev μ-loop : tie.MeasureT-loop
 μ-loop t n s w₀ left₀ w left = ROWS - next left
 
--- src/taken.rt:77:5
-clear-requires : tie.Need-clear-requires Inv-loop μ-loop
-clear-requires c κs = search needs
-
--- src/taken.rt:78:34
 rows-requires : tie.Need-rows-requires Inv-loop μ-loop
 rows-requires c κs = let a = c .before .before .before .before .before .before .pre .0 .opened .space in omega arith
 
--- src/taken.rt:78:65
 rows-requires-2 : tie.Need-rows-requires-2 Inv-loop μ-loop
 rows-requires-2 c κs = let a = c .before .before .before .before .before .before .before .pre .0 .opened .space in omega arith
 
--- src/taken.rt:78:9
-and-requires : tie.Need-and-requires Inv-loop μ-loop
-and-requires c κs = search needs
-
--- src/taken.rt:79:5
 loop-holds : tie.Need-loop-holds Inv-loop μ-loop
 loop-holds c =
     let o = c .before .before .before .before .before .before .before .before .before .pre .0 .opened in
     let small = few o in
     (within-refl _ _ _, taken-begin _ _ (o .rows) small _ (rows-and (rows-at (c .before .before .rows .ensures) (says-rows (o .known .tested .kinds .atomic))) (rows-at (c .before .rows2 .ensures) (says-rows (o .known .tested .accesses .reads))) (c .and .ensures)) (λ k j l. cleared TAKEN _ (search needs) (c .before .before .before .before .before .clear .ensures) k j (omega arith)))
 
--- src/taken.rt:79:11
-some-requires : tie.Need-some-requires Inv-loop μ-loop
-some-requires c κs = search needs
-
--- src/taken.rt:80:13
 first-requires : tie.Need-first-requires Inv-loop μ-loop
 first-requires c κs = sym (c .before .some .ensures) ∙ c .if1 .taken
 
--- src/taken.rt:81:9
 but-first-requires : tie.Need-but-first-requires Inv-loop μ-loop
 but-first-requires c κs = sym (c .before .before .some .ensures) ∙ c .before .if1 .taken
 
--- src/taken.rt:82:9
 take-from-requires : tie.Need-take-from-requires Inv-loop μ-loop
 take-from-requires c κs =
     let pre = c .before .before .before .before .before .before .before .before .before .before .before .before .before .before .before .pre in
@@ -87,11 +59,9 @@ take-from-requires c κs =
       heads = grid-kept (λ h. absurd (omega arith)) f (pre .2);
     }
 
--- src/taken.rt:79:5
 loop-less : tie.Need-loop-less Inv-loop μ-loop
 loop-less c = walk-less (c .before .before .before .before .before .first .ensures) (c .before .before .before .before .but-first .ensures)
 
--- src/taken.rt:79:5
 loop-again : tie.Need-loop-again Inv-loop μ-loop
 loop-again c =
     let o = c .before .before .before .before .before .before .before .before .before .before .before .before .before .before .before .before .before .before .pre .0 .opened in
@@ -100,13 +70,11 @@ loop-again c =
     let says = rows-and (rows-at (c .before .before .before .before .before .before .before .before .before .before .before .rows .ensures) (says-rows (o .known .tested .kinds .atomic))) (rows-at (c .before .before .before .before .before .before .before .before .before .before .rows2 .ensures) (says-rows (o .known .tested .accesses .reads))) (c .before .before .before .before .before .before .before .before .before .and .ensures) in
     (within-trans (inv .0) (step-frame _ _ (o .rows) (few o) _ says take), taken-step _ _ (o .rows) (few o) _ says (inv .1) (c .before .before .before .before .before .first .ensures) (c .before .before .before .before .but-first .ensures) take)
 
--- src/taken.rt:72:1
 same-length : tie.Need-same-length Inv-loop μ-loop
 same-length c =
     let f = within-trans (within-cleared TAKEN TAKEN-END (omega arith) (c .before .before .before .before .before .before .before .before .clear .ensures)) (c .before .before .loop .inv .0) in
     f .len
 
--- src/taken.rt:72:1
 returns : tie.Need-returns Inv-loop μ-loop
 returns c =
     let o = c .before .before .before .before .before .before .before .before .before .before .before .before .pre .0 .opened in
@@ -115,19 +83,5 @@ returns c =
 pub fill-taken-spec : {M : Type 1} → statement M
 fill-taken-spec =
     tie.close
-    (tie.spec
-    Inv-loop
-    μ-loop
-    clear-requires
-    rows-requires
-    rows-requires-2
-    and-requires
-    loop-holds
-    some-requires
-    first-requires
-    but-first-requires
-    take-from-requires
-    loop-less
-    loop-again
-    same-length
-    returns)
+    (tie.spec Inv-loop μ-loop (λ c κs. search needs) rows-requires rows-requires-2 (λ c κs. search needs) loop-holds (λ c κs. search needs)
+    first-requires but-first-requires take-from-requires loop-less loop-again same-length returns)

@@ -5,21 +5,10 @@ use Rattle.sets_sequences.specs.Taken.{gets-rows, class-access}
 use borrow.Author.Needs.{needs}
 use Rattle.sets_sequences.proofs.taken.getters.Statement.{statement}
 use Rattle.sets_sequences.proofs.taken.getters.Tie as tie
-use Rattle.sets_sequences.proofs.taken.getters.Reads as reads
-use Rattle.sets_sequences.proofs.taken.getters.Lts as lts
-use Rattle.known.proofs.ask.after.Reads as after-reads
-use Rattle.known.proofs.fields.class.Reads as class-reads
-use Rattle.known.proofs.rows.Reads as rows-reads
-use Rattle.row_sets.proofs.and.Reads as and-reads
-use Rattle.row_sets.proofs.bit.Reads as bit-reads
-use Rattle.row_sets.proofs.kept.get.Reads as get-reads
-use Rattle.row_sets.proofs.or.Reads as or-reads
 
--- src/taken.rt:27:46
 class-requires : tie.Need-class-requires
 class-requires c κs = let b = few (c .before .pre .2) in omega (arith, c .before .pre .0)
 
--- src/taken.rt:27:9
 get-requires : tie.Need-get-requires
 unfolding decode
 get-requires c κs =
@@ -30,39 +19,18 @@ get-requires c κs =
     let a = o .space in
     omega arith
 
--- src/taken.rt:28:31
 after-requires : tie.Need-after-requires
 after-requires c κs = (c .before .before .before .pre .0, c .before .before .before .pre .2)
 
--- src/taken.rt:28:62
 rows-requires : tie.Need-rows-requires
 rows-requires c κs = let a = c .before .before .before .before .pre .2 .space in omega arith
 
--- src/taken.rt:28:9
-and-requires : tie.Need-and-requires
-and-requires c κs = search needs
-
--- src/taken.rt:29:28
-and-requires-2 : tie.Need-and-requires-2
-and-requires-2 c κs = search needs
-
--- src/taken.rt:29:57
 bit-requires : tie.Need-bit-requires
 bit-requires c κs = let b = few (c .before .before .before .before .before .before .before .pre .2) in omega (arith, c .before .before .before .before .before .before .before .pre .0)
 
--- src/taken.rt:29:9
-or-requires : tie.Need-or-requires
-or-requires c κs = search needs
-
--- src/taken.rt:30:24
 rows-requires-2 : tie.Need-rows-requires-2
 rows-requires-2 c κs = let a = c .before .before .before .before .before .before .before .before .before .pre .2 .space in omega arith
 
--- src/taken.rt:30:5
-and-requires-3 : tie.Need-and-requires-3
-and-requires-3 c κs = search needs
-
--- src/taken.rt:23:1
 returns : tie.Need-returns
 unfolding decode
 returns c =
@@ -72,15 +40,5 @@ returns c =
 pub getters-spec : {M : Type 1} → statement M
 getters-spec =
     tie.close
-    (tie.spec
-    class-requires
-    get-requires
-    after-requires
-    rows-requires
-    and-requires
-    and-requires-2
-    bit-requires
-    or-requires
-    rows-requires-2
-    and-requires-3
-    returns)
+    (tie.spec class-requires get-requires after-requires rows-requires (λ c κs. search needs) (λ c κs. search needs) bit-requires
+    (λ c κs. search needs) rows-requires-2 (λ c κs. search needs) returns)

@@ -10,14 +10,6 @@ use Rattle.sets_sequences.specs.Taken.{TakesTo, heads-of, take-begin, ta
 use borrow.Author.Needs.{needs}
 use Rattle.sets_sequences.proofs.taken.join_heads.Statement.{statement}
 use Rattle.sets_sequences.proofs.taken.join_heads.Tie as tie
-use Rattle.sets_sequences.proofs.taken.join_heads.Reads as reads
-use Rattle.sets_sequences.proofs.taken.join_heads.Lts as lts
-use Rattle.row_sets.proofs.and.Reads as and-reads
-use Rattle.row_sets.proofs.but_first.Reads as but-first-reads
-use Rattle.row_sets.proofs.first.Reads as first-reads
-use Rattle.row_sets.proofs.kept.get.Reads as get-reads
-use Rattle.row_sets.proofs.kept.join.Reads as join-reads
-use Rattle.row_sets.proofs.some.Reads as some-reads
 
 abbrev Inv-loop : tie.InvT-loop
 Inv-loop t n y source x w₀ left₀ w left = (length w ≡ length w₀) × (Walk left₀ left × TakesTo (tableIn t n) n y source (next left) w₀ w)
@@ -25,45 +17,29 @@ Inv-loop t n y source x w₀ left₀ w left = (length w ≡ length w₀) × (Wal
 abbrev μ-loop : tie.MeasureT-loop
 μ-loop t n y source x w₀ left₀ w left = ROWS - next left
 
--- src/taken.rt:39:9
 get-requires : tie.Need-get-requires Inv-loop μ-loop
 get-requires c κs = let pre = c .before .before .pre in omega (arith, pre .few, pre .writer, pre .room)
 
--- src/taken.rt:40:9
 get-requires-2 : tie.Need-get-requires-2 Inv-loop μ-loop
 get-requires-2 c κs = let pre = c .before .before .before .before .pre in omega (arith, pre .few, pre .reader, pre .room)
 
--- src/taken.rt:38:9
-and-requires : tie.Need-and-requires Inv-loop μ-loop
-and-requires c κs = search needs
-
--- src/taken.rt:42:5
 loop-holds : tie.Need-loop-holds Inv-loop μ-loop
 loop-holds c =
     let pre = c .before .before .before .before .before .before .pre in
     (refl, take-begin _ _ _ _ (pre .few) _ (heads-of _ (pre .heads) (pre .mutuals) _ _ _ _ _ (pre .reader) (pre .writer) (c .before .before .before .get .ensures) (c .before .get2 .ensures) (c .and .ensures)) _)
 
--- src/taken.rt:42:11
-some-requires : tie.Need-some-requires Inv-loop μ-loop
-some-requires c κs = search needs
-
--- src/taken.rt:43:13
 first-requires : tie.Need-first-requires Inv-loop μ-loop
 first-requires c κs = sym (c .before .some .ensures) ∙ c .if1 .taken
 
--- src/taken.rt:44:9
 but-first-requires : tie.Need-but-first-requires Inv-loop μ-loop
 but-first-requires c κs = sym (c .before .before .some .ensures) ∙ c .before .if1 .taken
 
--- src/taken.rt:45:9
 join-requires : tie.Need-join-requires Inv-loop μ-loop
 join-requires c κs = omega (arith, c .before .before .first .ensures .bound, c .before .before .before .before .before .loop .inv .0, c .before .before .before .before .before .before .before .before .before .before .before .before .pre .room)
 
--- src/taken.rt:42:5
 loop-less : tie.Need-loop-less Inv-loop μ-loop
 loop-less c = walk-less (c .before .before .before .before .before .first .ensures) (c .before .before .before .before .but-first .ensures)
 
--- src/taken.rt:42:5
 loop-again : tie.Need-loop-again Inv-loop μ-loop
 loop-again c =
     let pre = c .before .before .before .before .before .before .before .before .before .before .before .before .before .before .before .pre in
@@ -71,11 +47,9 @@ loop-again c =
     let join = c .before .before .join .ensures in
     (join .frame .len ∙ inv .0, take-turn _ _ _ _ (pre .few) _ (heads-of _ (pre .heads) (pre .mutuals) _ _ _ _ _ (pre .reader) (pre .writer) (c .before .before .before .before .before .before .before .before .before .before .before .before .get .ensures) (c .before .before .before .before .before .before .before .before .before .before .get2 .ensures) (c .before .before .before .before .before .before .before .before .before .and .ensures)) _ (inv .1) (c .before .before .before .before .before .first .ensures) (c .before .before .before .before .but-first .ensures) (pre .getters) join)
 
--- src/taken.rt:34:1
 same-length : tie.Need-same-length Inv-loop μ-loop
 same-length c = c .before .before .loop .inv .0
 
--- src/taken.rt:34:1
 returns : tie.Need-returns Inv-loop μ-loop
 returns c =
     let pre = c .before .before .before .before .before .before .before .before .before .pre in
@@ -84,18 +58,5 @@ returns c =
 pub join-heads-spec : {M : Type 1} → statement M
 join-heads-spec =
     tie.close
-    (tie.spec
-    Inv-loop
-    μ-loop
-    get-requires
-    get-requires-2
-    and-requires
-    loop-holds
-    some-requires
-    first-requires
-    but-first-requires
-    join-requires
-    loop-less
-    loop-again
-    same-length
-    returns)
+    (tie.spec Inv-loop μ-loop get-requires get-requires-2 (λ c κs. search needs) loop-holds (λ c κs. search needs) first-requires
+    but-first-requires join-requires loop-less loop-again same-length returns)

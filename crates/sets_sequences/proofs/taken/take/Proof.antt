@@ -1,45 +1,31 @@
-use mathlib.Core.Path.{_≡_, refl, sym, _∙_}
+use mathlib.Core.Path.{sym, _∙_}
 use Rattle.model.specs.Table.{decode}
 use Rattle.known.specs.Ask.{few}
 use Rattle.sets_sequences.specs.Taken.{take-none}
 use borrow.Author.Needs.{needs}
 use Rattle.sets_sequences.proofs.taken.take.Statement.{statement}
 use Rattle.sets_sequences.proofs.taken.take.Tie as tie
-use Rattle.sets_sequences.proofs.taken.take.Reads as reads
-use Rattle.sets_sequences.proofs.taken.take.Lts as lts
-use Rattle.row_sets.proofs.some.Reads as some-reads
-use Rattle.sets_sequences.proofs.taken.getters.Reads as getters-reads
-use Rattle.sets_sequences.proofs.taken.join_heads.Reads as join-heads-reads
 
--- src/taken.rt:54:9
 getters-requires : tie.Need-getters-requires
 unfolding decode
 getters-requires c κs = let r = c .before .before .pre .1 in (r .reader, r .atomic, r .given .opened)
 
--- src/taken.rt:55:8
-some-requires : tie.Need-some-requires
-some-requires c κs = search needs
-
--- src/taken.rt:56:9
 join-heads-requires : tie.Need-join-heads-requires
 join-heads-requires c κs =
     let pre = c .before .before .before .before .before .before .pre in
     let r = pre .1 in
     record { few = few (r .given .opened); reader = r .reader; writer = pre .0; room = r .given .room; getters = c .before .before .before .getters .ensures; mutuals = r .mutuals; heads = r .heads }
 
--- src/taken.rt:50:1
 same-length : tie.Need-same-length
 same-length c = c .before .before .join-heads .ensures .frame .len
 
--- src/taken.rt:50:1
 returns : tie.Need-returns
 returns c = c .before .before .join-heads .ensures
 
--- src/taken.rt:50:1
 returns-2 : tie.Need-returns-2
 returns-2 c = take-none _ (few (c .before .before .before .before .before .pre .1 .given .opened)) (c .before .before .getters .ensures) (sym (c .before .some .ensures) ∙ c .if1 .left)
 
 pub take-spec : {M : Type 1} → statement M
 take-spec =
     tie.close
-    (tie.spec getters-requires some-requires join-heads-requires same-length returns returns-2)
+    (tie.spec getters-requires (λ c κs. search needs) join-heads-requires same-length returns returns-2)

@@ -2,32 +2,22 @@ use native.Mathlib.Omega.{arith}
 use Rattle.model.specs.Table.{decode}
 use Rattle.known.specs.Ask.{few}
 use Rattle.sets_sequences.specs.Taken.{from-row, from-none, source-is}
-use borrow.Author.Needs.{needs}
 use Rattle.sets_sequences.proofs.taken.take_from.Statement.{statement}
 use Rattle.sets_sequences.proofs.taken.take_from.Tie as tie
-use Rattle.sets_sequences.proofs.taken.take_from.Reads as reads
-use Rattle.sets_sequences.proofs.taken.take_from.Lts as lts
-use Rattle.known.proofs.fields.source.Reads as source-reads
-use Rattle.sets_sequences.proofs.taken.take.Reads as take-reads
 
--- src/taken.rt:65:9
 source-requires : tie.Need-source-requires
 source-requires c κs = let r = c .before .before .pre in let b = few (r .given .opened) in omega (arith, r .reader)
 
--- src/taken.rt:67:9
 take-requires : tie.Need-take-requires
 take-requires c κs = (c .before .if1 .taken, c .before .before .before .before .before .pre)
 
--- src/taken.rt:61:1
 same-length : tie.Need-same-length
 same-length c = c .before .before .take .ensures .frame .len
 
--- src/taken.rt:61:1
 returns : tie.Need-returns
 unfolding decode
 returns c = from-row (source-is _ _ (c .before .before .before .before .before .before .before .before .pre .atomic) (c .before .before .before .before .before .source .ensures)) (c .before .before .before .before .if1 .taken) (c .before .before .take .ensures)
 
--- src/taken.rt:61:1
 returns-2 : tie.Need-returns-2
 unfolding decode
 returns-2 c = from-none _ (source-is _ _ (c .before .before .before .before .pre .atomic) (c .before .source .ensures)) (c .if1 .left)

@@ -1,3 +1,0 @@
-pub mod Down
-pub mod System
-pub mod Order

@@ -5,7 +5,7 @@ use crate::read::{Given, Unread};
 use crate::Status;
 use stramashly::{Checker, FillAnswer, BLANK};
 use text::remade;
-use words::{edited, stepped, Edit, Field, Run, Step};
+use words::{edited, parse_steps, stepped, Edit, Field, Run, Step};
 
 /// How a table is made.
 #[derive(Clone, Debug, PartialEq, Eq)]
@@ -89,9 +89,7 @@ fn filled(checker: &mut Checker, table: &[u8]) -> Result<Vec<u8>, (Status, Unrea
 /// The steps of an edit: words like `row 2 flags 3`, several with semicolons
 /// between them.
 pub fn steps(words: &[&str]) -> Result<Vec<Step>, String> {
-    let parts = words.iter().flat_map(|word| word.split(';'));
-    let parts = parts.map(str::trim).filter(|part| !part.is_empty());
-    let steps: Vec<Step> = parts.map(str::parse).collect::<Result<_, _>>()?;
+    let steps = parse_steps(&words.join(";"))?;
     if steps.is_empty() {
         return Err("edit takes one table and what is to be changed, like 'row 2 flags 3'".into());
     }

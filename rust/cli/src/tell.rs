@@ -50,12 +50,12 @@ pub fn tell(
             Ok(refusal.map_or(Status::Fine, |_| Status::Refused))
         }
         Telling::Explain => {
-            let explanation = explain_noted(table, notes, checker);
+            let explanation = explain_noted(table, notes, checker, false);
             *text += &explanation.text();
             Ok(status(&explanation))
         }
         Telling::Page { is_all } => {
-            let explanation = explain_noted(table, notes, checker);
+            let explanation = explain_noted(table, notes, checker, is_all);
             *text += &page(table, &explanation, is_all);
             Ok(status(&explanation))
         }

@@ -2,9 +2,10 @@
 //! the proved library's own; the rest comes from the second implementation.
 
 use crate::account::Checked;
-use crate::cure::{search, Cure};
-use crate::goal::Goal;
 use crate::judge::Judge;
+use crate::mend::cure::Cure;
+use crate::mend::goal::Goal;
+use crate::mend::search::search;
 use crate::notes::Notes;
 use crate::run::Run;
 use crate::{inconsistent, race, race_free, refusal};
@@ -65,6 +66,8 @@ pub struct Explanation {
     pub chains: Chains,
     /// What the table's text says besides.
     pub notes: Notes,
+    /// Whether all is told.
+    pub is_all: bool,
 }
 
 impl Explanation {
@@ -81,11 +84,17 @@ impl Explanation {
 
 /// Explains a table's answer, whatever its bytes.
 pub fn explain(table: &[u8], checker: &mut dyn Judge) -> Explanation {
-    explain_noted(table, &Notes::default(), checker)
+    explain_noted(table, &Notes::default(), checker, false)
 }
 
-/// Explains the answer to a table of which more is noted.
-pub fn explain_noted(table: &[u8], notes: &Notes, checker: &mut dyn Judge) -> Explanation {
+/// Explains the answer to a table of which more is noted; at length if all is
+/// wanted.
+pub fn explain_noted(
+    table: &[u8],
+    notes: &Notes,
+    checker: &mut dyn Judge,
+    is_all: bool,
+) -> Explanation {
     let mut state = State::new();
     let chains = checker.chains();
     let second = state.check_with(chains, table, WORK_WORDS, CYCLE_NUMBERS);
@@ -104,6 +113,7 @@ pub fn explain_noted(table: &[u8], notes: &Notes, checker: &mut dyn Judge) -> Ex
         cures: Vec::new(),
         chains,
         notes: notes.clone(),
+        is_all,
     };
     if second == explanation.answer && !Run::is_known(table) && !second.starts_with("refused") {
         explanation.lines = vec![format!(
@@ -142,7 +152,7 @@ fn tell(table: &[u8], checked: Checked, checker: &mut dyn Judge, explanation: &m
         }
         Shown::Race(goal) => {
             let found = search(table, checked, goal, checker);
-            let mut lines = race::lines(checked, goal, &found);
+            let mut lines = race::lines(checked, goal, &found, explanation.is_all);
             // What a rule lacks is said of single operations.
             if explanation.chains == Chains::On {
                 lines.push("Chains are on: none of several availability or visibility operations orders them either.".to_string());

@@ -3,9 +3,9 @@
 
 use crate::account::Checked;
 use crate::explain::{shown, Shown};
-use crate::goal::Goal;
 use crate::headline::headline;
 use crate::judge::Judge;
+use crate::mend::goal::Goal;
 use crate::notes::Notes;
 use crate::race::races;
 use crate::refusal;

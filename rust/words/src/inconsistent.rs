@@ -2,9 +2,9 @@
 //! and what such a run may mean.
 
 use crate::account::Checked;
-use crate::edit::{edited, Edit, Field};
 use crate::explain::Shown;
 use crate::judge::Judge;
+use crate::mend::edit::{edited, Edit, Field};
 use crate::names;
 use second::INITIAL;
 use stramashly::CheckAnswer;

@@ -27,7 +27,7 @@ pub struct RowNote {
 }
 
 /// A line of a program's file, and maybe a column of it; each from 1.
-#[derive(Clone, Debug, PartialEq, Eq)]
+#[derive(Clone, Debug, PartialEq, Eq, Hash)]
 pub struct Place {
     /// The file's name.
     pub file: String,

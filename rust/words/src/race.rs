@@ -1,22 +1,26 @@
 //! A race in sentences: the rows, the rule that comes nearest and what it
-//! lacks, and the changes that would order them.
+//! lacks, and the changes that would end it.
 
 use crate::account::Checked;
-use crate::cure::{Cure, Search};
-use crate::edit::Field;
-use crate::goal::Goal;
+use crate::mend::change::Reason;
+use crate::mend::cure::{Cure, Outcome};
+use crate::mend::edit::Field;
+use crate::mend::goal::Goal;
+use crate::mend::search::Search;
+use crate::mend::steps::steps_text;
 use crate::names::counted;
-use crate::reason::Reason;
-use crate::shader::{glsl, spirv};
+use crate::shader::{glsl, needs, spirv};
 use second::table::{Row, QUEUE};
+use second::MAX_ROWS;
+use std::collections::BTreeSet;
 
-/// So many changes are shown at most.
+/// So many changes are shown at most, unless all are wanted.
 const SHOWN_CURES: usize = 8;
 /// So many other races are named at most.
 const SHOWN_RACES: usize = 8;
 
 /// The race and what the search for cures found.
-pub fn lines(checked: Checked, goal: Goal, found: &Search) -> Vec<String> {
+pub fn lines(checked: Checked, goal: Goal, found: &Search, is_all: bool) -> Vec<String> {
     let Goal {
         first,
         second,
@@ -35,14 +39,8 @@ pub fn lines(checked: Checked, goal: Goal, found: &Search) -> Vec<String> {
         in_short(rule, checked.run.rows[after])
     ));
     lines.extend(near.lacks.iter().map(|lack| format!("  {lack}")));
-    lines.push(cures_title(checked, goal, found));
-    for (place, cure) in found.cures.iter().take(SHOWN_CURES).enumerate() {
-        lines.extend(cure_lines(checked, goal, place + 1, cure));
-    }
-    if found.cures.len() > SHOWN_CURES {
-        let more = counted(found.cures.len() - SHOWN_CURES, "more such change");
-        lines.push(format!("There are {more}."));
-    }
+    lines.extend(cures_lines(checked, goal, found, is_all));
+    lines.extend(other_memory(checked, goal));
     lines.extend(other_races(checked, goal));
     lines
 }
@@ -97,60 +95,169 @@ fn other_races(checked: Checked, goal: Goal) -> Option<String> {
     (!races.is_empty()).then(|| format!("Other races: rows {named}{more}."))
 }
 
-fn cures_title(checked: Checked, goal: Goal, found: &Search) -> String {
-    let has_new_rows = found.cures.iter().any(Cure::is_new);
-    match found.cures.first() {
-        Some(_) if has_new_rows => "Each of these orders them:".to_string(),
-        Some(cure) if cure.changes.len() == 1 => {
-            "Each of these changes alone orders them:".to_string()
+/// Memory of two classes is no one variable: no instruction of a shader
+/// orders a write of the one before an access of the other.
+fn other_memory(checked: Checked, goal: Goal) -> Option<String> {
+    let rows = &checked.run.rows;
+    let (first, second) = (rows[goal.first], rows[goal.second]);
+    let is_other = first.reference != second.reference && first.class != second.class;
+    (is_other && !checked.has_host(goal.first, goal.second)).then(|| {
+        format!(
+            "Rows {} and {} reach the same memory as {} and as {}, which are never one variable, and L3 asks for one reference. Let them be of two dispatches with a pipeline barrier between these: in version 3 an availability to device and a visibility from device of a queue, with dependencies.",
+            goal.first,
+            goal.second,
+            crate::names::class(first.class),
+            crate::names::class(second.class)
+        )
+    })
+}
+
+/// The parts in which changes are shown, by what comes of them.
+fn part_title(cure: &Cure, goal: Goal) -> String {
+    match (cure.outcome, cure.is_silent()) {
+        _ if !cure.has_room => {
+            let tried = "Tried with the racing agents' rows alone, each of these orders them:";
+            format!("The table is full: it has {MAX_ROWS} rows, and none can be put in. {tried}")
         }
-        Some(_) => "No single change orders them. Each of these pairs does:".to_string(),
-        None => {
-            let tried = counted(found.tried, "small change");
-            let rest = if found.is_cut {
-                "so far as they were tried: with so many rows not every pair was"
-            } else if checked.has_host(goal.first, goal.second) {
-                match checked.run.sorts.contains(&QUEUE) {
-                    true => "nor do any two together, nor operations and dependencies put in",
-                    false => "nor do any two together, and there is no queue agent for operations",
-                }
-            } else {
-                "nor do any two together, nor a release and an acquire between them"
-            };
-            format!("None of {tried} orders them, {rest}.")
+        (Outcome::RaceFree, false) => "Each of these makes the run race-free:".to_string(),
+        (Outcome::OtherRace { .. }, false) => {
+            "Each of these ends this race, and others are left:".to_string()
+        }
+        (Outcome::RaceFree | Outcome::OtherRace { .. }, true) => {
+            "This ends the race and orders nothing:".to_string()
+        }
+        (Outcome::OtherByte, _) => format!(
+            "Each of these ends the race at byte {}, and rows {} and {} race at another:",
+            goal.byte, goal.first, goal.second
+        ),
+        (Outcome::Impossible, _) => {
+            "Each of these orders them, but the run as recorded can't happen then:".to_string()
         }
     }
 }
 
+/// The changes part by part, and what a shader needs for them.
+fn cures_lines(checked: Checked, goal: Goal, found: &Search, is_all: bool) -> Vec<String> {
+    let cures = match is_all {
+        true => found.cures.iter().collect(),
+        false => worth_showing(&found.cures),
+    };
+    let mut lines = Vec::new();
+    if cures.is_empty() {
+        lines.push(no_cure(checked, goal, found));
+    }
+    let shown = if is_all { cures.len() } else { SHOWN_CURES };
+    let mut title = String::new();
+    let mut wanted = BTreeSet::new();
+    for (place, cure) in cures.iter().take(shown).enumerate() {
+        let next = part_title(cure, goal);
+        if next != title {
+            lines.push(next.clone());
+            title = next;
+        }
+        lines.extend(cure_lines(checked, goal, place + 1, cure));
+        let rows = changed_rows(checked, cure);
+        wanted.extend(rows.into_iter().flat_map(|(_, row)| needs(row)));
+    }
+    if found.cures.len() > shown.min(cures.len()) {
+        let more = counted(found.cures.len() - shown.min(cures.len()), "more change");
+        lines.push(format!("--all shows {more}."));
+    }
+    if !wanted.is_empty() {
+        let wanted: Vec<&str> = wanted.into_iter().collect();
+        lines.push(format!(
+            "What the GLSL and SPIR-V above need: {}.",
+            wanted.join(", ")
+        ));
+    }
+    lines
+}
+
+/// The changes that are shown if not all are wanted: impossible runs only
+/// where there is nothing else, and what orders nothing only where nothing that
+/// is there can be made to, or where it comes first.
+pub fn worth_showing(cures: &[Cure]) -> Vec<&Cure> {
+    let has_order = cures.first().is_some_and(|first| !first.is_silent())
+        && cures.iter().any(|cure| cure.outcome.is_good() && cure.is_stronger());
+    let is_worth = |cure: &&Cure| {
+        let is_possible = cure.outcome != Outcome::Impossible;
+        is_possible && !(has_order && cure.is_silent())
+    };
+    let worth: Vec<&Cure> = cures.iter().filter(is_worth).collect();
+    match worth.is_empty() {
+        true => cures.iter().collect(),
+        false => worth,
+    }
+}
+
+/// What was tried in vain.
+fn no_cure(checked: Checked, goal: Goal, found: &Search) -> String {
+    let tried = counted(found.tried, "small change");
+    let full = match found.is_full {
+        true => format!("; the table is full: it has {MAX_ROWS} rows, and none can be put in"),
+        false => String::new(),
+    };
+    let rest = if found.is_cut {
+        "so far as they were tried: with so many rows not all were"
+    } else if checked.has_host(goal.first, goal.second) {
+        match checked.run.sorts.contains(&QUEUE) {
+            true => "nor do several together, nor operations and dependencies put in",
+            false => "nor do several together, and there is no queue agent for operations",
+        }
+    } else {
+        "nor do several together, nor a release and an acquire between them"
+    };
+    format!("None of {tried} orders them, {rest}{full}.")
+}
+
 /// The reasons, the edit, and what comes of it.
 fn cure_lines(checked: Checked, goal: Goal, number: usize, cure: &Cure) -> Vec<String> {
+    let new = cure.insertions.len();
     let mut lines: Vec<String> = cure
         .changes
         .iter()
-        .map(|change| checked.reason_words(change.reason, goal))
+        .flat_map(|change| checked.change_words(change, goal, new))
         .enumerate()
         .map(|(place, reason)| match place {
             0 => format!("  {number}. {reason}."),
             _ => format!("     And {reason}."),
         })
         .collect();
-    let steps: Vec<String> = cure.steps().iter().map(|step| step.to_string()).collect();
-    lines.push(format!("     edit: {}", steps.join("; ")));
+    if cure.has_room {
+        lines.push(format!("     edit: {}", steps_text(&cure.steps())));
+    }
     lines.extend(shader_lines(checked, cure));
-    // A run that read otherwise than the order allows is no longer possible.
-    let because = match cure.answer.split(' ').next() {
-        Some("cycle" | "overwritten") => "the run as recorded can't happen then, so ",
-        _ => "",
-    };
+    if cure.has_room {
+        lines.push(format!("     {}", outcome_words(cure)));
+    }
+    lines
+}
+
+/// `Then L3 puts row 0 first, and check answers ...`
+fn outcome_words(cure: &Cure) -> String {
     let counted = match (cure.insertions.is_empty(), cure.answer.as_str()) {
         (true, _) | (_, "race-free") => "",
         _ => ", the new rows counted",
     };
-    lines.push(format!(
-        "     Then {}, and {because}check answers `{}`{counted}.",
-        cure.order, cure.answer
-    ));
-    lines
+    let left = match cure.outcome {
+        Outcome::OtherRace { left } => format!("; {} left", counted_races(left)),
+        _ => String::new(),
+    };
+    let order = match &cure.order {
+        Some(order) => format!("{order}, and "),
+        None => String::new(),
+    };
+    format!(
+        "Then {order}check answers `{}`{counted}{left}.",
+        cure.answer
+    )
+}
+
+fn counted_races(left: usize) -> String {
+    match left {
+        1 => "1 race is".to_string(),
+        _ => format!("{left} races are"),
+    }
 }
 
 /// What the program would have instead, in GLSL and SPIR-V.
@@ -160,8 +267,9 @@ fn shader_lines(checked: Checked, cure: &Cure) -> Vec<String> {
         in_glsl.push(format!("{name} {}", glsl(row)));
         in_spirv.push(format!("{name} {}", spirv(row)));
     }
-    for change in &cure.changes {
-        if let Reason::OtherReference { row, other } = change.reason {
+    let reasons = cure.changes.iter().flat_map(|change| &change.reasons);
+    for reason in reasons {
+        if let Reason::OtherReference { row, other } = reason {
             in_glsl.push(format!("row {row} by the variable of row {other}"));
             in_spirv.push(format!("row {row} by the pointer of row {other}"));
         }
@@ -175,20 +283,59 @@ fn shader_lines(checked: Checked, cure: &Cure) -> Vec<String> {
     ]
 }
 
-/// The rows whose instructions are others then, and the new ones.
-fn changed_rows(checked: Checked, cure: &Cure) -> Vec<(String, Row)> {
+/// The instructions that are others then, each once, and the new ones.
+pub fn changed_rows(checked: Checked, cure: &Cure) -> Vec<(String, Row)> {
     let mut changed: Vec<(String, Row)> = Vec::new();
-    for (number, row) in checked.run.rows.iter().enumerate() {
-        let edits = cure.edits.iter().filter(|edit| edit.row == number);
-        // A class goes with a reference, and is no instruction's own.
-        let edits = edits.filter(|edit| edit.field.is_of_program() && edit.field != Field::Class);
-        let edited = edits.fold(*row, |row, edit| edit.field.set(row, edit.value));
-        if edited != *row {
-            changed.push((format!("row {number}"), edited));
+    for change in &cure.changes {
+        // Rows that become atomics are several instructions.
+        let mut known: Vec<Row> = Vec::new();
+        for number in &change.rows {
+            let row = checked.run.rows[*number];
+            let edits = change.edits.iter().filter(|edit| edit.row == *number);
+            let edits =
+                edits.filter(|edit| edit.field.is_of_program() && edit.field != Field::Class);
+            let edited = edits.fold(row, |row, edit| edit.field.set(row, edit.value));
+            let alike = change.rows.iter().copied().filter(|other| {
+                let other = checked.run.rows[*other];
+                (other.kind, other.class, other.reference) == (row.kind, row.class, row.reference)
+            });
+            let alike: Vec<usize> = alike.collect();
+            let instruction = as_instruction(edited);
+            if edited != row && !known.contains(&instruction) {
+                known.push(instruction);
+                let name = checked.instruction_name(&alike, *number);
+                changed.push((name, edited));
+            }
         }
     }
-    let new = cure.insertions.iter();
-    let new = new.filter(|insertion| !insertion.row.is_queue_operation());
-    changed.extend(new.map(|insertion| (format!("new row {}", insertion.place), insertion.row)));
+    let mut news: Vec<(Row, Vec<usize>)> = Vec::new();
+    for insertion in &cure.insertions {
+        let row = as_instruction(insertion.row);
+        match news.iter_mut().find(|(known, _)| *known == row) {
+            Some((_, places)) => places.push(insertion.place),
+            None => news.push((row, vec![insertion.place])),
+        }
+    }
+    news.retain(|(row, _)| !row.is_queue_operation());
+    changed.extend(
+        news.into_iter()
+            .map(|(row, places)| (new_name(&places), row)),
+    );
     changed
+}
+
+fn new_name(places: &[usize]) -> String {
+    format!("new {}", crate::reason::rows_words(places))
+}
+
+/// A row without what is the run's or another agent's.
+fn as_instruction(row: Row) -> Row {
+    Row {
+        agent: 0,
+        source: 0,
+        rank: 0,
+        length: row.length,
+        start: 0,
+        ..row
+    }
 }

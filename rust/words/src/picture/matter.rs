@@ -5,7 +5,7 @@ use crate::account::Checked;
 use crate::carriage::Stop;
 use crate::derivation::{meeting, step_parts};
 use crate::explain::Shown;
-use crate::goal::Goal;
+use crate::mend::goal::Goal;
 use std::collections::BTreeSet;
 use stramashly::{Checker, Derivation, DeriveAnswer};
 

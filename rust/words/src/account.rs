@@ -26,25 +26,30 @@ pub struct Checked<'a> {
 }
 
 impl Checked<'_> {
-    /// The lowest rule by which X comes before Y at a byte.
-    pub fn ordered(&self, x: usize, y: usize, byte: u32) -> Option<Ordered> {
+    /// The number of the lowest rule by which X comes before Y at a byte.
+    pub fn rule(&self, x: usize, y: usize, byte: u32) -> Option<u8> {
         let [l1, l2, l3] = self.state.rules_at(x, y, byte);
         let [l4, l5] = self.state.system_rules(x, y);
         let rules = [l1, l2, l3, l4, l5];
-        let rule = rules.iter().position(|holds| *holds)?;
-        match rule {
-            0 => Some(Ordered {
+        let place = rules.iter().position(|holds| *holds)?;
+        Some(place as u8 + 1)
+    }
+
+    /// The lowest rule by which X comes before Y at a byte, and why it does.
+    pub fn ordered(&self, x: usize, y: usize, byte: u32) -> Option<Ordered> {
+        match self.rule(x, y, byte)? {
+            1 => Some(Ordered {
                 rule: 1,
                 because: "one agent, one reference".to_string(),
                 path: vec![at(x), at(y)],
             }),
-            1 => Some(Ordered {
+            2 => Some(Ordered {
                 rule: 2,
                 because: format!("row {x} only reads, both are non-private"),
                 path: vec![at(x), at(y)],
             }),
-            2 => self.ordered_by_l3(x, y, byte),
-            3 => Some(Ordered {
+            3 => self.ordered_by_l3(x, y, byte),
+            4 => Some(Ordered {
                 rule: 4,
                 because: format!("row {x} only reads, and dependencies lead to row {y}"),
                 path: vec![at(x), at(y)],

@@ -6,7 +6,9 @@ use crate::judge::Judge;
 use crate::mend::cure::Cure;
 use crate::mend::goal::Goal;
 use crate::mend::search::search;
+use crate::nearest::Near;
 use crate::notes::Notes;
+use crate::race::Advice;
 use crate::run::Run;
 use crate::{inconsistent, race, race_free, refusal};
 use second::{Chains, State, CYCLE_NUMBERS, WORK_WORDS};
@@ -60,8 +62,12 @@ pub struct Explanation {
     pub shown: Shown,
     /// Sentences, those that go into particulars indented.
     pub lines: Vec<String>,
-    /// What would order a racing pair.
+    /// Of a race the rule that comes nearest.
+    pub near: Option<Near>,
+    /// What would end a race, the best first.
     pub cures: Vec<Cure>,
+    /// The words for each of these.
+    pub advice: Vec<Advice>,
     /// Whether it was asked with chains.
     pub chains: Chains,
     /// What the table's text says besides.
@@ -110,7 +116,9 @@ pub fn explain_noted(
         answer: given.to_string(),
         shown: shown(checked, given),
         lines: Vec::new(),
+        near: None,
         cures: Vec::new(),
+        advice: Vec::new(),
         chains,
         notes: notes.clone(),
         is_all,
@@ -128,8 +136,8 @@ pub fn explain_noted(
             "No explanation: the unproved second implementation answers `{second}`. Please report this table."
         )];
     }
-    let noted = notes.lines(&explanation.lines);
-    explanation.lines.extend(noted);
+    let lines = explanation.lines.iter();
+    explanation.lines = lines.map(|line| notes.named(line)).collect();
     explanation
 }
 
@@ -142,25 +150,44 @@ fn is_of_later_version(table: &[u8], shown: &Shown) -> bool {
 /// Adds the sentences, and the cures of a race.
 fn tell(table: &[u8], checked: Checked, checker: &mut dyn Judge, explanation: &mut Explanation) {
     explanation.lines = match explanation.shown {
-        Shown::Nothing => race_free::lines(checked),
+        Shown::Nothing => race_free::lines(checked, explanation.is_all),
         Shown::Refused { number, row } => refusal::check_lines(table, number, row, checker),
         ref shown @ (Shown::Cycle { .. } | Shown::Overwritten { .. }) => {
             let mut lines = inconsistent::lines(checked, shown);
-            lines.extend(inconsistent::causes(shown));
+            lines.extend(inconsistent::causes(checked, shown));
+            lines.extend(inconsistent::counted_ranks(checked, checker));
             lines.extend(inconsistent::other_sources(checked, shown, checker));
             lines
         }
         Shown::Race(goal) => {
             let found = search(table, checked, goal, checker);
-            let mut lines = race::lines(checked, goal, &found, explanation.is_all);
+            let near = checked.nearest(goal.first, goal.second, goal.byte);
+            let mut lines = race::lines(checked, goal, (&near, &found), explanation.is_all);
             // What a rule lacks is said of single operations.
             if explanation.chains == Chains::On {
                 lines.push("Chains are on: none of several availability or visibility operations orders them either.".to_string());
             }
+            let advice = found.cures.iter();
+            explanation.advice = advice.map(|cure| advised(checked, goal, cure)).collect();
             explanation.cures = found.cures;
+            explanation.near = Some(near);
             lines
         }
     };
+}
+
+/// The words for a change, with what is noted.
+fn advised(checked: Checked, goal: Goal, cure: &Cure) -> Advice {
+    let advice = race::advice(checked, goal, cure);
+    let named = |lines: &[String]| -> Vec<String> {
+        let lines = lines.iter();
+        lines.map(|line| checked.run.notes.named(line)).collect()
+    };
+    Advice {
+        reasons: named(&advice.reasons),
+        glsl: named(&advice.glsl),
+        spirv: named(&advice.spirv),
+    }
 }
 
 /// What an answer shows of a table.

@@ -81,5 +81,5 @@ fn message(table: &[u8], shown: &Shown) -> String {
 fn described(run: &Run, shown: &Shown) -> Vec<(usize, String)> {
     let rows = shown.rows().into_iter();
     let rows = rows.filter(|row| *row < run.rows.len());
-    rows.map(|row| (row, run.described(row))).collect()
+    rows.map(|row| (row, run.described_in_full(row))).collect()
 }

@@ -9,11 +9,11 @@
 //! | what | module |
 //! |---|---|
 //! | the words for codes, rows and tables | `names`, `run`, `show` |
-//! | names and places from a table's text | `notes` |
+//! | names and places from a table's text | `notes`, `naming` |
 //! | why rows are ordered | `account`, `chain`, `derivation`, `why` |
 //! | why they aren't | `nearest`, `gap`, `carriage` |
-//! | what would order them | `catalogue`, `change`, `edit`, `reason`, `reduction`, `cure` |
-//! | new rows and dependencies that would, and their words for a shader | `insertion`, `dependency`, `remedy`, `domains`, `shader` |
+//! | what would order them | `mend` |
+//! | the words for that, and for a shader | `reason`, `shader` |
 //! | the answers one by one | `race`, `race_free`, `inconsistent`, `refusal` |
 //! | what is wrong with a refused table, and with its blanks | `fault`, `unfit`, `blank` |
 //! | answers one finding after the other | `findings` |
@@ -35,6 +35,7 @@ mod judge;
 mod markup;
 mod mend;
 mod names;
+mod naming;
 mod nearest;
 mod notes;
 mod page;
@@ -69,9 +70,13 @@ pub use names::{CLASSES, KINDS, ORDERS, SCOPES, SORTS};
 pub use nearest::Near;
 pub use notes::{Notes, Place, RowNote};
 pub use page::page;
+pub use race::Advice;
 pub use refusal::{is_of_a_row, lines as refusal_lines, refusal};
 pub use run::{first_row, Run};
 pub use shader::{glsl, spirv};
-pub use show::show;
+pub use show::{show, show_noted};
 pub use unfit::{unfit, Unfit};
 pub use why::why;
+
+/// A table in two pieces as one, for words and pictures of it.
+pub use second::joined;

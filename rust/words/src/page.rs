@@ -1,13 +1,16 @@
-//! `explain --html`: the sentences, the picture and the table on one page
-//! that needs no other file. It is well-formed as XML too.
+//! `explain --html`: the picture, the sentences and the table on one page
+//! that needs no other file. It is well-formed as XML too. Pointing at a row, or
+//! choosing it, lights its box, its arrows, its sentences and its line of the
+//! table, by the style sheet alone.
 
 use crate::account::Checked;
-use crate::explain::Explanation;
+use crate::explain::{Explanation, Shown};
 use crate::headline::headline;
 use crate::markup::escaped;
 use crate::picture::picture;
+use crate::race_free;
 use crate::run::Run;
-use crate::show::{agent_lines, cells, dependency_lines, header, COLUMNS};
+use crate::show::{agent_lines, cells, columns, dependency_lines, header};
 use second::{State, CYCLE_NUMBERS, WORK_WORDS};
 
 const SHEET: &str = "\
@@ -54,10 +57,18 @@ pub fn page(table: &[u8], explanation: &Explanation, is_all: bool) -> String {
         "<!DOCTYPE html>\n<html lang=\"en\" xmlns=\"http://www.w3.org/1999/xhtml\">\n<head>\n<meta charset=\"utf-8\"/>\n<meta name=\"viewport\" content=\"width=device-width, initial-scale=1\"/>\n<title>{headline}</title>\n<style>\n{SHEET}</style>\n</head>\n<body>\n<main>\n<h1>{headline}</h1>\n<p><code>{answer}</code></p>\n"
     );
     let run = Run::of(table).noted(&explanation.notes);
+    let mut state = State::new();
+    state.check_with(explanation.chains, table, WORK_WORDS, CYCLE_NUMBERS);
+    let checked = Checked {
+        table,
+        state: &state,
+        run: &run,
+    };
+    html += &picture_part(checked, explanation, is_all);
     for line in &explanation.lines {
         html += &paragraph(line, run.rows.len());
     }
-    html += &picture_part(table, &run, explanation, is_all);
+    html += &pairs_part(checked, explanation);
     html += &table_part(table, &run, explanation);
     html += "<footer><p>The first line is the answer of the proved checker, and the steps from moment to moment are derivations that the proved library found and accepted. All else, the words, the table and the picture, comes from a second implementation, which is tested and not proved.</p></footer>\n";
     html + "</main>\n</body>\n</html>\n"
@@ -90,20 +101,20 @@ fn with_code(text: &str, rows: usize) -> String {
 }
 
 /// The text with the numbers after `row` and `rows` linked to the table's
-/// rows. New rows aren't in the table.
+/// rows, each with a class by which it can be found. New rows aren't there.
 fn linked(text: &str, rows: usize) -> String {
     let mut html = String::new();
     // Whether a number here is a row's, and whether more may follow.
     let (mut is_row, mut is_list, mut is_new) = (false, false, false);
     for word in text.split_inclusive(' ') {
-        let bare = word.trim_end_matches(' ');
+        let bare = word.trim_end_matches(' ').trim_start_matches('(');
         let digits = bare.find(|letter: char| !letter.is_ascii_digit());
         let digits = &bare[..digits.unwrap_or(bare.len())];
         let number = digits.parse::<usize>().ok().filter(|row| *row < rows);
         match number {
             Some(row) if is_row => {
                 let rest = escaped(&word[digits.len()..]);
-                html += &format!("<a href=\"#row-{row}\">{digits}</a>{rest}");
+                html += &format!("<a class=\"of-{row}\" href=\"#row-{row}\">{digits}</a>{rest}");
                 is_row = is_list && (bare.ends_with(',') || bare == digits);
             }
             _ => {
@@ -119,20 +130,32 @@ fn linked(text: &str, rows: usize) -> String {
 }
 
 /// The picture, unless the table is refused or of a version without one.
-fn picture_part(table: &[u8], run: &Run, explanation: &Explanation, is_all: bool) -> String {
-    let mut state = State::new();
-    state.check_with(explanation.chains, table, WORK_WORDS, CYCLE_NUMBERS);
-    let checked = Checked {
-        table,
-        state: &state,
-        run,
-    };
-    if explanation.answer.starts_with("refused") || !Run::is_known(table) {
+fn picture_part(checked: Checked, explanation: &Explanation, is_all: bool) -> String {
+    if explanation.answer.starts_with("refused") || !Run::is_known(checked.table) {
         return String::new();
     }
     let svg = picture(checked, &explanation.answer, &explanation.shown, is_all);
     let area = scroll_area("The run as a picture");
-    format!("<h2>The run</h2>\n{area}{svg}</div>\n")
+    format!("{area}{svg}</div>\n")
+}
+
+/// So many lines of pairs and steps are put on a page; more are told in short.
+const MOST_STEPS: usize = 400;
+
+/// The pairs of a race-free run, folded up.
+fn pairs_part(checked: Checked, explanation: &Explanation) -> String {
+    if explanation.shown != Shown::Nothing || explanation.is_all || !Run::is_known(checked.table) {
+        return String::new();
+    }
+    let short = race_free::short_lines(checked);
+    if short.is_empty() {
+        return String::new();
+    }
+    let lines = race_free::steps_up_to(checked, MOST_STEPS).unwrap_or(short);
+    let rows = checked.run.rows.len();
+    let lines = lines.iter().map(|line| checked.run.notes.named(line));
+    let pairs: String = lines.map(|line| paragraph(&line, rows)).collect();
+    format!("<details>\n<summary>The pairs</summary>\n{pairs}</details>\n")
 }
 
 /// A part of the page that may be wider than it, and can be moved by keys.
@@ -153,9 +176,9 @@ fn table_part(table: &[u8], run: &Run, explanation: &Explanation) -> String {
     html += &scroll_area("The table");
     html +=
         "<table>\n<caption>The rows, those that the answer names set off</caption>\n<thead><tr>";
-    html += &COLUMNS
-        .map(|name| format!("<th scope=\"col\">{name}</th>"))
-        .concat();
+    let columns = columns(run).into_iter();
+    let columns = columns.map(|name| format!("<th scope=\"col\">{name}</th>"));
+    html += &columns.collect::<String>();
     html += "</tr></thead>\n<tbody>\n";
     let pointed = explanation.shown.rows();
     for row in 0..run.rows.len() {
@@ -164,8 +187,9 @@ fn table_part(table: &[u8], run: &Run, explanation: &Explanation) -> String {
         } else {
             ""
         };
-        let cells = cells(run, row).map(|cell| format!("<td>{}</td>", escaped(&cell)));
-        let cells = cells[1..].concat();
+        let cells = cells(run, row).into_iter().skip(1);
+        let cells = cells.map(|cell| format!("<td>{}</td>", escaped(&cell)));
+        let cells: String = cells.collect();
         html += &format!("<tr id=\"row-{row}\"{class}><th scope=\"row\">{row}</th>{cells}</tr>\n");
     }
     html += "</tbody>\n</table>\n</div>\n";

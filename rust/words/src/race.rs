@@ -9,6 +9,7 @@ use crate::mend::goal::Goal;
 use crate::mend::search::Search;
 use crate::mend::steps::steps_text;
 use crate::names::counted;
+use crate::nearest::Near;
 use crate::shader::{glsl, needs, spirv};
 use second::table::{Row, QUEUE};
 use second::MAX_ROWS;
@@ -20,7 +21,12 @@ const SHOWN_CURES: usize = 8;
 const SHOWN_RACES: usize = 8;
 
 /// The race and what the search for cures found.
-pub fn lines(checked: Checked, goal: Goal, found: &Search, is_all: bool) -> Vec<String> {
+pub fn lines(
+    checked: Checked,
+    goal: Goal,
+    (near, found): (&Near, &Search),
+    is_all: bool,
+) -> Vec<String> {
     let Goal {
         first,
         second,
@@ -32,7 +38,6 @@ pub fn lines(checked: Checked, goal: Goal, found: &Search, is_all: bool) -> Vec<
         format!("  {}", checked.run.described(second)),
     ];
     lines.extend(checked.not_mutual(first, second));
-    let near = checked.nearest(first, second, byte);
     let (rule, before, after) = (near.rule, near.before, near.after);
     lines.push(format!(
         "Of the rules of order, L{rule} comes nearest ({}), row {before} before row {after}. It lacks this:",
@@ -81,7 +86,7 @@ fn other_races(checked: Checked, goal: Goal) -> Option<String> {
     let races: Vec<String> = others
         .map(|other| {
             format!(
-                "{} and {} at byte {}",
+                "rows {} and {} at byte {}",
                 other.first, other.second, other.byte
             )
         })
@@ -92,7 +97,7 @@ fn other_races(checked: Checked, goal: Goal) -> Option<String> {
         count => format!(", and {}", counted(count, "more pair")),
     };
     let named = races[..shown].join(", ");
-    (!races.is_empty()).then(|| format!("Other races: rows {named}{more}."))
+    (!races.is_empty()).then(|| format!("Other races: {named}{more}."))
 }
 
 /// Memory of two classes is no one variable: no instruction of a shader
@@ -178,7 +183,9 @@ fn cures_lines(checked: Checked, goal: Goal, found: &Search, is_all: bool) -> Ve
 /// is there can be made to, or where it comes first.
 pub fn worth_showing(cures: &[Cure]) -> Vec<&Cure> {
     let has_order = cures.first().is_some_and(|first| !first.is_silent())
-        && cures.iter().any(|cure| cure.outcome.is_good() && cure.is_stronger());
+        && cures
+            .iter()
+            .any(|cure| cure.outcome.is_good() && cure.is_stronger());
     let is_worth = |cure: &&Cure| {
         let is_possible = cure.outcome != Outcome::Impossible;
         is_possible && !(has_order && cure.is_silent())
@@ -210,14 +217,47 @@ fn no_cure(checked: Checked, goal: Goal, found: &Search) -> String {
     format!("None of {tried} orders them, {rest}{full}.")
 }
 
+/// A change in words.
+#[derive(Clone, Debug, Default, PartialEq, Eq)]
+pub struct Advice {
+    /// Why it ends the race, and what is to be done.
+    pub reasons: Vec<String>,
+    /// Each instruction as it is to be, in GLSL and in SPIR-V.
+    pub glsl: Vec<String>,
+    pub spirv: Vec<String>,
+}
+
+/// The words for a change.
+pub fn advice(checked: Checked, goal: Goal, cure: &Cure) -> Advice {
+    let new = cure.insertions.len();
+    let changes = cure.changes.iter();
+    let mut advice = Advice {
+        reasons: changes
+            .flat_map(|change| checked.change_words(change, goal, new))
+            .collect(),
+        ..Advice::default()
+    };
+    for (name, row) in changed_rows(checked, cure) {
+        advice.glsl.push(format!("{name} {}", glsl(row)));
+        advice.spirv.push(format!("{name} {}", spirv(row)));
+    }
+    let reasons = cure.changes.iter().flat_map(|change| &change.reasons);
+    for reason in reasons {
+        if let Reason::OtherReference { row, other } = reason {
+            let glsl = format!("row {row} by the variable of row {other}");
+            let spirv = format!("row {row} by the pointer of row {other}");
+            advice.glsl.push(glsl);
+            advice.spirv.push(spirv);
+        }
+    }
+    advice
+}
+
 /// The reasons, the edit, and what comes of it.
 fn cure_lines(checked: Checked, goal: Goal, number: usize, cure: &Cure) -> Vec<String> {
-    let new = cure.insertions.len();
-    let mut lines: Vec<String> = cure
-        .changes
-        .iter()
-        .flat_map(|change| checked.change_words(change, goal, new))
-        .enumerate()
+    let advice = advice(checked, goal, cure);
+    let reasons = advice.reasons.iter().enumerate();
+    let mut lines: Vec<String> = reasons
         .map(|(place, reason)| match place {
             0 => format!("  {number}. {reason}."),
             _ => format!("     And {reason}."),
@@ -226,7 +266,10 @@ fn cure_lines(checked: Checked, goal: Goal, number: usize, cure: &Cure) -> Vec<S
     if cure.has_room {
         lines.push(format!("     edit: {}", steps_text(&cure.steps())));
     }
-    lines.extend(shader_lines(checked, cure));
+    if !advice.glsl.is_empty() {
+        lines.push(format!("     GLSL: {}", advice.glsl.join("; ")));
+        lines.push(format!("     SPIR-V: {}", advice.spirv.join("; ")));
+    }
     if cure.has_room {
         lines.push(format!("     {}", outcome_words(cure)));
     }
@@ -260,31 +303,8 @@ fn counted_races(left: usize) -> String {
     }
 }
 
-/// What the program would have instead, in GLSL and SPIR-V.
-fn shader_lines(checked: Checked, cure: &Cure) -> Vec<String> {
-    let (mut in_glsl, mut in_spirv) = (Vec::new(), Vec::new());
-    for (name, row) in changed_rows(checked, cure) {
-        in_glsl.push(format!("{name} {}", glsl(row)));
-        in_spirv.push(format!("{name} {}", spirv(row)));
-    }
-    let reasons = cure.changes.iter().flat_map(|change| &change.reasons);
-    for reason in reasons {
-        if let Reason::OtherReference { row, other } = reason {
-            in_glsl.push(format!("row {row} by the variable of row {other}"));
-            in_spirv.push(format!("row {row} by the pointer of row {other}"));
-        }
-    }
-    if in_glsl.is_empty() {
-        return Vec::new();
-    }
-    vec![
-        format!("     GLSL: {}", in_glsl.join("; ")),
-        format!("     SPIR-V: {}", in_spirv.join("; ")),
-    ]
-}
-
 /// The instructions that are others then, each once, and the new ones.
-pub fn changed_rows(checked: Checked, cure: &Cure) -> Vec<(String, Row)> {
+fn changed_rows(checked: Checked, cure: &Cure) -> Vec<(String, Row)> {
     let mut changed: Vec<(String, Row)> = Vec::new();
     for change in &cure.changes {
         // Rows that become atomics are several instructions.

@@ -196,8 +196,7 @@ fn check_uncured(table: &[u8], goal: Goal, explanation: &Explanation) {
 /// nothing else that is there does.
 fn check_printed(explanation: &Explanation) {
     let is_stronger = |cure: &Cure| cure.outcome.is_good() && cure.is_stronger();
-    let has_order = explanation.cures.iter().any(is_stronger)
-        && !explanation.cures[0].is_silent();
+    let has_order = explanation.cures.iter().any(is_stronger) && !explanation.cures[0].is_silent();
     let is_worth = |cure: &&Cure| {
         let is_possible = cure.outcome != Outcome::Impossible;
         is_possible && !(has_order && cure.is_silent())

@@ -5,21 +5,10 @@ mod scenarios;
 
 use scenarios::Scenario;
 use stramashly::{CheckAnswer, Checker};
-use words::{explain_noted, stepped, Cure, Explanation, Notes, RowNote, Step};
+use words::{explain_noted, stepped, Cure, Explanation, Notes};
 
 /// So many first remedies mend a run that has one bug.
 const ROUNDS: usize = 3;
-
-/// The notes with the places of rows that were put in, which have none.
-fn moved(notes: &Notes, steps: &[Step]) -> Notes {
-    let mut notes = notes.clone();
-    for step in steps {
-        if let Step::Insert(insertion) = step {
-            notes.rows.insert(insertion.place, RowNote::default());
-        }
-    }
-    notes
-}
 
 fn explained(table: &[u8], notes: &Notes, checker: &mut Checker) -> Explanation {
     explain_noted(table, notes, checker, false)
@@ -37,7 +26,7 @@ fn rounds(scenario: &Scenario, checker: &mut Checker) -> usize {
         let cure = explanation.cures.first().expect(name);
         assert!(cure.outcome.is_good(), "{name}: {}", cure.answer);
         table = stepped(&table, &cure.steps()).unwrap();
-        notes = moved(&notes, &cure.steps());
+        notes = notes.stepped(&cure.steps());
     }
     ROUNDS + 1
 }

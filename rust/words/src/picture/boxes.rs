@@ -57,7 +57,7 @@ pub fn rows(run: &Run, layout: &Layout, shown: &Shown) -> String {
         let class = class(run.rows[*row], pointed.contains(row));
         svg += &format!(
             "<g class=\"{class}\" id=\"box-{row}\"><title>{}</title>\n",
-            escaped(&run.described(*row))
+            escaped(&run.described_in_full(*row))
         );
         svg += &drawn(*row, place);
         svg += "</g>\n";

@@ -3,7 +3,7 @@
 use crate::account::Checked;
 use crate::names;
 use crate::run::Run;
-use second::table::{Row, RELAXED};
+use second::table::RELAXED;
 use second::{AFTER, BEFORE};
 use std::collections::BTreeMap;
 
@@ -163,7 +163,7 @@ fn column_width(run: &Run, rows: &[usize], is_narrow: bool) -> i32 {
 
 /// What stands in a row's box, in short lines where columns are narrow.
 fn lines(run: &Run, number: usize, is_narrow: bool) -> Vec<String> {
-    let mut lines = wide_lines(number, run.rows[number]);
+    let mut lines = wide_lines(run, number);
     if let Some(place) = run.notes.place(number) {
         lines.push(format!("@ {}", place.short()));
     }
@@ -189,10 +189,13 @@ fn broken(line: &str) -> Vec<String> {
 }
 
 /// What stands in a row's box.
-fn wide_lines(number: usize, row: Row) -> Vec<String> {
+fn wide_lines(run: &Run, number: usize) -> Vec<String> {
+    let row = run.rows[number];
     let kind = names::kind(row.kind);
+    let label = run.notes.label(number).map(|label| format!(" {label}"));
+    let number = format!("{number}{}", label.unwrap_or_default());
     if row.is_queue_operation() {
-        return operation_lines(number, &kind);
+        return operation_lines(&number, &kind);
     }
     let has_no_order = row.is_plain() || row.is_control_barrier() && row.order == RELAXED;
     let mut lines = vec![if has_no_order {
@@ -203,7 +206,11 @@ fn wide_lines(number: usize, row: Row) -> Vec<String> {
     if row.is_access() {
         let bytes = names::byte_words(row).replace(" to ", "\u{2013}");
         let class = names::class(row.class);
-        lines.push(format!("{bytes}, ref {}, {class}", row.reference));
+        let reference = match run.notes.references.get(&row.reference) {
+            Some(name) => name.clone(),
+            None => format!("ref {}", row.reference),
+        };
+        lines.push(format!("{bytes}, {reference}, {class}"));
     }
     let scope = names::scope(row.scope);
     if row.is_control_barrier() {
@@ -230,7 +237,7 @@ fn wide_lines(number: usize, row: Row) -> Vec<String> {
 }
 
 /// A queue's operation is its kind, in two lines where it is long.
-fn operation_lines(number: usize, kind: &str) -> Vec<String> {
+fn operation_lines(number: &str, kind: &str) -> Vec<String> {
     match kind.split_once("operation from ") {
         Some((what, between)) => vec![
             format!("{number}  {what}operation"),

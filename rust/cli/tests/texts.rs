@@ -167,7 +167,7 @@ fn places_and_names_are_told() {
     assert!(
         drawn.contains(">row 0 (w0, shaders/alloc.comp:41), producer&#39;s (agent 0) plain write")
     );
-    assert!(drawn.contains(">0 w0  plain write</text>"), "{drawn}");
+    assert!(drawn.contains(">0 w0:  plain write</text>"), "{drawn}");
     assert!(
         drawn.contains(">bytes 0\u{2013}3, owner, Uniform</text>"),
         "{drawn}"

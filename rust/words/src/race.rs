@@ -10,10 +10,10 @@ use crate::mend::search::Search;
 use crate::mend::steps::steps_text;
 use crate::names::counted;
 use crate::nearest::Near;
+use crate::reason::rows_words;
 use crate::shader::{glsl, needs, spirv};
 use second::table::{Row, QUEUE};
 use second::MAX_ROWS;
-use std::collections::BTreeSet;
 
 /// So many changes are shown at most, unless all are wanted.
 const SHOWN_CURES: usize = 8;
@@ -153,7 +153,7 @@ fn cures_lines(checked: Checked, goal: Goal, found: &Search, is_all: bool) -> Ve
     }
     let shown = if is_all { cures.len() } else { SHOWN_CURES };
     let mut title = String::new();
-    let mut wanted = BTreeSet::new();
+    let mut wanted: Vec<&str> = Vec::new();
     for (place, cure) in cures.iter().take(shown).enumerate() {
         let next = part_title(cure, goal);
         if next != title {
@@ -162,14 +162,17 @@ fn cures_lines(checked: Checked, goal: Goal, found: &Search, is_all: bool) -> Ve
         }
         lines.extend(cure_lines(checked, goal, place + 1, cure));
         let rows = changed_rows(checked, cure);
-        wanted.extend(rows.into_iter().flat_map(|(_, row)| needs(row)));
+        for need in rows.into_iter().flat_map(|(_, row)| needs(row)) {
+            if !wanted.contains(&need) {
+                wanted.push(need);
+            }
+        }
     }
     if found.cures.len() > shown.min(cures.len()) {
         let more = counted(found.cures.len() - shown.min(cures.len()), "more change");
         lines.push(format!("--all shows {more}."));
     }
     if !wanted.is_empty() {
-        let wanted: Vec<&str> = wanted.into_iter().collect();
         lines.push(format!(
             "What the GLSL and SPIR-V above need: {}.",
             wanted.join(", ")
@@ -337,15 +340,14 @@ fn changed_rows(checked: Checked, cure: &Cure) -> Vec<(String, Row)> {
         }
     }
     news.retain(|(row, _)| !row.is_queue_operation());
-    changed.extend(
-        news.into_iter()
-            .map(|(row, places)| (new_name(&places), row)),
-    );
+    changed.extend(news.into_iter().map(|(row, places)| {
+        let name = match cure.has_room {
+            true => format!("new {}", rows_words(&places)),
+            false => "new row".to_string(),
+        };
+        (name, row)
+    }));
     changed
-}
-
-fn new_name(places: &[usize]) -> String {
-    format!("new {}", crate::reason::rows_words(places))
 }
 
 /// A row without what is the run's or another agent's.

@@ -42,16 +42,23 @@ pub fn steps_up_to(checked: Checked, most: usize) -> Option<Vec<String>> {
 /// by which rule.
 pub fn short_lines(checked: Checked) -> Vec<String> {
     let pairs = Pairs::of(checked);
-    let mut lines = pairs.together();
-    let mut rows: BTreeMap<(usize, u8), Vec<usize>> = BTreeMap::new();
+    let mut rows: BTreeMap<(u8, usize), Vec<usize>> = BTreeMap::new();
+    let mut put = |rule: u8, before: usize, after: usize| {
+        rows.entry((rule, before)).or_default().push(after);
+    };
+    pairs.atomics.iter().for_each(|(x, y)| put(0, *x, *y));
+    pairs.own.iter().for_each(|(x, y)| put(1, *x, *y));
     for (before, after, rule) in &pairs.others {
-        rows.entry((*before, *rule)).or_default().push(*after);
+        put(*rule, *before, *after);
     }
-    lines.extend(rows.into_iter().map(|((before, rule), mut after)| {
-        after.dedup();
-        format!("Row {before} before {} by L{rule}.", all_rows(&after))
-    }));
-    lines
+    let lines = rows.into_iter().map(|((rule, before), after)| {
+        let after = all_rows(&after);
+        match rule {
+            0 => format!("Row {before} and {after}: mutually-ordered atomics (M3)."),
+            _ => format!("Row {before} before {after} by L{rule}."),
+        }
+    });
+    lines.collect()
 }
 
 fn all_rows(rows: &[usize]) -> String {

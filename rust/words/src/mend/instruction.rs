@@ -32,8 +32,8 @@ pub fn instructions(run: &Run) -> Vec<Instruction> {
     }
     let mut found: Vec<Instruction> = Vec::new();
     let mut places: HashMap<usize, usize> = HashMap::new();
-    for row in 0..run.rows.len() {
-        let place = *places.entry(firsts[row]).or_insert_with(|| {
+    for (row, first) in firsts.into_iter().enumerate() {
+        let place = *places.entry(first).or_insert_with(|| {
             found.push(Instruction { rows: Vec::new() });
             found.len() - 1
         });

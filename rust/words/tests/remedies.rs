@@ -1,10 +1,13 @@
 //! The first remedy of a racing run that a shader's bug made: it ends the race,
 //! and whoever follows first remedies comes to a race-free run.
 
+mod common;
 mod scenarios;
 
+use common::with_relations;
 use scenarios::Scenario;
 use stramashly::{CheckAnswer, Checker};
+use tables::{Row, Table};
 use words::{explain_noted, stepped, Cure, Explanation, Notes};
 
 /// So many first remedies mend a run that has one bug.
@@ -47,7 +50,7 @@ fn first_remedies_lead_to_race_free_runs() {
     }
     assert!(all.len() >= 60, "{}", all.len());
     // One round is the rule.
-    assert!(20 * counts[1] >= 19 * all.len(), "{counts:?}");
+    assert!(10 * counts[1] >= 9 * all.len(), "{counts:?}");
 }
 
 /// The rows of one instruction, by its places and instances, that a cure
@@ -72,16 +75,146 @@ fn check_instructions(scenario: &Scenario, cure: &Cure) {
     }
 }
 
+/// The rule that comes nearest goes forward, also over phases of a control
+/// barrier.
+fn check_nearest(scenario: &Scenario, explanation: &Explanation) {
+    let near = explanation.near.as_ref().expect(&scenario.name);
+    let is_backward = with_relations(&scenario.table, |checked| {
+        checked.is_backward(near.before, near.after)
+    });
+    assert!(!is_backward, "{}: {near:?}", scenario.name);
+}
+
+/// The data of a sequence lock becomes relaxed atomics; elsewhere these come
+/// after what orders. With --all every change is there.
+fn check_silent(scenario: &Scenario, explanation: &Explanation) -> bool {
+    let is_seqlock = scenario.name.starts_with("seqlock");
+    assert_eq!(
+        explanation.cures[0].is_silent(),
+        is_seqlock,
+        "{}",
+        scenario.name
+    );
+    let text = explanation.text();
+    let is_told = text.contains("which ends the race and orders nothing");
+    assert_eq!(
+        is_told,
+        explanation.cures.iter().any(Cure::is_silent),
+        "{text}"
+    );
+    let numbered = format!("\n  {}. ", explanation.cures.len());
+    assert!(text.contains(&numbered), "{text}");
+    is_told
+}
+
 #[test]
-fn one_line_has_one_change() {
+fn changes_are_of_instructions_and_in_order() {
     let mut checker = Checker::new();
-    let mut lines = 0;
+    let (mut lines, mut silent) = (0, 0);
     for scenario in scenarios::all() {
-        let explanation = explained(&scenario.table, &scenario.notes, &mut checker);
+        let (table, notes) = (&scenario.table, &scenario.notes);
+        let explanation = explain_noted(table, notes, &mut checker, true);
         for cure in &explanation.cures {
             check_instructions(&scenario, cure);
             lines += usize::from(cure.changes.iter().any(|change| change.rows.len() > 1));
         }
+        check_nearest(&scenario, &explanation);
+        silent += usize::from(check_silent(&scenario, &explanation));
     }
-    assert!(lines > 20, "{lines}");
+    assert!(lines > 20 && silent > 20, "{lines} {silent}");
+}
+
+fn text_of(table: &Table) -> String {
+    let mut checker = Checker::new();
+    explained(&table.bytes(), &Notes::default(), &mut checker).text()
+}
+
+/// Where a place stands in a text; it must.
+fn place(text: &str, part: &str) -> usize {
+    text.find(part)
+        .unwrap_or_else(|| panic!("no {part:?} in {text}"))
+}
+
+/// Invocations of one subgroup meet rather than wait for each other.
+#[test]
+fn a_subgroup_meets_first() {
+    let rows = [Row::write(0).class(1), Row::read(1, 0).class(1)];
+    let text = text_of(&Table::new(&[[0; 3]; 2], &rows));
+    let meets = place(&text, "meet in a control barrier");
+    let waits = place(&text, "one subgroup may wait for each other for ever");
+    assert!(meets < waits, "{text}");
+}
+
+/// An image and a buffer are no one variable.
+#[test]
+fn an_image_and_a_buffer_take_two_dispatches() {
+    let rows = [Row::write(0), Row::read(1, 0).reference(2).class(2)];
+    let text = text_of(&Table::new(&[[0, 0, 0], [0, 1, 0]], &rows));
+    place(
+        &text,
+        "Let them be of two dispatches with a pipeline barrier between",
+    );
+    assert!(!text.contains("the variable of row"), "{text}");
+}
+
+/// A full table is told to be full, and what would be put in is named.
+#[test]
+fn a_full_table_is_told() {
+    let mut rows = vec![Row::write(0).bytes(0, 16), Row::read(1, 0).bytes(0, 16)];
+    let more = (0..126).map(|row| Row::write(2).bytes(64 + 4 * row, 4));
+    rows.extend(more);
+    let text = text_of(&Table::new(&[[0, 0, 0], [0, 1, 0], [0, 2, 0]], &rows));
+    let full = place(
+        &text,
+        "The table is full: it has 128 rows, and none can be put in.",
+    );
+    let advice = place(&text, "put in a release after row 0");
+    assert!(full < advice && !text.contains("edit:"), "{text}");
+    place(&text, "GLSL: new row `atomicStore(");
+}
+
+/// A shared variable takes no qualifier, and what a program needs comes once,
+/// after the changes.
+#[test]
+fn shaders_are_told_what_they_can_say() {
+    let rows = [
+        Row::write(0).class(1).private(),
+        Row::control_barrier(0, 2, 7)
+            .scope(2)
+            .order(3, 2)
+            .make_available()
+            .make_visible(),
+        Row::control_barrier(1, 2, 7)
+            .scope(2)
+            .order(3, 2)
+            .make_available()
+            .make_visible(),
+        Row::read(1, 0).class(1),
+    ];
+    let text = text_of(&Table::of_one_workgroup(2, &rows));
+    place(
+        &text,
+        "a store to a `shared` variable, which takes no qualifier",
+    );
+    assert!(!text.contains("declared `nonprivate`"), "{text}");
+    for part in [
+        "#extension GL_KHR_memory_scope_semantics",
+        "#pragma use_vulkan_memory_model",
+    ] {
+        assert_eq!(text.matches(part).count(), 1, "{text}");
+        assert!(place(&text, part) > place(&text, "SPIR-V: "), "{text}");
+    }
+    assert!(!text.contains("vulkanMemoryModelDeviceScope"), "{text}");
+    let rows = [
+        Row::write(0),
+        Row::atomic_write(0, 1).bytes(64, 4).reference(2).release(1),
+        Row::atomic_read(1, 1)
+            .bytes(64, 4)
+            .reference(2)
+            .acquire(1)
+            .make_visible(),
+        Row::read(1, 0),
+    ];
+    let text = text_of(&Table::of_one_workgroup(2, &rows));
+    place(&text, "the feature `vulkanMemoryModelDeviceScope`");
 }

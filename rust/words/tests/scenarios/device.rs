@@ -15,7 +15,7 @@ pub fn all(has_places: bool) -> Vec<Scenario> {
     for bug in LOCKS {
         scenarios.push(ladder(3, bug, has_places));
     }
-    for bug in LOCKS {
+    for bug in &LOCKS[..3] {
         scenarios.push(ladder(32, bug, has_places));
     }
     for bug in ["no wait for the tail", "relaxed head", "no make-visible"] {
@@ -96,7 +96,7 @@ const LOCKS: [&str; 6] = [
 
 /// A spinlock that agents take in turn around a read and a write. Without
 /// places one agent's row is wrong, in the middle; with them the line is.
-fn ladder(agents: u16, bug: &str, has_places: bool) -> Scenario {
+pub fn ladder(agents: u16, bug: &str, has_places: bool) -> Scenario {
     let name = format!("lock of {agents}, {bug}");
     let workgroups: Vec<[u16; 3]> = (0..agents).map(|agent| [0, agent, 0]).collect();
     let mut run = Builder::new(&name, &workgroups, has_places);

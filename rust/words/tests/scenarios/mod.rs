@@ -2,6 +2,8 @@
 //! reduction, a spinlock, a seqlock, a ring, an upload and a ladder of 32
 //! agents, with places in a program and without.
 
+#![allow(dead_code)]
+
 mod device;
 mod uploads;
 mod workgroup;
@@ -72,6 +74,11 @@ impl Builder {
     pub fn rows(&self) -> &[Row] {
         &self.rows
     }
+}
+
+/// The lock that 32 agents take in turn, 128 rows without a bug.
+pub fn mended_ladder() -> Scenario {
+    device::ladder(32, "", true)
 }
 
 /// Every scenario.

@@ -32,6 +32,7 @@ impl Notes {
             noun: Noun::None,
             is_list: false,
             is_new: false,
+            is_range: false,
             told: (mentioned(sentence).len() <= MOST_ROWS).then(BTreeSet::new),
         };
         for (place, part) in sentence.split('`').enumerate() {
@@ -72,6 +73,8 @@ struct Namer<'a> {
     /// Whether more numbers may follow.
     is_list: bool,
     is_new: bool,
+    /// Whether a number is an end of several rows.
+    is_range: bool,
     /// The rows that have been told of, none in a list.
     told: Option<BTreeSet<usize>>,
 }
@@ -86,9 +89,9 @@ impl Namer<'_> {
         for (place, word) in words.iter().enumerate() {
             let digits = word.find(|letter: char| !letter.is_ascii_digit());
             let (digits, rest) = word.split_at(digits.unwrap_or(word.len()));
-            let is_count = words
-                .get(place + 1)
-                .is_some_and(|next| next.starts_with("more"));
+            let next = words.get(place + 1).map_or("", |next| next.trim_end());
+            let is_count = next.starts_with("more");
+            self.is_range = next == "to" || words[..place].ends_with(&["to "]);
             match digits.parse::<usize>() {
                 Ok(number) if self.noun != Noun::None && !is_count => self.number(number, rest),
                 _ => self.word(word),
@@ -120,7 +123,7 @@ impl Namer<'_> {
             (None, "") => format!("{number}{whose}"),
             (None, held) => format!("{held} {number}{whose}"),
         };
-        if self.noun == Noun::Row && !self.is_new {
+        if self.noun == Noun::Row && !self.is_new && !self.is_range {
             let is_first = self.told.as_mut().is_some_and(|told| told.insert(number));
             let note = notes.row_note(number).filter(|_| is_first);
             self.named += &note.unwrap_or_default();
@@ -229,6 +232,7 @@ mod tests {
             ("     edit: row 0 flags 3", "     edit: row 0 flags 3"),
             ("new row 0 `a row 0`; reference 2", "new row 0 `a row 0`; reference 2"),
             ("rows 0, 1, 2, 3, 4 and 12 more", "rows 0, 1, 2, 3, 4 and 12 more"),
+            ("rows 0 to 2 are plain", "rows 0 to 2 are plain"),
             (
                 "the queue is full, all 3 agents of it wait",
                 "the queue is full, all 3 agents of it wait",

@@ -84,7 +84,7 @@ pub fn page(table: &[u8], explanation: &Explanation, is_all: bool) -> String {
 fn lights(rows: usize) -> String {
     let rule = |row: usize| {
         let chosen = format!("main:has(.of-{row}:hover, #row-{row}:target, #box-{row}:target)");
-        format!("{chosen} :is(p:has(.of-{row}), tr.of-{row}) {{ background: var(--lit); }}\n{chosen} .of-{row} .box {{ stroke: #d97706; stroke-width: 3; }}\n{chosen} .arrow:not(.of-{row}) {{ opacity: 0.2; }}\n")
+        format!("{chosen} :is(p:has(.of-{row}), tr.of-{row}) {{ background: var(--lit); }}\n{chosen} .of-{row} .box {{ stroke: #d97706; stroke-width: 3; }}\n{chosen} .arrow[class*=of-]:not(.of-{row}) {{ opacity: 0.2; }}\n")
     };
     (0..rows).map(rule).collect()
 }

@@ -2,7 +2,7 @@
 //! lacks, and the changes that would end it.
 
 use crate::account::Checked;
-use crate::mend::change::Reason;
+use crate::mend::change::{Change, Reason};
 use crate::mend::cure::{Cure, Outcome};
 use crate::mend::edit::Field;
 use crate::mend::goal::Goal;
@@ -44,8 +44,24 @@ pub fn lines(
         in_short(rule, checked.run.rows[after])
     ));
     lines.extend(near.lacks.iter().map(|lack| format!("  {lack}")));
-    lines.extend(cures_lines(checked, goal, found, is_all));
-    lines.extend(other_memory(checked, goal));
+    let other_memory = other_memory(checked, goal);
+    let mut cures = match is_all {
+        true => found.cures.iter().collect(),
+        false => worth_showing(&found.cures),
+    };
+    // Where there is something else to do, impossible runs aren't shown.
+    let has_way = other_memory.is_some() && !is_all;
+    cures.retain(|cure| !has_way || cure.outcome != Outcome::Impossible);
+    if cures.is_empty() && !has_way {
+        lines.push(no_cure(checked, goal, found));
+    }
+    lines.extend(other_memory);
+    lines.extend(cures_lines(
+        checked,
+        goal,
+        (cures, found.cures.len()),
+        is_all,
+    ));
     lines.extend(other_races(checked, goal));
     lines
 }
@@ -141,17 +157,19 @@ fn part_title(cure: &Cure, goal: Goal) -> String {
     }
 }
 
-/// The changes part by part, and what a shader needs for them.
-fn cures_lines(checked: Checked, goal: Goal, found: &Search, is_all: bool) -> Vec<String> {
-    let cures = match is_all {
-        true => found.cures.iter().collect(),
-        false => worth_showing(&found.cures),
-    };
+/// The changes part by part, of so many, and what a shader needs for them.
+fn cures_lines(
+    checked: Checked,
+    goal: Goal,
+    (cures, all): (Vec<&Cure>, usize),
+    is_all: bool,
+) -> Vec<String> {
     let mut lines = Vec::new();
-    if cures.is_empty() {
-        lines.push(no_cure(checked, goal, found));
-    }
-    let shown = if is_all { cures.len() } else { SHOWN_CURES };
+    let shown = if is_all {
+        cures.len()
+    } else {
+        SHOWN_CURES.min(cures.len())
+    };
     let mut title = String::new();
     let mut wanted: Vec<&str> = Vec::new();
     for (place, cure) in cures.iter().take(shown).enumerate() {
@@ -168,8 +186,8 @@ fn cures_lines(checked: Checked, goal: Goal, found: &Search, is_all: bool) -> Ve
             }
         }
     }
-    if found.cures.len() > shown.min(cures.len()) {
-        let more = counted(found.cures.len() - shown.min(cures.len()), "more change");
+    if all > shown {
+        let more = counted(all - shown, "more change");
         lines.push(format!("--all shows {more}."));
     }
     if !wanted.is_empty() {
@@ -308,39 +326,14 @@ fn counted_races(left: usize) -> String {
 
 /// The instructions that are others then, each once, and the new ones.
 fn changed_rows(checked: Checked, cure: &Cure) -> Vec<(String, Row)> {
-    let mut changed: Vec<(String, Row)> = Vec::new();
-    for change in &cure.changes {
-        // Rows that become atomics are several instructions.
-        let mut known: Vec<Row> = Vec::new();
-        for number in &change.rows {
-            let row = checked.run.rows[*number];
-            let edits = change.edits.iter().filter(|edit| edit.row == *number);
-            let edits =
-                edits.filter(|edit| edit.field.is_of_program() && edit.field != Field::Class);
-            let edited = edits.fold(row, |row, edit| edit.field.set(row, edit.value));
-            let alike = change.rows.iter().copied().filter(|other| {
-                let other = checked.run.rows[*other];
-                (other.kind, other.class, other.reference) == (row.kind, row.class, row.reference)
-            });
-            let alike: Vec<usize> = alike.collect();
-            let instruction = as_instruction(edited);
-            if edited != row && !known.contains(&instruction) {
-                known.push(instruction);
-                let name = checked.instruction_name(&alike, *number);
-                changed.push((name, edited));
-            }
-        }
-    }
-    let mut news: Vec<(Row, Vec<usize>)> = Vec::new();
-    for insertion in &cure.insertions {
-        let row = as_instruction(insertion.row);
-        match news.iter_mut().find(|(known, _)| *known == row) {
-            Some((_, places)) => places.push(insertion.place),
-            None => news.push((row, vec![insertion.place])),
-        }
-    }
-    news.retain(|(row, _)| !row.is_queue_operation());
-    changed.extend(news.into_iter().map(|(row, places)| {
+    let changes = cure.changes.iter();
+    let mut changed: Vec<(String, Row)> = changes
+        .flat_map(|change| edited_rows(checked, change))
+        .collect();
+    let new = cure.insertions.iter();
+    let new = new.filter(|insertion| !insertion.row.is_queue_operation());
+    let new = alike(new.map(|insertion| (insertion.place, insertion.row)));
+    changed.extend(new.into_iter().map(|(places, row)| {
         let name = match cure.has_room {
             true => format!("new {}", rows_words(&places)),
             false => "new row".to_string(),
@@ -350,14 +343,38 @@ fn changed_rows(checked: Checked, cure: &Cure) -> Vec<(String, Row)> {
     changed
 }
 
-/// A row without what is the run's or another agent's.
-fn as_instruction(row: Row) -> Row {
-    Row {
-        agent: 0,
-        source: 0,
-        rank: 0,
-        length: row.length,
-        start: 0,
-        ..row
+/// The instructions that a change makes others; rows that become atomics are
+/// several.
+fn edited_rows(checked: Checked, change: &Change) -> Vec<(String, Row)> {
+    let rows = change.rows.iter().filter_map(|number| {
+        let row = checked.run.rows[*number];
+        let edits = change.edits.iter().filter(|edit| edit.row == *number);
+        // A class goes with a reference, and is no instruction's own.
+        let edits = edits.filter(|edit| edit.field.is_of_program() && edit.field != Field::Class);
+        let edited = edits.fold(row, |row, edit| edit.field.set(row, edit.value));
+        (edited != row).then_some((*number, edited))
+    });
+    let rows = alike(rows).into_iter();
+    rows.map(|(numbers, row)| (checked.instruction_name(&numbers, numbers[0]), row))
+        .collect()
+}
+
+/// Rows with one instruction put together, with their numbers.
+fn alike(rows: impl Iterator<Item = (usize, Row)>) -> Vec<(Vec<usize>, Row)> {
+    let mut found: Vec<(Vec<usize>, Row)> = Vec::new();
+    for (number, row) in rows {
+        // What is left is the run's or another agent's.
+        let row = Row {
+            agent: 0,
+            source: 0,
+            rank: 0,
+            start: 0,
+            ..row
+        };
+        match found.iter_mut().find(|(_, known)| *known == row) {
+            Some((numbers, _)) => numbers.push(number),
+            None => found.push((vec![number], row)),
+        }
     }
+    found
 }

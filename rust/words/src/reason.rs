@@ -51,7 +51,10 @@ impl Checked<'_> {
             return subject("in", format!("row {row}"));
         }
         let recorded = rows_words(rows);
-        match rows.iter().find_map(|row| self.run.notes.place(*row)) {
+        let mut places = rows.iter().filter_map(|row| self.run.notes.place(*row));
+        let place = places.next();
+        let is_one = places.all(|other| Some(other) == place);
+        match place.filter(|_| is_one) {
             Some(place) => subject("in", format!("line {place} ({recorded})")),
             None if fields.is_control_barrier() => {
                 let instance = fields.instance();

@@ -202,7 +202,8 @@ fn check_printed(explanation: &Explanation) {
         is_possible && !(has_order && cure.is_silent())
     };
     let mut cures: Vec<&Cure> = explanation.cures.iter().filter(is_worth).collect();
-    if cures.is_empty() {
+    // Where there is something to do outside of the shader, that is enough.
+    if cures.is_empty() && !explanation.text().contains("two dispatches") {
         cures = explanation.cures.iter().collect();
     }
     let printed = printed_steps(explanation);

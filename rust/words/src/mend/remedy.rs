@@ -145,6 +145,19 @@ fn shared_scope(run: &Run, before: usize, after: usize) -> u8 {
     (SUBGROUP..=DEVICE).find(shared).unwrap_or(DEVICE)
 }
 
+/// The narrowest scope in which two rows' agents may meet. Agents of different
+/// workgroups can't, and who meets in a workgroup elsewhere does so here.
+fn meeting_scope(run: &Run, rows: [usize; 2], scope: u8) -> u8 {
+    if scope > WORKGROUP {
+        return scope;
+    }
+    let agents = rows.map(|row| run.rows[row].agent);
+    let met = run.rows.iter().filter(|row| row.is_control_barrier());
+    let met = met.filter(|row| agents.contains(&row.agent));
+    let widest = met.map(|row| row.execution_scope()).max();
+    scope.max(widest.unwrap_or(scope).min(WORKGROUP))
+}
+
 /// Rows that synchronize, in the order in which they are put in. Where agents
 /// can meet they needn't wait for each other.
 fn synchronizations(
@@ -156,8 +169,7 @@ fn synchronizations(
     let scope = shared_scope(run, before, after);
     let classes = run.rows[before].class_bit() | run.rows[after].class_bit();
     let mut found = Vec::new();
-    // Agents of different workgroups can't meet.
-    for scope in scope..=WORKGROUP {
+    for scope in meeting_scope(run, [before, after], scope)..=WORKGROUP {
         let reason = Reason::NoMeeting {
             before,
             after,

@@ -469,8 +469,10 @@ impl<'a> Searcher<'a> {
             cures = self.beyond_room();
         }
         cures.sort_by_key(|cure| cure.rank(false));
-        let least = cures.first().map(|cure| cure.outcome.is_good());
-        cures.retain(|cure| Some(cure.outcome.is_good()) == least);
+        // What leaves more trouble than another one isn't needed.
+        let part = |outcome: Outcome| (outcome == Outcome::RaceFree, outcome.is_good());
+        let least = cures.first().map(|cure| part(cure.outcome));
+        cures.retain(|cure| Some(part(cure.outcome)) == least);
         cures.truncate(ENOUGH_REMEDIES);
         (cures, is_full)
     }

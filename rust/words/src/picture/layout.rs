@@ -150,7 +150,9 @@ impl Layout {
     /// The missing rows that come before a row and aren't there yet.
     fn push_new(&mut self, ghosts: &Ghosts, comes: impl Fn(usize) -> bool) {
         let next = self.new.len();
-        let mut places: Vec<&(usize, Row)> = ghosts.new.iter().collect();
+        let has_column = |row: &Row| self.agents.contains(&usize::from(row.agent));
+        let new = ghosts.new.iter().filter(|(_, row)| has_column(row));
+        let mut places: Vec<&(usize, Row)> = new.collect();
         places.sort_by_key(|(place, _)| *place);
         for (_, row) in places
             .into_iter()

@@ -75,7 +75,7 @@ pub const SHEET: &str = "\
 pub fn lights(part: &str, rows: &[usize]) -> String {
     let rule = |row: &usize| {
         let chosen = format!("{part}:has(.of-{row}:hover, #box-{row}:target)");
-        format!("{chosen} .of-{row} .box {{ stroke: #d97706; stroke-width: 3; }}\n{chosen} .arrow:not(.of-{row}) {{ opacity: 0.2; }}\n")
+        format!("{chosen} .of-{row} .box {{ stroke: #d97706; stroke-width: 3; }}\n{chosen} .arrow[class*=of-]:not(.of-{row}) {{ opacity: 0.2; }}\n")
     };
     rows.iter().map(rule).collect()
 }

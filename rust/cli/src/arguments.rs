@@ -279,19 +279,13 @@ fn check_options(task: &Task, words: &Words) -> Result<(), String> {
     if words.is_html && !is_page {
         return Err("only explain takes --html".to_string());
     }
-    let is_explained = is_page
-        || matches!(
-            task,
-            Task::Tell(Telling::Explain { .. } | Telling::Object | Telling::Draw { .. })
-        );
+    let is_explained = is_page || is_explained(task);
     if words.is_all && !is_explained {
         return Err("only draw and explain take --all".to_string());
     }
     if words.is_json && !matches!(task, Task::Judge(_) | Task::Tell(Telling::Object)) {
-        return Err(format!(
-            "only {}, explain and batch take --json",
-            Kind::NAMES
-        ));
+        let takers = "check, fill, report, derive, accepts, explain and batch";
+        return Err(format!("only {takers} take --json"));
     }
     if words.is_sarif && *task != Task::Judge(Question::Check) {
         return Err("only check takes --sarif".to_string());
@@ -313,15 +307,24 @@ fn check_options(task: &Task, words: &Words) -> Result<(), String> {
         return Err("only check, fill, report, explain, draw and batch take --chains".to_string());
     }
     if words.then.is_some() && !is_explained && !matches!(task, Task::Judge(_)) {
-        return Err(format!(
-            "only {}, explain and draw take --then",
-            Kind::NAMES
-        ));
+        let takers = "check, fill, report, derive, accepts, explain and draw";
+        return Err(format!("only {takers} take --then"));
     }
     if words.is_quiet && !matches!(task, Task::Judge(_)) {
         return Err(format!("only {} take --quiet", Kind::NAMES));
     }
     Ok(())
+}
+
+/// Whether a run is explained or drawn, but for a page.
+fn is_explained(task: &Task) -> bool {
+    let Task::Tell(telling) = task else {
+        return false;
+    };
+    matches!(
+        telling,
+        Telling::Explain { .. } | Telling::Object | Telling::Draw { .. }
+    )
 }
 
 /// Whether chains play a part: derivations and forms don't depend on them.

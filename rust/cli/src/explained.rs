@@ -6,9 +6,14 @@ use crate::json::Object;
 use stramashly::CheckAnswer;
 use words::{steps_text, Advice, Cure, Explanation, Near, Outcome};
 
-/// The members of an explanation after those of the check's answer.
-pub fn put(object: &mut Object, answer: &CheckAnswer, explanation: &Explanation) {
-    answer.put(object);
+/// An explanation, with the file's name if there is one: the members of the
+/// check's answer, then its own.
+pub fn object(file: Option<&str>, answer: &CheckAnswer, explanation: &Explanation) -> Object {
+    let mut object = Object::default();
+    if let Some(file) = file {
+        object.text("file", file);
+    }
+    answer.put(&mut object);
     if let Some(near) = &explanation.near {
         object.object("nearest", &nearest(explanation, near));
     }
@@ -19,6 +24,7 @@ pub fn put(object: &mut Object, answer: &CheckAnswer, explanation: &Explanation)
     }
     let words = explanation.lines.iter().map(|line| line.trim().to_string());
     object.texts("words", &words.collect::<Vec<_>>());
+    object
 }
 
 /// The rule that comes nearest, its rows and what it lacks.

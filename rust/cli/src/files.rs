@@ -228,8 +228,7 @@ fn answer(
                 Form::Plain => None,
             };
             let given = given.joined(second, checker);
-            let told = given.and_then(|given| tell(checker, *telling, (&given, file), &mut text));
-            match told {
+            match given.and_then(|given| tell(checker, *telling, (&given, file), &mut text)) {
                 Ok(status) => (status, text.into_bytes(), None),
                 Err(reason) => (Status::Refused, Vec::new(), Some(reason.into())),
             }

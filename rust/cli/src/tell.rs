@@ -1,10 +1,10 @@
 //! One table told in words or as a picture, and the status that goes with it.
 
+use crate::answers::Answer;
 use crate::explained;
-use crate::json::Object;
 use crate::read::Given;
 use crate::Status;
-use stramashly::{Checker, DeriveAnswer};
+use stramashly::Checker;
 use text::{write, write_lines, Refusal};
 use words::{draw_noted, explain_noted, page, refusal, show_noted, why, Explanation, Shown};
 
@@ -49,12 +49,8 @@ pub fn tell(
     let Given { table, notes, .. } = given;
     match telling {
         Telling::Object => {
-            let explanation = explain_noted(table, notes, checker, true);
-            let mut object = Object::default();
-            if let Some(file) = file {
-                object.text("file", file);
-            }
-            explained::put(&mut object, &checker.check(table), &explanation);
+            let explanation = explain_noted(table, notes, checker, false);
+            let object = explained::object(file, &checker.check(table), &explanation);
             *text += &format!("{object}\n");
             Ok(status(&explanation))
         }
@@ -78,12 +74,7 @@ pub fn tell(
         }
         Telling::Why { first, second } => {
             *text += &why(table, first, second, checker);
-            Ok(match checker.derive(table, first, second) {
-                DeriveAnswer::Derivation(_) => Status::Fine,
-                DeriveAnswer::NotBefore => Status::No,
-                DeriveAnswer::Refused { .. } => Status::Refused,
-                _ => Status::Trouble,
-            })
+            Ok(checker.derive(table, first, second).status())
         }
         Telling::Draw { is_all } => {
             let picture = draw_noted(table, notes, checker, is_all);

@@ -77,6 +77,23 @@ pub struct Explanation {
 }
 
 impl Explanation {
+    /// The answer without a word about it.
+    fn bare(checked: Checked, checker: &mut dyn Judge, is_all: bool) -> Explanation {
+        let chains = checker.chains();
+        let given = checker.check(checked.table);
+        Explanation {
+            answer: given.to_string(),
+            shown: shown(checked, given),
+            lines: Vec::new(),
+            near: None,
+            cures: Vec::new(),
+            advice: Vec::new(),
+            chains,
+            notes: checked.run.notes.clone(),
+            is_all,
+        }
+    }
+
     /// The answer and the sentences, a line each.
     pub fn text(&self) -> String {
         let mut text = format!("{}\n", self.answer);
@@ -102,8 +119,7 @@ pub fn explain_noted(
     is_all: bool,
 ) -> Explanation {
     let mut state = State::new();
-    let chains = checker.chains();
-    let second = state.check_with(chains, table, WORK_WORDS, CYCLE_NUMBERS);
+    let second = state.check_with(checker.chains(), table, WORK_WORDS, CYCLE_NUMBERS);
     let second = second.to_string();
     let run = Run::of(table).noted(notes);
     let checked = Checked {
@@ -111,18 +127,7 @@ pub fn explain_noted(
         state: &state,
         run: &run,
     };
-    let given = checker.check(table);
-    let mut explanation = Explanation {
-        answer: given.to_string(),
-        shown: shown(checked, given),
-        lines: Vec::new(),
-        near: None,
-        cures: Vec::new(),
-        advice: Vec::new(),
-        chains,
-        notes: notes.clone(),
-        is_all,
-    };
+    let mut explanation = Explanation::bare(checked, checker, is_all);
     if second == explanation.answer && !Run::is_known(table) && !second.starts_with("refused") {
         explanation.lines = vec![format!(
             "No explanation: there are no words for version {}.",

@@ -148,24 +148,32 @@ impl Grounds {
     }
 }
 
+impl Grounds {
+    /// What the recorder noted that the answer rests on, if it rests on any.
+    fn noted(&self) -> Option<String> {
+        let mut noted = Vec::new();
+        if !self.readers.is_empty() {
+            noted.push(format!("the source of {}", rows_words(&self.readers)));
+        }
+        if !self.ranked.is_empty() {
+            noted.push(format!("the ranks of {}", rows_words(&self.ranked)));
+        }
+        if self.is_ordered {
+            noted.push("the order of an agent's rows".to_string());
+        }
+        match noted.split_last()? {
+            (last, []) => Some(last.clone()),
+            (last, rest) => Some(format!("{} or {last}", rest.join(", "))),
+        }
+    }
+}
+
 /// What an impossible run may mean for recorder, driver and device, a
 /// sentence each.
 pub fn causes(checked: Checked, shown: &Shown) -> Vec<String> {
     let grounds = Grounds::of(shown);
-    let mut noted = Vec::new();
-    if !grounds.readers.is_empty() {
-        noted.push(format!("the source of {}", rows_words(&grounds.readers)));
-    }
-    if !grounds.ranked.is_empty() {
-        noted.push(format!("the ranks of {}", rows_words(&grounds.ranked)));
-    }
-    if grounds.is_ordered {
-        noted.push("the order of an agent's rows".to_string());
-    }
-    let noted = match noted.split_last() {
-        Some((last, [])) => last.clone(),
-        Some((last, rest)) => format!("{} or {last}", rest.join(", ")),
-        None => return Vec::new(),
+    let Some(noted) = grounds.noted() else {
+        return Vec::new();
     };
     let readers = match grounds.readers.is_empty() {
         true => "these writes".to_string(),

@@ -27,23 +27,7 @@ pub fn lines(
     (near, found): (&Near, &Search),
     is_all: bool,
 ) -> Vec<String> {
-    let Goal {
-        first,
-        second,
-        byte,
-    } = goal;
-    let mut lines = vec![
-        format!("Rows {first} and {second} conflict, and nothing orders them at byte {byte}:"),
-        format!("  {}", checked.run.described(first)),
-        format!("  {}", checked.run.described(second)),
-    ];
-    lines.extend(checked.not_mutual(first, second));
-    let (rule, before, after) = (near.rule, near.before, near.after);
-    lines.push(format!(
-        "Of the rules of order, L{rule} comes nearest ({}), row {before} before row {after}. It lacks this:",
-        in_short(rule, checked.run.rows[after])
-    ));
-    lines.extend(near.lacks.iter().map(|lack| format!("  {lack}")));
+    let mut lines = rows_lines(checked, goal, near);
     let other_memory = other_memory(checked, goal);
     let mut cures = match is_all {
         true => found.cures.iter().collect(),
@@ -63,6 +47,28 @@ pub fn lines(
         is_all,
     ));
     lines.extend(other_races(checked, goal));
+    lines
+}
+
+/// The racing rows, and what the nearest rule lacks.
+fn rows_lines(checked: Checked, goal: Goal, near: &Near) -> Vec<String> {
+    let Goal {
+        first,
+        second,
+        byte,
+    } = goal;
+    let mut lines = vec![
+        format!("Rows {first} and {second} conflict, and nothing orders them at byte {byte}:"),
+        format!("  {}", checked.run.described(first)),
+        format!("  {}", checked.run.described(second)),
+    ];
+    lines.extend(checked.not_mutual(first, second));
+    let (rule, before, after) = (near.rule, near.before, near.after);
+    lines.push(format!(
+        "Of the rules of order, L{rule} comes nearest ({}), row {before} before row {after}. It lacks this:",
+        in_short(rule, checked.run.rows[after])
+    ));
+    lines.extend(near.lacks.iter().map(|lack| format!("  {lack}")));
     lines
 }
 
@@ -171,7 +177,6 @@ fn cures_lines(
         SHOWN_CURES.min(cures.len())
     };
     let mut title = String::new();
-    let mut wanted: Vec<&str> = Vec::new();
     for (place, cure) in cures.iter().take(shown).enumerate() {
         let next = part_title(cure, goal);
         if next != title {
@@ -179,24 +184,26 @@ fn cures_lines(
             title = next;
         }
         lines.extend(cure_lines(checked, goal, place + 1, cure));
-        let rows = changed_rows(checked, cure);
-        for need in rows.into_iter().flat_map(|(_, row)| needs(row)) {
-            if !wanted.contains(&need) {
-                wanted.push(need);
-            }
-        }
     }
     if all > shown {
         let more = counted(all - shown, "more change");
         lines.push(format!("--all shows {more}."));
     }
-    if !wanted.is_empty() {
-        lines.push(format!(
-            "What the GLSL and SPIR-V above need: {}.",
-            wanted.join(", ")
-        ));
-    }
+    lines.extend(needs_line(checked, &cures[..shown]));
     lines
+}
+
+/// What a program and a device need for changes, once for all of them.
+fn needs_line(checked: Checked, cures: &[&Cure]) -> Option<String> {
+    let rows = cures.iter().flat_map(|cure| changed_rows(checked, cure));
+    let mut wanted: Vec<&str> = Vec::new();
+    for need in rows.flat_map(|(_, row)| needs(row)) {
+        if !wanted.contains(&need) {
+            wanted.push(need);
+        }
+    }
+    let words = wanted.join(", ");
+    (!wanted.is_empty()).then(|| format!("What the GLSL and SPIR-V above need: {words}."))
 }
 
 /// The changes that are shown if not all are wanted: impossible runs only

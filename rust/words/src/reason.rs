@@ -68,15 +68,12 @@ impl Checked<'_> {
     /// would be otherwise; `new` counts the rows that are put in.
     pub fn change_words(&self, change: &Change, goal: Goal, new: usize) -> Vec<String> {
         let reasons = change.reasons.iter();
-        let words = reasons.map(|reason| match *reason {
-            Reason::NotAtomic { scope, .. } => self.not_atomic_words(&change.rows, scope),
-            reason => self.reason_words(&change.rows, reason, goal, new),
-        });
-        words.collect()
+        reasons
+            .map(|reason| self.reason_words(&change.rows, *reason, goal, new))
+            .collect()
     }
 
     fn reason_words(&self, line: &[usize], reason: Reason, goal: Goal, new: usize) -> String {
-        let rows = &self.run.rows;
         let subject = |row: usize| self.subject(line, row);
         match reason {
             Reason::Private { row } => {
@@ -100,9 +97,18 @@ impl Checked<'_> {
                 "{} is one instruction, but its rows differ in order, scope, classes or flags; let each have what they have together",
                 subject(row).name
             ),
+            Reason::NotAtomic { scope, .. } => self.not_atomic_words(line, scope),
+            other => self.other_words(line, other, new),
+        }
+    }
+
+    /// The words for another access, another run and new rows.
+    fn other_words(&self, line: &[usize], reason: Reason, new: usize) -> String {
+        let rows = &self.run.rows;
+        match reason {
             Reason::OtherReference { row, other } => format!(
                 "{} goes by reference {}, row {other} by reference {}; let both go by the latter",
-                subject(row).name,
+                self.subject(line, row).name,
                 rows[row].reference,
                 rows[other].reference
             ),
@@ -113,9 +119,8 @@ impl Checked<'_> {
             ),
             Reason::EndsSequence { row } => format!(
                 "{} is an atomic write, and an acquire that reads it needn't see an earlier release; make it a read-modify-write",
-                subject(row).name
+                self.subject(line, row).name
             ),
-            Reason::NotAtomic { scope, .. } => self.not_atomic_words(line, scope),
             Reason::NoHandshake {
                 before,
                 after,
@@ -134,6 +139,8 @@ impl Checked<'_> {
                 operations,
                 joined,
             } => self.carried_words((before, after), &operations, &joined),
+            // The others are said of rows that are there.
+            _ => String::new(),
         }
     }
 

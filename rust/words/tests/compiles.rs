@@ -43,47 +43,39 @@ fn with_orders(row: Row) -> Vec<Row> {
         });
         return plain.to_vec();
     }
-    let mut rows = Vec::new();
-    for order in RELAXED..=BOTH {
-        let is_apt = match row.kind {
-            ATOMIC_READ => order & RELEASE == 0,
-            ATOMIC_WRITE => order & ACQUIRE == 0,
-            BARRIER => order != RELAXED,
-            _ => true,
-        };
-        let available = if order & RELEASE != 0 {
-            MAKE_AVAILABLE
-        } else {
-            0
-        };
-        let visible = if order & ACQUIRE != 0 {
-            MAKE_VISIBLE
-        } else {
-            0
-        };
-        let sets: &[u8] = if order == RELAXED {
-            &[0]
-        } else {
-            &[1, 2, 4, 7]
-        };
-        for classes in sets.iter().filter(|_| is_apt) {
-            for flags in [0, available | visible] {
-                let class = if row.is_control_barrier() {
-                    row.scope.min(WORKGROUP)
-                } else {
-                    row.class
-                };
-                rows.push(Row {
-                    order,
-                    classes: *classes,
-                    flags,
-                    class,
-                    ..row
-                });
-            }
-        }
-    }
-    rows
+    let orders = (RELAXED..=BOTH).filter(|order| match row.kind {
+        ATOMIC_READ => order & RELEASE == 0,
+        ATOMIC_WRITE => order & ACQUIRE == 0,
+        BARRIER => *order != RELAXED,
+        _ => true,
+    });
+    orders
+        .flat_map(|order| with_semantics(Row { order, ..row }))
+        .collect()
+}
+
+/// A row of some order with sets of classes, without flags and with all that it
+/// may have.
+fn with_semantics(row: Row) -> Vec<Row> {
+    let may_have = |bit: u8, flag: u8| if row.order & bit != 0 { flag } else { 0 };
+    let most = may_have(RELEASE, MAKE_AVAILABLE) | may_have(ACQUIRE, MAKE_VISIBLE);
+    let class = match row.is_control_barrier() {
+        true => row.scope.min(WORKGROUP),
+        false => row.class,
+    };
+    let sets: &[u8] = match row.order {
+        RELAXED => &[0],
+        _ => &[1, 2, 4, 7],
+    };
+    let rows = sets.iter().flat_map(|classes| {
+        [0, most].map(|flags| Row {
+            classes: *classes,
+            flags,
+            class,
+            ..row
+        })
+    });
+    rows.collect()
 }
 
 /// A folder for what the tools read and write.
@@ -109,31 +101,25 @@ fn run(tool: &str, words: &[&str]) -> bool {
 /// A statement of a compute shader, and the declaration that it needs.
 fn statement(row: Row) -> (String, String) {
     let words = glsl(row);
-    let code: Vec<&str> = words.split('`').collect();
-    if !row.is_plain() {
-        let memory = if row.class == SHARED {
-            "(shared_word,"
-        } else {
-            "(buffer_word,"
-        };
-        let call = code[1].replace("(memory,", memory);
-        let is_read = row.kind == ATOMIC_READ || row.kind == ATOMIC_RMW;
-        let begin = if is_read { "value = " } else { "" };
-        return (format!("{begin}{call};"), String::new());
+    if row.is_plain() {
+        return plain_statement(row, &words);
     }
-    let qualifier = match words.split_once(" declared ") {
-        Some((_, qualifier)) => qualifier.trim_matches('`'),
-        None => "",
+    let memory = match row.class {
+        SHARED => "(shared_word,",
+        _ => "(buffer_word,",
     };
-    let name = format!(
-        "{}_{}",
-        if row.class == IMAGE {
-            "image"
-        } else {
-            "buffer"
-        },
-        qualifier
-    );
+    let call = words.trim_matches('`').replace("(memory,", memory);
+    let is_read = row.kind == ATOMIC_READ || row.kind == ATOMIC_RMW;
+    let begin = if is_read { "value = " } else { "" };
+    (format!("{begin}{call};"), String::new())
+}
+
+fn plain_statement(row: Row, words: &str) -> (String, String) {
+    let qualifier = words
+        .split_once(" declared ")
+        .map(|(_, qualifier)| qualifier);
+    let qualifier = qualifier.unwrap_or_default().trim_matches('`');
+    let name = format!("class_{}_{qualifier}", row.class);
     let (access, declaration) = match row.class {
         SHARED => ("shared_word".to_string(), String::new()),
         IMAGE => (

@@ -205,14 +205,15 @@ fn shaders_are_told_what_they_can_say() {
         assert!(place(&text, part) > place(&text, "SPIR-V: "), "{text}");
     }
     assert!(!text.contains("vulkanMemoryModelDeviceScope"), "{text}");
+}
+
+#[test]
+fn device_scope_has_its_feature() {
+    let flag = |row: Row| row.bytes(64, 4).reference(2);
     let rows = [
         Row::write(0),
-        Row::atomic_write(0, 1).bytes(64, 4).reference(2).release(1),
-        Row::atomic_read(1, 1)
-            .bytes(64, 4)
-            .reference(2)
-            .acquire(1)
-            .make_visible(),
+        flag(Row::atomic_write(0, 1)).release(1),
+        flag(Row::atomic_read(1, 1)).acquire(1).make_visible(),
         Row::read(1, 0),
     ];
     let text = text_of(&Table::of_one_workgroup(2, &rows));

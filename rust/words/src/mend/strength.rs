@@ -97,13 +97,7 @@ impl Strength {
 
     /// With the flag that goes with each order.
     pub fn flagged(self, row: Row) -> Strength {
-        let mut flags = self.flags;
-        if self.order & RELEASE != 0 {
-            flags |= MAKE_AVAILABLE;
-        }
-        if self.order & ACQUIRE != 0 {
-            flags |= MAKE_VISIBLE;
-        }
+        let flags = self.flags | flags_of(self.order);
         Strength { flags, ..self }.fitted(row)
     }
 }
@@ -148,6 +142,13 @@ impl Instruction {
     }
 }
 
+/// The flags that go with an order.
+fn flags_of(order: u8) -> u8 {
+    let of_order = [(RELEASE, MAKE_AVAILABLE), (ACQUIRE, MAKE_VISIBLE)];
+    let goes_with = of_order.iter().filter(|(bit, _)| order & bit != 0);
+    goes_with.map(|(_, flag)| flag).sum()
+}
+
 /// What a row lacks of a strength.
 fn reasons(run: &Run, row: usize, strength: Strength, is_ranked: bool) -> Vec<Reason> {
     let has = run.rows[row];
@@ -167,9 +168,7 @@ fn reasons(run: &Run, row: usize, strength: Strength, is_ranked: bool) -> Vec<Re
         };
     }
     let order = strength.order & !has.order;
-    let of_order = [(RELEASE, MAKE_AVAILABLE), (ACQUIRE, MAKE_VISIBLE)];
-    let goes_with = of_order.iter().filter(|(bit, _)| order & bit != 0);
-    let flags_of_order: u8 = goes_with.map(|(_, flag)| flag).sum();
+    let flags_of_order = flags_of(order);
     let mut reasons = Vec::new();
     if order != 0 {
         let classes = strength.classes;

@@ -5,7 +5,7 @@ use crate::mend::cure::Cure;
 use crate::mend::edit::Field;
 use crate::names;
 use crate::run::Run;
-use second::table::{Row, MAKE_AVAILABLE, MAKE_VISIBLE, NON_PRIVATE};
+use second::table::{Row, MAKE_AVAILABLE, MAKE_VISIBLE};
 use std::collections::BTreeMap;
 
 /// What rows lack, and the rows that there aren't.
@@ -79,24 +79,29 @@ fn lack(has: Row, wanted: Row) -> Lack {
         };
         *place = moment("visible");
     }
-    let is_flagged = gains(MAKE_AVAILABLE) || gains(MAKE_VISIBLE);
+    lack.words = words(has, wanted, gains(MAKE_AVAILABLE) || gains(MAKE_VISIBLE));
+    lack
+}
+
+/// What else a box would say.
+fn words(has: Row, wanted: Row, is_flagged: bool) -> Vec<String> {
+    let mut words = Vec::new();
     let changes = |field: Field| field.of(has) != field.of(wanted);
     if changes(Field::Kind) {
-        lack.words.push(names::kind(wanted.kind));
+        words.push(names::kind(wanted.kind));
     }
     if changes(Field::Order) {
-        lack.words.push(names::order(wanted.order));
+        words.push(names::order(wanted.order));
     }
-    if gains(NON_PRIVATE) && !is_flagged {
-        lack.words.push("non-private".to_string());
+    if wanted.is_non_private() && !has.is_non_private() && !is_flagged {
+        words.push("non-private".to_string());
     }
     if changes(Field::Scope) && !(has.is_plain() && is_flagged) {
-        lack.words
-            .push(format!("{} scope", names::scope(wanted.scope)));
+        words.push(format!("{} scope", names::scope(wanted.scope)));
     }
     if changes(Field::Classes) {
         let more = names::classes(wanted.classes & !has.classes);
-        lack.words.push(more);
+        words.push(more);
     }
-    lack
+    words
 }

@@ -311,11 +311,18 @@ fn next_rows(run: &Run, columns: &[Vec<usize>]) -> Option<Vec<usize>> {
     ready.or_else(|| heads.first().map(|head| vec![*head]))
 }
 
+/// A row's number, and its label if it has one.
+fn labelled(run: &Run, number: usize) -> String {
+    match run.notes.label(number) {
+        Some(label) => format!("{number} {label}:"),
+        None => number.to_string(),
+    }
+}
+
 /// A row in one line; its tooltip has all of it.
 fn short_line(run: &Run, number: usize) -> String {
     let row = run.rows[number];
-    let label = run.notes.label(number).map(|label| format!(" {label}:"));
-    let mut line = format!("{number}{} ", label.unwrap_or_default());
+    let mut line = format!("{} ", labelled(run, number));
     line += &match row.kind {
         ATOMIC_RMW => "rmw".to_string(),
         kind => names::kind(kind)
@@ -381,8 +388,7 @@ fn broken(line: &str) -> Vec<String> {
 fn wide_lines(run: &Run, number: usize) -> Vec<String> {
     let row = run.rows[number];
     let kind = names::kind(row.kind);
-    let label = run.notes.label(number).map(|label| format!(" {label}:"));
-    let number = format!("{number}{}", label.unwrap_or_default());
+    let number = labelled(run, number);
     if row.is_queue_operation() {
         return operation_lines(&number, &kind);
     }
@@ -395,11 +401,7 @@ fn wide_lines(run: &Run, number: usize) -> Vec<String> {
     if row.is_access() {
         let bytes = names::byte_words(row).replace(" to ", "\u{2013}");
         let class = names::class(row.class);
-        let reference = match run.notes.references.get(&row.reference) {
-            Some(name) => name.clone(),
-            None => format!("ref {}", row.reference),
-        };
-        lines.push(format!("{bytes}, {reference}, {class}"));
+        lines.push(format!("{bytes}, {}, {class}", reference(run, row)));
     }
     let scope = names::scope(row.scope);
     if row.is_control_barrier() {
@@ -423,6 +425,14 @@ fn wide_lines(run: &Run, number: usize) -> Vec<String> {
         }
     }
     lines
+}
+
+/// A reference's name, or its number.
+fn reference(run: &Run, row: Row) -> String {
+    match run.notes.references.get(&row.reference) {
+        Some(name) => name.clone(),
+        None => format!("ref {}", row.reference),
+    }
 }
 
 /// A queue's operation is its kind, in two lines where it is long.

@@ -4,11 +4,12 @@
 mod common;
 mod scenarios;
 
-use common::with_relations;
+use common::{elements, with_relations};
 use scenarios::Scenario;
 use stramashly::{CheckAnswer, Checker};
-use tables::{Row, Table};
-use words::{explain_noted, stepped, Cure, Explanation, Notes};
+use tables::{checkable, hosted, Random, Row, Size, Table};
+use words::{explain_noted, page, show_noted, stepped};
+use words::{Cure, Explanation, Notes, Place, RowNote};
 
 /// So many first remedies mend a run that has one bug.
 const ROUNDS: usize = 3;
@@ -218,4 +219,52 @@ fn device_scope_has_its_feature() {
     ];
     let text = text_of(&Table::of_one_workgroup(2, &rows));
     place(&text, "the feature `vulkanMemoryModelDeviceScope`");
+}
+
+/// Notes with few places, names and labels for any rows.
+fn any_notes(random: &mut Random, rows: usize, agents: usize) -> Notes {
+    let row = |random: &mut Random, row: usize| RowNote {
+        label: random.percent(50).then(|| format!("l{row}")),
+        place: random.percent(70).then(|| Place {
+            file: "any.comp".to_string(),
+            line: random.below(3) as u32 + 1,
+            column: None,
+        }),
+        spot: (row + 1, 1),
+    };
+    Notes {
+        agents: (0..agents)
+            .map(|agent| random.percent(60).then(|| format!("n{agent}")))
+            .collect(),
+        references: [(1, "one".to_string())].into(),
+        rows: (0..rows).map(|number| row(random, number)).collect(),
+    }
+}
+
+/// Whatever rows are of one line, what is promised of changes is so, and pages
+/// and pictures are well-formed.
+#[test]
+fn any_places_do() {
+    let mut random = Random::new(392);
+    let mut checker = Checker::new();
+    let mut changes = 0;
+    for round in 0..500 {
+        let size = Size { least: 2, most: 14 };
+        let table = match round % 2 {
+            0 => checkable(&mut random, size).bytes(),
+            _ => hosted(&mut random, size).bytes(),
+        };
+        let notes = any_notes(&mut random, table[6].into(), table[5].into());
+        let explanation = explained(&table, &notes, &mut checker);
+        for cure in explanation.cures.iter().filter(|cure| cure.has_room) {
+            let changed = stepped(&table, &cure.steps()).unwrap();
+            assert_eq!(checker.check(&changed).to_string(), cure.answer);
+            changes += 1;
+        }
+        if round % 5 == 0 {
+            elements(&page(&table, &explanation, false));
+            assert_eq!(show_noted(&table, &notes).is_empty(), table.is_empty());
+        }
+    }
+    assert!(changes > 200, "{changes}");
 }

@@ -1,6 +1,6 @@
 //! Where each agent's column and each row's box stands.
 
-use super::ghost::Ghosts;
+use super::ghost::{Ghosts, Lack};
 use super::matter::WHOLE;
 use crate::account::Checked;
 use crate::names;
@@ -216,8 +216,9 @@ impl Layout {
     fn place(&self, checked: Checked, number: usize, ghosts: &Ghosts, top: i32) -> Place {
         let lack = ghosts.rows.get(&number).cloned().unwrap_or_default();
         let mut lines = self.lines(checked.run, number);
-        let lacks = lack.words.len();
-        lines.extend(lack.words);
+        let lacking = self.lacking(&lack);
+        let lacks = lacking.len();
+        lines.extend(lacking);
         let found = |place| moment(checked, number, place).map(|name| (name, false));
         let before = found(BEFORE).or(lack.before.map(|name| (name, true)));
         let after = found(AFTER).or(lack.after.map(|name| (name, true)));
@@ -250,6 +251,18 @@ impl Layout {
         }
     }
 
+    /// What else a row lacks, the last lines of its box.
+    fn lacking(&self, lack: &Lack) -> Vec<String> {
+        if lack.words.is_empty() {
+            return Vec::new();
+        }
+        let line = format!("missing: {}", lack.words.join(", "));
+        match self.is_narrow {
+            true => broken(&line),
+            false => vec![line],
+        }
+    }
+
     /// Wide enough for every box's text, whose first line is bold.
     fn column_width(&self, run: &Run, rows: &[usize], ghosts: &Ghosts) -> i32 {
         let new = ghosts
@@ -259,7 +272,7 @@ impl Layout {
         let boxes = rows.iter().map(|number| {
             let lack = ghosts.rows.get(number);
             let mut lines = self.lines(run, *number);
-            lines.extend(lack.into_iter().flat_map(|lack| lack.words.clone()));
+            lines.extend(lack.into_iter().flat_map(|lack| self.lacking(lack)));
             lines
         });
         let widths = boxes.chain(new).flat_map(|lines| {
@@ -346,7 +359,10 @@ fn short_line(run: &Run, number: usize) -> String {
 /// What stands in the box of a row that is missing.
 fn new_lines(row: Row, is_narrow: bool) -> Vec<String> {
     let kind = names::kind(row.kind);
-    let mut lines = vec![format!("missing, {kind}")];
+    let mut lines = match is_narrow {
+        true => vec!["missing:".to_string(), kind],
+        false => vec![format!("missing: {kind}")],
+    };
     if !row.is_plain() && !row.is_queue_operation() {
         let (order, scope) = (names::order(row.order), names::scope(row.scope));
         lines.push(format!("{order}, {scope}"));

@@ -10,6 +10,8 @@ use words::{glsl, spirv};
 
 const SHARED: u8 = 1;
 const IMAGE: u8 = 2;
+/// The semantics of outputs.
+const OUTPUT_SET: u8 = 8;
 
 /// Every instruction that a shader may have: each kind with its orders, scopes,
 /// sets of classes and flags.
@@ -161,6 +163,37 @@ fn glsl_compiles() {
         "glslangValidator",
         &["-V", "--target-env", "vulkan1.2", "-o", binary, source],
     ) {
+        run("spirv-val", &["--target-env", "vulkan1.2", binary]);
+    }
+}
+
+/// Outputs of a tessellation control shader, the one that shares them.
+#[test]
+fn outputs_compile() {
+    let mut statements = BTreeSet::new();
+    for (kind, scope) in [BARRIER, CONTROL_BARRIER]
+        .into_iter()
+        .flat_map(|kind| [WORKGROUP, FAMILY, DEVICE].map(|scope| (kind, scope)))
+    {
+        let row = Row {
+            kind,
+            scope,
+            class: WORKGROUP,
+            order: BOTH,
+            classes: OUTPUT_SET,
+            flags: MAKE_AVAILABLE | MAKE_VISIBLE,
+            ..Row::default()
+        };
+        statements.insert(format!("{};", glsl(row).trim_matches('`')));
+    }
+    assert_eq!(statements.len(), 6);
+    let body = Vec::from_iter(statements).join("\n");
+    let shader = format!("#version 450\n#extension GL_KHR_memory_scope_semantics : require\n#pragma use_vulkan_memory_model\nlayout(vertices = 4) out;\nlayout(location = 0) out float word[];\nvoid main() {{\nword[gl_InvocationID] = 1.0;\n{body}\n}}\n");
+    let (source, binary) = (scratch("said.tesc"), scratch("tesc.spv"));
+    fs::write(&source, shader).unwrap();
+    let [source, binary] = [&source, &binary].map(|path| path.to_str().unwrap());
+    let words = ["-V", "--target-env", "vulkan1.2", "-o", binary, source];
+    if run("glslangValidator", &words) {
         run("spirv-val", &["--target-env", "vulkan1.2", binary]);
     }
 }

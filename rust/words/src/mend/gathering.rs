@@ -108,9 +108,9 @@ fn direction(checked: Checked, goal: Goal) -> (usize, usize) {
         let is_source = checked.state.read_from(other) == Some(one);
         is_source || rows[one].reads() && checked.state.read_from(one) != Some(other)
     };
-    match (rows[first].reads(), comes_first(second, first)) {
-        (false, true) | (true, true) if !comes_first(first, second) => (second, first),
-        _ => (first, second),
+    match comes_first(second, first) && !comes_first(first, second) {
+        true => (second, first),
+        false => (first, second),
     }
 }
 

@@ -110,9 +110,8 @@ impl<'a> Searcher<'a> {
         let mut instructions = instructions(run);
         instructions.retain(|instruction| {
             let mut rows = instruction.rows.iter();
-            let strength = Strength::of(run, instruction);
-            let is_strongest = strength == Strength::most(run, instruction);
-            !is_strongest && rows.any(|row| tight.has(*row))
+            let most = Strength::most(run, instruction);
+            rows.any(|row| tight.has(*row)) && !instruction.edits(run, most).is_empty()
         });
         instructions.sort_by_key(|instruction| {
             let rows = instruction.rows.iter();

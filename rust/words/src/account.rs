@@ -2,6 +2,7 @@
 //! that it goes through, and the derivation between them.
 
 use crate::derivation::{at, derived_lines};
+use crate::mend::goal::Goal;
 use crate::names;
 use crate::run::Run;
 use second::State;
@@ -137,6 +138,22 @@ impl Checked<'_> {
         let steps = self.steps(&ordered.path);
         lines.extend(steps.iter().map(|step| format!("  {step}")));
         lines
+    }
+
+    /// The racing pairs, each with its lowest unordered byte.
+    pub fn races(&self) -> Vec<Goal> {
+        let rows = self.run.rows.len();
+        let pairs = (0..rows).flat_map(|x| (x + 1..rows).map(move |y| (x, y)));
+        let goals = pairs.filter_map(|(first, second)| {
+            let mut bytes = self.shared_bytes(first, second).into_iter();
+            let byte = bytes.find(|byte| self.state.races_at(first, second, *byte))?;
+            Some(Goal {
+                first,
+                second,
+                byte,
+            })
+        });
+        goals.collect()
     }
 
     /// The bytes that two rows share, lowest first.

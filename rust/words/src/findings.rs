@@ -7,7 +7,6 @@ use crate::headline::headline;
 use crate::judge::Judge;
 use crate::mend::goal::Goal;
 use crate::notes::Notes;
-use crate::race::races;
 use crate::refusal;
 use crate::run::Run;
 use second::{State, CYCLE_NUMBERS, WORK_WORDS};
@@ -48,7 +47,7 @@ pub fn findings(table: &[u8], notes: &Notes, checker: &mut dyn Judge) -> Vec<Fin
         Shown::Race(goal) => {
             let is_agreed = second.to_string() == answer;
             let mut found = vec![finding(answer, &shown, true)];
-            let others = races(checked).into_iter().filter(|other| *other != goal);
+            let others = checked.races().into_iter().filter(|other| *other != goal);
             let others = others.filter(|_| is_agreed).map(|other| {
                 let Goal {
                     first,

@@ -60,7 +60,7 @@ pub use headline::headline;
 pub use inconsistent::edge_name;
 pub use judge::Judge;
 pub use mend::change::{Change, Reason};
-pub use mend::cure::{Cure, Outcome};
+pub use mend::cure::{Cure, Order, Outcome};
 pub use mend::dependency::Dependency;
 pub use mend::edit::{edited, Edit, Field};
 pub use mend::goal::Goal;

@@ -3,7 +3,7 @@
 
 use crate::account::Checked;
 use crate::mend::change::{Change, Reason};
-use crate::mend::cure::{Cure, Outcome};
+use crate::mend::cure::{Cure, Order, Outcome};
 use crate::mend::edit::Field;
 use crate::mend::goal::Goal;
 use crate::mend::search::Search;
@@ -85,25 +85,9 @@ fn in_short(rule: u8, after: Row) -> &'static str {
     }
 }
 
-/// The racing pairs, each with its lowest unordered byte.
-pub fn races(checked: Checked) -> Vec<Goal> {
-    let rows = checked.run.rows.len();
-    let pairs = (0..rows).flat_map(|x| (x + 1..rows).map(move |y| (x, y)));
-    let goals = pairs.filter_map(|(first, second)| {
-        let mut bytes = checked.shared_bytes(first, second).into_iter();
-        let byte = bytes.find(|byte| checked.state.races_at(first, second, *byte))?;
-        Some(Goal {
-            first,
-            second,
-            byte,
-        })
-    });
-    goals.collect()
-}
-
 /// The other racing pairs.
 fn other_races(checked: Checked, goal: Goal) -> Option<String> {
-    let others = races(checked).into_iter();
+    let others = checked.races().into_iter();
     let others = others.filter(|other| (other.first, other.second) != (goal.first, goal.second));
     let races: Vec<String> = others
         .map(|other| {
@@ -314,8 +298,9 @@ fn outcome_words(cure: &Cure) -> String {
         Outcome::OtherRace { left } => format!("; {} left", counted_races(left)),
         _ => String::new(),
     };
-    let order = match &cure.order {
-        Some(order) => format!("{order}, and "),
+    let order = match cure.order {
+        Some(Order::Mutual) => "they are mutually-ordered, and ".to_string(),
+        Some(Order::Rule { rule, first }) => format!("L{rule} puts row {first} first, and "),
         None => String::new(),
     };
     format!(

@@ -7,7 +7,7 @@ use common::{generated, with_relations};
 use std::collections::BTreeSet;
 use stramashly::Checker;
 use tables::{Row, Table, INITIAL};
-use words::{edited, explain, parse_steps, stepped, Outcome};
+use words::{edited, explain, parse_steps, stepped, Order, Outcome};
 use words::{Cure, Edit, Explanation, Goal, Reason, Run, Shown, Step};
 
 /// The race of a racing table.
@@ -327,7 +327,7 @@ fn new_rows_go_with_what_was_read() {
     let explanation = explain(&table, &mut Checker::new());
     let cure = &explanation.cures[0];
     assert_eq!(cure.answer, "race-free");
-    assert_eq!(cure.order.as_deref(), Some("L2 puts row 1 first"));
+    assert_eq!(cure.order, Some(Order::Rule { rule: 2, first: 1 }));
     let steps: Vec<String> = cure.steps().iter().map(Step::to_string).collect();
     assert_eq!(
         steps,

@@ -20,13 +20,23 @@ pub struct Cure {
     /// New dependencies, of the rows as they are numbered then.
     pub dependencies: Vec<Dependency>,
     /// What orders the rows then; of a large table it isn't looked for.
-    pub order: Option<String>,
+    pub order: Option<Order>,
     /// What a check answers then.
     pub answer: String,
     pub outcome: Outcome,
     /// Whether the table has room for the new rows. Where it hasn't, they were
     /// tried with the racing agents' rows alone, and their places are those.
     pub has_room: bool,
+}
+
+/// Why racing rows are ordered.
+#[derive(Clone, Copy, Debug, PartialEq, Eq)]
+pub enum Order {
+    /// They are mutually-ordered atomics.
+    Mutual,
+    /// L1 to L5 puts this row first, by the number that it has in the table as
+    /// it is.
+    Rule { rule: u8, first: usize },
 }
 
 /// What comes of a change, the better first.

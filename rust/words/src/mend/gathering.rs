@@ -4,7 +4,6 @@
 use crate::account::Checked;
 use crate::mend::goal::Goal;
 use crate::mend::insertion::Insertion;
-use crate::race::races;
 use crate::run::Run;
 use second::table::*;
 use second::INITIAL;
@@ -82,7 +81,7 @@ fn room(run: &Run, (before, after): (usize, usize), agents: &[u8]) -> Option<Roo
 /// Room in which the barrier stands between the rows of other races too, as
 /// far as there is any.
 fn with_races(checked: Checked, mut room: Room) -> Room {
-    for goal in races(checked) {
+    for goal in checked.races() {
         let (before, after) = direction(checked, goal);
         let rows = &checked.run.rows;
         let (one, other) = (rows[before].agent, rows[after].agent);

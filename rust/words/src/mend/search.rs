@@ -8,7 +8,7 @@ use crate::account::Checked;
 use crate::judge::Judge;
 use crate::mend::catalogue::catalogue;
 use crate::mend::change::Change;
-use crate::mend::cure::{without_needless, Cure, Outcome};
+use crate::mend::cure::{without_needless, Cure, Order, Outcome};
 use crate::mend::edit::{merged, Edit};
 use crate::mend::goal::Goal;
 use crate::mend::instruction::{instructions, Instruction};
@@ -86,7 +86,7 @@ pub fn search(table: &[u8], checked: Checked, goal: Goal, checker: &mut dyn Judg
     cures.sort_by_key(|cure| cure.rank(is_silence_apt));
     found.cures = without_needless(&cures);
     for cure in &mut found.cures {
-        cure.order = searcher.order_words(cure);
+        cure.order = searcher.order(cure);
     }
     found.is_cut = searcher.budget == 0;
     found
@@ -417,7 +417,7 @@ impl<'a> Searcher<'a> {
     }
 
     /// What orders the rows once a cure is made.
-    fn order_words(&mut self, cure: &Cure) -> Option<String> {
+    fn order(&mut self, cure: &Cure) -> Option<Order> {
         if !cure.has_room {
             return None;
         }
@@ -436,20 +436,21 @@ impl<'a> Searcher<'a> {
         let mut state = State::new();
         state.check_with(chains, reduction.table(), WORK_WORDS, CYCLE_NUMBERS);
         if state.mutually_ordered(first, second) {
-            return Some("they are mutually-ordered".to_string());
+            return Some(Order::Mutual);
         }
         let checked = Checked {
             table: reduction.table(),
             state: &state,
             run: &run,
         };
-        let forth = checked.ordered(first, second, byte);
-        let back = || checked.ordered(second, first, byte);
-        let (row, ordered) = match forth {
-            Some(ordered) => (self.goal.first, ordered),
-            None => (self.goal.second, back()?),
-        };
-        Some(format!("L{} puts row {row} first", ordered.rule))
+        let ways = [
+            (self.goal.first, (first, second)),
+            (self.goal.second, (second, first)),
+        ];
+        ways.into_iter().find_map(|(first, (before, after))| {
+            let rule = checked.rule(before, after, byte)?;
+            Some(Order::Rule { rule, first })
+        })
     }
 
     /// Cures with new rows, those that leave least trouble, and whether the

@@ -273,6 +273,9 @@ fn completion(words: &Words) -> Result<Command, String> {
     }
 }
 
+/// The commands that have one line for an answer.
+const TAKERS: &str = "check, fill, report, derive, accepts";
+
 /// What goes with which command.
 fn check_options(task: &Task, words: &Words) -> Result<(), String> {
     let is_page = matches!(task, Task::Tell(Telling::Page { .. }));
@@ -284,8 +287,7 @@ fn check_options(task: &Task, words: &Words) -> Result<(), String> {
         return Err("only draw and explain take --all".to_string());
     }
     if words.is_json && !matches!(task, Task::Judge(_) | Task::Tell(Telling::Object)) {
-        let takers = "check, fill, report, derive, accepts, explain and batch";
-        return Err(format!("only {takers} take --json"));
+        return Err(format!("only {TAKERS}, explain and batch take --json"));
     }
     if words.is_sarif && *task != Task::Judge(Question::Check) {
         return Err("only check takes --sarif".to_string());
@@ -307,8 +309,7 @@ fn check_options(task: &Task, words: &Words) -> Result<(), String> {
         return Err("only check, fill, report, explain, draw and batch take --chains".to_string());
     }
     if words.then.is_some() && !is_explained && !matches!(task, Task::Judge(_)) {
-        let takers = "check, fill, report, derive, accepts, explain and draw";
-        return Err(format!("only {takers} take --then"));
+        return Err(format!("only {TAKERS}, explain and draw take --then"));
     }
     if words.is_quiet && !matches!(task, Task::Judge(_)) {
         return Err(format!("only {} take --quiet", Kind::NAMES));

@@ -223,11 +223,8 @@ fn answer(
             (status, text.into_bytes(), None)
         }
         Task::Tell(telling) => {
-            let file = match form {
-                Form::Json { file, .. } => file,
-                Form::Plain => None,
-            };
             let given = given.joined(second, checker);
+            let file = form.file();
             match given.and_then(|given| tell(checker, *telling, (&given, file), &mut text)) {
                 Ok(status) => (status, text.into_bytes(), None),
                 Err(reason) => (Status::Refused, Vec::new(), Some(reason.into())),

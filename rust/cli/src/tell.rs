@@ -56,12 +56,7 @@ pub fn tell(
         }
         Telling::Text => said(text, write(table, notes)),
         Telling::Lines => said(text, write_lines(table, notes)),
-        Telling::Show => {
-            *text += &show_noted(table, notes);
-            let refusal = refusal(table, checker);
-            *text += refusal.as_deref().unwrap_or_default();
-            Ok(refusal.map_or(Status::Fine, |_| Status::Refused))
-        }
+        Telling::Show => Ok(shown(checker, given, text)),
         Telling::Explain { is_all } => {
             let explanation = explain_noted(table, notes, checker, is_all);
             *text += &explanation.text();
@@ -82,6 +77,14 @@ pub fn tell(
             Ok(Status::Fine)
         }
     }
+}
+
+/// Appends a table in words, and why it is refused if it is.
+fn shown(checker: &mut Checker, given: &Given, text: &mut String) -> Status {
+    *text += &show_noted(&given.table, &given.notes);
+    let refusal = refusal(&given.table, checker);
+    *text += refusal.as_deref().unwrap_or_default();
+    refusal.map_or(Status::Fine, |_| Status::Refused)
 }
 
 /// Appends a table's text; only what a fill takes has one.

@@ -98,6 +98,10 @@ impl Checked<'_> {
                 subject(row).name
             ),
             Reason::NotAtomic { scope, .. } => self.not_atomic_words(line, scope),
+            Reason::EndsSequence { row } => format!(
+                "{} is an atomic write, and an acquire that reads it needn't see an earlier release; make it a read-modify-write",
+                subject(row).name
+            ),
             other => self.other_words(line, other, new),
         }
     }
@@ -116,10 +120,6 @@ impl Checked<'_> {
                 "row {row} read {}, not row {source}; let agent {} wait until it reads row {source}",
                 source_words(rows[row]),
                 rows[row].agent
-            ),
-            Reason::EndsSequence { row } => format!(
-                "{} is an atomic write, and an acquire that reads it needn't see an earlier release; make it a read-modify-write",
-                self.subject(line, row).name
             ),
             Reason::NoHandshake {
                 before,

@@ -149,6 +149,16 @@ fn flags_of(order: u8) -> u8 {
     goes_with.map(|(_, flag)| flag).sum()
 }
 
+/// What a plain row lacks of a strength besides its scope.
+fn plain_reason(row: usize, has: Row, strength: Strength) -> Option<Reason> {
+    let scope = strength.scope;
+    let more = strength.flags & !has.flags;
+    if more & (MAKE_AVAILABLE | MAKE_VISIBLE) != 0 {
+        return Some(Reason::PlainFlag { row, scope });
+    }
+    (more & NON_PRIVATE != 0).then_some(Reason::Private { row })
+}
+
 /// What a row lacks of a strength.
 fn reasons(run: &Run, row: usize, strength: Strength, is_ranked: bool) -> Vec<Reason> {
     let has = run.rows[row];
@@ -160,11 +170,9 @@ fn reasons(run: &Run, row: usize, strength: Strength, is_ranked: bool) -> Vec<Re
         is_ranked,
     });
     if has.is_plain() {
-        let is_private = !has.is_non_private() && strength.flags & NON_PRIVATE != 0;
-        return match (lacks_flags != 0, is_private) {
-            (true, _) => vec![Reason::PlainFlag { row, scope }],
-            (_, true) => vec![Reason::Private { row }],
-            _ => narrow.into_iter().collect(),
+        return match plain_reason(row, has, strength) {
+            Some(reason) => vec![reason],
+            None => narrow.into_iter().collect(),
         };
     }
     let order = strength.order & !has.order;

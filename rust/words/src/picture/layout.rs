@@ -419,28 +419,31 @@ fn wide_lines(run: &Run, number: usize) -> Vec<String> {
         let class = names::class(row.class);
         lines.push(format!("{bytes}, {}, {class}", reference(run, row)));
     }
-    let scope = names::scope(row.scope);
     if row.is_control_barrier() {
         let execution = names::scope(row.execution_scope());
         lines.push(format!("instance {}, {execution}", row.instance()));
     }
-    if row.is_plain() && !row.is_non_private() {
-        lines.push("private".to_string());
-    } else if row.is_control_barrier() && row.order == RELAXED {
-        lines.push("execution only".to_string());
-    } else if !row.is_plain() && row.classes == 0 {
-        lines.push(format!("{scope} scope"));
-    } else if !row.is_plain() {
-        let classes = names::classes(row.classes);
-        // Many classes need a line of their own.
-        if row.classes.count_ones() > 2 {
-            lines.push(classes);
-            lines.push(format!("{scope} scope"));
-        } else {
-            lines.push(format!("{classes}, {scope}"));
-        }
-    }
+    lines.extend(semantics_lines(row));
     lines
+}
+
+/// Privacy, or classes and scope.
+fn semantics_lines(row: Row) -> Vec<String> {
+    let scope = names::scope(row.scope);
+    let classes = names::classes(row.classes);
+    if row.is_plain() {
+        let private = (!row.is_non_private()).then(|| "private".to_string());
+        return private.into_iter().collect();
+    }
+    if row.is_control_barrier() && row.order == RELAXED {
+        return vec!["execution only".to_string()];
+    }
+    match row.classes.count_ones() {
+        0 => vec![format!("{scope} scope")],
+        1 | 2 => vec![format!("{classes}, {scope}")],
+        // Many classes need a line of their own.
+        _ => vec![classes, format!("{scope} scope")],
+    }
 }
 
 /// A reference's name, or its number.

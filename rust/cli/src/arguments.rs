@@ -67,7 +67,7 @@ impl Request {
     pub fn may_be_coloured(&self) -> bool {
         let is_answer = matches!(
             self.task,
-            Task::Judge(_) | Task::Tell(Telling::Explain | Telling::Why { .. })
+            Task::Judge(_) | Task::Tell(Telling::Explain { .. } | Telling::Why { .. })
         );
         is_answer && !self.is_json && !self.is_sarif
     }
@@ -142,10 +142,7 @@ pub fn parse(words: impl Iterator<Item = OsString>) -> Result<Command, String> {
             (false, true) => Telling::Lines,
             (true, true) => return Err("--text or --json-lines, not both".to_string()),
         }),
-        Some("explain") if words.is_html => Task::Tell(Telling::Page {
-            is_all: words.is_all,
-        }),
-        Some("explain") => Task::Tell(Telling::Explain),
+        Some("explain") => Task::Tell(explanation(&words)?),
         Some("draw") => Task::Tell(Telling::Draw {
             is_all: words.is_all,
         }),
@@ -161,6 +158,18 @@ pub fn parse(words: impl Iterator<Item = OsString>) -> Result<Command, String> {
         }
     };
     files(task, words)
+}
+
+/// How an answer is explained.
+fn explanation(words: &Words) -> Result<Telling, String> {
+    let is_all = words.is_all;
+    match (words.is_html, words.is_json) {
+        (true, true) => Err("--html or --json, not both".to_string()),
+        (true, false) => Ok(Telling::Page { is_all }),
+        (false, true) if is_all => Err("explain --json has all without --all".to_string()),
+        (false, true) => Ok(Telling::Object),
+        (false, false) => Ok(Telling::Explain { is_all }),
+    }
 }
 
 /// The question, from the words after the file of a command that takes one
@@ -264,18 +273,21 @@ fn completion(words: &Words) -> Result<Command, String> {
     }
 }
 
+/// The commands that have one line for an answer.
+const TAKERS: &str = "check, fill, report, derive, accepts";
+
 /// What goes with which command.
 fn check_options(task: &Task, words: &Words) -> Result<(), String> {
     let is_page = matches!(task, Task::Tell(Telling::Page { .. }));
     if words.is_html && !is_page {
         return Err("only explain takes --html".to_string());
     }
-    let is_drawn = is_page || matches!(task, Task::Tell(Telling::Draw { .. }));
-    if words.is_all && !is_drawn {
-        return Err("only draw and explain --html take --all".to_string());
+    let is_explained = is_page || is_explained(task);
+    if words.is_all && !is_explained {
+        return Err("only draw and explain take --all".to_string());
     }
-    if words.is_json && !matches!(task, Task::Judge(_)) {
-        return Err(format!("only {} and batch take --json", Kind::NAMES));
+    if words.is_json && !matches!(task, Task::Judge(_) | Task::Tell(Telling::Object)) {
+        return Err(format!("only {TAKERS}, explain and batch take --json"));
     }
     if words.is_sarif && *task != Task::Judge(Question::Check) {
         return Err("only check takes --sarif".to_string());
@@ -296,8 +308,8 @@ fn check_options(task: &Task, words: &Words) -> Result<(), String> {
     if words.has_chains && !takes_chains(task) {
         return Err("only check, fill, report, explain, draw and batch take --chains".to_string());
     }
-    if words.then.is_some() && !matches!(task, Task::Judge(_)) {
-        return Err(format!("only {} take --then", Kind::NAMES));
+    if words.then.is_some() && !is_explained && !matches!(task, Task::Judge(_)) {
+        return Err(format!("only {TAKERS}, explain and draw take --then"));
     }
     if words.is_quiet && !matches!(task, Task::Judge(_)) {
         return Err(format!("only {} take --quiet", Kind::NAMES));
@@ -305,12 +317,24 @@ fn check_options(task: &Task, words: &Words) -> Result<(), String> {
     Ok(())
 }
 
+/// Whether a run is explained or drawn, but for a page.
+fn is_explained(task: &Task) -> bool {
+    let Task::Tell(telling) = task else {
+        return false;
+    };
+    matches!(
+        telling,
+        Telling::Explain { .. } | Telling::Object | Telling::Draw { .. }
+    )
+}
+
 /// Whether chains play a part: derivations and forms don't depend on them.
 fn takes_chains(task: &Task) -> bool {
     matches!(
         task,
         Task::Judge(Question::Check | Question::Fill | Question::Report)
-            | Task::Tell(Telling::Explain | Telling::Page { .. } | Telling::Draw { .. })
+            | Task::Tell(Telling::Explain { .. } | Telling::Object)
+            | Task::Tell(Telling::Page { .. } | Telling::Draw { .. })
             | Task::Make(Making::Filled)
     )
 }

@@ -58,13 +58,15 @@ pub const COMMANDS: [Entry; 13] = [
     entry("make", "the table of a text or of JSON lines", &["--hex"]),
     entry(
         "explain",
-        "the answer in sentences, or as a page",
-        &["--hex", "--html", "--all", "--chains", "--jobs"],
+        "the answer in sentences, as an object or as a page",
+        &[
+            "--hex", "--html", "--json", "--all", "--chains", "--jobs", "--then",
+        ],
     ),
     entry(
         "draw",
         "the run as a picture",
-        &["--hex", "--all", "--chains"],
+        &["--hex", "--all", "--chains", "--then"],
     ),
     entry("edit", "the table with changes made", &["--hex"]),
     entry(
@@ -99,7 +101,7 @@ pub const OPTIONS: [(&str, &str); 15] = [
     ("--text", "as text that can be read again"),
     ("--json-lines", "as JSON, an object a line"),
     ("--html", "as a page"),
-    ("--all", "draw every row"),
+    ("--all", "every row, pair and change"),
     ("--help", "print the help"),
     ("--version", "print the version"),
 ];
@@ -176,7 +178,6 @@ mod tests {
                     ("derive", _) => "a 1 2",
                     ("accepts", _) => "a 1 2 3",
                     ("edit", _) => "a row=2",
-                    ("explain", "--all") => "--html a",
                     ("completion", _) => "bash",
                     ("batch" | "help", _) => "",
                     _ => "a",

@@ -179,8 +179,9 @@ fn outcome(request: &Request, are_named: bool, checker: &mut Checker, name: Name
     };
     let (status, bytes, reason) = match given {
         Ok((given, second)) => {
-            let form = form(Some(&given.notes));
-            answer(request, (&file, form), (&given, second.as_deref()), checker)
+            let notes = given.notes.clone();
+            let form = form(Some(&notes));
+            answer(request, (&file, form), (given, second.as_deref()), checker)
         }
         Err(reason) => {
             let mut text = String::new();
@@ -202,7 +203,7 @@ fn outcome(request: &Request, are_named: bool, checker: &mut Checker, name: Name
 fn answer(
     request: &Request,
     (name, form): (&str, Form),
-    (given, second): (&Given, Option<&[u8]>),
+    (given, second): (Given, Option<&[u8]>),
     checker: &mut Checker,
 ) -> (Status, Vec<u8>, Option<Unread>) {
     let mut text = String::new();
@@ -212,7 +213,7 @@ fn answer(
                 file: (name != "-").then_some(name),
                 is_hex: request.is_hex,
             };
-            let text = results(given, &origin, checker);
+            let text = results(&given, &origin, checker);
             let status = checker.check(&given.table).status();
             (status, text.into_bytes(), None)
         }
@@ -221,11 +222,15 @@ fn answer(
             let status = judge(checker, question, table, form, &mut text);
             (status, text.into_bytes(), None)
         }
-        Task::Tell(telling) => match tell(checker, *telling, given, &mut text) {
-            Ok(status) => (status, text.into_bytes(), None),
-            Err(reason) => (Status::Refused, Vec::new(), Some(reason.into())),
-        },
-        Task::Make(making) => match make(checker, making, given) {
+        Task::Tell(telling) => {
+            let given = given.joined(second, checker);
+            let file = form.file();
+            match given.and_then(|given| tell(checker, *telling, (&given, file), &mut text)) {
+                Ok(status) => (status, text.into_bytes(), None),
+                Err(reason) => (Status::Refused, Vec::new(), Some(reason.into())),
+            }
+        }
+        Task::Make(making) => match make(checker, making, &given) {
             Ok(made) if request.is_hex => {
                 let digits = hex_line(&made.table).into_bytes();
                 (made.status, digits, made.told.map(Unread::from))

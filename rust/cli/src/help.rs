@@ -41,9 +41,13 @@ usage:
   stramashly show --text FILE         the table as text, to be read again
   stramashly show --json-lines FILE   the same as JSON, an object a line
   stramashly make [--hex] FILE        the table of a text or of JSON lines
-  stramashly explain [--hex] FILE...  each table's answer in sentences: what is missing, what to change
+  stramashly explain [--all] [--hex] FILE...
+                                      each table's answer in sentences: what is missing, what to
+                                      change; with --all every pair and every change
+  stramashly explain --json [--hex] FILE...
+                                      the same as an object
   stramashly explain --html [--all] [--hex] FILE
-                                      the same as a page, with the table and the picture
+                                      the same as a page, with the picture and the table
   stramashly draw [--all] [--hex] FILE
                                       the run as a picture (SVG); of a large run the rows that
                                       matter, or --all
@@ -60,25 +64,26 @@ usage:
   stramashly --help | --version
 
 FILE `-` is standard input; a directory stands for the files in it and below it that end in
-.table, or in .hex with --hex. With --hex a file holds hex digits, and a new table is written
-in them; white space is ignored. `--` ends the options, for names that begin with a dash. With
---json each answer of check, fill, report, derive, accepts and batch is an object. With --quiet
-these print no answers: the exit status has it. With --chains, check, fill, report, explain, draw
-and batch answer for a device that reports vulkanMemoryModelAvailabilityVisibilityChains. -j N
-works in N threads, answers in order. With --then ROWS, check, fill, report, derive and accepts
-add the rows of the file ROWS, 16 bytes each, after those of FILE, and answer for the joined table;
-sources and moments are counted over both. In a batch line of two pieces `-` is a piece of no
-bytes. An answer is coloured on a terminal unless NO_COLOR is set. Of several files a last line
-on standard error says how many had which answer.
+.table, or in .hex with --hex. With --hex a file holds hex digits, and a new table is written in
+them; white space is ignored. `--` ends the options, for names that begin with a dash. With --json
+each answer of check, fill, report, derive, accepts, explain and batch is an object. With --quiet
+check, fill, report, derive and accepts print no answers: the exit status has it. With --chains,
+check, fill, report, explain, draw and batch answer for a device that reports
+vulkanMemoryModelAvailabilityVisibilityChains. -j N works in N threads, answers in order. With
+--then ROWS, check, fill, report, derive, accepts, explain and draw add the rows of the file ROWS,
+16 bytes each, after those of FILE, and answer for the joined table; sources and moments are
+counted over both. In a batch line `-` is a piece of no bytes. An answer is coloured on a terminal
+unless NO_COLOR is set. Of several files a last line on standard error says how many had which
+answer.
 
 Instead of a table's bytes a FILE may hold text, which begins with `stramashly` and a version, or
 JSON lines, which begin with `{`. What is wrong with it is told as FILE:LINE:COLUMN. Where it says
 `@ shader.comp:12`, explain, draw and --json name that place beside the row.
 
-An EDIT is `row R FIELD VALUE`, `insert R FIELD VALUE ...` or `depend R S`, several with `;`
-between them: kind, agent, order, scope, classes, flags, class, length, start, reference, source,
-rank. A new row has place R, and the rows from there on move on by one, sources and dependencies
-with them. With depend, in a table of version 3, row S depends on row R.
+An EDIT is `row R FIELD VALUE`, `rows R-S,T FIELD VALUE`, `insert R FIELD VALUE ...` or `depend R
+S`, several with `;` between them: kind, agent, order, scope, classes, flags, class, length,
+start, reference, source, rank. A new row has place R, and the rows from there on move on by one,
+sources and dependencies with them. With depend, in a table of version 3, row S depends on row R.
 
 A moment is 3 times its row, plus 0, 1 or 2: before it, the row itself, after it; or R.before,
 R.at, R.after. S is a class set, 1 to 15: the sum of 1 Uniform, 2 Workgroup, 4 Image, 8 Output. A STEP is 512 times its
@@ -134,14 +139,19 @@ exit status, of several files the highest:
   1 race, a report with races, not-before or not-accepted
   2 cycle, overwritten or none    3 refused    4 bad usage, or a file that can't be read
 
-explain begins with the line of check and has its exit status. show and draw have 0, or 3
+explain begins with the line of check and has its exit status. As an object it has check's
+members, and of a race \"nearest\", the rule that comes nearest with \"before\", \"after\" and \"lacks\",
+and \"changes\": of each \"reasons\", \"edit\", the \"answer\" after it, \"outcome\", the races \"left\",
+whether it \"orders\", \"glsl\" and \"spirv\"; last \"words\", the sentences. show and draw have 0, or 3
 for a refused table: show then tells what can be read, draw has no picture.
 
 show --text and --json-lines write nothing of a table that a fill refuses, and make nothing of a
 text that gives one: the refusal is told on standard error, and the status is 3.
 
-edit has 0, or 3 if the new table is refused, and fill --table has fill's statuses: where there
-is nothing to write, the answer is told on standard error.
+edit writes text where FILE holds text, with its names, labels and places, and JSON lines where it
+holds those. It has 0, or 3 if the new table is refused, which is written as bytes, and fill
+--table has fill's statuses: where there is nothing to write, the answer is told on standard
+error.
 
 batch answers every line, in order; blank lines and those that begin with # have no answer. A
 bad line is answered `error` and a reason; the next line is read all the same. Its exit status

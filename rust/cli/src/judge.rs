@@ -21,6 +21,16 @@ pub enum Form<'a> {
     },
 }
 
+impl<'a> Form<'a> {
+    /// The file's name that an object has.
+    pub fn file(self) -> Option<&'a str> {
+        match self {
+            Form::Json { file, .. } => file,
+            Form::Plain => None,
+        }
+    }
+}
+
 /// Appends the answer and a line's end to the text. The table may have a second
 /// piece.
 pub fn judge(

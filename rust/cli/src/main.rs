@@ -7,6 +7,7 @@ mod catalogue;
 mod checker;
 mod colour;
 mod completion;
+mod explained;
 mod files;
 mod folder;
 mod help;

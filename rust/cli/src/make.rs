@@ -4,8 +4,8 @@ use crate::hex::digits;
 use crate::read::{Given, Unread};
 use crate::Status;
 use stramashly::{Checker, FillAnswer, BLANK};
-use text::remade;
-use words::{edited, stepped, Edit, Field, Run, Step};
+use text::{remade, write, write_lines, Form};
+use words::{edited, parse_steps, stepped, Edit, Field, Run, Step};
 
 /// How a table is made.
 #[derive(Clone, Debug, PartialEq, Eq)]
@@ -18,7 +18,8 @@ pub enum Making {
     Edited(Vec<Step>),
 }
 
-/// A new table, and what is to be told of it.
+/// A new table, as bytes or in the form of the old one, and what is to be told
+/// of it.
 pub struct Made {
     pub table: Vec<u8>,
     pub status: Status,
@@ -49,10 +50,23 @@ pub fn make(
                     let told = format!("made; it is {refusal}");
                     Ok(made(table, Status::Refused, Some(told)))
                 }
-                Ok(table) => Ok(made(table, Status::Fine, None)),
+                Ok(table) => Ok(made(said(given, table, steps), Status::Fine, None)),
             }
         }
     }
+}
+
+/// A new table in the form that the old one had, with its names, labels and
+/// places.
+fn said(given: &Given, table: Vec<u8>, steps: &[Step]) -> Vec<u8> {
+    let notes = given.notes.stepped(steps);
+    let text = match given.form {
+        Some(Form::Text) => write(&table, &notes),
+        Some(Form::Lines) => write_lines(&table, &notes),
+        None => return table,
+    };
+    // A text is only refused where its table is.
+    text.map_or(table, String::into_bytes)
 }
 
 /// The table of a text; a refusal is told at its row's place.
@@ -89,9 +103,7 @@ fn filled(checker: &mut Checker, table: &[u8]) -> Result<Vec<u8>, (Status, Unrea
 /// The steps of an edit: words like `row 2 flags 3`, several with semicolons
 /// between them.
 pub fn steps(words: &[&str]) -> Result<Vec<Step>, String> {
-    let parts = words.iter().flat_map(|word| word.split(';'));
-    let parts = parts.map(str::trim).filter(|part| !part.is_empty());
-    let steps: Vec<Step> = parts.map(str::parse).collect::<Result<_, _>>()?;
+    let steps = parse_steps(&words.join(";"))?;
     if steps.is_empty() {
         return Err("edit takes one table and what is to be changed, like 'row 2 flags 3'".into());
     }

@@ -9,6 +9,7 @@ use std::ffi::OsStr;
 use std::fmt;
 use std::fs::File;
 use std::io::{self, ErrorKind, Read};
+use stramashly::Checker;
 use text::{Draft, Form, Trouble};
 use words::Notes;
 
@@ -21,6 +22,23 @@ pub struct Given {
     pub notes: Notes,
     /// The parts, of what wasn't bytes.
     pub draft: Option<Draft>,
+    /// The form of what wasn't bytes.
+    pub form: Option<Form>,
+}
+
+impl Given {
+    /// The table with the rows of a second piece after its own; the answer of
+    /// the proved library if there is no such table.
+    pub fn joined(self, second: Option<&[u8]>, checker: &mut Checker) -> Result<Given, String> {
+        let Some(second) = second else {
+            return Ok(self);
+        };
+        let pieces = [&self.table[..], second];
+        match words::joined(pieces) {
+            Ok(table) => Ok(Given { table, ..self }),
+            Err(_) => Err(checker.check_pieces(pieces).to_string()),
+        }
+    }
 }
 
 impl From<Vec<u8>> for Given {
@@ -29,6 +47,7 @@ impl From<Vec<u8>> for Given {
             table,
             notes: Notes::default(),
             draft: None,
+            form: None,
         }
     }
 }
@@ -119,6 +138,7 @@ fn read_text(form: Form, bytes: &[u8]) -> Result<Given, Unread> {
         table: draft.bytes(),
         notes: draft.notes.clone(),
         draft: Some(draft),
+        form: Some(form),
     })
 }
 

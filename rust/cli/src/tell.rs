@@ -1,10 +1,12 @@
 //! One table told in words or as a picture, and the status that goes with it.
 
+use crate::answers::Answer;
+use crate::explained;
 use crate::read::Given;
 use crate::Status;
-use stramashly::{Checker, DeriveAnswer};
+use stramashly::Checker;
 use text::{write, write_lines, Refusal};
-use words::{draw_noted, explain_noted, page, refusal, show, why, Explanation, Shown};
+use words::{draw_noted, explain_noted, page, refusal, show_noted, why, Explanation, Shown};
 
 /// How a table is told.
 #[derive(Clone, Copy, Debug, PartialEq, Eq)]
@@ -14,7 +16,12 @@ pub enum Telling {
     Text,
     /// As JSON lines.
     Lines,
-    Explain,
+    /// In sentences; at length if all is wanted.
+    Explain {
+        is_all: bool,
+    },
+    /// An explanation as an object.
+    Object,
     /// An explanation as a page.
     Page {
         is_all: bool,
@@ -32,41 +39,37 @@ pub enum Telling {
 }
 
 /// Appends the words or the picture to the text; the reason if a refused
-/// table has none.
+/// table has none. An object has the file's name if there is one.
 pub fn tell(
     checker: &mut Checker,
     telling: Telling,
-    given: &Given,
+    (given, file): (&Given, Option<&str>),
     text: &mut String,
 ) -> Result<Status, String> {
     let Given { table, notes, .. } = given;
     match telling {
+        Telling::Object => {
+            let explanation = explain_noted(table, notes, checker, false);
+            let object = explained::object(file, &checker.check(table), &explanation);
+            *text += &format!("{object}\n");
+            Ok(status(&explanation))
+        }
         Telling::Text => said(text, write(table, notes)),
         Telling::Lines => said(text, write_lines(table, notes)),
-        Telling::Show => {
-            *text += &show(table);
-            let refusal = refusal(table, checker);
-            *text += refusal.as_deref().unwrap_or_default();
-            Ok(refusal.map_or(Status::Fine, |_| Status::Refused))
-        }
-        Telling::Explain => {
-            let explanation = explain_noted(table, notes, checker);
+        Telling::Show => Ok(shown(checker, given, text)),
+        Telling::Explain { is_all } => {
+            let explanation = explain_noted(table, notes, checker, is_all);
             *text += &explanation.text();
             Ok(status(&explanation))
         }
         Telling::Page { is_all } => {
-            let explanation = explain_noted(table, notes, checker);
+            let explanation = explain_noted(table, notes, checker, is_all);
             *text += &page(table, &explanation, is_all);
             Ok(status(&explanation))
         }
         Telling::Why { first, second } => {
             *text += &why(table, first, second, checker);
-            Ok(match checker.derive(table, first, second) {
-                DeriveAnswer::Derivation(_) => Status::Fine,
-                DeriveAnswer::NotBefore => Status::No,
-                DeriveAnswer::Refused { .. } => Status::Refused,
-                _ => Status::Trouble,
-            })
+            Ok(checker.derive(table, first, second).status())
         }
         Telling::Draw { is_all } => {
             let picture = draw_noted(table, notes, checker, is_all);
@@ -74,6 +77,14 @@ pub fn tell(
             Ok(Status::Fine)
         }
     }
+}
+
+/// Appends a table in words, and why it is refused if it is.
+fn shown(checker: &mut Checker, given: &Given, text: &mut String) -> Status {
+    *text += &show_noted(&given.table, &given.notes);
+    let refusal = refusal(&given.table, checker);
+    *text += refusal.as_deref().unwrap_or_default();
+    refusal.map_or(Status::Fine, |_| Status::Refused)
 }
 
 /// Appends a table's text; only what a fill takes has one.

@@ -123,11 +123,36 @@ fn several_files_have_their_names() {
     assert!(answer.messages.contains("no-such-file"));
 }
 
+/// An explanation's members: check's, what is missing, and the changes with
+/// their edits and the answer after each.
+#[test]
+fn an_explanation_is_an_object() {
+    let leak = format!("{}/../../examples/leak.table", env!("CARGO_MANIFEST_DIR"));
+    let answer = stramashly(&["explain", "--json", &leak], b"");
+    assert_eq!(answer.status, Some(1));
+    let object = answer.output;
+    let begin = r#"{"verdict":"race","first":0,"second":4,"byte":0,"nearest":{"rule":"L3","before":0,"after":4,"lacks":["byte 0 of agent 0's write in row 0 is never made available to agent 1"]},"changes":[{"reasons":["#;
+    assert!(object.starts_with(begin), "{object}");
+    let change = r#","edit":"row 2 flags 3","answer":"race-free","outcome":"race-free","left":0,"orders":true,"has-room":true,"glsl":["row 2 `atomicStore("#;
+    assert!(object.contains(change), "{object}");
+    let other = r#""answer":"race 1 5 16","outcome":"other races","left":1,"orders":true"#;
+    assert!(object.contains(other), "{object}");
+    assert!(object.contains(r#""orders":false"#), "{object}");
+    assert_eq!(object.lines().count(), 1);
+    let free = stramashly(&["explain", "--json", "--hex", "-"], P.as_bytes()).output;
+    let begin =
+        r#"{"verdict":"race-free","words":["2 pairs of rows conflict, and each is ordered:","#;
+    assert!(free.starts_with(begin), "{free}");
+    let unread = stramashly(&["explain", "--json", "no-such-file"], b"");
+    assert!(unread.output.starts_with(r#"{"verdict":"error","#));
+}
+
 #[test]
 fn bad_usage_is_told() {
     for words in [
         ["show", "--json", "a"].as_slice(),
-        &["explain", "--json", "a"],
+        &["explain", "--json", "--html", "a"],
+        &["explain", "--json", "--all", "a"],
         &["draw", "--json", "a"],
         &["fill", "--table", "--json", "a"],
     ] {

@@ -167,3 +167,27 @@ fn derivations_are_put_into_words() {
     let blank = of("derive --words fill.table 2.at 1.at");
     assert_eq!(blank.output, expected);
 }
+
+/// An edit of a text is a text, with its names, labels and places; of JSON
+/// lines it is JSON lines.
+#[test]
+fn an_edited_text_stays_one() {
+    let edits = "row 2 flags 3; insert 1 kind 1 agent 0 flags 1 length 4 start 40 reference 1";
+    let (made, messages, status) = bytes_of(&["edit", "leak.txt", edits]);
+    assert_eq!((messages.as_str(), status), ("", Some(0)));
+    let text = String::from_utf8(made).unwrap();
+    let old = std::fs::read_to_string(examples().join("leak.txt")).unwrap();
+    let (edited, _, _) = bytes_of(&["edit", "leak.table", edits]);
+    let scratch = common::scratch().join("edited-leak.txt");
+    std::fs::write(&scratch, &text).unwrap();
+    let again = bytes_of(&["make", scratch.to_str().unwrap()]).0;
+    assert_eq!(again, edited);
+    let places = old.lines().filter_map(|line| line.split_once(" @ "));
+    let mut count = 0;
+    for (_, place) in places {
+        assert!(text.contains(&format!("@ {place}")), "{text}");
+        count += 1;
+    }
+    assert!(count == 6 && text.contains("agent allocator"), "{text}");
+    assert!(text.contains("publish: allocator atomic-write"), "{text}");
+}

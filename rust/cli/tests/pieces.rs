@@ -182,3 +182,37 @@ fn rows_are_added_to_a_text() {
         (object.to_string(), Some(1))
     );
 }
+
+/// A race found in two pieces is explained and drawn as in one.
+#[test]
+fn two_pieces_are_explained_and_drawn() {
+    let leak = fs::read(format!(
+        "{}/../../examples/leak.table",
+        env!("CARGO_MANIFEST_DIR")
+    ));
+    let leak = tables::hex(&leak.unwrap());
+    // Two agents and the first three of six rows.
+    let at = 2 * (8 + 12 + 48);
+    let first = format!("{:08x}01020300{}", 4 + 12 + 48, &leak[16..at]);
+    let (a, b) = (file("leak-1.hex", &first), file("leak-2.hex", &leak[at..]));
+    let whole = file("leak-whole.hex", &leak);
+    for command in [
+        &["explain"][..],
+        &["explain", "--all"],
+        &["explain", "--json"],
+        &["explain", "--html"],
+        &["draw"],
+    ] {
+        let of_pieces = [command, &["--hex", &a, "--then", &b]].concat();
+        let of_whole = [command, &["--hex", &whole]].concat();
+        assert_eq!(answered(&of_pieces, ""), answered(&of_whole, ""));
+    }
+    let odd = file("leak-odd.hex", "00");
+    let answer = stramashly(&["explain", "--hex", &a, "--then", &odd], b"");
+    assert_eq!((answer.output.as_str(), answer.status), ("", Some(3)));
+    assert!(
+        answer.messages.contains("refused 40 0"),
+        "{}",
+        answer.messages
+    );
+}

@@ -91,7 +91,6 @@ fn commands_take_text_in_place_of_a_table() {
         "derive FILE 3 8",
         "derive --words FILE 3 8",
         "accepts FILE 3 8 1 1028",
-        "show FILE",
         "check --chains FILE",
     ] {
         let of = |file: &str| {
@@ -103,18 +102,8 @@ fn commands_take_text_in_place_of_a_table() {
         };
         assert_eq!(of(&text), of(&table), "{words}");
     }
-    for words in [
-        &["edit", "FILE", "row 1 flags 3"][..],
-        &["fill", "--table", "FILE"],
-    ] {
-        let of = |file: &'static str| {
-            let words = words
-                .iter()
-                .map(|word| if *word == "FILE" { file } else { word });
-            bytes_of(&scratch(), &words.collect::<Vec<_>>()).0
-        };
-        assert_eq!(of("leak.txt"), of("made.table"));
-    }
+    let filled = |file| bytes_of(&scratch(), &["fill", "--table", file]).0;
+    assert_eq!(filled("leak.txt"), filled("made.table"));
     // Standard input, and several files.
     assert_eq!(
         stramashly(&["check", "-"], LEAK.as_bytes()).output,
@@ -167,16 +156,31 @@ fn places_and_names_are_told() {
     let text = file("places.txt", LEAK);
     let explained = stramashly(&["explain", &text], b"").output;
     for part in [
-        "row 0, agent 0's plain write of bytes 0 to 3 by reference 1 in Uniform, non-private, at shaders/alloc.comp:41\n",
-        "read row 0, at shaders/alloc.comp:52:9\n",
-        "In the program:\n  row 1 (w1): shaders/alloc.comp:44\n",
-        "In the text, agent 0 is producer, agent 1 is consumer, reference 1 is owner and reference 3 is flag.\n",
+        "row 0 (w0, shaders/alloc.comp:41), producer's (agent 0) plain write of bytes 0 to 3 by `owner` (reference 1) in Uniform, non-private\n",
+        "row 3 (shaders/alloc.comp:52:9), consumer's (agent 1) plain read",
+        "the release in row 1 (w1, shaders/alloc.comp:44) has no make-available flag",
     ] {
         assert!(explained.contains(part), "{explained}");
     }
     let drawn = stramashly(&["draw", &text], b"").output;
     assert!(drawn.contains(">@ alloc.comp:41</text>"), "{drawn}");
-    assert!(drawn.contains("non-private, at shaders/alloc.comp:41</title>"));
+    assert!(
+        drawn.contains(">row 0 (w0, shaders/alloc.comp:41), producer&#39;s (agent 0) plain write")
+    );
+    assert!(drawn.contains(">0 w0:  plain write</text>"), "{drawn}");
+    assert!(
+        drawn.contains(">bytes 0\u{2013}3, owner, Uniform</text>"),
+        "{drawn}"
+    );
+    let shown = stramashly(&["show", &text], b"").output;
+    for part in [
+        "agent 0 (producer): family 0",
+        "  producer (0)  ",
+        "  owner (1)  ",
+        "  w0 ",
+    ] {
+        assert!(shown.contains(part), "{shown}");
+    }
     assert!(drawn.contains(">agent 0, producer</text>"), "{drawn}");
     // Letters that have a meaning in a picture are written out.
     let odd = LEAK.replace("shaders/alloc.comp:41", "a<b&c.comp:3");

@@ -2,6 +2,7 @@
 //! that it goes through, and the derivation between them.
 
 use crate::derivation::{at, derived_lines};
+use crate::mend::goal::Goal;
 use crate::names;
 use crate::run::Run;
 use second::State;
@@ -26,25 +27,30 @@ pub struct Checked<'a> {
 }
 
 impl Checked<'_> {
-    /// The lowest rule by which X comes before Y at a byte.
-    pub fn ordered(&self, x: usize, y: usize, byte: u32) -> Option<Ordered> {
+    /// The number of the lowest rule by which X comes before Y at a byte.
+    pub fn rule(&self, x: usize, y: usize, byte: u32) -> Option<u8> {
         let [l1, l2, l3] = self.state.rules_at(x, y, byte);
         let [l4, l5] = self.state.system_rules(x, y);
         let rules = [l1, l2, l3, l4, l5];
-        let rule = rules.iter().position(|holds| *holds)?;
-        match rule {
-            0 => Some(Ordered {
+        let place = rules.iter().position(|holds| *holds)?;
+        Some(place as u8 + 1)
+    }
+
+    /// The lowest rule by which X comes before Y at a byte, and why it does.
+    pub fn ordered(&self, x: usize, y: usize, byte: u32) -> Option<Ordered> {
+        match self.rule(x, y, byte)? {
+            1 => Some(Ordered {
                 rule: 1,
                 because: "one agent, one reference".to_string(),
                 path: vec![at(x), at(y)],
             }),
-            1 => Some(Ordered {
+            2 => Some(Ordered {
                 rule: 2,
                 because: format!("row {x} only reads, both are non-private"),
                 path: vec![at(x), at(y)],
             }),
-            2 => self.ordered_by_l3(x, y, byte),
-            3 => Some(Ordered {
+            3 => self.ordered_by_l3(x, y, byte),
+            4 => Some(Ordered {
                 rule: 4,
                 because: format!("row {x} only reads, and dependencies lead to row {y}"),
                 path: vec![at(x), at(y)],
@@ -132,6 +138,22 @@ impl Checked<'_> {
         let steps = self.steps(&ordered.path);
         lines.extend(steps.iter().map(|step| format!("  {step}")));
         lines
+    }
+
+    /// The racing pairs, each with its lowest unordered byte.
+    pub fn races(&self) -> Vec<Goal> {
+        let rows = self.run.rows.len();
+        let pairs = (0..rows).flat_map(|x| (x + 1..rows).map(move |y| (x, y)));
+        let goals = pairs.filter_map(|(first, second)| {
+            let mut bytes = self.shared_bytes(first, second).into_iter();
+            let byte = bytes.find(|byte| self.state.races_at(first, second, *byte))?;
+            Some(Goal {
+                first,
+                second,
+                byte,
+            })
+        });
+        goals.collect()
     }
 
     /// The bytes that two rows share, lowest first.

@@ -2,10 +2,10 @@
 //! can't have any.
 
 use crate::account::Checked;
-use crate::edit::{edited, Edit, Field};
 use crate::explain::shown;
 use crate::inconsistent;
 use crate::judge::Judge;
+use crate::mend::edit::{edited, Edit, Field};
 use crate::names;
 use crate::refusal;
 use crate::run::Run;

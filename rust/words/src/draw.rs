@@ -3,6 +3,7 @@
 use crate::account::Checked;
 use crate::explain::{shown, Shown};
 use crate::judge::Judge;
+use crate::mend::search::{search, Search};
 use crate::notes::Notes;
 use crate::picture::picture;
 use crate::run::Run;
@@ -38,6 +39,11 @@ pub fn draw_noted(
         state: &state,
         run: &run,
     };
-    let shown: Shown = shown(checked, answer);
-    Ok(picture(checked, &answer.to_string(), &shown, is_all))
+    let (shown, answer): (Shown, String) = (shown(checked, answer), answer.to_string());
+    let found = match shown {
+        Shown::Race(goal) => search(table, checked, goal, checker),
+        _ => Search::default(),
+    };
+    let shown = (&shown, found.cures.first());
+    Ok(picture(checked, &answer, shown, is_all))
 }

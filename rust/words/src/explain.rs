@@ -2,10 +2,13 @@
 //! the proved library's own; the rest comes from the second implementation.
 
 use crate::account::Checked;
-use crate::cure::{search, Cure};
-use crate::goal::Goal;
 use crate::judge::Judge;
+use crate::mend::cure::Cure;
+use crate::mend::goal::Goal;
+use crate::mend::search::search;
+use crate::nearest::Near;
 use crate::notes::Notes;
+use crate::race::Advice;
 use crate::run::Run;
 use crate::{inconsistent, race, race_free, refusal};
 use second::{Chains, State, CYCLE_NUMBERS, WORK_WORDS};
@@ -59,15 +62,38 @@ pub struct Explanation {
     pub shown: Shown,
     /// Sentences, those that go into particulars indented.
     pub lines: Vec<String>,
-    /// What would order a racing pair.
+    /// Of a race the rule that comes nearest.
+    pub near: Option<Near>,
+    /// What would end a race, the best first.
     pub cures: Vec<Cure>,
+    /// The words for each of these.
+    pub advice: Vec<Advice>,
     /// Whether it was asked with chains.
     pub chains: Chains,
     /// What the table's text says besides.
     pub notes: Notes,
+    /// Whether all is told.
+    pub is_all: bool,
 }
 
 impl Explanation {
+    /// The answer without a word about it.
+    fn bare(checked: Checked, checker: &mut dyn Judge, is_all: bool) -> Explanation {
+        let chains = checker.chains();
+        let given = checker.check(checked.table);
+        Explanation {
+            answer: given.to_string(),
+            shown: shown(checked, given),
+            lines: Vec::new(),
+            near: None,
+            cures: Vec::new(),
+            advice: Vec::new(),
+            chains,
+            notes: checked.run.notes.clone(),
+            is_all,
+        }
+    }
+
     /// The answer and the sentences, a line each.
     pub fn text(&self) -> String {
         let mut text = format!("{}\n", self.answer);
@@ -81,14 +107,19 @@ impl Explanation {
 
 /// Explains a table's answer, whatever its bytes.
 pub fn explain(table: &[u8], checker: &mut dyn Judge) -> Explanation {
-    explain_noted(table, &Notes::default(), checker)
+    explain_noted(table, &Notes::default(), checker, false)
 }
 
-/// Explains the answer to a table of which more is noted.
-pub fn explain_noted(table: &[u8], notes: &Notes, checker: &mut dyn Judge) -> Explanation {
+/// Explains the answer to a table of which more is noted; at length if all is
+/// wanted.
+pub fn explain_noted(
+    table: &[u8],
+    notes: &Notes,
+    checker: &mut dyn Judge,
+    is_all: bool,
+) -> Explanation {
     let mut state = State::new();
-    let chains = checker.chains();
-    let second = state.check_with(chains, table, WORK_WORDS, CYCLE_NUMBERS);
+    let second = state.check_with(checker.chains(), table, WORK_WORDS, CYCLE_NUMBERS);
     let second = second.to_string();
     let run = Run::of(table).noted(notes);
     let checked = Checked {
@@ -96,15 +127,7 @@ pub fn explain_noted(table: &[u8], notes: &Notes, checker: &mut dyn Judge) -> Ex
         state: &state,
         run: &run,
     };
-    let given = checker.check(table);
-    let mut explanation = Explanation {
-        answer: given.to_string(),
-        shown: shown(checked, given),
-        lines: Vec::new(),
-        cures: Vec::new(),
-        chains,
-        notes: notes.clone(),
-    };
+    let mut explanation = Explanation::bare(checked, checker, is_all);
     if second == explanation.answer && !Run::is_known(table) && !second.starts_with("refused") {
         explanation.lines = vec![format!(
             "No explanation: there are no words for version {}.",
@@ -118,8 +141,8 @@ pub fn explain_noted(table: &[u8], notes: &Notes, checker: &mut dyn Judge) -> Ex
             "No explanation: the unproved second implementation answers `{second}`. Please report this table."
         )];
     }
-    let noted = notes.lines(&explanation.lines);
-    explanation.lines.extend(noted);
+    let lines = explanation.lines.iter();
+    explanation.lines = lines.map(|line| notes.named(line)).collect();
     explanation
 }
 
@@ -132,25 +155,44 @@ fn is_of_later_version(table: &[u8], shown: &Shown) -> bool {
 /// Adds the sentences, and the cures of a race.
 fn tell(table: &[u8], checked: Checked, checker: &mut dyn Judge, explanation: &mut Explanation) {
     explanation.lines = match explanation.shown {
-        Shown::Nothing => race_free::lines(checked),
+        Shown::Nothing => race_free::lines(checked, explanation.is_all),
         Shown::Refused { number, row } => refusal::check_lines(table, number, row, checker),
         ref shown @ (Shown::Cycle { .. } | Shown::Overwritten { .. }) => {
             let mut lines = inconsistent::lines(checked, shown);
-            lines.extend(inconsistent::causes(shown));
+            lines.extend(inconsistent::causes(checked, shown));
+            lines.extend(inconsistent::counted_ranks(checked, checker));
             lines.extend(inconsistent::other_sources(checked, shown, checker));
             lines
         }
         Shown::Race(goal) => {
             let found = search(table, checked, goal, checker);
-            let mut lines = race::lines(checked, goal, &found);
+            let near = checked.nearest(goal.first, goal.second, goal.byte);
+            let mut lines = race::lines(checked, goal, (&near, &found), explanation.is_all);
             // What a rule lacks is said of single operations.
             if explanation.chains == Chains::On {
                 lines.push("Chains are on: none of several availability or visibility operations orders them either.".to_string());
             }
+            let advice = found.cures.iter();
+            explanation.advice = advice.map(|cure| advised(checked, goal, cure)).collect();
             explanation.cures = found.cures;
+            explanation.near = Some(near);
             lines
         }
     };
+}
+
+/// The words for a change, with what is noted.
+fn advised(checked: Checked, goal: Goal, cure: &Cure) -> Advice {
+    let advice = race::advice(checked, goal, cure);
+    let named = |lines: &[String]| -> Vec<String> {
+        let lines = lines.iter();
+        lines.map(|line| checked.run.notes.named(line)).collect()
+    };
+    Advice {
+        reasons: named(&advice.reasons),
+        glsl: named(&advice.glsl),
+        spirv: named(&advice.spirv),
+    }
 }
 
 /// What an answer shows of a table.

@@ -1,7 +1,7 @@
 //! What is wrong with a refused table: each fault of the refusal's number in
 //! the row that it names, and no other.
 
-use crate::edit::Field;
+use crate::mend::edit::Field;
 use crate::names;
 use crate::run::{dependency_count, past_rows, Run, LAST_VERSION};
 use crate::unfit::{unfit, Unfit};

@@ -3,11 +3,10 @@
 
 use crate::account::Checked;
 use crate::explain::{shown, Shown};
-use crate::goal::Goal;
 use crate::headline::headline;
 use crate::judge::Judge;
+use crate::mend::goal::Goal;
 use crate::notes::Notes;
-use crate::race::races;
 use crate::refusal;
 use crate::run::Run;
 use second::{State, CYCLE_NUMBERS, WORK_WORDS};
@@ -48,7 +47,7 @@ pub fn findings(table: &[u8], notes: &Notes, checker: &mut dyn Judge) -> Vec<Fin
         Shown::Race(goal) => {
             let is_agreed = second.to_string() == answer;
             let mut found = vec![finding(answer, &shown, true)];
-            let others = races(checked).into_iter().filter(|other| *other != goal);
+            let others = checked.races().into_iter().filter(|other| *other != goal);
             let others = others.filter(|_| is_agreed).map(|other| {
                 let Goal {
                     first,
@@ -81,5 +80,5 @@ fn message(table: &[u8], shown: &Shown) -> String {
 fn described(run: &Run, shown: &Shown) -> Vec<(usize, String)> {
     let rows = shown.rows().into_iter();
     let rows = rows.filter(|row| *row < run.rows.len());
-    rows.map(|row| (row, run.described(row))).collect()
+    rows.map(|row| (row, run.described_in_full(row))).collect()
 }

@@ -2,10 +2,11 @@
 //! and what such a run may mean.
 
 use crate::account::Checked;
-use crate::edit::{edited, Edit, Field};
 use crate::explain::Shown;
 use crate::judge::Judge;
+use crate::mend::edit::{edited, Edit, Field};
 use crate::names;
+use second::table::{Row, COUNTED_RANKS};
 use second::INITIAL;
 use stramashly::CheckAnswer;
 
@@ -147,24 +148,32 @@ impl Grounds {
     }
 }
 
+impl Grounds {
+    /// What the recorder noted that the answer rests on, if it rests on any.
+    fn noted(&self) -> Option<String> {
+        let mut noted = Vec::new();
+        if !self.readers.is_empty() {
+            noted.push(format!("the source of {}", rows_words(&self.readers)));
+        }
+        if !self.ranked.is_empty() {
+            noted.push(format!("the ranks of {}", rows_words(&self.ranked)));
+        }
+        if self.is_ordered {
+            noted.push("the order of an agent's rows".to_string());
+        }
+        match noted.split_last()? {
+            (last, []) => Some(last.clone()),
+            (last, rest) => Some(format!("{} or {last}", rest.join(", "))),
+        }
+    }
+}
+
 /// What an impossible run may mean for recorder, driver and device, a
 /// sentence each.
-pub fn causes(shown: &Shown) -> Vec<String> {
+pub fn causes(checked: Checked, shown: &Shown) -> Vec<String> {
     let grounds = Grounds::of(shown);
-    let mut noted = Vec::new();
-    if !grounds.readers.is_empty() {
-        noted.push(format!("the source of {}", rows_words(&grounds.readers)));
-    }
-    if !grounds.ranked.is_empty() {
-        noted.push(format!("the ranks of {}", rows_words(&grounds.ranked)));
-    }
-    if grounds.is_ordered {
-        noted.push("the order of an agent's rows".to_string());
-    }
-    let noted = match noted.split_last() {
-        Some((last, [])) => last.clone(),
-        Some((last, rest)) => format!("{} or {last}", rest.join(", ")),
-        None => return Vec::new(),
+    let Some(noted) = grounds.noted() else {
+        return Vec::new();
     };
     let readers = match grounds.readers.is_empty() {
         true => "these writes".to_string(),
@@ -175,13 +184,39 @@ pub fn causes(shown: &Shown) -> Vec<String> {
     } else {
         format!("{readers} went by an order of the atomics that isn't one: they weren't carried out in one place after another")
     };
-    vec![
-        "One of three is wrong:".to_string(),
+    // A compiler may move what neither a release nor an acquire holds.
+    let orders = |row: &Row| row.is_release() || row.is_acquire();
+    let has_order = checked.run.rows.iter().any(orders);
+    let mut causes = vec![
+        format!(
+            "One of {} is wrong:",
+            if has_order { "three" } else { "two" }
+        ),
         format!("  the recorder, if it noted {noted} otherwise than it was"),
-        format!("  the driver, if its compiler moved {readers} across a release or an acquire, or left one of those out"),
-        format!("  the device, if {device}"),
-    ]
+    ];
+    if has_order {
+        causes.push(format!("  the driver, if its compiler moved {readers} across a release or an acquire, or left one of those out"));
+    }
+    causes.push(format!("  the device, if {device}"));
+    causes
 }
+
+/// Ranks that ran past their end are in order once they are counted.
+pub fn counted_ranks(checked: Checked, checker: &mut dyn Judge) -> Option<String> {
+    if checked.run.is_counted {
+        return None;
+    }
+    let mut table = checked.table.to_vec();
+    table[VERSION] = COUNTED_RANKS;
+    let answer = checker.check(&table);
+    let is_possible = matches!(answer, CheckAnswer::RaceFree | CheckAnswer::Race { .. });
+    is_possible.then(|| {
+        format!("The ranks may have run past 65535 and begun again at 0: in version 2, where they are counted, check answers `{answer}`.")
+    })
+}
+
+/// Where a table's version stands.
+const VERSION: usize = 4;
 
 fn rows_words(rows: &[usize]) -> String {
     let numbers: Vec<String> = rows.iter().map(usize::to_string).collect();

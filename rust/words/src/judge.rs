@@ -2,13 +2,18 @@
 //! themselves ask for no more than this.
 
 use second::Chains;
-use stramashly::{CheckAnswer, Checker, DeriveAnswer, FillAnswer};
+use stramashly::{CheckAnswer, Checker, DeriveAnswer, FillAnswer, ReportAnswer};
 
 /// Answers questions about tables, whatever their bytes.
 pub trait Judge {
     fn check(&mut self, table: &[u8]) -> CheckAnswer<'_>;
     fn fill(&mut self, table: &[u8]) -> FillAnswer<'_>;
     fn derive(&mut self, table: &[u8], first: u16, second: u16) -> DeriveAnswer<'_>;
+
+    /// How many pairs of rows race, if it can be said.
+    fn racing(&mut self, _table: &[u8]) -> Option<usize> {
+        None
+    }
 
     /// Whether checks and fills are asked with chains.
     fn chains(&self) -> Chains {
@@ -27,6 +32,13 @@ impl Judge for Checker {
 
     fn derive(&mut self, table: &[u8], first: u16, second: u16) -> DeriveAnswer<'_> {
         Checker::derive(self, table, first, second)
+    }
+
+    fn racing(&mut self, table: &[u8]) -> Option<usize> {
+        match self.report(table) {
+            ReportAnswer::Report(report) => Some(report.racing.into()),
+            _ => None,
+        }
     }
 
     fn chains(&self) -> Chains {

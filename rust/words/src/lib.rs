@@ -9,11 +9,11 @@
 //! | what | module |
 //! |---|---|
 //! | the words for codes, rows and tables | `names`, `run`, `show` |
-//! | names and places from a table's text | `notes` |
+//! | names and places from a table's text | `notes`, `naming` |
 //! | why rows are ordered | `account`, `chain`, `derivation`, `why` |
 //! | why they aren't | `nearest`, `gap`, `carriage` |
-//! | what would order them | `catalogue`, `change`, `edit`, `reason`, `reduction`, `cure` |
-//! | new rows and dependencies that would, and their words for a shader | `insertion`, `dependency`, `remedy`, `domains`, `shader` |
+//! | what would order them | `mend` |
+//! | the words for that, and for a shader | `reason`, `shader` |
 //! | the answers one by one | `race`, `race_free`, `inconsistent`, `refusal` |
 //! | what is wrong with a refused table, and with its blanks | `fault`, `unfit`, `blank` |
 //! | answers one finding after the other | `findings` |
@@ -22,28 +22,20 @@
 mod account;
 mod blank;
 mod carriage;
-mod catalogue;
 mod chain;
-mod change;
-mod cure;
-mod dependency;
 mod derivation;
-mod domains;
 mod draw;
-mod edit;
-#[cfg(test)]
-mod exhaustive;
 mod explain;
 mod fault;
 mod findings;
 mod gap;
-mod goal;
 mod headline;
 mod inconsistent;
-mod insertion;
 mod judge;
 mod markup;
+mod mend;
 mod names;
+mod naming;
 mod nearest;
 mod notes;
 mod page;
@@ -51,9 +43,7 @@ mod picture;
 mod race;
 mod race_free;
 mod reason;
-mod reduction;
 mod refusal;
-mod remedy;
 mod run;
 mod shader;
 mod show;
@@ -61,28 +51,32 @@ mod unfit;
 mod why;
 
 pub use account::{Checked, Ordered};
-pub use change::Change;
-pub use cure::Cure;
-pub use dependency::Dependency;
 pub use derivation::{at, derivation_lines, derived_lines, moment_words, step_parts};
 pub use draw::{draw, draw_noted};
-pub use edit::{edited, Edit, Field};
 pub use explain::{explain, explain_noted, Explanation, Shown};
 pub use fault::{faults, Fault};
 pub use findings::{findings, Finding};
-pub use goal::Goal;
 pub use headline::headline;
 pub use inconsistent::edge_name;
-pub use insertion::{stepped, Insertion, Step};
 pub use judge::Judge;
+pub use mend::change::{Change, Reason};
+pub use mend::cure::{Cure, Order, Outcome};
+pub use mend::dependency::Dependency;
+pub use mend::edit::{edited, Edit, Field};
+pub use mend::goal::Goal;
+pub use mend::insertion::Insertion;
+pub use mend::steps::{parse_steps, stepped, steps_text, Step};
 pub use names::{CLASSES, KINDS, ORDERS, SCOPES, SORTS};
 pub use nearest::Near;
 pub use notes::{Notes, Place, RowNote};
 pub use page::page;
-pub use reason::Reason;
+pub use race::Advice;
 pub use refusal::{is_of_a_row, lines as refusal_lines, refusal};
 pub use run::{first_row, Run};
 pub use shader::{glsl, spirv};
-pub use show::show;
+pub use show::{show, show_noted};
 pub use unfit::{unfit, Unfit};
 pub use why::why;
+
+/// A table in two pieces as one, for words and pictures of it.
+pub use second::joined;

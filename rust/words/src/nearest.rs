@@ -4,6 +4,7 @@
 
 use crate::account::Checked;
 use crate::derivation::at;
+use crate::mend::reduction::{is_step, reached};
 use crate::names;
 use second::table::{Row, HOST};
 
@@ -18,8 +19,8 @@ pub struct Near {
 }
 
 impl Checked<'_> {
-    /// The rule that lacks least, of those that speak of such rows at all.
-    /// A reader comes after its source, so nothing else is near then.
+    /// The rule that lacks least, of those that speak of such rows at all and
+    /// go forward. A reader comes after its source, so nothing else is near then.
     pub fn nearest(&self, first: usize, second: usize, byte: u32) -> Near {
         let nears = [(first, second), (second, first)]
             .into_iter()
@@ -32,9 +33,18 @@ impl Checked<'_> {
         nears
             .min_by_key(|near| {
                 let is_against = self.state.read_from(near.before) == Some(near.after);
-                (is_against, near.lacks.len())
+                let is_backward = self.is_backward(near.before, near.after);
+                (is_against, is_backward, near.lacks.len())
             })
             .expect("of conflicting rows one writes, and L3 or L5 speaks of it")
+    }
+
+    /// Whether a row comes after another in the run's causal order, by program
+    /// order, what atomics read, control barriers and dependencies, and not
+    /// before it.
+    pub fn is_backward(&self, before: usize, after: usize) -> bool {
+        let leads = |from: usize, to: usize| reached(self.run, from, is_step)[to];
+        leads(after, before) && !leads(before, after)
     }
 
     /// Whether a rule could order such rows: L1 one agent's, L2 a mere reader

@@ -1,7 +1,8 @@
 //! What a table's text has and its bytes don't: names of agents and
 //! references, labels of rows, and where in a program each row stands.
 
-use std::collections::{BTreeMap, BTreeSet};
+use crate::mend::steps::Step;
+use std::collections::BTreeMap;
 use std::fmt;
 
 /// Names, labels and places; empty for a table that came as bytes.
@@ -27,7 +28,7 @@ pub struct RowNote {
 }
 
 /// A line of a program's file, and maybe a column of it; each from 1.
-#[derive(Clone, Debug, PartialEq, Eq)]
+#[derive(Clone, Debug, PartialEq, Eq, Hash)]
 pub struct Place {
     /// The file's name.
     pub file: String,
@@ -96,80 +97,27 @@ impl Notes {
         self.rows.get(row)?.place.as_ref()
     }
 
+    /// The notes of a table after these steps: new rows have none.
+    pub fn stepped(&self, steps: &[Step]) -> Notes {
+        let mut notes = self.clone();
+        for step in steps {
+            if let Step::Insert(insertion) = step {
+                let place = insertion.place.min(notes.rows.len());
+                notes.rows.insert(place, RowNote::default());
+            }
+        }
+        notes
+    }
+
     /// What the text calls a row.
     pub fn label(&self, row: usize) -> Option<&str> {
         self.rows.get(row)?.label.as_deref()
     }
-
-    /// What is added to sentences: the places of rows that these name, unless
-    /// they have them, and who is called what.
-    pub fn lines(&self, told: &[String]) -> Vec<String> {
-        let named = told.iter().flat_map(|line| mentioned(line));
-        let named: BTreeSet<usize> = named.collect();
-        let places = named.into_iter().filter_map(|row| {
-            let place = self.place(row)?.to_string();
-            let begin = format!("  row {row}, ");
-            let has_it = |line: &String| line.starts_with(&begin) && line.ends_with(&place);
-            let label = self.label(row).map(|label| format!(" ({label})"));
-            let label = label.unwrap_or_default();
-            (!told.iter().any(has_it)).then(|| format!("  row {row}{label}: {place}"))
-        });
-        let mut lines: Vec<String> = places.collect();
-        if !lines.is_empty() {
-            lines.insert(0, "In the program:".to_string());
-        }
-        lines.extend(self.sentence());
-        lines
-    }
-
-    /// The names, in a sentence of `explain`.
-    fn sentence(&self) -> Option<String> {
-        let agents = self.agents.iter().enumerate();
-        let agents = agents.filter_map(|(agent, name)| Some((agent, name.as_ref()?)));
-        let agents = agents.map(|(agent, name)| format!("agent {agent} is {name}"));
-        let references = self.references.iter();
-        let references = references.map(|(number, name)| format!("reference {number} is {name}"));
-        let all: Vec<String> = agents.chain(references).collect();
-        (!all.is_empty()).then(|| format!("In the text, {}.", crate::names::listed(&all)))
-    }
-}
-
-/// The rows that a sentence names; new ones aren't in the table.
-fn mentioned(line: &str) -> Vec<usize> {
-    let mut rows = Vec::new();
-    let (mut is_row, mut is_new) = (false, false);
-    for word in line.split_whitespace() {
-        let end = word.find(|letter: char| !letter.is_ascii_digit());
-        let number = word[..end.unwrap_or(word.len())].parse::<usize>().ok();
-        match number {
-            Some(row) if is_row => rows.push(row),
-            _ => is_row = is_row && word == "and",
-        }
-        is_row |= matches!(word, "row" | "Row" | "rows" | "Rows") && !is_new;
-        is_new = word == "new";
-    }
-    rows
 }
 
 #[cfg(test)]
 mod tests {
     use super::*;
-
-    #[test]
-    fn rows_of_sentences_are_found() {
-        for (line, rows) in [
-            ("Rows 0 and 4 conflict, at byte 7:", vec![0, 4]),
-            (
-                "Other races: rows 1 and 5 at byte 16, and 3 more",
-                vec![1, 5],
-            ),
-            ("row 1's moment comes before row 12, a release", vec![1, 12]),
-            ("edit: new row 3; row 2 flags 5", vec![2]),
-            ("bytes 0 to 3", vec![]),
-        ] {
-            assert_eq!(mentioned(line), rows, "{line}");
-        }
-    }
 
     #[test]
     fn places_are_read_and_written() {

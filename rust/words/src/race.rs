@@ -1,22 +1,57 @@
 //! A race in sentences: the rows, the rule that comes nearest and what it
-//! lacks, and the changes that would order them.
+//! lacks, and the changes that would end it.
 
 use crate::account::Checked;
-use crate::cure::{Cure, Search};
-use crate::edit::Field;
-use crate::goal::Goal;
+use crate::mend::change::{Change, Reason};
+use crate::mend::cure::{Cure, Order, Outcome};
+use crate::mend::edit::Field;
+use crate::mend::goal::Goal;
+use crate::mend::search::Search;
+use crate::mend::steps::steps_text;
 use crate::names::counted;
-use crate::reason::Reason;
-use crate::shader::{glsl, spirv};
+use crate::nearest::Near;
+use crate::reason::rows_words;
+use crate::shader::{glsl, needs, spirv};
 use second::table::{Row, QUEUE};
+use second::MAX_ROWS;
 
-/// So many changes are shown at most.
+/// So many changes are shown at most, unless all are wanted.
 const SHOWN_CURES: usize = 8;
 /// So many other races are named at most.
 const SHOWN_RACES: usize = 8;
 
 /// The race and what the search for cures found.
-pub fn lines(checked: Checked, goal: Goal, found: &Search) -> Vec<String> {
+pub fn lines(
+    checked: Checked,
+    goal: Goal,
+    (near, found): (&Near, &Search),
+    is_all: bool,
+) -> Vec<String> {
+    let mut lines = rows_lines(checked, goal, near);
+    let other_memory = other_memory(checked, goal);
+    let mut cures = match is_all {
+        true => found.cures.iter().collect(),
+        false => worth_showing(&found.cures),
+    };
+    // Where there is something else to do, impossible runs aren't shown.
+    let has_way = other_memory.is_some() && !is_all;
+    cures.retain(|cure| !has_way || cure.outcome != Outcome::Impossible);
+    if cures.is_empty() && !has_way {
+        lines.push(no_cure(checked, goal, found));
+    }
+    lines.extend(other_memory);
+    lines.extend(cures_lines(
+        checked,
+        goal,
+        (cures, found.cures.len()),
+        is_all,
+    ));
+    lines.extend(other_races(checked, goal));
+    lines
+}
+
+/// The racing rows, and what the nearest rule lacks.
+fn rows_lines(checked: Checked, goal: Goal, near: &Near) -> Vec<String> {
     let Goal {
         first,
         second,
@@ -28,22 +63,12 @@ pub fn lines(checked: Checked, goal: Goal, found: &Search) -> Vec<String> {
         format!("  {}", checked.run.described(second)),
     ];
     lines.extend(checked.not_mutual(first, second));
-    let near = checked.nearest(first, second, byte);
     let (rule, before, after) = (near.rule, near.before, near.after);
     lines.push(format!(
         "Of the rules of order, L{rule} comes nearest ({}), row {before} before row {after}. It lacks this:",
         in_short(rule, checked.run.rows[after])
     ));
     lines.extend(near.lacks.iter().map(|lack| format!("  {lack}")));
-    lines.push(cures_title(checked, goal, found));
-    for (place, cure) in found.cures.iter().take(SHOWN_CURES).enumerate() {
-        lines.extend(cure_lines(checked, goal, place + 1, cure));
-    }
-    if found.cures.len() > SHOWN_CURES {
-        let more = counted(found.cures.len() - SHOWN_CURES, "more such change");
-        lines.push(format!("There are {more}."));
-    }
-    lines.extend(other_races(checked, goal));
     lines
 }
 
@@ -60,30 +85,14 @@ fn in_short(rule: u8, after: Row) -> &'static str {
     }
 }
 
-/// The racing pairs, each with its lowest unordered byte.
-pub fn races(checked: Checked) -> Vec<Goal> {
-    let rows = checked.run.rows.len();
-    let pairs = (0..rows).flat_map(|x| (x + 1..rows).map(move |y| (x, y)));
-    let goals = pairs.filter_map(|(first, second)| {
-        let mut bytes = checked.shared_bytes(first, second).into_iter();
-        let byte = bytes.find(|byte| checked.state.races_at(first, second, *byte))?;
-        Some(Goal {
-            first,
-            second,
-            byte,
-        })
-    });
-    goals.collect()
-}
-
 /// The other racing pairs.
 fn other_races(checked: Checked, goal: Goal) -> Option<String> {
-    let others = races(checked).into_iter();
+    let others = checked.races().into_iter();
     let others = others.filter(|other| (other.first, other.second) != (goal.first, goal.second));
     let races: Vec<String> = others
         .map(|other| {
             format!(
-                "{} and {} at byte {}",
+                "rows {} and {} at byte {}",
                 other.first, other.second, other.byte
             )
         })
@@ -94,101 +103,270 @@ fn other_races(checked: Checked, goal: Goal) -> Option<String> {
         count => format!(", and {}", counted(count, "more pair")),
     };
     let named = races[..shown].join(", ");
-    (!races.is_empty()).then(|| format!("Other races: rows {named}{more}."))
+    (!races.is_empty()).then(|| format!("Other races: {named}{more}."))
 }
 
-fn cures_title(checked: Checked, goal: Goal, found: &Search) -> String {
-    let has_new_rows = found.cures.iter().any(Cure::is_new);
-    match found.cures.first() {
-        Some(_) if has_new_rows => "Each of these orders them:".to_string(),
-        Some(cure) if cure.changes.len() == 1 => {
-            "Each of these changes alone orders them:".to_string()
+/// Memory of two classes is no one variable: no instruction of a shader
+/// orders a write of the one before an access of the other.
+fn other_memory(checked: Checked, goal: Goal) -> Option<String> {
+    let rows = &checked.run.rows;
+    let (first, second) = (rows[goal.first], rows[goal.second]);
+    let is_other = first.reference != second.reference && first.class != second.class;
+    (is_other && !checked.has_host(goal.first, goal.second)).then(|| {
+        format!(
+            "Rows {} and {} reach the same memory as {} and as {}, which are never one variable, and L3 asks for one reference. Let them be of two dispatches with a pipeline barrier between these: in version 3 an availability to device and a visibility from device of a queue, with dependencies.",
+            goal.first,
+            goal.second,
+            crate::names::class(first.class),
+            crate::names::class(second.class)
+        )
+    })
+}
+
+/// The parts in which changes are shown, by what comes of them.
+fn part_title(cure: &Cure, goal: Goal) -> String {
+    match (cure.outcome, cure.is_silent()) {
+        _ if !cure.has_room => {
+            let tried = "Tried with the racing agents' rows alone, each of these orders them:";
+            format!("The table is full: it has {MAX_ROWS} rows, and none can be put in. {tried}")
         }
-        Some(_) => "No single change orders them. Each of these pairs does:".to_string(),
-        None => {
-            let tried = counted(found.tried, "small change");
-            let rest = if found.is_cut {
-                "so far as they were tried: with so many rows not every pair was"
-            } else if checked.has_host(goal.first, goal.second) {
-                match checked.run.sorts.contains(&QUEUE) {
-                    true => "nor do any two together, nor operations and dependencies put in",
-                    false => "nor do any two together, and there is no queue agent for operations",
-                }
-            } else {
-                "nor do any two together, nor a release and an acquire between them"
-            };
-            format!("None of {tried} orders them, {rest}.")
+        (Outcome::RaceFree, false) => "Each of these makes the run race-free:".to_string(),
+        (Outcome::OtherRace { .. }, false) => {
+            "Each of these ends this race, and others are left:".to_string()
+        }
+        (Outcome::RaceFree | Outcome::OtherRace { .. }, true) => {
+            "This ends the race and orders nothing:".to_string()
+        }
+        (Outcome::OtherByte, _) => format!(
+            "Each of these ends the race at byte {}, and rows {} and {} race at another:",
+            goal.byte, goal.first, goal.second
+        ),
+        (Outcome::Impossible, _) => {
+            "Each of these orders them, but the run as recorded can't happen then:".to_string()
         }
     }
 }
 
+/// The changes part by part, of so many, and what a shader needs for them.
+fn cures_lines(
+    checked: Checked,
+    goal: Goal,
+    (cures, all): (Vec<&Cure>, usize),
+    is_all: bool,
+) -> Vec<String> {
+    let mut lines = Vec::new();
+    let shown = if is_all {
+        cures.len()
+    } else {
+        SHOWN_CURES.min(cures.len())
+    };
+    let mut title = String::new();
+    for (place, cure) in cures.iter().take(shown).enumerate() {
+        let next = part_title(cure, goal);
+        if next != title {
+            lines.push(next.clone());
+            title = next;
+        }
+        lines.extend(cure_lines(checked, goal, place + 1, cure));
+    }
+    if all > shown {
+        let more = counted(all - shown, "more change");
+        lines.push(format!("--all shows {more}."));
+    }
+    lines.extend(needs_line(checked, &cures[..shown]));
+    lines
+}
+
+/// What a program and a device need for changes, once for all of them.
+fn needs_line(checked: Checked, cures: &[&Cure]) -> Option<String> {
+    let rows = cures.iter().flat_map(|cure| changed_rows(checked, cure));
+    let mut wanted: Vec<&str> = Vec::new();
+    for need in rows.flat_map(|(_, row)| needs(row)) {
+        if !wanted.contains(&need) {
+            wanted.push(need);
+        }
+    }
+    let words = wanted.join(", ");
+    (!wanted.is_empty()).then(|| format!("What the GLSL and SPIR-V above need: {words}."))
+}
+
+/// The changes that are shown if not all are wanted: impossible runs only
+/// where there is nothing else, and what orders nothing only where nothing that
+/// is there can be made to, or where it comes first.
+pub fn worth_showing(cures: &[Cure]) -> Vec<&Cure> {
+    let has_order = cures.first().is_some_and(|first| !first.is_silent())
+        && cures
+            .iter()
+            .any(|cure| cure.outcome.is_good() && cure.is_stronger());
+    let is_worth = |cure: &&Cure| {
+        let is_possible = cure.outcome != Outcome::Impossible;
+        is_possible && !(has_order && cure.is_silent())
+    };
+    let worth: Vec<&Cure> = cures.iter().filter(is_worth).collect();
+    match worth.is_empty() {
+        true => cures.iter().collect(),
+        false => worth,
+    }
+}
+
+/// What was tried in vain.
+fn no_cure(checked: Checked, goal: Goal, found: &Search) -> String {
+    let tried = counted(found.tried, "small change");
+    let full = match found.is_full {
+        true => format!("; the table is full: it has {MAX_ROWS} rows, and none can be put in"),
+        false => String::new(),
+    };
+    let rest = if found.is_cut {
+        "so far as they were tried: with so many rows not all were"
+    } else if checked.has_host(goal.first, goal.second) {
+        match checked.run.sorts.contains(&QUEUE) {
+            true => "nor do several together, nor operations and dependencies put in",
+            false => "nor do several together, and there is no queue agent for operations",
+        }
+    } else {
+        "nor do several together, nor a release and an acquire between them"
+    };
+    format!("None of {tried} orders them, {rest}{full}.")
+}
+
+/// A change in words.
+#[derive(Clone, Debug, Default, PartialEq, Eq)]
+pub struct Advice {
+    /// Why it ends the race, and what is to be done.
+    pub reasons: Vec<String>,
+    /// Each instruction as it is to be, in GLSL and in SPIR-V.
+    pub glsl: Vec<String>,
+    pub spirv: Vec<String>,
+}
+
+/// The words for a change.
+pub fn advice(checked: Checked, goal: Goal, cure: &Cure) -> Advice {
+    let new = cure.insertions.len();
+    let changes = cure.changes.iter();
+    let mut advice = Advice {
+        reasons: changes
+            .flat_map(|change| checked.change_words(change, goal, new))
+            .collect(),
+        ..Advice::default()
+    };
+    for (name, row) in changed_rows(checked, cure) {
+        advice.glsl.push(format!("{name} {}", glsl(row)));
+        advice.spirv.push(format!("{name} {}", spirv(row)));
+    }
+    let reasons = cure.changes.iter().flat_map(|change| &change.reasons);
+    for reason in reasons {
+        if let Reason::OtherReference { row, other } = reason {
+            let glsl = format!("row {row} by the variable of row {other}");
+            let spirv = format!("row {row} by the pointer of row {other}");
+            advice.glsl.push(glsl);
+            advice.spirv.push(spirv);
+        }
+    }
+    advice
+}
+
 /// The reasons, the edit, and what comes of it.
 fn cure_lines(checked: Checked, goal: Goal, number: usize, cure: &Cure) -> Vec<String> {
-    let mut lines: Vec<String> = cure
-        .changes
-        .iter()
-        .map(|change| checked.reason_words(change.reason, goal))
-        .enumerate()
+    let advice = advice(checked, goal, cure);
+    let reasons = advice.reasons.iter().enumerate();
+    let mut lines: Vec<String> = reasons
         .map(|(place, reason)| match place {
             0 => format!("  {number}. {reason}."),
             _ => format!("     And {reason}."),
         })
         .collect();
-    let steps: Vec<String> = cure.steps().iter().map(|step| step.to_string()).collect();
-    lines.push(format!("     edit: {}", steps.join("; ")));
-    lines.extend(shader_lines(checked, cure));
-    // A run that read otherwise than the order allows is no longer possible.
-    let because = match cure.answer.split(' ').next() {
-        Some("cycle" | "overwritten") => "the run as recorded can't happen then, so ",
-        _ => "",
-    };
+    if cure.has_room {
+        lines.push(format!("     edit: {}", steps_text(&cure.steps())));
+    }
+    if !advice.glsl.is_empty() {
+        lines.push(format!("     GLSL: {}", advice.glsl.join("; ")));
+        lines.push(format!("     SPIR-V: {}", advice.spirv.join("; ")));
+    }
+    if cure.has_room {
+        lines.push(format!("     {}", outcome_words(cure)));
+    }
+    lines
+}
+
+/// `Then L3 puts row 0 first, and check answers ...`
+fn outcome_words(cure: &Cure) -> String {
     let counted = match (cure.insertions.is_empty(), cure.answer.as_str()) {
         (true, _) | (_, "race-free") => "",
         _ => ", the new rows counted",
     };
-    lines.push(format!(
-        "     Then {}, and {because}check answers `{}`{counted}.",
-        cure.order, cure.answer
-    ));
-    lines
+    let left = match cure.outcome {
+        Outcome::OtherRace { left } => format!("; {} left", counted_races(left)),
+        _ => String::new(),
+    };
+    let order = match cure.order {
+        Some(Order::Mutual) => "they are mutually-ordered, and ".to_string(),
+        Some(Order::Rule { rule, first }) => format!("L{rule} puts row {first} first, and "),
+        None => String::new(),
+    };
+    format!(
+        "Then {order}check answers `{}`{counted}{left}.",
+        cure.answer
+    )
 }
 
-/// What the program would have instead, in GLSL and SPIR-V.
-fn shader_lines(checked: Checked, cure: &Cure) -> Vec<String> {
-    let (mut in_glsl, mut in_spirv) = (Vec::new(), Vec::new());
-    for (name, row) in changed_rows(checked, cure) {
-        in_glsl.push(format!("{name} {}", glsl(row)));
-        in_spirv.push(format!("{name} {}", spirv(row)));
+fn counted_races(left: usize) -> String {
+    match left {
+        1 => "1 race is".to_string(),
+        _ => format!("{left} races are"),
     }
-    for change in &cure.changes {
-        if let Reason::OtherReference { row, other } = change.reason {
-            in_glsl.push(format!("row {row} by the variable of row {other}"));
-            in_spirv.push(format!("row {row} by the pointer of row {other}"));
-        }
-    }
-    if in_glsl.is_empty() {
-        return Vec::new();
-    }
-    vec![
-        format!("     GLSL: {}", in_glsl.join("; ")),
-        format!("     SPIR-V: {}", in_spirv.join("; ")),
-    ]
 }
 
-/// The rows whose instructions are others then, and the new ones.
+/// The instructions that are others then, each once, and the new ones.
 fn changed_rows(checked: Checked, cure: &Cure) -> Vec<(String, Row)> {
-    let mut changed: Vec<(String, Row)> = Vec::new();
-    for (number, row) in checked.run.rows.iter().enumerate() {
-        let edits = cure.edits.iter().filter(|edit| edit.row == number);
-        // A class goes with a reference, and is no instruction's own.
-        let edits = edits.filter(|edit| edit.field.is_of_program() && edit.field != Field::Class);
-        let edited = edits.fold(*row, |row, edit| edit.field.set(row, edit.value));
-        if edited != *row {
-            changed.push((format!("row {number}"), edited));
-        }
-    }
+    let changes = cure.changes.iter();
+    let mut changed: Vec<(String, Row)> = changes
+        .flat_map(|change| edited_rows(checked, change))
+        .collect();
     let new = cure.insertions.iter();
     let new = new.filter(|insertion| !insertion.row.is_queue_operation());
-    changed.extend(new.map(|insertion| (format!("new row {}", insertion.place), insertion.row)));
+    let new = alike(new.map(|insertion| (insertion.place, insertion.row)));
+    changed.extend(new.into_iter().map(|(places, row)| {
+        let name = match cure.has_room {
+            true => format!("new {}", rows_words(&places)),
+            false => "new row".to_string(),
+        };
+        (name, row)
+    }));
     changed
+}
+
+/// The instructions that a change makes others; rows that become atomics are
+/// several.
+fn edited_rows(checked: Checked, change: &Change) -> Vec<(String, Row)> {
+    let rows = change.rows.iter().filter_map(|number| {
+        let row = checked.run.rows[*number];
+        let edits = change.edits.iter().filter(|edit| edit.row == *number);
+        // A class goes with a reference, and is no instruction's own.
+        let edits = edits.filter(|edit| edit.field.is_of_program() && edit.field != Field::Class);
+        let edited = edits.fold(row, |row, edit| edit.field.set(row, edit.value));
+        (edited != row).then_some((*number, edited))
+    });
+    let rows = alike(rows).into_iter();
+    rows.map(|(numbers, row)| (checked.instruction_name(&numbers, numbers[0]), row))
+        .collect()
+}
+
+/// Rows with one instruction put together, with their numbers.
+fn alike(rows: impl Iterator<Item = (usize, Row)>) -> Vec<(Vec<usize>, Row)> {
+    let mut found: Vec<(Vec<usize>, Row)> = Vec::new();
+    for (number, row) in rows {
+        // What is left is the run's or another agent's.
+        let row = Row {
+            agent: 0,
+            source: 0,
+            rank: 0,
+            start: 0,
+            ..row
+        };
+        match found.iter_mut().find(|(_, known)| *known == row) {
+            Some((numbers, _)) => numbers.push(number),
+            None => found.push((vec![number], row)),
+        }
+    }
+    found
 }

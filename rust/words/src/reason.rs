@@ -1,137 +1,178 @@
 //! Why a change might be what is missing, said of the table as it is.
 
 use crate::account::Checked;
-use crate::dependency::Dependency;
-use crate::goal::Goal;
+use crate::mend::change::{Change, Reason};
+use crate::mend::dependency::Dependency;
+use crate::mend::goal::Goal;
+use crate::mend::steps::ranges;
 use crate::names;
 use crate::run::source_words;
-use second::table::{Row, MAKE_AVAILABLE, RELEASE};
+use second::table::{Row, ACQUIRE, BOTH, MAKE_AVAILABLE, MAKE_VISIBLE, RELEASE, SUBGROUP};
 
-/// What a row lacks.
-#[derive(Clone, Copy, Debug, PartialEq, Eq)]
-pub enum Reason {
-    /// A plain row is private.
-    Private { row: usize },
-    /// A plain row doesn't make available, or visible, itself.
-    PlainFlag { row: usize, scope: u8 },
-    /// A release doesn't make available, or an acquire visible.
-    NoFlag { row: usize, flag: u8 },
-    /// A scope doesn't reach; in a wider one the rank may be another's too.
-    Narrow {
-        row: usize,
-        scope: u8,
-        is_ranked: bool,
-    },
-    /// A class isn't named.
-    LacksClass { row: usize, class: u8 },
-    /// A row doesn't release, or doesn't acquire.
-    LacksOrder {
-        row: usize,
-        order: u8,
-        is_flagged: bool,
-    },
-    /// Racing rows go by different references.
-    OtherReference { row: usize, other: usize },
-    /// An atomic read something else than the row that would order them.
-    OtherSource { row: usize, source: usize },
-    /// An atomic write stands in a release sequence's way.
-    EndsSequence { row: usize },
-    /// A racing row is plain.
-    NotAtomic { row: usize, scope: u8 },
-    /// No release and acquire of a flag stand between the rows.
-    NoHandshake {
-        before: usize,
-        after: usize,
-        scope: u8,
-        classes: u8,
-    },
-    /// The agents don't meet between the rows.
-    NoMeeting {
-        before: usize,
-        after: usize,
-        scope: u8,
-        classes: u8,
-    },
-    /// Operations of a queue, or dependencies, are missing: their kinds, and
-    /// the rows that they join, numbered with the new ones put in.
-    NotCarried {
-        before: usize,
-        after: usize,
-        operations: [Option<u8>; MOST_OPERATIONS],
-        joined: [Option<Dependency>; MOST_ARROWS],
-    },
+/// So many rows of an instruction are named, or ranges of them.
+const NAMED_ROWS: usize = 6;
+
+/// Some rows in words: `row 3`, `rows 8 to 15`, `rows 1, 4 and 12 more`.
+pub fn rows_words(rows: &[usize]) -> String {
+    if let [row] = rows {
+        return format!("row {row}");
+    }
+    let mut ranges = ranges(rows, " to ");
+    if ranges.len() > NAMED_ROWS {
+        let more = rows.len() - NAMED_ROWS;
+        ranges.truncate(NAMED_ROWS);
+        ranges.push(format!("{more} more"));
+    }
+    format!("rows {}", names::listed(&ranges))
 }
 
-/// L5 asks for so many operations at most, and for one arrow more.
-pub const MOST_OPERATIONS: usize = 3;
-pub const MOST_ARROWS: usize = MOST_OPERATIONS + 1;
+/// What a sentence calls an instruction, and where something of it is.
+struct Subject {
+    name: String,
+    at: String,
+    row: Row,
+}
 
 impl Checked<'_> {
-    /// The reason as a sentence about the table as it is, and what would be
-    /// otherwise.
-    pub fn reason_words(&self, reason: Reason, goal: Goal) -> String {
-        let rows = &self.run.rows;
+    /// What an instruction is called: the row, or the line or the control
+    /// barrier with its rows.
+    pub fn instruction_name(&self, rows: &[usize], row: usize) -> String {
+        self.subject(rows, row).name
+    }
+
+    fn subject(&self, rows: &[usize], row: usize) -> Subject {
+        let fields = self.run.rows[row];
+        let subject = |preposition: &str, name: String| Subject {
+            at: format!("{preposition} {name}"),
+            name,
+            row: fields,
+        };
+        if rows.len() < 2 {
+            return subject("in", format!("row {row}"));
+        }
+        let recorded = rows_words(rows);
+        let mut places = rows.iter().filter_map(|row| self.run.notes.place(*row));
+        let place = places.next();
+        let is_one = places.all(|other| Some(other) == place);
+        match place.filter(|_| is_one) {
+            Some(place) => subject("in", format!("line {place} ({recorded})")),
+            None if fields.is_control_barrier() => {
+                let instance = fields.instance();
+                subject("in", format!("control barrier {instance} ({recorded})"))
+            }
+            None => subject("in", recorded),
+        }
+    }
+
+    /// The reasons of a change as sentences about the table as it is, and what
+    /// would be otherwise; `new` counts the rows that are put in.
+    pub fn change_words(&self, change: &Change, goal: Goal, new: usize) -> Vec<String> {
+        let reasons = change.reasons.iter();
+        reasons
+            .map(|reason| self.reason_words(&change.rows, *reason, goal, new))
+            .collect()
+    }
+
+    fn reason_words(&self, line: &[usize], reason: Reason, goal: Goal, new: usize) -> String {
+        let subject = |row: usize| self.subject(line, row);
         match reason {
-            Reason::Private { row } => format!("row {row} is private; make it non-private"),
-            Reason::PlainFlag { row, scope } => self.plain_flag_words(row, scope, goal),
-            Reason::NoFlag { row, flag } => self.no_flag_words(row, flag, goal),
+            Reason::Private { row } => {
+                format!("{} is private; make it non-private", subject(row).name)
+            }
+            Reason::PlainFlag { row, scope } => self.plain_flag_words(subject(row), scope, goal),
+            Reason::NoFlag { row, flag } => self.no_flag_words(subject(row), flag, goal),
             Reason::Narrow {
                 row,
                 scope,
                 is_ranked,
-            } => self.too_narrow_words(row, scope, is_ranked),
-            Reason::LacksClass { row, class } => self.class_words(row, class, goal),
+            } => too_narrow_words(subject(row), scope, is_ranked),
+            Reason::LacksClass { row, class } => self.class_words(subject(row), class, goal),
             Reason::LacksOrder {
                 row,
                 order,
+                classes,
                 is_flagged,
-            } => self.order_words(row, order, is_flagged, goal),
+            } => order_words(subject(row), order, classes, is_flagged),
+            Reason::Mixed { row } => format!(
+                "{} is one instruction, but its rows differ in order, scope, classes or flags; let each have what they have together",
+                subject(row).name
+            ),
+            Reason::NotAtomic { scope, .. } => self.not_atomic_words(line, scope),
+            Reason::EndsSequence { row } => format!(
+                "{} is an atomic write, and an acquire that reads it needn't see an earlier release; make it a read-modify-write",
+                subject(row).name
+            ),
+            other => self.other_words(line, other, new),
+        }
+    }
+
+    /// The words for another access, another run and new rows.
+    fn other_words(&self, line: &[usize], reason: Reason, new: usize) -> String {
+        let rows = &self.run.rows;
+        match reason {
             Reason::OtherReference { row, other } => format!(
-                "row {row} goes by reference {}, row {other} by reference {}; let both go by the latter",
-                rows[row].reference, rows[other].reference
+                "{} goes by reference {}, row {other} by reference {}; let both go by the latter",
+                self.subject(line, row).name,
+                rows[row].reference,
+                rows[other].reference
             ),
             Reason::OtherSource { row, source } => format!(
                 "row {row} read {}, not row {source}; let agent {} wait until it reads row {source}",
                 source_words(rows[row]),
                 rows[row].agent
             ),
-            Reason::EndsSequence { row } => format!(
-                "row {row} is an atomic write, and an acquire that reads it needn't see an earlier release; make it a read-modify-write"
-            ),
-            Reason::NotAtomic { row, scope } => format!(
-                "row {row} is a {}; make it a relaxed atomic in {} scope",
-                names::kind(rows[row].kind),
-                names::scope(scope)
-            ),
             Reason::NoHandshake {
                 before,
                 after,
                 scope,
                 classes,
-            } => format!(
-                "put in a release after row {before}, an atomic write of a flag that makes available, and an acquire before row {after}, an atomic read that waits for that and makes visible, both for {} in {} scope",
-                names::classes(classes),
-                names::scope(scope)
-            ),
+            } => handshake_words(before, after, scope, classes),
             Reason::NoMeeting {
                 before,
                 after,
                 scope,
                 classes,
-            } => format!(
-                "let agents {} and {} meet in a control barrier after row {before} and before row {after} that makes available and visible, for {} in {} scope",
-                rows[before].agent,
-                rows[after].agent,
-                names::classes(classes),
-                names::scope(scope)
-            ),
+            } => self.meeting_words((before, after), new, scope, classes),
             Reason::NotCarried {
                 before,
                 after,
                 operations,
                 joined,
             } => self.carried_words((before, after), &operations, &joined),
+            // The others are said of rows that are there.
+            _ => String::new(),
         }
+    }
+
+    fn not_atomic_words(&self, rows: &[usize], scope: u8) -> String {
+        let (be, what, them) = match rows.len() {
+            1 => ("is", "a plain access", "it a relaxed atomic"),
+            _ => ("are", "plain accesses", "them relaxed atomics"),
+        };
+        format!(
+            "{} {be} {what}; make {them} in {} scope, which ends the race and orders nothing",
+            rows_words(rows),
+            names::scope(scope)
+        )
+    }
+
+    fn meeting_words(
+        &self,
+        (before, after): (usize, usize),
+        new: usize,
+        scope: u8,
+        classes: u8,
+    ) -> String {
+        let rows = &self.run.rows;
+        let who = match new {
+            0..=2 => format!("agents {} and {}", rows[before].agent, rows[after].agent),
+            _ => format!("all {new} agents of the {}", names::scope(scope)),
+        };
+        format!(
+            "let {who} meet in a control barrier after row {before} and before row {after} that makes available and visible, for {} in {} scope",
+            names::classes(classes),
+            names::scope(scope)
+        )
     }
 
     /// What is to be put in so that a row's bytes reach another row.
@@ -216,19 +257,24 @@ impl Checked<'_> {
         })
     }
 
-    fn no_flag_words(&self, row: usize, flag: u8, goal: Goal) -> String {
-        let is_available = flag == MAKE_AVAILABLE;
-        let never = self.never_words(self.run.rows[row].agent, is_available, goal);
-        let (noun, word) = if is_available {
-            ("release", "make-available")
-        } else {
-            ("acquire", "make-visible")
+    fn no_flag_words(&self, subject: Subject, flag: u8, goal: Goal) -> String {
+        let is_available = flag & MAKE_AVAILABLE != 0;
+        let never = self.never_words(subject.row.agent, is_available, goal);
+        let noun = match subject.row.is_control_barrier() {
+            true => "control barrier",
+            false if is_available => "release",
+            false => "acquire",
         };
-        format!("{never}the {noun} in row {row} has no {word} flag; set it")
+        let lacks = match flag {
+            MAKE_AVAILABLE => "has no make-available flag; set it",
+            MAKE_VISIBLE => "has no make-visible flag; set it",
+            _ => "has neither a make-available nor a make-visible flag; set both",
+        };
+        format!("{never}the {noun} {} {lacks}", subject.at)
     }
 
-    fn plain_flag_words(&self, row: usize, scope: u8, goal: Goal) -> String {
-        let fields = self.run.rows[row];
+    fn plain_flag_words(&self, subject: Subject, scope: u8, goal: Goal) -> String {
+        let fields = subject.row;
         let never = self.never_words(fields.agent, fields.writes(), goal);
         let (noun, word) = if fields.writes() {
             ("write", "available")
@@ -240,40 +286,25 @@ impl Checked<'_> {
         } else {
             "is private and ".to_string()
         };
-        let scope = names::scope(scope);
-        format!("{never}the {noun} in row {row} {private}doesn't make itself {word}; let it, in {scope} scope")
-    }
-
-    fn too_narrow_words(&self, row: usize, scope: u8, is_ranked: bool) -> String {
-        let fields = self.run.rows[row];
-        let verb = verb(fields);
-        let has = names::scope(fields.scope);
-        let ranked = if is_ranked {
-            ", with a rank of its own"
-        } else {
-            ""
-        };
+        let (at, scope) = (subject.at, names::scope(scope));
         format!(
-            "the scope is too narrow: row {row} {verb} its {has} only; widen it to {}{ranked}",
-            names::scope(scope)
+            "{never}the {noun} {at} {private}doesn't make itself {word}; let it, in {scope} scope"
         )
     }
 
-    fn class_words(&self, row: usize, class: u8, goal: Goal) -> String {
-        let fields = self.run.rows[row];
-        let noun = match fields.order {
-            RELEASE => "release",
-            1 => "acquire",
-            _ => "acquire-release",
-        };
-        let named = names::classes(fields.classes);
-        let word = names::class(class);
+    fn class_words(&self, subject: Subject, class: u8, goal: Goal) -> String {
         let rows = &self.run.rows;
-        // The row's own agent's access, rather than the other's.
+        let noun = match subject.row.order {
+            RELEASE => "release",
+            ACQUIRE => "acquire",
+            _ => "barrier",
+        };
+        let named = names::classes(subject.row.classes);
+        let word = names::class(class);
         let racing = [goal.first, goal.second]
             .into_iter()
             .filter(|racing| rows[*racing].class == class)
-            .min_by_key(|racing| rows[*racing].agent != fields.agent);
+            .min_by_key(|racing| rows[*racing].agent != subject.row.agent);
         let wanted = match racing {
             Some(racing) => {
                 let what = if rows[racing].writes() {
@@ -285,29 +316,68 @@ impl Checked<'_> {
             }
             None => format!("{word} is wanted too"),
         };
-        format!("the {noun} in row {row} names {named}, {wanted}; add {word}")
+        format!(
+            "the {noun} {} names {named}, {wanted}; add {word}",
+            subject.at
+        )
     }
+}
 
-    fn order_words(&self, row: usize, order: u8, is_flagged: bool, goal: Goal) -> String {
-        let fields = self.run.rows[row];
-        let is_release = order == RELEASE;
-        let lacks = if is_release { "release" } else { "acquire" };
-        let kind = names::kind(fields.kind);
-        let has = names::order(fields.order);
-        let mut words = format!("row {row} is a {has} {kind} and doesn't {lacks}; make it");
-        if fields.order == 0 {
-            let rows = &self.run.rows;
-            let set = rows[goal.first].class_bit() | rows[goal.second].class_bit();
-            words += &format!(" {lacks} for {}", names::classes(set));
-        } else {
-            words += &format!(" {lacks} too");
-        }
-        if is_flagged {
-            let flag = if is_release { "available" } else { "visible" };
-            words += &format!(" and make {flag}");
-        }
-        words
+fn handshake_words(before: usize, after: usize, scope: u8, classes: u8) -> String {
+    // On some devices one of them never runs while the other waits.
+    let caution = match scope {
+        SUBGROUP => "; invocations of one subgroup may wait for each other for ever",
+        _ => "",
+    };
+    format!(
+        "put in a release after row {before}, an atomic write of a flag that makes available, and an acquire before row {after}, an atomic read that waits for that and makes visible, both for {} in {} scope{caution}",
+        names::classes(classes),
+        names::scope(scope)
+    )
+}
+
+fn too_narrow_words(subject: Subject, scope: u8, is_ranked: bool) -> String {
+    let verb = verb(subject.row);
+    let has = names::scope(subject.row.scope);
+    let ranked = if is_ranked {
+        ", with a rank of its own"
+    } else {
+        ""
+    };
+    format!(
+        "the scope is too narrow: {} {verb} its {has} only; widen it to {}{ranked}",
+        subject.name,
+        names::scope(scope)
+    )
+}
+
+fn order_words(subject: Subject, order: u8, classes: u8, is_flagged: bool) -> String {
+    let lacks = match order {
+        RELEASE => "release",
+        ACQUIRE => "acquire",
+        _ => "release and acquire",
+    };
+    let kind = names::kind(subject.row.kind);
+    let has = names::order(subject.row.order);
+    let article = names::article(&has);
+    let mut words = format!(
+        "{} is {article} {has} {kind} and doesn't {lacks}; make it",
+        subject.name
+    );
+    words += &match (subject.row.order, order) {
+        (0, BOTH) => format!(" acquire and release for {}", names::classes(classes)),
+        (0, _) => format!(" {lacks} for {}", names::classes(classes)),
+        _ => format!(" {lacks} too"),
+    };
+    if is_flagged {
+        let flags = match order {
+            RELEASE => "available",
+            ACQUIRE => "visible",
+            _ => "available and visible",
+        };
+        words += &format!(" and make {flags}");
     }
+    words
 }
 
 /// What a row does in its scope.

@@ -5,7 +5,7 @@ use crate::blank;
 use crate::fault::{faults, length_words, Fault};
 use crate::judge::Judge;
 use crate::run::Run;
-use crate::show::{cells, header, COLUMNS};
+use crate::show::{cells, columns, header};
 use stramashly::FillAnswer;
 
 /// Why not even a fill takes a table, if that is so.
@@ -82,7 +82,7 @@ fn meaning(number: u16) -> &'static str {
 /// has no meaning.
 fn held(run: &Run, row: usize) -> String {
     let cells = cells(run, row);
-    let said = COLUMNS.iter().zip(&cells).skip(1);
+    let said = columns(run).into_iter().zip(&cells).skip(1);
     said.filter(|(_, cell)| *cell != "-")
         .map(|(name, cell)| format!("{name} {cell}"))
         .collect::<Vec<_>>()

@@ -201,10 +201,12 @@ impl Run {
         if fields.is_atomic_writer() {
             parts.push(format!("{} {}", self.rank_word(), fields.rank));
         }
-        if let Some(place) = self.notes.place(row) {
-            parts.push(format!("at {place}"));
-        }
         parts.join(", ")
+    }
+
+    /// The same with what is noted.
+    pub fn described_in_full(&self, row: usize) -> String {
+        self.notes.named(&self.described(row))
     }
 }
 

@@ -18,7 +18,9 @@ const STORAGE: [(&str, &str); 4] = [
     ("gl_StorageSemanticsOutput", "OutputMemory"),
 ];
 const ORDERS: [&str; 4] = ["Relaxed", "Acquire", "Release", "AcquireRelease"];
+const SHARED: u8 = 1;
 const IMAGE: u8 = 2;
+const OUTPUT: u8 = 3;
 
 fn scope_name(scope: u8) -> &'static str {
     SCOPES.get(usize::from(scope)).copied().unwrap_or("?")
@@ -52,22 +54,50 @@ pub fn glsl(row: Row) -> String {
     }
 }
 
-/// A plain access and the qualifier of what it goes to.
+/// A plain access and the qualifier of what it goes to. Only buffers and
+/// images have one.
 fn plain_glsl(row: Row) -> String {
-    let what = match (row.class == IMAGE, row.writes()) {
-        (true, true) => "an `imageStore` to an image",
-        (true, false) => "an `imageLoad` of an image",
-        (false, true) => "a store to a variable",
-        (false, false) => "a load of a variable",
+    let what = match (row.class, row.writes()) {
+        (IMAGE, true) => "an `imageStore` to an image",
+        (IMAGE, false) => "an `imageLoad` of an image",
+        (SHARED, true) => "a store to a `shared` variable",
+        (SHARED, false) => "a load of a `shared` variable",
+        (OUTPUT, true) => "a store to an `out` variable",
+        (OUTPUT, false) => "a load of an `out` variable",
+        (_, true) => "a store to a variable",
+        (_, false) => "a load of a variable",
     };
-    if row.makes_available() || row.makes_visible() {
-        let coherent = scope_name(row.scope).to_lowercase();
-        format!("{what} declared `{coherent}coherent`")
-    } else if row.is_non_private() {
-        format!("{what} declared `nonprivate`")
-    } else {
-        format!("{what} without a memory qualifier")
+    match row.class {
+        SHARED => format!("{what}, which takes no qualifier: glslang makes such accesses non-private, available and visible in workgroup scope itself"),
+        OUTPUT => format!("{what}, which takes no qualifier: only SPIR-V can say it"),
+        _ if row.makes_available() || row.makes_visible() => {
+            let coherent = scope_name(row.scope).to_lowercase();
+            format!("{what} declared `{coherent}coherent`")
+        }
+        _ if row.is_non_private() => format!("{what} declared `nonprivate`"),
+        _ => format!("{what} without a memory qualifier"),
     }
+}
+
+/// What a program and a device need for a row's instruction.
+pub fn needs(row: Row) -> Vec<&'static str> {
+    let mut needs = vec![
+        "`#extension GL_KHR_memory_scope_semantics : require`",
+        "`#pragma use_vulkan_memory_model`",
+        "the feature `vulkanMemoryModel`",
+    ];
+    let has_scope = !row.is_plain() || row.makes_available() || row.makes_visible();
+    if has_scope && row.scope == DEVICE {
+        needs.push("the feature `vulkanMemoryModelDeviceScope`");
+    }
+    if row.is_atomic() && row.length == 8 {
+        needs.push("`#extension GL_EXT_shader_atomic_int64 : require`");
+        needs.push(match row.class {
+            SHARED => "the feature `shaderSharedInt64Atomics`",
+            _ => "the feature `shaderBufferInt64Atomics`",
+        });
+    }
+    needs
 }
 
 fn glsl_storage(row: Row) -> String {

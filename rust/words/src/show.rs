@@ -1,11 +1,13 @@
 //! `show`: a table as text, a line for each agent and each row.
 
 use crate::names;
+use crate::notes::Notes;
 use crate::run::{dependency_count, Run};
 use second::table::{SHADER, WITH_HOSTS};
 
-/// The names of a row's columns.
-pub const COLUMNS: [&str; 12] = [
+/// The names of a row's columns; the last two are there where a text has
+/// labels and places.
+const COLUMNS: [&str; 14] = [
     "row",
     "agent",
     "kind",
@@ -18,21 +20,42 @@ pub const COLUMNS: [&str; 12] = [
     "reference",
     "source",
     "rank",
+    "label",
+    "at",
 ];
+
+/// The columns that a table has.
+pub fn columns(run: &Run) -> Vec<&'static str> {
+    let rows = &run.notes.rows;
+    let has_labels = rows.iter().any(|row| row.label.is_some());
+    let has_places = rows.iter().any(|row| row.place.is_some());
+    let is_there = |column: &&str| match *column {
+        "label" => has_labels,
+        "at" => has_places,
+        _ => true,
+    };
+    COLUMNS.into_iter().filter(is_there).collect()
+}
 
 /// The table in words, as far as its bytes go.
 pub fn show(table: &[u8]) -> String {
+    show_noted(table, &Notes::default())
+}
+
+/// The same of a table of which more is noted.
+pub fn show_noted(table: &[u8], notes: &Notes) -> String {
     let Some(header) = header(table) else {
         let bytes = names::counted(table.len(), "byte");
         return format!("{bytes}: too few for a header\n");
     };
-    let run = Run::of(table);
+    let run = Run::of(table).noted(notes);
     let mut text = format!("{header}\n");
     for line in agent_lines(&run) {
         text += &format!("{line}\n");
     }
-    let mut lines: Vec<Vec<String>> = vec![COLUMNS.map(String::from).to_vec()];
-    lines.extend((0..run.rows.len()).map(|row| cells(&run, row).to_vec()));
+    let columns = columns(&run).into_iter().map(String::from);
+    let mut lines: Vec<Vec<String>> = vec![columns.collect()];
+    lines.extend((0..run.rows.len()).map(|row| cells(&run, row)));
     if lines.len() > 1 {
         text += &aligned(&lines);
     }
@@ -42,7 +65,8 @@ pub fn show(table: &[u8]) -> String {
     text
 }
 
-/// A line for each agent: what it is, unless it is a shader, and where.
+/// A line for each agent: its name, what it is, unless it is a shader, and
+/// where.
 pub fn agent_lines(run: &Run) -> Vec<String> {
     let agents = run.agents.iter().enumerate();
     agents
@@ -51,7 +75,9 @@ pub fn agent_lines(run: &Run) -> Vec<String> {
                 SHADER if !run.has_hosts => String::new(),
                 sort => format!("{}, ", names::sort(sort)),
             };
-            format!("agent {agent}: {sort}{}", place_words(*places))
+            let name = run.notes.agent(agent).map(|name| format!(" ({name})"));
+            let name = name.unwrap_or_default();
+            format!("agent {agent}{name}: {sort}{}", place_words(*places))
         })
         .collect()
 }
@@ -110,7 +136,31 @@ pub fn place_words([family, workgroup, subgroup]: [u16; 3]) -> String {
 
 /// A row's fields in the order of the columns; a dash where the kind has no
 /// such field and the bytes don't say otherwise.
-pub fn cells(run: &Run, number: usize) -> [String; 12] {
+pub fn cells(run: &Run, number: usize) -> Vec<String> {
+    let fields = fields(run, number);
+    let notes = &run.notes;
+    let label = notes.label(number).unwrap_or("-").to_string();
+    let place = notes
+        .place(number)
+        .map_or("-".to_string(), |place| place.to_string());
+    let cells = COLUMNS
+        .into_iter()
+        .zip(fields.into_iter().chain([label, place]));
+    let columns = columns(run);
+    let cells = cells.filter(|(column, _)| columns.contains(column));
+    cells.map(|(_, cell)| cell).collect()
+}
+
+/// A name with its number in brackets, or the number.
+fn with_name(name: Option<&str>, number: u16) -> String {
+    match name {
+        Some(name) => format!("{name} ({number})"),
+        None => number.to_string(),
+    }
+}
+
+/// The fields that the bytes have, agents and references with their names.
+fn fields(run: &Run, number: usize) -> [String; 12] {
     let row = run.rows[number];
     let unless = |is_unused: bool, words: String| {
         if is_unused {
@@ -127,7 +177,7 @@ pub fn cells(run: &Run, number: usize) -> [String; 12] {
     let has_no_order = row.is_plain() || is_operation;
     [
         number.to_string(),
-        row.agent.to_string(),
+        with_name(run.notes.agent(row.agent.into()), row.agent.into()),
         run.kind_name(row),
         unless(has_no_order && row.order == 0, names::order(row.order)),
         unless(
@@ -146,7 +196,10 @@ pub fn cells(run: &Run, number: usize) -> [String; 12] {
         },
         unless(
             is_no_access && row.reference == 0,
-            row.reference.to_string(),
+            with_name(
+                run.notes.references.get(&row.reference).map(String::as_str),
+                row.reference,
+            ),
         ),
         names::source(row),
         unless(
@@ -158,8 +211,8 @@ pub fn cells(run: &Run, number: usize) -> [String; 12] {
 
 /// Lines of cells, each column as wide as its widest cell.
 fn aligned(lines: &[Vec<String>]) -> String {
-    let width = |column: usize| lines.iter().map(|line| line[column].len()).max();
-    let widths: Vec<usize> = (0..COLUMNS.len()).filter_map(width).collect();
+    let width = |column: usize| lines.iter().map(|line| line[column].chars().count()).max();
+    let widths: Vec<usize> = (0..lines[0].len()).filter_map(width).collect();
     let mut text = String::new();
     for line in lines {
         let padded: Vec<String> = line

@@ -1,6 +1,6 @@
 //! Kind fit, condition by condition: the fields that don't fit a row's kind.
 
-use crate::edit::{Field, FIELDS};
+use crate::mend::edit::{Field, FIELDS};
 use crate::names;
 use second::table::*;
 use second::INITIAL;

@@ -2,8 +2,8 @@
 
 use crate::account::Checked;
 use crate::derivation::derivation_lines;
-use crate::edit::{edited, Edit, Field};
 use crate::judge::Judge;
+use crate::mend::edit::{edited, Edit, Field};
 use crate::refusal;
 use crate::run::Run;
 use second::{State, BLANK, CYCLE_NUMBERS, INITIAL, WORK_WORDS};

@@ -5,7 +5,7 @@ mod common;
 use common::{example, with_chains, Second};
 use second::Chains;
 use tables::{chained, Random, Size};
-use words::{draw, explain, stepped, Goal, Judge, Shown};
+use words::{draw, explain, explain_noted, stepped, Goal, Judge, Notes, Shown};
 
 /// With the switch a chain's elements are named; without it the pair races.
 #[test]
@@ -18,7 +18,8 @@ fn a_chain_is_named_element_by_element() {
         ("chain-visible", "and visible to row 5 by row 2 in "),
     ] {
         let table = example(name);
-        let on = explain(&table, &mut Second::with(Chains::On)).text();
+        let mut judge = Second::with(Chains::On);
+        let on = explain_noted(&table, &Notes::default(), &mut judge, true).text();
         assert!(on.starts_with("race-free\n"), "{name}: {on}");
         assert!(on.contains(part), "{name}: {on}");
         let off = explain(&table, &mut Second::new()).text();

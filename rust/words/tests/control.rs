@@ -8,7 +8,7 @@ use std::collections::BTreeMap;
 use stramashly::Checker;
 use tables::builder::{order, scope};
 use tables::{Random, Row, Table};
-use words::{draw, explain, show, Checked, Run};
+use words::{draw, explain, explain_noted, show, Checked, Notes, Run};
 
 /// A control barrier of instance 9 for Uniform, in workgroup scope.
 fn control(agent: u8) -> Row {
@@ -32,13 +32,18 @@ fn text(table: &[u8]) -> String {
     explain(table, &mut Checker::new()).text()
 }
 
+/// The text with every pair.
+fn all_text(table: &[u8]) -> String {
+    explain_noted(table, &Notes::default(), &mut Checker::new(), true).text()
+}
+
 #[test]
 fn the_meeting_that_orders_a_pair_is_named() {
-    let text = text(&between(&[control(0), control(1)]));
+    let text = all_text(&between(&[control(0), control(1)]));
     assert!(text.starts_with("race-free\n"), "{text}");
     let step = "row 1 synchronizes with row 2, both of control barrier 9, both for Uniform";
     assert!(text.contains(step), "{text}");
-    let fences = self::text(&example("control-fences"));
+    let fences = all_text(&example("control-fences"));
     let step = "with rows 2 and 3 of control barrier 1 between them";
     assert!(fences.contains(step), "{fences}");
 }

@@ -7,7 +7,8 @@ use common::{generated, with_relations};
 use std::collections::BTreeSet;
 use stramashly::Checker;
 use tables::{Row, Table, INITIAL};
-use words::{edited, explain, stepped, Cure, Edit, Explanation, Goal, Reason, Run, Shown, Step};
+use words::{edited, explain, parse_steps, stepped, Order, Outcome};
+use words::{Cure, Edit, Explanation, Goal, Reason, Run, Shown, Step};
 
 /// The race of a racing table.
 fn race(explanation: &Explanation) -> Option<Goal> {
@@ -46,37 +47,42 @@ fn check_cure(table: &[u8], goal: Goal, cure: &Cure, checker: &mut Checker) {
     let told = format!("race {} {} {}", after.first, after.second, after.byte);
     assert_ne!(answer, told);
     assert!(is_race(table, goal) && !is_race(&changed, after));
-    // No edit is idle, and no edit of several is needless.
+    // No edit is idle, and no change of several is needless.
     for edit in &cure.edits {
         assert_ne!(edited(table, &[*edit]), table, "{edit}");
     }
-    if let ([first, second], true) = (&cure.changes[..], cure.insertions.is_empty()) {
-        for alone in [first, second] {
-            let changed = edited(table, &alone.edits);
-            let answer = checker.check(&changed).to_string();
-            assert!(answer.starts_with("refused") || is_race(&changed, goal));
-        }
+    for place in 0..cure.changes.len() {
+        check_needed(table, goal, cure, place, checker);
     }
-    check_new_rows(table, goal, cure, checker);
 }
 
-/// Neither new row does without the other, and nothing else is needless.
-fn check_new_rows(table: &[u8], goal: Goal, cure: &Cure, checker: &mut Checker) {
-    let steps = cure.steps();
-    if cure.insertions.is_empty() {
+/// Without one of its changes a cure of rows that are there ends no race.
+fn check_needed(table: &[u8], goal: Goal, cure: &Cure, place: usize, checker: &mut Checker) {
+    if cure.is_new() || cure.changes.len() < 2 {
         return;
     }
-    assert_eq!(cure.insertions.len(), 2);
-    let without_last = stepped(table, &steps[..steps.len() - 1]).unwrap();
-    let first = cure.insertions[0];
-    let goal = Goal {
-        first: first.moved(goal.first),
-        second: first.moved(goal.second),
-        ..goal
-    };
-    let answer = checker.check(&without_last).to_string();
-    let is_needed = answer.starts_with("refused") || is_race(&without_last, goal);
-    assert!(is_needed, "{} {:?}", tables::hex(table), steps);
+    let others = cure.changes.iter().enumerate();
+    let others = others.filter(|(other, _)| *other != place);
+    let edits: Vec<Edit> = others
+        .flat_map(|(_, change)| change.edits.clone())
+        .collect();
+    let changed = edited(table, &edits);
+    let answer = checker.check(&changed).to_string();
+    let is_needed = answer.starts_with("refused") || is_race(&changed, goal);
+    let earlier = |pair: (usize, usize)| pair < (goal.first, goal.second);
+    assert!(
+        is_needed || first_race(&answer).is_some_and(earlier),
+        "{answer}"
+    );
+}
+
+/// The rows of an answer that is a race.
+fn first_race(answer: &str) -> Option<(usize, usize)> {
+    let words: Vec<&str> = answer.split(' ').collect();
+    match words[..] {
+        ["race", first, second, _] => Some((first.parse().ok()?, second.parse().ok()?)),
+        _ => None,
+    }
 }
 
 /// The steps that stand in the text, in order.
@@ -84,10 +90,7 @@ fn printed_steps(explanation: &Explanation) -> Vec<Vec<Step>> {
     let lines = explanation.lines.iter();
     lines
         .filter_map(|line| line.trim_start().strip_prefix("edit: "))
-        .map(|steps| {
-            let steps = steps.split("; ");
-            steps.map(|step| step.parse().unwrap()).collect()
-        })
+        .map(|steps| parse_steps(steps).unwrap())
         .collect()
 }
 
@@ -107,6 +110,8 @@ fn is_so(run: &Run, reason: Reason) -> (bool, &'static str) {
         Reason::Narrow { row, scope, .. } => (rows[row].scope < scope, "scope"),
         Reason::LacksClass { row, class } => (rows[row].classes >> class & 1 == 0, "class"),
         Reason::LacksOrder { row, order, .. } => (rows[row].order & order == 0, "order"),
+        // Of one row there is nothing to differ.
+        Reason::Mixed { row } => (rows[row].is_control_barrier(), "mixed"),
         Reason::OtherReference { row, other } => {
             (rows[row].reference != rows[other].reference, "reference")
         }
@@ -132,9 +137,10 @@ fn is_so(run: &Run, reason: Reason) -> (bool, &'static str) {
 struct Seen {
     races: usize,
     uncured: usize,
+    good: usize,
     inserted: usize,
     alone: usize,
-    pairs: usize,
+    together: usize,
     reasons: BTreeSet<&'static str>,
 }
 
@@ -145,24 +151,69 @@ fn check_table(table: &[u8], checker: &mut Checker, seen: &mut Seen) {
         return;
     };
     seen.races += 1;
-    seen.uncured += usize::from(explanation.cures.is_empty());
-    let printed = printed_steps(&explanation);
-    assert_eq!(printed.len(), explanation.cures.len().min(8));
-    for (place, cure) in explanation.cures.iter().enumerate() {
+    if explanation.cures.is_empty() {
+        check_uncured(table, goal, &explanation);
+        seen.uncured += 1;
+    }
+    let first = explanation.cures.first();
+    seen.good += usize::from(first.is_some_and(|cure| cure.outcome.is_good()));
+    check_printed(&explanation);
+    for cure in &explanation.cures {
         check_cure(table, goal, cure, checker);
-        if let Some(steps) = printed.get(place) {
-            assert_eq!(*steps, cure.steps());
-        }
-        match (cure.insertions.len(), cure.changes.len()) {
-            (0, 1) => seen.alone += 1,
-            (0, _) => seen.pairs += 1,
+        match (cure.is_new(), cure.changes.len()) {
+            (false, 1) => seen.alone += 1,
+            (false, _) => seen.together += 1,
             _ => seen.inserted += 1,
         }
-        for change in &cure.changes {
-            let (is_so, name) = is_so(&Run::of(table), change.reason);
-            assert!(is_so, "{:?}", change.reason);
+        let reasons = cure.changes.iter().flat_map(|change| &change.reasons);
+        for reason in reasons {
+            let (is_so, name) = is_so(&Run::of(table), *reason);
+            assert!(is_so, "{reason:?}");
             seen.reasons.insert(name);
         }
+    }
+}
+
+/// Where there is no change, the rows reach the same memory as two classes,
+/// and the text has what to do outside of the shader.
+fn check_uncured(table: &[u8], goal: Goal, explanation: &Explanation) {
+    let rows = Run::of(table).rows;
+    let (first, second) = (rows[goal.first], rows[goal.second]);
+    assert_ne!(
+        (first.reference, first.class),
+        (second.reference, second.class)
+    );
+    assert_ne!(first.class, second.class);
+    assert!(
+        explanation.text().contains("two dispatches"),
+        "{}",
+        explanation.text()
+    );
+}
+
+/// The text has the first eight changes that leave a possible run, in their
+/// order, or impossible ones where there are no others; relaxed atomics where
+/// nothing else that is there does.
+fn check_printed(explanation: &Explanation) {
+    let is_stronger = |cure: &Cure| cure.outcome.is_good() && cure.is_stronger();
+    let has_order = explanation.cures.iter().any(is_stronger) && !explanation.cures[0].is_silent();
+    let is_worth = |cure: &&Cure| {
+        let is_possible = cure.outcome != Outcome::Impossible;
+        is_possible && !(has_order && cure.is_silent())
+    };
+    let mut cures: Vec<&Cure> = explanation.cures.iter().filter(is_worth).collect();
+    // Where there is something to do outside of the shader, that is enough.
+    if cures.is_empty() && !explanation.text().contains("two dispatches") {
+        cures = explanation.cures.iter().collect();
+    }
+    let printed = printed_steps(explanation);
+    assert_eq!(printed.len(), cures.len().min(8));
+    for (steps, cure) in printed.iter().zip(cures) {
+        // Edits of one value stand together.
+        let (mut steps, mut expected) = (steps.clone(), cure.steps());
+        steps.sort_by_key(Step::to_string);
+        expected.sort_by_key(Step::to_string);
+        assert_eq!(steps, expected);
     }
 }
 
@@ -178,14 +229,12 @@ fn every_named_change_ends_the_race() {
     }
     assert!(seen.races > 700, "{} races", seen.races);
     assert!(seen.alone > 500, "{} alone", seen.alone);
-    assert!(seen.pairs > 60, "{} pairs", seen.pairs);
+    assert!(seen.together > 30, "{} together", seen.together);
     assert!(seen.inserted > 100, "{} with new rows", seen.inserted);
-    // Fewer than 5 of 250.
-    let (uncured, races) = (seen.uncured, seen.races);
-    assert!(
-        50 * uncured < races,
-        "{uncured} of {races} without a change"
-    );
+    // The first change ends the race and leaves a possible run.
+    let (good, races, uncured) = (seen.good, seen.races, seen.uncured);
+    assert!(20 * good >= 19 * races, "{good} of {races}");
+    assert!(uncured > 10, "{uncured}");
     let all = [
         "atomic",
         "class",
@@ -231,7 +280,7 @@ fn the_plainest_race_has_its_remedy() {
             let explanation = explain(&table, &mut checker);
             assert_eq!(explanation.answer, "race 0 1 0");
             let cure = explanation.cures.iter().find(|cure| {
-                let reason = cure.changes.last().unwrap().reason;
+                let reason = cure.changes.last().unwrap().reasons[0];
                 matches!(reason, Reason::NoHandshake { .. })
             });
             assert_eq!(cure.unwrap().answer, "race-free");
@@ -278,13 +327,13 @@ fn new_rows_go_with_what_was_read() {
     let explanation = explain(&table, &mut Checker::new());
     let cure = &explanation.cures[0];
     assert_eq!(cure.answer, "race-free");
-    assert_eq!(cure.order, "L2 puts row 1 first");
+    assert_eq!(cure.order, Some(Order::Rule { rule: 2, first: 1 }));
     let steps: Vec<String> = cure.steps().iter().map(Step::to_string).collect();
     assert_eq!(
         steps,
         [
-            "insert 2 kind 3 agent 1 order 2 scope 2 classes 1 flags 3 length 4 start 16 rank 1",
-            "insert 0 kind 2 agent 0 order 1 scope 2 classes 1 flags 5 length 4 start 16 source 3",
+            "insert 0 kind 6 agent 0 order 3 scope 2 classes 1 flags 6 class 2",
+            "insert 3 kind 6 agent 1 order 3 scope 2 classes 1 flags 6 class 2",
         ]
     );
 }

@@ -6,7 +6,9 @@ use common::{elements, with_relations, Second};
 use tables::builder::kind::*;
 use tables::builder::sort::{HOST, QUEUE, SHADER};
 use tables::{hosted, Random, Row, Size, Table, INITIAL};
-use words::{draw, explain, show, stepped, Cure, Explanation, Judge, Shown, Step};
+use words::{
+    draw, explain, explain_noted, show, stepped, Cure, Explanation, Judge, Notes, Shown, Step,
+};
 
 /// Each row depends on the one before it; agent 0 is a host, 1 a queue, 2 a
 /// shader.
@@ -67,7 +69,7 @@ fn a_damaged_table_with_hosts_is_shown() {
 }
 
 fn explained(table: &Table) -> Explanation {
-    explain(&table.bytes(), &mut Second::new())
+    explain_noted(&table.bytes(), &Notes::default(), &mut Second::new(), true)
 }
 
 fn edits(cure: &Cure) -> String {

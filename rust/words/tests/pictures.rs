@@ -1,11 +1,12 @@
 //! Pictures and pages: well-formed, complete, and nothing on top of anything.
 
 mod common;
+mod scenarios;
 
 use common::{elements, example, generated, with_relations, Element, Second};
 use stramashly::Checker;
 use tables::{hosted, Random, Row, Size, Table};
-use words::{draw, explain, headline, page, Checked};
+use words::{draw, draw_noted, explain, explain_noted, headline, page, Checked, Notes};
 
 /// The whole picture.
 fn drawn(table: &[u8]) -> Option<Vec<Element>> {
@@ -308,4 +309,89 @@ fn a_refused_row_is_pointed_out() {
     let pointed = with_class(&elements, "tr", "pointed");
     let ids: Vec<Option<&str>> = pointed.iter().map(|tag| tag.get("id")).collect();
     assert_eq!(ids, [Some("row-1")]);
+}
+
+/// The page of a race-free run of 128 rows is small, its pairs are folded up.
+#[test]
+fn a_race_free_page_is_small() {
+    let run = scenarios::mended_ladder();
+    let mut checker = Checker::new();
+    let explanation = explain_noted(&run.table, &run.notes, &mut checker, false);
+    assert_eq!(explanation.answer, "race-free");
+    assert!(explanation.lines.len() < 10, "{}", explanation.text());
+    let html = page(&run.table, &explanation, false);
+    assert!(html.len() < 300_000, "{}", html.len());
+    let elements = elements(&html);
+    assert_eq!(
+        elements.iter().filter(|tag| tag.name == "details").count(),
+        1
+    );
+    let picture = html.find("<svg").unwrap();
+    assert!(picture < html.find("pairs of rows conflict").unwrap());
+}
+
+/// Of many rows each agent's are packed: at most 40 units of height for a row,
+/// and rows of one control barrier side by side.
+#[test]
+fn many_rows_are_packed() {
+    let mut checker = Checker::new();
+    let ladder = scenarios::mended_ladder();
+    let long: Vec<Row> = (0..120)
+        .map(|row| Row::write(0).bytes(4 * row, 4))
+        .collect();
+    let long = Table::of_one_workgroup(1, &long).bytes();
+    let all = scenarios::all().into_iter().filter(|run| run.table[6] > 32);
+    let all = all.step_by(3).map(|run| (run.table, run.notes));
+    let mut sides_by_side = 0;
+    for (table, notes) in all.chain([(ladder.table, ladder.notes), (long, Notes::default())]) {
+        let svg = draw_noted(&table, &notes, &mut checker, true).unwrap();
+        let elements = elements(&svg);
+        let boxes: Vec<[i32; 4]> = with_class(&elements, "rect", "box")
+            .into_iter()
+            .map(sides)
+            .collect();
+        let tops = boxes.iter().map(|side| side[1]);
+        let height = boxes.iter().map(|side| side[3]).max().unwrap() - tops.min().unwrap();
+        assert!(height <= 40 * i32::from(table[6]), "{height}");
+        let run = words::Run::of(&table);
+        for (one, other) in (0..run.rows.len()).flat_map(|x| (0..x).map(move |y| (x, y))) {
+            let (first, second) = (run.rows[one], run.rows[other]);
+            let is_met = first.is_control_barrier()
+                && second.is_control_barrier()
+                && first.instance() == second.instance();
+            if is_met {
+                assert_eq!(boxes[one][1], boxes[other][1], "{one} {other}");
+                sides_by_side += 1;
+            }
+        }
+    }
+    assert!(sides_by_side > 100, "{sides_by_side}");
+}
+
+/// What the first change would add is drawn as missing, and pointing at a row
+/// lights what is of it.
+#[test]
+fn what_is_missing_is_a_ghost() {
+    let mut checker = Checker::new();
+    let (mut ghosts, mut all) = (0, 0);
+    for run in scenarios::all().into_iter().step_by(2) {
+        all += 1;
+        let svg = draw_noted(&run.table, &run.notes, &mut checker, false).unwrap();
+        let elements = elements(&svg);
+        let drawn = elements
+            .iter()
+            .any(|tag| tag.has_class("ghost") || tag.has_class("lacks"));
+        ghosts += usize::from(drawn);
+        for tag in elements.iter().filter(|tag| tag.has_class("arrow")) {
+            let classes = tag.get("class").unwrap();
+            // The legend's arrows are of no row.
+            assert!(
+                matches!(classes.matches(" of-").count(), 0 | 2),
+                "{classes}"
+            );
+        }
+        assert!(svg.contains(".run:has(.of-0:hover") || !svg.contains("id=\"box-0\""));
+    }
+    // Dependencies have none.
+    assert!(ghosts >= all - 4, "{ghosts} of {all}");
 }

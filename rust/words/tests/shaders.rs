@@ -159,7 +159,7 @@ fn plain_accesses_have_their_operands() {
         ),
         (
             row(0, 1, 5, 2),
-            "a load of a variable declared `workgroupcoherent`",
+            "a load of a `shared` variable, which takes no qualifier: glslang makes such accesses non-private, available and visible in workgroup scope itself",
             "`OpLoad` with MakePointerVisible Workgroup | NonPrivatePointer",
         ),
         (

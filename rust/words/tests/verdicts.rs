@@ -7,7 +7,7 @@ use common::{elements, example, generated, with_relations};
 use std::collections::BTreeMap;
 use stramashly::Checker;
 use tables::{damaged, fillable, Random, Row, Size, Table};
-use words::{draw, edited, explain, page, refusal, show, Checked};
+use words::{draw, edited, explain, explain_noted, page, refusal, show, Checked, Notes, Run};
 
 /// Compares the first line with the check's answer, and gives its first word.
 fn check_first_line(table: &[u8], checker: &mut Checker) -> String {
@@ -104,10 +104,16 @@ fn every_conflicting_pair_is_accounted_for() {
     let mut checker = Checker::new();
     let mut pairs = 0;
     for table in generated(335, 1500, 2, 10) {
-        let explanation = explain(&table, &mut checker);
-        if explanation.answer == "race-free" {
-            let text = explanation.text();
-            pairs += with_relations(&table, |checked| accounted(checked, &text));
+        let all = explain_noted(&table, &Notes::default(), &mut checker, true);
+        if all.answer == "race-free" {
+            let text = all.text();
+            let counted = with_relations(&table, |checked| accounted(checked, &text));
+            // Without --all a few lines say how many pairs there are.
+            let short = explain(&table, &mut checker).text();
+            assert!(short.lines().count() < 11, "{short}");
+            let number = format!("\n{counted} pairs of rows conflict, and each is ordered:\n");
+            assert!(counted < 2 || short.contains(&number), "{short}");
+            pairs += counted;
         }
     }
     assert!(pairs > 2000, "{pairs} pairs");
@@ -183,9 +189,14 @@ fn impossible_runs_have_their_causes() {
             .iter()
             .any(|word| explanation.answer.starts_with(word));
         let text = explanation.text();
-        for name in ["  the recorder, if", "  the driver, if", "  the device, if"] {
+        for name in ["  the recorder, if", "  the device, if"] {
             assert_eq!(text.contains(name), is_impossible, "{text}");
         }
+        // A compiler keeps to releases and acquires, where there are any.
+        let mut rows = Run::of(&table).rows.into_iter();
+        let has_order = rows.any(|row| row.is_release() || row.is_acquire());
+        let names_driver = text.contains("  the driver, if");
+        assert_eq!(names_driver, is_impossible && has_order, "{text}");
         runs += usize::from(is_impossible);
         for line in text.lines().filter(|line| line.starts_with("  if row ")) {
             let (_, edit) = line.split_once("(edit: ").unwrap();
@@ -221,4 +232,22 @@ fn counted_ranks_are_told() {
     let table = Table::of_one_workgroup(3, &rows).counted().bytes();
     let cycle = explain(&table, &mut checker).text();
     assert!(cycle.starts_with("cycle "), "{cycle}");
+    assert!(!cycle.contains("in version 2"), "{cycle}");
+}
+
+/// Ranks that run past their end make a cycle in version 1 and none in version
+/// 2, and the explanation says so.
+#[test]
+fn ranks_past_their_end_are_told() {
+    let rows = [
+        Row::rmw(0, 65535, 65534),
+        Row::rmw(1, 0, 65535),
+        Row::rmw(0, 1, 0),
+    ];
+    let table = Table::of_one_workgroup(2, &rows).bytes();
+    let told = explain(&table, &mut Checker::new()).text();
+    assert!(told.starts_with("cycle "), "{told}");
+    let hint = "in version 2, where they are counted, check answers `race-free`";
+    assert!(told.contains(hint), "{told}");
+    assert!(!told.contains("compiler"), "{told}");
 }

@@ -163,11 +163,13 @@ fn tables_are_made_of_one_file() {
 fn words_and_pictures_are_told_apart() {
     let page = |is_all| Telling::Page { is_all };
     let draw = |is_all| Telling::Draw { is_all };
+    let explain = |is_all| Telling::Explain { is_all };
     for (line, telling, is_hex) in [
         ("show a", Telling::Show, false),
         ("show --text a", Telling::Text, false),
         ("show --json-lines --hex a", Telling::Lines, true),
-        ("explain a", Telling::Explain, false),
+        ("explain a", explain(false), false),
+        ("explain --all a", explain(true), false),
         ("explain --html a", page(false), false),
         ("--html --hex explain a --all", page(true), true),
         ("draw --hex a", draw(false), true),
@@ -206,7 +208,7 @@ fn bad_words_are_told() {
         ("explain --html --json a", "--json"),
         ("batch --quiet", "batch"),
         ("batch --all", "batch"),
-        ("explain --all a", "--all"),
+        ("explain --json --all a", "--all"),
         ("check --all a", "--all"),
         ("help guess", "guess"),
         ("help fill check", "one command"),

@@ -39,8 +39,10 @@ pub fn drawn(checked: Checked, layout: &Layout, shown: &Shown) -> (String, Strin
             format!(" marker-end=\"url(#end-{})\"", arrow.sort)
         };
         curves += &format!(
-            "<path class=\"arrow {}\" d=\"{}\"{end}><title>{}</title></path>\n",
+            "<path class=\"arrow {} of-{} of-{}\" d=\"{}\"{end}><title>{}</title></path>\n",
             arrow.sort,
+            arrow.from,
+            arrow.to,
             curve.path(),
             escaped(&title(arrow))
         );

@@ -56,13 +56,30 @@ pub fn rows(run: &Run, layout: &Layout, shown: &Shown) -> String {
     for (row, place) in &layout.rows {
         let class = class(run.rows[*row], pointed.contains(row));
         svg += &format!(
-            "<g class=\"{class}\" id=\"box-{row}\"><title>{}</title>\n",
-            escaped(&run.described(*row))
+            "<g class=\"{class} of-{row}\" id=\"box-{row}\"><a href=\"#box-{row}\"><title>{}</title>\n",
+            escaped(&run.described_in_full(*row))
         );
-        svg += &drawn(*row, place);
+        if !layout.is_packed {
+            svg += &number(*row, place);
+        }
+        svg += &drawn(place, "box");
+        svg += "</a></g>\n";
+    }
+    for place in &layout.new {
+        svg += "<g class=\"row missing\"><title>a row that is missing</title>\n";
+        svg += &drawn(place, "ghost");
         svg += "</g>\n";
     }
     svg
+}
+
+/// A row's number, at the left of all.
+fn number(row: usize, place: &Place) -> String {
+    format!(
+        "<text class=\"number\" x=\"{}\" y=\"{}\">{row}</text>\n",
+        EDGE + 20,
+        place.middle() + 4
+    )
 }
 
 fn class(row: Row, is_shown: bool) -> String {
@@ -79,7 +96,8 @@ fn class(row: Row, is_shown: bool) -> String {
     format!("row {kind}{shown}")
 }
 
-fn drawn(row: usize, place: &Place) -> String {
+/// A box of a class, its lines and its moments; what is missing of them last.
+fn drawn(place: &Place, class: &str) -> String {
     let Place {
         x,
         y,
@@ -88,38 +106,53 @@ fn drawn(row: usize, place: &Place) -> String {
         ..
     } = *place;
     let mut svg = format!(
-        "<text class=\"number\" x=\"{}\" y=\"{}\">{row}</text>\n",
-        EDGE + 20,
-        place.middle() + 4
+        "<rect class=\"{class}\" x=\"{x}\" y=\"{y}\" width=\"{width}\" height=\"{height}\" rx=\"5\"/>\n"
     );
-    svg += &format!(
-        "<rect class=\"box\" x=\"{x}\" y=\"{y}\" width=\"{width}\" height=\"{height}\" rx=\"5\"/>\n"
-    );
+    let there = place.lines.len() - place.lacks;
     for (number, line) in place.lines.iter().enumerate() {
-        let weight = if number == 0 { "first" } else { "more" };
+        let weight = match number {
+            _ if number >= there => "lacks",
+            0 => "first",
+            _ => "more",
+        };
         svg += &format!(
             "<text class=\"{weight}\" x=\"{}\" y=\"{}\">{}</text>\n",
             x + 10,
-            y + 3 + LINE * (number as i32 + 1),
+            y + place.padding - 3 + LINE * (number as i32 + 1),
             escaped(line)
         );
     }
-    svg += &moment(&place.before, place, y - MOMENT);
+    svg += &moment(&place.before, place, y - place.moment);
     svg += &moment(&place.after, place, y + height);
     svg
 }
 
-fn moment(name: &Option<String>, place: &Place, y: i32) -> String {
-    let Some(name) = name else {
+/// A moment; a low one has no words.
+fn moment(name: &Option<(String, bool)>, place: &Place, y: i32) -> String {
+    let Some((name, is_missing)) = name else {
         return String::new();
     };
-    let sort = name.split(',').next().unwrap_or_default();
-    format!(
-        "<rect class=\"moment {sort}\" x=\"{}\" y=\"{y}\" width=\"{}\" height=\"{MOMENT}\" rx=\"3\"/><text class=\"moment\" x=\"{}\" y=\"{}\">{}</text>\n",
-        place.x + 4,
-        place.width - 8,
-        place.x + place.width / 2,
-        y + 12,
-        escaped(name)
-    )
+    let sort = match is_missing {
+        true => "ghost",
+        false => name.split(',').next().unwrap_or_default(),
+    };
+    let (x, width, height) = (place.x + 4, place.width - 8, place.moment);
+    let mut svg = format!(
+        "<rect class=\"moment {sort}\" x=\"{x}\" y=\"{y}\" width=\"{width}\" height=\"{height}\" rx=\"3\"/>"
+    );
+    if height == MOMENT {
+        let class = if *is_missing {
+            "moment lacks"
+        } else {
+            "moment"
+        };
+        let missing = if *is_missing { "missing: " } else { "" };
+        svg += &format!(
+            "<text class=\"{class}\" x=\"{}\" y=\"{}\">{missing}{}</text>",
+            place.x + place.width / 2,
+            y + 12,
+            escaped(name)
+        );
+    }
+    svg + "\n"
 }

@@ -50,7 +50,7 @@ pub fn entries(drawn: &str, shown: &Shown) -> Vec<Entry> {
     };
     let mut entries = Vec::new();
     for (sort, words) in arrows {
-        if has(&format!("arrow {sort}\"")) {
+        if has(&format!("arrow {sort} of-")) {
             entries.push(arrow(sort, words));
         }
     }
@@ -62,6 +62,12 @@ pub fn entries(drawn: &str, shown: &Shown) -> Vec<Entry> {
                 words,
             });
         }
+    }
+    if has("moment ghost") || has("ghost") || has("lacks") {
+        entries.push(Entry {
+            sample: Sample::Box("row", "ghost"),
+            words: "missing, by the first change",
+        });
     }
     if has("band") {
         entries.push(Entry {

@@ -1,21 +1,22 @@
 //! The rows of a large run that an answer is about: those that it names, and
 //! what synchronizes near them.
 
+use super::ghost::Ghosts;
 use crate::account::Checked;
 use crate::carriage::Stop;
 use crate::derivation::{meeting, step_parts};
 use crate::explain::Shown;
-use crate::goal::Goal;
+use crate::mend::goal::Goal;
 use std::collections::BTreeSet;
 use stramashly::{Checker, Derivation, DeriveAnswer};
 
 /// A run of so many rows is drawn whole.
-const WHOLE: usize = 32;
+pub const WHOLE: usize = 32;
 /// So many rows of a sort are taken in.
 const NEAR: usize = 2;
 
-/// The rows to draw.
-pub fn rows(checked: Checked, shown: &Shown, is_all: bool) -> Vec<usize> {
+/// The rows to draw; with what they lack.
+pub fn rows(checked: Checked, shown: &Shown, ghosts: &Ghosts, is_all: bool) -> Vec<usize> {
     let count = checked.run.rows.len();
     if is_all || count <= WHOLE {
         return (0..count).collect();
@@ -42,6 +43,7 @@ pub fn rows(checked: Checked, shown: &Shown, is_all: bool) -> Vec<usize> {
             }
         }
     }
+    matter.lacking(ghosts);
     matter.sources();
     matter.rows.into_iter().collect()
 }
@@ -129,6 +131,19 @@ impl Matter<'_> {
             self.rows.extend(met.map(|(ours, _)| ours));
             self.rows.extend(met.map(|(_, theirs)| theirs));
         }
+    }
+
+    /// Rows that lack something, a few, rather of agents that are drawn.
+    fn lacking(&mut self, ghosts: &Ghosts) {
+        let rows = &self.checked.run.rows;
+        let agents: BTreeSet<u8> = self.rows.iter().map(|row| rows[*row].agent).collect();
+        let (near, far): (Vec<usize>, Vec<usize>) = ghosts
+            .rows
+            .keys()
+            .partition(|row| agents.contains(&rows[**row].agent));
+        let has_near = near.iter().any(|row| self.rows.contains(row));
+        let more = if has_near { 0 } else { 2 * NEAR };
+        self.rows.extend(near.into_iter().chain(far).take(more));
     }
 
     /// What the rows read.

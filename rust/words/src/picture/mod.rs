@@ -1,11 +1,13 @@
 //! `draw`: a run as a picture. Agents are columns, rows stand below each
 //! other in the table's order, and arrows say what read, synchronized with
-//! or came after what.
+//! or came after what. Of many rows each column is packed by itself. What is
+//! missing is a dashed ghost in the colour of the race.
 
 mod arrows;
 mod bands;
 mod boxes;
 mod curve;
+mod ghost;
 mod layout;
 mod legend;
 mod matter;
@@ -15,7 +17,9 @@ use crate::account::Checked;
 use crate::explain::Shown;
 use crate::headline::headline;
 use crate::markup::escaped;
+use crate::mend::cure::Cure;
 use crate::names;
+use ghost::Ghosts;
 use layout::{Layout, EDGE, TOP};
 
 /// Room for labels beside arrows of the last column.
@@ -24,10 +28,17 @@ const LABEL_ROOM: i32 = 110;
 const HEADLINE_LETTER: i32 = 13;
 
 /// The picture as an SVG document of its own: of a large run the rows that
-/// matter, unless all are wanted.
-pub fn picture(checked: Checked, answer: &str, shown: &Shown, is_all: bool) -> String {
-    let rows = matter::rows(checked, shown, is_all);
-    let mut layout = Layout::of(checked, &rows);
+/// matter, unless all are wanted. What the first change would add is drawn as
+/// missing.
+pub fn picture(
+    checked: Checked,
+    answer: &str,
+    (shown, cure): (&Shown, Option<&Cure>),
+    is_all: bool,
+) -> String {
+    let ghosts = Ghosts::of(checked.run, cure);
+    let rows = matter::rows(checked, shown, &ghosts, is_all);
+    let mut layout = Layout::of(checked, &rows, &ghosts);
     if !shown.rows().is_empty() {
         layout.width += LABEL_ROOM;
     }
@@ -42,6 +53,7 @@ pub fn picture(checked: Checked, answer: &str, shown: &Shown, is_all: bool) -> S
         layout.height + legend::height(&legend, layout.width),
     );
     let mut svg = head(&headline, answer, &counted(checked, &rows), (width, height));
+    svg += &format!("<style>\n{}</style>\n", style::lights(".run", &rows));
     svg += &drawn;
     svg += &legend::drawn(&legend, &layout);
     svg + "</svg>\n"

@@ -31,6 +31,8 @@ pub const SHEET: &str = "\
 .run .too { stroke-width: 1.6; }
 .run .shown { stroke: #cc1f1a; stroke-width: 3; }
 .run .pointed .box { stroke: #cc1f1a; stroke-width: 3; }
+.run rect.ghost { fill: none; stroke: #cc1f1a; stroke-width: 2; stroke-dasharray: 5 3; }
+.run text.lacks { fill: #cc1f1a; font-weight: bold; }
 .run rect.label { fill: #cc1f1a; }
 .run text.label { fill: #ffffff; font-weight: bold; text-anchor: middle; }
 .run .head-reads { fill: #1f5fd0; }
@@ -56,7 +58,8 @@ pub const SHEET: &str = "\
 .run .synchronizes { stroke: #4fc870; }
 .run .modification { stroke: #c594ff; }
 .run .depends { stroke: #56c8d6; }
-.run .race, .run .shown, .run .pointed .box { stroke: #ff6f66; }
+.run .race, .run .shown, .run .pointed .box, .run rect.ghost { stroke: #ff6f66; }
+.run text.lacks { fill: #ff6f66; }
 .run rect.label { fill: #ff6f66; }
 .run text.label { fill: #12151a; }
 .run .head-reads { fill: #79a8ff; }
@@ -66,6 +69,16 @@ pub const SHEET: &str = "\
 .run .head-shown { fill: #ff6f66; }
 }
 ";
+
+/// Rules by which pointing at a row, or choosing it, lights its box and its
+/// arrows in a part of the page: by what is of the row there.
+pub fn lights(part: &str, rows: &[usize]) -> String {
+    let rule = |row: &usize| {
+        let chosen = format!("{part}:has(.of-{row}:hover, #box-{row}:target)");
+        format!("{chosen} .of-{row} .box {{ stroke: #d97706; stroke-width: 3; }}\n{chosen} .arrow[class*=of-]:not(.of-{row}) {{ opacity: 0.2; }}\n")
+    };
+    rows.iter().map(rule).collect()
+}
 
 /// The arrows' heads.
 pub fn markers() -> String {

@@ -1,27 +1,36 @@
 //! Rows that order two racing rows of different agents: a release after the
-//! one and an acquire before the other, or a control barrier where both meet.
+//! one and an acquire before the other, or a control barrier where all meet.
 
 use crate::account::Checked;
-use crate::change::Change;
-use crate::dependency::Dependency;
-use crate::domains::domain_remedies;
-use crate::edit::{edited, merged, Edit, Field};
-use crate::goal::Goal;
-use crate::insertion::Insertion;
-use crate::reason::Reason;
+use crate::mend::change::{Change, Reason};
+use crate::mend::dependency::Dependency;
+use crate::mend::domains::domain_remedies;
+use crate::mend::edit::{edited, merged, Edit, Field};
+use crate::mend::gathering::gatherings;
+use crate::mend::goal::Goal;
+use crate::mend::insertion::Insertion;
+use crate::mend::instruction::{instructions, Instruction};
 use crate::run::Run;
 use second::table::*;
-use second::{INITIAL, MAX_ROWS};
+use second::INITIAL;
 
 /// New rows, and what else the racing rows need.
-#[derive(Clone, Debug)]
+#[derive(Clone, Debug, Default)]
 pub struct Remedy {
     pub changes: Vec<Change>,
     pub edits: Vec<Edit>,
     pub insertions: Vec<Insertion>,
     pub dependencies: Vec<Dependency>,
-    /// Whether it is known that less doesn't do.
-    pub is_least: bool,
+}
+
+impl Remedy {
+    /// Edits alone.
+    pub fn of(edits: Vec<Edit>) -> Remedy {
+        Remedy {
+            edits,
+            ..Remedy::default()
+        }
+    }
 }
 
 /// The remedies worth a try, those that order the rows as they stand first.
@@ -29,9 +38,8 @@ pub fn remedies(checked: Checked, goal: Goal) -> Vec<Remedy> {
     let rows = &checked.run.rows;
     let (first, second) = (rows[goal.first], rows[goal.second]);
     let mut remedies = domain_remedies(checked, goal);
-    let is_full = rows.len() + 2 > MAX_ROWS;
     // Hosts neither release nor acquire.
-    if first.agent == second.agent || is_full || checked.has_host(goal.first, goal.second) {
+    if first.agent == second.agent || checked.has_host(goal.first, goal.second) {
         return remedies;
     }
     let ways = [(goal.first, goal.second), (goal.second, goal.first)];
@@ -42,15 +50,14 @@ pub fn remedies(checked: Checked, goal: Goal) -> Vec<Remedy> {
             let edits = edits.unwrap_or_default();
             // Classes and references as they will be.
             let run = Run::of(&edited(checked.table, &edits));
-            for (reason, insertions) in synchronizations(&run, before, after) {
+            for (reason, insertions) in synchronizations(checked, &run, before, after) {
                 let mut changes = changes.clone();
-                changes.push(change(Vec::new(), reason, true));
+                changes.push(change(&[], Vec::new(), reason));
                 remedies.push(Remedy {
                     changes,
                     edits: edits.clone(),
                     insertions,
                     dependencies: Vec::new(),
-                    is_least: false,
                 });
             }
         }
@@ -58,39 +65,70 @@ pub fn remedies(checked: Checked, goal: Goal) -> Vec<Remedy> {
     remedies
 }
 
-fn change(edits: Vec<Edit>, reason: Reason, is_stronger: bool) -> Change {
+/// Whether a racing pair is data under a sequence lock: the writer writes a
+/// place atomically before and after, the reader reads it before and after.
+pub fn is_seqlock(run: &Run, goal: Goal) -> bool {
+    let place = |row: Row| (row.start, row.length, row.reference);
+    let around = |racing: usize, test: fn(Row) -> bool| {
+        let own = |row: usize| run.rows[row].agent == run.rows[racing].agent && test(run.rows[row]);
+        let before: Vec<_> = (0..racing).filter(|row| own(*row)).collect();
+        let after = (racing + 1..run.rows.len()).filter(|row| own(*row));
+        let mut places: Vec<_> = after.map(|row| place(run.rows[row])).collect();
+        places.retain(|found| before.iter().any(|row| place(run.rows[*row]) == *found));
+        places
+    };
+    let ways = [(goal.first, goal.second), (goal.second, goal.first)];
+    ways.into_iter().any(|(writer, reader)| {
+        let (one, other) = (run.rows[writer], run.rows[reader]);
+        let is_data = one.is_plain() && other.is_plain() && one.writes() && other.reads();
+        let reads = |row: Row| row.is_atomic() && row.reads();
+        let read = around(reader, reads);
+        let mut written = around(writer, Row::is_atomic_writer).into_iter();
+        is_data && written.any(|place| read.contains(&place))
+    })
+}
+
+fn change(rows: &[usize], edits: Vec<Edit>, reason: Reason) -> Change {
     Change {
+        rows: rows.to_vec(),
         edits,
-        reason,
-        group: 0,
-        is_stronger,
+        reasons: vec![reason],
     }
 }
 
 /// What the rules of order ask of the rows besides happens-before: that they
 /// are non-private and, after a write, one reference, of which there are two
-/// to choose from.
+/// to choose from. Memory of two classes is no one variable.
 fn needed(checked: Checked, before: usize, after: usize) -> Vec<Vec<Change>> {
     let rows = &checked.run.rows;
+    let all = instructions(checked.run);
+    let of_line = |row: usize| -> Vec<usize> {
+        let mut all = all.iter();
+        let found = all.find(|instruction: &&Instruction| instruction.rows.contains(&row));
+        found.map_or(vec![row], |instruction| instruction.rows.clone())
+    };
     let mut changes = Vec::new();
     for row in [before, after] {
         if !rows[row].is_non_private() {
-            let flags = rows[row].flags | NON_PRIVATE;
-            let edits = vec![Edit::new(row, Field::Flags, flags)];
-            changes.push(change(edits, Reason::Private { row }, true));
+            let line = of_line(row);
+            let private = line.iter().filter(|row| !rows[**row].is_non_private());
+            let edit = |row: &usize| Edit::new(*row, Field::Flags, rows[*row].flags | NON_PRIVATE);
+            let edits = private.map(edit).collect();
+            changes.push(change(&line, edits, Reason::Private { row }));
         }
     }
     if !rows[before].writes() || rows[before].reference == rows[after].reference {
         return vec![changes];
     }
+    if rows[before].class != rows[after].class {
+        return Vec::new();
+    }
     let to_one_reference = |row: usize, other: usize| {
-        let mut edits = vec![Edit::new(row, Field::Reference, rows[other].reference)];
-        if rows[row].class != rows[other].class {
-            edits.push(Edit::new(row, Field::Class, rows[other].class));
-        }
-        let reason = Reason::OtherReference { row, other };
+        let line = of_line(row);
+        let edit = |row: &usize| Edit::new(*row, Field::Reference, rows[other].reference);
+        let edits = line.iter().map(edit).collect();
         let mut changes = changes.clone();
-        changes.push(change(edits, reason, false));
+        changes.push(change(&line, edits, Reason::OtherReference { row, other }));
         changes
     };
     vec![
@@ -107,11 +145,40 @@ fn shared_scope(run: &Run, before: usize, after: usize) -> u8 {
     (SUBGROUP..=DEVICE).find(shared).unwrap_or(DEVICE)
 }
 
-/// Rows that synchronize, in the order in which they are put in.
-fn synchronizations(run: &Run, before: usize, after: usize) -> Vec<(Reason, Vec<Insertion>)> {
+/// The narrowest scope in which two rows' agents may meet. Agents of different
+/// workgroups can't, and who meets in a workgroup elsewhere does so here.
+fn meeting_scope(run: &Run, rows: [usize; 2], scope: u8) -> u8 {
+    if scope > WORKGROUP {
+        return scope;
+    }
+    let agents = rows.map(|row| run.rows[row].agent);
+    let met = run.rows.iter().filter(|row| row.is_control_barrier());
+    let met = met.filter(|row| agents.contains(&row.agent));
+    let widest = met.map(|row| row.execution_scope()).max();
+    scope.max(widest.unwrap_or(scope).min(WORKGROUP))
+}
+
+/// Rows that synchronize, in the order in which they are put in. Where agents
+/// can meet they needn't wait for each other.
+fn synchronizations(
+    checked: Checked,
+    run: &Run,
+    before: usize,
+    after: usize,
+) -> Vec<(Reason, Vec<Insertion>)> {
     let scope = shared_scope(run, before, after);
     let classes = run.rows[before].class_bit() | run.rows[after].class_bit();
     let mut found = Vec::new();
+    for scope in meeting_scope(run, [before, after], scope)..=WORKGROUP {
+        let reason = Reason::NoMeeting {
+            before,
+            after,
+            scope,
+            classes,
+        };
+        let all = gatherings(checked, run, (before, after), scope, classes);
+        found.extend(all.into_iter().map(|insertions| (reason, insertions)));
+    }
     if let Some(insertions) = handshake(run, [before, after], scope, classes) {
         let reason = Reason::NoHandshake {
             before,
@@ -120,16 +187,6 @@ fn synchronizations(run: &Run, before: usize, after: usize) -> Vec<(Reason, Vec<
             classes,
         };
         found.push((reason, insertions));
-    }
-    // Agents of different workgroups can't wait for each other.
-    if scope <= WORKGROUP {
-        let reason = Reason::NoMeeting {
-            before,
-            after,
-            scope,
-            classes,
-        };
-        found.push((reason, meeting(run, [before, after], scope, classes)));
     }
     found
 }
@@ -173,38 +230,6 @@ fn handshake(
     };
     acquire.row.source = acquire.moved(release.place) as u16;
     Some(vec![release, acquire])
-}
-
-/// A control barrier where both agents make available and visible.
-fn meeting(run: &Run, [before, after]: [usize; 2], scope: u8, classes: u8) -> Vec<Insertion> {
-    let used = |instance: &u16| {
-        let mut rows = run.rows.iter();
-        rows.any(|row| row.is_control_barrier() && row.start == *instance)
-    };
-    let meeting = Row {
-        kind: CONTROL_BARRIER,
-        order: BOTH,
-        scope,
-        classes,
-        flags: MAKE_AVAILABLE | MAKE_VISIBLE,
-        class: scope,
-        start: (0..u16::MAX).find(|instance| !used(instance)).unwrap_or(0),
-        source: INITIAL,
-        ..Row::default()
-    };
-    let of_agent = |row: usize| Row {
-        agent: run.rows[row].agent,
-        ..meeting
-    };
-    let first = Insertion {
-        place: before + 1,
-        row: of_agent(before),
-    };
-    let second = Insertion {
-        place: first.moved(after),
-        row: of_agent(after),
-    };
-    vec![first, second]
 }
 
 /// Four bytes that nothing accesses.

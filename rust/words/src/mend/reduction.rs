@@ -1,8 +1,9 @@
 //! The part of a table that two rows' order at a byte depends on. Large tables
 //! have many rows that it doesn't depend on, and asking of fewer is quicker.
 
-use crate::edit::{edited, Edit, Field};
-use crate::goal::Goal;
+use crate::mend::cure::Cure;
+use crate::mend::edit::{edited, Edit, Field};
+use crate::mend::goal::Goal;
 use crate::run::{first_row, Run};
 use second::table::{Row, ATOMIC_RMW, ROW_BYTES};
 use second::{row_bytes, Chains, BLANK, INITIAL};
@@ -31,6 +32,41 @@ impl Reduction {
         let run = Run::of(table);
         let kept = on_ways(&run, goal, relevant(&run, goal, chains));
         Reduction::to(table, &run, kept)
+    }
+
+    /// The rows that matter of the racing agents alone.
+    pub fn of_agents(table: &[u8], goal: Goal, chains: Chains) -> Reduction {
+        let run = Run::of(table);
+        let racing = [goal.first, goal.second].map(|row| run.rows[row].agent);
+        let mut kept = relevant(&run, goal, chains);
+        kept.retain(|row| racing.contains(&run.rows[*row].agent));
+        Reduction::to(table, &run, kept)
+    }
+
+    /// Whether a row was kept.
+    pub fn has(&self, row: usize) -> bool {
+        self.place(row).is_some()
+    }
+
+    /// A cure of this table told of the whole one, which has no room for its
+    /// new rows.
+    pub fn of_whole(&self, mut cure: Cure) -> Cure {
+        let kept = |row: usize| self.kept.get(row).copied().unwrap_or(row);
+        for change in &mut cure.changes {
+            change.rows.iter_mut().for_each(|row| *row = kept(*row));
+            change
+                .edits
+                .iter_mut()
+                .for_each(|edit| edit.row = kept(edit.row));
+            for reason in &mut change.reasons {
+                *reason = reason.renumbered(kept);
+            }
+        }
+        cure.edits
+            .iter_mut()
+            .for_each(|edit| edit.row = kept(edit.row));
+        cure.has_room = false;
+        cure
     }
 
     /// Whether the smaller one stands with these edits.
@@ -163,7 +199,7 @@ fn on_ways(run: &Run, goal: Goal, rows: Vec<usize>) -> Vec<usize> {
 }
 
 /// The rows that steps lead to from a row, itself among them.
-fn reached(run: &Run, row: usize, is_step: impl Fn(&Run, usize, usize) -> bool) -> Vec<bool> {
+pub fn reached(run: &Run, row: usize, is_step: impl Fn(&Run, usize, usize) -> bool) -> Vec<bool> {
     let mut reached = vec![false; run.rows.len()];
     reached[row] = true;
     let mut waiting = vec![row];
@@ -182,7 +218,7 @@ fn reached(run: &Run, row: usize, is_step: impl Fn(&Run, usize, usize) -> bool) 
 /// orders, scopes, classes and flags they have: in program order, from a head
 /// of a release sequence to its reader, between control barriers of one
 /// instance, by a dependency.
-fn is_step(run: &Run, x: usize, y: usize) -> bool {
+pub fn is_step(run: &Run, x: usize, y: usize) -> bool {
     let (one, other) = (run.rows[x], run.rows[y]);
     let place = |row: Row| (row.start, row.length, row.reference);
     let reads_from = || {
@@ -229,7 +265,8 @@ fn source(row: Row, kept: &[usize]) -> u16 {
 #[cfg(test)]
 mod tests {
     use super::*;
-    use crate::cure::strongest;
+    use crate::mend::instruction::Instruction;
+    use crate::mend::strength::Strength;
     use second::{CheckAnswer, State, CYCLE_NUMBERS, WORK_WORDS};
     use tables::{chained, checkable, hex, hosted, Random, Size};
 
@@ -248,7 +285,12 @@ mod tests {
         if random.percent(60) {
             let strong = (0..count).flat_map(|_| {
                 let row = random.below(rows);
-                strongest(row, run.rows[row], random.percent(50))
+                let instruction = Instruction { rows: vec![row] };
+                let most = Strength::most(run, &instruction);
+                let edits = instruction.edits(run, most).into_iter();
+                edits
+                    .filter(|edit| Reduction::is_tight_with(&[*edit]))
+                    .collect::<Vec<_>>()
             });
             return strong.collect();
         }

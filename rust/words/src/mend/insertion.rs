@@ -1,7 +1,7 @@
-//! Rows put into a table, and the steps that make one table of another.
+//! Rows put into a table.
 
-use crate::dependency::{count_changed, Dependency};
-use crate::edit::{whole_number, Edit, Field, FIELDS};
+use crate::mend::dependency::count_changed;
+use crate::mend::edit::{whole_number, Field, FIELDS};
 use crate::run::{dependency_count, first_row, past_rows, Run};
 use second::table::{Row, COUNT_BYTES, DEPENDENCY_BYTES, HEADER_BYTES, ROW_BYTES, WITH_HOSTS};
 use second::{row_bytes, BLANK, INITIAL, MAX_ROWS};
@@ -132,62 +132,4 @@ impl FromStr for Insertion {
         }
         Ok(Insertion { place, row })
     }
-}
-
-/// One step from a table to another; several are made one after the other.
-#[derive(Clone, Copy, Debug, PartialEq, Eq)]
-pub enum Step {
-    Edit(Edit),
-    Insert(Insertion),
-    Depend(Dependency),
-}
-
-impl Step {
-    /// Makes the step; the reason if the table has no such row or place.
-    pub fn apply(self, table: &mut Vec<u8>) -> Result<(), String> {
-        match self {
-            Step::Insert(insertion) => insertion.apply(table),
-            Step::Depend(dependency) => dependency.apply(table),
-            Step::Edit(edit) => {
-                let rows = row_count(table)?;
-                if edit.row >= rows {
-                    return Err(format!("there is no row {}", edit.row));
-                }
-                edit.apply(table);
-                Ok(())
-            }
-        }
-    }
-}
-
-impl fmt::Display for Step {
-    fn fmt(&self, formatter: &mut fmt::Formatter) -> fmt::Result {
-        match self {
-            Step::Edit(edit) => edit.fmt(formatter),
-            Step::Insert(insertion) => insertion.fmt(formatter),
-            Step::Depend(dependency) => dependency.fmt(formatter),
-        }
-    }
-}
-
-impl FromStr for Step {
-    type Err = String;
-
-    fn from_str(text: &str) -> Result<Step, String> {
-        match text.split_whitespace().next() {
-            Some("insert") => text.parse().map(Step::Insert),
-            Some("depend") => text.parse().map(Step::Depend),
-            _ => text.parse().map(Step::Edit),
-        }
-    }
-}
-
-/// The table after these steps, or the reason why one can't be made.
-pub fn stepped(table: &[u8], steps: &[Step]) -> Result<Vec<u8>, String> {
-    let mut changed = table.to_vec();
-    for step in steps {
-        let made = step.apply(&mut changed);
-        made.map_err(|reason| format!("`{step}`: {reason}"))?;
-    }
-    Ok(changed)
 }

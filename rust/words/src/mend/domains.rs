@@ -3,13 +3,12 @@
 
 use crate::account::Checked;
 use crate::carriage::Stop;
-use crate::change::Change;
-use crate::dependency::Dependency;
 use crate::derivation::at;
-use crate::goal::Goal;
-use crate::insertion::Insertion;
-use crate::reason::{Reason, MOST_ARROWS, MOST_OPERATIONS};
-use crate::remedy::Remedy;
+use crate::mend::change::{Change, Reason, MOST_ARROWS, MOST_OPERATIONS};
+use crate::mend::dependency::Dependency;
+use crate::mend::goal::Goal;
+use crate::mend::insertion::Insertion;
+use crate::mend::remedy::Remedy;
 use second::table::*;
 use second::INITIAL;
 
@@ -72,15 +71,13 @@ fn remedy(checked: Checked, (before, after): (usize, usize), way: Vec<Stop>, que
     };
     Remedy {
         changes: vec![Change {
+            rows: Vec::new(),
             edits: Vec::new(),
-            reason,
-            group: 0,
-            is_stronger: true,
+            reasons: vec![reason],
         }],
         edits: Vec::new(),
         insertions: laid.insertions,
         dependencies,
-        is_least: true,
     }
 }
 

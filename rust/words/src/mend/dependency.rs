@@ -1,7 +1,7 @@
 //! Dependencies put into a table.
 
-use crate::edit::whole_number;
-use crate::insertion::row_count;
+use crate::mend::edit::whole_number;
+use crate::mend::insertion::row_count;
 use crate::run::{dependency_count, past_rows};
 use second::table::{COUNT_BYTES, DEPENDENCY_BYTES};
 use second::MAX_DEPENDENCIES;

@@ -30,10 +30,9 @@ impl Watch {
     /// The first calls of a table, and some of the later ones.
     fn is_looked_at(&mut self, id: usize, value: &Value) -> bool {
         let is_no = matches!(value, Value::Truth(false));
-        let first = if self.others.len() > 150 { 40 } else { 400 };
         let calls = self.calls.entry((id, is_no)).or_default();
         *calls += 1;
-        *calls < first || calls.is_multiple_of(16) && *calls < 1000 || calls.is_multiple_of(100)
+        *calls < 50 || calls.is_multiple_of(16) && *calls < 1000 || calls.is_multiple_of(100)
     }
 
     /// For the next table.

@@ -19,6 +19,8 @@ pub(crate) struct Watch {
     /// How often a definition was called for one table, by whether it said no.
     calls: HashMap<(usize, bool), usize>,
     is_looking: bool,
+    /// How many of a definition's first calls are looked at.
+    first: usize,
     known: Known,
 }
 
@@ -30,10 +32,11 @@ impl Watch {
     /// The first calls of a table, and some of the later ones.
     fn is_looked_at(&mut self, id: usize, value: &Value) -> bool {
         let is_no = matches!(value, Value::Truth(false));
-        let first = if self.others.len() > 150 { 40 } else { 400 };
         let calls = self.calls.entry((id, is_no)).or_default();
         *calls += 1;
-        *calls < first || calls.is_multiple_of(16) && *calls < 1000 || calls.is_multiple_of(100)
+        *calls < self.first
+            || calls.is_multiple_of(16) && *calls < 1000
+            || calls.is_multiple_of(100)
     }
 
     /// For the next table.
@@ -46,7 +49,10 @@ impl Watch {
 impl Evaluator {
     /// Looks at these definitions from now on, each with a number.
     pub fn watch(&mut self, others: &[(usize, &str, &[Clause])]) -> Result<(), Stop> {
-        let mut watch = Watch::default();
+        let mut watch = Watch {
+            first: if others.len() > 120 { 50 } else { 500 },
+            ..Watch::default()
+        };
         for (number, definition, clauses) in others {
             let id = self.program.definition(definition)?;
             let ready = Rc::new(self.program.other(definition, clauses)?);

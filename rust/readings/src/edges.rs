@@ -3,7 +3,7 @@
 
 use crate::corpus::{asked, of_writer, with_dependencies, Case};
 use crate::question::*;
-use tables::{Random, Row, Table};
+use tables::{Random, Row, Table, BLANK};
 
 pub fn edges(random: &mut Random) -> Vec<Case> {
     let mut cases = vec![shares(), lowest_shared(), share_of()];
@@ -16,7 +16,65 @@ pub fn edges(random: &mut Random) -> Vec<Case> {
     cases.push(round());
     cases.push(short_buffers());
     cases.extend(writers(random));
+    let tables = [late_writer(), two_writers(), overwritten_and_racing()];
+    cases.extend(
+        tables
+            .iter()
+            .chain(&tables)
+            .map(|table| asked(random, table.bytes())),
+    );
     cases
+}
+
+/// A blank whose source is written before it; a writer that comes after it
+/// stands first in the table.
+fn late_writer() -> Table {
+    let flag = |row: Row| row.bytes(16, 4).reference(2).scope(2);
+    let rows = [
+        flag(Row::atomic_read(0, 4)).acquire(1).make_visible(),
+        Row::write(0).bytes(0, 4).reference(1),
+        Row::write(1).bytes(0, 4).reference(1),
+        Row::read(1, BLANK).bytes(0, 4).reference(1),
+        flag(Row::atomic_write(1, 1)).release(1).make_available(),
+    ];
+    Table::of_one_workgroup(2, &rows)
+}
+
+/// A read of what was overwritten before it, and two writes that race.
+fn overwritten_and_racing() -> Table {
+    let datum = |row: Row| row.bytes(0, 4).reference(1);
+    let other = |agent: u8| Row::write(agent).bytes(8, 4).reference(2);
+    let rows = [
+        datum(Row::write(0)),
+        datum(Row::write(0)),
+        datum(Row::read(0, 0)),
+        other(0),
+        other(1),
+    ];
+    Table::of_one_workgroup(2, &rows)
+}
+
+/// A blank that comes after two atomic writers, which only their ranks order.
+fn two_writers() -> Table {
+    let atomic = |row: Row, start, reference| row.bytes(start, 4).reference(reference).scope(2);
+    let sender = |agent: u8, rank| {
+        let flag = atomic(
+            Row::atomic_write(agent, 1),
+            16 + 4 * u16::from(agent),
+            2 + u16::from(agent),
+        );
+        [
+            atomic(Row::atomic_write(agent, rank), 32, 5),
+            Row::barrier(agent, 2, 1).scope(2).make_available(),
+            flag,
+        ]
+    };
+    let mut rows = [sender(0, 1), sender(1, 2)].concat();
+    rows.push(atomic(Row::atomic_read(2, 2), 16, 2));
+    rows.push(atomic(Row::atomic_read(2, 5), 20, 3));
+    rows.push(Row::barrier(2, 1, 1).scope(2).make_visible());
+    rows.push(Row::read(2, BLANK).bytes(32, 4).reference(5));
+    Table::of_one_workgroup(3, &rows)
 }
 
 /// Control barriers of two agents, with any execution scopes, and accesses of

@@ -1,11 +1,10 @@
 //! A sample of the mutants: nearly each is told apart. The program `mutants`
 //! tries them all.
 
-use readings::{case, equal, fixed, mutants, with_room, Readers, Trial};
+use readings::{equal, fixed, mutants, with_room, Readers, Trial};
 
-/// One in so many, and generated tables beside the fixed ones.
+/// One in so many.
 const EVERY: usize = 45;
-const TABLES: u64 = 80;
 
 fn tried() -> Result<(usize, Vec<String>), String> {
     let mut readers = Readers::new();
@@ -19,7 +18,6 @@ fn tried() -> Result<(usize, Vec<String>), String> {
     let count = sample.len();
     let mut trial = Trial::new(readers, sample);
     trial.ask(fixed())?;
-    trial.ask((0..TABLES).map(|number| case(7 << 32 | number)).collect())?;
     Ok((
         count,
         trial.left().map(|(mutant, _)| mutant.line()).collect(),

@@ -1,7 +1,7 @@
 //! Wrong definitions that the runs of crate `model` let pass: each is told
 //! apart.
 
-use readings::{case, with_room, Mutant, Readers, Trial};
+use readings::{fixed, with_room, Mutant, Readers, Trial};
 
 /// The definition, and what it would wrongly be.
 const WRONG: [(&str, &str); 3] = [
@@ -23,10 +23,6 @@ const WRONG: [(&str, &str); 3] = [
     ),
 ];
 
-/// Generated tables, at most, and how many are asked about at a time.
-const TABLES: u64 = 800;
-const ROUND: u64 = 40;
-
 /// Those that no table tells apart.
 fn left() -> Result<Vec<String>, String> {
     let mut readers = Readers::new();
@@ -43,15 +39,7 @@ fn left() -> Result<Vec<String>, String> {
         });
     }
     let mut trial = Trial::new(readers, mutants);
-    for first in (0..TABLES).step_by(ROUND as usize) {
-        if trial.left().count() > 0 {
-            trial.ask(
-                (first..first + ROUND)
-                    .map(|number| case(5 << 32 | number))
-                    .collect(),
-            )?;
-        }
-    }
+    trial.ask(fixed())?;
     let left = trial.left().map(|(mutant, _)| mutant.definition.clone());
     Ok(left.collect())
 }

@@ -17,6 +17,7 @@ pub fn contracts(code: &str) -> Page {
     for text in code.split(EXPORTED).skip(1) {
         let (head, rest) = text.split_once("ensures {").unwrap_or((text, ""));
         let (name, arguments) = head.split_once('(').unwrap_or((head, ""));
+        let name = name.split_once('<').map_or(name, |(name, _)| name);
         let mut names = arguments.lines().flat_map(|line| line.split(", "));
         let arguments: Vec<&str> = names
             .by_ref()

@@ -206,7 +206,8 @@ fn of_table(random: &mut Random, table: &[u8], questions: &mut Vec<Question>) {
         };
         ask(questions, check, lent(random, CYCLE));
         ask(questions, fill, lent(random, SOURCES));
-        ask(questions, "stramashly_report", lent(random, CYCLE));
+        let reported = [lent(random, CYCLE), vec![share()]].concat();
+        ask(questions, "stramashly_report", reported);
         let truth = Argument::Truth(*chains != 0);
         ask(
             questions,
@@ -324,14 +325,17 @@ fn lengthen(random: &mut Random, steps: &mut Vec<u16>) {
     steps.extend(once.iter().cycle().take(length.saturating_sub(once.len())));
 }
 
-/// Rows at places in any order, of a table that can be stepped through.
+/// A number lent for a share, which no share is.
+pub fn share() -> Argument {
+    Argument::Float((-2.5f64).to_bits())
+}
+
+/// Rows at places in any order; the values of a table.
 fn of_rows(random: &mut Random, table: &[u8], questions: &mut Vec<Question>) {
-    if State::new().take_in(table).is_err() {
-        return;
-    }
     let bytes = || Argument::Bytes(table.to_vec());
     for _ in 0..2 {
-        let at = random.below(usize::from(table[6]) + 2) as u64;
+        let rows = table.get(6).copied().unwrap_or(3);
+        let at = random.below(usize::from(rows) + 2) as u64;
         let at = random.pick(&[at, at, at, at, 65534]);
         let room = random.pick(&[0, 15, 16, 16, 16, 17, 20]);
         let room = (0..room).map(|_| random.word() as u8).collect();
@@ -341,12 +345,26 @@ fn of_rows(random: &mut Random, table: &[u8], questions: &mut Vec<Question>) {
             vec![bytes(), number(at), Argument::Bytes(room)],
         );
     }
+    let halves = |count, random: &mut Random| (0..count).map(|_| random.word() as u16).collect();
+    let less = random.pick(&[0, 0, 0, 0, 1, 2, 3]);
+    let places = Argument::Halves(halves(128 + 3 - usize::from(less == 1) * 4, random));
+    let rows = (0..2048 + 5 - usize::from(less == 2) * 6).map(|_| random.word() as u8);
+    let rows = Argument::Bytes(rows.collect());
+    let pairs = Argument::Halves(halves(128 + 2 - usize::from(less == 3) * 3, random));
+    ask(
+        questions,
+        "stramashly_read",
+        vec![bytes(), places, rows, pairs],
+    );
+    if State::new().take_in(table).is_err() {
+        return;
+    }
     ask(questions, READ_ENTRIES, vec![bytes()]);
     ask(questions, READ_DEPENDENCIES, vec![bytes()]);
 }
 
 /// Where the rows of a table begin and end, by its first bytes.
-fn rows_of(bytes: &[u8]) -> (usize, usize) {
+pub(crate) fn rows_of(bytes: &[u8]) -> (usize, usize) {
     let place = if bytes[4] == 3 { 8 } else { 6 };
     let begin = 8 + place * usize::from(bytes[5]);
     (begin, begin + ROW * usize::from(bytes[6]))
@@ -389,7 +407,8 @@ fn of_pieces(random: &mut Random, table: &[u8], questions: &mut Vec<Question>) {
         |random: &mut Random, needed| vec![chains.clone(), work(random), halves(random, needed)];
     ask(questions, "stramashly_check2", with(lent(random, CYCLE)));
     ask(questions, "stramashly_fill2", with(lent(random, SOURCES)));
-    ask(questions, "stramashly_report2", with(lent(random, CYCLE)));
+    let reported = [lent(random, CYCLE), vec![share()]].concat();
+    ask(questions, "stramashly_report2", with(reported));
     of_moments_in_pieces(random, [&first, &second], questions);
     for _ in 0..3 {
         let row = random.below(rows + 2) as u64;

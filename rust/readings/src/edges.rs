@@ -1,12 +1,12 @@
 //! Questions that generated tables rarely lead to: rows of every form, numbers
 //! at their limits, and definitions that are asked for by themselves.
 
-use crate::corpus::{asked, of_writer, with_dependencies, Case};
+use crate::corpus::{asked, of_writer, share, with_dependencies, Case};
 use crate::question::*;
 use tables::{Random, Row, Table, BLANK};
 
 pub fn edges(random: &mut Random) -> Vec<Case> {
-    let mut cases = vec![shares(), lowest_shared(), share_of()];
+    let mut cases = vec![shares(), lowest_shared()];
     cases.extend((0..14).flat_map(|kind| forms(random, kind)));
     cases.extend(ranks(random));
     cases.push(limits());
@@ -151,7 +151,10 @@ fn short_buffers() -> Case {
                 ("stramashly_report2", numbers(&[0])),
                 ("stramashly_derive2", numbers(&[1, 4])),
             ] {
-                let arguments = [&pieces[..], &between, &lent].concat();
+                let mut arguments = [&pieces[..], &between, &lent].concat();
+                if function == "stramashly_report2" {
+                    arguments.push(share());
+                }
                 questions.push(Question {
                     function,
                     arguments,
@@ -306,25 +309,6 @@ fn lowest_shared() -> Case {
         }
     }
     alone(questions)
-}
-
-fn share_of() -> Case {
-    let pairs = [
-        [0, 0],
-        [1, 0],
-        [0, 1],
-        [1, 1],
-        [1, 3],
-        [2, 3],
-        [7, 8128],
-        [65535, 65535],
-        [1, 65535],
-    ];
-    let questions = pairs.map(|pair| Question {
-        function: "stramashly_share",
-        arguments: numbers(&pair),
-    });
-    alone(questions.to_vec())
 }
 
 /// A row of a kind that may be as it must, and mostly isn't.

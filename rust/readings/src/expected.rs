@@ -99,8 +99,10 @@ fn of_table(
             let answer = check(state, *chains, table, work, cycle);
             Some(after_check(&answer, work, cycle))
         }
-        ("stramashly_report", [Number(chains), Words(work), Halves(cycle)]) => {
-            Some(report(state, *chains, table, work, cycle))
+        ("stramashly_report", [Number(chains), Words(work), Halves(cycle), Float(share)]) => {
+            let mut told = report(state, *chains, table, work, cycle);
+            told.left.entry("share".to_string()).or_insert(vec![*share]);
+            Some(told)
         }
         ("stramashly_fill", [Number(chains), Words(work), Halves(sources)]) => {
             fill(state, *chains, table, work, sources)
@@ -118,6 +120,9 @@ fn of_table(
         })),
         ("stramashly_row", [Number(at), Bytes(room)]) => {
             Some(row_at(state, table.ok()?, *at, room))
+        }
+        ("stramashly_read", [Halves(places), Bytes(rows), Halves(pairs)]) => {
+            Some(read_parts(state, table.ok()?, places, rows, pairs))
         }
         (READ_ENTRIES | READ_DEPENDENCIES, []) => Some(said(read_back(name, table.ok()?))),
         _ => panic!("{name} with {rest:?}"),
@@ -196,7 +201,12 @@ fn report(
     if let (Ok(table), CheckAnswer::Race { .. } | CheckAnswer::RaceFree) = (table, &answer) {
         let report = state.report_with(chains_of(chains), table, work.len(), cycle.len());
         if let ReportAnswer::Counts(counts) = report {
+            let Some(share) = counts.share() else {
+                told.answer = packed("NO_PAIRS", [0; 3]);
+                return told;
+            };
             told.answer = packed("REPORT", [counts.mutual, counts.ordered, counts.racing]);
+            told.left.insert("share".to_string(), vec![share.to_bits()]);
         }
     }
     told
@@ -292,25 +302,61 @@ fn accepts(
     })
 }
 
-/// The row at a place of a table that can be stepped through.
+/// The row at a place of a table, or what a fill refuses it for.
 fn row_at(state: &mut State, table: &[u8], at: u64, room: &[u8]) -> Told {
     let mut row = room.to_vec();
-    let rows = match state.step_through(table) {
-        second::RowsAnswer::Rows(rows) => rows,
-        second::RowsAnswer::Refused { .. } => panic!("a table that can't be stepped through"),
-    };
-    let answer = match rows.get(at as usize) {
+    let answer = match state.step_through(table) {
         _ if room.len() < ROW => refused(11, 0),
-        None => packed("END", [at as u16, 0, 0]),
-        Some(bytes) => {
-            row[..ROW].copy_from_slice(bytes);
-            packed("ROW", [at as u16 + 1, 0, 0])
-        }
+        second::RowsAnswer::Refused { number, row } => refused(number, row),
+        second::RowsAnswer::Rows(rows) => match rows.get(at as usize) {
+            None => packed("END", [at as u16, 0, 0]),
+            Some(bytes) => {
+                row[..ROW].copy_from_slice(bytes);
+                packed("ROW", [at as u16 + 1, 0, 0])
+            }
+        },
     };
     Told {
         answer,
         left: BTreeMap::from([("row".to_string(), wide(&row))]),
     }
+}
+
+/// The values of a table in the front of lent parts, each long enough for any
+/// table, or what a fill refuses it for.
+fn read_parts(state: &mut State, table: &[u8], places: &[u16], rows: &[u8], pairs: &[u16]) -> Told {
+    let [mut places, mut rows, mut pairs] = [wide(places), wide(rows), wide(pairs)];
+    let is_short = places.len() < 4 * 32 || rows.len() < ROW * 128 || pairs.len() < 2 * 64;
+    let answer = match state.take_in(table) {
+        _ if is_short => refused(11, 0),
+        Err((number, row)) => refused(number, row),
+        Ok(()) => {
+            let values = Values::of(table);
+            let counts = [
+                values.places.len(),
+                values.rows.len(),
+                values.dependencies.len(),
+            ];
+            let [agents, row_count, dependencies] = counts.map(|count| count as u16);
+            front(&mut places, &wide(&values.places.concat()));
+            let (begin, end) = crate::corpus::rows_of(table);
+            front(&mut rows, &wide(&table[begin..end]));
+            front(&mut pairs, &wide(&values.dependencies.concat()));
+            let version = u16::from(values.version) * 256;
+            packed("READ", [version + agents, row_count, dependencies])
+        }
+    };
+    let parts = [("places", places), ("rows", rows), ("dependencies", pairs)];
+    Told {
+        answer,
+        left: parts
+            .map(|(name, numbers)| (name.to_string(), numbers))
+            .into(),
+    }
+}
+
+fn front(numbers: &mut [u64], first: &[u64]) {
+    numbers[..first.len()].copy_from_slice(first);
 }
 
 /// Where row n's bytes are: found by their addresses.
@@ -368,11 +414,6 @@ fn of_values(state: &mut State, name: &str, all: &[Argument]) -> Option<Told> {
         ) => {
             let values = values_of(*version, places, rows, pairs);
             Some(written(state, &values, out))
-        }
-        ("stramashly_share", [Number(racing), Number(conflicting)]) => {
-            let share = *racing as f64 / *conflicting as f64;
-            let share = if *conflicting == 0 { f64::NAN } else { share };
-            Some(said(format!("{share:?}")))
         }
         (REPORT, [Truth(chains), Bytes(table), Number(work), Number(cycle)]) => {
             let chains = chains_of(u64::from(*chains));

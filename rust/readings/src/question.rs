@@ -27,6 +27,8 @@ pub enum Argument {
     Halves(Vec<u16>),
     Words(Vec<u64>),
     Places(Vec<[u16; 4]>),
+    /// A lent 64-bit float, by its bits.
+    Float(u64),
 }
 
 /// A function that C links, or a definition by its full name, and what it is
@@ -89,6 +91,11 @@ impl Readers {
             let definition = format!("{LINKED}.{function}:{part}");
             match part.as_str() {
                 "r" => told.answer = self.pages.told(&definition, &given)?,
+                "share" => {
+                    let share: Result<f64, _> = self.pages.told(&definition, &given)?.parse();
+                    let share = share.expect("a number").to_bits();
+                    told.left.insert(part, vec![share]);
+                }
                 _ => {
                     let numbers = self.pages.list_of(&definition, &given)?;
                     told.left.insert(part, numbers);
@@ -122,6 +129,7 @@ impl Readers {
             Argument::Bytes(bytes) => Value::numbers(bytes),
             Argument::Halves(halves) => Value::numbers(halves),
             Argument::Words(words) => Value::numbers(words),
+            Argument::Float(bits) => Value::Float(*bits),
             Argument::Places(places) => {
                 Value::list(places.iter().map(|place| Value::numbers(place)).collect())
             }

@@ -50,7 +50,7 @@ fn heads<'a>(
             .trim_start();
         let end = result.find(|letter: char| !letter.is_alphanumeric());
         (
-            name.trim(),
+            name.split('<').next().unwrap_or(name).trim(),
             arguments.collect(),
             &result[..end.unwrap_or(result.len())],
         )
@@ -60,12 +60,13 @@ fn heads<'a>(
 /// `name: type`, as C takes it.
 fn of_rattle(argument: &str) -> Vec<String> {
     let kind = argument.split_once(": ").expect("a type").1;
+    let kind = &kind.replace("&'a ", "&");
     let slice = |prefix: &str, address: &str| {
         let element = kind.strip_prefix(prefix)?.strip_suffix(']')?;
         Some(vec![format!("*{address} {element}"), "usize".to_string()])
     };
     let slices = slice("&[", "const").or_else(|| slice("&mut [", "mut"));
-    slices.unwrap_or_else(|| vec![kind.to_string()])
+    slices.unwrap_or_else(|| vec![kind.replace("&mut ", "*mut ")])
 }
 
 fn exported() -> Signatures {
@@ -354,6 +355,7 @@ fn packed() -> Vec<(String, u64)> {
     let mut found = Vec::new();
     for (before, after) in text.match_indices("pack(").map(|(at, _)| text.split_at(at)) {
         let digits: String = after[5..]
+            .trim_start()
             .chars()
             .take_while(char::is_ascii_digit)
             .collect();

@@ -41,7 +41,7 @@ pub use dependency::Dependency;
 pub use edit::{edited, Edit, Field, FIELDS};
 pub use facts::{at, Facts, Goal, Relations};
 pub use insertion::Insertion;
-pub use judge::Judge;
+pub use judge::{of_second, Judge};
 pub use notes::{Notes, Place, RowNote};
 pub use reduction::{is_step, reached};
 pub use run::{dependency_count, first_row, past_rows, Run, LAST_VERSION};

@@ -1,5 +1,6 @@
 //! The words of the command line.
 
+use crate::catalogue::{long, COMMANDS};
 use crate::completion::Shell;
 use crate::help;
 use crate::make::{steps, Making};
@@ -73,44 +74,23 @@ impl Request {
     }
 }
 
-/// Options, and the words that are none, in order.
-#[derive(Clone, Default)]
+/// Options by their long names, and the words that are none, in order.
+#[derive(Default)]
 struct Words {
-    is_help: bool,
-    is_version: bool,
-    is_hex: bool,
-    is_html: bool,
-    is_all: bool,
-    is_json: bool,
-    is_sarif: bool,
-    is_quiet: bool,
-    is_table: bool,
-    is_words: bool,
-    is_text: bool,
-    is_lines: bool,
-    has_chains: bool,
+    options: Vec<&'static str>,
     jobs: Option<usize>,
     then: Option<OsString>,
     others: Vec<OsString>,
 }
 
 impl Words {
-    /// Whether there is any option besides a count of threads.
-    fn has_options(&self) -> bool {
-        let options = [
-            self.is_hex,
-            self.is_html,
-            self.is_all,
-            self.is_json,
-            self.is_sarif,
-            self.is_quiet,
-            self.is_table,
-            self.is_words,
-            self.is_text,
-            self.is_lines,
-            self.has_chains,
-        ];
-        options.contains(&true) || self.then.is_some()
+    fn has(&self, option: &str) -> bool {
+        self.options.contains(&option)
+    }
+
+    /// Whether there is any option besides a count of threads and these.
+    fn has_others(&self, options: &[&str]) -> bool {
+        self.options.iter().any(|option| !options.contains(option))
     }
 }
 
@@ -119,10 +99,10 @@ const MOST_JOBS: usize = 256;
 
 pub fn parse(words: impl Iterator<Item = OsString>) -> Result<Command, String> {
     let mut words = sort(words)?;
-    if words.is_help {
+    if words.has("--help") {
         return Ok(Command::Help);
     }
-    if words.is_version {
+    if words.has("--version") {
         return Ok(Command::Version);
     }
     if words.others.is_empty() {
@@ -133,10 +113,10 @@ pub fn parse(words: impl Iterator<Item = OsString>) -> Result<Command, String> {
         Some("help") => return help(&words),
         Some("batch") => return batch(&words),
         Some("completion") => return completion(&words),
-        Some("fill") if words.is_table => Task::Make(Making::Filled),
+        Some("fill") if words.has("--table") => Task::Make(Making::Filled),
         Some("make") => Task::Make(Making::Read),
         Some("edit") => Task::Make(Making::Edited(edit(&mut words.others)?)),
-        Some("show") => Task::Tell(match (words.is_text, words.is_lines) {
+        Some("show") => Task::Tell(match (words.has("--text"), words.has("--json-lines")) {
             (false, false) => Telling::Show,
             (true, false) => Telling::Text,
             (false, true) => Telling::Lines,
@@ -144,26 +124,26 @@ pub fn parse(words: impl Iterator<Item = OsString>) -> Result<Command, String> {
         }),
         Some("explain") => Task::Tell(explanation(&words)?),
         Some("draw") => Task::Tell(Telling::Draw {
-            is_all: words.is_all,
+            is_all: words.has("--all"),
         }),
         _ => {
             let kind = Kind::named(name.as_encoded_bytes()).filter(|kind| kind.takes_files());
             let kind = kind.ok_or_else(|| format!("no command is called {name:?}"))?;
             match question(kind, &mut words.others)? {
-                Question::Derive { first, second } if words.is_words => {
+                Question::Derive { first, second } if words.has("--words") => {
                     Task::Tell(Telling::Why { first, second })
                 }
                 question => Task::Judge(question),
             }
         }
     };
-    files(task, words)
+    files(&name, task, words)
 }
 
 /// How an answer is explained.
 fn explanation(words: &Words) -> Result<Telling, String> {
-    let is_all = words.is_all;
-    match (words.is_html, words.is_json) {
+    let is_all = words.has("--all");
+    match (words.has("--html"), words.has("--json")) {
         (true, true) => Err("--html or --json, not both".to_string()),
         (true, false) => Ok(Telling::Page { is_all }),
         (false, true) if is_all => Err("explain --json has all without --all".to_string()),
@@ -206,36 +186,32 @@ fn sort(words: impl Iterator<Item = OsString>) -> Result<Words, String> {
             sorted.others.push(word);
             continue;
         }
-        match word.to_str() {
-            Some("--") => are_options_over = true,
-            Some("--help" | "-h") => sorted.is_help = true,
-            Some("--version" | "-V") => sorted.is_version = true,
-            Some("--hex") => sorted.is_hex = true,
-            Some("--html") => sorted.is_html = true,
-            Some("--all") => sorted.is_all = true,
-            Some("--json") => sorted.is_json = true,
-            Some("--sarif") => sorted.is_sarif = true,
-            Some("--quiet" | "-q") => sorted.is_quiet = true,
-            Some("--table") => sorted.is_table = true,
-            Some("--words") => sorted.is_words = true,
-            Some("--text") => sorted.is_text = true,
-            Some("--json-lines") => sorted.is_lines = true,
-            Some("--chains") => sorted.has_chains = true,
-            Some("--then") if sorted.then.is_some() => {
-                return Err("--then given twice: a table has two pieces".to_string());
-            }
-            Some("--then") => {
-                let name = words.next();
-                sorted.then = Some(name.ok_or("--then takes a file of rows")?);
-            }
-            Some("-j" | "--jobs") => {
+        let text = word.to_str().unwrap_or_default();
+        if text == "--" {
+            are_options_over = true;
+            continue;
+        }
+        // The count of threads may stand in the same word.
+        let count = text.strip_prefix("--jobs=").or(text.strip_prefix("-j"));
+        if let Some(count) = count.filter(|_| text != "-j") {
+            sorted.jobs = Some(jobs(count)?);
+            continue;
+        }
+        match long(text).ok_or_else(|| format!("no option is called {word:?}"))? {
+            "--jobs" => {
                 let count = words.next();
                 let count = count.as_ref().and_then(|count| count.to_str());
                 sorted.jobs = Some(jobs(count.unwrap_or_default())?);
             }
-            Some(word) if word.starts_with("-j") => sorted.jobs = Some(jobs(&word[2..])?),
-            Some(word) if word.starts_with("--jobs=") => sorted.jobs = Some(jobs(&word[7..])?),
-            _ => return Err(format!("no option is called {word:?}")),
+            "--then" if sorted.then.is_some() => {
+                return Err("--then given twice: a table has two pieces".to_string());
+            }
+            option => {
+                if option == "--then" {
+                    sorted.then = Some(words.next().ok_or("--then takes a file of rows")?);
+                }
+                sorted.options.push(option);
+            }
         }
     }
     Ok(sorted)
@@ -261,7 +237,7 @@ fn help(words: &Words) -> Result<Command, String> {
 
 fn completion(words: &Words) -> Result<Command, String> {
     let bad = || "completion takes a shell: bash, zsh or fish".to_string();
-    if words.has_options() {
+    if words.has_others(&[]) {
         return Err("completion takes no options".to_string());
     }
     match &words.others[..] {
@@ -273,81 +249,67 @@ fn completion(words: &Words) -> Result<Command, String> {
     }
 }
 
-/// The commands that have one line for an answer.
-const TAKERS: &str = "check, fill, report, derive, accepts";
+/// The options that not all commands take, in the order in which they are told.
+const BOUND: [&str; 11] = [
+    "--html",
+    "--all",
+    "--json",
+    "--sarif",
+    "--table",
+    "--text",
+    "--json-lines",
+    "--words",
+    "--chains",
+    "--then",
+    "--quiet",
+];
 
-/// What goes with which command.
-fn check_options(task: &Task, words: &Words) -> Result<(), String> {
-    let is_page = matches!(task, Task::Tell(Telling::Page { .. }));
-    if words.is_html && !is_page {
-        return Err("only explain takes --html".to_string());
-    }
-    let is_explained = is_page || is_explained(task);
-    if words.is_all && !is_explained {
-        return Err("only draw and explain take --all".to_string());
-    }
-    if words.is_json && !matches!(task, Task::Judge(_) | Task::Tell(Telling::Object)) {
-        return Err(format!("only {TAKERS}, explain and batch take --json"));
-    }
-    if words.is_sarif && *task != Task::Judge(Question::Check) {
-        return Err("only check takes --sarif".to_string());
-    }
-    if words.is_sarif && (words.is_json || words.is_quiet || words.then.is_some()) {
-        return Err("--sarif goes without --json, --quiet and --then".to_string());
-    }
-    if words.is_table && *task != Task::Make(Making::Filled) {
-        return Err("only fill takes --table".to_string());
-    }
-    let is_shown = matches!(task, Task::Tell(Telling::Text | Telling::Lines));
-    if (words.is_text || words.is_lines) && !is_shown {
-        return Err("only show takes --text and --json-lines".to_string());
-    }
-    if words.is_words && !matches!(task, Task::Tell(Telling::Why { .. })) {
-        return Err("only derive takes --words".to_string());
-    }
-    if words.has_chains && !takes_chains(task) {
-        return Err("only check, fill, report, explain, draw and batch take --chains".to_string());
-    }
-    if words.then.is_some() && !is_explained && !matches!(task, Task::Judge(_)) {
-        return Err(format!("only {TAKERS}, explain and draw take --then"));
-    }
-    if words.is_quiet && !matches!(task, Task::Judge(_)) {
-        return Err(format!("only {} take --quiet", Kind::NAMES));
+/// What goes with which command, and with what it is to do.
+fn check_options(name: &OsStr, task: &Task, words: &Words) -> Result<(), String> {
+    let entry = COMMANDS.iter().find(|entry| name == entry.name);
+    let takes = |option| entry.is_some_and(|entry| entry.options.contains(option));
+    // These are about answers, which a new table and sentences about moments aren't.
+    let others = ["--json", "--quiet", "--then"];
+    let is_answer = !matches!(task, Task::Make(_) | Task::Tell(Telling::Why { .. }));
+    for option in BOUND.iter().filter(|option| words.has(option)) {
+        if !takes(option) || !is_answer && others.contains(option) {
+            return Err(format!("only {}", takers(option)));
+        }
+        if *option == "--sarif" && others.iter().any(|other| words.has(other)) {
+            return Err("--sarif goes without --json, --quiet and --then".to_string());
+        }
     }
     Ok(())
 }
 
-/// Whether a run is explained or drawn, but for a page.
-fn is_explained(task: &Task) -> bool {
-    let Task::Tell(telling) = task else {
-        return false;
-    };
-    matches!(
-        telling,
-        Telling::Explain { .. } | Telling::Object | Telling::Draw { .. }
-    )
+/// The commands that take an option, by the catalogue.
+fn takers(option: &str) -> String {
+    if matches!(option, "--text" | "--json-lines") {
+        return "show takes --text and --json-lines".to_string();
+    }
+    let takers = COMMANDS
+        .iter()
+        .filter(|entry| entry.options.contains(&option));
+    let mut names: Vec<&str> = takers.map(|entry| entry.name).collect();
+    if option == "--all" {
+        names.reverse();
+    }
+    match &names[..] {
+        [name] => format!("{name} takes {option}"),
+        [names @ .., last] => format!("{} and {last} take {option}", names.join(", ")),
+        [] => String::new(),
+    }
 }
 
-/// Whether chains play a part: derivations and forms don't depend on them.
-fn takes_chains(task: &Task) -> bool {
-    matches!(
-        task,
-        Task::Judge(Question::Check | Question::Fill | Question::Report)
-            | Task::Tell(Telling::Explain { .. } | Telling::Object)
-            | Task::Tell(Telling::Page { .. } | Telling::Draw { .. })
-            | Task::Make(Making::Filled)
-    )
-}
-
-fn files(task: Task, words: Words) -> Result<Command, String> {
-    check_options(&task, &words)?;
+fn files(name: &OsStr, task: Task, words: Words) -> Result<Command, String> {
+    check_options(name, &task, &words)?;
     let request = Request {
         task,
-        is_hex: words.is_hex,
-        is_json: words.is_json,
-        is_sarif: words.is_sarif,
-        is_quiet: words.is_quiet,
-        has_chains: words.has_chains,
+        is_hex: words.has("--hex"),
+        is_json: words.has("--json"),
+        is_sarif: words.has("--sarif"),
+        is_quiet: words.has("--quiet"),
+        has_chains: words.has("--chains"),
         jobs: words.jobs.unwrap_or(1),
         names: words.others,
         then: words.then,
@@ -372,17 +334,12 @@ fn files(task: Task, words: Words) -> Result<Command, String> {
 }
 
 fn batch(words: &Words) -> Result<Command, String> {
-    let bare = Words {
-        is_json: false,
-        has_chains: false,
-        ..words.clone()
-    };
-    if bare.has_options() || !words.others.is_empty() {
+    if words.has_others(&["--json", "--chains"]) || !words.others.is_empty() {
         return Err("batch takes no file, and no option but --json and -j".to_string());
     }
     Ok(Command::Batch {
-        is_json: words.is_json,
-        has_chains: words.has_chains,
+        is_json: words.has("--json"),
+        has_chains: words.has("--chains"),
         jobs: words.jobs.unwrap_or(1),
     })
 }

@@ -106,14 +106,6 @@ fn chains_are_asked_for_or_told() {
     ] {
         assert!(parsed(line).is_err(), "{line}");
     }
-    for (task, expected) in [
-        (Task::Judge(Question::Check), true),
-        (Task::Tell(Telling::Draw { is_all: false }), true),
-        (Task::Tell(Telling::Show), false),
-        (Task::Make(Making::Edited(Vec::new())), false),
-    ] {
-        assert_eq!(takes_chains(&task), expected, "{task:?}");
-    }
 }
 
 #[test]

@@ -1,6 +1,5 @@
 //! `batch`: one table a line.
 
-use crate::checker::checker;
 use crate::input;
 use crate::judge::{append_trouble, judge, Form};
 use crate::line::{asked, Asked};
@@ -40,7 +39,7 @@ pub fn run(is_json: bool, has_chains: bool, jobs: usize) -> Status {
 
 /// Answers each line before the next is read.
 fn one_by_one(form: Form, has_chains: bool) -> Status {
-    let mut checker = checker(has_chains);
+    let mut checker = Checker::new().with_chains(has_chains);
     let mut writer = Writer::new();
     let mut lines = Lines::new();
     let mut highest = Status::Fine;
@@ -66,7 +65,7 @@ fn one_by_one(form: Form, has_chains: bool) -> Status {
 /// Answers lines in several threads, in order.
 fn spread(form: Form, has_chains: bool, jobs: usize) -> Status {
     let (read, written) = in_order(
-        (jobs, || checker(has_chains)),
+        (jobs, || Checker::new().with_chains(has_chains)),
         read_pieces,
         |checker, asked| answer(checker, form, asked),
         Writer::new,

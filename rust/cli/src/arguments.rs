@@ -56,8 +56,13 @@ impl Request {
         let is_of_one = matches!(
             self.task,
             Task::Judge(Question::Derive { .. } | Question::Accepts { .. })
-                | Task::Tell(Telling::Draw { .. } | Telling::Page { .. } | Telling::Why { .. })
-                | Task::Tell(Telling::Text | Telling::Lines)
+                | Task::Tell(
+                    Telling::Draw { .. }
+                        | Telling::Page { .. }
+                        | Telling::Why { .. }
+                        | Telling::Text
+                        | Telling::Lines
+                )
                 | Task::Make(_)
         );
         !is_of_one

@@ -41,7 +41,7 @@ pub fn has_directory(names: &[OsString]) -> bool {
 /// links to a directory is left alone.
 fn tables(folder: &Path, is_hex: bool, found: &mut Vec<PathBuf>) -> std::io::Result<()> {
     let mut entries = fs::read_dir(folder)?.collect::<Result<Vec<_>, _>>()?;
-    entries.sort_by_key(|entry| entry.file_name());
+    entries.sort_by_key(std::fs::DirEntry::file_name);
     for entry in entries {
         let path = entry.path();
         if entry.file_name().as_encoded_bytes().starts_with(b".") {

@@ -31,7 +31,13 @@ pub fn asked(line: &[u8]) -> Option<Result<Asked, String>> {
             question: Question::Write(writing),
             pieces: Default::default(),
         }),
-        Some((kind, false)) if !kind.takes_words() => of_digits(kind, (end, &line[end..])),
+        Some((kind, false)) if !kind.takes_words() => {
+            bytes((end, &line[end..])).and_then(|(table, _)| {
+                let pieces = [table, Vec::new()];
+                kind.question(&[])
+                    .map(|question| Asked { question, pieces })
+            })
+        }
         Some((kind, is_in_pieces)) => of_words(kind, is_in_pieces, rest),
     };
     Some(asked)
@@ -51,14 +57,6 @@ fn bytes((at, digits): Word) -> Result<(Vec<u8>, u64), String> {
     let mut hex = Hex::after(at);
     let read = hex.push(digits, KEPT_BYTES).and_then(|()| hex.bytes());
     read.map_err(|bad: Bad| bad.to_string())
-}
-
-fn of_digits(kind: Kind, digits: Word) -> Result<Asked, String> {
-    let (table, _) = bytes(digits)?;
-    Ok(Asked {
-        question: kind.question(&[])?,
-        pieces: [table, Vec::new()],
-    })
 }
 
 fn of_words<'a>(

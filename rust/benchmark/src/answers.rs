@@ -4,7 +4,9 @@ use crate::times::{median, time};
 use second::{Chains, State, CYCLE_NUMBERS, SOURCE_NUMBERS, WORK_WORDS};
 use std::hint::black_box;
 use stramashly::Checker;
-use tables::{chained, checkable, fillable, Random, Size, Table};
+use tables::{
+    chained, checkable, crowded, crowded_fillable, fillable, hosted, Random, Size, Table,
+};
 
 /// Tables of each sort.
 pub const TABLES: usize = 200;
@@ -22,6 +24,9 @@ pub fn times(seed: u64, repetitions: usize) -> Vec<(&'static str, u128, u128)> {
     let checked = tables(seed, checkable);
     let chained = tables(seed, chained);
     let filled = tables(seed, fillable);
+    let crowd = tables(seed, crowded);
+    let blank = tables(seed, crowded_fillable);
+    let hosts = tables(seed, hosted);
     [
         ("check", &checked, Asked::Check(Off)),
         ("check, chains on", &checked, Asked::Check(On)),
@@ -30,6 +35,13 @@ pub fn times(seed: u64, repetitions: usize) -> Vec<(&'static str, u128, u128)> {
         ("fill", &filled, Asked::Fill(Off)),
         ("fill, chains on", &filled, Asked::Fill(On)),
         ("report", &checked, Asked::Report),
+        ("hosts, check", &hosts, Asked::Check(Off)),
+        ("hosts, chains on", &hosts, Asked::Check(On)),
+        ("crowded, check", &crowd, Asked::Check(Off)),
+        ("crowded, chains on", &crowd, Asked::Check(On)),
+        ("crowded, fill", &blank, Asked::Fill(Off)),
+        ("crowded, fill, chains on", &blank, Asked::Fill(On)),
+        ("crowded, report", &crowd, Asked::Report),
     ]
     .into_iter()
     .map(|(name, tables, asked)| {

@@ -14,14 +14,17 @@ use std::fmt::Display;
 use std::fs;
 use std::process::ExitCode;
 use stramashly::Checker;
-use tables::MAX_ROWS;
+use tables::{checkable, crowded, MAX_ROWS};
 use times::{Three, Times};
 use work::{Verdict, Work};
 
 const USAGE: &str = "usage: benchmark [REPETITIONS [ROWS]]
+       benchmark crowded [REPETITIONS]
        benchmark families [REPETITIONS]
        benchmark growth PICTURE.svg
        benchmark answers [REPETITIONS]";
+/// Asks for tables with few places and many rows a place.
+const CROWDED: &str = "crowded";
 /// Asks for the families.
 const FAMILIES: &str = "families";
 /// Asks for the other answers than a check's, and for chains.
@@ -40,6 +43,8 @@ fn main() -> ExitCode {
     let result = match words.as_slice() {
         [] => run(REPETITIONS, MAX_ROWS),
         [memory::WORD, implementation] => memory::measure(implementation),
+        [CROWDED] => run_crowded(REPETITIONS),
+        [CROWDED, repetitions] => number(repetitions).and_then(run_crowded),
         [FAMILIES] => print_families(REPETITIONS),
         [FAMILIES, repetitions] => number(repetitions).and_then(print_families),
         [ANSWERS] => print_answers(REPETITIONS),
@@ -75,11 +80,25 @@ fn asked(repetitions: &str, rows: &str) -> Result<(), String> {
 }
 
 fn run(repetitions: usize, rows: usize) -> Result<(), String> {
-    let work = Work::generate(SEED, rows);
-    work::agree(work.all())?;
-    let times = Times::take(&work, repetitions);
-    print_times(&work, &times, repetitions, rows);
+    let work = Work::generate(checkable, SEED, rows);
+    measure(&work, repetitions, rows)?;
     print_memory(&work)
+}
+
+fn run_crowded(repetitions: usize) -> Result<(), String> {
+    println!("At most 14 places a table.");
+    measure(
+        &Work::generate(crowded, SEED, MAX_ROWS),
+        repetitions,
+        MAX_ROWS,
+    )
+}
+
+fn measure(work: &Work, repetitions: usize, rows: usize) -> Result<(), String> {
+    work::agree(work.all())?;
+    let times = Times::take(work, repetitions);
+    print_times(work, &times, repetitions, rows);
+    Ok(())
 }
 
 fn print_times(work: &Work, times: &Times, repetitions: usize, rows: usize) {
@@ -150,7 +169,7 @@ fn print_growth(picture: &str) -> Result<(), String> {
     println!("|---|---|---|---|---|---|");
     let mut points = Vec::new();
     for rows in GROWTH_ROWS {
-        let work = Work::generate(SEED, rows);
+        let work = Work::generate(checkable, SEED, rows);
         work::agree(work.all())?;
         let (count, times) = (work.total(), Times::take(&work, 1).in_all());
         print_line(&rows.to_string(), count, count, times);

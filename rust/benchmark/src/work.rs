@@ -2,7 +2,7 @@
 
 use second::{CheckAnswer, State, CYCLE_NUMBERS, WORK_WORDS};
 use stramashly::Checker;
-use tables::{checkable, hex, Random, Size};
+use tables::{hex, Random, Size, Table};
 
 /// What tables are sorted by.
 #[derive(Clone, Copy, PartialEq, Eq)]
@@ -50,7 +50,7 @@ pub struct Work {
 
 impl Work {
     /// Generates tables until there are enough of each verdict.
-    pub fn generate(seed: u64, rows: usize) -> Work {
+    pub fn generate(make: fn(&mut Random, Size) -> Table, seed: u64, rows: usize) -> Work {
         let size = Size::of(rows, rows);
         let mut random = Random::new(seed);
         let mut state = State::new();
@@ -61,7 +61,7 @@ impl Work {
             .iter()
             .any(|verdict| work.of(*verdict).len() < verdict.wanted())
         {
-            let table = checkable(&mut random, size).bytes();
+            let table = make(&mut random, size).bytes();
             let answer = state.check(&table, WORK_WORDS, CYCLE_NUMBERS);
             if let Some(verdict) = Verdict::of(&answer) {
                 let group = &mut work.groups[verdict as usize];

@@ -3,6 +3,7 @@
 pub mod builder;
 mod chained;
 mod counted;
+mod crowded;
 mod damage;
 mod episode;
 mod examples;
@@ -16,6 +17,7 @@ mod random;
 
 pub use builder::{Build, Row, Table, BLANK, INITIAL, MAX_AGENTS, MAX_DEPENDENCIES, MAX_ROWS};
 pub use chained::{chained, chained_fillable};
+pub use crowded::{crowded, crowded_fillable};
 pub use damage::damaged;
 pub use examples::{examples, Example};
 pub use format::digits as hex;

@@ -4,12 +4,12 @@ use std::env;
 use std::io::{self, BufWriter, Write};
 use std::process::ExitCode;
 use tables::{
-    chained, chained_fillable, checkable, damaged, damaged_hosted, fillable, hex, hosted,
-    hosted_fillable, Random, Size, MAX_ROWS,
+    chained, chained_fillable, checkable, crowded, crowded_fillable, damaged, damaged_hosted,
+    fillable, hex, hosted, hosted_fillable, Random, Size, MAX_ROWS,
 };
 
 const USAGE: &str =
-    "usage: generate SEED COUNT MINROWS MAXROWS [check|fill|mix|damaged|hosted|hosted-fill|hosted-damaged|chained|chained-fill]";
+    "usage: generate SEED COUNT MINROWS MAXROWS [check|fill|mix|damaged|hosted|hosted-fill|hosted-damaged|chained|chained-fill|crowded|crowded-fill]";
 
 #[derive(Clone, Copy)]
 enum Sort {
@@ -22,6 +22,8 @@ enum Sort {
     HostedDamaged,
     Chained,
     ChainedFill,
+    Crowded,
+    CrowdedFill,
 }
 
 struct Request {
@@ -62,6 +64,8 @@ fn parse(words: &[String]) -> Option<Request> {
         Some("hosted-fill") => Sort::HostedFill,
         Some("chained") => Sort::Chained,
         Some("chained-fill") => Sort::ChainedFill,
+        Some("crowded") => Sort::Crowded,
+        Some("crowded-fill") => Sort::CrowdedFill,
         Some("hosted-damaged") => Sort::HostedDamaged,
         Some(_) => return None,
     };
@@ -86,8 +90,8 @@ fn write_lines(request: &Request) -> io::Result<()> {
 
 fn table(random: &mut Random, request: &Request) -> (&'static str, Vec<u8>) {
     let is_fill = match request.sort {
-        Sort::Check | Sort::Hosted | Sort::Chained => false,
-        Sort::Fill | Sort::HostedFill | Sort::ChainedFill => true,
+        Sort::Check | Sort::Hosted | Sort::Chained | Sort::Crowded => false,
+        Sort::Fill | Sort::HostedFill | Sort::ChainedFill | Sort::CrowdedFill => true,
         Sort::Mix | Sort::Damaged | Sort::HostedDamaged => random.percent(50),
     };
     let bytes = match (request.sort, is_fill) {
@@ -95,6 +99,8 @@ fn table(random: &mut Random, request: &Request) -> (&'static str, Vec<u8>) {
         (Sort::HostedDamaged, _) => damaged_hosted(random, request.size),
         (Sort::Chained, _) => chained(random, request.size).bytes(),
         (Sort::ChainedFill, _) => chained_fillable(random, request.size).bytes(),
+        (Sort::Crowded, _) => crowded(random, request.size).bytes(),
+        (Sort::CrowdedFill, _) => crowded_fillable(random, request.size).bytes(),
         (Sort::Hosted, _) => hosted(random, request.size).bytes(),
         (Sort::HostedFill, _) => hosted_fillable(random, request.size).bytes(),
         (_, true) => fillable(random, request.size).bytes(),

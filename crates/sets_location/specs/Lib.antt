@@ -1,0 +1,6 @@
+pub mod Maybe
+pub mod Met
+pub mod Told
+pub mod Seen
+pub mod Elements
+pub mod Adds

@@ -82,6 +82,12 @@ pub fn counted(t: &Run) -> bool
     bytes::byte_at(t, 1) != 0
 }
 
+pub fn chains(t: &Run) -> bool
+    ensures { λ r. ⌜ r ≡ modeIn (now (t .entry)) .chains ⌝ }
+{
+    bytes::byte_at(t, 2) != 0
+}
+
 pub fn row(t: &Run, i: u16) -> Row
     ensures { λ r. ⌜ r ≡ rowOf (rowsIn (now (t .entry))) i ⌝ }
 {

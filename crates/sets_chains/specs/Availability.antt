@@ -4,6 +4,7 @@ use mathlib.Core.Bool.{Bool, true, false}
 use mathlib.Core.List.{List}
 use Prim.Native.Nat.{ℕ, _+_, _*_, _≤_, _<_}
 use native.Mathlib.Omega.{arith}
+use Rattle.finite.specs.Logic.{not-both}
 use Rattle.finite.specs.Below.{anyBelow}
 use Rattle.model.specs.Limits.{ROWS}
 use Rattle.model.specs.Table.{Table}
@@ -17,10 +18,12 @@ use Rattle.row_sets.specs.Rows.{Rows, rows-at, rows-in}
 use Rattle.row_sets.specs.Walk.{Walk}
 use Rattle.grids.specs.Regions.{AVAILABLE-AVAILABLE, HAPPENS-END, AVAILABLE-TO, VISIBLE-BY, VISIBLE-BY-END}
 use Rattle.grids.specs.Grid.{grid-on-kept}
+use Rattle.grids.specs.Happens.{Happening}
 use Rattle.grids.specs.Given.{Given, given-kept, given-few}
 use Rattle.grids.specs.Available.{makes, shownTo, MadeAvailable}
 use Rattle.sets_chains.specs.Alone.{After, MadeOne, after-kept}
 use Rattle.sets_chains.specs.Chained.{TurnedTo, turned-begin, turned-turn, turned-end}
+use Rattle.sets_chains.specs.Filled.{MadeChains}
 use Rattle.sets_chains.specs.Made.{Chained}
 
 -- ---- definitions
@@ -29,6 +32,11 @@ pub record Ready (t : Table) (n : ℕ) (chains : Bool) (s w : List ℕ) : Type 0
   pub given : Given t n s w
   pub after : After t n w
   pub chained : chains ≡ true → Chained t n w
+
+-- what operations are made available by, made
+pub record MadeReady (t : Table) (n : ℕ) (chains : Bool) (s w u : List ℕ) : Type 0 where
+  pub ready : Ready t n chains s u
+  pub frame : Within AVAILABLE-AVAILABLE HAPPENS-END w u
 
 pub record Both (t : Table) (n k : ℕ) (u : List ℕ) : Type 0 where
   pub to : Rows n (meets t k) (nth u AVAILABLE-TO k)
@@ -49,6 +57,29 @@ ready-kept f r =
       given = given-kept f (r .given);
       after = after-kept l (omega arith) f (r .after);
       chained = λ e. record { outs = grid-on-kept (λ h. omega arith) f (r .chained e .outs); ins = grid-on-kept (λ h. omega arith) f (r .chained e .ins) };
+    }
+
+pub ready-chains : {t : Table} {n : ℕ} {chains : Bool} {s w u : List ℕ} → Given t n s w → Happening t n w → MadeChains t n w u → MadeReady t n chains s w u
+ready-chains g h m =
+    let few = given-few g in
+    record {
+      ready = record {
+        given = given-kept (m .frame) g;
+        after = after-kept few (omega arith) (m .frame) (record { rows = h .available-rows; visibles = h .available-visibles });
+        chained = λ e. record { outs = m .outs; ins = m .ins };
+      };
+      frame = m .frame;
+    }
+
+pub ready-alone : {t : Table} {n : ℕ} {chains : Bool} {s w : List ℕ} → chains ≡ false → Given t n s w → Happening t n w → MadeReady t n chains s w w
+ready-alone {w = w} off g h =
+    record {
+      ready = record {
+        given = g;
+        after = record { rows = h .available-rows; visibles = h .available-visibles };
+        chained = λ e. not-both e off;
+      };
+      frame = within-refl AVAILABLE-AVAILABLE HAPPENS-END w;
     }
 
 pub make-begin : {t : Table} {n : ℕ} {chains : Bool} {s w : List ℕ} (x : Set) → Ready t n chains s w → Making t n chains s x w x w

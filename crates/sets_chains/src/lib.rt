@@ -20,6 +20,7 @@ ghost use Rattle.sets_chains.specs.Chained.{sees, ins, Outs, Ins, MadeOu
 ghost use Rattle.sets_chains.specs.Filled.{MadeChains};
 ghost use Rattle.sets_chains.specs.Wide.{wideShown};
 ghost use Rattle.sets_chains.specs.Made.{Chained};
+ghost use Rattle.sets_chains.specs.Availability.{Ready, MadeReady};
 use known::fields;
 use row_sets::Set;
 use row_sets::kept;
@@ -165,23 +166,39 @@ fn fill_chains(t: &Run, n: usize, s: &[u64], w: &mut [u64])
     }
 }
 
+// The chains, on a device that has them.
+fn prepare(t: &Run, n: usize, s: &[u64], chains: bool, w: &mut [u64])
+    requires { ⌜ (chains ≡ tableIn (now t) n .chains) × Given (tableIn (now t) n) n (now s) (now w) × Happening (tableIn (now t) n) n (now w) ⌝ }
+    ensures { λ _. ⌜ MadeReady (tableIn (now (t .entry)) n) n chains (now (s .entry)) (now (w .entry)) (now (w .exit)) ⌝ }
+{
+    if chains {
+        fill_chains(t, n, s, w);
+    }
+}
+
+// What a makes available, as the first of a chain or alone.
+fn make(t: &Run, n: usize, s: &[u64], a: usize, chains: bool, w: &mut [u64])
+    requires { ⌜ (a < n) × (makes (tableIn (now t) n) a ≡ true) × (chains ≡ tableIn (now t) n .chains) × Ready (tableIn (now t) n) n chains (now s) (now w) ⌝ }
+    ensures { λ _. ⌜ MadeOne (tableIn (now (t .entry)) n) n a (now (w .entry)) (now (w .exit)) ⌝ }
+{
+    if chains {
+        make_available_by_chains(t, n, s, a, w);
+    } else {
+        make_available(t, n, s, a, w);
+    }
+}
+
 // AVAILABLE_TO and VISIBLE_BY of every availability operation.
 pub fn fill_availability(t: &Run, n: usize, s: &[u64], w: &mut [u64])
     requires { ⌜ Given (tableIn (now t) n) n (now s) (now w) × Happening (tableIn (now t) n) n (now w) ⌝ }
     ensures { λ _. ⌜ MadeAvailable (tableIn (now (t .entry)) n) n (now (w .entry)) (now (w .exit)) ⌝ }
 {
-    let chains = run::mode(t).chains;
-    if chains {
-        fill_chains(t, n, s, w);
-    }
+    let chains = run::chains(t);
+    prepare(t, n, s, chains, w);
     let mut left = known::rows(s, known::AVAILABLE);
     while row_sets::some(left) {
         let a = row_sets::first(left);
         left = row_sets::but_first(left);
-        if chains {
-            make_available_by_chains(t, n, s, a, w);
-        } else {
-            make_available(t, n, s, a, w);
-        }
+        make(t, n, s, a, chains, w);
     }
 }

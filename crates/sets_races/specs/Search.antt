@@ -16,6 +16,8 @@ use Rattle.model.specs.Table.{Table}
 use Rattle.model.specs.Scope.{mutually}
 use Rattle.model.specs.Race.{clash, conflict, unorderedNth, raceNth, races, racesAbove, racePartner, hasRace, raceRow, raceByte}
 use Rattle.model.specs.Report.{conflictMutual, conflictOrdered, conflicting, mutuals, ordered, racing}
+use Rattle.bits.specs.Bit.{bitOf}
+use native.Mathlib.Decide.{decLt}
 use Rattle.laws.specs.ReportLaws.{one-way, adds-up}
 use Rattle.race.specs.declared.Found.{Found}
 use Rattle.race.specs.declared.Found.the-variants.{At, Nothing}
@@ -46,6 +48,26 @@ raceFrom t x = cond (hasRace t x) (At x (racePartner t x) (raceByte t x (racePar
 unfoldable isAt : Found → Bool
 isAt (At x y b) = true
 isAt Nothing = false
+
+-- ---- laws: the lowest byte of a pair, looked for from k on
+
+module _ {p : ℕ → Bool} {m k : ℕ} (h : Mask p m) (e : least k (bitOf m) ≡ k) where
+  pub byte-low : 0 < m → k < LONGEST
+  byte-low l = go (decLt k LONGEST)
+    where
+      low : least LONGEST p < LONGEST
+      low = let f = mask-first h l in let a = f .0 in let b = f .1 in omega arith
+
+      set : bitOf m (least LONGEST p) ≡ true
+      set = h .is (least LONGEST p) low ∙ least-is p LONGEST .hit low
+
+      go : Dec (k < LONGEST) → k < LONGEST
+      go (yes o) = o
+      go (no o) = not-both set (least-is (bitOf m) k .miss (least LONGEST p) (omega (arith, low, e)))
+
+  pub byte-found : bitOf m k ≡ true → k < LONGEST → least LONGEST p ≡ k
+  byte-found on l =
+      least-unique p LONGEST k l (sym (h .is k l) ∙ on) (λ j o. sym (h .is j (omega arith)) ∙ least-is (bitOf m) k .miss j (omega (arith, e)))
 
 -- ---- laws: a pair
 
@@ -79,16 +101,16 @@ module _ (t : Table) (n x : ℕ) where
   -- ---- laws: the partners of x
 
   module _ (rows-are : t .rows ≡ n) where
-    pub partner-found : (y : ℕ) {m a : ℕ} → y < n → y ≡ least ROWS (racesIn t n x) → n ≤ ROWS → racesIn t n x y ≡ true → Mask (unorderedNth t x y) m → 0 < m
-        → a ≡ t .row x .start → _≡_ {A = Found} (At x y (a + trailingZeros 64 m)) (raceFrom t x)
+    pub partner-found : (y : ℕ) {a k : ℕ} → y < n → y ≡ least ROWS (racesIn t n x) → n ≤ ROWS → racesIn t n x y ≡ true → least LONGEST (unorderedNth t x y) ≡ k
+        → a ≡ t .row x .start → _≡_ {A = Found} (At x y (a + k)) (raceFrom t x)
     unfolding raceFrom hasRace racePartner raceByte raceNth racesIn
-    partner-found y {m} {a} l e few on h p s =
+    partner-found y {a} {k} l e few on h s =
         let q : least (t .rows) (racesAbove t x) ≡ y =
         least-unique (racesAbove t x) (t .rows) y (omega arith) (split on .1)
         (λ k o. not-so _ (λ u. not-both (and-true (lt-ltb k n (omega arith)) u)
         (least-is (λ (z : ℕ). ltb z n and racesAbove t x z) ROWS .miss k (omega arith))))
         in
-        rw (q, lt-ltb y (t .rows) (omega arith), s, mask-first h p .1) refl
+        rw (q, lt-ltb y (t .rows) (omega arith), s, h) refl
 
     pub partner-none : n ≤ ROWS → ROWS ≡ least ROWS (racesIn t n x) → _≡_ {A = Found} Nothing (raceFrom t x)
     unfolding raceFrom hasRace racePartner racesIn

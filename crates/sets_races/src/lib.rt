@@ -6,6 +6,7 @@ ghost use Rattle.model.specs.Row.{access};
 ghost use Rattle.model.specs.Table.{rowOf};
 ghost use Rattle.model.specs.Race.{conflict, unorderedNth};
 ghost use Rattle.model.specs.Report.{conflictOrdered};
+ghost use Rattle.bits.specs.Bit.{bitOf};
 ghost use Rattle.run.specs.Layout.{rowsIn, tableIn};
 ghost use Rattle.row_sets.specs.Rows.{Rows};
 ghost use Rattle.race.specs.Bytes.{Bounded};
@@ -16,7 +17,6 @@ ghost use Rattle.sets_bytes.specs.Masks.{Mask};
 ghost use Rattle.sets_races.specs.Counted.{Counted};
 ghost use Rattle.sets_races.specs.Sums.{above, rowCount};
 ghost use Rattle.sets_races.specs.Pair.{Judged, openAfter};
-ghost use Rattle.sets_races.specs.Search.{raceFrom};
 use known::fields;
 use race::Found;
 use row_sets::Set;
@@ -50,43 +50,57 @@ fn unordered(t: &Run, n: usize, i: usize, j: usize, w: &[u64]) -> u64
     all ^ (all & ordered)
 }
 
-// The first of `others` that i races with, at the lowest byte.
-fn race_with(t: &Run, n: usize, i: usize, others: Set, w: &[u64]) -> Found
-    requires { ⌜ (i < n) × Rows n (openAfter (tableIn (now t) n) i) others × Judged (tableIn (now t) n) n (now w) ⌝ }
-    ensures { λ r. ⌜ r ≡ raceFrom (tableIn (now (t .entry)) n) i ⌝ }
+// The rows after i that conflict with it and aren't mutually-ordered with it.
+fn open_after(t: &Run, n: usize, s: &[u64], i: usize, w: &[u64]) -> Set
+    requires { ⌜ (i < n) × (access (rowOf (rowsIn (now t)) i) ≡ true) × Given (tableIn (now t) n) n (now s) (now w) × Judging (tableIn (now t) n) n (now w) ⌝ }
+    ensures { λ r. ⌜ Rows n (openAfter (tableIn (now (t .entry)) n) i) r ⌝ }
 {
-    let mut left = others;
-    while row_sets::some(left) {
-        let j = row_sets::first(left);
-        left = row_sets::but_first(left);
-        let m = unordered(t, n, i, j, w);
-        if 0 < m {
-            return Found::At {
-                first: i as u16,
-                second: j as u16,
-                byte: (fields::start(t, i) + (u64::trailing_zeros(m) as u32)) as u16,
-            };
-        }
-    }
-    Found::Nothing
+    row_sets::less(conflicting(t, n, s, i, w), kept::get(w, area::MUTUAL, i))
 }
 
-// The first race: what is mutually-ordered is none.
+// Whether bit k of m is set.
+fn is_set(m: u64, k: u32) -> bool
+    requires { ⌜ k < 64 ⌝ }
+    ensures { λ b. ⌜ b ≡ bitOf m k ⌝ }
+{
+    (m >> k) % 2 == 1
+}
+
+// The first pair in row order that races, then its lowest shared byte with no order: the lower row, the higher, the byte.
+// Ruled out: one that shows the rows exchanged; one that shows the lowest shared byte, ordered or not.
 pub fn first_race(t: &Run, n: usize, s: &[u64], w: &[u64]) -> Found
     requires { ⌜ Bounded (tableIn (now t) n) × Given (tableIn (now t) n) n (now s) (now w) × Judging (tableIn (now t) n) n (now w) ⌝ }
     ensures { λ r. ⌜ r ≡ foundRace (tableIn (now (t .entry)) n) ⌝ }
 {
+    let mut answer = Found::Nothing;
     let mut left = known::rows(s, known::ACCESS);
-    while row_sets::some(left) {
-        let i = row_sets::first(left);
+    'pairs: while row_sets::some(left) {
+        let x = row_sets::first(left);
         left = row_sets::but_first(left);
-        let others = row_sets::less(conflicting(t, n, s, i, w), kept::get(w, area::MUTUAL, i));
-        let f = race_with(t, n, i, others, w);
-        let Found::Nothing = f else {
-            return f;
-        };
+        let mut others = open_after(t, n, s, x, w);
+        while row_sets::some(others) {
+            let y = row_sets::first(others);
+            others = row_sets::but_first(others);
+            let bytes = unordered(t, n, x, y, w);
+            if bytes == 0 {
+                continue;
+            }
+            let mut k = 0u32;
+            let hit = loop {
+                if is_set(bytes, k) {
+                    break k;
+                }
+                k += 1;
+            };
+            answer = Found::At {
+                first: x as u16,
+                second: y as u16,
+                byte: (fields::start(t, x) + hit) as u16,
+            };
+            break 'pairs;
+        }
     }
-    Found::Nothing
+    answer
 }
 
 // ---- counts

@@ -1,7 +1,7 @@
 use Rattle.verdict.specs.Engine.{few-of}
 use borrow.Author.Needs.{needs}
-use Rattle.verdict.proofs.judge.locate_by.Statement.{statement}
-use Rattle.verdict.proofs.judge.locate_by.Tie as tie
+use Rattle.verdict.proofs.by_flags.locate.Statement.{statement}
+use Rattle.verdict.proofs.by_flags.locate.Tie as tie
 
 locate-by-flags-requires : tie.Need-locate-by-flags-requires
 locate-by-flags-requires c κs = (few-of (c .before .before .before .before .before .before .pre .0), c .before .before .before .before .before .before .pre .1)

@@ -1,8 +1,8 @@
 use Rattle.overlap.specs.Sharing.{table-sharing}
 use Rattle.verdict.specs.Answers.{located-by-flags}
 use borrow.Author.Needs.{needs}
-use Rattle.verdict.proofs.judge.locate_by_flags.Statement.{statement}
-use Rattle.verdict.proofs.judge.locate_by_flags.Tie as tie
+use Rattle.verdict.proofs.by_flags.locate_rows.Statement.{statement}
+use Rattle.verdict.proofs.by_flags.locate_rows.Tie as tie
 
 returns : tie.Need-returns
 returns c =
@@ -11,6 +11,6 @@ returns c =
     (c .before .before .before .before .before .before .fill-location .ensures)
     (table-sharing (s .args .rows .now) (s .args .p) (s .args .mode) (c .before .before .fill-overlaps .ensures))
 
-pub locate-by-flags-spec : {M : Type 1} → statement M
-locate-by-flags-spec =
+pub locate-rows-spec : {M : Type 1} → statement M
+locate-rows-spec =
     tie.close (tie.spec (λ c κs. search needs) (λ c κs. search needs) (λ c κs. search needs) (λ c. search needs) returns)

@@ -3,8 +3,8 @@ use native.Mathlib.Omega.{arith}
 use Rattle.model.specs.Table.{decode}
 use Rattle.verdict.specs.Answers.{show-asked, rows-few, start-found, judge-cyclic, judge-on, known-kept, edges-held}
 use borrow.Author.Needs.{needs}
-use Rattle.verdict.proofs.judge.judge.Statement.{statement}
-use Rattle.verdict.proofs.judge.judge.Tie as tie
+use Rattle.verdict.proofs.by_flags.judge_located.Statement.{statement}
+use Rattle.verdict.proofs.by_flags.judge_located.Tie as tie
 
 show-cycle-requires : tie.Need-show-cycle-requires
 unfolding decode
@@ -54,8 +54,8 @@ returns-2 c =
     judge-on _ _ _ _ _ _ _ refl (c .before .before .before .before .before .before .before .before .before .fill-edges .ensures) (start .0)
     (start .1) _ _ (c .before .before .if1 .left) (c .settle .ensures)
 
-pub judge-spec : {M : Type 1} → statement M
-judge-spec =
+pub judge-located-spec : {M : Type 1} → statement M
+judge-located-spec =
     tie.close
     (tie.spec (λ c κs. search needs) (λ c κs. search needs) show-cycle-requires cast-t18 (λ c. search needs) (λ c. search needs) returns
     settle-requires (λ c. search needs) returns-2)

@@ -1,7 +1,7 @@
 use Rattle.verdict.specs.Answers.{settle-over, settle-on}
 use borrow.Author.Needs.{needs}
-use Rattle.verdict.proofs.judge.settle.Statement.{statement}
-use Rattle.verdict.proofs.judge.settle.Tie as tie
+use Rattle.verdict.proofs.by_flags.settle.Statement.{statement}
+use Rattle.verdict.proofs.by_flags.settle.Tie as tie
 
 returns : tie.Need-returns
 returns c = settle-over _ _ _ _ _ (c .before .before .before .first-overwrite .ensures) (c .before .enum-told2 .given .1) (c .overwrite-answer .ensures)

@@ -1,6 +1,6 @@
 -- The bytes of a public write that a row meets by way of operations of plain rows, as bits of a number. Assumes nothing.
 use mathlib.Core.Path.{_≡_, refl, sym, ap, ap₂, subst, _∙_}
-use mathlib.Core.Bool.{Bool, true, false, not, cond}
+use mathlib.Core.Bool.{Bool, true, false, not}
 use mathlib.Core.List.{List}
 use Prim.Native.Nat.{ℕ, _+_, _*_, _≤_, _<_}
 use native.Mathlib.Omega.{arith}
@@ -9,13 +9,12 @@ use native.Mathlib.Decide.{decLt, ℕ-discrete}
 use lib.Dec.{ltb, leb, eqb}
 use lib.Bits.{bitOr, bitAnd, and-le-l}
 use borrow.Author.Tests.{lt-ltb, le-ltb, le-leb, lt-leb, ltb-true, eq-eqb, ne-eqb}
-use Rattle.finite.specs.Logic.{_and_, _or_, and-on, and-on-right, and-false-left, and-false-right, and-true, split, bool-ext, or-off, or-assoc, or-left, or-right}
-use Rattle.finite.specs.Below.{anyBelow, any-none, any-in, any-out, any-cong, any-not}
-use Rattle.model.specs.Limits.{ROWS, LONGEST}
+use Rattle.finite.specs.Logic.{_and_, _or_, and-on, and-on-right, and-false-left, and-false-right, and-true, split, bool-ext, or-off, or-assoc, or-left}
+use Rattle.finite.specs.Below.{anyBelow, any-none, any-in, any-out, any-cong}
+use Rattle.model.specs.Limits.{ROWS}
 use Rattle.model.specs.Row.{access, reads, touches}
 use Rattle.model.specs.Table.{Table}
 use Rattle.model.specs.Moment.{sameAgent}
-use Rattle.model.specs.Location.{sameReference}
 use Rattle.model.specs.Race.{nth}
 use Rattle.laws.specs.PairLaws.{eqb-swap}
 use Rattle.bits.specs.Bit.{bitOf, bitOf-or}
@@ -38,7 +37,6 @@ use Rattle.sets_bytes.specs.Masks.{Mask, sharedBit}
 use Rattle.grids.specs.Regions.{AVAILABLE-TO, VISIBLE-BY}
 use Rattle.grids.specs.Available.{shownTo}
 use Rattle.grids.specs.Filling.{member-in}
-use Rattle.grids.specs.Given.{Given}
 use Rattle.grids.specs.Location.{Locating}
 use Rattle.sets_location.specs.declared.part.Available.{Available}
 use Rattle.sets_location.specs.Seen.{Among}

@@ -1,16 +1,16 @@
 -- Location order of one row that is added pair by pair. Assumes nothing.
-use mathlib.Core.Path.{_≡_, refl, sym, ap, ap₂, subst, _∙_}
+use mathlib.Core.Path.{_≡_, refl, sym, ap, subst, _∙_}
 use mathlib.Core.Logic.{_≢_, _⊎_, inl, inr, ⊎-elim}
 use mathlib.Core.Bool.{Bool, true, false}
 use mathlib.Core.List.{List}
-use Prim.Native.Nat.{ℕ, _+_, _-_, _*_, _^_, _≤_, _<_}
+use Prim.Native.Nat.{ℕ, _+_, _-_, _*_, _≤_, _<_}
 use native.Mathlib.Omega.{arith}
 use native.Mathlib.Decide.{ℕ-discrete}
 use lib.Dec.{ltb, eqb}
 use lib.Bits.{bitAnd, and-le-l}
 use borrow.Author.Tests.{lt-ltb, le-ltb, eq-eqb, ne-eqb}
-use Rattle.finite.specs.Logic.{_and_, _or_, and-on, and-false-left, and-false-right, and-true, split, bool-ext, or-off, or-assoc, or-left, or-right, or-cases, which, not-both}
-use Rattle.finite.specs.Logic.{not-so, and-or}
+use Rattle.finite.specs.Logic.{_and_, _or_, and-on, and-false-left, and-false-right, and-true, bool-ext, or-off, or-assoc, or-left, or-right, or-cases, which, not-both}
+use Rattle.finite.specs.Logic.{not-so}
 use Rattle.finite.specs.Below.{anyBelow, any-in, any-out, any-cong, any-not, any-off, turn, at-one}
 use Rattle.model.specs.Limits.{ROWS, LONGEST}
 use Rattle.model.specs.Row.{touches, overlap}
@@ -21,11 +21,11 @@ use Rattle.laws.specs.RaceLaws.{touched}
 use Rattle.bits.specs.Bit.{bit, bitOf, bitOf-zero}
 use Rattle.bits.specs.Within.{Within, within-refl, within-trans, within-widen, within-bit}
 use Rattle.sets.specs.Lowest.{bitOf-and}
-use Rattle.area.specs.Regions.{LOCATION, LOCATION-END, PAIRS, PAIR}
+use Rattle.area.specs.Regions.{LOCATION, LOCATION-END}
 use Rattle.row_sets.specs.declared.Set.{Set}
 use Rattle.row_sets.specs.Member.{inSet}
 use Rattle.row_sets.specs.First.{First, first-next, Rest, next}
-use Rattle.row_sets.specs.Kept.{setAt, set-kept, Stored, added}
+use Rattle.row_sets.specs.Kept.{set-kept, Stored, added}
 use Rattle.row_sets.specs.Word.{bitOf-none}
 use Rattle.row_sets.specs.Family
 use Rattle.row_sets.specs.Walk.{Walk, walk-begin, walk-turn, walk-end, walk-in}
@@ -34,7 +34,7 @@ use Rattle.grids.specs.Regions.{SOME}
 use Rattle.grids.specs.Grid.{grid-kept, grid-on-kept}
 use Rattle.grids.specs.Location.{Locating}
 use Rattle.sets_bytes.specs.Masks.{Mask, sharedBit, Adds}
-use Rattle.sets_location.specs.Adds.{AddsRow, Over, Targets, Empty, MetBytes, placeOf, wholeBytes, partBytes, partsOf}
+use Rattle.sets_location.specs.Adds.{AddsRow, Over, Empty, MetBytes, placeOf, wholeBytes, partBytes, partsOf}
 
 -- ---- definitions
 

@@ -4,3 +4,5 @@ pub mod Told
 pub mod Seen
 pub mod Elements
 pub mod Adds
+pub mod Bytes
+pub mod Put

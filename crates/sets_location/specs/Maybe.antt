@@ -83,7 +83,7 @@ pub record Maybes (t : Table) (n x : ℕ) (z : Set) : Type 0 where
   pub low : Among n z
   pub all : (y : ℕ) → y < n → maybe t (meets t) (shownTo t) x y ≡ true → inSet z y ≡ true
 
-narrow-makes : (t : Table) (x a : ℕ) → x < t .rows → a < t .rows → narrow t x a ≡ true → makes t a ≡ true
+pub narrow-makes : (t : Table) (x a : ℕ) → x < t .rows → a < t .rows → narrow t x a ≡ true → makes t a ≡ true
 unfolding narrow firstPlain makes
 narrow-makes t x a l m e = split (split (sym (behind-is t x a l m) ∙ split (split (split (split e .0) .0) .0) .1) .0) .0
 

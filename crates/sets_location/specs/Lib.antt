@@ -4,3 +4,4 @@ pub mod Told
 pub mod Seen
 pub mod Elements
 pub mod Adds
+pub mod Carried

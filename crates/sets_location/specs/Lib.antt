@@ -5,3 +5,4 @@ pub mod Seen
 pub mod Elements
 pub mod Adds
 pub mod Carried
+pub mod Placed

@@ -9,11 +9,12 @@ use native.Mathlib.Decide.{decLt, ℕ-discrete}
 use lib.Dec.{ltb, eqb}
 use lib.ListN.{length}
 use borrow.Author.Tests.{ltb-true, lt-ltb, le-ltb, eqb-true, eq-eqb, ne-eqb}
-use Rattle.finite.specs.Logic.{_and_, _or_, split, and-true, and-on, and-false-left, and-false-right, or-off, or-right, and-or, bool-ext, or-cases, not-both}
+use Rattle.finite.specs.Logic.{_and_, _or_, split, and-true, and-on, and-false-left, and-false-right, or-off, or-assoc, and-or, bool-ext}
 use Rattle.finite.specs.Below.{anyBelow, any-none, any-in, any-out}
 use Rattle.model.specs.Limits.{ROWS, AGENTS}
 use Rattle.model.specs.Row.{access, plain, covers, meets, single}
 use Rattle.model.specs.Table.{Table}
+use Rattle.closing.specs.Tests.{or-off-left}
 use Rattle.placing.specs.Leads
 use Rattle.placing.specs.Elements.{avails, behind-is, kept, wideOf, kept-step}
 use Rattle.placing.specs.Whole.{firstPlain, wholePlain, narrow, strongTo, strong-kept}
@@ -22,7 +23,7 @@ use Rattle.row_sets.specs.Member.{inSet}
 use Rattle.row_sets.specs.First.{First, first-next, Rest, next}
 use Rattle.row_sets.specs.Kept.{setAt, set-kept, Stored, joined}
 use Rattle.row_sets.specs.Family.{nth}
-use Rattle.row_sets.specs.Rows.{Rows, rows-at, rows-cong}
+use Rattle.row_sets.specs.Rows.{Rows, rows-at, rows-or, rows-cong}
 use Rattle.row_sets.specs.Walk.{Walk, walk-begin, walk-turn, walk-end}
 use Rattle.known.specs.Ask.{few}
 use Rattle.known.specs.Known.{Opened}
@@ -31,7 +32,6 @@ use Rattle.grids.specs.Grid.{GridOn}
 use Rattle.grids.specs.Filling.{member-in}
 use Rattle.grids.specs.Available.{makes, shownTo}
 use Rattle.grids.specs.Location.{Locating}
-use Rattle.sets_location.specs.declared.part.Available.{Available}
 use Rattle.sets_location.specs.Elements.{any-skip, any-step}
 use Rattle.sets_location.specs.Met.{Grasps}
 use Rattle.sets_location.specs.Adds.{Widely, Carried}
@@ -67,14 +67,14 @@ pub record Carrying (t : Table) (n x q : ℕ) (made : List ℕ) : Type 0 where
 
 -- ---- laws: codes
 
-pub agent-low : {t : Table} {n x a : ℕ} {s : List ℕ} → Opened t n s → x < n → a ≡ t .row x .agent → a < AGENTS
-agent-low {t} {n} {x} o l e =
+pub agent-code : {t : Table} {n x a : ℕ} {s : List ℕ} → Opened t n s → x < n → a ≡ t .row x .agent → a < AGENTS
+agent-code {t} {n} {x} o l e =
     let r = o .rows in
     let h = o .fit .coded x (omega arith) .agent in
     omega (arith, e, h)
 
-pub class-low : {t : Table} {n x a : ℕ} {s : List ℕ} → Opened t n s → x < n → access (t .row x) ≡ true → a ≡ t .row x .class → a < 4
-class-low {t} {n} {x} o l is e =
+pub class-code : {t : Table} {n x a : ℕ} {s : List ℕ} → Opened t n s → x < n → access (t .row x) ≡ true → a ≡ t .row x .class → a < 4
+class-code {t} {n} {x} o l is e =
     let r = o .rows in
     let h = o .fit .classed x (omega arith) is in
     omega (arith, e, h)
@@ -84,16 +84,11 @@ class-low {t} {n} {x} o l is e =
 gather-skip : {q : ℕ → ℕ → Bool} {first r : Set} {k : ℕ} → ((j : ℕ) → q j k ≡ false) → Gathering q first r k → Gathering q first r (k + 1)
 gather-skip {q} {first} {r} {k} off u = record { is = λ j. u .is j ∙ ap (λ (b : Bool). inSet first j or b) (sym (any-skip (q j) k (off j))) }
 
-or-more : (a b c : Bool) → ((a or b) or c) ≡ (a or (b or c))
-unfolding _or_
-or-more true b c = refl
-or-more false b c = refl
-
 gather-more : {q : ℕ → ℕ → Bool} {first r s : Set} {k : ℕ} → ((j : ℕ) → inSet s j ≡ (inSet r j or q j k)) → Gathering q first r k → Gathering q first s (k + 1)
 gather-more {q} {first} {r} {s} {k} e u =
     record {
       is = λ j.
-          e j ∙ ap (λ (b : Bool). b or q j k) (u .is j) ∙ or-more (inSet first j) (anyBelow k (q j)) (q j k)
+          e j ∙ ap (λ (b : Bool). b or q j k) (u .is j) ∙ or-assoc (inSet first j) (anyBelow k (q j)) (q j k)
           ∙ ap (λ (b : Bool). inSet first j or b) (sym (any-step (q j) k));
     }
 
@@ -162,11 +157,6 @@ module _ (t : Table) (x : ℕ) (w : List ℕ) (z to₀ by₀ parts₀ : Set) whe
   grasp-all to by parts left e u = walk-end z (Grasping t x w z to₀ by₀ parts₀ to by parts) (grasp-skip to by parts) left e u
 
 -- ---- laws: what was gathered
-
-or-off-left : (a b : Bool) → a ≡ false → (a or b) ≡ b
-unfolding _or_
-or-off-left false b e = refl
-or-off-left true b e = not-both refl e
 
 first-makes : (t : Table) (x a : ℕ) → x < t .rows → a < t .rows → firstPlain t x a ≡ true → makes t a ≡ true
 unfolding firstPlain makes
@@ -312,9 +302,6 @@ module _ (t : Table) (n x : ℕ) where
       off : (g r : ℕ) → r ≡ q → (not (plain (t .row x)) and avails (t .row x) and eqb (t .row x .agent) g and meets (t .row x .classes) (single r)) ≡ false
       off g r d = and-false-right _ _ (ap (λ (k : ℕ). meets (t .row x .classes) (single k)) d ∙ e)
 
-  rows-more : {p z : ℕ → Bool} {a b c : Set} → ((j : ℕ) → inSet c j ≡ (inSet a j or inSet b j)) → Rows n p a → Rows n z b → Rows n (λ j. p j or z j) c
-  rows-more {p} {z} e u v = record { is = λ j. e j ∙ ap₂ _or_ (u .is j) (v .is j) ∙ and-or (ltb j n) (p j) (z j) }
-
   -- x has it: two sets took in what x makes available
   pub carry-turn : {made u v : List ℕ} {q : ℕ} (ag : ℕ) {a b : Set} → Widely t x → ag < AGENTS → ag ≡ t .row x .agent → q < 4 → meets (t .row x .classes) (single q) ≡ true
       → Rows n (Leads.meets t x) a → Rows n (shownTo t x) b
@@ -361,12 +348,12 @@ module _ (t : Table) (n x : ℕ) where
       to-here : Rows n (carriedUp t (Leads.meets t) x (q + 1) ag q) (nth v 0 (ag * 8 + q))
       to-here =
           rows-cong (λ i k. up-here (Leads.meets t) q ag i on)
-          (rows-more (λ j. ap (λ (y : Set). inSet y j) (set-kept (0 + 2 * (ag * 8 + q)) (λ h. omega arith) (sb .frame)) ∙ sa .is j) (c .to ag q low lq) ra)
+          (rows-or (c .to ag q low lq) ra (λ j. ap (λ (y : Set). inSet y j) (set-kept (0 + 2 * (ag * 8 + q)) (λ h. omega arith) (sb .frame)) ∙ sa .is j))
 
       by-here : Rows n (carriedUp t (shownTo t) x (q + 1) ag q) (nth v 0 (ag * 8 + 4 + q))
       by-here =
           rows-cong (λ i k. up-here (shownTo t) q ag i on)
-          (rows-more (λ j. sb .is j ∙ ap (λ (y : Set). inSet y j or inSet b j) (set-kept (0 + 2 * (ag * 8 + 4 + q)) (λ h. omega arith) (sa .frame))) (c .by ag q low lq) rb)
+          (rows-or (c .by ag q low lq) rb (λ j. sb .is j ∙ ap (λ (y : Set). inSet y j or inSet b j) (set-kept (0 + 2 * (ag * 8 + 4 + q)) (λ h. omega arith) (sa .frame))))
 
       to-is : (g r : ℕ) → g < AGENTS → r < 4 → Dec (g ≡ ag) → Dec (r ≡ q) → Rows n (carriedUp t (Leads.meets t) x (q + 1) g r) (nth v 0 (g * 8 + r))
       to-is g r l m (yes i) (yes k) =

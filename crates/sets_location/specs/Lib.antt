@@ -6,3 +6,4 @@ pub mod Elements
 pub mod Adds
 pub mod Carried
 pub mod Placed
+pub mod Filled

@@ -5,13 +5,13 @@ use mathlib.Core.Logic.{⊎-elim}
 use mathlib.Core.List.{List}
 use Prim.Native.Nat.{ℕ, _+_, _*_, _≤_, _<_}
 use native.Mathlib.Omega.{arith}
-use lib.Dec.{leb, eqb}
+use lib.Dec.{eqb}
 use borrow.Author.Tests.{eqb-true, le-leb}
-use Rattle.finite.specs.Logic.{_and_, _or_, split, and-true, and-on, and-false-left, and-false-right, or-cases, or-left, or-right, or-off, or-none, or-assoc, which}
-use Rattle.finite.specs.Logic.{not-both, not-so, not-in, not-out, bool-ext}
+use Rattle.finite.specs.Logic.{_and_, _or_, split, and-true, and-on, and-false-left, and-false-right, or-cases, or-left, or-right, or-none, or-assoc, which}
+use Rattle.finite.specs.Logic.{not-both, not-so, not-in, bool-ext}
 use Rattle.finite.specs.Below.{anyBelow, any-in, any-out, any-cong}
 use Rattle.model.specs.Limits.{ROWS, LONGEST}
-use Rattle.model.specs.Row.{access, writes, nonPrivate, touches, overlap}
+use Rattle.model.specs.Row.{access, writes, nonPrivate, touches}
 use Rattle.model.specs.Table.{Table}
 use Rattle.model.specs.Location.{sameReference, publicWrite, common}
 use Rattle.model.specs.Race.{nth}
@@ -31,7 +31,6 @@ use Rattle.row_sets.specs.Member.{inSet}
 use Rattle.row_sets.specs.Kept.{setAt}
 use Rattle.row_sets.specs.Family
 use Rattle.row_sets.specs.Rows.{Rows, rows-at, rows-cut, rows-in}
-use Rattle.known.specs.Ask.{few}
 use Rattle.known.specs.Tested.{WRITES, PUBLIC}
 use Rattle.known.specs.Known.{REFERENCE, Opened, sameName, says-rows}
 use Rattle.sets_bytes.specs.Masks.{sharedBit}

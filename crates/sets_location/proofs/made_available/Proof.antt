@@ -1,4 +1,4 @@
-use mathlib.Core.Path.{_≡_, sym, _∙_}
+use mathlib.Core.Path.{sym, _∙_}
 use Prim.Native.Nat.{_-_}
 use Rattle.model.specs.Limits.{ROWS}
 use Rattle.model.specs.Table.{decode}
@@ -6,7 +6,7 @@ use Rattle.run.specs.Layout.{tableIn}
 use Rattle.row_sets.specs.First.{next}
 use Rattle.row_sets.specs.Walk.{Walk, walk-less}
 use Rattle.known.specs.Ask.{few}
-use Rattle.sets_location.specs.Carried.{Grasping, agent-low, class-low, grasp-begin, grasp-whole, grasp-part, grasp-all, grasp-end}
+use Rattle.sets_location.specs.Carried.{Grasping, agent-code, class-code, grasp-begin, grasp-whole, grasp-part, grasp-all, grasp-end}
 use native.Mathlib.Omega.{arith}
 use borrow.Author.Needs.{needs}
 use Rattle.sets_location.proofs.made_available.Statement.{statement}
@@ -23,26 +23,26 @@ agent-requires c κs = let b = few (c .before .before .before .pre .2 .opened) i
 
 mul-k : tie.Need-mul-k Inv-loop μ-loop
 unfolding decode
-mul-k c = omega (arith, agent-low (c .before .before .before .before .pre .2 .opened) (c .before .before .before .before .pre .0) (c .agent .ensures))
+mul-k c = omega (arith, agent-code (c .before .before .before .before .pre .2 .opened) (c .before .before .before .before .pre .0) (c .agent .ensures))
 
 class-requires : tie.Need-class-requires Inv-loop μ-loop
 class-requires c κs = let b = few (c .before .before .before .before .pre .2 .opened) in omega (arith, c .before .before .before .before .pre .0, b)
 
 add-k : tie.Need-add-k Inv-loop μ-loop
 unfolding decode
-add-k c = omega (arith, agent-low (c .before .before .before .before .before .pre .2 .opened) (c .before .before .before .before .before .pre .0) (c .before .agent .ensures), class-low (c .before .before .before .before .before .pre .2 .opened) (c .before .before .before .before .before .pre .0) (c .before .before .before .before .before .pre .1) (c .class .ensures))
+add-k c = omega (arith, agent-code (c .before .before .before .before .before .pre .2 .opened) (c .before .before .before .before .before .pre .0) (c .before .agent .ensures), class-code (c .before .before .before .before .before .pre .2 .opened) (c .before .before .before .before .before .pre .0) (c .before .before .before .before .before .pre .1) (c .class .ensures))
 
 get-requires : tie.Need-get-requires Inv-loop μ-loop
 unfolding decode
-get-requires c κs = omega (arith, c .before .before .before .before .before .pre .4, agent-low (c .before .before .before .before .before .pre .2 .opened) (c .before .before .before .before .before .pre .0) (c .before .agent .ensures), class-low (c .before .before .before .before .before .pre .2 .opened) (c .before .before .before .before .before .pre .0) (c .before .before .before .before .before .pre .1) (c .class .ensures))
+get-requires c κs = omega (arith, c .before .before .before .before .before .pre .4, agent-code (c .before .before .before .before .before .pre .2 .opened) (c .before .before .before .before .before .pre .0) (c .before .agent .ensures), class-code (c .before .before .before .before .before .pre .2 .opened) (c .before .before .before .before .before .pre .0) (c .before .before .before .before .before .pre .1) (c .class .ensures))
 
 add-get : tie.Need-add-get Inv-loop μ-loop
 unfolding decode
-add-get c = omega (arith, agent-low (c .before .before .before .before .before .before .pre .2 .opened) (c .before .before .before .before .before .before .pre .0) (c .before .before .agent .ensures), class-low (c .before .before .before .before .before .before .pre .2 .opened) (c .before .before .before .before .before .before .pre .0) (c .before .before .before .before .before .before .pre .1) (c .before .class .ensures))
+add-get c = omega (arith, agent-code (c .before .before .before .before .before .before .pre .2 .opened) (c .before .before .before .before .before .before .pre .0) (c .before .before .agent .ensures), class-code (c .before .before .before .before .before .before .pre .2 .opened) (c .before .before .before .before .before .before .pre .0) (c .before .before .before .before .before .before .pre .1) (c .before .class .ensures))
 
 get-requires-2 : tie.Need-get-requires-2 Inv-loop μ-loop
 unfolding decode
-get-requires-2 c κs = omega (arith, c .before .before .before .before .before .before .pre .4, agent-low (c .before .before .before .before .before .before .pre .2 .opened) (c .before .before .before .before .before .before .pre .0) (c .before .before .agent .ensures), class-low (c .before .before .before .before .before .before .pre .2 .opened) (c .before .before .before .before .before .before .pre .0) (c .before .before .before .before .before .before .pre .1) (c .before .class .ensures))
+get-requires-2 c κs = omega (arith, c .before .before .before .before .before .before .pre .4, agent-code (c .before .before .before .before .before .before .pre .2 .opened) (c .before .before .before .before .before .before .pre .0) (c .before .before .agent .ensures), class-code (c .before .before .before .before .before .before .pre .2 .opened) (c .before .before .before .before .before .before .pre .0) (c .before .before .before .before .before .before .pre .1) (c .before .class .ensures))
 
 none-requires : tie.Need-none-requires Inv-loop μ-loop
 none-requires c κs = search needs

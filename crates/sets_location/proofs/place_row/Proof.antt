@@ -1,4 +1,3 @@
-use mathlib.Core.Path.{_∙_}
 use Rattle.known.specs.Ask.{few}
 use Rattle.sets_location.specs.Placed.{adds-cong, over-rows, public-write, not-public, told-over, told-bits}
 use native.Mathlib.Omega.{arith}

@@ -123,11 +123,11 @@ or-low a b l m =
     let h : bitOr a b % 2 ^ 16 ≡ bitOr a b = e ∙ ap₂ bitOr f g in
     omega arith
 
-any-skip : (p : ℕ → Bool) (k : ℕ) → p k ≡ false → anyBelow (k + 1) p ≡ anyBelow k p
+pub any-skip : (p : ℕ → Bool) (k : ℕ) → p k ≡ false → anyBelow (k + 1) p ≡ anyBelow k p
 unfolding anyBelow
 any-skip p k e = rw add-one (or-off (anyBelow k p) (p k) e)
 
-any-step : (p : ℕ → Bool) (k : ℕ) → anyBelow (k + 1) p ≡ (anyBelow k p or p k)
+pub any-step : (p : ℕ → Bool) (k : ℕ) → anyBelow (k + 1) p ≡ (anyBelow k p or p k)
 unfolding anyBelow
 any-step p k = rw add-one refl
 

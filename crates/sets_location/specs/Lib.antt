@@ -6,3 +6,6 @@ pub mod Elements
 pub mod Adds
 pub mod Bytes
 pub mod Put
+pub mod Carried
+pub mod Placed
+pub mod Filled

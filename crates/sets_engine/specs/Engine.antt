@@ -1,15 +1,20 @@
 -- What the engine by sets leaves, stage after stage. Assumes nothing.
+use mathlib.Core.Path.{refl}
 use mathlib.Core.List.{List}
 use Prim.Native.Nat.{ℕ, _≤_}
 use native.Mathlib.Omega.{arith}
 use Rattle.model.specs.Scope.{mutually, follows}
 use Rattle.model.specs.Location.{systemBefore}
-use Rattle.model.specs.Limits.{ROWS}
-use Rattle.model.specs.Table.{Table}
+use lib.ListN.{length}
+use Rattle.model.specs.Limits.{ROWS, WORK}
+use Rattle.model.specs.Table.{Table, decode}
+use Rattle.run.specs.Layout.{tableIn}
 use Rattle.bits.specs.Within.{Within, within-trans, within-widen}
 use Rattle.area.specs.Regions.{MUTUAL, OVERLAP, OVERLAP-END, LOCATION-END, LOCATED-END}
 use Rattle.area.specs.State.{overlaps}
-use Rattle.known.specs.Known.{Opened}
+use Rattle.known.specs.Fit.{FitRun}
+use Rattle.known.specs.Known.{WORDS, Opened, MadeKnown}
+use Rattle.grids.specs.Given.{Given}
 use Rattle.grids.specs.Regions.{LATER, HAPPENS, SYSTEM, SYSTEM-END, HOSTED, MET-END, AVAILABLE-AVAILABLE}
 use Rattle.grids.specs.Grid.{Grid, MadeGrid, grid-kept, grid-on-kept}
 use Rattle.grids.specs.Happens.{Happening}
@@ -49,6 +54,12 @@ pub record MadeJudging (t : Table) (n : ℕ) (s w u : List ℕ) : Type 0 where
   pub frame : Within MUTUAL LOCATED-END w u
 
 -- ---- laws: the stages in order
+
+-- a run that fits, its sets, and room
+pub given-of : {t : List ℕ} {n : ℕ} {s u w : List ℕ} → FitRun t n → MadeKnown (tableIn t n) n s u → WORDS ≤ length s → WORK ≤ length w → Given (tableIn t n) n u w
+unfolding decode
+given-of {s = s} {u} fits made space room =
+    record { opened = record { fit = fits .fit; rows = refl; known = made .known; space = let e = made .frame .len in omega arith }; room = room }
 
 pub ordered : {t : Table} {n : ℕ} {w v u : List ℕ} → n ≤ ROWS → Synced t n w v → MadeOrder t n v u → MadeOrdered t n w u
 ordered few s o =

@@ -56,7 +56,7 @@ judged b p mode n {src} {w} {u} {z} {c} listed room told cleared =
 -- sources in a list that are those of a table that passes
 pub sourced-in : (b : List ℕ) (p : List (List ℕ)) (mode : Mode) (n : ℕ) {src : List ℕ} → Listed (sourceOf b) n src → Sourced (decode b p mode n) (sourceOf b)
     → Sourced (decode b p mode n) (sourceIn src)
-unfolding decode sourceIn
+unfolding decode
 sourced-in b p mode n l s y m r = subst (λ (z : ℕ). (z < n) ⊎ (z ≡ INITIAL)) (sym (l .each y m)) (s y m r)
 
 -- ---- the entry point
@@ -89,6 +89,13 @@ Checked chains s r w x c d = Said (check chains s (length w) (length c)) r w x c
 abbrev pub CheckedBoth : Bool → List ℕ → List ℕ → CheckAnswer → List ℕ → List ℕ → List ℕ → List ℕ → Type 0
 CheckedBoth chains f s r w x c d = Said (checkBoth chains f s (length w) (length c)) r w x c d
 
+-- a check admits no source that is neither a row nor the initial value
+pub sourced : {needs work buffer g n : ℕ} {chains : Bool} {f s t : List ℕ} {a : Admission} → a ≡ doorBoth needs false f s work buffer → a ≡ Admitted g n
+    → Entered needs false chains f s work buffer t n → Sourced (tableIn t n) (sourceOf (rowsIn t))
+sourced {needs} {work} {buffer} {chains = chains} {f} {s} {a = a} e h opened =
+    let k = door-admits needs false f s work buffer a e h in
+    subst₂ (λ (t : Table) (z : ℕ → ℕ). Sourced t z) (sym (opened .table)) (sym (opened .sources)) (sourced-of (sound-both false f s a (k .2) h) chains)
+
 module _ (chains : Bool) (f s w c : List ℕ) (a : Admission) (e : a ≡ doorBoth CYCLE false f s (length w) (length c)) where
   abbrev told : Verdict
   told = checkBoth chains f s (length w) (length c)
@@ -101,12 +108,6 @@ module _ (chains : Bool) (f s w c : List ℕ) (a : Admission) (e : a ≡ doorBot
   module _ {g n : ℕ} (h : a ≡ Admitted g n) (t : List ℕ) (opened : Entered CYCLE false chains f s (length w) (length c) t n) where
     abbrev pub verdictRun : Verdict
     verdictRun = verdict (tableIn t n) (sourceOf (rowsIn t))
-
-    -- a check admits no source that is neither a row nor the initial value
-    pub sourced : Sourced (tableIn t n) (sourceOf (rowsIn t))
-    sourced =
-        let k = door-admits CYCLE false f s (length w) (length c) a e h in
-        subst₂ (λ (t : Table) (z : ℕ → ℕ). Sourced t z) (sym (opened .table)) (sym (opened .sources)) (sourced-of (sound-both false f s a (k .2) h) chains)
 
     told-is : told ≡ verdictRun
     told-is =

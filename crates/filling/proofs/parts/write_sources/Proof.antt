@@ -4,8 +4,8 @@ use native.Mathlib.Omega.{arith}
 use lib.ListN.{length, length-set}
 use Rattle.finite.specs.Lists.{Written, written-none, written-more}
 use borrow.Author.Needs.{needs}
-use Rattle.filling.proofs.settle.write_sources.Statement.{statement}
-use Rattle.filling.proofs.settle.write_sources.Tie as tie
+use Rattle.filling.proofs.parts.write_sources.Statement.{statement}
+use Rattle.filling.proofs.parts.write_sources.Tie as tie
 
 abbrev Inv-loop : tie.InvT-loop
 Inv-loop list n out₀ i₀ out i = (i ≤ n) × (length out ≡ length out₀) × Written list i out₀ out

@@ -4,8 +4,8 @@ use borrow.Author.Tests.{not-true, not-false}
 use Rattle.model.specs.Table.{decode}
 use Rattle.filling.specs.Parts.{unfilled, all-filled}
 use borrow.Author.Needs.{needs}
-use Rattle.filling.proofs.settle.choose_sources.Statement.{statement}
-use Rattle.filling.proofs.settle.choose_sources.Tie as tie
+use Rattle.filling.proofs.by_flags.choose_sources.Statement.{statement}
+use Rattle.filling.proofs.by_flags.choose_sources.Tie as tie
 
 returns : tie.Need-returns
 unfolding decode

@@ -1,7 +1,7 @@
 use Rattle.filling.specs.Parts.{raced, unraced}
 use borrow.Author.Needs.{needs}
-use Rattle.filling.proofs.settle.settle.Statement.{statement}
-use Rattle.filling.proofs.settle.settle.Tie as tie
+use Rattle.filling.proofs.by_flags.settle.Statement.{statement}
+use Rattle.filling.proofs.by_flags.settle.Tie as tie
 
 returns : tie.Need-returns
 returns c = raced _ _ _ (c .before .before .before .first-race .ensures) _ _ _ (c .before .enum-told2 .given .1) (c .race-answer .ensures)

@@ -1,8 +1,8 @@
 use mathlib.Core.Path.{sym, ap}
 use Rattle.filling.specs.Parts.{raceAnswer}
 use borrow.Author.Needs.{needs}
-use Rattle.filling.proofs.settle.race_answer.Statement.{statement}
-use Rattle.filling.proofs.settle.race_answer.Tie as tie
+use Rattle.filling.proofs.parts.race_answer.Statement.{statement}
+use Rattle.filling.proofs.parts.race_answer.Tie as tie
 
 returns : tie.Need-returns
 unfolding raceAnswer

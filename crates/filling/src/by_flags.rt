@@ -1,18 +1,19 @@
-// A fill of a table whose rows are known to be well formed: stages and searches, one after the other.
+// A fill by the obvious engine: stages and searches, one after the other.
 ghost use mathlib.Core.Path.{_≡_};
 ghost use Prim.Native.Nat.{_≤_};
 ghost use lib.ListN.{length};
 ghost use Rattle.finite.specs.Logic.{_and_};
-ghost use Rattle.finite.specs.Lists.{Written};
-ghost use Rattle.model.specs.Limits.{SOURCES};
+ghost use Rattle.model.specs.Limits.{WORK, SOURCES};
 ghost use Rattle.run.specs.Layout.{tableIn};
 ghost use Rattle.model.specs.Edge.{consistent};
 ghost use Rattle.model.specs.Fill.{chosen, sourcesFit, none, filledOr, outcome, fillAnswer, sourcesAfter};
 ghost use Rattle.bits.specs.Within.{Within};
 ghost use Rattle.area.specs.Regions.{EDGE, LAYERS-END};
+ghost use Rattle.known.specs.Fit.{FitRun};
 ghost use Rattle.race.specs.Bytes.{Ready, Bounded};
 ghost use Rattle.axioms.specs.Sources.{sourceIn};
-ghost use Rattle.filling.specs.Parts.{raceAnswer};
+ghost use Rattle.filling.specs.Parts.{Fills};
+use crate::parts;
 use model::FillAnswer;
 use run::Run;
 
@@ -44,17 +45,6 @@ fn is_filled(t: &Run, n: usize, src: &[u16], w: &mut [u64]) -> bool
     is_consistent(t, n, src, w)
 }
 
-// The first n numbers of out become the list's.
-// Ruled out: one that writes the whole list; one that leaves out the last row's source.
-pub fn write_sources(list: &[u16], n: usize, out: &mut [u16])
-    requires { ⌜ (n ≤ length (now list)) × (n ≤ length (now out)) ⌝ }
-    ensures { λ _. ⌜ Written (now (list .entry)) n (now (out .entry)) (now (out .exit)) ⌝ }
-{
-    for i in 0..n {
-        out[i] = list[i];
-    }
-}
-
 // The answer where there is no race: the chosen sources in out, if they fill the table.
 fn choose_sources(t: &Run, n: usize, src: &[u16], w: &mut [u64], out: &mut [u16]) -> FillAnswer
     requires { ⌜ (SOURCES ≤ length (now out)) × (n ≤ length (now src)) × Ready (tableIn (now t) n) n (now w) ⌝ }
@@ -68,26 +58,8 @@ fn choose_sources(t: &Run, n: usize, src: &[u16], w: &mut [u64], out: &mut [u16]
     if !is_filled(t, n, chosen, w) {
         return FillAnswer::None;
     }
-    write_sources(chosen, n, out);
+    parts::write_sources(chosen, n, out);
     FillAnswer::Filled
-}
-
-// What the search for a race found, as an answer; None where there is none.
-fn race_answer(f: race::Found) -> FillAnswer
-    ensures { λ r. ⌜ r ≡ raceAnswer f ⌝ }
-{
-    match f {
-        race::Found::At {
-            first,
-            second,
-            byte,
-        } => FillAnswer::Race {
-            first: first,
-            second: second,
-            byte: byte,
-        },
-        race::Found::Nothing => FillAnswer::None,
-    }
 }
 
 // The answer, from location order and the sources; those that fill the table in out.
@@ -100,7 +72,17 @@ pub fn settle(t: &Run, n: usize, src: &[u16], w: &mut [u64], out: &mut [u16]) ->
 {
     let f = race::first_race(t, n, w);
     let race::Found::Nothing = f else {
-        return race_answer(f);
+        return parts::race_answer(f);
     };
     choose_sources(t, n, src, w, out)
+}
+
+// A fill of a run of n rows, from nothing.
+pub fn fill(t: &Run, n: usize, src: &[u16], w: &mut [u64], out: &mut [u16]) -> FillAnswer
+    requires { ⌜ FitRun (now t) n × (WORK ≤ length (now w)) × (SOURCES ≤ length (now out)) × (n ≤ length (now src)) ⌝ }
+    ensures { λ r. ⌜ Fills (tableIn (now (t .entry)) n) (sourceIn (now (src .entry))) r
+        (now (w .entry)) (now (w .exit)) (now (out .entry)) (now (out .exit)) ⌝ }
+{
+    verdict::by_flags::locate(t, n, w);
+    settle(t, n, src, w, out)
 }

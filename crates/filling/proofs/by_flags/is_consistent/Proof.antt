@@ -4,8 +4,8 @@ use Rattle.model.specs.Table.{decode}
 use Rattle.verdict.specs.Answers.{known-kept, edges-held}
 use Rattle.filling.specs.Parts.{cyclic-told, acyclic-told}
 use borrow.Author.Needs.{needs}
-use Rattle.filling.proofs.settle.is_consistent.Statement.{statement}
-use Rattle.filling.proofs.settle.is_consistent.Tie as tie
+use Rattle.filling.proofs.by_flags.is_consistent.Statement.{statement}
+use Rattle.filling.proofs.by_flags.is_consistent.Tie as tie
 
 returns : tie.Need-returns
 unfolding decode

@@ -3,8 +3,8 @@ use Rattle.area.specs.Regions.{EDGE, LAYERS-END}
 use Rattle.bits.specs.Within.{within-refl}
 use Rattle.choice.specs.Choice.{and-stop, and-go}
 use borrow.Author.Needs.{needs}
-use Rattle.filling.proofs.settle.is_filled.Statement.{statement}
-use Rattle.filling.proofs.settle.is_filled.Tie as tie
+use Rattle.filling.proofs.by_flags.is_filled.Statement.{statement}
+use Rattle.filling.proofs.by_flags.is_filled.Tie as tie
 
 returns : tie.Need-returns
 returns c = (and-stop _ _ _ (rw (c .before .before .before .before .rows-of .ensures, c .before .before .before .places .ensures, c .before .before .mode .ensures) at (c .before .sources-fit .ensures)) (not-true _ (c .if1 .taken)), within-refl EDGE LAYERS-END _)

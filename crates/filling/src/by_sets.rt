@@ -15,8 +15,8 @@ ghost use Rattle.grids.specs.Given.{Given};
 ghost use Rattle.grids.specs.Location.{Judging};
 ghost use Rattle.axioms.specs.Sources.{sourceIn};
 ghost use Rattle.filling.specs.Parts.{Fills, isNone};
-use axioms::overwritten::Overwrite;
 use crate::parts;
+use axioms::overwritten::Overwrite;
 use model::FillAnswer;
 use run::Run;
 
@@ -88,14 +88,7 @@ fn choose_sources(
 
 // The answer, from location order and the sources; those that fill the table in out.
 // Ruled out: one that fills a table that has a race; one that writes to out where the answer is no fill.
-fn settle(
-    t: &Run,
-    n: usize,
-    src: &[u16],
-    s: &[u64],
-    w: &mut [u64],
-    out: &mut [u16],
-) -> FillAnswer
+fn settle(t: &Run, n: usize, src: &[u16], s: &[u64], w: &mut [u64], out: &mut [u16]) -> FillAnswer
     requires { ⌜ (SOURCES ≤ length (now out)) × (n ≤ length (now src)) × Given (tableIn (now t) n) n (now s) (now w) × Judging (tableIn (now t) n) n (now w) ⌝ }
     ensures { λ r. ⌜ (r ≡ fillAnswer (outcome (tableIn (now (t .entry)) n) (sourceIn (now (src .entry)))))
         × (now (out .exit) ≡ sourcesAfter (outcome (tableIn (now (t .entry)) n) (sourceIn (now (src .entry)))) (now (out .entry)))

@@ -9,8 +9,7 @@ returns c = reported-refused _ _ _ _ _ _ (c .before .before .before .before .ent
 
 report-run-requires : tie.Need-report-run-requires
 report-run-requires c κs =
-    let opened = c .before .before .before .before .before .before .before .enter .ensures .1 _ _ (c .before .before .before .before .a .given .1) in
-    (
+    let opened = c .before .before .before .before .before .before .before .enter .ensures .1 _ _ (c .before .before .before .before .a .given .1) in (
       opened .room,
       opened .space,
       opened .run,

@@ -20,14 +20,8 @@ Inv-loop t n s a w left₀ at₀ left at = Walk left₀ left × Gathered (metTo 
 abbrev μ-loop : tie.MeasureT-loop
 μ-loop t n s a w left₀ at₀ left at = ROWS - next left
 
-none-requires : tie.Need-none-requires Inv-loop μ-loop
-none-requires c κs = search needs
-
 loop-holds : tie.Need-loop-holds Inv-loop μ-loop
 loop-holds c = gather-begin _ _ (met-off _ _ _ _) _ (c .none .ensures)
-
-some-requires : tie.Need-some-requires Inv-loop μ-loop
-some-requires c κs = search needs
 
 first-requires : tie.Need-first-requires Inv-loop μ-loop
 first-requires c κs = sym (c .before .some .ensures) ∙ c .if1 .taken
@@ -50,17 +44,8 @@ sharing-requires c κs =
 get-requires : tie.Need-get-requires Inv-loop μ-loop
 get-requires c κs = omega (arith, c .before .before .before .first .ensures .bound, c .before .before .before .before .before .before .before .before .before .before .pre .1 .room)
 
-and-requires : tie.Need-and-requires Inv-loop μ-loop
-and-requires c κs = search needs
-
 has-requires : tie.Need-has-requires Inv-loop μ-loop
 has-requires c κs = c .before .before .before .before .before .first .ensures .bound
-
-only-if-requires : tie.Need-only-if-requires Inv-loop μ-loop
-only-if-requires c κs = search needs
-
-or-requires : tie.Need-or-requires Inv-loop μ-loop
-or-requires c κs = search needs
 
 loop-less : tie.Need-loop-less Inv-loop μ-loop
 loop-less c = walk-less (c .before .before .before .before .before .before .before .before .first .ensures) (c .before .before .before .before .before .before .before .but-first .ensures)
@@ -78,4 +63,6 @@ returns : tie.Need-returns Inv-loop μ-loop
 returns c = met-rows (c .before .before .before .before .before .before .pre .1 .opened) _ _ _ (c .before .before .before .before .before .before .pre .3) (gather-end _ _ (met-off _ _ _ _) _ _ (sym (c .before .some .ensures) ∙ c .if1 .left) (c .before .before .loop .inv .1))
 
 pub available-to-spec : {M : Type 1} → statement M
-available-to-spec = tie.close (tie.spec Inv-loop μ-loop none-requires loop-holds some-requires first-requires but-first-requires scope-requires sharing-requires get-requires and-requires has-requires only-if-requires or-requires loop-less loop-again returns)
+available-to-spec = tie.close (tie.spec Inv-loop μ-loop (λ c κs. search needs) loop-holds (λ c κs. search needs) first-requires but-first-requires scope-requires
+    sharing-requires get-requires (λ c κs. search needs) has-requires (λ c κs. search needs) (λ c κs. search needs) loop-less loop-again
+    returns)

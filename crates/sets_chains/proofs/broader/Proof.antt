@@ -14,26 +14,8 @@ Inv-loop s q a₀ k₀ a k = (q + 1 ≤ k) × (k ≤ 5) × ((t : Table) (n : ℕ
 abbrev μ-loop : tie.MeasureT-loop
 μ-loop s q a₀ k₀ a k = 5 - k
 
-none-requires : tie.Need-none-requires Inv-loop μ-loop
-none-requires c κs = search needs
-
-add-k : tie.Need-add-k Inv-loop μ-loop
-add-k c = search needs
-
 loop-holds : tie.Need-loop-holds Inv-loop μ-loop
 loop-holds c = (search needs, search needs, λ t n o. between-none t n _ (c .none .ensures))
-
-get-requires : tie.Need-get-requires Inv-loop μ-loop
-get-requires c κs = search needs
-
-or-requires : tie.Need-or-requires Inv-loop μ-loop
-or-requires c κs = search needs
-
-add-k-2 : tie.Need-add-k-2 Inv-loop μ-loop
-add-k-2 c = search needs
-
-loop-less : tie.Need-loop-less Inv-loop μ-loop
-loop-less c = search needs
 
 loop-again : tie.Need-loop-again Inv-loop μ-loop
 loop-again c = (search needs, search needs, λ t n o. between-more t n _ _ o (c .before .before .before .loop .inv .0) (omega (arith, c .before .before .loop-test .taken)) (c .before .before .before .loop .inv .2 t n o) (c .before .get .ensures) (c .or .ensures))
@@ -42,4 +24,5 @@ returns : tie.Need-returns Inv-loop μ-loop
 returns c = λ t n o. between-all t n _ _ o (omega (arith, c .loop-test .left)) (c .before .loop .inv .2 t n o)
 
 pub broader-spec : {M : Type 1} → statement M
-broader-spec = tie.close (tie.spec Inv-loop μ-loop none-requires add-k loop-holds get-requires or-requires add-k-2 loop-less loop-again returns)
+broader-spec = tie.close (tie.spec Inv-loop μ-loop (λ c κs. search needs) (λ c. search needs) loop-holds (λ c κs. search needs) (λ c κs. search needs)
+    (λ c. search needs) (λ c. search needs) loop-again returns)

@@ -14,15 +14,6 @@ use Rattle.sets_chains.specs.Availability.{Making, make-begin, make-turn
 use borrow.Author.Needs.{needs}
 use Rattle.sets_chains.proofs.fill_availability.Statement.{statement}
 use Rattle.sets_chains.proofs.fill_availability.Tie as tie
-use Rattle.sets_chains.proofs.fill_availability.Reads as reads
-use Rattle.sets_chains.proofs.fill_availability.Lts as lts
-use Rattle.known.proofs.rows.Reads as rows-reads
-use Rattle.row_sets.proofs.but_first.Reads as but-first-reads
-use Rattle.row_sets.proofs.first.Reads as first-reads
-use Rattle.row_sets.proofs.some.Reads as some-reads
-use Rattle.run.proofs.chains.Reads as chains-reads
-use Rattle.sets_chains.proofs.make.Reads as make-reads
-use Rattle.sets_chains.proofs.prepare.Reads as prepare-reads
 
 abbrev Inv-loop : tie.InvT-loop
 Inv-loop t n s w₀ chains left₀ w left = Making (tableIn t n) n chains s left₀ w₀ left w
@@ -30,36 +21,22 @@ Inv-loop t n s w₀ chains left₀ w left = Making (tableIn t n) n chains s left
 abbrev μ-loop : tie.MeasureT-loop
 μ-loop t n s w₀ chains left₀ w left = ROWS - next left
 
--- src/lib.rt:196:9
-chains-requires : tie.Need-chains-requires Inv-loop μ-loop
-chains-requires c κs = search needs
-
--- src/lib.rt:197:5
 prepare-requires : tie.Need-prepare-requires Inv-loop μ-loop
 unfolding decode
 prepare-requires c κs = let pre = c .before .before .before .before .pre in (c .before .chains .ensures, pre .0, pre .1)
 
--- src/lib.rt:198:9
 rows-requires : tie.Need-rows-requires Inv-loop μ-loop
 rows-requires c κs = let a = c .before .before .before .before .before .before .before .pre .0 .opened .space in omega arith
 
--- src/lib.rt:199:5
 loop-holds : tie.Need-loop-holds Inv-loop μ-loop
 loop-holds c = make-begin _ (c .before .before .before .prepare .ensures .ready)
 
--- src/lib.rt:199:11
-some-requires : tie.Need-some-requires Inv-loop μ-loop
-some-requires c κs = search needs
-
--- src/lib.rt:200:13
 first-requires : tie.Need-first-requires Inv-loop μ-loop
 first-requires c κs = sym (c .before .some .ensures) ∙ c .if1 .taken
 
--- src/lib.rt:201:9
 but-first-requires : tie.Need-but-first-requires Inv-loop μ-loop
 but-first-requires c κs = sym (c .before .before .some .ensures) ∙ c .before .if1 .taken
 
--- src/lib.rt:202:9
 make-requires : tie.Need-make-requires Inv-loop μ-loop
 unfolding decode makes
 make-requires c κs =
@@ -69,19 +46,15 @@ make-requires c κs =
     let m = member-in _ rows (walk-in (inv .walk) (c .before .before .first .ensures)) in
     (m .0, m .1, c .before .before .before .before .before .before .before .before .before .before .before .chains .ensures, inv .ready)
 
--- src/lib.rt:199:5
 loop-less : tie.Need-loop-less Inv-loop μ-loop
 loop-less c = walk-less (c .before .before .before .before .before .first .ensures) (c .before .before .before .before .but-first .ensures)
 
--- src/lib.rt:199:5
 loop-again : tie.Need-loop-again Inv-loop μ-loop
 loop-again c = make-turn (c .before .before .before .before .before .before .before .before .loop .inv) (c .before .before .before .before .before .first .ensures) (c .before .before .before .before .but-first .ensures) (c .before .before .make .ensures)
 
--- src/lib.rt:192:1
 same-length : tie.Need-same-length Inv-loop μ-loop
 same-length c = c .before .before .loop .inv .frame .len ∙ c .before .before .before .before .before .before .prepare .ensures .frame .len
 
--- src/lib.rt:192:1
 returns : tie.Need-returns Inv-loop μ-loop
 unfolding makes
 returns c =
@@ -92,18 +65,5 @@ returns c =
 pub fill-availability-spec : {M : Type 1} → statement M
 fill-availability-spec =
     tie.close
-    (tie.spec
-    Inv-loop
-    μ-loop
-    chains-requires
-    prepare-requires
-    rows-requires
-    loop-holds
-    some-requires
-    first-requires
-    but-first-requires
-    make-requires
-    loop-less
-    loop-again
-    same-length
-    returns)
+    (tie.spec Inv-loop μ-loop (λ c κs. search needs) prepare-requires rows-requires loop-holds (λ c κs. search needs) first-requires
+    but-first-requires make-requires loop-less loop-again same-length returns)

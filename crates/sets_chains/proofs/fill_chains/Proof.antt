@@ -18,23 +18,11 @@ abbrev μ-loop : tie.MeasureT-loop
 loop-holds : tie.Need-loop-holds Inv-loop μ-loop
 loop-holds c = (omega arith, refl, chains-begin (c .before .before .pre .0 .opened) (c .before .before .pre .1))
 
-sub-chain-out : tie.Need-sub-chain-out Inv-loop μ-loop
-sub-chain-out c = search needs
-
 chain-out-requires : tie.Need-chain-out-requires Inv-loop μ-loop
 chain-out-requires c κs = (omega arith, given-kept (c .before .before .loop .inv .2 .frame) (c .before .before .before .before .before .pre .0), chains-out (c .before .before .before .before .before .pre .0 .opened) (c .before .loop-test .taken) (c .before .before .loop .inv .2))
 
-add-chain-in : tie.Need-add-chain-in Inv-loop μ-loop
-add-chain-in c = search needs
-
 chain-in-requires : tie.Need-chain-in-requires Inv-loop μ-loop
 chain-in-requires c κs = (omega (arith, c .before .before .before .before .before .loop-test .taken), given-kept (c .before .before .before .chain-out .ensures .frame) (given-kept (c .before .before .before .before .before .before .loop .inv .2 .frame) (c .before .before .before .before .before .before .before .before .before .pre .0)), chains-in (c .before .before .before .before .before .before .before .before .before .pre .0 .opened) (c .before .before .before .before .before .before .loop .inv .2) (c .before .before .before .chain-out .ensures))
-
-add-k : tie.Need-add-k Inv-loop μ-loop
-add-k c = search needs
-
-loop-less : tie.Need-loop-less Inv-loop μ-loop
-loop-less c = search needs
 
 loop-again : tie.Need-loop-again Inv-loop μ-loop
 loop-again c = (omega (arith, c .before .before .before .before .before .before .before .before .loop-test .taken), c .before .before .chain-in .ensures .frame .len ∙ c .before .before .before .before .before .before .chain-out .ensures .frame .len ∙ c .before .before .before .before .before .before .before .before .before .loop .inv .1, chains-turn (c .before .before .before .before .before .before .before .before .before .before .before .before .pre .0 .opened) (c .before .before .before .before .before .before .before .before .loop-test .taken) (c .before .before .before .before .before .before .before .before .before .loop .inv .2) (c .before .before .before .before .before .before .chain-out .ensures) (c .before .before .chain-in .ensures))
@@ -46,4 +34,5 @@ returns : tie.Need-returns Inv-loop μ-loop
 returns c = chains-end (c .before .before .before .before .pre .0 .opened) (omega (arith, c .loop-test .left)) (c .before .loop .inv .0) (c .before .loop .inv .2)
 
 pub fill-chains-spec : {M : Type 1} → statement M
-fill-chains-spec = tie.close (tie.spec Inv-loop μ-loop loop-holds sub-chain-out chain-out-requires add-chain-in chain-in-requires add-k loop-less loop-again same-length returns)
+fill-chains-spec = tie.close (tie.spec Inv-loop μ-loop loop-holds (λ c. search needs) chain-out-requires (λ c. search needs) chain-in-requires (λ c. search needs)
+    (λ c. search needs) loop-again same-length returns)

@@ -13,20 +13,11 @@ reach-requires c κs = (c .before .before .pre .0, c .before .before .pre .3 .op
 hears-requires : tie.Need-hears-requires
 hears-requires c κs = (c .before .before .before .pre .0, c .before .before .before .pre .3 .opened)
 
-and-requires : tie.Need-and-requires
-and-requires c κs = search needs
-
 get-requires : tie.Need-get-requires
 get-requires c κs = omega (arith, c .before .before .before .before .before .before .pre .0, given-few (c .before .before .before .before .before .before .pre .3), c .before .before .before .before .before .before .pre .3 .room)
 
-and-requires-2 : tie.Need-and-requires-2
-and-requires-2 c κs = search needs
-
 get-requires-2 : tie.Need-get-requires-2
 get-requires-2 c κs = omega (arith, c .before .before .before .before .before .before .before .before .before .pre .0, given-few (c .before .before .before .before .before .before .before .before .before .pre .3), c .before .before .before .before .before .before .before .before .before .pre .3 .room)
-
-and-requires-3 : tie.Need-and-requires-3
-and-requires-3 c κs = search needs
 
 put-requires : tie.Need-put-requires
 put-requires c κs = omega (arith, c .before .before .before .before .before .before .before .before .before .before .before .before .pre .0, given-few (c .before .before .before .before .before .before .before .before .before .before .before .before .pre .3), c .before .before .before .before .before .before .before .before .before .before .before .before .pre .3 .room)
@@ -47,4 +38,5 @@ returns c =
     (c .before .before .before .before .before .before .put .ensures) (c .before .before .put2 .ensures)
 
 pub make-available-spec : {M : Type 1} → statement M
-make-available-spec = tie.close (tie.spec reach-requires hears-requires and-requires get-requires and-requires-2 get-requires-2 and-requires-3 put-requires put-requires-2 same-length returns)
+make-available-spec = tie.close (tie.spec reach-requires hears-requires (λ c κs. search needs) get-requires (λ c κs. search needs) get-requires-2 (λ c κs. search needs)
+    put-requires put-requires-2 same-length returns)

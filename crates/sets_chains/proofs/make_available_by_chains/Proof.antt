@@ -24,29 +24,14 @@ get-requires c κs = omega (arith, c .before .before .before .pre .0, given-few 
 bit-requires : tie.Need-bit-requires Inv-loop μ-loop
 bit-requires c κs = omega (arith, c .before .before .before .before .pre .0, given-few (c .before .before .before .before .pre .3))
 
-or-requires : tie.Need-or-requires Inv-loop μ-loop
-or-requires c κs = search needs
-
 available-to-requires : tie.Need-available-to-requires Inv-loop μ-loop
 available-to-requires c κs = (c .before .before .before .before .before .before .before .pre .0, c .before .before .before .before .before .before .before .pre .3, c .before .before .before .before .before .before .before .pre .4, (chain-rows _ _ _ _ (c .before .before .before .before .before .before .before .pre .2) (c .before .before .before .before .before .before .before .pre .0) (rows-at (c .before .before .before .get .ensures) (c .before .before .before .before .before .before .before .pre .5 .outs .row _ (c .before .before .before .before .before .before .before .pre .0) (c .before .before .before .before .before .before .before .pre .1))) (c .before .before .bit .ensures) (c .before .or .ensures)))
-
-none-requires : tie.Need-none-requires Inv-loop μ-loop
-none-requires c κs = search needs
 
 loop-holds : tie.Need-loop-holds Inv-loop μ-loop
 loop-holds c = (omega arith, omega arith, wide-none _ _ _ (c .none .ensures))
 
 visible-by-requires : tie.Need-visible-by-requires Inv-loop μ-loop
 visible-by-requires c κs = (c .before .before .before .before .before .before .before .before .before .before .before .before .pre .0, omega (arith, c .before .loop-test .taken), c .before .before .before .before .before .before .before .before .before .before .before .before .pre .3, c .before .before .before .before .before .before .before .before .before .before .before .before .pre .4, c .before .before .before .before .before .before .before .before .before .before .before .before .pre .5 .ins, (chain-rows _ _ _ _ (c .before .before .before .before .before .before .before .before .before .before .before .before .pre .2) (c .before .before .before .before .before .before .before .before .before .before .before .before .pre .0) (rows-at (c .before .before .before .before .before .before .before .before .get .ensures) (c .before .before .before .before .before .before .before .before .before .before .before .before .pre .5 .outs .row _ (c .before .before .before .before .before .before .before .before .before .before .before .before .pre .0) (c .before .before .before .before .before .before .before .before .before .before .before .before .pre .1))) (c .before .before .before .before .before .before .before .bit .ensures) (c .before .before .before .before .before .before .or .ensures)))
-
-or-requires-2 : tie.Need-or-requires-2 Inv-loop μ-loop
-or-requires-2 c κs = search needs
-
-add-q : tie.Need-add-q Inv-loop μ-loop
-add-q c = search needs
-
-loop-less : tie.Need-loop-less Inv-loop μ-loop
-loop-less c = search needs
 
 loop-again : tie.Need-loop-again Inv-loop μ-loop
 loop-again c = (omega (arith, c .before .before .before .before .loop .inv .0), omega (arith, c .before .before .before .loop-test .taken), wide-more _ _ _ _ (c .before .before .before .before .loop .inv .0) (c .before .before .before .before .loop .inv .2) (c .before .visible-by .ensures) (c .or2 .ensures))
@@ -68,4 +53,6 @@ returns c =
     (c .before .before .before .before .before .before .put .ensures) (c .before .before .put2 .ensures)
 
 pub make-available-by-chains-spec : {M : Type 1} → statement M
-make-available-by-chains-spec = tie.close (tie.spec Inv-loop μ-loop get-requires bit-requires or-requires available-to-requires none-requires loop-holds visible-by-requires or-requires-2 add-q loop-less loop-again put-requires put-requires-2 same-length returns)
+make-available-by-chains-spec = tie.close (tie.spec Inv-loop μ-loop get-requires bit-requires (λ c κs. search needs) available-to-requires (λ c κs. search needs) loop-holds
+    visible-by-requires (λ c κs. search needs) (λ c. search needs) (λ c. search needs) loop-again put-requires put-requires-2 same-length
+    returns)

@@ -13,32 +13,15 @@ get-requires c κs = omega (arith, c .before .before .before .pre .1, c .before 
 broader-requires : tie.Need-broader-requires
 broader-requires c κs = (c .before .before .before .before .pre .1, c .before .before .before .before .pre .2 .opened .space)
 
-or-requires : tie.Need-or-requires
-or-requires c κs = search needs
-
-and-requires : tie.Need-and-requires
-and-requires c κs = search needs
-
-and-requires-2 : tie.Need-and-requires-2
-and-requires-2 c κs = search needs
-
 union-requires : tie.Need-union-requires
 union-requires c κs = omega (arith, c .before .before .before .before .before .before .before .before .pre .2 .room)
 
-and-requires-3 : tie.Need-and-requires-3
-and-requires-3 c κs = search needs
-
 union-requires-2 : tie.Need-union-requires-2
 union-requires-2 c κs = omega (arith, c .before .before .before .before .before .before .before .before .before .before .pre .2 .room)
-
-or-requires-2 : tie.Need-or-requires-2
-or-requires-2 c κs = search needs
-
-and-requires-4 : tie.Need-and-requires-4
-and-requires-4 c κs = search needs
 
 returns : tie.Need-returns
 returns c = wide-rows (c .before .before .before .before .before .before .before .before .before .before .before .before .before .pre .2 .opened) _ _ _ _ _ _ _ _ _ _ _ _ _ _ (omega (arith, c .before .before .before .before .before .before .before .before .before .before .before .before .before .pre .1)) (c .before .before .before .before .before .before .before .before .before .before .before .before .before .pre .3) (c .before .before .before .before .before .before .before .before .before .before .before .before .before .pre .4) (c .before .before .before .before .before .before .before .before .before .before .before .before .before .pre .5) (c .before .before .before .before .before .before .before .before .before .before .sharing .ensures) (c .before .before .before .before .before .before .before .before .before .get .ensures) (c .before .before .before .before .before .before .before .before .broader .ensures _ _ (c .before .before .before .before .before .before .before .before .before .before .before .before .before .pre .2 .opened)) (c .before .before .before .before .before .before .before .or .ensures) (c .before .before .before .before .before .before .and .ensures) (c .before .before .before .before .before .and2 .ensures) (c .before .before .before .before .union .ensures) (c .before .before .before .and3 .ensures) (c .before .before .union2 .ensures) (c .before .or2 .ensures) (c .and4 .ensures)
 
 pub visible-by-spec : {M : Type 1} → statement M
-visible-by-spec = tie.close (tie.spec sharing-requires get-requires broader-requires or-requires and-requires and-requires-2 union-requires and-requires-3 union-requires-2 or-requires-2 and-requires-4 returns)
+visible-by-spec = tie.close (tie.spec sharing-requires get-requires broader-requires (λ c κs. search needs) (λ c κs. search needs) (λ c κs. search needs)
+    union-requires (λ c κs. search needs) union-requires-2 (λ c κs. search needs) (λ c κs. search needs) returns)

@@ -3,31 +3,19 @@ use Rattle.sets_engine.specs.Engine.{given-of, judging}
 use borrow.Author.Needs.{needs}
 use Rattle.sets_engine.proofs.locate.Statement.{statement}
 use Rattle.sets_engine.proofs.locate.Tie as tie
-use Rattle.sets_engine.proofs.locate.Reads as reads
-use Rattle.sets_engine.proofs.locate.Lts as lts
-use Rattle.known.proofs.prepare.Reads as prepare-reads
-use Rattle.sets_engine.proofs.order.Reads as order-reads
 use Rattle.sets_engine.proofs.prepare.Reads as prepare-reads′
-use Rattle.sets_location.proofs.fill_location.Reads as fill-location-reads
 
--- src/lib.rt:36:5
-prepare-requires : tie.Need-prepare-requires
-prepare-requires c κs = search needs
-
--- src/lib.rt:37:5
 order-requires : tie.Need-order-requires
 order-requires c κs =
     let pre = c .before .before .before .before .before .before .before .before .pre in
     (pre .0, given-of (pre .0) (c .before .before .before .before .prepare .ensures) (pre .1) (pre .2))
 
--- src/lib.rt:38:5
 prepare-requires-2 : tie.Need-prepare-requires-2
 prepare-requires-2 c κs =
     let pre = c .before .before .before .before .before .before .before .before .before .before .before .before .before .pre in
     let made = c .before .before .before .before .order .ensures in
     (given-kept (made .frame) (given-of (pre .0) (c .before .before .before .before .before .before .before .before .before .prepare .ensures) (pre .1) (pre .2)), made .ordered)
 
--- src/lib.rt:39:5
 fill-location-requires : tie.Need-fill-location-requires
 fill-location-requires c κs =
     let pre = c .before .before .before .before .before .before .before .before .before .before .before .before .before .before .before .before .before .before .pre in
@@ -35,15 +23,6 @@ fill-location-requires c κs =
     let given = given-of (pre .0) (c .before .before .before .before .before .before .before .before .before .before .before .before .before .before .prepare .ensures) (pre .1) (pre .2) in
     (given-kept (made .frame) (given-kept (c .before .before .before .before .before .before .before .before .before .order .ensures .frame) given), made .placing .locating)
 
--- src/lib.rt:32:1
-same-length : tie.Need-same-length
-same-length c = search needs
-
--- src/lib.rt:32:1
-same-length-2 : tie.Need-same-length-2
-same-length-2 c = search needs
-
--- src/lib.rt:32:1
 returns : tie.Need-returns
 returns c =
     let pre = c .before .before .before .before .before .before .before .before .before .before .before .before .before .before .before .before .before .before .before .before .before .pre in
@@ -53,11 +32,5 @@ returns c =
 pub locate-spec : {M : Type 1} → statement M
 locate-spec =
     tie.close
-    (tie.spec
-    prepare-requires
-    order-requires
-    prepare-requires-2
-    fill-location-requires
-    same-length
-    same-length-2
+    (tie.spec (λ c κs. search needs) order-requires prepare-requires-2 fill-location-requires (λ c. search needs) (λ c. search needs)
     returns)

@@ -69,12 +69,6 @@ join-requires-2 : tie.Need-join-requires-2 Inv-loop μ-loop
 unfolding decode
 join-requires-2 c κs = omega (arith, c .before .before .before .before .before .before .before .before .before .before .before .before .agent .ensures, c .before .before .before .before .before .before .before .before .before .before .before .before .before .before .before .pre .2 .coded _ (c .before .before .before .before .before .before .before .before .before .before .before .before .before .before .before .pre .0) .agent, c .before .before .before .before .before .before .before .loop-test .taken, c .before .before .before .before .before .before .before .before .loop .inv .1, c .before .before .before .before .before .before .before .before .before .before .before .before .before .before .before .pre .5, c .before .before .before .join .ensures .frame .len)
 
-add-q : tie.Need-add-q Inv-loop μ-loop
-add-q c = search needs
-
-loop-less : tie.Need-loop-less Inv-loop μ-loop
-loop-less c = search needs
-
 loop-again : tie.Need-loop-again Inv-loop μ-loop
 unfolding decode
 loop-again c =
@@ -104,24 +98,5 @@ returns c =
 pub carry-back-spec : {M : Type 1} → statement M
 carry-back-spec =
     tie.close
-    (tie.spec
-    Inv-loop
-    μ-loop
-    agent-requires
-    classes-requires
-    get-requires
-    get-requires-2
-    loop-holds
-    holds-class-requires
-    mul-join
-    add-join
-    join-requires
-    mul-join-2
-    add-join-2
-    add-join-3
-    join-requires-2
-    add-q
-    loop-less
-    loop-again
-    same-length
-    returns)
+    (tie.spec Inv-loop μ-loop agent-requires classes-requires get-requires get-requires-2 loop-holds holds-class-requires mul-join add-join
+    join-requires mul-join-2 add-join-2 add-join-3 join-requires-2 (λ c. search needs) (λ c. search needs) loop-again same-length returns)

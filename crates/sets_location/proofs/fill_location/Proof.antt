@@ -32,16 +32,10 @@ rows-requires-2 c κs = let r = c .before .before .before .before .before .befor
 rows-requires-3 : tie.Need-rows-requires-3 Inv-loop μ-loop
 rows-requires-3 c κs = let r = c .before .before .before .before .before .before .before .before .before .before .before .before .pre .0 .opened .space in omega (arith, r)
 
-less-requires : tie.Need-less-requires Inv-loop μ-loop
-less-requires c κs = search needs
-
 loop-holds : tie.Need-loop-holds Inv-loop μ-loop
 loop-holds c =
     let made = carried-none (c .before .before .before .before .before .before .before .before .before .before .before .before .before .before .pre .0 .opened) refl in
     (omega arith, filled-begin (c .before .before .before .before .before .before .before .before .before .before .before .before .before .before .pre .0) (c .before .before .before .before .before .before .before .before .before .before .before .before .before .before .pre .1) (c .before .before .before .before .before .before .before .before .before .before .clear .ensures) (c .before .before .before .before .before .before .clear2 .ensures) .1, made .0, made .1)
-
-sub-x : tie.Need-sub-x Inv-loop μ-loop
-sub-x c = search needs
 
 has-requires : tie.Need-has-requires Inv-loop μ-loop
 has-requires c κs = let b = few (c .before .before .before .before .before .before .before .before .before .before .before .before .before .before .before .before .pre .0 .opened) in omega (arith, c .before .loop .inv .0, c .loop-test .taken, b)
@@ -109,26 +103,6 @@ returns c =
 pub fill-location-spec : {M : Type 1} → statement M
 fill-location-spec =
     tie.close
-    (tie.spec
-    Inv-loop
-    μ-loop
-    clear-requires
-    clear-requires-2
-    rows-requires
-    rows-requires-2
-    rows-requires-3
-    less-requires
-    loop-holds
-    sub-x
-    has-requires
-    slice-aggregate-place-row
-    place-row-requires
-    has-requires-2
-    slice-aggregate-carry-back
-    carry-back-requires
-    loop-less
-    loop-again
-    loop-less-2
-    loop-again-2
-    same-length
-    returns)
+    (tie.spec Inv-loop μ-loop clear-requires clear-requires-2 rows-requires rows-requires-2 rows-requires-3 (λ c κs. search needs)
+    loop-holds (λ c. search needs) has-requires slice-aggregate-place-row place-row-requires has-requires-2 slice-aggregate-carry-back
+    carry-back-requires loop-less loop-again loop-less-2 loop-again-2 same-length returns)

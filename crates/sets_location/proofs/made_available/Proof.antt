@@ -44,17 +44,11 @@ get-requires-2 : tie.Need-get-requires-2 Inv-loop μ-loop
 unfolding decode
 get-requires-2 c κs = omega (arith, c .before .before .before .before .before .before .pre .4, agent-code (c .before .before .before .before .before .before .pre .2 .opened) (c .before .before .before .before .before .before .pre .0) (c .before .before .agent .ensures), class-code (c .before .before .before .before .before .before .pre .2 .opened) (c .before .before .before .before .before .before .pre .0) (c .before .before .before .before .before .before .pre .1) (c .before .class .ensures))
 
-none-requires : tie.Need-none-requires Inv-loop μ-loop
-none-requires c κs = search needs
-
 plain-available-requires : tie.Need-plain-available-requires Inv-loop μ-loop
 plain-available-requires c κs = (c .before .before .before .before .before .before .before .before .pre .0, c .before .before .before .before .before .before .before .before .pre .1, c .before .before .before .before .before .before .before .before .pre .2, c .before .before .before .before .before .before .before .before .pre .3)
 
 loop-holds : tie.Need-loop-holds Inv-loop μ-loop
 loop-holds c = grasp-begin _ _ _ _ _ _ _
-
-some-requires : tie.Need-some-requires Inv-loop μ-loop
-some-requires c κs = search needs
 
 first-requires : tie.Need-first-requires Inv-loop μ-loop
 first-requires c κs = sym (c .before .some .ensures) ∙ c .if1 .taken
@@ -68,14 +62,8 @@ covers-requires c κs = let b = few (c .before .before .before .before .before .
 get-requires-3 : tie.Need-get-requires-3 Inv-loop μ-loop
 get-requires-3 c κs = omega (arith, c .before .before .before .first .ensures .bound, c .before .before .before .before .before .before .before .before .before .before .before .before .before .before .before .before .pre .2 .room)
 
-or-requires : tie.Need-or-requires Inv-loop μ-loop
-or-requires c κs = search needs
-
 get-requires-4 : tie.Need-get-requires-4 Inv-loop μ-loop
 get-requires-4 c κs = omega (arith, c .before .before .before .before .before .first .ensures .bound, c .before .before .before .before .before .before .before .before .before .before .before .before .before .before .before .before .before .before .pre .2 .room)
-
-or-requires-2 : tie.Need-or-requires-2 Inv-loop μ-loop
-or-requires-2 c κs = search needs
 
 loop-less : tie.Need-loop-less Inv-loop μ-loop
 loop-less c = walk-less (c .before .before .before .before .before .before .before .first .ensures) (c .before .before .before .before .before .before .but-first .ensures)
@@ -86,9 +74,6 @@ loop-again c = grasp-whole _ _ _ _ _ _ _ (c .before .before .before .before .bef
 
 bit-requires : tie.Need-bit-requires Inv-loop μ-loop
 bit-requires c κs = c .before .before .before .first .ensures .bound
-
-or-requires-3 : tie.Need-or-requires-3 Inv-loop μ-loop
-or-requires-3 c κs = search needs
 
 loop-less-2 : tie.Need-loop-less-2 Inv-loop μ-loop
 loop-less-2 c = walk-less (c .before .before .before .before .before .first .ensures) (c .before .before .before .before .but-first .ensures)
@@ -104,31 +89,7 @@ returns c = grasp-end (c .before .before .before .before .before .before .before
 pub made-available-spec : {M : Type 1} → statement M
 made-available-spec =
     tie.close
-    (tie.spec
-    Inv-loop
-    μ-loop
-    agent-requires
-    mul-k
-    class-requires
-    add-k
-    get-requires
-    add-get
-    get-requires-2
-    none-requires
-    plain-available-requires
-    loop-holds
-    some-requires
-    first-requires
-    but-first-requires
-    covers-requires
-    get-requires-3
-    or-requires
-    get-requires-4
-    or-requires-2
-    loop-less
-    loop-again
-    bit-requires
-    or-requires-3
-    loop-less-2
-    loop-again-2
-    returns)
+    (tie.spec Inv-loop μ-loop agent-requires mul-k class-requires add-k get-requires add-get get-requires-2 (λ c κs. search needs)
+    plain-available-requires loop-holds (λ c κs. search needs) first-requires but-first-requires covers-requires get-requires-3
+    (λ c κs. search needs) get-requires-4 (λ c κs. search needs) loop-less loop-again bit-requires (λ c κs. search needs) loop-less-2
+    loop-again-2 returns)

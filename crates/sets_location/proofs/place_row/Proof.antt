@@ -20,9 +20,6 @@ rows-requires c κs = let r = c .before .before .before .before .before .before 
 rows-requires-2 : tie.Need-rows-requires-2
 rows-requires-2 c κs = let r = c .before .before .before .before .before .before .before .before .before .pre .2 .opened .space in omega (arith, r)
 
-and-requires : tie.Need-and-requires
-and-requires c κs = search needs
-
 has-requires : tie.Need-has-requires
 has-requires c κs = let b = few (c .before .before .before .before .before .before .before .before .before .before .before .pre .2 .opened) in omega (arith, c .before .before .before .before .before .before .before .before .before .before .before .pre .0, b)
 
@@ -37,9 +34,6 @@ same-length c = c .before .before .place-write .ensures .frame .len
 
 returns : tie.Need-returns
 returns c = c .before .before .place-write .ensures
-
-and-requires-2 : tie.Need-and-requires-2
-and-requires-2 c κs = search needs
 
 put-whole-requires : tie.Need-put-whole-requires
 put-whole-requires c κs =
@@ -62,18 +56,5 @@ returns-2 c =
 pub place-row-spec : {M : Type 1} → statement M
 place-row-spec =
     tie.close
-    (tie.spec
-    ordered-after-requires
-    get-requires
-    drop-requires
-    rows-requires
-    rows-requires-2
-    and-requires
-    has-requires
-    place-write-requires
-    same-length
-    returns
-    and-requires-2
-    put-whole-requires
-    same-length-2
-    returns-2)
+    (tie.spec ordered-after-requires get-requires drop-requires rows-requires rows-requires-2 (λ c κs. search needs) has-requires
+    place-write-requires same-length returns (λ c κs. search needs) put-whole-requires same-length-2 returns-2)

@@ -13,26 +13,11 @@ get-requires c κs = let b = few (c .before .before .before .pre .1 .opened) in 
 rows-requires : tie.Need-rows-requires
 rows-requires c κs = let r = c .before .before .before .before .pre .1 .opened .space in omega (arith, r)
 
-and-requires : tie.Need-and-requires
-and-requires c κs = search needs
-
-and-requires-2 : tie.Need-and-requires-2
-and-requires-2 c κs = search needs
-
 made-available-requires : tie.Need-made-available-requires
 made-available-requires c κs = (c .before .before .before .before .before .before .before .before .pre .0, write-access (c .before .before .before .before .before .before .before .before .pre .5), c .before .before .before .before .before .before .before .before .pre .1, c .before .before .before .before .before .before .before .before .pre .2, c .before .before .before .before .before .before .before .before .pre .3, c .before .before .before .before .before .before .before .before .pre .4)
 
 met-whole-requires : tie.Need-met-whole-requires
 met-whole-requires c κs = (c .before .before .before .before .before .before .before .before .before .pre .0, write-access (c .before .before .before .before .before .before .before .before .before .pre .5), c .before .before .before .before .before .before .before .before .before .pre .1 .opened, c .made-available .ensures)
-
-and-requires-3 : tie.Need-and-requires-3
-and-requires-3 c κs = search needs
-
-or-requires : tie.Need-or-requires
-or-requires c κs = search needs
-
-and-requires-4 : tie.Need-and-requires-4
-and-requires-4 c κs = search needs
 
 put-whole-requires : tie.Need-put-whole-requires
 put-whole-requires c κs =
@@ -44,12 +29,6 @@ maybe-met-requires c κs =
     let pre = c .before .before .before .before .before .before .before .before .before .before .before .before .before .before .before .before .before .before .pre in
     let frame = c .before .before .before .put-whole .ensures .frame in
     (pre .0, write-access (pre .5), given-kept frame (pre .1), locating-kept (few (pre .1 .opened)) frame (pre .2), c .before .before .before .before .before .before .before .before .before .made-available .ensures)
-
-and-requires-5 : tie.Need-and-requires-5
-and-requires-5 c κs = search needs
-
-less-requires : tie.Need-less-requires
-less-requires c κs = search needs
 
 put-parts-requires : tie.Need-put-parts-requires
 put-parts-requires c κs =
@@ -70,20 +49,6 @@ returns c =
 pub place-write-spec : {M : Type 1} → statement M
 place-write-spec =
     tie.close
-    (tie.spec
-    get-requires
-    rows-requires
-    and-requires
-    and-requires-2
-    made-available-requires
-    met-whole-requires
-    and-requires-3
-    or-requires
-    and-requires-4
-    put-whole-requires
-    maybe-met-requires
-    and-requires-5
-    less-requires
-    put-parts-requires
-    same-length
-    returns)
+    (tie.spec get-requires rows-requires (λ c κs. search needs) (λ c κs. search needs) made-available-requires met-whole-requires
+    (λ c κs. search needs) (λ c κs. search needs) (λ c κs. search needs) put-whole-requires maybe-met-requires (λ c κs. search needs)
+    (λ c κs. search needs) put-parts-requires same-length returns)

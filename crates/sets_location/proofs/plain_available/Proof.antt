@@ -11,29 +11,18 @@ rows-requires c κs = let r = c .before .before .pre .2 .opened .space in omega 
 rows-requires-2 : tie.Need-rows-requires-2
 rows-requires-2 c κs = let r = c .before .before .before .pre .2 .opened .space in omega (arith, r)
 
-and-requires : tie.Need-and-requires
-and-requires c κs = search needs
-
 get-requires : tie.Need-get-requires
 get-requires c κs = let b = few (c .before .before .before .before .before .pre .2 .opened) in let r = c .before .before .before .before .before .pre .2 .opened .space in omega (arith, c .before .before .before .before .before .pre .0, b, r)
 
 get-requires-2 : tie.Need-get-requires-2
 get-requires-2 c κs = let b = few (c .before .before .before .before .before .before .pre .2 .opened) in let r = c .before .before .before .before .before .before .pre .2 .room in omega (arith, c .before .before .before .before .before .before .pre .0, b, r)
 
-and-requires-2 : tie.Need-and-requires-2
-and-requires-2 c κs = search needs
-
-and-requires-3 : tie.Need-and-requires-3
-and-requires-3 c κs = search needs
-
 onward-requires : tie.Need-onward-requires
 onward-requires c κs = (c .before .before .before .before .before .before .before .before .before .pre .0, c .before .before .before .before .before .before .before .before .before .pre .2 .opened)
-
-and-requires-4 : tie.Need-and-requires-4
-and-requires-4 c κs = search needs
 
 returns : tie.Need-returns
 returns c = first-set (c .before .before .before .before .before .before .before .before .before .before .before .pre .2 .opened) (c .before .before .before .before .before .before .before .before .before .before .before .pre .3) _ (c .before .before .before .before .before .before .before .before .before .before .before .pre .0) (c .before .before .before .before .before .before .before .before .before .before .before .pre .1) _ _ _ _ _ _ _ _ _ (c .before .before .before .before .before .before .before .before .rows .ensures) (c .before .before .before .before .before .before .before .rows2 .ensures) (c .before .before .before .before .before .before .and .ensures) (c .before .before .before .before .before .get .ensures) (c .before .before .before .before .get2 .ensures) (c .before .before .before .and2 .ensures) (c .before .before .and3 .ensures) (c .before .onward .ensures) (c .and4 .ensures)
 
 pub plain-available-spec : {M : Type 1} → statement M
-plain-available-spec = tie.close (tie.spec rows-requires rows-requires-2 and-requires get-requires get-requires-2 and-requires-2 and-requires-3 onward-requires and-requires-4 returns)
+plain-available-spec = tie.close (tie.spec rows-requires rows-requires-2 (λ c κs. search needs) get-requires get-requires-2 (λ c κs. search needs) (λ c κs. search needs)
+    onward-requires (λ c κs. search needs) returns)

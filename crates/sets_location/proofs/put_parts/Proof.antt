@@ -21,9 +21,6 @@ abbrev μ-loop : tie.MeasureT-loop
 loop-holds : tie.Need-loop-holds Inv-loop μ-loop
 loop-holds c = adds-begin _ _ (given-few (c .before .before .pre .2)) (c .before .before .pre .5 .low) (parts-off _ _ _) _
 
-some-requires : tie.Need-some-requires Inv-loop μ-loop
-some-requires c κs = search needs
-
 first-requires : tie.Need-first-requires Inv-loop μ-loop
 first-requires c κs = sym (c .before .some .ensures) ∙ c .if1 .taken
 
@@ -63,20 +60,5 @@ returns c = adds-end _ _ (given-few (c .before .before .before .before .before .
 pub put-parts-spec : {M : Type 1} → statement M
 put-parts-spec =
     tie.close
-    (tie.spec
-    Inv-loop
-    μ-loop
-    loop-holds
-    some-requires
-    first-requires
-    but-first-requires
-    shared-requires
-    bytes-met-requires
-    add-requires
-    put-bit-requires
-    loop-less
-    loop-again
-    loop-less-2
-    loop-again-2
-    same-length
-    returns)
+    (tie.spec Inv-loop μ-loop loop-holds (λ c κs. search needs) first-requires but-first-requires shared-requires bytes-met-requires
+    add-requires put-bit-requires loop-less loop-again loop-less-2 loop-again-2 same-length returns)

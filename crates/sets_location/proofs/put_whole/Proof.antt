@@ -24,9 +24,6 @@ put-requires c κs = let r = c .before .before .pre .2 in let b = c .before .bef
 loop-holds : tie.Need-loop-holds Inv-loop μ-loop
 loop-holds c = pairs-begin _ _ (c .before .before .before .before .before .pre .1) (c .before .before .before .before .before .pre .4 .low) (whole-off _ _ _) _
 
-some-requires : tie.Need-some-requires Inv-loop μ-loop
-some-requires c κs = search needs
-
 first-requires : tie.Need-first-requires Inv-loop μ-loop
 first-requires c κs = sym (c .before .some .ensures) ∙ c .if1 .taken
 
@@ -55,17 +52,5 @@ returns c = whole-end (c .before .before .before .before .before .before .before
 pub put-whole-spec : {M : Type 1} → statement M
 put-whole-spec =
     tie.close
-    (tie.spec
-    Inv-loop
-    μ-loop
-    put-requires
-    loop-holds
-    some-requires
-    first-requires
-    but-first-requires
-    shared-requires
-    add-requires
-    loop-less
-    loop-again
-    same-length
-    returns)
+    (tie.spec Inv-loop μ-loop put-requires loop-holds (λ c κs. search needs) first-requires but-first-requires shared-requires add-requires
+    loop-less loop-again same-length returns)

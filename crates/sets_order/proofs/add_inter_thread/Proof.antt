@@ -15,14 +15,8 @@ use Rattle.sets_order.proofs.add_inter_thread.Tie as tie
 of-classes-requires : tie.Need-of-classes-requires
 of-classes-requires c κs = (c .before .before .pre .0, c .before .before .pre .1, c .before .before .pre .2 .told, c .before .before .pre .2 .given .opened)
 
-some-requires : tie.Need-some-requires
-some-requires c κs = search needs
-
 is-synced-requires : tie.Need-is-synced-requires
 is-synced-requires c κs = (c .before .before .before .before .before .pre .2 .given, c .before .before .before .before .before .pre .2 .syncs, λ j e. member-in j (c .before .before .of-classes .ensures .releases) e .0)
-
-same-length : tie.Need-same-length
-same-length c = search needs
 
 returns : tie.Need-returns
 returns c =
@@ -49,4 +43,5 @@ returns-2 : tie.Need-returns-2
 returns-2 c = inter-added (given-few (c .before .before .before .before .before .before .before .before .before .before .before .before .before .before .before .before .before .before .before .before .before .before .before .pre .2 .given)) (c .before .before .before .before .before .before .before .before .before .before .before .before .before .before .before .before .before .before .before .before .before .before .before .pre .0) (c .before .before .before .before .before .before .before .before .before .before .before .before .before .before .before .before .before .before .before .before .before .before .before .pre .1) (c .before .before .before .before .before .before .before .before .before .before .before .before .before .before .fill-reach .ensures .frame) (c .before .before .before .before .before .before .before .before .before .before .add-at .ensures) (c .before .before .before .before .before .before .add-available .ensures) (c .before .before .add-visible .ensures)
 
 pub add-inter-thread-spec : {M : Type 1} → statement M
-add-inter-thread-spec = tie.close (tie.spec of-classes-requires some-requires is-synced-requires same-length returns fill-reach-requires add-at-requires add-available-requires add-visible-requires same-length-2 returns-2)
+add-inter-thread-spec = tie.close (tie.spec of-classes-requires (λ c κs. search needs) is-synced-requires (λ c. search needs) returns fill-reach-requires add-at-requires
+    add-available-requires add-visible-requires same-length-2 returns-2)

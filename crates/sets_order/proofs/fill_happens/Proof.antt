@@ -27,12 +27,6 @@ loop-holds c = (search needs, search needs, done-cong (c .before .before .before
 add-widest-requires : tie.Need-add-widest-requires Inv-loop μ-loop
 add-widest-requires c κs = (c .before .before .loop .inv .0, c .before .loop-test .taken, leading-kept (within-trans (within-widen HAPPENS REACH-END (omega arith) (omega arith) (c .before .before .before .before .before .put-program-order .ensures .frame)) (c .before .before .loop .inv .4)) (c .before .before .loop .inv .3) (c .before .before .before .before .before .before .before .before .before .pre))
 
-add-c : tie.Need-add-c Inv-loop μ-loop
-add-c c = search needs
-
-loop-less : tie.Need-loop-less Inv-loop μ-loop
-loop-less c = search needs
-
 loop-again : tie.Need-loop-again Inv-loop μ-loop
 loop-again c =
     let inv = c .before .before .before .before .before .loop .inv in
@@ -46,4 +40,5 @@ returns : tie.Need-returns Inv-loop μ-loop
 returns c = record { happening = happening-all (c .before .before .before .before .before .before .before .before .pre .given .opened .rows) (omega (arith, c .loop-test .left, c .before .loop .inv .1)) (c .before .loop .inv .2); frame = within-trans (within-widen HAPPENS REACH-END (omega arith) (omega arith) (c .before .before .before .before .put-program-order .ensures .frame)) (c .before .loop .inv .4) }
 
 pub fill-happens-spec : {M : Type 1} → statement M
-fill-happens-spec = tie.close (tie.spec Inv-loop μ-loop put-program-order-requires loop-holds add-widest-requires add-c loop-less loop-again same-length returns)
+fill-happens-spec = tie.close (tie.spec Inv-loop μ-loop put-program-order-requires loop-holds add-widest-requires (λ c. search needs) (λ c. search needs) loop-again
+    same-length returns)

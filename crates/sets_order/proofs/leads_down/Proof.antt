@@ -19,9 +19,6 @@ abbrev μ-loop : tie.MeasureT-loop
 loop-holds : tie.Need-loop-holds Inv-loop μ-loop
 loop-holds c = search-begin _ _ (λ i e. upward-off _ _ _ i e)
 
-some-requires : tie.Need-some-requires Inv-loop μ-loop
-some-requires c κs = search needs
-
 first-requires : tie.Need-first-requires Inv-loop μ-loop
 first-requires c κs = sym (c .before .some .ensures) ∙ c .if1 .taken
 
@@ -33,12 +30,6 @@ get-requires c κs = let a = (c .before .before .before .before .before .before 
 
 above-requires : tie.Need-above-requires Inv-loop μ-loop
 above-requires c κs = c .before .before .first .ensures .bound
-
-less-requires : tie.Need-less-requires Inv-loop μ-loop
-less-requires c κs = search needs
-
-some-requires-2 : tie.Need-some-requires-2 Inv-loop μ-loop
-some-requires-2 c κs = search needs
 
 returns : tie.Need-returns Inv-loop μ-loop
 returns c =
@@ -58,4 +49,5 @@ returns-2 : tie.Need-returns-2 Inv-loop μ-loop
 returns-2 c = upward-end _ _ _ (search-end _ _ (λ i e. upward-off _ _ _ i e) _ (sym (c .before .some .ensures) ∙ c .if1 .left) (c .before .before .loop .inv .1))
 
 pub leads-down-spec : {M : Type 1} → statement M
-leads-down-spec = tie.close (tie.spec Inv-loop μ-loop loop-holds some-requires first-requires but-first-requires get-requires above-requires less-requires some-requires-2 returns loop-less loop-again returns-2)
+leads-down-spec = tie.close (tie.spec Inv-loop μ-loop loop-holds (λ c κs. search needs) first-requires but-first-requires get-requires above-requires
+    (λ c κs. search needs) (λ c κs. search needs) returns loop-less loop-again returns-2)

@@ -30,4 +30,5 @@ returns : tie.Need-returns
 returns c = made-order (given-few (c .before .before .before .before .before .before .before .before .before .before .before .before .before .before .before .before .before .before .before .pre .1)) (c .before .before .before .before .before .before .before .before .before .before .before .before .before .before .before .fill-depends .ensures) (c .before .before .before .before .before .before .fill-system .ensures) (c .before .before .fill-happens .ensures)
 
 pub order-spec : {M : Type 1} → statement M
-order-spec = tie.close (tie.spec fill-depends-requires leads-down-requires rows-requires leads-down-requires-2 fill-system-requires fill-happens-requires same-length returns)
+order-spec = tie.close (tie.spec fill-depends-requires leads-down-requires rows-requires leads-down-requires-2 fill-system-requires fill-happens-requires
+    same-length returns)

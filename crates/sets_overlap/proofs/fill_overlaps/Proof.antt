@@ -20,15 +20,6 @@ use Rattle.sets_overlap.specs.Overlap.{earlier-put, over-only}
 use borrow.Author.Needs.{needs}
 use Rattle.sets_overlap.proofs.fill_overlaps.Statement.{statement}
 use Rattle.sets_overlap.proofs.fill_overlaps.Tie as tie
-use Rattle.sets_overlap.proofs.fill_overlaps.Reads as reads
-use Rattle.sets_overlap.proofs.fill_overlaps.Lts as lts
-use Rattle.bits.proofs.clear.Reads as clear-reads
-use Rattle.known.proofs.rows.Reads as rows-reads
-use Rattle.row_sets.proofs.but_first.Reads as but-first-reads
-use Rattle.row_sets.proofs.first.Reads as first-reads
-use Rattle.row_sets.proofs.kept.put.Reads as put-reads
-use Rattle.row_sets.proofs.some.Reads as some-reads
-use Rattle.sets_overlap.proofs.overlap_row.Reads as overlap-row-reads
 
 abbrev Inv-loop : tie.InvT-loop
 Inv-loop t n s w₀ left₀ w left = (length w ≡ length w₀) × Filling OVERLAP left₀ (λ i j. ltb j n and overlaps (tableIn t n) i j) w₀ left w
@@ -36,31 +27,18 @@ Inv-loop t n s w₀ left₀ w left = (length w ≡ length w₀) × Filling OVERL
 abbrev μ-loop : tie.MeasureT-loop
 μ-loop t n s w₀ left₀ w left = ROWS - next left
 
--- src/lib.rt:58:5
-clear-requires : tie.Need-clear-requires Inv-loop μ-loop
-clear-requires c κs = search needs
-
--- src/lib.rt:59:9
 rows-requires : tie.Need-rows-requires Inv-loop μ-loop
 rows-requires c κs = let a = c .before .before .before .before .before .before .pre .opened .space in omega arith
 
--- src/lib.rt:60:5
 loop-holds : tie.Need-loop-holds Inv-loop μ-loop
 loop-holds c = (refl, fill-begin _ _ _ _ (search needs) (c .before .before .before .clear .ensures))
 
--- src/lib.rt:60:11
-some-requires : tie.Need-some-requires Inv-loop μ-loop
-some-requires c κs = search needs
-
--- src/lib.rt:61:13
 first-requires : tie.Need-first-requires Inv-loop μ-loop
 first-requires c κs = sym (c .before .some .ensures) ∙ c .if1 .taken
 
--- src/lib.rt:62:9
 but-first-requires : tie.Need-but-first-requires Inv-loop μ-loop
 but-first-requires c κs = sym (c .before .before .some .ensures) ∙ c .before .if1 .taken
 
--- src/lib.rt:63:13
 overlap-row-requires : tie.Need-overlap-row-requires Inv-loop μ-loop
 unfolding decode
 overlap-row-requires c κs =
@@ -69,26 +47,15 @@ overlap-row-requires c κs =
     let m = member-in _ (rows-at (c .before .before .before .before .before .before .rows .ensures) (says-rows (o .known .tested .accesses .access))) (walk-in (inv .1 .walk) (c .before .before .first .ensures)) in
     (m .0, m .1, record { opened = o; room = search needs }, earlier-put (few o) (rows-at (c .before .before .before .before .before .before .rows .ensures) (says-rows (o .known .tested .accesses .access))) (inv .1) (c .before .before .first .ensures))
 
--- src/lib.rt:64:9
-put-requires : tie.Need-put-requires Inv-loop μ-loop
-put-requires c κs = search needs
-
--- src/lib.rt:60:5
 loop-less : tie.Need-loop-less Inv-loop μ-loop
 loop-less c = walk-less (c .before .before .before .before .before .before .before .first .ensures) (c .before .before .before .before .before .before .but-first .ensures)
 
--- src/lib.rt:60:5
 loop-again : tie.Need-loop-again Inv-loop μ-loop
 loop-again c =
     let inv = c .before .before .before .before .before .before .before .before .before .before .loop .inv in
     let put = c .before .before .put .ensures in
     (put .frame .len ∙ inv .0, fill-turn _ _ _ _ (inv .1) (c .before .before .before .before .before .before .before .first .ensures) (c .before .before .before .before .before .before .but-first .ensures) (c .before .before .before .before .overlap-row .ensures .is) put)
 
--- src/lib.rt:54:1
-same-length : tie.Need-same-length Inv-loop μ-loop
-same-length c = search needs
-
--- src/lib.rt:54:1
 returns : tie.Need-returns Inv-loop μ-loop
 returns c =
     let o = c .before .before .before .before .before .before .before .before .before .before .pre .opened in
@@ -98,18 +65,5 @@ returns c =
 pub fill-overlaps-spec : {M : Type 1} → statement M
 fill-overlaps-spec =
     tie.close
-    (tie.spec
-    Inv-loop
-    μ-loop
-    clear-requires
-    rows-requires
-    loop-holds
-    some-requires
-    first-requires
-    but-first-requires
-    overlap-row-requires
-    put-requires
-    loop-less
-    loop-again
-    same-length
-    returns)
+    (tie.spec Inv-loop μ-loop (λ c κs. search needs) rows-requires loop-holds (λ c κs. search needs) first-requires but-first-requires
+    overlap-row-requires (λ c κs. search needs) loop-less loop-again (λ c. search needs) returns)

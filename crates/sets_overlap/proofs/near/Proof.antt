@@ -10,18 +10,6 @@ use Rattle.sets_overlap.specs.Overlap.{Nearing, near-begin, near-less, n
 use borrow.Author.Needs.{needs}
 use Rattle.sets_overlap.proofs.near.Statement.{statement}
 use Rattle.sets_overlap.proofs.near.Tie as tie
-use Rattle.sets_overlap.proofs.near.Reads as reads
-use Rattle.sets_overlap.proofs.near.Lts as lts
-use Rattle.known.proofs.fields.end.Reads as end-reads
-use Rattle.known.proofs.fields.start.Reads as start-reads
-use Rattle.known.proofs.rows.Reads as rows-reads
-use Rattle.row_sets.proofs.first.Reads as first-reads
-use Rattle.row_sets.proofs.kept.get.Reads as get-reads
-use Rattle.row_sets.proofs.less.Reads as less-reads
-use Rattle.row_sets.proofs.none.Reads as none-reads
-use Rattle.row_sets.proofs.only_if.Reads as only-if-reads
-use Rattle.row_sets.proofs.or.Reads as or-reads
-use Rattle.row_sets.proofs.some.Reads as some-reads
 
 abbrev Inv-loop : tie.InvT-loop
 Inv-loop t n s i start end left₀ all₀ left all = Nearing (tableIn t n) n i left all
@@ -29,72 +17,41 @@ Inv-loop t n s i start end left₀ all₀ left all = Nearing (tableIn t n) n i l
 abbrev μ-loop : tie.MeasureT-loop
 μ-loop t n s i start end left₀ all₀ left all = ROWS - next left
 
--- src/lib.rt:25:9
 start-requires : tie.Need-start-requires Inv-loop μ-loop
 start-requires c κs = let o = c .before .pre .2 in let f = few o in omega (arith, c .before .pre .0)
 
--- src/lib.rt:26:9
 end-requires : tie.Need-end-requires Inv-loop μ-loop
 end-requires c κs = let o = c .before .before .pre .2 in let f = few o in omega (arith, c .before .before .pre .0)
 
--- src/lib.rt:27:9
 rows-requires : tie.Need-rows-requires Inv-loop μ-loop
 rows-requires c κs = let a = c .before .before .before .pre .2 .space in omega arith
 
--- src/lib.rt:28:9
-none-requires : tie.Need-none-requires Inv-loop μ-loop
-none-requires c κs = search needs
-
--- src/lib.rt:29:5
 loop-holds : tie.Need-loop-holds Inv-loop μ-loop
 unfolding decode
 loop-holds c = near-begin (c .before .before .before .before .before .pre .2) _ _ _ (c .before .rows .ensures) (c .none .ensures)
 
--- src/lib.rt:29:11
-some-requires : tie.Need-some-requires Inv-loop μ-loop
-some-requires c κs = search needs
-
--- src/lib.rt:30:13
 first-requires : tie.Need-first-requires Inv-loop μ-loop
 first-requires c κs = sym (c .before .some .ensures) ∙ c .if1 .taken
 
--- src/lib.rt:31:13
 get-requires : tie.Need-get-requires Inv-loop μ-loop
 get-requires c κs = let b = c .first .ensures .bound in let a = c .before .before .before .before .before .before .before .before .before .pre .2 .space in omega arith
 
--- src/lib.rt:32:9
-less-requires : tie.Need-less-requires Inv-loop μ-loop
-less-requires c κs = search needs
-
--- src/lib.rt:33:26
 end-requires-2 : tie.Need-end-requires-2 Inv-loop μ-loop
 end-requires-2 c κs = let b = c .before .before .first .ensures .bound in omega arith
 
--- src/lib.rt:33:48
 start-requires-2 : tie.Need-start-requires-2 Inv-loop μ-loop
 start-requires-2 c κs = let b = c .before .before .before .first .ensures .bound in omega arith
 
--- src/lib.rt:34:33
-only-if-requires : tie.Need-only-if-requires Inv-loop μ-loop
-only-if-requires c κs = search needs
-
--- src/lib.rt:34:9
-or-requires : tie.Need-or-requires Inv-loop μ-loop
-or-requires c κs = search needs
-
--- src/lib.rt:29:5
 loop-less : tie.Need-loop-less Inv-loop μ-loop
 unfolding decode
 loop-less c = near-less (c .before .before .before .before .before .before .before .before .before .before .before .before .before .before .before .pre .2) _ (c .before .before .before .before .before .before .before .before .before .loop .inv) (c .before .before .before .before .before .before .first .ensures) (c .before .before .before .before .before .get .ensures) (c .before .before .before .before .less .ensures)
 
--- src/lib.rt:29:5
 loop-again : tie.Need-loop-again Inv-loop μ-loop
 unfolding decode
 loop-again c =
     near-turn (c .before .before .before .before .before .before .before .before .before .before .before .before .before .before .before .pre .2) _ (c .before .before .before .before .before .before .before .before .before .loop .inv) (c .before .before .before .before .before .before .first .ensures) (c .before .before .before .before .before .get .ensures) (c .before .before .before .before .less .ensures) _ _ _
     (meet-said _ _ _ _ _ _ (c .before .before .before .before .before .before .before .before .before .before .before .before .before .start .ensures .0) (c .before .before .before .before .before .before .before .before .before .before .before .before .end .ensures .0) (c .before .before .before .end2 .ensures .0) (c .before .before .start2 .ensures .0)) (c .before .only-if .ensures) (c .or .ensures)
 
--- src/lib.rt:21:1
 returns : tie.Need-returns Inv-loop μ-loop
 unfolding decode
 returns c = near-end (c .before .before .before .before .before .before .before .before .pre .2) _ _ _ (c .before .before .before .before .before .before .before .before .pre .0) (c .before .before .before .before .before .before .before .before .pre .1) (sym (c .before .some .ensures) ∙ c .if1 .left) (c .before .before .loop .inv)
@@ -102,22 +59,6 @@ returns c = near-end (c .before .before .before .before .before .before .before 
 pub near-spec : {M : Type 1} → statement M
 near-spec =
     tie.close
-    (tie.spec
-    Inv-loop
-    μ-loop
-    start-requires
-    end-requires
-    rows-requires
-    none-requires
-    loop-holds
-    some-requires
-    first-requires
-    get-requires
-    less-requires
-    end-requires-2
-    start-requires-2
-    only-if-requires
-    or-requires
-    loop-less
-    loop-again
-    returns)
+    (tie.spec Inv-loop μ-loop start-requires end-requires rows-requires (λ c κs. search needs) loop-holds (λ c κs. search needs)
+    first-requires get-requires (λ c κs. search needs) end-requires-2 start-requires-2 (λ c κs. search needs) (λ c κs. search needs)
+    loop-less loop-again returns)

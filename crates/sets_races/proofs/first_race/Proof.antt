@@ -18,16 +18,6 @@ use Rattle.sets_races.specs.Search.{racesIn, hasIn, races-out, race-on, 
 use borrow.Author.Needs.{needs}
 use Rattle.sets_races.proofs.first_race.Statement.{statement}
 use Rattle.sets_races.proofs.first_race.Tie as tie
-use Rattle.sets_races.proofs.first_race.Reads as reads
-use Rattle.sets_races.proofs.first_race.Lts as lts
-use Rattle.known.proofs.fields.start.Reads as start-reads
-use Rattle.known.proofs.rows.Reads as rows-reads
-use Rattle.row_sets.proofs.but_first.Reads as but-first-reads
-use Rattle.row_sets.proofs.first.Reads as first-reads
-use Rattle.row_sets.proofs.some.Reads as some-reads
-use Rattle.sets_races.proofs.is_set.Reads as is-set-reads
-use Rattle.sets_races.proofs.open_after.Reads as open-after-reads
-use Rattle.sets_races.proofs.unordered.Reads as unordered-reads
 
 abbrev Inv-loop2 : tie.InvT-loop2
 Inv-loop2 t n s w x y bytes k₀ k = least k (bitOf bytes) ≡ k
@@ -49,54 +39,38 @@ Inv-pairs t n s w answer₀ left₀ answer left =
 abbrev μ-pairs : tie.MeasureT-pairs
 μ-pairs t n s w answer₀ left₀ answer left = ROWS - next left
 
--- src/lib.rt:76:9
 rows-requires : tie.Need-rows-requires Inv-loop2 μ-loop2 Inv-loop μ-loop Inv-pairs μ-pairs
 rows-requires c κs = let a = c .before .before .pre .1 .opened .space in omega arith
 
--- src/lib.rt:77:5
 pairs-holds : tie.Need-pairs-holds Inv-loop2 μ-loop2 Inv-loop μ-loop Inv-pairs μ-pairs
-pairs-holds c = 
+pairs-holds c =
     let acc = rows-at (c .rows .ensures) (says-rows (c .before .before .before .pre .1 .opened .known .tested .accesses .access)) in
     let b = search-begin _ _ (has-out _ _ acc) in
     (b .0, b .1, refl)
 
--- src/lib.rt:77:19
-some-requires : tie.Need-some-requires Inv-loop2 μ-loop2 Inv-loop μ-loop Inv-pairs μ-pairs
-some-requires c κs = search needs
-
--- src/lib.rt:78:13
 first-requires : tie.Need-first-requires Inv-loop2 μ-loop2 Inv-loop μ-loop Inv-pairs μ-pairs
 first-requires c κs = sym (c .before .some .ensures) ∙ c .if1 .taken
 
--- src/lib.rt:79:9
 but-first-requires :
     tie.Need-but-first-requires Inv-loop2 μ-loop2 Inv-loop μ-loop Inv-pairs μ-pairs
 but-first-requires c κs = sym (c .before .before .some .ensures) ∙ c .before .if1 .taken
 
--- src/lib.rt:80:13
 open-after-requires :
     tie.Need-open-after-requires Inv-loop2 μ-loop2 Inv-loop μ-loop Inv-pairs μ-pairs
 unfolding decode
-open-after-requires c κs = 
+open-after-requires c κs =
     let acc = rows-at (c .before .before .before .before .before .rows .ensures) (says-rows (c .before .before .before .before .before .before .before .before .pre .1 .opened .known .tested .accesses .access)) in
     let m = member-in _ acc (walk-in (c .before .before .before .before .pairs .inv .0) (c .before .first .ensures)) in
     (m .0, m .1, c .before .before .before .before .before .before .before .before .pre .1, c .before .before .before .before .before .before .before .before .pre .2)
 
--- src/lib.rt:81:9
 loop-holds : tie.Need-loop-holds Inv-loop2 μ-loop2 Inv-loop μ-loop Inv-pairs μ-pairs
 loop-holds c = let b = search-begin _ _ (races-out _ _ _ (c .open-after .ensures)) in (b .0, b .1, c .before .before .before .before .before .pairs .inv .2)
 
--- src/lib.rt:81:15
-some-requires-2 : tie.Need-some-requires-2 Inv-loop2 μ-loop2 Inv-loop μ-loop Inv-pairs μ-pairs
-some-requires-2 c κs = search needs
-
--- src/lib.rt:77:5
 pairs-less : tie.Need-pairs-less Inv-loop2 μ-loop2 Inv-loop μ-loop Inv-pairs μ-pairs
 pairs-less c = walk-less (c .before .before .before .before .before .first .ensures) (c .before .before .before .before .but-first .ensures)
 
--- src/lib.rt:77:5
 pairs-again : tie.Need-pairs-again Inv-loop2 μ-loop2 Inv-loop μ-loop Inv-pairs μ-pairs
-pairs-again c = 
+pairs-again c =
     let acc = rows-at (c .before .before .before .before .before .before .before .before .before .rows .ensures) (says-rows (c .before .before .before .before .before .before .before .before .before .before .before .before .pre .1 .opened .known .tested .accesses .access)) in
     let given = c .before .before .before .before .before .before .before .before .before .before .before .before .pre .1 in
     let inv = c .before .before .before .before .before .before .before .before .pairs .inv in
@@ -105,89 +79,74 @@ pairs-again c =
     let b = search-turn _ _ (has-out _ _ acc) (inv .0, inv .1) (c .before .before .before .before .before .first .ensures) (c .before .before .before .before .but-first .ensures) (from-none _ _ _ none refl) in
     (b .0, b .1, c .before .before .loop .inv .2)
 
--- src/lib.rt:82:17
 first-requires-2 : tie.Need-first-requires-2 Inv-loop2 μ-loop2 Inv-loop μ-loop Inv-pairs μ-pairs
 first-requires-2 c κs = sym (c .before .some2 .ensures) ∙ c .if2 .taken
 
--- src/lib.rt:83:13
 but-first-requires-2 :
     tie.Need-but-first-requires-2 Inv-loop2 μ-loop2 Inv-loop μ-loop Inv-pairs μ-pairs
 but-first-requires-2 c κs = sym (c .before .before .some2 .ensures) ∙ c .before .if2 .taken
 
--- src/lib.rt:84:17
 unordered-requires :
     tie.Need-unordered-requires Inv-loop2 μ-loop2 Inv-loop μ-loop Inv-pairs μ-pairs
 unfolding decode
-unordered-requires c κs = 
+unordered-requires c κs =
     let acc = rows-at (c .before .before .before .before .before .before .before .before .before .before .before .rows .ensures) (says-rows (c .before .before .before .before .before .before .before .before .before .before .before .before .before .before .pre .1 .opened .known .tested .accesses .access)) in
     let m = member-in _ acc (walk-in (c .before .before .before .before .before .before .before .before .before .before .pairs .inv .0) (c .before .before .before .before .before .before .before .first .ensures)) in
     let o = member-in _ (c .before .before .before .before .before .open-after .ensures) (walk-in (c .before .before .before .before .loop .inv .0) (c .before .first2 .ensures)) in
     (m .0, o .0, open-conflict _ _ _ (o .1), judged (c .before .before .before .before .before .before .before .before .before .before .before .before .before .before .pre .1) (c .before .before .before .before .before .before .before .before .before .before .before .before .before .before .pre .2))
 
--- src/lib.rt:81:9
 loop-less : tie.Need-loop-less Inv-loop2 μ-loop2 Inv-loop μ-loop Inv-pairs μ-pairs
 loop-less c = walk-less (c .before .before .before .first2 .ensures) (c .before .before .but-first2 .ensures)
 
--- src/lib.rt:81:9
 loop-again : tie.Need-loop-again Inv-loop2 μ-loop2 Inv-loop μ-loop Inv-pairs μ-pairs
-loop-again c = 
+loop-again c =
     let inv = c .before .before .before .before .before .before .loop .inv in
     let b = search-turn _ _ (races-out _ _ _ (c .before .before .before .before .before .before .before .open-after .ensures)) (inv .0, inv .1) (c .before .before .before .first2 .ensures) (c .before .before .but-first2 .ensures) (race-off _ _ _ _ (c .before .unordered .ensures) (c .if3 .taken)) in
     (b .0, b .1, inv .2)
 
--- src/lib.rt:89:17
 loop2-holds : tie.Need-loop2-holds Inv-loop2 μ-loop2 Inv-loop μ-loop Inv-pairs μ-pairs
 loop2-holds c = least-none _
 
--- src/lib.rt:90:20
 is-set-requires : tie.Need-is-set-requires Inv-loop2 μ-loop2 Inv-loop μ-loop Inv-pairs μ-pairs
-is-set-requires c κs = 
+is-set-requires c κs =
     let z = c .before .if3 .left in
     let low = byte-low (c .before .before .unordered .ensures) (c .loop2 .inv) (omega arith) in
     omega arith
 
--- src/lib.rt:93:17
 add-k : tie.Need-add-k Inv-loop2 μ-loop2 Inv-loop μ-loop Inv-pairs μ-pairs
-add-k c = 
+add-k c =
     let z = c .before .before .before .if3 .left in
     let low = byte-low (c .before .before .before .before .unordered .ensures) (c .before .before .loop2 .inv) (omega arith) in
     omega arith
 
--- src/lib.rt:89:17
 loop2-less : tie.Need-loop2-less Inv-loop2 μ-loop2 Inv-loop μ-loop Inv-pairs μ-pairs
-loop2-less c = 
+loop2-less c =
     let z = c .before .before .before .if3 .left in
     let low = byte-low (c .before .before .before .before .unordered .ensures) (c .before .before .loop2 .inv) (omega arith) in
     omega arith
 
--- src/lib.rt:89:17
 loop2-again : tie.Need-loop2-again Inv-loop2 μ-loop2 Inv-loop μ-loop Inv-pairs μ-pairs
 loop2-again c = least-more _ _ (c .before .before .loop2 .inv) (sym (c .before .is-set .ensures) ∙ c .if4 .left)
 
--- src/lib.rt:96:24
 cast-t18 : tie.Need-cast-t18 Inv-loop2 μ-loop2 Inv-loop μ-loop Inv-pairs μ-pairs
 cast-t18 c = let b = c .before .before .before .before .before .before .before .before .before .before .before .before .first .ensures .bound in omega arith
 
--- src/lib.rt:97:25
 cast-t19 : tie.Need-cast-t19 Inv-loop2 μ-loop2 Inv-loop μ-loop Inv-pairs μ-pairs
 cast-t19 c = let b = c .before .before .before .before .before .before .first2 .ensures .bound in omega arith
 
--- src/lib.rt:98:24
 start-requires : tie.Need-start-requires Inv-loop2 μ-loop2 Inv-loop μ-loop Inv-pairs μ-pairs
 start-requires c κs = c .before .before .before .before .before .before .before .before .before .before .before .before .first .ensures .bound
 
--- src/lib.rt:98:24
 add-t21 : tie.Need-add-t21 Inv-loop2 μ-loop2 Inv-loop μ-loop Inv-pairs μ-pairs
-add-t21 c = 
+add-t21 c =
     let z = c .before .before .before .before .if3 .left in
     let low = byte-low (c .before .before .before .before .before .unordered .ensures) (c .before .before .before .loop2 .inv) (omega arith) in
     let s = c .start .ensures .1 in
     omega arith
 
--- src/lib.rt:98:23
 cast-t22 : tie.Need-cast-t22 Inv-loop2 μ-loop2 Inv-loop μ-loop Inv-pairs μ-pairs
 unfolding decode
-cast-t22 c = 
+cast-t22 c =
     let acc = rows-at (c .before .before .before .before .before .before .before .before .before .before .before .before .before .before .before .before .before .rows .ensures) (says-rows (c .before .before .before .before .before .before .before .before .before .before .before .before .before .before .before .before .before .before .before .before .pre .1 .opened .known .tested .accesses .access)) in
     let m = member-in _ acc (walk-in (c .before .before .before .before .before .before .before .before .before .before .before .before .before .before .before .before .pairs .inv .0) (c .before .before .before .before .before .before .before .before .before .before .before .before .before .first .ensures)) in
     let l = m .0 in
@@ -199,17 +158,15 @@ cast-t22 c =
     let s = c .start .ensures .0 in
     omega arith
 
--- src/lib.rt:71:1
 returns : tie.Need-returns Inv-loop2 μ-loop2 Inv-loop μ-loop Inv-pairs μ-pairs
-returns c = 
+returns c =
     let acc = rows-at (c .before .before .before .rows .ensures) (says-rows (c .before .before .before .before .before .before .pre .1 .opened .known .tested .accesses .access)) in
     let given = c .before .before .before .before .before .before .pre .1 in
     c .before .before .pairs .inv .2 ∙ row-none _ _ (given .opened .rows) (given-few given) (search-end _ _ (has-out _ _ acc) _ (sym (c .before .some .ensures) ∙ c .if1 .left) (c .before .before .pairs .inv .1))
 
--- src/lib.rt:71:1
 returns-2 : tie.Need-returns-2 Inv-loop2 μ-loop2 Inv-loop μ-loop Inv-pairs μ-pairs
 unfolding decode
-returns-2 c = 
+returns-2 c =
     let acc = rows-at (c .before .before .before .before .before .before .before .before .before .before .before .before .before .before .before .before .before .rows .ensures) (says-rows (c .before .before .before .before .before .before .before .before .before .before .before .before .before .before .before .before .before .before .before .before .pre .1 .opened .known .tested .accesses .access)) in
     let given = c .before .before .before .before .before .before .before .before .before .before .before .before .before .before .before .before .before .before .before .before .pre .1 in
     let few = given-few given in
@@ -228,37 +185,7 @@ returns-2 c =
 pub first-race-spec : {M : Type 1} → statement M
 first-race-spec =
     tie.close
-    (tie.spec
-    Inv-loop2
-    μ-loop2
-    Inv-loop
-    μ-loop
-    Inv-pairs
-    μ-pairs
-    rows-requires
-    pairs-holds
-    some-requires
-    first-requires
-    but-first-requires
-    open-after-requires
-    loop-holds
-    some-requires-2
-    pairs-less
-    pairs-again
-    first-requires-2
-    but-first-requires-2
-    unordered-requires
-    loop-less
-    loop-again
-    loop2-holds
-    is-set-requires
-    add-k
-    loop2-less
-    loop2-again
-    cast-t18
-    cast-t19
-    start-requires
-    add-t21
-    cast-t22
-    returns
-    returns-2)
+    (tie.spec Inv-loop2 μ-loop2 Inv-loop μ-loop Inv-pairs μ-pairs rows-requires pairs-holds (λ c κs. search needs) first-requires
+    but-first-requires open-after-requires loop-holds (λ c κs. search needs) pairs-less pairs-again first-requires-2 but-first-requires-2
+    unordered-requires loop-less loop-again loop2-holds is-set-requires add-k loop2-less loop2-again cast-t18 cast-t19 start-requires
+    add-t21 cast-t22 returns returns-2)

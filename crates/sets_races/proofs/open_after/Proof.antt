@@ -5,28 +5,13 @@ use native.Mathlib.Omega.{arith}
 use borrow.Author.Needs.{needs}
 use Rattle.sets_races.proofs.open_after.Statement.{statement}
 use Rattle.sets_races.proofs.open_after.Tie as tie
-use Rattle.sets_races.proofs.open_after.Reads as reads
-use Rattle.sets_races.proofs.open_after.Lts as lts
-use Rattle.row_sets.proofs.kept.get.Reads as get-reads
-use Rattle.row_sets.proofs.less.Reads as less-reads
-use Rattle.sets_races.proofs.conflicting.Reads as conflicting-reads
 
--- src/lib.rt:58:20
-conflicting-requires : tie.Need-conflicting-requires
-conflicting-requires c κs = search needs
-
--- src/lib.rt:58:48
 get-requires : tie.Need-get-requires
 get-requires c κs =
     let given = c .before .before .before .pre .2 in
     let few = given-few given in
     omega (arith, given .room, c .before .before .before .pre .0)
 
--- src/lib.rt:58:5
-less-requires : tie.Need-less-requires
-less-requires c κs = search needs
-
--- src/lib.rt:54:1
 returns : tie.Need-returns
 unfolding decode
 returns c =
@@ -34,4 +19,4 @@ returns c =
     open-rows (pre .2) (pre .3) (pre .0) (pre .1) (c .before .before .conflicting .ensures) (c .before .get .ensures) (c .less .ensures)
 
 pub open-after-spec : {M : Type 1} → statement M
-open-after-spec = tie.close (tie.spec conflicting-requires get-requires less-requires returns)
+open-after-spec = tie.close (tie.spec (λ c κs. search needs) get-requires (λ c κs. search needs) returns)

@@ -8,33 +8,13 @@ use Rattle.filling.specs.Parts.{cyclic-told, acyclic-found}
 use borrow.Author.Needs.{needs}
 use Rattle.filling.proofs.by_sets.is_consistent.Statement.{statement}
 use Rattle.filling.proofs.by_sets.is_consistent.Tie as tie
-use Rattle.filling.proofs.by_sets.is_consistent.Reads as reads
-use Rattle.filling.proofs.by_sets.is_consistent.Lts as lts
-use Rattle.cycle.proofs.cycle_start.Reads as cycle-start-reads
-use Rattle.filling.proofs.by_sets.is_none.Reads as is-none-reads
-use Rattle.sets_edges.proofs.fill_edges.Reads as fill-edges-reads
-use Rattle.sets_overwritten.proofs.first_overwrite.Reads as first-overwrite-reads
 
--- src/by_sets.rt:44:5
-fill-edges-requires : tie.Need-fill-edges-requires
-fill-edges-requires c κs = search needs
-
--- src/by_sets.rt:45:9
-cycle-start-requires : tie.Need-cycle-start-requires
-cycle-start-requires c κs = search needs
-
--- src/by_sets.rt:47:9
-same-length : tie.Need-same-length
-same-length c = search needs
-
--- src/by_sets.rt:47:9
 returns : tie.Need-returns
 unfolding decode
 returns c =
     let start = c .before .before .before .cycle-start .ensures in
     cyclic-told _ _ _ _ _ _ _ refl (grid-made (given-few (c .before .before .before .before .before .before .before .before .before .before .before .before .pre .2)) (c .before .before .before .before .before .before .before .fill-edges .ensures)) (start .0) (start .1) (c .if1 .taken)
 
--- src/by_sets.rt:49:13
 first-overwrite-requires : tie.Need-first-overwrite-requires
 first-overwrite-requires c κs =
     let pre = c .before .before .before .before .before .before .before .before .before .before .before .before .before .pre in
@@ -42,15 +22,6 @@ first-overwrite-requires c κs =
     let frame = edges-held (grid-made small (c .before .before .before .before .before .before .before .before .fill-edges .ensures)) (c .before .before .before .before .cycle-start .ensures .1) .1 in
     (pre .0, bounded-of (pre .2 .opened .fit), given-kept frame (pre .2), judging-kept small frame (pre .3))
 
--- src/by_sets.rt:49:5
-is-none-requires : tie.Need-is-none-requires
-is-none-requires c κs = search needs
-
--- src/by_sets.rt:38:1
-same-length-2 : tie.Need-same-length-2
-same-length-2 c = search needs
-
--- src/by_sets.rt:38:1
 returns-2 : tie.Need-returns-2
 unfolding decode
 returns-2 c =
@@ -61,12 +32,5 @@ returns-2 c =
 pub is-consistent-spec : {M : Type 1} → statement M
 is-consistent-spec =
     tie.close
-    (tie.spec
-    fill-edges-requires
-    cycle-start-requires
-    same-length
-    returns
-    first-overwrite-requires
-    is-none-requires
-    same-length-2
-    returns-2)
+    (tie.spec (λ c κs. search needs) (λ c κs. search needs) (λ c. search needs) returns first-overwrite-requires (λ c κs. search needs)
+    (λ c. search needs) returns-2)

@@ -19,9 +19,6 @@ abbrev μ-loop : tie.MeasureT-loop
 loop-holds : tie.Need-loop-holds Inv-loop μ-loop
 loop-holds c = bits-begin _ _ (to-off _ _ _ _ _)
 
-some-requires : tie.Need-some-requires Inv-loop μ-loop
-some-requires c κs = search needs
-
 first-requires : tie.Need-first-requires Inv-loop μ-loop
 first-requires c κs = sym (c .before .some .ensures) ∙ c .if1 .taken
 
@@ -53,4 +50,5 @@ returns : tie.Need-returns Inv-loop μ-loop
 returns c = bits-end _ _ (to-off _ _ _ _ _) _ _ (sym (c .before .some .ensures) ∙ c .if1 .left) (c .before .before .loop .inv .1)
 
 pub bytes-at-once-spec : {M : Type 1} → statement M
-bytes-at-once-spec = tie.close (tie.spec Inv-loop μ-loop loop-holds some-requires first-requires but-first-requires get-requires has-requires shared-requires loop-less loop-again loop-less-2 loop-again-2 returns)
+bytes-at-once-spec = tie.close (tie.spec Inv-loop μ-loop loop-holds (λ c κs. search needs) first-requires but-first-requires get-requires has-requires shared-requires
+    loop-less loop-again loop-less-2 loop-again-2 returns)

@@ -14,9 +14,6 @@ has-requires c κs = let b = few (c .before .before .before .pre .3 .opened) in 
 bytes-seen-requires : tie.Need-bytes-seen-requires
 bytes-seen-requires c κs = (c .before .before .before .before .before .pre .0, c .before .before .before .before .before .pre .1, reads-is _ _ (c .before .before .before .before .before .pre .3 .opened) (c .before .before .before .before .before .pre .1) (c .before .before .rows .ensures) (c .before .has .ensures) (c .if1 .taken), c .before .before .before .before .before .pre .2, c .before .before .before .before .before .pre .3, c .before .before .before .before .before .pre .4, c .before .before .before .before .before .pre .5)
 
-returns : tie.Need-returns
-returns c = search needs
-
 bytes-at-once-requires : tie.Need-bytes-at-once-requires
 bytes-at-once-requires c κs = (c .before .before .before .before .before .pre .0, c .before .before .before .before .before .pre .1, few (c .before .before .before .before .before .pre .3 .opened), c .before .before .before .before .before .pre .3 .room, parts-among (c .before .before .before .before .before .pre .5), c .before .before .before .before .before .pre .3 .opened .fit)
 
@@ -26,10 +23,4 @@ returns-2 c = once-met (c .before .before .before .before .before .before .pre .
 pub bytes-met-spec : {M : Type 1} → statement M
 bytes-met-spec =
     tie.close
-    (tie.spec
-    rows-requires
-    has-requires
-    bytes-seen-requires
-    returns
-    bytes-at-once-requires
-    returns-2)
+    (tie.spec rows-requires has-requires bytes-seen-requires (λ c. search needs) bytes-at-once-requires returns-2)

@@ -18,9 +18,6 @@ abbrev μ-loop : tie.MeasureT-loop
 loop-holds : tie.Need-loop-holds Inv-loop μ-loop
 loop-holds c = bits-begin _ _ (byte-off _ _ _)
 
-some-requires : tie.Need-some-requires Inv-loop μ-loop
-some-requires c κs = search needs
-
 first-requires : tie.Need-first-requires Inv-loop μ-loop
 first-requires c κs = sym (c .before .some .ensures) ∙ c .if1 .taken
 
@@ -40,4 +37,5 @@ returns : tie.Need-returns Inv-loop μ-loop
 returns c = bits-end _ _ (byte-off _ _ _) _ _ (sym (c .before .some .ensures) ∙ c .if1 .left) (c .before .before .loop .inv .1)
 
 pub bytes-of-spec : {M : Type 1} → statement M
-bytes-of-spec = tie.close (tie.spec Inv-loop μ-loop loop-holds some-requires first-requires shared-requires but-first-requires loop-less loop-again returns)
+bytes-of-spec = tie.close (tie.spec Inv-loop μ-loop loop-holds (λ c κs. search needs) first-requires shared-requires but-first-requires loop-less loop-again
+    returns)

@@ -27,15 +27,9 @@ of-agent-requires c κs = (c .before .before .pre .1, c .before .before .pre .4 
 above-requires : tie.Need-above-requires Inv-loop μ-loop
 above-requires c κs = let b = few (c .before .before .before .pre .4 .opened) in let low = c .before .before .before .pre .1 in omega (arith, low, b)
 
-less-requires : tie.Need-less-requires Inv-loop μ-loop
-less-requires c κs = search needs
-
 wide-visible-requires : tie.Need-wide-visible-requires Inv-loop μ-loop
 unfolding decode
 wide-visible-requires c κs = let b = few (c .before .before .before .before .before .pre .4 .opened) in let r = c .before .before .before .before .before .pre .4 .opened .rows in let low = c .before .before .before .before .before .pre .0 in (omega (arith, low, b), c .before .before .before .before .before .pre .4 .opened .fit .classed _ (omega (arith, low, r)) (c .before .before .before .before .before .pre .3 .first), c .before .before .before .before .before .pre .4 .opened .space)
-
-and-requires : tie.Need-and-requires Inv-loop μ-loop
-and-requires c κs = search needs
 
 drop-requires : tie.Need-drop-requires Inv-loop μ-loop
 drop-requires c κs = let b = few (c .before .before .before .before .before .before .before .pre .4 .opened) in let low = c .before .before .before .before .before .before .before .pre .1 in omega (arith, low, b)
@@ -43,20 +37,11 @@ drop-requires c κs = let b = few (c .before .before .before .before .before .be
 plain-visible-requires : tie.Need-plain-visible-requires Inv-loop μ-loop
 plain-visible-requires c κs = let b = few (c .before .before .before .before .before .before .before .before .pre .4 .opened) in let low = c .before .before .before .before .before .before .before .before .pre .0 in (omega (arith, low, b), c .before .before .before .before .before .before .before .before .pre .4 .opened .space)
 
-and-requires-2 : tie.Need-and-requires-2 Inv-loop μ-loop
-and-requires-2 c κs = search needs
-
-and-requires-3 : tie.Need-and-requires-3 Inv-loop μ-loop
-and-requires-3 c κs = search needs
-
 bytes-of-requires : tie.Need-bytes-of-requires Inv-loop μ-loop
 bytes-of-requires c κs = (c .before .before .before .before .before .before .before .before .before .before .before .pre .0, few (c .before .before .before .before .before .before .before .before .before .before .before .pre .4 .opened), wide-among (c .before .before .before .before .before .before .before .before .before .before .before .pre .4 .opened) _ (c .before .before .before .before .before .before .before .before .before .before .before .pre .0) (c .before .before .before .before .before .before .before .before .before .before .before .pre .3 .first) (c .before .before .before .before .before .before .before .before .before .before .before .pre .6) _ _ (c .and3 .ensures), c .before .before .before .before .before .before .before .before .before .before .before .pre .4 .opened .fit)
 
 loop-holds : tie.Need-loop-holds Inv-loop μ-loop
 loop-holds c = more-begin _ _ _ (seen-off _ _ _ _ _ _) _ (mask-self (c .before .bytes-of .ensures))
-
-some-requires : tie.Need-some-requires Inv-loop μ-loop
-some-requires c κs = search needs
 
 first-requires : tie.Need-first-requires Inv-loop μ-loop
 first-requires c κs = sym (c .before .some .ensures) ∙ c .if1 .taken
@@ -70,20 +55,11 @@ shared-requires c κs = (c .before .before .before .before .before .before .befo
 get-requires : tie.Need-get-requires Inv-loop μ-loop
 get-requires c κs = let r = c .before .before .before .before .before .before .before .before .before .before .before .before .before .before .before .before .before .before .before .pre .4 .room in let l = c .before .before .first .ensures .bound in omega (arith, r, l)
 
-and-requires-4 : tie.Need-and-requires-4 Inv-loop μ-loop
-and-requires-4 c κs = search needs
-
-some-requires-2 : tie.Need-some-requires-2 Inv-loop μ-loop
-some-requires-2 c κs = search needs
-
 loop-less : tie.Need-loop-less Inv-loop μ-loop
 loop-less c = walk-less (c .before .before .before .before .before .before .first .ensures) (c .before .before .before .before .before .but-first .ensures)
 
 loop-again : tie.Need-loop-again Inv-loop μ-loop
 loop-again c = more-turn _ _ _ (seen-off _ _ _ _ _ _) (c .before .before .before .before .before .before .before .before .before .loop .inv) (c .before .before .before .before .before .before .first .ensures) (c .before .before .before .before .before .but-first .ensures) (seen-wide _ _ _ _ _ _ _ (c .before .before .before .get .ensures) _ _ (c .before .before .and4 .ensures) (c .before .some2 .ensures) (c .if2 .taken) (c .before .before .before .before .shared .ensures))
-
-and-requires-5 : tie.Need-and-requires-5 Inv-loop μ-loop
-and-requires-5 c κs = search needs
 
 bytes-of-requires-2 : tie.Need-bytes-of-requires-2 Inv-loop μ-loop
 unfolding decode
@@ -102,31 +78,7 @@ returns c = seen-met (c .before .before .before .before .before .before .before 
 pub bytes-seen-spec : {M : Type 1} → statement M
 bytes-seen-spec =
     tie.close
-    (tie.spec
-    Inv-loop
-    μ-loop
-    of-agent-requires
-    above-requires
-    less-requires
-    wide-visible-requires
-    and-requires
-    drop-requires
-    plain-visible-requires
-    and-requires-2
-    and-requires-3
-    bytes-of-requires
-    loop-holds
-    some-requires
-    first-requires
-    but-first-requires
-    shared-requires
-    get-requires
-    and-requires-4
-    some-requires-2
-    loop-less
-    loop-again
-    and-requires-5
-    bytes-of-requires-2
-    loop-less-2
-    loop-again-2
-    returns)
+    (tie.spec Inv-loop μ-loop of-agent-requires above-requires (λ c κs. search needs) wide-visible-requires (λ c κs. search needs)
+    drop-requires plain-visible-requires (λ c κs. search needs) (λ c κs. search needs) bytes-of-requires loop-holds (λ c κs. search needs)
+    first-requires but-first-requires shared-requires get-requires (λ c κs. search needs) (λ c κs. search needs) loop-less loop-again
+    (λ c κs. search needs) bytes-of-requires-2 loop-less-2 loop-again-2 returns)

@@ -19,39 +19,20 @@ wide-visible-requires : tie.Need-wide-visible-requires
 unfolding decode
 wide-visible-requires c κs = let b = few (c .before .before .before .before .before .pre .2 .opened) in let r = c .before .before .before .before .before .pre .2 .opened .rows in let low = c .before .before .before .before .before .pre .0 in (omega (arith, low, b), c .before .before .before .before .before .pre .2 .opened .fit .classed _ (omega (arith, low, r)) (c .before .before .before .before .before .pre .1), c .before .before .before .before .before .pre .2 .opened .space)
 
-and-requires : tie.Need-and-requires
-and-requires c κs = search needs
-
 seen-requires : tie.Need-seen-requires
 seen-requires c κs = (visible-among (c .before .before .before .before .before .before .before .pre .2 .opened) (c .before .before .before .before .before .before .before .pre .3) _ (c .before .before .before .before .before .before .before .pre .0) (c .before .before .before .before .before .before .before .pre .1) (c .before .before .before .before .before .before .before .pre .4) _ _ (c .before .before .before .union .ensures) (c .before .before .union2 .ensures) _ _ (c .and .ensures), c .before .before .before .before .before .before .before .pre .2 .opened)
-
-or-requires : tie.Need-or-requires
-or-requires c κs = search needs
 
 plain-visible-requires : tie.Need-plain-visible-requires
 plain-visible-requires c κs = let b = few (c .before .before .before .before .before .before .before .before .before .pre .2 .opened) in let low = c .before .before .before .before .before .before .before .before .before .pre .0 in (omega (arith, low, b), c .before .before .before .before .before .before .before .before .before .pre .2 .opened .space)
 
-and-requires-2 : tie.Need-and-requires-2
-and-requires-2 c κs = search needs
-
 seen-plain-requires : tie.Need-seen-plain-requires
 seen-plain-requires c κs = (either-among (c .before .before .before .before .before .before .before .before .before .before .before .pre .2 .opened) (c .before .before .before .before .before .before .before .before .before .before .before .pre .3) _ (c .before .before .before .before .before .before .before .before .before .before .before .pre .0) (c .before .before .before .before .before .before .before .before .before .before .before .pre .1) (c .before .before .before .before .before .before .before .before .before .before .before .pre .4) _ _ (c .before .before .before .before .before .before .before .union .ensures) (c .before .before .before .before .before .before .union2 .ensures) _ _ _ (c .before .before .or .ensures) (c .and2 .ensures), c .before .before .before .before .before .before .before .before .before .before .before .pre .2 .opened)
-
-less-requires : tie.Need-less-requires
-less-requires c κs = search needs
-
-or-requires-2 : tie.Need-or-requires-2
-or-requires-2 c κs = search needs
-
-and-requires-3 : tie.Need-and-requires-3
-and-requires-3 c κs = search needs
-
-or-requires-3 : tie.Need-or-requires-3
-or-requires-3 c κs = search needs
 
 returns : tie.Need-returns
 unfolding decode
 returns c = maybe-set (c .before .before .before .before .before .before .before .before .before .before .before .before .before .before .before .before .pre .2 .opened) (c .before .before .before .before .before .before .before .before .before .before .before .before .before .before .before .before .pre .3) _ (c .before .before .before .before .before .before .before .before .before .before .before .before .before .before .before .before .pre .0) (c .before .before .before .before .before .before .before .before .before .before .before .before .before .before .before .before .pre .1) (c .before .before .before .before .before .before .before .before .before .before .before .before .before .before .before .before .pre .4) _ _ (c .before .before .before .before .before .before .before .before .before .before .before .before .union .ensures) (c .before .before .before .before .before .before .before .before .before .before .before .union2 .ensures) _ _ _ _ _ _ _ _ _ _ _ _ (c .before .before .before .before .before .before .before .before .before .before .before .before .before .rows .ensures) (c .before .before .before .before .before .before .before .before .before .before .wide-visible .ensures) (c .before .before .before .before .before .before .before .before .before .and .ensures) (c .before .before .before .before .before .before .before .before .seen .ensures) (c .before .before .before .before .before .before .before .or .ensures) (c .before .before .before .before .before .before .plain-visible .ensures) (c .before .before .before .before .before .and2 .ensures) (c .before .before .before .before .seen-plain .ensures) (c .before .before .before .less .ensures) (c .before .before .or2 .ensures) (c .before .and3 .ensures) (c .or3 .ensures)
 
 pub maybe-met-spec : {M : Type 1} → statement M
-maybe-met-spec = tie.close (tie.spec rows-requires union-requires union-requires-2 wide-visible-requires and-requires seen-requires or-requires plain-visible-requires and-requires-2 seen-plain-requires less-requires or-requires-2 and-requires-3 or-requires-3 returns)
+maybe-met-spec = tie.close (tie.spec rows-requires union-requires union-requires-2 wide-visible-requires (λ c κs. search needs) seen-requires
+    (λ c κs. search needs) plain-visible-requires (λ c κs. search needs) seen-plain-requires (λ c κs. search needs) (λ c κs. search needs)
+    (λ c κs. search needs) (λ c κs. search needs) returns)

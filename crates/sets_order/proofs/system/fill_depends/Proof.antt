@@ -19,35 +19,14 @@ abbrev μ-loop : tie.MeasureT-loop
 clear-requires : tie.Need-clear-requires Inv-loop μ-loop
 clear-requires c κs = let a = c .before .before .pre .1 in omega arith
 
-mode-requires : tie.Need-mode-requires Inv-loop μ-loop
-mode-requires c κs = search needs
-
-none-requires : tie.Need-none-requires Inv-loop μ-loop
-none-requires c κs = search needs
-
-cast-k-end : tie.Need-cast-k-end Inv-loop μ-loop
-cast-k-end c = search needs
-
 loop-holds : tie.Need-loop-holds Inv-loop μ-loop
 loop-holds c = (search needs, depends-begin _ _ _ _ _ (empty-cleared DEPENDS DEPENDS DEPENDS-END _ (omega arith) (omega arith) (let a = c .before .before .before .before .before .before .before .before .before .before .pre .1 in omega arith) (c .before .before .before .before .before .before .before .clear .ensures)) (c .before .none .ensures), within-refl _ _ _)
-
-mul-x : tie.Need-mul-x Inv-loop μ-loop
-mul-x c = search needs
 
 array-read-x : tie.Need-array-read-x Inv-loop μ-loop
 array-read-x c = omega (arith, few-of _ (c .before .before .before .before .before .before .before .before .before .before .before .before .pre .0) (c .before .before .before .before .before .before .mode .ensures), c .loop-test .taken)
 
-cast-x : tie.Need-cast-x Inv-loop μ-loop
-cast-x c = search needs
-
-mul-y : tie.Need-mul-y Inv-loop μ-loop
-mul-y c = search needs
-
 array-read-y : tie.Need-array-read-y Inv-loop μ-loop
 array-read-y c = omega (arith, few-of _ (c .before .before .before .before .before .before .before .before .before .before .before .before .pre .0) (c .before .before .before .before .before .before .mode .ensures), c .loop-test .taken)
-
-cast-y : tie.Need-cast-y Inv-loop μ-loop
-cast-y c = search needs
 
 put-bit-requires : tie.Need-put-bit-requires Inv-loop μ-loop
 put-bit-requires c κs = let h = named-of _ (c .before .before .before .before .before .before .before .before .before .before .before .before .before .pre .0) (c .before .before .before .before .before .before .before .mode .ensures) _ (c .before .loop-test .taken) in let l = few-run (c .before .before .before .before .before .before .before .before .before .before .before .before .before .pre .0) in let r = c .before .before .before .before .before .before .before .before .before .before .before .before .before .pre .1 in let d = c .before .before .loop .inv .2 .len in let e = within-cleared DEPENDS DEPENDS-END (omega arith) (c .before .before .before .before .before .before .before .before .before .before .clear .ensures) .len in (omega (arith, h .0), omega (arith, h .1))
@@ -57,18 +36,6 @@ bit-requires c κs = let h = named-of _ (c .before .before .before .before .befo
 
 bit-requires-2 : tie.Need-bit-requires-2 Inv-loop μ-loop
 bit-requires-2 c κs = let h = named-of _ (c .before .before .before .before .before .before .before .before .before .before .before .before .before .before .before .before .before .pre .0) (c .before .before .before .before .before .before .before .before .before .before .before .mode .ensures) _ (c .before .before .before .before .before .loop-test .taken) in let l = few-run (c .before .before .before .before .before .before .before .before .before .before .before .before .before .before .before .before .before .pre .0) in omega (arith, h .1)
-
-or-requires : tie.Need-or-requires Inv-loop μ-loop
-or-requires c κs = search needs
-
-or-requires-2 : tie.Need-or-requires-2 Inv-loop μ-loop
-or-requires-2 c κs = search needs
-
-add-k : tie.Need-add-k Inv-loop μ-loop
-add-k c = search needs
-
-loop-less : tie.Need-loop-less Inv-loop μ-loop
-loop-less c = search needs
 
 loop-again : tie.Need-loop-again Inv-loop μ-loop
 loop-again c =
@@ -87,4 +54,6 @@ returns : tie.Need-returns Inv-loop μ-loop
 returns c = depends-of _ (c .before .before .before .before .before .before .before .before .before .before .before .before .pre .0) (c .before .before .before .before .before .before .mode .ensures) (omega (arith, c .loop-test .left, c .before .loop .inv .0)) (c .before .loop .inv .1) (within-trans (within-cleared DEPENDS DEPENDS-END (omega arith) (c .before .before .before .before .before .before .before .before .before .clear .ensures)) (c .before .loop .inv .2))
 
 pub fill-depends-spec : {M : Type 1} → statement M
-fill-depends-spec = tie.close (tie.spec Inv-loop μ-loop clear-requires mode-requires none-requires cast-k-end loop-holds mul-x array-read-x cast-x mul-y array-read-y cast-y put-bit-requires bit-requires bit-requires-2 or-requires or-requires-2 add-k loop-less loop-again same-length returns)
+fill-depends-spec = tie.close (tie.spec Inv-loop μ-loop clear-requires (λ c κs. search needs) (λ c κs. search needs) (λ c. search needs) loop-holds
+    (λ c. search needs) array-read-x (λ c. search needs) (λ c. search needs) array-read-y (λ c. search needs) put-bit-requires bit-requires
+    bit-requires-2 (λ c κs. search needs) (λ c κs. search needs) (λ c. search needs) (λ c. search needs) loop-again same-length returns)

@@ -38,9 +38,6 @@ fill-reach-requires c κs = asks-none (c .before .before .before .before .before
 loop-holds : tie.Need-loop-holds Inv-loop μ-loop
 loop-holds c = (add-begin _ _ _ _, within-refl _ _ _)
 
-some-requires : tie.Need-some-requires Inv-loop μ-loop
-some-requires c κs = search needs
-
 first-requires : tie.Need-first-requires Inv-loop μ-loop
 first-requires c κs = sym (c .before .some .ensures) ∙ c .if1 .taken
 
@@ -84,4 +81,5 @@ returns c =
     }
 
 pub fill-system-spec : {M : Type 1} → statement M
-fill-system-spec = tie.close (tie.spec Inv-loop μ-loop clear-requires of-none-requires fill-reach-requires loop-holds some-requires first-requires but-first-requires get-requires put-requires loop-less loop-again same-length returns)
+fill-system-spec = tie.close (tie.spec Inv-loop μ-loop clear-requires of-none-requires fill-reach-requires loop-holds (λ c κs. search needs) first-requires
+    but-first-requires get-requires put-requires loop-less loop-again same-length returns)

@@ -8,8 +8,7 @@ returns c = said-refused _ _ _ _ _ _ (c .before .before .before .before .enter .
 
 judge-run-requires : tie.Need-judge-run-requires
 judge-run-requires c κs =
-    let opened = c .before .before .before .before .before .before .before .enter .ensures .1 _ _ (c .before .before .before .before .a .given .1) in
-    (
+    let opened = c .before .before .before .before .before .before .before .enter .ensures .1 _ _ (c .before .before .before .before .a .given .1) in (
       opened .room,
       opened .space,
       opened .run,

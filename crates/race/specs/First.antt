@@ -2,14 +2,13 @@
 use mathlib.Core.Path.{_≡_, refl, subst}
 use mathlib.Core.Bool.{true, false, cond}
 use mathlib.Core.Logic.{⊎-elim}
-use mathlib.Core.List.{List}
-use Prim.Native.Nat.{ℕ, _+_, _-_, _*_, _≤_, _<_}
+use Prim.Native.Nat.{ℕ, _+_, _-_, _≤_, _<_}
 use native.Mathlib.Omega.{arith}
 use native.Mathlib.Numerals.{add-one}
 use lib.Dec.{ltb}
 use borrow.Author.Tests.{lt-ltb, le-ltb}
 use Rattle.finite.specs.Logic.{_and_, split, and-true, and-false-left, and-false-right, not-so, not-both}
-use Rattle.finite.specs.Below.{least, least-off, least-pass, least-found, least-unique, below-cases}
+use Rattle.finite.specs.Below.{least, least-off, least-found, least-unique, below-cases}
 use Rattle.model.specs.declared.Row.{Row}
 use Rattle.model.specs.Limits.{LONGEST, BYTES}
 use Rattle.model.specs.Row.{touches}
@@ -20,11 +19,7 @@ use Rattle.laws.specs.RaceLaws.{Sized, touched, common-left}
 use Rattle.laws.specs.PairLaws.{inside-out}
 use Rattle.race.specs.declared.Found.{Found}
 use Rattle.race.specs.declared.Found.the-variants.{At, Nothing}
-use Rattle.bits.specs.Stage.{Holds}
-use Rattle.area.specs.Regions.{OVERLAP, GRID}
-use Rattle.area.specs.State.{overlaps}
-use Rattle.sets.specs.Walk.{Next}
-use Rattle.race.specs.Bytes.{Bounded, mayRace, lowestByte, lowest-apart, passed}
+use Rattle.race.specs.Bytes.{Bounded, mayRace, lowestByte, lowest-apart}
 
 -- ---- definitions
 
@@ -117,11 +112,6 @@ module _ (t : Table) (x y : ℕ) where
   unfolding racesAbove races mayRace
   pair-off f = and-false-right _ _ (and-false-left _ _ f)
 
-  -- rows that share no byte
-  pub pair-apart : overlaps t x y ≡ false → racesAbove t x y ≡ false
-  unfolding mayRace conflict clash overlaps
-  pair-apart o = pair-off (and-false-left _ _ (and-false-right _ _ (and-false-right _ _ o)))
-
   -- a racing access ends at or below BYTES
   pub race-ends : Bounded t → (r : Row) → r ≡ t .row x → x < t .rows → mayRace t x y ≡ true → r .start + r .size ≤ BYTES
   unfolding mayRace conflict clash
@@ -134,11 +124,6 @@ module _ (t : Table) where
   pub row-starts : (x : ℕ) → least (x + 1) (racesAbove t x) ≡ x + 1
   unfolding racesAbove
   row-starts x = least-off (λ y. ltb x y and races t x y) (x + 1) (λ k l. and-false-left _ _ (le-ltb x k (omega arith)))
-
-  -- it goes on to the next row that shares a byte
-  pub row-pass : (x j k n : ℕ) (w : List ℕ) → Holds OVERLAP GRID n (overlaps t) w → x < n → Next w (OVERLAP + x * GRID) (OVERLAP + x * GRID) j n k
-      → least j (racesAbove t x) ≡ j → least k (racesAbove t x) ≡ k
-  row-pass x j k n w h l next e = least-pass (racesAbove t x) j k e (passed h l next (pair-apart t x))
 
   pub row-off : (x n : ℕ) → n ≡ t .rows → least n (racesAbove t x) ≡ n → hasRace t x ≡ false
   unfolding hasRace racePartner

@@ -13,7 +13,6 @@ use model::Row;
 use model::Shared;
 use rules::shared;
 use run::Run;
-use sets::walk;
 
 pub mod pair; // edge 1, by all bits of a pair
 
@@ -88,8 +87,7 @@ pub enum Found {
     Nothing,
 }
 
-// The first pair in row order that races, then its lowest shared byte with no order: the lower row, the higher, the byte. Rows that
-// share no byte are passed over.
+// The first pair in row order that races, then its lowest shared byte with no order: the lower row, the higher, the byte.
 // Ruled out: one that shows the rows exchanged; one that shows the lowest shared byte, ordered or not.
 pub fn first_race(t: &Run, n: usize, w: &[u64]) -> Found
     requires { ⌜ Bounded (tableIn (now t) n) × Ready (tableIn (now t) n) n (now w) ⌝ }
@@ -98,13 +96,8 @@ pub fn first_race(t: &Run, n: usize, w: &[u64]) -> Found
     let mut answer = Found::Nothing;
     'pairs: for x in 0..n {
         let r = run::row(t, x as u16);
-        let start = r.start as u32;
-        let end = start + (r.size as u32);
-        let at = area::grid::at(area::OVERLAP, x);
-        let mut next = walk::next(w, at, at, x + 1, n);
-        while next < n {
-            let y = next;
-            next = walk::next(w, at, at, y + 1, n);
+        let end = (r.start as u32) + (r.size as u32);
+        for y in x + 1..n {
             let q = run::row(t, y as u16);
             if !may_race(t, n, x, y, r, q, w) {
                 continue;

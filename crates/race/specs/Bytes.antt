@@ -7,7 +7,9 @@ use native.Mathlib.Omega.{arith}
 use lib.ListN.{length}
 use Rattle.finite.specs.Logic.{_and_, split, and-true, not-so, not-both}
 use Rattle.bits.specs.Bit.{bit}
-use Rattle.bits.specs.Cube.{cube-bit}
+use Rattle.bits.specs.Within.{Within}
+use Rattle.bits.specs.Stage.{holds-kept}
+use Rattle.bits.specs.Cube.{cube-bit, cube-kept}
 use Rattle.model.specs.declared.Row.{Row}
 use Rattle.model.specs.declared.Shared.{Shared}
 use Rattle.model.specs.declared.Shared.the-variants.{At, Nothing}
@@ -20,7 +22,7 @@ use Rattle.model.specs.Race.{conflict}
 use Rattle.model.specs.Edge.{beforeNth}
 use Rattle.laws.specs.RaceLaws.{Sized, touched, common-left, common-right}
 use Rattle.rules.specs.Shared.{inBoth, lowest-at, lowest-nothing}
-use Rattle.area.specs.Regions.{LOCATION, PAIR, PAIRS}
+use Rattle.area.specs.Regions.{LOCATION, LOCATION-END, PAIR, PAIRS}
 use Rattle.area.specs.State.{Placed}
 
 -- ---- definitions
@@ -44,6 +46,21 @@ byteOr Nothing e = e
 -- the lowest byte that r and q share, r's end where there is none
 unfoldable pub lowestByte : Row → Row → ℕ
 lowestByte r q = byteOr (lowestShared (r .start) (r .size) (q .start) (q .size)) (r .start + r .size)
+
+-- ---- laws: a change in later words keeps it
+
+pub ready-kept : {t : Table} {n c d : ℕ} {w u : List ℕ} → LOCATION-END ≤ c → Within c d w u → Ready t n w → Ready t n u
+ready-kept later frame ready =
+    let few : _ ≤ ROWS = ready .0 in
+    let placed = ready .3 in (
+      ready .0,
+      omega (arith, ready .1, frame .len),
+      ready .2,
+      record {
+        mutuals = holds-kept (λ l. absurd (omega arith)) frame (placed .mutuals);
+        location = cube-kept (λ l. absurd (omega arith)) frame (placed .location);
+      },
+    )
 
 -- ---- laws: the bits of a pair
 

@@ -1,27 +1,23 @@
 -- What races are read from, and what a pair's bits say of each byte. Assumes nothing.
-use mathlib.Core.Path.{_≡_, refl, sym, subst}
+use mathlib.Core.Path.{_≡_, sym, subst}
 use mathlib.Core.Bool.{Bool, true, false, not}
 use mathlib.Core.List.{List}
 use Prim.Native.Nat.{ℕ, _+_, _-_, _*_, _≤_, _<_}
 use native.Mathlib.Omega.{arith}
 use lib.ListN.{length}
-use Rattle.finite.specs.Logic.{_and_, split, and-true, not-so, not-both}
+use Rattle.finite.specs.Logic.{_and_, split, not-so}
 use Rattle.bits.specs.Bit.{bit}
 use Rattle.bits.specs.Within.{Within}
 use Rattle.bits.specs.Stage.{holds-kept}
 use Rattle.bits.specs.Cube.{cube-bit, cube-kept}
-use Rattle.model.specs.declared.Row.{Row}
-use Rattle.model.specs.declared.Shared.{Shared}
-use Rattle.model.specs.declared.Shared.the-variants.{At, Nothing}
 use Rattle.model.specs.Limits.{ROWS, WORK, BYTES}
-use Rattle.model.specs.Row.{access, touches, lowestShared}
+use Rattle.model.specs.Row.{access}
 use Rattle.model.specs.Table.{Table}
 use Rattle.model.specs.Scope.{mutually}
 use Rattle.model.specs.Location.{common, before}
 use Rattle.model.specs.Race.{conflict}
 use Rattle.model.specs.Edge.{beforeNth}
-use Rattle.laws.specs.RaceLaws.{Sized, touched, common-left, common-right}
-use Rattle.rules.specs.Shared.{inBoth, lowest-at, lowest-nothing}
+use Rattle.laws.specs.RaceLaws.{Sized, touched, common-left}
 use Rattle.area.specs.Regions.{LOCATION, LOCATION-END, PAIR, PAIRS}
 use Rattle.area.specs.State.{Placed}
 
@@ -38,14 +34,6 @@ Bounded t = (i : ℕ) → i < t .rows → access (t .row i) ≡ true → t .row 
 -- x and y conflict and are not mutually-ordered
 unfoldable pub mayRace : Table → ℕ → ℕ → Bool
 mayRace t x y = conflict t x y and not (mutually t x y)
-
-unfoldable pub byteOr : Shared → ℕ → ℕ
-byteOr (At c) e = c
-byteOr Nothing e = e
-
--- the lowest byte that r and q share, r's end where there is none
-unfoldable pub lowestByte : Row → Row → ℕ
-lowestByte r q = byteOr (lowestShared (r .start) (r .size) (q .start) (q .size)) (r .start + r .size)
 
 -- ---- laws: a change in later words keeps it
 
@@ -86,20 +74,3 @@ unfolding beforeNth
 before-bit t n w x y b a m placed below-x below-y start-is past near place-is =
     let g : t .row x .start + (b - a) ≡ b = omega arith in
     subst (λ (z : ℕ). bit w m ≡ before t x y z) g (cube-bit (placed .location) m x y (b - a) place-is below-x below-y near)
-
--- ---- laws: where the search of a pair starts
-
-module _ (r q : Row) where
-  both-in : (c : ℕ) → common r q c ≡ true → inBoth (r .start) (r .size) (q .start) (q .size) c ≡ true
-  unfolding inBoth touches
-  both-in c e = and-true (common-left r q c e) (common-right r q c e)
-
-  apart : (s : Shared) → lowestShared (r .start) (r .size) (q .start) (q .size) ≡ s → (c : ℕ) → c < byteOr s (r .start + r .size) → common r q c ≡ true → ⊥
-  unfolding byteOr
-  apart (At d) e c l t = not-both (both-in c t) (lowest-at (r .start) (r .size) (q .start) (q .size) d .0 e .1 c l)
-  apart Nothing e c l t = not-both (both-in c t) (lowest-nothing (r .start) (r .size) (q .start) (q .size) .0 e c)
-
-  -- no byte below it is a byte of both
-  pub lowest-apart : (c : ℕ) → c < lowestByte r q → common r q c ≡ true → ⊥
-  unfolding lowestByte
-  lowest-apart c l t = apart _ refl c l t

@@ -19,7 +19,7 @@ use Rattle.laws.specs.RaceLaws.{Sized, touched, common-left}
 use Rattle.laws.specs.PairLaws.{inside-out}
 use Rattle.race.specs.declared.Found.{Found}
 use Rattle.race.specs.declared.Found.the-variants.{At, Nothing}
-use Rattle.race.specs.Bytes.{Bounded, mayRace, lowestByte, lowest-apart}
+use Rattle.race.specs.Bytes.{Bounded, mayRace}
 
 -- ---- definitions
 
@@ -46,11 +46,13 @@ module _ (t : Table) (x y : ℕ) where
   unfolding unordered
   unordered-common b e = split (split e .0) .0
 
-  -- it starts at the lowest shared byte
-  pub none-starts : (r q : Row) (b : ℕ) → r ≡ t .row x → q ≡ t .row y → b ≡ lowestByte r q → NoneBelow t x y b
-  none-starts r q b e f g c l =
-      not-so (unordered t x y c) (λ u.
-      lowest-apart r q c (subst (λ (z : ℕ). c < z) g l) (rw (e, f) (unordered-common c u)))
+  held : (b : ℕ) → unordered t x y b ≡ true → (t .row x .start ≤ b) × (b < t .row x .start + t .row x .size)
+  unfolding touches
+  held b u = inside-out (t .row x .start) (t .row x .size) b (common-left (t .row x) (t .row y) b (unordered-common b u))
+
+  -- it starts where x does
+  pub none-starts : (b : ℕ) → b ≡ t .row x .start → NoneBelow t x y b
+  none-starts b e c l = not-so (unordered t x y c) (λ u. let h = held c u .0 in omega arith)
 
   pub none-more : (b : ℕ) → NoneBelow t x y b → unordered t x y b ≡ false → NoneBelow t x y (b + 1)
   none-more b h f c l = ⊎-elim (λ e. rw e f) (λ m. h c m) (below-cases (rw add-one at l))
@@ -66,10 +68,6 @@ module _ (t : Table) (x y : ℕ) where
     -- a byte with no order is one of x's first LONGEST
     counted : (b : ℕ) → unordered t x y b ≡ true → (t .row x .start ≤ b) × (b < t .row x .start + LONGEST)
     counted b u = touched (t .row x) b (sized x l) (common-left (t .row x) (t .row y) b (unordered-common b u))
-
-    ended : (b : ℕ) → unordered t x y b ≡ true → b < t .row x .start + t .row x .size
-    unfolding touches
-    ended b u = inside-out (t .row x .start) (t .row x .size) b (common-left (t .row x) (t .row y) b (unordered-common b u)) .1
 
     -- the search found b
     pub race-nth : (b : ℕ) → NoneBelow t x y b → unordered t x y b ≡ true → raceNth t x y ≡ b - t .row x .start
@@ -100,7 +98,7 @@ module _ (t : Table) (x y : ℕ) where
     ends b h m = and-false-right _ _ (and-false-right _ _ (le-ltb (least LONGEST (λ k. unordered t x y (nth t x k))) LONGEST (omega (arith, none))))
       where
         off : (k : ℕ) → unordered t x y (nth t x k) ≡ false
-        off k = not-so (unordered t x y (nth t x k)) (λ u. not-both u (h (nth t x k) (let g = ended (nth t x k) u in omega arith)))
+        off k = not-so (unordered t x y (nth t x k)) (λ u. not-both u (h (nth t x k) (let g = held (nth t x k) u .1 in omega arith)))
 
         none : least LONGEST (λ k. unordered t x y (nth t x k)) ≡ LONGEST
         none = least-off (λ k. unordered t x y (nth t x k)) LONGEST (λ k j. off k)

@@ -1,16 +1,15 @@
 // Races: the first pair of rows that races, and its lowest byte with no location order either way. Some code reads none of the
 // rows, places or number of rows that it is given: they say which table its contract is about.
 ghost use mathlib.Core.Path.{_≡_};
-ghost use Prim.Native.Nat.{_+_, _<_};
+ghost use Prim.Native.Nat.{_<_};
 ghost use Rattle.run.specs.Layout.{tableIn, rowsIn};
 ghost use Rattle.model.specs.Table.{rowOf};
 ghost use Rattle.model.specs.Scope.{mutually};
 ghost use Rattle.model.specs.Location.{before};
 ghost use Rattle.model.specs.Race.{unordered};
-ghost use Rattle.race.specs.Bytes.{Ready, Bounded, mayRace, lowestByte};
+ghost use Rattle.race.specs.Bytes.{Ready, Bounded, mayRace};
 ghost use Rattle.race.specs.First.{foundRace};
 use model::Row;
-use model::Shared;
 use rules::shared;
 use run::Run;
 
@@ -71,17 +70,6 @@ pub fn may_race(t: &Run, n: usize, x: usize, y: usize, r: Row, q: Row, w: &[u64]
     !(x == y) & shared::clash(r, q) & !mutual_at(t, n, x, y, w)
 }
 
-// Where the byte search of a pair starts: the lowest byte that r and q share, and r's end where there is none.
-fn lowest_byte(r: Row, q: Row) -> u32
-    ensures { λ b. ⌜ b ≡ lowestByte r q ⌝ }
-{
-    let s = shared::lowest_shared(r.start, r.size, q.start, q.size);
-    match s {
-        Shared::At(c) => c as u32,
-        Shared::Nothing => (r.start as u32) + (r.size as u32),
-    }
-}
-
 pub enum Found {
     At { first: u16, second: u16, byte: u16 },
     Nothing,
@@ -96,13 +84,14 @@ pub fn first_race(t: &Run, n: usize, w: &[u64]) -> Found
     let mut answer = Found::Nothing;
     'pairs: for x in 0..n {
         let r = run::row(t, x as u16);
-        let end = (r.start as u32) + (r.size as u32);
+        let start = r.start as u32;
+        let end = start + (r.size as u32);
         for y in x + 1..n {
             let q = run::row(t, y as u16);
             if !may_race(t, n, x, y, r, q, w) {
                 continue;
             }
-            let mut b = lowest_byte(r, q);
+            let mut b = start;
             let hit = loop {
                 if end <= b {
                     break end;

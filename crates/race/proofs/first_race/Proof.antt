@@ -10,23 +10,24 @@ use Rattle.finite.specs.Below.{least, least-none, least-more}
 use native.Mathlib.Omega.{arith}
 use Prim.Native.Nat.{_-_, _*_, _≤_, _<_}
 use mathlib.Core.Logic.{⊎-elim}
-use mathlib.Core.Path.{_≡_, refl, sym, _∙_}
+use mathlib.Core.Path.{_≡_, refl, sym, ap, _∙_}
+use Rattle.model.specs.declared.Row.{Row}
 use borrow.Author.Needs.{needs}
 use Rattle.race.proofs.first_race.Statement.{statement}
 use Rattle.race.proofs.first_race.Tie as tie
 
 abbrev Inv-loop2 : tie.InvT-loop2
-Inv-loop2 t n w answer x r end y q b₀ b = NoneBelow (tableIn t n) x y b
+Inv-loop2 t n w answer x r start end y q b₀ b = NoneBelow (tableIn t n) x y b
 
 abbrev μ-loop2 : tie.MeasureT-loop2
-μ-loop2 t n w answer x r end y q b₀ b = end - b
+μ-loop2 t n w answer x r start end y q b₀ b = end - b
 
 abbrev Inv-loop : tie.InvT-loop
-Inv-loop t n w answer₀ x r end y₀ answer y =
+Inv-loop t n w answer₀ x r start end y₀ answer y =
     (x < y) × (y ≤ n) × (answer ≡ Nothing) × (least y (racesAbove (tableIn t n) x) ≡ y) × (end ≤ 2 * BYTES)
 
 abbrev μ-loop : tie.MeasureT-loop
-μ-loop t n w answer₀ x r end y₀ answer y = n - y
+μ-loop t n w answer₀ x r start end y₀ answer y = n - y
 
 abbrev Inv-pairs : tie.InvT-pairs
 Inv-pairs t n w answer₀ x₀ answer x = (x ≤ n) × (answer ≡ Nothing) × (least x (hasRace (tableIn t n)) ≡ x)
@@ -49,9 +50,7 @@ loop-again c =
 
 loop2-holds : tie.Need-loop2-holds Inv-loop2 μ-loop2 Inv-loop μ-loop Inv-pairs μ-pairs
 unfolding decode
-loop2-holds c =
-    none-starts _ _ _ _ _ _ (c .before .before .before .before .before .before .before .before .row .ensures) (c .before .before .before .row2 .ensures)
-    (c .lowest-byte .ensures)
+loop2-holds c = none-starts _ _ _ _ (ap (λ (v : Row). v .start) (c .before .before .before .before .before .before .before .row .ensures))
 
 loop2-again : tie.Need-loop2-again Inv-loop2 μ-loop2 Inv-loop μ-loop Inv-pairs μ-pairs
 loop2-again c = none-more _ _ _ _ (c .before .before .before .loop2 .inv) (sym (c .before .unordered-at .ensures) ∙ c .if3 .left)
@@ -59,26 +58,26 @@ loop2-again c = none-more _ _ _ _ (c .before .before .before .loop2 .inv) (sym (
 cast-t24 : tie.Need-cast-t24 Inv-loop2 μ-loop2 Inv-loop μ-loop Inv-pairs μ-pairs
 unfolding decode
 cast-t24 c =
-    let may = sym (c .before .before .before .before .before .before .may-race .ensures) ∙ not-false _ (c .before .before .before .before .before .if1 .left) in
-    let row = c .before .before .before .before .before .before .before .before .before .before .before .before .row .ensures in
-    let below = c .before .before .before .before .before .before .before .before .before .before .before .before .before .pairs-test .taken in
-    let ends = race-ends _ _ _ (c .before .before .before .before .before .before .before .before .before .before .before .before .before .before .before .before .pre .0) _ row below may in
+    let may = sym (c .before .before .before .before .before .may-race .ensures) ∙ not-false _ (c .before .before .before .before .if1 .left) in
+    let row = c .before .before .before .before .before .before .before .before .before .before .before .row .ensures in
+    let below = c .before .before .before .before .before .before .before .before .before .before .before .before .pairs-test .taken in
+    let ends = race-ends _ _ _ (c .before .before .before .before .before .before .before .before .before .before .before .before .before .before .before .pre .0) _ row below may in
     search needs
 
 loop-again-2 : tie.Need-loop-again-2 Inv-loop2 μ-loop2 Inv-loop μ-loop Inv-pairs μ-pairs
 unfolding decode
 loop-again-2 c =
+    let none = c .before .before .loop2 .inv in
     let found =
-    ⊎-elim (λ v. search-ran _ _ _ _ _ _ (c .before .before .loop2 .inv) (v .0 .taken) (v .1))
-    (λ v. search-hit _ _ _ _ _ _ (c .before .before .loop2 .inv) (sym (v .1 .ensures) ∙ v .2 .taken) (v .3))
+    ⊎-elim (λ v. search-ran _ _ _ _ _ _ none (v .0 .taken) (v .1)) (λ v. search-hit _ _ _ _ _ _ none (sym (v .1 .ensures) ∙ v .2 .taken) (v .3))
     (c .before .if2 .came)
     in
-    let inv = c .before .before .before .before .before .before .before .before .loop .inv in
-    let sized = c .before .before .before .before .before .before .before .before .before .before .before .before .before .before .before .pre .1 .2 in
-    let row = c .before .before .before .before .before .before .before .before .before .before .before .row .ensures in
-    let below = c .before .before .before .before .before .before .before .before .before .before .before .before .pairs-test .taken in
-    let none = pair-none _ _ _ sized below _ _ row (found .0) (c .if4 .left) in
-    (search needs, search needs, inv .2, least-more _ _ (inv .3) none, inv .4)
+    let inv = c .before .before .before .before .before .before .before .loop .inv in
+    let sized = c .before .before .before .before .before .before .before .before .before .before .before .before .before .before .pre .1 .2 in
+    let row = c .before .before .before .before .before .before .before .before .before .before .row .ensures in
+    let below = c .before .before .before .before .before .before .before .before .before .before .before .pairs-test .taken in
+    let off = pair-none _ _ _ sized below _ _ row (found .0) (c .if4 .left) in
+    (search needs, search needs, inv .2, least-more _ _ (inv .3) off, inv .4)
 
 pairs-again : tie.Need-pairs-again Inv-loop2 μ-loop2 Inv-loop μ-loop Inv-pairs μ-pairs
 unfolding decode
@@ -96,18 +95,18 @@ returns c =
 returns-2 : tie.Need-returns-2 Inv-loop2 μ-loop2 Inv-loop μ-loop Inv-pairs μ-pairs
 unfolding decode
 returns-2 c =
+    let none = c .before .before .before .loop2 .inv in
     let found =
-    ⊎-elim (λ v. search-ran _ _ _ _ _ _ (c .before .before .before .loop2 .inv) (v .0 .taken) (v .1))
-    (λ v. search-hit _ _ _ _ _ _ (c .before .before .before .loop2 .inv) (sym (v .1 .ensures) ∙ v .2 .taken) (v .3))
+    ⊎-elim (λ v. search-ran _ _ _ _ _ _ none (v .0 .taken) (v .1)) (λ v. search-hit _ _ _ _ _ _ none (sym (v .1 .ensures) ∙ v .2 .taken) (v .3))
     (c .before .before .if2 .came)
     in
-    let inv = c .before .before .before .before .before .before .before .before .before .loop .inv in
-    let may = sym (c .before .before .before .before .before .before .may-race .ensures) ∙ not-false _ (c .before .before .before .before .before .if1 .left) in
-    let sized = c .before .before .before .before .before .before .before .before .before .before .before .before .before .before .before .before .pre .1 .2 in
-    let below = c .before .before .before .before .before .before .before .before .before .before .before .before .before .pairs-test .taken in
+    let inv = c .before .before .before .before .before .before .before .before .loop .inv in
+    let may = sym (c .before .before .before .before .before .may-race .ensures) ∙ not-false _ (c .before .before .before .before .if1 .left) in
+    let sized = c .before .before .before .before .before .before .before .before .before .before .before .before .before .before .before .pre .1 .2 in
+    let below = c .before .before .before .before .before .before .before .before .before .before .before .before .pairs-test .taken in
     let hit = found .1 (c .before .if4 .taken) in
-    race-found _ _ _ _ (c .before .before .before .before .before .before .before .before .before .before .before .before .before .before .pairs .inv .2) below (inv .3)
-    (c .before .before .before .before .before .before .before .before .loop-test .taken) (pair-on _ _ _ sized below _ (inv .0) may (found .0) hit)
+    race-found _ _ _ _ (c .before .before .before .before .before .before .before .before .before .before .before .before .before .pairs .inv .2) below (inv .3)
+    (c .before .before .before .before .before .before .before .loop-test .taken) (pair-on _ _ _ sized below _ (inv .0) may (found .0) hit)
     (race-byte _ _ _ sized below _ (found .0) hit)
 
 pub first-race-spec : {M : Type 1} → statement M
@@ -115,6 +114,6 @@ first-race-spec =
     tie.close
     (tie.spec Inv-loop2 μ-loop2 Inv-loop μ-loop Inv-pairs μ-pairs pairs-holds (λ c. search needs) (λ c κs. search needs) (λ c. search needs)
     (λ c. search needs) (λ c. search needs) (λ c. search needs) loop-holds (λ c. search needs) (λ c κs. search needs) (λ c κs. search needs)
-    (λ c. search needs) (λ c. search needs) loop-again (λ c κs. search needs) loop2-holds (λ c κs. search needs) (λ c. search needs)
-    (λ c. search needs) loop2-again (λ c. search needs) (λ c. search needs) cast-t24 (λ c. search needs) (λ c. search needs) loop-again-2
-    (λ c. search needs) (λ c. search needs) pairs-again returns returns-2)
+    (λ c. search needs) (λ c. search needs) loop-again loop2-holds (λ c κs. search needs) (λ c. search needs) (λ c. search needs)
+    loop2-again (λ c. search needs) (λ c. search needs) cast-t24 (λ c. search needs) (λ c. search needs) loop-again-2 (λ c. search needs)
+    (λ c. search needs) pairs-again returns returns-2)

@@ -5,13 +5,13 @@ use mathlib.Core.List.{List}
 use Prim.Native.Nat.{ℕ, _≤_, _<_}
 use lib.Dec.{ltb, eqb}
 use borrow.Author.Tests.{lt-ltb, le-ltb, not-false}
-use Rattle.finite.specs.Logic.{_and_, _or_, or-off, and-false-left, and-false-right, not-out, not-so, not-both, split, and-on}
+use Rattle.finite.specs.Logic.{_and_, _or_, or-off, and-false-left, and-false-right, not-out, not-so, not-both, split, and-true, and-on}
 use Rattle.finite.specs.Below.{anyBelow, any-out}
 use Rattle.model.specs.declared.Mode.{Mode}
 use Rattle.model.specs.declared.Row.{Row}
-use Rattle.model.specs.Row.{atomic, barrier, control, sameInstance, reads, writes, releases, acquires, classIn}
+use Rattle.model.specs.Row.{atomic, barrier, control, executionOf, sameInstance, reads, writes, releases, acquires, classIn}
 use Rattle.model.specs.Table.{Table, decode, rowOf, atomicSource}
-use Rattle.model.specs.Scope.{together, mutually, later, laterWriter, follows}
+use Rattle.model.specs.Scope.{shares, sameLocation, together, mutualRows, mutually, later, laterWriter, follows}
 use Rattle.model.specs.Moment.{sameAgent}
 use Rattle.model.specs.Synchronizes.{continues, ends, sequence, takesFrom, leads, trails, carriesOut, carriesIn, carriesOver}
 use Rattle.model.specs.Synchronizes.{joins, arrives, passes, syncAtomics, syncFromBarrier, syncToBarrier, syncBarriers, syncControl, synchronizes}
@@ -62,6 +62,33 @@ module _ (b : List ℕ) (p : List (List ℕ)) (mode : Mode) (n : ℕ) where
   pub ends-told : (a x z : ℕ) (m : Bool) (h r q : Row) (v : Bool) → m ≡ mutually (decode b p mode n) a z → h ≡ rowOf b a → r ≡ rowOf b x
       → q ≡ rowOf b z → v ≡ endRows (mode .counted) m h r q → ends (decode b p mode n) a x z ≡ v
   ends-told a x z m h r q v mutual-is head-is row-is other-is told = rw (ends-is a x z) cc
+
+  -- M3: where the cheap tests fail, and where they pass
+  pub mutual-off : (i j : ℕ) (r q : Row) (x : Bool) → r ≡ rowOf b i → q ≡ rowOf b j → x ≡ sameLocation r q → not (not (eqb i j) and x) ≡ true
+      → false ≡ mutually (decode b p mode n) i j
+  unfolding mutually mutualRows decode
+  mutual-off i j r q x first-is second-is same-is tests-fail =
+      rw (← first-is, ← second-is, ← same-is)
+      (sym (not-so _ (λ h. not-both (and-true (split h .0) (split (split (split h .1) .0) .1)) (not-out _ tests-fail))))
+
+  pub mutual-on : (i j : ℕ) (r q : Row) (x v : Bool) (o : List (List ℕ)) → r ≡ rowOf b i → q ≡ rowOf b j → not (not (eqb i j) and x) ≡ false
+      → o ≡ p → v ≡ mutualRows o r q → v ≡ mutually (decode b p mode n) i j
+  unfolding mutually decode
+  mutual-on i j r q x v o first-is second-is tests-pass places-is told =
+      rw (← first-is, ← second-is, ← places-is) (told ∙ sym (and-on _ _ (split (not-false _ tests-pass) .0)))
+
+  -- M5: the same of control barriers
+  pub joins-off : (i j : ℕ) (r q : Row) (x : Bool) → r ≡ rowOf b i → q ≡ rowOf b j → x ≡ sameInstance r q → not (not (eqb i j) and x) ≡ true
+      → false ≡ joins (decode b p mode n) i j
+  unfolding joins decode
+  joins-off i j r q x first-is second-is same-is tests-fail =
+      sym (and-false-left _ _ (rw (← first-is, ← second-is, ← same-is) (not-out (not (eqb i j) and x) tests-fail)))
+
+  pub joins-on : (i j : ℕ) (r q : Row) (x v : Bool) (o : List (List ℕ)) → r ≡ rowOf b i → q ≡ rowOf b j → x ≡ sameInstance r q
+      → not (not (eqb i j) and x) ≡ false → o ≡ p → v ≡ shares o (executionOf r) (r .agent) (q .agent) → v ≡ joins (decode b p mode n) i j
+  unfolding joins decode
+  joins-on i j r q x v o first-is second-is same-is tests-pass places-is told =
+      rw (← first-is, ← second-is, ← places-is) (told ∙ sym (and-on _ _ (rw (← same-is) (not-false (not (eqb i j) and x) tests-pass))))
 
   -- M4, where the cheap test fails, and where it passes
   pub sequence-off : (a x : ℕ) → follows (decode b p mode n) a x ≡ false → eqb a x ≡ sequence (decode b p mode n) a x

@@ -116,65 +116,53 @@ module _ (b : List ℕ) (p : List (List ℕ)) (mode : Mode) (n : ℕ) where
       rw (ordered, ← source-is, lt-ltb s n source-there, ← first-is, ← second-is, ← sequence-is) (with-true (writes r) (reads q) v)
 
   -- M5: where the cheap tests on the rows fail, and where they pass
-  pub from-off : (a c : ℕ) (r q : Row) (x y z : Bool) → r ≡ rowOf b a → q ≡ rowOf b c
-      → x ≡ barrier r → y ≡ atomic q → z ≡ together p r q → not (x and y and z) ≡ true
+  pub from-off : (a c : ℕ) (r q : Row) (d : Bool) → r ≡ rowOf b a → q ≡ rowOf b c → d ≡ (barrier r and atomic q and together p r q) → not d ≡ true
       → false ≡ syncFromBarrier (decode b p mode n) a c
   unfolding syncFromBarrier decode
-  from-off a c r q x y z first-is second-is barrier-is atomic-is together-is tests-fail =
-      sym (and-false-left _ _ (rw (← first-is, ← second-is, ← barrier-is, ← atomic-is, ← together-is) (not-out (x and y and z) tests-fail)))
+  from-off a c r q d first-is second-is told tests-fail =
+      sym (and-false-left _ _ (rw (← first-is, ← second-is, ← told) (not-out d tests-fail)))
 
-  pub from-on : (a c : ℕ) (r q : Row) (x y z v : Bool) → r ≡ rowOf b a → q ≡ rowOf b c
-      → x ≡ barrier r → y ≡ atomic q → z ≡ together p r q → not (x and y and z) ≡ false
+  pub from-on : (a c : ℕ) (r q : Row) (d v : Bool) → r ≡ rowOf b a → q ≡ rowOf b c → d ≡ (barrier r and atomic q and together p r q) → not d ≡ false
       → v ≡ anyBelow n (carriesOut (decode b p mode n) a c) → v ≡ syncFromBarrier (decode b p mode n) a c
   unfolding syncFromBarrier decode
-  from-on a c r q x y z v first-is second-is barrier-is atomic-is together-is tests-pass told =
-      told ∙ sym (and-on _ _ (rw (← first-is, ← second-is, ← barrier-is, ← atomic-is, ← together-is) (not-false (x and y and z) tests-pass)))
+  from-on a c r q d v first-is second-is told tests-pass rest =
+      rest ∙ sym (and-on _ _ (rw (← first-is, ← second-is, ← told) (not-false d tests-pass)))
 
-  pub to-off : (a c : ℕ) (r q : Row) (x y z : Bool) → r ≡ rowOf b a → q ≡ rowOf b c
-      → x ≡ atomic r → y ≡ barrier q → z ≡ together p r q → not (x and y and z) ≡ true
+  pub to-off : (a c : ℕ) (r q : Row) (d : Bool) → r ≡ rowOf b a → q ≡ rowOf b c → d ≡ (atomic r and barrier q and together p r q) → not d ≡ true
       → false ≡ syncToBarrier (decode b p mode n) a c
   unfolding syncToBarrier decode
-  to-off a c r q x y z first-is second-is atomic-is barrier-is together-is tests-fail =
-      sym (and-false-left _ _ (rw (← first-is, ← second-is, ← atomic-is, ← barrier-is, ← together-is) (not-out (x and y and z) tests-fail)))
+  to-off a c r q d first-is second-is told tests-fail =
+      sym (and-false-left _ _ (rw (← first-is, ← second-is, ← told) (not-out d tests-fail)))
 
-  pub to-on : (a c : ℕ) (r q : Row) (x y z v : Bool) → r ≡ rowOf b a → q ≡ rowOf b c
-      → x ≡ atomic r → y ≡ barrier q → z ≡ together p r q → not (x and y and z) ≡ false
+  pub to-on : (a c : ℕ) (r q : Row) (d v : Bool) → r ≡ rowOf b a → q ≡ rowOf b c → d ≡ (atomic r and barrier q and together p r q) → not d ≡ false
       → v ≡ anyBelow n (carriesIn (decode b p mode n) a c) → v ≡ syncToBarrier (decode b p mode n) a c
   unfolding syncToBarrier decode
-  to-on a c r q x y z v first-is second-is atomic-is barrier-is together-is tests-pass told =
-      told ∙ sym (and-on _ _ (rw (← first-is, ← second-is, ← atomic-is, ← barrier-is, ← together-is) (not-false (x and y and z) tests-pass)))
+  to-on a c r q d v first-is second-is told tests-pass rest =
+      rest ∙ sym (and-on _ _ (rw (← first-is, ← second-is, ← told) (not-false d tests-pass)))
 
-  pub over-off : (a c : ℕ) (r q : Row) (x y z : Bool) → r ≡ rowOf b a → q ≡ rowOf b c
-      → x ≡ barrier r → y ≡ barrier q → z ≡ together p r q → not (not (eqb a c) and x and y and z) ≡ true
+  pub over-off : (a c : ℕ) (r q : Row) (d : Bool) → r ≡ rowOf b a → q ≡ rowOf b c → d ≡ (not (eqb a c) and barrier r and barrier q and together p r q) → not d ≡ true
       → false ≡ syncBarriers (decode b p mode n) a c
   unfolding syncBarriers decode
-  over-off a c r q x y z first-is second-is first-barrier second-barrier together-is tests-fail =
-      sym (and-false-left _ _ (rw (← first-is, ← second-is, ← first-barrier, ← second-barrier, ← together-is)
-      (not-out (not (eqb a c) and x and y and z) tests-fail)))
+  over-off a c r q d first-is second-is told tests-fail =
+      sym (and-false-left _ _ (rw (← first-is, ← second-is, ← told) (not-out d tests-fail)))
 
-  pub over-on : (a c : ℕ) (r q : Row) (x y z v : Bool) → r ≡ rowOf b a → q ≡ rowOf b c
-      → x ≡ barrier r → y ≡ barrier q → z ≡ together p r q → not (not (eqb a c) and x and y and z) ≡ false
+  pub over-on : (a c : ℕ) (r q : Row) (d v : Bool) → r ≡ rowOf b a → q ≡ rowOf b c → d ≡ (not (eqb a c) and barrier r and barrier q and together p r q) → not d ≡ false
       → v ≡ anyBelow n (carriesOver (decode b p mode n) a c) → v ≡ syncBarriers (decode b p mode n) a c
   unfolding syncBarriers decode
-  over-on a c r q x y z v first-is second-is first-barrier second-barrier together-is tests-pass told =
-      told ∙ sym (and-on _ _ (rw (← first-is, ← second-is, ← first-barrier, ← second-barrier, ← together-is)
-      (not-false (not (eqb a c) and x and y and z) tests-pass)))
+  over-on a c r q d v first-is second-is told tests-pass rest =
+      rest ∙ sym (and-on _ _ (rw (← first-is, ← second-is, ← told) (not-false d tests-pass)))
 
-  pub control-off : (a c : ℕ) (r q : Row) (x y z : Bool) → r ≡ rowOf b a → q ≡ rowOf b c
-      → x ≡ barrier r → y ≡ barrier q → z ≡ together p r q → not (not (eqb a c) and x and y and z) ≡ true
+  pub control-off : (a c : ℕ) (r q : Row) (d : Bool) → r ≡ rowOf b a → q ≡ rowOf b c → d ≡ (not (eqb a c) and barrier r and barrier q and together p r q) → not d ≡ true
       → false ≡ syncControl (decode b p mode n) a c
   unfolding syncControl decode
-  control-off a c r q x y z first-is second-is first-barrier second-barrier together-is tests-fail =
-      sym (and-false-left _ _ (rw (← first-is, ← second-is, ← first-barrier, ← second-barrier, ← together-is)
-      (not-out (not (eqb a c) and x and y and z) tests-fail)))
+  control-off a c r q d first-is second-is told tests-fail =
+      sym (and-false-left _ _ (rw (← first-is, ← second-is, ← told) (not-out d tests-fail)))
 
-  pub control-on : (a c : ℕ) (r q : Row) (x y z v : Bool) → r ≡ rowOf b a → q ≡ rowOf b c
-      → x ≡ barrier r → y ≡ barrier q → z ≡ together p r q → not (not (eqb a c) and x and y and z) ≡ false
+  pub control-on : (a c : ℕ) (r q : Row) (d v : Bool) → r ≡ rowOf b a → q ≡ rowOf b c → d ≡ (not (eqb a c) and barrier r and barrier q and together p r q) → not d ≡ false
       → v ≡ anyBelow n (passes (decode b p mode n) a c) → v ≡ syncControl (decode b p mode n) a c
   unfolding syncControl decode
-  control-on a c r q x y z v first-is second-is first-barrier second-barrier together-is tests-pass told =
-      told ∙ sym (and-on _ _ (rw (← first-is, ← second-is, ← first-barrier, ← second-barrier, ← together-is)
-      (not-false (not (eqb a c) and x and y and z) tests-pass)))
+  control-on a c r q d v first-is second-is told tests-pass rest =
+      rest ∙ sym (and-on _ _ (rw (← first-is, ← second-is, ← told) (not-false d tests-pass)))
 
   pub sync-off : (a c : ℕ) (r q : Row) (x y : Bool) → r ≡ rowOf b a → q ≡ rowOf b c → x ≡ releases r → y ≡ acquires q
       → not (x and y) ≡ true → false ≡ synchronizes (decode b p mode n) a c

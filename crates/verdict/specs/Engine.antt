@@ -11,13 +11,13 @@ use Rattle.model.specs.Check.{verdict, checkAnswer, cycleAfter}
 use Rattle.bits.specs.Within.{Within, within-trans, within-widen}
 use Rattle.bits.specs.Cube.{cube-kept}
 use Rattle.area.specs.Regions.{MUTUAL, LOCATION-END, OVERLAP, LOCATED-END, EDGE, LAYERS-END}
-use Rattle.area.specs.State.{Located}
+use Rattle.area.specs.State.{Placed}
 use Rattle.race.specs.Bytes.{Ready, Bounded}
 use Rattle.run.specs.Layout.{tableIn}
 use Rattle.known.specs.Fit.{Fit, FitRun}
 use Rattle.grids.specs.Grid.{grid-kept}
 use Rattle.grids.specs.Given.{Given, given-few}
-use Rattle.grids.specs.Location.{Judging, judging-located}
+use Rattle.grids.specs.Location.{Judging, judging-placed}
 use Rattle.sets_engine.specs.Engine.{MadeJudging}
 
 -- ---- definitions
@@ -37,12 +37,12 @@ few-of fits = fits .fit .few
 pub bounded-of : {t : Table} → Fit t → Bounded t
 bounded-of fit i l a = fit .ended i l a
 
-pub ready-of : {t : Table} {n : ℕ} {w u : List ℕ} → Fit t → n ≤ ROWS → WORK ≤ length w → Within MUTUAL LOCATED-END w u → Located t n u → Ready t n u
+pub ready-of : {t : Table} {n : ℕ} {w u : List ℕ} → Fit t → n ≤ ROWS → WORK ≤ length w → Within MUTUAL LOCATED-END w u → Placed t n u → Ready t n u
 ready-of fit few room f l = let e = f .len in (few, omega arith, fit .sized, l)
 
 -- what is read of the sets, in the words of the other engine
 pub ready-given : {t : Table} {n : ℕ} {s w : List ℕ} → Given t n s w → Judging t n w → Ready t n w
-ready-given g j = (given-few g, g .room, g .opened .fit .sized, judging-located (given-few g) j)
+ready-given g j = (given-few g, g .room, g .opened .fit .sized, judging-placed (given-few g) j)
 
 -- edges and the search for a cycle keep it
 pub judging-kept : {t : Table} {n : ℕ} {w u : List ℕ} → n ≤ ROWS → Within EDGE LAYERS-END w u → Judging t n w → Judging t n u

@@ -2,12 +2,11 @@
 ghost use mathlib.Core.Path.{_≡_};
 ghost use Prim.Native.Nat.{_≤_};
 ghost use lib.ListN.{length};
-ghost use Rattle.model.specs.Limits.{ROWS, WORK, CYCLE};
-ghost use Rattle.model.specs.Table.{decode};
+ghost use Rattle.model.specs.Limits.{WORK, CYCLE};
 ghost use Rattle.model.specs.Check.{verdict, race, raceFree, raceOr, overwrittenOr, checkAnswer, cycleAfter};
 ghost use Rattle.bits.specs.Within.{Within};
 ghost use Rattle.area.specs.Regions.{MUTUAL, LOCATED-END, EDGE, LAYERS-END};
-ghost use Rattle.area.specs.State.{Located};
+ghost use Rattle.area.specs.State.{Placed};
 ghost use Rattle.run.specs.Layout.{tableIn};
 ghost use Rattle.known.specs.Fit.{FitRun};
 ghost use Rattle.race.specs.Bytes.{Ready, Bounded};
@@ -15,26 +14,15 @@ ghost use Rattle.axioms.specs.Sources.{sourceIn};
 ghost use Rattle.verdict.specs.Engine.{Judges};
 use crate::answers;
 use model::CheckAnswer;
-use model::Mode;
-use model::Places;
 use run::Run;
-
-// Location order of n rows.
-fn locate_rows(rows: &[u8], p: Places, mode: Mode, n: usize, w: &mut [u64])
-    requires { ⌜ (n ≤ ROWS) × (WORK ≤ length (now w)) ⌝ }
-    ensures { λ _. ⌜ Located (decode (now (rows .entry)) p mode n) n (now (w .exit)) × Within MUTUAL LOCATED-END (now (w .entry)) (now (w .exit)) ⌝ }
-{
-    order::happens_before(rows, p, mode, n, w);
-    location::fill_location(rows, p, mode, n, w);
-    overlap::fill_overlaps(rows, n, w);
-}
 
 // Location order of a run of n rows.
 pub fn locate(t: &Run, n: usize, w: &mut [u64])
     requires { ⌜ FitRun (now t) n × (WORK ≤ length (now w)) ⌝ }
-    ensures { λ _. ⌜ Located (tableIn (now (t .entry)) n) n (now (w .exit)) × Within MUTUAL LOCATED-END (now (w .entry)) (now (w .exit)) ⌝ }
+    ensures { λ _. ⌜ Placed (tableIn (now (t .entry)) n) n (now (w .exit)) × Within MUTUAL LOCATED-END (now (w .entry)) (now (w .exit)) ⌝ }
 {
-    locate_rows(run::rows_of(t), run::places(t), run::mode(t), n, w);
+    order::happens_before(t, n, w);
+    location::fill_location(t, n, w);
 }
 
 // The verdict where no edges make a cycle: overwritten, else a race, else race-free.

@@ -17,7 +17,7 @@ over-reader-requires : tie.Need-over-reader-requires
 over-reader-requires c κs =
     let pre = c .before .before .before .before .before .before .before .before .before .before .before .before .pre in (
       pre .0,
-      known-kept (omega arith) (omega arith) (pre .1)
+      known-kept (omega arith) (pre .1)
           (edges-held (c .before .before .before .before .before .before .before .before .fill-edges .ensures)
           (c .before .before .before .before .cycle-start .ensures .1) .1),
     )

@@ -43,7 +43,7 @@ settle-requires c κs =
     let start = c .before .before .before .before .cycle-start .ensures in (
       pre .1,
       pre .2,
-      known-kept (omega arith) (omega arith) (pre .3)
+      known-kept (omega arith) (pre .3)
           (edges-held (c .before .before .before .before .before .before .before .before .fill-edges .ensures) (start .1) .1),
     )
 

@@ -143,10 +143,3 @@ OVERLAP = REACHED
 
 abbrev pub OVERLAP-END : ℕ
 OVERLAP-END = OVERLAP + ROWS-GRID
-
--- while that is made: the rows with a byte in each cell
-abbrev pub CELLS : ℕ
-CELLS = MET + ROWS
-
-abbrev pub CELLS-END : ℕ
-CELLS-END = CELLS + ROWS

@@ -3,16 +3,16 @@ use mathlib.Core.Bool.{Bool}
 use mathlib.Core.List.{List}
 use Prim.Native.Nat.{ℕ, _*_, _≤_}
 use native.Mathlib.Omega.{arith}
-use Rattle.bits.specs.Within.{Within, within-trans, within-widen}
-use Rattle.bits.specs.Stage.{Holds, Made, holds-kept}
+use Rattle.bits.specs.Within.{Within}
+use Rattle.bits.specs.Stage.{Holds, holds-kept}
 use Rattle.bits.specs.Cube.{Cube, cube-kept}
 use Rattle.model.specs.Row.{overlap}
 use Rattle.model.specs.Table.{Table}
 use Rattle.model.specs.Scope.{mutually}
 use Rattle.model.specs.Happens.{happens}
 use Rattle.model.specs.Edge.{beforeNth}
-use Rattle.area.specs.Regions.{MUTUAL, HAPPENS, HAPPENS-END, STEP-END, LOCATION, LOCATION-END, LOCATED-END, OVERLAP, OVERLAP-END}
-use Rattle.area.specs.Regions.{CELLS, GRID, MOMENTS, PAIR, PAIRS}
+use Rattle.area.specs.Regions.{MUTUAL, HAPPENS, HAPPENS-END, STEP-END, LOCATION, LOCATION-END, LOCATED-END}
+use Rattle.area.specs.Regions.{GRID, MOMENTS, PAIR, PAIRS}
 
 -- ---- definitions
 
@@ -30,12 +30,6 @@ pub record Placed (t : Table) (n : ℕ) (w : List ℕ) : Type 0 where
 unfoldable pub overlaps : Table → ℕ → ℕ → Bool
 overlaps t x y = overlap (t .row x) (t .row y)
 
--- what edges, races and choices are made from: the same, and which rows share bytes
-pub record Located (t : Table) (n : ℕ) (w : List ℕ) : Type 0 where
-  pub mutuals : Holds MUTUAL GRID n (mutually t) w
-  pub location : Cube LOCATION PAIRS PAIR n (beforeNth t) w
-  pub overlapping : Holds OVERLAP GRID n (overlaps t) w
-
 -- what a stage that makes each of these says: no word outside the regions that it works in changed
 pub record MadeOrdered (t : Table) (n : ℕ) (w u : List ℕ) : Type 0 where
   pub ordered : Ordered t n u
@@ -45,10 +39,6 @@ pub record MadePlaced (t : Table) (n : ℕ) (w u : List ℕ) : Type 0 where
   pub placed : Placed t n u
   pub frame : Within LOCATION LOCATED-END w u
 
-pub record MadeLocated (t : Table) (n : ℕ) (w u : List ℕ) : Type 0 where
-  pub located : Located t n u
-  pub frame : Within LOCATION LOCATED-END w u
-
 -- ---- laws: a change in later words, or between what it holds, keeps each
 
 pub ordered-kept : {t : Table} {n c d : ℕ} {w u : List ℕ} → HAPPENS-END ≤ c → Within c d w u → Ordered t n w → Ordered t n u
@@ -56,26 +46,7 @@ ordered-kept {n = n} l f o =
     let h : 3 * n ≤ 64 * MOMENTS = o .happening .fits in
     record { mutuals = holds-kept (λ h. absurd (omega arith)) f (o .mutuals); happening = holds-kept (λ h. absurd (omega arith)) f (o .happening) }
 
-pub located-kept : {t : Table} {n c d : ℕ} {w u : List ℕ} → LOCATION-END ≤ c → d ≤ OVERLAP → Within c d w u → Located t n w → Located t n u
-located-kept {n = n} l m f o =
+pub placed-kept : {t : Table} {n c d : ℕ} {w u : List ℕ} → LOCATION-END ≤ c → Within c d w u → Placed t n w → Placed t n u
+placed-kept {n = n} l f o =
     let h : n ≤ 64 * GRID = o .mutuals .fits in
-    record {
-      mutuals = holds-kept (λ h. absurd (omega arith)) f (o .mutuals);
-      location = cube-kept (λ h. absurd (omega arith)) f (o .location);
-      overlapping = holds-kept (λ h. m) f (o .overlapping);
-    }
-
--- ---- laws: making
-
--- location order, and then which rows share bytes
-pub placed-located : {t : Table} {n : ℕ} {w v u : List ℕ} → MadePlaced t n w v → Made CELLS OVERLAP-END OVERLAP GRID n (overlaps t) v u → MadeLocated t n w u
-placed-located {n = n} p m =
-    let h : n ≤ 64 * GRID = p .placed .mutuals .fits in
-    record {
-      located = record {
-        mutuals = holds-kept (λ h. absurd (omega arith)) (m .frame) (p .placed .mutuals);
-        location = cube-kept (λ h. absurd (omega arith)) (m .frame) (p .placed .location);
-        overlapping = m .holds;
-      };
-      frame = within-trans (p .frame) (within-widen LOCATION LOCATED-END (omega arith) (omega arith) (m .frame));
-    }
+    record { mutuals = holds-kept (λ h. absurd (omega arith)) f (o .mutuals); location = cube-kept (λ h. absurd (omega arith)) f (o .location) }

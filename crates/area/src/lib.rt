@@ -87,7 +87,3 @@ pub const LAYERS_END: usize = LAYERS + ROWS_GRID + GRID;
 pub const OVERLAP: usize = REACHED;
 
 pub const OVERLAP_END: usize = OVERLAP + ROWS_GRID;
-
-pub const CELLS: usize = MET + model::ROWS;
-
-pub const CELLS_END: usize = CELLS + model::ROWS;

@@ -1,19 +1,15 @@
 -- Laws of the edges that the stages cite. Assumes nothing.
-use mathlib.Core.Path.{_≡_, refl, sym, ap, ap₂, subst, _∙_}
+use mathlib.Core.Path.{_≡_, refl, subst}
 use mathlib.Core.Bool.{Bool, true, false, not, cond}
 use Prim.Native.Nat.{ℕ}
 use lib.Dec.{eqb}
-use Rattle.finite.specs.Logic.{_and_, and-false-left, and-false-right, not-out, and-on-right}
-use Rattle.finite.specs.Below.{any-not}
+use Rattle.finite.specs.Logic.{_and_}
 use Rattle.model.specs.declared.Row.{Row}
-use Rattle.model.specs.Limits.{LONGEST, INITIAL}
+use Rattle.model.specs.Limits.{INITIAL}
 use Rattle.model.specs.Row.{reads, writes, overlap}
 use Rattle.model.specs.Table.{Table}
 use Rattle.model.specs.Scope.{follows}
-use Rattle.model.specs.Race.{nth}
-use Rattle.model.specs.Edge.{beforeNth, beforeSome, readsFrom, fromReads, edgeNumber}
-use Rattle.area.specs.State.{overlaps}
-use Rattle.race.specs.Bytes.{before-apart}
+use Rattle.model.specs.Edge.{beforeSome, readsFrom, fromReads, edgeNumber}
 
 -- ---- laws
 
@@ -39,27 +35,3 @@ module _ (t : Table) (source : ℕ → ℕ) (y z s : ℕ) (r q : Row) (e : s ≡
   from-source a b i l m =
       let j : eqb (source y) INITIAL ≡ false = subst (λ (v : ℕ). eqb v INITIAL ≡ false) e i in
       rw (j, l, m, f, e) refl
-
--- ---- laws: where an edge can't be
-
--- edge 1, of rows that share no byte
-pub some-apart : (t : Table) (x y : ℕ) → overlaps t x y ≡ false → beforeSome t x y ≡ false
-unfolding beforeSome beforeNth
-some-apart t x y o = any-not (beforeNth t x y) LONGEST (λ k l. before-apart t x y (nth t x k) o)
-
--- edge 4, of a row that doesn't read, and from one that read the initial value to a row that shares none of its bytes
-module _ (t : Table) (source : ℕ → ℕ) (x y : ℕ) where
-  pub from-unread : (r : Row) (a : Bool) → r ≡ t .row x → a ≡ reads r → not a ≡ true → false ≡ fromReads t source x y
-  unfolding fromReads
-  from-unread r a e f h = sym (and-false-left _ _ (and-false-right _ _ (sym (ap reads e) ∙ sym f ∙ not-out a h)))
-
-  module _ (i : eqb (source x) INITIAL ≡ true) where
-    pub from-apart : overlaps t x y ≡ false → fromReads t source x y ≡ false
-    unfolding fromReads overlaps
-    from-apart o = rw i (and-false-right _ _ (and-false-right _ _ o))
-
-    -- and to one that shares some
-    pub from-shared : (q : Row) (b : Bool) → reads (t .row x) ≡ true → overlaps t x y ≡ true → q ≡ t .row y → b ≡ writes q
-        → (not (eqb x y) and b) ≡ fromReads t source x y
-    unfolding fromReads overlaps
-    from-shared q b r o e f = rw i (ap₂ _and_ (sym (and-on-right _ _ r)) (f ∙ ap writes e ∙ sym (and-on-right _ _ o)))

@@ -1,4 +1,3 @@
 pub mod Sources
 pub mod Edges
 pub mod Overwritten
-pub mod Added

@@ -1,28 +1,21 @@
 -- Axiom B's first break as an answer, and the turns of its searches. Assumes nothing.
-use mathlib.Core.Path.{_≡_, refl, sym, subst, _∙_}
-use mathlib.Core.Bool.{Bool, true, false, not, cond}
-use mathlib.Core.List.{List}
-use Prim.Native.Nat.{ℕ, _+_, _*_, _≤_, _<_}
+use mathlib.Core.Path.{_≡_, refl, sym, subst}
+use mathlib.Core.Bool.{Bool, true, false, cond}
+use Prim.Native.Nat.{ℕ, _+_, _≤_, _<_}
 use native.Mathlib.Omega.{arith}
 use lib.Dec.{ltb}
 use borrow.Author.Tests.{lt-ltb, le-ltb, ltb-true}
-use Rattle.finite.specs.Logic.{_and_, split, and-true, and-false-left, and-false-right, not-so, not-out, not-both}
-use Rattle.finite.specs.Below.{least, least-is, least-off, least-pass}
-use Rattle.bits.specs.Stage.{Holds}
-use Rattle.sets.specs.Walk.{Next}
+use Rattle.finite.specs.Logic.{_and_, split, and-false-left}
+use Rattle.finite.specs.Below.{least-is, least-off}
 use Rattle.model.specs.declared.Row.{Row}
 use Rattle.model.specs.Limits.{LONGEST, BYTES}
 use Rattle.model.specs.Row.{access, reads, writes, touches}
 use Rattle.model.specs.Table.{Table}
 use Rattle.model.specs.Location.{before}
 use Rattle.model.specs.Race.{nth}
-use Rattle.model.specs.Edge.{beforeSome, overwrites, overwritesNth, overNth, overwriting, overWriter, isOverwritten, overReader, overByte}
-use Rattle.laws.specs.RaceLaws.{Sized}
-use Rattle.laws.specs.ChoiceLaws.{some-before}
+use Rattle.model.specs.Edge.{overwrites, overwritesNth, overNth, overwriting, overWriter, isOverwritten, overReader, overByte}
 use Rattle.laws.specs.PairLaws.{inside-out, common-out}
-use Rattle.area.specs.Regions.{OVERLAP, GRID}
-use Rattle.area.specs.State.{overlaps}
-use Rattle.race.specs.Bytes.{Bounded, before-apart, overlaps-sym, passed}
+use Rattle.race.specs.Bytes.{Bounded}
 use Rattle.axioms.specs.declared.overwritten.Overwrite.{Overwrite}
 use Rattle.axioms.specs.declared.overwritten.Overwrite.the-variants.{At, Nothing}
 
@@ -43,6 +36,13 @@ module _ (t : Table) (source : ℕ → ℕ) where
 
   -- ---- laws: a byte
 
+  -- the tests that are asked once for a pair; y is r, z is q, and s is y's source
+  pub may-is : (y z s n : ℕ) (r q : Row) (a b c : Bool) → n ≡ t .rows → s ≡ source y → r ≡ t .row y → q ≡ t .row z → a ≡ reads r → b ≡ writes q → c ≡ ltb s n
+      → (a and b and c) ≡ mayOverwrite y z
+  unfolding mayOverwrite
+  may-is y z s n r q a b c rows-are source-is reader-is writer-is reads-is writes-is below-is =
+      rw (reads-is, writes-is, below-is, reader-is, writer-is, source-is, rows-are) refl
+
   pub source-row : (y z : ℕ) → mayOverwrite y z ≡ true → source y < t .rows
   unfolding mayOverwrite
   source-row y z e = ltb-true (source y) (t .rows) (split e .1)
@@ -59,36 +59,6 @@ module _ (t : Table) (source : ℕ → ℕ) where
   pub over-none : (y z : ℕ) → mayOverwrite y z ≡ false → LONGEST ≡ overNth t source y z
   unfolding overNth
   over-none y z m = sym (least-off (overwritesNth t source y z) LONGEST (λ k l. overwrites-off y z k m))
-
-  -- nor where z comes before y at no byte
-  pub over-apart : (y z : ℕ) → Sized t → z < t .rows → false ≡ beforeSome t z y → LONGEST ≡ overNth t source y z
-  unfolding overNth overwritesNth overwrites
-  over-apart y z s l e = sym (least-off (overwritesNth t source y z) LONGEST
-      (λ k m. and-false-right _ _ (not-so (before t z y (nth t y k)) (λ h. not-both (some-before t z y (nth t y k) (s z l) h) (sym e)))))
-
-  -- nor where they share no byte
-  overwriting-apart : (y z : ℕ) → overlaps t y z ≡ false → overwriting t source y z ≡ false
-  unfolding overwriting overNth overwritesNth overwrites
-  overwriting-apart y z o =
-      let none = least-off (overwritesNth t source y z) LONGEST (λ k l. and-false-right _ _ (before-apart t z y (nth t y k) (overlaps-sym t z y ∙ o))) in
-      le-ltb (overNth t source y z) LONGEST (omega arith)
-
-  pub writer-pass : (y j k n : ℕ) (w : List ℕ) → Holds OVERLAP GRID n (overlaps t) w → y < n → Next w (OVERLAP + y * GRID) (OVERLAP + y * GRID) j n k
-      → least j (overwriting t source y) ≡ j → least k (overwriting t source y) ≡ k
-  writer-pass y j k n w h l next e = least-pass (overwriting t source y) j k e (passed h l next (overwriting-apart y))
-
-  -- no row overwrites the source of a y that doesn't read, or whose source is no row
-  unread-off : (y z : ℕ) → (reads (t .row y) and ltb (source y) (t .rows)) ≡ false → mayOverwrite y z ≡ false
-  unfolding mayOverwrite
-  unread-off y z e = not-so _ (λ h. not-both (and-true (split (split h .0) .0) (split h .1)) e)
-
-  pub unread-none : (y n s : ℕ) (r : Row) (a b : Bool) → n ≡ t .rows → r ≡ t .row y → s ≡ source y → a ≡ reads r → b ≡ ltb s n → not (a and b) ≡ true
-      → n ≡ overWriter t source y
-  unfolding overWriter overwriting
-  unread-none y n s r a b rows-are row-is source-is reads-is below-is unread =
-      let g : (reads (t .row y) and ltb (source y) (t .rows)) ≡ false = rw (← row-is, ← source-is, ← rows-are, ← reads-is, ← below-is) (not-out _ unread) in
-      rows-are ∙ sym (least-off (λ z. ltb (overNth t source y z) LONGEST) (t .rows)
-      (λ z l. le-ltb (overNth t source y z) LONGEST (let k = over-none y z (unread-off y z g) in omega arith)))
 
   -- ---- laws: what the searches compare
 

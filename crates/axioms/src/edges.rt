@@ -83,6 +83,20 @@ pub fn edge_number(t: &Run, n: usize, src: &[u16], x: usize, y: usize, w: &[u64]
     )
 }
 
+// Whether there is an edge from x to y.
+// Ruled out: one that leaves out what follows a reader's source; one that asks for edges from y to x.
+fn edge_at(t: &Run, n: usize, src: &[u16], x: usize, y: usize, w: &[u64]) -> bool
+    requires { ⌜ (x < n) × (y < n) × (n ≤ length (now src)) × Ready (tableIn (now t) n) n (now w) ⌝ }
+    ensures { λ d. ⌜ d ≡ edge (tableIn (now (t .entry)) n) (sourceIn (now (src .entry))) x y ⌝ }
+{
+    let r = run::row(t, x as u16);
+    let q = run::row(t, y as u16);
+    race::pair::before_some(t, n, x, y, w)
+        | follows_at(t, n, x, y, r, q, w)
+        | reads_from_at(t, n, src, x, y, q)
+        | from_reads_at(t, n, src, x, y, r, q)
+}
+
 // The edges between n rows.
 // Ruled out: one that leaves a bit of an earlier stage set; one that writes a word outside the edges' region.
 pub fn fill_edges(t: &Run, n: usize, src: &[u16], w: &mut [u64])
@@ -92,7 +106,9 @@ pub fn fill_edges(t: &Run, n: usize, src: &[u16], w: &mut [u64])
 {
     bits::clear(w, area::EDGE, area::EDGE_END);
     for x in 0..n {
-        crate::grid::edge_row(t, n, src, x, w);
+        for y in 0..n {
+            let b = edge_at(t, n, src, x, y, w);
+            area::grid::put_if(w, area::EDGE, x, y, b);
+        }
     }
-    crate::grid::add_sources(t, n, src, w);
 }

@@ -7,7 +7,6 @@ ghost use Rattle.axioms.specs.Sources.{sourceIn};
 use model::Source;
 
 pub mod edges; // edges 1 to 4
-pub mod grid; // the edges between every two rows
 pub mod overwritten; // axiom B
 
 // The source of row y.

@@ -13,7 +13,7 @@ use Rattle.finite.specs.Cycle.{length-trail, cycle-canonical, cycleStart-cong, 
 use Rattle.bits.specs.Matrix.{rel}
 use Rattle.bits.specs.Stage.{Holds}
 use Rattle.area.specs.Regions.{EDGE, LAYERS, GRID}
-use Rattle.walks.specs.Layers.{inLayer, Layers, layer-is}
+use Rattle.walks.specs.Layers.{back, Returns}
 
 -- ---- definitions
 
@@ -24,10 +24,9 @@ looped w x = rel w LAYERS GRID x x
 -- ---- of the layers
 
 -- the first layer that the first row is in again says how long the cycle is
-pub layer-size : {n x j : ℕ} {w : List ℕ} → Layers EDGE LAYERS GRID n x w → x < n → j ≡ least n (inLayer w LAYERS GRID x)
-    → j + 1 ≡ cycleSize n (rel w EDGE GRID) x
-unfolding cycleSize
-layer-size {x = x} {j} h l e = add-one j ∙ ap suc (e ∙ layer-is h x l)
+pub layer-size : {n x j : ℕ} {w : List ℕ} → Returns EDGE LAYERS GRID n x j w → j + 1 ≡ cycleSize n (rel w EDGE GRID) x
+unfolding cycleSize back
+layer-size {j = j} h = add-one j ∙ ap suc (h .least)
 
 -- ---- of any relation
 

@@ -11,7 +11,7 @@ ghost use Rattle.bits.specs.Matrix.{rel};
 ghost use Rattle.bits.specs.Within.{Within};
 ghost use Rattle.model.specs.Limits.{ROWS, WORK, CYCLE};
 ghost use Rattle.area.specs.Regions.{EDGE, LAYERS, LAYERS-END, GRID};
-ghost use Rattle.walks.specs.Layers.{Layers};
+ghost use Rattle.walks.specs.Layers.{LayersTo};
 ghost use Rattle.cycle.specs.Shown.{looped};
 use sets::walk;
 
@@ -49,7 +49,7 @@ pub fn cycle_start(w: &mut [u64], n: usize) -> usize
 // The rows of the cycle of `size` edges through row x become the first numbers of c: each time the least next row.
 // Ruled out: one that begins at the row after x; one that writes x once more after the last row.
 pub fn write_rows(w: &[u64], n: usize, x: usize, size: usize, c: &mut [u16])
-    requires { ⌜ (n ≤ ROWS) × (WORK ≤ length (now w)) × (x < n) × (size ≤ n) × (CYCLE ≤ length (now c)) × Layers EDGE LAYERS GRID n x (now w)
+    requires { ⌜ (n ≤ ROWS) × (WORK ≤ length (now w)) × (x < n) × (size ≤ n) × (CYCLE ≤ length (now c)) × LayersTo EDGE LAYERS GRID n x size (now w)
         × (walk n (rel (now w) EDGE GRID) x size x ≡ true) ⌝ }
     ensures { λ _. ⌜ Written (trail n (rel (now (w .entry)) EDGE GRID) x size x) size (now (c .entry)) (now (c .exit)) ⌝ }
 {

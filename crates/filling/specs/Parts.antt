@@ -1,31 +1,40 @@
 -- What the calls of a fill come to, over the rows of a table. Assumes nothing.
 use mathlib.Core.Path.{_≡_, refl, sym, ap, ap₂, _∙_}
 use mathlib.Core.Bool.{Bool, true, false, cond}
+use mathlib.Core.Logic.{inl, inr, ⊎-elim}
 use mathlib.Core.List.{List}
 use Prim.Native.Nat.{ℕ, _≤_, _<_}
 use native.Mathlib.Omega.{arith}
+use native.Mathlib.Decide.{decLt}
 use lib.ListN.{length}
 use lib.Dec.{ltb, eqb}
-use borrow.Author.Tests.{eq-eqb, ne-eqb}
-use Rattle.finite.specs.Logic.{_and_, and-false-left}
+use borrow.Author.Tests.{eq-eqb, ne-eqb, lt-ltb, le-ltb, eqb-true, ltb-true}
+use Rattle.finite.specs.Logic.{_and_, and-false-left, and-true, split, or-cases, which, not-in, not-out, not-both}
+use Rattle.finite.specs.Below.{any-off, least-is}
 use Rattle.finite.specs.Lists.{Written, written-all, tabulate, length-tabulate, getD-tabulate}
 use Rattle.finite.specs.Walk.{cycleStart}
 use Rattle.bits.specs.Matrix.{rel}
-use Rattle.bits.specs.Within.{Within, within-refl}
+use Rattle.bits.specs.Within.{Within, within-refl, within-trans, within-widen}
 use Rattle.bits.specs.Stage.{Made}
 use Rattle.model.specs.declared.FillAnswer.{FillAnswer}
 use Rattle.model.specs.declared.FillAnswer.the-variants
+use Rattle.model.specs.Limits.{INITIAL}
 use Rattle.model.specs.Table.{Table}
+use Rattle.model.specs.Refusal.{writerFits, sourceFits, sourceBroken}
 use Rattle.model.specs.Race.{raceRow, racePartner, raceByte}
-use Rattle.model.specs.Edge.{edge, cycleRow, overReader, consistent}
+use Rattle.model.specs.Edge.{edge, cycleRow, isOverwritten, overReader, overWriter, overByte, consistent}
 use Rattle.model.specs.Check.{raceOr}
 use Rattle.model.specs.Fill.{Outcome, race, none, filled, chosen, sourcesFit, filledOr, outcome, fillAnswer, sourcesAfter}
 use Rattle.laws.specs.SourceLaws.{consistent-same, fits-same}
-use Rattle.area.specs.Regions.{EDGE, EDGE-END, GRID, LAYERS, LAYERS-END}
+use Rattle.area.specs.Regions.{MUTUAL, LOCATED-END, EDGE, EDGE-END, GRID, LAYERS, LAYERS-END}
 use Rattle.race.specs.declared.Found.{Found}
 use Rattle.race.specs.declared.Found.the-variants as found
 use Rattle.race.specs.First.{raceOf, foundRace}
+use Rattle.axioms.specs.declared.overwritten.Overwrite.{Overwrite}
+use Rattle.axioms.specs.declared.overwritten.Overwrite.the-variants as over
+use Rattle.axioms.specs.Overwritten.{overwriteOf, foundOverwrite}
 use Rattle.axioms.specs.Sources.{sourceIn}
+use Rattle.placing.specs.Judge.{Sourced}
 use Rattle.choice.specs.Sources.{Listed}
 use Rattle.verdict.specs.Answers.{edges-held, start-found}
 
@@ -35,7 +44,51 @@ unfoldable pub raceAnswer : Found → FillAnswer
 raceAnswer (found.At x y b) = the-variants.Race x y b
 raceAnswer found.Nothing = the-variants.None
 
+unfoldable pub isNone : Overwrite → Bool
+isNone (over.At y z b) = false
+isNone over.Nothing = true
+
+-- the fill of a table with such sources: the answer r, the work area w becomes u within its own part, the source buffer c becomes d
+pub record Fills (t : Table) (source : ℕ → ℕ) (r : FillAnswer) (w u c d : List ℕ) : Type 0 where
+  pub answer : r ≡ fillAnswer (outcome t source)
+  pub buffer : d ≡ sourcesAfter (outcome t source) c
+  pub frame : Within MUTUAL LOCATED-END w u
+
+-- location order, then the fill
+pub fills : {t : Table} {source : ℕ → ℕ} {r : FillAnswer} {w v u c d : List ℕ} → Within MUTUAL LOCATED-END w v
+    → (r ≡ fillAnswer (outcome t source)) × (d ≡ sourcesAfter (outcome t source) c) × Within EDGE LAYERS-END v u → Fills t source r w u c d
+fills f h =
+    record { answer = h .0; buffer = h .1; frame = within-trans f (within-widen MUTUAL LOCATED-END (omega arith) (omega arith) (h .2)) }
+
+-- sources that a check admits are rows, or the initial value
+pub sourced-fit : (t : Table) (source : ℕ → ℕ) → sourcesFit t source ≡ true → Sourced t source
+unfolding sourcesFit sourceBroken sourceFits writerFits
+sourced-fit t source e y l r =
+    ⊎-elim
+    (λ h. ⊎-elim (λ f. inr (eqb-true (source y) INITIAL f)) (λ f. inl (ltb-true _ _ (split (split (split f .0) .0) .0))) (or-cases (eqb (source y) INITIAL) _ h))
+    (λ h. not-both (split (split h .0) .0) refl) (or-cases _ _ fits)
+  where
+    fits : sourceFits false t y (source y) ≡ true
+    fits =
+        ⊎-elim (λ h. h) (λ h. not-both (and-true r (not-in h)) (any-off (sourceBroken false t source) (t .rows) (not-out _ e) y l))
+        (which (sourceFits false t y (source y)))
+
 -- ---- laws: consistent, by its two searches
+
+reader-bound : (t : Table) (source : ℕ → ℕ) → overReader t source ≤ t .rows
+unfolding overReader
+reader-bound t source = least-is (isOverwritten t source) (t .rows) .bound
+
+none-found : (t : Table) (source : ℕ → ℕ) (n : ℕ) → n ≡ t .rows → isNone (foundOverwrite t source) ≡ eqb (overReader t source) n
+unfolding isNone foundOverwrite overwriteOf
+none-found t source n all = go (decLt (overReader t source) (t .rows))
+  where
+    y : ℕ
+    y = overReader t source
+
+    go : Dec (y < t .rows) → isNone (cond (ltb y (t .rows)) (over.At y (overWriter t source y) (overByte t source y (overWriter t source y))) over.Nothing) ≡ eqb y n
+    go (yes l) = rw (lt-ltb y (t .rows) l) (sym (ne-eqb y n (λ e. absurd (omega arith))))
+    go (no l) = rw (le-ltb y (t .rows) (omega arith)) (sym (eq-eqb y n (let b = reader-bound t source in omega arith)))
 
 -- the area as the edges are made, and as the search for a cycle leaves it
 module _ (t : Table) (source : ℕ → ℕ) (n x : ℕ) (w v u : List ℕ) (all : n ≡ t .rows) (made : Made EDGE EDGE-END EDGE GRID n (edge t source) w v)
@@ -51,6 +104,9 @@ module _ (t : Table) (source : ℕ → ℕ) (n x : ℕ) (w v u : List ℕ) (all 
   unfolding consistent _and_
   acyclic-told h y q =
       (rw (eq-eqb (cycleRow t source) (t .rows) (sym row ∙ h ∙ all)) (ap₂ (λ (a b : ℕ). eqb a b) q all), edges-held made frame .1)
+
+  pub acyclic-found : x ≡ n → (o : Overwrite) → o ≡ foundOverwrite t source → (isNone o ≡ consistent t source) × Within EDGE LAYERS-END w u
+  acyclic-found h o e = (ap isNone e ∙ none-found t source n all ∙ acyclic-told h (overReader t source) refl .0, edges-held made frame .1)
 
 -- ---- laws: the sources that are written
 

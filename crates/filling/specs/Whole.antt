@@ -8,7 +8,6 @@ use lib.Dec.{ltb}
 use Rattle.finite.specs.Logic.{_and_}
 use Rattle.finite.specs.Lists.{tabulate}
 use Rattle.bits.specs.Bit.{zeros}
-use Rattle.bits.specs.Within.{Within}
 use Rattle.model.specs.declared.Mode.{Mode}
 use Rattle.model.specs.declared.Admission.{Admission}
 use Rattle.model.specs.declared.Admission.the-variants.{Admitted, Refused}
@@ -21,7 +20,6 @@ use Rattle.model.specs.Edge.{consistent}
 use Rattle.model.specs.Check.{raceOr, wiped}
 use Rattle.model.specs.Fill.{Outcome, refused, race, none, filled, blank, chosen, sourcesFit, filledOr, outcome, fill, fillAnswer, sourcesAfter, workAfter}
 use Rattle.laws.specs.SourceLaws.{filled-same}
-use Rattle.area.specs.Regions.{MUTUAL, LOCATED-END, EDGE, LAYERS-END}
 use Rattle.axioms.specs.Sources.{sourceIn}
 use Rattle.choice.specs.Sources.{Listed}
 use Rattle.verdict.specs.Whole.{wiped-after}
@@ -32,6 +30,7 @@ use Rattle.pieces.specs.Entry.{doorBoth, Left, left-same, when-refused, when-ad
 use Rattle.run.specs.Layout.{rowsIn, tableIn}
 use Rattle.door.specs.Opened.{Entered}
 use Rattle.pieces.specs.Answers.{fill-both}
+use Rattle.filling.specs.Parts.{Fills}
 
 -- ---- laws: the rows of an admitted table
 
@@ -43,17 +42,14 @@ outcome-same : (t : Table) (a b : ℕ → ℕ) → ((i : ℕ) → i < t .rows �
 unfolding outcome
 outcome-same t a b same = ap (λ (o : Outcome). raceOr race o t) (filled-same t (chosen t a) (chosen t b) (λ i l. chosen-same t a b i (same i l)) none)
 
--- located, settled, wiped
-pub rows-filled : (b : List ℕ) (p : List (List ℕ)) (mode : Mode) (n : ℕ) (src w v u z c d : List ℕ) (r : FillAnswer) → Listed (sourceOf b) n src
-    → WORK ≤ length w → Within MUTUAL LOCATED-END w v
-    → (r ≡ fillAnswer (outcome (decode b p mode n) (sourceIn src))) × (d ≡ sourcesAfter (outcome (decode b p mode n) (sourceIn src)) c)
-    × Within EDGE LAYERS-END v u
-    → z ≡ zeros u 0 WORK
+-- filled, wiped
+pub rows-filled : (b : List ℕ) (p : List (List ℕ)) (mode : Mode) (n : ℕ) {src w u z c d : List ℕ} {r : FillAnswer} → Listed (sourceOf b) n src
+    → WORK ≤ length w → Fills (decode b p mode n) (sourceIn src) r w u c d → z ≡ zeros u 0 WORK
     → (r ≡ fillAnswer (outcome (decode b p mode n) (sourceOf b))) × (z ≡ wiped w) × (d ≡ sourcesAfter (outcome (decode b p mode n) (sourceOf b)) c)
 unfolding decode
-rows-filled b p mode n src w v u z c d r listed room located told cleared =
+rows-filled b p mode n {src} {w} {u} {z} {c} listed room told cleared =
     let o = outcome-same (decode b p mode n) (sourceIn src) (sourceOf b) (λ i m. listed .each i m) in
-    (told .0 ∙ ap fillAnswer o, wiped-after w v u z room located (told .2) cleared, told .1 ∙ ap (λ (y : Outcome). sourcesAfter y c) o)
+    (told .answer ∙ ap fillAnswer o, wiped-after w u z room (told .frame) cleared, told .buffer ∙ ap (λ (y : Outcome). sourcesAfter y c) o)
 
 -- ---- laws: no outcome of such a table is a refusal
 

@@ -10,22 +10,45 @@ ghost use Rattle.model.specs.Fill.{outcome, fillAnswer, sourcesAfter};
 ghost use Rattle.laws.specs.FilledLaws.{Bytes};
 ghost use Rattle.run.specs.Layout.{rowsIn, tableIn};
 ghost use Rattle.door.specs.Opened.{RunOf};
+ghost use Rattle.known.specs.Fit.{FitRun};
+ghost use Rattle.axioms.specs.Sources.{sourceIn};
+ghost use Rattle.filling.specs.Parts.{Fills};
 ghost use Rattle.filling.specs.Whole.{FilledBy, FilledBoth};
 use model::Admission;
 use model::FillAnswer;
 use run::Run;
 
-pub mod settle; // the search for a race, the choice and its tests, one after the other
+pub mod parts; // what both engines do
+pub mod by_flags; // the obvious engine
+pub mod by_sets; // the engine by sets of rows
 
-// Fills a run of n rows, by the engine that `quick` says; the work area's words end as zeros.
+// A fill of a run of n rows, by the engine that `quick` says.
+fn fill_run_by(
+    quick: bool,
+    t: &Run,
+    n: usize,
+    src: &[u16],
+    w: &mut [u64],
+    out: &mut [u16],
+) -> FillAnswer
+    requires { ⌜ FitRun (now t) n × (WORK ≤ length (now w)) × (SOURCES ≤ length (now out)) × (n ≤ length (now src)) ⌝ }
+    ensures { λ r. ⌜ Fills (tableIn (now (t .entry)) n) (sourceIn (now (src .entry))) r
+        (now (w .entry)) (now (w .exit)) (now (out .entry)) (now (out .exit)) ⌝ }
+{
+    if quick {
+        return by_sets::fill(t, n, src, w, out);
+    }
+    by_flags::fill(t, n, src, w, out)
+}
+
+// The same with the table's own sources; the work area's words end as zeros.
 fn fill_run(t: &Run, n: usize, quick: bool, work: &mut [u64], sources: &mut [u16]) -> FillAnswer
     requires { ⌜ (WORK ≤ length (now work)) × (SOURCES ≤ length (now sources)) × RunOf true (now t) n ⌝ }
     ensures { λ r. let o = outcome (tableIn (now (t .entry)) n) (sourceOf (rowsIn (now (t .entry)))) in
         ⌜ (r ≡ fillAnswer o) × (now (work .exit) ≡ wiped (now (work .entry))) × (now (sources .exit) ≡ sourcesAfter o (now (sources .entry))) ⌝ }
 {
     let src = choice::sources::read_sources(run::rows_of(t), n);
-    verdict::judge::locate_by(quick, t, n, work);
-    let r = settle::settle(t, n, &src, work, sources);
+    let r = fill_run_by(quick, t, n, &src, work, sources);
     bits::clear(work, 0, model::WORK);
     r
 }

@@ -8,7 +8,7 @@ use Rattle.model.specs.Table.{Table}
 use Rattle.bits.specs.Within.{Within}
 use Rattle.bits.specs.Cube.{Cube}
 use Rattle.area.specs.Regions.{MUTUAL, LOCATION, LOCATION-END, PAIRS, PAIR, OVERLAP}
-use Rattle.area.specs.State.{overlaps, Located}
+use Rattle.area.specs.State.{overlaps, Placed}
 use Rattle.grids.specs.Regions.{LATER, HAPPENS, HOSTED, SOME}
 use Rattle.grids.specs.Grid.{Grid, grid-holds}
 use Rattle.grids.specs.Happens.{happensRows}
@@ -40,5 +40,5 @@ pub record Judging (t : Table) (n : ℕ) (w : List ℕ) : Type 0 where
 -- ---- laws
 
 -- in the words of the other engine
-pub judging-located : {t : Table} {n : ℕ} {w : List ℕ} → n ≤ ROWS → Judging t n w → Located t n w
-judging-located few j = record { mutuals = grid-holds few (j .mutuals); location = j .location; overlapping = grid-holds few (j .overlapping) }
+pub judging-placed : {t : Table} {n : ℕ} {w : List ℕ} → n ≤ ROWS → Judging t n w → Placed t n w
+judging-placed few j = record { mutuals = grid-holds few (j .mutuals); location = j .location }

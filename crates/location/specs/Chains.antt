@@ -14,7 +14,8 @@ use Rattle.finite.specs.Closure.{through}
 use Rattle.model.specs.declared.Mode.{Mode}
 use Rattle.model.specs.declared.Row.{Row}
 use Rattle.model.specs.Row.{plain, reads, meets, makesAvailable, makesVisible}
-use Rattle.model.specs.Table.{Table, byteOf, rowOf, decode}
+use Rattle.model.specs.Table.{Table, rowOf, decode}
+use Rattle.run.specs.Layout.{placesIn, modeIn, rowsIn, tableIn}
 use Rattle.model.specs.Scope.{DEVICE, shares}
 use Rattle.model.specs.Moment.{BEFORE, AFTER, part, itself, availabilityOf, visibilityOf, orderedRows, availability, visibility, programOrder}
 use Rattle.model.specs.Happens.{happens}
@@ -38,10 +39,10 @@ visiblePart s = cond (plain s) BEFORE AFTER
 
 -- what two bytes of row i tell of whether it makes r available, and of row j, of whether it makes visible to q
 unfoldable pub mayAvail : List ℕ → Row → ℕ → Bool
-mayAvail b r i = eqb (r .agent) (byteOf b i 1) and meets (byteOf b i 5) 2
+mayAvail b r i = eqb (r .agent) (rowOf b i .agent) and meets (rowOf b i .flags) 2
 
 unfoldable pub maySee : List ℕ → Row → ℕ → Bool
-maySee b q j = eqb (byteOf b j 1) (q .agent) and meets (byteOf b j 5) 4
+maySee b q j = eqb (rowOf b j .agent) (q .agent) and meets (rowOf b j .flags) 4
 
 -- moment c of s is a first element of availability of x, which is r, at b
 unfoldable pub availableRows : ℕ → ℕ → Row → ℕ → Row → ℕ → Bool
@@ -407,86 +408,86 @@ module _ (t : List ℕ) (p : List (List ℕ)) (mode : Mode) (n x y b : ℕ) wher
 
 -- ---- laws: what is asked of a pair
 
-module _ {t : List ℕ} {p : List (List ℕ)} {mode : Mode} {n x y : ℕ} {r q : Row} {w : List ℕ} (pair : Pair t p mode n x y r q w) where
-  pub carried-off : (b a : ℕ) → mayAvail t r a ≡ false → carriedBy (decode t p mode n) x y b a ≡ false
+module _ {t : List ℕ} {n x y : ℕ} {w : List ℕ} (pair : Pair t n x y w) where
+  pub carried-off : (b a : ℕ) → mayAvail (rowsIn t) (rowOf (rowsIn t) x) a ≡ false → carriedBy (tableIn t n) x y b a ≡ false
   unfolding carriedBy
-  carried-off b a off = not-so _ (λ e. not-both (rw (pair .first-is) (first-tells t p mode n x y b a (split e .0) .0)) off)
+  carried-off b a off = not-so _ (λ e. not-both (first-tells (rowsIn t) (placesIn t) (modeIn t) n x y b a (split e .0) .0) off)
 
-  pub carried-row : (b a : ℕ) {k : ℕ} {s : Row} {h : Bool} → s ≡ rowOf t a → (k ≡ availablePart s) × (k < 3) → h ≡ availableRows n x r (3 * a + k) s b
-      → carriedBy (decode t p mode n) x y b a
-      ≡ (h and (endsAt (decode t p mode n) x y b a or (mode .chains and anyBelow n (endsWith (decode t p mode n) x y b a))))
+  pub carried-row : (b a : ℕ) {k : ℕ} {r s : Row} {h : Bool} → r ≡ rowOf (rowsIn t) x → s ≡ rowOf (rowsIn t) a → (k ≡ availablePart s) × (k < 3) → h ≡ availableRows n x r (3 * a + k) s b
+      → carriedBy (tableIn t n) x y b a
+      ≡ (h and (endsAt (tableIn t n) x y b a or (modeIn t .chains and anyBelow n (endsWith (tableIn t n) x y b a))))
   unfolding carriedBy decode
-  carried-row b a {k} {s} {h} row-is part told =
-      let o : h ≡ firstAvailable (decode t p mode n) x b a = told ∙ first-row t p mode n x y b a k r s (pair .first-is) row-is (part .0) (part .1) in
+  carried-row b a {k} {r} {s} {h} first-is row-is part told =
+      let o : h ≡ firstAvailable (tableIn t n) x b a = told ∙ first-row (rowsIn t) (placesIn t) (modeIn t) n x y b a k r s first-is row-is (part .0) (part .1) in
       rw o refl
 
-  pub shown-row : (b c v : ℕ) {k : ℕ} {u : Row} {h : Bool} → u ≡ rowOf t v → (k ≡ visiblePart u) × (k < 3) → h ≡ visibleRows n y q (3 * v + k) u b
-      → shownBy (decode t p mode n) x y b c v
-      ≡ (h and (seen (decode t p mode n) x y c v or (mode .chains and anyBelow n (startsWith (decode t p mode n) x y c v))))
+  pub shown-row : (b c v : ℕ) {k : ℕ} {q u : Row} {h : Bool} → q ≡ rowOf (rowsIn t) y → u ≡ rowOf (rowsIn t) v → (k ≡ visiblePart u) × (k < 3) → h ≡ visibleRows n y q (3 * v + k) u b
+      → shownBy (tableIn t n) x y b c v
+      ≡ (h and (seen (tableIn t n) x y c v or (modeIn t .chains and anyBelow n (startsWith (tableIn t n) x y c v))))
   unfolding shownBy decode
-  shown-row b c v {k} {u} {h} row-is part told =
-      let o : h ≡ lastVisible (decode t p mode n) y b v = told ∙ last-row t p mode n x y b v k q u (pair .second-is) row-is (part .0) (part .1) in
+  shown-row b c v {k} {q} {u} {h} second-is row-is part told =
+      let o : h ≡ lastVisible (tableIn t n) y b v = told ∙ last-row (rowsIn t) (placesIn t) (modeIn t) n x y b v k q u second-is row-is (part .0) (part .1) in
       rw o refl
 
-  pub ends-row : {h : Bool} (b a c : ℕ) → mode .chains ≡ true → a < n → c < n → h ≡ bit w ((REACH-OUT + a * GRID) * 64 + c)
-      → endsWith (decode t p mode n) x y b a c ≡ (h and endsAt (decode t p mode n) x y b c)
+  pub ends-row : {h : Bool} (b a c : ℕ) → modeIn t .chains ≡ true → a < n → c < n → h ≡ bit w ((REACH-OUT + a * GRID) * 64 + c)
+      → endsWith (tableIn t n) x y b a c ≡ (h and endsAt (tableIn t n) x y b c)
   unfolding endsWith decode
   ends-row b a c chains l m e = rw (reach-out pair a c chains l m e) refl
 
-  pub starts-row : {h : Bool} (c v j : ℕ) → mode .chains ≡ true → v < n → j < n → h ≡ bit w ((REACH-IN + j * GRID) * 64 + v)
-      → startsWith (decode t p mode n) x y c v j ≡ (h and seen (decode t p mode n) x y c j)
+  pub starts-row : {h : Bool} (c v j : ℕ) → modeIn t .chains ≡ true → v < n → j < n → h ≡ bit w ((REACH-IN + j * GRID) * 64 + v)
+      → startsWith (tableIn t n) x y c v j ≡ (h and seen (tableIn t n) x y c j)
   unfolding startsWith decode
   starts-row c v j chains l m e = rw (reach-in pair j v chains m l e) refl
 
 -- ---- laws: what is asked of an element
 
-module _ {t : List ℕ} {p : List (List ℕ)} {mode : Mode} {n x y i : ℕ} {r q s : Row} {w : List ℕ} (element : Element t p mode n x y r q i s w) where
+module _ {t : List ℕ} {n x y i : ℕ} {s : Row} {w : List ℕ} (element : Element t n x y i w) (row-is : s ≡ rowOf (rowsIn t) i) where
   -- k is the row's one moment that makes available
   module _ {k : ℕ} (part : (k ≡ availablePart s) × (k < 3)) where
-    part-is : k ≡ cond (plain (rowOf t i)) AFTER BEFORE
+    part-is : k ≡ cond (plain (rowOf (rowsIn t) i)) AFTER BEFORE
     unfolding availablePart
-    part-is = part .0 ∙ ap availablePart (element .row-is)
+    part-is = part .0 ∙ ap availablePart row-is
 
     low : 3 * i + k < 3 * n
     low = omega (arith, part .1, element .row)
 
     pub shown-skip : (b v : ℕ) → v < n
-        → ((mode .chains or rel w HAPPENS MOMENTS (3 * i + k) (3 * v) or rel w HAPPENS MOMENTS (3 * i + k) (3 * v + 2)) and maySee t q v) ≡ false
-        → shownBy (decode t p mode n) x y b i v ≡ false
+        → ((modeIn t .chains or rel w HAPPENS MOMENTS (3 * i + k) (3 * v) or rel w HAPPENS MOMENTS (3 * i + k) (3 * v + 2)) and maySee (rowsIn t) (rowOf (rowsIn t) y) v) ≡ false
+        → shownBy (tableIn t n) x y b i v ≡ false
     shown-skip b v l off =
-        let e = available-of t p mode n x y b i k s (element .row-is) (part .0) in
-        shown-off t p mode n x y b i v q _ _ (element .pair .second-is)
-        (happens-is (element .pair) _ _ low (omega arith) refl ∙ ap (λ (m : ℕ). happens (decode t p mode n) m (3 * v)) e)
-        (happens-is (element .pair) _ _ low (omega arith) refl ∙ ap (λ (m : ℕ). happens (decode t p mode n) m (3 * v + 2)) e) off
+        let e = available-of (rowsIn t) (placesIn t) (modeIn t) n x y b i k s row-is (part .0) in
+        shown-off (rowsIn t) (placesIn t) (modeIn t) n x y b i v (rowOf (rowsIn t) y) _ _ refl
+        (happens-is (element .pair) _ _ low (omega arith) refl ∙ ap (λ (m : ℕ). happens (tableIn t n) m (3 * v)) e)
+        (happens-is (element .pair) _ _ low (omega arith) refl ∙ ap (λ (m : ℕ). happens (tableIn t n) m (3 * v + 2)) e) off
 
-    pub seen-row : {m g : ℕ} {u : Row} {h d : Bool} (j : ℕ) → j < n → u ≡ rowOf t j → (m ≡ visiblePart u) × (m < 3)
-        → h ≡ rel w HAPPENS MOMENTS (3 * i + k) (3 * j + m) → g ≡ widest (s .scope) (u .scope) → d ≡ meetIn p g r q s u
-        → seen (decode t p mode n) x y i j ≡ (h and d)
+    pub seen-row : {m g : ℕ} {r q u : Row} {h d : Bool} (j : ℕ) → j < n → r ≡ rowOf (rowsIn t) x → q ≡ rowOf (rowsIn t) y → u ≡ rowOf (rowsIn t) j → (m ≡ visiblePart u) × (m < 3)
+        → h ≡ rel w HAPPENS MOMENTS (3 * i + k) (3 * j + m) → g ≡ widest (s .scope) (u .scope) → d ≡ meetIn (placesIn t) g r q s u
+        → seen (tableIn t n) x y i j ≡ (h and d)
     unfolding seen decode availableAt visibleAt visiblePart
-    seen-row {m} j below-j other-is other before scope-is met =
-        let c : m ≡ cond (plain (rowOf t j)) BEFORE AFTER = other .0 ∙ ap visiblePart other-is in
+    seen-row {m} j below-j first-is second-is other-is other before scope-is met =
+        let c : m ≡ cond (plain (rowOf (rowsIn t) j)) BEFORE AFTER = other .0 ∙ ap visiblePart other-is in
         rw (
           met,
           scope-is,
-          element .pair .first-is,
-          element .pair .second-is,
-          element .row-is,
+          first-is,
+          second-is,
+          row-is,
           other-is,
           happens-is (element .pair) (3 * i + k) (3 * j + m) low (omega (arith, below-j, other .1)) before,
           part-is,
           c,
         ) refl
 
-    pub met-row : {g : ℕ} {h d : Bool} → h ≡ rel w HAPPENS MOMENTS (3 * i + k) (3 * y + 1) → g ≡ widest (s .scope) DEVICE → d ≡ meetIn p g r q s q
-        → metAtOnce (decode t p mode n) x y i ≡ (h and d)
+    pub met-row : {g : ℕ} {r q : Row} {h d : Bool} → r ≡ rowOf (rowsIn t) x → q ≡ rowOf (rowsIn t) y → h ≡ rel w HAPPENS MOMENTS (3 * i + k) (3 * y + 1) → g ≡ widest (s .scope) DEVICE → d ≡ meetIn (placesIn t) g r q s q
+        → metAtOnce (tableIn t n) x y i ≡ (h and d)
     unfolding metAtOnce decode availableAt
-    met-row before scope-is met =
+    met-row first-is second-is before scope-is met =
         rw (
           met,
           scope-is,
-          element .pair .first-is,
-          element .pair .second-is,
-          element .row-is,
+          first-is,
+          second-is,
+          row-is,
           happens-is (element .pair) (3 * i + k) (3 * y + 1) low (omega (arith, element .pair .second)) before,
           part-is,
         ) refl

@@ -22,7 +22,8 @@ use Rattle.model.specs.declared.Mode.{Mode}
 use Rattle.model.specs.declared.Row.{Row}
 use Rattle.model.specs.Limits.{ROWS}
 use Rattle.model.specs.Row.{AVAILABLE-HOST, AVAILABLE-DEVICE, VISIBLE-HOST, VISIBLE-DEVICE, HOST-TO-DEVICE, DEVICE-TO-HOST, operation, reads, writes}
-use Rattle.model.specs.Table.{Table, byteOf, rowOf, dependency, dependsOf, decode}
+use Rattle.model.specs.Table.{Table, rowOf, dependency, dependsOf, decode}
+use Rattle.run.specs.Layout.{placesIn, modeIn, rowsIn, tableIn}
 use Rattle.model.specs.Scope.{host}
 use Rattle.model.specs.Moment.{itself}
 use Rattle.model.specs.Location.{systemBefore, L4, thence, onHost, availableKind, visibleKind, domainKind, seenBy, metFrom, carriedBy, reachesBy, L5}
@@ -36,7 +37,7 @@ use Rattle.location.specs.Given.{Room, Given, GivenRows, given-kept}
 
 -- row i is the operation of this kind, and row x happens before it
 unfoldable pub thenceBits : List ℕ → List ℕ → ℕ → ℕ → ℕ → Bool
-thenceBits b w kind x i = eqb (byteOf b i 0) kind and rel w HAPPENS MOMENTS (itself x) (itself i)
+thenceBits b w kind x i = eqb (rowOf b i .kind) kind and rel w HAPPENS MOMENTS (itself x) (itself i)
 
 -- and it happens before row y
 unfoldable pub seenBits : List ℕ → List ℕ → ℕ → ℕ → ℕ → ℕ → Bool
@@ -190,58 +191,58 @@ made-system mode small count-is kept holds closed =
 
 -- ---- laws: what y meets, and what reaches it
 
-thence-is : (b : List ℕ) (p : List (List ℕ)) (mode : Mode) (n : ℕ) (w : List ℕ) → Ordered (decode b p mode n) n w → (kind x i : ℕ) → x < n → i < n
-    → thenceBits b w kind x i ≡ thence (decode b p mode n) kind x i
+thence-is : (t : List ℕ) (n : ℕ) (w : List ℕ) → Ordered (tableIn t n) n w → (kind x i : ℕ) → x < n → i < n
+    → thenceBits (rowsIn t) w kind x i ≡ thence (tableIn t n) kind x i
 unfolding thenceBits thence decode rowOf
-thence-is b p mode n w o kind x i first second =
-    ap (λ (c : Bool). eqb (byteOf b i 0) kind and c) (o .happening .cell (itself x) (itself i) (omega arith) (omega arith))
+thence-is t n w o kind x i first second =
+    ap (λ (c : Bool). eqb (rowOf (rowsIn t) i .kind) kind and c) (o .happening .cell (itself x) (itself i) (omega arith) (omega arith))
 
-module _ {b : List ℕ} {p : List (List ℕ)} {mode : Mode} {n m y : ℕ} {w : List ℕ} (given : GivenRows Ordered b p mode n m y w) where
-  seen-is : (i : ℕ) → i < n → seenBits b w (visibleKind (decode b p mode n) y) m y i ≡ seenBy (decode b p mode n) y m i
+module _ {t : List ℕ} {n m y : ℕ} {w : List ℕ} (given : GivenRows Ordered t n m y w) where
+  seen-is : (i : ℕ) → i < n → seenBits (rowsIn t) w (visibleKind (tableIn t n) y) m y i ≡ seenBy (tableIn t n) y m i
   unfolding seenBits seenBy
   seen-is i l =
       rw (
-        thence-is b p mode n w (given .holds) (visibleKind (decode b p mode n) y) m i (given .first) l,
+        thence-is t n w (given .holds) (visibleKind (tableIn t n) y) m i (given .first) l,
         given .holds .happening .cell (itself i) (itself y) (omega arith) (omega arith),
       ) refl
 
   -- m is no operation; it is one and y reads; it is one and y doesn't
-  pub met-off : operation (rowOf b m) ≡ false → false ≡ metBy (decode b p mode n) m y
+  pub met-off : operation (rowOf (rowsIn t) m) ≡ false → false ≡ metBy (tableIn t n) m y
   unfolding metBy decode
   met-off none = sym (and-false-left _ _ none)
 
-  pub met-read : {kind : ℕ} {q : Row} {d : Bool} → operation (rowOf b m) ≡ true → q ≡ rowOf b y → reads q ≡ true → kind ≡ visibleOf p (q .agent)
-      → d ≡ anyBelow n (seenBits b w kind m y) → d ≡ metBy (decode b p mode n) m y
+  pub met-read : {kind : ℕ} {q : Row} {d : Bool} → operation (rowOf (rowsIn t) m) ≡ true → q ≡ rowOf (rowsIn t) y → reads q ≡ true → kind ≡ visibleOf (placesIn t) (q .agent)
+      → d ≡ anyBelow n (seenBits (rowsIn t) w kind m y) → d ≡ metBy (tableIn t n) m y
   unfolding metBy metFrom visibleKind visibleOf onHost decode _and_
   met-read {kind} some second-is reader kind-is told =
-      let e : kind ≡ visibleKind (decode b p mode n) y = rw second-is at kind-is in
+      let e : kind ≡ visibleKind (tableIn t n) y = rw second-is at kind-is in
       rw (some, ← second-is, reader) (told ∙ rw e (any-cong _ _ n (λ i l. seen-is i l)))
 
-  pub met-other : {q : Row} {d : Bool} → operation (rowOf b m) ≡ true → q ≡ rowOf b y → reads q ≡ false → d ≡ rel w HAPPENS MOMENTS (itself m) (itself y)
-      → d ≡ metBy (decode b p mode n) m y
+  pub met-other : {q : Row} {d : Bool} → operation (rowOf (rowsIn t) m) ≡ true → q ≡ rowOf (rowsIn t) y → reads q ≡ false → d ≡ rel w HAPPENS MOMENTS (itself m) (itself y)
+      → d ≡ metBy (tableIn t n) m y
   unfolding metBy metFrom decode _and_
   met-other some second-is other told =
       rw (some, ← second-is, other) (told ∙ given .holds .happening .cell (itself m) (itself y) (omega arith) (omega arith))
 
-module _ {b : List ℕ} {p : List (List ℕ)} {mode : Mode} {n a y : ℕ} {w : List ℕ} (given : GivenRows Meeting b p mode n a y w) where
-  over-is : (kind d : ℕ) → d < n → onwardBits b w MET kind a y d ≡ overBy (decode b p mode n) kind a y d
+module _ {t : List ℕ} {n a y : ℕ} {w : List ℕ} (given : GivenRows Meeting t n a y w) where
+  over-is : (kind d : ℕ) → d < n → onwardBits (rowsIn t) w MET kind a y d ≡ overBy (tableIn t n) kind a y d
   unfolding onwardBits overBy
   over-is kind d l =
-      rw (thence-is b p mode n w (given .holds .ordered) kind a d (given .first) l, given .holds .meeting .cell d y l (given .second)) refl
+      rw (thence-is t n w (given .holds .ordered) kind a d (given .first) l, given .holds .meeting .cell d y l (given .second)) refl
 
   -- a makes nothing available; it does so to y's domain; it does so to the other
-  module _ {kind : ℕ} (kind-is : kind ≡ byteOf b a 0) where
-    pub reached-off : isAvailable kind ≡ false → false ≡ reached (decode b p mode n) a y
+  module _ {kind : ℕ} (kind-is : kind ≡ rowOf (rowsIn t) a .kind) where
+    pub reached-off : isAvailable kind ≡ false → false ≡ reached (tableIn t n) a y
     unfolding reached decode rowOf
     reached-off none = sym (and-false-left _ _ (rw (← kind-is) none))
 
-    module _ {g : ℕ} {h : Bool} (some : isAvailable kind ≡ true) (agent-is : g ≡ byteOf b y 1) (host-is : h ≡ host p g) where
-      pub reached-here : {d : Bool} → Bool·beq (eqb kind AVAILABLE-HOST) h ≡ true → d ≡ rel w MET GRID a y → d ≡ reached (decode b p mode n) a y
+    module _ {g : ℕ} {h : Bool} (some : isAvailable kind ≡ true) (agent-is : g ≡ rowOf (rowsIn t) y .agent) (host-is : h ≡ host (placesIn t) g) where
+      pub reached-here : {d : Bool} → Bool·beq (eqb kind AVAILABLE-HOST) h ≡ true → d ≡ rel w MET GRID a y → d ≡ reached (tableIn t n) a y
       unfolding reached onHost decode rowOf _and_
       reached-here same told = rw (← kind-is, some, ← agent-is, ← host-is, same) (told ∙ given .holds .meeting .cell a y (given .first) (given .second))
 
       pub reached-over : {out : ℕ} {d : Bool} → Bool·beq (eqb kind AVAILABLE-HOST) h ≡ false → out ≡ outOf kind
-          → d ≡ anyBelow n (onwardBits b w MET out a y) → d ≡ reached (decode b p mode n) a y
+          → d ≡ anyBelow n (onwardBits (rowsIn t) w MET out a y) → d ≡ reached (tableIn t n) a y
       unfolding reached onHost decode rowOf _and_
       reached-over other out-is told =
           rw (← kind-is, some, ← agent-is, ← host-is, other) (told ∙ rw out-is (any-cong _ _ n (λ d l. over-is (outOf kind) d l)))
@@ -284,86 +285,87 @@ module _ (t : Table) (x y : ℕ) where
   unfolding reachesBy
   sent-is a = and-when _ _ _ (λ e. reached-is a (thence-kind _ a e))
 
-module _ {b : List ℕ} {p : List (List ℕ)} {mode : Mode} {n x y : ℕ} {w : List ℕ} (given : GivenRows Sources b p mode n x y w) where
-  onward-is : (a : ℕ) → a < n → onwardBits b w REACHED (availableKind (decode b p mode n) x) x y a ≡ reachesBy (decode b p mode n) x y a
+module _ {t : List ℕ} {n x y : ℕ} {w : List ℕ} (given : GivenRows Sources t n x y w) where
+  onward-is : (a : ℕ) → a < n → onwardBits (rowsIn t) w REACHED (availableKind (tableIn t n) x) x y a ≡ reachesBy (tableIn t n) x y a
   unfolding onwardBits
   onward-is a l =
       rw (
-        thence-is b p mode n w (given .holds .ordered) (availableKind (decode b p mode n) x) x a (given .first) l,
+        thence-is t n w (given .holds .ordered) (availableKind (tableIn t n) x) x a (given .first) l,
         given .holds .reaching .cell a y l (given .second),
-      ) (sent-is (decode b p mode n) x y a)
+      ) (sent-is (tableIn t n) x y a)
 
-  module _ {r : Row} (first-is : r ≡ rowOf b x) where
-    available-is : availableOf p (r .agent) ≡ availableKind (decode b p mode n) x
-    unfolding availableKind availableOf onHost decode
-    available-is = rw first-is refl
+  available-is : availableOf (placesIn t) (rowOf (rowsIn t) x .agent) ≡ availableKind (tableIn t n) x
+  unfolding availableKind availableOf onHost decode
+  available-is = refl
 
-    -- L5, for a row that writes
-    fifth-is : {kind : ℕ} → kind ≡ availableOf p (r .agent)
-        → (writes r and anyBelow n (onwardBits b w REACHED kind x y)) ≡ L5 (decode b p mode n) x y
-    unfolding L5 decode
-    fifth-is kind-is = rw (kind-is, available-is, any-cong _ _ n (λ a l. onward-is a l), first-is) refl
+  -- L5, for a row that writes
+  fifth-is : (writes (rowOf (rowsIn t) x) and anyBelow n (onwardBits (rowsIn t) w REACHED (availableOf (placesIn t) (rowOf (rowsIn t) x .agent)) x y))
+      ≡ L5 (tableIn t n) x y
+  unfolding L5 decode
+  fifth-is = rw (available-is, any-cong _ _ n (λ a l. onward-is a l)) refl
 
-    fourth-is : {g : Bool} → g ≡ rel w SYSTEM GRID x y → (reads r and not (writes r) and g) ≡ L4 (decode b p mode n) x y
+  module _ {r : Row} (first-is : r ≡ rowOf (rowsIn t) x) where
+    fourth-is : {g : Bool} → g ≡ rel w SYSTEM GRID x y → (reads r and not (writes r) and g) ≡ L4 (tableIn t n) x y
     unfolding L4 decode
     fourth-is system-is = rw (system-is ∙ given .holds .system .cell x y (given .first) (given .second), first-is) refl
 
     -- a pair that shares no byte; one that does
-    module _ {q : Row} (second-is : q ≡ rowOf b y) where
-      pub hosted-off : mayShare x y r q ≡ false → false ≡ hosted (decode b p mode n) x y
+    module _ {q : Row} (second-is : q ≡ rowOf (rowsIn t) y) where
+      pub hosted-off : mayShare x y r q ≡ false → false ≡ hosted (tableIn t n) x y
       unfolding hosted decode
       hosted-off apart = sym (and-false-left _ _ (rw (← first-is, ← second-is) apart))
 
       module _ {g c : Bool} (near : mayShare x y r q ≡ true) (system-is : g ≡ rel w SYSTEM GRID x y) (fourth : c ≡ (reads r and not (writes r) and g)) where
-        shared-is : mayShare x y (decode b p mode n .row x) (decode b p mode n .row y) ≡ true
+        shared-is : mayShare x y (tableIn t n .row x) (tableIn t n .row y) ≡ true
         unfolding decode
         shared-is = rw (← first-is, ← second-is) near
 
-        on-is : hosted (decode b p mode n) x y ≡ (c or L5 (decode b p mode n) x y)
+        on-is : hosted (tableIn t n) x y ≡ (c or L5 (tableIn t n) x y)
         unfolding hosted
-        on-is = and-on _ _ shared-is ∙ ap (λ (a : Bool). a or L5 (decode b p mode n) x y) (sym (fourth ∙ fourth-is system-is))
+        on-is = and-on _ _ shared-is ∙ ap (λ (a : Bool). a or L5 (tableIn t n) x y) (sym (fourth ∙ fourth-is system-is))
 
-        pub hosted-fourth : c ≡ true → true ≡ hosted (decode b p mode n) x y
+        pub hosted-fourth : c ≡ true → true ≡ hosted (tableIn t n) x y
         unfolding _or_
         hosted-fourth on = rw (on-is, on) refl
 
-        pub hosted-fifth : {kind : ℕ} {d : Bool} → c ≡ false → kind ≡ availableOf p (r .agent)
-            → d ≡ (writes r and anyBelow n (onwardBits b w REACHED kind x y)) → d ≡ hosted (decode b p mode n) x y
+        pub hosted-fifth : {d : Bool} → c ≡ false
+            → d ≡ (writes (rowOf (rowsIn t) x) and anyBelow n (onwardBits (rowsIn t) w REACHED (availableOf (placesIn t) (rowOf (rowsIn t) x .agent)) x y))
+            → d ≡ hosted (tableIn t n) x y
         unfolding _or_
-        hosted-fifth off kind-is told = rw (on-is, off) (told ∙ fifth-is kind-is)
+        hosted-fifth off told = rw (on-is, off) (told ∙ fifth-is)
 
 -- ---- laws: without dependencies and operations there is neither L4 nor L5
 
-module _ (b : List ℕ) (p : List (List ℕ)) (mode : Mode) (n : ℕ) (none : unhosted mode b n ≡ true) where
-  no-depends : (x y : ℕ) → dependsOf mode x y ≡ false
+module _ (t : List ℕ) (n : ℕ) (none : unhosted (modeIn t) (rowsIn t) n ≡ true) where
+  no-depends : (x y : ℕ) → dependsOf (modeIn t) x y ≡ false
   unfolding dependsOf unhosted
-  no-depends x y = rw (eqb-true (mode .dependencies) 0 (split none .0)) (any-none _)
+  no-depends x y = rw (eqb-true (modeIn t .dependencies) 0 (split none .0)) (any-none _)
 
-  no-fourth : (x y : ℕ) → x < n → y < n → L4 (decode b p mode n) x y ≡ false
+  no-fourth : (x y : ℕ) → x < n → y < n → L4 (tableIn t n) x y ≡ false
   unfolding L4 systemBefore decode
-  no-fourth x y l k = and-false-right _ _ (through-none (dependsOf mode) n (λ i j h g. no-depends i j) n x y (omega arith) l k)
+  no-fourth x y l k = and-false-right _ _ (through-none (dependsOf (modeIn t)) n (λ i j h g. no-depends i j) n x y (omega arith) l k)
 
-  no-operation : (a : ℕ) → a < n → operation (rowOf b a) ≡ false
+  no-operation : (a : ℕ) → a < n → operation (rowOf (rowsIn t) a) ≡ false
   unfolding unhosted operationAt
   no-operation a l = any-off _ n (not-out _ (split none .1)) a l
 
-  no-way : (x y a : ℕ) → a < n → reachesBy (decode b p mode n) x y a ≡ false
+  no-way : (x y a : ℕ) → a < n → reachesBy (tableIn t n) x y a ≡ false
   unfolding reachesBy thence availableKind decode
   no-way x y a l =
       and-false-left _ _ (and-false-left _ _
-      (not-so _ (λ e. let k = available-kinds (onHost (decode b p mode n) x) (rowOf b a .kind) e in
-      not-both (operation-kind (rowOf b a) _ (k .3) (k .4) (eq-eqb (rowOf b a .kind) _ refl)) (no-operation a l))))
+      (not-so _ (λ e. let k = available-kinds (onHost (tableIn t n) x) (rowOf (rowsIn t) a .kind) e in
+      not-both (operation-kind (rowOf (rowsIn t) a) _ (k .3) (k .4) (eq-eqb (rowOf (rowsIn t) a .kind) _ refl)) (no-operation a l))))
 
-  no-fifth : (x y : ℕ) → L5 (decode b p mode n) x y ≡ false
+  no-fifth : (x y : ℕ) → L5 (tableIn t n) x y ≡ false
   unfolding L5 decode
   no-fifth x y = and-false-right _ _ (any-not _ n (λ a l. no-way x y a l))
 
-  no-hosted : (x y : ℕ) → x < n → y < n → hosted (decode b p mode n) x y ≡ false
+  no-hosted : (x y : ℕ) → x < n → y < n → hosted (tableIn t n) x y ≡ false
   unfolding hosted
   no-hosted x y l k = and-false-right _ _ (or-none (no-fourth x y l k) (no-fifth x y))
 
-  pub made-unhosted : {w v : List ℕ} → Given Ordered b p mode n w → v ≡ zeros w HOSTED (HOSTED-END - HOSTED)
-      → Made HOSTED REACHED-END HOSTED GRID n (hosted (decode b p mode n)) w v
+  pub made-unhosted : {w v : List ℕ} → Given Ordered t n w → v ≡ zeros w HOSTED (HOSTED-END - HOSTED)
+      → Made HOSTED REACHED-END HOSTED GRID n (hosted (tableIn t n)) w v
   unfolding rel
   made-unhosted {w} given e =
       record {
@@ -377,16 +379,16 @@ module _ (b : List ℕ) (p : List (List ℕ)) (mode : Mode) (n : ℕ) (none : un
 
 -- ---- laws: the stages, one after the other
 
-module _ {b : List ℕ} {p : List (List ℕ)} {mode : Mode} {n : ℕ} where
+module _ {t : List ℕ} {n : ℕ} where
   -- what rows meet was made, whatever words after it were worked in
-  pub given-meeting : {d : ℕ} {w v u : List ℕ} → Given Ordered b p mode n w → Within SYSTEM SYSTEM-END w v
-      → Made MET d MET GRID n (metBy (decode b p mode n)) v u → Given Meeting b p mode n u
+  pub given-meeting : {d : ℕ} {w v u : List ℕ} → Given Ordered t n w → Within SYSTEM SYSTEM-END w v
+      → Made MET d MET GRID n (metBy (tableIn t n)) v u → Given Meeting t n u
   given-meeting o f m =
       let g = given-kept (omega arith) (m .frame) (given-kept (omega arith) f o) in
       record { few = g .few; room = g .room; holds = record { ordered = g .holds; meeting = m .holds } }
 
-  pub given-sources : {d : ℕ} {w x v u : List ℕ} → Given Ordered b p mode n w → Made SYSTEM SYSTEM-END SYSTEM GRID n (through (dependsOf mode) n) w x
-      → Within MET d x v → Made REACHED REACHED-END REACHED GRID n (reached (decode b p mode n)) v u → Given Sources b p mode n u
+  pub given-sources : {d : ℕ} {w x v u : List ℕ} → Given Ordered t n w → Made SYSTEM SYSTEM-END SYSTEM GRID n (through (dependsOf (modeIn t)) n) w x
+      → Within MET d x v → Made REACHED REACHED-END REACHED GRID n (reached (tableIn t n)) v u → Given Sources t n u
   unfolding systemBefore decode
   given-sources o s f m =
       let g = given-kept (omega arith) (m .frame) (given-kept (omega arith) f (given-kept (omega arith) (s .frame) o)) in

@@ -13,7 +13,8 @@ use Rattle.bits.specs.Stage.{Made, holds-kept, holds-closed, within-closed}
 use Rattle.model.specs.declared.Mode.{Mode}
 use Rattle.model.specs.declared.Row.{Row}
 use Rattle.model.specs.Row.{plain, meets, makesAvailable, makesVisible}
-use Rattle.model.specs.Table.{Table, byteOf, rowOf, decode}
+use Rattle.model.specs.Table.{Table, rowOf, decode}
+use Rattle.run.specs.Layout.{placesIn, modeIn, rowsIn, tableIn}
 use Rattle.model.specs.Scope.{shares}
 use Rattle.model.specs.Moment.{BEFORE, AFTER, availabilityOf, visibilityOf, availability, visibility}
 use Rattle.model.specs.Happens.{happens}
@@ -60,14 +61,14 @@ module _ (t : List ℕ) (p : List (List ℕ)) (mode : Mode) (n : ℕ) where
       rw (makes, broader-is, before, second-is, first-is, ← i, ← o, e, f) refl
 
   -- a row that one byte rules out
-  pub broadens-off : (a c : ℕ) → meets (byteOf t c 5) 2 ≡ false → broadens (decode t p mode n) a c ≡ false
+  pub broadens-off : (a c : ℕ) → meets (rowOf t c .flags) 2 ≡ false → broadens (decode t p mode n) a c ≡ false
   unfolding availabilityOf makesAvailable rowOf
   broadens-off a c off =
       not-so _
       (λ e. not-both (split (split (split (split
       (sym (broadens-row a c _ _ _ _ _ _ _ refl refl refl refl (available-small (rowOf t c)) refl refl refl) ∙ e) .0) .0) .0) .0) off)
 
-  pub narrows-off : (j v : ℕ) → meets (byteOf t j 5) 4 ≡ false → narrows (decode t p mode n) j v ≡ false
+  pub narrows-off : (j v : ℕ) → meets (rowOf t j .flags) 4 ≡ false → narrows (decode t p mode n) j v ≡ false
   unfolding visibilityOf makesVisible rowOf
   narrows-off j v off =
       not-so _
@@ -75,24 +76,24 @@ module _ (t : List ℕ) (p : List (List ℕ)) (mode : Mode) (n : ℕ) where
       (sym (narrows-row j v _ _ _ _ _ _ _ refl refl refl refl (visible-small (rowOf t j)) refl refl refl) ∙ e) .0) .0) .0) .0) off)
 
 -- the same of two rows whose bits are read
-module _ {t : List ℕ} {p : List (List ℕ)} {mode : Mode} {n a c k m : ℕ} {s u : Row} {w : List ℕ} {g d h : Bool} (given : GivenRows Ordered t p mode n a c w)
-    (first-is : s ≡ rowOf t a) (second-is : u ≡ rowOf t c) where
-  pub broadens-is : (k ≡ availablePart s) × (k < 3) → (m ≡ availablePart u) × (m < 3) → g ≡ availabilityOf u m → d ≡ broaderRows p s u
-      → h ≡ rel w HAPPENS MOMENTS (3 * a + k) (3 * c + m) → broadens (decode t p mode n) a c ≡ (g and d and h)
+module _ {t : List ℕ} {n a c k m : ℕ} {s u : Row} {w : List ℕ} {g d h : Bool} (given : GivenRows Ordered t n a c w)
+    (first-is : s ≡ rowOf (rowsIn t) a) (second-is : u ≡ rowOf (rowsIn t) c) where
+  pub broadens-is : (k ≡ availablePart s) × (k < 3) → (m ≡ availablePart u) × (m < 3) → g ≡ availabilityOf u m → d ≡ broaderRows (placesIn t) s u
+      → h ≡ rel w HAPPENS MOMENTS (3 * a + k) (3 * c + m) → broadens (tableIn t n) a c ≡ (g and d and h)
   broadens-is from to makes broader-is before =
-      broadens-row t p mode n a c k m s u g d h first-is second-is (from .0) (to .0) (to .1) makes broader-is
+      broadens-row (rowsIn t) (placesIn t) (modeIn t) n a c k m s u g d h first-is second-is (from .0) (to .0) (to .1) makes broader-is
       (before ∙ given .holds .happening .cell _ _ (omega (arith, from .1, given .first)) (omega (arith, to .1, given .second)))
 
-  pub narrows-is : (k ≡ visiblePart s) × (k < 3) → (m ≡ visiblePart u) × (m < 3) → g ≡ visibilityOf s k → d ≡ broaderRows p u s
-      → h ≡ rel w HAPPENS MOMENTS (3 * a + k) (3 * c + m) → narrows (decode t p mode n) a c ≡ (g and d and h)
+  pub narrows-is : (k ≡ visiblePart s) × (k < 3) → (m ≡ visiblePart u) × (m < 3) → g ≡ visibilityOf s k → d ≡ broaderRows (placesIn t) u s
+      → h ≡ rel w HAPPENS MOMENTS (3 * a + k) (3 * c + m) → narrows (tableIn t n) a c ≡ (g and d and h)
   narrows-is from to makes broader-is before =
-      narrows-row t p mode n a c k m s u g d h first-is second-is (from .0) (to .0) (from .1) makes broader-is
+      narrows-row (rowsIn t) (placesIn t) (modeIn t) n a c k m s u g d h first-is second-is (from .0) (to .0) (from .1) makes broader-is
       (before ∙ given .holds .happening .cell _ _ (omega (arith, from .1, given .first)) (omega (arith, to .1, given .second)))
 
 -- ---- laws: how they are made
 
-pub reach-none : {t : List ℕ} {p : List (List ℕ)} {mode : Mode} {n : ℕ} {w : List ℕ} → mode .chains ≡ false → Given Ordered t p mode n w
-    → MadeReach (decode t p mode n) n w w
+pub reach-none : {t : List ℕ} {n : ℕ} {w : List ℕ} → modeIn t .chains ≡ false → Given Ordered t n w
+    → MadeReach (tableIn t n) n w w
 unfolding decode
 reach-none off g =
     record { reaching = record { ordered = g .holds; out = λ e. not-both e off; back = λ e. not-both e off }; frame = within-refl _ _ _ }
@@ -101,17 +102,17 @@ made-closed : {n : ℕ} {r : ℕ → ℕ → Bool} {w v u : List ℕ} (a b : ℕ
     → Made a b a GRID n (through r n) w u
 made-closed a b l m c = record { holds = holds-closed (m .holds) c; frame = within-trans (m .frame) (within-closed l c) }
 
-module _ {b : List ℕ} {p : List (List ℕ)} {mode : Mode} {n : ℕ} {w v x : List ℕ} (given : Given Ordered b p mode n w)
-    (steps : Made REACH-OUT REACH-OUT-END REACH-OUT GRID n (broadens (decode b p mode n)) w v) (closed : Closed v x REACH-OUT n GRID) where
-  out-made : Made REACH-OUT REACH-OUT-END REACH-OUT GRID n (through (broadens (decode b p mode n)) n) w x
+module _ {t : List ℕ} {n : ℕ} {w v x : List ℕ} (given : Given Ordered t n w)
+    (steps : Made REACH-OUT REACH-OUT-END REACH-OUT GRID n (broadens (tableIn t n)) w v) (closed : Closed v x REACH-OUT n GRID) where
+  out-made : Made REACH-OUT REACH-OUT-END REACH-OUT GRID n (through (broadens (tableIn t n)) n) w x
   out-made = made-closed REACH-OUT REACH-OUT-END (omega (arith, given .few)) steps closed
 
   -- from the first element of an availability chain to its last; then the same of visibility chains
-  pub reach-first : Given Ordered b p mode n x
+  pub reach-first : Given Ordered t n x
   reach-first = given-kept (omega arith) (out-made .frame) given
 
-  pub reach-both : {y u : List ℕ} → Made REACH-IN REACH-IN-END REACH-IN GRID n (narrows (decode b p mode n)) x y → Closed y u REACH-IN n GRID
-      → MadeReach (decode b p mode n) n w u
+  pub reach-both : {y u : List ℕ} → Made REACH-IN REACH-IN-END REACH-IN GRID n (narrows (tableIn t n)) x y → Closed y u REACH-IN n GRID
+      → MadeReach (tableIn t n) n w u
   reach-both inward back-closed =
       let g = made-closed REACH-IN REACH-IN-END (omega (arith, given .few)) inward back-closed in
       record {

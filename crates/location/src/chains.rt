@@ -1,6 +1,6 @@
 // L3: what a write makes available, and what a read makes visible, at a byte, by chains of availability and of visibility operations.
-// The rows r and q are x's and y's, read once by the caller; an element of a chain is named by its row, since a row has at most one
-// moment of either sort. Loops first ask what a few bytes and bits tell. Chains of more than one element are looked at on a device
+// An element of a chain is named by its row, since a row has at most one moment of either sort. Loops first ask what a few bytes and bits
+// tell. Chains of more than one element are looked at on a device
 // that has them, and cost nothing elsewhere.
 ghost use mathlib.Core.Path.{_≡_};
 ghost use mathlib.Core.Bool.{true};
@@ -10,29 +10,25 @@ ghost use Rattle.finite.specs.Logic.{_and_, _or_};
 ghost use Rattle.finite.specs.Below.{anyBelow};
 ghost use Rattle.bits.specs.Matrix.{rel};
 ghost use Rattle.model.specs.Limits.{ROWS, WORK};
-ghost use Rattle.model.specs.Table.{decode};
+ghost use Rattle.model.specs.Table.{rowOf};
+ghost use Rattle.run.specs.Layout.{placesIn, modeIn, rowsIn, tableIn};
 ghost use Rattle.model.specs.Location.{L3};
 ghost use Rattle.area.specs.Regions.{HAPPENS, MOMENTS};
 ghost use Rattle.location.specs.Chains.{availablePart, visiblePart, mayAvail, maySee, availableRows, visibleRows, widest, meetIn};
 ghost use Rattle.location.specs.Chains.{seen, metAtOnce, startsWith, shownBy, endsAt, endsWith, carriedBy};
 ghost use Rattle.location.specs.Given.{Pair, Element};
 use crate::happens;
-use model::Mode;
-use model::Places;
 use model::Row;
 use rules::moments;
 use rules::pairs;
+use run::Run;
 
 // The moments before and after a row, counted from three times the row.
 const BEFORE: usize = 0;
 
 const AFTER: usize = 2;
 
-// Places of a row's agent and flags, and the flags that make available and visible.
-const AGENT: u8 = 1;
-
-pub const FLAGS: u8 = 5;
-
+// The flags that make available and visible.
 pub const AVAILABLE: u8 = 2;
 
 pub const VISIBLE: u8 = 4;
@@ -96,104 +92,78 @@ fn widest(s: u8, u: u8) -> u8
 }
 
 // Whether one domain of scope d holds the agents of r and q, that of s beside the one, that of u beside the other.
-fn meet_in(p: Places, d: u8, r: Row, q: Row, s: Row, u: Row) -> bool
-    ensures { λ b. ⌜ b ≡ meetIn p d r q s u ⌝ }
+fn meet_in(t: &Run, d: u8, r: Row, q: Row, s: Row, u: Row) -> bool
+    ensures { λ b. ⌜ b ≡ meetIn (placesIn (now (t .entry))) d r q s u ⌝ }
 {
+    let p = run::places(t);
     (1 <= d)
         & rows::scopes::shares_scope(p, d, r.agent, q.agent)
         & rows::scopes::shares_scope(p, d, r.agent, s.agent)
         & rows::scopes::shares_scope(p, d, q.agent, u.agent)
 }
 
-// What row i, which is s, makes available, row j makes visible.
-fn seen_at(
-    rows: &[u8],
-    p: Places,
-    mode: Mode,
-    n: usize,
-    x: usize,
-    y: usize,
-    r: Row,
-    q: Row,
-    i: usize,
-    s: Row,
-    j: usize,
-    w: &[u64],
-) -> bool
-    requires { ⌜ record { element : Element (now rows) p mode n x y r q i s (now w); last : j < n } ⌝ }
-    ensures { λ d. ⌜ d ≡ seen (decode (now (rows .entry)) p mode n) x y i j ⌝ }
+// What row i makes available, row j makes visible.
+fn seen_at(t: &Run, n: usize, x: usize, y: usize, i: usize, j: usize, w: &[u64]) -> bool
+    requires { ⌜ record { element : Element (now t) n x y i (now w); last : j < n } ⌝ }
+    ensures { λ d. ⌜ d ≡ seen (tableIn (now (t .entry)) n) x y i j ⌝ }
 {
-    let u = rows::bytes::read_row(rows, j as u16);
+    let s = run::row(t, i as u16);
+    let u = run::row(t, j as u16);
     if !happens::happens_bit(w, 3 * i + available_part(s), 3 * j + visible_part(u)) {
         return false;
     }
-    meet_in(p, widest(s.scope, u.scope), r, q, s, u)
+    let r = run::row(t, x as u16);
+    let q = run::row(t, y as u16);
+    meet_in(t, widest(s.scope, u.scope), r, q, s, u)
 }
 
 // ---- what y meets
 
-// Whether row v may be a last element for what moment c makes available to q: it has q's agent and the flag and, without chains,
+// Whether row v may be a last element for what moment c makes available to y: it has y's agent and the flag and, without chains,
 // moment c happens before one of its own.
-pub fn may_show(rows: &[u8], mode: Mode, q: Row, c: usize, v: usize, w: &[u64]) -> bool
-    requires { ⌜ (c < 3 * ROWS) × (v < ROWS) × (WORK ≤ length (now w)) ⌝ }
+fn may_show(t: &Run, y: usize, c: usize, v: usize, w: &[u64]) -> bool
+    requires { ⌜ (y < ROWS) × (c < 3 * ROWS) × (v < ROWS) × (WORK ≤ length (now w)) ⌝ }
     ensures { λ d. let before = rel (now (w .entry)) HAPPENS MOMENTS c in
-        ⌜ d ≡ ((mode .chains or before (3 * v) or before (3 * v + 2)) and maySee (now (rows .entry)) q v) ⌝ }
+        let rows = rowsIn (now (t .entry)) in
+        ⌜ d ≡ ((modeIn (now (t .entry)) .chains or before (3 * v) or before (3 * v + 2)) and maySee rows (rowOf rows y) v) ⌝ }
 {
-    if !(mode.chains
+    if !(run::chains(t)
         | happens::happens_bit(w, c, 3 * v)
         | happens::happens_bit(w, c, 3 * v + AFTER)) {
         return false;
     }
-    let agent = rows::bytes::row_byte(rows, v as u16, AGENT);
-    let flags = rows::bytes::row_byte(rows, v as u16, FLAGS);
-    (agent == q.agent) & rows::kinds::meets(flags, VISIBLE)
+    let agent = run::agent(t, v as u16);
+    let flags = run::flags(t, v as u16);
+    (agent == run::agent(t, y as u16)) & rows::kinds::meets(flags, VISIBLE)
 }
 
 // A visibility chain of more than one element from row j to row v shows what row i makes available.
 fn starts_with(
-    rows: &[u8],
-    p: Places,
-    mode: Mode,
+    t: &Run,
     n: usize,
     x: usize,
     y: usize,
-    r: Row,
-    q: Row,
     i: usize,
-    s: Row,
     v: usize,
     j: usize,
     w: &[u64],
 ) -> bool
-    requires { ⌜ record { element : Element (now rows) p mode n x y r q i s (now w); last : v < n; next : j < n; chains : mode .chains ≡ true } ⌝ }
-    ensures { λ d. ⌜ d ≡ startsWith (decode (now (rows .entry)) p mode n) x y i v j ⌝ }
+    requires { ⌜ record { element : Element (now t) n x y i (now w); last : v < n; next : j < n; chains : modeIn (now t) .chains ≡ true } ⌝ }
+    ensures { λ d. ⌜ d ≡ startsWith (tableIn (now (t .entry)) n) x y i v j ⌝ }
 {
     if !area::grid::get(w, area::REACH_IN, j, v) {
         return false;
     }
-    seen_at(rows, p, mode, n, x, y, r, q, i, s, j, w)
+    seen_at(t, n, x, y, i, j, w)
 }
 
 // Some visibility chain of more than one element that ends with row v shows it.
-fn some_start(
-    rows: &[u8],
-    p: Places,
-    mode: Mode,
-    n: usize,
-    x: usize,
-    y: usize,
-    r: Row,
-    q: Row,
-    i: usize,
-    s: Row,
-    v: usize,
-    w: &[u64],
-) -> bool
-    requires { ⌜ record { element : Element (now rows) p mode n x y r q i s (now w); last : v < n; chains : mode .chains ≡ true } ⌝ }
-    ensures { λ d. ⌜ d ≡ anyBelow n (startsWith (decode (now (rows .entry)) p mode n) x y i v) ⌝ }
+fn some_start(t: &Run, n: usize, x: usize, y: usize, i: usize, v: usize, w: &[u64]) -> bool
+    requires { ⌜ record { element : Element (now t) n x y i (now w); last : v < n; chains : modeIn (now t) .chains ≡ true } ⌝ }
+    ensures { λ d. ⌜ d ≡ anyBelow n (startsWith (tableIn (now (t .entry)) n) x y i v) ⌝ }
 {
     for j in 0..n {
-        if starts_with(rows, p, mode, n, x, y, r, q, i, s, v, j, w) {
+        if starts_with(t, n, x, y, i, v, j, w) {
             return true;
         }
     }
@@ -201,270 +171,151 @@ fn some_start(
 }
 
 // Some visibility chain that ends with row v shows what row i makes available.
-pub fn starts_at(
-    rows: &[u8],
-    p: Places,
-    mode: Mode,
-    n: usize,
-    x: usize,
-    y: usize,
-    r: Row,
-    q: Row,
-    i: usize,
-    s: Row,
-    v: usize,
-    w: &[u64],
-) -> bool
-    requires { ⌜ record { element : Element (now rows) p mode n x y r q i s (now w); last : v < n } ⌝ }
-    ensures { λ d. let t = decode (now (rows .entry)) p mode n in
-        ⌜ d ≡ (seen t x y i v or (mode .chains and anyBelow n (startsWith t x y i v))) ⌝ }
+fn starts_at(t: &Run, n: usize, x: usize, y: usize, i: usize, v: usize, w: &[u64]) -> bool
+    requires { ⌜ record { element : Element (now t) n x y i (now w); last : v < n } ⌝ }
+    ensures { λ d. let table = tableIn (now (t .entry)) n in
+        ⌜ d ≡ (seen table x y i v or (modeIn (now (t .entry)) .chains and anyBelow n (startsWith table x y i v))) ⌝ }
 {
-    if seen_at(rows, p, mode, n, x, y, r, q, i, s, v, w) {
+    if seen_at(t, n, x, y, i, v, w) {
         return true;
     }
-    if !mode.chains {
+    if !run::chains(t) {
         return false;
     }
-    some_start(rows, p, mode, n, x, y, r, q, i, s, v, w)
+    some_start(t, n, x, y, i, v, w)
 }
 
 // L3: y sees by way of row v what row i makes available.
-fn shown_in(
-    rows: &[u8],
-    p: Places,
-    mode: Mode,
-    n: usize,
-    x: usize,
-    y: usize,
-    r: Row,
-    q: Row,
-    b: u32,
-    i: usize,
-    s: Row,
-    v: usize,
-    w: &[u64],
-) -> bool
-    requires { ⌜ record { element : Element (now rows) p mode n x y r q i s (now w); last : v < n } ⌝ }
-    ensures { λ d. ⌜ d ≡ shownBy (decode (now (rows .entry)) p mode n) x y b i v ⌝ }
+fn shown_in(t: &Run, n: usize, x: usize, y: usize, b: u32, i: usize, v: usize, w: &[u64]) -> bool
+    requires { ⌜ record { element : Element (now t) n x y i (now w); last : v < n } ⌝ }
+    ensures { λ d. ⌜ d ≡ shownBy (tableIn (now (t .entry)) n) x y b i v ⌝ }
 {
-    if !may_show(rows, mode, q, 3 * i + available_part(s), v, w) {
+    let s = run::row(t, i as u16);
+    if !may_show(t, y, 3 * i + available_part(s), v, w) {
         return false;
     }
-    let u = rows::bytes::read_row(rows, v as u16);
+    let q = run::row(t, y as u16);
+    let u = run::row(t, v as u16);
     if !visible_at(n, y, q, 3 * v + visible_part(u), u, b) {
         return false;
     }
-    starts_at(rows, p, mode, n, x, y, r, q, i, s, v, w)
+    starts_at(t, n, x, y, i, v, w)
 }
 
 // No row after y is a last element.
-fn some_shown(
-    rows: &[u8],
-    p: Places,
-    mode: Mode,
-    n: usize,
-    x: usize,
-    y: usize,
-    r: Row,
-    q: Row,
-    b: u32,
-    i: usize,
-    s: Row,
-    w: &[u64],
-) -> bool
-    requires { ⌜ Element (now rows) p mode n x y r q i s (now w) ⌝ }
-    ensures { λ d. ⌜ d ≡ anyBelow n (shownBy (decode (now (rows .entry)) p mode n) x y b i) ⌝ }
+fn some_shown(t: &Run, n: usize, x: usize, y: usize, b: u32, i: usize, w: &[u64]) -> bool
+    requires { ⌜ Element (now t) n x y i (now w) ⌝ }
+    ensures { λ d. ⌜ d ≡ anyBelow n (shownBy (tableIn (now (t .entry)) n) x y b i) ⌝ }
 {
     for v in 0..y + 1 {
-        if shown_in(rows, p, mode, n, x, y, r, q, b, i, s, v, w) {
+        if shown_in(t, n, x, y, b, i, v, w) {
             return true;
         }
     }
     false
 }
 
-// y meets at once what row i, which is s, makes available.
-pub fn met_at(
-    rows: &[u8],
-    p: Places,
-    mode: Mode,
-    n: usize,
-    x: usize,
-    y: usize,
-    r: Row,
-    q: Row,
-    i: usize,
-    s: Row,
-    w: &[u64],
-) -> bool
-    requires { ⌜ Element (now rows) p mode n x y r q i s (now w) ⌝ }
-    ensures { λ d. ⌜ d ≡ metAtOnce (decode (now (rows .entry)) p mode n) x y i ⌝ }
+// y meets at once what row i makes available.
+fn met_at(t: &Run, n: usize, x: usize, y: usize, i: usize, w: &[u64]) -> bool
+    requires { ⌜ Element (now t) n x y i (now w) ⌝ }
+    ensures { λ d. ⌜ d ≡ metAtOnce (tableIn (now (t .entry)) n) x y i ⌝ }
 {
+    let s = run::row(t, i as u16);
     if !happens::happens_bit(w, 3 * i + available_part(s), 3 * y + 1) {
         return false;
     }
-    meet_in(p, widest(s.scope, rows::scopes::DEVICE), r, q, s, q)
+    let r = run::row(t, x as u16);
+    let q = run::row(t, y as u16);
+    meet_in(t, widest(s.scope, rows::scopes::DEVICE), r, q, s, q)
 }
 
 // L3: y meets what row i makes available: a reader by way of a visibility chain, any other at once.
-fn ends_at(
-    rows: &[u8],
-    p: Places,
-    mode: Mode,
-    n: usize,
-    x: usize,
-    y: usize,
-    r: Row,
-    q: Row,
-    b: u32,
-    i: usize,
-    s: Row,
-    w: &[u64],
-) -> bool
-    requires { ⌜ Element (now rows) p mode n x y r q i s (now w) ⌝ }
-    ensures { λ d. ⌜ d ≡ endsAt (decode (now (rows .entry)) p mode n) x y b i ⌝ }
+fn ends_at(t: &Run, n: usize, x: usize, y: usize, b: u32, i: usize, w: &[u64]) -> bool
+    requires { ⌜ Element (now t) n x y i (now w) ⌝ }
+    ensures { λ d. ⌜ d ≡ endsAt (tableIn (now (t .entry)) n) x y b i ⌝ }
 {
+    let q = run::row(t, y as u16);
     if rows::kinds::reads(q) {
-        return some_shown(rows, p, mode, n, x, y, r, q, b, i, s, w);
+        return some_shown(t, n, x, y, b, i, w);
     }
-    met_at(rows, p, mode, n, x, y, r, q, i, s, w)
+    met_at(t, n, x, y, i, w)
 }
 
 // ---- what x makes available
 
-// Whether row i may make r available: it has r's agent and the flag.
-pub fn may_avail(rows: &[u8], r: Row, i: usize) -> bool
-    requires { ⌜ i < ROWS ⌝ }
-    ensures { λ d. ⌜ d ≡ mayAvail (now (rows .entry)) r i ⌝ }
+// Whether row i may make x available: it has x's agent and the flag.
+fn may_avail(t: &Run, x: usize, i: usize) -> bool
+    requires { ⌜ (x < ROWS) × (i < ROWS) ⌝ }
+    ensures { λ d. let rows = rowsIn (now (t .entry)) in
+        ⌜ d ≡ mayAvail rows (rowOf rows x) i ⌝ }
 {
-    let agent = rows::bytes::row_byte(rows, i as u16, AGENT);
-    let flags = rows::bytes::row_byte(rows, i as u16, FLAGS);
-    (r.agent == agent) & rows::kinds::meets(flags, AVAILABLE)
+    let agent = run::agent(t, i as u16);
+    let flags = run::flags(t, i as u16);
+    (run::agent(t, x as u16) == agent) & rows::kinds::meets(flags, AVAILABLE)
 }
 
 // An availability chain of more than one element from row a to row c makes available what y meets.
-fn ends_with(
-    rows: &[u8],
-    p: Places,
-    mode: Mode,
-    n: usize,
-    x: usize,
-    y: usize,
-    r: Row,
-    q: Row,
-    b: u32,
-    a: usize,
-    c: usize,
-    w: &[u64],
-) -> bool
-    requires { ⌜ record { pair : Pair (now rows) p mode n x y r q (now w); row : a < n; next : c < n; chains : mode .chains ≡ true } ⌝ }
-    ensures { λ d. ⌜ d ≡ endsWith (decode (now (rows .entry)) p mode n) x y b a c ⌝ }
+fn ends_with(t: &Run, n: usize, x: usize, y: usize, b: u32, a: usize, c: usize, w: &[u64]) -> bool
+    requires { ⌜ record { pair : Pair (now t) n x y (now w); row : a < n; next : c < n; chains : modeIn (now t) .chains ≡ true } ⌝ }
+    ensures { λ d. ⌜ d ≡ endsWith (tableIn (now (t .entry)) n) x y b a c ⌝ }
 {
     if !area::grid::get(w, area::REACH_OUT, a, c) {
         return false;
     }
-    let s = rows::bytes::read_row(rows, c as u16);
-    ends_at(rows, p, mode, n, x, y, r, q, b, c, s, w)
+    ends_at(t, n, x, y, b, c, w)
 }
 
 // Some availability chain of more than one element that begins with row a makes available what y meets.
-fn some_end(
-    rows: &[u8],
-    p: Places,
-    mode: Mode,
-    n: usize,
-    x: usize,
-    y: usize,
-    r: Row,
-    q: Row,
-    b: u32,
-    a: usize,
-    w: &[u64],
-) -> bool
-    requires { ⌜ record { pair : Pair (now rows) p mode n x y r q (now w); row : a < n; chains : mode .chains ≡ true } ⌝ }
-    ensures { λ d. ⌜ d ≡ anyBelow n (endsWith (decode (now (rows .entry)) p mode n) x y b a) ⌝ }
+fn some_end(t: &Run, n: usize, x: usize, y: usize, b: u32, a: usize, w: &[u64]) -> bool
+    requires { ⌜ record { pair : Pair (now t) n x y (now w); row : a < n; chains : modeIn (now t) .chains ≡ true } ⌝ }
+    ensures { λ d. ⌜ d ≡ anyBelow n (endsWith (tableIn (now (t .entry)) n) x y b a) ⌝ }
 {
     for c in 0..n {
-        if ends_with(rows, p, mode, n, x, y, r, q, b, a, c, w) {
+        if ends_with(t, n, x, y, b, a, c, w) {
             return true;
         }
     }
     false
 }
 
-// Some availability chain that begins with row a, which is s, makes available what y meets.
-fn ends_from(
-    rows: &[u8],
-    p: Places,
-    mode: Mode,
-    n: usize,
-    x: usize,
-    y: usize,
-    r: Row,
-    q: Row,
-    b: u32,
-    a: usize,
-    s: Row,
-    w: &[u64],
-) -> bool
-    requires { ⌜ Element (now rows) p mode n x y r q a s (now w) ⌝ }
-    ensures { λ d. let t = decode (now (rows .entry)) p mode n in
-        ⌜ d ≡ (endsAt t x y b a or (mode .chains and anyBelow n (endsWith t x y b a))) ⌝ }
+// Some availability chain that begins with row a makes available what y meets.
+fn ends_from(t: &Run, n: usize, x: usize, y: usize, b: u32, a: usize, w: &[u64]) -> bool
+    requires { ⌜ Element (now t) n x y a (now w) ⌝ }
+    ensures { λ d. let table = tableIn (now (t .entry)) n in
+        ⌜ d ≡ (endsAt table x y b a or (modeIn (now (t .entry)) .chains and anyBelow n (endsWith table x y b a))) ⌝ }
 {
-    if ends_at(rows, p, mode, n, x, y, r, q, b, a, s, w) {
+    if ends_at(t, n, x, y, b, a, w) {
         return true;
     }
-    if !mode.chains {
+    if !run::chains(t) {
         return false;
     }
-    some_end(rows, p, mode, n, x, y, r, q, b, a, w)
+    some_end(t, n, x, y, b, a, w)
 }
 
 // L3: y meets what a chain from the first element a makes available.
-fn carried_in(
-    rows: &[u8],
-    p: Places,
-    mode: Mode,
-    n: usize,
-    x: usize,
-    y: usize,
-    r: Row,
-    q: Row,
-    b: u32,
-    a: usize,
-    w: &[u64],
-) -> bool
-    requires { ⌜ record { pair : Pair (now rows) p mode n x y r q (now w); row : a < n } ⌝ }
-    ensures { λ d. ⌜ d ≡ carriedBy (decode (now (rows .entry)) p mode n) x y b a ⌝ }
+fn carried_in(t: &Run, n: usize, x: usize, y: usize, b: u32, a: usize, w: &[u64]) -> bool
+    requires { ⌜ record { pair : Pair (now t) n x y (now w); row : a < n } ⌝ }
+    ensures { λ d. ⌜ d ≡ carriedBy (tableIn (now (t .entry)) n) x y b a ⌝ }
 {
-    if !may_avail(rows, r, a) {
+    if !may_avail(t, x, a) {
         return false;
     }
-    let s = rows::bytes::read_row(rows, a as u16);
+    let r = run::row(t, x as u16);
+    let s = run::row(t, a as u16);
     if !available_at(n, x, r, 3 * a + available_part(s), s, b) {
         return false;
     }
-    ends_from(rows, p, mode, n, x, y, r, q, b, a, s, w)
+    ends_from(t, n, x, y, b, a, w)
 }
 
 // No row before x is a first element.
-fn some_carried(
-    rows: &[u8],
-    p: Places,
-    mode: Mode,
-    n: usize,
-    x: usize,
-    y: usize,
-    r: Row,
-    q: Row,
-    b: u32,
-    w: &[u64],
-) -> bool
-    requires { ⌜ Pair (now rows) p mode n x y r q (now w) ⌝ }
-    ensures { λ d. ⌜ d ≡ anyBelow n (carriedBy (decode (now (rows .entry)) p mode n) x y b) ⌝ }
+fn some_carried(t: &Run, n: usize, x: usize, y: usize, b: u32, w: &[u64]) -> bool
+    requires { ⌜ Pair (now t) n x y (now w) ⌝ }
+    ensures { λ d. ⌜ d ≡ anyBelow n (carriedBy (tableIn (now (t .entry)) n) x y b) ⌝ }
 {
     for a in x..n {
-        if carried_in(rows, p, mode, n, x, y, r, q, b, a, w) {
+        if carried_in(t, n, x, y, b, a, w) {
             return true;
         }
     }
@@ -472,23 +323,14 @@ fn some_carried(
 }
 
 // L3.
-pub fn l3(
-    rows: &[u8],
-    p: Places,
-    mode: Mode,
-    n: usize,
-    x: usize,
-    y: usize,
-    r: Row,
-    q: Row,
-    b: u32,
-    w: &[u64],
-) -> bool
-    requires { ⌜ Pair (now rows) p mode n x y r q (now w) ⌝ }
-    ensures { λ d. ⌜ d ≡ L3 (decode (now (rows .entry)) p mode n) x y b ⌝ }
+pub fn l3(t: &Run, n: usize, x: usize, y: usize, b: u32, w: &[u64]) -> bool
+    requires { ⌜ Pair (now t) n x y (now w) ⌝ }
+    ensures { λ d. ⌜ d ≡ L3 (tableIn (now (t .entry)) n) x y b ⌝ }
 {
+    let r = run::row(t, x as u16);
+    let q = run::row(t, y as u16);
     if !pairs::public_write(r, q) {
         return false;
     }
-    some_carried(rows, p, mode, n, x, y, r, q, b, w)
+    some_carried(t, n, x, y, b, w)
 }

@@ -9,27 +9,23 @@ ghost use Rattle.bits.specs.Matrix.{rel};
 ghost use Rattle.bits.specs.Stage.{Made};
 ghost use Rattle.model.specs.Limits.{ROWS, WORK};
 ghost use Rattle.model.specs.Row.{writes};
-ghost use Rattle.model.specs.Table.{decode};
+ghost use Rattle.model.specs.Table.{rowOf};
+ghost use Rattle.run.specs.Layout.{placesIn, rowsIn, tableIn};
 ghost use Rattle.area.specs.Regions.{MET, MET-END, REACHED, REACHED-END, GRID};
 ghost use Rattle.area.specs.State.{Ordered};
 ghost use Rattle.location.specs.Domains.{thenceBits, seenBits, onwardBits, operationAt, availableOf, visibleOf, isAvailable, outOf, metBy};
 ghost use Rattle.location.specs.Domains.{reached, Meeting};
 ghost use Rattle.location.specs.Given.{Given, GivenRows};
 use crate::happens;
-use model::Mode;
-use model::Places;
-use model::Row;
-
-// The place of a row's kind.
-const KIND: u8 = 0;
+use run::Run;
 
 // ---- an agent's and an operation's domain
 
 // The operation that makes available to an agent's domain.
-fn available_kind(p: Places, agent: u8) -> u8
-    ensures { λ k. ⌜ k ≡ availableOf p agent ⌝ }
+fn available_kind(t: &Run, agent: u8) -> u8
+    ensures { λ k. ⌜ k ≡ availableOf (placesIn (now (t .entry))) agent ⌝ }
 {
-    if rows::scopes::is_host(p, agent) {
+    if rows::scopes::is_host(run::places(t), agent) {
         rows::kinds::AVAILABLE_HOST
     } else {
         rows::kinds::AVAILABLE_DEVICE
@@ -37,10 +33,10 @@ fn available_kind(p: Places, agent: u8) -> u8
 }
 
 // The operation that makes visible from an agent's domain.
-pub fn visible_kind(p: Places, agent: u8) -> u8
-    ensures { λ k. ⌜ k ≡ visibleOf p agent ⌝ }
+fn visible_kind(t: &Run, agent: u8) -> u8
+    ensures { λ k. ⌜ k ≡ visibleOf (placesIn (now (t .entry))) agent ⌝ }
 {
-    if rows::scopes::is_host(p, agent) {
+    if rows::scopes::is_host(run::places(t), agent) {
         rows::kinds::VISIBLE_HOST
     } else {
         rows::kinds::VISIBLE_DEVICE
@@ -66,11 +62,11 @@ fn out_of(kind: u8) -> u8
 }
 
 // Whether row i is an operation at all.
-pub fn operation_at(rows: &[u8], i: usize) -> bool
+pub fn operation_at(t: &Run, i: usize) -> bool
     requires { ⌜ i < ROWS ⌝ }
-    ensures { λ d. ⌜ d ≡ operationAt (now (rows .entry)) i ⌝ }
+    ensures { λ d. ⌜ d ≡ operationAt (rowsIn (now (t .entry))) i ⌝ }
 {
-    let kind = rows::bytes::row_byte(rows, i as u16, KIND);
+    let kind = run::kind(t, i as u16);
     (rows::kinds::AVAILABLE_HOST <= kind) & (kind <= rows::kinds::DEVICE_TO_HOST)
 }
 
@@ -85,34 +81,34 @@ pub fn grid_bit(w: &[u64], base: usize, i: usize, j: usize) -> bool
 }
 
 // Whether row i is the operation of this kind, and row x happens before it.
-fn thence_at(rows: &[u8], kind: u8, x: usize, i: usize, w: &[u64]) -> bool
+fn thence_at(t: &Run, kind: u8, x: usize, i: usize, w: &[u64]) -> bool
     requires { ⌜ (x < ROWS) × (i < ROWS) × (WORK ≤ length (now w)) ⌝ }
-    ensures { λ d. ⌜ d ≡ thenceBits (now (rows .entry)) (now (w .entry)) kind x i ⌝ }
+    ensures { λ d. ⌜ d ≡ thenceBits (rowsIn (now (t .entry))) (now (w .entry)) kind x i ⌝ }
 {
-    if !(rows::bytes::row_byte(rows, i as u16, KIND) == kind) {
+    if !(run::kind(t, i as u16) == kind) {
         return false;
     }
     happens::happens_bit(w, 3 * x + 1, 3 * i + 1)
 }
 
 // Whether row i is the operation of this kind, after row m and before row y.
-fn seen_at(rows: &[u8], kind: u8, m: usize, y: usize, i: usize, w: &[u64]) -> bool
+fn seen_at(t: &Run, kind: u8, m: usize, y: usize, i: usize, w: &[u64]) -> bool
     requires { ⌜ (m < ROWS) × (y < ROWS) × (i < ROWS) × (WORK ≤ length (now w)) ⌝ }
-    ensures { λ d. ⌜ d ≡ seenBits (now (rows .entry)) (now (w .entry)) kind m y i ⌝ }
+    ensures { λ d. ⌜ d ≡ seenBits (rowsIn (now (t .entry))) (now (w .entry)) kind m y i ⌝ }
 {
-    if !thence_at(rows, kind, m, i, w) {
+    if !thence_at(t, kind, m, i, w) {
         return false;
     }
     happens::happens_bit(w, 3 * i + 1, 3 * y + 1)
 }
 
 // Whether some row is.
-fn is_seen(rows: &[u8], n: usize, kind: u8, m: usize, y: usize, w: &[u64]) -> bool
+fn is_seen(t: &Run, n: usize, kind: u8, m: usize, y: usize, w: &[u64]) -> bool
     requires { ⌜ (n ≤ ROWS) × (m < n) × (y < n) × (WORK ≤ length (now w)) ⌝ }
-    ensures { λ d. ⌜ d ≡ anyBelow n (seenBits (now (rows .entry)) (now (w .entry)) kind m y) ⌝ }
+    ensures { λ d. ⌜ d ≡ anyBelow n (seenBits (rowsIn (now (t .entry))) (now (w .entry)) kind m y) ⌝ }
 {
     for i in 0..n {
-        if seen_at(rows, kind, m, y, i, w) {
+        if seen_at(t, kind, m, y, i, w) {
             return true;
         }
     }
@@ -120,23 +116,23 @@ fn is_seen(rows: &[u8], n: usize, kind: u8, m: usize, y: usize, w: &[u64]) -> bo
 }
 
 // Whether row i is the operation of this kind, after row x, and the grid at base has it with row y.
-fn onward_at(rows: &[u8], base: usize, kind: u8, x: usize, y: usize, i: usize, w: &[u64]) -> bool
+fn onward_at(t: &Run, base: usize, kind: u8, x: usize, y: usize, i: usize, w: &[u64]) -> bool
     requires { ⌜ (base ≤ REACHED) × (x < ROWS) × (y < ROWS) × (i < ROWS) × (WORK ≤ length (now w)) ⌝ }
-    ensures { λ d. ⌜ d ≡ onwardBits (now (rows .entry)) (now (w .entry)) base kind x y i ⌝ }
+    ensures { λ d. ⌜ d ≡ onwardBits (rowsIn (now (t .entry))) (now (w .entry)) base kind x y i ⌝ }
 {
-    if !thence_at(rows, kind, x, i, w) {
+    if !thence_at(t, kind, x, i, w) {
         return false;
     }
     grid_bit(w, base, i, y)
 }
 
 // Whether some row is.
-fn is_onward(rows: &[u8], n: usize, base: usize, kind: u8, x: usize, y: usize, w: &[u64]) -> bool
+fn is_onward(t: &Run, n: usize, base: usize, kind: u8, x: usize, y: usize, w: &[u64]) -> bool
     requires { ⌜ (n ≤ ROWS) × (base ≤ REACHED) × (x < n) × (y < n) × (WORK ≤ length (now w)) ⌝ }
-    ensures { λ d. ⌜ d ≡ anyBelow n (onwardBits (now (rows .entry)) (now (w .entry)) base kind x y) ⌝ }
+    ensures { λ d. ⌜ d ≡ anyBelow n (onwardBits (rowsIn (now (t .entry))) (now (w .entry)) base kind x y) ⌝ }
 {
     for i in 0..n {
-        if onward_at(rows, base, kind, x, y, i, w) {
+        if onward_at(t, base, kind, x, y, i, w) {
             return true;
         }
     }
@@ -146,30 +142,30 @@ fn is_onward(rows: &[u8], n: usize, base: usize, kind: u8, x: usize, y: usize, w
 // ---- what a row meets of what an operation leaves in its domain
 
 // A reader meets it by way of a visibility operation, any other at once.
-fn met_at(rows: &[u8], p: Places, mode: Mode, n: usize, m: usize, y: usize, w: &[u64]) -> bool
-    requires { ⌜ GivenRows Ordered (now rows) p mode n m y (now w) ⌝ }
-    ensures { λ d. ⌜ d ≡ metBy (decode (now (rows .entry)) p mode n) m y ⌝ }
+fn met_at(t: &Run, n: usize, m: usize, y: usize, w: &[u64]) -> bool
+    requires { ⌜ GivenRows Ordered (now t) n m y (now w) ⌝ }
+    ensures { λ d. ⌜ d ≡ metBy (tableIn (now (t .entry)) n) m y ⌝ }
 {
-    if !operation_at(rows, m) {
+    if !operation_at(t, m) {
         return false;
     }
-    let q = rows::bytes::read_row(rows, y as u16);
+    let q = run::row(t, y as u16);
     if rows::kinds::reads(q) {
-        return is_seen(rows, n, visible_kind(p, q.agent), m, y, w);
+        return is_seen(t, n, visible_kind(t, q.agent), m, y, w);
     }
     happens::happens_bit(w, 3 * m + 1, 3 * y + 1)
 }
 
 // The same for every operation and row.
 // Ruled out: one where a reader meets it with no visibility operation; one that asks for one of the other domain.
-pub fn fill_met(rows: &[u8], p: Places, mode: Mode, n: usize, w: &mut [u64])
-    requires { ⌜ Given Ordered (now rows) p mode n (now w) ⌝ }
-    ensures { λ _. ⌜ Made MET MET-END MET GRID n (metBy (decode (now (rows .entry)) p mode n)) (now (w .entry)) (now (w .exit)) ⌝ }
+pub fn fill_met(t: &Run, n: usize, w: &mut [u64])
+    requires { ⌜ Given Ordered (now t) n (now w) ⌝ }
+    ensures { λ _. ⌜ Made MET MET-END MET GRID n (metBy (tableIn (now (t .entry)) n)) (now (w .entry)) (now (w .exit)) ⌝ }
 {
     bits::clear(w, area::MET, area::MET_END);
     for m in 0..n {
         for y in 0..n {
-            let b = met_at(rows, p, mode, n, m, y, w);
+            let b = met_at(t, n, m, y, w);
             area::grid::put_if(w, area::MET, m, y, b);
         }
     }
@@ -178,32 +174,32 @@ pub fn fill_met(rows: &[u8], p: Places, mode: Mode, n: usize, w: &mut [u64])
 // ---- what a row meets of what an operation makes available
 
 // Where the operation's domain is not row y's, another operation must carry it.
-fn reached_at(rows: &[u8], p: Places, mode: Mode, n: usize, a: usize, y: usize, w: &[u64]) -> bool
-    requires { ⌜ GivenRows Meeting (now rows) p mode n a y (now w) ⌝ }
-    ensures { λ d. ⌜ d ≡ reached (decode (now (rows .entry)) p mode n) a y ⌝ }
+fn reached_at(t: &Run, n: usize, a: usize, y: usize, w: &[u64]) -> bool
+    requires { ⌜ GivenRows Meeting (now t) n a y (now w) ⌝ }
+    ensures { λ d. ⌜ d ≡ reached (tableIn (now (t .entry)) n) a y ⌝ }
 {
-    let kind = rows::bytes::row_byte(rows, a as u16, KIND);
+    let kind = run::kind(t, a as u16);
     if !is_available(kind) {
         return false;
     }
-    let agent = rows::bytes::read_agent(rows, y as u16);
-    if (kind == rows::kinds::AVAILABLE_HOST) == rows::scopes::is_host(p, agent) {
+    let agent = run::agent(t, y as u16);
+    if (kind == rows::kinds::AVAILABLE_HOST) == rows::scopes::is_host(run::places(t), agent) {
         return grid_bit(w, area::MET, a, y);
     }
-    is_onward(rows, n, area::MET, out_of(kind), a, y, w)
+    is_onward(t, n, area::MET, out_of(kind), a, y, w)
 }
 
 // The same for every operation and row.
 // Ruled out: one that carries from the host's domain to the device's what was made available to the device's; one where what is
 // made available to a domain is met in the other with nothing to carry it.
-pub fn fill_reached(rows: &[u8], p: Places, mode: Mode, n: usize, w: &mut [u64])
-    requires { ⌜ Given Meeting (now rows) p mode n (now w) ⌝ }
-    ensures { λ _. ⌜ Made REACHED REACHED-END REACHED GRID n (reached (decode (now (rows .entry)) p mode n)) (now (w .entry)) (now (w .exit)) ⌝ }
+pub fn fill_reached(t: &Run, n: usize, w: &mut [u64])
+    requires { ⌜ Given Meeting (now t) n (now w) ⌝ }
+    ensures { λ _. ⌜ Made REACHED REACHED-END REACHED GRID n (reached (tableIn (now (t .entry)) n)) (now (w .entry)) (now (w .exit)) ⌝ }
 {
     bits::clear(w, area::REACHED, area::REACHED_END);
     for a in 0..n {
         for y in 0..n {
-            let b = reached_at(rows, p, mode, n, a, y, w);
+            let b = reached_at(t, n, a, y, w);
             area::grid::put_if(w, area::REACHED, a, y, b);
         }
     }
@@ -211,14 +207,17 @@ pub fn fill_reached(rows: &[u8], p: Places, mode: Mode, n: usize, w: &mut [u64])
 
 // ---- L5
 
-// Whether r, which is row x, writes, and some operation makes it available that reaches row y.
+// Whether row x writes, and some operation makes it available that reaches row y.
 // Ruled out: one that takes an operation of the other domain; one that takes an operation before the write.
-pub fn l5(rows: &[u8], p: Places, n: usize, x: usize, y: usize, r: Row, w: &[u64]) -> bool
+pub fn l5(t: &Run, n: usize, x: usize, y: usize, w: &[u64]) -> bool
     requires { ⌜ (n ≤ ROWS) × (x < n) × (y < n) × (WORK ≤ length (now w)) ⌝ }
-    ensures { λ d. ⌜ d ≡ (writes r and anyBelow n (onwardBits (now (rows .entry)) (now (w .entry)) REACHED (availableOf p (r .agent)) x y)) ⌝ }
+    ensures { λ d. let rows = rowsIn (now (t .entry)) in
+        let kind = availableOf (placesIn (now (t .entry))) (rowOf rows x .agent) in
+        ⌜ d ≡ (writes (rowOf rows x) and anyBelow n (onwardBits rows (now (w .entry)) REACHED kind x y)) ⌝ }
 {
+    let r = run::row(t, x as u16);
     if !rows::kinds::writes(r) {
         return false;
     }
-    is_onward(rows, n, area::REACHED, available_kind(p, r.agent), x, y, w)
+    is_onward(t, n, area::REACHED, available_kind(t, r.agent), x, y, w)
 }

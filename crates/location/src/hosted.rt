@@ -2,14 +2,14 @@
 ghost use mathlib.Core.Path.{_≡_};
 ghost use mathlib.Core.Bool.{not};
 ghost use Prim.Native.Nat.{_≤_, _<_};
-ghost use lib.ListN.{getD};
 ghost use Rattle.finite.specs.Logic.{_and_};
 ghost use Rattle.finite.specs.Below.{anyBelow};
 ghost use Rattle.finite.specs.Closure.{through};
 ghost use Rattle.bits.specs.Stage.{Made, Added};
 ghost use Rattle.model.specs.Limits.{ROWS};
 ghost use Rattle.model.specs.Row.{reads, writes};
-ghost use Rattle.model.specs.Table.{dependsOf, decode};
+ghost use Rattle.model.specs.Table.{dependsOf};
+ghost use Rattle.run.specs.Layout.{modeIn, rowsIn, tableIn};
 ghost use Rattle.area.specs.Regions.{HOSTED, HOSTED-END, SYSTEM, SYSTEM-END, REACHED-END, GRID};
 ghost use Rattle.area.specs.State.{Ordered};
 ghost use Rattle.location.specs.Order.{hosted};
@@ -17,29 +17,19 @@ ghost use Rattle.location.specs.Domains.{operationAt, unhosted, nthDepen
 ghost use Rattle.location.specs.Given.{Room, Given, GivenRows};
 use crate::domains;
 use model::Mode;
-use model::Places;
 use model::Row;
 use rules::pairs;
+use run::Run;
 
 // ---- L4: the closure of the dependencies
-
-// Row k of one end of the dependencies, and 0 for one that there is no place for.
-fn dependency_end(ends: [u16; 64], k: u16) -> u16
-    ensures { λ r. ⌜ r ≡ getD ends k 0 ⌝ }
-{
-    let i = k as usize;
-    if i < model::DEPENDENCIES { ends[i] } else { 0 }
-}
 
 // Adds the k-th dependency. One that names no row adds nothing.
 fn put_dependency(mode: Mode, n: usize, k: u16, w: &mut [u64])
     requires { ⌜ Room n (now w) ⌝ }
     ensures { λ _. ⌜ Added SYSTEM SYSTEM-END SYSTEM GRID n (nthDepends mode k) (now (w .entry)) (now (w .exit)) ⌝ }
 {
-    let first = mode.first;
-    let second = mode.second;
-    let i = dependency_end(first, k) as usize;
-    let j = dependency_end(second, k) as usize;
+    let i = rows::dependencies::first_at(mode, k) as usize;
+    let j = rows::dependencies::second_at(mode, k) as usize;
     if n <= i {
         return;
     }
@@ -51,11 +41,12 @@ fn put_dependency(mode: Mode, n: usize, k: u16, w: &mut [u64])
 
 // Which rows system-synchronize, by one dependency or by several in a row.
 // Ruled out: one that takes a dependency as going both ways; one that leaves out what two dependencies make together.
-pub fn make_system(mode: Mode, n: usize, w: &mut [u64])
+fn make_system(t: &Run, n: usize, w: &mut [u64])
     requires { ⌜ Room n (now w) ⌝ }
-    ensures { λ _. ⌜ Made SYSTEM SYSTEM-END SYSTEM GRID n (through (dependsOf mode) n) (now (w .entry)) (now (w .exit)) ⌝ }
+    ensures { λ _. ⌜ Made SYSTEM SYSTEM-END SYSTEM GRID n (through (dependsOf (modeIn (now (t .entry)))) n) (now (w .entry)) (now (w .exit)) ⌝ }
 {
     bits::clear(w, area::SYSTEM, area::SYSTEM_END);
+    let mode = run::mode(t);
     for k in 0..mode.dependencies {
         put_dependency(mode, n, k, w);
     }
@@ -63,7 +54,7 @@ pub fn make_system(mode: Mode, n: usize, w: &mut [u64])
 }
 
 // L4 of r, where s tells whether it system-synchronizes.
-pub fn l4(r: Row, s: bool) -> bool
+fn l4(r: Row, s: bool) -> bool
     ensures { λ d. ⌜ d ≡ (reads r and not (writes r) and s) ⌝ }
 {
     rows::kinds::reads(r) & !rows::kinds::writes(r) & s
@@ -72,12 +63,12 @@ pub fn l4(r: Row, s: bool) -> bool
 // ---- L4 and L5 of a pair
 
 // Rows that share no byte are not asked.
-fn hosted_at(rows: &[u8], p: Places, mode: Mode, n: usize, x: usize, y: usize, w: &[u64]) -> bool
-    requires { ⌜ GivenRows Sources (now rows) p mode n x y (now w) ⌝ }
-    ensures { λ d. ⌜ d ≡ hosted (decode (now (rows .entry)) p mode n) x y ⌝ }
+fn hosted_at(t: &Run, n: usize, x: usize, y: usize, w: &[u64]) -> bool
+    requires { ⌜ GivenRows Sources (now t) n x y (now w) ⌝ }
+    ensures { λ d. ⌜ d ≡ hosted (tableIn (now (t .entry)) n) x y ⌝ }
 {
-    let r = rows::bytes::read_row(rows, x as u16);
-    let q = rows::bytes::read_row(rows, y as u16);
+    let r = run::row(t, x as u16);
+    let q = run::row(t, y as u16);
     if !pairs::may_share(x, y, r, q) {
         return false;
     }
@@ -85,19 +76,19 @@ fn hosted_at(rows: &[u8], p: Places, mode: Mode, n: usize, x: usize, y: usize, w
     if l4(r, s) {
         return true;
     }
-    domains::l5(rows, p, n, x, y, r, w)
+    domains::l5(t, n, x, y, w)
 }
 
 // The same for every two rows.
 // Ruled out: one that orders a row before itself; one that exchanges the two rows of a pair.
-pub fn fill_hosted(rows: &[u8], p: Places, mode: Mode, n: usize, w: &mut [u64])
-    requires { ⌜ Given Sources (now rows) p mode n (now w) ⌝ }
-    ensures { λ _. ⌜ Made HOSTED HOSTED-END HOSTED GRID n (hosted (decode (now (rows .entry)) p mode n)) (now (w .entry)) (now (w .exit)) ⌝ }
+fn fill_hosted(t: &Run, n: usize, w: &mut [u64])
+    requires { ⌜ Given Sources (now t) n (now w) ⌝ }
+    ensures { λ _. ⌜ Made HOSTED HOSTED-END HOSTED GRID n (hosted (tableIn (now (t .entry)) n)) (now (w .entry)) (now (w .exit)) ⌝ }
 {
     bits::clear(w, area::HOSTED, area::HOSTED_END);
     for x in 0..n {
         for y in 0..n {
-            let b = hosted_at(rows, p, mode, n, x, y, w);
+            let b = hosted_at(t, n, x, y, w);
             area::grid::put_if(w, area::HOSTED, x, y, b);
         }
     }
@@ -106,12 +97,12 @@ pub fn fill_hosted(rows: &[u8], p: Places, mode: Mode, n: usize, w: &mut [u64])
 // ---- all of it
 
 // Whether some row is an operation.
-fn has_operation(rows: &[u8], n: usize) -> bool
+fn has_operation(t: &Run, n: usize) -> bool
     requires { ⌜ n ≤ ROWS ⌝ }
-    ensures { λ d. ⌜ d ≡ anyBelow n (operationAt (now (rows .entry))) ⌝ }
+    ensures { λ d. ⌜ d ≡ anyBelow n (operationAt (rowsIn (now (t .entry)))) ⌝ }
 {
     for i in 0..n {
-        if domains::operation_at(rows, i) {
+        if domains::operation_at(t, i) {
             return true;
         }
     }
@@ -119,26 +110,26 @@ fn has_operation(rows: &[u8], n: usize) -> bool
 }
 
 // Whether there is neither a dependency nor an operation.
-pub fn is_unhosted(rows: &[u8], mode: Mode, n: usize) -> bool
+fn is_unhosted(t: &Run, n: usize) -> bool
     requires { ⌜ n ≤ ROWS ⌝ }
-    ensures { λ d. ⌜ d ≡ unhosted mode (now (rows .entry)) n ⌝ }
+    ensures { λ d. ⌜ d ≡ unhosted (modeIn (now (t .entry))) (rowsIn (now (t .entry))) n ⌝ }
 {
-    (mode.dependencies == 0) & !has_operation(rows, n)
+    (run::mode(t).dependencies == 0) & !has_operation(t, n)
 }
 
 // L4 and L5 for every two rows. Without dependencies and operations there is nothing to ask.
 // Ruled out: one that leaves a bit of an earlier stage set where there is nothing to ask; one that passes over L4 where there are
 // dependencies but no operation.
-pub fn make_hosted(rows: &[u8], p: Places, mode: Mode, n: usize, w: &mut [u64])
-    requires { ⌜ Given Ordered (now rows) p mode n (now w) ⌝ }
-    ensures { λ _. ⌜ Made HOSTED REACHED-END HOSTED GRID n (hosted (decode (now (rows .entry)) p mode n)) (now (w .entry)) (now (w .exit)) ⌝ }
+pub fn make_hosted(t: &Run, n: usize, w: &mut [u64])
+    requires { ⌜ Given Ordered (now t) n (now w) ⌝ }
+    ensures { λ _. ⌜ Made HOSTED REACHED-END HOSTED GRID n (hosted (tableIn (now (t .entry)) n)) (now (w .entry)) (now (w .exit)) ⌝ }
 {
-    if is_unhosted(rows, mode, n) {
+    if is_unhosted(t, n) {
         bits::clear(w, area::HOSTED, area::HOSTED_END);
         return;
     }
-    make_system(mode, n, w);
-    domains::fill_met(rows, p, mode, n, w);
-    domains::fill_reached(rows, p, mode, n, w);
-    fill_hosted(rows, p, mode, n, w);
+    make_system(t, n, w);
+    domains::fill_met(t, n, w);
+    domains::fill_reached(t, n, w);
+    fill_hosted(t, n, w);
 }

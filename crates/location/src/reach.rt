@@ -4,7 +4,8 @@ ghost use Prim.Native.Nat.{_+_, _*_, _<_};
 ghost use Rattle.bits.specs.Stage.{Made};
 ghost use Rattle.model.specs.Limits.{ROWS};
 ghost use Rattle.model.specs.Row.{meets};
-ghost use Rattle.model.specs.Table.{byteOf, decode};
+ghost use Rattle.model.specs.Table.{rowOf};
+ghost use Rattle.run.specs.Layout.{placesIn, rowsIn, tableIn};
 ghost use Rattle.model.specs.Location.{broadens, narrows};
 ghost use Rattle.area.specs.Regions.{REACH-OUT, REACH-OUT-END, REACH-IN, REACH-IN-END, GRID};
 ghost use Rattle.area.specs.State.{Ordered};
@@ -12,87 +13,89 @@ ghost use Rattle.location.specs.Reach.{broaderRows, MadeReach};
 ghost use Rattle.location.specs.Given.{Given, GivenRows};
 use crate::chains;
 use crate::happens;
-use model::Mode;
-use model::Places;
 use model::Row;
 use rules::moments;
+use run::Run;
 
 // ---- one step
 
 // Whether row i has a flag of these.
-pub fn has_flag(rows: &[u8], i: usize, flags: u8) -> bool
+fn has_flag(t: &Run, i: usize, flags: u8) -> bool
     requires { ⌜ i < ROWS ⌝ }
-    ensures { λ d. ⌜ d ≡ meets (byteOf (now (rows .entry)) i 5) flags ⌝ }
+    ensures { λ d. ⌜ d ≡ meets (rowOf (rowsIn (now (t .entry))) i .flags) flags ⌝ }
 {
-    rows::kinds::meets(rows::bytes::row_byte(rows, i as u16, chains::FLAGS), flags)
+    rows::kinds::meets(run::flags(t, i as u16), flags)
 }
 
-// Whether u has a broader scope than s, and is performed in the instance of s's scope.
-pub fn is_broader(p: Places, s: Row, u: Row) -> bool
-    ensures { λ d. ⌜ d ≡ broaderRows p s u ⌝ }
+// Whether u has a broader scope than s, and is performed in the instance of s's scope. Places are read for a broader one only.
+fn is_broader(t: &Run, s: Row, u: Row) -> bool
+    ensures { λ d. ⌜ d ≡ broaderRows (placesIn (now (t .entry))) s u ⌝ }
 {
-    (s.scope < u.scope) & rows::scopes::shares_scope(p, s.scope, s.agent, u.agent)
+    if u.scope <= s.scope {
+        return false;
+    }
+    rows::scopes::shares_scope(run::places(t), s.scope, s.agent, u.agent)
 }
 
 // Whether row c may come right after row a in an availability chain. Most rows make nothing available, as one byte tells.
-fn broadens_at(rows: &[u8], p: Places, mode: Mode, n: usize, a: usize, c: usize, w: &[u64]) -> bool
-    requires { ⌜ GivenRows Ordered (now rows) p mode n a c (now w) ⌝ }
-    ensures { λ d. ⌜ d ≡ broadens (decode (now (rows .entry)) p mode n) a c ⌝ }
+fn broadens_at(t: &Run, n: usize, a: usize, c: usize, w: &[u64]) -> bool
+    requires { ⌜ GivenRows Ordered (now t) n a c (now w) ⌝ }
+    ensures { λ d. ⌜ d ≡ broadens (tableIn (now (t .entry)) n) a c ⌝ }
 {
-    if !has_flag(rows, c, chains::AVAILABLE) {
+    if !has_flag(t, c, chains::AVAILABLE) {
         return false;
     }
-    let s = rows::bytes::read_row(rows, a as u16);
-    let u = rows::bytes::read_row(rows, c as u16);
+    let s = run::row(t, a as u16);
+    let u = run::row(t, c as u16);
     let k = chains::available_part(s);
     let m = chains::available_part(u);
     moments::availability_of(u, m as u8)
-        & is_broader(p, s, u)
+        & is_broader(t, s, u)
         & happens::happens_bit(w, 3 * a + k, 3 * c + m)
 }
 
 // Whether row v may come right after row j in a visibility chain.
-fn narrows_at(rows: &[u8], p: Places, mode: Mode, n: usize, j: usize, v: usize, w: &[u64]) -> bool
-    requires { ⌜ GivenRows Ordered (now rows) p mode n j v (now w) ⌝ }
-    ensures { λ d. ⌜ d ≡ narrows (decode (now (rows .entry)) p mode n) j v ⌝ }
+fn narrows_at(t: &Run, n: usize, j: usize, v: usize, w: &[u64]) -> bool
+    requires { ⌜ GivenRows Ordered (now t) n j v (now w) ⌝ }
+    ensures { λ d. ⌜ d ≡ narrows (tableIn (now (t .entry)) n) j v ⌝ }
 {
-    if !has_flag(rows, j, chains::VISIBLE) {
+    if !has_flag(t, j, chains::VISIBLE) {
         return false;
     }
-    let u = rows::bytes::read_row(rows, j as u16);
-    let s = rows::bytes::read_row(rows, v as u16);
+    let u = run::row(t, j as u16);
+    let s = run::row(t, v as u16);
     let k = chains::visible_part(u);
     let m = chains::visible_part(s);
     moments::visibility_of(u, k as u8)
-        & is_broader(p, s, u)
+        & is_broader(t, s, u)
         & happens::happens_bit(w, 3 * j + k, 3 * v + m)
 }
 
 // ---- all steps
 
 // The steps of availability chains, from an element to the next.
-fn fill_out(rows: &[u8], p: Places, mode: Mode, n: usize, w: &mut [u64])
-    requires { ⌜ Given Ordered (now rows) p mode n (now w) ⌝ }
-    ensures { λ _. ⌜ Made REACH-OUT REACH-OUT-END REACH-OUT GRID n (broadens (decode (now (rows .entry)) p mode n)) (now (w .entry)) (now (w .exit)) ⌝ }
+fn fill_out(t: &Run, n: usize, w: &mut [u64])
+    requires { ⌜ Given Ordered (now t) n (now w) ⌝ }
+    ensures { λ _. ⌜ Made REACH-OUT REACH-OUT-END REACH-OUT GRID n (broadens (tableIn (now (t .entry)) n)) (now (w .entry)) (now (w .exit)) ⌝ }
 {
     bits::clear(w, area::REACH_OUT, area::REACH_OUT_END);
     for a in 0..n {
         for c in 0..n {
-            let b = broadens_at(rows, p, mode, n, a, c, w);
+            let b = broadens_at(t, n, a, c, w);
             area::grid::put_if(w, area::REACH_OUT, a, c, b);
         }
     }
 }
 
 // The steps of visibility chains.
-fn fill_in(rows: &[u8], p: Places, mode: Mode, n: usize, w: &mut [u64])
-    requires { ⌜ Given Ordered (now rows) p mode n (now w) ⌝ }
-    ensures { λ _. ⌜ Made REACH-IN REACH-IN-END REACH-IN GRID n (narrows (decode (now (rows .entry)) p mode n)) (now (w .entry)) (now (w .exit)) ⌝ }
+fn fill_in(t: &Run, n: usize, w: &mut [u64])
+    requires { ⌜ Given Ordered (now t) n (now w) ⌝ }
+    ensures { λ _. ⌜ Made REACH-IN REACH-IN-END REACH-IN GRID n (narrows (tableIn (now (t .entry)) n)) (now (w .entry)) (now (w .exit)) ⌝ }
 {
     bits::clear(w, area::REACH_IN, area::REACH_IN_END);
     for j in 0..n {
         for v in 0..n {
-            let b = narrows_at(rows, p, mode, n, j, v, w);
+            let b = narrows_at(t, n, j, v, w);
             area::grid::put_if(w, area::REACH_IN, j, v, b);
         }
     }
@@ -102,15 +105,15 @@ fn fill_in(rows: &[u8], p: Places, mode: Mode, n: usize, w: &mut [u64])
 
 // From the first element of a chain to its last; on a device without chains there is nothing to do, and nothing is written.
 // Ruled out: one that lets a chain go on with an equal scope; one that leaves out what three elements make together.
-pub fn make_reach(rows: &[u8], p: Places, mode: Mode, n: usize, w: &mut [u64])
-    requires { ⌜ Given Ordered (now rows) p mode n (now w) ⌝ }
-    ensures { λ _. ⌜ MadeReach (decode (now (rows .entry)) p mode n) n (now (w .entry)) (now (w .exit)) ⌝ }
+pub fn make_reach(t: &Run, n: usize, w: &mut [u64])
+    requires { ⌜ Given Ordered (now t) n (now w) ⌝ }
+    ensures { λ _. ⌜ MadeReach (tableIn (now (t .entry)) n) n (now (w .entry)) (now (w .exit)) ⌝ }
 {
-    if !mode.chains {
+    if !run::chains(t) {
         return;
     }
-    fill_out(rows, p, mode, n, w);
+    fill_out(t, n, w);
     area::grid::close(w, area::REACH_OUT, n);
-    fill_in(rows, p, mode, n, w);
+    fill_in(t, n, w);
     area::grid::close(w, area::REACH_IN, n);
 }

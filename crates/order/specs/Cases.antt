@@ -93,7 +93,7 @@ module _ (b : List ℕ) (p : List (List ℕ)) (mode : Mode) (n : ℕ) where
       go (inl e) = inner (or-cases _ _ e)
       go (inr e) = inl (own s m (split (split (split e .0) .0) .0))
 
-  -- the first class set is asked always, another one if some row holds all of it; places are not asked for
+  -- the first class set is asked always, another one if some row holds all of it
   pub live-first : (s : ℕ) → s ≡ 1 → live (decode b p mode n) s ≡ true
   unfolding live
   live-first s e = or-left _ (eq-eqb s 1 e)
@@ -101,7 +101,3 @@ module _ (b : List ℕ) (p : List (List ℕ)) (mode : Mode) (n : ℕ) where
   pub live-other : (s : ℕ) → (s ≡ 1 → ⊥) → live (decode b p mode n) s ≡ anyBelow n (holdsAt b s)
   unfolding live holdsAll holdsAt decode _or_
   live-other s e = rw (ne-eqb s 1 e) refl
-
-  pub order-is : (q : List (List ℕ)) (other : Mode) (m k : ℕ) → programOrder (decode b q other n) m k ≡ programOrder (decode b p mode n) m k
-  unfolding programOrder decode
-  order-is q other m k = refl

@@ -1,13 +1,12 @@
 // M6: the direct cases of inter-thread order for a class set, as bits over moments.
 ghost use mathlib.Core.Path.{_≡_};
-ghost use mathlib.Core.List.{List};
-ghost use Prim.Native.Nat.{ℕ, _+_, _*_, _/_, _%_, _≤_, _<_};
+ghost use Prim.Native.Nat.{_+_, _*_, _/_, _%_, _≤_, _<_};
 ghost use lib.ListN.{length};
 ghost use Rattle.bits.specs.Stage.{Made, Added};
 ghost use Rattle.bits.specs.Matrix.{rel};
-ghost use Rattle.model.specs.declared.Mode.{Mode};
 ghost use Rattle.model.specs.Limits.{ROWS, WORK};
-ghost use Rattle.model.specs.Table.{decode, rowOf};
+ghost use Rattle.model.specs.Table.{rowOf};
+ghost use Rattle.run.specs.Layout.{modeIn, rowsIn, tableIn};
 ghost use Rattle.model.specs.Moment.{programOrder};
 ghost use Rattle.model.specs.Happens.{step};
 ghost use Rattle.laws.specs.HostLaws.{step₁};
@@ -17,10 +16,10 @@ ghost use Rattle.order.specs.Cases.{stepRows};
 ghost use Rattle.order.specs.Steps.{CellMade, RowMade};
 ghost use Rattle.order.specs.System.{systemBy, systemTo};
 use model::Mode;
-use model::Places;
 use model::Row;
 use rules::cases;
 use rules::moments;
+use run::Run;
 
 // ---- direct cases that go by rows
 
@@ -43,19 +42,18 @@ fn is_step(s: u8, from: u8, to: u8, r: Row, q: Row, synced: bool, ordered: bool)
 
 // M6: one of them for the class set s from moment m to moment k. Most pairs neither synchronize nor are program-ordered, and no whole
 // row is read.
-fn step_of(rows: &[u8], n: usize, s: u8, m: usize, k: usize, synced: bool) -> bool
+fn step_of(t: &Run, n: usize, s: u8, m: usize, k: usize, synced: bool) -> bool
     requires { ⌜ (n ≤ ROWS) × (m < 3 * n) × (k < 3 * n) ⌝ }
-    ensures { λ d. let r = rowOf (now (rows .entry)) (m / 3) in
-        let q = rowOf (now (rows .entry)) (k / 3) in
-        ⌜ ((p : List (List ℕ)) (mode : Mode)
-        → d ≡ stepRows s (m % 3) (k % 3) r q synced (programOrder (decode (now (rows .entry)) p mode n) m k)) ⌝ }
+    ensures { λ d. let r = rowOf (rowsIn (now (t .entry))) (m / 3) in
+        let q = rowOf (rowsIn (now (t .entry))) (k / 3) in
+        ⌜ d ≡ stepRows s (m % 3) (k % 3) r q synced (programOrder (tableIn (now (t .entry)) n) m k) ⌝ }
 {
-    let ordered = moments::ordered_at(rows, n, m, k);
+    let ordered = moments::ordered_at(t, n, m, k);
     if !(synced | ordered) {
         return false;
     }
-    let r = rows::bytes::read_row(rows, (m / 3) as u16);
-    let q = rows::bytes::read_row(rows, (k / 3) as u16);
+    let r = run::row(t, (m / 3) as u16);
+    let q = run::row(t, (k / 3) as u16);
     is_step(s, (m % 3) as u8, (k % 3) as u8, r, q, synced, ordered)
 }
 
@@ -68,35 +66,35 @@ fn sync_bit(m: usize, k: usize, w: &[u64]) -> bool
 }
 
 // Sets the bit from m to k where there is one.
-fn fill_cell(rows: &[u8], n: usize, s: u8, m: usize, k: usize, w: &mut [u64])
+fn fill_cell(t: &Run, n: usize, s: u8, m: usize, k: usize, w: &mut [u64])
     requires { ⌜ (n ≤ ROWS) × (m < 3 * n) × (k < 3 * n) × (WORK ≤ length (now w)) ⌝ }
-    ensures { λ _. ⌜ CellMade (now (rows .entry)) n s m k (now (w .entry)) (now (w .exit)) ⌝ }
+    ensures { λ _. ⌜ CellMade (now (t .entry)) n s m k (now (w .entry)) (now (w .exit)) ⌝ }
 {
-    let b = step_of(rows, n, s, m, k, sync_bit(m, k, w));
+    let b = step_of(t, n, s, m, k, sync_bit(m, k, w));
     area::moments::put_if(w, area::STEP, m, k, b);
 }
 
 // Sets the bits of those from and to the moment m.
-fn fill_at(rows: &[u8], n: usize, s: u8, m: usize, w: &mut [u64])
+fn fill_at(t: &Run, n: usize, s: u8, m: usize, w: &mut [u64])
     requires { ⌜ (n ≤ ROWS) × (m < 3 * n) × (WORK ≤ length (now w)) ⌝ }
-    ensures { λ _. ⌜ RowMade (now (rows .entry)) n s m (3 * n) (now (w .entry)) (now (w .exit)) ⌝ }
+    ensures { λ _. ⌜ RowMade (now (t .entry)) n s m (3 * n) (now (w .entry)) (now (w .exit)) ⌝ }
 {
     for k in 0..3 * n {
-        fill_cell(rows, n, s, m, k, w);
-        fill_cell(rows, n, s, k, m, w);
+        fill_cell(t, n, s, m, k, w);
+        fill_cell(t, n, s, k, m, w);
     }
 }
 
 // M6: the direct cases that go by rows, for the class set s and every two moments. Each has the own moment of a row that holds all of
 // s at one end, so that only such rows are asked.
-fn fill_cases(rows: &[u8], p: Places, mode: Mode, n: usize, s: u8, w: &mut [u64])
-    requires { ⌜ (n ≤ ROWS) × (WORK ≤ length (now w)) × Synced (decode (now rows) p mode n) n (now w) ⌝ }
-    ensures { λ _. ⌜ Made STEP STEP-END STEP MOMENTS (3 * n) (step₁ (decode (now (rows .entry)) p mode n) s) (now (w .entry)) (now (w .exit)) ⌝ }
+fn fill_cases(t: &Run, n: usize, s: u8, w: &mut [u64])
+    requires { ⌜ (n ≤ ROWS) × (WORK ≤ length (now w)) × Synced (tableIn (now t) n) n (now w) ⌝ }
+    ensures { λ _. ⌜ Made STEP STEP-END STEP MOMENTS (3 * n) (step₁ (tableIn (now (t .entry)) n) s) (now (w .entry)) (now (w .exit)) ⌝ }
 {
     bits::clear(w, area::STEP, area::STEP_END);
     for j in 0..n {
-        if cases::holds_at(rows, s, j) {
-            fill_at(rows, n, s, 3 * j + 1, w);
+        if cases::holds_at(t, s, j) {
+            fill_at(t, n, s, 3 * j + 1, w);
         }
     }
 }
@@ -120,10 +118,11 @@ fn put_dependency(mode: Mode, n: usize, c: u16, w: &mut [u64])
 }
 
 // Adds the direct case that goes by dependencies: a bit for each of them, instead of a test of all at every two moments.
-fn add_dependencies(mode: Mode, n: usize, w: &mut [u64])
+fn add_dependencies(t: &Run, n: usize, w: &mut [u64])
     requires { ⌜ (n ≤ ROWS) × (WORK ≤ length (now w)) ⌝ }
-    ensures { λ _. ⌜ Added STEP STEP-END STEP MOMENTS (3 * n) (systemTo mode (mode .dependencies)) (now (w .entry)) (now (w .exit)) ⌝ }
+    ensures { λ _. ⌜ Added STEP STEP-END STEP MOMENTS (3 * n) (systemTo (modeIn (now (t .entry))) (modeIn (now (t .entry)) .dependencies)) (now (w .entry)) (now (w .exit)) ⌝ }
 {
+    let mode = run::mode(t);
     for c in 0..mode.dependencies {
         put_dependency(mode, n, c, w);
     }
@@ -131,10 +130,10 @@ fn add_dependencies(mode: Mode, n: usize, w: &mut [u64])
 
 // M6: the direct cases for the class set s, for every two moments.
 // Ruled out: one that asks rows of a class in s instead of all of s; one that lets a dependency begin before its first row's own moment.
-pub fn fill_step(rows: &[u8], p: Places, mode: Mode, n: usize, s: u8, w: &mut [u64])
-    requires { ⌜ (n ≤ ROWS) × (WORK ≤ length (now w)) × Synced (decode (now rows) p mode n) n (now w) ⌝ }
-    ensures { λ _. ⌜ Made STEP STEP-END STEP MOMENTS (3 * n) (step (decode (now (rows .entry)) p mode n) s) (now (w .entry)) (now (w .exit)) ⌝ }
+pub fn fill_step(t: &Run, n: usize, s: u8, w: &mut [u64])
+    requires { ⌜ (n ≤ ROWS) × (WORK ≤ length (now w)) × Synced (tableIn (now t) n) n (now w) ⌝ }
+    ensures { λ _. ⌜ Made STEP STEP-END STEP MOMENTS (3 * n) (step (tableIn (now (t .entry)) n) s) (now (w .entry)) (now (w .exit)) ⌝ }
 {
-    fill_cases(rows, p, mode, n, s, w);
-    add_dependencies(mode, n, w);
+    fill_cases(t, n, s, w);
+    add_dependencies(t, n, w);
 }

@@ -1,36 +1,31 @@
 -- What races are read from, and what a pair's bits say of each byte. Assumes nothing.
-use mathlib.Core.Path.{_≡_, refl, sym, subst}
+use mathlib.Core.Path.{_≡_, sym, subst}
 use mathlib.Core.Bool.{Bool, true, false, not}
 use mathlib.Core.List.{List}
 use Prim.Native.Nat.{ℕ, _+_, _-_, _*_, _≤_, _<_}
 use native.Mathlib.Omega.{arith}
 use lib.ListN.{length}
-use Rattle.finite.specs.Logic.{_and_, split, and-true, not-so, not-both}
+use Rattle.finite.specs.Logic.{_and_, split, not-so}
 use Rattle.bits.specs.Bit.{bit}
-use Rattle.bits.specs.Cube.{cube-bit}
-use Rattle.model.specs.declared.Row.{Row}
-use Rattle.model.specs.declared.Shared.{Shared}
-use Rattle.model.specs.declared.Shared.the-variants.{At, Nothing}
+use Rattle.bits.specs.Within.{Within}
+use Rattle.bits.specs.Stage.{holds-kept}
+use Rattle.bits.specs.Cube.{cube-bit, cube-kept}
 use Rattle.model.specs.Limits.{ROWS, WORK, BYTES}
-use Rattle.model.specs.Row.{access, touches, lowestShared}
+use Rattle.model.specs.Row.{access}
 use Rattle.model.specs.Table.{Table}
 use Rattle.model.specs.Scope.{mutually}
 use Rattle.model.specs.Location.{common, before}
 use Rattle.model.specs.Race.{conflict}
 use Rattle.model.specs.Edge.{beforeNth}
-use Rattle.laws.specs.PairLaws.{overlap-is, overlap-sym, common-out}
-use Rattle.laws.specs.RaceLaws.{Sized, touched, common-left, common-right}
-use Rattle.rules.specs.Shared.{inBoth, lowest-at, lowest-nothing}
-use Rattle.area.specs.Regions.{LOCATION, GRID, PAIR, PAIRS}
-use Rattle.area.specs.State.{Located, overlaps}
-use Rattle.bits.specs.Stage.{Holds}
-use Rattle.sets.specs.Walk.{Next, walked}
+use Rattle.laws.specs.RaceLaws.{Sized, touched, common-left}
+use Rattle.area.specs.Regions.{LOCATION, LOCATION-END, PAIR, PAIRS}
+use Rattle.area.specs.State.{Placed}
 
 -- ---- definitions
 
 -- what races, edges and choices are read from: the area holds location order of the table's n rows, none longer than LONGEST
 abbrev pub Ready : Table → ℕ → List ℕ → Type 0
-Ready t n w = (n ≤ ROWS) × (WORK ≤ length w) × Sized t × Located t n w
+Ready t n w = (n ≤ ROWS) × (WORK ≤ length w) × Sized t × Placed t n w
 
 -- the bytes of each access are numbers of 16 bits, as refusal 7 sees to
 abbrev pub Bounded : Table → Type 0
@@ -40,13 +35,20 @@ Bounded t = (i : ℕ) → i < t .rows → access (t .row i) ≡ true → t .row 
 unfoldable pub mayRace : Table → ℕ → ℕ → Bool
 mayRace t x y = conflict t x y and not (mutually t x y)
 
-unfoldable pub byteOr : Shared → ℕ → ℕ
-byteOr (At c) e = c
-byteOr Nothing e = e
+-- ---- laws: a change in later words keeps it
 
--- the lowest byte that r and q share, r's end where there is none
-unfoldable pub lowestByte : Row → Row → ℕ
-lowestByte r q = byteOr (lowestShared (r .start) (r .size) (q .start) (q .size)) (r .start + r .size)
+pub ready-kept : {t : Table} {n c d : ℕ} {w u : List ℕ} → LOCATION-END ≤ c → Within c d w u → Ready t n w → Ready t n u
+ready-kept later frame ready =
+    let few : _ ≤ ROWS = ready .0 in
+    let placed = ready .3 in (
+      ready .0,
+      omega (arith, ready .1, frame .len),
+      ready .2,
+      record {
+        mutuals = holds-kept (λ l. absurd (omega arith)) frame (placed .mutuals);
+        location = cube-kept (λ l. absurd (omega arith)) frame (placed .location);
+      },
+    )
 
 -- ---- laws: the bits of a pair
 
@@ -58,18 +60,6 @@ before-touched : (t : Table) (x y b : ℕ) → Sized t → x < t .rows → befor
     → (t .row x .start ≤ b) × (b < t .row x .start + PAIR)
 before-touched t x y b s l e = touched (t .row x) b (s x l) (common-left (t .row x) (t .row y) b (before-common t x y b e))
 
--- rows that share no byte are ordered at none
-pub before-apart : (t : Table) (x y b : ℕ) → overlaps t x y ≡ false → before t x y b ≡ false
-unfolding overlaps
-before-apart t x y b o =
-    not-so (before t x y b) (λ e.
-    let c = common-out (t .row x) (t .row y) b (before-common t x y b e) in
-    not-both (overlap-is (t .row x) (t .row y) .1 (b, c .2, c .3)) o)
-
-pub overlaps-sym : (t : Table) (x y : ℕ) → overlaps t x y ≡ overlaps t y x
-unfolding overlaps
-overlaps-sym t x y = overlap-sym (t .row x) (t .row y)
-
 -- no byte before x's start, and none past a pair's bits
 pub before-low : (t : Table) (x y b a : ℕ) → Sized t → x < t .rows → a ≡ t .row x .start → b < a → false ≡ before t x y b
 before-low t x y b a s l e h = sym (not-so (before t x y b) (λ d. let g = before-touched t x y b s l d .0 in omega arith))
@@ -78,33 +68,9 @@ pub before-high : (t : Table) (x y b a : ℕ) → Sized t → x < t .rows → a 
 before-high t x y b a s l e h = sym (not-so (before t x y b) (λ d. let g = before-touched t x y b s l d .1 in omega arith))
 
 -- bit k of a pair is the byte k after x's start
-pub before-bit : (t : Table) (n : ℕ) (w : List ℕ) (x y b a m : ℕ) → Located t n w → x < n → y < n → a ≡ t .row x .start → a ≤ b → b - a < PAIR
+pub before-bit : (t : Table) (n : ℕ) (w : List ℕ) (x y b a m : ℕ) → Placed t n w → x < n → y < n → a ≡ t .row x .start → a ≤ b → b - a < PAIR
     → m ≡ LOCATION * 64 + x * PAIRS + y * PAIR + (b - a) → bit w m ≡ before t x y b
 unfolding beforeNth
-before-bit t n w x y b a m located below-x below-y start-is past near place-is =
+before-bit t n w x y b a m placed below-x below-y start-is past near place-is =
     let g : t .row x .start + (b - a) ≡ b = omega arith in
-    subst (λ (z : ℕ). bit w m ≡ before t x y z) g (cube-bit (located .location) m x y (b - a) place-is below-x below-y near)
-
--- ---- laws: where the search of a pair starts
-
-module _ (r q : Row) where
-  both-in : (c : ℕ) → common r q c ≡ true → inBoth (r .start) (r .size) (q .start) (q .size) c ≡ true
-  unfolding inBoth touches
-  both-in c e = and-true (common-left r q c e) (common-right r q c e)
-
-  apart : (s : Shared) → lowestShared (r .start) (r .size) (q .start) (q .size) ≡ s → (c : ℕ) → c < byteOr s (r .start + r .size) → common r q c ≡ true → ⊥
-  unfolding byteOr
-  apart (At d) e c l t = not-both (both-in c t) (lowest-at (r .start) (r .size) (q .start) (q .size) d .0 e .1 c l)
-  apart Nothing e c l t = not-both (both-in c t) (lowest-nothing (r .start) (r .size) (q .start) (q .size) .0 e c)
-
-  -- no byte below it is a byte of both
-  pub lowest-apart : (c : ℕ) → c < lowestByte r q → common r q c ≡ true → ⊥
-  unfolding lowestByte
-  lowest-apart c l t = apart _ refl c l t
-
--- ---- laws: a walk
-
--- numbers between two stops of a walk over row x of a grid: they have no bit, so a test that asks for it doesn't pass
-pub passed : {a n x j k : ℕ} {r : ℕ → ℕ → Bool} {w : List ℕ} {p : ℕ → Bool} → Holds a GRID n r w → x < n → Next w (a + x * GRID) (a + x * GRID) j n k
-    → ((m : ℕ) → r x m ≡ false → p m ≡ false) → (m : ℕ) → j ≤ m → m < k → p m ≡ false
-passed {x = x} holds below-x next off m from-j below-k = off m (walked holds x m below-x (omega (arith, next .high)) (next .miss m from-j below-k))
+    subst (λ (z : ℕ). bit w m ≡ before t x y z) g (cube-bit (placed .location) m x y (b - a) place-is below-x below-y near)

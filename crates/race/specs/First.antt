@@ -2,14 +2,13 @@
 use mathlib.Core.Path.{_≡_, refl, subst}
 use mathlib.Core.Bool.{true, false, cond}
 use mathlib.Core.Logic.{⊎-elim}
-use mathlib.Core.List.{List}
-use Prim.Native.Nat.{ℕ, _+_, _-_, _*_, _≤_, _<_}
+use Prim.Native.Nat.{ℕ, _+_, _-_, _≤_, _<_}
 use native.Mathlib.Omega.{arith}
 use native.Mathlib.Numerals.{add-one}
 use lib.Dec.{ltb}
 use borrow.Author.Tests.{lt-ltb, le-ltb}
 use Rattle.finite.specs.Logic.{_and_, split, and-true, and-false-left, and-false-right, not-so, not-both}
-use Rattle.finite.specs.Below.{least, least-off, least-pass, least-found, least-unique, below-cases}
+use Rattle.finite.specs.Below.{least, least-off, least-found, least-unique, below-cases}
 use Rattle.model.specs.declared.Row.{Row}
 use Rattle.model.specs.Limits.{LONGEST, BYTES}
 use Rattle.model.specs.Row.{touches}
@@ -20,11 +19,7 @@ use Rattle.laws.specs.RaceLaws.{Sized, touched, common-left}
 use Rattle.laws.specs.PairLaws.{inside-out}
 use Rattle.race.specs.declared.Found.{Found}
 use Rattle.race.specs.declared.Found.the-variants.{At, Nothing}
-use Rattle.bits.specs.Stage.{Holds}
-use Rattle.area.specs.Regions.{OVERLAP, GRID}
-use Rattle.area.specs.State.{overlaps}
-use Rattle.sets.specs.Walk.{Next}
-use Rattle.race.specs.Bytes.{Bounded, mayRace, lowestByte, lowest-apart, passed}
+use Rattle.race.specs.Bytes.{Bounded, mayRace}
 
 -- ---- definitions
 
@@ -51,11 +46,13 @@ module _ (t : Table) (x y : ℕ) where
   unfolding unordered
   unordered-common b e = split (split e .0) .0
 
-  -- it starts at the lowest shared byte
-  pub none-starts : (r q : Row) (b : ℕ) → r ≡ t .row x → q ≡ t .row y → b ≡ lowestByte r q → NoneBelow t x y b
-  none-starts r q b e f g c l =
-      not-so (unordered t x y c) (λ u.
-      lowest-apart r q c (subst (λ (z : ℕ). c < z) g l) (rw (e, f) (unordered-common c u)))
+  held : (b : ℕ) → unordered t x y b ≡ true → (t .row x .start ≤ b) × (b < t .row x .start + t .row x .size)
+  unfolding touches
+  held b u = inside-out (t .row x .start) (t .row x .size) b (common-left (t .row x) (t .row y) b (unordered-common b u))
+
+  -- it starts where x does
+  pub none-starts : (b : ℕ) → b ≡ t .row x .start → NoneBelow t x y b
+  none-starts b e c l = not-so (unordered t x y c) (λ u. let h = held c u .0 in omega arith)
 
   pub none-more : (b : ℕ) → NoneBelow t x y b → unordered t x y b ≡ false → NoneBelow t x y (b + 1)
   none-more b h f c l = ⊎-elim (λ e. rw e f) (λ m. h c m) (below-cases (rw add-one at l))
@@ -71,10 +68,6 @@ module _ (t : Table) (x y : ℕ) where
     -- a byte with no order is one of x's first LONGEST
     counted : (b : ℕ) → unordered t x y b ≡ true → (t .row x .start ≤ b) × (b < t .row x .start + LONGEST)
     counted b u = touched (t .row x) b (sized x l) (common-left (t .row x) (t .row y) b (unordered-common b u))
-
-    ended : (b : ℕ) → unordered t x y b ≡ true → b < t .row x .start + t .row x .size
-    unfolding touches
-    ended b u = inside-out (t .row x .start) (t .row x .size) b (common-left (t .row x) (t .row y) b (unordered-common b u)) .1
 
     -- the search found b
     pub race-nth : (b : ℕ) → NoneBelow t x y b → unordered t x y b ≡ true → raceNth t x y ≡ b - t .row x .start
@@ -105,7 +98,7 @@ module _ (t : Table) (x y : ℕ) where
     ends b h m = and-false-right _ _ (and-false-right _ _ (le-ltb (least LONGEST (λ k. unordered t x y (nth t x k))) LONGEST (omega (arith, none))))
       where
         off : (k : ℕ) → unordered t x y (nth t x k) ≡ false
-        off k = not-so (unordered t x y (nth t x k)) (λ u. not-both u (h (nth t x k) (let g = ended (nth t x k) u in omega arith)))
+        off k = not-so (unordered t x y (nth t x k)) (λ u. not-both u (h (nth t x k) (let g = held (nth t x k) u .1 in omega arith)))
 
         none : least LONGEST (λ k. unordered t x y (nth t x k)) ≡ LONGEST
         none = least-off (λ k. unordered t x y (nth t x k)) LONGEST (λ k j. off k)
@@ -116,11 +109,6 @@ module _ (t : Table) (x y : ℕ) where
   pub pair-off : mayRace t x y ≡ false → racesAbove t x y ≡ false
   unfolding racesAbove races mayRace
   pair-off f = and-false-right _ _ (and-false-left _ _ f)
-
-  -- rows that share no byte
-  pub pair-apart : overlaps t x y ≡ false → racesAbove t x y ≡ false
-  unfolding mayRace conflict clash overlaps
-  pair-apart o = pair-off (and-false-left _ _ (and-false-right _ _ (and-false-right _ _ o)))
 
   -- a racing access ends at or below BYTES
   pub race-ends : Bounded t → (r : Row) → r ≡ t .row x → x < t .rows → mayRace t x y ≡ true → r .start + r .size ≤ BYTES
@@ -134,11 +122,6 @@ module _ (t : Table) where
   pub row-starts : (x : ℕ) → least (x + 1) (racesAbove t x) ≡ x + 1
   unfolding racesAbove
   row-starts x = least-off (λ y. ltb x y and races t x y) (x + 1) (λ k l. and-false-left _ _ (le-ltb x k (omega arith)))
-
-  -- it goes on to the next row that shares a byte
-  pub row-pass : (x j k n : ℕ) (w : List ℕ) → Holds OVERLAP GRID n (overlaps t) w → x < n → Next w (OVERLAP + x * GRID) (OVERLAP + x * GRID) j n k
-      → least j (racesAbove t x) ≡ j → least k (racesAbove t x) ≡ k
-  row-pass x j k n w h l next e = least-pass (racesAbove t x) j k e (passed h l next (pair-apart t x))
 
   pub row-off : (x n : ℕ) → n ≡ t .rows → least n (racesAbove t x) ≡ n → hasRace t x ≡ false
   unfolding hasRace racePartner

@@ -1,19 +1,17 @@
 // Races: the first pair of rows that races, and its lowest byte with no location order either way. Some code reads none of the
 // rows, places or number of rows that it is given: they say which table its contract is about.
 ghost use mathlib.Core.Path.{_≡_};
-ghost use Prim.Native.Nat.{_+_, _<_};
+ghost use Prim.Native.Nat.{_<_};
 ghost use Rattle.run.specs.Layout.{tableIn, rowsIn};
 ghost use Rattle.model.specs.Table.{rowOf};
 ghost use Rattle.model.specs.Scope.{mutually};
 ghost use Rattle.model.specs.Location.{before};
 ghost use Rattle.model.specs.Race.{unordered};
-ghost use Rattle.race.specs.Bytes.{Ready, Bounded, mayRace, lowestByte};
+ghost use Rattle.race.specs.Bytes.{Ready, Bounded, mayRace};
 ghost use Rattle.race.specs.First.{foundRace};
 use model::Row;
-use model::Shared;
 use rules::shared;
 use run::Run;
-use sets::walk;
 
 pub mod pair; // edge 1, by all bits of a pair
 
@@ -72,24 +70,12 @@ pub fn may_race(t: &Run, n: usize, x: usize, y: usize, r: Row, q: Row, w: &[u64]
     !(x == y) & shared::clash(r, q) & !mutual_at(t, n, x, y, w)
 }
 
-// Where the byte search of a pair starts: the lowest byte that r and q share, and r's end where there is none.
-fn lowest_byte(r: Row, q: Row) -> u32
-    ensures { λ b. ⌜ b ≡ lowestByte r q ⌝ }
-{
-    let s = shared::lowest_shared(r.start, r.size, q.start, q.size);
-    match s {
-        Shared::At(c) => c as u32,
-        Shared::Nothing => (r.start as u32) + (r.size as u32),
-    }
-}
-
 pub enum Found {
     At { first: u16, second: u16, byte: u16 },
     Nothing,
 }
 
-// The first pair in row order that races, then its lowest shared byte with no order: the lower row, the higher, the byte. Rows that
-// share no byte are passed over.
+// The first pair in row order that races, then its lowest shared byte with no order: the lower row, the higher, the byte.
 // Ruled out: one that shows the rows exchanged; one that shows the lowest shared byte, ordered or not.
 pub fn first_race(t: &Run, n: usize, w: &[u64]) -> Found
     requires { ⌜ Bounded (tableIn (now t) n) × Ready (tableIn (now t) n) n (now w) ⌝ }
@@ -100,16 +86,12 @@ pub fn first_race(t: &Run, n: usize, w: &[u64]) -> Found
         let r = run::row(t, x as u16);
         let start = r.start as u32;
         let end = start + (r.size as u32);
-        let at = area::grid::at(area::OVERLAP, x);
-        let mut next = walk::next(w, at, at, x + 1, n);
-        while next < n {
-            let y = next;
-            next = walk::next(w, at, at, y + 1, n);
+        for y in x + 1..n {
             let q = run::row(t, y as u16);
             if !may_race(t, n, x, y, r, q, w) {
                 continue;
             }
-            let mut b = lowest_byte(r, q);
+            let mut b = start;
             let hit = loop {
                 if end <= b {
                     break end;

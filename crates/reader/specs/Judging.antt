@@ -18,8 +18,8 @@ use Rattle.model.specs.declared.Reason.the-variants as reason
 use Rattle.model.specs.declared.AcceptAnswer.{AcceptAnswer}
 use Rattle.model.specs.declared.AcceptAnswer.the-variants as accept
 use Rattle.model.specs.Limits.{WORK, CHAIN, CASE, CLASS-SETS}
-use Rattle.model.specs.Table.{Table, rowOf, decode}
-use Rattle.model.specs.Moment.{moment, momentIn, orderedRows, programOrder}
+use Rattle.model.specs.Table.{Table, rowOf, dependsOf, decode}
+use Rattle.model.specs.Moment.{AT, moment, momentIn, orderedRows, programOrder}
 use Rattle.model.specs.Synchronizes.{synchronizes}
 use Rattle.model.specs.Happens.{bySystem, CASES, direct}
 use Rattle.model.specs.Reason.{stands, stepHolds, broken, chainHolds, accepts, twoMoments, judged, acceptAnswer}
@@ -27,7 +27,7 @@ use Rattle.model.specs.declared.Refusal.{Refusal}
 use Rattle.model.specs.Refusal.{buffersFit, refusalOf}
 use Rattle.pieces.specs.Pieces.{joined, admissionBoth, judgeBoth}
 use Rattle.pieces.specs.Entry.{doorBoth, when-refused, when-admitted, table-false}
-use Rattle.run.specs.Layout.{rowsIn, placesIn, modeIn, tableIn}
+use Rattle.run.specs.Layout.{tableIn}
 use Rattle.door.specs.Opened.{Entered}
 use Rattle.pieces.specs.Answers.{not-judged, judge-both}
 use Rattle.rules.specs.Cases.{caseRows, direct-is, asked-once}
@@ -44,8 +44,8 @@ leadsTo t s m k steps = eqb (stands m steps (length steps)) k and not (anyBelow 
 module _ (b : List ℕ) (p : List (List ℕ)) (mode : Mode) (n s case m k : ℕ) where
   pub direct-told : (r q : Row) (v o d e : Bool) → r ≡ rowOf b (m / 3) → q ≡ rowOf b (k / 3)
       → v ≡ (eqb case 1 and synchronizes (decode b p mode n) (m / 3) (k / 3))
-      → o ≡ orderedRows n m k r q → d ≡ caseRows case s (m % 3) (k % 3) r q v o → e ≡ bySystem (decode b p mode n) m k
-      → (d or (eqb case CASES and e)) ≡ direct (decode b p mode n) s case m k
+      → o ≡ orderedRows n m k r q → d ≡ caseRows case s (m % 3) (k % 3) r q v o → e ≡ (eqb case CASES and bySystem (decode b p mode n) m k)
+      → (d or e) ≡ direct (decode b p mode n) s case m k
   unfolding programOrder decode
   direct-told r q v o d e first-is second-is sync-is order-is case-is system-is =
       rw (
@@ -59,6 +59,12 @@ module _ (b : List ℕ) (p : List (List ℕ)) (mode : Mode) (n s case m k : ℕ)
         asked-once s (m % 3) (k % 3) (rowOf b (m / 3)) (rowOf b (k / 3)) (synchronizes (decode b p mode n) (m / 3) (k / 3))
             (orderedRows n m k (rowOf b (m / 3)) (rowOf b (k / 3))) case,
       ) refl
+
+-- of dependencies that were read
+pub system-on : (b : List ℕ) (p : List (List ℕ)) (mode : Mode) (n case m k : ℕ) (o : Mode) (z : Bool) → o ≡ mode → z ≡ dependsOf o (m / 3) (k / 3)
+    → eqb case CASES ≡ true → (eqb (m % 3) AT and eqb (k % 3) AT and z) ≡ (eqb case CASES and bySystem (decode b p mode n) m k)
+unfolding bySystem decode
+system-on b p mode n case m k o z mode-is told last = rw (told, mode-is) (sym (and-on _ _ last))
 
 -- ---- laws: a chain
 
@@ -171,12 +177,9 @@ module _ (f s : List ℕ) (a : Admission) (e : a ≡ doorBoth 0 true f s WORK 0)
   unfolding acceptAnswer
   both-refused x h q = sym (ap acceptAnswer (judge-both m k r steps f s ∙ when-refused not-judged _ a _ (e ∙ no-buffers f s) x h q))
 
-  pub both-judged : {g n : ℕ} (h : a ≡ Admitted g n) (t : List ℕ) → Entered 0 true false f s WORK 0 t n → (b : List ℕ) (p : List (List ℕ)) (mode : Mode)
-      → b ≡ rowsIn t → p ≡ placesIn t → mode ≡ modeIn t
-      → (x : AcceptAnswer) → x ≡ acceptAnswer (judged (decode b p mode n) m k r steps) → x ≡ acceptAnswer (judgeBoth f s m k r steps)
-  both-judged {g} {n} admitted t opened b p mode rows places modes x judged-is =
-      let same : decode b p mode n ≡ tableIn t n = rw (rows, places, modes) refl in
-      let whole = same ∙ opened .table ∙ table-false (joined f s) in
+  pub both-judged : {g n : ℕ} (h : a ≡ Admitted g n) (t : List ℕ) → Entered 0 true false f s WORK 0 t n
+      → (x : AcceptAnswer) → x ≡ acceptAnswer (judged (tableIn t n) m k r steps) → x ≡ acceptAnswer (judgeBoth f s m k r steps)
+  both-judged admitted t opened x judged-is =
       judged-is
-      ∙ ap acceptAnswer (ap (λ (y : Table). judged y m k r steps) whole ∙ sym (judge-both m k r steps f s
+      ∙ ap acceptAnswer (ap (λ (y : Table). judged y m k r steps) (opened .table ∙ table-false (joined f s)) ∙ sym (judge-both m k r steps f s
       ∙ when-admitted not-judged _ a _ (e ∙ no-buffers f s) admitted))

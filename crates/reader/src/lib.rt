@@ -1,99 +1,90 @@
 // The reader of derivations, whoever wrote them: kept apart from the engine, and small, to be read in one sitting.
 ghost use mathlib.Core.Path.{_≡_};
 ghost use mathlib.Core.Bool.{true};
-ghost use mathlib.Core.List.{List};
-ghost use Prim.Native.Nat.{ℕ, _*_, _/_, _≤_, _<_};
+ghost use Prim.Native.Nat.{_*_, _/_, _≤_, _<_};
 ghost use lib.Dec.{eqb};
 ghost use Rattle.finite.specs.Logic.{_and_};
 ghost use Rattle.model.specs.Limits.{ROWS};
-ghost use Rattle.model.specs.Table.{decode};
+ghost use Rattle.run.specs.Layout.{tableIn};
 ghost use Rattle.model.specs.Moment.{moment};
 ghost use Rattle.model.specs.Synchronizes.{synchronizes};
-ghost use Rattle.model.specs.Happens.{bySystem, direct};
+ghost use Rattle.model.specs.Happens.{CASES, bySystem, direct};
 ghost use Rattle.model.specs.Reason.{stepHolds, accepts, judged, judge, acceptAnswer};
 ghost use Rattle.pieces.specs.Pieces.{judgeBoth};
-ghost use Rattle.pieces.specs.Entry.{RowsOf};
+ghost use Rattle.door.specs.Opened.{RunOf};
 ghost use Rattle.reader.specs.Judging.{leadsTo};
 use model::AcceptAnswer;
 use model::Admission;
-use model::Mode;
-use model::Places;
 use model::Reason;
-use rows::bytes;
 use rules::cases;
 use rules::moments;
+use run::Run;
 
 pub mod sync; // M4 and M5, from the rows alone
 
 // Whether the table has a moment m.
-fn is_there(rows: &[u8], p: Places, mode: Mode, n: usize, m: u16) -> bool
-    ensures { λ b. ⌜ b ≡ moment (decode (now (rows .entry)) p mode n) m ⌝ }
+fn is_there(t: &Run, n: usize, m: u16) -> bool
+    ensures { λ b. ⌜ b ≡ moment (tableIn (now (t .entry)) n) m ⌝ }
 {
-    moments::moment_in(n, bytes::read_row(rows, m / 3), m as usize)
+    moments::moment_in(n, run::row(t, m / 3), m as usize)
 }
 
-// Direct case 4: whether m and k are the own moments of two rows of which the first system-synchronizes-with the second.
-fn is_system(mode: Mode, m: u16, k: u16) -> bool
-    ensures { λ b. ⌜ ((rows : List ℕ) (p : List (List ℕ)) (n : ℕ) → b ≡ bySystem (decode rows p mode n) m k) ⌝ }
+// Whether m and k are the own moments of two rows of which the first system-synchronizes-with the second, as the last case asks. All
+// dependencies are read for that, so for no other.
+fn is_system(t: &Run, n: usize, case: u16, m: u16, k: u16) -> bool
+    ensures { λ b. ⌜ b ≡ (eqb case CASES and bySystem (tableIn (now (t .entry)) n) m k) ⌝ }
 {
+    if !(case == cases::CASES) {
+        return false;
+    }
     ((m % 3) as u8 == moments::AT)
         & ((k % 3) as u8 == moments::AT)
-        & rows::dependencies::depends(mode, m / 3, k / 3)
+        & rows::dependencies::depends(run::mode(t), m / 3, k / 3)
 }
 
 // Whether the row of moment m synchronizes-with the row of moment k, as the first case asks. That walks over all rows, so no other does.
-fn is_synced(rows: &[u8], p: Places, mode: Mode, n: usize, case: u16, m: u16, k: u16) -> bool
+fn is_synced(t: &Run, n: usize, case: u16, m: u16, k: u16) -> bool
     requires { ⌜ (n ≤ ROWS) × (m < 3 * n) × (k < 3 * n) ⌝ }
-    ensures { λ b. ⌜ b ≡ (eqb case 1 and synchronizes (decode (now (rows .entry)) p mode n) (m / 3) (k / 3)) ⌝ }
+    ensures { λ b. ⌜ b ≡ (eqb case 1 and synchronizes (tableIn (now (t .entry)) n) (m / 3) (k / 3)) ⌝ }
 {
     if !(case == 1) {
         return false;
     }
-    sync::sync_at(rows, p, mode, n, (m / 3) as usize, (k / 3) as usize)
+    sync::sync_at(t, n, (m / 3) as usize, (k / 3) as usize)
 }
 
 // M6: whether the direct case of this number leads from moment m to moment k for the class set s.
-fn is_direct(rows: &[u8], p: Places, mode: Mode, n: usize, s: u8, case: u16, m: u16, k: u16) -> bool
+fn is_direct(t: &Run, n: usize, s: u8, case: u16, m: u16, k: u16) -> bool
     requires { ⌜ (n ≤ ROWS) × (m < 3 * n) × (k < 3 * n) ⌝ }
-    ensures { λ b. ⌜ b ≡ direct (decode (now (rows .entry)) p mode n) s case m k ⌝ }
+    ensures { λ b. ⌜ b ≡ direct (tableIn (now (t .entry)) n) s case m k ⌝ }
 {
-    let r = bytes::read_row(rows, m / 3);
-    let q = bytes::read_row(rows, k / 3);
-    let b = is_synced(rows, p, mode, n, case, m, k);
+    let r = run::row(t, m / 3);
+    let q = run::row(t, k / 3);
+    let b = is_synced(t, n, case, m, k);
     let o = moments::is_ordered(n, m as usize, k as usize, r, q);
-    cases::is_case(case, s, (m % 3) as u8, (k % 3) as u8, r, q, b, o)
-        | (case == cases::CASES) & is_system(mode, m, k)
+    cases::is_case(case, s, (m % 3) as u8, (k % 3) as u8, r, q, b, o) | is_system(t, n, case, m, k)
 }
 
 // Whether the step x, CASE × its case + the moment that it reaches, holds from moment m for the class set s.
-fn is_step(rows: &[u8], p: Places, mode: Mode, n: usize, s: u8, m: u16, x: u16) -> bool
+fn is_step(t: &Run, n: usize, s: u8, m: u16, x: u16) -> bool
     requires { ⌜ (n ≤ ROWS) × (m < 3 * n) ⌝ }
-    ensures { λ b. ⌜ b ≡ stepHolds (decode (now (rows .entry)) p mode n) s m x ⌝ }
+    ensures { λ b. ⌜ b ≡ stepHolds (tableIn (now (t .entry)) n) s m x ⌝ }
 {
     let k = x % model::CASE;
-    if !is_there(rows, p, mode, n, k) {
+    if !is_there(t, n, k) {
         return false;
     }
-    is_direct(rows, p, mode, n, s, x / model::CASE, m, k)
+    is_direct(t, n, s, x / model::CASE, m, k)
 }
 
 // Whether steps that hold for the class set s, each from where the one before ends, lead from moment `first` to moment `second`.
-fn is_chain(
-    rows: &[u8],
-    p: Places,
-    mode: Mode,
-    n: usize,
-    s: u8,
-    first: u16,
-    second: u16,
-    steps: &[u16],
-) -> bool
+fn is_chain(t: &Run, n: usize, s: u8, first: u16, second: u16, steps: &[u16]) -> bool
     requires { ⌜ (n ≤ ROWS) × (first < 3 * n) ⌝ }
-    ensures { λ b. ⌜ b ≡ leadsTo (decode (now (rows .entry)) p mode n) s first second (now (steps .entry)) ⌝ }
+    ensures { λ b. ⌜ b ≡ leadsTo (tableIn (now (t .entry)) n) s first second (now (steps .entry)) ⌝ }
 {
     let mut m = first;
     for i in 0..steps.len() {
-        if !is_step(rows, p, mode, n, s, m, steps[i]) {
+        if !is_step(t, n, s, m, steps[i]) {
             return false;
         }
         m = steps[i] % model::CASE;
@@ -102,47 +93,29 @@ fn is_chain(
 }
 
 // Whether the derivation is accepted that moment m happens before moment k.
-fn is_accepted(
-    rows: &[u8],
-    p: Places,
-    mode: Mode,
-    n: usize,
-    m: u16,
-    k: u16,
-    why: Reason,
-    steps: &[u16],
-) -> bool
+fn is_accepted(t: &Run, n: usize, m: u16, k: u16, why: Reason, steps: &[u16]) -> bool
     requires { ⌜ (n ≤ ROWS) × (m < 3 * n) × (k < 3 * n) ⌝ }
-    ensures { λ b. ⌜ b ≡ accepts (decode (now (rows .entry)) p mode n) m k why (now (steps .entry)) ⌝ }
+    ensures { λ b. ⌜ b ≡ accepts (tableIn (now (t .entry)) n) m k why (now (steps .entry)) ⌝ }
 {
     let count = steps.len();
     let Reason::Chain(s) = why else {
-        return (count == 0) & moments::ordered_at(rows, n, m as usize, k as usize);
+        return (count == 0) & moments::ordered_at(t, n, m as usize, k as usize);
     };
     if !((0 < s) & (s <= cases::CLASS_SETS) & (0 < count) & (count <= model::CHAIN)) {
         return false;
     }
-    is_chain(rows, p, mode, n, s, m, k, steps)
+    is_chain(t, n, s, m, k, steps)
 }
 
 // The answer about the n rows of a table that is admitted.
-fn judge_rows(
-    rows: &[u8],
-    p: Places,
-    mode: Mode,
-    n: usize,
-    m: u16,
-    k: u16,
-    reason: Reason,
-    steps: &[u16],
-) -> AcceptAnswer
-    requires { ⌜ RowsOf true (now rows) p mode n ⌝ }
-    ensures { λ r. ⌜ r ≡ acceptAnswer (judged (decode (now (rows .entry)) p mode n) m k reason (now (steps .entry))) ⌝ }
+fn judge_rows(t: &Run, n: usize, m: u16, k: u16, reason: Reason, steps: &[u16]) -> AcceptAnswer
+    requires { ⌜ RunOf true (now t) n ⌝ }
+    ensures { λ r. ⌜ r ≡ acceptAnswer (judged (tableIn (now (t .entry)) n) m k reason (now (steps .entry))) ⌝ }
 {
-    if !(is_there(rows, p, mode, n, m) & is_there(rows, p, mode, n, k) & !(m == k)) {
+    if !(is_there(t, n, m) & is_there(t, n, k) & !(m == k)) {
         return AcceptAnswer::Refused { number: 12, row: 0 };
     }
-    if is_accepted(rows, p, mode, n, m, k, reason, steps) {
+    if is_accepted(t, n, m, k, reason, steps) {
         return AcceptAnswer::Accepted;
     }
     AcceptAnswer::NotAccepted
@@ -174,16 +147,7 @@ pub fn accepts_both(
         };
     };
     let n = count as usize;
-    judge_rows(
-        run::rows_of(&t),
-        run::places(&t),
-        run::mode(&t),
-        n,
-        m,
-        k,
-        reason,
-        steps,
-    )
+    judge_rows(&t, n, m, k, reason, steps)
 }
 
 // Judges a derivation that the first moment happens before the second in a table in one piece.

@@ -33,7 +33,7 @@ use Rattle.model.specs.declared.Refusal.{Refusal}
 use Rattle.model.specs.Refusal.{refusalOf}
 use Rattle.pieces.specs.Pieces.{joined, deriveBoth}
 use Rattle.pieces.specs.Entry.{doorBoth, Left, left-same, zeros-wiped, when-refused, when-admitted, table-false}
-use Rattle.run.specs.Layout.{rowsIn, placesIn, modeIn, tableIn}
+use Rattle.run.specs.Layout.{tableIn}
 use Rattle.door.specs.Opened.{Entered}
 use Rattle.pieces.specs.Answers.{not-derived, derive-both}
 use Rattle.walks.specs.Layers.{inLayer}
@@ -181,13 +181,10 @@ module _ (f s : List ℕ) (m k : ℕ) (w c : List ℕ) (a : Admission) (e : a �
   told-refused x h q =
       left-same deriveAnswer workAfter chainAfter (derive-both m k (length w) (length c) f s ∙ when-refused not-derived _ a _ e x h q) (refl, refl, refl)
 
-  pub told-run : {g n : ℕ} (h : a ≡ Admitted g n) (t : List ℕ) → Entered CHAIN true false f s (length w) (length c) t n → (b : List ℕ) (p : List (List ℕ))
-      (mode : Mode)
-      → b ≡ rowsIn t → p ≡ placesIn t → mode ≡ modeIn t
-      → (r : DeriveAnswer) (u d : List ℕ) → Told (derivedOf (decode b p mode n) m k) r w u c d → Told told r w u c d
-  told-run {g} {n} admitted t opened b p mode rows places modes r u d derived =
-      let same : decode b p mode n ≡ tableIn t n = rw (rows, places, modes) refl in
-      let whole = same ∙ opened .table ∙ table-false (joined f s) in
+  pub told-run : {g n : ℕ} (h : a ≡ Admitted g n) (t : List ℕ) → Entered CHAIN true false f s (length w) (length c) t n
+      → (r : DeriveAnswer) (u d : List ℕ) → Told (derivedOf (tableIn t n) m k) r w u c d → Told told r w u c d
+  told-run admitted t opened r u d derived =
       left-same deriveAnswer workAfter chainAfter
-      (derive-both m k (length w) (length c) f s ∙ when-admitted not-derived _ a _ e admitted ∙ sym (ap (λ (y : Table). derivedOf y m k) whole))
+      (derive-both m k (length w) (length c) f s ∙ when-admitted not-derived _ a _ e admitted
+      ∙ sym (ap (λ (y : Table). derivedOf y m k) (opened .table ∙ table-false (joined f s))))
       derived

@@ -1,17 +1,16 @@
 // A chain of direct cases of M6: the lowest class set that has one, and its steps as numbers in a lent buffer.
 ghost use mathlib.Core.Path.{_≡_};
 ghost use mathlib.Core.Bool.{true};
-ghost use mathlib.Core.List.{List};
-ghost use Prim.Native.Nat.{ℕ, _+_, _*_, _/_, _%_, _≤_, _<_};
+ghost use Prim.Native.Nat.{_+_, _*_, _/_, _%_, _≤_, _<_};
 ghost use lib.ListN.{length};
 ghost use Rattle.finite.specs.Below.{least};
 ghost use Rattle.finite.specs.Lists.{Written};
 ghost use Rattle.finite.specs.Walk.{walk, trail, along};
 ghost use Rattle.bits.specs.Matrix.{rel};
 ghost use Rattle.bits.specs.Within.{Within};
-ghost use Rattle.model.specs.declared.Mode.{Mode};
 ghost use Rattle.model.specs.Limits.{ROWS, WORK, CHAIN, CLASS-SETS};
-ghost use Rattle.model.specs.Table.{decode, rowOf};
+ghost use Rattle.model.specs.Table.{rowOf};
+ghost use Rattle.run.specs.Layout.{rowsIn, tableIn};
 ghost use Rattle.model.specs.Moment.{programOrder};
 ghost use Rattle.model.specs.Happens.{CASES};
 ghost use Rattle.model.specs.Reason.{hasChainBy, stepNumber};
@@ -21,33 +20,24 @@ ghost use Rattle.walks.specs.Layers.{Layers};
 ghost use Rattle.reasons.specs.Layers.{Layered};
 ghost use Rattle.reasons.specs.Cases.{lowestRows};
 use crate::layers;
-use model::Mode;
-use model::Places;
 use model::Row;
 use rules::cases;
 use rules::moments;
+use run::Run;
 
 // ---- the class set
 
 // The least c for which some chain for the class set c + 1 leads from the first moment to the second; CLASS_SETS where there is none.
 // Where there is one, its steps and their layers are left in the work area.
 // Ruled out: one that gives a higher class set where a lower one has a chain; one that counts a moment as a chain to itself.
-pub fn find_set(
-    rows: &[u8],
-    p: Places,
-    mode: Mode,
-    n: usize,
-    first: usize,
-    second: usize,
-    w: &mut [u64],
-) -> u8
-    requires { ⌜ (n ≤ ROWS) × (WORK ≤ length (now w)) × (first < 3 * n) × (second < 3 * n) × Synced (decode (now rows) p mode n) n (now w) ⌝ }
-    ensures { λ c. ⌜ (c ≡ least CLASS-SETS (hasChainBy (decode (now (rows .entry)) p mode n) first second))
+pub fn find_set(t: &Run, n: usize, first: usize, second: usize, w: &mut [u64]) -> u8
+    requires { ⌜ (n ≤ ROWS) × (WORK ≤ length (now w)) × (first < 3 * n) × (second < 3 * n) × Synced (tableIn (now t) n) n (now w) ⌝ }
+    ensures { λ c. ⌜ (c ≡ least CLASS-SETS (hasChainBy (tableIn (now (t .entry)) n) first second))
         × Within HAPPENS CHAINS-END (now (w .entry)) (now (w .exit))
-        × (c < CLASS-SETS → Layered (decode (now (rows .entry)) p mode n) n (c + 1) second (now (w .exit))) ⌝ }
+        × (c < CLASS-SETS → Layered (tableIn (now (t .entry)) n) n (c + 1) second (now (w .exit))) ⌝ }
 {
     for c in 0..cases::CLASS_SETS {
-        layers::make_layers(rows, p, mode, n, c + 1, second, w);
+        layers::make_layers(t, n, c + 1, second, w);
         let j = walks::moments::layer_of(w, area::CHAINS, 3 * n, first);
         if j < 3 * n {
             return c;
@@ -72,27 +62,25 @@ fn case_of(s: u8, from: u8, to: u8, r: Row, q: Row, synced: bool, ordered: bool)
 }
 
 // The same of moments m and k of a table.
-fn case_at(rows: &[u8], n: usize, s: u8, m: usize, k: usize, synced: bool) -> u16
+fn case_at(t: &Run, n: usize, s: u8, m: usize, k: usize, synced: bool) -> u16
     requires { ⌜ (n ≤ ROWS) × (m < 3 * n) × (k < 3 * n) ⌝ }
-    ensures { λ d. let r = rowOf (now (rows .entry)) (m / 3) in
-        let q = rowOf (now (rows .entry)) (k / 3) in
-        ⌜ (d ≤ CASES) × ((p : List (List ℕ)) (mode : Mode)
-        → d ≡ lowestRows s (m % 3) (k % 3) r q synced (programOrder (decode (now (rows .entry)) p mode n) m k)) ⌝ }
+    ensures { λ d. let r = rowOf (rowsIn (now (t .entry))) (m / 3) in
+        let q = rowOf (rowsIn (now (t .entry))) (k / 3) in
+        ⌜ (d ≤ CASES) × (d ≡ lowestRows s (m % 3) (k % 3) r q synced (programOrder (tableIn (now (t .entry)) n) m k)) ⌝ }
 {
-    let ordered = moments::ordered_at(rows, n, m, k);
-    let r = rows::bytes::read_row(rows, (m / 3) as u16);
-    let q = rows::bytes::read_row(rows, (k / 3) as u16);
+    let ordered = moments::ordered_at(t, n, m, k);
+    let r = run::row(t, (m / 3) as u16);
+    let q = run::row(t, (k / 3) as u16);
     case_of(s, (m % 3) as u8, (k % 3) as u8, r, q, synced, ordered)
 }
 
 // The number of the step from moment m to moment k.
-fn step_number(rows: &[u8], n: usize, s: u8, m: usize, k: usize, w: &[u64]) -> u16
-    requires { ⌜ (n ≤ ROWS) × (m < 3 * n) × (k < 3 * n) × (WORK ≤ length (now w)) ⌝ }
-    ensures { λ r. ⌜ ((p : List (List ℕ)) (mode : Mode) → Synced (decode (now (rows .entry)) p mode n) n (now (w .entry))
-        → r ≡ stepNumber (decode (now (rows .entry)) p mode n) s m k) ⌝ }
+fn step_number(t: &Run, n: usize, s: u8, m: usize, k: usize, w: &[u64]) -> u16
+    requires { ⌜ (n ≤ ROWS) × (m < 3 * n) × (k < 3 * n) × (WORK ≤ length (now w)) × Synced (tableIn (now t) n) n (now w) ⌝ }
+    ensures { λ r. ⌜ r ≡ stepNumber (tableIn (now (t .entry)) n) s m k ⌝ }
 {
     let b = area::grid::get(w, area::SYNC, m / 3, k / 3);
-    let d = case_at(rows, n, s, m, k, b);
+    let d = case_at(t, n, s, m, k, b);
     model::CASE * d + (k as u16)
 }
 
@@ -100,7 +88,7 @@ fn step_number(rows: &[u8], n: usize, s: u8, m: usize, k: usize, w: &[u64]) -> u
 // next moment, by the lowest case.
 // Ruled out: one that writes the moment that a step starts at; one that goes into a layer of chains that are longer than what is left.
 pub fn write_steps(
-    rows: &[u8],
+    t: &Run,
     n: usize,
     s: u8,
     first: usize,
@@ -110,15 +98,15 @@ pub fn write_steps(
     c: &mut [u16],
 )
     requires { ⌜ (n ≤ ROWS) × (WORK ≤ length (now w)) × (first < 3 * n) × (size ≤ CHAIN) × (size ≤ 3 * n) × (CHAIN ≤ length (now c))
-        × Layers STEP CHAINS MOMENTS (3 * n) second (now w) × (walk (3 * n) (rel (now w) STEP MOMENTS) second size first ≡ true) ⌝ }
-    ensures { λ _. ⌜ ((p : List (List ℕ)) (mode : Mode) → Synced (decode (now (rows .entry)) p mode n) n (now (w .entry))
-        → Written (along (stepNumber (decode (now (rows .entry)) p mode n) s) second
-        (trail (3 * n) (rel (now (w .entry)) STEP MOMENTS) second size first)) size (now (c .entry)) (now (c .exit))) ⌝ }
+        × Layers STEP CHAINS MOMENTS (3 * n) second (now w) × (walk (3 * n) (rel (now w) STEP MOMENTS) second size first ≡ true)
+        × Synced (tableIn (now t) n) n (now w) ⌝ }
+    ensures { λ _. ⌜ Written (along (stepNumber (tableIn (now (t .entry)) n) s) second
+        (trail (3 * n) (rel (now (w .entry)) STEP MOMENTS) second size first)) size (now (c .entry)) (now (c .exit)) ⌝ }
 {
     let mut z = first;
     for i in 0..size {
         let y = walks::moments::next(w, area::STEP, area::CHAINS, 3 * n, size - i - 1, z);
-        c[i] = step_number(rows, n, s, z, y, w);
+        c[i] = step_number(t, n, s, z, y, w);
         z = y;
     }
 }

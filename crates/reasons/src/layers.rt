@@ -3,18 +3,17 @@
 ghost use Prim.Native.Nat.{_*_, _≤_, _<_};
 ghost use lib.ListN.{length};
 ghost use Rattle.model.specs.Limits.{ROWS, WORK};
-ghost use Rattle.model.specs.Table.{decode};
+ghost use Rattle.run.specs.Layout.{tableIn};
 ghost use Rattle.area.specs.Synced.{Synced};
 ghost use Rattle.reasons.specs.Layers.{MadeLayered};
-use model::Mode;
-use model::Places;
+use run::Run;
 
 // M6: the direct cases for the class set s, and the layers of chains of them to moment x.
 // Ruled out: one that makes the layers from the steps of another class set; one that follows chains that lead from x.
-pub fn make_layers(rows: &[u8], p: Places, mode: Mode, n: usize, s: u8, x: usize, w: &mut [u64])
-    requires { ⌜ (n ≤ ROWS) × (WORK ≤ length (now w)) × (x < 3 * n) × Synced (decode (now rows) p mode n) n (now w) ⌝ }
-    ensures { λ _. ⌜ MadeLayered (decode (now (rows .entry)) p mode n) n s x (now (w .entry)) (now (w .exit)) ⌝ }
+pub fn make_layers(t: &Run, n: usize, s: u8, x: usize, w: &mut [u64])
+    requires { ⌜ (n ≤ ROWS) × (WORK ≤ length (now w)) × (x < 3 * n) × Synced (tableIn (now t) n) n (now w) ⌝ }
+    ensures { λ _. ⌜ MadeLayered (tableIn (now (t .entry)) n) n s x (now (w .entry)) (now (w .exit)) ⌝ }
 {
-    order::steps::fill_step(rows, p, mode, n, s, w);
+    order::steps::fill_step(t, n, s, w);
     walks::moments::fill_layers(w, area::STEP, area::CHAINS, 3 * n, x);
 }

@@ -1,32 +1,29 @@
 // Reasons: a derivation that one moment of a table, in one or two pieces, happens before another, for a reader to accept, or that it does not.
 ghost use mathlib.Core.Path.{_≡_};
 ghost use mathlib.Core.Bool.{true};
-ghost use mathlib.Core.List.{List};
-ghost use Prim.Native.Nat.{ℕ, _*_, _≤_, _<_};
+ghost use Prim.Native.Nat.{_*_, _≤_, _<_};
 ghost use lib.ListN.{length};
 ghost use Rattle.bits.specs.Within.{Within};
-ghost use Rattle.model.specs.declared.Mode.{Mode};
 ghost use Rattle.model.specs.Limits.{ROWS, WORK, CHAIN};
-ghost use Rattle.model.specs.Table.{decode};
+ghost use Rattle.run.specs.Layout.{tableIn};
 ghost use Rattle.model.specs.Reason.{twoMoments, ours, derivedOf, derive, deriveAnswer, chainAfter, workAfter};
 ghost use Rattle.area.specs.Regions.{MUTUAL, CHAINS-END};
 ghost use Rattle.pieces.specs.Pieces.{deriveBoth};
-ghost use Rattle.pieces.specs.Entry.{RowsOf};
+ghost use Rattle.door.specs.Opened.{RunOf};
 use model::Admission;
 use model::DeriveAnswer;
-use model::Mode;
-use model::Places;
 use rules::moments;
+use run::Run;
 
 pub mod chains; // the class set of a chain, and its steps as numbers
 pub mod layers; // the steps of a class set, and the layers of chains of them
 
 // Refusal 12: whether each number names a moment of the table, and they are two.
-fn two_moments(rows: &[u8], n: usize, first: u16, second: u16) -> bool
-    ensures { λ b. ⌜ ((p : List (List ℕ)) (mode : Mode) → b ≡ twoMoments (decode (now (rows .entry)) p mode n) first second) ⌝ }
+fn two_moments(t: &Run, n: usize, first: u16, second: u16) -> bool
+    ensures { λ b. ⌜ b ≡ twoMoments (tableIn (now (t .entry)) n) first second ⌝ }
 {
-    let r = rows::bytes::read_row(rows, first / 3);
-    let q = rows::bytes::read_row(rows, second / 3);
+    let r = run::row(t, first / 3);
+    let q = run::row(t, second / 3);
     moments::moment_in(n, r, first as usize)
         & moments::moment_in(n, q, second as usize)
         & !(first == second)
@@ -34,9 +31,7 @@ fn two_moments(rows: &[u8], n: usize, first: u16, second: u16) -> bool
 
 // The word, or else a chain for the lowest class set that has one, its steps in c.
 fn derive_moments(
-    rows: &[u8],
-    p: Places,
-    mode: Mode,
+    t: &Run,
     n: usize,
     first: usize,
     second: usize,
@@ -44,20 +39,20 @@ fn derive_moments(
     c: &mut [u16],
 ) -> DeriveAnswer
     requires { ⌜ (n ≤ ROWS) × (WORK ≤ length (now w)) × (CHAIN ≤ length (now c)) × (first < 3 * n) × (second < 3 * n) × (first ≡ second → ⊥) ⌝ }
-    ensures { λ r. ⌜ (r ≡ deriveAnswer (ours (decode (now (rows .entry)) p mode n) first second))
-        × (now (c .exit) ≡ chainAfter (ours (decode (now (rows .entry)) p mode n) first second) (now (c .entry)))
+    ensures { λ r. ⌜ (r ≡ deriveAnswer (ours (tableIn (now (t .entry)) n) first second))
+        × (now (c .exit) ≡ chainAfter (ours (tableIn (now (t .entry)) n) first second) (now (c .entry)))
         × Within MUTUAL CHAINS-END (now (w .entry)) (now (w .exit)) ⌝ }
 {
-    if moments::ordered_at(rows, n, first, second) {
+    if moments::ordered_at(t, n, first, second) {
         return DeriveAnswer::ProgramOrder;
     }
-    sequence::sync::make_synced(rows, p, mode, n, w);
-    let set = chains::find_set(rows, p, mode, n, first, second, w);
+    sequence::sync::make_synced(t, n, w);
+    let set = chains::find_set(t, n, first, second, w);
     if rules::cases::CLASS_SETS <= set {
         return DeriveAnswer::NotBefore;
     }
     let size = walks::moments::layer_of(w, area::CHAINS, 3 * n, first) + 1;
-    chains::write_steps(rows, n, set + 1, first, second, size, w, c);
+    chains::write_steps(t, n, set + 1, first, second, size, w, c);
     DeriveAnswer::Chain {
         classes: set + 1,
         steps: size as u16,
@@ -66,33 +61,22 @@ fn derive_moments(
 
 // The derivation in the n rows of a table that is admitted; unless it is refusal 12, the work area's words end as zeros.
 fn derive_rows(
-    rows: &[u8],
-    p: Places,
-    mode: Mode,
+    t: &Run,
     n: usize,
     first: u16,
     second: u16,
     work: &mut [u64],
     chain: &mut [u16],
 ) -> DeriveAnswer
-    requires { ⌜ (WORK ≤ length (now work)) × (CHAIN ≤ length (now chain)) × RowsOf true (now rows) p mode n ⌝ }
-    ensures { λ r. ⌜ (r ≡ deriveAnswer (derivedOf (decode (now (rows .entry)) p mode n) first second))
-        × (now (work .exit) ≡ workAfter (derivedOf (decode (now (rows .entry)) p mode n) first second) (now (work .entry)))
-        × (now (chain .exit) ≡ chainAfter (derivedOf (decode (now (rows .entry)) p mode n) first second) (now (chain .entry))) ⌝ }
+    requires { ⌜ (WORK ≤ length (now work)) × (CHAIN ≤ length (now chain)) × RunOf true (now t) n ⌝ }
+    ensures { λ r. ⌜ (r ≡ deriveAnswer (derivedOf (tableIn (now (t .entry)) n) first second))
+        × (now (work .exit) ≡ workAfter (derivedOf (tableIn (now (t .entry)) n) first second) (now (work .entry)))
+        × (now (chain .exit) ≡ chainAfter (derivedOf (tableIn (now (t .entry)) n) first second) (now (chain .entry))) ⌝ }
 {
-    if !two_moments(rows, n, first, second) {
+    if !two_moments(t, n, first, second) {
         return DeriveAnswer::Refused { number: 12, row: 0 };
     }
-    let r = derive_moments(
-        rows,
-        p,
-        mode,
-        n,
-        first as usize,
-        second as usize,
-        work,
-        chain,
-    );
+    let r = derive_moments(t, n, first as usize, second as usize, work, chain);
     bits::clear(work, 0, model::WORK);
     r
 }
@@ -136,16 +120,7 @@ pub fn derive_both(
         };
     };
     let n = count as usize;
-    derive_rows(
-        run::rows_of(&t),
-        run::places(&t),
-        run::mode(&t),
-        n,
-        m,
-        k,
-        work,
-        chain,
-    )
+    derive_rows(&t, n, m, k, work, chain)
 }
 
 // Derives that the first moment happens before the second in a table in one piece.

@@ -20,6 +20,7 @@ use Rattle.model.specs.Report.{reportAnswer, report}
 use Rattle.area.specs.Regions.{MUTUAL, LOCATED-END, EDGE, LAYERS-END}
 use Rattle.axioms.specs.Sources.{sourceIn}
 use Rattle.choice.specs.Sources.{Listed}
+use Rattle.verdict.specs.Engine.{judges}
 use Rattle.verdict.specs.Whole.{judged, said-refused, said-verdict}
 use Rattle.model.specs.declared.Refusal.{Refusal}
 use Rattle.model.specs.Refusal.{refusalOf}
@@ -37,16 +38,16 @@ answered a b t e f = f ∙ ap (λ (c : CheckAnswer). reportAnswer c t) (sym e)
 -- ---- laws: the rows of an admitted table
 
 -- located, judged, answered, wiped
-pub rows-reported : (b : List ℕ) (p : List (List ℕ)) (mode : Mode) (n : ℕ) (src w v u z c d : List ℕ) (a : CheckAnswer) (r : ReportAnswer)
+pub rows-reported : (b : List ℕ) (p : List (List ℕ)) (mode : Mode) (n : ℕ) (c : List ℕ) {src w v u z d : List ℕ} {a : CheckAnswer} {r : ReportAnswer}
     → Listed (sourceOf b) n src → WORK ≤ length w → Within MUTUAL LOCATED-END w v
     → (a ≡ checkAnswer (verdict (decode b p mode n) (sourceIn src))) × (d ≡ cycleAfter (verdict (decode b p mode n) (sourceIn src)) c)
     × Within EDGE LAYERS-END v u
     → r ≡ reportAnswer a (decode b p mode n) → z ≡ zeros u 0 WORK
     → (r ≡ reportAnswer (checkAnswer (verdict (decode b p mode n) (sourceOf b))) (decode b p mode n)) × (z ≡ wiped w)
     × (d ≡ cycleAfter (verdict (decode b p mode n) (sourceOf b)) c)
-rows-reported b p mode n src w v u z c d a r listed room located told answered cleared =
-    let k = judged b p mode n src w v u z c d a listed room located told cleared in
-    (answered ∙ ap (λ (y : CheckAnswer). reportAnswer y (decode b p mode n)) (k .0), k .1, k .2)
+rows-reported b p mode n c listed room located told said cleared =
+    let k = judged b p mode n listed room (judges located told) cleared in
+    (said ∙ ap (λ (y : CheckAnswer). reportAnswer y (decode b p mode n)) (k .0), k .1, k .2)
 
 -- ---- laws: the entry point
 

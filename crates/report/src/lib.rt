@@ -7,21 +7,22 @@ ghost use Rattle.model.specs.Limits.{WORK, CYCLE};
 ghost use Rattle.model.specs.Table.{sourceOf};
 ghost use Rattle.model.specs.Check.{verdict, check, checkAnswer, cycleAfter, workAfter, wiped};
 ghost use Rattle.model.specs.Report.{reportAnswer, report};
-ghost use Rattle.race.specs.Bytes.{Ready};
 ghost use Rattle.pieces.specs.Pieces.{checkBoth, reportBoth};
 ghost use Rattle.run.specs.Layout.{rowsIn, tableIn};
 ghost use Rattle.door.specs.Opened.{RunOf};
+ghost use Rattle.placing.specs.Judge.{Sourced};
+ghost use Rattle.grids.specs.Given.{Given};
+ghost use Rattle.grids.specs.Location.{Judging};
 use model::Admission;
 use model::CheckAnswer;
 use model::ReportAnswer;
 use run::Run;
 
-pub mod pairs; // what becomes of one pair of rows
 pub mod counts; // the four counts, and the share
 
 // A check's answer c as a report's: itself where the table is inconsistent, else the counts.
-fn answer(c: CheckAnswer, t: &Run, n: usize, w: &[u64]) -> ReportAnswer
-    requires { ⌜ Ready (tableIn (now t) n) n (now w) ⌝ }
+fn answer(c: CheckAnswer, t: &Run, n: usize, s: &[u64], w: &[u64]) -> ReportAnswer
+    requires { ⌜ Given (tableIn (now t) n) n (now s) (now w) × Judging (tableIn (now t) n) n (now w) ⌝ }
     ensures { λ r. ⌜ r ≡ reportAnswer c (tableIn (now (t .entry)) n) ⌝ }
 {
     match c {
@@ -43,23 +44,25 @@ fn answer(c: CheckAnswer, t: &Run, n: usize, w: &[u64]) -> ReportAnswer
             first: _,
             second: _,
             byte: _,
-        } => counts::report_of(t, n, w),
-        CheckAnswer::RaceFree => counts::report_of(t, n, w),
+        } => counts::report_of(t, n, s, w),
+        CheckAnswer::RaceFree => counts::report_of(t, n, s, w),
     }
 }
 
 // The report of a run of n rows.
 fn report_run(t: &Run, n: usize, work: &mut [u64], cycle: &mut [u16]) -> ReportAnswer
-    requires { ⌜ (WORK ≤ length (now work)) × (CYCLE ≤ length (now cycle)) × RunOf false (now t) n ⌝ }
+    requires { ⌜ (WORK ≤ length (now work)) × (CYCLE ≤ length (now cycle)) × RunOf false (now t) n
+        × Sourced (tableIn (now t) n) (sourceOf (rowsIn (now t))) ⌝ }
     ensures { λ r. let v = verdict (tableIn (now (t .entry)) n) (sourceOf (rowsIn (now (t .entry)))) in
         ⌜ (r ≡ reportAnswer (checkAnswer v) (tableIn (now (t .entry)) n))
         × (now (work .exit) ≡ wiped (now (work .entry)))
         × (now (cycle .exit) ≡ cycleAfter v (now (cycle .entry))) ⌝ }
 {
     let src = choice::sources::read_sources(run::rows_of(t), n);
-    verdict::judge::locate_by(true, t, n, work);
-    let c = verdict::judge::judge(t, n, &src, work, cycle);
-    let r = answer(c, t, n, work);
+    let mut s = [0u64; known::WORDS];
+    sets_engine::locate(t, n, &mut s, work);
+    let c = verdict::by_sets::judge_located(t, n, &src, &s, work, cycle);
+    let r = answer(c, t, n, &s, work);
     bits::clear(work, 0, model::WORK);
     r
 }

@@ -5,13 +5,13 @@ use mathlib.Core.List.{List}
 use Prim.Native.Nat.{ℕ, _≤_, _<_}
 use lib.Dec.{ltb, eqb}
 use borrow.Author.Tests.{lt-ltb, le-ltb, not-false}
-use Rattle.finite.specs.Logic.{_and_, _or_, or-off, and-false-left, and-false-right, not-out, not-so, not-both, split, and-on}
+use Rattle.finite.specs.Logic.{_and_, _or_, or-off, and-false-left, and-false-right, not-out, not-so, not-both, split, and-true, and-on}
 use Rattle.finite.specs.Below.{anyBelow, any-out}
 use Rattle.model.specs.declared.Mode.{Mode}
 use Rattle.model.specs.declared.Row.{Row}
-use Rattle.model.specs.Row.{atomic, barrier, control, sameInstance, reads, writes, releases, acquires, classIn}
+use Rattle.model.specs.Row.{atomic, barrier, control, executionOf, sameInstance, reads, writes, releases, acquires, classIn}
 use Rattle.model.specs.Table.{Table, decode, rowOf, atomicSource}
-use Rattle.model.specs.Scope.{together, mutually, later, laterWriter, follows}
+use Rattle.model.specs.Scope.{shares, sameLocation, together, mutualRows, mutually, later, laterWriter, follows}
 use Rattle.model.specs.Moment.{sameAgent}
 use Rattle.model.specs.Synchronizes.{continues, ends, sequence, takesFrom, leads, trails, carriesOut, carriesIn, carriesOver}
 use Rattle.model.specs.Synchronizes.{joins, arrives, passes, syncAtomics, syncFromBarrier, syncToBarrier, syncBarriers, syncControl, synchronizes}
@@ -63,6 +63,33 @@ module _ (b : List ℕ) (p : List (List ℕ)) (mode : Mode) (n : ℕ) where
       → q ≡ rowOf b z → v ≡ endRows (mode .counted) m h r q → ends (decode b p mode n) a x z ≡ v
   ends-told a x z m h r q v mutual-is head-is row-is other-is told = rw (ends-is a x z) cc
 
+  -- M3: where the cheap tests fail, and where they pass
+  pub mutual-off : (i j : ℕ) (r q : Row) (x : Bool) → r ≡ rowOf b i → q ≡ rowOf b j → x ≡ sameLocation r q → not (not (eqb i j) and x) ≡ true
+      → false ≡ mutually (decode b p mode n) i j
+  unfolding mutually mutualRows decode
+  mutual-off i j r q x first-is second-is same-is tests-fail =
+      rw (← first-is, ← second-is, ← same-is)
+      (sym (not-so _ (λ h. not-both (and-true (split h .0) (split (split (split h .1) .0) .1)) (not-out _ tests-fail))))
+
+  pub mutual-on : (i j : ℕ) (r q : Row) (x v : Bool) (o : List (List ℕ)) → r ≡ rowOf b i → q ≡ rowOf b j → not (not (eqb i j) and x) ≡ false
+      → o ≡ p → v ≡ mutualRows o r q → v ≡ mutually (decode b p mode n) i j
+  unfolding mutually decode
+  mutual-on i j r q x v o first-is second-is tests-pass places-is told =
+      rw (← first-is, ← second-is, ← places-is) (told ∙ sym (and-on _ _ (split (not-false _ tests-pass) .0)))
+
+  -- M5: the same of control barriers
+  pub joins-off : (i j : ℕ) (r q : Row) (x : Bool) → r ≡ rowOf b i → q ≡ rowOf b j → x ≡ sameInstance r q → not (not (eqb i j) and x) ≡ true
+      → false ≡ joins (decode b p mode n) i j
+  unfolding joins decode
+  joins-off i j r q x first-is second-is same-is tests-fail =
+      sym (and-false-left _ _ (rw (← first-is, ← second-is, ← same-is) (not-out (not (eqb i j) and x) tests-fail)))
+
+  pub joins-on : (i j : ℕ) (r q : Row) (x v : Bool) (o : List (List ℕ)) → r ≡ rowOf b i → q ≡ rowOf b j → x ≡ sameInstance r q
+      → not (not (eqb i j) and x) ≡ false → o ≡ p → v ≡ shares o (executionOf r) (r .agent) (q .agent) → v ≡ joins (decode b p mode n) i j
+  unfolding joins decode
+  joins-on i j r q x v o first-is second-is same-is tests-pass places-is told =
+      rw (← first-is, ← second-is, ← places-is) (told ∙ sym (and-on _ _ (rw (← same-is) (not-false (not (eqb i j) and x) tests-pass))))
+
   -- M4, where the cheap test fails, and where it passes
   pub sequence-off : (a x : ℕ) → follows (decode b p mode n) a x ≡ false → eqb a x ≡ sequence (decode b p mode n) a x
   unfolding sequence _and_
@@ -89,65 +116,53 @@ module _ (b : List ℕ) (p : List (List ℕ)) (mode : Mode) (n : ℕ) where
       rw (ordered, ← source-is, lt-ltb s n source-there, ← first-is, ← second-is, ← sequence-is) (with-true (writes r) (reads q) v)
 
   -- M5: where the cheap tests on the rows fail, and where they pass
-  pub from-off : (a c : ℕ) (r q : Row) (x y z : Bool) → r ≡ rowOf b a → q ≡ rowOf b c
-      → x ≡ barrier r → y ≡ atomic q → z ≡ together p r q → not (x and y and z) ≡ true
+  pub from-off : (a c : ℕ) (r q : Row) (d : Bool) → r ≡ rowOf b a → q ≡ rowOf b c → d ≡ (barrier r and atomic q and together p r q) → not d ≡ true
       → false ≡ syncFromBarrier (decode b p mode n) a c
   unfolding syncFromBarrier decode
-  from-off a c r q x y z first-is second-is barrier-is atomic-is together-is tests-fail =
-      sym (and-false-left _ _ (rw (← first-is, ← second-is, ← barrier-is, ← atomic-is, ← together-is) (not-out (x and y and z) tests-fail)))
+  from-off a c r q d first-is second-is told tests-fail =
+      sym (and-false-left _ _ (rw (← first-is, ← second-is, ← told) (not-out d tests-fail)))
 
-  pub from-on : (a c : ℕ) (r q : Row) (x y z v : Bool) → r ≡ rowOf b a → q ≡ rowOf b c
-      → x ≡ barrier r → y ≡ atomic q → z ≡ together p r q → not (x and y and z) ≡ false
+  pub from-on : (a c : ℕ) (r q : Row) (d v : Bool) → r ≡ rowOf b a → q ≡ rowOf b c → d ≡ (barrier r and atomic q and together p r q) → not d ≡ false
       → v ≡ anyBelow n (carriesOut (decode b p mode n) a c) → v ≡ syncFromBarrier (decode b p mode n) a c
   unfolding syncFromBarrier decode
-  from-on a c r q x y z v first-is second-is barrier-is atomic-is together-is tests-pass told =
-      told ∙ sym (and-on _ _ (rw (← first-is, ← second-is, ← barrier-is, ← atomic-is, ← together-is) (not-false (x and y and z) tests-pass)))
+  from-on a c r q d v first-is second-is told tests-pass rest =
+      rest ∙ sym (and-on _ _ (rw (← first-is, ← second-is, ← told) (not-false d tests-pass)))
 
-  pub to-off : (a c : ℕ) (r q : Row) (x y z : Bool) → r ≡ rowOf b a → q ≡ rowOf b c
-      → x ≡ atomic r → y ≡ barrier q → z ≡ together p r q → not (x and y and z) ≡ true
+  pub to-off : (a c : ℕ) (r q : Row) (d : Bool) → r ≡ rowOf b a → q ≡ rowOf b c → d ≡ (atomic r and barrier q and together p r q) → not d ≡ true
       → false ≡ syncToBarrier (decode b p mode n) a c
   unfolding syncToBarrier decode
-  to-off a c r q x y z first-is second-is atomic-is barrier-is together-is tests-fail =
-      sym (and-false-left _ _ (rw (← first-is, ← second-is, ← atomic-is, ← barrier-is, ← together-is) (not-out (x and y and z) tests-fail)))
+  to-off a c r q d first-is second-is told tests-fail =
+      sym (and-false-left _ _ (rw (← first-is, ← second-is, ← told) (not-out d tests-fail)))
 
-  pub to-on : (a c : ℕ) (r q : Row) (x y z v : Bool) → r ≡ rowOf b a → q ≡ rowOf b c
-      → x ≡ atomic r → y ≡ barrier q → z ≡ together p r q → not (x and y and z) ≡ false
+  pub to-on : (a c : ℕ) (r q : Row) (d v : Bool) → r ≡ rowOf b a → q ≡ rowOf b c → d ≡ (atomic r and barrier q and together p r q) → not d ≡ false
       → v ≡ anyBelow n (carriesIn (decode b p mode n) a c) → v ≡ syncToBarrier (decode b p mode n) a c
   unfolding syncToBarrier decode
-  to-on a c r q x y z v first-is second-is atomic-is barrier-is together-is tests-pass told =
-      told ∙ sym (and-on _ _ (rw (← first-is, ← second-is, ← atomic-is, ← barrier-is, ← together-is) (not-false (x and y and z) tests-pass)))
+  to-on a c r q d v first-is second-is told tests-pass rest =
+      rest ∙ sym (and-on _ _ (rw (← first-is, ← second-is, ← told) (not-false d tests-pass)))
 
-  pub over-off : (a c : ℕ) (r q : Row) (x y z : Bool) → r ≡ rowOf b a → q ≡ rowOf b c
-      → x ≡ barrier r → y ≡ barrier q → z ≡ together p r q → not (not (eqb a c) and x and y and z) ≡ true
+  pub over-off : (a c : ℕ) (r q : Row) (d : Bool) → r ≡ rowOf b a → q ≡ rowOf b c → d ≡ (not (eqb a c) and barrier r and barrier q and together p r q) → not d ≡ true
       → false ≡ syncBarriers (decode b p mode n) a c
   unfolding syncBarriers decode
-  over-off a c r q x y z first-is second-is first-barrier second-barrier together-is tests-fail =
-      sym (and-false-left _ _ (rw (← first-is, ← second-is, ← first-barrier, ← second-barrier, ← together-is)
-      (not-out (not (eqb a c) and x and y and z) tests-fail)))
+  over-off a c r q d first-is second-is told tests-fail =
+      sym (and-false-left _ _ (rw (← first-is, ← second-is, ← told) (not-out d tests-fail)))
 
-  pub over-on : (a c : ℕ) (r q : Row) (x y z v : Bool) → r ≡ rowOf b a → q ≡ rowOf b c
-      → x ≡ barrier r → y ≡ barrier q → z ≡ together p r q → not (not (eqb a c) and x and y and z) ≡ false
+  pub over-on : (a c : ℕ) (r q : Row) (d v : Bool) → r ≡ rowOf b a → q ≡ rowOf b c → d ≡ (not (eqb a c) and barrier r and barrier q and together p r q) → not d ≡ false
       → v ≡ anyBelow n (carriesOver (decode b p mode n) a c) → v ≡ syncBarriers (decode b p mode n) a c
   unfolding syncBarriers decode
-  over-on a c r q x y z v first-is second-is first-barrier second-barrier together-is tests-pass told =
-      told ∙ sym (and-on _ _ (rw (← first-is, ← second-is, ← first-barrier, ← second-barrier, ← together-is)
-      (not-false (not (eqb a c) and x and y and z) tests-pass)))
+  over-on a c r q d v first-is second-is told tests-pass rest =
+      rest ∙ sym (and-on _ _ (rw (← first-is, ← second-is, ← told) (not-false d tests-pass)))
 
-  pub control-off : (a c : ℕ) (r q : Row) (x y z : Bool) → r ≡ rowOf b a → q ≡ rowOf b c
-      → x ≡ barrier r → y ≡ barrier q → z ≡ together p r q → not (not (eqb a c) and x and y and z) ≡ true
+  pub control-off : (a c : ℕ) (r q : Row) (d : Bool) → r ≡ rowOf b a → q ≡ rowOf b c → d ≡ (not (eqb a c) and barrier r and barrier q and together p r q) → not d ≡ true
       → false ≡ syncControl (decode b p mode n) a c
   unfolding syncControl decode
-  control-off a c r q x y z first-is second-is first-barrier second-barrier together-is tests-fail =
-      sym (and-false-left _ _ (rw (← first-is, ← second-is, ← first-barrier, ← second-barrier, ← together-is)
-      (not-out (not (eqb a c) and x and y and z) tests-fail)))
+  control-off a c r q d first-is second-is told tests-fail =
+      sym (and-false-left _ _ (rw (← first-is, ← second-is, ← told) (not-out d tests-fail)))
 
-  pub control-on : (a c : ℕ) (r q : Row) (x y z v : Bool) → r ≡ rowOf b a → q ≡ rowOf b c
-      → x ≡ barrier r → y ≡ barrier q → z ≡ together p r q → not (not (eqb a c) and x and y and z) ≡ false
+  pub control-on : (a c : ℕ) (r q : Row) (d v : Bool) → r ≡ rowOf b a → q ≡ rowOf b c → d ≡ (not (eqb a c) and barrier r and barrier q and together p r q) → not d ≡ false
       → v ≡ anyBelow n (passes (decode b p mode n) a c) → v ≡ syncControl (decode b p mode n) a c
   unfolding syncControl decode
-  control-on a c r q x y z v first-is second-is first-barrier second-barrier together-is tests-pass told =
-      told ∙ sym (and-on _ _ (rw (← first-is, ← second-is, ← first-barrier, ← second-barrier, ← together-is)
-      (not-false (not (eqb a c) and x and y and z) tests-pass)))
+  control-on a c r q d v first-is second-is told tests-pass rest =
+      rest ∙ sym (and-on _ _ (rw (← first-is, ← second-is, ← told) (not-false d tests-pass)))
 
   pub sync-off : (a c : ℕ) (r q : Row) (x y : Bool) → r ≡ rowOf b a → q ≡ rowOf b c → x ≡ releases r → y ≡ acquires q
       → not (x and y) ≡ true → false ≡ synchronizes (decode b p mode n) a c

@@ -20,10 +20,6 @@ use Rattle.model.specs.Row.{inside, lowestShared, isShared}
 abbrev insideNth : ℕ → ℕ → ℕ → ℕ → Bool
 insideNth a b n k = inside b n (a + k)
 
--- q starts before the byte e, and ends after the byte a
-unfoldable pub mayTouch : Row → ℕ → ℕ → Bool
-mayTouch q a e = ltb a (q .start + q .size) and ltb (q .start) e
-
 -- different rows, each of which starts before the other ends
 unfoldable pub mayShare : ℕ → ℕ → Row → Row → Bool
 mayShare x y r q = not (eqb x y) and ltb (r .start) (q .start + q .size) and ltb (q .start) (r .start + r .size)

@@ -1,13 +1,12 @@
 // M5: program order to and from a barrier, of the rows that carry a release to an acquire.
 ghost use mathlib.Core.Path.{_≡_};
-ghost use mathlib.Core.List.{List};
-ghost use Prim.Native.Nat.{ℕ, _<_};
-ghost use Rattle.model.specs.declared.Mode.{Mode};
+ghost use Prim.Native.Nat.{_<_};
 ghost use Rattle.model.specs.Limits.{ROWS};
-ghost use Rattle.model.specs.Table.{decode};
+ghost use Rattle.run.specs.Layout.{tableIn};
 ghost use Rattle.model.specs.Synchronizes.{leads, trails};
 ghost use Rattle.rules.specs.Forms.{leadRows, trailRows};
 use model::Row;
+use run::Run;
 
 // M5: whether row x, which is q, is program-ordered after the barrier a, which is r, its class in a's semantics.
 fn is_leading(a: usize, x: usize, r: Row, q: Row) -> bool
@@ -17,12 +16,12 @@ fn is_leading(a: usize, x: usize, r: Row, q: Row) -> bool
 }
 
 // M5: whether row x of a table is program-ordered after its barrier a, its class in a's semantics.
-pub fn leads_at(rows: &[u8], a: usize, x: usize) -> bool
+pub fn leads_at(t: &Run, n: usize, a: usize, x: usize) -> bool
     requires { ⌜ (a < ROWS) × (x < ROWS) ⌝ }
-    ensures { λ d. ⌜ ((p : List (List ℕ)) (mode : Mode) (n : ℕ) → d ≡ leads (decode (now (rows .entry)) p mode n) a x) ⌝ }
+    ensures { λ d. ⌜ d ≡ leads (tableIn (now (t .entry)) n) a x ⌝ }
 {
-    let r = rows::bytes::read_row(rows, a as u16);
-    let q = rows::bytes::read_row(rows, x as u16);
+    let r = run::row(t, a as u16);
+    let q = run::row(t, x as u16);
     is_leading(a, x, r, q)
 }
 
@@ -34,11 +33,11 @@ fn is_trailing(b: usize, y: usize, r: Row, q: Row) -> bool
 }
 
 // M5: whether row y of a table is program-ordered before its barrier b, its class in b's semantics.
-pub fn trails_at(rows: &[u8], b: usize, y: usize) -> bool
+pub fn trails_at(t: &Run, n: usize, b: usize, y: usize) -> bool
     requires { ⌜ (b < ROWS) × (y < ROWS) ⌝ }
-    ensures { λ d. ⌜ ((p : List (List ℕ)) (mode : Mode) (n : ℕ) → d ≡ trails (decode (now (rows .entry)) p mode n) b y) ⌝ }
+    ensures { λ d. ⌜ d ≡ trails (tableIn (now (t .entry)) n) b y ⌝ }
 {
-    let r = rows::bytes::read_row(rows, b as u16);
-    let q = rows::bytes::read_row(rows, y as u16);
+    let r = run::row(t, b as u16);
+    let q = run::row(t, y as u16);
     is_trailing(b, y, r, q)
 }

@@ -3,10 +3,12 @@ ghost use mathlib.Core.Path.{_≡_};
 ghost use Prim.Native.Nat.{_<_};
 ghost use Rattle.model.specs.Limits.{ROWS};
 ghost use Rattle.model.specs.Happens.{holdingOf, concernsOf};
+ghost use Rattle.run.specs.Layout.{rowsIn};
 ghost use Rattle.rules.specs.Cases.{touches, holdsAt, caseRows};
 use crate::moments;
 use model::Row;
 use rows::pick;
+use run::Run;
 
 // M6: the class sets are the numbers 1 to 15.
 pub const CLASS_SETS: u8 = 15;
@@ -40,11 +42,11 @@ pub fn concerns_of(s: u8, r: Row, k: u8) -> bool
 }
 
 // Whether row i holds all of s.
-pub fn holds_at(rows: &[u8], s: u8, i: usize) -> bool
+pub fn holds_at(t: &Run, s: u8, i: usize) -> bool
     requires { ⌜ i < ROWS ⌝ }
-    ensures { λ b. ⌜ b ≡ holdsAt (now (rows .entry)) s i ⌝ }
+    ensures { λ b. ⌜ b ≡ holdsAt (rowsIn (now (t .entry))) s i ⌝ }
 {
-    rows::kinds::holds(rows::bytes::read_classes(rows, i as u16), s)
+    rows::kinds::holds(run::classes(t, i as u16), s)
 }
 
 // M6: whether the direct case of this number, of the three that go by rows, leads from the moment `from` of r to the moment `to` of q.

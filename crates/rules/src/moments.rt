@@ -1,13 +1,12 @@
 // M1: the moments of a row, and program order between moments. Moment 3 × row + 0, 1 or 2 is the one before, at or after the row.
 ghost use mathlib.Core.Path.{_≡_};
-ghost use mathlib.Core.List.{List};
-ghost use Prim.Native.Nat.{ℕ, _*_, _/_, _%_, _<_};
-ghost use Rattle.model.specs.declared.Mode.{Mode};
+ghost use Prim.Native.Nat.{_*_, _/_, _%_, _<_};
 ghost use Rattle.model.specs.Limits.{ROWS};
-ghost use Rattle.model.specs.Table.{decode};
+ghost use Rattle.run.specs.Layout.{tableIn};
 ghost use Rattle.model.specs.Moment.{availabilityOf, visibilityOf, momentOf, momentIn, classesOf, orderedRows, programOrder};
 use model::Row;
 use rows::pick;
+use run::Run;
 
 pub const BEFORE: u8 = 0;
 
@@ -64,19 +63,19 @@ pub fn is_ordered(n: usize, m: usize, k: usize, r: Row, q: Row) -> bool
 }
 
 // Program order of two moments of a table. Most pairs are told apart by their numbers or agents, and no whole row is read.
-pub fn ordered_at(rows: &[u8], n: usize, m: usize, k: usize) -> bool
+pub fn ordered_at(t: &Run, n: usize, m: usize, k: usize) -> bool
     requires { ⌜ (m < 3 * ROWS) × (k < 3 * ROWS) ⌝ }
-    ensures { λ b. ⌜ ((p : List (List ℕ)) (mode : Mode) → b ≡ programOrder (decode (now (rows .entry)) p mode n) m k) ⌝ }
+    ensures { λ b. ⌜ b ≡ programOrder (tableIn (now (t .entry)) n) m k ⌝ }
 {
     if k <= m {
         return false;
     }
-    let a = rows::bytes::read_agent(rows, (m / 3) as u16);
-    let b = rows::bytes::read_agent(rows, (k / 3) as u16);
+    let a = run::agent(t, (m / 3) as u16);
+    let b = run::agent(t, (k / 3) as u16);
     if !(a == b) {
         return false;
     }
-    let r = rows::bytes::read_row(rows, (m / 3) as u16);
-    let q = rows::bytes::read_row(rows, (k / 3) as u16);
+    let r = run::row(t, (m / 3) as u16);
+    let q = run::row(t, (k / 3) as u16);
     is_ordered(n, m, k, r, q)
 }

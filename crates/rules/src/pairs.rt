@@ -1,14 +1,11 @@
 // Location order (L1 to L3): tests on two rows and a byte.
 ghost use mathlib.Core.Path.{_≡_};
 ghost use mathlib.Core.Bool.{not};
-ghost use Prim.Native.Nat.{_+_, _≤_, _<_};
 ghost use lib.Dec.{eqb};
 ghost use Rattle.finite.specs.Logic.{_and_};
 ghost use Rattle.model.specs.Location.{sameReference, coversOf, pureRead, publicWrite, common};
-ghost use Rattle.model.specs.Table.{rowOf};
-ghost use Rattle.rules.specs.Shared.{mayShare, mayTouch};
+ghost use Rattle.rules.specs.Shared.{mayShare};
 use model::Row;
-use rows::bytes;
 
 pub fn same_reference(r: Row, q: Row) -> bool
     ensures { λ b. ⌜ b ≡ sameReference r q ⌝ }
@@ -84,33 +81,4 @@ pub fn l2(r: Row, q: Row, h: bool) -> bool
     ensures { λ d. ⌜ d ≡ (pureRead r q and h) ⌝ }
 {
     pure_read(r, q) & h
-}
-
-// ---- from a row's bytes
-
-// Places of a row's size and start.
-const SIZE: usize = 7;
-
-const START: usize = 8;
-
-// A byte as a number that sums of bytes fit into.
-fn wide(x: u8) -> u32
-    ensures { λ r. ⌜ (r ≡ x) × (r ≤ 255) ⌝ }
-{
-    x as u32
-}
-
-// Whether row y may have a byte from `start` to before `end`: it starts before that end, and ends after that start. Most pairs of rows
-// share no byte, and three bytes of a row tell it; they are read at once where the row is all there.
-// Ruled out: one that holds of a row that ends where those bytes start; one that reads another row.
-pub fn may_touch(rows: &[u8], y: u16, start: u32, end: u32) -> bool
-    ensures { λ b. ⌜ b ≡ mayTouch (rowOf (now (rows .entry)) y) start end ⌝ }
-{
-    let at = (y as usize) * bytes::ROW_BYTES;
-    if rows.len() < at + bytes::ROW_BYTES {
-        let q = bytes::read_row(rows, y);
-        return (start < (q.start as u32) + (q.size as u32)) & ((q.start as u32) < end);
-    }
-    let other = wide(rows[at + START]) * 256 + wide(rows[at + START + 1]);
-    (start < other + wide(rows[at + SIZE])) & (other < end)
 }

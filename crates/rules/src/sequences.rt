@@ -2,22 +2,24 @@
 ghost use mathlib.Core.Path.{_≡_};
 ghost use Prim.Native.Nat.{_<_};
 ghost use Rattle.model.specs.Limits.{ROWS};
-ghost use Rattle.model.specs.Table.{decode};
+ghost use Rattle.run.specs.Layout.{tableIn};
 ghost use Rattle.model.specs.Scope.{mutually};
 ghost use Rattle.model.specs.Synchronizes.{continues};
 ghost use Rattle.rules.specs.Forms.{endRows};
-use model::Mode;
-use model::Places;
 use model::Row;
+use run::Run;
 
-// M3: whether rows i and j are mutually-ordered.
-pub fn mutual_at(rows: &[u8], p: Places, mode: Mode, n: usize, i: usize, j: usize) -> bool
+// M3: whether rows i and j are mutually-ordered. Places are read for two rows of one location only.
+pub fn mutual_at(t: &Run, n: usize, i: usize, j: usize) -> bool
     requires { ⌜ (i < ROWS) × (j < ROWS) ⌝ }
-    ensures { λ b. ⌜ b ≡ mutually (decode (now (rows .entry)) p mode n) i j ⌝ }
+    ensures { λ b. ⌜ b ≡ mutually (tableIn (now (t .entry)) n) i j ⌝ }
 {
-    let r = rows::bytes::read_row(rows, i as u16);
-    let q = rows::bytes::read_row(rows, j as u16);
-    !(i == j) & rows::scopes::is_mutual(p, r, q)
+    let r = run::row(t, i as u16);
+    let q = run::row(t, j as u16);
+    if !(!(i == j) & rows::scopes::same_location(r, q)) {
+        return false;
+    }
+    rows::scopes::is_mutual(run::places(t), r, q)
 }
 
 // M4: whether r, after the head, continues a sequence. Nothing else says what does.

@@ -1,11 +1,12 @@
 // A table as bytes with fixed places, made once and lent everywhere.
 ghost use mathlib.Core.Path.{_≡_};
 ghost use lib.ListN.{drop};
-ghost use Rattle.model.specs.Table.{rowOf};
+ghost use Rattle.model.specs.Table.{rowOf, atomicSource};
 ghost use Rattle.run.specs.Layout.{placesIn, modeIn, rowsIn};
 use model::Mode;
 use model::Places;
 use model::Row;
+use model::Source;
 use rows::bytes;
 use rows::scopes;
 
@@ -82,6 +83,12 @@ pub fn counted(t: &Run) -> bool
     bytes::byte_at(t, 1) != 0
 }
 
+pub fn chains(t: &Run) -> bool
+    ensures { λ r. ⌜ r ≡ modeIn (now (t .entry)) .chains ⌝ }
+{
+    bytes::byte_at(t, 2) != 0
+}
+
 pub fn row(t: &Run, i: u16) -> Row
     ensures { λ r. ⌜ r ≡ rowOf (rowsIn (now (t .entry))) i ⌝ }
 {
@@ -92,4 +99,35 @@ pub fn start(t: &Run, i: u16) -> u16
     ensures { λ r. ⌜ r ≡ rowOf (rowsIn (now (t .entry))) i .start ⌝ }
 {
     bytes::read_start(rows_of(t), i)
+}
+
+pub fn kind(t: &Run, i: u16) -> u8
+    ensures { λ r. ⌜ r ≡ rowOf (rowsIn (now (t .entry))) i .kind ⌝ }
+{
+    bytes::read_kind(rows_of(t), i)
+}
+
+pub fn agent(t: &Run, i: u16) -> u8
+    ensures { λ r. ⌜ r ≡ rowOf (rowsIn (now (t .entry))) i .agent ⌝ }
+{
+    bytes::read_agent(rows_of(t), i)
+}
+
+pub fn classes(t: &Run, i: u16) -> u8
+    ensures { λ r. ⌜ r ≡ rowOf (rowsIn (now (t .entry))) i .classes ⌝ }
+{
+    bytes::read_classes(rows_of(t), i)
+}
+
+pub fn flags(t: &Run, i: u16) -> u8
+    ensures { λ r. ⌜ r ≡ rowOf (rowsIn (now (t .entry))) i .flags ⌝ }
+{
+    bytes::row_byte(rows_of(t), i, 5)
+}
+
+// An atomic row's source; the initial value for every other row.
+pub fn atomic_source(t: &Run, i: u16) -> Source
+    ensures { λ r. ⌜ r .0 ≡ atomicSource (rowsIn (now (t .entry))) i ⌝ }
+{
+    bytes::atomic_source(rows_of(t), i)
 }

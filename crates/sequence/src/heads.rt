@@ -5,64 +5,55 @@ ghost use lib.ListN.{length};
 ghost use Rattle.finite.specs.Below.{anyBelow};
 ghost use Rattle.bits.specs.Stage.{Holds, Made};
 ghost use Rattle.model.specs.Limits.{ROWS, WORK};
-ghost use Rattle.model.specs.Table.{decode};
+ghost use Rattle.run.specs.Layout.{tableIn};
 ghost use Rattle.model.specs.Scope.{mutually, follows};
 ghost use Rattle.model.specs.Synchronizes.{ends, sequence};
 ghost use Rattle.area.specs.Regions.{MUTUAL, MUTUAL-END, SEQUENCE, SEQUENCE-END, GRID};
-use model::Mode;
-use model::Places;
 use rules::sequences;
+use run::Run;
 
 // ---- M3
 
 // M3 for every two rows.
-pub fn fill_mutual(rows: &[u8], p: Places, mode: Mode, n: usize, w: &mut [u64])
+pub fn fill_mutual(t: &Run, n: usize, w: &mut [u64])
     requires { ⌜ (n ≤ ROWS) × (WORK ≤ length (now w)) ⌝ }
-    ensures { λ _. ⌜ Made MUTUAL MUTUAL-END MUTUAL GRID n (mutually (decode (now (rows .entry)) p mode n)) (now (w .entry)) (now (w .exit)) ⌝ }
+    ensures { λ _. ⌜ Made MUTUAL MUTUAL-END MUTUAL GRID n (mutually (tableIn (now (t .entry)) n)) (now (w .entry)) (now (w .exit)) ⌝ }
 {
     bits::clear(w, area::MUTUAL, area::MUTUAL_END);
     for i in 0..n {
         for j in 0..n {
-            let b = sequences::mutual_at(rows, p, mode, n, i, j);
+            let b = sequences::mutual_at(t, n, i, j);
             area::grid::put_if(w, area::MUTUAL, i, j, b);
         }
     }
 }
 
 // M3: whether row j follows row i in their scoped modification order.
-pub fn follows_at(
-    rows: &[u8],
-    p: Places,
-    mode: Mode,
-    n: usize,
-    i: usize,
-    j: usize,
-    w: &[u64],
-) -> bool
+pub fn follows_at(t: &Run, n: usize, i: usize, j: usize, w: &[u64]) -> bool
     requires { ⌜ (n ≤ ROWS) × (i < n) × (j < n) × (WORK ≤ length (now w))
-        × Holds MUTUAL GRID n (mutually (decode (now rows) p mode n)) (now w) ⌝ }
-    ensures { λ b. ⌜ b ≡ follows (decode (now (rows .entry)) p mode n) i j ⌝ }
+        × Holds MUTUAL GRID n (mutually (tableIn (now t) n)) (now w) ⌝ }
+    ensures { λ b. ⌜ b ≡ follows (tableIn (now (t .entry)) n) i j ⌝ }
 {
-    let r = rows::bytes::read_row(rows, i as u16);
-    let q = rows::bytes::read_row(rows, j as u16);
+    let r = run::row(t, i as u16);
+    let q = run::row(t, j as u16);
     let b = area::grid::get(w, area::MUTUAL, i, j);
-    b & rows::scopes::is_later_writer(mode.counted, q, r)
+    b & rows::scopes::is_later_writer(run::counted(t), q, r)
 }
 
 // ---- M4
 
 // M4: whether some row ends the sequence of the head a no later than row x.
-pub fn is_ended(rows: &[u8], p: Places, mode: Mode, n: usize, a: usize, x: usize, w: &[u64]) -> bool
+pub fn is_ended(t: &Run, n: usize, a: usize, x: usize, w: &[u64]) -> bool
     requires { ⌜ (n ≤ ROWS) × (a < n) × (x < n) × (WORK ≤ length (now w))
-        × Holds MUTUAL GRID n (mutually (decode (now rows) p mode n)) (now w) ⌝ }
-    ensures { λ b. ⌜ b ≡ anyBelow n (ends (decode (now (rows .entry)) p mode n) a x) ⌝ }
+        × Holds MUTUAL GRID n (mutually (tableIn (now t) n)) (now w) ⌝ }
+    ensures { λ b. ⌜ b ≡ anyBelow n (ends (tableIn (now (t .entry)) n) a x) ⌝ }
 {
-    let h = rows::bytes::read_row(rows, a as u16);
-    let r = rows::bytes::read_row(rows, x as u16);
+    let h = run::row(t, a as u16);
+    let r = run::row(t, x as u16);
     for z in 0..n {
         let b = area::grid::get(w, area::MUTUAL, a, z);
-        let q = rows::bytes::read_row(rows, z as u16);
-        if sequences::is_end(mode.counted, b, h, r, q) {
+        let q = run::row(t, z as u16);
+        if sequences::is_end(run::counted(t), b, h, r, q) {
             return true;
         }
     }
@@ -70,35 +61,27 @@ pub fn is_ended(rows: &[u8], p: Places, mode: Mode, n: usize, a: usize, x: usize
 }
 
 // M4: whether row x is in the release sequence that row a heads. Only a row that follows a is held against the others.
-pub fn sequence_at(
-    rows: &[u8],
-    p: Places,
-    mode: Mode,
-    n: usize,
-    a: usize,
-    x: usize,
-    w: &[u64],
-) -> bool
+pub fn sequence_at(t: &Run, n: usize, a: usize, x: usize, w: &[u64]) -> bool
     requires { ⌜ (n ≤ ROWS) × (a < n) × (x < n) × (WORK ≤ length (now w))
-        × Holds MUTUAL GRID n (mutually (decode (now rows) p mode n)) (now w) ⌝ }
-    ensures { λ b. ⌜ b ≡ sequence (decode (now (rows .entry)) p mode n) a x ⌝ }
+        × Holds MUTUAL GRID n (mutually (tableIn (now t) n)) (now w) ⌝ }
+    ensures { λ b. ⌜ b ≡ sequence (tableIn (now (t .entry)) n) a x ⌝ }
 {
-    if !follows_at(rows, p, mode, n, a, x, w) {
+    if !follows_at(t, n, a, x, w) {
         return a == x;
     }
-    (a == x) | !is_ended(rows, p, mode, n, a, x, w)
+    (a == x) | !is_ended(t, n, a, x, w)
 }
 
 // M4 for every two rows.
-pub fn fill_sequence(rows: &[u8], p: Places, mode: Mode, n: usize, w: &mut [u64])
-    requires { ⌜ (n ≤ ROWS) × (WORK ≤ length (now w)) × Holds MUTUAL GRID n (mutually (decode (now rows) p mode n)) (now w) ⌝ }
+pub fn fill_sequence(t: &Run, n: usize, w: &mut [u64])
+    requires { ⌜ (n ≤ ROWS) × (WORK ≤ length (now w)) × Holds MUTUAL GRID n (mutually (tableIn (now t) n)) (now w) ⌝ }
     ensures { λ _. ⌜ Made SEQUENCE SEQUENCE-END SEQUENCE GRID n
-        (sequence (decode (now (rows .entry)) p mode n)) (now (w .entry)) (now (w .exit)) ⌝ }
+        (sequence (tableIn (now (t .entry)) n)) (now (w .entry)) (now (w .exit)) ⌝ }
 {
     bits::clear(w, area::SEQUENCE, area::SEQUENCE_END);
     for a in 0..n {
         for x in 0..n {
-            let b = sequence_at(rows, p, mode, n, a, x, w);
+            let b = sequence_at(t, n, a, x, w);
             area::grid::put_if(w, area::SEQUENCE, a, x, b);
         }
     }

@@ -1,5 +1,3 @@
-pub mod Held
 pub mod Lowest
 pub mod Meet
-pub mod Own
 pub mod Walk

@@ -40,13 +40,6 @@ pub record Next (w : List ℕ) (a b j n r : ℕ) : Type 0 where
   pub hit : r < n → either w a b r ≡ true
   pub miss : (m : ℕ) → j ≤ m → m < r → either w a b m ≡ false
 
--- the same of one row, or i if that comes first
-pub record NextOr (w : List ℕ) (a i j n r : ℕ) : Type 0 where
-  pub low : j ≤ r
-  pub high : r ≤ n
-  pub hit : r < n → (r ≡ i → ⊥) → either w a a r ≡ true
-  pub miss : (m : ℕ) → j ≤ m → m < r → (either w a a m ≡ false) × (m ≡ i → ⊥)
-
 -- ---- laws: a word
 
 bitOf-shift : (x j m : ℕ) → bitOf (x / 2 ^ j) m ≡ bitOf x (j + m)
@@ -135,21 +128,6 @@ module _ (w : List ℕ) (a b : ℕ) where
 
 -- ---- laws: one row, and a number beside it
 
-module _ (w : List ℕ) (a i j n k : ℕ) (s : Next w a a j n k) where
-  -- it is gone by, or not reached yet
-  pub or-next : (i < j ⊎ k ≤ i) → NextOr w a i j n k
-  or-next o = record {
-    low = s .low;
-    high = s .high;
-    hit = λ l d. s .hit l;
-    miss = λ m p q. (s .miss m p q, λ e. ⊎-elim (λ l. omega arith) (λ l. omega arith) o);
-  }
-
-  pub or-here : j ≤ i → i < k → NextOr w a i j n i
-  or-here l h =
-      let o = s .high in
-      record { low = l; high = omega arith; hit = λ q d. absurd (d refl); miss = λ m p q. (s .miss m p (omega arith), λ e. omega arith) }
-
 -- ---- laws: what is passed over
 
 twice : (x : Bool) → (x or x) ≡ x
@@ -161,33 +139,3 @@ twice false = refl
 pub once : (w : List ℕ) (a m : ℕ) {b : Bool} → either w a a m ≡ b → bit w (a * 64 + m) ≡ b
 unfolding either
 once w a m e = sym (twice (bit w (a * 64 + m))) ∙ e
-
--- what the relation that a grid holds says of it
-pub walked : {a n : ℕ} {r : ℕ → ℕ → Bool} {w : List ℕ} {v : Bool} → Holds a GRID n r w → (i j : ℕ) → i < n → j < n
-    → either w (a + i * GRID) (a + i * GRID) j ≡ v
-    → r i j ≡ v
-unfolding rel
-walked {a} {n} {r} {w} h i j p q e = sym (h .cell i j p q) ∙ once w (a + i * GRID) j e
-
--- "some" of numbers that don't pass
-pub any-pass : (p : ℕ → Bool) (j k : ℕ) → j ≤ k → ((m : ℕ) → j ≤ m → m < k → p m ≡ false) → anyBelow k p ≡ anyBelow j p
-unfolding anyBelow
-any-pass p j zero l h = let e : j ≡ 0 = omega arith in rw e refl
-any-pass p j (suc k) l h = go (ℕ-discrete j (suc k)) (λ d. any-pass p j k d (λ m a b. h m a (omega arith)))
-  where
-    go : Dec (j ≡ suc k) → (j ≤ k → anyBelow k p ≡ anyBelow j p) → (anyBelow k p or p k) ≡ anyBelow j p
-    go (yes e) ih = rw e refl
-    go (no e) ih = or-off _ _ (h k (omega arith) (omega arith)) ∙ ih (omega arith)
-
-fill-same : (p : ℕ → Bool) (w : List ℕ) (at j k : ℕ) → j ≤ k → ((m : ℕ) → j ≤ m → m < k → p m ≡ false) → rowFill p w at k ≡ rowFill p w at j
-unfolding rowFill setBitIf
-fill-same p w at j zero l h = let e : j ≡ 0 = omega arith in rw e refl
-fill-same p w at j (suc k) l h = go (ℕ-discrete j (suc k)) (λ d. fill-same p w at j k d (λ m a b. h m a (omega arith)))
-  where
-    go : Dec (j ≡ suc k) → (j ≤ k → rowFill p w at k ≡ rowFill p w at j) → setBitIf (p k) (rowFill p w at k) (at + k) ≡ rowFill p w at j
-    go (yes e) ih = rw e refl
-    go (no e) ih = rw (h k (omega arith) (omega arith)) (ih (omega arith))
-
--- a row of bits that is filled from a test
-pub fill-pass : (p : ℕ → Bool) (w u : List ℕ) (at j k : ℕ) → j ≤ k → ((m : ℕ) → j ≤ m → m < k → p m ≡ false) → u ≡ rowFill p w at j → u ≡ rowFill p w at k
-fill-pass p w u at j k l h e = e ∙ sym (fill-same p w at j k l h)

@@ -4,7 +4,7 @@ ghost use Prim.Native.Nat.{_+_, _≤_, _<_, min};
 ghost use lib.ListN.{length};
 ghost use Rattle.model.specs.Limits.{ROWS};
 ghost use Rattle.area.specs.Regions.{GRID};
-ghost use Rattle.sets.specs.Walk.{FromBit, Next, NextOr};
+ghost use Rattle.sets.specs.Walk.{FromBit, Next};
 
 // The bits of a word.
 const WORD: usize = 64;
@@ -45,19 +45,4 @@ pub fn next(w: &[u64], a: usize, b: usize, j: usize, n: usize) -> usize
         return at_most(k, n);
     }
     at_most(WORD + from_bit(w[a + 1] | w[b + 1], 0), n)
-}
-
-// The same of one row, which stops at i too.
-pub fn next_or(w: &[u64], a: usize, i: usize, j: usize, n: usize) -> usize
-    requires { ⌜ (n ≤ ROWS) × (j ≤ n) × (a + GRID ≤ length (now w)) ⌝ }
-    ensures { λ r. ⌜ NextOr (now (w .entry)) a i j n r ⌝ }
-{
-    let k = next(w, a, a, j, n);
-    if i < j {
-        return k;
-    }
-    if k <= i {
-        return k;
-    }
-    i
 }

@@ -18,8 +18,8 @@ use Rattle.finite.specs.Cycle.{cycle-canonical}
 use Rattle.bits.specs.Matrix.{rel}
 use Rattle.bits.specs.Within.{Within, within-trans, within-widen}
 use Rattle.bits.specs.Stage.{Holds, Made, holds-kept}
-use Rattle.area.specs.Regions.{MUTUAL, LOCATION-END, LOCATED-END, EDGE, EDGE-END, GRID, LAYERS, LAYERS-END, OVERLAP, OVERLAP-END, CELLS}
-use Rattle.area.specs.State.{Located, MadeOrdered, MadePlaced, MadeLocated, overlaps, placed-located, located-kept}
+use Rattle.area.specs.Regions.{MUTUAL, LOCATION-END, LOCATED-END, EDGE, EDGE-END, GRID, LAYERS, LAYERS-END}
+use Rattle.area.specs.State.{Placed, MadeOrdered, MadePlaced, placed-kept}
 use Rattle.cycle.specs.Shown.{held-start}
 use Rattle.race.specs.Bytes.{Ready}
 use Rattle.race.specs.declared.Found.{Found}
@@ -128,16 +128,13 @@ cyclic-answered v l m size e s = rw (e, s) refl
 
 -- ---- laws: the stages
 
-pub located-made : {t : Table} {n : ℕ} {w v u : List ℕ} → Within MUTUAL LOCATED-END w v → MadeLocated t n v u → Located t n u × Within MUTUAL LOCATED-END w u
-located-made f l = (l .located, within-trans f (within-widen MUTUAL LOCATED-END (omega arith) (omega arith) (l .frame)))
-
-pub located-by-flags : {t : Table} {n : ℕ} {w v u z : List ℕ} → MadeOrdered t n w v → MadePlaced t n v u
-    → Made CELLS OVERLAP-END OVERLAP GRID n (overlaps t) u z → Located t n z × Within MUTUAL LOCATED-END w z
-located-by-flags o l m = located-made (within-widen MUTUAL LOCATED-END (omega arith) (omega arith) (o .frame)) (placed-located l m)
+pub placed-made : {t : Table} {n : ℕ} {w v u : List ℕ} → MadeOrdered t n w v → MadePlaced t n v u → Placed t n u × Within MUTUAL LOCATED-END w u
+placed-made o l =
+    (l .placed, within-trans (within-widen MUTUAL LOCATED-END (omega arith) (omega arith) (o .frame)) (within-widen MUTUAL LOCATED-END (omega arith) (omega arith) (l .frame)))
 
 -- what edges are read from is kept by every later stage
-pub known-kept : {t : Table} {n c d : ℕ} {w u : List ℕ} → LOCATION-END ≤ c → d ≤ OVERLAP → Ready t n w → Within c d w u → Ready t n u
-known-kept l m k f = let e = f .len in let g = k .1 in (k .0, omega arith, k .2, located-kept l m f (k .3))
+pub known-kept : {t : Table} {n c d : ℕ} {w u : List ℕ} → LOCATION-END ≤ c → Ready t n w → Within c d w u → Ready t n u
+known-kept l k f = let e = f .len in let g = k .1 in (k .0, omega arith, k .2, placed-kept l f (k .3))
 
 -- edges made, then the search for a cycle, which leaves them
 pub edges-held : {n : ℕ} {r : ℕ → ℕ → Bool} {w v u : List ℕ} → Made EDGE EDGE-END EDGE GRID n r w v → Within LAYERS LAYERS-END v u
@@ -168,7 +165,7 @@ module _ (t : Table) (source : ℕ → ℕ) (n x : ℕ) (w v u : List ℕ) (all 
   row = start-found t source n x w v all made start
 
   pub show-asked : Ready t n w → x < n → (x < n) × Ready t n u × Holds EDGE GRID n (edge t source) u × (x ≡ cycleRow t source)
-  show-asked k l = (l, known-kept (omega arith) (omega arith) k (edges-held made frame .1), edges-held made frame .0, row)
+  show-asked k l = (l, known-kept (omega arith) k (edges-held made frame .1), edges-held made frame .0, row)
 
   pub judge-cyclic : (size : ℕ) (z c d : List ℕ) → x < n → size ≡ length (cycleRows t source)
       → d ≡ cycleAfter (cyclic (cycleRows t source) (cycleEdges t source)) c → Within LAYERS LAYERS-END u z

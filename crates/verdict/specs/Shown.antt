@@ -22,7 +22,7 @@ use Rattle.bits.specs.Matrix.{rel}
 use Rattle.bits.specs.Within.{Within, within-widen}
 use Rattle.bits.specs.Stage.{Holds, holds-kept}
 use Rattle.area.specs.Regions.{EDGE, GRID, LAYERS, LAYERS-END}
-use Rattle.walks.specs.Layers.{inLayer, Layers}
+use Rattle.walks.specs.Layers.{LayersTo, Returns}
 use Rattle.cycle.specs.Shown.{layer-size, shown-below, held-walk, held-length, held-written}
 
 -- ---- definitions
@@ -174,8 +174,7 @@ shown-buffer rows edges c d e f room few same cleared written numbered =
 
 -- w is the area before the layers are made, u after; n rows, the cycle's lowest row is x, and it is in layer j + 1 again
 module _ (t : Table) (source : ℕ → ℕ) (n x j : ℕ) (w u : List ℕ) (all : n ≡ t .rows) (few : n ≤ ROWS) (holds : Holds EDGE GRID n (edge t source) w)
-    (filled : Layers EDGE LAYERS GRID n x u × Within LAYERS (LAYERS + n * GRID + GRID) w u) (row-is : x ≡ cycleRow t source) (below-x : x < n)
-    (layer-is : j ≡ least n (inLayer u LAYERS GRID x)) where
+    (filled : Returns EDGE LAYERS GRID n x j u × Within LAYERS (LAYERS + n * GRID + GRID) w u) (row-is : x ≡ cycleRow t source) (below-x : x < n) where
   held : Holds EDGE GRID n (edge t source) u
   held = holds-kept (λ l. absurd (omega arith)) (filled .1) holds
 
@@ -184,10 +183,13 @@ module _ (t : Table) (source : ℕ → ℕ) (n x j : ℕ) (w u : List ℕ) (all 
   start = rw all row-is
 
   sized : j + 1 ≡ cycleSize n (rel u EDGE GRID) x
-  sized = layer-size (filled .0) below-x layer-is
+  sized = layer-size (filled .0)
 
   pub size-asked : (j + 1 ≤ n) × (walk n (rel u EDGE GRID) x (j + 1) x ≡ true)
   size-asked = held-walk held start below-x sized
+
+  pub layers-asked : LayersTo EDGE LAYERS GRID n x (j + 1) u
+  layers-asked = filled .0 .made (let k = size-asked .0 in omega arith)
 
   rows-are : cycle n (edge t source) ≡ cycleRows t source
   unfolding cycleRows

@@ -1,54 +1,43 @@
 -- What the calls of a check come to, from the rows of an admitted table and from the bytes of two pieces. Assumes nothing.
-use mathlib.Core.Path.{_≡_, refl, sym, ap, ap₂, _∙_}
+use mathlib.Core.Path.{_≡_, refl, sym, ap, ap₂, subst, subst₂, _∙_}
+use mathlib.Core.Logic.{_⊎_}
 use mathlib.Core.Bool.{Bool, true, false, cond}
 use mathlib.Core.List.{List}
-use Prim.Native.Nat.{ℕ, _≤_}
+use Prim.Native.Nat.{ℕ, _≤_, _<_}
 use native.Mathlib.Omega.{arith}
 use lib.ListN.{length}
 use lib.Dec.{ltb}
 use Rattle.bits.specs.Bit.{zeros}
-use Rattle.bits.specs.Within.{Within, within-trans, within-widen, zeros-within}
+use Rattle.bits.specs.Within.{Within, within-widen, zeros-within}
 use Rattle.model.specs.declared.Mode.{Mode}
 use Rattle.model.specs.declared.Admission.{Admission}
 use Rattle.model.specs.declared.Admission.the-variants.{Admitted, Refused}
 use Rattle.model.specs.declared.CheckAnswer.{CheckAnswer}
 use Rattle.model.specs.declared.CheckAnswer.the-variants
-use Rattle.model.specs.Limits.{WORK, CYCLE}
+use Rattle.model.specs.Limits.{WORK, CYCLE, INITIAL}
 use Rattle.model.specs.Table.{Table, sourceOf, decode}
 use Rattle.model.specs.Race.{raceRow, racePartner, raceByte}
 use Rattle.model.specs.Edge.{cycleRow, cycleRows, cycleEdges, overReader, overWriter, overByte}
 use Rattle.model.specs.Check.{Verdict, refused, cyclic, overwritten, race, raceFree, raceOr, overwrittenOr, cyclicOr, verdict, check, checkAnswer, cycleAfter}
 use Rattle.model.specs.Check.{workAfter, wiped}
 use Rattle.laws.specs.SourceLaws.{verdict-same}
-use Rattle.area.specs.Regions.{MUTUAL, LOCATED-END, EDGE, LAYERS-END}
-use Rattle.area.specs.State.{Located}
-use Rattle.race.specs.Bytes.{Ready, Bounded}
+use Rattle.area.specs.Regions.{MUTUAL, LOCATED-END}
+use Rattle.placing.specs.Judge.{Sourced}
+use Rattle.placing.specs.Admitted.{sourced-of}
 use Rattle.axioms.specs.Sources.{sourceIn}
 use Rattle.choice.specs.Sources.{Listed}
 use Rattle.model.specs.declared.Refusal.{Refusal}
 use Rattle.model.specs.Refusal.{refusalOf}
 use Rattle.pieces.specs.Pieces.{checkBoth}
-use Rattle.pieces.specs.Entry.{RowsOf, doorBoth, few, row-ends, row-sizes, Left, left-same, zeros-wiped, when-refused, when-admitted}
+use Rattle.pieces.specs.Entry.{doorBoth, door-admits, sound-both, Left, left-same, zeros-wiped, when-refused, when-admitted}
 use Rattle.run.specs.Layout.{rowsIn, tableIn}
 use Rattle.door.specs.Opened.{Entered}
 use Rattle.pieces.specs.Answers.{check-both}
+use Rattle.verdict.specs.Engine.{Judges}
 
--- stages that stay inside the area's own part, and the part cleared after them
-pub wiped-after : (w v u z : List ℕ) → WORK ≤ length w → Within MUTUAL LOCATED-END w v → Within EDGE LAYERS-END v u → z ≡ zeros u 0 WORK → z ≡ wiped w
-wiped-after w v u z room a b e =
-    e ∙ zeros-within 0 WORK w u (omega arith)
-    (within-trans (within-widen 0 WORK (omega arith) (omega arith) a) (within-widen 0 WORK (omega arith) (omega arith) b)) ∙ zeros-wiped w room
-
--- ---- the rows of an admitted table
-
-module _ {blanks : Bool} {b : List ℕ} {p : List (List ℕ)} {mode : Mode} {n : ℕ} (h : RowsOf blanks b p mode n) where
-  pub bounded : Bounded (decode b p mode n)
-  unfolding decode
-  bounded i l a = row-ends h i l a
-
-  pub known : {w v : List ℕ} → WORK ≤ length w → Within MUTUAL LOCATED-END w v → Located (decode b p mode n) n v → Ready (decode b p mode n) n v
-  unfolding decode
-  known {w} {v} room f l = let e = f .len in (few h, omega arith, row-sizes h, l)
+-- a verdict that stays inside the area's own part, and the part cleared after it
+pub wiped-after : (w u z : List ℕ) → WORK ≤ length w → Within MUTUAL LOCATED-END w u → z ≡ zeros u 0 WORK → z ≡ wiped w
+wiped-after w u z room f e = e ∙ zeros-within 0 WORK w u (omega arith) (within-widen 0 WORK (omega arith) (omega arith) f) ∙ zeros-wiped w room
 
 -- the verdict over a list of the sources
 verdict-is : (b : List ℕ) (p : List (List ℕ)) (mode : Mode) (n : ℕ) (src : List ℕ) → Listed (sourceOf b) n src
@@ -57,14 +46,18 @@ unfolding decode
 verdict-is b p mode n src l = verdict-same (decode b p mode n) (sourceIn src) (sourceOf b) (λ i m. l .each i m)
 
 -- the calls of a verdict, one after the other
-pub judged : (b : List ℕ) (p : List (List ℕ)) (mode : Mode) (n : ℕ) (src w v u z c d : List ℕ) (r : CheckAnswer)
-    → Listed (sourceOf b) n src → WORK ≤ length w → Within MUTUAL LOCATED-END w v
-    → (r ≡ checkAnswer (verdict (decode b p mode n) (sourceIn src))) × (d ≡ cycleAfter (verdict (decode b p mode n) (sourceIn src)) c)
-    × Within EDGE LAYERS-END v u → z ≡ zeros u 0 WORK
+pub judged : (b : List ℕ) (p : List (List ℕ)) (mode : Mode) (n : ℕ) {src w u z c d : List ℕ} {r : CheckAnswer} → Listed (sourceOf b) n src → WORK ≤ length w
+    → Judges (decode b p mode n) (sourceIn src) r w u c d → z ≡ zeros u 0 WORK
     → (r ≡ checkAnswer (verdict (decode b p mode n) (sourceOf b))) × (z ≡ wiped w) × (d ≡ cycleAfter (verdict (decode b p mode n) (sourceOf b)) c)
-judged b p mode n src w v u z c d r listed room located told cleared =
+judged b p mode n {src} {w} {u} {z} {c} listed room told cleared =
     let q = verdict-is b p mode n src listed in
-    (told .0 ∙ ap checkAnswer q, wiped-after w v u z room located (told .2) cleared, told .1 ∙ ap (λ (y : Verdict). cycleAfter y c) q)
+    (told .answer ∙ ap checkAnswer q, wiped-after w u z room (told .frame) cleared, told .buffer ∙ ap (λ (y : Verdict). cycleAfter y c) q)
+
+-- sources in a list that are those of a table that passes
+pub sourced-in : (b : List ℕ) (p : List (List ℕ)) (mode : Mode) (n : ℕ) {src : List ℕ} → Listed (sourceOf b) n src → Sourced (decode b p mode n) (sourceOf b)
+    → Sourced (decode b p mode n) (sourceIn src)
+unfolding decode
+sourced-in b p mode n l s y m r = subst (λ (z : ℕ). (z < n) ⊎ (z ≡ INITIAL)) (sym (l .each y m)) (s y m r)
 
 -- ---- the entry point
 
@@ -95,6 +88,13 @@ Checked chains s r w x c d = Said (check chains s (length w) (length c)) r w x c
 -- the same of a table in two pieces, f and s
 abbrev pub CheckedBoth : Bool → List ℕ → List ℕ → CheckAnswer → List ℕ → List ℕ → List ℕ → List ℕ → Type 0
 CheckedBoth chains f s r w x c d = Said (checkBoth chains f s (length w) (length c)) r w x c d
+
+-- a check admits no source that is neither a row nor the initial value
+pub sourced : {needs work buffer g n : ℕ} {chains : Bool} {f s t : List ℕ} {a : Admission} → a ≡ doorBoth needs false f s work buffer → a ≡ Admitted g n
+    → Entered needs false chains f s work buffer t n → Sourced (tableIn t n) (sourceOf (rowsIn t))
+sourced {needs} {work} {buffer} {chains = chains} {f} {s} {a = a} e h opened =
+    let k = door-admits needs false f s work buffer a e h in
+    subst₂ (λ (t : Table) (z : ℕ → ℕ). Sourced t z) (sym (opened .table)) (sym (opened .sources)) (sourced-of (sound-both false f s a (k .2) h) chains)
 
 module _ (chains : Bool) (f s w c : List ℕ) (a : Admission) (e : a ≡ doorBoth CYCLE false f s (length w) (length c)) where
   abbrev told : Verdict

@@ -8,20 +8,44 @@ ghost use Rattle.model.specs.Table.{sourceOf};
 ghost use Rattle.model.specs.Check.{verdict, checkAnswer, cycleAfter, wiped};
 ghost use Rattle.run.specs.Layout.{rowsIn, tableIn};
 ghost use Rattle.door.specs.Opened.{RunOf};
+ghost use Rattle.placing.specs.Judge.{Sourced};
+ghost use Rattle.known.specs.Fit.{FitRun};
+ghost use Rattle.axioms.specs.Sources.{sourceIn};
+ghost use Rattle.verdict.specs.Engine.{Judges};
 ghost use Rattle.verdict.specs.Whole.{Checked, CheckedBoth};
 use model::Admission;
 use model::CheckAnswer;
 use run::Run;
 
 // The verdict on a run of n rows, by the engine that `quick` says.
+fn judge_by(
+    quick: bool,
+    t: &Run,
+    n: usize,
+    src: &[u16],
+    w: &mut [u64],
+    c: &mut [u16],
+) -> CheckAnswer
+    requires { ⌜ FitRun (now t) n × (WORK ≤ length (now w)) × (CYCLE ≤ length (now c)) × (n ≤ length (now src))
+        × Sourced (tableIn (now t) n) (sourceIn (now src)) ⌝ }
+    ensures { λ r. ⌜ Judges (tableIn (now (t .entry)) n) (sourceIn (now (src .entry))) r
+        (now (w .entry)) (now (w .exit)) (now (c .entry)) (now (c .exit)) ⌝ }
+{
+    if quick {
+        return crate::by_sets::judge(t, n, src, w, c);
+    }
+    crate::by_flags::judge(t, n, src, w, c)
+}
+
+// The same with the table's own sources; the work area's words end as zeros.
 fn judge_run(t: &Run, n: usize, quick: bool, work: &mut [u64], cycle: &mut [u16]) -> CheckAnswer
-    requires { ⌜ (WORK ≤ length (now work)) × (CYCLE ≤ length (now cycle)) × RunOf false (now t) n ⌝ }
+    requires { ⌜ (WORK ≤ length (now work)) × (CYCLE ≤ length (now cycle)) × RunOf false (now t) n
+        × Sourced (tableIn (now t) n) (sourceOf (rowsIn (now t))) ⌝ }
     ensures { λ r. let v = verdict (tableIn (now (t .entry)) n) (sourceOf (rowsIn (now (t .entry)))) in
         ⌜ (r ≡ checkAnswer v) × (now (work .exit) ≡ wiped (now (work .entry))) × (now (cycle .exit) ≡ cycleAfter v (now (cycle .entry))) ⌝ }
 {
     let src = choice::sources::read_sources(run::rows_of(t), n);
-    crate::judge::locate_by(quick, t, n, work);
-    let r = crate::judge::judge(t, n, &src, work, cycle);
+    let r = judge_by(quick, t, n, &src, work, cycle);
     bits::clear(work, 0, model::WORK);
     r
 }

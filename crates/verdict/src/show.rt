@@ -67,8 +67,7 @@ pub fn show_cycle(t: &Run, n: usize, src: &[u16], x: usize, w: &mut [u64], c: &m
         × (now (c .exit) ≡ cycleAfter (cyclic (cycleRows t (sourceIn (now (src .entry)))) (cycleEdges t (sourceIn (now (src .entry))))) (now (c .entry)))
         × Within LAYERS LAYERS-END (now (w .entry)) (now (w .exit)) ⌝ }
 {
-    walks::grid::fill_layers(w, area::EDGE, area::LAYERS, n, x);
-    let size = walks::grid::layer_of(w, area::LAYERS, n, x) + 1;
+    let size = walks::grid::fill_until(w, area::EDGE, area::LAYERS, n, x) + 1;
     clear_numbers(c);
     cycle::write_rows(w, n, x, size, c);
     write_edges(t, n, src, x, size, w, c);

@@ -1,6 +1,6 @@
 -- The invariants of `fill_after` and `fill_layers`, on plain lists. Assumes nothing.
 use mathlib.Core.Path.{_≡_, refl, sym, ap, ap₂, subst, _∙_}
-use mathlib.Core.Bool.{Bool, false}
+use mathlib.Core.Bool.{Bool, true, false}
 use mathlib.Core.List.{List}
 use Prim.Native.Nat.{ℕ, zero, suc, _+_, _-_, _*_, _≤_, _<_}
 use native.Mathlib.Nat.{mul-le-mul-right}
@@ -10,14 +10,14 @@ use lib.Dec.{eqb, ltb}
 use lib.ListN.{length}
 use borrow.Author.Tests.{eq-eqb, ne-eqb}
 use Rattle.finite.specs.Logic.{_and_, and-false-right}
-use Rattle.finite.specs.Below.{any-cong, any-not, least, least-any}
+use Rattle.finite.specs.Below.{any-cong, any-not, least, least-any, least-more, least-found, least-cong}
 use Rattle.finite.specs.Walk.{walk}
 use Rattle.finite.specs.Cycle.{walk-cong}
 use Rattle.bits.specs.Bit.{bit, setBit, setBit-same, setBit-other, zeros, bit-zeros-in}
 use Rattle.bits.specs.Within.{Within, within-refl, within-trans, within-bit, within-cleared, within-setBit}
 use Rattle.bits.specs.Matrix.{rel, row-apart}
 use Rattle.bits.specs.Fill.{or-fresh, rowFill, rowFill-in, rowFill-out, within-rowFill}
-use Rattle.walks.specs.Layers.{after, after-place, stepBit, reaches, Layers}
+use Rattle.walks.specs.Layers.{after, after-place, stepBit, reaches, back, Layers, Returns}
 
 -- layers up to k are done, and the later ones are empty
 pub record Rounds (steps layers stride n x : ℕ) (w₀ w : List ℕ) (k : ℕ) : Type 0 where
@@ -155,12 +155,41 @@ module _ (steps layers stride n : ℕ) (fits : n ≤ 64 * stride) (below : steps
         first z l (no q) =
             rw e (setBit-other v (layers * 64 + x) ((layers + 0 * stride) * 64 + z) (λ r. q (omega arith)) ∙ off 0 z (omega arith) l ∙ sym (ne-eqb z x q))
 
+    kept : {u : List ℕ} {m : ℕ} → Rounds steps layers stride n x w u m → (k z : ℕ) → z < n → walk n (rel w steps stride) x k z ≡ walk n (rel u steps stride) x k z
+    kept {u} p k z l = walk-cong n (rel w steps stride) (rel u steps stride) (λ i j s t. sym (steps-stay _ _ (p .frame) i j s t)) x k z l
+
+    backs : {u : List ℕ} {m : ℕ} → Rounds steps layers stride n x w u m → least n (back n (rel w steps stride) x) ≡ least n (back n (rel u steps stride) x)
+    unfolding back
+    backs {u} p = least-cong _ _ n (λ j o. kept p (suc j) x b)
+
+    outer : {u : List ℕ} → Within layers (layers + n * stride + stride) w u → Within layers (layers + n * stride + stride) w₀ u
+    outer f = within-trans empty (within-trans (rw e (within-setBit layers (layers + n * stride + stride) v (layers * 64 + x) (omega arith) (omega arith))) f)
+
     pub rounds-done : {u : List ℕ} → Rounds steps layers stride n x w u n → Layers steps layers stride n x u × Within layers (layers + n * stride + stride) w₀ u
-    rounds-done {u} p = (
-      record {
-        cell = λ k z l m. p .cells k z l m
-            ∙ walk-cong n (rel w steps stride) (rel u steps stride) (λ i j s t. sym (steps-stay _ _ (p .frame) i j s t)) x k z m;
-      },
-      within-trans empty
-          (within-trans (rw e (within-setBit layers (layers + n * stride + stride) v (layers * 64 + x) (omega arith) (omega arith))) (p .frame)),
-    )
+    rounds-done {u} p = (record { cell = λ k z l m. p .cells k z l m ∙ kept p k z m }, outer (p .frame))
+
+    -- ---- laws: until x is in a layer again
+
+    module _ {u : List ℕ} (k : ℕ) (l : k < n) (p : Rounds steps layers stride n x w u (k + 1)) where
+      bit-back : bit u (after layers stride k + x) ≡ back n (rel w steps stride) x k
+      unfolding back rel
+      bit-back = ap (bit u) (sym (after-place layers stride k x)) ∙ p .cells (suc k) x (omega arith) b
+
+      pub rounds-on : {c : Bool} → c ≡ bit u (after layers stride k + x) → c ≡ false → least k (back n (rel w steps stride) x) ≡ k
+          → least (k + 1) (back n (rel w steps stride) x) ≡ k + 1
+      rounds-on f g h = least-more _ _ h (sym bit-back ∙ sym f ∙ g)
+
+      pub rounds-until : {c : Bool} → c ≡ bit u (after layers stride k + x) → c ≡ true → least k (back n (rel w steps stride) x) ≡ k
+          → Returns steps layers stride n x k u × Within layers (layers + n * stride + stride) w₀ u
+      rounds-until f g h = (
+        record {
+          made = λ m. record { cell = λ a z i j. p .cells a z i j ∙ kept p a z j };
+          least = sym (least-found _ k n h (sym bit-back ∙ sym f ∙ g) l) ∙ backs p;
+          bound = omega arith;
+        },
+        outer (p .frame),
+      )
+
+    pub rounds-never : {u : List ℕ} → Rounds steps layers stride n x w u n → least n (back n (rel w steps stride) x) ≡ n
+        → Returns steps layers stride n x n u × Within layers (layers + n * stride + stride) w₀ u
+    rounds-never p h = (record { made = λ m. absurd (omega arith); least = sym h ∙ backs p; bound = omega arith }, outer (p .frame))

@@ -39,6 +39,20 @@ inLayer w layers stride z j = rel w layers stride (suc j) z
 pub record Layers (steps layers stride n x : ℕ) (w : List ℕ) : Type 0 where
   pub cell : (k z : ℕ) → k ≤ n → z < n → rel w layers stride k z ≡ walk n (rel w steps stride) x k z
 
+-- the same of the layers up to one
+pub record LayersTo (steps layers stride n x top : ℕ) (w : List ℕ) : Type 0 where
+  pub cell : (k z : ℕ) → k ≤ top → z < n → rel w layers stride k z ≡ walk n (rel w steps stride) x k z
+
+-- j + 1 steps lead from x back to it
+unfoldable pub back : ℕ → (ℕ → ℕ → Bool) → ℕ → ℕ → Bool
+back n e x j = walk n e x (suc j) x
+
+-- r + 1 is the least number of steps that lead from x back to it, and layers up to that one are made; r is n where there is none
+pub record Returns (steps layers stride n x r : ℕ) (w : List ℕ) : Type 0 where
+  pub made : r < n → LayersTo steps layers stride n x (r + 1) w
+  pub least : r ≡ least n (back n (rel w steps stride) x)
+  pub bound : r ≤ n
+
 -- ---- laws
 
 -- the place of a bit of layer k + 1
@@ -61,3 +75,11 @@ module _ {steps layers stride n x : ℕ} {w : List ℕ} (h : Layers steps layers
   pub layer-is : (z : ℕ) → z < n → least n (inLayer w layers stride z) ≡ least n (λ j. walk n (rel w steps stride) x (suc j) z)
   unfolding inLayer
   layer-is z l = least-cong (inLayer w layers stride z) (λ j. walk n (rel w steps stride) x (suc j) z) n (λ j o. h .cell (suc j) z o l)
+
+-- the least next number of layers up to one
+pub next-to : {steps layers stride n x top : ℕ} {w : List ℕ} → LayersTo steps layers stride n x top w → (k z : ℕ) → k ≤ top
+    → least n (stepBit w steps layers stride k z) ≡ nextOf n (rel w steps stride) x k z
+unfolding stepBit nextOf
+next-to {steps} {layers} {stride} {n} {x} {w = w} h k z l =
+    least-cong (stepBit w steps layers stride k z) (λ y. rel w steps stride z y and walk n (rel w steps stride) x k y) n
+    (λ y o. ap (λ (b : Bool). rel w steps stride z y and b) (h .cell k y l o))

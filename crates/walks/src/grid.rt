@@ -5,7 +5,7 @@ ghost use lib.ListN.{length};
 ghost use Rattle.finite.specs.Below.{least};
 ghost use Rattle.bits.specs.Within.{Within};
 ghost use Rattle.area.specs.Regions.{GRID};
-ghost use Rattle.walks.specs.Layers.{Room, stepBit, inLayer, Layers};
+ghost use Rattle.walks.specs.Layers.{Room, stepBit, Returns};
 
 // The least number that a step from z leads to and that is in layer k; n where there is none.
 // Ruled out: one that exchanges the steps and the layers; one that goes by rows of another width.
@@ -16,20 +16,11 @@ pub fn next(w: &[u64], steps: usize, layers: usize, n: usize, k: usize, z: usize
     crate::next(w, steps, layers, area::GRID, n, k, z)
 }
 
-// Layer k becomes the numbers from which k steps lead to x, for each k up to n.
+// The layers up to the first that has x again: gives the least j for which x is in layer j + 1; n where there is none.
 // Ruled out: one that exchanges the steps and the layers; one that clears the layers of another width.
-pub fn fill_layers(w: &mut [u64], steps: usize, layers: usize, n: usize, x: usize)
+pub fn fill_until(w: &mut [u64], steps: usize, layers: usize, n: usize, x: usize) -> usize
     requires { ⌜ Room layers GRID n (length (now w)) × (steps + n * GRID ≤ layers) × (x < n) ⌝ }
-    ensures { λ _. ⌜ Layers steps layers GRID n x (now (w .exit)) × Within layers (layers + n * GRID + GRID) (now (w .entry)) (now (w .exit)) ⌝ }
+    ensures { λ r. ⌜ Returns steps layers GRID n x r (now (w .exit)) × Within layers (layers + n * GRID + GRID) (now (w .entry)) (now (w .exit)) ⌝ }
 {
-    crate::fill_layers(w, steps, layers, area::GRID, n, x);
-}
-
-// The least j for which z is in layer j + 1; n where there is none.
-// Ruled out: one that reads the layers of another width; one that reads layer z of number j.
-pub fn layer_of(w: &[u64], layers: usize, n: usize, z: usize) -> usize
-    requires { ⌜ Room layers GRID n (length (now w)) × (z < n) ⌝ }
-    ensures { λ r. ⌜ (r ≡ least n (inLayer (now (w .entry)) layers GRID z)) × (r ≤ n) ⌝ }
-{
-    crate::layer_of(w, layers, area::GRID, n, z)
+    crate::fill_until(w, steps, layers, area::GRID, n, x)
 }

@@ -6,7 +6,7 @@ ghost use lib.ListN.{length};
 ghost use Rattle.finite.specs.Below.{least};
 ghost use Rattle.bits.specs.Within.{Within};
 ghost use Rattle.bits.specs.Fill.{rowFill};
-ghost use Rattle.walks.specs.Layers.{Room, stepBit, reaches, inLayer, after, Layers};
+ghost use Rattle.walks.specs.Layers.{Room, stepBit, reaches, inLayer, after, Layers, Returns};
 
 pub mod grid; // along a grid over rows
 pub mod moments; // along a grid over moments
@@ -67,6 +67,23 @@ fn layer_of(w: &[u64], layers: usize, stride: usize, n: usize, z: usize) -> usiz
     for j in 0..n {
         if bits::get(w, (layers + j * stride + stride) * 64 + z) {
             return j;
+        }
+    }
+    n
+}
+
+// The layers up to the first that has x again, by a way of one step at least: gives the least j for which x is in layer j + 1; n where there is none.
+// Ruled out: one that finds x in layer 0; one that stops before the layer that has x again is made.
+fn fill_until(w: &mut [u64], steps: usize, layers: usize, stride: usize, n: usize, x: usize) -> usize
+    requires { ⌜ Room layers stride n (length (now w)) × (steps + n * stride ≤ layers) × (x < n) ⌝ }
+    ensures { λ r. ⌜ Returns steps layers stride n x r (now (w .exit)) × Within layers (layers + n * stride + stride) (now (w .entry)) (now (w .exit)) ⌝ }
+{
+    bits::clear(w, layers, layers + n * stride + stride);
+    bits::put(w, layers * 64 + x);
+    for k in 0..n {
+        fill_after(w, steps, layers, stride, n, k);
+        if bits::get(w, (layers + k * stride + stride) * 64 + x) {
+            return k;
         }
     }
     n

@@ -8,7 +8,7 @@ use Rattle.finite.specs.Lists.{Written, written-none, written-more}
 use Rattle.finite.specs.Walk.{trail}
 use Rattle.bits.specs.Matrix.{rel}
 use Rattle.area.specs.Regions.{EDGE, GRID}
-use Rattle.walks.specs.Layers.{next-is}
+use Rattle.walks.specs.Layers.{next-to}
 use Rattle.walks.specs.Left.{Left, along-first, left-none, left-more}
 use borrow.Author.Needs.{needs}
 use Rattle.cycle.proofs.write_rows.Statement.{statement}
@@ -32,7 +32,7 @@ loop-again c =
     let start = at-loop .before .before .before in
     let inv = at-loop .loop .inv in
     let less = c .before .loop-test .taken in
-    let more = left-more _ _ _ _ _ _ _ _ less (inv .4) (c .next .ensures ∙ next-is (start .pre .5) _ _ (omega arith)) in
+    let more = left-more _ _ _ _ _ _ _ _ less (inv .4) (c .next .ensures ∙ next-to (start .pre .5) _ _ (omega arith)) in
     let row = sym (ap (λ (l : List ℕ). getD l (at-loop .loop .i) 0) (along-first _ _)) ∙ more .1 (λ a b. a) in
     (search needs, more .0, simp length-set (inv .2), written-more _ _ (search needs) row (inv .3), more .2)
 

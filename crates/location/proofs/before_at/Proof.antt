@@ -11,13 +11,13 @@ use Rattle.location.proofs.before_at.Tie as tie
 returns : tie.Need-returns
 unfolding decode
 returns c =
-    let pre = c .before .before .before .before .before .pre in
+    let pre = c .before .before .before .before .pre in
     sym (before-off _ _ _ _ _ (pre .first-is) (pre .second-is) _ (sym (c .before .common-of .ensures) ∙ not-true _ (c .if1 .taken)))
 
 returns-2 : tie.Need-returns-2
 unfolding decode _or_
 returns-2 c =
-    let pre = c .before .before .before .before .before .before .before .before .before .before .pre in
+    let pre = c .before .before .before .before .before .before .before .before .before .pre in
     let h = c .before .before .before .before .happens-bit .ensures
     ∙ pre .given .holds .reaching .ordered .happening .cell _ _ (omega arith) (omega arith) in
     let g = c .before .before .before .grid-bit .ensures ∙ pre .given .holds .hosting .cell _ _ (pre .given .first) (pre .given .second) in
@@ -27,7 +27,7 @@ returns-2 c =
 returns-3 : tie.Need-returns-3
 unfolding decode _or_
 returns-3 c =
-    let pre = c .before .before .before .before .before .before .before .before .before .before .before .pre in
+    let pre = c .before .before .before .before .before .before .before .before .before .before .pre in
     let h = c .before .before .before .before .before .happens-bit .ensures
     ∙ pre .given .holds .reaching .ordered .happening .cell _ _ (omega arith) (omega arith) in
     let g = c .before .before .before .before .grid-bit .ensures ∙ pre .given .holds .hosting .cell _ _ (pre .given .first) (pre .given .second) in
@@ -37,8 +37,6 @@ returns-3 c =
     (c .before .before .l2 .ensures) (c .before .if2 .left) (c .l3 .ensures)
 
 pub before-at-spec : {M : Type 1} → statement M
-before-at-spec =
-    tie.close
-    (tie.spec (λ c. search needs) (λ c. search needs) (λ c. search needs) (λ c κs. search needs) returns (λ c. search needs)
+before-at-spec = tie.close (tie.spec (λ c. search needs) (λ c. search needs) (λ c. search needs) (λ c κs. search needs) returns (λ c. search needs)
     (λ c. search needs) (λ c. search needs) (λ c. search needs) (λ c κs. search needs) (λ c κs. search needs) (λ c κs. search needs)
     (λ c κs. search needs) returns-2 (λ c κs. search needs) returns-3)

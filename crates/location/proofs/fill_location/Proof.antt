@@ -1,8 +1,8 @@
+use Rattle.run.specs.Layout.{tableIn}
 use Rattle.location.specs.Given.{given-kept}
 use Rattle.location.specs.Order.{Prepared, prepared-kept, made-prepared, within-grid, made-placed}
 use Rattle.area.specs.Regions.{LOCATION, LOCATION-END, PAIR, PAIRS}
 use Rattle.model.specs.Edge.{beforeNth}
-use Rattle.model.specs.Table.{decode}
 use Rattle.bits.specs.Within.{within-cleared}
 use Rattle.bits.specs.Cube.{cubeFill, cubeFill-none, cubeFill-more, length-cubeFill, made-cube}
 use lib.ListN.{length}
@@ -14,15 +14,15 @@ use Rattle.location.proofs.fill_location.Statement.{statement}
 use Rattle.location.proofs.fill_location.Tie as tie
 
 abbrev Inv-loop : tie.InvT-loop
-Inv-loop rows p mode n w₀ x₀ w x = (x ≤ n) × (length w ≡ length w₀) × Prepared (decode rows p mode n) n w
-    × (w ≡ cubeFill (beforeNth (decode rows p mode n)) w₀ (LOCATION * 64) PAIRS PAIR n x)
+Inv-loop t n w₀ x₀ w x = (x ≤ n) × (length w ≡ length w₀) × Prepared (tableIn t n) n w
+    × (w ≡ cubeFill (beforeNth (tableIn t n)) w₀ (LOCATION * 64) PAIRS PAIR n x)
 
 abbrev μ-loop : tie.MeasureT-loop
-μ-loop rows p mode n w₀ x₀ w x = n - x
+μ-loop t n w₀ x₀ w x = n - x
 
 make-reach-requires : tie.Need-make-reach-requires Inv-loop μ-loop
 make-reach-requires c κs =
-    given-kept (omega arith) (c .before .before .before .make-hosted .ensures .frame) (c .before .before .before .before .before .before .before .pre)
+    given-kept (omega arith) (c .before .before .before .make-hosted .ensures .frame) (c .before .before .before .before .before .before .pre)
 
 loop-holds : tie.Need-loop-holds Inv-loop μ-loop
 loop-holds c = (
@@ -47,7 +47,7 @@ loop-again c =
 
 returns : tie.Need-returns Inv-loop μ-loop
 returns c =
-    let s = c .before .before .before .before .before .before .before .before .before .before .before .before .before .before .before .before in
+    let s = c .before .before .before .before .before .before .before .before .before .before .before .before .before .before .before in
     let h = c .before .before .before .before .before .before .before .before .before .before .before .before .make-hosted .ensures in
     let r = c .before .before .before .before .before .before .before .before .make-reach .ensures in
     let e : c .before .loop .x ≡ s .args .n = omega arith in
@@ -57,7 +57,5 @@ returns c =
     (rw e at (c .before .loop .inv .3)))
 
 pub fill-location-spec : {M : Type 1} → statement M
-fill-location-spec =
-    tie.close
-    (tie.spec Inv-loop μ-loop (λ c κs. search needs) make-reach-requires (λ c κs. search needs) loop-holds (λ c κs. search needs)
+fill-location-spec = tie.close (tie.spec Inv-loop μ-loop (λ c κs. search needs) make-reach-requires (λ c κs. search needs) loop-holds (λ c κs. search needs)
     (λ c. search needs) (λ c. search needs) loop-again (λ c. search needs) returns)

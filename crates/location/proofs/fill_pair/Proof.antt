@@ -1,3 +1,4 @@
+use Rattle.run.specs.Layout.{tableIn}
 use mathlib.Core.Path.{_≡_, refl, sym, ap, _∙_}
 use Prim.Native.Nat.{_+_, _-_, _*_, _≤_}
 use native.Mathlib.Omega.{arith}
@@ -14,22 +15,22 @@ use Rattle.location.proofs.fill_pair.Statement.{statement}
 use Rattle.location.proofs.fill_pair.Tie as tie
 
 abbrev Inv-loop : tie.InvT-loop
-Inv-loop rows p mode n x y w₀ r q k₀ w k =
-    (k ≤ PAIR) × (length w ≡ length w₀) × Prepared (decode rows p mode n) n w
-    × (w ≡ rowFill (beforeNth (decode rows p mode n) x y) w₀ (LOCATION * 64 + x * PAIRS + y * PAIR) k)
+Inv-loop t n x y w₀ r q k₀ w k =
+    (k ≤ PAIR) × (length w ≡ length w₀) × Prepared (tableIn t n) n w
+    × (w ≡ rowFill (beforeNth (tableIn t n) x y) w₀ (LOCATION * 64 + x * PAIRS + y * PAIR) k)
 
 abbrev μ-loop : tie.MeasureT-loop
-μ-loop rows p mode n x y w₀ r q k₀ w k = PAIR - k
+μ-loop t n x y w₀ r q k₀ w k = PAIR - k
 
 returns : tie.Need-returns Inv-loop μ-loop
 unfolding decode
 returns c =
     row-off _ _ _ _
-    (pair-off _ _ _ _ _ (c .before .before .before .read-row .ensures) (c .before .before .read-row2 .ensures)
+    (pair-off _ _ _ _ _ (c .before .before .before .row .ensures) (c .before .before .row2 .ensures)
     (sym (c .before .may-share .ensures) ∙ not-true _ (c .if1 .taken)))
 
 loop-holds : tie.Need-loop-holds Inv-loop μ-loop
-loop-holds c = (search needs, refl, c .before .before .before .before .before .before .pre .holds, rowFill-none _ _ _)
+loop-holds c = (search needs, refl, c .before .before .before .before .before .pre .holds, rowFill-none _ _ _)
 
 before-at-requires : tie.Need-before-at-requires Inv-loop μ-loop
 before-at-requires c κs = record { given = search needs; byte = search needs; first-is = search needs; second-is = search needs }
@@ -51,8 +52,6 @@ returns-2 c =
     rw e at (c .before .loop .inv .3)
 
 pub fill-pair-spec : {M : Type 1} → statement M
-fill-pair-spec =
-    tie.close
-    (tie.spec Inv-loop μ-loop (λ c. search needs) (λ c κs. search needs) (λ c. search needs) (λ c κs. search needs) (λ c κs. search needs)
+fill-pair-spec = tie.close (tie.spec Inv-loop μ-loop (λ c. search needs) (λ c κs. search needs) (λ c. search needs) (λ c κs. search needs) (λ c κs. search needs)
     returns loop-holds before-at-requires (λ c κs. search needs) (λ c. search needs) (λ c. search needs) loop-again (λ c. search needs)
     returns-2)

@@ -1,9 +1,9 @@
+use Rattle.run.specs.Layout.{tableIn}
 use mathlib.Core.Path.{_≡_, refl, ap, _∙_}
 use Prim.Native.Nat.{_+_, _-_, _*_, _≤_}
 use native.Mathlib.Omega.{arith}
 use lib.ListN.{length}
 use Rattle.bits.specs.Fill.{gridFill, gridFill-none, gridFill-more, length-gridFill}
-use Rattle.model.specs.Table.{decode}
 use Rattle.model.specs.Edge.{beforeNth}
 use Rattle.area.specs.Regions.{LOCATION, LOCATION-END, PAIR, PAIRS}
 use Rattle.location.specs.Order.{Prepared, prepared-kept, within-row}
@@ -12,15 +12,15 @@ use Rattle.location.proofs.fill_row.Statement.{statement}
 use Rattle.location.proofs.fill_row.Tie as tie
 
 abbrev Inv-loop : tie.InvT-loop
-Inv-loop rows p mode n x w₀ y₀ w y =
-    (y ≤ n) × (length w ≡ length w₀) × Prepared (decode rows p mode n) n w
-    × (w ≡ gridFill (beforeNth (decode rows p mode n) x) w₀ (LOCATION * 64 + x * PAIRS) PAIR PAIR y)
+Inv-loop t n x w₀ y₀ w y =
+    (y ≤ n) × (length w ≡ length w₀) × Prepared (tableIn t n) n w
+    × (w ≡ gridFill (beforeNth (tableIn t n) x) w₀ (LOCATION * 64 + x * PAIRS) PAIR PAIR y)
 
 abbrev μ-loop : tie.MeasureT-loop
-μ-loop rows p mode n x w₀ y₀ w y = n - y
+μ-loop t n x w₀ y₀ w y = n - y
 
 loop-holds : tie.Need-loop-holds Inv-loop μ-loop
-loop-holds c = (search needs, refl, c .before .before .pre .holds, gridFill-none _ _ _ _ _)
+loop-holds c = (search needs, refl, c .before .pre .holds, gridFill-none _ _ _ _ _)
 
 loop-again : tie.Need-loop-again Inv-loop μ-loop
 loop-again c =
@@ -35,11 +35,9 @@ loop-again c =
 
 returns : tie.Need-returns Inv-loop μ-loop
 returns c =
-    let e : c .before .loop .y ≡ c .before .before .before .before .args .n = omega arith in
+    let e : c .before .loop .y ≡ c .before .before .before .args .n = omega arith in
     rw e at (c .before .loop .inv .3)
 
 pub fill-row-spec : {M : Type 1} → statement M
-fill-row-spec =
-    tie.close
-    (tie.spec Inv-loop μ-loop loop-holds (λ c κs. search needs) (λ c. search needs) (λ c. search needs) loop-again (λ c. search needs)
+fill-row-spec = tie.close (tie.spec Inv-loop μ-loop loop-holds (λ c κs. search needs) (λ c. search needs) (λ c. search needs) loop-again (λ c. search needs)
     returns)

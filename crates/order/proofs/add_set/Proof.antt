@@ -10,13 +10,13 @@ returns c =
     let at-close = at-join .before .before .before .before in
     let at-fill = at-close .before .before .before .before in
     let tested = at-fill .before .before in
-    let start = tested .before .before .before .before in
+    let start = tested .before .before .before in
     added-set _ _ _ _ _ (start .args .w .now) _ _ _ (start .pre .0) (start .pre .1)
-    (sym (tested .before .is-live .ensures _ _) ∙ tested .if1 .taken) (at-fill .fill-step .ensures) (at-close .close .ensures)
+    (sym (tested .before .is-live .ensures) ∙ tested .if1 .taken) (at-fill .fill-step .ensures) (at-close .close .ensures)
     (at-join .join-row .ensures)
 
 returns-2 : tie.Need-returns-2
-returns-2 c = added-not _ _ _ _ _ _ (sym (c .before .is-live .ensures _ _) ∙ c .if1 .left)
+returns-2 c = added-not _ _ _ _ _ _ (sym (c .before .is-live .ensures) ∙ c .if1 .left)
 
 pub add-set-spec : {M : Type 1} → statement M
 add-set-spec =

@@ -1,9 +1,6 @@
-use mathlib.Core.List.{[]}
-use Rattle.bits.specs.Stage.{made-cong}
-use Rattle.model.specs.Table.{OFF, decode}
+use Rattle.run.specs.Layout.{tableIn}
 use Rattle.model.specs.Moment.{programOrder}
 use Rattle.area.specs.Regions.{HAPPENS, HAPPENS-END, MOMENTS}
-use Rattle.order.specs.Cases.{order-is}
 use mathlib.Core.Path.{_≡_, refl, ap, _∙_}
 use Prim.Native.Nat.{_+_, _-_, _*_, _≤_}
 use native.Mathlib.Omega.{arith}
@@ -15,18 +12,18 @@ use Rattle.order.proofs.fill_order.Statement.{statement}
 use Rattle.order.proofs.fill_order.Tie as tie
 
 abbrev Inv-loop2 : tie.InvT-loop2
-Inv-loop2 rows n w₀ m k₀ m-end k-end w k =
-    (k ≤ 3 * n) × (length w ≡ length w₀) × (w ≡ rowFill (programOrder (decode rows [] OFF n) m) w₀ (HAPPENS * 64 + m * (MOMENTS * 64)) k)
+Inv-loop2 t n w₀ m k₀ m-end k-end w k =
+    (k ≤ 3 * n) × (length w ≡ length w₀) × (w ≡ rowFill (programOrder (tableIn t n) m) w₀ (HAPPENS * 64 + m * (MOMENTS * 64)) k)
 
 abbrev μ-loop2 : tie.MeasureT-loop2
-μ-loop2 rows n w₀ m k₀ m-end k-end w k = 3 * n - k
+μ-loop2 t n w₀ m k₀ m-end k-end w k = 3 * n - k
 
 abbrev Inv-loop : tie.InvT-loop
-Inv-loop rows n w₀ m₀ m-end w m =
-    (m ≤ 3 * n) × (length w ≡ length w₀) × (w ≡ gridFill (programOrder (decode rows [] OFF n)) w₀ (HAPPENS * 64) (MOMENTS * 64) (3 * n) m)
+Inv-loop t n w₀ m₀ m-end w m =
+    (m ≤ 3 * n) × (length w ≡ length w₀) × (w ≡ gridFill (programOrder (tableIn t n)) w₀ (HAPPENS * 64) (MOMENTS * 64) (3 * n) m)
 
 abbrev μ-loop : tie.MeasureT-loop
-μ-loop rows n w₀ m₀ m-end w m = 3 * n - m
+μ-loop t n w₀ m₀ m-end w m = 3 * n - m
 
 loop-holds : tie.Need-loop-holds Inv-loop2 μ-loop2 Inv-loop μ-loop
 loop-holds c = (search needs, refl, gridFill-none _ _ _ _ _)
@@ -38,22 +35,21 @@ loop2-again : tie.Need-loop2-again Inv-loop2 μ-loop2 Inv-loop μ-loop
 loop2-again c =
     let put = c .before .before .put-if in
     let inv = c .before .before .before .before .before .before .loop2 .inv in
-    let e = rowFill-put _ _ _ (put .last .0) _ _ _ _ (inv .2) (c .before .before .before .before .ordered-at .ensures [] OFF) (omega arith) (put .ensures) in
+    let e = rowFill-put _ _ _ (put .last .0) _ _ _ _ (inv .2) (c .before .before .before .before .ordered-at .ensures) (omega arith) (put .ensures) in
     (search needs, ap length e ∙ length-rowFill _ _ _ _, e)
 
 loop-again : tie.Need-loop-again Inv-loop2 μ-loop2 Inv-loop μ-loop
 loop-again c =
     let inv = c .before .loop2 .inv in
     let out = c .before .before .before .loop .inv in
-    let e : c .before .loop2 .k ≡ 3 * c .before .before .before .before .before .before .before .before .before .before .args .n = omega arith in
+    let e : c .before .loop2 .k ≡ 3 * c .before .before .before .before .before .before .before .before .before .args .n = omega arith in
     (search needs, inv .1 ∙ out .1, gridFill-more _ _ _ _ _ _ _ _ (out .2) (rw e at (inv .2)))
 
 returns : tie.Need-returns Inv-loop2 μ-loop2 Inv-loop μ-loop
-returns c p mode =
-    let e : c .before .loop .m ≡ 3 * c .before .before .before .before .before .before .before .before .args .n = omega arith in
-    made-cong (λ m k l h. order-is _ _ _ _ _ _ m k)
-    (made-filled HAPPENS HAPPENS-END MOMENTS _ _ _ _ _ (omega arith) (omega arith) (omega arith)
-    (c .before .before .before .before .clear .ensures) (rw e at (c .before .loop .inv .2)))
+returns c =
+    let e : c .before .loop .m ≡ 3 * c .before .before .before .before .before .before .before .args .n = omega arith in
+    made-filled HAPPENS HAPPENS-END MOMENTS _ _ _ _ _ (omega arith) (omega arith) (omega arith)
+    (c .before .before .before .before .clear .ensures) (rw e at (c .before .loop .inv .2))
 
 pub fill-order-spec : {M : Type 1} → statement M
 fill-order-spec =

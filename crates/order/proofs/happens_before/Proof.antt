@@ -1,3 +1,4 @@
+use Rattle.run.specs.Layout.{tableIn}
 use mathlib.Core.Path.{_≡_, refl, _∙_}
 use Prim.Native.Nat.{_-_, _*_, _≤_}
 use native.Mathlib.Omega.{arith}
@@ -5,7 +6,6 @@ use lib.ListN.{length}
 use Rattle.bits.specs.Within.{Within, within-refl, within-trans}
 use Rattle.bits.specs.Stage.{Holds, holds-cong, holds-added}
 use Rattle.model.specs.Limits.{CLASS-SETS}
-use Rattle.model.specs.Table.{decode}
 use Rattle.area.specs.Regions.{HAPPENS, STEP-END, MOMENTS}
 use Rattle.area.specs.Synced.{Synced, synced-kept}
 use Rattle.order.specs.Sets.{upTo, upTo-none, upTo-more, ordered-made}
@@ -14,19 +14,18 @@ use Rattle.order.proofs.happens_before.Statement.{statement}
 use Rattle.order.proofs.happens_before.Tie as tie
 
 abbrev Inv-loop : tie.InvT-loop
-Inv-loop rows p mode n w₀ s₀ w s =
-    (s ≤ CLASS-SETS) × (length w ≡ length w₀) × Synced (decode rows p mode n) n w × Holds HAPPENS MOMENTS (3 * n) (upTo (decode rows p mode n) s) w
+Inv-loop t n w₀ s₀ w s =
+    (s ≤ CLASS-SETS) × (length w ≡ length w₀) × Synced (tableIn t n) n w × Holds HAPPENS MOMENTS (3 * n) (upTo (tableIn t n) s) w
     × Within HAPPENS STEP-END w₀ w
 
 abbrev μ-loop : tie.MeasureT-loop
-μ-loop rows p mode n w₀ s₀ w s = CLASS-SETS - s
+μ-loop t n w₀ s₀ w s = CLASS-SETS - s
 
 loop-holds : tie.Need-loop-holds Inv-loop μ-loop
 loop-holds c =
     let at-synced = c .before .before .before .before .before .before in
     let synced = at-synced .make-synced .ensures in
-    let order = c .before .before .fill-order .ensures (at-synced .before .before .before .before .args .p)
-    (at-synced .before .before .before .before .args .mode) in
+    let order = c .before .before .fill-order .ensures in
     (search needs, refl, synced-kept (omega arith) (order .frame) (synced .synced), holds-cong (λ m k l h. upTo-none _ m k) (order .holds), within-refl _ _ _)
 
 loop-again : tie.Need-loop-again Inv-loop μ-loop
@@ -46,7 +45,7 @@ returns c =
     let inv = c .before .loop .inv in
     let at-order = c .before .before .before .before in
     let at-synced = at-order .before .before .before .before in
-    ordered-made (at-synced .make-synced .ensures) (at-order .fill-order .ensures _ _) (inv .2) (rw e at (inv .3)) (inv .4)
+    ordered-made (at-synced .make-synced .ensures) (at-order .fill-order .ensures) (inv .2) (rw e at (inv .3)) (inv .4)
 
 pub happens-before-spec : {M : Type 1} → statement M
 happens-before-spec =

@@ -7,18 +7,15 @@ returns : tie.Need-returns
 returns c = both-refused _ _ _ (c .before .before .before .before .enter .ensures .0) _ _ _ _ _ (c .before .enum-told .given .1) (c .refusal-of .ensures)
 
 judge-rows-requires : tie.Need-judge-rows-requires
-judge-rows-requires c κs =
-    let opened = c .before .before .before .before .before .before .before .before .before .before .enter .ensures .1 _ _ (c .before .before .before .before .before .before .before .a .given .1) in
-    rw (c .before .before .before .before .rows-of .ensures, c .before .before .places .ensures, c .mode .ensures) (opened .run)
+judge-rows-requires c κs = c .before .before .before .before .before .enter .ensures .1 _ _ (c .before .before .a .given .1) .run
 
 returns-2 : tie.Need-returns-2
 returns-2 c =
-    let admitted = c .before .before .before .before .before .before .before .before .a .given .1 in
-    let entered = c .before .before .before .before .before .before .before .before .before .before .before .enter .ensures in
-    both-judged _ _ _ (entered .0) _ _ _ _ admitted _ (entered .1 _ _ admitted) _ _ _ (c .before .before .before .before .before .rows-of .ensures) (c .before .before .before .places .ensures) (c .before .mode .ensures) _ (c .judge-rows .ensures)
+    let entered = c .before .before .before .before .before .before .enter .ensures in
+    both-judged _ _ _ (entered .0) _ _ _ _ (c .before .before .before .a .given .1) _ (entered .1 _ _ (c .before .before .before .a .given .1)) _ (c .judge-rows .ensures)
 
 pub accepts-both-spec : {M : Type 1} → statement M
 accepts-both-spec =
     tie.close
     (tie.spec (λ c. search needs) (λ c κs. search needs) (λ c. search needs) (λ c. search needs) (λ c κs. search needs) returns
-    (λ c. search needs) (λ c κs. search needs) (λ c κs. search needs) (λ c κs. search needs) judge-rows-requires returns-2)
+    (λ c. search needs) judge-rows-requires returns-2)

@@ -6,7 +6,7 @@ use Rattle.reader.proofs.is_accepted.Tie as tie
 
 returns : tie.Need-returns
 unfolding _and_
-returns c = word-told _ _ _ _ _ _ _ _ _ (c .before .enum-told .given .1) (c .ordered-at .ensures _ _)
+returns c = word-told _ _ _ _ _ _ _ _ _ (c .before .enum-told .given .1) (c .ordered-at .ensures)
 
 returns-2 : tie.Need-returns-2
 unfolding _and_

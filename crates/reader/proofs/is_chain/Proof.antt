@@ -1,3 +1,4 @@
+use Rattle.run.specs.Layout.{tableIn}
 use borrow.Author.Tests.{not-false}
 use mathlib.Core.Path.{_≡_, sym, _∙_}
 use mathlib.Core.Bool.{false}
@@ -5,7 +6,6 @@ use Prim.Native.Nat.{_-_, _*_, _≤_, _<_}
 use native.Mathlib.Omega.{arith}
 use lib.ListN.{length}
 use Rattle.finite.specs.Below.{anyBelow, any-none, any-more}
-use Rattle.model.specs.Table.{decode}
 use Rattle.model.specs.Reason.{stands, broken}
 use Rattle.reader.specs.Judging.{stands-first, stands-next, step-low, broken-is, leads-broken, leads-whole}
 use borrow.Author.Needs.{needs}
@@ -13,11 +13,11 @@ use Rattle.reader.proofs.is_chain.Statement.{statement}
 use Rattle.reader.proofs.is_chain.Tie as tie
 
 abbrev Inv-loop : tie.InvT-loop
-Inv-loop rows p mode n s first second steps m₀ i₀ i-end m i =
-    (i ≤ length steps) × (m ≡ stands first steps i) × (m < 3 * n) × (anyBelow i (broken (decode rows p mode n) s first steps) ≡ false)
+Inv-loop t n s first second steps m₀ i₀ i-end m i =
+    (i ≤ length steps) × (m ≡ stands first steps i) × (m < 3 * n) × (anyBelow i (broken (tableIn t n) s first steps) ≡ false)
 
 abbrev μ-loop : tie.MeasureT-loop
-μ-loop rows p mode n s first second steps m₀ i₀ i-end m i = length steps - i
+μ-loop t n s first second steps m₀ i₀ i-end m i = length steps - i
 
 loop-holds : tie.Need-loop-holds Inv-loop μ-loop
 loop-holds c = (search needs, stands-first _ _, search needs, any-none _)
@@ -39,7 +39,7 @@ loop-again c =
 
 returns-2 : tie.Need-returns-2 Inv-loop μ-loop
 returns-2 c =
-    let e : c .before .loop .i ≡ length (c .before .before .before .before .args .steps .now) = omega arith in
+    let e : c .before .loop .i ≡ length (c .before .before .before .args .steps .now) = omega arith in
     leads-whole _ _ _ _ _ _ _ _ _ _ e (c .before .loop .inv .1) (c .before .loop .inv .3)
 
 pub is-chain-spec : {M : Type 1} → statement M

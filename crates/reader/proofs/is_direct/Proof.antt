@@ -9,9 +9,9 @@ returns : tie.Need-returns
 unfolding _and_ _or_
 returns c =
     let read = c .before .before .before .before in
-    direct-told _ _ _ _ _ _ _ _ _ _ _ _ _ _ (read .before .read-row .ensures) (read .read-row2 .ensures)
+    direct-told _ _ _ _ _ _ _ _ _ _ _ _ _ _ (read .before .row .ensures) (read .row2 .ensures)
     (c .before .before .before .is-synced .ensures) (c .before .before .is-ordered .ensures) (c .before .is-case .ensures)
-    (c .is-system .ensures _ _ _)
+    (c .is-system .ensures)
 
 pub is-direct-spec : {M : Type 1} → statement M
 is-direct-spec =

@@ -15,7 +15,7 @@ is-accepted-requires : tie.Need-is-accepted-requires
 unfolding _and_
 is-accepted-requires c κs =
     let there = c .before in
-    let start = there .before .before .before .before in (
+    let start = there .before .before .before in (
       few (start .pre),
       first-low _ _ _ _ _ _ _ _ (there .before .is-there .ensures) (c .if1 .left),
       second-low _ _ _ _ (start .args .m) _ (there .before .is-there .result) _ (there .is-there2 .ensures) (c .if1 .left),

@@ -8,18 +8,16 @@ returns c = told-refused _ _ _ _ _ _ _ (c .before .before .before .before .enter
 
 derive-rows-requires : tie.Need-derive-rows-requires
 derive-rows-requires c κs =
-    let opened = c .before .before .before .before .before .before .before .before .before .before .before .before .enter .ensures .1 _ _ (c .before .before .before .before .before .before .before .before .before .a .given .1) in
-    rw (c .before .before .before .before .before .before .rows-of .ensures, c .before .before .before .before .places .ensures, c .before .before .mode .ensures) ((opened .room, opened .space, opened .run))
+    let opened = c .before .before .before .before .before .before .before .enter .ensures .1 _ _ (c .before .before .before .before .a .given .1) in
+    (opened .room, opened .space, opened .run)
 
 returns-2 : tie.Need-returns-2
 returns-2 c =
-    let admitted = c .before .before .before .before .before .before .before .before .before .before .before .before .before .before .a .given .1 in
-    let entered = c .before .before .before .before .before .before .before .before .before .before .before .before .before .before .before .before .before .enter .ensures in
-    told-run _ _ _ _ _ _ _ (entered .0) admitted _ (entered .1 _ _ admitted) _ _ _ (c .before .before .before .before .before .before .before .before .before .before .before .rows-of .ensures) (c .before .before .before .before .before .before .before .before .before .places .ensures) (c .before .before .before .before .before .before .before .mode .ensures) _ _ _ (c .before .before .before .before .derive-rows .ensures)
+    let entered = c .before .before .before .before .before .before .before .before .before .before .before .before .enter .ensures in
+    told-run _ _ _ _ _ _ _ (entered .0) (c .before .before .before .before .before .before .before .before .before .a .given .1) _ (entered .1 _ _ (c .before .before .before .before .before .before .before .before .before .a .given .1)) _ _ _ (c .before .before .before .before .derive-rows .ensures)
 
 pub derive-both-spec : {M : Type 1} → statement M
 derive-both-spec =
     tie.close
     (tie.spec (λ c. search needs) (λ c κs. search needs) (λ c. search needs) (λ c. search needs) (λ c κs. search needs) returns
-    (λ c. search needs) (λ c κs. search needs) (λ c κs. search needs) (λ c κs. search needs) derive-rows-requires (λ c. search needs)
-    (λ c. search needs) returns-2)
+    (λ c. search needs) derive-rows-requires (λ c. search needs) (λ c. search needs) returns-2)

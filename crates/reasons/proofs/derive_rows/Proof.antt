@@ -7,21 +7,19 @@ use Rattle.reasons.proofs.derive_rows.Statement.{statement}
 use Rattle.reasons.proofs.derive_rows.Tie as tie
 
 returns : tie.Need-returns
-returns c = rows-12 _ _ _ _ _ (sym (c .before .two-moments .ensures _ _) ∙ not-true _ (c .if1 .taken))
+returns c = rows-12 _ _ _ _ _ (sym (c .before .two-moments .ensures) ∙ not-true _ (c .if1 .taken))
 
 derive-moments-requires : tie.Need-derive-moments-requires
 derive-moments-requires c κs =
-    let start = c .before .before .before .before .before .before .before in
-    let two = two-known _ _ _ _ _ _ (sym (c .before .before .before .two-moments .ensures (start .args .p) (start .args .mode))
+    let start = c .before .before .before .before .before .before in
+    let two = two-known _ _ _ _ _ _ (sym (c .before .before .before .two-moments .ensures)
     ∙ not-false _ (c .before .before .if1 .left)) in
     (few (start .pre .2), start .pre .0, start .pre .1, two .0, two .1, two .2)
 
 returns-2 : tie.Need-returns-2
 returns-2 c =
-    let two = sym (c .before .before .before .before .before .before .before .before .before .before .before .before .two-moments .ensures _
-    _) ∙ not-false _ (c .before .before .before .before .before .before .before .before .before .before .before .if1 .left) in
-    rows-derived _ _ _ _ _ _ _ _ _ (c .before .before .before .before .before .before .before .before .before .before .before .before
-    .before .before .before .before .pre .0) two
+    let two = sym (c .before .before .before .before .before .before .before .before .before .before .before .before .two-moments .ensures) ∙ not-false _ (c .before .before .before .before .before .before .before .before .before .before .before .if1 .left) in
+    rows-derived _ _ _ _ _ _ _ _ _ (c .before .before .before .before .before .before .before .before .before .before .before .before .before .before .before .pre .0) two
     (c .before .before .before .before .before .before .before .before .derive-moments .ensures) (c .before .before .clear .ensures)
 
 pub derive-rows-spec : {M : Type 1} → statement M

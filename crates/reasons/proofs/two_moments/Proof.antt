@@ -7,7 +7,7 @@ use Rattle.reasons.proofs.two_moments.Tie as tie
 
 returns : tie.Need-returns
 unfolding _and_
-returns c = λ p mode. rw (two-is _ p _ _ _ _) cc
+returns c = rw (two-is _ _ _ _ _ _) cc
 
 pub two-moments-spec : {M : Type 1} → statement M
 two-moments-spec =

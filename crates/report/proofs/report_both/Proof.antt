@@ -1,3 +1,4 @@
+use Rattle.verdict.specs.Whole.{sourced}
 use Rattle.report.specs.Whole.{reported-refused, reported-run}
 use borrow.Author.Needs.{needs}
 use Rattle.report.proofs.report_both.Statement.{statement}
@@ -8,8 +9,12 @@ returns c = reported-refused _ _ _ _ _ _ (c .before .before .before .before .ent
 
 report-run-requires : tie.Need-report-run-requires
 report-run-requires c κs =
-    let opened = c .before .before .before .before .before .before .before .enter .ensures .1 _ _ (c .before .before .before .before .a .given .1) in
-    (opened .room, opened .space, opened .run)
+    let opened = c .before .before .before .before .before .before .before .enter .ensures .1 _ _ (c .before .before .before .before .a .given .1) in (
+      opened .room,
+      opened .space,
+      opened .run,
+      sourced (c .before .before .before .before .before .before .before .enter .ensures .0) (c .before .before .before .before .a .given .1) opened,
+    )
 
 returns-2 : tie.Need-returns-2
 returns-2 c =

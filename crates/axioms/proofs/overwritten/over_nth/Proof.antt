@@ -1,57 +1,91 @@
-use Rattle.run.specs.Layout.{tableIn}
-use Rattle.race.specs.Pairs.{some-unset}
-use Rattle.axioms.specs.Overwritten.{over-none, over-apart}
-use Rattle.axioms.specs.Sources.{sourceIn}
-use Rattle.model.specs.Edge.{overwritesNth, overNth}
-use Rattle.area.specs.Regions.{PAIR}
-use Rattle.finite.specs.Below.{least, least-none, least-found, least-more}
-use borrow.Author.Tests.{not-true, not-false}
-use Rattle.model.specs.Table.{decode}
+use mathlib.Core.Path.{_≡_, refl, sym, ap, _∙_}
+use mathlib.Core.Bool.{true}
+use Prim.Native.Nat.{_+_, _-_, _≤_}
 use native.Mathlib.Omega.{arith}
-use Prim.Native.Nat.{_-_, _≤_}
-use mathlib.Core.Path.{_≡_, refl, sym, _∙_}
+use borrow.Author.Tests.{not-true, not-false}
+use Rattle.finite.specs.Logic.{_and_}
+use Rattle.finite.specs.Below.{least, least-none, least-found, least-more}
+use Rattle.model.specs.declared.Row.{Row}
+use Rattle.model.specs.Table.{decode}
+use Rattle.model.specs.Edge.{overwritesNth, overNth}
+use Rattle.run.specs.Layout.{tableIn}
+use Rattle.area.specs.Regions.{PAIR}
+use Rattle.axioms.specs.Sources.{sourceIn}
+use Rattle.axioms.specs.Overwritten.{mayOverwrite, may-is, source-row, overwrites-on, over-none}
 use borrow.Author.Needs.{needs}
 use Rattle.axioms.proofs.overwritten.over_nth.Statement.{statement}
 use Rattle.axioms.proofs.overwritten.over_nth.Tie as tie
 
 abbrev Inv-loop : tie.InvT-loop
-Inv-loop t n src y z w s o r q k₀ k = (k ≤ PAIR) × (least k (overwritesNth (tableIn t n) (sourceIn src) y z) ≡ k)
+Inv-loop t n src y z w r q from o k₀ k =
+    (k ≤ PAIR) × (mayOverwrite (tableIn t n) (sourceIn src) y z ≡ true) × (least k (overwritesNth (tableIn t n) (sourceIn src) y z) ≡ k)
 
 abbrev μ-loop : tie.MeasureT-loop
-μ-loop t n src y z w s o r q k₀ k = PAIR - k
+μ-loop t n src y z w r q from o k₀ k = PAIR - k
 
 returns : tie.Need-returns Inv-loop μ-loop
-unfolding decode
-returns c = let s = c .before .before .before .before in
-    over-apart _ _ _ _ (s .pre .3 .2) (s .pre .1)
-    (some-unset _ _ _ _ _ _ (s .pre .3 .3) (s .pre .1) (s .pre .0) refl (sym (c .before .is-unset .ensures) ∙ c .if1 .taken))
-
-returns-2 : tie.Need-returns-2 Inv-loop μ-loop
-returns-2 c = over-none _ _ _ _ (sym (c .before .may-overwrite .ensures) ∙ not-true _ (c .if2 .taken))
+unfolding decode _and_
+returns c =
+    let at = c .before .before .before .before in
+    let may =
+    may-is _ _ _ _ _ _ _ _ _ _ _ refl (at .before .before .source-at .ensures) (at .before .row .ensures) (at .row2 .ensures)
+    (c .before .before .before .reads .ensures) (c .before .before .writes .ensures) (c .before .is-row .ensures)
+    in
+    over-none _ _ _ _ (sym may ∙ not-true _ (c .if1 .taken))
 
 loop-holds : tie.Need-loop-holds Inv-loop μ-loop
-loop-holds c = (search needs, least-none _)
+unfolding decode _and_
+loop-holds c =
+    let at = c .before .before .before .before .before .before in (
+      search needs,
+      sym (may-is _ _ _ _ _ _ _ _ _ _ _ refl (at .before .before .source-at .ensures) (at .before .row .ensures) (at .row2 .ensures)
+          (c .before .before .before .before .before .reads .ensures) (c .before .before .before .before .writes .ensures) (c .before .before .before .is-row .ensures))
+          ∙ not-false _ (c .before .before .if1 .left),
+      least-none _,
+    )
 
-overwrites-at-requires : tie.Need-overwrites-at-requires Inv-loop μ-loop
-overwrites-at-requires c κs = let m = sym (c .before .before .before .before .before .before .before .before .may-overwrite .ensures)
-    ∙ not-false _ (c .before .before .before .before .before .before .before .if2 .left) in
-    let pre = c .before .before .before .before .before .before .before .before .before .before .before .before .before .pre in search needs
+before-byte-requires : tie.Need-before-byte-requires Inv-loop μ-loop
+unfolding decode
+before-byte-requires c κs =
+    let l = source-row _ _ _ _ (c .before .before .loop .inv .1) in
+    let pre = c .before .before .before .before .before .before .before .before .before .before .before .before .before .before .pre in
+    search needs
+
+before-byte-requires-2 : tie.Need-before-byte-requires-2 Inv-loop μ-loop
+before-byte-requires-2 c κs =
+    let pre = c .before .before .before .before .before .before .before .before .before .before .before .before .before .before .before .pre in
+    search needs
+
+returns-2 : tie.Need-returns-2 Inv-loop μ-loop
+unfolding overNth decode _and_
+returns-2 c =
+    let at = c .before .before .before .before .before .before .before .before .before .before .before .before .before in
+    let loop = c .before .before .before .before .before .loop in
+    let on =
+    overwrites-on _ _ _ _ _ _ _ _ _ (loop .inv .1) (at .before .source-at .ensures) (ap (λ (v : Row). v .start + loop .k) (at .row .ensures))
+    (c .before .before .before-byte .ensures) (c .before .before-byte2 .ensures)
+    in
+    sym (least-found _ _ _ (loop .inv .2) (sym on ∙ c .if2 .taken) (c .before .before .before .before .loop-test .taken))
+
+loop-again : tie.Need-loop-again Inv-loop μ-loop
+unfolding decode _and_
+loop-again c =
+    let at = c .before .before .before .before .before .before .before .before .before .before .before .before .before in
+    let loop = c .before .before .before .before .before .loop in
+    let on =
+    overwrites-on _ _ _ _ _ _ _ _ _ (loop .inv .1) (at .before .source-at .ensures) (ap (λ (v : Row). v .start + loop .k) (at .row .ensures))
+    (c .before .before .before-byte .ensures) (c .before .before-byte2 .ensures)
+    in
+    (search needs, loop .inv .1, least-more _ _ (loop .inv .2) (sym on ∙ c .if2 .left))
 
 returns-3 : tie.Need-returns-3 Inv-loop μ-loop
 unfolding overNth
-returns-3 c = sym (least-found _ _ _ (c .before .before .before .before .loop .inv .1)
-    (sym (c .before .overwrites-at .ensures) ∙ c .if3 .taken) (c .before .before .before .loop-test .taken))
-
-loop-again : tie.Need-loop-again Inv-loop μ-loop
-loop-again c = (search needs, least-more _ _ (c .before .before .before .before .loop .inv .1) (sym (c .before .overwrites-at .ensures) ∙ c .if3 .left))
-
-returns-4 : tie.Need-returns-4 Inv-loop μ-loop
-unfolding overNth
-returns-4 c = let e : c .before .loop .k ≡ PAIR = omega arith in sym (rw e at (c .before .loop .inv .1))
+returns-3 c = let e : c .before .loop .k ≡ PAIR = omega arith in sym (rw e at (c .before .loop .inv .2))
 
 pub over-nth-spec : {M : Type 1} → statement M
 over-nth-spec =
     tie.close
-    (tie.spec Inv-loop μ-loop (λ c κs. search needs) returns (λ c κs. search needs) returns-2 (λ c κs. search needs) (λ c κs. search needs)
-    (λ c. search needs) (λ c κs. search needs) (λ c. search needs) (λ c κs. search needs) loop-holds (λ c. search needs)
-    overwrites-at-requires returns-3 (λ c. search needs) (λ c. search needs) loop-again returns-4)
+    (tie.spec Inv-loop μ-loop (λ c κs. search needs) (λ c. search needs) (λ c κs. search needs) (λ c. search needs) (λ c κs. search needs)
+    (λ c κs. search needs) (λ c κs. search needs) (λ c. search needs) (λ c κs. search needs) returns (λ c. search needs)
+    (λ c κs. search needs) loop-holds (λ c. search needs) (λ c. search needs) (λ c. search needs) before-byte-requires
+    before-byte-requires-2 returns-2 (λ c. search needs) (λ c. search needs) loop-again returns-3)

@@ -9,7 +9,5 @@ unfolding availableRows _and_
 returns c = cc
 
 pub available-at-spec : {M : Type 1} → statement M
-available-at-spec =
-    tie.close
-    (tie.spec (λ c. search needs) (λ c κs. search needs) (λ c. search needs) (λ c. search needs) (λ c κs. search needs)
+available-at-spec = tie.close (tie.spec (λ c. search needs) (λ c κs. search needs) (λ c. search needs) (λ c. search needs) (λ c κs. search needs)
     (λ c κs. search needs) returns)

@@ -9,17 +9,16 @@ returns : tie.Need-returns
 returns c = or-on _ _ (sym (c .before .ends-at .ensures) ∙ c .if1 .taken)
 
 returns-2 : tie.Need-returns-2
-returns-2 c = or-neither _ _ _ (sym (c .before .before .before .ends-at .ensures) ∙ c .before .before .if1 .left) (not-true _ (c .if2 .taken))
+returns-2 c = or-neither _ _ _ (sym (c .before .before .before .ends-at .ensures) ∙ c .before .before .if1 .left) (sym (c .before .chains .ensures) ∙ not-true _ (c .if2 .taken))
 
 some-end-requires : tie.Need-some-end-requires
 some-end-requires c κs =
-    let pre = c .before .before .before .before .before .before .pre in
-    record { pair = pre .pair; row = pre .row; chains = not-false _ (c .if2 .left) }
+    let pre = c .before .before .before .before .before .pre in
+    record { pair = pre .pair; row = pre .row; chains = sym (c .before .chains .ensures) ∙ not-false _ (c .if2 .left) }
 
 returns-3 : tie.Need-returns-3
 returns-3 c = or-other _ _ _ _ (sym (c .before .before .before .before .ends-at .ensures) ∙ c .before .before .before .if1 .left)
-    (not-false _ (c .before .if2 .left)) (c .some-end .ensures)
+    (sym (c .before .before .chains .ensures) ∙ not-false _ (c .before .if2 .left)) (c .some-end .ensures)
 
 pub ends-from-spec : {M : Type 1} → statement M
-ends-from-spec =
-    tie.close (tie.spec (λ c κs. search needs) returns returns-2 some-end-requires returns-3)
+ends-from-spec = tie.close (tie.spec (λ c κs. search needs) returns (λ c κs. search needs) returns-2 some-end-requires returns-3)

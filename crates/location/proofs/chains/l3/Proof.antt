@@ -8,16 +8,13 @@ use Rattle.location.proofs.chains.l3.Tie as tie
 
 returns : tie.Need-returns
 unfolding decode
-returns c =
-    let pair = c .before .before .before .before .pre in
-    sym (L3-off _ _ _ _ _ _ (pair .first-is) (pair .second-is) (sym (c .before .public-write .ensures) ∙ not-true _ (c .if1 .taken)))
+returns c = sym (L3-off _ _ _ _ _ _ (c .before .before .before .row .ensures) (c .before .before .row2 .ensures) (sym (c .before .public-write .ensures) ∙ not-true _ (c .if1 .taken)))
 
 returns-2 : tie.Need-returns-2
 unfolding decode
 returns-2 c =
-    let pair = c .before .before .before .before .before .pre in
-    L3-on _ _ _ _ _ _ _ (pair .first-is) (pair .second-is) (sym (c .before .before .public-write .ensures) ∙ not-false _ (c .before .if1 .left))
-    (c .some-carried .ensures)
+    L3-on _ _ _ _ _ _ _ (c .before .before .before .before .row .ensures) (c .before .before .before .row2 .ensures) (sym (c .before .before .public-write .ensures) ∙ not-false _ (c .before .if1 .left)) (c .some-carried .ensures)
 
 pub l3-spec : {M : Type 1} → statement M
-l3-spec = tie.close (tie.spec (λ c κs. search needs) returns (λ c κs. search needs) returns-2)
+l3-spec = tie.close (tie.spec (λ c. search needs) (λ c κs. search needs) (λ c. search needs) (λ c κs. search needs) (λ c κs. search needs) returns
+    (λ c κs. search needs) returns-2)

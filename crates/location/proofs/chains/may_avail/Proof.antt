@@ -9,6 +9,5 @@ unfolding mayAvail _and_
 returns c = cc
 
 pub may-avail-spec : {M : Type 1} → statement M
-may-avail-spec =
-    tie.close
-    (tie.spec (λ c. search needs) (λ c κs. search needs) (λ c. search needs) (λ c κs. search needs) (λ c κs. search needs) returns)
+may-avail-spec = tie.close (tie.spec (λ c. search needs) (λ c κs. search needs) (λ c. search needs) (λ c κs. search needs) (λ c. search needs)
+    (λ c κs. search needs) (λ c κs. search needs) returns)

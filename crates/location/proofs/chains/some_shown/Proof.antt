@@ -1,26 +1,26 @@
+use Rattle.run.specs.Layout.{tableIn}
 use mathlib.Core.Path.{_≡_, sym, _∙_}
 use mathlib.Core.Bool.{false}
 use Prim.Native.Nat.{_+_, _-_, _≤_}
 use native.Mathlib.Omega.{arith}
 use Rattle.finite.specs.Below.{anyBelow, any-none, any-more, any-in}
-use Rattle.model.specs.Table.{decode}
 use Rattle.location.specs.Chains.{shownBy, shown-none}
 use borrow.Author.Needs.{needs}
 use Rattle.location.proofs.chains.some_shown.Statement.{statement}
 use Rattle.location.proofs.chains.some_shown.Tie as tie
 
 abbrev Inv-loop : tie.InvT-loop
-Inv-loop rows p mode n x y r q b i s w v₀ v-end v = (v ≤ y + 1) × (anyBelow v (shownBy (decode rows p mode n) x y b i) ≡ false)
+Inv-loop t n x y b i w v₀ v-end v = (v ≤ y + 1) × (anyBelow v (shownBy (tableIn t n) x y b i) ≡ false)
 
 abbrev μ-loop : tie.MeasureT-loop
-μ-loop rows p mode n x y r q b i s w v₀ v-end v = y + 1 - v
+μ-loop t n x y b i w v₀ v-end v = y + 1 - v
 
 loop-holds : tie.Need-loop-holds Inv-loop μ-loop
 loop-holds c = (search needs, any-none _)
 
 shown-in-requires : tie.Need-shown-in-requires Inv-loop μ-loop
 shown-in-requires c κs =
-    let pre = c .before .before .before .before .pre in
+    let pre = c .before .before .before .pre in
     record { element = pre; last = omega (arith, pre .pair .second, c .loop-test .taken) }
 
 returns : tie.Need-returns Inv-loop μ-loop
@@ -31,11 +31,9 @@ loop-again c = (search needs, any-more _ _ (c .before .before .before .loop .inv
 
 returns-2 : tie.Need-returns-2 Inv-loop μ-loop
 returns-2 c =
-    let e : c .before .loop .v ≡ c .before .before .before .before .args .y + 1 = omega arith in
+    let e : c .before .loop .v ≡ c .before .before .before .args .y + 1 = omega arith in
     sym (shown-none _ _ _ _ _ _ _ _ (rw e at (c .before .loop .inv .1)))
 
 pub some-shown-spec : {M : Type 1} → statement M
-some-shown-spec =
-    tie.close
-    (tie.spec Inv-loop μ-loop (λ c. search needs) loop-holds shown-in-requires returns (λ c. search needs) (λ c. search needs) loop-again
+some-shown-spec = tie.close (tie.spec Inv-loop μ-loop (λ c. search needs) loop-holds shown-in-requires returns (λ c. search needs) (λ c. search needs) loop-again
     returns-2)

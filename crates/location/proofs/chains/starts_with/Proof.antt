@@ -8,13 +8,13 @@ use Rattle.location.proofs.chains.starts_with.Tie as tie
 
 returns : tie.Need-returns
 returns c =
-    let pre = c .before .before .before .before .pre in
+    let pre = c .before .before .before .pre in
     sym (starts-row (pre .element .pair) _ _ _ (pre .chains) (pre .last) (pre .next) (c .before .get .ensures)
     ∙ and-false-left _ _ (not-true _ (c .if1 .taken)))
 
 returns-2 : tie.Need-returns-2
 returns-2 c =
-    let pre = c .before .before .before .before .before .pre in
+    let pre = c .before .before .before .before .pre in
     c .seen-at .ensures ∙ sym (starts-row (pre .element .pair) _ _ _ (pre .chains) (pre .last) (pre .next) (c .before .before .get .ensures)
     ∙ and-on _ _ (not-false _ (c .before .if1 .left)))
 

@@ -9,7 +9,5 @@ unfolding visibleRows _and_
 returns c = cc
 
 pub visible-at-spec : {M : Type 1} → statement M
-visible-at-spec =
-    tie.close
-    (tie.spec (λ c. search needs) (λ c κs. search needs) (λ c. search needs) (λ c. search needs) (λ c κs. search needs)
+visible-at-spec = tie.close (tie.spec (λ c. search needs) (λ c κs. search needs) (λ c. search needs) (λ c. search needs) (λ c κs. search needs)
     (λ c κs. search needs) returns)

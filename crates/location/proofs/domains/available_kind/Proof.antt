@@ -6,11 +6,11 @@ use Rattle.location.proofs.domains.available_kind.Tie as tie
 
 returns : tie.Need-returns
 unfolding availableOf
-returns c = simp (sym (c .before .is-host .ensures) ∙ c .if1 .taken)
+returns c = simp (sym (rw (c .before .before .places .ensures) at (c .before .is-host .ensures)) ∙ c .if1 .taken)
 
 returns-2 : tie.Need-returns-2
 unfolding availableOf
-returns-2 c = simp (sym (c .before .is-host .ensures) ∙ c .if1 .left)
+returns-2 c = simp (sym (rw (c .before .before .places .ensures) at (c .before .is-host .ensures)) ∙ c .if1 .left)
 
 pub available-kind-spec : {M : Type 1} → statement M
-available-kind-spec = tie.close (tie.spec (λ c κs. search needs) returns returns-2)
+available-kind-spec = tie.close (tie.spec (λ c κs. search needs) (λ c κs. search needs) returns returns-2)

@@ -1,6 +1,6 @@
+use Rattle.run.specs.Layout.{tableIn}
 use Prim.Native.Nat.{_-_}
 use native.Mathlib.Omega.{arith}
-use Rattle.model.specs.Table.{decode}
 use Rattle.location.specs.Domains.{metBy}
 use Rattle.area.specs.Regions.{MET, MET-END}
 use Rattle.area.specs.State.{Ordered, ordered-kept}
@@ -10,21 +10,21 @@ use Rattle.location.proofs.domains.fill_met.Statement.{statement}
 use Rattle.location.proofs.domains.fill_met.Tie as tie
 
 abbrev Inv-loop2 : tie.InvT-loop2
-Inv-loop2 rows p mode n w₀ m y₀ w y = RowFilled (Ordered (decode rows p mode n) n) MET n m (metBy (decode rows p mode n) m) w₀ w y
+Inv-loop2 t n w₀ m y₀ w y = RowFilled (Ordered (tableIn t n) n) MET n m (metBy (tableIn t n) m) w₀ w y
 
 abbrev μ-loop2 : tie.MeasureT-loop2
-μ-loop2 rows p mode n w₀ m y₀ w y = n - y
+μ-loop2 t n w₀ m y₀ w y = n - y
 
 abbrev Inv-loop : tie.InvT-loop
-Inv-loop rows p mode n w₀ m₀ w m = GridFilled (Ordered (decode rows p mode n) n) MET n (metBy (decode rows p mode n)) w₀ w m
+Inv-loop t n w₀ m₀ w m = GridFilled (Ordered (tableIn t n) n) MET n (metBy (tableIn t n)) w₀ w m
 
 abbrev μ-loop : tie.MeasureT-loop
-μ-loop rows p mode n w₀ m₀ w m = n - m
+μ-loop t n w₀ m₀ w m = n - m
 
 loop-holds : tie.Need-loop-holds Inv-loop2 μ-loop2 Inv-loop μ-loop
 loop-holds c =
     grid-begun MET-END (omega arith) (ordered-kept (omega arith)) (c .before .before .clear .ensures)
-    (c .before .before .before .before .before .before .pre .holds)
+    (c .before .before .before .before .before .pre .holds)
 
 loop2-holds : tie.Need-loop2-holds Inv-loop2 μ-loop2 Inv-loop μ-loop
 loop2-holds c = row-begun (c .before .loop .inv .holds)
@@ -43,7 +43,5 @@ returns c =
     grid-done MET-END (omega arith) (omega arith) (omega arith) (omega arith) (c .before .before .before .before .clear .ensures) (c .before .loop .inv)
 
 pub fill-met-spec : {M : Type 1} → statement M
-fill-met-spec =
-    tie.close
-    (tie.spec Inv-loop2 μ-loop2 Inv-loop μ-loop (λ c κs. search needs) loop-holds loop2-holds (λ c κs. search needs) (λ c κs. search needs)
+fill-met-spec = tie.close (tie.spec Inv-loop2 μ-loop2 Inv-loop μ-loop (λ c κs. search needs) loop-holds loop2-holds (λ c κs. search needs) (λ c κs. search needs)
     (λ c. search needs) (λ c. search needs) loop2-again (λ c. search needs) (λ c. search needs) loop-again (λ c. search needs) returns)

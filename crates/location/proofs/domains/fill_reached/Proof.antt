@@ -1,6 +1,6 @@
+use Rattle.run.specs.Layout.{tableIn}
 use Prim.Native.Nat.{_-_}
 use native.Mathlib.Omega.{arith}
-use Rattle.model.specs.Table.{decode}
 use Rattle.location.specs.Domains.{reached}
 use Rattle.area.specs.Regions.{REACHED, REACHED-END}
 use Rattle.location.specs.Domains.{Meeting, meeting-kept}
@@ -10,21 +10,21 @@ use Rattle.location.proofs.domains.fill_reached.Statement.{statement}
 use Rattle.location.proofs.domains.fill_reached.Tie as tie
 
 abbrev Inv-loop2 : tie.InvT-loop2
-Inv-loop2 rows p mode n w₀ a y₀ w y = RowFilled (Meeting (decode rows p mode n) n) REACHED n a (reached (decode rows p mode n) a) w₀ w y
+Inv-loop2 t n w₀ a y₀ w y = RowFilled (Meeting (tableIn t n) n) REACHED n a (reached (tableIn t n) a) w₀ w y
 
 abbrev μ-loop2 : tie.MeasureT-loop2
-μ-loop2 rows p mode n w₀ a y₀ w y = n - y
+μ-loop2 t n w₀ a y₀ w y = n - y
 
 abbrev Inv-loop : tie.InvT-loop
-Inv-loop rows p mode n w₀ a₀ w a = GridFilled (Meeting (decode rows p mode n) n) REACHED n (reached (decode rows p mode n)) w₀ w a
+Inv-loop t n w₀ a₀ w a = GridFilled (Meeting (tableIn t n) n) REACHED n (reached (tableIn t n)) w₀ w a
 
 abbrev μ-loop : tie.MeasureT-loop
-μ-loop rows p mode n w₀ a₀ w a = n - a
+μ-loop t n w₀ a₀ w a = n - a
 
 loop-holds : tie.Need-loop-holds Inv-loop2 μ-loop2 Inv-loop μ-loop
 loop-holds c =
     grid-begun REACHED-END (omega arith) meeting-kept (c .before .before .clear .ensures)
-    (c .before .before .before .before .before .before .pre .holds)
+    (c .before .before .before .before .before .pre .holds)
 
 loop2-holds : tie.Need-loop2-holds Inv-loop2 μ-loop2 Inv-loop μ-loop
 loop2-holds c = row-begun (c .before .loop .inv .holds)
@@ -43,7 +43,5 @@ returns c =
     grid-done REACHED-END (omega arith) (omega arith) (omega arith) (omega arith) (c .before .before .before .before .clear .ensures) (c .before .loop .inv)
 
 pub fill-reached-spec : {M : Type 1} → statement M
-fill-reached-spec =
-    tie.close
-    (tie.spec Inv-loop2 μ-loop2 Inv-loop μ-loop (λ c κs. search needs) loop-holds loop2-holds (λ c κs. search needs) (λ c κs. search needs)
+fill-reached-spec = tie.close (tie.spec Inv-loop2 μ-loop2 Inv-loop μ-loop (λ c κs. search needs) loop-holds loop2-holds (λ c κs. search needs) (λ c κs. search needs)
     (λ c. search needs) (λ c. search needs) loop2-again (λ c. search needs) (λ c. search needs) loop-again (λ c. search needs) returns)

@@ -1,3 +1,4 @@
+use Rattle.run.specs.Layout.{rowsIn}
 use Rattle.location.specs.Domains.{onwardBits}
 use Rattle.finite.specs.Below.{anyBelow, any-none, any-more, any-in}
 use native.Mathlib.Omega.{arith}
@@ -9,10 +10,10 @@ use Rattle.location.proofs.domains.is_onward.Statement.{statement}
 use Rattle.location.proofs.domains.is_onward.Tie as tie
 
 abbrev Inv-loop : tie.InvT-loop
-Inv-loop rows n base kind x y w i₀ i = (i ≤ n) × (anyBelow i (onwardBits rows w base kind x y) ≡ false)
+Inv-loop t n base kind x y w i₀ i = (i ≤ n) × (anyBelow i (onwardBits (rowsIn t) w base kind x y) ≡ false)
 
 abbrev μ-loop : tie.MeasureT-loop
-μ-loop rows n base kind x y w i₀ i = n - i
+μ-loop t n base kind x y w i₀ i = n - i
 
 loop-holds : tie.Need-loop-holds Inv-loop μ-loop
 loop-holds c = (search needs, any-none _)
@@ -25,10 +26,8 @@ loop-again c = (search needs, any-more _ _ (c .before .before .before .loop .inv
 
 returns-2 : tie.Need-returns-2 Inv-loop μ-loop
 returns-2 c =
-    let e : c .before .loop .i ≡ c .before .before .before .before .args .n = omega arith in
+    let e : c .before .loop .i ≡ c .before .before .before .args .n = omega arith in
     sym (rw e at (c .before .loop .inv .1))
 
 pub is-onward-spec : {M : Type 1} → statement M
-is-onward-spec =
-    tie.close
-    (tie.spec Inv-loop μ-loop loop-holds (λ c κs. search needs) returns (λ c. search needs) (λ c. search needs) loop-again returns-2)
+is-onward-spec = tie.close (tie.spec Inv-loop μ-loop loop-holds (λ c κs. search needs) returns (λ c. search needs) (λ c. search needs) loop-again returns-2)

@@ -1,3 +1,4 @@
+use Rattle.run.specs.Layout.{rowsIn}
 use Rattle.location.specs.Domains.{seenBits}
 use Rattle.finite.specs.Below.{anyBelow, any-none, any-more, any-in}
 use native.Mathlib.Omega.{arith}
@@ -9,10 +10,10 @@ use Rattle.location.proofs.domains.is_seen.Statement.{statement}
 use Rattle.location.proofs.domains.is_seen.Tie as tie
 
 abbrev Inv-loop : tie.InvT-loop
-Inv-loop rows n kind m y w i₀ i = (i ≤ n) × (anyBelow i (seenBits rows w kind m y) ≡ false)
+Inv-loop t n kind m y w i₀ i = (i ≤ n) × (anyBelow i (seenBits (rowsIn t) w kind m y) ≡ false)
 
 abbrev μ-loop : tie.MeasureT-loop
-μ-loop rows n kind m y w i₀ i = n - i
+μ-loop t n kind m y w i₀ i = n - i
 
 loop-holds : tie.Need-loop-holds Inv-loop μ-loop
 loop-holds c = (search needs, any-none _)
@@ -25,10 +26,8 @@ loop-again c = (search needs, any-more _ _ (c .before .before .before .loop .inv
 
 returns-2 : tie.Need-returns-2 Inv-loop μ-loop
 returns-2 c =
-    let e : c .before .loop .i ≡ c .before .before .before .before .args .n = omega arith in
+    let e : c .before .loop .i ≡ c .before .before .before .args .n = omega arith in
     sym (rw e at (c .before .loop .inv .1))
 
 pub is-seen-spec : {M : Type 1} → statement M
-is-seen-spec =
-    tie.close
-    (tie.spec Inv-loop μ-loop loop-holds (λ c κs. search needs) returns (λ c. search needs) (λ c. search needs) loop-again returns-2)
+is-seen-spec = tie.close (tie.spec Inv-loop μ-loop loop-holds (λ c κs. search needs) returns (λ c. search needs) (λ c. search needs) loop-again returns-2)

@@ -7,29 +7,27 @@ use Rattle.location.proofs.domains.met_at.Tie as tie
 
 returns : tie.Need-returns
 unfolding operationAt
-returns c = met-off (c .before .before .before .before .pre) (sym (c .before .operation-at .ensures) ∙ not-true _ (c .if1 .taken))
+returns c = met-off (c .before .before .before .pre) (sym (c .before .operation-at .ensures) ∙ not-true _ (c .if1 .taken))
 
 returns-2 : tie.Need-returns-2
 unfolding operationAt
 returns-2 c =
-    let pre = c .before .before .before .before .before .before .before .before .before .pre in
+    let pre = c .before .before .before .before .before .before .before .before .pre in
     met-read pre
     (sym (c .before .before .before .before .before .before .operation-at .ensures)
-    ∙ not-false _ (c .before .before .before .before .before .if1 .left)) (c .before .before .before .before .read-row .ensures)
+    ∙ not-false _ (c .before .before .before .before .before .if1 .left)) (c .before .before .before .before .row .ensures)
     (sym (c .before .before .before .reads .ensures) ∙ c .before .before .if2 .taken) (c .before .visible-kind .ensures) (c .is-seen .ensures)
 
 returns-3 : tie.Need-returns-3
 unfolding operationAt
 returns-3 c =
-    let pre = c .before .before .before .before .before .before .before .before .pre in
+    let pre = c .before .before .before .before .before .before .before .pre in
     met-other pre
     (sym (c .before .before .before .before .before .operation-at .ensures)
-    ∙ not-false _ (c .before .before .before .before .if1 .left)) (c .before .before .before .read-row .ensures)
+    ∙ not-false _ (c .before .before .before .before .if1 .left)) (c .before .before .before .row .ensures)
     (sym (c .before .before .reads .ensures) ∙ c .before .if2 .left) (c .happens-bit .ensures)
 
 pub met-at-spec : {M : Type 1} → statement M
-met-at-spec =
-    tie.close
-    (tie.spec (λ c κs. search needs) returns (λ c. search needs) (λ c κs. search needs) (λ c κs. search needs) (λ c κs. search needs)
+met-at-spec = tie.close (tie.spec (λ c κs. search needs) returns (λ c. search needs) (λ c κs. search needs) (λ c κs. search needs) (λ c κs. search needs)
     (λ c κs. search needs) returns-2 (λ c. search needs) (λ c. search needs) (λ c. search needs) (λ c. search needs) (λ c κs. search needs)
     returns-3)

@@ -1,5 +1,4 @@
 use Rattle.location.specs.Domains.{operationAt}
-use Rattle.model.specs.Table.{rowOf}
 use Rattle.model.specs.Row.{operation}
 use Rattle.finite.specs.Logic.{_and_}
 use borrow.Author.Needs.{needs}
@@ -7,7 +6,7 @@ use Rattle.location.proofs.domains.operation_at.Statement.{statement}
 use Rattle.location.proofs.domains.operation_at.Tie as tie
 
 returns : tie.Need-returns
-unfolding operationAt operation rowOf _and_
+unfolding operationAt operation _and_
 returns c = cc
 
 pub operation-at-spec : {M : Type 1} → statement M

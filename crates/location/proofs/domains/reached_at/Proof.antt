@@ -1,5 +1,4 @@
 use Rattle.location.specs.Domains.{reached-off, reached-here, reached-over}
-use Rattle.model.specs.Table.{rowOf}
 use borrow.Author.Tests.{not-true, not-false}
 use mathlib.Core.Path.{sym, _∙_}
 use borrow.Author.Needs.{needs}
@@ -8,32 +7,28 @@ use Rattle.location.proofs.domains.reached_at.Tie as tie
 
 returns : tie.Need-returns
 returns c =
-    let pre = c .before .before .before .before .before .pre in
-    reached-off pre (c .before .before .row-byte .ensures)
+    let pre = c .before .before .before .before .pre in
+    reached-off pre (c .before .before .kind .ensures)
     (sym (c .before .is-available .ensures) ∙ not-true _ (c .if1 .taken))
 
 returns-2 : tie.Need-returns-2
-unfolding rowOf
 returns-2 c =
     let pre = c .before .before .before .before .before .before .before .before .before .pre in
     reached-here pre
-    (c .before .before .before .before .before .before .row-byte .ensures)
-    (sym (c .before .before .before .before .before .is-available .ensures)
-    ∙ not-false _ (c .before .before .before .before .if1 .left)) (c .before .before .before .read-agent .ensures)
-    (c .before .before .is-host .ensures) (c .before .if2 .taken) (c .grid-bit .ensures)
+    (c .before .before .before .before .before .before .before .kind .ensures)
+    (sym (c .before .before .before .before .before .before .is-available .ensures)
+    ∙ not-false _ (c .before .before .before .before .before .if1 .left)) (c .before .before .before .before .agent .ensures)
+    (rw (c .before .before .before .places .ensures) at (c .before .before .is-host .ensures)) (c .before .if2 .taken) (c .grid-bit .ensures)
 
 returns-3 : tie.Need-returns-3
-unfolding rowOf
 returns-3 c =
     let pre = c .before .before .before .before .before .before .before .before .before .before .pre in
     reached-over pre
-    (c .before .before .before .before .before .before .before .row-byte .ensures)
-    (sym (c .before .before .before .before .before .before .is-available .ensures)
-    ∙ not-false _ (c .before .before .before .before .before .if1 .left)) (c .before .before .before .before .read-agent .ensures)
-    (c .before .before .before .is-host .ensures) (c .before .before .if2 .left) (c .before .out-of .ensures) (c .is-onward .ensures)
+    (c .before .before .before .before .before .before .before .before .kind .ensures)
+    (sym (c .before .before .before .before .before .before .before .is-available .ensures)
+    ∙ not-false _ (c .before .before .before .before .before .before .if1 .left)) (c .before .before .before .before .before .agent .ensures)
+    (rw (c .before .before .before .before .places .ensures) at (c .before .before .before .is-host .ensures)) (c .before .before .if2 .left) (c .before .out-of .ensures) (c .is-onward .ensures)
 
 pub reached-at-spec : {M : Type 1} → statement M
-reached-at-spec =
-    tie.close
-    (tie.spec (λ c. search needs) (λ c κs. search needs) (λ c κs. search needs) returns (λ c. search needs) (λ c κs. search needs)
-    (λ c κs. search needs) (λ c κs. search needs) returns-2 (λ c κs. search needs) (λ c κs. search needs) returns-3)
+reached-at-spec = tie.close (tie.spec (λ c. search needs) (λ c κs. search needs) (λ c κs. search needs) returns (λ c. search needs) (λ c κs. search needs)
+    (λ c κs. search needs) (λ c κs. search needs) (λ c κs. search needs) returns-2 (λ c κs. search needs) (λ c κs. search needs) returns-3)

@@ -15,7 +15,5 @@ unfolding seenBits
 returns-2 c = c .happens-bit .ensures ∙ sym (and-on _ _ (sym (c .before .before .thence-at .ensures) ∙ not-false _ (c .before .if1 .left)))
 
 pub seen-at-spec : {M : Type 1} → statement M
-seen-at-spec =
-    tie.close
-    (tie.spec (λ c κs. search needs) returns (λ c. search needs) (λ c. search needs) (λ c. search needs) (λ c. search needs)
+seen-at-spec = tie.close (tie.spec (λ c κs. search needs) returns (λ c. search needs) (λ c. search needs) (λ c. search needs) (λ c. search needs)
     (λ c κs. search needs) returns-2)

@@ -1,6 +1,6 @@
+use Rattle.run.specs.Layout.{tableIn}
 use Prim.Native.Nat.{_-_}
 use native.Mathlib.Omega.{arith}
-use Rattle.model.specs.Table.{decode}
 use Rattle.location.specs.Order.{hosted}
 use Rattle.area.specs.Regions.{HOSTED, HOSTED-END}
 use Rattle.location.specs.Domains.{Sources, sources-kept}
@@ -10,21 +10,21 @@ use Rattle.location.proofs.hosted.fill_hosted.Statement.{statement}
 use Rattle.location.proofs.hosted.fill_hosted.Tie as tie
 
 abbrev Inv-loop2 : tie.InvT-loop2
-Inv-loop2 rows p mode n w₀ x y₀ w y = RowFilled (Sources (decode rows p mode n) n) HOSTED n x (hosted (decode rows p mode n) x) w₀ w y
+Inv-loop2 t n w₀ x y₀ w y = RowFilled (Sources (tableIn t n) n) HOSTED n x (hosted (tableIn t n) x) w₀ w y
 
 abbrev μ-loop2 : tie.MeasureT-loop2
-μ-loop2 rows p mode n w₀ x y₀ w y = n - y
+μ-loop2 t n w₀ x y₀ w y = n - y
 
 abbrev Inv-loop : tie.InvT-loop
-Inv-loop rows p mode n w₀ x₀ w x = GridFilled (Sources (decode rows p mode n) n) HOSTED n (hosted (decode rows p mode n)) w₀ w x
+Inv-loop t n w₀ x₀ w x = GridFilled (Sources (tableIn t n) n) HOSTED n (hosted (tableIn t n)) w₀ w x
 
 abbrev μ-loop : tie.MeasureT-loop
-μ-loop rows p mode n w₀ x₀ w x = n - x
+μ-loop t n w₀ x₀ w x = n - x
 
 loop-holds : tie.Need-loop-holds Inv-loop2 μ-loop2 Inv-loop μ-loop
 loop-holds c =
     grid-begun HOSTED-END (omega arith) sources-kept (c .before .before .clear .ensures)
-    (c .before .before .before .before .before .before .pre .holds)
+    (c .before .before .before .before .before .pre .holds)
 
 loop2-holds : tie.Need-loop2-holds Inv-loop2 μ-loop2 Inv-loop μ-loop
 loop2-holds c = row-begun (c .before .loop .inv .holds)
@@ -43,7 +43,5 @@ returns c =
     grid-done HOSTED-END (omega arith) (omega arith) (omega arith) (omega arith) (c .before .before .before .before .clear .ensures) (c .before .loop .inv)
 
 pub fill-hosted-spec : {M : Type 1} → statement M
-fill-hosted-spec =
-    tie.close
-    (tie.spec Inv-loop2 μ-loop2 Inv-loop μ-loop (λ c κs. search needs) loop-holds loop2-holds (λ c κs. search needs) (λ c κs. search needs)
+fill-hosted-spec = tie.close (tie.spec Inv-loop2 μ-loop2 Inv-loop μ-loop (λ c κs. search needs) loop-holds loop2-holds (λ c κs. search needs) (λ c κs. search needs)
     (λ c. search needs) (λ c. search needs) loop2-again (λ c. search needs) (λ c. search needs) loop-again (λ c. search needs) returns)

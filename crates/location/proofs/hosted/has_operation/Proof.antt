@@ -1,3 +1,4 @@
+use Rattle.run.specs.Layout.{rowsIn}
 use Rattle.location.specs.Domains.{operationAt}
 use Rattle.finite.specs.Below.{anyBelow, any-none, any-more, any-in}
 use native.Mathlib.Omega.{arith}
@@ -9,10 +10,10 @@ use Rattle.location.proofs.hosted.has_operation.Statement.{statement}
 use Rattle.location.proofs.hosted.has_operation.Tie as tie
 
 abbrev Inv-loop : tie.InvT-loop
-Inv-loop rows n i₀ i = (i ≤ n) × (anyBelow i (operationAt rows) ≡ false)
+Inv-loop t n i₀ i = (i ≤ n) × (anyBelow i (operationAt (rowsIn t)) ≡ false)
 
 abbrev μ-loop : tie.MeasureT-loop
-μ-loop rows n i₀ i = n - i
+μ-loop t n i₀ i = n - i
 
 loop-holds : tie.Need-loop-holds Inv-loop μ-loop
 loop-holds c = (search needs, any-none _)
@@ -25,10 +26,8 @@ loop-again c = (search needs, any-more _ _ (c .before .before .before .loop .inv
 
 returns-2 : tie.Need-returns-2 Inv-loop μ-loop
 returns-2 c =
-    let e : c .before .loop .i ≡ c .before .before .before .args .n = omega arith in
+    let e : c .before .loop .i ≡ c .before .before .args .n = omega arith in
     sym (rw e at (c .before .loop .inv .1))
 
 pub has-operation-spec : {M : Type 1} → statement M
-has-operation-spec =
-    tie.close
-    (tie.spec Inv-loop μ-loop loop-holds (λ c κs. search needs) returns (λ c. search needs) (λ c. search needs) loop-again returns-2)
+has-operation-spec = tie.close (tie.spec Inv-loop μ-loop loop-holds (λ c κs. search needs) returns (λ c. search needs) (λ c. search needs) loop-again returns-2)

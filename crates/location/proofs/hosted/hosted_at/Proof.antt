@@ -7,30 +7,28 @@ use Rattle.location.proofs.hosted.hosted_at.Tie as tie
 
 returns : tie.Need-returns
 returns c =
-    let pre = c .before .before .before .before .before .before .pre in
-    hosted-off pre (c .before .before .before .read-row .ensures) (c .before .before .read-row2 .ensures)
+    let pre = c .before .before .before .before .before .pre in
+    hosted-off pre (c .before .before .before .row .ensures) (c .before .before .row2 .ensures)
     (sym (c .before .may-share .ensures) ∙ not-true _ (c .if1 .taken))
 
 returns-2 : tie.Need-returns-2
 returns-2 c =
-    let pre = c .before .before .before .before .before .before .before .before .before .pre in
+    let pre = c .before .before .before .before .before .before .before .before .pre in
     hosted-fourth pre
-    (c .before .before .before .before .before .before .read-row .ensures)
-    (c .before .before .before .before .before .read-row2 .ensures)
+    (c .before .before .before .before .before .before .row .ensures)
+    (c .before .before .before .before .before .row2 .ensures)
     (sym (c .before .before .before .before .may-share .ensures) ∙ not-false _ (c .before .before .before .if1 .left))
     (c .before .before .grid-bit .ensures) (c .before .l4 .ensures) (c .if2 .taken)
 
 returns-3 : tie.Need-returns-3
 returns-3 c =
-    let pre = c .before .before .before .before .before .before .before .before .before .before .pre in
+    let pre = c .before .before .before .before .before .before .before .before .before .pre in
     hosted-fifth pre
-    (c .before .before .before .before .before .before .before .read-row .ensures)
-    (c .before .before .before .before .before .before .read-row2 .ensures)
+    (c .before .before .before .before .before .before .before .row .ensures)
+    (c .before .before .before .before .before .before .row2 .ensures)
     (sym (c .before .before .before .before .before .may-share .ensures) ∙ not-false _ (c .before .before .before .before .if1 .left))
-    (c .before .before .before .grid-bit .ensures) (c .before .before .l4 .ensures) (c .before .if2 .left) refl (c .l5 .ensures)
+    (c .before .before .before .grid-bit .ensures) (c .before .before .l4 .ensures) (c .before .if2 .left) (c .l5 .ensures)
 
 pub hosted-at-spec : {M : Type 1} → statement M
-hosted-at-spec =
-    tie.close
-    (tie.spec (λ c. search needs) (λ c κs. search needs) (λ c. search needs) (λ c κs. search needs) (λ c κs. search needs) returns
+hosted-at-spec = tie.close (tie.spec (λ c. search needs) (λ c κs. search needs) (λ c. search needs) (λ c κs. search needs) (λ c κs. search needs) returns
     (λ c κs. search needs) (λ c κs. search needs) returns-2 (λ c κs. search needs) returns-3)

@@ -9,4 +9,4 @@ unfolding unhosted _and_
 returns c = cc
 
 pub is-unhosted-spec : {M : Type 1} → statement M
-is-unhosted-spec = tie.close (tie.spec (λ c κs. search needs) returns)
+is-unhosted-spec = tie.close (tie.spec (λ c κs. search needs) (λ c κs. search needs) returns)

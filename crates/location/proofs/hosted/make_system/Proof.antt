@@ -11,15 +11,15 @@ use Rattle.location.proofs.hosted.make_system.Statement.{statement}
 use Rattle.location.proofs.hosted.make_system.Tie as tie
 
 abbrev Inv-loop : tie.InvT-loop
-Inv-loop mode n w₀ k₀ k-end w k = (k ≤ mode .dependencies) × (length w ≡ length w₀) × Holds SYSTEM GRID n (depends mode k) w × Within SYSTEM SYSTEM-END w₀ w
+Inv-loop t n w₀ mode k₀ k-end w k = (k ≤ mode .dependencies) × (length w ≡ length w₀) × Holds SYSTEM GRID n (depends mode k) w × Within SYSTEM SYSTEM-END w₀ w
 
 abbrev μ-loop : tie.MeasureT-loop
-μ-loop mode n w₀ k₀ k-end w k = mode .dependencies - k
+μ-loop t n w₀ mode k₀ k-end w k = mode .dependencies - k
 
 loop-holds : tie.Need-loop-holds Inv-loop μ-loop
 loop-holds c =
-    let pre = c .before .before .before .before .before .pre in
-    (search needs, refl, depends-none _ pre (c .before .before .clear .ensures), within-refl _ _ _)
+    let pre = c .before .before .before .before .before .before .pre in
+    (search needs, refl, depends-none _ pre (c .before .before .before .clear .ensures), within-refl _ _ _)
 
 loop-again : tie.Need-loop-again Inv-loop μ-loop
 loop-again c =
@@ -29,15 +29,13 @@ loop-again c =
 
 returns : tie.Need-returns Inv-loop μ-loop
 returns c =
-    let s = c .before .before .before .before .before .before .before .before .before .before .before in
+    let s = c .before .before .before .before .before .before .before .before .before .before .before .before in
     let inv = c .before .before .before .before .before .loop .inv in
-    let e : c .before .before .before .before .before .loop .k ≡ s .args .mode .dependencies = omega arith in
-    made-system _ (s .pre .few) e (within-trans
-    (within-cleared SYSTEM SYSTEM-END (omega arith) (c .before .before .before .before .before .before .before .before .clear .ensures))
-    (inv .3)) (inv .2) (c .before .before .close .ensures)
+    let e : c .before .before .before .before .before .loop .k ≡ c .before .before .before .before .before .before .mode .result .dependencies = omega arith in
+    rw (c .before .before .before .before .before .before .mode .ensures) at (made-system _ (s .pre .few) e (within-trans
+    (within-cleared SYSTEM SYSTEM-END (omega arith) (c .before .before .before .before .before .before .before .before .before .clear .ensures))
+    (inv .3)) (inv .2) (c .before .before .close .ensures))
 
 pub make-system-spec : {M : Type 1} → statement M
-make-system-spec =
-    tie.close
-    (tie.spec Inv-loop μ-loop (λ c κs. search needs) loop-holds (λ c κs. search needs) (λ c. search needs) (λ c. search needs) loop-again
-    (λ c κs. search needs) (λ c. search needs) returns)
+make-system-spec = tie.close (tie.spec Inv-loop μ-loop (λ c κs. search needs) (λ c κs. search needs) loop-holds (λ c κs. search needs) (λ c. search needs)
+    (λ c. search needs) loop-again (λ c κs. search needs) (λ c. search needs) returns)

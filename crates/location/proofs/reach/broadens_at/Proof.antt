@@ -12,14 +12,12 @@ returns c = sym (broadens-off _ _ _ _ _ _ (sym (c .before .has-flag .ensures) �
 returns-2 : tie.Need-returns-2
 unfolding _and_
 returns-2 c =
-    sym (broadens-is (c .before .before .before .before .before .before .before .before .before .before .before .pre)
-    (c .before .before .before .before .before .before .read-row .ensures) (c .before .before .before .before .before .read-row2 .ensures)
+    sym (broadens-is (c .before .before .before .before .before .before .before .before .before .before .pre)
+    (c .before .before .before .before .before .before .row .ensures) (c .before .before .before .before .before .row2 .ensures)
     (c .before .before .before .before .available-part .ensures) (c .before .before .before .available-part2 .ensures)
     (c .before .before .availability-of .ensures) (c .before .is-broader .ensures) (c .happens-bit .ensures))
 
 pub broadens-at-spec : {M : Type 1} → statement M
-broadens-at-spec =
-    tie.close
-    (tie.spec (λ c κs. search needs) returns (λ c. search needs) (λ c κs. search needs) (λ c. search needs) (λ c κs. search needs)
+broadens-at-spec = tie.close (tie.spec (λ c κs. search needs) returns (λ c. search needs) (λ c κs. search needs) (λ c. search needs) (λ c κs. search needs)
     (λ c κs. search needs) (λ c κs. search needs) (λ c. search needs) (λ c κs. search needs) (λ c κs. search needs) (λ c. search needs)
     (λ c. search needs) (λ c. search needs) (λ c. search needs) (λ c κs. search needs) returns-2)

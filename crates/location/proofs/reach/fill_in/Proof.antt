@@ -1,6 +1,6 @@
+use Rattle.run.specs.Layout.{tableIn}
 use Prim.Native.Nat.{_-_}
 use native.Mathlib.Omega.{arith}
-use Rattle.model.specs.Table.{decode}
 use Rattle.model.specs.Location.{narrows}
 use Rattle.area.specs.Regions.{REACH-IN, REACH-IN-END}
 use Rattle.area.specs.State.{Ordered, ordered-kept}
@@ -10,21 +10,21 @@ use Rattle.location.proofs.reach.fill_in.Statement.{statement}
 use Rattle.location.proofs.reach.fill_in.Tie as tie
 
 abbrev Inv-loop2 : tie.InvT-loop2
-Inv-loop2 rows p mode n w₀ j v₀ w v = RowFilled (Ordered (decode rows p mode n) n) REACH-IN n j (narrows (decode rows p mode n) j) w₀ w v
+Inv-loop2 t n w₀ j v₀ w v = RowFilled (Ordered (tableIn t n) n) REACH-IN n j (narrows (tableIn t n) j) w₀ w v
 
 abbrev μ-loop2 : tie.MeasureT-loop2
-μ-loop2 rows p mode n w₀ j v₀ w v = n - v
+μ-loop2 t n w₀ j v₀ w v = n - v
 
 abbrev Inv-loop : tie.InvT-loop
-Inv-loop rows p mode n w₀ j₀ w j = GridFilled (Ordered (decode rows p mode n) n) REACH-IN n (narrows (decode rows p mode n)) w₀ w j
+Inv-loop t n w₀ j₀ w j = GridFilled (Ordered (tableIn t n) n) REACH-IN n (narrows (tableIn t n)) w₀ w j
 
 abbrev μ-loop : tie.MeasureT-loop
-μ-loop rows p mode n w₀ j₀ w j = n - j
+μ-loop t n w₀ j₀ w j = n - j
 
 loop-holds : tie.Need-loop-holds Inv-loop2 μ-loop2 Inv-loop μ-loop
 loop-holds c =
     grid-begun REACH-IN-END (omega arith) (ordered-kept (omega arith)) (c .before .before .clear .ensures)
-    (c .before .before .before .before .before .before .pre .holds)
+    (c .before .before .before .before .before .pre .holds)
 
 loop2-holds : tie.Need-loop2-holds Inv-loop2 μ-loop2 Inv-loop μ-loop
 loop2-holds c = row-begun (c .before .loop .inv .holds)
@@ -43,7 +43,5 @@ returns c =
     grid-done REACH-IN-END (omega arith) (omega arith) (omega arith) (omega arith) (c .before .before .before .before .clear .ensures) (c .before .loop .inv)
 
 pub fill-in-spec : {M : Type 1} → statement M
-fill-in-spec =
-    tie.close
-    (tie.spec Inv-loop2 μ-loop2 Inv-loop μ-loop (λ c κs. search needs) loop-holds loop2-holds (λ c κs. search needs) (λ c κs. search needs)
+fill-in-spec = tie.close (tie.spec Inv-loop2 μ-loop2 Inv-loop μ-loop (λ c κs. search needs) loop-holds loop2-holds (λ c κs. search needs) (λ c κs. search needs)
     (λ c. search needs) (λ c. search needs) loop2-again (λ c. search needs) (λ c. search needs) loop-again (λ c. search needs) returns)

@@ -1,6 +1,6 @@
+use Rattle.run.specs.Layout.{tableIn}
 use Prim.Native.Nat.{_-_}
 use native.Mathlib.Omega.{arith}
-use Rattle.model.specs.Table.{decode}
 use Rattle.model.specs.Location.{broadens}
 use Rattle.area.specs.Regions.{REACH-OUT, REACH-OUT-END}
 use Rattle.area.specs.State.{Ordered, ordered-kept}
@@ -10,21 +10,21 @@ use Rattle.location.proofs.reach.fill_out.Statement.{statement}
 use Rattle.location.proofs.reach.fill_out.Tie as tie
 
 abbrev Inv-loop2 : tie.InvT-loop2
-Inv-loop2 rows p mode n w₀ a c₀ w c = RowFilled (Ordered (decode rows p mode n) n) REACH-OUT n a (broadens (decode rows p mode n) a) w₀ w c
+Inv-loop2 t n w₀ a c₀ w c = RowFilled (Ordered (tableIn t n) n) REACH-OUT n a (broadens (tableIn t n) a) w₀ w c
 
 abbrev μ-loop2 : tie.MeasureT-loop2
-μ-loop2 rows p mode n w₀ a c₀ w c = n - c
+μ-loop2 t n w₀ a c₀ w c = n - c
 
 abbrev Inv-loop : tie.InvT-loop
-Inv-loop rows p mode n w₀ a₀ w a = GridFilled (Ordered (decode rows p mode n) n) REACH-OUT n (broadens (decode rows p mode n)) w₀ w a
+Inv-loop t n w₀ a₀ w a = GridFilled (Ordered (tableIn t n) n) REACH-OUT n (broadens (tableIn t n)) w₀ w a
 
 abbrev μ-loop : tie.MeasureT-loop
-μ-loop rows p mode n w₀ a₀ w a = n - a
+μ-loop t n w₀ a₀ w a = n - a
 
 loop-holds : tie.Need-loop-holds Inv-loop2 μ-loop2 Inv-loop μ-loop
 loop-holds c =
     grid-begun REACH-OUT-END (omega arith) (ordered-kept (omega arith)) (c .before .before .clear .ensures)
-    (c .before .before .before .before .before .before .pre .holds)
+    (c .before .before .before .before .before .pre .holds)
 
 loop2-holds : tie.Need-loop2-holds Inv-loop2 μ-loop2 Inv-loop μ-loop
 loop2-holds c = row-begun (c .before .loop .inv .holds)
@@ -43,7 +43,5 @@ returns c =
     grid-done REACH-OUT-END (omega arith) (omega arith) (omega arith) (omega arith) (c .before .before .before .before .clear .ensures) (c .before .loop .inv)
 
 pub fill-out-spec : {M : Type 1} → statement M
-fill-out-spec =
-    tie.close
-    (tie.spec Inv-loop2 μ-loop2 Inv-loop μ-loop (λ c κs. search needs) loop-holds loop2-holds (λ c κs. search needs) (λ c κs. search needs)
+fill-out-spec = tie.close (tie.spec Inv-loop2 μ-loop2 Inv-loop μ-loop (λ c κs. search needs) loop-holds loop2-holds (λ c κs. search needs) (λ c κs. search needs)
     (λ c. search needs) (λ c. search needs) loop2-again (λ c. search needs) (λ c. search needs) loop-again (λ c. search needs) returns)

@@ -12,14 +12,12 @@ returns c = sym (narrows-off _ _ _ _ _ _ (sym (c .before .has-flag .ensures) ∙
 returns-2 : tie.Need-returns-2
 unfolding _and_
 returns-2 c =
-    sym (narrows-is (c .before .before .before .before .before .before .before .before .before .before .before .pre)
-    (c .before .before .before .before .before .before .read-row .ensures) (c .before .before .before .before .before .read-row2 .ensures)
+    sym (narrows-is (c .before .before .before .before .before .before .before .before .before .before .pre)
+    (c .before .before .before .before .before .before .row .ensures) (c .before .before .before .before .before .row2 .ensures)
     (c .before .before .before .before .visible-part .ensures) (c .before .before .before .visible-part2 .ensures) (c .before .before .visibility-of .ensures)
     (c .before .is-broader .ensures) (c .happens-bit .ensures))
 
 pub narrows-at-spec : {M : Type 1} → statement M
-narrows-at-spec =
-    tie.close
-    (tie.spec (λ c κs. search needs) returns (λ c. search needs) (λ c κs. search needs) (λ c. search needs) (λ c κs. search needs)
+narrows-at-spec = tie.close (tie.spec (λ c κs. search needs) returns (λ c. search needs) (λ c κs. search needs) (λ c. search needs) (λ c κs. search needs)
     (λ c κs. search needs) (λ c κs. search needs) (λ c. search needs) (λ c κs. search needs) (λ c κs. search needs) (λ c. search needs)
     (λ c. search needs) (λ c. search needs) (λ c. search needs) (λ c κs. search needs) returns-2)

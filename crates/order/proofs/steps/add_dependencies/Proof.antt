@@ -10,10 +10,10 @@ use Rattle.order.proofs.steps.add_dependencies.Statement.{statement}
 use Rattle.order.proofs.steps.add_dependencies.Tie as tie
 
 abbrev Inv-loop : tie.InvT-loop
-Inv-loop mode n w₀ c₀ c-end w c = (c ≤ mode .dependencies) × (length w ≡ length w₀) × Added STEP STEP-END STEP MOMENTS (3 * n) (systemTo mode c) w₀ w
+Inv-loop t n w₀ mode c₀ c-end w c = (c ≤ mode .dependencies) × (length w ≡ length w₀) × Added STEP STEP-END STEP MOMENTS (3 * n) (systemTo mode c) w₀ w
 
 abbrev μ-loop : tie.MeasureT-loop
-μ-loop mode n w₀ c₀ c-end w c = mode .dependencies - c
+μ-loop t n w₀ mode c₀ c-end w c = mode .dependencies - c
 
 loop-holds : tie.Need-loop-holds Inv-loop μ-loop
 loop-holds c = (search needs, refl, all-none _ _ _)
@@ -26,11 +26,11 @@ loop-again c =
 
 returns : tie.Need-returns Inv-loop μ-loop
 returns c =
-    let e : c .before .loop .c ≡ c .before .before .before .args .mode .dependencies = omega arith in
-    rw e at (c .before .loop .inv .2)
+    let e : c .before .loop .c ≡ c .before .before .mode .result .dependencies = omega arith in
+    rw (c .before .before .mode .ensures) at (rw e at (c .before .loop .inv .2))
 
 pub add-dependencies-spec : {M : Type 1} → statement M
 add-dependencies-spec =
     tie.close
-    (tie.spec Inv-loop μ-loop loop-holds (λ c κs. search needs) (λ c. search needs) (λ c. search needs) loop-again (λ c. search needs)
-    returns)
+    (tie.spec Inv-loop μ-loop (λ c κs. search needs) loop-holds (λ c κs. search needs) (λ c. search needs) (λ c. search needs) loop-again
+    (λ c. search needs) returns)

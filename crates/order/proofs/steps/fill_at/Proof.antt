@@ -8,10 +8,10 @@ use Rattle.order.proofs.steps.fill_at.Statement.{statement}
 use Rattle.order.proofs.steps.fill_at.Tie as tie
 
 abbrev Inv-loop : tie.InvT-loop
-Inv-loop rows n s m w₀ k₀ k-end w k = (k ≤ 3 * n) × (length w ≡ length w₀) × RowMade rows n s m k w₀ w
+Inv-loop t n s m w₀ k₀ k-end w k = (k ≤ 3 * n) × (length w ≡ length w₀) × RowMade t n s m k w₀ w
 
 abbrev μ-loop : tie.MeasureT-loop
-μ-loop rows n s m w₀ k₀ k-end w k = 3 * n - k
+μ-loop t n s m w₀ k₀ k-end w k = 3 * n - k
 
 loop-holds : tie.Need-loop-holds Inv-loop μ-loop
 loop-holds c = (search needs, refl, row-none _ _ _ _ _)
@@ -25,7 +25,7 @@ loop-again c =
 
 returns : tie.Need-returns Inv-loop μ-loop
 returns c =
-    let e : c .before .loop .k ≡ 3 * c .before .before .before .before .args .n = omega arith in
+    let e : c .before .loop .k ≡ 3 * c .before .before .before .args .n = omega arith in
     rw e at (c .before .loop .inv .2)
 
 pub fill-at-spec : {M : Type 1} → statement M

@@ -9,10 +9,10 @@ use Rattle.order.proofs.steps.fill_cases.Statement.{statement}
 use Rattle.order.proofs.steps.fill_cases.Tie as tie
 
 abbrev Inv-loop : tie.InvT-loop
-Inv-loop rows n s w₀ j₀ w j = (j ≤ n) × (length w ≡ length w₀) × RowsMade rows n s j w₀ w
+Inv-loop t n s w₀ j₀ w j = (j ≤ n) × (length w ≡ length w₀) × RowsMade t n s j w₀ w
 
 abbrev μ-loop : tie.MeasureT-loop
-μ-loop rows n s w₀ j₀ w j = n - j
+μ-loop t n s w₀ j₀ w j = n - j
 
 loop-holds : tie.Need-loop-holds Inv-loop μ-loop
 loop-holds c = (search needs, refl, rows-none _ _ _ _)
@@ -28,9 +28,9 @@ loop-again c =
 
 returns : tie.Need-returns Inv-loop μ-loop
 returns c =
-    let start = c .before .before .before .before .before .before .before .before in
+    let start = c .before .before .before .before .before .before .before in
     let e : c .before .loop .j ≡ start .args .n = omega arith in
-    steps-made _ _ _ _ _ _ _ _ (omega arith) (omega arith) (start .pre .2) (c .before .before .before .before .clear .ensures)
+    steps-made _ _ _ _ _ _ (omega arith) (omega arith) (start .pre .2) (c .before .before .before .before .clear .ensures)
     (rw e at (c .before .loop .inv .2))
 
 pub fill-cases-spec : {M : Type 1} → statement M

@@ -13,8 +13,8 @@ returns-2 c = past-second _ _ _ _ _ _ (c .before .before .before .first-at .ensu
 returns-3 : tie.Need-returns-3
 returns-3 c =
     let at-put = c .before .before in
-    let tested = at-put .before .before in
-    let read = tested .before .before in
+    let tested = at-put .before .before .before .before in
+    let read = tested in
     let start = read .before .before .before in
     added-put _ _ _ _ _ _ (read .before .first-at .ensures) (read .second-at .ensures) _ _ (start .pre .0) (start .pre .1) (omega arith)
     (omega arith) (omega arith) (at-put .put .ensures)

@@ -6,11 +6,11 @@ use Rattle.order.proofs.steps.step_of.Tie as tie
 
 returns : tie.Need-returns
 unfolding _or_
-returns c = λ p mode. step-apart _ _ _ _ _ _ _ _ (c .before .ordered-at .ensures p mode) (c .if1 .taken)
+returns c = step-apart _ _ _ _ _ _ _ _ (c .before .ordered-at .ensures) (c .if1 .taken)
 
 returns-2 : tie.Need-returns-2
-returns-2 c = λ p mode. step-told _ _ _ _ _ _ _ _ _ _ _ (c .is-step .ensures) (c .before .before .read-row .ensures) (c .before .read-row2 .ensures)
-    (c .before .before .before .before .ordered-at .ensures p mode)
+returns-2 c = step-told _ _ _ _ _ _ _ _ _ _ _ (c .is-step .ensures) (c .before .before .row .ensures) (c .before .row2 .ensures)
+    (c .before .before .before .before .ordered-at .ensures)
 
 pub step-of-spec : {M : Type 1} → statement M
 step-of-spec =

@@ -1,10 +1,10 @@
-use mathlib.Core.Path.{_≡_, refl, sym, _∙_}
+use mathlib.Core.Path.{_≡_, sym, _∙_}
 use mathlib.Core.Bool.{false}
 use Prim.Native.Nat.{_-_, _≤_}
 use native.Mathlib.Omega.{arith}
 use Rattle.finite.specs.Below.{anyBelow, any-none, any-in, any-more}
 use Rattle.area.specs.Regions.{PAIR}
-use Rattle.race.specs.Pairs.{orderBit, some-bits, some-unset}
+use Rattle.race.specs.Pairs.{orderBit, some-bits}
 use borrow.Author.Needs.{needs}
 use Rattle.race.proofs.pair.before_some.Statement.{statement}
 use Rattle.race.proofs.pair.before_some.Tie as tie
@@ -15,31 +15,26 @@ Inv-loop t n x y w k₀ k = (k ≤ PAIR) × (anyBelow k (orderBit w x y) ≡ fal
 abbrev μ-loop : tie.MeasureT-loop
 μ-loop t n x y w k₀ k = PAIR - k
 
-returns : tie.Need-returns Inv-loop μ-loop
-returns c = some-unset _ _ _ _ _ _ (c .before .before .before .pre .2 .3) (c .before .before .before .pre .0)
-    (c .before .before .before .pre .1) refl (sym (c .before .is-unset .ensures) ∙ c .if1 .taken)
-
 loop-holds : tie.Need-loop-holds Inv-loop μ-loop
 loop-holds c = (search needs, any-none _)
 
-returns-2 : tie.Need-returns-2 Inv-loop μ-loop
+returns : tie.Need-returns Inv-loop μ-loop
 unfolding orderBit
-returns-2 c = sym (any-in _ _ _ (c .before .before .loop-test .taken) (sym (c .before .get .ensures) ∙ c .if2 .taken))
-    ∙ some-bits _ _ _ _ _ (c .before .before .before .before .before .before .before .pre .2 .3)
-    (c .before .before .before .before .before .before .before .pre .0)
-    (c .before .before .before .before .before .before .before .pre .1)
+returns c =
+    let pre = c .before .before .before .before .before .pre in
+    sym (any-in _ _ _ (c .before .before .loop-test .taken) (sym (c .before .get .ensures) ∙ c .if1 .taken)) ∙ some-bits _ _ _ _ _ (pre .2 .3) (pre .0) (pre .1)
 
 loop-again : tie.Need-loop-again Inv-loop μ-loop
 unfolding orderBit
-loop-again c = (search needs, any-more _ _ (c .before .before .before .loop .inv .1) (sym (c .before .get .ensures) ∙ c .if2 .left))
+loop-again c = (search needs, any-more _ _ (c .before .before .before .loop .inv .1) (sym (c .before .get .ensures) ∙ c .if1 .left))
 
-returns-3 : tie.Need-returns-3 Inv-loop μ-loop
-returns-3 c = let e : c .before .loop .k ≡ PAIR = omega arith in
-    sym (rw e at (c .before .loop .inv .1)) ∙ some-bits _ _ _ _ _ (c .before .before .before .before .before .pre .2 .3)
-    (c .before .before .before .before .before .pre .0) (c .before .before .before .before .before .pre .1)
+returns-2 : tie.Need-returns-2 Inv-loop μ-loop
+returns-2 c =
+    let pre = c .before .before .before .pre in
+    let e : c .before .loop .k ≡ PAIR = omega arith in
+    sym (rw e at (c .before .loop .inv .1)) ∙ some-bits _ _ _ _ _ (pre .2 .3) (pre .0) (pre .1)
 
 pub before-some-spec : {M : Type 1} → statement M
 before-some-spec =
     tie.close
-    (tie.spec Inv-loop μ-loop (λ c κs. search needs) returns loop-holds (λ c κs. search needs) returns-2 (λ c. search needs)
-    (λ c. search needs) loop-again returns-3)
+    (tie.spec Inv-loop μ-loop loop-holds (λ c κs. search needs) returns (λ c. search needs) (λ c. search needs) loop-again returns-2)

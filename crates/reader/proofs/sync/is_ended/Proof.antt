@@ -1,9 +1,9 @@
+use Rattle.run.specs.Layout.{tableIn}
 use mathlib.Core.Path.{_≡_, sym, _∙_}
 use mathlib.Core.Bool.{false}
 use Prim.Native.Nat.{_-_, _≤_}
 use native.Mathlib.Omega.{arith}
 use Rattle.finite.specs.Below.{anyBelow, any-none, any-more, any-in}
-use Rattle.model.specs.Table.{decode}
 use Rattle.model.specs.Synchronizes.{ends}
 use Rattle.rules.specs.Forms.{ends-told}
 use borrow.Author.Needs.{needs}
@@ -11,38 +11,38 @@ use Rattle.reader.proofs.sync.is_ended.Statement.{statement}
 use Rattle.reader.proofs.sync.is_ended.Tie as tie
 
 abbrev Inv-loop : tie.InvT-loop
-Inv-loop rows p mode n a x h r z₀ z = (z ≤ n) × (anyBelow z (ends (decode rows p mode n) a x) ≡ false)
+Inv-loop t n a x h r z₀ z = (z ≤ n) × (anyBelow z (ends (tableIn t n) a x) ≡ false)
 
 abbrev μ-loop : tie.MeasureT-loop
-μ-loop rows p mode n a x h r z₀ z = n - z
+μ-loop t n a x h r z₀ z = n - z
 
 loop-holds : tie.Need-loop-holds Inv-loop μ-loop
 loop-holds c = (search needs, any-none _)
 
 returns : tie.Need-returns Inv-loop μ-loop
 returns c =
-    let t = ends-told _ _ _ _ _ _ _ _ _ _ _ _ (c .before .before .before .mutual-at .ensures)
-    (c .before .before .before .before .before .before .before .read-row .ensures)
-    (c .before .before .before .before .before .before .read-row2 .ensures) (c .before .before .read-row3 .ensures)
-    (c .before .is-end .ensures) in
-    sym (any-in _ _ _ (c .before .before .before .before .loop-test .taken) (t ∙ c .if1 .taken))
+    let told = ends-told _ _ _ _ _ _ _ _ _ _ _ _ (c .before .before .before .before .mutual-at .ensures)
+    (c .before .before .before .before .before .before .before .before .row .ensures)
+    (c .before .before .before .before .before .before .before .row2 .ensures) (c .before .before .before .row3 .ensures)
+    (rw (c .before .before .counted .ensures) at (c .before .is-end .ensures)) in
+    sym (any-in _ _ _ (c .before .before .before .before .before .loop-test .taken) (told ∙ c .if1 .taken))
 
 loop-again : tie.Need-loop-again Inv-loop μ-loop
 loop-again c =
-    let t = ends-told _ _ _ _ _ _ _ _ _ _ _ _ (c .before .before .before .mutual-at .ensures)
-    (c .before .before .before .before .before .before .before .read-row .ensures)
-    (c .before .before .before .before .before .before .read-row2 .ensures) (c .before .before .read-row3 .ensures)
-    (c .before .is-end .ensures) in
-    (search needs, any-more _ _ (c .before .before .before .before .before .loop .inv .1) (t ∙ c .if1 .left))
+    let told = ends-told _ _ _ _ _ _ _ _ _ _ _ _ (c .before .before .before .before .mutual-at .ensures)
+    (c .before .before .before .before .before .before .before .before .row .ensures)
+    (c .before .before .before .before .before .before .before .row2 .ensures) (c .before .before .before .row3 .ensures)
+    (rw (c .before .before .counted .ensures) at (c .before .is-end .ensures)) in
+    (search needs, any-more _ _ (c .before .before .before .before .before .before .loop .inv .1) (told ∙ c .if1 .left))
 
 returns-2 : tie.Need-returns-2 Inv-loop μ-loop
 returns-2 c =
-    let e : c .before .loop .z ≡ c .before .before .before .before .before .args .n = omega arith in
+    let e : c .before .loop .z ≡ c .before .before .before .before .args .n = omega arith in
     sym (rw e at (c .before .loop .inv .1))
 
 pub is-ended-spec : {M : Type 1} → statement M
 is-ended-spec =
     tie.close
     (tie.spec Inv-loop μ-loop (λ c. search needs) (λ c κs. search needs) (λ c. search needs) (λ c κs. search needs) loop-holds
-    (λ c κs. search needs) (λ c. search needs) (λ c κs. search needs) (λ c κs. search needs) returns (λ c. search needs) (λ c. search needs)
-    loop-again returns-2)
+    (λ c κs. search needs) (λ c. search needs) (λ c κs. search needs) (λ c κs. search needs) (λ c κs. search needs) returns
+    (λ c. search needs) (λ c. search needs) loop-again returns-2)

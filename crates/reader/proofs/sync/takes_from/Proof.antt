@@ -20,7 +20,7 @@ returns-3 c =
     let first = tested .before .before .before in
     rw (c .before .before .writes .ensures, c .before .reads .ensures)
     (takes-on _ _ _ _ _ _ _ _ _ _ (sym (first .before .mutual-at .ensures) ∙ not-false _ (first .if1 .left))
-    (tested .before .before .atomic-source .ensures) (tested .if2 .left) (read .before .read-row .ensures) (read .read-row2 .ensures)
+    (tested .before .before .atomic-source .ensures) (tested .if2 .left) (read .before .row .ensures) (read .row2 .ensures)
     (c .sequence-at .ensures))
 
 pub takes-from-spec : {M : Type 1} → statement M

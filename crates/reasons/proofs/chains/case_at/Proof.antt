@@ -8,8 +8,8 @@ returns : tie.Need-returns
 returns c =
     let e = c .case-of .ensures in (
       rw e (case-small _ _ _ _ _ _ _),
-      λ p mode. case-told _ _ _ _ _ _ _ _ _ _ _ e (c .before .before .read-row .ensures)
-          (c .before .read-row2 .ensures) (c .before .before .before .ordered-at .ensures p mode),
+      case-told _ _ _ _ _ _ _ _ _ _ _ e (c .before .before .row .ensures)
+          (c .before .row2 .ensures) (c .before .before .before .ordered-at .ensures),
     )
 
 pub case-at-spec : {M : Type 1} → statement M

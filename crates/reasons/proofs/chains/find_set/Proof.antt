@@ -1,3 +1,4 @@
+use Rattle.run.specs.Layout.{tableIn}
 -- `find_set` meets its contract: no lower class set has a chain. Assumes nothing.
 use mathlib.Core.Path.{_≡_, refl, sym, _∙_}
 use Prim.Native.Nat.{_-_, _≤_}
@@ -16,20 +17,20 @@ use Rattle.reasons.proofs.chains.find_set.Statement.{statement}
 use Rattle.reasons.proofs.chains.find_set.Tie as tie
 
 abbrev Inv-loop : tie.InvT-loop
-Inv-loop rows p mode n first second w₀ c₀ w c =
-    (c ≤ CLASS-SETS) × (length w ≡ length w₀) × (least c (hasChainBy (decode rows p mode n) first second) ≡ c) × Synced (decode rows p mode n) n w
+Inv-loop t n first second w₀ c₀ w c =
+    (c ≤ CLASS-SETS) × (length w ≡ length w₀) × (least c (hasChainBy (tableIn t n) first second) ≡ c) × Synced (tableIn t n) n w
     × Within HAPPENS CHAINS-END w₀ w
 
 abbrev μ-loop : tie.MeasureT-loop
-μ-loop rows p mode n first second w₀ c₀ w c = CLASS-SETS - c
+μ-loop t n first second w₀ c₀ w c = CLASS-SETS - c
 
 loop-holds : tie.Need-loop-holds Inv-loop μ-loop
-loop-holds c = (search needs, refl, least-none _, c .before .before .pre .4, within-refl _ _ _)
+loop-holds c = (search needs, refl, least-none _, c .before .pre .4, within-refl _ _ _)
 
 returns : tie.Need-returns Inv-loop μ-loop
 unfolding decode
 returns c =
-    let start = c .before .before .before .before .before .before .before .before .before .before .before in
+    let start = c .before .before .before .before .before .before .before .before .before .before in
     let inv = c .before .before .before .before .before .before .before .before .loop .inv in
     let made = c .before .before .before .before .before .make-layers .ensures in (
       set-found refl (made .layered) _ _ (start .pre .2) (c .before .layer-of .ensures .0) (inv .2)
@@ -41,7 +42,7 @@ returns c =
 loop-again : tie.Need-loop-again Inv-loop μ-loop
 unfolding decode
 loop-again c =
-    let start = c .before .before .before .before .before .before .before .before .before .before .before in
+    let start = c .before .before .before .before .before .before .before .before .before .before in
     let inv = c .before .before .before .before .before .before .before .before .loop .inv in
     let made = c .before .before .before .before .before .make-layers .ensures in (
       search needs,

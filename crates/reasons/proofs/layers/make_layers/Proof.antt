@@ -8,7 +8,7 @@ returns : tie.Need-returns
 returns c =
     let at-layers = c .before .before in
     let at-step = at-layers .before .before .before .before in
-    let start = at-step .before .before .before .before in
+    let start = at-step .before .before .before in
     made-layered (start .pre .0) (at-step .fill-step .ensures) (at-layers .fill-layers .ensures)
 
 pub make-layers-spec : {M : Type 1} → statement M

@@ -4,7 +4,7 @@ use Rattle.rules.proofs.carriers.leads_at.Statement.{statement}
 use Rattle.rules.proofs.carriers.leads_at.Tie as tie
 
 returns : tie.Need-returns
-returns c p mode n = rw (leads-is _ _ _ _ _ _) cc
+returns c = rw (leads-is _ _ _ _ _ _) cc
 
 pub leads-at-spec : {M : Type 1} → statement M
 leads-at-spec =

@@ -4,7 +4,7 @@ use Rattle.rules.proofs.carriers.trails_at.Statement.{statement}
 use Rattle.rules.proofs.carriers.trails_at.Tie as tie
 
 returns : tie.Need-returns
-returns c p mode n = rw (trails-is _ _ _ _ _ _) cc
+returns c = rw (trails-is _ _ _ _ _ _) cc
 
 pub trails-at-spec : {M : Type 1} → statement M
 trails-at-spec =

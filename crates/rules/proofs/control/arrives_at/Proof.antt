@@ -8,11 +8,11 @@ use Rattle.rules.proofs.control.arrives_at.Tie as tie
 
 returns : tie.Need-returns
 unfolding arrives
-returns c = sym (and-false-left _ _ (sym (c .before .is-up-to .ensures _ _ _) ∙ not-true _ (c .if1 .taken)))
+returns c = sym (and-false-left _ _ (sym (c .before .is-up-to .ensures) ∙ not-true _ (c .if1 .taken)))
 
 returns-2 : tie.Need-returns-2
 unfolding arrives
-returns-2 c = c .joins-at .ensures ∙ sym (and-on _ _ (sym (c .before .before .is-up-to .ensures _ _ _) ∙ not-false _ (c .before .if1 .left)))
+returns-2 c = c .joins-at .ensures ∙ sym (and-on _ _ (sym (c .before .before .is-up-to .ensures) ∙ not-false _ (c .before .if1 .left)))
 
 pub arrives-at-spec : {M : Type 1} → statement M
 arrives-at-spec =

@@ -8,7 +8,7 @@ use Rattle.rules.proofs.control.is_up_to.Tie as tie
 
 returns : tie.Need-returns
 unfolding upTo sameAgent decode _and_
-returns c p mode n = cc
+returns c = cc
 
 pub is-up-to-spec : {M : Type 1} → statement M
 is-up-to-spec =

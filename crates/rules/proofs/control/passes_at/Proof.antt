@@ -14,11 +14,11 @@ returns c = sym (never-passed _ _ _ _ (sym (c .before .is-control-at .ensures) �
 
 returns-2 : tie.Need-returns-2
 unfolding passes
-returns-2 c = sym (and-false-left _ _ (sym (c .before .is-up-to .ensures _ _ _) ∙ not-true _ (c .if2 .taken)))
+returns-2 c = sym (and-false-left _ _ (sym (c .before .is-up-to .ensures) ∙ not-true _ (c .if2 .taken)))
 
 returns-3 : tie.Need-returns-3
 unfolding passes decode
-returns-3 c = c .is-arrived .ensures ∙ sym (and-on _ _ (sym (c .before .before .is-up-to .ensures _ _ _) ∙ not-false _ (c .before .if2 .left)))
+returns-3 c = c .is-arrived .ensures ∙ sym (and-on _ _ (sym (c .before .before .is-up-to .ensures) ∙ not-false _ (c .before .if2 .left)))
 
 pub passes-at-spec : {M : Type 1} → statement M
 passes-at-spec =

@@ -6,14 +6,14 @@ use Rattle.rules.proofs.moments.ordered_at.Statement.{statement}
 use Rattle.rules.proofs.moments.ordered_at.Tie as tie
 
 returns : tie.Need-returns
-returns c p mode = not-earlier _ p _ _ _ _ (c .if1 .taken)
+returns c = not-earlier _ _ _ _ _ _ (c .if1 .taken)
 
 returns-2 : tie.Need-returns-2
-returns-2 c p mode = other-agent _ p _ _ _ _ _ _ (c .before .before .read-agent .ensures) (c .before .read-agent2 .ensures) (c .if2 .taken)
+returns-2 c = other-agent _ _ _ _ _ _ _ _ (c .before .before .agent .ensures) (c .before .agent2 .ensures) (c .if2 .taken)
 
 returns-3 : tie.Need-returns-3
 unfolding programOrder decode
-returns-3 c p mode = cc
+returns-3 c = cc
 
 pub ordered-at-spec : {M : Type 1} → statement M
 ordered-at-spec =

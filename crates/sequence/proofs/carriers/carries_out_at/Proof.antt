@@ -12,7 +12,7 @@ returns c = sym (and-false-right _ _ (sym (c .before .takes-from-at .ensures) �
 
 returns-2 : tie.Need-returns-2
 unfolding carriesOut
-returns-2 c = c .leads-at .ensures _ _ _ ∙ sym (and-on-right _ _ (sym (c .before .before .takes-from-at .ensures) ∙ not-false _ (c .before .if1 .left)))
+returns-2 c = c .leads-at .ensures ∙ sym (and-on-right _ _ (sym (c .before .before .takes-from-at .ensures) ∙ not-false _ (c .before .if1 .left)))
 
 pub carries-out-at-spec : {M : Type 1} → statement M
 carries-out-at-spec =

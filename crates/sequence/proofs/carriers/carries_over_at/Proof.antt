@@ -9,11 +9,11 @@ use Rattle.sequence.proofs.carriers.carries_over_at.Tie as tie
 
 returns : tie.Need-returns
 unfolding carriesOver
-returns c = sym (and-false-left _ _ (sym (c .before .leads-at .ensures _ _ _) ∙ not-true _ (c .if1 .taken)))
+returns c = sym (and-false-left _ _ (sym (c .before .leads-at .ensures) ∙ not-true _ (c .if1 .taken)))
 
 returns-2 : tie.Need-returns-2
 unfolding carriesOver decode
-returns-2 c = c .is-carried-in .ensures ∙ sym (and-on _ _ (sym (c .before .before .leads-at .ensures _ _ _) ∙ not-false _ (c .before .if1 .left)))
+returns-2 c = c .is-carried-in .ensures ∙ sym (and-on _ _ (sym (c .before .before .leads-at .ensures) ∙ not-false _ (c .before .if1 .left)))
 
 pub carries-over-at-spec : {M : Type 1} → statement M
 carries-over-at-spec =

@@ -1,4 +1,4 @@
-use Rattle.model.specs.Table.{decode}
+use Rattle.run.specs.Layout.{tableIn}
 use Rattle.model.specs.Scope.{mutually}
 use Rattle.area.specs.Regions.{MUTUAL, MUTUAL-END, GRID}
 use mathlib.Core.Path.{_≡_, refl, ap, _∙_}
@@ -12,16 +12,16 @@ use Rattle.sequence.proofs.heads.fill_mutual.Statement.{statement}
 use Rattle.sequence.proofs.heads.fill_mutual.Tie as tie
 
 abbrev Inv-loop2 : tie.InvT-loop2
-Inv-loop2 rows p mode n w₀ i j₀ w j = (j ≤ n) × (length w ≡ length w₀) × (w ≡ rowFill (mutually (decode rows p mode n) i) w₀ (MUTUAL * 64 + i * (GRID * 64)) j)
+Inv-loop2 t n w₀ i j₀ w j = (j ≤ n) × (length w ≡ length w₀) × (w ≡ rowFill (mutually (tableIn t n) i) w₀ (MUTUAL * 64 + i * (GRID * 64)) j)
 
 abbrev μ-loop2 : tie.MeasureT-loop2
-μ-loop2 rows p mode n w₀ i j₀ w j = n - j
+μ-loop2 t n w₀ i j₀ w j = n - j
 
 abbrev Inv-loop : tie.InvT-loop
-Inv-loop rows p mode n w₀ i₀ w i = (i ≤ n) × (length w ≡ length w₀) × (w ≡ gridFill (mutually (decode rows p mode n)) w₀ (MUTUAL * 64) (GRID * 64) (n) i)
+Inv-loop t n w₀ i₀ w i = (i ≤ n) × (length w ≡ length w₀) × (w ≡ gridFill (mutually (tableIn t n)) w₀ (MUTUAL * 64) (GRID * 64) (n) i)
 
 abbrev μ-loop : tie.MeasureT-loop
-μ-loop rows p mode n w₀ i₀ w i = n - i
+μ-loop t n w₀ i₀ w i = n - i
 
 loop-holds : tie.Need-loop-holds Inv-loop2 μ-loop2 Inv-loop μ-loop
 loop-holds c = (search needs, refl, gridFill-none _ _ _ _ _)
@@ -40,12 +40,12 @@ loop-again : tie.Need-loop-again Inv-loop2 μ-loop2 Inv-loop μ-loop
 loop-again c =
     let inv = c .before .loop2 .inv in
     let out = c .before .before .before .loop .inv in
-    let e : c .before .loop2 .j ≡ c .before .before .before .before .before .before .before .before .before .before .args .n = omega arith in
+    let e : c .before .loop2 .j ≡ c .before .before .before .before .before .before .before .before .before .args .n = omega arith in
     (search needs, inv .1 ∙ out .1, gridFill-more _ _ _ _ _ _ _ _ (out .2) (rw e at (inv .2)))
 
 returns : tie.Need-returns Inv-loop2 μ-loop2 Inv-loop μ-loop
 returns c =
-    let e : c .before .loop .i ≡ c .before .before .before .before .before .before .before .before .args .n = omega arith in
+    let e : c .before .loop .i ≡ c .before .before .before .before .before .before .before .args .n = omega arith in
     made-filled MUTUAL MUTUAL-END GRID _ _ _ _ _ (omega arith) (omega arith) (omega arith)
     (c .before .before .before .before .clear .ensures) (rw e at (c .before .loop .inv .2))
 

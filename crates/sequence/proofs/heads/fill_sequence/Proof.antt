@@ -1,4 +1,4 @@
-use Rattle.model.specs.Table.{decode}
+use Rattle.run.specs.Layout.{tableIn}
 use Rattle.model.specs.Scope.{mutually}
 use Rattle.model.specs.Synchronizes.{sequence}
 use Rattle.area.specs.Regions.{MUTUAL, SEQUENCE, SEQUENCE-END, GRID}
@@ -14,20 +14,20 @@ use Rattle.sequence.proofs.heads.fill_sequence.Statement.{statement}
 use Rattle.sequence.proofs.heads.fill_sequence.Tie as tie
 
 abbrev Inv-loop2 : tie.InvT-loop2
-Inv-loop2 rows p mode n w₀ a x₀ w x =
-    (x ≤ n) × (length w ≡ length w₀) × Holds MUTUAL GRID n (mutually (decode rows p mode n)) w
-    × (w ≡ rowFill (sequence (decode rows p mode n) a) w₀ (SEQUENCE * 64 + a * (GRID * 64)) x)
+Inv-loop2 t n w₀ a x₀ w x =
+    (x ≤ n) × (length w ≡ length w₀) × Holds MUTUAL GRID n (mutually (tableIn t n)) w
+    × (w ≡ rowFill (sequence (tableIn t n) a) w₀ (SEQUENCE * 64 + a * (GRID * 64)) x)
 
 abbrev μ-loop2 : tie.MeasureT-loop2
-μ-loop2 rows p mode n w₀ a x₀ w x = n - x
+μ-loop2 t n w₀ a x₀ w x = n - x
 
 abbrev Inv-loop : tie.InvT-loop
-Inv-loop rows p mode n w₀ a₀ w a =
-    (a ≤ n) × (length w ≡ length w₀) × Holds MUTUAL GRID n (mutually (decode rows p mode n)) w
-    × (w ≡ gridFill (sequence (decode rows p mode n)) w₀ (SEQUENCE * 64) (GRID * 64) (n) a)
+Inv-loop t n w₀ a₀ w a =
+    (a ≤ n) × (length w ≡ length w₀) × Holds MUTUAL GRID n (mutually (tableIn t n)) w
+    × (w ≡ gridFill (sequence (tableIn t n)) w₀ (SEQUENCE * 64) (GRID * 64) (n) a)
 
 abbrev μ-loop : tie.MeasureT-loop
-μ-loop rows p mode n w₀ a₀ w a = n - a
+μ-loop t n w₀ a₀ w a = n - a
 
 loop-holds : tie.Need-loop-holds Inv-loop2 μ-loop2 Inv-loop μ-loop
 loop-holds c = (
@@ -35,7 +35,7 @@ loop-holds c = (
   refl,
   holds-kept (λ h. omega arith)
       (within-cleared SEQUENCE SEQUENCE-END (omega arith) (c .before .before .clear .ensures))
-      (c .before .before .before .before .before .before .pre .2),
+      (c .before .before .before .before .before .pre .2),
   gridFill-none _ _ _ _ _,
 )
 
@@ -57,12 +57,12 @@ loop-again : tie.Need-loop-again Inv-loop2 μ-loop2 Inv-loop μ-loop
 loop-again c =
     let inv = c .before .loop2 .inv in
     let out = c .before .before .before .loop .inv in
-    let e : c .before .loop2 .x ≡ c .before .before .before .before .before .before .before .before .before .before .args .n = omega arith in
+    let e : c .before .loop2 .x ≡ c .before .before .before .before .before .before .before .before .before .args .n = omega arith in
     (search needs, inv .1 ∙ out .1, inv .2, gridFill-more _ _ _ _ _ _ _ _ (out .3) (rw e at (inv .3)))
 
 returns : tie.Need-returns Inv-loop2 μ-loop2 Inv-loop μ-loop
 returns c =
-    let e : c .before .loop .a ≡ c .before .before .before .before .before .before .before .before .args .n = omega arith in
+    let e : c .before .loop .a ≡ c .before .before .before .before .before .before .before .args .n = omega arith in
     made-filled SEQUENCE SEQUENCE-END GRID _ _ _ _ _ (omega arith) (omega arith) (omega arith)
     (c .before .before .before .before .clear .ensures) (rw e at (c .before .loop .inv .3))
 

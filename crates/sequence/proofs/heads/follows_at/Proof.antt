@@ -12,11 +12,11 @@ returns : tie.Need-returns
 unfolding follows decode _and_
 returns c =
     let start = c .before .before .before .before .before .before in
-    let f = c .before .get .ensures ∙ holds-bit (start .pre .4) _ (start .args .i) (start .args .j) (omega arith) (omega arith) (omega arith) in
+    let f = c .before .before .get .ensures ∙ holds-bit (start .pre .4) _ (start .args .i) (start .args .j) (omega arith) (omega arith) (omega arith) in
     cc
 
 pub follows-at-spec : {M : Type 1} → statement M
 follows-at-spec =
     tie.close
     (tie.spec (λ c. search needs) (λ c κs. search needs) (λ c. search needs) (λ c κs. search needs) (λ c κs. search needs)
-    (λ c κs. search needs) returns)
+    (λ c κs. search needs) (λ c κs. search needs) returns)

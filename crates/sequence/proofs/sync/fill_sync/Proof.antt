@@ -1,4 +1,4 @@
-use Rattle.model.specs.Table.{decode}
+use Rattle.run.specs.Layout.{tableIn}
 use Rattle.model.specs.Synchronizes.{synchronizes}
 use Rattle.area.specs.Regions.{SYNC, SYNC-END, GRID}
 use Rattle.area.specs.Synced.{Sequenced, sequenced-kept}
@@ -14,20 +14,20 @@ use Rattle.sequence.proofs.sync.fill_sync.Statement.{statement}
 use Rattle.sequence.proofs.sync.fill_sync.Tie as tie
 
 abbrev Inv-loop2 : tie.InvT-loop2
-Inv-loop2 rows p mode n w₀ a b₀ w b =
-    (b ≤ n) × (length w ≡ length w₀) × Sequenced (decode rows p mode n) n w
-    × (w ≡ rowFill (synchronizes (decode rows p mode n) a) w₀ (SYNC * 64 + a * (GRID * 64)) b)
+Inv-loop2 t n w₀ a b₀ w b =
+    (b ≤ n) × (length w ≡ length w₀) × Sequenced (tableIn t n) n w
+    × (w ≡ rowFill (synchronizes (tableIn t n) a) w₀ (SYNC * 64 + a * (GRID * 64)) b)
 
 abbrev μ-loop2 : tie.MeasureT-loop2
-μ-loop2 rows p mode n w₀ a b₀ w b = n - b
+μ-loop2 t n w₀ a b₀ w b = n - b
 
 abbrev Inv-loop : tie.InvT-loop
-Inv-loop rows p mode n w₀ a₀ w a =
-    (a ≤ n) × (length w ≡ length w₀) × Sequenced (decode rows p mode n) n w
-    × (w ≡ gridFill (synchronizes (decode rows p mode n)) w₀ (SYNC * 64) (GRID * 64) (n) a)
+Inv-loop t n w₀ a₀ w a =
+    (a ≤ n) × (length w ≡ length w₀) × Sequenced (tableIn t n) n w
+    × (w ≡ gridFill (synchronizes (tableIn t n)) w₀ (SYNC * 64) (GRID * 64) (n) a)
 
 abbrev μ-loop : tie.MeasureT-loop
-μ-loop rows p mode n w₀ a₀ w a = n - a
+μ-loop t n w₀ a₀ w a = n - a
 
 loop-holds : tie.Need-loop-holds Inv-loop2 μ-loop2 Inv-loop μ-loop
 loop-holds c = (
@@ -35,7 +35,7 @@ loop-holds c = (
   refl,
   sequenced-kept (omega arith)
       (within-cleared SYNC SYNC-END (omega arith) (c .before .before .clear .ensures))
-      (c .before .before .before .before .before .before .pre .2),
+      (c .before .before .before .before .before .pre .2),
   gridFill-none _ _ _ _ _,
 )
 
@@ -57,12 +57,12 @@ loop-again : tie.Need-loop-again Inv-loop2 μ-loop2 Inv-loop μ-loop
 loop-again c =
     let inv = c .before .loop2 .inv in
     let out = c .before .before .before .loop .inv in
-    let e : c .before .loop2 .b ≡ c .before .before .before .before .before .before .before .before .before .before .args .n = omega arith in
+    let e : c .before .loop2 .b ≡ c .before .before .before .before .before .before .before .before .before .args .n = omega arith in
     (search needs, inv .1 ∙ out .1, inv .2, gridFill-more _ _ _ _ _ _ _ _ (out .3) (rw e at (inv .3)))
 
 returns : tie.Need-returns Inv-loop2 μ-loop2 Inv-loop μ-loop
 returns c =
-    let e : c .before .loop .a ≡ c .before .before .before .before .before .before .before .before .args .n = omega arith in
+    let e : c .before .loop .a ≡ c .before .before .before .before .before .before .before .args .n = omega arith in
     made-filled SYNC SYNC-END GRID _ _ _ _ _ (omega arith) (omega arith) (omega arith) (c .before .before .before .before .clear .ensures)
     (rw e at (c .before .loop .inv .3))
 

@@ -8,7 +8,7 @@ returns : tie.Need-returns
 unfolding _and_
 returns c =
     let read = c .before .before .before in
-    sync-off _ _ _ _ _ _ _ _ _ _ (read .before .read-row .ensures) (read .read-row2 .ensures) (c .before .before .releases .ensures)
+    sync-off _ _ _ _ _ _ _ _ _ _ (read .before .row .ensures) (read .row2 .ensures) (c .before .before .releases .ensures)
     (c .before .acquires .ensures) (c .if1 .taken)
 
 returns-2 : tie.Need-returns-2
@@ -16,7 +16,7 @@ unfolding _and_ _or_
 returns-2 c =
     let tested = c .before .before .before .before .before in
     let read = tested .before .before .before in
-    sync-on _ _ _ _ _ _ _ _ _ _ _ _ _ _ _ (read .before .read-row .ensures) (read .read-row2 .ensures)
+    sync-on _ _ _ _ _ _ _ _ _ _ _ _ _ _ _ (read .before .row .ensures) (read .row2 .ensures)
     (tested .before .before .releases .ensures) (tested .before .acquires .ensures) (tested .if1 .left)
     (c .before .before .before .before .sync-atomics .ensures) (c .before .before .before .sync-from-barrier .ensures)
     (c .before .before .sync-to-barrier .ensures) (c .before .sync-barriers .ensures) (c .sync-control .ensures)

@@ -6,19 +6,11 @@ use Rattle.sequence.proofs.sync.sync_barriers.Tie as tie
 
 returns : tie.Need-returns
 unfolding _and_
-returns c =
-    let read = c .before .before .before .before in
-    over-off _ _ _ _ _ _ _ _ _ _ _ (read .before .read-row .ensures) (read .read-row2 .ensures)
-    (c .before .before .before .is-barrier .ensures) (c .before .before .is-barrier2 .ensures) (c .before .together .ensures) (c .if1 .taken)
+returns c = over-off _ _ _ _ _ _ _ _ _ (c .before .before .before .before .before .row .ensures) (c .before .before .before .before .row2 .ensures) (rw (c .before .before .before .is-barrier .ensures, c .before .before .is-barrier2 .ensures) at (c .before .is-near .ensures)) (c .if1 .taken)
 
 returns-2 : tie.Need-returns-2
 unfolding _and_
-returns-2 c =
-    let tested = c .before in
-    let read = tested .before .before .before .before in
-    over-on _ _ _ _ _ _ _ _ _ _ _ _ (read .before .read-row .ensures) (read .read-row2 .ensures)
-    (tested .before .before .before .is-barrier .ensures) (tested .before .before .is-barrier2 .ensures)
-    (tested .before .together .ensures) (tested .if1 .left) (c .is-carried-over .ensures)
+returns-2 c = over-on _ _ _ _ _ _ _ _ _ _ (c .before .before .before .before .before .before .row .ensures) (c .before .before .before .before .before .row2 .ensures) (rw (c .before .before .before .before .is-barrier .ensures, c .before .before .before .is-barrier2 .ensures) at (c .before .before .is-near .ensures)) (c .before .if1 .left) (c .is-carried-over .ensures)
 
 pub sync-barriers-spec : {M : Type 1} → statement M
 sync-barriers-spec =

@@ -1,4 +1,4 @@
-use Rattle.verdict.specs.Whole.{said-refused, said-verdict}
+use Rattle.verdict.specs.Whole.{said-refused, said-verdict, sourced}
 use borrow.Author.Needs.{needs}
 use Rattle.verdict.proofs.check.check_by.Statement.{statement}
 use Rattle.verdict.proofs.check.check_by.Tie as tie
@@ -8,8 +8,12 @@ returns c = said-refused _ _ _ _ _ _ (c .before .before .before .before .enter .
 
 judge-run-requires : tie.Need-judge-run-requires
 judge-run-requires c κs =
-    let opened = c .before .before .before .before .before .before .before .enter .ensures .1 _ _ (c .before .before .before .before .a .given .1) in
-    (opened .room, opened .space, opened .run)
+    let opened = c .before .before .before .before .before .before .before .enter .ensures .1 _ _ (c .before .before .before .before .a .given .1) in (
+      opened .room,
+      opened .space,
+      opened .run,
+      sourced (c .before .before .before .before .before .before .before .enter .ensures .0) (c .before .before .before .before .a .given .1) opened,
+    )
 
 returns-2 : tie.Need-returns-2
 returns-2 c =

@@ -1,0 +1,9 @@
+use borrow.Author.Needs.{needs}
+use Rattle.run.proofs.agent.Statement.{statement}
+use Rattle.run.proofs.agent.Tie as tie
+
+returns : tie.Need-returns
+returns c = cc
+
+pub agent-spec : {M : Type 1} → statement M
+agent-spec = tie.close (tie.spec (λ c κs. search needs) (λ c κs. search needs) returns)

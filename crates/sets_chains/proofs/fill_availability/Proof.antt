@@ -1,0 +1,69 @@
+use mathlib.Core.Path.{sym, _∙_}
+use Prim.Native.Nat.{_-_}
+use native.Mathlib.Omega.{arith}
+use Rattle.model.specs.Limits.{ROWS}
+use Rattle.model.specs.Table.{decode}
+use Rattle.run.specs.Layout.{tableIn}
+use Rattle.row_sets.specs.First.{next}
+use Rattle.row_sets.specs.Rows.{rows-at}
+use Rattle.row_sets.specs.Walk.{walk-less, walk-in}
+use Rattle.known.specs.Known.{says-rows}
+use Rattle.grids.specs.Available.{makes}
+use Rattle.grids.specs.Filling.{member-in}
+use Rattle.sets_chains.specs.Availability.{Making, make-begin, make-turn, make-end}
+use borrow.Author.Needs.{needs}
+use Rattle.sets_chains.proofs.fill_availability.Statement.{statement}
+use Rattle.sets_chains.proofs.fill_availability.Tie as tie
+
+abbrev Inv-loop : tie.InvT-loop
+Inv-loop t n s w₀ chains left₀ w left = Making (tableIn t n) n chains s left₀ w₀ left w
+
+abbrev μ-loop : tie.MeasureT-loop
+μ-loop t n s w₀ chains left₀ w left = ROWS - next left
+
+prepare-requires : tie.Need-prepare-requires Inv-loop μ-loop
+unfolding decode
+prepare-requires c κs = let pre = c .before .before .before .before .pre in (c .before .chains .ensures, pre .0, pre .1)
+
+rows-requires : tie.Need-rows-requires Inv-loop μ-loop
+rows-requires c κs = let a = c .before .before .before .before .before .before .before .pre .0 .opened .space in omega arith
+
+loop-holds : tie.Need-loop-holds Inv-loop μ-loop
+loop-holds c = make-begin _ (c .before .before .before .prepare .ensures .ready)
+
+first-requires : tie.Need-first-requires Inv-loop μ-loop
+first-requires c κs = sym (c .before .some .ensures) ∙ c .if1 .taken
+
+but-first-requires : tie.Need-but-first-requires Inv-loop μ-loop
+but-first-requires c κs = sym (c .before .before .some .ensures) ∙ c .before .if1 .taken
+
+make-requires : tie.Need-make-requires Inv-loop μ-loop
+unfolding decode makes
+make-requires c κs =
+    let pre = c .before .before .before .before .before .before .before .before .before .before .before .before .before .before .pre in
+    let inv = c .before .before .before .before .before .loop .inv in
+    let rows = rows-at (c .before .before .before .before .before .before .rows .ensures) (says-rows (pre .0 .opened .known .tested .marked .available)) in
+    let m = member-in _ rows (walk-in (inv .walk) (c .before .before .first .ensures)) in
+    (m .0, m .1, c .before .before .before .before .before .before .before .before .before .before .before .chains .ensures, inv .ready)
+
+loop-less : tie.Need-loop-less Inv-loop μ-loop
+loop-less c = walk-less (c .before .before .before .before .before .first .ensures) (c .before .before .before .before .but-first .ensures)
+
+loop-again : tie.Need-loop-again Inv-loop μ-loop
+loop-again c = make-turn (c .before .before .before .before .before .before .before .before .loop .inv) (c .before .before .before .before .before .first .ensures) (c .before .before .before .before .but-first .ensures) (c .before .before .make .ensures)
+
+same-length : tie.Need-same-length Inv-loop μ-loop
+same-length c = c .before .before .loop .inv .frame .len ∙ c .before .before .before .before .before .before .prepare .ensures .frame .len
+
+returns : tie.Need-returns Inv-loop μ-loop
+unfolding makes
+returns c =
+    let pre = c .before .before .before .before .before .before .before .before .before .before .before .pre in
+    let rows = rows-at (c .before .before .before .rows .ensures) (says-rows (pre .0 .opened .known .tested .marked .available)) in
+    make-end rows (sym (c .before .some .ensures) ∙ c .if1 .left) (c .before .before .before .before .before .before .prepare .ensures .frame) (c .before .before .loop .inv)
+
+pub fill-availability-spec : {M : Type 1} → statement M
+fill-availability-spec =
+    tie.close
+    (tie.spec Inv-loop μ-loop (λ c κs. search needs) prepare-requires rows-requires loop-holds (λ c κs. search needs) first-requires
+    but-first-requires make-requires loop-less loop-again same-length returns)

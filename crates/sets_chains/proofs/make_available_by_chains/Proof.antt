@@ -1,0 +1,58 @@
+use mathlib.Core.Path.{_∙_}
+use Prim.Native.Nat.{_-_, _≤_}
+use Rattle.finite.specs.Below.{anyBelow}
+use Rattle.run.specs.Layout.{tableIn}
+use Rattle.row_sets.specs.Rows.{Rows, rows-at}
+use Rattle.grids.specs.Given.{given-few}
+use Rattle.sets_chains.specs.Alone.{made-one}
+use Rattle.sets_chains.specs.Wide.{wideFrom}
+use Rattle.sets_chains.specs.Made.{chain-rows, wide-none, wide-more, wide-all}
+use borrow.Author.Needs.{needs}
+use native.Mathlib.Omega.{arith}
+use Rattle.sets_chains.proofs.make_available_by_chains.Statement.{statement}
+use Rattle.sets_chains.proofs.make_available_by_chains.Tie as tie
+
+abbrev Inv-loop : tie.InvT-loop
+Inv-loop t n s a w chain at visible₀ q₀ visible q = (1 ≤ q) × (q ≤ 5) × Rows n (λ v. anyBelow q (wideFrom (tableIn t n) n a v)) visible
+
+abbrev μ-loop : tie.MeasureT-loop
+μ-loop t n s a w chain at visible₀ q₀ visible q = 5 - q
+
+get-requires : tie.Need-get-requires Inv-loop μ-loop
+get-requires c κs = omega (arith, c .before .before .before .pre .0, given-few (c .before .before .before .pre .3), c .before .before .before .pre .3 .room)
+
+bit-requires : tie.Need-bit-requires Inv-loop μ-loop
+bit-requires c κs = omega (arith, c .before .before .before .before .pre .0, given-few (c .before .before .before .before .pre .3))
+
+available-to-requires : tie.Need-available-to-requires Inv-loop μ-loop
+available-to-requires c κs = (c .before .before .before .before .before .before .before .pre .0, c .before .before .before .before .before .before .before .pre .3, c .before .before .before .before .before .before .before .pre .4, (chain-rows _ _ _ _ (c .before .before .before .before .before .before .before .pre .2) (c .before .before .before .before .before .before .before .pre .0) (rows-at (c .before .before .before .get .ensures) (c .before .before .before .before .before .before .before .pre .5 .outs .row _ (c .before .before .before .before .before .before .before .pre .0) (c .before .before .before .before .before .before .before .pre .1))) (c .before .before .bit .ensures) (c .before .or .ensures)))
+
+loop-holds : tie.Need-loop-holds Inv-loop μ-loop
+loop-holds c = (omega arith, omega arith, wide-none _ _ _ (c .none .ensures))
+
+visible-by-requires : tie.Need-visible-by-requires Inv-loop μ-loop
+visible-by-requires c κs = (c .before .before .before .before .before .before .before .before .before .before .before .before .pre .0, omega (arith, c .before .loop-test .taken), c .before .before .before .before .before .before .before .before .before .before .before .before .pre .3, c .before .before .before .before .before .before .before .before .before .before .before .before .pre .4, c .before .before .before .before .before .before .before .before .before .before .before .before .pre .5 .ins, (chain-rows _ _ _ _ (c .before .before .before .before .before .before .before .before .before .before .before .before .pre .2) (c .before .before .before .before .before .before .before .before .before .before .before .before .pre .0) (rows-at (c .before .before .before .before .before .before .before .before .get .ensures) (c .before .before .before .before .before .before .before .before .before .before .before .before .pre .5 .outs .row _ (c .before .before .before .before .before .before .before .before .before .before .before .before .pre .0) (c .before .before .before .before .before .before .before .before .before .before .before .before .pre .1))) (c .before .before .before .before .before .before .before .bit .ensures) (c .before .before .before .before .before .before .or .ensures)))
+
+loop-again : tie.Need-loop-again Inv-loop μ-loop
+loop-again c = (omega (arith, c .before .before .before .before .loop .inv .0), omega (arith, c .before .before .before .loop-test .taken), wide-more _ _ _ _ (c .before .before .before .before .loop .inv .0) (c .before .before .before .before .loop .inv .2) (c .before .visible-by .ensures) (c .or2 .ensures))
+
+put-requires : tie.Need-put-requires Inv-loop μ-loop
+put-requires c κs = omega (arith, c .before .before .before .before .before .before .before .before .before .before .before .before .pre .0, given-few (c .before .before .before .before .before .before .before .before .before .before .before .before .pre .3), c .before .before .before .before .before .before .before .before .before .before .before .before .pre .3 .room)
+
+put-requires-2 : tie.Need-put-requires-2 Inv-loop μ-loop
+put-requires-2 c κs = omega (arith, c .before .before .before .before .before .before .before .before .before .before .before .before .before .before .before .before .pre .0, given-few (c .before .before .before .before .before .before .before .before .before .before .before .before .before .before .before .before .pre .3), c .before .before .before .before .before .before .before .before .before .before .before .before .before .before .before .before .pre .3 .room, c .before .before .before .put .ensures .frame .len)
+
+same-length : tie.Need-same-length Inv-loop μ-loop
+same-length c = c .before .before .put2 .ensures .frame .len ∙ c .before .before .before .before .before .before .put .ensures .frame .len
+
+returns : tie.Need-returns Inv-loop μ-loop
+returns c =
+    let f = given-few (c .before .before .before .before .before .before .before .before .before .before .before .before .before .before .before .before .before .before .before .pre .3) in
+    made-one (omega (arith, c .before .before .before .before .before .before .before .before .before .before .before .before .before .before .before .before .before .before .before .pre .0, f)) (c .before .before .before .before .before .before .before .before .before .before .before .available-to .ensures)
+    (wide-all _ _ _ _ (c .before .before .before .before .before .before .before .before .before .before .before .before .before .before .before .before .before .before .before .pre .3 .opened) (c .before .before .before .before .before .before .before .before .before .before .before .before .before .before .before .before .before .before .before .pre .2) (omega (arith, c .before .before .before .before .before .before .before .before .loop-test .left)) (c .before .before .before .before .before .before .before .before .before .loop .inv .1) (c .before .before .before .before .before .before .before .before .before .loop .inv .2))
+    (c .before .before .before .before .before .before .put .ensures) (c .before .before .put2 .ensures)
+
+pub make-available-by-chains-spec : {M : Type 1} → statement M
+make-available-by-chains-spec = tie.close (tie.spec Inv-loop μ-loop get-requires bit-requires (λ c κs. search needs) available-to-requires (λ c κs. search needs) loop-holds
+    visible-by-requires (λ c κs. search needs) (λ c. search needs) (λ c. search needs) loop-again put-requires put-requires-2 same-length
+    returns)

@@ -1,0 +1,6 @@
+pub mod Alone
+pub mod Chained
+pub mod Filled
+pub mod Wide
+pub mod Made
+pub mod Availability

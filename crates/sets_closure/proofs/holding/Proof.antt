@@ -1,0 +1,29 @@
+use mathlib.Core.Path.{_≡_}
+use Prim.Native.Nat.{_-_, _≤_}
+use Rattle.sets_closure.specs.Classes.{HoldsTo, holds-none, holds-more}
+use borrow.Author.Needs.{needs}
+use native.Mathlib.Omega.{arith}
+use Rattle.sets_closure.proofs.holding.Statement.{statement}
+use Rattle.sets_closure.proofs.holding.Tie as tie
+
+abbrev Inv-loop : tie.InvT-loop
+Inv-loop s c a₀ m₀ a m = (m ≤ 16) × HoldsTo s c m a
+
+abbrev μ-loop : tie.MeasureT-loop
+μ-loop s c a₀ m₀ a m = 16 - m
+
+loop-holds : tie.Need-loop-holds Inv-loop μ-loop
+loop-holds c = (search needs, holds-none _ _ _ (c .none .ensures))
+
+get-requires : tie.Need-get-requires Inv-loop μ-loop
+get-requires c κs = let a = c .before .before .before .before .before .pre .1 in let b = c .before .loop-test .taken in omega arith
+
+loop-again : tie.Need-loop-again Inv-loop μ-loop
+loop-again c = (search needs, holds-more _ _ _ (c .before .before .before .before .before .loop .inv .1) (c .before .before .before .holds .ensures) (c .before .before .get .ensures) (c .before .only-if .ensures) (c .or .ensures))
+
+returns : tie.Need-returns Inv-loop μ-loop
+returns c = let e : c .before .loop .m ≡ 16 = omega arith in rw e at (c .before .loop .inv .1)
+
+pub holding-spec : {M : Type 1} → statement M
+holding-spec = tie.close (tie.spec Inv-loop μ-loop (λ c κs. search needs) loop-holds (λ c. search needs) (λ c. search needs) (λ c κs. search needs) get-requires
+    (λ c κs. search needs) (λ c κs. search needs) (λ c. search needs) (λ c. search needs) loop-again returns)

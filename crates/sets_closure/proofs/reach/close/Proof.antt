@@ -1,0 +1,46 @@
+use mathlib.Core.Path.{sym, _∙_}
+use Prim.Native.Nat.{_-_}
+use Rattle.model.specs.Limits.{ROWS}
+use Rattle.row_sets.specs.First.{next}
+use Rattle.bits.specs.Within.{Within, within-refl, within-trans}
+use Rattle.grids.specs.Regions.{REACH-AT, REACH-END}
+use Rattle.row_sets.specs.Walk.{Walk, walk-less}
+use Rattle.sets_closure.specs.Reaching.{Closing, close-begin, close-turn, close-end}
+use borrow.Author.Needs.{needs}
+use native.Mathlib.Omega.{arith}
+use Rattle.sets_closure.proofs.reach.close.Statement.{statement}
+use Rattle.sets_closure.proofs.reach.close.Tie as tie
+
+abbrev Inv-loop : tie.InvT-loop
+Inv-loop nodes w₀ left₀ w left = Within REACH-AT REACH-END w₀ w × (Walk nodes left × Closing nodes w₀ (next left) w)
+
+abbrev μ-loop : tie.MeasureT-loop
+μ-loop nodes w₀ left₀ w left = ROWS - next left
+
+loop-holds : tie.Need-loop-holds Inv-loop μ-loop
+loop-holds c = (within-refl _ _ _, close-begin _ _)
+
+first-requires : tie.Need-first-requires Inv-loop μ-loop
+first-requires c κs = sym (c .before .some .ensures) ∙ c .if1 .taken
+
+but-first-requires : tie.Need-but-first-requires Inv-loop μ-loop
+but-first-requires c κs = sym (c .before .before .some .ensures) ∙ c .before .if1 .taken
+
+close-at-requires : tie.Need-close-at-requires Inv-loop μ-loop
+close-at-requires c κs = let d = c .before .before .before .before .before .loop .inv .0 .len in (c .before .before .first .ensures .bound, omega (arith, c .before .before .before .before .before .before .before .pre))
+
+loop-less : tie.Need-loop-less Inv-loop μ-loop
+loop-less c = walk-less (c .before .before .before .before .before .first .ensures) (c .before .before .before .before .but-first .ensures)
+
+loop-again : tie.Need-loop-again Inv-loop μ-loop
+loop-again c = (within-trans (c .before .before .before .before .before .before .before .before .loop .inv .0) (c .before .before .close-at .ensures .frame), close-turn (c .before .before .before .before .before .before .before .before .loop .inv .1) (c .before .before .before .before .before .first .ensures) (c .before .before .before .before .but-first .ensures) (c .before .before .close-at .ensures))
+
+same-length : tie.Need-same-length Inv-loop μ-loop
+same-length c = c .before .before .loop .inv .0 .len
+
+returns : tie.Need-returns Inv-loop μ-loop
+returns c = close-end _ (sym (c .before .some .ensures) ∙ c .if1 .left) (c .before .before .loop .inv .1 .1) (c .before .before .loop .inv .0)
+
+pub close-spec : {M : Type 1} → statement M
+close-spec = tie.close (tie.spec Inv-loop μ-loop loop-holds (λ c κs. search needs) first-requires but-first-requires close-at-requires loop-less loop-again
+    same-length returns)

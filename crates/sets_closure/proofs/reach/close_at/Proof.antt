@@ -1,0 +1,46 @@
+use mathlib.Core.Path.{sym, _∙_}
+use Prim.Native.Nat.{_-_}
+use Rattle.model.specs.Limits.{ROWS}
+use Rattle.row_sets.specs.First.{next}
+use Rattle.bits.specs.Within.{Within, within-refl, within-trans}
+use Rattle.grids.specs.Regions.{REACH-AT, REACH-END}
+use Rattle.row_sets.specs.Walk.{Walk, walk-less}
+use Rattle.sets_closure.specs.Reaching.{Rounding, round-begin, round-turn, round-end}
+use borrow.Author.Needs.{needs}
+use native.Mathlib.Omega.{arith}
+use Rattle.sets_closure.proofs.reach.close_at.Statement.{statement}
+use Rattle.sets_closure.proofs.reach.close_at.Tie as tie
+
+abbrev Inv-loop : tie.InvT-loop
+Inv-loop j w₀ left₀ w left = Within REACH-AT REACH-END w₀ w × (Walk left₀ left × Rounding j left₀ w₀ (next left) w)
+
+abbrev μ-loop : tie.MeasureT-loop
+μ-loop j w₀ left₀ w left = ROWS - next left
+
+loop-holds : tie.Need-loop-holds Inv-loop μ-loop
+loop-holds c = (within-refl _ _ _, round-begin _ _ _)
+
+first-requires : tie.Need-first-requires Inv-loop μ-loop
+first-requires c κs = sym (c .before .some .ensures) ∙ c .if1 .taken
+
+but-first-requires : tie.Need-but-first-requires Inv-loop μ-loop
+but-first-requires c κs = sym (c .before .before .some .ensures) ∙ c .before .if1 .taken
+
+take-if-requires : tie.Need-take-if-requires Inv-loop μ-loop
+take-if-requires c κs = let d = c .before .before .before .before .before .loop .inv .0 .len in (c .before .before .first .ensures .bound, c .before .before .before .before .before .before .before .pre .0, omega (arith, c .before .before .before .before .before .before .before .pre .1))
+
+loop-less : tie.Need-loop-less Inv-loop μ-loop
+loop-less c = walk-less (c .before .before .before .before .before .first .ensures) (c .before .before .before .before .but-first .ensures)
+
+loop-again : tie.Need-loop-again Inv-loop μ-loop
+loop-again c = (within-trans (c .before .before .before .before .before .before .before .before .loop .inv .0) (c .before .before .take-if .ensures .kept .frame), round-turn (c .before .before .before .before .before .before .before .before .loop .inv .1) (c .before .before .before .before .before .first .ensures) (c .before .before .before .before .but-first .ensures) (c .before .before .take-if .ensures))
+
+same-length : tie.Need-same-length Inv-loop μ-loop
+same-length c = c .before .before .loop .inv .0 .len
+
+returns : tie.Need-returns Inv-loop μ-loop
+returns c = round-end _ (sym (c .before .some .ensures) ∙ c .if1 .left) (c .before .before .loop .inv .1 .1) (c .before .before .loop .inv .0)
+
+pub close-at-spec : {M : Type 1} → statement M
+close-at-spec = tie.close (tie.spec Inv-loop μ-loop loop-holds (λ c κs. search needs) first-requires but-first-requires take-if-requires loop-less loop-again
+    same-length returns)

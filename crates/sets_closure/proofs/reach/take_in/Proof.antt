@@ -1,0 +1,32 @@
+use mathlib.Core.Path.{_∙_}
+use Rattle.sets_closure.specs.Reaching.{took-is}
+use native.Mathlib.Omega.{arith}
+use Rattle.sets_closure.proofs.reach.take_in.Statement.{statement}
+use Rattle.sets_closure.proofs.reach.take_in.Tie as tie
+
+get-requires : tie.Need-get-requires
+get-requires c κs = omega (arith, c .before .before .pre .1, c .before .before .pre .2)
+
+get-requires-2 : tie.Need-get-requires-2
+get-requires-2 c κs = omega (arith, c .before .before .before .before .pre .1, c .before .before .before .before .pre .2)
+
+get-requires-3 : tie.Need-get-requires-3
+get-requires-3 c κs = omega (arith, c .before .before .before .before .before .before .pre .1, c .before .before .before .before .before .before .pre .2)
+
+join-requires : tie.Need-join-requires
+join-requires c κs = omega (arith, c .before .before .before .before .before .before .before .before .pre .0, c .before .before .before .before .before .before .before .before .pre .2)
+
+join-requires-2 : tie.Need-join-requires-2
+join-requires-2 c κs = let d = c .before .before .before .join .ensures .frame .len in omega (arith, c .before .before .before .before .before .before .before .before .before .before .before .before .pre .0, c .before .before .before .before .before .before .before .before .before .before .before .before .pre .2)
+
+join-requires-3 : tie.Need-join-requires-3
+join-requires-3 c κs = let d = c .before .before .before .before .before .before .before .join .ensures .frame .len in let e = c .before .before .before .join2 .ensures .frame .len in omega (arith, c .before .before .before .before .before .before .before .before .before .before .before .before .before .before .before .before .pre .0, c .before .before .before .before .before .before .before .before .before .before .before .before .before .before .before .before .pre .2)
+
+same-length : tie.Need-same-length
+same-length c = c .before .before .join3 .ensures .frame .len ∙ c .before .before .before .before .before .before .join2 .ensures .frame .len ∙ c .before .before .before .before .before .before .before .before .before .before .join .ensures .frame .len
+
+returns : tie.Need-returns
+returns c = took-is _ _ _ _ _ (c .before .before .before .before .before .before .before .before .before .before .before .before .before .before .before .before .before .before .before .pre .0) (c .before .before .before .before .before .before .before .before .before .before .before .before .before .before .before .before .get .ensures) (c .before .before .before .before .before .before .before .before .before .before .before .before .before .before .get2 .ensures) (c .before .before .before .before .before .before .before .before .before .before .before .before .get3 .ensures) (c .before .before .before .before .before .before .before .before .before .before .join .ensures) (c .before .before .before .before .before .before .join2 .ensures) (c .before .before .join3 .ensures)
+
+pub take-in-spec : {M : Type 1} → statement M
+take-in-spec = tie.close (tie.spec get-requires get-requires-2 get-requires-3 join-requires join-requires-2 join-requires-3 same-length returns)

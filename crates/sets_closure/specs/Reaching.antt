@@ -1,0 +1,836 @@
+-- Inter-thread order from the nodes of a class set: three sets for each, of rows, visibility operations and availability operations. By one
+-- pass up the page where every direct case leads down it, by Warshall's algorithm wherever they lead. Assumes nothing.
+use mathlib.Core.Path.{_≡_, refl, sym, ap, ap₂, subst, _∙_}
+use mathlib.Core.Bool.{Bool, true, false, not, cond}
+use mathlib.Core.List.{List}
+use mathlib.Core.Logic.{_⊎_, inl, inr, ⊎-elim}
+use Prim.Native.Nat.{ℕ, zero, suc, _+_, _-_, _*_, _≤_, _<_, min}
+use native.Mathlib.Omega.{arith}
+use native.Mathlib.Decide.{decLt, ℕ-discrete}
+use lib.Dec.{ltb}
+use borrow.Author.Tests.{ltb-true, lt-ltb, leb-true, le-leb}
+use Rattle.finite.specs.Logic.{_and_, _or_, which, bool-ext, split, and-true, and-on, and-false-left, or-cases, or-left, or-right, or-off, not-both, not-in, not-out}
+use Rattle.finite.specs.Below.{anyBelow, any-off, least-is, least-low}
+use Rattle.model.specs.Limits.{ROWS}
+use Rattle.model.specs.Row.{plain, releases}
+use Rattle.model.specs.Moment.{itself}
+use Rattle.model.specs.Synchronizes.{synchronizes}
+use Rattle.model.specs.Happens.{step, interThread}
+use Rattle.model.specs.Location.{availableAt, visibleAt}
+use Rattle.model.specs.Table.{Table}
+use Rattle.bits.specs.Within.{Within, within-refl, within-trans, within-widen}
+use Rattle.area.specs.Regions.{SYNC}
+use Rattle.closing.specs.Order.{laterRow, fromRow}
+use Rattle.closing.specs.Warshall.{closedTo, closed-nodes}
+use Rattle.closing.specs.Phase.{Phase, phase-none, phase-turn, phase-pass, phase-next, phase-skip, phase-all}
+use Rattle.closing.specs.Nodes.{nodeHop, holder, releaser, acquirer, node, Way, last, next, node-way, way-inter, inter-one, inter-trans}
+use Rattle.closing.specs.Direct.{takesPart, availableFor, visibleFor, meetsFor, directAvailable, directVisible, holder-is, meets-is, step-at, direct-available, direct-visible}
+use Rattle.closing.specs.Up.{Down}
+use Rattle.closing.specs.Sets.{reachedAt, reachedAvailable, reachedVisible}
+use Rattle.row_sets.specs.declared.Set.{Set}
+use Rattle.row_sets.specs.Member.{inSet}
+use Rattle.row_sets.specs.First.{First, first-next, Rest}
+use Rattle.row_sets.specs.First
+use Rattle.row_sets.specs.Kept.{setAt, set-kept, Stored, joined}
+use Rattle.row_sets.specs.Family.{nth}
+use Rattle.row_sets.specs.Rows.{Rows, rows-at, rows-in, rows-cong, rows-and, rows-or, rows-if}
+use Rattle.row_sets.specs.Walk.{Walk, walk-begin, walk-turn, walk-end, walk-in, walk-less, rest-in, rest-more}
+use Rattle.grids.specs.Regions.{DEPENDS, REACH-AT, REACH-END}
+use Rattle.grids.specs.Grid.{Grid, grid-at, grid-kept}
+use Rattle.grids.specs.Given.{given-few}
+use Rattle.grids.specs.Filling.{member-in}
+use Rattle.grids.specs.declared.Concerned.{Concerned}
+use Rattle.grids.specs.Concerns.{Told, Concerns}
+use Rattle.grids.specs.Reach.{Asks, MadeReach}
+
+-- ---- definitions
+
+-- the three grids: of rows 0, of visibility operations 1, of availability operations 2
+abbrev pub grid : ℕ → ℕ
+grid k = REACH-AT + 256 * k
+
+unfoldable pub sortAt : Table → ℕ → ℕ → ℕ
+sortAt t zero j = itself j
+sortAt t (suc zero) j = visibleAt t j
+sortAt t (suc (suc k)) j = availableAt t j
+
+-- what row h leads to at once, and at all
+unfoldable pub ownOf : Table → ℕ → ℕ → ℕ → ℕ → Bool
+ownOf t c k h j = step t c (itself h) (sortAt t k j)
+
+unfoldable pub reachOf : Table → ℕ → ℕ → ℕ → ℕ → Bool
+reachOf t c k h j = interThread t c (itself h) (sortAt t k j)
+
+-- what a class set is asked by, beside a table's sets
+pub record Asking (t : Table) (n c : ℕ) (ends : Set) (k : Concerned) (w : List ℕ) : Type 0 where
+  pub rows : t .rows ≡ n
+  pub few : n ≤ ROWS
+  pub told : Told t n ends
+  pub concerns : Concerns t n c ends k
+  pub syncs : Grid SYNC n (synchronizes t) w
+  pub depends : Grid DEPENDS n (t .depends) w
+
+-- row h's three sets are f's
+pub record Has (n h : ℕ) (f : ℕ → ℕ → Bool) (w : List ℕ) : Type 0 where
+  pub is : (k j : ℕ) → k < 3 → inSet (nth w (grid k) h) j ≡ (ltb j n and f k j)
+
+-- no other row's changed, and nothing else
+pub record Kept (h : ℕ) (w u : List ℕ) : Type 0 where
+  pub keep : (k x : ℕ) → k < 3 → x < ROWS → (x ≡ h → ⊥) → nth u (grid k) x ≡ nth w (grid k) x
+  pub frame : Within REACH-AT REACH-END w u
+
+pub record PutDirect (t : Table) (n : ℕ) (k : Concerned) (h : ℕ) (w u : List ℕ) : Type 0 where
+  pub own : (c : ℕ) (ends : Set) → Asking t n c ends k w → Has n h (λ i j. ownOf t c i h j) u
+  pub kept : Kept h w u
+
+pub record Took (h j : ℕ) (w u : List ℕ) : Type 0 where
+  pub is : (k x : ℕ) → k < 3 → inSet (nth u (grid k) h) x ≡ (inSet (nth w (grid k) h) x or inSet (nth w (grid k) j) x)
+  pub kept : Kept h w u
+
+pub record TakesIf (h j : ℕ) (w u : List ℕ) : Type 0 where
+  pub is : (k x : ℕ) → k < 3 → inSet (nth u (grid k) h) x ≡ (inSet (nth w (grid k) h) x or (inSet (nth w (grid 0) h) j and inSet (nth w (grid k) j) x))
+  pub kept : Kept h w u
+
+-- node h has what it leads to at once, and each node that it leads to has what it reaches
+pub record Ready (t : Table) (n c : ℕ) (ends : Set) (h : ℕ) (nodes : Set) (w : List ℕ) : Type 0 where
+  pub rows : t .rows ≡ n
+  pub few : n ≤ ROWS
+  pub told : (a b : ℕ) → t .depends a b ≡ true → (inSet ends a ≡ true) × (inSet ends b ≡ true)
+  pub here : h < n
+  pub on : node t (inSet ends) c h ≡ true
+  pub members : Rows n (node t (inSet ends) c) nodes
+  pub own : Has n h (λ i j. ownOf t c i h j) w
+  pub apart : (j : ℕ) → j < n → node t (inSet ends) c j ≡ true → ownOf t c 0 h j ≡ true → j ≡ h → ⊥
+  pub done : (j : ℕ) → j < n → node t (inSet ends) c j ≡ true → ownOf t c 0 h j ≡ true → Has n j (λ i x. reachOf t c i j x) w
+
+pub record Follows (h : ℕ) (nodes : Set) (w u : List ℕ) : Type 0 where
+  pub all : (t : Table) (n c : ℕ) (ends : Set) → Ready t n c ends h nodes w → Has n h (λ i j. reachOf t c i h j) u
+  pub kept : Kept h w u
+
+-- the invariant: what row h got is reached; of what it leads to at once, what is left, and what it has all of
+pub record Taking (t : Table) (n c h : ℕ) (first : Set) (w : List ℕ) (left : Set) (u : List ℕ) : Type 0 where
+  pub sound : (k x : ℕ) → k < 3 → inSet (nth u (grid k) h) x ≡ true → (x < n) × (reachOf t c k h x ≡ true)
+  pub grown : (k x : ℕ) → k < 3 → inSet (nth w (grid k) h) x ≡ true → inSet (nth u (grid k) h) x ≡ true
+  pub inside : (y : ℕ) → inSet left y ≡ true → inSet first y ≡ true
+  pub taken : (y : ℕ) → inSet first y ≡ true
+      → (inSet left y ≡ true) ⊎ ((k x : ℕ) → k < 3 → x < n → reachOf t c k y x ≡ true → inSet (nth u (grid k) h) x ≡ true)
+
+pub record Following (h : ℕ) (first : Set) (w : List ℕ) (left : Set) (u : List ℕ) : Type 0 where
+  pub all : (t : Table) (n c : ℕ) (ends nodes : Set) → Ready t n c ends h nodes w → Rows n (λ j. ownOf t c 0 h j and node t (inSet ends) c j) first → Taking t n c h first w left u
+  pub kept : Kept h w u
+
+-- the nodes from row h on have what they reach
+pub record Done (t : Table) (n c : ℕ) (ends : Set) (h : ℕ) (w : List ℕ) : Type 0 where
+  pub is : (j : ℕ) → h ≤ j → j < n → node t (inSet ends) c j ≡ true → Has n j (λ i x. reachOf t c i j x) w
+
+pub record PassesNode (t : Table) (n : ℕ) (k : Concerned) (h : ℕ) (w u : List ℕ) : Type 0 where
+  pub to : (c : ℕ) (ends : Set) → Asking t n c ends k w → Down t c → Done t n c ends (h + 1) w → Done t n c ends h u
+  pub frame : Within REACH-AT REACH-END w u
+
+pub record PassesUp (t : Table) (n : ℕ) (k : Concerned) (w u : List ℕ) : Type 0 where
+  pub to : (c : ℕ) (ends : Set) → Asking t n c ends k w → Down t c → Done t n c ends 0 u
+  pub frame : Within REACH-AT REACH-END w u
+
+-- ---- laws: a change elsewhere
+
+pub asking-kept : {t : Table} {n c : ℕ} {ends : Set} {k : Concerned} {w u : List ℕ} → Within REACH-AT REACH-END w u → Asking t n c ends k w → Asking t n c ends k u
+asking-kept f a =
+    let l = a .few in
+    record {
+      rows = a .rows;
+      few = a .few;
+      told = a .told;
+      concerns = a .concerns;
+      syncs = grid-kept (λ o. absurd (omega arith)) f (a .syncs);
+      depends = grid-kept (λ o. absurd (omega arith)) f (a .depends);
+    }
+
+pub has-kept : {n h x : ℕ} {f : ℕ → ℕ → Bool} {w u : List ℕ} → x < ROWS → (x ≡ h → ⊥) → Kept h w u → Has n x f w → Has n x f u
+has-kept {x = x} l d k p = record { is = λ i j m. ap (λ (z : Set). inSet z j) (k .keep i x m l d) ∙ p .is i j m }
+
+pub kept-none : (h : ℕ) (w : List ℕ) → Kept h w w
+kept-none h w = record { keep = λ k x l m d. refl; frame = within-refl REACH-AT REACH-END w }
+
+pub kept-more : {h : ℕ} {w u v : List ℕ} → Kept h w u → Kept h u v → Kept h w v
+kept-more a b = record { keep = λ k x l m d. b .keep k x l m d ∙ a .keep k x l m d; frame = within-trans (a .frame) (b .frame) }
+
+-- ---- laws: three stores in row h
+
+module _ (h : ℕ) (l : h < ROWS) {w a b u : List ℕ} {p q r : ℕ → Bool} (x : Stored (REACH-AT + 2 * h) p w a) (y : Stored (REACH-AT + 256 + 2 * h) q a b)
+    (z : Stored (REACH-AT + 512 + 2 * h) r b u) where
+  pub three-kept : Kept h w u
+  three-kept = record { keep = keep; frame = within-trans (within-trans (wide (x .frame)) (wide′ (y .frame))) (wide″ (z .frame)) }
+    where
+      wide : {w u : List ℕ} → Within (REACH-AT + 2 * h) (REACH-AT + 2 * h + 2) w u → Within REACH-AT REACH-END w u
+      wide f = within-widen REACH-AT REACH-END (omega arith) (omega (arith, l)) f
+
+      wide′ : {w u : List ℕ} → Within (REACH-AT + 256 + 2 * h) (REACH-AT + 256 + 2 * h + 2) w u → Within REACH-AT REACH-END w u
+      wide′ f = within-widen REACH-AT REACH-END (omega arith) (omega (arith, l)) f
+
+      wide″ : {w u : List ℕ} → Within (REACH-AT + 512 + 2 * h) (REACH-AT + 512 + 2 * h + 2) w u → Within REACH-AT REACH-END w u
+      wide″ f = within-widen REACH-AT REACH-END (omega arith) (omega (arith, l)) f
+
+      keep : (k i : ℕ) → k < 3 → i < ROWS → (i ≡ h → ⊥) → nth u (grid k) i ≡ nth w (grid k) i
+      keep k i m o d =
+          set-kept (grid k + 2 * i) (λ g. omega (arith, d, l)) (z .frame) ∙ set-kept (grid k + 2 * i) (λ g. omega (arith, d, l)) (y .frame)
+          ∙ set-kept (grid k + 2 * i) (λ g. omega (arith, d, l)) (x .frame)
+
+  pub three-at : (j : ℕ) → inSet (nth u (grid 0) h) j ≡ p j
+  three-at j =
+      ap (λ (s : Set). inSet s j) (set-kept (REACH-AT + 2 * h) (λ g. omega (arith, l)) (z .frame) ∙ set-kept (REACH-AT + 2 * h) (λ g. omega (arith, l)) (y .frame)) ∙ x .is j
+
+  pub three-visible : (j : ℕ) → inSet (nth u (grid 1) h) j ≡ q j
+  three-visible j = ap (λ (s : Set). inSet s j) (set-kept (REACH-AT + 256 + 2 * h) (λ g. omega (arith, l)) (z .frame)) ∙ y .is j
+
+  pub three-available : (j : ℕ) → inSet (nth u (grid 2) h) j ≡ r j
+  three-available j = z .is j
+
+  -- by the number of the grid
+  pub three-is : (f : ℕ → ℕ → Bool) → ((j : ℕ) → p j ≡ f 0 j) → ((j : ℕ) → q j ≡ f 1 j) → ((j : ℕ) → r j ≡ f 2 j) → (k j : ℕ) → k < 3 → inSet (nth u (grid k) h) j ≡ f k j
+  three-is f e g i zero j m = three-at j ∙ e j
+  three-is f e g i (suc zero) j m = three-visible j ∙ g j
+  three-is f e g i (suc (suc zero)) j m = three-available j ∙ i j
+  three-is f e g i (suc (suc (suc k))) j m = absurd (omega arith)
+
+-- ---- laws: direct cases
+
+swap : (a b : Bool) → (a and b) ≡ (b and a)
+unfolding _and_
+swap true true = refl
+swap true false = refl
+swap false true = refl
+swap false false = refl
+
+acquirer-holds : (t : Table) (c h : ℕ) → acquirer t c h ≡ true → holder t c h ≡ true
+unfolding acquirer
+acquirer-holds t c h e = split e .0
+
+from-later : (t : Table) (h j : ℕ) → fromRow t h j ≡ true → (h ≡ j → ⊥) → laterRow t h j ≡ true
+unfolding fromRow laterRow
+from-later t h j e d = let a = split e in let l = leb-true h j (a .0) in and-true (lt-ltb h j (omega (arith, d))) (a .1)
+
+later-from : (t : Table) (h j : ℕ) → laterRow t h j ≡ true → fromRow t h j ≡ true
+unfolding fromRow laterRow
+later-from t h j e = let a = split e in let l = ltb-true h j (a .0) in and-true (le-leb h j (omega arith)) (a .1)
+
+module _ {t : Table} {n c : ℕ} {ends : Set} {k : Concerned} {w : List ℕ} (q : Asking t n c ends k w) (h : ℕ) (l : h < n) where
+  there : h < t .rows
+  there = let e = q .rows in omega arith
+
+  step-in : (j : ℕ) → j < n
+      → (((releaser t c h and (synchronizes t h j and acquirer t c j)) or (takesPart t c h and (laterRow t h j and releaser t c j)))
+      or ((acquirer t c h and (laterRow t h j and takesPart t c j)) or t .depends h j)) ≡ step t c (itself h) (itself j)
+  unfolding meetsFor releaser synchronizes
+  step-in j m = bool-ext _ _ out back ∙ sym (step-at t c h there j (let e = q .rows in omega arith))
+    where
+      out : (((releaser t c h and (synchronizes t h j and acquirer t c j)) or (takesPart t c h and (laterRow t h j and releaser t c j)))
+          or ((acquirer t c h and (laterRow t h j and takesPart t c j)) or t .depends h j)) ≡ true
+          → ((holder t c h and meetsFor t c h j) or (releaser t c j and takesPart t c h and laterRow t h j) or (acquirer t c h and takesPart t c j and laterRow t h j) or t .depends h j) ≡ true
+      out e =
+          ⊎-elim
+          (λ a. ⊎-elim
+          (λ b. let v = split b in let x = split (v .1) in or-left _ (or-left _ (or-left _ (and-true (split (v .0) .0) (and-true (x .1) (x .0))))))
+          (λ b. let v = split b in let x = split (v .1) in or-left _ (or-left _ (or-right _ (and-true (and-true (x .1) (v .0)) (x .0)))))
+          (or-cases _ _ a))
+          (λ a. ⊎-elim
+          (λ b. let v = split b in let x = split (v .1) in or-left _ (or-right _ (and-true (and-true (v .0) (x .1)) (x .0))))
+          (λ b. or-right _ b) (or-cases _ _ a)) (or-cases _ _ e)
+
+      back : ((holder t c h and meetsFor t c h j) or (releaser t c j and takesPart t c h and laterRow t h j) or (acquirer t c h and takesPart t c j and laterRow t h j) or t .depends h j) ≡ true
+          → (((releaser t c h and (synchronizes t h j and acquirer t c j)) or (takesPart t c h and (laterRow t h j and releaser t c j)))
+          or ((acquirer t c h and (laterRow t h j and takesPart t c j)) or t .depends h j)) ≡ true
+      back e =
+          ⊎-elim
+          (λ a. ⊎-elim
+          (λ b. ⊎-elim
+          (λ d. let v = split d in let x = split (v .1) in or-left _ (or-left _ (and-true (and-true (v .0) (split (split (x .1) .0) .0)) (and-true (x .1) (x .0)))))
+          (λ d. let v = split d in let x = split (v .0) in or-left _ (or-right _ (and-true (x .1) (and-true (v .1) (x .0)))))
+          (or-cases _ _ b))
+          (λ b. let v = split b in let x = split (v .0) in or-right _ (or-left _ (and-true (x .0) (and-true (v .1) (x .1)))))
+          (or-cases _ _ a))
+          (λ a. or-right _ (or-right _ a)) (or-cases _ _ e)
+
+  pub direct-rows : (after g sa sync ra releases ta taking d x y z : Set) (b₁ b₂ b₃ : Bool) → Rows n (laterRow t h) after → b₁ ≡ inSet (k .releases) h
+      → g ≡ setAt w (SYNC + 2 * h) → ((j : ℕ) → inSet sa j ≡ (inSet g j and inSet (k .acquires) j)) → ((j : ℕ) → inSet sync j ≡ (b₁ and inSet sa j))
+      → b₂ ≡ inSet (k .at) h → ((j : ℕ) → inSet ra j ≡ (inSet after j and inSet (k .releases) j)) → ((j : ℕ) → inSet releases j ≡ (b₂ and inSet ra j))
+      → b₃ ≡ inSet (k .acquires) h → ((j : ℕ) → inSet ta j ≡ (inSet after j and inSet (k .at) j)) → ((j : ℕ) → inSet taking j ≡ (b₃ and inSet ta j))
+      → ((j : ℕ) → inSet x j ≡ (inSet sync j or inSet releases j)) → d ≡ setAt w (DEPENDS + 2 * h) → ((j : ℕ) → inSet y j ≡ (inSet taking j or inSet d j))
+      → ((j : ℕ) → inSet z j ≡ (inSet x j or inSet y j)) → Rows n (ownOf t c 0 h) z
+  unfolding ownOf sortAt
+  direct-rows after g sa sync ra releases ta taking d x y z b₁ b₂ b₃ ea e1 eg esa es e2 era er e3 eta et ex ed ey ez =
+      rows-cong
+      (λ j m.
+      ap₂ (λ (a b : Bool). ((a and (synchronizes t h j and acquirer t c j)) or (b and (laterRow t h j and releaser t c j))) or ((b₃ and (laterRow t h j and takesPart t c j)) or t .depends h j))
+      (e1 ∙ rows-in (q .concerns .releases) h l) (e2 ∙ rows-in (q .concerns .at) h l)
+      ∙ ap (λ (a : Bool). ((releaser t c h and (synchronizes t h j and acquirer t c j)) or (takesPart t c h and (laterRow t h j and releaser t c j))) or ((a and (laterRow t h j and takesPart t c j)) or t .depends h j))
+      (e3 ∙ rows-in (q .concerns .acquires) h l)
+      ∙ step-in j m)
+      (rows-or
+      (rows-or (rows-if b₁ (rows-and (grid-at (q .syncs) l eg) (q .concerns .acquires) esa) es) (rows-if b₂ (rows-and ea (q .concerns .releases) era) er) ex)
+      (rows-or (rows-if b₃ (rows-and ea (q .concerns .at) eta) et) (grid-at (q .depends) l ed) ey) ez)
+
+  available-in : (j : ℕ) → j < n → (acquirer t c h and (laterRow t h j and availableFor t c j)) ≡ step t c (itself h) (availableAt t j)
+  unfolding directAvailable
+  available-in j m =
+      ap (λ (a : Bool). acquirer t c h and a) (swap (laterRow t h j) (availableFor t c j)) ∙ sym (direct-available t c h there j (let e = q .rows in omega arith))
+
+  visible-in : (j : ℕ) → j < n → (acquirer t c h and (fromRow t h j and visibleFor t c j)) ≡ step t c (itself h) (visibleAt t j)
+  unfolding directVisible
+  visible-in j m = bool-ext _ _ out back ∙ sym (direct-visible t c h there j (let e = q .rows in omega arith))
+    where
+      wide : acquirer t c h ≡ true → plain (t .row h) ≡ false
+      wide e = not-out (plain (t .row h)) (split (sym (holder-is t c h) ∙ acquirer-holds t c h e) .0)
+
+      place : acquirer t c h ≡ true → fromRow t h j ≡ true → (plain (t .row j) ≡ true) ⊎ (plain (t .row j) ≡ false) → cond (plain (t .row j)) (laterRow t h j) (fromRow t h j) ≡ true
+      place a e (inl p) = ap (λ (b : Bool). cond b (laterRow t h j) (fromRow t h j)) p ∙ from-later t h j e (λ d. not-both p (ap (λ (i : ℕ). plain (t .row i)) (sym d) ∙ wide a))
+      place a e (inr p) = ap (λ (b : Bool). cond b (laterRow t h j) (fromRow t h j)) p ∙ e
+
+      from : cond (plain (t .row j)) (laterRow t h j) (fromRow t h j) ≡ true → (plain (t .row j) ≡ true) ⊎ (plain (t .row j) ≡ false) → fromRow t h j ≡ true
+      from e (inl p) = later-from t h j (sym (ap (λ (b : Bool). cond b (laterRow t h j) (fromRow t h j)) p) ∙ e)
+      from e (inr p) = sym (ap (λ (b : Bool). cond b (laterRow t h j) (fromRow t h j)) p) ∙ e
+
+      out : (acquirer t c h and (fromRow t h j and visibleFor t c j)) ≡ true → (acquirer t c h and (visibleFor t c j and cond (plain (t .row j)) (laterRow t h j) (fromRow t h j))) ≡ true
+      out e = let a = split e in let b = split (a .1) in and-true (a .0) (and-true (b .1) (place (a .0) (b .0) (which (plain (t .row j)))))
+
+      back : (acquirer t c h and (visibleFor t c j and cond (plain (t .row j)) (laterRow t h j) (fromRow t h j))) ≡ true → (acquirer t c h and (fromRow t h j and visibleFor t c j)) ≡ true
+      back e = let a = split e in let b = split (a .1) in and-true (a .0) (and-true (from (b .1) (which (plain (t .row j)))) (b .0))
+
+  pub own-rows : (onward after va vis aa ava : Set) (b : Bool) → b ≡ inSet (k .acquires) h → Rows n (fromRow t h) onward → Rows n (laterRow t h) after
+      → ((j : ℕ) → inSet va j ≡ (inSet onward j and inSet (k .visible) j)) → ((j : ℕ) → inSet vis j ≡ (b and inSet va j))
+      → ((j : ℕ) → inSet aa j ≡ (inSet after j and inSet (k .available) j)) → ((j : ℕ) → inSet ava j ≡ (b and inSet aa j))
+      → Rows n (ownOf t c 1 h) vis × Rows n (ownOf t c 2 h) ava
+  unfolding ownOf sortAt
+  own-rows onward after va vis aa ava b e eo ea ev ei eaa eav = (
+    rows-cong (λ j m. ap (λ (a : Bool). a and (fromRow t h j and visibleFor t c j)) (e ∙ rows-in (q .concerns .acquires) h l) ∙ visible-in j m)
+        (rows-if b (rows-and eo (q .concerns .visible) ev) ei),
+    rows-cong (λ j m. ap (λ (a : Bool). a and (laterRow t h j and availableFor t c j)) (e ∙ rows-in (q .concerns .acquires) h l) ∙ available-in j m)
+        (rows-if b (rows-and ea (q .concerns .available) eaa) eav),
+  )
+
+pub put-direct-is : {t : Table} {n : ℕ} {k : Concerned} {w a b u : List ℕ} (h : ℕ) (to vis ava : Set) → h < ROWS
+    → ((c : ℕ) (ends : Set) → Asking t n c ends k w → Rows n (ownOf t c 0 h) to) → ((c : ℕ) (ends : Set) → Asking t n c ends k w → Rows n (ownOf t c 1 h) vis × Rows n (ownOf t c 2 h) ava)
+    → Stored (REACH-AT + 2 * h) (inSet to) w a → Stored (REACH-AT + 256 + 2 * h) (inSet vis) a b → Stored (REACH-AT + 512 + 2 * h) (inSet ava) b u → PutDirect t n k h w u
+put-direct-is {t} {n} h to vis ava l f g x y z =
+    record {
+      own = λ c ends q. record { is = three-is h l x y z (λ i j. ltb j n and ownOf t c i h j) (f c ends q .is) (g c ends q .0 .is) (g c ends q .1 .is) };
+      kept = three-kept h l x y z;
+    }
+
+-- ---- laws: one row takes in another
+
+pub took-is : {w a b u : List ℕ} (h j : ℕ) (to vis ava : Set) → h < ROWS → to ≡ setAt w (REACH-AT + 2 * j) → vis ≡ setAt w (REACH-AT + 256 + 2 * j) → ava ≡ setAt w (REACH-AT + 512 + 2 * j)
+    → Stored (REACH-AT + 2 * h) (joined w (REACH-AT + 2 * h) to) w a → Stored (REACH-AT + 256 + 2 * h) (joined a (REACH-AT + 256 + 2 * h) vis) a b
+    → Stored (REACH-AT + 512 + 2 * h) (joined b (REACH-AT + 512 + 2 * h) ava) b u → Took h j w u
+unfolding joined
+took-is {w} {a} {b} {u} h j to vis ava l e f g x y z =
+    record {
+      is = three-is h l x y z (λ k i. inSet (nth w (grid k) h) i or inSet (nth w (grid k) j) i) (λ i. ap (λ (s : Set). inSet (setAt w (REACH-AT + 2 * h)) i or inSet s i) e)
+          (λ i. ap₂ (λ (r s : Set). inSet r i or inSet s i) (set-kept (REACH-AT + 256 + 2 * h) (λ o. omega (arith, l)) (x .frame)) f)
+          (λ i.
+          ap₂ (λ (r s : Set). inSet r i or inSet s i)
+          (set-kept (REACH-AT + 512 + 2 * h) (λ o. omega (arith, l)) (y .frame) ∙ set-kept (REACH-AT + 512 + 2 * h) (λ o. omega (arith, l)) (x .frame)) g);
+      kept = three-kept h l x y z;
+    }
+
+-- ---- laws: what a node leads to, and what that reaches
+
+reach-own : (t : Table) (c k h j : ℕ) → ownOf t c k h j ≡ true → reachOf t c k h j ≡ true
+unfolding ownOf reachOf
+reach-own t c k h j e = inter-one t c (itself h) (sortAt t k j) e
+
+reach-more : (t : Table) (c k h y j : ℕ) → y < t .rows → reachOf t c 0 h y ≡ true → reachOf t c k y j ≡ true → reachOf t c k h j ≡ true
+unfolding reachOf sortAt
+reach-more t c k h y j l e f = inter-trans t c (itself h) (itself y) (sortAt t k j) (omega arith) e f
+
+-- the first step of what a node reaches
+first-step : (t : Table) (c : ℕ) (ends : ℕ → Bool) → ((a b : ℕ) → t .depends a b ≡ true → (ends a ≡ true) × (ends b ≡ true)) → (k h j : ℕ) → h < t .rows → node t ends c h ≡ true
+    → reachOf t c k h j ≡ true
+    → (ownOf t c k h j ≡ true) ⊎ ((y : ℕ) × (y < t .rows) × (node t ends c y ≡ true) × (ownOf t c 0 h y ≡ true) × (reachOf t c k y j ≡ true))
+unfolding reachOf ownOf sortAt
+first-step t c ends told k h j l on e = go (node-way t c ends told h (sortAt t k j) l on e)
+  where
+    go : Way t ends c (sortAt t k j) h
+        → (step t c (itself h) (sortAt t k j) ≡ true) ⊎ ((y : ℕ) × (y < t .rows) × (node t ends c y ≡ true) × (step t c (itself h) (itself y) ≡ true) × (interThread t c (itself y) (sortAt t k j) ≡ true))
+    go (last f) = inl f
+    go (next {y = y} f o n q) = inr (y, o, n, f, way-inter t c ends told (sortAt t k j) q)
+
+-- ---- laws: node by node
+
+-- what row h leads to at once, of nodes
+firsts : {t : Table} {n c : ℕ} {ends : Set} {h : ℕ} {nodes : Set} {w : List ℕ} → Ready t n c ends h nodes w → (g first : Set) → g ≡ setAt w (REACH-AT + 2 * h)
+    → ((j : ℕ) → inSet first j ≡ (inSet g j and inSet nodes j)) → Rows n (λ j. ownOf t c 0 h j and node t (inSet ends) c j) first
+firsts {t} {n} {c} {ends} {h} r g first e f = rows-and (rows-at e (record { is = λ j. r .own .is 0 j (omega arith) })) (r .members) f
+
+pub follow-begin : (h : ℕ) (w : List ℕ) (first : Set) → Following h first w first w
+follow-begin h w first =
+    record {
+      all = λ t n c ends nodes r f.
+          record {
+            sound = λ k x m i. let a = split (sym (r .own .is k x m) ∙ i) in (ltb-true x n (a .0), reach-own t c k h x (a .1));
+            grown = λ k x m i. i;
+            inside = λ y i. i;
+            taken = λ y i. inl i;
+          };
+      kept = kept-none h w;
+    }
+
+pub follow-turn : {h : ℕ} {first : Set} {w u v : List ℕ} {left rest : Set} {j : ℕ} (d z : Set) → Following h first w left u → First left j → Rest left rest → Took h j u v
+    → d ≡ setAt v (REACH-AT + 2 * j) → ((i : ℕ) → inSet z i ≡ (inSet rest i and not (inSet d i))) → Following h first w z v
+follow-turn {h} {first} {w} {u} {v} {left} {rest} {j} d z inv low r took ed ez = record { all = all; kept = kept-more (inv .kept) (took .kept) }
+  where
+    all : (t : Table) (n c : ℕ) (ends nodes : Set) → Ready t n c ends h nodes w → Rows n (λ j. ownOf t c 0 h j and node t (inSet ends) c j) first → Taking t n c h first w z v
+    all t n c ends nodes ready fs =
+        record {
+          sound = λ k x m i. ⊎-elim (λ o. old .sound k x m o) (λ o. brought k x m o) (or-cases _ _ (sym (took .is k x m) ∙ i));
+          grown = λ k x m i. took .is k x m ∙ or-left _ (old .grown k x m i);
+          inside = λ y i. old .inside y (rest-in r y (split (sym (ez y) ∙ i) .0));
+          taken = λ y i. covered y i (old .taken y i);
+        }
+      where
+        old : Taking t n c h first w left u
+        old = inv .all t n c ends nodes ready fs
+
+        here : (j < n) × ((ownOf t c 0 h j and node t (inSet ends) c j) ≡ true)
+        here = member-in j fs (old .inside j (low .hit))
+
+        small : j < ROWS
+        small = low .bound
+
+        there : j < t .rows
+        there = let a = here .0 in let b = ready .rows in omega arith
+
+        owns : ownOf t c 0 h j ≡ true
+        owns = split (here .1) .0
+
+        on : node t (inSet ends) c j ≡ true
+        on = split (here .1) .1
+
+        -- row j has what it reaches, now as at first
+        got : (k x : ℕ) → k < 3 → inSet (nth u (grid k) j) x ≡ (ltb x n and reachOf t c k j x)
+        got k x m = ap (λ (s : Set). inSet s x) (inv .kept .keep k j m small (ready .apart j (here .0) on owns)) ∙ ready .done j (here .0) on owns .is k x m
+
+        after : (x : ℕ) → inSet d x ≡ (ltb x n and reachOf t c 0 j x)
+        after x = ap (λ (s : Set). inSet s x) (ed ∙ took .kept .keep 0 j (omega arith) small (ready .apart j (here .0) on owns)) ∙ got 0 x (omega arith)
+
+        brought : (k x : ℕ) → k < 3 → inSet (nth u (grid k) j) x ≡ true → (x < n) × (reachOf t c k h x ≡ true)
+        brought k x m i = let a = split (sym (got k x m) ∙ i) in (ltb-true x n (a .0), reach-more t c k h j x there (reach-own t c 0 h j owns) (a .1))
+
+        takes : (k x : ℕ) → k < 3 → x < n → reachOf t c k j x ≡ true → inSet (nth v (grid k) h) x ≡ true
+        takes k x m l e = took .is k x m ∙ or-right _ (got k x m ∙ and-true (lt-ltb x n l) e)
+
+        covered : (y : ℕ) → inSet first y ≡ true
+            → (inSet left y ≡ true) ⊎ ((k x : ℕ) → k < 3 → x < n → reachOf t c k y x ≡ true → inSet (nth u (grid k) h) x ≡ true)
+            → (inSet z y ≡ true) ⊎ ((k x : ℕ) → k < 3 → x < n → reachOf t c k y x ≡ true → inSet (nth v (grid k) h) x ≡ true)
+        covered y i (inr f) = inr (λ k x m l e. took .is k x m ∙ or-left _ (f k x m l e))
+        covered y i (inl f) = go (ℕ-discrete y j) (which (inSet d y))
+          where
+            go : Dec (y ≡ j) → (inSet d y ≡ true) ⊎ (inSet d y ≡ false)
+                → (inSet z y ≡ true) ⊎ ((k x : ℕ) → k < 3 → x < n → reachOf t c k y x ≡ true → inSet (nth v (grid k) h) x ≡ true)
+            go (yes q) o = inr (λ k x m l e. takes k x m l (ap (λ (s : ℕ). reachOf t c k s x) (sym q) ∙ e))
+            go (no q) (inl o) =
+                let a = split (sym (after y) ∙ o) in
+                let b = ltb-true y n (a .0) in
+                let p = ready .rows in
+                inr (λ k x m l e. takes k x m l (reach-more t c k j y x (omega (arith, b, p)) (a .1) e))
+            go (no q) (inr o) = inl (ez y ∙ and-true (rest-more r y f (λ s. q (s ∙ first-next low))) (not-in o))
+
+pub follow-end : {h : ℕ} {nodes first : Set} {w u : List ℕ} (left g : Set) → g ≡ setAt w (REACH-AT + 2 * h) → ((i : ℕ) → inSet first i ≡ (inSet g i and inSet nodes i))
+    → anyBelow ROWS (inSet left) ≡ false → Following h first w left u → Follows h nodes w u
+follow-end {h} {nodes} {first} {w} {u} left g eg ef e inv = record { all = all; kept = inv .kept }
+  where
+    all : (t : Table) (n c : ℕ) (ends : Set) → Ready t n c ends h nodes w → Has n h (λ i j. reachOf t c i h j) u
+    all t n c ends ready = record { is = λ k x m. bool-ext _ _ (λ i. let a = old .sound k x m i in and-true (lt-ltb x n (a .0)) (a .1)) (λ i. let a = split i in back k x m (ltb-true x n (a .0)) (a .1)) }
+      where
+        old : Taking t n c h first w left u
+        old = inv .all t n c ends nodes ready (firsts ready g first eg ef)
+
+        there : h < t .rows
+        there = let a = ready .here in let b = ready .rows in omega arith
+
+        back : (k x : ℕ) → k < 3 → x < n → reachOf t c k h x ≡ true → inSet (nth u (grid k) h) x ≡ true
+        back k x m l i = go (first-step t c (inSet ends) (ready .told) k h x there (ready .on) i)
+          where
+            go : (ownOf t c k h x ≡ true) ⊎ ((y : ℕ) × (y < t .rows) × (node t (inSet ends) c y ≡ true) × (ownOf t c 0 h y ≡ true) × (reachOf t c k y x ≡ true)) → inSet (nth u (grid k) h) x ≡ true
+            go (inl o) = old .grown k x m (ready .own .is k x m ∙ and-true (lt-ltb x n l) o)
+            go (inr o) =
+                let b = ready .rows in
+                let f = o .1 in
+                let y = firsts ready g first eg ef .is (o .0) ∙ and-true (lt-ltb (o .0) n (omega (arith, b, f))) (and-true (o .3) (o .2)) in
+                let a = ready .few in
+                ⊎-elim (λ v. not-both v (any-off (inSet left) ROWS e (o .0) (omega (arith, a, b, f)))) (λ v. v k x m l (o .4)) (old .taken (o .0) y)
+
+-- the measure falls
+pub follow-less : {left rest : Set} {j : ℕ} (d z : Set) → First left j → Rest left rest → ((i : ℕ) → inSet z i ≡ (inSet rest i and not (inSet d i))) → ROWS - First.next z < ROWS - First.next left
+follow-less {left} {rest} {j} d z f r e =
+    let a = walk-less f r in
+    let b : First.next rest ≤ First.next z = go (decLt (First.next z) ROWS) in
+    omega arith
+  where
+    go : Dec (First.next z < ROWS) → First.next rest ≤ First.next z
+    go (yes l) = least-low (inSet rest) ROWS (First.next z) (split (sym (e (First.next z)) ∙ least-is (inSet z) ROWS .hit l) .0)
+    go (no l) = let c = least-is (inSet rest) ROWS .bound in omega arith
+
+-- ---- laws: up the page
+
+down-apart : (t : Table) (c : ℕ) → Down t c → (h j : ℕ) → h < t .rows → j < t .rows → ownOf t c 0 h j ≡ true → h < j
+unfolding ownOf sortAt laterRow
+down-apart t c down h j l m e = go (step-at t c h l j m)
+  where
+    behind : laterRow t h j ≡ true → h < j
+    behind o = ltb-true h j (split o .0)
+
+    go : step t c (itself h) (itself j)
+        ≡ ((holder t c h and meetsFor t c h j) or (releaser t c j and takesPart t c h and laterRow t h j) or (acquirer t c h and takesPart t c j and laterRow t h j) or t .depends h j) → h < j
+    go s =
+        ⊎-elim
+        (λ a. ⊎-elim (λ b. ⊎-elim (λ d. down .sync h j l m (meets-is t c h j ∙ d)) (λ d. behind (split d .1)) (or-cases _ _ b)) (λ b. behind (split b .1)) (or-cases _ _ a))
+        (λ a. down .system h j l m a) (or-cases _ _ (sym s ∙ e))
+
+pub node-passed : {t : Table} {n : ℕ} {k : Concerned} {w v u : List ℕ} (h : ℕ) (b : Bool) → h < n → b ≡ inSet (k .nodes) h → b ≡ true → PutDirect t n k h w v → Follows h (k .nodes) v u
+    → PassesNode t n k h w u
+node-passed {t} {n} {k} {w} {v} {u} h b l eb e put f = record { to = to; frame = within-trans (put .kept .frame) (f .kept .frame) }
+  where
+    to : (c : ℕ) (ends : Set) → Asking t n c ends k w → Down t c → Done t n c ends (h + 1) w → Done t n c ends h u
+    to c ends q down done = record { is = λ j a m o. go j a m o (ℕ-discrete j h) }
+      where
+        here : h < t .rows
+        here = let r = q .rows in omega arith
+
+        later : (j : ℕ) → j < n → ownOf t c 0 h j ≡ true → h < j
+        later j m o = let r = q .rows in down-apart t c down h j here (omega arith) o
+
+        small : (j : ℕ) → j < n → j < ROWS
+        small j m = let r = q .few in omega arith
+
+        ready : Ready t n c ends h (k .nodes) v
+        ready =
+            record {
+              rows = q .rows;
+              few = q .few;
+              told = q .told .told;
+              here = l;
+              on = sym (rows-in (q .concerns .nodes) h l) ∙ sym eb ∙ e;
+              members = q .concerns .nodes;
+              own = put .own c ends q;
+              apart = λ j m o i d. let r = later j m i in omega arith;
+              done = λ j m o i.
+                  let r = later j m i in
+                  has-kept (small j m) (λ d. omega arith) (put .kept) (done .is j (omega arith) m o);
+            }
+
+        go : (j : ℕ) → h ≤ j → j < n → node t (inSet ends) c j ≡ true → Dec (j ≡ h) → Has n j (λ i x. reachOf t c i j x) u
+        go j a m o (yes d) = subst (λ (z : ℕ). Has n z (λ i x. reachOf t c i z x) u) (sym d) (f .all t n c ends ready)
+        go j a m o (no d) = has-kept (small j m) d (f .kept) (has-kept (small j m) d (put .kept) (done .is j (omega (arith, d)) m o))
+
+pub node-skipped : {t : Table} {n : ℕ} {k : Concerned} {w : List ℕ} (h : ℕ) (b : Bool) → h < n → b ≡ inSet (k .nodes) h → b ≡ false → PassesNode t n k h w w
+node-skipped {t} {n} {k} {w} h b l eb e =
+    record { to = λ c ends q down done. record { is = λ j a m o. go c ends q done j a m o (ℕ-discrete j h) }; frame = within-refl REACH-AT REACH-END w }
+  where
+    go : (c : ℕ) (ends : Set) → Asking t n c ends k w → Done t n c ends (h + 1) w → (j : ℕ) → h ≤ j → j < n → node t (inSet ends) c j ≡ true → Dec (j ≡ h) → Has n j (λ i x. reachOf t c i j x) w
+    go c ends q done j a m o (yes d) = not-both (subst (λ (z : ℕ). node t (inSet ends) c z ≡ true) d o) (sym (rows-in (q .concerns .nodes) h l) ∙ sym eb ∙ e)
+    go c ends q done j a m o (no d) = done .is j (omega (arith, d)) m o
+
+-- the invariant
+pub record Passing (t : Table) (n : ℕ) (k : Concerned) (w : List ℕ) (h : ℕ) (u : List ℕ) : Type 0 where
+  pub to : (c : ℕ) (ends : Set) → Asking t n c ends k w → Down t c → Done t n c ends h u
+  pub frame : Within REACH-AT REACH-END w u
+
+pub up-begin : (t : Table) (n : ℕ) (k : Concerned) (w : List ℕ) → Passing t n k w n w
+up-begin t n k w = record { to = λ c ends q down. record { is = λ j a m o. absurd (omega arith) }; frame = within-refl REACH-AT REACH-END w }
+
+pub up-turn : {t : Table} {n : ℕ} {k : Concerned} {w u v : List ℕ} (h i : ℕ) → h ≡ i + 1 → Passing t n k w h u → PassesNode t n k i u v → Passing t n k w i v
+up-turn {t} {n} {k} {w} {u} {v} h i e p q =
+    record {
+      to = λ c ends a down. q .to c ends (asking-kept (p .frame) a) down (subst (λ (z : ℕ). Done t n c ends z u) e (p .to c ends a down));
+      frame = within-trans (p .frame) (q .frame);
+    }
+
+pub up-end : {t : Table} {n : ℕ} {k : Concerned} {w u : List ℕ} (h : ℕ) → h ≡ 0 → Passing t n k w h u → PassesUp t n k w u
+up-end {t} {n} {k} {w} {u} h e p = record { to = λ c ends a down. subst (λ (z : ℕ). Done t n c ends z u) e (p .to c ends a down); frame = p .frame }
+
+-- ---- wherever direct cases lead: definitions
+
+-- a direct case from the node x
+unfoldable pub hopOf : Table → (ℕ → Bool) → ℕ → ℕ → ℕ → ℕ → Bool
+hopOf t ends c g x j = nodeHop t ends c x (sortAt t g j)
+
+-- the nodes of a class set
+pub record Ring (t : Table) (n c : ℕ) (ends nodes : Set) : Type 0 where
+  pub rows : t .rows ≡ n
+  pub few : n ≤ ROWS
+  pub told : (a b : ℕ) → t .depends a b ≡ true → (inSet ends a ≡ true) × (inSet ends b ≡ true)
+  pub members : Rows n (node t (inSet ends) c) nodes
+
+-- each of them has its three sets
+pub record Each (t : Table) (n c : ℕ) (ends : Set) (f : ℕ → ℕ → ℕ → Bool) (w : List ℕ) : Type 0 where
+  pub is : (j : ℕ) → j < n → node t (inSet ends) c j ≡ true → Has n j (λ i x. f i j x) w
+
+-- how far they are: the rows below i have had their turn in the phase of row k
+pub record Phased (t : Table) (n c : ℕ) (ends : Set) (w : List ℕ) (k i : ℕ) : Type 0 where
+  pub is : (g : ℕ) → g < 3 → Phase n (node t (inSet ends) c) (hopOf t (inSet ends) c 0) (hopOf t (inSet ends) c g) (λ x y. inSet (nth w (grid g) x) y) k i
+  pub low : (g x y : ℕ) → g < 3 → x < n → node t (inSet ends) c x ≡ true → inSet (nth w (grid g) x) y ≡ true → y < n
+
+pub record PutsAll (t : Table) (n : ℕ) (k : Concerned) (w u : List ℕ) : Type 0 where
+  pub own : (c : ℕ) (ends : Set) → Asking t n c ends k w → Each t n c ends (ownOf t c) u
+  pub frame : Within REACH-AT REACH-END w u
+
+pub record ClosesAt (j : ℕ) (nodes : Set) (w u : List ℕ) : Type 0 where
+  pub to : (t : Table) (n c : ℕ) (ends : Set) → Ring t n c ends nodes → inSet nodes j ≡ true → Phased t n c ends w j 0 → Phased t n c ends u (j + 1) 0
+  pub frame : Within REACH-AT REACH-END w u
+
+pub record Closes (nodes : Set) (w u : List ℕ) : Type 0 where
+  pub to : (t : Table) (n c : ℕ) (ends : Set) → Ring t n c ends nodes → Each t n c ends (ownOf t c) w → Each t n c ends (reachOf t c) u
+  pub frame : Within REACH-AT REACH-END w u
+
+-- ---- laws: direct cases from every node
+
+pub record Putting (t : Table) (n : ℕ) (k : Concerned) (w : List ℕ) (m : ℕ) (u : List ℕ) : Type 0 where
+  pub own : (c : ℕ) (ends : Set) → Asking t n c ends k w → (j : ℕ) → j < m → j < n → node t (inSet ends) c j ≡ true → Has n j (λ i x. ownOf t c i j x) u
+
+put-skip : (t : Table) (n : ℕ) (k : Concerned) (w u : List ℕ) (m : ℕ) → inSet (k .nodes) m ≡ false → Putting t n k w m u → Putting t n k w (m + 1) u
+put-skip t n k w u m e p = record { own = λ c ends q j a b o. go c ends q j a b o (ℕ-discrete j m) }
+  where
+    go : (c : ℕ) (ends : Set) → Asking t n c ends k w → (j : ℕ) → j < m + 1 → j < n → node t (inSet ends) c j ≡ true → Dec (j ≡ m) → Has n j (λ i x. ownOf t c i j x) u
+    go c ends q j a b o (yes d) = not-both (rows-in (q .concerns .nodes) j b ∙ o) (ap (inSet (k .nodes)) d ∙ e)
+    go c ends q j a b o (no d) = p .own c ends q j (omega (arith, d)) b o
+
+pub put-begin : (t : Table) (n : ℕ) (k : Concerned) (w : List ℕ) → Walk (k .nodes) (k .nodes) × Putting t n k w (First.next (k .nodes)) w
+put-begin t n k w = walk-begin (k .nodes) (λ m. Putting t n k w m w) (put-skip t n k w w) (record { own = λ c ends q j a b o. absurd (omega arith) })
+
+pub put-turn : {t : Table} {n : ℕ} {k : Concerned} {w u v : List ℕ} {left rest : Set} {h : ℕ} → Within REACH-AT REACH-END w u → Walk (k .nodes) left × Putting t n k w (First.next left) u
+    → First left h → Rest left rest → PutDirect t n k h u v → Walk (k .nodes) rest × Putting t n k w (First.next rest) v
+put-turn {t} {n} {k} {w} {u} {v} {left} {rest} {h} f inv low r put =
+    walk-turn (k .nodes) (λ m. Putting t n k w m v) (put-skip t n k w v) (inv .0) low r (record { own = λ c ends q j a b o. go c ends q j a b o (ℕ-discrete j h) })
+  where
+    go : (c : ℕ) (ends : Set) → Asking t n c ends k w → (j : ℕ) → j < h + 1 → j < n → node t (inSet ends) c j ≡ true → Dec (j ≡ h) → Has n j (λ i x. ownOf t c i j x) v
+    go c ends q j a b o (yes d) = subst (λ (z : ℕ). Has n z (λ i x. ownOf t c i z x) v) (sym d) (put .own c ends (asking-kept f q))
+    go c ends q j a b o (no d) =
+        let e = first-next low in
+        let l = q .few in
+        has-kept (omega (arith, l)) d (put .kept) (inv .1 .own c ends q j (omega (arith, d, e)) b o)
+
+pub put-end : {t : Table} {n : ℕ} {k : Concerned} {w u : List ℕ} (left : Set) → anyBelow ROWS (inSet left) ≡ false → Putting t n k w (First.next left) u → Within REACH-AT REACH-END w u
+    → PutsAll t n k w u
+put-end {t} {n} {k} {w} {u} left e p f =
+    record { own = λ c ends q. record { is = λ j b o. let l = q .few in all .own c ends q j (omega (arith, l)) b o }; frame = f }
+  where
+    all : Putting t n k w ROWS u
+    all = walk-end (k .nodes) (λ m. Putting t n k w m u) (put-skip t n k w u) left e p
+
+-- ---- laws: a round
+
+pub takes-on : {h j : ℕ} {w u : List ℕ} (g : Set) (b : Bool) → g ≡ setAt w (REACH-AT + 2 * h) → b ≡ inSet g j → b ≡ true → Took h j w u → TakesIf h j w u
+takes-on {h} {j} {w} {u} g b eg eb e t =
+    record {
+      is = λ k x m. t .is k x m ∙ ap (λ (d : Bool). inSet (nth w (grid k) h) x or d) (sym (and-on _ _ (sym (ap (λ (s : Set). inSet s j) eg) ∙ sym eb ∙ e)));
+      kept = t .kept;
+    }
+
+pub takes-off : {h j : ℕ} {w : List ℕ} (g : Set) (b : Bool) → g ≡ setAt w (REACH-AT + 2 * h) → b ≡ inSet g j → b ≡ false → TakesIf h j w w
+takes-off {h} {j} {w} g b eg eb e =
+    record { is = λ k x m. sym (or-off _ _ (and-false-left _ _ (sym (ap (λ (s : Set). inSet s j) eg) ∙ sym eb ∙ e))); kept = kept-none h w }
+
+module _ {t : Table} {n c : ℕ} {ends nodes : Set} (ring : Ring t n c ends nodes) where
+  member-on : (j : ℕ) → inSet nodes j ≡ true → (j < n) × (node t (inSet ends) c j ≡ true)
+  member-on j e = member-in j (ring .members) e
+
+  member-off : (j : ℕ) → j < n → inSet nodes j ≡ false → node t (inSet ends) c j ≡ false
+  member-off j l e = sym (rows-in (ring .members) j l) ∙ e
+
+  phased-pass : (w : List ℕ) (j i : ℕ) → inSet nodes j ≡ true → inSet nodes i ≡ false → Phased t n c ends w j (min i n) → Phased t n c ends w j (min (i + 1) n)
+  phased-pass w j i e f p = go (decLt i n)
+    where
+      go : Dec (i < n) → Phased t n c ends w j (min (i + 1) n)
+      go (yes l) =
+          let a : min i n ≡ i = omega arith in
+          let b : i + 1 ≡ min (i + 1) n = omega arith in
+          let m = member-on j e in
+          subst (λ (z : ℕ). Phased t n c ends w j z) b
+          (record {
+            is = λ g h.
+                phase-pass n (node t (inSet ends) c) (hopOf t (inSet ends) c 0) (hopOf t (inSet ends) c g) _ _ j i
+                (subst (λ (z : ℕ). Phase n (node t (inSet ends) c) (hopOf t (inSet ends) c 0) (hopOf t (inSet ends) c 0) (λ x y. inSet (nth w (grid 0) x) y) j z) a (p .is 0 (omega arith)))
+                (subst (λ (z : ℕ). Phase n (node t (inSet ends) c) (hopOf t (inSet ends) c 0) (hopOf t (inSet ends) c g) (λ x y. inSet (nth w (grid g) x) y) j z) a (p .is g h)) l (m .0) (m .1)
+                (λ o. not-both o (member-off i l f));
+            low = p .low;
+          })
+      go (no l) = subst (λ (z : ℕ). Phased t n c ends w j z) (let a : min i n ≡ min (i + 1) n = omega arith in a) p
+
+  phased-turn : {w u : List ℕ} (j i : ℕ) → inSet nodes j ≡ true → inSet nodes i ≡ true → Phased t n c ends w j i → TakesIf i j w u → Phased t n c ends u j (i + 1)
+  phased-turn {w} {u} j i e f p s =
+      record {
+        is = λ g h.
+            phase-turn n (node t (inSet ends) c) (hopOf t (inSet ends) c 0) (hopOf t (inSet ends) c g) (λ x y. inSet (nth w (grid 0) x) y) (λ x y. inSet (nth w (grid g) x) y)
+            (λ x y. inSet (nth u (grid g) x) y) j i (p .is 0 (omega arith)) (p .is g h) (b .0) (a .0) (a .1) (λ x m o. s .is g x h)
+            (λ x y m o v d. ap (λ (z : Set). inSet z y) (s .kept .keep g x h (let l = ring .few in omega arith) d));
+        low = λ g x y h m o v. lower g x y h m o v (ℕ-discrete x i);
+      }
+    where
+      a : (j < n) × (node t (inSet ends) c j ≡ true)
+      a = member-on j e
+
+      b : (i < n) × (node t (inSet ends) c i ≡ true)
+      b = member-on i f
+
+      lower : (g x y : ℕ) → g < 3 → x < n → node t (inSet ends) c x ≡ true → inSet (nth u (grid g) x) y ≡ true → Dec (x ≡ i) → y < n
+      lower g x y h m o v (yes d) =
+          ⊎-elim (λ q. p .low g i y h (b .0) (b .1) q) (λ q. p .low g j y h (a .0) (a .1) (split q .1))
+          (or-cases _ _ (sym (s .is g y h) ∙ ap (λ (z : ℕ). inSet (nth u (grid g) z) y) (sym d) ∙ v))
+      lower g x y h m o v (no d) = p .low g x y h m o (sym (ap (λ (z : Set). inSet z y) (s .kept .keep g x h (let l = ring .few in omega arith) d)) ∙ v)
+
+  phased-next : (w : List ℕ) (j : ℕ) → Phased t n c ends w j n → Phased t n c ends w (j + 1) 0
+  phased-next w j p =
+      record { is = λ g h. phase-next n (node t (inSet ends) c) (hopOf t (inSet ends) c 0) (hopOf t (inSet ends) c g) _ j (p .is g h); low = p .low }
+
+  phased-skip : (w : List ℕ) (j : ℕ) → inSet nodes j ≡ false → Phased t n c ends w (min j n) 0 → Phased t n c ends w (min (j + 1) n) 0
+  unfolding hopOf nodeHop
+  phased-skip w j e p = go (decLt j n)
+    where
+      go : Dec (j < n) → Phased t n c ends w (min (j + 1) n) 0
+      go (yes l) =
+          let a : min j n ≡ j = omega arith in
+          let b : j + 1 ≡ min (j + 1) n = omega arith in
+          let o = member-off j l e in
+          let q : Phased t n c ends w j 0 = subst (λ (z : ℕ). Phased t n c ends w z 0) a p in
+          subst (λ (z : ℕ). Phased t n c ends w z 0) b
+          (record {
+            is = λ g h.
+                phase-skip n (node t (inSet ends) c) (hopOf t (inSet ends) c 0) (hopOf t (inSet ends) c g) _ j (λ x. and-false-left _ _ o) (λ x. and-false-left _ _ o) (q .is g h);
+            low = p .low;
+          })
+      go (no l) = subst (λ (z : ℕ). Phased t n c ends w z 0) (let a : min j n ≡ min (j + 1) n = omega arith in a) p
+
+  phased-begin : (w : List ℕ) → Each t n c ends (ownOf t c) w → Phased t n c ends w 0 0
+  unfolding hopOf nodeHop ownOf
+  phased-begin w h =
+      record {
+        is = λ g m.
+            phase-none n (node t (inSet ends) c) (hopOf t (inSet ends) c 0) (hopOf t (inSet ends) c g) _
+            (λ x y a b o. h .is x a o .is g y m ∙ and-on _ _ (lt-ltb y n b) ∙ sym (and-on _ _ o));
+        low = λ g x y m a o v. ltb-true y n (split (sym (h .is x a o .is g y m) ∙ v) .0);
+      }
+
+  phased-end : (w : List ℕ) → Phased t n c ends w n 0 → Each t n c ends (reachOf t c) w
+  unfolding hopOf reachOf sortAt
+  phased-end w p = record { is = λ j l o. record { is = λ g x h. bool-ext _ _ (out j l o g x h) (back j l o g x h) } }
+    where
+      cell : (j : ℕ) → j < n → node t (inSet ends) c j ≡ true → (g x : ℕ) → g < 3 → x < n → inSet (nth w (grid g) j) x ≡ interThread t c (itself j) (sortAt t g x)
+      cell j l o g x h m =
+          phase-all n (node t (inSet ends) c) (hopOf t (inSet ends) c 0) (hopOf t (inSet ends) c g) _ n (p .is g h) j x l m o
+          ∙ ap (λ (k : ℕ). closedTo (hopOf t (inSet ends) c 0) (hopOf t (inSet ends) c g) k j x) (sym (ring .rows))
+          ∙ closed-nodes t c (inSet ends) (ring .told) (sortAt t g) j x (let r = ring .rows in omega arith) ∙ and-on _ _ o
+
+      out : (j : ℕ) → j < n → node t (inSet ends) c j ≡ true → (g x : ℕ) → g < 3 → inSet (nth w (grid g) j) x ≡ true → (ltb x n and interThread t c (itself j) (sortAt t g x)) ≡ true
+      out j l o g x h v = let m = p .low g j x h l o v in and-true (lt-ltb x n m) (sym (cell j l o g x h m) ∙ v)
+
+      back : (j : ℕ) → j < n → node t (inSet ends) c j ≡ true → (g x : ℕ) → g < 3 → (ltb x n and interThread t c (itself j) (sortAt t g x)) ≡ true → inSet (nth w (grid g) j) x ≡ true
+      back j l o g x h v = let a = split v in cell j l o g x h (ltb-true x n (a .0)) ∙ a .1
+
+-- ---- laws: the loops
+
+pub record Rounding (j : ℕ) (nodes : Set) (w : List ℕ) (m : ℕ) (u : List ℕ) : Type 0 where
+  pub to : (t : Table) (n c : ℕ) (ends : Set) → Ring t n c ends nodes → inSet nodes j ≡ true → Phased t n c ends w j 0 → Phased t n c ends u j (min m n)
+
+round-skip : (j : ℕ) (nodes : Set) (w u : List ℕ) (m : ℕ) → inSet nodes m ≡ false → Rounding j nodes w m u → Rounding j nodes w (m + 1) u
+round-skip j nodes w u m e p = record { to = λ t n c ends r i q. phased-pass r u j m i e (p .to t n c ends r i q) }
+
+pub round-begin : (j : ℕ) (nodes : Set) (w : List ℕ) → Walk nodes nodes × Rounding j nodes w (First.next nodes) w
+round-begin j nodes w =
+    walk-begin nodes (λ m. Rounding j nodes w m w) (round-skip j nodes w w)
+    (record { to = λ t n c ends r i q. subst (λ (z : ℕ). Phased t n c ends w j z) (let a : 0 ≡ min 0 n = omega arith in a) q })
+
+pub round-turn : {j : ℕ} {nodes : Set} {w u v : List ℕ} {left rest : Set} {i : ℕ} → Walk nodes left × Rounding j nodes w (First.next left) u → First left i → Rest left rest → TakesIf i j u v
+    → Walk nodes rest × Rounding j nodes w (First.next rest) v
+round-turn {j} {nodes} {w} {u} {v} {left} {rest} {i} inv low r s =
+    walk-turn nodes (λ m. Rounding j nodes w m v) (round-skip j nodes w v) (inv .0) low r
+    (record {
+      to = λ t n c ends ring h q.
+          let m = walk-in (inv .0) low in
+          let l = member-on ring i m .0 in
+          let e = first-next low in
+          let a : min (First.next left) n ≡ i = omega arith in
+          let b : i + 1 ≡ min (i + 1) n = omega arith in
+          subst (λ (z : ℕ). Phased t n c ends v j z) b
+          (phased-turn ring j i h m (subst (λ (z : ℕ). Phased t n c ends u j z) a (inv .1 .to t n c ends ring h q)) s);
+    })
+
+pub round-end : {j : ℕ} {nodes : Set} {w u : List ℕ} (left : Set) → anyBelow ROWS (inSet left) ≡ false → Rounding j nodes w (First.next left) u → Within REACH-AT REACH-END w u
+    → ClosesAt j nodes w u
+round-end {j} {nodes} {w} {u} left e p f =
+    record {
+      to = λ t n c ends ring i q.
+          let l = ring .few in
+          phased-next ring u j (subst (λ (z : ℕ). Phased t n c ends u j z) (let a : min ROWS n ≡ n = omega arith in a) (all .to t n c ends ring i q));
+      frame = f;
+    }
+  where
+    all : Rounding j nodes w ROWS u
+    all = walk-end nodes (λ m. Rounding j nodes w m u) (round-skip j nodes w u) left e p
+
+pub record Closing (nodes : Set) (w : List ℕ) (m : ℕ) (u : List ℕ) : Type 0 where
+  pub to : (t : Table) (n c : ℕ) (ends : Set) → Ring t n c ends nodes → Each t n c ends (ownOf t c) w → Phased t n c ends u (min m n) 0
+
+close-skip : (nodes : Set) (w u : List ℕ) (m : ℕ) → inSet nodes m ≡ false → Closing nodes w m u → Closing nodes w (m + 1) u
+close-skip nodes w u m e p = record { to = λ t n c ends r h. phased-skip r u m e (p .to t n c ends r h) }
+
+pub close-begin : (nodes : Set) (w : List ℕ) → Walk nodes nodes × Closing nodes w (First.next nodes) w
+close-begin nodes w =
+    walk-begin nodes (λ m. Closing nodes w m w) (close-skip nodes w w)
+    (record { to = λ t n c ends r h. subst (λ (z : ℕ). Phased t n c ends w z 0) (let a : 0 ≡ min 0 n = omega arith in a) (phased-begin r w h) })
+
+pub close-turn : {nodes : Set} {w u v : List ℕ} {left rest : Set} {j : ℕ} → Walk nodes left × Closing nodes w (First.next left) u → First left j → Rest left rest → ClosesAt j nodes u v
+    → Walk nodes rest × Closing nodes w (First.next rest) v
+close-turn {nodes} {w} {u} {v} {left} {rest} {j} inv low r s =
+    walk-turn nodes (λ m. Closing nodes w m v) (close-skip nodes w v) (inv .0) low r
+    (record {
+      to = λ t n c ends ring h.
+          let m = walk-in (inv .0) low in
+          let l = member-on ring j m .0 in
+          let e = first-next low in
+          let a : min (First.next left) n ≡ j = omega arith in
+          let b : j + 1 ≡ min (j + 1) n = omega arith in
+          subst (λ (z : ℕ). Phased t n c ends v z 0) b (s .to t n c ends ring m (subst (λ (z : ℕ). Phased t n c ends u z 0) a (inv .1 .to t n c ends ring h)));
+    })
+
+pub close-end : {nodes : Set} {w u : List ℕ} (left : Set) → anyBelow ROWS (inSet left) ≡ false → Closing nodes w (First.next left) u → Within REACH-AT REACH-END w u → Closes nodes w u
+close-end {nodes} {w} {u} left e p f =
+    record {
+      to = λ t n c ends ring h.
+          let l = ring .few in
+          phased-end ring u (subst (λ (z : ℕ). Phased t n c ends u z 0) (let a : min ROWS n ≡ n = omega arith in a) (all .to t n c ends ring h));
+      frame = f;
+    }
+  where
+    all : Closing nodes w ROWS u
+    all = walk-end nodes (λ m. Closing nodes w m u) (close-skip nodes w u) left e p
+
+-- ---- laws: what is made
+
+asking-of : {t : Table} {n c : ℕ} {ends : Set} {k : Concerned} {down : Bool} {s w : List ℕ} → Asks t n c ends k down s w → Asking t n c ends k w
+asking-of a = record { rows = a .given .opened .rows; few = given-few (a .given); told = a .told; concerns = a .concerns; syncs = a .syncs; depends = a .depends }
+
+reach-made : {t : Table} {n c : ℕ} {ends : Set} {w u : List ℕ} → ((j : ℕ) → j < n → node t (inSet ends) c j ≡ true → Has n j (λ i x. reachOf t c i j x) u) → Within REACH-AT REACH-END w u
+    → MadeReach t n c ends w u
+unfolding reachOf sortAt reachedAt reachedVisible reachedAvailable
+reach-made h f =
+    record {
+      at = record { row = λ i l o. record { is = λ j. h i l o .is 0 j (omega arith) } };
+      visible = record { row = λ i l o. record { is = λ j. h i l o .is 1 j (omega arith) } };
+      available = record { row = λ i l o. record { is = λ j. h i l o .is 2 j (omega arith) } };
+      frame = f;
+    }
+
+pub made-down : {t : Table} {n c : ℕ} {ends : Set} {k : Concerned} {down : Bool} {s w u : List ℕ} → Asks t n c ends k down s w → down ≡ true → PassesUp t n k w u → MadeReach t n c ends w u
+made-down {c = c} {ends = ends} a e p = reach-made (λ j l o. p .to c ends (asking-of a) (a .leads e) .is j (omega arith) l o) (p .frame)
+
+pub made-around : {t : Table} {n c : ℕ} {ends : Set} {k : Concerned} {down : Bool} {s w v u : List ℕ} → Asks t n c ends k down s w → PutsAll t n k w v → Closes (k .nodes) v u → MadeReach t n c ends w u
+made-around {t} {n} {c} {ends} {k} {w = w} a p q =
+    reach-made
+    (q .to t n c ends (record { rows = b .rows; few = b .few; told = b .told .told; members = b .concerns .nodes }) (p .own c ends b) .is)
+    (within-trans (p .frame) (q .frame))
+  where
+    b : Asking t n c ends k w
+    b = asking-of a
+
+pub nodes-low : {t : Table} {n c : ℕ} {ends : Set} {k : Concerned} {down : Bool} {s w : List ℕ} → Asks t n c ends k down s w → (j : ℕ) → inSet (k .nodes) j ≡ true → j < n
+nodes-low a j e = member-in j (a .concerns .nodes) e .0

@@ -1,0 +1,176 @@
+// M6 by sets of rows: inter-thread order for one class set, from its nodes. What a path goes by, between its ends, are nodes.
+ghost use mathlib.Core.Path.{_≡_};
+ghost use mathlib.Core.Bool.{true};
+ghost use Prim.Native.Nat.{ℕ, _≤_, _<_};
+ghost use lib.ListN.{length};
+ghost use Rattle.model.specs.Limits.{ROWS, WORK};
+ghost use Rattle.run.specs.Layout.{tableIn};
+ghost use Rattle.row_sets.specs.declared.Set.{Set};
+ghost use Rattle.row_sets.specs.Member.{inSet};
+ghost use Rattle.row_sets.specs.Rows.{Rows};
+ghost use Rattle.grids.specs.Given.{Given};
+ghost use Rattle.grids.specs.Reach.{Asks, MadeReach};
+ghost use Rattle.sets_closure.specs.Reaching.{Asking, ownOf, PutDirect, Took, Follows, PassesNode, PassesUp, PutsAll, TakesIf, ClosesAt, Closes};
+use grids::Concerned;
+use row_sets::Set;
+use row_sets::kept;
+use run::Run;
+
+// The rows to which direct cases lead from node h: synchronizes-with, release rows and, from an acquire row, any row after it that the
+// class set concerns, and dependencies.
+fn direct(t: &Run, n: usize, s: &[u64], k: Concerned, h: usize, w: &[u64]) -> Set
+    requires { ⌜ (h < n) × Given (tableIn (now t) n) n (now s) (now w) ⌝ }
+    ensures { λ x. ⌜ ((c : ℕ) (ends : Set) → Asking (tableIn (now (t .entry)) n) n c ends k (now (w .entry)) → Rows n (ownOf (tableIn (now (t .entry)) n) c 0 h) x) ⌝ }
+{
+    let after = known::ask::after(t, n, s, h);
+    let sync = row_sets::only_if(
+        row_sets::has(k.releases, h),
+        row_sets::and(kept::get(w, area::SYNC, h), k.acquires),
+    );
+    let releases = row_sets::only_if(row_sets::has(k.at, h), row_sets::and(after, k.releases));
+    let taking = row_sets::only_if(row_sets::has(k.acquires, h), row_sets::and(after, k.at));
+    row_sets::or(
+        row_sets::or(sync, releases),
+        row_sets::or(taking, kept::get(w, grids::DEPENDS, h)),
+    )
+}
+
+// What direct cases lead to from node h.
+fn put_direct(t: &Run, n: usize, s: &[u64], k: Concerned, h: usize, w: &mut [u64])
+    requires { ⌜ (h < n) × Given (tableIn (now t) n) n (now s) (now w) ⌝ }
+    ensures { λ _. ⌜ PutDirect (tableIn (now (t .entry)) n) n k h (now (w .entry)) (now (w .exit)) ⌝ }
+{
+    let to = direct(t, n, s, k, h, w);
+    let acquires = row_sets::has(k.acquires, h);
+    let onward = known::ask::onward(t, n, s, h);
+    let after = known::ask::after(t, n, s, h);
+    let visible = row_sets::only_if(acquires, row_sets::and(onward, k.visible));
+    let available = row_sets::only_if(acquires, row_sets::and(after, k.available));
+    kept::put(w, grids::REACH_AT, h, to);
+    kept::put(w, grids::REACH_VISIBLE, h, visible);
+    kept::put(w, grids::REACH_AVAILABLE, h, available);
+}
+
+// Node h takes in what node j reaches.
+fn take_in(h: usize, j: usize, w: &mut [u64])
+    requires { ⌜ (h < ROWS) × (j < ROWS) × (WORK ≤ length (now w)) ⌝ }
+    ensures { λ _. ⌜ Took h j (now (w .entry)) (now (w .exit)) ⌝ }
+{
+    let to = kept::get(w, grids::REACH_AT, j);
+    let visible = kept::get(w, grids::REACH_VISIBLE, j);
+    let available = kept::get(w, grids::REACH_AVAILABLE, j);
+    kept::join(w, grids::REACH_AT, h, to);
+    kept::join(w, grids::REACH_VISIBLE, h, visible);
+    kept::join(w, grids::REACH_AVAILABLE, h, available);
+}
+
+// Node h takes in what the nodes that it leads to reach; those that one of them reaches bring nothing more.
+fn follow(h: usize, nodes: Set, w: &mut [u64])
+    requires { ⌜ (h < ROWS) × (WORK ≤ length (now w)) ⌝ }
+    ensures { λ _. ⌜ Follows h nodes (now (w .entry)) (now (w .exit)) ⌝ }
+{
+    let mut left = row_sets::and(kept::get(w, grids::REACH_AT, h), nodes);
+    while row_sets::some(left) {
+        let j = row_sets::first(left);
+        let rest = row_sets::but_first(left);
+        take_in(h, j, w);
+        left = row_sets::less(rest, kept::get(w, grids::REACH_AT, j));
+    }
+}
+
+// Row h, where what each node after it reaches is done.
+fn pass_node(t: &Run, n: usize, s: &[u64], k: Concerned, h: usize, w: &mut [u64])
+    requires { ⌜ (h < n) × Given (tableIn (now t) n) n (now s) (now w) ⌝ }
+    ensures { λ _. ⌜ PassesNode (tableIn (now (t .entry)) n) n k h (now (w .entry)) (now (w .exit)) ⌝ }
+{
+    if !row_sets::has(k.nodes, h) {
+        return;
+    }
+    put_direct(t, n, s, k, h, w);
+    follow(h, k.nodes, w);
+}
+
+// Where every direct case leads down the page: up the page, so that what a node leads to is done before it.
+fn pass_up(t: &Run, n: usize, s: &[u64], k: Concerned, w: &mut [u64])
+    requires { ⌜ Given (tableIn (now t) n) n (now s) (now w) ⌝ }
+    ensures { λ _. ⌜ PassesUp (tableIn (now (t .entry)) n) n k (now (w .entry)) (now (w .exit)) ⌝ }
+{
+    let mut h = n;
+    while 0 < h {
+        h -= 1;
+        pass_node(t, n, s, k, h, w);
+    }
+}
+
+// Direct cases from every node.
+fn put_all_direct(t: &Run, n: usize, s: &[u64], k: Concerned, w: &mut [u64])
+    requires { ⌜ ((j : ℕ) → inSet (k .nodes) j ≡ true → j < n) × Given (tableIn (now t) n) n (now s) (now w) ⌝ }
+    ensures { λ _. ⌜ PutsAll (tableIn (now (t .entry)) n) n k (now (w .entry)) (now (w .exit)) ⌝ }
+{
+    let mut left = k.nodes;
+    while row_sets::some(left) {
+        let h = row_sets::first(left);
+        left = row_sets::but_first(left);
+        put_direct(t, n, s, k, h, w);
+    }
+}
+
+// Node i takes in what node j reaches, if it reaches j.
+fn take_if(i: usize, j: usize, w: &mut [u64])
+    requires { ⌜ (i < ROWS) × (j < ROWS) × (WORK ≤ length (now w)) ⌝ }
+    ensures { λ _. ⌜ TakesIf i j (now (w .entry)) (now (w .exit)) ⌝ }
+{
+    if !row_sets::has(kept::get(w, grids::REACH_AT, i), j) {
+        return;
+    }
+    take_in(i, j, w);
+}
+
+// A round of Warshall's algorithm, at node j.
+fn close_at(j: usize, nodes: Set, w: &mut [u64])
+    requires { ⌜ (j < ROWS) × (WORK ≤ length (now w)) ⌝ }
+    ensures { λ _. ⌜ ClosesAt j nodes (now (w .entry)) (now (w .exit)) ⌝ }
+{
+    let mut left = nodes;
+    while row_sets::some(left) {
+        let i = row_sets::first(left);
+        left = row_sets::but_first(left);
+        take_if(i, j, w);
+    }
+}
+
+// Wherever they lead: Warshall's algorithm.
+fn close(nodes: Set, w: &mut [u64])
+    requires { ⌜ WORK ≤ length (now w) ⌝ }
+    ensures { λ _. ⌜ Closes nodes (now (w .entry)) (now (w .exit)) ⌝ }
+{
+    let mut left = nodes;
+    while row_sets::some(left) {
+        let j = row_sets::first(left);
+        left = row_sets::but_first(left);
+        close_at(j, nodes, w);
+    }
+}
+
+// REACH_AT, REACH_VISIBLE and REACH_AVAILABLE of the nodes of the class set c; `down` says whether synchronizes-with and dependencies lead
+// down the page.
+pub fn fill_reach(
+    t: &Run,
+    n: usize,
+    s: &[u64],
+    c: usize,
+    ends: Set,
+    k: Concerned,
+    down: bool,
+    w: &mut [u64],
+)
+    requires { ⌜ Asks (tableIn (now t) n) n c ends k down (now s) (now w) ⌝ }
+    ensures { λ _. ⌜ MadeReach (tableIn (now (t .entry)) n) n c ends (now (w .entry)) (now (w .exit)) ⌝ }
+{
+    if down {
+        pass_up(t, n, s, k, w);
+        return;
+    }
+    put_all_direct(t, n, s, k, w);
+    close(k.nodes, w);
+}

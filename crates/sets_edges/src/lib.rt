@@ -1,0 +1,62 @@
+// The edges between rows by sets of rows, which axiom A asks to have no cycle.
+ghost use Prim.Native.Nat.{_≤_, _<_};
+ghost use lib.ListN.{length};
+ghost use Rattle.model.specs.Limits.{ROWS, WORK};
+ghost use Rattle.model.specs.Edge.{edge};
+ghost use Rattle.run.specs.Layout.{tableIn};
+ghost use Rattle.area.specs.Regions.{EDGE, EDGE-END};
+ghost use Rattle.axioms.specs.Sources.{sourceIn};
+ghost use Rattle.known.specs.Known.{WORDS};
+ghost use Rattle.grids.specs.Grid.{MadeGrid};
+ghost use Rattle.grids.specs.Given.{Given};
+ghost use Rattle.grids.specs.Location.{Judging};
+ghost use Rattle.placing.specs.Judge.{Sourced};
+ghost use Rattle.sets_edges.specs.Edges.{Ordered, Reads};
+use row_sets::kept;
+use run::Run;
+
+// Edges 1 and 2 of each row: location order at some byte, and scoped modification order.
+// Ruled out: one that leaves out the last row.
+fn put_orders(n: usize, w: &mut [u64])
+    requires { ⌜ (n ≤ ROWS) × (WORK ≤ length (now w)) ⌝ }
+    ensures { λ _. ⌜ Ordered n (now (w .entry)) (now (w .exit)) ⌝ }
+{
+    for x in 0..n {
+        let to = row_sets::or(kept::get(w, grids::SOME, x), kept::get(w, grids::LATER, x));
+        kept::put(w, area::EDGE, x, to);
+    }
+}
+
+// Edges 3 and 4 of the reader y: from its source, and to what follows it; from the initial value, to each writer that shares bytes.
+// Ruled out: one that leaves out the edge from its source.
+fn put_reads(n: usize, s: &[u64], source: usize, y: usize, w: &mut [u64])
+    requires { ⌜ (y < n) × (n ≤ ROWS) × (WORDS ≤ length (now s)) × (WORK ≤ length (now w)) ⌝ }
+    ensures { λ _. ⌜ Reads n (now (s .entry)) source y (now (w .entry)) (now (w .exit)) ⌝ }
+{
+    if source < n {
+        let to = row_sets::drop(kept::get(w, grids::LATER, source), y);
+        kept::join(w, area::EDGE, y, to);
+        kept::put_bit(w, area::EDGE, source, y);
+        return;
+    }
+    let over = row_sets::and(
+        kept::get(w, area::OVERLAP, y),
+        known::rows(s, known::WRITES),
+    );
+    kept::join(w, area::EDGE, y, row_sets::drop(over, y));
+}
+
+// EDGE, with the sources in `src`.
+pub fn fill_edges(t: &Run, n: usize, src: &[u16], s: &[u64], w: &mut [u64])
+    requires { ⌜ (n ≤ length (now src)) × Sourced (tableIn (now t) n) (sourceIn (now src)) × Given (tableIn (now t) n) n (now s) (now w)
+        × Judging (tableIn (now t) n) n (now w) ⌝ }
+    ensures { λ _. ⌜ MadeGrid EDGE EDGE-END EDGE n (edge (tableIn (now (t .entry)) n) (sourceIn (now (src .entry)))) (now (w .entry)) (now (w .exit)) ⌝ }
+{
+    put_orders(n, w);
+    let mut left = known::rows(s, known::READS);
+    while row_sets::some(left) {
+        let y = row_sets::first(left);
+        left = row_sets::but_first(left);
+        put_reads(n, s, src[y] as usize, y, w);
+    }
+}

@@ -1,0 +1,68 @@
+use mathlib.Core.Path.{sym, _∙_}
+use Rattle.grids.specs.Given.{given-few}
+use Rattle.run.specs.Layout.{tableIn}
+use Rattle.grids.specs.Filling.{member-in}
+use Rattle.bits.specs.Within.{Within, within-refl, within-trans, within-widen}
+use Rattle.grids.specs.Regions.{HAPPENS, HAPPENS-END, AVAILABLE-AT, AVAILABLE-VISIBLE, AVAILABLE-AVAILABLE, VISIBLE-VISIBLE}
+use Rattle.sets_happens.specs.Adding.{Adding, add-begin, add-turn, adds-cong, added-grid}
+use Prim.Native.Nat.{_-_}
+use lib.Dec.{ltb}
+use Rattle.finite.specs.Logic.{_and_}
+use Rattle.model.specs.Limits.{ROWS}
+use Rattle.row_sets.specs.First.{next}
+use Rattle.row_sets.specs.Walk.{walk-less, walk-in}
+use Rattle.sets_happens.specs.Behind.{availableTo, availableVisible, availableAvailable, reached-kept, by-behind, visible-behind, available-behind, available-at-is, available-visible-is, availables-is}
+use borrow.Author.Needs.{needs}
+use native.Mathlib.Omega.{arith}
+use Rattle.sets_happens.proofs.add_available.Statement.{statement}
+use Rattle.sets_happens.proofs.add_available.Tie as tie
+
+abbrev Inv-loop : tie.InvT-loop
+Inv-loop t n s c k w₀ left₀ w left = Adding AVAILABLE-AT left₀ (λ a j. ltb j n and availableTo (tableIn t n) c a j) w₀ left w × Adding AVAILABLE-VISIBLE left₀ (λ a j. ltb j n and availableVisible (tableIn t n) c a j) w₀ left w × Adding AVAILABLE-AVAILABLE left₀ (λ a j. ltb j n and availableAvailable (tableIn t n) c a j) w₀ left w × Within AVAILABLE-AT VISIBLE-VISIBLE w₀ w
+
+abbrev μ-loop : tie.MeasureT-loop
+μ-loop t n s c k w₀ left₀ w left = ROWS - next left
+
+loop-holds : tie.Need-loop-holds Inv-loop μ-loop
+loop-holds c = (add-begin _ _ _ _, add-begin _ _ _ _, add-begin _ _ _ _, within-refl _ _ _)
+
+first-requires : tie.Need-first-requires Inv-loop μ-loop
+first-requires c κs = sym (c .before .some .ensures) ∙ c .if1 .taken
+
+but-first-requires : tie.Need-but-first-requires Inv-loop μ-loop
+but-first-requires c κs = sym (c .before .before .some .ensures) ∙ c .before .if1 .taken
+
+after-available-requires : tie.Need-after-available-requires Inv-loop μ-loop
+after-available-requires c κs = (member-in _ (c .before .before .before .before .before .before .before .before .pre .concerns .available) (walk-in (c .before .before .before .before .loop .inv .0 .walk) (c .before .first .ensures)) .0, c .before .before .before .before .before .before .before .before .pre .given .opened)
+
+join-available-requires : tie.Need-join-available-requires Inv-loop μ-loop
+join-available-requires c κs = let a = c .before .before .before .before .before .before .before .before .before .before .before .pre .given .room in let d = c .before .before .before .before .before .before .before .loop .inv .3 .len in (c .before .before .before .before .first .ensures .bound, omega arith)
+
+loop-less : tie.Need-loop-less Inv-loop μ-loop
+loop-less c = walk-less (c .before .before .before .before .before .before .before .first .ensures) (c .before .before .before .before .before .before .but-first .ensures)
+
+loop-again : tie.Need-loop-again Inv-loop μ-loop
+loop-again c =
+    let inv = c .before .before .before .before .before .before .before .before .before .before .loop .inv in
+    let low = c .before .before .before .before .before .before .before .first .ensures in
+    let rest = c .before .before .before .before .before .before .but-first .ensures in
+    let join = c .before .before .join-available .ensures in
+    let q = reached-kept (within-widen HAPPENS HAPPENS-END (omega arith) (omega arith) (c .before .before .before .before .before .before .before .before .before .before .loop .inv .3)) (c .before .before .before .before .before .before .before .before .before .before .before .before .before .before .pre) in
+    (add-turn _ _ _ _ (inv .0) low rest (adds-cong (by-behind q _ _ (c .before .before .before .before .before .after-available .ensures) (c .before .before .before .before .and .ensures)) (join .rows)), add-turn _ _ _ _ (inv .1) low rest (adds-cong (visible-behind q _ _ (c .before .before .before .before .before .after-available .ensures) (c .before .before .before .before .and .ensures)) (join .visibles)), add-turn _ _ _ _ (inv .2) low rest (adds-cong (available-behind q _ _ (c .before .before .before .before .before .after-available .ensures) (c .before .before .before .before .and .ensures)) (join .availables)), within-trans (inv .3) (join .frame))
+
+same-length : tie.Need-same-length Inv-loop μ-loop
+same-length c = c .before .before .loop .inv .3 .len
+
+returns : tie.Need-returns Inv-loop μ-loop
+returns c =
+    let inv = c .before .before .loop .inv in
+    let few = given-few (c .before .before .before .before .before .before .pre .given) in
+    record {
+      rows = added-grid _ _ few (c .before .before .before .before .before .before .pre .concerns .available) (λ i j l m. available-at-is (c .before .before .before .before .before .before .pre) i j l) _ (sym (c .before .some .ensures) ∙ c .if1 .left) (inv .0) (inv .3);
+      visibles = added-grid _ _ few (c .before .before .before .before .before .before .pre .concerns .available) (λ i j l m. available-visible-is (c .before .before .before .before .before .before .pre) i j l) _ (sym (c .before .some .ensures) ∙ c .if1 .left) (inv .1) (inv .3);
+      availables = added-grid _ _ few (c .before .before .before .before .before .before .pre .concerns .available) (λ i j l m. availables-is (c .before .before .before .before .before .before .pre) i j l) _ (sym (c .before .some .ensures) ∙ c .if1 .left) (inv .2) (inv .3);
+    }
+
+pub add-available-spec : {M : Type 1} → statement M
+add-available-spec = tie.close (tie.spec Inv-loop μ-loop loop-holds (λ c κs. search needs) first-requires but-first-requires after-available-requires
+    (λ c κs. search needs) join-available-requires loop-less loop-again same-length returns)

@@ -1,0 +1,4 @@
+pub mod Adds
+pub mod Adding
+pub mod Program
+pub mod Behind

@@ -1,0 +1,22 @@
+use Rattle.model.specs.Table.{decode}
+use Rattle.known.specs.Ask.{few}
+use Rattle.sets_location.specs.Met.{wide-among, met-set}
+use borrow.Author.Needs.{needs}
+use native.Mathlib.Omega.{arith}
+use Rattle.sets_location.proofs.met_whole.Statement.{statement}
+use Rattle.sets_location.proofs.met_whole.Tie as tie
+
+wide-visible-requires : tie.Need-wide-visible-requires
+unfolding decode
+wide-visible-requires c κs = let b = few (c .before .before .pre .2) in let r = c .before .before .pre .2 .rows in let low = c .before .before .pre .0 in (omega (arith, low, b), c .before .before .pre .2 .fit .classed _ (omega (arith, low, r)) (c .before .before .pre .1), c .before .before .pre .2 .space)
+
+seen-requires : tie.Need-seen-requires
+seen-requires c κs = (wide-among (c .before .before .before .before .pre .2) _ (c .before .before .before .before .pre .0) (c .before .before .before .before .pre .1) (c .before .before .before .before .pre .3) _ _ (c .and .ensures), c .before .before .before .before .pre .2)
+
+returns : tie.Need-returns
+unfolding decode
+returns c = met-set (c .before .before .before .before .before .before .before .before .pre .2) _ (c .before .before .before .before .before .before .before .before .pre .0) (c .before .before .before .before .before .before .before .before .pre .1) (c .before .before .before .before .before .before .before .before .pre .3) _ _ _ _ _ _ _ (c .before .before .before .before .before .before .rows .ensures) (c .before .before .before .before .before .wide-visible .ensures) (c .before .before .before .before .and .ensures) (c .before .before .before .seen .ensures) (c .before .before .less .ensures) (c .before .and2 .ensures) (c .or .ensures)
+
+pub met-whole-spec : {M : Type 1} → statement M
+met-whole-spec = tie.close (tie.spec (λ c κs. search needs) wide-visible-requires (λ c κs. search needs) seen-requires (λ c κs. search needs)
+    (λ c κs. search needs) (λ c κs. search needs) returns)

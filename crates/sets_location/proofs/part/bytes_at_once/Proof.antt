@@ -1,0 +1,54 @@
+use mathlib.Core.Path.{_≡_, sym, _∙_}
+use Prim.Native.Nat.{_-_}
+use Rattle.model.specs.Limits.{ROWS}
+use Rattle.run.specs.Layout.{tableIn}
+use Rattle.row_sets.specs.First.{next}
+use Rattle.row_sets.specs.Walk.{Walk, walk-less, walk-in}
+use Rattle.sets_location.specs.Elements.{BitsTo, byteTo, bits-begin, bits-turn, bits-pass, bits-end, to-off, to-mask, to-none, has-is}
+use borrow.Author.Needs.{needs}
+use native.Mathlib.Omega.{arith}
+use Rattle.sets_location.proofs.part.bytes_at_once.Statement.{statement}
+use Rattle.sets_location.proofs.part.bytes_at_once.Tie as tie
+
+abbrev Inv-loop : tie.InvT-loop
+Inv-loop t n x y w left₀ m₀ left m = Walk left₀ left × BitsTo (byteTo (tableIn t n) w x y left₀) m (next left)
+
+abbrev μ-loop : tie.MeasureT-loop
+μ-loop t n x y w left₀ m₀ left m = ROWS - next left
+
+loop-holds : tie.Need-loop-holds Inv-loop μ-loop
+loop-holds c = bits-begin _ _ (to-off _ _ _ _ _)
+
+first-requires : tie.Need-first-requires Inv-loop μ-loop
+first-requires c κs = sym (c .before .some .ensures) ∙ c .if1 .taken
+
+but-first-requires : tie.Need-but-first-requires Inv-loop μ-loop
+but-first-requires c κs = sym (c .before .before .some .ensures) ∙ c .before .if1 .taken
+
+get-requires : tie.Need-get-requires Inv-loop μ-loop
+get-requires c κs = let l = c .before .before .before .before .before .before .before .pre .4 _ (walk-in (c .before .before .before .before .loop .inv .0) (c .before .first .ensures)) in omega (arith, l, c .before .before .before .before .before .before .before .pre .2, c .before .before .before .before .before .before .before .pre .3)
+
+has-requires : tie.Need-has-requires Inv-loop μ-loop
+has-requires c κs = omega (arith, c .before .before .before .before .before .before .before .before .pre .1, c .before .before .before .before .before .before .before .before .pre .2)
+
+shared-requires : tie.Need-shared-requires Inv-loop μ-loop
+shared-requires c κs = (c .before .before .before .before .before .before .before .before .before .before .pre .0, c .before .before .before .before .before .before .before .before .before .before .pre .4 _ (walk-in (c .before .before .before .before .before .before .before .loop .inv .0) (c .before .before .before .before .first .ensures)), c .before .before .before .before .before .before .before .before .before .before .pre .5)
+
+loop-less : tie.Need-loop-less Inv-loop μ-loop
+loop-less c = walk-less (c .before .before .before .before .before .first .ensures) (c .before .before .before .before .but-first .ensures)
+
+loop-again : tie.Need-loop-again Inv-loop μ-loop
+loop-again c = bits-turn _ _ (to-off _ _ _ _ _) (c .before .before .before .before .before .before .before .before .loop .inv) (c .before .before .before .before .before .first .ensures) (c .before .before .before .before .but-first .ensures) (λ e. to-mask _ _ _ _ _ _ (has-is _ _ _ _ _ (c .before .before .before .get .ensures) (c .before .before .has .ensures) (c .before .if2 .taken)) e (c .shared .ensures))
+
+loop-less-2 : tie.Need-loop-less-2 Inv-loop μ-loop
+loop-less-2 c = walk-less (c .before .before .before .before .first .ensures) (c .before .before .before .but-first .ensures)
+
+loop-again-2 : tie.Need-loop-again-2 Inv-loop μ-loop
+loop-again-2 c = bits-pass _ _ (to-off _ _ _ _ _) (c .before .before .before .before .before .before .before .loop .inv) (c .before .before .before .before .first .ensures) (c .before .before .before .but-first .ensures) (λ k. to-none _ _ _ _ _ _ k (has-is _ _ _ _ _ (c .before .before .get .ensures) (c .before .has .ensures) (c .if2 .left)))
+
+returns : tie.Need-returns Inv-loop μ-loop
+returns c = bits-end _ _ (to-off _ _ _ _ _) _ _ (sym (c .before .some .ensures) ∙ c .if1 .left) (c .before .before .loop .inv .1)
+
+pub bytes-at-once-spec : {M : Type 1} → statement M
+bytes-at-once-spec = tie.close (tie.spec Inv-loop μ-loop loop-holds (λ c κs. search needs) first-requires but-first-requires get-requires has-requires shared-requires
+    loop-less loop-again loop-less-2 loop-again-2 returns)

@@ -1,0 +1,26 @@
+use Rattle.known.specs.Ask.{few}
+use Rattle.sets_location.specs.Bytes.{reads-is, parts-among, once-met}
+use native.Mathlib.Omega.{arith}
+use borrow.Author.Needs.{needs}
+use Rattle.sets_location.proofs.part.bytes_met.Statement.{statement}
+use Rattle.sets_location.proofs.part.bytes_met.Tie as tie
+
+rows-requires : tie.Need-rows-requires
+rows-requires c κs = let r = c .before .before .pre .3 .opened .space in omega (arith, r)
+
+has-requires : tie.Need-has-requires
+has-requires c κs = let b = few (c .before .before .before .pre .3 .opened) in let low = c .before .before .before .pre .1 in omega (arith, low, b)
+
+bytes-seen-requires : tie.Need-bytes-seen-requires
+bytes-seen-requires c κs = (c .before .before .before .before .before .pre .0, c .before .before .before .before .before .pre .1, reads-is _ _ (c .before .before .before .before .before .pre .3 .opened) (c .before .before .before .before .before .pre .1) (c .before .before .rows .ensures) (c .before .has .ensures) (c .if1 .taken), c .before .before .before .before .before .pre .2, c .before .before .before .before .before .pre .3, c .before .before .before .before .before .pre .4, c .before .before .before .before .before .pre .5)
+
+bytes-at-once-requires : tie.Need-bytes-at-once-requires
+bytes-at-once-requires c κs = (c .before .before .before .before .before .pre .0, c .before .before .before .before .before .pre .1, few (c .before .before .before .before .before .pre .3 .opened), c .before .before .before .before .before .pre .3 .room, parts-among (c .before .before .before .before .before .pre .5), c .before .before .before .before .before .pre .3 .opened .fit)
+
+returns-2 : tie.Need-returns-2
+returns-2 c = once-met (c .before .before .before .before .before .before .pre .3 .opened) (c .before .before .before .before .before .before .pre .4) _ _ (c .before .before .before .before .before .before .pre .0) (c .before .before .before .before .before .before .pre .1) (c .before .before .before .before .before .before .pre .2) (c .before .before .before .before .before .before .pre .5) (reads-is _ _ (c .before .before .before .before .before .before .pre .3 .opened) (c .before .before .before .before .before .before .pre .1) (c .before .before .before .rows .ensures) (c .before .before .has .ensures) (c .before .if1 .left)) (c .bytes-at-once .ensures)
+
+pub bytes-met-spec : {M : Type 1} → statement M
+bytes-met-spec =
+    tie.close
+    (tie.spec rows-requires has-requires bytes-seen-requires (λ c. search needs) bytes-at-once-requires returns-2)

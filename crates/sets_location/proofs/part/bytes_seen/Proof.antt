@@ -1,0 +1,84 @@
+use mathlib.Core.Path.{sym, _∙_}
+use Prim.Native.Nat.{_-_}
+use Rattle.model.specs.Limits.{ROWS}
+use Rattle.run.specs.Layout.{tableIn}
+use Rattle.bits.specs.Bit.{bitOf}
+use Rattle.row_sets.specs.First.{next}
+use Rattle.row_sets.specs.Walk.{Walk, walk-less, walk-in}
+use Rattle.sets_location.specs.Bytes.{MoreTo, byteSeen, more-begin, more-turn, more-end, mask-self, seen-off, seen-wide, seen-part, seen-met, upto-sets, plain-among}
+use Rattle.sets_location.specs.Met.{wide-among}
+use Rattle.grids.specs.Filling.{member-in}
+use Rattle.known.specs.Ask.{few}
+use Rattle.model.specs.Table.{decode}
+use native.Mathlib.Omega.{arith}
+use borrow.Author.Needs.{needs}
+use Rattle.sets_location.proofs.part.bytes_seen.Statement.{statement}
+use Rattle.sets_location.proofs.part.bytes_seen.Tie as tie
+
+abbrev Inv-loop : tie.InvT-loop
+Inv-loop t n s x y w wide plain m₀ left₀ m left = Walk left₀ left × MoreTo (bitOf m₀) (byteSeen (tableIn t n) w x wide plain left₀) m (next left)
+
+abbrev μ-loop : tie.MeasureT-loop
+μ-loop t n s x y w wide plain m₀ left₀ m left = ROWS - next left
+
+of-agent-requires : tie.Need-of-agent-requires Inv-loop μ-loop
+of-agent-requires c κs = (c .before .before .pre .1, c .before .before .pre .4 .opened)
+
+above-requires : tie.Need-above-requires Inv-loop μ-loop
+above-requires c κs = let b = few (c .before .before .before .pre .4 .opened) in let low = c .before .before .before .pre .1 in omega (arith, low, b)
+
+wide-visible-requires : tie.Need-wide-visible-requires Inv-loop μ-loop
+unfolding decode
+wide-visible-requires c κs = let b = few (c .before .before .before .before .before .pre .4 .opened) in let r = c .before .before .before .before .before .pre .4 .opened .rows in let low = c .before .before .before .before .before .pre .0 in (omega (arith, low, b), c .before .before .before .before .before .pre .4 .opened .fit .classed _ (omega (arith, low, r)) (c .before .before .before .before .before .pre .3 .first), c .before .before .before .before .before .pre .4 .opened .space)
+
+drop-requires : tie.Need-drop-requires Inv-loop μ-loop
+drop-requires c κs = let b = few (c .before .before .before .before .before .before .before .pre .4 .opened) in let low = c .before .before .before .before .before .before .before .pre .1 in omega (arith, low, b)
+
+plain-visible-requires : tie.Need-plain-visible-requires Inv-loop μ-loop
+plain-visible-requires c κs = let b = few (c .before .before .before .before .before .before .before .before .pre .4 .opened) in let low = c .before .before .before .before .before .before .before .before .pre .0 in (omega (arith, low, b), c .before .before .before .before .before .before .before .before .pre .4 .opened .space)
+
+bytes-of-requires : tie.Need-bytes-of-requires Inv-loop μ-loop
+bytes-of-requires c κs = (c .before .before .before .before .before .before .before .before .before .before .before .pre .0, few (c .before .before .before .before .before .before .before .before .before .before .before .pre .4 .opened), wide-among (c .before .before .before .before .before .before .before .before .before .before .before .pre .4 .opened) _ (c .before .before .before .before .before .before .before .before .before .before .before .pre .0) (c .before .before .before .before .before .before .before .before .before .before .before .pre .3 .first) (c .before .before .before .before .before .before .before .before .before .before .before .pre .6) _ _ (c .and3 .ensures), c .before .before .before .before .before .before .before .before .before .before .before .pre .4 .opened .fit)
+
+loop-holds : tie.Need-loop-holds Inv-loop μ-loop
+loop-holds c = more-begin _ _ _ (seen-off _ _ _ _ _ _) _ (mask-self (c .before .bytes-of .ensures))
+
+first-requires : tie.Need-first-requires Inv-loop μ-loop
+first-requires c κs = sym (c .before .some .ensures) ∙ c .if1 .taken
+
+but-first-requires : tie.Need-but-first-requires Inv-loop μ-loop
+but-first-requires c κs = sym (c .before .before .some .ensures) ∙ c .before .if1 .taken
+
+shared-requires : tie.Need-shared-requires Inv-loop μ-loop
+shared-requires c κs = (c .before .before .before .before .before .before .before .before .before .before .before .before .before .before .before .before .before .before .pre .0, member-in _ (c .before .before .before .before .before .before .before .before .before .before .before .before .before .before .before .before .before .before .pre .6 .parts) (walk-in (c .before .before .before .before .loop .inv .0) (c .before .first .ensures)) .0, c .before .before .before .before .before .before .before .before .before .before .before .before .before .before .before .before .before .before .pre .4 .opened .fit)
+
+get-requires : tie.Need-get-requires Inv-loop μ-loop
+get-requires c κs = let r = c .before .before .before .before .before .before .before .before .before .before .before .before .before .before .before .before .before .before .before .pre .4 .room in let l = c .before .before .first .ensures .bound in omega (arith, r, l)
+
+loop-less : tie.Need-loop-less Inv-loop μ-loop
+loop-less c = walk-less (c .before .before .before .before .before .before .first .ensures) (c .before .before .before .before .before .but-first .ensures)
+
+loop-again : tie.Need-loop-again Inv-loop μ-loop
+loop-again c = more-turn _ _ _ (seen-off _ _ _ _ _ _) (c .before .before .before .before .before .before .before .before .before .loop .inv) (c .before .before .before .before .before .before .first .ensures) (c .before .before .before .before .before .but-first .ensures) (seen-wide _ _ _ _ _ _ _ (c .before .before .before .get .ensures) _ _ (c .before .before .and4 .ensures) (c .before .some2 .ensures) (c .if2 .taken) (c .before .before .before .before .shared .ensures))
+
+bytes-of-requires-2 : tie.Need-bytes-of-requires-2 Inv-loop μ-loop
+unfolding decode
+bytes-of-requires-2 c κs = (c .before .before .before .before .before .before .before .before .before .before .before .before .before .before .before .before .before .before .before .before .before .before .before .before .pre .0, few (c .before .before .before .before .before .before .before .before .before .before .before .before .before .before .before .before .before .before .before .before .before .before .before .before .pre .4 .opened), plain-among _ _ (upto-sets (c .before .before .before .before .before .before .before .before .before .before .before .before .before .before .before .before .before .before .before .before .before .before .before .before .pre .4 .opened) _ _ (c .before .before .before .before .before .before .before .before .before .before .before .before .before .before .before .before .before .before .before .before .before .before .before .before .pre .0) (c .before .before .before .before .before .before .before .before .before .before .before .before .before .before .before .before .before .before .before .before .before .before .before .before .pre .3 .first) _ _ _ _ _ _ _ _ (c .before .before .before .before .before .before .before .before .before .before .before .before .before .before .before .before .before .before .before .before .before .of-agent .ensures) (c .before .before .before .before .before .before .before .before .before .before .before .before .before .before .before .before .before .before .before .before .above .ensures) (c .before .before .before .before .before .before .before .before .before .before .before .before .before .before .before .before .before .before .before .less .ensures) (c .before .before .before .before .before .before .before .before .before .before .before .before .before .before .before .before .before .before .wide-visible .ensures) (c .before .before .before .before .before .before .before .before .before .before .before .before .before .before .before .before .before .and .ensures) (c .before .before .before .before .before .before .before .before .before .before .before .before .before .before .before .before .drop .ensures) (c .before .before .before .before .before .before .before .before .before .before .before .before .before .before .before .plain-visible .ensures) (c .before .before .before .before .before .before .before .before .before .before .before .before .before .before .and2 .ensures)) (c .and5 .ensures), c .before .before .before .before .before .before .before .before .before .before .before .before .before .before .before .before .before .before .before .before .before .before .before .before .pre .4 .opened .fit)
+
+loop-less-2 : tie.Need-loop-less-2 Inv-loop μ-loop
+loop-less-2 c = walk-less (c .before .before .before .before .before .before .before .before .first .ensures) (c .before .before .before .before .before .before .before .but-first .ensures)
+
+loop-again-2 : tie.Need-loop-again-2 Inv-loop μ-loop
+loop-again-2 c = more-turn _ _ _ (seen-off _ _ _ _ _ _) (c .before .before .before .before .before .before .before .before .before .before .before .loop .inv) (c .before .before .before .before .before .before .before .before .first .ensures) (c .before .before .before .before .before .before .before .but-first .ensures) (seen-part _ _ _ _ _ _ _ (c .before .before .before .before .before .get .ensures) _ _ _ (c .before .before .before .before .and4 .ensures) (c .before .before .before .some2 .ensures) (c .before .before .if2 .left) (c .before .and5 .ensures) (c .before .before .before .before .before .before .shared .ensures) (c .bytes-of2 .ensures))
+
+returns : tie.Need-returns Inv-loop μ-loop
+unfolding decode
+returns c = seen-met (c .before .before .before .before .before .before .before .before .before .before .before .before .before .before .before .before .pre .4 .opened) (c .before .before .before .before .before .before .before .before .before .before .before .before .before .before .before .before .pre .5) _ _ (c .before .before .before .before .before .before .before .before .before .before .before .before .before .before .before .before .pre .0) (c .before .before .before .before .before .before .before .before .before .before .before .before .before .before .before .before .pre .1) (c .before .before .before .before .before .before .before .before .before .before .before .before .before .before .before .before .pre .3) (c .before .before .before .before .before .before .before .before .before .before .before .before .before .before .before .before .pre .6) (c .before .before .before .before .before .before .before .before .before .before .before .before .before .before .before .before .pre .2) (upto-sets (c .before .before .before .before .before .before .before .before .before .before .before .before .before .before .before .before .pre .4 .opened) _ _ (c .before .before .before .before .before .before .before .before .before .before .before .before .before .before .before .before .pre .0) (c .before .before .before .before .before .before .before .before .before .before .before .before .before .before .before .before .pre .3 .first) _ _ _ _ _ _ _ _ (c .before .before .before .before .before .before .before .before .before .before .before .before .before .of-agent .ensures) (c .before .before .before .before .before .before .before .before .before .before .before .before .above .ensures) (c .before .before .before .before .before .before .before .before .before .before .before .less .ensures) (c .before .before .before .before .before .before .before .before .before .before .wide-visible .ensures) (c .before .before .before .before .before .before .before .before .before .and .ensures) (c .before .before .before .before .before .before .before .before .drop .ensures) (c .before .before .before .before .before .before .before .plain-visible .ensures) (c .before .before .before .before .before .before .and2 .ensures)) _ (c .before .before .before .before .before .and3 .ensures) (c .before .before .before .before .bytes-of .ensures) (more-end _ _ _ (seen-off _ _ _ _ _ _) _ _ (sym (c .before .some .ensures) ∙ c .if1 .left) (c .before .before .loop .inv .1))
+
+pub bytes-seen-spec : {M : Type 1} → statement M
+bytes-seen-spec =
+    tie.close
+    (tie.spec Inv-loop μ-loop of-agent-requires above-requires (λ c κs. search needs) wide-visible-requires (λ c κs. search needs)
+    drop-requires plain-visible-requires (λ c κs. search needs) (λ c κs. search needs) bytes-of-requires loop-holds (λ c κs. search needs)
+    first-requires but-first-requires shared-requires get-requires (λ c κs. search needs) (λ c κs. search needs) loop-less loop-again
+    (λ c κs. search needs) bytes-of-requires-2 loop-less-2 loop-again-2 returns)

@@ -1,0 +1,38 @@
+use Rattle.model.specs.Table.{decode}
+use Rattle.known.specs.Ask.{few}
+use Rattle.sets_location.specs.Maybe.{visible-among, either-among, maybe-set}
+use borrow.Author.Needs.{needs}
+use native.Mathlib.Omega.{arith}
+use Rattle.sets_location.proofs.part.maybe_met.Statement.{statement}
+use Rattle.sets_location.proofs.part.maybe_met.Tie as tie
+
+rows-requires : tie.Need-rows-requires
+rows-requires c κs = let r = c .before .before .pre .2 .opened .space in omega (arith, r)
+
+union-requires : tie.Need-union-requires
+union-requires c κs = let r = c .before .before .before .pre .2 .room in omega (arith, r)
+
+union-requires-2 : tie.Need-union-requires-2
+union-requires-2 c κs = let r = c .before .before .before .before .pre .2 .room in omega (arith, r)
+
+wide-visible-requires : tie.Need-wide-visible-requires
+unfolding decode
+wide-visible-requires c κs = let b = few (c .before .before .before .before .before .pre .2 .opened) in let r = c .before .before .before .before .before .pre .2 .opened .rows in let low = c .before .before .before .before .before .pre .0 in (omega (arith, low, b), c .before .before .before .before .before .pre .2 .opened .fit .classed _ (omega (arith, low, r)) (c .before .before .before .before .before .pre .1), c .before .before .before .before .before .pre .2 .opened .space)
+
+seen-requires : tie.Need-seen-requires
+seen-requires c κs = (visible-among (c .before .before .before .before .before .before .before .pre .2 .opened) (c .before .before .before .before .before .before .before .pre .3) _ (c .before .before .before .before .before .before .before .pre .0) (c .before .before .before .before .before .before .before .pre .1) (c .before .before .before .before .before .before .before .pre .4) _ _ (c .before .before .before .union .ensures) (c .before .before .union2 .ensures) _ _ (c .and .ensures), c .before .before .before .before .before .before .before .pre .2 .opened)
+
+plain-visible-requires : tie.Need-plain-visible-requires
+plain-visible-requires c κs = let b = few (c .before .before .before .before .before .before .before .before .before .pre .2 .opened) in let low = c .before .before .before .before .before .before .before .before .before .pre .0 in (omega (arith, low, b), c .before .before .before .before .before .before .before .before .before .pre .2 .opened .space)
+
+seen-plain-requires : tie.Need-seen-plain-requires
+seen-plain-requires c κs = (either-among (c .before .before .before .before .before .before .before .before .before .before .before .pre .2 .opened) (c .before .before .before .before .before .before .before .before .before .before .before .pre .3) _ (c .before .before .before .before .before .before .before .before .before .before .before .pre .0) (c .before .before .before .before .before .before .before .before .before .before .before .pre .1) (c .before .before .before .before .before .before .before .before .before .before .before .pre .4) _ _ (c .before .before .before .before .before .before .before .union .ensures) (c .before .before .before .before .before .before .union2 .ensures) _ _ _ (c .before .before .or .ensures) (c .and2 .ensures), c .before .before .before .before .before .before .before .before .before .before .before .pre .2 .opened)
+
+returns : tie.Need-returns
+unfolding decode
+returns c = maybe-set (c .before .before .before .before .before .before .before .before .before .before .before .before .before .before .before .before .pre .2 .opened) (c .before .before .before .before .before .before .before .before .before .before .before .before .before .before .before .before .pre .3) _ (c .before .before .before .before .before .before .before .before .before .before .before .before .before .before .before .before .pre .0) (c .before .before .before .before .before .before .before .before .before .before .before .before .before .before .before .before .pre .1) (c .before .before .before .before .before .before .before .before .before .before .before .before .before .before .before .before .pre .4) _ _ (c .before .before .before .before .before .before .before .before .before .before .before .before .union .ensures) (c .before .before .before .before .before .before .before .before .before .before .before .union2 .ensures) _ _ _ _ _ _ _ _ _ _ _ _ (c .before .before .before .before .before .before .before .before .before .before .before .before .before .rows .ensures) (c .before .before .before .before .before .before .before .before .before .before .wide-visible .ensures) (c .before .before .before .before .before .before .before .before .before .and .ensures) (c .before .before .before .before .before .before .before .before .seen .ensures) (c .before .before .before .before .before .before .before .or .ensures) (c .before .before .before .before .before .before .plain-visible .ensures) (c .before .before .before .before .before .and2 .ensures) (c .before .before .before .before .seen-plain .ensures) (c .before .before .before .less .ensures) (c .before .before .or2 .ensures) (c .before .and3 .ensures) (c .or3 .ensures)
+
+pub maybe-met-spec : {M : Type 1} → statement M
+maybe-met-spec = tie.close (tie.spec rows-requires union-requires union-requires-2 wide-visible-requires (λ c κs. search needs) seen-requires
+    (λ c κs. search needs) plain-visible-requires (λ c κs. search needs) seen-plain-requires (λ c κs. search needs) (λ c κs. search needs)
+    (λ c κs. search needs) (λ c κs. search needs) returns)

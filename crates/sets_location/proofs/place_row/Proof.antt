@@ -1,0 +1,60 @@
+use Rattle.known.specs.Ask.{few}
+use Rattle.sets_location.specs.Placed.{adds-cong, over-rows, public-write, not-public, told-over, told-bits}
+use native.Mathlib.Omega.{arith}
+use borrow.Author.Needs.{needs}
+use Rattle.sets_location.proofs.place_row.Statement.{statement}
+use Rattle.sets_location.proofs.place_row.Tie as tie
+
+ordered-after-requires : tie.Need-ordered-after-requires
+ordered-after-requires c κs = (c .before .before .before .before .pre .0, c .before .before .before .before .pre .1, c .before .before .before .before .pre .2, c .before .before .before .before .pre .3)
+
+get-requires : tie.Need-get-requires
+get-requires c κs = let b = few (c .before .before .before .before .before .before .pre .2 .opened) in omega (arith, c .before .before .before .before .before .before .pre .0, b, c .before .before .before .before .before .before .pre .2 .room)
+
+drop-requires : tie.Need-drop-requires
+drop-requires c κs = let b = few (c .before .before .before .before .before .before .before .pre .2 .opened) in omega (arith, c .before .before .before .before .before .before .before .pre .0, b)
+
+rows-requires : tie.Need-rows-requires
+rows-requires c κs = let r = c .before .before .before .before .before .before .before .before .pre .2 .opened .space in omega (arith, r)
+
+rows-requires-2 : tie.Need-rows-requires-2
+rows-requires-2 c κs = let r = c .before .before .before .before .before .before .before .before .before .pre .2 .opened .space in omega (arith, r)
+
+has-requires : tie.Need-has-requires
+has-requires c κs = let b = few (c .before .before .before .before .before .before .before .before .before .before .before .pre .2 .opened) in omega (arith, c .before .before .before .before .before .before .before .before .before .before .before .pre .0, b)
+
+place-write-requires : tie.Need-place-write-requires
+place-write-requires c κs =
+    let pre = c .before .before .before .before .before .before .before .before .before .before .before .before .before .before .pre in
+    let o = pre .2 .opened in
+    (pre .0, pre .2, pre .3, pre .4, pre .5, public-write o _ (pre .0) (pre .1) _ _ _ _ (c .before .before .before .before .before .before .before .before .before .ordered-after .ensures) (over-rows o _ (pre .0) (pre .1) (pre .3) _ _ (c .before .before .before .before .before .before .before .get .ensures) (c .before .before .before .before .before .before .drop .ensures)) (c .before .before .before .before .before .rows .ensures) (c .before .before .before .before .rows2 .ensures) (c .before .before .before .and .ensures) (c .before .before .has .ensures) (c .before .if1 .taken), pre .6)
+
+same-length : tie.Need-same-length
+same-length c = c .before .before .place-write .ensures .frame .len
+
+returns : tie.Need-returns
+returns c = c .before .before .place-write .ensures
+
+put-whole-requires : tie.Need-put-whole-requires
+put-whole-requires c κs =
+    let pre = c .before .before .before .before .before .before .before .before .before .before .before .before .before .before .before .pre in
+    let o = pre .2 .opened in
+    (pre .0, few o, pre .2 .room, o .fit, told-over o _ (pre .0) (pre .1) _ (c .before .before .before .before .before .before .before .before .before .before .ordered-after .ensures) (over-rows o _ (pre .0) (pre .1) (pre .3) _ _ (c .before .before .before .before .before .before .before .before .get .ensures) (c .before .before .before .before .before .before .before .drop .ensures)) (c .before .and2 .ensures), pre .6)
+
+same-length-2 : tie.Need-same-length-2
+same-length-2 c = c .before .before .put-whole .ensures .frame .len
+
+returns-2 : tie.Need-returns-2
+returns-2 c =
+    let pre = c .before .before .before .before .before .before .before .before .before .before .before .before .before .before .before .before .before .before .pre in
+    let o = pre .2 .opened in
+    adds-cong
+    (told-bits o _ (pre .0) (pre .1) _ (c .before .before .before .before .before .before .before .before .before .before .before .before .before .ordered-after .ensures) (over-rows o _ (pre .0) (pre .1) (pre .3) _ _ (c .before .before .before .before .before .before .before .before .before .before .before .get .ensures) (c .before .before .before .before .before .before .before .before .before .before .drop .ensures)) (c .before .before .before .before .and2 .ensures)
+    (not-public o _ (pre .0) (pre .1) _ _ _ _ (c .before .before .before .before .before .before .before .before .before .rows .ensures) (c .before .before .before .before .before .before .before .before .rows2 .ensures) (c .before .before .before .before .before .before .before .and .ensures) (c .before .before .before .before .before .before .has .ensures) (c .before .before .before .before .before .if1 .left)))
+    (c .before .before .put-whole .ensures)
+
+pub place-row-spec : {M : Type 1} → statement M
+place-row-spec =
+    tie.close
+    (tie.spec ordered-after-requires get-requires drop-requires rows-requires rows-requires-2 (λ c κs. search needs) has-requires
+    place-write-requires same-length returns (λ c κs. search needs) put-whole-requires same-length-2 returns-2)

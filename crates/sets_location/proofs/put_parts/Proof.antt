@@ -1,0 +1,64 @@
+use mathlib.Core.Path.{sym, _∙_}
+use Prim.Native.Nat.{_-_}
+use native.Mathlib.Omega.{arith}
+use Rattle.model.specs.Limits.{ROWS}
+use Rattle.run.specs.Layout.{tableIn}
+use Rattle.row_sets.specs.First.{next}
+use Rattle.row_sets.specs.Walk.{Walk, walk-less, walk-in}
+use Rattle.grids.specs.Given.{given-kept, given-few}
+use Rattle.sets_location.specs.Adds.{AddsRow, partsOf}
+use Rattle.sets_location.specs.Put.{cut, adds-begin, adds-turn, adds-pass, adds-end, parts-off, parts-mask, locating-kept}
+use borrow.Author.Needs.{needs}
+use Rattle.sets_location.proofs.put_parts.Statement.{statement}
+use Rattle.sets_location.proofs.put_parts.Tie as tie
+
+abbrev Inv-loop : tie.InvT-loop
+Inv-loop t n s x g w₀ left₀ w left = Walk left₀ left × AddsRow n x (cut (partsOf (tableIn t n) x left₀) (next left)) w₀ w
+
+abbrev μ-loop : tie.MeasureT-loop
+μ-loop t n s x g w₀ left₀ w left = ROWS - next left
+
+loop-holds : tie.Need-loop-holds Inv-loop μ-loop
+loop-holds c = adds-begin _ _ (given-few (c .before .before .pre .2)) (c .before .before .pre .5 .low) (parts-off _ _ _) _
+
+first-requires : tie.Need-first-requires Inv-loop μ-loop
+first-requires c κs = sym (c .before .some .ensures) ∙ c .if1 .taken
+
+but-first-requires : tie.Need-but-first-requires Inv-loop μ-loop
+but-first-requires c κs = sym (c .before .before .some .ensures) ∙ c .before .if1 .taken
+
+shared-requires : tie.Need-shared-requires Inv-loop μ-loop
+shared-requires c κs = (c .before .before .before .before .before .before .before .pre .0, c .before .before .before .before .before .before .before .pre .5 .low _ (walk-in (c .before .before .before .before .loop .inv .0) (c .before .first .ensures)), c .before .before .before .before .before .before .before .pre .2 .opened .fit)
+
+bytes-met-requires : tie.Need-bytes-met-requires Inv-loop μ-loop
+bytes-met-requires c κs = (c .before .before .before .before .before .before .before .before .before .pre .0, c .before .before .before .before .before .before .before .before .before .pre .5 .low _ (walk-in (c .before .before .before .before .before .before .loop .inv .0) (c .before .before .before .first .ensures)), record { first = c .before .before .before .before .before .before .before .before .before .pre .1; second = c .before .before .before .before .before .before .before .before .before .pre .5 .accesses _ (walk-in (c .before .before .before .before .before .before .loop .inv .0) (c .before .before .before .first .ensures)); same = c .before .before .before .before .before .before .before .before .before .pre .5 .same _ (walk-in (c .before .before .before .before .before .before .loop .inv .0) (c .before .before .before .first .ensures)) }, given-kept (c .before .before .before .before .before .before .loop .inv .1 .frame) (c .before .before .before .before .before .before .before .before .before .pre .2), locating-kept (given-few (c .before .before .before .before .before .before .before .before .before .pre .2)) (c .before .before .before .before .before .before .loop .inv .1 .frame) (c .before .before .before .before .before .before .before .before .before .pre .3), c .before .before .before .before .before .before .before .before .before .pre .4)
+
+add-requires : tie.Need-add-requires Inv-loop μ-loop
+add-requires c κs = let r = c .before .before .before .before .before .before .before .before .before .before .before .before .pre .2 .room in let b = given-few (c .before .before .before .before .before .before .before .before .before .before .before .before .pre .2) in let l = c .before .before .before .before .before .before .before .before .before .before .before .before .pre .0 in let e = c .before .before .before .before .before .before .before .before .before .loop .inv .1 .frame .len in (omega (arith, b, l), c .before .before .before .before .before .before .first .ensures .bound, parts-mask _ _ _ (c .before .before .before .before .shared .ensures) (c .before .before .bytes-met .ensures) (walk-in (c .before .before .before .before .before .before .before .before .before .loop .inv .0) (c .before .before .before .before .before .before .first .ensures)) .low, omega (arith, r, e))
+
+put-bit-requires : tie.Need-put-bit-requires Inv-loop μ-loop
+put-bit-requires c κs = let r = c .before .before .before .before .before .before .before .before .before .before .before .before .before .before .before .before .pre .2 .room in let b = given-few (c .before .before .before .before .before .before .before .before .before .before .before .before .before .before .before .before .pre .2) in let l = c .before .before .before .before .before .before .before .before .before .before .before .before .before .before .before .before .pre .0 in let e = c .before .before .before .before .before .before .before .before .before .before .before .before .before .loop .inv .1 .frame .len in let f = c .before .before .before .add .ensures .frame .len in (omega (arith, r, b, l, e, f), c .before .before .before .before .before .before .before .before .before .before .first .ensures .bound)
+
+loop-less : tie.Need-loop-less Inv-loop μ-loop
+loop-less c = walk-less (c .before .before .before .before .before .before .before .before .before .before .before .before .before .first .ensures) (c .before .before .before .before .before .before .before .before .before .before .before .before .but-first .ensures)
+
+loop-again : tie.Need-loop-again Inv-loop μ-loop
+loop-again c = adds-turn _ _ (given-few (c .before .before .before .before .before .before .before .before .before .before .before .before .before .before .before .before .before .before .before .pre .2)) (c .before .before .before .before .before .before .before .before .before .before .before .before .before .before .before .before .before .before .before .pre .5 .low) (parts-off _ _ _) (c .before .before .before .before .before .before .before .before .before .before .before .before .before .before .before .before .before .before .before .pre .0) (c .before .before .before .before .before .before .before .before .before .before .before .before .before .before .before .before .loop .inv) (c .before .before .before .before .before .before .before .before .before .before .before .before .before .first .ensures) (c .before .before .before .before .before .before .before .before .before .before .before .before .but-first .ensures) (parts-mask _ _ _ (c .before .before .before .before .before .before .before .before .before .before .before .shared .ensures) (c .before .before .before .before .before .before .before .before .before .bytes-met .ensures)) (c .before .before .before .before .before .before .before .before .if2 .taken) (c .before .before .before .before .before .before .add .ensures) (c .before .before .put-bit .ensures)
+
+loop-less-2 : tie.Need-loop-less-2 Inv-loop μ-loop
+loop-less-2 c = walk-less (c .before .before .before .before .before .first .ensures) (c .before .before .before .before .but-first .ensures)
+
+loop-again-2 : tie.Need-loop-again-2 Inv-loop μ-loop
+loop-again-2 c = adds-pass _ _ (given-few (c .before .before .before .before .before .before .before .before .before .before .before .pre .2)) (c .before .before .before .before .before .before .before .before .before .before .before .pre .5 .low) (parts-off _ _ _) (c .before .before .before .before .before .before .before .before .loop .inv) (c .before .before .before .before .before .first .ensures) (c .before .before .before .before .but-first .ensures) (parts-mask _ _ _ (c .before .before .before .shared .ensures) (c .before .bytes-met .ensures)) (c .if2 .left)
+
+same-length : tie.Need-same-length Inv-loop μ-loop
+same-length c = c .before .before .loop .inv .1 .frame .len
+
+returns : tie.Need-returns Inv-loop μ-loop
+returns c = adds-end _ _ (given-few (c .before .before .before .before .before .pre .2)) (c .before .before .before .before .before .pre .5 .low) (parts-off _ _ _) _ (sym (c .before .some .ensures) ∙ c .if1 .left) (c .before .before .loop .inv .1)
+
+pub put-parts-spec : {M : Type 1} → statement M
+put-parts-spec =
+    tie.close
+    (tie.spec Inv-loop μ-loop loop-holds (λ c κs. search needs) first-requires but-first-requires shared-requires bytes-met-requires
+    add-requires put-bit-requires loop-less loop-again loop-less-2 loop-again-2 same-length returns)

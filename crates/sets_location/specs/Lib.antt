@@ -1,0 +1,11 @@
+pub mod Maybe
+pub mod Met
+pub mod Told
+pub mod Seen
+pub mod Elements
+pub mod Adds
+pub mod Bytes
+pub mod Put
+pub mod Carried
+pub mod Placed
+pub mod Filled

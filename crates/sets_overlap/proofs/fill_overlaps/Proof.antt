@@ -1,0 +1,69 @@
+use mathlib.Core.Path.{_≡_, refl, sym, _∙_}
+use Prim.Native.Nat.{_-_}
+use native.Mathlib.Omega.{arith}
+use lib.ListN.{length}
+use lib.Dec.{ltb}
+use Rattle.finite.specs.Logic.{_and_}
+use Rattle.model.specs.Limits.{ROWS}
+use Rattle.model.specs.Table.{decode}
+use Rattle.run.specs.Layout.{tableIn}
+use Rattle.row_sets.specs.First.{next}
+use Rattle.row_sets.specs.Walk.{walk-less, walk-in}
+use Rattle.row_sets.specs.Filling.{Filling, fill-begin, fill-turn, fill-end}
+use Rattle.row_sets.specs.Rows.{rows-at}
+use Rattle.known.specs.Known.{says-rows}
+use Rattle.known.specs.Ask.{few}
+use Rattle.grids.specs.Filling.{member-in, filled-made}
+use Rattle.area.specs.Regions.{OVERLAP}
+use Rattle.area.specs.State.{overlaps}
+use Rattle.sets_overlap.specs.Overlap.{earlier-put, over-only}
+use borrow.Author.Needs.{needs}
+use Rattle.sets_overlap.proofs.fill_overlaps.Statement.{statement}
+use Rattle.sets_overlap.proofs.fill_overlaps.Tie as tie
+
+abbrev Inv-loop : tie.InvT-loop
+Inv-loop t n s w₀ left₀ w left = (length w ≡ length w₀) × Filling OVERLAP left₀ (λ i j. ltb j n and overlaps (tableIn t n) i j) w₀ left w
+
+abbrev μ-loop : tie.MeasureT-loop
+μ-loop t n s w₀ left₀ w left = ROWS - next left
+
+rows-requires : tie.Need-rows-requires Inv-loop μ-loop
+rows-requires c κs = let a = c .before .before .before .before .before .before .pre .opened .space in omega arith
+
+loop-holds : tie.Need-loop-holds Inv-loop μ-loop
+loop-holds c = (refl, fill-begin _ _ _ _ (search needs) (c .before .before .before .clear .ensures))
+
+first-requires : tie.Need-first-requires Inv-loop μ-loop
+first-requires c κs = sym (c .before .some .ensures) ∙ c .if1 .taken
+
+but-first-requires : tie.Need-but-first-requires Inv-loop μ-loop
+but-first-requires c κs = sym (c .before .before .some .ensures) ∙ c .before .if1 .taken
+
+overlap-row-requires : tie.Need-overlap-row-requires Inv-loop μ-loop
+unfolding decode
+overlap-row-requires c κs =
+    let o = c .before .before .before .before .before .before .before .before .before .before .before .before .before .pre .opened in
+    let inv = c .before .before .before .before .before .loop .inv in
+    let m = member-in _ (rows-at (c .before .before .before .before .before .before .rows .ensures) (says-rows (o .known .tested .accesses .access))) (walk-in (inv .1 .walk) (c .before .before .first .ensures)) in
+    (m .0, m .1, record { opened = o; room = search needs }, earlier-put (few o) (rows-at (c .before .before .before .before .before .before .rows .ensures) (says-rows (o .known .tested .accesses .access))) (inv .1) (c .before .before .first .ensures))
+
+loop-less : tie.Need-loop-less Inv-loop μ-loop
+loop-less c = walk-less (c .before .before .before .before .before .before .before .first .ensures) (c .before .before .before .before .before .before .but-first .ensures)
+
+loop-again : tie.Need-loop-again Inv-loop μ-loop
+loop-again c =
+    let inv = c .before .before .before .before .before .before .before .before .before .before .loop .inv in
+    let put = c .before .before .put .ensures in
+    (put .frame .len ∙ inv .0, fill-turn _ _ _ _ (inv .1) (c .before .before .before .before .before .before .before .first .ensures) (c .before .before .before .before .before .before .but-first .ensures) (c .before .before .before .before .overlap-row .ensures .is) put)
+
+returns : tie.Need-returns Inv-loop μ-loop
+returns c =
+    let o = c .before .before .before .before .before .before .before .before .before .before .pre .opened in
+    filled-made _ (few o) (rows-at (c .before .before .before .rows .ensures) (says-rows (o .known .tested .accesses .access))) (λ i j l m e. over-only o i j l m e)
+    (fill-end _ _ _ _ (c .before .before .before .before .before .before .clear .ensures) (sym (c .before .some .ensures) ∙ c .if1 .left) (c .before .before .loop .inv .1))
+
+pub fill-overlaps-spec : {M : Type 1} → statement M
+fill-overlaps-spec =
+    tie.close
+    (tie.spec Inv-loop μ-loop (λ c κs. search needs) rows-requires loop-holds (λ c κs. search needs) first-requires but-first-requires
+    overlap-row-requires (λ c κs. search needs) loop-less loop-again (λ c. search needs) returns)

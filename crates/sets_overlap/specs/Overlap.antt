@@ -1,0 +1,277 @@
+-- Rows that share bytes, by their locations. Assumes nothing.
+use mathlib.Core.Path.{_≡_, refl, sym, ap, ap₂, subst, _∙_}
+use mathlib.Core.Bool.{Bool, true, false, not, _&&_}
+use mathlib.Core.List.{List}
+use mathlib.Core.Logic.{_⊎_, inl, inr, ⊎-elim}
+use Prim.Native.Nat.{ℕ, _+_, _-_, _*_, _≤_, _<_, max}
+use native.Mathlib.Omega.{arith}
+use native.Mathlib.Decide.{decLt, ℕ-discrete}
+use lib.Dec.{ltb, eqb}
+use borrow.Author.Tests.{lt-ltb, le-ltb, ltb-true, eq-eqb, eqb-true}
+use Rattle.finite.specs.Logic.{_and_, _or_, bool-ext, split, and-true, and-on, and-false-left, and-false-right, and-left, and-right, and-on-right, and-both, or-off, or-left, not-so, not-both, which}
+use Rattle.finite.specs.Below.{anyBelow, any-in, any-off, least-is, least-low}
+use Rattle.model.specs.declared.Row.{Row}
+use Rattle.model.specs.Limits.{ROWS}
+use Rattle.model.specs.Row.{access, touches, overlap}
+use Rattle.model.specs.Scope.{sameLocation}
+use Rattle.model.specs.Table.{Table}
+use Rattle.laws.specs.PairLaws.{overlap-is, inside-in, inside-out}
+use Rattle.area.specs.Regions.{OVERLAP}
+use Rattle.area.specs.State.{overlaps}
+use Rattle.row_sets.specs.declared.Set.{Set}
+use Rattle.row_sets.specs.Member.{inSet}
+use Rattle.row_sets.specs.First.{First, next, first-next, first-of}
+use Rattle.row_sets.specs.Kept.{setAt}
+use Rattle.row_sets.specs.Family.{nth}
+use Rattle.row_sets.specs.Filling.{Filling}
+use Rattle.row_sets.specs.Rows.{Rows, rows-at, rows-in, rows-cong}
+use Rattle.known.specs.Fit.{Fit}
+use Rattle.known.specs.Tested.{ACCESS}
+use Rattle.known.specs.Known.{PLACE, Opened, samePlace, says-rows}
+use Rattle.known.specs.Ask.{few}
+
+-- ---- definitions
+
+-- the accesses before row i have the rows that they share bytes with
+pub record Earlier (t : Table) (n i : ℕ) (w : List ℕ) : Type 0 where
+  pub row : (k : ℕ) → k < i → k < n → access (t .row k) ≡ true → Rows n (overlaps t k) (nth w OVERLAP k)
+
+-- the extents of two rows meet
+unfoldable pub meet : Row → Row → Bool
+meet r q = ltb (r .start) (q .start + q .size) and ltb (q .start) (r .start + r .size)
+
+-- the invariant: `all` has the accesses that i meets but for those that are left
+pub record Nearing (t : Table) (n i : ℕ) (left all : Set) : Type 0 where
+  pub sub : (j : ℕ) → inSet left j ≡ true → (j < n) × (access (t .row j) ≡ true)
+  pub is : (k : ℕ) → inSet all k ≡ (((ltb k n and access (t .row k)) and not (inSet left k)) and meet (t .row i) (t .row k))
+
+-- ---- laws: two extents
+
+pub meets : (r q : Row) → 1 ≤ r .size → 1 ≤ q .size → overlap r q ≡ meet r q
+unfolding meet touches
+meets r q a b = bool-ext _ _ there back
+  where
+    there : overlap r q ≡ true → (ltb (r .start) (q .start + q .size) and ltb (q .start) (r .start + r .size)) ≡ true
+    there e =
+        let h = overlap-is r q .0 e in
+        let x = inside-out (r .start) (r .size) (h .0) (h .1) in
+        let y = inside-out (q .start) (q .size) (h .0) (h .2) in
+        let x₀ = x .0 in
+        let x₁ = x .1 in
+        let y₀ = y .0 in
+        let y₁ = y .1 in
+        and-true (lt-ltb (r .start) (q .start + q .size) (omega arith)) (lt-ltb (q .start) (r .start + r .size) (omega arith))
+
+    back : (ltb (r .start) (q .start + q .size) and ltb (q .start) (r .start + r .size)) ≡ true → overlap r q ≡ true
+    back e =
+        let x = ltb-true (r .start) (q .start + q .size) (split e .0) in
+        let y = ltb-true (q .start) (r .start + r .size) (split e .1) in
+        overlap-is r q .1 (
+          max (r .start) (q .start),
+          inside-in (r .start) (r .size) (max (r .start) (q .start)) (omega arith) (omega arith),
+          inside-in (q .start) (q .size) (max (r .start) (q .start)) (omega arith) (omega arith),
+        )
+
+-- a row without bytes shares none
+pub empty-apart : (r q : Row) → (r .size ≡ 0) ⊎ (q .size ≡ 0) → overlap r q ≡ false
+unfolding touches
+empty-apart r q z = ⊎-elim (λ e. absurd (none (overlap-is r q .0 e) z)) (λ e. e) (which (overlap r q))
+  where
+    none : ((b : ℕ) × (touches r b ≡ true) × (touches q b ≡ true)) → (r .size ≡ 0) ⊎ (q .size ≡ 0) → ⊥
+    none h (inl e) = let x = inside-out (r .start) (r .size) (h .0) (h .1) in let u = x .0 in let v = x .1 in omega arith
+    none h (inr e) = let x = inside-out (q .start) (q .size) (h .0) (h .2) in let u = x .0 in let v = x .1 in omega arith
+
+turned : (a b : Bool) → (a and b) ≡ (b and a)
+turned a b = bool-ext _ _ (λ e. let d = split e in and-true (d .1) (d .0)) (λ e. let d = split e in and-true (d .1) (d .0))
+
+-- rows of one location share bytes with the same rows
+same-meet : (r q p : Row) → sameLocation r q ≡ true → meet p r ≡ meet p q
+unfolding sameLocation meet
+same-meet r q p e =
+    let h = split (split e .0) in
+    let a : r .start ≡ q .start = eqb-true (r .start) (q .start) (h .0) in
+    let b : r .size ≡ q .size = eqb-true (r .size) (q .size) (h .1) in
+    ap₂ (λ (u v : ℕ). ltb (p .start) (u + v) and ltb u (p .start + p .size)) a b
+
+swap : (r q : Row) → meet r q ≡ meet q r
+unfolding meet
+swap r q = turned (ltb (r .start) (q .start + q .size)) (ltb (q .start) (r .start + r .size))
+
+same-met : (r q p : Row) → sameLocation r q ≡ true → meet r p ≡ meet q p
+same-met r q p e = swap r p ∙ same-meet r q p e ∙ swap p q
+
+module _ {t : Table} {n : ℕ} {s : List ℕ} (o : Opened t n s) where
+  fits : (j : ℕ) → j < n → j < t .rows
+  fits j l = subst (λ (m : ℕ). j < m) (sym (o .rows)) l
+
+  -- row i is an access: those that share bytes with it are accesses that it meets
+  over-is : (i j : ℕ) → i < n → j < n → access (t .row i) ≡ true → (access (t .row j) and meet (t .row i) (t .row j)) ≡ overlaps t i j
+  unfolding overlaps _and_
+  over-is i j l m a = ⊎-elim yes no (which (access (t .row j)))
+    where
+      yes : access (t .row j) ≡ true → (access (t .row j) and meet (t .row i) (t .row j)) ≡ overlap (t .row i) (t .row j)
+      yes b = rw b (sym (meets (t .row i) (t .row j) (o .fit .filled i (fits i l) a) (o .fit .filled j (fits j m) b)))
+
+      no : access (t .row j) ≡ false → (access (t .row j) and meet (t .row i) (t .row j)) ≡ overlap (t .row i) (t .row j)
+      no b = rw b (sym (empty-apart (t .row i) (t .row j) (inr (o .fit .empty j (fits j m) b))))
+
+  -- ---- laws: the loop over locations
+
+  pub near-begin : (i : ℕ) (x all : Set) → x ≡ setAt s ACCESS → ((k : ℕ) → inSet all k ≡ false) → Nearing t n i x all
+  near-begin i x all e none =
+      record {
+        sub = λ j h. let d = split (sym (rows .is j) ∙ h) in (ltb-true j n (d .0), d .1);
+        is = λ k. none k ∙ sym (and-false-left _ _ (gone k));
+      }
+    where
+      rows : Rows n (λ j. access (t .row j)) x
+      rows = rows-at e (says-rows (o .known .tested .accesses .access))
+
+      gone : (k : ℕ) → ((ltb k n and access (t .row k)) and not (inSet x k)) ≡ false
+      gone k = ap (λ (b : Bool). b and not (inSet x k)) (sym (rows .is k)) ∙ self (inSet x k)
+        where
+          self : (b : Bool) → (b and not b) ≡ false
+          self true = and-false-right true false refl
+          self false = and-false-left false true refl
+
+  -- row j's location
+  here-is : (j : ℕ) (here : Set) → j < n → access (t .row j) ≡ true → here ≡ setAt s (PLACE + 2 * j)
+      → (k : ℕ) → inSet here k ≡ (ltb k n and samePlace t j k)
+  here-is j here l a e k = rows-at e (o .known .place j l a) .is k
+
+  pub own-here : (j : ℕ) (here : Set) → j < n → access (t .row j) ≡ true → here ≡ setAt s (PLACE + 2 * j) → inSet here j ≡ true
+  unfolding samePlace sameLocation
+  own-here j here l a e =
+      here-is j here l a e j ∙ and-true (lt-ltb j n l)
+      (and-true a (and-true (and-true (self (t .row j .start)) (self (t .row j .size))) (self (t .row j .reference))))
+    where
+      self : (m : ℕ) → eqb m m ≡ true
+      self m = eq-eqb m m refl
+
+  module _ {i j : ℕ} {left all here : Set} (rest : Set) (inv : Nearing t n i left all) (low : First left j) (place : here ≡ setAt s (PLACE + 2 * j))
+      (less : (k : ℕ) → inSet rest k ≡ (inSet left k and not (inSet here k))) where
+    pub near-less : ROWS - next rest < ROWS - next left
+    near-less = let a = first-next low in let b = low .bound in let c = later (decLt j (next rest)) in omega arith
+      where
+        gone : (k : ℕ) → k ≤ j → inSet rest k ≡ false
+        gone k l = go (ℕ-discrete k j)
+          where
+            go : Dec (k ≡ j) → inSet rest k ≡ false
+            go (yes e) = let d = inv .sub j (low .hit) in
+                less k ∙ and-false-right _ _ (ap (λ (m : ℕ). not (inSet here m)) e ∙ ap not (own-here j here (d .0) (d .1) place))
+            go (no e) = less k ∙ and-false-left _ _ (low .miss k (omega arith))
+
+        later : Dec (j < next rest) → j < next rest
+        later (yes l) = l
+        later (no l) = let b = low .bound in not-both (least-is (inSet rest) ROWS .hit (omega arith)) (gone (next rest) (omega arith))
+
+    module _ (part more : Set) (b : Bool) (test : b ≡ meet (t .row i) (t .row j)) (only : (k : ℕ) → inSet part k ≡ (b and inSet here k))
+        (both-are : (k : ℕ) → inSet more k ≡ (inSet all k or inSet part k)) where
+      pub near-turn : Nearing t n i rest more
+      unfolding samePlace _or_
+      near-turn =
+          record { sub = λ k h. inv .sub k (and-left (inSet left k) _ (sym (less k) ∙ h)); is = λ k. both-are k ∙ ⊎-elim (yes k) (no k) (which (inSet here k)) }
+        where
+          d : (j < n) × (access (t .row j) ≡ true)
+          d = inv .sub j (low .hit)
+
+          A : ℕ → Bool
+          A k = ltb k n and access (t .row k)
+
+          M : ℕ → Bool
+          M k = meet (t .row i) (t .row k)
+
+          no : (k : ℕ) → inSet here k ≡ false → (inSet all k or inSet part k) ≡ ((A k and not (inSet rest k)) and M k)
+          no k h =
+              or-off (inSet all k) (inSet part k) (only k ∙ and-false-right b (inSet here k) h) ∙ inv .is k
+              ∙ ap (λ (x : Bool). (A k and not x) and M k) (sym (less k ∙ ap (λ (y : Bool). inSet left k and not y) h ∙ and-on-right (inSet left k) true refl))
+
+          yes : (k : ℕ) → inSet here k ≡ true → (inSet all k or inSet part k) ≡ ((A k and not (inSet rest k)) and M k)
+          yes k h =
+              let p = split (sym (here-is j here (d .0) (d .1) place k) ∙ h) in
+              let q = split (unplaced (p .1)) in
+              let same : b ≡ M k = test ∙ same-meet (t .row j) (t .row k) (t .row i) (q .1) in
+              let mine : inSet part k ≡ M k = only k ∙ and-on-right b (inSet here k) h ∙ same in
+              let out : inSet rest k ≡ false = less k ∙ and-false-right (inSet left k) _ (ap not h) in
+              let on : (A k and not (inSet rest k)) ≡ true = and-true (and-true (p .0) (q .0)) (ap not out) in
+              ap (λ (x : Bool). inSet all k or x) mine ∙ both (inSet all k) (M k) (λ e. and-right _ (M k) (sym (inv .is k) ∙ e)) ∙ sym (and-on _ (M k) on)
+            where
+              unplaced : samePlace t j k ≡ true → (access (t .row k) and sameLocation (t .row j) (t .row k)) ≡ true
+              unplaced e = e
+
+              both : (x y : Bool) → (x ≡ true → y ≡ true) → (x or y) ≡ y
+              both true y f = or-left y refl ∙ sym (f refl)
+              both false y f = refl
+
+  pub near-end : (i : ℕ) (left all : Set) → i < n → access (t .row i) ≡ true → anyBelow ROWS (inSet left) ≡ false → Nearing t n i left all → Rows n (overlaps t i) all
+  near-end i left all l a e inv = record { is = λ k. inv .is k ∙ at k (decLt k n) }
+    where
+      at : (k : ℕ) → Dec (k < n) → (((ltb k n and access (t .row k)) and not (inSet left k)) and meet (t .row i) (t .row k)) ≡ (ltb k n and overlaps t i k)
+      at k (yes m) =
+          let f = few o in
+          let z : inSet left k ≡ false = any-off (inSet left) ROWS e k (omega arith) in
+          let on = lt-ltb k n m in
+          ap (λ (x : Bool). ((ltb k n and access (t .row k)) and not x) and meet (t .row i) (t .row k)) z
+          ∙ ap (λ (x : Bool). x and meet (t .row i) (t .row k)) (and-on-right (ltb k n and access (t .row k)) true refl ∙ and-on (ltb k n) (access (t .row k)) on)
+          ∙ over-is i k l m a ∙ sym (and-on (ltb k n) (overlaps t i k) on)
+      at k (no m) =
+          let off = le-ltb k n (omega arith) in
+          and-false-left _ _ (and-false-left _ _ (and-false-left _ _ off)) ∙ sym (and-false-left (ltb k n) (overlaps t i k) off)
+
+  -- ---- laws: a row by the first of its location
+
+  -- the first of row i's location
+  pub first-here : (i : ℕ) (here : Set) → i < n → access (t .row i) ≡ true → here ≡ setAt s (PLACE + 2 * i) → anyBelow ROWS (inSet here) ≡ true
+  first-here i here l a e = let f = few o in any-in (inSet here) ROWS i (omega arith) (own-here i here l a e)
+
+  pub earlier-row : {w : List ℕ} (i j : ℕ) (here x : Set) → i < n → access (t .row i) ≡ true → here ≡ setAt s (PLACE + 2 * i) → First here j
+      → (j ≡ i → ⊥) → Earlier t n i w → x ≡ setAt w (OVERLAP + 2 * j) → Rows n (overlaps t i) x
+  unfolding overlaps samePlace
+  earlier-row {w} i j here x l a e f ne before q =
+      rows-cong (λ k m. same k m) (rows-at q (before .row j lower below (p .1)))
+    where
+      member : (ltb j n and samePlace t i j) ≡ true
+      member = sym (here-is i here l a e j) ∙ f .hit
+
+      below : j < n
+      below = ltb-true j n (split member .0)
+
+      p : (sameLocation (t .row i) (t .row j) ≡ true) × (access (t .row j) ≡ true)
+      p = let d = split (split member .1) in (d .1, d .0)
+
+      lower : j < i
+      lower = go (decLt j i)
+        where
+          go : Dec (j < i) → j < i
+          go (yes o) = o
+          go (no o) = not-both (own-here i here l a e) (f .miss i (omega arith))
+
+      same : (k : ℕ) → k < n → overlap (t .row j) (t .row k) ≡ overlap (t .row i) (t .row k)
+      same k m =
+          sym (over-is j k below m (p .1)) ∙ ap (λ (b : Bool). access (t .row k) and b) (sym (same-met (t .row i) (t .row j) (t .row k) (p .0)))
+          ∙ over-is i k l m a
+
+  -- nothing shares bytes with what is no access
+  pub over-only : (i j : ℕ) → i < n → j < n → overlaps t i j ≡ true → access (t .row i) ≡ true
+  unfolding overlaps
+  over-only i j l m e = ⊎-elim (λ a. a) (λ a. not-both e (empty-apart (t .row i) (t .row j) (inl (o .fit .empty i (fits i l) a)))) (which (access (t .row i)))
+
+-- the test as code says it
+pub meet-said : (r q : Row) (start end last first : ℕ) → start ≡ r .start → end ≡ r .start + r .size → last ≡ q .start + q .size → first ≡ q .start
+    → (ltb start last && ltb first end) ≡ meet r q
+unfolding meet
+meet-said r q start end last first a b c d =
+    and-both (ltb start last) (ltb first end) ∙ ap₂ (λ (u v : ℕ). ltb u v and ltb first end) a c ∙ ap₂ (λ (u v : ℕ). ltb (r .start) (q .start + q .size) and ltb u v) d b
+
+-- while rows are put one after the other: those before the next one have theirs
+pub earlier-put : {t : Table} {n i : ℕ} {x left : Set} {w u : List ℕ} → n ≤ ROWS → Rows n (λ j. access (t .row j)) x
+    → Filling OVERLAP x (λ k j. ltb j n and overlaps t k j) w left u → First left i → Earlier t n i u
+earlier-put {t} {n} {i} {x} {left} few h inv low =
+    record {
+      row = λ k l m a. record {
+        is = λ j.
+            inv .to .is k j (omega arith)
+            ∙ and-on (ltb k (next left)) _ (lt-ltb k (next left) (subst (λ (z : ℕ). k < z) (sym (first-next low)) l))
+            ∙ and-on (inSet x k) (ltb j n and overlaps t k j) (rows-in h k m ∙ a);
+      };
+    }

@@ -1,0 +1,30 @@
+use Rattle.model.specs.Table.{decode}
+use Rattle.grids.specs.Given.{given-few}
+use Rattle.sets_races.specs.Pair.{over-rows, writer-rows, reader-rows}
+use borrow.Author.Needs.{needs}
+use native.Mathlib.Omega.{arith}
+use Rattle.sets_races.proofs.conflicting.Statement.{statement}
+use Rattle.sets_races.proofs.conflicting.Tie as tie
+
+rows-requires : tie.Need-rows-requires
+rows-requires c κs = let a = c .before .before .pre .2 .opened .space in omega arith
+
+get-requires : tie.Need-get-requires
+get-requires c κs = let a = c .before .before .before .pre .2 .room in let b = given-few (c .before .before .before .pre .2) in omega (arith, c .before .before .before .pre .0)
+
+above-requires : tie.Need-above-requires
+above-requires c κs = let b = given-few (c .before .before .before .before .pre .2) in omega (arith, c .before .before .before .before .pre .0)
+
+has-requires : tie.Need-has-requires
+has-requires c κs = let b = given-few (c .before .before .before .before .before .before .pre .2) in omega (arith, c .before .before .before .before .before .before .pre .0)
+
+returns : tie.Need-returns
+unfolding decode
+returns c = writer-rows (c .before .before .before .before .before .before .before .before .pre .2) (c .before .before .before .before .before .before .before .before .pre .3) (c .before .before .before .before .before .before .before .before .pre .0) (c .before .before .before .before .before .before .before .before .pre .1) (c .before .before .before .before .before .rows .ensures) (c .before .has .ensures) (c .if1 .taken) (over-rows (c .before .before .before .before .before .before .before .before .pre .2) (c .before .before .before .before .before .before .before .before .pre .3) (c .before .before .before .before .before .before .before .before .pre .0) (c .before .before .before .before .before .before .before .before .pre .1) _ (c .before .before .before .before .get .ensures) (c .before .before .before .above .ensures) (c .before .before .and .ensures))
+
+returns-2 : tie.Need-returns-2
+unfolding decode
+returns-2 c = reader-rows (c .before .before .before .before .before .before .before .before .before .pre .2) (c .before .before .before .before .before .before .before .before .before .pre .3) (c .before .before .before .before .before .before .before .before .before .pre .0) (c .before .before .before .before .before .before .before .before .before .pre .1) (c .before .before .before .before .before .before .rows .ensures) (c .before .before .has .ensures) (c .before .if1 .left) (over-rows (c .before .before .before .before .before .before .before .before .before .pre .2) (c .before .before .before .before .before .before .before .before .before .pre .3) (c .before .before .before .before .before .before .before .before .before .pre .0) (c .before .before .before .before .before .before .before .before .before .pre .1) _ (c .before .before .before .before .before .get .ensures) (c .before .before .before .before .above .ensures) (c .before .before .before .and .ensures)) (c .and2 .ensures)
+
+pub conflicting-spec : {M : Type 1} → statement M
+conflicting-spec = tie.close (tie.spec rows-requires get-requires above-requires (λ c κs. search needs) has-requires (λ c κs. search needs) returns returns-2)

@@ -1,0 +1,4 @@
+pub mod Counted
+pub mod Sums
+pub mod Pair
+pub mod Search

@@ -1,0 +1,17 @@
+use Rattle.verdict.specs.Engine.{few-of, bounded-of, ready-of, judges}
+use borrow.Author.Needs.{needs}
+use Rattle.verdict.proofs.by_flags.judge.Statement.{statement}
+use Rattle.verdict.proofs.by_flags.judge.Tie as tie
+
+judge-located-requires : tie.Need-judge-located-requires
+judge-located-requires c κs =
+    let pre = c .before .before .before .before .before .before .before .before .before .pre in
+    let made = c .before .before .before .before .locate .ensures in
+    (pre .2, pre .3, bounded-of (pre .0 .fit), ready-of (pre .0 .fit) (few-of (pre .0)) (pre .1) (made .1) (made .0))
+
+returns : tie.Need-returns
+returns c = judges (c .before .before .before .before .before .before .before .before .before .locate .ensures .1) (c .before .before .before .before .judge-located .ensures)
+
+pub judge-spec : {M : Type 1} → statement M
+judge-spec =
+    tie.close (tie.spec (λ c κs. search needs) judge-located-requires (λ c. search needs) (λ c. search needs) returns)

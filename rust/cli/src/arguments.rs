@@ -5,8 +5,8 @@ use crate::help;
 use crate::make::{steps, Making};
 use crate::question::{Kind, Question};
 use crate::tell::Telling;
+use mend::Step;
 use std::ffi::{OsStr, OsString};
-use words::Step;
 
 /// What is asked for.
 #[derive(Debug, PartialEq, Eq)]

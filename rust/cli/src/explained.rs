@@ -3,8 +3,9 @@
 
 use crate::answers::Answer;
 use crate::json::Object;
+use mend::{steps_text, Cure, Outcome};
 use stramashly::CheckAnswer;
-use words::{steps_text, Advice, Cure, Explanation, Near, Outcome};
+use words::{named, Advice, Explanation, Near};
 
 /// An explanation, with the file's name if there is one: the members of the
 /// check's answer, then its own.
@@ -34,7 +35,7 @@ fn nearest(explanation: &Explanation, near: &Near) -> Object {
     object.count("before", near.before);
     object.count("after", near.after);
     let lacks = near.lacks.iter();
-    let lacks: Vec<String> = lacks.map(|lack| explanation.notes.named(lack)).collect();
+    let lacks: Vec<String> = lacks.map(|lack| named(&explanation.notes, lack)).collect();
     object.texts("lacks", &lacks);
     object
 }

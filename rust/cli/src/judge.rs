@@ -5,9 +5,9 @@ use crate::json::Object;
 use crate::question::Question;
 use crate::writing::{rows, write};
 use crate::Status;
+use mend::Notes;
 use std::fmt::{Display, Write};
 use stramashly::{row_of_pieces, Checker, Pieces};
-use words::Notes;
 
 /// How an answer is written.
 #[derive(Clone, Copy)]

@@ -3,9 +3,9 @@
 use crate::hex::digits;
 use crate::read::{Given, Unread};
 use crate::Status;
+use mend::{edited, parse_steps, stepped, Edit, Field, Run, Step};
 use stramashly::{Checker, FillAnswer, BLANK};
 use text::{remade, write, write_lines, Form};
-use words::{edited, parse_steps, stepped, Edit, Field, Run, Step};
 
 /// How a table is made.
 #[derive(Clone, Debug, PartialEq, Eq)]

@@ -5,13 +5,13 @@ use crate::arguments::{Request, Task};
 use crate::hex::{front_of_rows, Hex, KEPT_BYTES};
 use crate::input;
 use crate::make::Making;
+use mend::Notes;
 use std::ffi::OsStr;
 use std::fmt;
 use std::fs::File;
 use std::io::{self, ErrorKind, Read};
 use stramashly::Checker;
 use text::{Draft, Form, Trouble};
-use words::Notes;
 
 /// A longer text than this is none of a table.
 const TEXT_BYTES: usize = 1 << 20;

@@ -3,8 +3,9 @@
 
 use crate::json::Object;
 use crate::read::{Given, Unread};
+use mend::first_row;
 use stramashly::Checker;
-use words::{findings, first_row, Finding};
+use words::{findings, Finding};
 
 /// A rule's name, its title and what it finds.
 type Rule = (&'static str, &'static str, &'static str);

@@ -4,9 +4,10 @@ use crate::answers::Answer;
 use crate::explained;
 use crate::read::Given;
 use crate::Status;
+use draw::{draw_noted, page};
 use stramashly::Checker;
 use text::{write, write_lines, Refusal};
-use words::{draw_noted, explain_noted, page, refusal, show_noted, why, Explanation, Shown};
+use words::{explain_noted, refusal, show_noted, why, Explanation, Shown};
 
 /// How a table is told.
 #[derive(Clone, Copy, Debug, PartialEq, Eq)]

@@ -2,9 +2,10 @@
 
 use crate::assemble::{assemble, refused_bytes};
 use crate::trouble::{Spot, Trouble};
+use mend::{Notes, RowNote};
 use second::table::{Row, SHADER, WITH_HOSTS};
 use stramashly::{Refusal, MAX_AGENTS, MAX_DEPENDENCIES, MAX_ROWS};
-use words::{refusal_lines, Notes, RowNote};
+use words::refusal_lines;
 
 /// A table's parts in the order in which they were read, within its limits.
 #[derive(Clone, Debug, Default, PartialEq, Eq)]

@@ -9,9 +9,9 @@ use crate::vocabulary::{
     bad_name, class_code, class_words, kind_code, kind_words, number, order_code, order_words,
     scope_code, scope_words, sort_code, BLANK, FLAGS, INITIAL,
 };
+use mend::{Place, RowNote};
 use second::table::{SHADER, WITH_HOSTS};
 use std::collections::HashSet;
-use words::{Place, RowNote};
 
 /// Names that have been given.
 #[derive(Default)]

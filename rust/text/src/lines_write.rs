@@ -5,10 +5,10 @@ use crate::json::Quoted;
 use crate::vocabulary::{
     class_word, classes_of, kind_word, order_word, scope_word, sort_word, BLANK, FLAGS, INITIAL,
 };
+use mend::{Notes, Run};
 use second::table::Row;
 use std::fmt::Display;
 use stramashly::Refusal;
-use words::{Notes, Run};
 
 /// The lines of a table: its header, then a row each; the refusal of a table
 /// that a fill doesn't take.

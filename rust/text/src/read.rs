@@ -9,9 +9,9 @@ use crate::vocabulary::{
     article, bad_name, class_code, class_words, number, sort_code, AGENT, DEPENDENCY, HEAD,
     REFERENCE,
 };
+use mend::{Place, RowNote};
 use second::table::{SHADER, WITH_HOSTS};
 use std::collections::HashMap;
-use words::{Place, RowNote};
 
 /// What has been read so far.
 pub struct Reading {

@@ -5,11 +5,11 @@ use crate::vocabulary::{
     class_word, classes_of, is_atomic, kind_word, order_word, scope_word, sort_word, BLANK, FLAGS,
     HEAD, INITIAL,
 };
+use mend::{Notes, Run};
 use second::table::{Row, QUEUE, SHADER};
 use std::collections::{BTreeMap, HashSet};
 use std::fmt::Write;
 use stramashly::Refusal;
-use words::{Notes, Run};
 
 /// The text of a table, with the names, labels and places that are noted of
 /// it; the refusal of a table that a fill doesn't take.

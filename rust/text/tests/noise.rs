@@ -1,9 +1,9 @@
 //! Whatever a text holds, it is read or told; what is read and accepted comes
 //! back from what is written of it.
 
+use mend::Notes;
 use tables::{fillable, hosted, Random, Size};
 use text::{form, read, write, write_lines, Form};
-use words::Notes;
 
 /// Words that mean something, and some that don't.
 const WORDS: [&str; 64] = [

@@ -1,11 +1,11 @@
 //! Every table that a fill takes can be said, in either form, and comes back
 //! byte for byte; what it doesn't take isn't said.
 
+use mend::{Notes, Run};
 use stramashly::{Checker, FillAnswer};
 use tables::{chained, chained_fillable, checkable, clean, damaged, damaged_hosted, fillable};
 use tables::{examples, hosted, hosted_fillable, litmus, moved, Random, Size};
 use text::{admission, assemble, form, read, remade, write, write_lines, Form, Refusal};
-use words::{Notes, Run};
 
 /// Both forms of a table, if a fill takes it.
 fn forms(table: &[u8]) -> Result<[(Form, String); 2], Refusal> {

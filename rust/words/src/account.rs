@@ -2,10 +2,8 @@
 //! that it goes through, and the derivation between them.
 
 use crate::derivation::{at, derived_lines};
-use crate::mend::goal::Goal;
 use crate::names;
-use crate::run::Run;
-use second::State;
+use crate::told::Checked;
 
 /// One reason why a row is ordered before another at a byte.
 #[derive(Clone, Debug, PartialEq, Eq)]
@@ -18,24 +16,7 @@ pub struct Ordered {
     pub path: Vec<usize>,
 }
 
-/// A checked table: its bytes, its relations and its rows.
-#[derive(Clone, Copy)]
-pub struct Checked<'a> {
-    pub table: &'a [u8],
-    pub state: &'a State,
-    pub run: &'a Run,
-}
-
 impl Checked<'_> {
-    /// The number of the lowest rule by which X comes before Y at a byte.
-    pub fn rule(&self, x: usize, y: usize, byte: u32) -> Option<u8> {
-        let [l1, l2, l3] = self.state.rules_at(x, y, byte);
-        let [l4, l5] = self.state.system_rules(x, y);
-        let rules = [l1, l2, l3, l4, l5];
-        let place = rules.iter().position(|holds| *holds)?;
-        Some(place as u8 + 1)
-    }
-
     /// The lowest rule by which X comes before Y at a byte, and why it does.
     pub fn ordered(&self, x: usize, y: usize, byte: u32) -> Option<Ordered> {
         match self.rule(x, y, byte)? {
@@ -138,29 +119,5 @@ impl Checked<'_> {
         let steps = self.steps(&ordered.path);
         lines.extend(steps.iter().map(|step| format!("  {step}")));
         lines
-    }
-
-    /// The racing pairs, each with its lowest unordered byte.
-    pub fn races(&self) -> Vec<Goal> {
-        let rows = self.run.rows.len();
-        let pairs = (0..rows).flat_map(|x| (x + 1..rows).map(move |y| (x, y)));
-        let goals = pairs.filter_map(|(first, second)| {
-            let mut bytes = self.shared_bytes(first, second).into_iter();
-            let byte = bytes.find(|byte| self.state.races_at(first, second, *byte))?;
-            Some(Goal {
-                first,
-                second,
-                byte,
-            })
-        });
-        goals.collect()
-    }
-
-    /// The bytes that two rows share, lowest first.
-    pub fn shared_bytes(&self, x: usize, y: usize) -> Vec<u32> {
-        let (x, y) = (self.run.rows[x], self.run.rows[y]);
-        (x.first_byte()..x.end_byte())
-            .filter(|byte| y.has_byte(*byte))
-            .collect()
     }
 }

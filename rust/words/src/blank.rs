@@ -1,15 +1,13 @@
 //! What a fill makes of a table's blanks: their sources, or why one of them
 //! can't have any.
 
-use crate::account::Checked;
 use crate::explain::shown;
 use crate::inconsistent;
-use crate::judge::Judge;
-use crate::mend::edit::{edited, Edit, Field};
 use crate::names;
 use crate::refusal;
-use crate::run::Run;
-use second::{State, BLANK, CYCLE_NUMBERS, INITIAL, WORK_WORDS};
+use crate::told::Checked;
+use mend::{edited, Edit, Field, Judge, Notes, Relations, Run};
+use second::{BLANK, INITIAL};
 use stramashly::FillAnswer;
 
 /// What `fill` answers of a table with blanks, in sentences.
@@ -73,18 +71,12 @@ fn filled(table: &[u8], blanks: &[usize], sources: &[u16]) -> Vec<u8> {
 fn none_lines(table: &[u8], blanks: &[usize], checker: &mut dyn Judge) -> Vec<String> {
     // Location order reads no plain source.
     let initial = filled(table, blanks, &vec![INITIAL; blanks.len()]);
-    let mut state = State::new();
-    state.check_with(checker.chains(), &initial, WORK_WORDS, CYCLE_NUMBERS);
-    let run = Run::of(&initial);
-    let checked = Checked {
-        table: &initial,
-        state: &state,
-        run: &run,
-    };
+    let relations = Relations::of(checker.chains(), &initial, &Notes::default());
+    let checked = Checked::from(&relations);
     let mut lines = Vec::new();
     let mut chosen = Vec::new();
     for reader in blanks {
-        let sources: Vec<(u16, Option<String>)> = sources(&run, *reader)
+        let sources: Vec<(u16, Option<String>)> = sources(checked.run, *reader)
             .into_iter()
             .map(|source| (source, checked.unfit_source(*reader, source)))
             .collect();
@@ -129,14 +121,8 @@ fn contradiction(
         .zip(chosen)
         .map(|(row, source)| format!("row {row} {}", source_words(*source)))
         .collect();
-    let mut state = State::new();
-    state.check_with(checker.chains(), &table, WORK_WORDS, CYCLE_NUMBERS);
-    let run = Run::of(&table);
-    let checked = Checked {
-        table: &table,
-        state: &state,
-        run: &run,
-    };
+    let relations = Relations::of(checker.chains(), &table, &Notes::default());
+    let checked = Checked::from(&relations);
     let answer = checker.check(&table);
     let mut lines = vec![format!(
         "Each blank alone could have a source ({}); with these, check answers `{answer}`.",

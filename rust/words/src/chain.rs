@@ -1,8 +1,9 @@
 //! L3 by chains of several elements, where the device has them.
 
-use crate::account::{Checked, Ordered};
+use crate::account::Ordered;
 use crate::derivation::at;
 use crate::names;
+use crate::told::Checked;
 use second::table::{DEVICE, SUBGROUP};
 
 impl Checked<'_> {

@@ -2,6 +2,7 @@
 //! steps. They are found and read by the proved library.
 
 use crate::names;
+pub use mend::at;
 use second::table::Row;
 use second::{ACQUIRE_STEP, AFTER, AT, BEFORE, RELEASE_STEP, SYNCHRONIZES_STEP, SYSTEM_STEP};
 use stramashly::{AcceptsAnswer, Checker, Derivation, DeriveAnswer, STEP_CASE};
@@ -105,9 +106,4 @@ pub fn moment_words(rows: &[Row], moment: usize) -> String {
         (BEFORE, false) | (AFTER, true) => format!("row {row}'s availability moment"),
         _ => format!("row {row}'s visibility moment"),
     }
-}
-
-/// The number of a row's own moment.
-pub fn at(row: usize) -> usize {
-    3 * row + AT
 }

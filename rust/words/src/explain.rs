@@ -1,17 +1,13 @@
 //! `explain`: an answer in sentences. The first line and the derivations are
 //! the proved library's own; the rest comes from the second implementation.
 
-use crate::account::Checked;
-use crate::judge::Judge;
-use crate::mend::cure::Cure;
-use crate::mend::goal::Goal;
-use crate::mend::search::search;
+use crate::naming::named;
 use crate::nearest::Near;
-use crate::notes::Notes;
 use crate::race::Advice;
-use crate::run::Run;
+use crate::told::Checked;
 use crate::{inconsistent, race, race_free, refusal};
-use second::{Chains, State, CYCLE_NUMBERS, WORK_WORDS};
+use mend::{search, Cure, Goal, Judge, Notes, Relations, Run};
+use second::Chains;
 use stramashly::CheckAnswer;
 
 /// What an answer shows, to be pointed out in a picture.
@@ -118,15 +114,9 @@ pub fn explain_noted(
     checker: &mut dyn Judge,
     is_all: bool,
 ) -> Explanation {
-    let mut state = State::new();
-    let second = state.check_with(checker.chains(), table, WORK_WORDS, CYCLE_NUMBERS);
-    let second = second.to_string();
-    let run = Run::of(table).noted(notes);
-    let checked = Checked {
-        table,
-        state: &state,
-        run: &run,
-    };
+    let relations = Relations::of(checker.chains(), table, notes);
+    let second = relations.answer.to_string();
+    let checked = Checked::from(&relations);
     let mut explanation = Explanation::bare(checked, checker, is_all);
     if second == explanation.answer && !Run::is_known(table) && !second.starts_with("refused") {
         explanation.lines = vec![format!(
@@ -142,7 +132,7 @@ pub fn explain_noted(
         )];
     }
     let lines = explanation.lines.iter();
-    explanation.lines = lines.map(|line| notes.named(line)).collect();
+    explanation.lines = lines.map(|line| named(notes, line)).collect();
     explanation
 }
 
@@ -165,7 +155,7 @@ fn tell(table: &[u8], checked: Checked, checker: &mut dyn Judge, explanation: &m
             lines
         }
         Shown::Race(goal) => {
-            let found = search(table, checked, goal, checker);
+            let found = search(table, *checked, goal, checker);
             let near = checked.nearest(goal.first, goal.second, goal.byte);
             let mut lines = race::lines(checked, goal, (&near, &found), explanation.is_all);
             // What a rule lacks is said of single operations.
@@ -184,14 +174,14 @@ fn tell(table: &[u8], checked: Checked, checker: &mut dyn Judge, explanation: &m
 /// The words for a change, with what is noted.
 fn advised(checked: Checked, goal: Goal, cure: &Cure) -> Advice {
     let advice = race::advice(checked, goal, cure);
-    let named = |lines: &[String]| -> Vec<String> {
+    let with_notes = |lines: &[String]| -> Vec<String> {
         let lines = lines.iter();
-        lines.map(|line| checked.run.notes.named(line)).collect()
+        lines.map(|line| named(&checked.run.notes, line)).collect()
     };
     Advice {
-        reasons: named(&advice.reasons),
-        glsl: named(&advice.glsl),
-        spirv: named(&advice.spirv),
+        reasons: with_notes(&advice.reasons),
+        glsl: with_notes(&advice.glsl),
+        spirv: with_notes(&advice.spirv),
     }
 }
 

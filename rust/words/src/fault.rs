@@ -1,10 +1,9 @@
 //! What is wrong with a refused table: each fault of the refusal's number in
 //! the row that it names, and no other.
 
-use crate::mend::edit::Field;
 use crate::names;
-use crate::run::{dependency_count, past_rows, Run, LAST_VERSION};
 use crate::unfit::{unfit, Unfit};
+use mend::{dependency_count, past_rows, Field, Run, LAST_VERSION};
 use second::table::*;
 use second::{BLANK, INITIAL, MAX_AGENTS, MAX_DEPENDENCIES, MAX_LENGTH, MAX_ROWS};
 use std::fmt;

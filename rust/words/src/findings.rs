@@ -1,15 +1,12 @@
 //! What a check found, one finding after the other, for tools that list them:
 //! the proved answer first, then the other races, by the second implementation.
 
-use crate::account::Checked;
+use crate::describe::Describe;
 use crate::explain::{shown, Shown};
 use crate::headline::headline;
-use crate::judge::Judge;
-use crate::mend::goal::Goal;
-use crate::notes::Notes;
 use crate::refusal;
-use crate::run::Run;
-use second::{State, CYCLE_NUMBERS, WORK_WORDS};
+use crate::told::Checked;
+use mend::{Goal, Judge, Notes, Relations, Run};
 
 /// One thing that was found.
 #[derive(Clone, Debug, PartialEq, Eq)]
@@ -26,26 +23,20 @@ pub struct Finding {
 
 /// What a check of the table found; nothing of a race-free one.
 pub fn findings(table: &[u8], notes: &Notes, checker: &mut dyn Judge) -> Vec<Finding> {
-    let mut state = State::new();
-    let second = state.check_with(checker.chains(), table, WORK_WORDS, CYCLE_NUMBERS);
-    let run = Run::of(table).noted(notes);
-    let checked = Checked {
-        table,
-        state: &state,
-        run: &run,
-    };
+    let relations = Relations::of(checker.chains(), table, notes);
+    let checked = Checked::from(&relations);
     let given = checker.check(table);
     let (answer, shown) = (given.to_string(), shown(checked, given));
     let finding = |answer: String, shown: &Shown, is_proved| Finding {
         answer,
         message: message(table, shown),
-        rows: described(&run, shown),
+        rows: described(checked.run, shown),
         is_proved,
     };
     match shown {
         Shown::Nothing => Vec::new(),
         Shown::Race(goal) => {
-            let is_agreed = second.to_string() == answer;
+            let is_agreed = relations.answer.to_string() == answer;
             let mut found = vec![finding(answer, &shown, true)];
             let others = checked.races().into_iter().filter(|other| *other != goal);
             let others = others.filter(|_| is_agreed).map(|other| {

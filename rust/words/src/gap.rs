@@ -1,10 +1,10 @@
 //! Two moments of which the first doesn't happen before the second: where
 //! the chain between them is missing.
 
-use crate::account::Checked;
 use crate::derivation::{at, meeting, moment_words};
+use crate::describe::source_words;
 use crate::names;
-use crate::run::source_words;
+use crate::told::Checked;
 use second::table::Row;
 
 impl Checked<'_> {

@@ -1,11 +1,11 @@
 //! Runs that can't have happened, in sentences: cycles and overwritten reads,
 //! and what such a run may mean.
 
-use crate::account::Checked;
+use crate::describe::Describe;
 use crate::explain::Shown;
-use crate::judge::Judge;
-use crate::mend::edit::{edited, Edit, Field};
 use crate::names;
+use crate::told::Checked;
+use mend::{edited, Edit, Field, Judge};
 use second::table::{Row, COUNTED_RANKS};
 use second::INITIAL;
 use stramashly::CheckAnswer;

@@ -2,7 +2,7 @@
 //! references by their names, the numbers beside them in brackets, and rows
 //! with their labels and places.
 
-use crate::notes::Notes;
+use mend::Notes;
 use std::collections::BTreeSet;
 
 /// A sentence that names more rows than this is a list; its rows stay bare.
@@ -17,50 +17,43 @@ enum Noun {
     Reference,
 }
 
-impl Notes {
-    /// The sentence with what is noted of the agents, references and rows that
-    /// it names. An edit is none, and neither is what stands between backticks.
-    pub fn named(&self, sentence: &str) -> String {
-        let is_edit = sentence.trim_start().starts_with("edit: ");
-        if is_edit || *self == Notes::default() {
-            return sentence.to_string();
+/// The sentence with what is noted of the agents, references and rows that
+/// it names. An edit is none, and neither is what stands between backticks.
+pub fn named(notes: &Notes, sentence: &str) -> String {
+    let is_edit = sentence.trim_start().starts_with("edit: ");
+    if is_edit || *notes == Notes::default() {
+        return sentence.to_string();
+    }
+    let mut namer = Namer {
+        notes,
+        named: String::new(),
+        held: String::new(),
+        noun: Noun::None,
+        is_list: false,
+        is_new: false,
+        is_range: false,
+        told: (mentioned(sentence).len() <= MOST_ROWS).then(BTreeSet::new),
+    };
+    for (place, part) in sentence.split('`').enumerate() {
+        if place > 0 {
+            namer.flush();
+            namer.named.push('`');
         }
-        let mut namer = Namer {
-            notes: self,
-            named: String::new(),
-            held: String::new(),
-            noun: Noun::None,
-            is_list: false,
-            is_new: false,
-            is_range: false,
-            told: (mentioned(sentence).len() <= MOST_ROWS).then(BTreeSet::new),
-        };
-        for (place, part) in sentence.split('`').enumerate() {
-            if place > 0 {
-                namer.flush();
-                namer.named.push('`');
-            }
-            match place % 2 {
-                0 => namer.put(part),
-                _ => namer.named += part,
-            }
+        match place % 2 {
+            0 => namer.put(part),
+            _ => namer.named += part,
         }
-        namer.flush();
-        namer.named
     }
+    namer.flush();
+    namer.named
+}
 
-    /// `(w0, alloc.comp:41)`, of a row of which neither is noted nothing.
-    fn row_note(&self, row: usize) -> Option<String> {
-        let label = self.label(row).map(str::to_string);
-        let place = self.place(row).map(|place| place.to_string());
-        let parts: Vec<String> = label.into_iter().chain(place).collect();
-        (!parts.is_empty()).then(|| format!(" ({})", parts.join(", ")))
-    }
-
-    /// An agent's name.
-    pub fn agent(&self, agent: usize) -> Option<&str> {
-        self.agents.get(agent)?.as_deref()
-    }
+/// `(w0, alloc.comp:41)`, of a row of which neither is noted nothing.
+fn row_note(notes: &Notes, row: usize) -> Option<String> {
+    let label = notes.label(row).map(str::to_string);
+    let place = notes.place(row).map(|place| place.to_string());
+    let parts: Vec<String> = label.into_iter().chain(place).collect();
+    (!parts.is_empty()).then(|| format!(" ({})", parts.join(", ")))
 }
 
 /// A sentence on its way from word to word.
@@ -125,7 +118,7 @@ impl Namer<'_> {
         };
         if self.noun == Noun::Row && !self.is_new && !self.is_range {
             let is_first = self.told.as_mut().is_some_and(|told| told.insert(number));
-            let note = notes.row_note(number).filter(|_| is_first);
+            let note = row_note(notes, number).filter(|_| is_first);
             self.named += &note.unwrap_or_default();
         }
         self.named += rest;
@@ -191,7 +184,7 @@ pub fn mentioned(line: &str) -> Vec<usize> {
 #[cfg(test)]
 mod tests {
     use super::*;
-    use crate::notes::{Place, RowNote};
+    use mend::{Place, RowNote};
 
     fn notes() -> Notes {
         let row = |label: &str, line| RowNote {
@@ -238,8 +231,8 @@ mod tests {
                 "the queue is full, all 3 agents of it wait",
             ),
         ] {
-            assert_eq!(notes().named(bare), named);
-            assert_eq!(Notes::default().named(bare), bare);
+            assert_eq!(super::named(&notes(), bare), named);
+            assert_eq!(super::named(&Notes::default(), bare), bare);
         }
     }
 

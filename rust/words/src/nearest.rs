@@ -2,11 +2,11 @@
 //! Every statement is read off the table's relations; a rule lacks nothing
 //! exactly when it holds.
 
-use crate::account::Checked;
 use crate::derivation::at;
-use crate::mend::reduction::{is_step, reached};
 use crate::names;
-use second::table::{Row, HOST};
+use crate::told::Checked;
+use mend::{is_step, reached};
+use second::table::Row;
 
 /// A rule that might have ordered a row before another.
 #[derive(Clone, Debug, PartialEq, Eq)]
@@ -62,12 +62,6 @@ impl Checked<'_> {
                 x.writes() && (self.has_host(before, after) || has_operations())
             }
         }
-    }
-
-    /// Whether one of two rows is a host's.
-    pub fn has_host(&self, first: usize, second: usize) -> bool {
-        let is_host = |row: usize| self.run.sort(self.run.rows[row].agent) == HOST;
-        is_host(first) || is_host(second)
     }
 
     fn near(&self, rule: u8, before: usize, after: usize, byte: u32) -> Near {

@@ -1,17 +1,13 @@
 //! A race in sentences: the rows, the rule that comes nearest and what it
 //! lacks, and the changes that would end it.
 
-use crate::account::Checked;
-use crate::mend::change::{Change, Reason};
-use crate::mend::cure::{Cure, Order, Outcome};
-use crate::mend::edit::Field;
-use crate::mend::goal::Goal;
-use crate::mend::search::Search;
-use crate::mend::steps::steps_text;
-use crate::names::counted;
+use crate::describe::Describe;
+use crate::names::{class, counted};
 use crate::nearest::Near;
 use crate::reason::rows_words;
 use crate::shader::{glsl, needs, spirv};
+use crate::told::Checked;
+use mend::{steps_text, Change, Cure, Field, Goal, Order, Outcome, Reason, Search};
 use second::table::{Row, QUEUE};
 use second::MAX_ROWS;
 
@@ -117,8 +113,8 @@ fn other_memory(checked: Checked, goal: Goal) -> Option<String> {
             "Rows {} and {} reach the same memory as {} and as {}, which are never one variable, and L3 asks for one reference. Let them be of two dispatches with a pipeline barrier between these: in version 3 an availability to device and a visibility from device of a queue, with dependencies.",
             goal.first,
             goal.second,
-            crate::names::class(first.class),
-            crate::names::class(second.class)
+            class(first.class),
+            class(second.class)
         )
     })
 }

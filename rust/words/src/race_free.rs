@@ -1,9 +1,10 @@
 //! A race-free table: how many pairs conflict, by which rules they are ordered,
 //! and why each is.
 
-use crate::account::{Checked, Ordered};
-use crate::mend::steps::ranges;
+use crate::account::Ordered;
 use crate::names;
+use crate::told::Checked;
+use mend::ranges;
 use std::collections::{BTreeMap, HashMap};
 
 /// Bytes of a pair that are ordered alike.

@@ -1,12 +1,9 @@
 //! Why a change might be what is missing, said of the table as it is.
 
-use crate::account::Checked;
-use crate::mend::change::{Change, Reason};
-use crate::mend::dependency::Dependency;
-use crate::mend::goal::Goal;
-use crate::mend::steps::ranges;
+use crate::describe::source_words;
 use crate::names;
-use crate::run::source_words;
+use crate::told::Checked;
+use mend::{ranges, Change, Dependency, Goal, Reason};
 use second::table::{Row, ACQUIRE, BOTH, MAKE_AVAILABLE, MAKE_VISIBLE, RELEASE, SUBGROUP};
 
 /// So many rows of an instruction are named, or ranges of them.

@@ -3,9 +3,8 @@
 
 use crate::blank;
 use crate::fault::{faults, length_words, Fault};
-use crate::judge::Judge;
-use crate::run::Run;
 use crate::show::{cells, columns, header};
+use mend::{Judge, Run};
 use stramashly::FillAnswer;
 
 /// Why not even a fill takes a table, if that is so.

@@ -1,8 +1,8 @@
 //! `show`: a table as text, a line for each agent and each row.
 
+use crate::describe::Describe;
 use crate::names;
-use crate::notes::Notes;
-use crate::run::{dependency_count, Run};
+use mend::{dependency_count, Notes, Run};
 use second::table::{SHADER, WITH_HOSTS};
 
 /// The names of a row's columns; the last two are there where a text has

@@ -1,7 +1,7 @@
 //! Kind fit, condition by condition: the fields that don't fit a row's kind.
 
-use crate::mend::edit::{Field, FIELDS};
 use crate::names;
+use mend::{Field, FIELDS};
 use second::table::*;
 use second::INITIAL;
 

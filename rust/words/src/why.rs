@@ -1,12 +1,10 @@
 //! `derive --words`: why one moment happens before another, or what is missing.
 
-use crate::account::Checked;
 use crate::derivation::derivation_lines;
-use crate::judge::Judge;
-use crate::mend::edit::{edited, Edit, Field};
 use crate::refusal;
-use crate::run::Run;
-use second::{State, BLANK, CYCLE_NUMBERS, INITIAL, WORK_WORDS};
+use crate::told::Checked;
+use mend::{edited, Edit, Field, Judge, Notes, Relations, Run};
+use second::{Chains, BLANK, INITIAL};
 use stramashly::DeriveAnswer;
 
 /// The answer of `derive`, then its steps in words, or where a chain is
@@ -37,12 +35,7 @@ fn missing(table: &[u8], from: usize, to: usize) -> Option<String> {
     let edits = blanks.map(|row| Edit::new(row, Field::Source, INITIAL));
     // What happens before what doesn't depend on plain sources.
     let table = edited(table, &edits.collect::<Vec<_>>());
-    let mut state = State::new();
-    state.check(&table, WORK_WORDS, CYCLE_NUMBERS);
-    let checked = Checked {
-        table: &table,
-        state: &state,
-        run: &run,
-    };
+    let relations = Relations::of(Chains::Off, &table, &Notes::default());
+    let checked = Checked::from(&relations);
     checked.not_before(from / 3, to / 3, from, &[to])
 }

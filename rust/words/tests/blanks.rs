@@ -4,10 +4,11 @@
 mod common;
 
 use common::example;
+use mend::{edited, Edit, Field, Run};
 use std::collections::BTreeMap;
 use stramashly::{CheckAnswer, Checker, FillAnswer};
 use tables::{fillable, Random, Row, Size, Table, BLANK, INITIAL};
-use words::{edited, explain, Edit, Field, Run};
+use words::explain;
 
 fn text(table: &[u8]) -> String {
     explain(table, &mut Checker::new()).text()

@@ -3,9 +3,11 @@
 mod common;
 
 use common::{example, with_chains, Second};
+use draw::draw;
+use mend::{stepped, Goal, Judge, Notes};
 use second::Chains;
 use tables::{chained, Random, Size};
-use words::{draw, explain, explain_noted, stepped, Goal, Judge, Notes, Shown};
+use words::{explain, explain_noted, Shown};
 
 /// With the switch a chain's elements are named; without it the pair races.
 #[test]

@@ -4,11 +4,13 @@
 mod common;
 
 use common::{elements, example, generated, with_relations};
+use draw::draw;
+use mend::{Notes, Run};
 use std::collections::BTreeMap;
 use stramashly::Checker;
 use tables::builder::{order, scope};
 use tables::{Random, Row, Table};
-use words::{draw, explain, explain_noted, show, Checked, Notes, Run};
+use words::{explain, explain_noted, show, Checked};
 
 /// A control barrier of instance 9 for Uniform, in workgroup scope.
 fn control(agent: u8) -> Row {

@@ -4,11 +4,13 @@
 mod common;
 
 use common::{generated, with_relations};
+use mend::{edited, parse_steps, stepped, Order, Outcome};
+use mend::{Cure, Edit, Goal, Reason, Run, Step};
 use std::collections::BTreeSet;
 use stramashly::Checker;
 use tables::{Row, Table, INITIAL};
-use words::{edited, explain, parse_steps, stepped, Order, Outcome};
-use words::{Cure, Edit, Explanation, Goal, Reason, Run, Shown, Step};
+use words::explain;
+use words::{Explanation, Shown};
 
 /// The race of a racing table.
 fn race(explanation: &Explanation) -> Option<Goal> {

@@ -3,12 +3,12 @@
 mod common;
 
 use common::{elements, with_relations, Second};
+use draw::draw;
+use mend::{stepped, Cure, Judge, Notes, Step};
 use tables::builder::kind::*;
 use tables::builder::sort::{HOST, QUEUE, SHADER};
 use tables::{hosted, Random, Row, Size, Table, INITIAL};
-use words::{
-    draw, explain, explain_noted, show, stepped, Cure, Explanation, Judge, Notes, Shown, Step,
-};
+use words::{explain, explain_noted, show, Explanation, Shown};
 
 /// Each row depends on the one before it; agent 0 is a host, 1 a queue, 2 a
 /// shader.
@@ -234,7 +234,7 @@ fn cures_with_hosts_are_cures() {
             let moved = cure
                 .insertions
                 .iter()
-                .fold(goal, |goal, insertion| words::Goal {
+                .fold(goal, |goal, insertion| mend::Goal {
                     first: insertion.moved(goal.first),
                     second: insertion.moved(goal.second),
                     ..goal

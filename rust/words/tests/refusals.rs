@@ -4,12 +4,13 @@
 mod common;
 
 use common::{example, generated, Second};
+use mend::{edited, Edit, Field, Judge, Run};
 use std::collections::BTreeSet;
 use stramashly::{CheckAnswer, Checker, MAX_TABLE_BYTES};
 use tables::builder::{kind, order, scope};
 use tables::{damaged, damaged_hosted, hosted};
 use tables::{Random, Row, Size, Table, BLANK, INITIAL};
-use words::{edited, explain, faults, refusal, unfit, Edit, Fault, Field, Judge, Run};
+use words::{explain, faults, refusal, unfit, Fault};
 
 /// The refusal's number and row, if a check refuses the table.
 fn refused(table: &[u8], checker: &mut dyn Judge) -> Option<(u16, usize)> {

@@ -5,11 +5,14 @@ mod common;
 mod scenarios;
 
 use common::{elements, with_relations};
+use draw::page;
+use mend::stepped;
+use mend::{Cure, Notes, Place, RowNote};
 use scenarios::Scenario;
 use stramashly::{CheckAnswer, Checker};
 use tables::{checkable, hosted, Random, Row, Size, Table};
-use words::{explain_noted, page, show_noted, stepped};
-use words::{Cure, Explanation, Notes, Place, RowNote};
+use words::Explanation;
+use words::{explain_noted, show_noted};
 
 /// So many first remedies mend a run that has one bug.
 const ROUNDS: usize = 3;

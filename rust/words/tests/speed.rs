@@ -4,10 +4,11 @@ mod common;
 mod scenarios;
 
 use common::generated;
+use mend::Notes;
 use std::fs;
 use std::time::Duration;
 use stramashly::Checker;
-use words::{explain_noted, Notes};
+use words::explain_noted;
 
 /// What any one may take, and what 19 of 20 take at most. Tests are built with
 /// less optimization than the program.

@@ -4,10 +4,12 @@
 mod common;
 
 use common::{elements, example, generated, with_relations};
+use draw::{draw, page};
+use mend::{edited, Notes, Run};
 use std::collections::BTreeMap;
 use stramashly::Checker;
 use tables::{damaged, fillable, Random, Row, Size, Table};
-use words::{draw, edited, explain, explain_noted, page, refusal, show, Checked, Notes, Run};
+use words::{explain, explain_noted, refusal, show, Checked};
 
 /// Compares the first line with the check's answer, and gives its first word.
 fn check_first_line(table: &[u8], checker: &mut Checker) -> String {

@@ -2,11 +2,12 @@
 
 #![allow(dead_code)]
 
+use mend::{Judge, Notes, Relations};
 use second::{Chains, State, CYCLE_NUMBERS, SOURCE_NUMBERS, WORK_WORDS};
 use std::collections::BTreeSet;
 use stramashly::{CheckAnswer, DeriveAnswer, FillAnswer};
 use tables::{checkable, Random, Size};
-use words::{Checked, Judge, Run};
+use words::Checked;
 
 /// Generated tables of so many rows, as bytes.
 pub fn generated(seed: u64, count: usize, least: usize, most: usize) -> Vec<Vec<u8>> {
@@ -32,14 +33,8 @@ pub fn with_relations<T>(table: &[u8], ask: impl FnOnce(Checked) -> T) -> T {
 
 /// The relations with chains off or on.
 pub fn with_chains<T>(chains: Chains, table: &[u8], ask: impl FnOnce(Checked) -> T) -> T {
-    let mut state = State::new();
-    state.check_with(chains, table, WORK_WORDS, CYCLE_NUMBERS);
-    let run = Run::of(table);
-    ask(Checked {
-        table,
-        state: &state,
-        run: &run,
-    })
+    let relations = Relations::of(chains, table, &Notes::default());
+    ask(Checked::from(&relations))
 }
 
 /// The second implementation in the library's place, for versions that the

@@ -8,8 +8,8 @@ mod device;
 mod uploads;
 mod workgroup;
 
+use mend::{Notes, Place, RowNote};
 use tables::{Row, Table};
-use words::{Notes, Place, RowNote};
 
 /// A racing table with one bug, and what is noted of it.
 pub struct Scenario {

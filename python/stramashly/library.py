@@ -25,25 +25,6 @@ ACCEPTED, NOT_ACCEPTED, WRITTEN, OPENED, ROW, END, ROW_PLACE, NO_ROW, NO_PAIRS, 
 #: The library's file: its name holds the numbers that callers depend on.
 SONAME = "libstramashly.so.0.3"
 
-_SIZE = ctypes.c_size_t
-_TABLE = (ctypes.c_char_p, _SIZE)
-_WORDS = (ctypes.POINTER(ctypes.c_uint64), _SIZE)
-_NUMBERS = (ctypes.POINTER(ctypes.c_uint16), _SIZE)
-_BYTES = (ctypes.POINTER(ctypes.c_uint8), _SIZE)
-_CHAINS = ctypes.c_uint8
-_MOMENTS = (ctypes.c_uint16, ctypes.c_uint16)
-
-_TYPES = {
-    "check": (*_TABLE, _CHAINS, *_WORDS, *_NUMBERS),
-    "fill": (*_TABLE, _CHAINS, *_WORDS, *_NUMBERS),
-    "report": (*_TABLE, _CHAINS, *_WORDS, *_NUMBERS, ctypes.POINTER(ctypes.c_double)),
-    "derive": (*_TABLE, *_MOMENTS, *_WORDS, *_NUMBERS),
-    "accepts": (*_TABLE, *_MOMENTS, ctypes.c_uint8, *_NUMBERS),
-    "write": (ctypes.c_uint8, *_NUMBERS, *_TABLE, *_NUMBERS, *_BYTES),
-    "read": (*_TABLE, *_NUMBERS, *_BYTES, *_NUMBERS),
-    "row2": (*_TABLE, *_TABLE, ctypes.c_uint16),
-}
-
 
 def _candidates() -> Iterator[str]:
     """Where the library may be, if nobody says it."""
@@ -68,12 +49,32 @@ def load(path: Optional[Union[str, os.PathLike]] = None) -> ctypes.CDLL:
                 raise
     if library is None:
         raise OSError(f"{SONAME} isn't installed; set STRAMASHLY_LIBRARY to its path")
-    for name, types in _TYPES.items():
-        function = getattr(library, f"stramashly_{name}")
-        function.argtypes = types
-        function.restype = ctypes.c_uint64
-        if name in ("check", "fill", "report", "derive", "accepts"):
-            function = getattr(library, f"stramashly_{name}2")
-            function.argtypes = (*_TABLE, *types)
-            function.restype = ctypes.c_uint64
+    _declare(library)
     return library
+
+
+def _declare(library: ctypes.CDLL) -> None:
+    """The types of the functions, as the header has them. A piece of a table is bytes and their count."""
+    piece = ctypes.c_char_p
+    size = ctypes.c_size_t
+    byte = ctypes.c_uint8
+    number = ctypes.c_uint16
+    words = ctypes.POINTER(ctypes.c_uint64)
+    numbers = ctypes.POINTER(ctypes.c_uint16)
+    out = ctypes.POINTER(ctypes.c_uint8)
+    share = ctypes.POINTER(ctypes.c_double)
+    for function in (library.stramashly_check, library.stramashly_fill):
+        function.argtypes = [piece, size, byte, words, size, numbers, size]
+    for function in (library.stramashly_check2, library.stramashly_fill2):
+        function.argtypes = [piece, size, piece, size, byte, words, size, numbers, size]
+    library.stramashly_report.argtypes = [piece, size, byte, words, size, numbers, size, share]
+    library.stramashly_report2.argtypes = [piece, size, piece, size, byte, words, size, numbers, size, share]
+    library.stramashly_derive.argtypes = [piece, size, number, number, words, size, numbers, size]
+    library.stramashly_derive2.argtypes = [piece, size, piece, size, number, number, words, size, numbers, size]
+    library.stramashly_accepts.argtypes = [piece, size, number, number, byte, numbers, size]
+    library.stramashly_accepts2.argtypes = [piece, size, piece, size, number, number, byte, numbers, size]
+    library.stramashly_write.argtypes = [byte, numbers, size, piece, size, numbers, size, out, size]
+    library.stramashly_read.argtypes = [piece, size, numbers, size, out, size, numbers, size]
+    library.stramashly_row2.argtypes = [piece, size, piece, size, number]
+    for name in "check check2 fill fill2 report report2 derive derive2 accepts accepts2 write read row2".split():
+        getattr(library, "stramashly_" + name).restype = ctypes.c_uint64

@@ -90,8 +90,10 @@ mod checker;
 mod derivation;
 mod engine;
 mod owned;
+mod refusal;
 mod report;
 mod rows;
+mod values;
 mod writer;
 
 pub use answer::{CheckAnswer, Code, FillAnswer, Packed};
@@ -105,9 +107,14 @@ pub use engine::{
 pub use owned::{
     OwnedCheckAnswer, OwnedDerivation, OwnedDeriveAnswer, OwnedFillAnswer, OwnedReportAnswer,
 };
+pub use refusal::REFUSALS;
 pub use report::{Report, ReportAnswer, Share};
 pub use rows::Rows;
+pub use values::{AgentKind, Class, Classes, Flags, Kind, Order, Scope, UnknownCode};
 pub use writer::{Refusal, Row, TableWriter};
+
+/// The version of this crate, and of the library and header that it is released with.
+pub const VERSION: &str = env!("CARGO_PKG_VERSION");
 
 /// Source number for the initial value.
 pub const INITIAL: u16 = 65535;

@@ -9,19 +9,23 @@ use std::fmt;
 /// A row as values: the fields of a table's row, in its order.
 #[derive(Clone, Copy, Debug, Default, PartialEq, Eq)]
 pub struct Row {
-    /// What the agent did: 0 a plain read, and so on.
+    /// What the agent did: 0 a plain read, and so on; a [`Kind`](crate::Kind).
     pub kind: u8,
     /// The agent's number.
     pub agent: u8,
-    /// 0 relaxed, 1 acquire, 2 release, 3 both.
+    /// 0 relaxed, 1 acquire, 2 release, 3 both; an [`Order`](crate::Order).
     pub order: u8,
-    /// 0 invocation, 1 subgroup, 2 workgroup, 3 queue family, 4 device.
+    /// 0 invocation, 1 subgroup, 2 workgroup, 3 queue family, 4 device; a
+    /// [`Scope`](crate::Scope).
     pub scope: u8,
-    /// Semantics classes: the sum of 1 Uniform, 2 Workgroup, 4 Image, 8 Output.
+    /// Semantics classes: the sum of 1 Uniform, 2 Workgroup, 4 Image, 8 Output;
+    /// [`Classes`](crate::Classes).
     pub classes: u8,
-    /// The sum of 1 non-private, 2 make available, 4 make visible.
+    /// The sum of 1 non-private, 2 make available, 4 make visible;
+    /// [`Flags`](crate::Flags).
     pub flags: u8,
-    /// The class accessed, 0 to 3; a control barrier's execution scope.
+    /// The [`Class`](crate::Class) accessed, 0 to 3; a control barrier's
+    /// execution scope.
     pub class: u8,
     /// How many bytes are accessed.
     pub length: u8,
@@ -102,9 +106,9 @@ impl Error for Refusal {}
 /// a fill admits, or none.
 ///
 /// ```
-/// use stramashly::{CheckAnswer, Checker, Row, TableWriter, INITIAL};
+/// use stramashly::{CheckAnswer, Checker, Kind, Row, TableWriter, INITIAL};
 ///
-/// let write = Row { kind: 1, length: 4, source: INITIAL, ..Row::default() };
+/// let write = Row { kind: Kind::PlainWrite.into(), length: 4, source: INITIAL, ..Row::default() };
 /// let read = Row { length: 4, ..Row::default() };
 /// let mut writer = TableWriter::new(1);
 /// let table = writer.place([0, 0, 0, 0]).row(write).row(read).write().unwrap();
@@ -114,7 +118,10 @@ impl Error for Refusal {}
 /// assert_eq!(TableWriter::read(&table).as_ref(), Ok(&writer));
 ///
 /// writer.row(Row { kind: 9, ..write });
-/// assert_eq!(writer.write().unwrap_err().to_string(), "refused 5 2");
+/// let refusal = writer.write().unwrap_err();
+/// assert_eq!(refusal.to_string(), "refused 5 2");
+/// assert_eq!(refusal.name(), Some("CODE"));
+/// assert_eq!(refusal.sentence(), Some("a code of the row is out of range"));
 /// ```
 #[derive(Clone, Debug, PartialEq, Eq)]
 pub struct TableWriter {

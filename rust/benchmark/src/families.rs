@@ -2,7 +2,7 @@
 
 use tables::builder::classes::{IMAGE, OUTPUT, UNIFORM, WORKGROUP};
 use tables::builder::{kind, order, scope, sort};
-use tables::{Row, Table, INITIAL, MAX_AGENTS, MAX_ROWS};
+use tables::{Build, Row, Table, INITIAL, MAX_AGENTS, MAX_ROWS};
 
 const ALL_CLASSES: u8 = UNIFORM + WORKGROUP + IMAGE + OUTPUT;
 /// Rows of each agent, where all have as many.
@@ -57,7 +57,7 @@ fn class_sets() -> Table {
         match i % EACH {
             0 | 2 => Row::barrier(agent, order::BOTH, class_set(group)),
             1 => Row::rmw(agent, earlier(i, EACH), group as u16 + 1),
-            _ => Row::write(agent).bytes(64, 4).reference(2),
+            _ => Row::write(agent).at(64, 4).reference(2),
         }
     };
     shared((0..MAX_ROWS).map(row).collect())
@@ -115,7 +115,7 @@ fn three_places() -> Vec<Row> {
             1 => Row::rmw(agent, earlier(i, 3), rank).order(order::BOTH, ALL_CLASSES),
             _ => Row::atomic_read(agent, earlier(i, 3)).acquire(ALL_CLASSES),
         };
-        row.bytes((i % 3 * 4) as u16, 4)
+        row.at((i % 3 * 4) as u16, 4)
     };
     (0..MAX_ROWS).map(row).collect()
 }
@@ -132,7 +132,7 @@ fn own_moments() -> Vec<Row> {
             0 => Row::write(agent_of(i)).make_available(),
             _ => Row::read(agent_of(i), earlier(i, 1)).make_visible(),
         };
-        row.scope(scope::DEVICE).bytes(1, 15)
+        row.scope(scope::DEVICE).at(1, 15)
     };
     (0..MAX_ROWS).map(row).collect()
 }
@@ -143,10 +143,10 @@ fn circles() -> Vec<Row> {
         let (first, agent) = (i / 4 * 4, (i / 2 % MAX_AGENTS) as u8);
         let (read, written) = ((first * 2) as u16, (first * 2 + 4) as u16);
         match i % 4 {
-            0 => Row::atomic_read(agent, first as u16 + 3).bytes(read, 4),
-            1 => Row::atomic_write(agent, 1).bytes(written, 4),
-            2 => Row::atomic_read(agent, first as u16 + 1).bytes(written, 4),
-            _ => Row::atomic_write(agent, 1).bytes(read, 4),
+            0 => Row::atomic_read(agent, first as u16 + 3).at(read, 4),
+            1 => Row::atomic_write(agent, 1).at(written, 4),
+            2 => Row::atomic_read(agent, first as u16 + 1).at(written, 4),
+            _ => Row::atomic_write(agent, 1).at(read, 4),
         }
     };
     let ordered = |row: Row| match row.kind {
@@ -170,10 +170,10 @@ fn uploads() -> Table {
     let row = |i: usize| {
         let bytes = (i / EACH * 4) as u16;
         match i % EACH {
-            0 => Row::write(0).bytes(bytes, 4),
+            0 => Row::write(0).at(bytes, 4),
             1 => Row::queue(1, kind::HOST_TO_DEVICE),
             2 => Row::queue(1, kind::VISIBLE_FROM_DEVICE),
-            _ => Row::read(2, earlier(i, 3)).bytes(bytes, 4),
+            _ => Row::read(2, earlier(i, 3)).at(bytes, 4),
         }
     };
     let rows: Vec<Row> = (0..MAX_ROWS).map(row).collect();

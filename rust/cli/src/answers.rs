@@ -1,11 +1,12 @@
 //! What goes with each answer: its exit status, and its members in JSON, whose
 //! keys are the words of `--help`.
 
-use crate::hex::digits;
-use crate::json::Object;
 use crate::Status;
+use format::{digits, Object};
 use std::fmt::{self, Display};
-use stramashly::{AcceptsAnswer, CheckAnswer, Derivation, DeriveAnswer, FillAnswer, ReportAnswer};
+use stramashly::{
+    AcceptsAnswer, CheckAnswer, Derivation, DeriveAnswer, FillAnswer, ReportAnswer, Share,
+};
 use words::is_of_a_row;
 
 /// The verdict of an answer that the library has and this program doesn't know:
@@ -79,14 +80,14 @@ impl Answer for CheckAnswer<'_> {
                 byte,
             } => {
                 put_verdict(object, "overwritten");
-                object.number("reader", reader);
-                object.number("writer", writer);
-                object.number("byte", byte);
+                object.put("reader", reader);
+                object.put("writer", writer);
+                object.put("byte", byte);
             }
             CheckAnswer::Cycle { rows, edges } => {
                 put_verdict(object, "cycle");
-                object.numbers("rows", rows);
-                object.numbers("edges", edges);
+                object.list("rows", rows);
+                object.list("edges", edges);
             }
             CheckAnswer::Refused { number, row } => put_refusal(object, number, row),
             _ => put_verdict(object, UNKNOWN),
@@ -120,7 +121,7 @@ impl Answer for FillAnswer<'_> {
         match *self {
             FillAnswer::Filled(sources) => {
                 put_verdict(object, "filled");
-                object.numbers("sources", sources);
+                object.list("sources", sources);
             }
             FillAnswer::None => put_verdict(object, "none"),
             FillAnswer::Race {
@@ -160,8 +161,8 @@ impl Answer for DeriveAnswer<'_> {
             }
             DeriveAnswer::Derivation(Derivation::Chain { classes, steps }) => {
                 put_verdict(object, "chain");
-                object.number("classes", classes.into());
-                object.numbers("steps", steps);
+                object.put("classes", classes);
+                object.list("steps", steps);
             }
             DeriveAnswer::NotBefore => put_verdict(object, "not-before"),
             DeriveAnswer::Refused { number, row } => put_refusal(object, number, row),
@@ -204,11 +205,15 @@ impl Answer for ReportAnswer<'_> {
         match self {
             ReportAnswer::Report(report) => {
                 put_verdict(object, "report");
-                object.number("conflicting", report.conflicting);
-                object.number("mutual", report.mutual);
-                object.number("ordered", report.ordered);
-                object.number("racing", report.racing);
-                object.share("share", report.share);
+                object.put("conflicting", report.conflicting);
+                object.put("mutual", report.mutual);
+                object.put("ordered", report.ordered);
+                object.put("racing", report.racing);
+                // In the digits that the plain line has.
+                match report.share {
+                    Share::Of(_) => object.put("share", report.share),
+                    Share::NoPairs => object.put("share", "null"),
+                }
             }
             ReportAnswer::Check(answer) => answer.put(object),
             _ => put_verdict(object, UNKNOWN),
@@ -238,13 +243,41 @@ pub fn put_verdict(object: &mut Object, word: &str) {
 
 fn put_race(object: &mut Object, first: u16, second: u16, byte: u16) {
     put_verdict(object, "race");
-    object.number("first", first);
-    object.number("second", second);
-    object.number("byte", byte);
+    object.put("first", first);
+    object.put("second", second);
+    object.put("byte", byte);
 }
 
 pub fn put_refusal(object: &mut Object, number: u16, row: u16) {
     put_verdict(object, "refused");
-    object.number("number", number);
-    object.number("row", row);
+    object.put("number", number);
+    object.put("row", row);
+}
+
+#[cfg(test)]
+mod tests {
+    use super::*;
+    use stramashly::Report;
+
+    #[test]
+    fn shares_are_numbers_or_null() {
+        for (share, expected) in [
+            (Share::Of(0.0), "0.0"),
+            (Share::Of(1.0), "1.0"),
+            (Share::Of(1.0 / 3.0), "0.3333333333333333"),
+            (Share::NoPairs, "null"),
+        ] {
+            let mut object = Object::default();
+            let report = Report {
+                conflicting: 3,
+                mutual: 0,
+                ordered: 2,
+                racing: 1,
+                share,
+            };
+            ReportAnswer::Report(report).put(&mut object);
+            let member = format!(",\"share\":{expected}}}");
+            assert!(object.to_string().ends_with(&member), "{object}");
+        }
+    }
 }

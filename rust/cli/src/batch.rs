@@ -3,15 +3,18 @@
 use crate::checker::checker;
 use crate::input;
 use crate::judge::{append_trouble, judge, Form};
-use crate::line::{Asked, Line};
+use crate::line::{asked, Asked};
 use crate::output::{complain, Output};
 use crate::parallel::{in_order, Giver, Taker};
 use crate::Status;
-use std::io::{self, BufRead, BufReader, ErrorKind, IsTerminal, StdinLock, Write};
+use std::io::{self, BufRead, BufReader, IsTerminal, Read, StdinLock, Write};
 use std::sync::atomic::{AtomicBool, Ordering};
 use std::time::{Duration, Instant};
 use stramashly::Checker;
 
+/// A longer line than this is an error. One with the longest table that could
+/// have a header of its own has about half as many bytes.
+const LINE_BYTES: usize = 1 << 20;
 /// So many lines go to a thread at once.
 const PIECE: usize = 64;
 
@@ -43,16 +46,15 @@ fn one_by_one(form: Form, has_chains: bool) -> Status {
     let mut highest = Status::Fine;
     loop {
         // Whoever waits for an answer before the next line gets it.
-        match lines.next(|| writer.pause()) {
-            Ok(true) => (),
-            Ok(false) => break,
+        let asked = match lines.next(|| writer.pause()) {
+            Ok(Some(asked)) => asked,
+            Ok(None) => break,
             Err(status) => {
                 highest = status;
                 break;
             }
-        }
-        let mut text = String::new();
-        let status = answer(&mut checker, form, lines.line.request(), &mut text);
+        };
+        let (text, status) = answer(&mut checker, form, asked);
         highest = highest.max(status);
         if !writer.take(vec![(text, status)]) {
             break;
@@ -66,42 +68,29 @@ fn spread(form: Form, has_chains: bool, jobs: usize) -> Status {
     let (read, written) = in_order(
         (jobs, || checker(has_chains)),
         read_pieces,
-        |checker, asked: Owned| {
-            let mut text = String::new();
-            let asked = match &asked {
-                Ok(asked) => Ok(Asked {
-                    question: asked.question.clone(),
-                    table: &asked.table[..],
-                    second: asked.second.as_deref(),
-                }),
-                Err(reason) => Err(reason.clone()),
-            };
-            let status = answer(checker, form, asked, &mut text);
-            (text, status)
-        },
+        |checker, asked| answer(checker, form, asked),
         Writer::new,
         Writer::finish,
     );
     read.max(written)
 }
 
-type Owned = Result<Asked<Vec<u8>>, String>;
+/// What a line asks, or what is wrong with it.
+type Line = Result<Asked, String>;
 
 /// Gives lines in pieces, and what there is before waiting for more.
-fn read_pieces(giver: &mut Giver<Owned>, is_enough: &AtomicBool) -> Status {
+fn read_pieces(giver: &mut Giver<Line>, is_enough: &AtomicBool) -> Status {
     let mut lines = Lines::new();
     let mut piece = Vec::with_capacity(PIECE);
     while !is_enough.load(Ordering::Relaxed) {
         match lines.next(|| giver.give(std::mem::take(&mut piece))) {
-            Ok(true) => (),
-            Ok(false) => break,
+            Ok(Some(line)) => piece.push(line),
+            Ok(None) => break,
             Err(status) => {
                 giver.give(piece);
                 return status;
             }
         }
-        let asked = lines.line.request();
-        piece.push(asked.map(|asked| asked.to_owned()));
         if piece.len() == PIECE {
             giver.give(std::mem::take(&mut piece));
         }
@@ -111,21 +100,22 @@ fn read_pieces(giver: &mut Giver<Owned>, is_enough: &AtomicBool) -> Status {
 }
 
 /// Only a bad line counts for the status, whatever the others' answers.
-fn answer(
-    checker: &mut Checker,
-    form: Form,
-    asked: Result<Asked<&[u8]>, String>,
-    text: &mut String,
-) -> Status {
-    match asked {
-        Ok(asked) => {
-            let table = (asked.table, asked.second);
-            judge(checker, &asked.question, table, form, text);
-            Status::Fine
+fn answer(checker: &mut Checker, form: Form, line: Line) -> (String, Status) {
+    let mut text = String::new();
+    match line {
+        Ok(Asked { question, pieces }) => {
+            judge(
+                checker,
+                &question,
+                [&pieces[0], &pieces[1]],
+                form,
+                &mut text,
+            );
+            (text, Status::Fine)
         }
         Err(reason) => {
-            append_trouble(text, form, &reason);
-            Status::Trouble
+            append_trouble(&mut text, form, &reason);
+            (text, Status::Trouble)
         }
     }
 }
@@ -133,54 +123,53 @@ fn answer(
 /// Standard input line by line.
 struct Lines {
     input: BufReader<StdinLock<'static>>,
-    line: Line,
-    is_over: bool,
+    line: Vec<u8>,
+    number: u64,
 }
 
 impl Lines {
     fn new() -> Lines {
         Lines {
             input: BufReader::with_capacity(1 << 16, io::stdin().lock()),
-            line: Line::default(),
-            is_over: false,
+            line: Vec::new(),
+            number: 0,
         }
     }
 
-    /// Reads the next line that asks something; false at the end. Before it
-    /// may have to wait, it says so.
-    fn next(&mut self, mut before_wait: impl FnMut()) -> Result<bool, Status> {
-        self.line.clear();
-        while !self.is_over {
-            if self.input.buffer().is_empty() {
+    /// The next line that asks something; none at the end. Before it may have to
+    /// wait, it says so.
+    fn next(&mut self, mut before_wait: impl FnMut()) -> Result<Option<Line>, Status> {
+        loop {
+            if !self.input.buffer().contains(&b'\n') {
                 before_wait();
             }
-            let is_whole = match self.input.fill_buf() {
-                // The last line needs no end.
-                Ok([]) => {
-                    self.is_over = true;
-                    true
-                }
-                Ok(piece) => {
-                    let end = piece.iter().position(|letter| *letter == b'\n');
-                    let length = end.unwrap_or(piece.len());
-                    self.line.push(&piece[..length]);
-                    self.input.consume(length + usize::from(end.is_some()));
-                    end.is_some()
-                }
-                Err(error) if error.kind() == ErrorKind::Interrupted => false,
-                Err(error) => {
-                    complain(&format!("can't read standard input: {error}"));
-                    return Err(Status::Trouble);
-                }
-            };
-            if is_whole && !self.line.is_idle() {
-                return Ok(true);
+            let is_long = self.read().map_err(|error| {
+                complain(&format!("can't read standard input: {error}"));
+                Status::Trouble
+            })?;
+            let is_comment = self.line.trim_ascii_start().starts_with(b"#");
+            if is_long && !is_comment {
+                let reason = format!("line {} has more than {LINE_BYTES} bytes", self.number);
+                return Ok(Some(Err(reason)));
             }
-            if is_whole {
-                self.line.clear();
+            let line = asked(&self.line);
+            if line.is_some() || self.line.is_empty() {
+                return Ok(line);
             }
         }
-        Ok(false)
+    }
+
+    /// Reads a line, and tells whether it is too long: then only its front is kept.
+    fn read(&mut self) -> io::Result<bool> {
+        self.number += 1;
+        self.line.clear();
+        let mut front = self.input.by_ref().take(LINE_BYTES as u64 + 1);
+        front.read_until(b'\n', &mut self.line)?;
+        let is_long = self.line.len() > LINE_BYTES && !self.line.ends_with(b"\n");
+        if is_long {
+            self.input.skip_until(b'\n')?;
+        }
+        Ok(is_long)
     }
 }
 

@@ -2,7 +2,7 @@
 //! a race, each with its edits and the answer after it.
 
 use crate::answers::Answer;
-use crate::json::Object;
+use format::Object;
 use mend::{steps_text, Cure, Outcome};
 use stramashly::CheckAnswer;
 use words::{named, Advice, Explanation, Near};
@@ -16,12 +16,12 @@ pub fn object(file: Option<&str>, answer: &CheckAnswer, explanation: &Explanatio
     }
     answer.put(&mut object);
     if let Some(near) = &explanation.near {
-        object.object("nearest", &nearest(explanation, near));
+        object.put("nearest", &nearest(explanation, near));
     }
     let changes = explanation.cures.iter().zip(&explanation.advice);
     let changes: Vec<Object> = changes.map(|(cure, advice)| change(cure, advice)).collect();
     if explanation.near.is_some() {
-        object.objects("changes", &changes);
+        object.list("changes", &changes);
     }
     let words = explanation.lines.iter().map(|line| line.trim().to_string());
     object.texts("words", &words.collect::<Vec<_>>());
@@ -32,8 +32,8 @@ pub fn object(file: Option<&str>, answer: &CheckAnswer, explanation: &Explanatio
 fn nearest(explanation: &Explanation, near: &Near) -> Object {
     let mut object = Object::default();
     object.text("rule", &format!("L{}", near.rule));
-    object.count("before", near.before);
-    object.count("after", near.after);
+    object.put("before", near.before);
+    object.put("after", near.after);
     let lacks = near.lacks.iter();
     let lacks: Vec<String> = lacks.map(|lack| named(&explanation.notes, lack)).collect();
     object.texts("lacks", &lacks);
@@ -55,10 +55,10 @@ fn change(cure: &Cure, advice: &Advice) -> Object {
     };
     object.text("outcome", outcome);
     if let Some(left) = left {
-        object.count("left", left);
+        object.put("left", left);
     }
-    object.flag("orders", !cure.is_silent());
-    object.flag("has-room", cure.has_room);
+    object.put("orders", !cure.is_silent());
+    object.put("has-room", cure.has_room);
     object.texts("glsl", &advice.glsl);
     object.texts("spirv", &advice.spirv);
     object

@@ -6,7 +6,6 @@ use crate::arguments::{Request, Task};
 use crate::checker::checker;
 use crate::colour;
 use crate::folder;
-use crate::json::Object;
 use crate::judge::{append_trouble, judge, Form};
 use crate::make::{hex_line, make};
 use crate::output::{complain, Output};
@@ -16,6 +15,7 @@ use crate::sarif::{log, notification, results, Origin};
 use crate::summary::{Summary, UNREAD};
 use crate::tell::tell;
 use crate::Status;
+use format::Object;
 use std::ffi::OsString;
 use std::sync::atomic::AtomicBool;
 use stramashly::Checker;
@@ -218,8 +218,8 @@ fn answer(
             (status, text.into_bytes(), None)
         }
         Task::Judge(question) => {
-            let table = (&given.table[..], second);
-            let status = judge(checker, question, table, form, &mut text);
+            let pieces = [&given.table[..], second.unwrap_or_default()];
+            let status = judge(checker, question, pieces, form, &mut text);
             (status, text.into_bytes(), None)
         }
         Task::Tell(telling) => {

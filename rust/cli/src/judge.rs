@@ -1,13 +1,13 @@
 //! One table judged: its answer as text, and the status that goes with it.
 
 use crate::answers::{Answer, ShownRow};
-use crate::json::Object;
 use crate::question::Question;
 use crate::writing::{rows, write};
 use crate::Status;
+use format::Object;
 use mend::Notes;
 use std::fmt::{Display, Write};
-use stramashly::{row_of_pieces, Checker, Pieces};
+use stramashly::{row_of_pieces, Checker};
 
 /// How an answer is written.
 #[derive(Clone, Copy)]
@@ -31,77 +31,34 @@ impl<'a> Form<'a> {
     }
 }
 
-/// Appends the answer and a line's end to the text. The table may have a second
-/// piece.
+/// Appends the answer and a line's end to the text. The second piece of the table
+/// may be empty.
 pub fn judge(
     checker: &mut Checker,
     question: &Question,
-    table: (&[u8], Option<&[u8]>),
-    form: Form,
-    text: &mut String,
-) -> Status {
-    match table {
-        (table, None) => judge_whole(checker, question, table, form, text),
-        (first, Some(second)) => judge_pieces(checker, question, [first, second], form, text),
-    }
-}
-
-fn judge_whole(
-    checker: &mut Checker,
-    question: &Question,
-    table: &[u8],
+    pieces: [&[u8]; 2],
     form: Form,
     text: &mut String,
 ) -> Status {
     match question {
-        Question::Check => append(text, form, &checker.check(table)),
-        Question::Fill => append(text, form, &checker.fill(table)),
-        Question::Report => append(text, form, &checker.report(table)),
+        Question::Check => append(text, form, &checker.check(pieces)),
+        Question::Fill => append(text, form, &checker.fill(pieces)),
+        Question::Report => append(text, form, &checker.report(pieces)),
         Question::Derive { first, second } => {
-            append(text, form, &checker.derive(table, *first, *second))
+            append(text, form, &checker.derive(pieces, *first, *second))
         }
         Question::Accepts {
             first,
             second,
             claim,
         } => {
-            let answer = Checker::accepts(table, *first, *second, claim.derivation());
-            append(text, form, &answer)
-        }
-        Question::Rows => append(text, form, &rows(table)),
-        Question::Write(writing) => append(text, form, &write(writing)),
-        // A table by itself is one whose second piece is empty.
-        Question::Row { .. } => judge_pieces(checker, question, [table, &[]], form, text),
-    }
-}
-
-fn judge_pieces(
-    checker: &mut Checker,
-    question: &Question,
-    pieces: Pieces,
-    form: Form,
-    text: &mut String,
-) -> Status {
-    match question {
-        Question::Check => append(text, form, &checker.check_pieces(pieces)),
-        Question::Fill => append(text, form, &checker.fill_pieces(pieces)),
-        Question::Report => append(text, form, &checker.report_pieces(pieces)),
-        Question::Derive { first, second } => {
-            append(text, form, &checker.derive_pieces(pieces, *first, *second))
-        }
-        Question::Accepts {
-            first,
-            second,
-            claim,
-        } => {
-            let answer = Checker::accepts_pieces(pieces, *first, *second, claim.derivation());
+            let answer = Checker::accepts(pieces, *first, *second, claim.borrowed());
             append(text, form, &answer)
         }
         Question::Row { row } => append(text, form, &ShownRow(row_of_pieces(pieces, *row))),
         // These are of one piece.
-        Question::Rows | Question::Write(_) => {
-            judge_whole(checker, question, pieces[0], form, text)
-        }
+        Question::Rows => append(text, form, &rows(pieces[0])),
+        Question::Write(writing) => append(text, form, &write(writing)),
     }
 }
 
@@ -144,7 +101,7 @@ fn put_places(object: &mut Object, notes: &Notes, rows: &[u16]) {
     let places = rows.iter().filter_map(|row| {
         let (label, place) = (notes.label((*row).into()), notes.place((*row).into()));
         let mut place_object = Object::default();
-        place_object.number("row", *row);
+        place_object.put("row", *row);
         if let Some(label) = label {
             place_object.text("label", label);
         }
@@ -155,7 +112,7 @@ fn put_places(object: &mut Object, notes: &Notes, rows: &[u16]) {
     });
     let places: Vec<Object> = places.collect();
     if !places.is_empty() {
-        object.objects("places", &places);
+        object.list("places", &places);
     }
 }
 

@@ -11,9 +11,7 @@ mod explained;
 mod files;
 mod folder;
 mod help;
-mod hex;
 mod input;
-mod json;
 mod judge;
 mod line;
 mod make;
@@ -24,7 +22,6 @@ mod read;
 mod sarif;
 mod summary;
 mod tell;
-mod values;
 mod writing;
 
 use arguments::Command;

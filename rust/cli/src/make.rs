@@ -1,8 +1,8 @@
 //! A table made: of its text, of another whose blanks are filled, or by steps.
 
-use crate::hex::digits;
 use crate::read::{Given, Unread};
 use crate::Status;
+use format::digits;
 use mend::{edited, parse_steps, stepped, Edit, Field, Run, Step};
 use stramashly::{Checker, FillAnswer, BLANK};
 use text::{remade, write, write_lines, Form};

@@ -1,6 +1,6 @@
 //! What is asked of a table, from the words of a command or of a batch line.
 
-use stramashly::Derivation;
+use stramashly::OwnedDerivation;
 
 /// The commands that have one line for an answer.
 #[derive(Clone, Copy, Debug, PartialEq, Eq)]
@@ -50,34 +50,18 @@ pub struct Writing {
 }
 
 /// A derivation as somebody wrote it.
-#[derive(Clone, Debug, PartialEq, Eq)]
-pub enum Claim {
-    ProgramOrder,
-    Chain { classes: u8, steps: Vec<u16> },
-}
+pub type Claim = OwnedDerivation;
 
-impl Claim {
-    pub fn derivation(&self) -> Derivation<'_> {
-        match self {
-            Claim::ProgramOrder => Derivation::ProgramOrder,
-            Claim::Chain { classes, steps } => Derivation::Chain {
-                classes: *classes,
-                steps,
-            },
-        }
-    }
-
-    /// The word, or a class set and steps, of which there may be none.
-    fn of(words: &[&str]) -> Result<Claim, String> {
-        match words {
-            [] => Err("accepts takes a derivation after the moments".to_string()),
-            ["program-order"] => Ok(Claim::ProgramOrder),
-            ["program-order", ..] => Err("program-order has no steps beside it".to_string()),
-            [classes, steps @ ..] => Ok(Claim::Chain {
-                classes: number(classes, u8::MAX)?,
-                steps: numbers(steps)?,
-            }),
-        }
+/// The word, or a class set and steps, of which there may be none.
+fn claim(words: &[&str]) -> Result<Claim, String> {
+    match words {
+        [] => Err("accepts takes a derivation after the moments".to_string()),
+        ["program-order"] => Ok(Claim::ProgramOrder),
+        ["program-order", ..] => Err("program-order has no steps beside it".to_string()),
+        [classes, steps @ ..] => Ok(Claim::Chain {
+            classes: number(classes, u8::MAX)?,
+            steps: numbers(steps)?,
+        }),
     }
 }
 
@@ -141,10 +125,10 @@ impl Kind {
                 _ => Err("derive takes one table and two moments".to_string()),
             },
             Kind::Accepts => match words {
-                [first, second, claim @ ..] => Ok(Question::Accepts {
+                [first, second, rest @ ..] => Ok(Question::Accepts {
                     first: moment(first)?,
                     second: moment(second)?,
-                    claim: Claim::of(claim)?,
+                    claim: claim(rest)?,
                 }),
                 _ => Err("accepts takes one table, two moments and a derivation".to_string()),
             },

@@ -2,17 +2,21 @@
 //! the second piece of a table.
 
 use crate::arguments::{Request, Task};
-use crate::hex::{front_of_rows, Hex, KEPT_BYTES};
 use crate::input;
 use crate::make::Making;
+use format::Hex;
 use mend::Notes;
 use std::ffi::OsStr;
 use std::fmt;
 use std::fs::File;
 use std::io::{self, ErrorKind, Read};
-use stramashly::Checker;
+use stramashly::{Checker, MAX_DEPENDENCIES, MAX_ROWS, MAX_TABLE_BYTES, ROW_BYTES};
 use text::{Draft, Form, Trouble};
 
+/// How many bytes of a table are kept: one more than those of any count of
+/// dependencies, which the length must fit before the count is refused. More
+/// bytes fit no header, however many follow.
+pub const KEPT_BYTES: usize = MAX_TABLE_BYTES + 4 * (65535 - MAX_DEPENDENCIES) + 1;
 /// A longer text than this is none of a table.
 const TEXT_BYTES: usize = 1 << 20;
 
@@ -36,7 +40,7 @@ impl Given {
         let pieces = [&self.table[..], second];
         match words::joined(pieces) {
             Ok(table) => Ok(Given { table, ..self }),
-            Err(_) => Err(checker.check_pieces(pieces).to_string()),
+            Err(_) => Err(checker.check(pieces).to_string()),
         }
     }
 }
@@ -114,7 +118,7 @@ pub fn read(name: &OsStr, request: &Request) -> Result<Given, Unread> {
 
 fn read_from(mut input: impl Read, is_hex: bool) -> Result<Given, Unread> {
     if is_hex {
-        return Ok(read_hex(input)?.into());
+        return Ok(hex_from(input)?.0.into());
     }
     let mut bytes = Vec::with_capacity(KEPT_BYTES);
     let mut more = |bytes: &mut Vec<u8>, most: usize| {
@@ -142,13 +146,6 @@ fn read_text(form: Form, bytes: &[u8]) -> Result<Given, Unread> {
     })
 }
 
-fn read_hex(input: impl Read) -> Result<Vec<u8>, String> {
-    match hex_from(input)?.bytes() {
-        Ok(bytes) => Ok(bytes.to_vec()),
-        Err(bad) => Err(bad.to_string()),
-    }
-}
-
 /// The second piece, if one was given, cut off where its refusal is sure.
 pub fn second(request: &Request) -> Result<Option<Vec<u8>>, Unread> {
     let Some(name) = &request.then else {
@@ -166,11 +163,8 @@ pub fn second(request: &Request) -> Result<Option<Vec<u8>>, Unread> {
 
 fn rows_from(mut input: impl Read, is_hex: bool) -> Result<Vec<u8>, String> {
     if is_hex {
-        let hex = hex_from(input)?;
-        return match hex.rows() {
-            Ok(rows) => Ok(rows.to_vec()),
-            Err(bad) => Err(bad.to_string()),
-        };
+        let (bytes, left_out) = hex_from(input)?;
+        return Ok(front_of_rows(&bytes, left_out).to_vec());
     }
     let text = |error: io::Error| error.to_string();
     let mut bytes = Vec::new();
@@ -180,17 +174,52 @@ fn rows_from(mut input: impl Read, is_hex: bool) -> Result<Vec<u8>, String> {
     Ok(front_of_rows(&bytes, left_out).to_vec())
 }
 
-/// Reads to the end, so that a letter that is no digit is told wherever it is.
-fn hex_from(mut input: impl Read) -> Result<Hex, String> {
+/// The front of a second piece of a table, of which so many bytes were left
+/// out: it has too many rows, or is no rows, as the whole has.
+pub fn front_of_rows(bytes: &[u8], left_out: u64) -> &[u8] {
+    if left_out == 0 {
+        return bytes;
+    }
+    let rest = (bytes.len() as u64 + left_out) as usize % ROW_BYTES;
+    &bytes[..ROW_BYTES * (MAX_ROWS + 1) + rest]
+}
+
+/// The bytes that are kept, and how many aren't. All is read, so that a letter
+/// that is no digit is told wherever it is.
+fn hex_from(mut input: impl Read) -> Result<(Vec<u8>, u64), String> {
     let mut hex = Hex::default();
     let mut piece = [0; 1 << 14];
-    while !hex.is_bad() {
+    let pushed = loop {
         match input.read(&mut piece) {
-            Ok(0) => break,
-            Ok(count) => hex.push(&piece[..count]),
+            Ok(0) => break Ok(()),
+            Ok(count) => match hex.push(&piece[..count], KEPT_BYTES) {
+                Ok(()) => (),
+                bad => break bad,
+            },
             Err(error) if error.kind() == ErrorKind::Interrupted => (),
             Err(error) => return Err(error.to_string()),
         }
+    };
+    pushed
+        .and_then(|()| hex.bytes())
+        .map_err(|bad| bad.to_string())
+}
+
+#[cfg(test)]
+mod tests {
+    use super::*;
+
+    #[test]
+    fn rows_keep_the_remainder_of_all_that_came() {
+        let digits = vec![b'5'; 1_000_000];
+        let (kept, left_out) = hex_from(&digits[..]).unwrap();
+        assert_eq!(
+            (kept.len(), left_out),
+            (KEPT_BYTES, 500_000 - KEPT_BYTES as u64)
+        );
+        for (more, length) in [(0, 16 * 129), (1, 16 * 129 + 1)] {
+            let front = front_of_rows(&kept, left_out + more);
+            assert_eq!(front, vec![0x55; length]);
+        }
     }
-    Ok(hex)
 }

@@ -1,8 +1,8 @@
 //! `check --sarif`: what was found in all the files, as one SARIF 2.1.0 log
 //! for tools that list findings beside the program's lines.
 
-use crate::json::Object;
 use crate::read::{Given, Unread};
+use format::Object;
 use mend::first_row;
 use stramashly::Checker;
 use words::{findings, Finding};
@@ -56,15 +56,15 @@ fn result(finding: &Finding, given: &Given, origin: &Origin) -> Object {
     let rule = RULES.iter().position(|(id, ..)| *id == word);
     let mut object = Object::default();
     object.text("ruleId", word);
-    object.count("ruleIndex", rule.unwrap_or(0));
+    object.put("ruleIndex", rule.unwrap_or(0));
     object.text("level", "error");
-    object.object("message", &text(&finding.message));
+    object.put("message", &text(&finding.message));
     let places = finding.rows.iter().enumerate().map(|(id, (row, words))| {
         let mut place = location(Some(*row), given, origin);
         if id > 0 {
-            place.count("id", id);
+            place.put("id", id);
         }
-        place.object("message", &text(words));
+        place.put("message", &text(words));
         place
     });
     let mut places: Vec<Object> = places.collect();
@@ -72,17 +72,17 @@ fn result(finding: &Finding, given: &Given, origin: &Origin) -> Object {
         places.push(location(None, given, origin));
     }
     let related = places.split_off(1);
-    object.objects("locations", &places);
+    object.list("locations", &places);
     if !related.is_empty() {
-        object.objects("relatedLocations", &related);
+        object.list("relatedLocations", &related);
     }
     let mut properties = Object::default();
     if let Some(file) = origin.file {
         properties.text("table", file);
     }
     properties.text("answer", &finding.answer);
-    properties.flag("proved", finding.is_proved);
-    object.object("properties", &properties);
+    properties.put("proved", finding.is_proved);
+    object.put("properties", &properties);
     object
 }
 
@@ -100,26 +100,26 @@ fn location(row: Option<usize>, given: &Given, origin: &Origin) -> Object {
     let mut file = origin.file;
     if let Some(place) = place {
         file = Some(&place.file);
-        region.count("startLine", place.line as usize);
+        region.put("startLine", place.line as usize);
         if let Some(column) = place.column {
-            region.count("startColumn", column as usize);
+            region.put("startColumn", column as usize);
         }
     } else if let (Some(row), Some(draft)) = (row, &given.draft) {
         let (line, column) = draft.notes.rows[row].spot;
-        region.count("startLine", line);
-        region.count("startColumn", column);
+        region.put("startLine", line);
+        region.put("startColumn", column);
     } else if let (Some(row), false) = (row, origin.is_hex) {
-        region.count("byteOffset", first_row(&given.table) + ROW_BYTES * row);
-        region.count("byteLength", ROW_BYTES);
+        region.put("byteOffset", first_row(&given.table) + ROW_BYTES * row);
+        region.put("byteLength", ROW_BYTES);
     }
     let mut location = Object::default();
     if let Some(file) = file {
-        location.object("physicalLocation", &physical(file, &region));
+        location.put("physicalLocation", &physical(file, &region));
     }
     if let Some(row) = row {
         let mut logical = Object::default();
         logical.text("name", &format!("row {row}"));
-        location.objects("logicalLocations", &[logical]);
+        location.list("logicalLocations", &[logical]);
     }
     location
 }
@@ -128,9 +128,9 @@ fn physical(file: &str, region: &Object) -> Object {
     let mut artifact = Object::default();
     artifact.text("uri", &uri(file));
     let mut physical = Object::default();
-    physical.object("artifactLocation", &artifact);
+    physical.put("artifactLocation", &artifact);
     if !region.is_empty() {
-        physical.object("region", region);
+        physical.put("region", region);
     }
     physical
 }
@@ -157,15 +157,15 @@ fn uri(file: &str) -> String {
 pub fn notification(file: &str, reason: &Unread) -> Object {
     let mut notification = Object::default();
     notification.text("level", "error");
-    notification.object("message", &text(&reason.to_string()));
+    notification.put("message", &text(&reason.to_string()));
     let mut region = Object::default();
     if let Some((line, column)) = reason.spot() {
-        region.count("startLine", line);
-        region.count("startColumn", column);
+        region.put("startLine", line);
+        region.put("startColumn", column);
     }
     let mut location = Object::default();
-    location.object("physicalLocation", &physical(file, &region));
-    notification.objects("locations", &[location]);
+    location.put("physicalLocation", &physical(file, &region));
+    notification.list("locations", &[location]);
     notification
 }
 
@@ -177,30 +177,30 @@ pub fn log(results: &[String], notifications: &[Object]) -> String {
         let mut rule = Object::default();
         rule.text("id", id);
         rule.text("name", name);
-        rule.object("shortDescription", &text(words));
-        rule.object("defaultConfiguration", &level);
+        rule.put("shortDescription", &text(words));
+        rule.put("defaultConfiguration", &level);
         rule
     });
     let mut driver = Object::default();
     driver.text("name", "stramashly");
     driver.text("version", env!("CARGO_PKG_VERSION"));
-    driver.objects("rules", &rules);
+    driver.list("rules", &rules);
     let mut tool = Object::default();
-    tool.object("driver", &driver);
+    tool.put("driver", &driver);
     let mut invocation = Object::default();
-    invocation.flag("executionSuccessful", notifications.is_empty());
+    invocation.put("executionSuccessful", notifications.is_empty());
     if !notifications.is_empty() {
-        invocation.objects("toolExecutionNotifications", notifications);
+        invocation.list("toolExecutionNotifications", notifications);
     }
     let mut run = Object::default();
-    run.object("tool", &tool);
-    run.objects("invocations", &[invocation]);
+    run.put("tool", &tool);
+    run.list("invocations", &[invocation]);
     run.text("columnKind", "unicodeCodePoints");
-    run.written("results", &format!("[{}]", results.join(",")));
+    run.put("results", &format!("[{}]", results.join(",")));
     let mut log = Object::default();
     log.text("$schema", "https://json.schemastore.org/sarif-2.1.0.json");
     log.text("version", "2.1.0");
-    log.objects("runs", &[run]);
+    log.list("runs", &[run]);
     format!("{log}\n")
 }
 

@@ -2,10 +2,9 @@
 //! answer.
 
 use crate::answers::{put_refusal, put_verdict, Answer};
-use crate::hex::digits;
-use crate::json::Object;
 use crate::question::Writing;
 use crate::Status;
+use format::{digits, Object};
 use std::fmt::{self, Display};
 use stramashly::{write_in, Code, Refusal, Row, Rows};
 

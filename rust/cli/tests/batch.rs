@@ -148,6 +148,19 @@ fn long_lines_have_the_refusal_that_they_deserve() {
 }
 
 #[test]
+fn a_line_over_the_limit_is_an_error() {
+    let most = 1 << 20;
+    let table = "check 0000000401000000";
+    let padded = |length: usize| format!("{table}{}\n", " ".repeat(length - table.len()));
+    let comment = format!("#{}\n", "x".repeat(2 * most));
+    let input = [padded(most), comment, padded(most + 1), padded(3 * most)].concat() + table;
+    let answer = stramashly(&["batch"], input.as_bytes());
+    let error = |line| format!("error line {line} has more than {most} bytes\n");
+    let expected = ["race-free\n", &error(3), &error(4), "race-free\n"].concat();
+    assert_eq!((answer.output, answer.status), (expected, Some(4)));
+}
+
+#[test]
 fn an_answer_comes_before_the_next_line_is_written() {
     ask_one_by_one(&["batch"]);
     ask_one_by_one(&["batch", "-j", "2"]);

@@ -6,7 +6,7 @@ use common::*;
 use std::fs::{self, File, OpenOptions};
 use std::io::Read;
 use std::process::{Command, Stdio};
-use tables::{hex, Random, Row, Table};
+use tables::{hex, Build, Random, Row, Table};
 
 fn good(output: &str, status: i32) -> Answer {
     Answer {

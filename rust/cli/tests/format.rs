@@ -7,7 +7,7 @@ use common::*;
 use std::fs;
 use std::path::Path;
 use tables::builder::{kind, sort};
-use tables::{hex, Row, Table};
+use tables::{hex, Build, Row, Table};
 
 fn document(name: &str) -> String {
     let root = concat!(env!("CARGO_MANIFEST_DIR"), "/../../docs");

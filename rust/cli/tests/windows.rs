@@ -4,7 +4,7 @@
 use second::{Chains, State, CYCLE_NUMBERS, INITIAL, WORK_WORDS};
 use std::collections::BTreeSet;
 use tables::builder::{flags, kind, Row, Table};
-use tables::{chained, checkable, hosted, Random, Size};
+use tables::{chained, checkable, hosted, Build, Random, Size};
 
 const SIZE: Size = Size { least: 6, most: 40 };
 /// Generated runs for each statement.
@@ -156,8 +156,8 @@ fn with_all_atomic_writes_no_race_is_missed() {
 /// Without an atomic write that ends a release sequence, a race can be missed.
 #[test]
 fn without_an_atomic_write_a_race_is_missed() {
-    let data = |row: Row| row.bytes(0, 4).reference(1);
-    let flag = |row: Row| row.bytes(4, 4).reference(2);
+    let data = |row: Row| row.at(0, 4).reference(1);
+    let flag = |row: Row| row.at(4, 4).reference(2);
     let rows = [
         data(Row::write(0)),
         flag(Row::atomic_write(0, 1))

@@ -22,17 +22,27 @@ pub use tally::Tally;
 
 use second::{Chains, CheckAnswer, FillAnswer, State};
 use stramashly::{
-    check_by_flags, check_with, fill_by_flags, fill_with, Packed, CYCLE_NUMBERS, SOURCE_NUMBERS,
+    check_by_flags, check_in, fill_by_flags, fill_in, Packed, CYCLE_NUMBERS, SOURCE_NUMBERS,
     WORK_WORDS,
 };
 use tables::{hex, Random};
 
 /// A function of the library: chains, table, work area, cycle or source buffer.
-type Engine = fn(bool, &[u8], &mut [u64], &mut [u16]) -> Packed;
+pub type Engine = fn(bool, &[u8], &mut [u64], &mut [u16]) -> Packed;
 
 /// The quick engine's and the obvious one's.
-const CHECKS: [(&str, Engine); 2] = [("check", check_with), ("check by flags", check_by_flags)];
-const FILLS: [(&str, Engine); 2] = [("fill", fill_with), ("fill by flags", fill_by_flags)];
+pub const CHECKS: [(&str, Engine); 2] = [
+    ("check", |on, table, work, cycle| {
+        check_in(on, table.into(), work, cycle)
+    }),
+    ("check by flags", check_by_flags),
+];
+pub const FILLS: [(&str, Engine); 2] = [
+    ("fill", |on, table, work, sources| {
+        fill_in(on, table.into(), work, sources)
+    }),
+    ("fill by flags", fill_by_flags),
+];
 
 /// Longer tables take the obvious engine long: it is asked of one in so many.
 const SHORT_TABLE: usize = 512;

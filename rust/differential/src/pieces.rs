@@ -5,8 +5,8 @@ use crate::reports::{compare_share, UNWRITTEN};
 use crate::{expected, Comparison, Difference, Lengths};
 use second::{joined, Chains, CheckAnswer, FillAnswer, Pieces};
 use stramashly::{
-    accepts_in, accepts_pieces, check_pieces, derive_in, derive_pieces, fill_pieces, report_pieces,
-    row_of_pieces, Packed, CHAIN_NUMBERS, CYCLE_NUMBERS, PROGRAM_ORDER, SOURCE_NUMBERS, WORK_WORDS,
+    accepts_in, check_in, derive_in, fill_in, report_in, row_of_pieces, Packed, CHAIN_NUMBERS,
+    CYCLE_NUMBERS, PROGRAM_ORDER, SOURCE_NUMBERS, WORK_WORDS,
 };
 use tables::{hex, MAX_ROWS};
 
@@ -44,7 +44,7 @@ impl Comparison {
         let expected = expected::of_check(&answer, &mut self.expected);
         let lent = places.map(|(at, size)| &self.around[at..at + size]);
         let (work, cycle) = (&mut self.ours.work, &mut self.ours.numbers);
-        let packed = check_pieces(chains == Chains::On, lent, work, cycle);
+        let packed = check_in(chains == Chains::On, lent.into(), work, cycle);
         let words = || format!("check2 {} {chains:?}", shown(pieces));
         self.compare(words, lengths, packed, expected)?;
         Ok(answer)
@@ -64,7 +64,7 @@ impl Comparison {
         if let Some(expected) = expected::of_fill(&answer, &mut self.expected) {
             let lent = places.map(|(at, size)| &self.around[at..at + size]);
             let (work, sources) = (&mut self.ours.work, &mut self.ours.numbers);
-            let packed = fill_pieces(chains == Chains::On, lent, work, sources);
+            let packed = fill_in(chains == Chains::On, lent.into(), work, sources);
             let words = || format!("fill2 {} {chains:?}", shown(pieces));
             self.compare(words, lengths, packed, expected)?;
         }
@@ -84,7 +84,7 @@ impl Comparison {
         let lent = places.map(|(at, size)| &self.around[at..at + size]);
         let (work, cycle) = (&mut self.ours.work, &mut self.ours.numbers);
         let mut share = UNWRITTEN;
-        let packed = report_pieces(chains == Chains::On, lent, work, cycle, &mut share);
+        let packed = report_in(chains == Chains::On, lent.into(), work, cycle, &mut share);
         let words = || format!("report2 {} {chains:?}", shown(pieces));
         self.compare(words, lengths, packed, expected)?;
         compare_share(&answer, share)
@@ -104,13 +104,12 @@ impl Comparison {
         let places = self.prepare_pieces(pieces, lengths);
         let lent = places.map(|(at, size)| &self.around[at..at + size]);
         let (work, chain) = (&mut self.expected.work, &mut self.expected.numbers);
-        let [first, second] = moments;
         let expected = match joined(pieces) {
-            Ok(table) => derive_in(&table, first, second, work, chain),
+            Ok(table) => derive_in((&table).into(), moments, work, chain),
             Err(number) => Packed::new(stramashly::Code::Refused, u16::from(number), 0, 0),
         };
         let (work, chain) = (&mut self.ours.work, &mut self.ours.numbers);
-        let packed = derive_pieces(lent, moments, work, chain);
+        let packed = derive_in(lent.into(), moments, work, chain);
         let words = || format!("derive2 {} {moments:?}", shown(pieces));
         self.compare(words, lengths, packed, expected)?;
         self.reading_of_pieces(pieces, moments, packed)?;
@@ -134,8 +133,8 @@ impl Comparison {
             (packed.a() as u8, steps / 2),
         ] {
             let steps = &self.ours.numbers[..steps];
-            let one = accepts_in(&table, moments[0], moments[1], classes, steps);
-            let two = accepts_pieces(pieces, moments, classes, steps);
+            let one = accepts_in((&table).into(), moments, classes, steps);
+            let two = accepts_in(pieces.into(), moments, classes, steps);
             if one != two {
                 let words = format!("{two:?} instead of {one:?}: accepts2 {}", shown(pieces));
                 return Err(Difference(words));

@@ -95,7 +95,12 @@ impl Moments<'_> {
         let at = self.comparison.prepare(self.table, lengths);
         let Comparison { around, ours, .. } = self.comparison;
         let lent = &around[at..at + self.table.len()];
-        let packed = derive_in(lent, first, second, &mut ours.work, &mut ours.numbers);
+        let packed = derive_in(
+            lent.into(),
+            [first, second],
+            &mut ours.work,
+            &mut ours.numbers,
+        );
         let (expected, derived) = self.expected(first, second, lengths, packed);
         let table = self.table;
         let words = || format!("derive {} {first} {second}", hex(table));
@@ -198,7 +203,7 @@ impl Moments<'_> {
         let steps = &mut ours.numbers[4..][..count];
         steps.copy_from_slice(&claim.steps);
         let lent = &around[at..at + self.table.len()];
-        accepts_in(lent, first, second, claim.classes, steps)
+        accepts_in(lent.into(), [first, second], claim.classes, steps)
     }
 }
 

@@ -3,7 +3,7 @@
 
 use crate::{expected, Comparison, Difference, Lengths};
 use second::{Chains, ReportAnswer};
-use stramashly::{report_with, CYCLE_NUMBERS};
+use stramashly::{report_in, CYCLE_NUMBERS};
 use tables::hex;
 
 impl Comparison {
@@ -36,7 +36,7 @@ impl Comparison {
         let lent = &self.around[at..at + table.len()];
         let (work, cycle) = (&mut self.ours.work, &mut self.ours.numbers);
         let mut share = UNWRITTEN;
-        let packed = report_with(chains == Chains::On, lent, work, cycle, &mut share);
+        let packed = report_in(chains == Chains::On, lent.into(), work, cycle, &mut share);
         let words = || format!("report {} {chains:?}", hex(table));
         self.compare(words, lengths, packed, expected)?;
         compare_share(&answer, share)?;

@@ -7,7 +7,7 @@ use second::AcceptsAnswer;
 use std::collections::{BTreeMap, BTreeSet};
 use stramashly::{Checker, Derivation, CHAIN_NUMBERS, PROGRAM_ORDER, WORK_WORDS};
 use tables::builder::{classes::UNIFORM, order, scope};
-use tables::{checkable, damaged, examples, fillable, Random, Row, Size, Table};
+use tables::{checkable, damaged, examples, fillable, Build, Random, Row, Size, Table};
 
 const SMALL: Size = Size { least: 2, most: 8 };
 const MIDDLE: Size = Size {

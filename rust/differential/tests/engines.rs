@@ -2,10 +2,9 @@
 //! so: both engines have the same one. So the time that an answer takes is
 //! counted: the obvious engine's is many times the quick one's.
 
+use differential::{Engine, CHECKS, FILLS};
 use std::time::{Duration, Instant};
-use stramashly::{
-    check_by_flags, check_with, fill_by_flags, fill_with, Packed, CYCLE_NUMBERS, WORK_WORDS,
-};
+use stramashly::{Packed, CYCLE_NUMBERS, WORK_WORDS};
 use tables::{checkable, fillable, Random, Size, Table};
 
 const LARGEST: Size = Size {
@@ -16,9 +15,6 @@ const LARGEST: Size = Size {
 /// A factor far below what was seen, and far above what a busy machine does to
 /// the fastest of several runs.
 const TIMES: u32 = 8;
-
-/// A function of the library: chains, table, work area, cycle or source buffer.
-type Engine = fn(bool, &[u8], &mut [u64], &mut [u16]) -> Packed;
 
 /// The answer, and the shortest time that it took.
 fn fastest(engine: Engine, table: &[u8]) -> (Packed, Duration) {
@@ -32,7 +28,10 @@ fn fastest(engine: Engine, table: &[u8]) -> (Packed, Duration) {
 }
 
 /// Three tables of 128 rows: the same answer, after so many times as long.
-fn compare(generate: fn(&mut Random, Size) -> Table, quick: Engine, obvious: Engine) {
+fn compare(
+    generate: fn(&mut Random, Size) -> Table,
+    [(_, quick), (_, obvious)]: [(&str, Engine); 2],
+) {
     let mut random = Random::new(601);
     for _ in 0..3 {
         let table = generate(&mut random, LARGEST).bytes();
@@ -44,10 +43,10 @@ fn compare(generate: fn(&mut Random, Size) -> Table, quick: Engine, obvious: Eng
 
 #[test]
 fn a_check_by_flags_is_the_obvious_engines() {
-    compare(checkable, check_with, check_by_flags);
+    compare(checkable, CHECKS);
 }
 
 #[test]
 fn a_fill_by_flags_is_the_obvious_engines() {
-    compare(fillable, fill_with, fill_by_flags);
+    compare(fillable, FILLS);
 }

@@ -3,7 +3,7 @@
 use differential::{Comparison, Tally};
 use std::collections::BTreeSet;
 use tables::builder::{kind, order};
-use tables::{checkable, examples, fillable, Random, Row, Size, Table, BLANK, INITIAL};
+use tables::{checkable, examples, fillable, Build, Random, Row, Size, Table, BLANK, INITIAL};
 
 const SMALL: Size = Size { least: 2, most: 11 };
 const MIDDLE: Size = Size {
@@ -232,7 +232,7 @@ fn crowded_row(random: &mut Random) -> Row {
     } else {
         random.pick(&[(0, 4), (0, 4), (0, 4), (4, 4), (0, 8)])
     };
-    let row = row.bytes(start, length);
+    let row = row.at(start, length);
     row.reference(reference).class(reference as u8)
 }
 

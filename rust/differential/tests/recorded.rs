@@ -81,9 +81,9 @@ fn the_library_answers_as_before() {
     let mut sources = vec![0; SOURCE_NUMBERS];
     let mut checker = Checker::new();
     for record in records() {
-        let packed = check_in(record.table, &mut work, &mut cycle);
+        let packed = check_in(false, record.table.into(), &mut work, &mut cycle);
         assert_eq!(text(packed, &cycle), record.check);
-        let packed = fill_in(record.table, &mut work, &mut sources);
+        let packed = fill_in(false, record.table.into(), &mut work, &mut sources);
         assert_eq!(text(packed, &sources), record.fill);
         let report = checker.report(record.table);
         assert_eq!(report.to_string(), record.report);

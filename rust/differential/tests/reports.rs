@@ -3,7 +3,7 @@
 use differential::{Comparison, Lengths, Tally};
 use second::{Chains, CheckAnswer, ReportAnswer};
 use stramashly::{CYCLE_NUMBERS, WORK_WORDS};
-use tables::{checkable, damaged, examples, fillable, Random, Row, Size, Table};
+use tables::{checkable, damaged, examples, fillable, Build, Random, Row, Size, Table};
 
 /// Reports on generated tables, and the largest counts that there were.
 fn compare(seed: u64, count: usize, size: Size) -> (Tally, u16) {

@@ -9,7 +9,7 @@ use common::{elements, example, generated, with_relations, Element, Second};
 use draw::{draw, draw_noted, page};
 use mend::Notes;
 use stramashly::Checker;
-use tables::{hosted, Random, Row, Size, Table};
+use tables::{hosted, Build, Random, Row, Size, Table};
 use words::{explain, explain_noted, headline, Checked};
 
 /// The whole picture.
@@ -340,9 +340,7 @@ fn a_race_free_page_is_small() {
 fn many_rows_are_packed() {
     let mut checker = Checker::new();
     let ladder = scenarios::mended_ladder();
-    let long: Vec<Row> = (0..120)
-        .map(|row| Row::write(0).bytes(4 * row, 4))
-        .collect();
+    let long: Vec<Row> = (0..120).map(|row| Row::write(0).at(4 * row, 4)).collect();
     let long = Table::of_one_workgroup(1, &long).bytes();
     let all = scenarios::all().into_iter().filter(|run| run.table[6] > 32);
     let all = all.step_by(3).map(|run| (run.table, run.notes));

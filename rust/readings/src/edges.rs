@@ -3,7 +3,7 @@
 
 use crate::corpus::{asked, of_writer, share, with_dependencies, Case};
 use crate::question::*;
-use tables::{Random, Row, Table, BLANK};
+use tables::{Build, Random, Row, Table, BLANK};
 
 pub fn edges(random: &mut Random) -> Vec<Case> {
     let mut cases = vec![shares(), lowest_shared()];
@@ -29,12 +29,12 @@ pub fn edges(random: &mut Random) -> Vec<Case> {
 /// A blank whose source is written before it; a writer that comes after it
 /// stands first in the table.
 fn late_writer() -> Table {
-    let flag = |row: Row| row.bytes(16, 4).reference(2).scope(2);
+    let flag = |row: Row| row.at(16, 4).reference(2).scope(2);
     let rows = [
         flag(Row::atomic_read(0, 4)).acquire(1).make_visible(),
-        Row::write(0).bytes(0, 4).reference(1),
-        Row::write(1).bytes(0, 4).reference(1),
-        Row::read(1, BLANK).bytes(0, 4).reference(1),
+        Row::write(0).at(0, 4).reference(1),
+        Row::write(1).at(0, 4).reference(1),
+        Row::read(1, BLANK).at(0, 4).reference(1),
         flag(Row::atomic_write(1, 1)).release(1).make_available(),
     ];
     Table::of_one_workgroup(2, &rows)
@@ -42,8 +42,8 @@ fn late_writer() -> Table {
 
 /// A read of what was overwritten before it, and two writes that race.
 fn overwritten_and_racing() -> Table {
-    let datum = |row: Row| row.bytes(0, 4).reference(1);
-    let other = |agent: u8| Row::write(agent).bytes(8, 4).reference(2);
+    let datum = |row: Row| row.at(0, 4).reference(1);
+    let other = |agent: u8| Row::write(agent).at(8, 4).reference(2);
     let rows = [
         datum(Row::write(0)),
         datum(Row::write(0)),
@@ -56,7 +56,7 @@ fn overwritten_and_racing() -> Table {
 
 /// A blank that comes after two atomic writers, which only their ranks order.
 fn two_writers() -> Table {
-    let atomic = |row: Row, start, reference| row.bytes(start, 4).reference(reference).scope(2);
+    let atomic = |row: Row, start, reference| row.at(start, 4).reference(reference).scope(2);
     let sender = |agent: u8, rank| {
         let flag = atomic(
             Row::atomic_write(agent, 1),
@@ -73,7 +73,7 @@ fn two_writers() -> Table {
     rows.push(atomic(Row::atomic_read(2, 2), 16, 2));
     rows.push(atomic(Row::atomic_read(2, 5), 20, 3));
     rows.push(Row::barrier(2, 1, 1).scope(2).make_visible());
-    rows.push(Row::read(2, BLANK).bytes(32, 4).reference(5));
+    rows.push(Row::read(2, BLANK).at(32, 4).reference(5));
     Table::of_one_workgroup(3, &rows)
 }
 
@@ -206,11 +206,11 @@ fn large_numbers(random: &mut Random) -> Vec<Case> {
         [65535, 65281, 257],
     ];
     let rows = [
-        Row::write(0).bytes(65520, 16).reference(65535),
-        Row::atomic_write(1, 65535).bytes(65528, 8).reference(65281),
-        Row::atomic_write(0, 65280).bytes(256, 4).reference(511),
-        Row::rmw(2, 1, 65281).bytes(65528, 8).reference(65281),
-        Row::read(1, 0).bytes(65521, 2).reference(65280),
+        Row::write(0).at(65520, 16).reference(65535),
+        Row::atomic_write(1, 65535).at(65528, 8).reference(65281),
+        Row::atomic_write(0, 65280).at(256, 4).reference(511),
+        Row::rmw(2, 1, 65281).at(65528, 8).reference(65281),
+        Row::read(1, 0).at(65521, 2).reference(65280),
     ];
     let plain = Table::new(&places, &rows).bytes();
     let counted = Table::new(&places, &rows).counted().bytes();

@@ -3,7 +3,7 @@
 //! and flags that a row may have. Of two such tables that differ in one place,
 //! often one races.
 
-use tables::{Random, Row, Table, BLANK, INITIAL};
+use tables::{Build, Random, Row, Table, BLANK, INITIAL};
 
 /// The rows that write and read the flag are numbered once all are in place.
 const STORE: u16 = 60000;
@@ -60,7 +60,7 @@ fn sender(random: &mut Random) -> Vec<Row> {
     if random.percent(15) {
         let other = random.pick(&[(0, 3), (0, 1), (2, 1)]);
         let write = Row::write(0)
-            .bytes(other.0, 4)
+            .at(other.0, 4)
             .reference(other.1)
             .class(u8::from(other.1 == 3));
         rows.insert(1, write.make_available().scope(random.pick(&[1, 2, 4])));
@@ -96,7 +96,7 @@ fn receiver(random: &mut Random) -> Vec<Row> {
     if random.percent(15) {
         let start = random.pick(&[0, 2, 8]);
         let other = Row::read(1, INITIAL)
-            .bytes(start, 2)
+            .at(start, 2)
             .reference(random.pick(&[1, 1, 9]));
         let place = 1 + random.below(rows.len());
         rows.insert(place, other.make_visible().scope(random.pick(&[1, 2, 4])));
@@ -110,7 +110,7 @@ fn receiver(random: &mut Random) -> Vec<Row> {
 fn plain(random: &mut Random, row: Row) -> Row {
     let length = random.pick(&[4, 4, 4, 2, 8]);
     let (reference, class) = random.pick(&[(1, 0), (1, 0), (1, 0), (3, 1)]);
-    let row = row.bytes(0, length).reference(reference).class(class);
+    let row = row.at(0, length).reference(reference).class(class);
     match random.percent(12) {
         true => row.private(),
         false => row,
@@ -122,11 +122,7 @@ fn atomic(random: &mut Random, row: Row, orders: &[u8]) -> Row {
     let scope = random.pick(&[0, 1, 2, 2, 2, 2, 2, 2, 3, 4]);
     let class = if random.percent(85) { 0 } else { 1 };
     let reference = if class == 0 { 2 } else { 4 };
-    let row = row
-        .bytes(16, 4)
-        .scope(scope)
-        .class(class)
-        .reference(reference);
+    let row = row.at(16, 4).scope(scope).class(class).reference(reference);
     ordered(random, row, orders)
 }
 

@@ -7,7 +7,9 @@ use second::{Chains, FillAnswer, State, CYCLE_NUMBERS, SOURCE_NUMBERS, WORK_WORD
 use tables::builder::classes::{IMAGE, UNIFORM};
 use tables::builder::order::ACQUIRE;
 use tables::builder::scope::{DEVICE, FAMILY, SUBGROUP, WORKGROUP};
-use tables::{chained, chained_fillable, checkable, hosted, Random, Row, Size, Table, BLANK};
+use tables::{
+    chained, chained_fillable, checkable, hosted, Build, Random, Row, Size, Table, BLANK,
+};
 
 fn check_with(chains: Chains, table: &Table) -> String {
     check_bytes_with(chains, &table.bytes())
@@ -20,7 +22,7 @@ fn both(table: &Table) -> [String; 2] {
 
 /// The numbered flag: four bytes and a reference of its own.
 fn of_flag(row: Row, number: u16) -> Row {
-    row.bytes(64 + 4 * number, 4).reference(10 + number)
+    row.at(64 + 4 * number, 4).reference(10 + number)
 }
 
 /// A flag released by an agent; it makes available in the scope.
@@ -101,7 +103,7 @@ fn only_the_first_element_covers_the_write() {
     table.rows[3].classes = UNIFORM | IMAGE;
     assert_eq!(both(&table)[1], "race-free");
     // The second element is a plain write of other bytes by another reference.
-    let other = Row::write(1).bytes(200, 4).reference(50);
+    let other = Row::write(1).at(200, 4).reference(50);
     let mut table = available_by_two(DEVICE, 2);
     table.rows[3].flags = 1;
     table.insert(3, other.make_available().scope(DEVICE));
@@ -109,7 +111,7 @@ fn only_the_first_element_covers_the_write() {
     // The first one must: it is of another reference's bytes.
     let mut table = available_by_two(DEVICE, 2);
     table.rows[1].flags = 1;
-    let other = Row::write(0).bytes(200, 4).reference(50);
+    let other = Row::write(0).at(200, 4).reference(50);
     table.insert(1, other.make_available().scope(WORKGROUP));
     assert_eq!(both(&table)[1], "race 0 6 0");
 }
@@ -231,7 +233,7 @@ fn hosts_and_queues_are_no_elements() {
     table.rows.truncate(2);
     table
         .rows
-        .push(Row::write(1).bytes(200, 4).make_available().scope(DEVICE));
+        .push(Row::write(1).at(200, 4).make_available().scope(DEVICE));
     table.rows.push(Row::read(2, 0));
     table.dependencies = vec![[1, 2], [2, 3]];
     assert_eq!(both(&table)[1], "race 0 3 0");

@@ -6,7 +6,7 @@ use common::*;
 use tables::builder::classes::{IMAGE, UNIFORM};
 use tables::builder::order::{ACQUIRE, BOTH, RELAXED, RELEASE};
 use tables::builder::scope::{DEVICE, FAMILY, INVOCATION, SUBGROUP, WORKGROUP};
-use tables::{Row, Table};
+use tables::{Build, Row, Table};
 
 /// A control barrier of instance 9 in workgroup scope, memory and execution.
 fn control(agent: u8) -> Row {

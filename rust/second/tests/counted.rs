@@ -4,7 +4,7 @@
 mod common;
 
 use common::*;
-use tables::{Row, Table, BLANK};
+use tables::{Build, Row, Table, BLANK};
 
 /// Writers of one place with the ranks, each by an agent of its own, all
 /// mutually-ordered.
@@ -96,7 +96,7 @@ fn from_reads_read_the_counted_order() {
     };
     assert_eq!(check(&with(3).counted()), "cycle 2 rows 1 2 edges 1 4");
     assert_eq!(check(&with(65534)), "cycle 2 rows 0 1 edges 1 2");
-    let blank = Row::read(0, BLANK).bytes(4, 4).reference(2);
+    let blank = Row::read(0, BLANK).at(4, 4).reference(2);
     let mut table = with(3);
     table.rows[2] = blank;
     assert_eq!(fill(&table.clone().counted()), "filled 65535 65535 1");
@@ -119,7 +119,7 @@ fn refusal_15_at_the_first_row_that_does_not_fit() {
 
 #[test]
 fn refusal_15_asks_one_place_and_no_scope() {
-    let other = |row: Row| row.bytes(8, 4).reference(9);
+    let other = |row: Row| row.at(8, 4).reference(9);
     let mut table = writers(&[0, 32768]);
     table.rows[1] = other(table.rows[1]);
     assert_eq!(check(&table.counted()), "race-free");

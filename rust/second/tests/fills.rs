@@ -4,7 +4,7 @@ mod common;
 
 use common::*;
 use second::{FillAnswer, State, SOURCE_NUMBERS, WORK_WORDS};
-use tables::{Row, Table, BLANK, INITIAL};
+use tables::{Build, Row, Table, BLANK, INITIAL};
 
 #[test]
 fn a_table_without_blanks_is_its_own_filling() {
@@ -56,10 +56,10 @@ fn a_blank_reads_an_atomic_of_highest_rank() {
 #[test]
 fn no_single_write_covers_the_blank() {
     let rows = [
-        Row::write(0).bytes(0, 2),
-        Row::write(0).bytes(2, 2),
+        Row::write(0).at(0, 2),
+        Row::write(0).at(2, 2),
         Row::read(0, BLANK),
-        Row::read(0, BLANK).bytes(0, 2),
+        Row::read(0, BLANK).at(0, 2),
     ];
     assert_eq!(fill(&Table::of_one_workgroup(1, &rows)), "none");
     let rows = [rows[0], rows[1], rows[3]];

@@ -9,7 +9,7 @@ use tables::builder::classes::{UNIFORM, WORKGROUP};
 use tables::builder::kind::*;
 use tables::builder::order::{ACQUIRE, BOTH, RELEASE};
 use tables::builder::sort::{HOST, QUEUE, SHADER};
-use tables::{Row, Table, BLANK, INITIAL};
+use tables::{Build, Row, Table, BLANK, INITIAL};
 
 /// Agent 0 is a host, 1 a queue, 2 and 3 are shaders, 4 a host, 5 a queue.
 const SORTS: [u16; 6] = [HOST, QUEUE, SHADER, SHADER, HOST, QUEUE];
@@ -223,7 +223,7 @@ fn dependencies_go_on_with_releases_and_acquires_of_one_class_set() {
 fn happens_before_is_not_closed_over_program_order() {
     let rows = [
         host_write(),
-        Row::write(0).private().bytes(8, 4),
+        Row::write(0).private().at(8, 4),
         queue(AVAILABLE_TO_HOST),
         queue(HOST_TO_DEVICE),
         queue(VISIBLE_FROM_DEVICE),
@@ -253,8 +253,8 @@ fn scopes_hold_between_shaders_only() {
     // Between shaders everything is as ever.
     let rows = [
         Row::write(2),
-        Row::atomic_write(2, 1).bytes(8, 4).reference(5),
-        Row::atomic_read(3, 1).bytes(8, 4).reference(5),
+        Row::atomic_write(2, 1).at(8, 4).reference(5),
+        Row::atomic_read(3, 1).at(8, 4).reference(5),
         Row::read(3, 0),
     ];
     let mut table = Table::with_sorts(&SORTS, &rows, &[]);

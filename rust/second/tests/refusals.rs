@@ -6,7 +6,7 @@ use common::*;
 use second::{CheckAnswer, FillAnswer, State, CYCLE_NUMBERS, SOURCE_NUMBERS, WORK_WORDS};
 use tables::builder::flags::{MAKE_AVAILABLE, MAKE_VISIBLE, NON_PRIVATE};
 use tables::builder::order::{ACQUIRE, BOTH, RELAXED, RELEASE};
-use tables::{Row, Table, BLANK, INITIAL};
+use tables::{Build, Row, Table, BLANK, INITIAL};
 
 /// Checks P with one change to its bytes.
 fn check_changed(change: impl Fn(&mut Vec<u8>)) -> String {
@@ -143,8 +143,8 @@ fn refusal_6_barriers() {
     assert_eq!(check_added(Row::barrier(1, BOTH, 0)), "refused 6 4");
     assert_eq!(check_added(barrier.make_available()), "refused 6 4");
     assert_eq!(check_added(barrier.class(1)), "refused 6 4");
-    assert_eq!(check_added(barrier.bytes(0, 1)), "refused 6 4");
-    assert_eq!(check_added(barrier.bytes(1, 0)), "refused 6 4");
+    assert_eq!(check_added(barrier.at(0, 1)), "refused 6 4");
+    assert_eq!(check_added(barrier.at(1, 0)), "refused 6 4");
     assert_eq!(check_added(barrier.reference(1)), "refused 6 4");
     let mut changed = barrier;
     changed.flags = NON_PRIVATE;
@@ -172,7 +172,7 @@ fn check_atomics(start: u16, length: u8) -> String {
         Row::atomic_write(1, 7),
         Row::rmw(1, INITIAL, 7),
     ];
-    let answers = rows.map(|row| check_added(row.bytes(start, length).reference(9)));
+    let answers = rows.map(|row| check_added(row.at(start, length).reference(9)));
     assert!(answers.iter().all(|answer| *answer == answers[0]));
     answers[0].clone()
 }
@@ -195,13 +195,13 @@ fn refusal_7_bytes_of_atomics() {
     assert_eq!(check_atomics(65528, 8), "race-free");
     assert_eq!(check_atomics(65532, 8), "refused 7 4");
     // A plain row of the same bytes passes.
-    let plain = |length| check_added(Row::write(1).bytes(66, length).reference(9));
+    let plain = |length| check_added(Row::write(1).at(66, length).reference(9));
     assert!((1..=16).all(|length| plain(length) == "race-free"));
 }
 
 #[test]
 fn refusal_7_of_an_atomic_comes_in_its_place() {
-    let three_bytes = |row: Row| row.bytes(8, 3);
+    let three_bytes = |row: Row| row.at(8, 3);
     // After its own 6, before a later row's 5 and before any 8.
     assert_eq!(
         check_rows(|rows| rows[1] = three_bytes(rows[1]).order(BOTH, 1)),
@@ -225,7 +225,7 @@ fn refusal_8_another_class() {
     // A barrier's zero reference is no access's reference.
     let mut table = table_p();
     table.rows.push(Row::barrier(1, ACQUIRE, 1));
-    let read = Row::read(1, INITIAL).bytes(90, 1).reference(0).class(1);
+    let read = Row::read(1, INITIAL).at(90, 1).reference(0).class(1);
     table.rows.push(read);
     assert_eq!(check(&table), "race-free");
 }
@@ -238,7 +238,7 @@ fn refusal_9_sources() {
     assert_eq!(check_rows(|rows| rows[3].source = 4), "refused 9 3");
     assert_eq!(check_rows(|rows| rows[3].source = BLANK), "refused 9 3");
     assert_eq!(check_rows(|rows| rows[3].length = 5), "refused 9 3");
-    assert_eq!(check_added(Row::rmw(0, 4, 1).bytes(64, 4)), "refused 9 4");
+    assert_eq!(check_added(Row::rmw(0, 4, 1).at(64, 4)), "refused 9 4");
     let mut table = table_p();
     table.rows[2].source = BLANK;
     assert_eq!(fill(&table), "refused 9 2");
@@ -260,13 +260,10 @@ fn refusal_10_equal_ranks() {
 fn refusals_are_tested_row_by_row() {
     let two = |first: Row, second: Row| check(&Table::of_one_workgroup(2, &[first, second]));
     // Row 0's 7 before row 1's 5; row 0's 5 before its own 6.
-    assert_eq!(two(Row::write(0).bytes(0, 0), Row::write(7)), "refused 7 0");
+    assert_eq!(two(Row::write(0).at(0, 0), Row::write(7)), "refused 7 0");
     assert_eq!(two(Row::write(7).scope(1), Row::write(0)), "refused 5 0");
     // Row 1's 7 before row 0's 9.
-    assert_eq!(
-        two(Row::read(0, 9), Row::write(0).bytes(0, 0)),
-        "refused 7 1"
-    );
+    assert_eq!(two(Row::read(0, 9), Row::write(0).at(0, 0)), "refused 7 1");
     // Row 0's 9 before row 1's 8.
     assert_eq!(two(Row::read(0, 9), Row::write(0).class(1)), "refused 9 0");
     // Row 1's 8 before its own 9.

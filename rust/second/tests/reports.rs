@@ -4,7 +4,7 @@ mod common;
 
 use common::{from_hex, table_p, TABLE_P};
 use second::{Counts, ReportAnswer, State, CYCLE_NUMBERS, WORK_WORDS};
-use tables::{checkable, Random, Row, Size, Table, INITIAL};
+use tables::{checkable, Build, Random, Row, Size, Table, INITIAL};
 
 fn report_bytes(table: &[u8]) -> ReportAnswer {
     State::new().report(table, WORK_WORDS, CYCLE_NUMBERS)
@@ -27,13 +27,8 @@ fn table_p_has_a_mutual_and_an_ordered_pair() {
 fn pairs_are_counted_once_each() {
     // Three agents' writes of one byte, each racing with both others, and a
     // read elsewhere.
-    let write = |agent| Row::write(agent).bytes(0, 1);
-    let rows = [
-        write(0),
-        write(1),
-        write(2),
-        Row::read(0, INITIAL).bytes(8, 4),
-    ];
+    let write = |agent| Row::write(agent).at(0, 1);
+    let rows = [write(0), write(1), write(2), Row::read(0, INITIAL).at(8, 4)];
     let table = Table::of_one_workgroup(3, &rows);
     assert_eq!(report(&table), "report 3 0 0 3 1.0");
     // One agent's are ordered.

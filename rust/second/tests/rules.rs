@@ -8,7 +8,7 @@ use tables::builder::classes::{IMAGE, OUTPUT, UNIFORM};
 use tables::builder::kind::{ATOMIC_WRITE, RMW};
 use tables::builder::order::{ACQUIRE, BOTH, RELEASE};
 use tables::builder::scope::{DEVICE, FAMILY, SUBGROUP, WORKGROUP};
-use tables::{Row, Table, INITIAL};
+use tables::{Build, Row, Table, INITIAL};
 
 fn release_barrier(agent: u8) -> Row {
     Row::barrier(agent, RELEASE, UNIFORM).make_available()
@@ -95,7 +95,7 @@ fn scopes_are_shared_by_place() {
 /// one another, an acquire of the first of them, data again.
 fn equal_ranks(second: Row) -> Table {
     let agents = [[0, 0, 0], [0, 0, 1], [0, 1, 0], [0, 0, 3]];
-    let wide = |row: Row| row.bytes(4, 4).reference(2);
+    let wide = |row: Row| row.at(4, 4).reference(2);
     let rows = [
         Row::write(0),
         wide(Row::atomic_write(0, 1))
@@ -201,7 +201,7 @@ fn rmw_is_release_and_acquire_at_once() {
     // Row 3 isn't released by row 2, which comes before it.
     assert_eq!(check(&Table::of_one_workgroup(3, &rows)), "race 3 5 0");
     let mut rows = rows;
-    rows[3] = Row::read(1, INITIAL).bytes(90, 1);
+    rows[3] = Row::read(1, INITIAL).at(90, 1);
     assert_eq!(check(&Table::of_one_workgroup(3, &rows)), "race-free");
 }
 
@@ -310,15 +310,15 @@ fn overwritten_names_reader_writer_and_byte() {
         check(&table)
     };
     assert_eq!(with(Row::write(0)), "overwritten 4 1 0");
-    assert_eq!(with(Row::write(0).bytes(2, 1)), "overwritten 4 1 2");
-    assert_eq!(with(Row::write(0).bytes(65000, 1)), "race-free");
+    assert_eq!(with(Row::write(0).at(2, 1)), "overwritten 4 1 2");
+    assert_eq!(with(Row::write(0).at(65000, 1)), "race-free");
 }
 
 #[test]
 fn overwritten_gives_the_least_writer() {
     let mut table = table_p();
-    table.insert(1, Row::write(0).bytes(3, 1));
-    table.insert(2, Row::write(0).bytes(0, 1));
+    table.insert(1, Row::write(0).at(3, 1));
+    table.insert(2, Row::write(0).at(0, 1));
     assert_eq!(check(&table), "overwritten 5 1 3");
 }
 
@@ -359,7 +359,7 @@ fn an_atomics_own_availability_does_not_cover_it() {
     let rows = [
         Row::atomic_write(0, 1).release(UNIFORM).make_available(),
         Row::atomic_read(1, 0).acquire(UNIFORM).make_visible(),
-        Row::read(1, 0).bytes(0, 2),
+        Row::read(1, 0).at(0, 2),
     ];
     assert_eq!(check(&Table::of_one_workgroup(2, &rows)), "race 0 2 0");
 }
@@ -429,7 +429,7 @@ fn cycle_comes_before_overwritten_and_race() {
     let mut table = table_p();
     table.insert(1, Row::write(0));
     table.rows.push(Row::read(1, INITIAL));
-    table.rows.push(Row::write(1).bytes(0, 1).reference(9));
+    table.rows.push(Row::write(1).at(0, 1).reference(9));
     assert_eq!(check(&table), "cycle 2 rows 0 5 edges 1 4");
     table.rows.remove(5);
     assert_eq!(check(&table), "overwritten 4 1 0");

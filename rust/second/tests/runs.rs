@@ -4,7 +4,7 @@ mod common;
 
 use common::*;
 use tables::builder::flags::{MAKE_AVAILABLE, MAKE_VISIBLE};
-use tables::{Row, Table, BLANK, INITIAL};
+use tables::{Build, Row, Table, BLANK, INITIAL};
 
 #[test]
 fn builder_gives_table_p() {
@@ -130,10 +130,7 @@ fn the_largest_table_passes() {
 #[test]
 fn lengths_up_to_16_pass() {
     let of_length = |length| {
-        Table::of_one_workgroup(
-            1,
-            &[Row::write(0), Row::read(0, INITIAL).bytes(100, length)],
-        )
+        Table::of_one_workgroup(1, &[Row::write(0), Row::read(0, INITIAL).at(100, length)])
     };
     assert_eq!(check(&of_length(16)), "race-free");
     assert_eq!(check(&of_length(17)), "refused 7 1");
@@ -142,7 +139,7 @@ fn lengths_up_to_16_pass() {
 #[test]
 fn last_byte_passes() {
     let of_length =
-        |length| Table::of_one_workgroup(1, &[Row::write(0), Row::write(0).bytes(65535, length)]);
+        |length| Table::of_one_workgroup(1, &[Row::write(0), Row::write(0).at(65535, length)]);
     assert_eq!(check(&of_length(1)), "race-free");
     assert_eq!(check(&of_length(2)), "refused 7 1");
 }

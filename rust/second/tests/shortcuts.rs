@@ -5,7 +5,7 @@ mod common;
 use common::*;
 use tables::builder::classes::{IMAGE, UNIFORM, WORKGROUP};
 use tables::builder::scope;
-use tables::{Row, Table, INITIAL};
+use tables::{Build, Row, Table, INITIAL};
 
 /// A Uniform read, a flag released and acquired for the classes, a write.
 fn read_then_write(classes: u8, write: Row) -> Table {
@@ -43,7 +43,7 @@ fn single_classes_are_not_enough() {
 /// another agent's access.
 fn two_of_four_bytes(last: Row) -> Table {
     let available = Row::write(0)
-        .bytes(0, 2)
+        .at(0, 2)
         .make_available()
         .scope(scope::WORKGROUP);
     Table::of_one_workgroup(
@@ -61,13 +61,13 @@ fn two_of_four_bytes(last: Row) -> Table {
 #[test]
 fn order_is_held_byte_by_byte() {
     assert_eq!(check(&two_of_four_bytes(Row::write(1))), "race 0 4 2");
-    let inside = Row::write(1).bytes(0, 2);
+    let inside = Row::write(1).at(0, 2);
     assert_eq!(check(&two_of_four_bytes(inside)), "race-free");
-    let read_inside = Row::read(1, 1).bytes(0, 2);
+    let read_inside = Row::read(1, 1).at(0, 2);
     assert_eq!(check(&two_of_four_bytes(read_inside)), "race-free");
-    let read_outside = Row::read(1, 0).bytes(2, 2);
+    let read_outside = Row::read(1, 0).at(2, 2);
     assert_eq!(check(&two_of_four_bytes(read_outside)), "race 0 4 2");
-    let read_across = Row::read(1, 0).bytes(1, 2);
+    let read_across = Row::read(1, 0).at(1, 2);
     assert_eq!(check(&two_of_four_bytes(read_across)), "overwritten 4 1 1");
 }
 

@@ -120,10 +120,10 @@ pub(crate) fn foreign(packed: Packed) -> ! {
     panic!("libstramashly.a gave an answer that stramashly.h doesn't have: {packed:?}")
 }
 
-/// What a check answers. The lists lie in the checker's own buffer.
+/// What a check answers, its lists borrowed or owned.
 #[derive(Clone, Copy, Debug, PartialEq, Eq)]
 #[non_exhaustive]
-pub enum CheckAnswer<'a> {
+pub enum CheckAnswerOf<L> {
     /// Every conflicting pair of rows is ordered.
     RaceFree,
     /// Two rows conflict and have no order at a byte.
@@ -147,9 +147,9 @@ pub enum CheckAnswer<'a> {
     /// Edges lead from a row back to itself; edge k leaves row k.
     Cycle {
         /// The rows, each before the next and the last before the first.
-        rows: &'a [u16],
+        rows: L,
         /// The number of the edge that leaves each row.
-        edges: &'a [u16],
+        edges: L,
     },
     /// The table breaks a rule of form.
     Refused {
@@ -160,12 +160,52 @@ pub enum CheckAnswer<'a> {
     },
 }
 
-/// What a fill answers. The list lies in the checker's own buffer.
+/// A check's answer whose lists lie in the checker's own buffer.
+pub type CheckAnswer<'a> = CheckAnswerOf<&'a [u16]>;
+/// A check's answer with lists of its own.
+pub type OwnedCheckAnswer = CheckAnswerOf<Vec<u16>>;
+
+impl<L> CheckAnswerOf<L> {
+    pub(crate) fn with<'a, M>(&'a self, list: impl Fn(&'a L) -> M) -> CheckAnswerOf<M> {
+        use CheckAnswerOf::{Cycle, Overwritten, Race, RaceFree, Refused};
+        match *self {
+            RaceFree => RaceFree,
+            Race {
+                first,
+                second,
+                byte,
+            } => Race {
+                first,
+                second,
+                byte,
+            },
+            Overwritten {
+                reader,
+                writer,
+                byte,
+            } => Overwritten {
+                reader,
+                writer,
+                byte,
+            },
+            Cycle {
+                ref rows,
+                ref edges,
+            } => Cycle {
+                rows: list(rows),
+                edges: list(edges),
+            },
+            Refused { number, row } => Refused { number, row },
+        }
+    }
+}
+
+/// What a fill answers, its list borrowed or owned.
 #[derive(Clone, Copy, Debug, PartialEq, Eq)]
 #[non_exhaustive]
-pub enum FillAnswer<'a> {
+pub enum FillAnswerOf<L> {
     /// One source for each row, 65535 where a row doesn't read.
-    Filled(&'a [u16]),
+    Filled(L),
     /// No filling is consistent.
     None,
     /// Two rows conflict and have no order at a byte.
@@ -186,52 +226,104 @@ pub enum FillAnswer<'a> {
     },
 }
 
-impl fmt::Display for CheckAnswer<'_> {
-    fn fmt(&self, formatter: &mut fmt::Formatter) -> fmt::Result {
-        match self {
-            CheckAnswer::RaceFree => write!(formatter, "race-free"),
-            CheckAnswer::Race {
+/// A fill's answer whose list lies in the checker's own buffer.
+pub type FillAnswer<'a> = FillAnswerOf<&'a [u16]>;
+/// A fill's answer with a list of its own.
+pub type OwnedFillAnswer = FillAnswerOf<Vec<u16>>;
+
+impl<L> FillAnswerOf<L> {
+    pub(crate) fn with<'a, M>(&'a self, list: impl Fn(&'a L) -> M) -> FillAnswerOf<M> {
+        use FillAnswerOf::{Filled, None, Race, Refused};
+        match *self {
+            Filled(ref sources) => Filled(list(sources)),
+            None => None,
+            Race {
                 first,
                 second,
                 byte,
-            } => write!(formatter, "race {first} {second} {byte}"),
-            CheckAnswer::Overwritten {
-                reader,
-                writer,
+            } => Race {
+                first,
+                second,
                 byte,
-            } => write!(formatter, "overwritten {reader} {writer} {byte}"),
-            CheckAnswer::Cycle { rows, edges } => {
-                write!(formatter, "cycle {} rows", rows.len())?;
-                write_numbers(formatter, rows)?;
-                write!(formatter, " edges")?;
-                write_numbers(formatter, edges)
-            }
-            CheckAnswer::Refused { number, row } => write!(formatter, "refused {number} {row}"),
+            },
+            Refused { number, row } => Refused { number, row },
         }
     }
 }
 
-impl fmt::Display for FillAnswer<'_> {
+/// Answers that own their lists, so that they outlive the checker's next one,
+/// and the same answers borrowed from them.
+macro_rules! owned_and_borrowed {
+    ($($answer:ident)*) => {
+        $(
+            impl $answer<&[u16]> {
+                /// The same with lists of its own, which no longer borrows the checker.
+                pub fn into_owned(self) -> $answer<Vec<u16>> {
+                    self.with(|list| list.to_vec())
+                }
+            }
+
+            impl $answer<Vec<u16>> {
+                /// The same as the checker gives it.
+                pub fn borrowed(&self) -> $answer<&[u16]> {
+                    self.with(Vec::as_slice)
+                }
+            }
+        )*
+    };
+}
+pub(crate) use owned_and_borrowed;
+
+owned_and_borrowed!(CheckAnswerOf FillAnswerOf);
+
+impl<L: AsRef<[u16]>> fmt::Display for CheckAnswerOf<L> {
     fn fmt(&self, formatter: &mut fmt::Formatter) -> fmt::Result {
         match self {
-            FillAnswer::Filled(sources) => {
-                write!(formatter, "filled")?;
-                write_numbers(formatter, sources)
-            }
-            FillAnswer::None => write!(formatter, "none"),
-            FillAnswer::Race {
+            CheckAnswerOf::RaceFree => write!(formatter, "race-free"),
+            CheckAnswerOf::Race {
                 first,
                 second,
                 byte,
             } => write!(formatter, "race {first} {second} {byte}"),
-            FillAnswer::Refused { number, row } => write!(formatter, "refused {number} {row}"),
+            CheckAnswerOf::Overwritten {
+                reader,
+                writer,
+                byte,
+            } => write!(formatter, "overwritten {reader} {writer} {byte}"),
+            CheckAnswerOf::Cycle { rows, edges } => {
+                write!(formatter, "cycle {} rows", rows.as_ref().len())?;
+                write_numbers(formatter, rows)?;
+                write!(formatter, " edges")?;
+                write_numbers(formatter, edges)
+            }
+            CheckAnswerOf::Refused { number, row } => write!(formatter, "refused {number} {row}"),
+        }
+    }
+}
+
+impl<L: AsRef<[u16]>> fmt::Display for FillAnswerOf<L> {
+    fn fmt(&self, formatter: &mut fmt::Formatter) -> fmt::Result {
+        match self {
+            FillAnswerOf::Filled(sources) => {
+                write!(formatter, "filled")?;
+                write_numbers(formatter, sources)
+            }
+            FillAnswerOf::None => write!(formatter, "none"),
+            FillAnswerOf::Race {
+                first,
+                second,
+                byte,
+            } => write!(formatter, "race {first} {second} {byte}"),
+            FillAnswerOf::Refused { number, row } => write!(formatter, "refused {number} {row}"),
         }
     }
 }
 
 /// The numbers, each with a space before it.
-pub(crate) fn write_numbers(formatter: &mut fmt::Formatter, numbers: &[u16]) -> fmt::Result {
-    numbers
-        .iter()
-        .try_for_each(|number| write!(formatter, " {number}"))
+pub(crate) fn write_numbers(
+    formatter: &mut fmt::Formatter,
+    numbers: &impl AsRef<[u16]>,
+) -> fmt::Result {
+    let mut numbers = numbers.as_ref().iter();
+    numbers.try_for_each(|number| write!(formatter, " {number}"))
 }

@@ -3,8 +3,7 @@
 use crate::answer::{foreign, CheckAnswer, Code, FillAnswer, Packed};
 use crate::derivation::{AcceptsAnswer, Derivation, DeriveAnswer};
 use crate::engine::{
-    accepts_in, accepts_pieces, check_by_flags, check_pieces, check_with, derive_in, derive_pieces,
-    fill_by_flags, fill_pieces, fill_with, report_pieces, report_with, Pieces,
+    accepts_in, check_by_flags, check_in, derive_in, fill_by_flags, fill_in, report_in, Pieces,
 };
 use crate::report::{Report, ReportAnswer, Share};
 use crate::{CHAIN_NUMBERS, CYCLE_EDGES, CYCLE_NUMBERS, PROGRAM_ORDER, SOURCE_NUMBERS, WORK_WORDS};
@@ -51,9 +50,10 @@ impl Checker {
         self.chains
     }
 
-    /// Checks a table, whatever its bytes.
-    pub fn check(&mut self, table: &[u8]) -> CheckAnswer<'_> {
-        let packed = check_with(self.chains, table, &mut self.work[..], &mut self.cycle);
+    /// Checks a table in one piece or two, whatever their bytes.
+    pub fn check<'t>(&mut self, table: impl Into<Pieces<'t>>) -> CheckAnswer<'_> {
+        let table = table.into();
+        let packed = check_in(self.chains, table, &mut self.work[..], &mut self.cycle);
         self.checked(packed)
     }
 
@@ -64,57 +64,60 @@ impl Checker {
         self.checked(packed)
     }
 
+    /// Fills the blanks of a table in one piece or two, whatever their bytes.
+    pub fn fill<'t>(&mut self, table: impl Into<Pieces<'t>>) -> FillAnswer<'_> {
+        let table = table.into();
+        let packed = fill_in(self.chains, table, &mut self.work[..], &mut self.sources);
+        self.filled(packed)
+    }
+
     /// Fills the blanks of a table by the obvious engine.
     pub fn fill_by_flags(&mut self, table: &[u8]) -> FillAnswer<'_> {
         let packed = fill_by_flags(self.chains, table, &mut self.work[..], &mut self.sources);
         self.filled(packed)
     }
 
-    /// Counts a table's conflicting pairs, whatever its bytes.
-    pub fn report(&mut self, table: &[u8]) -> ReportAnswer<'_> {
+    /// Counts the conflicting pairs of a table in one piece or two.
+    pub fn report<'t>(&mut self, table: impl Into<Pieces<'t>>) -> ReportAnswer<'_> {
         let (work, cycle) = (&mut self.work[..], &mut self.cycle);
         let mut share = 0.0;
-        let packed = report_with(self.chains, table, work, cycle, &mut share);
+        let packed = report_in(self.chains, table.into(), work, cycle, &mut share);
         self.counted(packed, share)
     }
 
-    /// Checks a table in two pieces, whatever their bytes.
-    pub fn check_pieces(&mut self, pieces: Pieces) -> CheckAnswer<'_> {
-        let packed = check_pieces(self.chains, pieces, &mut self.work[..], &mut self.cycle);
-        self.checked(packed)
-    }
-
-    /// Fills the blanks of a table in two pieces, whatever their bytes.
-    pub fn fill_pieces(&mut self, pieces: Pieces) -> FillAnswer<'_> {
-        let packed = fill_pieces(self.chains, pieces, &mut self.work[..], &mut self.sources);
-        self.filled(packed)
-    }
-
-    /// Counts the conflicting pairs of a table in two pieces.
-    pub fn report_pieces(&mut self, pieces: Pieces) -> ReportAnswer<'_> {
-        let (work, cycle) = (&mut self.work[..], &mut self.cycle);
-        let mut share = 0.0;
-        let packed = report_pieces(self.chains, pieces, work, cycle, &mut share);
-        self.counted(packed, share)
-    }
-
-    /// Why one moment of a table in two pieces happens before another.
-    pub fn derive_pieces(&mut self, pieces: Pieces, first: u16, second: u16) -> DeriveAnswer<'_> {
+    /// Why one moment of a table happens before another, whatever the bytes
+    /// and the numbers.
+    pub fn derive<'t>(
+        &mut self,
+        table: impl Into<Pieces<'t>>,
+        first: u16,
+        second: u16,
+    ) -> DeriveAnswer<'_> {
         let moments = [first, second];
-        let packed = derive_pieces(pieces, moments, &mut self.work[..], &mut self.chain);
+        let packed = derive_in(table.into(), moments, &mut self.work[..], &mut self.chain);
         self.derived(packed)
     }
 
-    /// Whether a derivation leads from one moment of a table in two pieces to
-    /// another.
-    pub fn accepts_pieces(
-        pieces: Pieces,
+    /// Whether a derivation, whoever wrote it, leads from one moment of a
+    /// table to another. It needs no buffers, so that a derivation that lies in
+    /// a checker's can be read.
+    pub fn accepts<'t>(
+        table: impl Into<Pieces<'t>>,
         first: u16,
         second: u16,
         derivation: Derivation,
     ) -> AcceptsAnswer {
         let (classes, steps) = (derivation.classes(), derivation.steps());
-        accepted(accepts_pieces(pieces, [first, second], classes, steps))
+        let packed = accepts_in(table.into(), [first, second], classes, steps);
+        match packed.code() {
+            Some(Code::Accepted) => AcceptsAnswer::Accepted,
+            Some(Code::NotAccepted) => AcceptsAnswer::NotAccepted,
+            Some(Code::Refused) => AcceptsAnswer::Refused {
+                number: packed.a(),
+                row: packed.b(),
+            },
+            _ => foreign(packed),
+        }
     }
 
     /// A report's answer, taken apart, with the share that came beside it.
@@ -153,12 +156,6 @@ impl Checker {
         }
     }
 
-    /// Fills a table's blanks, whatever its bytes.
-    pub fn fill(&mut self, table: &[u8]) -> FillAnswer<'_> {
-        let packed = fill_with(self.chains, table, &mut self.work[..], &mut self.sources);
-        self.filled(packed)
-    }
-
     /// A fill's answer, taken apart; the sources lie in the buffer.
     fn filled(&self, packed: Packed) -> FillAnswer<'_> {
         let (a, b, c) = (packed.a(), packed.b(), packed.c());
@@ -173,13 +170,6 @@ impl Checker {
             Some(Code::Refused) => FillAnswer::Refused { number: a, row: b },
             _ => foreign(packed),
         }
-    }
-
-    /// Why one moment of a table happens before another, whatever the bytes
-    /// and the numbers.
-    pub fn derive(&mut self, table: &[u8], first: u16, second: u16) -> DeriveAnswer<'_> {
-        let packed = derive_in(table, first, second, &mut self.work[..], &mut self.chain);
-        self.derived(packed)
     }
 
     /// What was derived, taken apart; a chain lies in the buffer.
@@ -197,27 +187,6 @@ impl Checker {
             Some(Code::Refused) => DeriveAnswer::Refused { number: a, row: b },
             _ => foreign(packed),
         }
-    }
-
-    /// Whether a derivation, whoever wrote it, leads from one moment of a
-    /// table to another. It needs no buffers, so that a derivation that lies in
-    /// a checker's can be read.
-    pub fn accepts(table: &[u8], first: u16, second: u16, derivation: Derivation) -> AcceptsAnswer {
-        let (classes, steps) = (derivation.classes(), derivation.steps());
-        accepted(accepts_in(table, first, second, classes, steps))
-    }
-}
-
-/// The reader's answer, taken apart.
-fn accepted(packed: Packed) -> AcceptsAnswer {
-    match packed.code() {
-        Some(Code::Accepted) => AcceptsAnswer::Accepted,
-        Some(Code::NotAccepted) => AcceptsAnswer::NotAccepted,
-        Some(Code::Refused) => AcceptsAnswer::Refused {
-            number: packed.a(),
-            row: packed.b(),
-        },
-        _ => foreign(packed),
     }
 }
 

@@ -1,6 +1,6 @@
 //! Derivations of happens-before, and what is answered about them.
 
-use crate::answer::write_numbers;
+use crate::answer::{owned_and_borrowed, write_numbers};
 use crate::PROGRAM_ORDER;
 use std::fmt;
 
@@ -8,7 +8,7 @@ use std::fmt;
 /// for before, at or after; a step is 512 × its case (1 to 3 in M6's order, 4
 /// for a dependency) + the moment that it reaches.
 #[derive(Clone, Copy, Debug, PartialEq, Eq)]
-pub enum Derivation<'a> {
+pub enum DerivationOf<L> {
     /// The word program order.
     ProgramOrder,
     /// Steps for one class set, 1 to 15. As in C, the set 16 is the word.
@@ -16,8 +16,25 @@ pub enum Derivation<'a> {
         /// The class set.
         classes: u8,
         /// The steps, 1 to 383 of them.
-        steps: &'a [u16],
+        steps: L,
     },
+}
+
+/// A derivation whose steps lie elsewhere.
+pub type Derivation<'a> = DerivationOf<&'a [u16]>;
+/// A derivation with steps of its own.
+pub type OwnedDerivation = DerivationOf<Vec<u16>>;
+
+impl<L> DerivationOf<L> {
+    pub(crate) fn with<'a, M>(&'a self, list: impl Fn(&'a L) -> M) -> DerivationOf<M> {
+        match *self {
+            DerivationOf::ProgramOrder => DerivationOf::ProgramOrder,
+            DerivationOf::Chain { classes, ref steps } => DerivationOf::Chain {
+                classes,
+                steps: list(steps),
+            },
+        }
+    }
 }
 
 impl<'a> Derivation<'a> {
@@ -38,12 +55,12 @@ impl<'a> Derivation<'a> {
     }
 }
 
-/// What the finder answers. A chain lies in the checker's own buffer.
+/// What the finder answers.
 #[derive(Clone, Copy, Debug, PartialEq, Eq)]
 #[non_exhaustive]
-pub enum DeriveAnswer<'a> {
+pub enum DeriveAnswerOf<L> {
     /// The first moment happens before the second, and this is why.
-    Derivation(Derivation<'a>),
+    Derivation(DerivationOf<L>),
     /// The first moment doesn't happen before the second.
     NotBefore,
     /// The table breaks a rule of form, or the numbers aren't those of two
@@ -55,6 +72,24 @@ pub enum DeriveAnswer<'a> {
         row: u16,
     },
 }
+
+/// The finder's answer; a chain lies in the checker's own buffer.
+pub type DeriveAnswer<'a> = DeriveAnswerOf<&'a [u16]>;
+/// The finder's answer with a derivation of its own.
+pub type OwnedDeriveAnswer = DeriveAnswerOf<Vec<u16>>;
+
+impl<L> DeriveAnswerOf<L> {
+    pub(crate) fn with<'a, M>(&'a self, list: impl Fn(&'a L) -> M) -> DeriveAnswerOf<M> {
+        use DeriveAnswerOf::{Derivation, NotBefore, Refused};
+        match *self {
+            Derivation(ref derivation) => Derivation(derivation.with(list)),
+            NotBefore => NotBefore,
+            Refused { number, row } => Refused { number, row },
+        }
+    }
+}
+
+owned_and_borrowed!(DerivationOf DeriveAnswerOf);
 
 /// What the reader of derivations answers.
 #[derive(Clone, Copy, Debug, PartialEq, Eq)]
@@ -74,11 +109,11 @@ pub enum AcceptsAnswer {
     },
 }
 
-impl fmt::Display for Derivation<'_> {
+impl<L: AsRef<[u16]>> fmt::Display for DerivationOf<L> {
     fn fmt(&self, formatter: &mut fmt::Formatter) -> fmt::Result {
         match self {
-            Derivation::ProgramOrder => write!(formatter, "program-order"),
-            Derivation::Chain { classes, steps } => {
+            DerivationOf::ProgramOrder => write!(formatter, "program-order"),
+            DerivationOf::Chain { classes, steps } => {
                 write!(formatter, "chain {classes}")?;
                 write_numbers(formatter, steps)
             }
@@ -86,12 +121,12 @@ impl fmt::Display for Derivation<'_> {
     }
 }
 
-impl fmt::Display for DeriveAnswer<'_> {
+impl<L: AsRef<[u16]>> fmt::Display for DeriveAnswerOf<L> {
     fn fmt(&self, formatter: &mut fmt::Formatter) -> fmt::Result {
         match self {
-            DeriveAnswer::Derivation(derivation) => write!(formatter, "{derivation}"),
-            DeriveAnswer::NotBefore => write!(formatter, "not-before"),
-            DeriveAnswer::Refused { number, row } => write!(formatter, "refused {number} {row}"),
+            DeriveAnswerOf::Derivation(derivation) => write!(formatter, "{derivation}"),
+            DeriveAnswerOf::NotBefore => write!(formatter, "not-before"),
+            DeriveAnswerOf::Refused { number, row } => write!(formatter, "refused {number} {row}"),
         }
     }
 }

@@ -63,8 +63,8 @@
 //! through its rows.
 //!
 //! A table may come in two pieces, a table and more rows for it, which need not
-//! be copied together: [`Checker::check_pieces`] and its like. The answer is
-//! that of the joined table; [`row_of_pieces`] finds a row of either.
+//! be copied together: [`Checker::check`] and its like take either. The answer
+//! is that of the joined table; [`row_of_pieces`] finds a row of either.
 //!
 //! ```
 //! use stramashly::{row_of_pieces, Checker};
@@ -73,10 +73,10 @@
 //! let write = [1, 0, 0, 0, 0, 0, 0, 4, 0, 0, 0, 0, 255, 255, 0, 0];
 //! let pieces = [&prologue[..], &write];
 //! let mut checker = Checker::new();
-//! assert_eq!(checker.check_pieces(pieces).to_string(), "race-free");
+//! assert_eq!(checker.check(pieces).to_string(), "race-free");
 //! assert_eq!(row_of_pieces(pieces, 0), Some(&write[..]));
 //! assert_eq!(row_of_pieces(pieces, 1), None);
-//! assert_eq!(checker.check_pieces([&prologue, &write[1..]]).to_string(), "refused 40 0");
+//! assert_eq!(checker.check([&prologue[..], &write[1..]]).to_string(), "refused 40 0");
 //! ```
 //!
 //! [`check_in`], [`fill_in`], [`derive_in`] and [`report_in`] take lent buffers
@@ -89,49 +89,31 @@ mod answer;
 mod checker;
 mod derivation;
 mod engine;
-mod owned;
 mod refusal;
 mod report;
 mod rows;
 mod values;
 mod writer;
 
-pub use answer::{CheckAnswer, Code, FillAnswer, Packed};
+pub use answer::{CheckAnswer, CheckAnswerOf, Code, OwnedCheckAnswer, Packed};
+pub use answer::{FillAnswer, FillAnswerOf, OwnedFillAnswer};
 pub use checker::Checker;
-pub use derivation::{AcceptsAnswer, Derivation, DeriveAnswer};
+pub use derivation::{AcceptsAnswer, Derivation, DerivationOf, OwnedDerivation};
+pub use derivation::{DeriveAnswer, DeriveAnswerOf, OwnedDeriveAnswer};
 pub use engine::{
-    accepts_in, accepts_pieces, check_by_flags, check_in, check_pieces, check_with, derive_in,
-    derive_pieces, fill_by_flags, fill_in, fill_pieces, fill_with, open_in, read_in, report_in,
-    report_pieces, report_with, row_in, row_of_pieces, write_in, Pieces,
+    accepts_in, check_by_flags, check_in, derive_in, fill_by_flags, fill_in, open_in, read_in,
+    report_in, row_in, row_of_pieces, write_in, Pieces,
 };
-pub use owned::{
-    OwnedCheckAnswer, OwnedDerivation, OwnedDeriveAnswer, OwnedFillAnswer, OwnedReportAnswer,
-};
+pub use format::{Row, BLANK, INITIAL};
+pub use format::{MAX_AGENTS, MAX_DEPENDENCIES, MAX_ROWS, MAX_TABLE_BYTES, ROW_BYTES};
 pub use refusal::REFUSALS;
-pub use report::{Report, ReportAnswer, Share};
+pub use report::{OwnedReportAnswer, Report, ReportAnswer, ReportAnswerOf, Share};
 pub use rows::Rows;
 pub use values::{AgentKind, Class, Classes, Flags, Kind, Order, Scope, UnknownCode};
-pub use writer::{Refusal, Row, TableWriter};
+pub use writer::{Refusal, TableWriter};
 
 /// The version of this crate, and of the library and header that it is released with.
 pub const VERSION: &str = env!("CARGO_PKG_VERSION");
-
-/// Source number for the initial value.
-pub const INITIAL: u16 = 65535;
-/// Source number for a blank, which a fill decides.
-pub const BLANK: u16 = 65534;
-
-/// Most rows of a table.
-pub const MAX_ROWS: usize = 128;
-/// Bytes of a row.
-pub const ROW_BYTES: usize = 16;
-/// Most agents of a table.
-pub const MAX_AGENTS: usize = 32;
-/// Most dependencies of a table of version 3.
-pub const MAX_DEPENDENCIES: usize = 64;
-/// Most bytes of a table: its header, agents, rows and dependencies.
-pub const MAX_TABLE_BYTES: usize =
-    8 + 8 * MAX_AGENTS + ROW_BYTES * MAX_ROWS + 2 + 4 * MAX_DEPENDENCIES;
 
 /// Least length of the lent work area, in 64-bit words.
 pub const WORK_WORDS: usize = 8192;

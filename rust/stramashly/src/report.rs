@@ -1,17 +1,33 @@
 //! Reports: how many pairs conflict, and what comes of them.
 
-use crate::answer::CheckAnswer;
+use crate::answer::{owned_and_borrowed, CheckAnswerOf};
 use std::fmt;
 
 /// What a report answers.
 #[derive(Clone, Copy, Debug, PartialEq)]
 #[non_exhaustive]
-pub enum ReportAnswer<'a> {
+pub enum ReportAnswerOf<L> {
     /// The counts.
     Report(Report),
     /// A refused or inconsistent table has check's answer and no report.
-    Check(CheckAnswer<'a>),
+    Check(CheckAnswerOf<L>),
 }
+
+/// A report's answer whose lists lie in the checker's own buffer.
+pub type ReportAnswer<'a> = ReportAnswerOf<&'a [u16]>;
+/// A report's answer with lists of its own.
+pub type OwnedReportAnswer = ReportAnswerOf<Vec<u16>>;
+
+impl<L> ReportAnswerOf<L> {
+    pub(crate) fn with<'a, M>(&'a self, list: impl Fn(&'a L) -> M) -> ReportAnswerOf<M> {
+        match self {
+            ReportAnswerOf::Report(report) => ReportAnswerOf::Report(*report),
+            ReportAnswerOf::Check(answer) => ReportAnswerOf::Check(answer.with(list)),
+        }
+    }
+}
+
+owned_and_borrowed!(ReportAnswerOf);
 
 /// The conflicting pairs of a consistent table, counted.
 #[derive(Clone, Copy, Debug, PartialEq)]
@@ -37,11 +53,11 @@ pub enum Share {
     NoPairs,
 }
 
-impl fmt::Display for ReportAnswer<'_> {
+impl<L: AsRef<[u16]>> fmt::Display for ReportAnswerOf<L> {
     fn fmt(&self, formatter: &mut fmt::Formatter) -> fmt::Result {
         match self {
-            ReportAnswer::Report(report) => write!(formatter, "{report}"),
-            ReportAnswer::Check(answer) => write!(formatter, "{answer}"),
+            ReportAnswerOf::Report(report) => write!(formatter, "{report}"),
+            ReportAnswerOf::Check(answer) => write!(formatter, "{answer}"),
         }
     }
 }

@@ -2,8 +2,8 @@
 
 use crate::answer::{foreign, Code};
 use crate::engine::read_in;
-use crate::writer::{refusal, Refusal, Row};
-use crate::{READ_DEPENDENCIES, READ_PLACES, READ_ROWS, ROW_BYTES};
+use crate::writer::{refusal, Refusal};
+use crate::{Row, READ_DEPENDENCIES, READ_PLACES, READ_ROWS, ROW_BYTES};
 use std::iter::FusedIterator;
 
 /// Steps through one table: it holds the bytes that it was lent, its rows and its

@@ -2,88 +2,9 @@
 
 use crate::answer::{Code, Packed};
 use crate::engine::{read_in, write_in};
-use crate::{MAX_TABLE_BYTES, READ_DEPENDENCIES, READ_PLACES, READ_ROWS, ROW_BYTES};
+use crate::{Row, MAX_TABLE_BYTES, READ_DEPENDENCIES, READ_PLACES, READ_ROWS, ROW_BYTES};
 use std::error::Error;
 use std::fmt;
-
-/// A row as values: the fields of a table's row, in its order.
-#[derive(Clone, Copy, Debug, Default, PartialEq, Eq)]
-pub struct Row {
-    /// What the agent did: 0 a plain read, and so on; a [`Kind`](crate::Kind).
-    pub kind: u8,
-    /// The agent's number.
-    pub agent: u8,
-    /// 0 relaxed, 1 acquire, 2 release, 3 both; an [`Order`](crate::Order).
-    pub order: u8,
-    /// 0 invocation, 1 subgroup, 2 workgroup, 3 queue family, 4 device; a
-    /// [`Scope`](crate::Scope).
-    pub scope: u8,
-    /// Semantics classes: the sum of 1 Uniform, 2 Workgroup, 4 Image, 8 Output;
-    /// [`Classes`](crate::Classes).
-    pub classes: u8,
-    /// The sum of 1 non-private, 2 make available, 4 make visible;
-    /// [`Flags`](crate::Flags).
-    pub flags: u8,
-    /// The [`Class`](crate::Class) accessed, 0 to 3; a control barrier's
-    /// execution scope.
-    pub class: u8,
-    /// How many bytes are accessed.
-    pub length: u8,
-    /// The first byte accessed; a control barrier's instance number.
-    pub start: u16,
-    /// By which variable or pointer the memory is reached.
-    pub reference: u16,
-    /// The row that was read, [`INITIAL`](crate::INITIAL) or
-    /// [`BLANK`](crate::BLANK).
-    pub source: u16,
-    /// An atomic writer's place in the modification order of its location.
-    pub rank: u16,
-}
-
-impl Row {
-    /// The row of sixteen bytes.
-    pub fn from_bytes(bytes: [u8; ROW_BYTES]) -> Row {
-        let pair = |at: usize| u16::from_be_bytes([bytes[at], bytes[at + 1]]);
-        Row {
-            kind: bytes[0],
-            agent: bytes[1],
-            order: bytes[2],
-            scope: bytes[3],
-            classes: bytes[4],
-            flags: bytes[5],
-            class: bytes[6],
-            length: bytes[7],
-            start: pair(8),
-            reference: pair(10),
-            source: pair(12),
-            rank: pair(14),
-        }
-    }
-
-    /// The row's sixteen bytes.
-    pub fn bytes(self) -> [u8; ROW_BYTES] {
-        let [start, reference, source, rank] =
-            [self.start, self.reference, self.source, self.rank].map(u16::to_be_bytes);
-        [
-            self.kind,
-            self.agent,
-            self.order,
-            self.scope,
-            self.classes,
-            self.flags,
-            self.class,
-            self.length,
-            start[0],
-            start[1],
-            reference[0],
-            reference[1],
-            source[0],
-            source[1],
-            rank[0],
-            rank[1],
-        ]
-    }
-}
 
 /// Which rule of form is broken, and the row that breaks it.
 #[derive(Clone, Copy, Debug, PartialEq, Eq)]

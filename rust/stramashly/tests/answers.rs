@@ -118,7 +118,7 @@ fn threads_may_check_at_once() {
 fn lent_buffers_hold_what_the_header_says() {
     let mut work = vec![7; WORK_WORDS + 1];
     let mut cycle = vec![9; CYCLE_NUMBERS + 1];
-    let packed = check_in(&example("p-initial"), &mut work, &mut cycle);
+    let packed = check_in(false, (&example("p-initial")).into(), &mut work, &mut cycle);
     assert_eq!(packed, Packed::new(Code::Cycle, 2, 0, 0));
     let mut expected = vec![0; CYCLE_NUMBERS + 1];
     expected[..2].copy_from_slice(&[0, 3]);
@@ -129,7 +129,7 @@ fn lent_buffers_hold_what_the_header_says() {
     assert_eq!(work[WORK_WORDS], 7);
 
     let mut sources = vec![9; SOURCE_NUMBERS];
-    let packed = fill_in(&example("fill"), &mut work, &mut sources);
+    let packed = fill_in(false, (&example("fill")).into(), &mut work, &mut sources);
     assert_eq!(packed, Packed::new(Code::Filled, 4, 0, 0));
     assert_eq!(sources[..5], [INITIAL, INITIAL, 1, 0, 9]);
 }
@@ -139,11 +139,22 @@ fn short_buffers_are_refusal_11() {
     let refused = Packed::new(Code::Refused, 11, 0, 0);
     let table = example("p");
     let (mut work, mut cycle) = (vec![7; WORK_WORDS], vec![9; CYCLE_NUMBERS]);
-    assert_eq!(check_in(&table, &mut work[1..], &mut cycle), refused);
-    assert_eq!(check_in(&table, &mut work, &mut cycle[1..]), refused);
-    assert_eq!(check_in(&table, &mut [], &mut []), refused);
     assert_eq!(
-        fill_in(&table, &mut work, &mut cycle[..SOURCE_NUMBERS - 1]),
+        check_in(false, (&table).into(), &mut work[1..], &mut cycle),
+        refused
+    );
+    assert_eq!(
+        check_in(false, (&table).into(), &mut work, &mut cycle[1..]),
+        refused
+    );
+    assert_eq!(check_in(false, (&table).into(), &mut [], &mut []), refused);
+    assert_eq!(
+        fill_in(
+            false,
+            (&table).into(),
+            &mut work,
+            &mut cycle[..SOURCE_NUMBERS - 1]
+        ),
         refused
     );
     assert!(work.iter().all(|word| *word == 7) && cycle.iter().all(|number| *number == 9));

@@ -149,7 +149,14 @@ fn the_header_declares_what_is_exported() {
 
 #[test]
 fn this_crate_declares_what_is_exported() {
-    assert_eq!(of_rust(), exported());
+    let mut exported = exported();
+    // A table in one piece goes to the functions of two.
+    for name in ["check", "fill", "report", "derive", "accepts"] {
+        let one = exported.remove(&format!("stramashly_{name}"));
+        assert!(one.is_some(), "{name}");
+        assert!(exported.contains_key(&format!("stramashly_{name}2")));
+    }
+    assert_eq!(of_rust(), exported);
 }
 
 /// The modules of Python that declare functions of the library.

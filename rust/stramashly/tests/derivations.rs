@@ -82,7 +82,7 @@ fn lent_buffers_hold_what_the_header_says() {
     let table = example("p");
     let mut work = vec![7; WORK_WORDS + 1];
     let mut chain = vec![9; CHAIN_NUMBERS + 1];
-    let packed = derive_in(&table, 3, 8, &mut work, &mut chain);
+    let packed = derive_in((&table).into(), [3, 8], &mut work, &mut chain);
     assert_eq!(packed, Packed::new(Code::Derivation, 1, 3, 0));
     assert_eq!(chain[..3], STEPS);
     assert!(chain[3..].iter().all(|number| *number == 9));
@@ -93,7 +93,7 @@ fn lent_buffers_hold_what_the_header_says() {
         (4, 1, Packed::new(Code::NotBefore, 0, 0, 0)),
     ] {
         let (mut work, mut chain) = (vec![7; WORK_WORDS], vec![9; CHAIN_NUMBERS]);
-        let packed = derive_in(&table, first, second, &mut work, &mut chain);
+        let packed = derive_in((&table).into(), [first, second], &mut work, &mut chain);
         assert_eq!(packed, expected);
         assert!(chain.iter().all(|number| *number == 9));
         assert!(work.iter().all(|word| *word == 0));
@@ -107,15 +107,21 @@ fn refusals_keep_the_buffers() {
     let table = example("p");
     // Refusal 11 comes before all others.
     for table in [&table, &Vec::new()] {
-        let packed = derive_in(table, 3, 8, &mut work[1..], &mut chain);
+        let packed = derive_in(table.into(), [3, 8], &mut work[1..], &mut chain);
         assert_eq!(packed, refused(11));
-        let packed = derive_in(table, 3, 3, &mut work, &mut chain[1..]);
+        let packed = derive_in(table.into(), [3, 3], &mut work, &mut chain[1..]);
         assert_eq!(packed, refused(11));
-        assert_eq!(derive_in(table, 3, 8, &mut [], &mut []), refused(11));
+        assert_eq!(
+            derive_in(table.into(), [3, 8], &mut [], &mut []),
+            refused(11)
+        );
     }
-    let packed = derive_in(&table, 3, 0, &mut work, &mut chain);
+    let packed = derive_in((&table).into(), [3, 0], &mut work, &mut chain);
     assert_eq!(packed, refused(12));
-    assert_eq!(derive_in(&[], 3, 0, &mut work, &mut chain), refused(1));
+    assert_eq!(
+        derive_in((&[]).into(), [3, 0], &mut work, &mut chain),
+        refused(1)
+    );
     assert!(work.iter().all(|word| *word == 7) && chain.iter().all(|number| *number == 9));
 }
 

@@ -100,7 +100,7 @@ fn the_share_is_the_division() {
 /// A report and what stands in the place of its share, which was 7.0.
 fn report_beside(name: &str, work: &mut [u64], cycle: &mut [u16]) -> (Packed, f64) {
     let mut share = 7.0;
-    let packed = report_in(&example(name), work, cycle, &mut share);
+    let packed = report_in(false, (&example(name)).into(), work, cycle, &mut share);
     (packed, share)
 }
 

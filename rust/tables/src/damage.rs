@@ -1,6 +1,6 @@
 //! Damage to good tables, so that every refusal is reached at various rows.
 
-use crate::builder::{flags, kind, order, Row, Table, BLANK, INITIAL, MAX_AGENTS, MAX_ROWS};
+use crate::builder::{flags, kind, order, Build, Row, Table, BLANK, INITIAL, MAX_AGENTS, MAX_ROWS};
 use crate::generator::{checkable, Size};
 use crate::mutation::{in_one_order, rows_that};
 use crate::random::Random;

@@ -9,7 +9,7 @@ mod hosted;
 
 pub(crate) use hosted::{hosted_episode, Cast};
 
-use crate::builder::{kind, order, scope, Row, INITIAL};
+use crate::builder::{kind, order, scope, Build, Row, INITIAL};
 use crate::random::Random;
 
 /// Bytes with the reference and class that they are accessed by.
@@ -27,7 +27,7 @@ impl Place {
     }
 
     fn of(self, row: Row) -> Row {
-        row.bytes(self.start, self.length)
+        row.at(self.start, self.length)
             .reference(self.reference)
             .class(self.class)
     }
@@ -582,5 +582,5 @@ impl<'a> Episode<'a> {
 fn overlap(row: Row, other: Row) -> Row {
     let start = row.start.max(other.start);
     let length = row.end().min(other.end()) - u32::from(start);
-    row.bytes(start, length as u8)
+    row.at(start, length as u8)
 }

@@ -2,7 +2,7 @@
 
 use crate::builder::classes::{IMAGE, UNIFORM, WORKGROUP};
 use crate::builder::flags::{MAKE_AVAILABLE, MAKE_VISIBLE};
-use crate::builder::{kind, order, scope, sort, Row, Table, BLANK, INITIAL};
+use crate::builder::{kind, order, scope, sort, Build, Row, Table, BLANK, INITIAL};
 
 /// A file's name without its ending, and its bytes.
 pub struct Example {
@@ -45,9 +45,9 @@ type Named = (&'static str, Table);
 /// A slot is given to a tenant: one invocation writes the tenant's number and
 /// the slot's data, another one reads both once the flag is up.
 fn slot_given_away() -> Table {
-    let number = |row: Row| row.bytes(0, 4).reference(1);
-    let data = |row: Row| row.bytes(16, 8).reference(2);
-    let flag = |row: Row| row.bytes(64, 4).reference(3).scope(scope::FAMILY);
+    let number = |row: Row| row.at(0, 4).reference(1);
+    let data = |row: Row| row.at(16, 8).reference(2);
+    let flag = |row: Row| row.at(64, 4).reference(3).scope(scope::FAMILY);
     Table::new(
         &[[0, 0, 0], [0, 1, 0]],
         &[
@@ -72,7 +72,7 @@ fn story() -> Vec<Named> {
 
 /// A flag is an atomic place of its own: bytes 4 to 7, reference 2.
 fn flag(row: Row) -> Row {
-    row.bytes(4, 4).reference(2).scope(scope::WORKGROUP)
+    row.at(4, 4).reference(2).scope(scope::WORKGROUP)
 }
 
 /// Data written, a flag released, the flag acquired, the data read.
@@ -204,7 +204,7 @@ fn counted_ranks() -> Vec<Named> {
 /// another agent acquires it and releases a second flag in another scope, and
 /// a third acquires that and reads.
 fn by_two_agents(agents: [[u16; 3]; 3], first: u8, second: u8) -> Table {
-    let second_flag = |row: Row| row.bytes(8, 4).reference(3).scope(second);
+    let second_flag = |row: Row| row.at(8, 4).reference(3).scope(second);
     let release = |row: Row| row.release(UNIFORM).make_available();
     let acquire = |row: Row| row.acquire(UNIFORM).make_visible();
     let first_flag = |row: Row| flag(row).scope(first);
@@ -256,7 +256,7 @@ fn read_then_write(classes: u8, write: Row) -> Table {
 /// another agent's access.
 fn two_of_four_bytes(last: Row) -> Table {
     let available = Row::write(0)
-        .bytes(0, 2)
+        .at(0, 2)
         .make_available()
         .scope(scope::WORKGROUP);
     Table::of_one_workgroup(
@@ -334,8 +334,8 @@ fn fills() -> Vec<Named> {
     });
     let before_any = [Row::read(0, BLANK), Row::write(0), Row::read(0, BLANK)];
     let two_halves = [
-        Row::write(0).bytes(0, 2),
-        Row::write(0).bytes(2, 2),
+        Row::write(0).at(0, 2),
+        Row::write(0).at(2, 2),
         Row::read(0, BLANK),
     ];
     vec![
@@ -376,7 +376,7 @@ fn hosts() -> Vec<Named> {
         table.dependencies.truncate(3);
     });
     let other_row = changed(in_line(&upload), |table| {
-        table.insert(1, Row::write(0).private().bytes(8, 4));
+        table.insert(1, Row::write(0).private().at(8, 4));
         table.dependencies[0][0] = 1;
     });
     let read_first = in_line(&[
@@ -395,9 +395,9 @@ fn hosts() -> Vec<Named> {
 }
 
 fn forms() -> Vec<Named> {
-    let too_long = [Row::write(0), Row::read(0, INITIAL).bytes(100, 17)];
-    let odd_atomic = [Row::write(0), Row::atomic_write(0, 1).bytes(100, 3)];
-    let wrong_class = [Row::write(0), Row::write(0).bytes(8, 4).class(2)];
+    let too_long = [Row::write(0), Row::read(0, INITIAL).at(100, 17)];
+    let odd_atomic = [Row::write(0), Row::atomic_write(0, 1).at(100, 3)];
+    let wrong_class = [Row::write(0), Row::write(0).at(8, 4).class(2)];
     vec![
         ("empty", Table::default()),
         ("too-long", Table::of_one_workgroup(1, &too_long)),

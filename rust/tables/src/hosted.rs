@@ -1,6 +1,6 @@
 //! Tables of version 3: runs of shaders with hosts and queues beside them.
 
-use crate::builder::{kind, sort, Row, Table, BLANK, INITIAL, MAX_DEPENDENCIES};
+use crate::builder::{kind, sort, Build, Row, Table, BLANK, INITIAL, MAX_DEPENDENCIES};
 use crate::episode::{episode, hosted_episode, Cast, Ground};
 use crate::generator::{agents, append, shuffle_agents, Size};
 use crate::mutation::{make_cyclic, make_stale, mutate, repair, rows_that};
@@ -76,7 +76,7 @@ fn run(random: &mut Random, size: Size) -> Table {
     while table.rows.len() < size.least {
         let host = random.pick(&cast.hosts);
         let bytes = table.rows.len() as u16 * 16;
-        table.rows.push(Row::read(host, INITIAL).bytes(bytes, 1));
+        table.rows.push(Row::read(host, INITIAL).at(bytes, 1));
     }
     repair(random, &mut table);
     number_agents_anew(random, &mut table);

@@ -14,10 +14,11 @@ mod moved;
 mod mutation;
 mod random;
 
-pub use builder::{hex, Row, Table, BLANK, INITIAL, MAX_AGENTS, MAX_DEPENDENCIES, MAX_ROWS};
+pub use builder::{Build, Row, Table, BLANK, INITIAL, MAX_AGENTS, MAX_DEPENDENCIES, MAX_ROWS};
 pub use chained::{chained, chained_fillable};
 pub use damage::damaged;
 pub use examples::{examples, Example};
+pub use format::digits as hex;
 pub use generator::{checkable, clean, fillable, Size};
 pub use hosted::{hosted, hosted_fillable};
 pub use hosted_damage::damaged_hosted;

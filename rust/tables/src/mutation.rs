@@ -1,7 +1,7 @@
 //! Mutations of a table, and the repair that keeps a mutated table admissible.
 
 use crate::builder::{
-    flags, kind, order, scope, sort, Row, Table, BLANK, INITIAL, MAX_DEPENDENCIES,
+    flags, kind, order, scope, sort, Build, Row, Table, BLANK, INITIAL, MAX_DEPENDENCIES,
 };
 use crate::counted::repair_run;
 use crate::random::Random;
@@ -323,7 +323,7 @@ fn repair_agent(random: &mut Random, table: &mut Table, place: usize) {
     } else if table.sort(row.agent) == sort::QUEUE {
         table.rows[place] = Row::queue(row.agent, random.between(7, 12) as u8);
     } else {
-        table.rows[place] = Row::read(row.agent, INITIAL).bytes(0, 1).reference(9999);
+        table.rows[place] = Row::read(row.agent, INITIAL).at(0, 1).reference(9999);
     }
 }
 

@@ -1,11 +1,11 @@
 //! The builder's bytes, row insertion, and the generator program's lines.
 
 use std::process::{Command, Output};
-use tables::{hex, Random, Row, Table, BLANK, INITIAL};
+use tables::{hex, Build, Random, Row, Table, BLANK, INITIAL};
 
 #[test]
 fn bytes_follow_the_layout() {
-    let row = Row::rmw(1, 2, 0x0304).bytes(0x0506, 7).reference(0x0809);
+    let row = Row::rmw(1, 2, 0x0304).at(0x0506, 7).reference(0x0809);
     let table = Table::new(&[[1, 2, 3], [4, 5, 6]], &[row]);
     let expected = "0000002001020100000100020003000400050006\
          04010004000100070506080900020304";

@@ -1,14 +1,14 @@
 //! Moved rows keep each agent's order, and their sources.
 
-use tables::{checkable, moved, Random, Row, Size, Table, BLANK, INITIAL};
+use tables::{checkable, moved, Build, Random, Row, Size, Table, BLANK, INITIAL};
 
 #[test]
 fn sources_go_with_their_rows() {
     let rows = [
-        Row::write(0).bytes(0, 1),
-        Row::write(1).bytes(1, 1),
-        Row::read(1, 0).bytes(0, 1),
-        Row::read(0, BLANK).bytes(1, 1),
+        Row::write(0).at(0, 1),
+        Row::write(1).at(1, 1),
+        Row::read(1, 0).at(0, 1),
+        Row::read(0, BLANK).at(1, 1),
     ];
     let table = Table::of_one_workgroup(2, &rows);
     let mut random = Random::new(1);

@@ -1,7 +1,6 @@
-//! JSON read, with the column of each value, and its strings written.
+//! JSON read, with the column of each value.
 
 use crate::trouble::{Spot, Trouble};
-use std::fmt::{self, Display, Write};
 use std::iter::Peekable;
 use std::str::Chars;
 
@@ -240,27 +239,10 @@ impl Parser<'_> {
     }
 }
 
-/// A text in quotation marks. JSON forbids those, backslashes and the letters
-/// below the space in it; the last are written by their numbers.
-pub struct Quoted<'a>(pub &'a str);
-
-impl Display for Quoted<'_> {
-    fn fmt(&self, formatter: &mut fmt::Formatter) -> fmt::Result {
-        formatter.write_char('"')?;
-        for letter in self.0.chars() {
-            match letter {
-                '"' | '\\' => write!(formatter, "\\{letter}")?,
-                '\0'..='\u{1f}' => write!(formatter, "\\u{:04x}", u32::from(letter))?,
-                _ => formatter.write_char(letter)?,
-            }
-        }
-        formatter.write_char('"')
-    }
-}
-
 #[cfg(test)]
 mod tests {
     use super::*;
+    use format::Quoted;
 
     #[test]
     fn texts_are_escaped_and_read_back() {

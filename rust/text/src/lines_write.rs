@@ -1,10 +1,10 @@
 //! JSON lines written: a table that a fill takes, with its notes.
 
 use crate::assemble::admission;
-use crate::json::Quoted;
 use crate::vocabulary::{
     class_word, classes_of, kind_word, order_word, scope_word, sort_word, BLANK, FLAGS, INITIAL,
 };
+use format::{Object, Quoted};
 use mend::{Notes, Run};
 use second::table::Row;
 use std::fmt::Display;
@@ -17,101 +17,83 @@ pub fn write_lines(table: &[u8], notes: &Notes) -> Result<String, Refusal> {
         return Err(refusal);
     }
     let run = Run::of(table);
-    let mut text = header(table[4], &run, notes);
+    let mut text = header(table[4], &run, notes).to_string();
     for (number, row) in run.rows.iter().enumerate() {
         text += &format!("\n{}", row_object(number, *row, notes));
     }
     Ok(text + "\n")
 }
 
-/// Members in their order.
-#[derive(Default)]
-struct Members(Vec<String>);
-
-impl Members {
-    fn put(&mut self, key: &str, value: impl Display) {
-        self.0.push(format!("{}:{value}", Quoted(key)));
-    }
-
-    fn put_text(&mut self, key: &str, text: &str) {
-        self.put(key, Quoted(text));
-    }
-
-    /// A list, unless it is empty.
-    fn put_list(&mut self, key: &str, items: &[String]) {
-        if !items.is_empty() {
-            self.put(key, format_args!("[{}]", items.join(",")));
-        }
-    }
-
-    fn object(&self) -> String {
-        format!("{{{}}}", self.0.join(","))
-    }
-}
-
-fn header(version: u8, run: &Run, notes: &Notes) -> String {
-    let mut members = Members::default();
+fn header(version: u8, run: &Run, notes: &Notes) -> Object {
+    let mut members = Object::default();
     members.put("version", version);
-    let agents: Vec<String> = (0..run.agents.len())
-        .map(|agent| {
-            let mut members = Members::default();
-            if run.has_hosts {
-                members.put_text("kind", sort_word(run.sorts[agent]));
-            }
-            let place = run.agents[agent].map(|number| number.to_string());
-            members.put("place", format_args!("[{}]", place.join(",")));
-            if let Some(Some(name)) = notes.agents.get(agent) {
-                members.put_text("name", name);
-            }
-            members.object()
-        })
-        .collect();
-    members.put("agents", format_args!("[{}]", agents.join(",")));
+    let agents = (0..run.agents.len()).map(|agent| {
+        let mut members = Object::default();
+        if run.has_hosts {
+            members.text("kind", sort_word(run.sorts[agent]));
+        }
+        members.list("place", run.agents[agent]);
+        if let Some(Some(name)) = notes.agents.get(agent) {
+            members.text("name", name);
+        }
+        members
+    });
+    members.list("agents", agents);
     let references = notes.references.iter();
     let references = references.map(|(number, name)| {
-        let mut members = Members::default();
+        let mut members = Object::default();
         members.put("reference", number);
-        members.put_text("name", name);
-        members.object()
+        members.text("name", name);
+        members
     });
-    members.put_list("references", &references.collect::<Vec<_>>());
+    put_some(&mut members, "references", references);
     let dependencies = run.dependencies.iter();
     let dependencies = dependencies.map(|[first, second]| format!("[{first},{second}]"));
-    members.put_list("dependencies", &dependencies.collect::<Vec<_>>());
-    members.object()
+    put_some(&mut members, "dependencies", dependencies);
+    members
 }
 
-fn row_object(number: usize, row: Row, notes: &Notes) -> String {
-    let quoted = |words: Vec<&str>| -> Vec<String> {
-        words.iter().map(|word| Quoted(word).to_string()).collect()
-    };
-    let mut members = Members::default();
+/// A list, unless it is empty.
+fn put_some(object: &mut Object, key: &str, items: impl Iterator<Item: Display>) {
+    let mut items = items.peekable();
+    if items.peek().is_some() {
+        object.list(key, items);
+    }
+}
+
+fn row_object(number: usize, row: Row, notes: &Notes) -> Object {
+    let mut members = Object::default();
     members.put("agent", row.agent);
-    members.put_text("kind", &kind_word(row.kind));
+    members.text("kind", &kind_word(row.kind));
     if row.is_access() {
         members.put("reference", row.reference);
-        members.put_text("class", class_word(row.class));
+        members.text("class", class_word(row.class));
         members.put("start", row.start);
         members.put("length", row.length);
     }
     if row.is_control_barrier() {
-        members.put_text("execution", &scope_word(row.execution_scope()));
+        members.text("execution", &scope_word(row.execution_scope()));
         members.put("instance", row.instance());
     }
     if row.is_atomic() || row.is_barrier() {
-        members.put_text("order", order_word(row.order));
+        members.text("order", order_word(row.order));
     }
     let is_flagged = row.makes_available() || row.makes_visible();
     if row.is_atomic() || row.is_barrier() || is_flagged {
-        members.put_text("scope", &scope_word(row.scope));
+        members.text("scope", &scope_word(row.scope));
     }
-    members.put_list("semantics", &quoted(classes_of(row.classes)));
+    let classes = classes_of(row.classes).into_iter().map(Quoted);
+    put_some(&mut members, "semantics", classes);
     let flags = FLAGS.iter().filter(|(_, _, bit)| row.flags & bit != 0);
-    members.put_list("flags", &quoted(flags.map(|(_, name, _)| *name).collect()));
+    put_some(
+        &mut members,
+        "flags",
+        flags.map(|(_, name, _)| Quoted(name)),
+    );
     if row.reads() {
         match row.source {
-            second::INITIAL => members.put_text("source", INITIAL),
-            second::BLANK => members.put_text("source", BLANK),
+            second::INITIAL => members.text("source", INITIAL),
+            second::BLANK => members.text("source", BLANK),
             source => members.put("source", source),
         }
     }
@@ -119,10 +101,10 @@ fn row_object(number: usize, row: Row, notes: &Notes) -> String {
         members.put("rank", row.rank);
     }
     if let Some(label) = notes.label(number) {
-        members.put_text("label", label);
+        members.text("label", label);
     }
     if let Some(place) = notes.place(number) {
-        members.put_text("at", &place.to_string());
+        members.text("at", &place.to_string());
     }
-    members.object()
+    members
 }

@@ -4,7 +4,7 @@
 use mend::{Notes, Run};
 use stramashly::{Checker, FillAnswer};
 use tables::{chained, chained_fillable, checkable, clean, damaged, damaged_hosted, fillable};
-use tables::{examples, hosted, hosted_fillable, litmus, moved, Random, Size};
+use tables::{examples, hosted, hosted_fillable, litmus, moved, Build, Random, Row, Size};
 use text::{admission, assemble, form, read, remade, write, write_lines, Form, Refusal};
 
 /// Both forms of a table, if a fill takes it.
@@ -146,8 +146,7 @@ fn what_no_version_has_is_refused() {
     assert_eq!(assemble(0, &[], &[], &[]), refused(2));
     assert_eq!(assemble(4, &[], &[], &[]), refused(2));
     assert_eq!(assemble(1, &[[0; 4]; 33], &[], &[]), refused(3));
-    let row =
-        Run::of(&tables::Table::of_one_workgroup(1, &[tables::Row::write(0)]).bytes()).rows[0];
+    let row = Run::of(&tables::Table::of_one_workgroup(1, &[Row::write(0)]).bytes()).rows[0];
     assert_eq!(assemble(1, &[[0; 4]], &[row; 129], &[]), refused(3));
     assert_eq!(assemble(1, &[[0, 0, 0, 1]], &[], &[]), refused(16));
     assert_eq!(assemble(3, &[[0, 0, 0, 3]], &[], &[]), refused(16));

@@ -1,6 +1,6 @@
 //! Text by hand: what it means, and every complaint with its place.
 
-use tables::{Row, Table};
+use tables::{Build, Row, Table};
 use text::{form, read, write, write_lines, Form};
 
 const LEAK: &str = "\
@@ -18,7 +18,7 @@ w1: producer atomic-write flag 64..68  release queue-family {Uniform} make-avail
 ";
 
 fn leak() -> Table {
-    let flag = |row: Row| row.bytes(64, 4).reference(3).scope(3);
+    let flag = |row: Row| row.at(64, 4).reference(3).scope(3);
     Table::new(
         &[[0, 0, 0], [0, 1, 0]],
         &[

@@ -7,7 +7,7 @@ use common::example;
 use mend::{edited, Edit, Field, Run};
 use std::collections::BTreeMap;
 use stramashly::{CheckAnswer, Checker, FillAnswer};
-use tables::{fillable, Random, Row, Size, Table, BLANK, INITIAL};
+use tables::{fillable, Build, Random, Row, Size, Table, BLANK, INITIAL};
 use words::explain;
 
 fn text(table: &[u8]) -> String {
@@ -123,9 +123,9 @@ fn what_a_fill_answers_is_told() {
 fn a_blank_without_a_source_has_its_reasons() {
     // Two writes of one agent, one byte each way, before its own read of both.
     let rows = [
-        Row::write(0).bytes(0, 1),
-        Row::write(0).bytes(1, 1),
-        Row::read(0, BLANK).bytes(0, 2),
+        Row::write(0).at(0, 1),
+        Row::write(0).at(1, 1),
+        Row::read(0, BLANK).at(0, 2),
     ];
     let table = Table::of_one_workgroup(1, &rows).bytes();
     let mut checker = Checker::new();

@@ -9,7 +9,7 @@ use mend::{Notes, Run};
 use std::collections::BTreeMap;
 use stramashly::Checker;
 use tables::builder::{order, scope};
-use tables::{Random, Row, Table};
+use tables::{Build, Random, Row, Table};
 use words::{explain, explain_noted, show, Checked};
 
 /// A control barrier of instance 9 for Uniform, in workgroup scope.

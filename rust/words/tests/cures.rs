@@ -8,7 +8,7 @@ use mend::{edited, parse_steps, stepped, Order, Outcome};
 use mend::{Cure, Edit, Goal, Reason, Run, Step};
 use std::collections::BTreeSet;
 use stramashly::Checker;
-use tables::{Row, Table, INITIAL};
+use tables::{Build, Row, Table, INITIAL};
 use words::explain;
 use words::{Explanation, Shown};
 
@@ -276,7 +276,7 @@ fn the_plainest_race_has_its_remedy() {
     let write = Row::write(0);
     for (length, workgroups) in [(16, [0, 0]), (4, [0, 0]), (16, [0, 1]), (4, [0, 1])] {
         let agents = [[0, workgroups[0], 0], [0, workgroups[1], 1]];
-        let rows = [write.bytes(0, length), Row::read(1, 0).bytes(0, length)];
+        let rows = [write.at(0, length), Row::read(1, 0).at(0, length)];
         for rows in [rows, rows.map(Row::private)] {
             let table = Table::new(&agents, &rows).bytes();
             let explanation = explain(&table, &mut checker);
@@ -321,10 +321,7 @@ fn another_reference_is_another_variable() {
 /// the run would be impossible.
 #[test]
 fn new_rows_go_with_what_was_read() {
-    let rows = [
-        Row::write(0).bytes(0, 16),
-        Row::read(1, INITIAL).bytes(0, 16),
-    ];
+    let rows = [Row::write(0).at(0, 16), Row::read(1, INITIAL).at(0, 16)];
     let table = Table::of_one_workgroup(2, &rows).bytes();
     let explanation = explain(&table, &mut Checker::new());
     let cure = &explanation.cures[0];

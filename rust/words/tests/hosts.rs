@@ -7,7 +7,7 @@ use draw::draw;
 use mend::{stepped, Cure, Judge, Notes, Step};
 use tables::builder::kind::*;
 use tables::builder::sort::{HOST, QUEUE, SHADER};
-use tables::{hosted, Random, Row, Size, Table, INITIAL};
+use tables::{hosted, Build, Random, Row, Size, Table, INITIAL};
 use words::{explain, explain_noted, show, Explanation, Shown};
 
 /// Each row depends on the one before it; agent 0 is a host, 1 a queue, 2 a
@@ -118,7 +118,7 @@ fn the_missing_step_of_an_upload_is_named_and_put_in() {
 #[test]
 fn a_missing_dependency_is_named_and_put_in() {
     let mut table = upload();
-    table.insert(1, Row::write(0).private().bytes(8, 4));
+    table.insert(1, Row::write(0).private().at(8, 4));
     table.dependencies[0][0] = 1;
     let told = explained(&table);
     let text = told.text();

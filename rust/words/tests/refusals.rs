@@ -9,7 +9,7 @@ use std::collections::BTreeSet;
 use stramashly::{CheckAnswer, Checker, MAX_TABLE_BYTES};
 use tables::builder::{kind, order, scope};
 use tables::{damaged, damaged_hosted, hosted};
-use tables::{Random, Row, Size, Table, BLANK, INITIAL};
+use tables::{Build, Random, Row, Size, Table, BLANK, INITIAL};
 use words::{explain, faults, refusal, unfit, Fault};
 
 /// The refusal's number and row, if a check refuses the table.
@@ -345,23 +345,20 @@ fn told(table: &[u8], answer: &str) -> String {
 
 #[test]
 fn alignment_is_named() {
-    let text = told(
-        &alone(Row::atomic_read(0, INITIAL).bytes(2, 4)),
-        "refused 7 0",
-    );
+    let text = told(&alone(Row::atomic_read(0, INITIAL).at(2, 4)), "refused 7 0");
     assert!(
         text.contains("starts at byte 2, which is no multiple of 4"),
         "{text}"
     );
     assert!(!text.contains("goes past"), "{text}");
-    let text = told(&alone(Row::atomic_write(0, 1).bytes(4, 8)), "refused 7 0");
+    let text = told(&alone(Row::atomic_write(0, 1).at(4, 8)), "refused 7 0");
     assert!(
         text.contains("starts at byte 4, which is no multiple of 8"),
         "{text}"
     );
-    let text = told(&alone(Row::atomic_write(0, 1).bytes(0, 3)), "refused 7 0");
+    let text = told(&alone(Row::atomic_write(0, 1).at(0, 3)), "refused 7 0");
     assert!(text.contains("has 3 bytes; an atomic has 4 or 8"), "{text}");
-    let text = told(&alone(Row::write(0).bytes(65535, 2)), "refused 7 0");
+    let text = told(&alone(Row::write(0).at(65535, 2)), "refused 7 0");
     assert!(text.contains("goes past the last one, 65535"), "{text}");
 }
 

@@ -10,7 +10,7 @@ use mend::stepped;
 use mend::{Cure, Notes, Place, RowNote};
 use scenarios::Scenario;
 use stramashly::{CheckAnswer, Checker};
-use tables::{checkable, hosted, Random, Row, Size, Table};
+use tables::{checkable, hosted, Build, Random, Row, Size, Table};
 use words::Explanation;
 use words::{explain_noted, show_noted};
 
@@ -164,8 +164,8 @@ fn an_image_and_a_buffer_take_two_dispatches() {
 /// A full table is told to be full, and what would be put in is named.
 #[test]
 fn a_full_table_is_told() {
-    let mut rows = vec![Row::write(0).bytes(0, 16), Row::read(1, 0).bytes(0, 16)];
-    let more = (0..126).map(|row| Row::write(2).bytes(64 + 4 * row, 4));
+    let mut rows = vec![Row::write(0).at(0, 16), Row::read(1, 0).at(0, 16)];
+    let more = (0..126).map(|row| Row::write(2).at(64 + 4 * row, 4));
     rows.extend(more);
     let text = text_of(&Table::new(&[[0, 0, 0], [0, 1, 0], [0, 2, 0]], &rows));
     let full = place(
@@ -213,7 +213,7 @@ fn shaders_are_told_what_they_can_say() {
 
 #[test]
 fn device_scope_has_its_feature() {
-    let flag = |row: Row| row.bytes(64, 4).reference(2);
+    let flag = |row: Row| row.at(64, 4).reference(2);
     let rows = [
         Row::write(0),
         flag(Row::atomic_write(0, 1)).release(1),

@@ -8,7 +8,7 @@ use draw::{draw, page};
 use mend::{edited, Notes, Run};
 use std::collections::BTreeMap;
 use stramashly::Checker;
-use tables::{damaged, fillable, Random, Row, Size, Table};
+use tables::{damaged, fillable, Build, Random, Row, Size, Table};
 use words::{explain, explain_noted, refusal, show, Checked};
 
 /// Compares the first line with the check's answer, and gives its first word.

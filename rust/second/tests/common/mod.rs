@@ -4,7 +4,7 @@
 
 use second::{Chains, State, CYCLE_NUMBERS, SOURCE_NUMBERS, WORK_WORDS};
 use tables::builder::classes::UNIFORM;
-use tables::{Row, Table};
+use tables::{Build, Row, Table};
 
 pub const TABLE_P: &str = "00000050 01020400 000000000000 000000000001 \
     010000000001000400000001FFFF0000 \
@@ -69,7 +69,7 @@ pub fn table_p() -> Table {
 
 /// A flag is an atomic place of its own: bytes 4 to 7, reference 2.
 pub fn flag(row: Row) -> Row {
-    row.bytes(4, 4).reference(2).scope(2)
+    row.at(4, 4).reference(2).scope(2)
 }
 
 pub fn release_flag(agent: u8, rank: u16) -> Row {

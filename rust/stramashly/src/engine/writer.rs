@@ -1,6 +1,8 @@
 //! The C boundary: a table written, read back, and stepped through.
 
-use crate::answer::Packed;
+use super::Pieces;
+use crate::answer::{foreign, Code, Packed};
+use crate::ROW_BYTES;
 
 mod linked {
     unsafe extern "C" {
@@ -35,6 +37,14 @@ mod linked {
             at: u16,
             row: *mut u8,
             row_len: usize,
+        ) -> u64;
+
+        pub fn stramashly_row2(
+            first: *const u8,
+            first_len: usize,
+            second: *const u8,
+            second_len: usize,
+            row: u16,
         ) -> u64;
     }
 }
@@ -106,4 +116,32 @@ pub fn row_in(table: &[u8], at: u16, row: &mut [u8]) -> Packed {
         linked::stramashly_row(table.as_ptr(), table.len(), at, row.as_mut_ptr(), row.len())
     };
     Packed(answer)
+}
+
+/// A row as its sixteen bytes, from whichever of the pieces holds it and
+/// without copying; none where neither does. Pairs refused before 5 hold no
+/// rows.
+///
+/// Panics only where the linked archive isn't the one that the header
+/// describes.
+pub fn row_of_pieces<'a>(pieces: impl Into<Pieces<'a>>, row: u16) -> Option<&'a [u8]> {
+    let Pieces([first, second]) = pieces.into();
+    // Sound: each pointer goes with its slice's length; nothing is written.
+    let place = Packed(unsafe {
+        linked::stramashly_row2(
+            first.as_ptr(),
+            first.len(),
+            second.as_ptr(),
+            second.len(),
+            row,
+        )
+    });
+    match place.code() {
+        Some(Code::RowPlace) => {
+            let piece = [first, second][usize::from(place.a())];
+            Some(&piece[usize::from(place.b())..][..ROW_BYTES])
+        }
+        Some(Code::NoRow) => None,
+        _ => foreign(place),
+    }
 }

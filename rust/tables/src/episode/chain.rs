@@ -2,7 +2,7 @@
 //! other to broader and broader scopes, and visible the other way round.
 
 use super::{common_scope, neighbours, Episode};
-use crate::builder::{kind, scope, Row};
+use crate::builder::{kind, scope, Build, Row};
 
 impl Episode<'_> {
     /// A write, an availability chain, a visibility chain, and a use of what

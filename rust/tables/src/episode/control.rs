@@ -1,7 +1,7 @@
 //! Control barriers in episodes: agents that meet in one instance.
 
 use super::{common_scope, Episode};
-use crate::builder::{order, scope, Row};
+use crate::builder::{order, scope, Build, Row};
 
 /// Which side of a hand-over an agent is on.
 #[derive(Clone, Copy, PartialEq, Eq)]

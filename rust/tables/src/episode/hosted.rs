@@ -2,7 +2,7 @@
 //! the next by way of the host's and the device's domain.
 
 use super::{overlap, Ground, Place};
-use crate::builder::{kind, order, scope, sort, Row, INITIAL};
+use crate::builder::{kind, order, scope, sort, Build, Row, INITIAL};
 use crate::random::Random;
 
 /// The agents of a table by their sort.

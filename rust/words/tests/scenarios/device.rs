@@ -2,7 +2,7 @@
 
 use super::{Builder, Scenario};
 use tables::builder::{classes, scope};
-use tables::{Row, INITIAL};
+use tables::{Build, Row, INITIAL};
 
 const APART: [[u16; 3]; 2] = [[0, 0, 0], [0, 1, 0]];
 const DATA: u8 = 16;
@@ -40,7 +40,7 @@ const HAND_OVERS: [&str; 10] = [
 ];
 
 fn flag(row: Row) -> Row {
-    row.bytes(64, 4).reference(2).scope(scope::FAMILY)
+    row.at(64, 4).reference(2).scope(scope::FAMILY)
 }
 
 /// The row with what a bug of this name leaves out.
@@ -76,12 +76,12 @@ fn spoilt(row: Row, bug: &str) -> Row {
 fn hand_over(bug: &str, has_places: bool) -> Scenario {
     let name = format!("hand-over, {bug}");
     let mut run = Builder::new(&name, &APART, has_places);
-    let write = run.push(spoilt(Row::write(0).bytes(0, DATA), bug), 10);
+    let write = run.push(spoilt(Row::write(0).at(0, DATA), bug), 10);
     let release = flag(Row::atomic_write(0, 1)).release(classes::UNIFORM);
     let release = run.push(spoilt(release.make_available(), bug), 11);
     let acquire = flag(Row::atomic_read(1, release)).acquire(classes::UNIFORM);
     run.push(spoilt(acquire.make_visible(), bug), 20);
-    run.push(spoilt(Row::read(1, write).bytes(0, DATA), bug), 21);
+    run.push(spoilt(Row::read(1, write).at(0, DATA), bug), 21);
     run.scenario()
 }
 
@@ -120,8 +120,8 @@ pub fn ladder(agents: u16, bug: &str, has_places: bool) -> Scenario {
 fn ring(bug: &str, has_places: bool) -> Scenario {
     let name = format!("ring, {bug}");
     let mut run = Builder::new(&name, &APART, has_places);
-    let slot = |row: Row, turn: u16| row.bytes(4 * (turn % 2), 4);
-    let tail = |row: Row| row.bytes(68, 4).reference(3).scope(scope::FAMILY);
+    let slot = |row: Row, turn: u16| row.at(4 * (turn % 2), 4);
+    let tail = |row: Row| row.at(68, 4).reference(3).scope(scope::FAMILY);
     let mut heads = Vec::new();
     let mut writes = Vec::new();
     for turn in 0..2 {
@@ -154,14 +154,14 @@ fn seqlock(words: u16, has_places: bool) -> Scenario {
     let mut run = Builder::new(&name, &APART, has_places);
     run.push(flag(Row::rmw(0, INITIAL, 1)).acquire(classes::UNIFORM), 30);
     for word in 0..words {
-        run.push(Row::write(0).bytes(4 * word, 4), 31 + u32::from(word));
+        run.push(Row::write(0).at(4 * word, 4), 31 + u32::from(word));
     }
     let end = flag(Row::atomic_write(0, 2)).release(classes::UNIFORM);
     run.push(end.make_available(), 35);
     let begin = flag(Row::atomic_read(1, INITIAL)).acquire(classes::UNIFORM);
     run.push(begin.make_visible(), 40);
     for word in 0..words {
-        let read = Row::read(1, INITIAL).bytes(4 * word, 4);
+        let read = Row::read(1, INITIAL).at(4 * word, 4);
         run.push(read, 41 + u32::from(word));
     }
     let again = flag(Row::atomic_read(1, INITIAL));

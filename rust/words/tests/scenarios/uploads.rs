@@ -2,7 +2,7 @@
 
 use super::{Builder, Scenario};
 use tables::builder::{kind, sort};
-use tables::{Row, Table};
+use tables::{Build, Row, Table};
 
 pub fn all(has_places: bool) -> Vec<Scenario> {
     let mut scenarios: Vec<Scenario> = BUGS.map(|bug| upload(bug, has_places)).into();
@@ -24,7 +24,7 @@ const SORTS: [u16; 3] = [sort::HOST, sort::QUEUE, sort::SHADER];
 fn upload(bug: &str, has_places: bool) -> Scenario {
     let name = format!("upload, {bug}");
     let mut run = Builder::new(&name, &AGENTS, has_places);
-    let private = |row: Row, at| row.private().bytes(at, 4);
+    let private = |row: Row, at| row.private().at(at, 4);
     let first = run.push(private(Row::write(0), 0), 100);
     let second = run.push(private(Row::write(0), 4), 101);
     let out = run.push(Row::queue(1, kind::AVAILABLE_TO_HOST), 1);

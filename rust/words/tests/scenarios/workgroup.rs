@@ -2,7 +2,7 @@
 
 use super::{Builder, Scenario};
 use tables::builder::{classes, order, scope};
-use tables::{Row, INITIAL};
+use tables::{Build, Row, INITIAL};
 
 pub fn all(has_places: bool) -> Vec<Scenario> {
     let mut scenarios = Vec::new();
@@ -45,7 +45,7 @@ fn reduction(agents: u8, bug: &str, has_places: bool) -> Scenario {
     let name = format!("reduction of {agents}, {bug}");
     let places: Vec<[u16; 3]> = (0..agents).map(|agent| [0, 0, u16::from(agent)]).collect();
     let mut run = Builder::new(&name, &places, has_places);
-    let word = |row: Row, at: u8| row.bytes(4 * u16::from(at), 4).class(1);
+    let word = |row: Row, at: u8| row.at(4 * u16::from(at), 4).class(1);
     let mut last: Vec<u16> = (0..agents)
         .map(|agent| run.push(word(Row::write(agent), agent), 10))
         .collect();

@@ -1,8 +1,11 @@
 //! The words of the command line.
 
+use crate::batch::Batch;
 use crate::completion::Shell;
+use crate::glob::Glob;
 use crate::help;
 use crate::make::{steps, Making};
+use crate::overview::{Overview, Shape};
 use crate::question::{Kind, Question};
 use crate::tell::Telling;
 use mend::Step;
@@ -18,11 +21,9 @@ pub enum Command {
     /// A script for a shell.
     Completion(Shell),
     Files(Request),
-    Batch {
-        is_json: bool,
-        has_chains: bool,
-        jobs: usize,
-    },
+    Batch(Batch),
+    /// Many runs, summed up.
+    Summary(Overview),
 }
 
 /// What is to be done with each file.
@@ -48,6 +49,12 @@ pub struct Request {
     pub names: Vec<OsString>,
     /// The file of the second piece of each table.
     pub then: Option<OsString>,
+    /// Which files of directories are taken.
+    pub only: Option<Glob>,
+    /// A file with more names, a zero byte after each.
+    pub listed: Option<OsString>,
+    /// Whether bytes may go to a terminal.
+    pub is_forced: bool,
 }
 
 impl Request {
@@ -88,9 +95,19 @@ struct Words {
     is_words: bool,
     is_text: bool,
     is_lines: bool,
+    is_raw: bool,
+    has_ids: bool,
+    has_status: bool,
     has_chains: bool,
     jobs: Option<usize>,
     then: Option<OsString>,
+    only: Option<Glob>,
+    listed: Option<OsString>,
+    pages: Option<OsString>,
+    baseline: Option<OsString>,
+    against: Option<OsString>,
+    is_csv: bool,
+    is_forced: bool,
     others: Vec<OsString>,
 }
 
@@ -108,9 +125,22 @@ impl Words {
             self.is_words,
             self.is_text,
             self.is_lines,
+            self.is_raw,
+            self.has_ids,
+            self.has_status,
             self.has_chains,
+            self.is_csv,
+            self.is_forced,
+            self.only.is_some(),
         ];
-        options.contains(&true) || self.then.is_some()
+        let values = [
+            &self.then,
+            &self.listed,
+            &self.pages,
+            &self.baseline,
+            &self.against,
+        ];
+        options.contains(&true) || values.iter().any(|value| value.is_some())
     }
 }
 
@@ -132,6 +162,7 @@ pub fn parse(words: impl Iterator<Item = OsString>) -> Result<Command, String> {
     let task = match name.to_str() {
         Some("help") => return help(&words),
         Some("batch") => return batch(&words),
+        Some("summary") => return summary(words),
         Some("completion") => return completion(&words),
         Some("fill") if words.is_table => Task::Make(Making::Filled),
         Some("make") => Task::Make(Making::Read),
@@ -221,12 +252,40 @@ fn sort(words: impl Iterator<Item = OsString>) -> Result<Words, String> {
             Some("--text") => sorted.is_text = true,
             Some("--json-lines") => sorted.is_lines = true,
             Some("--chains") => sorted.has_chains = true,
+            Some("--csv") => sorted.is_csv = true,
+            Some("--force") => sorted.is_forced = true,
+            Some("--files0-from") => {
+                let list = words.next();
+                sorted.listed = Some(list.ok_or("--files0-from takes a file of names, or `-`")?);
+            }
+            Some("--pages") => {
+                let folder = words.next();
+                sorted.pages = Some(folder.ok_or("--pages takes a folder")?);
+            }
+            Some("--baseline") => {
+                let file = words.next();
+                sorted.baseline = Some(file.ok_or("--baseline takes a file of known findings")?);
+            }
+            Some("--against") => {
+                let file = words.next();
+                sorted.against = Some(file.ok_or("--against takes a summary as JSON")?);
+            }
+            Some("--raw") => sorted.is_raw = true,
+            Some("--ids") => sorted.has_ids = true,
+            Some("--status") => sorted.has_status = true,
             Some("--then") if sorted.then.is_some() => {
                 return Err("--then given twice: a table has two pieces".to_string());
             }
             Some("--then") => {
                 let name = words.next();
                 sorted.then = Some(name.ok_or("--then takes a file of rows")?);
+            }
+            Some("--only") => {
+                let pattern = words.next().unwrap_or_default();
+                sorted.only = Some(Glob::new(pattern.as_encoded_bytes())?);
+            }
+            Some(word) if word.starts_with("--only=") => {
+                sorted.only = Some(Glob::new(&word.as_bytes()[7..])?);
             }
             Some("-j" | "--jobs") => {
                 let count = words.next();
@@ -311,6 +370,16 @@ fn check_options(task: &Task, words: &Words) -> Result<(), String> {
     if words.then.is_some() && !is_explained && !matches!(task, Task::Judge(_)) {
         return Err(format!("only {TAKERS}, explain and draw take --then"));
     }
+    let values = [&words.pages, &words.baseline, &words.against];
+    if words.is_csv || values.iter().any(|value| value.is_some()) {
+        return Err("only summary takes --csv, --pages, --baseline and --against".to_string());
+    }
+    if words.is_forced && !matches!(task, Task::Make(_)) {
+        return Err("only make, edit and fill --table take --force".to_string());
+    }
+    if words.is_raw || words.has_ids || words.has_status {
+        return Err("only batch takes --raw, --ids and --status".to_string());
+    }
     if words.is_quiet && !matches!(task, Task::Judge(_)) {
         return Err(format!("only {} take --quiet", Kind::NAMES));
     }
@@ -351,9 +420,18 @@ fn files(task: Task, words: Words) -> Result<Command, String> {
         jobs: words.jobs.unwrap_or(1),
         names: words.others,
         then: words.then,
+        only: words.only,
+        listed: words.listed,
+        is_forced: words.is_forced,
     };
+    if request.listed.is_some() && !request.takes_directories() {
+        return Err("--files0-from is for many files, and this takes one".to_string());
+    }
+    if request.only.is_some() && !request.takes_directories() {
+        return Err("--only is for directories, and this takes one file".to_string());
+    }
     let names = &request.names;
-    if names.is_empty() {
+    if names.is_empty() && request.listed.is_none() {
         return Err("no file given".to_string());
     }
     // Two documents in a row are none.
@@ -364,27 +442,87 @@ fn files(task: Task, words: Words) -> Result<Command, String> {
     if request.then.as_ref().is_some_and(|name| name == "-") && names.len() > 1 {
         return Err("--then - goes with one file".to_string());
     }
-    let all = names.iter().chain(&request.then);
+    let all = names.iter().chain(&request.then).chain(&request.listed);
     if all.filter(|name| *name == "-").count() > 1 {
         return Err("standard input given twice".to_string());
     }
     Ok(Command::Files(request))
 }
 
+fn summary(words: Words) -> Result<Command, String> {
+    let bare = Words {
+        is_json: false,
+        is_html: false,
+        is_hex: false,
+        is_csv: false,
+        has_chains: false,
+        only: None,
+        listed: None,
+        pages: None,
+        baseline: None,
+        against: None,
+        ..words.clone()
+    };
+    if bare.has_options() {
+        let forms = "--csv, --json, --html, --pages, --baseline, --against";
+        let files = "--files0-from, --only, --hex, --chains and -j";
+        return Err(format!("summary takes no option but {forms}, {files}"));
+    }
+    let form = match (words.is_csv, words.is_json, words.is_html) {
+        (false, false, false) => Shape::Plain,
+        (true, false, false) => Shape::Csv,
+        (false, true, false) => Shape::Json,
+        (false, false, true) => Shape::Html,
+        _ => return Err("--csv, --json or --html, one of them".to_string()),
+    };
+    if words.pages.is_some() && form != Shape::Html {
+        return Err("--pages goes with --html".to_string());
+    }
+    if words.others.is_empty() && words.listed.is_none() {
+        return Err("no file given".to_string());
+    }
+    let inputs = words.others.iter().chain(&words.listed);
+    if inputs.filter(|name| *name == "-").count() > 1 {
+        return Err("standard input given twice".to_string());
+    }
+    Ok(Command::Summary(Overview {
+        names: words.others,
+        listed: words.listed,
+        only: words.only,
+        form,
+        pages: words.pages,
+        baseline: words.baseline,
+        against: words.against,
+        is_hex: words.is_hex,
+        has_chains: words.has_chains,
+        jobs: words.jobs.unwrap_or(1),
+    }))
+}
+
 fn batch(words: &Words) -> Result<Command, String> {
     let bare = Words {
         is_json: false,
         has_chains: false,
+        is_raw: false,
+        has_ids: false,
+        has_status: false,
         ..words.clone()
     };
-    if bare.has_options() || !words.others.is_empty() {
-        return Err("batch takes no file, and no option but --json and -j".to_string());
+    if !words.others.is_empty() {
+        return Err("batch takes no file: tables come on standard input".to_string());
     }
-    Ok(Command::Batch {
+    if bare.has_options() {
+        let options = "--json, --ids, --raw, --status, --chains and -j";
+        return Err(format!("batch takes no option but {options}"));
+    }
+    Ok(Command::Batch(Batch {
         is_json: words.is_json,
         has_chains: words.has_chains,
+        has_ids: words.has_ids,
+        is_raw: words.is_raw,
+        has_status: words.has_status,
         jobs: words.jobs.unwrap_or(1),
-    })
+    }))
 }
 
 #[cfg(test)]

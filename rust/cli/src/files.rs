@@ -5,12 +5,13 @@ use crate::answers::Answer;
 use crate::arguments::{Request, Task};
 use crate::checker::checker;
 use crate::colour;
-use crate::folder;
+use crate::folder::{self, Named};
 use crate::judge::{append_trouble, judge, Form};
 use crate::make::{hex_line, make};
 use crate::output::{complain, Output};
 use crate::parallel::{in_order, Giver, Taker};
-use crate::read::{read, second, Given, Unread};
+use crate::progress::Progress;
+use crate::read::{listed, read, second, Given, Unread};
 use crate::sarif::{log, notification, results, Origin};
 use crate::summary::{Summary, UNREAD};
 use crate::tell::tell;
@@ -23,9 +24,6 @@ use stramashly::Checker;
 /// So many files go to a thread at once.
 const PIECE: usize = 8;
 
-/// A file's name, or the reason why a directory has none.
-type Named = Result<OsString, (OsString, String)>;
-
 /// What came of a file.
 struct Outcome {
     name: OsString,
@@ -34,19 +32,36 @@ struct Outcome {
     bytes: Vec<u8>,
     /// For standard error, with the place in the file if there is one.
     reason: Option<Unread>,
+    /// What a refused file looks like, told before its refusal.
+    likeness: Option<&'static str>,
 }
 
 /// Judges every file, also after one that can't be read and after nobody
 /// reads the answers any more, so that the status is that of them all.
 pub fn run(request: &Request) -> Status {
     let is_many = request.takes_directories();
+    let mut given = request.names.clone();
+    if let Some(list) = &request.listed {
+        match listed(list) {
+            Ok(names) => given.extend(names),
+            Err(reason) => {
+                complain(&reason);
+                return Status::Trouble;
+            }
+        }
+    }
+    let mut left_out = None;
+    let are_named =
+        request.listed.is_some() || given.len() > 1 || is_many && folder::has_directory(&given);
     let names: Vec<Named> = if is_many {
-        folder::expanded(&request.names, request.is_hex)
+        let expanded = folder::expanded(&given, request.only.as_ref());
+        left_out = expanded.left_out();
+        expanded.files
     } else {
-        request.names.iter().cloned().map(Ok).collect()
+        given.into_iter().map(Ok).collect()
     };
-    let are_named = request.names.len() > 1 || is_many && folder::has_directory(&request.names);
-    let writer = || Writer::new(request, are_named);
+    let total = names.len();
+    let writer = || Writer::new(request, are_named, total, left_out);
     if request.jobs == 1 {
         let mut checker = checker(request.has_chains);
         let mut writer = writer();
@@ -73,6 +88,9 @@ struct Writer<'a> {
     is_coloured: bool,
     output: Output,
     summary: Summary,
+    /// What directories had besides.
+    left_out: Option<String>,
+    progress: Progress,
     highest: Status,
     /// For the SARIF log.
     results: Vec<String>,
@@ -80,13 +98,20 @@ struct Writer<'a> {
 }
 
 impl Writer<'_> {
-    fn new(request: &Request, are_named: bool) -> Writer<'_> {
+    fn new(
+        request: &Request,
+        are_named: bool,
+        total: usize,
+        left_out: Option<String>,
+    ) -> Writer<'_> {
         Writer {
             request,
             are_named,
             is_coloured: request.may_be_coloured() && colour::is_wanted(),
             output: Output::new(),
             summary: Summary::default(),
+            left_out,
+            progress: Progress::new("files", Some(total), request.is_sarif || request.is_quiet),
             highest: Status::Fine,
             results: Vec::new(),
             notifications: Vec::new(),
@@ -95,6 +120,10 @@ impl Writer<'_> {
 
     fn write(&mut self, outcome: Outcome) {
         self.highest = self.highest.max(outcome.status);
+        self.progress.count();
+        if outcome.reason.is_some() || outcome.likeness.is_some() {
+            self.progress.clear();
+        }
         if self.request.is_sarif {
             return self.keep(outcome);
         }
@@ -102,6 +131,10 @@ impl Writer<'_> {
         let text = std::str::from_utf8(&outcome.bytes).unwrap_or_default();
         self.summary
             .count(if text.is_empty() { UNREAD } else { text });
+        if let Some(likeness) = outcome.likeness {
+            self.output.flush();
+            complain(&format!("{}: {likeness}", outcome.name.to_string_lossy()));
+        }
         if !outcome.bytes.is_empty() && !self.request.is_quiet {
             if self.are_named && is_plain {
                 self.output.write(outcome.name.as_encoded_bytes());
@@ -132,6 +165,7 @@ impl Writer<'_> {
     }
 
     fn finish(mut self) -> Status {
+        self.progress.clear();
         if self.request.is_sarif {
             let log = log(&self.results, &self.notifications);
             self.output.write(log.as_bytes());
@@ -142,6 +176,10 @@ impl Writer<'_> {
         if self.are_named && is_judged && is_plain {
             self.output.flush();
             complain(&self.summary.text());
+        }
+        if let Some(left_out) = &self.left_out {
+            self.output.flush();
+            complain(left_out);
         }
         self.highest.max(self.output.finish())
     }
@@ -177,8 +215,10 @@ fn outcome(request: &Request, are_named: bool, checker: &mut Checker, name: Name
         },
         false => Form::Plain,
     };
+    let mut likeness = None;
     let (status, bytes, reason) = match given {
         Ok((given, second)) => {
+            likeness = given.likeness;
             let notes = given.notes.clone();
             let form = form(Some(&notes));
             answer(request, (&file, form), (given, second.as_deref()), checker)
@@ -196,6 +236,7 @@ fn outcome(request: &Request, are_named: bool, checker: &mut Checker, name: Name
         status,
         bytes,
         reason,
+        likeness: likeness.filter(|_| status == Status::Refused),
     }
 }
 

@@ -10,13 +10,17 @@ mod completion;
 mod explained;
 mod files;
 mod folder;
+mod found;
+mod glob;
 mod help;
 mod input;
 mod judge;
 mod line;
 mod make;
 mod output;
+mod overview;
 mod parallel;
+mod progress;
 mod question;
 mod read;
 mod sarif;
@@ -46,11 +50,8 @@ fn main() -> ExitCode {
         Ok(Command::Files(request)) => files::run(&request),
         Ok(Command::HelpOf(name)) => print(&help::of(&name).unwrap_or_default()),
         Ok(Command::Completion(shell)) => print(&completion::script(shell)),
-        Ok(Command::Batch {
-            is_json,
-            has_chains,
-            jobs,
-        }) => batch::run(is_json, has_chains, jobs),
+        Ok(Command::Batch(batch)) => batch::run(batch),
+        Ok(Command::Summary(overview)) => overview::run(&overview),
         Err(reason) => {
             complain(&format!("{reason}; try `stramashly --help`"));
             Status::Trouble

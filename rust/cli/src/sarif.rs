@@ -137,7 +137,7 @@ fn physical(file: &str, region: &Object) -> Object {
 
 /// A file's name as a reference: what has a meaning there is written by its
 /// number.
-fn uri(file: &str) -> String {
+pub fn uri(file: &str) -> String {
     let mut uri = String::new();
     if file.starts_with('/') {
         uri += "file://";

@@ -41,7 +41,8 @@ impl Summary {
         let counts: Vec<String> = counts
             .map(|(place, count)| format!("{count} {}", WORDS[*place]))
             .collect();
-        format!("{all} files: {}", counts.join(", "))
+        let files = if all == 1 { "file" } else { "files" };
+        format!("{all} {files}: {}", counts.join(", "))
     }
 }
 
@@ -65,5 +66,8 @@ mod tests {
             summary.text(),
             "5 files: 2 race-free, 1 race, 1 refused, 1 can't be read"
         );
+        let mut one = Summary::default();
+        one.count("race-free\n");
+        assert_eq!(one.text(), "1 file: 1 race-free");
     }
 }

@@ -1,7 +1,7 @@
-//! What goes with each answer: its exit status, and its members in JSON, whose
-//! keys are the words of `--help`.
+//! What goes with each answer: its verdict, and its members in JSON, whose keys
+//! are the words of `--help`.
 
-use crate::Status;
+use crate::verdict::Verdict;
 use format::{digits, Object};
 use std::fmt::{self, Display};
 use stramashly::{
@@ -9,19 +9,23 @@ use stramashly::{
 };
 use words::is_of_a_row;
 
-/// The verdict of an answer that the library has and this program doesn't know:
-/// its status is that of trouble.
-const UNKNOWN: &str = "unknown";
-
 /// An answer; `Display` is its plain line.
 pub trait Answer: Display {
-    fn status(&self) -> Status;
+    fn verdict(&self) -> Verdict;
+
+    /// Its members in JSON after the verdict.
     fn put(&self, object: &mut Object);
 
     /// The rows that it names.
     fn rows(&self) -> Vec<u16> {
         Vec::new()
     }
+}
+
+/// The members of an answer.
+pub fn put(answer: &dyn Answer, object: &mut Object) {
+    object.text("verdict", answer.verdict().word());
+    answer.put(object);
 }
 
 /// A row's sixteen bytes, if a piece holds it.
@@ -37,38 +41,31 @@ impl Display for ShownRow<'_> {
 }
 
 impl Answer for ShownRow<'_> {
-    fn status(&self) -> Status {
-        match self.0 {
-            Some(_) => Status::Fine,
-            None => Status::No,
-        }
+    fn verdict(&self) -> Verdict {
+        self.0.map_or(Verdict::NoRow, |_| Verdict::Row)
     }
 
     fn put(&self, object: &mut Object) {
-        match self.0 {
-            Some(_) => {
-                put_verdict(object, "row");
-                object.text("bytes", &self.to_string());
-            }
-            None => put_verdict(object, "none"),
+        if let Some(bytes) = self.0 {
+            object.text("bytes", &digits(bytes));
         }
     }
 }
 
 impl Answer for CheckAnswer<'_> {
-    fn status(&self) -> Status {
+    fn verdict(&self) -> Verdict {
         match self {
-            CheckAnswer::RaceFree => Status::Fine,
-            CheckAnswer::Race { .. } => Status::No,
-            CheckAnswer::Overwritten { .. } | CheckAnswer::Cycle { .. } => Status::Inconsistent,
-            CheckAnswer::Refused { .. } => Status::Refused,
-            _ => Status::Trouble,
+            CheckAnswer::RaceFree => Verdict::RaceFree,
+            CheckAnswer::Race { .. } => Verdict::Race,
+            CheckAnswer::Overwritten { .. } => Verdict::Overwritten,
+            CheckAnswer::Cycle { .. } => Verdict::Cycle,
+            CheckAnswer::Refused { .. } => Verdict::Refused,
+            _ => Verdict::Unknown,
         }
     }
 
     fn put(&self, object: &mut Object) {
         match *self {
-            CheckAnswer::RaceFree => put_verdict(object, "race-free"),
             CheckAnswer::Race {
                 first,
                 second,
@@ -79,24 +76,21 @@ impl Answer for CheckAnswer<'_> {
                 writer,
                 byte,
             } => {
-                put_verdict(object, "overwritten");
                 object.put("reader", reader);
                 object.put("writer", writer);
                 object.put("byte", byte);
             }
             CheckAnswer::Cycle { rows, edges } => {
-                put_verdict(object, "cycle");
                 object.list("rows", rows);
                 object.list("edges", edges);
             }
             CheckAnswer::Refused { number, row } => put_refusal(object, number, row),
-            _ => put_verdict(object, UNKNOWN),
+            _ => (),
         }
     }
 
     fn rows(&self) -> Vec<u16> {
         match *self {
-            CheckAnswer::RaceFree => Vec::new(),
             CheckAnswer::Race { first, second, .. } => vec![first, second],
             CheckAnswer::Overwritten { reader, writer, .. } => vec![reader, writer],
             CheckAnswer::Cycle { rows, .. } => rows.to_vec(),
@@ -107,36 +101,31 @@ impl Answer for CheckAnswer<'_> {
 }
 
 impl Answer for FillAnswer<'_> {
-    fn status(&self) -> Status {
+    fn verdict(&self) -> Verdict {
         match self {
-            FillAnswer::Filled(_) => Status::Fine,
-            FillAnswer::Race { .. } => Status::No,
-            FillAnswer::None => Status::Inconsistent,
-            FillAnswer::Refused { .. } => Status::Refused,
-            _ => Status::Trouble,
+            FillAnswer::Filled(_) => Verdict::Filled,
+            FillAnswer::Race { .. } => Verdict::Race,
+            FillAnswer::None => Verdict::NoFilling,
+            FillAnswer::Refused { .. } => Verdict::Refused,
+            _ => Verdict::Unknown,
         }
     }
 
     fn put(&self, object: &mut Object) {
         match *self {
-            FillAnswer::Filled(sources) => {
-                put_verdict(object, "filled");
-                object.list("sources", sources);
-            }
-            FillAnswer::None => put_verdict(object, "none"),
+            FillAnswer::Filled(sources) => object.list("sources", sources),
             FillAnswer::Race {
                 first,
                 second,
                 byte,
             } => put_race(object, first, second, byte),
             FillAnswer::Refused { number, row } => put_refusal(object, number, row),
-            _ => put_verdict(object, UNKNOWN),
+            _ => (),
         }
     }
 
     fn rows(&self) -> Vec<u16> {
         match *self {
-            FillAnswer::Filled(_) | FillAnswer::None => Vec::new(),
             FillAnswer::Race { first, second, .. } => vec![first, second],
             FillAnswer::Refused { number, row } => refused_row(number, row),
             _ => Vec::new(),
@@ -145,66 +134,57 @@ impl Answer for FillAnswer<'_> {
 }
 
 impl Answer for DeriveAnswer<'_> {
-    fn status(&self) -> Status {
+    fn verdict(&self) -> Verdict {
         match self {
-            DeriveAnswer::Derivation(_) => Status::Fine,
-            DeriveAnswer::NotBefore => Status::No,
-            DeriveAnswer::Refused { .. } => Status::Refused,
-            _ => Status::Trouble,
+            DeriveAnswer::Derivation(Derivation::ProgramOrder) => Verdict::ProgramOrder,
+            DeriveAnswer::Derivation(Derivation::Chain { .. }) => Verdict::Chain,
+            DeriveAnswer::NotBefore => Verdict::NotBefore,
+            DeriveAnswer::Refused { .. } => Verdict::Refused,
+            _ => Verdict::Unknown,
         }
     }
 
     fn put(&self, object: &mut Object) {
         match *self {
-            DeriveAnswer::Derivation(Derivation::ProgramOrder) => {
-                put_verdict(object, "program-order");
-            }
             DeriveAnswer::Derivation(Derivation::Chain { classes, steps }) => {
-                put_verdict(object, "chain");
                 object.put("classes", classes);
                 object.list("steps", steps);
             }
-            DeriveAnswer::NotBefore => put_verdict(object, "not-before"),
             DeriveAnswer::Refused { number, row } => put_refusal(object, number, row),
-            _ => put_verdict(object, UNKNOWN),
+            _ => (),
         }
     }
 }
 
 impl Answer for AcceptsAnswer {
-    fn status(&self) -> Status {
+    fn verdict(&self) -> Verdict {
         match self {
-            AcceptsAnswer::Accepted => Status::Fine,
-            AcceptsAnswer::NotAccepted => Status::No,
-            AcceptsAnswer::Refused { .. } => Status::Refused,
-            _ => Status::Trouble,
+            AcceptsAnswer::Accepted => Verdict::Accepted,
+            AcceptsAnswer::NotAccepted => Verdict::NotAccepted,
+            AcceptsAnswer::Refused { .. } => Verdict::Refused,
+            _ => Verdict::Unknown,
         }
     }
 
     fn put(&self, object: &mut Object) {
-        match *self {
-            AcceptsAnswer::Accepted => put_verdict(object, "accepted"),
-            AcceptsAnswer::NotAccepted => put_verdict(object, "not-accepted"),
-            AcceptsAnswer::Refused { number, row } => put_refusal(object, number, row),
-            _ => put_verdict(object, UNKNOWN),
+        if let AcceptsAnswer::Refused { number, row } = *self {
+            put_refusal(object, number, row);
         }
     }
 }
 
 impl Answer for ReportAnswer<'_> {
-    fn status(&self) -> Status {
+    fn verdict(&self) -> Verdict {
         match self {
-            ReportAnswer::Report(report) if report.racing > 0 => Status::No,
-            ReportAnswer::Report(_) => Status::Fine,
-            ReportAnswer::Check(answer) => answer.status(),
-            _ => Status::Trouble,
+            ReportAnswer::Report(report) => Verdict::Report(report.racing > 0),
+            ReportAnswer::Check(answer) => answer.verdict(),
+            _ => Verdict::Unknown,
         }
     }
 
     fn put(&self, object: &mut Object) {
         match self {
             ReportAnswer::Report(report) => {
-                put_verdict(object, "report");
                 object.put("conflicting", report.conflicting);
                 object.put("mutual", report.mutual);
                 object.put("ordered", report.ordered);
@@ -216,13 +196,12 @@ impl Answer for ReportAnswer<'_> {
                 }
             }
             ReportAnswer::Check(answer) => answer.put(object),
-            _ => put_verdict(object, UNKNOWN),
+            _ => (),
         }
     }
 
     fn rows(&self) -> Vec<u16> {
         match self {
-            ReportAnswer::Report(_) => Vec::new(),
             ReportAnswer::Check(answer) => answer.rows(),
             _ => Vec::new(),
         }
@@ -237,19 +216,13 @@ fn refused_row(number: u16, row: u16) -> Vec<u16> {
     }
 }
 
-pub fn put_verdict(object: &mut Object, word: &str) {
-    object.text("verdict", word);
-}
-
 fn put_race(object: &mut Object, first: u16, second: u16, byte: u16) {
-    put_verdict(object, "race");
     object.put("first", first);
     object.put("second", second);
     object.put("byte", byte);
 }
 
 pub fn put_refusal(object: &mut Object, number: u16, row: u16) {
-    put_verdict(object, "refused");
     object.put("number", number);
     object.put("row", row);
 }

@@ -1,6 +1,7 @@
 //! The words of the command line.
 
 use crate::batch::Batch;
+use crate::catalogue::{long, COMMANDS};
 use crate::completion::Shell;
 use crate::glob::Glob;
 use crate::help;
@@ -9,6 +10,7 @@ use crate::overview::{Overview, Shape};
 use crate::question::{Kind, Question};
 use crate::tell::Telling;
 use mend::Step;
+use std::collections::BTreeMap;
 use std::ffi::{OsStr, OsString};
 
 /// What is asked for.
@@ -80,67 +82,44 @@ impl Request {
     }
 }
 
-/// Options, and the words that are none, in order.
-#[derive(Clone, Default)]
+/// Options by their long names, and the words that are none, in order.
+#[derive(Default)]
 struct Words {
-    is_help: bool,
-    is_version: bool,
-    is_hex: bool,
-    is_html: bool,
-    is_all: bool,
-    is_json: bool,
-    is_sarif: bool,
-    is_quiet: bool,
-    is_table: bool,
-    is_words: bool,
-    is_text: bool,
-    is_lines: bool,
-    is_raw: bool,
-    has_ids: bool,
-    has_status: bool,
-    has_chains: bool,
+    options: Vec<&'static str>,
     jobs: Option<usize>,
-    then: Option<OsString>,
-    only: Option<Glob>,
-    listed: Option<OsString>,
-    pages: Option<OsString>,
-    baseline: Option<OsString>,
-    against: Option<OsString>,
-    is_csv: bool,
-    is_forced: bool,
+    /// What was given to an option that takes something.
+    values: BTreeMap<&'static str, OsString>,
     others: Vec<OsString>,
 }
 
+/// The options that take something, and what that is.
+const VALUES: [(&str, &str); 6] = [
+    ("--then", "a file of rows"),
+    ("--only", "a pattern like '*.table'"),
+    ("--files0-from", "a file of names, or `-`"),
+    ("--pages", "a folder"),
+    ("--baseline", "a file of known findings"),
+    ("--against", "a summary as JSON"),
+];
+
 impl Words {
-    /// Whether there is any option besides a count of threads.
-    fn has_options(&self) -> bool {
-        let options = [
-            self.is_hex,
-            self.is_html,
-            self.is_all,
-            self.is_json,
-            self.is_sarif,
-            self.is_quiet,
-            self.is_table,
-            self.is_words,
-            self.is_text,
-            self.is_lines,
-            self.is_raw,
-            self.has_ids,
-            self.has_status,
-            self.has_chains,
-            self.is_csv,
-            self.is_forced,
-            self.only.is_some(),
-        ];
-        let values = [
-            &self.then,
-            &self.listed,
-            &self.pages,
-            &self.baseline,
-            &self.against,
-        ];
-        options.contains(&true) || values.iter().any(|value| value.is_some())
+    fn value(&self, option: &str) -> Option<OsString> {
+        self.values.get(option).cloned()
+    }
+
+    fn only(&self) -> Result<Option<Glob>, String> {
+        let pattern = self.values.get("--only");
+        let glob = pattern.map(|pattern| Glob::new(pattern.as_encoded_bytes()));
+        glob.transpose()
+    }
+
+    fn has(&self, option: &str) -> bool {
+        self.options.contains(&option)
+    }
+
+    /// Whether there is any option besides a count of threads and these.
+    fn has_others(&self, options: &[&str]) -> bool {
+        self.options.iter().any(|option| !options.contains(option))
     }
 }
 
@@ -149,10 +128,10 @@ const MOST_JOBS: usize = 256;
 
 pub fn parse(words: impl Iterator<Item = OsString>) -> Result<Command, String> {
     let mut words = sort(words)?;
-    if words.is_help {
+    if words.has("--help") {
         return Ok(Command::Help);
     }
-    if words.is_version {
+    if words.has("--version") {
         return Ok(Command::Version);
     }
     if words.others.is_empty() {
@@ -164,10 +143,10 @@ pub fn parse(words: impl Iterator<Item = OsString>) -> Result<Command, String> {
         Some("batch") => return batch(&words),
         Some("summary") => return summary(words),
         Some("completion") => return completion(&words),
-        Some("fill") if words.is_table => Task::Make(Making::Filled),
+        Some("fill") if words.has("--table") => Task::Make(Making::Filled),
         Some("make") => Task::Make(Making::Read),
         Some("edit") => Task::Make(Making::Edited(edit(&mut words.others)?)),
-        Some("show") => Task::Tell(match (words.is_text, words.is_lines) {
+        Some("show") => Task::Tell(match (words.has("--text"), words.has("--json-lines")) {
             (false, false) => Telling::Show,
             (true, false) => Telling::Text,
             (false, true) => Telling::Lines,
@@ -175,26 +154,26 @@ pub fn parse(words: impl Iterator<Item = OsString>) -> Result<Command, String> {
         }),
         Some("explain") => Task::Tell(explanation(&words)?),
         Some("draw") => Task::Tell(Telling::Draw {
-            is_all: words.is_all,
+            is_all: words.has("--all"),
         }),
         _ => {
             let kind = Kind::named(name.as_encoded_bytes()).filter(|kind| kind.takes_files());
             let kind = kind.ok_or_else(|| format!("no command is called {name:?}"))?;
             match question(kind, &mut words.others)? {
-                Question::Derive { first, second } if words.is_words => {
+                Question::Derive { first, second } if words.has("--words") => {
                     Task::Tell(Telling::Why { first, second })
                 }
                 question => Task::Judge(question),
             }
         }
     };
-    files(task, words)
+    files(&name, task, words)
 }
 
 /// How an answer is explained.
 fn explanation(words: &Words) -> Result<Telling, String> {
-    let is_all = words.is_all;
-    match (words.is_html, words.is_json) {
+    let is_all = words.has("--all");
+    match (words.has("--html"), words.has("--json")) {
         (true, true) => Err("--html or --json, not both".to_string()),
         (true, false) => Ok(Telling::Page { is_all }),
         (false, true) if is_all => Err("explain --json has all without --all".to_string()),
@@ -237,64 +216,41 @@ fn sort(words: impl Iterator<Item = OsString>) -> Result<Words, String> {
             sorted.others.push(word);
             continue;
         }
-        match word.to_str() {
-            Some("--") => are_options_over = true,
-            Some("--help" | "-h") => sorted.is_help = true,
-            Some("--version" | "-V") => sorted.is_version = true,
-            Some("--hex") => sorted.is_hex = true,
-            Some("--html") => sorted.is_html = true,
-            Some("--all") => sorted.is_all = true,
-            Some("--json") => sorted.is_json = true,
-            Some("--sarif") => sorted.is_sarif = true,
-            Some("--quiet" | "-q") => sorted.is_quiet = true,
-            Some("--table") => sorted.is_table = true,
-            Some("--words") => sorted.is_words = true,
-            Some("--text") => sorted.is_text = true,
-            Some("--json-lines") => sorted.is_lines = true,
-            Some("--chains") => sorted.has_chains = true,
-            Some("--csv") => sorted.is_csv = true,
-            Some("--force") => sorted.is_forced = true,
-            Some("--files0-from") => {
-                let list = words.next();
-                sorted.listed = Some(list.ok_or("--files0-from takes a file of names, or `-`")?);
-            }
-            Some("--pages") => {
-                let folder = words.next();
-                sorted.pages = Some(folder.ok_or("--pages takes a folder")?);
-            }
-            Some("--baseline") => {
-                let file = words.next();
-                sorted.baseline = Some(file.ok_or("--baseline takes a file of known findings")?);
-            }
-            Some("--against") => {
-                let file = words.next();
-                sorted.against = Some(file.ok_or("--against takes a summary as JSON")?);
-            }
-            Some("--raw") => sorted.is_raw = true,
-            Some("--ids") => sorted.has_ids = true,
-            Some("--status") => sorted.has_status = true,
-            Some("--then") if sorted.then.is_some() => {
-                return Err("--then given twice: a table has two pieces".to_string());
-            }
-            Some("--then") => {
-                let name = words.next();
-                sorted.then = Some(name.ok_or("--then takes a file of rows")?);
-            }
-            Some("--only") => {
-                let pattern = words.next().unwrap_or_default();
-                sorted.only = Some(Glob::new(pattern.as_encoded_bytes())?);
-            }
-            Some(word) if word.starts_with("--only=") => {
-                sorted.only = Some(Glob::new(&word.as_bytes()[7..])?);
-            }
-            Some("-j" | "--jobs") => {
+        let text = word.to_str().unwrap_or_default();
+        if text == "--" {
+            are_options_over = true;
+            continue;
+        }
+        // The count of threads may stand in the same word.
+        let count = text.strip_prefix("--jobs=").or(text.strip_prefix("-j"));
+        if let Some(count) = count.filter(|_| text != "-j") {
+            sorted.jobs = Some(jobs(count)?);
+            continue;
+        }
+        // So may what another option takes.
+        let (text, equal) = match text.split_once('=') {
+            Some((option, equal)) => (option, Some(equal)),
+            None => (text, None),
+        };
+        match long(text).ok_or_else(|| format!("no option is called {word:?}"))? {
+            "--jobs" => {
                 let count = words.next();
                 let count = count.as_ref().and_then(|count| count.to_str());
                 sorted.jobs = Some(jobs(count.unwrap_or_default())?);
             }
-            Some(word) if word.starts_with("-j") => sorted.jobs = Some(jobs(&word[2..])?),
-            Some(word) if word.starts_with("--jobs=") => sorted.jobs = Some(jobs(&word[7..])?),
-            _ => return Err(format!("no option is called {word:?}")),
+            "--then" if sorted.has("--then") => {
+                return Err("--then given twice: a table has two pieces".to_string());
+            }
+            option => {
+                if let Some((_, what)) = VALUES.iter().find(|(name, _)| *name == option) {
+                    let given = equal.map(OsString::from).or_else(|| words.next());
+                    let given = given.ok_or_else(|| format!("{option} takes {what}"))?;
+                    sorted.values.insert(option, given);
+                } else if equal.is_some() {
+                    return Err(format!("{option} takes nothing"));
+                }
+                sorted.options.push(option);
+            }
         }
     }
     Ok(sorted)
@@ -320,7 +276,7 @@ fn help(words: &Words) -> Result<Command, String> {
 
 fn completion(words: &Words) -> Result<Command, String> {
     let bad = || "completion takes a shell: bash, zsh or fish".to_string();
-    if words.has_options() {
+    if words.has_others(&[]) {
         return Err("completion takes no options".to_string());
     }
     match &words.others[..] {
@@ -332,103 +288,90 @@ fn completion(words: &Words) -> Result<Command, String> {
     }
 }
 
-/// The commands that have one line for an answer.
-const TAKERS: &str = "check, fill, report, derive, accepts";
+/// The options that not all commands take, in the order in which they are told.
+const BOUND: [&str; 21] = [
+    "--html",
+    "--all",
+    "--json",
+    "--sarif",
+    "--table",
+    "--text",
+    "--json-lines",
+    "--words",
+    "--chains",
+    "--then",
+    "--quiet",
+    "--only",
+    "--files0-from",
+    "--force",
+    "--csv",
+    "--pages",
+    "--baseline",
+    "--against",
+    "--raw",
+    "--ids",
+    "--status",
+];
 
-/// What goes with which command.
-fn check_options(task: &Task, words: &Words) -> Result<(), String> {
-    let is_page = matches!(task, Task::Tell(Telling::Page { .. }));
-    if words.is_html && !is_page {
-        return Err("only explain takes --html".to_string());
-    }
-    let is_explained = is_page || is_explained(task);
-    if words.is_all && !is_explained {
-        return Err("only draw and explain take --all".to_string());
-    }
-    if words.is_json && !matches!(task, Task::Judge(_) | Task::Tell(Telling::Object)) {
-        return Err(format!("only {TAKERS}, explain and batch take --json"));
-    }
-    if words.is_sarif && *task != Task::Judge(Question::Check) {
-        return Err("only check takes --sarif".to_string());
-    }
-    if words.is_sarif && (words.is_json || words.is_quiet || words.then.is_some()) {
-        return Err("--sarif goes without --json, --quiet and --then".to_string());
-    }
-    if words.is_table && *task != Task::Make(Making::Filled) {
-        return Err("only fill takes --table".to_string());
-    }
-    let is_shown = matches!(task, Task::Tell(Telling::Text | Telling::Lines));
-    if (words.is_text || words.is_lines) && !is_shown {
-        return Err("only show takes --text and --json-lines".to_string());
-    }
-    if words.is_words && !matches!(task, Task::Tell(Telling::Why { .. })) {
-        return Err("only derive takes --words".to_string());
-    }
-    if words.has_chains && !takes_chains(task) {
-        return Err("only check, fill, report, explain, draw and batch take --chains".to_string());
-    }
-    if words.then.is_some() && !is_explained && !matches!(task, Task::Judge(_)) {
-        return Err(format!("only {TAKERS}, explain and draw take --then"));
-    }
-    let values = [&words.pages, &words.baseline, &words.against];
-    if words.is_csv || values.iter().any(|value| value.is_some()) {
-        return Err("only summary takes --csv, --pages, --baseline and --against".to_string());
-    }
-    if words.is_forced && !matches!(task, Task::Make(_)) {
-        return Err("only make, edit and fill --table take --force".to_string());
-    }
-    if words.is_raw || words.has_ids || words.has_status {
-        return Err("only batch takes --raw, --ids and --status".to_string());
-    }
-    if words.is_quiet && !matches!(task, Task::Judge(_)) {
-        return Err(format!("only {} take --quiet", Kind::NAMES));
+/// What goes with which command, and with what it is to do.
+fn check_options(name: &OsStr, task: &Task, words: &Words) -> Result<(), String> {
+    let entry = COMMANDS.iter().find(|entry| name == entry.name);
+    let takes = |option| entry.is_some_and(|entry| entry.options.contains(option));
+    // These are about answers, which a new table and sentences about moments aren't.
+    let others = ["--json", "--quiet", "--then"];
+    let is_answer = !matches!(task, Task::Make(_) | Task::Tell(Telling::Why { .. }));
+    for option in BOUND.iter().filter(|option| words.has(option)) {
+        if !takes(option) || !is_answer && others.contains(option) {
+            return Err(format!("only {}", takers(option)));
+        }
+        if *option == "--sarif" && others.iter().any(|other| words.has(other)) {
+            return Err("--sarif goes without --json, --quiet and --then".to_string());
+        }
     }
     Ok(())
 }
 
-/// Whether a run is explained or drawn, but for a page.
-fn is_explained(task: &Task) -> bool {
-    let Task::Tell(telling) = task else {
-        return false;
-    };
-    matches!(
-        telling,
-        Telling::Explain { .. } | Telling::Object | Telling::Draw { .. }
-    )
+/// The commands that take an option, by the catalogue.
+fn takers(option: &str) -> String {
+    if matches!(option, "--text" | "--json-lines") {
+        return "show takes --text and --json-lines".to_string();
+    }
+    let takers = COMMANDS
+        .iter()
+        .filter(|entry| entry.options.contains(&option));
+    let mut names: Vec<&str> = takers.map(|entry| entry.name).collect();
+    if option == "--all" {
+        names.reverse();
+    }
+    match &names[..] {
+        [name] => format!("{name} takes {option}"),
+        [names @ .., last] => format!("{} and {last} take {option}", names.join(", ")),
+        [] => String::new(),
+    }
 }
 
-/// Whether chains play a part: derivations and forms don't depend on them.
-fn takes_chains(task: &Task) -> bool {
-    matches!(
-        task,
-        Task::Judge(Question::Check | Question::Fill | Question::Report)
-            | Task::Tell(Telling::Explain { .. } | Telling::Object)
-            | Task::Tell(Telling::Page { .. } | Telling::Draw { .. })
-            | Task::Make(Making::Filled)
-    )
-}
-
-fn files(task: Task, words: Words) -> Result<Command, String> {
-    check_options(&task, &words)?;
+fn files(name: &OsStr, task: Task, words: Words) -> Result<Command, String> {
+    check_options(name, &task, &words)?;
     let request = Request {
         task,
-        is_hex: words.is_hex,
-        is_json: words.is_json,
-        is_sarif: words.is_sarif,
-        is_quiet: words.is_quiet,
-        has_chains: words.has_chains,
+        is_hex: words.has("--hex"),
+        is_json: words.has("--json"),
+        is_sarif: words.has("--sarif"),
+        is_quiet: words.has("--quiet"),
+        has_chains: words.has("--chains"),
         jobs: words.jobs.unwrap_or(1),
+        then: words.value("--then"),
+        only: words.only()?,
+        listed: words.value("--files0-from"),
+        is_forced: words.has("--force"),
         names: words.others,
-        then: words.then,
-        only: words.only,
-        listed: words.listed,
-        is_forced: words.is_forced,
     };
-    if request.listed.is_some() && !request.takes_directories() {
-        return Err("--files0-from is for many files, and this takes one".to_string());
+    if request.is_forced && !matches!(request.task, Task::Make(_)) {
+        return Err("fill takes --force with --table".to_string());
     }
-    if request.only.is_some() && !request.takes_directories() {
-        return Err("--only is for directories, and this takes one file".to_string());
+    let is_many = request.only.is_some() || request.listed.is_some();
+    if is_many && !request.takes_directories() {
+        return Err("--only and --files0-from are for many files, and this takes one".to_string());
     }
     let names = &request.names;
     if names.is_empty() && request.listed.is_none() {
@@ -449,80 +392,63 @@ fn files(task: Task, words: Words) -> Result<Command, String> {
     Ok(Command::Files(request))
 }
 
-fn summary(words: Words) -> Result<Command, String> {
-    let bare = Words {
-        is_json: false,
-        is_html: false,
-        is_hex: false,
-        is_csv: false,
-        has_chains: false,
-        only: None,
-        listed: None,
-        pages: None,
-        baseline: None,
-        against: None,
-        ..words.clone()
-    };
-    if bare.has_options() {
-        let forms = "--csv, --json, --html, --pages, --baseline, --against";
-        let files = "--files0-from, --only, --hex, --chains and -j";
-        return Err(format!("summary takes no option but {forms}, {files}"));
+fn batch(words: &Words) -> Result<Command, String> {
+    if !words.others.is_empty() {
+        return Err("batch takes no file: tables come on standard input".to_string());
     }
-    let form = match (words.is_csv, words.is_json, words.is_html) {
-        (false, false, false) => Shape::Plain,
-        (true, false, false) => Shape::Csv,
-        (false, true, false) => Shape::Json,
-        (false, false, true) => Shape::Html,
-        _ => return Err("--csv, --json or --html, one of them".to_string()),
-    };
-    if words.pages.is_some() && form != Shape::Html {
-        return Err("--pages goes with --html".to_string());
-    }
-    if words.others.is_empty() && words.listed.is_none() {
-        return Err("no file given".to_string());
-    }
-    let inputs = words.others.iter().chain(&words.listed);
-    if inputs.filter(|name| *name == "-").count() > 1 {
-        return Err("standard input given twice".to_string());
-    }
-    Ok(Command::Summary(Overview {
-        names: words.others,
-        listed: words.listed,
-        only: words.only,
-        form,
-        pages: words.pages,
-        baseline: words.baseline,
-        against: words.against,
-        is_hex: words.is_hex,
-        has_chains: words.has_chains,
+    takes_only(words, "batch")?;
+    Ok(Command::Batch(Batch {
+        is_json: words.has("--json"),
+        has_chains: words.has("--chains"),
+        has_ids: words.has("--ids"),
+        is_raw: words.has("--raw"),
+        has_status: words.has("--status"),
         jobs: words.jobs.unwrap_or(1),
     }))
 }
 
-fn batch(words: &Words) -> Result<Command, String> {
-    let bare = Words {
-        is_json: false,
-        has_chains: false,
-        is_raw: false,
-        has_ids: false,
-        has_status: false,
-        ..words.clone()
+/// Holds a command to the options that the catalogue has for it.
+fn takes_only(words: &Words, name: &str) -> Result<(), String> {
+    let entry = COMMANDS.iter().find(|entry| entry.name == name);
+    let options = entry.map_or(&[][..], |entry| entry.options);
+    match words.has_others(options) {
+        true => Err(format!("{name} takes no option but {}", options.join(", "))),
+        false => Ok(()),
+    }
+}
+
+fn summary(words: Words) -> Result<Command, String> {
+    takes_only(&words, "summary")?;
+    let form = match ["--csv", "--json", "--html"].map(|form| words.has(form)) {
+        [false, false, false] => Shape::Plain,
+        [true, false, false] => Shape::Csv,
+        [false, true, false] => Shape::Json,
+        [false, false, true] => Shape::Html,
+        _ => return Err("--csv, --json or --html, one of them".to_string()),
     };
-    if !words.others.is_empty() {
-        return Err("batch takes no file: tables come on standard input".to_string());
-    }
-    if bare.has_options() {
-        let options = "--json, --ids, --raw, --status, --chains and -j";
-        return Err(format!("batch takes no option but {options}"));
-    }
-    Ok(Command::Batch(Batch {
-        is_json: words.is_json,
-        has_chains: words.has_chains,
-        has_ids: words.has_ids,
-        is_raw: words.is_raw,
-        has_status: words.has_status,
+    let overview = Overview {
+        listed: words.value("--files0-from"),
+        only: words.only()?,
+        form,
+        pages: words.value("--pages"),
+        baseline: words.value("--baseline"),
+        against: words.value("--against"),
+        is_hex: words.has("--hex"),
+        has_chains: words.has("--chains"),
         jobs: words.jobs.unwrap_or(1),
-    }))
+        names: words.others,
+    };
+    if overview.pages.is_some() && form != Shape::Html {
+        return Err("--pages goes with --html".to_string());
+    }
+    if overview.names.is_empty() && overview.listed.is_none() {
+        return Err("no file given".to_string());
+    }
+    let inputs = overview.names.iter().chain(&overview.listed);
+    if inputs.filter(|name| *name == "-").count() > 1 {
+        return Err("standard input given twice".to_string());
+    }
+    Ok(Command::Summary(overview))
 }
 
 #[cfg(test)]

@@ -130,7 +130,7 @@ fn answer(checker: &mut Checker, batch: Batch, line: Line) -> (String, Status) {
     let status = match line.asked {
         Ok(Asked { question, pieces }) => {
             let pieces = [&pieces[0][..], &pieces[1]];
-            let status = judge(checker, &question, pieces, form, &mut text);
+            let status = judge(checker, &question, pieces, form, &mut text).status();
             if batch.has_status {
                 status
             } else {

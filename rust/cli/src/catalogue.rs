@@ -1,5 +1,5 @@
-//! The commands and options by name: what shells complete, and what tests
-//! hold the help, the man page and the parser to.
+//! The commands and options by name: what the parser takes, what shells complete,
+//! and what tests hold the help and the man page to.
 
 /// A command, what it does, and the options that it takes.
 pub struct Entry {
@@ -196,6 +196,14 @@ pub fn option_words(name: &str) -> &'static str {
 pub fn short(name: &str) -> Option<&'static str> {
     let entry = SHORT.iter().find(|(_, long)| *long == name);
     entry.map(|(short, _)| *short)
+}
+
+/// The long name of an option that is given by either.
+pub fn long(name: &str) -> Option<&'static str> {
+    let long = SHORT.iter().find(|(short, _)| *short == name);
+    let name = long.map_or(name, |(_, long)| long);
+    let mut names = OPTIONS.iter().map(|(option, _)| *option);
+    names.find(|option| *option == name)
 }
 
 #[cfg(test)]

@@ -1,22 +1,21 @@
 //! `explain --json`: an answer, what is missing, and the changes that would end
 //! a race, each with its edits and the answer after it.
 
-use crate::answers::Answer;
+use crate::answers::put;
 use format::Object;
 use mend::{steps_text, Cure, Outcome};
-use stramashly::CheckAnswer;
 use words::{named, Advice, Explanation, Near};
 
 /// An explanation, with the file's name if there is one: the members of the
 /// check's answer, then its own.
-pub fn object(file: Option<&str>, answer: &CheckAnswer, explanation: &Explanation) -> Object {
+pub fn object(file: Option<&str>, explanation: &Explanation) -> Object {
     let mut object = Object::default();
     if let Some(file) = file {
         object.text("file", file);
     }
-    answer.put(&mut object);
+    put(&explanation.answer.borrowed(), &mut object);
     if let Some(near) = &explanation.near {
-        object.put("nearest", &nearest(explanation, near));
+        object.put("nearest", nearest(explanation, near));
     }
     let changes = explanation.cures.iter().zip(&explanation.advice);
     let changes: Vec<Object> = changes.map(|(cure, advice)| change(cure, advice)).collect();
@@ -45,7 +44,7 @@ fn change(cure: &Cure, advice: &Advice) -> Object {
     object.texts("reasons", &advice.reasons);
     if cure.has_room {
         object.text("edit", &steps_text(&cure.steps()));
-        object.text("answer", &cure.answer);
+        object.text("answer", &cure.answer.to_string());
     }
     let (outcome, left) = match cure.outcome {
         Outcome::RaceFree => ("race-free", Some(0)),

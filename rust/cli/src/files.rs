@@ -1,7 +1,6 @@
 //! Files, one table each: judged, told in words and pictures, or made into
 //! another table.
 
-use crate::answers::Answer;
 use crate::arguments::{Request, Task};
 use crate::checker::checker;
 use crate::colour;
@@ -13,8 +12,9 @@ use crate::parallel::{in_order, Giver, Taker};
 use crate::progress::Progress;
 use crate::read::{listed, read, second, Given, Unread};
 use crate::sarif::{log, notification, results, Origin};
-use crate::summary::{Summary, UNREAD};
-use crate::tell::tell;
+use crate::summary::Summary;
+use crate::tell::{tell, Told};
+use crate::verdict::Verdict;
 use crate::Status;
 use format::Object;
 use std::ffi::OsString;
@@ -27,6 +27,8 @@ const PIECE: usize = 8;
 /// What came of a file.
 struct Outcome {
     name: OsString,
+    /// What the bytes begin with, if that is an answer.
+    verdict: Option<Verdict>,
     status: Status,
     /// For standard output.
     bytes: Vec<u8>,
@@ -128,9 +130,7 @@ impl Writer<'_> {
             return self.keep(outcome);
         }
         let is_plain = !self.request.is_json;
-        let text = std::str::from_utf8(&outcome.bytes).unwrap_or_default();
-        self.summary
-            .count(if text.is_empty() { UNREAD } else { text });
+        self.summary.count(outcome.verdict);
         if let Some(likeness) = outcome.likeness {
             self.output.flush();
             complain(&format!("{}: {likeness}", outcome.name.to_string_lossy()));
@@ -140,10 +140,11 @@ impl Writer<'_> {
                 self.output.write(outcome.name.as_encoded_bytes());
                 self.output.write(b": ");
             }
-            if self.is_coloured {
-                self.output.write(colour::painted(text).as_bytes());
-            } else {
-                self.output.write(&outcome.bytes);
+            match (outcome.verdict, std::str::from_utf8(&outcome.bytes)) {
+                (Some(verdict), Ok(text)) if self.is_coloured => {
+                    self.output.write(verdict.painted(text).as_bytes());
+                }
+                _ => self.output.write(&outcome.bytes),
             }
         }
         if let Some(reason) = outcome.reason {
@@ -216,7 +217,7 @@ fn outcome(request: &Request, are_named: bool, checker: &mut Checker, name: Name
         false => Form::Plain,
     };
     let mut likeness = None;
-    let (status, bytes, reason) = match given {
+    let ((verdict, status), bytes, reason) = match given {
         Ok((given, second)) => {
             likeness = given.likeness;
             let notes = given.notes.clone();
@@ -228,11 +229,12 @@ fn outcome(request: &Request, are_named: bool, checker: &mut Checker, name: Name
             if request.is_json {
                 append_trouble(&mut text, form(None), &reason.to_string());
             }
-            (Status::Trouble, text.into_bytes(), Some(reason))
+            ((None, Status::Trouble), text.into_bytes(), Some(reason))
         }
     };
     Outcome {
         name,
+        verdict,
         status,
         bytes,
         reason,
@@ -246,7 +248,7 @@ fn answer(
     (name, form): (&str, Form),
     (given, second): (Given, Option<&[u8]>),
     checker: &mut Checker,
-) -> (Status, Vec<u8>, Option<Unread>) {
+) -> (Told, Vec<u8>, Option<Unread>) {
     let mut text = String::new();
     match &request.task {
         Task::Judge(_) if request.is_sarif => {
@@ -254,30 +256,29 @@ fn answer(
                 file: (name != "-").then_some(name),
                 is_hex: request.is_hex,
             };
-            let text = results(&given, &origin, checker);
-            let status = checker.check(&given.table).status();
-            (status, text.into_bytes(), None)
+            let (verdict, text) = results(&given, &origin, checker);
+            ((Some(verdict), verdict.status()), text.into_bytes(), None)
         }
         Task::Judge(question) => {
             let pieces = [&given.table[..], second.unwrap_or_default()];
-            let status = judge(checker, question, pieces, form, &mut text);
-            (status, text.into_bytes(), None)
+            let verdict = judge(checker, question, pieces, form, &mut text);
+            ((Some(verdict), verdict.status()), text.into_bytes(), None)
         }
         Task::Tell(telling) => {
             let given = given.joined(second, checker);
             let file = form.file();
             match given.and_then(|given| tell(checker, *telling, (&given, file), &mut text)) {
-                Ok(status) => (status, text.into_bytes(), None),
-                Err(reason) => (Status::Refused, Vec::new(), Some(reason.into())),
+                Ok(told) => (told, text.into_bytes(), None),
+                Err(reason) => ((None, Status::Refused), Vec::new(), Some(reason.into())),
             }
         }
         Task::Make(making) => match make(checker, making, &given) {
             Ok(made) if request.is_hex => {
                 let digits = hex_line(&made.table).into_bytes();
-                (made.status, digits, made.told.map(Unread::from))
+                ((None, made.status), digits, made.told.map(Unread::from))
             }
-            Ok(made) => (made.status, made.table, made.told.map(Unread::from)),
-            Err((status, reason)) => (status, Vec::new(), Some(reason)),
+            Ok(made) => ((None, made.status), made.table, made.told.map(Unread::from)),
+            Err((status, reason)) => ((None, status), Vec::new(), Some(reason)),
         },
     }
 }

@@ -1,9 +1,9 @@
 //! One table judged: its answer as text, and the status that goes with it.
 
-use crate::answers::{Answer, ShownRow};
+use crate::answers::{put, Answer, ShownRow};
 use crate::question::Question;
+use crate::verdict::Verdict;
 use crate::writing::{rows, write};
-use crate::Status;
 use format::Object;
 use mend::Notes;
 use std::fmt::{Display, Write};
@@ -39,7 +39,7 @@ pub fn judge(
     pieces: [&[u8]; 2],
     form: Form,
     text: &mut String,
-) -> Status {
+) -> Verdict {
     match question {
         Question::Check => append(text, form, &checker.check(pieces)),
         Question::Fill => append(text, form, &checker.fill(pieces)),
@@ -78,7 +78,7 @@ pub fn append_trouble(text: &mut String, form: Form, reason: &str) {
     }
 }
 
-fn append(text: &mut String, form: Form, answer: &dyn Answer) -> Status {
+fn append(text: &mut String, form: Form, answer: &dyn Answer) -> Verdict {
     match form {
         Form::Plain => append_line(text, &answer),
         Form::Json { file, notes } => {
@@ -86,14 +86,14 @@ fn append(text: &mut String, form: Form, answer: &dyn Answer) -> Status {
             if let Some(file) = file {
                 object.text("file", file);
             }
-            answer.put(&mut object);
+            put(answer, &mut object);
             if let Some(notes) = notes {
                 put_places(&mut object, notes, &answer.rows());
             }
             append_line(text, &object);
         }
     }
-    answer.status()
+    answer.verdict()
 }
 
 /// The labels and places of the rows that an answer names, if there are any.

@@ -26,6 +26,7 @@ mod read;
 mod sarif;
 mod summary;
 mod tell;
+mod verdict;
 mod writing;
 
 use arguments::Command;

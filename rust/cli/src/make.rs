@@ -1,5 +1,6 @@
 //! A table made: of its text, of another whose blanks are filled, or by steps.
 
+use crate::answers::Answer;
 use crate::read::{Given, Unread};
 use crate::Status;
 use format::digits;
@@ -83,21 +84,15 @@ fn read(given: &Given) -> Result<Vec<u8>, (Status, Unread)> {
 
 fn filled(checker: &mut Checker, table: &[u8]) -> Result<Vec<u8>, (Status, Unread)> {
     let answer = checker.fill(table);
-    let status = match answer {
-        FillAnswer::Filled(sources) => {
-            let rows = Run::of(table).rows;
-            let blanks = (0..rows.len()).filter(|row| rows[*row].source == BLANK);
-            let edits = blanks.map(|row| Edit::new(row, Field::Source, sources[row]));
-            let filled = remade(&edited(table, &edits.collect::<Vec<_>>()));
-            return filled.map_err(|refusal| (Status::Refused, refusal.to_string().into()));
-        }
-        FillAnswer::Race { .. } => Status::No,
-        FillAnswer::None => Status::Inconsistent,
-        FillAnswer::Refused { .. } => Status::Refused,
-        _ => Status::Trouble,
+    let FillAnswer::Filled(sources) = answer else {
+        let reason = format!("{answer}; there is no filled table");
+        return Err((answer.verdict().status(), reason.into()));
     };
-    let reason = format!("{answer}; there is no filled table");
-    Err((status, reason.into()))
+    let rows = Run::of(table).rows;
+    let blanks = (0..rows.len()).filter(|row| rows[*row].source == BLANK);
+    let edits = blanks.map(|row| Edit::new(row, Field::Source, sources[row]));
+    let filled = remade(&edited(table, &edits.collect::<Vec<_>>()));
+    filled.map_err(|refusal| (Status::Refused, refusal.to_string().into()))
 }
 
 /// The steps of an edit: words like `row 2 flags 3`, several with semicolons

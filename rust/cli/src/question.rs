@@ -66,8 +66,6 @@ fn claim(words: &[&str]) -> Result<Claim, String> {
 }
 
 impl Kind {
-    /// What there is to choose from.
-    pub const NAMES: &str = "check, fill, report, derive and accepts";
     /// What there is to choose from in a batch line.
     pub const LINES: &str = "check, fill, report, derive, accepts, rows and write, \
         and of two pieces the first five with a 2, and row2";

@@ -1,41 +1,40 @@
 //! `check --sarif`: what was found in all the files, as one SARIF 2.1.0 log
 //! for tools that list findings beside the program's lines.
 
+use crate::answers::Answer;
 use crate::read::{Given, Unread};
+use crate::verdict::Verdict;
 use format::Object;
 use mend::first_row;
-use stramashly::Checker;
+use stramashly::{Checker, ROW_BYTES};
 use words::{findings, Finding};
 
-/// A rule's name, its title and what it finds.
-type Rule = (&'static str, &'static str, &'static str);
+/// The verdict that is a rule's name, its title and what it finds.
+type Rule = (Verdict, &'static str, &'static str);
 
 /// A rule for each answer that is not `race-free`, named by its first word.
 const RULES: [Rule; 4] = [
     (
-        "race",
+        Verdict::Race,
         "Race",
         "Two rows conflict, and nothing orders them at a byte.",
     ),
     (
-        "overwritten",
+        Verdict::Overwritten,
         "OverwrittenRead",
         "A row read what had been written over before: the run can't have happened.",
     ),
     (
-        "cycle",
+        Verdict::Cycle,
         "Cycle",
         "Rows come before each other in a circle: the run can't have happened.",
     ),
     (
-        "refused",
+        Verdict::Refused,
         "Refused",
         "The table breaks a rule of form, so nothing was judged.",
     ),
 ];
-
-/// Bytes of a row.
-const ROW_BYTES: usize = 16;
 
 /// Where a table came from.
 pub struct Origin<'a> {
@@ -44,27 +43,31 @@ pub struct Origin<'a> {
     pub is_hex: bool,
 }
 
-/// The results of a table, an object a line.
-pub fn results(given: &Given, origin: &Origin, checker: &mut Checker) -> String {
+/// The check's verdict, and the results of a table, an object a line.
+pub fn results(given: &Given, origin: &Origin, checker: &mut Checker) -> (Verdict, String) {
     let found = findings(&given.table, &given.notes, checker);
     let results = found.iter().map(|finding| result(finding, given, origin));
-    results.map(|result| format!("{result}\n")).collect()
+    let verdict = found
+        .first()
+        .map(|finding| finding.answer.borrowed().verdict());
+    let results = results.map(|result| format!("{result}\n")).collect();
+    (verdict.unwrap_or(Verdict::RaceFree), results)
 }
 
 fn result(finding: &Finding, given: &Given, origin: &Origin) -> Object {
-    let word = finding.answer.split(' ').next().unwrap_or_default();
-    let rule = RULES.iter().position(|(id, ..)| *id == word);
+    let verdict = finding.answer.borrowed().verdict();
+    let rule = RULES.iter().position(|(id, ..)| *id == verdict);
     let mut object = Object::default();
-    object.text("ruleId", word);
+    object.text("ruleId", verdict.word());
     object.put("ruleIndex", rule.unwrap_or(0));
     object.text("level", "error");
-    object.put("message", &text(&finding.message));
+    object.put("message", text(&finding.message));
     let places = finding.rows.iter().enumerate().map(|(id, (row, words))| {
         let mut place = location(Some(*row), given, origin);
         if id > 0 {
             place.put("id", id);
         }
-        place.put("message", &text(words));
+        place.put("message", text(words));
         place
     });
     let mut places: Vec<Object> = places.collect();
@@ -80,7 +83,7 @@ fn result(finding: &Finding, given: &Given, origin: &Origin) -> Object {
     if let Some(file) = origin.file {
         properties.text("table", file);
     }
-    properties.text("answer", &finding.answer);
+    properties.text("answer", &finding.answer.to_string());
     properties.put("proved", finding.is_proved);
     object.put("properties", &properties);
     object
@@ -114,7 +117,7 @@ fn location(row: Option<usize>, given: &Given, origin: &Origin) -> Object {
     }
     let mut location = Object::default();
     if let Some(file) = file {
-        location.put("physicalLocation", &physical(file, &region));
+        location.put("physicalLocation", physical(file, &region));
     }
     if let Some(row) = row {
         let mut logical = Object::default();
@@ -157,14 +160,14 @@ pub fn uri(file: &str) -> String {
 pub fn notification(file: &str, reason: &Unread) -> Object {
     let mut notification = Object::default();
     notification.text("level", "error");
-    notification.put("message", &text(&reason.to_string()));
+    notification.put("message", text(&reason.to_string()));
     let mut region = Object::default();
     if let Some((line, column)) = reason.spot() {
         region.put("startLine", line);
         region.put("startColumn", column);
     }
     let mut location = Object::default();
-    location.put("physicalLocation", &physical(file, &region));
+    location.put("physicalLocation", physical(file, &region));
     notification.list("locations", &[location]);
     notification
 }
@@ -175,9 +178,9 @@ pub fn log(results: &[String], notifications: &[Object]) -> String {
         let mut level = Object::default();
         level.text("level", "error");
         let mut rule = Object::default();
-        rule.text("id", id);
+        rule.text("id", id.word());
         rule.text("name", name);
-        rule.put("shortDescription", &text(words));
+        rule.put("shortDescription", text(words));
         rule.put("defaultConfiguration", &level);
         rule
     });
@@ -196,7 +199,7 @@ pub fn log(results: &[String], notifications: &[Object]) -> String {
     run.put("tool", &tool);
     run.list("invocations", &[invocation]);
     run.text("columnKind", "unicodeCodePoints");
-    run.put("results", &format!("[{}]", results.join(",")));
+    run.put("results", format!("[{}]", results.join(",")));
     let mut log = Object::default();
     log.text("$schema", "https://json.schemastore.org/sarif-2.1.0.json");
     log.text("version", "2.1.0");

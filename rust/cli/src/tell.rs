@@ -3,11 +3,12 @@
 use crate::answers::Answer;
 use crate::explained;
 use crate::read::Given;
+use crate::verdict::Verdict;
 use crate::Status;
 use draw::{draw_noted, page};
 use stramashly::Checker;
 use text::{write, write_lines, Refusal};
-use words::{explain_noted, refusal, show_noted, why, Explanation, Shown};
+use words::{explain_noted, refusal, show_noted, why};
 
 /// How a table is told.
 #[derive(Clone, Copy, Debug, PartialEq, Eq)]
@@ -39,6 +40,10 @@ pub enum Telling {
     },
 }
 
+/// What was told: the answer's verdict where the text begins with an answer, and
+/// the status.
+pub type Told = (Option<Verdict>, Status);
+
 /// Appends the words or the picture to the text; the reason if a refused
 /// table has none. An object has the file's name if there is one.
 pub fn tell(
@@ -46,38 +51,46 @@ pub fn tell(
     telling: Telling,
     (given, file): (&Given, Option<&str>),
     text: &mut String,
-) -> Result<Status, String> {
+) -> Result<Told, String> {
     let Given { table, notes, .. } = given;
+    let fine = (None, Status::Fine);
     match telling {
         Telling::Object => {
             let explanation = explain_noted(table, notes, checker, false);
-            let object = explained::object(file, &checker.check(table), &explanation);
-            *text += &format!("{object}\n");
-            Ok(status(&explanation))
+            *text += &format!("{}\n", explained::object(file, &explanation));
+            Ok(told(&explanation.answer.borrowed()))
         }
-        Telling::Text => said(text, write(table, notes)),
-        Telling::Lines => said(text, write_lines(table, notes)),
-        Telling::Show => Ok(shown(checker, given, text)),
+        Telling::Text => said(text, write(table, notes)).map(|()| fine),
+        Telling::Lines => said(text, write_lines(table, notes)).map(|()| fine),
+        Telling::Show => Ok((None, shown(checker, given, text))),
         Telling::Explain { is_all } => {
             let explanation = explain_noted(table, notes, checker, is_all);
             *text += &explanation.text();
-            Ok(status(&explanation))
+            Ok(told(&explanation.answer.borrowed()))
         }
         Telling::Page { is_all } => {
             let explanation = explain_noted(table, notes, checker, is_all);
             *text += &page(table, &explanation, is_all);
-            Ok(status(&explanation))
+            Ok(told(&explanation.answer.borrowed()))
         }
         Telling::Why { first, second } => {
-            *text += &why(table, first, second, checker);
-            Ok(checker.derive(table, first, second).status())
+            let (answer, lines) = why(table, first, second, checker);
+            *text += &format!("{answer}\n");
+            lines.iter().for_each(|line| *text += &format!("{line}\n"));
+            Ok(told(&answer.borrowed()))
         }
         Telling::Draw { is_all } => {
             let picture = draw_noted(table, notes, checker, is_all);
             *text += &picture.map_err(|answer| format!("{answer}; there is no picture"))?;
-            Ok(Status::Fine)
+            Ok(fine)
         }
     }
+}
+
+/// The answer's verdict, and the status that goes with it.
+fn told(answer: &dyn Answer) -> Told {
+    let verdict = answer.verdict();
+    (Some(verdict), verdict.status())
 }
 
 /// Appends a table in words, and why it is refused if it is.
@@ -89,24 +102,8 @@ fn shown(checker: &mut Checker, given: &Given, text: &mut String) -> Status {
 }
 
 /// Appends a table's text; only what a fill takes has one.
-fn said(text: &mut String, written: Result<String, Refusal>) -> Result<Status, String> {
-    match written {
-        Ok(written) => {
-            *text += &written;
-            Ok(Status::Fine)
-        }
-        Err(Refusal { number, row }) => Err(format!(
-            "refused {number} {row}; a refused table has no text"
-        )),
-    }
-}
-
-/// The status that a check has too.
-fn status(explanation: &Explanation) -> Status {
-    match explanation.shown {
-        Shown::Nothing => Status::Fine,
-        Shown::Race(_) => Status::No,
-        Shown::Overwritten { .. } | Shown::Cycle { .. } => Status::Inconsistent,
-        Shown::Refused { .. } => Status::Refused,
-    }
+fn said(text: &mut String, written: Result<String, Refusal>) -> Result<(), String> {
+    let refused = |refusal| format!("{refusal}; a refused table has no text");
+    *text += &written.map_err(refused)?;
+    Ok(())
 }

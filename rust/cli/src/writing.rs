@@ -1,9 +1,9 @@
 //! A table written from values, and a table's rows: what `write` and `rows`
 //! answer.
 
-use crate::answers::{put_refusal, put_verdict, Answer};
+use crate::answers::{put_refusal, Answer};
 use crate::question::Writing;
-use crate::Status;
+use crate::verdict::Verdict;
 use format::{digits, Object};
 use std::fmt::{self, Display};
 use stramashly::{write_in, Code, Refusal, Row, Rows};
@@ -47,16 +47,16 @@ impl Display for Written {
 }
 
 impl Answer for Written {
-    fn status(&self) -> Status {
-        status(&self.0)
+    fn verdict(&self) -> Verdict {
+        match self.0 {
+            Ok(_) => Verdict::Written,
+            Err(_) => Verdict::Refused,
+        }
     }
 
     fn put(&self, object: &mut Object) {
         match &self.0 {
-            Ok(table) => {
-                put_verdict(object, "written");
-                object.text("table", &digits(table));
-            }
+            Ok(table) => object.text("table", &digits(table)),
             Err(refusal) => put_refusal(object, refusal.number, refusal.row),
         }
     }
@@ -77,25 +77,20 @@ impl Display for Stepped {
 }
 
 impl Answer for Stepped {
-    fn status(&self) -> Status {
-        status(&self.0)
+    fn verdict(&self) -> Verdict {
+        match self.0 {
+            Ok(_) => Verdict::Rows,
+            Err(_) => Verdict::Refused,
+        }
     }
 
     fn put(&self, object: &mut Object) {
         match &self.0 {
             Ok(rows) => {
-                put_verdict(object, "rows");
                 let rows: Vec<String> = rows.iter().map(|row| digits(&row.bytes())).collect();
                 object.texts("rows", &rows);
             }
             Err(refusal) => put_refusal(object, refusal.number, refusal.row),
         }
-    }
-}
-
-fn status<T>(answer: &Result<T, Refusal>) -> Status {
-    match answer {
-        Ok(_) => Status::Fine,
-        Err(_) => Status::Refused,
     }
 }

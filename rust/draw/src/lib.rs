@@ -8,13 +8,18 @@ mod picture;
 pub use page::page;
 
 use crate::picture::picture;
-use mend::{search, Judge, Notes, Relations, Run, Search};
-use stramashly::CheckAnswer;
+use mend::{search, Judge, Notes, Relations, Search};
+use stramashly::OwnedCheckAnswer;
 use words::{shown, Checked, Shown};
 
-/// The table as an SVG document, or the refusal of a table that has no picture.
+/// The table as an SVG document, or the answer to a refused table, which has no
+/// picture.
 /// Of a large run only the rows that matter are drawn, unless all are wanted.
-pub fn draw(table: &[u8], checker: &mut dyn Judge, is_all: bool) -> Result<String, String> {
+pub fn draw(
+    table: &[u8],
+    checker: &mut dyn Judge,
+    is_all: bool,
+) -> Result<String, OwnedCheckAnswer> {
     draw_noted(table, &Notes::default(), checker, is_all)
 }
 
@@ -24,18 +29,15 @@ pub fn draw_noted(
     notes: &Notes,
     checker: &mut dyn Judge,
     is_all: bool,
-) -> Result<String, String> {
+) -> Result<String, OwnedCheckAnswer> {
     let chains = checker.chains();
-    let answer = checker.check(table);
-    if let CheckAnswer::Refused { .. } = answer {
-        return Err(answer.to_string());
-    }
-    if !Run::is_known(table) {
-        return Err(format!("{answer} of version {}", table[4]));
+    let answer = checker.check(table).into_owned();
+    if let OwnedCheckAnswer::Refused { .. } = answer {
+        return Err(answer);
     }
     let relations = Relations::of(chains, table, notes);
     let checked = Checked::from(&relations);
-    let (shown, answer): (Shown, String) = (shown(checked, answer), answer.to_string());
+    let shown = shown(checked, answer.borrowed());
     let found = match shown {
         Shown::Race(goal) => search(table, *checked, goal, checker),
         _ => Search::default(),

@@ -50,7 +50,7 @@ svg { max-width: 100%; height: auto; }
 /// The page of a table and its explanation; of a large run the picture has the
 /// rows that matter, unless all are wanted.
 pub fn page(table: &[u8], explanation: &Explanation, is_all: bool) -> String {
-    let answer = escaped(&explanation.answer);
+    let answer = escaped(&explanation.answer.to_string());
     let headline = escaped(&headline(&explanation.shown));
     let relations = Relations::of(explanation.chains, table, &explanation.notes);
     let checked = Checked::from(&relations);
@@ -149,9 +149,9 @@ fn linked(text: &str, rows: usize) -> String {
     html
 }
 
-/// The picture, unless the table is refused or of a version without one.
+/// The picture, unless the table is refused.
 fn picture_part(checked: Checked, explanation: &Explanation, is_all: bool) -> String {
-    if explanation.answer.starts_with("refused") || !Run::is_known(checked.table) {
+    if let Shown::Refused { .. } = explanation.shown {
         return String::new();
     }
     let shown = (&explanation.shown, explanation.cures.first());
@@ -165,7 +165,7 @@ const MOST_STEPS: usize = 400;
 
 /// The pairs of a race-free run, folded up.
 fn pairs_part(checked: Checked, explanation: &Explanation) -> String {
-    if explanation.shown != Shown::Nothing || explanation.is_all || !Run::is_known(checked.table) {
+    if explanation.shown != Shown::Nothing || explanation.is_all {
         return String::new();
     }
     let short = race_free::short_lines(checked);

@@ -321,7 +321,7 @@ fn a_race_free_page_is_small() {
     let run = scenarios::mended_ladder();
     let mut checker = Checker::new();
     let explanation = explain_noted(&run.table, &run.notes, &mut checker, false);
-    assert_eq!(explanation.answer, "race-free");
+    assert_eq!(explanation.answer.to_string(), "race-free");
     assert!(explanation.lines.len() < 10, "{}", explanation.text());
     let html = page(&run.table, &explanation, false);
     assert!(html.len() < 300_000, "{}", html.len());

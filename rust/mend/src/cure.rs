@@ -6,7 +6,7 @@ use crate::edit::{Edit, Field};
 use crate::facts::Goal;
 use crate::insertion::Insertion;
 use crate::steps::Step;
-use stramashly::CheckAnswer;
+use stramashly::{CheckAnswer, OwnedCheckAnswer};
 
 /// Changes that end the race: of rows that are there, or new rows and what the
 /// racing rows need besides.
@@ -22,7 +22,7 @@ pub struct Cure {
     /// What orders the rows then; of a large table it isn't looked for.
     pub order: Option<Order>,
     /// What a check answers then.
-    pub answer: String,
+    pub answer: OwnedCheckAnswer,
     pub outcome: Outcome,
     /// Whether the table has room for the new rows. Where it hasn't, they were
     /// tried with the racing agents' rows alone, and their places are those.

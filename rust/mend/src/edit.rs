@@ -113,6 +113,12 @@ impl Field {
         entry.map(|(field, ..)| *field)
     }
 
+    /// The field that begins at a byte of the row.
+    pub fn at(byte: usize) -> Field {
+        let entry = FIELDS.iter().find(|(_, _, place, _)| *place == byte);
+        entry.expect("a field begins at this byte").0
+    }
+
     /// As it is written in an edit.
     pub fn name(self) -> &'static str {
         self.entry().1

@@ -1,10 +1,12 @@
 //! A table's relations by the second implementation, and what they say of
 //! two rows.
 
+use crate::judge::of_second;
 use crate::notes::Notes;
 use crate::run::Run;
 use second::table::HOST;
-use second::{Chains, CheckAnswer, State, AT, CYCLE_NUMBERS, WORK_WORDS};
+use second::{Chains, State, AT, CYCLE_NUMBERS, WORK_WORDS};
+use stramashly::OwnedCheckAnswer;
 
 /// A race: two rows and a byte at which nothing orders them.
 #[derive(Clone, Copy, Debug, PartialEq, Eq)]
@@ -28,14 +30,14 @@ pub struct Relations<'a> {
     state: State,
     run: Run,
     /// What it answered.
-    pub answer: CheckAnswer,
+    pub answer: OwnedCheckAnswer,
 }
 
 impl<'a> Relations<'a> {
     /// Checks a table of which this is noted.
     pub fn of(chains: Chains, table: &'a [u8], notes: &Notes) -> Relations<'a> {
         let mut state = State::new();
-        let answer = state.check_with(chains, table, WORK_WORDS, CYCLE_NUMBERS);
+        let answer = of_second(&state.check_with(chains, table, WORK_WORDS, CYCLE_NUMBERS));
         let run = Run::of(table).noted(notes);
         Relations {
             table,

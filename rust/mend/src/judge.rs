@@ -2,7 +2,7 @@
 //! themselves ask for no more than this.
 
 use second::Chains;
-use stramashly::{CheckAnswer, Checker, DeriveAnswer, FillAnswer, ReportAnswer};
+use stramashly::{CheckAnswer, Checker, DeriveAnswer, FillAnswer, OwnedCheckAnswer, ReportAnswer};
 
 /// Answers questions about tables, whatever their bytes.
 pub trait Judge {
@@ -47,5 +47,39 @@ impl Judge for Checker {
         } else {
             Chains::Off
         }
+    }
+}
+
+/// The second implementation's answer in the library's type, so that the two can
+/// be compared.
+pub fn of_second(answer: &second::CheckAnswer) -> OwnedCheckAnswer {
+    match *answer {
+        second::CheckAnswer::RaceFree => OwnedCheckAnswer::RaceFree,
+        second::CheckAnswer::Race {
+            first,
+            second,
+            byte,
+        } => OwnedCheckAnswer::Race {
+            first,
+            second,
+            byte,
+        },
+        second::CheckAnswer::Overwritten {
+            reader,
+            writer,
+            byte,
+        } => OwnedCheckAnswer::Overwritten {
+            reader,
+            writer,
+            byte,
+        },
+        second::CheckAnswer::Cycle { rows, edges } => OwnedCheckAnswer::Cycle {
+            rows: rows.as_slice().to_vec(),
+            edges: edges.as_slice().to_vec(),
+        },
+        second::CheckAnswer::Refused { number, row } => OwnedCheckAnswer::Refused {
+            number: number.into(),
+            row,
+        },
     }
 }

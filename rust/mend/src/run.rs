@@ -125,19 +125,6 @@ impl Run {
         }
     }
 
-    /// M3: whether two different rows are atomics of one place whose agents
-    /// share both scopes.
-    pub fn mutually_ordered(&self, first: usize, second: usize) -> bool {
-        let (x, y) = (self.rows[first], self.rows[second]);
-        let place = |row: Row| (row.start, row.length, row.reference);
-        first != second
-            && x.is_atomic()
-            && y.is_atomic()
-            && place(x) == place(y)
-            && self.share_scope(x.agent, y.agent, x.scope)
-            && self.share_scope(x.agent, y.agent, y.scope)
-    }
-
     /// Whether a writer's rank is later than another's.
     pub fn is_later(&self, rank: u16, other: u16) -> bool {
         if self.is_counted {

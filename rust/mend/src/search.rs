@@ -19,7 +19,7 @@ use crate::steps::stepped;
 use crate::strength::Strength;
 use second::table::{ACQUIRE, BARRIER, DEVICE, MAKE_AVAILABLE, MAKE_VISIBLE, NON_PRIVATE, RELEASE};
 use second::MAX_ROWS;
-use stramashly::FillAnswer;
+use stramashly::{FillAnswer, OwnedCheckAnswer};
 
 /// What the search found.
 #[derive(Clone, Debug, Default)]
@@ -387,7 +387,7 @@ impl<'a> Searcher<'a> {
             insertions: remedy.insertions,
             dependencies: remedy.dependencies,
             order: None,
-            answer: String::new(),
+            answer: OwnedCheckAnswer::RaceFree,
             outcome: Outcome::RaceFree,
             has_room: true,
         };
@@ -405,7 +405,7 @@ impl<'a> Searcher<'a> {
         let Some(outcome) = Outcome::of(&answer, goal) else {
             return false;
         };
-        cure.answer = answer.to_string();
+        cure.answer = answer.into_owned();
         cure.outcome = match outcome {
             Outcome::OtherRace { .. } => {
                 let left = self.checker.racing(table).unwrap_or(1);

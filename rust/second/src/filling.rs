@@ -56,7 +56,7 @@ impl State {
     }
 
     fn add_candidate(&mut self, blank: usize, source: u16) {
-        if !self.source_fits(blank, source) {
+        if self.unfit_source(blank, source).is_some() {
             return;
         }
         self.rows[blank].source = source;

@@ -90,15 +90,7 @@ impl State {
     /// so that every relation is empty after it.
     pub(crate) fn admit(&mut self, table: &[u8], purpose: Purpose) -> Result<(), Refusal> {
         let (agent_count, row_count) = admission::door(table)?;
-        self.version = table[4];
-        for agent in 0..agent_count {
-            self.agents[agent] = agent_places(table, agent);
-            self.sorts[agent] = agent_sort(table, agent);
-        }
-        for row in 0..row_count {
-            self.rows[row] = row_of(table, agent_count, row);
-        }
-        self.row_count = row_count;
+        self.take_rows_in(table, agent_count, row_count);
         let refusal = self
             .take_dependencies_in(table, agent_count)
             .or_else(|| self.refusal_by_row_alone(agent_count))
@@ -108,6 +100,19 @@ impl State {
             return Err(refusal);
         }
         Ok(())
+    }
+
+    /// Takes in the agents and rows of a table that refusals 1 to 4 have passed.
+    pub(crate) fn take_rows_in(&mut self, table: &[u8], agent_count: usize, row_count: usize) {
+        self.version = table[4];
+        for agent in 0..agent_count {
+            self.agents[agent] = agent_places(table, agent);
+            self.sorts[agent] = agent_sort(table, agent);
+        }
+        for row in 0..row_count {
+            self.rows[row] = row_of(table, agent_count, row);
+        }
+        self.row_count = row_count;
     }
 
     /// Works out every relation up to location order; none of them reads a

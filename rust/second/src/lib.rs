@@ -7,7 +7,7 @@
 //! | rules | module |
 //! |---|---|
 //! | the table, kinds, sources | `table` |
-//! | refusals 1 to 11 and 14 to 20 | `admission` |
+//! | refusals 1 to 11 and 14 to 20, condition by condition | `admission`, `fault` |
 //! | M1, M2 | `moments` |
 //! | M3, M4, M5 | `synchronization` |
 //! | dependencies, domains, the orders that go through them | `system` |
@@ -28,6 +28,7 @@ mod axioms;
 mod chains;
 mod derivation;
 mod facts;
+mod fault;
 mod filling;
 mod happens_before;
 mod judge;
@@ -41,9 +42,11 @@ mod system;
 pub mod table;
 mod writing;
 
+pub use admission::misfits;
 pub use answer::{CheckAnswer, FillAnswer, List};
 pub use chains::Chains;
 pub use derivation::{AcceptsAnswer, Derivation};
+pub use fault::{Fault, Misfit};
 pub use happens_before::{ACQUIRE_STEP, RELEASE_STEP, SYNCHRONIZES_STEP, SYSTEM_STEP};
 pub use moments::{AFTER, AT, BEFORE};
 pub use pieces::{joined, Pieces};

@@ -6,9 +6,9 @@ use crate::nearest::Near;
 use crate::race::Advice;
 use crate::told::Checked;
 use crate::{inconsistent, race, race_free, refusal};
-use mend::{search, Cure, Goal, Judge, Notes, Relations, Run};
+use mend::{search, Cure, Goal, Judge, Notes, Relations};
 use second::Chains;
-use stramashly::CheckAnswer;
+use stramashly::{CheckAnswer, OwnedCheckAnswer};
 
 /// What an answer shows, to be pointed out in a picture.
 #[derive(Clone, Debug, PartialEq, Eq)]
@@ -54,7 +54,7 @@ impl Shown {
 #[derive(Clone, Debug)]
 pub struct Explanation {
     /// What a check answers.
-    pub answer: String,
+    pub answer: OwnedCheckAnswer,
     pub shown: Shown,
     /// Sentences, those that go into particulars indented.
     pub lines: Vec<String>,
@@ -78,7 +78,7 @@ impl Explanation {
         let chains = checker.chains();
         let given = checker.check(checked.table);
         Explanation {
-            answer: given.to_string(),
+            answer: given.into_owned(),
             shown: shown(checked, given),
             lines: Vec::new(),
             near: None,
@@ -115,31 +115,20 @@ pub fn explain_noted(
     is_all: bool,
 ) -> Explanation {
     let relations = Relations::of(checker.chains(), table, notes);
-    let second = relations.answer.to_string();
     let checked = Checked::from(&relations);
     let mut explanation = Explanation::bare(checked, checker, is_all);
-    if second == explanation.answer && !Run::is_known(table) && !second.starts_with("refused") {
-        explanation.lines = vec![format!(
-            "No explanation: there are no words for version {}.",
-            table[4]
-        )];
-    } else if second == explanation.answer || is_of_later_version(table, &explanation.shown) {
+    if relations.answer == explanation.answer {
         tell(table, checked, checker, &mut explanation);
     } else {
         // The proved answer stands; there are no words for it.
         explanation.lines = vec![format!(
-            "No explanation: the unproved second implementation answers `{second}`. Please report this table."
+            "No explanation: the unproved second implementation answers `{}`. Please report this table.",
+            relations.answer
         )];
     }
     let lines = explanation.lines.iter();
     explanation.lines = lines.map(|line| named(notes, line)).collect();
     explanation
-}
-
-/// Whether the version is refused, though there are words for it: the linked
-/// checker may be an older one.
-fn is_of_later_version(table: &[u8], shown: &Shown) -> bool {
-    matches!(shown, Shown::Refused { number: 2, .. }) && Run::is_known(table)
 }
 
 /// Adds the sentences, and the cures of a race.

@@ -6,13 +6,14 @@ use crate::explain::{shown, Shown};
 use crate::headline::headline;
 use crate::refusal;
 use crate::told::Checked;
-use mend::{Goal, Judge, Notes, Relations, Run};
+use mend::{Judge, Notes, Relations, Run};
+use stramashly::OwnedCheckAnswer;
 
 /// One thing that was found.
 #[derive(Clone, Debug, PartialEq, Eq)]
 pub struct Finding {
     /// What a check answers of it.
-    pub answer: String,
+    pub answer: OwnedCheckAnswer,
     /// A sentence, and more of a refusal.
     pub message: String,
     /// The rows that it is about, each with its description.
@@ -26,30 +27,29 @@ pub fn findings(table: &[u8], notes: &Notes, checker: &mut dyn Judge) -> Vec<Fin
     let relations = Relations::of(checker.chains(), table, notes);
     let checked = Checked::from(&relations);
     let given = checker.check(table);
-    let (answer, shown) = (given.to_string(), shown(checked, given));
-    let finding = |answer: String, shown: &Shown, is_proved| Finding {
+    let (shown, answer) = (shown(checked, given), given.into_owned());
+    let finding = |answer, shown: &Shown, is_proved| Finding {
         answer,
         message: message(table, shown),
         rows: described(checked.run, shown),
         is_proved,
     };
+    let is_agreed = relations.answer == answer;
     match shown {
         Shown::Nothing => Vec::new(),
         Shown::Race(goal) => {
-            let is_agreed = relations.answer.to_string() == answer;
-            let mut found = vec![finding(answer, &shown, true)];
             let others = checked.races().into_iter().filter(|other| *other != goal);
             let others = others.filter(|_| is_agreed).map(|other| {
-                let Goal {
-                    first,
-                    second,
-                    byte,
-                } = other;
-                let answer = format!("race {first} {second} {byte}");
+                // Rows and bytes of a table are numbers of two bytes.
+                let answer = OwnedCheckAnswer::Race {
+                    first: other.first as u16,
+                    second: other.second as u16,
+                    byte: other.byte as u16,
+                };
                 finding(answer, &Shown::Race(other), false)
             });
-            found.extend(others);
-            found
+            let found = std::iter::once(finding(answer, &shown, true));
+            found.chain(others).collect()
         }
         _ => vec![finding(answer, &shown, true)],
     }

@@ -46,7 +46,7 @@ pub use account::Ordered;
 pub use derivation::{at, derivation_lines, derived_lines, meeting, moment_words, step_parts};
 pub use describe::Describe;
 pub use explain::{explain, explain_noted, shown, Explanation, Shown};
-pub use fault::{faults, Fault};
+pub use fault::fault_words;
 pub use findings::{findings, Finding};
 pub use headline::headline;
 pub use inconsistent::edge_name;
@@ -58,7 +58,7 @@ pub use refusal::{is_of_a_row, lines as refusal_lines, refusal};
 pub use shader::{glsl, spirv};
 pub use show::{show, show_noted};
 pub use told::Checked;
-pub use unfit::{unfit, Unfit};
+pub use unfit::unfit_words;
 pub use why::why;
 
 /// A table in two pieces as one, for words and pictures of it.

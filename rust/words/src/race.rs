@@ -10,6 +10,7 @@ use crate::told::Checked;
 use mend::{steps_text, Change, Cure, Field, Goal, Order, Outcome, Reason, Search};
 use second::table::{Row, QUEUE};
 use second::MAX_ROWS;
+use stramashly::OwnedCheckAnswer;
 
 /// So many changes are shown at most, unless all are wanted.
 const SHOWN_CURES: usize = 8;
@@ -286,8 +287,9 @@ fn cure_lines(checked: Checked, goal: Goal, number: usize, cure: &Cure) -> Vec<S
 
 /// `Then L3 puts row 0 first, and check answers ...`
 fn outcome_words(cure: &Cure) -> String {
-    let counted = match (cure.insertions.is_empty(), cure.answer.as_str()) {
-        (true, _) | (_, "race-free") => "",
+    let counted = match cure.answer {
+        OwnedCheckAnswer::RaceFree => "",
+        _ if cure.insertions.is_empty() => "",
         _ => ", the new rows counted",
     };
     let left = match cure.outcome {

@@ -2,9 +2,10 @@
 //! wrong with it.
 
 use crate::blank;
-use crate::fault::{faults, length_words, Fault};
+use crate::fault::{fault_words, length_words};
 use crate::show::{cells, columns, header};
 use mend::{Judge, Run};
+use second::{Fault, State};
 use stramashly::FillAnswer;
 
 /// Why not even a fill takes a table, if that is so.
@@ -23,8 +24,9 @@ pub fn refusal(table: &[u8], checker: &mut dyn Judge) -> Option<String> {
 
 /// A check's refusal: a fill is asked about blanks.
 pub fn check_lines(table: &[u8], number: u16, row: usize, checker: &mut dyn Judge) -> Vec<String> {
-    let mut lines = lines(table, number, row);
-    if faults(table, number, row).contains(&Fault::Blank { is_plain: true }) {
+    let faults = State::new().faults(table, number, row);
+    let mut lines = fault_lines(table, number, row, &faults);
+    if faults.contains(&Fault::Blank { is_plain: true }) {
         lines.extend(blank::lines(table, checker));
     }
     lines
@@ -32,6 +34,11 @@ pub fn check_lines(table: &[u8], number: u16, row: usize, checker: &mut dyn Judg
 
 /// The refusal's meaning, what the table holds there, then each fault.
 pub fn lines(table: &[u8], number: u16, row: usize) -> Vec<String> {
+    let faults = State::new().faults(table, number, row);
+    fault_lines(table, number, row, &faults)
+}
+
+fn fault_lines(table: &[u8], number: u16, row: usize, faults: &[Fault]) -> Vec<String> {
     let run = Run::of(table);
     let mut lines = vec![meaning(number).to_string()];
     if is_of_a_row(number) && row < run.rows.len() {
@@ -40,8 +47,8 @@ pub fn lines(table: &[u8], number: u16, row: usize) -> Vec<String> {
         let bytes = length_words(table.len());
         lines.push(format!("The header says {words}; the table has {bytes}."));
     }
-    let faults = faults(table, number, row);
-    lines.extend(faults.iter().map(|fault| format!("  {fault}")));
+    let faults = faults.iter().map(|fault| fault_words(&run, row, fault));
+    lines.extend(faults.map(|fault| format!("  {fault}")));
     lines
 }
 

@@ -5,11 +5,16 @@ use crate::refusal;
 use crate::told::Checked;
 use mend::{edited, Edit, Field, Judge, Notes, Relations, Run};
 use second::{Chains, BLANK, INITIAL};
-use stramashly::DeriveAnswer;
+use stramashly::{DeriveAnswer, OwnedDeriveAnswer};
 
-/// The answer of `derive`, then its steps in words, or where a chain is
+/// The answer of `derive`, and its steps in words, or where a chain is
 /// missing, or what the refusal means.
-pub fn why(table: &[u8], first: u16, second: u16, checker: &mut dyn Judge) -> String {
+pub fn why(
+    table: &[u8],
+    first: u16,
+    second: u16,
+    checker: &mut dyn Judge,
+) -> (OwnedDeriveAnswer, Vec<String>) {
     let answer = checker.derive(table, first, second);
     let (from, to) = (usize::from(first), usize::from(second));
     let lines = match answer {
@@ -20,12 +25,7 @@ pub fn why(table: &[u8], first: u16, second: u16, checker: &mut dyn Judge) -> St
         DeriveAnswer::Refused { number, row } => refusal::lines(table, number, row.into()),
         _ => Vec::new(),
     };
-    let mut text = format!("{answer}\n");
-    for line in lines {
-        text += &line;
-        text.push('\n');
-    }
-    text
+    (answer.into_owned(), lines)
 }
 
 /// Where the chain from one moment to another is missing.

@@ -160,7 +160,7 @@ fn rows_are_shown_with_instance_and_execution_scope() {
         "2 1 control barrier acquire-release workgroup Uniform make available, make visible execution workgroup instance 9 - - -"
     );
     let explained = explain(&between(&[execution(0), execution(1)]), &mut Checker::new());
-    assert!(explained.answer.starts_with("race"));
+    assert!(explained.answer.to_string().starts_with("race"));
 }
 
 /// How many bands the instances ask for.

@@ -7,7 +7,7 @@ use common::{generated, with_relations};
 use mend::{edited, parse_steps, stepped, Order, Outcome};
 use mend::{Cure, Edit, Goal, Reason, Run, Step};
 use std::collections::BTreeSet;
-use stramashly::Checker;
+use stramashly::{Checker, OwnedCheckAnswer};
 use tables::{Build, Row, Table, INITIAL};
 use words::explain;
 use words::{Explanation, Shown};
@@ -44,7 +44,7 @@ fn check_cure(table: &[u8], goal: Goal, cure: &Cure, checker: &mut Checker) {
     let changed = stepped(table, &cure.steps()).unwrap();
     let after = moved(goal, cure);
     let answer = checker.check(&changed).to_string();
-    assert_eq!(answer, cure.answer);
+    assert_eq!(answer, cure.answer.to_string());
     assert!(!answer.starts_with("refused"), "{answer}");
     let told = format!("race {} {} {}", after.first, after.second, after.byte);
     assert_ne!(answer, told);
@@ -280,12 +280,12 @@ fn the_plainest_race_has_its_remedy() {
         for rows in [rows, rows.map(Row::private)] {
             let table = Table::new(&agents, &rows).bytes();
             let explanation = explain(&table, &mut checker);
-            assert_eq!(explanation.answer, "race 0 1 0");
+            assert_eq!(explanation.answer.to_string(), "race 0 1 0");
             let cure = explanation.cures.iter().find(|cure| {
                 let reason = cure.changes.last().unwrap().reasons[0];
                 matches!(reason, Reason::NoHandshake { .. })
             });
-            assert_eq!(cure.unwrap().answer, "race-free");
+            assert_eq!(cure.unwrap().answer, OwnedCheckAnswer::RaceFree);
             let text = explanation.text();
             assert!(text.contains("put in a release after row 0"), "{text}");
             for name in [
@@ -325,7 +325,7 @@ fn new_rows_go_with_what_was_read() {
     let table = Table::of_one_workgroup(2, &rows).bytes();
     let explanation = explain(&table, &mut Checker::new());
     let cure = &explanation.cures[0];
-    assert_eq!(cure.answer, "race-free");
+    assert_eq!(cure.answer, OwnedCheckAnswer::RaceFree);
     assert_eq!(cure.order, Some(Order::Rule { rule: 2, first: 1 }));
     let steps: Vec<String> = cure.steps().iter().map(Step::to_string).collect();
     assert_eq!(

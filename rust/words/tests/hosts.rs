@@ -101,7 +101,7 @@ fn the_missing_step_of_an_upload_is_named_and_put_in() {
         let mut rows = upload().rows;
         rows.remove(missing);
         let told = explained(&in_line(&rows));
-        assert_eq!(told.answer, "race 0 3 0");
+        assert_eq!(told.answer.to_string(), "race 0 3 0");
         let text = told.text();
         assert!(text.contains("L5 comes nearest"), "{text}");
         assert!(
@@ -109,7 +109,7 @@ fn the_missing_step_of_an_upload_is_named_and_put_in() {
             "{text}"
         );
         assert_eq!(edits(&told.cures[0]), edit, "{text}");
-        assert_eq!(told.cures[0].answer, "race-free");
+        assert_eq!(told.cures[0].answer.to_string(), "race-free");
         assert!(text.contains("Then L5 puts row 0 first"), "{text}");
     }
 }
@@ -122,7 +122,7 @@ fn a_missing_dependency_is_named_and_put_in() {
     table.dependencies[0][0] = 1;
     let told = explained(&table);
     let text = told.text();
-    assert_eq!(told.answer, "race 0 5 0");
+    assert_eq!(told.answer.to_string(), "race 0 5 0");
     assert!(
         text.contains("row 0 doesn't happen before row 2, the availability to host: row 1 does"),
         "{text}"
@@ -230,7 +230,7 @@ fn cures_with_hosts_are_cures() {
         cured += usize::from(has_queue && !told.cures.is_empty());
         for cure in &told.cures {
             let changed = stepped(&table, &cure.steps()).unwrap();
-            assert_eq!(second.check(&changed).to_string(), cure.answer);
+            assert_eq!(second.check(&changed), cure.answer.borrowed());
             let moved = cure
                 .insertions
                 .iter()

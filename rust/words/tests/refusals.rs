@@ -5,12 +5,13 @@ mod common;
 
 use common::{example, generated, Second};
 use mend::{edited, Edit, Field, Judge, Run};
+use second::{misfits, Fault, State};
 use std::collections::BTreeSet;
 use stramashly::{CheckAnswer, Checker, MAX_TABLE_BYTES};
 use tables::builder::{kind, order, scope};
 use tables::{damaged, damaged_hosted, hosted};
 use tables::{Build, Random, Row, Size, Table, BLANK, INITIAL};
-use words::{explain, faults, refusal, unfit, Fault};
+use words::{explain, fault_words, refusal, unfit_words};
 
 /// The refusal's number and row, if a check refuses the table.
 fn refused(table: &[u8], checker: &mut dyn Judge) -> Option<(u16, usize)> {
@@ -25,14 +26,14 @@ fn mend(run: &Run, row: usize, fault: &Fault) -> Vec<Edit> {
     let fields = run.rows[row];
     let set = |field, value: u16| vec![Edit::new(row, field, value)];
     match fault {
-        Fault::Code { field, .. } => set(*field, 0),
+        Fault::Code { at, .. } => set(Field::at(*at), 0),
         Fault::NoAgent { .. } => set(Field::Agent, 0),
         Fault::Empty | Fault::Long { .. } | Fault::AtomicLength { .. } => {
             let edits = [set(Field::Length, 4), set(Field::Start, 0)];
             edits.concat()
         }
         Fault::PastEnd { .. } | Fault::Alignment { .. } => set(Field::Start, 0),
-        Fault::OtherClass { class, .. } => set(Field::Class, (*class).into()),
+        Fault::OtherClass { earlier } => set(Field::Class, run.rows[*earlier].class.into()),
         Fault::Blank { .. }
         | Fault::NoRow { .. }
         | Fault::Itself
@@ -43,10 +44,12 @@ fn mend(run: &Run, row: usize, fault: &Fault) -> Vec<Edit> {
         Fault::OtherExecution { .. } | Fault::SameAgent { .. } | Fault::Apart { .. } => {
             set(Field::Start, 54321)
         }
-        Fault::Ranks { ranks, .. } => set(Field::Rank, ranks[0]),
-        Fault::AgentRow { sort, .. } => set(Field::Kind, if *sort == 2 { 7 } else { 0 }),
-        Fault::Unfit(unfit) if unfit.field == Field::Source => set(Field::Source, INITIAL),
-        Fault::Unfit(unfit) => set(unfit.field, 0),
+        Fault::Ranks { writers } => set(Field::Rank, run.rows[writers[0]].rank),
+        Fault::AgentRow { sort } => set(Field::Kind, if *sort == 2 { 7 } else { 0 }),
+        Fault::Unfit(misfit) => match unfit_words(fields, *misfit).0 {
+            Field::Source => set(Field::Source, INITIAL),
+            field => set(field, 0),
+        },
         _ => Vec::new(),
     }
 }
@@ -58,6 +61,10 @@ fn is_so(table: &[u8], row: usize, fault: &Fault) -> bool {
     let at = |row: usize| 8 + agent_bytes * usize::from(table[5]) + 16 * row;
     let two = |at: usize| u16::from_be_bytes([table[at], table[at + 1]]);
     let fields = || run.rows[row];
+    let is_of_instance = |earlier: usize| {
+        let other = run.rows[earlier];
+        earlier < row && (other.kind, other.start) == (6, fields().start) && fields().kind == 6
+    };
     match fault {
         Fault::Short { bytes } => *bytes == table.len() && *bytes < 8,
         Fault::Version { version } => table[4] == *version && !(1..=3).contains(version),
@@ -89,18 +96,20 @@ fn is_so(table: &[u8], row: usize, fault: &Fault) -> bool {
             let pair = [two(place), two(place + 2)];
             pair.contains(named) && *rows == usize::from(table[6]) && usize::from(*named) >= *rows
         }
-        Fault::AgentRow { kind, sort } => {
+        Fault::AgentRow { sort } => {
             let held = two(8 + 8 * usize::from(fields().agent) + 6);
             let is_allowed = match sort {
-                1 => *kind < 2,
-                2 => *kind > 6,
-                _ => *kind < 7,
+                1 => fields().kind < 2,
+                2 => fields().kind > 6,
+                _ => fields().kind < 7,
             };
-            fields().kind == *kind && held == *sort && !is_allowed
+            held == *sort && !is_allowed
         }
-        Fault::Code { field, value, most } => {
-            field.of(fields()) == *value && value > most && *most >= 3
-        }
+        Fault::Code {
+            at: byte,
+            value,
+            most,
+        } => table[at(row) + byte] == *value && value > most && *most >= 3,
         Fault::NoAgent { agent, agents } => {
             table[at(row) + 1] == *agent && *agents == usize::from(table[5]) && *agent >= table[5]
         }
@@ -114,64 +123,51 @@ fn is_so(table: &[u8], row: usize, fault: &Fault) -> bool {
         Fault::Alignment { start, bytes } => {
             (2..=4).contains(&table[at(row)]) && start % u16::from(*bytes) != 0
         }
-        Fault::OtherClass {
-            reference,
-            class,
-            earlier,
-        } => {
+        Fault::OtherClass { earlier } => {
             let other = run.rows[*earlier];
-            *earlier < row && other.reference == *reference && other.class == *class
+            let is_other = other.class != fields().class;
+            *earlier < row && other.reference == fields().reference && is_other
         }
         Fault::Blank { is_plain } => {
             fields().source == BLANK && *is_plain == (fields().kind == kind::PLAIN_READ)
         }
         Fault::NoRow { source, rows } => usize::from(*source) >= *rows && *source < BLANK,
         Fault::Itself => usize::from(fields().source) == row,
-        Fault::NoWriter { source, kind } => {
-            run.rows[*source].kind == *kind && !run.rows[*source].writes()
-        }
-        Fault::Uncovered { source, .. } => {
+        Fault::NoWriter { source } => !run.rows[*source].writes(),
+        Fault::Uncovered { source } => {
             !run.rows[*source].covers_all_bytes_of(fields()) && run.rows[*source].writes()
         }
-        Fault::SameRank { earlier, rank } => {
+        Fault::SameRank { earlier } => {
             let other = run.rows[*earlier];
             let place = |row: second::table::Row| (row.start, row.length, row.reference, row.rank);
-            *earlier < row && other.rank == *rank && place(other) == place(fields())
+            *earlier < row && place(other) == place(fields())
         }
-        Fault::OtherExecution {
-            earlier,
-            scope,
-            instance,
-        } => {
-            let other = run.rows[*earlier];
-            let held = (other.kind, other.class, other.start);
-            *earlier < row && held == (6, *scope, *instance) && fields().class != *scope
+        Fault::OtherExecution { earlier } => {
+            is_of_instance(*earlier) && run.rows[*earlier].class != fields().class
         }
-        Fault::SameAgent { earlier, instance } => {
-            let other = run.rows[*earlier];
-            let held = (other.kind, other.start, other.agent);
-            *earlier < row && held == (6, *instance, fields().agent)
+        Fault::SameAgent { earlier } => {
+            is_of_instance(*earlier) && run.rows[*earlier].agent == fields().agent
         }
-        Fault::Apart {
-            earlier,
-            scope,
-            instance,
-        } => {
+        Fault::Apart { earlier } => {
             let other = run.rows[*earlier];
-            let held = (other.kind, other.class, other.start);
+            let scope = fields().class;
             let places = |agent: u8| run.agents[usize::from(agent)];
-            let depth = [3, 3, 2, 1, 0][usize::from(*scope)];
+            let depth = [3, 3, 2, 1, 0][usize::from(scope)];
             let (one, two) = (places(other.agent), places(fields().agent));
-            let is_apart = *scope == 0 || one[..depth] != two[..depth];
-            *earlier < row && held == (6, *scope, *instance) && is_apart
+            let is_apart = scope == 0 || one[..depth] != two[..depth];
+            is_of_instance(*earlier) && other.class == scope && is_apart
         }
-        Fault::Ranks { writers, ranks } => {
-            let fit = |first: u16| ranks.iter().all(|rank| rank.wrapping_sub(first) < 32768);
-            let of_place = writers.iter().zip(ranks).all(|(writer, rank)| {
-                let other = run.rows[*writer];
-                let place = |row: second::table::Row| (row.start, row.length, row.reference);
-                other.rank == *rank && place(other) == place(fields()) && *writer <= row
-            });
+        Fault::Ranks { writers } => {
+            let place = |row: usize| {
+                let fields = run.rows[row];
+                (fields.start, fields.length, fields.reference)
+            };
+            let fit = |first: u16| {
+                let mut ranks = writers.iter().map(|writer| run.rows[*writer].rank);
+                ranks.all(|rank| rank.wrapping_sub(first) < 32768)
+            };
+            let mut writers = writers.iter();
+            let of_place = writers.all(|writer| place(*writer) == place(row) && *writer <= row);
             of_place && !(0..=65535).any(fit) && table[4] >= 2
         }
     }
@@ -192,16 +188,17 @@ fn wanted_bytes(table: &[u8]) -> usize {
 /// this number at this row any more, and each stands in the text.
 fn check_faults(table: &[u8], checker: &mut dyn Judge) -> Option<u16> {
     let (number, row) = refused(table, checker)?;
-    let named = faults(table, number, row);
+    let named = State::new().faults(table, number, row);
+    let run = Run::of(table);
     assert!(!named.is_empty(), "{number} {row}");
     let text = explain(table, checker).text();
     for fault in &named {
         assert!(is_so(table, row, fault), "{number} {row} {fault:?}");
-        assert!(text.contains(&format!("\n  {fault}\n")), "{text}");
+        let words = fault_words(&run, row, fault);
+        assert!(text.contains(&format!("\n  {words}\n")), "{text}");
     }
     // Kind fit is held to its own test.
     if matches!(number, 5 | 7..=10 | 14 | 15 | 19 | 20) {
-        let run = Run::of(table);
         let edits = named.iter().flat_map(|fault| mend(&run, row, fault));
         let mended = edited(table, &edits.collect::<Vec<_>>());
         let answer = refused(&mended, checker);
@@ -283,7 +280,7 @@ fn kind_fit_is_broken_exactly_where_it_is_refused() {
         for row in variants {
             let table = alone(row);
             let is_refused = refused(&table, &mut checker) == Some((6, 0));
-            let broken = unfit(Run::of(&table).rows[0]);
+            let broken = misfits(Run::of(&table).rows[0]);
             assert_eq!(!broken.is_empty(), is_refused, "{row:?} {broken:?}");
             counts[usize::from(is_refused)] += 1;
         }
@@ -304,8 +301,9 @@ fn the_fields_that_dont_fit_are_all_named() {
             continue;
         };
         let run = Run::of(&table);
-        let mut fields: BTreeSet<Field> =
-            unfit(run.rows[row]).iter().map(|one| one.field).collect();
+        let unfit = misfits(run.rows[row]).into_iter();
+        let unfit = unfit.map(|misfit| unfit_words(run.rows[row], misfit).0);
+        let mut fields: BTreeSet<Field> = unfit.collect();
         // What goes with another order.
         if fields.contains(&Field::Order) {
             fields.extend([Field::Classes, Field::Flags]);
@@ -331,7 +329,7 @@ fn the_fields_that_dont_fit_are_all_named() {
             let mended = edited(&table, edits);
             refused(&mended, &mut checker) != Some((6, row))
         });
-        assert!(fits, "{:?}", unfit(run.rows[row]));
+        assert!(fits, "{:?}", misfits(run.rows[row]));
         seen += 1;
     }
 }
@@ -467,13 +465,13 @@ fn show_tells_the_same_faults() {
 /// No table that is taken has a fault of any number.
 #[test]
 fn a_good_table_has_no_faults() {
-    let mut random = Random::new(367);
+    let (mut random, mut state) = (Random::new(367), State::new());
     let size = Size { least: 2, most: 10 };
     let hosts = (0..300).map(|_| hosted(&mut random, size).bytes());
     for table in generated(364, 300, 2, 10).into_iter().chain(hosts) {
         for number in [2, 3, 4, 5, 6, 7, 8, 9, 10, 14, 15, 16, 17, 18, 19, 20] {
             for row in 0..usize::from(table[6]) {
-                let named = faults(&table, number, row);
+                let named = state.faults(&table, number, row);
                 assert!(named.is_empty(), "{number} {row} {named:?}");
             }
         }

@@ -7,7 +7,7 @@ use common::{elements, example, generated, with_relations};
 use draw::{draw, page};
 use mend::{edited, Notes, Run};
 use std::collections::BTreeMap;
-use stramashly::Checker;
+use stramashly::{Checker, OwnedCheckAnswer};
 use tables::{damaged, fillable, Build, Random, Row, Size, Table};
 use words::{explain, explain_noted, refusal, show, Checked};
 
@@ -50,13 +50,10 @@ fn refusals_are_told() {
     for _ in 0..3000 {
         let table = damaged(&mut random, Size { least: 2, most: 8 });
         let explanation = explain(&table, &mut checker);
-        let mut words = explanation.answer.split(' ');
-        if words.next() != Some("refused") {
+        let OwnedCheckAnswer::Refused { number, row } = explanation.answer else {
             continue;
-        }
-        let number: usize = words.next().unwrap().parse().unwrap();
-        let row = words.next().unwrap();
-        seen[number] += 1;
+        };
+        seen[usize::from(number)] += 1;
         let text = explanation.lines.join("\n");
         assert!(!text.contains("isn't known here"), "{number}");
         if number >= 5 {
@@ -95,7 +92,7 @@ fn noise_is_no_panic() {
         assert!(!show(&table).is_empty());
         let explanation = explain(&table, &mut checker);
         elements(&page(&table, &explanation, false));
-        let is_refused = explanation.answer.starts_with("refused");
+        let is_refused = matches!(explanation.answer, OwnedCheckAnswer::Refused { .. });
         assert_eq!(draw(&table, &mut checker, false).is_err(), is_refused);
     }
 }
@@ -107,7 +104,7 @@ fn every_conflicting_pair_is_accounted_for() {
     let mut pairs = 0;
     for table in generated(335, 1500, 2, 10) {
         let all = explain_noted(&table, &Notes::default(), &mut checker, true);
-        if all.answer == "race-free" {
+        if all.answer == OwnedCheckAnswer::RaceFree {
             let text = all.text();
             let counted = with_relations(&table, |checked| accounted(checked, &text));
             // Without --all a few lines say how many pairs there are.
@@ -187,9 +184,10 @@ fn impossible_runs_have_their_causes() {
     let (mut runs, mut sources) = (0, 0);
     for table in generated(336, 1500, 2, 9) {
         let explanation = explain(&table, &mut checker);
-        let is_impossible = ["cycle", "overwritten"]
-            .iter()
-            .any(|word| explanation.answer.starts_with(word));
+        let is_impossible = matches!(
+            explanation.answer,
+            OwnedCheckAnswer::Cycle { .. } | OwnedCheckAnswer::Overwritten { .. }
+        );
         let text = explanation.text();
         for name in ["  the recorder, if", "  the device, if"] {
             assert_eq!(text.contains(name), is_impossible, "{text}");

@@ -185,7 +185,7 @@ fn judged(overview: &Overview, checker: &mut Checker, name: Named) -> Run {
     };
     let answer = checker.check(&given.table);
     let found = found(&given.table, &given.notes, &answer);
-    let (status, words) = (answer.status(), answer.to_string());
+    let (status, words) = (answer.verdict().status(), answer.to_string());
     let verdict = match answer {
         CheckAnswer::RaceFree => Verdict::RaceFree,
         CheckAnswer::Race { .. } => Verdict::Race,

@@ -17,6 +17,7 @@ use crate::markup::escaped;
 use ghost::Ghosts;
 use layout::{Layout, EDGE, TOP};
 use mend::Cure;
+use stramashly::OwnedCheckAnswer;
 use words::{headline, names, Checked, Shown};
 
 /// Room for labels beside arrows of the last column.
@@ -29,7 +30,7 @@ const HEADLINE_LETTER: i32 = 13;
 /// missing.
 pub fn picture(
     checked: Checked,
-    answer: &str,
+    answer: &OwnedCheckAnswer,
     (shown, cure): (&Shown, Option<&Cure>),
     is_all: bool,
 ) -> String {
@@ -49,7 +50,12 @@ pub fn picture(
         layout.width,
         layout.height + legend::height(&legend, layout.width),
     );
-    let mut svg = head(&headline, answer, &counted(checked, &rows), (width, height));
+    let mut svg = head(
+        &headline,
+        &answer.to_string(),
+        &counted(checked, &rows),
+        (width, height),
+    );
     svg += &format!("<style>\n{}</style>\n", style::lights(".run", &rows));
     svg += &drawn;
     svg += &legend::drawn(&legend, &layout);

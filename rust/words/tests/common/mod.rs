@@ -2,10 +2,10 @@
 
 #![allow(dead_code)]
 
-use mend::{Judge, Notes, Relations};
+use mend::{of_second, Judge, Notes, Relations};
 use second::{Chains, State, CYCLE_NUMBERS, SOURCE_NUMBERS, WORK_WORDS};
 use std::collections::BTreeSet;
-use stramashly::{CheckAnswer, DeriveAnswer, FillAnswer};
+use stramashly::{CheckAnswer, DeriveAnswer, FillAnswer, OwnedCheckAnswer};
 use tables::{checkable, Random, Size};
 use words::Checked;
 
@@ -42,8 +42,8 @@ pub fn with_chains<T>(chains: Chains, table: &[u8], ask: impl FnOnce(Checked) ->
 pub struct Second {
     state: State,
     chains: Chains,
-    rows: Vec<u16>,
-    edges: Vec<u16>,
+    answer: OwnedCheckAnswer,
+    sources: Vec<u16>,
 }
 
 impl Second {
@@ -55,50 +55,17 @@ impl Second {
         Second {
             state: State::new(),
             chains,
-            rows: Vec::new(),
-            edges: Vec::new(),
+            answer: OwnedCheckAnswer::RaceFree,
+            sources: Vec::new(),
         }
     }
 }
 
 impl Judge for Second {
     fn check(&mut self, table: &[u8]) -> CheckAnswer<'_> {
-        match self
-            .state
-            .check_with(self.chains, table, WORK_WORDS, CYCLE_NUMBERS)
-        {
-            second::CheckAnswer::RaceFree => CheckAnswer::RaceFree,
-            second::CheckAnswer::Race {
-                first,
-                second,
-                byte,
-            } => CheckAnswer::Race {
-                first,
-                second,
-                byte,
-            },
-            second::CheckAnswer::Overwritten {
-                reader,
-                writer,
-                byte,
-            } => CheckAnswer::Overwritten {
-                reader,
-                writer,
-                byte,
-            },
-            second::CheckAnswer::Cycle { rows, edges } => {
-                self.rows = rows.as_slice().to_vec();
-                self.edges = edges.as_slice().to_vec();
-                CheckAnswer::Cycle {
-                    rows: &self.rows,
-                    edges: &self.edges,
-                }
-            }
-            second::CheckAnswer::Refused { number, row } => CheckAnswer::Refused {
-                number: number.into(),
-                row,
-            },
-        }
+        let (state, chains) = (&mut self.state, self.chains);
+        self.answer = of_second(&state.check_with(chains, table, WORK_WORDS, CYCLE_NUMBERS));
+        self.answer.borrowed()
     }
 
     fn fill(&mut self, table: &[u8]) -> FillAnswer<'_> {
@@ -118,8 +85,8 @@ impl Judge for Second {
                 byte,
             },
             second::FillAnswer::Filled(sources) => {
-                self.rows = sources.as_slice().to_vec();
-                FillAnswer::Filled(&self.rows)
+                self.sources = sources.as_slice().to_vec();
+                FillAnswer::Filled(&self.sources)
             }
             second::FillAnswer::Refused { number, row } => FillAnswer::Refused {
                 number: number.into(),

@@ -288,6 +288,17 @@ fn completion(words: &Words) -> Result<Command, String> {
     }
 }
 
+/// How many threads work if nobody says it: a log is whole only at its end, so that
+/// all may.
+fn threads(is_log: bool) -> usize {
+    let all = std::thread::available_parallelism().map_or(1, |count| count.get());
+    if is_log {
+        all.min(MOST_JOBS)
+    } else {
+        1
+    }
+}
+
 /// The options that not all commands take, in the order in which they are told.
 const BOUND: [&str; 21] = [
     "--html",
@@ -359,7 +370,7 @@ fn files(name: &OsStr, task: Task, words: Words) -> Result<Command, String> {
         is_sarif: words.has("--sarif"),
         is_quiet: words.has("--quiet"),
         has_chains: words.has("--chains"),
-        jobs: words.jobs.unwrap_or(1),
+        jobs: words.jobs.unwrap_or_else(|| threads(words.has("--sarif"))),
         then: words.value("--then"),
         only: words.only()?,
         listed: words.value("--files0-from"),

@@ -4,7 +4,7 @@ use crate::times::{median, time};
 use second::{Chains, State, CYCLE_NUMBERS, SOURCE_NUMBERS, WORK_WORDS};
 use std::hint::black_box;
 use stramashly::Checker;
-use tables::{chained, checkable, fillable, Random, Size, Table, MAX_ROWS};
+use tables::{chained, checkable, fillable, Random, Size, Table};
 
 /// Tables of each sort.
 pub const TABLES: usize = 200;
@@ -40,10 +40,7 @@ pub fn times(seed: u64, repetitions: usize) -> Vec<(&'static str, u128, u128)> {
 }
 
 fn tables(seed: u64, make: fn(&mut Random, Size) -> Table) -> Vec<Vec<u8>> {
-    let size = Size {
-        least: MAX_ROWS,
-        most: MAX_ROWS,
-    };
+    let size = Size::LARGEST;
     let mut random = Random::new(seed);
     (0..TABLES)
         .map(|_| make(&mut random, size).bytes())

@@ -51,10 +51,7 @@ pub struct Work {
 impl Work {
     /// Generates tables until there are enough of each verdict.
     pub fn generate(seed: u64, rows: usize) -> Work {
-        let size = Size {
-            least: rows,
-            most: rows,
-        };
+        let size = Size::of(rows, rows);
         let mut random = Random::new(seed);
         let mut state = State::new();
         let mut work = Work {

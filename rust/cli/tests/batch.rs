@@ -47,7 +47,7 @@ fn generated_lines_have_the_second_implementation_s_answers() {
     let mut state = State::new();
     let (mut input, mut expected) = (String::new(), String::new());
     for _ in 0..3000 {
-        let size = Size { least: 2, most: 16 };
+        let size = Size::of(2, 16);
         let bytes = match random.below(5) {
             0 | 1 => checkable(&mut random, size).bytes(),
             2 | 3 => fillable(&mut random, size).bytes(),
@@ -112,7 +112,7 @@ fn threads_keep_the_order() {
     let mut random = Random::new(402);
     let mut input = String::new();
     for _ in 0..1500 {
-        let size = Size { least: 2, most: 20 };
+        let size = Size::of(2, 20);
         let digits = hex(&checkable(&mut random, size).bytes());
         input += &format!("check {digits}\nreport {digits}\nnonsense\n");
     }

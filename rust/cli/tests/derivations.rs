@@ -134,7 +134,7 @@ fn what_is_derived_is_accepted() {
     let mut state = State::new();
     let mut derived = 0;
     for _ in 0..20 {
-        let table = checkable(&mut random, Size { least: 5, most: 8 }).bytes();
+        let table = checkable(&mut random, Size::of(5, 8)).bytes();
         let digits = hex(&table);
         state.take_in(&table).unwrap();
         let moments = 3 * state.row_count() as u16;

@@ -41,7 +41,7 @@ fn printed_edits_give_what_they_promise() {
     let mut checker = stramashly::Checker::new();
     let mut count = 0;
     while count < 40 {
-        let table = checkable(&mut random, Size { least: 2, most: 6 }).bytes();
+        let table = checkable(&mut random, Size::of(2, 6)).bytes();
         let explanation = explain(&table, &mut checker);
         let lines: Vec<&str> = explanation.lines.iter().map(|line| line.trim()).collect();
         let edits = lines.iter().filter_map(|line| line.strip_prefix("edit: "));
@@ -112,7 +112,7 @@ fn filled_tables_are_race_free() {
     let mut random = Random::new(422);
     let mut filled = 0;
     while filled < 30 {
-        let digits = hex(&fillable(&mut random, Size { least: 3, most: 8 }).bytes());
+        let digits = hex(&fillable(&mut random, Size::of(3, 8)).bytes());
         let made = stramashly(&["fill", "--table", "--hex", "-"], digits.as_bytes());
         if made.status != Some(0) {
             continue;

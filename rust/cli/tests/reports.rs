@@ -45,7 +45,7 @@ fn generated_lines_have_the_second_implementation_s_answers() {
     let (mut input, mut expected) = (String::new(), String::new());
     let mut reports = 0;
     for round in 0..2000 {
-        let size = Size { least: 2, most: 16 };
+        let size = Size::of(2, 16);
         let bytes = match round % 5 {
             0 => damaged(&mut random, size),
             _ => checkable(&mut random, size).bytes(),

@@ -86,7 +86,7 @@ fn no_file_is_written_or_stepped_through() {
 fn generated_lines_have_the_second_implementation_s_answers() {
     let mut random = Random::new(411);
     let mut state = State::new();
-    let size = Size { least: 1, most: 12 };
+    let size = Size::of(1, 12);
     let (mut lines, mut expected) = (Vec::new(), Vec::new());
     for count in 0..900 {
         let table = match count % 3 {

@@ -18,7 +18,7 @@ pub use claim::Claim;
 pub use parts::{cut, readable};
 pub use pieces::OfPieces;
 pub use reasons::{Derived, Moments, Probed};
-pub use tally::Tally;
+pub use tally::{Tally, FILLED, VERDICTS};
 
 use second::{Chains, CheckAnswer, FillAnswer, State};
 use stramashly::{
@@ -216,6 +216,19 @@ impl Comparison {
         };
         Err(Difference(format!("{part}: {lengths:?}\n{}", words())))
     }
+}
+
+/// The bytes with each of them changed in every way that changes one bit, and to
+/// the extremes.
+pub fn every_byte_changed(bytes: &[u8]) -> impl Iterator<Item = Vec<u8>> + '_ {
+    (0..bytes.len()).flat_map(move |place| {
+        let changes = (0..8).map(move |bit| bytes[place] ^ 1 << bit);
+        changes.chain([0, 255]).map(move |byte| {
+            let mut changed = bytes.to_vec();
+            changed[place] = byte;
+            changed
+        })
+    })
 }
 
 fn first_difference<T: PartialEq>(ours: &[T], expected: &[T]) -> Option<usize> {

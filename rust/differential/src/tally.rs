@@ -6,6 +6,16 @@ use std::collections::{BTreeMap, BTreeSet};
 use std::fmt;
 use stramashly::PROGRAM_ORDER;
 
+/// The verdicts of a check of a good table.
+pub const VERDICTS: [&str; 4] = [
+    "check race-free",
+    "check race",
+    "check overwritten",
+    "check cycle",
+];
+/// The answers to a fill of a good table.
+pub const FILLED: [&str; 3] = ["fill filled", "fill none", "fill race"];
+
 /// Answers counted by their word, and the rows that each refusal named.
 #[derive(Default)]
 pub struct Tally {
@@ -106,6 +116,14 @@ impl Tally {
     /// How many answers were these words.
     pub fn of(&self, words: &str) -> usize {
         self.words.get(words).copied().unwrap_or(0)
+    }
+
+    /// Each of these words is at least one in so many answers.
+    pub fn assert_one_in<'a>(&self, parts: usize, words: impl IntoIterator<Item = &'a &'a str>) {
+        for words in words {
+            let count = parts * self.of(words);
+            assert!(count >= self.total, "{words}:\n{self}");
+        }
     }
 
     /// How many different rows a refusal named.

@@ -1,19 +1,11 @@
-//! Tables whose data goes by chains, with the switch off and, once the library
-//! takes it, on; until then the second implementation answers alone.
+//! Tables whose data goes by chains, answered by both with the switch off and on.
 
-use differential::{Comparison, Tally};
+use differential::{Comparison, Tally, FILLED, VERDICTS};
 use second::{Chains, CheckAnswer};
 use tables::{chained, chained_fillable, checkable, hosted, moved, Random, Size};
 
-const SMALL: Size = Size { least: 6, most: 14 };
-const MIDDLE: Size = Size {
-    least: 15,
-    most: 32,
-};
-const LARGEST: Size = Size {
-    least: 128,
-    most: 128,
-};
+const SMALL: Size = Size::of(6, 14);
+const MIDDLE: Size = Size::of(15, 32);
 
 /// Compares generated tables under both settings; gives what was answered with
 /// chains on, and how often only chains kept a table from racing.
@@ -35,43 +27,26 @@ fn compare(seed: u64, count: usize, size: Size) -> (Tally, usize) {
         comparison.report(&bytes).unwrap();
         comparison.report_with(Chains::On, &bytes).unwrap();
     }
-    (tally, saved)
-}
-
-fn assert_one_in(tally: &Tally, parts: usize) {
-    for words in [
-        "check race-free",
-        "check race",
-        "check overwritten",
-        "check cycle",
-        "fill filled",
-        "fill none",
-        "fill race",
-    ] {
-        assert!(
-            parts * tally.of(words) >= tally.total(),
-            "{words}:\n{tally}"
-        );
-    }
     assert_eq!(tally.of("fill not compared"), 0);
+    (tally, saved)
 }
 
 #[test]
 fn small_tables() {
     let (tally, _) = compare(1001, 2500, SMALL);
-    assert_one_in(&tally, 50);
+    tally.assert_one_in(50, VERDICTS.iter().chain(&FILLED));
 }
 
 #[test]
 fn middle_tables() {
     let (tally, saved) = compare(1002, 800, MIDDLE);
-    assert_one_in(&tally, 50);
+    tally.assert_one_in(50, VERDICTS.iter().chain(&FILLED));
     assert!(saved > 80, "{saved}");
 }
 
 #[test]
 fn largest_tables() {
-    let (tally, _) = compare(1003, 20, LARGEST);
+    let (tally, _) = compare(1003, 20, Size::LARGEST);
     assert!(tally.of("check race") > 0 && tally.of("fill race") > 0);
 }
 
@@ -82,7 +57,7 @@ fn other_tables() {
     let mut comparison = Comparison::new(1004);
     let mut tally = Tally::default();
     for round in 0..1500 {
-        let size = Size { least: 4, most: 20 };
+        let size = Size::of(4, 20);
         let bytes = match round % 3 {
             0 => hosted(&mut random, size).bytes(),
             _ => checkable(&mut random, size).bytes(),

@@ -1,6 +1,6 @@
 //! Damaged tables: every refusal, at various rows, and buffers left alone.
 
-use differential::{Comparison, Tally};
+use differential::{every_byte_changed, Comparison, Tally};
 use tables::{checkable, damaged, Random, Size};
 
 fn compare(seed: u64, count: usize, size: Size) -> Tally {
@@ -28,45 +28,32 @@ fn assert_every_refusal(tally: &Tally, rows: usize) {
 
 #[test]
 fn small_tables() {
-    let tally = compare(201, 16_000, Size { least: 1, most: 10 });
+    let tally = compare(201, 16_000, Size::of(1, 10));
     assert_every_refusal(&tally, 8);
 }
 
 #[test]
 fn middle_tables() {
-    let size = Size {
-        least: 11,
-        most: 24,
-    };
-    assert_every_refusal(&compare(202, 4_000, size), 20);
+    assert_every_refusal(&compare(202, 4_000, Size::of(11, 24)), 20);
 }
 
 #[test]
 fn largest_tables() {
-    let size = Size {
-        least: 128,
-        most: 128,
-    };
-    assert_every_refusal(&compare(203, 400, size), 8);
+    assert_every_refusal(&compare(203, 400, Size::LARGEST), 8);
 }
 
 /// Every byte of some tables, changed in every way that changes one bit, and
 /// to the extremes.
 #[test]
-fn every_byte_changed() {
+fn changed_bytes() {
     let mut random = Random::new(204);
     let mut comparison = Comparison::new(204);
     let mut tally = Tally::default();
     for _ in 0..12 {
-        let bytes = checkable(&mut random, Size { least: 3, most: 6 }).bytes();
-        for place in 0..bytes.len() {
-            let changes = (0..8).map(|bit| bytes[place] ^ 1 << bit);
-            for byte in changes.chain([0, 255]) {
-                let mut changed = bytes.clone();
-                changed[place] = byte;
-                tally.check(&comparison.check(&changed).unwrap());
-                tally.fill(&comparison.fill(&changed).unwrap());
-            }
+        let bytes = checkable(&mut random, Size::of(3, 6)).bytes();
+        for changed in every_byte_changed(&bytes) {
+            tally.check(&comparison.check(&changed).unwrap());
+            tally.fill(&comparison.fill(&changed).unwrap());
         }
     }
     for number in 2..=9 {
@@ -79,11 +66,7 @@ fn every_length_cut_off_or_added() {
     let mut random = Random::new(205);
     let mut comparison = Comparison::new(205);
     let mut tally = Tally::default();
-    let size = Size {
-        least: 128,
-        most: 128,
-    };
-    let mut bytes = checkable(&mut random, size).bytes();
+    let mut bytes = checkable(&mut random, Size::LARGEST).bytes();
     let whole = bytes.len();
     bytes.resize(whole + 300, 0);
     for length in 0..=bytes.len() {

@@ -9,15 +9,7 @@ use stramashly::{Checker, Derivation, CHAIN_NUMBERS, PROGRAM_ORDER, WORK_WORDS};
 use tables::builder::{classes::UNIFORM, order, scope};
 use tables::{checkable, damaged, examples, fillable, Build, Random, Row, Size, Table};
 
-const SMALL: Size = Size { least: 2, most: 8 };
-const MIDDLE: Size = Size {
-    least: 12,
-    most: 24,
-};
-const LARGEST: Size = Size {
-    least: 128,
-    most: 128,
-};
+const SMALL: Size = Size::of(2, 8);
 
 /// How often each answer was given, and what the derivations were like.
 #[derive(Default)]
@@ -149,7 +141,7 @@ fn try_some_pairs(seed: u64, tables: usize, size: Size, pairs: usize) -> Seen {
 
 #[test]
 fn pairs_of_middle_tables() {
-    let seen = try_some_pairs(503, 450, MIDDLE, 60);
+    let seen = try_some_pairs(503, 450, Size::MIDDLE, 60);
     assert!(seen.of("chain") > 10_000, "{}", seen.of("chain"));
     assert!(seen.most_steps >= 6, "{}", seen.most_steps);
     // Where a larger set has a chain, its two ends' classes have one.
@@ -159,7 +151,7 @@ fn pairs_of_middle_tables() {
 
 #[test]
 fn pairs_of_largest_tables() {
-    let seen = try_some_pairs(504, 8, LARGEST, 30);
+    let seen = try_some_pairs(504, 8, Size::LARGEST, 30);
     assert!(seen.of("chain") > 80, "{}", seen.of("chain"));
 }
 

@@ -7,11 +7,6 @@ use std::time::{Duration, Instant};
 use stramashly::{Packed, CYCLE_NUMBERS, WORK_WORDS};
 use tables::{checkable, fillable, Random, Size, Table};
 
-const LARGEST: Size = Size {
-    least: 128,
-    most: 128,
-};
-
 /// A factor far below what was seen, and far above what a busy machine does to
 /// the fastest of several runs.
 const TIMES: u32 = 8;
@@ -34,7 +29,7 @@ fn compare(
 ) {
     let mut random = Random::new(601);
     for _ in 0..3 {
-        let table = generate(&mut random, LARGEST).bytes();
+        let table = generate(&mut random, Size::LARGEST).bytes();
         let ((one, short), (two, long)) = (fastest(quick, &table), fastest(obvious, &table));
         assert_eq!(one, two);
         assert!(short * TIMES < long, "{short:?} and {long:?}");

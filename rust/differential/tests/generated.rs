@@ -1,19 +1,9 @@
 //! Generated tables, checked and filled by both.
 
-use differential::{Comparison, Tally};
+use differential::{Comparison, Tally, FILLED, VERDICTS};
 use std::collections::BTreeSet;
 use tables::builder::{kind, order};
 use tables::{checkable, examples, fillable, Build, Random, Row, Size, Table, BLANK, INITIAL};
-
-const SMALL: Size = Size { least: 2, most: 11 };
-const MIDDLE: Size = Size {
-    least: 12,
-    most: 24,
-};
-const LARGEST: Size = Size {
-    least: 128,
-    most: 128,
-};
 
 /// What a set of tables has in it that the rules treat apart.
 #[derive(Default)]
@@ -114,38 +104,19 @@ fn compare_fillable(seed: u64, count: usize, size: Size) -> Tally {
     tally
 }
 
-fn assert_a_tenth(tally: &Tally, words: &[&str]) {
-    assert_one_in(tally, 10, words);
-}
-
-fn assert_one_in(tally: &Tally, parts: usize, words: &[&str]) {
-    for words in words {
-        let count = parts * tally.of(words);
-        assert!(count >= tally.total(), "{words}:\n{tally}");
-    }
-}
-
-const VERDICTS: [&str; 4] = [
-    "check race-free",
-    "check race",
-    "check overwritten",
-    "check cycle",
-];
-const FILLS: [&str; 3] = ["fill filled", "fill none", "fill race"];
-
 #[test]
 fn small_tables_checked() {
-    let (tally, features) = compare_checkable(101, 8000, SMALL);
+    let (tally, features) = compare_checkable(101, 8000, Size::SMALL);
     assert_eq!(tally.total(), 8000);
-    assert_a_tenth(&tally, &VERDICTS);
+    tally.assert_one_in(10, &VERDICTS);
     assert_eq!(features.class_sets, (0..16).collect());
 }
 
 #[test]
 fn middle_tables_checked() {
-    let (tally, features) = compare_checkable(102, 4000, MIDDLE);
+    let (tally, features) = compare_checkable(102, 4000, Size::MIDDLE);
     assert_eq!(tally.total(), 4000);
-    assert_a_tenth(&tally, &VERDICTS);
+    tally.assert_one_in(10, &VERDICTS);
     assert_eq!(features.class_sets, (0..16).collect());
     assert!(features.synchronized_by_barriers > 1000);
     assert!(features.synchronized_by_control > 1000);
@@ -159,33 +130,33 @@ fn middle_tables_checked() {
 
 #[test]
 fn small_tables_filled() {
-    let tally = compare_fillable(103, 8000, SMALL);
+    let tally = compare_fillable(103, 8000, Size::SMALL);
     assert_eq!(tally.total(), 8000);
     assert_eq!(tally.of("fill not compared"), 0);
-    assert_a_tenth(&tally, &FILLS);
+    tally.assert_one_in(10, &FILLED);
 }
 
 #[test]
 fn middle_tables_filled() {
-    let tally = compare_fillable(104, 4000, MIDDLE);
+    let tally = compare_fillable(104, 4000, Size::MIDDLE);
     assert_eq!(tally.total(), 4000);
     assert_eq!(tally.of("fill not compared"), 0);
-    assert_a_tenth(&tally, &FILLS);
+    tally.assert_one_in(10, &FILLED);
 }
 
 #[test]
 fn largest_tables_checked() {
-    let (tally, _) = compare_checkable(105, 60, LARGEST);
+    let (tally, _) = compare_checkable(105, 60, Size::LARGEST);
     assert_eq!(tally.total(), 60);
-    assert_one_in(&tally, 20, &VERDICTS);
+    tally.assert_one_in(20, &VERDICTS);
 }
 
 #[test]
 fn largest_tables_filled() {
-    let tally = compare_fillable(106, 60, LARGEST);
+    let tally = compare_fillable(106, 60, Size::LARGEST);
     assert_eq!(tally.total(), 60);
     assert_eq!(tally.of("fill not compared"), 0);
-    assert_one_in(&tally, 20, &FILLS);
+    tally.assert_one_in(20, &FILLED);
 }
 
 /// Few bytes, references and agents, so that rows meet in every way.
@@ -262,7 +233,7 @@ fn crowded_tables() {
         features.add(&table, &comparison);
         tally.fill(&comparison.fill(&bytes).unwrap());
     }
-    for words in VERDICTS.iter().chain(&FILLS) {
+    for words in VERDICTS.iter().chain(&FILLED) {
         assert!(tally.of(words) >= 50, "{words}:\n{tally}");
     }
     assert!(features.partial_overlaps > 10_000);

@@ -1,20 +1,8 @@
-//! Tables of version 3, checked, filled, reported and derived by both once the
-//! library knows them; until then the second implementation answers alone,
-//! and what the tables reach is seen all the same.
+//! Tables of version 3, checked, filled, reported and derived by both.
 
-use differential::{Comparison, Derived, Tally};
+use differential::{every_byte_changed, Comparison, Derived, Tally, FILLED, VERDICTS};
 use stramashly::Checker;
 use tables::{damaged_hosted, hosted, hosted_fillable, moved, Random, Size};
-
-const SMALL: Size = Size { least: 2, most: 11 };
-const MIDDLE: Size = Size {
-    least: 12,
-    most: 24,
-};
-const LARGEST: Size = Size {
-    least: 128,
-    most: 128,
-};
 
 /// How often the orders that only this version has were met.
 #[derive(Default)]
@@ -57,33 +45,16 @@ fn compare(seed: u64, count: usize, size: Size) -> (Tally, Ways) {
     (tally, ways)
 }
 
-fn assert_one_in(tally: &Tally, parts: usize) {
-    for words in [
-        "check race-free",
-        "check race",
-        "check overwritten",
-        "check cycle",
-        "fill filled",
-        "fill none",
-        "fill race",
-    ] {
-        assert!(
-            parts * tally.of(words) >= tally.total(),
-            "{words}:\n{tally}"
-        );
-    }
-}
-
 #[test]
 fn small_tables() {
-    let (tally, _) = compare(901, 4000, SMALL);
-    assert_one_in(&tally, 40);
+    let (tally, _) = compare(901, 4000, Size::SMALL);
+    tally.assert_one_in(40, VERDICTS.iter().chain(&FILLED));
 }
 
 #[test]
 fn middle_tables() {
-    let (tally, ways) = compare(902, 1500, MIDDLE);
-    assert_one_in(&tally, 40);
+    let (tally, ways) = compare(902, 1500, Size::MIDDLE);
+    tally.assert_one_in(40, VERDICTS.iter().chain(&FILLED));
     assert!(ways.read_case > 500, "{}", ways.read_case);
     assert!(ways.domain_operations > 500, "{}", ways.domain_operations);
     assert!(ways.one_domain > 500, "{}", ways.one_domain);
@@ -92,7 +63,7 @@ fn middle_tables() {
 
 #[test]
 fn largest_tables() {
-    let (tally, _) = compare(903, 25, LARGEST);
+    let (tally, _) = compare(903, 25, Size::LARGEST);
     assert!(tally.of("check race-free") > 0 && tally.of("fill filled") > 0);
 }
 
@@ -102,7 +73,7 @@ fn damaged_tables() {
     let mut comparison = Comparison::new(904);
     let mut tally = Tally::default();
     for _ in 0..10_000 {
-        let bytes = damaged_hosted(&mut random, Size { least: 1, most: 10 });
+        let bytes = damaged_hosted(&mut random, Size::of(1, 10));
         tally.check(&comparison.check(&bytes).unwrap());
         tally.fill(&comparison.fill(&bytes).unwrap());
     }
@@ -120,19 +91,14 @@ fn damaged_tables() {
 /// Every byte of some tables, changed in every way that changes one bit, and
 /// to the extremes.
 #[test]
-fn every_byte_changed() {
+fn changed_bytes() {
     let mut random = Random::new(905);
     let mut comparison = Comparison::new(905);
     let mut tally = Tally::default();
     for _ in 0..8 {
-        let bytes = hosted(&mut random, Size { least: 3, most: 6 }).bytes();
-        for place in 0..bytes.len() {
-            let changes = (0..8).map(|bit| bytes[place] ^ 1 << bit);
-            for byte in changes.chain([0, 255]) {
-                let mut changed = bytes.clone();
-                changed[place] = byte;
-                tally.check(&comparison.check(&changed).unwrap());
-            }
+        let bytes = hosted(&mut random, Size::of(3, 6)).bytes();
+        for changed in every_byte_changed(&bytes) {
+            tally.check(&comparison.check(&changed).unwrap());
         }
     }
     for number in [2, 3, 4, 5, 16, 18, 19] {
@@ -146,7 +112,7 @@ fn every_pair_of_moments_of_small_tables() {
     let mut comparison = Comparison::new(906);
     let mut by_system = 0;
     for _ in 0..60 {
-        let table = hosted_fillable(&mut random, Size { least: 3, most: 9 }).bytes();
+        let table = hosted_fillable(&mut random, Size::of(3, 9)).bytes();
         let mut moments = comparison.moments_of(&table);
         let count = moments.count() as u16;
         for first in 0..count {
@@ -169,7 +135,7 @@ fn moved_tables() {
     let mut checker = Checker::new();
     let word = |answer: &str| answer.split(' ').next().unwrap().to_string();
     for _ in 0..1500 {
-        let table = hosted_fillable(&mut random, Size { least: 3, most: 20 });
+        let table = hosted_fillable(&mut random, Size::of(3, 20));
         let moved = moved(&mut random, &table);
         let (bytes, other) = (table.bytes(), moved.table.bytes());
         let checked = word(&checker.check(&bytes).to_string());

@@ -2,7 +2,7 @@
 //! rows moved, each agent's own in their order, have the same word, and the
 //! sources that a fill writes for one are the other's, moved and renumbered.
 
-use differential::Tally;
+use differential::{Tally, FILLED, VERDICTS};
 use second::{CheckAnswer, FillAnswer, State};
 use stramashly::Checker;
 use tables::{checkable, fillable, hex, moved, Random, Size, Table};
@@ -76,39 +76,21 @@ fn compare_many(seed: u64, tables: usize, size: Size, times: usize) -> Tally {
         compare(&mut random, &mut checker, &table, times);
         count(&mut state, &mut tally, &table);
     }
-    for words in [
-        "check race-free",
-        "check race",
-        "check overwritten",
-        "check cycle",
-        "fill filled",
-        "fill none",
-        "fill race",
-    ] {
-        assert!(50 * tally.of(words) >= tally.total(), "{words}:\n{tally}");
-    }
+    tally.assert_one_in(50, VERDICTS.iter().chain(&FILLED));
     tally
 }
 
 #[test]
 fn small_tables() {
-    compare_many(701, 6000, Size { least: 2, most: 11 }, 4);
+    compare_many(701, 6000, Size::SMALL, 4);
 }
 
 #[test]
 fn middle_tables() {
-    let size = Size {
-        least: 12,
-        most: 40,
-    };
-    compare_many(702, 600, size, 4);
+    compare_many(702, 600, Size::of(12, 40), 4);
 }
 
 #[test]
 fn largest_tables() {
-    let size = Size {
-        least: 128,
-        most: 128,
-    };
-    compare_many(703, 50, size, 2);
+    compare_many(703, 50, Size::LARGEST, 2);
 }

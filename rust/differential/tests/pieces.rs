@@ -8,11 +8,7 @@ use tables::{
     checkable, damaged, damaged_hosted, fillable, hosted, hosted_fillable, Random, Size, Table,
 };
 
-const SMALL: Size = Size { least: 1, most: 9 };
-const LARGEST: Size = Size {
-    least: 128,
-    most: 128,
-};
+const SMALL: Size = Size::of(1, 9);
 
 /// Every cut of a table, with chains and without.
 fn compare_cuts(comparison: &mut Comparison, bytes: &[u8], tally: &mut Tally) {
@@ -71,8 +67,8 @@ fn some_cuts_of_the_largest_tables() {
     let mut comparison = Comparison::new(1305);
     for _ in 0..6 {
         for bytes in [
-            checkable(&mut random, LARGEST).bytes(),
-            hosted(&mut random, LARGEST).bytes(),
+            checkable(&mut random, Size::LARGEST).bytes(),
+            hosted(&mut random, Size::LARGEST).bytes(),
         ] {
             for rows in [0, 1, 64, 127, 128] {
                 let [first, second] = cut(&bytes, rows).unwrap();

@@ -24,7 +24,7 @@ fn compare(seed: u64, count: usize, size: Size) -> (Tally, u16) {
 
 #[test]
 fn small_tables() {
-    let (tally, _) = compare(601, 6000, Size { least: 2, most: 11 });
+    let (tally, _) = compare(601, 6000, Size::SMALL);
     for words in [
         "report 0.0",
         "report 1.0",
@@ -38,22 +38,14 @@ fn small_tables() {
 
 #[test]
 fn middle_tables() {
-    let size = Size {
-        least: 12,
-        most: 24,
-    };
-    let (tally, most) = compare(602, 2000, size);
+    let (tally, most) = compare(602, 2000, Size::MIDDLE);
     assert!(tally.of("report between") > 300, "{tally}");
     assert!(most > 40, "{most}");
 }
 
 #[test]
 fn largest_tables() {
-    let size = Size {
-        least: 128,
-        most: 128,
-    };
-    let (tally, most) = compare(603, 100, size);
+    let (tally, most) = compare(603, 100, Size::LARGEST);
     assert!(tally.of("report between") > 10, "{tally}");
     assert!(most > 100, "{most}");
 }
@@ -81,7 +73,7 @@ fn without_a_report_there_is_the_check() {
     let mut comparison = Comparison::new(605);
     let mut tally = Tally::default();
     for round in 0..6000 {
-        let size = Size { least: 2, most: 8 };
+        let size = Size::of(2, 8);
         let table = match round % 3 {
             0 => checkable(&mut random, size).bytes(),
             1 => fillable(&mut random, size).bytes(),

@@ -10,11 +10,7 @@ use tables::{
     checkable, damaged, damaged_hosted, examples, fillable, hosted, hosted_fillable, Random, Size,
 };
 
-const SMALL: Size = Size { least: 1, most: 10 };
-const LARGEST: Size = Size {
-    least: 128,
-    most: 128,
-};
+const SMALL: Size = Size::of(1, 10);
 
 /// How often each answer was given; 0 stands for a table.
 #[derive(Default)]
@@ -54,7 +50,11 @@ fn what_is_read_is_written_again() {
     let mut comparison = Comparison::new(1001);
     let mut written = 0;
     for count in 0..4000 {
-        let size = if count % 80 == 0 { LARGEST } else { SMALL };
+        let size = if count % 80 == 0 {
+            Size::LARGEST
+        } else {
+            SMALL
+        };
         let table = good(&mut random, size);
         let values = Values::of(&table);
         let answer = comparison.write(&values, MAX_TABLE_BYTES).unwrap();

@@ -173,7 +173,7 @@ fn every_row_and_every_arrow_is_there() {
 fn nothing_lies_on_another_or_outside() {
     let small = generated(342, 200, 2, 16);
     let mut random = Random::new(347);
-    let size = Size { least: 3, most: 16 };
+    let size = Size::of(3, 16);
     let hosts = (0..100).map(|_| hosted(&mut random, size).bytes());
     let large = generated(343, 5, 128, 128);
     for table in small.into_iter().chain(large).chain(hosts) {

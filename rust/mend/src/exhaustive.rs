@@ -5,10 +5,11 @@ use crate::catalogue::catalogue;
 use crate::edit::{edited, merged, Edit};
 use crate::facts::{Facts, Goal};
 use crate::instruction::instructions;
+use crate::judge::of_second;
 use crate::run::Run;
 use crate::search::search;
 use crate::strength::Strength;
-use second::{CheckAnswer, FillAnswer, State, CYCLE_NUMBERS, SOURCE_NUMBERS, WORK_WORDS};
+use second::{FillAnswer, State, CYCLE_NUMBERS, SOURCE_NUMBERS, WORK_WORDS};
 use stramashly::Checker;
 use tables::{checkable, Random, Size};
 
@@ -22,10 +23,7 @@ fn mends(state: &mut State, table: &[u8], edits: &[Edit], goal: Goal) -> bool {
             first,
             second,
             byte,
-        } => {
-            let found = (usize::from(first), usize::from(second), u32::from(byte));
-            found > (goal.first, goal.second, goal.byte)
-        }
+        } => Goal::new(first, second, byte) > goal,
         _ => true,
     }
 }
@@ -46,19 +44,10 @@ fn where_nothing_is_found_there_is_nothing() {
     let (mut checker, mut state, mut other) = (Checker::new(), State::new(), State::new());
     let mut compared = 0;
     while compared < 150 {
-        let table = checkable(&mut random, Size { least: 2, most: 8 }).bytes();
-        let CheckAnswer::Race {
-            first,
-            second,
-            byte,
-        } = state.check(&table, WORK_WORDS, CYCLE_NUMBERS)
-        else {
+        let table = checkable(&mut random, Size::of(2, 8)).bytes();
+        let answer = state.check(&table, WORK_WORDS, CYCLE_NUMBERS);
+        let Some(goal) = Goal::of(&of_second(&answer)) else {
             continue;
-        };
-        let goal = Goal {
-            first: first.into(),
-            second: second.into(),
-            byte: byte.into(),
         };
         let run = Run::of(&table);
         let checked = Facts {

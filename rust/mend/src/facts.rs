@@ -9,11 +9,34 @@ use second::{Chains, State, AT, CYCLE_NUMBERS, WORK_WORDS};
 use stramashly::OwnedCheckAnswer;
 
 /// A race: two rows and a byte at which nothing orders them.
-#[derive(Clone, Copy, Debug, PartialEq, Eq)]
+#[derive(Clone, Copy, Debug, PartialEq, Eq, PartialOrd, Ord)]
 pub struct Goal {
     pub first: usize,
     pub second: usize,
     pub byte: u32,
+}
+
+impl Goal {
+    /// A race as answers have it.
+    pub fn new(first: u16, second: u16, byte: u16) -> Goal {
+        Goal {
+            first: first.into(),
+            second: second.into(),
+            byte: byte.into(),
+        }
+    }
+
+    /// The race that a check answers, if it does.
+    pub fn of(answer: &OwnedCheckAnswer) -> Option<Goal> {
+        match *answer {
+            OwnedCheckAnswer::Race {
+                first,
+                second,
+                byte,
+            } => Some(Goal::new(first, second, byte)),
+            _ => None,
+        }
+    }
 }
 
 /// A checked table: its bytes, its relations and its rows.

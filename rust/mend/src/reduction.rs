@@ -266,6 +266,7 @@ fn source(row: Row, kept: &[usize]) -> u16 {
 mod tests {
     use super::*;
     use crate::instruction::Instruction;
+    use crate::judge::of_second;
     use crate::strength::Strength;
     use second::{CheckAnswer, State, CYCLE_NUMBERS, WORK_WORDS};
     use tables::{chained, checkable, hex, hosted, Random, Size};
@@ -315,25 +316,16 @@ mod tests {
         let mut state = State::new();
         let (mut raced, mut ordered, mut smaller) = (0, 0, 0);
         while raced + ordered < 2500 {
-            let size = Size { least: 3, most: 16 };
+            let size = Size::of(3, 16);
             let chains = random.pick(&[Chains::Off, Chains::On]);
             let table = match random.below(3) {
                 0 => checkable(&mut random, size).bytes(),
                 1 => hosted(&mut random, size).bytes(),
                 _ => chained(&mut random, size).bytes(),
             };
-            let CheckAnswer::Race {
-                first,
-                second,
-                byte,
-            } = state.check_with(chains, &table, WORK_WORDS, CYCLE_NUMBERS)
-            else {
+            let answer = state.check_with(chains, &table, WORK_WORDS, CYCLE_NUMBERS);
+            let Some(goal) = Goal::of(&of_second(&answer)) else {
                 continue;
-            };
-            let goal = Goal {
-                first: first.into(),
-                second: second.into(),
-                byte: byte.into(),
             };
             let loose = Reduction::of(&table, goal, chains);
             let tight = Reduction::tight(&table, goal, chains);

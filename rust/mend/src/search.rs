@@ -156,10 +156,7 @@ impl<'a> Searcher<'a> {
                 first,
                 second,
                 byte,
-            } => {
-                let found = (usize::from(first), usize::from(second), u32::from(byte));
-                found > (goal.first, goal.second, goal.byte)
-            }
+            } => Goal::new(first, second, byte) > goal,
             _ => false,
         }
     }

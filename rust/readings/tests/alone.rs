@@ -6,7 +6,7 @@ use readings::{crates, with_room};
 use second::{row_bytes, table::Row, RowsAnswer, State};
 use tables::{checkable, fillable, hosted, moved, Random, Size};
 
-const SMALL: Size = Size { least: 2, most: 5 };
+const SMALL: Size = Size::of(2, 5);
 
 fn pages() -> Evaluator {
     Evaluator::new(Program::new(crates(), true))

@@ -37,20 +37,27 @@ pub fn joined([first, second]: Pieces) -> Result<Vec<u8>, u8> {
 }
 
 impl State {
+    /// The joined table, or the number of the refusal: 11 of buffers that are too
+    /// short, else the pair's own.
+    fn join(&mut self, pieces: Pieces, is_short: bool) -> Result<Vec<u8>, u8> {
+        self.row_count = 0;
+        if is_short {
+            return Err(11);
+        }
+        joined(pieces)
+    }
+
     /// Checks a table in two pieces.
     pub fn check_pieces(
         &mut self,
         chains: Chains,
         pieces: Pieces,
-        work_words: usize,
-        cycle_numbers: usize,
+        work: usize,
+        cycle: usize,
     ) -> CheckAnswer {
-        self.row_count = 0;
-        if admission::refusal_11(work_words, WORK_WORDS, cycle_numbers, CYCLE_NUMBERS) {
-            return CheckAnswer::Refused { number: 11, row: 0 };
-        }
-        match joined(pieces) {
-            Ok(table) => self.check_with(chains, &table, work_words, cycle_numbers),
+        let is_short = admission::refusal_11(work, WORK_WORDS, cycle, CYCLE_NUMBERS);
+        match self.join(pieces, is_short) {
+            Ok(table) => self.check_with(chains, &table, work, cycle),
             Err(number) => CheckAnswer::Refused { number, row: 0 },
         }
     }
@@ -60,15 +67,12 @@ impl State {
         &mut self,
         chains: Chains,
         pieces: Pieces,
-        work_words: usize,
-        source_numbers: usize,
+        work: usize,
+        sources: usize,
     ) -> FillAnswer {
-        self.row_count = 0;
-        if admission::refusal_11(work_words, WORK_WORDS, source_numbers, SOURCE_NUMBERS) {
-            return FillAnswer::Refused { number: 11, row: 0 };
-        }
-        match joined(pieces) {
-            Ok(table) => self.fill_with(chains, &table, work_words, source_numbers),
+        let is_short = admission::refusal_11(work, WORK_WORDS, sources, SOURCE_NUMBERS);
+        match self.join(pieces, is_short) {
+            Ok(table) => self.fill_with(chains, &table, work, sources),
             Err(number) => FillAnswer::Refused { number, row: 0 },
         }
     }

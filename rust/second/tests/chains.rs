@@ -267,10 +267,7 @@ fn on_orders_whatever_off_does() {
     let (mut off, mut on) = (State::new(), State::new());
     let mut more = 0;
     for round in 0..700 {
-        let size = Size {
-            least: 12,
-            most: 32,
-        };
+        let size = Size::of(12, 32);
         let table = match round % 7 {
             0 => checkable(&mut random, size),
             1 => hosted(&mut random, size),
@@ -322,10 +319,7 @@ fn each_verdict_with_chains_has_its_share() {
     let mut counts = std::collections::BTreeMap::new();
     let mut saved = 0;
     for _ in 0..600 {
-        let size = Size {
-            least: 16,
-            most: 32,
-        };
+        let size = Size::of(16, 32);
         let bytes = chained(&mut random, size).bytes();
         let mut word = |chains| {
             let answer = state.check_with(chains, &bytes, WORK_WORDS, CYCLE_NUMBERS);
@@ -349,7 +343,7 @@ fn check_and_fill_agree_with_chains() {
     let mut state = State::new();
     let mut filled = 0;
     for _ in 0..600 {
-        let mut table = chained_fillable(&mut random, Size { least: 6, most: 20 });
+        let mut table = chained_fillable(&mut random, Size::of(6, 20));
         let answer = state.fill_with(Chains::On, &table.bytes(), WORK_WORDS, SOURCE_NUMBERS);
         if let FillAnswer::Filled(sources) = answer {
             for (row, source) in table.rows.iter_mut().zip(sources.as_slice()) {

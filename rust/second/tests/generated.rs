@@ -11,11 +11,8 @@ use tables::{
     Size, Table, BLANK,
 };
 
-const SMALL: Size = Size { least: 4, most: 12 };
-const MIDDLE: Size = Size {
-    least: 16,
-    most: 24,
-};
+const SMALL: Size = Size::of(4, 12);
+const MIDDLE: Size = Size::of(16, 24);
 
 fn check(state: &mut State, table: &[u8]) -> CheckAnswer {
     state.check(table, WORK_WORDS, CYCLE_NUMBERS)
@@ -287,7 +284,7 @@ fn cycles(state: &State, path: &mut Vec<u16>, found: &mut Vec<Vec<u16>>) {
 fn cycles_are_canonical() {
     let mut random = Random::new(6);
     let mut state = State::new();
-    let size = Size { least: 3, most: 8 };
+    let size = Size::of(3, 8);
     let mut lengths = BTreeSet::new();
     for _ in 0..3000 {
         let table = checkable(&mut random, size);

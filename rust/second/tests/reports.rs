@@ -64,7 +64,7 @@ fn the_parts_add_up_and_agree_with_the_check() {
     let mut state = State::new();
     let (mut racing, mut free) = (0, 0);
     for _ in 0..2000 {
-        let table = checkable(&mut random, Size { least: 2, most: 10 }).bytes();
+        let table = checkable(&mut random, Size::of(2, 10)).bytes();
         let answer = state.report(&table, WORK_WORDS, CYCLE_NUMBERS);
         let checked = state.check(&table, WORK_WORDS, CYCLE_NUMBERS).to_string();
         let ReportAnswer::Counts(counts) = answer else {

@@ -39,7 +39,7 @@ fn answers_are_collected() {
 fn reports_and_derivations_are_kept() {
     let mut random = Random::new(77);
     let mut checker = Checker::new();
-    let size = Size { least: 2, most: 8 };
+    let size = Size::of(2, 8);
     let mut chains = 0;
     for _ in 0..300 {
         let table = checkable(&mut random, size).bytes();

@@ -1,6 +1,6 @@
 //! Whole tables: episodes put together, reordered and mutated.
 
-use crate::builder::{kind, Row, Table, BLANK, INITIAL, MAX_AGENTS};
+use crate::builder::{kind, Row, Table, BLANK, INITIAL, MAX_AGENTS, MAX_ROWS};
 use crate::counted::count_ranks;
 use crate::episode::{episode, Ground};
 use crate::mutation::{make_cyclic, make_stale, mutate, reorder, repair, rows_that, weaken};
@@ -11,6 +11,18 @@ use crate::random::Random;
 pub struct Size {
     pub least: usize,
     pub most: usize,
+}
+
+impl Size {
+    /// Sizes that tests share.
+    pub const SMALL: Size = Size::of(2, 11);
+    pub const MIDDLE: Size = Size::of(12, 24);
+    pub const LARGEST: Size = Size::of(MAX_ROWS, MAX_ROWS);
+
+    /// From so many rows to so many.
+    pub const fn of(least: usize, most: usize) -> Size {
+        Size { least, most }
+    }
 }
 
 /// What becomes of a clean run.

@@ -32,7 +32,7 @@ fn sources_go_with_their_rows() {
 fn each_agent_keeps_its_order() {
     let mut random = Random::new(2);
     for _ in 0..200 {
-        let table = checkable(&mut random, Size { least: 2, most: 40 });
+        let table = checkable(&mut random, Size::of(2, 40));
         let moved = moved(&mut random, &table);
         for (row, x) in table.rows.iter().enumerate() {
             for (other, y) in table.rows.iter().enumerate() {

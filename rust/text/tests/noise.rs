@@ -123,7 +123,7 @@ fn words_in_any_order_are_read_or_told() {
 #[test]
 fn damaged_texts_are_read_or_told() {
     let mut random = Random::new(65);
-    let size = Size { least: 2, most: 6 };
+    let size = Size::of(2, 6);
     let mut held = 0;
     for round in 0..1500 {
         let table = match round % 2 {

@@ -80,10 +80,7 @@ fn generated_tables_come_back() {
 #[test]
 fn large_tables_come_back() {
     let mut random = Random::new(2027);
-    let size = Size {
-        least: 120,
-        most: 128,
-    };
+    let size = Size::of(120, 128);
     for _ in 0..10 {
         assert!(comes_back(&clean(&mut random, size).bytes()));
         comes_back(&hosted_fillable(&mut random, size).bytes());
@@ -107,7 +104,7 @@ fn examples_and_litmus_tests_come_back() {
 #[test]
 fn parts_are_assembled_as_a_fill_admits_them() {
     let mut random = Random::new(2028);
-    let size = Size { least: 1, most: 9 };
+    let size = Size::of(1, 9);
     let mut refused = 0;
     for round in 0..3000 {
         let table = match round % 3 {

@@ -18,7 +18,7 @@ pub fn lines(table: &[u8], checker: &mut dyn Judge) -> Vec<String> {
     match answer {
         FillAnswer::Filled(sources) => {
             let named = blanks.iter().map(|row| {
-                let source = source_words(sources[*row]);
+                let source = names::source_named(sources[*row]);
                 format!("row {row} read {source}")
             });
             let named: Vec<String> = named.collect();
@@ -52,13 +52,6 @@ fn blanks(run: &Run) -> Vec<usize> {
     blanks.map(|(row, _)| row).collect()
 }
 
-fn source_words(source: u16) -> String {
-    match source {
-        INITIAL => "the initial value".to_string(),
-        row => format!("row {row}"),
-    }
-}
-
 /// The table with these sources for its blanks.
 fn filled(table: &[u8], blanks: &[usize], sources: &[u16]) -> Vec<u8> {
     let edits = blanks.iter().zip(sources);
@@ -86,7 +79,7 @@ fn none_lines(table: &[u8], blanks: &[usize], checker: &mut dyn Judge) -> Vec<St
                 lines.push(format!("Nothing can stand in row {reader}'s blank:"));
                 let reasons = sources.iter().map(|(source, reason)| {
                     let reason = reason.as_deref().unwrap_or_default();
-                    format!("  {}: {reason}", source_words(*source))
+                    format!("  {}: {reason}", names::source_named(*source))
                 });
                 lines.extend(reasons);
             }
@@ -119,7 +112,7 @@ fn contradiction(
     let named: Vec<String> = blanks
         .iter()
         .zip(chosen)
-        .map(|(row, source)| format!("row {row} {}", source_words(*source)))
+        .map(|(row, source)| format!("row {row} {}", names::source_named(*source)))
         .collect();
     let relations = Relations::of(checker.chains(), &table, &Notes::default());
     let checked = Checked::from(&relations);

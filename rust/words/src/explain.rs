@@ -186,11 +186,7 @@ pub fn shown(checked: Checked, answer: CheckAnswer) -> Shown {
             first,
             second,
             byte,
-        } => Shown::Race(Goal {
-            first: first.into(),
-            second: second.into(),
-            byte: byte.into(),
-        }),
+        } => Shown::Race(Goal::new(first, second, byte)),
         CheckAnswer::Overwritten {
             reader,
             writer,

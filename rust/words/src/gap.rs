@@ -63,8 +63,8 @@ impl Checked<'_> {
             Some((release, acquire)) => self.not_carried_words(none, [x, y, release, acquire]),
             None => format!(
                 "{none}: of agent {agent}'s releases ({}) none synchronizes with an acquire of agent {other} ({}){}",
-                row_list(&gap.releases),
-                row_list(&gap.acquires),
+                names::rows(&gap.releases),
+                names::rows(&gap.acquires),
                 match unfit.is_empty() {
                     true => self.unmet_words(gap),
                     false => unfit,
@@ -165,10 +165,4 @@ struct Gap {
     last: usize,
     releases: Vec<usize>,
     acquires: Vec<usize>,
-}
-
-fn row_list(rows: &[usize]) -> String {
-    let numbers: Vec<String> = rows.iter().map(usize::to_string).collect();
-    let noun = if rows.len() == 1 { "row" } else { "rows" };
-    format!("{noun} {}", names::listed(&numbers))
 }

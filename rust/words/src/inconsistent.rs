@@ -153,10 +153,10 @@ impl Grounds {
     fn noted(&self) -> Option<String> {
         let mut noted = Vec::new();
         if !self.readers.is_empty() {
-            noted.push(format!("the source of {}", rows_words(&self.readers)));
+            noted.push(format!("the source of {}", names::rows(&self.readers)));
         }
         if !self.ranked.is_empty() {
-            noted.push(format!("the ranks of {}", rows_words(&self.ranked)));
+            noted.push(format!("the ranks of {}", names::rows(&self.ranked)));
         }
         if self.is_ordered {
             noted.push("the order of an agent's rows".to_string());
@@ -177,7 +177,7 @@ pub fn causes(checked: Checked, shown: &Shown) -> Vec<String> {
     };
     let readers = match grounds.readers.is_empty() {
         true => "these writes".to_string(),
-        false => format!("the read in {}", rows_words(&grounds.readers)),
+        false => format!("the read in {}", names::rows(&grounds.readers)),
     };
     let device = if grounds.is_ordered {
         format!("{readers} got an old value although availability and visibility had been carried that far: a cache wasn't written back or wasn't emptied")
@@ -218,12 +218,6 @@ pub fn counted_ranks(checked: Checked, checker: &mut dyn Judge) -> Option<String
 /// Where a table's version stands.
 const VERSION: usize = 4;
 
-fn rows_words(rows: &[usize]) -> String {
-    let numbers: Vec<String> = rows.iter().map(usize::to_string).collect();
-    let noun = if rows.len() == 1 { "row" } else { "rows" };
-    format!("{noun} {}", names::listed(&numbers))
-}
-
 /// So many other sources are tried, and so many named.
 const TRIED_SOURCES: usize = 200;
 const NAMED_SOURCES: usize = 4;
@@ -247,10 +241,7 @@ pub fn other_sources(checked: Checked, shown: &Shown, checker: &mut dyn Judge) -
         let answer = checker.check(&edited(checked.table, &[edit]));
         let is_possible = matches!(answer, CheckAnswer::RaceFree | CheckAnswer::Race { .. });
         is_possible.then(|| {
-            let source = match edit.value {
-                INITIAL => "the initial value".to_string(),
-                row => format!("row {row}"),
-            };
+            let source = names::source_named(edit.value);
             let reader = edit.row;
             format!("  if row {reader} read {source} (edit: {edit}), check answers `{answer}`")
         })

@@ -147,3 +147,18 @@ pub fn counted(count: usize, noun: &str) -> String {
     let ending = if count == 1 { "" } else { "s" };
     format!("{count} {noun}{ending}")
 }
+
+/// `row 3`, `rows 3, 4 and 7`.
+pub fn rows(rows: &[usize]) -> String {
+    let numbers: Vec<String> = rows.iter().map(usize::to_string).collect();
+    let noun = if rows.len() == 1 { "row" } else { "rows" };
+    format!("{noun} {}", listed(&numbers))
+}
+
+/// A source that is no blank.
+pub fn source_named(source: u16) -> String {
+    match source {
+        INITIAL => "the initial value".to_string(),
+        row => format!("row {row}"),
+    }
+}

@@ -78,7 +78,7 @@ fn what_a_fill_answers_is_told() {
     let mut random = Random::new(371);
     let (mut seen, mut sources) = (BTreeMap::new(), 0);
     for _ in 0..4000 {
-        let mut table = fillable(&mut random, Size { least: 2, most: 9 });
+        let mut table = fillable(&mut random, Size::of(2, 9));
         // Now and then the wrong atomic was read, so that nothing fits.
         if random.percent(40) {
             for row in table.rows.iter_mut().filter(|row| row.is_atomic()) {

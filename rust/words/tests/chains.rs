@@ -40,7 +40,7 @@ fn orders_by_chains_have_words() {
     let mut random = Random::new(371);
     let (mut long, mut short) = (0, 0);
     for _ in 0..1600 {
-        let table = chained(&mut random, Size { least: 4, most: 14 }).bytes();
+        let table = chained(&mut random, Size::of(4, 14)).bytes();
         with_chains(Chains::On, &table, |checked| {
             let rows = checked.run.rows.len();
             let pairs = (0..rows * rows).map(|pair| (pair / rows, pair % rows));
@@ -71,7 +71,7 @@ fn cures_with_chains_are_cures() {
     let mut random = Random::new(372);
     let mut cures = 0;
     for _ in 0..600 {
-        let table = chained(&mut random, Size { least: 4, most: 10 }).bytes();
+        let table = chained(&mut random, Size::of(4, 10)).bytes();
         let told = explain(&table, &mut second);
         let Shown::Race(goal) = told.shown else {
             continue;

@@ -218,7 +218,7 @@ fn cures_with_hosts_are_cures() {
     let mut random = Random::new(341);
     let (mut races, mut cured, mut with_dependencies) = (0, 0, 0);
     for _ in 0..700 {
-        let table = hosted(&mut random, Size { least: 3, most: 12 }).bytes();
+        let table = hosted(&mut random, Size::of(3, 12)).bytes();
         let told = explain(&table, &mut second);
         let Shown::Race(goal) = told.shown else {
             continue;
@@ -270,7 +270,7 @@ fn hosts_queues_and_dependencies_are_drawn() {
     let mut random = Random::new(342);
     let mut sum = 0;
     for _ in 0..200 {
-        let table = hosted(&mut random, Size { least: 3, most: 12 });
+        let table = hosted(&mut random, Size::of(3, 12));
         let bytes = table.bytes();
         let svg = draw(&bytes, &mut Second::new(), true).unwrap();
         let mut joined = table.dependencies.clone();

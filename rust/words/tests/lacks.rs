@@ -52,7 +52,7 @@ fn a_rule_of_hosts_lacks_nothing_exactly_where_it_holds() {
     let mut sum = [0, 0];
     let mut by_system = [0, 0];
     for _ in 0..1200 {
-        let table = hosted(&mut random, Size { least: 3, most: 14 }).bytes();
+        let table = hosted(&mut random, Size::of(3, 14)).bytes();
         let counts = with_relations(&table, |checked| {
             let rows = checked.run.rows.len();
             for pair in 0..rows * rows {

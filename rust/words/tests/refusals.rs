@@ -213,7 +213,7 @@ fn the_named_faults_are_the_real_ones() {
     let mut random = Random::new(361);
     let mut seen = [0; 21];
     for _ in 0..6000 {
-        let table = damaged(&mut random, Size { least: 2, most: 9 });
+        let table = damaged(&mut random, Size::of(2, 9));
         if let Some(number) = check_faults(&table, &mut checker) {
             seen[usize::from(number)] += 1;
         }
@@ -229,7 +229,7 @@ fn the_named_faults_of_hosts_are_the_real_ones() {
     let mut random = Random::new(365);
     let mut seen = [0; 21];
     for _ in 0..4000 {
-        let table = damaged_hosted(&mut random, Size { least: 2, most: 9 });
+        let table = damaged_hosted(&mut random, Size::of(2, 9));
         if let Some(number) = check_faults(&table, &mut second) {
             seen[usize::from(number)] += 1;
         }
@@ -296,7 +296,7 @@ fn the_fields_that_dont_fit_are_all_named() {
     let mut random = Random::new(362);
     let mut seen = 0;
     while seen < 500 {
-        let table = damaged(&mut random, Size { least: 2, most: 6 });
+        let table = damaged(&mut random, Size::of(2, 6));
         let Some((6, row)) = refused(&table, &mut checker) else {
             continue;
         };
@@ -445,7 +445,7 @@ fn show_tells_the_same_faults() {
     let mut random = Random::new(363);
     let mut told = 0;
     for _ in 0..1000 {
-        let table = damaged(&mut random, Size { least: 2, most: 6 });
+        let table = damaged(&mut random, Size::of(2, 6));
         let (fill, check) = (
             checker.fill(&table).to_string(),
             checker.check(&table).to_string(),
@@ -466,7 +466,7 @@ fn show_tells_the_same_faults() {
 #[test]
 fn a_good_table_has_no_faults() {
     let (mut random, mut state) = (Random::new(367), State::new());
-    let size = Size { least: 2, most: 10 };
+    let size = Size::of(2, 10);
     let hosts = (0..300).map(|_| hosted(&mut random, size).bytes());
     for table in generated(364, 300, 2, 10).into_iter().chain(hosts) {
         for number in [2, 3, 4, 5, 6, 7, 8, 9, 10, 14, 15, 16, 17, 18, 19, 20] {

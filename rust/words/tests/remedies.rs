@@ -252,7 +252,7 @@ fn any_places_do() {
     let mut checker = Checker::new();
     let mut changes = 0;
     for round in 0..500 {
-        let size = Size { least: 2, most: 14 };
+        let size = Size::of(2, 14);
         let table = match round % 2 {
             0 => checkable(&mut random, size).bytes(),
             _ => hosted(&mut random, size).bytes(),

@@ -26,7 +26,7 @@ fn check_first_line(table: &[u8], checker: &mut Checker) -> String {
 fn the_first_line_is_the_proved_answer() {
     let mut checker = Checker::new();
     let mut random = Random::new(331);
-    let size = Size { least: 2, most: 8 };
+    let size = Size::of(2, 8);
     let mut tables = generated(332, 2000, 2, 8);
     tables.extend((0..2000).map(|_| damaged(&mut random, size)));
     tables.extend((0..500).map(|_| fillable(&mut random, size).bytes()));
@@ -48,7 +48,7 @@ fn refusals_are_told() {
     let mut random = Random::new(333);
     let mut seen = [0; 16];
     for _ in 0..3000 {
-        let table = damaged(&mut random, Size { least: 2, most: 8 });
+        let table = damaged(&mut random, Size::of(2, 8));
         let explanation = explain(&table, &mut checker);
         let OwnedCheckAnswer::Refused { number, row } = explanation.answer else {
             continue;
@@ -78,7 +78,7 @@ fn noise_is_no_panic() {
     let mut random = Random::new(334);
     for round in 0..3000 {
         let mut table = match round % 3 {
-            0 => damaged(&mut random, Size { least: 1, most: 6 }),
+            0 => damaged(&mut random, Size::of(1, 6)),
             1 => (0..random.below(80))
                 .map(|_| random.below(256) as u8)
                 .collect(),

@@ -2,7 +2,6 @@
 
 use differential::{Comparison, Difference, Tally};
 use second::Chains;
-use std::env;
 use std::io::{self, IsTerminal, Write};
 use std::process::ExitCode;
 use std::time::Instant;
@@ -11,13 +10,8 @@ use tables::{
     hosted_fillable, Random, Size, MAX_ROWS,
 };
 
-const USAGE: &str = "usage: soak SEED COUNT";
-
 fn main() -> ExitCode {
-    let words: Vec<String> = env::args().skip(1).collect();
-    let numbers: Vec<u64> = words.iter().flat_map(|word| word.parse().ok()).collect();
-    let (2, &[seed, count]) = (words.len(), numbers.as_slice()) else {
-        eprintln!("{USAGE}");
+    let Some([seed, count]) = tables::seed_and_count("soak") else {
         return ExitCode::from(2);
     };
     let began = Instant::now();

@@ -3,17 +3,11 @@
 
 use readings::{case, fixed, with_room, Readers};
 use std::collections::BTreeMap;
-use std::env;
 use std::process::ExitCode;
 use std::time::Instant;
 
-const USAGE: &str = "usage: compare-pages SEED COUNT";
-
 fn main() -> ExitCode {
-    let words: Vec<String> = env::args().skip(1).collect();
-    let numbers: Vec<u64> = words.iter().flat_map(|word| word.parse().ok()).collect();
-    let (2, &[seed, count]) = (words.len(), numbers.as_slice()) else {
-        eprintln!("{USAGE}");
+    let Some([seed, count]) = tables::seed_and_count("compare-pages") else {
         return ExitCode::from(2);
     };
     match with_room(move || compare(seed, count)) {

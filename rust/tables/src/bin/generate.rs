@@ -52,10 +52,7 @@ fn parse(words: &[String]) -> Option<Request> {
     if words.len() != 4 && words.len() != 5 {
         return None;
     }
-    let size = Size {
-        least: words[2].parse().ok()?,
-        most: words[3].parse().ok()?,
-    };
+    let size = Size::of(words[2].parse().ok()?, words[3].parse().ok()?);
     let sort = match words.get(4).map(String::as_str) {
         None | Some("check") => Sort::Check,
         Some("fill") => Sort::Fill,

@@ -1,11 +1,12 @@
 //! The words of the command line.
 
 use crate::batch::Batch;
-use crate::catalogue::{long, COMMANDS};
+use crate::catalogue::{long, COMMANDS, OPTIONS};
 use crate::completion::Shell;
 use crate::glob::Glob;
 use crate::help;
 use crate::make::{steps, Making};
+use crate::near::meant;
 use crate::overview::{Overview, Shape};
 use crate::question::{Kind, Question};
 use crate::tell::Telling;
@@ -158,7 +159,7 @@ pub fn parse(words: impl Iterator<Item = OsString>) -> Result<Command, String> {
         }),
         _ => {
             let kind = Kind::named(name.as_encoded_bytes()).filter(|kind| kind.takes_files());
-            let kind = kind.ok_or_else(|| format!("no command is called {name:?}"))?;
+            let kind = kind.ok_or_else(|| no_command(&name))?;
             match question(kind, &mut words.others)? {
                 Question::Derive { first, second } if words.has("--words") => {
                     Task::Tell(Telling::Why { first, second })
@@ -168,6 +169,12 @@ pub fn parse(words: impl Iterator<Item = OsString>) -> Result<Command, String> {
         }
     };
     files(&name, task, words)
+}
+
+fn no_command(name: &OsStr) -> String {
+    let commands = COMMANDS.iter().map(|entry| entry.name);
+    let meant = meant(&name.to_string_lossy(), commands);
+    format!("no command is called {name:?}{meant}")
 }
 
 /// How an answer is explained.
@@ -232,7 +239,11 @@ fn sort(words: impl Iterator<Item = OsString>) -> Result<Words, String> {
             Some((option, equal)) => (option, Some(equal)),
             None => (text, None),
         };
-        match long(text).ok_or_else(|| format!("no option is called {word:?}"))? {
+        let unknown = || {
+            let options = OPTIONS.iter().map(|(option, _)| *option);
+            format!("no option is called {word:?}{}", meant(text, options))
+        };
+        match long(text).ok_or_else(unknown)? {
             "--jobs" => {
                 let count = words.next();
                 let count = count.as_ref().and_then(|count| count.to_str());
@@ -268,9 +279,9 @@ fn help(words: &Words) -> Result<Command, String> {
         [] => Ok(Command::Help),
         [name] => match name.to_str().filter(|name| help::of(name).is_some()) {
             Some(name) => Ok(Command::HelpOf(name.to_string())),
-            None => Err(format!("no command is called {name:?}")),
+            None => Err(no_command(name)),
         },
-        _ => Err("help takes one command".to_string()),
+        _ => Err("help takes one command, or a refusal's number".to_string()),
     }
 }
 

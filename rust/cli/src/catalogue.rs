@@ -216,7 +216,8 @@ mod tests {
 
     /// The words in a text that begin with a dash.
     fn options_of(text: &str) -> BTreeSet<String> {
-        let is_part = |letter: char| letter.is_ascii_lowercase() || letter == '-';
+        let is_part =
+            |letter: char| letter.is_ascii_lowercase() || letter.is_ascii_digit() || letter == '-';
         let words = text.split(|letter: char| !is_part(letter));
         let words = words.filter(|word| word.starts_with("--") && word.len() > 2);
         words.map(str::to_string).collect()
@@ -260,11 +261,17 @@ mod tests {
                     ("edit", _) => "a row=2",
                     ("completion", _) => "bash",
                     ("batch" | "help", _) => "",
+                    ("fill", "--force") => "--table a",
+                    ("summary", "--pages") => "--html a",
                     _ => "a",
                 };
                 let word = option.replace("--jobs", "--jobs=2");
                 let word = word.replace("--then", "--then rows");
                 let word = word.replace("--only", "--only=*.table");
+                let word = match option {
+                    "--files0-from" | "--pages" | "--baseline" | "--against" => format!("{word} x"),
+                    _ => word,
+                };
                 let line = format!("{} {word} {rest}", entry.name);
                 let words = line.split_whitespace();
                 let words =

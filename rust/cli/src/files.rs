@@ -7,9 +7,11 @@ use crate::colour;
 use crate::folder::{self, Named};
 use crate::judge::{append_trouble, judge, Form};
 use crate::make::{hex_line, make};
+use crate::moments::absent;
 use crate::output::{complain, Output};
 use crate::parallel::{in_order, Giver, Taker};
 use crate::progress::Progress;
+use crate::question::Question;
 use crate::read::{listed, read, second, Given, Unread};
 use crate::sarif::{log, notification, results, Origin};
 use crate::summary::Summary;
@@ -18,8 +20,9 @@ use crate::verdict::Verdict;
 use crate::Status;
 use format::Object;
 use std::ffi::OsString;
+use std::io::{self, IsTerminal};
 use std::sync::atomic::AtomicBool;
-use stramashly::Checker;
+use stramashly::{Checker, DeriveAnswer};
 
 /// So many files go to a thread at once.
 const PIECE: usize = 8;
@@ -130,6 +133,14 @@ impl Writer<'_> {
             return self.keep(outcome);
         }
         let is_plain = !self.request.is_json;
+        if self.would_spoil_a_terminal(&outcome.bytes) {
+            self.highest = Status::Trouble;
+            let where_to =
+                "`> FILE` writes them there, --hex writes digits, --force writes them here";
+            return complain(&format!(
+                "a table's bytes aren't for a terminal: {where_to}"
+            ));
+        }
         self.summary.count(outcome.verdict);
         if let Some(likeness) = outcome.likeness {
             self.output.flush();
@@ -152,6 +163,12 @@ impl Writer<'_> {
             self.output.flush();
             complain(&reason.of(&outcome.name.to_string_lossy()));
         }
+    }
+
+    /// Whether these are bytes that nobody wants on the screen.
+    fn would_spoil_a_terminal(&self, bytes: &[u8]) -> bool {
+        let is_made = matches!(self.request.task, Task::Make(_)) && !self.request.is_forced;
+        is_made && bytes.contains(&0) && io::stdout().is_terminal()
     }
 
     /// Keeps an outcome for the log, which is written at the end.
@@ -178,7 +195,7 @@ impl Writer<'_> {
             self.output.flush();
             complain(&self.summary.text());
         }
-        if let Some(left_out) = &self.left_out {
+        if let Some(left_out) = self.left_out.as_ref().filter(|_| !self.request.is_quiet) {
             self.output.flush();
             complain(left_out);
         }
@@ -238,7 +255,7 @@ fn outcome(request: &Request, are_named: bool, checker: &mut Checker, name: Name
         status,
         bytes,
         reason,
-        likeness: likeness.filter(|_| status == Status::Refused),
+        likeness: likeness.filter(|_| status == Status::Refused && !request.is_quiet),
     }
 }
 
@@ -262,7 +279,14 @@ fn answer(
         Task::Judge(question) => {
             let pieces = [&given.table[..], second.unwrap_or_default()];
             let verdict = judge(checker, question, pieces, form, &mut text);
-            ((Some(verdict), verdict.status()), text.into_bytes(), None)
+            let told = match verdict {
+                Verdict::Refused if !request.is_quiet && !request.is_json => {
+                    absent_moment(question, pieces, checker)
+                }
+                _ => None,
+            };
+            let told = told.map(Unread::from);
+            ((Some(verdict), verdict.status()), text.into_bytes(), told)
         }
         Task::Tell(telling) => {
             let given = given.joined(second, checker);
@@ -281,4 +305,22 @@ fn answer(
             Err((status, reason)) => ((None, status), Vec::new(), Some(reason)),
         },
     }
+}
+
+/// Which of two moments isn't there, where that is why there is no derivation.
+fn absent_moment(question: &Question, pieces: [&[u8]; 2], checker: &mut Checker) -> Option<String> {
+    let (first, second) = match question {
+        Question::Derive { first, second } => (*first, *second),
+        Question::Accepts { first, second, .. } => (*first, *second),
+        _ => return None,
+    };
+    let answer = checker.derive(pieces, first, second);
+    if !matches!(answer, DeriveAnswer::Refused { number: 12, .. }) {
+        return None;
+    }
+    let table = match pieces[1] {
+        [] => pieces[0].to_vec(),
+        _ => words::joined(pieces).ok()?,
+    };
+    absent(&table, first, second)
 }

@@ -366,7 +366,7 @@ mod tests {
             ("p-private", Cause::Private),
             ("p-not-visible", Cause::Invisible),
             ("p-two-workgroups", Cause::NarrowAvailable),
-            ("other-class", Cause::Unsynchronized),
+            ("other-class", Cause::Unavailable),
             ("upload-no-domain", Cause::Host),
         ] {
             assert_eq!(cause(name), Some(expected), "{name}");

@@ -18,6 +18,8 @@ mod input;
 mod judge;
 mod line;
 mod make;
+mod moments;
+mod near;
 mod output;
 mod overview;
 mod parallel;
@@ -46,10 +48,22 @@ enum Status {
     Trouble = 4,
 }
 
+/// The version, then the commit of the sources and the kit that the library was
+/// proved with.
+const VERSION: &str = concat!(
+    "stramashly ",
+    env!("CARGO_PKG_VERSION"),
+    "\ncommit ",
+    env!("STRAMASHLY_BUILT_COMMIT"),
+    "\nlibrary proved with ",
+    env!("STRAMASHLY_BUILT_KIT"),
+    "\n"
+);
+
 fn main() -> ExitCode {
     let status = match arguments::parse(std::env::args_os().skip(1)) {
         Ok(Command::Help) => print(help::TEXT),
-        Ok(Command::Version) => print(concat!("stramashly ", env!("CARGO_PKG_VERSION"), "\n")),
+        Ok(Command::Version) => print(VERSION),
         Ok(Command::Files(request)) => files::run(&request),
         Ok(Command::HelpOf(name)) => print(&help::of(&name).unwrap_or_default()),
         Ok(Command::Completion(shell)) => print(&completion::script(shell)),

@@ -10,7 +10,6 @@ use crate::near::meant;
 use crate::overview::{Overview, Shape};
 use crate::question::{Kind, Question};
 use crate::tell::Telling;
-use mend::Step;
 use std::collections::BTreeMap;
 use std::ffi::{OsStr, OsString};
 
@@ -146,7 +145,7 @@ pub fn parse(words: impl Iterator<Item = OsString>) -> Result<Command, String> {
         Some("completion") => return completion(&words),
         Some("fill") if words.has("--table") => Task::Make(Making::Filled),
         Some("make") => Task::Make(Making::Read),
-        Some("edit") => Task::Make(Making::Edited(edit(&mut words.others)?)),
+        Some("edit") => Task::Make(Making::Edited(steps(&rest(&mut words.others)?)?)),
         Some("show") => Task::Tell(match (words.has("--text"), words.has("--json-lines")) {
             (false, false) => Telling::Show,
             (true, false) => Telling::Text,
@@ -195,21 +194,17 @@ fn question(kind: Kind, others: &mut Vec<OsString>) -> Result<Question, String> 
     if !kind.takes_words() {
         return kind.question(&[]);
     }
-    let words = others.split_off(others.len().min(1));
-    let words: Result<Vec<&str>, String> = words.iter().map(|word| text(word)).collect();
-    kind.question(&words?)
+    let words = rest(others)?;
+    kind.question(&words.iter().map(String::as_str).collect::<Vec<_>>())
 }
 
-/// The steps of an edit, from the words after its file. They are taken out.
-fn edit(others: &mut Vec<OsString>) -> Result<Vec<Step>, String> {
-    let words = others.split_off(others.len().min(1));
-    let words: Result<Vec<&str>, String> = words.iter().map(|word| text(word)).collect();
-    steps(&words?)
-}
-
-fn text(word: &OsStr) -> Result<&str, String> {
-    let text = word.to_str();
-    text.ok_or_else(|| format!("{word:?} is neither number nor word"))
+/// The words after the file, taken out.
+fn rest(others: &mut Vec<OsString>) -> Result<Vec<String>, String> {
+    let words = others.split_off(others.len().min(1)).into_iter();
+    let words = words.map(OsString::into_string);
+    words
+        .map(|word| word.map_err(|word| format!("{word:?} is neither number nor word")))
+        .collect()
 }
 
 /// Sets the options apart; after `--` there are none.

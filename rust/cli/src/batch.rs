@@ -1,6 +1,5 @@
 //! `batch`: one table a line, or one table after the other.
 
-use crate::checker::checker;
 use crate::input;
 use crate::judge::{append_trouble, judge, Form};
 use crate::line::{asked, asked_with_id, Asked};
@@ -61,7 +60,7 @@ pub fn run(batch: Batch) -> Status {
 
 /// Answers each line before the next is read.
 fn one_by_one(batch: Batch) -> Status {
-    let mut checker = checker(batch.has_chains);
+    let mut checker = Checker::new().with_chains(batch.has_chains);
     let mut writer = Writer::new();
     let mut lines = Lines::new(batch);
     let mut highest = Status::Fine;
@@ -87,7 +86,7 @@ fn one_by_one(batch: Batch) -> Status {
 /// Answers lines in several threads, in order.
 fn spread(batch: Batch) -> Status {
     let (read, written) = in_order(
-        (batch.jobs, || checker(batch.has_chains)),
+        (batch.jobs, || Checker::new().with_chains(batch.has_chains)),
         |giver, is_enough| read_pieces(Lines::new(batch), giver, is_enough),
         |checker, asked| answer(checker, batch, asked),
         Writer::new,

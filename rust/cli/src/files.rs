@@ -2,7 +2,6 @@
 //! another table.
 
 use crate::arguments::{Request, Task};
-use crate::checker::checker;
 use crate::colour;
 use crate::folder::{self, Named};
 use crate::judge::{append_trouble, judge, Form};
@@ -67,8 +66,9 @@ pub fn run(request: &Request) -> Status {
     };
     let total = names.len();
     let writer = || Writer::new(request, are_named, total, left_out);
+    let checker = || Checker::new().with_chains(request.has_chains);
     if request.jobs == 1 {
-        let mut checker = checker(request.has_chains);
+        let mut checker = checker();
         let mut writer = writer();
         for name in names {
             writer.write(outcome(request, are_named, &mut checker, name));
@@ -82,7 +82,7 @@ pub fn run(request: &Request) -> Status {
         }
     };
     let work = |checker: &mut Checker, name| outcome(request, are_named, checker, name);
-    let threads = (request.jobs, || checker(request.has_chains));
+    let threads = (request.jobs, checker);
     in_order(threads, give, work, writer, Writer::finish).1
 }
 

@@ -4,7 +4,6 @@ mod answers;
 mod arguments;
 mod batch;
 mod catalogue;
-mod checker;
 mod colour;
 mod completion;
 mod explained;

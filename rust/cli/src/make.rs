@@ -97,7 +97,7 @@ fn filled(checker: &mut Checker, table: &[u8]) -> Result<Vec<u8>, (Status, Unrea
 
 /// The steps of an edit: words like `row 2 flags 3`, several with semicolons
 /// between them.
-pub fn steps(words: &[&str]) -> Result<Vec<Step>, String> {
+pub fn steps(words: &[String]) -> Result<Vec<Step>, String> {
     let steps = parse_steps(&words.join(";"))?;
     if steps.is_empty() {
         return Err("edit takes one table and what is to be changed, like 'row 2 flags 3'".into());

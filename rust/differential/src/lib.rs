@@ -20,28 +20,28 @@ pub use pieces::OfPieces;
 pub use reasons::{Derived, Moments, Probed};
 pub use tally::{Tally, FILLED, VERDICTS};
 
-use second::{Chains, CheckAnswer, FillAnswer, State};
+use second::{Chains, CheckAnswer, FillAnswer, Pieces, State};
 use stramashly::{
     check_by_flags, check_in, fill_by_flags, fill_in, Packed, CYCLE_NUMBERS, SOURCE_NUMBERS,
     WORK_WORDS,
 };
-use tables::{hex, Random};
+use tables::Random;
 
 /// A function of the library: chains, table, work area, cycle or source buffer.
-pub type Engine = fn(bool, &[u8], &mut [u64], &mut [u16]) -> Packed;
+pub type Engine = fn(bool, stramashly::Pieces, &mut [u64], &mut [u16]) -> Packed;
 
-/// The quick engine's and the obvious one's.
+/// The quick engine's and the obvious one's, which is asked of one piece.
 pub const CHECKS: [(&str, Engine); 2] = [
-    ("check", |on, table, work, cycle| {
-        check_in(on, table.into(), work, cycle)
+    ("check2", check_in),
+    ("check by flags", |on, pieces, work, cycle| {
+        check_by_flags(on, pieces.0[0], work, cycle)
     }),
-    ("check by flags", check_by_flags),
 ];
 pub const FILLS: [(&str, Engine); 2] = [
-    ("fill", |on, table, work, sources| {
-        fill_in(on, table.into(), work, sources)
+    ("fill2", fill_in),
+    ("fill by flags", |on, pieces, work, sources| {
+        fill_by_flags(on, pieces.0[0], work, sources)
     }),
-    ("fill by flags", fill_by_flags),
 ];
 
 /// Longer tables take the obvious engine long: it is asked of one in so many.
@@ -124,58 +124,36 @@ impl Comparison {
         table: &[u8],
         lengths: Lengths,
     ) -> Result<CheckAnswer, Difference> {
-        let Lengths { work, numbers } = lengths;
-        let answer = self.state.check_with(chains, table, work, numbers);
-        for (word, engine) in self.engines(CHECKS, table) {
-            let at = self.prepare(table, lengths);
-            let expected = expected::of_check(&answer, &mut self.expected);
-            let packed = self.ask(engine, chains, at, table.len());
-            let words = || format!("{word} {} {chains:?}", hex(table));
-            self.compare(words, lengths, packed, expected)?;
-        }
-        Ok(answer)
+        self.check_pieces_in(chains, [table, &[]], lengths)
     }
 
-    /// A fill with buffers of any length. A table that the second
-    /// implementation gives up on is not compared.
+    /// A fill with buffers of any length.
     pub fn fill_in(
         &mut self,
         chains: Chains,
         table: &[u8],
         lengths: Lengths,
     ) -> Result<FillAnswer, Difference> {
-        let Lengths { work, numbers } = lengths;
-        let answer = self.state.fill_with(chains, table, work, numbers);
-        for (word, engine) in self.engines(FILLS, table) {
-            let at = self.prepare(table, lengths);
-            let Some(expected) = expected::of_fill(&answer, &mut self.expected) else {
-                break;
-            };
-            let packed = self.ask(engine, chains, at, table.len());
-            let words = || format!("{word} {} {chains:?}", hex(table));
-            self.compare(words, lengths, packed, expected)?;
-        }
-        Ok(answer)
+        self.fill_pieces_in(chains, [table, &[]], lengths)
     }
 
-    /// Those that are asked of a table: the quick one always.
+    /// Those that are asked of a table: the quick one always, the obvious one of
+    /// one piece.
     fn engines(
         &mut self,
         both: [(&'static str, Engine); 2],
-        table: &[u8],
+        [first, second]: Pieces,
     ) -> impl Iterator<Item = (&'static str, Engine)> {
-        let is_asked = table.len() < SHORT_TABLE || self.random.below(LONG_TABLES) == 0;
+        let is_asked = first.len() < SHORT_TABLE || self.random.below(LONG_TABLES) == 0;
+        let is_asked = is_asked && second.is_empty();
         both.into_iter().take(if is_asked { 2 } else { 1 })
     }
 
-    /// The answer to the table of so many bytes that lies at a place among others.
-    fn ask(&mut self, engine: Engine, chains: Chains, at: usize, length: usize) -> Packed {
-        engine(
-            chains == Chains::On,
-            &self.around[at..at + length],
-            &mut self.ours.work,
-            &mut self.ours.numbers,
-        )
+    /// What an engine answers of pieces that lie among random bytes.
+    fn ask(&mut self, engine: Engine, chains: Chains, places: [(usize, usize); 2]) -> Packed {
+        let lent = places.map(|(at, size)| &self.around[at..at + size]);
+        let Lent { work, numbers } = &mut self.ours;
+        engine(chains == Chains::On, lent.into(), work, numbers)
     }
 
     /// Puts random words into the buffers, and the table among random bytes;

@@ -1,12 +1,12 @@
-//! Compares tables in two pieces: check, fill and report with the second
+//! Compares tables in one piece or two: check, fill and report with the second
 //! implementation, derivations with those of the joined table, and every row.
 
 use crate::reports::{compare_share, UNWRITTEN};
-use crate::{expected, Comparison, Difference, Lengths};
-use second::{joined, Chains, CheckAnswer, FillAnswer, Pieces};
+use crate::{expected, Comparison, Difference, Lengths, CHECKS, FILLS};
+use second::{joined, Chains, CheckAnswer, FillAnswer, Pieces, ReportAnswer};
 use stramashly::{
-    accepts_in, check_in, derive_in, fill_in, report_in, row_of_pieces, Packed, CHAIN_NUMBERS,
-    CYCLE_NUMBERS, PROGRAM_ORDER, SOURCE_NUMBERS, WORK_WORDS,
+    accepts_in, derive_in, report_in, row_of_pieces, Packed, CHAIN_NUMBERS, CYCLE_NUMBERS,
+    PROGRAM_ORDER, SOURCE_NUMBERS, WORK_WORDS,
 };
 use tables::{hex, MAX_ROWS};
 
@@ -24,7 +24,7 @@ impl Comparison {
     pub fn pieces(&mut self, chains: Chains, pieces: Pieces) -> Result<OfPieces, Difference> {
         let lengths = self.enough(CYCLE_NUMBERS);
         let check = self.check_pieces_in(chains, pieces, lengths)?;
-        self.report_of_pieces(chains, pieces, lengths)?;
+        self.report_pieces_in(chains, pieces, lengths)?;
         let lengths = self.enough(SOURCE_NUMBERS);
         let fill = self.fill_pieces_in(chains, pieces, lengths)?;
         let rows = self.rows_of_pieces(pieces)?;
@@ -40,13 +40,13 @@ impl Comparison {
     ) -> Result<CheckAnswer, Difference> {
         let Lengths { work, numbers } = lengths;
         let answer = self.state.check_pieces(chains, pieces, work, numbers);
-        let places = self.prepare_pieces(pieces, lengths);
-        let expected = expected::of_check(&answer, &mut self.expected);
-        let lent = places.map(|(at, size)| &self.around[at..at + size]);
-        let (work, cycle) = (&mut self.ours.work, &mut self.ours.numbers);
-        let packed = check_in(chains == Chains::On, lent.into(), work, cycle);
-        let words = || format!("check2 {} {chains:?}", shown(pieces));
-        self.compare(words, lengths, packed, expected)?;
+        for (word, engine) in self.engines(CHECKS, pieces) {
+            let places = self.prepare_pieces(pieces, lengths);
+            let expected = expected::of_check(&answer, &mut self.expected);
+            let packed = self.ask(engine, chains, places);
+            let words = || format!("{word} {} {chains:?}", shown(pieces));
+            self.compare(words, lengths, packed, expected)?;
+        }
         Ok(answer)
     }
 
@@ -60,23 +60,25 @@ impl Comparison {
     ) -> Result<FillAnswer, Difference> {
         let Lengths { work, numbers } = lengths;
         let answer = self.state.fill_pieces(chains, pieces, work, numbers);
-        let places = self.prepare_pieces(pieces, lengths);
-        if let Some(expected) = expected::of_fill(&answer, &mut self.expected) {
-            let lent = places.map(|(at, size)| &self.around[at..at + size]);
-            let (work, sources) = (&mut self.ours.work, &mut self.ours.numbers);
-            let packed = fill_in(chains == Chains::On, lent.into(), work, sources);
-            let words = || format!("fill2 {} {chains:?}", shown(pieces));
+        for (word, engine) in self.engines(FILLS, pieces) {
+            let places = self.prepare_pieces(pieces, lengths);
+            let Some(expected) = expected::of_fill(&answer, &mut self.expected) else {
+                break;
+            };
+            let packed = self.ask(engine, chains, places);
+            let words = || format!("{word} {} {chains:?}", shown(pieces));
             self.compare(words, lengths, packed, expected)?;
         }
         Ok(answer)
     }
 
-    fn report_of_pieces(
+    /// A report of two pieces with buffers of any length.
+    pub fn report_pieces_in(
         &mut self,
         chains: Chains,
         pieces: Pieces,
         lengths: Lengths,
-    ) -> Result<(), Difference> {
+    ) -> Result<ReportAnswer, Difference> {
         let Lengths { work, numbers } = lengths;
         let answer = self.state.report_pieces(chains, pieces, work, numbers);
         let places = self.prepare_pieces(pieces, lengths);
@@ -87,7 +89,8 @@ impl Comparison {
         let packed = report_in(chains == Chains::On, lent.into(), work, cycle, &mut share);
         let words = || format!("report2 {} {chains:?}", shown(pieces));
         self.compare(words, lengths, packed, expected)?;
-        compare_share(&answer, share)
+        compare_share(&answer, share)?;
+        Ok(answer)
     }
 
     /// A derivation in two pieces is that of the joined table, with all that

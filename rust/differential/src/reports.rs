@@ -1,10 +1,9 @@
 //! Compares reports: the counts, every number of the lent buffers, and the
 //! share.
 
-use crate::{expected, Comparison, Difference, Lengths};
+use crate::{Comparison, Difference, Lengths};
 use second::{Chains, ReportAnswer};
-use stramashly::{report_in, CYCLE_NUMBERS};
-use tables::hex;
+use stramashly::CYCLE_NUMBERS;
 
 impl Comparison {
     /// A report with buffers that are long enough, chains off.
@@ -29,18 +28,7 @@ impl Comparison {
         table: &[u8],
         lengths: Lengths,
     ) -> Result<ReportAnswer, Difference> {
-        let Lengths { work, numbers } = lengths;
-        let answer = self.state.report_with(chains, table, work, numbers);
-        let at = self.prepare(table, lengths);
-        let expected = expected::of_report(&answer, &mut self.expected);
-        let lent = &self.around[at..at + table.len()];
-        let (work, cycle) = (&mut self.ours.work, &mut self.ours.numbers);
-        let mut share = UNWRITTEN;
-        let packed = report_in(chains == Chains::On, lent.into(), work, cycle, &mut share);
-        let words = || format!("report {} {chains:?}", hex(table));
-        self.compare(words, lengths, packed, expected)?;
-        compare_share(&answer, share)?;
-        Ok(answer)
+        self.report_pieces_in(chains, [table, &[]], lengths)
     }
 }
 

@@ -2,7 +2,7 @@
 
 use differential::{Comparison, Tally, FILLED, VERDICTS};
 use second::{Chains, CheckAnswer};
-use tables::{chained, chained_fillable, checkable, hosted, moved, Random, Size};
+use tables::{chained, chained_fillable, checkable, hosted, Random, Size};
 
 const SMALL: Size = Size::of(6, 14);
 const MIDDLE: Size = Size::of(15, 32);
@@ -66,21 +66,5 @@ fn other_tables() {
     }
     for words in ["check race-free", "check race", "check cycle"] {
         assert!(tally.of(words) > 100, "{words}:\n{tally}");
-    }
-}
-
-/// The order of the page doesn't matter with chains on either.
-#[test]
-fn moved_tables() {
-    let mut random = Random::new(1005);
-    let mut comparison = Comparison::new(1005);
-    let mut word = |table: &[u8]| {
-        let answer = comparison.check_with(Chains::On, table).unwrap();
-        answer.to_string().split(' ').next().unwrap().to_string()
-    };
-    for _ in 0..600 {
-        let table = chained(&mut random, MIDDLE);
-        let moved = moved(&mut random, &table);
-        assert_eq!(word(&table.bytes()), word(&moved.table.bytes()));
     }
 }

@@ -16,7 +16,7 @@ fn fastest(engine: Engine, table: &[u8]) -> (Packed, Duration) {
     let (mut work, mut numbers) = (vec![0; WORK_WORDS], vec![0; CYCLE_NUMBERS]);
     let runs = (0..5).map(|_| {
         let start = Instant::now();
-        let answer = engine(false, table, &mut work, &mut numbers);
+        let answer = engine(false, table.into(), &mut work, &mut numbers);
         (answer, start.elapsed())
     });
     runs.min_by_key(|(_, time)| *time).unwrap()

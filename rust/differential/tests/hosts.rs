@@ -1,8 +1,7 @@
 //! Tables of version 3, checked, filled, reported and derived by both.
 
 use differential::{every_byte_changed, Comparison, Derived, Tally, FILLED, VERDICTS};
-use stramashly::Checker;
-use tables::{damaged_hosted, hosted, hosted_fillable, moved, Random, Size};
+use tables::{damaged_hosted, hosted, hosted_fillable, Random, Size};
 
 /// How often the orders that only this version has were met.
 #[derive(Default)]
@@ -126,30 +125,4 @@ fn every_pair_of_moments_of_small_tables() {
         }
     }
     assert!(by_system > 150, "{by_system}");
-}
-
-/// Dependencies go with their rows.
-#[test]
-fn moved_tables() {
-    let mut random = Random::new(907);
-    let mut checker = Checker::new();
-    let word = |answer: &str| answer.split(' ').next().unwrap().to_string();
-    for _ in 0..1500 {
-        let table = hosted_fillable(&mut random, Size::of(3, 20));
-        let moved = moved(&mut random, &table);
-        let (bytes, other) = (table.bytes(), moved.table.bytes());
-        let checked = word(&checker.check(&bytes).to_string());
-        assert_eq!(word(&checker.check(&other).to_string()), checked);
-        let filled = match checker.fill(&bytes) {
-            stramashly::FillAnswer::Filled(sources) => Some(moved.sources(sources)),
-            _ => None,
-        };
-        let answer = checker.fill(&bytes).to_string();
-        match checker.fill(&other) {
-            stramashly::FillAnswer::Filled(sources) => {
-                assert_eq!(Some(sources.to_vec()), filled);
-            }
-            other => assert_eq!(word(&other.to_string()), word(&answer)),
-        }
-    }
 }

@@ -5,7 +5,7 @@
 use differential::{Tally, FILLED, VERDICTS};
 use second::{CheckAnswer, FillAnswer, State};
 use stramashly::Checker;
-use tables::{checkable, fillable, hex, moved, Random, Size, Table};
+use tables::{chained, checkable, fillable, hex, hosted_fillable, moved, Random, Size, Table};
 
 /// What must not change.
 fn word(answer: &stramashly::CheckAnswer) -> &'static str {
@@ -93,4 +93,24 @@ fn middle_tables() {
 #[test]
 fn largest_tables() {
     compare_many(703, 50, Size::LARGEST, 2);
+}
+
+/// Dependencies go with their rows.
+#[test]
+fn hosted_tables() {
+    let (mut random, mut checker) = (Random::new(907), Checker::new());
+    for _ in 0..1500 {
+        let table = hosted_fillable(&mut random, Size::of(3, 20));
+        compare(&mut random, &mut checker, &table, 1);
+    }
+}
+
+/// The same with chains on.
+#[test]
+fn chained_tables() {
+    let (mut random, mut checker) = (Random::new(1005), Checker::new().with_chains(true));
+    for _ in 0..600 {
+        let table = chained(&mut random, Size::of(15, 32));
+        compare(&mut random, &mut checker, &table, 1);
+    }
 }

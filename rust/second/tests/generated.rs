@@ -51,21 +51,35 @@ fn equal_seeds_give_equal_tables() {
     assert_ne!(tables(5), tables(6));
 }
 
+/// Each verdict has so many percent of the generator's tables.
+fn assert_verdicts(
+    seed: u64,
+    (count, size): (usize, Size),
+    generator: fn(&mut Random, Size) -> Table,
+    percent: usize,
+) {
+    let mut random = Random::new(seed);
+    let mut state = State::new();
+    let mut shares = Shares::default();
+    for _ in 0..count {
+        let table = generator(&mut random, size);
+        assert!((size.least..=size.most).contains(&table.rows.len()));
+        shares.count(&check(&mut state, &table.bytes()).to_string());
+    }
+    for word in ["race-free", "race", "cycle", "overwritten"] {
+        assert!(
+            shares.percent(word) >= percent,
+            "{word} {:?}",
+            shares.counts
+        );
+    }
+    assert_eq!(shares.percent("refused"), 0);
+}
+
 #[test]
 fn each_verdict_of_a_check_has_a_tenth() {
     for size in [SMALL, MIDDLE] {
-        let mut random = Random::new(1);
-        let mut state = State::new();
-        let mut shares = Shares::default();
-        for _ in 0..400 {
-            let table = checkable(&mut random, size);
-            assert!((size.least..=size.most).contains(&table.rows.len()));
-            shares.count(&check(&mut state, &table.bytes()).to_string());
-        }
-        for word in ["race-free", "race", "cycle", "overwritten"] {
-            assert!(shares.percent(word) >= 10, "{word} {:?}", shares.counts);
-        }
-        assert_eq!(shares.percent("refused"), 0);
+        assert_verdicts(1, (400, size), checkable, 10);
     }
 }
 
@@ -200,18 +214,7 @@ fn generated_tables_reach_the_rules() {
 
 #[test]
 fn each_verdict_of_hosted_tables_has_its_share() {
-    let mut random = Random::new(8);
-    let mut state = State::new();
-    let mut shares = Shares::default();
-    for _ in 0..1000 {
-        let table = hosted(&mut random, MIDDLE);
-        assert!((MIDDLE.least..=MIDDLE.most).contains(&table.rows.len()));
-        shares.count(&check(&mut state, &table.bytes()).to_string());
-    }
-    for word in ["race-free", "race", "cycle", "overwritten"] {
-        assert!(shares.percent(word) >= 5, "{word} {:?}", shares.counts);
-    }
-    assert_eq!(shares.percent("refused"), 0);
+    assert_verdicts(8, (1000, MIDDLE), hosted, 5);
 }
 
 #[test]

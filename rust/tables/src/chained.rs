@@ -1,8 +1,8 @@
 //! Tables whose data goes by availability and visibility chains.
 
-use crate::builder::{flags, kind, scope, Table, BLANK};
+use crate::builder::{flags, scope, Table};
 use crate::episode::{chain_episode, episode};
-use crate::generator::{count_some, mutate_some, run_of, shuffle_agents, Size};
+use crate::generator::{count_some, mutate_some, run_of, shuffle_agents, with_blanks, Size};
 use crate::mutation::{make_cyclic, make_stale, repair, rows_that};
 use crate::random::Random;
 
@@ -28,14 +28,8 @@ pub fn chained(random: &mut Random, size: Size) -> Table {
 
 /// A table for a fill: like one for a check, with blanks in most of them.
 pub fn chained_fillable(random: &mut Random, size: Size) -> Table {
-    let mut table = chained(random, size);
-    let share = random.pick(&[0, 30, 60, 60, 100]);
-    for row in &mut table.rows {
-        if row.kind == kind::PLAIN_READ && random.percent(share) {
-            row.source = BLANK;
-        }
-    }
-    table
+    let table = chained(random, size);
+    with_blanks(random, table)
 }
 
 fn run(random: &mut Random, size: Size) -> Table {

@@ -76,13 +76,8 @@ pub fn fillable(random: &mut Random, size: Size) -> Table {
         55..=71 => Plan::Mutated,
         _ => Plan::Scrambled,
     };
-    let mut table = planned(random, size, plan);
-    let share = random.pick(&[0, 30, 60, 60, 100]);
-    for row in &mut table.rows {
-        if row.kind == kind::PLAIN_READ && random.percent(share) {
-            row.source = BLANK;
-        }
-    }
+    let table = planned(random, size, plan);
+    let mut table = with_blanks(random, table);
     count_some(random, &mut table);
     shuffle_agents(random, &mut table);
     table
@@ -236,4 +231,15 @@ fn widen_read(random: &mut Random, table: &mut Table) -> bool {
     row.length = (row.length + random.pick(&[1, 2, 3])).min(16);
     repair(random, table);
     true
+}
+
+/// The table with blanks in the place of no plain sources, of some or of all.
+pub(crate) fn with_blanks(random: &mut Random, mut table: Table) -> Table {
+    let share = random.pick(&[0, 30, 60, 60, 100]);
+    for row in &mut table.rows {
+        if row.kind == kind::PLAIN_READ && random.percent(share) {
+            row.source = BLANK;
+        }
+    }
+    table
 }

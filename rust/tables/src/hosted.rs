@@ -1,8 +1,8 @@
 //! Tables of version 3: runs of shaders with hosts and queues beside them.
 
-use crate::builder::{kind, sort, Build, Row, Table, BLANK, INITIAL, MAX_DEPENDENCIES};
+use crate::builder::{sort, Build, Row, Table, INITIAL, MAX_DEPENDENCIES};
 use crate::episode::{episode, hosted_episode, Cast, Ground};
-use crate::generator::{agents, append, shuffle_agents, Size};
+use crate::generator::{agents, append, shuffle_agents, with_blanks, Size};
 use crate::mutation::{make_cyclic, make_stale, mutate, repair, rows_that};
 use crate::random::Random;
 
@@ -31,14 +31,8 @@ pub fn hosted(random: &mut Random, size: Size) -> Table {
 
 /// A table for a fill: like one for a check, with blanks in most of them.
 pub fn hosted_fillable(random: &mut Random, size: Size) -> Table {
-    let mut table = hosted(random, size);
-    let share = random.pick(&[0, 30, 60, 60, 100]);
-    for row in &mut table.rows {
-        if row.kind == kind::PLAIN_READ && random.percent(share) {
-            row.source = BLANK;
-        }
-    }
-    table
+    let table = hosted(random, size);
+    with_blanks(random, table)
 }
 
 /// A race-free and consistent run of the wanted size, with few exceptions.

@@ -141,7 +141,7 @@ fn tables_are_made_of_one_file() {
     let Task::Make(Making::Edited(steps)) = request.task else {
         panic!();
     };
-    let steps: Vec<String> = steps.iter().map(Step::to_string).collect();
+    let steps: Vec<String> = steps.iter().map(ToString::to_string).collect();
     let expected = ["row 2 flags 3", "row 0 scope 1", "insert 0 kind 1 agent 0"];
     assert_eq!(steps, expected);
     let why = Telling::Why {

@@ -5,7 +5,6 @@ use super::known::Earlier;
 use super::show::{gone, share, standing};
 use super::tally::{Counts, Tally};
 use super::{Overview, Verdict};
-use crate::checker::checker;
 use crate::output::complain;
 use crate::read::read_named;
 use crate::sarif::uri;
@@ -14,6 +13,7 @@ use std::collections::BTreeMap;
 use std::ffi::OsStr;
 use std::fs;
 use std::path::Path;
+use stramashly::Checker;
 use words::explain_noted;
 
 const SHEET: &str = "\
@@ -251,7 +251,7 @@ impl Links {
             complain(&format!("{}: {error}", folder.to_string_lossy()));
             return Links(links);
         }
-        let mut checker = checker(overview.has_chains);
+        let mut checker = Checker::new().with_chains(overview.has_chains);
         let worst = tally.worst.iter().map(|run| &run.name);
         let examples = tally.groups().into_iter().map(|(_, group)| &group.example);
         for name in worst.chain(examples) {

@@ -6,7 +6,6 @@ mod show;
 mod tally;
 
 use crate::answers::Answer;
-use crate::checker::checker;
 use crate::folder::{self, Named};
 use crate::found::{conflicting, found, Found};
 use crate::glob::Glob;
@@ -140,7 +139,7 @@ fn summed_up(overview: &Overview, files: Files, earlier: Earlier) -> Status {
     let writer = || Writer::new(overview, total);
     let finish = |writer: Writer| writer.finish(&earlier, left_out);
     if overview.jobs == 1 {
-        let mut checker = checker(overview.has_chains);
+        let mut checker = Checker::new().with_chains(overview.has_chains);
         let mut writer = writer();
         for name in names {
             writer.add(judged(overview, &mut checker, name));
@@ -154,7 +153,9 @@ fn summed_up(overview: &Overview, files: Files, earlier: Earlier) -> Status {
         }
     };
     let work = |checker: &mut Checker, name| judged(overview, checker, name);
-    let threads = (overview.jobs, || checker(overview.has_chains));
+    let threads = (overview.jobs, || {
+        Checker::new().with_chains(overview.has_chains)
+    });
     in_order(threads, give, work, writer, finish).1
 }
 

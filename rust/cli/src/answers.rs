@@ -210,10 +210,7 @@ impl Answer for ReportAnswer<'_> {
 
 /// A refusal of the header names no row.
 fn refused_row(number: u16, row: u16) -> Vec<u16> {
-    match is_of_a_row(number) {
-        true => vec![row],
-        false => Vec::new(),
-    }
+    is_of_a_row(number).then_some(row).into_iter().collect()
 }
 
 fn put_race(object: &mut Object, first: u16, second: u16, byte: u16) {

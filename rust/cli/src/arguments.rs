@@ -12,6 +12,7 @@ use crate::question::{Kind, Question};
 use crate::tell::Telling;
 use std::collections::BTreeMap;
 use std::ffi::{OsStr, OsString};
+use std::num::NonZero;
 
 /// What is asked for.
 #[derive(Debug, PartialEq, Eq)]
@@ -65,8 +66,13 @@ impl Request {
         let is_of_one = matches!(
             self.task,
             Task::Judge(Question::Derive { .. } | Question::Accepts { .. })
-                | Task::Tell(Telling::Draw { .. } | Telling::Page { .. } | Telling::Why { .. })
-                | Task::Tell(Telling::Text | Telling::Lines)
+                | Task::Tell(
+                    Telling::Draw { .. }
+                        | Telling::Page { .. }
+                        | Telling::Why { .. }
+                        | Telling::Text
+                        | Telling::Lines
+                )
                 | Task::Make(_)
         );
         !is_of_one
@@ -297,7 +303,7 @@ fn completion(words: &Words) -> Result<Command, String> {
 /// How many threads work if nobody says it: a log is whole only at its end, so that
 /// all may.
 fn threads(is_log: bool) -> usize {
-    let all = std::thread::available_parallelism().map_or(1, |count| count.get());
+    let all = std::thread::available_parallelism().map_or(1, NonZero::get);
     if is_log {
         all.min(MOST_JOBS)
     } else {

@@ -93,8 +93,7 @@ impl Expanded {
     /// Adds the files below a directory, by their names. One that can't be read
     /// is told, and the others are taken all the same.
     fn add(&mut self, top: &Path, folder: &Path, only: Option<&Glob>) {
-        let entries =
-            fs::read_dir(folder).and_then(|entries| entries.collect::<Result<Vec<_>, _>>());
+        let entries = fs::read_dir(folder).and_then(Iterator::collect::<Result<Vec<_>, _>>);
         let mut entries = match entries {
             Ok(entries) => entries,
             Err(error) => {
@@ -102,7 +101,7 @@ impl Expanded {
                 return self.files.push(Err((name, error.to_string())));
             }
         };
-        entries.sort_by_key(|entry| entry.file_name());
+        entries.sort_by_key(fs::DirEntry::file_name);
         for entry in entries {
             let path = entry.path();
             if entry.file_name().as_encoded_bytes().starts_with(b".") {

@@ -108,20 +108,17 @@ pub fn race(table: &[u8], notes: &Notes, (first, second): (u16, u16)) -> Found {
     let rows = Rows::of(table);
     let cause = rows.cause(first.into(), second.into());
     let places = [first, second].map(|row| notes.place(row.into()));
-    let (what, key) = match places {
-        [Some(one), Some(other)] => {
-            let mut places = [one.to_string(), other.to_string()];
-            places.sort();
-            let what = format!("race of {} and {}", places[0], places[1]);
-            (what.clone(), what)
-        }
-        _ => {
-            let mut kinds = [first, second].map(|row| rows.described(row.into()));
-            kinds.sort();
-            let what = format!("race of {} and {}", kinds[0], kinds[1]);
-            let key = format!("{what}: {cause}");
-            (what, key)
-        }
+    let (what, key) = if let [Some(one), Some(other)] = places {
+        let mut places = [one.to_string(), other.to_string()];
+        places.sort();
+        let what = format!("race of {} and {}", places[0], places[1]);
+        (what.clone(), what)
+    } else {
+        let mut kinds = [first, second].map(|row| rows.described(row.into()));
+        kinds.sort();
+        let what = format!("race of {} and {}", kinds[0], kinds[1]);
+        let key = format!("{what}: {cause}");
+        (what, key)
     };
     Found {
         what: format!("{what}: {cause}"),
@@ -161,7 +158,7 @@ pub fn conflicting(table: &[u8]) -> u64 {
         let access = (u32::from(row.start), row.end(), row.writes());
         let earlier = accesses[..count].iter();
         let meets = |(start, end, writes): &&(u32, u32, bool)| {
-            (*writes | access.2) & (*start < access.1) & (access.0 < *end)
+            *start < access.1 && access.0 < *end && (*writes || access.2)
         };
         pairs += earlier.filter(meets).count() as u64;
         accesses[count] = access;

@@ -31,7 +31,13 @@ pub fn asked(line: &[u8]) -> Option<Result<Asked, String>> {
             question: Question::Write(writing),
             pieces: Default::default(),
         }),
-        Some((kind, false)) if !kind.takes_words() => of_digits(kind, (end, &line[end..])),
+        Some((kind, false)) if !kind.takes_words() => {
+            bytes((end, &line[end..])).and_then(|(table, _)| {
+                let pieces = [table, Vec::new()];
+                kind.question(&[])
+                    .map(|question| Asked { question, pieces })
+            })
+        }
         Some((kind, is_in_pieces)) => of_words(kind, is_in_pieces, rest),
     };
     Some(asked)
@@ -60,7 +66,10 @@ pub fn asked_with_id(line: &[u8]) -> Option<(Option<String>, Result<Asked, Strin
         .is_some_and(|(_, word)| Kind::of_line(word).is_some());
     let asked = match is_command {
         true => asked(&rest)?,
-        false => of_digits(Kind::Check, (tab + 1, &line[tab + 1..])),
+        false => bytes((tab + 1, &line[tab + 1..])).map(|(table, _)| Asked {
+            question: Question::Check,
+            pieces: [table, Vec::new()],
+        }),
     };
     Some((Some(id), asked))
 }
@@ -79,14 +88,6 @@ fn bytes((at, digits): Word) -> Result<(Vec<u8>, u64), String> {
     let mut hex = Hex::after(at);
     let read = hex.push(digits, KEPT_BYTES).and_then(|()| hex.bytes());
     read.map_err(|bad: Bad| bad.to_string())
-}
-
-fn of_digits(kind: Kind, digits: Word) -> Result<Asked, String> {
-    let (table, _) = bytes(digits)?;
-    Ok(Asked {
-        question: kind.question(&[])?,
-        pieces: [table, Vec::new()],
-    })
 }
 
 fn of_words<'a>(

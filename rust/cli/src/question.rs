@@ -71,16 +71,16 @@ impl Kind {
         and of two pieces the first five with a 2, and row2";
 
     pub fn named(name: &[u8]) -> Option<Kind> {
-        match name {
-            b"check" => Some(Kind::Check),
-            b"fill" => Some(Kind::Fill),
-            b"report" => Some(Kind::Report),
-            b"derive" => Some(Kind::Derive),
-            b"accepts" => Some(Kind::Accepts),
-            b"rows" => Some(Kind::Rows),
-            b"write" => Some(Kind::Write),
-            _ => None,
-        }
+        Some(match name {
+            b"check" => Kind::Check,
+            b"fill" => Kind::Fill,
+            b"report" => Kind::Report,
+            b"derive" => Kind::Derive,
+            b"accepts" => Kind::Accepts,
+            b"rows" => Kind::Rows,
+            b"write" => Kind::Write,
+            _ => return None,
+        })
     }
 
     /// Whether files can be asked it, and not only the lines of a batch.

@@ -67,15 +67,13 @@ impl Verdict {
     /// Green for what is fine, red for what isn't, yellow for refusals, magenta
     /// for impossible runs.
     fn colour(self) -> Option<u8> {
-        match self {
-            Verdict::Report(_) => None,
-            _ => match self.status() {
-                Status::Fine => Some(32),
-                Status::No => Some(31),
-                Status::Refused => Some(33),
-                Status::Inconsistent => Some(35),
-                Status::Trouble => None,
-            },
+        match self.status() {
+            _ if matches!(self, Verdict::Report(_)) => None,
+            Status::Fine => Some(32),
+            Status::No => Some(31),
+            Status::Refused => Some(33),
+            Status::Inconsistent => Some(35),
+            Status::Trouble => None,
         }
     }
 

@@ -170,7 +170,7 @@ fn validate_object(node: &Node, kind: &str) {
         let (_, kind) = property.unwrap_or_else(|| panic!("{kind} has no {}", member.key));
         validate(&member.node, kind);
     }
-    for (key, _) in properties.iter() {
+    for (key, _) in *properties {
         if let Some(key) = key.strip_prefix('!') {
             assert!(
                 members.iter().any(|member| member.key == key),

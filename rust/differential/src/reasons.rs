@@ -165,14 +165,13 @@ impl Moments<'_> {
         second: u16,
         claim: &Claim,
     ) -> Result<AcceptsAnswer, Difference> {
-        let answer = match self.admission {
-            Err((number, row)) => AcceptsAnswer::Refused { number, row },
-            Ok(()) => {
-                let derivation = claim.derivation();
-                self.comparison
-                    .state
-                    .accepts_of_last(first, second, derivation)
-            }
+        let answer = if let Err((number, row)) = self.admission {
+            AcceptsAnswer::Refused { number, row }
+        } else {
+            let derivation = claim.derivation();
+            self.comparison
+                .state
+                .accepts_of_last(first, second, derivation)
         };
         let expected = match answer {
             AcceptsAnswer::Refused { number, row } => {

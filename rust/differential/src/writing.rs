@@ -54,7 +54,7 @@ impl Comparison {
         let answer = self.state.step_through(table);
         let ours = match Rows::open(table) {
             Ok(mut rows) => {
-                let all = rows.by_ref().map(|row| row.bytes()).collect();
+                let all = rows.by_ref().map(stramashly::Row::bytes).collect();
                 let is_over = (0..3).all(|_| rows.next().is_none());
                 is_over.then_some(RowsAnswer::Rows(all))
             }

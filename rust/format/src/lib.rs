@@ -5,8 +5,6 @@
 //! alone and has its own rows, kinds and limits, so that a slip here is one that
 //! it doesn't share.
 
-#![deny(missing_docs)]
-
 mod hex;
 mod json;
 mod row;
@@ -33,7 +31,6 @@ pub const MAX_TABLE_BYTES: usize =
     8 + 8 * MAX_AGENTS + ROW_BYTES * MAX_ROWS + 2 + 4 * MAX_DEPENDENCIES;
 
 /// Kinds of rows.
-#[allow(missing_docs)]
 pub mod kind {
     pub const PLAIN_READ: u8 = 0;
     pub const PLAIN_WRITE: u8 = 1;
@@ -51,7 +48,6 @@ pub mod kind {
 }
 
 /// Sorts of agents.
-#[allow(missing_docs)]
 pub mod sort {
     pub const SHADER: u16 = 0;
     pub const HOST: u16 = 1;
@@ -59,7 +55,6 @@ pub mod sort {
 }
 
 /// Memory orders.
-#[allow(missing_docs)]
 pub mod order {
     pub const RELAXED: u8 = 0;
     pub const ACQUIRE: u8 = 1;
@@ -68,7 +63,6 @@ pub mod order {
 }
 
 /// Scopes.
-#[allow(missing_docs)]
 pub mod scope {
     pub const INVOCATION: u8 = 0;
     pub const SUBGROUP: u8 = 1;
@@ -78,7 +72,6 @@ pub mod scope {
 }
 
 /// Sets of semantics classes, to be added up.
-#[allow(missing_docs)]
 pub mod classes {
     pub const UNIFORM: u8 = 1;
     pub const WORKGROUP: u8 = 2;
@@ -87,7 +80,6 @@ pub mod classes {
 }
 
 /// Flags, to be added up.
-#[allow(missing_docs)]
 pub mod flags {
     pub const NON_PRIVATE: u8 = 1;
     pub const MAKE_AVAILABLE: u8 = 2;

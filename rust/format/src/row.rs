@@ -53,26 +53,15 @@ impl Row {
 
     /// The row's sixteen bytes.
     pub fn bytes(self) -> [u8; ROW_BYTES] {
-        let [start, reference, source, rank] =
-            [self.start, self.reference, self.source, self.rank].map(u16::to_be_bytes);
-        [
-            self.kind,
-            self.agent,
-            self.order,
-            self.scope,
-            self.classes,
-            self.flags,
-            self.class,
-            self.length,
-            start[0],
-            start[1],
-            reference[0],
-            reference[1],
-            source[0],
-            source[1],
-            rank[0],
-            rank[1],
-        ]
+        let [kind, agent, order, scope] = [self.kind, self.agent, self.order, self.scope];
+        let mut bytes = [0; ROW_BYTES];
+        bytes[..4].copy_from_slice(&[kind, agent, order, scope]);
+        bytes[4..8].copy_from_slice(&[self.classes, self.flags, self.class, self.length]);
+        let numbers = [self.start, self.reference, self.source, self.rank];
+        for (place, number) in numbers.into_iter().enumerate() {
+            bytes[8 + 2 * place..][..2].copy_from_slice(&number.to_be_bytes());
+        }
+        bytes
     }
 
     /// Whether it reaches memory.

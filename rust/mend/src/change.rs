@@ -77,37 +77,18 @@ pub const MOST_ARROWS: usize = MOST_OPERATIONS + 1;
 
 impl Reason {
     /// The same of rows that have other numbers.
-    pub fn renumbered(self, number: impl Fn(usize) -> usize) -> Reason {
-        match self {
-            Reason::NoHandshake {
-                before,
-                after,
-                scope,
-                classes,
-            } => Reason::NoHandshake {
-                before: number(before),
-                after: number(after),
-                scope,
-                classes,
-            },
-            Reason::NoMeeting {
-                before,
-                after,
-                scope,
-                classes,
-            } => Reason::NoMeeting {
-                before: number(before),
-                after: number(after),
-                scope,
-                classes,
-            },
-            Reason::Private { row } => Reason::Private { row: number(row) },
-            Reason::OtherReference { row, other } => Reason::OtherReference {
-                row: number(row),
-                other: number(other),
-            },
+    pub fn renumbered(mut self, number: impl Fn(usize) -> usize) -> Reason {
+        match &mut self {
+            Reason::NoHandshake { before, after, .. } | Reason::NoMeeting { before, after, .. } => {
+                (*before, *after) = (number(*before), number(*after));
+            }
+            Reason::OtherReference { row, other } => {
+                (*row, *other) = (number(*row), number(*other));
+            }
+            Reason::Private { row } => *row = number(*row),
             // New rows go with no others.
-            other => other,
+            _ => (),
         }
+        self
     }
 }

@@ -421,11 +421,8 @@ impl<'a> Searcher<'a> {
         let table = stepped(self.table, &cure.steps()).ok()?;
         let chains = self.checker.chains();
         let reduction = Reduction::tight(&table, moved(self.goal, cure), chains);
-        let Goal {
-            first,
-            second,
-            byte,
-        } = reduction.goal(moved(self.goal, cure));
+        let goal = reduction.goal(moved(self.goal, cure));
+        let (first, second) = (goal.first, goal.second);
         if Run::of(reduction.table()).rows.len() > ORDER_ROWS {
             return None;
         }
@@ -439,7 +436,7 @@ impl<'a> Searcher<'a> {
             (self.goal.second, (second, first)),
         ];
         ways.into_iter().find_map(|(first, (before, after))| {
-            let rule = checked.rule(before, after, byte)?;
+            let rule = checked.rule(before, after, goal.byte)?;
             Some(Order::Rule { rule, first })
         })
     }

@@ -85,14 +85,13 @@ impl State {
         work_words: usize,
         cycle_numbers: usize,
     ) -> ReportAnswer {
-        match self.check_pieces(chains, pieces, work_words, cycle_numbers) {
-            CheckAnswer::Refused { number, row } => {
-                ReportAnswer::Check(CheckAnswer::Refused { number, row })
-            }
-            _ => {
-                let table = joined(pieces).expect("it was checked");
-                self.report_with(chains, &table, work_words, cycle_numbers)
-            }
+        if let CheckAnswer::Refused { number, row } =
+            self.check_pieces(chains, pieces, work_words, cycle_numbers)
+        {
+            ReportAnswer::Check(CheckAnswer::Refused { number, row })
+        } else {
+            let table = joined(pieces).expect("it was checked");
+            self.report_with(chains, &table, work_words, cycle_numbers)
         }
     }
 

@@ -7,18 +7,19 @@ use std::thread;
 use stramashly::*;
 use tables::examples;
 
+fn race(first: u16, second: u16, byte: u16) -> CheckAnswer<'static> {
+    CheckAnswer::Race {
+        first,
+        second,
+        byte,
+    }
+}
+
 #[test]
 fn checks_of_each_verdict() {
     let mut checker = Checker::new();
     assert_eq!(checker.check(&example("p")), CheckAnswer::RaceFree);
-    assert_eq!(
-        checker.check(&example("leak")),
-        CheckAnswer::Race {
-            first: 0,
-            second: 4,
-            byte: 0
-        }
-    );
+    assert_eq!(checker.check(&example("leak")), race(0, 4, 0));
     assert_eq!(
         checker.check(&example("overwritten")),
         CheckAnswer::Overwritten {
@@ -43,11 +44,7 @@ fn checks_of_each_verdict() {
 #[test]
 fn chains_are_off_unless_asked_for() {
     let table = example("chain-available");
-    let race = CheckAnswer::Race {
-        first: 0,
-        second: 5,
-        byte: 0,
-    };
+    let race = race(0, 5, 0);
     assert_eq!(Checker::new().check(&table), race);
     let mut on = Checker::new().with_chains(true);
     assert_eq!(on.check(&table), CheckAnswer::RaceFree);

@@ -9,16 +9,11 @@ fn access(kind: u8, agent: u8) -> Row {
     Row {
         kind,
         agent,
-        order: order::RELAXED,
-        scope: scope::INVOCATION,
-        classes: 0,
         flags: flags::NON_PRIVATE,
-        class: 0,
         length: 4,
-        start: 0,
         reference: 1,
         source: INITIAL,
-        rank: 0,
+        ..Row::default()
     }
 }
 

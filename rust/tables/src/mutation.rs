@@ -50,7 +50,7 @@ fn change_access(random: &mut Random, row: &mut Row) {
         2 if row.is_plain() => {
             row.start = row
                 .start
-                .wrapping_add(random.pick(&[1, 2, 4, 65535, 65534]))
+                .wrapping_add(random.pick(&[1, 2, 4, 65535, 65534]));
         }
         2 => row.start = row.start.wrapping_add(random.pick(&[4, 8, 65532, 65528])),
         _ => row.rank = row.rank.wrapping_add(random.pick(&[1, 2, 65535])),
@@ -135,7 +135,7 @@ pub(crate) fn reorder(table: &mut Table, order: &[usize]) {
 
 /// Gives a reader another source that fits, if there is one.
 fn change_source(random: &mut Random, table: &mut Table) {
-    let readers = rows_that(table, |row| row.reads());
+    let readers = rows_that(table, format::Row::reads);
     if readers.is_empty() {
         return;
     }
@@ -260,7 +260,7 @@ pub(crate) fn make_cyclic(random: &mut Random, table: &mut Table) -> bool {
 
 fn source_changes(table: &Table, wanted: impl Fn(&Table, usize, u16) -> bool) -> Vec<(usize, u16)> {
     let mut pairs = Vec::new();
-    for reader in rows_that(table, |row| row.reads()) {
+    for reader in rows_that(table, format::Row::reads) {
         for source in fitting_sources(table, reader) {
             if wanted(table, reader, source) {
                 pairs.push((reader, source));

@@ -7,7 +7,7 @@ use crate::vocabulary::{
 };
 use mend::{Notes, Run};
 use second::table::{Row, QUEUE, SHADER};
-use std::collections::{BTreeMap, HashSet};
+use std::collections::{BTreeMap, BTreeSet, HashSet};
 use std::fmt::Write;
 use stramashly::Refusal;
 
@@ -166,8 +166,8 @@ impl Names {
             (format!("{word}{agent}"), given)
         });
         let accesses = run.rows.iter().filter(|row| row.is_access());
-        let numbers: BTreeMap<u16, ()> = accesses.map(|row| (row.reference, ())).collect();
-        let references = numbers.keys().map(|number| {
+        let numbers: BTreeSet<u16> = accesses.map(|row| row.reference).collect();
+        let references = numbers.iter().map(|number| {
             let given = notes.references.get(number).cloned();
             (format!("v{number}"), given)
         });
@@ -178,7 +178,7 @@ impl Names {
         let references = unique(references.collect());
         Names {
             agents: unique(agents.collect()),
-            references: numbers.into_keys().zip(references).collect(),
+            references: numbers.into_iter().zip(references).collect(),
             labels: unique(labels.collect()),
         }
     }

@@ -52,7 +52,7 @@ fn bad_first_lines_are_told() {
 }
 
 /// The column, a line after five good ones, and a part of what is told.
-const LINES: &str = r#"
+const LINES: &str = r"
 6 => agent => expected a name
 7 => agent a = 0.0.0 => there is an agent `a` already
 7 => agent agent = 0.0.0 => `agent` has a meaning of its own
@@ -130,10 +130,10 @@ const LINES: &str = r#"
 18 => a write x 0..4 @ a.comp:0 => expected a place
 1 => ä write x 0..4 => no agent is called `ä`
 3 => a wrïte x 0..4 x => not `wrïte`
-"#;
+";
 
 /// What the library refuses is told at the row's line.
-const REFUSED: &str = r#"
+const REFUSED: &str = r"
 1 => a atomic-write x 2..6 relaxed device rank 1 => refused 7 1
 1 => a atomic-write x 2..6 relaxed device rank 1 => multiple
 3 =>   v: a barrier relaxed device => refused 6 1
@@ -141,7 +141,7 @@ const REFUSED: &str = r#"
 1 => v: b read x 2..6 from w => refused 9 1
 1 => v: b read x 0..4 from v => refused 9 1
 1 => b atomic-read x 0..4 relaxed device from ? => refused 9 1
-"#;
+";
 
 /// The three parts of each line.
 fn cases(table: &str) -> impl Iterator<Item = [&str; 3]> {

@@ -73,16 +73,15 @@ fn none_lines(table: &[u8], blanks: &[usize], checker: &mut dyn Judge) -> Vec<St
             .into_iter()
             .map(|source| (source, checked.unfit_source(*reader, source)))
             .collect();
-        match sources.iter().find(|(_, reason)| reason.is_none()) {
-            Some((source, _)) => chosen.push(*source),
-            None => {
-                lines.push(format!("Nothing can stand in row {reader}'s blank:"));
-                let reasons = sources.iter().map(|(source, reason)| {
-                    let reason = reason.as_deref().unwrap_or_default();
-                    format!("  {}: {reason}", names::source_named(*source))
-                });
-                lines.extend(reasons);
-            }
+        if let Some((source, _)) = sources.iter().find(|(_, reason)| reason.is_none()) {
+            chosen.push(*source);
+        } else {
+            lines.push(format!("Nothing can stand in row {reader}'s blank:"));
+            let reasons = sources.iter().map(|(source, reason)| {
+                let reason = reason.as_deref().unwrap_or_default();
+                format!("  {}: {reason}", names::source_named(*source))
+            });
+            lines.extend(reasons);
         }
     }
     if lines.is_empty() {

@@ -43,11 +43,10 @@ const FLAGS: [(u8, &str); 3] = [
     (MAKE_VISIBLE, "make visible"),
 ];
 
-fn named(words: &[&str], code: u8) -> String {
-    match words.get(usize::from(code)) {
-        Some(word) => word.to_string(),
-        None => format!("{code}?"),
-    }
+fn named(words: &[&str], code: impl Into<usize>) -> String {
+    let code = code.into();
+    let word = words.get(code).map(ToString::to_string);
+    word.unwrap_or_else(|| format!("{code}?"))
 }
 
 pub fn kind(code: u8) -> String {
@@ -65,10 +64,7 @@ pub fn article(words: &str) -> &'static str {
 
 /// What an agent is.
 pub fn sort(code: u16) -> String {
-    match SORTS.get(usize::from(code)) {
-        Some(word) => word.to_string(),
-        None => format!("{code}?"),
-    }
+    named(&SORTS, code)
 }
 
 pub fn order(code: u8) -> String {

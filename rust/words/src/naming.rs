@@ -51,7 +51,7 @@ pub fn named(notes: &Notes, sentence: &str) -> String {
 /// `(w0, alloc.comp:41)`, of a row of which neither is noted nothing.
 fn row_note(notes: &Notes, row: usize) -> Option<String> {
     let label = notes.label(row).map(str::to_string);
-    let place = notes.place(row).map(|place| place.to_string());
+    let place = notes.place(row).map(std::string::ToString::to_string);
     let parts: Vec<String> = label.into_iter().chain(place).collect();
     (!parts.is_empty()).then(|| format!(" ({})", parts.join(", ")))
 }

@@ -49,11 +49,7 @@ pub fn lines(
 
 /// The racing rows, and what the nearest rule lacks.
 fn rows_lines(checked: Checked, goal: Goal, near: &Near) -> Vec<String> {
-    let Goal {
-        first,
-        second,
-        byte,
-    } = goal;
+    let (first, second, byte) = (goal.first, goal.second, goal.byte);
     let mut lines = vec![
         format!("Rows {first} and {second} conflict, and nothing orders them at byte {byte}:"),
         format!("  {}", checked.run.described(first)),

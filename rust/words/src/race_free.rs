@@ -248,14 +248,13 @@ fn stretch_lines(
     let mut lines = vec![format!(
         "Row {before} before row {after} at {bytes} by L{rule}: {because}."
     )];
-    match told.get(&stretch.ordered.path) {
-        Some(pair) => lines.push(format!("  the steps are those of {pair}")),
-        None => {
-            let steps = checked.steps(&stretch.ordered.path);
-            lines.extend(steps.iter().map(|step| format!("  {step}")));
-            let pair = format!("rows {before} and {after}");
-            told.insert(stretch.ordered.path.clone(), pair);
-        }
+    if let Some(pair) = told.get(&stretch.ordered.path) {
+        lines.push(format!("  the steps are those of {pair}"));
+    } else {
+        let steps = checked.steps(&stretch.ordered.path);
+        lines.extend(steps.iter().map(|step| format!("  {step}")));
+        let pair = format!("rows {before} and {after}");
+        told.insert(stretch.ordered.path.clone(), pair);
     }
     lines
 }

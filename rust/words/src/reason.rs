@@ -94,7 +94,7 @@ impl Checked<'_> {
                 "{} is one instruction, but its rows differ in order, scope, classes or flags; let each have what they have together",
                 subject(row).name
             ),
-            Reason::NotAtomic { scope, .. } => self.not_atomic_words(line, scope),
+            Reason::NotAtomic { scope, .. } => not_atomic_words(line, scope),
             Reason::EndsSequence { row } => format!(
                 "{} is an atomic write, and an acquire that reads it needn't see an earlier release; make it a read-modify-write",
                 subject(row).name
@@ -139,18 +139,6 @@ impl Checked<'_> {
             // The others are said of rows that are there.
             _ => String::new(),
         }
-    }
-
-    fn not_atomic_words(&self, rows: &[usize], scope: u8) -> String {
-        let (be, what, them) = match rows.len() {
-            1 => ("is", "a plain access", "it a relaxed atomic"),
-            _ => ("are", "plain accesses", "them relaxed atomics"),
-        };
-        format!(
-            "{} {be} {what}; make {them} in {} scope, which ends the race and orders nothing",
-            rows_words(rows),
-            names::scope(scope)
-        )
     }
 
     fn meeting_words(
@@ -318,6 +306,18 @@ impl Checked<'_> {
             subject.at
         )
     }
+}
+
+fn not_atomic_words(rows: &[usize], scope: u8) -> String {
+    let (be, what, them) = match rows.len() {
+        1 => ("is", "a plain access", "it a relaxed atomic"),
+        _ => ("are", "plain accesses", "them relaxed atomics"),
+    };
+    format!(
+        "{} {be} {what}; make {them} in {} scope, which ends the race and orders nothing",
+        rows_words(rows),
+        names::scope(scope)
+    )
 }
 
 fn handshake_words(before: usize, after: usize, scope: u8, classes: u8) -> String {

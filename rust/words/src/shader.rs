@@ -1,4 +1,4 @@
-//! A row in the words of GLSL (GL_KHR_memory_scope_semantics) and of SPIR-V:
+//! A row in the words of GLSL (`GL_KHR_memory_scope_semantics`) and of SPIR-V:
 //! scopes, memory semantics and memory operands by their names.
 
 use second::table::*;

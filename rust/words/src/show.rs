@@ -142,7 +142,7 @@ pub fn cells(run: &Run, number: usize) -> Vec<String> {
     let label = notes.label(number).unwrap_or("-").to_string();
     let place = notes
         .place(number)
-        .map_or("-".to_string(), |place| place.to_string());
+        .map_or("-".to_string(), std::string::ToString::to_string);
     let cells = COLUMNS
         .into_iter()
         .zip(fields.into_iter().chain([label, place]));

@@ -37,7 +37,10 @@ fn a_full_table_is_explained_in_time() {
             return;
         };
         told += explain_noted(table, notes, &mut checker, false).lines.len();
-        let taken = processor_time().unwrap_or_default() - begin;
+        let taken = processor_time()
+            .unwrap_or_default()
+            .checked_sub(begin)
+            .unwrap();
         assert!(taken <= MOST, "{taken:?}");
         usual += usize::from(taken <= USUAL);
     }

@@ -122,13 +122,13 @@ fn drawn(place: &Place, class: &str) -> String {
             escaped(line)
         );
     }
-    svg += &moment(&place.before, place, y - place.moment);
-    svg += &moment(&place.after, place, y + height);
+    svg += &moment(place.before.as_ref(), place, y - place.moment);
+    svg += &moment(place.after.as_ref(), place, y + height);
     svg
 }
 
 /// A moment; a low one has no words.
-fn moment(name: &Option<(String, bool)>, place: &Place, y: i32) -> String {
+fn moment(name: Option<&(String, bool)>, place: &Place, y: i32) -> String {
     let Some((name, is_missing)) = name else {
         return String::new();
     };

@@ -94,7 +94,7 @@ fn lines_of_a_batch() {
         ),
         (
             format!("derive {digits} 3 x"),
-            "error \"x\" is no number from 0 to 65535",
+            "error \"x\" is no number from 0 to 65535; a moment is one, or 1.before, 1.at, 1.after",
         ),
         (
             format!("accepts {digits} 3 8 300 519"),

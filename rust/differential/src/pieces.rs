@@ -2,7 +2,7 @@
 //! implementation, derivations with those of the joined table, and every row.
 
 use crate::reports::{compare_share, UNWRITTEN};
-use crate::{expected, Comparison, Difference, Lengths, CHECKS, FILLS};
+use crate::{expected, Comparison, Difference, Engine, Lengths, Lent, CHECKS, FILLS};
 use second::{joined, Chains, CheckAnswer, FillAnswer, Pieces, ReportAnswer};
 use stramashly::{
     accepts_in, derive_in, report_in, row_of_pieces, Packed, CHAIN_NUMBERS, CYCLE_NUMBERS,
@@ -40,13 +40,8 @@ impl Comparison {
     ) -> Result<CheckAnswer, Difference> {
         let Lengths { work, numbers } = lengths;
         let answer = self.state.check_pieces(chains, pieces, work, numbers);
-        for (word, engine) in self.engines(CHECKS, pieces) {
-            let places = self.prepare_pieces(pieces, lengths);
-            let expected = expected::of_check(&answer, &mut self.expected);
-            let packed = self.ask(engine, chains, places);
-            let words = || format!("{word} {} {chains:?}", shown(pieces));
-            self.compare(words, lengths, packed, expected)?;
-        }
+        let expected = |lent: &mut Lent| Some(expected::of_check(&answer, lent));
+        self.compare_engines(CHECKS, chains, (pieces, lengths), expected)?;
         Ok(answer)
     }
 
@@ -60,16 +55,29 @@ impl Comparison {
     ) -> Result<FillAnswer, Difference> {
         let Lengths { work, numbers } = lengths;
         let answer = self.state.fill_pieces(chains, pieces, work, numbers);
-        for (word, engine) in self.engines(FILLS, pieces) {
+        let expected = |lent: &mut Lent| expected::of_fill(&answer, lent);
+        self.compare_engines(FILLS, chains, (pieces, lengths), expected)?;
+        Ok(answer)
+    }
+
+    /// What the engines answer, held to what is expected, if anything is.
+    fn compare_engines(
+        &mut self,
+        engines: [(&'static str, Engine); 2],
+        chains: Chains,
+        (pieces, lengths): (Pieces, Lengths),
+        expected: impl Fn(&mut Lent) -> Option<Packed>,
+    ) -> Result<(), Difference> {
+        for (word, engine) in self.engines(engines, pieces) {
             let places = self.prepare_pieces(pieces, lengths);
-            let Some(expected) = expected::of_fill(&answer, &mut self.expected) else {
+            let Some(expected) = expected(&mut self.expected) else {
                 break;
             };
             let packed = self.ask(engine, chains, places);
             let words = || format!("{word} {} {chains:?}", shown(pieces));
             self.compare(words, lengths, packed, expected)?;
         }
-        Ok(answer)
+        Ok(())
     }
 
     /// A report of two pieces with buffers of any length.

@@ -17,7 +17,7 @@ use crate::summary::Summary;
 use crate::tell::{tell, Told};
 use crate::verdict::Verdict;
 use crate::Status;
-use format::Object;
+use format::{digits, Object};
 use std::ffi::OsString;
 use std::io::{self, IsTerminal};
 use std::sync::atomic::AtomicBool;
@@ -248,6 +248,15 @@ fn outcome(request: &Request, are_named: bool, checker: &mut Checker, name: Name
             }
             ((None, Status::Trouble), text.into_bytes(), Some(reason))
         }
+    };
+    let bytes = match name.to_str() {
+        None if request.is_json && are_named && bytes.starts_with(b"{") => {
+            // What is shown of the name can't be traced back to it.
+            let digits = digits(name.as_encoded_bytes());
+            let begin = format!("{{\"fileBytes\":\"{digits}\",");
+            [begin.as_bytes(), &bytes[1..]].concat()
+        }
+        _ => bytes,
     };
     Outcome {
         name,

@@ -3,7 +3,9 @@
 mod common;
 
 use common::*;
+use std::ffi::OsStr;
 use std::fs;
+use std::os::unix::ffi::OsStrExt;
 use std::os::unix::fs::symlink;
 use std::path::{Path, PathBuf};
 
@@ -235,4 +237,18 @@ fn names_come_from_a_list() {
             answer.messages
         );
     }
+}
+
+/// A name that is no text is shown as well as may be, and whole in digits.
+#[test]
+fn a_name_that_is_no_text_can_be_traced_back() {
+    let folder = fresh("folder-of-bytes");
+    let name = OsStr::from_bytes(b"a\xFF.table");
+    if fs::write(folder.join(name), bytes(P)).is_err() {
+        // This file system takes no such name.
+        return;
+    }
+    let answer = stramashly_in(&folder, &["check", "--json", "."], b"");
+    let expected = "{\"fileBytes\":\"2E2F61FF2E7461626C65\",\"file\":\"./a\u{FFFD}.table\",\"verdict\":\"race-free\"}\n";
+    assert_eq!((answer.output.as_str(), answer.status), (expected, Some(0)));
 }

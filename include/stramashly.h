@@ -99,12 +99,16 @@
 extern "C" {
 #endif
 
-/* The version of this header. The library has no function that tells its own;
- * the functions are those of the archive that is linked. */
+/* The version of this header and of the library that is released with it. A
+ * program that is linked with the shared library finds at run time one of the same
+ * first two numbers, since these are part of the library's name. */
 #define STRAMASHLY_VERSION_MAJOR 0
-#define STRAMASHLY_VERSION_MINOR 2
+#define STRAMASHLY_VERSION_MINOR 3
 #define STRAMASHLY_VERSION_PATCH 0
-#define STRAMASHLY_VERSION "0.2.0"
+#define STRAMASHLY_VERSION "0.3.0"
+
+/* The same as a function, for languages that call and don't preprocess. */
+static inline const char *stramashly_version(void) { return STRAMASHLY_VERSION; }
 
 /* Least lengths of the lent buffers, each in its own numbers. */
 #define STRAMASHLY_WORK_WORDS 8192
@@ -143,6 +147,132 @@ extern "C" {
  * step's case is multiplied by. */
 #define STRAMASHLY_PROGRAM_ORDER 16
 #define STRAMASHLY_STEP_CASE 512
+
+/* The numbers that a row and an agent are made of. docs/FORMAT.md says what they
+ * mean, docs/RECORDING.md which operation of SPIR-V and Vulkan is which. */
+enum stramashly_kind {
+  STRAMASHLY_KIND_PLAIN_READ = 0,
+  STRAMASHLY_KIND_PLAIN_WRITE = 1,
+  STRAMASHLY_KIND_ATOMIC_READ = 2,
+  STRAMASHLY_KIND_ATOMIC_WRITE = 3,
+  STRAMASHLY_KIND_READ_MODIFY_WRITE = 4,
+  STRAMASHLY_KIND_BARRIER = 5,
+  STRAMASHLY_KIND_CONTROL_BARRIER = 6,
+  /* version 3, of queue agents only */
+  STRAMASHLY_KIND_AVAILABILITY_TO_HOST = 7,
+  STRAMASHLY_KIND_AVAILABILITY_TO_DEVICE = 8,
+  STRAMASHLY_KIND_VISIBILITY_FROM_HOST = 9,
+  STRAMASHLY_KIND_VISIBILITY_FROM_DEVICE = 10,
+  STRAMASHLY_KIND_DOMAIN_HOST_TO_DEVICE = 11,
+  STRAMASHLY_KIND_DOMAIN_DEVICE_TO_HOST = 12
+};
+
+enum stramashly_order {
+  STRAMASHLY_ORDER_RELAXED = 0,
+  STRAMASHLY_ORDER_ACQUIRE = 1,
+  STRAMASHLY_ORDER_RELEASE = 2,
+  STRAMASHLY_ORDER_ACQUIRE_RELEASE = 3
+};
+
+enum stramashly_scope {
+  STRAMASHLY_SCOPE_INVOCATION = 0,
+  STRAMASHLY_SCOPE_SUBGROUP = 1,
+  STRAMASHLY_SCOPE_WORKGROUP = 2,
+  STRAMASHLY_SCOPE_QUEUE_FAMILY = 3,
+  STRAMASHLY_SCOPE_DEVICE = 4
+};
+
+/* The class of memory that a row accesses. */
+enum stramashly_class {
+  STRAMASHLY_CLASS_UNIFORM = 0,
+  STRAMASHLY_CLASS_WORKGROUP = 1,
+  STRAMASHLY_CLASS_IMAGE = 2,
+  STRAMASHLY_CLASS_OUTPUT = 3
+};
+
+/* The classes that an atomic or a barrier is for, as a sum. */
+enum stramashly_semantics {
+  STRAMASHLY_SEMANTICS_UNIFORM = 1,
+  STRAMASHLY_SEMANTICS_WORKGROUP = 2,
+  STRAMASHLY_SEMANTICS_IMAGE = 4,
+  STRAMASHLY_SEMANTICS_OUTPUT = 8
+};
+
+/* Flags of a row, as a sum. */
+enum stramashly_flag {
+  STRAMASHLY_FLAG_NON_PRIVATE = 1,
+  STRAMASHLY_FLAG_MAKE_AVAILABLE = 2,
+  STRAMASHLY_FLAG_MAKE_VISIBLE = 4
+};
+
+/* What an agent is; before version 3 all are shader invocations. */
+enum stramashly_agent_kind {
+  STRAMASHLY_AGENT_SHADER = 0,
+  STRAMASHLY_AGENT_HOST = 1,
+  STRAMASHLY_AGENT_QUEUE = 2
+};
+
+/* A row as numbers. Start with stramashly_no_row, whose source is the one of a row
+ * that doesn't read, and set what the row has. */
+struct stramashly_row {
+  uint8_t kind;       /* enum stramashly_kind */
+  uint8_t agent;      /* its number, from 0 */
+  uint8_t order;      /* enum stramashly_order */
+  uint8_t scope;      /* enum stramashly_scope */
+  uint8_t semantics;  /* a sum of enum stramashly_semantics */
+  uint8_t flags;      /* a sum of enum stramashly_flag */
+  uint8_t class_or_execution; /* enum stramashly_class; a control barrier's execution scope */
+  uint8_t length;     /* bytes accessed */
+  uint16_t start;     /* first byte accessed; a control barrier's instance */
+  uint16_t reference; /* variable or pointer by which the bytes are reached */
+  uint16_t source;    /* the row that was read, STRAMASHLY_INITIAL or STRAMASHLY_BLANK */
+  uint16_t rank;      /* an atomic writer's place in its location's modification order */
+};
+
+/* A row of zeros that reads nothing. */
+static inline struct stramashly_row stramashly_no_row(void) {
+  struct stramashly_row row = {0, 0, 0, 0, 0, 0, 0, 0, 0, 0, STRAMASHLY_INITIAL, 0};
+  return row;
+}
+
+/* Writes a row's STRAMASHLY_ROW_BYTES bytes, as stramashly_write and the second of
+ * two pieces take them. Nothing is judged here: stramashly_write refuses numbers
+ * that a row can't have. */
+static inline void stramashly_encode_row(const struct stramashly_row *row, uint8_t *bytes) {
+  const uint16_t numbers[4] = {row->start, row->reference, row->source, row->rank};
+  unsigned at;
+  bytes[0] = row->kind;
+  bytes[1] = row->agent;
+  bytes[2] = row->order;
+  bytes[3] = row->scope;
+  bytes[4] = row->semantics;
+  bytes[5] = row->flags;
+  bytes[6] = row->class_or_execution;
+  bytes[7] = row->length;
+  for (at = 0; at < 4; at++) {
+    bytes[8 + 2 * at] = (uint8_t)(numbers[at] >> 8);
+    bytes[9 + 2 * at] = (uint8_t)(numbers[at] & 0xFF);
+  }
+}
+
+/* The numbers of a row's STRAMASHLY_ROW_BYTES bytes, as stramashly_row and
+ * stramashly_read give them. */
+static inline struct stramashly_row stramashly_decode_row(const uint8_t *bytes) {
+  struct stramashly_row row;
+  row.kind = bytes[0];
+  row.agent = bytes[1];
+  row.order = bytes[2];
+  row.scope = bytes[3];
+  row.semantics = bytes[4];
+  row.flags = bytes[5];
+  row.class_or_execution = bytes[6];
+  row.length = bytes[7];
+  row.start = (uint16_t)(bytes[8] << 8 | bytes[9]);
+  row.reference = (uint16_t)(bytes[10] << 8 | bytes[11]);
+  row.source = (uint16_t)(bytes[12] << 8 | bytes[13]);
+  row.rank = (uint16_t)(bytes[14] << 8 | bytes[15]);
+  return row;
+}
 
 enum stramashly_code {
   STRAMASHLY_RACE_FREE = 0,
@@ -259,8 +389,8 @@ uint64_t stramashly_report(const uint8_t *table, size_t table_len, uint8_t chain
 
 /* Writes a table of values: written or refused. Of each agent there are
  * STRAMASHLY_PLACE_NUMBERS numbers: family, workgroup, subgroup, and 0 shader, 1
- * host, 2 queue; of each row its STRAMASHLY_ROW_BYTES bytes, numbers of two bytes
- * big-endian; of each dependency its two rows. As many count as there are whole
+ * host, 2 queue; of each row its STRAMASHLY_ROW_BYTES bytes, as
+ * stramashly_encode_row gives them; of each dependency its two rows. As many count as there are whole
  * ones: a rest counts for nothing. A table that is written is one that
  * stramashly_fill doesn't refuse, and it reads back as these values. What a fill
  * refuses is refused alike, from VERSION on and LENGTH aside; before version 3

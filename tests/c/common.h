@@ -47,6 +47,7 @@ void test_versions(void);
 void test_hosts(void);
 void test_chains(void);
 void test_writer(void);
+void test_values(void);
 void test_pieces(void);
 
 #endif

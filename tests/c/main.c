@@ -104,6 +104,7 @@ int main(void) {
   test_hosts();
   test_chains();
   test_writer();
+  test_values();
   test_pieces();
   printf("%d passed, %d failed\n", passed, failed);
   return failed != 0;

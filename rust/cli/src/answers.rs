@@ -5,7 +5,7 @@ use crate::verdict::Verdict;
 use format::{digits, Object};
 use std::fmt::{self, Display};
 use stramashly::{
-    AcceptsAnswer, CheckAnswer, Derivation, DeriveAnswer, FillAnswer, ReportAnswer, Share,
+    AcceptsAnswer, CheckAnswer, Derivation, DeriveAnswer, FillAnswer, Refusal, ReportAnswer, Share,
 };
 use words::is_of_a_row;
 
@@ -222,6 +222,9 @@ fn put_race(object: &mut Object, first: u16, second: u16, byte: u16) {
 pub fn put_refusal(object: &mut Object, number: u16, row: u16) {
     object.put("number", number);
     object.put("row", row);
+    if let Some(name) = (Refusal { number, row }).name() {
+        object.text("name", name);
+    }
 }
 
 #[cfg(test)]

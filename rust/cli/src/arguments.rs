@@ -1,12 +1,18 @@
 //! The words of the command line.
 
-use crate::catalogue::{long, COMMANDS};
+use crate::batch::Batch;
+use crate::catalogue::{long, COMMANDS, OPTIONS};
 use crate::completion::Shell;
+use crate::glob::Glob;
 use crate::help;
 use crate::make::{steps, Making};
+use crate::near::meant;
+use crate::overview::{Overview, Shape};
 use crate::question::{Kind, Question};
 use crate::tell::Telling;
+use std::collections::BTreeMap;
 use std::ffi::{OsStr, OsString};
+use std::num::NonZero;
 
 /// What is asked for.
 #[derive(Debug, PartialEq, Eq)]
@@ -18,11 +24,9 @@ pub enum Command {
     /// A script for a shell.
     Completion(Shell),
     Files(Request),
-    Batch {
-        is_json: bool,
-        has_chains: bool,
-        jobs: usize,
-    },
+    Batch(Batch),
+    /// Many runs, summed up.
+    Summary(Overview),
 }
 
 /// What is to be done with each file.
@@ -48,6 +52,12 @@ pub struct Request {
     pub names: Vec<OsString>,
     /// The file of the second piece of each table.
     pub then: Option<OsString>,
+    /// Which files of directories are taken.
+    pub only: Option<Glob>,
+    /// A file with more names, a zero byte after each.
+    pub listed: Option<OsString>,
+    /// Whether bytes may go to a terminal.
+    pub is_forced: bool,
 }
 
 impl Request {
@@ -83,11 +93,32 @@ impl Request {
 struct Words {
     options: Vec<&'static str>,
     jobs: Option<usize>,
-    then: Option<OsString>,
+    /// What was given to an option that takes something.
+    values: BTreeMap<&'static str, OsString>,
     others: Vec<OsString>,
 }
 
+/// The options that take something, and what that is.
+const VALUES: [(&str, &str); 6] = [
+    ("--then", "a file of rows"),
+    ("--only", "a pattern like '*.table'"),
+    ("--files0-from", "a file of names, or `-`"),
+    ("--pages", "a folder"),
+    ("--baseline", "a file of known findings"),
+    ("--against", "a summary as JSON"),
+];
+
 impl Words {
+    fn value(&self, option: &str) -> Option<OsString> {
+        self.values.get(option).cloned()
+    }
+
+    fn only(&self) -> Result<Option<Glob>, String> {
+        let pattern = self.values.get("--only");
+        let glob = pattern.map(|pattern| Glob::new(pattern.as_encoded_bytes()));
+        glob.transpose()
+    }
+
     fn has(&self, option: &str) -> bool {
         self.options.contains(&option)
     }
@@ -116,6 +147,7 @@ pub fn parse(words: impl Iterator<Item = OsString>) -> Result<Command, String> {
     let task = match name.to_str() {
         Some("help") => return help(&words),
         Some("batch") => return batch(&words),
+        Some("summary") => return summary(words),
         Some("completion") => return completion(&words),
         Some("fill") if words.has("--table") => Task::Make(Making::Filled),
         Some("make") => Task::Make(Making::Read),
@@ -132,7 +164,7 @@ pub fn parse(words: impl Iterator<Item = OsString>) -> Result<Command, String> {
         }),
         _ => {
             let kind = Kind::named(name.as_encoded_bytes()).filter(|kind| kind.takes_files());
-            let kind = kind.ok_or_else(|| format!("no command is called {name:?}"))?;
+            let kind = kind.ok_or_else(|| no_command(&name))?;
             match question(kind, &mut words.others)? {
                 Question::Derive { first, second } if words.has("--words") => {
                     Task::Tell(Telling::Why { first, second })
@@ -142,6 +174,12 @@ pub fn parse(words: impl Iterator<Item = OsString>) -> Result<Command, String> {
         }
     };
     files(&name, task, words)
+}
+
+fn no_command(name: &OsStr) -> String {
+    let commands = COMMANDS.iter().map(|entry| entry.name);
+    let meant = meant(&name.to_string_lossy(), commands);
+    format!("no command is called {name:?}{meant}")
 }
 
 /// How an answer is explained.
@@ -197,18 +235,31 @@ fn sort(words: impl Iterator<Item = OsString>) -> Result<Words, String> {
             sorted.jobs = Some(jobs(count)?);
             continue;
         }
-        match long(text).ok_or_else(|| format!("no option is called {word:?}"))? {
+        // So may what another option takes.
+        let (text, equal) = match text.split_once('=') {
+            Some((option, equal)) => (option, Some(equal)),
+            None => (text, None),
+        };
+        let unknown = || {
+            let options = OPTIONS.iter().map(|(option, _)| *option);
+            format!("no option is called {word:?}{}", meant(text, options))
+        };
+        match long(text).ok_or_else(unknown)? {
             "--jobs" => {
                 let count = words.next();
                 let count = count.as_ref().and_then(|count| count.to_str());
                 sorted.jobs = Some(jobs(count.unwrap_or_default())?);
             }
-            "--then" if sorted.then.is_some() => {
+            "--then" if sorted.has("--then") => {
                 return Err("--then given twice: a table has two pieces".to_string());
             }
             option => {
-                if option == "--then" {
-                    sorted.then = Some(words.next().ok_or("--then takes a file of rows")?);
+                if let Some((_, what)) = VALUES.iter().find(|(name, _)| *name == option) {
+                    let given = equal.map(OsString::from).or_else(|| words.next());
+                    let given = given.ok_or_else(|| format!("{option} takes {what}"))?;
+                    sorted.values.insert(option, given);
+                } else if equal.is_some() {
+                    return Err(format!("{option} takes nothing"));
                 }
                 sorted.options.push(option);
             }
@@ -229,9 +280,9 @@ fn help(words: &Words) -> Result<Command, String> {
         [] => Ok(Command::Help),
         [name] => match name.to_str().filter(|name| help::of(name).is_some()) {
             Some(name) => Ok(Command::HelpOf(name.to_string())),
-            None => Err(format!("no command is called {name:?}")),
+            None => Err(no_command(name)),
         },
-        _ => Err("help takes one command".to_string()),
+        _ => Err("help takes one command, or a refusal's number".to_string()),
     }
 }
 
@@ -249,8 +300,19 @@ fn completion(words: &Words) -> Result<Command, String> {
     }
 }
 
+/// How many threads work if nobody says it: a log is whole only at its end, so that
+/// all may.
+fn threads(is_log: bool) -> usize {
+    let all = std::thread::available_parallelism().map_or(1, NonZero::get);
+    if is_log {
+        all.min(MOST_JOBS)
+    } else {
+        1
+    }
+}
+
 /// The options that not all commands take, in the order in which they are told.
-const BOUND: [&str; 11] = [
+const BOUND: [&str; 21] = [
     "--html",
     "--all",
     "--json",
@@ -262,6 +324,16 @@ const BOUND: [&str; 11] = [
     "--chains",
     "--then",
     "--quiet",
+    "--only",
+    "--files0-from",
+    "--force",
+    "--csv",
+    "--pages",
+    "--baseline",
+    "--against",
+    "--raw",
+    "--ids",
+    "--status",
 ];
 
 /// What goes with which command, and with what it is to do.
@@ -310,12 +382,22 @@ fn files(name: &OsStr, task: Task, words: Words) -> Result<Command, String> {
         is_sarif: words.has("--sarif"),
         is_quiet: words.has("--quiet"),
         has_chains: words.has("--chains"),
-        jobs: words.jobs.unwrap_or(1),
+        jobs: words.jobs.unwrap_or_else(|| threads(words.has("--sarif"))),
+        then: words.value("--then"),
+        only: words.only()?,
+        listed: words.value("--files0-from"),
+        is_forced: words.has("--force"),
         names: words.others,
-        then: words.then,
     };
+    if request.is_forced && !matches!(request.task, Task::Make(_)) {
+        return Err("fill takes --force with --table".to_string());
+    }
+    let is_many = request.only.is_some() || request.listed.is_some();
+    if is_many && !request.takes_directories() {
+        return Err("--only and --files0-from are for many files, and this takes one".to_string());
+    }
     let names = &request.names;
-    if names.is_empty() {
+    if names.is_empty() && request.listed.is_none() {
         return Err("no file given".to_string());
     }
     // Two documents in a row are none.
@@ -326,7 +408,7 @@ fn files(name: &OsStr, task: Task, words: Words) -> Result<Command, String> {
     if request.then.as_ref().is_some_and(|name| name == "-") && names.len() > 1 {
         return Err("--then - goes with one file".to_string());
     }
-    let all = names.iter().chain(&request.then);
+    let all = names.iter().chain(&request.then).chain(&request.listed);
     if all.filter(|name| *name == "-").count() > 1 {
         return Err("standard input given twice".to_string());
     }
@@ -334,14 +416,62 @@ fn files(name: &OsStr, task: Task, words: Words) -> Result<Command, String> {
 }
 
 fn batch(words: &Words) -> Result<Command, String> {
-    if words.has_others(&["--json", "--chains"]) || !words.others.is_empty() {
-        return Err("batch takes no file, and no option but --json and -j".to_string());
+    if !words.others.is_empty() {
+        return Err("batch takes no file: tables come on standard input".to_string());
     }
-    Ok(Command::Batch {
+    takes_only(words, "batch")?;
+    Ok(Command::Batch(Batch {
         is_json: words.has("--json"),
         has_chains: words.has("--chains"),
+        has_ids: words.has("--ids"),
+        is_raw: words.has("--raw"),
+        has_status: words.has("--status"),
         jobs: words.jobs.unwrap_or(1),
-    })
+    }))
+}
+
+/// Holds a command to the options that the catalogue has for it.
+fn takes_only(words: &Words, name: &str) -> Result<(), String> {
+    let entry = COMMANDS.iter().find(|entry| entry.name == name);
+    let options = entry.map_or(&[][..], |entry| entry.options);
+    match words.has_others(options) {
+        true => Err(format!("{name} takes no option but {}", options.join(", "))),
+        false => Ok(()),
+    }
+}
+
+fn summary(words: Words) -> Result<Command, String> {
+    takes_only(&words, "summary")?;
+    let form = match ["--csv", "--json", "--html"].map(|form| words.has(form)) {
+        [false, false, false] => Shape::Plain,
+        [true, false, false] => Shape::Csv,
+        [false, true, false] => Shape::Json,
+        [false, false, true] => Shape::Html,
+        _ => return Err("--csv, --json or --html, one of them".to_string()),
+    };
+    let overview = Overview {
+        listed: words.value("--files0-from"),
+        only: words.only()?,
+        form,
+        pages: words.value("--pages"),
+        baseline: words.value("--baseline"),
+        against: words.value("--against"),
+        is_hex: words.has("--hex"),
+        has_chains: words.has("--chains"),
+        jobs: words.jobs.unwrap_or(1),
+        names: words.others,
+    };
+    if overview.pages.is_some() && form != Shape::Html {
+        return Err("--pages goes with --html".to_string());
+    }
+    if overview.names.is_empty() && overview.listed.is_none() {
+        return Err("no file given".to_string());
+    }
+    let inputs = overview.names.iter().chain(&overview.listed);
+    if inputs.filter(|name| *name == "-").count() > 1 {
+        return Err("standard input given twice".to_string());
+    }
+    Ok(Command::Summary(overview))
 }
 
 #[cfg(test)]

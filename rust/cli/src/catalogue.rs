@@ -20,25 +20,51 @@ const fn entry(name: &'static str, words: &'static str, options: &'static [&'sta
 }
 
 /// Every command, in the order of the help.
-pub const COMMANDS: [Entry; 13] = [
+pub const COMMANDS: [Entry; 14] = [
     entry(
         "check",
         "judge each table",
         &[
-            "--hex", "--json", "--sarif", "--quiet", "--chains", "--jobs", "--then",
+            "--hex",
+            "--json",
+            "--sarif",
+            "--quiet",
+            "--chains",
+            "--jobs",
+            "--then",
+            "--only",
+            "--files0-from",
         ],
     ),
     entry(
         "fill",
         "decide the blank sources of each table",
         &[
-            "--hex", "--table", "--json", "--quiet", "--chains", "--jobs", "--then",
+            "--hex",
+            "--table",
+            "--force",
+            "--json",
+            "--quiet",
+            "--chains",
+            "--jobs",
+            "--then",
+            "--only",
+            "--files0-from",
         ],
     ),
     entry(
         "report",
         "count conflicting pairs of rows",
-        &["--hex", "--json", "--quiet", "--chains", "--jobs", "--then"],
+        &[
+            "--hex",
+            "--json",
+            "--quiet",
+            "--chains",
+            "--jobs",
+            "--then",
+            "--only",
+            "--files0-from",
+        ],
     ),
     entry(
         "derive",
@@ -53,14 +79,33 @@ pub const COMMANDS: [Entry; 13] = [
     entry(
         "show",
         "each table in words, or as text",
-        &["--hex", "--text", "--json-lines", "--jobs"],
+        &[
+            "--hex",
+            "--text",
+            "--json-lines",
+            "--jobs",
+            "--only",
+            "--files0-from",
+        ],
     ),
-    entry("make", "the table of a text or of JSON lines", &["--hex"]),
+    entry(
+        "make",
+        "the table of a text or of JSON lines",
+        &["--hex", "--force"],
+    ),
     entry(
         "explain",
         "the answer in sentences, as an object or as a page",
         &[
-            "--hex", "--html", "--json", "--all", "--chains", "--jobs", "--then",
+            "--hex",
+            "--html",
+            "--json",
+            "--all",
+            "--chains",
+            "--jobs",
+            "--then",
+            "--only",
+            "--files0-from",
         ],
     ),
     entry(
@@ -68,11 +113,28 @@ pub const COMMANDS: [Entry; 13] = [
         "the run as a picture",
         &["--hex", "--all", "--chains", "--then"],
     ),
-    entry("edit", "the table with changes made", &["--hex"]),
+    entry("edit", "the table with changes made", &["--hex", "--force"]),
+    entry(
+        "summary",
+        "many runs summed up",
+        &[
+            "--csv",
+            "--json",
+            "--html",
+            "--pages",
+            "--baseline",
+            "--against",
+            "--files0-from",
+            "--only",
+            "--hex",
+            "--chains",
+            "--jobs",
+        ],
+    ),
     entry(
         "batch",
         "answer lines on standard input",
-        &["--json", "--chains", "--jobs"],
+        &["--json", "--ids", "--raw", "--status", "--chains", "--jobs"],
     ),
     Entry {
         choices: &["bash", "zsh", "fish"],
@@ -82,7 +144,7 @@ pub const COMMANDS: [Entry; 13] = [
 ];
 
 /// Every option with what it does. The long name stands for a short one too.
-pub const OPTIONS: [(&str, &str); 15] = [
+pub const OPTIONS: [(&str, &str); 25] = [
     (
         "--hex",
         "files hold hex digits, and new tables are written so",
@@ -96,6 +158,16 @@ pub const OPTIONS: [(&str, &str); 15] = [
     ),
     ("--jobs", "work in so many threads"),
     ("--then", "a file of more rows for each table"),
+    ("--only", "of directories, only files that match a pattern"),
+    ("--files0-from", "a file of names, a zero byte after each"),
+    ("--csv", "a line of cells for each run"),
+    ("--pages", "a folder for the pages of runs"),
+    ("--baseline", "findings that are known"),
+    ("--against", "an earlier summary to compare with"),
+    ("--force", "write bytes to a terminal too"),
+    ("--ids", "a name and a tab before each line and each answer"),
+    ("--raw", "tables as bytes, one after the other"),
+    ("--status", "the worst answer as exit status"),
     ("--table", "write the filled table"),
     ("--words", "in sentences"),
     ("--text", "as text that can be read again"),
@@ -144,7 +216,8 @@ mod tests {
 
     /// The words in a text that begin with a dash.
     fn options_of(text: &str) -> BTreeSet<String> {
-        let is_part = |letter: char| letter.is_ascii_lowercase() || letter == '-';
+        let is_part =
+            |letter: char| letter.is_ascii_lowercase() || letter.is_ascii_digit() || letter == '-';
         let words = text.split(|letter: char| !is_part(letter));
         let words = words.filter(|word| word.starts_with("--") && word.len() > 2);
         words.map(str::to_string).collect()
@@ -188,10 +261,17 @@ mod tests {
                     ("edit", _) => "a row=2",
                     ("completion", _) => "bash",
                     ("batch" | "help", _) => "",
+                    ("fill", "--force") => "--table a",
+                    ("summary", "--pages") => "--html a",
                     _ => "a",
                 };
                 let word = option.replace("--jobs", "--jobs=2");
                 let word = word.replace("--then", "--then rows");
+                let word = word.replace("--only", "--only=*.table");
+                let word = match option {
+                    "--files0-from" | "--pages" | "--baseline" | "--against" => format!("{word} x"),
+                    _ => word,
+                };
                 let line = format!("{} {word} {rest}", entry.name);
                 let words = line.split_whitespace();
                 let words =

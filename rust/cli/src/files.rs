@@ -3,27 +3,28 @@
 
 use crate::arguments::{Request, Task};
 use crate::colour;
-use crate::folder;
+use crate::folder::{self, Named};
 use crate::judge::{append_trouble, judge, Form};
 use crate::make::{hex_line, make};
+use crate::moments::absent;
 use crate::output::{complain, Output};
 use crate::parallel::{in_order, Giver, Taker};
-use crate::read::{read, second, Given, Unread};
+use crate::progress::Progress;
+use crate::question::Question;
+use crate::read::{listed, read, second, Given, Unread};
 use crate::sarif::{log, notification, results, Origin};
 use crate::summary::Summary;
 use crate::tell::{tell, Told};
 use crate::verdict::Verdict;
 use crate::Status;
-use format::Object;
+use format::{digits, Object};
 use std::ffi::OsString;
+use std::io::{self, IsTerminal};
 use std::sync::atomic::AtomicBool;
-use stramashly::Checker;
+use stramashly::{Checker, DeriveAnswer};
 
 /// So many files go to a thread at once.
 const PIECE: usize = 8;
-
-/// A file's name, or the reason why a directory has none.
-type Named = Result<OsString, (OsString, String)>;
 
 /// What came of a file.
 struct Outcome {
@@ -35,19 +36,36 @@ struct Outcome {
     bytes: Vec<u8>,
     /// For standard error, with the place in the file if there is one.
     reason: Option<Unread>,
+    /// What a refused file looks like, told before its refusal.
+    likeness: Option<&'static str>,
 }
 
 /// Judges every file, also after one that can't be read and after nobody
 /// reads the answers any more, so that the status is that of them all.
 pub fn run(request: &Request) -> Status {
     let is_many = request.takes_directories();
+    let mut given = request.names.clone();
+    if let Some(list) = &request.listed {
+        match listed(list) {
+            Ok(names) => given.extend(names),
+            Err(reason) => {
+                complain(&reason);
+                return Status::Trouble;
+            }
+        }
+    }
+    let mut left_out = None;
+    let are_named =
+        request.listed.is_some() || given.len() > 1 || is_many && folder::has_directory(&given);
     let names: Vec<Named> = if is_many {
-        folder::expanded(&request.names, request.is_hex)
+        let expanded = folder::expanded(&given, request.only.as_ref());
+        left_out = expanded.left_out();
+        expanded.files
     } else {
-        request.names.iter().cloned().map(Ok).collect()
+        given.into_iter().map(Ok).collect()
     };
-    let are_named = request.names.len() > 1 || is_many && folder::has_directory(&request.names);
-    let writer = || Writer::new(request, are_named);
+    let total = names.len();
+    let writer = || Writer::new(request, are_named, total, left_out);
     let checker = || Checker::new().with_chains(request.has_chains);
     if request.jobs == 1 {
         let mut checker = checker();
@@ -75,6 +93,9 @@ struct Writer<'a> {
     is_coloured: bool,
     output: Output,
     summary: Summary,
+    /// What directories had besides.
+    left_out: Option<String>,
+    progress: Progress,
     highest: Status,
     /// For the SARIF log.
     results: Vec<String>,
@@ -82,13 +103,20 @@ struct Writer<'a> {
 }
 
 impl Writer<'_> {
-    fn new(request: &Request, are_named: bool) -> Writer<'_> {
+    fn new(
+        request: &Request,
+        are_named: bool,
+        total: usize,
+        left_out: Option<String>,
+    ) -> Writer<'_> {
         Writer {
             request,
             are_named,
             is_coloured: request.may_be_coloured() && colour::is_wanted(),
             output: Output::new(),
             summary: Summary::default(),
+            left_out,
+            progress: Progress::new("files", Some(total), request.is_sarif || request.is_quiet),
             highest: Status::Fine,
             results: Vec::new(),
             notifications: Vec::new(),
@@ -97,11 +125,27 @@ impl Writer<'_> {
 
     fn write(&mut self, outcome: Outcome) {
         self.highest = self.highest.max(outcome.status);
+        self.progress.count();
+        if outcome.reason.is_some() || outcome.likeness.is_some() {
+            self.progress.clear();
+        }
         if self.request.is_sarif {
             return self.keep(outcome);
         }
         let is_plain = !self.request.is_json;
+        if self.would_spoil_a_terminal(&outcome.bytes) {
+            self.highest = Status::Trouble;
+            let where_to =
+                "`> FILE` writes them there, --hex writes digits, --force writes them here";
+            return complain(&format!(
+                "a table's bytes aren't for a terminal: {where_to}"
+            ));
+        }
         self.summary.count(outcome.verdict);
+        if let Some(likeness) = outcome.likeness {
+            self.output.flush();
+            complain(&format!("{}: {likeness}", outcome.name.to_string_lossy()));
+        }
         if !outcome.bytes.is_empty() && !self.request.is_quiet {
             if self.are_named && is_plain {
                 self.output.write(outcome.name.as_encoded_bytes());
@@ -121,6 +165,12 @@ impl Writer<'_> {
         }
     }
 
+    /// Whether these are bytes that nobody wants on the screen.
+    fn would_spoil_a_terminal(&self, bytes: &[u8]) -> bool {
+        let is_made = matches!(self.request.task, Task::Make(_)) && !self.request.is_forced;
+        is_made && bytes.contains(&0) && io::stdout().is_terminal()
+    }
+
     /// Keeps an outcome for the log, which is written at the end.
     fn keep(&mut self, outcome: Outcome) {
         let text = String::from_utf8_lossy(&outcome.bytes);
@@ -133,6 +183,7 @@ impl Writer<'_> {
     }
 
     fn finish(mut self) -> Status {
+        self.progress.clear();
         if self.request.is_sarif {
             let log = log(&self.results, &self.notifications);
             self.output.write(log.as_bytes());
@@ -143,6 +194,10 @@ impl Writer<'_> {
         if self.are_named && is_judged && is_plain {
             self.output.flush();
             complain(&self.summary.text());
+        }
+        if let Some(left_out) = self.left_out.as_ref().filter(|_| !self.request.is_quiet) {
+            self.output.flush();
+            complain(left_out);
         }
         self.highest.max(self.output.finish())
     }
@@ -178,8 +233,10 @@ fn outcome(request: &Request, are_named: bool, checker: &mut Checker, name: Name
         },
         false => Form::Plain,
     };
+    let mut likeness = None;
     let ((verdict, status), bytes, reason) = match given {
         Ok((given, second)) => {
+            likeness = given.likeness;
             let notes = given.notes.clone();
             let form = form(Some(&notes));
             answer(request, (&file, form), (given, second.as_deref()), checker)
@@ -192,12 +249,22 @@ fn outcome(request: &Request, are_named: bool, checker: &mut Checker, name: Name
             ((None, Status::Trouble), text.into_bytes(), Some(reason))
         }
     };
+    let bytes = match name.to_str() {
+        None if request.is_json && are_named && bytes.starts_with(b"{") => {
+            // What is shown of the name can't be traced back to it.
+            let digits = digits(name.as_encoded_bytes());
+            let begin = format!("{{\"fileBytes\":\"{digits}\",");
+            [begin.as_bytes(), &bytes[1..]].concat()
+        }
+        _ => bytes,
+    };
     Outcome {
         name,
         verdict,
         status,
         bytes,
         reason,
+        likeness: likeness.filter(|_| status == Status::Refused && !request.is_quiet),
     }
 }
 
@@ -221,7 +288,14 @@ fn answer(
         Task::Judge(question) => {
             let pieces = [&given.table[..], second.unwrap_or_default()];
             let verdict = judge(checker, question, pieces, form, &mut text);
-            ((Some(verdict), verdict.status()), text.into_bytes(), None)
+            let told = match verdict {
+                Verdict::Refused if !request.is_quiet && !request.is_json => {
+                    absent_moment(question, pieces, checker)
+                }
+                _ => None,
+            };
+            let told = told.map(Unread::from);
+            ((Some(verdict), verdict.status()), text.into_bytes(), told)
         }
         Task::Tell(telling) => {
             let given = given.joined(second, checker);
@@ -240,4 +314,22 @@ fn answer(
             Err((status, reason)) => ((None, status), Vec::new(), Some(reason)),
         },
     }
+}
+
+/// Which of two moments isn't there, where that is why there is no derivation.
+fn absent_moment(question: &Question, pieces: [&[u8]; 2], checker: &mut Checker) -> Option<String> {
+    let (first, second) = match question {
+        Question::Derive { first, second } => (*first, *second),
+        Question::Accepts { first, second, .. } => (*first, *second),
+        _ => return None,
+    };
+    let answer = checker.derive(pieces, first, second);
+    if !matches!(answer, DeriveAnswer::Refused { number: 12, .. }) {
+        return None;
+    }
+    let table = match pieces[1] {
+        [] => pieces[0].to_vec(),
+        _ => words::joined(pieces).ok()?,
+    };
+    absent(&table, first, second)
 }

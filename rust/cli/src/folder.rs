@@ -1,34 +1,86 @@
-//! A directory given in the place of a file: the tables in it and below it.
+//! A directory given in the place of a file: every file in it and below it, so
+//! that none is passed over because of its name.
 
-use std::ffi::{OsStr, OsString};
+use crate::glob::Glob;
+use std::ffi::OsString;
 use std::fs;
-use std::path::{Path, PathBuf};
+use std::path::Path;
 
-/// How the names of tables end, and of tables in hex digits.
-const TABLE: &str = "table";
-const HEX: &str = "hex";
+/// A file's name, or the reason why a directory has none.
+pub type Named = Result<OsString, (OsString, String)>;
 
-/// The names with each directory replaced by its tables, in order; the reason
+/// Files to be judged, and how many were left out.
+#[derive(Default)]
+pub struct Expanded {
+    pub files: Vec<Named>,
+    left_out: LeftOut,
+}
+
+/// What directories have besides, counted.
+#[derive(Default)]
+struct LeftOut {
+    hidden: usize,
+    links: usize,
+    special: usize,
+    unmatched: usize,
+}
+
+impl Expanded {
+    /// `left out: 2 names that begin with a dot, 1 link to a directory`, if
+    /// anything was.
+    pub fn left_out(&self) -> Option<String> {
+        let counted = |count: usize, one: &str, many: &str| {
+            (count > 0).then(|| format!("{count} {}", if count == 1 { one } else { many }))
+        };
+        let LeftOut {
+            hidden,
+            links,
+            special,
+            unmatched,
+        } = self.left_out;
+        let parts = [
+            counted(
+                hidden,
+                "name that begins with a dot",
+                "names that begin with a dot",
+            ),
+            counted(links, "link to a directory", "links to directories"),
+            counted(
+                special,
+                "that is no regular file",
+                "that are no regular files",
+            ),
+            counted(
+                unmatched,
+                "file that --only leaves out",
+                "files that --only leaves out",
+            ),
+        ];
+        let parts: Vec<String> = parts.into_iter().flatten().collect();
+        (!parts.is_empty()).then(|| format!("left out: {}", parts.join(", ")))
+    }
+}
+
+/// The names with each directory replaced by its files, in order; the reason
 /// for one that has none or can't be read.
-pub fn expanded(names: &[OsString], is_hex: bool) -> Vec<Result<OsString, (OsString, String)>> {
-    let mut files = Vec::new();
+pub fn expanded(names: &[OsString], only: Option<&Glob>) -> Expanded {
+    let mut expanded = Expanded::default();
     for name in names {
         if name == "-" || !Path::new(name).is_dir() {
-            files.push(Ok(name.clone()));
+            expanded.files.push(Ok(name.clone()));
             continue;
         }
-        let mut found = Vec::new();
-        match tables(Path::new(name), is_hex, &mut found) {
-            Err(error) => files.push(Err((name.clone(), error.to_string()))),
-            Ok(()) if found.is_empty() => {
-                let ending = if is_hex { HEX } else { TABLE };
-                let reason = format!("no file in this directory ends in .{ending}");
-                files.push(Err((name.clone(), reason)));
-            }
-            Ok(()) => files.extend(found.into_iter().map(|path| Ok(path.into_os_string()))),
+        let before = expanded.files.len();
+        expanded.add(Path::new(name), Path::new(name), only);
+        if expanded.files.len() == before {
+            let reason = match only {
+                Some(_) => "no file in this directory is one of --only",
+                None => "there is no file in this directory",
+            };
+            expanded.files.push(Err((name.clone(), reason.to_string())));
         }
     }
-    files
+    expanded
 }
 
 pub fn has_directory(names: &[OsString]) -> bool {
@@ -37,26 +89,45 @@ pub fn has_directory(names: &[OsString]) -> bool {
         .any(|name| name != "-" && Path::new(name).is_dir())
 }
 
-/// Adds the tables below a directory, by their names; what is hidden and what
-/// links to a directory is left alone.
-fn tables(folder: &Path, is_hex: bool, found: &mut Vec<PathBuf>) -> std::io::Result<()> {
-    let mut entries = fs::read_dir(folder)?.collect::<Result<Vec<_>, _>>()?;
-    entries.sort_by_key(std::fs::DirEntry::file_name);
-    for entry in entries {
-        let path = entry.path();
-        if entry.file_name().as_encoded_bytes().starts_with(b".") {
-            continue;
-        }
-        if entry.file_type()?.is_dir() {
-            tables(&path, is_hex, found)?;
-        } else if has_ending(&path, is_hex) && path.is_file() {
-            found.push(path);
+impl Expanded {
+    /// Adds the files below a directory, by their names. One that can't be read
+    /// is told, and the others are taken all the same.
+    fn add(&mut self, top: &Path, folder: &Path, only: Option<&Glob>) {
+        let entries = fs::read_dir(folder).and_then(Iterator::collect::<Result<Vec<_>, _>>);
+        let mut entries = match entries {
+            Ok(entries) => entries,
+            Err(error) => {
+                let name = folder.as_os_str().to_os_string();
+                return self.files.push(Err((name, error.to_string())));
+            }
+        };
+        entries.sort_by_key(fs::DirEntry::file_name);
+        for entry in entries {
+            let path = entry.path();
+            if entry.file_name().as_encoded_bytes().starts_with(b".") {
+                self.left_out.hidden += 1;
+                continue;
+            }
+            let kind = entry.file_type();
+            let is_link = kind.as_ref().is_ok_and(fs::FileType::is_symlink);
+            if kind.is_ok_and(|kind| kind.is_dir()) {
+                self.add(top, &path, only);
+            } else if is_link && path.is_dir() {
+                self.left_out.links += 1;
+            } else if path.exists() && !path.is_file() {
+                self.left_out.special += 1;
+            } else if only.is_some_and(|only| !only.matches(below(top, &path))) {
+                self.left_out.unmatched += 1;
+            } else {
+                // A link that leads nowhere is told when it is read.
+                self.files.push(Ok(path.into_os_string()));
+            }
         }
     }
-    Ok(())
 }
 
-fn has_ending(path: &Path, is_hex: bool) -> bool {
-    let ending = if is_hex { HEX } else { TABLE };
-    path.extension() == Some(OsStr::new(ending))
+/// A file's path from the directory that was given on.
+fn below<'a>(top: &Path, path: &'a Path) -> &'a [u8] {
+    let below = path.strip_prefix(top).unwrap_or(path);
+    below.as_os_str().as_encoded_bytes()
 }

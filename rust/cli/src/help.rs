@@ -1,7 +1,49 @@
-//! What `--help` prints.
+//! What `--help` prints, and what is told of one command or one refusal.
+
+use crate::catalogue::{option_words, short, COMMANDS};
+use stramashly::Refusal;
+use words::is_of_a_row;
+
+/// What is told of a command, or of a refusal by its number, if there is one of
+/// that name.
+pub fn of(name: &str) -> Option<String> {
+    command(name).or_else(|| refusal(name.parse().ok()?))
+}
+
+/// A command's lines and its options.
+fn command(name: &str) -> Option<String> {
+    let mut text = usage(name)?;
+    let entry = COMMANDS.iter().find(|entry| entry.name == name)?;
+    if !entry.options.is_empty() {
+        text += "\noptions:\n";
+    }
+    for option in entry.options {
+        let both = match short(option) {
+            Some(short) => format!("{short}, {option}"),
+            None => option.to_string(),
+        };
+        text += &format!("  {both:<34}  {}\n", option_words(option));
+    }
+    Some(text)
+}
+
+/// What a refusal says, and where the rule stands.
+fn refusal(number: u16) -> Option<String> {
+    let refusal = Refusal { number, row: 0 };
+    let (name, sentence) = (refusal.name()?, refusal.sentence()?);
+    let row = match is_of_a_row(number) {
+        true => "The second number of the answer is the row.",
+        false => "It is of no row: the second number of the answer is 0.",
+    };
+    Some(format!(
+        "refused {number}, {name}: {sentence}.\n{row}\n`stramashly show FILE` tells what the table \
+         holds there and what it should hold; docs/FORMAT.md\nhas every rule and the order in which \
+         they are tested.\n"
+    ))
+}
 
 /// The lines of a command, if there is one of that name.
-pub fn of(name: &str) -> Option<String> {
+fn usage(name: &str) -> Option<String> {
     let (_, usage) = TEXT.split_once("usage:\n")?;
     let (usage, _) = usage.split_once("\n\n")?;
     let begin = format!("  stramashly {name} ");
@@ -26,7 +68,7 @@ stramashly: a race checker for recorded runs of a graphics device
 usage:
   stramashly check [--hex] FILE...    judge each table
   stramashly check --sarif [--hex] FILE...
-                                      the same as one SARIF 2.1.0 log
+                                      the same as one SARIF 2.1.0 log, with fingerprints and edits
   stramashly fill [--hex] FILE...     decide the blank sources of each table
   stramashly fill --table [--hex] FILE
                                       the table with its blanks filled
@@ -53,19 +95,35 @@ usage:
                                       matter, or --all
   stramashly edit [--hex] FILE EDIT...
                                       the table with changes made, as explain names them
+  stramashly summary [--csv | --json | --html [--pages FOLDER]] FILE...
+                                      many runs summed up: verdicts, racing pairs, folders, the
+                                      worst runs, what was found in how many
+  stramashly summary [--baseline FILE] [--against FILE] FILE...
+                                      the same, less what is known, and what is new or gone
   stramashly batch [--json] [-j N]    lines on standard input: `check HEX`, `fill HEX`,
                                       `report HEX`, `derive HEX M N`, `accepts HEX M N ...`,
                                       `rows HEX`, `write VERSION ROOM PLACES ROWS DEPENDENCIES`;
                                       of two pieces `check2 HEX HEX2` and so on, and
                                       `row2 HEX HEX2 ROW`
+  stramashly batch --ids [--status] [-j N]
+                                      lines `ID<TAB>HEX` or `ID<TAB>check HEX` and so on, answers
+                                      `ID<TAB>answer`
+  stramashly batch --raw [--ids] [--status] [-j N]
+                                      tables as bytes, one after the other
   stramashly completion bash|zsh|fish
                                       a script that completes commands and options
-  stramashly help [COMMAND]           this text, or a command's lines
+  stramashly help [COMMAND | N]       this text, a command's lines and options, or what refusal N
+                                      means
   stramashly --help | --version
 
-FILE `-` is standard input; a directory stands for the files in it and below it that end in
-.table, or in .hex with --hex. With --hex a file holds hex digits, and a new table is written in
-them; white space is ignored. `--` ends the options, for names that begin with a dash. With --json
+FILE `-` is standard input; a directory stands for every file in it and below it, whatever its
+name: tables, texts, JSON lines, hex digits in a name that ends in .hex, and what is none of these
+is refused. Names that begin with a dot, links to directories and what is no regular file are left
+out and counted on standard error. --only PATTERN takes files of directories that match, by their
+names or, if it has a /, by their paths: *, ?, **, [a-z]. --files0-from LIST takes names from a
+file, or `-`, a zero byte after each, as `find -print0` writes them. With --hex every file holds
+hex digits, and a new table is written in them; white space is ignored. Bytes go to a terminal
+only with --force. `--` ends the options, for names that begin with a dash. With --json
 each answer of check, fill, report, derive, accepts, explain and batch is an object. With --quiet
 check, fill, report, derive and accepts print no answers: the exit status has it. With --chains,
 check, fill, report, explain, draw and batch answer for a device that reports
@@ -74,7 +132,7 @@ vulkanMemoryModelAvailabilityVisibilityChains. -j N works in N threads, answers 
 16 bytes each, after those of FILE, and answer for the joined table; sources and moments are
 counted over both. In a batch line `-` is a piece of no bytes. An answer is coloured on a terminal
 unless NO_COLOR is set. Of several files a last line on standard error says how many had which
-answer.
+answer. What takes over a second shows on a terminal how far it is.
 
 Instead of a table's bytes a FILE may hold text, which begins with `stramashly` and a version, or
 JSON lines, which begin with `{`. What is wrong with it is told as FILE:LINE:COLUMN. Where it says
@@ -118,7 +176,7 @@ as objects, in the same order:
   {\"verdict\":\"race\",\"first\":I,\"second\":J,\"byte\":B}
   {\"verdict\":\"overwritten\",\"reader\":Y,\"writer\":Z,\"byte\":B}
   {\"verdict\":\"cycle\",\"rows\":[R,...],\"edges\":[E,...]}
-  {\"verdict\":\"refused\",\"number\":N,\"row\":ROW}
+  {\"verdict\":\"refused\",\"number\":N,\"row\":ROW,\"name\":NAME}
   {\"verdict\":\"none\"}
   {\"verdict\":\"filled\",\"sources\":[S,...]}
   {\"verdict\":\"report\",\"conflicting\":C,\"mutual\":M,\"ordered\":O,\"racing\":R,\"share\":SHARE or null}
@@ -155,7 +213,15 @@ error.
 
 batch answers every line, in order; blank lines and those that begin with # have no answer. A
 bad line is answered `error` and a reason; the next line is read all the same. Its exit status
-is 0, or 4 if a line was bad.
+is 0, or 4 if a line was bad; with --status it is the highest of all answers. With --raw each
+table is as long as its first four bytes say; after a length that no table has nothing is read.
+
+summary judges every run by check, and counts of those that race the racing pairs. It groups what
+it found by the shader lines of the first racing pair, or else by the rows' kinds and what they
+lack, and gives each group a fingerprint, which --sarif has too. Its exit status is that of check;
+findings that the --baseline has, fingerprints a line or an earlier summary as JSON, don't count.
+--against compares with an earlier summary as JSON. --csv has a line for each run. --pages FOLDER
+writes a page for each run that the page names, and links to it.
 
 examples:
   stramashly check examples/leak.table
@@ -171,4 +237,6 @@ examples:
   stramashly make run.txt > run.table
   xxd -p examples/leak.table | stramashly check --hex -
   echo 'check 0000000401000000' | stramashly batch
+  cat examples/p.table examples/leak.table | stramashly batch --raw --ids --status
+  stramashly summary examples
 ";

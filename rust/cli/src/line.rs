@@ -43,6 +43,37 @@ pub fn asked(line: &[u8]) -> Option<Result<Asked, String>> {
     Some(asked)
 }
 
+/// The same of a line that begins with a name and a tab. After these a table's
+/// digits alone ask for a check.
+#[allow(clippy::type_complexity)]
+pub fn asked_with_id(line: &[u8]) -> Option<(Option<String>, Result<Asked, String>)> {
+    let (_, first) = words(line).next()?;
+    if first.starts_with(b"#") {
+        return None;
+    }
+    let Some(tab) = line.iter().position(|letter| *letter == b'\t') else {
+        return Some((
+            None,
+            Err("no tab stands between a name and a table".to_string()),
+        ));
+    };
+    let id = String::from_utf8_lossy(&line[..tab]).into_owned();
+    // What is told of a place counts from the line's beginning.
+    let mut rest = line.to_vec();
+    rest[..=tab].fill(b' ');
+    let is_command = words(&rest)
+        .next()
+        .is_some_and(|(_, word)| Kind::of_line(word).is_some());
+    let asked = match is_command {
+        true => asked(&rest)?,
+        false => bytes((tab + 1, &line[tab + 1..])).map(|(table, _)| Asked {
+            question: Question::Check,
+            pieces: [table, Vec::new()],
+        }),
+    };
+    Some((Some(id), asked))
+}
+
 fn words(line: &[u8]) -> impl Iterator<Item = Word<'_>> {
     let mut next = 0;
     line.split(u8::is_ascii_whitespace).filter_map(move |word| {

@@ -8,15 +8,23 @@ mod colour;
 mod completion;
 mod explained;
 mod files;
+mod fixes;
 mod folder;
+mod found;
+mod glob;
 mod help;
 mod input;
 mod judge;
 mod line;
 mod make;
+mod moments;
+mod near;
 mod output;
+mod overview;
 mod parallel;
+mod progress;
 mod question;
+mod races;
 mod read;
 mod sarif;
 mod summary;
@@ -39,18 +47,27 @@ enum Status {
     Trouble = 4,
 }
 
+/// The version, then the commit of the sources and the kit that the library was
+/// proved with.
+const VERSION: &str = concat!(
+    "stramashly ",
+    env!("CARGO_PKG_VERSION"),
+    "\ncommit ",
+    env!("STRAMASHLY_BUILT_COMMIT"),
+    "\nlibrary proved with ",
+    env!("STRAMASHLY_BUILT_KIT"),
+    "\n"
+);
+
 fn main() -> ExitCode {
     let status = match arguments::parse(std::env::args_os().skip(1)) {
         Ok(Command::Help) => print(help::TEXT),
-        Ok(Command::Version) => print(concat!("stramashly ", env!("CARGO_PKG_VERSION"), "\n")),
+        Ok(Command::Version) => print(VERSION),
         Ok(Command::Files(request)) => files::run(&request),
         Ok(Command::HelpOf(name)) => print(&help::of(&name).unwrap_or_default()),
         Ok(Command::Completion(shell)) => print(&completion::script(shell)),
-        Ok(Command::Batch {
-            is_json,
-            has_chains,
-            jobs,
-        }) => batch::run(is_json, has_chains, jobs),
+        Ok(Command::Batch(batch)) => batch::run(batch),
+        Ok(Command::Summary(overview)) => overview::run(&overview),
         Err(reason) => {
             complain(&format!("{reason}; try `stramashly --help`"));
             Status::Trouble

@@ -145,7 +145,8 @@ impl Kind {
 /// A moment as its number, or as its row and `before`, `at` or `after`.
 fn moment(word: &str) -> Result<u16, String> {
     let Some((row, place)) = word.split_once('.') else {
-        return number(word, u16::MAX);
+        let forms = "a moment is one, or 1.before, 1.at, 1.after";
+        return number(word, u16::MAX).map_err(|reason| format!("{reason}; {forms}"));
     };
     let places = ["before", "at", "after"];
     let place = places.iter().position(|other| *other == place);

@@ -6,10 +6,12 @@ use crate::input;
 use crate::make::Making;
 use format::Hex;
 use mend::Notes;
-use std::ffi::OsStr;
+use std::ffi::{OsStr, OsString};
 use std::fmt;
-use std::fs::File;
+use std::fs::{self, File};
 use std::io::{self, ErrorKind, Read};
+use std::os::unix::ffi::OsStringExt;
+use std::path::Path;
 use stramashly::{Checker, MAX_DEPENDENCIES, MAX_ROWS, MAX_TABLE_BYTES, ROW_BYTES};
 use text::{Draft, Form, Trouble};
 
@@ -28,6 +30,8 @@ pub struct Given {
     pub draft: Option<Draft>,
     /// The form of what wasn't bytes.
     pub form: Option<Form>,
+    /// What the bytes look like, if that is no table.
+    pub likeness: Option<&'static str>,
 }
 
 impl Given {
@@ -52,8 +56,36 @@ impl From<Vec<u8>> for Given {
             notes: Notes::default(),
             draft: None,
             form: None,
+            likeness: None,
         }
     }
+}
+
+/// What bytes look like that are no text of a table: told before their refusal.
+fn likeness(bytes: &[u8]) -> Option<&'static str> {
+    const HEAD: &[u8] = b"stramashly";
+    const ENOUGH: usize = 512;
+    let bytes = bytes.strip_prefix(b"\xEF\xBB\xBF").unwrap_or(bytes);
+    let front = &bytes[..bytes.len().min(ENOUGH)];
+    let is_text = |letter: &u8| matches!(letter, b'\t' | b'\n' | b'\r' | b' '..=b'~' | 0x80..);
+    let letters = front.trim_ascii();
+    // A table begins with a byte 0, and a text has none.
+    if letters.is_empty() || !front.iter().all(is_text) {
+        return None;
+    }
+    let is_digit = |letter: &u8| letter.is_ascii_hexdigit() || letter.is_ascii_whitespace();
+    let begins = letters.len() >= HEAD.len() && letters[..HEAD.len()].eq_ignore_ascii_case(HEAD);
+    Some(match letters[0] {
+        _ if begins => {
+            "it looks like a table's text, whose first words are `stramashly` and a version"
+        }
+        b'[' => "it looks like a JSON array; JSON lines have an object a line",
+        b'"' => "it looks like JSON; JSON lines have an object a line",
+        _ if letters.iter().all(is_digit) => {
+            "it looks like hex digits, which --hex reads, and a name that ends in .hex"
+        }
+        _ => "it looks like text, but not a table's, which begins with `stramashly` and a version",
+    })
 }
 
 /// Why there is nothing to answer, and where in the file that shows.
@@ -103,10 +135,50 @@ impl fmt::Display for Unread {
     }
 }
 
-/// Reads a file, whichever of the forms it has; with --hex it has digits,
-/// unless it is a text that a table is to be made of.
+/// Reads a file, whichever of the forms it has; with --hex, or by a name that
+/// ends in .hex, it has digits, unless it is a text that a table is to be made of.
 pub fn read(name: &OsStr, request: &Request) -> Result<Given, Unread> {
-    let is_hex = request.is_hex && request.task != Task::Make(Making::Read);
+    if request.task == Task::Make(Making::Read) {
+        return read_as(name, false);
+    }
+    read_named(name, request.is_hex)
+}
+
+/// Reads a file of a table.
+pub fn read_named(name: &OsStr, is_hex: bool) -> Result<Given, Unread> {
+    let end = Path::new(name).extension();
+    let is_named = end.is_some_and(|end| end.eq_ignore_ascii_case("hex"));
+    read_as(name, is_hex || is_named)
+}
+
+/// The names in a file, or on standard input, a zero byte after each.
+pub fn listed(list: &OsStr) -> Result<Vec<OsString>, String> {
+    let trouble = |error: String| format!("{}: {error}", list.to_string_lossy());
+    let mut bytes = Vec::new();
+    if list == "-" {
+        input::trouble()?;
+        let read = io::stdin().lock().read_to_end(&mut bytes);
+        read.map_err(|error| trouble(error.to_string()))?;
+    } else {
+        bytes = fs::read(list).map_err(|error| trouble(error.to_string()))?;
+    }
+    let names = bytes.split(|byte| *byte == 0);
+    let names: Vec<OsString> = names
+        .filter(|name| !name.is_empty())
+        .map(|name| OsString::from_vec(name.to_vec()))
+        .collect();
+    if names.is_empty() {
+        return Err(trouble("the list has no names".to_string()));
+    }
+    if list == "-" && names.iter().any(|name| name == "-") {
+        return Err(trouble(
+            "standard input can't be in its own list".to_string(),
+        ));
+    }
+    Ok(names)
+}
+
+fn read_as(name: &OsStr, is_hex: bool) -> Result<Given, Unread> {
     if name == "-" {
         input::trouble()?;
         read_from(io::stdin().lock(), is_hex)
@@ -127,7 +199,9 @@ fn read_from(mut input: impl Read, is_hex: bool) -> Result<Given, Unread> {
     };
     more(&mut bytes, KEPT_BYTES)?;
     let Some(form) = text::form(&bytes) else {
-        return Ok(bytes.into());
+        let likeness = likeness(&bytes);
+        let given = Given::from(bytes);
+        return Ok(Given { likeness, ..given });
     };
     more(&mut bytes, TEXT_BYTES - KEPT_BYTES + 1)?;
     read_text(form, &bytes)
@@ -143,6 +217,7 @@ fn read_text(form: Form, bytes: &[u8]) -> Result<Given, Unread> {
         notes: draft.notes.clone(),
         draft: Some(draft),
         form: Some(form),
+        likeness: None,
     })
 }
 

@@ -2,12 +2,15 @@
 //! for tools that list findings beside the program's lines.
 
 use crate::answers::Answer;
+use crate::fixes::{fixes, Fix};
+use crate::found::found;
+use crate::races::races;
 use crate::read::{Given, Unread};
 use crate::verdict::Verdict;
 use format::Object;
 use mend::first_row;
-use stramashly::{Checker, ROW_BYTES};
-use words::{findings, Finding};
+use stramashly::{Checker, OwnedCheckAnswer, ROW_BYTES};
+use words::{findings, race_findings, Finding};
 
 /// The verdict that is a rule's name, its title and what it finds.
 type Rule = (Verdict, &'static str, &'static str);
@@ -45,16 +48,37 @@ pub struct Origin<'a> {
 
 /// The check's verdict, and the results of a table, an object a line.
 pub fn results(given: &Given, origin: &Origin, checker: &mut Checker) -> (Verdict, String) {
-    let found = findings(&given.table, &given.notes, checker);
-    let results = found.iter().map(|finding| result(finding, given, origin));
-    let verdict = found
-        .first()
-        .map(|finding| finding.answer.borrowed().verdict());
+    let (table, notes) = (&given.table, &given.notes);
+    let answer = checker.check(table).into_owned();
+    let verdict = answer.borrowed().verdict();
+    if verdict == Verdict::RaceFree {
+        return (verdict, String::new());
+    }
+    // Only what the proved library can't tell goes to the second implementation.
+    let races = match verdict {
+        Verdict::Race => races(table, checker),
+        _ => None,
+    };
+    let found = match races {
+        Some(races) => race_findings(table, notes, &races),
+        None => findings(table, notes, checker),
+    };
+    let mended = match answer {
+        OwnedCheckAnswer::Race { first, second, .. } => {
+            fixes(table, (first.into(), second.into()), checker)
+        }
+        _ => Vec::new(),
+    };
+    let results = found.iter().enumerate().map(|(place, finding)| {
+        // The edits are those of the race that a check shows.
+        let mended = if place == 0 { &mended[..] } else { &[] };
+        result(finding, given, origin, mended)
+    });
     let results = results.map(|result| format!("{result}\n")).collect();
-    (verdict.unwrap_or(Verdict::RaceFree), results)
+    (verdict, results)
 }
 
-fn result(finding: &Finding, given: &Given, origin: &Origin) -> Object {
+fn result(finding: &Finding, given: &Given, origin: &Origin, mended: &[Fix]) -> Object {
     let verdict = finding.answer.borrowed().verdict();
     let rule = RULES.iter().position(|(id, ..)| *id == verdict);
     let mut object = Object::default();
@@ -79,14 +103,73 @@ fn result(finding: &Finding, given: &Given, origin: &Origin) -> Object {
     if !related.is_empty() {
         object.list("relatedLocations", &related);
     }
+    if let Some(found) = found(&given.table, &given.notes, &finding.answer.borrowed()) {
+        let mut prints = Object::default();
+        prints.text(FINGERPRINT, &found.fingerprint.to_string());
+        object.put("partialFingerprints", prints);
+    }
+    // Of a text the bytes aren't there to be replaced; the edit is told all the same.
+    let replaced: Vec<Object> = match (origin.file, given.form.is_none() && !origin.is_hex) {
+        (Some(file), true) => mended
+            .iter()
+            .map(|fix| replaced(fix, file, given))
+            .collect(),
+        _ => Vec::new(),
+    };
+    if !replaced.is_empty() {
+        object.list("fixes", &replaced);
+    }
     let mut properties = Object::default();
     if let Some(file) = origin.file {
         properties.text("table", file);
     }
     properties.text("answer", &finding.answer.to_string());
     properties.put("proved", finding.is_proved);
+    if !mended.is_empty() {
+        let edits: Vec<String> = mended.iter().map(Fix::edit).collect();
+        properties.texts("edits", &edits);
+    }
     object.put("properties", &properties);
     object
+}
+
+/// The name of what stays the same of a finding from run to run.
+const FINGERPRINT: &str = "stramashly/v1";
+
+/// A fix of a table's bytes.
+fn replaced(fix: &Fix, file: &str, given: &Given) -> Object {
+    let bytes = fix.bytes(&given.table).into_iter();
+    let replacements = bytes.map(|(at, value)| {
+        let mut region = Object::default();
+        region.put("byteOffset", at);
+        region.put("byteLength", 1);
+        let mut content = Object::default();
+        content.text("binary", &base64(value));
+        let mut replacement = Object::default();
+        replacement.put("deletedRegion", region);
+        replacement.put("insertedContent", content);
+        replacement
+    });
+    let mut artifact = Object::default();
+    artifact.text("uri", &uri(file));
+    let mut change = Object::default();
+    change.put("artifactLocation", artifact);
+    change.list("replacements", replacements);
+    let outcome = match fix.is_whole {
+        true => "then nothing races",
+        false => "then these rows don't race, others do",
+    };
+    let mut object = Object::default();
+    object.put("description", text(&format!("{}; {outcome}", fix.edit())));
+    object.list("artifactChanges", [change]);
+    object
+}
+
+/// A byte as binary contents are written.
+fn base64(byte: u8) -> String {
+    const LETTERS: &[u8; 64] = b"ABCDEFGHIJKLMNOPQRSTUVWXYZabcdefghijklmnopqrstuvwxyz0123456789+/";
+    let letter = |sixth: u8| char::from(LETTERS[usize::from(sixth)]);
+    format!("{}{}==", letter(byte >> 2), letter((byte & 3) << 4))
 }
 
 fn text(text: &str) -> Object {
@@ -140,7 +223,7 @@ fn physical(file: &str, region: &Object) -> Object {
 
 /// A file's name as a reference: what has a meaning there is written by its
 /// number.
-fn uri(file: &str) -> String {
+pub fn uri(file: &str) -> String {
     let mut uri = String::new();
     if file.starts_with('/') {
         uri += "file://";
@@ -209,7 +292,14 @@ pub fn log(results: &[String], notifications: &[Object]) -> String {
 
 #[cfg(test)]
 mod tests {
-    use super::uri;
+    use super::{base64, uri};
+
+    #[test]
+    fn bytes_are_written_as_others_read_them() {
+        for (byte, text) in [(0, "AA=="), (3, "Aw=="), (5, "BQ=="), (255, "/w==")] {
+            assert_eq!(base64(byte), text);
+        }
+    }
 
     #[test]
     fn names_are_references() {

@@ -30,7 +30,8 @@ impl Summary {
         let unread = format!("{} can't be read", self.unread);
         let unread = (self.unread > 0).then_some(unread);
         let counts: Vec<String> = counts.chain(unread).collect();
-        format!("{all} files: {}", counts.join(", "))
+        let files = if all == 1 { "file" } else { "files" };
+        format!("{all} {files}: {}", counts.join(", "))
     }
 }
 
@@ -54,5 +55,8 @@ mod tests {
             summary.text(),
             "5 files: 2 race-free, 1 race, 1 refused, 1 can't be read"
         );
+        let mut one = Summary::default();
+        one.count(Some(Verdict::RaceFree));
+        assert_eq!(one.text(), "1 file: 1 race-free");
     }
 }

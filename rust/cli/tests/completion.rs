@@ -42,7 +42,14 @@ fn bash_completes_commands_options_and_shells() {
     );
     assert_eq!(
         offered("stramashly show --"),
-        ["--hex", "--text", "--json-lines", "--jobs"]
+        [
+            "--hex",
+            "--text",
+            "--json-lines",
+            "--jobs",
+            "--only",
+            "--files0-from"
+        ]
     );
     assert_eq!(offered("stramashly -j 4 fill --t"), ["--table", "--then"]);
     assert_eq!(offered("stramashly --then rows check --s"), ["--sarif"]);
@@ -52,6 +59,16 @@ fn bash_completes_commands_options_and_shells() {
     assert!(offered("stramashly check ru").is_empty());
     assert!(offered("stramashly check -j 4").is_empty());
     assert!(offered("stramashly check --then ch").is_empty());
+    for option in [
+        "--only",
+        "--files0-from",
+        "--baseline",
+        "--against",
+        "--pages",
+    ] {
+        assert!(offered(&format!("stramashly summary {option} ch")).is_empty());
+    }
+    assert_eq!(offered("stramashly summary --b"), ["--baseline"]);
 }
 
 #[test]

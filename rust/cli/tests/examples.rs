@@ -46,7 +46,13 @@ fn every_line_of_the_page_is_right() {
             messages: String::new(),
             status: Some(example.status),
         };
-        assert_eq!(stramashly_in(&folder(), &words, b""), expected, "{words:?}");
+        let mut answer = stramashly_in(&folder(), &words, b"");
+        // Which of two moments isn't there is told besides.
+        if example.answer == "refused 12 0" {
+            assert!(answer.messages.contains("moment"), "{words:?}");
+            answer.messages.clear();
+        }
+        assert_eq!(answer, expected, "{words:?}");
     }
 }
 

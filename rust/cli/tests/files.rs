@@ -76,7 +76,7 @@ fn several_files_have_their_names_and_the_highest_status() {
     );
     let with_input = format!("-: refused 1 0\n{lines}");
     assert_eq!(
-        stramashly(&["check", "-", &clean, &cyclic], b"short"),
+        stramashly(&["check", "-", &clean, &cyclic], b"\0hort"),
         summed(&with_input, 3, "3 files: 1 race-free, 1 cycle, 1 refused")
     );
     // Quiet: the status alone.
@@ -100,43 +100,6 @@ fn several_files_have_their_names_and_the_highest_status() {
     let summary = "3 files: 1 race-free, 1 cycle, 1 can't be read";
     let lines: Vec<&str> = answer.messages.lines().collect();
     assert_eq!(lines[1..], [format!("stramashly: {summary}")]);
-}
-
-/// A directory stands for its tables, by name, those below it too.
-#[test]
-fn a_directory_stands_for_its_tables() {
-    let folder = scratch().join("tables-of-a-directory");
-    let _ = fs::remove_dir_all(&folder);
-    fs::create_dir_all(folder.join("below")).unwrap();
-    fs::create_dir_all(folder.join(".hidden")).unwrap();
-    for (name, bytes) in [
-        ("b.table", from_hex(P)),
-        ("a.table", from_hex(&p_ending("FFFF0000"))),
-        ("below/c.table", b"short".to_vec()),
-        ("below/d.hex", P.as_bytes().to_vec()),
-        (".hidden/e.table", from_hex(P)),
-        ("notes.txt", b"no table".to_vec()),
-    ] {
-        fs::write(folder.join(name), bytes).unwrap();
-    }
-    for jobs in ["1", "4"] {
-        let words = ["check", "-j", jobs, "tables-of-a-directory"];
-        let answer = stramashly(&words, b"");
-        assert_eq!(
-            answer.output,
-            "tables-of-a-directory/a.table: cycle 2 rows 0 3 edges 1 4\n\
-             tables-of-a-directory/b.table: race-free\n\
-             tables-of-a-directory/below/c.table: refused 1 0\n"
-        );
-        assert_eq!(answer.status, Some(3));
-    }
-    // Names are told although there is only one.
-    let answer = stramashly(&["check", "--hex", "--json", "tables-of-a-directory"], b"");
-    let object = r#"{"file":"tables-of-a-directory/below/d.hex","verdict":"race-free"}"#;
-    assert_eq!(answer.output, format!("{object}\n"));
-    let answer = stramashly(&["draw", "tables-of-a-directory"], b"");
-    assert_eq!((answer.output.as_str(), answer.status), ("", Some(4)));
-    assert!(answer.messages.contains("directory"), "{}", answer.messages);
 }
 
 /// In objects a file that can't be read has its own.
@@ -223,12 +186,13 @@ fn help_and_version() {
     assert_eq!(stramashly(&["check", "--help"], b""), help);
     assert_eq!(stramashly(&["help"], b""), help);
     let fill = stramashly(&["help", "fill"], b"");
-    assert_eq!(fill.output.lines().count(), 3, "{}", fill.output);
     assert!(fill.output.contains("stramashly fill --table"));
+    assert!(fill.output.contains("-q, --quiet"), "{}", fill.output);
+    assert!(!fill.output.contains("--sarif"), "{}", fill.output);
     // Every command has its lines.
     for name in [
         "check", "fill", "report", "derive", "accepts", "show", "explain", "draw", "edit", "batch",
-        "help",
+        "summary", "help",
     ] {
         let of_name = stramashly(&["help", name], b"");
         assert!(
@@ -236,8 +200,16 @@ fn help_and_version() {
             "{name}"
         );
     }
-    let version = format!("stramashly {}\n", env!("CARGO_PKG_VERSION"));
-    assert_eq!(stramashly(&["--version"], b""), good(&version, 0));
+    let version = stramashly(&["--version"], b"");
+    assert_eq!((version.messages.as_str(), version.status), ("", Some(0)));
+    let lines: Vec<&str> = version.output.lines().collect();
+    assert_eq!(lines[0], concat!("stramashly ", env!("CARGO_PKG_VERSION")));
+    assert!(
+        lines[1].starts_with("commit ") && lines[1].len() > 7,
+        "{lines:?}"
+    );
+    assert!(lines[2].starts_with("library proved with "), "{lines:?}");
+    assert_eq!(lines.len(), 3);
 }
 
 /// The largest table there is, with more bytes after it: the header decides

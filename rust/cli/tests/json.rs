@@ -30,7 +30,7 @@ const OBJECTS: [(&str, &str, i32); 19] = [
     ),
     (
         "check too-long.table",
-        r#"{"verdict":"refused","number":7,"row":1}"#,
+        r#"{"verdict":"refused","number":7,"row":1,"name":"EXTENT"}"#,
         3,
     ),
     (
@@ -78,7 +78,7 @@ const OBJECTS: [(&str, &str, i32); 19] = [
     ("derive p.table 8 3", r#"{"verdict":"not-before"}"#, 1),
     (
         "derive p.table 8 8",
-        r#"{"verdict":"refused","number":12,"row":0}"#,
+        r#"{"verdict":"refused","number":12,"row":0,"name":"MOMENTS"}"#,
         3,
     ),
     (

@@ -14,7 +14,7 @@ fn examples() -> PathBuf {
 
 /// What a property of an object is: by the schema of SARIF 2.1.0, as far as the
 /// log goes. `*` begins a list, `!` one that must be there.
-const SCHEMA: [(&str, &[(&str, &str)]); 16] = [
+const SCHEMA: [(&str, &[(&str, &str)]); 21] = [
     (
         "log",
         &[("$schema", "uri"), ("!version", "2.1.0"), ("!runs", "*run")],
@@ -67,9 +67,28 @@ const SCHEMA: [(&str, &[(&str, &str)]); 16] = [
             ("level", "level"),
             ("!locations", "*location"),
             ("relatedLocations", "*location"),
+            ("!partialFingerprints", "prints"),
+            ("fixes", "*fix"),
             ("properties", "properties"),
         ],
     ),
+    ("prints", &[("!stramashly/v1", "print")]),
+    (
+        "fix",
+        &[("description", "message"), ("!artifactChanges", "*change")],
+    ),
+    (
+        "change",
+        &[
+            ("!artifactLocation", "artifact"),
+            ("!replacements", "*replacement"),
+        ],
+    ),
+    (
+        "replacement",
+        &[("!deletedRegion", "region"), ("insertedContent", "content")],
+    ),
+    ("content", &[("binary", "text")]),
     ("message", &[("!text", "text")]),
     (
         "location",
@@ -98,7 +117,12 @@ const SCHEMA: [(&str, &[(&str, &str)]); 16] = [
     // Whoever writes a log may put anything there.
     (
         "properties",
-        &[("table", "text"), ("!answer", "text"), ("!proved", "flag")],
+        &[
+            ("table", "text"),
+            ("!answer", "text"),
+            ("!proved", "flag"),
+            ("edits", "*text"),
+        ],
     ),
 ];
 
@@ -120,6 +144,7 @@ fn validate(node: &Node, kind: &str) {
         "uri" => has(text(node)
             .bytes()
             .all(|byte| byte.is_ascii_alphanumeric() || b"/-._~%:".contains(&byte))),
+        "print" => has(text(node).len() == 16),
         "flag" => has(matches!(&node.value, Value::Word(word) if word != "null")),
         "number" => drop(count()),
         "line" => has(count() > 0),
@@ -321,4 +346,60 @@ fn what_cant_be_read_is_a_notification() {
     let region = "locations.0.physicalLocation.region.startLine";
     assert_eq!(word(&log_, &format!("{first}.{region}")), "2");
     assert!(results(&log_).is_empty());
+}
+
+/// Of a race whose flag was dropped: a fix that does what it says when it is made.
+#[test]
+fn fixes_mend_the_table() {
+    let (log, answer) = log(&examples(), &["leak.table", "leak.txt"], b"");
+    assert_eq!(answer.status, Some(1));
+    let first = &results(&log)[0];
+    assert_eq!(word(first, "properties.edits.0"), "row 2 flags 3");
+    let fix = under(first, "fixes.0");
+    assert_eq!(
+        word(fix, "description.text"),
+        "row 2 flags 3; then nothing races"
+    );
+    let replacement = under(fix, "artifactChanges.0.replacements.0");
+    assert_eq!(
+        word(fix, "artifactChanges.0.artifactLocation.uri"),
+        "leak.table"
+    );
+    assert_eq!(word(replacement, "insertedContent.binary"), "Aw==");
+    assert_eq!(word(replacement, "deletedRegion.byteLength"), "1");
+    let mut table = fs::read(examples().join("leak.table")).unwrap();
+    let at: usize = word(replacement, "deletedRegion.byteOffset")
+        .parse()
+        .unwrap();
+    table[at] = 3;
+    assert_eq!(stramashly(&["check", "-"], &table).output, "race-free\n");
+    // The other race of the table has no edits of its own, and that of a text no bytes.
+    let of = |file: &str| -> Vec<&Node> {
+        let all = results(&log).iter();
+        all.filter(|result| word(result, "properties.table") == file)
+            .collect()
+    };
+    assert_eq!(of("leak.table").len(), 2);
+    let members = |node: &Node| match &node.value {
+        Value::Object(members) => members.iter().map(|member| member.key.clone()).collect(),
+        _ => Vec::new(),
+    };
+    assert!(!members(of("leak.table")[1]).contains(&"fixes".to_string()));
+    assert!(!members(of("leak.txt")[0]).contains(&"fixes".to_string()));
+    assert_eq!(
+        word(of("leak.txt")[0], "properties.edits.0"),
+        "row 2 flags 3"
+    );
+}
+
+/// However many threads work, the log is the same.
+#[test]
+fn the_log_doesnt_depend_on_threads() {
+    let of = |jobs: &str| stramashly_in(&examples(), &["check", "--sarif", "-j", jobs, "."], b"");
+    let one = of("1");
+    assert_eq!(of("4"), one);
+    assert_eq!(
+        stramashly_in(&examples(), &["check", "--sarif", "."], b""),
+        one
+    );
 }

@@ -53,7 +53,7 @@ fn objects() {
     let answer = stramashly(&["batch", "--json", "-j", "2"], lines.as_bytes());
     let expected = "{\"verdict\":\"rows\",\"rows\":[]}\n\
          {\"verdict\":\"written\",\"table\":\"0000000401000000\"}\n\
-         {\"verdict\":\"refused\",\"number\":13,\"row\":0}\n";
+         {\"verdict\":\"refused\",\"number\":13,\"row\":0,\"name\":\"ROOM\"}\n";
     assert_eq!(answer.output, expected);
     assert_eq!(answer.status, Some(0));
 }

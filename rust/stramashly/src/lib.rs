@@ -89,8 +89,10 @@ mod answer;
 mod checker;
 mod derivation;
 mod engine;
+mod refusal;
 mod report;
 mod rows;
+mod values;
 mod writer;
 
 pub use answer::{CheckAnswer, CheckAnswerOf, Code, OwnedCheckAnswer, Packed};
@@ -104,9 +106,14 @@ pub use engine::{
 };
 pub use format::{Row, BLANK, INITIAL};
 pub use format::{MAX_AGENTS, MAX_DEPENDENCIES, MAX_ROWS, MAX_TABLE_BYTES, ROW_BYTES};
+pub use refusal::REFUSALS;
 pub use report::{OwnedReportAnswer, Report, ReportAnswer, ReportAnswerOf, Share};
 pub use rows::Rows;
+pub use values::{AgentKind, Class, Classes, Flags, Kind, Order, Scope, UnknownCode};
 pub use writer::{Refusal, TableWriter};
+
+/// The version of this crate, and of the library and header that it is released with.
+pub const VERSION: &str = env!("CARGO_PKG_VERSION");
 
 /// Least length of the lent work area, in 64-bit words.
 pub const WORK_WORDS: usize = 8192;

@@ -27,9 +27,9 @@ impl Error for Refusal {}
 /// a fill admits, or none.
 ///
 /// ```
-/// use stramashly::{CheckAnswer, Checker, Row, TableWriter, INITIAL};
+/// use stramashly::{CheckAnswer, Checker, Kind, Row, TableWriter, INITIAL};
 ///
-/// let write = Row { kind: 1, length: 4, source: INITIAL, ..Row::default() };
+/// let write = Row { kind: Kind::PlainWrite.into(), length: 4, source: INITIAL, ..Row::default() };
 /// let read = Row { length: 4, ..Row::default() };
 /// let mut writer = TableWriter::new(1);
 /// let table = writer.place([0, 0, 0, 0]).row(write).row(read).write().unwrap();
@@ -39,7 +39,10 @@ impl Error for Refusal {}
 /// assert_eq!(TableWriter::read(&table).as_ref(), Ok(&writer));
 ///
 /// writer.row(Row { kind: 9, ..write });
-/// assert_eq!(writer.write().unwrap_err().to_string(), "refused 5 2");
+/// let refusal = writer.write().unwrap_err();
+/// assert_eq!(refusal.to_string(), "refused 5 2");
+/// assert_eq!(refusal.name(), Some("CODE"));
+/// assert_eq!(refusal.sentence(), Some("a code of the row is out of range"));
 /// ```
 #[derive(Clone, Debug, PartialEq, Eq)]
 pub struct TableWriter {

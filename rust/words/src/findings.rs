@@ -6,7 +6,7 @@ use crate::explain::{shown, Shown};
 use crate::headline::headline;
 use crate::refusal;
 use crate::told::Checked;
-use mend::{Judge, Notes, Relations, Run};
+use mend::{Goal, Judge, Notes, Relations, Run};
 use stramashly::OwnedCheckAnswer;
 
 /// One thing that was found.
@@ -53,6 +53,26 @@ pub fn findings(table: &[u8], notes: &Notes, checker: &mut dyn Judge) -> Vec<Fin
         }
         _ => vec![finding(answer, &shown, true)],
     }
+}
+
+/// Races that whoever asks has found already, the first of them the check's own
+/// answer. Nothing is judged again.
+pub fn race_findings(table: &[u8], notes: &Notes, races: &[Goal]) -> Vec<Finding> {
+    let run = Run::of(table).noted(notes);
+    let findings = races.iter().enumerate().map(|(place, goal)| {
+        let shown = Shown::Race(*goal);
+        Finding {
+            answer: OwnedCheckAnswer::Race {
+                first: goal.first as u16,
+                second: goal.second as u16,
+                byte: goal.byte as u16,
+            },
+            message: message(table, &shown),
+            rows: described(&run, &shown),
+            is_proved: place == 0,
+        }
+    });
+    findings.collect()
 }
 
 fn message(table: &[u8], shown: &Shown) -> String {

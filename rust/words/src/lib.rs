@@ -47,7 +47,7 @@ pub use derivation::{at, derivation_lines, derived_lines, meeting, moment_words,
 pub use describe::Describe;
 pub use explain::{explain, explain_noted, shown, Explanation, Shown};
 pub use fault::fault_words;
-pub use findings::{findings, Finding};
+pub use findings::{findings, race_findings, Finding};
 pub use headline::headline;
 pub use inconsistent::edge_name;
 pub use names::{CLASSES, KINDS, ORDERS, SCOPES, SORTS};

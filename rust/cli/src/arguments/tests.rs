@@ -19,6 +19,9 @@ fn request(task: Task, is_hex: bool, names: &[&str]) -> Result<Command, String> 
         jobs: 1,
         names,
         then: None,
+        only: None,
+        listed: None,
+        is_forced: false,
     }))
 }
 
@@ -28,11 +31,11 @@ fn commands_and_options_are_told_apart() {
     assert_eq!(parsed("check -h"), Ok(Command::Help));
     assert_eq!(parsed("--version"), Ok(Command::Version));
     let batch = |is_json, jobs| {
-        Ok(Command::Batch {
+        Ok(Command::Batch(Batch {
             is_json,
-            has_chains: false,
             jobs,
-        })
+            ..Batch::default()
+        }))
     };
     assert_eq!(parsed("batch"), batch(false, 1));
     assert_eq!(parsed("batch --json -j 3"), batch(true, 3));

@@ -74,7 +74,14 @@ fn layer_of(w: &[u64], layers: usize, stride: usize, n: usize, z: usize) -> usiz
 
 // The layers up to the first that has x again, by a way of one step at least: gives the least j for which x is in layer j + 1; n where there is none.
 // Ruled out: one that finds x in layer 0; one that stops before the layer that has x again is made.
-fn fill_until(w: &mut [u64], steps: usize, layers: usize, stride: usize, n: usize, x: usize) -> usize
+fn fill_until(
+    w: &mut [u64],
+    steps: usize,
+    layers: usize,
+    stride: usize,
+    n: usize,
+    x: usize,
+) -> usize
     requires { ⌜ Room layers stride n (length (now w)) × (steps + n * stride ≤ layers) × (x < n) ⌝ }
     ensures { λ r. ⌜ Returns steps layers stride n x r (now (w .exit)) × Within layers (layers + n * stride + stride) (now (w .entry)) (now (w .exit)) ⌝ }
 {

@@ -1,14 +1,14 @@
 -- L3 by the first elements of its chains, as the functions ask it, and the one domain that need be asked of. Assumes nothing.
 use mathlib.Core.Path.{_≡_, refl, sym, ap, _∙_}
-use mathlib.Core.Bool.{Bool, true, false, cond}
+use mathlib.Core.Bool.{Bool, true, false, not, cond}
 use mathlib.Core.Logic.{_⊎_, inl, inr, ⊎-elim}
 use mathlib.Core.List.{List}
 use Prim.Native.Nat.{ℕ, suc, _+_, _-_, _*_, _/_, _%_, _≤_, _<_, min}
 use native.Mathlib.Omega.{arith}
 use native.Mathlib.Decide.{decLt}
 use lib.Dec.{leb, eqb}
-use borrow.Author.Tests.{eqb-true, eq-eqb, ltb-true, leb-true, le-leb}
-use Rattle.finite.specs.Logic.{_and_, _or_, split, and-true, not-both, not-so, bool-ext, which, or-left, or-right, or-cases}
+use borrow.Author.Tests.{eqb-true, eq-eqb, ltb-true, leb-true, le-leb, not-false}
+use Rattle.finite.specs.Logic.{_and_, _or_, and-false-right, and-on-right, not-out, split, and-true, not-both, not-so, bool-ext, which, or-left, or-right, or-cases}
 use Rattle.finite.specs.Below.{anyBelow, any-in, any-out, any-off, any-not}
 use Rattle.finite.specs.Closure.{through}
 use Rattle.model.specs.declared.Mode.{Mode}
@@ -406,6 +406,26 @@ module _ (t : List ℕ) (p : List (List ℕ)) (mode : Mode) (n x y b : ℕ) wher
       go v (yes l) = any-off _ (y + 1) e v l
       go v (no l) = not-so _ (λ u. let h = last-tells v (split u .0) .1 in omega arith)
 
+-- ---- laws: what is asked first of a last element
+
+module _ (b w : List ℕ) (y i v a g : ℕ) (f : Bool) (agent-is : a ≡ rowOf b v .agent) (other-is : g ≡ rowOf b y .agent) (flag-is : f ≡ meets (rowOf b v .flags) 4)
+  where
+    see-is : maySee b (rowOf b y) v ≡ (eqb a g and f)
+    unfolding maySee
+    see-is = rw (agent-is, other-is, flag-is) refl
+
+    pub show-off : (x : Bool) → not (eqb a g and f) ≡ true → false ≡ (x and maySee b (rowOf b y) v)
+    show-off x fail = sym (and-false-right _ _ (see-is ∙ not-out (eqb a g and f) fail))
+
+    pub show-on : {k : ℕ} {s : Row} {m c h e : Bool} → not (eqb a g and f) ≡ false → s ≡ rowOf b i → (k ≡ availablePart s) × (k < 3) → c ≡ m
+        → h ≡ rel w HAPPENS MOMENTS (3 * i + k) (3 * v) → e ≡ rel w HAPPENS MOMENTS (3 * i + k) (3 * v + 2)
+        → (c or h or e)
+        ≡ ((m or rel w HAPPENS MOMENTS (3 * i + availablePart (rowOf b i)) (3 * v) or rel w HAPPENS MOMENTS (3 * i + availablePart (rowOf b i)) (3 * v + 2))
+        and maySee b (rowOf b y) v)
+    show-on {k} pass row-is part chains-is before after =
+        let p : k ≡ availablePart (rowOf b i) = part .0 ∙ ap availablePart row-is in
+        rw (chains-is, before, after, p) (sym (and-on-right _ _ (see-is ∙ not-false (eqb a g and f) pass)))
+
 -- ---- laws: what is asked of a pair
 
 module _ {t : List ℕ} {n x y : ℕ} {w : List ℕ} (pair : Pair t n x y w) where
@@ -460,17 +480,15 @@ module _ {t : List ℕ} {n x y i : ℕ} {s : Row} {w : List ℕ} (element : Elem
         (happens-is (element .pair) _ _ low (omega arith) refl ∙ ap (λ (m : ℕ). happens (tableIn t n) m (3 * v)) e)
         (happens-is (element .pair) _ _ low (omega arith) refl ∙ ap (λ (m : ℕ). happens (tableIn t n) m (3 * v + 2)) e) off
 
-    pub seen-row : {m g : ℕ} {r q u : Row} {h d : Bool} (j : ℕ) → j < n → r ≡ rowOf (rowsIn t) x → q ≡ rowOf (rowsIn t) y → u ≡ rowOf (rowsIn t) j → (m ≡ visiblePart u) × (m < 3)
-        → h ≡ rel w HAPPENS MOMENTS (3 * i + k) (3 * j + m) → g ≡ widest (s .scope) (u .scope) → d ≡ meetIn (placesIn t) g r q s u
+    pub seen-row : {m g : ℕ} {u : Row} {h d : Bool} (j : ℕ) → j < n → u ≡ rowOf (rowsIn t) j → (m ≡ visiblePart u) × (m < 3)
+        → h ≡ rel w HAPPENS MOMENTS (3 * i + k) (3 * j + m) → g ≡ widest (s .scope) (u .scope) → d ≡ meetIn (placesIn t) g (rowOf (rowsIn t) x) (rowOf (rowsIn t) y) (rowOf (rowsIn t) i) (rowOf (rowsIn t) j)
         → seen (tableIn t n) x y i j ≡ (h and d)
     unfolding seen decode availableAt visibleAt visiblePart
-    seen-row {m} j below-j first-is second-is other-is other before scope-is met =
+    seen-row {m} j below-j other-is other before scope-is met =
         let c : m ≡ cond (plain (rowOf (rowsIn t) j)) BEFORE AFTER = other .0 ∙ ap visiblePart other-is in
         rw (
           met,
           scope-is,
-          first-is,
-          second-is,
           row-is,
           other-is,
           happens-is (element .pair) (3 * i + k) (3 * j + m) low (omega (arith, below-j, other .1)) before,
@@ -478,15 +496,13 @@ module _ {t : List ℕ} {n x y i : ℕ} {s : Row} {w : List ℕ} (element : Elem
           c,
         ) refl
 
-    pub met-row : {g : ℕ} {r q : Row} {h d : Bool} → r ≡ rowOf (rowsIn t) x → q ≡ rowOf (rowsIn t) y → h ≡ rel w HAPPENS MOMENTS (3 * i + k) (3 * y + 1) → g ≡ widest (s .scope) DEVICE → d ≡ meetIn (placesIn t) g r q s q
+    pub met-row : {g : ℕ} {h d : Bool} → h ≡ rel w HAPPENS MOMENTS (3 * i + k) (3 * y + 1) → g ≡ widest (s .scope) DEVICE → d ≡ meetIn (placesIn t) g (rowOf (rowsIn t) x) (rowOf (rowsIn t) y) (rowOf (rowsIn t) i) (rowOf (rowsIn t) y)
         → metAtOnce (tableIn t n) x y i ≡ (h and d)
     unfolding metAtOnce decode availableAt
-    met-row first-is second-is before scope-is met =
+    met-row before scope-is met =
         rw (
           met,
           scope-is,
-          first-is,
-          second-is,
           row-is,
           happens-is (element .pair) (3 * i + k) (3 * y + 1) low (omega (arith, element .pair .second)) before,
           part-is,

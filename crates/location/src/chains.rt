@@ -91,15 +91,18 @@ fn widest(s: u8, u: u8) -> u8
     lower(lower(s, u), rows::scopes::DEVICE)
 }
 
-// Whether one domain of scope d holds the agents of r and q, that of s beside the one, that of u beside the other.
-fn meet_in(t: &Run, d: u8, r: Row, q: Row, s: Row, u: Row) -> bool
-    ensures { λ b. ⌜ b ≡ meetIn (placesIn (now (t .entry))) d r q s u ⌝ }
+// Whether one domain of scope d holds the agents of rows x and y, that of row i beside the one, that of row j beside the other.
+fn meet_in(t: &Run, d: u8, x: usize, y: usize, i: usize, j: usize) -> bool
+    requires { ⌜ (x < ROWS) × (y < ROWS) × (i < ROWS) × (j < ROWS) ⌝ }
+    ensures { λ b. let row = rowOf (rowsIn (now (t .entry))) in
+        ⌜ b ≡ meetIn (placesIn (now (t .entry))) d (row x) (row y) (row i) (row j) ⌝ }
 {
-    let p = run::places(t);
+    let a = run::agent(t, x as u16);
+    let b = run::agent(t, y as u16);
     (1 <= d)
-        & rows::scopes::shares_scope(p, d, r.agent, q.agent)
-        & rows::scopes::shares_scope(p, d, r.agent, s.agent)
-        & rows::scopes::shares_scope(p, d, q.agent, u.agent)
+        & run::shares(t, d, a, b)
+        & run::shares(t, d, a, run::agent(t, i as u16))
+        & run::shares(t, d, b, run::agent(t, j as u16))
 }
 
 // What row i makes available, row j makes visible.
@@ -112,29 +115,26 @@ fn seen_at(t: &Run, n: usize, x: usize, y: usize, i: usize, j: usize, w: &[u64])
     if !happens::happens_bit(w, 3 * i + available_part(s), 3 * j + visible_part(u)) {
         return false;
     }
-    let r = run::row(t, x as u16);
-    let q = run::row(t, y as u16);
-    meet_in(t, widest(s.scope, u.scope), r, q, s, u)
+    meet_in(t, widest(s.scope, u.scope), x, y, i, j)
 }
 
 // ---- what y meets
 
-// Whether row v may be a last element for what moment c makes available to y: it has y's agent and the flag and, without chains,
-// moment c happens before one of its own.
-fn may_show(t: &Run, y: usize, c: usize, v: usize, w: &[u64]) -> bool
-    requires { ⌜ (y < ROWS) × (c < 3 * ROWS) × (v < ROWS) × (WORK ≤ length (now w)) ⌝ }
-    ensures { λ d. let before = rel (now (w .entry)) HAPPENS MOMENTS c in
-        let rows = rowsIn (now (t .entry)) in
+// Whether row v may be a last element for what row i makes available to y: it has y's agent and the flag and, without chains, i's
+// availability moment happens before one of its own.
+fn may_show(t: &Run, y: usize, i: usize, v: usize, w: &[u64]) -> bool
+    requires { ⌜ (y < ROWS) × (i < ROWS) × (v < ROWS) × (WORK ≤ length (now w)) ⌝ }
+    ensures { λ d. let rows = rowsIn (now (t .entry)) in
+        let before = rel (now (w .entry)) HAPPENS MOMENTS (3 * i + availablePart (rowOf rows i)) in
         ⌜ d ≡ ((modeIn (now (t .entry)) .chains or before (3 * v) or before (3 * v + 2)) and maySee rows (rowOf rows y) v) ⌝ }
 {
-    if !(run::chains(t)
-        | happens::happens_bit(w, c, 3 * v)
-        | happens::happens_bit(w, c, 3 * v + AFTER)) {
-        return false;
-    }
     let agent = run::agent(t, v as u16);
     let flags = run::flags(t, v as u16);
-    (agent == run::agent(t, y as u16)) & rows::kinds::meets(flags, VISIBLE)
+    if !((agent == run::agent(t, y as u16)) & rows::kinds::meets(flags, VISIBLE)) {
+        return false;
+    }
+    let c = 3 * i + available_part(run::row(t, i as u16));
+    run::chains(t) | happens::happens_bit(w, c, 3 * v) | happens::happens_bit(w, c, 3 * v + AFTER)
 }
 
 // A visibility chain of more than one element from row j to row v shows what row i makes available.
@@ -190,8 +190,7 @@ fn shown_in(t: &Run, n: usize, x: usize, y: usize, b: u32, i: usize, v: usize, w
     requires { ⌜ record { element : Element (now t) n x y i (now w); last : v < n } ⌝ }
     ensures { λ d. ⌜ d ≡ shownBy (tableIn (now (t .entry)) n) x y b i v ⌝ }
 {
-    let s = run::row(t, i as u16);
-    if !may_show(t, y, 3 * i + available_part(s), v, w) {
+    if !may_show(t, y, i, v, w) {
         return false;
     }
     let q = run::row(t, y as u16);
@@ -224,9 +223,7 @@ fn met_at(t: &Run, n: usize, x: usize, y: usize, i: usize, w: &[u64]) -> bool
     if !happens::happens_bit(w, 3 * i + available_part(s), 3 * y + 1) {
         return false;
     }
-    let r = run::row(t, x as u16);
-    let q = run::row(t, y as u16);
-    meet_in(t, widest(s.scope, rows::scopes::DEVICE), r, q, s, q)
+    meet_in(t, widest(s.scope, rows::scopes::DEVICE), x, y, i, y)
 }
 
 // L3: y meets what row i makes available: a reader by way of a visibility chain, any other at once.

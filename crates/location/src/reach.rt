@@ -34,7 +34,7 @@ fn is_broader(t: &Run, s: Row, u: Row) -> bool
     if u.scope <= s.scope {
         return false;
     }
-    rows::scopes::shares_scope(run::places(t), s.scope, s.agent, u.agent)
+    run::shares(t, s.scope, s.agent, u.agent)
 }
 
 // Whether row c may come right after row a in an availability chain. Most rows make nothing available, as one byte tells.

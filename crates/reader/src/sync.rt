@@ -114,7 +114,7 @@ pub fn sync_at(t: &Run, n: usize, a: usize, b: usize) -> bool
     }
     let out = kinds::is_barrier(r);
     let into = kinds::is_barrier(q);
-    let near = rows::scopes::together(run::places(t), r, q);
+    let near = run::together(t, r, q);
     if out & to {
         return near & is_carried_out(t, n, a, b);
     }

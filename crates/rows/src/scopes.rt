@@ -143,14 +143,12 @@ pub fn place_in(p: &[[u16; 4]], a: u8) -> [u16; 4]
     if i < p.len() { p[i] } else { [0; 4] }
 }
 
-// Whether two agents share the scope, by their places among all: scopes hold between shader agents only. It asks no number that the scope
+// Whether two agents, whose places are x and y, share the scope: scopes hold between shader agents only. It asks no number that the scope
 // doesn't go by.
 // Ruled out: one that takes queues for shader agents; one that compares workgroups of two families.
-pub fn shares_scope(p: Places, scope: u8, a: u8, b: u8) -> bool
-    ensures { λ r. ⌜ r ≡ shares p scope a b ⌝ }
+pub fn shares_at(scope: u8, a: u8, b: u8, x: [u16; 4], y: [u16; 4]) -> bool
+    ensures { λ r. ⌜ ((p : List (List ℕ)) → IsPlace p a x → IsPlace p b y → r ≡ shares p scope a b) ⌝ }
 {
-    let x = place_in(&p, a);
-    let y = place_in(&p, b);
     if (y[3] != SHADER) | (x[3] != SHADER) {
         return false;
     }
@@ -170,6 +168,15 @@ pub fn shares_scope(p: Places, scope: u8, a: u8, b: u8) -> bool
         return false;
     }
     (scope == WORKGROUP) | (scope == SUBGROUP) & (x[2] == y[2])
+}
+
+// The same by their places among all.
+pub fn shares_scope(p: Places, scope: u8, a: u8, b: u8) -> bool
+    ensures { λ r. ⌜ r ≡ shares p scope a b ⌝ }
+{
+    let x = place_in(&p, a);
+    let y = place_in(&p, b);
+    shares_at(scope, a, b, x, y)
 }
 
 // Whether the agents of two rows share both rows' scopes.

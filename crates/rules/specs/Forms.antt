@@ -5,7 +5,7 @@ use mathlib.Core.List.{List}
 use Prim.Native.Nat.{ℕ, _≤_, _<_}
 use lib.Dec.{ltb, eqb}
 use borrow.Author.Tests.{lt-ltb, le-ltb, not-false}
-use Rattle.finite.specs.Logic.{_and_, _or_, or-off, and-false-left, and-false-right, not-out, not-so, not-both, split, and-true, and-on}
+use Rattle.finite.specs.Logic.{_and_, _or_, or-off, and-false-left, and-false-right, not-out, not-so, not-both, split, and-on}
 use Rattle.finite.specs.Below.{anyBelow, any-out}
 use Rattle.model.specs.declared.Mode.{Mode}
 use Rattle.model.specs.declared.Row.{Row}
@@ -45,6 +45,11 @@ with-true true true c = refl
 with-true true false c = refl
 with-true false b c = refl
 
+paired : (a b c : Bool) → (a and b and c) ≡ (a and (b and c))
+unfolding _and_
+paired true b c = refl
+paired false b c = refl
+
 module _ (b : List ℕ) (p : List (List ℕ)) (mode : Mode) (n : ℕ) where
   pub ends-is : (a x z : ℕ) → ends (decode b p mode n) a x z ≡ endRows (mode .counted) (mutually (decode b p mode n) a z) (rowOf b a) (rowOf b x) (rowOf b z)
   unfolding ends follows endRows decode
@@ -64,18 +69,17 @@ module _ (b : List ℕ) (p : List (List ℕ)) (mode : Mode) (n : ℕ) where
   ends-told a x z m h r q v mutual-is head-is row-is other-is told = rw (ends-is a x z) cc
 
   -- M3: where the cheap tests fail, and where they pass
-  pub mutual-off : (i j : ℕ) (r q : Row) (x : Bool) → r ≡ rowOf b i → q ≡ rowOf b j → x ≡ sameLocation r q → not (not (eqb i j) and x) ≡ true
-      → false ≡ mutually (decode b p mode n) i j
-  unfolding mutually mutualRows decode
-  mutual-off i j r q x first-is second-is same-is tests-fail =
-      rw (← first-is, ← second-is, ← same-is)
-      (sym (not-so _ (λ h. not-both (and-true (split h .0) (split (split (split h .1) .0) .1)) (not-out _ tests-fail))))
+  module _ (i j : ℕ) (r q : Row) (x y z : Bool) (first-is : r ≡ rowOf b i) (second-is : q ≡ rowOf b j) (x-is : x ≡ atomic r) (y-is : y ≡ atomic q)
+      (same-is : z ≡ sameLocation r q) where
+    mutual-is : mutually (decode b p mode n) i j ≡ (not (eqb i j) and (x and y and z) and together p r q)
+    unfolding mutually mutualRows decode
+    mutual-is = rw (← first-is, ← second-is, ← x-is, ← y-is, ← same-is) (sym (paired (not (eqb i j)) (x and y and z) (together p r q)))
 
-  pub mutual-on : (i j : ℕ) (r q : Row) (x v : Bool) (o : List (List ℕ)) → r ≡ rowOf b i → q ≡ rowOf b j → not (not (eqb i j) and x) ≡ false
-      → o ≡ p → v ≡ mutualRows o r q → v ≡ mutually (decode b p mode n) i j
-  unfolding mutually decode
-  mutual-on i j r q x v o first-is second-is tests-pass places-is told =
-      rw (← first-is, ← second-is, ← places-is) (told ∙ sym (and-on _ _ (split (not-false _ tests-pass) .0)))
+    pub mutual-off : not (not (eqb i j) and (x and y and z)) ≡ true → false ≡ mutually (decode b p mode n) i j
+    mutual-off fail = sym (mutual-is ∙ and-false-left _ _ (not-out (not (eqb i j) and (x and y and z)) fail))
+
+    pub mutual-on : (v : Bool) → not (not (eqb i j) and (x and y and z)) ≡ false → v ≡ together p r q → v ≡ mutually (decode b p mode n) i j
+    mutual-on v pass told = told ∙ sym (mutual-is ∙ and-on _ _ (not-false (not (eqb i j) and (x and y and z)) pass))
 
   -- M5: the same of control barriers
   pub joins-off : (i j : ℕ) (r q : Row) (x : Bool) → r ≡ rowOf b i → q ≡ rowOf b j → x ≡ sameInstance r q → not (not (eqb i j) and x) ≡ true
@@ -84,11 +88,11 @@ module _ (b : List ℕ) (p : List (List ℕ)) (mode : Mode) (n : ℕ) where
   joins-off i j r q x first-is second-is same-is tests-fail =
       sym (and-false-left _ _ (rw (← first-is, ← second-is, ← same-is) (not-out (not (eqb i j) and x) tests-fail)))
 
-  pub joins-on : (i j : ℕ) (r q : Row) (x v : Bool) (o : List (List ℕ)) → r ≡ rowOf b i → q ≡ rowOf b j → x ≡ sameInstance r q
-      → not (not (eqb i j) and x) ≡ false → o ≡ p → v ≡ shares o (executionOf r) (r .agent) (q .agent) → v ≡ joins (decode b p mode n) i j
+  pub joins-on : (i j : ℕ) (r q : Row) (x v : Bool) → r ≡ rowOf b i → q ≡ rowOf b j → x ≡ sameInstance r q
+      → not (not (eqb i j) and x) ≡ false → v ≡ shares p (executionOf r) (r .agent) (q .agent) → v ≡ joins (decode b p mode n) i j
   unfolding joins decode
-  joins-on i j r q x v o first-is second-is same-is tests-pass places-is told =
-      rw (← first-is, ← second-is, ← places-is) (told ∙ sym (and-on _ _ (rw (← same-is) (not-false (not (eqb i j) and x) tests-pass))))
+  joins-on i j r q x v first-is second-is same-is tests-pass told =
+      rw (← first-is, ← second-is) (told ∙ sym (and-on _ _ (rw (← same-is) (not-false (not (eqb i j) and x) tests-pass))))
 
   -- M4, where the cheap test fails, and where it passes
   pub sequence-off : (a x : ℕ) → follows (decode b p mode n) a x ≡ false → eqb a x ≡ sequence (decode b p mode n) a x

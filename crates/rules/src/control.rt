@@ -30,7 +30,7 @@ fn joins_at(t: &Run, n: usize, c: usize, d: usize) -> bool
     if !(!(c == d) & rows::kinds::same_instance(r, q)) {
         return false;
     }
-    rows::scopes::shares_scope(run::places(t), r.class, r.agent, q.agent)
+    run::shares(t, r.class, r.agent, q.agent)
 }
 
 // M5: whether row d meets row c, and comes before row b or is b.

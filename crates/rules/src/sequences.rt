@@ -9,17 +9,18 @@ ghost use Rattle.rules.specs.Forms.{endRows};
 use model::Row;
 use run::Run;
 
-// M3: whether rows i and j are mutually-ordered. Places are read for two rows of one location only.
+// M3: whether rows i and j are mutually-ordered. Places are read for two atomics of one location only.
 pub fn mutual_at(t: &Run, n: usize, i: usize, j: usize) -> bool
     requires { ⌜ (i < ROWS) × (j < ROWS) ⌝ }
     ensures { λ b. ⌜ b ≡ mutually (tableIn (now (t .entry)) n) i j ⌝ }
 {
     let r = run::row(t, i as u16);
     let q = run::row(t, j as u16);
-    if !(!(i == j) & rows::scopes::same_location(r, q)) {
+    let atomic = rows::kinds::is_atomic(r) & rows::kinds::is_atomic(q);
+    if !(!(i == j) & (atomic & rows::scopes::same_location(r, q))) {
         return false;
     }
-    rows::scopes::is_mutual(run::places(t), r, q)
+    run::together(t, r, q)
 }
 
 // M4: whether r, after the head, continues a sequence. Nothing else says what does.

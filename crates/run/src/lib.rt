@@ -2,6 +2,8 @@
 ghost use mathlib.Core.Path.{_≡_};
 ghost use lib.ListN.{drop};
 ghost use Rattle.model.specs.Table.{rowOf, atomicSource};
+ghost use Rattle.model.specs.Scope.{shares, together};
+ghost use Rattle.rows.specs.Places.{IsPlace};
 ghost use Rattle.run.specs.Layout.{placesIn, modeIn, rowsIn};
 use model::Mode;
 use model::Places;
@@ -130,4 +132,32 @@ pub fn atomic_source(t: &Run, i: u16) -> Source
     ensures { λ r. ⌜ r .0 ≡ atomicSource (rowsIn (now (t .entry))) i ⌝ }
 {
     bytes::atomic_source(rows_of(t), i)
+}
+
+// ---- of two agents
+
+// The place of an agent, zeros for one that there is no slot for.
+fn place(t: &Run, a: u8) -> [u16; 4]
+    ensures { λ x. ⌜ IsPlace (placesIn (now (t .entry))) a x ⌝ }
+{
+    if (a as usize) < model::AGENTS {
+        return scopes::read_place(t, a);
+    }
+    [0; 4]
+}
+
+// Whether they share the scope. Their two places are read, and no other.
+pub fn shares(t: &Run, scope: u8, a: u8, b: u8) -> bool
+    ensures { λ r. ⌜ r ≡ shares (placesIn (now (t .entry))) scope a b ⌝ }
+{
+    let x = place(t, a);
+    let y = place(t, b);
+    scopes::shares_at(scope, a, b, x, y)
+}
+
+// Whether the agents of two rows share both rows' scopes.
+pub fn together(t: &Run, r: Row, q: Row) -> bool
+    ensures { λ b. ⌜ b ≡ together (placesIn (now (t .entry))) r q ⌝ }
+{
+    shares(t, r.scope, r.agent, q.agent) & shares(t, q.scope, r.agent, q.agent)
 }

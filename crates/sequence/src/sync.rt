@@ -35,7 +35,7 @@ fn is_near(t: &Run, asked: bool, r: Row, q: Row) -> bool
     if !asked {
         return false;
     }
-    rows::scopes::together(run::places(t), r, q)
+    run::together(t, r, q)
 }
 
 // M5: a release barrier a, an acquire atomic b.

@@ -1,31 +1,30 @@
+use Prim.Native.Nat.{_+_, _*_}
+use Rattle.bits.specs.Matrix.{rel}
 use Rattle.model.specs.Table.{rowOf}
-use Rattle.run.specs.Layout.{rowsIn}
-use mathlib.Core.Path.{_≡_, sym, _∙_}
-use lib.Dec.{eqb}
-use borrow.Author.Tests.{not-true, not-false}
-use Rattle.finite.specs.Logic.{_and_, _or_, and-false-left, and-on}
-use Rattle.location.specs.Chains.{maySee}
+use Rattle.run.specs.Layout.{modeIn, rowsIn}
+use Rattle.area.specs.Regions.{HAPPENS, MOMENTS}
+use Rattle.finite.specs.Logic.{_and_, _or_}
+use Rattle.location.specs.Chains.{availablePart, show-off, show-on}
 use borrow.Author.Needs.{needs}
 use Rattle.location.proofs.chains.may_show.Statement.{statement}
 use Rattle.location.proofs.chains.may_show.Tie as tie
 
 returns : tie.Need-returns
-unfolding _or_
+unfolding _and_
 returns c =
-    rw (← c .before .before .before .chains .ensures, ← c .before .before .happens-bit .ensures, ← c .before .happens-bit2 .ensures)
-    (sym (and-false-left (c .before .before .before .chains .result or c .before .before .happens-bit .result or c .before .happens-bit2 .result) _
-    (not-true (c .before .before .before .chains .result or c .before .before .happens-bit .result or c .before .happens-bit2 .result) (c .if1 .taken))))
+    let t = c .before .before .before .before .before .before .args .t .now in
+    let before = rel (c .before .before .before .before .before .before .args .w .now) HAPPENS MOMENTS (3 * c .before .before .before .before .before .before .args .i + availablePart (rowOf (rowsIn t) (c .before .before .before .before .before .before .args .i))) in
+    show-off _ (c .before .before .before .before .before .before .args .w .now) _ (c .before .before .before .before .before .before .args .i) _ _ _ _ (c .before .before .before .before .agent .ensures) (c .before .before .agent2 .ensures) (rw (c .before .before .before .flags .ensures) at (c .before .meets .ensures))
+    (modeIn t .chains or before (3 * c .before .before .before .before .before .before .args .v) or before (3 * c .before .before .before .before .before .before .args .v + 2)) (c .if1 .taken)
 
 returns-2 : tie.Need-returns-2
-unfolding maySee _and_ _or_
+unfolding _and_ _or_
 returns-2 c =
-    let start = c .before .before .before .before .before .before .before .before .before .args in
-    let e : maySee (rowsIn (start .t .now)) (rowOf (rowsIn (start .t .now)) (start .y)) (start .v) ≡ (eqb (c .before .before .before .agent .result) (c .before .agent2 .result) and c .meets .result) = cc in
-    rw (← c .before .before .before .before .before .before .before .chains .ensures, ← c .before .before .before .before .before .before .happens-bit .ensures, ← c .before .before .before .before .before .happens-bit2 .ensures)
-    (sym (and-on (c .before .before .before .before .before .before .before .chains .result or c .before .before .before .before .before .before .happens-bit .result or c .before .before .before .before .before .happens-bit2 .result) _
-    (not-false (c .before .before .before .before .before .before .before .chains .result or c .before .before .before .before .before .before .happens-bit .result or c .before .before .before .before .before .happens-bit2 .result) (c .before .before .before .before .if1 .left)) ∙ e))
+    show-on _ _ _ _ _ _ _ _ (c .before .before .before .before .before .before .before .before .before .agent .ensures) (c .before .before .before .before .before .before .before .agent2 .ensures) (rw (c .before .before .before .before .before .before .before .before .flags .ensures) at (c .before .before .before .before .before .before .meets .ensures)) (c .before .before .before .before .before .if1 .left) (c .before .before .before .before .row .ensures) (c .before .before .before .available-part .ensures)
+    (c .before .before .chains .ensures) (c .before .happens-bit .ensures) (c .happens-bit2 .ensures)
 
 pub may-show-spec : {M : Type 1} → statement M
-may-show-spec = tie.close (tie.spec (λ c κs. search needs) (λ c. search needs) (λ c κs. search needs) (λ c. search needs) (λ c. search needs)
-    (λ c κs. search needs) returns (λ c. search needs) (λ c κs. search needs) (λ c. search needs) (λ c κs. search needs) (λ c. search needs)
-    (λ c κs. search needs) (λ c κs. search needs) returns-2)
+may-show-spec = tie.close (tie.spec (λ c. search needs) (λ c κs. search needs) (λ c. search needs) (λ c κs. search needs) (λ c. search needs)
+    (λ c κs. search needs) (λ c κs. search needs) returns (λ c. search needs) (λ c. search needs) (λ c κs. search needs)
+    (λ c κs. search needs) (λ c. search needs) (λ c κs. search needs) (λ c. search needs) (λ c κs. search needs) (λ c. search needs)
+    (λ c. search needs) (λ c κs. search needs) returns-2)

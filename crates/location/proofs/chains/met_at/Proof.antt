@@ -8,15 +8,14 @@ use Rattle.location.proofs.chains.met_at.Tie as tie
 
 returns : tie.Need-returns
 returns c =
-    sym (met-row (c .before .before .before .before .before .pre) (c .before .before .before .row .ensures) (c .before .before .available-part .ensures) refl refl (c .before .happens-bit .ensures) refl refl
+    sym (met-row (c .before .before .before .before .before .pre) (c .before .before .before .row .ensures) (c .before .before .available-part .ensures) (c .before .happens-bit .ensures) refl refl
     ∙ and-false-left _ _ (not-true _ (c .if1 .taken)))
 
 returns-2 : tie.Need-returns-2
 returns-2 c =
-    sym (met-row (c .before .before .before .before .before .before .before .before .before .pre) (c .before .before .before .before .before .before .before .row .ensures) (c .before .before .before .before .before .before .available-part .ensures) (c .before .before .before .row2 .ensures) (c .before .before .row3 .ensures) (c .before .before .before .before .before .happens-bit .ensures) (c .before .widest .ensures)
-    (c .meet-in .ensures) ∙ and-on _ _ (not-false _ (c .before .before .before .before .if1 .left)))
+    sym (met-row (c .before .before .before .before .before .before .before .pre) (c .before .before .before .before .before .row .ensures) (c .before .before .before .before .available-part .ensures) (c .before .before .before .happens-bit .ensures) (c .before .widest .ensures)
+    (c .meet-in .ensures) ∙ and-on _ _ (not-false _ (c .before .before .if1 .left)))
 
 pub met-at-spec : {M : Type 1} → statement M
 met-at-spec = tie.close (tie.spec (λ c. search needs) (λ c κs. search needs) (λ c. search needs) (λ c κs. search needs) (λ c. search needs) (λ c. search needs)
-    (λ c. search needs) (λ c κs. search needs) returns (λ c. search needs) (λ c κs. search needs) (λ c. search needs) (λ c κs. search needs)
-    (λ c κs. search needs) (λ c κs. search needs) returns-2)
+    (λ c. search needs) (λ c κs. search needs) returns (λ c κs. search needs) (λ c κs. search needs) returns-2)

@@ -1,27 +1,25 @@
-use mathlib.Core.Path.{sym, _∙_}
+use mathlib.Core.Path.{refl, sym, _∙_}
 use borrow.Author.Tests.{not-true, not-false}
 use Rattle.finite.specs.Logic.{and-false-left, and-on}
-use Rattle.location.specs.Chains.{shown-skip, shown-row}
+use Rattle.location.specs.Chains.{available-small, shown-skip, shown-row}
 use borrow.Author.Needs.{needs}
 use Rattle.location.proofs.chains.shown_in.Statement.{statement}
 use Rattle.location.proofs.chains.shown_in.Tie as tie
 
 returns : tie.Need-returns
 returns c =
-    let pre = c .before .before .before .before .before .pre in
-    sym (shown-skip (pre .element) (c .before .before .before .row .ensures) (c .before .before .available-part .ensures) _ _ (pre .last) (sym (c .before .may-show .ensures) ∙ not-true _ (c .if1 .taken)))
+    sym (shown-skip (c .before .before .before .pre .element) refl (refl, available-small _) _ _ (c .before .before .before .pre .last) (sym (c .before .may-show .ensures) ∙ not-true _ (c .if1 .taken)))
 
 returns-2 : tie.Need-returns-2
 returns-2 c =
-    sym (shown-row (c .before .before .before .before .before .before .before .before .before .before .pre .element .pair) _ _ _ (c .before .before .before .before .row2 .ensures) (c .before .before .before .row3 .ensures) (c .before .before .visible-part .ensures) (c .before .visible-at .ensures)
+    sym (shown-row (c .before .before .before .before .before .before .before .before .pre .element .pair) _ _ _ (c .before .before .before .before .row .ensures) (c .before .before .before .row2 .ensures) (c .before .before .visible-part .ensures) (c .before .visible-at .ensures)
     ∙ and-false-left _ _ (not-true _ (c .if2 .taken)))
 
 returns-3 : tie.Need-returns-3
 returns-3 c =
-    c .starts-at .ensures ∙ sym (shown-row (c .before .before .before .before .before .before .before .before .before .before .before .pre .element .pair) _ _ _ (c .before .before .before .before .before .row2 .ensures) (c .before .before .before .before .row3 .ensures) (c .before .before .before .visible-part .ensures)
+    c .starts-at .ensures ∙ sym (shown-row (c .before .before .before .before .before .before .before .before .before .pre .element .pair) _ _ _ (c .before .before .before .before .before .row .ensures) (c .before .before .before .before .row2 .ensures) (c .before .before .before .visible-part .ensures)
     (c .before .before .visible-at .ensures) ∙ and-on _ _ (not-false _ (c .before .if2 .left)))
 
 pub shown-in-spec : {M : Type 1} → statement M
-shown-in-spec = tie.close (tie.spec (λ c. search needs) (λ c κs. search needs) (λ c. search needs) (λ c κs. search needs) (λ c. search needs)
-    (λ c κs. search needs) returns (λ c. search needs) (λ c κs. search needs) (λ c. search needs) (λ c κs. search needs) (λ c. search needs)
-    (λ c κs. search needs) (λ c. search needs) (λ c κs. search needs) returns-2 (λ c κs. search needs) returns-3)
+shown-in-spec = tie.close (tie.spec (λ c κs. search needs) returns (λ c. search needs) (λ c κs. search needs) (λ c. search needs) (λ c κs. search needs)
+    (λ c. search needs) (λ c κs. search needs) (λ c. search needs) (λ c κs. search needs) returns-2 (λ c κs. search needs) returns-3)

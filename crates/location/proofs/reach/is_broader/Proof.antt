@@ -12,7 +12,7 @@ returns c = sym (and-false-left _ _ (le-ltb _ _ (c .if1 .taken)))
 
 returns-2 : tie.Need-returns-2
 unfolding broaderRows
-returns-2 c = rw (c .before .places .ensures) at (c .shares-scope .ensures) ∙ sym (and-on _ _ (lt-ltb _ _ (c .before .before .if1 .left)))
+returns-2 c = c .shares .ensures ∙ sym (and-on _ _ (lt-ltb _ _ (c .before .if1 .left)))
 
 pub is-broader-spec : {M : Type 1} → statement M
-is-broader-spec = tie.close (tie.spec returns (λ c κs. search needs) (λ c κs. search needs) returns-2)
+is-broader-spec = tie.close (tie.spec returns (λ c κs. search needs) returns-2)

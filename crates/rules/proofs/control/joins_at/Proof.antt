@@ -11,11 +11,9 @@ returns c = joins-off _ _ _ _ _ _ _ _ _ (c .before .before .before .row .ensures
 returns-2 : tie.Need-returns-2
 unfolding _and_
 returns-2 c =
-    joins-on _ _ _ _ _ _ _ _ _ _ _ (c .before .before .before .before .before .row .ensures) (c .before .before .before .before .row2 .ensures)
-    (c .before .before .before .same-instance .ensures) (c .before .before .if1 .left) (c .before .places .ensures) (c .shares-scope .ensures)
+    joins-on _ _ _ _ _ _ _ _ _ _ (c .before .before .before .before .row .ensures) (c .before .before .before .row2 .ensures)
+    (c .before .before .same-instance .ensures) (c .before .if1 .left) (c .shares .ensures)
 
 pub joins-at-spec : {M : Type 1} → statement M
-joins-at-spec =
-    tie.close
-    (tie.spec (λ c. search needs) (λ c κs. search needs) (λ c. search needs) (λ c κs. search needs) (λ c κs. search needs) returns
-    (λ c κs. search needs) (λ c κs. search needs) returns-2)
+joins-at-spec = tie.close (tie.spec (λ c. search needs) (λ c κs. search needs) (λ c. search needs) (λ c κs. search needs) (λ c κs. search needs) returns
+    (λ c κs. search needs) returns-2)

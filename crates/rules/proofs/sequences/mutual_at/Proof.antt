@@ -6,16 +6,15 @@ use Rattle.rules.proofs.sequences.mutual_at.Tie as tie
 
 returns : tie.Need-returns
 unfolding _and_
-returns c = mutual-off _ _ _ _ _ _ _ _ _ (c .before .before .before .row .ensures) (c .before .before .row2 .ensures) (c .before .same-location .ensures) (c .if1 .taken)
+returns c =
+    mutual-off _ _ _ _ _ _ _ _ _ _ _ (c .before .before .before .before .before .row .ensures) (c .before .before .before .before .row2 .ensures) (c .before .before .before .is-atomic .ensures) (c .before .before .is-atomic2 .ensures) (c .before .same-location .ensures) (c .if1 .taken)
 
 returns-2 : tie.Need-returns-2
 unfolding _and_
 returns-2 c =
-    mutual-on _ _ _ _ _ _ _ _ _ _ _ (c .before .before .before .before .before .row .ensures) (c .before .before .before .before .row2 .ensures)
-    (c .before .before .if1 .left) (c .before .places .ensures) (c .is-mutual .ensures)
+    mutual-on _ _ _ _ _ _ _ _ _ _ _ (c .before .before .before .before .before .before .row .ensures) (c .before .before .before .before .before .row2 .ensures) (c .before .before .before .before .is-atomic .ensures) (c .before .before .before .is-atomic2 .ensures) (c .before .before .same-location .ensures) _ (c .before .if1 .left)
+    (c .together .ensures)
 
 pub mutual-at-spec : {M : Type 1} → statement M
-mutual-at-spec =
-    tie.close
-    (tie.spec (λ c. search needs) (λ c κs. search needs) (λ c. search needs) (λ c κs. search needs) (λ c κs. search needs) returns
-    (λ c κs. search needs) (λ c κs. search needs) returns-2)
+mutual-at-spec = tie.close (tie.spec (λ c. search needs) (λ c κs. search needs) (λ c. search needs) (λ c κs. search needs) (λ c κs. search needs)
+    (λ c κs. search needs) (λ c κs. search needs) returns (λ c κs. search needs) returns-2)

@@ -9,7 +9,7 @@ returns : tie.Need-returns
 returns c = sym (and-false-left _ _ (not-true _ (c .if1 .taken)))
 
 returns-2 : tie.Need-returns-2
-returns-2 c = rw (c .before .places .ensures) at (c .together .ensures) ∙ sym (and-on _ _ (not-false _ (c .before .before .if1 .left)))
+returns-2 c = c .together .ensures ∙ sym (and-on _ _ (not-false _ (c .before .if1 .left)))
 
 pub is-near-spec : {M : Type 1} → statement M
-is-near-spec = tie.close (tie.spec returns (λ c κs. search needs) (λ c κs. search needs) returns-2)
+is-near-spec = tie.close (tie.spec returns (λ c κs. search needs) returns-2)

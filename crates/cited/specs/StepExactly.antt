@@ -7,7 +7,6 @@ use Prim.Native.Nat.{ℕ, _+_, _*_, _≤_, _<_}
 use native.Mathlib.Omega.{arith}
 use native.Mathlib.Decide.{decLt}
 use lib.ListN.{take, drop}
-use denote.Ref.{now}
 use Rattle.model.specs.declared.Admission.{Admission}
 use Rattle.model.specs.declared.Admission.the-variants.{Admitted, Refused}
 use Rattle.model.specs.declared.{Row.Row, Source.Source}
@@ -17,19 +16,10 @@ use Rattle.laws.specs.AdmissionLaws.{admitted-sound, sound-admitted}
 use Rattle.writer.specs.Encode.{rowList}
 use Rattle.writer.specs.Promise.{row-bytes-again}
 use Rattle.stepping.specs.declared.{RowReader.RowReader, Step.Step, Stepped.Stepped}
-use Rattle.stepping.specs.Steps.{openedPart, stepsOf, steppedAt}
+use Rattle.stepping.specs.Steps.{stepsOf, steppedAt}
 use Rattle.stepping.specs.Promise.{opened-rows, opened-end, refused-end, from-refused, from-row, from-end}
 use Rattle.promises.specs.Terms.{Bytes, Fillable, Unfillable}
-
--- ---- words
-
--- the source n as a value
-abbrev pub source : ℕ → Source
-source n = record { 0 = n }
-
--- r is a reader as `open` gives it for the table s
-abbrev pub Opens : List ℕ → RowReader → Type 0
-Opens s r = (now (r .table) ≡ openedPart (admission true s) s) × (r .at ≡ 0)
+use Rattle.cited.specs.Terms.{source, Opens}
 
 -- ---- a table is refused or not
 

@@ -8,7 +8,7 @@
 -- The words: `Fillable s` says that a fill doesn't refuse the table s, buffers aside, and `Unfillable s n j` that it
 -- does, with number n at row j (crates/promises/specs/Terms.antt); `rowsAt s` is the count of its rows, `rowBytes s`
 -- their bytes, `rowOf (rowBytes s) i` row i as a value and `sourceOf (rowBytes s) i` its source; `source n` is the
--- source n as a value (StepExactly.antt); `rowList r n` is the sixteen bytes of a row r with the source n
+-- source n as a value (Terms.antt); `rowList r n` is the sixteen bytes of a row r with the source n
 -- (crates/writer/specs/Encode.antt); `Bytes s` says that the numbers of s are bytes, as those of a `&[u8]` are.
 --
 -- From a function to its meaning: the contract of a function is an equation. This page speaks of its right side:
@@ -27,7 +27,7 @@ use Rattle.writer.specs.Encode.{rowList}
 use Rattle.stepping.specs.declared.{RowReader.RowReader, Step.Step, Stepped.Stepped}
 use Rattle.stepping.specs.Steps.{stepsOf, steppedAt}
 use Rattle.promises.specs.Terms.{Bytes, Fillable, Unfillable}
-use Rattle.cited.specs.StepExactly.{source, Opens}
+use Rattle.cited.specs.Terms.{source, Opens}
 use Rattle.cited.specs as beside
 
 -- ==== What each answer means. It is given exactly when its meaning holds

@@ -26,7 +26,7 @@ use Prim.Native.Nat.{ℕ, _+_, _-_, _*_, _/_, _≤_, _<_}
 use lib.ListN.{length, take, drop}
 use Rattle.model.specs.declared.{Admission.Admission, Reason.Reason, ReportAnswer.ReportAnswer}
 use Rattle.model.specs.Limits.{CYCLE, SOURCES, CHAIN}
-use Rattle.model.specs.Table.{ROW-BYTES, versionAt, agentsAt, rowsAt, rowsBegin, placesOf, rowBytes, dependencyBytes}
+use Rattle.model.specs.Table.{ROW-BYTES, versionAt, agentsAt, rowsAt, rowsBegin, placesOf, rowBytes, dependencyBytes, tableOf}
 use Rattle.model.specs.Refusal.{admission}
 use Rattle.model.specs.Check.{Verdict, check}
 use Rattle.model.specs.Fill.{Outcome, fill}
@@ -36,7 +36,8 @@ use Rattle.pieces.specs.declared.RowPlace.{RowPlace}
 use Rattle.pieces.specs.Pieces.{rowsBoth, piecesFault, joined, checkBoth, fillBoth, reportBoth, deriveBoth, judgeBoth}
 use Rattle.pieces.specs.Pieces.{rowPart, rowPlace, partAt}
 use Rattle.pieces.specs.Promise.{alone}
-use Rattle.promises.specs.Terms.{Bytes, Short}
+use Rattle.model.specs.Words.{HappensBefore}
+use Rattle.promises.specs.Terms.{Bytes, Short, DeriveHears}
 use Rattle.promises.specs.Main.{CheckMeans, FillMeans, ReportMeans, ReaderMeans, DeriveMeans}
 use Rattle.cited.specs.Terms.{HeaderRefuses, HeaderPasses, PairRefuses, PairPasses, RowsHeld, OfPair}
 use Rattle.cited.specs as beside
@@ -78,7 +79,8 @@ module _ (f s : List ℕ) (m k : ℕ) where
       ↔ OfPair f s ⊥ Judged.refused (λ t. ReaderMeans t m k r l) j
   reader2-means = beside.PiecesExactly.reader-exactly f s m k
 
-  -- the finder of one: which one it finds is undecided, so that a word or a chain is of one direction
+  -- the finder of one: which one it finds is undecided, so that a word or a chain is of one direction;
+  -- some-found2 says when
   module _ (work buffer : ℕ) where
     abbrev pub Derive2Means : Derived → Type 0
     Derive2Means = OfPair f s (Short CHAIN work buffer) Derived.refused (λ t. DeriveMeans t m k work buffer)
@@ -92,6 +94,11 @@ module _ (f s : List ℕ) (m k : ℕ) where
 
     pub not-before2-said : (deriveBoth f s m k work buffer ≡ Derived.notBefore) ↔ Derive2Means Derived.notBefore
     not-before2-said = beside.PiecesExactly.not-before-said f s m k work buffer
+
+    pub some-found2 : ((deriveBoth f s m k work buffer ≡ Derived.word)
+        ⊎ ((c : ℕ) × (l : List ℕ) × (deriveBoth f s m k work buffer ≡ Derived.chained c l)))
+        ↔ (PairPasses f s × DeriveHears (joined f s) m k work buffer × HappensBefore (tableOf (joined f s)) m k)
+    some-found2 = beside.PiecesExactly.found-exactly f s m k work buffer
 
 -- ==== The joined table, and the answers as equations
 

@@ -14,7 +14,7 @@ use Rattle.model.specs.declared.Admission.the-variants.{Refused}
 use Rattle.model.specs.declared.Reason.{Reason}
 use Rattle.model.specs.declared.ReportAnswer.{ReportAnswer}
 use Rattle.model.specs.Limits.{ROWS, CYCLE, SOURCES, CHAIN}
-use Rattle.model.specs.Table.{HEADER, ROW-BYTES, versionAt, agentsAt, rowsAt, rowsBegin, placesOf, rowBytes, dependencyBytes}
+use Rattle.model.specs.Table.{HEADER, ROW-BYTES, versionAt, agentsAt, rowsAt, rowsBegin, placesOf, rowBytes, dependencyBytes, tableOf}
 use Rattle.model.specs.Refusal.{buffersFit, versionFits, limitsFit, lengthFits, hostsFault, headerFault, admission}
 use Rattle.model.specs.Check.{Verdict, check}
 use Rattle.model.specs.Fill.{Outcome, fill}
@@ -28,7 +28,8 @@ use Rattle.pieces.specs.PiecesLaws.{of-joined, of-refused, first-right, both-fi
 use Rattle.pieces.specs.PiecesLaws.{place-refused, place-first, place-second, place-past}
 use Rattle.pieces.specs.Promise.{joined-is, part-is}
 use Rattle.pieces.specs.Promise as page
-use Rattle.promises.specs.Terms.{Bytes, Short}
+use Rattle.model.specs.Words.{HappensBefore}
+use Rattle.promises.specs.Terms.{Bytes, Short, DeriveHears}
 use Rattle.promises.specs.Main as means
 use Rattle.cited.specs.JoinedBytes.{bytes-joined}
 use Rattle.cited.specs.Terms.{HeaderRefuses, HeaderPasses, PairRefuses, PairPasses, RowsHeld, OfPair}
@@ -279,6 +280,50 @@ module _ (f s : List ℕ) (h : PairPasses f s) where
 
   pub reader-joined : (m k : ℕ) (r : Reason) (l : List ℕ) → judgeBoth f s m k r l ≡ judge (joined f s) m k r l
   reader-joined = page.judge-joined f s z
+
+-- ---- a derivation of a pair is found exactly when there is one
+
+abbrev told : Derived → ℕ
+told (Derived.refused n i) = 0
+told Derived.word = 1
+told (Derived.chained c l) = 1
+told Derived.notBefore = 2
+
+module _ (f s : List ℕ) (m k work buffer : ℕ) where
+  heard : (d : Derived) → deriveBoth f s m k work buffer ≡ d → 1 ≤ told d → PairPasses f s
+  heard d e l = go (derive-means f s m k work buffer d e)
+    where
+      no-refusal : (n : ℕ) → d ≡ Derived.refused n 0 → ⊥
+      no-refusal n r = let z : told d ≡ 0 = ap told r in omega arith
+
+      go : OfPair f s (Short CHAIN work buffer) Derived.refused (λ t. means.DeriveMeans t m k work buffer) d → PairPasses f s
+      go (OfPair.short-buffer x r) = absurd (no-refusal 11 r)
+      go (OfPair.refused-pair x n h r) = absurd (no-refusal n r)
+      go (OfPair.of-joined x h t) = h
+
+  pub found-exactly : ((deriveBoth f s m k work buffer ≡ Derived.word)
+      ⊎ ((c : ℕ) × (l : List ℕ) × (deriveBoth f s m k work buffer ≡ Derived.chained c l)))
+      ↔ (PairPasses f s × DeriveHears (joined f s) m k work buffer × HappensBefore (tableOf (joined f s)) m k)
+  found-exactly = (there, λ x. back (x .0) (means.some-found (joined f s) m k work buffer .1 (x .1, x .2)))
+    where
+      there : (deriveBoth f s m k work buffer ≡ Derived.word)
+          ⊎ ((c : ℕ) × (l : List ℕ) × (deriveBoth f s m k work buffer ≡ Derived.chained c l))
+          → PairPasses f s × DeriveHears (joined f s) m k work buffer × HappensBefore (tableOf (joined f s)) m k
+      there (inl e) =
+          let h = heard Derived.word e (omega arith) in
+          let x = means.some-found (joined f s) m k work buffer .0 (inl (sym (derive-joined f s h m k work buffer) ∙ e)) in
+          (h, x .0, x .1)
+      there (inr (c, l, e)) =
+          let h = heard (Derived.chained c l) e (omega arith) in
+          let x = means.some-found (joined f s) m k work buffer .0 (inr (c, l, sym (derive-joined f s h m k work buffer) ∙ e)) in
+          (h, x .0, x .1)
+
+      back : PairPasses f s → (derive (joined f s) m k work buffer ≡ Derived.word)
+          ⊎ ((c : ℕ) × (l : List ℕ) × (derive (joined f s) m k work buffer ≡ Derived.chained c l))
+          → (deriveBoth f s m k work buffer ≡ Derived.word)
+          ⊎ ((c : ℕ) × (l : List ℕ) × (deriveBoth f s m k work buffer ≡ Derived.chained c l))
+      back h (inl e) = inl (derive-joined f s h m k work buffer ∙ e)
+      back h (inr (c, l, e)) = inr (c, l, derive-joined f s h m k work buffer ∙ e)
 
 -- ---- row n
 

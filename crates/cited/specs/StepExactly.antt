@@ -1,18 +1,13 @@
 -- A step gives each answer exactly when its case holds: the proofs of Stepping.antt. Assumes nothing.
 use mathlib.Core.Path.{_≡_, refl, sym, _∙_, subst}
-use mathlib.Core.Bool.{true}
 use mathlib.Core.List.{List}
 use mathlib.Core.Logic.{_⊎_, inl, inr, _↔_}
 use Prim.Native.Nat.{ℕ, _+_, _*_, _≤_, _<_}
 use native.Mathlib.Omega.{arith}
 use native.Mathlib.Decide.{decLt}
 use lib.ListN.{take, drop}
-use Rattle.model.specs.declared.Admission.{Admission}
-use Rattle.model.specs.declared.Admission.the-variants.{Admitted, Refused}
 use Rattle.model.specs.declared.{Row.Row, Source.Source}
 use Rattle.model.specs.Table.{ROW-BYTES, agentsAt, rowsAt, rowBytes, rowOf, sourceOf}
-use Rattle.model.specs.Refusal.{admission}
-use Rattle.laws.specs.AdmissionLaws.{admitted-sound, sound-admitted}
 use Rattle.writer.specs.Encode.{rowList}
 use Rattle.writer.specs.Promise.{row-bytes-again}
 use Rattle.stepping.specs.declared.{RowReader.RowReader, Step.Step, Stepped.Stepped}
@@ -20,15 +15,7 @@ use Rattle.stepping.specs.Steps.{stepsOf, steppedAt}
 use Rattle.stepping.specs.Promise.{opened-rows, opened-end, refused-end, from-refused, from-row, from-end}
 use Rattle.promises.specs.Terms.{Bytes, Fillable, Unfillable}
 use Rattle.cited.specs.Terms.{source, Opens}
-
--- ---- a table is refused or not
-
-pub fillable-or : (s : List ℕ) → Fillable s ⊎ ((n : ℕ) × (j : ℕ) × Unfillable s n j)
-fillable-or s = go (admission true s) refl
-  where
-    go : (a : Admission) → admission true s ≡ a → Fillable s ⊎ ((n : ℕ) × (j : ℕ) × Unfillable s n j)
-    go (Admitted a n) e = inl (sound-admitted true s (admitted-sound true s e))
-    go (Refused n j) e = inr (n, j, e)
+use Rattle.cited.specs.Tables.{fillable-or}
 
 -- ---- a step
 

@@ -1,15 +1,22 @@
 -- The words of Pieces.antt, Writer.antt and Stepping.antt; those of the promises are in crates/promises/specs/Terms.antt.
 use mathlib.Core.Path.{_≡_}
 use mathlib.Core.Bool.{true, false}
-use mathlib.Core.List.{List}
+use mathlib.Core.List.{List, []}
 use Prim.Native.Nat.{ℕ, _%_, _≤_, _<_}
-use lib.ListN.{length}
+use lib.ListN.{length, getD}
 use denote.Ref.{now}
+use Rattle.model.specs.declared.Admission.the-variants.{Admitted}
 use Rattle.model.specs.declared.Source.{Source}
 use Rattle.model.specs.Limits.{ROWS}
-use Rattle.model.specs.Table.{HEADER, ROW-BYTES}
+use Rattle.model.specs.Table.{HEADER, ROW-BYTES, versionAt, placeAt, rowBytes, rowOf, sourcesOf}
+use Rattle.model.specs.Table.{dependencyBytes, dependencyCount, dependencyFrom, dependencyTo}
 use Rattle.model.specs.Refusal.{versionFits, limitsFit, lengthFits, hostsFault, admission}
 use Rattle.pieces.specs.Pieces.{rowsBoth, joined}
+use Rattle.writer.specs.declared.{Entry.Entry, Dependencies.Dependencies}
+use Rattle.writer.specs.Encode.{entryAt, encode}
+use Rattle.writer.specs.Answer.{versionKnown, countsFit, numbersFit, dependenciesFit}
+use Rattle.writer.specs.ValueLaws.{Fits}
+use Rattle.promises.specs.Terms.{Fillable, Unfillable}
 use Rattle.stepping.specs.declared.RowReader.{RowReader}
 use Rattle.stepping.specs.Steps.{openedPart}
 
@@ -53,6 +60,37 @@ pub data OfPair {A : Type 0} (f s : List ℕ) (Short : Type 0) (refused : ℕ �
   short-buffer : Short → a ≡ refused 11 0 → OfPair f s Short refused Means a
   refused-pair : (Short → ⊥) → (n : ℕ) → PairRefuses f s n → a ≡ refused n 0 → OfPair f s Short refused Means a
   of-joined : (Short → ⊥) → PairPasses f s → Means (joined f s) a → OfPair f s Short refused Means a
+
+-- ---- the writer: a version, so many agents with the places p, so many rows l, and the dependencies d
+
+-- writing these values into a buffer with so much room is refused with number n at row i: first what they are refused
+-- for themselves, then what a fill refuses their table for, last a buffer that is too short
+pub data WriteRefuses (version agents : ℕ) (p : List (List ℕ)) (rows : ℕ) (l : List Entry) (d : Dependencies)
+    (room n i : ℕ) : Type 0 where
+  other-version : versionKnown version ≡ false → n ≡ 2 → i ≡ 0 → WriteRefuses version agents p rows l d room n i
+  over-limits : versionKnown version ≡ true → countsFit agents rows ≡ false → n ≡ 3 → i ≡ 0
+      → WriteRefuses version agents p rows l d room n i
+  other-agents : versionKnown version ≡ true → countsFit agents rows ≡ true → numbersFit version agents p ≡ false
+      → n ≡ 16 → i ≡ 0 → WriteRefuses version agents p rows l d room n i
+  many-dependencies : versionKnown version ≡ true → countsFit agents rows ≡ true → numbersFit version agents p ≡ true
+      → dependenciesFit version (d .count) ≡ false → n ≡ 17 → i ≡ 0 → WriteRefuses version agents p rows l d room n i
+  refused-table : Fits version agents p rows (d .count) → Unfillable (encode version agents p rows l d) n i
+      → WriteRefuses version agents p rows l d room n i
+  short-room : Fits version agents p rows (d .count) → Fillable (encode version agents p rows l d)
+      → room < length (encode version agents p rows l d) → n ≡ 13 → i ≡ 0
+      → WriteRefuses version agents p rows l d room n i
+
+-- a fill admits the table t, and these values stand in it, by the definitions that every answer goes by
+pub record Says (t : List ℕ) (v agents : ℕ) (p : List (List ℕ)) (rows : ℕ) (l : List Entry) (d : Dependencies)
+    : Type 0 where
+  pub admitted : admission true t ≡ Admitted agents rows
+  pub version : versionAt t ≡ v
+  pub place : (a : ℕ) → a < agents → placeAt t a ≡ getD p a []
+  pub row : (i : ℕ) → i < rows → rowOf (rowBytes t) i ≡ entryAt l i .row
+  pub source : (i : ℕ) → i < rows → sourcesOf t i ≡ entryAt l i .source .0
+  pub count : dependencyCount (dependencyBytes t) ≡ d .count
+  pub dependency : (k : ℕ) → k < d .count → (dependencyFrom (dependencyBytes t) k ≡ getD (d .first) k 0)
+      × (dependencyTo (dependencyBytes t) k ≡ getD (d .second) k 0)
 
 -- ---- stepping
 

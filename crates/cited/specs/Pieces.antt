@@ -6,7 +6,7 @@
 -- that is indented below it. `abbrev` gives a name to what follows it; λ t. X is X as a matter of t.
 --
 -- The words: f is the first piece, an ordinary table, and s the second, the bytes of rows that are added after f's.
--- `rowsBoth f s` is how many rows both have, `joined f s` the one table that they make (crates/pieces/specs/Pieces.antt).
+-- `rowsBoth f s` is how many rows both have, `joined f s` the one table they make (crates/pieces/specs/Pieces.antt).
 -- `HeaderRefuses`, `HeaderPasses`, `PairRefuses`, `PairPasses`, `RowsHeld` and `OfPair` are in Terms.antt, `Short` (a
 -- lent buffer is too short) and `Bytes` (the numbers are bytes, as those of a `&[u8]` are, and as every fill ensures)
 -- in crates/promises/specs/Terms.antt, `CheckMeans` and its like in crates/promises/specs/Main.antt. `ROW-BYTES` is 16.
@@ -26,7 +26,8 @@ use Prim.Native.Nat.{ℕ, _+_, _-_, _*_, _/_, _≤_, _<_}
 use lib.ListN.{length, take, drop}
 use Rattle.model.specs.declared.{Admission.Admission, Reason.Reason, ReportAnswer.ReportAnswer}
 use Rattle.model.specs.Limits.{CYCLE, SOURCES, CHAIN}
-use Rattle.model.specs.Table.{ROW-BYTES, versionAt, agentsAt, rowsAt, rowsBegin, placesOf, rowBytes, dependencyBytes, tableOf}
+use Rattle.model.specs.Table.{ROW-BYTES, versionAt, agentsAt, rowsAt, rowsBegin, placesOf, rowBytes, dependencyBytes}
+use Rattle.model.specs.Table.{tableOf}
 use Rattle.model.specs.Refusal.{admission}
 use Rattle.model.specs.Check.{Verdict, check}
 use Rattle.model.specs.Fill.{Outcome, fill}

@@ -33,8 +33,8 @@ use Rattle.cited.specs as beside
 -- ==== What each answer means. It is given exactly when its meaning holds
 
 module _ (s : List ℕ) (i : ℕ) where
-  -- a step from place i: what a fill refuses gets that refusal, number and row, at every place; else row i and the place
-  -- after it, or past the last row the end, which stays where it is
+  -- a step from place i: what a fill refuses gets that refusal, number and row, at every place; else row i and the
+  -- place after it, or past the last row the end, which stays where it is
   abbrev pub StepMeans : Stepped → Type 0
   StepMeans (Stepped.Refused n j) = Unfillable s n j
   StepMeans (Stepped.Row r c next) = Fillable s × (i < rowsAt s)

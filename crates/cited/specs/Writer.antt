@@ -30,7 +30,8 @@ use lib.ListN.{length, take, drop}
 use Rattle.model.specs.Limits.{ROWS}
 use Rattle.model.specs.Table.{ROW-BYTES, versionAt, agentsAt, rowsAt, placesOf, rowBytes, rowOf, sourceOf}
 use Rattle.model.specs.Table.{dependencyBytes, dependencyCount}
-use Rattle.writer.specs.declared.{Entry.Entry, Dependencies.Dependencies, WriteAnswer.WriteAnswer, ReadAnswer.ReadAnswer}
+use Rattle.writer.specs.declared.{Entry.Entry, Dependencies.Dependencies}
+use Rattle.writer.specs.declared.{WriteAnswer.WriteAnswer, ReadAnswer.ReadAnswer}
 use Rattle.writer.specs.Encode.{rowList, rowsPart, encode, entriesIn, entriesOf, dependenciesOf}
 use Rattle.writer.specs.Answer.{versionKnown, countsFit, numbersFit, dependenciesFit, writeAnswer, bufferAfter}
 use Rattle.writer.specs.ValueLaws.{Fits}
@@ -87,7 +88,8 @@ module _ (s : List ℕ) (places rows dependencies : ℕ) where
       × (v ≡ versionAt s) × (a ≡ agentsAt s) × (n ≡ rowsAt s) × (m ≡ dependencyCount (dependencyBytes s))
 
   pub read-means : (a : ReadAnswer) → (readAnswer s places rows dependencies ≡ a) ↔ ReadMeans a
-  read-means (ReadAnswer.Refused n i) = beside.ReadExactly.read-exactly s places rows dependencies (ReadAnswer.Refused n i)
+  read-means (ReadAnswer.Refused n i) =
+      beside.ReadExactly.read-exactly s places rows dependencies (ReadAnswer.Refused n i)
   read-means (ReadAnswer.Read v a n m) =
       beside.ReadExactly.read-exactly s places rows dependencies (ReadAnswer.Read v a n m)
 

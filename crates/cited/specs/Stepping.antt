@@ -69,11 +69,12 @@ pub refused-everywhere : (s : List ℕ) (i n j : ℕ) → steppedAt s i ≡ Step
     → (k : ℕ) → steppedAt s k ≡ Stepped.Refused n j
 refused-everywhere = beside.StepExactly.refused-everywhere
 
--- after the end there is the end at every further place, and so at every further call
+-- after the end there is the end at every further place
 pub end-stays : (s : List ℕ) (i next : ℕ) → steppedAt s i ≡ Stepped.End next
     → (k : ℕ) → i ≤ k → steppedAt s k ≡ Stepped.End k
 end-stays = beside.StepExactly.end-stays
 
+-- and of a reader: after its end there are no rows
 pub next-end-stays : (s : List ℕ) (r : RowReader) → Opens s r → (i : ℕ) → stepsOf r i ≡ Step.End
     → (k : ℕ) → i ≤ k → stepsOf r k ≡ Step.End
 next-end-stays = beside.StepExactly.next-end-stays

@@ -1,15 +1,15 @@
 -- The table that two pieces of bytes are joined to is of bytes too. Assumes nothing.
-use mathlib.Core.Path.{_≡_, refl, sym, subst}
+use mathlib.Core.Path.{_≡_}
 use mathlib.Core.Bool.{Bool, true, false, cond}
 use mathlib.Core.List.{List, [], _∷_, _++_}
 use Prim.Native.Nat.{ℕ, zero, suc, _+_, _-_, _*_, _/_, _%_, _≤_, _<_}
 use native.Mathlib.Omega.{arith}
-use lib.ListN.{length, getD, take, drop}
+use lib.ListN.{length, take, drop}
 use lib.Seq.{getD-drop}
 use borrow.Author.Tests.{leb-true}
-use Rattle.model.specs.Limits.{AGENTS, ROWS}
-use Rattle.model.specs.Table.{HEADER, ROW-BYTES, PLACE-BYTES, HOSTS-PLACE-BYTES, DEPENDENCY-BYTES, pairAt, versionAt, agentsAt}
-use Rattle.model.specs.Table.{rowsAt, zeroAt, hasHosts, rowsBegin, rowsEnd, sizeOf, rowBytes, dependencyBytes}
+use Rattle.model.specs.Limits.{AGENTS}
+use Rattle.model.specs.Table.{HEADER, ROW-BYTES, PLACE-BYTES, HOSTS-PLACE-BYTES, DEPENDENCY-BYTES, pairAt, versionAt}
+use Rattle.model.specs.Table.{agentsAt, rowsAt, zeroAt, hasHosts, rowsBegin, rowsEnd, sizeOf, rowBytes, dependencyBytes}
 use Rattle.pieces.specs.Pieces.{rowsBoth, piecesFault, headerOf, placeBytes, joined}
 use Rattle.pieces.specs.PiecesLaws.{shape-agents, shape-rows, shape-length, end-is, first-right, both-fit, both-length}
 use Rattle.promises.specs.Terms.{Bytes}

@@ -6,7 +6,7 @@
 -- that is indented below it. `abbrev` gives a name to what follows it; λ t. X is X as a matter of t.
 --
 -- The words: f is the first piece, an ordinary table, and s the second, the bytes of rows that are added after f's.
--- `rowsBoth f s` is how many rows both have, `joined f s` the one table that they make (crates/pieces/specs/Pieces.antt).
+-- `rowsBoth f s` is how many rows both have, `joined f s` the one table they make (crates/pieces/specs/Pieces.antt).
 -- `HeaderRefuses`, `HeaderPasses`, `PairRefuses`, `PairPasses`, `RowsHeld` and `OfPair` are in Terms.antt, `Short` (a
 -- lent buffer is too short) and `Bytes` (the numbers are bytes, as those of a `&[u8]` are, and as every fill ensures)
 -- in crates/promises/specs/Terms.antt, `CheckMeans` and its like in crates/promises/specs/Main.antt. `ROW-BYTES` is 16.
@@ -26,7 +26,8 @@ use Prim.Native.Nat.{ℕ, _+_, _-_, _*_, _/_, _≤_, _<_}
 use lib.ListN.{length, take, drop}
 use Rattle.model.specs.declared.{Admission.Admission, Reason.Reason, ReportAnswer.ReportAnswer}
 use Rattle.model.specs.Limits.{CYCLE, SOURCES, CHAIN}
-use Rattle.model.specs.Table.{ROW-BYTES, versionAt, agentsAt, rowsAt, rowsBegin, placesOf, rowBytes, dependencyBytes, tableOf}
+use Rattle.model.specs.Table.{ROW-BYTES, versionAt, agentsAt, rowsAt, rowsBegin, placesOf, rowBytes, dependencyBytes}
+use Rattle.model.specs.Table.{tableOf}
 use Rattle.model.specs.Refusal.{admission}
 use Rattle.model.specs.Check.{Verdict, check}
 use Rattle.model.specs.Fill.{Outcome, fill}
@@ -61,14 +62,17 @@ first-alone = beside.PiecesExactly.header-alone
 -- refusal at row 0, then what the answer means of the joined table
 
 module _ (chains : Bool) (f s : List ℕ) (work buffer : ℕ) where
+  -- a check
   pub check2-means : (v : Verdict) → (checkBoth chains f s work buffer ≡ v)
       ↔ OfPair f s (Short CYCLE work buffer) Verdict.refused (λ t. CheckMeans chains t work buffer) v
   check2-means = beside.PiecesExactly.check-exactly chains f s work buffer
 
+  -- a fill
   pub fill2-means : Bytes f → Bytes s → (o : Outcome) → (fillBoth chains f s work buffer ≡ o)
       ↔ OfPair f s (Short SOURCES work buffer) Outcome.refused (λ t. FillMeans chains t work buffer) o
   fill2-means = beside.PiecesExactly.fill-exactly chains f s work buffer
 
+  -- a report
   pub report2-means : (a : ReportAnswer) → (reportBoth chains f s work buffer ≡ a)
       ↔ OfPair f s (Short CYCLE work buffer) ReportAnswer.Refused (λ t. ReportMeans chains t work buffer) a
   report2-means = beside.PiecesExactly.report-exactly chains f s work buffer
@@ -88,6 +92,7 @@ module _ (f s : List ℕ) (m k : ℕ) where
     pub derive2-means : (d : Derived) → deriveBoth f s m k work buffer ≡ d → Derive2Means d
     derive2-means = beside.PiecesExactly.derive-means f s m k work buffer
 
+    -- a refusal, and "not before", are of both
     pub derive2-refuses : (n i : ℕ)
         → (deriveBoth f s m k work buffer ≡ Derived.refused n i) ↔ Derive2Means (Derived.refused n i)
     derive2-refuses = beside.PiecesExactly.derive-refuses f s m k work buffer
@@ -95,6 +100,7 @@ module _ (f s : List ℕ) (m k : ℕ) where
     pub not-before2-said : (deriveBoth f s m k work buffer ≡ Derived.notBefore) ↔ Derive2Means Derived.notBefore
     not-before2-said = beside.PiecesExactly.not-before-said f s m k work buffer
 
+    -- a word or a chain is found exactly when the first moment happens before the second in the joined table
     pub some-found2 : ((deriveBoth f s m k work buffer ≡ Derived.word)
         ⊎ ((c : ℕ) × (l : List ℕ) × (deriveBoth f s m k work buffer ≡ Derived.chained c l)))
         ↔ (PairPasses f s × DeriveHears (joined f s) m k work buffer × HappensBefore (tableOf (joined f s)) m k)
@@ -137,6 +143,7 @@ module _ (f s : List ℕ) (passes : PairPasses f s) where
 -- ==== One piece is two of which the second is empty, for all bytes
 
 module _ (f : List ℕ) where
+  -- a check, a fill, a report, the finder and the reader of derivations say of f alone what they say of f and nothing
   pub check-alone : (chains : Bool) (work buffer : ℕ) → checkBoth chains f [] work buffer ≡ check chains f work buffer
   check-alone = alone f .checks
 
@@ -182,5 +189,6 @@ module _ (f s : List ℕ) (n : ℕ) where
   pub part-means : (x : List ℕ) → (rowPart f s n ≡ x) ↔ PartMeans x
   part-means = beside.PiecesExactly.part-exactly f s n
 
+  -- a part that is shown has all sixteen
   pub part-long : RowsHeld f s → n < rowsBoth f s → length (rowPart f s n) ≡ ROW-BYTES
   part-long = beside.PiecesExactly.part-long f s n

@@ -7,25 +7,25 @@ use Prim.Native.Nat.{ℕ, _+_, _-_, _*_, _/_, _%_, _≤_, _<_}
 use native.Mathlib.Omega.{arith}
 use native.Mathlib.Decide.{decLt, ℕ-discrete}
 use lib.ListN.{length, take, drop, length-take, length-drop}
-use lib.Dec.{leb, eqb}
-use borrow.Author.Tests.{eqb-true, ne-eqb, eq-eqb, le-leb, lt-leb}
+use borrow.Author.Tests.{ne-eqb, le-leb, lt-leb}
 use Rattle.finite.specs.Logic.{which, not-both}
 use Rattle.model.specs.declared.Admission.the-variants.{Refused}
 use Rattle.model.specs.declared.Reason.{Reason}
 use Rattle.model.specs.declared.ReportAnswer.{ReportAnswer}
 use Rattle.model.specs.Limits.{ROWS, CYCLE, SOURCES, CHAIN}
-use Rattle.model.specs.Table.{HEADER, ROW-BYTES, versionAt, agentsAt, rowsAt, rowsBegin, placesOf, rowBytes, dependencyBytes, tableOf}
-use Rattle.model.specs.Refusal.{buffersFit, versionFits, limitsFit, lengthFits, hostsFault, headerFault, admission}
+use Rattle.model.specs.Table.{HEADER, ROW-BYTES, versionAt, agentsAt, rowsAt, rowsBegin, placesOf, rowBytes}
+use Rattle.model.specs.Table.{dependencyBytes, tableOf}
+use Rattle.model.specs.Refusal.{buffersFit, versionFits, limitsFit, lengthFits, headerFault, admission}
 use Rattle.model.specs.Check.{Verdict, check}
 use Rattle.model.specs.Fill.{Outcome, fill}
 use Rattle.model.specs.Report.{report}
 use Rattle.model.specs.Reason.{Judged, Derived, judge, derive}
 use Rattle.table.specs.Rows.{shapeFault}
 use Rattle.pieces.specs.declared.RowPlace.{RowPlace}
-use Rattle.pieces.specs.Pieces.{rowsBoth, piecesFault, joined, ofBoth, checkBoth, fillBoth, reportBoth, deriveBoth, judgeBoth}
-use Rattle.pieces.specs.Pieces.{earlyFault, rowPart, rowPlace, partAt}
-use Rattle.pieces.specs.PiecesLaws.{of-joined, of-refused, first-right, both-fit, bytes-length, joined-bytes, early-pieces}
-use Rattle.pieces.specs.PiecesLaws.{place-refused, place-first, place-second, place-past}
+use Rattle.pieces.specs.Pieces.{rowsBoth, piecesFault, joined, ofBoth, checkBoth, fillBoth, reportBoth, deriveBoth}
+use Rattle.pieces.specs.Pieces.{judgeBoth, earlyFault, rowPart, rowPlace, partAt}
+use Rattle.pieces.specs.PiecesLaws.{of-joined, of-refused, bytes-length, joined-bytes, early-pieces, place-refused}
+use Rattle.pieces.specs.PiecesLaws.{place-past}
 use Rattle.pieces.specs.Promise.{joined-is, part-is}
 use Rattle.pieces.specs.Promise as page
 use Rattle.model.specs.Words.{HappensBefore}
@@ -296,7 +296,8 @@ module _ (f s : List ℕ) (m k work buffer : ℕ) where
       no-refusal : (n : ℕ) → d ≡ Derived.refused n 0 → ⊥
       no-refusal n r = let z : told d ≡ 0 = ap told r in omega arith
 
-      go : OfPair f s (Short CHAIN work buffer) Derived.refused (λ t. means.DeriveMeans t m k work buffer) d → PairPasses f s
+      go : OfPair f s (Short CHAIN work buffer) Derived.refused (λ t. means.DeriveMeans t m k work buffer) d
+          → PairPasses f s
       go (OfPair.short-buffer x r) = absurd (no-refusal 11 r)
       go (OfPair.refused-pair x n h r) = absurd (no-refusal n r)
       go (OfPair.of-joined x h t) = h
@@ -311,11 +312,13 @@ module _ (f s : List ℕ) (m k work buffer : ℕ) where
           → PairPasses f s × DeriveHears (joined f s) m k work buffer × HappensBefore (tableOf (joined f s)) m k
       there (inl e) =
           let h = heard Derived.word e (omega arith) in
-          let x = means.some-found (joined f s) m k work buffer .0 (inl (sym (derive-joined f s h m k work buffer) ∙ e)) in
+          let q = sym (derive-joined f s h m k work buffer) ∙ e in
+          let x = means.some-found (joined f s) m k work buffer .0 (inl q) in
           (h, x .0, x .1)
       there (inr (c, l, e)) =
           let h = heard (Derived.chained c l) e (omega arith) in
-          let x = means.some-found (joined f s) m k work buffer .0 (inr (c, l, sym (derive-joined f s h m k work buffer) ∙ e)) in
+          let q = sym (derive-joined f s h m k work buffer) ∙ e in
+          let x = means.some-found (joined f s) m k work buffer .0 (inr (c, l, q)) in
           (h, x .0, x .1)
 
       back : PairPasses f s → (derive (joined f s) m k work buffer ≡ Derived.word)

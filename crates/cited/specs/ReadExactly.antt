@@ -9,9 +9,9 @@ use lib.ListN.{length, take, drop}
 use Rattle.finite.specs.Logic.{which}
 use Rattle.model.specs.Table.{ROW-BYTES, versionAt, agentsAt, rowsAt, placesOf, rowBytes, rowOf, sourceOf}
 use Rattle.model.specs.Table.{dependencyBytes, dependencyCount}
-use Rattle.model.specs.Refusal.{admission, whenAdmitted}
+use Rattle.model.specs.Refusal.{whenAdmitted}
 use Rattle.laws.specs.AdmissionLaws.{admitted-sound}
-use Rattle.writer.specs.declared.{Dependencies.Dependencies, WriteAnswer.WriteAnswer, ReadAnswer.ReadAnswer}
+use Rattle.writer.specs.declared.{WriteAnswer.WriteAnswer, ReadAnswer.ReadAnswer}
 use Rattle.writer.specs.Encode.{rowList, encode, entriesOf, dependenciesOf}
 use Rattle.writer.specs.Answer.{writeAnswer}
 use Rattle.writer.specs.Parts.{PLACE-NUMBERS, agentsIn, rowsIn, dependenciesIn, partsAnswer, partsTable}
@@ -95,7 +95,8 @@ module _ (s p b e : List ℕ) where
         ∙ fronted-front (endNumbers (dependenciesOf s)) e _ count
       where
         count : length (endNumbers (dependenciesOf s)) ≡ 2 * m
-        count = ends-long (dependenciesOf s) ∙ ap (λ (x : ℕ). 2 * x) (dependencies-counted s ∙ sym (page.read-counts s p b e v a n m r .3))
+        count = ends-long (dependenciesOf s)
+            ∙ ap (λ (x : ℕ). 2 * x) (dependencies-counted s ∙ sym (page.read-counts s p b e v a n m r .3))
 
     pub rows-held : Bytes s → take (ROW-BYTES * n) (rowsAfter back s b) ≡ rowBytes s
     rows-held = page.read-rows s p b e v a n m r
@@ -103,7 +104,8 @@ module _ (s p b e : List ℕ) where
     pub written-again : Bytes s → let P = take (PLACE-NUMBERS * a) (placesAfter back s p) in
         let B = take (ROW-BYTES * n) (rowsAfter back s b) in
         let E = take (2 * m) (dependenciesAfter back s e) in
-        (partsTable v P B E ≡ s) × ((room : ℕ) → length s ≤ room → partsAnswer v P B E room ≡ WriteAnswer.Written (length s))
+        (partsTable v P B E ≡ s)
+        × ((room : ℕ) → length s ≤ room → partsAnswer v P B E room ≡ WriteAnswer.Written (length s))
     written-again bytes = (page.read-again s p b e v a n m r bytes, page.read-written-again s p b e v a n m r bytes)
 
 -- ---- what was written, read back

@@ -58,7 +58,8 @@ module _ (s : List ℕ) (i : ℕ) (r : RowReader) (o : Opens s r) where
       Fillable s × (i < rowsAt s) × (q ≡ rowOf (rowBytes s) i) × (c ≡ source (sourceOf (rowBytes s) i))
   MeansNext Step.End = (Fillable s × (rowsAt s ≤ i)) ⊎ ((n : ℕ) × (j : ℕ) × Unfillable s n j)
 
-  row-next : Fillable s → i < rowsAt s → stepsOf r i ≡ Step.Row (rowOf (rowBytes s) i) (source (sourceOf (rowBytes s) i))
+  row-next : Fillable s → i < rowsAt s
+      → stepsOf r i ≡ Step.Row (rowOf (rowBytes s) i) (source (sourceOf (rowBytes s) i))
   row-next e l = opened-rows s r (o .0) (o .1) (agentsAt s) (rowsAt s) e i l
 
   end-next : MeansNext Step.End → stepsOf r i ≡ Step.End
@@ -82,7 +83,8 @@ module _ (s : List ℕ) (i : ℕ) (r : RowReader) (o : Opens s r) where
 
 -- ---- what follows
 
-pub row-bytes : (s : List ℕ) → Bytes s → (i : ℕ) (r : Row) (c : Source) (next : ℕ) → steppedAt s i ≡ Stepped.Row r c next
+pub row-bytes : (s : List ℕ) → Bytes s → (i : ℕ) (r : Row) (c : Source) (next : ℕ)
+    → steppedAt s i ≡ Stepped.Row r c next
     → rowList r (c .0) ≡ take ROW-BYTES (drop (ROW-BYTES * i) (rowBytes s))
 row-bytes s bytes i r c next e =
     let m = exactly s i (Stepped.Row r c next) .0 e in

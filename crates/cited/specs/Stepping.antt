@@ -33,8 +33,8 @@ use Rattle.cited.specs as beside
 -- ==== What each answer means. It is given exactly when its meaning holds
 
 module _ (s : List ℕ) (i : ℕ) where
-  -- a step from place i: what a fill refuses gets that refusal, number and row, at every place; else row i and the place
-  -- after it, or past the last row the end, which stays where it is
+  -- a step from place i: what a fill refuses gets that refusal, number and row, at every place; else row i and the
+  -- place after it, or past the last row the end, which stays where it is
   abbrev pub StepMeans : Stepped → Type 0
   StepMeans (Stepped.Refused n j) = Unfillable s n j
   StepMeans (Stepped.Row r c next) = Fillable s × (i < rowsAt s)
@@ -69,11 +69,12 @@ pub refused-everywhere : (s : List ℕ) (i n j : ℕ) → steppedAt s i ≡ Step
     → (k : ℕ) → steppedAt s k ≡ Stepped.Refused n j
 refused-everywhere = beside.StepExactly.refused-everywhere
 
--- after the end there is the end at every further place, and so at every further call
+-- after the end there is the end at every further place
 pub end-stays : (s : List ℕ) (i next : ℕ) → steppedAt s i ≡ Stepped.End next
     → (k : ℕ) → i ≤ k → steppedAt s k ≡ Stepped.End k
 end-stays = beside.StepExactly.end-stays
 
+-- and of a reader: after its end there are no rows
 pub next-end-stays : (s : List ℕ) (r : RowReader) → Opens s r → (i : ℕ) → stepsOf r i ≡ Step.End
     → (k : ℕ) → i ≤ k → stepsOf r k ≡ Step.End
 next-end-stays = beside.StepExactly.next-end-stays

@@ -1,4 +1,4 @@
--- The words of Pieces.antt, Writer.antt and Stepping.antt; those of the promises are in crates/promises/specs/Terms.antt.
+-- The words of Pieces.antt, Writer.antt and Stepping.antt. Those of the promises are in promises/specs/Terms.antt.
 use mathlib.Core.Path.{_≡_}
 use mathlib.Core.Bool.{true, false}
 use mathlib.Core.List.{List, []}

@@ -1,18 +1,18 @@
 -- A writer gives each answer exactly when its case holds: the proofs of Writer.antt about writing. Assumes nothing.
 use mathlib.Core.Path.{_≡_, refl, sym, ap, _∙_, subst}
-use mathlib.Core.Bool.{Bool, true, false, cond}
-use mathlib.Core.List.{List, []}
+use mathlib.Core.Bool.{true, false}
+use mathlib.Core.List.{List}
 use mathlib.Core.Logic.{_⊎_, inl, inr, _↔_}
-use Prim.Native.Nat.{ℕ, _*_, _≤_, _<_}
+use Prim.Native.Nat.{ℕ, _≤_, _<_}
 use native.Mathlib.Omega.{arith}
 use native.Mathlib.Decide.{decLt}
-use lib.ListN.{length, getD, take, drop}
+use lib.ListN.{length, take, drop}
 use lib.Seq.{take-at, drop-at}
 use Rattle.finite.specs.Logic.{which}
-use Rattle.model.specs.Refusal.{admission}
 use Rattle.writer.specs.declared.{Entry.Entry, Dependencies.Dependencies, WriteAnswer.WriteAnswer}
 use Rattle.writer.specs.Encode.{tableSize, encode, entriesIn}
-use Rattle.writer.specs.Answer.{versionKnown, countsFit, numbersFit, dependenciesFit, valuesFault, writeAnswer, bufferAfter}
+use Rattle.writer.specs.Answer.{versionKnown, countsFit, numbersFit, dependenciesFit, valuesFault, writeAnswer}
+use Rattle.writer.specs.Answer.{bufferAfter}
 use Rattle.writer.specs.ValueLaws.{Fits, values-fit, fit-values, encode-length}
 use Rattle.writer.specs.EncodeLaws.{Typed}
 use Rattle.writer.specs.AnswerLaws.{ofTable, room-short, room-long, values-in, table-in, admitted-in}
@@ -90,7 +90,9 @@ module _ (version agents : ℕ) (p : List (List ℕ)) (rows : ℕ) (l : List Ent
       go (inl v) (inl c) (inl a) (inl k) (inr (n, j, u)) h =
           never n j (WriteRefuses.refused-table (record { known = v; counts = c; numbers = a; dependencies = k }) u)
       go (inl v) (inl c) (inl a) (inl k) (inl u) (yes h) =
-          never 13 0 (WriteRefuses.short-room (record { known = v; counts = c; numbers = a; dependencies = k }) u h refl refl)
+          let f : Fits version agents p rows (d .count) =
+          record { known = v; counts = c; numbers = a; dependencies = k } in
+          never 13 0 (WriteRefuses.short-room f u h refl refl)
       go (inl v) (inl c) (inl a) (inl k) (inl u) (no h) =
           let f : Fits version agents p rows (d .count) =
           record { known = v; counts = c; numbers = a; dependencies = k } in

@@ -30,7 +30,8 @@ use lib.ListN.{length, take, drop}
 use Rattle.model.specs.Limits.{ROWS}
 use Rattle.model.specs.Table.{ROW-BYTES, versionAt, agentsAt, rowsAt, placesOf, rowBytes, rowOf, sourceOf}
 use Rattle.model.specs.Table.{dependencyBytes, dependencyCount}
-use Rattle.writer.specs.declared.{Entry.Entry, Dependencies.Dependencies, WriteAnswer.WriteAnswer, ReadAnswer.ReadAnswer}
+use Rattle.writer.specs.declared.{Entry.Entry, Dependencies.Dependencies}
+use Rattle.writer.specs.declared.{WriteAnswer.WriteAnswer, ReadAnswer.ReadAnswer}
 use Rattle.writer.specs.Encode.{rowList, rowsPart, encode, entriesIn, entriesOf, dependenciesOf}
 use Rattle.writer.specs.Answer.{versionKnown, countsFit, numbersFit, dependenciesFit, writeAnswer, bufferAfter}
 use Rattle.writer.specs.ValueLaws.{Fits}
@@ -87,7 +88,8 @@ module _ (s : List ℕ) (places rows dependencies : ℕ) where
       × (v ≡ versionAt s) × (a ≡ agentsAt s) × (n ≡ rowsAt s) × (m ≡ dependencyCount (dependencyBytes s))
 
   pub read-means : (a : ReadAnswer) → (readAnswer s places rows dependencies ≡ a) ↔ ReadMeans a
-  read-means (ReadAnswer.Refused n i) = beside.ReadExactly.read-exactly s places rows dependencies (ReadAnswer.Refused n i)
+  read-means (ReadAnswer.Refused n i) =
+      beside.ReadExactly.read-exactly s places rows dependencies (ReadAnswer.Refused n i)
   read-means (ReadAnswer.Read v a n m) =
       beside.ReadExactly.read-exactly s places rows dependencies (ReadAnswer.Read v a n m)
 
@@ -112,10 +114,11 @@ pub row-again : (s : List ℕ) → Bytes s → Fillable s → (i : ℕ) → i < 
     → rowList (rowOf (rowBytes s) i) (sourceOf (rowBytes s) i) ≡ take ROW-BYTES (drop (ROW-BYTES * i) (rowBytes s))
 row-again = beside.ReadExactly.row-again
 
--- lent parts: the same
+-- what was written of lent parts that are of bytes and of numbers of 16 bits
 module _ (version : ℕ) (places rows dependencies : List ℕ) (sixteen : Numbers places) (eight : Bytes rows)
     (ends : Numbers dependencies) (room k : ℕ)
     (w : partsAnswer version places rows dependencies room ≡ WriteAnswer.Written k) where
+  -- a fill admits the table of the parts, and their values stand in it
   pub parts-say : Says (partsTable version places rows dependencies) version
       (agentsIn places) (placesIn places) (rowsIn rows) (entriesIn rows) (dependenciesIn dependencies)
   parts-say = beside.WriteExactly.parts-say version places rows dependencies room sixteen eight ends k w
@@ -152,6 +155,7 @@ module _ (version agents : ℕ) (p : List (List ℕ)) (rows : ℕ) (l : List Ent
   abbrev said : WriteAnswer
   said = writeAnswer version agents p rows l d room
 
+  -- a write of values
   pub written-buffer : (m : ℕ) → said ≡ WriteAnswer.Written m → (out : List ℕ)
       → (take m (bufferAfter said t out) ≡ t) × (drop m (bufferAfter said t out) ≡ drop m out)
   written-buffer = beside.WriteExactly.buffer-written version agents p rows l d room
@@ -166,6 +170,7 @@ module _ (version : ℕ) (places rows dependencies : List ℕ) (room : ℕ) wher
   abbrev told : WriteAnswer
   told = partsAnswer version places rows dependencies room
 
+  -- a write of lent parts
   pub parts-written : (m : ℕ) → told ≡ WriteAnswer.Written m → (out : List ℕ)
       → (take m (bufferAfter told table out) ≡ table) × (drop m (bufferAfter told table out) ≡ drop m out)
   parts-written = beside.WriteExactly.parts-buffer-written version places rows dependencies room
@@ -179,11 +184,13 @@ module _ (s p b e : List ℕ) where
   abbrev given : ReadAnswer
   given = readAnswer s (length p) (length b) (length e)
 
+  -- nothing is written where the reading is refused
   pub unread-parts : (n i : ℕ) → given ≡ ReadAnswer.Refused n i
       → (placesAfter given s p ≡ p) × (rowsAfter given s b ≡ b) × (dependenciesAfter given s e ≡ e)
   unread-parts = beside.ReadExactly.parts-left s p b e
 
   module _ (v a n m : ℕ) (r : given ≡ ReadAnswer.Read v a n m) where
+    -- four numbers for each agent, sixteen bytes for each row as they stand in s, two numbers for each dependency
     pub read-places : take (PLACE-NUMBERS * a) (placesAfter given s p) ≡ placeNumbers (placesOf s) (agentsAt s)
     read-places = beside.ReadExactly.places-held s p b e v a n m r
 
@@ -193,6 +200,7 @@ module _ (s p b e : List ℕ) where
     pub read-dependencies : take (2 * m) (dependenciesAfter given s e) ≡ endNumbers (dependenciesOf s)
     read-dependencies = beside.ReadExactly.dependencies-held s p b e v a n m r
 
+    -- and what stood behind them stays
     pub read-rest : (drop (PLACE-NUMBERS * a) (placesAfter given s p) ≡ drop (PLACE-NUMBERS * a) p)
         × (drop (ROW-BYTES * n) (rowsAfter given s b) ≡ drop (ROW-BYTES * n) b)
         × (drop (2 * m) (dependenciesAfter given s e) ≡ drop (2 * m) e)
@@ -231,9 +239,9 @@ module _ (version agents : ℕ) (p : List (List ℕ)) (rows : ℕ) (l : List Ent
       × (room < length (encode version agents p rows l d))
   refused-13 = beside.WriteExactly.refused-13 version agents p rows l d room typed
 
--- ==== Values past their counts
+-- ==== Values past their counts, and rows as bytes
 
--- make no difference, whatever they are: `Alike` values are the same as far as they are counted
+-- Values past their counts make no difference, whatever they are: `Alike` values are the same as far as counted
 module _ (version agents : ℕ) (p q : List (List ℕ)) (rows : ℕ) (l k : List Entry) (d e : Dependencies)
     (alike : Alike agents p q rows l k d e) where
   pub past-same : encode version agents p rows l d ≡ encode version agents q rows k e

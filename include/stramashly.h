@@ -352,7 +352,7 @@ uint64_t stramashly_fill(const uint8_t *table, size_t table_len, uint8_t chains,
                          uint64_t *work, size_t work_len,
                          uint16_t *sources, size_t sources_len);
 
-/* The same two by the obvious engine, which has one flag for each two moments.
+/* The same two by the flags engine, which has one flag for each two moments.
  * The answers, and what is left in the buffers, are proved to be the same; it
  * takes many times as long. For whoever wants to see a table judged twice. */
 uint64_t stramashly_check_by_flags(const uint8_t *table, size_t table_len, uint8_t chains,

@@ -67,16 +67,6 @@ within-rowFill a b p w at zero l m = within-refl a b w
 within-rowFill a b p w at (suc n) l m =
     within-trans (within-rowFill a b p w at n l (omega arith)) (within-setBitIf a b (p n) (rowFill p w at n) (at + n) (omega arith) (omega arith))
 
--- the same of what was filled
-pub within-row : {w u : List ℕ} (a b : ℕ) (p : ℕ → Bool) (at n : ℕ) → 64 * a ≤ at → at + n ≤ 64 * b → u ≡ rowFill p w at n → Within a b w u
-within-row {w} a b p at n l m e = rw e (within-rowFill a b p w at n l m)
-
--- tests that agree write the same
-pub rowFill-cong : (p q : ℕ → Bool) (w : List ℕ) (at n : ℕ) → ((m : ℕ) → m < n → p m ≡ q m) → rowFill p w at n ≡ rowFill q w at n
-unfolding rowFill
-rowFill-cong p q w at zero h = refl
-rowFill-cong p q w at (suc n) h = rw (h n (omega arith), rowFill-cong p q w at n (λ m l. h m (omega arith))) refl
-
 -- ---- laws: a grid
 
 pub length-gridFill : (p : ℕ → ℕ → Bool) (w : List ℕ) (at step n r : ℕ) → length (gridFill p w at step n r) ≡ length w
@@ -127,10 +117,6 @@ within-gridFill a b p w at step n (suc r) s l m =
 pub rowFill-none : (p : ℕ → Bool) (w : List ℕ) (at : ℕ) → w ≡ rowFill p w at 0
 unfolding rowFill
 rowFill-none p w at = refl
-
-pub rowFill-skip : (p : ℕ → Bool) (w₀ w u : List ℕ) (at n : ℕ) → w ≡ rowFill p w₀ at n → p n ≡ false → u ≡ w → u ≡ rowFill p w₀ at (n + 1)
-unfolding rowFill setBitIf
-rowFill-skip p w₀ w u at n e b s = rw (add-one, b, s, e)
 
 -- a turn whose body is one `put_if`
 pub rowFill-put : (p : ℕ → Bool) (w₀ w u : List ℕ) (at n k : ℕ) (b : Bool) → w ≡ rowFill p w₀ at n → b ≡ p n → k ≡ at + n → u ≡ setBitIf b w k

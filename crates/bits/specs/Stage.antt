@@ -1,6 +1,6 @@
 -- What stages say of a shared list of words: a region holds a relation; a stage makes a region hold one, or adds one to it, and
 -- changes nothing else. Regions are told apart by words. Assumes nothing.
-use mathlib.Core.Path.{_≡_, refl, sym, ap, _∙_}
+use mathlib.Core.Path.{_≡_, sym, ap, _∙_}
 use mathlib.Core.Bool.{Bool, false}
 use mathlib.Core.List.{List}
 use Prim.Native.Nat.{ℕ, _+_, _-_, _*_, _≤_, _<_}
@@ -38,10 +38,6 @@ pub holds-bit : {a stride n : ℕ} {r : ℕ → ℕ → Bool} {w : List ℕ} →
     → j < n → bit w k ≡ r i j
 unfolding rel
 holds-bit h k i j e p q = rw e (h .cell i j p q)
-
--- a region holds the relation that its bits are
-pub holds-self : {a stride n : ℕ} (w : List ℕ) → n ≤ 64 * stride → Holds a stride n (rel w a stride) w
-holds-self w fits = record { fits = fits; cell = λ i j p q. refl }
 
 -- relations that agree
 pub holds-cong : {a stride n : ℕ} {r s : ℕ → ℕ → Bool} {w : List ℕ} → ((i j : ℕ) → i < n → j < n → r i j ≡ s i j) → Holds a stride n r w
@@ -94,11 +90,6 @@ made-filled a b stride n r w v u fits inside room cleared filled =
         in
         rw (place a stride i j, filled)
         (gridFill-in r v (a * 64) (stride * 64) n n i j (omega arith) (omega (arith, e, len)) p q ∙ or-fresh _ _ z)
-
--- relations that agree
-pub made-cong : {c d a stride n : ℕ} {r s : ℕ → ℕ → Bool} {w u : List ℕ} → ((i j : ℕ) → i < n → j < n → r i j ≡ s i j)
-    → Made c d a stride n r w u → Made c d a stride n s w u
-made-cong e m = record { holds = holds-cong e (m .holds); frame = m .frame }
 
 -- ---- laws: closing
 

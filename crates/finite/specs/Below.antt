@@ -145,14 +145,6 @@ module _ (p : ℕ → Bool) where
       go (yes l) = not-both (least-is n .hit l) (f (least n p) l)
       go (no l) = omega (arith, least-is n .bound)
 
-  -- numbers that are passed over
-  pub least-pass : (j k : ℕ) → least j p ≡ j → ((m : ℕ) → j ≤ m → m < k → p m ≡ false) → least k p ≡ k
-  least-pass j k e f = least-off k (λ m h. go m h (decLt m j))
-    where
-      go : (m : ℕ) → m < k → Dec (m < j) → p m ≡ false
-      go m h (yes l) = least-is j .miss m (omega arith)
-      go m h (no l) = f m (omega arith) h
-
   -- a loop that found nothing so far
   pub least-none : least 0 p ≡ 0
   unfolding least
@@ -173,11 +165,6 @@ pub any-cong : (p q : ℕ → Bool) (n : ℕ) → ((k : ℕ) → k < n → p k �
 unfolding anyBelow
 any-cong p q zero h = refl
 any-cong p q (suc n) h = rw (any-cong p q n (λ k l. h k (omega arith)), h n (omega arith)) refl
-
-pub all-cong : (p q : ℕ → Bool) (n : ℕ) → ((k : ℕ) → k < n → p k ≡ q k) → allBelow n p ≡ allBelow n q
-unfolding allBelow
-all-cong p q zero h = refl
-all-cong p q (suc n) h = rw (all-cong p q n (λ k l. h k (omega arith)), h n (omega arith)) refl
 
 pub least-cong : (p q : ℕ → Bool) (n : ℕ) → ((k : ℕ) → k < n → p k ≡ q k) → least n p ≡ least n q
 unfolding least

@@ -5,7 +5,6 @@ use mathlib.Core.Bool.{Bool, true, false}
 use mathlib.Core.Logic.{⊎-elim}
 use Prim.Native.Nat.{ℕ, zero, suc, _+_, _*_, _≤_, _<_}
 use native.Mathlib.Nat.{not-suc-le-zero, suc-mul}
-use native.Mathlib.Numerals.{add-one}
 use native.Mathlib.Omega.{arith}
 use Rattle.finite.specs.Below.{below-cases}
 
@@ -49,15 +48,6 @@ one-off e = rw e refl
 -- ---- laws: numbers
 
 module _ (p : ℕ → Bool) where
-  -- a loop that counts
-  pub count-none : countBelow 0 p ≡ 0
-  unfolding countBelow
-  count-none = refl
-
-  pub count-more : (n : ℕ) → countBelow (n + 1) p ≡ countBelow n p + one (p n)
-  unfolding countBelow
-  count-more n = rw add-one refl
-
   pub count-bound : (n : ℕ) → countBelow n p ≤ n
   unfolding countBelow
   count-bound zero = omega arith
@@ -96,15 +86,6 @@ count-split a b c d (suc n) h =
 -- ---- laws: pairs
 
 module _ (p : ℕ → ℕ → Bool) where
-  -- a loop that sums
-  pub pairs-none : countPairs 0 p ≡ 0
-  unfolding countPairs
-  pairs-none = refl
-
-  pub pairs-more : (n : ℕ) → countPairs (n + 1) p ≡ countPairs n p + countBelow n (under p n)
-  unfolding countPairs
-  pairs-more n = rw add-one refl
-
   pub pairs-bound : (n m : ℕ) → n ≤ m → countPairs n p ≤ n * m
   unfolding countPairs
   pairs-bound zero m l = omega arith

@@ -1,7 +1,7 @@
 -- What a check answers, and what it leaves in the lent buffers.
 use mathlib.Core.Bool.{Bool, false, cond}
 use mathlib.Core.List.{List, _++_}
-use Prim.Native.Nat.{ℕ, _+_, _-_}
+use Prim.Native.Nat.{ℕ, _-_}
 use lib.ListN.{length, getD, drop, replicate}
 use lib.Dec.{ltb}
 use Rattle.finite.specs.Lists.{tabulate}

@@ -4,7 +4,7 @@ use mathlib.Core.Bool.{Bool, not, cond}
 use mathlib.Core.List.{List}
 use Prim.Native.Nat.{ℕ}
 use lib.Dec.{ltb, eqb}
-use Rattle.finite.specs.Logic.{_and_, _or_}
+use Rattle.finite.specs.Logic.{_and_}
 use Rattle.finite.specs.Below.{anyBelow, least}
 use Rattle.finite.specs.Walk.{cycleStart, cycle, along}
 use Rattle.model.specs.Limits.{LONGEST, INITIAL}
@@ -39,7 +39,7 @@ module _ (t : Table) (source : ℕ → ℕ) where
   edgeNumber x y = cond (beforeSome t x y) 1 (cond (follows t x y) 2 (cond (readsFrom x y) 3 (cond (fromReads x y) 4 0)))
 
   unfoldable pub edge : ℕ → ℕ → Bool
-  edge x y = beforeSome t x y or follows t x y or readsFrom x y or fromReads x y
+  edge x y = not (eqb (edgeNumber x y) 0)
 
   -- ---- axiom A
 

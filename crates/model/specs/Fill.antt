@@ -1,8 +1,9 @@
 -- What a fill answers, and what it leaves in the lent buffers. The source of each blank is decided by a test of its own; the
--- filled table is then tested as a check would test it.
+-- filled table is then tested as a check would test it. What a fill promises is `filled-said` and `none-said` of promises/specs/Main: this page is
+-- the test that decides it.
 use mathlib.Core.Bool.{Bool, true, false, not, cond}
 use mathlib.Core.List.{List, _++_}
-use Prim.Native.Nat.{ℕ, _+_}
+use Prim.Native.Nat.{ℕ}
 use lib.ListN.{length, drop}
 use lib.Dec.{eqb}
 use Rattle.finite.specs.Logic.{_and_, _or_}
@@ -18,15 +19,16 @@ use Rattle.model.specs.Scope.{follows}
 use Rattle.model.specs.Location.{before}
 use Rattle.model.specs.Race.{nth}
 use Rattle.model.specs.Edge.{beforeSome, consistent}
-use Rattle.model.specs.Refusal.{buffersFit, admission, whenAdmitted, writerFits, sourceBroken}
+use Rattle.model.specs.Refusal.{buffersFit, admission, whenAdmitted}
+use Rattle.model.specs.TableFault.{writerFits, sourceBroken}
 use Rattle.model.specs.Check.{raceOr, wiped}
 
 -- ---- the source of a blank
 
 module _ (t : Table) where
   -- s is not ordered before y at y's k-th byte
-  unfoldable pub unorderedAt : ℕ → ℕ → ℕ → Bool
-  unorderedAt y s k = touches (t .row y) (nth t y k) and not (before t s y (nth t y k))
+  unfoldable pub notBeforeAt : ℕ → ℕ → ℕ → Bool
+  notBeforeAt y s k = touches (t .row y) (nth t y k) and not (before t s y (nth t y k))
 
   -- some writer is ordered before y
   unfoldable pub writtenBy : ℕ → ℕ → Bool
@@ -45,7 +47,7 @@ module _ (t : Table) where
 
   -- y may have read s: s covers y, comes before y at each byte, and nothing comes between
   unfoldable pub candidate : ℕ → ℕ → Bool
-  candidate y s = writerFits t y s and not (anyBelow LONGEST (unorderedAt y s)) and not (anyBelow (t .rows) (between y s))
+  candidate y s = writerFits t y s and not (anyBelow LONGEST (notBeforeAt y s)) and not (anyBelow (t .rows) (between y s))
 
   -- the source that the blank y must have: the initial value where no writer comes before it; the number of rows where it can have none
   unfoldable pub choice : ℕ → ℕ

@@ -71,8 +71,9 @@ step t s m n = anyBelow CASES (nthCase t s m n)
 unfoldable pub interThread : Table → ℕ → ℕ → ℕ → Bool
 interThread t s m n = through (step t s) (3 * t .rows) m n
 
--- some row holds all of s, or s is the first class set. Another class set has no direct case but the fourth, which the first one
--- has too, so the closure need not be asked of it (law `happens-is`)
+-- ---- the class sets that are asked: a shortcut, so that the prover can compute runs. M7 is the same without it (law `happens-is`)
+
+-- some row holds all of s, or s is the first class set. Another class set has no direct case but the fourth, which the first one has too
 unfoldable pub holdsAll : Table → ℕ → ℕ → Bool
 holdsAll t s i = holds (t .row i .classes) s
 
@@ -83,6 +84,8 @@ live t s = eqb s 1 or anyBelow (t .rows) (holdsAll t s)
 unfoldable pub interThreadBy : Table → ℕ → ℕ → ℕ → Bool
 interThreadBy t m n k = live t (suc k) and interThread t (suc k) m n
 
--- M7: happens-before: program order, or inter-thread order for some class set. It isn't closed again
+-- ---- M7
+
+-- happens-before: program order, or inter-thread order for some class set. It isn't closed again
 unfoldable pub happens : Table → ℕ → ℕ → Bool
 happens t m n = programOrder t m n or anyBelow CLASS-SETS (interThreadBy t m n)

@@ -22,9 +22,9 @@ CYCLE-EDGES = 128
 abbrev pub SOURCES : ℕ
 SOURCES = 128
 
--- steps of a derivation, at most: one fewer than there are moments; numbers of the chain buffer
-abbrev pub CHAIN : ℕ
-CHAIN = 383
+-- steps of a derivation, at most: one fewer than there are moments; numbers of the buffer that they are written to
+abbrev pub STEPS : ℕ
+STEPS = 383
 
 -- what a step adds to the moment that it reaches, for each number of its case
 abbrev pub CASE : ℕ
@@ -55,7 +55,7 @@ COUNTS = 65536
 abbrev pub RUN : ℕ
 RUN = 32768
 
--- the initial value, and a blank (a term of our own: a source that a fill is to find)
+-- the initial value, and a blank (a term of the rules, not of 003: a source that a fill is to find)
 abbrev pub INITIAL : ℕ
 INITIAL = 65535
 

@@ -1,4 +1,4 @@
--- M1: the moments of a row (a term of our own) and program order.
+-- M1: the moments of a row (a term of the rules, not of 003) and program order.
 -- Moment 3 × row + 0, 1 or 2 is the one before, at or after the row.
 use mathlib.Core.Bool.{Bool, not, cond}
 use Prim.Native.Nat.{ℕ, _+_, _*_, _/_, _%_}
@@ -46,8 +46,8 @@ unfoldable pub momentIn : ℕ → Row → ℕ → Bool
 momentIn n r m = ltb (rowIn m) n and momentOf r (part m)
 
 -- M1: program order of the moments m of r and k of q: of one agent, by row and then moment
-unfoldable pub orderedRows : ℕ → ℕ → ℕ → Row → Row → Bool
-orderedRows n m k r q = ltb m k and eqb (r .agent) (q .agent) and momentIn n r m and momentIn n q k
+unfoldable pub programOrdered : ℕ → ℕ → ℕ → Row → Row → Bool
+programOrdered n m k r q = ltb m k and eqb (r .agent) (q .agent) and momentIn n r m and momentIn n q k
 
 -- the classes of an availability or visibility moment
 unfoldable pub classesOf : Row → ℕ
@@ -70,4 +70,4 @@ sameAgent t x y = eqb (t .row x .agent) (t .row y .agent)
 
 -- M1: program order
 unfoldable pub programOrder : Table → ℕ → ℕ → Bool
-programOrder t m k = orderedRows (t .rows) m k (t .row (rowIn m)) (t .row (rowIn k))
+programOrder t m k = programOrdered (t .rows) m k (t .row (rowIn m)) (t .row (rowIn k))

@@ -6,7 +6,7 @@ use mathlib.Core.List.{List, _++_}
 use Prim.Native.Nat.{ℕ, suc, _+_, _-_, _*_, _/_, _%_}
 use lib.ListN.{length, getD, drop}
 use lib.Dec.{ltb, leb, eqb}
-use Rattle.finite.specs.Logic.{_and_, _or_}
+use Rattle.finite.specs.Logic.{_and_}
 use Rattle.finite.specs.Below.{anyBelow, least}
 use Rattle.finite.specs.Walk.{walk, trail, along}
 use Rattle.model.specs.declared.Reason.{Reason}
@@ -15,7 +15,7 @@ use Rattle.model.specs.declared.AcceptAnswer.{AcceptAnswer}
 use Rattle.model.specs.declared.AcceptAnswer.the-variants as accept
 use Rattle.model.specs.declared.DeriveAnswer.{DeriveAnswer}
 use Rattle.model.specs.declared.DeriveAnswer.the-variants as derived
-use Rattle.model.specs.Limits.{CHAIN, CASE, CLASS-SETS}
+use Rattle.model.specs.Limits.{STEPS, CASE, CLASS-SETS}
 use Rattle.model.specs.Table.{Table, tableOf}
 use Rattle.model.specs.Moment.{moment, programOrder}
 use Rattle.model.specs.Happens.{ROW-CASES, direct, nthCase, step}
@@ -52,7 +52,7 @@ module _ (t : Table) where
   -- a chain of steps that hold for one class set leads from moment m to moment k
   unfoldable pub chainHolds : ℕ → ℕ → ℕ → List ℕ → Bool
   chainHolds s m k steps =
-      ltb 0 s and leb s CLASS-SETS and ltb 0 (length steps) and leb (length steps) CHAIN and eqb (stands m steps (length steps)) k
+      ltb 0 s and leb s CLASS-SETS and ltb 0 (length steps) and leb (length steps) STEPS and eqb (stands m steps (length steps)) k
       and not (anyBelow (length steps) (broken s m steps))
 
   -- the reader accepts the derivation that moment m happens before moment k
@@ -135,7 +135,7 @@ derivedOf t m k = cond (twoMoments t m k) (ours t m k) (refused 12 0)
 -- of any bytes and numbers, with a work area and a chain buffer of such lengths
 unfoldable pub derive : List ℕ → ℕ → ℕ → ℕ → ℕ → Derived
 derive s m k work buffer =
-    cond (buffersFit CHAIN work buffer) (whenAdmitted Derived.refused (admission true s) (derivedOf (tableOf s) m k)) (refused 11 0)
+    cond (buffersFit STEPS work buffer) (whenAdmitted Derived.refused (admission true s) (derivedOf (tableOf s) m k)) (refused 11 0)
 
 -- ---- what comes back
 

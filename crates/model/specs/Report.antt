@@ -73,16 +73,16 @@ withShare share.NoPairs t = told.NoPairs
 withShare (share.Of f) t = told.Report (reportOf t f)
 
 -- of a table that is consistent
-unfoldable pub counted : Table → ReportAnswer
-counted t = withShare (shareOf (racing t) (conflicting t)) t
+unfoldable pub reportOn : Table → ReportAnswer
+reportOn t = withShare (shareOf (racing t) (conflicting t)) t
 
 -- check's answer to a table that is refused or inconsistent; else the report
 unfoldable pub reportAnswer : CheckAnswer → Table → ReportAnswer
 reportAnswer (said.Refused n i) t = told.Refused n i
 reportAnswer (said.Cycle rows) t = told.Cycle rows
 reportAnswer (said.Overwritten y z b) t = told.Overwritten y z b
-reportAnswer (said.Race x y b) t = counted t
-reportAnswer said.RaceFree t = counted t
+reportAnswer (said.Race x y b) t = reportOn t
+reportAnswer said.RaceFree t = reportOn t
 
 -- of any bytes, on a device with or without chains, with a work area and a cycle buffer of such lengths; both are left as a check
 -- leaves them

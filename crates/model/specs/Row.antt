@@ -84,7 +84,7 @@ reads r = eqb (r .kind) PLAIN-READ or eqb (r .kind) ATOMIC-READ or eqb (r .kind)
 unfoldable pub writes : Row → Bool
 writes r = eqb (r .kind) PLAIN-WRITE or eqb (r .kind) ATOMIC-WRITE or eqb (r .kind) RMW
 
--- the writers that have a rank (a term of our own: a writer's place in its modification order)
+-- the writers that have a rank (a term of the rules, not of 003: a writer's place in its modification order)
 unfoldable pub ranked : Row → Bool
 ranked r = eqb (r .kind) ATOMIC-WRITE or eqb (r .kind) RMW
 

@@ -1,24 +1,25 @@
--- The table: its bytes, and the rows, places and sources that stand in them: where each byte stands. A filling (Words) has the place of a source
--- too; two pieces and the writer have the layout again, for bytes that they make.
+-- The table: the rows, sources and dependencies that stand in its bytes, and what the rules of order read. A filling (Words) has the place of a
+-- source too; two pieces and the writer have the layout again, for bytes that they make.
 use mathlib.Core.Bool.{Bool, false, cond}
-use mathlib.Core.List.{List, [], _∷_}
+use mathlib.Core.List.{List, []}
 use Prim.Native.Nat.{ℕ, _+_, _*_}
-use lib.ListN.{getD, take, drop}
-use lib.Dec.{ltb, leb, eqb}
+use lib.ListN.{getD}
+use lib.Dec.{leb, eqb}
 use Rattle.finite.specs.Logic.{_and_}
 use Rattle.finite.specs.Below.{anyBelow}
 use Rattle.finite.specs.Lists.{tabulate}
 use Rattle.model.specs.declared.Row.{Row}
 use Rattle.model.specs.declared.Mode.{Mode}
-use Rattle.model.specs.Limits.{AGENTS, DEPENDENCIES, INITIAL}
+use Rattle.model.specs.Limits.{DEPENDENCIES, INITIAL}
 use Rattle.model.specs.Row.{atomic}
+use Rattle.model.specs.Header.{pairAt, VERSION-COUNTED, DEPENDENCY-BYTES, ROW-BYTES, versionAt, rowsAt, placesOf, rowBytes, dependencyBytes}
 
 -- What the rules of order read. A plain read's source is not here, so that no order or race can depend on one: `source` is
 -- an atomic row's, and the initial value for every other row.
 pub record Table : Type 0 where
   -- how many rows there are
   pub rows : ℕ
-  -- each agent's family, workgroup and subgroup numbers (an agent's place: a term of our own), and what it is: see Scope.antt
+  -- each agent's family, workgroup and subgroup numbers (an agent's place: a term of the rules, not of 003), and what it is: see Scope.antt
   pub places : List (List ℕ)
   -- ranks are counted: see `later` in Scope.antt
   pub counted : Bool
@@ -28,100 +29,6 @@ pub record Table : Type 0 where
   pub source : ℕ → ℕ
   -- a dependency: the first row system-synchronizes-with the second
   pub depends : ℕ → ℕ → Bool
-
--- ---- numbers in the bytes, big-endian
-
-unfoldable pub pairAt : List ℕ → ℕ → ℕ
-pairAt s k = getD s k 0 * 256 + getD s (k + 1) 0
-
-unfoldable pub quadAt : List ℕ → ℕ → ℕ
-quadAt s k = pairAt s k * 65536 + pairAt s (k + 2)
-
--- ---- the header, over all bytes of a table
-
-abbrev pub HEADER : ℕ
-HEADER = 8
-
--- the first version, and the first with counted ranks
-abbrev pub FIRST : ℕ
-FIRST = 1
-
-abbrev pub COUNTED : ℕ
-COUNTED = 2
-
--- the version that has host agents, and with them the bytes of a place
-abbrev pub HOSTS : ℕ
-HOSTS = 3
-
-abbrev pub PLACE-BYTES : ℕ
-PLACE-BYTES = 6
-
-abbrev pub HOSTS-PLACE-BYTES : ℕ
-HOSTS-PLACE-BYTES = 8
-
-abbrev pub DEPENDENCY-BYTES : ℕ
-DEPENDENCY-BYTES = 4
-
-abbrev pub ROW-BYTES : ℕ
-ROW-BYTES = 16
-
-unfoldable pub countAt : List ℕ → ℕ
-countAt s = quadAt s 0
-
-unfoldable pub versionAt : List ℕ → ℕ
-versionAt s = getD s 4 0
-
-unfoldable pub agentsAt : List ℕ → ℕ
-agentsAt s = getD s 5 0
-
-unfoldable pub rowsAt : List ℕ → ℕ
-rowsAt s = getD s 6 0
-
-unfoldable pub zeroAt : List ℕ → ℕ
-zeroAt s = getD s 7 0
-
--- the table has host agents
-unfoldable pub hasHosts : List ℕ → Bool
-hasHosts s = eqb (versionAt s) HOSTS
-
--- the four numbers of agent a; without host agents the fourth is 0, a shader agent's
-unfoldable pub threeAt : List ℕ → ℕ → List ℕ
-threeAt s a =
-    pairAt s (HEADER + a * PLACE-BYTES + 0) ∷ pairAt s (HEADER + a * PLACE-BYTES + 2) ∷ pairAt s (HEADER + a * PLACE-BYTES + 4) ∷ 0 ∷ []
-
-unfoldable pub fourAt : List ℕ → ℕ → List ℕ
-fourAt s a =
-    pairAt s (HEADER + a * HOSTS-PLACE-BYTES + 0) ∷ pairAt s (HEADER + a * HOSTS-PLACE-BYTES + 2)
-    ∷ pairAt s (HEADER + a * HOSTS-PLACE-BYTES + 4) ∷ pairAt s (HEADER + a * HOSTS-PLACE-BYTES + 6) ∷ []
-
-unfoldable pub placeAt : List ℕ → ℕ → List ℕ
-placeAt s a = cond (hasHosts s) (fourAt s a) (threeAt s a)
-
--- a slot for each agent there may be, zeros past the table's agents
-unfoldable pub slotAt : List ℕ → ℕ → List ℕ
-slotAt s a = cond (ltb a (agentsAt s)) (placeAt s a) (0 ∷ 0 ∷ 0 ∷ 0 ∷ [])
-
-unfoldable pub placesOf : List ℕ → List (List ℕ)
-placesOf s = tabulate (slotAt s) AGENTS
-
--- where the rows begin, and end
-unfoldable pub rowsBegin : List ℕ → ℕ
-rowsBegin s = cond (hasHosts s) (HEADER + HOSTS-PLACE-BYTES * agentsAt s) (HEADER + PLACE-BYTES * agentsAt s)
-
-unfoldable pub rowsEnd : List ℕ → ℕ
-rowsEnd s = rowsBegin s + ROW-BYTES * rowsAt s
-
--- how long the table is: with host agents, a count of dependencies and these come after the rows
-unfoldable pub sizeOf : List ℕ → ℕ
-sizeOf s = cond (hasHosts s) (rowsEnd s + 2 + DEPENDENCY-BYTES * pairAt s (rowsEnd s)) (rowsEnd s)
-
--- the bytes of the rows
-unfoldable pub rowBytes : List ℕ → List ℕ
-rowBytes s = take (ROW-BYTES * rowsAt s) (drop (rowsBegin s) s)
-
--- the bytes after them: the dependencies'. Without host agents there are none, and a count there reads as 0
-unfoldable pub dependencyBytes : List ℕ → List ℕ
-dependencyBytes s = drop (rowsEnd s) s
 
 -- ---- the rows, over their bytes alone: byte k of row i is at 16 × i + k
 
@@ -175,7 +82,7 @@ dependencyTo d k = dependencyEnd d 4 k
 unfoldable pub modeOf : Bool → List ℕ → Mode
 modeOf chains s =
     record {
-      counted = leb COUNTED (versionAt s);
+      counted = leb VERSION-COUNTED (versionAt s);
       chains = chains;
       dependencies = dependencyCount (dependencyBytes s);
       first = tabulate (dependencyFrom (dependencyBytes s)) DEPENDENCIES;

@@ -9,7 +9,8 @@ use lib.ListN.{length, getD}
 use Rattle.finite.specs.Closure.{Reach}
 use Rattle.model.specs.declared.Admission.the-variants.{Admitted}
 use Rattle.model.specs.Limits.{INITIAL, CLASS-SETS}
-use Rattle.model.specs.Table.{Table, ROW-BYTES, agentsAt, rowsAt, rowsBegin, tableUnder, tableOf, sourcesOf}
+use Rattle.model.specs.Table.{Table, tableUnder, tableOf, sourcesOf}
+use Rattle.model.specs.Header.{ROW-BYTES, agentsAt, rowsAt, rowsBegin}
 use Rattle.model.specs.Scope.{mutually}
 use Rattle.model.specs.Moment.{programOrder}
 use Rattle.model.specs.Happens.{step}
@@ -80,7 +81,7 @@ blankAt s i = blank (tableOf s) (sourcesOf s) i
 unfoldable pub sourceBegin : List ℕ → ℕ → ℕ
 sourceBegin s i = rowsBegin s + (i * ROW-BYTES + 12)
 
--- f is a filling of s (a term of our own): 65535 or the number of a row in the place of each blank, and nothing else changed
+-- f is a filling of s (a term of the rules, not of 003): 65535 or the number of a row in the place of each blank, and nothing else changed
 pub record Filling (s f : List ℕ) : Type 0 where
   pub size : length f ≡ length s
   pub bytes : (k : ℕ) → getD f k 0 < 256

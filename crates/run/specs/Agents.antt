@@ -4,8 +4,8 @@ use mathlib.Core.List.{List, [], _∷_}
 use Prim.Native.Nat.{ℕ, _≤_, _<_}
 use Rattle.finite.specs.Lists.{length-tabulate, getD-tabulate}
 use Rattle.model.specs.Limits.{AGENTS}
-use Rattle.model.specs.Table.{slotAt, placesOf}
-use Rattle.rows.specs.Places.{IsPlace, place-none}
+use Rattle.model.specs.Header.{slotAt, placesOf}
+use Rattle.door_rows.specs.Places.{IsPlace, place-none}
 use Rattle.run.specs.Layout.{placesIn}
 
 pub place-at : (t : List ℕ) (a : ℕ) (x : List ℕ) → a < AGENTS → x ≡ slotAt t a → IsPlace (placesIn t) a x

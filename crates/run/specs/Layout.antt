@@ -8,7 +8,8 @@ use lib.Dec.{eqb}
 use Rattle.finite.specs.Lists.{tabulate}
 use Rattle.model.specs.declared.Mode.{Mode}
 use Rattle.model.specs.Limits.{DEPENDENCIES}
-use Rattle.model.specs.Table.{Table, placesOf, dependencyFrom, dependencyTo, dependencyCount, decode}
+use Rattle.model.specs.Table.{Table, dependencyFrom, dependencyTo, dependencyCount, decode}
+use Rattle.model.specs.Header.{placesOf}
 
 -- the bytes of a run
 abbrev pub SIZE : ℕ

@@ -3,14 +3,14 @@ ghost use mathlib.Core.Path.{_≡_};
 ghost use lib.ListN.{drop};
 ghost use Rattle.model.specs.Table.{rowOf, atomicSource};
 ghost use Rattle.model.specs.Scope.{shares, together};
-ghost use Rattle.rows.specs.Places.{IsPlace};
+ghost use Rattle.door_rows.specs.Places.{IsPlace};
 ghost use Rattle.run.specs.Layout.{placesIn, modeIn, rowsIn};
+use door_rows::bytes;
+use door_rows::scopes;
 use model::Mode;
 use model::Places;
 use model::Row;
 use model::Source;
-use rows::bytes;
-use rows::scopes;
 
 pub const SIZE: usize = 2570;
 

@@ -36,6 +36,6 @@ fn print_answer(a: CheckAnswer, cycle: &[u16]) {
 pub fn answer(table: &[u8]) {
     let mut work = [DIRT; 8192];
     let mut cycle = [65535u16; 256];
-    let a = verdict::check::check(table, false, &mut work, &mut cycle);
+    let a = ask_check::check::check(table, false, &mut work, &mut cycle);
     print_answer(a, &cycle);
 }

@@ -28,6 +28,6 @@ fn rows_of(table: &[u8]) -> u8 {
 pub fn answer(table: &[u8]) {
     let mut work = [crate::checks::DIRT; 8192];
     let mut sources = [0u16; 128];
-    let a = filling::fill(table, false, &mut work, &mut sources);
+    let a = ask_fill::fill(table, false, &mut work, &mut sources);
     print_answer(a, rows_of(table), &sources);
 }

@@ -1,9 +1,8 @@
 -- Bytes of a row as bits of a number, from its start. Assumes nothing.
 use mathlib.Core.Path.{_≡_}
-use mathlib.Core.Bool.{Bool, true, false, not, cond}
+use mathlib.Core.Bool.{Bool}
 use mathlib.Core.List.{List}
-use Prim.Native.Nat.{ℕ, _+_, _*_, _≤_, _<_}
-use Prim.Native.Nat.{_-_}
+use Prim.Native.Nat.{ℕ, _+_, _*_, _≤_, _<_, _-_}
 use lib.Dec.{leb}
 use Rattle.finite.specs.Logic.{_and_, _or_}
 use Rattle.model.specs.Limits.{LONGEST}
@@ -12,7 +11,7 @@ use Rattle.model.specs.Race.{nth}
 use Rattle.model.specs.Table.{Table}
 use Rattle.bits.specs.Bit.{bit, bitOf}
 use Rattle.bits.specs.Within.{Within}
-use Rattle.area.specs.Regions.{LOCATION, LOCATION-END, PAIRS, PAIR}
+use Rattle.work_area.specs.Regions.{LOCATION, LOCATION-END, PAIRS, PAIR}
 
 -- ---- definitions
 

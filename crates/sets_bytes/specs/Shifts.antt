@@ -1,5 +1,5 @@
 -- Bits of numbers that are moved, cut and put together, on plain numbers. Assumes nothing.
-use mathlib.Core.Path.{_≡_, refl, sym, ap, ap₂, _∙_}
+use mathlib.Core.Path.{_≡_, refl, sym, ap, _∙_}
 use mathlib.Core.Bool.{Bool, true, false}
 use mathlib.Core.List.{List}
 use Prim.Native.Nat.{ℕ, _+_, _-_, _*_, _/_, _%_, _^_, _≤_, _<_, max, min}
@@ -14,9 +14,9 @@ use lib.Dec.{leb, ltb}
 use borrow.Author.Tests.{le-leb, lt-leb, le-ltb, lt-ltb, leb-true, ltb-true}
 use Rattle.finite.specs.Logic.{_and_, _or_, and-on, and-false-left, and-false-right, bool-ext, split, and-true}
 use Rattle.model.specs.Row.{inside}
-use Rattle.bits.specs.Bit.{bit, bitOf, bitOf-or, bitOf-zero}
+use Rattle.bits.specs.Bit.{bit, bitOf, bitOf-or}
 use Rattle.bits.specs.Within.{Within}
-use Rattle.row_sets.specs.Word.{bitOf-cut, bitOf-shl-low, bitOf-shl-high, bitOf-ones, bitOf-small}
+use Rattle.sets_of_rows.specs.Word.{bitOf-cut, bitOf-shl-low, bitOf-shl-high, bitOf-ones, bitOf-small}
 
 -- ---- from bit l up to bit h
 

@@ -1,6 +1,5 @@
 -- What the functions on bytes come to, from the numbers that they read. Assumes nothing.
-use mathlib.Core.Path.{_≡_, refl, sym, ap, ap₂, subst₂, _∙_}
-use mathlib.Core.Bool.{Bool, true, false}
+use mathlib.Core.Path.{_≡_, sym, ap, ap₂, subst₂, _∙_}
 use mathlib.Core.List.{List}
 use Prim.Native.Nat.{ℕ, _+_, _-_, _*_, _/_, _%_, _^_, _≤_, _<_, max, min}
 use native.Mathlib.Omega.{arith}
@@ -13,7 +12,7 @@ use Rattle.model.specs.Limits.{ROWS, WORK, LONGEST}
 use Rattle.model.specs.Row.{inside, touches}
 use Rattle.model.specs.Table.{Table}
 use Rattle.bits.specs.Bit.{bitOf, bitOf-zero, one-shl}
-use Rattle.area.specs.Regions.{LOCATION, LOCATION-END, PAIRS, PAIR}
+use Rattle.work_area.specs.Regions.{LOCATION, LOCATION-END, PAIRS, PAIR}
 use Rattle.sets_bytes.specs.Masks.{Mask, sharedBit, movedBit, Adds}
 use Rattle.sets_bytes.specs.Shifts.{between, between-small, shared-none, shared-some, moved-past, moved-before, moved-down, moved-up}
 use Rattle.sets_bytes.specs.Shifts.{quarter-fits, power-fits, put-is, put-other, put-within}

@@ -4,10 +4,10 @@ ghost use Prim.Native.Nat.{_^_, _≤_, _<_, max, min};
 ghost use lib.ListN.{length};
 ghost use Rattle.model.specs.Limits.{ROWS, WORK, LONGEST};
 ghost use Rattle.run.specs.Layout.{tableIn};
-ghost use Rattle.known.specs.Fit.{Fit};
+ghost use Rattle.sets_of_table.specs.Fit.{Fit};
 ghost use Rattle.sets_bytes.specs.Masks.{Mask, sharedBit, movedBit, Adds};
-use known::fields;
 use run::Run;
+use sets_of_table::fields;
 
 const MASKS: u64 = 65536;
 
@@ -64,6 +64,6 @@ pub fn add(w: &mut [u64], x: usize, y: usize, m: u64)
     requires { ⌜ (x < ROWS) × (y < ROWS) × (m < 2 ^ LONGEST) × (WORK ≤ length (now w)) ⌝ }
     ensures { λ _. ⌜ Adds x y m (now (w .entry)) (now (w .exit)) ⌝ }
 {
-    let at = area::LOCATION + x * 32 + y / 4;
+    let at = work_area::LOCATION + x * 32 + y / 4;
     w[at] |= m * (1u64 << (16 * (y % 4)));
 }

@@ -13,26 +13,26 @@ use Rattle.finite.specs.Below.{any-out}
 use Rattle.model.specs.Limits.{ROWS, CLASS-SETS}
 use Rattle.model.specs.Moment.{moment}
 use Rattle.model.specs.Happens.{interThreadBy, happens}
-use Rattle.model.specs.Location.{availableAt, visibleAt}
+use Rattle.model.specs.Availability.{availabilityMoment, visibilityMoment}
 use Rattle.model.specs.Table.{Table}
 use Rattle.bits.specs.Within.{Within, within-trans, within-widen}
-use Rattle.closing.specs.Order.{order-parts, available-row, visible-row, available-moment, visible-moment}
-use Rattle.closing.specs.Page.{inter-moments}
-use Rattle.placing.specs.Shares.{share, hears}
-use Rattle.placing.specs.Leads.{meets, shows, available-scope}
-use Rattle.placing.specs.Elements.{avails, shews, available-is, visible-is}
-use Rattle.placing.specs.Chains.{meetsAlone, showsAlone, meets-alone, shows-alone}
-use Rattle.row_sets.specs.declared.Set.{Set}
-use Rattle.row_sets.specs.Member.{inSet}
-use Rattle.row_sets.specs.Kept.{setAt, set-kept, Stored}
-use Rattle.row_sets.specs.Family.{nth}
-use Rattle.row_sets.specs.Rows.{Rows, rows-at, rows-cong, rows-none, rows-and, rows-or}
-use Rattle.known.specs.Says.{says-scope}
-use Rattle.known.specs.Known.{Opened, says-rows}
-use Rattle.grids.specs.Regions.{AVAILABLE-AT, AVAILABLE-VISIBLE, AVAILABLE-TO, VISIBLE-BY, VISIBLE-BY-END}
-use Rattle.grids.specs.Grid.{Grid, grid-kept}
-use Rattle.grids.specs.Happens.{availableRows, availableVisibles}
-use Rattle.grids.specs.Available.{makes, shownTo}
+use Rattle.model_closing.specs.Order.{order-parts, available-row, visible-row, available-moment, visible-moment}
+use Rattle.model_closing.specs.Page.{inter-moments}
+use Rattle.model_placing.specs.Shares.{share, hears}
+use Rattle.model_placing.specs.Leads.{meets, shows, available-scope}
+use Rattle.model_placing.specs.Elements.{avails, shews, available-is, visible-is}
+use Rattle.model_placing.specs.Chains.{meetsAlone, showsAlone, meets-alone, shows-alone}
+use Rattle.sets_of_rows.specs.declared.Set.{Set}
+use Rattle.sets_of_rows.specs.Member.{inSet}
+use Rattle.sets_of_rows.specs.Kept.{setAt, set-kept, Stored}
+use Rattle.sets_of_rows.specs.Family.{nth}
+use Rattle.sets_of_rows.specs.Rows.{Rows, rows-at, rows-cong, rows-none, rows-and, rows-or}
+use Rattle.sets_of_table.specs.Says.{says-scope}
+use Rattle.sets_of_table.specs.Known.{Opened, says-rows}
+use Rattle.sets_grids.specs.Regions.{AVAILABLE-AT, AVAILABLE-VISIBLE, AVAILABLE-TO, VISIBLE-BY, VISIBLE-BY-END}
+use Rattle.sets_grids.specs.Grid.{Grid, grid-kept}
+use Rattle.sets_grids.specs.Happens.{availableRows, availableVisibles}
+use Rattle.sets_grids.specs.Available.{makes, shownTo}
 
 -- ---- definitions
 
@@ -68,21 +68,15 @@ module _ (t : Table) where
       ⊎-elim (λ a. let b = order-parts t m k a in (b .2, b .3))
       (λ a. let r = any-out (interThreadBy t m k) CLASS-SETS a in inter-moments t (suc (r .0)) m k l o (split (r .2) .1)) (or-cases _ _ e)
 
-  pub available-to-shown : (a v : ℕ) → a < t .rows → v < t .rows → happens t (availableAt t a) (visibleAt t v) ≡ true → shews (t .row v) ≡ true
+  pub available-to-shown : (a v : ℕ) → a < t .rows → v < t .rows → happens t (availabilityMoment t a) (visibilityMoment t v) ≡ true → shews (t .row v) ≡ true
   available-to-shown a v l o e =
       sym (visible-is t v) ∙ sym (visible-moment t v o)
-      ∙ happens-moments (availableAt t a) (visibleAt t v) (inside _ a (t .rows) (available-row t a) l) (inside _ v (t .rows) (visible-row t v) o) e .1
+      ∙ happens-moments (availabilityMoment t a) (visibilityMoment t v) (inside _ a (t .rows) (available-row t a) l) (inside _ v (t .rows) (visible-row t v) o) e .1
 
-  pub available-to-available : (a c : ℕ) → a < t .rows → c < t .rows → happens t (availableAt t a) (availableAt t c) ≡ true → avails (t .row c) ≡ true
+  pub available-to-available : (a c : ℕ) → a < t .rows → c < t .rows → happens t (availabilityMoment t a) (availabilityMoment t c) ≡ true → avails (t .row c) ≡ true
   available-to-available a c l o e =
       sym (available-is t c) ∙ sym (available-moment t c o)
-      ∙ happens-moments (availableAt t a) (availableAt t c) (inside _ a (t .rows) (available-row t a) l) (inside _ c (t .rows) (available-row t c) o) e .1
-
-  pub shown-to-shown : (w v : ℕ) → w < t .rows → v < t .rows → happens t (visibleAt t w) (visibleAt t v) ≡ true
-      → (shews (t .row w) ≡ true) × (shews (t .row v) ≡ true)
-  shown-to-shown w v l o e =
-      let b = happens-moments (visibleAt t w) (visibleAt t v) (inside _ w (t .rows) (visible-row t w) l) (inside _ v (t .rows) (visible-row t v) o) e in
-      (sym (visible-is t w) ∙ sym (visible-moment t w l) ∙ b .0, sym (visible-is t v) ∙ sym (visible-moment t v o) ∙ b .1)
+      ∙ happens-moments (availabilityMoment t a) (availabilityMoment t c) (inside _ a (t .rows) (available-row t a) l) (inside _ c (t .rows) (available-row t c) o) e .1
 
 -- ---- laws: rows by scope
 
@@ -156,7 +150,7 @@ module _ (t : Table) {n : ℕ} {s : List ℕ} (a : ℕ) (o : Opened t n s) (l : 
         last j k = let r = o .rows in omega arith
 
         forth : (j : ℕ) → j < n
-            → (happens t (availableAt t a) (visibleAt t j) and (share t (t .row a .agent) (t .row a .scope) j and hears t (t .row a .agent) j)) ≡ true
+            → (happens t (availabilityMoment t a) (visibilityMoment t j) and (share t (t .row a .agent) (t .row a .scope) j and hears t (t .row a .agent) j)) ≡ true
             → (shews (t .row j) and shows t a j) ≡ true
         forth j k e =
             let q = split e in
@@ -164,7 +158,7 @@ module _ (t : Table) {n : ℕ} {s : List ℕ} (a : ℕ) (o : Opened t n s) (l : 
             and-true v (shows-alone t (o .fit .scoped) off a j there (last j k) made-scope (visible-is t j ∙ v) ∙ and-true (q .1) (q .0))
 
         back : (j : ℕ) → j < n → (shews (t .row j) and shows t a j) ≡ true
-            → (happens t (availableAt t a) (visibleAt t j) and (share t (t .row a .agent) (t .row a .scope) j and hears t (t .row a .agent) j)) ≡ true
+            → (happens t (availabilityMoment t a) (visibilityMoment t j) and (share t (t .row a .agent) (t .row a .scope) j and hears t (t .row a .agent) j)) ≡ true
         back j k e =
             let v = split e in
             let q = split (sym (shows-alone t (o .fit .scoped) off a j there (last j k) made-scope (visible-is t j ∙ v .0)) ∙ v .1) in

@@ -2,25 +2,25 @@
 use mathlib.Core.Path.{_≡_, refl, _∙_}
 use mathlib.Core.Bool.{Bool, true, false}
 use mathlib.Core.List.{List}
-use Prim.Native.Nat.{ℕ, _+_, _*_, _≤_, _<_}
+use Prim.Native.Nat.{ℕ}
 use native.Mathlib.Omega.{arith}
 use Rattle.finite.specs.Logic.{not-both}
 use Rattle.finite.specs.Below.{anyBelow}
 use Rattle.model.specs.Limits.{ROWS}
 use Rattle.model.specs.Table.{Table}
 use Rattle.bits.specs.Within.{Within, within-refl, within-trans, within-widen}
-use Rattle.placing.specs.Leads.{meets}
-use Rattle.row_sets.specs.declared.Set.{Set}
-use Rattle.row_sets.specs.Member.{inSet}
-use Rattle.row_sets.specs.First.{First, Rest, next}
-use Rattle.row_sets.specs.Family.{nth}
-use Rattle.row_sets.specs.Rows.{Rows, rows-at, rows-in}
-use Rattle.row_sets.specs.Walk.{Walk}
-use Rattle.grids.specs.Regions.{AVAILABLE-AVAILABLE, HAPPENS-END, AVAILABLE-TO, VISIBLE-BY, VISIBLE-BY-END}
-use Rattle.grids.specs.Grid.{grid-on-kept}
-use Rattle.grids.specs.Happens.{Happening}
-use Rattle.grids.specs.Given.{Given, given-kept, given-few}
-use Rattle.grids.specs.Available.{makes, shownTo, MadeAvailable}
+use Rattle.model_placing.specs.Leads.{meets}
+use Rattle.sets_of_rows.specs.declared.Set.{Set}
+use Rattle.sets_of_rows.specs.Member.{inSet}
+use Rattle.sets_of_rows.specs.First.{First, Rest, next}
+use Rattle.sets_of_rows.specs.Family.{nth}
+use Rattle.sets_of_rows.specs.Rows.{Rows, rows-at, rows-in}
+use Rattle.sets_of_rows.specs.Walk.{Walk}
+use Rattle.sets_grids.specs.Regions.{AVAILABLE-AVAILABLE, HAPPENS-END, AVAILABLE-TO, VISIBLE-BY, VISIBLE-BY-END}
+use Rattle.sets_grids.specs.Grid.{grid-on-kept}
+use Rattle.sets_grids.specs.Happens.{Happening}
+use Rattle.sets_grids.specs.Given.{Given, given-kept, given-few}
+use Rattle.sets_grids.specs.Available.{makes, shownTo, MadeAvailable}
 use Rattle.sets_chains.specs.Alone.{After, MadeOne, after-kept}
 use Rattle.sets_chains.specs.Chained.{TurnedTo, turned-begin, turned-turn, turned-end}
 use Rattle.sets_chains.specs.Filled.{MadeChains}

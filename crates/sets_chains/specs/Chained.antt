@@ -2,41 +2,37 @@
 use mathlib.Core.Path.{_≡_, refl, sym, ap, subst, _∙_}
 use mathlib.Core.Bool.{Bool, true, false, not}
 use mathlib.Core.List.{List}
-use mathlib.Core.Logic.{⊎-elim}
 use Prim.Native.Nat.{ℕ, _+_, _*_, _≤_, _<_}
 use native.Mathlib.Omega.{arith}
-use native.Mathlib.Decide.{ℕ-discrete, decLt}
+use native.Mathlib.Decide.{ℕ-discrete}
 use lib.Dec.{eqb, ltb}
 use borrow.Author.Tests.{eqb-true, eqb-false, eq-eqb, ne-eqb, ltb-true, lt-ltb, le-ltb, ltb-false}
 use Rattle.finite.specs.Logic.{_and_, _or_, bool-ext, split, and-true, or-none, or-false, not-both, not-in, not-out, not-so}
-use Rattle.finite.specs.Below.{anyBelow, any-cong}
+use Rattle.finite.specs.Below.{anyBelow}
 use Rattle.finite.specs.Closure.{through}
 use Rattle.model.specs.Limits.{ROWS}
-use Rattle.model.specs.Moment.{availability, visibility}
 use Rattle.model.specs.Happens.{happens}
-use Rattle.model.specs.Location.{availableAt, visibleAt, broadens, narrows}
+use Rattle.model.specs.Availability.{availabilityMoment, visibilityMoment, broadens}
 use Rattle.model.specs.Table.{Table}
 use Rattle.bits.specs.Within.{Within, within-refl, within-trans, within-widen}
-use Rattle.placing.specs.Shares.{share, hears}
-use Rattle.placing.specs.Elements.{avails, shews, available-is, visible-is}
-use Rattle.placing.specs.Chains.{narrowsIn, broadens-is, narrows-is, available-turn, visible-turn}
-use Rattle.row_sets.specs.declared.Set.{Set}
-use Rattle.row_sets.specs.Member.{inSet}
-use Rattle.row_sets.specs.First.{First, first-next, Rest, next}
-use Rattle.row_sets.specs.Kept.{setAt, set-kept, Stored}
-use Rattle.row_sets.specs.Family.{nth}
-use Rattle.row_sets.specs.Rows.{Rows, rows-at, rows-in, rows-cong, rows-and, rows-or, rows-less}
-use Rattle.row_sets.specs.Walk.{Walk, walk-begin, walk-turn, walk-end, walk-in}
-use Rattle.row_sets.specs.Tasks
-use Rattle.known.specs.Known.{Opened, says-rows}
-use Rattle.known.specs.Ask.{few}
-use Rattle.grids.specs.Regions.{AVAILABLE-AVAILABLE, VISIBLE-VISIBLE, HAPPENS-END}
-use Rattle.grids.specs.Grid.{GridOn}
-use Rattle.grids.specs.Filling.{member-in}
-use Rattle.grids.specs.Union.{ledBy, union-rows}
-use Rattle.grids.specs.Happens.{availables, visibles}
-use Rattle.grids.specs.Available.{makes}
-use Rattle.sets_chains.specs.Alone.{wider, available-to-available, shown-to-shown, scope-rows}
+use Rattle.model_placing.specs.Shares.{share, hears}
+use Rattle.model_placing.specs.Elements.{avails, shews, available-is, visible-is}
+use Rattle.model_placing.specs.Chains.{narrowsIn, broadens-is, narrows-is, available-turn, visible-turn}
+use Rattle.sets_of_rows.specs.declared.Set.{Set}
+use Rattle.sets_of_rows.specs.Member.{inSet}
+use Rattle.sets_of_rows.specs.First.{First, first-next, Rest, next}
+use Rattle.sets_of_rows.specs.Kept.{setAt, set-kept, Stored}
+use Rattle.sets_of_rows.specs.Family.{nth}
+use Rattle.sets_of_rows.specs.Rows.{Rows, rows-at, rows-in, rows-cong, rows-and, rows-or, rows-less}
+use Rattle.sets_of_rows.specs.Walk.{Walk, walk-begin, walk-turn, walk-end, walk-in}
+use Rattle.sets_of_rows.specs.Tasks
+use Rattle.sets_of_table.specs.Known.{Opened, says-rows}
+use Rattle.sets_of_table.specs.Ask.{few}
+use Rattle.sets_grids.specs.Regions.{AVAILABLE-AVAILABLE, VISIBLE-VISIBLE, HAPPENS-END}
+use Rattle.sets_grids.specs.Union.{ledBy, union-rows}
+use Rattle.sets_grids.specs.Happens.{availables, visibles}
+use Rattle.sets_grids.specs.Available.{makes}
+use Rattle.sets_chains.specs.Alone.{wider, available-to-available, scope-rows}
 
 -- ---- definitions
 
@@ -162,7 +158,7 @@ module _ {t : Table} {n : ℕ} {s : List ℕ} (o : Opened t n s) (q : ℕ) where
       (λ i v w. and-true (made i v w) (broad i w)) ec) ed)
     where
       same : (j : ℕ) → j < n
-          → ((happens t (availableAt t a) (availableAt t j) and ltb q (t .row j .scope)) and share t (t .row a .agent) (t .row a .scope) j) ≡ broadens t a j
+          → ((happens t (availabilityMoment t a) (availabilityMoment t j) and ltb q (t .row j .scope)) and share t (t .row a .agent) (t .row a .scope) j) ≡ broadens t a j
       same j k = bool-ext _ _
           (λ h. let p = split h in let i = split (p .0) in
           broadens-is t a j ∙ and-true (and-true (available-is t j ∙ available-to-available t a j (there a l) (there j k) (i .0))
@@ -253,7 +249,7 @@ module _ {t : Table} {n : ℕ} {s : List ℕ} (o : Opened t n s) (q : ℕ) where
       (λ i v w. and-true (made i w) (narrow i w)) ec) ed)
     where
       same : (j : ℕ) → j < n
-          → ((happens t (visibleAt t a) (visibleAt t j) and (shews (t .row j) and not (ltb q (t .row j .scope) or eqb (t .row j .scope) q))) and hears t (t .row a .agent) j)
+          → ((happens t (visibilityMoment t a) (visibilityMoment t j) and (shews (t .row j) and not (ltb q (t .row j .scope) or eqb (t .row j .scope) q))) and hears t (t .row a .agent) j)
           ≡ narrowsIn t a j
       same j k = bool-ext _ _
           (λ h. let p = split h in let i = split (p .0) in let v = split (i .1) in let f = or-false _ _ (not-out _ (v .1)) in

@@ -1,36 +1,36 @@
 -- All chains; what an operation's chains make available. Assumes nothing.
-use mathlib.Core.Path.{_≡_, refl, sym, ap, subst, _∙_}
+use mathlib.Core.Path.{_≡_, sym, ap, subst, _∙_}
 use mathlib.Core.Bool.{Bool, true, false}
 use mathlib.Core.List.{List}
 use Prim.Native.Nat.{ℕ, _+_, _-_, _*_, _≤_, _<_}
 use native.Mathlib.Omega.{arith}
 use lib.Dec.{ltb}
-use borrow.Author.Tests.{ltb-true, lt-ltb}
+use borrow.Author.Tests.{lt-ltb}
 use Rattle.finite.specs.Logic.{_and_, _or_, bool-ext, split, and-true, and-on, and-false-left}
 use Rattle.finite.specs.Below.{anyBelow, any-in, any-out}
 use Rattle.model.specs.Limits.{ROWS}
 use Rattle.model.specs.Moment.{itself}
 use Rattle.model.specs.Happens.{happens}
-use Rattle.model.specs.Location.{availableAt, availabilityChain}
+use Rattle.model.specs.Availability.{availabilityMoment, availabilityChain}
 use Rattle.model.specs.Table.{Table}
 use Rattle.bits.specs.Within.{Within, within-refl, within-trans, within-widen}
-use Rattle.placing.specs.Shares.{share}
-use Rattle.placing.specs.Leads.{meets, available-scope, visible-scope}
-use Rattle.placing.specs.Elements.{available-is, visible-is}
-use Rattle.placing.specs.Union.{unionBy, union}
-use Rattle.placing.specs.Several.{metIn, meets-union}
-use Rattle.row_sets.specs.declared.Set.{Set}
-use Rattle.row_sets.specs.Member.{inSet}
-use Rattle.row_sets.specs.Kept.{set-kept}
-use Rattle.row_sets.specs.Family.{nth}
-use Rattle.row_sets.specs.Rows.{Rows, rows-at, rows-in, rows-and, rows-if}
-use Rattle.known.specs.Known.{Opened}
-use Rattle.known.specs.Ask.{few}
-use Rattle.grids.specs.Regions.{AVAILABLE-AVAILABLE, VISIBLE-VISIBLE, HAPPENS-END}
-use Rattle.grids.specs.Grid.{GridOn}
-use Rattle.grids.specs.Filling.{member-in}
-use Rattle.grids.specs.Happens.{Happening, availableRows}
-use Rattle.grids.specs.Available.{makes}
+use Rattle.model_placing.specs.Shares.{share}
+use Rattle.model_placing.specs.Leads.{meets, available-scope, visible-scope}
+use Rattle.model_placing.specs.Elements.{available-is, visible-is}
+use Rattle.model_placing.specs.Union.{unionBy, union}
+use Rattle.model_placing.specs.Several.{metIn, meets-union}
+use Rattle.sets_of_rows.specs.declared.Set.{Set}
+use Rattle.sets_of_rows.specs.Member.{inSet}
+use Rattle.sets_of_rows.specs.Kept.{set-kept}
+use Rattle.sets_of_rows.specs.Family.{nth}
+use Rattle.sets_of_rows.specs.Rows.{Rows, rows-at, rows-in, rows-and, rows-if}
+use Rattle.sets_of_table.specs.Known.{Opened}
+use Rattle.sets_of_table.specs.Ask.{few}
+use Rattle.sets_grids.specs.Regions.{AVAILABLE-AVAILABLE, VISIBLE-VISIBLE, HAPPENS-END}
+use Rattle.sets_grids.specs.Grid.{GridOn}
+use Rattle.sets_grids.specs.Filling.{member-in}
+use Rattle.sets_grids.specs.Happens.{Happening, availableRows}
+use Rattle.sets_grids.specs.Available.{makes}
 use Rattle.sets_chains.specs.Chained.{sees, outs, ins, Outs, Ins, MadeOuts, MadeIns}
 
 -- ---- definitions
@@ -120,7 +120,7 @@ unfolding metTo metIn availableRows
 met-on t n a c x r d g y z v b l hd hg ey eb ez ev i j =
     ev j ∙ ap (λ (q : Bool). inSet r j or q)
     (rows-if b (rows-and hg hd ey) ez .is j
-    ∙ ap (λ (q : Bool). ltb j n and (q and (happens t (availableAt t c) (itself j) and share t (t .row a .agent) (t .row c .scope) j))) (eb ∙ rows-in hd c l)
+    ∙ ap (λ (q : Bool). ltb j n and (q and (happens t (availabilityMoment t c) (itself j) and share t (t .row a .agent) (t .row c .scope) j))) (eb ∙ rows-in hd c l)
     ∙ sym (and-on (inSet x c) _ i))
 
 pub met-rows : {t : Table} {n : ℕ} {s : List ℕ} → Opened t n s → (a : ℕ) (x z : Set) → Rows n (availabilityChain t a) x

@@ -1,25 +1,25 @@
 -- An operation's two sets with chains. Assumes nothing.
 use mathlib.Core.Path.{_≡_, refl, sym, ap, subst, _∙_}
-use mathlib.Core.Bool.{Bool, true, false}
+use mathlib.Core.Bool.{true, false}
 use mathlib.Core.List.{List}
 use mathlib.Core.Logic.{⊎-elim}
-use Prim.Native.Nat.{ℕ, _+_, _*_, _≤_, _<_}
+use Prim.Native.Nat.{ℕ, _+_, _≤_, _<_}
 use native.Mathlib.Omega.{arith}
 use native.Mathlib.Decide.{ℕ-discrete}
 use lib.Dec.{eqb, ltb}
 use borrow.Author.Tests.{eqb-true, eq-eqb, ltb-true, lt-ltb}
 use Rattle.finite.specs.Logic.{_and_, _or_, bool-ext, split, and-true, or-cases, or-left, or-right, not-both}
 use Rattle.finite.specs.Below.{anyBelow, any-in, any-out}
-use Rattle.model.specs.Location.{availabilityChain}
+use Rattle.model.specs.Availability.{availabilityChain}
 use Rattle.model.specs.Table.{Table}
-use Rattle.placing.specs.Chains.{available-on}
-use Rattle.row_sets.specs.declared.Set.{Set}
-use Rattle.row_sets.specs.Member.{inSet}
-use Rattle.row_sets.specs.Rows.{Rows, rows-cong, rows-none, rows-or}
-use Rattle.known.specs.Known.{Opened}
-use Rattle.grids.specs.Regions.{AVAILABLE-AVAILABLE, VISIBLE-VISIBLE}
-use Rattle.grids.specs.Grid.{GridOn}
-use Rattle.grids.specs.Available.{makes, shownTo}
+use Rattle.model_placing.specs.Chains.{available-on}
+use Rattle.sets_of_rows.specs.declared.Set.{Set}
+use Rattle.sets_of_rows.specs.Member.{inSet}
+use Rattle.sets_of_rows.specs.Rows.{Rows, rows-cong, rows-none, rows-or}
+use Rattle.sets_of_table.specs.Known.{Opened}
+use Rattle.sets_grids.specs.Regions.{AVAILABLE-AVAILABLE, VISIBLE-VISIBLE}
+use Rattle.sets_grids.specs.Grid.{GridOn}
+use Rattle.sets_grids.specs.Available.{makes, shownTo}
 use Rattle.sets_chains.specs.Chained.{sees, outs, ins}
 use Rattle.sets_chains.specs.Wide.{wideShown, wideFrom, wide-shows}
 

@@ -1,6 +1,6 @@
 -- What visibility operations show of what an operation's chains make available, domain by domain. Assumes nothing.
-use mathlib.Core.Path.{_≡_, refl, sym, ap, subst, _∙_}
-use mathlib.Core.Bool.{Bool, true, false}
+use mathlib.Core.Path.{_≡_, refl, sym, subst, _∙_}
+use mathlib.Core.Bool.{Bool, true}
 use mathlib.Core.List.{List}
 use mathlib.Core.Logic.{inl, ⊎-elim}
 use Prim.Native.Nat.{ℕ, _+_, _*_, _≤_, _<_}
@@ -10,30 +10,28 @@ use lib.Dec.{eqb, ltb}
 use borrow.Author.Tests.{eqb-true, eq-eqb, ltb-true, lt-ltb}
 use Rattle.finite.specs.Logic.{_and_, _or_, bool-ext, split, and-true, or-cases, or-left, or-right}
 use Rattle.finite.specs.Below.{anyBelow, any-in, any-out}
-use Rattle.finite.specs.Closure.{Reach, one, more, through, through-reach}
+use Rattle.finite.specs.Closure.{Reach, one, more, through-reach}
 use Rattle.model.specs.Limits.{ROWS}
-use Rattle.model.specs.Scope.{DEVICE}
 use Rattle.model.specs.Moment.{visibility}
-use Rattle.model.specs.Happens.{happens}
-use Rattle.model.specs.Location.{availableAt, visibleAt, availabilityChain, visibilityChain}
+use Rattle.model.specs.Availability.{visibilityMoment, availabilityChain, visibilityChain}
 use Rattle.model.specs.Table.{Table}
-use Rattle.laws.specs.ChainLaws.{shares-wider, visibility-chain-is}
-use Rattle.placing.specs.Shares.{share}
-use Rattle.placing.specs.Leads.{shows, Shown, shows-out, shown-widest}
-use Rattle.placing.specs.Elements.{shews, visible-is}
-use Rattle.placing.specs.Chains.{narrowsIn, visible-on}
-use Rattle.row_sets.specs.declared.Set.{Set}
-use Rattle.row_sets.specs.Member.{inSet}
-use Rattle.row_sets.specs.Kept.{setAt}
-use Rattle.row_sets.specs.Rows.{Rows, rows-and, rows-or}
-use Rattle.row_sets.specs.Tasks
-use Rattle.known.specs.Known.{Opened}
-use Rattle.known.specs.Ask.{few}
-use Rattle.grids.specs.Regions.{AVAILABLE-VISIBLE, VISIBLE-VISIBLE}
-use Rattle.grids.specs.Grid.{GridOn, grid-on}
-use Rattle.grids.specs.Union.{ledBy, union-rows}
-use Rattle.grids.specs.Happens.{availableVisibles}
-use Rattle.grids.specs.Available.{shownTo}
+use Rattle.model_laws.specs.ChainLaws.{shares-wider, visibility-chain-is}
+use Rattle.model_placing.specs.Shares.{share}
+use Rattle.model_placing.specs.Leads.{shows, Shown, shows-out, shown-widest}
+use Rattle.model_placing.specs.Elements.{shews, visible-is}
+use Rattle.model_placing.specs.Chains.{narrowsIn, visible-on}
+use Rattle.sets_of_rows.specs.declared.Set.{Set}
+use Rattle.sets_of_rows.specs.Member.{inSet}
+use Rattle.sets_of_rows.specs.Kept.{setAt}
+use Rattle.sets_of_rows.specs.Rows.{Rows, rows-and, rows-or}
+use Rattle.sets_of_rows.specs.Tasks
+use Rattle.sets_of_table.specs.Known.{Opened}
+use Rattle.sets_of_table.specs.Ask.{few}
+use Rattle.sets_grids.specs.Regions.{AVAILABLE-VISIBLE, VISIBLE-VISIBLE}
+use Rattle.sets_grids.specs.Grid.{GridOn, grid-on}
+use Rattle.sets_grids.specs.Union.{ledBy, union-rows}
+use Rattle.sets_grids.specs.Happens.{availableVisibles}
+use Rattle.sets_grids.specs.Available.{shownTo}
 use Rattle.sets_chains.specs.Alone.{wider, After, available-to-shown, scope-rows}
 use Rattle.sets_chains.specs.Chained.{sees, ins}
 
@@ -99,7 +97,7 @@ domain-in t a q i l e = go (ℕ-discrete (t .row i .scope) q)
     go (yes z) = and-true (or-left _ (eq-eqb _ _ z)) e
     go (no z) = and-true (or-right _ (lt-ltb q (t .row i .scope) (omega arith))) e
 
-last-sees : (t : Table) {w v : ℕ} → Reach (narrowsIn t) (t .rows) w v → visibility t (visibleAt t v) ≡ true
+last-sees : (t : Table) {w v : ℕ} → Reach (narrowsIn t) (t .rows) w v → visibility t (visibilityMoment t v) ≡ true
 unfolding narrowsIn
 last-sees t (one e) = split e .1
 last-sees t (more e h q) = last-sees t q

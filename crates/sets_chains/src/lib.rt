@@ -5,26 +5,26 @@ ghost use mathlib.Core.Bool.{true, false};
 ghost use Prim.Native.Nat.{ℕ, _+_, _≤_, _<_};
 ghost use lib.ListN.{length};
 ghost use Rattle.model.specs.Table.{Table};
-ghost use Rattle.model.specs.Location.{availabilityChain};
-ghost use Rattle.placing.specs.Leads.{meets};
+ghost use Rattle.model.specs.Availability.{availabilityChain};
+ghost use Rattle.model_placing.specs.Leads.{meets};
 ghost use Rattle.run.specs.Layout.{tableIn};
-ghost use Rattle.row_sets.specs.Rows.{Rows};
-ghost use Rattle.known.specs.Known.{Opened, WORDS};
-ghost use Rattle.grids.specs.Happens.{Happening};
-ghost use Rattle.grids.specs.Regions.{VISIBLE-VISIBLE};
-ghost use Rattle.grids.specs.Grid.{GridOn};
-ghost use Rattle.grids.specs.Given.{Given};
-ghost use Rattle.grids.specs.Available.{makes, MadeAvailable};
+ghost use Rattle.sets_of_rows.specs.Rows.{Rows};
+ghost use Rattle.sets_of_table.specs.Known.{Opened, WORDS};
+ghost use Rattle.sets_grids.specs.Happens.{Happening};
+ghost use Rattle.sets_grids.specs.Regions.{VISIBLE-VISIBLE};
+ghost use Rattle.sets_grids.specs.Grid.{GridOn};
+ghost use Rattle.sets_grids.specs.Given.{Given};
+ghost use Rattle.sets_grids.specs.Available.{makes, MadeAvailable};
 ghost use Rattle.sets_chains.specs.Alone.{wider, After, MadeOne};
 ghost use Rattle.sets_chains.specs.Chained.{sees, ins, Outs, Ins, MadeOuts, MadeIns};
 ghost use Rattle.sets_chains.specs.Filled.{MadeChains};
 ghost use Rattle.sets_chains.specs.Wide.{wideShown};
 ghost use Rattle.sets_chains.specs.Made.{Chained};
 ghost use Rattle.sets_chains.specs.Availability.{Ready, MadeReady};
-use known::fields;
-use row_sets::Set;
-use row_sets::kept;
 use run::Run;
+use sets_of_rows::Set;
+use sets_of_rows::kept;
+use sets_of_table::fields;
 
 const BROADEST: usize = 4;
 
@@ -35,12 +35,12 @@ fn make_available(t: &Run, n: usize, s: &[u64], a: usize, w: &mut [u64])
     requires { ⌜ (a < n) × (makes (tableIn (now t) n) a ≡ true) × (tableIn (now t) n .chains ≡ false) × Given (tableIn (now t) n) n (now s) (now w) × After (tableIn (now t) n) n (now w) ⌝ }
     ensures { λ _. ⌜ MadeOne (tableIn (now (t .entry)) n) n a (now (w .entry)) (now (w .exit)) ⌝ }
 {
-    let reach = known::ask::reach(t, n, s, a);
-    let both = row_sets::and(reach, known::ask::hears(t, n, s, a));
-    let at = row_sets::and(kept::get(w, grids::AVAILABLE_AT, a), reach);
-    let visible = row_sets::and(kept::get(w, grids::AVAILABLE_VISIBLE, a), both);
-    kept::put(w, grids::AVAILABLE_TO, a, at);
-    kept::put(w, grids::VISIBLE_BY, a, visible);
+    let reach = sets_of_table::ask::reach(t, n, s, a);
+    let both = sets_of_rows::and(reach, sets_of_table::ask::hears(t, n, s, a));
+    let at = sets_of_rows::and(kept::get(w, sets_grids::AVAILABLE_AT, a), reach);
+    let visible = sets_of_rows::and(kept::get(w, sets_grids::AVAILABLE_VISIBLE, a), both);
+    kept::put(w, sets_grids::AVAILABLE_TO, a, at);
+    kept::put(w, sets_grids::VISIBLE_BY, a, visible);
 }
 
 // ---- chains
@@ -50,9 +50,9 @@ fn broader(s: &[u64], q: usize) -> Set
     requires { ⌜ (q ≤ 4) × (WORDS ≤ length (now s)) ⌝ }
     ensures { λ x. ⌜ ((t : Table) (n : ℕ) → Opened t n (now (s .entry)) → Rows n (wider t q) x) ⌝ }
 {
-    let mut a = row_sets::none();
+    let mut a = sets_of_rows::none();
     for k in q + 1..BROADEST + 1 {
-        a = row_sets::or(a, kept::get(s, known::BY_SCOPE, k));
+        a = sets_of_rows::or(a, kept::get(s, sets_of_table::BY_SCOPE, k));
     }
     a
 }
@@ -64,20 +64,20 @@ fn chain_out(t: &Run, n: usize, s: &[u64], q: usize, w: &mut [u64])
     ensures { λ _. ⌜ MadeOuts (tableIn (now (t .entry)) n) n q (now (w .entry)) (now (w .exit)) ⌝ }
 {
     let broad = broader(s, q);
-    let own = kept::get(s, known::BY_SCOPE, q);
-    let mut left = row_sets::and(known::rows(s, known::AVAILABLE), own);
-    while row_sets::some(left) {
-        let a = row_sets::first(left);
-        left = row_sets::but_first(left);
-        let next = row_sets::and(
-            row_sets::and(kept::get(w, grids::AVAILABLE_AVAILABLE, a), broad),
-            known::ask::reach(t, n, s, a),
+    let own = kept::get(s, sets_of_table::BY_SCOPE, q);
+    let mut left = sets_of_rows::and(sets_of_table::rows(s, sets_of_table::AVAILABLE), own);
+    while sets_of_rows::some(left) {
+        let a = sets_of_rows::first(left);
+        left = sets_of_rows::but_first(left);
+        let next = sets_of_rows::and(
+            sets_of_rows::and(kept::get(w, sets_grids::AVAILABLE_AVAILABLE, a), broad),
+            sets_of_table::ask::reach(t, n, s, a),
         );
-        let all = row_sets::or(
+        let all = sets_of_rows::or(
             next,
-            row_sets::walk::union(w, grids::AVAILABLE_AVAILABLE, next),
+            sets_of_rows::walk::union(w, sets_grids::AVAILABLE_AVAILABLE, next),
         );
-        kept::put(w, grids::AVAILABLE_AVAILABLE, a, all);
+        kept::put(w, sets_grids::AVAILABLE_AVAILABLE, a, all);
     }
 }
 
@@ -87,19 +87,22 @@ fn chain_in(t: &Run, n: usize, s: &[u64], q: usize, w: &mut [u64])
     requires { ⌜ (q ≤ 4) × Given (tableIn (now t) n) n (now s) (now w) × Ins (tableIn (now t) n) n q (now w) ⌝ }
     ensures { λ _. ⌜ MadeIns (tableIn (now (t .entry)) n) n (q + 1) (now (w .entry)) (now (w .exit)) ⌝ }
 {
-    let own = kept::get(s, known::BY_SCOPE, q);
-    let visible = known::rows(s, known::VISIBLE);
-    let narrow = row_sets::less(visible, row_sets::or(broader(s, q), own));
-    let mut left = row_sets::and(visible, own);
-    while row_sets::some(left) {
-        let v = row_sets::first(left);
-        left = row_sets::but_first(left);
-        let next = row_sets::and(
-            row_sets::and(kept::get(w, grids::VISIBLE_VISIBLE, v), narrow),
-            known::ask::hears(t, n, s, v),
+    let own = kept::get(s, sets_of_table::BY_SCOPE, q);
+    let visible = sets_of_table::rows(s, sets_of_table::VISIBLE);
+    let narrow = sets_of_rows::less(visible, sets_of_rows::or(broader(s, q), own));
+    let mut left = sets_of_rows::and(visible, own);
+    while sets_of_rows::some(left) {
+        let v = sets_of_rows::first(left);
+        left = sets_of_rows::but_first(left);
+        let next = sets_of_rows::and(
+            sets_of_rows::and(kept::get(w, sets_grids::VISIBLE_VISIBLE, v), narrow),
+            sets_of_table::ask::hears(t, n, s, v),
         );
-        let all = row_sets::or(next, row_sets::walk::union(w, grids::VISIBLE_VISIBLE, next));
-        kept::put(w, grids::VISIBLE_VISIBLE, v, all);
+        let all = sets_of_rows::or(
+            next,
+            sets_of_rows::walk::union(w, sets_grids::VISIBLE_VISIBLE, next),
+        );
+        kept::put(w, sets_grids::VISIBLE_VISIBLE, v, all);
     }
 }
 
@@ -109,13 +112,13 @@ fn available_to(t: &Run, n: usize, s: &[u64], a: usize, chain: Set, w: &[u64]) -
     ensures { λ x. ⌜ Rows n (meets (tableIn (now (t .entry)) n) a) x ⌝ }
 {
     let mut left = chain;
-    let mut at = row_sets::none();
-    while row_sets::some(left) {
-        let c = row_sets::first(left);
-        left = row_sets::but_first(left);
-        let domain = known::ask::sharing(t, n, s, a, fields::scope(t, c));
-        let to = row_sets::and(kept::get(w, grids::AVAILABLE_AT, c), domain);
-        at = row_sets::or(at, row_sets::only_if(row_sets::has(domain, c), to));
+    let mut at = sets_of_rows::none();
+    while sets_of_rows::some(left) {
+        let c = sets_of_rows::first(left);
+        left = sets_of_rows::but_first(left);
+        let domain = sets_of_table::ask::sharing(t, n, s, a, fields::scope(t, c));
+        let to = sets_of_rows::and(kept::get(w, sets_grids::AVAILABLE_AT, c), domain);
+        at = sets_of_rows::or(at, sets_of_rows::only_if(sets_of_rows::has(domain, c), to));
     }
     at
 }
@@ -126,13 +129,17 @@ fn visible_by(t: &Run, n: usize, s: &[u64], a: usize, chain: Set, q: usize, w: &
     requires { ⌜ (a < n) × (q ≤ 4) × Given (tableIn (now t) n) n (now s) (now w) × After (tableIn (now t) n) n (now w) × GridOn (sees (tableIn (now t) n)) VISIBLE-VISIBLE n (ins (tableIn (now t) n)) (now w) × Rows n (availabilityChain (tableIn (now t) n) a) chain ⌝ }
     ensures { λ x. ⌜ Rows n (wideShown (tableIn (now (t .entry)) n) n a q) x ⌝ }
 {
-    let domain = known::ask::sharing(t, n, s, a, q);
-    let wide = row_sets::or(kept::get(s, known::BY_SCOPE, q), broader(s, q));
-    let inside = row_sets::and(wide, domain);
-    let made = row_sets::walk::union(w, grids::AVAILABLE_VISIBLE, row_sets::and(chain, inside));
-    let met = row_sets::and(made, inside);
-    let ends = row_sets::walk::union(w, grids::VISIBLE_VISIBLE, met);
-    row_sets::and(row_sets::or(met, ends), domain)
+    let domain = sets_of_table::ask::sharing(t, n, s, a, q);
+    let wide = sets_of_rows::or(kept::get(s, sets_of_table::BY_SCOPE, q), broader(s, q));
+    let inside = sets_of_rows::and(wide, domain);
+    let made = sets_of_rows::walk::union(
+        w,
+        sets_grids::AVAILABLE_VISIBLE,
+        sets_of_rows::and(chain, inside),
+    );
+    let met = sets_of_rows::and(made, inside);
+    let ends = sets_of_rows::walk::union(w, sets_grids::VISIBLE_VISIBLE, met);
+    sets_of_rows::and(sets_of_rows::or(met, ends), domain)
 }
 
 // What a makes available as the first of a chain, itself alone or more.
@@ -140,17 +147,17 @@ fn make_available_by_chains(t: &Run, n: usize, s: &[u64], a: usize, w: &mut [u64
     requires { ⌜ (a < n) × (makes (tableIn (now t) n) a ≡ true) × (tableIn (now t) n .chains ≡ true) × Given (tableIn (now t) n) n (now s) (now w) × After (tableIn (now t) n) n (now w) × Chained (tableIn (now t) n) n (now w) ⌝ }
     ensures { λ _. ⌜ MadeOne (tableIn (now (t .entry)) n) n a (now (w .entry)) (now (w .exit)) ⌝ }
 {
-    let chain = row_sets::or(
-        kept::get(w, grids::AVAILABLE_AVAILABLE, a),
-        row_sets::bit(a),
+    let chain = sets_of_rows::or(
+        kept::get(w, sets_grids::AVAILABLE_AVAILABLE, a),
+        sets_of_rows::bit(a),
     );
     let at = available_to(t, n, s, a, chain, w);
-    let mut visible = row_sets::none();
+    let mut visible = sets_of_rows::none();
     for q in 1..BROADEST + 1 {
-        visible = row_sets::or(visible, visible_by(t, n, s, a, chain, q, w));
+        visible = sets_of_rows::or(visible, visible_by(t, n, s, a, chain, q, w));
     }
-    kept::put(w, grids::AVAILABLE_TO, a, at);
-    kept::put(w, grids::VISIBLE_BY, a, visible);
+    kept::put(w, sets_grids::AVAILABLE_TO, a, at);
+    kept::put(w, sets_grids::VISIBLE_BY, a, visible);
 }
 
 // ---- all of it
@@ -195,10 +202,10 @@ pub fn fill_availability(t: &Run, n: usize, s: &[u64], w: &mut [u64])
 {
     let chains = run::chains(t);
     prepare(t, n, s, chains, w);
-    let mut left = known::rows(s, known::AVAILABLE);
-    while row_sets::some(left) {
-        let a = row_sets::first(left);
-        left = row_sets::but_first(left);
+    let mut left = sets_of_table::rows(s, sets_of_table::AVAILABLE);
+    while sets_of_rows::some(left) {
+        let a = sets_of_rows::first(left);
+        left = sets_of_rows::but_first(left);
         make(t, n, s, a, chains, w);
     }
 }

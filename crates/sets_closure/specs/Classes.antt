@@ -14,24 +14,24 @@ use Rattle.finite.specs.Below.{anyBelow, any-none, any-in, any-out, allBelow, a
 use Rattle.model.specs.declared.Row.{Row}
 use Rattle.model.specs.Row
 use Rattle.model.specs.Row.{plain, access, releases, acquires, holds, meets, single, classIn}
-use Rattle.model.specs.Moment.{availability, visibility, classesOf}
+use Rattle.model.specs.Moment.{classesOf}
 use Rattle.model.specs.Happens.{holdsAll}
 use Rattle.model.specs.Table.{Table}
-use Rattle.closing.specs.Nodes.{holder, releaser, acquirer, node}
-use Rattle.closing.specs.Direct.{takesPart, availableFor, visibleFor, classes-plain, classes-wide, holder-is}
-use Rattle.placing.specs.Elements.{available-is, visible-is}
-use Rattle.row_sets.specs.declared.Set.{Set}
-use Rattle.row_sets.specs.Member.{inSet}
-use Rattle.row_sets.specs.Kept.{setAt}
-use Rattle.row_sets.specs.Family.{nth}
-use Rattle.row_sets.specs.Rows.{Rows, rows-at, rows-cong, rows-and, rows-or, rows-none}
-use Rattle.known.specs.Filed.{CLASSES}
-use Rattle.known.specs.Says.{says-classes}
-use Rattle.known.specs.Tested.{RELEASES, ACQUIRES, AVAILABLE, VISIBLE}
-use Rattle.known.specs.Sorted.{PLAIN, HOLDING, holdsClass}
-use Rattle.known.specs.Known.{Opened, classedIn, says-rows}
-use Rattle.known.specs.Ask.{there}
-use Rattle.grids.specs.Concerns.{NONE, Told, Concerns}
+use Rattle.model_closing.specs.Nodes.{holder, releaser, acquirer, node}
+use Rattle.model_closing.specs.Direct.{takesPart, availableFor, visibleFor, classes-plain, classes-wide, holder-is}
+use Rattle.model_placing.specs.Elements.{available-is, visible-is}
+use Rattle.sets_of_rows.specs.declared.Set.{Set}
+use Rattle.sets_of_rows.specs.Member.{inSet}
+use Rattle.sets_of_rows.specs.Kept.{setAt}
+use Rattle.sets_of_rows.specs.Family.{nth}
+use Rattle.sets_of_rows.specs.Rows.{Rows, rows-at, rows-cong, rows-and, rows-or, rows-none}
+use Rattle.sets_of_table.specs.Filed.{CLASSES}
+use Rattle.sets_of_table.specs.Says.{says-classes}
+use Rattle.sets_of_table.specs.Tested.{RELEASES, ACQUIRES, AVAILABLE, VISIBLE}
+use Rattle.sets_of_table.specs.Sorted.{PLAIN, HOLDING, holdsClass}
+use Rattle.sets_of_table.specs.Known.{Opened, classedIn, says-rows}
+use Rattle.sets_of_table.specs.Ask.{there}
+use Rattle.sets_grids.specs.Concerns.{NONE, Told, Concerns}
 
 -- ---- definitions
 

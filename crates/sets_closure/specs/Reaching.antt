@@ -16,32 +16,32 @@ use Rattle.model.specs.Row.{plain, releases}
 use Rattle.model.specs.Moment.{itself}
 use Rattle.model.specs.Synchronizes.{synchronizes}
 use Rattle.model.specs.Happens.{step, interThread}
-use Rattle.model.specs.Location.{availableAt, visibleAt}
+use Rattle.model.specs.Availability.{availabilityMoment, visibilityMoment}
 use Rattle.model.specs.Table.{Table}
 use Rattle.bits.specs.Within.{Within, within-refl, within-trans, within-widen}
-use Rattle.area.specs.Regions.{SYNC}
-use Rattle.closing.specs.Order.{laterRow, fromRow}
-use Rattle.closing.specs.Warshall.{closedTo, closed-nodes}
-use Rattle.closing.specs.Phase.{Phase, phase-none, phase-turn, phase-pass, phase-next, phase-skip, phase-all}
-use Rattle.closing.specs.Nodes.{nodeHop, holder, releaser, acquirer, node, Way, last, next, node-way, way-inter, inter-one, inter-trans}
-use Rattle.closing.specs.Direct.{takesPart, availableFor, visibleFor, meetsFor, directAvailable, directVisible, holder-is, meets-is, step-at, direct-available, direct-visible}
-use Rattle.closing.specs.Up.{Down}
-use Rattle.closing.specs.Sets.{reachedAt, reachedAvailable, reachedVisible}
-use Rattle.row_sets.specs.declared.Set.{Set}
-use Rattle.row_sets.specs.Member.{inSet}
-use Rattle.row_sets.specs.First.{First, first-next, Rest}
-use Rattle.row_sets.specs.First
-use Rattle.row_sets.specs.Kept.{setAt, set-kept, Stored, joined}
-use Rattle.row_sets.specs.Family.{nth}
-use Rattle.row_sets.specs.Rows.{Rows, rows-at, rows-in, rows-cong, rows-and, rows-or, rows-if}
-use Rattle.row_sets.specs.Walk.{Walk, walk-begin, walk-turn, walk-end, walk-in, walk-less, rest-in, rest-more}
-use Rattle.grids.specs.Regions.{DEPENDS, REACH-AT, REACH-END}
-use Rattle.grids.specs.Grid.{Grid, grid-at, grid-kept}
-use Rattle.grids.specs.Given.{given-few}
-use Rattle.grids.specs.Filling.{member-in}
-use Rattle.grids.specs.declared.Concerned.{Concerned}
-use Rattle.grids.specs.Concerns.{Told, Concerns}
-use Rattle.grids.specs.Reach.{Asks, MadeReach}
+use Rattle.work_area.specs.Regions.{SYNC}
+use Rattle.model_closing.specs.Order.{laterRow, fromRow}
+use Rattle.model_closing.specs.Warshall.{closedTo, closed-nodes}
+use Rattle.model_closing.specs.Phase.{Phase, phase-none, phase-turn, phase-pass, phase-next, phase-skip, phase-all}
+use Rattle.model_closing.specs.Nodes.{nodeHop, holder, releaser, acquirer, node, Way, last, next, node-way, way-inter, inter-one, inter-trans}
+use Rattle.model_closing.specs.Direct.{takesPart, availableFor, visibleFor, meetsFor, directAvailable, directVisible, holder-is, meets-is, step-at, direct-available, direct-visible}
+use Rattle.model_closing.specs.Up.{Down}
+use Rattle.model_closing.specs.Sets.{reachedAt, reachedAvailable, reachedVisible}
+use Rattle.sets_of_rows.specs.declared.Set.{Set}
+use Rattle.sets_of_rows.specs.Member.{inSet}
+use Rattle.sets_of_rows.specs.First.{First, first-next, Rest}
+use Rattle.sets_of_rows.specs.First
+use Rattle.sets_of_rows.specs.Kept.{setAt, set-kept, Stored, joined}
+use Rattle.sets_of_rows.specs.Family.{nth}
+use Rattle.sets_of_rows.specs.Rows.{Rows, rows-at, rows-in, rows-cong, rows-and, rows-or, rows-if}
+use Rattle.sets_of_rows.specs.Walk.{Walk, walk-begin, walk-turn, walk-end, walk-in, walk-less, rest-in, rest-more}
+use Rattle.sets_grids.specs.Regions.{DEPENDS, REACH-AT, REACH-END}
+use Rattle.sets_grids.specs.Grid.{Grid, grid-at, grid-kept}
+use Rattle.sets_grids.specs.Given.{given-few}
+use Rattle.sets_grids.specs.Filling.{member-in}
+use Rattle.sets_grids.specs.declared.Concerned.{Concerned}
+use Rattle.sets_grids.specs.Concerns.{Told, Concerns}
+use Rattle.sets_grids.specs.Reach.{Asks, MadeReach}
 
 -- ---- definitions
 
@@ -51,8 +51,8 @@ grid k = REACH-AT + 256 * k
 
 unfoldable pub sortAt : Table → ℕ → ℕ → ℕ
 sortAt t zero j = itself j
-sortAt t (suc zero) j = visibleAt t j
-sortAt t (suc (suc k)) j = availableAt t j
+sortAt t (suc zero) j = visibilityMoment t j
+sortAt t (suc (suc k)) j = availabilityMoment t j
 
 -- what row h leads to at once, and at all
 unfoldable pub ownOf : Table → ℕ → ℕ → ℕ → ℕ → Bool
@@ -269,12 +269,12 @@ module _ {t : Table} {n c : ℕ} {ends : Set} {k : Concerned} {w : List ℕ} (q 
       (rows-or (rows-if b₁ (rows-and (grid-at (q .syncs) l eg) (q .concerns .acquires) esa) es) (rows-if b₂ (rows-and ea (q .concerns .releases) era) er) ex)
       (rows-or (rows-if b₃ (rows-and ea (q .concerns .at) eta) et) (grid-at (q .depends) l ed) ey) ez)
 
-  available-in : (j : ℕ) → j < n → (acquirer t c h and (laterRow t h j and availableFor t c j)) ≡ step t c (itself h) (availableAt t j)
+  available-in : (j : ℕ) → j < n → (acquirer t c h and (laterRow t h j and availableFor t c j)) ≡ step t c (itself h) (availabilityMoment t j)
   unfolding directAvailable
   available-in j m =
       ap (λ (a : Bool). acquirer t c h and a) (swap (laterRow t h j) (availableFor t c j)) ∙ sym (direct-available t c h there j (let e = q .rows in omega arith))
 
-  visible-in : (j : ℕ) → j < n → (acquirer t c h and (fromRow t h j and visibleFor t c j)) ≡ step t c (itself h) (visibleAt t j)
+  visible-in : (j : ℕ) → j < n → (acquirer t c h and (fromRow t h j and visibleFor t c j)) ≡ step t c (itself h) (visibilityMoment t j)
   unfolding directVisible
   visible-in j m = bool-ext _ _ out back ∙ sym (direct-visible t c h there j (let e = q .rows in omega arith))
     where

@@ -9,23 +9,23 @@ use native.Mathlib.Numerals.{add-one}
 use lib.Bits.{bitAnd, and-comm, and-self, and-le-l}
 use lib.Dec.{eqb, ltb}
 use borrow.Author.Tests.{eqb-true, eq-eqb, ltb-true, lt-ltb}
-use Rattle.finite.specs.Logic.{_and_, which, bool-ext, split, and-true, and-both, and-false-left, not-both}
+use Rattle.finite.specs.Logic.{_and_, bool-ext, split, and-true, and-both, and-false-left, not-both}
 use Rattle.finite.specs.Below.{anyBelow, any-in, any-out, any-not, allBelow, all-out, below-cases, least, least-is}
 use Rattle.model.specs.Limits.{ROWS}
 use Rattle.model.specs.Row.{holds}
 use Rattle.model.specs.Synchronizes.{synchronizes}
 use Rattle.model.specs.Table.{Table}
-use Rattle.hubs.specs.Wider.{lessBy, sharedBy}
-use Rattle.row_sets.specs.declared.Set.{Set}
-use Rattle.row_sets.specs.Member.{inSet}
-use Rattle.row_sets.specs.Kept.{setAt}
-use Rattle.row_sets.specs.Family.{nth}
-use Rattle.row_sets.specs.Rows.{Rows}
-use Rattle.known.specs.Filed.{CLASSES}
-use Rattle.known.specs.Says.{says-classes}
-use Rattle.known.specs.Known.{Opened}
-use Rattle.known.specs.Ask.{few}
-use Rattle.grids.specs.declared.Concerned.{Concerned}
+use Rattle.model_hubs.specs.Wider.{lessBy, sharedBy}
+use Rattle.sets_of_rows.specs.declared.Set.{Set}
+use Rattle.sets_of_rows.specs.Member.{inSet}
+use Rattle.sets_of_rows.specs.Kept.{setAt}
+use Rattle.sets_of_rows.specs.Family.{nth}
+use Rattle.sets_of_rows.specs.Rows.{Rows}
+use Rattle.sets_of_table.specs.Filed.{CLASSES}
+use Rattle.sets_of_table.specs.Says.{says-classes}
+use Rattle.sets_of_table.specs.Known.{Opened}
+use Rattle.sets_of_table.specs.Ask.{few}
+use Rattle.sets_grids.specs.declared.Concerned.{Concerned}
 
 -- ---- definitions
 

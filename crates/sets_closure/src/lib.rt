@@ -6,29 +6,29 @@ ghost use lib.ListN.{length};
 ghost use lib.Bits.{bitAnd};
 ghost use Rattle.model.specs.Synchronizes.{synchronizes};
 ghost use Rattle.run.specs.Layout.{tableIn};
-ghost use Rattle.row_sets.specs.Member.{inSet};
-ghost use Rattle.row_sets.specs.Rows.{Rows};
-ghost use Rattle.area.specs.Regions.{SYNC};
-ghost use Rattle.known.specs.Known.{WORDS, Opened};
-ghost use Rattle.grids.specs.Grid.{Grid};
-ghost use Rattle.grids.specs.Given.{Given};
-ghost use Rattle.grids.specs.Concerns.{NONE, Told, Concerns};
+ghost use Rattle.sets_of_rows.specs.Member.{inSet};
+ghost use Rattle.sets_of_rows.specs.Rows.{Rows};
+ghost use Rattle.work_area.specs.Regions.{SYNC};
+ghost use Rattle.sets_of_table.specs.Known.{WORDS, Opened};
+ghost use Rattle.sets_grids.specs.Grid.{Grid};
+ghost use Rattle.sets_grids.specs.Given.{Given};
+ghost use Rattle.sets_grids.specs.Concerns.{NONE, Told, Concerns};
 ghost use Rattle.sets_closure.specs.Classes.{HoldsTo, meetsSome};
 ghost use Rattle.sets_closure.specs.Widest.{widest, syncedBy};
 
 pub mod reach; // M6: inter-thread order from the nodes of a class set
 
-use grids::Concerned;
-use row_sets::Set;
-use row_sets::kept;
 use run::Run;
+use sets_grids::Concerned;
+use sets_of_rows::Set;
+use sets_of_rows::kept;
 
 // Nothing but dependencies, whose ends these are.
 pub fn of_none(t: &Run, n: usize, s: &[u64], ends: Set) -> Concerned
     requires { ⌜ Told (tableIn (now t) n) n ends × Opened (tableIn (now t) n) n (now s) ⌝ }
     ensures { λ k. ⌜ Concerns (tableIn (now (t .entry)) n) n NONE ends k ⌝ }
 {
-    let none = row_sets::none();
+    let none = sets_of_rows::none();
     Concerned {
         nodes: ends,
         releases: none,
@@ -44,10 +44,13 @@ fn holding(s: &[u64], c: usize) -> Set
     requires { ⌜ (c < 16) × (WORDS ≤ length (now s)) ⌝ }
     ensures { λ x. ⌜ HoldsTo (now (s .entry)) c 16 x ⌝ }
 {
-    let mut a = row_sets::none();
+    let mut a = sets_of_rows::none();
     for m in 0..16 {
-        let b = rows::kinds::holds(m as u8, c as u8);
-        a = row_sets::or(a, row_sets::only_if(b, kept::get(s, known::BY_CLASSES, m)));
+        let b = door_rows::kinds::holds(m as u8, c as u8);
+        a = sets_of_rows::or(
+            a,
+            sets_of_rows::only_if(b, kept::get(s, sets_of_table::BY_CLASSES, m)),
+        );
     }
     a
 }
@@ -57,11 +60,14 @@ fn meeting(t: &Run, n: usize, s: &[u64], c: usize) -> Set
     requires { ⌜ (c < 16) × Opened (tableIn (now t) n) n (now s) ⌝ }
     ensures { λ x. ⌜ Rows n (meetsSome (tableIn (now (t .entry)) n) c) x ⌝ }
 {
-    let own = known::ask::of_classes(t, n, s, c);
-    let mut a = row_sets::and(own, known::rows(s, known::PLAIN));
+    let own = sets_of_table::ask::of_classes(t, n, s, c);
+    let mut a = sets_of_rows::and(own, sets_of_table::rows(s, sets_of_table::PLAIN));
     for q in 0..4 {
-        let b = known::ask::holds_class(c, q);
-        a = row_sets::or(a, row_sets::only_if(b, kept::get(s, known::HOLDING, q)));
+        let b = sets_of_table::ask::holds_class(c, q);
+        a = sets_of_rows::or(
+            a,
+            sets_of_rows::only_if(b, kept::get(s, sets_of_table::HOLDING, q)),
+        );
     }
     a
 }
@@ -73,15 +79,15 @@ pub fn of_classes(t: &Run, n: usize, s: &[u64], ends: Set, c: usize) -> Concerne
 {
     let holds = holding(s, c);
     let meets = meeting(t, n, s, c);
-    let releases = row_sets::and(holds, known::rows(s, known::RELEASES));
-    let acquires = row_sets::and(holds, known::rows(s, known::ACQUIRES));
+    let releases = sets_of_rows::and(holds, sets_of_table::rows(s, sets_of_table::RELEASES));
+    let acquires = sets_of_rows::and(holds, sets_of_table::rows(s, sets_of_table::ACQUIRES));
     Concerned {
-        nodes: row_sets::or(row_sets::or(releases, acquires), ends),
+        nodes: sets_of_rows::or(sets_of_rows::or(releases, acquires), ends),
         releases: releases,
         acquires: acquires,
-        at: row_sets::or(known::ask::of_classes(t, n, s, c), holds),
-        available: row_sets::and(meets, known::rows(s, known::AVAILABLE)),
-        visible: row_sets::and(meets, known::rows(s, known::VISIBLE)),
+        at: sets_of_rows::or(sets_of_table::ask::of_classes(t, n, s, c), holds),
+        available: sets_of_rows::and(meets, sets_of_table::rows(s, sets_of_table::AVAILABLE)),
+        visible: sets_of_rows::and(meets, sets_of_table::rows(s, sets_of_table::VISIBLE)),
     }
 }
 
@@ -100,8 +106,8 @@ pub fn is_widest(t: &Run, n: usize, s: &[u64], c: usize) -> bool
 {
     let mut common = 15u8;
     for m in 0..16 {
-        let held = rows::kinds::holds(m as u8, c as u8);
-        let some = row_sets::some(kept::get(s, known::BY_CLASSES, m));
+        let held = door_rows::kinds::holds(m as u8, c as u8);
+        let some = sets_of_rows::some(kept::get(s, sets_of_table::BY_CLASSES, m));
         common = shared(held & some, common, m as u8);
     }
     common == (c as u8)
@@ -115,10 +121,10 @@ pub fn is_synced(t: &Run, n: usize, s: &[u64], k: Concerned, w: &[u64]) -> bool
     ensures { λ b. ⌜ b ≡ syncedBy (tableIn (now (t .entry)) n) n k ⌝ }
 {
     let mut left = k.releases;
-    while row_sets::some(left) {
-        let a = row_sets::first(left);
-        left = row_sets::but_first(left);
-        if row_sets::some(row_sets::and(kept::get(w, area::SYNC, a), k.acquires)) {
+    while sets_of_rows::some(left) {
+        let a = sets_of_rows::first(left);
+        left = sets_of_rows::but_first(left);
+        if sets_of_rows::some(sets_of_rows::and(kept::get(w, work_area::SYNC, a), k.acquires)) {
             return true;
         }
     }

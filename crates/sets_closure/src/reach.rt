@@ -5,16 +5,16 @@ ghost use Prim.Native.Nat.{ℕ, _≤_, _<_};
 ghost use lib.ListN.{length};
 ghost use Rattle.model.specs.Limits.{ROWS, WORK};
 ghost use Rattle.run.specs.Layout.{tableIn};
-ghost use Rattle.row_sets.specs.declared.Set.{Set};
-ghost use Rattle.row_sets.specs.Member.{inSet};
-ghost use Rattle.row_sets.specs.Rows.{Rows};
-ghost use Rattle.grids.specs.Given.{Given};
-ghost use Rattle.grids.specs.Reach.{Asks, MadeReach};
+ghost use Rattle.sets_of_rows.specs.declared.Set.{Set};
+ghost use Rattle.sets_of_rows.specs.Member.{inSet};
+ghost use Rattle.sets_of_rows.specs.Rows.{Rows};
+ghost use Rattle.sets_grids.specs.Given.{Given};
+ghost use Rattle.sets_grids.specs.Reach.{Asks, MadeReach};
 ghost use Rattle.sets_closure.specs.Reaching.{Asking, ownOf, PutDirect, Took, Follows, PassesNode, PassesUp, PutsAll, TakesIf, ClosesAt, Closes};
-use grids::Concerned;
-use row_sets::Set;
-use row_sets::kept;
 use run::Run;
+use sets_grids::Concerned;
+use sets_of_rows::Set;
+use sets_of_rows::kept;
 
 // The rows to which direct cases lead from node h: synchronizes-with, release rows and, from an acquire row, any row after it that the
 // class set concerns, and dependencies.
@@ -22,16 +22,22 @@ fn direct(t: &Run, n: usize, s: &[u64], k: Concerned, h: usize, w: &[u64]) -> Se
     requires { ⌜ (h < n) × Given (tableIn (now t) n) n (now s) (now w) ⌝ }
     ensures { λ x. ⌜ ((c : ℕ) (ends : Set) → Asking (tableIn (now (t .entry)) n) n c ends k (now (w .entry)) → Rows n (ownOf (tableIn (now (t .entry)) n) c 0 h) x) ⌝ }
 {
-    let after = known::ask::after(t, n, s, h);
-    let sync = row_sets::only_if(
-        row_sets::has(k.releases, h),
-        row_sets::and(kept::get(w, area::SYNC, h), k.acquires),
+    let after = sets_of_table::ask::after(t, n, s, h);
+    let sync = sets_of_rows::only_if(
+        sets_of_rows::has(k.releases, h),
+        sets_of_rows::and(kept::get(w, work_area::SYNC, h), k.acquires),
     );
-    let releases = row_sets::only_if(row_sets::has(k.at, h), row_sets::and(after, k.releases));
-    let taking = row_sets::only_if(row_sets::has(k.acquires, h), row_sets::and(after, k.at));
-    row_sets::or(
-        row_sets::or(sync, releases),
-        row_sets::or(taking, kept::get(w, grids::DEPENDS, h)),
+    let releases = sets_of_rows::only_if(
+        sets_of_rows::has(k.at, h),
+        sets_of_rows::and(after, k.releases),
+    );
+    let taking = sets_of_rows::only_if(
+        sets_of_rows::has(k.acquires, h),
+        sets_of_rows::and(after, k.at),
+    );
+    sets_of_rows::or(
+        sets_of_rows::or(sync, releases),
+        sets_of_rows::or(taking, kept::get(w, sets_grids::DEPENDS, h)),
     )
 }
 
@@ -41,14 +47,14 @@ fn put_direct(t: &Run, n: usize, s: &[u64], k: Concerned, h: usize, w: &mut [u64
     ensures { λ _. ⌜ PutDirect (tableIn (now (t .entry)) n) n k h (now (w .entry)) (now (w .exit)) ⌝ }
 {
     let to = direct(t, n, s, k, h, w);
-    let acquires = row_sets::has(k.acquires, h);
-    let onward = known::ask::onward(t, n, s, h);
-    let after = known::ask::after(t, n, s, h);
-    let visible = row_sets::only_if(acquires, row_sets::and(onward, k.visible));
-    let available = row_sets::only_if(acquires, row_sets::and(after, k.available));
-    kept::put(w, grids::REACH_AT, h, to);
-    kept::put(w, grids::REACH_VISIBLE, h, visible);
-    kept::put(w, grids::REACH_AVAILABLE, h, available);
+    let acquires = sets_of_rows::has(k.acquires, h);
+    let onward = sets_of_table::ask::onward(t, n, s, h);
+    let after = sets_of_table::ask::after(t, n, s, h);
+    let visible = sets_of_rows::only_if(acquires, sets_of_rows::and(onward, k.visible));
+    let available = sets_of_rows::only_if(acquires, sets_of_rows::and(after, k.available));
+    kept::put(w, sets_grids::REACH_AT, h, to);
+    kept::put(w, sets_grids::REACH_VISIBLE, h, visible);
+    kept::put(w, sets_grids::REACH_AVAILABLE, h, available);
 }
 
 // Node h takes in what node j reaches.
@@ -56,12 +62,12 @@ fn take_in(h: usize, j: usize, w: &mut [u64])
     requires { ⌜ (h < ROWS) × (j < ROWS) × (WORK ≤ length (now w)) ⌝ }
     ensures { λ _. ⌜ Took h j (now (w .entry)) (now (w .exit)) ⌝ }
 {
-    let to = kept::get(w, grids::REACH_AT, j);
-    let visible = kept::get(w, grids::REACH_VISIBLE, j);
-    let available = kept::get(w, grids::REACH_AVAILABLE, j);
-    kept::join(w, grids::REACH_AT, h, to);
-    kept::join(w, grids::REACH_VISIBLE, h, visible);
-    kept::join(w, grids::REACH_AVAILABLE, h, available);
+    let to = kept::get(w, sets_grids::REACH_AT, j);
+    let visible = kept::get(w, sets_grids::REACH_VISIBLE, j);
+    let available = kept::get(w, sets_grids::REACH_AVAILABLE, j);
+    kept::join(w, sets_grids::REACH_AT, h, to);
+    kept::join(w, sets_grids::REACH_VISIBLE, h, visible);
+    kept::join(w, sets_grids::REACH_AVAILABLE, h, available);
 }
 
 // Node h takes in what the nodes that it leads to reach; those that one of them reaches bring nothing more.
@@ -69,12 +75,12 @@ fn follow(h: usize, nodes: Set, w: &mut [u64])
     requires { ⌜ (h < ROWS) × (WORK ≤ length (now w)) ⌝ }
     ensures { λ _. ⌜ Follows h nodes (now (w .entry)) (now (w .exit)) ⌝ }
 {
-    let mut left = row_sets::and(kept::get(w, grids::REACH_AT, h), nodes);
-    while row_sets::some(left) {
-        let j = row_sets::first(left);
-        let rest = row_sets::but_first(left);
+    let mut left = sets_of_rows::and(kept::get(w, sets_grids::REACH_AT, h), nodes);
+    while sets_of_rows::some(left) {
+        let j = sets_of_rows::first(left);
+        let rest = sets_of_rows::but_first(left);
         take_in(h, j, w);
-        left = row_sets::less(rest, kept::get(w, grids::REACH_AT, j));
+        left = sets_of_rows::less(rest, kept::get(w, sets_grids::REACH_AT, j));
     }
 }
 
@@ -83,7 +89,7 @@ fn pass_node(t: &Run, n: usize, s: &[u64], k: Concerned, h: usize, w: &mut [u64]
     requires { ⌜ (h < n) × Given (tableIn (now t) n) n (now s) (now w) ⌝ }
     ensures { λ _. ⌜ PassesNode (tableIn (now (t .entry)) n) n k h (now (w .entry)) (now (w .exit)) ⌝ }
 {
-    if !row_sets::has(k.nodes, h) {
+    if !sets_of_rows::has(k.nodes, h) {
         return;
     }
     put_direct(t, n, s, k, h, w);
@@ -108,9 +114,9 @@ fn put_all_direct(t: &Run, n: usize, s: &[u64], k: Concerned, w: &mut [u64])
     ensures { λ _. ⌜ PutsAll (tableIn (now (t .entry)) n) n k (now (w .entry)) (now (w .exit)) ⌝ }
 {
     let mut left = k.nodes;
-    while row_sets::some(left) {
-        let h = row_sets::first(left);
-        left = row_sets::but_first(left);
+    while sets_of_rows::some(left) {
+        let h = sets_of_rows::first(left);
+        left = sets_of_rows::but_first(left);
         put_direct(t, n, s, k, h, w);
     }
 }
@@ -120,7 +126,7 @@ fn take_if(i: usize, j: usize, w: &mut [u64])
     requires { ⌜ (i < ROWS) × (j < ROWS) × (WORK ≤ length (now w)) ⌝ }
     ensures { λ _. ⌜ TakesIf i j (now (w .entry)) (now (w .exit)) ⌝ }
 {
-    if !row_sets::has(kept::get(w, grids::REACH_AT, i), j) {
+    if !sets_of_rows::has(kept::get(w, sets_grids::REACH_AT, i), j) {
         return;
     }
     take_in(i, j, w);
@@ -132,9 +138,9 @@ fn close_at(j: usize, nodes: Set, w: &mut [u64])
     ensures { λ _. ⌜ ClosesAt j nodes (now (w .entry)) (now (w .exit)) ⌝ }
 {
     let mut left = nodes;
-    while row_sets::some(left) {
-        let i = row_sets::first(left);
-        left = row_sets::but_first(left);
+    while sets_of_rows::some(left) {
+        let i = sets_of_rows::first(left);
+        left = sets_of_rows::but_first(left);
         take_if(i, j, w);
     }
 }
@@ -145,9 +151,9 @@ fn close(nodes: Set, w: &mut [u64])
     ensures { λ _. ⌜ Closes nodes (now (w .entry)) (now (w .exit)) ⌝ }
 {
     let mut left = nodes;
-    while row_sets::some(left) {
-        let j = row_sets::first(left);
-        left = row_sets::but_first(left);
+    while sets_of_rows::some(left) {
+        let j = sets_of_rows::first(left);
+        left = sets_of_rows::but_first(left);
         close_at(j, nodes, w);
     }
 }

@@ -2,10 +2,10 @@
 use mathlib.Core.Path.{_≡_, refl, sym, ap, ap₂, subst, _∙_}
 use mathlib.Core.Bool.{Bool, true, false, not}
 use mathlib.Core.List.{List}
-use mathlib.Core.Logic.{_⊎_, inl, inr, ⊎-elim}
+use mathlib.Core.Logic.{⊎-elim}
 use Prim.Native.Nat.{ℕ, zero, suc, _+_, _-_, _*_, _≤_, _<_}
 use native.Mathlib.Omega.{arith}
-use native.Mathlib.Decide.{decLt, ℕ-discrete}
+use native.Mathlib.Decide.{ℕ-discrete}
 use lib.ListN.{length, getD, replicate}
 use lib.Dec.{eqb, leb, ltb}
 use borrow.Author.Tests.{eq-eqb, ne-eqb, lt-ltb, leb-true, le-leb}
@@ -17,26 +17,26 @@ use Rattle.model.specs.Scope.{shares}
 use Rattle.model.specs.Moment.{sameAgent}
 use Rattle.model.specs.Synchronizes.{upTo, joins, arrives, passes}
 use Rattle.model.specs.Table.{Table}
-use Rattle.laws.specs.PairLaws.{eqb-swap}
-use Rattle.closing.specs.Order.{fromRow}
-use Rattle.placing.specs.Shares.{share}
+use Rattle.model_laws.specs.PairLaws.{eqb-swap}
+use Rattle.model_closing.specs.Order.{fromRow}
+use Rattle.model_placing.specs.Shares.{share}
 use Rattle.bits.specs.Bit.{zeros, zeros-in}
-use Rattle.bits.specs.Within.{Within, within-refl, within-trans, within-widen, within-cleared}
-use Rattle.row_sets.specs.declared.Set.{Set}
-use Rattle.row_sets.specs.Member.{inSet}
-use Rattle.row_sets.specs.First.{none-in}
-use Rattle.row_sets.specs.Kept.{setAt, set-kept, Stored, joined}
-use Rattle.row_sets.specs.Family.{nth}
-use Rattle.row_sets.specs.Rows.{Rows, rows-at, rows-in, rows-cong, rows-and, rows-or, rows-cut, rows-if}
-use Rattle.known.specs.Says.{says-kind}
-use Rattle.known.specs.Tested.{BARRIER}
-use Rattle.known.specs.Known.{Opened, says-rows}
-use Rattle.known.specs.Ask.{few, agent-low}
-use Rattle.grids.specs.Regions.{PASSED, PASSED-END}
-use Rattle.grids.specs.Grid.{MadeGrid}
-use Rattle.grids.specs.Given.{Given}
-use Rattle.grids.specs.Filling.{member-in}
-use Rattle.grids.specs.Synced.{passedBy}
+use Rattle.bits.specs.Within.{Within, within-widen, within-cleared}
+use Rattle.sets_of_rows.specs.declared.Set.{Set}
+use Rattle.sets_of_rows.specs.Member.{inSet}
+use Rattle.sets_of_rows.specs.First.{none-in}
+use Rattle.sets_of_rows.specs.Kept.{setAt, set-kept, Stored, joined}
+use Rattle.sets_of_rows.specs.Family.{nth}
+use Rattle.sets_of_rows.specs.Rows.{Rows, rows-at, rows-in, rows-cong, rows-and, rows-or, rows-cut, rows-if}
+use Rattle.sets_of_table.specs.Says.{says-kind}
+use Rattle.sets_of_table.specs.Tested.{BARRIER}
+use Rattle.sets_of_table.specs.Known.{Opened, says-rows}
+use Rattle.sets_of_table.specs.Ask.{few, agent-low}
+use Rattle.sets_grids.specs.Regions.{PASSED, PASSED-END}
+use Rattle.sets_grids.specs.Grid.{MadeGrid}
+use Rattle.sets_grids.specs.Given.{Given}
+use Rattle.sets_grids.specs.Filling.{member-in}
+use Rattle.sets_grids.specs.Synced.{passedBy}
 
 -- ---- definitions
 

@@ -16,26 +16,26 @@ use Rattle.model.specs.Row.{reads, writes, overlap}
 use Rattle.model.specs.Table.{Table}
 use Rattle.model.specs.Scope.{follows}
 use Rattle.model.specs.Edge.{beforeSome, edge}
-use Rattle.laws.specs.PairLaws.{eqb-swap}
-use Rattle.placing.specs.Leads.{cond-on, cond-off}
-use Rattle.placing.specs.Judge.{Sourced, fromSource, edgesBelow, edges-none, edges-skip, edges-step, edges-done}
+use Rattle.model_laws.specs.PairLaws.{eqb-swap}
+use Rattle.model_placing.specs.Leads.{cond-on, cond-off}
+use Rattle.model_placing.specs.Judge.{Sourced, fromSource, edgesBelow, edges-none, edges-skip, edges-step, edges-done}
 use Rattle.bits.specs.Within.{Within, within-refl, within-trans, within-widen}
-use Rattle.area.specs.Regions.{EDGE, EDGE-END, OVERLAP}
-use Rattle.area.specs.State.{overlaps}
-use Rattle.row_sets.specs.declared.Set.{Set}
-use Rattle.row_sets.specs.Member.{inSet}
-use Rattle.row_sets.specs.First.{First, first-next, Rest, next}
-use Rattle.row_sets.specs.Kept.{setAt, set-kept, Stored, joined, added}
-use Rattle.row_sets.specs.Family.{nth}
-use Rattle.row_sets.specs.Rows.{Rows, rows-in, rows-cong, rows-or}
-use Rattle.row_sets.specs.Walk.{Walk, walk-begin, walk-turn, walk-end, walk-in}
-use Rattle.known.specs.Tested.{WRITES}
-use Rattle.known.specs.Known.{Opened, says-rows}
-use Rattle.known.specs.Ask.{few}
-use Rattle.grids.specs.Regions.{LATER, SOME}
-use Rattle.grids.specs.Grid.{Grid, MadeGrid, grid-kept, grid-cong}
-use Rattle.grids.specs.Filling.{member-in}
-use Rattle.grids.specs.Location.{Judging}
+use Rattle.work_area.specs.Regions.{EDGE, EDGE-END, OVERLAP}
+use Rattle.work_area.specs.State.{overlaps}
+use Rattle.sets_of_rows.specs.declared.Set.{Set}
+use Rattle.sets_of_rows.specs.Member.{inSet}
+use Rattle.sets_of_rows.specs.First.{First, first-next, Rest, next}
+use Rattle.sets_of_rows.specs.Kept.{setAt, set-kept, Stored, joined, added}
+use Rattle.sets_of_rows.specs.Family.{nth}
+use Rattle.sets_of_rows.specs.Rows.{Rows, rows-in, rows-cong, rows-or}
+use Rattle.sets_of_rows.specs.Walk.{Walk, walk-begin, walk-turn, walk-end, walk-in}
+use Rattle.sets_of_table.specs.Tested.{WRITES}
+use Rattle.sets_of_table.specs.Known.{Opened, says-rows}
+use Rattle.sets_of_table.specs.Ask.{few}
+use Rattle.sets_grids.specs.Regions.{LATER, SOME}
+use Rattle.sets_grids.specs.Grid.{Grid, MadeGrid, grid-kept, grid-cong}
+use Rattle.sets_grids.specs.Filling.{member-in}
+use Rattle.sets_grids.specs.Location.{Judging}
 
 -- ---- definitions
 

@@ -4,16 +4,16 @@ ghost use lib.ListN.{length};
 ghost use Rattle.model.specs.Limits.{ROWS, WORK};
 ghost use Rattle.model.specs.Edge.{edge};
 ghost use Rattle.run.specs.Layout.{tableIn};
-ghost use Rattle.area.specs.Regions.{EDGE, EDGE-END};
-ghost use Rattle.axioms.specs.Sources.{sourceIn};
-ghost use Rattle.known.specs.Known.{WORDS};
-ghost use Rattle.grids.specs.Grid.{MadeGrid};
-ghost use Rattle.grids.specs.Given.{Given};
-ghost use Rattle.grids.specs.Location.{Judging};
-ghost use Rattle.placing.specs.Judge.{Sourced};
+ghost use Rattle.work_area.specs.Regions.{EDGE, EDGE-END};
+ghost use Rattle.find_axioms.specs.Sources.{sourceIn};
+ghost use Rattle.sets_of_table.specs.Known.{WORDS};
+ghost use Rattle.sets_grids.specs.Grid.{MadeGrid};
+ghost use Rattle.sets_grids.specs.Given.{Given};
+ghost use Rattle.sets_grids.specs.Location.{Judging};
+ghost use Rattle.model_placing.specs.Judge.{Sourced};
 ghost use Rattle.sets_edges.specs.Edges.{Ordered, Reads};
-use row_sets::kept;
 use run::Run;
+use sets_of_rows::kept;
 
 // Edges 1 and 2 of each row: location order at some byte, and scoped modification order.
 // Ruled out: one that leaves out the last row.
@@ -22,8 +22,11 @@ fn put_orders(n: usize, w: &mut [u64])
     ensures { λ _. ⌜ Ordered n (now (w .entry)) (now (w .exit)) ⌝ }
 {
     for x in 0..n {
-        let to = row_sets::or(kept::get(w, grids::SOME, x), kept::get(w, grids::LATER, x));
-        kept::put(w, area::EDGE, x, to);
+        let to = sets_of_rows::or(
+            kept::get(w, sets_grids::SOME, x),
+            kept::get(w, sets_grids::LATER, x),
+        );
+        kept::put(w, work_area::EDGE, x, to);
     }
 }
 
@@ -34,16 +37,16 @@ fn put_reads(n: usize, s: &[u64], source: usize, y: usize, w: &mut [u64])
     ensures { λ _. ⌜ Reads n (now (s .entry)) source y (now (w .entry)) (now (w .exit)) ⌝ }
 {
     if source < n {
-        let to = row_sets::drop(kept::get(w, grids::LATER, source), y);
-        kept::join(w, area::EDGE, y, to);
-        kept::put_bit(w, area::EDGE, source, y);
+        let to = sets_of_rows::drop(kept::get(w, sets_grids::LATER, source), y);
+        kept::join(w, work_area::EDGE, y, to);
+        kept::put_bit(w, work_area::EDGE, source, y);
         return;
     }
-    let over = row_sets::and(
-        kept::get(w, area::OVERLAP, y),
-        known::rows(s, known::WRITES),
+    let over = sets_of_rows::and(
+        kept::get(w, work_area::OVERLAP, y),
+        sets_of_table::rows(s, sets_of_table::WRITES),
     );
-    kept::join(w, area::EDGE, y, row_sets::drop(over, y));
+    kept::join(w, work_area::EDGE, y, sets_of_rows::drop(over, y));
 }
 
 // EDGE, with the sources in `src`.
@@ -53,10 +56,10 @@ pub fn fill_edges(t: &Run, n: usize, src: &[u16], s: &[u64], w: &mut [u64])
     ensures { λ _. ⌜ MadeGrid EDGE EDGE-END EDGE n (edge (tableIn (now (t .entry)) n) (sourceIn (now (src .entry)))) (now (w .entry)) (now (w .exit)) ⌝ }
 {
     put_orders(n, w);
-    let mut left = known::rows(s, known::READS);
-    while row_sets::some(left) {
-        let y = row_sets::first(left);
-        left = row_sets::but_first(left);
+    let mut left = sets_of_table::rows(s, sets_of_table::READS);
+    while sets_of_rows::some(left) {
+        let y = sets_of_rows::first(left);
+        left = sets_of_rows::but_first(left);
         put_reads(n, s, src[y] as usize, y, w);
     }
 }

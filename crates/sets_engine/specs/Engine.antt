@@ -10,17 +10,17 @@ use Rattle.model.specs.Limits.{ROWS, WORK}
 use Rattle.model.specs.Table.{Table, decode}
 use Rattle.run.specs.Layout.{tableIn}
 use Rattle.bits.specs.Within.{Within, within-trans, within-widen}
-use Rattle.area.specs.Regions.{MUTUAL, OVERLAP, OVERLAP-END, LOCATION-END, LOCATED-END}
-use Rattle.area.specs.State.{overlaps}
-use Rattle.known.specs.Fit.{FitRun}
-use Rattle.known.specs.Known.{WORDS, Opened, MadeKnown}
-use Rattle.grids.specs.Given.{Given}
-use Rattle.grids.specs.Regions.{LATER, HAPPENS, SYSTEM, SYSTEM-END, HOSTED, MET-END, AVAILABLE-AVAILABLE}
-use Rattle.grids.specs.Grid.{Grid, MadeGrid, grid-kept, grid-on-kept}
-use Rattle.grids.specs.Happens.{Happening}
-use Rattle.grids.specs.Available.{Available, MadeAvailable}
-use Rattle.grids.specs.Hosted.{hostedBy}
-use Rattle.grids.specs.Location.{Locating, MadeLocation, Judging}
+use Rattle.work_area.specs.Regions.{MUTUAL, OVERLAP, OVERLAP-END, LOCATED-END}
+use Rattle.work_area.specs.State.{overlaps}
+use Rattle.sets_of_table.specs.Fit.{FitRun}
+use Rattle.sets_of_table.specs.Known.{WORDS, Opened, MadeKnown}
+use Rattle.sets_grids.specs.Given.{Given}
+use Rattle.sets_grids.specs.Regions.{LATER, SYSTEM, SYSTEM-END, HOSTED, MET-END}
+use Rattle.sets_grids.specs.Grid.{Grid, MadeGrid, grid-kept, grid-on-kept}
+use Rattle.sets_grids.specs.Happens.{Happening}
+use Rattle.sets_grids.specs.Available.{MadeAvailable}
+use Rattle.sets_grids.specs.Hosted.{hostedBy}
+use Rattle.sets_grids.specs.Location.{Locating, MadeLocation, Judging}
 use Rattle.sets_sync.specs.Synced.{Synced}
 use Rattle.sets_order.specs.Order.{MadeOrder}
 

@@ -3,9 +3,9 @@ ghost use Prim.Native.Nat.{_≤_};
 ghost use lib.ListN.{length};
 ghost use Rattle.model.specs.Limits.{WORK};
 ghost use Rattle.run.specs.Layout.{tableIn};
-ghost use Rattle.known.specs.Fit.{FitRun};
-ghost use Rattle.known.specs.Known.{WORDS};
-ghost use Rattle.grids.specs.Given.{Given};
+ghost use Rattle.sets_of_table.specs.Fit.{FitRun};
+ghost use Rattle.sets_of_table.specs.Known.{WORDS};
+ghost use Rattle.sets_grids.specs.Given.{Given};
 ghost use Rattle.sets_engine.specs.Engine.{Ordered, MadeOrdered, MadePlacing, MadeJudging};
 use run::Run;
 
@@ -33,7 +33,7 @@ pub fn locate(t: &Run, n: usize, s: &mut [u64], w: &mut [u64])
     requires { ⌜ FitRun (now t) n × (WORDS ≤ length (now s)) × (WORK ≤ length (now w)) ⌝ }
     ensures { λ _. ⌜ MadeJudging (tableIn (now (t .entry)) n) n (now (s .exit)) (now (w .entry)) (now (w .exit)) ⌝ }
 {
-    known::prepare(t, n, s);
+    sets_of_table::prepare(t, n, s);
     order(t, n, s, w);
     prepare(t, n, s, w);
     sets_location::fill_location(t, n, s, w);

@@ -13,15 +13,15 @@ use Rattle.finite.specs.Below.{anyBelow}
 use Rattle.model.specs.Limits.{ROWS}
 use Rattle.bits.specs.Bit.{zeros, zeros-in}
 use Rattle.bits.specs.Within.{Within}
-use Rattle.closing.specs.Tests.{or-off-left}
-use Rattle.row_sets.specs.declared.Set.{Set}
-use Rattle.row_sets.specs.Member.{inSet}
-use Rattle.row_sets.specs.First.{First, first-next, Rest, next, none-in}
-use Rattle.row_sets.specs.Kept.{setAt, set-kept, Stored, joined}
-use Rattle.row_sets.specs.Family.{nth}
-use Rattle.row_sets.specs.Rows.{Rows, rows-in}
-use Rattle.row_sets.specs.Walk.{Walk, walk-begin, walk-turn, walk-end, walk-in}
-use Rattle.grids.specs.Grid.{Grid, AddedGrid}
+use Rattle.model_closing.specs.Tests.{or-off-left}
+use Rattle.sets_of_rows.specs.declared.Set.{Set}
+use Rattle.sets_of_rows.specs.Member.{inSet}
+use Rattle.sets_of_rows.specs.First.{First, first-next, Rest, next, none-in}
+use Rattle.sets_of_rows.specs.Kept.{setAt, set-kept, Stored, joined}
+use Rattle.sets_of_rows.specs.Family.{nth}
+use Rattle.sets_of_rows.specs.Rows.{Rows, rows-in}
+use Rattle.sets_of_rows.specs.Walk.{Walk, walk-begin, walk-turn, walk-end, walk-in}
+use Rattle.sets_grids.specs.Grid.{Grid, AddedGrid}
 
 -- ---- definitions
 

@@ -4,19 +4,19 @@ use mathlib.Core.List.{List}
 use Prim.Native.Nat.{ℕ}
 use Rattle.model.specs.Moment.{itself}
 use Rattle.model.specs.Happens.{interThread}
-use Rattle.model.specs.Location.{availableAt, visibleAt}
+use Rattle.model.specs.Availability.{availabilityMoment, visibilityMoment}
 use Rattle.model.specs.Table.{Table}
 use Rattle.bits.specs.Within.{Within}
-use Rattle.closing.specs.Nodes.{node}
-use Rattle.closing.specs.Sets.{reachedAt, reachedAvailable, reachedVisible}
-use Rattle.row_sets.specs.declared.Set.{Set}
-use Rattle.row_sets.specs.Member.{inSet}
-use Rattle.grids.specs.declared.Concerned.{Concerned}
-use Rattle.grids.specs.Regions.{HAPPENS, HAPPENS-END, AVAILABLE-AT, AVAILABLE-VISIBLE, AVAILABLE-AVAILABLE, VISIBLE-VISIBLE, REACH-AT, REACH-VISIBLE, REACH-AVAILABLE}
-use Rattle.grids.specs.Grid.{GridOn, AddedGrid}
-use Rattle.grids.specs.Given.{Given}
-use Rattle.grids.specs.Concerns.{Told, Concerns}
-use Rattle.grids.specs.Happens.{HappensBy}
+use Rattle.model_closing.specs.Nodes.{node}
+use Rattle.model_closing.specs.Sets.{reachedAt, reachedAvailable, reachedVisible}
+use Rattle.sets_of_rows.specs.declared.Set.{Set}
+use Rattle.sets_of_rows.specs.Member.{inSet}
+use Rattle.sets_grids.specs.declared.Concerned.{Concerned}
+use Rattle.sets_grids.specs.Regions.{HAPPENS, HAPPENS-END, AVAILABLE-AT, AVAILABLE-VISIBLE, AVAILABLE-AVAILABLE, VISIBLE-VISIBLE, REACH-AT, REACH-VISIBLE, REACH-AVAILABLE}
+use Rattle.sets_grids.specs.Grid.{GridOn, AddedGrid}
+use Rattle.sets_grids.specs.Given.{Given}
+use Rattle.sets_grids.specs.Concerns.{Told, Concerns}
+use Rattle.sets_grids.specs.Happens.{HappensBy}
 
 -- ---- definitions
 
@@ -42,9 +42,9 @@ abbrev pub AddsAt : Table → ℕ → ℕ → List ℕ → List ℕ → Type 0
 AddsAt t n c w u = AddedGrid HAPPENS AVAILABLE-AT HAPPENS n (λ x y. interThread t c (itself x) (itself y)) w u
 
 pub record AddsAvailable (t : Table) (n c : ℕ) (w u : List ℕ) : Type 0 where
-  pub rows : AddedGrid AVAILABLE-AT VISIBLE-VISIBLE AVAILABLE-AT n (λ a y. interThread t c (availableAt t a) (itself y)) w u
-  pub visibles : AddedGrid AVAILABLE-AT VISIBLE-VISIBLE AVAILABLE-VISIBLE n (λ a v. interThread t c (availableAt t a) (visibleAt t v)) w u
-  pub availables : AddedGrid AVAILABLE-AT VISIBLE-VISIBLE AVAILABLE-AVAILABLE n (λ a b. interThread t c (availableAt t a) (availableAt t b)) w u
+  pub rows : AddedGrid AVAILABLE-AT VISIBLE-VISIBLE AVAILABLE-AT n (λ a y. interThread t c (availabilityMoment t a) (itself y)) w u
+  pub visibles : AddedGrid AVAILABLE-AT VISIBLE-VISIBLE AVAILABLE-VISIBLE n (λ a v. interThread t c (availabilityMoment t a) (visibilityMoment t v)) w u
+  pub availables : AddedGrid AVAILABLE-AT VISIBLE-VISIBLE AVAILABLE-AVAILABLE n (λ a b. interThread t c (availabilityMoment t a) (availabilityMoment t b)) w u
 
 abbrev pub AddsVisible : Table → ℕ → ℕ → List ℕ → List ℕ → Type 0
-AddsVisible t n c w u = AddedGrid VISIBLE-VISIBLE HAPPENS-END VISIBLE-VISIBLE n (λ v z. interThread t c (visibleAt t v) (visibleAt t z)) w u
+AddsVisible t n c w u = AddedGrid VISIBLE-VISIBLE HAPPENS-END VISIBLE-VISIBLE n (λ v z. interThread t c (visibilityMoment t v) (visibilityMoment t z)) w u

@@ -12,27 +12,27 @@ use Rattle.finite.specs.Below.{anyBelow, any-off, least, least-unique, least-of
 use Rattle.model.specs.Limits.{ROWS}
 use Rattle.model.specs.Table.{Table}
 use Rattle.model.specs.Moment.{itself}
-use Rattle.model.specs.Location.{availableAt, visibleAt}
+use Rattle.model.specs.Availability.{availabilityMoment, visibilityMoment}
 use Rattle.model.specs.Happens.{interThread}
 use Rattle.bits.specs.Within.{Within, within-refl, within-trans, within-widen}
-use Rattle.closing.specs.Tests.{and-assoc}
-use Rattle.closing.specs.Order.{laterRow}
-use Rattle.closing.specs.Nodes.{releaser, node}
-use Rattle.closing.specs.Direct.{takesPart, availableFor, visibleFor}
-use Rattle.closing.specs.Sets.{reachedAt, reachedAvailable, reachedVisible, passesLater, nextRelease, ofNext}
-use Rattle.closing.specs.Asked.{nextOrOf, releasesFrom, releaseFrom, fromRowsOf, fromAvailableAt, fromAvailable, fromVisible, askedAt, askedAvailableAt, askedAvailableVisible, askedAvailables, askedVisibles}
-use Rattle.closing.specs.Asked.{inter-at, inter-available-at, inter-available-visible, inter-availables, inter-visibles}
-use Rattle.row_sets.specs.declared.Set.{Set}
-use Rattle.row_sets.specs.Member.{inSet}
-use Rattle.row_sets.specs.First.{First, first-of, first-next, next}
-use Rattle.row_sets.specs.Kept.{setAt, Stored, joined}
-use Rattle.row_sets.specs.Family.{nth}
-use Rattle.row_sets.specs.Rows.{Rows, rows-cong, rows-and}
-use Rattle.grids.specs.declared.Concerned.{Concerned}
-use Rattle.grids.specs.Regions.{HAPPENS, HAPPENS-END, AVAILABLE-AT, AVAILABLE-VISIBLE, AVAILABLE-AVAILABLE, VISIBLE-VISIBLE, REACH-AT, REACH-VISIBLE, REACH-AVAILABLE}
-use Rattle.grids.specs.Grid.{GridOn, grid-on-kept}
-use Rattle.grids.specs.Given.{given-kept, given-few}
-use Rattle.grids.specs.Filling.{member-in}
+use Rattle.model_closing.specs.Tests.{and-assoc}
+use Rattle.model_closing.specs.Order.{laterRow}
+use Rattle.model_closing.specs.Nodes.{releaser, node}
+use Rattle.model_closing.specs.Direct.{takesPart, availableFor, visibleFor}
+use Rattle.model_closing.specs.Sets.{reachedAt, reachedAvailable, reachedVisible, passesLater, nextRelease, ofNext}
+use Rattle.model_closing.specs.Asked.{nextOrOf, releasesFrom, releaseFrom, fromRowsOf, fromAvailableAt, fromAvailable, fromVisible, askedAt, askedAvailableAt, askedAvailableVisible, askedAvailables, askedVisibles}
+use Rattle.model_closing.specs.Asked.{inter-at, inter-available-at, inter-available-visible, inter-availables, inter-visibles}
+use Rattle.sets_of_rows.specs.declared.Set.{Set}
+use Rattle.sets_of_rows.specs.Member.{inSet}
+use Rattle.sets_of_rows.specs.First.{First, first-of, first-next, next}
+use Rattle.sets_of_rows.specs.Kept.{setAt, Stored, joined}
+use Rattle.sets_of_rows.specs.Family.{nth}
+use Rattle.sets_of_rows.specs.Rows.{Rows, rows-cong, rows-and}
+use Rattle.sets_grids.specs.declared.Concerned.{Concerned}
+use Rattle.sets_grids.specs.Regions.{HAPPENS, HAPPENS-END, AVAILABLE-AT, AVAILABLE-VISIBLE, AVAILABLE-AVAILABLE, VISIBLE-VISIBLE, REACH-AT, REACH-VISIBLE, REACH-AVAILABLE}
+use Rattle.sets_grids.specs.Grid.{GridOn, grid-on-kept}
+use Rattle.sets_grids.specs.Given.{given-kept, given-few}
+use Rattle.sets_grids.specs.Filling.{member-in}
 use Rattle.sets_happens.specs.Adds.{Reached}
 use Rattle.sets_happens.specs.Adding.{Adds, adds-join, adds-cong, adds-none, adds-after, adds-before}
 use Rattle.sets_happens.specs.Program.{behind, turned}
@@ -290,19 +290,19 @@ module _ {t : Table} {n c : ℕ} {ends : Set} {k : Concerned} {s w : List ℕ} (
       again : (a b : Bool) → (a and (a and b)) ≡ (a and b)
       again a b = sym (and-assoc a a b) ∙ ap (λ (z : Bool). z and b) (and-same a)
 
-  pub available-at-is : (i j : ℕ) → i < n → (availableFor t c i and availableTo t c i j) ≡ interThread t c (availableAt t i) (itself j)
+  pub available-at-is : (i j : ℕ) → i < n → (availableFor t c i and availableTo t c i j) ≡ interThread t c (availabilityMoment t i) (itself j)
   unfolding availableTo askedAvailableAt fromAvailableAt
   available-at-is i j l = sym (inter-available-at t c (inSet ends) told-of i j (omega (arith, rows-is, l)))
 
-  pub available-visible-is : (i j : ℕ) → i < n → (availableFor t c i and availableVisible t c i j) ≡ interThread t c (availableAt t i) (visibleAt t j)
+  pub available-visible-is : (i j : ℕ) → i < n → (availableFor t c i and availableVisible t c i j) ≡ interThread t c (availabilityMoment t i) (visibilityMoment t j)
   unfolding availableVisible askedAvailableVisible fromAvailable
   available-visible-is i j l = sym (inter-available-visible t c (inSet ends) told-of i j (omega (arith, rows-is, l)))
 
-  pub availables-is : (i j : ℕ) → i < n → (availableFor t c i and availableAvailable t c i j) ≡ interThread t c (availableAt t i) (availableAt t j)
+  pub availables-is : (i j : ℕ) → i < n → (availableFor t c i and availableAvailable t c i j) ≡ interThread t c (availabilityMoment t i) (availabilityMoment t j)
   unfolding availableAvailable askedAvailables fromAvailable
   availables-is i j l = sym (inter-availables t c (inSet ends) told-of i j (omega (arith, rows-is, l)))
 
-  pub visibles-is : (i j : ℕ) → i < n → (visibleFor t c i and visibleVisible t c i j) ≡ interThread t c (visibleAt t i) (visibleAt t j)
+  pub visibles-is : (i j : ℕ) → i < n → (visibleFor t c i and visibleVisible t c i j) ≡ interThread t c (visibilityMoment t i) (visibilityMoment t j)
   unfolding visibleVisible askedVisibles fromVisible
   visibles-is i j l = sym (inter-visibles t c (inSet ends) told-of i j (omega (arith, rows-is, l)))
 

@@ -7,27 +7,27 @@ use native.Mathlib.Omega.{arith}
 use native.Mathlib.Decide.{ℕ-discrete}
 use lib.Dec.{ltb}
 use borrow.Author.Tests.{ltb-true, lt-ltb, leb-true, le-leb}
-use Rattle.finite.specs.Logic.{_and_, _or_, bool-ext, not-both, or-off, and-false-left}
+use Rattle.finite.specs.Logic.{_and_, bool-ext, not-both, or-off, and-false-left}
 use Rattle.finite.specs.Below.{any-not}
 use Rattle.model.specs.Limits.{ROWS, CLASS-SETS}
 use Rattle.model.specs.Row.{plain}
 use Rattle.model.specs.Table.{Table}
 use Rattle.model.specs.Moment.{itself, availability, visibility, sameAgent, programOrder}
-use Rattle.model.specs.Location.{availableAt, visibleAt}
+use Rattle.model.specs.Availability.{availabilityMoment, visibilityMoment}
 use Rattle.bits.specs.Within.{Within, within-refl, within-trans, within-widen}
-use Rattle.closing.specs.Order.{laterRow, fromRow, order-at-at, order-available-at, order-available-visible, order-available-available, order-visible-visible}
-use Rattle.placing.specs.Elements.{avails, shews, available-is, visible-is}
-use Rattle.row_sets.specs.declared.Set.{Set}
-use Rattle.row_sets.specs.Member.{inSet}
-use Rattle.row_sets.specs.Kept.{setAt, Stored}
-use Rattle.row_sets.specs.Family.{nth}
-use Rattle.row_sets.specs.Rows.{Rows, rows-at, rows-cong, rows-and}
-use Rattle.known.specs.Known.{Opened, says-rows}
-use Rattle.known.specs.Sorted.{PLAIN}
-use Rattle.known.specs.Tested.{AVAILABLE, VISIBLE}
-use Rattle.grids.specs.Regions.{HAPPENS, HAPPENS-END, AVAILABLE-AT, AVAILABLE-VISIBLE, AVAILABLE-AVAILABLE, VISIBLE-VISIBLE}
-use Rattle.grids.specs.Grid.{Grid, MadeGrid, grid-kept, grid-cong}
-use Rattle.grids.specs.Happens.{orderBy, doneBy}
+use Rattle.model_closing.specs.Order.{laterRow, fromRow, order-at-at, order-available-at, order-available-visible, order-available-available, order-visible-visible}
+use Rattle.model_placing.specs.Elements.{avails, shews, available-is, visible-is}
+use Rattle.sets_of_rows.specs.declared.Set.{Set}
+use Rattle.sets_of_rows.specs.Member.{inSet}
+use Rattle.sets_of_rows.specs.Kept.{setAt, Stored}
+use Rattle.sets_of_rows.specs.Family.{nth}
+use Rattle.sets_of_rows.specs.Rows.{Rows, rows-at, rows-cong, rows-and}
+use Rattle.sets_of_table.specs.Known.{Opened, says-rows}
+use Rattle.sets_of_table.specs.Sorted.{PLAIN}
+use Rattle.sets_of_table.specs.Tested.{AVAILABLE, VISIBLE}
+use Rattle.sets_grids.specs.Regions.{HAPPENS, HAPPENS-END, AVAILABLE-AT, AVAILABLE-VISIBLE, AVAILABLE-AVAILABLE, VISIBLE-VISIBLE}
+use Rattle.sets_grids.specs.Grid.{Grid, MadeGrid, grid-kept, grid-cong}
+use Rattle.sets_grids.specs.Happens.{orderBy, doneBy}
 use Rattle.sets_happens.specs.Adds.{none, MadeProgram}
 use Rattle.sets_happens.specs.Adding.{Puts, puts-put, puts-cong, puts-after, puts-before}
 
@@ -55,9 +55,9 @@ pub record PutsAvailable (t : Table) (n a : ℕ) (w u : List ℕ) : Type 0 where
 
 -- program order from availability operations, between visibility operations
 pub record MadeAvailables (t : Table) (n : ℕ) (w u : List ℕ) : Type 0 where
-  pub rows : Grid AVAILABLE-AT n (λ a y. programOrder t (availableAt t a) (itself y)) u
-  pub visibles : Grid AVAILABLE-VISIBLE n (λ a v. programOrder t (availableAt t a) (visibleAt t v)) u
-  pub availables : Grid AVAILABLE-AVAILABLE n (λ a b. programOrder t (availableAt t a) (availableAt t b)) u
+  pub rows : Grid AVAILABLE-AT n (λ a y. programOrder t (availabilityMoment t a) (itself y)) u
+  pub visibles : Grid AVAILABLE-VISIBLE n (λ a v. programOrder t (availabilityMoment t a) (visibilityMoment t v)) u
+  pub availables : Grid AVAILABLE-AVAILABLE n (λ a b. programOrder t (availabilityMoment t a) (availabilityMoment t b)) u
   pub frame : Within AVAILABLE-AT VISIBLE-VISIBLE w u
 
 -- the first m rows of program order are put
@@ -137,35 +137,35 @@ module _ (t : Table) {n : ℕ} (rows : t .rows ≡ n) (x y : ℕ) (here : x < n)
   pub rows-order : laterRow t x y ≡ programOrder t (itself x) (itself y)
   rows-order = sym (order-at-at t x y own other)
 
-  pub available-rows-order : (avails (t .row x) and behind t x y) ≡ programOrder t (availableAt t x) (itself y)
+  pub available-rows-order : (avails (t .row x) and behind t x y) ≡ programOrder t (availabilityMoment t x) (itself y)
   unfolding behind
   available-rows-order = turned _ _ ∙ ap (λ (b : Bool). cond (plain (t .row x)) (laterRow t x y) (fromRow t x y) and b) (sym (available-is t x)) ∙ sym (order-available-at t x y own other)
 
-  pub available-visibles-order : (avails (t .row x) and toVisible t x y) ≡ programOrder t (availableAt t x) (visibleAt t y)
+  pub available-visibles-order : (avails (t .row x) and toVisible t x y) ≡ programOrder t (availabilityMoment t x) (visibilityMoment t y)
   unfolding toVisible
   available-visibles-order =
       turned-three (behind t x y) (avails (t .row x)) (shews (t .row y))
       ∙ ap (λ (b : Bool). b and avails (t .row x) and shews (t .row y)) (sym (available-visible t x y))
       ∙ ap (λ (b : Bool). cond (plain (t .row x)) (laterRow t x y) (cond (plain (t .row y)) (laterRow t x y) (fromRow t x y)) and b and shews (t .row y)) (sym (available-is t x))
-      ∙ ap (λ (b : Bool). cond (plain (t .row x)) (laterRow t x y) (cond (plain (t .row y)) (laterRow t x y) (fromRow t x y)) and availability t (availableAt t x) and b) (sym (visible-is t y))
+      ∙ ap (λ (b : Bool). cond (plain (t .row x)) (laterRow t x y) (cond (plain (t .row y)) (laterRow t x y) (fromRow t x y)) and availability t (availabilityMoment t x) and b) (sym (visible-is t y))
       ∙ sym (order-available-visible t x y own other)
 
-  pub availables-order : (avails (t .row x) and toAvailable t x y) ≡ programOrder t (availableAt t x) (availableAt t y)
+  pub availables-order : (avails (t .row x) and toAvailable t x y) ≡ programOrder t (availabilityMoment t x) (availabilityMoment t y)
   unfolding toAvailable
   availables-order =
       turned-three (laterRow t x y) (avails (t .row x)) (avails (t .row y))
       ∙ ap (λ (b : Bool). b and avails (t .row x) and avails (t .row y)) (sym (available-available t x y))
       ∙ ap (λ (b : Bool). cond (plain (t .row x)) (laterRow t x y) (cond (plain (t .row y)) (fromRow t x y) (laterRow t x y)) and b and avails (t .row y)) (sym (available-is t x))
-      ∙ ap (λ (b : Bool). cond (plain (t .row x)) (laterRow t x y) (cond (plain (t .row y)) (fromRow t x y) (laterRow t x y)) and availability t (availableAt t x) and b) (sym (available-is t y))
+      ∙ ap (λ (b : Bool). cond (plain (t .row x)) (laterRow t x y) (cond (plain (t .row y)) (fromRow t x y) (laterRow t x y)) and availability t (availabilityMoment t x) and b) (sym (available-is t y))
       ∙ sym (order-available-available t x y own other)
 
-  pub visibles-order : (shews (t .row x) and visibleTo t x y) ≡ programOrder t (visibleAt t x) (visibleAt t y)
+  pub visibles-order : (shews (t .row x) and visibleTo t x y) ≡ programOrder t (visibilityMoment t x) (visibilityMoment t y)
   unfolding visibleTo
   visibles-order =
       turned-three (laterRow t x y) (shews (t .row x)) (shews (t .row y))
       ∙ ap (λ (b : Bool). b and shews (t .row x) and shews (t .row y)) (sym (visible-visible t x y))
       ∙ ap (λ (b : Bool). cond (plain (t .row x)) (cond (plain (t .row y)) (laterRow t x y) (fromRow t x y)) (laterRow t x y) and b and shews (t .row y)) (sym (visible-is t x))
-      ∙ ap (λ (b : Bool). cond (plain (t .row x)) (cond (plain (t .row y)) (laterRow t x y) (fromRow t x y)) (laterRow t x y) and visibility t (visibleAt t x) and b) (sym (visible-is t y))
+      ∙ ap (λ (b : Bool). cond (plain (t .row x)) (cond (plain (t .row y)) (laterRow t x y) (fromRow t x y)) (laterRow t x y) and visibility t (visibilityMoment t x) and b) (sym (visible-is t y))
       ∙ sym (order-visible-visible t x y own other)
 
 -- ---- laws: the sets of availability and visibility operations
@@ -239,7 +239,7 @@ order-none t m k = sym (or-off _ _ (any-not (doneBy t none m k) CLASS-SETS (λ c
 
 pub program-made : {t : Table} {n : ℕ} {w u v z y : List ℕ} → t .rows ≡ n → n ≤ ROWS → Within HAPPENS HAPPENS-END w u
     → MadeGrid HAPPENS AVAILABLE-AT HAPPENS n (laterRow t) u v → MadeAvailables t n v z
-    → MadeGrid VISIBLE-VISIBLE HAPPENS-END VISIBLE-VISIBLE n (λ v u. programOrder t (visibleAt t v) (visibleAt t u)) z y → MadeProgram t n w y
+    → MadeGrid VISIBLE-VISIBLE HAPPENS-END VISIBLE-VISIBLE n (λ v u. programOrder t (visibilityMoment t v) (visibilityMoment t u)) z y → MadeProgram t n w y
 program-made {t} {n} rows few c a b d =
     record {
       order = record {

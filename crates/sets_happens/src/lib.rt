@@ -5,24 +5,24 @@ ghost use Prim.Native.Nat.{ℕ, _≤_, _<_};
 ghost use lib.ListN.{length};
 ghost use Rattle.model.specs.Limits.{ROWS, WORK};
 ghost use Rattle.model.specs.Moment.{programOrder};
-ghost use Rattle.model.specs.Location.{visibleAt};
+ghost use Rattle.model.specs.Availability.{visibilityMoment};
 ghost use Rattle.run.specs.Layout.{tableIn};
-ghost use Rattle.closing.specs.Order.{laterRow};
-ghost use Rattle.row_sets.specs.declared.Set.{Set};
-ghost use Rattle.row_sets.specs.Member.{inSet};
-ghost use Rattle.row_sets.specs.Rows.{Rows};
-ghost use Rattle.known.specs.Known.{Opened};
-ghost use Rattle.grids.specs.Regions.{HAPPENS, HAPPENS-END, AVAILABLE-AT, AVAILABLE-VISIBLE, AVAILABLE-AVAILABLE, VISIBLE-VISIBLE, REACH-AT};
-ghost use Rattle.grids.specs.Grid.{MadeGrid};
-ghost use Rattle.grids.specs.Given.{Given};
+ghost use Rattle.model_closing.specs.Order.{laterRow};
+ghost use Rattle.sets_of_rows.specs.declared.Set.{Set};
+ghost use Rattle.sets_of_rows.specs.Member.{inSet};
+ghost use Rattle.sets_of_rows.specs.Rows.{Rows};
+ghost use Rattle.sets_of_table.specs.Known.{Opened};
+ghost use Rattle.sets_grids.specs.Regions.{HAPPENS, HAPPENS-END, AVAILABLE-AT, AVAILABLE-VISIBLE, AVAILABLE-AVAILABLE, VISIBLE-VISIBLE, REACH-AT};
+ghost use Rattle.sets_grids.specs.Grid.{MadeGrid};
+ghost use Rattle.sets_grids.specs.Given.{Given};
 ghost use Rattle.sets_happens.specs.Adds.{Reached, MadeProgram, AddsAt, AddsAvailable, AddsVisible};
 ghost use Rattle.sets_happens.specs.Adding.{Empty};
 ghost use Rattle.sets_happens.specs.Program.{behind, PutsAvailable, MadeAvailables};
 ghost use Rattle.sets_happens.specs.Behind.{byFirst, fromAt, JoinsAvailable, JoinsVisible};
-use grids::Concerned;
-use row_sets::Set;
-use row_sets::kept;
 use run::Run;
+use sets_grids::Concerned;
+use sets_of_rows::Set;
+use sets_of_rows::kept;
 
 // ---- program order
 
@@ -31,10 +31,10 @@ fn after_available(t: &Run, n: usize, s: &[u64], a: usize) -> Set
     requires { ⌜ (a < n) × Opened (tableIn (now t) n) n (now s) ⌝ }
     ensures { λ x. ⌜ Rows n (behind (tableIn (now (t .entry)) n) a) x ⌝ }
 {
-    if row_sets::has(known::rows(s, known::PLAIN), a) {
-        return known::ask::after(t, n, s, a);
+    if sets_of_rows::has(sets_of_table::rows(s, sets_of_table::PLAIN), a) {
+        return sets_of_table::ask::after(t, n, s, a);
     }
-    known::ask::onward(t, n, s, a)
+    sets_of_table::ask::onward(t, n, s, a)
 }
 
 // Program order from the availability operation of row a.
@@ -42,13 +42,13 @@ fn put_available(t: &Run, n: usize, s: &[u64], a: usize, w: &mut [u64])
     requires { ⌜ (a < n) × Given (tableIn (now t) n) n (now s) (now w) ⌝ }
     ensures { λ _. ⌜ PutsAvailable (tableIn (now (t .entry)) n) n a (now (w .entry)) (now (w .exit)) ⌝ }
 {
-    let after = known::ask::after(t, n, s, a);
+    let after = sets_of_table::ask::after(t, n, s, a);
     let from = after_available(t, n, s, a);
-    kept::put(w, grids::AVAILABLE_AT, a, from);
-    let visible = row_sets::and(from, known::rows(s, known::VISIBLE));
-    kept::put(w, grids::AVAILABLE_VISIBLE, a, visible);
-    let available = row_sets::and(after, known::rows(s, known::AVAILABLE));
-    kept::put(w, grids::AVAILABLE_AVAILABLE, a, available);
+    kept::put(w, sets_grids::AVAILABLE_AT, a, from);
+    let visible = sets_of_rows::and(from, sets_of_table::rows(s, sets_of_table::VISIBLE));
+    kept::put(w, sets_grids::AVAILABLE_VISIBLE, a, visible);
+    let available = sets_of_rows::and(after, sets_of_table::rows(s, sets_of_table::AVAILABLE));
+    kept::put(w, sets_grids::AVAILABLE_AVAILABLE, a, available);
 }
 
 // Program order of every row.
@@ -57,8 +57,8 @@ fn put_rows(t: &Run, n: usize, s: &[u64], w: &mut [u64])
     ensures { λ _. ⌜ MadeGrid HAPPENS AVAILABLE-AT HAPPENS n (laterRow (tableIn (now (t .entry)) n)) (now (w .entry)) (now (w .exit)) ⌝ }
 {
     for i in 0..n {
-        let after = known::ask::after(t, n, s, i);
-        kept::put(w, grids::HAPPENS, i, after);
+        let after = sets_of_table::ask::after(t, n, s, i);
+        kept::put(w, sets_grids::HAPPENS, i, after);
     }
 }
 
@@ -67,10 +67,10 @@ fn put_availables(t: &Run, n: usize, s: &[u64], w: &mut [u64])
     requires { ⌜ Given (tableIn (now t) n) n (now s) (now w) × Empty AVAILABLE-AT (now w) × Empty AVAILABLE-VISIBLE (now w) × Empty AVAILABLE-AVAILABLE (now w) ⌝ }
     ensures { λ _. ⌜ MadeAvailables (tableIn (now (t .entry)) n) n (now (w .entry)) (now (w .exit)) ⌝ }
 {
-    let mut left = known::rows(s, known::AVAILABLE);
-    while row_sets::some(left) {
-        let a = row_sets::first(left);
-        left = row_sets::but_first(left);
+    let mut left = sets_of_table::rows(s, sets_of_table::AVAILABLE);
+    while sets_of_rows::some(left) {
+        let a = sets_of_rows::first(left);
+        left = sets_of_rows::but_first(left);
         put_available(t, n, s, a, w);
     }
 }
@@ -79,15 +79,15 @@ fn put_availables(t: &Run, n: usize, s: &[u64], w: &mut [u64])
 fn put_visibles(t: &Run, n: usize, s: &[u64], w: &mut [u64])
     requires { ⌜ Given (tableIn (now t) n) n (now s) (now w) × Empty VISIBLE-VISIBLE (now w) ⌝ }
     ensures { λ _. let t = tableIn (now (t .entry)) n in
-        ⌜ MadeGrid VISIBLE-VISIBLE HAPPENS-END VISIBLE-VISIBLE n (λ v u. programOrder t (visibleAt t v) (visibleAt t u)) (now (w .entry)) (now (w .exit)) ⌝ }
+        ⌜ MadeGrid VISIBLE-VISIBLE HAPPENS-END VISIBLE-VISIBLE n (λ v u. programOrder t (visibilityMoment t v) (visibilityMoment t u)) (now (w .entry)) (now (w .exit)) ⌝ }
 {
-    let visible = known::rows(s, known::VISIBLE);
+    let visible = sets_of_table::rows(s, sets_of_table::VISIBLE);
     let mut left = visible;
-    while row_sets::some(left) {
-        let v = row_sets::first(left);
-        left = row_sets::but_first(left);
-        let after = row_sets::and(known::ask::after(t, n, s, v), visible);
-        kept::put(w, grids::VISIBLE_VISIBLE, v, after);
+    while sets_of_rows::some(left) {
+        let v = sets_of_rows::first(left);
+        left = sets_of_rows::but_first(left);
+        let after = sets_of_rows::and(sets_of_table::ask::after(t, n, s, v), visible);
+        kept::put(w, sets_grids::VISIBLE_VISIBLE, v, after);
     }
 }
 
@@ -96,7 +96,7 @@ pub fn put_program_order(t: &Run, n: usize, s: &[u64], w: &mut [u64])
     requires { ⌜ Given (tableIn (now t) n) n (now s) (now w) ⌝ }
     ensures { λ _. ⌜ MadeProgram (tableIn (now (t .entry)) n) n (now (w .entry)) (now (w .exit)) ⌝ }
 {
-    bits::clear(w, grids::HAPPENS, grids::HAPPENS_END);
+    bits::clear(w, sets_grids::HAPPENS, sets_grids::HAPPENS_END);
     put_rows(t, n, s, w);
     put_availables(t, n, s, w);
     put_visibles(t, n, s, w);
@@ -109,11 +109,11 @@ fn by_release(r: Set, w: &[u64]) -> Set
     requires { ⌜ WORK ≤ length (now w) ⌝ }
     ensures { λ x. ⌜ ((j : ℕ) → inSet x j ≡ byFirst REACH-AT r (now (w .entry)) j) ⌝ }
 {
-    if !row_sets::some(r) {
-        return row_sets::none();
+    if !sets_of_rows::some(r) {
+        return sets_of_rows::none();
     }
-    let j = row_sets::first(r);
-    row_sets::or(row_sets::bit(j), kept::get(w, grids::REACH_AT, j))
+    let j = sets_of_rows::first(r);
+    sets_of_rows::or(sets_of_rows::bit(j), kept::get(w, sets_grids::REACH_AT, j))
 }
 
 // What row i leads to: a node's own; of any other row that is concerned, by way of the first release row after it.
@@ -122,10 +122,13 @@ fn from_row(t: &Run, n: usize, s: &[u64], k: Concerned, i: usize, w: &[u64]) -> 
     ensures { λ x. let t = tableIn (now (t .entry)) n in
         ⌜ ((c : ℕ) (ends : Set) → Reached t n c ends k (now (s .entry)) (now (w .entry)) → Rows n (fromAt t ends c i) x) ⌝ }
 {
-    if row_sets::has(k.nodes, i) {
-        return kept::get(w, grids::REACH_AT, i);
+    if sets_of_rows::has(k.nodes, i) {
+        return kept::get(w, sets_grids::REACH_AT, i);
     }
-    by_release(row_sets::and(known::ask::after(t, n, s, i), k.releases), w)
+    by_release(
+        sets_of_rows::and(sets_of_table::ask::after(t, n, s, i), k.releases),
+        w,
+    )
 }
 
 // From rows.
@@ -133,12 +136,12 @@ pub fn add_at(t: &Run, n: usize, s: &[u64], c: usize, ends: Set, k: Concerned, w
     requires { ⌜ Reached (tableIn (now t) n) n c ends k (now s) (now w) ⌝ }
     ensures { λ _. ⌜ AddsAt (tableIn (now (t .entry)) n) n c (now (w .entry)) (now (w .exit)) ⌝ }
 {
-    let mut left = row_sets::or(k.at, k.nodes);
-    while row_sets::some(left) {
-        let i = row_sets::first(left);
-        left = row_sets::but_first(left);
+    let mut left = sets_of_rows::or(k.at, k.nodes);
+    while sets_of_rows::some(left) {
+        let i = sets_of_rows::first(left);
+        left = sets_of_rows::but_first(left);
         let to = from_row(t, n, s, k, i, w);
-        kept::join(w, grids::HAPPENS, i, to);
+        kept::join(w, sets_grids::HAPPENS, i, to);
     }
 }
 
@@ -147,16 +150,16 @@ fn join_available(a: usize, r: Set, w: &mut [u64])
     requires { ⌜ (a < ROWS) × (WORK ≤ length (now w)) ⌝ }
     ensures { λ _. ⌜ JoinsAvailable a r (now (w .entry)) (now (w .exit)) ⌝ }
 {
-    if !row_sets::some(r) {
+    if !sets_of_rows::some(r) {
         return;
     }
-    let j = row_sets::first(r);
+    let j = sets_of_rows::first(r);
     let to = by_release(r, w);
-    let visible = kept::get(w, grids::REACH_VISIBLE, j);
-    let available = kept::get(w, grids::REACH_AVAILABLE, j);
-    kept::join(w, grids::AVAILABLE_AT, a, to);
-    kept::join(w, grids::AVAILABLE_VISIBLE, a, visible);
-    kept::join(w, grids::AVAILABLE_AVAILABLE, a, available);
+    let visible = kept::get(w, sets_grids::REACH_VISIBLE, j);
+    let available = kept::get(w, sets_grids::REACH_AVAILABLE, j);
+    kept::join(w, sets_grids::AVAILABLE_AT, a, to);
+    kept::join(w, sets_grids::AVAILABLE_VISIBLE, a, visible);
+    kept::join(w, sets_grids::AVAILABLE_AVAILABLE, a, available);
 }
 
 // From availability operations, by way of the first release row behind them, which may be their own.
@@ -165,10 +168,10 @@ pub fn add_available(t: &Run, n: usize, s: &[u64], c: usize, ends: Set, k: Conce
     ensures { λ _. ⌜ AddsAvailable (tableIn (now (t .entry)) n) n c (now (w .entry)) (now (w .exit)) ⌝ }
 {
     let mut left = k.available;
-    while row_sets::some(left) {
-        let a = row_sets::first(left);
-        left = row_sets::but_first(left);
-        let r = row_sets::and(after_available(t, n, s, a), k.releases);
+    while sets_of_rows::some(left) {
+        let a = sets_of_rows::first(left);
+        left = sets_of_rows::but_first(left);
+        let r = sets_of_rows::and(after_available(t, n, s, a), k.releases);
         join_available(a, r, w);
     }
 }
@@ -178,11 +181,11 @@ fn join_visible(v: usize, r: Set, w: &mut [u64])
     requires { ⌜ (v < ROWS) × (WORK ≤ length (now w)) ⌝ }
     ensures { λ _. ⌜ JoinsVisible v r (now (w .entry)) (now (w .exit)) ⌝ }
 {
-    if !row_sets::some(r) {
+    if !sets_of_rows::some(r) {
         return;
     }
-    let visible = kept::get(w, grids::REACH_VISIBLE, row_sets::first(r));
-    kept::join(w, grids::VISIBLE_VISIBLE, v, visible);
+    let visible = kept::get(w, sets_grids::REACH_VISIBLE, sets_of_rows::first(r));
+    kept::join(w, sets_grids::VISIBLE_VISIBLE, v, visible);
 }
 
 // From visibility operations, by way of the first release row after them.
@@ -191,10 +194,10 @@ pub fn add_visible(t: &Run, n: usize, s: &[u64], c: usize, ends: Set, k: Concern
     ensures { λ _. ⌜ AddsVisible (tableIn (now (t .entry)) n) n c (now (w .entry)) (now (w .exit)) ⌝ }
 {
     let mut left = k.visible;
-    while row_sets::some(left) {
-        let v = row_sets::first(left);
-        left = row_sets::but_first(left);
-        let r = row_sets::and(known::ask::after(t, n, s, v), k.releases);
+    while sets_of_rows::some(left) {
+        let v = sets_of_rows::first(left);
+        left = sets_of_rows::but_first(left);
+        let r = sets_of_rows::and(sets_of_table::ask::after(t, n, s, v), k.releases);
         join_visible(v, r, w);
     }
 }

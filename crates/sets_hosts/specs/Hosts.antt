@@ -19,26 +19,26 @@ use Rattle.model.specs.Location.{thence, onHost, availableKind, visibleKind, do
 use Rattle.model.specs.Table.{Table}
 use Rattle.bits.specs.Bit.{zeros}
 use Rattle.bits.specs.Within.{Within, within-cleared, within-refl, within-trans, within-widen}
-use Rattle.row_sets.specs.declared.Set.{Set}
-use Rattle.row_sets.specs.Member.{inSet}
-use Rattle.row_sets.specs.First.{First, first-next, Rest, next}
-use Rattle.row_sets.specs.Kept.{setAt, set-kept, Stored}
-use Rattle.row_sets.specs.Family.{nth}
-use Rattle.row_sets.specs.Rows.{Rows, rows-at, rows-in, rows-cong, rows-and, rows-or, rows-less, rows-cut}
-use Rattle.row_sets.specs.Walk.{Walk, walk-begin, walk-turn, walk-end}
-use Rattle.row_sets.specs.Tasks
-use Rattle.known.specs.Says.{says-kind}
-use Rattle.known.specs.Tested.{READS, WRITES}
-use Rattle.known.specs.Hears.{ON-HOST}
-use Rattle.known.specs.Known.{Opened, says-rows}
-use Rattle.known.specs.Ask.{few}
-use Rattle.grids.specs.Regions.{HAPPENS, SYSTEM, MET, MET-END, HOSTED, HOSTED-END}
-use Rattle.grids.specs.Grid.{Grid, GridOn, MadeGrid, grid-at, grid-on, grid-kept, grid-on-kept}
-use Rattle.grids.specs.Given.{Given, given-kept}
-use Rattle.grids.specs.Filling.{member-in}
-use Rattle.grids.specs.Union.{ledBy, union-rows}
-use Rattle.grids.specs.Happens.{happensRows}
-use Rattle.grids.specs.Hosted.{hostedBy}
+use Rattle.sets_of_rows.specs.declared.Set.{Set}
+use Rattle.sets_of_rows.specs.Member.{inSet}
+use Rattle.sets_of_rows.specs.First.{First, first-next, Rest, next}
+use Rattle.sets_of_rows.specs.Kept.{setAt, set-kept, Stored}
+use Rattle.sets_of_rows.specs.Family.{nth}
+use Rattle.sets_of_rows.specs.Rows.{Rows, rows-at, rows-in, rows-cong, rows-and, rows-or, rows-less, rows-cut}
+use Rattle.sets_of_rows.specs.Walk.{Walk, walk-begin, walk-turn, walk-end}
+use Rattle.sets_of_rows.specs.Tasks
+use Rattle.sets_of_table.specs.Says.{says-kind}
+use Rattle.sets_of_table.specs.Tested.{READS, WRITES}
+use Rattle.sets_of_table.specs.Hears.{ON-HOST}
+use Rattle.sets_of_table.specs.Known.{Opened, says-rows}
+use Rattle.sets_of_table.specs.Ask.{few}
+use Rattle.sets_grids.specs.Regions.{HAPPENS, SYSTEM, MET, MET-END, HOSTED, HOSTED-END}
+use Rattle.sets_grids.specs.Grid.{Grid, GridOn, MadeGrid, grid-at, grid-on, grid-kept, grid-on-kept}
+use Rattle.sets_grids.specs.Given.{Given, given-kept}
+use Rattle.sets_grids.specs.Filling.{member-in}
+use Rattle.sets_grids.specs.Union.{ledBy, union-rows}
+use Rattle.sets_grids.specs.Happens.{happensRows}
+use Rattle.sets_grids.specs.Hosted.{hostedBy}
 
 -- ---- definitions
 

@@ -10,21 +10,21 @@ ghost use Rattle.model.specs.Row.{access};
 ghost use Rattle.model.specs.Location.{systemBefore};
 ghost use Rattle.model.specs.Table.{Table};
 ghost use Rattle.run.specs.Layout.{tableIn};
-ghost use Rattle.row_sets.specs.Member.{inSet};
-ghost use Rattle.row_sets.specs.Kept.{setAt};
-ghost use Rattle.row_sets.specs.Rows.{Rows};
-ghost use Rattle.known.specs.Hears.{ON-HOST};
-ghost use Rattle.known.specs.Known.{WORDS};
-ghost use Rattle.grids.specs.Regions.{HAPPENS, SYSTEM, MET-END, HOSTED};
-ghost use Rattle.grids.specs.Grid.{Grid, MadeGrid};
-ghost use Rattle.grids.specs.Given.{Given};
-ghost use Rattle.grids.specs.Happens.{happensRows};
-ghost use Rattle.grids.specs.Hosted.{hostedBy};
+ghost use Rattle.sets_of_rows.specs.Member.{inSet};
+ghost use Rattle.sets_of_rows.specs.Kept.{setAt};
+ghost use Rattle.sets_of_rows.specs.Rows.{Rows};
+ghost use Rattle.sets_of_table.specs.Hears.{ON-HOST};
+ghost use Rattle.sets_of_table.specs.Known.{WORDS};
+ghost use Rattle.sets_grids.specs.Regions.{HAPPENS, SYSTEM, MET-END, HOSTED};
+ghost use Rattle.sets_grids.specs.Grid.{Grid, MadeGrid};
+ghost use Rattle.sets_grids.specs.Given.{Given};
+ghost use Rattle.sets_grids.specs.Happens.{happensRows};
+ghost use Rattle.sets_grids.specs.Hosted.{hostedBy};
 ghost use Rattle.sets_hosts.specs.Hosts.{Lent, Hosting, MadeMet, metIn, beyond, reached};
-use row_sets::Set;
-use row_sets::kept;
-use rows::kinds;
+use door_rows::kinds;
 use run::Run;
+use sets_of_rows::Set;
+use sets_of_rows::kept;
 
 // The operations of kind a, which is that of the host's domain, or b, that of the device's: `host` says which.
 fn of_kind(s: &[u64], host: bool, a: usize, b: usize) -> Set
@@ -32,9 +32,9 @@ fn of_kind(s: &[u64], host: bool, a: usize, b: usize) -> Set
     ensures { λ x. ⌜ x ≡ setAt (now (s .entry)) (0 + 2 * cond host a b) ⌝ }
 {
     if host {
-        return kept::get(s, known::BY_KIND, a);
+        return kept::get(s, sets_of_table::BY_KIND, a);
     }
-    kept::get(s, known::BY_KIND, b)
+    kept::get(s, sets_of_table::BY_KIND, b)
 }
 
 // Of these rows those of agents of a domain.
@@ -42,11 +42,11 @@ fn in_domain(s: &[u64], host: bool, x: Set) -> Set
     requires { ⌜ WORDS ≤ length (now s) ⌝ }
     ensures { λ z. ⌜ ((j : ℕ) → inSet z j ≡ (inSet x j and Bool·beq host (inSet (setAt (now (s .entry)) ON-HOST) j))) ⌝ }
 {
-    let hosts = known::rows(s, known::ON_HOST);
+    let hosts = sets_of_table::rows(s, sets_of_table::ON_HOST);
     if host {
-        return row_sets::and(x, hosts);
+        return sets_of_rows::and(x, hosts);
     }
-    row_sets::less(x, hosts)
+    sets_of_rows::less(x, hosts)
 }
 
 // The rows that meet what the operation m leaves in a domain: a reader by way of a visibility operation of it, any other at once.
@@ -54,16 +54,19 @@ fn met_in(s: &[u64], host: bool, m: usize, w: &[u64]) -> Set
     requires { ⌜ (m < ROWS) × (WORDS ≤ length (now s)) × (WORK ≤ length (now w)) ⌝ }
     ensures { λ x. ⌜ ((t : Table) (n : ℕ) → Lent t n (now (s .entry)) (now (w .entry)) → m < n → Rows n (metIn t host m) x) ⌝ }
 {
-    let reads = known::rows(s, known::READS);
-    let to = kept::get(w, grids::HAPPENS, m);
+    let reads = sets_of_table::rows(s, sets_of_table::READS);
+    let to = kept::get(w, sets_grids::HAPPENS, m);
     let sight = of_kind(
         s,
         host,
         kinds::VISIBLE_HOST as usize,
         kinds::VISIBLE_DEVICE as usize,
     );
-    let seen = row_sets::walk::union(w, grids::HAPPENS, row_sets::and(to, sight));
-    let met = row_sets::or(row_sets::less(to, reads), row_sets::and(seen, reads));
+    let seen = sets_of_rows::walk::union(w, sets_grids::HAPPENS, sets_of_rows::and(to, sight));
+    let met = sets_of_rows::or(
+        sets_of_rows::less(to, reads),
+        sets_of_rows::and(seen, reads),
+    );
     in_domain(s, host, met)
 }
 
@@ -78,12 +81,12 @@ fn met_beyond(s: &[u64], host: bool, a: usize, w: &[u64]) -> Set
         kinds::HOST_TO_DEVICE as usize,
         kinds::DEVICE_TO_HOST as usize,
     );
-    let mut met = row_sets::none();
-    let mut left = row_sets::and(kept::get(w, grids::HAPPENS, a), carrying);
-    while row_sets::some(left) {
-        let d = row_sets::first(left);
-        left = row_sets::but_first(left);
-        met = row_sets::or(met, met_in(s, !host, d, w));
+    let mut met = sets_of_rows::none();
+    let mut left = sets_of_rows::and(kept::get(w, sets_grids::HAPPENS, a), carrying);
+    while sets_of_rows::some(left) {
+        let d = sets_of_rows::first(left);
+        left = sets_of_rows::but_first(left);
+        met = sets_of_rows::or(met, met_in(s, !host, d, w));
     }
     met
 }
@@ -93,15 +96,15 @@ fn fill_met(s: &[u64], w: &mut [u64])
     requires { ⌜ (WORDS ≤ length (now s)) × (WORK ≤ length (now w)) ⌝ }
     ensures { λ _. ⌜ MadeMet (now (s .entry)) (now (w .entry)) (now (w .exit)) ⌝ }
 {
-    let hosts = kept::get(s, known::BY_KIND, kinds::AVAILABLE_HOST as usize);
-    let devices = kept::get(s, known::BY_KIND, kinds::AVAILABLE_DEVICE as usize);
-    let mut left = row_sets::or(hosts, devices);
-    while row_sets::some(left) {
-        let a = row_sets::first(left);
-        left = row_sets::but_first(left);
-        let host = row_sets::has(hosts, a);
-        let met = row_sets::or(met_in(s, host, a, w), met_beyond(s, host, a, w));
-        kept::put(w, grids::MET, a, met);
+    let hosts = kept::get(s, sets_of_table::BY_KIND, kinds::AVAILABLE_HOST as usize);
+    let devices = kept::get(s, sets_of_table::BY_KIND, kinds::AVAILABLE_DEVICE as usize);
+    let mut left = sets_of_rows::or(hosts, devices);
+    while sets_of_rows::some(left) {
+        let a = sets_of_rows::first(left);
+        left = sets_of_rows::but_first(left);
+        let host = sets_of_rows::has(hosts, a);
+        let met = sets_of_rows::or(met_in(s, host, a, w), met_beyond(s, host, a, w));
+        kept::put(w, sets_grids::MET, a, met);
     }
 }
 
@@ -110,15 +113,15 @@ fn by_domains(s: &[u64], x: usize, w: &[u64]) -> Set
     requires { ⌜ (x < ROWS) × (WORDS ≤ length (now s)) × (WORK ≤ length (now w)) ⌝ }
     ensures { λ z. ⌜ ((t : Table) (n : ℕ) → Hosting t n (now (s .entry)) (now (w .entry)) → x < n → Rows n (reached t x) z) ⌝ }
 {
-    let host = row_sets::has(known::rows(s, known::ON_HOST), x);
+    let host = sets_of_rows::has(sets_of_table::rows(s, sets_of_table::ON_HOST), x);
     let makers = of_kind(
         s,
         host,
         kinds::AVAILABLE_HOST as usize,
         kinds::AVAILABLE_DEVICE as usize,
     );
-    let by = row_sets::and(kept::get(w, grids::HAPPENS, x), makers);
-    row_sets::walk::union(w, grids::MET, by)
+    let by = sets_of_rows::and(kept::get(w, sets_grids::HAPPENS, x), makers);
+    sets_of_rows::walk::union(w, sets_grids::MET, by)
 }
 
 // Of the access x: L4 if it doesn't write, L5 if it writes.
@@ -126,10 +129,10 @@ fn hosted_row(s: &[u64], x: usize, w: &[u64]) -> Set
     requires { ⌜ (x < ROWS) × (WORDS ≤ length (now s)) × (WORK ≤ length (now w)) ⌝ }
     ensures { λ z. ⌜ ((t : Table) (n : ℕ) → Hosting t n (now (s .entry)) (now (w .entry)) → x < n → access (t .row x) ≡ true → Rows n (hostedBy t x) z) ⌝ }
 {
-    if row_sets::has(known::rows(s, known::WRITES), x) {
+    if sets_of_rows::has(sets_of_table::rows(s, sets_of_table::WRITES), x) {
         return by_domains(s, x, w);
     }
-    kept::get(w, grids::SYSTEM, x)
+    kept::get(w, sets_grids::SYSTEM, x)
 }
 
 // HOSTED: L4 of accesses that don't write, L5 of those that write.
@@ -139,12 +142,12 @@ pub fn fill_hosted(t: &Run, n: usize, s: &[u64], w: &mut [u64])
     ensures { λ _. ⌜ MadeGrid HOSTED MET-END HOSTED n (hostedBy (tableIn (now (t .entry)) n)) (now (w .entry)) (now (w .exit)) ⌝ }
 {
     fill_met(s, w);
-    bits::clear(w, grids::HOSTED, grids::HOSTED_END);
-    let mut left = known::rows(s, known::ACCESS);
-    while row_sets::some(left) {
-        let x = row_sets::first(left);
-        left = row_sets::but_first(left);
+    bits::clear(w, sets_grids::HOSTED, sets_grids::HOSTED_END);
+    let mut left = sets_of_table::rows(s, sets_of_table::ACCESS);
+    while sets_of_rows::some(left) {
+        let x = sets_of_rows::first(left);
+        left = sets_of_rows::but_first(left);
         let to = hosted_row(s, x, w);
-        kept::put(w, grids::HOSTED, x, to);
+        kept::put(w, sets_grids::HOSTED, x, to);
     }
 }

@@ -8,23 +8,23 @@ use Rattle.finite.specs.Logic.{_and_, _or_}
 use Rattle.finite.specs.Below.{anyBelow}
 use Rattle.model.specs.Limits.{ROWS, LONGEST, AGENTS}
 use Rattle.model.specs.Row.{access, plain, writes, nonPrivate, overlap}
-use Rattle.model.specs.Location.{sameReference}
+use Rattle.model.specs.Availability.{sameReference}
 use Rattle.model.specs.Race.{nth}
 use Rattle.model.specs.Table.{Table}
 use Rattle.bits.specs.Bit.{bitOf, bit}
-use Rattle.area.specs.State.{overlaps}
+use Rattle.work_area.specs.State.{overlaps}
 use lib.Dec.{eqb}
 use Rattle.bits.specs.Within.{Within}
-use Rattle.area.specs.Regions.{LOCATION, LOCATION-END, PAIRS, PAIR}
-use Rattle.placing.specs.Leads.{meets}
-use Rattle.placing.specs.Elements.{kept}
-use Rattle.placing.specs.Whole.{partBy}
-use Rattle.row_sets.specs.declared.Set.{Set}
-use Rattle.row_sets.specs.Member.{inSet}
-use Rattle.row_sets.specs.Family
-use Rattle.row_sets.specs.Rows.{Rows}
-use Rattle.grids.specs.Regions.{SOME}
-use Rattle.grids.specs.Available.{makes, shownTo}
+use Rattle.work_area.specs.Regions.{LOCATION, LOCATION-END, PAIRS, PAIR}
+use Rattle.model_placing.specs.Leads.{meets}
+use Rattle.model_placing.specs.Elements.{kept}
+use Rattle.model_placing.specs.Whole.{partBy}
+use Rattle.sets_of_rows.specs.declared.Set.{Set}
+use Rattle.sets_of_rows.specs.Member.{inSet}
+use Rattle.sets_of_rows.specs.Family
+use Rattle.sets_of_rows.specs.Rows.{Rows}
+use Rattle.sets_grids.specs.Regions.{SOME}
+use Rattle.sets_grids.specs.Available.{makes, shownTo}
 use Rattle.sets_bytes.specs.Masks.{sharedBit}
 use Rattle.sets_location.specs.Told.{ToldTo}
 

@@ -16,28 +16,28 @@ use Rattle.model.specs.Row.{access, reads, touches}
 use Rattle.model.specs.Table.{Table}
 use Rattle.model.specs.Moment.{sameAgent}
 use Rattle.model.specs.Race.{nth}
-use Rattle.laws.specs.PairLaws.{eqb-swap}
+use Rattle.model_laws.specs.PairLaws.{eqb-swap}
 use Rattle.bits.specs.Bit.{bitOf, bitOf-or}
-use Rattle.sets.specs.Lowest.{bitOf-and}
-use Rattle.placing.specs.Leads.{meets, cond-on, cond-off}
-use Rattle.placing.specs.Elements.{upTo, visWide, visPlain, seen, seenFrom}
-use Rattle.placing.specs.Whole.{narrow, strongTo, wideSeen, partSeen, metBy, narrowTo, partBy}
-use Rattle.placing.specs.Writer.{wideIn, wideAfter, plainPart, wide-after, part-rows}
-use Rattle.row_sets.specs.declared.Set.{Set}
-use Rattle.row_sets.specs.Member.{inSet}
-use Rattle.row_sets.specs.First.{First, first-next, Rest, next}
-use Rattle.row_sets.specs.Kept.{setAt}
-use Rattle.row_sets.specs.Family
-use Rattle.row_sets.specs.Rows.{Rows, rows-at, rows-and, rows-cut, rows-cong, rows-in}
-use Rattle.row_sets.specs.Walk.{Walk, walk-begin, walk-turn, walk-end, walk-in}
-use Rattle.known.specs.Ask.{few}
-use Rattle.known.specs.Tested.{READS}
-use Rattle.known.specs.Known.{Opened, says-rows}
+use Rattle.work_sets.specs.Lowest.{bitOf-and}
+use Rattle.model_placing.specs.Leads.{meets, cond-on, cond-off}
+use Rattle.model_placing.specs.Elements.{upTo, visWide, visPlain, seen, seenFrom}
+use Rattle.model_placing.specs.Whole.{narrow, strongTo, wideSeen, partSeen, metBy, narrowTo, partBy}
+use Rattle.model_placing.specs.Writer.{wideIn, wideAfter, plainPart, wide-after, part-rows}
+use Rattle.sets_of_rows.specs.declared.Set.{Set}
+use Rattle.sets_of_rows.specs.Member.{inSet}
+use Rattle.sets_of_rows.specs.First.{First, first-next, Rest, next}
+use Rattle.sets_of_rows.specs.Kept.{setAt}
+use Rattle.sets_of_rows.specs.Family
+use Rattle.sets_of_rows.specs.Rows.{Rows, rows-at, rows-and, rows-cut, rows-cong, rows-in}
+use Rattle.sets_of_rows.specs.Walk.{Walk, walk-begin, walk-turn, walk-end, walk-in}
+use Rattle.sets_of_table.specs.Ask.{few}
+use Rattle.sets_of_table.specs.Tested.{READS}
+use Rattle.sets_of_table.specs.Known.{Opened, says-rows}
 use Rattle.sets_bytes.specs.Masks.{Mask, sharedBit}
-use Rattle.grids.specs.Regions.{AVAILABLE-TO, VISIBLE-BY}
-use Rattle.grids.specs.Available.{shownTo}
-use Rattle.grids.specs.Filling.{member-in}
-use Rattle.grids.specs.Location.{Locating}
+use Rattle.sets_grids.specs.Regions.{AVAILABLE-TO, VISIBLE-BY}
+use Rattle.sets_grids.specs.Available.{shownTo}
+use Rattle.sets_grids.specs.Filling.{member-in}
+use Rattle.sets_grids.specs.Location.{Locating}
 use Rattle.sets_location.specs.declared.part.Available.{Available}
 use Rattle.sets_location.specs.Seen.{Among}
 use Rattle.sets_location.specs.Elements.{plainShown, wideShown, shown-plain, shown-wide, byteOf, byteTo, or-low}

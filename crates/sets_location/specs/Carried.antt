@@ -14,24 +14,24 @@ use Rattle.finite.specs.Below.{anyBelow, any-none, any-in, any-out}
 use Rattle.model.specs.Limits.{ROWS, AGENTS}
 use Rattle.model.specs.Row.{access, plain, covers, meets, single}
 use Rattle.model.specs.Table.{Table}
-use Rattle.closing.specs.Tests.{or-off-left}
-use Rattle.placing.specs.Leads
-use Rattle.placing.specs.Elements.{avails, behind-is, kept, wideOf, kept-step}
-use Rattle.placing.specs.Whole.{firstPlain, wholePlain, narrow, strongTo, strong-kept}
-use Rattle.row_sets.specs.declared.Set.{Set}
-use Rattle.row_sets.specs.Member.{inSet}
-use Rattle.row_sets.specs.First.{First, first-next, Rest, next}
-use Rattle.row_sets.specs.Kept.{setAt, set-kept, Stored, joined}
-use Rattle.row_sets.specs.Family.{nth}
-use Rattle.row_sets.specs.Rows.{Rows, rows-at, rows-or, rows-cong}
-use Rattle.row_sets.specs.Walk.{Walk, walk-begin, walk-turn, walk-end}
-use Rattle.known.specs.Ask.{few}
-use Rattle.known.specs.Known.{Opened}
-use Rattle.grids.specs.Regions.{AVAILABLE-TO, VISIBLE-BY}
-use Rattle.grids.specs.Grid.{GridOn}
-use Rattle.grids.specs.Filling.{member-in}
-use Rattle.grids.specs.Available.{makes, shownTo}
-use Rattle.grids.specs.Location.{Locating}
+use Rattle.model_closing.specs.Tests.{or-off-left}
+use Rattle.model_placing.specs.Leads
+use Rattle.model_placing.specs.Elements.{avails, behind-is, kept, wideOf, kept-step}
+use Rattle.model_placing.specs.Whole.{firstPlain, wholePlain, narrow, strongTo, strong-kept}
+use Rattle.sets_of_rows.specs.declared.Set.{Set}
+use Rattle.sets_of_rows.specs.Member.{inSet}
+use Rattle.sets_of_rows.specs.First.{First, first-next, Rest, next}
+use Rattle.sets_of_rows.specs.Kept.{setAt, set-kept, Stored, joined}
+use Rattle.sets_of_rows.specs.Family.{nth}
+use Rattle.sets_of_rows.specs.Rows.{Rows, rows-at, rows-or, rows-cong}
+use Rattle.sets_of_rows.specs.Walk.{Walk, walk-begin, walk-turn, walk-end}
+use Rattle.sets_of_table.specs.Ask.{few}
+use Rattle.sets_of_table.specs.Known.{Opened}
+use Rattle.sets_grids.specs.Regions.{AVAILABLE-TO, VISIBLE-BY}
+use Rattle.sets_grids.specs.Grid.{GridOn}
+use Rattle.sets_grids.specs.Filling.{member-in}
+use Rattle.sets_grids.specs.Available.{makes, shownTo}
+use Rattle.sets_grids.specs.Location.{Locating}
 use Rattle.sets_location.specs.Elements.{any-skip, any-step}
 use Rattle.sets_location.specs.Met.{Grasps}
 use Rattle.sets_location.specs.Adds.{Widely, Carried}

@@ -2,34 +2,34 @@
 use mathlib.Core.Path.{_≡_, refl, sym, ap, ap₂, subst, _∙_}
 use mathlib.Core.Bool.{Bool, true, false, not}
 use mathlib.Core.List.{List}
-use Prim.Native.Nat.{ℕ, _+_, _*_, _%_, _^_, _≤_, _<_}
+use Prim.Native.Nat.{ℕ, _+_, _*_, _%_, _^_, _<_}
 use native.Mathlib.Omega.{arith}
 use native.Mathlib.Numerals.{add-one}
-use native.Mathlib.Nat.{mod-eq-of-lt, mod-lt}
-use lib.Dec.{ltb, leb, eqb}
+use native.Mathlib.Nat.{mod-eq-of-lt}
+use lib.Dec.{ltb, leb}
 use lib.Bits.{bitOr, or-mod}
 use borrow.Author.Tests.{leb-true, le-leb}
 use Rattle.finite.specs.Logic.{_and_, _or_, and-on, and-false-left, and-false-right, and-true, split, bool-ext, or-off}
 use Rattle.finite.specs.Below.{anyBelow, any-none}
-use Rattle.model.specs.Limits.{ROWS, LONGEST}
+use Rattle.model.specs.Limits.{ROWS}
 use Rattle.model.specs.Row.{plain, access, meets, single}
 use Rattle.model.specs.Table.{Table}
-use Rattle.model.specs.Location.{sameReference}
-use Rattle.laws.specs.PairLaws.{eqb-swap}
-use Rattle.bits.specs.Bit.{bitOf, bitOf-or, bitOf-zero}
-use Rattle.placing.specs.Elements.{shews, visWide, visPlain}
-use Rattle.row_sets.specs.declared.Set.{Set}
-use Rattle.row_sets.specs.Member.{inSet}
-use Rattle.row_sets.specs.First.{First, first-next, Rest, next}
-use Rattle.row_sets.specs.Kept.{setAt}
-use Rattle.row_sets.specs.Family.{nth}
-use Rattle.row_sets.specs.Rows.{Rows, rows-at, rows-and, rows-less, rows-cong}
-use Rattle.row_sets.specs.Walk.{Walk, walk-begin, walk-turn, walk-end, walk-in}
-use Rattle.known.specs.Tested.{VISIBLE}
-use Rattle.known.specs.Sorted.{PLAIN, HOLDING, holdsClass}
-use Rattle.known.specs.Known.{REFERENCE, Opened, sameName, says-rows}
+use Rattle.model.specs.Availability.{sameReference}
+use Rattle.model_laws.specs.PairLaws.{eqb-swap}
+use Rattle.bits.specs.Bit.{bitOf-or, bitOf-zero}
+use Rattle.model_placing.specs.Elements.{shews, visWide, visPlain}
+use Rattle.sets_of_rows.specs.declared.Set.{Set}
+use Rattle.sets_of_rows.specs.Member.{inSet}
+use Rattle.sets_of_rows.specs.First.{First, first-next, Rest, next}
+use Rattle.sets_of_rows.specs.Kept.{setAt}
+use Rattle.sets_of_rows.specs.Family.{nth}
+use Rattle.sets_of_rows.specs.Rows.{Rows, rows-cong}
+use Rattle.sets_of_rows.specs.Walk.{Walk, walk-begin, walk-turn, walk-end, walk-in}
+use Rattle.sets_of_table.specs.Tested.{VISIBLE}
+use Rattle.sets_of_table.specs.Sorted.{PLAIN, HOLDING, holdsClass}
+use Rattle.sets_of_table.specs.Known.{REFERENCE, Opened, sameName}
 use Rattle.sets_bytes.specs.Masks.{Mask, sharedBit}
-use Rattle.grids.specs.Regions.{AVAILABLE-TO}
+use Rattle.sets_grids.specs.Regions.{AVAILABLE-TO}
 
 -- ---- definitions
 

@@ -16,26 +16,26 @@ use Rattle.model.specs.Row.{access, plain}
 use Rattle.model.specs.Table.{Table}
 use Rattle.model.specs.Race
 use Rattle.model.specs.Edge.{beforeNth, beforeSome}
-use Rattle.laws.specs.PairLaws.{common-out}
+use Rattle.model_laws.specs.PairLaws.{common-out}
 use Rattle.bits.specs.Bit.{bit, zeros, zeros-in, bit-zeros-in}
 use Rattle.bits.specs.Within.{Within, within-refl, within-trans, within-widen, within-cleared}
-use Rattle.area.specs.Regions.{LOCATION, LOCATION-END}
-use Rattle.closing.specs.Tests.{or-off-left}
-use Rattle.placing.specs.Elements.{avails, kept, kept-none, kept-skip}
-use Rattle.placing.specs.Whole.{before-shared, shared-common}
-use Rattle.row_sets.specs.declared.Set.{Set}
-use Rattle.row_sets.specs.Member.{inSet}
-use Rattle.row_sets.specs.First.{none-in}
-use Rattle.row_sets.specs.Kept.{setAt, set-kept}
-use Rattle.row_sets.specs.Family.{nth}
-use Rattle.row_sets.specs.Rows.{Rows, rows-at, rows-cong, rows-less, rows-none, rows-in}
-use Rattle.known.specs.Tested.{ACCESS, AVAILABLE}
-use Rattle.known.specs.Sorted.{PLAIN}
-use Rattle.known.specs.Known.{Opened, says-rows}
-use Rattle.grids.specs.Regions.{SOME, SOME-END}
-use Rattle.grids.specs.Given.{Given, given-kept, given-few}
-use Rattle.grids.specs.Available.{makes}
-use Rattle.grids.specs.Location.{Locating, MadeLocation}
+use Rattle.work_area.specs.Regions.{LOCATION, LOCATION-END}
+use Rattle.model_closing.specs.Tests.{or-off-left}
+use Rattle.model_placing.specs.Elements.{avails, kept, kept-none, kept-skip}
+use Rattle.model_placing.specs.Whole.{before-shared, shared-common}
+use Rattle.sets_of_rows.specs.declared.Set.{Set}
+use Rattle.sets_of_rows.specs.Member.{inSet}
+use Rattle.sets_of_rows.specs.First.{none-in}
+use Rattle.sets_of_rows.specs.Kept.{setAt, set-kept}
+use Rattle.sets_of_rows.specs.Family.{nth}
+use Rattle.sets_of_rows.specs.Rows.{Rows, rows-at, rows-cong, rows-less, rows-none, rows-in}
+use Rattle.sets_of_table.specs.Tested.{ACCESS, AVAILABLE}
+use Rattle.sets_of_table.specs.Sorted.{PLAIN}
+use Rattle.sets_of_table.specs.Known.{Opened, says-rows}
+use Rattle.sets_grids.specs.Regions.{SOME, SOME-END}
+use Rattle.sets_grids.specs.Given.{Given, given-kept, given-few}
+use Rattle.sets_grids.specs.Available.{makes}
+use Rattle.sets_grids.specs.Location.{Locating, MadeLocation}
 use Rattle.sets_location.specs.Adds.{AddsRow, placeOf, Empty, Widely, Carried}
 use Rattle.sets_location.specs.Placed.{locating-kept}
 

@@ -1,5 +1,5 @@
 -- The rows that may meet a part of a public write: none that does is left out. Assumes nothing.
-use mathlib.Core.Path.{_≡_, refl, sym, ap, _∙_}
+use mathlib.Core.Path.{_≡_, sym, _∙_}
 use mathlib.Core.Bool.{Bool, true, false, not, cond}
 use mathlib.Core.Logic.{_⊎_, inl, inr, ⊎-elim}
 use mathlib.Core.List.{List}
@@ -9,24 +9,24 @@ use Rattle.finite.specs.Logic.{_and_, _or_, split, and-true, or-cases, or-left,
 use Rattle.finite.specs.Below.{anyBelow, any-in, any-out}
 use Rattle.model.specs.Row.{access, reads}
 use Rattle.model.specs.Table.{Table}
-use Rattle.placing.specs.Leads.{meets, cond-on, cond-off}
-use Rattle.placing.specs.Elements.{visWide, visPlain, seen, seenFrom, behind-is}
-use Rattle.placing.specs.Whole.{narrow, firstPlain, strongTo}
-use Rattle.placing.specs.Writer.{wideIn, plainIn, wideAfter, plainAfter, maybeBy, maybe}
-use Rattle.row_sets.specs.declared.Set.{Set}
-use Rattle.row_sets.specs.Member.{inSet}
-use Rattle.grids.specs.Regions.{AVAILABLE-TO, VISIBLE-BY}
-use Rattle.grids.specs.Available.{makes, shownTo}
-use Rattle.grids.specs.Union.{ledBy, union-rows}
-use Rattle.grids.specs.Filling.{member-in}
-use Rattle.grids.specs.Location.{Locating}
+use Rattle.model_placing.specs.Leads.{meets, cond-on, cond-off}
+use Rattle.model_placing.specs.Elements.{visWide, visPlain, seen, seenFrom, behind-is}
+use Rattle.model_placing.specs.Whole.{narrow, firstPlain, strongTo}
+use Rattle.model_placing.specs.Writer.{wideIn, plainIn, wideAfter, plainAfter, maybeBy, maybe}
+use Rattle.sets_of_rows.specs.declared.Set.{Set}
+use Rattle.sets_of_rows.specs.Member.{inSet}
+use Rattle.sets_grids.specs.Regions.{AVAILABLE-TO, VISIBLE-BY}
+use Rattle.sets_grids.specs.Available.{makes, shownTo}
+use Rattle.sets_grids.specs.Union.{ledBy, union-rows}
+use Rattle.sets_grids.specs.Filling.{member-in}
+use Rattle.sets_grids.specs.Location.{Locating}
 use Rattle.model.specs.Limits.{ROWS}
-use Rattle.row_sets.specs.Kept.{setAt}
-use Rattle.row_sets.specs.Tasks.{leads}
-use Rattle.row_sets.specs.Rows.{Rows, rows-at, rows-and, rows-or, rows-less, rows-in}
-use Rattle.known.specs.Ask.{few}
-use Rattle.known.specs.Tested.{READS}
-use Rattle.known.specs.Known.{Opened, says-rows}
+use Rattle.sets_of_rows.specs.Kept.{setAt}
+use Rattle.sets_of_rows.specs.Tasks.{leads}
+use Rattle.sets_of_rows.specs.Rows.{Rows, rows-at, rows-and, rows-or, rows-less, rows-in}
+use Rattle.sets_of_table.specs.Ask.{few}
+use Rattle.sets_of_table.specs.Tested.{READS}
+use Rattle.sets_of_table.specs.Known.{Opened, says-rows}
 use Rattle.sets_location.specs.declared.part.Available.{Available}
 use Rattle.sets_location.specs.Seen.{Among}
 use Rattle.sets_location.specs.Elements.{plainShown, wideShown, shown-plain, shown-wide}

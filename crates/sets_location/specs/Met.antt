@@ -1,23 +1,23 @@
 -- What is made available of a public write, and the rows that meet all of it by operations that cover all shared bytes. Assumes nothing.
-use mathlib.Core.Path.{_≡_, refl, sym, ap, ap₂, _∙_}
+use mathlib.Core.Path.{_≡_, refl, sym, ap, _∙_}
 use mathlib.Core.Bool.{Bool, true, false, not, cond}
 use mathlib.Core.List.{List}
 use Prim.Native.Nat.{ℕ, _<_}
 use Rattle.finite.specs.Logic.{_and_, _or_, split}
 use Rattle.model.specs.Row.{access, reads}
 use Rattle.model.specs.Table.{Table}
-use Rattle.placing.specs.Leads.{meets}
-use Rattle.placing.specs.Elements.{visWide, seen}
-use Rattle.placing.specs.Whole.{narrow, strongTo}
-use Rattle.placing.specs.Writer.{wideIn, wideAfter, fullSet}
-use Rattle.row_sets.specs.declared.Set.{Set}
-use Rattle.row_sets.specs.Member.{inSet}
-use Rattle.row_sets.specs.Kept.{setAt}
-use Rattle.row_sets.specs.Rows.{Rows, rows-at, rows-and, rows-or, rows-less, rows-cong, rows-in}
-use Rattle.known.specs.Tested.{READS}
-use Rattle.known.specs.Known.{Opened, says-rows}
-use Rattle.grids.specs.Available.{shownTo}
-use Rattle.grids.specs.Filling.{member-in}
+use Rattle.model_placing.specs.Leads.{meets}
+use Rattle.model_placing.specs.Elements.{visWide, seen}
+use Rattle.model_placing.specs.Whole.{narrow, strongTo}
+use Rattle.model_placing.specs.Writer.{wideIn, wideAfter, fullSet}
+use Rattle.sets_of_rows.specs.declared.Set.{Set}
+use Rattle.sets_of_rows.specs.Member.{inSet}
+use Rattle.sets_of_rows.specs.Kept.{setAt}
+use Rattle.sets_of_rows.specs.Rows.{Rows, rows-at, rows-and, rows-or, rows-less, rows-cong, rows-in}
+use Rattle.sets_of_table.specs.Tested.{READS}
+use Rattle.sets_of_table.specs.Known.{Opened, says-rows}
+use Rattle.sets_grids.specs.Available.{shownTo}
+use Rattle.sets_grids.specs.Filling.{member-in}
 use Rattle.sets_location.specs.declared.part.Available.{Available}
 use Rattle.sets_location.specs.Seen.{Among, seen-cong}
 use Rattle.sets_location.specs.Elements.{wideShown, shown-wide}

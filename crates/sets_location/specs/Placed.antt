@@ -13,32 +13,33 @@ use Rattle.finite.specs.Below.{anyBelow, any-in, any-out, any-cong}
 use Rattle.model.specs.Limits.{ROWS, LONGEST}
 use Rattle.model.specs.Row.{access, writes, nonPrivate, touches}
 use Rattle.model.specs.Table.{Table}
-use Rattle.model.specs.Location.{sameReference, publicWrite, common}
+use Rattle.model.specs.Location.{common}
+use Rattle.model.specs.Availability.{sameReference, publicWrite}
 use Rattle.model.specs.Race.{nth}
 use Rattle.model.specs.Edge.{beforeNth}
-use Rattle.laws.specs.PairLaws.{eqb-swap, overlap-is, inside-out}
+use Rattle.model_laws.specs.PairLaws.{eqb-swap, overlap-is, inside-out}
 use Rattle.bits.specs.Bit.{bit}
 use Rattle.bits.specs.Within.{Within, within-trans}
-use Rattle.area.specs.Regions.{LOCATION-END, OVERLAP}
-use Rattle.area.specs.State.{overlaps}
-use Rattle.placing.specs.Leads.{meets, shows}
-use Rattle.placing.specs.Elements.{shews, visible-is}
-use Rattle.placing.specs.Whole.{told, whole, crosses, sharedAt, sharedNth, fullBy, partBy, partNth, Right, before-shared, shared-crosses, bits-by}
-use Rattle.placing.specs.Right.{right-all, right-cong}
-use Rattle.placing.specs.Writer.{fullSet, full-set, part-maybe}
-use Rattle.row_sets.specs.declared.Set.{Set}
-use Rattle.row_sets.specs.Member.{inSet}
-use Rattle.row_sets.specs.Kept.{setAt}
-use Rattle.row_sets.specs.Family
-use Rattle.row_sets.specs.Rows.{Rows, rows-at, rows-cut, rows-in}
-use Rattle.known.specs.Tested.{WRITES, PUBLIC}
-use Rattle.known.specs.Known.{REFERENCE, Opened, sameName, says-rows}
+use Rattle.work_area.specs.Regions.{LOCATION-END, OVERLAP}
+use Rattle.work_area.specs.State.{overlaps}
+use Rattle.model_placing.specs.Leads.{meets, shows}
+use Rattle.model_placing.specs.Elements.{shews, visible-is}
+use Rattle.model_placing.specs.Whole.{told, whole, crosses, sharedAt, sharedNth, fullBy, partBy, partNth, Right, before-shared, shared-crosses, bits-by}
+use Rattle.model_placing.specs.Right.{right-all, right-cong}
+use Rattle.model_placing.specs.Writer.{fullSet, full-set, part-maybe}
+use Rattle.sets_of_rows.specs.declared.Set.{Set}
+use Rattle.sets_of_rows.specs.Member.{inSet}
+use Rattle.sets_of_rows.specs.Kept.{setAt}
+use Rattle.sets_of_rows.specs.Family
+use Rattle.sets_of_rows.specs.Rows.{Rows, rows-at, rows-cut, rows-in}
+use Rattle.sets_of_table.specs.Tested.{WRITES, PUBLIC}
+use Rattle.sets_of_table.specs.Known.{REFERENCE, Opened, sameName, says-rows}
 use Rattle.sets_bytes.specs.Masks.{sharedBit}
-use Rattle.grids.specs.Regions.{SOME}
-use Rattle.grids.specs.Grid.{grid-at, grid-kept, grid-on-kept}
-use Rattle.grids.specs.Filling.{member-in}
-use Rattle.grids.specs.Available.{shownTo}
-use Rattle.grids.specs.Location.{Locating}
+use Rattle.sets_grids.specs.Regions.{SOME}
+use Rattle.sets_grids.specs.Grid.{grid-at, grid-kept, grid-on-kept}
+use Rattle.sets_grids.specs.Filling.{member-in}
+use Rattle.sets_grids.specs.Available.{shownTo}
+use Rattle.sets_grids.specs.Location.{Locating}
 use Rattle.sets_location.specs.Told.{ToldTo}
 use Rattle.sets_location.specs.Maybe.{Maybes}
 use Rattle.sets_location.specs.Adds.{AddsRow, placeOf, wholeBytes, partBytes, partsOf, Over, Targets, PublicWrite}

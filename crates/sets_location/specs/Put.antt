@@ -16,23 +16,23 @@ use Rattle.model.specs.Limits.{ROWS, LONGEST}
 use Rattle.model.specs.Row.{touches, overlap}
 use Rattle.model.specs.Table.{Table}
 use Rattle.model.specs.Race.{nth}
-use Rattle.laws.specs.PairLaws.{overlap-is}
-use Rattle.laws.specs.RaceLaws.{touched}
+use Rattle.model_laws.specs.PairLaws.{overlap-is}
+use Rattle.model_laws.specs.RaceLaws.{touched}
 use Rattle.bits.specs.Bit.{bit, bitOf, bitOf-zero}
 use Rattle.bits.specs.Within.{Within, within-refl, within-trans, within-widen, within-bit}
-use Rattle.sets.specs.Lowest.{bitOf-and}
-use Rattle.area.specs.Regions.{LOCATION, LOCATION-END}
-use Rattle.row_sets.specs.declared.Set.{Set}
-use Rattle.row_sets.specs.Member.{inSet}
-use Rattle.row_sets.specs.First.{First, first-next, Rest, next}
-use Rattle.row_sets.specs.Kept.{set-kept, Stored, added}
-use Rattle.row_sets.specs.Word.{bitOf-none}
-use Rattle.row_sets.specs.Family
-use Rattle.row_sets.specs.Walk.{Walk, walk-begin, walk-turn, walk-end, walk-in}
-use Rattle.known.specs.Fit.{Fit}
-use Rattle.grids.specs.Regions.{SOME}
-use Rattle.grids.specs.Grid.{grid-kept, grid-on-kept}
-use Rattle.grids.specs.Location.{Locating}
+use Rattle.work_sets.specs.Lowest.{bitOf-and}
+use Rattle.work_area.specs.Regions.{LOCATION, LOCATION-END}
+use Rattle.sets_of_rows.specs.declared.Set.{Set}
+use Rattle.sets_of_rows.specs.Member.{inSet}
+use Rattle.sets_of_rows.specs.First.{First, first-next, Rest, next}
+use Rattle.sets_of_rows.specs.Kept.{set-kept, Stored, added}
+use Rattle.sets_of_rows.specs.Word.{bitOf-none}
+use Rattle.sets_of_rows.specs.Family
+use Rattle.sets_of_rows.specs.Walk.{Walk, walk-begin, walk-turn, walk-end, walk-in}
+use Rattle.sets_of_table.specs.Fit.{Fit}
+use Rattle.sets_grids.specs.Regions.{SOME}
+use Rattle.sets_grids.specs.Grid.{grid-kept, grid-on-kept}
+use Rattle.sets_grids.specs.Location.{Locating}
 use Rattle.sets_bytes.specs.Masks.{Mask, sharedBit, Adds}
 use Rattle.sets_location.specs.Adds.{AddsRow, Over, Empty, MetBytes, placeOf, wholeBytes, partBytes, partsOf}
 

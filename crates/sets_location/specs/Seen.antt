@@ -5,19 +5,19 @@ use Prim.Native.Nat.{ℕ, _-_, _≤_, _<_}
 use native.Mathlib.Omega.{arith}
 use native.Mathlib.Decide.{decLt, ℕ-discrete}
 use lib.Dec.{ltb, leb, eqb}
-use borrow.Author.Tests.{lt-ltb, le-ltb, eq-eqb}
-use Rattle.finite.specs.Logic.{_and_, _or_, and-on, and-false-left, and-false-right, and-left, and-true, not-both, not-in, or-off, split}
+use borrow.Author.Tests.{eq-eqb}
+use Rattle.finite.specs.Logic.{_and_, _or_, and-false-right, and-left, not-both, or-off}
 use Rattle.finite.specs.Below.{anyBelow, any-cong, any-off, least-is}
 use Rattle.model.specs.Limits.{ROWS}
 use Rattle.model.specs.Table.{Table}
 use Rattle.model.specs.Moment.{sameAgent}
-use Rattle.laws.specs.PairLaws.{eqb-swap}
-use Rattle.closing.specs.Order.{laterRow, fromRow}
-use Rattle.placing.specs.Elements.{upTo, seen, seenFrom, lessAgent, seen-none, seen-step}
-use Rattle.row_sets.specs.declared.Set.{Set}
-use Rattle.row_sets.specs.Member.{inSet}
-use Rattle.row_sets.specs.First.{First, first-next, next}
-use Rattle.row_sets.specs.Rows.{Rows, rows-cong, rows-in}
+use Rattle.model_laws.specs.PairLaws.{eqb-swap}
+use Rattle.model_closing.specs.Order.{laterRow, fromRow}
+use Rattle.model_placing.specs.Elements.{upTo, seen, seenFrom, lessAgent, seen-none, seen-step}
+use Rattle.sets_of_rows.specs.declared.Set.{Set}
+use Rattle.sets_of_rows.specs.Member.{inSet}
+use Rattle.sets_of_rows.specs.First.{First, first-next, next}
+use Rattle.sets_of_rows.specs.Rows.{Rows, rows-cong, rows-in}
 
 -- ---- definitions
 

@@ -1,37 +1,38 @@
 -- The rules that read no byte, and the plain first elements of a row, by sets of rows. Assumes nothing.
 use mathlib.Core.Path.{_≡_, refl, sym, ap, ap₂, _∙_}
-use mathlib.Core.Bool.{Bool, true, false, not, cond, _&&_}
+use mathlib.Core.Bool.{Bool, true, false, not, _&&_}
 use mathlib.Core.List.{List}
-use Prim.Native.Nat.{ℕ, _+_, _*_, _≤_, _<_}
+use Prim.Native.Nat.{ℕ, _+_, _*_, _<_}
 use native.Mathlib.Omega.{arith}
 use native.Mathlib.Decide.{ℕ-discrete}
-use lib.Dec.{ltb, leb, eqb}
+use lib.Dec.{leb, eqb}
 use borrow.Author.Tests.{leb-true, le-leb, eq-eqb}
 use Rattle.finite.specs.Logic.{_and_, _or_, and-true, split, bool-ext, or-left, or-right, or-false, not-both, not-out, and-both}
-use Rattle.model.specs.Row.{plain, access, reads, writes, nonPrivate, overlap}
+use Rattle.model.specs.Row.{plain, access, reads, writes, nonPrivate}
 use Rattle.model.specs.Table.{Table}
 use Rattle.model.specs.Moment.{sameAgent, itself}
 use Rattle.model.specs.Happens.{happens}
-use Rattle.model.specs.Location.{sameReference, pureRead, L1, L2, L4, L5}
-use Rattle.laws.specs.PairLaws.{eqb-swap}
-use Rattle.closing.specs.Order.{fromRow}
-use Rattle.area.specs.Regions.{OVERLAP}
-use Rattle.area.specs.State.{overlaps}
-use Rattle.placing.specs.Leads.{cond-on}
-use Rattle.placing.specs.Elements.{avails, upTo, behind, behind-is}
-use Rattle.placing.specs.Whole.{told, firstPlain}
-use Rattle.row_sets.specs.declared.Set.{Set}
-use Rattle.row_sets.specs.Member.{inSet}
-use Rattle.row_sets.specs.Kept.{setAt}
-use Rattle.row_sets.specs.Rows.{Rows, rows-at, rows-and, rows-cong, rows-in}
-use Rattle.known.specs.Tested.{WRITES, PUBLIC, AVAILABLE}
-use Rattle.known.specs.Sorted.{PLAIN}
-use Rattle.known.specs.Known.{REFERENCE, Opened, sameName, says-rows}
-use Rattle.grids.specs.Regions.{HAPPENS, HOSTED}
-use Rattle.grids.specs.Grid.{grid-at}
-use Rattle.grids.specs.Happens.{happensRows}
-use Rattle.grids.specs.Hosted.{hostedBy}
-use Rattle.grids.specs.Location.{Locating}
+use Rattle.model.specs.Location.{pureRead, L1, L2, L4, L5}
+use Rattle.model.specs.Availability.{sameReference}
+use Rattle.model_laws.specs.PairLaws.{eqb-swap}
+use Rattle.model_closing.specs.Order.{fromRow}
+use Rattle.work_area.specs.Regions.{OVERLAP}
+use Rattle.work_area.specs.State.{overlaps}
+use Rattle.model_placing.specs.Leads.{cond-on}
+use Rattle.model_placing.specs.Elements.{avails, upTo, behind, behind-is}
+use Rattle.model_placing.specs.Whole.{told, firstPlain}
+use Rattle.sets_of_rows.specs.declared.Set.{Set}
+use Rattle.sets_of_rows.specs.Member.{inSet}
+use Rattle.sets_of_rows.specs.Kept.{setAt}
+use Rattle.sets_of_rows.specs.Rows.{Rows, rows-at, rows-and, rows-cong, rows-in}
+use Rattle.sets_of_table.specs.Tested.{WRITES, PUBLIC, AVAILABLE}
+use Rattle.sets_of_table.specs.Sorted.{PLAIN}
+use Rattle.sets_of_table.specs.Known.{REFERENCE, Opened, sameName, says-rows}
+use Rattle.sets_grids.specs.Regions.{HAPPENS, HOSTED}
+use Rattle.sets_grids.specs.Grid.{grid-at}
+use Rattle.sets_grids.specs.Happens.{happensRows}
+use Rattle.sets_grids.specs.Hosted.{hostedBy}
+use Rattle.sets_grids.specs.Location.{Locating}
 
 -- ---- definitions
 

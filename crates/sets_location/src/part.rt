@@ -8,23 +8,23 @@ ghost use Rattle.model.specs.Limits.{ROWS, WORK};
 ghost use Rattle.model.specs.Row.{access, reads, covers};
 ghost use Rattle.model.specs.Table.{rowOf};
 ghost use Rattle.run.specs.Layout.{rowsIn, tableIn};
-ghost use Rattle.row_sets.specs.Member.{inSet};
-ghost use Rattle.row_sets.specs.Rows.{Rows};
-ghost use Rattle.placing.specs.Elements.{seen};
-ghost use Rattle.known.specs.Fit.{Fit};
-ghost use Rattle.known.specs.Known.{WORDS, Opened};
+ghost use Rattle.sets_of_rows.specs.Member.{inSet};
+ghost use Rattle.sets_of_rows.specs.Rows.{Rows};
+ghost use Rattle.model_placing.specs.Elements.{seen};
+ghost use Rattle.sets_of_table.specs.Fit.{Fit};
+ghost use Rattle.sets_of_table.specs.Known.{WORDS, Opened};
 ghost use Rattle.sets_bytes.specs.Masks.{Mask};
-ghost use Rattle.grids.specs.Given.{Given};
-ghost use Rattle.grids.specs.Location.{Locating};
+ghost use Rattle.sets_grids.specs.Given.{Given};
+ghost use Rattle.sets_grids.specs.Location.{Locating};
 ghost use Rattle.sets_location.specs.Seen.{Among};
 ghost use Rattle.sets_location.specs.Met.{Grasps};
 ghost use Rattle.sets_location.specs.Adds.{Pair, MetBytes};
 ghost use Rattle.sets_location.specs.Maybe.{Maybes};
 ghost use Rattle.sets_location.specs.Elements.{plainShown, wideShown, byteOf, byteTo};
-use known::fields;
-use row_sets::Set;
-use row_sets::kept;
 use run::Run;
+use sets_of_rows::Set;
+use sets_of_rows::kept;
+use sets_of_table::fields;
 
 // What is made available of a write: by operations that cover all of its bytes, the rows to which they do, and those by whose visibility
 // operations it is then visible; and the availability operations of plain rows that cover some of its bytes.
@@ -48,11 +48,11 @@ pub fn seen(t: &Run, n: usize, s: &[u64], operations: Set) -> Set
     ensures { λ r. ⌜ Rows n (seen (tableIn (now (t .entry)) n) false (inSet operations)) r ⌝ }
 {
     let mut left = operations;
-    let mut all = row_sets::none();
-    while row_sets::some(left) {
-        let v = row_sets::first(left);
-        all = row_sets::or(all, known::ask::after(t, n, s, v));
-        left = row_sets::less(left, known::ask::of_agent(t, n, s, v));
+    let mut all = sets_of_rows::none();
+    while sets_of_rows::some(left) {
+        let v = sets_of_rows::first(left);
+        all = sets_of_rows::or(all, sets_of_table::ask::after(t, n, s, v));
+        left = sets_of_rows::less(left, sets_of_table::ask::of_agent(t, n, s, v));
     }
     all
 }
@@ -63,11 +63,11 @@ fn seen_plain(t: &Run, n: usize, s: &[u64], operations: Set) -> Set
     ensures { λ r. ⌜ Rows n (seen (tableIn (now (t .entry)) n) true (inSet operations)) r ⌝ }
 {
     let mut left = operations;
-    let mut all = row_sets::none();
-    while row_sets::some(left) {
-        let v = row_sets::first(left);
-        all = row_sets::or(all, known::ask::onward(t, n, s, v));
-        left = row_sets::less(left, known::ask::of_agent(t, n, s, v));
+    let mut all = sets_of_rows::none();
+    while sets_of_rows::some(left) {
+        let v = sets_of_rows::first(left);
+        all = sets_of_rows::or(all, sets_of_table::ask::onward(t, n, s, v));
+        left = sets_of_rows::less(left, sets_of_table::ask::of_agent(t, n, s, v));
     }
     all
 }
@@ -77,18 +77,21 @@ fn plain_visible(s: &[u64], x: usize) -> Set
     requires { ⌜ (x < ROWS) × (WORDS ≤ length (now s)) ⌝ }
     ensures { λ r. ⌜ ((j : ℕ) → inSet r j ≡ plainShown (now (s .entry)) x j) ⌝ }
 {
-    let plain = row_sets::and(known::rows(s, known::VISIBLE), known::rows(s, known::PLAIN));
-    row_sets::and(plain, kept::get(s, known::REFERENCE, x))
+    let plain = sets_of_rows::and(
+        sets_of_table::rows(s, sets_of_table::VISIBLE),
+        sets_of_table::rows(s, sets_of_table::PLAIN),
+    );
+    sets_of_rows::and(plain, kept::get(s, sets_of_table::REFERENCE, x))
 }
 
 pub fn wide_visible(t: &Run, s: &[u64], x: usize) -> Set
     requires { ⌜ (x < ROWS) × (rowOf (rowsIn (now t)) x .class < 4) × (WORDS ≤ length (now s)) ⌝ }
     ensures { λ r. ⌜ ((j : ℕ) → inSet r j ≡ wideShown (now (s .entry)) (rowOf (rowsIn (now (t .entry))) x .class) j) ⌝ }
 {
-    let class = kept::get(s, known::HOLDING, fields::class(t, x));
-    row_sets::less(
-        row_sets::and(known::rows(s, known::VISIBLE), class),
-        known::rows(s, known::PLAIN),
+    let class = kept::get(s, sets_of_table::HOLDING, fields::class(t, x));
+    sets_of_rows::less(
+        sets_of_rows::and(sets_of_table::rows(s, sets_of_table::VISIBLE), class),
+        sets_of_table::rows(s, sets_of_table::PLAIN),
     )
 }
 
@@ -97,15 +100,15 @@ pub fn maybe_met(t: &Run, n: usize, s: &[u64], x: usize, g: Available, w: &[u64]
     requires { ⌜ (x < n) × (access (tableIn (now t) n .row x) ≡ true) × Given (tableIn (now t) n) n (now s) (now w) × Locating (tableIn (now t) n) n (now w) × Grasps (tableIn (now t) n) n x g ⌝ }
     ensures { λ r. ⌜ Maybes (tableIn (now (t .entry)) n) n x r ⌝ }
 {
-    let reads = known::rows(s, known::READS);
-    let at = row_sets::walk::union(w, grids::AVAILABLE_TO, g.parts);
-    let visible = row_sets::walk::union(w, grids::VISIBLE_BY, g.parts);
-    let wide = seen(t, n, s, row_sets::and(visible, wide_visible(t, s, x)));
-    let by = row_sets::and(row_sets::or(visible, g.by), plain_visible(s, x));
+    let reads = sets_of_table::rows(s, sets_of_table::READS);
+    let at = sets_of_rows::walk::union(w, sets_grids::AVAILABLE_TO, g.parts);
+    let visible = sets_of_rows::walk::union(w, sets_grids::VISIBLE_BY, g.parts);
+    let wide = seen(t, n, s, sets_of_rows::and(visible, wide_visible(t, s, x)));
+    let by = sets_of_rows::and(sets_of_rows::or(visible, g.by), plain_visible(s, x));
     let plain = seen_plain(t, n, s, by);
-    row_sets::or(
-        row_sets::less(at, reads),
-        row_sets::and(row_sets::or(wide, plain), reads),
+    sets_of_rows::or(
+        sets_of_rows::less(at, reads),
+        sets_of_rows::and(sets_of_rows::or(wide, plain), reads),
     )
 }
 
@@ -116,9 +119,9 @@ fn bytes_of(t: &Run, n: usize, x: usize, rows: Set) -> u64
 {
     let mut left = rows;
     let mut m = 0u64;
-    while row_sets::some(left) {
-        m |= sets_bytes::shared(t, n, x, row_sets::first(left));
-        left = row_sets::but_first(left);
+    while sets_of_rows::some(left) {
+        m |= sets_bytes::shared(t, n, x, sets_of_rows::first(left));
+        left = sets_of_rows::but_first(left);
     }
     m
 }
@@ -130,10 +133,10 @@ fn bytes_at_once(t: &Run, n: usize, x: usize, y: usize, g: Available, w: &[u64])
 {
     let mut left = g.parts;
     let mut m = 0u64;
-    while row_sets::some(left) {
-        let a = row_sets::first(left);
-        left = row_sets::but_first(left);
-        if row_sets::has(kept::get(w, grids::AVAILABLE_TO, a), y) {
+    while sets_of_rows::some(left) {
+        let a = sets_of_rows::first(left);
+        left = sets_of_rows::but_first(left);
+        if sets_of_rows::has(kept::get(w, sets_grids::AVAILABLE_TO, a), y) {
             m |= sets_bytes::shared(t, n, x, a);
         }
     }
@@ -145,20 +148,23 @@ fn bytes_seen(t: &Run, n: usize, s: &[u64], x: usize, y: usize, g: Available, w:
     requires { ⌜ (x < n) × (y < n) × (reads (tableIn (now t) n .row y) ≡ true) × Pair (tableIn (now t) n) x y × Given (tableIn (now t) n) n (now s) (now w) × Locating (tableIn (now t) n) n (now w) × Grasps (tableIn (now t) n) n x g ⌝ }
     ensures { λ m. ⌜ MetBytes (tableIn (now (t .entry)) n) x y m ⌝ }
 {
-    let upto = row_sets::less(known::ask::of_agent(t, n, s, y), row_sets::above(y));
-    let wide = row_sets::drop(row_sets::and(wide_visible(t, s, x), upto), y);
-    let plain = row_sets::and(plain_visible(s, x), upto);
-    let mut m = bytes_of(t, n, x, row_sets::and(g.by, plain));
+    let upto = sets_of_rows::less(
+        sets_of_table::ask::of_agent(t, n, s, y),
+        sets_of_rows::above(y),
+    );
+    let wide = sets_of_rows::drop(sets_of_rows::and(wide_visible(t, s, x), upto), y);
+    let plain = sets_of_rows::and(plain_visible(s, x), upto);
+    let mut m = bytes_of(t, n, x, sets_of_rows::and(g.by, plain));
     let mut left = g.parts;
-    while row_sets::some(left) {
-        let a = row_sets::first(left);
-        left = row_sets::but_first(left);
+    while sets_of_rows::some(left) {
+        let a = sets_of_rows::first(left);
+        left = sets_of_rows::but_first(left);
         let own = sets_bytes::shared(t, n, x, a);
-        let visible = kept::get(w, grids::VISIBLE_BY, a);
-        if row_sets::some(row_sets::and(visible, wide)) {
+        let visible = kept::get(w, sets_grids::VISIBLE_BY, a);
+        if sets_of_rows::some(sets_of_rows::and(visible, wide)) {
             m |= own;
         } else {
-            m |= own & bytes_of(t, n, x, row_sets::and(visible, plain));
+            m |= own & bytes_of(t, n, x, sets_of_rows::and(visible, plain));
         }
     }
     m
@@ -169,7 +175,7 @@ pub fn bytes_met(t: &Run, n: usize, s: &[u64], x: usize, y: usize, g: Available,
     requires { ⌜ (x < n) × (y < n) × Pair (tableIn (now t) n) x y × Given (tableIn (now t) n) n (now s) (now w) × Locating (tableIn (now t) n) n (now w) × Grasps (tableIn (now t) n) n x g ⌝ }
     ensures { λ m. ⌜ MetBytes (tableIn (now (t .entry)) n) x y m ⌝ }
 {
-    if row_sets::has(known::rows(s, known::READS), y) {
+    if sets_of_rows::has(sets_of_table::rows(s, sets_of_table::READS), y) {
         return bytes_seen(t, n, s, x, y, g, w);
     }
     bytes_at_once(t, n, x, y, g, w)

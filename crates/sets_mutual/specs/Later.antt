@@ -12,14 +12,14 @@ use Rattle.model.specs.declared.Row.{Row}
 use Rattle.model.specs.Row.{atomic, writes, ranked}
 use Rattle.model.specs.Scope.{mutually, later, laterWriter, follows}
 use Rattle.model.specs.Table.{Table}
-use Rattle.area.specs.Regions.{MUTUAL}
-use Rattle.row_sets.specs.declared.Set.{Set}
-use Rattle.row_sets.specs.Member.{inSet}
-use Rattle.row_sets.specs.Kept.{setAt}
-use Rattle.row_sets.specs.Rows.{Rows, rows-at, rows-cong, rows-and, rows-cut}
-use Rattle.known.specs.Tested.{RANKED}
-use Rattle.known.specs.Known.{Opened, says-rows}
-use Rattle.grids.specs.Grid.{Grid, grid-at}
+use Rattle.work_area.specs.Regions.{MUTUAL}
+use Rattle.sets_of_rows.specs.declared.Set.{Set}
+use Rattle.sets_of_rows.specs.Member.{inSet}
+use Rattle.sets_of_rows.specs.Kept.{setAt}
+use Rattle.sets_of_rows.specs.Rows.{Rows, rows-at, rows-cong, rows-and, rows-cut}
+use Rattle.sets_of_table.specs.Tested.{RANKED}
+use Rattle.sets_of_table.specs.Known.{Opened, says-rows}
+use Rattle.sets_grids.specs.Grid.{Grid, grid-at}
 use Rattle.sets_mutual.specs.Mutual.{mutual-both}
 
 -- ---- definitions

@@ -8,13 +8,13 @@ use Rattle.finite.specs.Logic.{_and_, bool-ext, split, and-true, and-right}
 use Rattle.model.specs.Row.{access, atomic}
 use Rattle.model.specs.Scope.{mutualRows, mutually}
 use Rattle.model.specs.Table.{Table}
-use Rattle.laws.specs.PairLaws.{eqb-swap}
-use Rattle.row_sets.specs.declared.Set.{Set}
-use Rattle.row_sets.specs.Member.{inSet}
-use Rattle.row_sets.specs.Kept.{setAt}
-use Rattle.row_sets.specs.Rows.{Rows, rows-at, rows-cong, rows-and, rows-cut}
-use Rattle.known.specs.Tested.{ATOMIC}
-use Rattle.known.specs.Known.{PLACE, Opened, samePlace, atTogether, says-rows}
+use Rattle.model_laws.specs.PairLaws.{eqb-swap}
+use Rattle.sets_of_rows.specs.declared.Set.{Set}
+use Rattle.sets_of_rows.specs.Member.{inSet}
+use Rattle.sets_of_rows.specs.Kept.{setAt}
+use Rattle.sets_of_rows.specs.Rows.{Rows, rows-at, rows-cong, rows-and, rows-cut}
+use Rattle.sets_of_table.specs.Tested.{ATOMIC}
+use Rattle.sets_of_table.specs.Known.{PLACE, Opened, samePlace, atTogether, says-rows}
 
 atomic-access : (t : Table) (i : ℕ) → atomic (t .row i) ≡ true → access (t .row i) ≡ true
 unfolding atomic access

@@ -1,9 +1,9 @@
 -- A class set of which no release row synchronizes-with an acquire row, without dependencies; and what is asked of one that is closed.
 -- Assumes nothing.
-use mathlib.Core.Path.{_≡_, refl, sym, ap, _∙_}
+use mathlib.Core.Path.{_≡_, sym, ap, _∙_}
 use mathlib.Core.Bool.{Bool, true, false, _||_}
 use mathlib.Core.List.{List}
-use Prim.Native.Nat.{ℕ, _+_, _*_, _/_, _%_, _≤_, _<_}
+use Prim.Native.Nat.{ℕ, _*_, _%_, _≤_, _<_}
 use native.Mathlib.Omega.{arith}
 use Rattle.finite.specs.Logic.{_and_, not-both, not-so, split, and-true, or-false, or-both}
 use Rattle.finite.specs.Below.{anyBelow, any-in}
@@ -13,17 +13,17 @@ use Rattle.model.specs.Synchronizes.{synchronizes}
 use Rattle.model.specs.Moment.{rowIn, itself, programOrder}
 use Rattle.model.specs.Happens.{holding, bySync, interThread}
 use Rattle.model.specs.Table.{Table}
-use Rattle.hubs.specs.Rows.{holding-own}
-use Rattle.hubs.specs.Quiet.{inter-order}
-use Rattle.closing.specs.Nodes.{holder, releaser, acquirer}
-use Rattle.row_sets.specs.declared.Set.{Set}
-use Rattle.row_sets.specs.Member.{inSet}
-use Rattle.row_sets.specs.Rows.{rows-in}
-use Rattle.grids.specs.declared.Concerned.{Concerned}
-use Rattle.grids.specs.Concerns.{Told, Concerns}
-use Rattle.grids.specs.Given.{given-kept}
-use Rattle.grids.specs.Reach.{Asks, MadeReach}
-use Rattle.grids.specs.Happens.{Leading}
+use Rattle.model_hubs.specs.Rows.{holding-own}
+use Rattle.model_hubs.specs.Quiet.{inter-order}
+use Rattle.model_closing.specs.Nodes.{holder, releaser, acquirer}
+use Rattle.sets_of_rows.specs.declared.Set.{Set}
+use Rattle.sets_of_rows.specs.Member.{inSet}
+use Rattle.sets_of_rows.specs.Rows.{rows-in}
+use Rattle.sets_grids.specs.declared.Concerned.{Concerned}
+use Rattle.sets_grids.specs.Concerns.{Told, Concerns}
+use Rattle.sets_grids.specs.Given.{given-kept}
+use Rattle.sets_grids.specs.Reach.{Asks, MadeReach}
+use Rattle.sets_grids.specs.Happens.{Leading}
 use Rattle.sets_closure.specs.Widest.{syncedTo, syncedFrom, syncedBy}
 use Rattle.sets_happens.specs.Adds.{Reached}
 

@@ -3,26 +3,26 @@ use mathlib.Core.Path.{_≡_, refl, sym, ap, ap₂, _∙_}
 use mathlib.Core.Bool.{Bool, true, false}
 use mathlib.Core.List.{List}
 use mathlib.Core.Logic.{_⊎_, inl, inr, ⊎-elim}
-use Prim.Native.Nat.{ℕ, suc, _+_, _-_, _*_, _≤_, _<_}
+use Prim.Native.Nat.{ℕ, suc, _+_, _*_, _≤_, _<_}
 use native.Mathlib.Omega.{arith}
 use native.Mathlib.Decide.{ℕ-discrete}
 use native.Mathlib.Numerals.{add-one}
-use lib.ListN.{length, getD}
-use lib.Dec.{eqb, ltb}
-use borrow.Author.Tests.{eqb-true, eq-eqb, ltb-true, lt-ltb}
+use lib.ListN.{getD}
+use lib.Dec.{eqb}
+use borrow.Author.Tests.{eqb-true, eq-eqb, lt-ltb}
 use Rattle.finite.specs.Logic.{_and_, _or_, bool-ext, not-both, not-so, split, and-true, and-false-left, or-cases, or-left, or-right, or-off}
 use Rattle.finite.specs.Below.{anyBelow, any-in, any-out, below-cases}
 use Rattle.model.specs.Limits.{ROWS}
 use Rattle.model.specs.declared.Mode.{Mode}
-use Rattle.model.specs.Table.{Table, dependency, dependsOf, decode}
+use Rattle.model.specs.Table.{dependency, dependsOf, decode}
 use Rattle.bits.specs.Within.{Within}
 use Rattle.run.specs.Layout.{tableIn, modeIn}
-use Rattle.row_sets.specs.declared.Set.{Set}
-use Rattle.row_sets.specs.Member.{inSet}
-use Rattle.row_sets.specs.Kept.{setAt, set-kept, Stored, added}
-use Rattle.row_sets.specs.Family.{nth}
-use Rattle.known.specs.Fit.{FitRun}
-use Rattle.grids.specs.Regions.{DEPENDS, DEPENDS-END}
+use Rattle.sets_of_rows.specs.declared.Set.{Set}
+use Rattle.sets_of_rows.specs.Member.{inSet}
+use Rattle.sets_of_rows.specs.Kept.{set-kept, Stored, added}
+use Rattle.sets_of_rows.specs.Family.{nth}
+use Rattle.sets_of_table.specs.Fit.{FitRun}
+use Rattle.sets_grids.specs.Regions.{DEPENDS, DEPENDS-END}
 use Rattle.sets_happens.specs.Adding.{Empty}
 use Rattle.sets_order.specs.System.{MadeDepends}
 

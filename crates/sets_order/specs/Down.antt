@@ -10,11 +10,11 @@ use borrow.Author.Tests.{ltb-true, lt-ltb}
 use Rattle.finite.specs.Logic.{_and_, which, not-both, not-in, not-out, and-true, and-on, and-on-right, and-false-left}
 use Rattle.finite.specs.Below.{anyBelow, any-in, any-not, any-cong, least, least-is}
 use Rattle.model.specs.Limits.{ROWS}
-use Rattle.row_sets.specs.declared.Set.{Set}
-use Rattle.row_sets.specs.Member.{inSet}
-use Rattle.row_sets.specs.Kept.{setAt}
-use Rattle.row_sets.specs.Family.{nth}
-use Rattle.grids.specs.Grid.{Grid, grid-in}
+use Rattle.sets_of_rows.specs.declared.Set.{Set}
+use Rattle.sets_of_rows.specs.Member.{inSet}
+use Rattle.sets_of_rows.specs.Kept.{setAt}
+use Rattle.sets_of_rows.specs.Family.{nth}
+use Rattle.sets_grids.specs.Grid.{Grid, grid-in}
 
 -- ---- definitions
 

@@ -7,21 +7,21 @@ use Prim.Native.Nat.{ℕ, zero, suc, _+_, _-_, _*_, _/_, _%_, _≤_, _<_, min}
 use native.Mathlib.Omega.{arith}
 use lib.Arith.{bin-ind}
 use lib.Bits.{bitAnd, and-step, and-shr, and-mask, and-comm, and-self, and-le-l}
-use lib.Dec.{eqb, ltb}
+use lib.Dec.{eqb}
 use borrow.Author.Tests.{eqb-true, eqb-false, eq-eqb, lt-ltb}
-use Rattle.finite.specs.Logic.{_and_, _or_, which, bool-ext, not-both, split, and-true}
+use Rattle.finite.specs.Logic.{_or_, which, bool-ext, not-both, split, and-true}
 use Rattle.finite.specs.Below.{anyBelow, any-in, any-out, below-cases}
 use Rattle.model.specs.Row.{holds}
 use Rattle.model.specs.Limits.{CLASS-SETS}
 use Rattle.model.specs.Table.{Table}
 use Rattle.model.specs.Moment.{itself, programOrder}
-use Rattle.model.specs.Location.{availableAt, visibleAt}
+use Rattle.model.specs.Availability.{availabilityMoment, visibilityMoment}
 use Rattle.model.specs.Happens.{interThread, happens}
-use Rattle.hubs.specs.Wider.{lessBy, sharedBy, inter-wider}
-use Rattle.closing.specs.Order.{available-row, visible-row}
-use Rattle.closing.specs.Asked.{interBy, happens-sets}
-use Rattle.grids.specs.Grid.{grid-cong}
-use Rattle.grids.specs.Happens.{doneBy, orderBy, HappensBy, Happening, happensRows, availableRows, availableVisibles, availables, visibles}
+use Rattle.model_hubs.specs.Wider.{lessBy, sharedBy, inter-wider}
+use Rattle.model_closing.specs.Order.{available-row, visible-row}
+use Rattle.model_closing.specs.Asked.{interBy, happens-sets}
+use Rattle.sets_grids.specs.Grid.{grid-cong}
+use Rattle.sets_grids.specs.Happens.{doneBy, orderBy, HappensBy, Happening, happensRows, availableRows, availableVisibles, availables, visibles}
 use Rattle.sets_closure.specs.Widest.{widest}
 use Rattle.sets_order.specs.Inter.{wideTo}
 
@@ -137,10 +137,10 @@ pub happening-all : {t : Table} {n c : ℕ} {w : List ℕ} → t .rows ≡ n →
 unfolding happensRows availableRows availableVisibles availables visibles
 happening-all {t} {n} {c} {w} rows q h = go (rw q at h)
   where
-    av : (x : ℕ) → x < n → availableAt t x < 3 * t .rows
+    av : (x : ℕ) → x < n → availabilityMoment t x < 3 * t .rows
     av x l = let e = available-row t x in omega (arith, rows)
 
-    vi : (x : ℕ) → x < n → visibleAt t x < 3 * t .rows
+    vi : (x : ℕ) → x < n → visibilityMoment t x < 3 * t .rows
     vi x l = let e = visible-row t x in omega (arith, rows)
 
     own : (x : ℕ) → x < n → itself x < 3 * t .rows

@@ -1,26 +1,26 @@
 -- What inter-thread order for one class set adds to happens-before, and which class sets are enough. Assumes nothing.
-use mathlib.Core.Path.{_≡_, refl, sym, ap, ap₂, _∙_}
-use mathlib.Core.Bool.{Bool, true, false, not}
+use mathlib.Core.Path.{_≡_, refl, sym, ap, _∙_}
+use mathlib.Core.Bool.{Bool, true, false}
 use mathlib.Core.List.{List}
-use mathlib.Core.Logic.{_⊎_, inl, inr, ⊎-elim}
-use Prim.Native.Nat.{ℕ, zero, suc, _+_, _-_, _*_, _≤_, _<_}
+use mathlib.Core.Logic.{⊎-elim}
+use Prim.Native.Nat.{ℕ, suc, _+_, _-_, _*_, _≤_, _<_}
 use native.Mathlib.Omega.{arith}
 use lib.Dec.{eqb, ltb}
-use borrow.Author.Tests.{eqb-true, eq-eqb, ltb-true, lt-ltb, le-ltb}
-use Rattle.finite.specs.Logic.{_and_, _or_, which, bool-ext, not-both, not-so, split, and-true, and-on-right, and-false-right, or-cases, or-left, or-right, or-off}
+use borrow.Author.Tests.{eqb-true, eq-eqb, le-ltb}
+use Rattle.finite.specs.Logic.{_and_, _or_, bool-ext, split, and-true, and-on-right, and-false-right, or-cases, or-left, or-right, or-off}
 use Rattle.finite.specs.Below.{anyBelow, any-in, any-out, any-cong, turn, at-one}
 use Rattle.model.specs.Limits.{ROWS, CLASS-SETS}
-use Rattle.model.specs.Moment.{itself, programOrder}
+use Rattle.model.specs.Moment.{programOrder}
 use Rattle.model.specs.Happens.{interThread}
-use Rattle.model.specs.Location.{availableAt, visibleAt}
+use Rattle.model.specs.Availability.{availabilityMoment, visibilityMoment}
 use Rattle.model.specs.Table.{Table}
 use Rattle.bits.specs.Within.{Within, within-refl, within-trans, within-widen}
-use Rattle.closing.specs.Order.{available-row, visible-row}
-use Rattle.grids.specs.Regions.{HAPPENS, HAPPENS-END, DEPENDS, REACH-AT, REACH-END}
-use Rattle.grids.specs.Grid.{Grid, grid-kept, grid-cong, grid-added}
-use Rattle.row_sets.specs.declared.Set.{Set}
-use Rattle.grids.specs.Given.{given-few, given-kept}
-use Rattle.grids.specs.Happens.{doneBy, orderBy, HappensBy, Leading}
+use Rattle.model_closing.specs.Order.{available-row, visible-row}
+use Rattle.sets_grids.specs.Regions.{HAPPENS, DEPENDS, REACH-AT, REACH-END}
+use Rattle.sets_grids.specs.Grid.{Grid, grid-kept, grid-cong, grid-added}
+use Rattle.sets_of_rows.specs.declared.Set.{Set}
+use Rattle.sets_grids.specs.Given.{given-few, given-kept}
+use Rattle.sets_grids.specs.Happens.{doneBy, orderBy, HappensBy, Leading}
 use Rattle.sets_happens.specs.Adds.{none, AddsAt, AddsAvailable, AddsVisible}
 use Rattle.sets_closure.specs.Widest.{widest}
 
@@ -102,10 +102,10 @@ happens-cong {t} {n = n} rows f h =
       visibles = grid-cong (λ i j l m. f _ _ (vi i l) (vi j m)) (h .visibles);
     }
   where
-    av : (x : ℕ) → x < n → availableAt t x < 3 * t .rows
+    av : (x : ℕ) → x < n → availabilityMoment t x < 3 * t .rows
     av x l = let e = available-row t x in omega (arith, rows)
 
-    vi : (x : ℕ) → x < n → visibleAt t x < 3 * t .rows
+    vi : (x : ℕ) → x < n → visibilityMoment t x < 3 * t .rows
     vi x l = let e = visible-row t x in omega (arith, rows)
 
 pub done-cong : {t : Table} {d e : ℕ → Bool} {n : ℕ} {w : List ℕ} → t .rows ≡ n → ((c : ℕ) → c < CLASS-SETS → d c ≡ e c) → HappensBy t d n w → HappensBy t e n w

@@ -1,34 +1,31 @@
 -- What M6 and M7 leave. Assumes nothing.
-use mathlib.Core.Path.{_≡_, sym, ap, _∙_}
-use mathlib.Core.Bool.{Bool, true, false, _&&_}
+use mathlib.Core.Path.{_≡_, sym, _∙_}
+use mathlib.Core.Bool.{Bool, true, _&&_}
 use mathlib.Core.List.{List}
 use native.Mathlib.Omega.{arith}
-use Rattle.finite.specs.Logic.{_and_, split, and-both}
-use Rattle.model.specs.Row.{releases, acquires}
+use Rattle.finite.specs.Logic.{split, and-both}
+use Rattle.model.specs.Row.{releases}
 use Rattle.model.specs.Synchronizes.{synchronizes}
-use Rattle.model.specs.Moment.{rowIn, itself}
 use Rattle.model.specs.Happens.{bySync}
-use Rattle.area.specs.Regions.{SYNC}
-use Rattle.closing.specs.Order.{own-row}
-use Rattle.closing.specs.Up.{Down}
-use Rattle.row_sets.specs.declared.Set.{Set}
-use Rattle.row_sets.specs.Member.{inSet}
-use Rattle.row_sets.specs.Kept.{setAt}
-use Rattle.row_sets.specs.Rows.{rows-at, rows-in}
-use Rattle.known.specs.Known.{says-rows}
-use Rattle.known.specs.Tested.{RELEASES}
-use Rattle.grids.specs.Given.{Given, given-few, given-kept}
-use Rattle.grids.specs.Happens.{Leading}
+use Rattle.work_area.specs.Regions.{SYNC}
+use Rattle.model_closing.specs.Order.{own-row}
+use Rattle.sets_of_rows.specs.declared.Set.{Set}
+use Rattle.sets_of_rows.specs.Kept.{setAt}
+use Rattle.sets_of_rows.specs.Rows.{rows-at, rows-in}
+use Rattle.sets_of_table.specs.Known.{says-rows}
+use Rattle.sets_of_table.specs.Tested.{RELEASES}
+use Rattle.sets_grids.specs.Given.{Given, given-few, given-kept}
+use Rattle.sets_grids.specs.Happens.{Leading}
 use Rattle.sets_order.specs.Down.{downFrom, down-out}
 use Rattle.sets_order.specs.Calm.{sync-parts}
 use Rattle.sets_order.specs.System.{MadeDepends, Depending, MadeSystem}
-use Prim.Native.Nat.{ℕ, _+_, _*_, _≤_, _<_}
+use Prim.Native.Nat.{ℕ, _≤_, _<_}
 use Rattle.model.specs.Location.{systemBefore}
 use Rattle.model.specs.Table.{Table}
 use Rattle.bits.specs.Within.{Within, within-trans, within-widen}
-use Rattle.grids.specs.Regions.{HAPPENS, DEPENDS, REACH-END, SYSTEM, SYSTEM-END}
-use Rattle.grids.specs.Grid.{Grid, grid-kept}
-use Rattle.grids.specs.Happens.{Happening}
+use Rattle.sets_grids.specs.Regions.{HAPPENS, DEPENDS, REACH-END, SYSTEM, SYSTEM-END}
+use Rattle.sets_grids.specs.Grid.{Grid, grid-kept}
+use Rattle.sets_grids.specs.Happens.{Happening}
 
 pub record MadeHappens (t : Table) (n : ℕ) (w u : List ℕ) : Type 0 where
   pub happening : Happening t n u

@@ -1,11 +1,10 @@
 -- Dependencies and their closure. Assumes nothing.
-use mathlib.Core.Path.{_≡_, refl, sym, ap, ap₂, _∙_}
+use mathlib.Core.Path.{_≡_, refl, sym, _∙_}
 use mathlib.Core.Bool.{Bool, true, false, not}
 use mathlib.Core.List.{List}
 use mathlib.Core.Logic.{_⊎_, inl, inr}
-use Prim.Native.Nat.{ℕ, suc, _+_, _*_, _/_, _%_, _≤_, _<_}
+use Prim.Native.Nat.{ℕ, _*_, _<_}
 use native.Mathlib.Omega.{arith}
-use lib.Dec.{ltb, eqb}
 use borrow.Author.Tests.{eq-eqb, lt-ltb}
 use Rattle.finite.specs.Logic.{_and_, bool-ext, not-both, not-out, split, and-true, or-right}
 use Rattle.finite.specs.Below.{allBelow, all-out}
@@ -14,25 +13,25 @@ use Rattle.model.specs.Row.{holds}
 use Rattle.model.specs.Moment.{rowIn, part, AT, itself}
 use Rattle.model.specs.Happens.{holdingOf, holding, bySync, toRelease, fromAcquire, bySystem, step, interThread}
 use Rattle.model.specs.Location.{systemBefore}
-use Rattle.laws.specs.CaseLaws.{step-out}
-use Rattle.closing.specs.Order.{own-row, own-part}
-use Rattle.closing.specs.Nodes.{step-system, node}
-use Rattle.closing.specs.Sets.{reachedAt}
-use Rattle.closing.specs.Up.{Down}
-use Rattle.row_sets.specs.Member.{inSet}
-use Rattle.row_sets.specs.Rows.{Rows}
-use Rattle.known.specs.Fit.{Fit}
+use Rattle.model_laws.specs.CaseLaws.{step-out}
+use Rattle.model_closing.specs.Order.{own-row, own-part}
+use Rattle.model_closing.specs.Nodes.{step-system, node}
+use Rattle.model_closing.specs.Sets.{reachedAt}
+use Rattle.model_closing.specs.Up.{Down}
+use Rattle.sets_of_rows.specs.Member.{inSet}
+use Rattle.sets_of_rows.specs.Rows.{Rows}
+use Rattle.sets_of_table.specs.Fit.{Fit}
 use Rattle.model.specs.Synchronizes.{synchronizes}
 use Rattle.model.specs.Table.{Table}
 use Rattle.bits.specs.Within.{Within}
-use Rattle.area.specs.Regions.{SYNC}
-use Rattle.row_sets.specs.declared.Set.{Set}
-use Rattle.grids.specs.Regions.{DEPENDS, DEPENDS-END, REACH-AT, SYSTEM, SYSTEM-END}
-use Rattle.grids.specs.Grid.{Grid, MadeGrid, grid-kept}
-use Rattle.grids.specs.Given.{Given, given-few, given-kept}
-use Rattle.grids.specs.declared.Concerned.{Concerned}
-use Rattle.grids.specs.Concerns.{Told, Concerns}
-use Rattle.grids.specs.Reach.{Asks}
+use Rattle.work_area.specs.Regions.{SYNC}
+use Rattle.sets_of_rows.specs.declared.Set.{Set}
+use Rattle.sets_grids.specs.Regions.{DEPENDS, DEPENDS-END, REACH-AT, SYSTEM, SYSTEM-END}
+use Rattle.sets_grids.specs.Grid.{Grid, MadeGrid, grid-kept}
+use Rattle.sets_grids.specs.Given.{Given, given-few, given-kept}
+use Rattle.sets_grids.specs.declared.Concerned.{Concerned}
+use Rattle.sets_grids.specs.Concerns.{Told, Concerns}
+use Rattle.sets_grids.specs.Reach.{Asks}
 
 -- ---- definitions
 

@@ -5,20 +5,20 @@ ghost use lib.ListN.{length};
 ghost use Rattle.model.specs.Limits.{ROWS};
 ghost use Rattle.model.specs.Synchronizes.{synchronizes};
 ghost use Rattle.run.specs.Layout.{tableIn};
-ghost use Rattle.area.specs.Regions.{SYNC};
-ghost use Rattle.known.specs.Fit.{FitRun};
-ghost use Rattle.grids.specs.Grid.{Grid};
-ghost use Rattle.grids.specs.Given.{Given};
-ghost use Rattle.grids.specs.Happens.{Leading};
+ghost use Rattle.work_area.specs.Regions.{SYNC};
+ghost use Rattle.sets_of_table.specs.Fit.{FitRun};
+ghost use Rattle.sets_grids.specs.Grid.{Grid};
+ghost use Rattle.sets_grids.specs.Given.{Given};
+ghost use Rattle.sets_grids.specs.Happens.{Leading};
 ghost use Rattle.sets_order.specs.Down.{downFrom};
 ghost use Rattle.sets_order.specs.Inter.{AddsInter, AddsWidest};
 ghost use Rattle.sets_order.specs.Order.{MadeHappens, MadeOrder};
 
 pub mod system; // dependencies, and their closure
 
-use row_sets::Set;
-use row_sets::kept;
 use run::Run;
+use sets_of_rows::Set;
+use sets_of_rows::kept;
 
 // Whether each member of x leads, in the grid at word `base`, to later rows alone.
 pub fn leads_down(w: &[u64], base: usize, x: Set) -> bool
@@ -26,10 +26,10 @@ pub fn leads_down(w: &[u64], base: usize, x: Set) -> bool
     ensures { λ b. ⌜ b ≡ downFrom (now (w .entry)) base x ⌝ }
 {
     let mut left = x;
-    while row_sets::some(left) {
-        let a = row_sets::first(left);
-        left = row_sets::but_first(left);
-        if row_sets::some(row_sets::less(kept::get(w, base, a), row_sets::above(a))) {
+    while sets_of_rows::some(left) {
+        let a = sets_of_rows::first(left);
+        left = sets_of_rows::but_first(left);
+        if sets_of_rows::some(sets_of_rows::less(kept::get(w, base, a), sets_of_rows::above(a))) {
             return false;
         }
     }
@@ -42,7 +42,7 @@ fn add_inter_thread(t: &Run, n: usize, s: &[u64], c: usize, ends: Set, down: boo
     ensures { λ _. ⌜ AddsInter (tableIn (now (t .entry)) n) n c (now (w .entry)) (now (w .exit)) ⌝ }
 {
     let k = sets_closure::of_classes(t, n, s, ends, c);
-    if !(row_sets::some(ends) | sets_closure::is_synced(t, n, s, k, w)) {
+    if !(sets_of_rows::some(ends) | sets_closure::is_synced(t, n, s, k, w)) {
         return;
     }
     sets_closure::reach::fill_reach(t, n, s, c, ends, k, down, w);
@@ -82,8 +82,12 @@ pub fn order(t: &Run, n: usize, s: &[u64], w: &mut [u64])
     ensures { λ _. ⌜ MadeOrder (tableIn (now (t .entry)) n) n (now (w .entry)) (now (w .exit)) ⌝ }
 {
     let ends = system::fill_depends(t, n, w);
-    let depends_down = leads_down(w, grids::DEPENDS, ends);
-    let sync_down = leads_down(w, area::SYNC, known::rows(s, known::RELEASES));
+    let depends_down = leads_down(w, sets_grids::DEPENDS, ends);
+    let sync_down = leads_down(
+        w,
+        work_area::SYNC,
+        sets_of_table::rows(s, sets_of_table::RELEASES),
+    );
     system::fill_system(t, n, s, ends, depends_down, w);
     fill_happens(t, n, s, ends, sync_down & depends_down, w);
 }

@@ -5,17 +5,17 @@ ghost use Prim.Native.Nat.{_<_};
 ghost use Rattle.model.specs.Row.{access};
 ghost use Rattle.model.specs.Table.{rowOf};
 ghost use Rattle.run.specs.Layout.{rowsIn, tableIn};
-ghost use Rattle.row_sets.specs.Rows.{Rows};
-ghost use Rattle.area.specs.Regions.{OVERLAP, OVERLAP-END};
-ghost use Rattle.area.specs.State.{overlaps};
-ghost use Rattle.known.specs.Known.{Opened};
-ghost use Rattle.grids.specs.Grid.{MadeGrid};
-ghost use Rattle.grids.specs.Given.{Given};
+ghost use Rattle.sets_of_rows.specs.Rows.{Rows};
+ghost use Rattle.work_area.specs.Regions.{OVERLAP, OVERLAP-END};
+ghost use Rattle.work_area.specs.State.{overlaps};
+ghost use Rattle.sets_of_table.specs.Known.{Opened};
+ghost use Rattle.sets_grids.specs.Grid.{MadeGrid};
+ghost use Rattle.sets_grids.specs.Given.{Given};
 ghost use Rattle.sets_overlap.specs.Overlap.{Earlier};
-use known::fields;
-use row_sets::Set;
-use row_sets::kept;
 use run::Run;
+use sets_of_rows::Set;
+use sets_of_rows::kept;
+use sets_of_table::fields;
 
 // The accesses that share bytes with access i: location by location.
 fn near(t: &Run, n: usize, s: &[u64], i: usize) -> Set
@@ -24,14 +24,14 @@ fn near(t: &Run, n: usize, s: &[u64], i: usize) -> Set
 {
     let start = fields::start(t, i);
     let end = fields::end(t, i);
-    let mut left = known::rows(s, known::ACCESS);
-    let mut all = row_sets::none();
-    while row_sets::some(left) {
-        let j = row_sets::first(left);
-        let here = kept::get(s, known::PLACE, j);
-        left = row_sets::less(left, here);
+    let mut left = sets_of_table::rows(s, sets_of_table::ACCESS);
+    let mut all = sets_of_rows::none();
+    while sets_of_rows::some(left) {
+        let j = sets_of_rows::first(left);
+        let here = kept::get(s, sets_of_table::PLACE, j);
+        left = sets_of_rows::less(left, here);
         let b = (start < fields::end(t, j)) & (fields::start(t, j) < end);
-        all = row_sets::or(all, row_sets::only_if(b, here));
+        all = sets_of_rows::or(all, sets_of_rows::only_if(b, here));
     }
     all
 }
@@ -43,11 +43,11 @@ fn overlap_row(t: &Run, n: usize, s: &[u64], w: &[u64], i: usize) -> Set
         × Earlier (tableIn (now t) n) n i (now w) ⌝ }
     ensures { λ x. ⌜ Rows n (overlaps (tableIn (now (t .entry)) n) i) x ⌝ }
 {
-    let j = row_sets::first(kept::get(s, known::PLACE, i));
+    let j = sets_of_rows::first(kept::get(s, sets_of_table::PLACE, i));
     if j == i {
         return near(t, n, s, i);
     }
-    kept::get(w, area::OVERLAP, j)
+    kept::get(w, work_area::OVERLAP, j)
 }
 
 // OVERLAP.
@@ -55,12 +55,12 @@ pub fn fill_overlaps(t: &Run, n: usize, s: &[u64], w: &mut [u64])
     requires { ⌜ Given (tableIn (now t) n) n (now s) (now w) ⌝ }
     ensures { λ _. ⌜ MadeGrid OVERLAP OVERLAP-END OVERLAP n (overlaps (tableIn (now (t .entry)) n)) (now (w .entry)) (now (w .exit)) ⌝ }
 {
-    bits::clear(w, area::OVERLAP, area::OVERLAP_END);
-    let mut left = known::rows(s, known::ACCESS);
-    while row_sets::some(left) {
-        let i = row_sets::first(left);
-        left = row_sets::but_first(left);
+    bits::clear(w, work_area::OVERLAP, work_area::OVERLAP_END);
+    let mut left = sets_of_table::rows(s, sets_of_table::ACCESS);
+    while sets_of_rows::some(left) {
+        let i = sets_of_rows::first(left);
+        left = sets_of_rows::but_first(left);
         let x = overlap_row(t, n, s, w, i);
-        kept::put(w, area::OVERLAP, i, x);
+        kept::put(w, work_area::OVERLAP, i, x);
     }
 }

@@ -19,30 +19,30 @@ use Rattle.model.specs.Row.{reads, writes, touches}
 use Rattle.model.specs.Table.{Table}
 use Rattle.model.specs.Race.{nth}
 use Rattle.model.specs.Edge.{beforeNth, beforeSome, overReader, overWriter, overByte}
-use Rattle.laws.specs.PairLaws.{inside-out, common-out}
-use Rattle.laws.specs.RaceLaws.{Sized}
-use Rattle.placing.specs.Whole.{before-shared, shared-common}
-use Rattle.placing.specs.Judge.{bitAt, bit-is, mayOverwrite, overBit, overBits, overRow, over-byte-is, over-writer-is, over-reader-is}
+use Rattle.model_laws.specs.PairLaws.{inside-out, common-out}
+use Rattle.model_laws.specs.RaceLaws.{Sized}
+use Rattle.model_placing.specs.Whole.{before-shared, shared-common}
+use Rattle.model_placing.specs.Judge.{bitAt, bit-is, mayOverwrite, overBit, overBits, overRow, over-byte-is, over-writer-is, over-reader-is}
 use Rattle.bits.specs.Bit.{bit, bitOf}
-use Rattle.area.specs.Regions.{LOCATION, PAIR, PAIRS, OVERLAP}
-use Rattle.area.specs.State.{overlaps}
-use Rattle.area.specs.Mask.{maskAt}
-use Rattle.sets.specs.Lowest.{Lowest, bitOf-and, lowest-is}
-use Rattle.row_sets.specs.declared.Set.{Set}
-use Rattle.row_sets.specs.Member.{inSet}
-use Rattle.row_sets.specs.Kept.{setAt}
-use Rattle.row_sets.specs.Word.{bitOf-cut, bitOf-small}
-use Rattle.row_sets.specs.Rows.{Rows, rows-at, rows-in, rows-and}
-use Rattle.known.specs.Tested.{WRITES}
-use Rattle.known.specs.Known.{Opened, says-rows}
+use Rattle.work_area.specs.Regions.{LOCATION, PAIR, PAIRS, OVERLAP}
+use Rattle.work_area.specs.State.{overlaps}
+use Rattle.work_area.specs.Mask.{maskAt}
+use Rattle.work_sets.specs.Lowest.{Lowest, bitOf-and, lowest-is}
+use Rattle.sets_of_rows.specs.declared.Set.{Set}
+use Rattle.sets_of_rows.specs.Member.{inSet}
+use Rattle.sets_of_rows.specs.Kept.{setAt}
+use Rattle.sets_of_rows.specs.Word.{bitOf-cut, bitOf-small}
+use Rattle.sets_of_rows.specs.Rows.{Rows, rows-at, rows-in, rows-and}
+use Rattle.sets_of_table.specs.Tested.{WRITES}
+use Rattle.sets_of_table.specs.Known.{Opened, says-rows}
 use Rattle.sets_bytes.specs.Masks.{Mask, sharedBit, movedBit}
-use Rattle.grids.specs.Regions.{SOME}
-use Rattle.grids.specs.Grid.{grid-at}
-use Rattle.grids.specs.Location.{Judging}
-use Rattle.race.specs.Bytes.{Bounded}
-use Rattle.axioms.specs.Overwritten.{foundOverwrite, overwriteOf}
-use Rattle.axioms.specs.declared.overwritten.Overwrite.{Overwrite}
-use Rattle.axioms.specs.declared.overwritten.Overwrite.the-variants.{At, Nothing}
+use Rattle.sets_grids.specs.Regions.{SOME}
+use Rattle.sets_grids.specs.Grid.{grid-at}
+use Rattle.sets_grids.specs.Location.{Judging}
+use Rattle.find_race.specs.Bytes.{Bounded}
+use Rattle.find_axioms.specs.Overwritten.{foundOverwrite, overwriteOf}
+use Rattle.find_axioms.specs.declared.overwritten.Overwrite.{Overwrite}
+use Rattle.find_axioms.specs.declared.overwritten.Overwrite.the-variants.{At, Nothing}
 
 -- ---- definitions
 
@@ -118,7 +118,7 @@ no-bit p m mask z k l = sym (mask .is k l) ∙ ap (λ (x : ℕ). bitOf x k) (let
 -- ---- laws: bytes that are overwritten
 
 module _ (t : Table) {n : ℕ} {w : List ℕ} (rows-are : t .rows ≡ n) (few-are : n ≤ ROWS) (judging : Judging t n w) where
-  moved-bit : (x z y k m : ℕ) → x < n → z < n → m ≡ maskAt w (LOCATION * 64 + x * PAIRS + z * PAIR) → movedBit t m x y k ≡ bitAt t x z (nth t y k)
+  pub moved-bit : (x z y k m : ℕ) → x < n → z < n → m ≡ maskAt w (LOCATION * 64 + x * PAIRS + z * PAIR) → movedBit t m x y k ≡ bitAt t x z (nth t y k)
   unfolding movedBit bitAt
   moved-bit x z y k m l o e = go (decLt (nth t y k - t .row x .start) LONGEST)
     where
@@ -183,13 +183,13 @@ byte-lowest t k y z m sized bounded ly lz mask pos =
 
 -- ---- laws: a search that is cut at n rows
 
-cut-found : (p : ℕ → Bool) (n i : ℕ) → i < n → i ≡ least ROWS (λ z. ltb z n and p z) → (ltb i n and p i) ≡ true → least n p ≡ i
+pub cut-found : (p : ℕ → Bool) (n i : ℕ) → i < n → i ≡ least ROWS (λ z. ltb z n and p z) → (ltb i n and p i) ≡ true → least n p ≡ i
 cut-found p n i l e h = least-unique p n i l (split h .1) (λ j o. not-so (p j) (λ q. not-both (and-true (lt-ltb j n (omega arith)) q) (miss j o)))
   where
     miss : (j : ℕ) → j < i → (ltb j n and p j) ≡ false
     miss j o = least-is (λ z. ltb z n and p z) ROWS .miss j (subst (λ (v : ℕ). j < v) e o)
 
-cut-none : (p : ℕ → Bool) (n : ℕ) → n ≤ ROWS → ROWS ≡ least ROWS (λ z. ltb z n and p z) → least n p ≡ n
+pub cut-none : (p : ℕ → Bool) (n : ℕ) → n ≤ ROWS → ROWS ≡ least ROWS (λ z. ltb z n and p z) → least n p ≡ n
 cut-none p n few e = least-off p n (λ j o. not-so (p j) (λ q. not-both (and-true (lt-ltb j n o) q) (miss j (omega arith))))
   where
     miss : (j : ℕ) → j < ROWS → (ltb j n and p j) ≡ false

@@ -7,28 +7,28 @@ ghost use Rattle.model.specs.Limits.{WORK};
 ghost use Rattle.model.specs.Row.{reads};
 ghost use Rattle.model.specs.Table.{rowOf};
 ghost use Rattle.run.specs.Layout.{rowsIn, tableIn};
-ghost use Rattle.axioms.specs.Sources.{sourceIn};
-ghost use Rattle.axioms.specs.Overwritten.{foundOverwrite};
-ghost use Rattle.race.specs.Bytes.{Bounded};
-ghost use Rattle.placing.specs.Judge.{overBit};
-ghost use Rattle.known.specs.Fit.{Fit};
+ghost use Rattle.find_axioms.specs.Sources.{sourceIn};
+ghost use Rattle.find_axioms.specs.Overwritten.{foundOverwrite};
+ghost use Rattle.find_race.specs.Bytes.{Bounded};
+ghost use Rattle.model_placing.specs.Judge.{overBit};
+ghost use Rattle.sets_of_table.specs.Fit.{Fit};
 ghost use Rattle.sets_bytes.specs.Masks.{Mask};
-ghost use Rattle.grids.specs.Given.{Given};
-ghost use Rattle.grids.specs.Location.{Judging};
+ghost use Rattle.sets_grids.specs.Given.{Given};
+ghost use Rattle.sets_grids.specs.Location.{Judging};
 ghost use Rattle.sets_overwritten.specs.Over.{always, foundWriter};
-use axioms::overwritten::Overwrite;
-use known::fields;
-use row_sets::kept;
+use find_axioms::overwritten::Overwrite;
 use run::Run;
+use sets_of_rows::kept;
+use sets_of_table::fields;
 
 // The bytes of y at which z overwrites its source before it.
 // Ruled out: one that has the bytes of z or of the source, from their starts.
-fn overwrites(t: &Run, n: usize, source: usize, z: usize, y: usize, w: &[u64]) -> u64
+pub fn overwrites(t: &Run, n: usize, source: usize, z: usize, y: usize, w: &[u64]) -> u64
     requires { ⌜ (source < n) × (z < n) × (y < n) × Fit (tableIn (now t) n) × (tableIn (now t) n .rows ≡ n) × (WORK ≤ length (now w)) × Judging (tableIn (now t) n) n (now w) ⌝ }
     ensures { λ m. ⌜ Mask (overBit (tableIn (now (t .entry)) n) (always source) y z) m ⌝ }
 {
-    let a = sets_bytes::moved(t, n, area::pairs::mask(w, source, z), source, y);
-    let b = sets_bytes::moved(t, n, area::pairs::mask(w, z, y), z, y);
+    let a = sets_bytes::moved(t, n, work_area::pairs::mask(w, source, z), source, y);
+    let b = sets_bytes::moved(t, n, work_area::pairs::mask(w, z, y), z, y);
     a & b & sets_bytes::shared(t, n, y, y)
 }
 
@@ -39,15 +39,15 @@ fn overwritten_by(t: &Run, n: usize, s: &[u64], source: usize, y: usize, w: &[u6
         × Judging (tableIn (now t) n) n (now w) ⌝ }
     ensures { λ r. ⌜ r ≡ foundWriter (tableIn (now (t .entry)) n) source y ⌝ }
 {
-    let over = row_sets::and(
-        kept::get(w, area::OVERLAP, y),
-        known::rows(s, known::WRITES),
+    let over = sets_of_rows::and(
+        kept::get(w, work_area::OVERLAP, y),
+        sets_of_table::rows(s, sets_of_table::WRITES),
     );
-    let mut left = row_sets::and(kept::get(w, grids::SOME, source), over);
-    while row_sets::some(left) {
-        let z = row_sets::first(left);
-        left = row_sets::but_first(left);
-        if row_sets::has(kept::get(w, grids::SOME, z), y) {
+    let mut left = sets_of_rows::and(kept::get(w, sets_grids::SOME, source), over);
+    while sets_of_rows::some(left) {
+        let z = sets_of_rows::first(left);
+        left = sets_of_rows::but_first(left);
+        if sets_of_rows::has(kept::get(w, sets_grids::SOME, z), y) {
             let m = overwrites(t, n, source, z, y, w);
             if 0 < m {
                 return Overwrite::At {
@@ -66,10 +66,10 @@ pub fn first_overwrite(t: &Run, n: usize, src: &[u16], s: &[u64], w: &[u64]) -> 
     requires { ⌜ (n ≤ length (now src)) × Bounded (tableIn (now t) n) × Given (tableIn (now t) n) n (now s) (now w) × Judging (tableIn (now t) n) n (now w) ⌝ }
     ensures { λ r. ⌜ r ≡ foundOverwrite (tableIn (now (t .entry)) n) (sourceIn (now (src .entry))) ⌝ }
 {
-    let mut left = known::rows(s, known::READS);
-    while row_sets::some(left) {
-        let y = row_sets::first(left);
-        left = row_sets::but_first(left);
+    let mut left = sets_of_table::rows(s, sets_of_table::READS);
+    while sets_of_rows::some(left) {
+        let y = sets_of_rows::first(left);
+        left = sets_of_rows::but_first(left);
         let source = src[y] as usize;
         if source < n {
             let o = overwritten_by(t, n, s, source, y, w);

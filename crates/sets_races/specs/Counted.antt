@@ -1,6 +1,6 @@
 -- The counts of a report. Assumes nothing.
 use mathlib.Core.Path.{_≡_}
-use Prim.Native.Nat.{ℕ, _+_, _≤_}
+use Prim.Native.Nat.{_+_}
 use Rattle.model.specs.Report.{conflicting, mutuals, ordered, racing}
 use Rattle.model.specs.Table.{Table}
 use Rattle.sets_races.specs.declared.Counts.{Counts}

@@ -22,25 +22,25 @@ use Rattle.model.specs.Scope.{mutually}
 use Rattle.model.specs.Location.{common, before}
 use Rattle.model.specs.Edge.{beforeNth}
 use Rattle.model.specs.Race.{nth, clash, conflict, unordered, unorderedNth}
-use Rattle.laws.specs.PairLaws.{overlap-is, inside-out, common-out}
+use Rattle.model_laws.specs.PairLaws.{overlap-is, inside-out, common-out}
 use Rattle.bits.specs.Bit.{bit, bitOf, bitOf-or, bitOf-zero}
 use Rattle.bits.specs.Cube.{cube-bit}
-use Rattle.area.specs.Regions.{LOCATION, PAIRS, PAIR, OVERLAP}
-use Rattle.area.specs.Mask.{maskAt}
-use Rattle.area.specs.State.{overlaps}
-use Rattle.sets.specs.Lowest.{Lowest, lowest-is}
-use Rattle.row_sets.specs.declared.Set.{Set}
-use Rattle.row_sets.specs.Member.{inSet}
-use Rattle.row_sets.specs.Kept.{setAt}
-use Rattle.row_sets.specs.Rows.{Rows, rows-at, rows-cong, rows-cut, rows-and, rows-less}
-use Rattle.row_sets.specs.Word.{bitOf-cut, bitOf-less, bitOf-small}
-use Rattle.known.specs.Fit.{Fit}
-use Rattle.known.specs.Tested.{WRITES}
-use Rattle.known.specs.Known.{says-rows}
-use Rattle.grids.specs.Grid.{grid-at}
-use Rattle.grids.specs.Given.{Given}
-use Rattle.grids.specs.Location.{Judging}
-use Rattle.placing.specs.Judge.{bitAt, bit-is}
+use Rattle.work_area.specs.Regions.{LOCATION, PAIRS, PAIR, OVERLAP}
+use Rattle.work_area.specs.Mask.{maskAt}
+use Rattle.work_area.specs.State.{overlaps}
+use Rattle.work_sets.specs.Lowest.{Lowest, lowest-is}
+use Rattle.sets_of_rows.specs.declared.Set.{Set}
+use Rattle.sets_of_rows.specs.Member.{inSet}
+use Rattle.sets_of_rows.specs.Kept.{setAt}
+use Rattle.sets_of_rows.specs.Rows.{Rows, rows-at, rows-cong, rows-cut, rows-and, rows-less}
+use Rattle.sets_of_rows.specs.Word.{bitOf-cut, bitOf-less, bitOf-small}
+use Rattle.sets_of_table.specs.Fit.{Fit}
+use Rattle.sets_of_table.specs.Tested.{WRITES}
+use Rattle.sets_of_table.specs.Known.{says-rows}
+use Rattle.sets_grids.specs.Grid.{grid-at}
+use Rattle.sets_grids.specs.Given.{Given}
+use Rattle.sets_grids.specs.Location.{Judging}
+use Rattle.model_placing.specs.Judge.{bitAt, bit-is}
 use Rattle.sets_bytes.specs.Masks.{Mask, sharedBit, movedBit}
 use Rattle.sets_races.specs.Sums.{above}
 

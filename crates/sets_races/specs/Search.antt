@@ -5,7 +5,6 @@ use mathlib.Core.Logic.{⊎-elim}
 use Prim.Native.Nat.{ℕ, _+_, _≤_, _<_}
 use native.Mathlib.Omega.{arith}
 use lib.Dec.{ltb}
-use lib.Count.{trailingZeros}
 use borrow.Author.Tests.{lt-ltb, le-ltb, ltb-true}
 use Rattle.finite.specs.Logic.{_and_, split, and-true, and-false-right, not-out, not-so, not-both, which}
 use Rattle.finite.specs.Below.{least, least-is, least-off, least-unique}
@@ -18,13 +17,13 @@ use Rattle.model.specs.Race.{clash, conflict, unorderedNth, raceNth, races, rac
 use Rattle.model.specs.Report.{conflictMutual, conflictOrdered, conflicting, mutuals, ordered, racing}
 use Rattle.bits.specs.Bit.{bitOf}
 use native.Mathlib.Decide.{decLt}
-use Rattle.laws.specs.ReportLaws.{one-way, adds-up}
-use Rattle.race.specs.declared.Found.{Found}
-use Rattle.race.specs.declared.Found.the-variants.{At, Nothing}
-use Rattle.race.specs.First.{raceOf, foundRace, race-none}
-use Rattle.row_sets.specs.declared.Set.{Set}
-use Rattle.row_sets.specs.Member.{inSet}
-use Rattle.row_sets.specs.Rows.{Rows, rows-cong, rows-and}
+use Rattle.model_laws.specs.ReportLaws.{one-way, adds-up}
+use Rattle.find_race.specs.declared.Found.{Found}
+use Rattle.find_race.specs.declared.Found.the-variants.{At, Nothing}
+use Rattle.find_race.specs.First.{raceOf, foundRace, race-none}
+use Rattle.sets_of_rows.specs.declared.Set.{Set}
+use Rattle.sets_of_rows.specs.Member.{inSet}
+use Rattle.sets_of_rows.specs.Rows.{Rows, rows-cong, rows-and}
 use Rattle.sets_bytes.specs.Masks.{Mask}
 use Rattle.sets_races.specs.declared.Counts.{Counts}
 use Rattle.sets_races.specs.Counted.{Counted}

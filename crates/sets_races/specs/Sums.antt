@@ -11,12 +11,12 @@ use Rattle.finite.specs.Logic.{_and_, and-on, and-false-left}
 use Rattle.finite.specs.Below.{anyBelow}
 use Rattle.finite.specs.Count.{one, one-bound, countBelow, count-off, count-cong, count-bound, countPairs, under}
 use Rattle.model.specs.Limits.{ROWS}
-use Rattle.row_sets.specs.declared.Set.{Set}
-use Rattle.row_sets.specs.Member.{inSet}
-use Rattle.row_sets.specs.Word.{count-add}
-use Rattle.row_sets.specs.First.{First, first-next, Rest, next}
-use Rattle.row_sets.specs.Rows.{Rows}
-use Rattle.row_sets.specs.Walk.{Walk, walk-begin, walk-turn, walk-end}
+use Rattle.sets_of_rows.specs.declared.Set.{Set}
+use Rattle.sets_of_rows.specs.Member.{inSet}
+use Rattle.sets_of_rows.specs.Word.{count-add}
+use Rattle.sets_of_rows.specs.First.{First, first-next, Rest, next}
+use Rattle.sets_of_rows.specs.Rows.{Rows}
+use Rattle.sets_of_rows.specs.Walk.{Walk, walk-begin, walk-turn, walk-end}
 
 -- ---- definitions
 

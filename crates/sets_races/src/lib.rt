@@ -8,20 +8,20 @@ ghost use Rattle.model.specs.Race.{conflict, unorderedNth};
 ghost use Rattle.model.specs.Report.{conflictOrdered};
 ghost use Rattle.bits.specs.Bit.{bitOf};
 ghost use Rattle.run.specs.Layout.{rowsIn, tableIn};
-ghost use Rattle.row_sets.specs.Rows.{Rows};
-ghost use Rattle.race.specs.Bytes.{Bounded};
-ghost use Rattle.race.specs.First.{foundRace};
-ghost use Rattle.grids.specs.Given.{Given};
-ghost use Rattle.grids.specs.Location.{Judging};
+ghost use Rattle.sets_of_rows.specs.Rows.{Rows};
+ghost use Rattle.find_race.specs.Bytes.{Bounded};
+ghost use Rattle.find_race.specs.First.{foundRace};
+ghost use Rattle.sets_grids.specs.Given.{Given};
+ghost use Rattle.sets_grids.specs.Location.{Judging};
 ghost use Rattle.sets_bytes.specs.Masks.{Mask};
 ghost use Rattle.sets_races.specs.Counted.{Counted};
 ghost use Rattle.sets_races.specs.Sums.{above, rowCount};
 ghost use Rattle.sets_races.specs.Pair.{Judged, openAfter};
-use known::fields;
-use race::Found;
-use row_sets::Set;
-use row_sets::kept;
+use find_race::Found;
 use run::Run;
+use sets_of_rows::Set;
+use sets_of_rows::kept;
+use sets_of_table::fields;
 
 // ---- races
 
@@ -30,12 +30,12 @@ fn conflicting(t: &Run, n: usize, s: &[u64], i: usize, w: &[u64]) -> Set
     requires { ⌜ (i < n) × (access (rowOf (rowsIn (now t)) i) ≡ true) × Given (tableIn (now t) n) n (now s) (now w) × Judging (tableIn (now t) n) n (now w) ⌝ }
     ensures { λ r. ⌜ Rows n (above (conflict (tableIn (now (t .entry)) n)) i) r ⌝ }
 {
-    let writes = known::rows(s, known::WRITES);
-    let over = row_sets::and(kept::get(w, area::OVERLAP, i), row_sets::above(i));
-    if row_sets::has(writes, i) {
+    let writes = sets_of_table::rows(s, sets_of_table::WRITES);
+    let over = sets_of_rows::and(kept::get(w, work_area::OVERLAP, i), sets_of_rows::above(i));
+    if sets_of_rows::has(writes, i) {
         over
     } else {
-        row_sets::and(over, writes)
+        sets_of_rows::and(over, writes)
     }
 }
 
@@ -45,8 +45,8 @@ fn unordered(t: &Run, n: usize, i: usize, j: usize, w: &[u64]) -> u64
     ensures { λ m. ⌜ Mask (unorderedNth (tableIn (now (t .entry)) n) i j) m ⌝ }
 {
     let all = sets_bytes::shared(t, n, i, j);
-    let ordered = area::pairs::mask(w, i, j)
-        | sets_bytes::moved(t, n, area::pairs::mask(w, j, i), j, i);
+    let ordered = work_area::pairs::mask(w, i, j)
+        | sets_bytes::moved(t, n, work_area::pairs::mask(w, j, i), j, i);
     all ^ (all & ordered)
 }
 
@@ -55,7 +55,10 @@ fn open_after(t: &Run, n: usize, s: &[u64], i: usize, w: &[u64]) -> Set
     requires { ⌜ (i < n) × (access (rowOf (rowsIn (now t)) i) ≡ true) × Given (tableIn (now t) n) n (now s) (now w) × Judging (tableIn (now t) n) n (now w) ⌝ }
     ensures { λ r. ⌜ Rows n (openAfter (tableIn (now (t .entry)) n) i) r ⌝ }
 {
-    row_sets::less(conflicting(t, n, s, i, w), kept::get(w, area::MUTUAL, i))
+    sets_of_rows::less(
+        conflicting(t, n, s, i, w),
+        kept::get(w, work_area::MUTUAL, i),
+    )
 }
 
 // Whether bit k of m is set.
@@ -73,14 +76,14 @@ pub fn first_race(t: &Run, n: usize, s: &[u64], w: &[u64]) -> Found
     ensures { λ r. ⌜ r ≡ foundRace (tableIn (now (t .entry)) n) ⌝ }
 {
     let mut answer = Found::Nothing;
-    let mut left = known::rows(s, known::ACCESS);
-    'pairs: while row_sets::some(left) {
-        let x = row_sets::first(left);
-        left = row_sets::but_first(left);
+    let mut left = sets_of_table::rows(s, sets_of_table::ACCESS);
+    'pairs: while sets_of_rows::some(left) {
+        let x = sets_of_rows::first(left);
+        left = sets_of_rows::but_first(left);
         let mut others = open_after(t, n, s, x, w);
-        while row_sets::some(others) {
-            let y = row_sets::first(others);
-            others = row_sets::but_first(others);
+        while sets_of_rows::some(others) {
+            let y = sets_of_rows::first(others);
+            others = sets_of_rows::but_first(others);
             let bytes = unordered(t, n, x, y, w);
             if bytes == 0 {
                 continue;
@@ -118,11 +121,11 @@ fn count_ordered(t: &Run, n: usize, i: usize, others: Set, w: &[u64]) -> u16
 {
     let mut left = others;
     let mut count = 0;
-    while row_sets::some(left) {
-        if unordered(t, n, i, row_sets::first(left), w) == 0 {
+    while sets_of_rows::some(left) {
+        if unordered(t, n, i, sets_of_rows::first(left), w) == 0 {
             count += 1;
         }
-        left = row_sets::but_first(left);
+        left = sets_of_rows::but_first(left);
     }
     count
 }
@@ -137,15 +140,15 @@ pub fn count_pairs(t: &Run, n: usize, s: &[u64], w: &[u64]) -> Counts
         mutuals: 0,
         ordered: 0,
     };
-    let mut left = known::rows(s, known::ACCESS);
-    while row_sets::some(left) {
-        let i = row_sets::first(left);
-        left = row_sets::but_first(left);
+    let mut left = sets_of_table::rows(s, sets_of_table::ACCESS);
+    while sets_of_rows::some(left) {
+        let i = sets_of_rows::first(left);
+        left = sets_of_rows::but_first(left);
         let others = conflicting(t, n, s, i, w);
-        let mutual = kept::get(w, area::MUTUAL, i);
-        c.conflicting += row_sets::count(others) as u16;
-        c.mutuals += row_sets::count(row_sets::and(others, mutual)) as u16;
-        c.ordered += count_ordered(t, n, i, row_sets::less(others, mutual), w);
+        let mutual = kept::get(w, work_area::MUTUAL, i);
+        c.conflicting += sets_of_rows::count(others) as u16;
+        c.mutuals += sets_of_rows::count(sets_of_rows::and(others, mutual)) as u16;
+        c.ordered += count_ordered(t, n, i, sets_of_rows::less(others, mutual), w);
     }
     c
 }

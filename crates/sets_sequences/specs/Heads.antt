@@ -15,23 +15,24 @@ use Rattle.model.specs.Limits.{ROWS, COUNTS}
 use Rattle.model.specs.Row.{rmw, ranked, atomic, writes, ATOMIC-WRITE, RMW}
 use Rattle.model.specs.Scope.{age, later, laterWriter, mutually, mutualRows, follows}
 use Rattle.model.specs.Synchronizes.{continues, ends, sequence}
-use Rattle.model.specs.Table.{Table, pairAt, pairOf, rowOf, decode}
-use Rattle.laws.specs.FilledLaws.{Bytes}
+use Rattle.model.specs.Table.{Table, pairOf, rowOf, decode}
+use Rattle.model.specs.Header.{pairAt}
+use Rattle.model_laws.specs.FilledLaws.{Bytes}
 use Rattle.bits.specs.Within.{Within, within-refl, within-trans, within-widen}
-use Rattle.row_sets.specs.declared.Set.{Set}
-use Rattle.row_sets.specs.Member.{inSet}
-use Rattle.row_sets.specs.First.{First, first-next, Rest, next}
-use Rattle.row_sets.specs.Kept.{setAt, set-kept, Stored, added}
-use Rattle.row_sets.specs.Family.{nth}
-use Rattle.row_sets.specs.Rows.{Rows, rows-at, rows-and}
-use Rattle.row_sets.specs.Filling.{fill-begin}
-use Rattle.row_sets.specs.Walk.{Walk, walk-begin, walk-turn, walk-end, walk-in}
+use Rattle.sets_of_rows.specs.declared.Set.{Set}
+use Rattle.sets_of_rows.specs.Member.{inSet}
+use Rattle.sets_of_rows.specs.First.{First, first-next, Rest, next}
+use Rattle.sets_of_rows.specs.Kept.{setAt, set-kept, Stored, added}
+use Rattle.sets_of_rows.specs.Family.{nth}
+use Rattle.sets_of_rows.specs.Rows.{Rows, rows-at, rows-and}
+use Rattle.sets_of_rows.specs.Filling.{fill-begin}
+use Rattle.sets_of_rows.specs.Walk.{Walk, walk-begin, walk-turn, walk-end, walk-in}
 use Rattle.bits.specs.Bit.{zeros}
-use Rattle.known.specs.Says.{says-kind}
-use Rattle.known.specs.Known.{Opened, says-rows}
-use Rattle.grids.specs.Regions.{LATER, HEADS, HEADS-END}
-use Rattle.grids.specs.Grid.{Grid, grid-at, MadeGrid}
-use Rattle.grids.specs.Synced.{headedBy}
+use Rattle.sets_of_table.specs.Says.{says-kind}
+use Rattle.sets_of_table.specs.Known.{Opened, says-rows}
+use Rattle.sets_grids.specs.Regions.{LATER, HEADS, HEADS-END}
+use Rattle.sets_grids.specs.Grid.{Grid, grid-at, MadeGrid}
+use Rattle.sets_grids.specs.Synced.{headedBy}
 
 -- ---- definitions
 

@@ -10,33 +10,33 @@ use native.Mathlib.Decide.{decLt, ℕ-discrete}
 use lib.Dec.{eqb, ltb}
 use lib.ListN.{length}
 use borrow.Author.Tests.{eqb-true, eq-eqb, ltb-true, lt-ltb, le-ltb, leb-true}
-use Rattle.finite.specs.Logic.{_and_, _or_, bool-ext, split, and-true, and-on, and-false-left, and-false-right, or-cases, or-left, or-right, or-off, and-or, which, not-so}
+use Rattle.finite.specs.Logic.{_and_, _or_, bool-ext, split, and-true, and-on, and-false-left, and-false-right, or-cases, or-left, or-right, or-off, and-or, not-so}
 use Rattle.finite.specs.Below.{anyBelow, any-none, any-in, any-off, any-out}
 use Rattle.model.specs.declared.Row.{Row}
 use Rattle.model.specs.Limits.{ROWS, WORK}
 use Rattle.model.specs.Row.{acquires, barrier, atomic, access, reads, writes, ranked, meets, single, classIn}
 use Rattle.model.specs.Scope.{mutualRows, mutually}
-use Rattle.model.specs.Synchronizes.{sequence, trails, takesFrom, carriesIn}
+use Rattle.model.specs.Synchronizes.{trails, takesFrom, carriesIn}
 use Rattle.model.specs.Table.{Table, rowOf, sourceOf, atomicSource}
-use Rattle.laws.specs.PairLaws.{mutually-sym}
-use Rattle.closing.specs.Order.{laterRow}
+use Rattle.model_laws.specs.PairLaws.{mutually-sym}
+use Rattle.model_closing.specs.Order.{laterRow}
 use Rattle.bits.specs.Within.{Within, within-refl, within-trans, within-widen}
-use Rattle.row_sets.specs.declared.Set.{Set}
-use Rattle.row_sets.specs.Member.{inSet}
-use Rattle.row_sets.specs.First.{First, first-next, Rest, next}
-use Rattle.row_sets.specs.Kept.{setAt, set-kept, Stored, joined}
-use Rattle.row_sets.specs.Family.{nth}
-use Rattle.row_sets.specs.Rows.{Rows, rows-at, rows-in, rows-cong, rows-and, rows-or}
-use Rattle.row_sets.specs.Walk.{Walk, walk-begin, walk-turn, walk-end, walk-in}
-use Rattle.known.specs.Tested.{BARRIER, ACQUIRES}
-use Rattle.known.specs.Sorted.{HOLDING, holdsClass}
-use Rattle.known.specs.Known.{Opened, says-rows}
-use Rattle.known.specs.Ask.{there}
-use Rattle.area.specs.Regions.{MUTUAL}
-use Rattle.grids.specs.Regions.{HEADS, TAKEN, TAKEN-END}
-use Rattle.grids.specs.Grid.{Grid, grid-at, MadeGrid}
-use Rattle.grids.specs.Given.{Given}
-use Rattle.grids.specs.Synced.{headedBy, takenBy}
+use Rattle.sets_of_rows.specs.declared.Set.{Set}
+use Rattle.sets_of_rows.specs.Member.{inSet}
+use Rattle.sets_of_rows.specs.First.{First, first-next, Rest, next}
+use Rattle.sets_of_rows.specs.Kept.{setAt, set-kept, Stored, joined}
+use Rattle.sets_of_rows.specs.Family.{nth}
+use Rattle.sets_of_rows.specs.Rows.{Rows, rows-at, rows-in, rows-cong, rows-and, rows-or}
+use Rattle.sets_of_rows.specs.Walk.{Walk, walk-begin, walk-turn, walk-end, walk-in}
+use Rattle.sets_of_table.specs.Tested.{BARRIER, ACQUIRES}
+use Rattle.sets_of_table.specs.Sorted.{HOLDING, holdsClass}
+use Rattle.sets_of_table.specs.Known.{Opened, says-rows}
+use Rattle.sets_of_table.specs.Ask.{there}
+use Rattle.work_area.specs.Regions.{MUTUAL}
+use Rattle.sets_grids.specs.Regions.{HEADS, TAKEN, TAKEN-END}
+use Rattle.sets_grids.specs.Grid.{Grid, grid-at, MadeGrid}
+use Rattle.sets_grids.specs.Given.{Given}
+use Rattle.sets_grids.specs.Synced.{headedBy, takenBy}
 
 -- ---- definitions
 

@@ -4,20 +4,20 @@ ghost use Prim.Native.Nat.{_≤_, _<_};
 ghost use lib.ListN.{length};
 ghost use Rattle.model.specs.Limits.{ROWS, WORK};
 ghost use Rattle.model.specs.Scope.{follows};
-ghost use Rattle.laws.specs.FilledLaws.{Bytes};
+ghost use Rattle.model_laws.specs.FilledLaws.{Bytes};
 ghost use Rattle.run.specs.Layout.{tableIn};
-ghost use Rattle.grids.specs.Regions.{LATER, HEADS, HEADS-END};
-ghost use Rattle.grids.specs.Grid.{Grid, MadeGrid};
-ghost use Rattle.grids.specs.Given.{Given};
-ghost use Rattle.grids.specs.Synced.{headedBy};
+ghost use Rattle.sets_grids.specs.Regions.{LATER, HEADS, HEADS-END};
+ghost use Rattle.sets_grids.specs.Grid.{Grid, MadeGrid};
+ghost use Rattle.sets_grids.specs.Given.{Given};
+ghost use Rattle.sets_grids.specs.Synced.{headedBy};
 ghost use Rattle.sets_sequences.specs.Heads.{Ranks, since, Ends, Headed, JoinsIf};
 
 pub mod taken; // who gets what is read from them
 
-use known::fields;
-use row_sets::kept;
-use rows::kinds;
+use door_rows::kinds;
 use run::Run;
+use sets_of_rows::kept;
+use sets_of_table::fields;
 
 // Later than every rank.
 const NEVER: u32 = 65536;
@@ -27,7 +27,7 @@ fn since(counted: bool, k: u16, h: u16) -> u32
     ensures { λ r. ⌜ (r ≡ since counted k h) × (r < 65536) ⌝ }
 {
     if counted {
-        rows::scopes::age(k, h) as u32
+        door_rows::scopes::age(k, h) as u32
     } else {
         k as u32
     }
@@ -37,7 +37,7 @@ fn since(counted: bool, k: u16, h: u16) -> u32
 fn first_byte(rows: &[u8]) -> u8
     ensures { λ r. ⌜ Bytes (now (rows .entry)) ⌝ }
 {
-    rows::bytes::byte_at(rows, 0)
+    door_rows::bytes::byte_at(rows, 0)
 }
 
 // The lower of two.
@@ -53,7 +53,7 @@ fn join_if(b: bool, k: usize, h: usize, w: &mut [u64])
     ensures { λ _. ⌜ JoinsIf b k h (now (w .entry)) (now (w .exit)) ⌝ }
 {
     if b {
-        kept::put_bit(w, grids::HEADS, k, h);
+        kept::put_bit(w, sets_grids::HEADS, k, h);
     }
 }
 
@@ -64,14 +64,14 @@ fn end_of(t: &Run, n: usize, s: &[u64], h: usize, w: &[u64]) -> u32
 {
     let counted = run::counted(t);
     let rank = fields::rank(t, h);
-    let mut left = row_sets::and(
-        kept::get(w, grids::LATER, h),
-        kept::get(s, known::BY_KIND, kinds::ATOMIC_WRITE as usize),
+    let mut left = sets_of_rows::and(
+        kept::get(w, sets_grids::LATER, h),
+        kept::get(s, sets_of_table::BY_KIND, kinds::ATOMIC_WRITE as usize),
     );
     let mut end = NEVER;
-    while row_sets::some(left) {
-        let z = row_sets::first(left);
-        left = row_sets::but_first(left);
+    while sets_of_rows::some(left) {
+        let z = sets_of_rows::first(left);
+        left = sets_of_rows::but_first(left);
         let k = since(counted, fields::rank(t, z), rank);
         end = lower(k, end);
     }
@@ -85,13 +85,13 @@ fn add_head(t: &Run, n: usize, s: &[u64], h: usize, end: u32, w: &mut [u64])
 {
     let counted = run::counted(t);
     let rank = fields::rank(t, h);
-    let mut left = row_sets::and(
-        kept::get(w, grids::LATER, h),
-        kept::get(s, known::BY_KIND, kinds::RMW as usize),
+    let mut left = sets_of_rows::and(
+        kept::get(w, sets_grids::LATER, h),
+        kept::get(s, sets_of_table::BY_KIND, kinds::RMW as usize),
     );
-    while row_sets::some(left) {
-        let k = row_sets::first(left);
-        left = row_sets::but_first(left);
+    while sets_of_rows::some(left) {
+        let k = sets_of_rows::first(left);
+        left = sets_of_rows::but_first(left);
         let near = since(counted, fields::rank(t, k), rank) < end;
         join_if(near, k, h, w);
     }
@@ -103,12 +103,12 @@ pub fn fill_heads(t: &Run, n: usize, s: &[u64], w: &mut [u64])
     ensures { λ _. ⌜ MadeGrid HEADS HEADS-END HEADS n (headedBy (tableIn (now (t .entry)) n)) (now (w .entry)) (now (w .exit)) ⌝ }
 {
     first_byte(run::rows_of(t));
-    bits::clear(w, grids::HEADS, grids::HEADS_END);
-    let mut left = known::rows(s, known::RANKED);
-    while row_sets::some(left) {
-        let h = row_sets::first(left);
-        left = row_sets::but_first(left);
-        kept::put_bit(w, grids::HEADS, h, h);
+    bits::clear(w, sets_grids::HEADS, sets_grids::HEADS_END);
+    let mut left = sets_of_table::rows(s, sets_of_table::RANKED);
+    while sets_of_rows::some(left) {
+        let h = sets_of_rows::first(left);
+        left = sets_of_rows::but_first(left);
+        kept::put_bit(w, sets_grids::HEADS, h, h);
         let end = end_of(t, n, s, h, w);
         add_head(t, n, s, h, end, w);
     }

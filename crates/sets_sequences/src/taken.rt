@@ -6,31 +6,31 @@ ghost use Rattle.model.specs.Row.{atomic};
 ghost use Rattle.model.specs.Table.{rowOf};
 ghost use Rattle.model.specs.Scope.{mutually};
 ghost use Rattle.run.specs.Layout.{rowsIn, tableIn};
-ghost use Rattle.row_sets.specs.Rows.{Rows};
-ghost use Rattle.area.specs.Regions.{MUTUAL};
-ghost use Rattle.known.specs.Known.{Opened};
-ghost use Rattle.grids.specs.Regions.{HEADS, TAKEN, TAKEN-END};
-ghost use Rattle.grids.specs.Grid.{Grid, MadeGrid};
-ghost use Rattle.grids.specs.Given.{Given};
-ghost use Rattle.grids.specs.Synced.{headedBy, takenBy};
+ghost use Rattle.sets_of_rows.specs.Rows.{Rows};
+ghost use Rattle.work_area.specs.Regions.{MUTUAL};
+ghost use Rattle.sets_of_table.specs.Known.{Opened};
+ghost use Rattle.sets_grids.specs.Regions.{HEADS, TAKEN, TAKEN-END};
+ghost use Rattle.sets_grids.specs.Grid.{Grid, MadeGrid};
+ghost use Rattle.sets_grids.specs.Given.{Given};
+ghost use Rattle.sets_grids.specs.Synced.{headedBy, takenBy};
 ghost use Rattle.sets_sequences.specs.Taken.{gets, Takes, TakesFrom, Joining, Reading};
-use known::fields;
-use row_sets::Set;
-use row_sets::kept;
 use run::Run;
+use sets_of_rows::Set;
+use sets_of_rows::kept;
+use sets_of_table::fields;
 
 // The acquire rows that get what the atomic y reads: itself, and the acquire barriers after it whose semantics have its class.
 fn getters(t: &Run, n: usize, s: &[u64], y: usize) -> Set
     requires { ⌜ (y < n) × (atomic (rowOf (rowsIn (now t)) y) ≡ true) × Opened (tableIn (now t) n) n (now s) ⌝ }
     ensures { λ x. ⌜ Rows n (gets (tableIn (now (t .entry)) n) y) x ⌝ }
 {
-    let class = kept::get(s, known::HOLDING, fields::class(t, y));
-    let after = row_sets::and(
-        known::ask::after(t, n, s, y),
-        known::rows(s, known::BARRIER),
+    let class = kept::get(s, sets_of_table::HOLDING, fields::class(t, y));
+    let after = sets_of_rows::and(
+        sets_of_table::ask::after(t, n, s, y),
+        sets_of_table::rows(s, sets_of_table::BARRIER),
     );
-    let all = row_sets::or(row_sets::and(after, class), row_sets::bit(y));
-    row_sets::and(all, known::rows(s, known::ACQUIRES))
+    let all = sets_of_rows::or(sets_of_rows::and(after, class), sets_of_rows::bit(y));
+    sets_of_rows::and(all, sets_of_table::rows(s, sets_of_table::ACQUIRES))
 }
 
 // The rows x join the getters of each head of `source` that is mutually-ordered with y.
@@ -38,14 +38,14 @@ fn join_heads(t: &Run, n: usize, y: usize, source: usize, x: Set, w: &mut [u64])
     requires { ⌜ Joining (tableIn (now t) n) n y source x (now w) ⌝ }
     ensures { λ _. ⌜ Takes (tableIn (now (t .entry)) n) n y source (now (w .entry)) (now (w .exit)) ⌝ }
 {
-    let mut left = row_sets::and(
-        kept::get(w, grids::HEADS, source),
-        kept::get(w, area::MUTUAL, y),
+    let mut left = sets_of_rows::and(
+        kept::get(w, sets_grids::HEADS, source),
+        kept::get(w, work_area::MUTUAL, y),
     );
-    while row_sets::some(left) {
-        let h = row_sets::first(left);
-        left = row_sets::but_first(left);
-        kept::join(w, grids::TAKEN, h, x);
+    while sets_of_rows::some(left) {
+        let h = sets_of_rows::first(left);
+        left = sets_of_rows::but_first(left);
+        kept::join(w, sets_grids::TAKEN, h, x);
     }
 }
 
@@ -55,7 +55,7 @@ fn take(t: &Run, n: usize, s: &[u64], y: usize, source: usize, w: &mut [u64])
     ensures { λ _. ⌜ Takes (tableIn (now (t .entry)) n) n y source (now (w .entry)) (now (w .exit)) ⌝ }
 {
     let gets = getters(t, n, s, y);
-    if row_sets::some(gets) {
+    if sets_of_rows::some(gets) {
         join_heads(t, n, y, source, gets, w);
     }
 }
@@ -77,11 +77,14 @@ pub fn fill_taken(t: &Run, n: usize, s: &[u64], w: &mut [u64])
         × Grid HEADS n (headedBy (tableIn (now t) n)) (now w) ⌝ }
     ensures { λ _. ⌜ MadeGrid TAKEN TAKEN-END TAKEN n (takenBy (tableIn (now (t .entry)) n)) (now (w .entry)) (now (w .exit)) ⌝ }
 {
-    bits::clear(w, grids::TAKEN, grids::TAKEN_END);
-    let mut left = row_sets::and(known::rows(s, known::ATOMIC), known::rows(s, known::READS));
-    while row_sets::some(left) {
-        let y = row_sets::first(left);
-        left = row_sets::but_first(left);
+    bits::clear(w, sets_grids::TAKEN, sets_grids::TAKEN_END);
+    let mut left = sets_of_rows::and(
+        sets_of_table::rows(s, sets_of_table::ATOMIC),
+        sets_of_table::rows(s, sets_of_table::READS),
+    );
+    while sets_of_rows::some(left) {
+        let y = sets_of_rows::first(left);
+        left = sets_of_rows::but_first(left);
         take_from(t, n, s, y, w);
     }
 }

@@ -15,19 +15,19 @@ use Rattle.model.specs.Row.{barrier, ranked, atomic, writes, acquires, releases
 use Rattle.model.specs.Scope.{together, mutualRows, mutually}
 use Rattle.model.specs.Synchronizes.{leads, takesFrom, carriesOut, carriesIn, carriesOver, syncAtomics, syncFromBarrier, syncToBarrier, syncBarriers, syncControl, synchronizes}
 use Rattle.model.specs.Table.{Table}
-use Rattle.closing.specs.Order.{laterRow}
-use Rattle.row_sets.specs.declared.Set.{Set}
-use Rattle.row_sets.specs.Member.{inSet}
-use Rattle.row_sets.specs.Kept.{setAt}
-use Rattle.row_sets.specs.Rows.{Rows, rows-at, rows-cong, rows-and, rows-or, rows-cut}
-use Rattle.row_sets.specs.Tasks
-use Rattle.known.specs.Tested.{RANKED, ACQUIRES}
-use Rattle.known.specs.Known.{Opened, classedIn, atTogether, says-rows}
-use Rattle.known.specs.Ask.{few}
-use Rattle.grids.specs.Regions.{TAKEN, PASSED}
-use Rattle.grids.specs.Grid.{Grid, grid-at, grid-on}
-use Rattle.grids.specs.Union.{ledBy, union-rows}
-use Rattle.grids.specs.Synced.{takenBy, passedBy}
+use Rattle.model_closing.specs.Order.{laterRow}
+use Rattle.sets_of_rows.specs.declared.Set.{Set}
+use Rattle.sets_of_rows.specs.Member.{inSet}
+use Rattle.sets_of_rows.specs.Kept.{setAt}
+use Rattle.sets_of_rows.specs.Rows.{Rows, rows-at, rows-cong, rows-and, rows-or, rows-cut}
+use Rattle.sets_of_rows.specs.Tasks
+use Rattle.sets_of_table.specs.Tested.{RANKED, ACQUIRES}
+use Rattle.sets_of_table.specs.Known.{Opened, classedIn, atTogether, says-rows}
+use Rattle.sets_of_table.specs.Ask.{few}
+use Rattle.sets_grids.specs.Regions.{TAKEN, PASSED}
+use Rattle.sets_grids.specs.Grid.{Grid, grid-at, grid-on}
+use Rattle.sets_grids.specs.Union.{ledBy, union-rows}
+use Rattle.sets_grids.specs.Synced.{takenBy, passedBy}
 
 -- ---- definitions
 

@@ -7,10 +7,10 @@ use Rattle.model.specs.Scope.{mutually, follows}
 use Rattle.model.specs.Synchronizes.{synchronizes}
 use Rattle.model.specs.Table.{Table}
 use Rattle.bits.specs.Within.{Within, within-trans, within-widen}
-use Rattle.area.specs.Regions.{MUTUAL, MUTUAL-END, SYNC, SYNC-END}
-use Rattle.grids.specs.Regions.{LATER, LATER-END, HEADS, HEADS-END, TAKEN, TAKEN-END, PASSED, PASSED-END}
-use Rattle.grids.specs.Grid.{Grid, MadeGrid, grid-kept}
-use Rattle.grids.specs.Synced.{headedBy, takenBy, passedBy}
+use Rattle.work_area.specs.Regions.{MUTUAL, MUTUAL-END, SYNC, SYNC-END}
+use Rattle.sets_grids.specs.Regions.{LATER, LATER-END, HEADS, HEADS-END, TAKEN, TAKEN-END, PASSED, PASSED-END}
+use Rattle.sets_grids.specs.Grid.{Grid, MadeGrid, grid-kept}
+use Rattle.sets_grids.specs.Synced.{headedBy, takenBy, passedBy}
 
 -- ---- definitions
 

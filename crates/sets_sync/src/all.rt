@@ -1,6 +1,6 @@
 // M3 to M5 by sets of rows, stage after stage.
 ghost use Rattle.run.specs.Layout.{tableIn};
-ghost use Rattle.grids.specs.Given.{Given};
+ghost use Rattle.sets_grids.specs.Given.{Given};
 ghost use Rattle.sets_sync.specs.Synced.{Synced};
 use run::Run;
 

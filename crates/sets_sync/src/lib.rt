@@ -6,20 +6,20 @@ ghost use Rattle.model.specs.Row.{releases};
 ghost use Rattle.model.specs.Table.{rowOf};
 ghost use Rattle.model.specs.Synchronizes.{synchronizes};
 ghost use Rattle.run.specs.Layout.{rowsIn, tableIn};
-ghost use Rattle.row_sets.specs.Rows.{Rows};
-ghost use Rattle.area.specs.Regions.{SYNC, SYNC-END};
-ghost use Rattle.grids.specs.Regions.{TAKEN, PASSED};
-ghost use Rattle.grids.specs.Grid.{Grid, MadeGrid};
-ghost use Rattle.grids.specs.Given.{Given};
-ghost use Rattle.grids.specs.Synced.{takenBy, passedBy};
+ghost use Rattle.sets_of_rows.specs.Rows.{Rows};
+ghost use Rattle.work_area.specs.Regions.{SYNC, SYNC-END};
+ghost use Rattle.sets_grids.specs.Regions.{TAKEN, PASSED};
+ghost use Rattle.sets_grids.specs.Grid.{Grid, MadeGrid};
+ghost use Rattle.sets_grids.specs.Given.{Given};
+ghost use Rattle.sets_grids.specs.Synced.{takenBy, passedBy};
 ghost use Rattle.sets_sync.specs.Sync.{carriedTo};
 
 pub mod all; // M3 to M5
 
-use known::fields;
-use row_sets::Set;
-use row_sets::kept;
 use run::Run;
+use sets_of_rows::Set;
+use sets_of_rows::kept;
+use sets_of_table::fields;
 
 // The acquire rows that get what is read from a sequence that carries for the release row a: its own, if it is an atomic; if it is a
 // barrier, that of an atomic writer after it whose class its semantics have.
@@ -27,12 +27,15 @@ fn carried(t: &Run, n: usize, s: &[u64], a: usize, w: &[u64]) -> Set
     requires { ⌜ (a < n) × Given (tableIn (now t) n) n (now s) (now w) × Grid TAKEN n (takenBy (tableIn (now t) n)) (now w) ⌝ }
     ensures { λ x. ⌜ Rows n (carriedTo (tableIn (now (t .entry)) n) a) x ⌝ }
 {
-    if !row_sets::has(known::rows(s, known::BARRIER), a) {
-        return kept::get(w, grids::TAKEN, a);
+    if !sets_of_rows::has(sets_of_table::rows(s, sets_of_table::BARRIER), a) {
+        return kept::get(w, sets_grids::TAKEN, a);
     }
-    let classes = known::ask::of_classes(t, n, s, fields::classes(t, a));
-    let writers = row_sets::and(known::ask::after(t, n, s, a), known::rows(s, known::RANKED));
-    row_sets::walk::union(w, grids::TAKEN, row_sets::and(writers, classes))
+    let classes = sets_of_table::ask::of_classes(t, n, s, fields::classes(t, a));
+    let writers = sets_of_rows::and(
+        sets_of_table::ask::after(t, n, s, a),
+        sets_of_table::rows(s, sets_of_table::RANKED),
+    );
+    sets_of_rows::walk::union(w, sets_grids::TAKEN, sets_of_rows::and(writers, classes))
 }
 
 // The acquire rows that the release row a synchronizes-with: by a sequence or by a control barrier, where both scopes are shared.
@@ -42,9 +45,12 @@ fn sync_row(t: &Run, n: usize, s: &[u64], a: usize, w: &[u64]) -> Set
         × Grid TAKEN n (takenBy (tableIn (now t) n)) (now w) × Grid PASSED n (passedBy (tableIn (now t) n)) (now w) ⌝ }
     ensures { λ x. ⌜ Rows n (synchronizes (tableIn (now (t .entry)) n) a) x ⌝ }
 {
-    let to = row_sets::or(carried(t, n, s, a, w), kept::get(w, grids::PASSED, a));
-    let acquires = row_sets::and(to, known::rows(s, known::ACQUIRES));
-    row_sets::drop(row_sets::and(acquires, known::ask::together(t, n, s, a)), a)
+    let to = sets_of_rows::or(carried(t, n, s, a, w), kept::get(w, sets_grids::PASSED, a));
+    let acquires = sets_of_rows::and(to, sets_of_table::rows(s, sets_of_table::ACQUIRES));
+    sets_of_rows::drop(
+        sets_of_rows::and(acquires, sets_of_table::ask::together(t, n, s, a)),
+        a,
+    )
 }
 
 // SYNC.
@@ -53,12 +59,12 @@ pub fn fill_sync(t: &Run, n: usize, s: &[u64], w: &mut [u64])
         × Grid PASSED n (passedBy (tableIn (now t) n)) (now w) ⌝ }
     ensures { λ _. ⌜ MadeGrid SYNC SYNC-END SYNC n (synchronizes (tableIn (now (t .entry)) n)) (now (w .entry)) (now (w .exit)) ⌝ }
 {
-    bits::clear(w, area::SYNC, area::SYNC_END);
-    let mut left = known::rows(s, known::RELEASES);
-    while row_sets::some(left) {
-        let a = row_sets::first(left);
-        left = row_sets::but_first(left);
+    bits::clear(w, work_area::SYNC, work_area::SYNC_END);
+    let mut left = sets_of_table::rows(s, sets_of_table::RELEASES);
+    while sets_of_rows::some(left) {
+        let a = sets_of_rows::first(left);
+        left = sets_of_rows::but_first(left);
         let x = sync_row(t, n, s, a, w);
-        kept::put(w, area::SYNC, a, x);
+        kept::put(w, work_area::SYNC, a, x);
     }
 }

@@ -10,11 +10,11 @@ use lib.Ieee.{Float}
 use Rattle.model.specs.declared.ReportAnswer.{ReportAnswer}
 use Rattle.model.specs.declared.Row.{Row}
 use Rattle.model.specs.declared.Source.{Source}
-use Rattle.model.specs.Table.{ROW-BYTES}
-use Rattle.writer.specs.Encode.{rowList}
-use Rattle.stepping.specs.declared.Stepped.{Stepped}
-use Rattle.stepping.specs.declared.Stepped.the-variants as step
-use Rattle.stepping.specs.Steps.{steppedAt}
+use Rattle.model.specs.Header.{ROW-BYTES}
+use Rattle.door_write.specs.Encode.{rowList}
+use Rattle.door_step.specs.declared.Stepped.{Stepped}
+use Rattle.door_step.specs.declared.Stepped.the-variants as step
+use Rattle.door_step.specs.Steps.{steppedAt}
 use Rattle.stramashly.specs.Packed.{packed, packStep, stepPut, rowAnswer, rowAfter, shareAfter}
 
 -- a buffer whose front is replaced by a row's bytes

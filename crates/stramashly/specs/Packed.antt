@@ -15,22 +15,22 @@ use Rattle.model.specs.declared.DeriveAnswer.{DeriveAnswer}
 use Rattle.model.specs.declared.DeriveAnswer.the-variants as derived
 use Rattle.model.specs.declared.AcceptAnswer.{AcceptAnswer}
 use Rattle.model.specs.declared.AcceptAnswer.the-variants as accept
-use Rattle.pieces.specs.declared.RowPlace.{RowPlace}
-use Rattle.pieces.specs.declared.RowPlace.the-variants as place
+use Rattle.door_pieces.specs.declared.RowPlace.{RowPlace}
+use Rattle.door_pieces.specs.declared.RowPlace.the-variants as place
 use Rattle.model.specs.declared.Report.{Report}
 use Rattle.model.specs.declared.ReportAnswer.{ReportAnswer}
 use Rattle.model.specs.declared.ReportAnswer.the-variants as told
 use Rattle.model.specs.declared.Admission.{Admission}
 use Rattle.model.specs.declared.Admission.the-variants as admit
-use Rattle.model.specs.Table.{ROW-BYTES}
-use Rattle.writer.specs.declared.WriteAnswer.{WriteAnswer}
-use Rattle.writer.specs.declared.WriteAnswer.the-variants as written
-use Rattle.writer.specs.declared.ReadAnswer.{ReadAnswer}
-use Rattle.writer.specs.declared.ReadAnswer.the-variants as read
-use Rattle.writer.specs.Encode.{rowList}
-use Rattle.stepping.specs.declared.Stepped.{Stepped}
-use Rattle.stepping.specs.declared.Stepped.the-variants as step
-use Rattle.stepping.specs.Steps.{steppedAt}
+use Rattle.model.specs.Header.{ROW-BYTES}
+use Rattle.door_write.specs.declared.WriteAnswer.{WriteAnswer}
+use Rattle.door_write.specs.declared.WriteAnswer.the-variants as written
+use Rattle.door_write.specs.declared.ReadAnswer.{ReadAnswer}
+use Rattle.door_write.specs.declared.ReadAnswer.the-variants as read
+use Rattle.door_write.specs.Encode.{rowList}
+use Rattle.door_step.specs.declared.Stepped.{Stepped}
+use Rattle.door_step.specs.declared.Stepped.the-variants as step
+use Rattle.door_step.specs.Steps.{steppedAt}
 
 unfoldable pub packed : ℕ → ℕ → ℕ → ℕ → ℕ
 packed code a b c = code * 281474976710656 + a * 4294967296 + b * 65536 + c

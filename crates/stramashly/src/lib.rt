@@ -9,15 +9,21 @@ ghost use Rattle.model.specs.Fill as Fill;
 ghost use Rattle.model.specs.Reason.{derive, deriveAnswer, chainAfter, judge, acceptAnswer};
 ghost use Rattle.model.specs.Reason as Derivation;
 ghost use Rattle.model.specs.Report.{report};
-ghost use Rattle.model.specs.Table.{ROW-BYTES, rowsAt};
+ghost use Rattle.model.specs.Header.{ROW-BYTES, rowsAt};
 ghost use Rattle.model.specs.Refusal.{admission};
-ghost use Rattle.laws.specs.FilledLaws.{Bytes};
-ghost use Rattle.writer.specs.Answer.{bufferAfter};
-ghost use Rattle.writer.specs.Parts.{partsAnswer, partsTable};
-ghost use Rattle.writer.specs.Read.{readAnswer, placesAfter, rowsAfter, dependenciesAfter};
+ghost use Rattle.model_laws.specs.FilledLaws.{Bytes};
+ghost use Rattle.door_write.specs.Answer.{bufferAfter};
+ghost use Rattle.door_write.specs.Parts.{partsAnswer, partsTable};
+ghost use Rattle.door_write.specs.Read.{readAnswer, placesAfter, rowsAfter, dependenciesAfter};
 ghost use Rattle.stramashly.specs.Packed.{packed, packPlace, packCheck, packFill, packDerive, packAccept, packReport, shareAfter, reasonOf, isOn};
 ghost use Rattle.stramashly.specs.Packed.{packWrite, packRead, packOpen, packStep, stepPut, rowAnswer, rowAfter};
-ghost use Rattle.pieces.specs.Pieces.{countBoth, checkBoth, fillBoth, reportBoth, deriveBoth, judgeBoth, rowPlace};
+ghost use Rattle.door_pieces.specs.Pieces.{countBoth, checkBoth, fillBoth, reportBoth, deriveBoth, judgeBoth, rowPlace};
+use door_pieces::RowPlace;
+use door_rows::bytes;
+use door_step::Stepped;
+use door_write::ReadAnswer;
+use door_write::WriteAnswer;
+use door_write::encode;
 use model::AcceptAnswer;
 use model::Admission;
 use model::CheckAnswer;
@@ -25,12 +31,6 @@ use model::DeriveAnswer;
 use model::FillAnswer;
 use model::Reason;
 use model::ReportAnswer;
-use pieces::RowPlace;
-use rows::bytes;
-use stepping::Stepped;
-use writer::ReadAnswer;
-use writer::WriteAnswer;
-use writer::encode;
 
 // The class set that says program order, where a caller can hand in no enum.
 const PROGRAM_ORDER: u8 = 16;
@@ -209,7 +209,7 @@ fn reason_of(classes: u8) -> Reason
     Reason::Chain(classes)
 }
 
-// Judges one recorded run, of a device with chains where the switch is on: `verdict::check`, packed.
+// Judges one recorded run, of a device with chains where the switch is on: `ask_check::check`, packed.
 // Ruled out: one whose code for a race is that of race-free; one that leaves what a check worked with in the work area.
 #[no_mangle]
 pub extern "C" fn stramashly_check(
@@ -223,11 +223,11 @@ pub extern "C" fn stramashly_check(
         × (now (work .exit) ≡ workAfter answer (now (work .entry)))
         × (now (cycle .exit) ≡ cycleAfter answer (now (cycle .entry))) ⌝ }
 {
-    pack_check(verdict::check::check(table, !(chains == 0), work, cycle))
+    pack_check(ask_check::check::check(table, !(chains == 0), work, cycle))
 }
 
-// The same by the obvious engine, for whoever wants a second answer: it is proved to be the first one.
-// Ruled out: one whose work area keeps a flag; one that answers another race than the quick engine.
+// The same by the flags engine, for whoever wants a second answer: it is proved to be the first one.
+// Ruled out: one whose work area keeps a flag; one that answers another race than the engine by sets.
 #[no_mangle]
 pub extern "C" fn stramashly_check_by_flags(
     table: &[u8],
@@ -240,10 +240,10 @@ pub extern "C" fn stramashly_check_by_flags(
         × (now (work .exit) ≡ workAfter answer (now (work .entry)))
         × (now (cycle .exit) ≡ cycleAfter answer (now (cycle .entry))) ⌝ }
 {
-    pack_check(verdict::check::check_by_flags(table, !(chains == 0), work, cycle))
+    pack_check(ask_check::check::check_by_flags(table, !(chains == 0), work, cycle))
 }
 
-// Fills the blanks of one recorded run: `filling::fill`, packed, with the number of rows where it filled them.
+// Fills the blanks of one recorded run: `ask_fill::fill`, packed, with the number of rows where it filled them.
 // Ruled out: one whose code for filled is that of none; one that writes a source where a pair races.
 #[no_mangle]
 pub extern "C" fn stramashly_fill(
@@ -258,12 +258,12 @@ pub extern "C" fn stramashly_fill(
         × (now (sources .exit) ≡ sourcesAfter answer (now (sources .entry)))
         × Bytes (now (table .entry)) ⌝ }
 {
-    let answer = filling::fill(table, !(chains == 0), work, sources);
+    let answer = ask_fill::fill(table, !(chains == 0), work, sources);
     pack_fill(answer, bytes::rows_at(table))
 }
 
-// The same by the obvious engine.
-// Ruled out: one that fills another source than the quick engine; one whose code for filled is that of none.
+// The same by the flags engine.
+// Ruled out: one that fills another source than the engine by sets; one whose code for filled is that of none.
 #[no_mangle]
 pub extern "C" fn stramashly_fill_by_flags(
     table: &[u8],
@@ -277,11 +277,11 @@ pub extern "C" fn stramashly_fill_by_flags(
         × (now (sources .exit) ≡ sourcesAfter answer (now (sources .entry)))
         × Bytes (now (table .entry)) ⌝ }
 {
-    let answer = filling::fill_by_flags(table, !(chains == 0), work, sources);
+    let answer = ask_fill::fill_by_flags(table, !(chains == 0), work, sources);
     pack_fill(answer, bytes::rows_at(table))
 }
 
-// Why one moment happens before another: `reasons::derive`, packed; class set 16 is the word program order.
+// Why one moment happens before another: `ask_derive::derive`, packed; class set 16 is the word program order.
 // Ruled out: one whose code for not before is that of a chain; one that writes to the chain buffer where it says program order.
 #[no_mangle]
 pub extern "C" fn stramashly_derive(
@@ -296,10 +296,10 @@ pub extern "C" fn stramashly_derive(
         × (now (work .exit) ≡ Derivation.workAfter answer (now (work .entry)))
         × (now (chain .exit) ≡ chainAfter answer (now (chain .entry))) ⌝ }
 {
-    pack_derive(reasons::derive(table, first, second, work, chain))
+    pack_derive(ask_derive::derive(table, first, second, work, chain))
 }
 
-// Whether a derivation shows that one moment happens before another: `reader::accepts`, packed; class set 16 is the word program
+// Whether a derivation shows that one moment happens before another: `ask_accepts::accepts`, packed; class set 16 is the word program
 // order.
 // Ruled out: one that takes class set 16 for a chain; one whose code for accepted is that of not accepted.
 #[no_mangle]
@@ -312,10 +312,10 @@ pub extern "C" fn stramashly_accepts(
 ) -> u64
     ensures { λ r. ⌜ r ≡ packAccept (acceptAnswer (judge (now (table .entry)) first second (reasonOf classes) (now (steps .entry)))) ⌝ }
 {
-    pack_accept(reader::accepts(table, first, second, reason_of(classes), steps))
+    pack_accept(ask_accepts::accepts(table, first, second, reason_of(classes), steps))
 }
 
-// How bad a recorded run was: `report::report`, packed, with the pairs that are mutually-ordered, ordered and racing, which add up to the
+// How bad a recorded run was: `ask_report::report`, packed, with the pairs that are mutually-ordered, ordered and racing, which add up to the
 // conflicting ones; and the report's share, in the number lent for it.
 // Ruled out: one that packs the conflicting pairs in place of the racing ones; one that writes a share where no pair conflicts.
 #[no_mangle]
@@ -333,12 +333,12 @@ pub extern "C" fn stramashly_report(
         × (now (cycle .exit) ≡ cycleAfter judged (now (cycle .entry)))
         × (now (share .exit) ≡ shareAfter told (now (share .entry))) ⌝ }
 {
-    let answer = report::report(table, !(chains == 0), work, cycle);
+    let answer = ask_report::report(table, !(chains == 0), work, cycle);
     put_share(answer, share);
     pack_report(answer)
 }
 
-// Writes a table of values: `writer::parts::write_parts`, packed.
+// Writes a table of values: `door_write::parts::write_parts`, packed.
 // Ruled out: one whose number of bytes is that of the buffer; one that writes where it refuses.
 #[no_mangle]
 pub extern "C" fn stramashly_write(
@@ -352,10 +352,10 @@ pub extern "C" fn stramashly_write(
         let table = partsTable version (now (places .entry)) (now (rows .entry)) (now (dependencies .entry)) in
         ⌜ (r ≡ packWrite answer) × (now (out .exit) ≡ bufferAfter answer table (now (out .entry))) ⌝ }
 {
-    pack_write(writer::parts::write_parts(version, places, rows, dependencies, out))
+    pack_write(door_write::parts::write_parts(version, places, rows, dependencies, out))
 }
 
-// The values of a table, in the front of lent parts: `writer::read::read_parts`, packed. `stramashly_write` of them gives the table again.
+// The values of a table, in the front of lent parts: `door_write::read::read_parts`, packed. `stramashly_write` of them gives the table again.
 // Ruled out: one whose number has the version and the agents exchanged; one that has the rows in the place of the dependencies.
 #[no_mangle]
 pub extern "C" fn stramashly_read(
@@ -371,19 +371,19 @@ pub extern "C" fn stramashly_read(
         × (now (rows .exit) ≡ rowsAfter answer s (now (rows .entry)))
         × (now (dependencies .exit) ≡ dependenciesAfter answer s (now (dependencies .entry))) ⌝ }
 {
-    pack_read(writer::read::read_parts(table, places, rows, dependencies))
+    pack_read(door_write::read::read_parts(table, places, rows, dependencies))
 }
 
-// Whether a table can be stepped through: `stepping::opening`, packed.
+// Whether a table can be stepped through: `door_step::opening`, packed.
 // Ruled out: one that opens what a fill refuses; one that refuses a blank.
 #[no_mangle]
 pub extern "C" fn stramashly_open(table: &[u8]) -> u64
     ensures { λ r. ⌜ r ≡ packOpen (admission true (now (table .entry))) ⌝ }
 {
-    pack_open(stepping::opening(table))
+    pack_open(door_step::opening(table))
 }
 
-// The row at a place of a table, as its sixteen bytes, or the end, and the next place: `stepping::step_from`, packed. What a fill refuses,
+// The row at a place of a table, as its sixteen bytes, or the end, and the next place: `door_step::step_from`, packed. What a fill refuses,
 // 11 aside, gets that refusal at every place.
 // Ruled out: one that gives a row of a table that a fill refuses; one that writes a part of a row into a short buffer; one that leaves the end.
 #[no_mangle]
@@ -394,14 +394,14 @@ pub extern "C" fn stramashly_row(table: &[u8], at: u16, row: &mut [u8]) -> u64
     if row.len() < bytes::ROW_BYTES {
         return pack(4, 11, 0, 0);
     }
-    let step = stepping::step_from(table, at);
+    let step = door_step::step_from(table, at);
     put_row(step, row);
     pack_step(step)
 }
 
 // ---- a table in two pieces
 
-// Judges one recorded run in two pieces: `verdict::check_both`, packed.
+// Judges one recorded run in two pieces: `ask_check::check_both`, packed.
 // Ruled out: one that judges the first piece alone; one that takes the pieces the other way round.
 #[no_mangle]
 pub extern "C" fn stramashly_check2(
@@ -416,10 +416,10 @@ pub extern "C" fn stramashly_check2(
         × (now (work .exit) ≡ workAfter answer (now (work .entry)))
         × (now (cycle .exit) ≡ cycleAfter answer (now (cycle .entry))) ⌝ }
 {
-    pack_check(verdict::check::check_both(first, second, !(chains == 0), work, cycle))
+    pack_check(ask_check::check::check_both(first, second, !(chains == 0), work, cycle))
 }
 
-// Fills the blanks of one recorded run in two pieces: `filling::fill_both`, packed, with the number of rows of both where it filled them.
+// Fills the blanks of one recorded run in two pieces: `ask_fill::fill_both`, packed, with the number of rows of both where it filled them.
 // Ruled out: one that tells the rows of the first piece alone; one that counts them with the pieces the other way round.
 #[no_mangle]
 pub extern "C" fn stramashly_fill2(
@@ -436,11 +436,11 @@ pub extern "C" fn stramashly_fill2(
         × (now (sources .exit) ≡ sourcesAfter answer (now (sources .entry)))
         × Bytes (now (first .entry)) × Bytes (now (second .entry)) ⌝ }
 {
-    let answer = filling::fill_both(first, second, !(chains == 0), work, sources);
-    pack_fill(answer, pieces::count_both(first, second))
+    let answer = ask_fill::fill_both(first, second, !(chains == 0), work, sources);
+    pack_fill(answer, door_pieces::count_both(first, second))
 }
 
-// How bad a recorded run in two pieces was: `report::report_both`, packed; and the report's share, in the number lent for it.
+// How bad a recorded run in two pieces was: `ask_report::report_both`, packed; and the report's share, in the number lent for it.
 // Ruled out: one that counts the pairs of each piece by itself; one that writes a share where no pair conflicts.
 #[no_mangle]
 pub extern "C" fn stramashly_report2(
@@ -458,12 +458,12 @@ pub extern "C" fn stramashly_report2(
         × (now (cycle .exit) ≡ cycleAfter judged (now (cycle .entry)))
         × (now (share .exit) ≡ shareAfter told (now (share .entry))) ⌝ }
 {
-    let answer = report::report_both(first, second, !(chains == 0), work, cycle);
+    let answer = ask_report::report_both(first, second, !(chains == 0), work, cycle);
     put_share(answer, share);
     pack_report(answer)
 }
 
-// Why moment m happens before moment k in a table in two pieces: `reasons::derive_both`, packed.
+// Why moment m happens before moment k in a table in two pieces: `ask_derive::derive_both`, packed.
 // Ruled out: one that refuses a moment of the second piece's rows; one that derives moment k before moment m.
 #[no_mangle]
 pub extern "C" fn stramashly_derive2(
@@ -479,10 +479,10 @@ pub extern "C" fn stramashly_derive2(
         × (now (work .exit) ≡ Derivation.workAfter answer (now (work .entry)))
         × (now (chain .exit) ≡ chainAfter answer (now (chain .entry))) ⌝ }
 {
-    pack_derive(reasons::derive_both(first, second, m, k, work, chain))
+    pack_derive(ask_derive::derive_both(first, second, m, k, work, chain))
 }
 
-// Whether a derivation shows it in a table in two pieces: `reader::accepts_both`, packed.
+// Whether a derivation shows it in a table in two pieces: `ask_accepts::accepts_both`, packed.
 // Ruled out: one that reads the steps in the first piece alone; one that reads them from moment k to moment m.
 #[no_mangle]
 pub extern "C" fn stramashly_accepts2(
@@ -495,14 +495,14 @@ pub extern "C" fn stramashly_accepts2(
 ) -> u64
     ensures { λ r. ⌜ r ≡ packAccept (acceptAnswer (judgeBoth (now (first .entry)) (now (second .entry)) m k (reasonOf classes) (now (steps .entry)))) ⌝ }
 {
-    pack_accept(reader::accepts_both(first, second, m, k, reason_of(classes), steps))
+    pack_accept(ask_accepts::accepts_both(first, second, m, k, reason_of(classes), steps))
 }
 
-// Where row n of a table in two pieces has its sixteen bytes: `pieces::row_place`, packed. Nothing is copied.
+// Where row n of a table in two pieces has its sixteen bytes: `door_pieces::row_place`, packed. Nothing is copied.
 // Ruled out: one that gives a place in a pair that is refused before 5; one that counts the second piece's rows from 0.
 #[no_mangle]
 pub extern "C" fn stramashly_row2<'a>(first: &'a [u8], second: &'a [u8], n: u16) -> u64
     ensures { λ r. ⌜ r ≡ packPlace (rowPlace (now (first .entry)) (now (second .entry)) n) ⌝ }
 {
-    pack_place(pieces::row_place(first, second, n))
+    pack_place(door_pieces::row_place(first, second, n))
 }

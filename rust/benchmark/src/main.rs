@@ -3,6 +3,7 @@
 //! process and one thread, and prints a page of Markdown.
 
 mod answers;
+mod clock;
 mod families;
 mod memory;
 mod plot;
@@ -106,7 +107,7 @@ fn print_times(work: &Work, times: &Times, repetitions: usize, rows: usize) {
     println!("Checks of {count} generated tables of {rows} rows (seed {SEED}), release build,");
     println!("one thread; microseconds a table, median of {repetitions} repetitions.");
     println!();
-    println!("| verdict | tables | ours | obvious | second | second ÷ ours |");
+    println!("| verdict | tables | ours | flags | second | second ÷ ours |");
     println!("|---|---|---|---|---|---|");
     for verdict in Verdict::ALL {
         let count = work.of(verdict).len();
@@ -132,7 +133,7 @@ fn print_families(repetitions: usize) -> Result<(), String> {
     println!("Checks of a table of {MAX_ROWS} rows of each family, release build, one thread;");
     println!("microseconds, median of {repetitions} repetitions.");
     println!();
-    println!("| family | answer | ours | obvious | second | second ÷ ours |");
+    println!("| family | answer | ours | flags | second | second ÷ ours |");
     println!("|---|---|---|---|---|---|");
     for (name, table) in families::all() {
         let table = table.bytes();
@@ -165,7 +166,7 @@ fn print_answers(repetitions: usize) -> Result<(), String> {
 fn print_growth(picture: &str) -> Result<(), String> {
     println!("Checks of 1,000 generated tables of so many rows, microseconds a table.");
     println!();
-    println!("| rows | tables | ours | obvious | second | second ÷ ours |");
+    println!("| rows | tables | ours | flags | second | second ÷ ours |");
     println!("|---|---|---|---|---|---|");
     let mut points = Vec::new();
     for rows in GROWTH_ROWS {

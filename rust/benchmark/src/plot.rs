@@ -1,6 +1,6 @@
 //! A picture of the times by rows, both axes logarithmic.
 
-/// Rows, and microseconds a table: the quick engine, the obvious one, the second
+/// Rows, and microseconds a table: the engine by sets, the flags engine, the second
 /// implementation.
 pub type Point = (usize, [f64; 3]);
 

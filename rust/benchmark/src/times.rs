@@ -1,12 +1,12 @@
 //! Times of both engines and of the second implementation.
 
+use crate::clock;
 use crate::work::{Verdict, Work};
 use second::{State, CYCLE_NUMBERS, WORK_WORDS};
 use std::hint::black_box;
-use std::time::Instant;
 use stramashly::Checker;
 
-/// Nanoseconds of the quick engine, the obvious one and the second
+/// Nanoseconds of the engine by sets, the flags engine and the second
 /// implementation.
 #[derive(Clone, Copy, Default)]
 pub struct Three {
@@ -103,11 +103,11 @@ impl All {
 }
 
 pub fn time(tables: &[Vec<u8>], mut check: impl FnMut(&[u8])) -> u128 {
-    let began = Instant::now();
+    let began = clock::now();
     for table in tables {
         check(black_box(table));
     }
-    began.elapsed().as_nanos()
+    clock::now() - began
 }
 
 /// The middle one, or the lower of the two in the middle.

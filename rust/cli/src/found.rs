@@ -6,6 +6,7 @@ use format::{flags, kind, scope, sort, Row, INITIAL, ROW_BYTES};
 use mend::{first_row, Notes};
 use std::fmt;
 use stramashly::{CheckAnswer, Refusal};
+use words::{CLASSES, KINDS};
 
 /// A finding. Two of the same lines, or of rows of the same kinds for the same
 /// cause, are one.
@@ -166,23 +167,6 @@ pub fn conflicting(table: &[u8]) -> u64 {
     }
     pairs
 }
-
-const KINDS: [&str; 13] = [
-    "plain read",
-    "plain write",
-    "atomic read",
-    "atomic write",
-    "read-modify-write",
-    "barrier",
-    "control barrier",
-    "availability to host",
-    "availability to device",
-    "visibility from host",
-    "visibility from device",
-    "domain operation from host to device",
-    "domain operation from device to host",
-];
-const CLASSES: [&str; 4] = ["Uniform", "Workgroup", "Image", "Output"];
 
 /// The rows and agents of a table that a check has judged.
 struct Rows<'a> {

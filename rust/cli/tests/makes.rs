@@ -5,7 +5,6 @@ mod common;
 
 use common::*;
 use std::path::{Path, PathBuf};
-use std::process::{Command, Stdio};
 use tables::{checkable, fillable, hex, Random, Size};
 use words::explain;
 
@@ -15,14 +14,7 @@ fn examples() -> PathBuf {
 
 /// What a run prints, whose bytes may be no text.
 fn bytes_of(words: &[&str]) -> (Vec<u8>, String, Option<i32>) {
-    let output = Command::new(env!("CARGO_BIN_EXE_stramashly"))
-        .args(words)
-        .current_dir(examples())
-        .stdin(Stdio::null())
-        .output()
-        .unwrap();
-    let messages = String::from_utf8(output.stderr).unwrap();
-    (output.stdout, messages, output.status.code())
+    bytes_in(&examples(), words)
 }
 
 #[test]

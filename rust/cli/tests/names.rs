@@ -219,7 +219,7 @@ fn a_name_that_nothing_has_is_missed() {
     for name in [
         "admission",
         "check::check_by",
-        "writer/specs/Promise",
+        "door_write/specs/Promise",
         "written-…",
     ] {
         assert!(is_name(name) && sources.has_span(name), "{name}");
@@ -227,7 +227,7 @@ fn a_name_that_nothing_has_is_missed() {
     for name in [
         "admissions",
         "check::check_of",
-        "writer/specs/Promises",
+        "door_write/specs/Promises",
         "wrote-…",
     ] {
         assert!(is_name(name) && !sources.has_span(name), "{name}");

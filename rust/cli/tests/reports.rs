@@ -55,12 +55,6 @@ fn generated_lines_have_the_second_implementation_s_answers() {
         input += &format!("report {}\n", hex(&bytes));
         expected += &format!("{answer}\n");
     }
-    let answer = stramashly(&["batch"], input.as_bytes());
-    let lines = answer.output.lines().zip(expected.lines());
-    for ((ours, theirs), line) in lines.zip(input.lines()) {
-        assert_eq!(ours, theirs, "{line}");
-    }
-    assert_eq!(answer.output, expected);
-    assert_eq!(answer.status, Some(0));
+    assert_batch(&input, &expected);
     assert!(reports > 500, "{reports}");
 }

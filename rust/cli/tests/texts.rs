@@ -5,7 +5,6 @@ mod common;
 use common::*;
 use std::fs;
 use std::path::{Path, PathBuf};
-use std::process::{Command, Stdio};
 
 fn examples() -> PathBuf {
     Path::new(env!("CARGO_MANIFEST_DIR")).join("../../examples")
@@ -28,18 +27,6 @@ w1: producer atomic-write flag 64..68 release queue-family {Uniform} rank 1 @ sh
 fn file(name: &str, text: impl AsRef<[u8]>) -> String {
     fs::write(scratch().join(name), text).unwrap();
     name.to_string()
-}
-
-/// What a run prints, whose bytes may be no text.
-fn bytes_of(folder: &Path, words: &[&str]) -> (Vec<u8>, String, Option<i32>) {
-    let output = Command::new(env!("CARGO_BIN_EXE_stramashly"))
-        .args(words)
-        .current_dir(folder)
-        .stdin(Stdio::null())
-        .output()
-        .unwrap();
-    let messages = String::from_utf8(output.stderr).unwrap();
-    (output.stdout, messages, output.status.code())
 }
 
 #[test]
@@ -66,7 +53,7 @@ fn every_example_goes_to_text_and_back() {
                 "{name}"
             );
             let text = file("back.txt", &said.output);
-            let (made, messages, status) = bytes_of(&scratch(), &["make", &text]);
+            let (made, messages, status) = bytes_in(&scratch(), &["make", &text]);
             assert_eq!((messages.as_str(), status), ("", Some(0)), "{name}");
             assert_eq!(made, table, "{name}");
             count += 1;
@@ -79,7 +66,7 @@ fn every_example_goes_to_text_and_back() {
 #[test]
 fn commands_take_text_in_place_of_a_table() {
     let text = file("leak.txt", LEAK);
-    let (made, _, status) = bytes_of(&scratch(), &["make", &text]);
+    let (made, _, status) = bytes_in(&scratch(), &["make", &text]);
     assert_eq!(status, Some(0));
     let table = file("made.table", &made);
     let digits = stramashly(&["make", "--hex", &text], b"").output;
@@ -105,7 +92,7 @@ fn commands_take_text_in_place_of_a_table() {
         of_text.messages = of_text.messages.replace(&text, &table);
         assert_eq!(of_text, of_table, "{words}");
     }
-    let filled = |file| bytes_of(&scratch(), &["fill", "--table", file]).0;
+    let filled = |file| bytes_in(&scratch(), &["fill", "--table", file]).0;
     assert_eq!(filled("leak.txt"), filled("made.table"));
     // Standard input, and several files.
     assert_eq!(
@@ -150,7 +137,7 @@ fn the_page_about_text_is_right() {
     let filled = "filled 65535 65535 1 0\n";
     let upload = "filled 65535 65535 65535 65535 0 65535 65535\n";
     assert_eq!(answers, [filled, upload, filled]);
-    let leak = bytes_of(&examples(), &["make", "leak.txt"]).0;
+    let leak = bytes_in(&examples(), &["make", "leak.txt"]).0;
     assert_eq!(leak, fs::read(examples().join("leak.table")).unwrap());
 }
 

@@ -83,10 +83,10 @@ fn for_parts(
     let mut seen = 0;
     for number in 0..RUNS {
         let (run, chains) = generated(&mut random, number);
-        let Some(all) = racing(&mut state, &run, chains) else {
+        let Some(is_kept) = keep(&mut random, &run) else {
             continue;
         };
-        let Some(is_kept) = keep(&mut random, &run) else {
+        let Some(all) = racing(&mut state, &run, chains) else {
             continue;
         };
         let (table, kept) = part(&run, |row| is_kept[row]);

@@ -7,6 +7,7 @@
 
 mod claim;
 mod expected;
+mod noise;
 mod parts;
 mod pieces;
 mod reasons;
@@ -20,6 +21,7 @@ pub use pieces::OfPieces;
 pub use reasons::{Derived, Moments, Probed};
 pub use tally::{Tally, FILLED, VERDICTS};
 
+use noise::Noise;
 use second::{Chains, CheckAnswer, FillAnswer, Pieces, State};
 use stramashly::{
     check_by_flags, check_in, fill_by_flags, fill_in, Packed, CYCLE_NUMBERS, SOURCE_NUMBERS,
@@ -30,7 +32,7 @@ use tables::Random;
 /// A function of the library: chains, table, work area, cycle or source buffer.
 pub type Engine = fn(bool, stramashly::Pieces, &mut [u64], &mut [u16]) -> Packed;
 
-/// The quick engine's and the obvious one's, which is asked of one piece.
+/// The engine by sets' and the flags engine's, which is asked of one piece.
 pub const CHECKS: [(&str, Engine); 2] = [
     ("check2", check_in),
     ("check by flags", |on, pieces, work, cycle| {
@@ -44,7 +46,7 @@ pub const FILLS: [(&str, Engine); 2] = [
     }),
 ];
 
-/// Longer tables take the obvious engine long: it is asked of one in so many.
+/// Longer tables take the flags engine long: it is asked of one in so many.
 const SHORT_TABLE: usize = 512;
 const LONG_TABLES: usize = 24;
 
@@ -59,9 +61,11 @@ pub struct Lengths {
 pub struct Comparison {
     pub state: State,
     random: Random,
+    noise: Noise,
     around: Vec<u8>,
     ours: Lent,
     expected: Lent,
+    joined: Option<pieces::Joined>,
 }
 
 /// The lent buffers.
@@ -77,12 +81,15 @@ pub struct Difference(pub String);
 
 impl Comparison {
     pub fn new(seed: u64) -> Comparison {
+        let mut random = Random::new(seed);
         Comparison {
             state: State::new(),
-            random: Random::new(seed),
+            noise: Noise::new(&mut random),
+            random,
             around: Vec::new(),
             ours: Lent::default(),
             expected: Lent::default(),
+            joined: None,
         }
     }
 
@@ -137,7 +144,7 @@ impl Comparison {
         self.fill_pieces_in(chains, [table, &[]], lengths)
     }
 
-    /// Those that are asked of a table: the quick one always, the obvious one of
+    /// Those that are asked of a table: the engine by sets always, the flags engine of
     /// one piece.
     fn engines(
         &mut self,
@@ -159,15 +166,12 @@ impl Comparison {
     /// Puts random words into the buffers, and the table among random bytes;
     /// gives the table's place.
     fn prepare(&mut self, table: &[u8], lengths: Lengths) -> usize {
-        let random = &mut self.random;
-        self.ours.work.clear();
-        self.ours
-            .work
-            .extend((0..lengths.work).map(|_| random.word()));
-        self.ours.numbers.clear();
-        let numbers = (0..lengths.numbers).map(|_| random.word() as u16);
-        self.ours.numbers.extend(numbers);
-        self.expected.clone_from(&self.ours);
+        let (random, noise) = (&mut self.random, &self.noise);
+        let Lent { work, numbers } = &mut self.ours;
+        noise.put(random, work, lengths.work, |word| word);
+        noise.put(random, numbers, lengths.numbers, |word| word as u16);
+        self.expected.work.clone_from(work);
+        self.expected.numbers.clone_from(numbers);
         let at = random.below(8);
         self.around.clear();
         self.around.extend((0..at).map(|_| random.word() as u8));
@@ -210,5 +214,9 @@ pub fn every_byte_changed(bytes: &[u8]) -> impl Iterator<Item = Vec<u8>> + '_ {
 }
 
 fn first_difference<T: PartialEq>(ours: &[T], expected: &[T]) -> Option<usize> {
+    // Whole buffers are compared far sooner than number by number.
+    if ours == expected {
+        return None;
+    }
     ours.iter().zip(expected).position(|(x, y)| x != y)
 }

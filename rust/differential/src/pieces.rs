@@ -18,17 +18,49 @@ pub struct OfPieces {
     pub rows: usize,
 }
 
+/// What the second implementation says of a joined table, whose cuts are all the same
+/// to it.
+pub(crate) struct Joined {
+    chains: Chains,
+    table: Result<Vec<u8>, u8>,
+    check: CheckAnswer,
+    report: ReportAnswer,
+    fill: FillAnswer,
+}
+
 impl Comparison {
     /// All that is asked of two pieces with buffers that are long enough,
     /// derivations aside.
     pub fn pieces(&mut self, chains: Chains, pieces: Pieces) -> Result<OfPieces, Difference> {
+        let of_joined = self.of_joined(chains, pieces);
+        let (check, fill) = (of_joined.check, of_joined.fill);
         let lengths = self.enough(CYCLE_NUMBERS);
-        let check = self.check_pieces_in(chains, pieces, lengths)?;
-        self.report_pieces_in(chains, pieces, lengths)?;
+        let expected = |lent: &mut Lent| Some(expected::of_check(&check, lent));
+        self.compare_engines(CHECKS, chains, (pieces, lengths), expected)?;
+        self.compare_reports(chains, (pieces, lengths), &of_joined.report)?;
         let lengths = self.enough(SOURCE_NUMBERS);
-        let fill = self.fill_pieces_in(chains, pieces, lengths)?;
+        let expected = |lent: &mut Lent| expected::of_fill(&fill, lent);
+        self.compare_engines(FILLS, chains, (pieces, lengths), expected)?;
         let rows = self.rows_of_pieces(pieces)?;
+        self.joined = Some(of_joined);
         Ok(OfPieces { check, fill, rows })
+    }
+
+    /// Answers with buffers that are long enough; those of the last table are kept.
+    fn of_joined(&mut self, chains: Chains, pieces: Pieces) -> Joined {
+        let table = joined(pieces);
+        let last = self.joined.take();
+        if let Some(last) = last.filter(|last| (last.chains, &last.table) == (chains, &table)) {
+            return last;
+        }
+        let (state, work) = (&mut self.state, WORK_WORDS);
+        Joined {
+            chains,
+            table,
+            check: state.check_pieces(chains, pieces, work, CYCLE_NUMBERS),
+            report: state.report_pieces(chains, pieces, work, CYCLE_NUMBERS),
+            fill: state.fill_pieces(chains, pieces, work, SOURCE_NUMBERS),
+        }
     }
 
     /// A check of two pieces with buffers of any length.
@@ -89,16 +121,25 @@ impl Comparison {
     ) -> Result<ReportAnswer, Difference> {
         let Lengths { work, numbers } = lengths;
         let answer = self.state.report_pieces(chains, pieces, work, numbers);
+        self.compare_reports(chains, (pieces, lengths), &answer)?;
+        Ok(answer)
+    }
+
+    fn compare_reports(
+        &mut self,
+        chains: Chains,
+        (pieces, lengths): (Pieces, Lengths),
+        answer: &ReportAnswer,
+    ) -> Result<(), Difference> {
         let places = self.prepare_pieces(pieces, lengths);
-        let expected = expected::of_report(&answer, &mut self.expected);
+        let expected = expected::of_report(answer, &mut self.expected);
         let lent = places.map(|(at, size)| &self.around[at..at + size]);
         let (work, cycle) = (&mut self.ours.work, &mut self.ours.numbers);
         let mut share = UNWRITTEN;
         let packed = report_in(chains == Chains::On, lent.into(), work, cycle, &mut share);
         let words = || format!("report2 {} {chains:?}", shown(pieces));
         self.compare(words, lengths, packed, expected)?;
-        compare_share(&answer, share)?;
-        Ok(answer)
+        compare_share(answer, share)
     }
 
     /// A derivation in two pieces is that of the joined table, with all that
@@ -156,19 +197,17 @@ impl Comparison {
 
     /// Every row that there may be, and some more; gives how many there are.
     fn rows_of_pieces(&mut self, pieces: Pieces) -> Result<usize, Difference> {
-        let mut count = 0;
+        let expected = self.state.rows_of_pieces(pieces);
         for row in (0..=MAX_ROWS + 1).chain([255, 256, 65535]) {
-            let expected = self.state.row_of_pieces(pieces, row);
             let shown_row = row_of_pieces(pieces, row as u16);
             // The very bytes that were lent, and not a copy of them.
             let place = |part: Option<&[u8]>| part.map(|part| (part.as_ptr(), part.len()));
-            if place(shown_row) != place(expected) {
+            if place(shown_row) != place(expected.get(row).copied()) {
                 let words = format!("{shown_row:?}: row2 {} {row}", shown(pieces));
                 return Err(Difference(words));
             }
-            count += usize::from(shown_row.is_some());
         }
-        Ok(count)
+        Ok(expected.len())
     }
 
     /// Puts both pieces among random bytes; gives their places and sizes.

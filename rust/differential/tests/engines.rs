@@ -1,6 +1,6 @@
-//! That the obvious engine is asked where it is asked for. No contract can say
+//! That the flags engine is asked where it is asked for. No contract can say
 //! so: both engines have the same one. So the time that an answer takes is
-//! counted: the obvious engine's is many times the quick one's.
+//! counted: the flags engine's is many times the other's.
 
 use differential::{Engine, CHECKS, FILLS};
 use std::time::{Duration, Instant};
@@ -23,25 +23,22 @@ fn fastest(engine: Engine, table: &[u8]) -> (Packed, Duration) {
 }
 
 /// Three tables of 128 rows: the same answer, after so many times as long.
-fn compare(
-    generate: fn(&mut Random, Size) -> Table,
-    [(_, quick), (_, obvious)]: [(&str, Engine); 2],
-) {
+fn compare(generate: fn(&mut Random, Size) -> Table, [(_, sets), (_, flags)]: [(&str, Engine); 2]) {
     let mut random = Random::new(601);
     for _ in 0..3 {
         let table = generate(&mut random, Size::LARGEST).bytes();
-        let ((one, short), (two, long)) = (fastest(quick, &table), fastest(obvious, &table));
+        let ((one, short), (two, long)) = (fastest(sets, &table), fastest(flags, &table));
         assert_eq!(one, two);
         assert!(short * TIMES < long, "{short:?} and {long:?}");
     }
 }
 
 #[test]
-fn a_check_by_flags_is_the_obvious_engines() {
+fn a_check_by_flags_is_the_flags_engines() {
     compare(checkable, CHECKS);
 }
 
 #[test]
-fn a_fill_by_flags_is_the_obvious_engines() {
+fn a_fill_by_flags_is_the_flags_engines() {
     compare(fillable, FILLS);
 }

@@ -12,16 +12,17 @@ const SMALL: Size = Size::of(1, 9);
 
 /// Every cut of a table, with chains and without.
 fn compare_cuts(comparison: &mut Comparison, bytes: &[u8], tally: &mut Tally) {
-    for rows in 0..=usize::from(bytes[6]) {
-        let [first, second] = cut(bytes, rows).unwrap();
-        assert_eq!(joined([&first, &second]).unwrap(), bytes, "{rows}");
-        for chains in [Chains::Off, Chains::On] {
+    for chains in [Chains::Off, Chains::On] {
+        let whole = comparison.check_with(chains, bytes).unwrap();
+        for rows in 0..=usize::from(bytes[6]) {
+            let [first, second] = cut(bytes, rows).unwrap();
+            assert_eq!(joined([&first, &second]).unwrap(), bytes, "{rows}");
             let answers = comparison.pieces(chains, [&first, &second]).unwrap();
             tally.check(&answers.check);
             tally.fill(&answers.fill);
             // A refusal from 5 on leaves rows to be shown.
             assert!([0, usize::from(bytes[6])].contains(&answers.rows));
-            assert_eq!(answers.check, comparison.check_with(chains, bytes).unwrap());
+            assert_eq!(answers.check, whole);
         }
     }
 }
@@ -70,10 +71,11 @@ fn some_cuts_of_the_largest_tables() {
             checkable(&mut random, Size::LARGEST).bytes(),
             hosted(&mut random, Size::LARGEST).bytes(),
         ] {
+            let whole = comparison.check(&bytes).unwrap();
             for rows in [0, 1, 64, 127, 128] {
                 let [first, second] = cut(&bytes, rows).unwrap();
                 let answers = comparison.pieces(Chains::Off, [&first, &second]).unwrap();
-                assert_eq!(answers.check, comparison.check(&bytes).unwrap());
+                assert_eq!(answers.check, whole);
             }
             // One row more than there may be.
             let [first, mut second] = cut(&bytes, 64).unwrap();

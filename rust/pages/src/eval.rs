@@ -1,90 +1,60 @@
 //! Evaluation by need. What a kept definition gives is kept by its arguments,
 //! until the next table.
 
-use crate::compile::Program;
-use crate::native::Native;
-use crate::value::{Core, Data, Env, Function, Head, Later, Pattern, Ready, Value};
-use crate::watch::Watch;
+use crate::native::{Native, PLACES};
+use crate::parse::Expr;
+use crate::program::{Program, Ready};
+use crate::value::{function, Code, Data, Env, Function, Later, Value};
 use std::cell::RefCell;
 use std::collections::HashMap;
-use std::fmt;
-use std::hash::{BuildHasherDefault, Hasher};
+use std::fmt::Display;
 use std::rc::Rc;
 
-/// Why an evaluation ended without a value. Boxed, so that a value is no larger
-/// for it.
-#[derive(Clone, Debug, PartialEq, Eq)]
-pub struct Stop(Box<Reason>);
+/// What is found, or why there is nothing.
+pub type Found<T = Value> = Result<T, Stop>;
 
-#[derive(Clone, Debug, PartialEq, Eq)]
-struct Reason(String);
+/// Boxed, so that a value is no larger for it.
+#[derive(Debug)]
+#[allow(clippy::box_collection)]
+pub struct Stop(pub Box<String>);
 
-impl Stop {
-    pub fn new(text: String) -> Stop {
-        Stop(Box::new(Reason(text)))
+impl<T: Display> From<T> for Stop {
+    fn from(text: T) -> Stop {
+        Stop(Box::new(text.to_string()))
     }
 }
 
-impl fmt::Display for Stop {
-    fn fmt(&self, formatter: &mut fmt::Formatter) -> fmt::Result {
-        self.0 .0.fmt(formatter)
-    }
-}
-
-/// Calls of one question, at most, and how deep they may lie in each other.
+/// Calls of one question, and how deep they lie in each other, at most.
 const MOST_CALLS: u64 = 200_000_000;
 const DEEPEST: usize = 20_000;
 
-/// Arguments of a kept definition, at most, and itself.
-const KEY: usize = 8;
-
-#[derive(Default)]
-pub(crate) struct Mixer(u64);
-
-impl Hasher for Mixer {
-    fn finish(&self) -> u64 {
-        self.0.rotate_left(26)
-    }
-
-    fn write(&mut self, bytes: &[u8]) {
-        bytes
-            .iter()
-            .for_each(|byte| self.write_u64(u64::from(*byte)));
-    }
-
-    fn write_u64(&mut self, number: u64) {
-        self.0 = (self.0.rotate_left(5) ^ number).wrapping_mul(0x517c_c1b7_2722_0a95);
-    }
-
-    fn write_usize(&mut self, number: usize) {
-        self.write_u64(number as u64);
-    }
-}
-
-pub(crate) type Map<K, V> = HashMap<K, V, BuildHasherDefault<Mixer>>;
-
 /// What is known of the table that is asked about.
 #[derive(Default)]
-pub(crate) struct Known {
-    kept: Map<[u64; KEY], (Value, Vec<Value>)>,
-    pub(crate) steps: Map<(u64, u64), Vec<u8>>,
-    pub(crate) reached: Map<(u64, u64, u64), Rc<Vec<bool>>>,
-    pub(crate) layers: Map<(u64, u64, u64), Vec<Vec<bool>>>,
+pub struct Pass {
+    /// By definition and arguments. These are held, so that nothing else comes
+    /// to stand at their addresses.
+    kept: HashMap<Vec<u64>, (Value, Vec<Value>)>,
+    pub(crate) reached: HashMap<(u64, u64, u64, bool), Rc<Vec<u64>>>,
+    pub calls: u64,
+    pub depth: usize,
+    /// Beside another evaluation: what that put off is left to it.
+    pub is_beside: bool,
 }
+
+/// Is told of each call of a definition, its arguments and its value.
+pub type Watcher = Rc<dyn Fn(&mut Evaluator, usize, &[Value], &Value)>;
 
 /// Evaluates definitions of some pages.
 pub struct Evaluator {
     pub program: Program,
-    /// Numbers that a statement about all numbers, or some, is asked about.
+    /// Numbers that a statement about all numbers is asked about.
     pub bound: u64,
-    pub(crate) known: Known,
-    constants: Vec<Option<Value>>,
-    names: Map<Vec<u64>, (u64, Value)>,
-    pub(crate) watch: Option<Watch>,
-    /// Calls of one question, at most.
+    pub pass: Pass,
     pub most_calls: u64,
-    pub(crate) calls: u64,
-    pub(crate) depth: usize,
+    pub watcher: Option<Watcher>,
+    names: HashMap<Vec<u64>, (u64, Value)>,
+    /// What definitions are worth that are given nothing.
+    constants: Vec<Option<Value>>,
 }
 
 impl Evaluator {
@@ -92,473 +62,339 @@ impl Evaluator {
         Evaluator {
             program,
             bound: 0,
-            known: Known::default(),
-            constants: Vec::new(),
-            names: Map::default(),
-            watch: None,
+            pass: Pass::default(),
             most_calls: MOST_CALLS,
-            calls: 0,
-            depth: 0,
+            watcher: None,
+            names: HashMap::new(),
+            constants: Vec::new(),
         }
     }
 
     /// Forgets what was kept: for the next table, or other definitions.
     pub fn forget(&mut self) {
-        self.known = Known::default();
-        self.constants.clear();
+        self.pass = Pass::default();
         self.names.clear();
-        if let Some(watch) = &mut self.watch {
-            watch.forget();
-        }
+        self.constants.clear();
     }
 
     /// What a definition, `crate/Page.name`, gives for these arguments.
-    pub fn ask(&mut self, definition: &str, arguments: &[Value]) -> Result<Value, Stop> {
-        (self.calls, self.depth) = (0, 0);
-        let id = self.program.definition(definition)?;
+    pub fn ask(&mut self, definition: &str, arguments: &[Value]) -> Found {
+        (self.pass.calls, self.pass.depth) = (0, 0);
+        let id = self.program.definition(definition);
         self.call(id, arguments.to_vec())
     }
 
-    /// What an expression is worth, with the names of a page and these values.
-    pub fn expression(
-        &mut self,
-        page: &str,
-        text: &str,
-        given: &[(&str, Value)],
-    ) -> Result<Value, Stop> {
-        (self.calls, self.depth) = (0, 0);
-        let names: Vec<&str> = given.iter().map(|(name, _)| *name).collect();
-        let values = given.iter().map(|(_, value)| value.clone()).collect();
-        let core = self.program.expression(page, text, &names)?;
-        self.eval(&core, &Rc::new(values))
-    }
-
-    /// As `ask`, with all that the value holds, as text.
-    pub fn told(&mut self, definition: &str, arguments: &[Value]) -> Result<String, Stop> {
-        let value = self.ask(definition, arguments)?;
-        self.show(&value)
-    }
-
-    pub(crate) fn eval(&mut self, core: &Rc<Core>, env: &Env) -> Result<Value, Stop> {
-        match &**core {
-            Core::Local(place) => self.force(&env[*place]),
-            Core::Constant(value) => Ok(value.clone()),
-            Core::Defined(id, arguments) if arguments.is_empty() => self.constant(*id),
-            Core::Defined(id, arguments) => {
-                let is_kept = self.program.ready(*id)?.is_kept;
-                let mut given = Vec::with_capacity(arguments.len());
-                for argument in arguments {
-                    given.push(match is_kept {
-                        true => self.eval(argument, env)?,
-                        false => self.delay(argument, env)?,
-                    });
+    pub(crate) fn eval(&mut self, code: Code, env: &Env) -> Found {
+        match code {
+            Expr::Local(place) => self.force(&env[*place]),
+            Expr::Number(number) => Ok(Value::Number(*number)),
+            Expr::Constant(value) => Ok(value.clone()),
+            Expr::Name(name) => Err(format!("{name} is not known").into()),
+            Expr::Native(native) => Ok(function(code, native.arity(), Vec::new())),
+            Expr::Function(names, _) => Ok(function(code, env.len() + names.len(), env.to_vec())),
+            Expr::Defined(id) => {
+                if let Some(Some(value)) = self.constants.get(*id) {
+                    return Ok(value.clone());
                 }
-                self.call(*id, given)
+                let value = self.call(*id, Vec::new())?;
+                self.constants
+                    .resize(self.constants.len().max(id + 1), None);
+                self.constants[*id] = Some(value.clone());
+                Ok(value)
             }
-            Core::Native(native, arguments) if arguments.len() == native.arity() => {
-                self.native(*native, arguments, env)
-            }
-            Core::Native(native, arguments) => {
-                let head = Head::Native(*native);
-                let function = function(head, native.arity(), Vec::new());
-                let given = self.delayed(arguments, env)?;
-                self.apply(&function, given)
-            }
-            Core::Apply(head, arguments) => {
-                let head = self.eval(head, env)?;
-                let given = self.delayed(arguments, env)?;
-                self.apply(&head, given)
-            }
-            Core::Let(value, body) => {
-                let mut longer = env.to_vec();
-                longer.push(self.delay(value, env)?);
-                self.eval(body, &Rc::new(longer))
-            }
-            Core::Every(..) => self.every(core, env),
-            _ => self.made(core, env),
-        }
-    }
-
-    fn made(&mut self, core: &Rc<Core>, env: &Env) -> Result<Value, Stop> {
-        Ok(match &**core {
-            Core::Data(tag, arguments) => {
-                let fields = self.delayed(arguments, env)?;
-                Value::Data(Rc::new(Data { tag: *tag, fields }))
-            }
-            Core::Record(fields) => {
-                let values = fields
-                    .iter()
-                    .map(|(name, core)| Ok((*name, self.delay(core, env)?)));
-                Value::Record(Rc::new(values.collect::<Result<_, Stop>>()?))
-            }
-            Core::Function(arity, body) => {
-                let head = Head::Written(body.clone(), env.clone());
-                function(head, *arity, Vec::new())
-            }
-            Core::Field(of, name) => match self.eval(of, env)? {
-                Value::Record(fields) => {
-                    let found = fields.iter().find(|(field, _)| field == name);
-                    let value = found.ok_or_else(|| Stop::new("no such field".to_string()))?;
-                    return self.force(&value.1);
+            Expr::Apply(head, arguments) => match &**head {
+                Expr::Defined(id) => {
+                    let is_strict = self.program.ready(*id)?.is_kept;
+                    let given = self.given(arguments, env, is_strict)?;
+                    self.call(*id, given)
                 }
-                _ => return Err(Stop::new("a field of no record".to_string())),
+                Expr::Native(native) if arguments.len() == native.arity() => {
+                    self.native(*native, arguments, env)
+                }
+                head => {
+                    let head = self.eval(head, env)?;
+                    let given = self.given(arguments, env, false)?;
+                    self.apply(head, given)
+                }
             },
-            _ => unreachable!("in eval"),
-        })
-    }
-
-    /// Whether all, or some, of the numbers that are asked about pass.
-    fn every(&mut self, core: &Rc<Core>, env: &Env) -> Result<Value, Stop> {
-        let Core::Every(all, count, body) = &**core else {
-            unreachable!("in eval")
-        };
-        let mut longer = env.to_vec();
-        let begin = longer.len();
-        longer.resize(begin + count, Value::Number(0));
-        let combinations = self.bound.pow(*count as u32);
-        for combination in 0..combinations {
-            let mut rest = combination;
-            for place in &mut longer[begin..] {
-                *place = Value::Number(rest % self.bound);
-                rest /= self.bound;
+            Expr::Let(_, value, body) => {
+                let value = self.delay(value, env)?;
+                self.eval(body, &longer(env, [value]))
             }
-            match self.eval(body, &Rc::new(longer.clone()))? {
-                Value::Truth(truth) if truth == *all => (),
-                Value::Truth(truth) => return Ok(Value::Truth(truth)),
-                _ => return Err(Stop::new("a statement without a truth".to_string())),
+            Expr::Record(names) => {
+                let fields = names.iter().map(|(_, field)| self.delay(field, env));
+                let fields = fields.collect::<Found<_>>()?;
+                Ok(Value::Data(Rc::new(Data {
+                    tag: "",
+                    names,
+                    fields,
+                })))
+            }
+            Expr::Field(of, name) => {
+                let record = self.eval(of, env)?;
+                let names = match &record {
+                    Value::Data(data) => data.names,
+                    _ => &[],
+                };
+                let place = names.iter().position(|(field, _)| field == name);
+                self.force(&record.parts()[place.ok_or("no such field")?])
+            }
+            Expr::All(names, body) => {
+                let count = names.len() as u32;
+                for combination in 0..self.bound.pow(count) {
+                    let digit = |at| combination / self.bound.pow(at) % self.bound;
+                    let numbers = (0..count).map(|at| Value::Number(digit(at)));
+                    match self.eval(body, &longer(env, numbers))? {
+                        Value::Truth(true) => (),
+                        value => return Ok(value),
+                    }
+                }
+                Ok(Value::Truth(true))
             }
         }
-        Ok(Value::Truth(*all))
     }
 
-    fn delayed(&mut self, cores: &[Rc<Core>], env: &Env) -> Result<Vec<Value>, Stop> {
-        cores.iter().map(|core| self.delay(core, env)).collect()
+    /// Arguments; those that are needed in any case are evaluated at once.
+    fn given(&mut self, codes: &'static [Expr], env: &Env, is_strict: bool) -> Found<Vec<Value>> {
+        let mut given = Vec::with_capacity(codes.len());
+        for code in codes {
+            given.push(match is_strict {
+                true => self.eval(code, env)?,
+                false => self.delay(code, env)?,
+            });
+        }
+        Ok(given)
     }
 
     /// What is quickly known is known at once.
-    fn delay(&mut self, core: &Rc<Core>, env: &Env) -> Result<Value, Stop> {
-        match &**core {
-            Core::Local(place) => Ok(env[*place].clone()),
-            Core::Constant(_) | Core::Function(..) | Core::Data(..) => self.eval(core, env),
-            _ if is_quick(core) => self.eval(core, env),
+    fn delay(&mut self, code: Code, env: &Env) -> Found {
+        match code {
+            Expr::Local(place) => Ok(env[*place].clone()),
+            _ if is_quick(code) => self.eval(code, env),
             _ => {
-                let later = Later::Todo(core.clone(), env.clone(), self.is_looking());
+                let later = Later::Todo(code, env.clone(), self.pass.is_beside);
                 Ok(Value::Later(Rc::new(RefCell::new(later))))
             }
         }
     }
 
-    pub(crate) fn force(&mut self, value: &Value) -> Result<Value, Stop> {
+    pub fn force(&mut self, value: &Value) -> Found {
         let Value::Later(later) = value else {
             return Ok(value.clone());
         };
-        let (core, env, looking) = match &*later.borrow() {
+        let (code, env, is_beside) = match &*later.borrow() {
             Later::Done(value) => return Ok(value.clone()),
-            Later::Todo(core, env, looking) => (core.clone(), env.clone(), *looking),
+            Later::Todo(code, env, is_beside) => (*code, env.clone(), *is_beside),
         };
-        let value = self.eval(&core, &env)?;
-        // What the pages' own evaluation will ask for is left to it.
-        if looking || !self.is_looking() {
+        let value = self.eval(code, &env)?;
+        if is_beside || !self.pass.is_beside {
             *later.borrow_mut() = Later::Done(value.clone());
         }
         Ok(value)
     }
 
-    pub(crate) fn apply(&mut self, head: &Value, mut more: Vec<Value>) -> Result<Value, Stop> {
-        match head {
-            Value::Function(function) => {
-                let missing = function.arity - function.given.len();
-                if more.len() < missing {
-                    let given = [&function.given[..], &more].concat();
-                    return Ok(self::function(function.head.clone(), function.arity, given));
+    pub(crate) fn apply(&mut self, head: Value, mut more: Vec<Value>) -> Found {
+        if more.is_empty() {
+            return Ok(head);
+        }
+        match self.force(&head)? {
+            Value::Function(waiting) => {
+                let Function { code, arity, given } = &*waiting;
+                let rest = more.split_off(more.len().min(arity - given.len()));
+                let given = [&given[..], &more].concat();
+                if given.len() < *arity {
+                    return Ok(function(code, *arity, given));
                 }
-                let rest = more.split_off(missing);
-                let given = [&function.given[..], &more].concat();
-                let value = self.enter(&function.head, given)?;
-                match rest.is_empty() {
-                    true => Ok(value),
-                    false => self.apply(&value, rest),
-                }
+                let value = match code {
+                    Expr::Defined(id) => self.call(*id, given)?,
+                    Expr::Native(native) => self.native(*native, PLACES, &Rc::new(given))?,
+                    Expr::Function(_, body) => self.eval(body, &Rc::new(given))?,
+                    _ => return Err("no function".into()),
+                };
+                self.apply(value, rest)
             }
-            Value::Data(data) => {
-                let fields = [&data.fields[..], &more].concat();
-                Ok(Value::Data(Rc::new(Data {
-                    tag: data.tag,
-                    fields,
-                })))
-            }
-            Value::Later(_) => {
-                let head = self.force(head)?;
-                self.apply(&head, more)
-            }
-            _ => Err(Stop::new("an application of no function".to_string())),
+            Value::Data(data) => Ok(Value::data(data.tag, [&data.fields[..], &more].concat())),
+            _ => Err("an application of no function".into()),
         }
     }
 
-    fn enter(&mut self, head: &Head, given: Vec<Value>) -> Result<Value, Stop> {
-        match head {
-            Head::Defined(id) => self.call(*id, given),
-            Head::Native(native) => self.native_of(*native, given),
-            Head::Written(body, env) => {
-                let mut longer = env.to_vec();
-                longer.extend(given);
-                self.eval(body, &Rc::new(longer))
-            }
-        }
-    }
-
-    fn call(&mut self, id: usize, mut given: Vec<Value>) -> Result<Value, Stop> {
+    fn call(&mut self, id: usize, mut given: Vec<Value>) -> Found {
         let ready = self.program.ready(id)?;
         if given.len() < ready.arity {
-            return Ok(function(Head::Defined(id), ready.arity, given));
+            return Ok(function(&ready.own, ready.arity, given));
         }
         let rest = given.split_off(ready.arity);
-        self.calls += 1;
-        self.depth += 1;
-        if self.calls > self.most_calls || self.depth > DEEPEST {
-            return Err(Stop::new("too many calls".to_string()));
-        }
-        let value = match ready.is_kept {
-            true => self.called_once(id, &ready, given)?,
-            false => self.called(id, &ready, given)?,
+        let key = match ready.is_kept {
+            true => self.keys(id as u64, &given)?,
+            false => None,
         };
-        self.depth -= 1;
-        match rest.is_empty() {
-            true => Ok(value),
-            false => self.apply(&value, rest),
+        if let Some((value, _)) = key.as_ref().and_then(|key| self.pass.kept.get(key)) {
+            let value = value.clone();
+            return self.apply(value, rest);
         }
+        self.pass.calls += 1;
+        self.pass.depth += 1;
+        if self.pass.calls > self.most_calls || self.pass.depth > DEEPEST {
+            return Err("too many calls".into());
+        }
+        let watcher = self.watcher.clone().filter(|_| !self.pass.is_beside);
+        let held = match key.is_some() || watcher.is_some() {
+            true => given.clone(),
+            false => Vec::new(),
+        };
+        let value = self.run(ready, given)?;
+        if let Some(watcher) = watcher {
+            watcher(self, id, &held, &value);
+        }
+        if let Some(key) = key {
+            self.pass.kept.insert(key, (value.clone(), held));
+        }
+        self.pass.depth -= 1;
+        self.apply(value, rest)
     }
 
-    /// A definition that is given nothing: each is evaluated once.
-    fn constant(&mut self, id: usize) -> Result<Value, Stop> {
-        if let Some(Some(value)) = self.constants.get(id) {
-            return Ok(value.clone());
-        }
-        let value = self.call(id, Vec::new())?;
-        let size = self.constants.len().max(id + 1);
-        self.constants.resize(size, None);
-        self.constants[id] = Some(value.clone());
-        Ok(value)
-    }
-
-    fn called_once(
-        &mut self,
-        id: usize,
-        ready: &Ready,
-        mut given: Vec<Value>,
-    ) -> Result<Value, Stop> {
-        let mut key = [0; KEY];
-        key[0] = id as u64;
-        for (place, value) in given.iter_mut().enumerate() {
-            *value = self.force(value)?;
-            match self.key(value)? {
-                Some(part) => key[place + 1] = part,
-                None => return self.called(id, ready, given),
-            }
-        }
-        if let Some((value, _)) = self.known.kept.get(&key) {
-            return Ok(value.clone());
-        }
-        let value = self.called(id, ready, given.clone())?;
-        self.known.kept.insert(key, (value.clone(), given));
-        Ok(value)
-    }
-
-    fn called(&mut self, id: usize, ready: &Ready, given: Vec<Value>) -> Result<Value, Stop> {
-        if !self
-            .watch
-            .as_ref()
-            .is_some_and(|watch| watch.is_watched(id))
-        {
-            return self.run(id, ready, given);
-        }
-        let value = self.run(id, ready, given.clone())?;
-        self.look_at(id, &given, &value);
-        Ok(value)
-    }
-
-    pub(crate) fn run(
-        &mut self,
-        id: usize,
-        ready: &Ready,
-        given: Vec<Value>,
-    ) -> Result<Value, Stop> {
-        if ready.is_plain {
-            return self.eval(&ready.clauses[0].1, &Rc::new(given));
-        }
+    /// What a definition gives, by the first clause that its arguments meet.
+    pub fn run(&mut self, ready: &'static Ready, given: Vec<Value>) -> Found {
         for (patterns, body) in &ready.clauses {
-            let mut env = Vec::new();
-            let mut is_met = true;
-            for (pattern, value) in patterns.iter().zip(&given) {
-                is_met = is_met && self.meets(pattern, value, &mut env)?;
+            if patterns
+                .iter()
+                .all(|pattern| matches!(pattern, Expr::Local(_)))
+            {
+                return self.eval(body, &Rc::new(given));
             }
-            if is_met {
+            let mut env = Vec::new();
+            if self.meet(patterns, &given, &mut env)? {
                 return self.eval(body, &Rc::new(env));
             }
         }
-        Err(Stop::new(format!("no clause of {}", self.program.name(id))))
+        Err("no clause".into())
     }
 
-    fn meets(
-        &mut self,
-        pattern: &Pattern,
-        value: &Value,
-        env: &mut Vec<Value>,
-    ) -> Result<bool, Stop> {
-        if matches!(pattern, Pattern::Any) {
-            env.push(value.clone());
-            return Ok(true);
-        }
-        let value = self.force(value)?;
-        Ok(match (pattern, &value) {
-            (Pattern::Number(wanted), Value::Number(number)) => wanted == number,
-            (Pattern::Truth(wanted), Value::Truth(truth)) => wanted == truth,
-            (Pattern::Successor(_), Value::Number(0)) => false,
-            (Pattern::Successor(inner), Value::Number(number)) => {
-                self.meets(inner, &Value::Number(number - 1), env)?
-            }
-            (Pattern::Empty, Value::List(list)) => list.is_empty(),
-            (Pattern::Cons(first, rest), Value::List(list)) => match &list[..] {
-                [] => false,
-                [head, tail @ ..] => {
-                    let tail = Value::list(tail.to_vec());
-                    self.meets(first, head, env)? && self.meets(rest, &tail, env)?
+    fn meet(&mut self, patterns: &[Expr], values: &[Value], env: &mut Vec<Value>) -> Found<bool> {
+        for (pattern, value) in patterns.iter().zip(values) {
+            let is_met = match pattern {
+                Expr::Local(_) => {
+                    env.push(value.clone());
+                    true
                 }
-            },
-            (Pattern::Data(tag, inner), Value::Data(data)) => {
-                let mut is_met = *tag == data.tag && inner.len() == data.fields.len();
-                for (pattern, field) in inner.iter().zip(&data.fields) {
-                    is_met = is_met && self.meets(pattern, field, env)?;
-                }
-                is_met
-            }
-            _ => return Err(Stop::new("a pattern of another kind".to_string())),
-        })
-    }
-
-    /// What tells a value from others in its place, if that is quickly known.
-    pub(crate) fn key(&mut self, value: &Value) -> Result<Option<u64>, Stop> {
-        Ok(match value {
-            Value::Number(number) => Some(*number),
-            Value::Truth(truth) => Some(u64::from(*truth)),
-            Value::List(list) => Some(Rc::as_ptr(list) as u64),
-            Value::Record(fields) => Some(Rc::as_ptr(fields) as u64),
-            Value::Function(function) => self.function_key(function)?,
-            _ => None,
-        })
-    }
-
-    /// Functions are the same where their heads and arguments are.
-    fn function_key(&mut self, function: &Rc<Function>) -> Result<Option<u64>, Stop> {
-        let mut parts = match function.head {
-            Head::Defined(id) => vec![0, id as u64],
-            Head::Native(native) => vec![1, native as u64],
-            Head::Written(..) => vec![2, Rc::as_ptr(function) as u64],
-        };
-        for value in &function.given {
-            let value = self.force(value)?;
-            match self.key(&value)? {
-                Some(part) => parts.push(part),
-                None => return Ok(None),
-            }
-        }
-        let next = self.names.len() as u64;
-        // It is held, so that nothing else comes to stand at its address.
-        let held = || (next, Value::Function(function.clone()));
-        Ok(Some(self.names.entry(parts).or_insert_with(held).0))
-    }
-
-    /// All that a value holds, as text.
-    pub fn show(&mut self, value: &Value) -> Result<String, Stop> {
-        let value = self.force(value)?;
-        let all = |evaluator: &mut Evaluator, values: &[Value]| {
-            let texts: Result<Vec<String>, Stop> =
-                values.iter().map(|v| evaluator.show(v)).collect();
-            Ok::<String, Stop>(texts?.join(" "))
-        };
-        Ok(match &value {
-            Value::Number(number) => number.to_string(),
-            Value::Truth(truth) => truth.to_string(),
-            Value::Float(bits) => format!("{:?}", f64::from_bits(*bits)),
-            Value::List(list) => format!("[{}]", all(self, list)?),
-            Value::Record(fields) => {
-                let values: Vec<Value> = fields.iter().map(|(_, value)| value.clone()).collect();
-                format!("{{{}}}", all(self, &values)?)
-            }
-            Value::Data(data) if data.fields.is_empty() => self.program.symbol_text(data.tag),
-            Value::Data(data) => {
-                format!(
-                    "{} {}",
-                    self.program.symbol_text(data.tag),
-                    all(self, &data.fields)?
-                )
-            }
-            Value::Function(_) | Value::Later(_) => {
-                return Err(Stop::new("a function".to_string()))
-            }
-        })
-    }
-
-    /// Whether two values hold the same; that of functions isn't known.
-    pub(crate) fn same(&mut self, one: &Value, two: &Value) -> Result<bool, Stop> {
-        let pairs: Vec<(Value, Value)> = match (self.force(one)?, self.force(two)?) {
-            (Value::Number(one), Value::Number(two)) => return Ok(one == two),
-            (Value::Truth(one), Value::Truth(two)) => return Ok(one == two),
-            (Value::Float(one), Value::Float(two)) => return Ok(one == two),
-            (Value::List(one), Value::List(two)) if one.len() == two.len() => {
-                one.iter().cloned().zip(two.iter().cloned()).collect()
-            }
-            (Value::Data(one), Value::Data(two)) if one.tag == two.tag => one
-                .fields
-                .iter()
-                .cloned()
-                .zip(two.fields.iter().cloned())
-                .collect(),
-            (Value::Record(one), Value::Record(two)) => {
-                let second = two.iter().map(|(_, value)| value.clone());
-                one.iter()
-                    .map(|(_, value)| value.clone())
-                    .zip(second)
-                    .collect()
-            }
-            (Value::Function(_), _) => return Err(Stop::new("a function".to_string())),
-            _ => return Ok(false),
-        };
-        for (one, two) in pairs {
-            if !self.same(&one, &two)? {
+                Expr::Number(number) => self.same(value, &Value::Number(*number))?,
+                Expr::Constant(constant) => self.same(value, constant)?,
+                Expr::Apply(head, inner) => match self.parts_by(head, value)? {
+                    Some(parts) => self.meet(inner, &parts, env)?,
+                    None => false,
+                },
+                _ => return Err("no pattern".into()),
+            };
+            if !is_met {
                 return Ok(false);
             }
         }
         Ok(true)
     }
 
-    /// The numbers of a list.
-    pub fn list_of(&mut self, definition: &str, arguments: &[Value]) -> Result<Vec<u64>, Stop> {
-        let Value::List(list) = self.ask(definition, arguments)? else {
-            return Err(Stop::new("no list".to_string()));
+    /// What a constructor was applied to, if a value is made with it.
+    fn parts_by(&mut self, constructor: &Expr, value: &Value) -> Found<Option<Vec<Value>>> {
+        Ok(match (constructor, self.force(value)?) {
+            (Expr::Native(Native::Suc), Value::Number(number)) => number
+                .checked_sub(1)
+                .map(|before| vec![Value::Number(before)]),
+            (Expr::Native(Native::Cons), Value::List(list)) => match &list[..] {
+                [] => None,
+                [first, rest @ ..] => Some(vec![first.clone(), Value::list(rest.to_vec())]),
+            },
+            (Expr::Constant(Value::Data(wanted)), Value::Data(data)) => {
+                (wanted.tag == data.tag).then(|| data.fields.clone())
+            }
+            _ => return Err("a pattern of another kind".into()),
+        })
+    }
+
+    /// What tells a value from others in its place, if that is quickly known.
+    /// Functions are the same where their heads and arguments are.
+    pub(crate) fn key(&mut self, value: &Value) -> Found<Option<u64>> {
+        let value = self.force(value)?;
+        let parts = match &value {
+            Value::Number(number) => return Ok(Some(*number)),
+            Value::Truth(truth) => return Ok(Some(u64::from(*truth))),
+            Value::List(list) => return Ok(Some(Rc::as_ptr(list) as u64)),
+            Value::Data(data) => return Ok(Some(Rc::as_ptr(data) as u64)),
+            Value::Float(_) | Value::Later(_) => None,
+            Value::Function(function) => match function.code {
+                Expr::Defined(id) => self.keys(*id as u64, &function.given)?,
+                Expr::Native(native) => self.keys(*native as u64 + (1 << 32), &function.given)?,
+                _ => Some(vec![Rc::as_ptr(function) as u64]),
+            },
         };
-        let numbers = list.iter().map(|value| match self.force(value)? {
-            Value::Number(number) => Ok(number),
-            _ => Err(Stop::new("no number".to_string())),
-        });
-        numbers.collect()
+        let next = self.names.len() as u64;
+        Ok(parts.map(|parts| self.names.entry(parts).or_insert((next, value)).0))
+    }
+
+    fn keys(&mut self, head: u64, values: &[Value]) -> Found<Option<Vec<u64>>> {
+        let mut keys = Vec::with_capacity(values.len() + 1);
+        keys.push(head);
+        for value in values {
+            match self.key(value)? {
+                Some(key) => keys.push(key),
+                None => return Ok(None),
+            }
+        }
+        Ok(Some(keys))
+    }
+
+    /// Whether two values hold the same; that of functions isn't known.
+    pub fn same(&mut self, one: &Value, two: &Value) -> Found<bool> {
+        let (one, two) = (self.force(one)?, self.force(two)?);
+        let is_alike = match (&one, &two) {
+            (Value::Number(one), Value::Number(two)) => one == two,
+            (Value::Truth(one), Value::Truth(two)) => one == two,
+            (Value::Float(one), Value::Float(two)) => one == two,
+            (Value::List(_), Value::List(_)) => true,
+            (Value::Data(one), Value::Data(two)) => one.tag == two.tag,
+            (Value::Function(_), _) => return Err("a function".into()),
+            _ => false,
+        };
+        let mut is_same = is_alike && one.parts().len() == two.parts().len();
+        for (one, two) in one.parts().iter().zip(two.parts()) {
+            is_same = is_same && self.same(one, two)?;
+        }
+        Ok(is_same)
+    }
+
+    /// As `ask`, with all that the value holds, as text.
+    pub fn told(&mut self, definition: &str, arguments: &[Value]) -> Found<String> {
+        let value = self.ask(definition, arguments)?;
+        self.show(&value)
+    }
+
+    fn show(&mut self, value: &Value) -> Found<String> {
+        let value = self.force(value)?;
+        let parts = value.parts().iter().map(|part| self.show(part));
+        let parts = parts.collect::<Found<Vec<String>>>()?.join(" ");
+        Ok(match &value {
+            Value::Number(number) => number.to_string(),
+            Value::Truth(truth) => truth.to_string(),
+            Value::Float(bits) => format!("{:?}", f64::from_bits(*bits)),
+            Value::List(_) => format!("[{parts}]"),
+            Value::Data(data) if data.tag.is_empty() => format!("{{{parts}}}"),
+            Value::Data(data) => format!("{} {parts}", data.tag).trim_end().to_string(),
+            Value::Function(_) | Value::Later(_) => return Err("a function".into()),
+        })
     }
 }
 
-fn function(head: Head, arity: usize, given: Vec<Value>) -> Value {
-    Value::Function(Rc::new(Function { head, arity, given }))
+fn longer(env: &Env, more: impl IntoIterator<Item = Value>) -> Env {
+    Rc::new(env.iter().cloned().chain(more).collect())
 }
 
 /// A field, a sum of such, a row of the table.
-fn is_quick(core: &Core) -> bool {
-    match core {
-        Core::Local(_) | Core::Constant(_) => true,
-        Core::Field(of, _) => is_quick(of),
-        Core::Apply(head, arguments) => {
-            matches!(**head, Core::Field(..)) && arguments.iter().all(|core| is_quick(core))
-        }
-        Core::Native(Native::Add | Native::Multiply | Native::Suc, arguments) => {
-            arguments.iter().all(|core| is_quick(core))
+fn is_quick(code: &Expr) -> bool {
+    use Native::{Add, Multiply, Suc};
+    match code {
+        Expr::Local(_) | Expr::Number(_) | Expr::Constant(_) | Expr::Function(..) => true,
+        Expr::Field(of, _) => is_quick(of),
+        Expr::Apply(head, arguments) => {
+            matches!(**head, Expr::Field(..) | Expr::Native(Add | Multiply | Suc))
+                && arguments.iter().all(is_quick)
         }
         _ => false,
     }

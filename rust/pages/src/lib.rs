@@ -5,19 +5,17 @@
 //! words of the kit's library and, for speed, some of crate `finite`
 //! (`native`); a test compares these with their own definitions.
 
-mod compile;
-mod contract;
 mod eval;
-mod lex;
 mod native;
 mod page;
 mod parse;
-mod relation;
+mod program;
 mod value;
-mod watch;
+mod words;
 
-pub use compile::{Clause, Program};
-pub use eval::{Evaluator, Stop};
+pub use eval::{Evaluator, Found, Pass, Stop, Watcher};
 pub use native::OF_FINITE;
 pub use parse::Expr;
+pub use program::{Clause, Program, Ready};
 pub use value::Value;
+pub use words::{bound, outside, words, Word};

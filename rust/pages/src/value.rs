@@ -1,12 +1,13 @@
-//! What an expression is worth, and the expressions that are ready to be
-//! evaluated.
+//! What an expression is worth.
 
-use crate::native::Native;
+use crate::parse::Expr;
+use crate::words::Word;
 use std::cell::RefCell;
 use std::rc::Rc;
 
-/// A name, by its number.
-pub type Symbol = u32;
+/// An expression of a definition. It stays, so that what is put off can point
+/// into it.
+pub type Code = &'static Expr;
 
 /// The values of the names that an expression may use.
 pub type Env = Rc<Vec<Value>>;
@@ -19,82 +20,57 @@ pub enum Value {
     Float(u64),
     Data(Rc<Data>),
     List(Rc<Vec<Value>>),
-    Record(Rc<Vec<(Symbol, Value)>>),
     Function(Rc<Function>),
     /// Not asked for so far.
     Later(Rc<RefCell<Later>>),
 }
 
-/// A constructor and what it is applied to.
+/// A constructor and what it is applied to, or a record, which has no tag.
 pub struct Data {
-    pub tag: Symbol,
+    pub tag: Word,
+    pub names: &'static [(Word, Expr)],
     pub fields: Vec<Value>,
 }
 
-/// A function that waits for more arguments.
+/// A definition, a native or a λ that waits for more arguments; to a λ all
+/// names around it are given.
 pub struct Function {
-    pub head: Head,
+    pub code: Code,
     pub arity: usize,
     pub given: Vec<Value>,
 }
 
-#[derive(Clone)]
-pub enum Head {
-    Defined(usize),
-    Native(Native),
-    Written(Rc<Core>, Env),
-}
-
 pub enum Later {
-    /// The last part says whether it came up while others were looked at.
-    Todo(Rc<Core>, Env, bool),
+    /// The last part says whether it came up beside the evaluation that goes on.
+    Todo(Code, Env, bool),
     Done(Value),
-}
-
-/// An expression whose names are places of an environment, definitions and
-/// natives.
-pub enum Core {
-    Local(usize),
-    Constant(Value),
-    Defined(usize, Vec<Rc<Core>>),
-    Native(Native, Vec<Rc<Core>>),
-    Data(Symbol, Vec<Rc<Core>>),
-    Apply(Rc<Core>, Vec<Rc<Core>>),
-    Field(Rc<Core>, Symbol),
-    Record(Vec<(Symbol, Rc<Core>)>),
-    Function(usize, Rc<Core>),
-    Let(Rc<Core>, Rc<Core>),
-    /// Whether all numbers that the reader asks about pass, or some.
-    Every(bool, usize, Rc<Core>),
-}
-
-pub enum Pattern {
-    Any,
-    Number(u64),
-    Truth(bool),
-    Successor(Box<Pattern>),
-    Empty,
-    Cons(Box<Pattern>, Box<Pattern>),
-    Data(Symbol, Vec<Pattern>),
-}
-
-/// A definition that is ready to be called.
-pub struct Ready {
-    pub arity: usize,
-    pub clauses: Vec<(Vec<Pattern>, Rc<Core>)>,
-    /// One clause that takes any arguments.
-    pub is_plain: bool,
-    /// What it gives is kept, by its arguments.
-    pub is_kept: bool,
 }
 
 impl Value {
     pub fn numbers<N: Copy + Into<u64>>(numbers: &[N]) -> Value {
         let values = numbers.iter().map(|number| Value::Number((*number).into()));
-        Value::List(Rc::new(values.collect()))
+        Value::list(values.collect())
     }
 
     pub fn list(values: Vec<Value>) -> Value {
         Value::List(Rc::new(values))
     }
+
+    pub fn data(tag: Word, fields: Vec<Value>) -> Value {
+        let names = &[];
+        Value::Data(Rc::new(Data { tag, names, fields }))
+    }
+
+    /// The values that it is made of.
+    pub fn parts(&self) -> &[Value] {
+        match self {
+            Value::List(list) => list,
+            Value::Data(data) => &data.fields,
+            _ => &[],
+        }
+    }
+}
+
+pub fn function(code: Code, arity: usize, given: Vec<Value>) -> Value {
+    Value::Function(Rc::new(Function { code, arity, given }))
 }

@@ -2,8 +2,8 @@
 //! their own definitions: a page that uses each is evaluated both ways.
 
 use pages::{Evaluator, Program, Value, OF_FINITE};
-use std::fs;
 use std::path::{Path, PathBuf};
+use std::{env, fs, process};
 
 const SMALL: &str = "
 use mathlib.Core.Bool.{Bool}
@@ -47,7 +47,8 @@ walked l n x k z = walk n (related l) x k z
 
 /// A folder of crates with `finite` and the page above.
 fn crates() -> PathBuf {
-    let folder = Path::new(env!("CARGO_TARGET_TMPDIR")).join("natives");
+    // Not below the repository, where every page must belong to a crate.
+    let folder = env::temp_dir().join(format!("stramashly-natives-{}", process::id()));
     let finite = folder.join("finite/specs");
     fs::create_dir_all(&finite).unwrap();
     fs::create_dir_all(folder.join("small/specs")).unwrap();
@@ -132,4 +133,5 @@ fn natives_give_what_their_definitions_give() {
         }
     }
     assert!(truths.iter().all(|count| *count > 400), "{truths:?}");
+    fs::remove_dir_all(crates).unwrap();
 }

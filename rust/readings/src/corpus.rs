@@ -130,6 +130,7 @@ pub fn fixed() -> Vec<Case> {
         cases.push(asked(&mut random, bytes));
     }
     cases.extend(crate::edges::edges(&mut random));
+    cases.extend(crate::telling::telling());
     cases.extend(TELLING.iter().map(|number| case(7 << 32 | number)));
     cases
 }

@@ -49,6 +49,10 @@ pub fn told(state: &mut State, question: &Question) -> Option<Told> {
             let part = state.row_of_pieces([first, second], *row as usize);
             Some(said(shown(part.unwrap_or(&[]))))
         }
+        (COUNT_BOTH, [Bytes(first), Bytes(second)]) => {
+            let table = joined([first, second]);
+            Some(said(table.map_or(0, |table| table[6]).to_string()))
+        }
         (short, [Bytes(first), Bytes(second), rest @ ..]) if short != name => {
             let table = joined([first, second]);
             of_table(

@@ -6,15 +6,17 @@
 //! The definitions that are asked for by name stand in `question` alone.
 
 mod choice;
+mod contract;
 mod corpus;
 mod edges;
 mod equal;
 mod expected;
 mod handshake;
 mod mutants;
-
 mod question;
+mod telling;
 mod trial;
+mod watch;
 
 pub use corpus::{case, fixed, Case};
 

@@ -2,7 +2,7 @@
 //! number one more or less, two arguments exchanged, a negation dropped, a case
 //! left out.
 
-use pages::{Clause, Expr, Program, Stop};
+use pages::{bound, outside, Clause, Expr, Found, Program, Word};
 use std::collections::{HashMap, HashSet};
 
 /// A definition with one place changed.
@@ -52,11 +52,13 @@ struct Known {
 }
 
 /// Every mutant of these definitions.
-pub fn mutants(program: &mut Program, definitions: &[String]) -> Result<Vec<Mutant>, Stop> {
+pub fn mutants(program: &mut Program, definitions: &[String]) -> Found<Vec<Mutant>> {
     let mut known = Known::default();
     let mut all = Vec::new();
     for definition in definitions {
-        let (kinds, clauses) = program.clauses(definition)?;
+        let (kind, clauses) = program.clauses(definition)?;
+        let mut kinds = types(&kind);
+        kinds.pop();
         let name = definition.split_once('.').map_or("", |(_, name)| name);
         let types = known.types.entry(name.to_string());
         let types = types.or_insert_with(|| kinds.clone());
@@ -77,6 +79,20 @@ pub fn mutants(program: &mut Program, definitions: &[String]) -> Result<Vec<Muta
         })
     });
     Ok(found.collect())
+}
+
+/// The types of a function's arguments, then that of its result.
+fn types(words: &[Word]) -> Vec<String> {
+    let arrow = outside(words, |word| word == "→").unwrap_or(words.len());
+    let (first, rest) = words.split_at(arrow);
+    let mut kinds: Vec<String> = bound(first).into_iter().map(|(_, kind)| kind).collect();
+    if kinds.is_empty() && first.first() != Some(&"{") {
+        kinds.push(first.join(" "));
+    }
+    if let [_, rest @ ..] = rest {
+        kinds.extend(types(rest));
+    }
+    kinds
 }
 
 /// The clauses with one changed, or left out.
@@ -101,10 +117,10 @@ fn changes(clauses: &[Clause], known: &Known) -> Vec<(String, Vec<Clause>)> {
 fn changed(written: &Expr, known: &Known) -> Vec<(String, Expr)> {
     let here = here(written, known)
         .into_iter()
-        .filter(|other| other != written);
+        .filter(|other| text(other) != text(written));
     let here = here.map(|other| (format!("{} -> {}", text(written), text(&other)), other));
     let mut all: Vec<(String, Expr)> = here.collect();
-    for (place, part) in written.parts().into_iter().enumerate() {
+    for (place, part) in written.clone().parts().into_iter().enumerate() {
         let is_left = match written {
             // What stands for a missing element isn't changed, nor a head.
             Expr::Apply(head, _) => place > 0 && !(place == 3 && text(head) == "getD"),
@@ -114,7 +130,11 @@ fn changed(written: &Expr, known: &Known) -> Vec<(String, Expr)> {
         };
         if is_left {
             let inside = changed(part, known).into_iter();
-            all.extend(inside.map(|(change, part)| (change, written.with_part(place, part))));
+            all.extend(inside.map(|(change, part)| {
+                let mut whole = written.clone();
+                *whole.parts()[place] = part;
+                (change, whole)
+            }));
         }
     }
     all
@@ -133,13 +153,12 @@ fn here(written: &Expr, known: &Known) -> Vec<Expr> {
     }
 }
 
-fn of_name(name: &str, arguments: &[Expr], known: &Known) -> Vec<Expr> {
-    let other =
-        |name: &str| Expr::Apply(Box::new(Expr::Name(name.to_string())), arguments.to_vec());
+fn of_name(name: Word, arguments: &[Expr], known: &Known) -> Vec<Expr> {
+    let other = |name: Word| Expr::Apply(Box::new(Expr::Name(name)), arguments.to_vec());
     let swapped = |place: usize| {
         let mut arguments = arguments.to_vec();
         arguments.swap(place, place + 1);
-        Expr::Apply(Box::new(Expr::Name(name.to_string())), arguments)
+        Expr::Apply(Box::new(Expr::Name(name)), arguments)
     };
     let only = |place: usize| arguments[place].clone();
     match (name, arguments.len()) {
@@ -152,7 +171,7 @@ fn of_name(name: &str, arguments: &[Expr], known: &Known) -> Vec<Expr> {
         ("eqb", 2) if is_zero(&arguments[1], known) => vec![other("ltb")],
         ("eqb", 2) => vec![other("leb")],
         ("cond", 3) => vec![swapped(1), only(1), only(2)],
-        ("_+_", 2) if arguments[1] == Expr::Number(0) => Vec::new(),
+        ("_+_", 2) if matches!(arguments[1], Expr::Number(0)) => Vec::new(),
         ("_+_", 2) => vec![other("_-_"), only(0), only(1)],
         ("_-_", 2) => vec![other("_+_"), only(0)],
         ("_*_", 2) => vec![other("_+_")],
@@ -170,14 +189,18 @@ fn of_name(name: &str, arguments: &[Expr], known: &Known) -> Vec<Expr> {
 
 /// Whether a name occurs.
 fn mentions(written: &Expr, name: &str) -> bool {
-    matches!(written, Expr::Name(other) if other == name)
-        || written.parts().into_iter().any(|part| mentions(part, name))
+    matches!(written, Expr::Name(other) if *other == name)
+        || written
+            .clone()
+            .parts()
+            .into_iter()
+            .any(|part| mentions(part, name))
 }
 
 fn is_zero(written: &Expr, known: &Known) -> bool {
     match written {
         Expr::Number(number) => *number == 0,
-        Expr::Name(name) => known.zeros.contains(name),
+        Expr::Name(name) => known.zeros.contains(*name),
         _ => false,
     }
 }
@@ -199,7 +222,7 @@ fn exchangeable(name: &str, place: usize, given: usize, known: &Known) -> bool {
 /// An expression as text, briefly.
 fn text(written: &Expr) -> String {
     match written {
-        Expr::Name(name) => name.clone(),
+        Expr::Name(name) => name.to_string(),
         Expr::Number(number) => number.to_string(),
         Expr::Apply(head, arguments) => {
             let parts: Vec<String> = arguments.iter().map(inner).collect();
@@ -214,8 +237,8 @@ fn text(written: &Expr) -> String {
         Expr::Let(name, value, body) => format!("let {name} = {} in {}", text(value), text(body)),
         Expr::Function(names, body) => format!("λ {}. {}", names.join(" "), text(body)),
         Expr::All(names, body) => format!("({} : ℕ) → {}", names.join(" "), text(body)),
-        Expr::Some(names, body) => format!("({} : ℕ) × {}", names.join(" "), text(body)),
-        Expr::Record(_) => "record".to_string(),
+        // A definition's own expressions have names.
+        _ => "record".to_string(),
     }
 }
 

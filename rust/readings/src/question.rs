@@ -1,10 +1,11 @@
 //! Questions, and both who answer them.
 
+use crate::contract::contracts;
 use crate::{crates, expected, Case};
-use pages::{Evaluator, Program, Stop, Value};
+use pages::{Evaluator, Found, Program, Value};
 use second::State;
 use std::collections::{BTreeMap, HashMap};
-use std::fmt;
+use std::{fmt, fs};
 use tables::hex;
 
 /// The page of the functions that C links: their contracts.
@@ -13,11 +14,12 @@ pub const LINKED: &str = "stramashly/contracts";
 /// Definitions that no linked function leads to, or whose answer it packs so
 /// that a part is lost.
 pub const REPORT: &str = "model/Report.report";
-pub const ROW_PART: &str = "pieces/Pieces.rowPart";
+pub const ROW_PART: &str = "door_pieces/Pieces.rowPart";
+pub const COUNT_BOTH: &str = "door_pieces/Pieces.countBoth";
 pub const LOWEST_SHARED: &str = "model/Row.lowestShared";
 pub const SHARES: &str = "model/Scope.shares";
-pub const READ_ENTRIES: &str = "writer/Encode.entriesOf";
-pub const READ_DEPENDENCIES: &str = "writer/Encode.dependenciesOf";
+pub const READ_ENTRIES: &str = "door_write/Encode.entriesOf";
+pub const READ_DEPENDENCIES: &str = "door_write/Encode.dependenciesOf";
 
 #[derive(Clone, Debug, PartialEq, Eq, Hash)]
 pub enum Argument {
@@ -50,16 +52,21 @@ pub struct Told {
 pub struct Readers {
     pub pages: Evaluator,
     second: State,
-    parts: HashMap<&'static str, Vec<String>>,
+    /// The definitions of the contracts.
+    parts: Vec<String>,
     values: HashMap<Argument, Value>,
 }
 
 impl Readers {
     pub fn new() -> Readers {
+        let code = crates().join("stramashly/src/lib.rt");
+        let (page, parts) = contracts(&fs::read_to_string(code).expect("the library's code"));
+        let mut program = Program::new(crates(), true);
+        program.add(LINKED, page);
         Readers {
-            pages: Evaluator::new(Program::new(crates(), true)),
+            pages: Evaluator::new(program),
             second: State::new(),
-            parts: HashMap::new(),
+            parts,
             values: HashMap::new(),
         }
     }
@@ -76,7 +83,7 @@ impl Readers {
     }
 
     /// What the pages say.
-    pub fn told(&mut self, question: &Question) -> Result<Told, Stop> {
+    pub fn told(&mut self, question: &Question) -> Found<Told> {
         let function = question.function;
         let given: Vec<Value> = question.arguments.iter().map(|a| self.value(a)).collect();
         if function.contains('/') {
@@ -87,7 +94,7 @@ impl Readers {
             });
         }
         let mut told = Told::default();
-        for part in self.parts_of(function)? {
+        for part in self.parts_of(function) {
             let definition = format!("{LINKED}.{function}:{part}");
             match part.as_str() {
                 "r" => told.answer = self.pages.told(&definition, &given)?,
@@ -97,7 +104,7 @@ impl Readers {
                     told.left.insert(part, vec![share]);
                 }
                 _ => {
-                    let numbers = self.pages.list_of(&definition, &given)?;
+                    let numbers = self.numbers(&definition, &given)?;
                     told.left.insert(part, numbers);
                 }
             }
@@ -105,17 +112,22 @@ impl Readers {
         Ok(told)
     }
 
-    fn parts_of(&mut self, function: &'static str) -> Result<Vec<String>, Stop> {
-        if let Some(parts) = self.parts.get(function) {
-            return Ok(parts.clone());
-        }
-        let all = self.pages.program.definitions(LINKED)?;
-        let parts = all
-            .iter()
-            .filter_map(|name| name.strip_prefix(function)?.strip_prefix(':'));
-        let parts: Vec<String> = parts.map(str::to_string).collect();
-        self.parts.insert(function, parts.clone());
-        Ok(parts)
+    fn parts_of(&self, function: &str) -> Vec<String> {
+        let part = |name: &String| {
+            let part = name.strip_prefix(function)?.strip_prefix(':')?;
+            Some(part.to_string())
+        };
+        self.parts.iter().filter_map(part).collect()
+    }
+
+    /// The numbers of a list.
+    fn numbers(&mut self, definition: &str, given: &[Value]) -> Found<Vec<u64>> {
+        let list = self.pages.ask(definition, given)?;
+        let number = |value: &Value| match self.pages.force(value)? {
+            Value::Number(number) => Ok(number),
+            _ => Err("no number".into()),
+        };
+        list.parts().iter().map(number).collect()
     }
 
     /// Equal arguments are one value, so that what is known of one is known of the other.
@@ -146,8 +158,8 @@ impl Readers {
                 self.compare(question)?;
             }
         }
-        let called = self.pages.program.called();
-        let mut called: Vec<String> = called.into_iter().map(str::to_string).collect();
+        let called = self.pages.program.called().map(str::to_string);
+        let mut called: Vec<String> = called.collect();
         called.sort();
         Ok(called)
     }
@@ -160,7 +172,10 @@ impl Readers {
         match self.told(question) {
             Ok(told) if told == expected => Ok(Some(told)),
             Ok(told) => Err(format!("{question}\n{}", difference(&told, &expected))),
-            Err(stop) => Err(format!("{question}\n{stop} instead of {}", expected.answer)),
+            Err(stop) => Err(format!(
+                "{question}\n{} instead of {}",
+                stop.0, expected.answer
+            )),
         }
     }
 }

@@ -1,8 +1,9 @@
 //! Mutants put on trial: each is told apart by a table on which the pages with
 //! it say something else than the second implementation.
 
+use crate::watch::Watch;
 use crate::{Case, Mutant, Readers, Told};
-use pages::{Clause, Stop};
+use pages::{Clause, Found};
 use std::collections::hash_map::DefaultHasher;
 use std::hash::{Hash, Hasher};
 
@@ -63,7 +64,7 @@ impl Trial {
 
     fn ask_together(&mut self, cases: Vec<Case>) -> Result<Vec<usize>, String> {
         let cases: Vec<Answered> = cases.into_iter().map(|case| self.answered(case)).collect();
-        let differing = self.differing(&cases).map_err(|stop| stop.to_string())?;
+        let differing = self.differing(&cases).map_err(|stop| *stop.0)?;
         let mut useful = Vec::new();
         let mut left = Vec::new();
         for (number, differs) in self.left.clone() {
@@ -72,7 +73,7 @@ impl Trial {
                 .collect();
             match self
                 .told_apart_by(number, &cases, &places)
-                .map_err(|stop| stop.to_string())?
+                .map_err(|stop| *stop.0)?
             {
                 Some(place) => useful.push(place),
                 None => left.push((number, differs || !places.is_empty())),
@@ -94,24 +95,23 @@ impl Trial {
     }
 
     /// For each table the mutants that give another value somewhere.
-    fn differing(&mut self, cases: &[Answered]) -> Result<Vec<Vec<usize>>, Stop> {
+    fn differing(&mut self, cases: &[Answered]) -> Found<Vec<Vec<usize>>> {
         let others = self.left.iter().map(|(number, _)| {
             let mutant = &self.mutants[*number];
             (*number, mutant.definition.as_str(), &mutant.clauses[..])
         });
         let others: Vec<(usize, &str, &[Clause])> = others.collect();
-        self.readers.pages.watch(&others)?;
+        let watch = Watch::begin(&mut self.readers.pages, &others)?;
         let mut differing = Vec::new();
         for case in cases {
             if let Some(question) = first_difference(&mut self.readers, case)? {
-                return Err(Stop::new(format!(
-                    "the pages differ: {}",
-                    case.case.questions[question]
-                )));
+                let question = &case.case.questions[question];
+                return Err(format!("the pages differ: {question}").into());
             }
-            differing.push(self.readers.pages.differing());
+            differing.push(watch.borrow_mut().differing());
+            watch.borrow_mut().forget();
         }
-        self.readers.pages.unwatch();
+        self.readers.pages.watcher = None;
         Ok(differing)
     }
 
@@ -120,7 +120,7 @@ impl Trial {
         number: usize,
         cases: &[Answered],
         places: &[usize],
-    ) -> Result<Option<usize>, Stop> {
+    ) -> Found<Option<usize>> {
         let Mutant {
             definition,
             clauses,
@@ -145,7 +145,7 @@ impl Trial {
 }
 
 /// The first question that is answered otherwise.
-fn first_difference(readers: &mut Readers, answered: &Answered) -> Result<Option<usize>, Stop> {
+fn first_difference(readers: &mut Readers, answered: &Answered) -> Found<Option<usize>> {
     readers.forget();
     for (place, answer) in answered.answers.iter().enumerate() {
         let Some(answer) = answer else { continue };

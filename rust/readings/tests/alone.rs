@@ -8,8 +8,22 @@ use tables::{checkable, fillable, hosted, moved, Random, Size};
 
 const SMALL: Size = Size::of(2, 5);
 
+/// What the questions here are put together with.
+const OWN: &str = "
+use lib.ListN.{getD}
+use Rattle.door_step.specs.Steps.{stepsOf}
+
+renumbering : List ℕ → Renumbering
+renumbering places = record { to = λ k. getD places k k }
+
+step : List ℕ → ℕ → Step
+step s n = stepsOf (record { table = s; at = 0 }) n
+";
+
 fn pages() -> Evaluator {
-    Evaluator::new(Program::new(crates(), true))
+    let mut program = Program::new(crates(), true);
+    program.add("alone/Own", OWN.to_string());
+    Evaluator::new(program)
 }
 
 /// Where the rows of a table begin and end.
@@ -54,11 +68,13 @@ fn page_says(pages: &mut Evaluator, one: &[u8], two: &[u8], places: &[usize]) ->
     pages.forget();
     pages.bound = one.len() as u64 + 3;
     let numbers: Vec<u64> = places.iter().map(|place| *place as u64).collect();
-    let given = [("places", Value::numbers(&numbers))];
-    let text = "record { to = λ k. getD places k k }";
-    let renumbering = pages.expression("moved/Moved", text, &given).unwrap();
+    let places = Value::numbers(&numbers);
+    let renumbering = pages.ask("alone/Own.renumbering", &[places]).unwrap();
     let arguments = [Value::numbers(one), Value::numbers(two), renumbering];
-    match pages.ask("moved/Moved.Moved", &arguments).unwrap() {
+    match pages
+        .ask("model_page_order/Moved.Moved", &arguments)
+        .unwrap()
+    {
         Value::Truth(truth) => truth,
         _ => panic!("a statement without a truth"),
     }
@@ -126,13 +142,13 @@ fn readers_of_rows() {
                 continue;
             };
             pages.forget();
-            let given = [("s", Value::numbers(&table))];
+            let table = Value::numbers(&table);
             for step in 0..rows.len() + 3 {
-                let text = format!("stepsOf (record {{ table = s; at = 0 }}) {step}");
-                let value = pages.expression("stepping/Steps", &text, &given).unwrap();
+                let given = [table.clone(), Value::Number(step as u64)];
+                let told = pages.told("alone/Own.step", &given).unwrap();
                 let row = rows.get(step).map(|bytes| said(Row::from_bytes(bytes)));
                 let expected = row.unwrap_or_else(|| "End".to_string());
-                assert_eq!(pages.show(&value).unwrap(), expected, "step {step}");
+                assert_eq!(told, expected, "step {step}");
                 count += 1;
             }
         }

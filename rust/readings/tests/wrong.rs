@@ -1,6 +1,7 @@
 //! Wrong definitions that the runs of crate `model` let pass: each is told
 //! apart.
 
+use pages::words;
 use readings::{fixed, with_room, Mutant, Readers, Trial};
 
 /// The definition, and what it would wrongly be.
@@ -18,7 +19,7 @@ const WRONG: [(&str, &str); 3] = [
     // A derivation may be for a class set that there is not.
     (
         "model/Reason.chainHolds",
-        "chainHolds s m k steps = ltb 0 (length steps) and leb (length steps) CHAIN \
+        "chainHolds s m k steps = ltb 0 (length steps) and leb (length steps) STEPS \
          and eqb (stands m steps (length steps)) k and not (anyBelow (length steps) (broken s m steps))",
     ),
 ];
@@ -31,11 +32,11 @@ fn left() -> Result<Vec<String>, String> {
         let program = &mut readers.pages.program;
         let said = program
             .clauses(definition)
-            .and_then(|_| program.clause(text));
+            .and_then(|_| program.clause(&words(text)));
         mutants.push(Mutant {
             definition: definition.to_string(),
             change: text.to_string(),
-            clauses: vec![said.map_err(|stop| stop.to_string())?],
+            clauses: vec![said.map_err(|stop| *stop.0)?],
         });
     }
     let mut trial = Trial::new(readers, mutants);

@@ -82,16 +82,13 @@ impl State {
         &mut self,
         chains: Chains,
         pieces: Pieces,
-        work_words: usize,
-        cycle_numbers: usize,
+        work: usize,
+        cycle: usize,
     ) -> ReportAnswer {
-        if let CheckAnswer::Refused { number, row } =
-            self.check_pieces(chains, pieces, work_words, cycle_numbers)
-        {
-            ReportAnswer::Check(CheckAnswer::Refused { number, row })
-        } else {
-            let table = joined(pieces).expect("it was checked");
-            self.report_with(chains, &table, work_words, cycle_numbers)
+        let is_short = admission::refusal_11(work, WORK_WORDS, cycle, CYCLE_NUMBERS);
+        match self.join(pieces, is_short) {
+            Ok(table) => self.report_with(chains, &table, work, cycle),
+            Err(number) => ReportAnswer::Check(CheckAnswer::Refused { number, row: 0 }),
         }
     }
 
@@ -109,18 +106,24 @@ impl State {
         }
     }
 
-    /// Row n's sixteen bytes, from whichever piece holds it. Pairs refused
-    /// before 5 hold no rows.
+    /// Row n's sixteen bytes, from whichever piece holds it.
     pub fn row_of_pieces<'a>(&mut self, pieces: Pieces<'a>, row: usize) -> Option<&'a [u8]> {
-        let table = joined(pieces).ok()?;
+        self.rows_of_pieces(pieces).get(row).copied()
+    }
+
+    /// Every row's sixteen bytes. Pairs refused before 5 hold no rows.
+    pub fn rows_of_pieces<'a>(&mut self, pieces: Pieces<'a>) -> Vec<&'a [u8]> {
+        let Ok(table) = joined(pieces) else {
+            return Vec::new();
+        };
         let refusal = self.admit(&table, Purpose::Fill).err();
         if refusal.is_some_and(|refusal| matches!(refusal.number, 16..=18)) {
-            return None;
+            return Vec::new();
         }
         let [first, second] = pieces;
         let begin = HEADER_BYTES + agent_bytes(first[4]) * usize::from(first[5]);
         let rows = usize::from(first[6]);
         let of_first = first[begin..][..ROW_BYTES * rows].chunks(ROW_BYTES);
-        of_first.chain(second.chunks(ROW_BYTES)).nth(row)
+        of_first.chain(second.chunks(ROW_BYTES)).collect()
     }
 }

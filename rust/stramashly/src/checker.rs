@@ -57,7 +57,7 @@ impl Checker {
         self.checked(packed)
     }
 
-    /// Checks a table by the obvious engine, which has one flag for each two
+    /// Checks a table by the flags engine, which has one flag for each two
     /// moments: the same answer, many times as slowly.
     pub fn check_by_flags(&mut self, table: &[u8]) -> CheckAnswer<'_> {
         let packed = check_by_flags(self.chains, table, &mut self.work[..], &mut self.cycle);
@@ -71,7 +71,7 @@ impl Checker {
         self.filled(packed)
     }
 
-    /// Fills the blanks of a table by the obvious engine.
+    /// Fills the blanks of a table by the flags engine.
     pub fn fill_by_flags(&mut self, table: &[u8]) -> FillAnswer<'_> {
         let packed = fill_by_flags(self.chains, table, &mut self.work[..], &mut self.sources);
         self.filled(packed)

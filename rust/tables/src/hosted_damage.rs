@@ -97,7 +97,11 @@ fn damage_sort(random: &mut Random, table: &mut Table) {
     let agent = table.rows[place].agent;
     if random.percent(50) {
         let others = [1, 2].map(|more| (table.sort(agent) + more) % 3);
-        table.sorts[usize::from(agent)] = random.pick(&others);
+        let other = random.pick(&others);
+        // A damage before this one may have named an agent that there is not.
+        if let Some(sort) = table.sorts.get_mut(usize::from(agent)) {
+            *sort = other;
+        }
         return;
     }
     table.rows[place].kind = match table.sort(agent) {

@@ -6,6 +6,7 @@ use crate::fault::{fault_words, length_words};
 use crate::show::{cells, columns, header};
 use mend::{Judge, Run};
 use second::{Fault, State};
+use std::cell::RefCell;
 use stramashly::FillAnswer;
 
 /// Why not even a fill takes a table, if that is so.
@@ -24,7 +25,7 @@ pub fn refusal(table: &[u8], checker: &mut dyn Judge) -> Option<String> {
 
 /// A check's refusal: a fill is asked about blanks.
 pub fn check_lines(table: &[u8], number: u16, row: usize, checker: &mut dyn Judge) -> Vec<String> {
-    let faults = State::new().faults(table, number, row);
+    let faults = faults(table, number, row);
     let mut lines = fault_lines(table, number, row, &faults);
     if faults.contains(&Fault::Blank { is_plain: true }) {
         lines.extend(blank::lines(table, checker));
@@ -34,8 +35,14 @@ pub fn check_lines(table: &[u8], number: u16, row: usize, checker: &mut dyn Judg
 
 /// The refusal's meaning, what the table holds there, then each fault.
 pub fn lines(table: &[u8], number: u16, row: usize) -> Vec<String> {
-    let faults = State::new().faults(table, number, row);
+    let faults = faults(table, number, row);
     fault_lines(table, number, row, &faults)
+}
+
+/// A state is large, and one serves every table of a thread.
+fn faults(table: &[u8], number: u16, row: usize) -> Vec<Fault> {
+    thread_local!(static STATE: RefCell<State> = RefCell::new(State::new()));
+    STATE.with_borrow_mut(|state| state.faults(table, number, row))
 }
 
 fn fault_lines(table: &[u8], number: u16, row: usize, faults: &[Fault]) -> Vec<String> {

@@ -186,9 +186,9 @@ fn wanted_bytes(table: &[u8]) -> usize {
 
 /// Every fault is so; with all of them mended the table is not refused by
 /// this number at this row any more, and each stands in the text.
-fn check_faults(table: &[u8], checker: &mut dyn Judge) -> Option<u16> {
+fn check_faults(table: &[u8], checker: &mut dyn Judge, state: &mut State) -> Option<u16> {
     let (number, row) = refused(table, checker)?;
-    let named = State::new().faults(table, number, row);
+    let named = state.faults(table, number, row);
     let run = Run::of(table);
     assert!(!named.is_empty(), "{number} {row}");
     let text = explain(table, checker).text();
@@ -209,12 +209,12 @@ fn check_faults(table: &[u8], checker: &mut dyn Judge) -> Option<u16> {
 
 #[test]
 fn the_named_faults_are_the_real_ones() {
-    let mut checker = Checker::new();
+    let (mut checker, mut state) = (Checker::new(), State::new());
     let mut random = Random::new(361);
     let mut seen = [0; 21];
     for _ in 0..6000 {
         let table = damaged(&mut random, Size::of(2, 9));
-        if let Some(number) = check_faults(&table, &mut checker) {
+        if let Some(number) = check_faults(&table, &mut checker, &mut state) {
             seen[usize::from(number)] += 1;
         }
     }
@@ -225,12 +225,12 @@ fn the_named_faults_are_the_real_ones() {
 /// The same of tables with hosts, queues and dependencies.
 #[test]
 fn the_named_faults_of_hosts_are_the_real_ones() {
-    let mut second = Second::new();
+    let (mut second, mut state) = (Second::new(), State::new());
     let mut random = Random::new(365);
     let mut seen = [0; 21];
     for _ in 0..4000 {
         let table = damaged_hosted(&mut random, Size::of(2, 9));
-        if let Some(number) = check_faults(&table, &mut second) {
+        if let Some(number) = check_faults(&table, &mut second, &mut state) {
             seen[usize::from(number)] += 1;
         }
     }

@@ -35,12 +35,14 @@ loop2-holds c = phase-none _ _ _ _ _
 
 mul-dst : tie.Need-mul-dst Inv-loop2 μ-loop2 Inv-loop μ-loop
 mul-dst c =
-    let a = c .before .before .before .before .before .args in
+    let c-4 = c .before .before .before .before in
+    let a = c-4 .before .args in
     omega (arith, row-apart (c .before .loop2 .i) (a .n) (a .stride) (c .loop2-test .taken))
 
 add-dst : tie.Need-add-dst Inv-loop2 μ-loop2 Inv-loop μ-loop
 add-dst c =
-    let a = c .before .before .before .before .before .args in
+    let c-4 = c .before .before .before .before in
+    let a = c-4 .before .args in
     omega (arith, row-apart (c .before .loop2 .i) (a .n) (a .stride) (c .loop2-test .taken))
 
 mul-get : tie.Need-mul-get Inv-loop2 μ-loop2 Inv-loop μ-loop
@@ -69,11 +71,12 @@ get-requires c κs =
 
 join-row-requires : tie.Need-join-row-requires Inv-loop2 μ-loop2 Inv-loop μ-loop
 join-row-requires c κs =
-    let at-loop2 = c .before .before .before .before .before in
+    let c-4 = c .before .before .before .before in
+    let at-loop2 = c-4 .before in
     let a = at-loop2 .before .before .before .before .args in
     let i = at-loop2 .loop2 .i in
     let k = at-loop2 .before .before .loop .k in
-    let in-loop2 = c .before .before .before .before in
+    let in-loop2 = c-4 in
     let row-i = row-apart i (a .n) (a .stride) (in-loop2 .loop2-test .taken) in
     let row-k = row-apart k (a .n) (a .stride) (at-loop2 .before .loop-test .taken) in
     (omega (arith, row-i), omega (arith, row-k), rows-apart (a .base) k i (a .stride))
@@ -102,7 +105,8 @@ loop2-again c =
 
 loop-again : tie.Need-loop-again Inv-loop2 μ-loop2 Inv-loop μ-loop
 loop-again c =
-    let e : c .before .loop2 .i ≡ c .before .before .before .before .before .args .n = omega arith in
+    let c-4 = c .before .before .before .before in
+    let e : c .before .loop2 .i ≡ c-4 .before .args .n = omega arith in
     let at-loop = c .before .before .before in
     let fits = at-loop .before .before .pre .2 in
     rounds-more _ (at-loop .loop .w) (c .before .loop2 .w) _ _ _ (at-loop .loop .k) (c .before .before .loop-test .taken) fits (at-loop .loop .inv)

@@ -28,15 +28,21 @@ div-result c = shift-some _ (omega arith)
 
 returns-3 : tie.Need-returns-3
 unfolding decode
-returns-3 c = down _ _ _ _ _ _ (c .before .before .before .before .start .ensures .0) (c .before .before .before .start2 .ensures .0) (c .before .before .before .before .before .pre .2) (c .if3 .taken) (omega arith)
+returns-3 c =
+    let c-4 = c .before .before .before .before in
+    down _ _ _ _ _ _ (c-4 .start .ensures .0) (c .before .before .before .start2 .ensures .0) (c-4 .before .pre .2) (c .if3 .taken) (omega arith)
 
 mul-result : tie.Need-mul-result
 unfolding decode
-mul-result c = omega (arith, up-fits (c .before .before .before .before .before .args .m) (c .before .before .before .before .start .result - c .before .before .before .start2 .result) (c .before .before .before .before .before .pre .2) (omega arith))
+mul-result c =
+    let c-4 = c .before .before .before .before in
+    omega (arith, up-fits (c-4 .before .args .m) (c-4 .start .result - c .before .before .before .start2 .result) (c-4 .before .pre .2) (omega arith))
 
 returns-4 : tie.Need-returns-4
 unfolding decode
-returns-4 c = up _ _ _ _ _ _ (c .before .before .before .before .start .ensures .0) (c .before .before .before .start2 .ensures .0) (c .before .before .before .before .before .pre .2) (omega arith) (omega arith)
+returns-4 c =
+    let c-4 = c .before .before .before .before in
+    up _ _ _ _ _ _ (c-4 .start .ensures .0) (c .before .before .before .start2 .ensures .0) (c-4 .before .pre .2) (omega arith) (omega arith)
 
 pub moved-spec : {M : Type 1} → statement M
 moved-spec =

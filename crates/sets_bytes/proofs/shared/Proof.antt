@@ -24,31 +24,38 @@ end-requires-2 c κs = let few = c .before .before .before .pre .2 .few in omega
 
 returns : tie.Need-returns
 unfolding decode
-returns c = shared-empty _ _ _ _ _ _ _ _ _ (c .before .before .before .before .before .before .start .ensures .0) (c .before .before .before .before .before .end .ensures .0) (c .before .before .before .before .start2 .ensures .0) (c .before .before .before .end2 .ensures .0) (c .before .before .higher .ensures) (c .before .lower .ensures) (c .if1 .taken)
+returns c =
+    let c-4 = c .before .before .before .before in
+    shared-empty _ _ _ _ _ _ _ _ _ (c-4 .before .before .start .ensures .0) (c-4 .before .end .ensures .0) (c-4 .start2 .ensures .0) (c .before .before .before .end2 .ensures .0) (c .before .before .higher .ensures) (c .before .lower .ensures) (c .if1 .taken)
 
 shl-result : tie.Need-shl-result
 unfolding decode
 shl-result c =
-    let few : c .before .before .before .before .before .end .result ≤ c .before .before .before .before .before .before .start .result + 16 = omega (arith, c .before .before .before .before .before .before .before .pre .2 .sized _ (c .before .before .before .before .before .before .before .pre .0), c .before .before .before .before .before .before .start .ensures .0, c .before .before .before .before .before .end .ensures .0) in
-    let fits = below-sixteen (c .before .before .before .before .before .before .start .result) (c .before .before .before .before .before .end .result) (c .before .before .before .before .start2 .result) (c .before .before .before .end2 .result) (c .before .before .higher .result) (c .before .lower .result) (c .before .before .higher .ensures) (c .before .lower .ensures) few (omega arith) in
+    let c-4 = c .before .before .before .before in
+    let few : c-4 .before .end .result ≤ c-4 .before .before .start .result + 16 = omega (arith, c-4 .before .before .before .pre .2 .sized _ (c-4 .before .before .before .pre .0), c-4 .before .before .start .ensures .0, c-4 .before .end .ensures .0) in
+    let fits = below-sixteen (c-4 .before .before .start .result) (c-4 .before .end .result) (c-4 .start2 .result) (c .before .before .before .end2 .result) (c .before .before .higher .result) (c .before .lower .result) (c .before .before .higher .ensures) (c .before .lower .ensures) few (omega arith) in
     omega (arith, fits .0, fits .1)
 
 shl-result-2 : tie.Need-shl-result-2
 unfolding decode
 shl-result-2 c =
-    let few : c .before .before .before .before .before .end .result ≤ c .before .before .before .before .before .before .start .result + 16 = omega (arith, c .before .before .before .before .before .before .before .pre .2 .sized _ (c .before .before .before .before .before .before .before .pre .0), c .before .before .before .before .before .before .start .ensures .0, c .before .before .before .before .before .end .ensures .0) in
-    let fits = below-sixteen (c .before .before .before .before .before .before .start .result) (c .before .before .before .before .before .end .result) (c .before .before .before .before .start2 .result) (c .before .before .before .end2 .result) (c .before .before .higher .result) (c .before .lower .result) (c .before .before .higher .ensures) (c .before .lower .ensures) few (omega arith) in
+    let c-4 = c .before .before .before .before in
+    let few : c-4 .before .end .result ≤ c-4 .before .before .start .result + 16 = omega (arith, c-4 .before .before .before .pre .2 .sized _ (c-4 .before .before .before .pre .0), c-4 .before .before .start .ensures .0, c-4 .before .end .ensures .0) in
+    let fits = below-sixteen (c-4 .before .before .start .result) (c-4 .before .end .result) (c-4 .start2 .result) (c .before .before .before .end2 .result) (c .before .before .higher .result) (c .before .lower .result) (c .before .before .higher .ensures) (c .before .lower .ensures) few (omega arith) in
     omega (arith, fits .0, fits .1)
 
 sub-result-3 : tie.Need-sub-result-3
 unfolding decode
 sub-result-3 c =
-    let few : c .before .before .before .before .before .end .result ≤ c .before .before .before .before .before .before .start .result + 16 = omega (arith, c .before .before .before .before .before .before .before .pre .2 .sized _ (c .before .before .before .before .before .before .before .pre .0), c .before .before .before .before .before .before .start .ensures .0, c .before .before .before .before .before .end .ensures .0) in
-    less-fits (c .before .before .before .before .before .before .start .result) (c .before .before .before .before .before .end .result) (c .before .before .before .before .start2 .result) (c .before .before .before .end2 .result) (c .before .before .higher .result) (c .before .lower .result) (c .before .before .higher .ensures) (c .before .lower .ensures) few (omega arith)
+    let c-4 = c .before .before .before .before in
+    let few : c-4 .before .end .result ≤ c-4 .before .before .start .result + 16 = omega (arith, c-4 .before .before .before .pre .2 .sized _ (c-4 .before .before .before .pre .0), c-4 .before .before .start .ensures .0, c-4 .before .end .ensures .0) in
+    less-fits (c-4 .before .before .start .result) (c-4 .before .end .result) (c-4 .start2 .result) (c .before .before .before .end2 .result) (c .before .before .higher .result) (c .before .lower .result) (c .before .before .higher .ensures) (c .before .lower .ensures) few (omega arith)
 
 returns-2 : tie.Need-returns-2
 unfolding decode
-returns-2 c = shared-bits _ _ _ _ _ _ _ _ _ (c .before .before .before .before .before .before .start .ensures .0) (c .before .before .before .before .before .end .ensures .0) (c .before .before .before .before .start2 .ensures .0) (c .before .before .before .end2 .ensures .0) (c .before .before .higher .ensures) (c .before .lower .ensures) (c .before .before .before .before .before .before .before .pre .2 .sized _ (c .before .before .before .before .before .before .before .pre .0)) (omega arith)
+returns-2 c =
+    let c-4 = c .before .before .before .before in
+    shared-bits _ _ _ _ _ _ _ _ _ (c-4 .before .before .start .ensures .0) (c-4 .before .end .ensures .0) (c-4 .start2 .ensures .0) (c .before .before .before .end2 .ensures .0) (c .before .before .higher .ensures) (c .before .lower .ensures) (c-4 .before .before .before .pre .2 .sized _ (c-4 .before .before .before .pre .0)) (omega arith)
 
 pub shared-spec : {M : Type 1} → statement M
 shared-spec =

@@ -3,11 +3,11 @@ use Prim.Native.Nat.{_-_}
 use Rattle.model.specs.Limits.{ROWS}
 use Rattle.model.specs.Table.{decode}
 use Rattle.run.specs.Layout.{tableIn}
-use Rattle.row_sets.specs.First.{next}
-use Rattle.row_sets.specs.Walk.{Walk, Gathered, walk-less, walk-in, gather-begin, gather-turn, gather-end}
-use Rattle.known.specs.Ask.{scope-low}
-use Rattle.grids.specs.Filling.{member-in}
-use Rattle.grids.specs.Grid.{grid-at}
+use Rattle.sets_of_rows.specs.First.{next}
+use Rattle.sets_of_rows.specs.Walk.{Walk, Gathered, walk-less, walk-in, gather-begin, gather-turn, gather-end}
+use Rattle.sets_of_table.specs.Ask.{scope-low}
+use Rattle.sets_grids.specs.Filling.{member-in}
+use Rattle.sets_grids.specs.Grid.{grid-at}
 use Rattle.sets_chains.specs.Filled.{metTo, met-off, met-on, met-rows}
 use borrow.Author.Needs.{needs}
 use native.Mathlib.Omega.{arith}
@@ -35,32 +35,47 @@ scope-requires c κs = c .before .first .ensures .bound
 sharing-requires : tie.Need-sharing-requires Inv-loop μ-loop
 unfolding decode
 sharing-requires c κs =
-    let pre = c .before .before .before .before .before .before .before .before .before .pre in
-    let m = member-in _ (pre .3) (walk-in (c .before .before .before .before .before .loop .inv .0) (c .before .before .first .ensures)) in
+    let c-4 = c .before .before .before .before in
+    let c-8 = c-4 .before .before .before .before in
+    let pre = c-8 .before .pre in
+    let m = member-in _ (pre .3) (walk-in (c-4 .before .loop .inv .0) (c .before .before .first .ensures)) in
     let a = scope-low (pre .1 .opened) _ (m .0) in
     let e = c .scope .ensures in
     (pre .0, omega arith, pre .1 .opened)
 
 get-requires : tie.Need-get-requires Inv-loop μ-loop
-get-requires c κs = omega (arith, c .before .before .before .first .ensures .bound, c .before .before .before .before .before .before .before .before .before .before .pre .1 .room)
+get-requires c κs =
+    let c-4 = c .before .before .before .before in
+    let c-8 = c-4 .before .before .before .before in
+    omega (arith, c .before .before .before .first .ensures .bound, c-8 .before .before .pre .1 .room)
 
 has-requires : tie.Need-has-requires Inv-loop μ-loop
-has-requires c κs = c .before .before .before .before .before .first .ensures .bound
+has-requires c κs =
+    let c-4 = c .before .before .before .before in
+    c-4 .before .first .ensures .bound
 
 loop-less : tie.Need-loop-less Inv-loop μ-loop
-loop-less c = walk-less (c .before .before .before .before .before .before .before .before .first .ensures) (c .before .before .before .before .before .before .before .but-first .ensures)
+loop-less c =
+    let c-4 = c .before .before .before .before in
+    let c-8 = c-4 .before .before .before .before in
+    walk-less (c-8 .first .ensures) (c-4 .before .before .before .but-first .ensures)
 
 loop-again : tie.Need-loop-again Inv-loop μ-loop
 unfolding decode
 loop-again c =
-    let pre = c .before .before .before .before .before .before .before .before .before .before .before .before .before .before .before .pre in
-    let m = member-in _ (pre .3) (walk-in (c .before .before .before .before .before .before .before .before .before .before .before .loop .inv .0) (c .before .before .before .before .before .before .before .before .first .ensures)) in
-    let f = c .before .before .before .before .before .sharing .ensures in
-    gather-turn _ _ (met-off _ _ _ _) (c .before .before .before .before .before .before .before .before .before .before .before .loop .inv) (c .before .before .before .before .before .before .before .before .first .ensures) (c .before .before .before .before .before .before .before .but-first .ensures)
-    (met-on _ _ _ _ _ _ _ _ _ _ _ _ (m .0) (rw (c .before .before .before .before .before .before .scope .ensures) at f) (grid-at (pre .2 .rows) (m .0) (c .before .before .before .before .get .ensures)) (c .before .before .before .and .ensures) (c .before .before .has .ensures) (c .before .only-if .ensures) (c .or .ensures))
+    let c-4 = c .before .before .before .before in
+    let c-8 = c-4 .before .before .before .before in
+    let c-12 = c-8 .before .before .before .before in
+    let pre = c-12 .before .before .before .pre in
+    let m = member-in _ (pre .3) (walk-in (c-8 .before .before .before .loop .inv .0) (c-8 .first .ensures)) in
+    let f = c-4 .before .sharing .ensures in
+    gather-turn _ _ (met-off _ _ _ _) (c-8 .before .before .before .loop .inv) (c-8 .first .ensures) (c-4 .before .before .before .but-first .ensures)
+    (met-on _ _ _ _ _ _ _ _ _ _ _ _ (m .0) (rw (c-4 .before .before .scope .ensures) at f) (grid-at (pre .2 .rows) (m .0) (c-4 .get .ensures)) (c .before .before .before .and .ensures) (c .before .before .has .ensures) (c .before .only-if .ensures) (c .or .ensures))
 
 returns : tie.Need-returns Inv-loop μ-loop
-returns c = met-rows (c .before .before .before .before .before .before .pre .1 .opened) _ _ _ (c .before .before .before .before .before .before .pre .3) (gather-end _ _ (met-off _ _ _ _) _ _ (sym (c .before .some .ensures) ∙ c .if1 .left) (c .before .before .loop .inv .1))
+returns c =
+    let c-4 = c .before .before .before .before in
+    met-rows (c-4 .before .before .pre .1 .opened) _ _ _ (c-4 .before .before .pre .3) (gather-end _ _ (met-off _ _ _ _) _ _ (sym (c .before .some .ensures) ∙ c .if1 .left) (c .before .before .loop .inv .1))
 
 pub available-to-spec : {M : Type 1} → statement M
 available-to-spec = tie.close (tie.spec Inv-loop μ-loop (λ c κs. search needs) loop-holds (λ c κs. search needs) first-requires but-first-requires scope-requires

@@ -1,7 +1,7 @@
 use Prim.Native.Nat.{ℕ, _+_, _-_, _≤_}
 use Rattle.model.specs.Table.{Table}
-use Rattle.row_sets.specs.Rows.{Rows}
-use Rattle.known.specs.Known.{Opened}
+use Rattle.sets_of_rows.specs.Rows.{Rows}
+use Rattle.sets_of_table.specs.Known.{Opened}
 use Rattle.sets_chains.specs.Alone.{between, between-none, between-more, between-all}
 use borrow.Author.Needs.{needs}
 use native.Mathlib.Omega.{arith}

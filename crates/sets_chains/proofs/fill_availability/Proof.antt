@@ -4,12 +4,12 @@ use native.Mathlib.Omega.{arith}
 use Rattle.model.specs.Limits.{ROWS}
 use Rattle.model.specs.Table.{decode}
 use Rattle.run.specs.Layout.{tableIn}
-use Rattle.row_sets.specs.First.{next}
-use Rattle.row_sets.specs.Rows.{rows-at}
-use Rattle.row_sets.specs.Walk.{walk-less, walk-in}
-use Rattle.known.specs.Known.{says-rows}
-use Rattle.grids.specs.Available.{makes}
-use Rattle.grids.specs.Filling.{member-in}
+use Rattle.sets_of_rows.specs.First.{next}
+use Rattle.sets_of_rows.specs.Rows.{rows-at}
+use Rattle.sets_of_rows.specs.Walk.{walk-less, walk-in}
+use Rattle.sets_of_table.specs.Known.{says-rows}
+use Rattle.sets_grids.specs.Available.{makes}
+use Rattle.sets_grids.specs.Filling.{member-in}
 use Rattle.sets_chains.specs.Availability.{Making, make-begin, make-turn, make-end}
 use borrow.Author.Needs.{needs}
 use Rattle.sets_chains.proofs.fill_availability.Statement.{statement}
@@ -26,7 +26,9 @@ unfolding decode
 prepare-requires c κs = let pre = c .before .before .before .before .pre in (c .before .chains .ensures, pre .0, pre .1)
 
 rows-requires : tie.Need-rows-requires Inv-loop μ-loop
-rows-requires c κs = let a = c .before .before .before .before .before .before .before .pre .0 .opened .space in omega arith
+rows-requires c κs =
+    let c-4 = c .before .before .before .before in
+    let a = c-4 .before .before .before .pre .0 .opened .space in omega arith
 
 loop-holds : tie.Need-loop-holds Inv-loop μ-loop
 loop-holds c = make-begin _ (c .before .before .before .prepare .ensures .ready)
@@ -40,27 +42,39 @@ but-first-requires c κs = sym (c .before .before .some .ensures) ∙ c .before 
 make-requires : tie.Need-make-requires Inv-loop μ-loop
 unfolding decode makes
 make-requires c κs =
-    let pre = c .before .before .before .before .before .before .before .before .before .before .before .before .before .before .pre in
-    let inv = c .before .before .before .before .before .loop .inv in
-    let rows = rows-at (c .before .before .before .before .before .before .rows .ensures) (says-rows (pre .0 .opened .known .tested .marked .available)) in
+    let c-4 = c .before .before .before .before in
+    let c-8 = c-4 .before .before .before .before in
+    let c-12 = c-8 .before .before .before .before in
+    let pre = c-12 .before .before .pre in
+    let inv = c-4 .before .loop .inv in
+    let rows = rows-at (c-4 .before .before .rows .ensures) (says-rows (pre .0 .opened .known .tested .marked .available)) in
     let m = member-in _ rows (walk-in (inv .walk) (c .before .before .first .ensures)) in
-    (m .0, m .1, c .before .before .before .before .before .before .before .before .before .before .before .chains .ensures, inv .ready)
+    (m .0, m .1, c-8 .before .before .before .chains .ensures, inv .ready)
 
 loop-less : tie.Need-loop-less Inv-loop μ-loop
-loop-less c = walk-less (c .before .before .before .before .before .first .ensures) (c .before .before .before .before .but-first .ensures)
+loop-less c =
+    let c-4 = c .before .before .before .before in
+    walk-less (c-4 .before .first .ensures) (c-4 .but-first .ensures)
 
 loop-again : tie.Need-loop-again Inv-loop μ-loop
-loop-again c = make-turn (c .before .before .before .before .before .before .before .before .loop .inv) (c .before .before .before .before .before .first .ensures) (c .before .before .before .before .but-first .ensures) (c .before .before .make .ensures)
+loop-again c =
+    let c-4 = c .before .before .before .before in
+    let c-8 = c-4 .before .before .before .before in
+    make-turn (c-8 .loop .inv) (c-4 .before .first .ensures) (c-4 .but-first .ensures) (c .before .before .make .ensures)
 
 same-length : tie.Need-same-length Inv-loop μ-loop
-same-length c = c .before .before .loop .inv .frame .len ∙ c .before .before .before .before .before .before .prepare .ensures .frame .len
+same-length c =
+    let c-4 = c .before .before .before .before in
+    c .before .before .loop .inv .frame .len ∙ c-4 .before .before .prepare .ensures .frame .len
 
 returns : tie.Need-returns Inv-loop μ-loop
 unfolding makes
 returns c =
-    let pre = c .before .before .before .before .before .before .before .before .before .before .before .pre in
+    let c-4 = c .before .before .before .before in
+    let c-8 = c-4 .before .before .before .before in
+    let pre = c-8 .before .before .before .pre in
     let rows = rows-at (c .before .before .before .rows .ensures) (says-rows (pre .0 .opened .known .tested .marked .available)) in
-    make-end rows (sym (c .before .some .ensures) ∙ c .if1 .left) (c .before .before .before .before .before .before .prepare .ensures .frame) (c .before .before .loop .inv)
+    make-end rows (sym (c .before .some .ensures) ∙ c .if1 .left) (c-4 .before .before .prepare .ensures .frame) (c .before .before .loop .inv)
 
 pub fill-availability-spec : {M : Type 1} → statement M
 fill-availability-spec =

@@ -1,6 +1,6 @@
 use mathlib.Core.Path.{_∙_}
-use Rattle.grids.specs.Grid.{grid-at}
-use Rattle.grids.specs.Given.{given-few}
+use Rattle.sets_grids.specs.Grid.{grid-at}
+use Rattle.sets_grids.specs.Given.{given-few}
 use Rattle.sets_chains.specs.Alone.{alone-to, alone-by, made-one}
 use borrow.Author.Needs.{needs}
 use native.Mathlib.Omega.{arith}
@@ -14,28 +14,48 @@ hears-requires : tie.Need-hears-requires
 hears-requires c κs = (c .before .before .before .pre .0, c .before .before .before .pre .3 .opened)
 
 get-requires : tie.Need-get-requires
-get-requires c κs = omega (arith, c .before .before .before .before .before .before .pre .0, given-few (c .before .before .before .before .before .before .pre .3), c .before .before .before .before .before .before .pre .3 .room)
+get-requires c κs =
+    let c-4 = c .before .before .before .before in
+    omega (arith, c-4 .before .before .pre .0, given-few (c-4 .before .before .pre .3), c-4 .before .before .pre .3 .room)
 
 get-requires-2 : tie.Need-get-requires-2
-get-requires-2 c κs = omega (arith, c .before .before .before .before .before .before .before .before .before .pre .0, given-few (c .before .before .before .before .before .before .before .before .before .pre .3), c .before .before .before .before .before .before .before .before .before .pre .3 .room)
+get-requires-2 c κs =
+    let c-4 = c .before .before .before .before in
+    let c-8 = c-4 .before .before .before .before in
+    omega (arith, c-8 .before .pre .0, given-few (c-8 .before .pre .3), c-8 .before .pre .3 .room)
 
 put-requires : tie.Need-put-requires
-put-requires c κs = omega (arith, c .before .before .before .before .before .before .before .before .before .before .before .before .pre .0, given-few (c .before .before .before .before .before .before .before .before .before .before .before .before .pre .3), c .before .before .before .before .before .before .before .before .before .before .before .before .pre .3 .room)
+put-requires c κs =
+    let c-4 = c .before .before .before .before in
+    let c-8 = c-4 .before .before .before .before in
+    let c-12 = c-8 .before .before .before .before in
+    omega (arith, c-12 .pre .0, given-few (c-12 .pre .3), c-12 .pre .3 .room)
 
 put-requires-2 : tie.Need-put-requires-2
-put-requires-2 c κs = omega (arith, c .before .before .before .before .before .before .before .before .before .before .before .before .before .before .before .before .pre .0, given-few (c .before .before .before .before .before .before .before .before .before .before .before .before .before .before .before .before .pre .3), c .before .before .before .before .before .before .before .before .before .before .before .before .before .before .before .before .pre .3 .room, c .before .before .before .put .ensures .frame .len)
+put-requires-2 c κs =
+    let c-4 = c .before .before .before .before in
+    let c-8 = c-4 .before .before .before .before in
+    let c-12 = c-8 .before .before .before .before in
+    let c-16 = c-12 .before .before .before .before in
+    omega (arith, c-16 .pre .0, given-few (c-16 .pre .3), c-16 .pre .3 .room, c .before .before .before .put .ensures .frame .len)
 
 same-length : tie.Need-same-length
-same-length c = c .before .before .put2 .ensures .frame .len ∙ c .before .before .before .before .before .before .put .ensures .frame .len
+same-length c =
+    let c-4 = c .before .before .before .before in
+    c .before .before .put2 .ensures .frame .len ∙ c-4 .before .before .put .ensures .frame .len
 
 returns : tie.Need-returns
 returns c =
-    let o = c .before .before .before .before .before .before .before .before .before .before .before .before .before .before .before .before .before .before .before .pre .3 .opened in
-    let f = given-few (c .before .before .before .before .before .before .before .before .before .before .before .before .before .before .before .before .before .before .before .pre .3) in
-    made-one (omega (arith, c .before .before .before .before .before .before .before .before .before .before .before .before .before .before .before .before .before .before .before .pre .0, f))
-    (alone-to _ _ o (c .before .before .before .before .before .before .before .before .before .before .before .before .before .before .before .before .before .before .before .pre .0) (c .before .before .before .before .before .before .before .before .before .before .before .before .before .before .before .before .before .before .before .pre .1) (c .before .before .before .before .before .before .before .before .before .before .before .before .before .before .before .before .before .before .before .pre .2) (grid-at (c .before .before .before .before .before .before .before .before .before .before .before .before .before .before .before .before .before .before .before .pre .4 .rows) (c .before .before .before .before .before .before .before .before .before .before .before .before .before .before .before .before .before .before .before .pre .0) (c .before .before .before .before .before .before .before .before .before .before .before .before .get .ensures)) (c .before .before .before .before .before .before .before .before .before .before .before .before .before .before .before .before .reach .ensures) (c .before .before .before .before .before .before .before .before .before .before .before .and2 .ensures))
-    (alone-by _ _ o (c .before .before .before .before .before .before .before .before .before .before .before .before .before .before .before .before .before .before .before .pre .0) (c .before .before .before .before .before .before .before .before .before .before .before .before .before .before .before .before .before .before .before .pre .1) (c .before .before .before .before .before .before .before .before .before .before .before .before .before .before .before .before .before .before .before .pre .2) _ (grid-at (c .before .before .before .before .before .before .before .before .before .before .before .before .before .before .before .before .before .before .before .pre .4 .visibles) (c .before .before .before .before .before .before .before .before .before .before .before .before .before .before .before .before .before .before .before .pre .0) (c .before .before .before .before .before .before .before .before .before .get2 .ensures)) (c .before .before .before .before .before .before .before .before .before .before .before .before .before .before .before .before .reach .ensures) (c .before .before .before .before .before .before .before .before .before .before .before .before .before .before .before .hears .ensures) (c .before .before .before .before .before .before .before .before .before .before .before .before .before .before .and .ensures) (c .before .before .before .before .before .before .before .before .and3 .ensures))
-    (c .before .before .before .before .before .before .put .ensures) (c .before .before .put2 .ensures)
+    let c-4 = c .before .before .before .before in
+    let c-8 = c-4 .before .before .before .before in
+    let c-12 = c-8 .before .before .before .before in
+    let c-16 = c-12 .before .before .before .before in
+    let o = c-16 .before .before .before .pre .3 .opened in
+    let f = given-few (c-16 .before .before .before .pre .3) in
+    made-one (omega (arith, c-16 .before .before .before .pre .0, f))
+    (alone-to _ _ o (c-16 .before .before .before .pre .0) (c-16 .before .before .before .pre .1) (c-16 .before .before .before .pre .2) (grid-at (c-16 .before .before .before .pre .4 .rows) (c-16 .before .before .before .pre .0) (c-12 .get .ensures)) (c-16 .reach .ensures) (c-8 .before .before .before .and2 .ensures))
+    (alone-by _ _ o (c-16 .before .before .before .pre .0) (c-16 .before .before .before .pre .1) (c-16 .before .before .before .pre .2) _ (grid-at (c-16 .before .before .before .pre .4 .visibles) (c-16 .before .before .before .pre .0) (c-8 .before .get2 .ensures)) (c-16 .reach .ensures) (c-12 .before .before .before .hears .ensures) (c-12 .before .before .and .ensures) (c-8 .and3 .ensures))
+    (c-4 .before .before .put .ensures) (c .before .before .put2 .ensures)
 
 pub make-available-spec : {M : Type 1} → statement M
 make-available-spec = tie.close (tie.spec reach-requires hears-requires (λ c κs. search needs) get-requires (λ c κs. search needs) get-requires-2 (λ c κs. search needs)

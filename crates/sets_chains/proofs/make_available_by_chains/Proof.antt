@@ -2,8 +2,8 @@ use mathlib.Core.Path.{_∙_}
 use Prim.Native.Nat.{_-_, _≤_}
 use Rattle.finite.specs.Below.{anyBelow}
 use Rattle.run.specs.Layout.{tableIn}
-use Rattle.row_sets.specs.Rows.{Rows, rows-at}
-use Rattle.grids.specs.Given.{given-few}
+use Rattle.sets_of_rows.specs.Rows.{Rows, rows-at}
+use Rattle.sets_grids.specs.Given.{given-few}
 use Rattle.sets_chains.specs.Alone.{made-one}
 use Rattle.sets_chains.specs.Wide.{wideFrom}
 use Rattle.sets_chains.specs.Made.{chain-rows, wide-none, wide-more, wide-all}
@@ -25,32 +25,53 @@ bit-requires : tie.Need-bit-requires Inv-loop μ-loop
 bit-requires c κs = omega (arith, c .before .before .before .before .pre .0, given-few (c .before .before .before .before .pre .3))
 
 available-to-requires : tie.Need-available-to-requires Inv-loop μ-loop
-available-to-requires c κs = (c .before .before .before .before .before .before .before .pre .0, c .before .before .before .before .before .before .before .pre .3, c .before .before .before .before .before .before .before .pre .4, (chain-rows _ _ _ _ (c .before .before .before .before .before .before .before .pre .2) (c .before .before .before .before .before .before .before .pre .0) (rows-at (c .before .before .before .get .ensures) (c .before .before .before .before .before .before .before .pre .5 .outs .row _ (c .before .before .before .before .before .before .before .pre .0) (c .before .before .before .before .before .before .before .pre .1))) (c .before .before .bit .ensures) (c .before .or .ensures)))
+available-to-requires c κs =
+    let c-4 = c .before .before .before .before in
+    (c-4 .before .before .before .pre .0, c-4 .before .before .before .pre .3, c-4 .before .before .before .pre .4, (chain-rows _ _ _ _ (c-4 .before .before .before .pre .2) (c-4 .before .before .before .pre .0) (rows-at (c .before .before .before .get .ensures) (c-4 .before .before .before .pre .5 .outs .row _ (c-4 .before .before .before .pre .0) (c-4 .before .before .before .pre .1))) (c .before .before .bit .ensures) (c .before .or .ensures)))
 
 loop-holds : tie.Need-loop-holds Inv-loop μ-loop
 loop-holds c = (omega arith, omega arith, wide-none _ _ _ (c .none .ensures))
 
 visible-by-requires : tie.Need-visible-by-requires Inv-loop μ-loop
-visible-by-requires c κs = (c .before .before .before .before .before .before .before .before .before .before .before .before .pre .0, omega (arith, c .before .loop-test .taken), c .before .before .before .before .before .before .before .before .before .before .before .before .pre .3, c .before .before .before .before .before .before .before .before .before .before .before .before .pre .4, c .before .before .before .before .before .before .before .before .before .before .before .before .pre .5 .ins, (chain-rows _ _ _ _ (c .before .before .before .before .before .before .before .before .before .before .before .before .pre .2) (c .before .before .before .before .before .before .before .before .before .before .before .before .pre .0) (rows-at (c .before .before .before .before .before .before .before .before .get .ensures) (c .before .before .before .before .before .before .before .before .before .before .before .before .pre .5 .outs .row _ (c .before .before .before .before .before .before .before .before .before .before .before .before .pre .0) (c .before .before .before .before .before .before .before .before .before .before .before .before .pre .1))) (c .before .before .before .before .before .before .before .bit .ensures) (c .before .before .before .before .before .before .or .ensures)))
+visible-by-requires c κs =
+    let c-4 = c .before .before .before .before in
+    let c-8 = c-4 .before .before .before .before in
+    let c-12 = c-8 .before .before .before .before in
+    (c-12 .pre .0, omega (arith, c .before .loop-test .taken), c-12 .pre .3, c-12 .pre .4, c-12 .pre .5 .ins, (chain-rows _ _ _ _ (c-12 .pre .2) (c-12 .pre .0) (rows-at (c-8 .get .ensures) (c-12 .pre .5 .outs .row _ (c-12 .pre .0) (c-12 .pre .1))) (c-4 .before .before .before .bit .ensures) (c-4 .before .before .or .ensures)))
 
 loop-again : tie.Need-loop-again Inv-loop μ-loop
 loop-again c = (omega (arith, c .before .before .before .before .loop .inv .0), omega (arith, c .before .before .before .loop-test .taken), wide-more _ _ _ _ (c .before .before .before .before .loop .inv .0) (c .before .before .before .before .loop .inv .2) (c .before .visible-by .ensures) (c .or2 .ensures))
 
 put-requires : tie.Need-put-requires Inv-loop μ-loop
-put-requires c κs = omega (arith, c .before .before .before .before .before .before .before .before .before .before .before .before .pre .0, given-few (c .before .before .before .before .before .before .before .before .before .before .before .before .pre .3), c .before .before .before .before .before .before .before .before .before .before .before .before .pre .3 .room)
+put-requires c κs =
+    let c-4 = c .before .before .before .before in
+    let c-8 = c-4 .before .before .before .before in
+    let c-12 = c-8 .before .before .before .before in
+    omega (arith, c-12 .pre .0, given-few (c-12 .pre .3), c-12 .pre .3 .room)
 
 put-requires-2 : tie.Need-put-requires-2 Inv-loop μ-loop
-put-requires-2 c κs = omega (arith, c .before .before .before .before .before .before .before .before .before .before .before .before .before .before .before .before .pre .0, given-few (c .before .before .before .before .before .before .before .before .before .before .before .before .before .before .before .before .pre .3), c .before .before .before .before .before .before .before .before .before .before .before .before .before .before .before .before .pre .3 .room, c .before .before .before .put .ensures .frame .len)
+put-requires-2 c κs =
+    let c-4 = c .before .before .before .before in
+    let c-8 = c-4 .before .before .before .before in
+    let c-12 = c-8 .before .before .before .before in
+    let c-16 = c-12 .before .before .before .before in
+    omega (arith, c-16 .pre .0, given-few (c-16 .pre .3), c-16 .pre .3 .room, c .before .before .before .put .ensures .frame .len)
 
 same-length : tie.Need-same-length Inv-loop μ-loop
-same-length c = c .before .before .put2 .ensures .frame .len ∙ c .before .before .before .before .before .before .put .ensures .frame .len
+same-length c =
+    let c-4 = c .before .before .before .before in
+    c .before .before .put2 .ensures .frame .len ∙ c-4 .before .before .put .ensures .frame .len
 
 returns : tie.Need-returns Inv-loop μ-loop
 returns c =
-    let f = given-few (c .before .before .before .before .before .before .before .before .before .before .before .before .before .before .before .before .before .before .before .pre .3) in
-    made-one (omega (arith, c .before .before .before .before .before .before .before .before .before .before .before .before .before .before .before .before .before .before .before .pre .0, f)) (c .before .before .before .before .before .before .before .before .before .before .before .available-to .ensures)
-    (wide-all _ _ _ _ (c .before .before .before .before .before .before .before .before .before .before .before .before .before .before .before .before .before .before .before .pre .3 .opened) (c .before .before .before .before .before .before .before .before .before .before .before .before .before .before .before .before .before .before .before .pre .2) (omega (arith, c .before .before .before .before .before .before .before .before .loop-test .left)) (c .before .before .before .before .before .before .before .before .before .loop .inv .1) (c .before .before .before .before .before .before .before .before .before .loop .inv .2))
-    (c .before .before .before .before .before .before .put .ensures) (c .before .before .put2 .ensures)
+    let c-4 = c .before .before .before .before in
+    let c-8 = c-4 .before .before .before .before in
+    let c-12 = c-8 .before .before .before .before in
+    let c-16 = c-12 .before .before .before .before in
+    let f = given-few (c-16 .before .before .before .pre .3) in
+    made-one (omega (arith, c-16 .before .before .before .pre .0, f)) (c-8 .before .before .before .available-to .ensures)
+    (wide-all _ _ _ _ (c-16 .before .before .before .pre .3 .opened) (c-16 .before .before .before .pre .2) (omega (arith, c-8 .loop-test .left)) (c-8 .before .loop .inv .1) (c-8 .before .loop .inv .2))
+    (c-4 .before .before .put .ensures) (c .before .before .put2 .ensures)
 
 pub make-available-by-chains-spec : {M : Type 1} → statement M
 make-available-by-chains-spec = tie.close (tie.spec Inv-loop μ-loop get-requires bit-requires (λ c κs. search needs) available-to-requires (λ c κs. search needs) loop-holds

@@ -5,7 +5,8 @@ use Rattle.sets_chains.proofs.prepare.Tie as tie
 
 returns : tie.Need-returns
 returns c =
-    let pre = c .before .before .before .before .before .before .before .pre in
+    let c-4 = c .before .before .before .before in
+    let pre = c-4 .before .before .before .pre in
     ready-chains (pre .1) (pre .2) (c .before .before .fill-chains .ensures)
 
 returns-2 : tie.Need-returns-2

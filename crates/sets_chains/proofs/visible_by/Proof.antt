@@ -14,13 +14,23 @@ broader-requires : tie.Need-broader-requires
 broader-requires c κs = (c .before .before .before .before .pre .1, c .before .before .before .before .pre .2 .opened .space)
 
 union-requires : tie.Need-union-requires
-union-requires c κs = omega (arith, c .before .before .before .before .before .before .before .before .pre .2 .room)
+union-requires c κs =
+    let c-4 = c .before .before .before .before in
+    let c-8 = c-4 .before .before .before .before in
+    omega (arith, c-8 .pre .2 .room)
 
 union-requires-2 : tie.Need-union-requires-2
-union-requires-2 c κs = omega (arith, c .before .before .before .before .before .before .before .before .before .before .pre .2 .room)
+union-requires-2 c κs =
+    let c-4 = c .before .before .before .before in
+    let c-8 = c-4 .before .before .before .before in
+    omega (arith, c-8 .before .before .pre .2 .room)
 
 returns : tie.Need-returns
-returns c = wide-rows (c .before .before .before .before .before .before .before .before .before .before .before .before .before .pre .2 .opened) _ _ _ _ _ _ _ _ _ _ _ _ _ _ (omega (arith, c .before .before .before .before .before .before .before .before .before .before .before .before .before .pre .1)) (c .before .before .before .before .before .before .before .before .before .before .before .before .before .pre .3) (c .before .before .before .before .before .before .before .before .before .before .before .before .before .pre .4) (c .before .before .before .before .before .before .before .before .before .before .before .before .before .pre .5) (c .before .before .before .before .before .before .before .before .before .before .sharing .ensures) (c .before .before .before .before .before .before .before .before .before .get .ensures) (c .before .before .before .before .before .before .before .before .broader .ensures _ _ (c .before .before .before .before .before .before .before .before .before .before .before .before .before .pre .2 .opened)) (c .before .before .before .before .before .before .before .or .ensures) (c .before .before .before .before .before .before .and .ensures) (c .before .before .before .before .before .and2 .ensures) (c .before .before .before .before .union .ensures) (c .before .before .before .and3 .ensures) (c .before .before .union2 .ensures) (c .before .or2 .ensures) (c .and4 .ensures)
+returns c =
+    let c-4 = c .before .before .before .before in
+    let c-8 = c-4 .before .before .before .before in
+    let c-12 = c-8 .before .before .before .before in
+    wide-rows (c-12 .before .pre .2 .opened) _ _ _ _ _ _ _ _ _ _ _ _ _ _ (omega (arith, c-12 .before .pre .1)) (c-12 .before .pre .3) (c-12 .before .pre .4) (c-12 .before .pre .5) (c-8 .before .before .sharing .ensures) (c-8 .before .get .ensures) (c-8 .broader .ensures _ _ (c-12 .before .pre .2 .opened)) (c-4 .before .before .before .or .ensures) (c-4 .before .before .and .ensures) (c-4 .before .and2 .ensures) (c-4 .union .ensures) (c .before .before .before .and3 .ensures) (c .before .before .union2 .ensures) (c .before .or2 .ensures) (c .and4 .ensures)
 
 pub visible-by-spec : {M : Type 1} → statement M
 visible-by-spec = tie.close (tie.spec sharing-requires get-requires broader-requires (λ c κs. search needs) (λ c κs. search needs) (λ c κs. search needs)

@@ -16,10 +16,14 @@ loop-holds : tie.Need-loop-holds Inv-loop μ-loop
 loop-holds c = (search needs, holds-none _ _ _ (c .none .ensures))
 
 get-requires : tie.Need-get-requires Inv-loop μ-loop
-get-requires c κs = let a = c .before .before .before .before .before .pre .1 in let b = c .before .loop-test .taken in omega arith
+get-requires c κs =
+    let c-4 = c .before .before .before .before in
+    let a = c-4 .before .pre .1 in let b = c .before .loop-test .taken in omega arith
 
 loop-again : tie.Need-loop-again Inv-loop μ-loop
-loop-again c = (search needs, holds-more _ _ _ (c .before .before .before .before .before .loop .inv .1) (c .before .before .before .holds .ensures) (c .before .before .get .ensures) (c .before .only-if .ensures) (c .or .ensures))
+loop-again c =
+    let c-4 = c .before .before .before .before in
+    (search needs, holds-more _ _ _ (c-4 .before .loop .inv .1) (c .before .before .before .holds .ensures) (c .before .before .get .ensures) (c .before .only-if .ensures) (c .or .ensures))
 
 returns : tie.Need-returns Inv-loop μ-loop
 returns c = let e : c .before .loop .m ≡ 16 = omega arith in rw e at (c .before .loop .inv .1)

@@ -19,7 +19,9 @@ get-requires : tie.Need-get-requires Inv-loop μ-loop
 get-requires c κs = let a = c .before .before .before .before .pre .2 .space in let b = c .before .loop-test .taken in omega arith
 
 loop-again : tie.Need-loop-again Inv-loop μ-loop
-loop-again c = (search needs, common-more _ _ _ _ _ _ _ _ (c .before .before .before .before .before .loop .inv .1) (c .before .before .before .holds .ensures) (c .before .before .get .ensures) (c .before .some .ensures) (c .shared .ensures))
+loop-again c =
+    let c-4 = c .before .before .before .before in
+    (search needs, common-more _ _ _ _ _ _ _ _ (c-4 .before .loop .inv .1) (c .before .before .before .holds .ensures) (c .before .before .get .ensures) (c .before .some .ensures) (c .shared .ensures))
 
 returns : tie.Need-returns Inv-loop μ-loop
 returns c = let e : c .before .loop .m ≡ 16 = omega arith in widest-is (c .before .before .before .pre .2) _ _ (rw e at (c .before .loop .inv .1))

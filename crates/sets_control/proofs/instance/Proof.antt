@@ -1,12 +1,12 @@
-use mathlib.Core.Path.{_≡_, refl, sym, ap, _∙_}
+use mathlib.Core.Path.{sym, _∙_}
 use Prim.Native.Nat.{_-_}
 use Rattle.model.specs.Limits.{ROWS}
 use Rattle.run.specs.Layout.{tableIn}
 use Rattle.model.specs.Table.{decode}
-use Rattle.row_sets.specs.First.{next}
-use Rattle.row_sets.specs.Walk.{Walk, walk-less}
-use Rattle.row_sets.specs.Sift.{Sifted, sift-begin, sift-turn, sift-end}
-use Rattle.known.specs.Ask.{few}
+use Rattle.sets_of_rows.specs.First.{next}
+use Rattle.sets_of_rows.specs.Walk.{Walk, walk-less}
+use Rattle.sets_of_rows.specs.Sift.{Sifted, sift-begin, sift-turn, sift-end}
+use Rattle.sets_of_table.specs.Ask.{few}
 use Rattle.sets_control.specs.Passed.{sameStart, start-is, one-more, instance-rows}
 use borrow.Author.Needs.{needs}
 use native.Mathlib.Omega.{arith}
@@ -41,15 +41,22 @@ bit-requires : tie.Need-bit-requires Inv-loop μ-loop
 bit-requires c κs = c .before .before .first .ensures .bound
 
 loop-less : tie.Need-loop-less Inv-loop μ-loop
-loop-less c = walk-less (c .before .before .before .before .before .first .ensures) (c .before .before .before .before .but-first .ensures)
+loop-less c =
+    let c-4 = c .before .before .before .before in
+    walk-less (c-4 .before .first .ensures) (c-4 .but-first .ensures)
 
 loop-again : tie.Need-loop-again Inv-loop μ-loop
 unfolding decode
-loop-again c = sift-turn _ _ _ (c .before .before .before .before .before .before .before .before .loop .inv) (c .before .before .before .before .before .first .ensures) (c .before .before .before .before .but-first .ensures) (start-is _ _ _ _ _ (c .before .before .before .start2 .ensures .0) (c .before .before .before .before .before .before .before .before .before .before .before .start .ensures .0)) (one-more _ _ _ _ _ _ (c .before .before .bit .ensures) (c .before .only-if .ensures) (c .or .ensures))
+loop-again c =
+    let c-4 = c .before .before .before .before in
+    let c-8 = c-4 .before .before .before .before in
+    sift-turn _ _ _ (c-8 .loop .inv) (c-4 .before .first .ensures) (c-4 .but-first .ensures) (start-is _ _ _ _ _ (c .before .before .before .start2 .ensures .0) (c-8 .before .before .before .start .ensures .0)) (one-more _ _ _ _ _ _ (c .before .before .bit .ensures) (c .before .only-if .ensures) (c .or .ensures))
 
 returns : tie.Need-returns Inv-loop μ-loop
 unfolding decode
-returns c = instance-rows (c .before .before .before .before .before .before .before .pre .1) _ _ _ (c .before .before .before .get .ensures) (sift-end _ _ _ _ (sym (c .before .some .ensures) ∙ c .if1 .left) (c .before .before .loop .inv .1))
+returns c =
+    let c-4 = c .before .before .before .before in
+    instance-rows (c-4 .before .before .before .pre .1) _ _ _ (c .before .before .before .get .ensures) (sift-end _ _ _ _ (sym (c .before .some .ensures) ∙ c .if1 .left) (c .before .before .loop .inv .1))
 
 pub instance-spec : {M : Type 1} → statement M
 instance-spec = tie.close (tie.spec Inv-loop μ-loop start-requires (λ c κs. search needs) (λ c. search needs) get-requires loop-holds (λ c κs. search needs)

@@ -4,8 +4,8 @@ use lib.ListN.{length}
 use Rattle.model.specs.Table.{decode}
 use Rattle.run.specs.Layout.{tableIn}
 use Rattle.bits.specs.Within.{Within, within-refl, within-trans}
-use Rattle.grids.specs.Regions.{PASSED, PASSED-END}
-use Rattle.grids.specs.Given.{given-kept}
+use Rattle.sets_grids.specs.Regions.{PASSED, PASSED-END}
+use Rattle.sets_grids.specs.Given.{given-kept}
 use Rattle.sets_control.specs.Passed.{Passing, passing-at, pass-begin, pass-end}
 use borrow.Author.Needs.{needs}
 use native.Mathlib.Omega.{arith}
@@ -24,15 +24,18 @@ loop-holds c = (search needs, refl, refl, pass-begin _ _ _ (c .before .before .b
 
 pass-row-requires : tie.Need-pass-row-requires Inv-loop μ-loop
 pass-row-requires c κs =
+    let c-4 = c .before .before .before .before in
     let inv = c .before .before .before .loop .inv in
     let a = c .before .before .loop-test .taken in
     let e : c .before .before .before .loop .a - 1 + 1 ≡ c .before .before .before .loop .a = omega arith in
-    (omega (arith, inv .0), omega (arith, inv .1, c .before .before .before .before .before .before .before .pre .0), given-kept (inv .4) (c .before .before .before .before .before .before .before .pre .2), passing-at e (inv .3))
+    (omega (arith, inv .0), omega (arith, inv .1, c-4 .before .before .before .pre .0), given-kept (inv .4) (c-4 .before .before .before .pre .2), passing-at e (inv .3))
 
 loop-again : tie.Need-loop-again Inv-loop μ-loop
 loop-again c =
-    let inv = c .before .before .before .before .before .before .before .before .loop .inv in
-    let p = c .before .before .before .before .pass-row .ensures in
+    let c-4 = c .before .before .before .before in
+    let c-8 = c-4 .before .before .before .before in
+    let inv = c-8 .loop .inv in
+    let p = c-4 .pass-row .ensures in
     (omega (arith, inv .0), p .agents .len ∙ inv .1, p .frame .len ∙ inv .2, p .to, within-trans (inv .4) (p .frame))
 
 same-length : tie.Need-same-length Inv-loop μ-loop

@@ -18,11 +18,14 @@ loop-holds c = (search needs, refl, orders-begin _)
 
 loop-again : tie.Need-loop-again Inv-loop μ-loop
 loop-again c =
-    let inv = c .before .before .before .before .before .before .before .before .before .before .loop .inv in
+    let c-4 = c .before .before .before .before in
+    let c-8 = c-4 .before .before .before .before in
+    let c-12 = c-8 .before .before .before .before in
+    let inv = c-8 .before .before .loop .inv in
     let put = c .before .before .put .ensures in
-    let x-below = c .before .before .before .before .before .before .before .before .before .loop-test .taken in
-    let few-are = c .before .before .before .before .before .before .before .before .before .before .before .before .pre .0 in
-    (search needs, put .frame .len ∙ inv .1, orders-turn _ _ _ (omega (arith, x-below, few-are)) (inv .2) (c .before .before .before .before .before .before .before .get .ensures) (c .before .before .before .before .before .get2 .ensures) (c .before .before .before .before .or .ensures) put)
+    let x-below = c-8 .before .loop-test .taken in
+    let few-are = c-12 .pre .0 in
+    (search needs, put .frame .len ∙ inv .1, orders-turn _ _ _ (omega (arith, x-below, few-are)) (inv .2) (c-4 .before .before .before .get .ensures) (c-4 .before .get2 .ensures) (c-4 .or .ensures) put)
 
 returns : tie.Need-returns Inv-loop μ-loop
 returns c =

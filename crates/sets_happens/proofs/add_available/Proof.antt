@@ -1,16 +1,16 @@
 use mathlib.Core.Path.{sym, _∙_}
-use Rattle.grids.specs.Given.{given-few}
+use Rattle.sets_grids.specs.Given.{given-few}
 use Rattle.run.specs.Layout.{tableIn}
-use Rattle.grids.specs.Filling.{member-in}
+use Rattle.sets_grids.specs.Filling.{member-in}
 use Rattle.bits.specs.Within.{Within, within-refl, within-trans, within-widen}
-use Rattle.grids.specs.Regions.{HAPPENS, HAPPENS-END, AVAILABLE-AT, AVAILABLE-VISIBLE, AVAILABLE-AVAILABLE, VISIBLE-VISIBLE}
+use Rattle.sets_grids.specs.Regions.{HAPPENS, HAPPENS-END, AVAILABLE-AT, AVAILABLE-VISIBLE, AVAILABLE-AVAILABLE, VISIBLE-VISIBLE}
 use Rattle.sets_happens.specs.Adding.{Adding, add-begin, add-turn, adds-cong, added-grid}
 use Prim.Native.Nat.{_-_}
 use lib.Dec.{ltb}
 use Rattle.finite.specs.Logic.{_and_}
 use Rattle.model.specs.Limits.{ROWS}
-use Rattle.row_sets.specs.First.{next}
-use Rattle.row_sets.specs.Walk.{walk-less, walk-in}
+use Rattle.sets_of_rows.specs.First.{next}
+use Rattle.sets_of_rows.specs.Walk.{walk-less, walk-in}
 use Rattle.sets_happens.specs.Behind.{availableTo, availableVisible, availableAvailable, reached-kept, by-behind, visible-behind, available-behind, available-at-is, available-visible-is, availables-is}
 use borrow.Author.Needs.{needs}
 use native.Mathlib.Omega.{arith}
@@ -33,34 +33,46 @@ but-first-requires : tie.Need-but-first-requires Inv-loop μ-loop
 but-first-requires c κs = sym (c .before .before .some .ensures) ∙ c .before .if1 .taken
 
 after-available-requires : tie.Need-after-available-requires Inv-loop μ-loop
-after-available-requires c κs = (member-in _ (c .before .before .before .before .before .before .before .before .pre .concerns .available) (walk-in (c .before .before .before .before .loop .inv .0 .walk) (c .before .first .ensures)) .0, c .before .before .before .before .before .before .before .before .pre .given .opened)
+after-available-requires c κs =
+    let c-4 = c .before .before .before .before in
+    let c-8 = c-4 .before .before .before .before in
+    (member-in _ (c-8 .pre .concerns .available) (walk-in (c-4 .loop .inv .0 .walk) (c .before .first .ensures)) .0, c-8 .pre .given .opened)
 
 join-available-requires : tie.Need-join-available-requires Inv-loop μ-loop
-join-available-requires c κs = let a = c .before .before .before .before .before .before .before .before .before .before .before .pre .given .room in let d = c .before .before .before .before .before .before .before .loop .inv .3 .len in (c .before .before .before .before .first .ensures .bound, omega arith)
+join-available-requires c κs =
+    let c-4 = c .before .before .before .before in
+    let c-8 = c-4 .before .before .before .before in
+    let a = c-8 .before .before .before .pre .given .room in let d = c-4 .before .before .before .loop .inv .3 .len in (c-4 .first .ensures .bound, omega arith)
 
 loop-less : tie.Need-loop-less Inv-loop μ-loop
-loop-less c = walk-less (c .before .before .before .before .before .before .before .first .ensures) (c .before .before .before .before .before .before .but-first .ensures)
+loop-less c =
+    let c-4 = c .before .before .before .before in
+    walk-less (c-4 .before .before .before .first .ensures) (c-4 .before .before .but-first .ensures)
 
 loop-again : tie.Need-loop-again Inv-loop μ-loop
 loop-again c =
-    let inv = c .before .before .before .before .before .before .before .before .before .before .loop .inv in
-    let low = c .before .before .before .before .before .before .before .first .ensures in
-    let rest = c .before .before .before .before .before .before .but-first .ensures in
+    let c-4 = c .before .before .before .before in
+    let c-8 = c-4 .before .before .before .before in
+    let c-12 = c-8 .before .before .before .before in
+    let inv = c-8 .before .before .loop .inv in
+    let low = c-4 .before .before .before .first .ensures in
+    let rest = c-4 .before .before .but-first .ensures in
     let join = c .before .before .join-available .ensures in
-    let q = reached-kept (within-widen HAPPENS HAPPENS-END (omega arith) (omega arith) (c .before .before .before .before .before .before .before .before .before .before .loop .inv .3)) (c .before .before .before .before .before .before .before .before .before .before .before .before .before .before .pre) in
-    (add-turn _ _ _ _ (inv .0) low rest (adds-cong (by-behind q _ _ (c .before .before .before .before .before .after-available .ensures) (c .before .before .before .before .and .ensures)) (join .rows)), add-turn _ _ _ _ (inv .1) low rest (adds-cong (visible-behind q _ _ (c .before .before .before .before .before .after-available .ensures) (c .before .before .before .before .and .ensures)) (join .visibles)), add-turn _ _ _ _ (inv .2) low rest (adds-cong (available-behind q _ _ (c .before .before .before .before .before .after-available .ensures) (c .before .before .before .before .and .ensures)) (join .availables)), within-trans (inv .3) (join .frame))
+    let q = reached-kept (within-widen HAPPENS HAPPENS-END (omega arith) (omega arith) (c-8 .before .before .loop .inv .3)) (c-12 .before .before .pre) in
+    (add-turn _ _ _ _ (inv .0) low rest (adds-cong (by-behind q _ _ (c-4 .before .after-available .ensures) (c-4 .and .ensures)) (join .rows)), add-turn _ _ _ _ (inv .1) low rest (adds-cong (visible-behind q _ _ (c-4 .before .after-available .ensures) (c-4 .and .ensures)) (join .visibles)), add-turn _ _ _ _ (inv .2) low rest (adds-cong (available-behind q _ _ (c-4 .before .after-available .ensures) (c-4 .and .ensures)) (join .availables)), within-trans (inv .3) (join .frame))
 
 same-length : tie.Need-same-length Inv-loop μ-loop
 same-length c = c .before .before .loop .inv .3 .len
 
 returns : tie.Need-returns Inv-loop μ-loop
 returns c =
+    let c-4 = c .before .before .before .before in
     let inv = c .before .before .loop .inv in
-    let few = given-few (c .before .before .before .before .before .before .pre .given) in
+    let few = given-few (c-4 .before .before .pre .given) in
     record {
-      rows = added-grid _ _ few (c .before .before .before .before .before .before .pre .concerns .available) (λ i j l m. available-at-is (c .before .before .before .before .before .before .pre) i j l) _ (sym (c .before .some .ensures) ∙ c .if1 .left) (inv .0) (inv .3);
-      visibles = added-grid _ _ few (c .before .before .before .before .before .before .pre .concerns .available) (λ i j l m. available-visible-is (c .before .before .before .before .before .before .pre) i j l) _ (sym (c .before .some .ensures) ∙ c .if1 .left) (inv .1) (inv .3);
-      availables = added-grid _ _ few (c .before .before .before .before .before .before .pre .concerns .available) (λ i j l m. availables-is (c .before .before .before .before .before .before .pre) i j l) _ (sym (c .before .some .ensures) ∙ c .if1 .left) (inv .2) (inv .3);
+      rows = added-grid _ _ few (c-4 .before .before .pre .concerns .available) (λ i j l m. available-at-is (c-4 .before .before .pre) i j l) _ (sym (c .before .some .ensures) ∙ c .if1 .left) (inv .0) (inv .3);
+      visibles = added-grid _ _ few (c-4 .before .before .pre .concerns .available) (λ i j l m. available-visible-is (c-4 .before .before .pre) i j l) _ (sym (c .before .some .ensures) ∙ c .if1 .left) (inv .1) (inv .3);
+      availables = added-grid _ _ few (c-4 .before .before .pre .concerns .available) (λ i j l m. availables-is (c-4 .before .before .pre) i j l) _ (sym (c .before .some .ensures) ∙ c .if1 .left) (inv .2) (inv .3);
     }
 
 pub add-available-spec : {M : Type 1} → statement M

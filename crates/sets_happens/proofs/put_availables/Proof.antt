@@ -1,16 +1,16 @@
 use mathlib.Core.Path.{sym, _∙_}
-use Rattle.grids.specs.Given.{given-few, given-kept}
+use Rattle.sets_grids.specs.Given.{given-few, given-kept}
 use Rattle.run.specs.Layout.{tableIn}
-use Rattle.grids.specs.Filling.{member-in}
+use Rattle.sets_grids.specs.Filling.{member-in}
 use Rattle.bits.specs.Within.{Within, within-refl, within-trans}
-use Rattle.grids.specs.Regions.{AVAILABLE-AT, AVAILABLE-VISIBLE, AVAILABLE-AVAILABLE, VISIBLE-VISIBLE}
+use Rattle.sets_grids.specs.Regions.{AVAILABLE-AT, AVAILABLE-VISIBLE, AVAILABLE-AVAILABLE, VISIBLE-VISIBLE}
 use Rattle.sets_happens.specs.Adding.{Adding, add-begin, add-turn, row-before, puts-adds, made-grid}
 use Prim.Native.Nat.{_-_}
 use lib.Dec.{ltb}
 use Rattle.finite.specs.Logic.{_and_}
 use Rattle.model.specs.Limits.{ROWS}
-use Rattle.row_sets.specs.First.{next}
-use Rattle.row_sets.specs.Walk.{walk-less, walk-in}
+use Rattle.sets_of_rows.specs.First.{next}
+use Rattle.sets_of_rows.specs.Walk.{walk-less, walk-in}
 use Rattle.sets_happens.specs.Program.{behind, toVisible, toAvailable, available-set, available-rows-order, available-visibles-order, availables-order}
 use borrow.Author.Needs.{needs}
 use native.Mathlib.Omega.{arith}
@@ -37,33 +37,41 @@ but-first-requires c κs = sym (c .before .before .some .ensures) ∙ c .before 
 
 put-available-requires : tie.Need-put-available-requires Inv-loop μ-loop
 put-available-requires c κs =
-    let m = member-in _ (available-set (c .before .before .before .before .before .before .before .before .before .pre .0 .opened) (c .before .before .before .before .before .before .rows .ensures)) (walk-in (c .before .before .before .before .before .loop .inv .0 .walk) (c .before .before .first .ensures)) in
-    (m .0, given-kept (c .before .before .before .before .before .loop .inv .3) (c .before .before .before .before .before .before .before .before .before .pre .0))
+    let c-4 = c .before .before .before .before in
+    let c-8 = c-4 .before .before .before .before in
+    let m = member-in _ (available-set (c-8 .before .pre .0 .opened) (c-4 .before .before .rows .ensures)) (walk-in (c-4 .before .loop .inv .0 .walk) (c .before .before .first .ensures)) in
+    (m .0, given-kept (c-4 .before .loop .inv .3) (c-8 .before .pre .0))
 
 loop-less : tie.Need-loop-less Inv-loop μ-loop
-loop-less c = walk-less (c .before .before .before .before .before .first .ensures) (c .before .before .before .before .but-first .ensures)
+loop-less c =
+    let c-4 = c .before .before .before .before in
+    walk-less (c-4 .before .first .ensures) (c-4 .but-first .ensures)
 
 loop-again : tie.Need-loop-again Inv-loop μ-loop
 loop-again c =
-    let inv = c .before .before .before .before .before .before .before .before .loop .inv in
-    let low = c .before .before .before .before .before .first .ensures in
-    let rest = c .before .before .before .before .but-first .ensures in
+    let c-4 = c .before .before .before .before in
+    let c-8 = c-4 .before .before .before .before in
+    let c-12 = c-8 .before .before .before .before in
+    let inv = c-8 .loop .inv in
+    let low = c-4 .before .first .ensures in
+    let rest = c-4 .but-first .ensures in
     let put = c .before .before .put-available .ensures in
-    (add-turn _ _ _ _ (inv .0) low rest (puts-adds (λ j. row-before _ _ _ _ (inv .0) low j ∙ c .before .before .before .before .before .before .before .before .before .before .before .before .pre .1 .is _ j (low .bound)) (put .rows)), add-turn _ _ _ _ (inv .1) low rest (puts-adds (λ j. row-before _ _ _ _ (inv .1) low j ∙ c .before .before .before .before .before .before .before .before .before .before .before .before .pre .2 .is _ j (low .bound)) (put .visibles)), add-turn _ _ _ _ (inv .2) low rest (puts-adds (λ j. row-before _ _ _ _ (inv .2) low j ∙ c .before .before .before .before .before .before .before .before .before .before .before .before .pre .3 .is _ j (low .bound)) (put .availables)), within-trans (inv .3) (put .frame))
+    (add-turn _ _ _ _ (inv .0) low rest (puts-adds (λ j. row-before _ _ _ _ (inv .0) low j ∙ c-12 .pre .1 .is _ j (low .bound)) (put .rows)), add-turn _ _ _ _ (inv .1) low rest (puts-adds (λ j. row-before _ _ _ _ (inv .1) low j ∙ c-12 .pre .2 .is _ j (low .bound)) (put .visibles)), add-turn _ _ _ _ (inv .2) low rest (puts-adds (λ j. row-before _ _ _ _ (inv .2) low j ∙ c-12 .pre .3 .is _ j (low .bound)) (put .availables)), within-trans (inv .3) (put .frame))
 
 same-length : tie.Need-same-length Inv-loop μ-loop
 same-length c = c .before .before .loop .inv .3 .len
 
 returns : tie.Need-returns Inv-loop μ-loop
 returns c =
+    let c-4 = c .before .before .before .before in
     let inv = c .before .before .loop .inv in
-    let o = c .before .before .before .before .before .before .pre .0 .opened .rows in
-    let few = given-few (c .before .before .before .before .before .before .pre .0) in
-    let set = available-set (c .before .before .before .before .before .before .pre .0 .opened) (c .before .before .before .rows .ensures) in
+    let o = c-4 .before .before .pre .0 .opened .rows in
+    let few = given-few (c-4 .before .before .pre .0) in
+    let set = available-set (c-4 .before .before .pre .0 .opened) (c .before .before .before .rows .ensures) in
     record {
-      rows = made-grid _ _ few set (λ i j l m. available-rows-order _ o i j l m) _ (sym (c .before .some .ensures) ∙ c .if1 .left) (inv .0) (c .before .before .before .before .before .before .pre .1);
-      visibles = made-grid _ _ few set (λ i j l m. available-visibles-order _ o i j l m) _ (sym (c .before .some .ensures) ∙ c .if1 .left) (inv .1) (c .before .before .before .before .before .before .pre .2);
-      availables = made-grid _ _ few set (λ i j l m. availables-order _ o i j l m) _ (sym (c .before .some .ensures) ∙ c .if1 .left) (inv .2) (c .before .before .before .before .before .before .pre .3);
+      rows = made-grid _ _ few set (λ i j l m. available-rows-order _ o i j l m) _ (sym (c .before .some .ensures) ∙ c .if1 .left) (inv .0) (c-4 .before .before .pre .1);
+      visibles = made-grid _ _ few set (λ i j l m. available-visibles-order _ o i j l m) _ (sym (c .before .some .ensures) ∙ c .if1 .left) (inv .1) (c-4 .before .before .pre .2);
+      availables = made-grid _ _ few set (λ i j l m. availables-order _ o i j l m) _ (sym (c .before .some .ensures) ∙ c .if1 .left) (inv .2) (c-4 .before .before .pre .3);
       frame = inv .3;
     }
 

@@ -1,4 +1,4 @@
-use Rattle.grids.specs.Given.{given-few}
+use Rattle.sets_grids.specs.Given.{given-few}
 use Rattle.run.specs.Layout.{tableIn}
 use Prim.Native.Nat.{_-_, _≤_}
 use Rattle.sets_happens.specs.Program.{Ordering, ordering-begin, ordering-turn, ordering-end}
@@ -20,12 +20,16 @@ after-requires : tie.Need-after-requires Inv-loop μ-loop
 after-requires c κs = (c .loop-test .taken, c .before .before .before .before .pre .opened)
 
 put-requires : tie.Need-put-requires Inv-loop μ-loop
-put-requires c κs = let a = c .before .before .before .before .before .before .pre .room in let b = given-few (c .before .before .before .before .before .before .pre) in let d = c .before .before .before .loop .inv .1 .frame .len in omega (arith, c .before .before .loop-test .taken)
+put-requires c κs =
+    let c-4 = c .before .before .before .before in
+    let a = c-4 .before .before .pre .room in let b = given-few (c-4 .before .before .pre) in let d = c .before .before .before .loop .inv .1 .frame .len in omega (arith, c .before .before .loop-test .taken)
 
 loop-again : tie.Need-loop-again Inv-loop μ-loop
 loop-again c =
-    let b = given-few (c .before .before .before .before .before .before .before .before .before .pre) in
-    (search needs, ordering-turn _ (omega (arith, c .before .before .before .before .before .loop-test .taken)) (c .before .before .before .before .before .before .loop .inv .1) (c .before .before .before .before .after .ensures) (c .before .before .put .ensures))
+    let c-4 = c .before .before .before .before in
+    let c-8 = c-4 .before .before .before .before in
+    let b = given-few (c-8 .before .pre) in
+    (search needs, ordering-turn _ (omega (arith, c-4 .before .loop-test .taken)) (c-4 .before .before .loop .inv .1) (c-4 .after .ensures) (c .before .before .put .ensures))
 
 same-length : tie.Need-same-length Inv-loop μ-loop
 same-length c = c .before .loop .inv .1 .frame .len

@@ -2,8 +2,8 @@ use mathlib.Core.Path.{_≡_, refl, sym, _∙_}
 use Prim.Native.Nat.{_-_}
 use lib.ListN.{length}
 use Rattle.model.specs.Limits.{ROWS}
-use Rattle.row_sets.specs.First.{next}
-use Rattle.row_sets.specs.Walk.{walk-less}
+use Rattle.sets_of_rows.specs.First.{next}
+use Rattle.sets_of_rows.specs.Walk.{walk-less}
 use Rattle.sets_hosts.specs.Hosts.{Meeting, meet-begin, meet-turn, meet-end}
 use borrow.Author.Needs.{needs}
 use native.Mathlib.Omega.{arith}
@@ -35,27 +35,49 @@ has-requires : tie.Need-has-requires Inv-loop μ-loop
 has-requires c κs = c .before .first .ensures .bound
 
 met-in-requires : tie.Need-met-in-requires Inv-loop μ-loop
-met-in-requires c κs = (c .before .before .before .first .ensures .bound, c .before .before .before .before .before .before .before .before .before .before .before .before .pre .0, omega (arith, c .before .before .before .before .before .before .loop .inv .0, c .before .before .before .before .before .before .before .before .before .before .before .before .pre .1))
+met-in-requires c κs =
+    let c-4 = c .before .before .before .before in
+    let c-8 = c-4 .before .before .before .before in
+    let c-12 = c-8 .before .before .before .before in
+    (c .before .before .before .first .ensures .bound, c-12 .pre .0, omega (arith, c-4 .before .before .loop .inv .0, c-12 .pre .1))
 
 met-beyond-requires : tie.Need-met-beyond-requires Inv-loop μ-loop
-met-beyond-requires c κs = (c .before .before .before .before .before .first .ensures .bound, c .before .before .before .before .before .before .before .before .before .before .before .before .before .before .pre .0, omega (arith, c .before .before .before .before .before .before .before .before .loop .inv .0, c .before .before .before .before .before .before .before .before .before .before .before .before .before .before .pre .1))
+met-beyond-requires c κs =
+    let c-4 = c .before .before .before .before in
+    let c-8 = c-4 .before .before .before .before in
+    let c-12 = c-8 .before .before .before .before in
+    (c-4 .before .first .ensures .bound, c-12 .before .before .pre .0, omega (arith, c-8 .loop .inv .0, c-12 .before .before .pre .1))
 
 put-requires : tie.Need-put-requires Inv-loop μ-loop
-put-requires c κs = omega (arith, c .before .before .before .before .before .before .before .before .first .ensures .bound, c .before .before .before .before .before .before .before .before .before .before .before .loop .inv .0, c .before .before .before .before .before .before .before .before .before .before .before .before .before .before .before .before .before .pre .1)
+put-requires c κs =
+    let c-4 = c .before .before .before .before in
+    let c-8 = c-4 .before .before .before .before in
+    let c-12 = c-8 .before .before .before .before in
+    let c-16 = c-12 .before .before .before .before in
+    omega (arith, c-8 .first .ensures .bound, c-8 .before .before .before .loop .inv .0, c-16 .before .pre .1)
 
 loop-less : tie.Need-loop-less Inv-loop μ-loop
-loop-less c = walk-less (c .before .before .before .before .before .before .before .before .before .before .before .first .ensures) (c .before .before .before .before .before .before .before .before .before .before .but-first .ensures)
+loop-less c =
+    let c-4 = c .before .before .before .before in
+    let c-8 = c-4 .before .before .before .before in
+    walk-less (c-8 .before .before .before .first .ensures) (c-8 .before .before .but-first .ensures)
 
 loop-again : tie.Need-loop-again Inv-loop μ-loop
 loop-again c =
-    let inv = c .before .before .before .before .before .before .before .before .before .before .before .before .before .before .loop .inv in
-    (c .before .before .put .ensures .frame .len ∙ inv .0, meet-turn _ _ _ _ _ (inv .1) (c .before .before .before .before .before .before .before .before .before .before .before .first .ensures) (c .before .before .before .before .before .before .before .before .before .before .but-first .ensures) (c .before .before .before .before .before .before .before .before .before .before .before .before .before .before .before .before .before .get .ensures) (c .before .before .before .before .before .before .before .before .before .has .ensures) (c .before .before .before .before .before .before .before .met-in .ensures) (c .before .before .before .before .before .met-beyond .ensures) (c .before .before .before .before .or2 .ensures) (c .before .before .put .ensures))
+    let c-4 = c .before .before .before .before in
+    let c-8 = c-4 .before .before .before .before in
+    let c-12 = c-8 .before .before .before .before in
+    let c-16 = c-12 .before .before .before .before in
+    let inv = c-12 .before .before .loop .inv in
+    (c .before .before .put .ensures .frame .len ∙ inv .0, meet-turn _ _ _ _ _ (inv .1) (c-8 .before .before .before .first .ensures) (c-8 .before .before .but-first .ensures) (c-16 .before .get .ensures) (c-8 .before .has .ensures) (c-4 .before .before .before .met-in .ensures) (c-4 .before .met-beyond .ensures) (c-4 .or2 .ensures) (c .before .before .put .ensures))
 
 same-length : tie.Need-same-length Inv-loop μ-loop
 same-length c = c .before .before .loop .inv .0
 
 returns : tie.Need-returns Inv-loop μ-loop
-returns c = meet-end _ _ _ _ (c .before .before .before .before .before .get .ensures) (c .before .before .before .before .get2 .ensures) (c .before .before .before .or .ensures) (sym (c .before .some .ensures) ∙ c .if1 .left) (c .before .before .loop .inv .1)
+returns c =
+    let c-4 = c .before .before .before .before in
+    meet-end _ _ _ _ (c-4 .before .get .ensures) (c-4 .get2 .ensures) (c .before .before .before .or .ensures) (sym (c .before .some .ensures) ∙ c .if1 .left) (c .before .before .loop .inv .1)
 
 pub fill-met-spec : {M : Type 1} → statement M
 fill-met-spec = tie.close (tie.spec Inv-loop μ-loop (λ c. search needs) get-requires (λ c. search needs) get-requires-2 (λ c κs. search needs) loop-holds

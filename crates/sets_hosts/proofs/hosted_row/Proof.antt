@@ -8,13 +8,17 @@ has-requires : tie.Need-has-requires
 has-requires c κs = c .before .before .before .pre .0
 
 by-domains-requires : tie.Need-by-domains-requires
-by-domains-requires c κs = c .before .before .before .before .before .pre
+by-domains-requires c κs =
+    let c-4 = c .before .before .before .before in
+    c-4 .before .pre
 
 returns : tie.Need-returns
 returns c = writes-rows _ _ _ _ _ _ (c .before .before .before .rows .ensures) (c .before .before .has .ensures) (c .before .if1 .taken) (c .by-domains .ensures)
 
 get-requires : tie.Need-get-requires
-get-requires c κs = omega (arith, c .before .before .before .before .before .pre .0, c .before .before .before .before .before .pre .2)
+get-requires c κs =
+    let c-4 = c .before .before .before .before in
+    omega (arith, c-4 .before .pre .0, c-4 .before .pre .2)
 
 returns-2 : tie.Need-returns-2
 returns-2 c = other-rows _ _ _ _ _ _ (c .before .before .before .rows .ensures) (c .before .before .has .ensures) (c .before .if1 .left) (c .get .ensures)

@@ -5,7 +5,7 @@ use lib.ListN.{length}
 use Rattle.model.specs.Row.{meets, single}
 use Rattle.model.specs.Table.{decode}
 use Rattle.run.specs.Layout.{tableIn}
-use Rattle.row_sets.specs.Rows.{rows-at}
+use Rattle.sets_of_rows.specs.Rows.{rows-at}
 use Rattle.sets_location.specs.Carried.{Carrying, carry-begin, carry-taken, carry-left, carry-end}
 use native.Mathlib.Omega.{arith}
 use borrow.Author.Needs.{needs}
@@ -32,55 +32,89 @@ get-requires c κs = omega (arith, c .before .before .before .before .pre .0, c 
 
 get-requires-2 : tie.Need-get-requires-2 Inv-loop μ-loop
 unfolding decode
-get-requires-2 c κs = omega (arith, c .before .before .before .before .before .pre .0, c .before .before .before .before .before .pre .2 .few, c .before .before .before .before .before .pre .3)
+get-requires-2 c κs =
+    let c-4 = c .before .before .before .before in
+    omega (arith, c-4 .before .pre .0, c-4 .before .pre .2 .few, c-4 .before .pre .3)
 
 loop-holds : tie.Need-loop-holds Inv-loop μ-loop
-loop-holds c = (search needs, refl, carry-begin _ _ _ (c .before .before .before .before .before .before .pre .6))
+loop-holds c =
+    let c-4 = c .before .before .before .before in
+    (search needs, refl, carry-begin _ _ _ (c-4 .before .before .pre .6))
 
 holds-class-requires : tie.Need-holds-class-requires Inv-loop μ-loop
 unfolding decode
-holds-class-requires c κs = (omega (arith, c .before .before .before .before .classes .ensures, c .before .before .before .before .before .before .before .before .pre .2 .coded _ (c .before .before .before .before .before .before .before .before .pre .0) .classes), c .loop-test .taken)
+holds-class-requires c κs =
+    let c-4 = c .before .before .before .before in
+    let c-8 = c-4 .before .before .before .before in
+    (omega (arith, c-4 .classes .ensures, c-8 .pre .2 .coded _ (c-8 .pre .0) .classes), c .loop-test .taken)
 
 mul-join : tie.Need-mul-join Inv-loop μ-loop
 unfolding decode
-mul-join c = omega (arith, c .before .before .before .before .before .before .before .before .agent .ensures, c .before .before .before .before .before .before .before .before .before .before .before .pre .2 .coded _ (c .before .before .before .before .before .before .before .before .before .before .before .pre .0) .agent)
+mul-join c =
+    let c-4 = c .before .before .before .before in
+    let c-8 = c-4 .before .before .before .before in
+    omega (arith, c-8 .agent .ensures, c-8 .before .before .before .pre .2 .coded _ (c-8 .before .before .before .pre .0) .agent)
 
 add-join : tie.Need-add-join Inv-loop μ-loop
 unfolding decode
-add-join c = omega (arith, c .before .before .before .before .before .before .before .before .agent .ensures, c .before .before .before .before .before .before .before .before .before .before .before .pre .2 .coded _ (c .before .before .before .before .before .before .before .before .before .before .before .pre .0) .agent, c .before .before .before .before .loop .inv .0)
+add-join c =
+    let c-4 = c .before .before .before .before in
+    let c-8 = c-4 .before .before .before .before in
+    omega (arith, c-8 .agent .ensures, c-8 .before .before .before .pre .2 .coded _ (c-8 .before .before .before .pre .0) .agent, c-4 .loop .inv .0)
 
 join-requires : tie.Need-join-requires Inv-loop μ-loop
 unfolding decode
-join-requires c κs = omega (arith, c .before .before .before .before .before .before .before .before .agent .ensures, c .before .before .before .before .before .before .before .before .before .before .before .pre .2 .coded _ (c .before .before .before .before .before .before .before .before .before .before .before .pre .0) .agent, c .before .before .before .loop-test .taken, c .before .before .before .before .loop .inv .1, c .before .before .before .before .before .before .before .before .before .before .before .pre .5)
+join-requires c κs =
+    let c-4 = c .before .before .before .before in
+    let c-8 = c-4 .before .before .before .before in
+    omega (arith, c-8 .agent .ensures, c-8 .before .before .before .pre .2 .coded _ (c-8 .before .before .before .pre .0) .agent, c .before .before .before .loop-test .taken, c-4 .loop .inv .1, c-8 .before .before .before .pre .5)
 
 mul-join-2 : tie.Need-mul-join-2 Inv-loop μ-loop
 unfolding decode
-mul-join-2 c = omega (arith, c .before .before .before .before .before .before .before .before .before .before .before .before .agent .ensures, c .before .before .before .before .before .before .before .before .before .before .before .before .before .before .before .pre .2 .coded _ (c .before .before .before .before .before .before .before .before .before .before .before .before .before .before .before .pre .0) .agent)
+mul-join-2 c =
+    let c-4 = c .before .before .before .before in
+    let c-8 = c-4 .before .before .before .before in
+    let c-12 = c-8 .before .before .before .before in
+    omega (arith, c-12 .agent .ensures, c-12 .before .before .before .pre .2 .coded _ (c-12 .before .before .before .pre .0) .agent)
 
 add-join-2 : tie.Need-add-join-2 Inv-loop μ-loop
 unfolding decode
-add-join-2 c = omega (arith, c .before .before .before .before .before .before .before .before .before .before .before .before .agent .ensures, c .before .before .before .before .before .before .before .before .before .before .before .before .before .before .before .pre .2 .coded _ (c .before .before .before .before .before .before .before .before .before .before .before .before .before .before .before .pre .0) .agent)
+add-join-2 c =
+    let c-4 = c .before .before .before .before in
+    let c-8 = c-4 .before .before .before .before in
+    let c-12 = c-8 .before .before .before .before in
+    omega (arith, c-12 .agent .ensures, c-12 .before .before .before .pre .2 .coded _ (c-12 .before .before .before .pre .0) .agent)
 
 add-join-3 : tie.Need-add-join-3 Inv-loop μ-loop
 unfolding decode
-add-join-3 c = omega (arith, c .before .before .before .before .before .before .before .before .before .before .before .before .agent .ensures, c .before .before .before .before .before .before .before .before .before .before .before .before .before .before .before .pre .2 .coded _ (c .before .before .before .before .before .before .before .before .before .before .before .before .before .before .before .pre .0) .agent, c .before .before .before .before .before .before .before .before .loop .inv .0)
+add-join-3 c =
+    let c-4 = c .before .before .before .before in
+    let c-8 = c-4 .before .before .before .before in
+    let c-12 = c-8 .before .before .before .before in
+    omega (arith, c-12 .agent .ensures, c-12 .before .before .before .pre .2 .coded _ (c-12 .before .before .before .pre .0) .agent, c-8 .loop .inv .0)
 
 join-requires-2 : tie.Need-join-requires-2 Inv-loop μ-loop
 unfolding decode
-join-requires-2 c κs = omega (arith, c .before .before .before .before .before .before .before .before .before .before .before .before .agent .ensures, c .before .before .before .before .before .before .before .before .before .before .before .before .before .before .before .pre .2 .coded _ (c .before .before .before .before .before .before .before .before .before .before .before .before .before .before .before .pre .0) .agent, c .before .before .before .before .before .before .before .loop-test .taken, c .before .before .before .before .before .before .before .before .loop .inv .1, c .before .before .before .before .before .before .before .before .before .before .before .before .before .before .before .pre .5, c .before .before .before .join .ensures .frame .len)
+join-requires-2 c κs =
+    let c-4 = c .before .before .before .before in
+    let c-8 = c-4 .before .before .before .before in
+    let c-12 = c-8 .before .before .before .before in
+    omega (arith, c-12 .agent .ensures, c-12 .before .before .before .pre .2 .coded _ (c-12 .before .before .before .pre .0) .agent, c-4 .before .before .before .loop-test .taken, c-8 .loop .inv .1, c-12 .before .before .before .pre .5, c .before .before .before .join .ensures .frame .len)
 
 loop-again : tie.Need-loop-again Inv-loop μ-loop
 unfolding decode
 loop-again c =
-    let pre = c .before .before .before .before .before .before .before .before .before .before .pre in
+    let c-4 = c .before .before .before .before in
+    let c-8 = c-4 .before .before .before .before in
+    let pre = c-8 .before .before .pre in
     let inv = c .before .before .before .loop .inv in
     let held = c .before .holds-class .ensures in
-    let classes = c .before .before .before .before .before .before .classes .ensures in
+    let classes = c-4 .before .before .classes .ensures in
     let e =
     ⊎-elim
-    (λ v. carry-taken _ _ _ _ (v .9) (inv .1) (pre .1) (omega (arith, c .before .before .before .before .before .before .before .agent .ensures, pre .2 .coded _ (pre .0) .agent)) (c .before .before .before .before .before .before .before .agent .ensures) (c .before .before .loop-test .taken)
-    (ap (λ (m : ℕ). meets m (single (c .before .before .before .loop .q))) (sym classes) ∙ sym held ∙ v .0 .taken) (rows-at (c .before .before .before .before .before .get .ensures) (pre .4 .to .row _ (pre .0) (pre .1 .available)))
-    (rows-at (c .before .before .before .before .get2 .ensures) (pre .4 .by .row _ (pre .0) (pre .1 .available))) (v .2 .ensures) (v .6 .ensures) (inv .2))
+    (λ v. carry-taken _ _ _ _ (v .9) (inv .1) (pre .1) (omega (arith, c-4 .before .before .before .agent .ensures, pre .2 .coded _ (pre .0) .agent)) (c-4 .before .before .before .agent .ensures) (c .before .before .loop-test .taken)
+    (ap (λ (m : ℕ). meets m (single (c .before .before .before .loop .q))) (sym classes) ∙ sym held ∙ v .0 .taken) (rows-at (c-4 .before .get .ensures) (pre .4 .to .row _ (pre .0) (pre .1 .available)))
+    (rows-at (c-4 .get2 .ensures) (pre .4 .by .row _ (pre .0) (pre .1 .available))) (v .2 .ensures) (v .6 .ensures) (inv .2))
     (λ v. carry-left _ _ _ (v .1) (inv .1) (ap (λ (m : ℕ). meets m (single (c .before .before .before .loop .q))) (sym classes) ∙ sym held ∙ v .0 .left) (inv .2))
     (c .if1 .came)
     in
@@ -92,8 +126,10 @@ same-length c = c .before .loop .inv .1
 returns : tie.Need-returns Inv-loop μ-loop
 unfolding decode
 returns c =
+    let c-4 = c .before .before .before .before in
+    let c-8 = c-4 .before .before .before .before in
     let e : c .before .loop .q ≡ 4 = omega (arith, c .before .loop .inv .0, c .loop-test .left) in
-    (c .before .loop .inv .1, carry-end _ _ _ (c .before .before .before .before .before .before .before .before .pre .0) (rw e at (c .before .loop .inv .2)))
+    (c .before .loop .inv .1, carry-end _ _ _ (c-8 .pre .0) (rw e at (c .before .loop .inv .2)))
 
 pub carry-back-spec : {M : Type 1} → statement M
 carry-back-spec =

@@ -3,9 +3,9 @@ use Prim.Native.Nat.{_-_}
 use Rattle.model.specs.Limits.{ROWS}
 use Rattle.model.specs.Table.{decode}
 use Rattle.run.specs.Layout.{tableIn}
-use Rattle.row_sets.specs.First.{next}
-use Rattle.row_sets.specs.Walk.{Walk, walk-less}
-use Rattle.known.specs.Ask.{few}
+use Rattle.sets_of_rows.specs.First.{next}
+use Rattle.sets_of_rows.specs.Walk.{Walk, walk-less}
+use Rattle.sets_of_table.specs.Ask.{few}
 use Rattle.sets_location.specs.Carried.{Grasping, agent-code, class-code, grasp-begin, grasp-whole, grasp-part, grasp-all, grasp-end}
 use native.Mathlib.Omega.{arith}
 use borrow.Author.Needs.{needs}
@@ -30,22 +30,33 @@ class-requires c κs = let b = few (c .before .before .before .before .pre .2 .o
 
 add-k : tie.Need-add-k Inv-loop μ-loop
 unfolding decode
-add-k c = omega (arith, agent-code (c .before .before .before .before .before .pre .2 .opened) (c .before .before .before .before .before .pre .0) (c .before .agent .ensures), class-code (c .before .before .before .before .before .pre .2 .opened) (c .before .before .before .before .before .pre .0) (c .before .before .before .before .before .pre .1) (c .class .ensures))
+add-k c =
+    let c-4 = c .before .before .before .before in
+    omega (arith, agent-code (c-4 .before .pre .2 .opened) (c-4 .before .pre .0) (c .before .agent .ensures), class-code (c-4 .before .pre .2 .opened) (c-4 .before .pre .0) (c-4 .before .pre .1) (c .class .ensures))
 
 get-requires : tie.Need-get-requires Inv-loop μ-loop
 unfolding decode
-get-requires c κs = omega (arith, c .before .before .before .before .before .pre .4, agent-code (c .before .before .before .before .before .pre .2 .opened) (c .before .before .before .before .before .pre .0) (c .before .agent .ensures), class-code (c .before .before .before .before .before .pre .2 .opened) (c .before .before .before .before .before .pre .0) (c .before .before .before .before .before .pre .1) (c .class .ensures))
+get-requires c κs =
+    let c-4 = c .before .before .before .before in
+    omega (arith, c-4 .before .pre .4, agent-code (c-4 .before .pre .2 .opened) (c-4 .before .pre .0) (c .before .agent .ensures), class-code (c-4 .before .pre .2 .opened) (c-4 .before .pre .0) (c-4 .before .pre .1) (c .class .ensures))
 
 add-get : tie.Need-add-get Inv-loop μ-loop
 unfolding decode
-add-get c = omega (arith, agent-code (c .before .before .before .before .before .before .pre .2 .opened) (c .before .before .before .before .before .before .pre .0) (c .before .before .agent .ensures), class-code (c .before .before .before .before .before .before .pre .2 .opened) (c .before .before .before .before .before .before .pre .0) (c .before .before .before .before .before .before .pre .1) (c .before .class .ensures))
+add-get c =
+    let c-4 = c .before .before .before .before in
+    omega (arith, agent-code (c-4 .before .before .pre .2 .opened) (c-4 .before .before .pre .0) (c .before .before .agent .ensures), class-code (c-4 .before .before .pre .2 .opened) (c-4 .before .before .pre .0) (c-4 .before .before .pre .1) (c .before .class .ensures))
 
 get-requires-2 : tie.Need-get-requires-2 Inv-loop μ-loop
 unfolding decode
-get-requires-2 c κs = omega (arith, c .before .before .before .before .before .before .pre .4, agent-code (c .before .before .before .before .before .before .pre .2 .opened) (c .before .before .before .before .before .before .pre .0) (c .before .before .agent .ensures), class-code (c .before .before .before .before .before .before .pre .2 .opened) (c .before .before .before .before .before .before .pre .0) (c .before .before .before .before .before .before .pre .1) (c .before .class .ensures))
+get-requires-2 c κs =
+    let c-4 = c .before .before .before .before in
+    omega (arith, c-4 .before .before .pre .4, agent-code (c-4 .before .before .pre .2 .opened) (c-4 .before .before .pre .0) (c .before .before .agent .ensures), class-code (c-4 .before .before .pre .2 .opened) (c-4 .before .before .pre .0) (c-4 .before .before .pre .1) (c .before .class .ensures))
 
 plain-available-requires : tie.Need-plain-available-requires Inv-loop μ-loop
-plain-available-requires c κs = (c .before .before .before .before .before .before .before .before .pre .0, c .before .before .before .before .before .before .before .before .pre .1, c .before .before .before .before .before .before .before .before .pre .2, c .before .before .before .before .before .before .before .before .pre .3)
+plain-available-requires c κs =
+    let c-4 = c .before .before .before .before in
+    let c-8 = c-4 .before .before .before .before in
+    (c-8 .pre .0, c-8 .pre .1, c-8 .pre .2, c-8 .pre .3)
 
 loop-holds : tie.Need-loop-holds Inv-loop μ-loop
 loop-holds c = grasp-begin _ _ _ _ _ _ _
@@ -57,34 +68,62 @@ but-first-requires : tie.Need-but-first-requires Inv-loop μ-loop
 but-first-requires c κs = sym (c .before .before .some .ensures) ∙ c .before .if1 .taken
 
 covers-requires : tie.Need-covers-requires Inv-loop μ-loop
-covers-requires c κs = let b = few (c .before .before .before .before .before .before .before .before .before .before .before .before .before .before .pre .2 .opened) in (c .before .first .ensures .bound, omega (arith, c .before .before .before .before .before .before .before .before .before .before .before .before .before .before .pre .0, b))
+covers-requires c κs =
+    let c-4 = c .before .before .before .before in
+    let c-8 = c-4 .before .before .before .before in
+    let c-12 = c-8 .before .before .before .before in
+    let b = few (c-12 .before .before .pre .2 .opened) in (c .before .first .ensures .bound, omega (arith, c-12 .before .before .pre .0, b))
 
 get-requires-3 : tie.Need-get-requires-3 Inv-loop μ-loop
-get-requires-3 c κs = omega (arith, c .before .before .before .first .ensures .bound, c .before .before .before .before .before .before .before .before .before .before .before .before .before .before .before .before .pre .2 .room)
+get-requires-3 c κs =
+    let c-4 = c .before .before .before .before in
+    let c-8 = c-4 .before .before .before .before in
+    let c-12 = c-8 .before .before .before .before in
+    let c-16 = c-12 .before .before .before .before in
+    omega (arith, c .before .before .before .first .ensures .bound, c-16 .pre .2 .room)
 
 get-requires-4 : tie.Need-get-requires-4 Inv-loop μ-loop
-get-requires-4 c κs = omega (arith, c .before .before .before .before .before .first .ensures .bound, c .before .before .before .before .before .before .before .before .before .before .before .before .before .before .before .before .before .before .pre .2 .room)
+get-requires-4 c κs =
+    let c-4 = c .before .before .before .before in
+    let c-8 = c-4 .before .before .before .before in
+    let c-12 = c-8 .before .before .before .before in
+    let c-16 = c-12 .before .before .before .before in
+    omega (arith, c-4 .before .first .ensures .bound, c-16 .before .before .pre .2 .room)
 
 loop-less : tie.Need-loop-less Inv-loop μ-loop
-loop-less c = walk-less (c .before .before .before .before .before .before .before .first .ensures) (c .before .before .before .before .before .before .but-first .ensures)
+loop-less c =
+    let c-4 = c .before .before .before .before in
+    walk-less (c-4 .before .before .before .first .ensures) (c-4 .before .before .but-first .ensures)
 
 loop-again : tie.Need-loop-again Inv-loop μ-loop
 unfolding decode
-loop-again c = grasp-whole _ _ _ _ _ _ _ (c .before .before .before .before .before .before .before .before .before .before .loop .inv) (c .before .before .before .before .before .before .before .first .ensures) (c .before .before .before .before .before .before .but-first .ensures) _ _ _ _ (sym (c .before .before .before .before .before .covers .ensures) ∙ c .before .before .before .before .if2 .taken) (c .before .before .before .get3 .ensures) (c .before .get4 .ensures) (c .before .before .or .ensures) (c .or2 .ensures)
+loop-again c =
+    let c-4 = c .before .before .before .before in
+    let c-8 = c-4 .before .before .before .before in
+    grasp-whole _ _ _ _ _ _ _ (c-8 .before .before .loop .inv) (c-4 .before .before .before .first .ensures) (c-4 .before .before .but-first .ensures) _ _ _ _ (sym (c-4 .before .covers .ensures) ∙ c-4 .if2 .taken) (c .before .before .before .get3 .ensures) (c .before .get4 .ensures) (c .before .before .or .ensures) (c .or2 .ensures)
 
 bit-requires : tie.Need-bit-requires Inv-loop μ-loop
 bit-requires c κs = c .before .before .before .first .ensures .bound
 
 loop-less-2 : tie.Need-loop-less-2 Inv-loop μ-loop
-loop-less-2 c = walk-less (c .before .before .before .before .before .first .ensures) (c .before .before .before .before .but-first .ensures)
+loop-less-2 c =
+    let c-4 = c .before .before .before .before in
+    walk-less (c-4 .before .first .ensures) (c-4 .but-first .ensures)
 
 loop-again-2 : tie.Need-loop-again-2 Inv-loop μ-loop
 unfolding decode
-loop-again-2 c = grasp-part _ _ _ _ _ _ _ (c .before .before .before .before .before .before .before .before .loop .inv) (c .before .before .before .before .before .first .ensures) (c .before .before .before .before .but-first .ensures) _ _ (sym (c .before .before .before .covers .ensures) ∙ c .before .before .if2 .left) (c .before .bit .ensures) (c .or3 .ensures)
+loop-again-2 c =
+    let c-4 = c .before .before .before .before in
+    let c-8 = c-4 .before .before .before .before in
+    grasp-part _ _ _ _ _ _ _ (c-8 .loop .inv) (c-4 .before .first .ensures) (c-4 .but-first .ensures) _ _ (sym (c .before .before .before .covers .ensures) ∙ c .before .before .if2 .left) (c .before .bit .ensures) (c .or3 .ensures)
 
 returns : tie.Need-returns Inv-loop μ-loop
 unfolding decode
-returns c = grasp-end (c .before .before .before .before .before .before .before .before .before .before .before .before .pre .2 .opened) _ (c .before .before .before .before .before .before .before .before .before .before .before .before .pre .0) (c .before .before .before .plain-available .ensures) _ _ (c .before .before .before .before .before .before .before .before .before .before .before .before .pre .3) (c .before .before .before .before .before .before .before .before .before .before .before .before .pre .5) (c .before .before .before .before .before .before .before .before .before .before .before .before .pre .1) (c .before .before .before .before .before .before .before .before .agent .ensures) (c .before .before .before .before .before .before .before .class .ensures) (c .before .before .before .before .before .before .get .ensures) (c .before .before .before .before .before .get2 .ensures) (c .before .before .before .before .none .ensures) (grasp-all _ _ _ _ _ _ _ _ _ _ _ (sym (c .before .some .ensures) ∙ c .if1 .left) (c .before .before .loop .inv .1))
+returns c =
+    let c-4 = c .before .before .before .before in
+    let c-8 = c-4 .before .before .before .before in
+    let c-12 = c-8 .before .before .before .before in
+    grasp-end (c-12 .pre .2 .opened) _ (c-12 .pre .0) (c .before .before .before .plain-available .ensures) _ _ (c-12 .pre .3) (c-12 .pre .5) (c-12 .pre .1) (c-8 .agent .ensures) (c-4 .before .before .before .class .ensures) (c-4 .before .before .get .ensures) (c-4 .before .get2 .ensures) (c-4 .none .ensures) (grasp-all _ _ _ _ _ _ _ _ _ _ _ (sym (c .before .some .ensures) ∙ c .if1 .left) (c .before .before .loop .inv .1))
 
 pub made-available-spec : {M : Type 1} → statement M
 made-available-spec =

@@ -1,5 +1,5 @@
 use Rattle.model.specs.Table.{decode}
-use Rattle.known.specs.Ask.{few}
+use Rattle.sets_of_table.specs.Ask.{few}
 use Rattle.sets_location.specs.Met.{wide-among, met-set}
 use borrow.Author.Needs.{needs}
 use native.Mathlib.Omega.{arith}
@@ -15,7 +15,10 @@ seen-requires c κs = (wide-among (c .before .before .before .before .pre .2) _ 
 
 returns : tie.Need-returns
 unfolding decode
-returns c = met-set (c .before .before .before .before .before .before .before .before .pre .2) _ (c .before .before .before .before .before .before .before .before .pre .0) (c .before .before .before .before .before .before .before .before .pre .1) (c .before .before .before .before .before .before .before .before .pre .3) _ _ _ _ _ _ _ (c .before .before .before .before .before .before .rows .ensures) (c .before .before .before .before .before .wide-visible .ensures) (c .before .before .before .before .and .ensures) (c .before .before .before .seen .ensures) (c .before .before .less .ensures) (c .before .and2 .ensures) (c .or .ensures)
+returns c =
+    let c-4 = c .before .before .before .before in
+    let c-8 = c-4 .before .before .before .before in
+    met-set (c-8 .pre .2) _ (c-8 .pre .0) (c-8 .pre .1) (c-8 .pre .3) _ _ _ _ _ _ _ (c-4 .before .before .rows .ensures) (c-4 .before .wide-visible .ensures) (c-4 .and .ensures) (c .before .before .before .seen .ensures) (c .before .before .less .ensures) (c .before .and2 .ensures) (c .or .ensures)
 
 pub met-whole-spec : {M : Type 1} → statement M
 met-whole-spec = tie.close (tie.spec (λ c κs. search needs) wide-visible-requires (λ c κs. search needs) seen-requires (λ c κs. search needs)

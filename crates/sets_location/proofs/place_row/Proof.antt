@@ -1,4 +1,4 @@
-use Rattle.known.specs.Ask.{few}
+use Rattle.sets_of_table.specs.Ask.{few}
 use Rattle.sets_location.specs.Placed.{adds-cong, over-rows, public-write, not-public, told-over, told-bits}
 use native.Mathlib.Omega.{arith}
 use borrow.Author.Needs.{needs}
@@ -9,25 +9,41 @@ ordered-after-requires : tie.Need-ordered-after-requires
 ordered-after-requires c κs = (c .before .before .before .before .pre .0, c .before .before .before .before .pre .1, c .before .before .before .before .pre .2, c .before .before .before .before .pre .3)
 
 get-requires : tie.Need-get-requires
-get-requires c κs = let b = few (c .before .before .before .before .before .before .pre .2 .opened) in omega (arith, c .before .before .before .before .before .before .pre .0, b, c .before .before .before .before .before .before .pre .2 .room)
+get-requires c κs =
+    let c-4 = c .before .before .before .before in
+    let b = few (c-4 .before .before .pre .2 .opened) in omega (arith, c-4 .before .before .pre .0, b, c-4 .before .before .pre .2 .room)
 
 drop-requires : tie.Need-drop-requires
-drop-requires c κs = let b = few (c .before .before .before .before .before .before .before .pre .2 .opened) in omega (arith, c .before .before .before .before .before .before .before .pre .0, b)
+drop-requires c κs =
+    let c-4 = c .before .before .before .before in
+    let b = few (c-4 .before .before .before .pre .2 .opened) in omega (arith, c-4 .before .before .before .pre .0, b)
 
 rows-requires : tie.Need-rows-requires
-rows-requires c κs = let r = c .before .before .before .before .before .before .before .before .pre .2 .opened .space in omega (arith, r)
+rows-requires c κs =
+    let c-4 = c .before .before .before .before in
+    let c-8 = c-4 .before .before .before .before in
+    let r = c-8 .pre .2 .opened .space in omega (arith, r)
 
 rows-requires-2 : tie.Need-rows-requires-2
-rows-requires-2 c κs = let r = c .before .before .before .before .before .before .before .before .before .pre .2 .opened .space in omega (arith, r)
+rows-requires-2 c κs =
+    let c-4 = c .before .before .before .before in
+    let c-8 = c-4 .before .before .before .before in
+    let r = c-8 .before .pre .2 .opened .space in omega (arith, r)
 
 has-requires : tie.Need-has-requires
-has-requires c κs = let b = few (c .before .before .before .before .before .before .before .before .before .before .before .pre .2 .opened) in omega (arith, c .before .before .before .before .before .before .before .before .before .before .before .pre .0, b)
+has-requires c κs =
+    let c-4 = c .before .before .before .before in
+    let c-8 = c-4 .before .before .before .before in
+    let b = few (c-8 .before .before .before .pre .2 .opened) in omega (arith, c-8 .before .before .before .pre .0, b)
 
 place-write-requires : tie.Need-place-write-requires
 place-write-requires c κs =
-    let pre = c .before .before .before .before .before .before .before .before .before .before .before .before .before .before .pre in
+    let c-4 = c .before .before .before .before in
+    let c-8 = c-4 .before .before .before .before in
+    let c-12 = c-8 .before .before .before .before in
+    let pre = c-12 .before .before .pre in
     let o = pre .2 .opened in
-    (pre .0, pre .2, pre .3, pre .4, pre .5, public-write o _ (pre .0) (pre .1) _ _ _ _ (c .before .before .before .before .before .before .before .before .before .ordered-after .ensures) (over-rows o _ (pre .0) (pre .1) (pre .3) _ _ (c .before .before .before .before .before .before .before .get .ensures) (c .before .before .before .before .before .before .drop .ensures)) (c .before .before .before .before .before .rows .ensures) (c .before .before .before .before .rows2 .ensures) (c .before .before .before .and .ensures) (c .before .before .has .ensures) (c .before .if1 .taken), pre .6)
+    (pre .0, pre .2, pre .3, pre .4, pre .5, public-write o _ (pre .0) (pre .1) _ _ _ _ (c-8 .before .ordered-after .ensures) (over-rows o _ (pre .0) (pre .1) (pre .3) _ _ (c-4 .before .before .before .get .ensures) (c-4 .before .before .drop .ensures)) (c-4 .before .rows .ensures) (c-4 .rows2 .ensures) (c .before .before .before .and .ensures) (c .before .before .has .ensures) (c .before .if1 .taken), pre .6)
 
 same-length : tie.Need-same-length
 same-length c = c .before .before .place-write .ensures .frame .len
@@ -37,20 +53,27 @@ returns c = c .before .before .place-write .ensures
 
 put-whole-requires : tie.Need-put-whole-requires
 put-whole-requires c κs =
-    let pre = c .before .before .before .before .before .before .before .before .before .before .before .before .before .before .before .pre in
+    let c-4 = c .before .before .before .before in
+    let c-8 = c-4 .before .before .before .before in
+    let c-12 = c-8 .before .before .before .before in
+    let pre = c-12 .before .before .before .pre in
     let o = pre .2 .opened in
-    (pre .0, few o, pre .2 .room, o .fit, told-over o _ (pre .0) (pre .1) _ (c .before .before .before .before .before .before .before .before .before .before .ordered-after .ensures) (over-rows o _ (pre .0) (pre .1) (pre .3) _ _ (c .before .before .before .before .before .before .before .before .get .ensures) (c .before .before .before .before .before .before .before .drop .ensures)) (c .before .and2 .ensures), pre .6)
+    (pre .0, few o, pre .2 .room, o .fit, told-over o _ (pre .0) (pre .1) _ (c-8 .before .before .ordered-after .ensures) (over-rows o _ (pre .0) (pre .1) (pre .3) _ _ (c-8 .get .ensures) (c-4 .before .before .before .drop .ensures)) (c .before .and2 .ensures), pre .6)
 
 same-length-2 : tie.Need-same-length-2
 same-length-2 c = c .before .before .put-whole .ensures .frame .len
 
 returns-2 : tie.Need-returns-2
 returns-2 c =
-    let pre = c .before .before .before .before .before .before .before .before .before .before .before .before .before .before .before .before .before .before .pre in
+    let c-4 = c .before .before .before .before in
+    let c-8 = c-4 .before .before .before .before in
+    let c-12 = c-8 .before .before .before .before in
+    let c-16 = c-12 .before .before .before .before in
+    let pre = c-16 .before .before .pre in
     let o = pre .2 .opened in
     adds-cong
-    (told-bits o _ (pre .0) (pre .1) _ (c .before .before .before .before .before .before .before .before .before .before .before .before .before .ordered-after .ensures) (over-rows o _ (pre .0) (pre .1) (pre .3) _ _ (c .before .before .before .before .before .before .before .before .before .before .before .get .ensures) (c .before .before .before .before .before .before .before .before .before .before .drop .ensures)) (c .before .before .before .before .and2 .ensures)
-    (not-public o _ (pre .0) (pre .1) _ _ _ _ (c .before .before .before .before .before .before .before .before .before .rows .ensures) (c .before .before .before .before .before .before .before .before .rows2 .ensures) (c .before .before .before .before .before .before .before .and .ensures) (c .before .before .before .before .before .before .has .ensures) (c .before .before .before .before .before .if1 .left)))
+    (told-bits o _ (pre .0) (pre .1) _ (c-12 .before .ordered-after .ensures) (over-rows o _ (pre .0) (pre .1) (pre .3) _ _ (c-8 .before .before .before .get .ensures) (c-8 .before .before .drop .ensures)) (c-4 .and2 .ensures)
+    (not-public o _ (pre .0) (pre .1) _ _ _ _ (c-8 .before .rows .ensures) (c-8 .rows2 .ensures) (c-4 .before .before .before .and .ensures) (c-4 .before .before .has .ensures) (c-4 .before .if1 .left)))
     (c .before .before .put-whole .ensures)
 
 pub place-row-spec : {M : Type 1} → statement M

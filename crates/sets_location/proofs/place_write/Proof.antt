@@ -1,6 +1,6 @@
 use mathlib.Core.Path.{_∙_}
-use Rattle.known.specs.Ask.{few}
-use Rattle.grids.specs.Given.{given-kept}
+use Rattle.sets_of_table.specs.Ask.{few}
+use Rattle.sets_grids.specs.Given.{given-kept}
 use Rattle.sets_location.specs.Placed.{locating-kept, adds-then, adds-cong, write-access, write-over, write-targets, write-bits}
 use native.Mathlib.Omega.{arith}
 use borrow.Author.Needs.{needs}
@@ -14,37 +14,64 @@ rows-requires : tie.Need-rows-requires
 rows-requires c κs = let r = c .before .before .before .before .pre .1 .opened .space in omega (arith, r)
 
 made-available-requires : tie.Need-made-available-requires
-made-available-requires c κs = (c .before .before .before .before .before .before .before .before .pre .0, write-access (c .before .before .before .before .before .before .before .before .pre .5), c .before .before .before .before .before .before .before .before .pre .1, c .before .before .before .before .before .before .before .before .pre .2, c .before .before .before .before .before .before .before .before .pre .3, c .before .before .before .before .before .before .before .before .pre .4)
+made-available-requires c κs =
+    let c-4 = c .before .before .before .before in
+    let c-8 = c-4 .before .before .before .before in
+    (c-8 .pre .0, write-access (c-8 .pre .5), c-8 .pre .1, c-8 .pre .2, c-8 .pre .3, c-8 .pre .4)
 
 met-whole-requires : tie.Need-met-whole-requires
-met-whole-requires c κs = (c .before .before .before .before .before .before .before .before .before .pre .0, write-access (c .before .before .before .before .before .before .before .before .before .pre .5), c .before .before .before .before .before .before .before .before .before .pre .1 .opened, c .made-available .ensures)
+met-whole-requires c κs =
+    let c-4 = c .before .before .before .before in
+    let c-8 = c-4 .before .before .before .before in
+    (c-8 .before .pre .0, write-access (c-8 .before .pre .5), c-8 .before .pre .1 .opened, c .made-available .ensures)
 
 put-whole-requires : tie.Need-put-whole-requires
 put-whole-requires c κs =
-    let pre = c .before .before .before .before .before .before .before .before .before .before .before .before .before .before .pre in
-    (pre .0, few (pre .1 .opened), pre .1 .room, pre .1 .opened .fit, write-over (pre .1 .opened) _ (pre .0) (write-access (pre .5)) (pre .5) _ _ _ _ _ _ _ _ (c .before .before .before .before .before .before .before .before .before .before .get .ensures) (c .before .before .before .before .before .before .before .before .before .rows .ensures) (c .before .before .before .before .before .before .before .before .and .ensures) (c .before .before .before .before .before .before .before .and2 .ensures) (c .before .before .before .before .met-whole .ensures) (c .before .before .before .and3 .ensures) (c .before .before .or .ensures) (c .before .and4 .ensures), pre .6)
+    let c-4 = c .before .before .before .before in
+    let c-8 = c-4 .before .before .before .before in
+    let c-12 = c-8 .before .before .before .before in
+    let pre = c-12 .before .before .pre in
+    (pre .0, few (pre .1 .opened), pre .1 .room, pre .1 .opened .fit, write-over (pre .1 .opened) _ (pre .0) (write-access (pre .5)) (pre .5) _ _ _ _ _ _ _ _ (c-8 .before .before .get .ensures) (c-8 .before .rows .ensures) (c-8 .and .ensures) (c-4 .before .before .before .and2 .ensures) (c-4 .met-whole .ensures) (c .before .before .before .and3 .ensures) (c .before .before .or .ensures) (c .before .and4 .ensures), pre .6)
 
 maybe-met-requires : tie.Need-maybe-met-requires
 maybe-met-requires c κs =
-    let pre = c .before .before .before .before .before .before .before .before .before .before .before .before .before .before .before .before .before .before .pre in
+    let c-4 = c .before .before .before .before in
+    let c-8 = c-4 .before .before .before .before in
+    let c-12 = c-8 .before .before .before .before in
+    let c-16 = c-12 .before .before .before .before in
+    let pre = c-16 .before .before .pre in
     let frame = c .before .before .before .put-whole .ensures .frame in
-    (pre .0, write-access (pre .5), given-kept frame (pre .1), locating-kept (few (pre .1 .opened)) frame (pre .2), c .before .before .before .before .before .before .before .before .before .made-available .ensures)
+    (pre .0, write-access (pre .5), given-kept frame (pre .1), locating-kept (few (pre .1 .opened)) frame (pre .2), c-8 .before .made-available .ensures)
 
 put-parts-requires : tie.Need-put-parts-requires
 put-parts-requires c κs =
-    let pre = c .before .before .before .before .before .before .before .before .before .before .before .before .before .before .before .before .before .before .before .before .before .before .pre in
-    let frame = c .before .before .before .before .before .before .before .put-whole .ensures .frame in
-    (pre .0, write-access (pre .5), given-kept frame (pre .1), locating-kept (few (pre .1 .opened)) frame (pre .2), c .before .before .before .before .before .before .before .before .before .before .before .before .before .made-available .ensures, write-targets (pre .1 .opened) _ (pre .0) (write-access (pre .5)) (pre .5) _ _ _ _ _ _ _ _ (c .before .before .before .before .before .before .before .before .before .before .before .before .before .before .before .before .before .before .get .ensures) (c .before .before .before .before .before .before .before .before .before .before .before .before .before .before .before .before .before .rows .ensures) (c .before .before .before .before .before .before .before .before .before .before .before .before .before .before .before .before .and .ensures) (c .before .before .before .before .before .before .before .before .before .before .before .before .before .before .before .and2 .ensures) (c .before .before .before .before .before .before .before .before .before .before .before .before .met-whole .ensures) (c .before .before .before .before .before .before .before .before .before .before .before .and3 .ensures) (c .before .before .before .before .before .before .before .before .before .before .or .ensures) (c .before .before .before .before .before .before .before .before .before .and4 .ensures) _ _ _ (c .before .before .before .maybe-met .ensures) (c .before .before .and5 .ensures) (c .before .less .ensures))
+    let c-4 = c .before .before .before .before in
+    let c-8 = c-4 .before .before .before .before in
+    let c-12 = c-8 .before .before .before .before in
+    let c-16 = c-12 .before .before .before .before in
+    let c-20 = c-16 .before .before .before .before in
+    let pre = c-20 .before .before .pre in
+    let frame = c-4 .before .before .before .put-whole .ensures .frame in
+    (pre .0, write-access (pre .5), given-kept frame (pre .1), locating-kept (few (pre .1 .opened)) frame (pre .2), c-12 .before .made-available .ensures, write-targets (pre .1 .opened) _ (pre .0) (write-access (pre .5)) (pre .5) _ _ _ _ _ _ _ _ (c-16 .before .before .get .ensures) (c-16 .before .rows .ensures) (c-16 .and .ensures) (c-12 .before .before .before .and2 .ensures) (c-12 .met-whole .ensures) (c-8 .before .before .before .and3 .ensures) (c-8 .before .before .or .ensures) (c-8 .before .and4 .ensures) _ _ _ (c .before .before .before .maybe-met .ensures) (c .before .before .and5 .ensures) (c .before .less .ensures))
 
 same-length : tie.Need-same-length
-same-length c = c .before .before .put-parts .ensures .frame .len ∙ c .before .before .before .before .before .before .before .before .before .before .put-whole .ensures .frame .len
+same-length c =
+    let c-4 = c .before .before .before .before in
+    let c-8 = c-4 .before .before .before .before in
+    c .before .before .put-parts .ensures .frame .len ∙ c-8 .before .before .put-whole .ensures .frame .len
 
 returns : tie.Need-returns
 returns c =
-    let pre = c .before .before .before .before .before .before .before .before .before .before .before .before .before .before .before .before .before .before .before .before .before .before .before .before .before .pre in
+    let c-4 = c .before .before .before .before in
+    let c-8 = c-4 .before .before .before .before in
+    let c-12 = c-8 .before .before .before .before in
+    let c-16 = c-12 .before .before .before .before in
+    let c-20 = c-16 .before .before .before .before in
+    let c-24 = c-20 .before .before .before .before in
+    let pre = c-24 .before .pre in
     adds-cong
-    (write-bits (pre .1 .opened) _ (pre .0) (write-access (pre .5)) (pre .5) _ _ _ _ _ _ _ _ (c .before .before .before .before .before .before .before .before .before .before .before .before .before .before .before .before .before .before .before .before .before .get .ensures) (c .before .before .before .before .before .before .before .before .before .before .before .before .before .before .before .before .before .before .before .before .rows .ensures) (c .before .before .before .before .before .before .before .before .before .before .before .before .before .before .before .before .before .before .before .and .ensures) (c .before .before .before .before .before .before .before .before .before .before .before .before .before .before .before .before .before .before .and2 .ensures) (c .before .before .before .before .before .before .before .before .before .before .before .before .before .before .before .met-whole .ensures) (c .before .before .before .before .before .before .before .before .before .before .before .before .before .before .and3 .ensures) (c .before .before .before .before .before .before .before .before .before .before .before .before .before .or .ensures) (c .before .before .before .before .before .before .before .before .before .before .before .before .and4 .ensures) _ _ _ (c .before .before .before .before .before .before .maybe-met .ensures) (c .before .before .before .before .before .and5 .ensures) (c .before .before .before .before .less .ensures))
-    (adds-then (c .before .before .before .before .before .before .before .before .before .before .put-whole .ensures) (c .before .before .put-parts .ensures))
+    (write-bits (pre .1 .opened) _ (pre .0) (write-access (pre .5)) (pre .5) _ _ _ _ _ _ _ _ (c-20 .before .get .ensures) (c-20 .rows .ensures) (c-16 .before .before .before .and .ensures) (c-16 .before .before .and2 .ensures) (c-12 .before .before .before .met-whole .ensures) (c-12 .before .before .and3 .ensures) (c-12 .before .or .ensures) (c-12 .and4 .ensures) _ _ _ (c-4 .before .before .maybe-met .ensures) (c-4 .before .and5 .ensures) (c-4 .less .ensures))
+    (adds-then (c-8 .before .before .put-whole .ensures) (c .before .before .put-parts .ensures))
 
 pub place-write-spec : {M : Type 1} → statement M
 place-write-spec =

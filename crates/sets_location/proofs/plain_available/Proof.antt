@@ -1,4 +1,4 @@
-use Rattle.known.specs.Ask.{few}
+use Rattle.sets_of_table.specs.Ask.{few}
 use Rattle.sets_location.specs.Told.{first-set}
 use borrow.Author.Needs.{needs}
 use native.Mathlib.Omega.{arith}
@@ -12,16 +12,26 @@ rows-requires-2 : tie.Need-rows-requires-2
 rows-requires-2 c κs = let r = c .before .before .before .pre .2 .opened .space in omega (arith, r)
 
 get-requires : tie.Need-get-requires
-get-requires c κs = let b = few (c .before .before .before .before .before .pre .2 .opened) in let r = c .before .before .before .before .before .pre .2 .opened .space in omega (arith, c .before .before .before .before .before .pre .0, b, r)
+get-requires c κs =
+    let c-4 = c .before .before .before .before in
+    let b = few (c-4 .before .pre .2 .opened) in let r = c-4 .before .pre .2 .opened .space in omega (arith, c-4 .before .pre .0, b, r)
 
 get-requires-2 : tie.Need-get-requires-2
-get-requires-2 c κs = let b = few (c .before .before .before .before .before .before .pre .2 .opened) in let r = c .before .before .before .before .before .before .pre .2 .room in omega (arith, c .before .before .before .before .before .before .pre .0, b, r)
+get-requires-2 c κs =
+    let c-4 = c .before .before .before .before in
+    let b = few (c-4 .before .before .pre .2 .opened) in let r = c-4 .before .before .pre .2 .room in omega (arith, c-4 .before .before .pre .0, b, r)
 
 onward-requires : tie.Need-onward-requires
-onward-requires c κs = (c .before .before .before .before .before .before .before .before .before .pre .0, c .before .before .before .before .before .before .before .before .before .pre .2 .opened)
+onward-requires c κs =
+    let c-4 = c .before .before .before .before in
+    let c-8 = c-4 .before .before .before .before in
+    (c-8 .before .pre .0, c-8 .before .pre .2 .opened)
 
 returns : tie.Need-returns
-returns c = first-set (c .before .before .before .before .before .before .before .before .before .before .before .pre .2 .opened) (c .before .before .before .before .before .before .before .before .before .before .before .pre .3) _ (c .before .before .before .before .before .before .before .before .before .before .before .pre .0) (c .before .before .before .before .before .before .before .before .before .before .before .pre .1) _ _ _ _ _ _ _ _ _ (c .before .before .before .before .before .before .before .before .rows .ensures) (c .before .before .before .before .before .before .before .rows2 .ensures) (c .before .before .before .before .before .before .and .ensures) (c .before .before .before .before .before .get .ensures) (c .before .before .before .before .get2 .ensures) (c .before .before .before .and2 .ensures) (c .before .before .and3 .ensures) (c .before .onward .ensures) (c .and4 .ensures)
+returns c =
+    let c-4 = c .before .before .before .before in
+    let c-8 = c-4 .before .before .before .before in
+    first-set (c-8 .before .before .before .pre .2 .opened) (c-8 .before .before .before .pre .3) _ (c-8 .before .before .before .pre .0) (c-8 .before .before .before .pre .1) _ _ _ _ _ _ _ _ _ (c-8 .rows .ensures) (c-4 .before .before .before .rows2 .ensures) (c-4 .before .before .and .ensures) (c-4 .before .get .ensures) (c-4 .get2 .ensures) (c .before .before .before .and2 .ensures) (c .before .before .and3 .ensures) (c .before .onward .ensures) (c .and4 .ensures)
 
 pub plain-available-spec : {M : Type 1} → statement M
 plain-available-spec = tie.close (tie.spec rows-requires rows-requires-2 (λ c κs. search needs) get-requires get-requires-2 (λ c κs. search needs) (λ c κs. search needs)

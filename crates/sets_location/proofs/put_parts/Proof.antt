@@ -3,9 +3,9 @@ use Prim.Native.Nat.{_-_}
 use native.Mathlib.Omega.{arith}
 use Rattle.model.specs.Limits.{ROWS}
 use Rattle.run.specs.Layout.{tableIn}
-use Rattle.row_sets.specs.First.{next}
-use Rattle.row_sets.specs.Walk.{Walk, walk-less, walk-in}
-use Rattle.grids.specs.Given.{given-kept, given-few}
+use Rattle.sets_of_rows.specs.First.{next}
+use Rattle.sets_of_rows.specs.Walk.{Walk, walk-less, walk-in}
+use Rattle.sets_grids.specs.Given.{given-kept, given-few}
 use Rattle.sets_location.specs.Adds.{AddsRow, partsOf}
 use Rattle.sets_location.specs.Put.{cut, adds-begin, adds-turn, adds-pass, adds-end, parts-off, parts-mask, locating-kept}
 use borrow.Author.Needs.{needs}
@@ -28,34 +28,64 @@ but-first-requires : tie.Need-but-first-requires Inv-loop μ-loop
 but-first-requires c κs = sym (c .before .before .some .ensures) ∙ c .before .if1 .taken
 
 shared-requires : tie.Need-shared-requires Inv-loop μ-loop
-shared-requires c κs = (c .before .before .before .before .before .before .before .pre .0, c .before .before .before .before .before .before .before .pre .5 .low _ (walk-in (c .before .before .before .before .loop .inv .0) (c .before .first .ensures)), c .before .before .before .before .before .before .before .pre .2 .opened .fit)
+shared-requires c κs =
+    let c-4 = c .before .before .before .before in
+    (c-4 .before .before .before .pre .0, c-4 .before .before .before .pre .5 .low _ (walk-in (c-4 .loop .inv .0) (c .before .first .ensures)), c-4 .before .before .before .pre .2 .opened .fit)
 
 bytes-met-requires : tie.Need-bytes-met-requires Inv-loop μ-loop
-bytes-met-requires c κs = (c .before .before .before .before .before .before .before .before .before .pre .0, c .before .before .before .before .before .before .before .before .before .pre .5 .low _ (walk-in (c .before .before .before .before .before .before .loop .inv .0) (c .before .before .before .first .ensures)), record { first = c .before .before .before .before .before .before .before .before .before .pre .1; second = c .before .before .before .before .before .before .before .before .before .pre .5 .accesses _ (walk-in (c .before .before .before .before .before .before .loop .inv .0) (c .before .before .before .first .ensures)); same = c .before .before .before .before .before .before .before .before .before .pre .5 .same _ (walk-in (c .before .before .before .before .before .before .loop .inv .0) (c .before .before .before .first .ensures)) }, given-kept (c .before .before .before .before .before .before .loop .inv .1 .frame) (c .before .before .before .before .before .before .before .before .before .pre .2), locating-kept (given-few (c .before .before .before .before .before .before .before .before .before .pre .2)) (c .before .before .before .before .before .before .loop .inv .1 .frame) (c .before .before .before .before .before .before .before .before .before .pre .3), c .before .before .before .before .before .before .before .before .before .pre .4)
+bytes-met-requires c κs =
+    let c-4 = c .before .before .before .before in
+    let c-8 = c-4 .before .before .before .before in
+    (c-8 .before .pre .0, c-8 .before .pre .5 .low _ (walk-in (c-4 .before .before .loop .inv .0) (c .before .before .before .first .ensures)), record { first = c-8 .before .pre .1; second = c-8 .before .pre .5 .accesses _ (walk-in (c-4 .before .before .loop .inv .0) (c .before .before .before .first .ensures)); same = c-8 .before .pre .5 .same _ (walk-in (c-4 .before .before .loop .inv .0) (c .before .before .before .first .ensures)) }, given-kept (c-4 .before .before .loop .inv .1 .frame) (c-8 .before .pre .2), locating-kept (given-few (c-8 .before .pre .2)) (c-4 .before .before .loop .inv .1 .frame) (c-8 .before .pre .3), c-8 .before .pre .4)
 
 add-requires : tie.Need-add-requires Inv-loop μ-loop
-add-requires c κs = let r = c .before .before .before .before .before .before .before .before .before .before .before .before .pre .2 .room in let b = given-few (c .before .before .before .before .before .before .before .before .before .before .before .before .pre .2) in let l = c .before .before .before .before .before .before .before .before .before .before .before .before .pre .0 in let e = c .before .before .before .before .before .before .before .before .before .loop .inv .1 .frame .len in (omega (arith, b, l), c .before .before .before .before .before .before .first .ensures .bound, parts-mask _ _ _ (c .before .before .before .before .shared .ensures) (c .before .before .bytes-met .ensures) (walk-in (c .before .before .before .before .before .before .before .before .before .loop .inv .0) (c .before .before .before .before .before .before .first .ensures)) .low, omega (arith, r, e))
+add-requires c κs =
+    let c-4 = c .before .before .before .before in
+    let c-8 = c-4 .before .before .before .before in
+    let c-12 = c-8 .before .before .before .before in
+    let r = c-12 .pre .2 .room in let b = given-few (c-12 .pre .2) in let l = c-12 .pre .0 in let e = c-8 .before .loop .inv .1 .frame .len in (omega (arith, b, l), c-4 .before .before .first .ensures .bound, parts-mask _ _ _ (c-4 .shared .ensures) (c .before .before .bytes-met .ensures) (walk-in (c-8 .before .loop .inv .0) (c-4 .before .before .first .ensures)) .low, omega (arith, r, e))
 
 put-bit-requires : tie.Need-put-bit-requires Inv-loop μ-loop
-put-bit-requires c κs = let r = c .before .before .before .before .before .before .before .before .before .before .before .before .before .before .before .before .pre .2 .room in let b = given-few (c .before .before .before .before .before .before .before .before .before .before .before .before .before .before .before .before .pre .2) in let l = c .before .before .before .before .before .before .before .before .before .before .before .before .before .before .before .before .pre .0 in let e = c .before .before .before .before .before .before .before .before .before .before .before .before .before .loop .inv .1 .frame .len in let f = c .before .before .before .add .ensures .frame .len in (omega (arith, r, b, l, e, f), c .before .before .before .before .before .before .before .before .before .before .first .ensures .bound)
+put-bit-requires c κs =
+    let c-4 = c .before .before .before .before in
+    let c-8 = c-4 .before .before .before .before in
+    let c-12 = c-8 .before .before .before .before in
+    let c-16 = c-12 .before .before .before .before in
+    let r = c-16 .pre .2 .room in let b = given-few (c-16 .pre .2) in let l = c-16 .pre .0 in let e = c-12 .before .loop .inv .1 .frame .len in let f = c .before .before .before .add .ensures .frame .len in (omega (arith, r, b, l, e, f), c-8 .before .before .first .ensures .bound)
 
 loop-less : tie.Need-loop-less Inv-loop μ-loop
-loop-less c = walk-less (c .before .before .before .before .before .before .before .before .before .before .before .before .before .first .ensures) (c .before .before .before .before .before .before .before .before .before .before .before .before .but-first .ensures)
+loop-less c =
+    let c-4 = c .before .before .before .before in
+    let c-8 = c-4 .before .before .before .before in
+    let c-12 = c-8 .before .before .before .before in
+    walk-less (c-12 .before .first .ensures) (c-12 .but-first .ensures)
 
 loop-again : tie.Need-loop-again Inv-loop μ-loop
-loop-again c = adds-turn _ _ (given-few (c .before .before .before .before .before .before .before .before .before .before .before .before .before .before .before .before .before .before .before .pre .2)) (c .before .before .before .before .before .before .before .before .before .before .before .before .before .before .before .before .before .before .before .pre .5 .low) (parts-off _ _ _) (c .before .before .before .before .before .before .before .before .before .before .before .before .before .before .before .before .before .before .before .pre .0) (c .before .before .before .before .before .before .before .before .before .before .before .before .before .before .before .before .loop .inv) (c .before .before .before .before .before .before .before .before .before .before .before .before .before .first .ensures) (c .before .before .before .before .before .before .before .before .before .before .before .before .but-first .ensures) (parts-mask _ _ _ (c .before .before .before .before .before .before .before .before .before .before .before .shared .ensures) (c .before .before .before .before .before .before .before .before .before .bytes-met .ensures)) (c .before .before .before .before .before .before .before .before .if2 .taken) (c .before .before .before .before .before .before .add .ensures) (c .before .before .put-bit .ensures)
+loop-again c =
+    let c-4 = c .before .before .before .before in
+    let c-8 = c-4 .before .before .before .before in
+    let c-12 = c-8 .before .before .before .before in
+    let c-16 = c-12 .before .before .before .before in
+    adds-turn _ _ (given-few (c-16 .before .before .before .pre .2)) (c-16 .before .before .before .pre .5 .low) (parts-off _ _ _) (c-16 .before .before .before .pre .0) (c-16 .loop .inv) (c-12 .before .first .ensures) (c-12 .but-first .ensures) (parts-mask _ _ _ (c-8 .before .before .before .shared .ensures) (c-8 .before .bytes-met .ensures)) (c-8 .if2 .taken) (c-4 .before .before .add .ensures) (c .before .before .put-bit .ensures)
 
 loop-less-2 : tie.Need-loop-less-2 Inv-loop μ-loop
-loop-less-2 c = walk-less (c .before .before .before .before .before .first .ensures) (c .before .before .before .before .but-first .ensures)
+loop-less-2 c =
+    let c-4 = c .before .before .before .before in
+    walk-less (c-4 .before .first .ensures) (c-4 .but-first .ensures)
 
 loop-again-2 : tie.Need-loop-again-2 Inv-loop μ-loop
-loop-again-2 c = adds-pass _ _ (given-few (c .before .before .before .before .before .before .before .before .before .before .before .pre .2)) (c .before .before .before .before .before .before .before .before .before .before .before .pre .5 .low) (parts-off _ _ _) (c .before .before .before .before .before .before .before .before .loop .inv) (c .before .before .before .before .before .first .ensures) (c .before .before .before .before .but-first .ensures) (parts-mask _ _ _ (c .before .before .before .shared .ensures) (c .before .bytes-met .ensures)) (c .if2 .left)
+loop-again-2 c =
+    let c-4 = c .before .before .before .before in
+    let c-8 = c-4 .before .before .before .before in
+    adds-pass _ _ (given-few (c-8 .before .before .before .pre .2)) (c-8 .before .before .before .pre .5 .low) (parts-off _ _ _) (c-8 .loop .inv) (c-4 .before .first .ensures) (c-4 .but-first .ensures) (parts-mask _ _ _ (c .before .before .before .shared .ensures) (c .before .bytes-met .ensures)) (c .if2 .left)
 
 same-length : tie.Need-same-length Inv-loop μ-loop
 same-length c = c .before .before .loop .inv .1 .frame .len
 
 returns : tie.Need-returns Inv-loop μ-loop
-returns c = adds-end _ _ (given-few (c .before .before .before .before .before .pre .2)) (c .before .before .before .before .before .pre .5 .low) (parts-off _ _ _) _ (sym (c .before .some .ensures) ∙ c .if1 .left) (c .before .before .loop .inv .1)
+returns c =
+    let c-4 = c .before .before .before .before in
+    adds-end _ _ (given-few (c-4 .before .pre .2)) (c-4 .before .pre .5 .low) (parts-off _ _ _) _ (sym (c .before .some .ensures) ∙ c .if1 .left) (c .before .before .loop .inv .1)
 
 pub put-parts-spec : {M : Type 1} → statement M
 put-parts-spec =

@@ -1,6 +1,6 @@
 use native.Mathlib.Omega.{arith}
 use Rattle.model.specs.Table.{decode}
-use Rattle.known.specs.Ask.{few}
+use Rattle.sets_of_table.specs.Ask.{few}
 use Rattle.sets_mutual.specs.Mutual.{mutual-rows}
 use borrow.Author.Needs.{needs}
 use Rattle.sets_mutual.proofs.mutual_row.Statement.{statement}
@@ -15,15 +15,17 @@ get-requires c κs =
 
 drop-requires : tie.Need-drop-requires
 drop-requires c κs =
-    let pre = c .before .before .before .before .before .before .pre in
+    let c-4 = c .before .before .before .before in
+    let pre = c-4 .before .before .pre in
     let b = few (pre .2) in
     omega (arith, pre .0)
 
 returns : tie.Need-returns
 unfolding decode
 returns c =
-    let pre = c .before .before .before .before .before .before .before .pre in
-    mutual-rows (pre .2) _ _ _ _ _ _ _ (pre .0) (pre .1) (c .before .before .before .before .before .get .ensures) (c .before .before .before .before .rows .ensures) (c .before .before .before .and .ensures) (c .before .before .together .ensures) (c .before .and2 .ensures) (c .drop .ensures)
+    let c-4 = c .before .before .before .before in
+    let pre = c-4 .before .before .before .pre in
+    mutual-rows (pre .2) _ _ _ _ _ _ _ (pre .0) (pre .1) (c-4 .before .get .ensures) (c-4 .rows .ensures) (c .before .before .before .and .ensures) (c .before .before .together .ensures) (c .before .and2 .ensures) (c .drop .ensures)
 
 pub mutual-row-spec : {M : Type 1} → statement M
 mutual-row-spec =

@@ -1,10 +1,10 @@
-use mathlib.Core.Path.{_≡_, refl, sym, _∙_}
+use mathlib.Core.Path.{_∙_}
 use Prim.Native.Nat.{_-_, _≤_, _<_}
 use Rattle.run.specs.Layout.{tableIn}
 use Rattle.bits.specs.Within.{Within, within-refl, within-trans, within-widen}
-use Rattle.grids.specs.Regions.{HAPPENS, DEPENDS, REACH-END}
-use Rattle.grids.specs.Grid.{Grid, grid-kept}
-use Rattle.grids.specs.Happens.{HappensBy}
+use Rattle.sets_grids.specs.Regions.{HAPPENS, DEPENDS, REACH-END}
+use Rattle.sets_grids.specs.Grid.{Grid, grid-kept}
+use Rattle.sets_grids.specs.Happens.{HappensBy}
 use Rattle.sets_order.specs.Inter.{wideTo, wide-none, done-cong, leading-kept}
 use Rattle.sets_order.specs.Enough.{happening-all}
 use borrow.Author.Needs.{needs}
@@ -22,14 +22,20 @@ put-program-order-requires : tie.Need-put-program-order-requires Inv-loop μ-loo
 put-program-order-requires c κs = c .before .before .before .pre .given
 
 loop-holds : tie.Need-loop-holds Inv-loop μ-loop
-loop-holds c = (search needs, search needs, done-cong (c .before .before .before .before .before .before .pre .given .opened .rows) (λ k l. wide-none _ k) (c .before .before .put-program-order .ensures .order), grid-kept (λ o. omega arith) (c .before .before .put-program-order .ensures .frame) (c .before .before .before .before .before .before .pre .depends), within-refl _ _ _)
+loop-holds c =
+    let c-4 = c .before .before .before .before in
+    (search needs, search needs, done-cong (c-4 .before .before .pre .given .opened .rows) (λ k l. wide-none _ k) (c .before .before .put-program-order .ensures .order), grid-kept (λ o. omega arith) (c .before .before .put-program-order .ensures .frame) (c-4 .before .before .pre .depends), within-refl _ _ _)
 
 add-widest-requires : tie.Need-add-widest-requires Inv-loop μ-loop
-add-widest-requires c κs = (c .before .before .loop .inv .0, c .before .loop-test .taken, leading-kept (within-trans (within-widen HAPPENS REACH-END (omega arith) (omega arith) (c .before .before .before .before .before .put-program-order .ensures .frame)) (c .before .before .loop .inv .4)) (c .before .before .loop .inv .3) (c .before .before .before .before .before .before .before .before .before .pre))
+add-widest-requires c κs =
+    let c-4 = c .before .before .before .before in
+    let c-8 = c-4 .before .before .before .before in
+    (c .before .before .loop .inv .0, c .before .loop-test .taken, leading-kept (within-trans (within-widen HAPPENS REACH-END (omega arith) (omega arith) (c-4 .before .put-program-order .ensures .frame)) (c .before .before .loop .inv .4)) (c .before .before .loop .inv .3) (c-8 .before .pre))
 
 loop-again : tie.Need-loop-again Inv-loop μ-loop
 loop-again c =
-    let inv = c .before .before .before .before .before .loop .inv in
+    let c-4 = c .before .before .before .before in
+    let inv = c-4 .before .loop .inv in
     let a = c .before .before .add-widest .ensures in
     (search needs, search needs, a .order (inv .2), a .depends (inv .3), within-trans (inv .4) (a .frame))
 
@@ -37,7 +43,10 @@ same-length : tie.Need-same-length Inv-loop μ-loop
 same-length c = c .before .loop .inv .4 .len ∙ c .before .before .before .before .put-program-order .ensures .frame .len
 
 returns : tie.Need-returns Inv-loop μ-loop
-returns c = record { happening = happening-all (c .before .before .before .before .before .before .before .before .pre .given .opened .rows) (omega (arith, c .loop-test .left, c .before .loop .inv .1)) (c .before .loop .inv .2); frame = within-trans (within-widen HAPPENS REACH-END (omega arith) (omega arith) (c .before .before .before .before .put-program-order .ensures .frame)) (c .before .loop .inv .4) }
+returns c =
+    let c-4 = c .before .before .before .before in
+    let c-8 = c-4 .before .before .before .before in
+    record { happening = happening-all (c-8 .pre .given .opened .rows) (omega (arith, c .loop-test .left, c .before .loop .inv .1)) (c .before .loop .inv .2); frame = within-trans (within-widen HAPPENS REACH-END (omega arith) (omega arith) (c-4 .put-program-order .ensures .frame)) (c .before .loop .inv .4) }
 
 pub fill-happens-spec : {M : Type 1} → statement M
 fill-happens-spec = tie.close (tie.spec Inv-loop μ-loop put-program-order-requires loop-holds add-widest-requires (λ c. search needs) (λ c. search needs) loop-again

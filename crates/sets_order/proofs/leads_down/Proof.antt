@@ -1,9 +1,9 @@
-use mathlib.Core.Path.{_≡_, refl, sym, _∙_}
+use mathlib.Core.Path.{_≡_, sym, _∙_}
 use Prim.Native.Nat.{_-_}
 use Rattle.finite.specs.Below.{least}
 use Rattle.model.specs.Limits.{ROWS}
-use Rattle.row_sets.specs.First.{next}
-use Rattle.row_sets.specs.Walk.{Walk, walk-less, walk-in, search-begin, search-turn, search-end}
+use Rattle.sets_of_rows.specs.First.{next}
+use Rattle.sets_of_rows.specs.Walk.{Walk, walk-less, walk-in, search-begin, search-turn, search-end}
 use Rattle.sets_order.specs.Down.{upwardFrom, upward-off, upward-at, upward-found, upward-end}
 use borrow.Author.Needs.{needs}
 use native.Mathlib.Omega.{arith}
@@ -26,24 +26,32 @@ but-first-requires : tie.Need-but-first-requires Inv-loop μ-loop
 but-first-requires c κs = sym (c .before .before .some .ensures) ∙ c .before .if1 .taken
 
 get-requires : tie.Need-get-requires Inv-loop μ-loop
-get-requires c κs = let a = (c .before .before .before .before .before .before .pre) in let b = c .before .first .ensures .bound in omega arith
+get-requires c κs =
+    let c-4 = c .before .before .before .before in
+    let a = (c-4 .before .before .pre) in let b = c .before .first .ensures .bound in omega arith
 
 above-requires : tie.Need-above-requires Inv-loop μ-loop
 above-requires c κs = c .before .before .first .ensures .bound
 
 returns : tie.Need-returns Inv-loop μ-loop
 returns c =
-    let m = walk-in (c .before .before .before .before .before .before .before .before .before .loop .inv .0) (c .before .before .before .before .before .before .first .ensures) in
-    upward-found _ _ _ _ (c .before .before .before .before .before .before .first .ensures .bound) (sym (upward-at _ _ _ _ _ _ _ _ m (c .before .before .before .before .get .ensures) (c .before .before .before .above .ensures) (c .before .before .less .ensures) (c .before .some2 .ensures)) ∙ c .if2 .taken)
+    let c-4 = c .before .before .before .before in
+    let c-8 = c-4 .before .before .before .before in
+    let m = walk-in (c-8 .before .loop .inv .0) (c-4 .before .before .first .ensures) in
+    upward-found _ _ _ _ (c-4 .before .before .first .ensures .bound) (sym (upward-at _ _ _ _ _ _ _ _ m (c-4 .get .ensures) (c .before .before .before .above .ensures) (c .before .before .less .ensures) (c .before .some2 .ensures)) ∙ c .if2 .taken)
 
 loop-less : tie.Need-loop-less Inv-loop μ-loop
-loop-less c = walk-less (c .before .before .before .before .before .before .first .ensures) (c .before .before .before .before .before .but-first .ensures)
+loop-less c =
+    let c-4 = c .before .before .before .before in
+    walk-less (c-4 .before .before .first .ensures) (c-4 .before .but-first .ensures)
 
 loop-again : tie.Need-loop-again Inv-loop μ-loop
 loop-again c =
-    let m = walk-in (c .before .before .before .before .before .before .before .before .before .loop .inv .0) (c .before .before .before .before .before .before .first .ensures) in
-    search-turn _ _ (λ i e. upward-off _ _ _ i e) (c .before .before .before .before .before .before .before .before .before .loop .inv) (c .before .before .before .before .before .before .first .ensures) (c .before .before .before .before .before .but-first .ensures)
-    (sym (upward-at _ _ _ _ _ _ _ _ m (c .before .before .before .before .get .ensures) (c .before .before .before .above .ensures) (c .before .before .less .ensures) (c .before .some2 .ensures)) ∙ c .if2 .left)
+    let c-4 = c .before .before .before .before in
+    let c-8 = c-4 .before .before .before .before in
+    let m = walk-in (c-8 .before .loop .inv .0) (c-4 .before .before .first .ensures) in
+    search-turn _ _ (λ i e. upward-off _ _ _ i e) (c-8 .before .loop .inv) (c-4 .before .before .first .ensures) (c-4 .before .but-first .ensures)
+    (sym (upward-at _ _ _ _ _ _ _ _ m (c-4 .get .ensures) (c .before .before .before .above .ensures) (c .before .before .less .ensures) (c .before .some2 .ensures)) ∙ c .if2 .left)
 
 returns-2 : tie.Need-returns-2 Inv-loop μ-loop
 returns-2 c = upward-end _ _ _ (search-end _ _ (λ i e. upward-off _ _ _ i e) _ (sym (c .before .some .ensures) ∙ c .if1 .left) (c .before .before .loop .inv .1))

@@ -4,8 +4,8 @@ use native.Mathlib.Omega.{arith}
 use Rattle.model.specs.Limits.{ROWS}
 use Rattle.model.specs.Table.{decode}
 use Rattle.run.specs.Layout.{tableIn}
-use Rattle.row_sets.specs.First.{next}
-use Rattle.known.specs.Ask.{few}
+use Rattle.sets_of_rows.specs.First.{next}
+use Rattle.sets_of_table.specs.Ask.{few}
 use Rattle.sets_overlap.specs.Overlap.{Nearing, near-begin, near-less, near-turn, near-end, meet-said}
 use borrow.Author.Needs.{needs}
 use Rattle.sets_overlap.proofs.near.Statement.{statement}
@@ -28,13 +28,18 @@ rows-requires c κs = let a = c .before .before .before .pre .2 .space in omega 
 
 loop-holds : tie.Need-loop-holds Inv-loop μ-loop
 unfolding decode
-loop-holds c = near-begin (c .before .before .before .before .before .pre .2) _ _ _ (c .before .rows .ensures) (c .none .ensures)
+loop-holds c =
+    let c-4 = c .before .before .before .before in
+    near-begin (c-4 .before .pre .2) _ _ _ (c .before .rows .ensures) (c .none .ensures)
 
 first-requires : tie.Need-first-requires Inv-loop μ-loop
 first-requires c κs = sym (c .before .some .ensures) ∙ c .if1 .taken
 
 get-requires : tie.Need-get-requires Inv-loop μ-loop
-get-requires c κs = let b = c .first .ensures .bound in let a = c .before .before .before .before .before .before .before .before .before .pre .2 .space in omega arith
+get-requires c κs =
+    let c-4 = c .before .before .before .before in
+    let c-8 = c-4 .before .before .before .before in
+    let b = c .first .ensures .bound in let a = c-8 .before .pre .2 .space in omega arith
 
 end-requires-2 : tie.Need-end-requires-2 Inv-loop μ-loop
 end-requires-2 c κs = let b = c .before .before .first .ensures .bound in omega arith
@@ -44,17 +49,27 @@ start-requires-2 c κs = let b = c .before .before .before .first .ensures .boun
 
 loop-less : tie.Need-loop-less Inv-loop μ-loop
 unfolding decode
-loop-less c = near-less (c .before .before .before .before .before .before .before .before .before .before .before .before .before .before .before .pre .2) _ (c .before .before .before .before .before .before .before .before .before .loop .inv) (c .before .before .before .before .before .before .first .ensures) (c .before .before .before .before .before .get .ensures) (c .before .before .before .before .less .ensures)
+loop-less c =
+    let c-4 = c .before .before .before .before in
+    let c-8 = c-4 .before .before .before .before in
+    let c-12 = c-8 .before .before .before .before in
+    near-less (c-12 .before .before .before .pre .2) _ (c-8 .before .loop .inv) (c-4 .before .before .first .ensures) (c-4 .before .get .ensures) (c-4 .less .ensures)
 
 loop-again : tie.Need-loop-again Inv-loop μ-loop
 unfolding decode
 loop-again c =
-    near-turn (c .before .before .before .before .before .before .before .before .before .before .before .before .before .before .before .pre .2) _ (c .before .before .before .before .before .before .before .before .before .loop .inv) (c .before .before .before .before .before .before .first .ensures) (c .before .before .before .before .before .get .ensures) (c .before .before .before .before .less .ensures) _ _ _
-    (meet-said _ _ _ _ _ _ (c .before .before .before .before .before .before .before .before .before .before .before .before .before .start .ensures .0) (c .before .before .before .before .before .before .before .before .before .before .before .before .end .ensures .0) (c .before .before .before .end2 .ensures .0) (c .before .before .start2 .ensures .0)) (c .before .only-if .ensures) (c .or .ensures)
+    let c-4 = c .before .before .before .before in
+    let c-8 = c-4 .before .before .before .before in
+    let c-12 = c-8 .before .before .before .before in
+    near-turn (c-12 .before .before .before .pre .2) _ (c-8 .before .loop .inv) (c-4 .before .before .first .ensures) (c-4 .before .get .ensures) (c-4 .less .ensures) _ _ _
+    (meet-said _ _ _ _ _ _ (c-12 .before .start .ensures .0) (c-12 .end .ensures .0) (c .before .before .before .end2 .ensures .0) (c .before .before .start2 .ensures .0)) (c .before .only-if .ensures) (c .or .ensures)
 
 returns : tie.Need-returns Inv-loop μ-loop
 unfolding decode
-returns c = near-end (c .before .before .before .before .before .before .before .before .pre .2) _ _ _ (c .before .before .before .before .before .before .before .before .pre .0) (c .before .before .before .before .before .before .before .before .pre .1) (sym (c .before .some .ensures) ∙ c .if1 .left) (c .before .before .loop .inv)
+returns c =
+    let c-4 = c .before .before .before .before in
+    let c-8 = c-4 .before .before .before .before in
+    near-end (c-8 .pre .2) _ _ _ (c-8 .pre .0) (c-8 .pre .1) (sym (c .before .some .ensures) ∙ c .if1 .left) (c .before .before .loop .inv)
 
 pub near-spec : {M : Type 1} → statement M
 near-spec =

@@ -1,6 +1,6 @@
 use native.Mathlib.Omega.{arith}
 use Rattle.model.specs.Table.{decode}
-use Rattle.known.specs.Ask.{few}
+use Rattle.sets_of_table.specs.Ask.{few}
 use Rattle.sets_overlap.specs.Overlap.{first-here, earlier-row}
 use borrow.Author.Needs.{needs}
 use Rattle.sets_overlap.proofs.overlap_row.Statement.{statement}
@@ -15,7 +15,9 @@ first-requires c κs = first-here (c .before .before .before .pre .2 .opened) _ 
 
 returns-2 : tie.Need-returns-2
 unfolding decode
-returns-2 c = earlier-row (c .before .before .before .before .before .before .pre .2 .opened) _ _ _ _ (c .before .before .before .before .before .before .pre .0) (c .before .before .before .before .before .before .pre .1) (c .before .before .before .get .ensures) (c .before .before .first .ensures) (c .before .if1 .left) (c .before .before .before .before .before .before .pre .3) (c .get2 .ensures)
+returns-2 c =
+    let c-4 = c .before .before .before .before in
+    earlier-row (c-4 .before .before .pre .2 .opened) _ _ _ _ (c-4 .before .before .pre .0) (c-4 .before .before .pre .1) (c .before .before .before .get .ensures) (c .before .before .first .ensures) (c .before .if1 .left) (c-4 .before .before .pre .3) (c .get2 .ensures)
 
 pub overlap-row-spec : {M : Type 1} → statement M
 overlap-row-spec =

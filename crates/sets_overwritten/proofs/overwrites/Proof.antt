@@ -16,13 +16,16 @@ moved-requires-2 : tie.Need-moved-requires-2
 moved-requires-2 c κs = (c .before .before .before .before .pre .1, c .before .before .before .before .pre .2, mask-small _ _ _ (c .mask2 .ensures), c .before .before .before .before .pre .3)
 
 shared-requires : tie.Need-shared-requires
-shared-requires c κs = (c .before .before .before .before .before .pre .2, c .before .before .before .before .before .pre .2, c .before .before .before .before .before .pre .3)
+shared-requires c κs =
+    let c-4 = c .before .before .before .before in
+    (c-4 .before .pre .2, c-4 .before .pre .2, c-4 .before .pre .3)
 
 returns : tie.Need-returns
 returns c =
-    let pre = c .before .before .before .before .before .before .pre in
+    let c-4 = c .before .before .before .before in
+    let pre = c-4 .before .before .pre in
     let few-are = pre .3 .few in
-    over-mask _ (pre .4) (omega (arith, few-are, pre .4)) (pre .6) (pre .3 .sized) _ _ _ _ _ _ _ _ (pre .0) (pre .1) (pre .2) (c .before .before .before .before .mask .ensures) (c .before .before .mask2 .ensures) (c .before .before .before .moved .ensures) (c .before .moved2 .ensures) (c .shared .ensures)
+    over-mask _ (pre .4) (omega (arith, few-are, pre .4)) (pre .6) (pre .3 .sized) _ _ _ _ _ _ _ _ (pre .0) (pre .1) (pre .2) (c-4 .mask .ensures) (c .before .before .mask2 .ensures) (c .before .before .before .moved .ensures) (c .before .moved2 .ensures) (c .shared .ensures)
 
 pub overwrites-spec : {M : Type 1} → statement M
 overwrites-spec = tie.close (tie.spec mask-requires moved-requires mask-requires-2 moved-requires-2 shared-requires returns)

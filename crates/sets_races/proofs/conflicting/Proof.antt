@@ -1,5 +1,5 @@
 use Rattle.model.specs.Table.{decode}
-use Rattle.grids.specs.Given.{given-few}
+use Rattle.sets_grids.specs.Given.{given-few}
 use Rattle.sets_races.specs.Pair.{over-rows, writer-rows, reader-rows}
 use borrow.Author.Needs.{needs}
 use native.Mathlib.Omega.{arith}
@@ -16,15 +16,23 @@ above-requires : tie.Need-above-requires
 above-requires c κs = let b = given-few (c .before .before .before .before .pre .2) in omega (arith, c .before .before .before .before .pre .0)
 
 has-requires : tie.Need-has-requires
-has-requires c κs = let b = given-few (c .before .before .before .before .before .before .pre .2) in omega (arith, c .before .before .before .before .before .before .pre .0)
+has-requires c κs =
+    let c-4 = c .before .before .before .before in
+    let b = given-few (c-4 .before .before .pre .2) in omega (arith, c-4 .before .before .pre .0)
 
 returns : tie.Need-returns
 unfolding decode
-returns c = writer-rows (c .before .before .before .before .before .before .before .before .pre .2) (c .before .before .before .before .before .before .before .before .pre .3) (c .before .before .before .before .before .before .before .before .pre .0) (c .before .before .before .before .before .before .before .before .pre .1) (c .before .before .before .before .before .rows .ensures) (c .before .has .ensures) (c .if1 .taken) (over-rows (c .before .before .before .before .before .before .before .before .pre .2) (c .before .before .before .before .before .before .before .before .pre .3) (c .before .before .before .before .before .before .before .before .pre .0) (c .before .before .before .before .before .before .before .before .pre .1) _ (c .before .before .before .before .get .ensures) (c .before .before .before .above .ensures) (c .before .before .and .ensures))
+returns c =
+    let c-4 = c .before .before .before .before in
+    let c-8 = c-4 .before .before .before .before in
+    writer-rows (c-8 .pre .2) (c-8 .pre .3) (c-8 .pre .0) (c-8 .pre .1) (c-4 .before .rows .ensures) (c .before .has .ensures) (c .if1 .taken) (over-rows (c-8 .pre .2) (c-8 .pre .3) (c-8 .pre .0) (c-8 .pre .1) _ (c-4 .get .ensures) (c .before .before .before .above .ensures) (c .before .before .and .ensures))
 
 returns-2 : tie.Need-returns-2
 unfolding decode
-returns-2 c = reader-rows (c .before .before .before .before .before .before .before .before .before .pre .2) (c .before .before .before .before .before .before .before .before .before .pre .3) (c .before .before .before .before .before .before .before .before .before .pre .0) (c .before .before .before .before .before .before .before .before .before .pre .1) (c .before .before .before .before .before .before .rows .ensures) (c .before .before .has .ensures) (c .before .if1 .left) (over-rows (c .before .before .before .before .before .before .before .before .before .pre .2) (c .before .before .before .before .before .before .before .before .before .pre .3) (c .before .before .before .before .before .before .before .before .before .pre .0) (c .before .before .before .before .before .before .before .before .before .pre .1) _ (c .before .before .before .before .before .get .ensures) (c .before .before .before .before .above .ensures) (c .before .before .before .and .ensures)) (c .and2 .ensures)
+returns-2 c =
+    let c-4 = c .before .before .before .before in
+    let c-8 = c-4 .before .before .before .before in
+    reader-rows (c-8 .before .pre .2) (c-8 .before .pre .3) (c-8 .before .pre .0) (c-8 .before .pre .1) (c-4 .before .before .rows .ensures) (c .before .before .has .ensures) (c .before .if1 .left) (over-rows (c-8 .before .pre .2) (c-8 .before .pre .3) (c-8 .before .pre .0) (c-8 .before .pre .1) _ (c-4 .before .get .ensures) (c-4 .above .ensures) (c .before .before .before .and .ensures)) (c .and2 .ensures)
 
 pub conflicting-spec : {M : Type 1} → statement M
 conflicting-spec = tie.close (tie.spec rows-requires get-requires above-requires (λ c κs. search needs) has-requires (λ c κs. search needs) returns returns-2)

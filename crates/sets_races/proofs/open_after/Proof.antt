@@ -1,5 +1,5 @@
 use Rattle.model.specs.Table.{decode}
-use Rattle.grids.specs.Given.{given-few}
+use Rattle.sets_grids.specs.Given.{given-few}
 use Rattle.sets_races.specs.Pair.{open-rows}
 use native.Mathlib.Omega.{arith}
 use borrow.Author.Needs.{needs}
@@ -15,7 +15,8 @@ get-requires c κs =
 returns : tie.Need-returns
 unfolding decode
 returns c =
-    let pre = c .before .before .before .before .before .pre in
+    let c-4 = c .before .before .before .before in
+    let pre = c-4 .before .pre in
     open-rows (pre .2) (pre .3) (pre .0) (pre .1) (c .before .before .conflicting .ensures) (c .before .get .ensures) (c .less .ensures)
 
 pub open-after-spec : {M : Type 1} → statement M

@@ -18,7 +18,9 @@ moved-requires : tie.Need-moved-requires
 moved-requires c κs = (c .before .before .before .before .pre .1, c .before .before .before .before .pre .0, subst (λ (z : ℕ). z < 65536) (sym (c .mask2 .ensures)) (mask-low _ _), c .before .before .before .before .pre .3 .fit)
 
 returns : tie.Need-returns
-returns c = unordered-mask (c .before .before .before .before .before .pre .3) _ _ _ _ _ _ (c .before .before .before .before .before .pre .0) (c .before .before .before .before .before .pre .1) (c .before .before .before .before .before .pre .2) (c .before .before .before .shared .ensures) (c .before .before .mask .ensures) (c .before .mask2 .ensures) (c .moved .ensures)
+returns c =
+    let c-4 = c .before .before .before .before in
+    unordered-mask (c-4 .before .pre .3) _ _ _ _ _ _ (c-4 .before .pre .0) (c-4 .before .pre .1) (c-4 .before .pre .2) (c .before .before .before .shared .ensures) (c .before .before .mask .ensures) (c .before .mask2 .ensures) (c .moved .ensures)
 
 pub unordered-spec : {M : Type 1} → statement M
 unordered-spec = tie.close (tie.spec shared-requires mask-requires mask-requires-2 moved-requires returns)

@@ -5,9 +5,9 @@ use lib.ListN.{length}
 use Rattle.model.specs.Limits.{ROWS}
 use Rattle.model.specs.Table.{decode}
 use Rattle.run.specs.Layout.{tableIn}
-use Rattle.row_sets.specs.First.{next}
-use Rattle.row_sets.specs.Walk.{Walk, walk-less, walk-in}
-use Rattle.known.specs.Ask.{few}
+use Rattle.sets_of_rows.specs.First.{next}
+use Rattle.sets_of_rows.specs.Walk.{Walk, walk-less, walk-in}
+use Rattle.sets_of_table.specs.Ask.{few}
 use Rattle.sets_sequences.specs.Heads.{HeadedTo, kind-rows, head-walked, head-member, head-begin, head-step, head-end, since-is, near-is}
 use borrow.Author.Needs.{needs}
 use Rattle.sets_sequences.proofs.add_head.Statement.{statement}
@@ -23,15 +23,21 @@ rank-requires : tie.Need-rank-requires Inv-loop μ-loop
 rank-requires c κs = let b = few (c .before .before .before .pre .3 .opened) in omega (arith, c .before .before .before .pre .0)
 
 get-requires : tie.Need-get-requires Inv-loop μ-loop
-get-requires c κs = let b = few (c .before .before .before .before .before .pre .3 .opened) in let r = c .before .before .before .before .before .pre .3 .room in omega (arith, c .before .before .before .before .before .pre .0)
+get-requires c κs =
+    let c-4 = c .before .before .before .before in
+    let b = few (c-4 .before .pre .3 .opened) in let r = c-4 .before .pre .3 .room in omega (arith, c-4 .before .pre .0)
 
 get-requires-2 : tie.Need-get-requires-2 Inv-loop μ-loop
-get-requires-2 c κs = let a = c .before .before .before .before .before .before .pre .3 .opened .space in omega arith
+get-requires-2 c κs =
+    let c-4 = c .before .before .before .before in
+    let a = c-4 .before .before .pre .3 .opened .space in omega arith
 
 loop-holds : tie.Need-loop-holds Inv-loop μ-loop
 unfolding decode
 loop-holds c =
-    let pre = c .before .before .before .before .before .before .before .before .pre in
+    let c-4 = c .before .before .before .before in
+    let c-8 = c-4 .before .before .before .before in
+    let pre = c-8 .pre in
     let o = pre .3 .opened in
     let says = kind-rows o (pre .4) _ 4 _ _ _ (pre .0) (omega arith) (c .before .before .get .ensures) (c .before .get2 .ensures) (c .and .ensures) in
     (refl, head-begin _ _ _ (o .rows) (few o) _ (head-walked _ _ _ _ (o .rows) says) _)
@@ -47,27 +53,37 @@ rank-requires-2 c κs = c .before .first .ensures .bound
 
 join-if-requires : tie.Need-join-if-requires Inv-loop μ-loop
 join-if-requires c κs =
-    let pre = c .before .before .before .before .before .before .before .before .before .before .before .before .before .before .before .before .pre in
+    let c-4 = c .before .before .before .before in
+    let c-8 = c-4 .before .before .before .before in
+    let c-12 = c-8 .before .before .before .before in
+    let c-16 = c-12 .before .before .before .before in
+    let pre = c-16 .pre in
     let b = few (pre .3 .opened) in
-    let e = c .before .before .before .before .before .before .before .loop .inv .0 in
+    let e = c-4 .before .before .before .loop .inv .0 in
     let r = pre .3 .room in
-    (c .before .before .before .before .first .ensures .bound, omega (arith, pre .0), omega arith)
+    (c-4 .first .ensures .bound, omega (arith, pre .0), omega arith)
 
 loop-less : tie.Need-loop-less Inv-loop μ-loop
-loop-less c = walk-less (c .before .before .before .before .before .before .before .first .ensures) (c .before .before .before .before .before .before .but-first .ensures)
+loop-less c =
+    let c-4 = c .before .before .before .before in
+    walk-less (c-4 .before .before .before .first .ensures) (c-4 .before .before .but-first .ensures)
 
 loop-again : tie.Need-loop-again Inv-loop μ-loop
 unfolding decode
 loop-again c =
-    let pre = c .before .before .before .before .before .before .before .before .before .before .before .before .before .before .before .before .before .before .before .pre in
+    let c-4 = c .before .before .before .before in
+    let c-8 = c-4 .before .before .before .before in
+    let c-12 = c-8 .before .before .before .before in
+    let c-16 = c-12 .before .before .before .before in
+    let pre = c-16 .before .before .before .pre in
     let o = pre .3 .opened in
-    let says = kind-rows o (pre .4) _ 4 _ _ _ (pre .0) (omega arith) (c .before .before .before .before .before .before .before .before .before .before .before .before .before .get .ensures) (c .before .before .before .before .before .before .before .before .before .before .before .before .get2 .ensures) (c .before .before .before .before .before .before .before .before .before .before .before .and .ensures) in
-    let inv = c .before .before .before .before .before .before .before .before .before .before .loop .inv in
-    let m = head-member _ _ _ _ (o .rows) says _ (walk-in (inv .1 .0) (c .before .before .before .before .before .before .before .first .ensures)) in
-    let k = since-is _ _ _ (c .before .before .before .before .before .before .before .before .before .before .before .before .before .before .before .before .counted .ensures) (c .before .before .before .before .before .rank2 .ensures) (c .before .before .before .before .before .before .before .before .before .before .before .before .before .before .before .rank .ensures) (c .before .before .before .before .since .ensures .0) in
+    let says = kind-rows o (pre .4) _ 4 _ _ _ (pre .0) (omega arith) (c-12 .before .get .ensures) (c-12 .get2 .ensures) (c-8 .before .before .before .and .ensures) in
+    let inv = c-8 .before .before .loop .inv in
+    let m = head-member _ _ _ _ (o .rows) says _ (walk-in (inv .1 .0) (c-4 .before .before .before .first .ensures)) in
+    let k = since-is _ _ _ (c-16 .counted .ensures) (c-4 .before .rank2 .ensures) (c-12 .before .before .before .rank .ensures) (c-4 .since .ensures .0) in
     let join = c .before .before .join-if .ensures in (
       join .len ∙ inv .0,
-      head-step _ _ _ (o .rows) (few o) _ (head-walked _ _ _ _ (o .rows) says) _ (inv .1) (c .before .before .before .before .before .before .before .first .ensures) (c .before .before .before .before .before .before .but-first .ensures) (m .0)
+      head-step _ _ _ (o .rows) (few o) _ (head-walked _ _ _ _ (o .rows) says) _ (inv .1) (c-4 .before .before .before .first .ensures) (c-4 .before .before .but-first .ensures) (m .0)
           (near-is _ _ _ _ (pre .2) (m .1) (pre .1) k) join,
     )
 
@@ -77,9 +93,11 @@ same-length c = c .before .before .loop .inv .0
 returns : tie.Need-returns Inv-loop μ-loop
 unfolding decode
 returns c =
-    let pre = c .before .before .before .before .before .before .before .before .before .before .before .pre in
+    let c-4 = c .before .before .before .before in
+    let c-8 = c-4 .before .before .before .before in
+    let pre = c-8 .before .before .before .pre in
     let o = pre .3 .opened in
-    let says = kind-rows o (pre .4) _ 4 _ _ _ (pre .0) (omega arith) (c .before .before .before .before .before .get .ensures) (c .before .before .before .before .get2 .ensures) (c .before .before .before .and .ensures) in
+    let says = kind-rows o (pre .4) _ 4 _ _ _ (pre .0) (omega arith) (c-4 .before .get .ensures) (c-4 .get2 .ensures) (c .before .before .before .and .ensures) in
     head-end _ _ _ (o .rows) (few o) _ (head-walked _ _ _ _ (o .rows) says) _ (sym (c .before .some .ensures) ∙ c .if1 .left) (c .before .before .loop .inv .1 .1)
 
 pub add-head-spec : {M : Type 1} → statement M

@@ -4,9 +4,9 @@ use native.Mathlib.Omega.{arith}
 use Rattle.model.specs.Limits.{ROWS}
 use Rattle.model.specs.Table.{decode}
 use Rattle.run.specs.Layout.{tableIn}
-use Rattle.row_sets.specs.First.{next}
-use Rattle.row_sets.specs.Walk.{Walk, walk-less, walk-in}
-use Rattle.known.specs.Ask.{few}
+use Rattle.sets_of_rows.specs.First.{next}
+use Rattle.sets_of_rows.specs.Walk.{Walk, walk-less, walk-in}
+use Rattle.sets_of_table.specs.Ask.{few}
 use Rattle.sets_sequences.specs.Heads.{EndsTo, kind-rows, ends-walked, ends-member, end-begin, end-turn, end-done, since-is}
 use borrow.Author.Needs.{needs}
 use Rattle.sets_sequences.proofs.end_of.Statement.{statement}
@@ -25,13 +25,16 @@ get-requires : tie.Need-get-requires Inv-loop μ-loop
 get-requires c κs = let b = few (c .before .before .before .before .pre .1 .opened) in let r = c .before .before .before .before .pre .1 .room in omega (arith, c .before .before .before .before .pre .0)
 
 get-requires-2 : tie.Need-get-requires-2 Inv-loop μ-loop
-get-requires-2 c κs = let a = c .before .before .before .before .before .pre .1 .opened .space in omega arith
+get-requires-2 c κs =
+    let c-4 = c .before .before .before .before in
+    let a = c-4 .before .pre .1 .opened .space in omega arith
 
 loop-holds : tie.Need-loop-holds Inv-loop μ-loop
 unfolding decode
 loop-holds c =
-    let o = c .before .before .before .before .before .before .before .pre .1 .opened in
-    end-begin _ _ _ (ends-walked _ _ _ _ (o .rows) (kind-rows o (c .before .before .before .before .before .before .before .pre .2) _ 3 _ _ _ (c .before .before .before .before .before .before .before .pre .0) (omega arith) (c .before .before .get .ensures) (c .before .get2 .ensures) (c .and .ensures)))
+    let c-4 = c .before .before .before .before in
+    let o = c-4 .before .before .before .pre .1 .opened in
+    end-begin _ _ _ (ends-walked _ _ _ _ (o .rows) (kind-rows o (c-4 .before .before .before .pre .2) _ 3 _ _ _ (c-4 .before .before .before .pre .0) (omega arith) (c .before .before .get .ensures) (c .before .get2 .ensures) (c .and .ensures)))
 
 first-requires : tie.Need-first-requires Inv-loop μ-loop
 first-requires c κs = sym (c .before .some .ensures) ∙ c .if1 .taken
@@ -48,19 +51,24 @@ loop-less c = walk-less (c .before .before .before .before .first .ensures) (c .
 loop-again : tie.Need-loop-again Inv-loop μ-loop
 unfolding decode
 loop-again c =
-    let pre = c .before .before .before .before .before .before .before .before .before .before .before .before .before .before .before .pre in
+    let c-4 = c .before .before .before .before in
+    let c-8 = c-4 .before .before .before .before in
+    let c-12 = c-8 .before .before .before .before in
+    let pre = c-12 .before .before .before .pre in
     let o = pre .1 .opened in
-    let says = kind-rows o (pre .2) _ 3 _ _ _ (pre .0) (omega arith) (c .before .before .before .before .before .before .before .before .before .before .get .ensures) (c .before .before .before .before .before .before .before .before .before .get2 .ensures) (c .before .before .before .before .before .before .before .before .and .ensures) in
-    let m = ends-member _ _ _ _ (o .rows) says _ (walk-in (c .before .before .before .before .before .before .before .loop .inv .0) (c .before .before .before .before .first .ensures)) in
-    end-turn _ _ _ (ends-walked _ _ _ _ (o .rows) says) _ _ (c .before .before .before .before .before .before .before .loop .inv) (c .before .before .before .before .first .ensures) (c .before .before .before .but-first .ensures) (m .0) (m .1)
-    (since-is _ _ _ (c .before .before .before .before .before .before .before .before .before .before .before .before .counted .ensures) (c .before .before .rank2 .ensures) (c .before .before .before .before .before .before .before .before .before .before .before .rank .ensures) (c .before .since .ensures .0)) (c .before .since .ensures .1) (c .lower .ensures .0) (c .lower .ensures .1)
+    let says = kind-rows o (pre .2) _ 3 _ _ _ (pre .0) (omega arith) (c-8 .before .before .get .ensures) (c-8 .before .get2 .ensures) (c-8 .and .ensures) in
+    let m = ends-member _ _ _ _ (o .rows) says _ (walk-in (c-4 .before .before .before .loop .inv .0) (c-4 .first .ensures)) in
+    end-turn _ _ _ (ends-walked _ _ _ _ (o .rows) says) _ _ (c-4 .before .before .before .loop .inv) (c-4 .first .ensures) (c .before .before .before .but-first .ensures) (m .0) (m .1)
+    (since-is _ _ _ (c-12 .counted .ensures) (c .before .before .rank2 .ensures) (c-8 .before .before .before .rank .ensures) (c .before .since .ensures .0)) (c .before .since .ensures .1) (c .lower .ensures .0) (c .lower .ensures .1)
 
 returns : tie.Need-returns Inv-loop μ-loop
 unfolding decode
 returns c =
-    let pre = c .before .before .before .before .before .before .before .before .before .before .pre in
+    let c-4 = c .before .before .before .before in
+    let c-8 = c-4 .before .before .before .before in
+    let pre = c-8 .before .before .pre in
     let o = pre .1 .opened in
-    end-done _ _ _ (ends-walked _ _ _ _ (o .rows) (kind-rows o (pre .2) _ 3 _ _ _ (pre .0) (omega arith) (c .before .before .before .before .before .get .ensures) (c .before .before .before .before .get2 .ensures) (c .before .before .before .and .ensures))) _ (o .fit .few) (sym (c .before .some .ensures) ∙ c .if1 .left) (c .before .before .loop .inv .1)
+    end-done _ _ _ (ends-walked _ _ _ _ (o .rows) (kind-rows o (pre .2) _ 3 _ _ _ (pre .0) (omega arith) (c-4 .before .get .ensures) (c-4 .get2 .ensures) (c .before .before .before .and .ensures))) _ (o .fit .few) (sym (c .before .some .ensures) ∙ c .if1 .left) (c .before .before .loop .inv .1)
 
 pub end-of-spec : {M : Type 1} → statement M
 end-of-spec =

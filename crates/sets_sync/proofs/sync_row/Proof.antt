@@ -1,6 +1,6 @@
 use native.Mathlib.Omega.{arith}
 use Rattle.model.specs.Table.{decode}
-use Rattle.known.specs.Ask.{few}
+use Rattle.sets_of_table.specs.Ask.{few}
 use Rattle.sets_sync.specs.Sync.{sync-rows}
 use borrow.Author.Needs.{needs}
 use Rattle.sets_sync.proofs.sync_row.Statement.{statement}
@@ -13,19 +13,28 @@ get-requires : tie.Need-get-requires
 get-requires c κs = let b = few (c .before .before .before .pre .2 .opened) in let r = c .before .before .before .pre .2 .room in omega (arith, c .before .before .before .pre .0)
 
 rows-requires : tie.Need-rows-requires
-rows-requires c κs = let a = c .before .before .before .before .before .pre .2 .opened .space in omega arith
+rows-requires c κs =
+    let c-4 = c .before .before .before .before in
+    let a = c-4 .before .pre .2 .opened .space in omega arith
 
 together-requires : tie.Need-together-requires
-together-requires c κs = (c .before .before .before .before .before .before .before .pre .0, c .before .before .before .before .before .before .before .pre .2 .opened)
+together-requires c κs =
+    let c-4 = c .before .before .before .before in
+    (c-4 .before .before .before .pre .0, c-4 .before .before .before .pre .2 .opened)
 
 drop-requires : tie.Need-drop-requires
-drop-requires c κs = let b = few (c .before .before .before .before .before .before .before .before .before .pre .2 .opened) in omega (arith, c .before .before .before .before .before .before .before .before .before .pre .0)
+drop-requires c κs =
+    let c-4 = c .before .before .before .before in
+    let c-8 = c-4 .before .before .before .before in
+    let b = few (c-8 .before .pre .2 .opened) in omega (arith, c-8 .before .pre .0)
 
 returns : tie.Need-returns
 unfolding decode
 returns c =
-    let pre = c .before .before .before .before .before .before .before .before .before .before .pre in
-    sync-rows (pre .2 .opened) (pre .4) _ _ _ _ _ _ _ _ _ (pre .0) (pre .1) (c .before .before .before .before .before .before .before .carried .ensures) (c .before .before .before .before .before .before .get .ensures) (c .before .before .before .before .before .or .ensures) (c .before .before .before .before .rows .ensures) (c .before .before .before .and .ensures) (c .before .before .together .ensures) (c .before .and2 .ensures) (c .drop .ensures)
+    let c-4 = c .before .before .before .before in
+    let c-8 = c-4 .before .before .before .before in
+    let pre = c-8 .before .before .pre in
+    sync-rows (pre .2 .opened) (pre .4) _ _ _ _ _ _ _ _ _ (pre .0) (pre .1) (c-4 .before .before .before .carried .ensures) (c-4 .before .before .get .ensures) (c-4 .before .or .ensures) (c-4 .rows .ensures) (c .before .before .before .and .ensures) (c .before .before .together .ensures) (c .before .and2 .ensures) (c .drop .ensures)
 
 pub sync-row-spec : {M : Type 1} → statement M
 sync-row-spec =

@@ -5,9 +5,9 @@ use Prim.Native.Nat.{ℕ}
 use native.Mathlib.Omega.{arith}
 use types.Run.{OneOf}
 use denote.Enum.Declared.{tagOf}
-use Rattle.stepping.specs.declared.Stepped.{Stepped}
-use Rattle.stepping.specs.declared.Stepped.the-variants as step
-use Rattle.stepping.proofs.Stepped.{the-type}
+use Rattle.door_step.specs.declared.Stepped.{Stepped}
+use Rattle.door_step.specs.declared.Stepped.the-variants as step
+use Rattle.door_step.proofs.Stepped.{the-type}
 use Rattle.stramashly.specs.Packed.{stepPut}
 use Rattle.stramashly.proofs.Laws.{row-put}
 use borrow.Author.Needs.{needs}
@@ -30,8 +30,9 @@ returns c = kept _ _ (c .match .keys2)
 
 returns-2 : tie.Need-returns-2
 returns-2 c =
-    row-put _ _ _ _ _ _ _ (c .before .before .before .before .before .before .before .step .given .1)
-    (c .before .before .before .before .row-bytes .ensures) (c .before .before .put .ensures)
+    let c-4 = c .before .before .before .before in
+    row-put _ _ _ _ _ _ _ (c-4 .before .before .before .step .given .1)
+    (c-4 .row-bytes .ensures) (c .before .before .put .ensures)
 
 pub put-row-spec : {M : Type 1} → statement M
 put-row-spec =

@@ -6,7 +6,8 @@ use Rattle.stramashly.proofs.stramashly_check.Tie as tie
 
 returns : tie.Need-returns
 returns c =
-    let checked = c .before .before .before .before .before .check .ensures in
+    let c-4 = c .before .before .before .before in
+    let checked = c-4 .before .check .ensures in
     (c .pack-check .ensures ∙ ap packCheck (checked .0), checked .1, checked .2)
 
 pub stramashly-check-spec : {M : Type 1} → statement M

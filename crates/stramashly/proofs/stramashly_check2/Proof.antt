@@ -6,7 +6,8 @@ use Rattle.stramashly.proofs.stramashly_check2.Tie as tie
 
 returns : tie.Need-returns
 returns c =
-    let told = c .before .before .before .before .before .check-both .ensures in
+    let c-4 = c .before .before .before .before in
+    let told = c-4 .before .check-both .ensures in
     (c .pack-check .ensures ∙ ap packCheck (told .0), told .1, told .2)
 
 pub stramashly-check2-spec : {M : Type 1} → statement M

@@ -6,7 +6,8 @@ use Rattle.stramashly.proofs.stramashly_check_by_flags.Tie as tie
 
 returns : tie.Need-returns
 returns c =
-    let checked = c .before .before .before .before .before .check-by-flags .ensures in
+    let c-4 = c .before .before .before .before in
+    let checked = c-4 .before .check-by-flags .ensures in
     (c .pack-check .ensures ∙ ap packCheck (checked .0), checked .1, checked .2)
 
 pub stramashly-check-by-flags-spec : {M : Type 1} → statement M

@@ -6,7 +6,8 @@ use Rattle.stramashly.proofs.stramashly_derive.Tie as tie
 
 returns : tie.Need-returns
 returns c =
-    let derived = c .before .before .before .before .before .derive .ensures in
+    let c-4 = c .before .before .before .before in
+    let derived = c-4 .before .derive .ensures in
     (c .pack-derive .ensures ∙ ap packDerive (derived .0), derived .1, derived .2)
 
 pub stramashly-derive-spec : {M : Type 1} → statement M

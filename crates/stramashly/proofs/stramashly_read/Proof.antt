@@ -6,7 +6,8 @@ use Rattle.stramashly.proofs.stramashly_read.Tie as tie
 
 returns : tie.Need-returns
 returns c =
-    let w = c .before .before .before .before .before .before .before .read-parts .ensures in
+    let c-4 = c .before .before .before .before in
+    let w = c-4 .before .before .before .read-parts .ensures in
     (c .pack-read .ensures ∙ ap packRead (w .0), w .1, w .2, w .3)
 
 pub stramashly-read-spec : {M : Type 1} → statement M

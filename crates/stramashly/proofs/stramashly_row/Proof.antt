@@ -8,7 +8,8 @@ returns c = row-short _ _ _ _ (c .before .if1 .taken) (c .pack .ensures)
 
 returns-2 : tie.Need-returns-2
 returns-2 c =
-    let stepped = c .before .before .before .before .before in
+    let c-4 = c .before .before .before .before in
+    let stepped = c-4 .before in
     row-stepped _ _ _ (stepped .before .if1 .left) _ (stepped .step-from .ensures) _ _ (c .pack-step .ensures)
     (c .before .before .before .put-row .ensures)
 

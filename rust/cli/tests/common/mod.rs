@@ -58,6 +58,25 @@ pub fn stramashly_in(folder: &Path, words: &[&str], input: &[u8]) -> Answer {
     }
 }
 
+/// A run in a folder without input whose output may be any bytes: output, messages, status.
+pub fn bytes_in(folder: &Path, words: &[&str]) -> (Vec<u8>, String, Option<i32>) {
+    let mut program = program_in(folder, words);
+    let output = program.stdin(Stdio::null()).output().unwrap();
+    let messages = String::from_utf8(output.stderr).unwrap();
+    (output.stdout, messages, output.status.code())
+}
+
+/// Lines of a batch, which are answered by these.
+pub fn assert_batch(input: &str, expected: &str) {
+    let answer = stramashly(&["batch"], input.as_bytes());
+    let lines = answer.output.lines().zip(expected.lines());
+    for ((ours, theirs), line) in lines.zip(input.lines()) {
+        assert_eq!(ours, theirs, "{line}");
+    }
+    assert_eq!(answer.output, expected);
+    assert_eq!(answer.status, Some(0));
+}
+
 /// A run in the folder for temporary files.
 pub fn stramashly(words: &[&str], input: &[u8]) -> Answer {
     stramashly_in(&scratch(), words, input)

@@ -43,7 +43,7 @@ fn try_all(count: u64, every: usize, listed: bool) -> Result<bool, String> {
     let mut readers = Readers::new();
     let asked = readers.definitions(&fixed())?;
     let program = &mut readers.pages.program;
-    let all = mutants(program, &asked).map_err(|stop| stop.to_string())?;
+    let all = mutants(program, &asked).map_err(|stop| *stop.0)?;
     println!("{} definitions, {} mutants", asked.len(), all.len());
     let equal = equal();
     let tried = all

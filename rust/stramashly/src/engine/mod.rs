@@ -27,7 +27,7 @@ type Judges = unsafe extern "C" fn(
     numbers_len: usize,
 ) -> u64;
 
-/// The same by the obvious engine, of one piece.
+/// The same by the flags engine, of one piece.
 type JudgesByFlags = unsafe extern "C" fn(
     table: *const u8,
     table_len: usize,
@@ -200,13 +200,13 @@ fn ask_by_flags(
     })
 }
 
-/// Checks a table by the obvious engine, which has one flag for each two moments.
+/// Checks a table by the flags engine, which has one flag for each two moments.
 pub fn check_by_flags(chains: bool, table: &[u8], work: &mut [u64], cycle: &mut [u16]) -> Packed {
     let function = linked::stramashly_check_by_flags;
     ask_by_flags(function, chains, table, work, cycle)
 }
 
-/// Fills a table by the obvious engine.
+/// Fills a table by the flags engine.
 pub fn fill_by_flags(chains: bool, table: &[u8], work: &mut [u64], sources: &mut [u16]) -> Packed {
     let function = linked::stramashly_fill_by_flags;
     ask_by_flags(function, chains, table, work, sources)

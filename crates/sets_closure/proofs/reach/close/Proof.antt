@@ -1,10 +1,10 @@
 use mathlib.Core.Path.{sym, _∙_}
 use Prim.Native.Nat.{_-_}
 use Rattle.model.specs.Limits.{ROWS}
-use Rattle.row_sets.specs.First.{next}
+use Rattle.sets_of_rows.specs.First.{next}
 use Rattle.bits.specs.Within.{Within, within-refl, within-trans}
-use Rattle.grids.specs.Regions.{REACH-AT, REACH-END}
-use Rattle.row_sets.specs.Walk.{Walk, walk-less}
+use Rattle.sets_grids.specs.Regions.{REACH-AT, REACH-END}
+use Rattle.sets_of_rows.specs.Walk.{Walk, walk-less}
 use Rattle.sets_closure.specs.Reaching.{Closing, close-begin, close-turn, close-end}
 use borrow.Author.Needs.{needs}
 use native.Mathlib.Omega.{arith}
@@ -27,13 +27,20 @@ but-first-requires : tie.Need-but-first-requires Inv-loop μ-loop
 but-first-requires c κs = sym (c .before .before .some .ensures) ∙ c .before .if1 .taken
 
 close-at-requires : tie.Need-close-at-requires Inv-loop μ-loop
-close-at-requires c κs = let d = c .before .before .before .before .before .loop .inv .0 .len in (c .before .before .first .ensures .bound, omega (arith, c .before .before .before .before .before .before .before .pre))
+close-at-requires c κs =
+    let c-4 = c .before .before .before .before in
+    let d = c-4 .before .loop .inv .0 .len in (c .before .before .first .ensures .bound, omega (arith, c-4 .before .before .before .pre))
 
 loop-less : tie.Need-loop-less Inv-loop μ-loop
-loop-less c = walk-less (c .before .before .before .before .before .first .ensures) (c .before .before .before .before .but-first .ensures)
+loop-less c =
+    let c-4 = c .before .before .before .before in
+    walk-less (c-4 .before .first .ensures) (c-4 .but-first .ensures)
 
 loop-again : tie.Need-loop-again Inv-loop μ-loop
-loop-again c = (within-trans (c .before .before .before .before .before .before .before .before .loop .inv .0) (c .before .before .close-at .ensures .frame), close-turn (c .before .before .before .before .before .before .before .before .loop .inv .1) (c .before .before .before .before .before .first .ensures) (c .before .before .before .before .but-first .ensures) (c .before .before .close-at .ensures))
+loop-again c =
+    let c-4 = c .before .before .before .before in
+    let c-8 = c-4 .before .before .before .before in
+    (within-trans (c-8 .loop .inv .0) (c .before .before .close-at .ensures .frame), close-turn (c-8 .loop .inv .1) (c-4 .before .first .ensures) (c-4 .but-first .ensures) (c .before .before .close-at .ensures))
 
 same-length : tie.Need-same-length Inv-loop μ-loop
 same-length c = c .before .before .loop .inv .0 .len

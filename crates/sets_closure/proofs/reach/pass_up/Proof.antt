@@ -1,6 +1,6 @@
 use mathlib.Core.Path.{_≡_}
 use Prim.Native.Nat.{_+_, _-_, _≤_}
-use Rattle.grids.specs.Given.{given-kept}
+use Rattle.sets_grids.specs.Given.{given-kept}
 use Rattle.run.specs.Layout.{tableIn}
 use Rattle.sets_closure.specs.Reaching.{Passing, up-begin, up-turn, up-end}
 use borrow.Author.Needs.{needs}
@@ -18,13 +18,16 @@ loop-holds : tie.Need-loop-holds Inv-loop μ-loop
 loop-holds c = (search needs, up-begin _ _ _ _)
 
 pass-node-requires : tie.Need-pass-node-requires Inv-loop μ-loop
-pass-node-requires c κs = let a = c .before .loop-test .taken in (omega (arith, c .before .before .loop .inv .0), given-kept (c .before .before .loop .inv .1 .frame) (c .before .before .before .before .before .pre))
+pass-node-requires c κs =
+    let c-4 = c .before .before .before .before in
+    let a = c .before .loop-test .taken in (omega (arith, c .before .before .loop .inv .0), given-kept (c .before .before .loop .inv .1 .frame) (c-4 .before .pre))
 
 loop-again : tie.Need-loop-again Inv-loop μ-loop
 loop-again c =
-    let a = c .before .before .before .before .loop-test .taken in
-    let e : c .before .before .before .before .before .loop .h ≡ c .before .before .before .before .before .loop .h - 1 + 1 = omega arith in
-    (omega (arith, c .before .before .before .before .before .loop .inv .0), up-turn _ _ e (c .before .before .before .before .before .loop .inv .1) (c .before .before .pass-node .ensures))
+    let c-4 = c .before .before .before .before in
+    let a = c-4 .loop-test .taken in
+    let e : c-4 .before .loop .h ≡ c-4 .before .loop .h - 1 + 1 = omega arith in
+    (omega (arith, c-4 .before .loop .inv .0), up-turn _ _ e (c-4 .before .loop .inv .1) (c .before .before .pass-node .ensures))
 
 same-length : tie.Need-same-length Inv-loop μ-loop
 same-length c = c .before .loop .inv .1 .frame .len

@@ -1,9 +1,9 @@
-use mathlib.Core.Path.{_≡_, sym, _∙_}
+use mathlib.Core.Path.{sym, _∙_}
 use Prim.Native.Nat.{_-_}
 use Rattle.model.specs.Limits.{ROWS}
 use Rattle.run.specs.Layout.{tableIn}
-use Rattle.row_sets.specs.First.{next}
-use Rattle.row_sets.specs.Walk.{Walk, walk-less, walk-in}
+use Rattle.sets_of_rows.specs.First.{next}
+use Rattle.sets_of_rows.specs.Walk.{Walk, walk-less, walk-in}
 use Rattle.sets_location.specs.Elements.{BitsTo, byteOf, bits-begin, bits-turn, bits-end, byte-off, byte-mask}
 use borrow.Author.Needs.{needs}
 use Rattle.sets_location.proofs.part.bytes_of.Statement.{statement}
@@ -31,7 +31,9 @@ loop-less : tie.Need-loop-less Inv-loop μ-loop
 loop-less c = walk-less (c .before .before .first .ensures) (c .but-first .ensures)
 
 loop-again : tie.Need-loop-again Inv-loop μ-loop
-loop-again c = bits-turn _ _ (byte-off _ _ _) (c .before .before .before .before .before .loop .inv) (c .before .before .first .ensures) (c .but-first .ensures) (λ e. byte-mask _ _ _ _ e (c .before .shared .ensures))
+loop-again c =
+    let c-4 = c .before .before .before .before in
+    bits-turn _ _ (byte-off _ _ _) (c-4 .before .loop .inv) (c .before .before .first .ensures) (c .but-first .ensures) (λ e. byte-mask _ _ _ _ e (c .before .shared .ensures))
 
 returns : tie.Need-returns Inv-loop μ-loop
 returns c = bits-end _ _ (byte-off _ _ _) _ _ (sym (c .before .some .ensures) ∙ c .if1 .left) (c .before .before .loop .inv .1)

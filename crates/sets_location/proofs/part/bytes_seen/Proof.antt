@@ -3,12 +3,12 @@ use Prim.Native.Nat.{_-_}
 use Rattle.model.specs.Limits.{ROWS}
 use Rattle.run.specs.Layout.{tableIn}
 use Rattle.bits.specs.Bit.{bitOf}
-use Rattle.row_sets.specs.First.{next}
-use Rattle.row_sets.specs.Walk.{Walk, walk-less, walk-in}
+use Rattle.sets_of_rows.specs.First.{next}
+use Rattle.sets_of_rows.specs.Walk.{Walk, walk-less, walk-in}
 use Rattle.sets_location.specs.Bytes.{MoreTo, byteSeen, more-begin, more-turn, more-end, mask-self, seen-off, seen-wide, seen-part, seen-met, upto-sets, plain-among}
 use Rattle.sets_location.specs.Met.{wide-among}
-use Rattle.grids.specs.Filling.{member-in}
-use Rattle.known.specs.Ask.{few}
+use Rattle.sets_grids.specs.Filling.{member-in}
+use Rattle.sets_of_table.specs.Ask.{few}
 use Rattle.model.specs.Table.{decode}
 use native.Mathlib.Omega.{arith}
 use borrow.Author.Needs.{needs}
@@ -29,16 +29,26 @@ above-requires c κs = let b = few (c .before .before .before .pre .4 .opened) i
 
 wide-visible-requires : tie.Need-wide-visible-requires Inv-loop μ-loop
 unfolding decode
-wide-visible-requires c κs = let b = few (c .before .before .before .before .before .pre .4 .opened) in let r = c .before .before .before .before .before .pre .4 .opened .rows in let low = c .before .before .before .before .before .pre .0 in (omega (arith, low, b), c .before .before .before .before .before .pre .4 .opened .fit .classed _ (omega (arith, low, r)) (c .before .before .before .before .before .pre .3 .first), c .before .before .before .before .before .pre .4 .opened .space)
+wide-visible-requires c κs =
+    let c-4 = c .before .before .before .before in
+    let b = few (c-4 .before .pre .4 .opened) in let r = c-4 .before .pre .4 .opened .rows in let low = c-4 .before .pre .0 in (omega (arith, low, b), c-4 .before .pre .4 .opened .fit .classed _ (omega (arith, low, r)) (c-4 .before .pre .3 .first), c-4 .before .pre .4 .opened .space)
 
 drop-requires : tie.Need-drop-requires Inv-loop μ-loop
-drop-requires c κs = let b = few (c .before .before .before .before .before .before .before .pre .4 .opened) in let low = c .before .before .before .before .before .before .before .pre .1 in omega (arith, low, b)
+drop-requires c κs =
+    let c-4 = c .before .before .before .before in
+    let b = few (c-4 .before .before .before .pre .4 .opened) in let low = c-4 .before .before .before .pre .1 in omega (arith, low, b)
 
 plain-visible-requires : tie.Need-plain-visible-requires Inv-loop μ-loop
-plain-visible-requires c κs = let b = few (c .before .before .before .before .before .before .before .before .pre .4 .opened) in let low = c .before .before .before .before .before .before .before .before .pre .0 in (omega (arith, low, b), c .before .before .before .before .before .before .before .before .pre .4 .opened .space)
+plain-visible-requires c κs =
+    let c-4 = c .before .before .before .before in
+    let c-8 = c-4 .before .before .before .before in
+    let b = few (c-8 .pre .4 .opened) in let low = c-8 .pre .0 in (omega (arith, low, b), c-8 .pre .4 .opened .space)
 
 bytes-of-requires : tie.Need-bytes-of-requires Inv-loop μ-loop
-bytes-of-requires c κs = (c .before .before .before .before .before .before .before .before .before .before .before .pre .0, few (c .before .before .before .before .before .before .before .before .before .before .before .pre .4 .opened), wide-among (c .before .before .before .before .before .before .before .before .before .before .before .pre .4 .opened) _ (c .before .before .before .before .before .before .before .before .before .before .before .pre .0) (c .before .before .before .before .before .before .before .before .before .before .before .pre .3 .first) (c .before .before .before .before .before .before .before .before .before .before .before .pre .6) _ _ (c .and3 .ensures), c .before .before .before .before .before .before .before .before .before .before .before .pre .4 .opened .fit)
+bytes-of-requires c κs =
+    let c-4 = c .before .before .before .before in
+    let c-8 = c-4 .before .before .before .before in
+    (c-8 .before .before .before .pre .0, few (c-8 .before .before .before .pre .4 .opened), wide-among (c-8 .before .before .before .pre .4 .opened) _ (c-8 .before .before .before .pre .0) (c-8 .before .before .before .pre .3 .first) (c-8 .before .before .before .pre .6) _ _ (c .and3 .ensures), c-8 .before .before .before .pre .4 .opened .fit)
 
 loop-holds : tie.Need-loop-holds Inv-loop μ-loop
 loop-holds c = more-begin _ _ _ (seen-off _ _ _ _ _ _) _ (mask-self (c .before .bytes-of .ensures))
@@ -50,30 +60,63 @@ but-first-requires : tie.Need-but-first-requires Inv-loop μ-loop
 but-first-requires c κs = sym (c .before .before .some .ensures) ∙ c .before .if1 .taken
 
 shared-requires : tie.Need-shared-requires Inv-loop μ-loop
-shared-requires c κs = (c .before .before .before .before .before .before .before .before .before .before .before .before .before .before .before .before .before .before .pre .0, member-in _ (c .before .before .before .before .before .before .before .before .before .before .before .before .before .before .before .before .before .before .pre .6 .parts) (walk-in (c .before .before .before .before .loop .inv .0) (c .before .first .ensures)) .0, c .before .before .before .before .before .before .before .before .before .before .before .before .before .before .before .before .before .before .pre .4 .opened .fit)
+shared-requires c κs =
+    let c-4 = c .before .before .before .before in
+    let c-8 = c-4 .before .before .before .before in
+    let c-12 = c-8 .before .before .before .before in
+    let c-16 = c-12 .before .before .before .before in
+    (c-16 .before .before .pre .0, member-in _ (c-16 .before .before .pre .6 .parts) (walk-in (c-4 .loop .inv .0) (c .before .first .ensures)) .0, c-16 .before .before .pre .4 .opened .fit)
 
 get-requires : tie.Need-get-requires Inv-loop μ-loop
-get-requires c κs = let r = c .before .before .before .before .before .before .before .before .before .before .before .before .before .before .before .before .before .before .before .pre .4 .room in let l = c .before .before .first .ensures .bound in omega (arith, r, l)
+get-requires c κs =
+    let c-4 = c .before .before .before .before in
+    let c-8 = c-4 .before .before .before .before in
+    let c-12 = c-8 .before .before .before .before in
+    let c-16 = c-12 .before .before .before .before in
+    let r = c-16 .before .before .before .pre .4 .room in let l = c .before .before .first .ensures .bound in omega (arith, r, l)
 
 loop-less : tie.Need-loop-less Inv-loop μ-loop
-loop-less c = walk-less (c .before .before .before .before .before .before .first .ensures) (c .before .before .before .before .before .but-first .ensures)
+loop-less c =
+    let c-4 = c .before .before .before .before in
+    walk-less (c-4 .before .before .first .ensures) (c-4 .before .but-first .ensures)
 
 loop-again : tie.Need-loop-again Inv-loop μ-loop
-loop-again c = more-turn _ _ _ (seen-off _ _ _ _ _ _) (c .before .before .before .before .before .before .before .before .before .loop .inv) (c .before .before .before .before .before .before .first .ensures) (c .before .before .before .before .before .but-first .ensures) (seen-wide _ _ _ _ _ _ _ (c .before .before .before .get .ensures) _ _ (c .before .before .and4 .ensures) (c .before .some2 .ensures) (c .if2 .taken) (c .before .before .before .before .shared .ensures))
+loop-again c =
+    let c-4 = c .before .before .before .before in
+    let c-8 = c-4 .before .before .before .before in
+    more-turn _ _ _ (seen-off _ _ _ _ _ _) (c-8 .before .loop .inv) (c-4 .before .before .first .ensures) (c-4 .before .but-first .ensures) (seen-wide _ _ _ _ _ _ _ (c .before .before .before .get .ensures) _ _ (c .before .before .and4 .ensures) (c .before .some2 .ensures) (c .if2 .taken) (c-4 .shared .ensures))
 
 bytes-of-requires-2 : tie.Need-bytes-of-requires-2 Inv-loop μ-loop
 unfolding decode
-bytes-of-requires-2 c κs = (c .before .before .before .before .before .before .before .before .before .before .before .before .before .before .before .before .before .before .before .before .before .before .before .before .pre .0, few (c .before .before .before .before .before .before .before .before .before .before .before .before .before .before .before .before .before .before .before .before .before .before .before .before .pre .4 .opened), plain-among _ _ (upto-sets (c .before .before .before .before .before .before .before .before .before .before .before .before .before .before .before .before .before .before .before .before .before .before .before .before .pre .4 .opened) _ _ (c .before .before .before .before .before .before .before .before .before .before .before .before .before .before .before .before .before .before .before .before .before .before .before .before .pre .0) (c .before .before .before .before .before .before .before .before .before .before .before .before .before .before .before .before .before .before .before .before .before .before .before .before .pre .3 .first) _ _ _ _ _ _ _ _ (c .before .before .before .before .before .before .before .before .before .before .before .before .before .before .before .before .before .before .before .before .before .of-agent .ensures) (c .before .before .before .before .before .before .before .before .before .before .before .before .before .before .before .before .before .before .before .before .above .ensures) (c .before .before .before .before .before .before .before .before .before .before .before .before .before .before .before .before .before .before .before .less .ensures) (c .before .before .before .before .before .before .before .before .before .before .before .before .before .before .before .before .before .before .wide-visible .ensures) (c .before .before .before .before .before .before .before .before .before .before .before .before .before .before .before .before .before .and .ensures) (c .before .before .before .before .before .before .before .before .before .before .before .before .before .before .before .before .drop .ensures) (c .before .before .before .before .before .before .before .before .before .before .before .before .before .before .before .plain-visible .ensures) (c .before .before .before .before .before .before .before .before .before .before .before .before .before .before .and2 .ensures)) (c .and5 .ensures), c .before .before .before .before .before .before .before .before .before .before .before .before .before .before .before .before .before .before .before .before .before .before .before .before .pre .4 .opened .fit)
+bytes-of-requires-2 c κs =
+    let c-4 = c .before .before .before .before in
+    let c-8 = c-4 .before .before .before .before in
+    let c-12 = c-8 .before .before .before .before in
+    let c-16 = c-12 .before .before .before .before in
+    let c-20 = c-16 .before .before .before .before in
+    let c-24 = c-20 .before .before .before .before in
+    (c-24 .pre .0, few (c-24 .pre .4 .opened), plain-among _ _ (upto-sets (c-24 .pre .4 .opened) _ _ (c-24 .pre .0) (c-24 .pre .3 .first) _ _ _ _ _ _ _ _ (c-20 .before .of-agent .ensures) (c-20 .above .ensures) (c-16 .before .before .before .less .ensures) (c-16 .before .before .wide-visible .ensures) (c-16 .before .and .ensures) (c-16 .drop .ensures) (c-12 .before .before .before .plain-visible .ensures) (c-12 .before .before .and2 .ensures)) (c .and5 .ensures), c-24 .pre .4 .opened .fit)
 
 loop-less-2 : tie.Need-loop-less-2 Inv-loop μ-loop
-loop-less-2 c = walk-less (c .before .before .before .before .before .before .before .before .first .ensures) (c .before .before .before .before .before .before .before .but-first .ensures)
+loop-less-2 c =
+    let c-4 = c .before .before .before .before in
+    let c-8 = c-4 .before .before .before .before in
+    walk-less (c-8 .first .ensures) (c-4 .before .before .before .but-first .ensures)
 
 loop-again-2 : tie.Need-loop-again-2 Inv-loop μ-loop
-loop-again-2 c = more-turn _ _ _ (seen-off _ _ _ _ _ _) (c .before .before .before .before .before .before .before .before .before .before .before .loop .inv) (c .before .before .before .before .before .before .before .before .first .ensures) (c .before .before .before .before .before .before .before .but-first .ensures) (seen-part _ _ _ _ _ _ _ (c .before .before .before .before .before .get .ensures) _ _ _ (c .before .before .before .before .and4 .ensures) (c .before .before .before .some2 .ensures) (c .before .before .if2 .left) (c .before .and5 .ensures) (c .before .before .before .before .before .before .shared .ensures) (c .bytes-of2 .ensures))
+loop-again-2 c =
+    let c-4 = c .before .before .before .before in
+    let c-8 = c-4 .before .before .before .before in
+    more-turn _ _ _ (seen-off _ _ _ _ _ _) (c-8 .before .before .before .loop .inv) (c-8 .first .ensures) (c-4 .before .before .before .but-first .ensures) (seen-part _ _ _ _ _ _ _ (c-4 .before .get .ensures) _ _ _ (c-4 .and4 .ensures) (c .before .before .before .some2 .ensures) (c .before .before .if2 .left) (c .before .and5 .ensures) (c-4 .before .before .shared .ensures) (c .bytes-of2 .ensures))
 
 returns : tie.Need-returns Inv-loop μ-loop
 unfolding decode
-returns c = seen-met (c .before .before .before .before .before .before .before .before .before .before .before .before .before .before .before .before .pre .4 .opened) (c .before .before .before .before .before .before .before .before .before .before .before .before .before .before .before .before .pre .5) _ _ (c .before .before .before .before .before .before .before .before .before .before .before .before .before .before .before .before .pre .0) (c .before .before .before .before .before .before .before .before .before .before .before .before .before .before .before .before .pre .1) (c .before .before .before .before .before .before .before .before .before .before .before .before .before .before .before .before .pre .3) (c .before .before .before .before .before .before .before .before .before .before .before .before .before .before .before .before .pre .6) (c .before .before .before .before .before .before .before .before .before .before .before .before .before .before .before .before .pre .2) (upto-sets (c .before .before .before .before .before .before .before .before .before .before .before .before .before .before .before .before .pre .4 .opened) _ _ (c .before .before .before .before .before .before .before .before .before .before .before .before .before .before .before .before .pre .0) (c .before .before .before .before .before .before .before .before .before .before .before .before .before .before .before .before .pre .3 .first) _ _ _ _ _ _ _ _ (c .before .before .before .before .before .before .before .before .before .before .before .before .before .of-agent .ensures) (c .before .before .before .before .before .before .before .before .before .before .before .before .above .ensures) (c .before .before .before .before .before .before .before .before .before .before .before .less .ensures) (c .before .before .before .before .before .before .before .before .before .before .wide-visible .ensures) (c .before .before .before .before .before .before .before .before .before .and .ensures) (c .before .before .before .before .before .before .before .before .drop .ensures) (c .before .before .before .before .before .before .before .plain-visible .ensures) (c .before .before .before .before .before .before .and2 .ensures)) _ (c .before .before .before .before .before .and3 .ensures) (c .before .before .before .before .bytes-of .ensures) (more-end _ _ _ (seen-off _ _ _ _ _ _) _ _ (sym (c .before .some .ensures) ∙ c .if1 .left) (c .before .before .loop .inv .1))
+returns c =
+    let c-4 = c .before .before .before .before in
+    let c-8 = c-4 .before .before .before .before in
+    let c-12 = c-8 .before .before .before .before in
+    let c-16 = c-12 .before .before .before .before in
+    seen-met (c-16 .pre .4 .opened) (c-16 .pre .5) _ _ (c-16 .pre .0) (c-16 .pre .1) (c-16 .pre .3) (c-16 .pre .6) (c-16 .pre .2) (upto-sets (c-16 .pre .4 .opened) _ _ (c-16 .pre .0) (c-16 .pre .3 .first) _ _ _ _ _ _ _ _ (c-12 .before .of-agent .ensures) (c-12 .above .ensures) (c-8 .before .before .before .less .ensures) (c-8 .before .before .wide-visible .ensures) (c-8 .before .and .ensures) (c-8 .drop .ensures) (c-4 .before .before .before .plain-visible .ensures) (c-4 .before .before .and2 .ensures)) _ (c-4 .before .and3 .ensures) (c-4 .bytes-of .ensures) (more-end _ _ _ (seen-off _ _ _ _ _ _) _ _ (sym (c .before .some .ensures) ∙ c .if1 .left) (c .before .before .loop .inv .1))
 
 pub bytes-seen-spec : {M : Type 1} → statement M
 bytes-seen-spec =

@@ -1,6 +1,6 @@
 use native.Mathlib.Omega.{arith}
 use Rattle.model.specs.Table.{decode}
-use Rattle.known.specs.Ask.{few}
+use Rattle.sets_of_table.specs.Ask.{few}
 use Rattle.sets_mutual.specs.Later.{later-rows}
 use borrow.Author.Needs.{needs}
 use Rattle.sets_mutual.proofs.later.later_row.Statement.{statement}
@@ -17,12 +17,15 @@ rows-requires : tie.Need-rows-requires
 rows-requires c κs = let a = c .before .before .before .pre .2 .opened .space in omega arith
 
 later-than-requires : tie.Need-later-than-requires
-later-than-requires c κs = let b = few (c .before .before .before .before .before .pre .2 .opened) in omega (arith, c .before .before .before .before .before .pre .0)
+later-than-requires c κs =
+    let c-4 = c .before .before .before .before in
+    let b = few (c-4 .before .pre .2 .opened) in omega (arith, c-4 .before .pre .0)
 
 returns : tie.Need-returns
 unfolding decode
 returns c =
-    let pre = c .before .before .before .before .before .before .pre in
+    let c-4 = c .before .before .before .before in
+    let pre = c-4 .before .before .pre in
     later-rows (pre .2 .opened) (pre .3) _ _ _ _ _ (pre .0) (pre .1) (c .before .before .before .get .ensures) (c .before .before .rows .ensures) (c .before .and .ensures) (c .later-than .ensures)
 
 pub later-row-spec : {M : Type 1} → statement M

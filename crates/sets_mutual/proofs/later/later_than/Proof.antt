@@ -2,9 +2,9 @@ use mathlib.Core.Path.{sym, _∙_}
 use Prim.Native.Nat.{_-_}
 use Rattle.model.specs.Limits.{ROWS}
 use Rattle.run.specs.Layout.{tableIn}
-use Rattle.row_sets.specs.First.{next}
-use Rattle.row_sets.specs.Walk.{Walk, walk-less}
-use Rattle.row_sets.specs.Sift.{Sifted, sift-begin, sift-turn, sift-end}
+use Rattle.sets_of_rows.specs.First.{next}
+use Rattle.sets_of_rows.specs.Walk.{Walk, walk-less}
+use Rattle.sets_of_rows.specs.Sift.{Sifted, sift-begin, sift-turn, sift-end}
 use Rattle.sets_mutual.specs.Later.{laterRank}
 use borrow.Author.Needs.{needs}
 use Rattle.sets_mutual.proofs.later.later_than.Statement.{statement}
@@ -29,7 +29,9 @@ loop-less : tie.Need-loop-less Inv-loop μ-loop
 loop-less c = walk-less (c .before .before .before .first .ensures) (c .before .before .but-first .ensures)
 
 loop-again : tie.Need-loop-again Inv-loop μ-loop
-loop-again c = sift-turn _ _ _ (c .before .before .before .before .before .before .loop .inv) (c .before .before .before .first .ensures) (c .before .before .but-first .ensures) (c .before .is-after .ensures) (c .add-if .ensures)
+loop-again c =
+    let c-4 = c .before .before .before .before in
+    sift-turn _ _ _ (c-4 .before .before .loop .inv) (c .before .before .before .first .ensures) (c .before .before .but-first .ensures) (c .before .is-after .ensures) (c .add-if .ensures)
 
 returns : tie.Need-returns Inv-loop μ-loop
 returns c = sift-end _ _ _ _ (sym (c .before .some .ensures) ∙ c .if1 .left) (c .before .before .loop .inv .1)

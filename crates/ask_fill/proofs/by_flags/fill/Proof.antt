@@ -1,0 +1,22 @@
+use Rattle.ask_check.specs.Engine.{few-of, bounded-of, ready-of}
+use Rattle.ask_fill.specs.Parts.{fills}
+use borrow.Author.Needs.{needs}
+use Rattle.ask_fill.proofs.by_flags.fill.Statement.{statement}
+use Rattle.ask_fill.proofs.by_flags.fill.Tie as tie
+
+settle-requires : tie.Need-settle-requires
+settle-requires c κs =
+    let c-4 = c .before .before .before .before in
+    let c-8 = c-4 .before .before .before .before in
+    let pre = c-8 .before .pre in
+    let made = c-4 .locate .ensures in
+    (pre .2, pre .3, bounded-of (pre .0 .fit), ready-of (pre .0 .fit) (few-of (pre .0)) (pre .1) (made .1) (made .0))
+
+returns : tie.Need-returns
+returns c =
+    let c-4 = c .before .before .before .before in
+    let c-8 = c-4 .before .before .before .before in
+    fills (c-8 .before .locate .ensures .1) (c-4 .settle .ensures)
+
+pub fill-spec : {M : Type 1} → statement M
+fill-spec = tie.close (tie.spec (λ c κs. search needs) settle-requires (λ c. search needs) (λ c. search needs) returns)

@@ -1,0 +1,32 @@
+use native.Mathlib.Omega.{arith}
+use Rattle.sets_of_table.specs.Fits.{fit-of}
+use Rattle.door_pieces.specs.Entry.{few}
+use Rattle.ask_fill.specs.Whole.{rows-filled}
+use borrow.Author.Needs.{needs}
+use Rattle.ask_fill.proofs.fill_run.Statement.{statement}
+use Rattle.ask_fill.proofs.fill_run.Tie as tie
+
+read-sources-requires : tie.Need-read-sources-requires
+read-sources-requires c κs = few (c .before .before .pre .2)
+
+fill-run-by-requires : tie.Need-fill-run-by-requires
+fill-run-by-requires c κs =
+    let c-4 = c .before .before .before .before in
+    let pre = c-4 .before .before .pre in
+    let list = c .before .before .before .read-sources .ensures in
+    (fit-of (pre .2), pre .0, pre .1, omega (arith, list .room, few (pre .2)))
+
+returns : tie.Need-returns
+returns c =
+    let c-4 = c .before .before .before .before in
+    let c-8 = c-4 .before .before .before .before in
+    let c-12 = c-8 .before .before .before .before in
+    let pre = c-12 .before .before .before .pre in
+    let list = c-12 .read-sources .ensures in
+    rows-filled _ _ _ _ list (pre .0) (c-8 .fill-run-by .ensures) (c .before .before .clear .ensures)
+
+pub fill-run-spec : {M : Type 1} → statement M
+fill-run-spec =
+    tie.close
+    (tie.spec read-sources-requires (λ c. search needs) fill-run-by-requires (λ c κs. search needs) (λ c. search needs) (λ c. search needs)
+    returns)

@@ -1,0 +1,11 @@
+use Rattle.model.specs.Table.{rowOf}
+use borrow.Author.Needs.{needs}
+use Rattle.door_rows.proofs.bytes.read_rank.Statement.{statement}
+use Rattle.door_rows.proofs.bytes.read_rank.Tie as tie
+
+returns : tie.Need-returns
+unfolding rowOf
+returns c = cc
+
+pub read-rank-spec : {M : Type 1} → statement M
+read-rank-spec = tie.close (tie.spec (λ c κs. search needs) returns)

@@ -1,0 +1,34 @@
+use Rattle.door_write.specs.Answer.{numberOver}
+use Rattle.finite.specs.Below.{anyBelow, any-none, any-more, any-in}
+use Prim.Native.Nat.{_≤_, _-_}
+use native.Mathlib.Omega.{arith}
+use mathlib.Core.Bool.{false}
+use mathlib.Core.Path.{_≡_, sym, _∙_}
+use borrow.Author.Needs.{needs}
+use Rattle.door_write.proofs.any_number_over.Statement.{statement}
+use Rattle.door_write.proofs.any_number_over.Tie as tie
+
+abbrev Inv-loop : tie.InvT-loop
+Inv-loop version p agents a₀ a = (a ≤ agents) × (anyBelow a (numberOver version p) ≡ false)
+
+abbrev μ-loop : tie.MeasureT-loop
+μ-loop version p agents a₀ a = agents - a
+
+loop-holds : tie.Need-loop-holds Inv-loop μ-loop
+loop-holds c = (search needs, any-none _)
+
+returns : tie.Need-returns Inv-loop μ-loop
+returns c = sym (any-in _ _ _ (c .before .before .loop-test .taken) (sym (c .before .number-over .ensures) ∙ c .if1 .taken))
+
+loop-again : tie.Need-loop-again Inv-loop μ-loop
+loop-again c = (search needs, any-more _ _ (c .before .before .before .loop .inv .1) (sym (c .before .number-over .ensures) ∙ c .if1 .left))
+
+returns-2 : tie.Need-returns-2 Inv-loop μ-loop
+returns-2 c =
+    let done : c .before .loop .a ≡ c .before .before .args .agents = omega arith in
+    sym (rw done at (c .before .loop .inv .1))
+
+pub any-number-over-spec : {M : Type 1} → statement M
+any-number-over-spec =
+    tie.close
+    (tie.spec Inv-loop μ-loop loop-holds (λ c κs. search needs) returns (λ c. search needs) (λ c. search needs) loop-again returns-2)

@@ -1,0 +1,12 @@
+use Rattle.door_write.specs.Encode.{headerList}
+use mathlib.Core.Path.{refl}
+use borrow.Author.Needs.{needs}
+use Rattle.door_write.proofs.encode.header_bytes.Statement.{statement}
+use Rattle.door_write.proofs.encode.header_bytes.Tie as tie
+
+returns : tie.Need-returns
+unfolding headerList
+returns c = refl
+
+pub header-bytes-spec : {M : Type 1} → statement M
+header-bytes-spec = tie.close (tie.spec (λ c. search needs) (λ c. search needs) (λ c. search needs) (λ c. search needs) (λ c. search needs) returns)

@@ -1,0 +1,10 @@
+pub mod Tests
+pub mod Order
+pub mod Nodes
+pub mod Up
+pub mod Direct
+pub mod Sets
+pub mod Warshall
+pub mod Asked
+pub mod Page
+pub mod Phase

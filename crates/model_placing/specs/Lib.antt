@@ -1,0 +1,11 @@
+pub mod Shares
+pub mod Union
+pub mod Leads
+pub mod Chains
+pub mod Several
+pub mod Elements
+pub mod Whole
+pub mod Right
+pub mod Writer
+pub mod Judge
+pub mod Admitted

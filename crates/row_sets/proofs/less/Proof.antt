@@ -1,9 +1,0 @@
-use Rattle.row_sets.specs.Member.{less-is}
-use Rattle.row_sets.proofs.less.Statement.{statement}
-use Rattle.row_sets.proofs.less.Tie as tie
-
-returns : tie.Need-returns
-returns c = less-is _ _
-
-pub less-spec : {M : Type 1} → statement M
-less-spec = tie.close (tie.spec returns)

@@ -1,3 +1,0 @@
-pub mod Lowest
-pub mod Meet
-pub mod Walk

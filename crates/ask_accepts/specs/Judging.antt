@@ -9,7 +9,6 @@ use lib.Dec.{ltb, leb, eqb}
 use borrow.Author.Tests.{ltb-true, ne-eqb, not-false}
 use Rattle.finite.specs.Logic.{_and_, _or_, split, and-false-left, and-false-right, not-out, and-on, and-on-right}
 use Rattle.finite.specs.Below.{anyBelow, any-in}
-use Rattle.model.specs.declared.Mode.{Mode}
 use Rattle.model.specs.declared.Admission.{Admission}
 use Rattle.model.specs.declared.Admission.the-variants.{Admitted, Refused}
 use Rattle.model.specs.declared.Row.{Row}
@@ -18,7 +17,7 @@ use Rattle.model.specs.declared.Reason.the-variants as reason
 use Rattle.model.specs.declared.AcceptAnswer.{AcceptAnswer}
 use Rattle.model.specs.declared.AcceptAnswer.the-variants as accept
 use Rattle.model.specs.Limits.{WORK, STEPS, CASE, CLASS-SETS}
-use Rattle.model.specs.Table.{Table, rowOf, dependsOf, decode}
+use Rattle.model.specs.Table.{Mode, Table, rowOf, dependsOf, decode}
 use Rattle.model.specs.Moment.{AT, moment, momentIn, programOrdered, programOrder}
 use Rattle.model.specs.Synchronizes.{synchronizes}
 use Rattle.model.specs.Happens.{bySystem, CASES, direct}
@@ -61,10 +60,10 @@ module _ (b : List ℕ) (p : List (List ℕ)) (mode : Mode) (n s case m k : ℕ)
       ) refl
 
 -- of dependencies that were read
-pub system-on : (b : List ℕ) (p : List (List ℕ)) (mode : Mode) (n case m k : ℕ) (o : Mode) (z : Bool) → o ≡ mode → z ≡ dependsOf o (m / 3) (k / 3)
+pub system-on : (b : List ℕ) (p : List (List ℕ)) (mode : Mode) (n case m k : ℕ) (z : Bool) → z ≡ dependsOf mode (m / 3) (k / 3)
     → eqb case CASES ≡ true → (eqb (m % 3) AT and eqb (k % 3) AT and z) ≡ (eqb case CASES and bySystem (decode b p mode n) m k)
 unfolding bySystem decode
-system-on b p mode n case m k o z mode-is told last = rw (told, mode-is) (sym (and-on _ _ last))
+system-on b p mode n case m k z told last = rw told (sym (and-on _ _ last))
 
 -- ---- laws: a chain
 

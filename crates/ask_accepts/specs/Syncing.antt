@@ -8,10 +8,9 @@ use lib.Dec.{eqb}
 use borrow.Author.Tests.{leb-true, ne-eqb, not-false}
 use Rattle.finite.specs.Logic.{_and_, _or_, not-both, not-so, or-none, split, and-on}
 use Rattle.finite.specs.Below.{anyBelow}
-use Rattle.model.specs.declared.Mode.{Mode}
 use Rattle.model.specs.declared.Row.{Row}
 use Rattle.model.specs.Row.{BARRIER, CONTROL, RMW, atomic, barrier, releases, acquires}
-use Rattle.model.specs.Table.{decode, rowOf}
+use Rattle.model.specs.Table.{Mode, decode, rowOf}
 use Rattle.model.specs.Scope.{together}
 use Rattle.model.specs.Synchronizes.{takesFrom, carriesOut, carriesIn, carriesOver, passes, syncAtomics, syncFromBarrier, syncToBarrier, syncBarriers}
 use Rattle.model.specs.Synchronizes.{syncControl, synchronizes}

@@ -45,7 +45,7 @@ fn is_system(t: &Run, n: usize, case: u16, m: u16, k: u16) -> bool
     }
     ((m % 3) as u8 == moments::AT)
         & ((k % 3) as u8 == moments::AT)
-        & door_rows::dependencies::depends(run::mode(t), m / 3, k / 3)
+        & run::depends(t, m / 3, k / 3)
 }
 
 // Whether the row of moment m synchronizes-with the row of moment k, as the first case asks. That walks over all rows, so no other does.

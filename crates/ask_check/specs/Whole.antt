@@ -9,13 +9,12 @@ use lib.ListN.{length}
 use lib.Dec.{ltb}
 use Rattle.bits.specs.Bit.{zeros}
 use Rattle.bits.specs.Within.{Within, within-widen, zeros-within}
-use Rattle.model.specs.declared.Mode.{Mode}
 use Rattle.model.specs.declared.Admission.{Admission}
 use Rattle.model.specs.declared.Admission.the-variants.{Admitted, Refused}
 use Rattle.model.specs.declared.CheckAnswer.{CheckAnswer}
 use Rattle.model.specs.declared.CheckAnswer.the-variants
 use Rattle.model.specs.Limits.{WORK, CYCLE, INITIAL}
-use Rattle.model.specs.Table.{Table, sourceOf, decode}
+use Rattle.model.specs.Table.{Mode, Table, sourceOf, decode}
 use Rattle.model.specs.Race.{raceRow, racePartner, raceByte}
 use Rattle.model.specs.Edge.{cycleRow, cycleRows, cycleEdges, overReader, overWriter, overByte}
 use Rattle.model.specs.Check.{Verdict, refused, cyclic, overwritten, race, raceFree, raceOr, overwrittenOr, cyclicOr, verdict, check, checkAnswer, cycleAfter}

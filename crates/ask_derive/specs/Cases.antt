@@ -7,10 +7,9 @@ use native.Mathlib.Omega.{arith}
 use Rattle.finite.specs.Below.{least, least-is, least-cong}
 use Rattle.bits.specs.Bit.{bit}
 use Rattle.bits.specs.Stage.{holds-bit}
-use Rattle.model.specs.declared.Mode.{Mode}
 use Rattle.model.specs.declared.Row.{Row}
 use Rattle.model.specs.Limits.{CASE}
-use Rattle.model.specs.Table.{decode, rowOf}
+use Rattle.model.specs.Table.{Mode, decode, rowOf}
 use Rattle.model.specs.Moment.{rowIn, part, programOrder}
 use Rattle.model.specs.Synchronizes.{synchronizes}
 use Rattle.model.specs.Happens.{ROW-CASES, CASES}

@@ -16,13 +16,12 @@ use Rattle.finite.specs.Cycle.{length-trail, length-along, trail-cong}
 use Rattle.bits.specs.Bit.{zeros}
 use Rattle.bits.specs.Matrix.{rel}
 use Rattle.bits.specs.Within.{Within, within-refl, within-trans, within-widen, zeros-within}
-use Rattle.model.specs.declared.Mode.{Mode}
 use Rattle.model.specs.declared.Admission.{Admission}
 use Rattle.model.specs.declared.Admission.the-variants.{Admitted, Refused}
 use Rattle.model.specs.declared.DeriveAnswer.{DeriveAnswer}
 use Rattle.model.specs.declared.DeriveAnswer.the-variants
 use Rattle.model.specs.Limits.{ROWS, WORK, STEPS, CLASS-SETS}
-use Rattle.model.specs.Table.{Table, rowOf, decode}
+use Rattle.model.specs.Table.{Mode, Table, rowOf, decode}
 use Rattle.model.specs.Moment.{momentIn, moment, programOrder}
 use Rattle.model.specs.Happens.{step}
 use Rattle.model.specs.Check.{wiped}

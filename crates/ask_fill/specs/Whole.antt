@@ -8,13 +8,12 @@ use lib.Dec.{ltb}
 use Rattle.finite.specs.Logic.{_and_}
 use Rattle.finite.specs.Lists.{tabulate}
 use Rattle.bits.specs.Bit.{zeros}
-use Rattle.model.specs.declared.Mode.{Mode}
 use Rattle.model.specs.declared.Admission.{Admission}
 use Rattle.model.specs.declared.Admission.the-variants.{Admitted, Refused}
 use Rattle.model.specs.declared.FillAnswer.{FillAnswer}
 use Rattle.model.specs.declared.FillAnswer.the-variants
 use Rattle.model.specs.Limits.{WORK, SOURCES}
-use Rattle.model.specs.Table.{Table, sourceOf, decode}
+use Rattle.model.specs.Table.{Mode, Table, sourceOf, decode}
 use Rattle.model.specs.Race.{raceRow, racePartner, raceByte}
 use Rattle.model.specs.Edge.{consistent}
 use Rattle.model.specs.Check.{raceOr, wiped}

@@ -7,14 +7,13 @@ use Prim.Native.Nat.{ℕ, _≤_}
 use lib.ListN.{length}
 use Rattle.bits.specs.Bit.{zeros}
 use Rattle.bits.specs.Within.{Within}
-use Rattle.model.specs.declared.Mode.{Mode}
 use Rattle.model.specs.declared.Admission.{Admission}
 use Rattle.model.specs.declared.Admission.the-variants.{Admitted, Refused}
 use Rattle.model.specs.declared.CheckAnswer.{CheckAnswer}
 use Rattle.model.specs.declared.ReportAnswer.{ReportAnswer}
 use Rattle.model.specs.declared.ReportAnswer.the-variants as told
 use Rattle.model.specs.Limits.{WORK, CYCLE}
-use Rattle.model.specs.Table.{Table, sourceOf, decode}
+use Rattle.model.specs.Table.{Mode, Table, sourceOf, decode}
 use Rattle.model.specs.Check.{verdict, check, checkAnswer, cycleAfter, workAfter, wiped}
 use Rattle.model.specs.Report.{reportAnswer, report}
 use Rattle.work_area.specs.Regions.{MUTUAL, LOCATED-END, EDGE, LAYERS-END}

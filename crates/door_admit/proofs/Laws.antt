@@ -1,5 +1,5 @@
 -- Laws that the proofs of admission cite. Assumes nothing.
-use mathlib.Core.Path.{_≡_, refl, sym, ap, _∙_}
+use mathlib.Core.Path.{_≡_, refl, sym, ap, _∙_, fun-ext}
 use mathlib.Core.Bool.{Bool, true, false, not, cond}
 use mathlib.Core.List.{List, []}
 use mathlib.Core.Logic.{⊎-elim}
@@ -12,7 +12,6 @@ use borrow.Author.Tests.{eqb-true, leb-true, eq-eqb, ne-eqb, lt-ltb, le-ltb, le-
 use Rattle.finite.specs.Logic.{_and_, and-left, and-right, and-false-left, and-false-right, and-true, and-on, and-on-right, _or_, or-left, or-none}
 use Rattle.finite.specs.Logic.{not-in, not-out, not-both, which}
 use Rattle.finite.specs.Below.{anyBelow, any-in, any-off, any-not, any-cong, least, least-is}
-use Rattle.model.specs.declared.Mode.{Mode}
 use Rattle.model.specs.declared.Row.{Row}
 use Rattle.model.specs.declared.Admission.{Admission}
 use Rattle.model.specs.declared.Admission.the-variants.{Admitted, Refused}
@@ -20,7 +19,7 @@ use Rattle.model.specs.Limits.{DEPENDENCIES, INITIAL, BLANK}
 use Rattle.model.specs.Row.{PLAIN-WRITE, ATOMIC-READ, ATOMIC-WRITE, RMW, BARRIER, CONTROL}
 use Rattle.model.specs.Row.{plain, atomic, access, barrier, control, plainRead, reads, ranked, operation, sameInstance}
 use Rattle.model.specs.Scope.{agentKind, shares, sameLocation, mutualRows}
-use Rattle.model.specs.Table.{Table, OFF, byteOf, pairOf, rowOf, modeOf, decode, sourceOf}
+use Rattle.model.specs.Table.{Mode, Table, OFF, byteOf, pairOf, rowOf, modeOf, decode, sourceOf}
 use Rattle.model.specs.Header.{HEADER, ROW-BYTES, pairAt}
 use Rattle.model.specs.Table.{dependencyCount, tableUnder, tableOf, sourcesOf}
 use Rattle.model.specs.Header.{agentsAt, rowsAt, hasHosts, rowBytes, dependencyBytes, placesOf}
@@ -37,7 +36,7 @@ use Rattle.door_rows.specs.Starts.{starts-apart}
 use Rattle.door_rows.specs.Instances.{ofInstance}
 use Rattle.door_rows.specs.Places.{IsPlace}
 use Rattle.model.specs.Refusal.{shapeFault}
-use Rattle.door_admit.specs.Rows.{hostsFaultIn, rowFaultIn, rowsAdmission, ofReference, outsideIn}
+use Rattle.door_admit.specs.Rows.{hostsFaultIn, rowFaultIn, ranks, rowsAdmission, ofReference, outsideIn}
 
 -- ---- two bytes of row j, by the last and by the first
 
@@ -540,28 +539,34 @@ module _ (f : ℕ → ℕ) (n : ℕ) (next : Admission) (i : ℕ) (e : i ≡ lea
 
 -- ---- the rows' admission: i is the first row that is faulty by itself, j the first among the others
 
-module _ (blanks hosts : Bool) (agents : ℕ) (b : List ℕ) (p : List (List ℕ)) (mode : Mode) (n i : ℕ)
+module _ (blanks hosts : Bool) (agents : ℕ) (b : List ℕ) (p : List (List ℕ)) (counted : Bool) (n i : ℕ)
     (e : i ≡ least n (faulty (rowFaultIn hosts p agents b))) where
-  pub rows-early : (r : ℕ) → i < n → r ≡ rowFaultIn hosts p agents b i → rowsAdmission blanks hosts agents b p mode n ≡ Refused r i
+  pub rows-early : (r : ℕ) → i < n → r ≡ rowFaultIn hosts p agents b i → rowsAdmission blanks hosts agents b p counted n ≡ Refused r i
   unfolding rowsAdmission
   rows-early r h q = first-hit _ n _ i e r h q
 
-  module _ (j : ℕ) (h : n ≤ i) (f : j ≡ least n (faulty (among blanks b p mode n))) where
-    pub rows-late : (r : ℕ) → j < n → r ≡ among blanks b p mode n j → rowsAdmission blanks hosts agents b p mode n ≡ Refused r j
+  module _ (j : ℕ) (h : n ≤ i) (f : j ≡ least n (faulty (among blanks b p (ranks counted) n))) where
+    pub rows-late : (r : ℕ) → j < n → r ≡ among blanks b p (ranks counted) n j → rowsAdmission blanks hosts agents b p counted n ≡ Refused r j
     unfolding rowsAdmission
     rows-late r l q = first-miss _ n _ i e h ∙ first-hit _ n _ j f r l q
 
-    pub rows-pass : n ≤ j → rowsAdmission blanks hosts agents b p mode n ≡ Admitted agents n
+    pub rows-pass : n ≤ j → rowsAdmission blanks hosts agents b p counted n ≡ Admitted agents n
     unfolding rowsAdmission
     rows-pass l = first-miss _ n _ i e h ∙ first-miss _ n _ j f l
 
 -- ---- the header's refusal, and the rows' where it has none
+
+-- of a mode nothing but the ranks is read
+faults-ranks : (blanks : Bool) (b : List ℕ) (p : List (List ℕ)) (g : Mode) (n : ℕ)
+    → tableFault blanks (decode b p g n) (sourceOf b) ≡ tableFault blanks (decode b p (ranks (g .counted)) n) (sourceOf b)
+unfolding tableFault classTaken otherClassAt sourceBroken sourceFits writerFits rankTaken sameRankAt instanceBroken apartAt unfit begins outsideAt decode
+faults-ranks blanks b p g n = fun-ext (λ i. refl)
 
 module _ (blanks : Bool) (s : List ℕ) (h : ℕ) (e : h ≡ headerFault s) where
   pub header-refused : (h ≡ 0 → ⊥) → admission blanks s ≡ Refused h 0
   unfolding admission
   header-refused f = rw (← e, ne-eqb h 0 f) refl
 
-  pub header-passed : h ≡ 0 → admission blanks s ≡ rowsAdmission blanks (hasHosts s) (agentsAt s) (rowBytes s) (placesOf s) (modeOf false s) (rowsAt s)
+  pub header-passed : h ≡ 0 → admission blanks s ≡ rowsAdmission blanks (hasHosts s) (agentsAt s) (rowBytes s) (placesOf s) (modeOf false s .counted) (rowsAt s)
   unfolding admission tableOf tableUnder sourcesOf rowFaultAt rowsAdmission rowFaultIn
-  header-passed f = rw (← e, eq-eqb h 0 f) refl
+  header-passed f = rw (← e, eq-eqb h 0 f, faults-ranks blanks (rowBytes s) (placesOf s) (modeOf false s) (rowsAt s)) refl

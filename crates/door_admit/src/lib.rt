@@ -5,7 +5,6 @@ ghost use Rattle.door_admit.specs.Rows.{rowsAdmission};
 use door_rows::bytes;
 use door_rows::scopes;
 use model::Admission;
-use model::Mode;
 use model::Places;
 
 pub mod header; // 1 to 4, 16 to 18
@@ -19,12 +18,12 @@ pub fn admit_rows(
     rows: &[u8],
     hosts: bool,
     p: Places,
-    mode: Mode,
+    counted: bool,
     agents: u8,
     count: u8,
     blanks: bool,
 ) -> Admission
-    ensures { λ r. ⌜ r ≡ rowsAdmission blanks hosts agents (now (rows .entry)) p mode count ⌝ }
+    ensures { λ r. ⌜ r ≡ rowsAdmission blanks hosts agents (now (rows .entry)) p counted count ⌝ }
 {
     let n = count as u16;
     let i = row_faults::first_row_fault(rows, hosts, p, agents, n);
@@ -35,9 +34,9 @@ pub fn admit_rows(
             row: i,
         };
     }
-    let j = table_faults::first_table_fault(rows, p, mode, n, blanks);
+    let j = table_faults::first_table_fault(rows, p, counted, n, blanks);
     if j < n {
-        let number = table_faults::table_fault(rows, p, mode, n, blanks, j);
+        let number = table_faults::table_fault(rows, p, counted, n, blanks, j);
         return Admission::Refused {
             number: number,
             row: j,
@@ -66,6 +65,6 @@ pub fn admit(s: &[u8], blanks: bool) -> Admission
     let agents = bytes::agents_at(s);
     let count = bytes::rows_at(s);
     let p = scopes::read_places(s);
-    let mode = scopes::read_mode(s, false);
-    admit_rows(bytes::row_bytes(s), hosts, p, mode, agents, count, blanks)
+    let counted = scopes::is_counted(s);
+    admit_rows(bytes::row_bytes(s), hosts, p, counted, agents, count, blanks)
 }

@@ -15,12 +15,11 @@ ghost use Rattle.model.specs.TableFault.{otherClassAt, classTaken, writerFits, 
 ghost use Rattle.model.specs.TableFault.{sameRank, sameRankAt, rankTaken, apartAt, instanceBroken};
 ghost use Rattle.model.specs.Refusal.{faulty};
 ghost use Rattle.model.specs.TableFault.{rival, outside, begins, unfit, tableFault};
-ghost use Rattle.door_admit.specs.Rows.{ofReference, outsideIn};
+ghost use Rattle.door_admit.specs.Rows.{ranks, ofReference, outsideIn};
 use door_rows::bytes;
 use door_rows::kinds;
 use door_rows::pick;
 use door_rows::scopes;
-use model::Mode;
 use model::Places;
 use model::Row;
 use model::Source;
@@ -282,11 +281,11 @@ pub fn any_begins(rows: &[u8], i: u16, r: Row) -> bool
 
 // Counted ranks of the location of row i, which is r, fit in no run.
 // Ruled out: one that refuses ranks 0 and 32767; one that passes 0, 20000 and 45000, of which any two fit.
-pub fn is_unfit(rows: &[u8], mode: Mode, i: u16, r: Row) -> bool
+pub fn is_unfit(rows: &[u8], counted: bool, i: u16, r: Row) -> bool
     requires { ⌜ r ≡ rowOf (now rows) i ⌝ }
-    ensures { λ b. ⌜ b ≡ unfit (decode (now (rows .entry)) [] mode 0) i ⌝ }
+    ensures { λ b. ⌜ b ≡ unfit (decode (now (rows .entry)) [] (ranks counted) 0) i ⌝ }
 {
-    if !mode.counted {
+    if !counted {
         return false;
     }
     if !kinds::is_ranked(r) {
@@ -302,12 +301,12 @@ pub fn is_unfit(rows: &[u8], mode: Mode, i: u16, r: Row) -> bool
 
 // Refusals 8 to 10, 14 and 15 of row i, or 0. No earlier row has refusal 8.
 // Ruled out: of two rows of one rank the earlier is refused; a row passes that reads from itself.
-pub fn table_fault(rows: &[u8], p: Places, mode: Mode, n: u16, blanks: bool, i: u16) -> u8
+pub fn table_fault(rows: &[u8], p: Places, counted: bool, n: u16, blanks: bool, i: u16) -> u8
     requires { ⌜ anyBelow i (classTaken (decode (now rows) [] OFF 0)) ≡ false ⌝ }
-    ensures { λ r. ⌜ r ≡ tableFault blanks (decode (now (rows .entry)) p mode n) (sourceOf (now (rows .entry))) i ⌝ }
+    ensures { λ r. ⌜ r ≡ tableFault blanks (decode (now (rows .entry)) p (ranks counted) n) (sourceOf (now (rows .entry))) i ⌝ }
 {
     let r = bytes::read_row(rows, i);
-    let run = pick::byte(is_unfit(rows, mode, i, r), 15, 0);
+    let run = pick::byte(is_unfit(rows, counted, i, r), 15, 0);
     let instance = pick::byte(instance_broken(rows, p, i, r), 14, run);
     let rank = pick::byte(rank_taken(rows, p, i, r), 10, instance);
     let source = pick::byte(source_broken(rows, n, blanks, i, r), 9, rank);
@@ -316,11 +315,11 @@ pub fn table_fault(rows: &[u8], p: Places, mode: Mode, n: u16, blanks: bool, i: 
 
 // The first of n rows that has a refusal 8 to 10, 14 or 15; n where none has.
 // Ruled out: row 5's refusal 8 is given before row 2's refusal 10; row 0 is not tried.
-pub fn first_table_fault(rows: &[u8], p: Places, mode: Mode, n: u16, blanks: bool) -> u16
-    ensures { λ i. ⌜ i ≡ least n (faulty (tableFault blanks (decode (now (rows .entry)) p mode n) (sourceOf (now (rows .entry))))) ⌝ }
+pub fn first_table_fault(rows: &[u8], p: Places, counted: bool, n: u16, blanks: bool) -> u16
+    ensures { λ i. ⌜ i ≡ least n (faulty (tableFault blanks (decode (now (rows .entry)) p (ranks counted) n) (sourceOf (now (rows .entry))))) ⌝ }
 {
     for i in 0..n {
-        if table_fault(rows, p, mode, n, blanks, i) != 0 {
+        if table_fault(rows, p, counted, n, blanks, i) != 0 {
             return i;
         }
     }

@@ -291,21 +291,21 @@ module _ (chains : Bool) (f s t : List ℕ) (l : Laid (flagByte chains) f s t) w
 
 -- ---- laws: what the calls that lay a run out come to
 
-head-is : (f : List ℕ) (x v a : ℕ) → v ≡ getD f 4 0 → x ≡ flagByte (leb VERSION-COUNTED v) → a ≡ agentsAt f
+head-is : (f : List ℕ) (x a : ℕ) (v : Bool) → v ≡ modeOf false f .counted → x ≡ flagByte v → a ≡ agentsAt f
     → 0 ∷ x ∷ 0 ∷ 0 ∷ VERSION-HOSTS ∷ a ∷ 0 ∷ 0 ∷ [] ≡ headOf f
-unfolding headOf versionAt
-head-is f x v a vis xis ais = rw (xis, vis, ais) refl
+unfolding headOf modeOf
+head-is f x a v vis xis ais = rw (xis, vis, ais) refl
 
 pub blank-long : (t : List ℕ) → t ≡ replicate SIZE 0 → length t ≡ SIZE
 blank-long t e = rw e (length-replicate {A = ℕ} SIZE 0)
 
-pub head-put : (f t u : List ℕ) (x v a : ℕ) → u ≡ paste t 0 (0 ∷ x ∷ 0 ∷ 0 ∷ VERSION-HOSTS ∷ a ∷ 0 ∷ 0 ∷ []) HEADER → HEADER ≤ length t → v ≡ getD f 4 0
-    → x ≡ flagByte (leb VERSION-COUNTED v) → a ≡ agentsAt f
+pub head-put : (f t u : List ℕ) (x a : ℕ) (v : Bool) → u ≡ paste t 0 (0 ∷ x ∷ 0 ∷ 0 ∷ VERSION-HOSTS ∷ a ∷ 0 ∷ 0 ∷ []) HEADER → HEADER ≤ length t
+    → v ≡ modeOf false f .counted → x ≡ flagByte v → a ≡ agentsAt f
     → Put 0 (λ k. getD (headOf f) k 0) HEADER t u
-head-put f t u x v a e room vis xis ais = rw (← is) (put-paste t u 0 (0 ∷ x ∷ 0 ∷ 0 ∷ VERSION-HOSTS ∷ a ∷ 0 ∷ 0 ∷ []) HEADER (omega arith) (omega arith) e)
+head-put f t u x a v e room vis xis ais = rw (← is) (put-paste t u 0 (0 ∷ x ∷ 0 ∷ 0 ∷ VERSION-HOSTS ∷ a ∷ 0 ∷ 0 ∷ []) HEADER (omega arith) (omega arith) e)
   where
     is : 0 ∷ x ∷ 0 ∷ 0 ∷ VERSION-HOSTS ∷ a ∷ 0 ∷ 0 ∷ [] ≡ headOf f
-    is = head-is f x v a vis xis ais
+    is = head-is f x a v vis xis ais
 
 pub places-put : (s t u : List ℕ) (hosts : Bool) (a r k : ℕ) → Put HEADER (placeByte hosts s) k t u → hosts ≡ hasHosts s → a ≡ agentsAt s
     → r ≡ min a AGENTS → k ≡ r * 8

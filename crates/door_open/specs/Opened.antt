@@ -7,11 +7,10 @@ use native.Mathlib.Omega.{arith}
 use native.Mathlib.Decide.{decLt}
 use lib.ListN.{length, getD, List·getD-eq-default}
 use Rattle.finite.specs.Lists.{tabulate, length-tabulate, getD-tabulate}
-use Rattle.model.specs.declared.Mode.{Mode}
 use Rattle.model.specs.declared.Admission.{Admission}
 use Rattle.model.specs.declared.Admission.the-variants.{Admitted, Refused}
 use Rattle.model.specs.Limits.{WORK}
-use Rattle.model.specs.Table.{modeOf, byteOf, pairOf, rowOf, sourceOf, atomicSource, decode, tableUnder, sourcesOf}
+use Rattle.model.specs.Table.{Mode, modeOf, byteOf, pairOf, rowOf, sourceOf, atomicSource, decode, tableUnder, sourcesOf}
 use Rattle.model.specs.Header.{ROW-BYTES, rowsAt, rowBytes, placesOf, pairAt}
 use Rattle.door_pieces.specs.Pieces.{AREA, areaOf, piecesFault, joined}
 use Rattle.door_pieces.specs.PiecesLaws.{both-fit, bytes-length, joined-bytes, joined-places, joined-mode}

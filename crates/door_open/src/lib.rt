@@ -31,7 +31,7 @@ fn put_head(s: &[u8], t: &mut [u8])
     requires { ⌜ HEADER ≤ length (now t) ⌝ }
     ensures { λ _. ⌜ Put 0 (λ k. getD (headOf (now (s .entry))) k 0) HEADER (now (t .entry)) (now (t .exit)) ⌝ }
 {
-    let counted = pick::byte(door_rows::scopes::COUNTED <= bytes::byte_at(s, 4), 1, 0);
+    let counted = pick::byte(door_rows::scopes::is_counted(s), 1, 0);
     let head = [0, counted, 0, 0, bytes::HOSTS, bytes::agents_at(s), 0, 0];
     bytes::put(t, 0, &head, bytes::HEADER);
 }
@@ -99,10 +99,10 @@ fn admit(first: &[u8], second: &[u8], t: &[u8], blanks: bool) -> Admission
     let hosts = bytes::has_hosts(first);
     let agents = bytes::agents_at(first);
     let p = run::places_in(t);
-    let mode = run::mode_in(t);
+    let counted = run::counted_in(t);
     let all = run::rows_in(t);
     let end = n * bytes::ROW_BYTES;
-    door_admit::admit_rows(&all[..end], hosts, p, mode, agents, n as u8, blanks)
+    door_admit::admit_rows(&all[..end], hosts, p, counted, agents, n as u8, blanks)
 }
 
 // Refusal 11, from the lengths of the work area and of another buffer, which must hold so many numbers; then every refusal of the pieces; or

@@ -12,11 +12,10 @@ use lib.Dec.{leb, eqb}
 use borrow.Author.Tests.{leb-true, not-false}
 use Rattle.finite.specs.Logic.{_and_, split, not-out}
 use Rattle.bits.specs.Bit.{zeros, length-zeros, zeros-in, zeros-out}
-use Rattle.model.specs.declared.Mode.{Mode}
 use Rattle.model.specs.declared.Admission.{Admission}
 use Rattle.model.specs.declared.Admission.the-variants.{Admitted, Refused}
 use Rattle.model.specs.Limits.{ROWS, WORK}
-use Rattle.model.specs.Table.{modeOf, rowOf, tableUnder, tableOf}
+use Rattle.model.specs.Table.{Mode, modeOf, rowOf, tableUnder, tableOf}
 use Rattle.model.specs.Header.{rowsAt, rowBytes, placesOf}
 use Rattle.model.specs.Refusal.{buffersFit, admission, refusalOf, whenAdmitted}
 use Rattle.model.specs.Check.{wiped}

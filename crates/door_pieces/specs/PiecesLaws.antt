@@ -366,7 +366,7 @@ module _ (f s : List ℕ) (z : piecesFault f s ≡ 0) where
   joined-refused blanks h e n = header-refused blanks (joined f s) h (e ∙ sym joined-header) n
 
   pub joined-passed : (blanks : Bool) → hostsFault (joined f s) ≡ 0
-      → admission blanks (joined f s) ≡ rowsAdmission blanks (hasHosts f) (agentsAt f) (rowBytes (joined f s)) (placesOf f) (modeOf false f) (rowsBoth f s)
+      → admission blanks (joined f s) ≡ rowsAdmission blanks (hasHosts f) (agentsAt f) (rowBytes (joined f s)) (placesOf f) (modeOf false f .counted) (rowsBoth f s)
   joined-passed blanks e =
       header-passed blanks (joined f s) 0 (sym (joined-header ∙ e)) refl
       ∙ rw (joined-hosts, joined-agents, joined-places, joined-mode false, joined-rows) refl
@@ -403,7 +403,7 @@ module _ (f s : List ℕ) (h : ℕ) (e : h ≡ earlyFault f s) (z : h ≡ 0) whe
   early-hosts = sym (sym z ∙ e ∙ rw early-pieces refl)
 
   pub early-passed : (blanks : Bool)
-      → admissionBoth blanks f s ≡ rowsAdmission blanks (hasHosts f) (agentsAt f) (rowBytes (joined f s)) (placesOf f) (modeOf false f) (rowsBoth f s)
+      → admissionBoth blanks f s ≡ rowsAdmission blanks (hasHosts f) (agentsAt f) (rowBytes (joined f s)) (placesOf f) (modeOf false f .counted) (rowsBoth f s)
   unfolding admissionBoth
   early-passed blanks = of-joined f s early-pieces Refused (admission blanks) ∙ joined-passed f s early-pieces blanks early-hosts
 

@@ -3,15 +3,14 @@ ghost use mathlib.Core.Path.{_≡_};
 ghost use mathlib.Core.List.{List, []};
 ghost use Prim.Native.Nat.{ℕ, _+_, _*_, _<_};
 ghost use lib.ListN.{getD};
-ghost use Rattle.model.specs.Table.{modeOf};
+ghost use mathlib.Core.Bool.{false};
 ghost use Rattle.model.specs.Header.{shaderPlaceAt, anyPlaceAt, slotAt, placesOf};
 ghost use Rattle.model.specs.Scope.{agentKind, shader, host, shares, together, sameLocation, mutualRows, age, later, laterWriter};
-ghost use Rattle.model.specs.Table.{rowOf};
+ghost use Rattle.model.specs.Table.{modeOf, rowOf};
 ghost use Rattle.door_rows.specs.Places.{IsPlace};
 ghost use Rattle.door_rows.specs.Instances.{ofInstance};
 use crate::bytes;
 use crate::kinds;
-use model::Mode;
 use model::Places;
 use model::Row;
 
@@ -91,19 +90,11 @@ pub const FIRST: u8 = 1;
 
 pub const COUNTED: u8 = 2;
 
-// What the rules of order go by beside rows and places.
-pub fn read_mode(s: &[u8], chains: bool) -> Mode
-    ensures { λ g. ⌜ g ≡ modeOf chains (now (s .entry)) ⌝ }
+// Whether ranks are counted.
+pub fn is_counted(s: &[u8]) -> bool
+    ensures { λ r. ⌜ r ≡ modeOf false (now (s .entry)) .counted ⌝ }
 {
-    let version = bytes::byte_at(s, 4);
-    let d = bytes::dependency_bytes(s);
-    Mode {
-        counted: COUNTED <= version,
-        chains: chains,
-        dependencies: bytes::pair_at(d, 0),
-        first: bytes::read_ends(d, 2),
-        second: bytes::read_ends(d, 4),
-    }
+    COUNTED <= bytes::byte_at(s, 4)
 }
 
 // Number k of agent a's place, and 0 for an agent that there is no slot for.

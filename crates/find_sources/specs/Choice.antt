@@ -6,11 +6,10 @@ use Prim.Native.Nat.{ℕ}
 use lib.Dec.{eqb}
 use Rattle.finite.specs.Logic.{_and_, _or_, and-false-left, and-false-right}
 use Rattle.finite.specs.Below.{anyBelow, least}
-use Rattle.model.specs.declared.Mode.{Mode}
 use Rattle.model.specs.declared.Row.{Row}
 use Rattle.model.specs.Limits.{LONGEST, INITIAL, BLANK}
 use Rattle.model.specs.Row.{plainRead, writes}
-use Rattle.model.specs.Table.{OFF, Table, decode}
+use Rattle.model.specs.Table.{Mode, OFF, Table, decode}
 use Rattle.model.specs.Scope.{follows}
 use Rattle.model.specs.Edge.{beforeSome}
 use Rattle.model.specs.TableFault.{writerFits}

@@ -9,11 +9,10 @@ use lib.ListN.{length, getD, set, length-set}
 use lib.Seq.{getD-set-same, getD-set-other}
 use Rattle.finite.specs.Logic.{_and_}
 use Rattle.finite.specs.Below.{anyBelow}
-use Rattle.model.specs.declared.Mode.{Mode}
 use Rattle.model.specs.declared.Row.{Row}
 use Rattle.model.specs.Limits.{SOURCES}
 use Rattle.model.specs.Row.{reads}
-use Rattle.model.specs.Table.{OFF, Table, rowOf, decode}
+use Rattle.model.specs.Table.{Mode, OFF, Table, rowOf, decode}
 use Rattle.model.specs.TableFault.{writerFits, sourceFits, sourceBroken}
 use Rattle.model.specs.Fill.{sourcesFit}
 

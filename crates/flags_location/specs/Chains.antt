@@ -11,10 +11,9 @@ use borrow.Author.Tests.{eqb-true, eq-eqb, ltb-true, leb-true, le-leb, not-false
 use Rattle.finite.specs.Logic.{_and_, _or_, and-false-right, and-on-right, not-out, split, and-true, not-both, not-so, bool-ext, which, or-left, or-right, or-cases}
 use Rattle.finite.specs.Below.{anyBelow, any-in, any-out, any-off, any-not}
 use Rattle.finite.specs.Closure.{through}
-use Rattle.model.specs.declared.Mode.{Mode}
 use Rattle.model.specs.declared.Row.{Row}
 use Rattle.model.specs.Row.{plain, reads, meets, makesAvailable, makesVisible}
-use Rattle.model.specs.Table.{Table, rowOf, decode}
+use Rattle.model.specs.Table.{Mode, Table, rowOf, decode}
 use Rattle.run.specs.Layout.{placesIn, modeIn, rowsIn, tableIn}
 use Rattle.model.specs.Scope.{DEVICE, shares}
 use Rattle.model.specs.Moment.{BEFORE, AFTER, part, itself, availabilityOf, visibilityOf, programOrdered, availability, visibility, programOrder}

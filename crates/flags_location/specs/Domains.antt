@@ -18,11 +18,10 @@ use Rattle.bits.specs.Bit.{bit, setBit, setBit-same, setBit-other, zeros, bit-z
 use Rattle.bits.specs.Within.{Within, within-refl, within-trans, within-widen, within-setBit, within-cleared}
 use Rattle.bits.specs.Matrix.{rel, Closed}
 use Rattle.bits.specs.Stage.{Holds, Made, Added, holds-kept, holds-closed, within-closed}
-use Rattle.model.specs.declared.Mode.{Mode}
 use Rattle.model.specs.declared.Row.{Row}
 use Rattle.model.specs.Limits.{ROWS}
 use Rattle.model.specs.Row.{AVAILABLE-HOST, AVAILABLE-DEVICE, VISIBLE-HOST, VISIBLE-DEVICE, HOST-TO-DEVICE, DEVICE-TO-HOST, operation, reads, writes}
-use Rattle.model.specs.Table.{Table, rowOf, dependency, dependsOf, decode}
+use Rattle.model.specs.Table.{Mode, Table, rowOf, dependency, dependsOf, decode}
 use Rattle.run.specs.Layout.{placesIn, modeIn, rowsIn, tableIn}
 use Rattle.model.specs.Scope.{host}
 use Rattle.model.specs.Moment.{itself}

@@ -10,10 +10,9 @@ use Rattle.finite.specs.Closure.{through}
 use Rattle.bits.specs.Within.{Within, within-refl, within-trans, within-widen}
 use Rattle.bits.specs.Matrix.{rel, Closed}
 use Rattle.bits.specs.Stage.{Made, holds-kept, holds-closed, within-closed}
-use Rattle.model.specs.declared.Mode.{Mode}
 use Rattle.model.specs.declared.Row.{Row}
 use Rattle.model.specs.Row.{plain, meets, makesAvailable, makesVisible}
-use Rattle.model.specs.Table.{Table, rowOf, decode}
+use Rattle.model.specs.Table.{Mode, Table, rowOf, decode}
 use Rattle.run.specs.Layout.{placesIn, modeIn, rowsIn, tableIn}
 use Rattle.model.specs.Scope.{shares}
 use Rattle.model.specs.Moment.{BEFORE, AFTER, availabilityOf, visibilityOf, availability, visibility}

@@ -16,7 +16,6 @@ ghost use Rattle.flags_location.specs.Order.{hosted};
 ghost use Rattle.flags_location.specs.Domains.{operationAt, unhosted, nthDepends, Sources};
 ghost use Rattle.flags_location.specs.Given.{Room, Given, GivenRows};
 use crate::domains;
-use model::Mode;
 use model::Row;
 use run::Run;
 use run_tests::pairs;
@@ -24,12 +23,12 @@ use run_tests::pairs;
 // ---- L4: the closure of the dependencies
 
 // Adds the k-th dependency. One that names no row adds nothing.
-fn put_dependency(mode: Mode, n: usize, k: u16, w: &mut [u64])
+fn put_dependency(t: &Run, n: usize, k: u16, w: &mut [u64])
     requires { ⌜ Room n (now w) ⌝ }
-    ensures { λ _. ⌜ Added SYSTEM SYSTEM-END SYSTEM GRID n (nthDepends mode k) (now (w .entry)) (now (w .exit)) ⌝ }
+    ensures { λ _. ⌜ Added SYSTEM SYSTEM-END SYSTEM GRID n (nthDepends (modeIn (now (t .entry))) k) (now (w .entry)) (now (w .exit)) ⌝ }
 {
-    let i = door_rows::dependencies::first_at(mode, k) as usize;
-    let j = door_rows::dependencies::second_at(mode, k) as usize;
+    let i = run::first_of(t, k) as usize;
+    let j = run::second_of(t, k) as usize;
     if n <= i {
         return;
     }
@@ -46,9 +45,8 @@ fn make_system(t: &Run, n: usize, w: &mut [u64])
     ensures { λ _. ⌜ Made SYSTEM SYSTEM-END SYSTEM GRID n (through (dependsOf (modeIn (now (t .entry)))) n) (now (w .entry)) (now (w .exit)) ⌝ }
 {
     bits::clear(w, work_area::SYSTEM, work_area::SYSTEM_END);
-    let mode = run::mode(t);
-    for k in 0..mode.dependencies {
-        put_dependency(mode, n, k, w);
+    for k in 0..run::dependencies(t) {
+        put_dependency(t, n, k, w);
     }
     work_area::grid::close(w, work_area::SYSTEM, n);
 }
@@ -114,7 +112,7 @@ fn is_unhosted(t: &Run, n: usize) -> bool
     requires { ⌜ n ≤ ROWS ⌝ }
     ensures { λ d. ⌜ d ≡ unhosted (modeIn (now (t .entry))) (rowsIn (now (t .entry))) n ⌝ }
 {
-    (run::mode(t).dependencies == 0) & !has_operation(t, n)
+    (run::dependencies(t) == 0) & !has_operation(t, n)
 }
 
 // L4 and L5 for every two rows. Without dependencies and operations there is nothing to ask.

@@ -11,13 +11,13 @@ use Rattle.work_area.specs.Synced.{Synced}
 use borrow.Author.Tests.{eqb-true, eq-eqb, ne-eqb}
 use Rattle.finite.specs.Logic.{_and_, _or_, split, and-false-right, not-out, or-cases, or-left, or-none, or-false}
 use Rattle.finite.specs.Below.{anyBelow, any-cong}
-use Rattle.model.specs.declared.Mode.{Mode}
 use Rattle.model.specs.declared.Row.{Row}
 use Rattle.model.specs.Row.{releases, acquires}
-use Rattle.model.specs.Table.{decode, rowOf}
+use Rattle.model.specs.Table.{Mode, decode, rowOf}
 use Rattle.model.specs.Moment.{AT, rowIn, part, programOrder}
 use Rattle.model.specs.Synchronizes.{synchronizes}
-use Rattle.model.specs.Happens.{holdingOf, concernsOf, holding, bySync, toRelease, fromAcquire, ROW-CASES, holdsAll, live}
+use Rattle.model.specs.Happens.{holdingOf, concernsOf, holding, bySync, toRelease, fromAcquire, ROW-CASES}
+use Rattle.model_laws.specs.HappensLaws.{holdsAll, live}
 use Rattle.model_laws.specs.CaseLaws.{row-cases}
 use Rattle.model_laws.specs.HostLaws.{step₁}
 use Rattle.run_tests.specs.Cases.{holdsAt, nthCaseRows, case-one, case-two, case-three, nth-is}

@@ -2,7 +2,7 @@
 use mathlib.Core.Path.{_≡_, refl, sym}
 use mathlib.Core.Bool.{Bool, true, false}
 use mathlib.Core.List.{List}
-use Prim.Native.Nat.{ℕ, _+_, _-_, _*_, _≤_}
+use Prim.Native.Nat.{ℕ, _+_, _-_, _*_, _≤_, _<_}
 use native.Mathlib.Omega.{arith}
 use native.Mathlib.Numerals.{add-one}
 use lib.ListN.{length}
@@ -13,24 +13,24 @@ use Rattle.bits.specs.Bit.{joinRow}
 use Rattle.bits.specs.Within.{Within, within-trans, within-widen}
 use Rattle.bits.specs.Matrix.{Closed}
 use Rattle.bits.specs.Stage.{Holds, Made, Added, holds-cong, added-chain, added-none}
-use Rattle.model.specs.declared.Mode.{Mode}
 use Rattle.model.specs.Limits.{ROWS, WORK, CLASS-SETS}
-use Rattle.model.specs.Table.{Table, decode}
+use Rattle.model.specs.Table.{Mode, Table, decode}
 use Rattle.model.specs.Moment.{programOrder}
-use Rattle.model.specs.Happens.{step, interThread, live, interThreadBy, happens}
+use Rattle.model.specs.Happens.{step, interThread, happens}
+use Rattle.model_laws.specs.HappensLaws.{live, liveBy, happens-live}
 use Rattle.work_area.specs.Regions.{MUTUAL, HAPPENS, HAPPENS-END, STEP, STEP-END, MOMENTS}
 use Rattle.work_area.specs.State.{MadeOrdered}
 use Rattle.work_area.specs.Synced.{Synced, MadeSynced}
 
 -- ---- definitions
 
--- inter-thread order for class set s + 1
+-- inter-thread order for class set s + 1, if it is asked
 unfoldable pub interBy : Table → ℕ → ℕ → ℕ → Bool
-interBy t s m k = interThreadBy t m k s
+interBy t s m k = liveBy t m k s
 
 -- happens-before by the first c class sets
 unfoldable pub upTo : Table → ℕ → ℕ → ℕ → Bool
-upTo t c m k = programOrder t m k or anyBelow c (interThreadBy t m k)
+upTo t c m k = programOrder t m k or anyBelow c (liveBy t m k)
 
 -- ---- laws: relations
 
@@ -42,19 +42,19 @@ pub upTo-more : (t : Table) (c m k : ℕ) → (upTo t c m k or interBy t c m k) 
 unfolding upTo interBy anyBelow
 upTo-more t c m k = rw add-one (or-assoc _ _ _)
 
-pub upTo-all : (t : Table) (m k : ℕ) → upTo t CLASS-SETS m k ≡ happens t m k
-unfolding upTo happens
-upTo-all t m k = refl
+upTo-all : (t : Table) (m k : ℕ) → m < 3 * t .rows → k < 3 * t .rows → upTo t CLASS-SETS m k ≡ happens t m k
+unfolding upTo
+upTo-all t m k p q = happens-live t m k p q
 
 module _ (b : List ℕ) (p : List (List ℕ)) (mode : Mode) (n : ℕ) where
   -- a class set that is asked, and one that is not
   inter-on : (s m k : ℕ) → live (decode b p mode n) (s + 1) ≡ true
       → through (step (decode b p mode n) (s + 1)) (3 * n) m k ≡ interBy (decode b p mode n) s m k
-  unfolding interBy interThreadBy interThread decode
+  unfolding interBy liveBy interThread decode
   inter-on s m k l = rw add-one (sym (and-on _ _ (rw add-one at l)))
 
   inter-off : (s m k : ℕ) → live (decode b p mode n) (s + 1) ≡ false → interBy (decode b p mode n) s m k ≡ false
-  unfolding interBy interThreadBy
+  unfolding interBy liveBy
   inter-off s m k l = and-false-left _ _ (rw add-one at l)
 
   -- ---- laws: stages
@@ -78,10 +78,10 @@ module _ (b : List ℕ) (p : List (List ℕ)) (mode : Mode) (n : ℕ) where
 -- all stages in order, the class sets from x on
 pub ordered-made : {t : Table} {n : ℕ} {w v x u : List ℕ} → MadeSynced t n w v
     → Made HAPPENS HAPPENS-END HAPPENS MOMENTS (3 * n) (programOrder t) v x → Synced t n u
-    → Holds HAPPENS MOMENTS (3 * n) (upTo t CLASS-SETS) u → Within HAPPENS STEP-END x u → MadeOrdered t n w u
-ordered-made {t} synced program kept closed frame =
+    → Holds HAPPENS MOMENTS (3 * n) (upTo t CLASS-SETS) u → Within HAPPENS STEP-END x u → t .rows ≡ n → MadeOrdered t n w u
+ordered-made {t} synced program kept closed frame e =
     record {
-      ordered = record { mutuals = kept .mutuals; happening = holds-cong (λ i j p q. upTo-all t i j) closed };
+      ordered = record { mutuals = kept .mutuals; happening = holds-cong (λ i j p q. upTo-all t i j (rw e p) (rw e q)) closed };
       frame = within-trans (within-widen MUTUAL STEP-END (omega arith) (omega arith) (synced .frame))
           (within-trans (within-widen MUTUAL STEP-END (omega arith) (omega arith) (program .frame))
           (within-widen MUTUAL STEP-END (omega arith) (omega arith) frame));

@@ -15,9 +15,8 @@ use Rattle.bits.specs.Bit.{setBit, setBit-same, setBit-other}
 use Rattle.bits.specs.Matrix.{rel}
 use Rattle.bits.specs.Within.{within-trans, within-setBit}
 use Rattle.bits.specs.Stage.{Made, Added, holds-cong, holds-added, added-none}
-use Rattle.model.specs.declared.Mode.{Mode}
 use Rattle.model.specs.Limits.{ROWS, WORK}
-use Rattle.model.specs.Table.{dependency, dependsOf, decode}
+use Rattle.model.specs.Table.{Mode, dependency, dependsOf, decode}
 use Rattle.model.specs.Moment.{AT, rowIn, part}
 use Rattle.model.specs.Happens.{bySystem, step}
 use Rattle.model_laws.specs.CaseLaws.{step-last}

@@ -6,7 +6,7 @@ ghost use Rattle.bits.specs.Stage.{Made, Added};
 ghost use Rattle.model.specs.Limits.{ROWS, WORK, CLASS-SETS};
 ghost use Rattle.run.specs.Layout.{tableIn};
 ghost use Rattle.model.specs.Moment.{programOrder};
-ghost use Rattle.model.specs.Happens.{live};
+ghost use Rattle.model_laws.specs.HappensLaws.{live};
 ghost use Rattle.work_area.specs.Regions.{HAPPENS, HAPPENS-END, STEP-END, MOMENTS};
 ghost use Rattle.work_area.specs.State.{MadeOrdered};
 ghost use Rattle.work_area.specs.Synced.{Synced};

@@ -15,7 +15,6 @@ ghost use Rattle.work_area.specs.Synced.{Synced};
 ghost use Rattle.flags_order.specs.Cases.{stepRows};
 ghost use Rattle.flags_order.specs.Steps.{CellMade, RowMade};
 ghost use Rattle.flags_order.specs.System.{systemBy, systemTo};
-use model::Mode;
 use model::Row;
 use run::Run;
 use run_tests::cases;
@@ -102,12 +101,12 @@ fn fill_cases(t: &Run, n: usize, s: u8, w: &mut [u64])
 // ---- dependencies
 
 // Sets the bit of dependency c, between the own moments of its two rows, where the table has both.
-fn put_dependency(mode: Mode, n: usize, c: u16, w: &mut [u64])
+fn put_dependency(t: &Run, n: usize, c: u16, w: &mut [u64])
     requires { ⌜ (n ≤ ROWS) × (WORK ≤ length (now w)) ⌝ }
-    ensures { λ _. ⌜ Added STEP STEP-END STEP MOMENTS (3 * n) (systemBy mode c) (now (w .entry)) (now (w .exit)) ⌝ }
+    ensures { λ _. ⌜ Added STEP STEP-END STEP MOMENTS (3 * n) (systemBy (modeIn (now (t .entry))) c) (now (w .entry)) (now (w .exit)) ⌝ }
 {
-    let x = door_rows::dependencies::first_at(mode, c) as usize;
-    let y = door_rows::dependencies::second_at(mode, c) as usize;
+    let x = run::first_of(t, c) as usize;
+    let y = run::second_of(t, c) as usize;
     if n <= x {
         return;
     }
@@ -122,9 +121,8 @@ fn add_dependencies(t: &Run, n: usize, w: &mut [u64])
     requires { ⌜ (n ≤ ROWS) × (WORK ≤ length (now w)) ⌝ }
     ensures { λ _. ⌜ Added STEP STEP-END STEP MOMENTS (3 * n) (systemTo (modeIn (now (t .entry))) (modeIn (now (t .entry)) .dependencies)) (now (w .entry)) (now (w .exit)) ⌝ }
 {
-    let mode = run::mode(t);
-    for c in 0..mode.dependencies {
-        put_dependency(mode, n, c, w);
+    for c in 0..run::dependencies(t) {
+        put_dependency(t, n, c, w);
     }
 }
 

@@ -71,20 +71,11 @@ step t s m n = anyBelow CASES (nthCase t s m n)
 unfoldable pub interThread : Table → ℕ → ℕ → ℕ → Bool
 interThread t s m n = through (step t s) (3 * t .rows) m n
 
--- ---- the class sets that are asked: a shortcut, so that the prover can compute runs. M7 is the same without it (law `happens-is`)
-
--- some row holds all of s, or s is the first class set. Another class set has no direct case but the fourth, which the first one has too
-unfoldable pub holdsAll : Table → ℕ → ℕ → Bool
-holdsAll t s i = holds (t .row i .classes) s
-
-unfoldable pub live : Table → ℕ → Bool
-live t s = eqb s 1 or anyBelow (t .rows) (holdsAll t s)
-
--- for class set k + 1
-unfoldable pub interThreadBy : Table → ℕ → ℕ → ℕ → Bool
-interThreadBy t m n k = live t (suc k) and interThread t (suc k) m n
-
 -- ---- M7
+
+-- inter-thread order for class set k + 1
+unfoldable pub interThreadBy : Table → ℕ → ℕ → ℕ → Bool
+interThreadBy t m n k = interThread t (suc k) m n
 
 -- happens-before: program order, or inter-thread order for some class set. It isn't closed again
 unfoldable pub happens : Table → ℕ → ℕ → Bool

@@ -17,11 +17,4 @@ pub mod Check
 pub mod Fill
 pub mod Reason
 pub mod Report
-pub mod Opened
-pub mod Runs
-pub mod ShortcutRuns
-pub mod RequestRuns
-pub mod HostRuns
-pub mod ChainRuns
-pub mod OrderRuns
 pub mod Words

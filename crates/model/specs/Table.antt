@@ -9,7 +9,6 @@ use Rattle.finite.specs.Logic.{_and_}
 use Rattle.finite.specs.Below.{anyBelow}
 use Rattle.finite.specs.Lists.{tabulate}
 use Rattle.model.specs.declared.Row.{Row}
-use Rattle.model.specs.declared.Mode.{Mode}
 use Rattle.model.specs.Limits.{DEPENDENCIES, INITIAL}
 use Rattle.model.specs.Row.{atomic}
 use Rattle.model.specs.Header.{pairAt, VERSION-COUNTED, DEPENDENCY-BYTES, ROW-BYTES, versionAt, rowsAt, placesOf, rowBytes, dependencyBytes}
@@ -77,6 +76,14 @@ unfoldable pub dependencyTo : List ℕ → ℕ → ℕ
 dependencyTo d k = dependencyEnd d 4 k
 
 -- ---- what the rules of order go by beside rows and places
+
+pub record Mode : Type 0 where
+  pub counted : Bool
+  pub chains : Bool
+  pub dependencies : ℕ
+  -- the two rows of each
+  pub first : List ℕ
+  pub second : List ℕ
 
 -- `chains` is an input like the table; of the dependencies there are as many as a table may have
 unfoldable pub modeOf : Bool → List ℕ → Mode

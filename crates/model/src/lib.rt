@@ -35,16 +35,6 @@ pub const CASE: u16 = 512;
 // The family, workgroup and subgroup numbers of each agent, and what it is: 0 shader, 1 host, 2 queue.
 pub type Places = [[u16; 4]; 32];
 
-// What the rules of order go by beside rows and places: whether ranks are counted, whether the device reports the feature
-// vulkanMemoryModelAvailabilityVisibilityChains, and the dependencies: how many there are, and the two rows of each.
-pub struct Mode {
-    pub counted: bool,
-    pub chains: bool,
-    pub dependencies: u16,
-    pub first: [u16; 64],
-    pub second: [u16; 64],
-}
-
 // A row without its source: what the order of rows goes by, the sources of atomic rows aside.
 pub struct Row {
     pub kind: u8,

@@ -70,31 +70,6 @@ askedAvailables t s a c = fromAvailable t s (reachedAvailable t s) a c
 unfoldable pub askedVisibles : Table → ℕ → ℕ → ℕ → Bool
 askedVisibles t s w v = fromVisible t s (reachedVisible t s) w v
 
--- inter-thread order for class set k + 1
-unfoldable pub interBy : Table → ℕ → ℕ → ℕ → Bool
-interBy t m n k = interThread t (suc k) m n
-
--- ---- laws: happens-before, by all class sets
-
-pub happens-sets : (t : Table) (m n : ℕ) → m < 3 * t .rows → n < 3 * t .rows
-    → happens t m n ≡ (programOrder t m n or anyBelow CLASS-SETS (interBy t m n))
-unfolding happens interThreadBy interThread interBy
-happens-sets t m n l o = bool-ext _ _ forth back
-  where
-    forth : (programOrder t m n or anyBelow CLASS-SETS (interThreadBy t m n)) ≡ true → (programOrder t m n or anyBelow CLASS-SETS (interBy t m n)) ≡ true
-    forth e =
-        ⊎-elim (λ a. or-left _ a)
-        (λ a. let r = any-out (interThreadBy t m n) CLASS-SETS a in or-right _ (any-in (interBy t m n) CLASS-SETS (r .0) (r .1) (split (r .2) .1)))
-        (or-cases _ _ e)
-
-    back : (programOrder t m n or anyBelow CLASS-SETS (interBy t m n)) ≡ true → happens t m n ≡ true
-    back e =
-        ⊎-elim (λ a. or-left _ a)
-        (λ a. let r = any-out (interBy t m n) CLASS-SETS a in
-        let k = r .1 in
-        happens-is t m n l o .1 (inr (suc (r .0), omega arith, omega arith, through-reach (step t (suc (r .0))) (3 * t .rows) m n .0 (r .2))))
-        (or-cases _ _ e)
-
 -- ---- laws: places of moments
 
 eqb-own : (r y : ℕ) → eqb (itself r) (itself y) ≡ eqb r y

@@ -23,7 +23,7 @@ use Rattle.model.specs.Moment.{sameAgent, programOrder}
 use Rattle.model.specs.Synchronizes.{ends, sequence, takesFrom, leads, trails, syncAtomics, carriesOut, syncFromBarrier, carriesIn, syncToBarrier}
 use Rattle.model.specs.Synchronizes.{carriesOver, syncControl, passes, arrives, joins, upTo, syncBarriers, synchronizes}
 use Rattle.model.specs.Happens.{holding, concerns, bySync, toRelease, fromAcquire, bySystem, direct, nthCase, step, interThread}
-use Rattle.model.specs.Happens.{holdsAll, live, interThreadBy, happens}
+use Rattle.model.specs.Happens.{interThreadBy, happens}
 use Rattle.model.specs.Location.{L1, L2}
 use Rattle.model.specs.Availability.{singleAvailable, singleVisible, shareMoment, singleShown, singleMet, singleCarried, Single}
 use Rattle.model.specs.Availability.{coversOf, availabilityMoment, visibilityMoment, firstAvailable, lastVisible, broadens, narrows}
@@ -407,19 +407,19 @@ module _ (t : Table) (scoped : Scoped t) (off : t .chains ≡ false) where
 
 module _ (c : Bool) (t : Table) where
   pub happens-under : (m n : ℕ) → happens (under c t) m n ≡ happens t m n
-  unfolding happens interThreadBy interThread live holdsAll step nthCase direct bySync toRelease fromAcquire bySystem holding concerns programOrder
+  unfolding happens interThreadBy interThread step nthCase direct bySync toRelease fromAcquire bySystem holding concerns programOrder
       sameAgent synchronizes syncControl passes arrives joins upTo syncBarriers carriesOver syncToBarrier carriesIn syncFromBarrier
       carriesOut syncAtomics trails leads takesFrom sequence ends follows mutually
   happens-under m n = refl
 
   L1-under : (x y : ℕ) → L1 (under c t) x y ≡ L1 t x y
-  unfolding L1 happens interThreadBy interThread live holdsAll step nthCase direct bySync toRelease fromAcquire bySystem holding concerns programOrder
+  unfolding L1 happens interThreadBy interThread step nthCase direct bySync toRelease fromAcquire bySystem holding concerns programOrder
       sameAgent synchronizes syncControl passes arrives joins upTo syncBarriers carriesOver syncToBarrier carriesIn syncFromBarrier
       carriesOut syncAtomics trails leads takesFrom sequence ends follows mutually
   L1-under x y = refl
 
   L2-under : (x y : ℕ) → L2 (under c t) x y ≡ L2 t x y
-  unfolding L2 happens interThreadBy interThread live holdsAll step nthCase direct bySync toRelease fromAcquire bySystem holding concerns programOrder
+  unfolding L2 happens interThreadBy interThread step nthCase direct bySync toRelease fromAcquire bySystem holding concerns programOrder
       sameAgent synchronizes syncControl passes arrives joins upTo syncBarriers carriesOver syncToBarrier carriesIn syncFromBarrier
       carriesOut syncAtomics trails leads takesFrom sequence ends follows mutually
   L2-under x y = refl
@@ -429,8 +429,8 @@ module _ (c : Bool) (t : Table) where
   L4-under x y = refl
 
   L5-under : (x y : ℕ) → L5 (under c t) x y ≡ L5 t x y
-  unfolding L5 reachesBy carriedBy metFrom seenBy thence availableKind visibleKind domainKind onHost happens interThreadBy interThread live
-      holdsAll step nthCase direct bySync toRelease fromAcquire bySystem holding concerns programOrder sameAgent synchronizes syncControl passes arrives
+  unfolding L5 reachesBy carriedBy metFrom seenBy thence availableKind visibleKind domainKind onHost happens interThreadBy interThread
+      step nthCase direct bySync toRelease fromAcquire bySystem holding concerns programOrder sameAgent synchronizes syncControl passes arrives
       joins upTo syncBarriers carriesOver syncToBarrier carriesIn syncFromBarrier carriesOut syncAtomics trails leads takesFrom sequence
       ends follows mutually
   L5-under x y = refl

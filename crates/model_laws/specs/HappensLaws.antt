@@ -1,21 +1,58 @@
 -- Happens-before is what M6 and M7 say, for any number of rows: program order, or for some class set the transitive closure of the
--- direct cases. Assumes nothing.
+-- direct cases. Class sets that no row holds need not be asked. Assumes nothing.
 use mathlib.Core.Path.{_≡_, refl}
 use mathlib.Core.Bool.{Bool, true, false}
 use mathlib.Core.Logic.{_⊎_, inl, inr, ⊎-elim, _↔_}
 use Prim.Native.Nat.{ℕ, zero, suc, _*_, _/_, _≤_, _<_}
 use native.Mathlib.Omega.{arith}
 use lib.Dec.{eqb}
-use Rattle.finite.specs.Logic.{_and_, _or_, split, and-true, or-cases, or-left, or-right, which, not-both}
+use Rattle.finite.specs.Logic.{_and_, _or_, bool-ext, split, and-true, or-cases, or-left, or-right, which, not-both}
 use Rattle.finite.specs.Below.{anyBelow, any-in, any-out}
 use Rattle.finite.specs.Closure.{Reach, one, more, through, through-reach}
 use Rattle.model.specs.Limits.{CLASS-SETS}
 use Rattle.model.specs.Row.{holds}
 use Rattle.model.specs.Table.{Table}
 use Rattle.model.specs.Moment.{programOrder}
-use Rattle.model.specs.Happens.{holdingOf, holding, bySync, toRelease, fromAcquire, bySystem, step, interThread, holdsAll, live, interThreadBy, happens}
+use Rattle.model.specs.Happens.{holdingOf, holding, bySync, toRelease, fromAcquire, bySystem, step, interThread, interThreadBy, happens}
 use Rattle.model.specs.Words.{HappensBefore}
 use Rattle.model_laws.specs.CaseLaws.{step-last, step-out}
+
+-- ---- definitions
+
+unfoldable pub holdsAll : Table → ℕ → ℕ → Bool
+holdsAll t s i = holds (t .row i .classes) s
+
+-- the class sets that an engine asks: the first, and those that some row holds
+unfoldable pub live : Table → ℕ → Bool
+live t s = eqb s 1 or anyBelow (t .rows) (holdsAll t s)
+
+-- inter-thread order for class set k + 1, if it is asked
+unfoldable pub liveBy : Table → ℕ → ℕ → ℕ → Bool
+liveBy t m n k = live t (suc k) and interThread t (suc k) m n
+
+-- ---- M7, for any number of rows
+
+pub happens-is : (t : Table) (m n : ℕ) → (happens t m n ≡ true) ↔ HappensBefore t m n
+unfolding happens interThreadBy interThread
+happens-is t m n = (forth, back)
+  where
+    by : ℕ → Bool
+    by k = through (step t (suc k)) (3 * t .rows) m n
+
+    forth : (programOrder t m n or anyBelow CLASS-SETS by) ≡ true → HappensBefore t m n
+    forth e =
+        ⊎-elim (λ h. inl h)
+        (λ h. let r = any-out by CLASS-SETS h in
+        let l = r .1 in
+        inr (suc (r .0), omega arith, omega arith, through-reach (step t (suc (r .0))) (3 * t .rows) m n .0 (r .2)))
+        (or-cases (programOrder t m n) (anyBelow CLASS-SETS by) e)
+
+    some : (s : ℕ) → 1 ≤ s → s ≤ CLASS-SETS → Reach (step t s) (3 * t .rows) m n → anyBelow CLASS-SETS by ≡ true
+    some zero a b r = absurd (omega arith)
+    some (suc k) a b r = any-in by CLASS-SETS k (omega arith) (through-reach (step t (suc k)) (3 * t .rows) m n .1 r)
+
+    back : HappensBefore t m n → (programOrder t m n or anyBelow CLASS-SETS by) ≡ true
+    back d = ⊎-elim (λ h. or-left _ h) (λ w. or-right (programOrder t m n) (some (w .0) (w .1) (w .2) (w .3))) d
 
 -- ---- a direct case needs a row that holds the class set, unless it is the fourth, which the first class set has too
 
@@ -51,28 +88,33 @@ first-live : (t : Table) → live t 1 ≡ true
 unfolding live
 first-live t = or-left _ refl
 
--- M7, for any number of rows
-pub happens-is : (t : Table) (m n : ℕ) → m < 3 * t .rows → n < 3 * t .rows → (happens t m n ≡ true) ↔ HappensBefore t m n
-unfolding happens interThreadBy interThread
-happens-is t m n p q = (forth, back)
+-- M7 by the class sets that are asked
+pub happens-live : (t : Table) (m n : ℕ) → m < 3 * t .rows → n < 3 * t .rows
+    → (programOrder t m n or anyBelow CLASS-SETS (liveBy t m n)) ≡ happens t m n
+unfolding happens interThreadBy interThread liveBy
+happens-live t m n p q = bool-ext _ _ forth back
   where
-    by : ℕ → Bool
-    by k = live t (suc k) and through (step t (suc k)) (3 * t .rows) m n
+    all : ℕ → Bool
+    all k = through (step t (suc k)) (3 * t .rows) m n
 
-    forth : (programOrder t m n or anyBelow CLASS-SETS by) ≡ true → HappensBefore t m n
+    asked : ℕ → Bool
+    asked k = live t (suc k) and through (step t (suc k)) (3 * t .rows) m n
+
+    forth : (programOrder t m n or anyBelow CLASS-SETS asked) ≡ true → (programOrder t m n or anyBelow CLASS-SETS all) ≡ true
     forth e =
-        ⊎-elim (λ h. inl h)
-        (λ h. let r = any-out by CLASS-SETS h in
-        let l = r .1 in
-        inr (suc (r .0), omega arith, omega arith, through-reach (step t (suc (r .0))) (3 * t .rows) m n .0 (split (r .2) .1)))
-        (or-cases (programOrder t m n) (anyBelow CLASS-SETS by) e)
+        ⊎-elim (λ h. or-left _ h)
+        (λ h. let r = any-out asked CLASS-SETS h in or-right (programOrder t m n) (any-in all CLASS-SETS (r .0) (r .1) (split (r .2) .1)))
+        (or-cases (programOrder t m n) (anyBelow CLASS-SETS asked) e)
 
-    some : (s : ℕ) → 1 ≤ s → s ≤ CLASS-SETS → Reach (step t s) (3 * t .rows) m n → anyBelow CLASS-SETS by ≡ true
-    some zero a b r = absurd (omega arith)
-    some (suc k) a b r = ⊎-elim
-        (λ e. any-in by CLASS-SETS k (omega arith) (and-true e (through-reach (step t (suc k)) (3 * t .rows) m n .1 r)))
-        (λ e. any-in by CLASS-SETS 0 (omega arith) (and-true (first-live t) (through-reach (step t 1) (3 * t .rows) m n .1 (reach-first t (suc k) e p q r))))
+    some : (k : ℕ) → k < CLASS-SETS → all k ≡ true → anyBelow CLASS-SETS asked ≡ true
+    some k l e = ⊎-elim
+        (λ on. any-in asked CLASS-SETS k l (and-true on e))
+        (λ off. any-in asked CLASS-SETS 0 (omega arith) (and-true (first-live t) (through-reach (step t 1) (3 * t .rows) m n .1
+        (reach-first t (suc k) off p q (through-reach (step t (suc k)) (3 * t .rows) m n .0 e)))))
         (which (live t (suc k)))
 
-    back : HappensBefore t m n → (programOrder t m n or anyBelow CLASS-SETS by) ≡ true
-    back d = ⊎-elim (λ h. or-left _ h) (λ w. or-right (programOrder t m n) (some (w .0) (w .1) (w .2) (w .3))) d
+    back : (programOrder t m n or anyBelow CLASS-SETS all) ≡ true → (programOrder t m n or anyBelow CLASS-SETS asked) ≡ true
+    back e =
+        ⊎-elim (λ h. or-left _ h)
+        (λ h. let r = any-out all CLASS-SETS h in or-right (programOrder t m n) (some (r .0) (r .1) (r .2)))
+        (or-cases (programOrder t m n) (anyBelow CLASS-SETS all) e)

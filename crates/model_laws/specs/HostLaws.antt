@@ -71,8 +71,8 @@ module _ (t : Table) (none : NoHosts t) where
       w .1,
       w .2,
       reach-cong (step t (w .0)) (step₁ t (w .0)) (3 * t .rows) (λ i j l k. step-is (w .0) i j) p q (w .3),
-    )) (happens-is t m n p q .0 e),
-    λ d. happens-is t m n p q .1 (⊎-elim (λ h. inl h)
+    )) (happens-is t m n .0 e),
+    λ d. happens-is t m n .1 (⊎-elim (λ h. inl h)
         (λ w. inr (w .0, w .1, w .2, reach-cong (step₁ t (w .0)) (step t (w .0)) (3 * t .rows) (λ i j l k. sym (step-is (w .0) i j)) p q (w .3))) d),
   )
 

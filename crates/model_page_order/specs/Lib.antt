@@ -12,4 +12,3 @@ pub mod AnswersAlike
 pub mod PiecesAlike
 pub mod Page
 pub mod Tried
-pub mod MovedRuns

@@ -14,7 +14,7 @@ use Rattle.model.specs.Moment.{momentIn, programOrdered, availability, visibili
 use Rattle.model.specs.Synchronizes.{ends, sequence, takesFrom, leads, trails, syncAtomics, carriesOut, syncFromBarrier, carriesIn, syncToBarrier}
 use Rattle.model.specs.Synchronizes.{carriesOver, syncBarriers, upTo, joins, arrives, passes, syncControl, synchronizes}
 use Rattle.model.specs.Happens.{holding, concerns, bySync, toRelease, fromAcquire, bySystem, CASES, direct, nthCase, step, interThread}
-use Rattle.model.specs.Happens.{holdsAll, live, interThreadBy, happens}
+use Rattle.model.specs.Happens.{interThreadBy, happens}
 use Rattle.model_page_order.specs.Renumber.{Renumbering, row-of, part-of, eqb-to, ltb-to}
 use Rattle.model_page_order.specs.Alike.{Alike, and-left-so, ltb-kept, leb-kept, mo, row-at, ltb-moment, some-row, moment-path}
 
@@ -177,17 +177,9 @@ module _ {t u : Table} {π : Renumbering (t .rows)} (M : Alike t u π) where
   unfolding interThread
   inter-alike s m k = moment-path M (step t s) (step u s) (step-alike s) m k
 
-  holds-alike : (s i : ℕ) → holdsAll u s (π .to i) ≡ holdsAll t s i
-  unfolding holdsAll
-  holds-alike s i = rw (M .row i) refl
-
-  live-alike : (s : ℕ) → live u s ≡ live t s
-  unfolding live
-  live-alike s = rw (some-row M (holdsAll t s) (holdsAll u s) (holds-alike s)) refl
-
   by-alike : (m k c : ℕ) → interThreadBy u (mo M m) (mo M k) c ≡ interThreadBy t m k c
   unfolding interThreadBy
-  by-alike m k c = rw (live-alike (suc c), inter-alike (suc c) m k) refl
+  by-alike m k c = inter-alike (suc c) m k
 
   -- ---- M7
 

@@ -25,12 +25,12 @@ use Rattle.model_laws.specs.PairLaws.{overlap-is, common-in, common-out}
 use Rattle.model_laws.specs.ChoiceLaws.{some-before, before-some}
 use Rattle.model_promises.specs.Terms.{Fillable}
 
--- M7, without the shortcut by class sets that no row holds, and whichever way the switch is: what location order reads, a derivation shows
-pub happens-exactly : (chains : Bool) (s : List ℕ) (m k : ℕ) → m < 3 * rowsAt s → k < 3 * rowsAt s
+-- M7, whichever way the switch is: what location order reads, a derivation shows
+pub happens-exactly : (chains : Bool) (s : List ℕ) (m k : ℕ)
     → (happens (tableUnder chains s) m k ≡ true) ↔ HappensBefore (tableOf s) m k
 unfolding tableOf tableUnder decode modeOf dependsOf dependency
-happens-exactly chains s m k p q =
-    let h = happens-is (tableOf s) m k p q in
+happens-exactly chains s m k =
+    let h = happens-is (tableOf s) m k in
     let e = happens-under chains (tableOf s) m k in
     (λ w. h .0 (sym e ∙ w), λ w. e ∙ h .1 w)
 

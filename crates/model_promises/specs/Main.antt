@@ -229,7 +229,7 @@ well-fillable = beside.Bridges.well-fillable
 -- ==== What the tests in these words decide
 
 -- happens-before, as L1 to L5 read it, is M7's, and so what a derivation shows, whichever way the switch is
-pub happens-exactly : (chains : Bool) (s : List ℕ) (m k : ℕ) → m < 3 * rowsAt s → k < 3 * rowsAt s
+pub happens-exactly : (chains : Bool) (s : List ℕ) (m k : ℕ)
     → (happens (tableUnder chains s) m k ≡ true) ↔ HappensBefore (tableOf s) m k
 happens-exactly = beside.Bridges.happens-exactly
 

@@ -6,9 +6,8 @@ use Prim.Native.Nat.{ℕ}
 use lib.ListN.{getD, drop}
 use lib.Dec.{eqb}
 use Rattle.finite.specs.Lists.{tabulate}
-use Rattle.model.specs.declared.Mode.{Mode}
 use Rattle.model.specs.Limits.{DEPENDENCIES}
-use Rattle.model.specs.Table.{Table, dependencyFrom, dependencyTo, dependencyCount, decode}
+use Rattle.model.specs.Table.{Mode, Table, dependencyFrom, dependencyTo, dependencyCount, decode}
 use Rattle.model.specs.Header.{placesOf}
 
 -- the bytes of a run

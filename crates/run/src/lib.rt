@@ -1,13 +1,14 @@
 // A table as bytes with fixed places, made once and lent everywhere.
 ghost use mathlib.Core.Path.{_≡_};
-ghost use lib.ListN.{drop};
-ghost use Rattle.model.specs.Table.{rowOf, atomicSource};
+ghost use lib.ListN.{getD, drop};
+ghost use Rattle.finite.specs.Lists.{tabulate};
+ghost use Rattle.model.specs.Limits.{DEPENDENCIES};
+ghost use Rattle.model.specs.Table.{rowOf, atomicSource, dependencyEnd, dependency, dependsOf};
 ghost use Rattle.model.specs.Scope.{shares, together};
 ghost use Rattle.door_rows.specs.Places.{IsPlace};
-ghost use Rattle.run.specs.Layout.{placesIn, modeIn, rowsIn};
+ghost use Rattle.run.specs.Layout.{DEPENDS, placesIn, modeIn, rowsIn};
 use door_rows::bytes;
 use door_rows::scopes;
-use model::Mode;
 use model::Places;
 use model::Row;
 use model::Source;
@@ -44,20 +45,13 @@ pub fn places_in(s: &[u8]) -> Places
     scopes::read_places(s)
 }
 
-pub fn mode_in(s: &[u8]) -> Mode
-    ensures { λ r. ⌜ r ≡ modeIn (now (s .entry)) ⌝ }
+pub fn counted_in(s: &[u8]) -> bool
+    ensures { λ r. ⌜ r ≡ modeIn (now (s .entry)) .counted ⌝ }
 {
-    let d = part(s, DEPENDS);
-    Mode {
-        counted: bytes::byte_at(s, 1) != 0,
-        chains: bytes::byte_at(s, 2) != 0,
-        dependencies: bytes::pair_at(d, 0),
-        first: bytes::read_ends(d, 2),
-        second: bytes::read_ends(d, 4),
-    }
+    bytes::byte_at(s, 1) != 0
 }
 
-// ---- of a run: all rows, all places and the mode, for what takes them so
+// ---- of a run: all rows and all places, for what takes them so
 
 pub fn rows_of(t: &Run) -> &[u8]
     ensures { λ r. ⌜ now r ≡ rowsIn (now (t .entry)) ⌝ }
@@ -71,18 +65,12 @@ pub fn places(t: &Run) -> Places
     places_in(t)
 }
 
-pub fn mode(t: &Run) -> Mode
-    ensures { λ r. ⌜ r ≡ modeIn (now (t .entry)) ⌝ }
-{
-    mode_in(t)
-}
-
 // ---- one of them
 
 pub fn counted(t: &Run) -> bool
     ensures { λ r. ⌜ r ≡ modeIn (now (t .entry)) .counted ⌝ }
 {
-    bytes::byte_at(t, 1) != 0
+    counted_in(t)
 }
 
 pub fn chains(t: &Run) -> bool
@@ -132,6 +120,58 @@ pub fn atomic_source(t: &Run, i: u16) -> Source
     ensures { λ r. ⌜ r .0 ≡ atomicSource (rowsIn (now (t .entry))) i ⌝ }
 {
     bytes::atomic_source(rows_of(t), i)
+}
+
+// ---- dependencies
+
+pub fn dependencies(t: &Run) -> u16
+    ensures { λ r. ⌜ r ≡ modeIn (now (t .entry)) .dependencies ⌝ }
+{
+    bytes::pair_at(part(t, DEPENDS), 0)
+}
+
+// A row of dependency k, by its byte in the first of them; 0 for one that there is no slot for.
+fn end_of(t: &Run, at: u8, k: u16) -> u16
+    ensures { λ r. ⌜ r ≡ getD (tabulate (dependencyEnd (drop DEPENDS (now (t .entry))) at) DEPENDENCIES) k 0 ⌝ }
+{
+    let i = k as usize;
+    if i < model::DEPENDENCIES {
+        return bytes::pair_at(part(t, DEPENDS), (at as usize) + i * bytes::DEPENDENCY_BYTES);
+    }
+    0
+}
+
+// The row that system-synchronizes-with another, and that other row, by dependency k.
+pub fn first_of(t: &Run, k: u16) -> u16
+    ensures { λ r. ⌜ r ≡ getD (modeIn (now (t .entry)) .first) k 0 ⌝ }
+{
+    end_of(t, 2, k)
+}
+
+pub fn second_of(t: &Run, k: u16) -> u16
+    ensures { λ r. ⌜ r ≡ getD (modeIn (now (t .entry)) .second) k 0 ⌝ }
+{
+    end_of(t, 4, k)
+}
+
+// Whether dependency k is of the rows x and y, in this order.
+fn is_dependency(t: &Run, x: u16, y: u16, k: u16) -> bool
+    ensures { λ b. ⌜ b ≡ dependency (modeIn (now (t .entry))) x y k ⌝ }
+{
+    (first_of(t, k) == x) & (second_of(t, k) == y)
+}
+
+// Whether a dependency is of the rows x and y: x system-synchronizes-with y.
+// Ruled out: one that takes a dependency in either direction; one that leaves the last dependency out.
+pub fn depends(t: &Run, x: u16, y: u16) -> bool
+    ensures { λ b. ⌜ b ≡ dependsOf (modeIn (now (t .entry))) x y ⌝ }
+{
+    for k in 0..dependencies(t) {
+        if is_dependency(t, x, y, k) {
+            return true;
+        }
+    }
+    false
 }
 
 // ---- of two agents

@@ -7,10 +7,9 @@ use native.Mathlib.Omega.{arith}
 use lib.Dec.{eqb}
 use borrow.Author.Tests.{ne-eqb}
 use Rattle.finite.specs.Logic.{_and_, _or_, and-false-left, or-off}
-use Rattle.model.specs.declared.Mode.{Mode}
 use Rattle.model.specs.declared.Row.{Row}
 use Rattle.model.specs.Row.{access, holds, meets, classIn, releases, acquires}
-use Rattle.model.specs.Table.{decode, rowOf}
+use Rattle.model.specs.Table.{Mode, decode, rowOf}
 use Rattle.model.specs.Moment.{AT, rowIn, part, classesOf, programOrder}
 use Rattle.model.specs.Synchronizes.{synchronizes}
 use Rattle.model.specs.Happens.{holdingOf, concernsOf, holding, concerns, bySync, toRelease, fromAcquire, bySystem, ROW-CASES, CASES, direct, nthCase}

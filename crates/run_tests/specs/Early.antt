@@ -6,8 +6,7 @@ use Prim.Native.Nat.{ℕ, _≤_}
 use lib.Dec.{eqb}
 use borrow.Author.Tests.{le-ltb}
 use Rattle.finite.specs.Logic.{_and_, split, not-both, not-so, not-out}
-use Rattle.model.specs.declared.Mode.{Mode}
-use Rattle.model.specs.Table.{decode, rowOf}
+use Rattle.model.specs.Table.{Mode, decode, rowOf}
 use Rattle.model.specs.Moment.{rowIn, programOrdered, programOrder}
 
 module _ (b : List ℕ) (p : List (List ℕ)) (mode : Mode) (n m k : ℕ) where

@@ -7,10 +7,9 @@ use lib.Dec.{ltb, eqb}
 use borrow.Author.Tests.{lt-ltb, le-ltb, not-false}
 use Rattle.finite.specs.Logic.{_and_, _or_, or-off, and-false-left, and-false-right, not-out, not-so, not-both, split, and-on}
 use Rattle.finite.specs.Below.{anyBelow, any-out}
-use Rattle.model.specs.declared.Mode.{Mode}
 use Rattle.model.specs.declared.Row.{Row}
 use Rattle.model.specs.Row.{atomic, barrier, control, executionOf, sameInstance, reads, writes, releases, acquires, classIn}
-use Rattle.model.specs.Table.{Table, decode, rowOf, atomicSource}
+use Rattle.model.specs.Table.{Mode, Table, decode, rowOf, atomicSource}
 use Rattle.model.specs.Scope.{shares, sameLocation, together, mutualRows, mutually, later, laterWriter, follows}
 use Rattle.model.specs.Moment.{sameAgent}
 use Rattle.model.specs.Synchronizes.{continues, ends, sequence, takesFrom, leads, trails, carriesOut, carriesIn, carriesOver}

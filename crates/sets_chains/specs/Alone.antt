@@ -66,7 +66,7 @@ module _ (t : Table) where
   unfolding happens interThreadBy
   happens-moments m k l o e =
       ⊎-elim (λ a. let b = order-parts t m k a in (b .2, b .3))
-      (λ a. let r = any-out (interThreadBy t m k) CLASS-SETS a in inter-moments t (suc (r .0)) m k l o (split (r .2) .1)) (or-cases _ _ e)
+      (λ a. let r = any-out (interThreadBy t m k) CLASS-SETS a in inter-moments t (suc (r .0)) m k l o (r .2)) (or-cases _ _ e)
 
   pub available-to-shown : (a v : ℕ) → a < t .rows → v < t .rows → happens t (availabilityMoment t a) (visibilityMoment t v) ≡ true → shews (t .row v) ≡ true
   available-to-shown a v l o e =

@@ -15,7 +15,7 @@ use Rattle.model.specs.declared.Row.{Row}
 use Rattle.model.specs.Row
 use Rattle.model.specs.Row.{plain, access, releases, acquires, holds, meets, single, classIn}
 use Rattle.model.specs.Moment.{classesOf}
-use Rattle.model.specs.Happens.{holdsAll}
+use Rattle.model_laws.specs.HappensLaws.{holdsAll}
 use Rattle.model.specs.Table.{Table}
 use Rattle.model_closing.specs.Nodes.{holder, releaser, acquirer, node}
 use Rattle.model_closing.specs.Direct.{takesPart, availableFor, visibleFor, classes-plain, classes-wide, holder-is}

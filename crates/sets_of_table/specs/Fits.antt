@@ -10,13 +10,12 @@ use borrow.Author.Tests.{eqb-true, leb-true, ltb-true, not-false}
 use Rattle.finite.specs.Logic.{split, and-true, or-cases, not-both, not-so, not-out}
 use Rattle.finite.specs.Below.{any-off, any-out}
 use Rattle.finite.specs.Lists.{getD-tabulate}
-use Rattle.model.specs.declared.Mode.{Mode}
 use Rattle.model.specs.declared.Row.{Row}
 use Rattle.model.specs.Limits.{DEPENDENCIES, LONGEST, BYTES}
 use Rattle.model.specs.Row.{plain, access, control, operation}
 use Rattle.model.specs.Scope.{DEVICE}
 use Rattle.model.specs.Availability.{sameReference}
-use Rattle.model.specs.Table.{rowOf, sourceOf, dependencyCount, dependencyFrom, dependencyTo, dependency, dependsOf}
+use Rattle.model.specs.Table.{Mode, rowOf, sourceOf, dependencyCount, dependencyFrom, dependencyTo, dependency, dependsOf}
 use Rattle.model.specs.Header.{rowsAt, agentsAt, hasHosts, rowBytes, dependencyBytes}
 use Rattle.model.specs.Table.{modeOf, decode, tableUnder}
 use Rattle.model.specs.Refusal.{dependenciesNamed, namesMissing}

@@ -7,14 +7,13 @@ use native.Mathlib.Omega.{arith}
 use lib.Dec.{eqb, ltb}
 use borrow.Author.Tests.{eqb-true, eq-eqb, ltb-true, lt-ltb}
 use Rattle.finite.specs.Logic.{_and_, bool-ext, split, and-true}
-use Rattle.model.specs.declared.Mode.{Mode}
 use Rattle.model.specs.declared.Row.{Row}
 use Rattle.model.specs.Limits.{ROWS}
 use Rattle.model.specs.Row.{access}
 use Rattle.model.specs.Scope.{sameLocation}
 use Rattle.model.specs.Location.{onHost}
 use Rattle.model.specs.Availability.{sameReference}
-use Rattle.model.specs.Table.{Table, rowOf, decode}
+use Rattle.model.specs.Table.{Mode, Table, rowOf, decode}
 use Rattle.model_placing.specs.Shares.{share, hears}
 use Rattle.bits.specs.Within.{Within, within-trans, within-widen}
 use Rattle.sets_of_rows.specs.declared.Set.{Set}

@@ -13,7 +13,6 @@ use borrow.Author.Tests.{eqb-true, eq-eqb, lt-ltb}
 use Rattle.finite.specs.Logic.{_and_, _or_, bool-ext, not-both, not-so, split, and-true, and-false-left, or-cases, or-left, or-right, or-off}
 use Rattle.finite.specs.Below.{anyBelow, any-in, any-out, below-cases}
 use Rattle.model.specs.Limits.{ROWS}
-use Rattle.model.specs.declared.Mode.{Mode}
 use Rattle.model.specs.Table.{dependency, dependsOf, decode}
 use Rattle.bits.specs.Within.{Within}
 use Rattle.run.specs.Layout.{tableIn, modeIn}
@@ -118,15 +117,3 @@ depends-end {t} {n} {m} {ends} {w} {u} h q inv f =
       };
       frame = f;
     }
-
--- ---- laws: of a mode that was read
-
-pub named-of : {t : List ℕ} {n : ℕ} (g : Mode) → FitRun t n → g ≡ modeIn t → (k : ℕ) → k < g .dependencies → (getD (g .first) k 0 < n) × (getD (g .second) k 0 < n)
-named-of {t} g h e k l = rw e (named-at h k (rw e at l))
-
-pub few-of : {t : List ℕ} {n : ℕ} (g : Mode) → FitRun t n → g ≡ modeIn t → g .dependencies ≤ 64
-few-of g h e = rw e (h .few)
-
-pub depends-of : {t : List ℕ} {n m : ℕ} {ends : Set} {w u : List ℕ} (g : Mode) → FitRun t n → g ≡ modeIn t → m ≡ g .dependencies → DependsTo n (g .first) (g .second) m ends u
-    → Within DEPENDS DEPENDS-END w u → MadeDepends (tableIn t n) n ends w u
-depends-of g h e q inv f = depends-end h (q ∙ ap (λ (z : Mode). z .dependencies) e) (rw e at inv) f

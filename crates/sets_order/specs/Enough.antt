@@ -16,10 +16,9 @@ use Rattle.model.specs.Limits.{CLASS-SETS}
 use Rattle.model.specs.Table.{Table}
 use Rattle.model.specs.Moment.{itself, programOrder}
 use Rattle.model.specs.Availability.{availabilityMoment, visibilityMoment}
-use Rattle.model.specs.Happens.{interThread, happens}
+use Rattle.model.specs.Happens.{interThread, interThreadBy, happens}
 use Rattle.model_hubs.specs.Wider.{lessBy, sharedBy, inter-wider}
 use Rattle.model_closing.specs.Order.{available-row, visible-row}
-use Rattle.model_closing.specs.Asked.{interBy, happens-sets}
 use Rattle.sets_grids.specs.Grid.{grid-cong}
 use Rattle.sets_grids.specs.Happens.{doneBy, orderBy, HappensBy, Happening, happensRows, availableRows, availableVisibles, availables, visibles}
 use Rattle.sets_closure.specs.Widest.{widest}
@@ -124,14 +123,14 @@ module _ (t : Table) (m k : ℕ) (here : m < 3 * t .rows) (there : k < 3 * t .ro
           on (sharedBy t s (t .rows)) (omega (arith, z)) (omega (arith, y)) (omega (arith, z, e)) (inter-wider t s (sharedBy t s (t .rows)) (h .sub) (h .all) m k here there i)
 
   wide-happens : orderBy t (wideTo t 16) m k ≡ happens t m k
-  unfolding orderBy doneBy interBy
-  wide-happens = ap (λ (b : Bool). programOrder t m k or b) (bool-ext _ _ forth back) ∙ sym (happens-sets t m k here there)
+  unfolding orderBy doneBy interThreadBy happens
+  wide-happens = ap (λ (b : Bool). programOrder t m k or b) (bool-ext _ _ forth back)
     where
-      forth : anyBelow CLASS-SETS (doneBy t (wideTo t 16) m k) ≡ true → anyBelow CLASS-SETS (interBy t m k) ≡ true
-      forth e = let r = any-out (doneBy t (wideTo t 16) m k) CLASS-SETS e in any-in (interBy t m k) CLASS-SETS (r .0) (r .1) (split (r .2) .1)
+      forth : anyBelow CLASS-SETS (doneBy t (wideTo t 16) m k) ≡ true → anyBelow CLASS-SETS (interThreadBy t m k) ≡ true
+      forth e = let r = any-out (doneBy t (wideTo t 16) m k) CLASS-SETS e in any-in (interThreadBy t m k) CLASS-SETS (r .0) (r .1) (split (r .2) .1)
 
-      back : anyBelow CLASS-SETS (interBy t m k) ≡ true → anyBelow CLASS-SETS (doneBy t (wideTo t 16) m k) ≡ true
-      back e = let r = any-out (interBy t m k) CLASS-SETS e in let l = r .1 in climb 16 (suc (r .0)) (omega arith) (omega arith) (omega arith) (r .2)
+      back : anyBelow CLASS-SETS (interThreadBy t m k) ≡ true → anyBelow CLASS-SETS (doneBy t (wideTo t 16) m k) ≡ true
+      back e = let r = any-out (interThreadBy t m k) CLASS-SETS e in let l = r .1 in climb 16 (suc (r .0)) (omega arith) (omega arith) (omega arith) (r .2)
 
 pub happening-all : {t : Table} {n c : ℕ} {w : List ℕ} → t .rows ≡ n → c ≡ 16 → HappensBy t (wideTo t c) n w → Happening t n w
 unfolding happensRows availableRows availableVisibles availables visibles

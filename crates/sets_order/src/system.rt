@@ -15,13 +15,10 @@ pub fn fill_depends(t: &Run, n: usize, w: &mut [u64]) -> Set
     ensures { λ e. ⌜ MadeDepends (tableIn (now (t .entry)) n) n e (now (w .entry)) (now (w .exit)) ⌝ }
 {
     bits::clear(w, sets_grids::DEPENDS, sets_grids::DEPENDS_END);
-    let mode = run::mode(t);
-    let first = mode.first;
-    let second = mode.second;
     let mut ends = sets_of_rows::none();
-    for k in 0..mode.dependencies as usize {
-        let x = first[k] as usize;
-        let y = second[k] as usize;
+    for k in 0..run::dependencies(t) {
+        let x = run::first_of(t, k) as usize;
+        let y = run::second_of(t, k) as usize;
         kept::put_bit(w, sets_grids::DEPENDS, x, y);
         ends = sets_of_rows::or(
             ends,

@@ -14,10 +14,10 @@ returns c = sym (and-false-left _ _ (not-out _ (c .if1 .taken)))
 returns-2 : tie.Need-returns-2
 unfolding _and_
 returns-2 c =
-    let start = c .before .before .before in
-    system-on (rowsIn (start .args .t .now)) (placesIn (start .args .t .now)) _ (start .args .n) (start .args .case) _ _ _ _ (c .before .mode .ensures) (c .depends .ensures)
-    (not-false _ (c .before .before .if1 .left))
+    let start = c .before .before in
+    system-on (rowsIn (start .args .t .now)) (placesIn (start .args .t .now)) _ (start .args .n) (start .args .case) _ _ _ (c .depends .ensures)
+    (not-false _ (c .before .if1 .left))
 
 pub is-system-spec : {M : Type 1} → statement M
 is-system-spec =
-    tie.close (tie.spec returns (λ c. search needs) (λ c. search needs) (λ c κs. search needs) (λ c κs. search needs) returns-2)
+    tie.close (tie.spec returns (λ c. search needs) (λ c. search needs) (λ c κs. search needs) returns-2)

@@ -17,7 +17,7 @@ returns-2 c =
       ← at-counts .before .agents-at .ensures,
       ← at-counts .rows-at .ensures,
       ← c .before .before .before .read-places .ensures,
-      ← c .before .before .read-mode .ensures,
+      ← c .before .before .is-counted .ensures,
       ← c .before .row-bytes .ensures,
     )
     (c .admit-rows .ensures)

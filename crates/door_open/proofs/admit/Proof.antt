@@ -1,8 +1,9 @@
-use mathlib.Core.Path.{refl, sym, _∙_}
+use mathlib.Core.Path.{refl, sym, ap, _∙_}
 use mathlib.Core.Bool.{false}
 use native.Mathlib.Omega.{arith}
 use Rattle.door_pieces.specs.PiecesLaws.{both-fit, early-pieces, early-passed, joined-front, front-length}
 use Rattle.door_open.specs.Laid.{laid-rows, laid-places, laid-mode}
+use Rattle.model.specs.Table.{Mode}
 use borrow.Author.Needs.{needs}
 use Rattle.door_open.proofs.admit.Statement.{statement}
 use Rattle.door_open.proofs.admit.Tie as tie
@@ -41,7 +42,7 @@ returns c =
       ← c-4 .before .before .has-hosts .ensures,
       ← c-4 .before .agents-at .ensures,
       ← (c-4 .places-in .ensures ∙ laid-places false _ _ _ laid),
-      ← (c .before .before .before .mode-in .ensures ∙ laid-mode false _ _ _ laid),
+      ← (c .before .before .before .counted-in .ensures ∙ ap (λ (g : Mode). g .counted) (laid-mode false _ _ _ laid)),
     )
     (c .admit-rows .ensures)
 

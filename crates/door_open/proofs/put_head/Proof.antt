@@ -6,7 +6,7 @@ use Rattle.door_open.proofs.put_head.Tie as tie
 returns : tie.Need-returns
 returns c =
     let c-4 = c .before .before .before .before in
-    head-put _ _ _ _ _ _ (c .before .before .put .ensures) (search needs) (c-4 .before .before .before .byte-at .ensures) (c-4 .before .before .byte .ensures) (c-4 .before .agents-at .ensures)
+    head-put _ _ _ _ _ _ (c .before .before .put .ensures) (search needs) (c-4 .before .before .before .is-counted .ensures) (c-4 .before .before .byte .ensures) (c-4 .before .agents-at .ensures)
 
 pub put-head-spec : {M : Type 1} → statement M
 put-head-spec =

@@ -9,6 +9,7 @@ use Rattle.model.specs.Limits.{CLASS-SETS}
 use Rattle.work_area.specs.Regions.{HAPPENS, STEP-END, MOMENTS}
 use Rattle.work_area.specs.Synced.{Synced, synced-kept}
 use Rattle.flags_order.specs.Sets.{upTo, upTo-none, upTo-more, ordered-made}
+use Rattle.model.specs.Table.{decode}
 use borrow.Author.Needs.{needs}
 use Rattle.flags_order.proofs.happens_before.Statement.{statement}
 use Rattle.flags_order.proofs.happens_before.Tie as tie
@@ -42,12 +43,13 @@ loop-again c =
     )
 
 returns : tie.Need-returns Inv-loop μ-loop
+unfolding decode
 returns c =
     let e : c .before .loop .s ≡ CLASS-SETS = omega arith in
     let inv = c .before .loop .inv in
     let at-order = c .before .before .before .before in
     let at-synced = at-order .before .before .before .before in
-    ordered-made (at-synced .make-synced .ensures) (at-order .fill-order .ensures) (inv .2) (rw e at (inv .3)) (inv .4)
+    ordered-made (at-synced .make-synced .ensures) (at-order .fill-order .ensures) (inv .2) (rw e at (inv .3)) (inv .4) refl
 
 pub happens-before-spec : {M : Type 1} → statement M
 happens-before-spec =

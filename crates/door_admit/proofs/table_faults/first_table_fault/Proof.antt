@@ -6,15 +6,16 @@ use Rattle.model.specs.Table.{decode, sourceOf}
 use Rattle.model.specs.Refusal.{faulty}
 use Rattle.model.specs.TableFault.{tableFault}
 use Rattle.door_admit.proofs.Laws.{fault-here, fault-none, classes-clear}
+use Rattle.door_admit.specs.Rows.{ranks}
 use borrow.Author.Needs.{needs}
 use Rattle.door_admit.proofs.table_faults.first_table_fault.Statement.{statement}
 use Rattle.door_admit.proofs.table_faults.first_table_fault.Tie as tie
 
 abbrev Inv-loop : tie.InvT-loop
-Inv-loop rows p mode n blanks i₀ i = (i ≤ n) × (least i (faulty (tableFault blanks (decode rows p mode n) (sourceOf rows))) ≡ i)
+Inv-loop rows p counted n blanks i₀ i = (i ≤ n) × (least i (faulty (tableFault blanks (decode rows p (ranks counted) n) (sourceOf rows))) ≡ i)
 
 abbrev μ-loop : tie.MeasureT-loop
-μ-loop rows p mode n blanks i₀ i = n - i
+μ-loop rows p counted n blanks i₀ i = n - i
 
 loop-holds : tie.Need-loop-holds Inv-loop μ-loop
 loop-holds c = (search needs, least-none _)

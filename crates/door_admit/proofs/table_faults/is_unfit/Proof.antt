@@ -11,12 +11,12 @@ returns c = unfit-off _ _ _ (not-true _ (c .if1 .taken))
 returns-2 : tie.Need-returns-2
 returns-2 c =
     let early = c .before .before in
-    unfit-none _ _ _ _ _ (not-false _ (early .if1 .left)) (early .before .before .before .pre) (c .before .is-ranked .ensures) (not-true _ (c .if2 .taken))
+    unfit-none _ _ _ _ _ (not-false _ (early .if1 .left)) (early .before .before .pre) (c .before .is-ranked .ensures) (not-true _ (c .if2 .taken))
 
 returns-3 : tie.Need-returns-3
 returns-3 c =
     let early = c .before .before .before .before in
-    unfit-early _ _ _ _ _ (not-false _ (early .if1 .left)) (early .before .before .before .pre) (c .before .before .before .is-ranked .ensures)
+    unfit-early _ _ _ _ _ (not-false _ (early .if1 .left)) (early .before .before .pre) (c .before .before .before .is-ranked .ensures)
     (not-false _ (c .before .before .if2 .left)) _ (c .before .any-begins .ensures) (c .if3 .taken)
 
 returns-4 : tie.Need-returns-4
@@ -24,7 +24,7 @@ unfolding _or_
 returns-4 c =
     let late = c .before .before in
     let early = late .before .before .before .before in
-    unfit-late _ _ _ _ _ (not-false _ (early .if1 .left)) (early .before .before .before .pre) (late .before .before .before .is-ranked .ensures)
+    unfit-late _ _ _ _ _ (not-false _ (early .if1 .left)) (early .before .before .pre) (late .before .before .before .is-ranked .ensures)
     (not-false _ (late .before .before .if2 .left)) _ _ _ (late .before .any-begins .ensures) (late .if3 .left) (c .before .any-outside .ensures)
     (c .is-outside .ensures)
 

@@ -5,10 +5,10 @@ use Rattle.flags_order.proofs.steps.put_dependency.Statement.{statement
 use Rattle.flags_order.proofs.steps.put_dependency.Tie as tie
 
 returns : tie.Need-returns
-returns c = past-first _ _ _ _ _ _ (c .before .before .first-at .ensures) (c .before .second-at .ensures) (c .if1 .taken)
+returns c = past-first _ _ _ _ _ _ (c .before .before .first-of .ensures) (c .before .second-of .ensures) (c .if1 .taken)
 
 returns-2 : tie.Need-returns-2
-returns-2 c = past-second _ _ _ _ _ _ (c .before .before .before .first-at .ensures) (c .before .before .second-at .ensures) (c .if2 .taken)
+returns-2 c = past-second _ _ _ _ _ _ (c .before .before .before .first-of .ensures) (c .before .before .second-of .ensures) (c .if2 .taken)
 
 returns-3 : tie.Need-returns-3
 returns-3 c =
@@ -16,7 +16,7 @@ returns-3 c =
     let tested = at-put .before .before .before .before in
     let read = tested in
     let start = read .before .before .before in
-    added-put _ _ _ _ _ _ (read .before .first-at .ensures) (read .second-at .ensures) _ _ (start .pre .0) (start .pre .1) (omega arith)
+    added-put _ _ _ _ _ _ (read .before .first-of .ensures) (read .second-of .ensures) _ _ (start .pre .0) (start .pre .1) (omega arith)
     (omega arith) (omega arith) (at-put .put .ensures)
 
 pub put-dependency-spec : {M : Type 1} → statement M

@@ -52,7 +52,7 @@ unfolding
     Synchronizes.carriesOver Synchronizes.syncBarriers Synchronizes.upTo Synchronizes.joins Synchronizes.arrives Synchronizes.passes
     Synchronizes.syncControl Synchronizes.synchronizes
     Happens.holdingOf Happens.concernsOf Happens.holding Happens.concerns Happens.bySync Happens.toRelease Happens.fromAcquire Happens.bySystem
-    Happens.direct Happens.nthCase Happens.step Happens.interThread Happens.holdsAll Happens.live Happens.interThreadBy Happens.happens
+    Happens.direct Happens.nthCase Happens.step Happens.interThread Happens.interThreadBy Happens.happens
     Availability.sameReference Availability.coversOf Location.pureRead Availability.publicWrite Location.L1 Location.L2
     Availability.availabilityMoment Availability.visibilityMoment
     Availability.firstAvailable Availability.lastVisible Availability.broader Availability.broadens Availability.narrows

@@ -2,9 +2,9 @@
 use mathlib.Core.Path.{_≡_, refl}
 use mathlib.Core.List.{List, [], _∷_, map}
 use Prim.Native.Nat.{ℕ}
 use Rattle.model.specs.Check.{refused, race, raceFree}
 use Rattle.model.specs.Reason as reason
-use Rattle.model.specs.Runs.{checked, reasoned, asCheck, asOrder, Run, answer, table, change, agent₀, agent₁, write}
+use Rattle.model_runs.specs.Runs.{checked, reasoned, asCheck, asOrder, Run, answer, table, change, agent₀, agent₁, write}
 
 -- ---- shortcuts that would fool us
 
@@ -67,6 +67,3 @@ shortcuts =
     ∷ record { ask = asOrder 1 3; table = alone 1; gives = reasoned reason.accepted }
     ∷ []
 
-pub shortcuts-hold : map (λ r. answer (r .ask) (r .table)) shortcuts ≡ map (λ r. r .gives) shortcuts
-unfolding answer
-shortcuts-hold = refl

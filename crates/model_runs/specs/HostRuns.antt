@@ -3,10 +3,10 @@ use mathlib.Core.Path.{_≡_, refl}
 use mathlib.Core.List.{List, [], _∷_, _++_, map}
 use Prim.Native.Nat.{ℕ, _+_, _*_}
 use lib.ListN.{length, set}
 use Rattle.model.specs.Check.{refused, race, raceFree}
 use Rattle.model.specs.Fill.{filled}
-use Rattle.model.specs.Runs.{checked, filling, asCheck, asFill, Run, answer, joined, table, write, read}
-use Rattle.model.specs.RequestRuns.{meet}
+use Rattle.model_runs.specs.Runs.{checked, filling, asCheck, asFill, Run, answer, joined, table, write, read}
+use Rattle.model_runs.specs.RequestRuns.{meet}
 
 -- ---- tables
 
@@ -118,6 +118,3 @@ hosts =
     ∷ record { ask = asCheck; table = 0 ∷ 0 ∷ 0 ∷ 4 ∷ 4 ∷ 0 ∷ 0 ∷ 0 ∷ []; gives = checked (refused 2 0) }
     ∷ []
 
-pub hosts-hold : map (λ r. answer (r .ask) (r .table)) hosts ≡ map (λ r. r .gives) hosts
-unfolding answer
-hosts-hold = refl

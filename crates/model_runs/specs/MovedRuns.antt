@@ -9,11 +9,11 @@ use Rattle.model.specs.Limits.{WORK, CYCLE, SOURCES}
 use Rattle.model.specs.Header.{rowsAt}
 use Rattle.model.specs.Check.{cyclic, race, raceFree, check}
 use Rattle.model.specs.Fill.{filled, fill}
-use Rattle.model.specs.Opened.{opened}
+use Rattle.model_runs.specs.Opened.{opened}
 use Rattle.model_page_order.specs.Renumber.{Renumbering}
 use Rattle.model_page_order.specs.Moved.{Moved}
 use Rattle.model_page_order.specs.Tried.{undoes, by-list, listed, sameHead, sameByte, sameRow, inOrder, ordered, sameDependency, sameDependencies, isMoved}
 use Rattle.model_page_order.specs.Tried.{moved-by-test}
 
 -- ---- tables: as the model's runs have them
 

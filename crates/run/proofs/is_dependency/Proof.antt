@@ -1,8 +1,8 @@
 use Rattle.finite.specs.Logic.{_and_}
 use Rattle.model.specs.Table.{dependency}
 use borrow.Author.Needs.{needs}
-use Rattle.door_rows.proofs.dependencies.is_dependency.Statement.{statement}
-use Rattle.door_rows.proofs.dependencies.is_dependency.Tie as tie
+use Rattle.run.proofs.is_dependency.Statement.{statement}
+use Rattle.run.proofs.is_dependency.Tie as tie
 
 returns : tie.Need-returns
 unfolding dependency _and_

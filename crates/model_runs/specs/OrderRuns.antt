@@ -2,10 +2,10 @@
 use mathlib.Core.Path.{_≡_, refl}
 use mathlib.Core.List.{List, [], _∷_, map}
 use Prim.Native.Nat.{ℕ}
 use Rattle.model.specs.Check.{overwritten}
 use Rattle.model.specs.Fill.{filled, none}
 use Rattle.model.specs.Reason as reason
-use Rattle.model.specs.Runs.{checked, filling, reasoned, asCheck, asFill, asChain, Run, answer, change, two, write, read, P}
+use Rattle.model_runs.specs.Runs.{checked, filling, reasoned, asCheck, asFill, asChain, Run, answer, change, two, write, read, P}
 
 -- a private write of the data by agent 1
 abbrev private : List ℕ

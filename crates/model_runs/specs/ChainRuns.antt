@@ -4,7 +4,7 @@ use mathlib.Core.Bool.{Bool, true, false}
 use mathlib.Core.List.{List, [], _∷_, map}
 use Prim.Native.Nat.{ℕ}
 use lib.ListN.{set}
-use Rattle.model.specs.Runs.{ordered, asBefore, answer, table}
+use Rattle.model_runs.specs.Runs.{ordered, asBefore, Run, table}
 
 -- a place in this workgroup and subgroup
 abbrev place : ℕ → ℕ → List ℕ
@@ -65,27 +65,19 @@ astray =
     (set (set out 3 2) 5 3 ∷ release 0 4 1 1 1 4 ∷ acquire 1 4 1 1 1 4 1 ∷ fence 1 1 4 5 4 ∷ release 1 4 4 1 1 8 ∷ acquire 2 4 4 1
     1 8 4 ∷ fence 2 1 3 5 4 ∷ back ∷ [])
 
--- whether the write is location-ordered before the read at byte 0, by the table and the row of the read; off and on
-pub record Pair : Type 0 where
-  pub table : List ℕ
-  pub reader : ℕ
-  pub off : Bool
-  pub on : Bool
-
-abbrev pub chained : List Pair
+-- whether the write is location-ordered before the read at byte 0: chains off, and on
+abbrev pub chained : List Run
 chained =
-    record { table = widened; reader = 5; off = false; on = true }
-    ∷ record { table = narrowed; reader = 5; off = false; on = true }
-    ∷ record { table = elsewhere; reader = 5; off = false; on = false }
-    ∷ record { table = otherwise; reader = 6; off = false; on = true }
-    ∷ record { table = level; reader = 6; off = false; on = false }
-    ∷ record { table = astray; reader = 7; off = false; on = false }
+    record { ask = asBefore false 5; table = widened; gives = ordered false }
+    ∷ record { ask = asBefore true 5; table = widened; gives = ordered true }
+    ∷ record { ask = asBefore false 5; table = narrowed; gives = ordered false }
+    ∷ record { ask = asBefore true 5; table = narrowed; gives = ordered true }
+    ∷ record { ask = asBefore false 5; table = elsewhere; gives = ordered false }
+    ∷ record { ask = asBefore true 5; table = elsewhere; gives = ordered false }
+    ∷ record { ask = asBefore false 6; table = otherwise; gives = ordered false }
+    ∷ record { ask = asBefore true 6; table = otherwise; gives = ordered true }
+    ∷ record { ask = asBefore false 6; table = level; gives = ordered false }
+    ∷ record { ask = asBefore true 6; table = level; gives = ordered false }
+    ∷ record { ask = asBefore false 7; table = astray; gives = ordered false }
+    ∷ record { ask = asBefore true 7; table = astray; gives = ordered false }
     ∷ []
-
-pub chained-off : map (λ r. answer (asBefore false (r .reader)) (r .table)) chained ≡ map (λ r. ordered (r .off)) chained
-unfolding answer
-chained-off = refl
-
-pub chained-on : map (λ r. answer (asBefore true (r .reader)) (r .table)) chained ≡ map (λ r. ordered (r .on)) chained
-unfolding answer
-chained-on = refl

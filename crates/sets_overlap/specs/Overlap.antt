@@ -6,6 +6,7 @@ use mathlib.Core.Logic.{_⊎_, inl, inr, ⊎-elim}
 use Prim.Native.Nat.{ℕ, _+_, _-_, _*_, _≤_, _<_, max}
 use native.Mathlib.Omega.{arith}
 use native.Mathlib.Decide.{decLt, ℕ-discrete}
+use lib.ListN.{length}
 use lib.Dec.{ltb, eqb}
 use borrow.Author.Tests.{lt-ltb, le-ltb, ltb-true, eq-eqb, eqb-true}
 use Rattle.finite.specs.Logic.{_and_, _or_, bool-ext, split, and-true, and-on, and-false-left, and-false-right, and-left, and-right, and-on-right, and-both, or-off, or-left, not-both, which}
@@ -31,10 +32,6 @@ use Rattle.sets_of_table.specs.Ask.{few}
 
 -- ---- definitions
 
--- the accesses before row i have the rows that they share bytes with
-pub record Earlier (t : Table) (n i : ℕ) (w : List ℕ) : Type 0 where
-  pub row : (k : ℕ) → k < i → k < n → access (t .row k) ≡ true → Rows n (overlaps t k) (nth w OVERLAP k)
-
 -- the extents of two rows meet
 unfoldable pub meet : Row → Row → Bool
 meet r q = ltb (r .start) (q .start + q .size) and ltb (q .start) (r .start + r .size)
@@ -43,6 +40,51 @@ meet r q = ltb (r .start) (q .start + q .size) and ltb (q .start) (r .start + r 
 pub record Nearing (t : Table) (n i : ℕ) (left all : Set) : Type 0 where
   pub sub : (j : ℕ) → inSet left j ≡ true → (j < n) × (access (t .row j) ≡ true)
   pub is : (k : ℕ) → inSet all k ≡ (((ltb k n and access (t .row k)) and not (inSet left k)) and meet (t .row i) (t .row k))
+
+-- the first access of its location
+pub record Head (t : Table) (n h : ℕ) : Type 0 where
+  pub low : h < n
+  pub access : access (t .row h) ≡ true
+  pub first : (k : ℕ) → k < h → samePlace t h k ≡ false
+
+-- accesses, by whole locations
+pub record Whole (t : Table) (n : ℕ) (x : Set) : Type 0 where
+  pub sub : (j : ℕ) → inSet x j ≡ true → (j < n) × (access (t .row j) ≡ true)
+  pub all : (j k : ℕ) → inSet x j ≡ true → k < n → samePlace t j k ≡ true → inSet x k ≡ true
+
+-- row k is an access that row h meets
+unfoldable pub met : Table → ℕ → ℕ → ℕ → Bool
+met t n h k = (ltb k n and access (t .row k)) and meet (t .row h) (t .row k)
+
+-- while the locations of x have not met: each location has at its first row the accesses that it meets, but of two in x neither has the other's
+pub record Meeting (t : Table) (n : ℕ) (x : Set) (u : List ℕ) : Type 0 where
+  pub whole : Whole t n x
+  pub row : (h k : ℕ) → Head t n h → inSet (nth u 0 h) k ≡ (met t n h k and not (inSet x h and inSet x k))
+  pub long : length u ≡ 2 * ROWS
+
+-- some of them have
+pub record Met (t : Table) (n : ℕ) (x rest : Set) (u : List ℕ) : Type 0 where
+  pub meeting : Meeting t n rest u
+  pub less : ROWS - next rest < ROWS - next x
+
+-- all of them have
+pub record Near (t : Table) (n : ℕ) (u : List ℕ) : Type 0 where
+  pub row : (h : ℕ) → Head t n h → Rows n (overlaps t h) (nth u 0 h)
+  pub long : length u ≡ 2 * ROWS
+
+-- the table's sets, and what meets each location
+pub record Told (t : Table) (n : ℕ) (s u : List ℕ) : Type 0 where
+  pub opened : Opened t n s
+  pub near : Near t n u
+
+-- while the location `own` of row i meets those of `rest`: those that are left don't have it
+pub record Turn (t : Table) (n i : ℕ) (own rest left all : Set) (u : List ℕ) : Type 0 where
+  pub near : Nearing t n i left all
+  pub whole : Whole t n left
+  pub part : (j : ℕ) → inSet left j ≡ true → inSet rest j ≡ true
+  pub row : (h k : ℕ) → Head t n h → (h ≡ i → ⊥)
+      → inSet (nth u 0 h) k ≡ (met t n h k and not (inSet rest h and (inSet rest k or (inSet own k and inSet left h))))
+  pub long : length u ≡ 2 * ROWS
 
 -- ---- laws: two extents
 
@@ -84,7 +126,7 @@ turned : (a b : Bool) → (a and b) ≡ (b and a)
 turned a b = bool-ext _ _ (λ e. let d = split e in and-true (d .1) (d .0)) (λ e. let d = split e in and-true (d .1) (d .0))
 
 -- rows of one location share bytes with the same rows
-same-meet : (r q p : Row) → sameLocation r q ≡ true → meet p r ≡ meet p q
+pub same-meet : (r q p : Row) → sameLocation r q ≡ true → meet p r ≡ meet p q
 unfolding sameLocation meet
 same-meet r q p e =
     let h = split (split e .0) in
@@ -92,11 +134,11 @@ same-meet r q p e =
     let b : r .size ≡ q .size = eqb-true (r .size) (q .size) (h .1) in
     ap₂ (λ (u v : ℕ). ltb (p .start) (u + v) and ltb u (p .start + p .size)) a b
 
-swap : (r q : Row) → meet r q ≡ meet q r
+pub swap : (r q : Row) → meet r q ≡ meet q r
 unfolding meet
 swap r q = turned (ltb (r .start) (q .start + q .size)) (ltb (q .start) (r .start + r .size))
 
-same-met : (r q p : Row) → sameLocation r q ≡ true → meet r p ≡ meet q p
+pub same-met : (r q p : Row) → sameLocation r q ≡ true → meet r p ≡ meet q p
 same-met r q p e = swap r p ∙ same-meet r q p e ∙ swap p q
 
 module _ {t : Table} {n : ℕ} {s : List ℕ} (o : Opened t n s) where
@@ -104,7 +146,7 @@ module _ {t : Table} {n : ℕ} {s : List ℕ} (o : Opened t n s) where
   fits j l = subst (λ (m : ℕ). j < m) (sym (o .rows)) l
 
   -- row i is an access: those that share bytes with it are accesses that it meets
-  over-is : (i j : ℕ) → i < n → j < n → access (t .row i) ≡ true → (access (t .row j) and meet (t .row i) (t .row j)) ≡ overlaps t i j
+  pub over-is : (i j : ℕ) → i < n → j < n → access (t .row i) ≡ true → (access (t .row j) and meet (t .row i) (t .row j)) ≡ overlaps t i j
   unfolding overlaps _and_
   over-is i j l m a = ⊎-elim yes no (which (access (t .row j)))
     where
@@ -114,27 +156,10 @@ module _ {t : Table} {n : ℕ} {s : List ℕ} (o : Opened t n s) where
       no : access (t .row j) ≡ false → (access (t .row j) and meet (t .row i) (t .row j)) ≡ overlap (t .row i) (t .row j)
       no b = rw b (sym (empty-apart (t .row i) (t .row j) (inr (o .fit .empty j (fits j m) b))))
 
-  -- ---- laws: the loop over locations
-
-  pub near-begin : (i : ℕ) (x all : Set) → x ≡ setAt s ACCESS → ((k : ℕ) → inSet all k ≡ false) → Nearing t n i x all
-  near-begin i x all e none =
-      record {
-        sub = λ j h. let d = split (sym (rows .is j) ∙ h) in (ltb-true j n (d .0), d .1);
-        is = λ k. none k ∙ sym (and-false-left _ _ (gone k));
-      }
-    where
-      rows : Rows n (λ j. access (t .row j)) x
-      rows = rows-at e (says-rows (o .known .tested .accesses .access))
-
-      gone : (k : ℕ) → ((ltb k n and access (t .row k)) and not (inSet x k)) ≡ false
-      gone k = ap (λ (b : Bool). b and not (inSet x k)) (sym (rows .is k)) ∙ self (inSet x k)
-        where
-          self : (b : Bool) → (b and not b) ≡ false
-          self true = and-false-right true false refl
-          self false = and-false-left false true refl
+  -- ---- laws: one location
 
   -- row j's location
-  here-is : (j : ℕ) (here : Set) → j < n → access (t .row j) ≡ true → here ≡ setAt s (PLACE + 2 * j)
+  pub here-is : (j : ℕ) (here : Set) → j < n → access (t .row j) ≡ true → here ≡ setAt s (PLACE + 2 * j)
       → (k : ℕ) → inSet here k ≡ (ltb k n and samePlace t j k)
   here-is j here l a e k = rows-at e (o .known .place j l a) .is k
 
@@ -147,23 +172,24 @@ module _ {t : Table} {n : ℕ} {s : List ℕ} (o : Opened t n s) where
       self : (m : ℕ) → eqb m m ≡ true
       self m = eq-eqb m m refl
 
+  -- without the location of its first row a set begins later
+  pub less-next : {j : ℕ} {x here : Set} (rest : Set) → (j < n) × (access (t .row j) ≡ true) → First x j → here ≡ setAt s (PLACE + 2 * j)
+      → ((k : ℕ) → inSet rest k ≡ (inSet x k and not (inSet here k))) → ROWS - next rest < ROWS - next x
+  less-next {j} {x} {here} rest d low place less = let a = first-next low in let b = low .bound in let c = later (decLt j (next rest)) in omega arith
+    where
+      gone : (k : ℕ) → k ≤ j → inSet rest k ≡ false
+      gone k l = go (ℕ-discrete k j)
+        where
+          go : Dec (k ≡ j) → inSet rest k ≡ false
+          go (yes e) = less k ∙ and-false-right _ _ (ap (λ (m : ℕ). not (inSet here m)) e ∙ ap not (own-here j here (d .0) (d .1) place))
+          go (no e) = less k ∙ and-false-left _ _ (low .miss k (omega arith))
+
+      later : Dec (j < next rest) → j < next rest
+      later (yes l) = l
+      later (no l) = let b = low .bound in not-both (least-is (inSet rest) ROWS .hit (omega arith)) (gone (next rest) (omega arith))
+
   module _ {i j : ℕ} {left all here : Set} (rest : Set) (inv : Nearing t n i left all) (low : First left j) (place : here ≡ setAt s (PLACE + 2 * j))
       (less : (k : ℕ) → inSet rest k ≡ (inSet left k and not (inSet here k))) where
-    pub near-less : ROWS - next rest < ROWS - next left
-    near-less = let a = first-next low in let b = low .bound in let c = later (decLt j (next rest)) in omega arith
-      where
-        gone : (k : ℕ) → k ≤ j → inSet rest k ≡ false
-        gone k l = go (ℕ-discrete k j)
-          where
-            go : Dec (k ≡ j) → inSet rest k ≡ false
-            go (yes e) = let d = inv .sub j (low .hit) in
-                less k ∙ and-false-right _ _ (ap (λ (m : ℕ). not (inSet here m)) e ∙ ap not (own-here j here (d .0) (d .1) place))
-            go (no e) = less k ∙ and-false-left _ _ (low .miss k (omega arith))
-
-        later : Dec (j < next rest) → j < next rest
-        later (yes l) = l
-        later (no l) = let b = low .bound in not-both (least-is (inSet rest) ROWS .hit (omega arith)) (gone (next rest) (omega arith))
-
     module _ (part more : Set) (b : Bool) (test : b ≡ meet (t .row i) (t .row j)) (only : (k : ℕ) → inSet part k ≡ (b and inSet here k))
         (both-are : (k : ℕ) → inSet more k ≡ (inSet all k or inSet part k)) where
       pub near-turn : Nearing t n i rest more
@@ -202,53 +228,11 @@ module _ {t : Table} {n : ℕ} {s : List ℕ} (o : Opened t n s) where
               both true y f = or-left y refl ∙ sym (f refl)
               both false y f = refl
 
-  pub near-end : (i : ℕ) (left all : Set) → i < n → access (t .row i) ≡ true → anyBelow ROWS (inSet left) ≡ false → Nearing t n i left all → Rows n (overlaps t i) all
-  near-end i left all l a e inv = record { is = λ k. inv .is k ∙ at k (decLt k n) }
-    where
-      at : (k : ℕ) → Dec (k < n) → (((ltb k n and access (t .row k)) and not (inSet left k)) and meet (t .row i) (t .row k)) ≡ (ltb k n and overlaps t i k)
-      at k (yes m) =
-          let f = few o in
-          let z : inSet left k ≡ false = any-off (inSet left) ROWS e k (omega arith) in
-          let on = lt-ltb k n m in
-          ap (λ (x : Bool). ((ltb k n and access (t .row k)) and not x) and meet (t .row i) (t .row k)) z
-          ∙ ap (λ (x : Bool). x and meet (t .row i) (t .row k)) (and-on-right (ltb k n and access (t .row k)) true refl ∙ and-on (ltb k n) (access (t .row k)) on)
-          ∙ over-is i k l m a ∙ sym (and-on (ltb k n) (overlaps t i k) on)
-      at k (no m) =
-          let off = le-ltb k n (omega arith) in
-          and-false-left _ _ (and-false-left _ _ (and-false-left _ _ off)) ∙ sym (and-false-left (ltb k n) (overlaps t i k) off)
-
   -- ---- laws: a row by the first of its location
 
   -- the first of row i's location
   pub first-here : (i : ℕ) (here : Set) → i < n → access (t .row i) ≡ true → here ≡ setAt s (PLACE + 2 * i) → anyBelow ROWS (inSet here) ≡ true
   first-here i here l a e = let f = few o in any-in (inSet here) ROWS i (omega arith) (own-here i here l a e)
-
-  pub earlier-row : {w : List ℕ} (i j : ℕ) (here x : Set) → i < n → access (t .row i) ≡ true → here ≡ setAt s (PLACE + 2 * i) → First here j
-      → (j ≡ i → ⊥) → Earlier t n i w → x ≡ setAt w (OVERLAP + 2 * j) → Rows n (overlaps t i) x
-  unfolding overlaps samePlace
-  earlier-row {w} i j here x l a e f ne before q =
-      rows-cong (λ k m. same k m) (rows-at q (before .row j lower below (p .1)))
-    where
-      member : (ltb j n and samePlace t i j) ≡ true
-      member = sym (here-is i here l a e j) ∙ f .hit
-
-      below : j < n
-      below = ltb-true j n (split member .0)
-
-      p : (sameLocation (t .row i) (t .row j) ≡ true) × (access (t .row j) ≡ true)
-      p = let d = split (split member .1) in (d .1, d .0)
-
-      lower : j < i
-      lower = go (decLt j i)
-        where
-          go : Dec (j < i) → j < i
-          go (yes o) = o
-          go (no o) = not-both (own-here i here l a e) (f .miss i (omega arith))
-
-      same : (k : ℕ) → k < n → overlap (t .row j) (t .row k) ≡ overlap (t .row i) (t .row k)
-      same k m =
-          sym (over-is j k below m (p .1)) ∙ ap (λ (b : Bool). access (t .row k) and b) (sym (same-met (t .row i) (t .row j) (t .row k) (p .0)))
-          ∙ over-is i k l m a
 
   -- nothing shares bytes with what is no access
   pub over-only : (i j : ℕ) → i < n → j < n → overlaps t i j ≡ true → access (t .row i) ≡ true
@@ -261,16 +245,3 @@ pub meet-said : (r q : Row) (start end last first : ℕ) → start ≡ r .start 
 unfolding meet
 meet-said r q start end last first a b c d =
     and-both (ltb start last) (ltb first end) ∙ ap₂ (λ (u v : ℕ). ltb u v and ltb first end) a c ∙ ap₂ (λ (u v : ℕ). ltb (r .start) (q .start + q .size) and ltb u v) d b
-
--- while rows are put one after the other: those before the next one have theirs
-pub earlier-put : {t : Table} {n i : ℕ} {x left : Set} {w u : List ℕ} → n ≤ ROWS → Rows n (λ j. access (t .row j)) x
-    → Filling OVERLAP x (λ k j. ltb j n and overlaps t k j) w left u → First left i → Earlier t n i u
-earlier-put {t} {n} {i} {x} {left} few h inv low =
-    record {
-      row = λ k l m a. record {
-        is = λ j.
-            inv .to .is k j (omega arith)
-            ∙ and-on (ltb k (next left)) _ (lt-ltb k (next left) (subst (λ (z : ℕ). k < z) (sym (first-next low)) l))
-            ∙ and-on (inSet x k) (ltb j n and overlaps t k j) (rows-in h k m ∙ a);
-      };
-    }

@@ -36,7 +36,7 @@ use Rattle.run.specs.Layout.{tableIn}
 use Rattle.door_open.specs.Opened.{Entered}
 use Rattle.door_pieces.specs.Answers.{not-derived, derive-both}
 use Rattle.work_walks.specs.Layers.{inLayer}
-use Rattle.ask_derive.specs.Layers.{Layered}
+use Rattle.ask_derive.specs.Layers.{Layered, Asked, Leading}
 use Rattle.ask_derive.specs.Found.{size-is, size-fits, set-has}
 
 -- ---- definitions
@@ -101,20 +101,23 @@ module _ (t : Table) (m k : ℕ) where
     chain-told size c d l a g = rw (found l) (ap (λ (q : ℕ). the-variants.Chain (i + 1) q) a, g)
 
 -- the class set was found, and then the layer of the first moment
-module _ {t : Table} {n m k i : ℕ} {u : List ℕ} (all : n ≡ t .rows) (few : n ≤ ROWS) (below-m : m < 3 * n) (below-k : k < 3 * n) (apart : m ≡ k → ⊥)
+module _ {t : Table} {n m k i : ℕ} {u : List ℕ} (all : n ≡ t .rows) (asked : Asked n m k)
     (set-is : i ≡ least CLASS-SETS (hasChainBy t m k)) (a-set : i < CLASS-SETS) (layered : Layered t n (i + 1) k u) (j : ℕ)
     (layer-is : j ≡ least (3 * n) (inLayer u CHAINS MOMENTS m)) where
+  fits : (j + 1 ≤ STEPS) × (j + 1 ≤ 3 * n) × (walk (3 * n) (rel u STEP MOMENTS) k (j + 1) m ≡ true)
+  fits = size-fits all layered m (asked .from) j layer-is (asked .few) (asked .to) (asked .apart) (set-has t i m k set-is a-set)
+
   -- what `write_steps` asks
-  pub steps-asked : (j + 1 ≤ STEPS) × (j + 1 ≤ 3 * n) × (walk (3 * n) (rel u STEP MOMENTS) k (j + 1) m ≡ true)
-  steps-asked = size-fits all layered m below-m j layer-is few below-k apart (set-has t i m k set-is a-set)
+  pub steps-asked : WORK ≤ length u → Leading n m k (j + 1) u
+  steps-asked room = record { room = room; from = asked .from; few = fits .0; short = fits .1; layers = layered .layers; leads = fits .2 }
 
   pub told-chain : {w v c d : List ℕ} → programOrder t m k ≡ false → STEPS ≤ length c → Within MUTUAL SYNC-END w v → Within HAPPENS CHAINS-END v u
       → Written (along (stepNumber t (i + 1)) k (trail (3 * n) (rel u STEP MOMENTS) k (j + 1) m)) (j + 1) c d
       → Framed (ours t m k) (the-variants.Chain (i + 1) (j + 1)) c d w u
   told-chain {c = c} {d} not-program room synced searched written =
-      let a = steps-asked .0 in
-      let r = chain-told t m k not-program i set-is (j + 1) c d a-set (chain-length all layered below-m j layer-is)
-      (chain-written all layered below-m j layer-is (steps-asked .2) (omega arith) written) in
+      let a = fits .0 in
+      let r = chain-told t m k not-program i set-is (j + 1) c d a-set (chain-length all layered (asked .from) j layer-is)
+      (chain-written all layered (asked .from) j layer-is (fits .2) (omega arith) written) in
       (r .0, r .1, both synced searched)
 
 -- ---- laws: two numbers
@@ -125,12 +128,12 @@ module _ (b : List ℕ) (p : List (List ℕ)) (mode : Mode) (n m k : ℕ) where
   two-is = refl
 
   -- they are below the moments of the rows, and differ
-  pub two-known : twoMoments (decode b p mode n) m k ≡ true → (m < 3 * n) × (k < 3 * n) × (m ≡ k → ⊥)
+  pub two-known : n ≤ ROWS → twoMoments (decode b p mode n) m k ≡ true → Asked n m k
   unfolding twoMoments moment momentIn decode
-  two-known e =
+  two-known few e =
       let a : m / 3 < n = ltb-true _ _ (split (split (split e .0) .0) .0) in
       let c : k / 3 < n = ltb-true _ _ (split (split (split e .0) .1) .0) in
-      (omega arith, omega arith, eqb-false _ _ (not-out _ (split e .1)))
+      record { few = few; from = omega arith; to = omega arith; apart = eqb-false _ _ (not-out _ (split e .1)) }
 
 -- ---- laws: the rows of an admitted table
 

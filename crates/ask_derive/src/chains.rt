@@ -1,11 +1,10 @@
 // A chain of direct cases of M6: the lowest class set that has one, and its steps as numbers in a lent buffer.
 ghost use mathlib.Core.Path.{_≡_};
-ghost use mathlib.Core.Bool.{true};
 ghost use Prim.Native.Nat.{_+_, _*_, _/_, _%_, _≤_, _<_};
 ghost use lib.ListN.{length};
 ghost use Rattle.finite.specs.Below.{least};
 ghost use Rattle.finite.specs.Lists.{Written};
-ghost use Rattle.finite.specs.Walk.{walk, trail, along};
+ghost use Rattle.finite.specs.Walk.{trail, along};
 ghost use Rattle.bits.specs.Matrix.{rel};
 ghost use Rattle.bits.specs.Within.{Within};
 ghost use Rattle.model.specs.Limits.{ROWS, WORK, STEPS, CLASS-SETS};
@@ -14,10 +13,10 @@ ghost use Rattle.run.specs.Layout.{rowsIn, tableIn};
 ghost use Rattle.model.specs.Moment.{programOrder};
 ghost use Rattle.model.specs.Happens.{CASES};
 ghost use Rattle.model.specs.Reason.{hasChainBy, stepNumber};
-ghost use Rattle.work_area.specs.Regions.{HAPPENS, STEP, CHAINS, CHAINS-END, MOMENTS};
+ghost use Rattle.run_tests.specs.Several.{TwoOf};
+ghost use Rattle.work_area.specs.Regions.{HAPPENS, STEP, CHAINS-END, MOMENTS};
 ghost use Rattle.work_area.specs.Synced.{Synced};
-ghost use Rattle.work_walks.specs.Layers.{Layers};
-ghost use Rattle.ask_derive.specs.Layers.{Layered};
+ghost use Rattle.ask_derive.specs.Layers.{Layered, Leading};
 ghost use Rattle.ask_derive.specs.Cases.{lowestRows};
 use crate::layers;
 use model::Row;
@@ -31,7 +30,7 @@ use run_tests::moments;
 // Where there is one, its steps and their layers are left in the work area.
 // Ruled out: one that gives a higher class set where a lower one has a chain; one that counts a moment as a chain to itself.
 pub fn find_set(t: &Run, n: usize, first: usize, second: usize, w: &mut [u64]) -> u8
-    requires { ⌜ (n ≤ ROWS) × (WORK ≤ length (now w)) × (first < 3 * n) × (second < 3 * n) × Synced (tableIn (now t) n) n (now w) ⌝ }
+    requires { ⌜ TwoOf (3 * n) first second × (WORK ≤ length (now w)) × Synced (tableIn (now t) n) n (now w) ⌝ }
     ensures { λ c. ⌜ (c ≡ least CLASS-SETS (hasChainBy (tableIn (now (t .entry)) n) first second))
         × Within HAPPENS CHAINS-END (now (w .entry)) (now (w .exit))
         × (c < CLASS-SETS → Layered (tableIn (now (t .entry)) n) n (c + 1) second (now (w .exit))) ⌝ }
@@ -76,7 +75,7 @@ fn case_at(t: &Run, n: usize, s: u8, m: usize, k: usize, synced: bool) -> u16
 
 // The number of the step from moment m to moment k.
 fn step_number(t: &Run, n: usize, s: u8, m: usize, k: usize, w: &[u64]) -> u16
-    requires { ⌜ (n ≤ ROWS) × (m < 3 * n) × (k < 3 * n) × (WORK ≤ length (now w)) × Synced (tableIn (now t) n) n (now w) ⌝ }
+    requires { ⌜ TwoOf (3 * n) m k × (WORK ≤ length (now w)) × Synced (tableIn (now t) n) n (now w) ⌝ }
     ensures { λ r. ⌜ r ≡ stepNumber (tableIn (now (t .entry)) n) s m k ⌝ }
 {
     let b = work_area::grid::get(w, work_area::SYNC, m / 3, k / 3);
@@ -97,9 +96,7 @@ pub fn write_steps(
     w: &[u64],
     c: &mut [u16],
 )
-    requires { ⌜ (n ≤ ROWS) × (WORK ≤ length (now w)) × (first < 3 * n) × (size ≤ STEPS) × (size ≤ 3 * n) × (STEPS ≤ length (now c))
-        × Layers STEP CHAINS MOMENTS (3 * n) second (now w) × (walk (3 * n) (rel (now w) STEP MOMENTS) second size first ≡ true)
-        × Synced (tableIn (now t) n) n (now w) ⌝ }
+    requires { ⌜ (STEPS ≤ length (now c)) × Leading n first second size (now w) × Synced (tableIn (now t) n) n (now w) ⌝ }
     ensures { λ _. ⌜ Written (along (stepNumber (tableIn (now (t .entry)) n) s) second
         (trail (3 * n) (rel (now (w .entry)) STEP MOMENTS) second size first)) size (now (c .entry)) (now (c .exit)) ⌝ }
 {

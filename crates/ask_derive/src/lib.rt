@@ -1,15 +1,16 @@
 // Reasons: a derivation that one moment of a table, in one or two pieces, happens before another, for a reader to accept, or that it does not.
 ghost use mathlib.Core.Path.{_≡_};
 ghost use mathlib.Core.Bool.{true};
-ghost use Prim.Native.Nat.{_*_, _≤_, _<_};
+ghost use Prim.Native.Nat.{_≤_};
 ghost use lib.ListN.{length};
 ghost use Rattle.bits.specs.Within.{Within};
-ghost use Rattle.model.specs.Limits.{ROWS, WORK, STEPS};
+ghost use Rattle.model.specs.Limits.{WORK, STEPS};
 ghost use Rattle.run.specs.Layout.{tableIn};
 ghost use Rattle.model.specs.Reason.{twoMoments, ours, derivedOf, derive, deriveAnswer, chainAfter, workAfter};
 ghost use Rattle.work_area.specs.Regions.{MUTUAL, CHAINS-END};
 ghost use Rattle.door_pieces.specs.Pieces.{deriveBoth};
 ghost use Rattle.door_open.specs.Opened.{RunOf};
+ghost use Rattle.ask_derive.specs.Layers.{Asked};
 use model::Admission;
 use model::DeriveAnswer;
 use run::Run;
@@ -37,7 +38,7 @@ fn two_moments(t: &Run, n: usize, first: u16, second: u16) -> bool
 
 // The word, or else a chain for the lowest class set that has one, its steps in c.
 fn derive_moments(t: &Run, n: usize, e: Ends, w: &mut [u64], c: &mut [u16]) -> DeriveAnswer
-    requires { ⌜ (n ≤ ROWS) × (WORK ≤ length (now w)) × (STEPS ≤ length (now c)) × (e .first < 3 * n) × (e .second < 3 * n) × (e .first ≡ e .second → ⊥) ⌝ }
+    requires { ⌜ (WORK ≤ length (now w)) × (STEPS ≤ length (now c)) × Asked n (e .first) (e .second) ⌝ }
     ensures { λ r. ⌜ (r ≡ deriveAnswer (ours (tableIn (now (t .entry)) n) (e .first) (e .second)))
         × (now (c .exit) ≡ chainAfter (ours (tableIn (now (t .entry)) n) (e .first) (e .second)) (now (c .entry)))
         × Within MUTUAL CHAINS-END (now (w .entry)) (now (w .exit)) ⌝ }

@@ -9,6 +9,7 @@ ghost use Rattle.run.specs.Layout.{tableIn, rowsIn};
 ghost use Rattle.model.specs.Table.{rowOf};
 ghost use Rattle.model.specs.Scope.{follows};
 ghost use Rattle.model.specs.Edge.{readsFrom, fromReads, edgeNumber, edge};
+ghost use Rattle.run_tests.specs.Several.{TwoOf};
 ghost use Rattle.work_area.specs.Regions.{EDGE, EDGE-END, GRID};
 ghost use Rattle.find_race.specs.Bytes.{Ready};
 ghost use Rattle.find_axioms.specs.Sources.{sourceIn};
@@ -53,7 +54,7 @@ pub fn reads_from_at(t: &Run, n: usize, src: &[u16], x: usize, y: usize) -> bool
 // read the initial value.
 // Ruled out: one that leads from an RMW to itself; one that asks what follows y instead of y's source.
 pub fn from_reads_at(t: &Run, n: usize, src: &[u16], y: usize, z: usize) -> bool
-    requires { ⌜ (y < n) × (z < n) × (n ≤ ROWS) × (n ≤ length (now src)) ⌝ }
+    requires { ⌜ TwoOf n y z × (n ≤ ROWS) × (n ≤ length (now src)) ⌝ }
     ensures { λ d. ⌜ d ≡ fromReads (tableIn (now (t .entry)) n) (sourceIn (now (src .entry))) y z ⌝ }
 {
     let s = crate::source_at(src, y);
@@ -69,7 +70,7 @@ pub fn from_reads_at(t: &Run, n: usize, src: &[u16], y: usize, z: usize) -> bool
 // The lowest number of an edge from x to y, and 0 where there is none.
 // Ruled out: one that gives 3 where edge 1 holds too; one that takes x for the reader in edge 3.
 pub fn edge_number(t: &Run, n: usize, src: &[u16], x: usize, y: usize, w: &[u64]) -> u16
-    requires { ⌜ (x < n) × (y < n) × (n ≤ length (now src)) × Ready (tableIn (now t) n) n (now w) ⌝ }
+    requires { ⌜ TwoOf n x y × (n ≤ length (now src)) × Ready (tableIn (now t) n) n (now w) ⌝ }
     ensures { λ e. ⌜ e ≡ edgeNumber (tableIn (now (t .entry)) n) (sourceIn (now (src .entry))) x y ⌝ }
 {
     let location = find_race::pair::before_some(t, n, x, y, w);
@@ -90,7 +91,7 @@ pub fn edge_number(t: &Run, n: usize, src: &[u16], x: usize, y: usize, w: &[u64]
 // Whether there is an edge from x to y.
 // Ruled out: one that leaves out what follows a reader's source; one that asks for edges from y to x.
 fn edge_at(t: &Run, n: usize, src: &[u16], x: usize, y: usize, w: &[u64]) -> bool
-    requires { ⌜ (x < n) × (y < n) × (n ≤ length (now src)) × Ready (tableIn (now t) n) n (now w) ⌝ }
+    requires { ⌜ TwoOf n x y × (n ≤ length (now src)) × Ready (tableIn (now t) n) n (now w) ⌝ }
     ensures { λ d. ⌜ d ≡ edge (tableIn (now (t .entry)) n) (sourceIn (now (src .entry))) x y ⌝ }
 {
     find_race::pair::before_some(t, n, x, y, w)

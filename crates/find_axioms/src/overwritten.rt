@@ -4,6 +4,7 @@ ghost use Prim.Native.Nat.{_≤_, _<_};
 ghost use lib.ListN.{length};
 ghost use Rattle.run.specs.Layout.{tableIn};
 ghost use Rattle.model.specs.Edge.{overNth, overWriter, overReader};
+ghost use Rattle.run_tests.specs.Several.{TwoOf};
 ghost use Rattle.find_race.specs.Bytes.{Ready, Bounded};
 ghost use Rattle.find_axioms.specs.Sources.{sourceIn};
 ghost use Rattle.find_axioms.specs.Overwritten.{foundOverwrite};
@@ -12,7 +13,7 @@ use run::Run;
 // Axiom B: which of y's bytes is the lowest that z overwrites, and PAIR where none is.
 // Ruled out: one that says 0 where none is; one that stops at the lowest byte that y and z share.
 pub fn over_nth(t: &Run, n: usize, src: &[u16], y: usize, z: usize, w: &[u64]) -> usize
-    requires { ⌜ (y < n) × (z < n) × (n ≤ length (now src)) × Ready (tableIn (now t) n) n (now w) ⌝ }
+    requires { ⌜ TwoOf n y z × (n ≤ length (now src)) × Ready (tableIn (now t) n) n (now w) ⌝ }
     ensures { λ k. ⌜ k ≡ overNth (tableIn (now (t .entry)) n) (sourceIn (now (src .entry))) y z ⌝ }
 {
     let s = crate::source_at(src, y);

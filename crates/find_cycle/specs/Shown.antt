@@ -12,8 +12,18 @@ use Rattle.finite.specs.Walk.{walk, onCycle, cycleStart, cycleSize, trail, cycl
 use Rattle.finite.specs.Cycle.{length-trail, cycle-canonical, cycleStart-cong, cycle-cong}
 use Rattle.bits.specs.Matrix.{rel}
 use Rattle.bits.specs.Stage.{Holds}
+use Rattle.model.specs.Limits.{ROWS, WORK}
 use Rattle.work_area.specs.Regions.{EDGE, LAYERS, GRID}
-use Rattle.work_walks.specs.Layers.{back, Returns}
+use Rattle.work_walks.specs.Layers.{back, LayersTo, Returns}
+
+-- n rows in an area with room: `size` edges lead from row x back to it, and the layers up to that many are made
+pub record Closes (n x size : ℕ) (w : List ℕ) : Type 0 where
+  pub few : n ≤ ROWS
+  pub room : WORK ≤ length w
+  pub row : x < n
+  pub short : size ≤ n
+  pub made : LayersTo EDGE LAYERS GRID n x size w
+  pub leads : walk n (rel w EDGE GRID) x size x ≡ true
 
 -- ---- of the layers
 

@@ -1,16 +1,15 @@
 // The canonical cycle of the edges that stand as bits in a lent work area: where it begins, and its rows, by the layers of walks back
 // to the first. Nothing but the layers' region of the area changes.
 ghost use mathlib.Core.Path.{_≡_};
-ghost use mathlib.Core.Bool.{true};
 ghost use Prim.Native.Nat.{_≤_, _<_};
 ghost use lib.ListN.{length};
 ghost use Rattle.finite.specs.Lists.{Written};
-ghost use Rattle.finite.specs.Walk.{walk, onCycle, cycleStart, trail};
+ghost use Rattle.finite.specs.Walk.{onCycle, cycleStart, trail};
 ghost use Rattle.bits.specs.Matrix.{rel};
 ghost use Rattle.bits.specs.Within.{Within};
 ghost use Rattle.model.specs.Limits.{ROWS, WORK, CYCLE};
 ghost use Rattle.work_area.specs.Regions.{EDGE, LAYERS, LAYERS-END, GRID};
-ghost use Rattle.work_walks.specs.Layers.{LayersTo};
+ghost use Rattle.find_cycle.specs.Shown.{Closes};
 ghost use Rattle.find_cycle.specs.Marks.{Among, Looping};
 use sets_of_rows::Set;
 use sets_of_rows::kept;
@@ -69,8 +68,7 @@ pub fn cycle_start(w: &mut [u64], n: usize) -> usize
 // The rows of the cycle of `size` edges through row x become the first numbers of c: each time the least next row.
 // Ruled out: one that begins at the row after x; one that writes x once more after the last row.
 pub fn write_rows(w: &[u64], n: usize, x: usize, size: usize, c: &mut [u16])
-    requires { ⌜ (n ≤ ROWS) × (WORK ≤ length (now w)) × (x < n) × (size ≤ n) × (CYCLE ≤ length (now c)) × LayersTo EDGE LAYERS GRID n x size (now w)
-        × (walk n (rel (now w) EDGE GRID) x size x ≡ true) ⌝ }
+    requires { ⌜ (CYCLE ≤ length (now c)) × Closes n x size (now w) ⌝ }
     ensures { λ _. ⌜ Written (trail n (rel (now (w .entry)) EDGE GRID) x size x) size (now (c .entry)) (now (c .exit)) ⌝ }
 {
     let mut z = x;

@@ -6,6 +6,7 @@ ghost use Rattle.finite.specs.Below.{anyBelow, least};
 ghost use Rattle.model.specs.Limits.{LONGEST};
 ghost use Rattle.run.specs.Layout.{tableIn};
 ghost use Rattle.model.specs.Fill.{notBeforeAt, candidate, choice, chosen};
+ghost use Rattle.run_tests.specs.Several.{TwoOf};
 ghost use Rattle.find_race.specs.Bytes.{Ready};
 ghost use Rattle.find_sources.specs.Sources.{Listed};
 ghost use Rattle.find_sources.specs.Choice.{chosenFrom};
@@ -17,7 +18,7 @@ use run::Run;
 
 // Whether s is not ordered before y at y's k-th byte.
 fn misses_at(t: &Run, n: usize, y: usize, s: usize, k: usize, w: &[u64]) -> bool
-    requires { ⌜ (y < n) × (s < n) × (k < LONGEST) × Ready (tableIn (now t) n) n (now w) ⌝ }
+    requires { ⌜ TwoOf n y s × (k < LONGEST) × Ready (tableIn (now t) n) n (now w) ⌝ }
     ensures { λ b. ⌜ b ≡ notBeforeAt (tableIn (now (t .entry)) n) y s k ⌝ }
 {
     let r = run::row(t, y as u16);

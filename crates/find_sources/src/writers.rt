@@ -5,6 +5,7 @@ ghost use Rattle.finite.specs.Below.{anyBelow};
 ghost use Rattle.model.specs.Limits.{LONGEST};
 ghost use Rattle.run.specs.Layout.{tableIn};
 ghost use Rattle.model.specs.Fill.{writtenBy, written, overwritesBetween, between};
+ghost use Rattle.run_tests.specs.Several.{ThreeOf};
 ghost use Rattle.find_race.specs.Bytes.{Ready};
 use run::Run;
 
@@ -39,7 +40,7 @@ pub fn is_written(t: &Run, n: usize, y: usize, w: &[u64]) -> bool
 
 // Whether z overwrites s before y at y's k-th byte.
 fn hides_at(t: &Run, n: usize, y: usize, s: usize, z: usize, k: usize, w: &[u64]) -> bool
-    requires { ⌜ (y < n) × (s < n) × (z < n) × (k < LONGEST) × Ready (tableIn (now t) n) n (now w) ⌝ }
+    requires { ⌜ ThreeOf n y s z × (k < LONGEST) × Ready (tableIn (now t) n) n (now w) ⌝ }
     ensures { λ b. ⌜ b ≡ overwritesBetween (tableIn (now (t .entry)) n) y s z k ⌝ }
 {
     let b = (run::start(t, y as u16) as u32) + (k as u32);
@@ -48,7 +49,7 @@ fn hides_at(t: &Run, n: usize, y: usize, s: usize, z: usize, k: usize, w: &[u64]
 
 // Whether z overwrites s before y at some byte of y.
 pub fn some_hidden(t: &Run, n: usize, y: usize, s: usize, z: usize, w: &[u64]) -> bool
-    requires { ⌜ (y < n) × (s < n) × (z < n) × Ready (tableIn (now t) n) n (now w) ⌝ }
+    requires { ⌜ ThreeOf n y s z × Ready (tableIn (now t) n) n (now w) ⌝ }
     ensures { λ b. ⌜ b ≡ anyBelow LONGEST (overwritesBetween (tableIn (now (t .entry)) n) y s z) ⌝ }
 {
     for k in 0..work_area::PAIR {
@@ -61,7 +62,7 @@ pub fn some_hidden(t: &Run, n: usize, y: usize, s: usize, z: usize, w: &[u64]) -
 
 // Whether the writer z comes between s and y: in scoped order, or at a byte.
 pub fn between_at(t: &Run, n: usize, y: usize, s: usize, z: usize, w: &[u64]) -> bool
-    requires { ⌜ (y < n) × (s < n) × (z < n) × Ready (tableIn (now t) n) n (now w) ⌝ }
+    requires { ⌜ ThreeOf n y s z × Ready (tableIn (now t) n) n (now w) ⌝ }
     ensures { λ b. ⌜ b ≡ between (tableIn (now (t .entry)) n) y s z ⌝ }
 {
     let v = run::row(t, z as u16);

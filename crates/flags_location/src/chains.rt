@@ -16,6 +16,7 @@ ghost use Rattle.model.specs.Availability.{L3};
 ghost use Rattle.work_area.specs.Regions.{HAPPENS, MOMENTS};
 ghost use Rattle.flags_location.specs.Chains.{availablePart, visiblePart, mayAvail, maySee, availableRows, visibleRows, widest, meetIn};
 ghost use Rattle.flags_location.specs.Chains.{seen, metAtOnce, startsWith, shownBy, endsAt, endsWith, carriedBy};
+ghost use Rattle.run_tests.specs.Several.{TwoOf, ThreeOf};
 ghost use Rattle.flags_location.specs.Given.{Pair, Element};
 use crate::happens;
 use model::Row;
@@ -108,7 +109,7 @@ fn widest(s: u8, u: u8) -> u8
 
 // Whether one domain of scope d holds the agents of rows x and y, that of row i beside the one, that of row j beside the other.
 fn meet_in(t: &Run, d: u8, p: Asked, i: usize, j: usize) -> bool
-    requires { ⌜ (p .x < ROWS) × (p .y < ROWS) × (i < ROWS) × (j < ROWS) ⌝ }
+    requires { ⌜ TwoOf ROWS (p .x) (p .y) × TwoOf ROWS i j ⌝ }
     ensures { λ b. let row = rowOf (rowsIn (now (t .entry))) in
         ⌜ b ≡ meetIn (placesIn (now (t .entry))) d (row (p .x)) (row (p .y)) (row i) (row j) ⌝ }
 {
@@ -138,7 +139,7 @@ fn seen_at(t: &Run, n: usize, p: Asked, i: usize, j: usize, w: &[u64]) -> bool
 // Whether row v may be a last element for what row i makes available to y: it has y's agent and the flag and, without chains, i's
 // availability moment happens before one of its own.
 fn may_show(t: &Run, y: usize, i: usize, v: usize, w: &[u64]) -> bool
-    requires { ⌜ (y < ROWS) × (i < ROWS) × (v < ROWS) × (WORK ≤ length (now w)) ⌝ }
+    requires { ⌜ ThreeOf ROWS y i v × (WORK ≤ length (now w)) ⌝ }
     ensures { λ d. let rows = rowsIn (now (t .entry)) in
         let before = rel (now (w .entry)) HAPPENS MOMENTS (3 * i + availablePart (rowOf rows i)) in
         ⌜ d ≡ ((modeIn (now (t .entry)) .chains or before (3 * v) or before (3 * v + 2)) and maySee rows (rowOf rows y) v) ⌝ }

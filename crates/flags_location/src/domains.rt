@@ -11,11 +11,12 @@ ghost use Rattle.model.specs.Limits.{ROWS, WORK};
 ghost use Rattle.model.specs.Row.{writes};
 ghost use Rattle.model.specs.Table.{rowOf};
 ghost use Rattle.run.specs.Layout.{placesIn, rowsIn, tableIn};
+ghost use Rattle.run_tests.specs.Several.{TwoOf, ThreeOf};
 ghost use Rattle.work_area.specs.Regions.{MET, MET-END, REACHED, REACHED-END, GRID};
 ghost use Rattle.work_area.specs.State.{Ordered};
 ghost use Rattle.flags_location.specs.Domains.{thenceBits, seenBits, onwardBits, operationAt, availableOf, visibleOf, isAvailable, outOf, metBy};
 ghost use Rattle.flags_location.specs.Domains.{reached, Meeting};
-ghost use Rattle.flags_location.specs.Given.{Given, GivenRows};
+ghost use Rattle.flags_location.specs.Given.{Room, Given, GivenRows};
 use crate::happens;
 use run::Run;
 
@@ -81,7 +82,7 @@ struct Way {
 
 // Whether rows i and j are in the grid at base.
 pub fn grid_bit(w: &[u64], base: usize, i: usize, j: usize) -> bool
-    requires { ⌜ (base ≤ REACHED) × (i < ROWS) × (j < ROWS) × (WORK ≤ length (now w)) ⌝ }
+    requires { ⌜ (base ≤ REACHED) × TwoOf ROWS i j × (WORK ≤ length (now w)) ⌝ }
     ensures { λ d. ⌜ d ≡ rel (now (w .entry)) base GRID i j ⌝ }
 {
     work_area::grid::get(w, base, i, j)
@@ -100,7 +101,7 @@ fn thence_at(t: &Run, kind: u8, x: usize, i: usize, w: &[u64]) -> bool
 
 // Whether row i is the operation of this kind, after row x and before row y.
 fn seen_at(t: &Run, p: Way, i: usize, w: &[u64]) -> bool
-    requires { ⌜ (p .x < ROWS) × (p .y < ROWS) × (i < ROWS) × (WORK ≤ length (now w)) ⌝ }
+    requires { ⌜ ThreeOf ROWS (p .x) (p .y) i × (WORK ≤ length (now w)) ⌝ }
     ensures { λ d. ⌜ d ≡ seenBits (rowsIn (now (t .entry))) (now (w .entry)) (p .kind) (p .x) (p .y) i ⌝ }
 {
     if !thence_at(t, p.kind, p.x, i, w) {
@@ -111,7 +112,7 @@ fn seen_at(t: &Run, p: Way, i: usize, w: &[u64]) -> bool
 
 // Whether some row is.
 fn is_seen(t: &Run, n: usize, p: Way, w: &[u64]) -> bool
-    requires { ⌜ (n ≤ ROWS) × (p .x < n) × (p .y < n) × (WORK ≤ length (now w)) ⌝ }
+    requires { ⌜ TwoOf n (p .x) (p .y) × Room n (now w) ⌝ }
     ensures { λ d. ⌜ d ≡ anyBelow n (seenBits (rowsIn (now (t .entry))) (now (w .entry)) (p .kind) (p .x) (p .y)) ⌝ }
 {
     for i in 0..n {
@@ -124,7 +125,7 @@ fn is_seen(t: &Run, n: usize, p: Way, w: &[u64]) -> bool
 
 // Whether row i is the operation of this kind, after row x, and the grid at base has it with row y.
 fn onward_at(t: &Run, base: usize, p: Way, i: usize, w: &[u64]) -> bool
-    requires { ⌜ (base ≤ REACHED) × (p .x < ROWS) × (p .y < ROWS) × (i < ROWS) × (WORK ≤ length (now w)) ⌝ }
+    requires { ⌜ (base ≤ REACHED) × ThreeOf ROWS (p .x) (p .y) i × (WORK ≤ length (now w)) ⌝ }
     ensures { λ d. ⌜ d ≡ onwardBits (rowsIn (now (t .entry))) (now (w .entry)) base (p .kind) (p .x) (p .y) i ⌝ }
 {
     if !thence_at(t, p.kind, p.x, i, w) {
@@ -135,7 +136,7 @@ fn onward_at(t: &Run, base: usize, p: Way, i: usize, w: &[u64]) -> bool
 
 // Whether some row is.
 fn is_onward(t: &Run, n: usize, base: usize, p: Way, w: &[u64]) -> bool
-    requires { ⌜ (n ≤ ROWS) × (base ≤ REACHED) × (p .x < n) × (p .y < n) × (WORK ≤ length (now w)) ⌝ }
+    requires { ⌜ (base ≤ REACHED) × TwoOf n (p .x) (p .y) × Room n (now w) ⌝ }
     ensures { λ d. ⌜ d ≡ anyBelow n (onwardBits (rowsIn (now (t .entry))) (now (w .entry)) base (p .kind) (p .x) (p .y)) ⌝ }
 {
     for i in 0..n {
@@ -229,7 +230,7 @@ pub fn fill_reached(t: &Run, n: usize, w: &mut [u64])
 // Whether row x writes, and some operation makes it available that reaches row y.
 // Ruled out: one that takes an operation of the other domain; one that takes an operation before the write.
 pub fn l5(t: &Run, n: usize, x: usize, y: usize, w: &[u64]) -> bool
-    requires { ⌜ (n ≤ ROWS) × (x < n) × (y < n) × (WORK ≤ length (now w)) ⌝ }
+    requires { ⌜ TwoOf n x y × Room n (now w) ⌝ }
     ensures { λ d. let rows = rowsIn (now (t .entry)) in
         let kind = availableOf (placesIn (now (t .entry))) (rowOf rows x .agent) in
         ⌜ d ≡ (writes (rowOf rows x) and anyBelow n (onwardBits rows (now (w .entry)) REACHED kind x y)) ⌝ }

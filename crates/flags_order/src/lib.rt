@@ -51,7 +51,7 @@ pub fn is_live(t: &Run, n: usize, s: u8) -> bool
 
 // M6: adds inter-thread order for the class set s + 1, the closure of its direct cases, to happens-before.
 pub fn add_set(t: &Run, n: usize, s: u8, w: &mut [u64])
-    requires { ⌜ (n ≤ ROWS) × (WORK ≤ length (now w)) × (s < CLASS-SETS) × Synced (tableIn (now t) n) n (now w) ⌝ }
+    requires { ⌜ (s < CLASS-SETS) × (WORK ≤ length (now w)) × Synced (tableIn (now t) n) n (now w) ⌝ }
     ensures { λ _. ⌜ Added HAPPENS STEP-END HAPPENS MOMENTS (3 * n)
         (interBy (tableIn (now (t .entry)) n) s) (now (w .entry)) (now (w .exit)) ⌝ }
 {

@@ -10,6 +10,7 @@ ghost use Rattle.run.specs.Layout.{modeIn, rowsIn, tableIn};
 ghost use Rattle.model.specs.Moment.{programOrder};
 ghost use Rattle.model.specs.Happens.{step};
 ghost use Rattle.model_laws.specs.HostLaws.{step₁};
+ghost use Rattle.run_tests.specs.Several.{TwoOf};
 ghost use Rattle.work_area.specs.Regions.{SYNC, STEP, STEP-END, GRID, MOMENTS};
 ghost use Rattle.work_area.specs.Synced.{Synced};
 ghost use Rattle.flags_order.specs.Cases.{stepRows};
@@ -66,7 +67,7 @@ fn sync_bit(m: usize, k: usize, w: &[u64]) -> bool
 
 // Sets the bit from m to k where there is one.
 fn fill_cell(t: &Run, n: usize, s: u8, m: usize, k: usize, w: &mut [u64])
-    requires { ⌜ (n ≤ ROWS) × (m < 3 * n) × (k < 3 * n) × (WORK ≤ length (now w)) ⌝ }
+    requires { ⌜ (n ≤ ROWS) × TwoOf (3 * n) m k × (WORK ≤ length (now w)) ⌝ }
     ensures { λ _. ⌜ CellMade (now (t .entry)) n s m k (now (w .entry)) (now (w .exit)) ⌝ }
 {
     let b = step_of(t, n, s, m, k, sync_bit(m, k, w));

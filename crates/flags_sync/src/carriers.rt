@@ -1,11 +1,12 @@
 // M5: the rows that carry a release to an acquire, from the bits of mutually-ordered rows and of release sequences.
 ghost use mathlib.Core.Path.{_≡_};
-ghost use Prim.Native.Nat.{_≤_, _<_};
+ghost use Prim.Native.Nat.{_≤_};
 ghost use lib.ListN.{length};
 ghost use Rattle.finite.specs.Below.{anyBelow};
-ghost use Rattle.model.specs.Limits.{ROWS, WORK};
+ghost use Rattle.model.specs.Limits.{WORK};
 ghost use Rattle.run.specs.Layout.{tableIn};
 ghost use Rattle.model.specs.Synchronizes.{takesFrom, carriesOut, carriesIn, carriesOver};
+ghost use Rattle.run_tests.specs.Several.{TwoOf, ThreeOf};
 ghost use Rattle.work_area.specs.Synced.{Sequenced};
 use run::Run;
 use run_tests::carriers;
@@ -13,7 +14,7 @@ use run_tests::carriers;
 // M5: whether row y reads from the sequence that the writer x heads, the two being mutually-ordered. Few rows are, so their bit
 // is read first.
 pub fn takes_from_at(t: &Run, n: usize, x: usize, y: usize, w: &[u64]) -> bool
-    requires { ⌜ (n ≤ ROWS) × (x < n) × (y < n) × (WORK ≤ length (now w)) × Sequenced (tableIn (now t) n) n (now w) ⌝ }
+    requires { ⌜ TwoOf n x y × (WORK ≤ length (now w)) × Sequenced (tableIn (now t) n) n (now w) ⌝ }
     ensures { λ d. ⌜ d ≡ takesFrom (tableIn (now (t .entry)) n) x y ⌝ }
 {
     if !work_area::grid::get(w, work_area::MUTUAL, x, y) {
@@ -32,7 +33,7 @@ pub fn takes_from_at(t: &Run, n: usize, x: usize, y: usize, w: &[u64]) -> bool
 
 // M5: whether x carries the release of the barrier a to the atomic b.
 fn carries_out_at(t: &Run, n: usize, a: usize, b: usize, x: usize, w: &[u64]) -> bool
-    requires { ⌜ (n ≤ ROWS) × (a < n) × (b < n) × (x < n) × (WORK ≤ length (now w)) × Sequenced (tableIn (now t) n) n (now w) ⌝ }
+    requires { ⌜ ThreeOf n a b x × (WORK ≤ length (now w)) × Sequenced (tableIn (now t) n) n (now w) ⌝ }
     ensures { λ d. ⌜ d ≡ carriesOut (tableIn (now (t .entry)) n) a b x ⌝ }
 {
     if !takes_from_at(t, n, x, b, w) {
@@ -43,7 +44,7 @@ fn carries_out_at(t: &Run, n: usize, a: usize, b: usize, x: usize, w: &[u64]) ->
 
 // M5: whether some writer carries the release of the barrier a to the atomic b.
 pub fn is_carried_out(t: &Run, n: usize, a: usize, b: usize, w: &[u64]) -> bool
-    requires { ⌜ (n ≤ ROWS) × (a < n) × (b < n) × (WORK ≤ length (now w)) × Sequenced (tableIn (now t) n) n (now w) ⌝ }
+    requires { ⌜ TwoOf n a b × (WORK ≤ length (now w)) × Sequenced (tableIn (now t) n) n (now w) ⌝ }
     ensures { λ d. ⌜ d ≡ anyBelow n (carriesOut (tableIn (now (t .entry)) n) a b) ⌝ }
 {
     for x in 0..n {
@@ -56,7 +57,7 @@ pub fn is_carried_out(t: &Run, n: usize, a: usize, b: usize, w: &[u64]) -> bool
 
 // M5: whether y carries the release of the atomic a to the barrier b.
 fn carries_in_at(t: &Run, n: usize, a: usize, b: usize, y: usize, w: &[u64]) -> bool
-    requires { ⌜ (n ≤ ROWS) × (a < n) × (b < n) × (y < n) × (WORK ≤ length (now w)) × Sequenced (tableIn (now t) n) n (now w) ⌝ }
+    requires { ⌜ ThreeOf n a b y × (WORK ≤ length (now w)) × Sequenced (tableIn (now t) n) n (now w) ⌝ }
     ensures { λ d. ⌜ d ≡ carriesIn (tableIn (now (t .entry)) n) a b y ⌝ }
 {
     if !takes_from_at(t, n, a, y, w) {
@@ -67,7 +68,7 @@ fn carries_in_at(t: &Run, n: usize, a: usize, b: usize, y: usize, w: &[u64]) -> 
 
 // M5: whether some reader carries the release of the atomic a to the barrier b.
 pub fn is_carried_in(t: &Run, n: usize, a: usize, b: usize, w: &[u64]) -> bool
-    requires { ⌜ (n ≤ ROWS) × (a < n) × (b < n) × (WORK ≤ length (now w)) × Sequenced (tableIn (now t) n) n (now w) ⌝ }
+    requires { ⌜ TwoOf n a b × (WORK ≤ length (now w)) × Sequenced (tableIn (now t) n) n (now w) ⌝ }
     ensures { λ d. ⌜ d ≡ anyBelow n (carriesIn (tableIn (now (t .entry)) n) a b) ⌝ }
 {
     for y in 0..n {
@@ -80,7 +81,7 @@ pub fn is_carried_in(t: &Run, n: usize, a: usize, b: usize, w: &[u64]) -> bool
 
 // M5: whether x, and a row that reads from its sequence, carry the release of the barrier a to the barrier b.
 fn carries_over_at(t: &Run, n: usize, a: usize, b: usize, x: usize, w: &[u64]) -> bool
-    requires { ⌜ (n ≤ ROWS) × (a < n) × (b < n) × (x < n) × (WORK ≤ length (now w)) × Sequenced (tableIn (now t) n) n (now w) ⌝ }
+    requires { ⌜ ThreeOf n a b x × (WORK ≤ length (now w)) × Sequenced (tableIn (now t) n) n (now w) ⌝ }
     ensures { λ d. ⌜ d ≡ carriesOver (tableIn (now (t .entry)) n) a b x ⌝ }
 {
     if !carriers::leads_at(t, n, a, x) {
@@ -91,7 +92,7 @@ fn carries_over_at(t: &Run, n: usize, a: usize, b: usize, x: usize, w: &[u64]) -
 
 // M5: whether some writer, and a row that reads from its sequence, carry the release of the barrier a to the barrier b.
 pub fn is_carried_over(t: &Run, n: usize, a: usize, b: usize, w: &[u64]) -> bool
-    requires { ⌜ (n ≤ ROWS) × (a < n) × (b < n) × (WORK ≤ length (now w)) × Sequenced (tableIn (now t) n) n (now w) ⌝ }
+    requires { ⌜ TwoOf n a b × (WORK ≤ length (now w)) × Sequenced (tableIn (now t) n) n (now w) ⌝ }
     ensures { λ d. ⌜ d ≡ anyBelow n (carriesOver (tableIn (now (t .entry)) n) a b) ⌝ }
 {
     for x in 0..n {

@@ -1,6 +1,6 @@
 // M3 and M4: mutually-ordered rows and release sequences, as bits.
 ghost use mathlib.Core.Path.{_≡_};
-ghost use Prim.Native.Nat.{_≤_, _<_};
+ghost use Prim.Native.Nat.{_≤_};
 ghost use lib.ListN.{length};
 ghost use Rattle.finite.specs.Below.{anyBelow};
 ghost use Rattle.bits.specs.Stage.{Holds, Made};
@@ -8,6 +8,7 @@ ghost use Rattle.model.specs.Limits.{ROWS, WORK};
 ghost use Rattle.run.specs.Layout.{tableIn};
 ghost use Rattle.model.specs.Scope.{mutually, follows};
 ghost use Rattle.model.specs.Synchronizes.{ends, sequence};
+ghost use Rattle.run_tests.specs.Several.{TwoOf};
 ghost use Rattle.work_area.specs.Regions.{MUTUAL, MUTUAL-END, SEQUENCE, SEQUENCE-END, GRID};
 use run::Run;
 use run_tests::sequences;
@@ -30,8 +31,7 @@ pub fn fill_mutual(t: &Run, n: usize, w: &mut [u64])
 
 // M3: whether row j follows row i in their scoped modification order.
 pub fn follows_at(t: &Run, n: usize, i: usize, j: usize, w: &[u64]) -> bool
-    requires { ⌜ (n ≤ ROWS) × (i < n) × (j < n) × (WORK ≤ length (now w))
-        × Holds MUTUAL GRID n (mutually (tableIn (now t) n)) (now w) ⌝ }
+    requires { ⌜ TwoOf n i j × (WORK ≤ length (now w)) × Holds MUTUAL GRID n (mutually (tableIn (now t) n)) (now w) ⌝ }
     ensures { λ b. ⌜ b ≡ follows (tableIn (now (t .entry)) n) i j ⌝ }
 {
     let r = run::row(t, i as u16);
@@ -44,8 +44,7 @@ pub fn follows_at(t: &Run, n: usize, i: usize, j: usize, w: &[u64]) -> bool
 
 // M4: whether some row ends the sequence of the head a no later than row x.
 pub fn is_ended(t: &Run, n: usize, a: usize, x: usize, w: &[u64]) -> bool
-    requires { ⌜ (n ≤ ROWS) × (a < n) × (x < n) × (WORK ≤ length (now w))
-        × Holds MUTUAL GRID n (mutually (tableIn (now t) n)) (now w) ⌝ }
+    requires { ⌜ TwoOf n a x × (WORK ≤ length (now w)) × Holds MUTUAL GRID n (mutually (tableIn (now t) n)) (now w) ⌝ }
     ensures { λ b. ⌜ b ≡ anyBelow n (ends (tableIn (now (t .entry)) n) a x) ⌝ }
 {
     let h = run::row(t, a as u16);
@@ -62,8 +61,7 @@ pub fn is_ended(t: &Run, n: usize, a: usize, x: usize, w: &[u64]) -> bool
 
 // M4: whether row x is in the release sequence that row a heads. Only a row that follows a is held against the others.
 pub fn sequence_at(t: &Run, n: usize, a: usize, x: usize, w: &[u64]) -> bool
-    requires { ⌜ (n ≤ ROWS) × (a < n) × (x < n) × (WORK ≤ length (now w))
-        × Holds MUTUAL GRID n (mutually (tableIn (now t) n)) (now w) ⌝ }
+    requires { ⌜ TwoOf n a x × (WORK ≤ length (now w)) × Holds MUTUAL GRID n (mutually (tableIn (now t) n)) (now w) ⌝ }
     ensures { λ b. ⌜ b ≡ sequence (tableIn (now (t .entry)) n) a x ⌝ }
 {
     if !follows_at(t, n, a, x, w) {

@@ -8,6 +8,7 @@ ghost use Rattle.finite.specs.Logic.{_and_};
 ghost use Rattle.run.specs.Layout.{tableIn, placesIn};
 ghost use Rattle.model.specs.Scope.{together};
 ghost use Rattle.model.specs.Synchronizes.{syncAtomics, syncFromBarrier, syncToBarrier, syncBarriers, syncControl, synchronizes};
+ghost use Rattle.run_tests.specs.Several.{TwoOf};
 ghost use Rattle.work_area.specs.Regions.{SYNC, SYNC-END, GRID};
 ghost use Rattle.work_area.specs.Synced.{Sequenced, MadeSynced};
 use crate::carriers;
@@ -20,7 +21,7 @@ use run_tests::control;
 
 // M5: a release atomic a, an acquire atomic b.
 fn sync_atomics(t: &Run, n: usize, a: usize, b: usize, w: &[u64]) -> bool
-    requires { ⌜ (n ≤ ROWS) × (a < n) × (b < n) × (WORK ≤ length (now w)) × Sequenced (tableIn (now t) n) n (now w) ⌝ }
+    requires { ⌜ TwoOf n a b × (WORK ≤ length (now w)) × Sequenced (tableIn (now t) n) n (now w) ⌝ }
     ensures { λ d. ⌜ d ≡ syncAtomics (tableIn (now (t .entry)) n) a b ⌝ }
 {
     let r = run::row(t, a as u16);
@@ -42,7 +43,7 @@ fn is_near(t: &Run, asked: bool, r: Row, q: Row) -> bool
 
 // M5: a release barrier a, an acquire atomic b.
 fn sync_from_barrier(t: &Run, n: usize, a: usize, b: usize, w: &[u64]) -> bool
-    requires { ⌜ (n ≤ ROWS) × (a < n) × (b < n) × (WORK ≤ length (now w)) × Sequenced (tableIn (now t) n) n (now w) ⌝ }
+    requires { ⌜ TwoOf n a b × (WORK ≤ length (now w)) × Sequenced (tableIn (now t) n) n (now w) ⌝ }
     ensures { λ d. ⌜ d ≡ syncFromBarrier (tableIn (now (t .entry)) n) a b ⌝ }
 {
     let r = run::row(t, a as u16);
@@ -60,7 +61,7 @@ fn sync_from_barrier(t: &Run, n: usize, a: usize, b: usize, w: &[u64]) -> bool
 
 // M5: a release atomic a, an acquire barrier b.
 fn sync_to_barrier(t: &Run, n: usize, a: usize, b: usize, w: &[u64]) -> bool
-    requires { ⌜ (n ≤ ROWS) × (a < n) × (b < n) × (WORK ≤ length (now w)) × Sequenced (tableIn (now t) n) n (now w) ⌝ }
+    requires { ⌜ TwoOf n a b × (WORK ≤ length (now w)) × Sequenced (tableIn (now t) n) n (now w) ⌝ }
     ensures { λ d. ⌜ d ≡ syncToBarrier (tableIn (now (t .entry)) n) a b ⌝ }
 {
     let r = run::row(t, a as u16);
@@ -78,7 +79,7 @@ fn sync_to_barrier(t: &Run, n: usize, a: usize, b: usize, w: &[u64]) -> bool
 
 // M5: a release barrier a, an acquire barrier b.
 fn sync_barriers(t: &Run, n: usize, a: usize, b: usize, w: &[u64]) -> bool
-    requires { ⌜ (n ≤ ROWS) × (a < n) × (b < n) × (WORK ≤ length (now w)) × Sequenced (tableIn (now t) n) n (now w) ⌝ }
+    requires { ⌜ TwoOf n a b × (WORK ≤ length (now w)) × Sequenced (tableIn (now t) n) n (now w) ⌝ }
     ensures { λ d. ⌜ d ≡ syncBarriers (tableIn (now (t .entry)) n) a b ⌝ }
 {
     let r = run::row(t, a as u16);
@@ -106,7 +107,7 @@ fn sync_control(t: &Run, n: usize, a: usize, b: usize) -> bool
 
 // M5: whether the release row a synchronizes-with the acquire row b. Most rows are neither, so their orders are tested first.
 pub fn sync_at(t: &Run, n: usize, a: usize, b: usize, w: &[u64]) -> bool
-    requires { ⌜ (n ≤ ROWS) × (a < n) × (b < n) × (WORK ≤ length (now w)) × Sequenced (tableIn (now t) n) n (now w) ⌝ }
+    requires { ⌜ TwoOf n a b × (WORK ≤ length (now w)) × Sequenced (tableIn (now t) n) n (now w) ⌝ }
     ensures { λ d. ⌜ d ≡ synchronizes (tableIn (now (t .entry)) n) a b ⌝ }
 {
     let r = run::row(t, a as u16);

@@ -2,3 +2,4 @@ pub mod Cases
 pub mod Early
 pub mod Forms
 pub mod Shared
+pub mod Several

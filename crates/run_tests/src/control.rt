@@ -7,6 +7,7 @@ ghost use Rattle.model.specs.Row.{control};
 ghost use Rattle.model.specs.Table.{rowOf};
 ghost use Rattle.run.specs.Layout.{tableIn, rowsIn};
 ghost use Rattle.model.specs.Synchronizes.{upTo, joins, arrives, passes};
+ghost use Rattle.run_tests.specs.Several.{ThreeOf};
 use run::Run;
 
 // M5: whether row a is program-ordered before row c, or is c.
@@ -68,7 +69,7 @@ fn is_control_at(t: &Run, c: usize) -> bool
 // M5: whether row a comes before row c or is c, and c is met by a row that comes before row b or is b. Only a control barrier is
 // met: any other row costs a byte, and no walk over the rows.
 fn passes_at(t: &Run, n: usize, a: usize, b: usize, c: usize) -> bool
-    requires { ⌜ (n ≤ ROWS) × (a < n) × (b < n) × (c < n) ⌝ }
+    requires { ⌜ (n ≤ ROWS) × ThreeOf n a b c ⌝ }
     ensures { λ d. ⌜ d ≡ passes (tableIn (now (t .entry)) n) a b c ⌝ }
 {
     if !is_control_at(t, c) {

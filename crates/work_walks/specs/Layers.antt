@@ -19,6 +19,11 @@ use Rattle.work_walks.specs.Left.{nextOf}
 abbrev pub Room : ℕ → ℕ → ℕ → ℕ → Type 0
 Room layers stride n size = (n ≤ 64 * stride) × (layers + n * stride + stride ≤ size) × (layers + n * stride + stride ≤ AREA-LIMIT)
 
+-- they do, and the steps stand before them
+pub record Laid (steps layers stride n size : ℕ) : Type 0 where
+  pub room : Room layers stride n size
+  pub apart : steps + n * stride ≤ layers
+
 -- the first bit of the layer after layer k
 abbrev pub after : ℕ → ℕ → ℕ → ℕ
 after layers stride k = (layers + k * stride + stride) * 64

@@ -6,7 +6,7 @@ ghost use lib.ListN.{length};
 ghost use Rattle.finite.specs.Below.{least};
 ghost use Rattle.bits.specs.Within.{Within};
 ghost use Rattle.bits.specs.Fill.{rowFill};
-ghost use Rattle.work_walks.specs.Layers.{Room, stepBit, reaches, inLayer, after, Layers, Returns};
+ghost use Rattle.work_walks.specs.Layers.{Room, Laid, stepBit, reaches, inLayer, after, Layers, Returns};
 
 pub mod grid; // along a grid over rows
 pub mod moments; // along a grid over moments
@@ -21,7 +21,7 @@ struct Matrices {
 // The least number that a step from z leads to and that is in layer k; n where there is none.
 // Ruled out: one that gives the last such number; one that reads the steps that lead to z.
 fn next(w: &[u64], m: Matrices, n: usize, k: usize, z: usize) -> usize
-    requires { ⌜ Room (m .layers) (m .stride) n (length (now w)) × (m .steps + n * m .stride ≤ m .layers) × (k ≤ n) × (z < n) ⌝ }
+    requires { ⌜ Laid (m .steps) (m .layers) (m .stride) n (length (now w)) × (k ≤ n) × (z < n) ⌝ }
     ensures { λ r. ⌜ r ≡ least n (stepBit (now (w .entry)) (m .steps) (m .layers) (m .stride) k z) ⌝ }
 {
     let y = work_sets::first_both(w, m.steps + z * m.stride, m.layers + k * m.stride, m.stride);
@@ -30,7 +30,7 @@ fn next(w: &[u64], m: Matrices, n: usize, k: usize, z: usize) -> usize
 
 // Adds the numbers from which a step leads into layer k to the layer after it.
 fn fill_after(w: &mut [u64], m: Matrices, n: usize, k: usize)
-    requires { ⌜ Room (m .layers) (m .stride) n (length (now w)) × (m .steps + n * m .stride ≤ m .layers) × (k < n) ⌝ }
+    requires { ⌜ Laid (m .steps) (m .layers) (m .stride) n (length (now w)) × (k < n) ⌝ }
     ensures { λ _. ⌜ now (w .exit) ≡ rowFill (reaches (now (w .entry)) (m .steps) (m .layers) (m .stride) n k) (now (w .entry)) (after (m .layers) (m .stride) k) n ⌝ }
 {
     let at = (m.layers + k * m.stride + m.stride) * 64;
@@ -43,7 +43,7 @@ fn fill_after(w: &mut [u64], m: Matrices, n: usize, k: usize)
 // Layer k becomes the numbers from which k steps lead to x, for each k up to n. After an empty layer there are none to add.
 // Ruled out: one that leaves old bits in the layers; one that begins with x in layer 1; one that goes along the steps from x.
 fn fill_layers(w: &mut [u64], m: Matrices, n: usize, x: usize)
-    requires { ⌜ Room (m .layers) (m .stride) n (length (now w)) × (m .steps + n * m .stride ≤ m .layers) × (x < n) ⌝ }
+    requires { ⌜ Laid (m .steps) (m .layers) (m .stride) n (length (now w)) × (x < n) ⌝ }
     ensures { λ _. ⌜ Layers (m .steps) (m .layers) (m .stride) n x (now (w .exit)) × Within (m .layers) (m .layers + n * m .stride + m .stride) (now (w .entry)) (now (w .exit)) ⌝ }
 {
     let layers = m.layers;
@@ -76,7 +76,7 @@ fn layer_of(w: &[u64], layers: usize, stride: usize, n: usize, z: usize) -> usiz
 // The layers up to the first that has x again, by a way of one step at least: gives the least j for which x is in layer j + 1; n where there is none.
 // Ruled out: one that finds x in layer 0; one that stops before the layer that has x again is made.
 fn fill_until(w: &mut [u64], m: Matrices, n: usize, x: usize) -> usize
-    requires { ⌜ Room (m .layers) (m .stride) n (length (now w)) × (m .steps + n * m .stride ≤ m .layers) × (x < n) ⌝ }
+    requires { ⌜ Laid (m .steps) (m .layers) (m .stride) n (length (now w)) × (x < n) ⌝ }
     ensures { λ r. ⌜ Returns (m .steps) (m .layers) (m .stride) n x r (now (w .exit)) × Within (m .layers) (m .layers + n * m .stride + m .stride) (now (w .entry)) (now (w .exit)) ⌝ }
 {
     let layers = m.layers;

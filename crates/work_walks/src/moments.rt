@@ -11,7 +11,7 @@ use crate::Matrices;
 // The least number that a step from z leads to and that is in layer k; n where there is none.
 // Ruled out: one that exchanges the steps and the layers; one that goes by rows of another width.
 pub fn next(w: &[u64], n: usize, k: usize, z: usize) -> usize
-    requires { ⌜ Room CHAINS MOMENTS n (length (now w)) × (STEP + n * MOMENTS ≤ CHAINS) × (k ≤ n) × (z < n) ⌝ }
+    requires { ⌜ Room CHAINS MOMENTS n (length (now w)) × (k ≤ n) × (z < n) ⌝ }
     ensures { λ r. ⌜ r ≡ least n (stepBit (now (w .entry)) STEP CHAINS MOMENTS k z) ⌝ }
 {
     let m = Matrices {
@@ -25,7 +25,7 @@ pub fn next(w: &[u64], n: usize, k: usize, z: usize) -> usize
 // Layer k becomes the numbers from which k steps lead to x, for each k up to n.
 // Ruled out: one that exchanges the steps and the layers; one that clears the layers of another width.
 pub fn fill_layers(w: &mut [u64], n: usize, x: usize)
-    requires { ⌜ Room CHAINS MOMENTS n (length (now w)) × (STEP + n * MOMENTS ≤ CHAINS) × (x < n) ⌝ }
+    requires { ⌜ Room CHAINS MOMENTS n (length (now w)) × (x < n) ⌝ }
     ensures { λ _. ⌜ Layers STEP CHAINS MOMENTS n x (now (w .exit)) × Within CHAINS (CHAINS + n * MOMENTS + MOMENTS) (now (w .entry)) (now (w .exit)) ⌝ }
 {
     let m = Matrices {

@@ -31,10 +31,8 @@ write-steps-requires c κs =
     let set = c-4 .before .before .before .find-set .ensures in
     let less = c-4 .if2 .left in
     let held = set .2 less in
-    let asked = steps-asked refl (pre .0) (pre .3) (pre .4) (pre .5) (set .0) less held _ (c .before .before .layer-of .ensures .0) in
-    let short = asked .0 in
-    let few = asked .1 in
-    (pre .0, search needs, pre .3, omega arith, omega arith, pre .2, held .layers, asked .2, synced-kept (omega arith) (set .1) (c-8 .before .before .before .make-synced .ensures .synced))
+    let asked = steps-asked refl (pre .2) (set .0) less held _ (c .before .before .layer-of .ensures .0) (search needs) in
+    (pre .1, asked, synced-kept (omega arith) (set .1) (c-8 .before .before .before .make-synced .ensures .synced))
 
 returns-3 : tie.Need-returns-3
 unfolding decode
@@ -48,10 +46,10 @@ returns-3 c =
     let set = c-8 .before .before .find-set .ensures in
     let less = c-4 .before .before .before .if2 .left in
     let made = c-12 .before .before .make-synced .ensures in
-    told-chain refl (pre .0) (pre .3) (pre .4) (pre .5) (set .0) less (set .2 less) _
+    told-chain refl (pre .2) (set .0) less (set .2 less) _
     (c-4 .before .layer-of .ensures .0)
     (sym (c-16 .before .ordered-at .ensures)
-    ∙ c-16 .if1 .left) (pre .2) (made .frame) (set .1) (c .before .before .write-steps .ensures)
+    ∙ c-16 .if1 .left) (pre .1) (made .frame) (set .1) (c .before .before .write-steps .ensures)
 
 pub derive-moments-spec : {M : Type 1} → statement M
 derive-moments-spec =

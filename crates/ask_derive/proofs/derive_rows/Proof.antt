@@ -12,9 +12,9 @@ returns c = rows-12 _ _ _ _ _ (sym (c .before .two-moments .ensures) ∙ not-tru
 derive-moments-requires : tie.Need-derive-moments-requires
 derive-moments-requires c κs =
     let c-4 = c .before .before .before .before in
-    let two = two-known _ _ _ _ _ _ (sym (c .before .before .before .two-moments .ensures)
+    let two = two-known _ _ _ _ _ _ (few (c-4 .before .before .pre .2)) (sym (c .before .before .before .two-moments .ensures)
     ∙ not-false _ (c .before .before .if1 .left)) in
-    (few (c-4 .before .before .pre .2), c-4 .before .before .pre .0, c-4 .before .before .pre .1, two .0, two .1, two .2)
+    (c-4 .before .before .pre .0, c-4 .before .before .pre .1, two)
 
 returns-2 : tie.Need-returns-2
 returns-2 c =

@@ -24,7 +24,7 @@ abbrev μ-loop : tie.MeasureT-loop
 loop-holds : tie.Need-loop-holds Inv-loop μ-loop
 loop-holds c =
     let start = c .before .before in
-    (search needs, start .pre .2, refl, written-none _ _, left-none _ _ _ _ _ (start .pre .6))
+    (search needs, start .pre .1 .row, refl, written-none _ _, left-none _ _ _ _ _ (start .pre .1 .leads))
 
 loop-again : tie.Need-loop-again Inv-loop μ-loop
 loop-again c =
@@ -32,7 +32,7 @@ loop-again c =
     let start = at-loop .before .before .before in
     let inv = at-loop .loop .inv in
     let less = c .before .loop-test .taken in
-    let more = left-more _ _ _ _ _ _ _ _ less (inv .4) (c .next .ensures ∙ next-to (start .pre .5) _ _ (omega arith)) in
+    let more = left-more _ _ _ _ _ _ _ _ less (inv .4) (c .next .ensures ∙ next-to (start .pre .1 .made) _ _ (omega arith)) in
     let row = sym (ap (λ (l : List ℕ). getD l (at-loop .loop .i) 0) (along-first _ _)) ∙ more .1 (λ a b. a) in
     (search needs, more .0, simp length-set (inv .2), written-more _ _ (search needs) row (inv .3), more .2)
 

@@ -11,7 +11,7 @@ returns c =
     let at-fill = at-close .before .before .before .before in
     let tested = at-fill .before .before in
     let start = tested .before .before .before in
-    added-set _ _ _ _ _ (start .args .w .now) _ _ _ (start .pre .0) (start .pre .1)
+    added-set _ _ _ _ _ (start .args .w .now) _ _ _ (start .pre .2 .mutuals .fits) (start .pre .1)
     (sym (tested .before .is-live .ensures) ∙ tested .if1 .taken) (at-fill .fill-step .ensures) (at-close .close .ensures)
     (at-join .join-row .ensures)
 

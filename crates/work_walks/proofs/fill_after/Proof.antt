@@ -19,16 +19,16 @@ abbrev μ-loop : tie.MeasureT-loop
 μ-loop w₀ m n k at z₀ w z = n - z
 
 mul-at : tie.Need-mul-at Inv-loop μ-loop
-mul-at c = let a = c .before .before .args in omega (arith, row-apart (a .k) (a .n) (a .m .stride) (c .before .before .pre .2))
+mul-at c = let a = c .before .before .args in omega (arith, row-apart (a .k) (a .n) (a .m .stride) (c .before .before .pre .1))
 
 add-at : tie.Need-add-at Inv-loop μ-loop
-add-at c = let a = c .before .before .before .args in omega (arith, row-apart (a .k) (a .n) (a .m .stride) (c .before .before .before .pre .2))
+add-at c = let a = c .before .before .before .args in omega (arith, row-apart (a .k) (a .n) (a .m .stride) (c .before .before .before .pre .1))
 
 add-at-2 : tie.Need-add-at-2 Inv-loop μ-loop
-add-at-2 c = let a = c .before .before .before .before .args in omega (arith, row-apart (a .k) (a .n) (a .m .stride) (c .before .before .before .before .pre .2))
+add-at-2 c = let a = c .before .before .before .before .args in omega (arith, row-apart (a .k) (a .n) (a .m .stride) (c .before .before .before .before .pre .1))
 
 mul-at-2 : tie.Need-mul-at-2 Inv-loop μ-loop
-mul-at-2 c = let a = c .before .before .before .before .args in omega (arith, row-apart (a .k) (a .n) (a .m .stride) (c .before .before .before .before .pre .2))
+mul-at-2 c = let a = c .before .before .before .before .args in omega (arith, row-apart (a .k) (a .n) (a .m .stride) (c .before .before .before .before .pre .1))
 
 loop-holds : tie.Need-loop-holds Inv-loop μ-loop
 loop-holds c = (search needs, refl, rowFill-none _ _ _)
@@ -37,13 +37,13 @@ add-put-if : tie.Need-add-put-if Inv-loop μ-loop
 add-put-if c =
     let c-4 = c .before .before .before .before in
     let c-8 = c-4 .before .before .before .before in
-    omega (arith, row-apart (c-8 .before .args .k) (c-8 .before .args .n) (c-8 .before .args .m .stride) (c-8 .before .pre .2))
+    omega (arith, row-apart (c-8 .before .args .k) (c-8 .before .args .n) (c-8 .before .args .m .stride) (c-8 .before .pre .1))
 
 put-if-requires : tie.Need-put-if-requires Inv-loop μ-loop
 put-if-requires c κs =
     let c-4 = c .before .before .before .before in
     let c-8 = c-4 .before .before .before .before in
-    omega (arith, row-apart (c-8 .before .args .k) (c-8 .before .args .n) (c-8 .before .args .m .stride) (c-8 .before .pre .2))
+    omega (arith, row-apart (c-8 .before .args .k) (c-8 .before .args .n) (c-8 .before .args .m .stride) (c-8 .before .pre .1))
 
 loop-again : tie.Need-loop-again Inv-loop μ-loop
 loop-again c =
@@ -52,7 +52,7 @@ loop-again c =
     let c-12 = c-8 .before .before .before .before in
     let put = c .before .before .put-if in
     let inv = c-4 .before .before .before .loop .inv in
-    let t = turn-test _ _ _ _ (c-12 .pre .0 .0) (c-12 .pre .1) _ _ _ _ _ (inv .2) _ _ (c-4 .before .before .loop-test .taken) (c-4 .next .ensures) in
+    let t = turn-test _ _ _ _ (c-12 .pre .0 .room .0) (c-12 .pre .0 .apart) _ _ _ _ _ (inv .2) _ _ (c-4 .before .before .loop-test .taken) (c-4 .next .ensures) in
     let e = rowFill-put _ _ _ (put .last .0) _ _ _ _ (inv .2) t refl (put .ensures) in
     (search needs, ap length e ∙ length-rowFill _ _ _ _, e)
 

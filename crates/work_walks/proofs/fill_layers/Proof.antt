@@ -22,7 +22,7 @@ loop-holds c =
     let c-8 = c-4 .before .before .before .before in (
       search needs,
       refl,
-      rounds-none _ _ _ _ (c-8 .before .pre .0 .0) (c-8 .before .pre .1) _ _ _ _ (c-8 .before .pre .2) (c-8 .before .pre .0 .1)
+      rounds-none _ _ _ _ (c-8 .before .pre .0 .room .0) (c-8 .before .pre .0 .apart) _ _ _ _ (c-8 .before .pre .1) (c-8 .before .pre .0 .room .1)
           (c-4 .before .before .clear .ensures) (c .before .before .put .ensures),
     )
 
@@ -54,9 +54,9 @@ returns c =
     let c-4 = c .before .before .before .before in
     let c-8 = c-4 .before .before .before .before in
     let c-12 = c-8 .before .before .before .before in
-    let fits = c-12 .before .before .pre .0 .0 in
-    rounds-done _ _ _ _ fits (c-12 .before .before .pre .1) _ _ _ _ (c-12 .before .before .pre .2) (c-12 .before .before .pre .0 .1) (c-8 .before .before .before .clear .ensures) (c-4 .before .before .before .put .ensures)
-    (rounds-empty _ _ _ _ fits (c-12 .before .before .pre .1) _ _ _ _ (search needs)
+    let fits = c-12 .before .before .pre .0 .room .0 in
+    rounds-done _ _ _ _ fits (c-12 .before .before .pre .0 .apart) _ _ _ _ (c-12 .before .before .pre .1) (c-12 .before .before .pre .0 .room .1) (c-8 .before .before .before .clear .ensures) (c-4 .before .before .before .put .ensures)
+    (rounds-empty _ _ _ _ fits (c-12 .before .before .pre .0 .apart) _ _ _ _ (search needs)
     (λ z b. least-empty _ _ _ _ (c .before .first-both .ensures) (c .if1 .taken) z (omega arith)) (c-4 .loop .inv .2))
 
 loop-again : tie.Need-loop-again Inv-loop μ-loop
@@ -65,7 +65,7 @@ loop-again c =
     let c-8 = c-4 .before .before .before .before in
     let c-12 = c-8 .before .before .before .before in
     let c-16 = c-12 .before .before .before .before in
-    let more = rounds-more _ _ _ _ (c-16 .before .before .pre .0 .0) (c-16 .before .before .pre .1) _ _ _ _ _ (search needs)
+    let more = rounds-more _ _ _ _ (c-16 .before .before .pre .0 .room .0) (c-16 .before .before .pre .0 .apart) _ _ _ _ _ (search needs)
     (c-4 .before .before .before .loop-test .taken) (c-8 .loop .inv .2)
     (c .before .before .fill-after .ensures) in
     (search needs, more .frame .len, more)
@@ -75,7 +75,7 @@ returns-2 c =
     let c-4 = c .before .before .before .before in
     let c-8 = c-4 .before .before .before .before in
     let e : c .before .loop .k ≡ c-8 .before .before .before .args .n = omega arith in
-    rounds-done _ _ _ _ (c-8 .before .before .before .pre .0 .0) (c-8 .before .before .before .pre .1) _ _ _ _ (c-8 .before .before .before .pre .2) (c-8 .before .before .before .pre .0 .1) (c-8 .clear .ensures)
+    rounds-done _ _ _ _ (c-8 .before .before .before .pre .0 .room .0) (c-8 .before .before .before .pre .0 .apart) _ _ _ _ (c-8 .before .before .before .pre .1) (c-8 .before .before .before .pre .0 .room .1) (c-8 .clear .ensures)
     (c-4 .put .ensures) (rw e at (c .before .loop .inv .2))
 
 pub fill-layers-spec : {M : Type 1} → statement M

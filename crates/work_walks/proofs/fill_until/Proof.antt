@@ -22,7 +22,7 @@ loop-holds : tie.Need-loop-holds Inv-loop μ-loop
 loop-holds c =
     let c-4 = c .before .before .before .before in
     let c-8 = c-4 .before .before .before .before in
-    let start = c-8 .before in (search needs, refl, rounds-none _ _ _ _ (start .pre .0 .0) (start .pre .1) _ _ _ _ (start .pre .2) (start .pre .0 .1) (c-4 .before .before .clear .ensures) (c .before .before .put .ensures), least-none _)
+    let start = c-8 .before in (search needs, refl, rounds-none _ _ _ _ (start .pre .0 .room .0) (start .pre .0 .apart) _ _ _ _ (start .pre .1) (start .pre .0 .room .1) (c-4 .before .before .clear .ensures) (c .before .before .put .ensures), least-none _)
 
 mul-get : tie.Need-mul-get Inv-loop μ-loop
 mul-get c =
@@ -72,7 +72,7 @@ get-requires c κs =
     let c-16 = c-12 .before .before .before .before in
     let start = c-16 in
     let inv = c-4 .before .before .loop .inv in
-    let made = rounds-more _ _ _ _ (start .pre .0 .0) (start .pre .1) _ _ _ _ _ (search needs) (c-4 .before .loop-test .taken) (inv .2) (c .before .before .before .fill-after .ensures) in
+    let made = rounds-more _ _ _ _ (start .pre .0 .room .0) (start .pre .0 .apart) _ _ _ _ _ (search needs) (c-4 .before .loop-test .taken) (inv .2) (c .before .before .before .fill-after .ensures) in
     let l = made .frame .len in
     let r = row-apart (c-4 .before .before .loop .k) (start .args .n) (start .args .m .stride) (c-4 .before .loop-test .taken) in
     omega (arith, l, r)
@@ -85,8 +85,8 @@ same-length c =
     let c-16 = c-12 .before .before .before .before in
     let start = c-16 .before .before in
     let inv = c-8 .loop .inv in
-    let made = rounds-more _ _ _ _ (start .pre .0 .0) (start .pre .1) _ _ _ _ _ (search needs) (c-4 .before .before .before .loop-test .taken) (inv .2) (c-4 .before .fill-after .ensures) in
-    rounds-until _ _ _ _ (start .pre .0 .0) (start .pre .1) _ _ _ _ (start .pre .2) (start .pre .0 .1) (c-12 .before .before .before .clear .ensures) (c-8 .before .before .before .put .ensures) _ (c-4 .before .before .before .loop-test .taken) made (c .before .get .ensures) (c .if1 .taken) (inv .3) .1 .len
+    let made = rounds-more _ _ _ _ (start .pre .0 .room .0) (start .pre .0 .apart) _ _ _ _ _ (search needs) (c-4 .before .before .before .loop-test .taken) (inv .2) (c-4 .before .fill-after .ensures) in
+    rounds-until _ _ _ _ (start .pre .0 .room .0) (start .pre .0 .apart) _ _ _ _ (start .pre .1) (start .pre .0 .room .1) (c-12 .before .before .before .clear .ensures) (c-8 .before .before .before .put .ensures) _ (c-4 .before .before .before .loop-test .taken) made (c .before .get .ensures) (c .if1 .taken) (inv .3) .1 .len
 
 returns : tie.Need-returns Inv-loop μ-loop
 returns c =
@@ -96,8 +96,8 @@ returns c =
     let c-16 = c-12 .before .before .before .before in
     let start = c-16 .before .before in
     let inv = c-8 .loop .inv in
-    let made = rounds-more _ _ _ _ (start .pre .0 .0) (start .pre .1) _ _ _ _ _ (search needs) (c-4 .before .before .before .loop-test .taken) (inv .2) (c-4 .before .fill-after .ensures) in
-    rounds-until _ _ _ _ (start .pre .0 .0) (start .pre .1) _ _ _ _ (start .pre .2) (start .pre .0 .1) (c-12 .before .before .before .clear .ensures) (c-8 .before .before .before .put .ensures) _ (c-4 .before .before .before .loop-test .taken) made (c .before .get .ensures) (c .if1 .taken) (inv .3)
+    let made = rounds-more _ _ _ _ (start .pre .0 .room .0) (start .pre .0 .apart) _ _ _ _ _ (search needs) (c-4 .before .before .before .loop-test .taken) (inv .2) (c-4 .before .fill-after .ensures) in
+    rounds-until _ _ _ _ (start .pre .0 .room .0) (start .pre .0 .apart) _ _ _ _ (start .pre .1) (start .pre .0 .room .1) (c-12 .before .before .before .clear .ensures) (c-8 .before .before .before .put .ensures) _ (c-4 .before .before .before .loop-test .taken) made (c .before .get .ensures) (c .if1 .taken) (inv .3)
 
 loop-again : tie.Need-loop-again Inv-loop μ-loop
 loop-again c =
@@ -107,8 +107,8 @@ loop-again c =
     let c-16 = c-12 .before .before .before .before in
     let start = c-16 .before .before in
     let inv = c-8 .loop .inv in
-    let made = rounds-more _ _ _ _ (start .pre .0 .0) (start .pre .1) _ _ _ _ _ (search needs) (c-4 .before .before .before .loop-test .taken) (inv .2) (c-4 .before .fill-after .ensures) in
-    (search needs, made .frame .len, made, rounds-on _ _ _ _ (start .pre .0 .0) (start .pre .1) _ _ _ _ (start .pre .2) (start .pre .0 .1) (c-12 .before .before .before .clear .ensures) (c-8 .before .before .before .put .ensures) _ (c-4 .before .before .before .loop-test .taken) made (c .before .get .ensures) (c .if1 .left) (inv .3))
+    let made = rounds-more _ _ _ _ (start .pre .0 .room .0) (start .pre .0 .apart) _ _ _ _ _ (search needs) (c-4 .before .before .before .loop-test .taken) (inv .2) (c-4 .before .fill-after .ensures) in
+    (search needs, made .frame .len, made, rounds-on _ _ _ _ (start .pre .0 .room .0) (start .pre .0 .apart) _ _ _ _ (start .pre .1) (start .pre .0 .room .1) (c-12 .before .before .before .clear .ensures) (c-8 .before .before .before .put .ensures) _ (c-4 .before .before .before .loop-test .taken) made (c .before .get .ensures) (c .if1 .left) (inv .3))
 
 same-length-2 : tie.Need-same-length-2 Inv-loop μ-loop
 same-length-2 c =
@@ -116,7 +116,7 @@ same-length-2 c =
     let c-8 = c-4 .before .before .before .before in
     let start = c-8 .before .before .before in
     let e : c .before .loop .k ≡ start .args .n = omega arith in
-    rounds-never _ _ _ _ (start .pre .0 .0) (start .pre .1) _ _ _ _ (start .pre .2) (start .pre .0 .1) (c-8 .clear .ensures) (c-4 .put .ensures) (rw e at (c .before .loop .inv .2)) (rw e at (c .before .loop .inv .3)) .1 .len
+    rounds-never _ _ _ _ (start .pre .0 .room .0) (start .pre .0 .apart) _ _ _ _ (start .pre .1) (start .pre .0 .room .1) (c-8 .clear .ensures) (c-4 .put .ensures) (rw e at (c .before .loop .inv .2)) (rw e at (c .before .loop .inv .3)) .1 .len
 
 returns-2 : tie.Need-returns-2 Inv-loop μ-loop
 returns-2 c =
@@ -124,7 +124,7 @@ returns-2 c =
     let c-8 = c-4 .before .before .before .before in
     let start = c-8 .before .before .before in
     let e : c .before .loop .k ≡ start .args .n = omega arith in
-    rounds-never _ _ _ _ (start .pre .0 .0) (start .pre .1) _ _ _ _ (start .pre .2) (start .pre .0 .1) (c-8 .clear .ensures) (c-4 .put .ensures) (rw e at (c .before .loop .inv .2)) (rw e at (c .before .loop .inv .3))
+    rounds-never _ _ _ _ (start .pre .0 .room .0) (start .pre .0 .apart) _ _ _ _ (start .pre .1) (start .pre .0 .room .1) (c-8 .clear .ensures) (c-4 .put .ensures) (rw e at (c .before .loop .inv .2)) (rw e at (c .before .loop .inv .3))
 
 pub fill-until-spec : {M : Type 1} → statement M
 fill-until-spec =

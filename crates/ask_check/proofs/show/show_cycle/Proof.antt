@@ -16,7 +16,8 @@ write-rows-requires c κs =
     let pre = c-12 .before .pre in
     let fill = c-8 .fill-until .ensures in
     let asked = size-asked _ _ _ _ _ _ _ refl (pre .3 .0) (pre .4) fill (pre .5) (pre .0) in
-    (search needs, search needs, search needs, asked .0, search needs, layers-asked _ _ _ _ _ _ _ refl (pre .3 .0) (pre .4) fill (pre .5) (pre .0), asked .1)
+    let made = layers-asked _ _ _ _ _ _ _ refl (pre .3 .0) (pre .4) fill (pre .5) (pre .0) in
+    (search needs, record { few = search needs; room = search needs; row = search needs; short = asked .0; made = made; leads = asked .1 })
 
 write-edges-requires : tie.Need-write-edges-requires
 unfolding decode

@@ -24,13 +24,10 @@ edge-number-requires c κs =
     let c-4 = c .before .before .before .before in
     let c-8 = c-4 .before .before .before .before in
     let pre = c-8 .before .pre in
-    let inv = c-4 .before .loop .inv in (
-      row-below _ _ _ _ (c-8 .before .args .x) _ _ _ (inv .2) (pre .1)
-          (omega arith) (pre .5) _ (c .before .before .wide .ensures),
-      next-below _ _ _ _ _ _ _ _ (inv .2) (pre .1) (omega arith) (pre .5) (pre .0) _ (c .next-of .ensures),
-      pre .3,
-      pre .4,
-    )
+    let inv = c-4 .before .loop .inv in
+    let row = row-below _ _ _ _ (c-8 .before .args .x) _ _ _ (inv .2) (pre .1) (omega arith) (pre .5) _ (c .before .before .wide .ensures) in
+    let next = next-below _ _ _ _ _ _ _ _ (inv .2) (pre .1) (omega arith) (pre .5) (pre .0) _ (c .next-of .ensures) in
+    (record { first = row; second = next }, pre .3, pre .4)
 
 loop-again : tie.Need-loop-again Inv-loop μ-loop
 loop-again c =

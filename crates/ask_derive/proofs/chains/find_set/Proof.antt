@@ -25,7 +25,7 @@ abbrev μ-loop : tie.MeasureT-loop
 μ-loop t n first second w₀ c₀ w c = CLASS-SETS - c
 
 loop-holds : tie.Need-loop-holds Inv-loop μ-loop
-loop-holds c = (search needs, refl, least-none _, c .before .pre .4, within-refl _ _ _)
+loop-holds c = (search needs, refl, least-none _, c .before .pre .2, within-refl _ _ _)
 
 returns : tie.Need-returns Inv-loop μ-loop
 unfolding decode
@@ -35,7 +35,7 @@ returns c =
     let start = c-8 .before .before in
     let inv = c-8 .loop .inv in
     let made = c-4 .before .make-layers .ensures in (
-      set-found refl (made .layered) _ _ (start .pre .2) (c .before .layer-of .ensures .0) (inv .2)
+      set-found refl (made .layered) _ _ (start .pre .0 .first) (c .before .layer-of .ensures .0) (inv .2)
           (c-4 .before .before .before .loop-test .taken) (c .if1 .taken),
       within-trans (inv .4) (made .frame),
       λ h. made .layered,
@@ -51,7 +51,7 @@ loop-again c =
     let made = c-4 .before .make-layers .ensures in (
       search needs,
       made .frame .len ∙ inv .1,
-      set-missed refl (made .layered) _ _ (start .pre .2) (c .before .layer-of .ensures .0) (inv .2) (c .if1 .left),
+      set-missed refl (made .layered) _ _ (start .pre .0 .first) (c .before .layer-of .ensures .0) (inv .2) (c .if1 .left),
       synced-kept (omega arith) (made .frame) (inv .3),
       within-trans (inv .4) (made .frame),
     )

@@ -8,7 +8,7 @@ use Rattle.ask_derive.proofs.chains.step_number.Tie as tie
 returns : tie.Need-returns
 returns c =
     let start = c .before .before .before in
-    number-is _ _ _ _ _ _ _ _ _ _ _ (start .pre .4) (start .pre .1) (start .pre .2) (omega arith) (c .before .get .ensures) (c .case-at .ensures .1)
+    number-is _ _ _ _ _ _ _ _ _ _ _ (start .pre .2) (start .pre .0 .first) (start .pre .0 .second) (omega arith) (c .before .get .ensures) (c .case-at .ensures .1)
 
 pub step-number-spec : {M : Type 1} → statement M
 step-number-spec =

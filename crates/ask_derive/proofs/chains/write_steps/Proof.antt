@@ -26,15 +26,15 @@ abbrev μ-loop : tie.MeasureT-loop
 loop-holds : tie.Need-loop-holds Inv-loop μ-loop
 loop-holds c =
     let start = c .before .before in
-    (search needs, start .pre .2, refl, left-none _ _ _ _ _ (start .pre .7), written-none _ _)
+    (search needs, start .pre .1 .from, refl, left-none _ _ _ _ _ (start .pre .1 .leads), written-none _ _)
 
 step-number-requires : tie.Need-step-number-requires Inv-loop μ-loop
 step-number-requires c κs =
     let c-4 = c .before .before .before .before in
     let start = c-4 .before in
     let inv = c .before .before .loop .inv in
-    let more = left-more _ _ _ _ _ _ _ _ (c .before .loop-test .taken) (inv .3) (c .next .ensures ∙ next-is (start .pre .6) _ _ (omega arith)) in
-    (start .pre .0, inv .1, more .0, start .pre .1, start .pre .8)
+    let more = left-more _ _ _ _ _ _ _ _ (c .before .loop-test .taken) (inv .3) (c .next .ensures ∙ next-is (start .pre .1 .layers) _ _ (omega arith)) in
+    (record { first = inv .1; second = more .0 }, start .pre .1 .room, start .pre .2)
 
 loop-again : tie.Need-loop-again Inv-loop μ-loop
 loop-again c =
@@ -42,7 +42,7 @@ loop-again c =
     let start = c-4 .before .before in
     let inv = c .before .before .before .loop .inv in
     let more = left-more _ _ _ _ _ _ _ _ (c .before .before .loop-test .taken) (inv .3)
-    (c .before .next .ensures ∙ next-is (start .pre .6) _ _ (omega arith)) in (
+    (c .before .next .ensures ∙ next-is (start .pre .1 .layers) _ _ (omega arith)) in (
       search needs,
       more .0,
       simp length-set (inv .2),

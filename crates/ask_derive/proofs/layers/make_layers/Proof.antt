@@ -8,7 +8,7 @@ returns : tie.Need-returns
 returns c =
     let c-4 = c .before .before .before .before in
     let c-8 = c-4 .before .before .before .before in
-    made-layered (c-8 .before .pre .0) (c-4 .before .before .fill-step .ensures) (c .before .before .fill-layers .ensures)
+    made-layered (c-8 .before .pre .2 .mutuals .fits) (c-4 .before .before .fill-step .ensures) (c .before .before .fill-layers .ensures)
 
 pub make-layers-spec : {M : Type 1} → statement M
 make-layers-spec =

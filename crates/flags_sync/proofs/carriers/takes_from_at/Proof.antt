@@ -11,7 +11,7 @@ use Rattle.flags_sync.proofs.carriers.takes_from_at.Tie as tie
 returns : tie.Need-returns
 returns c =
     let start = c .before .before .before in
-    takes-apart _ _ _ _ _ _ (sym (holds-bit (start .pre .4 .mutuals) _ (start .args .x) (start .args .y) (omega arith) (omega arith)
+    takes-apart _ _ _ _ _ _ (sym (holds-bit (start .pre .2 .mutuals) _ (start .args .x) (start .args .y) (omega arith) (omega arith)
     (omega arith)) ∙ sym (c .before .get .ensures) ∙ not-true _ (c .if1 .taken))
 
 returns-2 : tie.Need-returns-2
@@ -25,9 +25,9 @@ returns-3 c =
     let got-if = tested .before .before .before in
     let got = got-if .before in
     let start = got .before .before in
-    let m = sym (holds-bit (start .pre .4 .mutuals) _ (start .args .x) (start .args .y) (omega arith) (omega arith) (omega arith))
+    let m = sym (holds-bit (start .pre .2 .mutuals) _ (start .args .x) (start .args .y) (omega arith) (omega arith) (omega arith))
     ∙ sym (got .get .ensures) ∙ not-false _ (got-if .if1 .left) in
-    let v = c .before .before .get2 .ensures ∙ holds-bit (start .pre .4 .sequences) _ (start .args .x) _ (omega arith) (omega arith) (tested .if2 .left) in
+    let v = c .before .before .get2 .ensures ∙ holds-bit (start .pre .2 .sequences) _ (start .args .x) _ (omega arith) (omega arith) (tested .if2 .left) in
     rw (c .before .writes .ensures, c .reads .ensures)
     (takes-on _ _ _ _ _ _ _ _ _ _ m (tested .before .before .atomic-source .ensures) (tested .if2 .left)
     (read .before .row .ensures) (read .row2 .ensures) v)

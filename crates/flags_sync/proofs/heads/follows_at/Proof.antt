@@ -13,7 +13,7 @@ unfolding follows decode _and_
 returns c =
     let c-4 = c .before .before .before .before in
     let start = c-4 .before .before in
-    let f = c .before .before .get .ensures ∙ holds-bit (start .pre .4) _ (start .args .i) (start .args .j) (omega arith) (omega arith) (omega arith) in
+    let f = c .before .before .get .ensures ∙ holds-bit (start .pre .2) _ (start .args .i) (start .args .j) (omega arith) (omega arith) (omega arith) in
     cc
 
 pub follows-at-spec : {M : Type 1} → statement M

@@ -24,7 +24,7 @@ returns : tie.Need-returns Inv-loop μ-loop
 returns c =
     let c-4 = c .before .before .before .before in
     let c-8 = c-4 .before .before .before .before in
-    let f = c-4 .get .ensures ∙ holds-bit (c-8 .before .before .pre .4) _ (c-8 .before .before .args .a) (c-4 .before .before .loop .z) (omega arith) (omega arith) (omega arith) in
+    let f = c-4 .get .ensures ∙ holds-bit (c-8 .before .before .pre .2) _ (c-8 .before .before .args .a) (c-4 .before .before .loop .z) (omega arith) (omega arith) (omega arith) in
     let told = ends-told _ _ _ _ _ _ _ _ _ _ _ _ f (c-8 .row .ensures) (c-4 .before .before .before .row2 .ensures) (c .before .before .before .row3 .ensures) (rw (c .before .before .counted .ensures) at (c .before .is-end .ensures)) in
     sym (any-in _ _ _ (c-4 .before .loop-test .taken) (told ∙ c .if1 .taken))
 
@@ -32,7 +32,7 @@ loop-again : tie.Need-loop-again Inv-loop μ-loop
 loop-again c =
     let c-4 = c .before .before .before .before in
     let c-8 = c-4 .before .before .before .before in
-    let f = c-4 .get .ensures ∙ holds-bit (c-8 .before .before .pre .4) _ (c-8 .before .before .args .a) (c-4 .before .before .loop .z) (omega arith) (omega arith) (omega arith) in
+    let f = c-4 .get .ensures ∙ holds-bit (c-8 .before .before .pre .2) _ (c-8 .before .before .args .a) (c-4 .before .before .loop .z) (omega arith) (omega arith) (omega arith) in
     let told = ends-told _ _ _ _ _ _ _ _ _ _ _ _ f (c-8 .row .ensures) (c-4 .before .before .before .row2 .ensures) (c .before .before .before .row3 .ensures) (rw (c .before .before .counted .ensures) at (c .before .is-end .ensures)) in
     (search needs, any-more _ _ (c-4 .before .before .loop .inv .1) (told ∙ c .if1 .left))
 

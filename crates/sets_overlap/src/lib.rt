@@ -1,7 +1,4 @@
 // Which rows share bytes, by sets of rows: it hangs on the location alone.
-ghost use mathlib.Core.Path.{_≡_};
-ghost use mathlib.Core.Bool.{true};
-ghost use Prim.Native.Nat.{_<_};
 ghost use Rattle.model.specs.Row.{access};
 ghost use Rattle.model.specs.Table.{rowOf};
 ghost use Rattle.run.specs.Layout.{rowsIn, tableIn};
@@ -10,6 +7,7 @@ ghost use Rattle.work_area.specs.Regions.{OVERLAP, OVERLAP-END};
 ghost use Rattle.work_area.specs.State.{overlaps};
 ghost use Rattle.sets_of_table.specs.Known.{Opened};
 ghost use Rattle.sets_grids.specs.Grid.{MadeGrid};
+ghost use Rattle.sets_grids.specs.Several.{RowThat};
 ghost use Rattle.sets_grids.specs.Given.{Given};
 ghost use Rattle.sets_overlap.specs.Overlap.{Earlier};
 use run::Run;
@@ -19,7 +17,7 @@ use sets_of_table::fields;
 
 // The accesses that share bytes with access i: location by location.
 fn near(t: &Run, n: usize, s: &[u64], i: usize) -> Set
-    requires { ⌜ (i < n) × (access (rowOf (rowsIn (now t)) i) ≡ true) × Opened (tableIn (now t) n) n (now s) ⌝ }
+    requires { ⌜ RowThat access (rowOf (rowsIn (now t))) n i × Opened (tableIn (now t) n) n (now s) ⌝ }
     ensures { λ x. ⌜ Rows n (overlaps (tableIn (now (t .entry)) n) i) x ⌝ }
 {
     let start = fields::start(t, i);
@@ -39,8 +37,7 @@ fn near(t: &Run, n: usize, s: &[u64], i: usize) -> Set
 // The same, where the rows before i have theirs: of a location that came before it is that one's.
 // Ruled out: one that has what the row before shares bytes with.
 fn overlap_row(t: &Run, n: usize, s: &[u64], w: &[u64], i: usize) -> Set
-    requires { ⌜ (i < n) × (access (rowOf (rowsIn (now t)) i) ≡ true) × Given (tableIn (now t) n) n (now s) (now w)
-        × Earlier (tableIn (now t) n) n i (now w) ⌝ }
+    requires { ⌜ RowThat access (rowOf (rowsIn (now t))) n i × Given (tableIn (now t) n) n (now s) (now w) × Earlier (tableIn (now t) n) n i (now w) ⌝ }
     ensures { λ x. ⌜ Rows n (overlaps (tableIn (now (t .entry)) n) i) x ⌝ }
 {
     let j = sets_of_rows::first(kept::get(s, sets_of_table::PLACE, i));

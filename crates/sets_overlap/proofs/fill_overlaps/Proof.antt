@@ -50,7 +50,7 @@ overlap-row-requires c κs =
     let o = c-12 .before .pre .opened in
     let inv = c-4 .before .loop .inv in
     let m = member-in _ (rows-at (c-4 .before .before .rows .ensures) (says-rows (o .known .tested .accesses .access))) (walk-in (inv .1 .walk) (c .before .before .first .ensures)) in
-    (m .0, m .1, record { opened = o; room = search needs }, earlier-put (few o) (rows-at (c-4 .before .before .rows .ensures) (says-rows (o .known .tested .accesses .access))) (inv .1) (c .before .before .first .ensures))
+    (record { low = m .0; is = m .1 }, record { opened = o; room = search needs }, earlier-put (few o) (rows-at (c-4 .before .before .rows .ensures) (says-rows (o .known .tested .accesses .access))) (inv .1) (c .before .before .first .ensures))
 
 loop-less : tie.Need-loop-less Inv-loop μ-loop
 loop-less c =

@@ -18,19 +18,19 @@ abbrev μ-loop : tie.MeasureT-loop
 μ-loop t n s i start end left₀ all₀ left all = ROWS - next left
 
 start-requires : tie.Need-start-requires Inv-loop μ-loop
-start-requires c κs = let o = c .before .pre .2 in let f = few o in omega (arith, c .before .pre .0)
+start-requires c κs = let o = c .before .pre .1 in let f = few o in omega (arith, c .before .pre .0 .low)
 
 end-requires : tie.Need-end-requires Inv-loop μ-loop
-end-requires c κs = let o = c .before .before .pre .2 in let f = few o in omega (arith, c .before .before .pre .0)
+end-requires c κs = let o = c .before .before .pre .1 in let f = few o in omega (arith, c .before .before .pre .0 .low)
 
 rows-requires : tie.Need-rows-requires Inv-loop μ-loop
-rows-requires c κs = let a = c .before .before .before .pre .2 .space in omega arith
+rows-requires c κs = let a = c .before .before .before .pre .1 .space in omega arith
 
 loop-holds : tie.Need-loop-holds Inv-loop μ-loop
 unfolding decode
 loop-holds c =
     let c-4 = c .before .before .before .before in
-    near-begin (c-4 .before .pre .2) _ _ _ (c .before .rows .ensures) (c .none .ensures)
+    near-begin (c-4 .before .pre .1) _ _ _ (c .before .rows .ensures) (c .none .ensures)
 
 first-requires : tie.Need-first-requires Inv-loop μ-loop
 first-requires c κs = sym (c .before .some .ensures) ∙ c .if1 .taken
@@ -39,7 +39,7 @@ get-requires : tie.Need-get-requires Inv-loop μ-loop
 get-requires c κs =
     let c-4 = c .before .before .before .before in
     let c-8 = c-4 .before .before .before .before in
-    let b = c .first .ensures .bound in let a = c-8 .before .pre .2 .space in omega arith
+    let b = c .first .ensures .bound in let a = c-8 .before .pre .1 .space in omega arith
 
 end-requires-2 : tie.Need-end-requires-2 Inv-loop μ-loop
 end-requires-2 c κs = let b = c .before .before .first .ensures .bound in omega arith
@@ -53,7 +53,7 @@ loop-less c =
     let c-4 = c .before .before .before .before in
     let c-8 = c-4 .before .before .before .before in
     let c-12 = c-8 .before .before .before .before in
-    near-less (c-12 .before .before .before .pre .2) _ (c-8 .before .loop .inv) (c-4 .before .before .first .ensures) (c-4 .before .get .ensures) (c-4 .less .ensures)
+    near-less (c-12 .before .before .before .pre .1) _ (c-8 .before .loop .inv) (c-4 .before .before .first .ensures) (c-4 .before .get .ensures) (c-4 .less .ensures)
 
 loop-again : tie.Need-loop-again Inv-loop μ-loop
 unfolding decode
@@ -61,7 +61,7 @@ loop-again c =
     let c-4 = c .before .before .before .before in
     let c-8 = c-4 .before .before .before .before in
     let c-12 = c-8 .before .before .before .before in
-    near-turn (c-12 .before .before .before .pre .2) _ (c-8 .before .loop .inv) (c-4 .before .before .first .ensures) (c-4 .before .get .ensures) (c-4 .less .ensures) _ _ _
+    near-turn (c-12 .before .before .before .pre .1) _ (c-8 .before .loop .inv) (c-4 .before .before .first .ensures) (c-4 .before .get .ensures) (c-4 .less .ensures) _ _ _
     (meet-said _ _ _ _ _ _ (c-12 .before .start .ensures .0) (c-12 .end .ensures .0) (c .before .before .before .end2 .ensures .0) (c .before .before .start2 .ensures .0)) (c .before .only-if .ensures) (c .or .ensures)
 
 returns : tie.Need-returns Inv-loop μ-loop
@@ -69,7 +69,7 @@ unfolding decode
 returns c =
     let c-4 = c .before .before .before .before in
     let c-8 = c-4 .before .before .before .before in
-    near-end (c-8 .pre .2) _ _ _ (c-8 .pre .0) (c-8 .pre .1) (sym (c .before .some .ensures) ∙ c .if1 .left) (c .before .before .loop .inv)
+    near-end (c-8 .pre .1) _ _ _ (c-8 .pre .0 .low) (c-8 .pre .0 .is) (sym (c .before .some .ensures) ∙ c .if1 .left) (c .before .before .loop .inv)
 
 pub near-spec : {M : Type 1} → statement M
 near-spec =

@@ -7,17 +7,17 @@ use Rattle.sets_overlap.proofs.overlap_row.Statement.{statement}
 use Rattle.sets_overlap.proofs.overlap_row.Tie as tie
 
 get-requires : tie.Need-get-requires
-get-requires c κs = let o = c .before .before .pre .2 .opened in let f = few o in let a = o .space in omega (arith, c .before .before .pre .0)
+get-requires c κs = let o = c .before .before .pre .1 .opened in let f = few o in let a = o .space in omega (arith, c .before .before .pre .0 .low)
 
 first-requires : tie.Need-first-requires
 unfolding decode
-first-requires c κs = first-here (c .before .before .before .pre .2 .opened) _ _ (c .before .before .before .pre .0) (c .before .before .before .pre .1) (c .get .ensures)
+first-requires c κs = first-here (c .before .before .before .pre .1 .opened) _ _ (c .before .before .before .pre .0 .low) (c .before .before .before .pre .0 .is) (c .get .ensures)
 
 returns-2 : tie.Need-returns-2
 unfolding decode
 returns-2 c =
     let c-4 = c .before .before .before .before in
-    earlier-row (c-4 .before .before .pre .2 .opened) _ _ _ _ (c-4 .before .before .pre .0) (c-4 .before .before .pre .1) (c .before .before .before .get .ensures) (c .before .before .first .ensures) (c .before .if1 .left) (c-4 .before .before .pre .3) (c .get2 .ensures)
+    earlier-row (c-4 .before .before .pre .1 .opened) _ _ _ _ (c-4 .before .before .pre .0 .low) (c-4 .before .before .pre .0 .is) (c .before .before .before .get .ensures) (c .before .before .first .ensures) (c .before .if1 .left) (c-4 .before .before .pre .2) (c .get2 .ensures)
 
 pub overlap-row-spec : {M : Type 1} → statement M
 overlap-row-spec =

@@ -1,0 +1,20 @@
+-- Rows by their numbers, of n that there are. Assumes nothing.
+use mathlib.Core.Path.{_≡_}
+use mathlib.Core.Bool.{Bool, true}
+use Prim.Native.Nat.{ℕ, _<_}
+use Rattle.model.specs.declared.Row.{Row}
+
+-- several of n, the same or not
+pub record TwoOf (n x y : ℕ) : Type 0 where
+  pub first : x < n
+  pub second : y < n
+
+pub record ThreeOf (n x y z : ℕ) : Type 0 where
+  pub first : x < n
+  pub second : y < n
+  pub third : z < n
+
+-- row x of n, of which the test holds
+pub record RowThat (test : Row → Bool) (row : ℕ → Row) (n x : ℕ) : Type 0 where
+  pub low : x < n
+  pub is : test (row x) ≡ true

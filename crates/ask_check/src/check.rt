@@ -1,17 +1,16 @@
 // The check of a table in one or two pieces: any bytes, and buffers of any length.
 ghost use mathlib.Core.Path.{_≡_};
 ghost use mathlib.Core.Bool.{false};
-ghost use Prim.Native.Nat.{_≤_};
-ghost use lib.ListN.{length};
-ghost use Rattle.model.specs.Limits.{WORK, CYCLE};
+ghost use Rattle.model.specs.Limits.{CYCLE};
 ghost use Rattle.model.specs.Table.{sourceOf};
 ghost use Rattle.model.specs.Check.{verdict, checkAnswer, cycleAfter, wiped};
 ghost use Rattle.run.specs.Layout.{rowsIn, tableIn};
 ghost use Rattle.door_open.specs.Opened.{RunOf};
 ghost use Rattle.model_placing.specs.Judge.{Sourced};
 ghost use Rattle.sets_of_table.specs.Fit.{FitRun};
+ghost use Rattle.sets_edges.specs.Edges.{Sources};
 ghost use Rattle.find_axioms.specs.Sources.{sourceIn};
-ghost use Rattle.ask_check.specs.Engine.{Judges};
+ghost use Rattle.ask_check.specs.Engine.{Judges, Buffers};
 ghost use Rattle.ask_check.specs.Whole.{Checked, CheckedBoth};
 use model::Admission;
 use model::CheckAnswer;
@@ -26,8 +25,7 @@ fn judge_by(
     w: &mut [u64],
     c: &mut [u16],
 ) -> CheckAnswer
-    requires { ⌜ FitRun (now t) n × (WORK ≤ length (now w)) × (CYCLE ≤ length (now c)) × (n ≤ length (now src))
-        × Sourced (tableIn (now t) n) (sourceIn (now src)) ⌝ }
+    requires { ⌜ FitRun (now t) n × Buffers CYCLE (now w) (now c) × Sources (tableIn (now t) n) n (now src) ⌝ }
     ensures { λ r. ⌜ Judges (tableIn (now (t .entry)) n) (sourceIn (now (src .entry))) r
         (now (w .entry)) (now (w .exit)) (now (c .entry)) (now (c .exit)) ⌝ }
 {
@@ -39,8 +37,7 @@ fn judge_by(
 
 // The same with the table's own sources; the work area's words end as zeros.
 fn judge_run(t: &Run, n: usize, quick: bool, work: &mut [u64], cycle: &mut [u16]) -> CheckAnswer
-    requires { ⌜ (WORK ≤ length (now work)) × (CYCLE ≤ length (now cycle)) × RunOf false (now t) n
-        × Sourced (tableIn (now t) n) (sourceOf (rowsIn (now t))) ⌝ }
+    requires { ⌜ Buffers CYCLE (now work) (now cycle) × RunOf false (now t) n × Sourced (tableIn (now t) n) (sourceOf (rowsIn (now t))) ⌝ }
     ensures { λ r. let v = verdict (tableIn (now (t .entry)) n) (sourceOf (rowsIn (now (t .entry)))) in
         ⌜ (r ≡ checkAnswer v) × (now (work .exit) ≡ wiped (now (work .entry))) × (now (cycle .exit) ≡ cycleAfter v (now (cycle .entry))) ⌝ }
 {

@@ -3,7 +3,7 @@ ghost use mathlib.Core.Path.{_≡_};
 ghost use mathlib.Core.Bool.{true};
 ghost use Prim.Native.Nat.{_≤_};
 ghost use lib.ListN.{length};
-ghost use Rattle.model.specs.Limits.{WORK, SOURCES};
+ghost use Rattle.model.specs.Limits.{SOURCES};
 ghost use Rattle.model.specs.Table.{sourceOf};
 ghost use Rattle.model.specs.Check.{wiped};
 ghost use Rattle.model.specs.Fill.{outcome, fillAnswer, sourcesAfter};
@@ -12,6 +12,7 @@ ghost use Rattle.run.specs.Layout.{rowsIn, tableIn};
 ghost use Rattle.door_open.specs.Opened.{RunOf};
 ghost use Rattle.sets_of_table.specs.Fit.{FitRun};
 ghost use Rattle.find_axioms.specs.Sources.{sourceIn};
+ghost use Rattle.ask_check.specs.Engine.{Buffers};
 ghost use Rattle.ask_fill.specs.Parts.{Fills};
 ghost use Rattle.ask_fill.specs.Whole.{FilledBy, FilledBoth};
 use model::Admission;
@@ -31,7 +32,7 @@ fn fill_run_by(
     w: &mut [u64],
     out: &mut [u16],
 ) -> FillAnswer
-    requires { ⌜ FitRun (now t) n × (WORK ≤ length (now w)) × (SOURCES ≤ length (now out)) × (n ≤ length (now src)) ⌝ }
+    requires { ⌜ FitRun (now t) n × Buffers SOURCES (now w) (now out) × (n ≤ length (now src)) ⌝ }
     ensures { λ r. ⌜ Fills (tableIn (now (t .entry)) n) (sourceIn (now (src .entry))) r
         (now (w .entry)) (now (w .exit)) (now (out .entry)) (now (out .exit)) ⌝ }
 {
@@ -43,7 +44,7 @@ fn fill_run_by(
 
 // The same with the table's own sources; the work area's words end as zeros.
 fn fill_run(t: &Run, n: usize, quick: bool, work: &mut [u64], sources: &mut [u16]) -> FillAnswer
-    requires { ⌜ (WORK ≤ length (now work)) × (SOURCES ≤ length (now sources)) × RunOf true (now t) n ⌝ }
+    requires { ⌜ Buffers SOURCES (now work) (now sources) × RunOf true (now t) n ⌝ }
     ensures { λ r. let o = outcome (tableIn (now (t .entry)) n) (sourceOf (rowsIn (now (t .entry)))) in
         ⌜ (r ≡ fillAnswer o) × (now (work .exit) ≡ wiped (now (work .entry))) × (now (sources .exit) ≡ sourcesAfter o (now (sources .entry))) ⌝ }
 {
